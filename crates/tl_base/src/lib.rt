@@ -1,11 +1,14 @@
 //! What every layer shares: lists and texts that contracts see as their items, canonical decimal
+//! numbers, the desk through which files and standard output are reached, and the gate that
 //! parallel pieces of work pass. It knows no table, no text breaking and no layout. Its one
 //! contract: what the desk holds after each answer, and that it answers a fault only where its
 //! count of faults rose.
 #![tactic(auto)]
 
 mod items;
+mod number;
 mod text;
 
 pub use items::List;
+pub use number::{read_number, write_number};
 pub use text::Text;
