@@ -5,10 +5,14 @@
 //! count of faults rose.
 #![tactic(auto)]
 
+mod desk;
+mod gate;
 mod items;
 mod number;
 mod text;
 
+pub use desk::{Desk, DeskFault};
+pub use gate::{Gate, NoGate};
 pub use items::List;
 pub use number::{read_number, write_number};
 pub use text::Text;
