@@ -30,8 +30,11 @@ impl From<AllocError> for DeskFault {
 /// `load` and one of `store` and `say`, never fall and stay at 2<sup>64</sup> - 1 once there.
 pub trait Desk {
     ghost files: { Self → Option Files };
+
     ghost said: { Self → Option (List ℕ) };
+
     ghost load_faults: { Self → ℕ };
+
     ghost write_faults: { Self → ℕ };
 
     /// The first `most + 1` bytes of the file `name`, or all where it has fewer: one byte more

@@ -8,11 +8,13 @@
 mod desk;
 mod gate;
 mod items;
+mod memory_desk;
 mod number;
 mod text;
 
 pub use desk::{Desk, DeskFault};
 pub use gate::{Gate, NoGate};
 pub use items::List;
+pub use memory_desk::{Fail, MemoryDesk};
 pub use number::{read_number, write_number};
 pub use text::Text;
