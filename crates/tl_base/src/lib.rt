@@ -10,6 +10,7 @@ mod gate;
 mod items;
 mod memory_desk;
 mod number;
+mod real_desk;
 mod text;
 
 pub use desk::{Desk, DeskFault};
@@ -17,4 +18,5 @@ pub use gate::{Gate, NoGate};
 pub use items::List;
 pub use memory_desk::{Fail, MemoryDesk};
 pub use number::{read_number, write_number};
+pub use real_desk::RealDesk;
 pub use text::Text;
