@@ -1,0 +1,5 @@
+pub mod FormAnswers
+pub mod Prefixes
+pub mod RowAnswers
+pub mod TagAnswers
+pub mod TextAnswers

@@ -1,0 +1,6 @@
+//! Lays out a table.
+#![tactic(auto)]
+
+mod form;
+
+fn main() {}
