@@ -1,0 +1,9 @@
+pub mod Bytes
+pub mod Leading
+pub mod Parts
+pub mod Sizes
+pub mod Widths
+pub mod Greedy
+pub mod Paragraphs
+pub mod Rest
+pub mod Filled

@@ -1,0 +1,4 @@
+pub mod Words
+pub mod Paragraph
+pub mod Cuttings
+pub mod Measure

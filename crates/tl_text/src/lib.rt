@@ -1,0 +1,13 @@
+//! Breaks paragraphs into lines. It knows words, widths and lines, and no tables. Its one contract:
+//! no cutting of a paragraph that holds in a width has fewer lines than these calls answer.
+#![tactic(auto)]
+
+mod cutting;
+mod filling;
+mod measure;
+mod paragraph;
+mod word;
+
+pub use cutting::{count_lines, least_width};
+pub use paragraph::{Atom, Para};
+pub use word::{word_width, words};

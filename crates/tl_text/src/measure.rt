@@ -1,0 +1,45 @@
+ghost use Rattle.std.specs.Prelude.{◌≡◌, ◌≤◌};
+ghost use Rattle.tl_text.specs.Measure.{measure_of, columns_of};
+ghost use Rattle.tl_text.specs.Paragraph.{atom_size};
+
+use crate::{Atom, word_width};
+
+/// An atom as breaking sees it.
+#[derive(Clone, Copy)]
+pub enum Measure {
+    /// A unit: its width in columns, and the columns that part it from a unit before it on its
+    /// line.
+    Columns { width: u32, gap: u32 },
+    /// A forced end of a line.
+    Break,
+}
+
+impl Measure {
+    /// The columns of a unit; a break takes none.
+    pub fn width(self) -> u32
+        ensures { result ≡ columns_of self }
+    {
+        match self {
+            Measure::Columns { width, .. } => width,
+            Measure::Break => 0,
+        }
+    }
+}
+
+/// Measures one atom.
+pub fn measured(atom: &Atom) -> Measure
+    requires { atom_size atom.now ≤ 1048576 }
+    ensures { result ≡ measure_of atom.now }
+{
+    match atom {
+        Atom::Word(text) => Measure::Columns {
+            width: word_width(text),
+            gap: 1,
+        },
+        Atom::Glue(text) => Measure::Columns {
+            width: word_width(text),
+            gap: 0,
+        },
+        Atom::Break => Measure::Break,
+    }
+}
