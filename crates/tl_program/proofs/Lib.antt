@@ -1,3 +1,5 @@
+pub mod ColumnLayouts
+pub mod ColumnSizes
 pub mod FormAnswers
 pub mod Prefixes
 pub mod RowAnswers

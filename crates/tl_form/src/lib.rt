@@ -1,0 +1,8 @@
+//! What a layout of a table is, when it fits a page, when no layout is lower, and the page that it
+//! makes. It knows cells and paragraphs, and nothing of how a layout is searched for. Its one
+//! contract: the definitions in its specs, which every search and every page cite.
+#![tactic(auto)]
+
+mod layout;
+
+pub use layout::Layout;
