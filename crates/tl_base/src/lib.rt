@@ -11,6 +11,8 @@ mod items;
 mod memory_desk;
 mod number;
 mod real_desk;
+#[cfg(test)]
+mod tests;
 mod text;
 
 pub use desk::{Desk, DeskFault};

@@ -42,8 +42,11 @@ impl<R: Files + Print + AllocGlobal> Desk for RealDesk<R> {
     ghost use Rattle.tl_base.specs.RealDesk.{load_faults_of, write_faults_of};
 
     ghost files = { λ _. None };
+
     ghost said = { λ _. None };
+
     ghost load_faults = { load_faults_of };
+
     ghost write_faults = { write_faults_of };
 
     fn load(&mut self, name: &str, most: u32) -> Result<List<u8>, DeskFault> {
