@@ -7,3 +7,4 @@ pub mod Greedy
 pub mod Paragraphs
 pub mod Rest
 pub mod Filled
+pub mod RangeSteps

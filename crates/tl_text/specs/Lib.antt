@@ -2,3 +2,4 @@ pub mod Words
 pub mod Paragraph
 pub mod Cuttings
 pub mod Measure
+pub mod Ranges

@@ -6,8 +6,10 @@ mod cutting;
 mod filling;
 mod measure;
 mod paragraph;
+mod ranges;
 mod word;
 
 pub use cutting::{count_lines, least_width};
 pub use paragraph::{Atom, Para};
+pub use ranges::{Line, TextError, lines};
 pub use word::{word_width, words};
