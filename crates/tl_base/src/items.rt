@@ -38,6 +38,14 @@ impl<T> List<T> {
         List { items }
     }
 
+    /// The vector of the items, in the list's memory.
+    pub fn into_vec(self) -> Vec<T>
+        ensures { result.items ≡ self }
+    {
+        let List { items } = self;
+        items
+    }
+
     /// The number of items.
     pub fn len(&self) -> usize
         ensures { result ≡ length self.now }

@@ -5,3 +5,4 @@ pub mod Prefixes
 pub mod RowAnswers
 pub mod TagAnswers
 pub mod TextAnswers
+pub mod Texts

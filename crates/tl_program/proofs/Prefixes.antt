@@ -20,7 +20,7 @@ list_all-run p [] = refl
 list_all-run p (x ∷ xs) = rw (take_while-cons p x xs) (list_all_more p x (take_while p xs) (p x) refl (list_all-run p xs))
 
 -- of a test of two, each
-both : (a b : Bool) → (a && b) ≡ true → (a ≡ true) × (b ≡ true)
+pub both : (a b : Bool) → (a && b) ≡ true → (a ≡ true) × (b ≡ true)
 both true b h = (refl, h)
 both false b h = (h, cc)
 

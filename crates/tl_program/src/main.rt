@@ -2,5 +2,6 @@
 #![tactic(auto)]
 
 mod form;
+mod rows;
 
 fn main() {}

@@ -1,0 +1,15 @@
+-- A text is ASCII; its words, where there is one, are a paragraph.
+use Rattle.std.proofs.Common.{◌≡◌, ℕ, List, map, arith, sym, ◌∙◌, ap}
+use Rattle.tl_text.specs.declared.paragraph.Atom.TheVariants.{Word}
+use Rattle.tl_text.specs.Words.{words_of}
+use Rattle.tl_program.proofs.Texts.{text_is_utf8, text_makes_paragraph}
+use Rattle.tl_program.proofs.rows.paragraph.Goals as goal
+
+pub unwrap-text-requires : goal.unwrap-text-requires
+unwrap-text-requires c = grind (arith, text_is_utf8 c.args.text.now c.requires.text, c.from_utf8.ensures.cases)
+
+pub returns : goal.returns
+returns c =
+    let told = rw (c.in_ok-units.ensures, c.in_ok-words.ensures) at c.new.ensures in
+    let same = (rw c.unwrap-text.ensures at c.from_utf8.ensures.cases).0 in
+    text_makes_paragraph c.args.text.now c.new.result c.requires.text c.requires.size (rw same at told)
