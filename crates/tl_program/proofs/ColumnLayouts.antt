@@ -1,18 +1,18 @@
 -- A column whose rows have the heights that they need in the page, and which is as narrow as these heights let it be:
 -- it fits, no layout is lower, and it is tight.
-use Rattle.std.proofs.Common.{◌≡◌, ℕ, zero, suc, ◌+◌, ◌-◌, ◌*◌, ◌<◌, ◌≤◌, List, [], ◌∷◌, ◌++◌, length, take, Some, None, refl, sym, ◌∙◌, ap, subst, arith, mul-zero, zero-mul}
-use Rattle.std.specs.Prelude.{Option, sum, option_to_list, min}
+use Rattle.std.proofs.Common.{◌≡◌, ℕ, zero, suc, ◌+◌, ◌≤◌, List, [], ◌∷◌, length, take, Some, None, refl, sym, ◌∙◌, ap, subst, arith}
+use Rattle.std.specs.Prelude.{Option, sum, min}
 use Rattle.std.specs.List.{AllByRecursion, AllZip}
-use Rattle.std.proofs.lemmas.List.Sums.{sum_by-cons}
 use Rattle.tl_base.specs.declared.style.Style.TheVariants.{Plain}
 use Rattle.tl_text.specs.declared.paragraph.Atom.{Atom}
-use Rattle.tl_text.specs.Cuttings.{joined, IsCutting, HoldsIn, LeastLines}
+use Rattle.tl_text.specs.Cuttings.{joined, LeastLines}
 use Rattle.tl_form.specs.declared.layout.Layout.{Layout}
-use Rattle.tl_form.specs.Layout.{room, total, position, total_width, total_height, HoldsCell, Fits}
+use Rattle.tl_form.specs.Layout.{room, total, position, total_height, HoldsCell, Fits}
 use Rattle.tl_form.specs.Least.{IsLeastHeight}
-use Rattle.tl_form.specs.Tight.{Need, NeedsNoMore, IsTight}
+use Rattle.tl_form.specs.Tight.{NeedsNoMore, IsTight}
 use Rattle.tl_program.specs.Column.{cells_from, column_of}
-use Rattle.tl_program.proofs.ColumnSizes.{FitsRow, RowNeeds, holds_wider, column_room, row_fits, rows_are_held, held_rows_fit, needs_are_least, sum-take-le, sum-le, sum-one, total-plain}
+use Rattle.tl_program.specs.ColumnSizes.{FitsRow, RowNeeds}
+use Rattle.tl_program.proofs.ColumnRooms.{holds_wider, column_room, row_fits, rows_are_held, held_rows_fit, needs_are_least, sum-take-le, sum-le, sum-one, total-plain}
 
 -- the widths of the column: one where there is a row
 abbrev pub column_widths : List (Option (List Atom)) → ℕ → List ℕ
@@ -76,10 +76,10 @@ heights_are_enough w [] needs height layout need fits = nothing needs layout.hei
   nothing (n ∷ needs) heights need none = absurd need
 heights_are_enough w (row ∷ rows) needs height layout need fits =
     in_width (one_width row rows layout.widths fits.columns) where
-  in_width : ((n : ℕ) × (layout.widths ≡ n ∷ [])) → AllZip (λ need height. need ≤ height) needs layout.heights
-  in_width (n, is) = needs_are_least n w (row ∷ rows) needs layout.heights
-      (omega (arith, total-one layout.widths n is, fits.within)) need
-      (held_rows_fit layout n is [] 0 (row ∷ rows) layout.heights refl fits.rows refl fits.cells)
+      in_width : ((n : ℕ) × (layout.widths ≡ n ∷ [])) → AllZip (λ need height. need ≤ height) needs layout.heights
+      in_width (n, is) = needs_are_least n w (row ∷ rows) needs layout.heights
+          (omega (arith, total-one layout.widths n is, fits.within)) need
+          (held_rows_fit layout n is [] 0 (row ∷ rows) layout.heights refl fits.rows refl fits.cells)
 
 -- no layout is lower
 pub column_is_least : (w s : ℕ) (rows : List (Option (List Atom))) (heights : List ℕ) → s ≤ w → AllZip (FitsRow s) rows heights →
@@ -87,8 +87,8 @@ pub column_is_least : (w s : ℕ) (rows : List (Option (List Atom))) (heights : 
 column_is_least w s rows heights le fit need = record {
   attained = (column_layout rows s heights, column_fits w s rows heights le fit);
   least = λ other layout fits.
-    let enough = heights_are_enough w rows heights other layout need fits in
-    omega (arith, sum-le heights layout.heights enough, total-plain heights, total-plain layout.heights, fits.high);
+      let enough = heights_are_enough w rows heights other layout need fits in
+      omega (arith, sum-le heights layout.heights enough, total-plain heights, total-plain layout.heights, fits.high);
 }
 
 -- a row needs in the column what it needs in the page
@@ -113,10 +113,11 @@ rows_fit_there w s v layout other here there le top (None ∷ rows) (h ∷ heigh
 rows_fit_there w s v layout other here there le top (Some paragraph ∷ rows) (h ∷ heights) fit need less =
     let room_here : ℕ = room 2 layout.widths 0 1 in
     let needed : LeastLines room_here paragraph h =
-        subst (λ (n : ℕ). LeastLines n paragraph h) (sym (column_room layout s here)) (need_in_column w s h paragraph le fit.0 need.0) in
-    (row_fits v h (room 2 other.widths 0 1) h (Some paragraph) (column_room other v there) refl
-    (less.0 h (h ∷ [], (needed, tt), sum-one h)),
-    rows_fit_there w s v layout other here there le (top + 1) rows heights fit.1 need.1 less.1)
+    subst (λ (n : ℕ). LeastLines n paragraph h) (sym (column_room layout s here)) (need_in_column w s h paragraph le fit.0 need.0) in (
+      row_fits v h (room 2 other.widths 0 1) h (Some paragraph) (column_room other v there) refl
+          (less.0 h (h ∷ [], (needed, tt), sum-one h)),
+      rows_fit_there w s v layout other here there le (top + 1) rows heights fit.1 need.1 less.1,
+    )
 
 -- the first place is where everything begins
 first_place : (gap : ℕ) (sizes others : List ℕ) (place : ℕ) → place ≤ 0 → position gap sizes place ≤ position gap others place

@@ -1,8 +1,10 @@
 pub mod ColumnLayouts
-pub mod ColumnSizes
+pub mod ColumnRooms
 pub mod FormAnswers
 pub mod Prefixes
 pub mod RowAnswers
 pub mod TagAnswers
 pub mod TextAnswers
 pub mod Texts
+pub mod Blocks
+pub mod ColumnGrowth

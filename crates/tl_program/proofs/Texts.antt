@@ -1,9 +1,8 @@
 -- The texts of rows are ASCII, and no longer than the file; their words are paragraphs.
-use Rattle.std.proofs.Common.{◌≡◌, ℕ, ◌+◌, ◌<◌, ◌≤◌, Bool, true, false, ◌||◌, ◌&&◌, zero, suc, List, [], ◌∷◌, ◌++◌, length, map, refl, sym, ◌∙◌, ap, arith, Some, None, length-append, get_or, Bor}
-use Rattle.std.specs.Prelude.{Option, SomeIff, codes, nat_le, nat_lt}
+use Rattle.std.proofs.Common.{◌≡◌, ℕ, ◌+◌, ◌<◌, ◌≤◌, true, zero, suc, List, [], ◌∷◌, ◌++◌, length, map, refl, sym, ◌∙◌, ap, arith, Some, None, length-append, get_or, Bor}
+use Rattle.std.specs.Prelude.{Option, SomeIff, codes}
 use Rattle.std.specs.List.{AllByRecursion, list_all}
 use Rattle.std.specs.Str.{IsAscii, IsUtf8, chars}
-use Rattle.std.specs.Char.{is_ascii_whitespace}
 use Rattle.std.proofs.lemmas.Str.{IsUtf8-from_ascii, encodes-chars, chars-IsAscii}
 use Rattle.tl_text.specs.declared.paragraph.Atom.{Atom}
 use Rattle.tl_text.specs.declared.paragraph.Atom.TheVariants.{Word}
@@ -27,9 +26,9 @@ text_is_ascii [] is = λ i. omega arith
 text_is_ascii (b ∷ text) is =
     let here = both (is_text_byte b) (list_all is_text_byte text) is in
     first (text_byte_is_ascii b here.0) (text_is_ascii text here.1) where
-  first : b < 128 → IsAscii text → IsAscii (b ∷ text)
-  first low rest zero = low
-  first low rest (suc i) = rest i
+      first : b < 128 → IsAscii text → IsAscii (b ∷ text)
+      first low rest zero = low
+      first low rest (suc i) = rest i
 
 pub text_is_utf8 : (text : List ℕ) → IsText text → IsUtf8 text
 text_is_utf8 text is = IsUtf8-from_ascii text (text_is_ascii text is)
@@ -45,11 +44,17 @@ texts_in_more bytes rest (text ∷ texts) le all = ((all.0.0, omega arith), text
 
 -- how long a row is, and its text
 row_length : (bytes text rest : List ℕ) → HasRow bytes text rest → length text + length rest ≤ length bytes
-row_length bytes text rest row = omega (arith,
-    ap length row.row_begins.2, length-append row.row_begins.0 (codes "<tr>" ++ row.in_row),
-    ap length row.cell_begins.2, length-append row.cell_begins.0 (codes "<td>" ++ row.in_cell),
-    ap length row.cell_ends.1, length-append text (codes "</td>" ++ row.past_cell),
-    ap length row.row_ends.2, length-append row.row_ends.0 (codes "</tr>" ++ rest))
+row_length bytes text rest row = omega (
+  arith,
+  ap length row.row_begins.2,
+  length-append row.row_begins.0 (codes "<tr>" ++ row.in_row),
+  ap length row.cell_begins.2,
+  length-append row.cell_begins.0 (codes "<td>" ++ row.in_cell),
+  ap length row.cell_ends.1,
+  length-append text (codes "</td>" ++ row.past_cell),
+  ap length row.row_ends.2,
+  length-append row.row_ends.0 (codes "</tr>" ++ rest),
+)
 
 -- the texts of the rows
 pub texts_are_in : (bytes : List ℕ) (texts : List (List ℕ)) → HasRows bytes texts → AllByRecursion (IsTextIn bytes) texts
@@ -89,9 +94,16 @@ pub text_at : (bytes : List ℕ) (lent : List (Bor (List ℕ))) (k : ℕ) (none 
     k < length lent → IsText (get_or lent k none).now × (length (get_or lent k none).now ≤ 1048576)
 text_at bytes lent k none form within =
     let all = lent_texts form.in_table lent (texts_are_in form.in_table (map (λ text. text.now) lent) form.table) in
-    let here = All-from_recursion (λ text. IsTextIn form.in_table text.now) lent all k none within in
-    (here.0, omega (arith, here.1, form.size, ap length form.table_begins.2,
-    length-append form.table_begins.0 (codes "<table>" ++ form.in_table)))
+    let here = All-from_recursion (λ text. IsTextIn form.in_table text.now) lent all k none within in (
+      here.0,
+      omega (
+        arith,
+        here.1,
+        form.size,
+        ap length form.table_begins.2,
+        length-append form.table_begins.0 (codes "<table>" ++ form.in_table),
+      ),
+    )
 
 -- the rows of the texts as they were lent
 pub rows_of_lent : (lent : List (Bor (List ℕ))) → map (λ text. paragraph_of text.now) lent ≡ map paragraph_of (map (λ text. text.now) lent)

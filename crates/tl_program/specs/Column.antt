@@ -1,5 +1,5 @@
 -- Tables of one column: a row for each text, with one cell, whose words are its one paragraph.
-use Rattle.std.specs.Prelude.{◌≡◌, ℕ, ◌+◌, min, List, [], ◌∷◌, length, map, Option, Some, None, option_to_list}
+use Rattle.std.specs.Prelude.{ℕ, ◌+◌, min, List, [], ◌∷◌, length, map, Option, Some, None, option_to_list}
 use Rattle.tl_text.specs.declared.paragraph.Atom.{Atom}
 use Rattle.tl_text.specs.declared.paragraph.Atom.TheVariants.{Word}
 use Rattle.tl_text.specs.Words.{words_of}

@@ -10,21 +10,12 @@ use tl_text::{Atom, Para, words};
 
 /// The rows of a file in the one-column form, each with its paragraph or, where its text has no
 /// word, none. `None` exactly where the file has not the form.
-pub fn first_form(
-    alloc: Global,
-    bytes: &[u8],
-) -> Result<Option<List<Option<Para>>>, AllocError>
-    ensures found {
-        IfOk result (λ read. IfSome read (λ rows. (texts : List (List ℕ)) × IsOneColumn bytes.now texts
-        × (rows ≡ map paragraph_of texts)))
-    }
-    ensures only {
-        IfOk result (λ read. IfSome read (λ rows. (texts : List (List ℕ)) → IsOneColumn bytes.now texts
-        → rows ≡ map paragraph_of texts))
-    }
-    ensures none {
-        IfOk result (λ read. IfNone read ((texts : List (List ℕ)) → ¬ (IsOneColumn bytes.now texts)))
-    }
+pub fn first_form(alloc: Global, bytes: &[u8]) -> Result<Option<List<Option<Para>>>, AllocError>
+    ensures found { IfOk result (λ read. IfSome read (λ rows. (texts : List (List ℕ)) × IsOneColumn bytes.now texts
+        × (rows ≡ map paragraph_of texts))) }
+    ensures only { IfOk result (λ read. IfSome read (λ rows. (texts : List (List ℕ)) → IsOneColumn bytes.now texts
+        → rows ≡ map paragraph_of texts)) }
+    ensures none { IfOk result (λ read. IfNone read ((texts : List (List ℕ)) → ¬ (IsOneColumn bytes.now texts))) }
 {
     let Some(texts) = row_texts(alloc, bytes)? else {
         return Ok(None);
@@ -51,10 +42,6 @@ fn paragraph(alloc: Global, text: &[u8]) -> Result<Option<Para>, AllocError>
 fn units(alloc: Global, words: List<Text>) -> Result<List<Atom>, AllocError>
     ensures { IfOk result (λ atoms. atoms ≡ map Word words) }
 {
-    let atoms = words
-        .into_vec()
-        .into_iter()
-        .map(Atom::Word)
-        .collect(alloc)?;
+    let atoms = words.into_vec().into_iter().map(Atom::Word).collect(alloc)?;
     Ok(List::from_vec(atoms))
 }

@@ -1,7 +1,6 @@
 -- The rows are those of the texts that were found.
-use Rattle.std.proofs.Common.{◌≡◌, ◌<◌, ℕ, List, length, map, take, [], arith, sym, ◌∙◌, ap, Bor}
+use Rattle.std.proofs.Common.{◌≡◌, ℕ, List, map, [], arith, sym, ◌∙◌, ap, Bor}
 use Rattle.std.proofs.lemmas.List.{take_all}
-use Rattle.tl_program.specs.OneColumn.{IsOneColumn}
 use Rattle.tl_program.specs.Column.{paragraph_of}
 use Rattle.tl_program.proofs.Texts.{text_at, rows_of_lent}
 use Rattle.tl_program.proofs.rows.first_form.Goals as goal

@@ -1,7 +1,5 @@
 -- A text is ASCII; its words, where there is one, are a paragraph.
-use Rattle.std.proofs.Common.{◌≡◌, ℕ, List, map, arith, sym, ◌∙◌, ap}
-use Rattle.tl_text.specs.declared.paragraph.Atom.TheVariants.{Word}
-use Rattle.tl_text.specs.Words.{words_of}
+use Rattle.std.proofs.Common.{arith}
 use Rattle.tl_program.proofs.Texts.{text_is_utf8, text_makes_paragraph}
 use Rattle.tl_program.proofs.rows.paragraph.Goals as goal
 

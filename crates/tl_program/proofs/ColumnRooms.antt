@@ -1,26 +1,16 @@
--- The sizes of one column: which widths and heights hold its rows, and which are the least.
-use Rattle.std.proofs.Common.{◌≡◌, ℕ, zero, suc, ◌+◌, ◌-◌, ◌*◌, ◌<◌, ◌≤◌, List, [], ◌∷◌, ◌++◌, length, take, drop, get_or, Some, None, refl, sym, ◌∙◌, ap, subst, arith, add-one, length-append, append_assoc, mul-zero, zero-mul}
-use Rattle.std.specs.Prelude.{Option, sum, slice_range, option_to_list, min}
-use Rattle.std.specs.List.{All, AllZip, AllByRecursion}
+-- The rooms of one column: which widths and heights hold its rows.
+use Rattle.std.proofs.Common.{◌≡◌, ℕ, zero, suc, ◌+◌, ◌-◌, ◌*◌, ◌≤◌, List, [], ◌∷◌, ◌++◌, length, take, drop, Some, None, refl, sym, ◌∙◌, ap, subst, arith, length-append, append_assoc, mul-zero, zero-mul}
+use Rattle.std.specs.Prelude.{Option, sum, slice_range, option_to_list}
+use Rattle.std.specs.List.{AllZip, AllByRecursion}
 use Rattle.std.proofs.lemmas.List.Sums.{sum_by-cons}
 use Rattle.std.proofs.Math.Seq.{drop-append_seam}
 use Rattle.tl_base.specs.declared.style.Style.TheVariants.{Plain}
 use Rattle.tl_text.specs.declared.paragraph.Atom.{Atom}
-use Rattle.tl_text.specs.Cuttings.{joined, line_width, IsCutting, HoldsIn, LeastLines}
+use Rattle.tl_text.specs.Cuttings.{joined, line_width}
 use Rattle.tl_form.specs.declared.layout.Layout.{Layout}
-use Rattle.tl_form.specs.Table.{Cell, Table}
-use Rattle.tl_form.specs.Layout.{room, total, position, width_for, height_for, FitsBlock, FitBlocks, HoldsCell, Fits}
-use Rattle.tl_program.specs.Column.{cells_from, column_of}
-
--- a row's paragraph, if it has one, fits in `w` columns and `h` lines
-abbrev pub FitsRow : ℕ → Option (List Atom) → ℕ → Type 0
-FitsRow w None h = Unit {0}
-FitsRow w (Some paragraph) h = FitsBlock w paragraph h
-
--- `h` is the least number of lines of the row in `w` columns
-abbrev pub RowNeeds : ℕ → Option (List Atom) → ℕ → Type 0
-RowNeeds w None h = h ≡ 0
-RowNeeds w (Some paragraph) h = LeastLines w paragraph h
+use Rattle.tl_form.specs.Layout.{room, total, FitsBlock, FitBlocks, HoldsCell}
+use Rattle.tl_program.specs.Column.{cells_from}
+use Rattle.tl_program.specs.ColumnSizes.{FitsRow, RowNeeds}
 
 -- what holds in a width holds in each greater one
 pub holds_wider : (w v : ℕ) (lines : List (List Atom)) → w ≤ v → AllByRecursion (λ line. line_width line ≤ w) lines →
@@ -43,7 +33,7 @@ room-one gap before rest size =
     let sizes : List ℕ = before ++ (size ∷ rest) in
     let one : length before + 1 - length before ≡ 1 = omega arith in
     let inside : slice_range sizes (length before) (length before + 1) ≡ size ∷ [] =
-        ap (λ n. take n (drop (length before) sizes)) one ∙ ap (take 1) (drop-append_seam before (size ∷ rest)) in
+    ap (λ n. take n (drop (length before) sizes)) one ∙ ap (take 1) (drop-append_seam before (size ∷ rest)) in
     let no_gap : gap * (length before + 1 - length before - 1) ≡ 0 = ap (λ n. gap * (n - 1)) one ∙ mul-zero gap in
     omega (arith, ap sum inside, sum-one size, no_gap)
 
@@ -80,10 +70,11 @@ module _ (layout : Layout) (w : ℕ) (widths : layout.widths ≡ w ∷ []) where
   rows_are_held before top (row ∷ rows) [] at is fit = absurd fit
   rows_are_held before top (row ∷ rows) (h ∷ heights) at is fit =
       let high : room 0 layout.heights top (top + 1) ≡ h =
-          ap (λ n. room 0 layout.heights n (n + 1)) at ∙ row_room before heights h is in
-      (blocks_fit w h (room 2 layout.widths 0 1) (room 0 layout.heights top (top + 1)) row column_room high fit.0,
-      rows_are_held (before ++ (h ∷ [])) (top + 1) rows heights (omega (arith, length-append before (h ∷ [])))
-      (is ∙ sym (append_assoc before (h ∷ []) heights)) fit.1)
+      ap (λ n. room 0 layout.heights n (n + 1)) at ∙ row_room before heights h is in (
+        blocks_fit w h (room 2 layout.widths 0 1) (room 0 layout.heights top (top + 1)) row column_room high fit.0,
+        rows_are_held (before ++ (h ∷ [])) (top + 1) rows heights (omega (arith, length-append before (h ∷ [])))
+            (is ∙ sym (append_assoc before (h ∷ []) heights)) fit.1,
+      )
 
   -- and where they are held, each fits its height
   pub held_rows_fit : (before : List ℕ) (top : ℕ) (rows : List (Option (List Atom))) (heights : List ℕ) → top ≡ length before →
@@ -94,10 +85,11 @@ module _ (layout : Layout) (w : ℕ) (widths : layout.widths ≡ w ∷ []) where
   held_rows_fit before top (row ∷ rows) [] at long is held = absurd (omega (arith, long))
   held_rows_fit before top (row ∷ rows) (h ∷ heights) at long is held =
       let high : room 0 layout.heights top (top + 1) ≡ h =
-          ap (λ n. room 0 layout.heights n (n + 1)) at ∙ row_room before heights h is in
-      (row_fits w h (room 2 layout.widths 0 1) (room 0 layout.heights top (top + 1)) row column_room high held.0,
-      held_rows_fit (before ++ (h ∷ [])) (top + 1) rows heights (omega (arith, length-append before (h ∷ []))) (omega (arith, long))
-      (is ∙ sym (append_assoc before (h ∷ []) heights)) held.1)
+      ap (λ n. room 0 layout.heights n (n + 1)) at ∙ row_room before heights h is in (
+        row_fits w h (room 2 layout.widths 0 1) (room 0 layout.heights top (top + 1)) row column_room high held.0,
+        held_rows_fit (before ++ (h ∷ [])) (top + 1) rows heights (omega (arith, length-append before (h ∷ []))) (omega (arith, long))
+            (is ∙ sym (append_assoc before (h ∷ []) heights)) held.1,
+      )
 
 -- heights that hold the rows in some width are each at least the least in a greater one
 pub needs_are_least : (w v : ℕ) (rows : List (Option (List Atom))) (needs heights : List ℕ) → w ≤ v →
@@ -109,10 +101,10 @@ needs_are_least w v (row ∷ rows) [] heights le need fit = absurd need
 needs_are_least w v (row ∷ rows) (n ∷ needs) [] le need fit = absurd fit
 needs_are_least w v (row ∷ rows) (n ∷ needs) (h ∷ heights) le need fit =
     (least row need.0 fit.0, needs_are_least w v rows needs heights le need.1 fit.1) where
-  least : (row : Option (List Atom)) → RowNeeds v row n → FitsRow w row h → n ≤ h
-  least None need fit = omega arith
-  least (Some paragraph) need (cut, cutting, holds, high) =
-      let few : n ≤ length (joined cut) = need.least cut cutting (holds_wider w v (joined cut) le holds) in omega arith
+      least : (row : Option (List Atom)) → RowNeeds v row n → FitsRow w row h → n ≤ h
+      least None need fit = omega arith
+      least (Some paragraph) need (cut, cutting, holds, high) =
+          let few : n ≤ length (joined cut) = need.least cut cutting (holds_wider w v (joined cut) le holds) in omega arith
 
 -- sums follow their parts, up to each place
 pub sum-take-le : (needs heights : List ℕ) (place : ℕ) → AllZip (λ need height. need ≤ height) needs heights →
