@@ -8,3 +8,4 @@ pub mod Paragraphs
 pub mod Rest
 pub mod Filled
 pub mod RangeSteps
+pub mod Minimals
