@@ -11,6 +11,7 @@ mod items;
 mod memory_desk;
 mod number;
 mod real_desk;
+mod steps;
 mod style;
 #[cfg(test)]
 mod tests;
@@ -22,5 +23,6 @@ pub use items::List;
 pub use memory_desk::{Fail, MemoryDesk};
 pub use number::{read_number, write_number};
 pub use real_desk::RealDesk;
+pub use steps::{Config, Steps};
 pub use style::Style;
 pub use text::Text;

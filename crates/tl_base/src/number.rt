@@ -1,4 +1,4 @@
-ghost use Rattle.std.specs.Prelude.{◌≡◌, ◌≢◌, true, ℕ, ◌+◌, ◌<◌, ◌^◌, ◌≤◌, ◌++◌, length, decimal, OnOk, OnErr, IfSome, IfNone};
+ghost use Rattle.std.specs.Prelude.{◌≡◌, ◌≢◌, true, ℕ, ◌+◌, ◌<◌, ◌^◌, ◌≤◌, ◌++◌, length, decimal, OnOk, OnErr, IfSome, IfNone, IsTrue, ◌↔◌, slice_index};
 ghost use Rattle.std.specs.Str.{all_ascii_digits};
 ghost use Rattle.tl_base.specs.Number.{digit_run, StandsAt};
 
@@ -27,11 +27,18 @@ fn canonical_value(digits: &[u8]) -> Option<u64>
     ensures value { IfSome result (λ n. digits.now ≡ decimal n) }
     ensures none { IfNone result ((n : ℕ) → n < 2 ^ 64 → digits.now ≢ decimal n) }
 {
-    if digits.len() > 1 && digits[0] == b'0' {
+    if has_leading_zero(digits) {
         return None;
     }
     let text = str::from_utf8(digits).unwrap();
     text.parse::<u64>().ok()
+}
+
+/// Whether a zero stands in front of other digits.
+fn has_leading_zero(digits: &[u8]) -> bool
+    ensures { IsTrue result ↔ ((1 < length digits.now) × (slice_index digits.now 0 ≡ 48)) }
+{
+    digits.len() > 1 && digits[0] == b'0'
 }
 
 /// The number of digits that the bytes begin with.

@@ -1,17 +1,17 @@
-ghost use Rattle.std.specs.Prelude.{◌≡◌};
-ghost use Rattle.tl_base.specs.Style.{gap_of, row_gap_of, edge_of};
-
-/// How a page is drawn.
+/// How a table is drawn.
 #[derive(Clone, Copy, Debug, PartialEq, Eq)]
 pub enum Style {
-    /// Cells side by side, two columns apart.
+    /// Two spaces between columns, and nothing else.
     Plain,
-    /// Cells in a frame of lines.
+    /// A line of `|`, `-` and `+` between columns and rows and round the table.
     Frame,
 }
 
 impl Style {
-    /// The columns between two columns of a table.
+    ghost use Rattle.std.specs.Prelude.{◌≡◌};
+    ghost use Rattle.tl_base.specs.Style.{gap_of, row_gap_of, edge_of};
+
+    /// The columns of text between two columns of the table.
     pub fn gap(self) -> u32
         ensures { result ≡ gap_of self }
     {
@@ -21,7 +21,7 @@ impl Style {
         }
     }
 
-    /// The lines between two rows.
+    /// The lines between two rows of the table.
     pub fn row_gap(self) -> u32
         ensures { result ≡ row_gap_of self }
     {
@@ -31,7 +31,7 @@ impl Style {
         }
     }
 
-    /// The columns at each side, and the lines above and below.
+    /// The columns, and the lines, that each outer edge of the table takes.
     pub fn edge(self) -> u32
         ensures { result ≡ edge_of self }
     {

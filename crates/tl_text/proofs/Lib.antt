@@ -9,3 +9,4 @@ pub mod Rest
 pub mod Filled
 pub mod RangeSteps
 pub mod WordParagraphs
+pub mod Minimals

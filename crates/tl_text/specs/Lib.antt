@@ -2,4 +2,5 @@ pub mod Words
 pub mod Paragraph
 pub mod Cuttings
 pub mod Measure
+pub mod Minimal
 pub mod Ranges

@@ -9,7 +9,7 @@ use crate::measure::measured;
 /// The widest unit's width in columns, and 0 where there is no unit: the least width at which the
 /// paragraph can be cut into lines.
 pub fn least_width(p: &Para) -> u32
-    ensures holds { HasCutting result p.now }
+    ensures holds { (w : ℕ) → result ≤ w → HasCutting w p.now }
     ensures least { (w : ℕ) → HasCutting w p.now → result ≤ w }
 {
     let atoms = p.atoms();

@@ -5,11 +5,13 @@
 mod cutting;
 mod filling;
 mod measure;
+mod minimal;
 mod paragraph;
 mod ranges;
 mod word;
 
 pub use cutting::{count_lines, least_width};
+pub use minimal::configs;
 pub use paragraph::{Atom, Para};
 pub use ranges::{Line, TextError, lines};
 pub use word::{word_width, words};

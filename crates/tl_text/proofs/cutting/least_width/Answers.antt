@@ -18,10 +18,10 @@ loop-atom-preserved c =
     )
 
 pub returns-clause-holds : goal.returns-clause-holds
-returns-clause-holds c =
+returns-clause-holds c = λ w wider.
     let atoms = c.atoms-atoms.result.now in
     let each : AllFit c.loop-atom.widest atoms = subst (λ first. AllFit c.loop-atom.widest first) (take_all c.loop-atom.atom-index atoms (omega arith)) c.loop-atom.invariant.0 in
-    subst (λ all. HasCutting c.loop-atom.widest all) c.atoms-atoms.ensures.atoms (HasCutting-from_fit c.loop-atom.widest atoms each)
+    subst (λ all. HasCutting w all) c.atoms-atoms.ensures.atoms (HasCutting-from_fit w atoms (AllFit-wider c.loop-atom.widest w atoms wider each))
 
 pub returns-clause-least : goal.returns-clause-least
 returns-clause-least c = λ w has.

@@ -1,0 +1,5 @@
+use Rattle.tl_base.proofs.Falling.{FallsBelow}
+use Rattle.tl_base.proofs.steps.are_steps.Given as goal
+
+abbrev pub invariant-loop-i : goal.invariant-loop-i
+invariant-loop-i l = FallsBelow l.configs l.i
