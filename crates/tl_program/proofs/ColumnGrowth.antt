@@ -1,10 +1,11 @@
 -- A column that is laid out, with one row more.
 use Rattle.std.proofs.Common.{◌≡◌, ℕ, zero, suc, ◌<◌, ◌≤◌, List, [], ◌∷◌, ◌++◌, length, get_or, arith}
 use Rattle.std.specs.Prelude.{Option, Some, None, max}
-use Rattle.std.specs.List.{AllZip}
+use Rattle.std.specs.List.{AllByRecursion, AllZip}
+use Rattle.tl_text.specs.Cuttings.{joined}
 use Rattle.tl_text.specs.declared.paragraph.Atom.{Atom}
-use Rattle.tl_program.specs.ColumnSizes.{FitsRow, RowNeeds, IsSized, IsLaid, IsTooNarrowFor, IsTooNarrow}
-use Rattle.tl_program.proofs.ColumnRooms.{fits_wider}
+use Rattle.tl_program.specs.ColumnSizes.{FitsRow, RowNeeds, HoldsRow, IsWidest, IsSized, IsLaid, IsTooNarrowFor, IsTooNarrow}
+use Rattle.tl_program.proofs.ColumnRooms.{fits_wider, holds_wider}
 
 -- what holds at each place, and at one place more
 zip_more : {A B : Type 0} (R : A → B → Type 0) (xs : List A) (ys : List B) (x : A) (y : B) → AllZip R xs ys → R x y →
@@ -59,3 +60,31 @@ laid_more page rows width heights row w h both laid sized is = record {
 pub too_narrow_at : (page : ℕ) (rows : List (Option (List Atom))) (k : ℕ) (d : Option (List Atom)) → k < length rows →
     IsTooNarrowFor page (get_or rows k d) → IsTooNarrow page rows
 too_narrow_at page rows k d within narrow = λ w heights le fits. narrow w (get_or heights k 0) le (zip_at (FitsRow w) rows heights k d 0 fits within)
+
+-- a row that has a cutting has one in each greater width
+holds_row_wider : (w v : ℕ) (row : Option (List Atom)) → w ≤ v → HoldsRow w row → HoldsRow v row
+holds_row_wider w v None le holds = tt
+holds_row_wider w v (Some paragraph) le (cut, cutting, holds) = (cut, cutting, holds_wider w v (joined cut) le holds)
+
+holds_rows_wider : (w v : ℕ) (rows : List (Option (List Atom))) → w ≤ v → AllByRecursion (HoldsRow w) rows → AllByRecursion (HoldsRow v) rows
+holds_rows_wider w v [] le holds = tt
+holds_rows_wider w v (row ∷ rows) le holds = (holds_row_wider w v row le holds.0, holds_rows_wider w v rows le holds.1)
+
+-- what holds of a list and of one element more
+all_more : {A : Type 0} (P : A → Type 0) (xs : List A) (x : A) → AllByRecursion P xs → P x → AllByRecursion P (xs ++ x ∷ [])
+all_more P [] x all one = (one, tt)
+all_more P (a ∷ xs) x all one = (all.0, all_more P xs x all.1 one)
+
+all_less : {A : Type 0} (P : A → Type 0) (xs : List A) (x : A) → AllByRecursion P (xs ++ x ∷ []) → AllByRecursion P xs × P x
+all_less P [] x all = (tt, all.0)
+all_less P (a ∷ xs) x all = let rest = all_less P xs x all.1 in ((all.0, rest.0), rest.1)
+
+-- one row more: the wider of both
+pub widest_more : (rows : List (Option (List Atom))) (width : ℕ) (row : Option (List Atom)) (w both : ℕ) → IsWidest rows width →
+    HoldsRow w row → ((v : ℕ) → HoldsRow v row → w ≤ v) → both ≡ max width w → IsWidest (rows ++ row ∷ []) both
+widest_more rows width row w both widest holds least is = record {
+  holds = all_more (HoldsRow both) rows row (holds_rows_wider width both rows (omega arith) widest.holds) (holds_row_wider w both row (omega arith) holds);
+  least = λ v all.
+    let parts = all_less (HoldsRow v) rows row all in
+    omega (arith, widest.least v parts.0, least v parts.1);
+}

@@ -1,8 +1,8 @@
 -- The sizes of a column: how high each row must be, and how wide the column then is at least.
 use Rattle.std.specs.Prelude.{◌≡◌, ℕ, ◌≤◌, List, Option, Some, None}
-use Rattle.std.specs.List.{AllZip}
+use Rattle.std.specs.List.{AllByRecursion, AllZip}
 use Rattle.tl_text.specs.declared.paragraph.Atom.{Atom}
-use Rattle.tl_text.specs.Cuttings.{LeastLines}
+use Rattle.tl_text.specs.Cuttings.{HasCutting, LeastLines}
 use Rattle.tl_form.specs.Layout.{FitsBlock}
 
 -- a row's paragraph, if it has one, fits in `w` columns and `h` lines
@@ -36,3 +36,13 @@ IsTooNarrowFor page row = (w h : ℕ) → w ≤ page → FitsRow w row h → ⊥
 -- in no width within the page all rows fit
 abbrev pub IsTooNarrow : ℕ → List (Option (List Atom)) → Type 0
 IsTooNarrow page rows = (w : ℕ) (heights : List ℕ) → w ≤ page → AllZip (FitsRow w) rows heights → ⊥
+
+-- a row has a cutting in `w` columns
+abbrev pub HoldsRow : ℕ → Option (List Atom) → Type 0
+HoldsRow w None = Unit {0}
+HoldsRow w (Some paragraph) = HasCutting w paragraph
+
+-- the least width in which every row has a cutting
+pub record IsWidest (rows : List (Option (List Atom))) (width : ℕ) : Type 0 where
+  pub holds : AllByRecursion (HoldsRow width) rows
+  pub least : (w : ℕ) → AllByRecursion (HoldsRow w) rows → width ≤ w

@@ -1,3 +1,5 @@
+pub mod Answer
 pub mod Column
 pub mod ColumnSizes
+pub mod Command
 pub mod OneColumn

@@ -1,7 +1,7 @@
-ghost use Rattle.std.specs.Prelude.{◌≡◌, ◌≤◌, ℕ, List, Option, Some, IfOk, IfSome, IfNone, IsTrue, ◌↔◌};
+ghost use Rattle.std.specs.Prelude.{◌≡◌, ◌≤◌, ℕ, List, length, sum, Option, Some, IfOk, IfSome, IfNone, IsTrue, ◌↔◌};
 ghost use Rattle.tl_text.specs.declared.paragraph.Atom.{Atom};
 ghost use Rattle.tl_form.specs.Layout.{FitsBlock};
-ghost use Rattle.tl_program.specs.ColumnSizes.{IsSized, IsLaid, IsTooNarrowFor, IsTooNarrow};
+ghost use Rattle.tl_program.specs.ColumnSizes.{HoldsRow, IsWidest, IsSized, IsLaid, IsTooNarrowFor, IsTooNarrow};
 
 use std::alloc::{AllocError, Global};
 use tl_base::List;
@@ -44,6 +44,40 @@ pub fn lay_column(
         column.width = column.width.max(size.width);
     }
     Ok(Some(column))
+}
+
+/// The least width of a page, in columns, in which every row has room: 0 where no row has a word.
+pub fn column_least_width(rows: &[Option<Para>]) -> u32
+    ensures { IsWidest rows.now result }
+{
+    let mut widest = 0;
+    for row in rows {
+        widest = widest.max(row_least_width(row));
+    }
+    widest
+}
+
+/// The least width of a page in which the row has room.
+fn row_least_width(row: &Option<Para>) -> u32
+    ensures holds { HoldsRow result row.now }
+    ensures least { (w : ℕ) → HoldsRow w row.now → result ≤ w }
+{
+    match row {
+        None => 0,
+        Some(paragraph) => least_width(paragraph),
+    }
+}
+
+/// The sum of the heights, in lines.
+pub fn total_height(heights: &[u32]) -> u64
+    requires { length heights.now ≤ 1048576 }
+    ensures { result ≡ sum heights.now }
+{
+    let mut total = 0;
+    for &height in heights {
+        total += u64::from(height);
+    }
+    total
 }
 
 /// The least height of a row on a page of `width` columns, and the least width at which it is no

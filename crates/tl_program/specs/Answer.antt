@@ -1,0 +1,58 @@
+-- What a file is answered with on a page of some width: its page and what is said of it, or why there is none.
+use Rattle.std.specs.Prelude.{◌≡◌, ℕ, List, [], ◌∷◌, ◌++◌, codes, decimal}
+use Rattle.std.specs.Str.{encode_utf8_all}
+use Rattle.tl_base.specs.declared.style.Style.TheVariants.{Plain}
+use Rattle.tl_form.specs.declared.layout.Layout.{Layout}
+use Rattle.tl_form.specs.Layout.{total_width, total_height, Fits}
+use Rattle.tl_form.specs.Least.{IsLeastHeight, IsLeastWidth}
+use Rattle.tl_form.specs.Tight.{IsTight}
+use Rattle.tl_form.specs.TextPage.{IsTextPage}
+use Rattle.tl_program.specs.OneColumn.{IsOneColumn}
+use Rattle.tl_program.specs.Column.{table_of_texts}
+
+-- what is said of a page
+abbrev pub page_summary : ℕ → ℕ → List ℕ
+page_summary height width = codes "lowest height " ++ (decimal height ++ (codes " width " ++ (decimal width ++ 10 ∷ [])))
+
+-- what is said where no layout fits the page
+abbrev pub narrow_summary : ℕ → ℕ → List ℕ
+narrow_summary least width = codes "narrow least " ++ (decimal least ++ (codes " width " ++ (decimal width ++ 10 ∷ [])))
+
+-- what is said of words that are no command, of a file that could not be read, and of one that has another form
+abbrev pub usage_text : List ℕ
+usage_text = codes "usage" ++ 10 ∷ []
+
+abbrev pub read_fault_text : List ℕ
+read_fault_text = codes "read fault" ++ 10 ∷ []
+
+abbrev pub not_built_text : List ℕ
+not_built_text = codes "not built" ++ 10 ∷ []
+
+-- the bytes have the one-column form, and the page is that of a layout of their table that fits the width, is tight,
+-- and is as low as any layout that fits
+pub record IsLowestPage (width : ℕ) (bytes page summary : List ℕ) : Type 0 where
+  pub texts : List (List ℕ)
+  pub form : IsOneColumn bytes texts
+  pub layout : Layout
+  pub height : ℕ
+  pub fits : Fits (table_of_texts texts) Plain width height layout
+  pub lowest : IsLeastHeight (table_of_texts texts) Plain width height
+  pub tight : IsTight (table_of_texts texts) Plain layout
+  pub text : List ℕ
+  pub shown : IsTextPage (table_of_texts texts) layout text
+  pub written : page ≡ encode_utf8_all text
+  pub told : summary ≡ page_summary height (total_width Plain layout)
+
+-- the bytes have the one-column form, no layout of their table fits the width, and the least width at which one does
+-- is told
+pub record IsTooNarrowPage (width : ℕ) (bytes summary : List ℕ) : Type 0 where
+  pub texts : List (List ℕ)
+  pub form : IsOneColumn bytes texts
+  pub narrow : (height : ℕ) (layout : Layout) → Fits (table_of_texts texts) Plain width height layout → ⊥
+  pub least : ℕ
+  pub least_width : IsLeastWidth (table_of_texts texts) Plain least
+  pub told : summary ≡ narrow_summary least width
+
+-- the bytes have not the one-column form
+abbrev pub IsOtherForm : List ℕ → Type 0
+IsOtherForm bytes = (texts : List (List ℕ)) → IsOneColumn bytes texts → ⊥
