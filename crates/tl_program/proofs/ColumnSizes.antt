@@ -10,17 +10,12 @@ use Rattle.tl_text.specs.Cuttings.{joined, line_width, IsCutting, HoldsIn, Least
 use Rattle.tl_form.specs.declared.layout.Layout.{Layout}
 use Rattle.tl_form.specs.Table.{Cell, Table}
 use Rattle.tl_form.specs.Layout.{room, total, position, width_for, height_for, FitsBlock, FitBlocks, HoldsCell, Fits}
-use Rattle.tl_program.specs.Column.{cells_from, column_of}
+use Rattle.tl_program.specs.Column.{cells_from, column_of, RowNeeds}
 
 -- a row's paragraph, if it has one, fits in `w` columns and `h` lines
 abbrev pub FitsRow : ℕ → Option (List Atom) → ℕ → Type 0
 FitsRow w None h = Unit {0}
 FitsRow w (Some paragraph) h = FitsBlock w paragraph h
-
--- `h` is the least number of lines of the row in `w` columns
-abbrev pub RowNeeds : ℕ → Option (List Atom) → ℕ → Type 0
-RowNeeds w None h = h ≡ 0
-RowNeeds w (Some paragraph) h = LeastLines w paragraph h
 
 -- what holds in a width holds in each greater one
 pub holds_wider : (w v : ℕ) (lines : List (List Atom)) → w ≤ v → AllByRecursion (λ line. line_width line ≤ w) lines →

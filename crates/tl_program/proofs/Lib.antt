@@ -1,8 +1,11 @@
 pub mod ColumnLayouts
+pub mod ColumnPages
 pub mod ColumnSizes
 pub mod FormAnswers
+pub mod LineTexts
 pub mod Prefixes
 pub mod RowAnswers
+pub mod RowLines
 pub mod TagAnswers
 pub mod TextAnswers
 pub mod Texts

@@ -2,6 +2,7 @@
 #![tactic(auto)]
 
 mod form;
+mod page;
 mod rows;
 
 fn main() {}
