@@ -1,6 +1,6 @@
 -- The text page of a column, row by row.
-use Rattle.std.proofs.Common.{◌≡◌, ℕ, zero, suc, ◌+◌, ◌-◌, ◌<◌, ◌≤◌, List, [], ◌∷◌, ◌++◌, length, take, get_or, Some, None, refl, sym, ◌∙◌, ap, ap₂, arith, encode_utf8_all, subst, append-nil, le-leb, lt-ltb, le-ltb}
-use Rattle.std.specs.Prelude.{Option, Bool, true, false, ◌&&◌, cond, find, min, option_to_list}
+use Rattle.std.proofs.Common.{◌≡◌, ℕ, suc, ◌+◌, ◌-◌, ◌<◌, ◌≤◌, List, [], ◌∷◌, ◌++◌, length, take, get_or, Some, None, refl, sym, ◌∙◌, ap, ap₂, arith, encode_utf8_all, subst, append-nil, le-leb, lt-ltb, le-ltb}
+use Rattle.std.specs.Prelude.{Option, true, false, ◌&&◌, cond, find, min, option_to_list}
 use Rattle.std.specs.List.{AllZip, flat_map, filter_map, cons_option, range_with_len}
 use Rattle.std.proofs.lemmas.List.{take_more, take_all, flat_map_more}
 use Rattle.std.proofs.lemmas.Str.{encodes-append}
@@ -33,10 +33,10 @@ pub row_more_written : (w : ℕ) (rows : List (Option (List Atom))) (n : ℕ) (r
 row_more_written w rows n row page new lines within is (contents, shown, before) shows now = (
   contents ++ lines ∷ [],
   subst (λ some. AllZip (ShowsRow w) some (contents ++ lines ∷ []))
-  (ap (λ last. take n rows ++ last ∷ []) is ∙ sym (take_more rows n row within)) (both_more (take n rows) contents shown),
+      (ap (λ last. take n rows ++ last ∷ []) is ∙ sym (take_more rows n row within)) (both_more (take n rows) contents shown),
   now ∙ ap (λ all. all ++ encode_utf8_all (lines_text w lines)) before
-  ∙ sym (encodes-append (rows_text w contents) (lines_text w lines))
-  ∙ ap encode_utf8_all (flat_map_more (lines_text w) [] contents lines),
+      ∙ sym (encodes-append (rows_text w contents) (lines_text w lines))
+      ∙ ap encode_utf8_all (flat_map_more (lines_text w) [] contents lines),
 ) where
   both_more : (rows : List (Option (List Atom))) (contents : List (List (List Atom))) → AllZip (ShowsRow w) rows contents →
       AllZip (ShowsRow w) (rows ++ row ∷ []) (contents ++ lines ∷ [])
@@ -68,8 +68,11 @@ row_content w width (Some paragraph) lines wide (cut, greedy, is, least) =
 row_height : (w h : ℕ) (row : Option (List Atom)) (lines : List (List Atom)) → RowNeeds w row h → ShowsRow w row lines → h ≡ length lines
 row_height w h None lines need shows = omega (arith, need, ap length shows)
 row_height w h (Some paragraph) lines need (cut, greedy, is, least) =
-    omega (arith, LeastLines-falls w w paragraph h (length lines) (omega arith) need least,
-    LeastLines-falls w w paragraph (length lines) h (omega arith) least need)
+    omega (
+      arith,
+      LeastLines-falls w w paragraph h (length lines) (omega arith) need least,
+      LeastLines-falls w w paragraph (length lines) h (omega arith) least need,
+    )
 
 -- a cell covers its row
 covers_its_row : (top : ℕ) (row : Option (List Atom)) (lines : List (List Atom)) → covers 0 top (record { cell = cell_of top row; lines = lines }) ≡ true
@@ -148,9 +151,10 @@ cells_are_shown : (layout : Layout) (w top : ℕ) (rows : List (Option (List Ato
 cells_are_shown layout w top [] [] wide shows = tt
 cells_are_shown layout w top [] (lines ∷ contents) wide shows = absurd shows
 cells_are_shown layout w top (row ∷ rows) [] wide shows = absurd shows
-cells_are_shown layout w top (row ∷ rows) (lines ∷ contents) wide shows =
-    ((refl, row_content w (room 2 layout.widths 0 1) row lines wide shows.0),
-    cells_are_shown layout w (top + 1) rows contents wide shows.1)
+cells_are_shown layout w top (row ∷ rows) (lines ∷ contents) wide shows = (
+  (refl, row_content w (room 2 layout.widths 0 1) row lines wide shows.0),
+  cells_are_shown layout w (top + 1) rows contents wide shows.1,
+)
 
 -- the rows' lines are the page of the column
 pub column_is_page : (w : ℕ) (rows : List (Option (List Atom))) (heights : List ℕ) (contents : List (List (List Atom))) →
@@ -162,15 +166,19 @@ column_is_page w (row ∷ rows) heights contents need shows =
     let all : List (Option (List Atom)) = row ∷ rows in
     let layout : Layout = column_layout all w heights in
     let wide : room 2 layout.widths 0 1 ≡ w = column_room layout w refl in
-    let one : min 1 (length all) ≡ 1 = omega arith in
-    (shown_from 0 all contents, cells_are_shown layout w 0 all contents wide shows,
-    sym (rows_are (column_of all) layout w (shown_from 0 all contents) one wide 0 all contents heights (λ place from. refl)
-    (λ k. let here : 0 + k ≡ k = omega arith in ap (λ n. get_or heights n 0) here) need shows))
+    let one : min 1 (length all) ≡ 1 = omega arith in (
+      shown_from 0 all contents,
+      cells_are_shown layout w 0 all contents wide shows,
+      sym (rows_are (column_of all) layout w (shown_from 0 all contents) one wide 0 all contents heights (λ place from. refl)
+          (λ k. let here : 0 + k ≡ k = omega arith in ap (λ n. get_or heights n 0) here) need shows),
+    )
 
 -- what is written once all rows are is the page
 pub page_written : (w : ℕ) (rows : List (Option (List Atom))) (n : ℕ) (page : List ℕ) (heights : List ℕ) → length rows ≤ n →
     RowsWritten w (take n rows) page → AllZip (RowNeeds w) rows heights →
     (text : List ℕ) × IsTextPage (column_of rows) (column_layout rows w heights) text × (page ≡ encode_utf8_all text)
-page_written w rows n page heights all (contents, shown, is) need =
-    (rows_text w contents,
-    column_is_page w rows heights contents need (subst (λ some. AllZip (ShowsRow w) some contents) (take_all n rows all) shown), is)
+page_written w rows n page heights all (contents, shown, is) need = (
+  rows_text w contents,
+  column_is_page w rows heights contents need (subst (λ some. AllZip (ShowsRow w) some contents) (take_all n rows all) shown),
+  is,
+)

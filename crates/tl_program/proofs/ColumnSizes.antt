@@ -6,7 +6,7 @@ use Rattle.std.proofs.lemmas.List.Sums.{sum_by-cons}
 use Rattle.std.proofs.Math.Seq.{drop-append_seam}
 use Rattle.tl_base.specs.declared.style.Style.TheVariants.{Plain}
 use Rattle.tl_text.specs.declared.paragraph.Atom.{Atom}
-use Rattle.tl_text.specs.Cuttings.{joined, line_width, IsCutting, HoldsIn, LeastLines}
+use Rattle.tl_text.specs.Cuttings.{joined, line_width, IsCutting, HoldsIn}
 use Rattle.tl_form.specs.declared.layout.Layout.{Layout}
 use Rattle.tl_form.specs.Table.{Cell, Table}
 use Rattle.tl_form.specs.Layout.{room, total, position, width_for, height_for, FitsBlock, FitBlocks, HoldsCell, Fits}

@@ -3,10 +3,10 @@ use Rattle.std.proofs.Common.{◌≡◌, ℕ, zero, suc, ◌+◌, ◌-◌, ◌<�
 use Rattle.std.specs.List.{flat_map}
 use Rattle.std.proofs.lemmas.List.{take_more, length-take-le}
 use Rattle.std.proofs.lemmas.List.Concat.{flat_map-append}
-use Rattle.std.proofs.lemmas.List.Sums.{sum_by-append, sum_by-cons}
+use Rattle.std.proofs.lemmas.List.Sums.{sum_by-cons}
 use Rattle.std.proofs.lemmas.Str.{encodes-append, encode_ascii}
 use Rattle.tl_text.specs.declared.paragraph.Atom.{Atom}
-use Rattle.tl_text.specs.declared.paragraph.Atom.TheVariants.{Word, Glue, Break}
+use Rattle.tl_text.specs.declared.paragraph.Atom.TheVariants.{Break}
 use Rattle.tl_text.specs.Paragraph.{unit_width, gap_before}
 use Rattle.tl_text.specs.Cuttings.{line_width}
 use Rattle.tl_text.proofs.Widths.{line_width-push}
@@ -38,8 +38,8 @@ line_text-push (first ∷ line) unit =
     ap (λ more. unit_text first ++ more) (flat_map-append lead line (unit ∷ []) ∙ ap (λ last. flat_map lead line ++ last) (append-nil (lead unit)))
     ∙ sym (append_assoc (unit_text first) (flat_map lead line) (lead unit))
     ∙ ap (λ gap. line_text (first ∷ line) ++ (spaces gap ++ unit_text unit)) (sym (gap_later (length line) unit)) where
-  lead : Atom → List ℕ
-  lead more = spaces (gap_before more) ++ unit_text more
+      lead : Atom → List ℕ
+      lead more = spaces (gap_before more) ++ unit_text more
 
 -- and its columns
 pub line_width-more : (line : List Atom) (unit : Atom) →
@@ -72,12 +72,13 @@ pub units_more : (units : List Atom) (n : ℕ) (unit : Atom) → n < length unit
     × (line_width (take (n + 1) units) ≡ line_width (take n units) + (gap_in_line n unit + unit_width unit))
 units_more units n unit within is =
     let more : take (n + 1) units ≡ take n units ++ unit ∷ [] =
-        take_more units n unit within ∙ ap (λ last. take n units ++ last ∷ []) (sym is) in
-    let place : length (take n units) ≡ n = length-take-le n units (omega arith) in
-    (ap line_text more ∙ line_text-push (take n units) unit
-    ∙ ap (λ at. line_text (take n units) ++ (spaces (gap_in_line at unit) ++ unit_text unit)) place,
-    ap line_width more ∙ line_width-more (take n units) unit
-    ∙ ap (λ at. line_width (take n units) + (gap_in_line at unit + unit_width unit)) place)
+    take_more units n unit within ∙ ap (λ last. take n units ++ last ∷ []) (sym is) in
+    let place : length (take n units) ≡ n = length-take-le n units (omega arith) in (
+      ap line_text more ∙ line_text-push (take n units) unit
+          ∙ ap (λ at. line_text (take n units) ++ (spaces (gap_in_line at unit) ++ unit_text unit)) place,
+      ap line_width more ∙ line_width-more (take n units) unit
+          ∙ ap (λ at. line_width (take n units) + (gap_in_line at unit + unit_width unit)) place,
+    )
 
 -- the filled line behind what was written: its units, spaces and a line feed
 pub line_written : (old units_end spaces_end new : List ℕ) (w columns : ℕ) (line : List Atom) →
@@ -86,8 +87,8 @@ pub line_written : (old units_end spaces_end new : List ℕ) (w columns : ℕ) (
     new ≡ old ++ encode_utf8_all (filled w line ++ 10 ∷ [])
 line_written old units_end spaces_end new w columns line text wide filling ended =
     let spaced : spaces_end ≡ units_end ++ encode_utf8_all (spaces (w - line_width line)) =
-        filling ∙ ap (λ n. units_end ++ spaces (w - n)) wide
-        ∙ ap (λ more. units_end ++ more) (sym (spaces_are_bytes (w - line_width line))) in
+    filling ∙ ap (λ n. units_end ++ spaces (w - n)) wide
+    ∙ ap (λ more. units_end ++ more) (sym (spaces_are_bytes (w - line_width line))) in
     written_more old spaces_end new (filled w line) (10 ∷ [])
     (written_more old units_end spaces_end (line_text line) (spaces (w - line_width line)) text spaced)
     (ended ∙ ap (λ last. spaces_end ++ last) (sym (ap (λ front. front ++ []) (encode_ascii 10 (lit< tt)))))

@@ -1,5 +1,5 @@
 -- The lines of a row, as the ranges of its paragraph's atoms show them.
-use Rattle.std.proofs.Common.{◌≡◌, ℕ, zero, suc, ◌+◌, ◌-◌, ◌<◌, ◌≤◌, List, [], ◌∷◌, ◌++◌, length, take, drop, get_or, map, encode_utf8_all, Some, subst, IsSomeAnd, slice_get, slice_range, refl, sym, ◌∙◌, ap, ap₂, arith, inl, inr}
+use Rattle.std.proofs.Common.{◌≡◌, ℕ, zero, suc, ◌+◌, ◌-◌, ◌<◌, ◌≤◌, List, [], ◌∷◌, ◌++◌, length, take, drop, get_or, map, encode_utf8_all, Some, subst, IsSomeAnd, slice_get, refl, sym, ◌∙◌, ap, ap₂, arith, inl, inr}
 use Rattle.std.specs.List.{All, AllZip, AllByRecursion}
 use Rattle.tl_text.specs.declared.ranges.Line.{Line}
 use Rattle.tl_text.specs.declared.paragraph.Atom.{Atom}
@@ -10,7 +10,7 @@ use Rattle.tl_text.specs.Cuttings.{joined, HasCutting, LeastLines}
 use Rattle.tl_text.specs.Ranges.{AreInOrder, ShowsLine, ShowsGreedyCutting, IsFirstTooWide}
 use Rattle.tl_text.proofs.Paragraphs.{AllFit, atoms-of-cut-fit}
 use Rattle.tl_form.specs.TextPage.{filled}
-use Rattle.tl_program.specs.Column.{HoldsRow, ShowsRow, ranged, lines_text}
+use Rattle.tl_program.specs.Column.{ShowsRow, ranged, lines_text}
 use Rattle.tl_program.proofs.LineTexts.{filled-break, written_more}
 
 -- the lines that the ranges show, and nothing else, stand on the page
@@ -88,5 +88,5 @@ row_written old page w paragraph ranges n all shows least written = (
   joined shows.cut,
   (shows.cut, shows.greedy, refl, subst (LeastLines w paragraph) (as_many_lines paragraph ranges (joined shows.cut) shows.shown) least),
   written ∙ ap (λ text. old ++ encode_utf8_all text)
-  (ap (λ some. lines_text w (map (ranged paragraph) some)) (take_all n ranges all) ∙ ranges_text w paragraph ranges (joined shows.cut) shows.shown),
+      (ap (λ some. lines_text w (map (ranged paragraph) some)) (take_all n ranges all) ∙ ranges_text w paragraph ranges (joined shows.cut) shows.shown),
 )

@@ -1,4 +1,4 @@
-ghost use Rattle.std.specs.Prelude.{◌≡◌, ◌+◌, ◌-◌, ◌≤◌, ◌++◌, ◌∷◌, [], ℕ, List, length, replicate, encode_utf8_all, IfOk, OnOk, Some};
+ghost use Rattle.std.specs.Prelude.{◌≡◌, ◌+◌, ◌≤◌, ◌++◌, ◌∷◌, [], ℕ, List, length, encode_utf8_all, IfOk, OnOk, Some};
 ghost use Rattle.std.specs.List.{All, AllZip, AllByRecursion};
 ghost use Rattle.tl_text.specs.declared.paragraph.Atom.{Atom};
 ghost use Rattle.tl_text.specs.Words.{byte_count, width_of};
@@ -13,17 +13,11 @@ use tl_text::{Atom, Line, Para, TextError, lines, word_width};
 
 /// The text page of a column: line by line, each filled with spaces to `width` columns and ended
 /// by a line feed. A row without a paragraph has no line.
-pub fn column_page(
-    alloc: Global,
-    rows: &[Option<Para>],
-    width: u32,
-) -> Result<List<u8>, AllocError>
+pub fn column_page(alloc: Global, rows: &[Option<Para>], width: u32) -> Result<List<u8>, AllocError>
     requires fit { AllByRecursion (HoldsRow width) rows.now }
-    ensures page {
-        IfOk result (λ page. (heights : List ℕ) → AllZip (RowNeeds width) rows.now heights
+    ensures page { IfOk result (λ page. (heights : List ℕ) → AllZip (RowNeeds width) rows.now heights
         → (text : List ℕ) × IsTextPage (column_of rows.now) (column_layout rows.now width heights) text
-        × (page ≡ encode_utf8_all text))
-    }
+        × (page ≡ encode_utf8_all text)) }
 {
     let mut page = List::new(alloc);
     for row in rows {
@@ -42,10 +36,8 @@ fn write_row(
     width: u32,
 ) -> Result<(), AllocError>
     requires fit { HasCutting width paragraph.now }
-    ensures lines {
-        OnOk result ((lines : List (List Atom)) × ShowsRow width (Some paragraph.now) lines
-        × (page.new ≡ page.old ++ encode_utf8_all (lines_text width lines)))
-    }
+    ensures lines { OnOk result ((lines : List (List Atom)) × ShowsRow width (Some paragraph.now) lines
+        × (page.new ≡ page.old ++ encode_utf8_all (lines_text width lines))) }
 {
     let ranges = match lines(alloc, paragraph, width) {
         Ok(ranges) => ranges,
@@ -73,9 +65,7 @@ fn units_of(atoms: &[Atom], line: Line) -> &[Atom]
 fn write_line(page: &mut List<u8>, units: &[Atom], width: u32) -> Result<(), AllocError>
     requires few { length units.now ≤ 1048576 }
     requires small { All (λ atom. atom_size atom ≤ 1048576) units.now }
-    ensures line {
-        OnOk result (page.new ≡ page.old ++ encode_utf8_all (filled width units.now ++ 10 ∷ []))
-    }
+    ensures line { OnOk result (page.new ≡ page.old ++ encode_utf8_all (filled width units.now ++ 10 ∷ [])) }
 {
     let columns = write_units(page, units)?;
     write_spaces(page, u64::from(width).saturating_sub(columns))?;
@@ -101,10 +91,8 @@ fn write_units(page: &mut List<u8>, units: &[Atom]) -> Result<u64, AllocError>
 /// two take. A break takes none.
 fn write_unit(page: &mut List<u8>, unit: &Atom, at: usize) -> Result<u32, AllocError>
     requires small { atom_size unit.now ≤ 1048576 }
-    ensures text {
-        OnOk result (page.new ≡ page.old
-        ++ encode_utf8_all (spaces (gap_in_line at unit.now) ++ unit_text unit.now))
-    }
+    ensures text { OnOk result (page.new ≡ page.old
+        ++ encode_utf8_all (spaces (gap_in_line at unit.now) ++ unit_text unit.now)) }
     ensures width { IfOk result (λ columns. columns ≡ gap_in_line at unit.now + unit_width unit.now) }
     ensures few { IfOk result (λ columns. columns ≤ 2097153) }
 {

@@ -1,8 +1,8 @@
 -- The ranges lie within the paragraph, and show its lines.
-use Rattle.std.proofs.Common.{◌≡◌, ◌≤◌, ◌<◌, ◌++◌, ◌∙◌, ◌∷◌, [], length, get_or, subst, encode_utf8_all, map, take, ap, sym, arith}
+use Rattle.std.proofs.Common.{◌≡◌, ◌≤◌, ◌++◌, ◌∙◌, ◌∷◌, [], length, get_or, subst, encode_utf8_all, map, take, ap, sym, arith}
 use Rattle.std.specs.List.{All}
 use Rattle.tl_text.specs.Paragraph.{atom_size}
-use Rattle.tl_text.specs.Ranges.{AreInOrder, ShowsGreedyCutting}
+use Rattle.tl_text.specs.Ranges.{ShowsGreedyCutting}
 use Rattle.tl_text.specs.Cuttings.{LeastLines}
 use Rattle.tl_form.specs.TextPage.{filled}
 use Rattle.tl_program.specs.Column.{lines_text, ranged}
@@ -17,10 +17,10 @@ unreachable-requires c =
 pub units_of-requires : goal.units_of-requires
 units_of-requires c =
     let shown : ShowsGreedyCutting c.args.width c.args.paragraph.now c.as_slice-range-items.result.now =
-        subst (ShowsGreedyCutting c.args.width c.args.paragraph.now) (sym c.as_slice-range-items.ensures) c.in-Ok.ensures.greedy in
+    subst (ShowsGreedyCutting c.args.width c.args.paragraph.now) (sym c.as_slice-range-items.ensures) c.in-Ok.ensures.greedy in
     let here = range_within (length c.args.paragraph.now) c.as_slice-range-items.result.now c.loop-range.range-index (record { first = 0; past = 0 })
-        shown.in_order c.loop-range-test.true in
-    record { begins = here.0; ends = omega (arith, here.1, ap length c.atoms-atoms.ensures.atoms); }
+    shown.in_order c.loop-range-test.true in
+    record { begins = here.0; ends = omega (arith, here.1, ap length c.atoms-atoms.ensures.atoms) }
 
 pub write_line-requires : goal.write_line-requires
 write_line-requires c =
@@ -40,9 +40,9 @@ loop-range-preserved c =
 pub returns : goal.returns
 returns c =
     let shown : ShowsGreedyCutting c.args.width c.args.paragraph.now c.as_slice-range-items.result.now =
-        subst (ShowsGreedyCutting c.args.width c.args.paragraph.now) (sym c.as_slice-range-items.ensures) c.in-Ok.ensures.greedy in
+    subst (ShowsGreedyCutting c.args.width c.args.paragraph.now) (sym c.as_slice-range-items.ensures) c.in-Ok.ensures.greedy in
     let least : LeastLines c.args.width c.args.paragraph.now (length c.as_slice-range-items.result.now) =
-        subst (λ ranges. LeastLines c.args.width c.args.paragraph.now (length ranges)) (sym c.as_slice-range-items.ensures) c.in-Ok.ensures.least in
+    subst (λ ranges. LeastLines c.args.width c.args.paragraph.now (length ranges)) (sym c.as_slice-range-items.ensures) c.in-Ok.ensures.least in
     record {
       lines = row_written c.args.page.now c.loop-range.page c.args.width c.args.paragraph.now c.as_slice-range-items.result.now c.loop-range.range-index
           (omega arith) shown least
