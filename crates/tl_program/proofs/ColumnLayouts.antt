@@ -10,18 +10,9 @@ use Rattle.tl_form.specs.declared.layout.Layout.{Layout}
 use Rattle.tl_form.specs.Layout.{room, total, position, total_height, HoldsCell, Fits}
 use Rattle.tl_form.specs.Least.{IsLeastHeight}
 use Rattle.tl_form.specs.Tight.{NeedsNoMore, IsTight}
-use Rattle.tl_program.specs.Column.{cells_from, column_of}
+use Rattle.tl_program.specs.Column.{cells_from, column_of, column_widths, column_layout}
 use Rattle.tl_program.specs.ColumnSizes.{FitsRow, RowNeeds}
 use Rattle.tl_program.proofs.ColumnRooms.{holds_wider, column_room, row_fits, rows_are_held, held_rows_fit, needs_are_least, sum-take-le, sum-le, sum-one, total-plain}
-
--- the widths of the column: one where there is a row
-abbrev pub column_widths : List (Option (List Atom)) → ℕ → List ℕ
-column_widths [] s = []
-column_widths (row ∷ rows) s = s ∷ []
-
--- the layout of the column
-abbrev pub column_layout : List (Option (List Atom)) → ℕ → List ℕ → Layout
-column_layout rows s heights = record { widths = column_widths rows s; heights = heights }
 
 -- as many heights as rows
 as_many : (R : Option (List Atom) → ℕ → Type 0) (rows : List (Option (List Atom))) (heights : List ℕ) → AllZip R rows heights → length heights ≡ length rows

@@ -3,6 +3,7 @@
 
 mod column;
 mod form;
+mod page;
 mod rows;
 
 fn main() {}
