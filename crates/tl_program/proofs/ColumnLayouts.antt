@@ -15,7 +15,7 @@ use Rattle.tl_program.specs.ColumnSizes.{FitsRow, RowNeeds}
 use Rattle.tl_program.proofs.ColumnRooms.{holds_wider, column_room, row_fits, rows_are_held, held_rows_fit, needs_are_least, sum-take-le, sum-le, sum-one, total-plain}
 
 -- as many heights as rows
-as_many : (R : Option (List Atom) → ℕ → Type 0) (rows : List (Option (List Atom))) (heights : List ℕ) → AllZip R rows heights → length heights ≡ length rows
+pub as_many : (R : Option (List Atom) → ℕ → Type 0) (rows : List (Option (List Atom))) (heights : List ℕ) → AllZip R rows heights → length heights ≡ length rows
 as_many R [] [] all = refl
 as_many R [] (h ∷ heights) all = absurd all
 as_many R (row ∷ rows) [] all = absurd all
@@ -46,12 +46,12 @@ column_fits w s (row ∷ rows) heights le fit = record {
 }
 
 -- the one width of a column of rows
-one_width : (row : Option (List Atom)) (rows : List (Option (List Atom))) (sizes : List ℕ) → length sizes ≡ min 1 (length (row ∷ rows)) →
+pub one_width : (row : Option (List Atom)) (rows : List (Option (List Atom))) (sizes : List ℕ) → length sizes ≡ min 1 (length (row ∷ rows)) →
     (n : ℕ) × (sizes ≡ n ∷ [])
 one_width row rows sizes many = one_number sizes (omega (arith, many))
 
 -- that width is the total width
-total-one : (sizes : List ℕ) (n : ℕ) → sizes ≡ n ∷ [] → total 2 0 sizes ≡ n
+pub total-one : (sizes : List ℕ) (n : ℕ) → sizes ≡ n ∷ [] → total 2 0 sizes ≡ n
 total-one sizes n is = ap (total 2 0) is ∙ only n where
   only : (n : ℕ) → total 2 0 (n ∷ []) ≡ n
   only n = omega arith
@@ -83,7 +83,7 @@ column_is_least w s rows heights le fit need = record {
 }
 
 -- a row needs in the column what it needs in the page
-need_in_column : (w s h : ℕ) (paragraph : List Atom) → s ≤ w → FitsRow s (Some paragraph) h → RowNeeds w (Some paragraph) h →
+pub need_in_column : (w s h : ℕ) (paragraph : List Atom) → s ≤ w → FitsRow s (Some paragraph) h → RowNeeds w (Some paragraph) h →
     LeastLines s paragraph h
 need_in_column w s h paragraph le (cut, cutting, holds, few) need =
     let enough : h ≤ length (joined cut) = need.least cut cutting (holds_wider s w (joined cut) le holds) in

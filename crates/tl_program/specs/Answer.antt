@@ -1,5 +1,5 @@
 -- What a file is answered with on a page of some width: its page and what is said of it, or why there is none.
-use Rattle.std.specs.Prelude.{◌≡◌, ℕ, List, [], ◌∷◌, ◌++◌, codes, decimal}
+use Rattle.std.specs.Prelude.{◌≡◌, ℕ, List, [], ◌∷◌, ◌++◌, codes, decimal, string_bytes}
 use Rattle.std.specs.Str.{encode_utf8_all}
 use Rattle.tl_base.specs.declared.style.Style.TheVariants.{Plain}
 use Rattle.tl_form.specs.declared.layout.Layout.{Layout}
@@ -7,6 +7,8 @@ use Rattle.tl_form.specs.Layout.{total_width, total_height, Fits}
 use Rattle.tl_form.specs.Least.{IsLeastHeight, IsLeastWidth}
 use Rattle.tl_form.specs.Tight.{IsTight}
 use Rattle.tl_form.specs.TextPage.{IsTextPage}
+use Rattle.tl_program.specs.declared.answer.Answer.{Answer}
+use Rattle.tl_program.specs.declared.answer.Answer.TheVariants.{Page, Narrow, OtherForm}
 use Rattle.tl_program.specs.OneColumn.{IsOneColumn}
 use Rattle.tl_program.specs.Column.{table_of_texts}
 
@@ -56,3 +58,9 @@ pub record IsTooNarrowPage (width : ℕ) (bytes summary : List ℕ) : Type 0 whe
 -- the bytes have not the one-column form
 abbrev pub IsOtherForm : List ℕ → Type 0
 IsOtherForm bytes = (texts : List (List ℕ)) → IsOneColumn bytes texts → ⊥
+
+-- the answer is the right one for a file of these bytes
+abbrev pub IsAnswer : ℕ → List ℕ → Answer → Type 0
+IsAnswer width bytes (Page page summary) = IsLowestPage width bytes page (string_bytes summary)
+IsAnswer width bytes (Narrow summary) = IsTooNarrowPage width bytes (string_bytes summary)
+IsAnswer width bytes OtherForm = IsOtherForm bytes

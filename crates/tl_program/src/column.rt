@@ -50,7 +50,7 @@ pub fn lay_column(
 pub fn column_least_width(rows: &[Option<Para>]) -> u32
     ensures { IsWidest rows.now result }
 {
-    let mut widest = 0;
+    let mut widest = 0u32;
     for row in rows {
         widest = widest.max(row_least_width(row));
     }

@@ -1,6 +1,7 @@
 //! Lays out a table.
 #![tactic(auto)]
 
+mod answer;
 mod column;
 mod form;
 mod page;

@@ -10,4 +10,4 @@ loop-row-preserved c =
         take_more c.args.rows.now c.loop-row.row-index c.row-item.result c.loop-row-test.true
         ∙ ap (λ row. take c.loop-row.row-index c.args.rows.now ++ row ∷ []) (sym c.row-item.is) in
     rw one_more (widest_more (take c.loop-row.row-index c.args.rows.now) c.loop-row.widest c.row-item.result c.row_least_width.result
-    c.max.result c.loop-row.invariant c.row_least_width.ensures.holds c.row_least_width.ensures.least c.max.ensures)
+    c.max-widest.result c.loop-row.invariant c.row_least_width.ensures.holds c.row_least_width.ensures.least c.max-widest.ensures)
