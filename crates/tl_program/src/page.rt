@@ -130,3 +130,33 @@ fn write_spaces(page: &mut List<u8>, count: u64) -> Result<(), AllocError>
     }
     Ok(())
 }
+
+#[cfg(test)]
+mod tests {
+    use super::column_page;
+    use std::test::Fail;
+    use tl_base::List;
+    use tl_text::{Atom, Para, least_width, words};
+
+    // A `/` stands for a break. The width is that of the widest word.
+    #[test]
+    fn each_line_is_filled_and_ended(rt: HostRuntime) -> Result<(), Fail> {
+        for (text, want) in [
+            ("aa b c", "aa\nb \nc \n"),
+            ("a bb ccc d e", "a  \nbb \nccc\nd e\n"),
+            ("aa / / b", "aa\n  \nb \n"),
+            ("\u{4e2d} x", "\u{4e2d}\nx \n"),
+        ] {
+            let mut atoms = List::new(rt.alloc());
+            for word in words(rt.alloc(), text)?.into_vec() {
+                let ends = word.as_str() == "/";
+                atoms.push(if ends { Atom::Break } else { Atom::Word(word) })?;
+            }
+            let paragraph = Para::new(atoms).expect(&rt, "a paragraph");
+            let width = least_width(&paragraph);
+            let page = column_page(rt.alloc(), &[None, Some(paragraph)], width)?;
+            assert_eq!(rt; page.as_slice(), want.as_bytes(), "{text:?}");
+        }
+        Ok(())
+    }
+}
