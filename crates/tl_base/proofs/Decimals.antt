@@ -1,5 +1,5 @@
 -- Which runs of digits are canonical decimals.
-use Rattle.std.proofs.Common.{◌≡◌, ℕ, ◌<◌, ◌≤◌, ◌^◌, List, [], ◌∷◌, length, get_or, true, false, Bool, arith, ap, sym, take, ◌∙◌, refl, cond, suc, zero}
+use Rattle.std.proofs.Common.{◌≡◌, ℕ, ◌<◌, ◌≤◌, ◌^◌, List, [], ◌∷◌, length, get_or, true, false, Bool, arith, ap, sym, take, ◌∙◌, refl, cond, suc, zero, ◌&&◌}
 use Rattle.std.specs.Fmt.{decimal}
 use Rattle.std.specs.Char.{is_ascii_digit}
 use Rattle.std.specs.List.{take_while}
@@ -9,7 +9,8 @@ use Rattle.std.specs.Result.{result_ok}
 use Rattle.std.specs.Str.Parse.{digits_value, ParsesUnsigned}
 use Rattle.std.proofs.lemmas.Str.{IsUtf8-from_ascii}
 use Rattle.std.proofs.lemmas.Str.Parse.{IsNumeralModel, numerals_by_value, tells_all_ascii_digits, parse_digits}
-use Rattle.std.proofs.lemmas.Fmt.{decimal_digit, first_decimal, IsAscii-from_digits, decimal-digits_value, parse-decimal}
+use Rattle.std.proofs.lemmas.Fmt.{decimal_digit, first_decimal, IsAscii-from_digits, decimal-digits_value, parse-decimal, decimal_is_IsNumeral, decimal_injective}
+use Rattle.tl_base.specs.Number.{StandsAt}
 use Rattle.std.proofs.lemmas.List.Sums.{take_while-cons}
 use Rattle.std.proofs.lemmas.List.Folds.{length-prefix_len}
 
@@ -59,3 +60,23 @@ parsed_none ds (Ok n) parsed = tt
 parsed_none {E} ds (Err e) parsed = λ n small is.
     let r : Result ℕ E = Err e in
     let read : r ≡ Ok n = parse-decimal 64 n ds r small small is parsed in cc
+
+-- one digit more in a run of digits
+run_more : (is_digit : Bool) (d : ℕ) (ds : List ℕ) → (is_digit && all_ascii_digits ds) ≡ true →
+    (all_ascii_digits ds ≡ true → take_while is_ascii_digit ds ≡ ds) → cond is_digit (d ∷ take_while is_ascii_digit ds) [] ≡ d ∷ ds
+run_more true d ds digits rest = ap (λ run. d ∷ run) (rest digits)
+run_more false d ds digits rest = cc
+
+-- digits alone are their own run
+take_while-digits : (ds : List ℕ) → all_ascii_digits ds ≡ true → take_while is_ascii_digit ds ≡ ds
+take_while-digits [] digits = refl
+take_while-digits (d ∷ ds) digits =
+    rw (take_while-cons is_ascii_digit d ds) (run_more (is_ascii_digit d) d ds digits (take_while-digits ds))
+
+-- a number's decimal stands at the front of itself
+pub decimal_stands : (n : ℕ) → n < 2 ^ 64 → StandsAt (decimal n) 0 n
+decimal_stands n small = (small, take_while-digits (decimal n) (own.from (decimal n) (decimal_is_IsNumeral n small).0.1))
+
+-- and no other number does
+pub stands_once : (bytes : List ℕ) (at m n : ℕ) → StandsAt bytes at m → StandsAt bytes at n → m ≡ n
+stands_once bytes at m n first second = decimal_injective m n first.0 second.0 (sym first.1 ∙ second.1)

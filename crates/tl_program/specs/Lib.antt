@@ -3,3 +3,4 @@ pub mod Column
 pub mod ColumnSizes
 pub mod Command
 pub mod OneColumn
+pub mod Run

@@ -3,6 +3,7 @@
 
 mod answer;
 mod column;
+mod command;
 mod form;
 mod page;
 mod rows;

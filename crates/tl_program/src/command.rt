@@ -1,0 +1,52 @@
+ghost use Rattle.std.specs.Prelude.{◌≡◌, ◌≤◌, ℕ, List, length, map, string_bytes, decimal, IfSome, IfNone};
+ghost use Rattle.tl_program.specs.Command.{IsLay, IsUsage, IsWidth};
+
+use tl_base::read_number;
+
+/// The command to lay a table out, as its words say it: `lay WIDTH IN PAGE`.
+#[derive(Clone, Copy, Debug)]
+pub struct Lay<'a> {
+    /// The page width in columns, from 1 to 500.
+    pub width: u32,
+    /// The name of the file to read.
+    pub input: &'a str,
+    /// The name of the file that takes the page.
+    pub page: &'a str,
+}
+
+impl<'a> Lay<'a> {
+    /// The command that the words are, or `None` where they are none: WIDTH is a canonical decimal
+    /// from 1 to 500, and the names are not empty and differ.
+    pub fn parse(words: &'a [String]) -> Option<Lay<'a>>
+        ensures command {
+            IfSome result (λ lay. IsLay (map string_bytes words.now) lay.width lay.input.now lay.page.now)
+        }
+        ensures usage { IfNone result (IsUsage (map string_bytes words.now)) }
+    {
+        let [name, width, input, page] = words else {
+            return None;
+        };
+        let width = page_width(width.as_str())?;
+        if name.as_str() != "lay" || input.is_empty() || page.is_empty() || input == page {
+            return None;
+        }
+        Some(Lay {
+            width,
+            input: input.as_str(),
+            page: page.as_str(),
+        })
+    }
+}
+
+/// The page width that the word says.
+fn page_width(word: &str) -> Option<u32>
+    ensures width { IfSome result (IsWidth word.now) }
+    ensures none { IfNone result ((width : ℕ) → ¬ (IsWidth word.now width)) }
+{
+    let (width, past) = read_number(word.as_bytes(), 0)?;
+    if past == word.len() && 1 <= width && width <= 500 {
+        Some(width as u32)
+    } else {
+        None
+    }
+}
