@@ -1,5 +1,5 @@
 -- What the sizes of a column tell of the answer to its file.
-use Rattle.std.proofs.Common.{◌≡◌, ℕ, ◌+◌, ◌≤◌, List, [], ◌∷◌, length, map, Some, None, refl, sym, ◌∙◌, ap, subst, arith}
+use Rattle.std.proofs.Common.{◌≡◌, ℕ, ◌≤◌, List, [], ◌∷◌, length, map, Some, None, refl, sym, ◌∙◌, ap, subst, arith}
 use Rattle.std.specs.Prelude.{Option, sum}
 use Rattle.std.specs.List.{AllByRecursion, AllZip}
 use Rattle.std.specs.Str.{encode_utf8_all}
@@ -8,7 +8,7 @@ use Rattle.tl_base.specs.declared.style.Style.TheVariants.{Plain}
 use Rattle.tl_text.specs.declared.paragraph.Atom.{Atom}
 use Rattle.tl_text.specs.Cuttings.{joined}
 use Rattle.tl_form.specs.declared.layout.Layout.{Layout}
-use Rattle.tl_form.specs.Layout.{total, total_width, total_height, Fits}
+use Rattle.tl_form.specs.Layout.{total_width, total_height, Fits}
 use Rattle.tl_form.specs.Least.{IsLeastWidth}
 use Rattle.tl_form.specs.TextPage.{IsTextPage}
 use Rattle.tl_program.specs.Answer.{page_summary, narrow_summary, IsLowestPage, IsTooNarrowPage}
@@ -58,8 +58,11 @@ layout_width : (page height : ℕ) (row : Option (List Atom)) (rows : List (Opti
     Fits (column_of (row ∷ rows)) Plain page height layout → (w : ℕ) × (w ≤ page) × AllZip (FitsRow w) (row ∷ rows) layout.heights
 layout_width page height row rows layout fits = within (one_width row rows layout.widths fits.columns) where
   within : ((n : ℕ) × (layout.widths ≡ n ∷ [])) → (w : ℕ) × (w ≤ page) × AllZip (FitsRow w) (row ∷ rows) layout.heights
-  within (n, is) = (n, omega (arith, total-one layout.widths n is, fits.within),
-      held_rows_fit layout n is [] 0 (row ∷ rows) layout.heights refl fits.rows refl fits.cells)
+  within (n, is) = (
+    n,
+    omega (arith, total-one layout.widths n is, fits.within),
+    held_rows_fit layout n is [] 0 (row ∷ rows) layout.heights refl fits.rows refl fits.cells,
+  )
 
 -- the widest row's width is the least width of a page
 pub widest_is_least : (rows : List (Option (List Atom))) (w : ℕ) → IsWidest rows w → IsLeastWidth (column_of rows) Plain w
@@ -69,12 +72,12 @@ widest_is_least rows w widest =
       attained = (total_height Plain (column_layout rows w heights.0), column_layout rows w heights.0, column_fits w w rows heights.0 (omega arith) heights.1);
       least = λ page height layout fits. least_of rows widest.least page height layout fits;
     } where
-  least_of : (rows : List (Option (List Atom))) → ((v : ℕ) → AllByRecursion (HoldsRow v) rows → w ≤ v) → (page height : ℕ) (layout : Layout) →
-      Fits (column_of rows) Plain page height layout → w ≤ page
-  least_of [] least page height layout fits = least page tt
-  least_of (row ∷ rows) least page height layout fits =
-      let there = layout_width page height row rows layout fits in
-      omega (arith, there.1, least there.0 (rows_hold there.0 (row ∷ rows) layout.heights there.2))
+      least_of : (rows : List (Option (List Atom))) → ((v : ℕ) → AllByRecursion (HoldsRow v) rows → w ≤ v) → (page height : ℕ) (layout : Layout) →
+          Fits (column_of rows) Plain page height layout → w ≤ page
+      least_of [] least page height layout fits = least page tt
+      least_of (row ∷ rows) least page height layout fits =
+          let there = layout_width page height row rows layout fits in
+          omega (arith, there.1, least there.0 (rows_hold there.0 (row ∷ rows) layout.heights there.2))
 
 -- where the page is too narrow for the rows, no layout fits it
 pub nothing_fits : (page : ℕ) (rows : List (Option (List Atom))) → IsTooNarrow page rows → (height : ℕ) (layout : Layout) →

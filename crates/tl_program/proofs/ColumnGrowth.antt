@@ -85,6 +85,6 @@ pub widest_more : (rows : List (Option (List Atom))) (width : ℕ) (row : Option
 widest_more rows width row w both widest holds least is = record {
   holds = all_more (HoldsRow both) rows row (holds_rows_wider width both rows (omega arith) widest.holds) (holds_row_wider w both row (omega arith) holds);
   least = λ v all.
-    let parts = all_less (HoldsRow v) rows row all in
-    omega (arith, widest.least v parts.0, least v parts.1);
+      let parts = all_less (HoldsRow v) rows row all in
+      omega (arith, widest.least v parts.0, least v parts.1);
 }

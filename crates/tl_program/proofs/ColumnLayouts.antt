@@ -10,7 +10,7 @@ use Rattle.tl_form.specs.declared.layout.Layout.{Layout}
 use Rattle.tl_form.specs.Layout.{room, total, position, total_height, HoldsCell, Fits}
 use Rattle.tl_form.specs.Least.{IsLeastHeight}
 use Rattle.tl_form.specs.Tight.{NeedsNoMore, IsTight}
-use Rattle.tl_program.specs.Column.{cells_from, column_of, column_widths, column_layout}
+use Rattle.tl_program.specs.Column.{cells_from, column_of, column_layout}
 use Rattle.tl_program.specs.ColumnSizes.{FitsRow, RowNeeds}
 use Rattle.tl_program.proofs.ColumnRooms.{holds_wider, column_room, row_fits, rows_are_held, held_rows_fit, needs_are_least, sum-take-le, sum-le, sum-one, total-plain}
 

@@ -4,6 +4,7 @@ pub mod ColumnGrowth
 pub mod ColumnLayouts
 pub mod ColumnPages
 pub mod ColumnRooms
+pub mod Ends
 pub mod FormAnswers
 pub mod LineTexts
 pub mod Prefixes

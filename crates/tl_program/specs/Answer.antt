@@ -3,7 +3,7 @@ use Rattle.std.specs.Prelude.{◌≡◌, ℕ, List, [], ◌∷◌, ◌++◌, cod
 use Rattle.std.specs.Str.{encode_utf8_all}
 use Rattle.tl_base.specs.declared.style.Style.TheVariants.{Plain}
 use Rattle.tl_form.specs.declared.layout.Layout.{Layout}
-use Rattle.tl_form.specs.Layout.{total_width, total_height, Fits}
+use Rattle.tl_form.specs.Layout.{total_width, Fits}
 use Rattle.tl_form.specs.Least.{IsLeastHeight, IsLeastWidth}
 use Rattle.tl_form.specs.Tight.{IsTight}
 use Rattle.tl_form.specs.TextPage.{IsTextPage}

@@ -1,4 +1,4 @@
-ghost use Rattle.std.specs.Prelude.{◌≡◌, ◌≤◌, ℕ, List, length, map, string_bytes, decimal, IfSome, IfNone};
+ghost use Rattle.std.specs.Prelude.{◌≡◌, ◌≢◌, ◌↔◌, ℕ, [], map, codes, string_bytes, IfSome, IfNone, IsTrue};
 ghost use Rattle.tl_program.specs.Command.{IsLay, IsUsage, IsWidth};
 
 use tl_base::read_number;
@@ -18,18 +18,16 @@ impl<'a> Lay<'a> {
     /// The command that the words are, or `None` where they are none: WIDTH is a canonical decimal
     /// from 1 to 500, and the names are not empty and differ.
     pub fn parse(words: &'a [String]) -> Option<Lay<'a>>
-        ensures command {
-            IfSome result (λ lay. IsLay (map string_bytes words.now) lay.width lay.input.now lay.page.now)
-        }
+        ensures command { IfSome result (λ lay. IsLay (map string_bytes words.now) lay.width lay.input.now lay.page.now) }
         ensures usage { IfNone result (IsUsage (map string_bytes words.now)) }
     {
         let [name, width, input, page] = words else {
             return None;
         };
-        let width = page_width(width.as_str())?;
-        if name.as_str() != "lay" || input.is_empty() || page.is_empty() || input == page {
+        if !is_lay(name.as_str(), input.as_str(), page.as_str()) {
             return None;
         }
+        let width = page_width(width.as_str())?;
         Some(Lay {
             width,
             input: input.as_str(),
@@ -38,15 +36,21 @@ impl<'a> Lay<'a> {
     }
 }
 
+/// Whether the command's name is `lay`, and its two files are named, and differ.
+fn is_lay(name: &str, input: &str, page: &str) -> bool
+    ensures { IsTrue result ↔ ((name.now ≡ codes "lay") × (input.now ≢ []) × (page.now ≢ []) × (input.now ≢ page.now)) }
+{
+    name == "lay" && !input.is_empty() && !page.is_empty() && input != page
+}
+
 /// The page width that the word says.
 fn page_width(word: &str) -> Option<u32>
     ensures width { IfSome result (IsWidth word.now) }
     ensures none { IfNone result ((width : ℕ) → ¬ (IsWidth word.now width)) }
 {
     let (width, past) = read_number(word.as_bytes(), 0)?;
-    if past == word.len() && 1 <= width && width <= 500 {
-        Some(width as u32)
-    } else {
-        None
+    if past != word.len() || width < 1 || width > 500 {
+        return None;
     }
+    Some(width as u32)
 }

@@ -1,5 +1,5 @@
 -- The answer is told by the rows' sizes.
-use Rattle.std.proofs.Common.{◌≡◌, ◌∙◌, ap, List, map}
+use Rattle.std.proofs.Common.{◌≡◌, ◌∙◌, ap}
 use Rattle.std.specs.Prelude.{string_bytes, sum}
 use Rattle.tl_program.specs.Answer.{page_summary}
 use Rattle.tl_program.proofs.Answers.{rows_hold, rows_need, too_narrow_page, lowest_page, few_heights}
@@ -33,9 +33,9 @@ returns c =
     let found = rw c.in-Some.is at c.in_ok-rows.ensures.found in
     let laid = rw c.in-Some-2.is at c.in_ok-column.ensures.laid in
     let need = rows_need c.args.width c.in-Some-2.column.width c.as_slice-rows.result.now c.in-Some-2.column.heights
-        laid.within laid.fits laid.needs in
+    laid.within laid.fits laid.needs in
     let height : c.total_height-height.result ≡ sum c.in-Some-2.column.heights =
-        c.total_height-height.ensures ∙ ap sum c.as_slice.ensures in
+    c.total_height-height.ensures ∙ ap sum c.as_slice.ensures in
     lowest_page c.args.width c.args.bytes.now c.as_slice-rows.result.now found.0 c.in-Some-2.column.width
     c.in-Some-2.column.heights c.in_ok-page.page (string_bytes c.in_ok-summary-2.summary) found.1 (c.as_slice-rows.ensures ∙ found.2) laid
     (c.in_ok-page.ensures.page c.in-Some-2.column.heights need)

@@ -1,0 +1,161 @@
+-- Each end of the program, from its cause and what stands.
+use Rattle.std.proofs.Common.{◌≡◌, ◌⊎◌, inl, inr, ℕ, ◌≤◌, List, length, take, Some, None, refl, sym, ◌∙◌, ap, subst, arith}
+use Rattle.std.specs.Prelude.{Option, IfSome, option_map}
+use Rattle.tl_base.specs.Desk.{Files, IsReadFrom, Rose, stored}
+use Rattle.tl_program.specs.declared.status.Status.{Status}
+use Rattle.tl_program.specs.declared.status.Status.TheVariants.{Done, Usage, Narrow, ReadFault, WriteFault, Memory, NotBuilt}
+use Rattle.tl_program.specs.OneColumn.{IsOneColumn}
+use Rattle.tl_program.specs.Answer.{IsLowestPage, IsTooNarrowPage, IsOtherForm}
+use Rattle.tl_program.specs.Run.{number_of, Change, Holds, IsLaidOut, RefusesUsage, RefusesRead, RefusesNarrow, RefusesForm, IsRefusal, Tells, IsDone, StandsAtFault, StandsAtMemory, Ends, IsTold, IsDelivered}
+use Rattle.std.proofs.lemmas.List.{take_all, length-take}
+
+module _ (words : List (List ℕ)) (change : Change) where
+  -- done
+  pub ends_done : IsDone words change → Ends words change 0
+  ends_done is = record {
+    known = (Done, refl);
+    done = λ same. is;
+    usage = λ same. absurd (omega (arith, same));
+    narrow = λ same. absurd (omega (arith, same));
+    read_fault = λ same. absurd (omega (arith, same));
+    write_fault = λ same. absurd (omega (arith, same));
+    memory = λ same. absurd (omega (arith, same));
+    not_built = λ same. absurd (omega (arith, same));
+  }
+
+  -- the words are no command
+  pub ends_usage : (text : List ℕ) → RefusesUsage words text → Tells change text → Ends words change 2
+  ends_usage text is tells = record {
+    known = (Usage, refl);
+    done = λ same. absurd (omega (arith, same));
+    usage = λ same. (text, is, tells);
+    narrow = λ same. absurd (omega (arith, same));
+    read_fault = λ same. absurd (omega (arith, same));
+    write_fault = λ same. absurd (omega (arith, same));
+    memory = λ same. absurd (omega (arith, same));
+    not_built = λ same. absurd (omega (arith, same));
+  }
+
+  -- no layout fits
+  pub ends_narrow : (text : List ℕ) → RefusesNarrow words change.files text → Tells change text → Ends words change 4
+  ends_narrow text is tells = record {
+    known = (Narrow, refl);
+    done = λ same. absurd (omega (arith, same));
+    usage = λ same. absurd (omega (arith, same));
+    narrow = λ same. (text, is, tells);
+    read_fault = λ same. absurd (omega (arith, same));
+    write_fault = λ same. absurd (omega (arith, same));
+    memory = λ same. absurd (omega (arith, same));
+    not_built = λ same. absurd (omega (arith, same));
+  }
+
+  -- the file could not be read
+  pub ends_read_fault : (text : List ℕ) → RefusesRead words change text → Tells change text → Ends words change 7
+  ends_read_fault text is tells = record {
+    known = (ReadFault, refl);
+    done = λ same. absurd (omega (arith, same));
+    usage = λ same. absurd (omega (arith, same));
+    narrow = λ same. absurd (omega (arith, same));
+    read_fault = λ same. (text, is, tells);
+    write_fault = λ same. absurd (omega (arith, same));
+    memory = λ same. absurd (omega (arith, same));
+    not_built = λ same. absurd (omega (arith, same));
+  }
+
+  -- a store or a say failed
+  pub ends_write_fault : Rose change.write_faults change.write_faults_after → StandsAtFault words change → Ends words change 8
+  ends_write_fault rose stands = record {
+    known = (WriteFault, refl);
+    done = λ same. absurd (omega (arith, same));
+    usage = λ same. absurd (omega (arith, same));
+    narrow = λ same. absurd (omega (arith, same));
+    read_fault = λ same. absurd (omega (arith, same));
+    write_fault = λ same. (rose, stands);
+    memory = λ same. absurd (omega (arith, same));
+    not_built = λ same. absurd (omega (arith, same));
+  }
+
+  -- no memory was found
+  pub ends_memory : StandsAtMemory words change → Ends words change 9
+  ends_memory stands = record {
+    known = (Memory, refl);
+    done = λ same. absurd (omega (arith, same));
+    usage = λ same. absurd (omega (arith, same));
+    narrow = λ same. absurd (omega (arith, same));
+    read_fault = λ same. absurd (omega (arith, same));
+    write_fault = λ same. absurd (omega (arith, same));
+    memory = λ same. stands;
+    not_built = λ same. absurd (omega (arith, same));
+  }
+
+  -- the file has another form
+  pub ends_not_built : (text : List ℕ) → RefusesForm words change.files text → Tells change text → Ends words change 11
+  ends_not_built text is tells = record {
+    known = (NotBuilt, refl);
+    done = λ same. absurd (omega (arith, same));
+    usage = λ same. absurd (omega (arith, same));
+    narrow = λ same. absurd (omega (arith, same));
+    read_fault = λ same. absurd (omega (arith, same));
+    write_fault = λ same. absurd (omega (arith, same));
+    memory = λ same. absurd (omega (arith, same));
+    not_built = λ same. (text, is, tells);
+  }
+
+  -- a refusal is told, or telling it fails
+  pub told_ends : (status result : Status) (text : List ℕ) → IsTold status result change text → change.files_after ≡ change.files →
+      IsRefusal words change text → (Tells change text → Ends words change (number_of status)) → Ends words change (number_of result)
+  told_ends status result text (inl told) stay refusal ends =
+      subst (λ (s : Status). Ends words change (number_of s)) (sym told.0) (ends (stay, told.1))
+  told_ends status result text (inr (inl fault)) stay refusal ends =
+      subst (λ (s : Status). Ends words change (number_of s)) (sym fault.0) (ends_write_fault fault.1 (inl (stay, text, refusal, fault.2)))
+  told_ends status result text (inr (inr none)) stay refusal ends =
+      subst (λ (s : Status). Ends words change (number_of s)) (sym none.0) (ends_memory (none.1, inl stay))
+
+  -- a page is stored and told, or that fails
+  pub delivered_ends : (result : Status) (page written summary : List ℕ) → IsDelivered result change page written summary →
+      IsLaidOut words change.files page written summary → Ends words change (number_of result)
+  delivered_ends result page written summary (inl told) laid =
+      subst (λ (s : Status). Ends words change (number_of s)) (sym told.0) (ends_done (page, written, summary, laid, told.1, told.2))
+  delivered_ends result page written summary (inr (inl fault)) laid =
+      subst (λ (s : Status). Ends words change (number_of s)) (sym fault.0)
+      (ends_write_fault fault.1 (inr (page, written, summary, laid, fault.2)))
+  delivered_ends result page written summary (inr (inr none)) laid =
+      subst (λ (s : Status). Ends words change (number_of s)) (sym none.0) (ends_memory (none.1, stands none.2)) where
+        stands : ((change.files_after ≡ change.files) ⊎ (change.files_after ≡ stored change.files page written)) →
+            (change.files_after ≡ change.files)
+            ⊎ ((page : List ℕ) × (written : List ℕ) × (summary : List ℕ) × IsLaidOut words change.files page written summary
+            × (change.files_after ≡ stored change.files page written))
+        stands (inl same) = inl same
+        stands (inr kept) = inr (page, written, summary, laid, kept)
+
+-- the content of which the bytes are the first, or all
+pub content_of : (files : Option Files) (name bytes : List ℕ) → length bytes ≤ 1048577 →
+    IfSome files (λ held. IsReadFrom held name 1048576 bytes) → (content : List ℕ) × Holds files name content × (take 1048577 content ≡ bytes)
+content_of None name bytes short read = (bytes, tt, take_all 1048577 bytes short)
+content_of (Some held) name bytes short read = found (held name) read where
+  found : (there : Option (List ℕ)) → option_map (take 1048577) there ≡ Some bytes →
+      (content : List ℕ) × (there ≡ Some content) × (take 1048577 content ≡ bytes)
+  found None is = absurd cc
+  found (Some content) is = (content, refl, cc)
+
+-- bytes within the limit are the whole content
+whole_content : (content bytes : List ℕ) → take 1048577 content ≡ bytes → length bytes ≤ 1048576 → bytes ≡ content
+whole_content content bytes is short =
+    let long : length content ≤ 1048577 = omega (arith, ap length is, length-take 1048577 content) in
+    sym is ∙ take_all 1048577 content long
+
+-- what is laid out is the whole file
+pub lowest_of_content : (width : ℕ) (content bytes page summary : List ℕ) → take 1048577 content ≡ bytes →
+    IsLowestPage width bytes page summary → IsLowestPage width content page summary
+lowest_of_content width content bytes page summary is lowest =
+    subst (λ (bs : List ℕ). IsLowestPage width bs page summary) (whole_content content bytes is lowest.form.size) lowest
+
+pub narrow_of_content : (width : ℕ) (content bytes summary : List ℕ) → take 1048577 content ≡ bytes →
+    IsTooNarrowPage width bytes summary → IsTooNarrowPage width content summary
+narrow_of_content width content bytes summary is narrow =
+    subst (λ (bs : List ℕ). IsTooNarrowPage width bs summary) (whole_content content bytes is narrow.form.size) narrow
+
+pub other_of_content : (content bytes : List ℕ) → take 1048577 content ≡ bytes → IsOtherForm bytes → IsOtherForm content
+other_of_content content bytes is other = λ texts form.
+    let same : content ≡ bytes = sym (take_all 1048577 content (omega (arith, form.size))) ∙ is in
+    other texts (subst (λ (bs : List ℕ). IsOneColumn bs texts) same form)
