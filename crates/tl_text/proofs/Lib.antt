@@ -3,6 +3,7 @@ pub mod Leading
 pub mod Parts
 pub mod Sizes
 pub mod Widths
+mod Examples
 pub mod Greedy
 pub mod Paragraphs
 pub mod Rest

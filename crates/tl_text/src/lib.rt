@@ -8,6 +8,8 @@ mod measure;
 mod minimal;
 mod paragraph;
 mod ranges;
+#[cfg(test)]
+mod tests;
 mod word;
 
 pub use cutting::{count_lines, least_width};

@@ -1,0 +1,194 @@
+use crate::{Atom, Para, TextError, configs, count_lines, least_width, lines, words};
+use std::alloc::Global;
+use std::test::Fail;
+use tl_base::{List, Text};
+
+/// A paragraph written by hand: `/` is a break, and `+` begins a unit that goes on with a word.
+fn atoms(alloc: Global, spelt: &str) -> Result<List<Atom>, Fail> {
+    let units = words(alloc, spelt)?;
+    let mut atoms = List::new(alloc);
+    for unit in units.as_slice() {
+        let unit = unit.as_str();
+        if unit == "/" {
+            atoms.push(Atom::Break)?;
+        } else if let Some(rest) = unit.strip_prefix('+') {
+            atoms.push(Atom::Glue(Text::from_str(alloc, rest)?))?;
+        } else {
+            atoms.push(Atom::Word(Text::from_str(alloc, unit)?))?;
+        }
+    }
+    Ok(atoms)
+}
+
+fn paragraph(alloc: Global, spelt: &str) -> Result<Para, Fail> {
+    Ok(Para::new(atoms(alloc, spelt)?).ok_or("no paragraph")?)
+}
+
+#[test]
+fn words_are_parted_by_ascii_white_space_alone(rt: HostRuntime) -> Result<(), Fail> {
+    for (text, want) in [
+        ("", ""),
+        (" \t\n\u{c}\r", ""),
+        ("aa", "aa|"),
+        ("  aa  bb cc ", "aa|bb|cc|"),
+        ("aa\tbb\ncc\u{c}dd\ree", "aa|bb|cc|dd|ee|"),
+        ("x\u{a0}y z\u{b}z", "x\u{a0}y|z\u{b}z|"),
+        ("中\u{3000}中 é", "中\u{3000}中|é|"),
+    ] {
+        let mut found = String::new(rt.alloc());
+        for word in words(rt.alloc(), text)?.as_slice() {
+            found.push_str(word.as_str())?;
+            found.push('|')?;
+        }
+        assert_eq!(rt; found.as_str(), want, "{text:?}");
+    }
+    Ok(())
+}
+
+#[test]
+fn a_paragraph_is_made_of_solid_units_that_begin_with_a_word(rt: HostRuntime) -> Result<(), Fail> {
+    for (spelt, is) in [
+        ("", false),
+        ("/", true),
+        ("a", true),
+        ("+a", false),
+        ("a +b / c +d", true),
+        ("a / +b", false),
+        ("/ / +b", false),
+    ] {
+        assert_eq!(rt;
+            Para::new(atoms(rt.alloc(), spelt)?).is_some(),
+            is,
+            "{spelt:?}"
+        );
+    }
+    for text in ["", " ", "a b", "a\n", "\u{c}a"] {
+        let mut list = List::new(rt.alloc());
+        list.push(Atom::Word(Text::from_str(rt.alloc(), text)?))?;
+        assert!(rt; Para::new(list).is_none(), "{text:?}");
+    }
+    Ok(())
+}
+
+#[test]
+fn a_paragraph_has_at_most_so_many_bytes_and_breaks(rt: HostRuntime) -> Result<(), Fail> {
+    for (breaks, is) in [(1_048_572, true), (1_048_573, false)] {
+        let mut list = atoms(rt.alloc(), "é +éa")?;
+        for _ in 0..breaks - 1 {
+            list.push(Atom::Break)?;
+        }
+        assert_eq!(rt; Para::new(list).is_some(), is, "{breaks} breaks");
+    }
+    Ok(())
+}
+
+// For each paragraph: the widths from which on it has fewer lines, with their numbers of lines,
+// counted by hand; the last width tried.
+#[test]
+fn each_width_has_the_least_number_of_lines(rt: HostRuntime) -> Result<(), Fail> {
+    for (spelt, steps, last) in [
+        ("aa bb cc", [(2, 3), (5, 2), (8, 1)].as_slice(), 9),
+        ("abcdef", [(6, 1)].as_slice(), 8),
+        ("aaa bbb", [(3, 2), (7, 1)].as_slice(), 8),
+        ("a bbbb c", [(4, 3), (6, 2), (8, 1)].as_slice(), 9),
+        ("aaaaa b", [(5, 2), (7, 1)].as_slice(), 8),
+        // a word without width, between two others and alone
+        ("a \u{200b} b", [(1, 3), (2, 2), (4, 1)].as_slice(), 5),
+        ("\u{200b}", [(0, 1)].as_slice(), 2),
+        // wide characters, and a mark that takes no column
+        ("中中 中", [(4, 2), (7, 1)].as_slice(), 8),
+        ("e\u{301} e\u{301}", [(1, 2), (3, 1)].as_slice(), 4),
+        // breaks
+        ("/", [(0, 1)].as_slice(), 2),
+        ("/ / /", [(0, 3)].as_slice(), 2),
+        ("/ a /", [(1, 2)].as_slice(), 3),
+        ("a / / b /", [(1, 3)].as_slice(), 3),
+        ("a b / cc dd", [(2, 4), (3, 3), (5, 2)].as_slice(), 6),
+        // units that go on with a word
+        ("ab +cd", [(2, 2), (4, 1)].as_slice(), 5),
+        ("a +b c +d", [(1, 4), (2, 2), (5, 1)].as_slice(), 6),
+        ("a +bb +c", [(2, 3), (3, 2), (4, 1)].as_slice(), 5),
+    ] {
+        let p = paragraph(rt.alloc(), spelt)?;
+        let first = steps.first().ok_or("no step")?.0;
+        assert_eq!(rt; least_width(&p), first, "{spelt:?}");
+        assert!(rt; first <= last && last <= 500);
+        let found = configs(rt.alloc(), &p, last)?;
+        let found = found.configs();
+        assert_eq!(rt; found.len(), steps.len(), "{spelt:?}");
+        for (config, step) in found.iter().zip(steps) {
+            assert_eq!(rt; (config.width, config.height), *step, "{spelt:?}");
+        }
+        for width in 0..=last {
+            let want = steps
+                .iter()
+                .rev()
+                .find(|step| step.0 <= width)
+                .map(|step| step.1);
+            assert_eq!(rt; count_lines(&p, width), want, "{spelt:?} in {width}");
+            let made = lines(rt.alloc(), &p, width).ok().map(|made| made.len());
+            assert_eq!(rt; made, want.map(|n| n as usize), "{spelt:?} in {width}");
+        }
+    }
+    Ok(())
+}
+
+#[test]
+fn a_line_has_as_many_units_as_fit_and_the_break_that_ends_it(rt: HostRuntime) -> Result<(), Fail> {
+    for (spelt, width, want) in [
+        ("aa bb cc", 7, [(0, 2), (2, 3)].as_slice()),
+        ("aa bb cc", 8, [(0, 3)].as_slice()),
+        ("a bbbb c", 6, [(0, 2), (2, 3)].as_slice()),
+        ("a / / b /", 5, [(0, 2), (2, 3), (3, 5)].as_slice()),
+        ("/ a", 1, [(0, 1), (1, 2)].as_slice()),
+        ("ab +cd", 3, [(0, 1), (1, 2)].as_slice()),
+        ("a +b c +d", 4, [(0, 3), (3, 4)].as_slice()),
+        ("a b / c", 2, [(0, 1), (1, 3), (3, 4)].as_slice()),
+    ] {
+        let p = paragraph(rt.alloc(), spelt)?;
+        let found = lines(rt.alloc(), &p, width).ok().ok_or("too wide")?;
+        let found = found.as_slice();
+        assert_eq!(rt; found.len(), want.len(), "{spelt:?}");
+        for (line, range) in found.iter().zip(want) {
+            assert_eq!(rt; (line.first, line.past), *range, "{spelt:?}");
+        }
+    }
+    Ok(())
+}
+
+#[test]
+fn the_first_unit_that_is_too_wide_is_named(rt: HostRuntime) -> Result<(), Fail> {
+    for (spelt, width, place) in [
+        ("abcdef", 5, 0),
+        ("a bbb cccc", 2, 1),
+        ("/ a +bbb", 2, 2),
+        ("aa 中中 中", 3, 1),
+    ] {
+        let p = paragraph(rt.alloc(), spelt)?;
+        let named = match lines(rt.alloc(), &p, width) {
+            Err(TextError::TooWide(at)) => Some(at),
+            _ => None,
+        };
+        assert_eq!(rt; named, Some(place), "{spelt:?}");
+    }
+    Ok(())
+}
+
+// Words of four columns: a line of w columns holds (w + 1) / 5 of them.
+#[test]
+fn a_long_paragraph_is_answered_at_all_widths(rt: HostRuntime) -> Result<(), Fail> {
+    let mut list = List::new(rt.alloc());
+    for _ in 0..10_000 {
+        list.push(Atom::Word(Text::from_str(rt.alloc(), "word")?))?;
+    }
+    let p = Para::new(list).ok_or("no paragraph")?;
+    assert!(rt; least_width(&p) <= 500);
+    let steps = configs(rt.alloc(), &p, 500)?;
+    for width in 4..=500 {
+        let held = (width + 1) / 5;
+        assert!(rt; held > 0);
+        let want = (10_000u32).div_ceil(held);
+        assert_eq!(rt; steps.height_at(width), Some(want), "{width}");
+    }
+    Ok(())
+}
