@@ -1,2 +1,4 @@
+pub mod Bounds
+pub mod Closed
 pub mod Paths
 pub mod Relaxing
