@@ -1,21 +1,8 @@
 -- Bounds that are at most a number, the lesser of two, and one bound after another.
 use Rattle.std.proofs.Common.{◌≡◌, ℕ, ◌<◌, ℤ, ◌+ℤ◌, ◌≤ℤ◌, Option, Some, None, refl, arith, inl, inr, ◌⊎◌}
-use Rattle.std.specs.Int.{int_min}
 use Rattle.std.proofs.lemmas.Int.{ints, clamps}
 use Rattle.tl_diff.specs.Bounds.{Bounds, bound_at, Meets, IsWithin}
-use Rattle.tl_diff.specs.Closed.{AtMost}
-
--- the lesser of two bounds
-abbrev pub lesser : Option ℤ → Option ℤ → Option ℤ
-lesser None o = o
-lesser (Some c) None = Some c
-lesser (Some c) (Some t) = Some (int_min c t)
-
--- a bound, then w, then another bound
-abbrev pub via : Option ℤ → ℤ → Option ℤ → Option ℤ
-via None w o = None
-via (Some s) w None = None
-via (Some s) w (Some t) = Some ((s +ℤ w) +ℤ t)
+use Rattle.tl_diff.specs.Closed.{AtMost, lesser, via}
 
 pub AtMost-from : (o : Option ℤ) (c t : ℤ) → o ≡ Some c → c ≤ℤ t → AtMost o t
 AtMost-from o c t is h = rw is h

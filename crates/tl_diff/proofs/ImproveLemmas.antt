@@ -1,30 +1,25 @@
 -- A table of greatest differences to which one bound is added.
-use Rattle.std.proofs.Common.{◌≡◌, ℕ, ◌<◌, ℤ, pos, ◌+ℤ◌, ◌≤ℤ◌, arith, inl, inr, ◌⊎◌, ⊎_elim}
+use Rattle.std.proofs.Common.{ℕ, ◌<◌, ℤ, pos, ◌+ℤ◌, ◌≤ℤ◌, arith, inl, inr, ◌⊎◌, ⊎_elim}
 use Rattle.std.proofs.lemmas.Int.{ints}
 use Rattle.tl_diff.specs.Bounds.{Bounds, bound_at, Meets, IsWithin, AddsBound}
-use Rattle.tl_diff.specs.Closed.{AtMost, IsClosed}
-use Rattle.tl_diff.proofs.AtMostLemmas.{lesser, via, AtMost-more, AtMost-lesser_left, AtMost-lesser_right, lesser-AtMost, AtMost-via, via-AtMost, Meets-at, Meets-from}
+use Rattle.tl_diff.specs.Closed.{AtMost, IsClosed, IsImproved, lesser, via}
+use Rattle.tl_diff.proofs.AtMostLemmas.{AtMost-more, AtMost-lesser_left, AtMost-lesser_right, lesser-AtMost, AtMost-via, via-AtMost, Meets-at, Meets-from}
 
--- Each bound of the new table is the old one, or the way over the bound w from u to v where that is less.
-pub record IsImproved (old new : Bounds) (u v : ℕ) (w : ℤ) : Type 0 where
-  pub places : new.n ≡ old.n
-  pub each : (p q : ℕ) → p < old.n → q < old.n → bound_at new p q ≡ lesser (bound_at old p q) (via (bound_at old p u) w (bound_at old v q))
-
-module _ (old new : Bounds) (u v : ℕ) (w : ℤ) (first : u < old.n) (second : v < old.n) (h : IsImproved old new u v w) where
+module _ (old new : Bounds) (u v : ℕ) (w : ℤ) (first : u < old.n) (second : v < old.n) (h : IsImproved old new u v w old.n) where
   -- a new bound of t is an old one of t, or the way over the added bound
   improved-cases : (p q : ℕ) (t : ℤ) → p < new.n → q < new.n → AtMost (bound_at new p q) t
       → AtMost (bound_at old p q) t ⊎ ((s : ℤ) × ((r : ℤ) × (AtMost (bound_at old p u) s × (AtMost (bound_at old v q) r × (((s +ℤ w) +ℤ r) ≤ℤ t)))))
   improved-cases p q t from to k =
       ⊎_elim (λ e. inl e) (λ e. inr (via-AtMost (bound_at old p u) (bound_at old v q) w t e))
-      (lesser-AtMost (bound_at old p q) (via (bound_at old p u) w (bound_at old v q)) t (rw (h.each p q (omega (arith, h.places)) (omega (arith, h.places))) at k))
+      (lesser-AtMost (bound_at old p q) (via (bound_at old p u) w (bound_at old v q)) t (rw (h.done p q (omega (arith, h.places)) (omega (arith, h.places)) (omega (arith, h.places))) at k))
 
   improved_keeps : (p q : ℕ) (t : ℤ) → p < new.n → q < new.n → AtMost (bound_at old p q) t → AtMost (bound_at new p q) t
   improved_keeps p q t from to k =
-      rw (h.each p q (omega (arith, h.places)) (omega (arith, h.places))) (AtMost-lesser_left (bound_at old p q) _ t k)
+      rw (h.done p q (omega (arith, h.places)) (omega (arith, h.places)) (omega (arith, h.places))) (AtMost-lesser_left (bound_at old p q) _ t k)
 
   improved_over : (p q : ℕ) (s r t : ℤ) → p < new.n → q < new.n → AtMost (bound_at old p u) s → AtMost (bound_at old v q) r → ((s +ℤ w) +ℤ r) ≤ℤ t → AtMost (bound_at new p q) t
   improved_over p q s r t from to k l le =
-      rw (h.each p q (omega (arith, h.places)) (omega (arith, h.places)))
+      rw (h.done p q (omega (arith, h.places)) (omega (arith, h.places)) (omega (arith, h.places)))
       (AtMost-more (lesser (bound_at old p q) (via (bound_at old p u) w (bound_at old v q))) _ t (AtMost-lesser_right (bound_at old p q) _ _ (AtMost-via (bound_at old p u) (bound_at old v q) s w r k l)) le)
 
   module _ (closed : IsClosed old) where

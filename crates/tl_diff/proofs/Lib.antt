@@ -4,3 +4,4 @@ pub mod EnvelopeLemmas
 pub mod GapLemmas
 pub mod ImproveLemmas
 pub mod PathLemmas
+pub mod RowLemmas

@@ -3,6 +3,7 @@
 //! contract: what it answers is true of all positions, and of all paths, and is reached by some.
 #![tactic(auto)]
 
+mod differences;
 mod paths;
 
 pub use paths::{Arc, chain, heaviest};
