@@ -1,7 +1,9 @@
 pub mod AtMostLemmas
+pub mod BoundLaws
 pub mod ChainLemmas
 pub mod EnvelopeLemmas
 pub mod GapLemmas
 pub mod ImproveLemmas
 pub mod PathLemmas
 pub mod RowLemmas
+pub mod TableLemmas

@@ -1,9 +1,9 @@
 -- One write to the table, and the steps of the pass over all pairs.
-use Rattle.std.proofs.Common.{◌≡◌, ◌≢◌, ℕ, ◌+◌, ◌*◌, ◌<◌, ℤ, pos, ◌+ℤ◌, ◌≤ℤ◌, List, length, set, Option, Some, None, refl, ap, arith, inl, inr, ◌⊎◌, ⊎_elim, sym, subst, ◌∙◌}
+use Rattle.std.proofs.Common.{get_or, ◌≡◌, ◌≢◌, ℕ, ◌+◌, ◌*◌, ◌<◌, ℤ, pos, ◌+ℤ◌, ◌≤ℤ◌, List, length, set, Option, Some, None, refl, ap, arith, inl, inr, ◌⊎◌, ⊎_elim, sym, subst, ◌∙◌}
 use Rattle.std.proofs.lemmas.Int.{ints, clamps}
 use Rattle.std.proofs.lemmas.Bool.{cases_eq, cases_lt}
 use Rattle.std.proofs.lemmas.Nat.{same_from_place, mul-add-lt}
-use Rattle.std.proofs.lemmas.List.{length-set, get_or-set_same, get_or-set_other}
+use Rattle.std.proofs.lemmas.List.{length-set, get_or-set_same, get_or-set_other, get_or_read}
 use Rattle.tl_diff.specs.Bounds.{Bounds, bound_at}
 use Rattle.tl_diff.specs.Closed.{AtMost, IsRowImproved, IsImproved, lesser, beyond, via}
 
@@ -12,6 +12,10 @@ abbrev pub table : ℕ → List (Option ℤ) → Bounds
 table n rows = record { n = n; rows = rows }
 
 module _ (n : ℕ) (rows : List (Option ℤ)) (a b : ℕ) (o : Option ℤ) where
+  -- what is read at a pair's place is its bound
+  pub bound_at-read : length rows ≡ n * n → a < n → b < n → o ≡ get_or rows (a * n + b) o → o ≡ bound_at (table n rows) a b
+  bound_at-read pairs from to is = get_or_read rows (a * n + b) o (omega (arith, pairs, mul-add-lt a n b n from to)) is None
+
   pub bound_at-set_same : length rows ≡ n * n → a < n → b < n → bound_at (table n (set rows (a * n + b) o)) a b ≡ o
   bound_at-set_same pairs from to = get_or-set_same rows (a * n + b) o None (omega (arith, pairs, mul-add-lt a n b n from to))
 

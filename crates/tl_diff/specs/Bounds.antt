@@ -3,7 +3,7 @@
 -- Positions give each place a whole number of any sign. A bound from place a to place b says that b lies at most `most`
 -- behind a: `x_b - x_a <= most`; a negative one says that b lies that much before a, or more. Such systems are known as
 -- difference constraints. All that is said here is said of every positions that meet the bounds.
-use Rattle.std.specs.Prelude.{◌≡◌, ℕ, ◌+◌, ◌*◌, ◌<◌, ℤ, pos, ◌+ℤ◌, ◌≤ℤ◌, ◌<ℤ◌, Option, None, List, get_or}
+use Rattle.std.specs.Prelude.{◌≡◌, ℕ, ◌+◌, ◌*◌, ◌<◌, ℤ, pos, ◌+ℤ◌, neg_ℤ, ◌≤ℤ◌, ◌<ℤ◌, Option, None, List, get_or}
 use Rattle.std.specs.Option.{ForSome}
 
 -- The bounds between n places, row by row: number a * n + b is the bound from a to b, where there is one.
@@ -39,9 +39,17 @@ pub record IsGreatest (bounds : Bounds) (a b : ℕ) (most : ℤ) : Type 0 where
   pub never_more : (x : ℕ → ℤ) → Meets bounds x → IsWithin x a b most
   pub reached : (x : ℕ → ℤ) × (Meets bounds x × (x b ≡ x a +ℤ most))
 
+-- there is a greatest difference from a to b
+abbrev pub HasGreatest : Bounds → ℕ → ℕ → Type 0
+HasGreatest bounds a b = (most : ℤ) × IsGreatest bounds a b most
+
 -- there is no greatest difference from a to b: for each number some positions have more
 abbrev pub HasNoGreatest : Bounds → ℕ → ℕ → Type 0
 HasNoGreatest bounds a b = (d : ℤ) → (x : ℕ → ℤ) × (Meets bounds x × ((x a +ℤ d) <ℤ x b))
+
+-- between -64000000 and 64000000, as each greatest difference between 64 places is
+abbrev pub IsSmall : ℤ → Type 0
+IsSmall most = (neg_ℤ (pos 64000000) ≤ℤ most) × (most ≤ℤ pos 64000000)
 
 -- the positions that a list gives
 abbrev pub positions_of : List ℤ → ℕ → ℤ

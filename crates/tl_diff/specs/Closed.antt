@@ -1,7 +1,7 @@
 -- What the engine keeps true of its table: each bound is the greatest difference, and none is large.
 use Rattle.std.specs.Prelude.{◌≡◌, ℕ, ◌*◌, ◌<◌, ◌≤◌, ℤ, pos, negsuc, ◌+ℤ◌, neg_ℤ, ◌≤ℤ◌, ◌<ℤ◌, int_le, Option, Some, None, length, Bool, IsTrue, IsFalse, ◌≢◌, if◌then◌else◌, ◌⊎◌}
 use Rattle.std.specs.Int.{int_min}
-use Rattle.tl_diff.specs.Bounds.{Bounds, bound_at, Meets}
+use Rattle.tl_diff.specs.Bounds.{Bounds, bound_at, IsSmall, Meets}
 
 -- a bound is there, and it is t or less
 abbrev pub AtMost : Option ℤ → ℤ → Type 0
@@ -49,9 +49,9 @@ abbrev pub AreSmall : Bounds → Type 0
 AreSmall bounds = (p q : ℕ) (c : ℤ) → p < bounds.n → q < bounds.n → bound_at bounds p q ≡ Some c
     → (neg_ℤ (pos (1000000 * bounds.n)) ≤ℤ c) × (c ≤ℤ pos (1000000 * bounds.n))
 
--- the bounds from place p are between -64000000 and 64000000, as 64 places allow
+-- the bounds from place p are small
 abbrev pub IsRowSmall : Bounds → ℕ → Type 0
-IsRowSmall bounds p = (q : ℕ) (c : ℤ) → q < bounds.n → bound_at bounds p q ≡ Some c → (neg_ℤ (pos 64000000) ≤ℤ c) × (c ≤ℤ pos 64000000)
+IsRowSmall bounds p = (q : ℕ) (c : ℤ) → q < bounds.n → bound_at bounds p q ≡ Some c → IsSmall c
 
 -- the table of the greatest differences of bounds that some positions meet
 pub record IsTight (bounds : Bounds) : Type 0 where
@@ -81,3 +81,9 @@ pub record IsImproved (old new : Bounds) (u v : ℕ) (w : ℤ) (upto : ℕ) : Ty
   pub pairs : length new.rows ≡ old.n * old.n
   pub done : (p q : ℕ) → p < old.n → q < old.n → p < upto → bound_at new p q ≡ lesser (bound_at old p q) (via (bound_at old p u) w (bound_at old v q))
   pub rest : (p q : ℕ) → p < old.n → q < old.n → upto ≤ p → bound_at new p q ≡ bound_at old p q
+
+-- Every place is its own bound of 0, up to place `upto`, and there is no other.
+pub record IsFree (bounds : Bounds) (upto : ℕ) : Type 0 where
+  pub pairs : length bounds.rows ≡ bounds.n * bounds.n
+  pub own : (p : ℕ) → p < bounds.n → p < upto → bound_at bounds p p ≡ Some (pos 0)
+  pub other : (p q : ℕ) → p < bounds.n → q < bounds.n → p ≢ q → bound_at bounds p q ≡ None

@@ -1,56 +1,120 @@
 //! A table of the greatest differences between places. It knows no marks.
 
-ghost use Rattle.std.specs.Prelude.{◌≡◌, ℕ, ◌+◌, ◌*◌, ◌<◌, ◌≤◌, ℤ, pos, neg_ℤ, ◌+ℤ◌, ◌≤ℤ◌, Some, None, Option, length, List, IsTrue, ◌↔◌, IfOk, MatchOption, FitsSigned};
-ghost use Rattle.std.specs.Option.{ForSome};
-ghost use Rattle.std.specs.Int.{w32};
-ghost use Rattle.tl_diff.specs.Bounds.{Bounds, AddsBound, bound_at, HavePositions, IsGreatest, HasNoGreatest, IsLeast, positions_of, Meets};
-ghost use Rattle.tl_diff.specs.Closed.{AtMost, lesser, IsImproved, IsRowImproved, IsRowSmall};
+ghost use Rattle.std.specs.Prelude.{◌≡◌, ℕ, ◌+◌, ◌*◌, ◌<◌, ◌≤◌, ℤ, pos, neg_ℤ, ◌+ℤ◌, ◌≤ℤ◌, Some, None, Option, length, List, IsTrue, ◌↔◌, IfOk, MatchOption, IfSome};
+ghost use Rattle.tl_diff.specs.Bounds.{AddsBound, bound_at, HavePositions, IsGreatest, HasGreatest, HasNoGreatest, IsLeast, IsSmall, positions_of, Meets};
+ghost use Rattle.tl_diff.specs.Closed.{AtMost};
 
-/// The bound, or `through` where that is less.
-fn lesser_of(bound: Option<i32>, through: i32) -> Option<i32>
-    requires { ForSome bound (FitsSigned w32) }
-    ensures { result ≡ lesser bound (Some through) }
+use crate::improve::improve;
+use std::alloc::{AllocError, Global};
+use std::marker::Model;
+
+/// The bounds between places, which are the greatest differences as long as positions meet them.
+#[derive(Debug, Drop)]
+pub struct Differences {
+    places: usize,
+    rows: Vec<Option<i32>>,
+    holds: bool,
+}
+
+impl Model for Differences {
+    ghost use Rattle.tl_diff.specs.Bounds.{Bounds};
+    ghost use Rattle.tl_diff.specs.Closed.{IsKept};
+
+    ghost Value = { Bounds };
+
+    ghost view = { λ d. record { n = d.places; rows = d.rows.items } };
+
+    ghost invariant = { λ d. IsKept (record { n = d.places; rows = d.rows.items }) d.holds };
+}
+
+/// Whether there is a bound, and it is at most `most`.
+fn is_at_most(bound: Option<i32>, most: i32) -> bool
+    ensures { IsTrue result ↔ AtMost bound most }
 {
     match bound {
-        Some(bound) => Some(bound.min(through)),
-        None => Some(through),
+        Some(bound) => bound <= most,
+        None => false,
     }
 }
 
-/// Improves the bounds from `place` by the ways that come to `to` with `way`.
-fn improve_row(rows: &mut [Option<i32>], places: usize, place: usize, to: usize, way: i32)
-    requires few { places ≤ 64 }
-    requires pairs { length rows.old ≡ places * places }
-    requires begins { place < places }
-    requires goes { to < places }
-    requires way_low { neg_ℤ (pos 65000000) ≤ℤ way }
-    requires way_high { way ≤ℤ pos 65000000 }
-    requires place_small { IsRowSmall (record { n = places; rows = rows.old }) place }
-    requires to_small { IsRowSmall (record { n = places; rows = rows.old }) to }
-    ensures { IsRowImproved (record { n = places; rows = rows.old }) (record { n = places; rows = rows.new }) place to way places }
-{
-    for end in 0..places {
-        if let Some(rest) = rows[to * places + end] {
-            rows[place * places + end] = lesser_of(rows[place * places + end], way + rest);
+impl Differences {
+    /// Bounds that say nothing.
+    pub fn new(alloc: Global, places: usize) -> Result<Differences, AllocError>
+        requires some { 1 ≤ places }
+        requires few { places ≤ 64 }
+        ensures places { IfOk result (λ d. d.n ≡ places) }
+        ensures free { IfOk result (λ d. (x : ℕ → ℤ) → Meets d x) }
+    {
+        let mut rows = vec![in alloc; None; places * places]?;
+        for place in 0..places {
+            rows[place * places + place] = Some(0);
         }
+        Ok(Differences {
+            places,
+            rows,
+            holds: true,
+        })
     }
-}
 
-/// Improves each bound by the way over a bound `most` from place `from` to place `to`.
-fn improve(rows: &mut [Option<i32>], places: usize, from: usize, to: usize, most: i32)
-    requires few { places ≤ 64 }
-    requires pairs { length rows.old ≡ places * places }
-    requires begins { from < places }
-    requires goes { to < places }
-    requires low { neg_ℤ (pos 1000000) ≤ℤ most }
-    requires high { most ≤ℤ pos 1000000 }
-    requires no_cycle { (t : ℤ) → AtMost (bound_at (record { n = places; rows = rows.old }) to from) t → pos 0 ≤ℤ (t +ℤ most) }
-    requires small { (p : ℕ) → p < places → IsRowSmall (record { n = places; rows = rows.old }) p }
-    ensures { IsImproved (record { n = places; rows = rows.old }) (record { n = places; rows = rows.new }) from to most places }
-{
-    for place in 0..places {
-        if let Some(way) = rows[place * places + from] {
-            improve_row(rows, places, place, to, way + most);
+    /// Whether positions meet the bounds.
+    pub fn holds(&self) -> bool
+        ensures { IsTrue result ↔ HavePositions self.now }
+    {
+        self.holds
+    }
+
+    /// The greatest difference from `a` to `b`, if there is one.
+    pub fn upper(&self, a: usize, b: usize) -> Option<i32>
+        requires begins { a < self.now.n }
+        requires ends { b < self.now.n }
+        requires holds { HavePositions self.now }
+        ensures exact { MatchOption result (HasNoGreatest self.now a b) (IsGreatest self.now a b) }
+        ensures small { IfSome result IsSmall }
+    {
+        self.rows[a * self.places + b]
+    }
+
+    /// Takes over the bounds of `other`, which has as many places.
+    pub fn copy_from(&mut self, other: &Differences)
+        requires { self.old.n ≡ other.now.n }
+        ensures { self.new ≡ other.now }
+    {
+        self.rows.copy_from_slice(&other.rows);
+        self.holds = other.holds;
+    }
+
+    /// Adds a bound: `b` lies at most `most` behind `a`. Answers whether positions meet all bounds.
+    pub fn bound(&mut self, a: usize, b: usize, most: i32) -> bool
+        requires begins { a < self.old.n }
+        requires ends { b < self.old.n }
+        requires low { neg_ℤ (pos 1000000) ≤ℤ most }
+        requires high { most ≤ℤ pos 1000000 }
+        requires holds { HavePositions self.old }
+        ensures adds { AddsBound self.old self.new a b most }
+        ensures holds { IsTrue result ↔ HavePositions self.new }
+    {
+        let places = self.places;
+        if is_at_most(self.rows[a * places + b], most) {
+            return true;
+        }
+        if is_at_most(self.rows[b * places + a], -1 - most) {
+            self.rows[a * places + b] = Some(most);
+            self.holds = false;
+            return false;
+        }
+        improve(&mut self.rows, places, a, b, most);
+        true
+    }
+
+    /// Fills `out` with the least positions that have place 0 at 0.
+    pub fn solve_least(&self, out: &mut [i32])
+        requires room { length out.old ≡ self.now.n }
+        requires holds { HavePositions self.now }
+        requires least { (k : ℕ) → k < self.now.n → HasGreatest self.now k 0 }
+        ensures { IsLeast self.now (positions_of out.new) }
+    {
+        for place in 0..self.places {
+            out[place] = -self.upper(place, 0).unwrap();
         }
     }
 }

@@ -4,6 +4,7 @@
 #![tactic(auto)]
 
 mod differences;
+mod improve;
 mod paths;
 
 pub use paths::{Arc, chain, heaviest};

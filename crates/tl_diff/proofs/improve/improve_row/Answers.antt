@@ -4,8 +4,8 @@ use Rattle.std.specs.Int.{w32}
 use mir.Val.{to_z, of_z}
 use Rattle.std.proofs.lemmas.Int.{ints}
 use Rattle.tl_diff.proofs.RowLemmas.{read_old, none_from, IsRowImproved-skip, IsRowImproved-write}
-use Rattle.tl_diff.proofs.differences.improve_row.Goals as goal
-use Rattle.tl_diff.proofs.differences.improve_row.Goals.{in-Some, in_default}
+use Rattle.tl_diff.proofs.improve.improve_row.Goals as goal
+use Rattle.tl_diff.proofs.improve.improve_row.Goals.{in-Some, in_default}
 
 pub overflow_add-way : goal.overflow_add-way
 overflow_add-way c =

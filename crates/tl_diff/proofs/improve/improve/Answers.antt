@@ -7,8 +7,8 @@ use Rattle.std.proofs.lemmas.Int.{ints}
 use Rattle.tl_diff.specs.Bounds.{bound_at}
 use Rattle.tl_diff.specs.Closed.{AtMost}
 use Rattle.tl_diff.proofs.RowLemmas.{table, row_same, none_from, IsImproved-skip, IsImproved-row}
-use Rattle.tl_diff.proofs.differences.improve.Goals as goal
-use Rattle.tl_diff.proofs.differences.improve.Goals.{in-Some, in_default}
+use Rattle.tl_diff.proofs.improve.improve.Goals as goal
+use Rattle.tl_diff.proofs.improve.improve.Goals.{in-Some, in_default}
 
 pub improve_row-requires-clause-way_low : goal.improve_row-requires-clause-way_low
 improve_row-requires-clause-way_low c =
