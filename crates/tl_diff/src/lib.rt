@@ -5,6 +5,7 @@
 
 mod differences;
 mod improve;
+mod matrix;
 mod paths;
 
 pub use paths::{Arc, chain, heaviest};
