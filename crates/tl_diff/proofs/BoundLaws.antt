@@ -19,6 +19,11 @@ pub IsSome-greatest : (bounds : Bounds) (a b : ℕ) (o : Option ℤ) → MatchOp
 IsSome-greatest bounds a b None none has = absurd (IsGreatest-bounded bounds a b has.0 has.1 none)
 IsSome-greatest bounds a b (Some c) h has = refl
 
+-- and where the answer is a number, it is one
+pub HasGreatest-some : (bounds : Bounds) (a b : ℕ) (o : Option ℤ) → MatchOption o (HasNoGreatest bounds a b) (IsGreatest bounds a b) → IsSome o → HasGreatest bounds a b
+HasGreatest-some bounds a b None h some = cc
+HasGreatest-some bounds a b (Some c) h some = (c, h)
+
 -- a place is at no distance from itself
 pub IsGreatest-own : (bounds : Bounds) (a : ℕ) (most : ℤ) → IsGreatest bounds a a most → most ≡ pos 0
 IsGreatest-own bounds a most h = omega (arith, ints, h.reached.1.1)

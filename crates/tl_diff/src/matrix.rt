@@ -127,3 +127,6 @@ impl Matrix {
         self.kept.solve_least(out);
     }
 }
+
+#[cfg(test)]
+mod tests;

@@ -82,3 +82,6 @@ pub fn chain(alloc: Global, n: u32, arcs: &[Arc], out: &[u32]) -> Result<List<u3
     backward.reverse();
     Ok(List::from_vec(backward))
 }
+
+#[cfg(test)]
+mod tests;
