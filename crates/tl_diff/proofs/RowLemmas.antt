@@ -4,12 +4,8 @@ use Rattle.std.proofs.lemmas.Int.{ints, clamps}
 use Rattle.std.proofs.lemmas.Bool.{cases_eq, cases_lt}
 use Rattle.std.proofs.lemmas.Nat.{same_from_place, mul-add-lt}
 use Rattle.std.proofs.lemmas.List.{length-set, get_or-set_same, get_or-set_other, get_or_read}
-use Rattle.tl_diff.specs.Bounds.{Bounds, bound_at}
+use Rattle.tl_diff.specs.Bounds.{table, bound_at}
 use Rattle.tl_diff.specs.Closed.{AtMost, IsRowImproved, IsImproved, lesser, beyond, via}
-
--- the bounds between n places that these rows have
-abbrev pub table : ℕ → List (Option ℤ) → Bounds
-table n rows = record { n = n; rows = rows }
 
 module _ (n : ℕ) (rows : List (Option ℤ)) (a b : ℕ) (o : Option ℤ) where
   -- what is read at a pair's place is its bound

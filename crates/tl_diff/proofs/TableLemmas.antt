@@ -3,13 +3,13 @@ use Rattle.std.proofs.Common.{◌≡◌, ◌≢◌, ℕ, ◌+◌, ◌*◌, ◌<�
 use Rattle.std.proofs.lemmas.Int.{ints, by_lt_z}
 use Rattle.std.proofs.lemmas.Bool.{cases_eq}
 use Rattle.std.proofs.lemmas.List.{length-set}
-use Rattle.tl_diff.specs.Bounds.{Bounds, bound_at, Meets, IsWithin, HavePositions, AddsBound, IsGreatest, HasNoGreatest, IsSmall}
+use Rattle.tl_diff.specs.Bounds.{table, Bounds, bound_at, Meets, IsWithin, HavePositions, AddsBound, IsGreatest, HasNoGreatest, IsSmall}
 use Rattle.tl_diff.specs.Closed.{AtMost, IsClosed, AreSmall, IsTight, IsKept, IsImproved, IsRowSmall, IsFree}
 use Rattle.tl_diff.proofs.AtMostLemmas.{AtMost-from, AtMost-more, Meets-at, Meets-from}
 use Rattle.tl_diff.proofs.EnvelopeLemmas.{under, Meets-under, IsGreatest-closed, HasNoGreatest-closed}
 use Rattle.tl_diff.proofs.GapLemmas.{IsLoose-adds, IsLoose-free, AreSmall-closed}
 use Rattle.tl_diff.proofs.ImproveLemmas.{AddsBound-improved, IsClosed-improved}
-use Rattle.tl_diff.proofs.RowLemmas.{table, bound_at-set_same, bound_at-set_row, bound_at-set_column}
+use Rattle.tl_diff.proofs.RowLemmas.{bound_at-set_same, bound_at-set_row, bound_at-set_column}
 
 -- ---- what a table says
 

@@ -11,6 +11,10 @@ pub record Bounds : Type 0 where
   pub n : ℕ
   pub rows : List (Option ℤ)
 
+-- the bounds between n places that these rows have
+abbrev pub table : ℕ → List (Option ℤ) → Bounds
+table n rows = record { n = n; rows = rows }
+
 -- the bound from place a to place b
 abbrev pub bound_at : Bounds → ℕ → ℕ → Option ℤ
 bound_at bounds a b = get_or bounds.rows (a * bounds.n + b) None

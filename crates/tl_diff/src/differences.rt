@@ -1,10 +1,9 @@
 //! A table of the greatest differences between places. It knows no marks.
 
-ghost use Rattle.std.specs.Prelude.{◌≡◌, ℕ, ◌+◌, ◌*◌, ◌<◌, ◌≤◌, ℤ, pos, neg_ℤ, ◌+ℤ◌, ◌≤ℤ◌, Some, None, Option, length, List, IsTrue, ◌↔◌, IfOk, MatchOption, IfSome};
-ghost use Rattle.tl_diff.specs.Bounds.{AddsBound, bound_at, HavePositions, IsGreatest, HasGreatest, HasNoGreatest, IsLeast, IsSmall, positions_of, Meets};
-ghost use Rattle.tl_diff.specs.Closed.{AtMost};
+ghost use Rattle.std.specs.Prelude.{◌≡◌, ℕ, ◌<◌, ◌≤◌, ℤ, pos, neg_ℤ, ◌≤ℤ◌, length, IsTrue, ◌↔◌, IfOk, IfSome, MatchOption};
+ghost use Rattle.tl_diff.specs.Bounds.{AddsBound, HavePositions, IsGreatest, HasGreatest, HasNoGreatest, IsLeast, IsSmall, positions_of, Meets};
 
-use crate::improve::improve;
+use crate::table::add;
 use std::alloc::{AllocError, Global};
 use std::marker::Model;
 
@@ -17,24 +16,14 @@ pub struct Differences {
 }
 
 impl Model for Differences {
-    ghost use Rattle.tl_diff.specs.Bounds.{Bounds};
+    ghost use Rattle.tl_diff.specs.Bounds.{table, Bounds};
     ghost use Rattle.tl_diff.specs.Closed.{IsKept};
 
     ghost Value = { Bounds };
 
-    ghost view = { λ d. record { n = d.places; rows = d.rows.items } };
+    ghost view = { λ d. table d.places d.rows.items };
 
-    ghost invariant = { λ d. IsKept (record { n = d.places; rows = d.rows.items }) d.holds };
-}
-
-/// Whether there is a bound, and it is at most `most`.
-fn is_at_most(bound: Option<i32>, most: i32) -> bool
-    ensures { IsTrue result ↔ AtMost bound most }
-{
-    match bound {
-        Some(bound) => bound <= most,
-        None => false,
-    }
+    ghost invariant = { λ d. IsKept (table d.places d.rows.items) d.holds };
 }
 
 impl Differences {
@@ -93,17 +82,8 @@ impl Differences {
         ensures adds { AddsBound self.old self.new a b most }
         ensures holds { IsTrue result ↔ HavePositions self.new }
     {
-        let places = self.places;
-        if is_at_most(self.rows[a * places + b], most) {
-            return true;
-        }
-        if is_at_most(self.rows[b * places + a], -1 - most) {
-            self.rows[a * places + b] = Some(most);
-            self.holds = false;
-            return false;
-        }
-        improve(&mut self.rows, places, a, b, most);
-        true
+        self.holds = add(&mut self.rows, self.places, a, b, most);
+        self.holds
     }
 
     /// Fills `out` with the least positions that have place 0 at 0.

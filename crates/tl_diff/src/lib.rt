@@ -4,8 +4,9 @@
 #![tactic(auto)]
 
 mod differences;
-mod improve;
 mod matrix;
 mod paths;
+mod table;
 
+pub use matrix::Matrix;
 pub use paths::{Arc, chain, heaviest};

@@ -1,5 +1,5 @@
 use Rattle.std.proofs.Common.{◌≡◌, arith}
-use Rattle.tl_diff.proofs.RowLemmas.{table}
+use Rattle.tl_diff.specs.Bounds.{table}
 use Rattle.tl_diff.proofs.TableLemmas.{IsFree-own, IsKept-free}
 use Rattle.tl_diff.proofs.differences.Differences.new.Goals as goal
 

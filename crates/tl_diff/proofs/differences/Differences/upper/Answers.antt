@@ -1,7 +1,7 @@
 -- The bound that is looked up is the one of the table.
 use Rattle.std.proofs.Common.{◌<◌, sym}
-use Rattle.tl_diff.specs.Bounds.{HavePositions}
-use Rattle.tl_diff.proofs.RowLemmas.{table, bound_at-read}
+use Rattle.tl_diff.specs.Bounds.{table, HavePositions}
+use Rattle.tl_diff.proofs.RowLemmas.{bound_at-read}
 use Rattle.tl_diff.proofs.TableLemmas.{upper_kept, small_kept}
 use Rattle.tl_diff.proofs.differences.Differences.upper.Goals as goal
 

@@ -1,6 +1,6 @@
 use Rattle.std.proofs.Common.{Some, ap, arith}
 use Rattle.std.proofs.lemmas.Int.{ints, clamps}
-use Rattle.tl_diff.proofs.improve.lesser_of.Goals as goal
+use Rattle.tl_diff.proofs.table.lesser_of.Goals as goal
 
 pub returns-in-Some : goal.returns-in-Some
 returns-in-Some c =
