@@ -1,11 +1,11 @@
 -- A bound that is implied changes nothing, one that closes a way round below 0 ends all positions, any other improves
 -- every pair.
-use Rattle.std.proofs.Common.{◌≡◌, negsuc, ◌-ℤ◌, true, false, arith, refl}
+use Rattle.std.proofs.Common.{negsuc, ◌-ℤ◌, arith, refl}
 use Rattle.std.specs.Int.{w32}
-use mir.Val.{to_z, of_z}
 use Rattle.std.proofs.lemmas.Int.{ints, to_z-of_z}
 use Rattle.tl_diff.specs.Bounds.{table, bound_at}
 use Rattle.tl_diff.specs.Closed.{AtMost}
+use Rattle.tl_diff.proofs.AtMostLemmas.{AtMost-more}
 use Rattle.tl_diff.proofs.TableLemmas.{IsRowSmall-kept, AddsBound-implied, AddsBound-refused, IsKept-refused, no_cycle, AddsBound-kept, IsKept-improved}
 use Rattle.tl_diff.proofs.table.add.Goals as goal
 
@@ -17,22 +17,22 @@ returns-then-is_at_most-clause-adds c =
 pub returns-then-is_at_most-2-clause-adds : goal.returns-then-is_at_most-2-clause-adds
 returns-then-is_at_most-2-clause-adds c =
     let same = to_z-of_z w32 c.args.most c.ranges.most in
-    let below : to_z w32 (of_z w32 (negsuc 0 -ℤ to_z w32 (of_z w32 c.args.most))) ≡ negsuc 0 -ℤ c.args.most = omega (arith, ints) in
+    let back = AtMost-more (bound_at (table c.args.places c.args.rows.now) c.args.b c.args.a) _ (negsuc 0 -ℤ c.args.most) (c.if-is_at_most-2.ensures.0 refl) (omega (arith, ints)) in
     rw same
-    (AddsBound-refused c.args.places c.args.rows.now c.args.a c.args.b c.args.most c.requires.begins c.requires.ends c.requires.kept.pairs (c.requires.kept.tight refl) (rw below at (c.if-is_at_most-2.ensures.0 refl)))
+    (AddsBound-refused c.args.places c.args.rows.now c.args.a c.args.b c.args.most c.requires.begins c.requires.ends c.requires.kept.pairs (c.requires.kept.tight refl) back)
 
 pub returns-then-is_at_most-2-clause-kept : goal.returns-then-is_at_most-2-clause-kept
 returns-then-is_at_most-2-clause-kept c =
     let same = to_z-of_z w32 c.args.most c.ranges.most in
-    let below : to_z w32 (of_z w32 (negsuc 0 -ℤ to_z w32 (of_z w32 c.args.most))) ≡ negsuc 0 -ℤ c.args.most = omega (arith, ints) in
+    let back = AtMost-more (bound_at (table c.args.places c.args.rows.now) c.args.b c.args.a) _ (negsuc 0 -ℤ c.args.most) (c.if-is_at_most-2.ensures.0 refl) (omega (arith, ints)) in
     rw same
-    (IsKept-refused c.args.places c.args.rows.now c.args.a c.args.b c.args.most c.requires.begins c.requires.ends c.requires.kept.pairs (c.requires.kept.tight refl) (rw below at (c.if-is_at_most-2.ensures.0 refl)) c.requires.kept.some c.requires.kept.few)
+    (IsKept-refused c.args.places c.args.rows.now c.args.a c.args.b c.args.most c.requires.begins c.requires.ends c.requires.kept.pairs (c.requires.kept.tight refl) back c.requires.kept.some c.requires.kept.few)
 
 pub improve-requires-clause-no_cycle : goal.improve-requires-clause-no_cycle
 improve-requires-clause-no_cycle c =
     let same = to_z-of_z w32 c.args.most c.ranges.most in
-    let below : to_z w32 (of_z w32 (negsuc 0 -ℤ to_z w32 (of_z w32 c.args.most))) ≡ negsuc 0 -ℤ c.args.most = omega (arith, ints) in
-    let closes : AtMost (bound_at (table c.args.places c.args.rows.now) c.args.b c.args.a) (negsuc 0 -ℤ c.args.most) → false ≡ true = rw below at c.if-is_at_most-2.ensures.1 in
+    let closes = λ (k : AtMost (bound_at (table c.args.places c.args.rows.now) c.args.b c.args.a) (negsuc 0 -ℤ c.args.most)).
+    c.if-is_at_most-2.ensures.1 (AtMost-more (bound_at (table c.args.places c.args.rows.now) c.args.b c.args.a) (negsuc 0 -ℤ c.args.most) _ k (omega (arith, ints))) in
     rw same (no_cycle c.args.places c.args.rows.now c.args.a c.args.b c.args.most c.requires.begins c.requires.ends (λ k. let e = closes k in cc))
 
 pub improve-requires-clause-small : goal.improve-requires-clause-small
@@ -47,8 +47,8 @@ returns-clause-adds c =
 pub returns-clause-kept : goal.returns-clause-kept
 returns-clause-kept c =
     let same = to_z-of_z w32 c.args.most c.ranges.most in
-    let below : to_z w32 (of_z w32 (negsuc 0 -ℤ to_z w32 (of_z w32 c.args.most))) ≡ negsuc 0 -ℤ c.args.most = omega (arith, ints) in
-    let closes : AtMost (bound_at (table c.args.places c.args.rows.now) c.args.b c.args.a) (negsuc 0 -ℤ c.args.most) → false ≡ true = rw below at c.if-is_at_most-2.ensures.1 in
+    let closes = λ (k : AtMost (bound_at (table c.args.places c.args.rows.now) c.args.b c.args.a) (negsuc 0 -ℤ c.args.most)).
+    c.if-is_at_most-2.ensures.1 (AtMost-more (bound_at (table c.args.places c.args.rows.now) c.args.b c.args.a) (negsuc 0 -ℤ c.args.most) _ k (omega (arith, ints))) in
     let round = no_cycle c.args.places c.args.rows.now c.args.a c.args.b c.args.most c.requires.begins c.requires.ends (λ k. let e = closes k in cc) in
     IsKept-improved c.args.places c.args.rows.now c.args.a c.args.b c.args.most c.requires.begins c.requires.ends c.improve.new.rows (rw same at c.improve.ensures) (c.requires.kept.tight refl)
     c.requires.kept.some c.requires.kept.few c.requires.low c.requires.high round
