@@ -1,6 +1,7 @@
 -- What the layers above need of difference bounds and their positions.
-use Rattle.std.proofs.Common.{◌≡◌, ℕ, ◌<◌, ◌≤◌, ℤ, pos, ◌≤ℤ◌, neg_ℤ, Option, Some, None, IsSome, MatchOption, refl, arith}
+use Rattle.std.proofs.Common.{◌≡◌, ℕ, ◌<◌, ◌≤◌, ℤ, pos, ◌≤ℤ◌, neg_ℤ, Option, Some, None, IsSome, MatchOption, List, ◌∷◌, ◌↔◌, refl, arith}
 use Rattle.std.proofs.lemmas.Int.{ints}
+use Rattle.tl_diff.specs.Marks.{MarkedBounds}
 use Rattle.tl_diff.specs.Bounds.{Bounds, Meets, IsWithin, HavePositions, AddsBound, IsGreatest, HasGreatest, HasNoGreatest, IsLeast}
 
 -- there is one greatest difference
@@ -59,3 +60,12 @@ pub not_implied : (bounds : Bounds) (a b : ℕ) (most : ℤ) → HasNoGreatest b
 not_implied bounds a b most none implied =
     let more = none most in
     omega (arith, ints, more.1.1, implied more.0 more.1.0)
+
+-- What is undone gives back the bounds of the last mark, and so their positions.
+pub undo_last : (old new : MarkedBounds) (last : Bounds) (rest : List Bounds) → old.held ≡ new.bounds ∷ new.held → old.held ≡ last ∷ rest → (new.bounds ≡ last) × (new.held ≡ rest)
+undo_last old new last rest undone held = (cc, cc)
+
+pub undo_gives_back : (old new : MarkedBounds) (last : Bounds) (rest : List Bounds) → old.held ≡ new.bounds ∷ new.held → old.held ≡ last ∷ rest → (x : ℕ → ℤ) → Meets new.bounds x ↔ Meets last x
+undo_gives_back old new last rest undone held x =
+    let same = (undo_last old new last rest undone held).0 in
+    (λ meets. rw same at meets, λ meets. rw same meets)

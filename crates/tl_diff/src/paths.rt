@@ -8,7 +8,7 @@ use std::alloc::{AllocError, Global};
 use tl_base::List;
 
 /// A step from one place to a later one, at a weight.
-#[derive(Clone, Copy, Debug)]
+#[derive(Clone, Copy, Debug, PartialEq, Eq)]
 pub struct Arc {
     /// The place where it begins.
     pub from: u32,
@@ -18,9 +18,9 @@ pub struct Arc {
     pub weight: u32,
 }
 
-/// Fills `out[k]` with the greatest weight of a path from place 0 to place `k`, for each place up to
-/// `n`, and answers that of `n`. A path goes along arcs, and from a place to the next at no weight.
-/// It takes no memory and looks at each arc once.
+/// Fills `out[k]` with the greatest weight of a path from place 0 to place `k`, for each place up
+/// to `n`, and answers that of `n`. A path goes along arcs, and from a place to the next at no
+/// weight. It takes no memory and looks at each arc once.
 pub fn heaviest(n: u32, arcs: &[Arc], out: &mut [u32]) -> u32
     requires forward { LeadForward n arcs.now }
     requires in_order { InOrder arcs.now }

@@ -7,8 +7,9 @@ ghost use Rattle.std.specs.Option.{ForSome};
 ghost use Rattle.tl_diff.specs.Bounds.{table, bound_at, AddsBound};
 ghost use Rattle.tl_diff.specs.Closed.{AtMost, lesser, IsImproved, IsKept, IsRowImproved, IsRowSmall};
 
-/// Adds the bound that place `b` lies at most `most` behind place `a`. Answers whether positions meet
-/// all bounds. One that is implied changes nothing; one that no positions can meet is kept as it is.
+/// Adds the bound that place `b` lies at most `most` behind place `a`. Answers whether positions
+/// meet all bounds. One that is implied changes nothing; one that no positions can meet is kept as
+/// it is.
 pub fn add(rows: &mut [Option<i32>], places: usize, a: usize, b: usize, most: i32) -> bool
     requires kept { IsKept (table places rows.old) true }
     requires begins { a < places }
