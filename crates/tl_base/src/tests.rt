@@ -1,0 +1,125 @@
+use crate::{
+    Desk, DeskFault, Fail, Gate, List, MemoryDesk, NoGate, RealDesk, Text, read_number,
+    write_number,
+};
+use std::alloc::{AllocError, Global};
+use std::collections::BTreeMap;
+use std::test::Fail as Failure;
+
+#[test]
+fn a_number_is_read_only_in_its_canonical_form(rt: HostRuntime) {
+    for (text, at, want) in [
+        ("", 0, None),
+        ("0", 0, Some((0, 1))),
+        ("7 8", 0, Some((7, 1))),
+        ("7 8", 1, None),
+        ("7 8", 2, Some((8, 3))),
+        ("02", 0, None),
+        ("02", 1, Some((2, 2))),
+        ("00", 0, None),
+        ("+7", 0, None),
+        ("-7", 0, None),
+        ("x", 0, None),
+        ("500x", 0, Some((500, 3))),
+        ("18446744073709551615", 0, Some((18446744073709551615, 20))),
+        ("18446744073709551616", 0, None),
+        ("99999999999999999999999", 0, None),
+    ] {
+        let bytes = text.as_bytes();
+        assert!(rt; at <= bytes.len());
+        assert_eq!(rt; read_number(bytes, at), want, "{text:?} at {at}");
+    }
+}
+
+#[test]
+fn a_number_is_written_behind_what_stands(rt: HostRuntime) -> Result<(), Failure> {
+    let mut out = List::from_slice(rt.alloc(), b"n ")?;
+    for n in [0, 7, 10, 18446744073709551615] {
+        write_number(rt.alloc(), &mut out, n)?;
+        out.push(b' ')?;
+    }
+    assert_eq!(rt;
+        out.as_slice(),
+        b"n 0 7 10 18446744073709551615 ".as_slice()
+    );
+    Ok(())
+}
+
+#[test]
+fn a_list_and_a_text_hold_what_was_put_in(rt: HostRuntime) -> Result<(), Failure> {
+    let mut list: List<Text> = List::new(rt.alloc());
+    assert!(rt; list.is_empty());
+    list.push(Text::from_str(rt.alloc(), "a\u{4e2d}")?)?;
+    assert_eq!(rt; list.len(), 1);
+    for text in list.as_slice() {
+        assert_eq!(rt; text.as_str(), "a\u{4e2d}");
+    }
+    NoGate.pass(0);
+    Ok(())
+}
+
+/// A desk with one file, `in`, that holds `held`.
+fn desk_with(alloc: Global, held: &[u8], fails: &[Fail]) -> Result<MemoryDesk, AllocError> {
+    let mut files = BTreeMap::new(alloc);
+    let name = String::from_str(alloc, "in")?;
+    files.insert(name, List::from_slice(alloc, held)?)?;
+    Ok(MemoryDesk::new(alloc, files, List::from_slice(alloc, fails)?))
+}
+
+#[test]
+fn a_desk_in_memory_holds_what_was_stored_and_said(rt: HostRuntime) -> Result<(), Failure> {
+    let mut desk = desk_with(rt.alloc(), b"abcd", &[])?;
+    assert_eq!(rt; desk.load("in", 2)?.as_slice(), b"abc".as_slice());
+    assert_eq!(rt; desk.load("in", 9)?.as_slice(), b"abcd".as_slice());
+    assert!(rt; matches!(desk.load("out", 9), Err(DeskFault::Failed)));
+    desk.store("out", b"one")?;
+    desk.store("out", b"two")?;
+    desk.say(b"said ")?;
+    desk.say(b"twice")?;
+    assert_eq!(rt; desk.said(), b"said twice".as_slice());
+    let held = desk.files().get("out").ok_or("no file")?;
+    assert_eq!(rt; held.as_slice(), b"two".as_slice());
+    Ok(())
+}
+
+#[test]
+fn a_planned_failure_passes_so_many_bytes(rt: HostRuntime) -> Result<(), Failure> {
+    let fails = [
+        Fail { call: 1, bytes: 2 },
+        Fail { call: 2, bytes: 9 },
+        Fail { call: 3, bytes: 0 },
+    ];
+    let mut desk = desk_with(rt.alloc(), b"abcd", &fails)?;
+    desk.say(b"x")?;
+    assert!(rt; matches!(desk.store("in", b"wxyz"), Err(DeskFault::Failed)));
+    assert!(rt; matches!(desk.say(b"said"), Err(DeskFault::Failed)));
+    assert!(rt; matches!(desk.load("in", 9), Err(DeskFault::Failed)));
+    assert_eq!(rt; desk.load("in", 9)?.as_slice(), b"wx".as_slice());
+    assert_eq!(rt; desk.said(), b"xsaid".as_slice());
+    Ok(())
+}
+
+#[test]
+fn the_real_desk_reads_what_it_stored(rt: HostRuntime) -> Result<(), Failure> {
+    let mut desk = RealDesk::new(&rt);
+    desk.store("real_desk_test.txt", b"one\ntwo\n")?;
+    desk.store("real_desk_test.txt", b"three\n")?;
+    assert_eq!(rt;
+        desk.load("real_desk_test.txt", 9)?.as_slice(),
+        b"three\n".as_slice()
+    );
+    assert_eq!(rt;
+        desk.load("real_desk_test.txt", 2)?.as_slice(),
+        b"thr".as_slice()
+    );
+    assert!(rt; matches!(desk.load("no_such_file.txt", 9), Err(DeskFault::Failed)));
+    assert!(rt;
+        matches!(
+            desk.store("no_such_folder/x.txt", b"x"),
+            Err(DeskFault::Failed)
+        )
+    );
+    desk.say(b"said by the real desk\n")?;
+    std::fs::remove_file(&rt, "real_desk_test.txt")?;
+    Ok(())
+}
