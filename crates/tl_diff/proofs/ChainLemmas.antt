@@ -1,10 +1,10 @@
 -- A heaviest path is found from its end: an arc is on one where it makes up the whole difference.
-use Rattle.std.proofs.Common.{◌≡◌, ◌≢◌, ℕ, ◌+◌, ◌<◌, ◌≤◌, List, [], ◌∷◌, ◌++◌, length, get_or, sym, arith, inl, inr, ◌⊎◌}
+use Rattle.std.proofs.Common.{◌≡◌, ◌≢◌, ℕ, ◌+◌, ◌<◌, ◌≤◌, List, [], ◌∷◌, length, get_or, sym, arith, inl, inr, ◌⊎◌}
 use Rattle.std.proofs.lemmas.List.Sums.{sum_by-cons}
 use Rattle.std.proofs.lemmas.Bool.{cases_eq}
 use Rattle.tl_diff.specs.declared.paths.Arc.{Arc}
 use Rattle.tl_diff.specs.Paths.{arc_at, IsPath, path_weight, IsHeaviest, LeadForward, InOrder}
-use Rattle.tl_diff.proofs.PathLemmas.{IsPath-push, path_weight-push}
+use Rattle.tl_diff.proofs.PathLaws.{IsHeaviest-along, IsHeaviest-further}
 
 -- a path may begin sooner
 pub IsPath-sooner : (arcs : List Arc) (p q : ℕ) (is : List ℕ) (k : ℕ) → IsPath arcs q is k → p ≤ q → IsPath arcs p is k
@@ -52,9 +52,9 @@ module _ (n : ℕ) (arcs : List Arc) (out : List ℕ) (forward : LeadForward n a
   -- what an arc adds is never more than what is between its ends, nor than what is up to a later place
   pub arc-le : (i k : ℕ) → i < length arcs → (arc_at arcs i).to ≤ k → k ≤ n → get_or out (arc_at arcs i).from 0 + (arc_at arcs i).weight ≤ get_or out k 0
   arc-le i k there ends up =
-      let r = (heaviest (arc_at arcs i).from (omega (arith, forward i there))).reached in
-      let far = (heaviest k up).greatest (r.0 ++ i ∷ []) (IsPath-push arcs 0 r.0 (arc_at arcs i).from i k r.1.0 there (omega arith) ends) in
-      omega (arith, far, path_weight-push arcs r.0 i, r.1.1)
+      let before = heaviest (arc_at arcs i).from (omega (arith, forward i there)) in
+      let end = heaviest (arc_at arcs i).to (omega arith) in
+      omega (arith, IsHeaviest-along arcs i _ _ there before end, IsHeaviest-further arcs (arc_at arcs i).to k _ _ end (heaviest k up) ends)
 
   pub IsTaken-none : (i : ℕ) → length arcs ≤ i → IsTaken n arcs out n i []
   IsTaken-none i past = record {

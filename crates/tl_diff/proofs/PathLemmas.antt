@@ -25,10 +25,6 @@ path_weight-push arcs is i = sum_by_push (λ j. (arc_at arcs j).weight) is i
 
 -- ---- a table of weights in which one place may have more
 
--- the place e has at least w
-pub raised : List ℕ → ℕ → ℕ → List ℕ
-raised out e w = set out e (max (get_or out e 0) w)
-
 module _ (out : List ℕ) (e w : ℕ) (there : e < length out) where
   raised_at : get_or (set out e (max (get_or out e 0) w)) e 0 ≡ max (get_or out e 0) w
   raised_at = get_or-set_same out e (max (get_or out e 0) w) 0 there
@@ -50,19 +46,7 @@ module _ (out : List ℕ) (e w : ℕ) (there : e < length out) where
 -- ---- one arc more, and one place more
 
 module _ (n : ℕ) (arcs : List Arc) (place next : ℕ) (out : List ℕ) (forward : LeadForward n arcs) (in_order : InOrder arcs) where
-  -- a table that is filled with zeros
-  pub IsRelaxed-none : length out ≡ n + 1 → ((k : ℕ) → k ≤ n → get_or out k 0 ≡ 0) → IsRelaxed arcs n 0 0 0 0 out
-  IsRelaxed-none room zeros = record {
-    room = room;
-    reached = λ k up. ([], (omega arith, sym (zeros k up)));
-    rising = λ k below. absurd (omega arith);
-    taken = λ i below. absurd (omega arith);
-    before = λ i below. absurd (omega arith);
-    later = λ i from within. omega arith;
-    small = λ k up. omega (arith, zeros k up);
-    within = omega arith;
-  }
-
+  -- the arc `next` begins at `place`
   module _ (h : IsRelaxed arcs n place (place + 1) place next out) (there : next < length arcs) (from : (arc_at arcs next).from ≡ place) where
     -- the weight of the way to `place` and along the arc
     abbrev along : ℕ
