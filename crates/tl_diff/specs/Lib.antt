@@ -1,0 +1,5 @@
+pub mod Bounds
+pub mod Closed
+pub mod Marks
+pub mod Paths
+pub mod Relaxing
