@@ -1,0 +1,4 @@
+pub mod Forming
+pub mod Overlap
+pub mod Dropping
+pub mod Walk
