@@ -1,1 +1,3 @@
 mod Examples
+pub mod Chains
+pub mod Passing

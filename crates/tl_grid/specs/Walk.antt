@@ -1,8 +1,10 @@
 -- How a row is walked from left to right over the blocks that are open above it: those that may
 -- cover it and the rows to come, by their columns. No slot is made.
-use Rattle.std.specs.Prelude.{ℕ, ◌+◌, Bool, ◌||◌, ◌==◌, nat_lt, nat_le, if◌then◌else◌, List, [], ◌∷◌, ◌++◌, Option, Some, None}
+use Rattle.std.specs.Prelude.{ℕ, ◌+◌, max, Bool, ◌||◌, ◌==◌, nat_lt, nat_le, if◌then◌else◌, List, [], ◌∷◌, ◌++◌, length, Option, Some, None, Result, Ok, Err}
 use Rattle.tl_grid.specs.declared.shape.SpanOf.{SpanOf}
 use Rattle.tl_grid.specs.declared.block.Block.{Block}
+use Rattle.tl_grid.specs.declared.error.GridError.{GridError}
+use Rattle.tl_grid.specs.declared.error.GridError.TheVariants.{Overlap}
 use Rattle.tl_grid.specs.Forming.{first_rows}
 
 -- whether a block that begins in row y or above it takes that row
@@ -36,3 +38,68 @@ block_at number x y span = record {
 abbrev pub hit : List Block → ℕ → Option Block
 hit [] right = None
 hit (block ∷ blocks) right = if nat_lt block.left right then Some block else None
+
+-- a row while its cells are formed: the next column, the table's height, the blocks of the row group
+-- so far, and the open ones before and after that column
+pub record Row : Type 0 where
+  pub column : ℕ
+  pub height : ℕ
+  pub blocks : List Block
+  pub passed : List Block
+  pub ahead : List Block
+
+-- the row after one more cell, at the column that the walk came to
+abbrev pub placed : ℕ → ℕ → SpanOf → Row → Walk → Row
+placed y number span row walk = record {
+  column = walk.column + span.colspan;
+  height = max row.height (y + first_rows span);
+  blocks = row.blocks ++ block_at number walk.column y span ∷ [];
+  passed = walk.passed ++ block_at number walk.column y span ∷ [];
+  ahead = walk.ahead }
+
+abbrev pub walk_of : ℕ → Row → Walk
+walk_of y row = pass_taken y row.column row.passed row.ahead
+
+-- `more`, unless cell `number` in row y runs into a block
+abbrev pub unless_hit : {X : Type 0} → Option Block → ℕ → ℕ → Result X GridError → Result X GridError
+unless_hit None number y more = more
+unless_hit (Some block) number y more = Err (Overlap block.number number block.left y)
+
+-- the cells of a row, one after another; `number` is that of the first
+abbrev pub place_cells : ℕ → ℕ → Row → List SpanOf → Result Row GridError
+place_cells y number row [] = Ok row
+place_cells y number row (span ∷ spans) =
+  let walk : Walk = walk_of y row in
+  unless_hit (hit walk.ahead (walk.column + span.colspan)) number y
+    (place_cells y (number + 1) (placed y number span row walk) spans)
+
+-- a row group between two rows: the table's height, its blocks so far and the open ones
+pub record Group : Type 0 where
+  pub row : ℕ
+  pub height : ℕ
+  pub blocks : List Block
+  pub open_blocks : List Block
+
+-- the next row begins
+abbrev pub row_of : Group → Row
+row_of group = record {
+  column = 0; height = max group.height (group.row + 1); blocks = group.blocks;
+  passed = []; ahead = group.open_blocks }
+
+-- the row ends
+abbrev pub after_row : ℕ → Row → Group
+after_row y row = record {
+  row = y + 1; height = row.height; blocks = row.blocks; open_blocks = row.passed ++ row.ahead }
+
+-- `next` of a value, or the error
+abbrev pub then_ok : {X Y : Type 0} → (X → Result Y GridError) → Result X GridError → Result Y GridError
+then_ok next (Ok value) = next value
+then_ok next (Err error) = Err error
+
+-- the rows of a group, one after another; `number` is that of their first cell
+abbrev pub place_rows : ℕ → Group → List (List SpanOf) → Result Group GridError
+place_rows number group [] = Ok group
+place_rows number group (spans ∷ rows) =
+  then_ok
+    (λ row. place_rows (number + length spans) (after_row group.row row) rows)
+    (place_cells group.row number (row_of group) spans)

@@ -5,6 +5,8 @@
 #![tactic(auto)]
 
 mod block;
+mod error;
 mod shape;
 
+pub use error::GridError;
 pub use shape::{Grid, Place, Shape, ShapeGroup, SpanOf};
