@@ -1,3 +1,4 @@
 mod Examples
 pub mod Chains
 pub mod Passing
+pub mod Cells
