@@ -2,3 +2,4 @@ mod Examples
 pub mod Chains
 pub mod Passing
 pub mod Cells
+pub mod Later
