@@ -80,6 +80,11 @@ spot_before x y b h =
   let in_columns = and_parts (leb b.left x && ltb x b.right) (reaches y b) h in
   ltb-true x b.right ((and_parts (leb b.left x) (ltb x b.right) in_columns.0).1)
 
+pub spot_from : (x y : ℕ) (b : Block) → spot x y b ≡ true → b.left ≤ x
+spot_from x y b h =
+  let in_columns = and_parts (leb b.left x && ltb x b.right) (reaches y b) h in
+  leb-true b.left x ((and_parts (leb b.left x) (ltb x b.right) in_columns.0).0)
+
 -- no block of a chain covers a column before it
 pub none_left : (z x y y' : ℕ) → x < z → y ≤ y' → (bs : List Block) → Chain z (filter (reaches y) bs) → filter (spot x y') bs ≡ []
 none_left z x y y' lt le [] c = refl

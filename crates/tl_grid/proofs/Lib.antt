@@ -3,3 +3,4 @@ pub mod Chains
 pub mod Passing
 pub mod Cells
 pub mod Later
+pub mod Rows

@@ -98,7 +98,7 @@ passes_stop y x ps qs front rest begins = record {
   within = λ width le all. le; kept = λ width all. all }
 
 -- a chain to a column, and one more block
-push_front : (y x : ℕ) (ps : List Block) (b : Block) → reaches y b ≡ true → ChainTo 0 (filter (reaches y) ps) x → x ≤ b.left → b.left < b.right → ChainTo 0 (filter (reaches y) (ps ++ b ∷ [])) b.right
+pub push_front : (y x : ℕ) (ps : List Block) (b : Block) → reaches y b ≡ true → ChainTo 0 (filter (reaches y) ps) x → x ≤ b.left → b.left < b.right → ChainTo 0 (filter (reaches y) (ps ++ b ∷ [])) b.right
 push_front y x ps b e front le lt =
   let P : List Block → Type 0 = λ l. ChainTo 0 l b.right in
   subst P (sym (filter-append (reaches y) ps (b ∷ []) ∙ ap (λ l. filter (reaches y) ps ++ l) (filter_yes (reaches y) b [] e)))
