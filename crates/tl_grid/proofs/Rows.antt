@@ -172,3 +172,90 @@ row_step done y number span s r quiet wide m none =
     past = λ x' y' lt.
       let P : List ℕ → Type 0 = λ l. length l ≤ 1 in
       subst P (sym (with_cell_before number w.column span s x' y' (inl (omega arith)))) (m.past x' y' lt) }
+
+-- where the walk runs into a block, that is the first ahead
+hit_block : (y x right : ℕ) (bs : List Block) (b : Block) → BeginsAfter y x bs → hit bs right ≡ Some b → (rest : List Block) × ((bs ≡ b ∷ rest) × (reaches y b ≡ true) × (x < b.left) × (b.left < right))
+hit_block y x right [] b begins e = cc
+hit_block y x right (c ∷ cs) b begins e =
+  elim (cases_Bool (ltb c.left right)) [
+    inl t ↦
+      let found : hit (c ∷ cs) right ≡ Some c = cond-true (ltb c.left right) (Some c) None t in
+      let same : c ≡ b = cc in
+      let P : Block → Type 0 = λ d. (c ∷ cs ≡ d ∷ cs) × (reaches y d ≡ true) × (x < d.left) × (d.left < right) in
+      (cs, subst P same (refl, begins.0, begins.1, ltb-true c.left right t))
+  | inr f ↦ absurd (let none : hit (c ∷ cs) right ≡ None = cond-false (ltb c.left right) (Some c) None f in cc) ]
+
+-- an overlap in row y stands in the cells as the first one
+pub record IsFoundIn (cells : List Cell) (first second x y : ℕ) : Type 0 where
+  pub two : numbers_over x y cells ≡ first ∷ second ∷ []
+  pub before : (x' y' : ℕ) → IsBefore x' y' x y → length (numbers_over x' y' cells) ≤ 1
+
+one_at_most_here : (done : List Cell) (y : ℕ) (s : Forming) (r : Row) (x : ℕ) → RowMatches done y s r → length (filter (spot x y) r.blocks) ≤ 1
+one_at_most_here done y s r x m =
+  let P : List Block → Type 0 = λ l. length l ≤ 1 in
+  let Q : List Block → Type 0 = λ l. Chain 0 l in
+  subst P (sym (m.same x y (omega arith)))
+    (at_most_one 0 x y y (omega arith) (r.passed ++ r.ahead)
+      (subst Q (sym (filter-append (reaches y) r.passed r.ahead))
+        (chain_append 0 r.column (filter (reaches y) r.passed) (filter (reaches y) r.ahead) m.front m.rest)))
+
+-- the blocks of the row's slots after one more cell
+numbers_placed : (done : List Cell) (y number : ℕ) (span : SpanOf) (s : Forming) (r : Row) (x x' : ℕ) → AllQuiet y done → RowMatches done y s r → numbers_over x' y (with_cell number x span s).cells ≡ map block_number (filter (spot x' y) (r.blocks ++ block_at number x y span ∷ []))
+numbers_placed done y number span s r x x' quiet m =
+  ap (numbers_over x' y) (placed_cells done y number x span s r.blocks m.at_row m.cells)
+  ∙ numbers_here x' y done (r.blocks ++ block_at number x y span ∷ []) quiet
+      (all_push (BeginsBy y) r.blocks (block_at number x y span) (omega arith) m.tops)
+
+-- up to the block that a cell runs into no slot has two cells
+before_overlap : (done : List Cell) (y number : ℕ) (span : SpanOf) (s : Forming) (r : Row) (right : ℕ) → AllQuiet y done → RowMatches done y s r → BeginsFrom y right (walk_of y r).ahead → (x' y' : ℕ) → IsBefore x' y' right y → length (numbers_over x' y' (with_cell number (walk_of y r).column span s).cells) ≤ 1
+before_overlap done y number span s r right quiet m begins x' y' (inl above) =
+  let w : Walk = walk_of y r in
+  let at_row : s.row ≡ y = m.at_row in
+  let P : List ℕ → Type 0 = λ l. length l ≤ 1 in
+  subst P (sym (with_cell_before number w.column span s x' y' (inl (omega arith)))) (m.past x' y' above)
+before_overlap done y number span s r right quiet m begins x' y' (inr (same, left)) =
+  let w : Walk = walk_of y r in
+  let c : Block = block_at number w.column y span in
+  let p : Passes y r.column r.passed r.ahead w = passes y r.ahead r.column r.passed m.front m.rest in
+  let cells : List Cell = (with_cell number w.column span s).cells in
+  let P : List ℕ → Type 0 = λ l. length l ≤ 1 in
+  let Q : List Block → Type 0 = λ l. length (map block_number l) ≤ 1 in
+  subst P (sym (ap (λ row. numbers_over x' row cells) same ∙ numbers_placed done y number span s r w.column x' quiet m))
+    (elim (cases_Bool (spot x' y c)) [
+      inl e ↦
+        let none : filter (spot x' y) r.blocks ≡ [] =
+          m.same x' y (omega arith) ∙ sym (p.same x' y (omega arith))
+          ∙ none_between y x' r w right y p begins (spot_from x' y c e) left (omega arith) in
+        subst Q (sym (filter_push_yes (spot x' y) r.blocks c e ∙ ap (λ l. l ++ c ∷ []) none)) (omega arith)
+    | inr e ↦
+        let one : length (filter (spot x' y) r.blocks) ≤ 1 = one_at_most_here done y s r x' m in
+        subst Q (sym (filter_push_no (spot x' y) r.blocks c e))
+          (rw (length-map (filter (spot x' y) r.blocks) block_number) one) ])
+
+-- a cell that runs into a block overlaps it where that begins
+row_overlap : (done : List Cell) (y number : ℕ) (span : SpanOf) (s : Forming) (r : Row) (b : Block) → AllQuiet y done → IsWide span → RowMatches done y s r → hit (walk_of y r).ahead ((walk_of y r).column + span.colspan) ≡ Some b → IsFoundIn (with_cell number (walk_of y r).column span s).cells b.number number b.left y
+row_overlap done y number span s r b quiet wide m found =
+  let w : Walk = walk_of y r in
+  let p : Passes y r.column r.passed r.ahead w = passes y r.ahead r.column r.passed m.front m.rest in
+  let c : Block = block_at number w.column y span in
+  let at_row : s.row ≡ y = m.at_row in
+  let (rest, is) = hit_block y w.column (w.column + span.colspan) w.ahead b p.begins found in
+  let past : w.column < b.left = is.2 in
+  let within : b.left < w.column + span.colspan = is.3 in
+  let P : List Block → Type 0 = λ l. Chain w.column (filter (reaches y) l) in
+  let chain : Chain w.column (b ∷ filter (reaches y) rest) = chain_yes w.column y b rest is.1 (subst P is.0 p.rest) in
+  let Q : List Block → Type 0 = λ l. BeginsFrom y b.left l in
+  let begins : BeginsFrom y b.left w.ahead = subst Q (sym is.0) (is.1, omega arith) in
+  let alone : filter (spot b.left y) r.blocks ≡ b ∷ [] =
+    m.same b.left y (omega arith) ∙ sym (p.same b.left y (omega arith))
+    ∙ filter-append (spot b.left y) w.passed w.ahead
+    ∙ ap (λ l. l ++ filter (spot b.left y) w.ahead) (none_right 0 w.column b.left y y (omega arith) (omega arith) w.passed p.front)
+    ∙ ap (filter (spot b.left y)) is.0
+    ∙ filter_yes (spot b.left y) b rest (spot_in b.left y b (omega arith) chain.1 is.1)
+    ∙ ap (λ l. b ∷ l) (none_left b.right b.left y y chain.1 (omega arith) rest chain.2) in
+  record {
+    two = numbers_placed done y number span s r w.column b.left quiet m
+      ∙ ap (map block_number) (filter_push_yes (spot b.left y) r.blocks c (spot_in b.left y c (omega arith) within (begins_here y span.rowspan))
+        ∙ ap (λ l. l ++ c ∷ []) alone);
+    before = before_overlap done y number span s r b.left quiet m begins }
+
