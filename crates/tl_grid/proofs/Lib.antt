@@ -4,3 +4,4 @@ pub mod Passing
 pub mod Cells
 pub mod Later
 pub mod Rows
+pub mod Groups

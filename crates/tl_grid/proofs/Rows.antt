@@ -67,7 +67,7 @@ all_push : (P : Block → Type 0) (xs : List Block) (b : Block) → P b → AllB
 all_push P [] b h a = (h, tt)
 all_push P (x ∷ xs) b h a = (a.0, all_push P xs b h a.1)
 
-all_weaken : (P Q : Block → Type 0) → ((b : Block) → P b → Q b) → (xs : List Block) → AllByRecursion P xs → AllByRecursion Q xs
+pub all_weaken : (P Q : Block → Type 0) → ((b : Block) → P b → Q b) → (xs : List Block) → AllByRecursion P xs → AllByRecursion Q xs
 all_weaken P Q f [] a = tt
 all_weaken P Q f (x ∷ xs) a = (f x a.0, all_weaken P Q f xs a.1)
 
@@ -85,7 +85,7 @@ none_between y x r w right y' p begins ge lt le =
   ∙ none_left right x y y' lt le w.ahead (chain_later y w.column right w.ahead begins p.rest)
 
 -- the walk comes to the column that the standard's steps come to
-column_found : (done : List Cell) (y : ℕ) (s : Forming) (r : Row) → AllQuiet y done → RowMatches done y s r → first_free (λ column. has_cell column s.row s.cells) r.column (s.width - r.column) ≡ (walk_of y r).column
+pub column_found : (done : List Cell) (y : ℕ) (s : Forming) (r : Row) → AllQuiet y done → RowMatches done y s r → first_free (λ column. has_cell column s.row s.cells) r.column (s.width - r.column) ≡ (walk_of y r).column
 column_found done y s r quiet m =
   let w : Walk = walk_of y r in
   let p : Passes y r.column r.passed r.ahead w = passes y r.ahead r.column r.passed m.front m.rest in
@@ -147,7 +147,7 @@ placed_cells done y number x span s bs at_row e =
   ∙ ap (λ l. done ++ l) (sym (map-append (cell_of (y + 1)) bs (block_at number x y span ∷ [])))
 
 -- one more cell that runs into no block
-row_step : (done : List Cell) (y number : ℕ) (span : SpanOf) (s : Forming) (r : Row) → AllQuiet y done → IsWide span → RowMatches done y s r → hit (walk_of y r).ahead ((walk_of y r).column + span.colspan) ≡ None → RowMatches done y (with_cell number (walk_of y r).column span s) (placed y number span r (walk_of y r))
+pub row_step : (done : List Cell) (y number : ℕ) (span : SpanOf) (s : Forming) (r : Row) → AllQuiet y done → IsWide span → RowMatches done y s r → hit (walk_of y r).ahead ((walk_of y r).column + span.colspan) ≡ None → RowMatches done y (with_cell number (walk_of y r).column span s) (placed y number span r (walk_of y r))
 row_step done y number span s r quiet wide m none =
   let w : Walk = walk_of y r in
   let p : Passes y r.column r.passed r.ahead w = passes y r.ahead r.column r.passed m.front m.rest in
@@ -174,7 +174,7 @@ row_step done y number span s r quiet wide m none =
       subst P (sym (with_cell_before number w.column span s x' y' (inl (omega arith)))) (m.past x' y' lt) }
 
 -- where the walk runs into a block, that is the first ahead
-hit_block : (y x right : ℕ) (bs : List Block) (b : Block) → BeginsAfter y x bs → hit bs right ≡ Some b → (rest : List Block) × ((bs ≡ b ∷ rest) × (reaches y b ≡ true) × (x < b.left) × (b.left < right))
+pub hit_block : (y x right : ℕ) (bs : List Block) (b : Block) → BeginsAfter y x bs → hit bs right ≡ Some b → (rest : List Block) × ((bs ≡ b ∷ rest) × (reaches y b ≡ true) × (x < b.left) × (b.left < right))
 hit_block y x right [] b begins e = cc
 hit_block y x right (c ∷ cs) b begins e =
   elim (cases_Bool (ltb c.left right)) [
@@ -190,7 +190,7 @@ pub record IsFoundIn (cells : List Cell) (first second x y : ℕ) : Type 0 where
   pub two : numbers_over x y cells ≡ first ∷ second ∷ []
   pub before : (x' y' : ℕ) → IsBefore x' y' x y → length (numbers_over x' y' cells) ≤ 1
 
-one_at_most_here : (done : List Cell) (y : ℕ) (s : Forming) (r : Row) (x : ℕ) → RowMatches done y s r → length (filter (spot x y) r.blocks) ≤ 1
+pub one_at_most_here : (done : List Cell) (y : ℕ) (s : Forming) (r : Row) (x : ℕ) → RowMatches done y s r → length (filter (spot x y) r.blocks) ≤ 1
 one_at_most_here done y s r x m =
   let P : List Block → Type 0 = λ l. length l ≤ 1 in
   let Q : List Block → Type 0 = λ l. Chain 0 l in
@@ -233,7 +233,7 @@ before_overlap done y number span s r right quiet m begins x' y' (inr (same, lef
           (rw (length-map (filter (spot x' y) r.blocks) block_number) one) ])
 
 -- a cell that runs into a block overlaps it where that begins
-row_overlap : (done : List Cell) (y number : ℕ) (span : SpanOf) (s : Forming) (r : Row) (b : Block) → AllQuiet y done → IsWide span → RowMatches done y s r → hit (walk_of y r).ahead ((walk_of y r).column + span.colspan) ≡ Some b → IsFoundIn (with_cell number (walk_of y r).column span s).cells b.number number b.left y
+pub row_overlap : (done : List Cell) (y number : ℕ) (span : SpanOf) (s : Forming) (r : Row) (b : Block) → AllQuiet y done → IsWide span → RowMatches done y s r → hit (walk_of y r).ahead ((walk_of y r).column + span.colspan) ≡ Some b → IsFoundIn (with_cell number (walk_of y r).column span s).cells b.number number b.left y
 row_overlap done y number span s r b quiet wide m found =
   let w : Walk = walk_of y r in
   let p : Passes y r.column r.passed r.ahead w = passes y r.ahead r.column r.passed m.front m.rest in
