@@ -3,6 +3,7 @@ use Rattle.std.proofs.Common.{◌≡◌, ℕ, ◌+◌, ◌-◌, ◌<◌, ◌≤�
 use Rattle.std.specs.List.{filter, list_any, AllByRecursion}
 use Rattle.std.proofs.lemmas.List.{map-append, length-map}
 use Rattle.std.proofs.lemmas.List.Elements.{filter-append}
+use Rattle.std.proofs.lemmas.Bool.{cases_lt}
 use Rattle.tl_grid.specs.declared.shape.SpanOf.{SpanOf}
 use Rattle.tl_grid.specs.declared.block.Block.{Block}
 use Rattle.tl_grid.specs.declared.error.GridError.{GridError}
@@ -14,7 +15,7 @@ use Rattle.tl_grid.proofs.Chains.{spot, Chain, ChainTo, filter_yes, filter_no, a
 use Rattle.tl_grid.proofs.Passing.{EndsWithin, passes}
 use Rattle.tl_grid.proofs.Cells.{cell_of, AllQuiet, BeginsBy, BeginsAbove, block_number, numbers_here, grown_cells, still_cells, grown_elsewhere}
 use Rattle.tl_grid.proofs.Later.{form_cells_before, form_cells_row, Later, later_rows}
-use Rattle.tl_grid.proofs.Rows.{RowMatches, IsWide, IsFoundIn, column_found, row_step, row_overlap, hit_block, all_weaken, one_at_most_here}
+use Rattle.tl_grid.proofs.Rows.{RowMatches, IsWide, IsFoundIn, EndsBy, column_found, row_step, row_overlap, hit_block, all_weaken, one_at_most_here}
 
 -- the error is the first overlap of the cells, in a row above row n
 abbrev pub FoundAbove : ℕ → List Cell → GridError → Type 0
@@ -77,3 +78,111 @@ row_gives (span ∷ spans) done y number s r quiet wide m =
   subst P (sym (column_found done y s r quiet m))
     (row_gives_step (place_cells y (number + 1) (placed y number span r w) spans) (hit w.ahead (w.column + span.colspan)) span spans done y number s r quiet wide.0 m refl
       (λ none. row_gives spans done y (number + 1) (with_cell number w.column span s) (placed y number span r w) quiet wide.1 (row_step done y number span s r quiet wide.0 m none)))
+
+-- a row group in the standard's steps and in the walk, between two rows
+pub record GroupMatches (done : List Cell) (s : Forming) (g : Group) : Type 0 where
+  pub cells : s.cells ≡ done ++ map (cell_of g.row) g.blocks
+  pub at_row : s.row ≡ g.row
+  pub high : s.height ≡ g.height
+  pub within : AllByRecursion (EndsWithin s.width) g.open_blocks
+  pub tops : AllByRecursion (BeginsAbove g.row) g.blocks
+  pub lows : AllByRecursion (EndsBy g.height) g.blocks
+  pub low : g.row ≤ g.height
+  pub same : (x' y' : ℕ) → g.row ≤ y' → filter (spot x' y') g.blocks ≡ filter (spot x' y') g.open_blocks
+  pub chain : Chain 0 (filter (reaches g.row) g.open_blocks)
+  pub past : (x' y' : ℕ) → y' < g.row → length (numbers_over x' y' s.cells) ≤ 1
+  pub quiet : AllQuiet g.row done
+
+begun_cells : (done : List Cell) (y : ℕ) (bs : List Block) → AllQuiet y done → AllByRecursion (BeginsAbove y) bs → map (grown_into y) (done ++ map (cell_of y) bs) ≡ done ++ map (cell_of (y + 1)) bs
+begun_cells done y bs quiet tops =
+  map-append (grown_into y) done (map (cell_of y) bs)
+  ∙ ap (λ l. l ++ map (grown_into y) (map (cell_of y) bs)) (still_cells y y done quiet)
+  ∙ ap (λ l. done ++ l) (grown_cells y bs tops)
+
+row_begins : (done : List Cell) (s : Forming) (g : Group) → GroupMatches done s g → RowMatches done g.row (begin_row s) (row_of g)
+row_begins done s g m =
+  let at_row : s.row ≡ g.row = m.at_row in
+  record {
+    cells = ap (λ row. map (grown_into row) s.cells) at_row ∙ ap (map (grown_into g.row)) m.cells
+      ∙ begun_cells done g.row g.blocks m.quiet m.tops;
+    at_row = at_row;
+    high = ap (λ h. max h (s.row + 1)) m.high ∙ ap (λ row. max g.height (row + 1)) at_row;
+    wide = omega arith;
+    within = m.within;
+    tops = all_weaken (BeginsAbove g.row) (BeginsBy g.row) (λ b h. omega arith) g.blocks m.tops;
+    lows = all_weaken (EndsBy g.height) (EndsBy (max g.height (g.row + 1))) (λ b h. omega arith) g.blocks m.lows;
+    low = omega arith;
+    same = m.same;
+    front = omega arith;
+    rest = m.chain;
+    past = λ x' y' lt.
+      let P : List ℕ → Type 0 = λ l. length l ≤ 1 in
+      subst P (sym (grown_elsewhere x' s.row y' (λ e. omega arith) s.cells)) (m.past x' y' lt) }
+
+quiet_on : (y z : ℕ) → y ≤ z → (cs : List Cell) → AllQuiet y cs → AllQuiet z cs
+quiet_on y z le [] q = tt
+quiet_on y z le (c ∷ cs) q =
+  (record { still = q.0.still; above = λ row h. q.0.above row (omega arith) }, quiet_on y z le cs q.1)
+
+row_ends : (done : List Cell) (y : ℕ) (s : Forming) (r : Row) → AllQuiet y done → RowMatches done y s r → GroupMatches done (next_row s) (after_row y r)
+row_ends done y s r quiet m =
+  let at_row : s.row ≡ y = m.at_row in
+  let low : y < r.height = m.low in
+  let Q : List Block → Type 0 = λ l. Chain 0 l in
+  let all_open : Chain 0 (filter (reaches y) (r.passed ++ r.ahead)) =
+    subst Q (sym (filter-append (reaches y) r.passed r.ahead))
+      (chain_append 0 r.column (filter (reaches y) r.passed) (filter (reaches y) r.ahead) m.front m.rest) in
+  record {
+    cells = m.cells;
+    at_row = ap (λ row. row + 1) at_row;
+    high = m.high;
+    within = m.within;
+    tops = all_weaken (BeginsBy y) (BeginsAbove (y + 1)) (λ b h. omega arith) r.blocks m.tops;
+    lows = m.lows;
+    low = omega arith;
+    same = λ x' y' le. m.same x' y' (omega arith);
+    chain = chain_kept 0 y (y + 1) (omega arith) (r.passed ++ r.ahead) all_open;
+    past = λ x' y' lt. elim (cases_lt y' y) [
+      inl above ↦ m.past x' y' above
+    | inr here ↦
+        let same : y' ≡ y = omega arith in
+        let P : List ℕ → Type 0 = λ l. length l ≤ 1 in
+        let one : length (filter (spot x' y) r.blocks) ≤ 1 = one_at_most_here done y s r x' m in
+        subst P (sym (ap (λ row. numbers_over x' row s.cells) same ∙ ap (numbers_over x' y) m.cells ∙ numbers_here x' y done r.blocks quiet m.tops))
+          (rw (length-map (filter (spot x' y) r.blocks) block_number) one) ];
+    quiet = quiet_on y (y + 1) (omega arith) done quiet }
+
+-- the rows of a group in the walk are the standard's, or stop at their first overlap
+abbrev pub RowsGive : List Cell → Forming → Result Group GridError → Type 0
+RowsGive done s (Ok group) = GroupMatches done s group
+RowsGive done s (Err error) = FoundAbove s.row s.cells error
+
+pub found_on : (n m : ℕ) (cs : List Cell) (e : GridError) → n ≤ m → FoundAbove n cs e → FoundAbove m cs e
+found_on n m cs (Memory e) le f = f
+found_on n m cs (TooManyCells count) le f = f
+found_on n m cs (Overlap first second x y) le f = (f.0, omega (arith, f.1))
+found_on n m cs (TooManyColumns count) le f = f
+found_on n m cs (TooManyRows count) le f = f
+
+abbrev pub AllWide : List (List SpanOf) → Type 0
+AllWide = AllByRecursion (AllByRecursion IsWide)
+
+-- the rest of the rows, after one
+rows_give_step : (result : Result Row GridError) (done : List Cell) (y number : ℕ) (s : Forming) (rows : List (List SpanOf)) → s.row ≡ y → AllQuiet y done → RowGives done y s result → ((row : Row) → RowMatches done y s row → RowsGive done (form_rows number rows (next_row s)) (place_rows number (after_row y row) rows)) → RowsGive done (form_rows number rows (next_row s)) (then_ok (λ row. place_rows number (after_row y row) rows) result)
+rows_give_step (Ok row) done y number s rows at_row quiet gives next = next row gives
+rows_give_step (Err error) done y number s rows at_row quiet gives next =
+  let last : Forming = form_rows number rows (next_row s) in
+  let later : Later (s.row + 1) (next_row s) last = later_rows rows number (next_row s) in
+  let on : s.row + 1 ≤ last.row = later.on in
+  found_on (y + 1) last.row last.cells error (omega arith)
+    (found_kept (y + 1) s.cells last.cells error (λ x' y' lt. later.numbers x' y' (omega arith)) gives)
+
+pub rows_give : (rows : List (List SpanOf)) (done : List Cell) (number : ℕ) (s : Forming) (g : Group) → AllWide rows → GroupMatches done s g → RowsGive done (form_rows number rows s) (place_rows number g rows)
+rows_give [] done number s g wide m = m
+rows_give (spans ∷ rows) done number s g wide m =
+  let at_row : s.row ≡ g.row = m.at_row in
+  rows_give_step (place_cells g.row number (row_of g) spans) done g.row (number + length spans) (form_cells number 0 spans (begin_row s)) rows
+    (form_cells_row spans number 0 (begin_row s) ∙ at_row) m.quiet
+    (row_gives spans done g.row number (begin_row s) (row_of g) m.quiet wide.0 (row_begins done s g m))
+    (λ row matches. rows_give rows done (number + length spans) (form_row number spans s) (after_row g.row row) wide.1
+      (row_ends done g.row (form_cells number 0 spans (begin_row s)) row m.quiet matches))

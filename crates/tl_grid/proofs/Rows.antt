@@ -41,6 +41,9 @@ no_hit y x right (b ∷ bs) h none =
     inl e ↦ absurd (let some' : hit (b ∷ bs) right ≡ Some b = cond-true (ltb b.left right) (Some b) None e in cc)
   | inr e ↦ (h.0, ltb-false b.left right e) ]
 
+abbrev pub EndsBy : ℕ → Block → Type 0
+EndsBy height b = b.bottom ≤ height
+
 -- a row in the standard's steps and in the walk
 pub record RowMatches (done : List Cell) (y : ℕ) (s : Forming) (r : Row) : Type 0 where
   pub cells : s.cells ≡ done ++ map (cell_of (y + 1)) r.blocks
@@ -49,6 +52,8 @@ pub record RowMatches (done : List Cell) (y : ℕ) (s : Forming) (r : Row) : Typ
   pub wide : r.column ≤ s.width
   pub within : AllByRecursion (EndsWithin s.width) (r.passed ++ r.ahead)
   pub tops : AllByRecursion (BeginsBy y) r.blocks
+  pub lows : AllByRecursion (EndsBy r.height) r.blocks
+  pub low : y < r.height
   pub same : (x' y' : ℕ) → y ≤ y' → filter (spot x' y') r.blocks ≡ filter (spot x' y') (r.passed ++ r.ahead)
   pub front : ChainTo 0 (filter (reaches y) r.passed) r.column
   pub rest : Chain r.column (filter (reaches y) r.ahead)
@@ -157,6 +162,7 @@ row_step done y number span s r quiet wide m none =
   let at_row : s.row ≡ y = m.at_row in
   let high : s.height ≡ r.height = m.high in
   let width : ℕ = max s.width right in
+  let height : ℕ = max r.height (y + first_rows span) in
   record {
     cells = placed_cells done y number w.column span s r.blocks m.at_row m.cells;
     at_row = at_row;
@@ -165,6 +171,9 @@ row_step done y number span s r quiet wide m none =
     within = all_insert (EndsWithin width) w.passed b w.ahead (omega arith)
       (all_weaken (EndsWithin s.width) (EndsWithin width) (λ c h. omega arith) (w.passed ++ w.ahead) (p.kept s.width m.within));
     tops = all_push (BeginsBy y) r.blocks b (omega arith) m.tops;
+    lows = all_push (EndsBy height) r.blocks b (omega arith)
+      (all_weaken (EndsBy r.height) (EndsBy height) (λ c h. omega arith) r.blocks m.lows);
+    low = (let h : y < r.height = m.low in omega arith);
     same = λ x' y' le. filter_insert (spot x' y') w.passed b w.ahead r.blocks (m.same x' y' le ∙ sym (p.same x' y' le))
       (λ e. none_between y x' r w right y' p begins (spot_from x' y' b e) (spot_before x' y' b e) le);
     front = push_front y w.column w.passed b (begins_here y span.rowspan) p.front (omega arith) (omega arith);

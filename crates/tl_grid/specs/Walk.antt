@@ -1,11 +1,12 @@
 -- How a row is walked from left to right over the blocks that are open above it: those that may
 -- cover it and the rows to come, by their columns. No slot is made.
-use Rattle.std.specs.Prelude.{ℕ, ◌+◌, max, Bool, ◌||◌, ◌==◌, nat_lt, nat_le, if◌then◌else◌, List, [], ◌∷◌, ◌++◌, length, Option, Some, None, Result, Ok, Err}
+use Rattle.std.specs.Prelude.{ℕ, ◌+◌, max, Bool, ◌||◌, ◌==◌, nat_lt, nat_le, not, map, false, if◌then◌else◌, List, [], ◌∷◌, ◌++◌, length, Option, Some, None, Result, Ok, Err}
 use Rattle.tl_grid.specs.declared.shape.SpanOf.{SpanOf}
 use Rattle.tl_grid.specs.declared.block.Block.{Block}
 use Rattle.tl_grid.specs.declared.error.GridError.{GridError}
 use Rattle.tl_grid.specs.declared.error.GridError.TheVariants.{Overlap}
-use Rattle.tl_grid.specs.Forming.{first_rows}
+use Rattle.tl_grid.specs.declared.shape.ShapeGroup.{ShapeGroup}
+use Rattle.tl_grid.specs.Forming.{first_rows, cells_in}
 
 -- whether a block that begins in row y or above it takes that row
 abbrev pub reaches : ℕ → Block → Bool
@@ -80,6 +81,10 @@ pub record Group : Type 0 where
   pub blocks : List Block
   pub open_blocks : List Block
 
+-- a group begins at row y, below all rows before it
+abbrev pub group_at : ℕ → Group
+group_at y = record { row = y; height = y; blocks = []; open_blocks = [] }
+
 -- the next row begins
 abbrev pub row_of : Group → Row
 row_of group = record {
@@ -103,3 +108,35 @@ place_rows number group (spans ∷ rows) =
   then_ok
     (λ row. place_rows (number + length spans) (after_row group.row row) rows)
     (place_cells group.row number (row_of group) spans)
+
+-- a block when its group ends with the table this high: it grows no more
+abbrev pub settled : ℕ → Block → Block
+settled height block = record {
+  number = block.number; left = block.left; right = block.right; top = block.top;
+  bottom = if block.grows then height else block.bottom;
+  grows = false }
+
+-- a table between two groups: the next row, and the blocks of all groups so far
+pub record Table : Type 0 where
+  pub row : ℕ
+  pub blocks : List Block
+
+abbrev pub after_group : Table → Group → Table
+after_group table group = record {
+  row = group.height; blocks = table.blocks ++ map (settled group.height) group.blocks }
+
+-- the groups whose turn it is, one after another; `number` is that of the first cell of them all
+abbrev pub place_groups : (ShapeGroup → Bool) → ℕ → Table → List ShapeGroup → Result Table GridError
+place_groups turn number table [] = Ok table
+place_groups turn number table (group ∷ groups) =
+  if turn group
+    then then_ok
+      (λ placed. place_groups turn (number + cells_in group.rows) (after_group table placed) groups)
+      (place_rows number (group_at table.row) group.rows)
+    else place_groups turn (number + cells_in group.rows) table groups
+
+-- all groups, the feet last
+abbrev pub place_all : List ShapeGroup → Result Table GridError
+place_all groups =
+  then_ok (λ table. place_groups (λ group. group.foot) 0 table groups)
+    (place_groups (λ group. not group.foot) 0 (record { row = 0; blocks = [] }) groups)
