@@ -15,7 +15,7 @@ use Rattle.tl_grid.proofs.Chains.{spot, Chain, ChainTo, filter_yes, filter_no, a
 use Rattle.tl_grid.proofs.Passing.{EndsWithin, passes}
 use Rattle.tl_grid.proofs.Cells.{cell_of, AllQuiet, BeginsBy, BeginsAbove, block_number, numbers_here, grown_cells, still_cells, grown_elsewhere}
 use Rattle.tl_grid.proofs.Later.{form_cells_before, form_cells_row, Later, later_rows}
-use Rattle.tl_grid.proofs.Rows.{RowMatches, IsWide, IsFoundIn, EndsBy, column_found, row_step, row_overlap, hit_block, all_weaken, one_at_most_here}
+use Rattle.tl_grid.proofs.Rows.{RowMatches, IsWide, IsFoundIn, IsSound, sound_on, column_found, row_step, row_overlap, hit_block, all_weaken, one_at_most_here}
 
 -- the error is the first overlap of the cells, in a row above row n
 abbrev pub FoundAbove : ℕ → List Cell → GridError → Type 0
@@ -86,7 +86,7 @@ pub record GroupMatches (done : List Cell) (s : Forming) (g : Group) : Type 0 wh
   pub high : s.height ≡ g.height
   pub within : AllByRecursion (EndsWithin s.width) g.open_blocks
   pub tops : AllByRecursion (BeginsAbove g.row) g.blocks
-  pub lows : AllByRecursion (EndsBy g.height) g.blocks
+  pub sound : AllByRecursion (IsSound s.width g.height) g.blocks
   pub low : g.row ≤ g.height
   pub same : (x' y' : ℕ) → g.row ≤ y' → filter (spot x' y') g.blocks ≡ filter (spot x' y') g.open_blocks
   pub chain : Chain 0 (filter (reaches g.row) g.open_blocks)
@@ -110,7 +110,8 @@ row_begins done s g m =
     wide = omega arith;
     within = m.within;
     tops = all_weaken (BeginsAbove g.row) (BeginsBy g.row) (λ b h. omega arith) g.blocks m.tops;
-    lows = all_weaken (EndsBy g.height) (EndsBy (max g.height (g.row + 1))) (λ b h. omega arith) g.blocks m.lows;
+    sound = all_weaken (IsSound s.width g.height) (IsSound s.width (max g.height (g.row + 1)))
+      (sound_on s.width s.width g.height (max g.height (g.row + 1)) (omega arith) (omega arith)) g.blocks m.sound;
     low = omega arith;
     same = m.same;
     front = omega arith;
@@ -119,7 +120,7 @@ row_begins done s g m =
       let P : List ℕ → Type 0 = λ l. length l ≤ 1 in
       subst P (sym (grown_elsewhere x' s.row y' (λ e. omega arith) s.cells)) (m.past x' y' lt) }
 
-quiet_on : (y z : ℕ) → y ≤ z → (cs : List Cell) → AllQuiet y cs → AllQuiet z cs
+pub quiet_on : (y z : ℕ) → y ≤ z → (cs : List Cell) → AllQuiet y cs → AllQuiet z cs
 quiet_on y z le [] q = tt
 quiet_on y z le (c ∷ cs) q =
   (record { still = q.0.still; above = λ row h. q.0.above row (omega arith) }, quiet_on y z le cs q.1)
@@ -138,7 +139,7 @@ row_ends done y s r quiet m =
     high = m.high;
     within = m.within;
     tops = all_weaken (BeginsBy y) (BeginsAbove (y + 1)) (λ b h. omega arith) r.blocks m.tops;
-    lows = m.lows;
+    sound = m.sound;
     low = omega arith;
     same = λ x' y' le. m.same x' y' (omega arith);
     chain = chain_kept 0 y (y + 1) (omega arith) (r.passed ++ r.ahead) all_open;

@@ -5,3 +5,4 @@ pub mod Cells
 pub mod Later
 pub mod Rows
 pub mod Groups
+pub mod Tables

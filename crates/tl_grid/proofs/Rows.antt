@@ -41,8 +41,12 @@ no_hit y x right (b ∷ bs) h none =
     inl e ↦ absurd (let some' : hit (b ∷ bs) right ≡ Some b = cond-true (ltb b.left right) (Some b) None e in cc)
   | inr e ↦ (h.0, ltb-false b.left right e) ]
 
-abbrev pub EndsBy : ℕ → Block → Type 0
-EndsBy height b = b.bottom ≤ height
+-- a block has a slot, and lies within the table's width and height
+abbrev pub IsSound : ℕ → ℕ → Block → Type 0
+IsSound width height b = (b.left < b.right) × (b.right ≤ width) × (b.top < b.bottom) × (b.bottom ≤ height)
+
+pub sound_on : (w w' h h' : ℕ) → w ≤ w' → h ≤ h' → (b : Block) → IsSound w h b → IsSound w' h' b
+sound_on w w' h h' wide high b s = (s.0, omega (arith, s.1), s.2, omega (arith, s.3))
 
 -- a row in the standard's steps and in the walk
 pub record RowMatches (done : List Cell) (y : ℕ) (s : Forming) (r : Row) : Type 0 where
@@ -52,7 +56,7 @@ pub record RowMatches (done : List Cell) (y : ℕ) (s : Forming) (r : Row) : Typ
   pub wide : r.column ≤ s.width
   pub within : AllByRecursion (EndsWithin s.width) (r.passed ++ r.ahead)
   pub tops : AllByRecursion (BeginsBy y) r.blocks
-  pub lows : AllByRecursion (EndsBy r.height) r.blocks
+  pub sound : AllByRecursion (IsSound s.width r.height) r.blocks
   pub low : y < r.height
   pub same : (x' y' : ℕ) → y ≤ y' → filter (spot x' y') r.blocks ≡ filter (spot x' y') (r.passed ++ r.ahead)
   pub front : ChainTo 0 (filter (reaches y) r.passed) r.column
@@ -142,6 +146,12 @@ begins_here y n =
       or_right (eqb n 0) (ltb y (y + cond (eqb n 0) 1 n))
         (ap (λ t. ltb y (y + cond t 1 n)) (ne_eqb n 0 ne) ∙ lt-ltb y (y + n) (omega arith)) ]
 
+rows_some : (y n : ℕ) → y < y + cond (eqb n 0) 1 n
+rows_some y n =
+  elim (cases_eq n 0) [
+    inl e ↦ (let t : eqb n 0 ≡ true = eq-eqb n 0 e in rw t (omega arith))
+  | inr ne ↦ (let t : eqb n 0 ≡ false = ne_eqb n 0 ne in rw t (omega arith)) ]
+
 -- the cells after one more
 placed_cells : (done : List Cell) (y number x : ℕ) (span : SpanOf) (s : Forming) (bs : List Block) → s.row ≡ y → s.cells ≡ done ++ map (cell_of (y + 1)) bs → (with_cell number x span s).cells ≡ done ++ map (cell_of (y + 1)) (bs ++ block_at number x y span ∷ [])
 placed_cells done y number x span s bs at_row e =
@@ -171,8 +181,10 @@ row_step done y number span s r quiet wide m none =
     within = all_insert (EndsWithin width) w.passed b w.ahead (omega arith)
       (all_weaken (EndsWithin s.width) (EndsWithin width) (λ c h. omega arith) (w.passed ++ w.ahead) (p.kept s.width m.within));
     tops = all_push (BeginsBy y) r.blocks b (omega arith) m.tops;
-    lows = all_push (EndsBy height) r.blocks b (omega arith)
-      (all_weaken (EndsBy r.height) (EndsBy height) (λ c h. omega arith) r.blocks m.lows);
+    sound = all_push (IsSound width height) r.blocks b
+      (omega arith, omega arith, rows_some y span.rowspan, omega arith)
+      (all_weaken (IsSound s.width r.height) (IsSound width height)
+        (sound_on s.width width r.height height (omega arith) (omega arith)) r.blocks m.sound);
     low = (let h : y < r.height = m.low in omega arith);
     same = λ x' y' le. filter_insert (spot x' y') w.passed b w.ahead r.blocks (m.same x' y' le ∙ sym (p.same x' y' le))
       (λ e. none_between y x' r w right y' p begins (spot_from x' y' b e) (spot_before x' y' b e) le);
