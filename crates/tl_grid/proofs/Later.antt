@@ -16,15 +16,17 @@ pub record Later (y : ℕ) (s t : Forming) : Type 0 where
   pub numbers : (x' y' : ℕ) → y' < y → numbers_over x' y' t.cells ≡ numbers_over x' y' s.cells
   pub anchors : (y' : ℕ) → y' < y → keeps_row t.cells y' ≡ keeps_row s.cells y'
   pub on : s.row ≤ t.row
+  pub wider : s.width ≤ t.width
 
 pub later_same : (s : Forming) → Later s.row s s
-later_same s = record { numbers = λ x' y' lt. refl; anchors = λ y' lt. refl; on = omega arith }
+later_same s = record { numbers = λ x' y' lt. refl; anchors = λ y' lt. refl; on = omega arith; wider = omega arith }
 
 pub later_then : (y z : ℕ) (s t u : Forming) → y ≤ z → Later y s t → Later z t u → Later y s u
 later_then y z s t u le a b = record {
   numbers = λ x' y' lt. b.numbers x' y' (omega arith) ∙ a.numbers x' y' lt;
   anchors = λ y' lt. b.anchors y' (omega arith) ∙ a.anchors y' lt;
-  on = (let h : s.row ≤ t.row = a.on in let k : t.row ≤ u.row = b.on in omega arith) }
+  on = (let h : s.row ≤ t.row = a.on in let k : t.row ≤ u.row = b.on in omega arith);
+  wider = (let h : s.width ≤ t.width = a.wider in let k : t.width ≤ u.width = b.wider in omega arith) }
 
 -- a cell of row y covers no slot above it, and none further left
 misses : (number x y : ℕ) (span : SpanOf) (x' y' : ℕ) → IsBefore x' y' x y → covers x' y' (cell_at number x y span) ≡ false
@@ -71,11 +73,20 @@ form_cells_anchors (span ∷ spans) number x s y' lt =
   ∙ ap (λ t. keeps_row s.cells y' || (t || false)) (ne_eqb s.row y' (λ e. omega arith))
   ∙ or_false (keeps_row s.cells y')
 
+form_cells_width : (spans : List SpanOf) (number x : ℕ) (s : Forming) → s.width ≤ (form_cells number x spans s).width
+form_cells_width [] number x s = omega arith
+form_cells_width (span ∷ spans) number x s =
+  let at : ℕ = first_free (λ column. has_cell column s.row s.cells) x (s.width - x) in
+  let rest : max s.width (at + span.colspan) ≤ (form_cells (number + 1) (at + span.colspan) spans (with_cell number at span s)).width =
+    form_cells_width spans (number + 1) (at + span.colspan) (with_cell number at span s) in
+  omega arith
+
 later_cells : (spans : List SpanOf) (number x : ℕ) (s : Forming) → Later s.row s (form_cells number x spans s)
 later_cells spans number x s = record {
   numbers = λ x' y' lt. form_cells_before spans number x s x' y' (inl lt);
   anchors = form_cells_anchors spans number x s;
-  on = (let e : (form_cells number x spans s).row ≡ s.row = form_cells_row spans number x s in omega arith) }
+  on = (let e : (form_cells number x spans s).row ≡ s.row = form_cells_row spans number x s in omega arith);
+  wider = form_cells_width spans number x s }
 
 -- anchors stay where cells are changed one by one
 pub anchors-map : (f : Cell → Cell) → ((c : Cell) → (f c).top ≡ c.top) → (cs : List Cell) (y : ℕ) → keeps_row (map f cs) y ≡ keeps_row cs y
@@ -87,10 +98,10 @@ later_begin : (s : Forming) → Later s.row s (begin_row s)
 later_begin s = record {
   numbers = λ x' y' lt. grown_elsewhere x' s.row y' (λ e. omega arith) s.cells;
   anchors = λ y' lt. anchors-map (grown_into s.row) (λ c. refl) s.cells y';
-  on = omega arith }
+  on = omega arith; wider = omega arith }
 
 later_next : (s : Forming) → Later s.row s (next_row s)
-later_next s = record { numbers = λ x' y' lt. refl; anchors = λ y' lt. refl; on = omega arith }
+later_next s = record { numbers = λ x' y' lt. refl; anchors = λ y' lt. refl; on = omega arith; wider = omega arith }
 
 pub later_row : (number : ℕ) (spans : List SpanOf) (s : Forming) → Later s.row s (form_row number spans s)
 later_row number spans s =
@@ -128,7 +139,7 @@ pub later_end : (s : Forming) → Later s.row s (end_group s)
 later_end s = record {
   numbers = λ x' y' lt. ended_elsewhere x' s.row s.height y' (omega arith) s.cells;
   anchors = λ y' lt. anchors-map (at_group_end s.row s.height) (λ c. refl) s.cells y';
-  on = omega arith }
+  on = omega arith; wider = omega arith }
 
 pub later_group : (number : ℕ) (rows : List (List SpanOf)) (s : Forming) → Later s.row s (form_group number rows s)
 later_group number rows s =

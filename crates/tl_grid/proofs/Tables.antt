@@ -7,12 +7,13 @@ use Rattle.std.proofs.lemmas.Simd.{map-map}
 use Rattle.std.proofs.lemmas.List.Folds.{list_any-append}
 use Rattle.tl_grid.specs.declared.shape.SpanOf.{SpanOf}
 use Rattle.tl_grid.specs.declared.shape.ShapeGroup.{ShapeGroup}
+use Rattle.tl_grid.specs.declared.shape.Shape.{Shape}
 use Rattle.tl_grid.specs.declared.block.Block.{Block}
 use Rattle.tl_grid.specs.declared.error.GridError.{GridError}
-use Rattle.tl_grid.specs.Forming.{Cell, Forming, covers, form_rows, at_group_end, end_group, form_group, form_groups, cells_in}
+use Rattle.tl_grid.specs.Forming.{Cell, Forming, covers, form_rows, at_group_end, end_group, form_group, form_groups, cells_in, no_cells, formed}
 use Rattle.tl_grid.specs.Overlap.{numbers_over, IsBefore}
 use Rattle.tl_grid.specs.Dropping.{keeps_row}
-use Rattle.tl_grid.specs.Walk.{reaches, Group, group_at, then_ok, place_rows, settled, Table, after_group, place_groups}
+use Rattle.tl_grid.specs.Walk.{reaches, Group, group_at, then_ok, place_rows, settled, Table, after_group, place_groups, place_all}
 use Rattle.tl_grid.proofs.Chains.{spot, Chain, spot_in, filter_yes, filter_no, at_most_one}
 use Rattle.tl_grid.proofs.Cells.{cell_of, IsQuiet, AllQuiet, BeginsAbove, number_of, block_number, or_false, numbers-append, quiet_none}
 use Rattle.tl_grid.proofs.Later.{Later, later_rows, later_end, later_groups, anchors-map, ended_elsewhere}
@@ -207,13 +208,15 @@ anchors-append : (cs ds : List Cell) (y : ℕ) → keeps_row (cs ++ ds) y ≡ (k
 anchors-append cs ds y = list_any-append (λ (c : Cell). eqb c.top y) cs ds
 
 -- a group that is formed: from `s` on by the standard, from `t` on in the walk
-pub group_ends : (s last : Forming) (t : Table) (g : Group) → TableMatches s t → Later s.row s last → s.width ≤ last.width → t.row ≤ g.row → GroupMatches s.cells last g → TableMatches (end_group last) (after_group t g)
-group_ends s last t g before later wider from m =
+pub group_ends : (s last : Forming) (t : Table) (g : Group) → TableMatches s t → Later s.row s last → GroupMatches s.cells last g → TableMatches (end_group last) (after_group t g)
+group_ends s last t g before later m =
   let at_row : last.row ≡ g.row = m.at_row in
   let high : last.height ≡ g.height = m.high in
   let low : g.row ≤ g.height = m.low in
   let start : s.row ≡ t.row = before.at_row in
   let level : s.row ≡ s.height = before.level in
+  let wider : s.width ≤ last.width = later.wider in
+  let on : s.row ≤ last.row = later.on in
   let cells = ended_cells s.cells last g m in
   let ended : List Cell = map (ended_cell g.row g.height) g.blocks in
   let C : List Cell → Type 0 = λ cs. AllQuiet (end_group last).row cs in
@@ -238,10 +241,103 @@ group_ends s last t g before later wider from m =
       ap (map (mask keeps)) cells ∙ map-append (mask keeps) s.cells ended
       ∙ ap (λ l. l ++ map (mask keeps) ended)
           (before.pairs keeps (λ y lt.
-            let on : s.row ≤ last.row = later.on in
             same y (omega arith) ∙ anchors-map (at_group_end last.row last.height) (λ c. refl) last.cells y ∙ later.anchors y lt))
       ∙ ap (λ l. map (mask keeps) (map whole t.blocks) ++ l)
           (masked_all keeps g.row g.height g.blocks low m.tops
             (λ lt. same g.row (omega arith) ∙ ap (λ cs. keeps_row cs g.row) cells ∙ no_anchors g.row (omega arith)))
       ∙ sym (ap (map (mask keeps)) (map-append whole t.blocks (map (settled g.height) g.blocks))
              ∙ map-append (mask keeps) (map whole t.blocks) (map whole (map (settled g.height) g.blocks))) }
+
+-- a group begins
+group_begins : (s : Forming) (t : Table) → TableMatches s t → GroupMatches s.cells s (group_at t.row)
+group_begins s t m =
+  let at_row : s.row ≡ t.row = m.at_row in
+  let level : s.row ≡ s.height = m.level in
+  record {
+    cells = sym (append-nil s.cells);
+    at_row = at_row;
+    high = omega arith;
+    within = tt; tops = tt; sound = tt;
+    low = omega arith;
+    same = λ x' y' le. refl;
+    chain = tt;
+    past = λ x' y' lt. m.one x' y';
+    quiet = quiet_on s.row t.row (omega arith) s.cells m.quiet }
+
+-- the error is the first overlap of the cells
+abbrev pub IsFound : Forming → GridError → Type 0
+IsFound s error = FoundAbove s.row s.cells error
+
+abbrev pub TableGives : Forming → Result Table GridError → Type 0
+TableGives s (Ok table) = TableMatches s table
+TableGives s (Err error) = IsFound s error
+
+abbrev pub GroupGives : Forming → Forming → Table → Result Group GridError → Type 0
+GroupGives s last t (Ok group) = TableMatches (end_group last) (after_group t group)
+GroupGives s last t (Err error) = IsFound (end_group last) error
+
+-- an error stays what it is while the standard goes on
+found_later : (s t : Forming) (error : GridError) → Later s.row s t → IsFound s error → IsFound t error
+found_later s t error later found =
+  found_on s.row t.row t.cells error later.on
+    (found_kept s.row s.cells t.cells error later.numbers found)
+
+group_gives_from : (result : Result Group GridError) (s last : Forming) (t : Table) → TableMatches s t → Later s.row s last → RowsGive s.cells last result → GroupGives s last t result
+group_gives_from (Ok group) s last t m later gives = group_ends s last t group m later gives
+group_gives_from (Err error) s last t m later gives = found_later last (end_group last) error (later_end last) gives
+
+group_gives : (number : ℕ) (rows : List (List SpanOf)) (s : Forming) (t : Table) → AllWide rows → TableMatches s t → GroupGives s (form_rows number rows s) t (place_rows number (group_at t.row) rows)
+group_gives number rows s t wide m =
+  group_gives_from (place_rows number (group_at t.row) rows) s (form_rows number rows s) t m (later_rows rows number s)
+    (rows_give rows s.cells number s (group_at t.row) wide (group_begins s t m))
+
+abbrev pub GroupWide : ShapeGroup → Type 0
+GroupWide group = AllWide group.rows
+
+-- the rest of the groups, after one
+groups_give_step : (result : Result Group GridError) (turn : ShapeGroup → Bool) (number : ℕ) (s last : Forming) (t : Table) (groups : List ShapeGroup) → GroupGives s last t result → ((u : Table) → TableMatches (end_group last) u → TableGives (form_groups turn number groups (end_group last)) (place_groups turn number u groups)) → TableGives (form_groups turn number groups (end_group last)) (then_ok (λ group. place_groups turn number (after_group t group) groups) result)
+groups_give_step (Ok group) turn number s last t groups gives next = next (after_group t group) gives
+groups_give_step (Err error) turn number s last t groups gives next =
+  found_later (end_group last) (form_groups turn number groups (end_group last)) error (later_groups turn groups number (end_group last)) gives
+
+pub groups_give : (turn : ShapeGroup → Bool) (groups : List ShapeGroup) (number : ℕ) (s : Forming) (t : Table) → AllByRecursion GroupWide groups → TableMatches s t → TableGives (form_groups turn number groups s) (place_groups turn number t groups)
+groups_give turn [] number s t wide m = m
+groups_give turn (group ∷ groups) number s t wide m =
+  let rest : ℕ = number + cells_in group.rows in
+  let last : Forming = form_rows number group.rows s in
+  let walked : Result Table GridError =
+    then_ok (λ g. place_groups turn rest (after_group t g) groups) (place_rows number (group_at t.row) group.rows) in
+  elim (cases_Bool (turn group)) [
+    inl e ↦
+      let P : Forming → Type 0 = λ u. TableGives (form_groups turn rest groups u) (place_groups turn number t (group ∷ groups)) in
+      let Q : Result Table GridError → Type 0 = λ r. TableGives (form_groups turn rest groups (end_group last)) r in
+      subst P (sym (cond-true (turn group) (form_group number group.rows s) s e))
+        (subst Q (sym (cond-true (turn group) walked (place_groups turn rest t groups) e))
+          (groups_give_step (place_rows number (group_at t.row) group.rows) turn rest s last t groups
+            (group_gives number group.rows s t wide.0 m)
+            (λ u matches. groups_give turn groups rest (end_group last) u wide.1 matches)))
+  | inr e ↦
+      let P : Forming → Type 0 = λ u. TableGives (form_groups turn rest groups u) (place_groups turn number t (group ∷ groups)) in
+      let Q : Result Table GridError → Type 0 = λ r. TableGives (form_groups turn rest groups s) r in
+      subst P (sym (cond-false (turn group) (form_group number group.rows s) s e))
+        (subst Q (sym (cond-false (turn group) walked (place_groups turn rest t groups) e))
+          (groups_give turn groups rest s t wide.1 m)) ]
+
+-- a table without cells
+none_yet : (columns : ℕ) → TableMatches (no_cells columns) record { row = 0; blocks = [] }
+none_yet columns = record {
+  level = refl; at_row = refl; quiet = tt; one = λ x y. omega arith; anchors = λ y le. refl;
+  sound = tt; pairs = λ keeps same. refl }
+
+-- the feet, after all others
+feet_give : (result : Result Table GridError) (groups : List ShapeGroup) (s : Forming) → AllByRecursion GroupWide groups → TableGives s result → TableGives (form_groups (λ group. group.foot) 0 groups s) (then_ok (λ table. place_groups (λ group. group.foot) 0 table groups) result)
+feet_give (Ok table) groups s wide m = groups_give (λ group. group.foot) groups 0 s table wide m
+feet_give (Err error) groups s wide found =
+  found_later s (form_groups (λ group. group.foot) 0 groups s) error (later_groups (λ group. group.foot) groups 0 s) found
+
+-- the walk over the whole table gives the standard's cells, or the first overlap
+pub all_give : (shape : Shape) → AllByRecursion GroupWide shape.groups → TableGives (formed shape) (place_all shape.groups)
+all_give shape wide =
+  feet_give (place_groups (λ group. not group.foot) 0 (record { row = 0; blocks = [] }) shape.groups) shape.groups
+    (form_groups (λ group. not group.foot) 0 shape.groups (no_cells shape.columns)) wide
+    (groups_give (λ group. not group.foot) shape.groups 0 (no_cells shape.columns) record { row = 0; blocks = [] } wide (none_yet shape.columns))
