@@ -2,3 +2,4 @@ pub mod Forming
 pub mod Overlap
 pub mod Dropping
 pub mod Walk
+pub mod Answers

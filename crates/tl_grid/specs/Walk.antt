@@ -140,3 +140,9 @@ abbrev pub place_all : List ShapeGroup → Result Table GridError
 place_all groups =
   then_ok (λ table. place_groups (λ group. group.foot) 0 table groups)
     (place_groups (λ group. not group.foot) 0 (record { row = 0; blocks = [] }) groups)
+
+-- one cell of a row
+abbrev pub place_cell : ℕ → ℕ → Row → SpanOf → Result Row GridError
+place_cell y number row span =
+  unless_hit (hit (walk_of y row).ahead ((walk_of y row).column + span.colspan)) number y
+    (Ok (placed y number span row (walk_of y row)))

@@ -6,6 +6,7 @@
 
 mod block;
 mod error;
+mod row;
 mod shape;
 
 pub use error::GridError;
