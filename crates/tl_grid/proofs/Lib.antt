@@ -1,6 +1,7 @@
 mod Examples
 pub mod Chains
 pub mod Passing
+pub mod Bounds
 pub mod Cells
 pub mod Later
 pub mod Rows

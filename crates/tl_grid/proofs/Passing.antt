@@ -38,13 +38,13 @@ pub record Passes (y x : ℕ) (passed ahead : List Block) (w : Walk) : Type 0 wh
   pub within : (width : ℕ) → x ≤ width → AllByRecursion (EndsWithin width) ahead → w.column ≤ width
   pub kept : (width : ℕ) → AllByRecursion (EndsWithin width) (passed ++ ahead) → AllByRecursion (EndsWithin width) (w.passed ++ w.ahead)
 
-pass_on : (y x : ℕ) (ps : List Block) (b : Block) (bs : List Block) → reaches y b ≡ true → leb b.left x ≡ true → pass_taken y x ps (b ∷ bs) ≡ pass_taken y b.right (ps ++ b ∷ []) bs
+pub pass_on : (y x : ℕ) (ps : List Block) (b : Block) (bs : List Block) → reaches y b ≡ true → leb b.left x ≡ true → pass_taken y x ps (b ∷ bs) ≡ pass_taken y b.right (ps ++ b ∷ []) bs
 pass_on y x ps b bs e f = cond-true (reaches y b) _ _ e ∙ cond-true (leb b.left x) _ _ f
 
-pass_stop : (y x : ℕ) (ps : List Block) (b : Block) (bs : List Block) → reaches y b ≡ true → leb b.left x ≡ false → pass_taken y x ps (b ∷ bs) ≡ record { column = x; passed = ps; ahead = b ∷ bs }
+pub pass_stop : (y x : ℕ) (ps : List Block) (b : Block) (bs : List Block) → reaches y b ≡ true → leb b.left x ≡ false → pass_taken y x ps (b ∷ bs) ≡ record { column = x; passed = ps; ahead = b ∷ bs }
 pass_stop y x ps b bs e f = cond-true (reaches y b) _ _ e ∙ cond-false (leb b.left x) _ _ f
 
-pass_ended : (y x : ℕ) (ps : List Block) (b : Block) (bs : List Block) → reaches y b ≡ false → pass_taken y x ps (b ∷ bs) ≡ pass_taken y x ps bs
+pub pass_ended : (y x : ℕ) (ps : List Block) (b : Block) (bs : List Block) → reaches y b ≡ false → pass_taken y x ps (b ∷ bs) ≡ pass_taken y x ps bs
 pass_ended y x ps b bs e = cond-false (reaches y b) _ _ e
 
 -- a filter keeps one element in the middle
@@ -59,7 +59,7 @@ filter_mid : (p : Block → Bool) (xs : List Block) (b : Block) (ys : List Block
 filter_mid p xs b ys e =
   filter-append p xs (b ∷ ys) ∙ ap (λ l. filter p xs ++ l) (filter_no p b ys e) ∙ sym (filter-append p xs ys)
 
-all_mid : (P : Block → Type 0) (xs : List Block) (b : Block) (ys : List Block) → AllByRecursion P (xs ++ b ∷ ys) → AllByRecursion P (xs ++ ys)
+pub all_mid : (P : Block → Type 0) (xs : List Block) (b : Block) (ys : List Block) → AllByRecursion P (xs ++ b ∷ ys) → AllByRecursion P (xs ++ ys)
 all_mid P [] b ys a = a.1
 all_mid P (x ∷ xs) b ys a = (a.0, all_mid P xs b ys a.1)
 

@@ -1,6 +1,6 @@
-ghost use Rattle.std.specs.Prelude.{◌≡◌, ◌+◌, ◌*◌, ◌<◌, ◌≤◌, ◌^◌, IfOk, max, drop, IsTrue, ◌↔◌};
-ghost use Rattle.tl_grid.specs.Walk.{reaches, pass_taken, place_cell};
-ghost use Rattle.tl_grid.specs.Answers.{walk_over, row_over, IsAnswer, IsPassed, IsSpan, StaysWithin};
+ghost use Rattle.std.specs.Prelude.{◌≡◌, ◌+◌, ◌*◌, ◌<◌, ◌≤◌, ◌^◌, IfOk, max, drop};
+ghost use Rattle.tl_grid.specs.Walk.{reaches, pass_taken, block_at, hit, place_cell};
+ghost use Rattle.tl_grid.specs.Answers.{row_over, IsAnswer, IsPassed, IsSpan, StaysWithin};
 
 use crate::block::Block;
 use crate::error::GridError;
@@ -52,4 +52,72 @@ fn pass_open(row: u32, above: &[Block], mut cursor: Cursor) -> Result<Cursor, Gr
         cursor.at += 1;
     }
     Ok(cursor)
+}
+
+/// The block of a cell that begins in column `column` of row `row`.
+fn block_of(number: u32, column: u32, row: u32, span: SpanOf) -> Block
+    requires span { IsSpan span }
+    requires column { column + 1000 < 2 ^ 32 }
+    requires row { row + 65534 < 2 ^ 32 }
+    ensures { result ≡ block_at number column row span }
+{
+    let rows = if span.rowspan == 0 { 1 } else { span.rowspan };
+    Block {
+        number,
+        left: column,
+        right: column + span.colspan,
+        top: row,
+        bottom: row + rows,
+        grows: span.rowspan == 0,
+    }
+}
+
+/// The first of the blocks from `at` on, if it begins before the column `right`.
+fn first_hit(above: &[Block], at: usize, right: u32) -> Option<Block>
+    ensures { result ≡ hit (drop at above.now) right }
+{
+    let block = *above.get(at)?;
+    if block.left < right { Some(block) } else { None }
+}
+
+/// Forms the cell `number`, the next one of row `y`. It overlaps the first block after the cursor if
+/// it runs into it.
+fn form_cell(
+    y: u32,
+    number: u32,
+    span: SpanOf,
+    above: &[Block],
+    row: RowState,
+) -> Result<RowState, GridError>
+    requires span { IsSpan span }
+    requires number { number < 20000 }
+    requires row { y + 65534 < 2 ^ 32 }
+    requires columns { StaysWithin (1000 * number) (row_over above.now row) }
+    ensures cell { IsAnswer (row_over above.now) (place_cell y number (row_over above.now row) span) result }
+    ensures columns { IfOk result (λ after. StaysWithin (1000 * (number + 1)) (row_over above.now after)) }
+    ensures height { IfOk result (λ after. after.height ≤ max row.height (y + 65534)) }
+{
+    let RowState {
+        cursor,
+        height,
+        mut blocks,
+    } = row;
+    let mut cursor = pass_open(y, above, cursor)?;
+    let block = block_of(number, cursor.column, y, span);
+    if let Some(hit) = first_hit(above, cursor.at, block.right) {
+        return Err(GridError::Overlap {
+            first: hit.number,
+            second: number,
+            x: hit.left,
+            y,
+        });
+    }
+    cursor.column = block.right;
+    cursor.passed.push(block)?;
+    blocks.push(block)?;
+    Ok(RowState {
+        cursor,
+        height: height.max(block.bottom),
+        blocks,
+    })
 }
