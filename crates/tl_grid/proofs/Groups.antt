@@ -10,7 +10,8 @@ use Rattle.tl_grid.specs.declared.error.GridError.{GridError}
 use Rattle.tl_grid.specs.declared.error.GridError.TheVariants.{Memory, TooManyCells, Overlap, TooManyColumns, TooManyRows}
 use Rattle.tl_grid.specs.Forming.{Cell, Forming, covers, has_cell, first_free, first_rows, cell_at, with_cell, form_cells, begin_row, next_row, form_row, form_rows, grown_into, at_group_end, end_group, form_group}
 use Rattle.tl_grid.specs.Overlap.{numbers_over, IsBefore}
-use Rattle.tl_grid.specs.Walk.{reaches, Walk, block_at, hit, Row, placed, walk_of, unless_hit, place_cells, Group, row_of, after_row, then_ok, place_rows}
+use Rattle.tl_grid.specs.declared.group.Group.{Group}
+use Rattle.tl_grid.specs.Walk.{reaches, Walk, block_at, hit, Row, placed, walk_of, unless_hit, place_cells, row_of, after_row, then_ok, place_rows}
 use Rattle.tl_grid.proofs.Chains.{spot, Chain, ChainTo, filter_yes, filter_no, at_most_one, chain_append, chain_kept}
 use Rattle.tl_grid.proofs.Passing.{EndsWithin, passes}
 use Rattle.tl_grid.proofs.Cells.{cell_of, AllQuiet, BeginsBy, BeginsAbove, block_number, numbers_here, grown_cells, still_cells, grown_elsewhere}

@@ -2,6 +2,7 @@ mod Examples
 pub mod Chains
 pub mod Passing
 pub mod Bounds
+pub mod Steps
 pub mod Cells
 pub mod Later
 pub mod Rows

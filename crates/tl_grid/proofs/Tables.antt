@@ -13,7 +13,9 @@ use Rattle.tl_grid.specs.declared.error.GridError.{GridError}
 use Rattle.tl_grid.specs.Forming.{Cell, Forming, covers, form_rows, at_group_end, end_group, form_group, form_groups, cells_in, no_cells, formed}
 use Rattle.tl_grid.specs.Overlap.{numbers_over, IsBefore}
 use Rattle.tl_grid.specs.Dropping.{keeps_row}
-use Rattle.tl_grid.specs.Walk.{reaches, Group, group_at, then_ok, place_rows, settled, Table, after_group, place_groups, place_all}
+use Rattle.tl_grid.specs.declared.group.Group.{Group}
+use Rattle.tl_grid.specs.declared.table.Table.{Table}
+use Rattle.tl_grid.specs.Walk.{reaches, group_at, then_ok, place_rows, settled, after_group, place_groups, place_all}
 use Rattle.tl_grid.proofs.Chains.{spot, Chain, spot_in, filter_yes, filter_no, at_most_one}
 use Rattle.tl_grid.proofs.Cells.{cell_of, IsQuiet, AllQuiet, BeginsAbove, number_of, block_number, or_false, numbers-append, quiet_none}
 use Rattle.tl_grid.proofs.Later.{Later, later_rows, later_end, later_groups, anchors-map, ended_elsewhere}

@@ -3,6 +3,8 @@
 use Rattle.std.specs.Prelude.{ℕ, ◌+◌, max, Bool, ◌||◌, ◌==◌, nat_lt, nat_le, not, map, false, if◌then◌else◌, List, [], ◌∷◌, ◌++◌, length, Option, Some, None, Result, Ok, Err}
 use Rattle.tl_grid.specs.declared.shape.SpanOf.{SpanOf}
 use Rattle.tl_grid.specs.declared.block.Block.{Block}
+use Rattle.tl_grid.specs.declared.group.Group.{Group}
+use Rattle.tl_grid.specs.declared.table.Table.{Table}
 use Rattle.tl_grid.specs.declared.error.GridError.{GridError}
 use Rattle.tl_grid.specs.declared.error.GridError.TheVariants.{Overlap}
 use Rattle.tl_grid.specs.declared.shape.ShapeGroup.{ShapeGroup}
@@ -74,13 +76,6 @@ place_cells y number row (span ∷ spans) =
   unless_hit (hit walk.ahead (walk.column + span.colspan)) number y
     (place_cells y (number + 1) (placed y number span row walk) spans)
 
--- a row group between two rows: the table's height, its blocks so far and the open ones
-pub record Group : Type 0 where
-  pub row : ℕ
-  pub height : ℕ
-  pub blocks : List Block
-  pub open_blocks : List Block
-
 -- a group begins at row y, below all rows before it
 abbrev pub group_at : ℕ → Group
 group_at y = record { row = y; height = y; blocks = []; open_blocks = [] }
@@ -116,11 +111,7 @@ settled height block = record {
   bottom = if block.grows then height else block.bottom;
   grows = false }
 
--- a table between two groups: the next row, and the blocks of all groups so far
-pub record Table : Type 0 where
-  pub row : ℕ
-  pub blocks : List Block
-
+-- the table after a group
 abbrev pub after_group : Table → Group → Table
 after_group table group = record {
   row = group.height; blocks = table.blocks ++ map (settled group.height) group.blocks }

@@ -6,8 +6,10 @@
 
 mod block;
 mod error;
+mod group;
 mod row;
 mod shape;
+mod table;
 
 pub use error::GridError;
 pub use shape::{Grid, Place, Shape, ShapeGroup, SpanOf};

@@ -1,4 +1,4 @@
-ghost use Rattle.std.specs.Prelude.{◌≡◌, ◌+◌, ◌*◌, ◌<◌, ◌≤◌, ◌^◌, IfOk, max, drop};
+ghost use Rattle.std.specs.Prelude.{◌≡◌, ◌+◌, ◌*◌, ◌<◌, ◌≤◌, ◌^◌, IfOk, max, drop, length};
 ghost use Rattle.tl_grid.specs.Walk.{reaches, pass_taken, block_at, hit, place_cell};
 ghost use Rattle.tl_grid.specs.Answers.{row_over, IsAnswer, IsPassed, IsSpan, StaysWithin};
 
@@ -38,7 +38,9 @@ fn reaches_row(block: &Block, row: u32) -> bool
 
 /// Passes the open blocks that take the columns from the cursor on, one after another.
 fn pass_open(row: u32, above: &[Block], mut cursor: Cursor) -> Result<Cursor, GridError>
-    ensures { IsPassed row above.now cursor result }
+    requires { cursor.at ≤ length above.now }
+    ensures walk { IsPassed row above.now cursor result }
+    ensures within { IfOk result (λ after. after.at ≤ length above.now) }
 {
     while cursor.at < above.len() {
         let block = above[cursor.at];
@@ -82,7 +84,7 @@ fn first_hit(above: &[Block], at: usize, right: u32) -> Option<Block>
 
 /// Forms the cell `number`, the next one of row `y`. It overlaps the first block after the cursor if
 /// it runs into it.
-fn form_cell(
+pub fn form_cell(
     y: u32,
     number: u32,
     span: SpanOf,
@@ -92,10 +94,13 @@ fn form_cell(
     requires span { IsSpan span }
     requires number { number < 20000 }
     requires row { y + 65534 < 2 ^ 32 }
+    requires within { row.cursor.at ≤ length above.now }
     requires columns { StaysWithin (1000 * number) (row_over above.now row) }
     ensures cell { IsAnswer (row_over above.now) (place_cell y number (row_over above.now row) span) result }
     ensures columns { IfOk result (λ after. StaysWithin (1000 * (number + 1)) (row_over above.now after)) }
     ensures height { IfOk result (λ after. after.height ≤ max row.height (y + 65534)) }
+    ensures higher { IfOk result (λ after. row.height ≤ after.height) }
+    ensures within { IfOk result (λ after. after.cursor.at ≤ length above.now) }
 {
     let RowState {
         cursor,

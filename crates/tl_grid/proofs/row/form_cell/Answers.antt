@@ -1,4 +1,4 @@
-use Rattle.std.proofs.Common.{ℕ, List, ◌≡◌, ◌+◌, ◌*◌, ◌≤◌, ◌++◌, ◌∷◌, [], drop, subst, sym, ap, arith}
+use Rattle.std.proofs.Common.{List, ◌+◌, ◌*◌, ◌≤◌, ◌++◌, drop, subst, sym, ap, arith}
 use Rattle.std.specs.List.{AllByRecursion}
 use Rattle.tl_grid.specs.declared.block.Block.{Block}
 use Rattle.tl_grid.specs.Walk.{Walk}
@@ -9,7 +9,7 @@ use Rattle.tl_grid.proofs.row.form_cell.Goals as goal
 pub block_of-block-requires-clause-column : goal.block_of-block-requires-clause-column
 block_of-block-requires-clause-column c =
   let P : Walk → Type 0 = λ w. EndsIn (1000 * c.args.number) w in
-  let ends = subst P (sym c.in_ok-cursor.ensures)
+  let ends = subst P (sym c.in_ok-cursor.ensures.walk)
     (passed_within (1000 * c.args.number) c.args.y (drop c.args.row.cursor.at c.args.above.now)
       c.args.row.cursor.column c.args.row.cursor.passed c.requires.columns.0 c.requires.columns.1) in
   omega (arith, ends.0)
@@ -17,7 +17,7 @@ block_of-block-requires-clause-column c =
 pub returns-clause-columns : goal.returns-clause-columns
 returns-clause-columns c =
   let P : Walk → Type 0 = λ w. EndsIn (1000 * c.args.number) w in
-  let ends = subst P (sym c.in_ok-cursor.ensures)
+  let ends = subst P (sym c.in_ok-cursor.ensures.walk)
     (passed_within (1000 * c.args.number) c.args.y (drop c.args.row.cursor.at c.args.above.now)
       c.args.row.cursor.column c.args.row.cursor.passed c.requires.columns.0 c.requires.columns.1) in
   let right : c.block_of-block.result.right ≤ 1000 * (c.args.number + 1) =

@@ -1,12 +1,14 @@
-use Rattle.std.proofs.Common.{length, ◌-◌, ◌≡◌, drop}
+use Rattle.std.proofs.Common.{length, ◌-◌, ◌≡◌, ◌≤◌, drop}
 use Rattle.tl_grid.specs.Walk.{pass_taken}
 use Rattle.tl_grid.proofs.row.pass_open.Given as goal
 
 -- the walk from here on is the whole one
 abbrev pub invariant-loop-cursor : goal.invariant-loop-cursor
 invariant-loop-cursor l =
-  pass_taken l.row l.cursor.column l.cursor.passed (drop l.cursor.at l.above)
-    ≡ pass_taken l.row l.fn.cursor.column l.fn.cursor.passed (drop l.fn.cursor.at l.above)
+  record {
+    walk : pass_taken l.row l.cursor.column l.cursor.passed (drop l.cursor.at l.above)
+      ≡ pass_taken l.row l.fn.cursor.column l.fn.cursor.passed (drop l.fn.cursor.at l.above);
+    within : l.cursor.at ≤ length l.above }
 
 abbrev pub decreases-loop-cursor : goal.decreases-loop-cursor
 decreases-loop-cursor l = length l.above - l.cursor.at

@@ -1,0 +1,15 @@
+use Rattle.std.proofs.Common.{◌≡◌, ◌+◌, ◌*◌, ◌<◌, ◌≤◌, length, drop}
+use Rattle.tl_grid.specs.Walk.{place_cells, row_of}
+use Rattle.tl_grid.specs.Answers.{row_over, StaysWithin}
+use Rattle.tl_grid.proofs.group.form_row.Given as goal
+
+-- the walk from here on is the whole one
+abbrev pub invariant-loop-span : goal.invariant-loop-span
+invariant-loop-span l = record {
+  cells : place_cells l.row l.number (row_over l.above l.state) (drop l.span-index l.spans)
+    ≡ place_cells l.row l.fn.number (row_of l.fn.group) l.spans;
+  count : l.number ≡ l.fn.number + l.span-index;
+  within : l.state.cursor.at ≤ length l.above;
+  columns : StaysWithin (1000 * l.number) (row_over l.above l.state);
+  height : l.state.height ≤ l.fn.group.height + 65534 * l.span-index + 1;
+  low : l.row < l.state.height }

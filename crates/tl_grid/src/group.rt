@@ -1,0 +1,85 @@
+ghost use Rattle.std.specs.Prelude.{◌≡◌, ◌+◌, ◌*◌, ◌<◌, ◌≤◌, ◌^◌, IfOk, length, Ok};
+ghost use Rattle.std.specs.List.{AllByRecursion};
+ghost use Rattle.tl_grid.specs.Walk.{place_cells, row_of, after_row, then_ok};
+ghost use Rattle.tl_grid.specs.Answers.{IsAnswer, IsSpan, EndsBy};
+
+use crate::block::Block;
+use crate::error::GridError;
+use crate::row::{Cursor, RowState, form_cell};
+use crate::shape::SpanOf;
+use std::alloc::Global;
+use tl_base::List;
+
+/// A row group between two rows.
+#[derive(Drop)]
+pub struct Group {
+    /// The next row.
+    pub row: u32,
+    /// The table's height so far.
+    pub height: u32,
+    /// The blocks of the group's cells, in the order in which they were formed.
+    pub blocks: List<Block>,
+    /// Those that may take rows to come, from left to right, and perhaps some that do not.
+    pub open_blocks: List<Block>,
+}
+
+/// Forms the next row of a group; `number` is that of its first cell.
+fn form_row(
+    alloc: Global,
+    mut number: u32,
+    spans: &[SpanOf],
+    group: Group,
+) -> Result<Group, GridError>
+    requires spans { AllByRecursion IsSpan spans.now }
+    requires number { number + length spans.now ≤ 20000 }
+    requires low { group.row ≤ group.height }
+    requires room { group.height + 65534 < 2 ^ 32 }
+    requires columns { AllByRecursion (EndsBy (1000 * number)) group.open_blocks }
+    ensures row { IsAnswer (λ after. after) (then_ok (λ row. Ok (after_row group.row row)) (place_cells group.row number (row_of group) spans.now)) result }
+    ensures columns { IfOk result (λ after. AllByRecursion (EndsBy (1000 * (number + length spans.now))) after.open_blocks) }
+    ensures low { IfOk result (λ after. after.row ≤ after.height) }
+    ensures height { IfOk result (λ after. after.height ≤ group.height + 65534 * length spans.now + 1) }
+{
+    let Group {
+        row,
+        height,
+        blocks,
+        open_blocks,
+    } = group;
+    let height = height.max(row + 1);
+    if spans.is_empty() {
+        return Ok(Group {
+            row: row + 1,
+            height,
+            blocks,
+            open_blocks,
+        });
+    }
+    let above = open_blocks.as_slice();
+    let mut state = RowState {
+        cursor: Cursor {
+            column: 0,
+            at: 0,
+            passed: List::new(alloc),
+        },
+        height,
+        blocks,
+    };
+    for span in spans {
+        state = form_cell(row, number, *span, above, state)?;
+        number += 1;
+    }
+    let RowState {
+        cursor,
+        height,
+        blocks,
+    } = state;
+    let mut open_blocks = cursor.passed;
+    open_blocks.extend_from_slice(&above[cursor.at..])?;
+    Ok(Group {
+        row: row + 1,
+        height,
+        blocks,
+        open_blocks,
+    })
+}
