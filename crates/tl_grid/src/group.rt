@@ -1,6 +1,7 @@
 ghost use Rattle.std.specs.Prelude.{◌≡◌, ◌+◌, ◌*◌, ◌<◌, ◌≤◌, ◌^◌, IfOk, length, Ok};
 ghost use Rattle.std.specs.List.{AllByRecursion};
-ghost use Rattle.tl_grid.specs.Walk.{place_cells, row_of, after_row, then_ok};
+ghost use Rattle.tl_grid.specs.Forming.{cells_in};
+ghost use Rattle.tl_grid.specs.Walk.{place_cells, row_of, after_row, then_ok, group_at, place_rows};
 ghost use Rattle.tl_grid.specs.Answers.{IsAnswer, IsSpan, EndsBy};
 
 use crate::block::Block;
@@ -82,4 +83,31 @@ fn form_row(
         blocks,
         open_blocks,
     })
+}
+
+/// Forms the rows of a group that begins at row `row`; `number` is that of the group's first cell.
+pub fn form_group(
+    alloc: Global,
+    mut number: u32,
+    rows: &[List<SpanOf>],
+    row: u32,
+) -> Result<Group, GridError>
+    requires spans { AllByRecursion (AllByRecursion IsSpan) rows.now }
+    requires number { number + cells_in rows.now ≤ 20000 }
+    requires room { row + 65534 * cells_in rows.now + length rows.now + 65534 < 2 ^ 32 }
+    ensures rows { IsAnswer (λ after. after) (place_rows number (group_at row) rows.now) result }
+    ensures height { IfOk result (λ after. after.height ≤ row + 65534 * cells_in rows.now + length rows.now) }
+{
+    let mut group = Group {
+        row,
+        height: row,
+        blocks: List::new(alloc),
+        open_blocks: List::new(alloc),
+    };
+    for spans in rows {
+        let spans = spans.as_slice();
+        group = form_row(alloc, number, spans, group)?;
+        number += spans.len() as u32;
+    }
+    Ok(group)
 }
