@@ -132,9 +132,16 @@ formed shape =
   form_groups (λ group. group.foot) 0 shape.groups
     (form_groups (λ group. not group.foot) 0 shape.groups (no_cells shape.columns))
 
--- how many cells the table has
+-- how many cells and rows the groups have
+abbrev pub cells_of : List ShapeGroup → ℕ
+cells_of groups = sum_by (λ group. cells_in group.rows) groups
+
+abbrev pub rows_of : List ShapeGroup → ℕ
+rows_of groups = sum_by (λ group. length group.rows) groups
+
+-- how many cells and rows the table has
 abbrev pub cell_count : Shape → ℕ
-cell_count shape = sum_by (λ group. cells_in group.rows) shape.groups
+cell_count shape = cells_of shape.groups
 
 abbrev pub row_count : Shape → ℕ
-row_count shape = sum_by (λ group. length group.rows) shape.groups
+row_count shape = rows_of shape.groups

@@ -1,6 +1,6 @@
 -- How a row is walked from left to right over the blocks that are open above it: those that may
 -- cover it and the rows to come, by their columns. No slot is made.
-use Rattle.std.specs.Prelude.{ℕ, ◌+◌, max, Bool, ◌||◌, ◌==◌, nat_lt, nat_le, not, map, false, if◌then◌else◌, List, [], ◌∷◌, ◌++◌, length, Option, Some, None, Result, Ok, Err}
+use Rattle.std.specs.Prelude.{ℕ, ◌+◌, max, Bool, ◌||◌, ◌==◌, nat_lt, nat_le, not, map, true, false, if◌then◌else◌, List, [], ◌∷◌, ◌++◌, length, Option, Some, None, Result, Ok, Err}
 use Rattle.tl_grid.specs.declared.shape.SpanOf.{SpanOf}
 use Rattle.tl_grid.specs.declared.block.Block.{Block}
 use Rattle.tl_grid.specs.declared.group.Group.{Group}
@@ -126,11 +126,16 @@ place_groups turn number table (group ∷ groups) =
       (place_rows number (group_at table.row) group.rows)
     else place_groups turn (number + cells_in group.rows) table groups
 
+-- the groups that are feet, or those that are not
+abbrev pub has_turn : Bool → ShapeGroup → Bool
+has_turn true group = group.foot
+has_turn false group = not group.foot
+
 -- all groups, the feet last
 abbrev pub place_all : List ShapeGroup → Result Table GridError
 place_all groups =
-  then_ok (λ table. place_groups (λ group. group.foot) 0 table groups)
-    (place_groups (λ group. not group.foot) 0 (record { row = 0; blocks = [] }) groups)
+  then_ok (λ table. place_groups (has_turn true) 0 table groups)
+    (place_groups (has_turn false) 0 (record { row = 0; blocks = [] }) groups)
 
 -- one cell of a row
 abbrev pub place_cell : ℕ → ℕ → Row → SpanOf → Result Row GridError
