@@ -8,3 +8,4 @@ pub mod Later
 pub mod Rows
 pub mod Groups
 pub mod Tables
+pub mod Counts

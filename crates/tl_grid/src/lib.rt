@@ -7,6 +7,7 @@
 mod block;
 mod error;
 mod group;
+mod kept;
 mod row;
 mod shape;
 mod table;
