@@ -38,6 +38,7 @@ fn form_row(
     requires columns { AllByRecursion (EndsBy (1000 * number)) group.open_blocks }
     ensures row { IsAnswer (λ after. after) (then_ok (λ row. Ok (after_row group.row row)) (place_cells group.row number (row_of group) spans.now)) result }
     ensures columns { IfOk result (λ after. AllByRecursion (EndsBy (1000 * (number + length spans.now))) after.open_blocks) }
+    ensures count { IfOk result (λ after. length after.blocks ≡ length group.blocks + length spans.now) }
     ensures low { IfOk result (λ after. after.row ≤ after.height) }
     ensures height { IfOk result (λ after. after.height ≤ group.height + 65534 * length spans.now + 1) }
 {
@@ -96,6 +97,7 @@ pub fn form_group(
     requires number { number + cells_in rows.now ≤ 20000 }
     requires room { row + 65534 * cells_in rows.now + length rows.now + 65534 < 2 ^ 32 }
     ensures rows { IsAnswer (λ after. after) (place_rows number (group_at row) rows.now) result }
+    ensures count { IfOk result (λ after. length after.blocks ≡ cells_in rows.now) }
     ensures height { IfOk result (λ after. after.height ≤ row + 65534 * cells_in rows.now + length rows.now) }
 {
     let mut group = Group {

@@ -99,6 +99,7 @@ pub fn form_cell(
     ensures cell { IsAnswer (row_over above.now) (place_cell y number (row_over above.now row) span) result }
     ensures columns { IfOk result (λ after. StaysWithin (1000 * (number + 1)) (row_over above.now after)) }
     ensures height { IfOk result (λ after. after.height ≤ max row.height (y + 65534)) }
+    ensures count { IfOk result (λ after. length after.blocks ≡ length row.blocks + 1) }
     ensures higher { IfOk result (λ after. row.height ≤ after.height) }
     ensures within { IfOk result (λ after. after.cursor.at ≤ length above.now) }
 {

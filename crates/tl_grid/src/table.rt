@@ -67,6 +67,7 @@ fn form_groups(
     requires cells { cells_of groups.now ≤ 20000 }
     requires room { table.row + 65534 * cells_of groups.now + rows_of groups.now + 65534 < 2 ^ 32 }
     ensures groups { IsAnswer (λ after. after) (place_groups (has_turn feet) 0 table groups.now) result }
+    ensures count { IfOk result (λ after. length after.blocks ≤ length table.blocks + cells_of groups.now) }
     ensures row { IfOk result (λ after. after.row ≤ table.row + 65534 * cells_of groups.now + rows_of groups.now) }
 {
     let mut number = 0;
@@ -86,7 +87,8 @@ pub fn form_table(alloc: Global, groups: &[ShapeGroup]) -> Result<Table, GridErr
     requires spans { AllSpans groups.now }
     requires cells { cells_of groups.now ≤ 20000 }
     requires rows { rows_of groups.now < 2 ^ 20 }
-    ensures { IsAnswer (λ table. table) (place_all groups.now) result }
+    ensures table { IsAnswer (λ table. table) (place_all groups.now) result }
+    ensures count { IfOk result (λ table. length table.blocks ≤ 2 * cells_of groups.now) }
 {
     let table = Table {
         row: 0,

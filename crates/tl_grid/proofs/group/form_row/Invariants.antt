@@ -9,6 +9,7 @@ invariant-loop-span l = record {
   cells : place_cells l.row l.number (row_over l.above l.state) (drop l.span-index l.spans)
     ≡ place_cells l.row l.fn.number (row_of l.fn.group) l.spans;
   count : l.number ≡ l.fn.number + l.span-index;
+  blocks : length l.state.blocks ≡ length l.fn.group.blocks + l.span-index;
   within : l.state.cursor.at ≤ length l.above;
   columns : StaysWithin (1000 * l.number) (row_over l.above l.state);
   height : l.state.height ≤ l.fn.group.height + 65534 * l.span-index + 1;
