@@ -3,3 +3,4 @@ pub mod Overlap
 pub mod Dropping
 pub mod Walk
 pub mod Answers
+pub mod Places

@@ -5,6 +5,7 @@
 #![tactic(auto)]
 
 mod block;
+mod dropping;
 mod error;
 mod group;
 mod kept;
