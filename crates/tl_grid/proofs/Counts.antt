@@ -7,7 +7,7 @@ use Rattle.std.proofs.lemmas.List.Kept.{AllPairs-from_increasing}
 use Rattle.tl_grid.specs.Dropping.{count_below, is_among}
 use Rattle.tl_grid.proofs.Chains.{filter_yes, filter_no}
 
-abbrev one_if : Bool → ℕ
+abbrev pub one_if : Bool → ℕ
 one_if b = cond b 1 0
 
 -- tests that answer alike count alike

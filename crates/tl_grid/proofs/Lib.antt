@@ -9,3 +9,4 @@ pub mod Rows
 pub mod Groups
 pub mod Tables
 pub mod Counts
+pub mod Grids
