@@ -10,3 +10,4 @@ pub mod Groups
 pub mod Tables
 pub mod Counts
 pub mod Grids
+pub mod Refusals

@@ -1,6 +1,7 @@
 pub mod Forming
 pub mod Overlap
 pub mod Dropping
+pub mod Form
 pub mod Walk
 pub mod Answers
 pub mod Places

@@ -1,4 +1,4 @@
-ghost use Rattle.std.specs.Prelude.{◌≡◌, ◌<◌, ◌≤◌, ◌^◌, ℕ, length, vec_len, IfOk, IfErr, MatchResult, alloc_error, replicate, map};
+ghost use Rattle.std.specs.Prelude.{◌≡◌, ◌<◌, ◌≤◌, ◌^◌, ℕ, length, IfOk, IfErr, MatchResult, alloc_error, replicate, map};
 ghost use Rattle.std.specs.List.Sorted.{IsStrictlyIncreasing};
 ghost use Rattle.tl_grid.specs.declared.block.Block.{Block};
 ghost use Rattle.tl_grid.specs.declared.error.GridError.TheVariants.{Memory};
@@ -27,23 +27,23 @@ fn first_rows(alloc: Global, blocks: &[Block]) -> Result<Vec<u32>, AllocError>
 }
 
 /// The columns in which a cell is anchored, in order.
-pub fn kept_columns(alloc: Global, blocks: &[Block]) -> Result<Vec<u32>, GridError>
-    ensures rises { IfOk result (λ kept. IsStrictlyIncreasing kept.items) }
-    ensures same { IfOk result (λ kept. (x : ℕ) → is_among kept.items x ≡ begins_in_column blocks.now x) }
-    ensures few { IfOk result (λ kept. vec_len kept ≤ length blocks.now) }
+pub fn kept_columns(alloc: Global, blocks: &[Block]) -> Result<List<u32>, GridError>
+    ensures rises { IfOk result (λ kept. IsStrictlyIncreasing kept) }
+    ensures same { IfOk result (λ kept. (x : ℕ) → is_among kept x ≡ begins_in_column blocks.now x) }
+    ensures few { IfOk result (λ kept. length kept ≤ length blocks.now) }
     ensures err { IfErr result (λ e. e ≡ Memory alloc_error) }
 {
-    Ok(in_order(first_columns(alloc, blocks)?))
+    Ok(List::from_vec(in_order(first_columns(alloc, blocks)?)))
 }
 
 /// The rows in which a cell is anchored, in order.
-pub fn kept_rows(alloc: Global, blocks: &[Block]) -> Result<Vec<u32>, GridError>
-    ensures rises { IfOk result (λ kept. IsStrictlyIncreasing kept.items) }
-    ensures same { IfOk result (λ kept. (y : ℕ) → is_among kept.items y ≡ begins_in_row blocks.now y) }
-    ensures few { IfOk result (λ kept. vec_len kept ≤ length blocks.now) }
+pub fn kept_rows(alloc: Global, blocks: &[Block]) -> Result<List<u32>, GridError>
+    ensures rises { IfOk result (λ kept. IsStrictlyIncreasing kept) }
+    ensures same { IfOk result (λ kept. (y : ℕ) → is_among kept y ≡ begins_in_row blocks.now y) }
+    ensures few { IfOk result (λ kept. length kept ≤ length blocks.now) }
     ensures err { IfErr result (λ e. e ≡ Memory alloc_error) }
 {
-    Ok(in_order(first_rows(alloc, blocks)?))
+    Ok(List::from_vec(in_order(first_rows(alloc, blocks)?)))
 }
 
 /// Where a block lies once columns and rows are dropped.

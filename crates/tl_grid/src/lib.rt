@@ -7,11 +7,13 @@
 mod block;
 mod dropping;
 mod error;
+mod forming;
 mod group;
 mod kept;
 mod row;
 mod shape;
 mod table;
 
+pub use forming::form;
 pub use error::GridError;
 pub use shape::{Grid, Place, Shape, ShapeGroup, SpanOf};
