@@ -74,7 +74,8 @@ pub fn places_as_written(
     requires few_columns { length columns.now < 2 ^ 32 }
     requires rows { IsStrictlyIncreasing rows.now }
     requires few_rows { length rows.now < 2 ^ 32 }
-    ensures { MatchResult result (λ places. places ≡ put_places columns.now rows.now (replicate count nowhere) blocks.now) (λ e. e ≡ Memory alloc_error) }
+    ensures count { IfOk result (λ places. length places ≡ count) }
+    ensures places { MatchResult result (λ places. places ≡ put_places columns.now rows.now (replicate count nowhere) blocks.now) (λ e. e ≡ Memory alloc_error) }
 {
     let nowhere = Place {
         left: 0,

@@ -1,4 +1,4 @@
-ghost use Rattle.std.specs.Prelude.{◌≡◌, ◌<◌, ◌^◌, IfOk, IfErr};
+ghost use Rattle.std.specs.Prelude.{◌≡◌, ◌<◌, ◌^◌, length, IfOk, IfErr};
 ghost use Rattle.tl_grid.specs.Answers.{AllSpans};
 ghost use Rattle.tl_grid.specs.Forming.{cell_count, row_count, cells_of};
 ghost use Rattle.tl_grid.specs.Form.{HasGrid, IsRefusal};
@@ -40,6 +40,7 @@ pub fn form(alloc: Global, shape: &Shape) -> Result<Grid, GridError>
     requires rows { row_count shape.now < 2 ^ 20 }
     requires cells { cell_count shape.now < 2 ^ 32 }
     ensures grid { IfOk result (λ grid. HasGrid shape.now grid) }
+    ensures count { IfOk result (λ grid. length grid.places ≡ cell_count shape.now) }
     ensures refusal { IfErr result (λ error. IsRefusal shape.now error) }
 {
     let groups = shape.groups.as_slice();

@@ -17,3 +17,6 @@ mod table;
 pub use forming::form;
 pub use error::GridError;
 pub use shape::{Grid, Place, Shape, ShapeGroup, SpanOf};
+
+#[cfg(test)]
+mod tests;

@@ -61,7 +61,7 @@ returns-clause-grid c =
     (omega arith)
     c.len-3.ensures c.len-4.ensures
     (c.count_all-count.ensures ∙ ap cells_of c.as_slice-groups.ensures)
-    (c.in_ok-places.ensures
+    (c.in_ok-places.ensures.places
      ∙ ap (λ ks. put_places ks c.as_slice-2.result.now blank c.as_slice-blocks.result.now) c.as_slice.ensures
      ∙ ap (λ ks. put_places c.in_ok-columns.columns ks blank c.as_slice-blocks.result.now) c.as_slice-2.ensures
      ∙ ap (λ bs. put_places c.in_ok-columns.columns c.in_ok-rows.rows blank bs) c.as_slice-blocks.ensures)
