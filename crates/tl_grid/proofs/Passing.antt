@@ -25,6 +25,9 @@ abbrev pub BeginsAfter : ℕ → ℕ → List Block → Type 0
 BeginsAfter y x [] = Unit {0}
 BeginsAfter y x (b ∷ bs) = (reaches y b ≡ true) × (x < b.left)
 
+abbrev pub Reaches : ℕ → Block → Type 0
+Reaches y b = reaches y b ≡ true
+
 abbrev pub EndsWithin : ℕ → Block → Type 0
 EndsWithin width b = b.right ≤ width
 
@@ -36,16 +39,14 @@ pub record Passes (y x : ℕ) (passed ahead : List Block) (w : Walk) : Type 0 wh
   pub on : x ≤ w.column
   pub taken : (x' : ℕ) → x ≤ x' → x' < w.column → some (filter (spot x' y) (passed ++ ahead)) ≡ true
   pub within : (width : ℕ) → x ≤ width → AllByRecursion (EndsWithin width) ahead → w.column ≤ width
+  pub alive : AllByRecursion (Reaches y) w.ahead
   pub kept : (width : ℕ) → AllByRecursion (EndsWithin width) (passed ++ ahead) → AllByRecursion (EndsWithin width) (w.passed ++ w.ahead)
 
-pub pass_on : (y x : ℕ) (ps : List Block) (b : Block) (bs : List Block) → reaches y b ≡ true → leb b.left x ≡ true → pass_taken y x ps (b ∷ bs) ≡ pass_taken y b.right (ps ++ b ∷ []) bs
-pass_on y x ps b bs e f = cond-true (reaches y b) _ _ e ∙ cond-true (leb b.left x) _ _ f
+pub pass_on : (x : ℕ) (ps : List Block) (b : Block) (bs : List Block) → leb b.left x ≡ true → pass_taken x ps (b ∷ bs) ≡ pass_taken b.right (ps ++ b ∷ []) bs
+pass_on x ps b bs f = cond-true (leb b.left x) _ _ f
 
-pub pass_stop : (y x : ℕ) (ps : List Block) (b : Block) (bs : List Block) → reaches y b ≡ true → leb b.left x ≡ false → pass_taken y x ps (b ∷ bs) ≡ record { column = x; passed = ps; ahead = b ∷ bs }
-pass_stop y x ps b bs e f = cond-true (reaches y b) _ _ e ∙ cond-false (leb b.left x) _ _ f
-
-pub pass_ended : (y x : ℕ) (ps : List Block) (b : Block) (bs : List Block) → reaches y b ≡ false → pass_taken y x ps (b ∷ bs) ≡ pass_taken y x ps bs
-pass_ended y x ps b bs e = cond-false (reaches y b) _ _ e
+pub pass_stop : (x : ℕ) (ps : List Block) (b : Block) (bs : List Block) → leb b.left x ≡ false → pass_taken x ps (b ∷ bs) ≡ record { column = x; passed = ps; ahead = b ∷ bs }
+pass_stop x ps b bs f = cond-false (leb b.left x) _ _ f
 
 -- a filter keeps one element in the middle
 some_mid : (p : Block → Bool) (xs : List Block) (b : Block) (ys : List Block) → p b ≡ true → some (filter p (xs ++ b ∷ ys)) ≡ true
@@ -54,14 +55,6 @@ some_mid p (x ∷ xs) b ys e =
   elim (cases_Bool (p x)) [
     inl t ↦ ap some (filter_yes p x (xs ++ b ∷ ys) t)
   | inr f ↦ ap some (filter_no p x (xs ++ b ∷ ys) f) ∙ some_mid p xs b ys e ]
-
-filter_mid : (p : Block → Bool) (xs : List Block) (b : Block) (ys : List Block) → p b ≡ false → filter p (xs ++ b ∷ ys) ≡ filter p (xs ++ ys)
-filter_mid p xs b ys e =
-  filter-append p xs (b ∷ ys) ∙ ap (λ l. filter p xs ++ l) (filter_no p b ys e) ∙ sym (filter-append p xs ys)
-
-pub all_mid : (P : Block → Type 0) (xs : List Block) (b : Block) (ys : List Block) → AllByRecursion P (xs ++ b ∷ ys) → AllByRecursion P (xs ++ ys)
-all_mid P [] b ys a = a.1
-all_mid P (x ∷ xs) b ys a = (a.0, all_mid P xs b ys a.1)
 
 -- one block passed
 passes_on : (y x : ℕ) (ps : List Block) (b : Block) (bs : List Block) (w : Walk) → reaches y b ≡ true → b.left ≤ x → b.left < b.right → x ≤ b.left → Passes y b.right (ps ++ b ∷ []) bs w → Passes y x ps (b ∷ bs) w
@@ -74,28 +67,18 @@ passes_on y x ps b bs w e le lt ge p = record {
       inl in' ↦ some_mid (spot x' y) ps b bs (spot_in x' y b (omega arith) in' e)
     | inr past ↦ sym (ap (λ l. some (filter (spot x' y) l)) (append_assoc ps (b ∷ []) bs)) ∙ p.taken x' past k ];
   within = λ width h all. p.within width all.0 all.1;
+  alive = p.alive;
   kept = λ width all. p.kept width
     (let P : List Block → Type 0 = λ l. AllByRecursion (EndsWithin width) l in
      subst P (sym (append_assoc ps (b ∷ []) bs)) all) }
 
--- one block left out, since it ends above the row
-passes_ended : (y x : ℕ) (ps : List Block) (b : Block) (bs : List Block) (w : Walk) → reaches y b ≡ false → Passes y x ps bs w → Passes y x ps (b ∷ bs) w
-passes_ended y x ps b bs w e p = record {
-  front = p.front; rest = p.rest; begins = p.begins;
-  same = λ x' y' h. p.same x' y' h ∙ sym (filter_mid (spot x' y') ps b bs (spot_ended x' y' b (not_below y y' b h e)));
-  on = p.on;
-  taken = λ x' h k.
-    ap some (filter_mid (spot x' y) ps b bs (spot_ended x' y b e)) ∙ p.taken x' h k;
-  within = λ width h all. p.within width h all.1;
-  kept = λ width all. p.kept width (all_mid (EndsWithin width) ps b bs all) }
-
 -- the row stops at the first block that begins further right
-passes_stop : (y x : ℕ) (ps : List Block) (qs : List Block) → ChainTo 0 (filter (reaches y) ps) x → Chain x (filter (reaches y) qs) → BeginsAfter y x qs → Passes y x ps qs record { column = x; passed = ps; ahead = qs }
-passes_stop y x ps qs front rest begins = record {
+passes_stop : (y x : ℕ) (ps : List Block) (qs : List Block) → ChainTo 0 (filter (reaches y) ps) x → Chain x (filter (reaches y) qs) → BeginsAfter y x qs → AllByRecursion (Reaches y) qs → Passes y x ps qs record { column = x; passed = ps; ahead = qs }
+passes_stop y x ps qs front rest begins alive = record {
   front = front; rest = rest; begins = begins;
   same = λ x' y' le. refl; on = omega arith;
   taken = λ x' le lt. absurd (omega arith);
-  within = λ width le all. le; kept = λ width all. all }
+  within = λ width le all. le; alive = alive; kept = λ width all. all }
 
 -- a chain to a column, and one more block
 pub push_front : (y x : ℕ) (ps : List Block) (b : Block) → reaches y b ≡ true → ChainTo 0 (filter (reaches y) ps) x → x ≤ b.left → b.left < b.right → ChainTo 0 (filter (reaches y) (ps ++ b ∷ [])) b.right
@@ -104,23 +87,18 @@ push_front y x ps b e front le lt =
   subst P (sym (filter-append (reaches y) ps (b ∷ []) ∙ ap (λ l. filter (reaches y) ps ++ l) (filter_yes (reaches y) b [] e)))
     (chain_push 0 x (filter (reaches y) ps) b front le lt)
 
-pub passes : (y : ℕ) (qs : List Block) (x : ℕ) (ps : List Block) → ChainTo 0 (filter (reaches y) ps) x → Chain x (filter (reaches y) qs) → Passes y x ps qs (pass_taken y x ps qs)
-passes y [] x ps front rest = passes_stop y x ps [] front rest tt
-passes y (b ∷ bs) x ps front rest =
+pub passes : (y : ℕ) (qs : List Block) (x : ℕ) (ps : List Block) → ChainTo 0 (filter (reaches y) ps) x → Chain x (filter (reaches y) qs) → AllByRecursion (Reaches y) qs → Passes y x ps qs (pass_taken x ps qs)
+passes y [] x ps front rest alive = passes_stop y x ps [] front rest tt alive
+passes y (b ∷ bs) x ps front rest alive =
   let P : Walk → Type 0 = λ w. Passes y x ps (b ∷ bs) w in
-  elim (cases_Bool (reaches y b)) [
-    inl e ↦
-      let d : Chain x (b ∷ filter (reaches y) bs) = chain_yes x y b bs e rest in
-      elim (cases_Bool (leb b.left x)) [
-        inl f ↦
-          let le : b.left ≤ x = leb-true b.left x f in
-          subst P (sym (pass_on y x ps b bs e f))
-            (passes_on y x ps b bs (pass_taken y b.right (ps ++ b ∷ []) bs) e le d.1 d.0
-              (passes y bs b.right (ps ++ b ∷ []) (push_front y x ps b e front d.0 d.1) d.2))
-      | inr f ↦
-          subst P (sym (pass_stop y x ps b bs e f))
-            (passes_stop y x ps (b ∷ bs) front rest (e, leb-false b.left x f)) ]
-  | inr e ↦
-      subst P (sym (pass_ended y x ps b bs e))
-        (passes_ended y x ps b bs (pass_taken y x ps bs) e
-          (passes y bs x ps front (chain_no x y b bs e rest))) ]
+  let e : reaches y b ≡ true = alive.0 in
+  let d : Chain x (b ∷ filter (reaches y) bs) = chain_yes x y b bs e rest in
+  elim (cases_Bool (leb b.left x)) [
+    inl f ↦
+      let le : b.left ≤ x = leb-true b.left x f in
+      subst P (sym (pass_on x ps b bs f))
+        (passes_on y x ps b bs (pass_taken b.right (ps ++ b ∷ []) bs) e le d.1 d.0
+          (passes y bs b.right (ps ++ b ∷ []) (push_front y x ps b e front d.0 d.1) d.2 alive.1))
+  | inr f ↦
+      subst P (sym (pass_stop x ps b bs f))
+        (passes_stop y x ps (b ∷ bs) front rest (e, leb-false b.left x f) alive) ]

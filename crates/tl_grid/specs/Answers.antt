@@ -1,5 +1,5 @@
 -- What the code keeps for a walk, and how its answers follow the walk.
-use Rattle.std.specs.Prelude.{ℕ, ◌+◌, ◌*◌, ◌<◌, ◌≤◌, ◌≡◌, ◌⊎◌, List, [], ◌∷◌, ◌++◌, drop, Result, Ok, Err, MatchResult, alloc_error}
+use Rattle.std.specs.Prelude.{ℕ, ◌+◌, ◌*◌, ◌<◌, ◌≤◌, ◌≡◌, ◌⊎◌, List, [], ◌∷◌, ◌++◌, take, drop, Result, Ok, Err, MatchResult, alloc_error}
 use Rattle.std.specs.List.{AllByRecursion}
 use Rattle.tl_grid.specs.declared.shape.SpanOf.{SpanOf}
 use Rattle.tl_grid.specs.declared.shape.ShapeGroup.{ShapeGroup}
@@ -8,29 +8,22 @@ use Rattle.tl_grid.specs.declared.row.Cursor.{Cursor}
 use Rattle.tl_grid.specs.declared.row.RowState.{RowState}
 use Rattle.tl_grid.specs.declared.error.GridError.{GridError}
 use Rattle.tl_grid.specs.declared.error.GridError.TheVariants.{Memory}
-use Rattle.tl_grid.specs.Walk.{Walk, Row, pass_taken}
+use Rattle.tl_grid.specs.Walk.{Walk, Row}
 
 -- the walk of a cursor over the open blocks
 abbrev pub walk_over : List Block → Cursor → Walk
 walk_over open_blocks cursor = record {
-  column = cursor.column; passed = cursor.passed; ahead = drop cursor.at open_blocks }
+  column = cursor.column; passed = take cursor.at open_blocks; ahead = drop cursor.at open_blocks }
 
-abbrev pub row_over : List Block → RowState → Row
-row_over open_blocks row = record {
+abbrev pub row_over : RowState → Row
+row_over row = record {
   column = row.cursor.column; height = row.height; blocks = row.blocks;
-  passed = row.cursor.passed; ahead = drop row.cursor.at open_blocks }
+  passed = take row.cursor.at row.open_blocks; ahead = drop row.cursor.at row.open_blocks }
 
 -- the code's answer is the walk's, seen by `view`, or there was not enough memory
 abbrev pub IsAnswer : {X Y : Type 0} → (X → Y) → Result Y GridError → Result X GridError → Type 0
 IsAnswer view walked (Ok value) = walked ≡ Ok (view value)
 IsAnswer view walked (Err error) = (error ≡ Memory alloc_error) ⊎ (walked ≡ Err error)
-
--- the cursor after it has passed the open blocks, or there was not enough memory
-abbrev pub IsPassed : ℕ → List Block → Cursor → Result Cursor GridError → Type 0
-IsPassed y open_blocks cursor (Ok after) =
-  walk_over open_blocks after
-    ≡ pass_taken y cursor.column cursor.passed (drop cursor.at open_blocks)
-IsPassed y open_blocks cursor (Err error) = error ≡ Memory alloc_error
 
 -- the spans that a cell may have
 abbrev pub IsSpan : SpanOf → Type 0

@@ -1,6 +1,6 @@
 -- How a row is walked from left to right over the blocks that are open above it: those that may
 -- cover it and the rows to come, by their columns. No slot is made.
-use Rattle.std.specs.Prelude.{ℕ, ◌+◌, max, Bool, ◌||◌, ◌==◌, nat_lt, nat_le, not, map, true, false, if◌then◌else◌, List, [], ◌∷◌, ◌++◌, length, Option, Some, None, Result, Ok, Err}
+use Rattle.std.specs.Prelude.{ℕ, ◌+◌, max, Bool, ◌||◌, ◌==◌, nat_lt, nat_le, not, map, true, false, if◌then◌else◌, List, [], ◌∷◌, ◌++◌, filter, length, Option, Some, None, Result, Ok, Err}
 use Rattle.tl_grid.specs.declared.shape.SpanOf.{SpanOf}
 use Rattle.tl_grid.specs.declared.block.Block.{Block}
 use Rattle.tl_grid.specs.declared.group.Group.{Group}
@@ -20,16 +20,13 @@ pub record Walk : Type 0 where
   pub passed : List Block
   pub ahead : List Block
 
--- passes the blocks that take the columns from x on, one after another; those that end above row y
--- are left out
-abbrev pub pass_taken : ℕ → ℕ → List Block → List Block → Walk
-pass_taken y x passed [] = record { column = x; passed = passed; ahead = [] }
-pass_taken y x passed (block ∷ blocks) =
-  if reaches y block
-    then (if nat_le block.left x
-      then pass_taken y block.right (passed ++ block ∷ []) blocks
-      else record { column = x; passed = passed; ahead = block ∷ blocks })
-    else pass_taken y x passed blocks
+-- passes the blocks that take the columns from x on, one after another
+abbrev pub pass_taken : ℕ → List Block → List Block → Walk
+pass_taken x passed [] = record { column = x; passed = passed; ahead = [] }
+pass_taken x passed (block ∷ blocks) =
+  if nat_le block.left x
+    then pass_taken block.right (passed ++ block ∷ []) blocks
+    else record { column = x; passed = passed; ahead = block ∷ blocks }
 
 -- the block of a cell at column x of row y
 abbrev pub block_at : ℕ → ℕ → ℕ → SpanOf → Block
@@ -60,8 +57,8 @@ placed y number span row walk = record {
   passed = walk.passed ++ block_at number walk.column y span ∷ [];
   ahead = walk.ahead }
 
-abbrev pub walk_of : ℕ → Row → Walk
-walk_of y row = pass_taken y row.column row.passed row.ahead
+abbrev pub walk_of : Row → Walk
+walk_of row = pass_taken row.column row.passed row.ahead
 
 -- `more`, unless cell `number` in row y runs into a block
 abbrev pub unless_hit : {X : Type 0} → Option Block → ℕ → ℕ → Result X GridError → Result X GridError
@@ -72,7 +69,7 @@ unless_hit (Some block) number y more = Err (Overlap block.number number block.l
 abbrev pub place_cells : ℕ → ℕ → Row → List SpanOf → Result Row GridError
 place_cells y number row [] = Ok row
 place_cells y number row (span ∷ spans) =
-  let walk : Walk = walk_of y row in
+  let walk : Walk = walk_of row in
   unless_hit (hit walk.ahead (walk.column + span.colspan)) number y
     (place_cells y (number + 1) (placed y number span row walk) spans)
 
@@ -80,11 +77,11 @@ place_cells y number row (span ∷ spans) =
 abbrev pub group_at : ℕ → Group
 group_at y = record { row = y; height = y; blocks = []; open_blocks = [] }
 
--- the next row begins
+-- the next row begins, over the open blocks that take it
 abbrev pub row_of : Group → Row
 row_of group = record {
   column = 0; height = max group.height (group.row + 1); blocks = group.blocks;
-  passed = []; ahead = group.open_blocks }
+  passed = []; ahead = filter (reaches group.row) group.open_blocks }
 
 -- the row ends
 abbrev pub after_row : ℕ → Row → Group
@@ -140,5 +137,5 @@ place_all groups =
 -- one cell of a row
 abbrev pub place_cell : ℕ → ℕ → Row → SpanOf → Result Row GridError
 place_cell y number row span =
-  unless_hit (hit (walk_of y row).ahead ((walk_of y row).column + span.colspan)) number y
-    (Ok (placed y number span row (walk_of y row)))
+  unless_hit (hit (walk_of row).ahead ((walk_of row).column + span.colspan)) number y
+    (Ok (placed y number span row (walk_of row)))

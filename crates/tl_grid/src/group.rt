@@ -6,6 +6,7 @@ ghost use Rattle.tl_grid.specs.Answers.{IsAnswer, IsSpan, EndsBy};
 
 use crate::block::Block;
 use crate::error::GridError;
+use crate::open_blocks::OpenBlocks;
 use crate::row::{Cursor, RowState, form_cell};
 use crate::shape::SpanOf;
 use std::alloc::Global;
@@ -20,13 +21,12 @@ pub struct Group {
     pub height: u32,
     /// The blocks of the group's cells, in the order in which they were formed.
     pub blocks: List<Block>,
-    /// Those that may take rows to come, from left to right, and perhaps some that do not.
-    pub open_blocks: List<Block>,
+    /// Those that may take rows to come, from left to right.
+    pub open_blocks: OpenBlocks,
 }
 
 /// Forms the next row of a group; `number` is that of its first cell.
 fn form_row(
-    alloc: Global,
     mut number: u32,
     spans: &[SpanOf],
     group: Group,
@@ -46,43 +46,24 @@ fn form_row(
         row,
         height,
         blocks,
-        open_blocks,
+        mut open_blocks,
     } = group;
-    let height = height.max(row + 1);
-    if spans.is_empty() {
-        return Ok(Group {
-            row: row + 1,
-            height,
-            blocks,
-            open_blocks,
-        });
-    }
-    let above = open_blocks.as_slice();
+    open_blocks.leave_ended(row);
     let mut state = RowState {
-        cursor: Cursor {
-            column: 0,
-            at: 0,
-            passed: List::new(alloc),
-        },
-        height,
+        cursor: Cursor { column: 0, at: 0 },
+        height: height.max(row + 1),
         blocks,
+        open_blocks,
     };
     for span in spans {
-        state = form_cell(row, number, *span, above, state)?;
+        state = form_cell(row, number, *span, state)?;
         number += 1;
     }
-    let RowState {
-        cursor,
-        height,
-        blocks,
-    } = state;
-    let mut open_blocks = cursor.passed;
-    open_blocks.extend_from_slice(&above[cursor.at..])?;
     Ok(Group {
         row: row + 1,
-        height,
-        blocks,
-        open_blocks,
+        height: state.height,
+        blocks: state.blocks,
+        open_blocks: state.open_blocks,
     })
 }
 
@@ -104,11 +85,11 @@ pub fn form_group(
         row,
         height: row,
         blocks: List::new(alloc),
-        open_blocks: List::new(alloc),
+        open_blocks: OpenBlocks::new(alloc),
     };
     for spans in rows {
         let spans = spans.as_slice();
-        group = form_row(alloc, number, spans, group)?;
+        group = form_row(number, spans, group)?;
         number += spans.len() as u32;
     }
     Ok(group)

@@ -10,6 +10,7 @@ mod error;
 mod forming;
 mod group;
 mod kept;
+mod open_blocks;
 mod row;
 mod shape;
 mod table;

@@ -1,22 +1,20 @@
-ghost use Rattle.std.specs.Prelude.{◌≡◌, ◌+◌, ◌*◌, ◌<◌, ◌≤◌, ◌^◌, IfOk, max, drop, length};
-ghost use Rattle.tl_grid.specs.Walk.{reaches, pass_taken, block_at, hit, place_cell};
-ghost use Rattle.tl_grid.specs.Answers.{row_over, IsAnswer, IsPassed, IsSpan, StaysWithin};
+ghost use Rattle.std.specs.Prelude.{◌≡◌, ◌+◌, ◌*◌, ◌<◌, ◌≤◌, ◌^◌, IfOk, max, take, drop, length};
+ghost use Rattle.tl_grid.specs.Walk.{pass_taken, block_at, hit, place_cell};
+ghost use Rattle.tl_grid.specs.Answers.{walk_over, row_over, IsAnswer, IsSpan, StaysWithin};
 
 use crate::block::Block;
 use crate::error::GridError;
+use crate::open_blocks::OpenBlocks;
 use crate::shape::SpanOf;
 use tl_base::List;
 
-/// How far a row has come over the blocks that are open above it, which lie in order from left to
-/// right.
-#[derive(Drop)]
+/// How far a row has come over its open blocks, which lie in order from left to right.
+#[derive(Drop, Clone, Copy)]
 pub struct Cursor {
     /// The first column that the next cell may take.
     pub column: u32,
     /// How many of the open blocks lie before that column.
     pub at: usize,
-    /// These, without those that end above the row, and the blocks of the row's own cells.
-    pub passed: List<Block>,
 }
 
 /// A row while its cells are formed.
@@ -27,33 +25,25 @@ pub struct RowState {
     pub height: u32,
     /// The blocks of the row group so far, in the order in which they were formed.
     pub blocks: List<Block>,
-}
-
-/// Whether a block that begins in `row` or above it takes that row.
-fn reaches_row(block: &Block, row: u32) -> bool
-    ensures { result ≡ reaches row block.now }
-{
-    block.grows || row < block.bottom
+    /// Those that take the row, from left to right.
+    pub open_blocks: OpenBlocks,
 }
 
 /// Passes the open blocks that take the columns from the cursor on, one after another.
-fn pass_open(row: u32, above: &[Block], mut cursor: Cursor) -> Result<Cursor, GridError>
+fn pass_open(above: &[Block], mut cursor: Cursor) -> Cursor
     requires { cursor.at ≤ length above.now }
-    ensures walk { IsPassed row above.now cursor result }
-    ensures within { IfOk result (λ after. after.at ≤ length above.now) }
+    ensures walk { walk_over above.now result ≡ pass_taken cursor.column (take cursor.at above.now) (drop cursor.at above.now) }
+    ensures within { result.at ≤ length above.now }
 {
     while cursor.at < above.len() {
         let block = above[cursor.at];
-        if reaches_row(&block, row) {
-            if cursor.column < block.left {
-                return Ok(cursor);
-            }
-            cursor.column = block.right;
-            cursor.passed.push(block)?;
+        if cursor.column < block.left {
+            return cursor;
         }
+        cursor.column = block.right;
         cursor.at += 1;
     }
-    Ok(cursor)
+    cursor
 }
 
 /// The block of a cell that begins in column `column` of row `row`.
@@ -88,27 +78,28 @@ pub fn form_cell(
     y: u32,
     number: u32,
     span: SpanOf,
-    above: &[Block],
     row: RowState,
 ) -> Result<RowState, GridError>
     requires span { IsSpan span }
     requires number { number < 20000 }
     requires row { y + 65534 < 2 ^ 32 }
-    requires within { row.cursor.at ≤ length above.now }
-    requires columns { StaysWithin (1000 * number) (row_over above.now row) }
-    ensures cell { IsAnswer (row_over above.now) (place_cell y number (row_over above.now row) span) result }
-    ensures columns { IfOk result (λ after. StaysWithin (1000 * (number + 1)) (row_over above.now after)) }
+    requires within { row.cursor.at ≤ length row.open_blocks }
+    requires columns { StaysWithin (1000 * number) (row_over row) }
+    ensures cell { IsAnswer row_over (place_cell y number (row_over row) span) result }
+    ensures columns { IfOk result (λ after. StaysWithin (1000 * (number + 1)) (row_over after)) }
     ensures height { IfOk result (λ after. after.height ≤ max row.height (y + 65534)) }
     ensures count { IfOk result (λ after. length after.blocks ≡ length row.blocks + 1) }
     ensures higher { IfOk result (λ after. row.height ≤ after.height) }
-    ensures within { IfOk result (λ after. after.cursor.at ≤ length above.now) }
+    ensures within { IfOk result (λ after. after.cursor.at ≤ length after.open_blocks) }
 {
     let RowState {
         cursor,
         height,
         mut blocks,
+        mut open_blocks,
     } = row;
-    let mut cursor = pass_open(y, above, cursor)?;
+    let above = open_blocks.as_slice();
+    let cursor = pass_open(above, cursor);
     let block = block_of(number, cursor.column, y, span);
     if let Some(hit) = first_hit(above, cursor.at, block.right) {
         return Err(GridError::Overlap {
@@ -118,12 +109,15 @@ pub fn form_cell(
             y,
         });
     }
-    cursor.column = block.right;
-    cursor.passed.push(block)?;
+    open_blocks.insert(cursor.at, block)?;
     blocks.push(block)?;
     Ok(RowState {
-        cursor,
+        cursor: Cursor {
+            column: block.right,
+            at: cursor.at + 1,
+        },
         height: height.max(block.bottom),
         blocks,
+        open_blocks,
     })
 }

@@ -1,4 +1,4 @@
-use Rattle.std.proofs.Common.{length, ◌-◌, ◌≡◌, ◌≤◌, drop}
+use Rattle.std.proofs.Common.{length, ◌-◌, ◌≡◌, ◌≤◌, take, drop}
 use Rattle.tl_grid.specs.Walk.{pass_taken}
 use Rattle.tl_grid.proofs.row.pass_open.Given as goal
 
@@ -6,8 +6,8 @@ use Rattle.tl_grid.proofs.row.pass_open.Given as goal
 abbrev pub invariant-loop-cursor : goal.invariant-loop-cursor
 invariant-loop-cursor l =
   record {
-    walk : pass_taken l.row l.cursor.column l.cursor.passed (drop l.cursor.at l.above)
-      ≡ pass_taken l.row l.fn.cursor.column l.fn.cursor.passed (drop l.fn.cursor.at l.above);
+    walk : pass_taken l.cursor.column (take l.cursor.at l.above) (drop l.cursor.at l.above)
+      ≡ pass_taken l.fn.cursor.column (take l.fn.cursor.at l.above) (drop l.fn.cursor.at l.above);
     within : l.cursor.at ≤ length l.above }
 
 abbrev pub decreases-loop-cursor : goal.decreases-loop-cursor
