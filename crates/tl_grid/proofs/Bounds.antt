@@ -19,14 +19,15 @@ mid_of P (x ∷ xs) b ys a = mid_of P xs b ys a.1
 pub passed_within : (width : ℕ) (qs : List Block) (x : ℕ) (ps : List Block) → x ≤ width → AllByRecursion (EndsBy width) (ps ++ qs) → EndsIn width (pass_taken x ps qs)
 passed_within width [] x ps le all = (le, all)
 passed_within width (b ∷ bs) x ps le all =
-  let P : Walk → Type 0 = λ w. EndsIn width w in
-  elim (cases_Bool (leb b.left x)) [
-    inl f ↦
-      let Q : List Block → Type 0 = λ l. AllByRecursion (EndsBy width) l in
-      subst P (sym (pass_on x ps b bs f))
-        (passed_within width bs b.right (ps ++ b ∷ []) (mid_of (EndsBy width) ps b bs all)
+    let P : Walk → Type 0 = λ w. EndsIn width w in
+    elim (cases_Bool (leb b.left x)) [
+      | inl f ↦
+          let Q : List Block → Type 0 = λ l. AllByRecursion (EndsBy width) l in
+          subst P (sym (pass_on x ps b bs f))
+          (passed_within width bs b.right (ps ++ b ∷ []) (mid_of (EndsBy width) ps b bs all)
           (subst Q (sym (append_assoc ps (b ∷ []) bs)) all))
-  | inr f ↦ subst P (sym (pass_stop x ps b bs f)) (le, all) ]
+      | inr f ↦ subst P (sym (pass_stop x ps b bs f)) (le, all)
+    ]
 
 all_by : (width wider : ℕ) → width ≤ wider → (xs : List Block) → AllByRecursion (EndsBy width) xs → AllByRecursion (EndsBy wider) xs
 all_by width wider le [] a = tt

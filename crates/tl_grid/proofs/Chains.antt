@@ -23,32 +23,34 @@ ChainTo a (b ∷ bs) z = (a ≤ b.left) × (b.left < b.right) × ChainTo b.right
 -- a block that reaches a row reaches those between
 pub reaches_above : (y y' : ℕ) (b : Block) → y ≤ y' → reaches y' b ≡ true → reaches y b ≡ true
 reaches_above y y' b le h =
-  elim (or_cases b.grows (ltb y' b.bottom) h) [
-    inl g ↦ or_left b.grows (ltb y b.bottom) g
-  | inr e ↦ or_right b.grows (ltb y b.bottom) (lt-ltb y b.bottom (omega (arith, ltb-true y' b.bottom e))) ]
+    elim (or_cases b.grows (ltb y' b.bottom) h) [
+      | inl g ↦ or_left b.grows (ltb y b.bottom) g
+      | inr e ↦ or_right b.grows (ltb y b.bottom) (lt-ltb y b.bottom (omega (arith, ltb-true y' b.bottom e)))
+    ]
 
 pub not_below : (y y' : ℕ) (b : Block) → y ≤ y' → reaches y b ≡ false → reaches y' b ≡ false
 not_below y y' b le h =
-  elim (cases_Bool (reaches y' b)) [
-    inl t ↦ absurd (let u : reaches y b ≡ true = reaches_above y y' b le t in cc)
-  | inr f ↦ f ]
+    elim (cases_Bool (reaches y' b)) [
+      | inl t ↦ absurd (let u : reaches y b ≡ true = reaches_above y y' b le t in cc)
+      | inr f ↦ f
+    ]
 
 pub spot_ended : (x y : ℕ) (b : Block) → reaches y b ≡ false → spot x y b ≡ false
 spot_ended x y b h = and_right (leb b.left x && ltb x b.right) (reaches y b) h
 
 pub spot_left : (x y : ℕ) (b : Block) → x < b.left → spot x y b ≡ false
 spot_left x y b h =
-  and_left (leb b.left x && ltb x b.right) (reaches y b)
+    and_left (leb b.left x && ltb x b.right) (reaches y b)
     (and_left (leb b.left x) (ltb x b.right) (lt-leb b.left x h))
 
 pub spot_right : (x y : ℕ) (b : Block) → b.right ≤ x → spot x y b ≡ false
 spot_right x y b h =
-  and_left (leb b.left x && ltb x b.right) (reaches y b)
+    and_left (leb b.left x && ltb x b.right) (reaches y b)
     (and_right (leb b.left x) (ltb x b.right) (le-ltb x b.right h))
 
 pub spot_in : (x y : ℕ) (b : Block) → b.left ≤ x → x < b.right → reaches y b ≡ true → spot x y b ≡ true
 spot_in x y b l r h =
-  and_from (leb b.left x && ltb x b.right) (reaches y b)
+    and_from (leb b.left x && ltb x b.right) (reaches y b)
     (and_from (leb b.left x) (ltb x b.right) (le-leb b.left x l) (lt-ltb x b.right r)) h
 
 -- what a filter keeps of one more element
@@ -73,61 +75,65 @@ chain_from a z (b ∷ bs) le c = (omega (arith, c.0), c.1, c.2)
 pub chain_end : (a z : ℕ) (bs : List Block) → ChainTo a bs z → a ≤ z
 chain_end a z [] c = c
 chain_end a z (b ∷ bs) c =
-  let rest : b.right ≤ z = chain_end b.right z bs c.2 in omega (arith, c.0, c.1)
+    let rest : b.right ≤ z = chain_end b.right z bs c.2 in omega (arith, c.0, c.1)
 
 pub spot_before : (x y : ℕ) (b : Block) → spot x y b ≡ true → x < b.right
 spot_before x y b h =
-  let in_columns = and_parts (leb b.left x && ltb x b.right) (reaches y b) h in
-  ltb-true x b.right ((and_parts (leb b.left x) (ltb x b.right) in_columns.0).1)
+    let in_columns = and_parts (leb b.left x && ltb x b.right) (reaches y b) h in
+    ltb-true x b.right ((and_parts (leb b.left x) (ltb x b.right) in_columns.0).1)
 
 pub spot_from : (x y : ℕ) (b : Block) → spot x y b ≡ true → b.left ≤ x
 spot_from x y b h =
-  let in_columns = and_parts (leb b.left x && ltb x b.right) (reaches y b) h in
-  leb-true b.left x ((and_parts (leb b.left x) (ltb x b.right) in_columns.0).0)
+    let in_columns = and_parts (leb b.left x && ltb x b.right) (reaches y b) h in
+    leb-true b.left x ((and_parts (leb b.left x) (ltb x b.right) in_columns.0).0)
 
 -- no block of a chain covers a column before it
 pub none_left : (z x y y' : ℕ) → x < z → y ≤ y' → (bs : List Block) → Chain z (filter (reaches y) bs) → filter (spot x y') bs ≡ []
 none_left z x y y' lt le [] c = refl
 none_left z x y y' lt le (b ∷ bs) c =
-  elim (cases_Bool (reaches y b)) [
-    inl e ↦
-      let d : Chain z (b ∷ filter (reaches y) bs) = chain_yes z y b bs e c in
-      rw (filter_no (spot x y') b bs (spot_left x y' b (omega (arith, d.0))))
-        (none_left b.right x y y' (omega (arith, d.0, d.1)) le bs d.2)
-  | inr e ↦
-      rw (filter_no (spot x y') b bs (spot_ended x y' b (not_below y y' b le e)))
-        (none_left z x y y' lt le bs (chain_no z y b bs e c)) ]
+    elim (cases_Bool (reaches y b)) [
+      | inl e ↦
+          let d : Chain z (b ∷ filter (reaches y) bs) = chain_yes z y b bs e c in
+          rw (filter_no (spot x y') b bs (spot_left x y' b (omega (arith, d.0))))
+          (none_left b.right x y y' (omega (arith, d.0, d.1)) le bs d.2)
+      | inr e ↦
+          rw (filter_no (spot x y') b bs (spot_ended x y' b (not_below y y' b le e)))
+          (none_left z x y y' lt le bs (chain_no z y b bs e c))
+    ]
 
 -- nor does one before column z cover z or one after it
 pub none_right : (a z x y y' : ℕ) → z ≤ x → y ≤ y' → (bs : List Block) → ChainTo a (filter (reaches y) bs) z → filter (spot x y') bs ≡ []
 none_right a z x y y' ge le [] c = refl
 none_right a z x y y' ge le (b ∷ bs) c =
-  elim (cases_Bool (reaches y b)) [
-    inl e ↦
-      let d : ChainTo a (b ∷ filter (reaches y) bs) z = rw (filter_yes (reaches y) b bs e) at c in
-      let end : b.right ≤ z = chain_end b.right z (filter (reaches y) bs) d.2 in
-      rw (filter_no (spot x y') b bs (spot_right x y' b (omega arith)))
-        (none_right b.right z x y y' ge le bs d.2)
-  | inr e ↦
-      rw (filter_no (spot x y') b bs (spot_ended x y' b (not_below y y' b le e)))
-        (none_right a z x y y' ge le bs (rw (filter_no (reaches y) b bs e) at c)) ]
+    elim (cases_Bool (reaches y b)) [
+      | inl e ↦
+          let d : ChainTo a (b ∷ filter (reaches y) bs) z = rw (filter_yes (reaches y) b bs e) at c in
+          let end : b.right ≤ z = chain_end b.right z (filter (reaches y) bs) d.2 in
+          rw (filter_no (spot x y') b bs (spot_right x y' b (omega arith)))
+          (none_right b.right z x y y' ge le bs d.2)
+      | inr e ↦
+          rw (filter_no (spot x y') b bs (spot_ended x y' b (not_below y y' b le e)))
+          (none_right a z x y y' ge le bs (rw (filter_no (reaches y) b bs e) at c))
+    ]
 
 -- a chain covers no slot twice
 pub at_most_one : (a x y y' : ℕ) → y ≤ y' → (bs : List Block) → Chain a (filter (reaches y) bs) → length (filter (spot x y') bs) ≤ 1
 at_most_one a x y y' le [] c = omega arith
 at_most_one a x y y' le (b ∷ bs) c =
-  elim (cases_Bool (reaches y b)) [
-    inl e ↦
-      let d : Chain a (b ∷ filter (reaches y) bs) = chain_yes a y b bs e c in
-      elim (cases_Bool (spot x y' b)) [
-        inl t ↦
-          rw (filter_yes (spot x y') b bs t)
-            (let none : filter (spot x y') bs ≡ [] = none_left b.right x y y' (spot_before x y' b t) le bs d.2 in
-             rw none (omega arith))
-      | inr f ↦ rw (filter_no (spot x y') b bs f) (at_most_one b.right x y y' le bs d.2) ]
-  | inr e ↦
-      rw (filter_no (spot x y') b bs (spot_ended x y' b (not_below y y' b le e)))
-        (at_most_one a x y y' le bs (chain_no a y b bs e c)) ]
+    elim (cases_Bool (reaches y b)) [
+      | inl e ↦
+          let d : Chain a (b ∷ filter (reaches y) bs) = chain_yes a y b bs e c in
+          elim (cases_Bool (spot x y' b)) [
+            | inl t ↦
+                rw (filter_yes (spot x y') b bs t)
+                (let none : filter (spot x y') bs ≡ [] = none_left b.right x y y' (spot_before x y' b t) le bs d.2 in
+                rw none (omega arith))
+            | inr f ↦ rw (filter_no (spot x y') b bs f) (at_most_one b.right x y y' le bs d.2)
+          ]
+      | inr e ↦
+          rw (filter_no (spot x y') b bs (spot_ended x y' b (not_below y y' b le e)))
+          (at_most_one a x y y' le bs (chain_no a y b bs e c))
+    ]
 
 -- two chains, one after the other
 pub chain_append : (a z : ℕ) (bs cs : List Block) → ChainTo a bs z → Chain z cs → Chain a (bs ++ cs)
@@ -143,15 +149,17 @@ chain_push a z (x ∷ bs) b c l r = (c.0, c.1, chain_push x.right z bs b c.2 l r
 pub chain_kept : (a y y' : ℕ) → y ≤ y' → (bs : List Block) → Chain a (filter (reaches y) bs) → Chain a (filter (reaches y') bs)
 chain_kept a y y' le [] c = c
 chain_kept a y y' le (b ∷ bs) c =
-  elim (cases_Bool (reaches y b)) [
-    inl e ↦
-      let d : Chain a (b ∷ filter (reaches y) bs) = chain_yes a y b bs e c in
-      let rest : Chain b.right (filter (reaches y') bs) = chain_kept b.right y y' le bs d.2 in
-      elim (cases_Bool (reaches y' b)) [
-        inl t ↦ rw (filter_yes (reaches y') b bs t) (d.0, d.1, rest)
-      | inr f ↦
-          rw (filter_no (reaches y') b bs f)
-            (chain_from a b.right (filter (reaches y') bs) (omega (arith, d.0, d.1)) rest) ]
-  | inr e ↦
-      rw (filter_no (reaches y') b bs (not_below y y' b le e))
-        (chain_kept a y y' le bs (chain_no a y b bs e c)) ]
+    elim (cases_Bool (reaches y b)) [
+      | inl e ↦
+          let d : Chain a (b ∷ filter (reaches y) bs) = chain_yes a y b bs e c in
+          let rest : Chain b.right (filter (reaches y') bs) = chain_kept b.right y y' le bs d.2 in
+          elim (cases_Bool (reaches y' b)) [
+            | inl t ↦ rw (filter_yes (reaches y') b bs t) (d.0, d.1, rest)
+            | inr f ↦
+                rw (filter_no (reaches y') b bs f)
+                (chain_from a b.right (filter (reaches y') bs) (omega (arith, d.0, d.1)) rest)
+          ]
+      | inr e ↦
+          rw (filter_no (reaches y') b bs (not_below y y' b le e))
+          (chain_kept a y y' le bs (chain_no a y b bs e c))
+    ]

@@ -22,7 +22,7 @@ table groups = record { columns = 0; groups = groups }
 
 abbrev place : ℕ → ℕ → ℕ → ℕ → Place
 place left right top bottom =
-  record { left = left; right = right; top = top; bottom = bottom }
+    record { left = left; right = right; top = top; bottom = bottom }
 
 -- A grows to the end of its row group, which B makes three rows high; C begins the next group.
 --     A B
@@ -31,7 +31,7 @@ place left right top bottom =
 --     C C
 abbrev growing : Shape
 growing = table
-  (body ((cell 1 0 ∷ cell 1 3 ∷ []) ∷ []) ∷ body ((cell 2 1 ∷ []) ∷ []) ∷ [])
+    (body ((cell 1 0 ∷ cell 1 3 ∷ []) ∷ []) ∷ body ((cell 2 1 ∷ []) ∷ []) ∷ [])
 
 -- before dropping the standard leaves row 1 out of A
 growing_rows : numbers_over 0 0 (formed growing).cells ≡ 0 ∷ []
@@ -47,7 +47,10 @@ growing_next : numbers_over 0 3 (formed growing).cells ≡ 2 ∷ []
 growing_next = refl
 
 growing_grid : grid_of growing ≡ record {
-  cols = 2; rows = 2; places = place 0 1 0 1 ∷ place 1 2 0 1 ∷ place 0 2 1 2 ∷ [] }
+  cols = 2;
+  rows = 2;
+  places = place 0 1 0 1 ∷ place 1 2 0 1 ∷ place 0 2 1 2 ∷ [];
+}
 growing_grid = refl
 
 -- A foot that is written first goes to the end, and keeps its place among the cells as written.
@@ -56,10 +59,13 @@ growing_grid = refl
 --     F
 abbrev foot_first : Shape
 foot_first = table
-  (foot ((cell 1 1 ∷ []) ∷ []) ∷ body ((cell 1 2 ∷ []) ∷ []) ∷ [])
+    (foot ((cell 1 1 ∷ []) ∷ []) ∷ body ((cell 1 2 ∷ []) ∷ []) ∷ [])
 
 foot_first_grid : grid_of foot_first ≡ record {
-  cols = 1; rows = 2; places = place 0 1 1 2 ∷ place 0 1 0 1 ∷ [] }
+  cols = 1;
+  rows = 2;
+  places = place 0 1 1 2 ∷ place 0 1 0 1 ∷ [];
+}
 foot_first_grid = refl
 
 -- C is two columns wide, and B still covers the second.
@@ -67,7 +73,7 @@ foot_first_grid = refl
 --     C *
 abbrev overlapped : Shape
 overlapped = table
-  (body ((cell 1 1 ∷ cell 1 2 ∷ []) ∷ (cell 2 1 ∷ []) ∷ []) ∷ [])
+    (body ((cell 1 1 ∷ cell 1 2 ∷ []) ∷ (cell 2 1 ∷ []) ∷ []) ∷ [])
 
 overlapped_at : numbers_over 1 1 (formed overlapped).cells ≡ 1 ∷ 2 ∷ []
 overlapped_at = refl
@@ -82,8 +88,11 @@ overlapped_before = refl
 --     B C
 abbrev wide : Shape
 wide = table
-  (body ((cell 3 1 ∷ []) ∷ [] ∷ (cell 1 1 ∷ cell 1 1 ∷ []) ∷ []) ∷ [])
+    (body ((cell 3 1 ∷ []) ∷ [] ∷ (cell 1 1 ∷ cell 1 1 ∷ []) ∷ []) ∷ [])
 
 wide_grid : grid_of wide ≡ record {
-  cols = 2; rows = 2; places = place 0 2 0 1 ∷ place 0 1 1 2 ∷ place 1 2 1 2 ∷ [] }
+  cols = 2;
+  rows = 2;
+  places = place 0 2 0 1 ∷ place 0 1 1 2 ∷ place 1 2 1 2 ∷ [];
+}
 wide_grid = refl

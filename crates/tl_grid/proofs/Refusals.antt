@@ -37,52 +37,62 @@ wide_groups (group ∷ groups) all = (wide_rows group.rows all.0, wide_groups gr
 
 pub table_matches : (shape : Shape) (t : Table) → AllSpans shape.groups → place_all shape.groups ≡ Ok t → TableMatches (formed shape) t
 table_matches shape t spans e =
-  let P : Result Table GridError → Type 0 = λ r. TableGives (formed shape) r in
-  subst P e (all_give shape (wide_groups shape.groups spans))
+    let P : Result Table GridError → Type 0 = λ r. TableGives (formed shape) r in
+    subst P e (all_give shape (wide_groups shape.groups spans))
 
 found_refusal : (shape : Shape) (error : GridError) → cell_count shape ≤ 20000 → IsFound (formed shape) error → IsRefusal shape error
 found_refusal shape (Memory e) few found = tt
 found_refusal shape (TooManyCells count) few found = absurd found
 found_refusal shape (Overlap first second x y) few found = record {
   few_cells = few;
-  overlap = record { two = ([], found.0.two); before = found.0.before } }
+  overlap = record { two = ([], found.0.two); before = found.0.before };
+}
 found_refusal shape (TooManyColumns count) few found = absurd found
 found_refusal shape (TooManyRows count) few found = absurd found
 
 -- an error of the walk, or want of memory
 pub walk_refusal : (shape : Shape) (error : GridError) → AllSpans shape.groups → cell_count shape ≤ 20000 → (error ≡ Memory alloc_error) ⊎ (place_all shape.groups ≡ Err error) → IsRefusal shape error
 walk_refusal shape error spans few (inl memory) =
-  let P : GridError → Type 0 = λ e. IsRefusal shape e in subst P (sym memory) tt
+    let P : GridError → Type 0 = λ e. IsRefusal shape e in subst P (sym memory) tt
 walk_refusal shape error spans few (inr walked) =
-  let P : Result Table GridError → Type 0 = λ r. TableGives (formed shape) r in
-  found_refusal shape error few (subst P walked (all_give shape (wide_groups shape.groups spans)))
+    let P : Result Table GridError → Type 0 = λ r. TableGives (formed shape) r in
+    found_refusal shape error few (subst P walked (all_give shape (wide_groups shape.groups spans)))
 
 pub columns_refusal : (shape : Shape) (t : Table) (columns : List ℕ) (count : ℕ) → AllSpans shape.groups → cell_count shape ≤ 20000 → place_all shape.groups ≡ Ok t → IsStrictlyIncreasing columns → ((x : ℕ) → is_among columns x ≡ begins_in_column t.blocks x) → count ≡ length columns → 60 < count → HasTooManyColumns shape count
 columns_refusal shape t columns count spans few walked up same counted many =
-  let m : TableMatches (formed shape) t = table_matches shape t spans walked in
-  record {
-    few_cells = few; no_overlap = m.one;
-    counted = counted ∙ sym (column_count (formed shape) t columns m up same);
-    many = many }
+    let m : TableMatches (formed shape) t = table_matches shape t spans walked in
+    record {
+      few_cells = few;
+      no_overlap = m.one;
+      counted = counted ∙ sym (column_count (formed shape) t columns m up same);
+      many = many;
+    }
 
 pub rows_refusal : (shape : Shape) (t : Table) (columns rows : List ℕ) (count : ℕ) → AllSpans shape.groups → cell_count shape ≤ 20000 → place_all shape.groups ≡ Ok t → IsStrictlyIncreasing columns → ((x : ℕ) → is_among columns x ≡ begins_in_column t.blocks x) → length columns ≤ 60 → IsStrictlyIncreasing rows → ((y : ℕ) → is_among rows y ≡ begins_in_row t.blocks y) → count ≡ length rows → 2000 < count → HasTooManyRows shape count
 rows_refusal shape t columns rows count spans few walked up same narrow up' same' counted many =
-  let m : TableMatches (formed shape) t = table_matches shape t spans walked in
-  let columns_are : kept_column_count shape ≡ length columns = column_count (formed shape) t columns m up same in
-  record {
-    few_cells = few; no_overlap = m.one; few_columns = omega arith;
-    counted = counted ∙ sym (row_count (formed shape) t rows m up' same');
-    many = many }
+    let m : TableMatches (formed shape) t = table_matches shape t spans walked in
+    let columns_are : kept_column_count shape ≡ length columns = column_count (formed shape) t columns m up same in
+    record {
+      few_cells = few;
+      no_overlap = m.one;
+      few_columns = omega arith;
+      counted = counted ∙ sym (row_count (formed shape) t rows m up' same');
+      many = many;
+    }
 
 pub has_grid : (shape : Shape) (t : Table) (columns rows : List ℕ) (cols lines count : ℕ) (places : List Place) → AllSpans shape.groups → cell_count shape ≤ 20000 → place_all shape.groups ≡ Ok t → IsStrictlyIncreasing columns → ((x : ℕ) → is_among columns x ≡ begins_in_column t.blocks x) → length columns ≤ 60 → IsStrictlyIncreasing rows → ((y : ℕ) → is_among rows y ≡ begins_in_row t.blocks y) → length rows ≤ 2000 → cols ≡ length columns → lines ≡ length rows → count ≡ cell_count shape → places ≡ put_places columns rows (replicate count nowhere) t.blocks → HasGrid shape record { cols = cols; rows = lines; places = places }
 has_grid shape t columns rows cols lines count places spans few walked up same narrow up' same' low wide high counted put =
-  let m : TableMatches (formed shape) t = table_matches shape t spans walked in
-  let columns_are : kept_column_count shape ≡ length columns = column_count (formed shape) t columns m up same in
-  let rows_are : kept_row_count shape ≡ length rows = row_count (formed shape) t rows m up' same' in
-  let cols_same = wide ∙ sym columns_are in
-  let rows_same = high ∙ sym rows_are in
-  let places_same = put ∙ ap (λ n. put_places columns rows (replicate n nowhere) t.blocks) counted
+    let m : TableMatches (formed shape) t = table_matches shape t spans walked in
+    let columns_are : kept_column_count shape ≡ length columns = column_count (formed shape) t columns m up same in
+    let rows_are : kept_row_count shape ≡ length rows = row_count (formed shape) t rows m up' same' in
+    let cols_same = wide ∙ sym columns_are in
+    let rows_same = high ∙ sym rows_are in
+    let places_same = put ∙ ap (λ n. put_places columns rows (replicate n nowhere) t.blocks) counted
     ∙ sym (same_places (formed shape) t columns rows (replicate (cell_count shape) nowhere) m same same') in
-  record {
-    few_cells = few; no_overlap = m.one; few_columns = omega arith; few_rows = omega arith;
-    dropped = λ i. record { cols = cols_same i; rows = rows_same i; places = places_same i } }
+    record {
+      few_cells = few;
+      no_overlap = m.one;
+      few_columns = omega arith;
+      few_rows = omega arith;
+      dropped = λ i. record { cols = cols_same i; rows = rows_same i; places = places_same i };
+    }

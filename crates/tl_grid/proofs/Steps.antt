@@ -16,16 +16,16 @@ hit_first (Some block) number y row more = refl
 
 pub cells_first : (y number : ℕ) (row : Row) (span : SpanOf) (spans : List SpanOf) → place_cells y number row (span ∷ spans) ≡ then_ok (λ after. place_cells y (number + 1) after spans) (place_cell y number row span)
 cells_first y number row span spans =
-  hit_first (hit (walk_of row).ahead ((walk_of row).column + span.colspan)) number y
+    hit_first (hit (walk_of row).ahead ((walk_of row).column + span.colspan)) number y
     (placed y number span row (walk_of row)) (λ after. place_cells y (number + 1) after spans)
 
 pub cells_go_on : (y number : ℕ) (row after : Row) (span : SpanOf) (spans : List SpanOf) → place_cell y number row span ≡ Ok after → place_cells y number row (span ∷ spans) ≡ place_cells y (number + 1) after spans
 cells_go_on y number row after span spans e =
-  cells_first y number row span spans ∙ ap (then_ok (λ next. place_cells y (number + 1) next spans)) e
+    cells_first y number row span spans ∙ ap (then_ok (λ next. place_cells y (number + 1) next spans)) e
 
 pub cells_stop : (y number : ℕ) (row : Row) (span : SpanOf) (spans : List SpanOf) (error : GridError) → place_cell y number row span ≡ Err error → place_cells y number row (span ∷ spans) ≡ Err error
 cells_stop y number row span spans error e =
-  cells_first y number row span spans ∙ ap (then_ok (λ next. place_cells y (number + 1) next spans)) e
+    cells_first y number row span spans ∙ ap (then_ok (λ next. place_cells y (number + 1) next spans)) e
 
 -- what holds of all holds at an index
 pub all_at : {X : Type 0} (P : X → Type 0) (xs : List X) (i : ℕ) (d : X) → i < length xs → AllByRecursion P xs → P (get_or xs i d)
@@ -55,20 +55,20 @@ drop_inserted b xs i le = rw (add-one i) (drop_put b xs i le)
 -- a cell that runs into no block, placed at the cursor
 cell_free : (y number : ℕ) (span : SpanOf) (row : RowState) (cursor : Cursor) → walk_over row.open_blocks cursor ≡ walk_of (row_over row) → hit (drop cursor.at row.open_blocks) (cursor.column + span.colspan) ≡ None → place_cell y number (row_over row) span ≡ Ok (placed y number span (row_over row) (walk_over row.open_blocks cursor))
 cell_free y number span row cursor e none =
-  let done : Row = placed y number span (row_over row) (walk_over row.open_blocks cursor) in
-  let P : Walk → Type 0 = λ w. unless_hit (hit w.ahead (w.column + span.colspan)) number y (Ok (placed y number span (row_over row) w)) ≡ Ok (placed y number span (row_over row) (walk_over row.open_blocks cursor)) in
-  subst P e (ap (λ o. unless_hit o number y (Ok done)) none)
+    let done : Row = placed y number span (row_over row) (walk_over row.open_blocks cursor) in
+    let P : Walk → Type 0 = λ w. unless_hit (hit w.ahead (w.column + span.colspan)) number y (Ok (placed y number span (row_over row) w)) ≡ Ok (placed y number span (row_over row) (walk_over row.open_blocks cursor)) in
+    subst P e (ap (λ o. unless_hit o number y (Ok done)) none)
 
 pub cell_done : (y number : ℕ) (span : SpanOf) (row : RowState) (cursor : Cursor) (b : Block) (height : ℕ) (blocks open_blocks : List Block) → walk_over row.open_blocks cursor ≡ walk_of (row_over row) → hit (drop cursor.at row.open_blocks) b.right ≡ None → b ≡ block_at number cursor.column y span → cursor.at ≤ length row.open_blocks → height ≡ max row.height b.bottom → blocks ≡ row.blocks ++ b ∷ [] → open_blocks ≡ insert row.open_blocks cursor.at b → place_cell y number (row_over row) span ≡ Ok (row_over record { cursor = record { column = b.right; at = cursor.at + 1 }; height = height; blocks = blocks; open_blocks = open_blocks })
 cell_done y number span row cursor b height blocks open_blocks e none is le high more put =
-  let c : Block = block_at number cursor.column y span in
-  let right : b.right ≡ c.right = ap (λ (d : Block). d.right) is in
-  let tall : max row.height c.bottom ≡ height = ap (λ (d : Block). max row.height d.bottom) (sym is) ∙ sym high in
-  let all : row.blocks ++ c ∷ [] ≡ blocks = ap (λ d. row.blocks ++ d ∷ []) (sym is) ∙ sym more in
-  let passed : take cursor.at row.open_blocks ++ c ∷ [] ≡ take (cursor.at + 1) open_blocks =
+    let c : Block = block_at number cursor.column y span in
+    let right : b.right ≡ c.right = ap (λ (d : Block). d.right) is in
+    let tall : max row.height c.bottom ≡ height = ap (λ (d : Block). max row.height d.bottom) (sym is) ∙ sym high in
+    let all : row.blocks ++ c ∷ [] ≡ blocks = ap (λ d. row.blocks ++ d ∷ []) (sym is) ∙ sym more in
+    let passed : take cursor.at row.open_blocks ++ c ∷ [] ≡ take (cursor.at + 1) open_blocks =
     ap (λ d. take cursor.at row.open_blocks ++ d ∷ []) (sym is)
     ∙ sym (take_inserted b row.open_blocks cursor.at le) ∙ ap (take (cursor.at + 1)) (sym put) in
-  let ahead : drop cursor.at row.open_blocks ≡ drop (cursor.at + 1) open_blocks =
+    let ahead : drop cursor.at row.open_blocks ≡ drop (cursor.at + 1) open_blocks =
     sym (drop_inserted b row.open_blocks cursor.at le) ∙ ap (drop (cursor.at + 1)) (sym put) in
-  cell_free y number span row cursor e (ap (hit (drop cursor.at row.open_blocks)) (sym right) ∙ none)
-  ∙ ap Ok (λ i. record { column = sym right i; height = tall i; blocks = all i; passed = passed i; ahead = ahead i })
+    cell_free y number span row cursor e (ap (hit (drop cursor.at row.open_blocks)) (sym right) ∙ none)
+    ∙ ap Ok (λ i. record { column = sym right i; height = tall i; blocks = all i; passed = passed i; ahead = ahead i })

@@ -13,12 +13,19 @@ use Rattle.tl_grid.specs.Walk.{Walk, Row}
 -- the walk of a cursor over the open blocks
 abbrev pub walk_over : List Block → Cursor → Walk
 walk_over open_blocks cursor = record {
-  column = cursor.column; passed = take cursor.at open_blocks; ahead = drop cursor.at open_blocks }
+  column = cursor.column;
+  passed = take cursor.at open_blocks;
+  ahead = drop cursor.at open_blocks;
+}
 
 abbrev pub row_over : RowState → Row
 row_over row = record {
-  column = row.cursor.column; height = row.height; blocks = row.blocks;
-  passed = take row.cursor.at row.open_blocks; ahead = drop row.cursor.at row.open_blocks }
+  column = row.cursor.column;
+  height = row.height;
+  blocks = row.blocks;
+  passed = take row.cursor.at row.open_blocks;
+  ahead = drop row.cursor.at row.open_blocks;
+}
 
 -- the code's answer is the walk's, seen by `view`, or there was not enough memory
 abbrev pub IsAnswer : {X Y : Type 0} → (X → Y) → Result Y GridError → Result X GridError → Type 0
@@ -32,7 +39,7 @@ IsSpan span = (1 ≤ span.colspan) × (span.colspan ≤ 1000) × (span.rowspan �
 -- each cell of the groups has such a span
 abbrev pub AllSpans : List ShapeGroup → Type 0
 AllSpans groups =
-  AllByRecursion (λ (group : ShapeGroup). AllByRecursion (AllByRecursion IsSpan) group.rows) groups
+    AllByRecursion (λ (group : ShapeGroup). AllByRecursion (AllByRecursion IsSpan) group.rows) groups
 
 -- a block ends before column `width`, or at it
 abbrev pub EndsBy : ℕ → Block → Type 0
@@ -41,4 +48,4 @@ EndsBy width block = block.right ≤ width
 -- so do the row's blocks and its column
 abbrev pub StaysWithin : ℕ → Row → Type 0
 StaysWithin width row =
-  (row.column ≤ width) × AllByRecursion (EndsBy width) (row.passed ++ row.ahead)
+    (row.column ≤ width) × AllByRecursion (EndsBy width) (row.passed ++ row.ahead)

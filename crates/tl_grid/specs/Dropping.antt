@@ -29,7 +29,7 @@ new_row cells y = count_below (keeps_row cells) y
 -- how many kept columns, and rows, a cell covers
 abbrev pub kept_columns : Forming → Cell → ℕ
 kept_columns s cell =
-  count_below (λ x. keeps_column s.cells x && (nat_le cell.left x && nat_lt x cell.right)) s.width
+    count_below (λ x. keeps_column s.cells x && (nat_le cell.left x && nat_lt x cell.right)) s.width
 
 abbrev pub kept_rows : Forming → Cell → ℕ
 kept_rows s cell = count_below (λ y. keeps_row s.cells y && cell.rows y) s.height
@@ -44,7 +44,8 @@ place_of s cell = record {
   left = new_column s.cells cell.left;
   right = new_column s.cells cell.left + kept_columns s cell;
   top = new_row s.cells cell.top;
-  bottom = new_row s.cells cell.top + kept_rows s cell }
+  bottom = new_row s.cells cell.top + kept_rows s cell;
+}
 
 -- the place before any is known
 abbrev pub nowhere : Place
@@ -53,7 +54,7 @@ nowhere = record { left = 0; right = 0; top = 0; bottom = 0 }
 -- the places in the order of the cells as written: each at its cell's number
 abbrev pub places_as_written : Forming → ℕ → List Place
 places_as_written s count =
-  fold (λ places cell. slice_set places cell.number (place_of s cell)) (replicate count nowhere)
+    fold (λ places cell. slice_set places cell.number (place_of s cell)) (replicate count nowhere)
     s.cells
 
 abbrev pub kept_column_count : Shape → ℕ
@@ -66,4 +67,5 @@ abbrev pub grid_of : Shape → Grid
 grid_of shape = record {
   cols = kept_column_count shape;
   rows = kept_row_count shape;
-  places = places_as_written (formed shape) (cell_count shape) }
+  places = places_as_written (formed shape) (cell_count shape);
+}

@@ -51,9 +51,13 @@ first_rows span = if span.rowspan == 0 then 1 else span.rowspan
 -- the cell of this number, anchored at column x of the row y
 abbrev pub cell_at : ℕ → ℕ → ℕ → SpanOf → Cell
 cell_at number x y span = record {
-  number = number; left = x; right = x + span.colspan; top = y;
+  number = number;
+  left = x;
+  right = x + span.colspan;
+  top = y;
   rows = λ row. nat_le y row && nat_lt row (y + first_rows span);
-  grows = span.rowspan == 0 }
+  grows = span.rowspan == 0;
+}
 
 -- a cell is formed at column x of the current row: width and height rise to take it in
 abbrev pub with_cell : ℕ → ℕ → SpanOf → Forming → Forming
@@ -61,27 +65,35 @@ with_cell number x span s = record {
   width = max s.width (x + span.colspan);
   height = max s.height (s.row + first_rows span);
   row = s.row;
-  cells = s.cells ++ cell_at number x s.row span ∷ [] }
+  cells = s.cells ++ cell_at number x s.row span ∷ [];
+}
 
 -- the cells of a row from x_current on; `number` is that of the first of them
 abbrev pub form_cells : ℕ → ℕ → List SpanOf → Forming → Forming
 form_cells number x [] s = s
 form_cells number x (span ∷ spans) s =
-  let at : ℕ = first_free (λ column. has_cell column s.row s.cells) x (s.width - x) in
-  form_cells (number + 1) (at + span.colspan) spans (with_cell number at span s)
+    let at : ℕ = first_free (λ column. has_cell column s.row s.cells) x (s.width - x) in
+    form_cells (number + 1) (at + span.colspan) spans (with_cell number at span s)
 
 -- a cell that grows downward covers row y as well
 abbrev pub grown_into : ℕ → Cell → Cell
 grown_into y cell = record {
-  number = cell.number; left = cell.left; right = cell.right; top = cell.top;
+  number = cell.number;
+  left = cell.left;
+  right = cell.right;
+  top = cell.top;
   rows = λ row. cell.rows row || (cell.grows && row == y);
-  grows = cell.grows }
+  grows = cell.grows;
+}
 
 -- the current row begins: the table is at least that high, and the growing cells grow into it
 abbrev pub begin_row : Forming → Forming
 begin_row s = record {
-  width = s.width; height = max s.height (s.row + 1); row = s.row;
-  cells = map (grown_into s.row) s.cells }
+  width = s.width;
+  height = max s.height (s.row + 1);
+  row = s.row;
+  cells = map (grown_into s.row) s.cells;
+}
 
 abbrev pub next_row : Forming → Forming
 next_row s = record { width = s.width; height = s.height; row = s.row + 1; cells = s.cells }
@@ -92,21 +104,28 @@ form_row number spans s = next_row (form_cells number 0 spans (begin_row s))
 abbrev pub form_rows : ℕ → List (List SpanOf) → Forming → Forming
 form_rows number [] s = s
 form_rows number (spans ∷ rows) s =
-  form_rows (number + length spans) rows (form_row number spans s)
+    form_rows (number + length spans) rows (form_row number spans s)
 
 -- what the end of a row group leaves of a cell: y_current rises from `row` to `height` in steps of
 -- one, and after each step a growing cell grows into that row, below `height`; then it grows no
 -- more. So the row y_current itself is left out, as in the standard; no cell is anchored there.
 abbrev pub at_group_end : ℕ → ℕ → Cell → Cell
 at_group_end row height cell = record {
-  number = cell.number; left = cell.left; right = cell.right; top = cell.top;
+  number = cell.number;
+  left = cell.left;
+  right = cell.right;
+  top = cell.top;
   rows = λ y. cell.rows y || (cell.grows && (nat_lt row y && nat_lt y height));
-  grows = false }
+  grows = false;
+}
 
 abbrev pub end_group : Forming → Forming
 end_group s = record {
-  width = s.width; height = s.height; row = max s.row s.height;
-  cells = map (at_group_end s.row s.height) s.cells }
+  width = s.width;
+  height = s.height;
+  row = max s.row s.height;
+  cells = map (at_group_end s.row s.height) s.cells;
+}
 
 abbrev pub form_group : ℕ → List (List SpanOf) → Forming → Forming
 form_group number rows s = end_group (form_rows number rows s)
@@ -119,7 +138,7 @@ cells_in rows = sum_by length rows
 abbrev pub form_groups : (ShapeGroup → Bool) → ℕ → List ShapeGroup → Forming → Forming
 form_groups turn number [] s = s
 form_groups turn number (group ∷ groups) s =
-  form_groups turn (number + cells_in group.rows) groups
+    form_groups turn (number + cells_in group.rows) groups
     (if turn group then form_group number group.rows s else s)
 
 -- a table without cells, of so many columns
@@ -129,7 +148,7 @@ no_cells columns = record { width = columns; height = 0; row = 0; cells = [] }
 -- the standard's result: the feet wait until all other groups are formed
 abbrev pub formed : Shape → Forming
 formed shape =
-  form_groups (λ group. group.foot) 0 shape.groups
+    form_groups (λ group. group.foot) 0 shape.groups
     (form_groups (λ group. not group.foot) 0 shape.groups (no_cells shape.columns))
 
 -- how many cells and rows the groups have

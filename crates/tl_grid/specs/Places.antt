@@ -17,9 +17,10 @@ place_in columns rows block = record {
   left = count_below (is_among columns) block.left;
   right = count_below (is_among columns) block.right;
   top = count_below (is_among rows) block.top;
-  bottom = count_below (is_among rows) block.bottom }
+  bottom = count_below (is_among rows) block.bottom;
+}
 
 -- each place at its cell's number
 abbrev pub put_places : List ℕ → List ℕ → List Place → List Block → List Place
 put_places columns rows places blocks =
-  fold (λ found block. slice_set found block.number (place_in columns rows block)) places blocks
+    fold (λ found block. slice_set found block.number (place_in columns rows block)) places blocks

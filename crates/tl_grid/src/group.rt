@@ -26,11 +26,7 @@ pub struct Group {
 }
 
 /// Forms the next row of a group; `number` is that of its first cell.
-fn form_row(
-    mut number: u32,
-    spans: &[SpanOf],
-    group: Group,
-) -> Result<Group, GridError>
+fn form_row(mut number: u32, spans: &[SpanOf], group: Group) -> Result<Group, GridError>
     requires spans { AllByRecursion IsSpan spans.now }
     requires number { number + length spans.now ≤ 20000 }
     requires low { group.row ≤ group.height }

@@ -15,8 +15,8 @@ mod row;
 mod shape;
 mod table;
 
-pub use forming::form;
 pub use error::GridError;
+pub use forming::form;
 pub use shape::{Grid, Place, Shape, ShapeGroup, SpanOf};
 
 #[cfg(test)]

@@ -69,17 +69,16 @@ fn first_hit(above: &[Block], at: usize, right: u32) -> Option<Block>
     ensures { result ≡ hit (drop at above.now) right }
 {
     let block = *above.get(at)?;
-    if block.left < right { Some(block) } else { None }
+    if block.left < right {
+        Some(block)
+    } else {
+        None
+    }
 }
 
 /// Forms the cell `number`, the next one of row `y`. It overlaps the first block after the cursor if
 /// it runs into it.
-pub fn form_cell(
-    y: u32,
-    number: u32,
-    span: SpanOf,
-    row: RowState,
-) -> Result<RowState, GridError>
+pub fn form_cell(y: u32, number: u32, span: SpanOf, row: RowState) -> Result<RowState, GridError>
     requires span { IsSpan span }
     requires number { number < 20000 }
     requires row { y + 65534 < 2 ^ 32 }

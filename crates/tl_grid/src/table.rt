@@ -38,7 +38,11 @@ fn end_group(mut table: Table, group: Group) -> Result<Table, GridError>
     ensures { MatchResult result (λ after. after ≡ after_group table group) (λ e. e ≡ Memory alloc_error) }
 {
     for block in group.blocks.as_slice() {
-        let bottom = if block.grows { group.height } else { block.bottom };
+        let bottom = if block.grows {
+            group.height
+        } else {
+            block.bottom
+        };
         table.blocks.push(Block {
             bottom,
             grows: false,

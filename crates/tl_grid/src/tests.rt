@@ -289,7 +289,11 @@ fn limits_are_refused_one_past_their_ends(rt: HostRuntime) -> Result<(), Fail> {
         (141, 141, deep, (3, 19881, 0, 0, 0)),
     ] {
         let shape = block_of_cells(rt.alloc(), rows, cells, span)?;
-        assert_eq!(rt; answer(rt.alloc(), &shape), Some(wanted), "{rows} rows of {cells}");
+        assert_eq!(rt;
+            answer(rt.alloc(), &shape),
+            Some(wanted),
+            "{rows} rows of {cells}"
+        );
     }
     Ok(())
 }

@@ -7,4 +7,5 @@ use Rattle.tl_grid.proofs.dropping.places_as_written.Given as goal
 abbrev pub invariant-loop-block : goal.invariant-loop-block
 invariant-loop-block l = record {
   places : l.places.items ≡ put_places l.columns l.rows (replicate l.count nowhere) (take l.block-index l.blocks);
-  count : length l.places.items ≡ l.count }
+  count : length l.places.items ≡ l.count;
+}

@@ -9,7 +9,7 @@ use Rattle.tl_grid.proofs.group.form_row.Goals as goal
 
 pub loop-span-init : goal.loop-span-init
 loop-span-init c =
-  let P : List Block → Type 0 = λ l. AllByRecursion (EndsBy (1000 * c.args.number)) l in
-  let columns = subst P (sym c.leave_ended.ensures)
+    let P : List Block → Type 0 = λ l. AllByRecursion (EndsBy (1000 * c.args.number)) l in
+    let columns = subst P (sym c.leave_ended.ensures)
     (all_filter (EndsBy (1000 * c.args.number)) (reaches c.args.group.row) c.args.group.open_blocks c.requires.columns) in
-  grind (arith, common_steps, columns)
+    grind (arith, common_steps, columns)

@@ -9,11 +9,11 @@ use Rattle.tl_grid.proofs.kept.in_order.Goals as goal
 
 pub returns-clause-rises : goal.returns-clause-rises
 returns-clause-rises c =
-  let is = dedup_is _ _ _ c.dedup.ensures.filtered in
-  rw is (IsStrictlyIncreasing-dedup _ c.sort_unstable.ensures.sorted)
+    let is = dedup_is _ _ _ c.dedup.ensures.filtered in
+    rw is (IsStrictlyIncreasing-dedup _ c.sort_unstable.ensures.sorted)
 
 pub returns-clause-same : goal.returns-clause-same
 returns-clause-same c = λ x.
-  let is = dedup_is _ _ _ c.dedup.ensures.filtered in
-  ap (λ ks. is_among ks x) is ∙ among-dedup x c.sort_unstable.new.self.items
-  ∙ sym (list_any-IsPermutation (λ (k : ℕ). eqb k x) c.args.numbers.items c.sort_unstable.new.self.items c.sort_unstable.ensures.permutation)
+    let is = dedup_is _ _ _ c.dedup.ensures.filtered in
+    ap (λ ks. is_among ks x) is ∙ among-dedup x c.sort_unstable.new.self.items
+    ∙ sym (list_any-IsPermutation (λ (k : ℕ). eqb k x) c.args.numbers.items c.sort_unstable.new.self.items c.sort_unstable.ensures.permutation)

@@ -7,4 +7,5 @@ invariant-loop-group l = record {
   cells : l.cells + cells_of (drop l.group-index l.groups) ≡ cells_of l.groups;
   rows : l.rows + rows_of (drop l.group-index l.groups) ≡ rows_of l.groups;
   few_cells : l.cells ≤ 1000000;
-  few_rows : l.rows ≤ 1000000 }
+  few_rows : l.rows ≤ 1000000;
+}

@@ -5,4 +5,4 @@ use Rattle.tl_grid.proofs.tests.are_spans.Given as goal
 
 abbrev pub invariant-loop-span : goal.invariant-loop-span
 invariant-loop-span l =
-  AllByRecursion IsSpan (drop l.span-index l.spans) → AllByRecursion IsSpan l.spans
+    AllByRecursion IsSpan (drop l.span-index l.spans) → AllByRecursion IsSpan l.spans
