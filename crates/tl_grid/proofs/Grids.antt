@@ -47,13 +47,13 @@ same_rows s t m y =
     ∙ rows_of_masked (keeps_row s.cells) (map whole t.blocks) y ∙ rows_of_whole t.blocks y
 
 -- none begins past the table's width or height
-no_column : (width height : ℕ) (bs : List Block) → AllByRecursion (IsSound width height) bs → (x : ℕ) → width ≤ x → begins_in_column bs x ≡ false
+pub no_column : (width height : ℕ) (bs : List Block) → AllByRecursion (IsSound width height) bs → (x : ℕ) → width ≤ x → begins_in_column bs x ≡ false
 no_column width height [] sound x le = refl
 no_column width height (b ∷ bs) sound x le =
     ap (λ t. t || begins_in_column bs x) (ne_eqb b.left x (λ e. omega (arith, sound.0.0, sound.0.1)))
     ∙ no_column width height bs sound.1 x le
 
-no_row : (width height : ℕ) (bs : List Block) → AllByRecursion (IsSound width height) bs → (y : ℕ) → height ≤ y → begins_in_row bs y ≡ false
+pub no_row : (width height : ℕ) (bs : List Block) → AllByRecursion (IsSound width height) bs → (y : ℕ) → height ≤ y → begins_in_row bs y ≡ false
 no_row width height [] sound y le = refl
 no_row width height (b ∷ bs) sound y le =
     ap (λ t. t || begins_in_row bs y) (ne_eqb b.top y (λ e. omega (arith, sound.0.2, sound.0.3)))

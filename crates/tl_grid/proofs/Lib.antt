@@ -10,4 +10,6 @@ pub mod Groups
 pub mod Tables
 pub mod Counts
 pub mod Grids
+pub mod Numbers
+pub mod Within
 pub mod Refusals

@@ -1,6 +1,6 @@
 -- The dropped grid: columns and rows in which no cell is anchored are left out, and the others are
 -- numbered anew, in order. This is a rule of ours, not the HTML Standard's.
-use Rattle.std.specs.Prelude.{ℕ, ◌+◌, zero, suc, Bool, ◌&&◌, ◌==◌, nat_lt, nat_le, if◌then◌else◌, List, fold, replicate, slice_set}
+use Rattle.std.specs.Prelude.{ℕ, ◌+◌, ◌<◌, ◌≤◌, zero, suc, Bool, ◌&&◌, ◌==◌, nat_lt, nat_le, if◌then◌else◌, List, fold, replicate, slice_set}
 use Rattle.std.specs.List.{list_any}
 use Rattle.tl_grid.specs.declared.shape.Shape.{Shape}
 use Rattle.tl_grid.specs.declared.shape.Place.{Place}
@@ -46,6 +46,11 @@ place_of s cell = record {
   top = new_row s.cells cell.top;
   bottom = new_row s.cells cell.top + kept_rows s cell;
 }
+
+-- a place has a slot, and lies within a grid of so many columns and rows
+abbrev pub IsPlaced : ℕ → ℕ → Place → Type 0
+IsPlaced cols rows place =
+  (place.left < place.right) × (place.right ≤ cols) × (place.top < place.bottom) × (place.bottom ≤ rows)
 
 -- the place before any is known
 abbrev pub nowhere : Place

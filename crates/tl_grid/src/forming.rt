@@ -1,6 +1,7 @@
-ghost use Rattle.std.specs.Prelude.{◌≡◌, ◌<◌, ◌^◌, length, IfOk, IfErr};
+ghost use Rattle.std.specs.Prelude.{◌≡◌, ◌<◌, ◌^◌, length, All, IfOk, IfErr};
 ghost use Rattle.tl_grid.specs.Answers.{AllSpans};
 ghost use Rattle.tl_grid.specs.Forming.{cell_count, row_count, cells_of};
+ghost use Rattle.tl_grid.specs.Dropping.{IsPlaced};
 ghost use Rattle.tl_grid.specs.Form.{HasGrid, IsRefusal};
 
 use crate::dropping::{kept_columns, kept_rows, places_as_written};
@@ -41,6 +42,7 @@ pub fn form(alloc: Global, shape: &Shape) -> Result<Grid, GridError>
     requires cells { cell_count shape.now < 2 ^ 32 }
     ensures grid { IfOk result (λ grid. HasGrid shape.now grid) }
     ensures count { IfOk result (λ grid. length grid.places ≡ cell_count shape.now) }
+    ensures within { IfOk result (λ grid. All (IsPlaced grid.cols grid.rows) grid.places) }
     ensures refusal { IfErr result (λ error. IsRefusal shape.now error) }
 {
     let groups = shape.groups.as_slice();
