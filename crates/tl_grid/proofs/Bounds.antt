@@ -1,5 +1,5 @@
 -- How far to the right, and how far down, a walk can come.
-use Rattle.std.proofs.Common.{◌≡◌, ℕ, ◌+◌, ◌*◌, ◌<◌, ◌≤◌, Bool, true, false, leb, List, [], ◌∷◌, ◌++◌, sym, ap, ◌∙◌, subst, inl, inr, arith, append_assoc}
+use Rattle.std.proofs.Common.{ℕ, ◌≤◌, leb, List, [], ◌∷◌, ◌++◌, sym, subst, inl, inr, arith, append_assoc}
 use Rattle.std.specs.List.{AllByRecursion}
 use Rattle.std.proofs.lemmas.Bool.{cases_Bool}
 use Rattle.tl_grid.specs.declared.block.Block.{Block}
@@ -11,6 +11,7 @@ use Rattle.tl_grid.proofs.Passing.{pass_on, pass_stop}
 abbrev pub EndsIn : ℕ → Walk → Type 0
 EndsIn width w = (w.column ≤ width) × AllByRecursion (EndsBy width) (w.passed ++ w.ahead)
 
+-- what holds of all holds of one in the middle
 mid_of : (P : Block → Type 0) (xs : List Block) (b : Block) (ys : List Block) → AllByRecursion P (xs ++ b ∷ ys) → P b
 mid_of P [] b ys a = a.0
 mid_of P (x ∷ xs) b ys a = mid_of P xs b ys a.1
@@ -29,6 +30,7 @@ passed_within width (b ∷ bs) x ps le all =
       | inr f ↦ subst P (sym (pass_stop x ps b bs f)) (le, all)
     ]
 
+-- what ends by a column ends by one further right
 all_by : (width wider : ℕ) → width ≤ wider → (xs : List Block) → AllByRecursion (EndsBy width) xs → AllByRecursion (EndsBy wider) xs
 all_by width wider le [] a = tt
 all_by width wider le (x ∷ xs) a = (omega (arith, a.0), all_by width wider le xs a.1)

@@ -1,13 +1,12 @@
 -- The definition's cells beside the blocks: which cells lie over a slot.
-use Rattle.std.proofs.Common.{◌≡◌, ℕ, ◌+◌, ◌-◌, ◌<◌, ◌≤◌, zero, suc, Bool, true, false, ◌&&◌, ◌||◌, cond, ltb, leb, eqb, List, [], ◌∷◌, ◌++◌, map, length, refl, sym, ap, ◌∙◌, subst, inl, inr, ◌⊎◌, arith, append_assoc, append-nil}
-use Rattle.std.proofs.Math.Path.{fun_ext}
-use Rattle.std.specs.List.{filter, list_any, AllByRecursion}
-use Rattle.std.proofs.lemmas.Bool.{ltb-true, ltb-false, leb-true, leb-false, lt-ltb, le-ltb, le-leb, lt-leb, eq-eqb, eqb-true, ne_eqb, cases_Bool, cases_lt, cases_eq, cond-true, cond-false, and_left, and_right, or_left, or_right, or_from}
-use Rattle.std.proofs.lemmas.List.{map-append, length-map}
+use Rattle.std.proofs.Common.{◌≡◌, ℕ, ◌+◌, ◌<◌, ◌≤◌, zero, suc, Bool, true, false, ◌&&◌, ◌||◌, cond, ltb, leb, eqb, List, [], ◌∷◌, ◌++◌, map, refl, sym, ap, ◌∙◌, inl, inr, arith}
+use Rattle.std.specs.List.{filter, AllByRecursion}
+use Rattle.std.proofs.lemmas.Bool.{lt-ltb, le-ltb, le-leb, eq-eqb, ne_eqb, cases_Bool, cases_lt, cases_eq, cond-true, cond-false, and_right}
+use Rattle.std.proofs.lemmas.List.{map-append}
 use Rattle.std.proofs.lemmas.List.Elements.{filter-append}
 use Rattle.tl_grid.specs.declared.shape.SpanOf.{SpanOf}
 use Rattle.tl_grid.specs.declared.block.Block.{Block}
-use Rattle.tl_grid.specs.Forming.{Cell, Forming, covers, has_cell, first_free, first_rows, cell_at, with_cell, grown_into, at_group_end}
+use Rattle.tl_grid.specs.Forming.{Cell, covers, has_cell, first_free, cell_at, grown_into}
 use Rattle.tl_grid.specs.Overlap.{cells_over, numbers_over}
 use Rattle.tl_grid.specs.Walk.{reaches, block_at}
 use Rattle.tl_grid.proofs.Chains.{spot, filter_yes, filter_no}
@@ -30,19 +29,24 @@ pub record IsQuiet (y : ℕ) (c : Cell) : Type 0 where
   pub still : c.grows ≡ false
   pub above : (row : ℕ) → y ≤ row → c.rows row ≡ false
 
+-- all cells of earlier row groups
 abbrev pub AllQuiet : ℕ → List Cell → Type 0
 AllQuiet y = AllByRecursion (IsQuiet y)
 
+-- the number of a cell
 abbrev pub number_of : Cell → ℕ
 number_of c = c.number
 
+-- the number of a block
 abbrev pub block_number : Block → ℕ
 block_number b = b.number
 
+-- nothing is added by a test that fails
 pub or_false : (b : Bool) → (b || false) ≡ b
 or_false true = refl
 or_false false = refl
 
+-- all is passed by a test that passes
 pub or_true : (b : Bool) → (b || true) ≡ true
 or_true true = refl
 or_true false = refl
@@ -74,13 +78,16 @@ numbers_same x y f p P names same (b ∷ bs) all =
           ∙ rest ∙ sym (ap (map block_number) (filter_no p b bs e))
     ]
 
+-- the block begins in row y or above it
 abbrev pub BeginsBy : ℕ → Block → Type 0
 BeginsBy y b = b.top ≤ y
 
+-- a growing block covers the row that is formed
 reach_cases : (g : Bool) (y bottom : ℕ) → ltb y (cond g (y + 1) bottom) ≡ (g || ltb y bottom)
 reach_cases true y bottom = lt-ltb y (y + 1) (omega arith)
 reach_cases false y bottom = refl
 
+-- the rows of a block, at the row that is formed
 rows_reach : (y : ℕ) (b : Block) → b.top ≤ y → (leb b.top y && ltb y (cond b.grows (y + 1) b.bottom)) ≡ reaches y b
 rows_reach y b le = ap (λ t. t && ltb y (cond b.grows (y + 1) b.bottom)) (le-leb b.top y le) ∙ reach_cases b.grows y b.bottom
 
@@ -95,6 +102,7 @@ numbers_here x y done bs quiet tops =
     ∙ ap (λ l. l ++ numbers_over x y (map (cell_of (y + 1)) bs)) (quiet_none x y y (omega arith) done quiet)
     ∙ numbers_same x y (cell_of (y + 1)) (spot x y) (BeginsBy y) (λ b. refl) (covers_spot x y) bs tops
 
+-- a list has an element where its image has one
 pub some_map : {X Y : Type 0} (f : X → Y) (xs : List X) → some (map f xs) ≡ some xs
 some_map f [] = refl
 some_map f (x ∷ xs) = refl
@@ -118,6 +126,7 @@ first_free_is taken (suc k) x z le in' all free =
           ∙ first_free_is taken k (x + 1) z (omega arith) (omega arith) (λ x' h l. all x' (omega arith) l) free
     ]
 
+-- the walk to a free column only goes on
 pub first_free_from : (taken : ℕ → Bool) (k x : ℕ) → x ≤ first_free taken x k
 first_free_from taken zero x = omega arith
 first_free_from taken (suc k) x =
@@ -127,6 +136,7 @@ first_free_from taken (suc k) x =
       | inr e ↦ (let eq : first_free taken x (suc k) ≡ x = cond-false (taken x) (first_free taken (x + 1) k) x e in rw eq (omega arith))
     ]
 
+-- a growing cell begins with one row
 bottoms : (g : Bool) (y n : ℕ) → y + cond g 1 n ≡ cond g (y + 1) (y + cond g 1 n)
 bottoms true y n = refl
 bottoms false y n = refl
@@ -142,9 +152,11 @@ formed_cell number x y span = λ i. record {
   grows = eqb span.rowspan 0;
 }
 
+-- the block begins above row y
 abbrev pub BeginsAbove : ℕ → Block → Type 0
 BeginsAbove y b = b.top < y
 
+-- one row more, below those that were covered
 one_more : (y top row : ℕ) → top < y → ((leb top row && ltb row y) || eqb row y) ≡ (leb top row && ltb row (y + 1))
 one_more y top row lt =
     elim (cases_eq row y) [
@@ -159,6 +171,7 @@ one_more y top row lt =
           ])
     ]
 
+-- grown into row y, a block covers its rows down to y
 same : (g : Bool) (y top bottom : ℕ) → top < y → (row : ℕ) → ((leb top row && ltb row (cond g y bottom)) || (g && eqb row y)) ≡ (leb top row && ltb row (cond g (y + 1) bottom))
 same true y top bottom lt row = one_more y top row lt
 same false y top bottom lt row = or_false (leb top row && ltb row bottom)
@@ -174,6 +187,7 @@ grown_cell y b lt = λ i. record {
   grows = b.grows;
 }
 
+-- the same for all blocks of a group
 pub grown_cells : (y : ℕ) (bs : List Block) → AllByRecursion (BeginsAbove y) bs → map (grown_into y) (map (cell_of y) bs) ≡ map (cell_of (y + 1)) bs
 grown_cells y [] all = refl
 grown_cells y (b ∷ bs) all =
@@ -190,6 +204,7 @@ still_cell y c e = λ i. record {
   grows = c.grows;
 }
 
+-- the same for all cells of earlier groups
 pub still_cells : (y start : ℕ) (cs : List Cell) → AllQuiet start cs → map (grown_into y) cs ≡ cs
 still_cells y start [] q = refl
 still_cells y start (c ∷ cs) q =

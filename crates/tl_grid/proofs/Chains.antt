@@ -1,8 +1,7 @@
 -- Blocks in order, side by side: which of them cover a slot.
-use Rattle.std.proofs.Common.{◌≡◌, ℕ, ◌+◌, ◌<◌, ◌≤◌, Bool, true, false, ◌&&◌, ◌||◌, cond, ltb, leb, List, [], ◌∷◌, ◌++◌, length, refl, sym, ap, ◌∙◌, inl, inr, ◌⊎◌, arith}
-use Rattle.std.specs.List.{filter, list_any}
-use Rattle.std.proofs.lemmas.Bool.{ltb-true, ltb-false, leb-true, leb-false, lt-ltb, le-ltb, le-leb, lt-leb, and_parts, and_from, and_left, and_right, or_cases, or_left, or_right, or_from, or_parts, cases_Bool, cases_lt, cond-true, cond-false}
-use Rattle.std.proofs.lemmas.List.Elements.{filter-append}
+use Rattle.std.proofs.Common.{◌≡◌, ℕ, ◌<◌, ◌≤◌, Bool, true, false, ◌&&◌, ltb, leb, List, [], ◌∷◌, ◌++◌, length, refl, inl, inr, arith}
+use Rattle.std.specs.List.{filter}
+use Rattle.std.proofs.lemmas.Bool.{ltb-true, leb-true, lt-ltb, le-ltb, le-leb, lt-leb, and_parts, and_from, and_left, and_right, or_cases, or_left, or_right, cases_Bool, cond-true, cond-false}
 use Rattle.tl_grid.specs.declared.block.Block.{Block}
 use Rattle.tl_grid.specs.Walk.{reaches}
 
@@ -28,6 +27,7 @@ reaches_above y y' b le h =
       | inr e ↦ or_right b.grows (ltb y b.bottom) (lt-ltb y b.bottom (omega (arith, ltb-true y' b.bottom e)))
     ]
 
+-- a block that ends above a row ends above those below it
 pub not_below : (y y' : ℕ) (b : Block) → y ≤ y' → reaches y b ≡ false → reaches y' b ≡ false
 not_below y y' b le h =
     elim (cases_Bool (reaches y' b)) [
@@ -35,19 +35,23 @@ not_below y y' b le h =
       | inr f ↦ f
     ]
 
+-- a block that ends above the row covers none of its slots
 pub spot_ended : (x y : ℕ) (b : Block) → reaches y b ≡ false → spot x y b ≡ false
 spot_ended x y b h = and_right (leb b.left x && ltb x b.right) (reaches y b) h
 
+-- nor does a block that begins further right
 pub spot_left : (x y : ℕ) (b : Block) → x < b.left → spot x y b ≡ false
 spot_left x y b h =
     and_left (leb b.left x && ltb x b.right) (reaches y b)
     (and_left (leb b.left x) (ltb x b.right) (lt-leb b.left x h))
 
+-- nor does one that ends further left
 pub spot_right : (x y : ℕ) (b : Block) → b.right ≤ x → spot x y b ≡ false
 spot_right x y b h =
     and_left (leb b.left x && ltb x b.right) (reaches y b)
     (and_right (leb b.left x) (ltb x b.right) (le-ltb x b.right h))
 
+-- a block covers the slots in its columns, where it reaches the row
 pub spot_in : (x y : ℕ) (b : Block) → b.left ≤ x → x < b.right → reaches y b ≡ true → spot x y b ≡ true
 spot_in x y b l r h =
     and_from (leb b.left x && ltb x b.right) (reaches y b)
@@ -57,6 +61,7 @@ spot_in x y b l r h =
 pub filter_yes : {X : Type 0} (p : X → Bool) (x : X) (xs : List X) → p x ≡ true → filter p (x ∷ xs) ≡ x ∷ filter p xs
 filter_yes p x xs h = cond-true (p x) (x ∷ filter p xs) (filter p xs) h
 
+-- and where the element is left out
 pub filter_no : {X : Type 0} (p : X → Bool) (x : X) (xs : List X) → p x ≡ false → filter p (x ∷ xs) ≡ filter p xs
 filter_no p x xs h = cond-false (p x) (x ∷ filter p xs) (filter p xs) h
 
@@ -64,9 +69,11 @@ filter_no p x xs h = cond-false (p x) (x ∷ filter p xs) (filter p xs) h
 pub chain_no : (a y : ℕ) (b : Block) (bs : List Block) → reaches y b ≡ false → Chain a (filter (reaches y) (b ∷ bs)) → Chain a (filter (reaches y) bs)
 chain_no a y b bs e c = rw (filter_no (reaches y) b bs e) at c
 
+-- and with one that does
 pub chain_yes : (a y : ℕ) (b : Block) (bs : List Block) → reaches y b ≡ true → Chain a (filter (reaches y) (b ∷ bs)) → Chain a (b ∷ filter (reaches y) bs)
 chain_yes a y b bs e c = rw (filter_yes (reaches y) b bs e) at c
 
+-- a chain is one from any column before it
 pub chain_from : (a z : ℕ) (bs : List Block) → a ≤ z → Chain z bs → Chain a bs
 chain_from a z [] le c = c
 chain_from a z (b ∷ bs) le c = (omega (arith, c.0), c.1, c.2)
@@ -77,11 +84,13 @@ chain_end a z [] c = c
 chain_end a z (b ∷ bs) c =
     let rest : b.right ≤ z = chain_end b.right z bs c.2 in omega (arith, c.0, c.1)
 
+-- a covered slot lies before the right edge
 pub spot_before : (x y : ℕ) (b : Block) → spot x y b ≡ true → x < b.right
 spot_before x y b h =
     let in_columns = and_parts (leb b.left x && ltb x b.right) (reaches y b) h in
     ltb-true x b.right ((and_parts (leb b.left x) (ltb x b.right) in_columns.0).1)
 
+-- and not before the left edge
 pub spot_from : (x y : ℕ) (b : Block) → spot x y b ≡ true → b.left ≤ x
 spot_from x y b h =
     let in_columns = and_parts (leb b.left x && ltb x b.right) (reaches y b) h in

@@ -1,12 +1,13 @@
 -- How many kept numbers lie below a number: their places in a list that rises.
-use Rattle.std.proofs.Common.{◌≡◌, ℕ, ◌+◌, ◌-◌, ◌<◌, ◌≤◌, zero, suc, Bool, true, false, ◌&&◌, ◌||◌, cond, ltb, leb, eqb, List, [], ◌∷◌, length, get_or, refl, sym, ap, ◌∙◌, inl, inr, arith, add-one}
-use Rattle.std.specs.List.{filter, list_any, dedup, dedup_from}
+use Rattle.std.proofs.Common.{◌≡◌, ℕ, ◌+◌, ◌<◌, ◌≤◌, zero, suc, Bool, true, false, ◌||◌, cond, ltb, eqb, List, [], ◌∷◌, length, get_or, refl, sym, ap, ◌∙◌, inl, inr, arith, add-one}
+use Rattle.std.specs.List.{filter, dedup, dedup_from}
 use Rattle.std.specs.List.Sorted.{IsStrictlyIncreasing, IsNonDecreasingBy}
-use Rattle.std.proofs.lemmas.Bool.{lt-ltb, le-ltb, le-leb, lt-leb, eq-eqb, ne_eqb, eqb-true, cases_Bool, cases_lt, cases_eq, cases_order, both_ways, cond-true, cond-false, and_left, and_right}
+use Rattle.std.proofs.lemmas.Bool.{lt-ltb, le-ltb, eq-eqb, ne_eqb, eqb-true, cases_Bool, cases_lt, cases_eq, cases_order, both_ways, cond-true, cond-false}
 use Rattle.std.proofs.lemmas.List.Kept.{AllPairs-from_increasing}
 use Rattle.tl_grid.specs.Dropping.{count_below, is_among}
 use Rattle.tl_grid.proofs.Chains.{filter_yes, filter_no}
 
+-- 1 if the test passes
 abbrev pub one_if : Bool → ℕ
 one_if b = cond b 1 0
 
@@ -15,10 +16,12 @@ pub count_same : (p q : ℕ → Bool) → ((x : ℕ) → p x ≡ q x) → (n : �
 count_same p q same zero = refl
 count_same p q same (suc n) = ap (λ t. count_below p n + one_if t) (same n) ∙ ap (λ c. c + one_if (q n)) (count_same p q same n)
 
+-- where none passes none is counted
 count_none : (n : ℕ) → count_below (λ x. false) n ≡ 0
 count_none zero = refl
 count_none (suc n) = (let rest : count_below (λ x. false) n ≡ 0 = count_none n in omega arith)
 
+-- of two tests that never both pass, one at most counts
 one_of : (s t : Bool) → (s ≡ true → t ≡ false) → one_if (s || t) ≡ one_if s + one_if t
 one_of true t apart = (let none : one_if t ≡ 0 = ap one_if (apart refl) in omega arith)
 one_of false t apart = omega arith
@@ -99,12 +102,14 @@ point_is_count p (x ∷ xs) (suc i) le passes fails =
     ap length (filter_yes p x xs (passes 0 (omega arith)))
     ∙ ap suc (point_is_count p xs i (omega arith) (λ k h. passes (suc k) (omega arith)) (λ k h l. fails (suc k) (omega arith) (omega arith)))
 
+-- the rest of a list that rises rises
 rises_tail : (k : ℕ) (ks : List ℕ) → IsStrictlyIncreasing (k ∷ ks) → IsStrictlyIncreasing ks
 rises_tail k ks up j lt =
     let h : get_or (k ∷ ks) (suc j) 0 < get_or (k ∷ ks) (suc j + 1) 0 = up (suc j) (omega arith) in
     let g = rw (add-one (suc j)) at h in
     rw (add-one j) g
 
+-- and begins above the first
 rises_head : (k : ℕ) (ks : List ℕ) → IsStrictlyIncreasing (k ∷ ks) → 0 < length ks → k + 1 ≤ get_or ks 0 0
 rises_head k ks up has = omega (arith, up 0 (omega arith))
 
@@ -116,6 +121,7 @@ rises_from a (k ∷ ks) up first = (
   rises_from (k + 1) ks (rises_tail k ks up) (rises_head k ks up),
 )
 
+-- if neither passes, the second does not
 not_later : (s t : Bool) → (s || t) ≡ false → t ≡ false
 not_later true t e = absurd (both_ways true e refl)
 not_later false t e = e
@@ -136,6 +142,7 @@ or_again true b c e = refl
 or_again false true c e = absurd (both_ways true (sym e) refl)
 or_again false false c e = refl
 
+-- the same, after a first number
 among_from : (x k : ℕ) (ks : List ℕ) → is_among (dedup_from eqb k ks) x ≡ (eqb k x || is_among ks x)
 among_from x k [] = refl
 among_from x k (j ∷ ks) =

@@ -8,18 +8,23 @@ use Rattle.tl_grid.specs.Forming.{formed}
 use Rattle.tl_grid.specs.Overlap.{numbers_over}
 use Rattle.tl_grid.specs.Dropping.{grid_of}
 
+-- a cell of these spans
 abbrev cell : ℕ → ℕ → SpanOf
 cell colspan rowspan = record { colspan = colspan; rowspan = rowspan }
 
+-- a group that is no foot
 abbrev body : List (List SpanOf) → ShapeGroup
 body rows = record { foot = false; rows = rows }
 
+-- a foot
 abbrev foot : List (List SpanOf) → ShapeGroup
 foot rows = record { foot = true; rows = rows }
 
+-- a table of these groups
 abbrev table : List ShapeGroup → Shape
 table groups = record { columns = 0; groups = groups }
 
+-- a place, by its edges
 abbrev place : ℕ → ℕ → ℕ → ℕ → Place
 place left right top bottom =
     record { left = left; right = right; top = top; bottom = bottom }
@@ -37,15 +42,19 @@ growing = table
 growing_rows : numbers_over 0 0 (formed growing).cells ≡ 0 ∷ []
 growing_rows = refl
 
+-- the row after its group's last
 growing_left_out : numbers_over 0 1 (formed growing).cells ≡ []
 growing_left_out = refl
 
+-- the last row that B reaches
 growing_last : numbers_over 0 2 (formed growing).cells ≡ 0 ∷ []
 growing_last = refl
 
+-- the next group
 growing_next : numbers_over 0 3 (formed growing).cells ≡ 2 ∷ []
 growing_next = refl
 
+-- after dropping
 growing_grid : grid_of growing ≡ record {
   cols = 2;
   rows = 2;
@@ -61,6 +70,7 @@ abbrev foot_first : Shape
 foot_first = table
     (foot ((cell 1 1 ∷ []) ∷ []) ∷ body ((cell 1 2 ∷ []) ∷ []) ∷ [])
 
+-- after dropping
 foot_first_grid : grid_of foot_first ≡ record {
   cols = 1;
   rows = 2;
@@ -75,9 +85,11 @@ abbrev overlapped : Shape
 overlapped = table
     (body ((cell 1 1 ∷ cell 1 2 ∷ []) ∷ (cell 2 1 ∷ []) ∷ []) ∷ [])
 
+-- the slot with two cells
 overlapped_at : numbers_over 1 1 (formed overlapped).cells ≡ 1 ∷ 2 ∷ []
 overlapped_at = refl
 
+-- the slot before it
 overlapped_before : numbers_over 0 1 (formed overlapped).cells ≡ 2 ∷ []
 overlapped_before = refl
 
@@ -90,6 +102,7 @@ abbrev wide : Shape
 wide = table
     (body ((cell 3 1 ∷ []) ∷ [] ∷ (cell 1 1 ∷ cell 1 1 ∷ []) ∷ []) ∷ [])
 
+-- after dropping
 wide_grid : grid_of wide ≡ record {
   cols = 2;
   rows = 2;

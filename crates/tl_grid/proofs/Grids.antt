@@ -1,15 +1,15 @@
 -- The blocks' dropped grid is the definition's.
-use Rattle.std.proofs.Common.{◌≡◌, ℕ, ◌+◌, ◌-◌, ◌<◌, ◌≤◌, zero, suc, Bool, true, false, ◌&&◌, ◌||◌, cond, ltb, leb, eqb, List, [], ◌∷◌, map, length, fold, replicate, refl, sym, ap, ◌∙◌, subst, inl, inr, arith}
+use Rattle.std.proofs.Common.{◌≡◌, ℕ, ◌+◌, ◌<◌, ◌≤◌, zero, suc, Bool, true, false, ◌&&◌, ◌||◌, ltb, leb, eqb, List, [], ◌∷◌, map, length, fold, refl, sym, ap, ◌∙◌, inl, inr, arith}
 use Rattle.std.specs.Prelude.{slice_set}
-use Rattle.std.specs.List.{filter, list_any, AllByRecursion}
+use Rattle.std.specs.List.{AllByRecursion}
 use Rattle.std.specs.List.Sorted.{IsStrictlyIncreasing}
-use Rattle.std.proofs.lemmas.Bool.{lt-ltb, le-ltb, le-leb, lt-leb, ne_eqb, cases_Bool, cases_lt, and_left, and_right}
+use Rattle.std.proofs.lemmas.Bool.{lt-ltb, le-ltb, le-leb, lt-leb, ne_eqb, cases_lt, and_left, and_right}
 use Rattle.std.proofs.lemmas.List.Folds.{fold-map}
 use Rattle.tl_grid.specs.declared.block.Block.{Block}
 use Rattle.tl_grid.specs.declared.table.Table.{Table}
 use Rattle.tl_grid.specs.declared.shape.Place.{Place}
 use Rattle.tl_grid.specs.Forming.{Cell, Forming}
-use Rattle.tl_grid.specs.Dropping.{count_below, keeps_column, keeps_row, new_column, new_row, place_of, nowhere, is_among}
+use Rattle.tl_grid.specs.Dropping.{count_below, keeps_column, keeps_row, new_column, new_row, place_of, is_among}
 use Rattle.tl_grid.specs.Places.{begins_in_column, begins_in_row, place_in, put_places}
 use Rattle.tl_grid.proofs.Rows.{IsSound}
 use Rattle.tl_grid.proofs.Tables.{mask, whole, TableMatches}
@@ -19,18 +19,22 @@ use Rattle.tl_grid.proofs.Counts.{one_if, count_same, count_among, count_whole, 
 masked : (s : Forming) (t : Table) → TableMatches s t → map (mask (keeps_row s.cells)) s.cells ≡ map (mask (keeps_row s.cells)) (map whole t.blocks)
 masked s t m = m.pairs (keeps_row s.cells) (λ y lt. refl)
 
+-- the columns kept do not depend on rows
 columns_of_masked : (keeps : ℕ → Bool) (cs : List Cell) (x : ℕ) → keeps_column (map (mask keeps) cs) x ≡ keeps_column cs x
 columns_of_masked keeps [] x = refl
 columns_of_masked keeps (c ∷ cs) x = ap (λ t. eqb c.left x || t) (columns_of_masked keeps cs x)
 
+-- nor do the anchors' rows depend on the rows covered
 rows_of_masked : (keeps : ℕ → Bool) (cs : List Cell) (y : ℕ) → keeps_row (map (mask keeps) cs) y ≡ keeps_row cs y
 rows_of_masked keeps [] y = refl
 rows_of_masked keeps (c ∷ cs) y = ap (λ t. eqb c.top y || t) (rows_of_masked keeps cs y)
 
+-- the columns in which blocks begin
 columns_of_whole : (bs : List Block) (x : ℕ) → keeps_column (map whole bs) x ≡ begins_in_column bs x
 columns_of_whole [] x = refl
 columns_of_whole (b ∷ bs) x = ap (λ t. eqb b.left x || t) (columns_of_whole bs x)
 
+-- and the rows
 rows_of_whole : (bs : List Block) (y : ℕ) → keeps_row (map whole bs) y ≡ begins_in_row bs y
 rows_of_whole [] y = refl
 rows_of_whole (b ∷ bs) y = ap (λ t. eqb b.top y || t) (rows_of_whole bs y)
@@ -41,6 +45,7 @@ same_columns s t m x =
     sym (columns_of_masked (keeps_row s.cells) s.cells x) ∙ ap (λ cs. keeps_column cs x) (masked s t m)
     ∙ columns_of_masked (keeps_row s.cells) (map whole t.blocks) x ∙ columns_of_whole t.blocks x
 
+-- and rows
 pub same_rows : (s : Forming) (t : Table) → TableMatches s t → (y : ℕ) → keeps_row s.cells y ≡ begins_in_row t.blocks y
 same_rows s t m y =
     sym (rows_of_masked (keeps_row s.cells) s.cells y) ∙ ap (λ cs. keeps_row cs y) (masked s t m)
@@ -53,6 +58,7 @@ no_column width height (b ∷ bs) sound x le =
     ap (λ t. t || begins_in_column bs x) (ne_eqb b.left x (λ e. omega (arith, sound.0.0, sound.0.1)))
     ∙ no_column width height bs sound.1 x le
 
+-- and none below its height
 pub no_row : (width height : ℕ) (bs : List Block) → AllByRecursion (IsSound width height) bs → (y : ℕ) → height ≤ y → begins_in_row bs y ≡ false
 no_row width height [] sound y le = refl
 no_row width height (b ∷ bs) sound y le =
@@ -66,6 +72,7 @@ column_count s t ks m up same =
     ∙ count_among 0 s.width ks (rises_from 0 ks up (λ has. omega arith))
     ∙ count_whole s.width ks (λ x le. same x ∙ no_column s.width s.height t.blocks m.sound x le)
 
+-- and how many rows
 pub row_count : (s : Forming) (t : Table) (ks : List ℕ) → TableMatches s t → IsStrictlyIncreasing ks → ((y : ℕ) → is_among ks y ≡ begins_in_row t.blocks y) → count_below (keeps_row s.cells) s.height ≡ length ks
 row_count s t ks m up same =
     count_same (keeps_row s.cells) (is_among ks) (λ y. same_rows s t m y ∙ sym (same y)) s.height
@@ -76,14 +83,17 @@ row_count s t ks m up same =
 abbrev between : (ℕ → Bool) → ℕ → ℕ → ℕ → Bool
 between keeps a b x = keeps x && (leb a x && ltb x b)
 
+-- a test that passes adds nothing
 and_true : (b : Bool) → (b && true) ≡ b
 and_true true = refl
 and_true false = refl
 
+-- within the bounds the test alone counts
 between_in : (keeps : ℕ → Bool) (a b x : ℕ) → a ≤ x → x < b → between keeps a b x ≡ keeps x
 between_in keeps a b x le lt =
     ap (λ t. keeps x && (t && ltb x b)) (le-leb a x le) ∙ ap (λ t. keeps x && t) (lt-ltb x b lt) ∙ and_true (keeps x)
 
+-- outside of them nothing counts
 between_out : (keeps : ℕ → Bool) (a b x : ℕ) → (leb a x && ltb x b) ≡ false → between keeps a b x ≡ false
 between_out keeps a b x e = and_right (keeps x) (leb a x && ltb x b) e
 
@@ -96,6 +106,7 @@ count_early keeps a b (suc n) le =
     ap one_if (between_out keeps a b n (and_left (leb a n) (ltb n b) (lt-leb a n (omega arith)))) in
     omega arith
 
+-- up to the end of the bounds
 count_within : (keeps : ℕ → Bool) (a b n : ℕ) → a ≤ n → n ≤ b → count_below keeps a + count_below (between keeps a b) n ≡ count_below keeps n
 count_within keeps a b zero le le' =
     let start : a ≡ 0 = omega arith in ap (λ k. count_below keeps k + 0) start
@@ -113,6 +124,7 @@ count_within keeps a b (suc n) le le' =
           omega arith
     ]
 
+-- what is kept between a and b, by the counts up to both
 pub count_between : (keeps : ℕ → Bool) (a b n : ℕ) → a ≤ b → b ≤ n → count_below keeps a + count_below (between keeps a b) n ≡ count_below keeps b
 count_between keeps a b zero le le' =
     let end : b ≡ 0 = omega arith in
@@ -152,6 +164,7 @@ block_place s t columns rows m same_cols same_row b sound =
     ∙ count_same (keeps_row s.cells) (is_among rows) by_row b.bottom in
     λ i. record { left = left i; right = right i; top = top i; bottom = bottom i }
 
+-- folds by steps that agree
 fold_same : (f g : List Place → Block → List Place) (P : Block → Type 0) → ((ps : List Place) (b : Block) → P b → f ps b ≡ g ps b) → (ps : List Place) (bs : List Block) → AllByRecursion P bs → fold f ps bs ≡ fold g ps bs
 fold_same f g P same ps [] all = refl
 fold_same f g P same ps (b ∷ bs) all =

@@ -1,6 +1,6 @@
 -- Whole rows and row groups: the walk gives the standard's cells, or the first overlap.
-use Rattle.std.proofs.Common.{◌≡◌, ℕ, ◌+◌, ◌-◌, ◌<◌, ◌≤◌, max, zero, suc, Bool, true, false, ◌&&◌, ◌||◌, cond, ltb, leb, eqb, List, [], ◌∷◌, ◌++◌, map, length, Option, Some, None, Result, Ok, Err, refl, sym, ap, ◌∙◌, subst, inl, inr, ◌⊎◌, arith, append_assoc, append-nil}
-use Rattle.std.specs.List.{filter, list_any, AllByRecursion}
+use Rattle.std.proofs.Common.{◌≡◌, ℕ, ◌+◌, ◌<◌, ◌≤◌, max, Bool, List, [], ◌∷◌, ◌++◌, map, length, Option, Some, None, Result, Ok, Err, refl, sym, ap, ◌∙◌, subst, inl, inr, arith}
+use Rattle.std.specs.List.{filter, AllByRecursion}
 use Rattle.std.proofs.lemmas.List.{map-append, length-map}
 use Rattle.std.proofs.lemmas.List.Elements.{filter-append}
 use Rattle.std.proofs.lemmas.Bool.{cases_lt, cases_Bool}
@@ -8,11 +8,11 @@ use Rattle.tl_grid.specs.declared.shape.SpanOf.{SpanOf}
 use Rattle.tl_grid.specs.declared.block.Block.{Block}
 use Rattle.tl_grid.specs.declared.error.GridError.{GridError}
 use Rattle.tl_grid.specs.declared.error.GridError.TheVariants.{Memory, TooManyCells, Overlap, TooManyColumns, TooManyRows}
-use Rattle.tl_grid.specs.Forming.{Cell, Forming, covers, has_cell, first_free, first_rows, cell_at, with_cell, form_cells, begin_row, next_row, form_row, form_rows, grown_into, at_group_end, end_group, form_group}
+use Rattle.tl_grid.specs.Forming.{Cell, Forming, with_cell, form_cells, begin_row, next_row, form_row, form_rows, grown_into}
 use Rattle.tl_grid.specs.Overlap.{numbers_over, IsBefore}
 use Rattle.tl_grid.specs.declared.group.Group.{Group}
-use Rattle.tl_grid.specs.Walk.{reaches, Walk, block_at, hit, Row, placed, walk_of, unless_hit, place_cells, row_of, after_row, then_ok, place_rows}
-use Rattle.tl_grid.proofs.Chains.{spot, spot_ended, not_below, Chain, ChainTo, filter_yes, filter_no, at_most_one, chain_append, chain_kept}
+use Rattle.tl_grid.specs.Walk.{reaches, Walk, hit, Row, placed, walk_of, unless_hit, place_cells, row_of, after_row, then_ok, place_rows}
+use Rattle.tl_grid.proofs.Chains.{spot, spot_ended, not_below, Chain, filter_yes, filter_no, chain_append, chain_kept}
 use Rattle.tl_grid.proofs.Passing.{EndsWithin, Reaches, passes}
 use Rattle.tl_grid.proofs.Cells.{cell_of, AllQuiet, BeginsBy, BeginsAbove, block_number, numbers_here, grown_cells, still_cells, grown_elsewhere}
 use Rattle.tl_grid.proofs.Later.{form_cells_before, form_cells_row, Later, later_rows}
@@ -26,6 +26,7 @@ FoundAbove n cells (Overlap first second x y) = IsFoundIn cells first second x y
 FoundAbove n cells (TooManyColumns count) = ⊥
 FoundAbove n cells (TooManyRows count) = ⊥
 
+-- the slots up to a row above row n are above row n
 up_to : (n x y x' y' : ℕ) → y < n → IsBefore x' y' x y → y' < n
 up_to n x y x' y' lt (inl above) = omega arith
 up_to n x y x' y' lt (inr (same, left)) = omega arith
@@ -50,6 +51,7 @@ abbrev pub RowGives : List Cell → ℕ → Forming → Result Row GridError →
 RowGives done y s (Ok row) = RowMatches done y s row
 RowGives done y s (Err error) = FoundAbove (y + 1) s.cells error
 
+-- what is before a column is before one further right
 before_further : (x' y' x z y : ℕ) → x < z → IsBefore x' y' x y → IsBefore x' y' z y
 before_further x' y' x z y lt (inl above) = inl above
 before_further x' y' x z y lt (inr (same, left)) = inr (same, omega arith)
@@ -76,6 +78,7 @@ row_gives_step more (Some b) span spans done y number s r quiet wide m found res
       omega arith,
     )
 
+-- a whole row
 pub row_gives : (spans : List SpanOf) (done : List Cell) (y number : ℕ) (s : Forming) (r : Row) → AllQuiet y done → AllByRecursion IsWide spans → RowMatches done y s r → RowGives done y (form_cells number r.column spans s) (place_cells y number r spans)
 row_gives [] done y number s r quiet wide m = m
 row_gives (span ∷ spans) done y number s r quiet wide m =
@@ -99,6 +102,7 @@ pub record GroupMatches (done : List Cell) (s : Forming) (g : Group) : Type 0 wh
   pub past : (x' y' : ℕ) → y' < g.row → length (numbers_over x' y' s.cells) ≤ 1
   pub quiet : AllQuiet g.row done
 
+-- the cells when a row begins
 begun_cells : (done : List Cell) (y : ℕ) (bs : List Block) → AllQuiet y done → AllByRecursion (BeginsAbove y) bs → map (grown_into y) (done ++ map (cell_of y) bs) ≡ done ++ map (cell_of (y + 1)) bs
 begun_cells done y bs quiet tops =
     map-append (grown_into y) done (map (cell_of y) bs)
@@ -130,6 +134,7 @@ filter_all : (y : ℕ) (bs : List Block) → AllByRecursion (Reaches y) bs → f
 filter_all y [] all = refl
 filter_all y (b ∷ bs) all = filter_yes (reaches y) b bs all.0 ∙ ap (λ l. b ∷ l) (filter_all y bs all.1)
 
+-- a second filter keeps the chain
 chain_twice : (y : ℕ) (bs : List Block) → Chain 0 (filter (reaches y) bs) → Chain 0 (filter (reaches y) (filter (reaches y) bs))
 chain_twice y bs c =
     let P : List Block → Type 0 = λ l. Chain 0 l in
@@ -152,6 +157,7 @@ spots_kept y x' y' le (b ∷ bs) =
           ∙ sym (filter_no (spot x' y') b bs (spot_ended x' y' b (not_below y y' b le e)))
     ]
 
+-- a row begins
 row_begins : (done : List Cell) (s : Forming) (g : Group) → GroupMatches done s g → RowMatches done g.row (begin_row s) (row_of g)
 row_begins done s g m =
     let at_row : s.row ≡ g.row = m.at_row in
@@ -175,11 +181,13 @@ row_begins done s g m =
           subst P (sym (grown_elsewhere x' s.row y' (λ e. omega arith) s.cells)) (m.past x' y' lt);
     }
 
+-- a quiet cell is quiet from any later row on
 pub quiet_on : (y z : ℕ) → y ≤ z → (cs : List Cell) → AllQuiet y cs → AllQuiet z cs
 quiet_on y z le [] q = tt
 quiet_on y z le (c ∷ cs) q =
     (record { still = q.0.still; above = λ row h. q.0.above row (omega arith) }, quiet_on y z le cs q.1)
 
+-- a row ends
 row_ends : (done : List Cell) (y : ℕ) (s : Forming) (r : Row) → AllQuiet y done → RowMatches done y s r → GroupMatches done (next_row s) (after_row y r)
 row_ends done y s r quiet m =
     let at_row : s.row ≡ y = m.at_row in
@@ -215,6 +223,7 @@ abbrev pub RowsGive : List Cell → Forming → Result Group GridError → Type 
 RowsGive done s (Ok group) = GroupMatches done s group
 RowsGive done s (Err error) = FoundAbove s.row s.cells error
 
+-- an overlap above row n is above any later row
 pub found_on : (n m : ℕ) (cs : List Cell) (e : GridError) → n ≤ m → FoundAbove n cs e → FoundAbove m cs e
 found_on n m cs (Memory e) le f = f
 found_on n m cs (TooManyCells count) le f = f
@@ -222,6 +231,7 @@ found_on n m cs (Overlap first second x y) le f = (f.0, omega (arith, f.1))
 found_on n m cs (TooManyColumns count) le f = f
 found_on n m cs (TooManyRows count) le f = f
 
+-- each cell of the rows has a column
 abbrev pub AllWide : List (List SpanOf) → Type 0
 AllWide = AllByRecursion (AllByRecursion IsWide)
 
@@ -235,6 +245,7 @@ rows_give_step (Err error) done y number s rows at_row quiet gives next =
     found_on (y + 1) last.row last.cells error (omega arith)
     (found_kept (y + 1) s.cells last.cells error (λ x' y' lt. later.numbers x' y' (omega arith)) gives)
 
+-- all rows of a group
 pub rows_give : (rows : List (List SpanOf)) (done : List Cell) (number : ℕ) (s : Forming) (g : Group) → AllWide rows → GroupMatches done s g → RowsGive done (form_rows number rows s) (place_rows number g rows)
 rows_give [] done number s g wide m = m
 rows_give (spans ∷ rows) done number s g wide m =

@@ -1,6 +1,5 @@
 -- The steps of the standard change nothing in the rows above the current one.
-use Rattle.std.proofs.Common.{◌≡◌, ℕ, ◌+◌, ◌-◌, ◌<◌, ◌≤◌, max, zero, suc, Bool, true, false, ◌&&◌, ◌||◌, cond, ltb, leb, eqb, List, [], ◌∷◌, ◌++◌, map, length, refl, sym, ap, ◌∙◌, subst, inl, inr, ◌⊎◌, arith, append_assoc, append-nil}
-use Rattle.std.specs.List.{filter, list_any}
+use Rattle.std.proofs.Common.{◌≡◌, ℕ, ◌+◌, ◌-◌, ◌<◌, ◌≤◌, max, Bool, false, ◌&&◌, ◌||◌, ltb, leb, eqb, List, [], ◌∷◌, ◌++◌, map, length, refl, sym, ap, ◌∙◌, subst, inl, inr, arith, append-nil}
 use Rattle.std.proofs.lemmas.Bool.{lt-leb, le-ltb, ne_eqb, cases_Bool, and_left, and_right, cond-true, cond-false}
 use Rattle.std.proofs.lemmas.List.Folds.{list_any-append}
 use Rattle.tl_grid.specs.declared.shape.SpanOf.{SpanOf}
@@ -18,9 +17,11 @@ pub record Later (y : ℕ) (s t : Forming) : Type 0 where
   pub on : s.row ≤ t.row
   pub wider : s.width ≤ t.width
 
+-- nothing happens
 pub later_same : (s : Forming) → Later s.row s s
 later_same s = record { numbers = λ x' y' lt. refl; anchors = λ y' lt. refl; on = omega arith; wider = omega arith }
 
+-- one step after another
 pub later_then : (y z : ℕ) (s t u : Forming) → y ≤ z → Later y s t → Later z t u → Later y s u
 later_then y z s t u le a b = record {
   numbers = λ x' y' lt. b.numbers x' y' (omega arith) ∙ a.numbers x' y' lt;
@@ -38,6 +39,7 @@ misses number x y span x' y' (inr (same, left)) =
     and_left (leb x x' && ltb x' (x + span.colspan)) (leb y y' && ltb y' (y + first_rows span))
     (and_left (leb x x') (ltb x' (x + span.colspan)) (lt-leb x x' left))
 
+-- a cell that is formed changes no slot before it
 pub with_cell_before : (number x : ℕ) (span : SpanOf) (s : Forming) (x' y' : ℕ) → IsBefore x' y' x s.row → numbers_over x' y' (with_cell number x span s).cells ≡ numbers_over x' y' s.cells
 with_cell_before number x span s x' y' before =
     numbers-append x' y' s.cells (cell_at number x s.row span ∷ [])
@@ -45,6 +47,7 @@ with_cell_before number x span s x' y' before =
     (filter_no (covers x' y') (cell_at number x s.row span) [] (misses number x s.row span x' y' before))
     ∙ append-nil (numbers_over x' y' s.cells)
 
+-- what is before a column is before one that is not further left
 before_on : (x' y' x z y : ℕ) → x ≤ z → IsBefore x' y' x y → IsBefore x' y' z y
 before_on x' y' x z y le (inl above) = inl above
 before_on x' y' x z y le (inr (same, left)) = inr (same, omega arith)
@@ -59,12 +62,14 @@ form_cells_before (span ∷ spans) number x s x' y' before =
     (before_on x' y' x (at + span.colspan) s.row (omega arith) before)
     ∙ with_cell_before number at span s x' y' (before_on x' y' x at s.row on before)
 
+-- the row stays the current one while its cells are formed
 pub form_cells_row : (spans : List SpanOf) (number x : ℕ) (s : Forming) → (form_cells number x spans s).row ≡ s.row
 form_cells_row [] number x s = refl
 form_cells_row (span ∷ spans) number x s =
     let at : ℕ = first_free (λ column. has_cell column s.row s.cells) x (s.width - x) in
     form_cells_row spans (number + 1) (at + span.colspan) (with_cell number at span s)
 
+-- the anchors above it stay
 form_cells_anchors : (spans : List SpanOf) (number x : ℕ) (s : Forming) (y' : ℕ) → y' < s.row → keeps_row (form_cells number x spans s).cells y' ≡ keeps_row s.cells y'
 form_cells_anchors [] number x s y' lt = refl
 form_cells_anchors (span ∷ spans) number x s y' lt =
@@ -74,6 +79,7 @@ form_cells_anchors (span ∷ spans) number x s y' lt =
     ∙ ap (λ t. keeps_row s.cells y' || (t || false)) (ne_eqb s.row y' (λ e. omega arith))
     ∙ or_false (keeps_row s.cells y')
 
+-- the table grows no narrower
 form_cells_width : (spans : List SpanOf) (number x : ℕ) (s : Forming) → s.width ≤ (form_cells number x spans s).width
 form_cells_width [] number x s = omega arith
 form_cells_width (span ∷ spans) number x s =
@@ -82,6 +88,7 @@ form_cells_width (span ∷ spans) number x s =
     form_cells_width spans (number + 1) (at + span.colspan) (with_cell number at span s) in
     omega arith
 
+-- the cells of a row
 later_cells : (spans : List SpanOf) (number x : ℕ) (s : Forming) → Later s.row s (form_cells number x spans s)
 later_cells spans number x s = record {
   numbers = λ x' y' lt. form_cells_before spans number x s x' y' (inl lt);
@@ -96,6 +103,7 @@ anchors-map f same [] y = refl
 anchors-map f same (c ∷ cs) y =
     ap (λ t. eqb t y || keeps_row (map f cs) y) (same c) ∙ ap (λ t. eqb c.top y || t) (anchors-map f same cs y)
 
+-- the beginning of a row
 later_begin : (s : Forming) → Later s.row s (begin_row s)
 later_begin s = record {
   numbers = λ x' y' lt. grown_elsewhere x' s.row y' (λ e. omega arith) s.cells;
@@ -104,9 +112,11 @@ later_begin s = record {
   wider = omega arith;
 }
 
+-- the end of a row
 later_next : (s : Forming) → Later s.row s (next_row s)
 later_next s = record { numbers = λ x' y' lt. refl; anchors = λ y' lt. refl; on = omega arith; wider = omega arith }
 
+-- a whole row
 pub later_row : (number : ℕ) (spans : List SpanOf) (s : Forming) → Later s.row s (form_row number spans s)
 later_row number spans s =
     let formed : Forming = form_cells number 0 spans (begin_row s) in
@@ -115,6 +125,7 @@ later_row number spans s =
     (later_then s.row formed.row (begin_row s) formed (form_row number spans s) (omega arith)
     (later_cells spans number 0 (begin_row s)) (later_next formed))
 
+-- all rows of a group
 pub later_rows : (rows : List (List SpanOf)) (number : ℕ) (s : Forming) → Later s.row s (form_rows number rows s)
 later_rows [] number s = later_same s
 later_rows (spans ∷ rows) number s =
@@ -140,6 +151,7 @@ ended_elsewhere x row height y' le (c ∷ cs) =
           ∙ rest ∙ sym (ap (map number_of) (filter_no (covers x y') c cs e))
     ]
 
+-- the end of a group
 pub later_end : (s : Forming) → Later s.row s (end_group s)
 later_end s = record {
   numbers = λ x' y' lt. ended_elsewhere x' s.row s.height y' (omega arith) s.cells;
@@ -148,12 +160,14 @@ later_end s = record {
   wider = omega arith;
 }
 
+-- a whole group
 pub later_group : (number : ℕ) (rows : List (List SpanOf)) (s : Forming) → Later s.row s (form_group number rows s)
 later_group number rows s =
     let last : Forming = form_rows number rows s in
     let step : Later s.row s last = later_rows rows number s in
     later_then s.row last.row s last (form_group number rows s) step.on step (later_end last)
 
+-- all groups whose turn it is
 pub later_groups : (turn : ShapeGroup → Bool) (groups : List ShapeGroup) (number : ℕ) (s : Forming) → Later s.row s (form_groups turn number groups s)
 later_groups turn [] number s = later_same s
 later_groups turn (group ∷ groups) number s =

@@ -1,11 +1,11 @@
 -- What passing the open blocks leaves: the first free column, and the same blocks over each slot.
-use Rattle.std.proofs.Common.{◌≡◌, ℕ, ◌+◌, ◌<◌, ◌≤◌, Bool, true, false, ◌&&◌, ◌||◌, cond, ltb, leb, List, [], ◌∷◌, ◌++◌, length, refl, sym, ap, ◌∙◌, subst, inl, inr, ◌⊎◌, arith, append_assoc}
+use Rattle.std.proofs.Common.{◌≡◌, ℕ, ◌<◌, ◌≤◌, Bool, true, false, leb, List, [], ◌∷◌, ◌++◌, refl, sym, ap, ◌∙◌, subst, inl, inr, arith, append_assoc}
 use Rattle.std.specs.List.{filter, list_any, AllByRecursion}
-use Rattle.std.proofs.lemmas.Bool.{ltb-true, ltb-false, leb-true, leb-false, lt-ltb, le-ltb, le-leb, lt-leb, cases_Bool, cases_lt, cond-true, cond-false}
+use Rattle.std.proofs.lemmas.Bool.{leb-true, leb-false, cases_Bool, cases_lt, cond-true, cond-false}
 use Rattle.std.proofs.lemmas.List.Elements.{filter-append}
 use Rattle.tl_grid.specs.declared.block.Block.{Block}
 use Rattle.tl_grid.specs.Walk.{reaches, Walk, pass_taken}
-use Rattle.tl_grid.proofs.Chains.{spot, Chain, ChainTo, reaches_above, not_below, spot_ended, spot_left, spot_right, spot_in, filter_yes, filter_no, chain_no, chain_yes, chain_push}
+use Rattle.tl_grid.proofs.Chains.{spot, Chain, ChainTo, spot_in, filter_yes, filter_no, chain_yes, chain_push}
 
 -- whether a list has an element
 abbrev pub some : {X : Type 0} → List X → Bool
@@ -26,12 +26,15 @@ abbrev pub BeginsAfter : ℕ → ℕ → List Block → Type 0
 BeginsAfter y x [] = Unit {0}
 BeginsAfter y x (b ∷ bs) = (reaches y b ≡ true) × (x < b.left)
 
+-- the block takes row y
 abbrev pub Reaches : ℕ → Block → Type 0
 Reaches y b = reaches y b ≡ true
 
+-- the block ends by the column `width`
 abbrev pub EndsWithin : ℕ → Block → Type 0
 EndsWithin width b = b.right ≤ width
 
+-- what passing the open blocks leaves of a row
 pub record Passes (y x : ℕ) (passed ahead : List Block) (w : Walk) : Type 0 where
   pub front : ChainTo 0 (filter (reaches y) w.passed) w.column
   pub rest : Chain w.column (filter (reaches y) w.ahead)
@@ -43,9 +46,11 @@ pub record Passes (y x : ℕ) (passed ahead : List Block) (w : Walk) : Type 0 wh
   pub alive : AllByRecursion (Reaches y) w.ahead
   pub kept : (width : ℕ) → AllByRecursion (EndsWithin width) (passed ++ ahead) → AllByRecursion (EndsWithin width) (w.passed ++ w.ahead)
 
+-- a block is passed
 pub pass_on : (x : ℕ) (ps : List Block) (b : Block) (bs : List Block) → leb b.left x ≡ true → pass_taken x ps (b ∷ bs) ≡ pass_taken b.right (ps ++ b ∷ []) bs
 pass_on x ps b bs f = cond-true (leb b.left x) _ _ f
 
+-- a block stops the walk
 pub pass_stop : (x : ℕ) (ps : List Block) (b : Block) (bs : List Block) → leb b.left x ≡ false → pass_taken x ps (b ∷ bs) ≡ record { column = x; passed = ps; ahead = b ∷ bs }
 pass_stop x ps b bs f = cond-false (leb b.left x) _ _ f
 
@@ -99,6 +104,7 @@ push_front y x ps b e front le lt =
     subst P (sym (filter-append (reaches y) ps (b ∷ []) ∙ ap (λ l. filter (reaches y) ps ++ l) (filter_yes (reaches y) b [] e)))
     (chain_push 0 x (filter (reaches y) ps) b front le lt)
 
+-- all blocks that take the columns are passed
 pub passes : (y : ℕ) (qs : List Block) (x : ℕ) (ps : List Block) → ChainTo 0 (filter (reaches y) ps) x → Chain x (filter (reaches y) qs) → AllByRecursion (Reaches y) qs → Passes y x ps qs (pass_taken x ps qs)
 passes y [] x ps front rest alive = passes_stop y x ps [] front rest tt alive
 passes y (b ∷ bs) x ps front rest alive =

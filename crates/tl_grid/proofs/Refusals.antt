@@ -1,45 +1,48 @@
 -- What the walk over a whole table says of `form`'s answers.
-use Rattle.std.proofs.Common.{◌≡◌, ℕ, ◌<◌, ◌≤◌, List, [], ◌∷◌, replicate, length, Result, Ok, Err, refl, sym, ap, ◌∙◌, subst, inl, inr, ◌⊎◌, arith}
-use Rattle.std.specs.Prelude.{alloc_error, IfErr}
+use Rattle.std.proofs.Common.{◌≡◌, ℕ, ◌<◌, ◌≤◌, List, [], ◌∷◌, replicate, length, Result, Ok, Err, sym, ap, ◌∙◌, subst, inl, inr, ◌⊎◌, arith}
+use Rattle.std.specs.Prelude.{alloc_error}
 use Rattle.std.specs.List.{AllByRecursion}
 use Rattle.std.specs.List.Sorted.{IsStrictlyIncreasing}
 use Rattle.tl_grid.specs.declared.shape.SpanOf.{SpanOf}
 use Rattle.tl_grid.specs.declared.shape.ShapeGroup.{ShapeGroup}
 use Rattle.tl_grid.specs.declared.shape.Shape.{Shape}
-use Rattle.tl_grid.specs.declared.shape.Grid.{Grid}
 use Rattle.tl_grid.specs.declared.shape.Place.{Place}
 use Rattle.tl_grid.specs.declared.table.Table.{Table}
 use Rattle.tl_grid.specs.declared.error.GridError.{GridError}
 use Rattle.tl_grid.specs.declared.error.GridError.TheVariants.{Memory, TooManyCells, Overlap, TooManyColumns, TooManyRows}
 use Rattle.tl_grid.specs.Forming.{formed, cell_count}
-use Rattle.tl_grid.specs.Overlap.{HasNoOverlap}
-use Rattle.tl_grid.specs.Dropping.{is_among, nowhere, grid_of, kept_column_count, kept_row_count}
-use Rattle.tl_grid.specs.Form.{HasGrid, HasTooManyColumns, HasTooManyRows, HasOverlap, IsRefusal}
+use Rattle.tl_grid.specs.Dropping.{is_among, nowhere, kept_column_count, kept_row_count}
+use Rattle.tl_grid.specs.Form.{HasGrid, HasTooManyColumns, HasTooManyRows, IsRefusal}
 use Rattle.tl_grid.specs.Walk.{place_all}
-use Rattle.tl_grid.specs.Answers.{IsSpan, AllSpans}
+use Rattle.tl_grid.specs.Shapes.{IsSpan, AllSpans}
 use Rattle.tl_grid.specs.Places.{begins_in_column, begins_in_row, put_places}
 use Rattle.tl_grid.proofs.Rows.{IsWide}
-use Rattle.tl_grid.proofs.Groups.{AllWide, FoundAbove}
+use Rattle.tl_grid.proofs.Groups.{AllWide}
 use Rattle.tl_grid.proofs.Tables.{GroupWide, TableMatches, TableGives, IsFound, all_give}
 use Rattle.tl_grid.proofs.Grids.{column_count, row_count, same_places}
 
+-- each cell has a column
 wide_spans : (spans : List SpanOf) → AllByRecursion IsSpan spans → AllByRecursion IsWide spans
 wide_spans [] all = tt
 wide_spans (span ∷ spans) all = (omega (arith, all.0.0), wide_spans spans all.1)
 
+-- so in all rows
 wide_rows : (rows : List (List SpanOf)) → AllByRecursion (AllByRecursion IsSpan) rows → AllWide rows
 wide_rows [] all = tt
 wide_rows (spans ∷ rows) all = (wide_spans spans all.0, wide_rows rows all.1)
 
+-- and in all groups
 wide_groups : (groups : List ShapeGroup) → AllSpans groups → AllByRecursion GroupWide groups
 wide_groups [] all = tt
 wide_groups (group ∷ groups) all = (wide_rows group.rows all.0, wide_groups groups all.1)
 
+-- a walk that ends gives the standard's table
 pub table_matches : (shape : Shape) (t : Table) → AllSpans shape.groups → place_all shape.groups ≡ Ok t → TableMatches (formed shape) t
 table_matches shape t spans e =
     let P : Result Table GridError → Type 0 = λ r. TableGives (formed shape) r in
     subst P e (all_give shape (wide_groups shape.groups spans))
 
+-- an overlap that the walk found is refused
 found_refusal : (shape : Shape) (error : GridError) → cell_count shape ≤ 20000 → IsFound (formed shape) error → IsRefusal shape error
 found_refusal shape (Memory e) few found = tt
 found_refusal shape (TooManyCells count) few found = absurd found
@@ -58,6 +61,7 @@ walk_refusal shape error spans few (inr walked) =
     let P : Result Table GridError → Type 0 = λ r. TableGives (formed shape) r in
     found_refusal shape error few (subst P walked (all_give shape (wide_groups shape.groups spans)))
 
+-- too many kept columns
 pub columns_refusal : (shape : Shape) (t : Table) (columns : List ℕ) (count : ℕ) → AllSpans shape.groups → cell_count shape ≤ 20000 → place_all shape.groups ≡ Ok t → IsStrictlyIncreasing columns → ((x : ℕ) → is_among columns x ≡ begins_in_column t.blocks x) → count ≡ length columns → 60 < count → HasTooManyColumns shape count
 columns_refusal shape t columns count spans few walked up same counted many =
     let m : TableMatches (formed shape) t = table_matches shape t spans walked in
@@ -68,6 +72,7 @@ columns_refusal shape t columns count spans few walked up same counted many =
       many = many;
     }
 
+-- too many kept rows
 pub rows_refusal : (shape : Shape) (t : Table) (columns rows : List ℕ) (count : ℕ) → AllSpans shape.groups → cell_count shape ≤ 20000 → place_all shape.groups ≡ Ok t → IsStrictlyIncreasing columns → ((x : ℕ) → is_among columns x ≡ begins_in_column t.blocks x) → length columns ≤ 60 → IsStrictlyIncreasing rows → ((y : ℕ) → is_among rows y ≡ begins_in_row t.blocks y) → count ≡ length rows → 2000 < count → HasTooManyRows shape count
 rows_refusal shape t columns rows count spans few walked up same narrow up' same' counted many =
     let m : TableMatches (formed shape) t = table_matches shape t spans walked in
@@ -80,6 +85,7 @@ rows_refusal shape t columns rows count spans few walked up same narrow up' same
       many = many;
     }
 
+-- the dropped grid
 pub has_grid : (shape : Shape) (t : Table) (columns rows : List ℕ) (cols lines count : ℕ) (places : List Place) → AllSpans shape.groups → cell_count shape ≤ 20000 → place_all shape.groups ≡ Ok t → IsStrictlyIncreasing columns → ((x : ℕ) → is_among columns x ≡ begins_in_column t.blocks x) → length columns ≤ 60 → IsStrictlyIncreasing rows → ((y : ℕ) → is_among rows y ≡ begins_in_row t.blocks y) → length rows ≤ 2000 → cols ≡ length columns → lines ≡ length rows → count ≡ cell_count shape → places ≡ put_places columns rows (replicate count nowhere) t.blocks → HasGrid shape record { cols = cols; rows = lines; places = places }
 has_grid shape t columns rows cols lines count places spans few walked up same narrow up' same' low wide high counted put =
     let m : TableMatches (formed shape) t = table_matches shape t spans walked in

@@ -1,21 +1,18 @@
 -- A row that is walked over the open blocks is the standard's row, up to the first overlap.
-use Rattle.std.proofs.Common.{◌≡◌, ℕ, ◌+◌, ◌-◌, ◌<◌, ◌≤◌, max, zero, suc, Bool, true, false, ◌&&◌, ◌||◌, cond, ltb, leb, eqb, List, [], ◌∷◌, ◌++◌, map, length, Option, Some, None, Result, Ok, Err, refl, sym, ap, ◌∙◌, subst, inl, inr, ◌⊎◌, arith, append_assoc, append-nil}
-use Rattle.std.specs.List.{filter, list_any, AllByRecursion}
-use Rattle.std.specs.Result.{MatchResult}
-use Rattle.std.proofs.lemmas.Bool.{ltb-true, ltb-false, lt-ltb, eq-eqb, ne_eqb, cases_Bool, cases_lt, cases_eq, or_left, or_right, cond-true, cond-false}
+use Rattle.std.proofs.Common.{◌≡◌, ℕ, ◌+◌, ◌-◌, ◌<◌, ◌≤◌, max, Bool, true, false, ◌||◌, cond, ltb, eqb, List, [], ◌∷◌, ◌++◌, map, length, Some, None, refl, sym, ap, ◌∙◌, subst, inl, inr, arith, append_assoc, append-nil}
+use Rattle.std.specs.List.{filter, AllByRecursion}
+use Rattle.std.proofs.lemmas.Bool.{ltb-true, ltb-false, lt-ltb, eq-eqb, ne_eqb, cases_Bool, cases_eq, or_left, or_right, cond-true, cond-false}
 use Rattle.std.proofs.lemmas.List.{map-append, length-map}
 use Rattle.std.proofs.lemmas.List.Elements.{filter-append}
 use Rattle.tl_grid.specs.declared.shape.SpanOf.{SpanOf}
 use Rattle.tl_grid.specs.declared.block.Block.{Block}
-use Rattle.tl_grid.specs.declared.error.GridError.{GridError}
-use Rattle.tl_grid.specs.declared.error.GridError.TheVariants.{Memory, TooManyCells, Overlap, TooManyColumns, TooManyRows}
-use Rattle.tl_grid.specs.Forming.{Cell, Forming, covers, has_cell, first_free, first_rows, cell_at, with_cell, form_cells}
-use Rattle.tl_grid.specs.Overlap.{numbers_over, IsBefore, IsFirstOverlap}
-use Rattle.tl_grid.specs.Walk.{reaches, Walk, pass_taken, block_at, hit, Row, placed, walk_of, unless_hit, place_cells}
-use Rattle.tl_grid.proofs.Chains.{spot, Chain, ChainTo, reaches_above, spot_left, spot_right, spot_in, spot_before, spot_from, filter_yes, filter_no, none_left, none_right, at_most_one, chain_append, chain_push, chain_yes}
+use Rattle.tl_grid.specs.Forming.{Cell, Forming, has_cell, first_free, first_rows, cell_at, with_cell}
+use Rattle.tl_grid.specs.Overlap.{numbers_over, IsBefore}
+use Rattle.tl_grid.specs.Walk.{reaches, Walk, block_at, hit, Row, placed, walk_of}
+use Rattle.tl_grid.proofs.Chains.{spot, Chain, ChainTo, spot_in, spot_before, spot_from, filter_yes, filter_no, none_left, none_right, at_most_one, chain_append, chain_yes}
 use Rattle.tl_grid.proofs.Passing.{some, BeginsAfter, Reaches, EndsWithin, Passes, passes, push_front}
-use Rattle.tl_grid.proofs.Cells.{cell_of, AllQuiet, number_of, block_number, BeginsBy, covers_spot, numbers_here, numbers_same, quiet_none, numbers-append, has_cell_here, first_free_is, formed_cell}
-use Rattle.tl_grid.proofs.Later.{with_cell_before, form_cells_before, form_cells_row}
+use Rattle.tl_grid.proofs.Cells.{cell_of, AllQuiet, block_number, BeginsBy, numbers_here, has_cell_here, first_free_is, formed_cell}
+use Rattle.tl_grid.proofs.Later.{with_cell_before}
 
 -- the blocks begin at column `right` or after it, and the first of them takes row y
 abbrev pub BeginsFrom : ℕ → ℕ → List Block → Type 0
@@ -30,10 +27,12 @@ chain_later y x right (b ∷ bs) begins c =
     let P : List Block → Type 0 = λ l. Chain right l in
     subst P (sym (filter_yes (reaches y) b bs begins.0)) (begins.1, d.1, d.2)
 
+-- what begins after a column begins from the next one on
 begins_next : (y x : ℕ) (bs : List Block) → BeginsAfter y x bs → BeginsFrom y (x + 1) bs
 begins_next y x [] b = tt
 begins_next y x (b ∷ bs) h = (h.0, omega (arith, h.1))
 
+-- without a hit the blocks begin at the right edge or after it
 no_hit : (y x right : ℕ) (bs : List Block) → BeginsAfter y x bs → hit bs right ≡ None → BeginsFrom y right bs
 no_hit y x right [] h none = tt
 no_hit y x right (b ∷ bs) h none =
@@ -46,6 +45,7 @@ no_hit y x right (b ∷ bs) h none =
 abbrev pub IsSound : ℕ → ℕ → Block → Type 0
 IsSound width height b = (b.left < b.right) × (b.right ≤ width) × (b.top < b.bottom) × (b.bottom ≤ height)
 
+-- a sound block stays sound in a larger table
 pub sound_on : (w w' h h' : ℕ) → w ≤ w' → h ≤ h' → (b : Block) → IsSound w h b → IsSound w' h' b
 sound_on w w' h h' wide high b s = (s.0, omega (arith, s.1), s.2, omega (arith, s.3))
 
@@ -65,6 +65,7 @@ pub record RowMatches (done : List Cell) (y : ℕ) (s : Forming) (r : Row) : Typ
   pub alive : AllByRecursion (Reaches y) r.ahead
   pub past : (x' y' : ℕ) → y' < y → length (numbers_over x' y' s.cells) ≤ 1
 
+-- what holds of all holds of the last
 all_right : (P : Block → Type 0) (xs ys : List Block) → AllByRecursion P (xs ++ ys) → AllByRecursion P ys
 all_right P [] ys a = a
 all_right P (x ∷ xs) ys a = all_right P xs ys a.1
@@ -74,10 +75,12 @@ all_insert : (P : Block → Type 0) (xs : List Block) (b : Block) (ys : List Blo
 all_insert P [] b ys h a = (h, a)
 all_insert P (x ∷ xs) b ys h a = (a.0, all_insert P xs b ys h a.1)
 
+-- one more at the end
 all_push : (P : Block → Type 0) (xs : List Block) (b : Block) → P b → AllByRecursion P xs → AllByRecursion P (xs ++ b ∷ [])
 all_push P [] b h a = (h, tt)
 all_push P (x ∷ xs) b h a = (a.0, all_push P xs b h a.1)
 
+-- a weaker fact holds of all too
 pub all_weaken : (P Q : Block → Type 0) → ((b : Block) → P b → Q b) → (xs : List Block) → AllByRecursion P xs → AllByRecursion Q xs
 all_weaken P Q f [] a = tt
 all_weaken P Q f (x ∷ xs) a = (f x a.0, all_weaken P Q f xs a.1)
@@ -108,17 +111,21 @@ column_found done y s r quiet m =
     (taken_here done y s r quiet m w.column ∙ ap some (sym (p.same w.column y (omega arith)))
     ∙ ap some (none_between y w.column r w (w.column + 1) y p (begins_next y w.column w.ahead p.begins) (omega arith) (omega arith) (omega arith)))
 
+-- of two lists that make none the first is empty
 nothing_left : (xs ys : List Block) → xs ++ ys ≡ [] → xs ≡ []
 nothing_left [] ys e = refl
 nothing_left (x ∷ xs) ys e = cc
 
+-- and the second
 nothing_right : (xs ys : List Block) → xs ++ ys ≡ [] → ys ≡ []
 nothing_right [] ys e = e
 nothing_right (x ∷ xs) ys e = cc
 
+-- what a filter keeps after one more that passes
 filter_push_yes : (p : Block → Bool) (bs : List Block) (b : Block) → p b ≡ true → filter p (bs ++ b ∷ []) ≡ filter p bs ++ b ∷ []
 filter_push_yes p bs b e = filter-append p bs (b ∷ []) ∙ ap (λ l. filter p bs ++ l) (filter_yes p b [] e)
 
+-- and after one more that does not
 filter_push_no : (p : Block → Bool) (bs : List Block) (b : Block) → p b ≡ false → filter p (bs ++ b ∷ []) ≡ filter p bs
 filter_push_no p bs b e = filter-append p bs (b ∷ []) ∙ ap (λ l. filter p bs ++ l) (filter_no p b [] e) ∙ append-nil (filter p bs)
 
@@ -137,6 +144,7 @@ filter_insert p xs b ys bs same none =
           ∙ sym (filter-append p (xs ++ b ∷ []) ys ∙ ap (λ l. l ++ filter p ys) (filter_push_no p xs b e))
     ]
 
+-- the cell has a column
 abbrev pub IsWide : SpanOf → Type 0
 IsWide span = 0 < span.colspan
 
@@ -150,6 +158,7 @@ begins_here y n =
           (ap (λ t. ltb y (y + cond t 1 n)) (ne_eqb n 0 ne) ∙ lt-ltb y (y + n) (omega arith))
     ]
 
+-- a cell has a row
 rows_some : (y n : ℕ) → y < y + cond (eqb n 0) 1 n
 rows_some y n =
     elim (cases_eq n 0) [
@@ -219,6 +228,7 @@ pub record IsFoundIn (cells : List Cell) (first second x y : ℕ) : Type 0 where
   pub two : numbers_over x y cells ≡ first ∷ second ∷ []
   pub before : (x' y' : ℕ) → IsBefore x' y' x y → length (numbers_over x' y' cells) ≤ 1
 
+-- in the row that is formed no slot has two blocks
 pub one_at_most_here : (done : List Cell) (y : ℕ) (s : Forming) (r : Row) (x : ℕ) → RowMatches done y s r → length (filter (spot x y) r.blocks) ≤ 1
 one_at_most_here done y s r x m =
     let P : List Block → Type 0 = λ l. length l ≤ 1 in

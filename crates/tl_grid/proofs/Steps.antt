@@ -14,15 +14,18 @@ hit_first : (o : Option Block) (number y : ℕ) (row : Row) (more : Row → Resu
 hit_first None number y row more = refl
 hit_first (Some block) number y row more = refl
 
+-- the first cell, and then the others
 pub cells_first : (y number : ℕ) (row : Row) (span : SpanOf) (spans : List SpanOf) → place_cells y number row (span ∷ spans) ≡ then_ok (λ after. place_cells y (number + 1) after spans) (place_cell y number row span)
 cells_first y number row span spans =
     hit_first (hit (walk_of row).ahead ((walk_of row).column + span.colspan)) number y
     (placed y number span row (walk_of row)) (λ after. place_cells y (number + 1) after spans)
 
+-- the others, where the first is placed
 pub cells_go_on : (y number : ℕ) (row after : Row) (span : SpanOf) (spans : List SpanOf) → place_cell y number row span ≡ Ok after → place_cells y number row (span ∷ spans) ≡ place_cells y (number + 1) after spans
 cells_go_on y number row after span spans e =
     cells_first y number row span spans ∙ ap (then_ok (λ next. place_cells y (number + 1) next spans)) e
 
+-- the error of the first
 pub cells_stop : (y number : ℕ) (row : Row) (span : SpanOf) (spans : List SpanOf) (error : GridError) → place_cell y number row span ≡ Err error → place_cells y number row (span ∷ spans) ≡ Err error
 cells_stop y number row span spans error e =
     cells_first y number row span spans ∙ ap (then_ok (λ next. place_cells y (number + 1) next spans)) e
@@ -40,15 +43,18 @@ take_put b (x ∷ xs) zero le = refl
 take_put b [] (suc i) le = absurd (omega arith)
 take_put b (x ∷ xs) (suc i) le = ap (λ l. x ∷ l) (take_put b xs i (omega arith))
 
+-- what comes after an element that is put
 drop_put : {X : Type 0} (b : X) (xs : List X) (i : ℕ) → i ≤ length xs → drop (suc i) (take i xs ++ b ∷ drop i xs) ≡ drop i xs
 drop_put b [] zero le = refl
 drop_put b (x ∷ xs) zero le = refl
 drop_put b [] (suc i) le = absurd (omega arith)
 drop_put b (x ∷ xs) (suc i) le = drop_put b xs i (omega arith)
 
+-- the front of a list up to an element that was inserted
 pub take_inserted : {X : Type 0} (b : X) (xs : List X) (i : ℕ) → i ≤ length xs → take (i + 1) (insert xs i b) ≡ take i xs ++ b ∷ []
 take_inserted b xs i le = rw (add-one i) (take_put b xs i le)
 
+-- and what comes after it
 pub drop_inserted : {X : Type 0} (b : X) (xs : List X) (i : ℕ) → i ≤ length xs → drop (i + 1) (insert xs i b) ≡ drop i xs
 drop_inserted b xs i le = rw (add-one i) (drop_put b xs i le)
 
@@ -59,6 +65,7 @@ cell_free y number span row cursor e none =
     let P : Walk → Type 0 = λ w. unless_hit (hit w.ahead (w.column + span.colspan)) number y (Ok (placed y number span (row_over row) w)) ≡ Ok (placed y number span (row_over row) (walk_over row.open_blocks cursor)) in
     subst P e (ap (λ o. unless_hit o number y (Ok done)) none)
 
+-- a cell that is placed, as the code keeps it
 pub cell_done : (y number : ℕ) (span : SpanOf) (row : RowState) (cursor : Cursor) (b : Block) (height : ℕ) (blocks open_blocks : List Block) → walk_over row.open_blocks cursor ≡ walk_of (row_over row) → hit (drop cursor.at row.open_blocks) b.right ≡ None → b ≡ block_at number cursor.column y span → cursor.at ≤ length row.open_blocks → height ≡ max row.height b.bottom → blocks ≡ row.blocks ++ b ∷ [] → open_blocks ≡ insert row.open_blocks cursor.at b → place_cell y number (row_over row) span ≡ Ok (row_over record { cursor = record { column = b.right; at = cursor.at + 1 }; height = height; blocks = blocks; open_blocks = open_blocks })
 cell_done y number span row cursor b height blocks open_blocks e none is le high more put =
     let c : Block = block_at number cursor.column y span in

@@ -1,8 +1,8 @@
 -- Whole tables: group after group, the feet last.
-use Rattle.std.proofs.Common.{◌≡◌, ℕ, ◌+◌, ◌-◌, ◌<◌, ◌≤◌, max, zero, suc, Bool, true, false, ◌&&◌, ◌||◌, not, cond, ltb, leb, eqb, List, [], ◌∷◌, ◌++◌, map, length, Option, Some, None, Result, Ok, Err, refl, sym, ap, ◌∙◌, subst, inl, inr, ◌⊎◌, arith, append_assoc, append-nil}
-use Rattle.std.specs.List.{filter, list_any, AllByRecursion}
-use Rattle.std.proofs.lemmas.Bool.{ltb-true, ltb-false, lt-ltb, le-ltb, le-leb, lt-leb, ne_eqb, cases_Bool, cases_lt, cases_eq, cases_order, both_ways, and_left, and_right, and_parts, or_cases, cond-true, cond-false}
-use Rattle.std.proofs.lemmas.List.{map-append, length-map}
+use Rattle.std.proofs.Common.{◌≡◌, ℕ, ◌+◌, ◌<◌, ◌≤◌, suc, Bool, true, false, ◌&&◌, ◌||◌, not, cond, ltb, leb, eqb, List, [], ◌∷◌, ◌++◌, map, length, Result, Ok, Err, refl, sym, ap, ◌∙◌, subst, inl, inr, arith, append-nil}
+use Rattle.std.specs.List.{filter, AllByRecursion}
+use Rattle.std.proofs.lemmas.Bool.{lt-ltb, le-ltb, le-leb, ne_eqb, cases_Bool, cases_lt, cases_order, both_ways, and_left, and_right, cond-true, cond-false}
+use Rattle.std.proofs.lemmas.List.{map-append}
 use Rattle.std.proofs.lemmas.Simd.{map-map}
 use Rattle.std.proofs.lemmas.List.Folds.{list_any-append}
 use Rattle.tl_grid.specs.declared.shape.SpanOf.{SpanOf}
@@ -11,13 +11,13 @@ use Rattle.tl_grid.specs.declared.shape.Shape.{Shape}
 use Rattle.tl_grid.specs.declared.block.Block.{Block}
 use Rattle.tl_grid.specs.declared.error.GridError.{GridError}
 use Rattle.tl_grid.specs.Forming.{Cell, Forming, covers, form_rows, at_group_end, end_group, form_group, form_groups, cells_in, no_cells, formed}
-use Rattle.tl_grid.specs.Overlap.{numbers_over, IsBefore}
+use Rattle.tl_grid.specs.Overlap.{numbers_over}
 use Rattle.tl_grid.specs.Dropping.{keeps_row}
 use Rattle.tl_grid.specs.declared.group.Group.{Group}
 use Rattle.tl_grid.specs.declared.table.Table.{Table}
 use Rattle.tl_grid.specs.Walk.{reaches, group_at, then_ok, place_rows, settled, after_group, place_groups, place_all}
-use Rattle.tl_grid.proofs.Chains.{spot, Chain, spot_in, filter_yes, filter_no, at_most_one}
-use Rattle.tl_grid.proofs.Cells.{cell_of, IsQuiet, AllQuiet, BeginsAbove, number_of, block_number, or_false, numbers-append, quiet_none}
+use Rattle.tl_grid.proofs.Chains.{spot, filter_yes, filter_no, at_most_one}
+use Rattle.tl_grid.proofs.Cells.{cell_of, AllQuiet, BeginsAbove, number_of, or_false, numbers-append, quiet_none}
 use Rattle.tl_grid.proofs.Later.{Later, later_rows, later_end, later_groups, anchors-map, ended_elsewhere}
 use Rattle.tl_grid.proofs.Rows.{IsSound, sound_on, all_weaken}
 use Rattle.tl_grid.proofs.Groups.{FoundAbove, found_kept, found_on, GroupMatches, RowsGive, rows_give, AllWide, quiet_on}
@@ -73,6 +73,7 @@ still_ended row height c e = λ i. record {
   grows = sym e i;
 }
 
+-- so do all cells of earlier groups
 still_all : (row height y : ℕ) (cs : List Cell) → AllQuiet y cs → map (at_group_end row height) cs ≡ cs
 still_all row height y [] q = refl
 still_all row height y (c ∷ cs) q =
@@ -99,6 +100,7 @@ rows_in_group true row height top bottom y low le ge =
 rows_in_group false row height top bottom y low le ge =
     or_false (leb top y && ltb y bottom) ∙ and_right (leb top y) (ltb y bottom) (le-ltb y bottom (omega arith))
 
+-- the cells of a group cover no row below its end
 quiet_ended : (row height width : ℕ) → row ≤ height → (bs : List Block) → AllByRecursion (IsSound width height) bs → AllQuiet height (map (ended_cell row height) bs)
 quiet_ended row height width low [] sound = tt
 quiet_ended row height width low (b ∷ bs) sound = (
@@ -106,6 +108,7 @@ quiet_ended row height width low (b ∷ bs) sound = (
   quiet_ended row height width low bs sound.1,
 )
 
+-- the cells of two groups
 quiet_append : (y : ℕ) (cs ds : List Cell) → AllQuiet y cs → AllQuiet y ds → AllQuiet y (cs ++ ds)
 quiet_append y [] ds q r = r
 quiet_append y (c ∷ cs) ds q r = (q.0, quiet_append y cs ds q.1 r)
@@ -142,6 +145,7 @@ numbers_fewer x y f p none (b ∷ bs) =
           omega arith
     ]
 
+-- the rows of a block that ends above row y
 rows_none : (g : Bool) (row height top bottom y : ℕ) → row ≤ y → (g || ltb y bottom) ≡ false → ((leb top y && ltb y (cond g row bottom)) || (g && (ltb row y && ltb y height))) ≡ false
 rows_none true row height top bottom y ge none = absurd (both_ways true none refl)
 rows_none false row height top bottom y ge none =
@@ -201,6 +205,7 @@ kept_rows_same true true row height top bottom y low lt gap =
           ∙ sym (ap (λ t. t && ltb y height) (le-leb top y (omega arith)))
     ]
 
+-- a cell and its block, where rows with an anchor are looked at
 masked_same : (keeps : ℕ → Bool) (row height : ℕ) (b : Block) → row ≤ height → BeginsAbove row b → (row < height → keeps row ≡ false) → mask keeps (ended_cell row height b) ≡ mask keeps (whole (settled height b))
 masked_same keeps row height b low top gap = λ i. record {
   number = b.number;
@@ -211,26 +216,31 @@ masked_same keeps row height b low top gap = λ i. record {
   grows = false;
 }
 
+-- so for all blocks of a group
 masked_all : (keeps : ℕ → Bool) (row height : ℕ) (bs : List Block) → row ≤ height → AllByRecursion (BeginsAbove row) bs → (row < height → keeps row ≡ false) → map (mask keeps) (map (ended_cell row height) bs) ≡ map (mask keeps) (map whole (map (settled height) bs))
 masked_all keeps row height [] low tops gap = refl
 masked_all keeps row height (b ∷ bs) low tops gap =
     ap (λ c. c ∷ map (mask keeps) (map (ended_cell row height) bs)) (masked_same keeps row height b low tops.0 gap)
     ∙ ap (λ cs. mask keeps (whole (settled height b)) ∷ cs) (masked_all keeps row height bs low tops.1 gap)
 
+-- where a block ends when its group ends
 settled_bottom : (g : Bool) (height bottom top : ℕ) → top < bottom → bottom ≤ height → (top < cond g height bottom) × (cond g height bottom ≤ height)
 settled_bottom true height bottom top lt le = (omega arith, omega arith)
 settled_bottom false height bottom top lt le = (lt, le)
 
+-- a block stays sound when its group ends
 settled_sound : (width height : ℕ) (bs : List Block) → AllByRecursion (IsSound width height) bs → AllByRecursion (IsSound width height) (map (settled height) bs)
 settled_sound width height [] s = tt
 settled_sound width height (b ∷ bs) s =
     let ends = settled_bottom b.grows height b.bottom b.top s.0.2 s.0.3 in
     ((s.0.0, s.0.1, ends.0, ends.1), settled_sound width height bs s.1)
 
+-- what holds of two lists holds of both together
 all_append : (P : Block → Type 0) (xs ys : List Block) → AllByRecursion P xs → AllByRecursion P ys → AllByRecursion P (xs ++ ys)
 all_append P [] ys a b = b
 all_append P (x ∷ xs) ys a b = (a.0, all_append P xs ys a.1 b)
 
+-- the anchors of two groups
 anchors-append : (cs ds : List Cell) (y : ℕ) → keeps_row (cs ++ ds) y ≡ (keeps_row cs y || keeps_row ds y)
 anchors-append cs ds y = list_any-append (λ (c : Cell). eqb c.top y) cs ds
 
@@ -299,10 +309,12 @@ group_begins s t m =
 abbrev pub IsFound : Forming → GridError → Type 0
 IsFound s error = FoundAbove s.row s.cells error
 
+-- the walk gives the standard's table, or its first overlap
 abbrev pub TableGives : Forming → Result Table GridError → Type 0
 TableGives s (Ok table) = TableMatches s table
 TableGives s (Err error) = IsFound s error
 
+-- the same at the end of a group
 abbrev pub GroupGives : Forming → Forming → Table → Result Group GridError → Type 0
 GroupGives s last t (Ok group) = TableMatches (end_group last) (after_group t group)
 GroupGives s last t (Err error) = IsFound (end_group last) error
@@ -313,15 +325,18 @@ found_later s t error later found =
     found_on s.row t.row t.cells error later.on
     (found_kept s.row s.cells t.cells error later.numbers found)
 
+-- a group, by what its rows gave
 group_gives_from : (result : Result Group GridError) (s last : Forming) (t : Table) → TableMatches s t → Later s.row s last → RowsGive s.cells last result → GroupGives s last t result
 group_gives_from (Ok group) s last t m later gives = group_ends s last t group m later gives
 group_gives_from (Err error) s last t m later gives = found_later last (end_group last) error (later_end last) gives
 
+-- a whole group
 group_gives : (number : ℕ) (rows : List (List SpanOf)) (s : Forming) (t : Table) → AllWide rows → TableMatches s t → GroupGives s (form_rows number rows s) t (place_rows number (group_at t.row) rows)
 group_gives number rows s t wide m =
     group_gives_from (place_rows number (group_at t.row) rows) s (form_rows number rows s) t m (later_rows rows number s)
     (rows_give rows s.cells number s (group_at t.row) wide (group_begins s t m))
 
+-- each cell of the group has a column
 abbrev pub GroupWide : ShapeGroup → Type 0
 GroupWide group = AllWide group.rows
 
@@ -331,6 +346,7 @@ groups_give_step (Ok group) turn number s last t groups gives next = next (after
 groups_give_step (Err error) turn number s last t groups gives next =
     found_later (end_group last) (form_groups turn number groups (end_group last)) error (later_groups turn groups number (end_group last)) gives
 
+-- all groups whose turn it is
 pub groups_give : (turn : ShapeGroup → Bool) (groups : List ShapeGroup) (number : ℕ) (s : Forming) (t : Table) → AllByRecursion GroupWide groups → TableMatches s t → TableGives (form_groups turn number groups s) (place_groups turn number t groups)
 groups_give turn [] number s t wide m = m
 groups_give turn (group ∷ groups) number s t wide m =

@@ -1,8 +1,6 @@
 -- What the code keeps for a walk, and how its answers follow the walk.
-use Rattle.std.specs.Prelude.{ℕ, ◌+◌, ◌*◌, ◌<◌, ◌≤◌, ◌≡◌, ◌⊎◌, List, [], ◌∷◌, ◌++◌, take, drop, Result, Ok, Err, MatchResult, alloc_error}
+use Rattle.std.specs.Prelude.{ℕ, ◌≤◌, ◌≡◌, ◌⊎◌, List, ◌++◌, take, drop, Result, Ok, Err, alloc_error}
 use Rattle.std.specs.List.{AllByRecursion}
-use Rattle.tl_grid.specs.declared.shape.SpanOf.{SpanOf}
-use Rattle.tl_grid.specs.declared.shape.ShapeGroup.{ShapeGroup}
 use Rattle.tl_grid.specs.declared.block.Block.{Block}
 use Rattle.tl_grid.specs.declared.row.Cursor.{Cursor}
 use Rattle.tl_grid.specs.declared.row.RowState.{RowState}
@@ -31,15 +29,6 @@ row_over row = record {
 abbrev pub IsAnswer : {X Y : Type 0} → (X → Y) → Result Y GridError → Result X GridError → Type 0
 IsAnswer view walked (Ok value) = walked ≡ Ok (view value)
 IsAnswer view walked (Err error) = (error ≡ Memory alloc_error) ⊎ (walked ≡ Err error)
-
--- the spans that a cell may have
-abbrev pub IsSpan : SpanOf → Type 0
-IsSpan span = (1 ≤ span.colspan) × (span.colspan ≤ 1000) × (span.rowspan ≤ 65534)
-
--- each cell of the groups has such a span
-abbrev pub AllSpans : List ShapeGroup → Type 0
-AllSpans groups =
-    AllByRecursion (λ (group : ShapeGroup). AllByRecursion (AllByRecursion IsSpan) group.rows) groups
 
 -- a block ends before column `width`, or at it
 abbrev pub EndsBy : ℕ → Block → Type 0

@@ -50,7 +50,8 @@ place_of s cell = record {
 -- a place has a slot, and lies within a grid of so many columns and rows
 abbrev pub IsPlaced : ℕ → ℕ → Place → Type 0
 IsPlaced cols rows place =
-  (place.left < place.right) × (place.right ≤ cols) × (place.top < place.bottom) × (place.bottom ≤ rows)
+    (place.left < place.right) × (place.right ≤ cols)
+    × (place.top < place.bottom) × (place.bottom ≤ rows)
 
 -- the place before any is known
 abbrev pub nowhere : Place

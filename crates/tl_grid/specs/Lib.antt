@@ -1,3 +1,4 @@
+pub mod Shapes
 pub mod Forming
 pub mod Overlap
 pub mod Dropping

@@ -1,5 +1,5 @@
--- Where two cells cover one slot. The HTML Standard calls this a table model error and goes on; here
--- such a table has no grid.
+-- Where two cells cover one slot. The HTML Standard calls this a table model error and goes on;
+-- here such a table has no grid.
 use Rattle.std.specs.Prelude.{ℕ, ◌<◌, ◌≤◌, ◌≡◌, List, ◌∷◌, map, filter, length, ◌⊎◌}
 use Rattle.tl_grid.specs.Forming.{Cell, covers}
 

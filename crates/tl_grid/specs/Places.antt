@@ -1,8 +1,8 @@
 -- The places of the blocks, where the kept columns and rows stand in lists that rise.
-use Rattle.std.specs.Prelude.{ℕ, Bool, List, map, fold, slice_set, replicate}
+use Rattle.std.specs.Prelude.{ℕ, Bool, List, map, fold, slice_set}
 use Rattle.tl_grid.specs.declared.block.Block.{Block}
 use Rattle.tl_grid.specs.declared.shape.Place.{Place}
-use Rattle.tl_grid.specs.Dropping.{count_below, is_among, nowhere}
+use Rattle.tl_grid.specs.Dropping.{count_below, is_among}
 
 -- whether a block begins in the column, or in the row
 abbrev pub begins_in_column : List Block → ℕ → Bool

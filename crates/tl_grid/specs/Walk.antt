@@ -44,8 +44,8 @@ abbrev pub hit : List Block → ℕ → Option Block
 hit [] right = None
 hit (block ∷ blocks) right = if nat_lt block.left right then Some block else None
 
--- a row while its cells are formed: the next column, the table's height, the blocks of the row group
--- so far, and the open ones before and after that column
+-- a row while its cells are formed: the next column, the table's height, the blocks of the row
+-- group so far, and the open ones before and after that column
 pub record Row : Type 0 where
   pub column : ℕ
   pub height : ℕ
@@ -67,7 +67,8 @@ abbrev pub walk_of : Row → Walk
 walk_of row = pass_taken row.column row.passed row.ahead
 
 -- `more`, unless cell `number` in row y runs into a block
-abbrev pub unless_hit : {X : Type 0} → Option Block → ℕ → ℕ → Result X GridError → Result X GridError
+abbrev pub unless_hit : {X : Type 0} → Option Block → ℕ → ℕ
+    → Result X GridError → Result X GridError
 unless_hit None number y more = more
 unless_hit (Some block) number y more = Err (Overlap block.number number block.left y)
 
@@ -103,7 +104,8 @@ after_row y row = record {
 }
 
 -- `next` of a value, or the error
-abbrev pub then_ok : {X Y : Type 0} → (X → Result Y GridError) → Result X GridError → Result Y GridError
+abbrev pub then_ok : {X Y : Type 0} → (X → Result Y GridError)
+    → Result X GridError → Result Y GridError
 then_ok next (Ok value) = next value
 then_ok next (Err error) = Err error
 

@@ -14,7 +14,8 @@ use tl_base::List;
 
 /// The column in which each block begins.
 fn first_columns(alloc: Global, blocks: &[Block]) -> Result<Vec<u32>, AllocError>
-    ensures { IfOk result (λ columns. columns.items ≡ map (λ (block : Block). block.left) blocks.now) }
+    ensures { IfOk result (λ columns.
+        columns.items ≡ map (λ (block : Block). block.left) blocks.now) }
 {
     blocks.iter().map(|block| block.left).collect(alloc)
 }
@@ -75,7 +76,9 @@ pub fn places_as_written(
     requires rows { IsStrictlyIncreasing rows.now }
     requires few_rows { length rows.now < 2 ^ 32 }
     ensures count { IfOk result (λ places. length places ≡ count) }
-    ensures places { MatchResult result (λ places. places ≡ put_places columns.now rows.now (replicate count nowhere) blocks.now) (λ e. e ≡ Memory alloc_error) }
+    ensures places { MatchResult result
+        (λ places. places ≡ put_places columns.now rows.now (replicate count nowhere) blocks.now)
+        (λ e. e ≡ Memory alloc_error) }
 {
     let nowhere = Place {
         left: 0,

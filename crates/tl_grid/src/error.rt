@@ -13,11 +13,11 @@ pub enum GridError {
     /// 1: the table has this many cells, which is more than `MAX_CELLS`.
     #[error("{0} cells in a table")]
     TooManyCells(u32),
-    /// 2: two cells cover the slot in column `x` and row `y`, both counted from 0 before columns and
-    /// rows are dropped. It is the first such slot, row by row and in a row from the left. The cells
-    /// are the first two that were formed of those over it, in that order, each given by its number
-    /// in the order of the cells as written, counted from 0 over the whole table. Cells that overlap
-    /// are of one row group, where they are formed in the order in which they are written.
+    /// 2: two cells cover the slot in column `x` and row `y`, both counted from 0 before columns
+    /// and rows are dropped. It is the first such slot, row by row and in a row from the left. The
+    /// cells are the first two that were formed of those over it, in that order, each given by its
+    /// number in the order of the cells as written, counted from 0 over the whole table. Cells that
+    /// overlap are of one row group, where they are formed in the order in which they are written.
     #[error("cells {first} and {second} overlap at row {y} column {x}")]
     Overlap {
         first: u32,

@@ -1,5 +1,5 @@
 ghost use Rattle.std.specs.Prelude.{◌≡◌, ◌<◌, ◌^◌, length, All, IfOk, IfErr};
-ghost use Rattle.tl_grid.specs.Answers.{AllSpans};
+ghost use Rattle.tl_grid.specs.Shapes.{AllSpans};
 ghost use Rattle.tl_grid.specs.Forming.{cell_count, row_count, cells_of};
 ghost use Rattle.tl_grid.specs.Dropping.{IsPlaced};
 ghost use Rattle.tl_grid.specs.Form.{HasGrid, IsRefusal};
@@ -33,8 +33,8 @@ fn count_all(groups: &[ShapeGroup]) -> u32
 
 /// Forms the grid of a table (HTML Standard, "Forming a table") and drops the columns and rows in
 /// which no cell is anchored. A `tfoot` is formed last; a cell of rowspan 0 grows to the end of its
-/// row group; two cells over one slot are refused. No slot is made: the time goes with the number of
-/// cells and rows, and not with their spans.
+/// row group; two cells over one slot are refused. No slot is made: the time goes with the numbers
+/// of cells and rows, and not with spans.
 pub fn form(alloc: Global, shape: &Shape) -> Result<Grid, GridError>
     requires spans { AllSpans shape.now.groups }
     requires columns { shape.now.columns < 2 ^ 30 }

@@ -2,7 +2,8 @@ ghost use Rattle.std.specs.Prelude.{◌≡◌, ◌+◌, ◌*◌, ◌<◌, ◌≤
 ghost use Rattle.std.specs.List.{AllByRecursion};
 ghost use Rattle.tl_grid.specs.Forming.{cells_in};
 ghost use Rattle.tl_grid.specs.Walk.{place_cells, row_of, after_row, then_ok, group_at, place_rows};
-ghost use Rattle.tl_grid.specs.Answers.{IsAnswer, IsSpan, EndsBy};
+ghost use Rattle.tl_grid.specs.Shapes.{IsSpan};
+ghost use Rattle.tl_grid.specs.Answers.{IsAnswer, EndsBy};
 
 use crate::block::Block;
 use crate::error::GridError;
@@ -32,11 +33,17 @@ fn form_row(mut number: u32, spans: &[SpanOf], group: Group) -> Result<Group, Gr
     requires low { group.row ≤ group.height }
     requires room { group.height + 65534 < 2 ^ 32 }
     requires columns { AllByRecursion (EndsBy (1000 * number)) group.open_blocks }
-    ensures row { IsAnswer (λ after. after) (then_ok (λ row. Ok (after_row group.row row)) (place_cells group.row number (row_of group) spans.now)) result }
-    ensures columns { IfOk result (λ after. AllByRecursion (EndsBy (1000 * (number + length spans.now))) after.open_blocks) }
-    ensures count { IfOk result (λ after. length after.blocks ≡ length group.blocks + length spans.now) }
+    ensures row { IsAnswer (λ after. after)
+        (then_ok (λ row. Ok (after_row group.row row))
+        (place_cells group.row number (row_of group) spans.now))
+        result }
+    ensures columns { IfOk result (λ after.
+        AllByRecursion (EndsBy (1000 * (number + length spans.now))) after.open_blocks) }
+    ensures count { IfOk result (λ after.
+        length after.blocks ≡ length group.blocks + length spans.now) }
     ensures low { IfOk result (λ after. after.row ≤ after.height) }
-    ensures height { IfOk result (λ after. after.height ≤ group.height + 65534 * length spans.now + 1) }
+    ensures height { IfOk result (λ after.
+        after.height ≤ group.height + 65534 * length spans.now + 1) }
 {
     let Group {
         row,
@@ -75,7 +82,8 @@ pub fn form_group(
     requires room { row + 65534 * cells_in rows.now + length rows.now + 65534 < 2 ^ 32 }
     ensures rows { IsAnswer (λ after. after) (place_rows number (group_at row) rows.now) result }
     ensures count { IfOk result (λ after. length after.blocks ≡ cells_in rows.now) }
-    ensures height { IfOk result (λ after. after.height ≤ row + 65534 * cells_in rows.now + length rows.now) }
+    ensures height { IfOk result (λ after.
+        after.height ≤ row + 65534 * cells_in rows.now + length rows.now) }
 {
     let mut group = Group {
         row,

@@ -1,6 +1,7 @@
 ghost use Rattle.std.specs.Prelude.{◌≡◌, ◌+◌, ◌*◌, ◌<◌, ◌≤◌, ◌^◌, IfOk, max, take, drop, length};
 ghost use Rattle.tl_grid.specs.Walk.{pass_taken, block_at, hit, place_cell};
-ghost use Rattle.tl_grid.specs.Answers.{walk_over, row_over, IsAnswer, IsSpan, StaysWithin};
+ghost use Rattle.tl_grid.specs.Shapes.{IsSpan};
+ghost use Rattle.tl_grid.specs.Answers.{walk_over, row_over, IsAnswer, StaysWithin};
 
 use crate::block::Block;
 use crate::error::GridError;
@@ -32,7 +33,8 @@ pub struct RowState {
 /// Passes the open blocks that take the columns from the cursor on, one after another.
 fn pass_open(above: &[Block], mut cursor: Cursor) -> Cursor
     requires { cursor.at ≤ length above.now }
-    ensures walk { walk_over above.now result ≡ pass_taken cursor.column (take cursor.at above.now) (drop cursor.at above.now) }
+    ensures walk { walk_over above.now result
+        ≡ pass_taken cursor.column (take cursor.at above.now) (drop cursor.at above.now) }
     ensures within { result.at ≤ length above.now }
 {
     while cursor.at < above.len() {
@@ -76,8 +78,8 @@ fn first_hit(above: &[Block], at: usize, right: u32) -> Option<Block>
     }
 }
 
-/// Forms the cell `number`, the next one of row `y`. It overlaps the first block after the cursor if
-/// it runs into it.
+/// Forms the cell `number`, the next one of row `y`. It overlaps the first block after the cursor
+/// if it runs into it.
 pub fn form_cell(y: u32, number: u32, span: SpanOf, row: RowState) -> Result<RowState, GridError>
     requires span { IsSpan span }
     requires number { number < 20000 }

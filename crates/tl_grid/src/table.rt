@@ -3,7 +3,8 @@ ghost use Rattle.std.specs.List.{AllByRecursion, sum_by};
 ghost use Rattle.tl_grid.specs.declared.error.GridError.TheVariants.{Memory};
 ghost use Rattle.tl_grid.specs.Forming.{cells_in, cells_of, rows_of};
 ghost use Rattle.tl_grid.specs.Walk.{after_group, has_turn, place_groups, place_all};
-ghost use Rattle.tl_grid.specs.Answers.{IsAnswer, IsSpan, AllSpans};
+ghost use Rattle.tl_grid.specs.Shapes.{IsSpan, AllSpans};
+ghost use Rattle.tl_grid.specs.Answers.{IsAnswer};
 
 use crate::block::Block;
 use crate::error::GridError;
@@ -35,7 +36,9 @@ pub fn count_cells(rows: &[List<SpanOf>]) -> u32
 
 /// Ends a row group: the next row is below the table's height, to which growing cells reach.
 fn end_group(mut table: Table, group: Group) -> Result<Table, GridError>
-    ensures { MatchResult result (λ after. after ≡ after_group table group) (λ e. e ≡ Memory alloc_error) }
+    ensures { MatchResult result
+        (λ after. after ≡ after_group table group)
+        (λ e. e ≡ Memory alloc_error) }
 {
     for block in group.blocks.as_slice() {
         let bottom = if block.grows {
@@ -70,9 +73,13 @@ fn form_groups(
     requires spans { AllSpans groups.now }
     requires cells { cells_of groups.now ≤ 20000 }
     requires room { table.row + 65534 * cells_of groups.now + rows_of groups.now + 65534 < 2 ^ 32 }
-    ensures groups { IsAnswer (λ after. after) (place_groups (has_turn feet) 0 table groups.now) result }
-    ensures count { IfOk result (λ after. length after.blocks ≤ length table.blocks + cells_of groups.now) }
-    ensures row { IfOk result (λ after. after.row ≤ table.row + 65534 * cells_of groups.now + rows_of groups.now) }
+    ensures groups { IsAnswer (λ after. after)
+        (place_groups (has_turn feet) 0 table groups.now)
+        result }
+    ensures count { IfOk result (λ after.
+        length after.blocks ≤ length table.blocks + cells_of groups.now) }
+    ensures row { IfOk result (λ after.
+        after.row ≤ table.row + 65534 * cells_of groups.now + rows_of groups.now) }
 {
     let mut number = 0;
     for group in groups {

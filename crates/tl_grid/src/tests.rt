@@ -1,6 +1,6 @@
 ghost use Rattle.std.specs.Prelude.{◌≡◌, ◌+◌, ◌<◌, ◌≤◌, ◌^◌, ℕ, IsTrue, IfSome, length};
 ghost use Rattle.std.specs.List.{AllByRecursion};
-ghost use Rattle.tl_grid.specs.Answers.{IsSpan, AllSpans};
+ghost use Rattle.tl_grid.specs.Shapes.{IsSpan, AllSpans};
 ghost use Rattle.tl_grid.specs.Forming.{cells_in, cells_of, rows_of};
 
 use crate::{Grid, GridError, Place, Shape, ShapeGroup, SpanOf, form};
@@ -314,5 +314,21 @@ fn a_cell_grows_over_many_empty_rows(rt: HostRuntime) -> Result<(), Fail> {
     groups.push(ShapeGroup { foot: false, rows })?;
     let shape = Shape { columns: 7, groups };
     assert_eq!(rt; answer(rt.alloc(), &shape), Some((9, 1, 1, 1, 0)));
+    Ok(())
+}
+
+/// Takes what may be sent to other threads and shared between them.
+fn share<T: Send + Sync + Drop>(_value: T) {}
+
+#[test]
+fn shapes_and_grids_are_shared_between_threads(rt: HostRuntime) -> Result<(), Fail> {
+    let shape = read(rt.alloc(), "11 10/11")?;
+    share(Grid {
+        cols: 1,
+        rows: 1,
+        places: List::new(rt.alloc()),
+    });
+    share(shape);
+    share(GridError::TooManyCells(20_001));
     Ok(())
 }

@@ -1,9 +1,8 @@
-use Rattle.std.proofs.Common.{◌≡◌, ◌<◌, ◌≤◌, ℕ, List, replicate, sym, ap, ◌∙◌, arith, rules}
+use Rattle.std.proofs.Common.{◌≤◌, List, replicate, ap, ◌∙◌, arith, rules}
 use Rattle.tl_grid.specs.declared.shape.Place.{Place}
 use Rattle.tl_grid.specs.Dropping.{nowhere}
 use Rattle.tl_grid.specs.Forming.{formed, cells_of, cell_count}
 use Rattle.tl_grid.specs.Form.{IsRefusal}
-use Rattle.tl_grid.specs.Walk.{place_all}
 use Rattle.tl_grid.specs.Places.{begins_in_column, begins_in_row, put_places}
 use Rattle.tl_grid.proofs.Within.{all_within}
 use Rattle.tl_grid.proofs.Refusals.{table_matches, walk_refusal, columns_refusal, rows_refusal, has_grid}
@@ -69,10 +68,10 @@ returns-clause-grid c =
 
 pub returns-clause-within : goal.returns-clause-within
 returns-clause-within c =
-  let groups = c.as_slice-groups.ensures in
-  let walked = rw groups at c.in_ok-table.ensures.table in
-  let blank : List Place = replicate c.count_all-count.result nowhere in
-  all_within (formed c.args.shape.now) c.args.shape.now.groups c.in_ok-table.table c.in_ok-columns.columns c.in_ok-rows.rows
+    let groups = c.as_slice-groups.ensures in
+    let walked = rw groups at c.in_ok-table.ensures.table in
+    let blank : List Place = replicate c.count_all-count.result nowhere in
+    all_within (formed c.args.shape.now) c.args.shape.now.groups c.in_ok-table.table c.in_ok-columns.columns c.in_ok-rows.rows
     c.len-3.result c.len-4.result c.count_all-count.result c.in_ok-places.places
     (table_matches c.args.shape.now c.in_ok-table.table c.requires.spans walked) walked
     c.in_ok-columns.ensures.rises
@@ -83,6 +82,6 @@ returns-clause-within c =
     (c.count_all-count.ensures ∙ ap cells_of c.as_slice-groups.ensures)
     c.in_ok-places.ensures.count
     (c.in_ok-places.ensures.places
-     ∙ ap (λ ks. put_places ks c.as_slice-2.result.now blank c.as_slice-blocks.result.now) c.as_slice.ensures
-     ∙ ap (λ ks. put_places c.in_ok-columns.columns ks blank c.as_slice-blocks.result.now) c.as_slice-2.ensures
-     ∙ ap (λ bs. put_places c.in_ok-columns.columns c.in_ok-rows.rows blank bs) c.as_slice-blocks.ensures)
+    ∙ ap (λ ks. put_places ks c.as_slice-2.result.now blank c.as_slice-blocks.result.now) c.as_slice.ensures
+    ∙ ap (λ ks. put_places c.in_ok-columns.columns ks blank c.as_slice-blocks.result.now) c.as_slice-2.ensures
+    ∙ ap (λ bs. put_places c.in_ok-columns.columns c.in_ok-rows.rows blank bs) c.as_slice-blocks.ensures)

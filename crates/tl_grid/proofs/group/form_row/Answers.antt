@@ -1,4 +1,4 @@
-use Rattle.std.proofs.Common.{◌*◌, arith, ap, sym, subst, List}
+use Rattle.std.proofs.Common.{◌*◌, arith, sym, subst, List}
 use Rattle.std.specs.List.{AllByRecursion}
 use Rattle.std.proofs.lemmas.Grind.{common_steps}
 use Rattle.tl_grid.specs.declared.block.Block.{Block}

@@ -1,6 +1,5 @@
-use Rattle.std.proofs.Common.{◌≡◌, ◌<◌, ◌≤◌, ℕ, List, ltb, length, sym, ap, ◌∙◌, arith, rules}
+use Rattle.std.proofs.Common.{ℕ, ltb, sym, ◌∙◌, arith, rules}
 use Rattle.std.proofs.lemmas.List.Sorted.{IsPartitionPoint-from_clause, IsPartitionedBy-ltb}
-use Rattle.tl_grid.specs.Dropping.{count_below, is_among}
 use Rattle.tl_grid.proofs.Counts.{rises_from, count_among, point_is_count, non_decreasing}
 use Rattle.tl_grid.proofs.kept.new_number.Goals as goal
 

@@ -1,7 +1,7 @@
-use Rattle.std.proofs.Common.{ℕ, List, ◌≡◌, ◌+◌, ◌*◌, ◌≤◌, ◌++◌, ◌∷◌, [], take, drop, subst, sym, ap, ◌∙◌, arith}
+use Rattle.std.proofs.Common.{List, ◌+◌, ◌*◌, ◌≤◌, ◌++◌, ◌∷◌, [], take, drop, subst, sym, ap, ◌∙◌, arith}
 use Rattle.std.specs.List.{AllByRecursion}
 use Rattle.tl_grid.specs.declared.block.Block.{Block}
-use Rattle.tl_grid.specs.Walk.{Walk, hit}
+use Rattle.tl_grid.specs.Walk.{Walk}
 use Rattle.tl_grid.specs.Answers.{EndsBy}
 use Rattle.tl_grid.proofs.Bounds.{EndsIn, passed_within, all_wider}
 use Rattle.tl_grid.proofs.Steps.{take_inserted, drop_inserted, cell_done}

@@ -1,5 +1,5 @@
 use Rattle.std.proofs.Common.{drop}
-use Rattle.tl_grid.specs.Answers.{AllSpans}
+use Rattle.tl_grid.specs.Shapes.{AllSpans}
 use Rattle.tl_grid.proofs.tests.are_groups.Given as goal
 
 abbrev pub invariant-loop-group : goal.invariant-loop-group
