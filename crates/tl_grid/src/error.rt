@@ -10,7 +10,7 @@ pub enum GridError {
     /// 0: there was not enough memory.
     #[error("out of memory")]
     Memory(AllocError),
-    /// 1: the table has this many cells, which is more than `MAX_CELLS`.
+    /// 1: the table has this many cells, more than 20,000.
     #[error("{0} cells in a table")]
     TooManyCells(u32),
     /// 2: two cells cover the slot in column `x` and row `y`, both counted from 0 before columns
@@ -25,10 +25,10 @@ pub enum GridError {
         x: u32,
         y: u32,
     },
-    /// 3: in this many columns a cell is anchored, which is more than `MAX_COLUMNS`.
+    /// 3: in this many columns a cell is anchored, more than 60.
     #[error("{0} columns in a table")]
     TooManyColumns(u32),
-    /// 4: in this many rows a cell is anchored, which is more than `MAX_ROWS`.
+    /// 4: in this many rows a cell is anchored, more than 2,000.
     #[error("{0} rows in a table")]
     TooManyRows(u32),
 }

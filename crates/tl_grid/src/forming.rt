@@ -11,13 +11,13 @@ use crate::table::{count_cells, form_table};
 use std::alloc::Global;
 
 /// The most cells that a table may have.
-pub const MAX_CELLS: u32 = 20_000;
+const MAX_CELLS: u32 = 20_000;
 
 /// The most columns that a table may have in which a cell is anchored.
-pub const MAX_COLUMNS: usize = 60;
+const MAX_COLUMNS: usize = 60;
 
 /// The most rows that a table may have in which a cell is anchored.
-pub const MAX_ROWS: usize = 2_000;
+const MAX_ROWS: usize = 2_000;
 
 /// How many cells the groups have.
 fn count_all(groups: &[ShapeGroup]) -> u32

@@ -189,7 +189,7 @@ fn tables_have_their_grids(rt: HostRuntime) -> Result<(), Fail> {
 }
 
 /// One group of `rows` rows with `cells` cells each.
-fn block_of_cells(alloc: Global, rows: u32, cells: u32, span: SpanOf) -> Result<Shape, AllocError> {
+fn many_cells(alloc: Global, rows: u32, cells: u32, span: SpanOf) -> Result<Shape, AllocError> {
     let mut all = List::new(alloc);
     for _ in 0..rows {
         let mut spans = List::new(alloc);
@@ -236,6 +236,76 @@ fn answer(alloc: Global, shape: &Shape) -> Option<(u32, u32, u32, u32, u32)> {
     }
 }
 
+/// A group of these rows, each cell by its colspan and its rowspan.
+fn group_of(alloc: Global, rows: &[&[(u32, u32)]]) -> Result<Shape, AllocError> {
+    let mut all = List::new(alloc);
+    for row in rows {
+        let mut spans = List::new(alloc);
+        for &(colspan, rowspan) in *row {
+            spans.push(SpanOf { colspan, rowspan })?;
+        }
+        all.push(spans)?;
+    }
+    let mut groups = List::new(alloc);
+    groups.push(ShapeGroup {
+        foot: false,
+        rows: all,
+    })?;
+    Ok(Shape { columns: 0, groups })
+}
+
+#[test]
+fn cells_have_their_places(rt: HostRuntime) -> Result<(), Fail> {
+    for (rows, cols, lines, places) in [
+        // a a
+        // b c
+        (
+            [[(1000, 1)].as_slice(), [(1, 1), (1, 65534)].as_slice()].as_slice(),
+            2,
+            2,
+            [(0, 2, 0, 1), (0, 1, 1, 2), (1, 2, 1, 2)].as_slice(),
+        ),
+        // a a b c d d d e
+        // f g h i j k l e
+        (
+            [
+                [(2, 1), (1, 1), (1, 1), (3, 1), (1, 0)].as_slice(),
+                [(1, 1), (1, 1), (1, 1), (1, 1), (1, 1), (1, 1), (1, 1)].as_slice(),
+            ]
+            .as_slice(),
+            8,
+            2,
+            [
+                (0, 2, 0, 1),
+                (2, 3, 0, 1),
+                (3, 4, 0, 1),
+                (4, 7, 0, 1),
+                (7, 8, 0, 2),
+                (0, 1, 1, 2),
+                (1, 2, 1, 2),
+                (2, 3, 1, 2),
+                (3, 4, 1, 2),
+                (4, 5, 1, 2),
+                (5, 6, 1, 2),
+                (6, 7, 1, 2),
+            ]
+            .as_slice(),
+        ),
+    ] {
+        let shape = group_of(rt.alloc(), rows)?;
+        assert!(rt; are_groups(shape.groups.as_slice()) && are_few(shape.groups.as_slice()));
+        assert!(rt; shape.columns == 0);
+        let grid = form(rt.alloc(), &shape)?;
+        assert_eq!(rt; (grid.cols, grid.rows), (cols, lines));
+        let found = grid.places.as_slice();
+        assert_eq!(rt; found.len(), places.len());
+        for (place, wanted) in found.iter().zip(places) {
+            assert_eq!(rt; (place.left, place.right, place.top, place.bottom), *wanted);
+        }
+    }
+    Ok(())
+}
+
 #[test]
 fn the_first_overlap_is_named(rt: HostRuntime) -> Result<(), Fail> {
     for (table, wanted) in [
@@ -265,14 +335,6 @@ fn limits_are_refused_one_past_their_ends(rt: HostRuntime) -> Result<(), Fail> {
         colspan: 1,
         rowspan: 1,
     };
-    let wide = SpanOf {
-        colspan: 1000,
-        rowspan: 1,
-    };
-    let deep = SpanOf {
-        colspan: 1000,
-        rowspan: 65534,
-    };
     for (rows, cells, span, wanted) in [
         (1, 60, one, (9, 60, 1, 60, 0)),
         (1, 61, one, (3, 61, 0, 0, 0)),
@@ -282,13 +344,35 @@ fn limits_are_refused_one_past_their_ends(rt: HostRuntime) -> Result<(), Fail> {
         (1, 20001, one, (1, 20001, 0, 0, 0)),
         (20001, 1, one, (1, 20001, 0, 0, 0)),
         (3000, 5, one, (4, 3000, 0, 0, 0)),
-        // large spans take no longer
+    ] {
+        let shape = many_cells(rt.alloc(), rows, cells, span)?;
+        assert_eq!(rt;
+            answer(rt.alloc(), &shape),
+            Some(wanted),
+            "{rows} rows of {cells}"
+        );
+    }
+    Ok(())
+}
+
+// Built without optimization the third table takes a minute, since its rows pass 200 million blocks.
+#[test]
+fn large_spans_take_no_longer(rt: HostRuntime) -> Result<(), Fail> {
+    let wide = SpanOf {
+        colspan: 1000,
+        rowspan: 1,
+    };
+    let deep = SpanOf {
+        colspan: 1000,
+        rowspan: 65534,
+    };
+    for (rows, cells, span, wanted) in [
         (1, 20000, wide, (3, 20000, 0, 0, 0)),
         (1, 20000, deep, (3, 20000, 0, 0, 0)),
         (20000, 1, deep, (3, 20000, 0, 0, 0)),
         (141, 141, deep, (3, 19881, 0, 0, 0)),
     ] {
-        let shape = block_of_cells(rt.alloc(), rows, cells, span)?;
+        let shape = many_cells(rt.alloc(), rows, cells, span)?;
         assert_eq!(rt;
             answer(rt.alloc(), &shape),
             Some(wanted),
