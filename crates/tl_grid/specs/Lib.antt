@@ -1,0 +1,8 @@
+pub mod Shapes
+pub mod Forming
+pub mod Overlap
+pub mod Dropping
+pub mod Form
+pub mod Walk
+pub mod Answers
+pub mod Places

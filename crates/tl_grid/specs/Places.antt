@@ -1,0 +1,26 @@
+-- The places of the blocks, where the kept columns and rows stand in lists that rise.
+use Rattle.std.specs.Prelude.{ℕ, Bool, List, map, fold, slice_set}
+use Rattle.tl_grid.specs.declared.block.Block.{Block}
+use Rattle.tl_grid.specs.declared.shape.Place.{Place}
+use Rattle.tl_grid.specs.Dropping.{count_below, is_among}
+
+-- whether a block begins in the column, or in the row
+abbrev pub begins_in_column : List Block → ℕ → Bool
+begins_in_column blocks x = is_among (map (λ (block : Block). block.left) blocks) x
+
+abbrev pub begins_in_row : List Block → ℕ → Bool
+begins_in_row blocks y = is_among (map (λ (block : Block). block.top) blocks) y
+
+-- the place of a block
+abbrev pub place_in : List ℕ → List ℕ → Block → Place
+place_in columns rows block = record {
+  left = count_below (is_among columns) block.left;
+  right = count_below (is_among columns) block.right;
+  top = count_below (is_among rows) block.top;
+  bottom = count_below (is_among rows) block.bottom;
+}
+
+-- each place at its cell's number
+abbrev pub put_places : List ℕ → List ℕ → List Place → List Block → List Place
+put_places columns rows places blocks =
+    fold (λ found block. slice_set found block.number (place_in columns rows block)) places blocks

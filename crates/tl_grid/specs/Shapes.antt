@@ -1,0 +1,17 @@
+-- Which tables `form` takes: the ranges of the attributes `colspan` and `rowspan` in the HTML
+-- Standard, section 4.9.11.
+use Rattle.std.specs.Prelude.{◌≤◌, List}
+use Rattle.std.specs.List.{AllByRecursion}
+use Rattle.tl_grid.specs.declared.shape.SpanOf.{SpanOf}
+use Rattle.tl_grid.specs.declared.shape.ShapeGroup.{ShapeGroup}
+
+-- the spans that a cell may have
+abbrev pub IsSpan : SpanOf → Type 0
+IsSpan span = (1 ≤ span.colspan) × (span.colspan ≤ 1000) × (span.rowspan ≤ 65534)
+
+-- each cell of the groups has such a span
+abbrev pub AllSpans : List ShapeGroup → Type 0
+AllSpans groups =
+    AllByRecursion
+    (λ (group : ShapeGroup). AllByRecursion (AllByRecursion IsSpan) group.rows)
+    groups

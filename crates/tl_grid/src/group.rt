@@ -1,0 +1,100 @@
+ghost use Rattle.std.specs.Prelude.{◌≡◌, ◌+◌, ◌*◌, ◌<◌, ◌≤◌, ◌^◌, IfOk, length, Ok};
+ghost use Rattle.std.specs.List.{AllByRecursion};
+ghost use Rattle.tl_grid.specs.Forming.{cells_in};
+ghost use Rattle.tl_grid.specs.Walk.{place_cells, row_of, after_row, then_ok, group_at, place_rows};
+ghost use Rattle.tl_grid.specs.Shapes.{IsSpan};
+ghost use Rattle.tl_grid.specs.Answers.{IsAnswer, EndsBy};
+
+use crate::block::Block;
+use crate::error::GridError;
+use crate::open_blocks::OpenBlocks;
+use crate::row::{Cursor, RowState, form_cell};
+use crate::shape::SpanOf;
+use std::alloc::Global;
+use tl_base::List;
+
+/// A row group between two rows.
+#[derive(Drop)]
+pub struct Group {
+    /// The next row.
+    pub row: u32,
+    /// The table's height so far.
+    pub height: u32,
+    /// The blocks of the group's cells, in the order in which they were formed.
+    pub blocks: List<Block>,
+    /// Those that may take rows to come, from left to right.
+    pub open_blocks: OpenBlocks,
+}
+
+/// Forms the next row of a group; `number` is that of its first cell.
+fn form_row(mut number: u32, spans: &[SpanOf], group: Group) -> Result<Group, GridError>
+    requires spans { AllByRecursion IsSpan spans.now }
+    requires number { number + length spans.now ≤ 20000 }
+    requires low { group.row ≤ group.height }
+    requires room { group.height + 65534 < 2 ^ 32 }
+    requires columns { AllByRecursion (EndsBy (1000 * number)) group.open_blocks }
+    ensures row { IsAnswer (λ after. after)
+        (then_ok (λ row. Ok (after_row group.row row))
+        (place_cells group.row number (row_of group) spans.now))
+        result }
+    ensures columns { IfOk result (λ after.
+        AllByRecursion (EndsBy (1000 * (number + length spans.now))) after.open_blocks) }
+    ensures count { IfOk result (λ after.
+        length after.blocks ≡ length group.blocks + length spans.now) }
+    ensures low { IfOk result (λ after. after.row ≤ after.height) }
+    ensures height { IfOk result (λ after.
+        after.height ≤ group.height + 65534 * length spans.now + 1) }
+{
+    let Group {
+        row,
+        height,
+        blocks,
+        mut open_blocks,
+    } = group;
+    open_blocks.leave_ended(row);
+    let mut state = RowState {
+        cursor: Cursor { column: 0, at: 0 },
+        height: height.max(row + 1),
+        blocks,
+        open_blocks,
+    };
+    for span in spans {
+        state = form_cell(row, number, *span, state)?;
+        number += 1;
+    }
+    Ok(Group {
+        row: row + 1,
+        height: state.height,
+        blocks: state.blocks,
+        open_blocks: state.open_blocks,
+    })
+}
+
+/// Forms the rows of a group that begins at row `row`; `number` is that of the group's first cell.
+pub fn form_group(
+    alloc: Global,
+    mut number: u32,
+    rows: &[List<SpanOf>],
+    row: u32,
+) -> Result<Group, GridError>
+    requires spans { AllByRecursion (AllByRecursion IsSpan) rows.now }
+    requires number { number + cells_in rows.now ≤ 20000 }
+    requires room { row + 65534 * cells_in rows.now + length rows.now + 65534 < 2 ^ 32 }
+    ensures rows { IsAnswer (λ after. after) (place_rows number (group_at row) rows.now) result }
+    ensures count { IfOk result (λ after. length after.blocks ≡ cells_in rows.now) }
+    ensures height { IfOk result (λ after.
+        after.height ≤ row + 65534 * cells_in rows.now + length rows.now) }
+{
+    let mut group = Group {
+        row,
+        height: row,
+        blocks: List::new(alloc),
+        open_blocks: OpenBlocks::new(alloc),
+    };
+    for spans in rows {
+        let spans = spans.as_slice();
+        group = form_row(number, spans, group)?;
+        number += spans.len() as u32;
+    }
+    Ok(group)
+}

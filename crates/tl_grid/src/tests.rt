@@ -1,0 +1,418 @@
+ghost use Rattle.std.specs.Prelude.{◌≡◌, ◌+◌, ◌<◌, ◌≤◌, ◌^◌, ℕ, IsTrue, IfSome, length};
+ghost use Rattle.std.specs.List.{AllByRecursion};
+ghost use Rattle.tl_grid.specs.Shapes.{IsSpan, AllSpans};
+ghost use Rattle.tl_grid.specs.Forming.{cells_in, cells_of, rows_of};
+
+use crate::{Grid, GridError, Place, Shape, ShapeGroup, SpanOf, form};
+use std::alloc::{AllocError, Global};
+use std::test::Fail;
+use tl_base::List;
+
+/// Whether all spans are within their ranges.
+fn are_spans(spans: &[SpanOf]) -> bool
+    ensures { IsTrue result → AllByRecursion IsSpan spans.now }
+{
+    for span in spans {
+        if span.colspan < 1 || span.colspan > 1000 || span.rowspan > 65534 {
+            return false;
+        }
+    }
+    true
+}
+
+fn are_rows(rows: &[List<SpanOf>]) -> bool
+    ensures { IsTrue result → AllByRecursion (AllByRecursion IsSpan) rows.now }
+{
+    for row in rows {
+        if !are_spans(row.as_slice()) {
+            return false;
+        }
+    }
+    true
+}
+
+/// Whether the groups may be formed.
+fn are_groups(groups: &[ShapeGroup]) -> bool
+    ensures spans { IsTrue result → AllSpans groups.now }
+{
+    for group in groups {
+        if !are_rows(group.rows.as_slice()) {
+            return false;
+        }
+    }
+    true
+}
+
+/// How many cells the rows have, if that is at most a million.
+fn few_cells(rows: &[List<SpanOf>]) -> Option<usize>
+    ensures { IfSome result (λ count. (count ≡ cells_in rows.now) × (count ≤ 1000000)) }
+{
+    let mut cells = 0;
+    for row in rows {
+        if row.len() > 1_000_000 - cells {
+            return None;
+        }
+        cells += row.len();
+    }
+    Some(cells)
+}
+
+/// Whether there are at most a million rows and a million cells.
+fn are_few(groups: &[ShapeGroup]) -> bool
+    ensures cells { IsTrue result → cells_of groups.now ≤ 1000000 }
+    ensures rows { IsTrue result → rows_of groups.now ≤ 1000000 }
+{
+    let mut cells = 0;
+    let mut rows = 0;
+    for group in groups {
+        let Some(more) = few_cells(group.rows.as_slice()) else {
+            return false;
+        };
+        if more > 1_000_000 - cells || group.rows.len() > 1_000_000 - rows {
+            return false;
+        }
+        cells += more;
+        rows += group.rows.len();
+    }
+    true
+}
+
+/// The digit, between `low` and 9.
+fn digit(byte: Option<&u8>, low: u32) -> u32
+    ensures { (result ≤ 9) × (low ≤ 9 → low ≤ result) }
+{
+    let value = match byte {
+        Some(&b @ b'0'..=b'9') => u32::from(b - b'0'),
+        _ => low,
+    };
+    value.max(low).min(9)
+}
+
+/// Reads a table: `|` stands between row groups, `/` between rows and a blank between cells; a
+/// group of which the text begins with `f` is a foot; a cell is the digits of its colspan and its
+/// rowspan.
+fn read(alloc: Global, text: &str) -> Result<Shape, AllocError> {
+    let mut groups = List::new(alloc);
+    for group in text.split('|') {
+        let mut rows = List::new(alloc);
+        for row in group.trim_start_matches('f').split('/') {
+            let mut spans = List::new(alloc);
+            for cell in row.split_whitespace() {
+                let digits = cell.as_bytes();
+                spans.push(SpanOf {
+                    colspan: digit(digits.get(0), 1),
+                    rowspan: digit(digits.get(1), 0),
+                })?;
+            }
+            rows.push(spans)?;
+        }
+        groups.push(ShapeGroup {
+            foot: group.starts_with('f'),
+            rows,
+        })?;
+    }
+    Ok(Shape { columns: 0, groups })
+}
+
+/// The letter of the cell over a slot, or a dot.
+fn letter_at(places: &[Place], x: u32, y: u32) -> char {
+    let mut letters = 'A'..='Z';
+    for place in places {
+        let letter = letters.next().unwrap_or('?');
+        if place.left <= x && x < place.right && place.top <= y && y < place.bottom {
+            return letter;
+        }
+    }
+    '.'
+}
+
+/// Draws a grid, with the cells as letters in the order in which they are written.
+fn draw(alloc: Global, grid: &Grid) -> Result<String, AllocError> {
+    let mut drawing = String::new(alloc);
+    for y in 0..grid.rows {
+        if y > 0 {
+            drawing.push('/')?;
+        }
+        for x in 0..grid.cols {
+            drawing.push(letter_at(grid.places.as_slice(), x, y))?;
+        }
+    }
+    Ok(drawing)
+}
+
+#[test]
+fn tables_have_their_grids(rt: HostRuntime) -> Result<(), Fail> {
+    for (table, drawing) in [
+        // no cell at all, and rows without cells
+        ("", ""),
+        ("//", ""),
+        ("11", "A"),
+        // side by side, and one under the other
+        ("11 11/11 11", "AB/CD"),
+        ("11/11 11", "A./BC"),
+        // columns in which no cell begins are dropped
+        ("91", "A"),
+        ("21 11", "AB"),
+        ("21 11/11 11 11", "AAB/CDE"),
+        ("31/11 11", "AA/BC"),
+        ("31/11 21", "AA/BC"),
+        // so are rows
+        ("12", "A"),
+        ("11/ /11", "A/B"),
+        ("13 11/11/11", "AB/AC/AD"),
+        ("13/ /11", "A./AB"),
+        // a cell stands beside those that come from above
+        ("12 11/11 11", "AB./ACD"),
+        ("11 12 11/11 11", "ABC/DBE"),
+        ("22/11", "A./AB"),
+        // a cell of rowspan 0 grows to the end of its group
+        ("10 11/11/11", "AB/AC/AD"),
+        ("10 11/11|11", "AB/AC/D."),
+        ("11 10/11/11", "AB/CB/DB"),
+        ("10|11", "A/B"),
+        ("10 12|11", "AB/C."),
+        // a rowspan that goes past the last row of its group keeps the next group below it
+        ("15 11|11 11", "AB/CD"),
+        // a foot goes to the end
+        ("f11|11/11", "B/C/A"),
+        ("f11|13", "B/A"),
+        ("f12 11/11|11|f11 11|11", "D./G./AB/AC/EF"),
+    ] {
+        let shape = read(rt.alloc(), table)?;
+        assert!(rt; are_groups(shape.groups.as_slice()) && are_few(shape.groups.as_slice()));
+        assert!(rt; shape.columns == 0);
+        let grid = form(rt.alloc(), &shape)?;
+        let drawing_found = draw(rt.alloc(), &grid)?;
+        assert_eq!(rt; drawing_found.as_str(), drawing, "{table}");
+    }
+    Ok(())
+}
+
+/// One group of `rows` rows with `cells` cells each.
+fn many_cells(alloc: Global, rows: u32, cells: u32, span: SpanOf) -> Result<Shape, AllocError> {
+    let mut all = List::new(alloc);
+    for _ in 0..rows {
+        let mut spans = List::new(alloc);
+        for _ in 0..cells {
+            spans.push(span)?;
+        }
+        all.push(spans)?;
+    }
+    let mut groups = List::new(alloc);
+    groups.push(ShapeGroup {
+        foot: false,
+        rows: all,
+    })?;
+    Ok(Shape { columns: 0, groups })
+}
+
+/// What a refusal carries: its number, and then its fields.
+fn numbers_of(error: &GridError) -> (u32, u32, u32, u32, u32) {
+    match error {
+        GridError::Memory(_) => (0, 0, 0, 0, 0),
+        GridError::TooManyCells(count) => (1, *count, 0, 0, 0),
+        GridError::Overlap {
+            first,
+            second,
+            x,
+            y,
+        } => (2, *first, *second, *x, *y),
+        GridError::TooManyColumns(count) => (3, *count, 0, 0, 0),
+        GridError::TooManyRows(count) => (4, *count, 0, 0, 0),
+    }
+}
+
+/// The answer for a table: (9, columns, rows, cells, 0) for a grid, or what the refusal carries.
+fn answer(alloc: Global, shape: &Shape) -> Option<(u32, u32, u32, u32, u32)> {
+    if !are_groups(shape.groups.as_slice()) || !are_few(shape.groups.as_slice()) {
+        return None;
+    }
+    if shape.columns > 1_000_000_000 {
+        return None;
+    }
+    match form(alloc, shape) {
+        Ok(grid) => Some((9, grid.cols, grid.rows, grid.places.len() as u32, 0)),
+        Err(error) => Some(numbers_of(&error)),
+    }
+}
+
+/// A group of these rows, each cell by its colspan and its rowspan.
+fn group_of(alloc: Global, rows: &[&[(u32, u32)]]) -> Result<Shape, AllocError> {
+    let mut all = List::new(alloc);
+    for row in rows {
+        let mut spans = List::new(alloc);
+        for &(colspan, rowspan) in *row {
+            spans.push(SpanOf { colspan, rowspan })?;
+        }
+        all.push(spans)?;
+    }
+    let mut groups = List::new(alloc);
+    groups.push(ShapeGroup {
+        foot: false,
+        rows: all,
+    })?;
+    Ok(Shape { columns: 0, groups })
+}
+
+#[test]
+fn cells_have_their_places(rt: HostRuntime) -> Result<(), Fail> {
+    for (rows, cols, lines, places) in [
+        // a a
+        // b c
+        (
+            [[(1000, 1)].as_slice(), [(1, 1), (1, 65534)].as_slice()].as_slice(),
+            2,
+            2,
+            [(0, 2, 0, 1), (0, 1, 1, 2), (1, 2, 1, 2)].as_slice(),
+        ),
+        // a a b c d d d e
+        // f g h i j k l e
+        (
+            [
+                [(2, 1), (1, 1), (1, 1), (3, 1), (1, 0)].as_slice(),
+                [(1, 1), (1, 1), (1, 1), (1, 1), (1, 1), (1, 1), (1, 1)].as_slice(),
+            ]
+            .as_slice(),
+            8,
+            2,
+            [
+                (0, 2, 0, 1),
+                (2, 3, 0, 1),
+                (3, 4, 0, 1),
+                (4, 7, 0, 1),
+                (7, 8, 0, 2),
+                (0, 1, 1, 2),
+                (1, 2, 1, 2),
+                (2, 3, 1, 2),
+                (3, 4, 1, 2),
+                (4, 5, 1, 2),
+                (5, 6, 1, 2),
+                (6, 7, 1, 2),
+            ]
+            .as_slice(),
+        ),
+    ] {
+        let shape = group_of(rt.alloc(), rows)?;
+        assert!(rt; are_groups(shape.groups.as_slice()) && are_few(shape.groups.as_slice()));
+        assert!(rt; shape.columns == 0);
+        let grid = form(rt.alloc(), &shape)?;
+        assert_eq!(rt; (grid.cols, grid.rows), (cols, lines));
+        let found = grid.places.as_slice();
+        assert_eq!(rt; found.len(), places.len());
+        for (place, wanted) in found.iter().zip(places) {
+            assert_eq!(rt; (place.left, place.right, place.top, place.bottom), *wanted);
+        }
+    }
+    Ok(())
+}
+
+#[test]
+fn the_first_overlap_is_named(rt: HostRuntime) -> Result<(), Fail> {
+    for (table, wanted) in [
+        // A B
+        // C *   with B above the second column of C
+        ("11 12/21", (2, 1, 2, 1, 1)),
+        // of two overlapped slots the left one, and of two rows the upper one
+        ("11 12 12/31", (2, 1, 3, 1, 1)),
+        ("11 13/22/11", (2, 1, 2, 1, 1)),
+        // a growing cell
+        ("11 10/21", (2, 1, 2, 1, 1)),
+        // cells are numbered as written, rows as formed: the foot's rows come last
+        ("f21|11 12", (9, 2, 2, 3, 0)),
+        ("f11 12/21|11", (2, 1, 2, 1, 2)),
+        // a slot that dropping would leave out
+        ("41/11 12/31", (2, 2, 3, 1, 2)),
+    ] {
+        let shape = read(rt.alloc(), table)?;
+        assert_eq!(rt; answer(rt.alloc(), &shape), Some(wanted), "{table}");
+    }
+    Ok(())
+}
+
+#[test]
+fn limits_are_refused_one_past_their_ends(rt: HostRuntime) -> Result<(), Fail> {
+    let one = SpanOf {
+        colspan: 1,
+        rowspan: 1,
+    };
+    for (rows, cells, span, wanted) in [
+        (1, 60, one, (9, 60, 1, 60, 0)),
+        (1, 61, one, (3, 61, 0, 0, 0)),
+        (2000, 1, one, (9, 1, 2000, 2000, 0)),
+        (2001, 1, one, (4, 2001, 0, 0, 0)),
+        (400, 50, one, (9, 50, 400, 20000, 0)),
+        (1, 20001, one, (1, 20001, 0, 0, 0)),
+        (20001, 1, one, (1, 20001, 0, 0, 0)),
+        (3000, 5, one, (4, 3000, 0, 0, 0)),
+    ] {
+        let shape = many_cells(rt.alloc(), rows, cells, span)?;
+        assert_eq!(rt;
+            answer(rt.alloc(), &shape),
+            Some(wanted),
+            "{rows} rows of {cells}"
+        );
+    }
+    Ok(())
+}
+
+// Built without optimization the third table takes a minute, since its rows pass 200 million blocks.
+#[test]
+fn large_spans_take_no_longer(rt: HostRuntime) -> Result<(), Fail> {
+    let wide = SpanOf {
+        colspan: 1000,
+        rowspan: 1,
+    };
+    let deep = SpanOf {
+        colspan: 1000,
+        rowspan: 65534,
+    };
+    for (rows, cells, span, wanted) in [
+        (1, 20000, wide, (3, 20000, 0, 0, 0)),
+        (1, 20000, deep, (3, 20000, 0, 0, 0)),
+        (20000, 1, deep, (3, 20000, 0, 0, 0)),
+        (141, 141, deep, (3, 19881, 0, 0, 0)),
+    ] {
+        let shape = many_cells(rt.alloc(), rows, cells, span)?;
+        assert_eq!(rt;
+            answer(rt.alloc(), &shape),
+            Some(wanted),
+            "{rows} rows of {cells}"
+        );
+    }
+    Ok(())
+}
+
+#[test]
+fn a_cell_grows_over_many_empty_rows(rt: HostRuntime) -> Result<(), Fail> {
+    let mut rows = List::new(rt.alloc());
+    let mut first = List::new(rt.alloc());
+    first.push(SpanOf {
+        colspan: 1000,
+        rowspan: 0,
+    })?;
+    rows.push(first)?;
+    for _ in 0..100_000 {
+        rows.push(List::new(rt.alloc()))?;
+    }
+    let mut groups = List::new(rt.alloc());
+    groups.push(ShapeGroup { foot: false, rows })?;
+    let shape = Shape { columns: 7, groups };
+    assert_eq!(rt; answer(rt.alloc(), &shape), Some((9, 1, 1, 1, 0)));
+    Ok(())
+}
+
+/// Takes what may be sent to other threads and shared between them.
+fn share<T: Send + Sync + Drop>(_value: T) {}
+
+#[test]
+fn shapes_and_grids_are_shared_between_threads(rt: HostRuntime) -> Result<(), Fail> {
+    let shape = read(rt.alloc(), "11 10/11")?;
+    share(Grid {
+        cols: 1,
+        rows: 1,
+        places: List::new(rt.alloc()),
+    });
+    share(shape);
+    share(GridError::TooManyCells(20_001));
+    Ok(())
+}
