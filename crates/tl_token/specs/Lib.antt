@@ -1,0 +1,8 @@
+pub mod Characters
+pub mod Numbers
+pub mod Elements
+pub mod Grammar
+pub mod Spelling
+pub mod States
+pub mod Reading
+pub mod Cursor

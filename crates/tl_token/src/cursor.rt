@@ -1,0 +1,109 @@
+//! A text from front to back, a character at a time. It knows no tags.
+
+ghost use Rattle.std.specs.Prelude.{◌≡◌, [], ◌∷◌, ◌++◌, length, chars, MatchOption, if◌then◌else◌};
+ghost use Rattle.std.specs.Str.{IsUtf8};
+ghost use Rattle.tl_token.specs.Characters.{first, begins, run, past, byte_len, is_name_character, is_value_character};
+
+/// What is left of a text.
+#[derive(Drop)]
+pub(crate) struct Cursor<'a> {
+    rest: &'a str,
+    ghost text: { ∥ IsUtf8 rest.now ∥₁ },
+}
+
+/// What the characters of a run have in common.
+#[derive(Clone, Copy)]
+pub(crate) enum Class {
+    Space,
+    Alphanumeric,
+    Digit,
+    HexDigit,
+    /// The name of an attribute.
+    Name,
+    /// A value without quotes.
+    Value,
+    Not(char),
+}
+
+fn is_name_character(c: char) -> bool
+    ensures { result ≡ is_name_character c }
+{
+    !(c.is_ascii_whitespace() || matches!(c, '/' | '>' | '=' | '"' | '\'' | '<'))
+}
+
+fn is_value_character(c: char) -> bool
+    ensures { result ≡ is_value_character c }
+{
+    !(c.is_ascii_whitespace() || matches!(c, '"' | '\'' | '=' | '<' | '>' | '`'))
+}
+
+impl Class {
+    ghost use Rattle.tl_token.specs.Cursor.{is_in};
+
+    pub(crate) fn contains(self, c: char) -> bool
+        ensures { result ≡ is_in self c }
+    {
+        match self {
+            Class::Space => c.is_ascii_whitespace(),
+            Class::Alphanumeric => c.is_ascii_alphanumeric(),
+            Class::Digit => c.is_ascii_digit(),
+            Class::HexDigit => c.is_ascii_hexdigit(),
+            Class::Name => is_name_character(c),
+            Class::Value => is_value_character(c),
+            Class::Not(other) => c != other,
+        }
+    }
+}
+
+impl<'a> Cursor<'a> {
+    ghost use Rattle.tl_token.specs.Cursor.{unread, is_in};
+
+    pub(crate) fn new(text: &'a str) -> Cursor<'a>
+        ensures { unread result ≡ chars text.now }
+    {
+        Cursor { rest: text }
+    }
+
+    /// The bytes that are left.
+    pub(crate) fn len(&self) -> usize
+        ensures { result ≡ byte_len (unread self.now) }
+    {
+        self.rest.len()
+    }
+
+    /// The next character, which is not passed.
+    pub(crate) fn peek(&self) -> Option<char>
+        ensures { result ≡ first (unread self.now) }
+    {
+        self.rest.chars().next()
+    }
+
+    /// Passes the next character.
+    pub(crate) fn next(&mut self) -> Option<char>
+        ensures { MatchOption result ((unread self.old ≡ []) × (unread self.new ≡ [])) (λ c. unread self.old ≡ c ∷ unread self.new) }
+    {
+        let mut chars = self.rest.chars();
+        let next = chars.next();
+        self.rest = chars.as_str();
+        next
+    }
+
+    /// Whether the next character is of the class.
+    pub(crate) fn is_at(&self, class: Class) -> bool
+        ensures { result ≡ begins (is_in class) (unread self.now) }
+    {
+        self.peek().is_some_and(|c| class.contains(c))
+    }
+
+    /// Passes the longest run of characters of the class, and lends it.
+    pub(crate) fn run(&mut self, class: Class) -> &'a str
+        ensures run { chars result.now ≡ run (is_in class) (unread self.old) }
+        ensures past { unread self.new ≡ past (is_in class) (unread self.old) }
+    {
+        let text = self.rest;
+        while self.is_at(class) {
+            self.next();
+        }
+        &text[..text.len() - self.rest.len()]
+    }
+}
