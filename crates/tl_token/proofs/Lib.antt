@@ -1,1 +1,5 @@
 pub mod CursorLemmas
+pub mod Tests
+pub mod TagSound
+pub mod TagWhole
+pub mod TagMore
