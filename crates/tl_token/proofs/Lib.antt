@@ -3,3 +3,5 @@ pub mod Tests
 pub mod TagSound
 pub mod TagWhole
 pub mod TagMore
+pub mod Doctypes
+pub mod Places

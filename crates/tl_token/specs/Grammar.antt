@@ -141,9 +141,9 @@ pub data Fault : Type 0 where
   bad_reference : Fault
   bad_character : Fault
 
--- the text is a front of a whole such thing, with something wanting
+-- the text begins a whole such thing, of which something is wanting
 abbrev pub IsFrontOf : (List ℕ → Type 0) → List ℕ → Type 0
-IsFrontOf IsWhole cs = (more : List ℕ) × (more ≢ []) × IsWhole (cs ++ more)
+IsFrontOf IsWhole cs = (cs ≢ []) × (more : List ℕ) × (more ≢ []) × IsWhole (cs ++ more)
 
 -- the text is one whole tag, or one whole doctype
 abbrev pub IsWholeTag : List ℕ → Type 0
