@@ -5,3 +5,4 @@ pub mod TagWhole
 pub mod TagMore
 pub mod Doctypes
 pub mod Places
+pub mod PlacesWhole

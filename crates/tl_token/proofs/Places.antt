@@ -1,6 +1,7 @@
 -- What the reader finds at a place is what the grammar says of it, and the other way round.
 use Rattle.std.proofs.Common.{◌≡◌, ◌≢◌, ℕ, Bool, true, false, not, ◌||◌, ◌&&◌, ◌⊎◌, List, [], ◌∷◌, ◌++◌, Option, Some, None, refl, sym, ap, ◌∙◌, subst, inl, inr, eqb, cond, append_assoc}
 use Rattle.std.proofs.lemmas.Bool.{eqb-true, eq-eqb, false≢true}
+use Rattle.std.proofs.lemmas.List.{append-nil}
 use Rattle.std.specs.Prelude.{IsTrue, codes}
 use Rattle.std.specs.Char.{is_ascii_alphabetic, to_ascii_lowercase}
 use Rattle.tl_token.specs.Characters.{◌∈◌, is_among, is_control, opens_markup, begins}
@@ -9,7 +10,7 @@ use Rattle.tl_token.specs.Grammar.{past_first, Comment, Doctype, opening, IsTagN
 use Rattle.tl_token.specs.States.{tag_open, Outcome, reads, unended, wrong, read}
 use Rattle.tl_token.specs.Reading.{Found, stands, faulty, closed_or, in_comment, comment_open, doctype_word, declaration, known_or_not, tag_found, angle, referred_or, standing}
 use Rattle.tl_token.specs.declared.token.Element.{Element}
-use Rattle.tl_token.proofs.Tests.{chosen, cases_bool, clash, is_it, or_cases, or_false, or_right, not_true}
+use Rattle.tl_token.proofs.Tests.{chosen, cases_bool, clash, is_it, or_cases, or_false, or_left, or_right, not_true}
 use Rattle.tl_token.proofs.TagSound.{tag_sound}
 use Rattle.tl_token.proofs.TagWhole.{tag_whole}
 use Rattle.tl_token.proofs.TagMore.{further, Further, IsLive, ending}
@@ -21,7 +22,7 @@ Holds cs (stands piece rest) = Stands cs piece rest
 Holds cs (faulty fault) = FaultStands fault cs
 
 -- a tag begins with `<`, and behind it stands a letter or `/`
-tag_second : (d : ℕ) (cs : List ℕ) (t : Tag) (rest : List ℕ) → IsTag (codes "<" ++ (d ∷ cs)) t rest → (is_ascii_alphabetic d || d ∈ "/") ≡ true
+pub tag_second : (d : ℕ) (cs : List ℕ) (t : Tag) (rest : List ℕ) → IsTag (codes "<" ++ (d ∷ cs)) t rest → (is_ascii_alphabetic d || d ∈ "/") ≡ true
 tag_second d cs t rest h = from (t.is_end) (t.name) (h.named) (h.spelled)
   where
     from : (e : Bool) (n : List ℕ) → IsTagName n → codes "<" ++ (d ∷ cs) ≡ opening e ++ (n ++ h.behind) → (is_ascii_alphabetic d || d ∈ "/") ≡ true
@@ -30,10 +31,10 @@ tag_second d cs t rest h = from (t.is_end) (t.name) (h.named) (h.spelled)
     from false (c ∷ m) n k =
         let same : d ≡ c = cc in
         let P : ℕ → Type 0 = λ x. (is_ascii_alphabetic x || x ∈ "/") ≡ true in
-        subst P (sym same) (Rattle.tl_token.proofs.Tests.or_left (is_ascii_alphabetic c) (c ∈ "/") (n.0))
+        subst P (sym same) (or_left (is_ascii_alphabetic c) (c ∈ "/") (n.0))
 
 -- so it does not begin with `<!`
-no_tag_here : (cs : List ℕ) (t : Tag) (rest : List ℕ) → IsTag (codes "<!" ++ cs) t rest → ⊥
+pub no_tag_here : (cs : List ℕ) (t : Tag) (rest : List ℕ) → IsTag (codes "<!" ++ cs) t rest → ⊥
 no_tag_here cs t rest h = false≢true (tag_second 33 cs t rest h)
 
 -- a front of a tag that did not end
@@ -77,11 +78,11 @@ tag_holds d cs wrong opens mark h = wrong_is_bad d cs opens mark h
 doctype_of : (cs rest : List ℕ) → Worded (codes "doctype") cs rest → Doctype (codes "<!" ++ cs) rest
 doctype_of cs rest k = record { word = k.word; inside = k.inside; opened = ap (λ x. codes "<!" ++ x) (k.opened); named = k.named; closed = k.closed }
 
-worded_of : (cs rest : List ℕ) → Doctype (codes "<!" ++ cs) rest → Worded (codes "doctype") cs rest
+pub worded_of : (cs rest : List ℕ) → Doctype (codes "<!" ++ cs) rest → Worded (codes "doctype") cs rest
 worded_of cs rest k = let e = k.opened in record { word = k.word; inside = k.inside; opened = cc; named = k.named; closed = k.closed }
 
 -- a word `doctype` does not begin with `-`
-no_dash : (cs rest : List ℕ) → Worded (codes "doctype") (codes "-" ++ cs) rest → ⊥
+pub no_dash : (cs rest : List ℕ) → Worded (codes "doctype") (codes "-" ++ cs) rest → ⊥
 no_dash cs rest k = let h = word_whole (codes "doctype") (codes "-" ++ cs) rest k in let never : faulty bad_tag ≡ stands hidden rest = h in cc
 
 -- `<!` and a character that is no `-`, of what is no doctype and no front of one
@@ -95,7 +96,7 @@ bad_declaration c cs dash never =
       no_comment = λ rest k. let e = k.opened in dashed cc;
       no_doctype = λ rest k.
         let P : List ℕ → Type 0 = λ x. Worded (codes "doctype") x rest in
-        never [] rest (subst P (sym (Rattle.std.proofs.lemmas.List.append-nil (c ∷ cs))) (worded_of (c ∷ cs) rest k));
+        never [] rest (subst P (sym (append-nil (c ∷ cs))) (worded_of (c ∷ cs) rest k));
       ended = λ u. elim u [
           inl k ↦ elim k [
               inl f ↦ no_tag_here ((c ∷ cs) ++ f.1) (f.3.0) [] (f.3.1)

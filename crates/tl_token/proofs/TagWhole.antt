@@ -10,7 +10,7 @@ use Rattle.tl_token.specs.Characters.{◌∈◌, is_among, is_space, is_name_cha
 use Rattle.tl_token.specs.Elements.{Attribute, Tag}
 use Rattle.tl_token.specs.Grammar.{Each, Value, missing, quoted, unquoted, Attributes, end, gap, attribute, IsTagName, opening, IsTag}
 use Rattle.tl_token.specs.States.{State, tag_open, end_tag_open, tag_name, between, in_name, after_name, before_value, in_quotes, in_value, ended, failed, empty_tag, with_attribute, step, Outcome, reads, unended, wrong, read}
-use Rattle.tl_token.proofs.Tests.{chosen, or_left, or_right, or_cases, or_false, not_true, not_false, is_it, is_either, push_regroup, clash, cases_bool}
+use Rattle.tl_token.proofs.Tests.{chosen, or_left, or_right, or_cases, or_false, not_true, not_false, is_it, is_either, push_regroup, clash, cases_bool, excludes}
 use Rattle.tl_token.proofs.TagSound.{with_more}
 
 -- tests of one character that exclude each other
@@ -24,12 +24,6 @@ gap_no_name c h = elim (or_cases (is_space c) (c ∈ "/") h) [
 
 name_no_space : (c : ℕ) → is_name_character c ≡ true → is_space c ≡ false
 name_no_space c h = (or_false (is_space c) (c ∈ "/>=\"'<") (not_true (is_space c || c ∈ "/>=\"'<") h)).0
-
--- a character of a class is none that is not of it
-excludes : (test : ℕ → Bool) (c d : ℕ) → test d ≡ false → test c ≡ true → is_among c (d ∷ []) ≡ false
-excludes test c d not_d is_c = elim (cases_bool (is_among c (d ∷ []))) [
-    inl e ↦ let P : ℕ → Type 0 = λ x. test x ≡ true in absurd (clash (test d) (subst P (is_it c d e) is_c) not_d)
-  | inr e ↦ e ]
 
 name_no_equals : (c : ℕ) → is_name_character c ≡ true → (c ∈ "=") ≡ false
 name_no_equals c h = excludes is_name_character c 61 refl h
