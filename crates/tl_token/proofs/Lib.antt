@@ -1,4 +1,4 @@
-pub mod CursorLemmas
+pub mod ReaderLemmas
 pub mod Tests
 pub mod TagSound
 pub mod TagWhole
@@ -6,3 +6,4 @@ pub mod TagMore
 pub mod Doctypes
 pub mod Places
 pub mod PlacesWhole
+pub mod Words

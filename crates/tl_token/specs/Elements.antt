@@ -1,6 +1,8 @@
 -- The elements by their names, and the numbers that their start tags give.
 use Rattle.std.specs.Prelude.{ℕ, Bool, true, false, ◌||◌, List, [], ◌∷◌, Option, Some, None, option_and_then, map, if◌then◌else◌, codes}
-use Rattle.std.specs.Char.{to_ascii_lowercase}
+use Rattle.std.specs.Char.{to_ascii_lowercase, is_ascii_lowercase}
+use Rattle.std.specs.List.{list_all}
+use Rattle.tl_token.specs.Characters.{◌∈◌}
 use lib.Pointwise.{pointwise}
 use Rattle.std.specs.Prelude.{nat_eq}
 use Prim.Native.String.{String}
@@ -21,6 +23,10 @@ pub record Tag : Type 0 where
   pub is_end : Bool
   pub name : List ℕ
   pub attributes : List Attribute
+
+-- the word is of small letters and dashes
+abbrev pub is_small : List ℕ → Bool
+is_small word = list_all (λ c. is_ascii_lowercase c || c ∈ "-") word
 
 -- the name is this word of small letters, in any case
 abbrev pub is_word : List ℕ → List ℕ → Bool

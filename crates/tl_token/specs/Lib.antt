@@ -5,4 +5,4 @@ pub mod Grammar
 pub mod Spelling
 pub mod States
 pub mod Reading
-pub mod Cursor
+pub mod Reader

@@ -3,7 +3,8 @@
 //! the grammar spells the bytes, and otherwise the first fault and its place.
 #![tactic(auto)]
 
-mod cursor;
+mod reader;
+mod elements;
 mod token;
 
 pub use token::{Element, Spans, Token, TokenError, TokenKind};

@@ -3,9 +3,9 @@ use Rattle.std.proofs.lemmas.Grind.{common_steps}
 use Rattle.std.specs.Str.{chars, IsUtf8}
 use Rattle.std.proofs.lemmas.Str.{IsUtf8-had}
 use lib.Utf8.{encodes}
-use Rattle.tl_token.specs.Cursor.{is_in}
-use Rattle.tl_token.proofs.CursorLemmas.{Passed, Passed-more, Passed-run, next_passed, bytes_passed, boundary_passed, chars_passed}
-use Rattle.tl_token.proofs.cursor.Cursor.run.Goals as goal
+use Rattle.tl_token.specs.Reader.{is_in}
+use Rattle.tl_token.proofs.ReaderLemmas.{Passed, Passed-more, Passed-run, next_passed, bytes_passed, boundary_passed, chars_passed}
+use Rattle.tl_token.proofs.reader.Reader.run.Goals as goal
 
 pub loop-class-preserved : goal.loop-class-preserved
 loop-class-preserved c =

@@ -1,6 +1,6 @@
 use Rattle.std.proofs.lemmas.Str.{IsUtf8-had}
-use Rattle.tl_token.proofs.CursorLemmas.{next_found}
-use Rattle.tl_token.proofs.cursor.Cursor.next.Goals as goal
+use Rattle.tl_token.proofs.ReaderLemmas.{next_found}
+use Rattle.tl_token.proofs.reader.Reader.next.Goals as goal
 
 pub returns : goal.returns
 returns c =

@@ -2,13 +2,13 @@
 use Rattle.std.specs.Prelude.{ℕ, Bool, not, ◌==◌, List, chars}
 use Rattle.std.specs.Char.{is_ascii_alphanumeric, is_ascii_digit, is_ascii_hexdigit}
 use Rattle.tl_token.specs.Characters.{is_space, is_name_character, is_value_character}
-use Rattle.tl_token.specs.declared.cursor.Cursor.{Cursor}
-use Rattle.tl_token.specs.declared.cursor.Class.{Class}
-use Rattle.tl_token.specs.declared.cursor.Class.TheVariants.{Space, Alphanumeric, Digit, HexDigit, Name, Value, Not}
+use Rattle.tl_token.specs.declared.reader.Reader.{Reader}
+use Rattle.tl_token.specs.declared.reader.Class.{Class}
+use Rattle.tl_token.specs.declared.reader.Class.TheVariants.{Space, Alphanumeric, Digit, HexDigit, Name, Value, Not}
 
 -- the characters that are still to read
-abbrev pub unread : Cursor → List ℕ
-unread cursor = chars (cursor.rest.now)
+abbrev pub unread : Reader → List ℕ
+unread reader = chars (reader.rest.now)
 
 -- the character is of that class
 abbrev pub is_in : Class → ℕ → Bool

@@ -6,7 +6,7 @@ ghost use Rattle.tl_token.specs.Characters.{first, begins, run, past, byte_len, 
 
 /// What is left of a text.
 #[derive(Drop)]
-pub(crate) struct Cursor<'a> {
+pub(crate) struct Reader<'a> {
     rest: &'a str,
     ghost text: { ∥ IsUtf8 rest.now ∥₁ },
 }
@@ -38,7 +38,7 @@ fn is_value_character(c: char) -> bool
 }
 
 impl Class {
-    ghost use Rattle.tl_token.specs.Cursor.{is_in};
+    ghost use Rattle.tl_token.specs.Reader.{is_in};
 
     pub(crate) fn contains(self, c: char) -> bool
         ensures { result ≡ is_in self c }
@@ -55,13 +55,13 @@ impl Class {
     }
 }
 
-impl<'a> Cursor<'a> {
-    ghost use Rattle.tl_token.specs.Cursor.{unread, is_in};
+impl<'a> Reader<'a> {
+    ghost use Rattle.tl_token.specs.Reader.{unread, is_in};
 
-    pub(crate) fn new(text: &'a str) -> Cursor<'a>
+    pub(crate) fn new(text: &'a str) -> Reader<'a>
         ensures { unread result ≡ chars text.now }
     {
-        Cursor { rest: text }
+        Reader { rest: text }
     }
 
     /// The bytes that are left.

@@ -1,6 +1,6 @@
 use Rattle.std.proofs.Common.{length, ap, sym}
 use Rattle.std.proofs.lemmas.Str.{encodes-chars, IsUtf8-had}
-use Rattle.tl_token.proofs.cursor.Cursor.len.Goals as goal
+use Rattle.tl_token.proofs.reader.Reader.len.Goals as goal
 
 pub returns : goal.returns
 returns c =
