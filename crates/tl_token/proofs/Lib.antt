@@ -7,3 +7,4 @@ pub mod Doctypes
 pub mod Places
 pub mod PlacesWhole
 pub mod Words
+pub mod Saturating

@@ -100,7 +100,7 @@ place_whole c cs _ _ (plain k) = elim (cases_bool (c ∈ "<")) [
         second_of_two (d ∈ "!") _ _ mark ∙ second_of_two (opens_markup d) _ _ h
       where
         unmarked : (d : ℕ) → (d ∈ "/!?") ≡ false → (d ∈ "!") ≡ false
-        unmarked d h = ap (λ b. b || false) (or_false (eqb d 33) _ ((or_false (eqb d 47) _ h).1)).0
+        unmarked d h = (or_false (eqb d 33) _ ((or_false (eqb d 47) _ h).1)).0
 
 -- A front of a tag did not end.
 front_of_tag : (c : ℕ) (cs more : List ℕ) (t : Tag) → more ≢ [] → IsTag ((c ∷ cs) ++ more) t [] → standing c cs ≡ faulty unended_tag

@@ -1,5 +1,5 @@
 -- What a step over one character of a text leaves.
-use Rattle.std.proofs.Common.{◌≡◌, ℕ, ◌+◌, ◌<◌, Bool, true, false, ◌&&◌, List, [], ◌∷◌, ◌++◌, length, Option, Some, None, refl, sym, ap, ◌∙◌, arith, append_assoc, MatchOption, encode_utf8, take, ◌-◌, length-append, subst}
+use Rattle.std.proofs.Common.{◌≡◌, ℕ, ◌+◌, ◌<◌, Bool, true, false, ◌&&◌, List, [], ◌∷◌, ◌++◌, length, Option, Some, None, refl, sym, ap, ◌∙◌, arith, append_assoc, MatchOption, encode_utf8, take, drop, ◌-◌, length-append, subst}
 use Rattle.std.specs.Str.{chars, IsUtf8, IsCharBoundary}
 use Rattle.std.proofs.lemmas.Str.{IsCharBoundary-at_seam, chars-encodes, encodes-append, scalars-chars, chars-nil, chars_past_char, IsUtf8-past_char, encodes-chars}
 use Rattle.std.proofs.lemmas.List.{append-nil, take_at}
@@ -98,3 +98,10 @@ pub boundary_passed : (text rest front : List ℕ) → IsUtf8 rest → text ≡ 
 boundary_passed text rest front v e =
     let P : ℕ → Type 0 = λ n. IsCharBoundary text n in
     subst P (sym (length_passed text rest front e)) (IsCharBoundary-at_seam text (encodes front) rest e v)
+
+-- what is left behind the next character
+pub passed_one : (cs after : List ℕ) (o : Option ℕ) → MatchOption o ((cs ≡ []) × (after ≡ [])) (λ c. cs ≡ c ∷ after) → after ≡ drop 1 cs
+passed_one [] after None h = h.1
+passed_one (d ∷ cs) after None h = let e = h.0 in cc
+passed_one [] after (Some c) h = cc
+passed_one (d ∷ cs) after (Some c) h = cc

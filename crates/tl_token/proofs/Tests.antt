@@ -40,7 +40,7 @@ clash a h k = false≢true (sym k ∙ h)
 
 -- one character, and one of two
 pub is_it : (c d : ℕ) → is_among c (d ∷ []) ≡ true → c ≡ d
-is_it c d h = elim (or_cases (eqb c d) false h) [ inl e ↦ eqb-true c d e | inr e ↦ absurd (false≢true (e.1)) ]
+is_it c d h = eqb-true c d h
 
 pub is_either : (c d e : ℕ) → is_among c (d ∷ e ∷ []) ≡ true → (c ≡ d) ⊎ (c ≡ e)
 is_either c d e h = elim (or_cases (eqb c d) _ h) [ inl k ↦ inl (eqb-true c d k) | inr k ↦ inr (is_it c e (k.1)) ]

@@ -37,7 +37,7 @@ both_true false b h = absurd (false≢true h)
 small_lower : (w : List ℕ) → is_small w ≡ true → map to_ascii_lowercase w ≡ w
 small_lower [] h = refl
 small_lower (c ∷ w) h =
-    let (head, later) = both_true _ _ h in
+    let (head, later) = both_true (is_ascii_lowercase c || c ∈ "-") (is_small w) h in
     let first : to_ascii_lowercase c ≡ c = (small_is c head).1 in
     let others = small_lower w later in
     cc
@@ -51,7 +51,7 @@ ascii_from_lower : (bs w : List ℕ) → is_small w ≡ true → map to_ascii_lo
 ascii_from_lower [] w h e = λ i. omega arith
 ascii_from_lower (b ∷ bs) [] h e = cc
 ascii_from_lower (b ∷ bs) (c ∷ w) h e =
-    let (head, later) = both_true _ _ h in
+    let (head, later) = both_true (is_ascii_lowercase c || c ∈ "-") (is_small w) h in
     let first : to_ascii_lowercase b ≡ c = cc in
     let others : map to_ascii_lowercase bs ≡ w = cc in
     ascii_first b bs (omega (arith, lower_le b, (small_is c head).0)) (ascii_from_lower bs w later others)

@@ -6,7 +6,8 @@ use Prim.Native.String.{String}
 
 abbrev pub is_among : ℕ → List ℕ → Bool
 is_among c [] = false
-is_among c (d ∷ ds) = c == d || is_among c ds
+is_among c (d ∷ []) = c == d
+is_among c (d ∷ e ∷ others) = c == d || is_among c (e ∷ others)
 
 -- the character is one of these
 infix 60 ◌∈◌

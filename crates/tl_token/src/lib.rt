@@ -5,6 +5,7 @@
 
 mod reader;
 mod elements;
+mod number;
 mod token;
 
 pub use token::{Element, Spans, Token, TokenError, TokenKind};

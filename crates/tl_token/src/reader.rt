@@ -1,6 +1,6 @@
 //! A text from front to back, a character at a time. It knows no tags.
 
-ghost use Rattle.std.specs.Prelude.{◌≡◌, [], ◌∷◌, ◌++◌, length, chars, MatchOption, if◌then◌else◌};
+ghost use Rattle.std.specs.Prelude.{◌≡◌, [], ◌∷◌, ◌++◌, length, drop, chars, MatchOption, if◌then◌else◌};
 ghost use Rattle.std.specs.Str.{IsUtf8};
 ghost use Rattle.tl_token.specs.Characters.{first, begins, run, past, byte_len, is_name_character, is_value_character};
 
@@ -22,6 +22,8 @@ pub(crate) enum Class {
     Name,
     /// A value without quotes.
     Value,
+    Sign,
+    Is(char),
     Not(char),
 }
 
@@ -50,6 +52,8 @@ impl Class {
             Class::HexDigit => c.is_ascii_hexdigit(),
             Class::Name => is_name_character(c),
             Class::Value => is_value_character(c),
+            Class::Sign => matches!(c, '+' | '-'),
+            Class::Is(other) => c == other,
             Class::Not(other) => c != other,
         }
     }
@@ -86,6 +90,13 @@ impl<'a> Reader<'a> {
         let next = chars.next();
         self.rest = chars.as_str();
         next
+    }
+
+    /// Passes the next character, if there is one.
+    pub(crate) fn pass(&mut self)
+        ensures { unread self.new ≡ drop 1 (unread self.old) }
+    {
+        self.next();
     }
 
     /// Whether the next character is of the class.
