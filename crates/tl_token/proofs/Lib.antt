@@ -8,3 +8,5 @@ pub mod Places
 pub mod PlacesWhole
 pub mod Words
 pub mod Saturating
+pub mod TagSteps
+pub mod Numbered

@@ -8,11 +8,8 @@ use Rattle.tl_token.specs.Characters.{◌∈◌, is_among, is_space, is_name_cha
 use Rattle.tl_token.specs.Elements.{Attribute, Tag}
 use Rattle.tl_token.specs.Grammar.{Each, Value, missing, quoted, unquoted, Attributes, end, gap, attribute, IsTagName, opening, IsTag}
 use Rattle.tl_token.specs.States.{State, tag_open, end_tag_open, tag_name, between, in_name, after_name, before_value, in_quotes, in_value, ended, failed, empty_tag, with_attribute, step, Outcome, reads, unended, wrong, read}
+use Rattle.tl_token.specs.States.{with_more}
 use Rattle.tl_token.proofs.Tests.{chosen, or_left, or_right, not_true, is_it, is_either, Each-push, push≢nil, push_regroup, clash}
-
--- the tag with more attributes
-abbrev pub with_more : Tag → List Attribute → Tag
-with_more t others = record { is_end = t.is_end; name = t.name; attributes = t.attributes ++ others }
 
 -- behind the tag t, cs goes on to the whole tag, from which the rest follows
 pub record Continues (t : Tag) (cs : List ℕ) (whole : Tag) (rest : List ℕ) : Type 0 where

@@ -11,13 +11,13 @@ use Rattle.tl_token.specs.Elements.{Attribute, Tag}
 use Rattle.tl_token.specs.Grammar.{Each, Value, missing, quoted, unquoted, Attributes, end, gap, attribute, IsTagName, opening, IsTag}
 use Rattle.tl_token.specs.States.{State, tag_open, end_tag_open, tag_name, between, in_name, after_name, before_value, in_quotes, in_value, ended, failed, empty_tag, with_attribute, step, Outcome, reads, unended, wrong, read}
 use Rattle.tl_token.proofs.Tests.{chosen, or_left, or_right, or_cases, or_false, not_true, not_false, is_it, is_either, push_regroup, clash, cases_bool, excludes}
-use Rattle.tl_token.proofs.TagSound.{with_more}
+use Rattle.tl_token.specs.States.{with_more}
 
 -- tests of one character that exclude each other
-space_no_name : (c : ℕ) → is_space c ≡ true → is_name_character c ≡ false
+pub space_no_name : (c : ℕ) → is_space c ≡ true → is_name_character c ≡ false
 space_no_name c h = not_false (is_space c || c ∈ "/>=\"'<") (or_left (is_space c) (c ∈ "/>=\"'<") h)
 
-gap_no_name : (c : ℕ) → is_gap c ≡ true → is_name_character c ≡ false
+pub gap_no_name : (c : ℕ) → is_gap c ≡ true → is_name_character c ≡ false
 gap_no_name c h = elim (or_cases (is_space c) (c ∈ "/") h) [
     inl s ↦ space_no_name c s
   | inr s ↦ let P : ℕ → Type 0 = λ d. is_name_character d ≡ false in subst P (sym (is_it c 47 (s.1))) refl ]
@@ -28,7 +28,7 @@ name_no_space c h = (or_false (is_space c) (c ∈ "/>=\"'<") (not_true (is_space
 name_no_equals : (c : ℕ) → is_name_character c ≡ true → (c ∈ "=") ≡ false
 name_no_equals c h = excludes is_name_character c 61 refl h
 
-letter_no_slash : (c : ℕ) → is_ascii_alphabetic c ≡ true → (c ∈ "/") ≡ false
+pub letter_no_slash : (c : ℕ) → is_ascii_alphabetic c ≡ true → (c ∈ "/") ≡ false
 letter_no_slash c h = excludes is_ascii_alphabetic c 47 refl h
 
 gap_no_letter : (c : ℕ) → is_gap c ≡ true → is_ascii_alphanumeric c ≡ false
@@ -46,58 +46,58 @@ value_no_quote c h =
     let (single, _) = or_false (eqb c 39) _ later in
     rw (double, single) refl
 
-space_no_value : (c : ℕ) → is_space c ≡ true → is_value_character c ≡ false
+pub space_no_value : (c : ℕ) → is_space c ≡ true → is_value_character c ≡ false
 space_no_value c h = not_false (is_space c || c ∈ "\"'=<>`") (or_left (is_space c) (c ∈ "\"'=<>`") h)
 
 -- the first or the second of two states, by a test
-took : (b : Bool) (s t : State) (cs : List ℕ) → b ≡ true → read (cond b s t) cs ≡ read s cs
+pub took : (b : Bool) (s t : State) (cs : List ℕ) → b ≡ true → read (cond b s t) cs ≡ read s cs
 took true s t cs h = refl
 took false s t cs h = absurd (false≢true h)
 
-left : (b : Bool) (s t : State) (cs : List ℕ) → b ≡ false → read (cond b s t) cs ≡ read t cs
+pub left : (b : Bool) (s t : State) (cs : List ℕ) → b ≡ false → read (cond b s t) cs ≡ read t cs
 left true s t cs h = absurd (false≢true (sym h))
 left false s t cs h = refl
 
 -- runs of characters through a state
-in_name_run : (t : Tag) (m n cs : List ℕ) → Each is_name_character n → read (in_name t m) (n ++ cs) ≡ read (in_name t (m ++ n)) cs
+pub in_name_run : (t : Tag) (m n cs : List ℕ) → Each is_name_character n → read (in_name t m) (n ++ cs) ≡ read (in_name t (m ++ n)) cs
 in_name_run t m [] cs h = ap (λ x. read (in_name t x) cs) (sym (append-nil m))
 in_name_run t m (c ∷ n) cs h =
     took (is_name_character c) _ _ (n ++ cs) (h.0) ∙ in_name_run t (m ++ c ∷ []) n cs (h.1) ∙ ap (λ x. read (in_name t x) cs) (push_regroup m n c)
 
-after_name_run : (t : Tag) (n spaces cs : List ℕ) → Each is_space spaces → read (after_name t n) (spaces ++ cs) ≡ read (after_name t n) cs
+pub after_name_run : (t : Tag) (n spaces cs : List ℕ) → Each is_space spaces → read (after_name t n) (spaces ++ cs) ≡ read (after_name t n) cs
 after_name_run t n [] cs h = refl
 after_name_run t n (c ∷ spaces) cs h = took (is_space c) _ _ (spaces ++ cs) (h.0) ∙ after_name_run t n spaces cs (h.1)
 
-before_value_run : (t : Tag) (n spaces cs : List ℕ) → Each is_space spaces → read (before_value t n) (spaces ++ cs) ≡ read (before_value t n) cs
+pub before_value_run : (t : Tag) (n spaces cs : List ℕ) → Each is_space spaces → read (before_value t n) (spaces ++ cs) ≡ read (before_value t n) cs
 before_value_run t n [] cs h = refl
 before_value_run t n (c ∷ spaces) cs h = took (is_space c) _ _ (spaces ++ cs) (h.0) ∙ before_value_run t n spaces cs (h.1)
 
-in_quotes_run : (t : Tag) (n : List ℕ) (quote : ℕ) (m v cs : List ℕ) → Each (λ c. not (eqb c quote)) v
+pub in_quotes_run : (t : Tag) (n : List ℕ) (quote : ℕ) (m v cs : List ℕ) → Each (λ c. not (eqb c quote)) v
     → read (in_quotes t n quote m) (v ++ cs) ≡ read (in_quotes t n quote (m ++ v)) cs
 in_quotes_run t n quote m [] cs h = ap (λ x. read (in_quotes t n quote x) cs) (sym (append-nil m))
 in_quotes_run t n quote m (c ∷ v) cs h =
     left (eqb c quote) _ _ (v ++ cs) (not_true (eqb c quote) (h.0)) ∙ in_quotes_run t n quote (m ++ c ∷ []) v cs (h.1)
     ∙ ap (λ x. read (in_quotes t n quote x) cs) (push_regroup m v c)
 
-in_value_run : (t : Tag) (n m v cs : List ℕ) → Each is_value_character v → read (in_value t n m) (v ++ cs) ≡ read (in_value t n (m ++ v)) cs
+pub in_value_run : (t : Tag) (n m v cs : List ℕ) → Each is_value_character v → read (in_value t n m) (v ++ cs) ≡ read (in_value t n (m ++ v)) cs
 in_value_run t n m [] cs h = ap (λ x. read (in_value t n x) cs) (sym (append-nil m))
 in_value_run t n m (c ∷ v) cs h =
     took (is_value_character c) _ _ (v ++ cs) (h.0) ∙ in_value_run t n (m ++ c ∷ []) v cs (h.1) ∙ ap (λ x. read (in_value t n x) cs) (push_regroup m v c)
 
-tag_name_run : (e : Bool) (m n cs : List ℕ) → Each is_ascii_alphanumeric n → read (tag_name e m) (n ++ cs) ≡ read (tag_name e (m ++ n)) cs
+pub tag_name_run : (e : Bool) (m n cs : List ℕ) → Each is_ascii_alphanumeric n → read (tag_name e m) (n ++ cs) ≡ read (tag_name e (m ++ n)) cs
 tag_name_run e m [] cs h = ap (λ x. read (tag_name e x) cs) (sym (append-nil m))
 tag_name_run e m (c ∷ n) cs h =
     took (is_ascii_alphanumeric c) _ _ (n ++ cs) (h.0) ∙ tag_name_run e (m ++ c ∷ []) n cs (h.1) ∙ ap (λ x. read (tag_name e x) cs) (push_regroup m n c)
 
 -- the name of an attribute, up to its `=`
-to_equals : (t : Tag) (n before cs : List ℕ) → Each is_space before → read (in_name t n) (before ++ (codes "=" ++ cs)) ≡ read (before_value t n) cs
+pub to_equals : (t : Tag) (n before cs : List ℕ) → Each is_space before → read (in_name t n) (before ++ (codes "=" ++ cs)) ≡ read (before_value t n) cs
 to_equals t n [] cs h = refl
 to_equals t n (c ∷ before) cs h =
     let behind = before ++ (codes "=" ++ cs) in
     left (is_name_character c) _ _ behind (space_no_name c (h.0)) ∙ took (is_space c) _ _ behind (h.0) ∙ after_name_run t n before (codes "=" ++ cs) (h.1)
 
 -- a `/` or a `>`, or white space, behind the attributes so far
-gap_between : (t : Tag) (c : ℕ) (cs : List ℕ) → is_gap c ≡ true → read (between t) (c ∷ cs) ≡ read (between t) cs
+pub gap_between : (t : Tag) (c : ℕ) (cs : List ℕ) → is_gap c ≡ true → read (between t) (c ∷ cs) ≡ read (between t) cs
 gap_between t c cs h = left (is_name_character c) _ _ cs (gap_no_name c h) ∙ took (is_gap c) _ _ cs h
 
 -- White space behind a name ends an attribute without a value, where what follows goes on as a tag does.
@@ -148,14 +148,14 @@ quoted_read t n value rest quote q v =
           | inr e ↦ let P : ℕ → Type 0 = λ d. read (before_value t n) (d ∷ (value ++ (quote ∷ rest))) ≡ read (in_quotes t n d []) (value ++ (quote ∷ rest)) in subst P (sym e) refl ] in
     opens ∙ in_quotes_run t n quote [] value (quote ∷ rest) v ∙ took (eqb quote quote) _ _ rest (eq-eqb quote quote refl)
 
-unquoted_read : (t : Tag) (n value rest : List ℕ) → value ≢ [] → Each is_value_character value
+pub unquoted_read : (t : Tag) (n value rest : List ℕ) → value ≢ [] → Each is_value_character value
     → read (before_value t n) (value ++ rest) ≡ read (in_value t n value) rest
 unquoted_read t n [] rest some each = absurd (some refl)
 unquoted_read t n (c ∷ value) rest some each =
     left (is_space c) _ _ (value ++ rest) (value_no_space c (each.0)) ∙ left (c ∈ "\"'") _ _ (value ++ rest) (value_no_quote c (each.0))
     ∙ took (is_value_character c) _ _ (value ++ rest) (each.0) ∙ in_value_run t n (c ∷ []) value rest (each.1)
 
-value_ends : (t : Tag) (n value cs : List ℕ) → begins (λ c. is_space c || c ∈ ">") cs ≡ true
+pub value_ends : (t : Tag) (n value cs : List ℕ) → begins (λ c. is_space c || c ∈ ">") cs ≡ true
     → read (in_value t n value) cs ≡ read (between (with_attribute t n value)) cs
 value_ends t n value [] h = absurd (false≢true h)
 value_ends t n value (c ∷ cs) h = elim (or_cases (is_space c) (c ∈ ">") h) [
@@ -166,7 +166,7 @@ value_ends t n value (c ∷ cs) h = elim (or_cases (is_space c) (c ∈ ">") h) [
       subst P (sym (is_it c 62 (e.1))) refl ]
 
 -- a name that is read whole
-named_read : (t : Tag) (n cs : List ℕ) → n ≢ [] → Each is_name_character n → read (between t) (n ++ cs) ≡ read (in_name t n) cs
+pub named_read : (t : Tag) (n cs : List ℕ) → n ≢ [] → Each is_name_character n → read (between t) (n ++ cs) ≡ read (in_name t n) cs
 named_read t [] cs some each = absurd (some refl)
 named_read t (c ∷ n) cs some each = took (is_name_character c) _ _ (n ++ cs) (each.0) ∙ in_name_run t (c ∷ []) n cs (each.1)
 
@@ -195,7 +195,7 @@ attributes_read t cs rest _ (attribute {a = a} {others = others} {behind = behin
     ∙ attributes_read (with_attribute t (a.name) (a.value)) later rest others attributes
     ∙ ap (λ (x : List Attribute). reads (record { is_end = t.is_end; name = t.name; attributes = x }) rest) (append_assoc (t.attributes) (a ∷ []) others)
 
-tag_name_ends : (e : Bool) (n cs : List ℕ) → begins (λ c. is_gap c || c ∈ ">") cs ≡ true → read (tag_name e n) cs ≡ read (between (empty_tag e n)) cs
+pub tag_name_ends : (e : Bool) (n cs : List ℕ) → begins (λ c. is_gap c || c ∈ ">") cs ≡ true → read (tag_name e n) cs ≡ read (between (empty_tag e n)) cs
 tag_name_ends e n [] h = absurd (false≢true h)
 tag_name_ends e n (c ∷ cs) h = elim (or_cases (is_gap c) (c ∈ ">") h) [
     inl g ↦ left (is_ascii_alphanumeric c) _ _ cs (gap_no_letter c g) ∙ took (is_gap c) _ _ cs g ∙ sym (gap_between (empty_tag e n) c cs g)

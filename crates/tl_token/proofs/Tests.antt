@@ -3,7 +3,8 @@ use Rattle.std.proofs.Common.{◌≡◌, ◌≢◌, ℕ, Bool, true, false, not,
 use Rattle.std.proofs.lemmas.Bool.{eqb-true, eq-eqb, false≢true}
 use Rattle.std.specs.List.{AllByRecursion}
 use Rattle.std.specs.Prelude.{IsTrue}
-use Rattle.tl_token.specs.Characters.{is_among}
+use Rattle.tl_token.specs.Characters.{is_among, begins}
+use Rattle.tl_token.specs.Reader.{Eats}
 use Rattle.tl_token.specs.Grammar.{Each}
 
 -- a choice has the property of the one or of the other
@@ -66,3 +67,12 @@ pub excludes : (test : ℕ → Bool) (c d : ℕ) → test d ≡ false → test c
 excludes test c d not_d is_c = elim (cases_bool (is_among c (d ∷ []))) [
     inl e ↦ let P : ℕ → Type 0 = λ x. test x ≡ true in absurd (clash (test d) (subst P (is_it c d e) is_c) not_d)
   | inr e ↦ e ]
+
+-- whether a character was passed
+pub eats_true : (c : ℕ) (b : Bool) (old new : List ℕ) → b ≡ true → Eats c b old new → old ≡ c ∷ new
+eats_true c true old new e h = h
+eats_true c false old new e h = absurd (false≢true e)
+
+pub eats_false : (c : ℕ) (b : Bool) (old new : List ℕ) → b ≡ false → Eats c b old new → (new ≡ old) × (begins (λ d. eqb d c) old ≡ false)
+eats_false c true old new e h = absurd (false≢true (sym e))
+eats_false c false old new e h = h

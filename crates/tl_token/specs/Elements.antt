@@ -5,7 +5,6 @@ use Rattle.std.specs.List.{list_all}
 use Rattle.tl_token.specs.Characters.{◌∈◌}
 use lib.Pointwise.{pointwise}
 use Rattle.std.specs.Prelude.{nat_eq}
-use Prim.Native.String.{String}
 use Rattle.tl_token.specs.Numbers.{number_of, columns_of, rows_of, floor_of}
 use Rattle.tl_token.specs.declared.token.Element.{Element}
 use Rattle.tl_token.specs.declared.token.Element.TheVariants.{Table, Caption, Colgroup, Col, Thead, Tbody, Tfoot, Tr, Td, Th, Br, P, Div, Inline, Outer}
@@ -65,12 +64,12 @@ element_of name =
     else None
 
 -- the value of the first attribute of that name
-abbrev pub value_of : String → List Attribute → Option (List ℕ)
+abbrev pub value_of : List ℕ → List Attribute → Option (List ℕ)
 value_of word [] = None
-value_of word (a ∷ others) = if is_word a.name (codes word) then Some a.value else value_of word others
+value_of word (a ∷ others) = if is_word a.name word then Some a.value else value_of word others
 
 -- the number of the first attribute of that name
-abbrev pub attribute_number : String → List Attribute → Option ℕ
+abbrev pub attribute_number : List ℕ → List Attribute → Option ℕ
 attribute_number word attributes = option_and_then number_of (value_of word attributes)
 
 abbrev pub no_spans : Spans
@@ -78,14 +77,14 @@ no_spans = record { colspan = 1; rowspan = 1; span = 1; least = 0 }
 
 abbrev pub cell_spans : List Attribute → Spans
 cell_spans attributes = record {
-  colspan = columns_of (attribute_number "colspan" attributes);
-  rowspan = rows_of (attribute_number "rowspan" attributes);
+  colspan = columns_of (attribute_number (codes "colspan") attributes);
+  rowspan = rows_of (attribute_number (codes "rowspan") attributes);
   span = 1;
-  least = floor_of (attribute_number "data-min" attributes);
+  least = floor_of (attribute_number (codes "data-min") attributes);
 }
 
 abbrev pub column_spans : List Attribute → Spans
-column_spans attributes = record { colspan = 1; rowspan = 1; span = columns_of (attribute_number "span" attributes); least = 0 }
+column_spans attributes = record { colspan = 1; rowspan = 1; span = columns_of (attribute_number (codes "span") attributes); least = 0 }
 
 -- a cell has its own numbers, a `col` and a `colgroup` their span, and no other element has any
 abbrev pub spans_of : Element → List Attribute → Spans

@@ -6,3 +6,4 @@ pub mod Spelling
 pub mod States
 pub mod Reading
 pub mod Reader
+pub mod Found

@@ -35,6 +35,10 @@ empty_tag is_end name = record { is_end = is_end; name = name; attributes = [] }
 abbrev pub with_attribute : Tag → List ℕ → List ℕ → Tag
 with_attribute t name value = record { is_end = t.is_end; name = t.name; attributes = t.attributes ++ attribute name value ∷ [] }
 
+-- the tag with more attributes
+abbrev pub with_more : Tag → List Attribute → Tag
+with_more t others = record { is_end = t.is_end; name = t.name; attributes = t.attributes ++ others }
+
 -- the state behind one more character
 abbrev pub step : State → ℕ → State
 step tag_open c =

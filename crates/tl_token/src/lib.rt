@@ -3,9 +3,11 @@
 //! the grammar spells the bytes, and otherwise the first fault and its place.
 #![tactic(auto)]
 
-mod reader;
 mod elements;
 mod number;
+mod piece;
+mod reader;
+mod tag;
 mod token;
 
 pub use token::{Element, Spans, Token, TokenError, TokenKind};

@@ -1,6 +1,6 @@
 //! A text from front to back, a character at a time. It knows no tags.
 
-ghost use Rattle.std.specs.Prelude.{◌≡◌, [], ◌∷◌, ◌++◌, length, drop, chars, MatchOption, if◌then◌else◌};
+ghost use Rattle.std.specs.Prelude.{◌≡◌, false, [], ◌∷◌, ◌++◌, length, drop, chars, MatchOption, if◌then◌else◌};
 ghost use Rattle.std.specs.Str.{IsUtf8};
 ghost use Rattle.tl_token.specs.Characters.{first, begins, run, past, byte_len, is_name_character, is_value_character};
 
@@ -23,6 +23,14 @@ pub(crate) enum Class {
     /// A value without quotes.
     Value,
     Sign,
+    /// A letter of ASCII.
+    Letter,
+    /// White space and `/`, which part attributes.
+    Gap,
+    /// What ends the name of a tag.
+    TagNameEnd,
+    /// What ends a value without quotes.
+    ValueEnd,
     Is(char),
     Not(char),
 }
@@ -52,6 +60,10 @@ impl Class {
             Class::HexDigit => c.is_ascii_hexdigit(),
             Class::Name => is_name_character(c),
             Class::Value => is_value_character(c),
+            Class::Letter => c.is_ascii_alphabetic(),
+            Class::Gap => c.is_ascii_whitespace() || c == '/',
+            Class::TagNameEnd => c.is_ascii_whitespace() || c == '/' || c == '>',
+            Class::ValueEnd => c.is_ascii_whitespace() || c == '>',
             Class::Sign => matches!(c, '+' | '-'),
             Class::Is(other) => c == other,
             Class::Not(other) => c != other,
@@ -60,7 +72,7 @@ impl Class {
 }
 
 impl<'a> Reader<'a> {
-    ghost use Rattle.tl_token.specs.Reader.{unread, is_in};
+    ghost use Rattle.tl_token.specs.Reader.{unread, is_in, Eats};
 
     pub(crate) fn new(text: &'a str) -> Reader<'a>
         ensures { unread result ≡ chars text.now }
@@ -106,9 +118,21 @@ impl<'a> Reader<'a> {
         self.peek().is_some_and(|c| class.contains(c))
     }
 
+    /// Passes the next character, if it is this one. True: it was.
+    pub(crate) fn eat(&mut self, c: char) -> bool
+        ensures { Eats c result (unread self.old) (unread self.new) }
+    {
+        let found = self.is_at(Class::Is(c));
+        if found {
+            self.pass();
+        }
+        found
+    }
+
     /// Passes the longest run of characters of the class, and lends it.
     pub(crate) fn run(&mut self, class: Class) -> &'a str
         ensures run { chars result.now ≡ run (is_in class) (unread self.old) }
+        ensures ended { begins (is_in class) (unread self.new) ≡ false }
         ensures past { unread self.new ≡ past (is_in class) (unread self.old) }
     {
         let text = self.rest;
