@@ -10,3 +10,7 @@ pub mod Words
 pub mod Saturating
 pub mod TagSteps
 pub mod Numbered
+pub mod MarkupSteps
+pub mod Texts
+pub mod Sizes
+pub mod Endings

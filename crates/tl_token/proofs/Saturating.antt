@@ -1,5 +1,5 @@
 -- Numbers that stop at the top of their type.
-use Rattle.std.proofs.Common.{◌≡◌, ◌≢◌, ℕ, ◌+◌, ◌*◌, ◌<◌, ◌≤◌, min, max, Bool, true, false, ◌&&◌, ◌⊎◌, List, [], ◌∷◌, Option, Some, None, refl, sym, ap, ◌∙◌, subst, inl, inr, cond, arith, length}
+use Rattle.std.proofs.Common.{◌≡◌, ◌≢◌, ℕ, ◌+◌, ◌*◌, ◌<◌, ◌≤◌, min, max, Bool, true, false, not, ◌&&◌, ◌⊎◌, List, [], ◌∷◌, Option, Some, None, refl, sym, ap, ◌∙◌, subst, inl, inr, cond, arith, length}
 use Rattle.std.specs.Prelude.{nat_lt}
 use Rattle.std.specs.Option.{option_map}
 use Rattle.std.proofs.lemmas.Bool.{cases_lt, false≢true}
@@ -8,6 +8,9 @@ use Rattle.std.proofs.lemmas.Str.{encodes-chars, chars-nil}
 use Rattle.std.specs.Str.{chars, IsUtf8}
 use lib.Utf8.{encodes}
 use Rattle.tl_token.proofs.Words.{same_bool}
+use Rattle.tl_token.specs.Grammar.{numbered_character}
+use Rattle.tl_token.specs.Characters.{is_control}
+use lib.Utf8.{scalar}
 use Rattle.tl_token.specs.Numbers.{number, signed_number, columns_of, rows_of, floor_of}
 
 -- where a number stops, it is above 0 as before
@@ -61,3 +64,15 @@ chars_some bs u h e = let k : encodes (chars bs) ≡ [] = ap encodes e in h (ap 
 pub chars_none : (bs : List ℕ) → length bs ≡ 0 → chars bs ≡ []
 chars_none [] h = chars-nil
 chars_none (b ∷ bs) h = absurd (omega (arith, h))
+
+not_scalar : (n : ℕ) → 4294967295 < n → scalar n ≡ false
+not_scalar n h = grind (arith, nat_tests, h)
+
+-- a number above the top of its type is no character
+pub numbered_below : (n : ℕ) → numbered_character (min n 4294967295) ≡ numbered_character n
+numbered_below n = elim (cases_lt 4294967295 n) [
+    inl above ↦
+      let top : min n 4294967295 ≡ 4294967295 = omega arith in
+      let none : scalar n ≡ false = not_scalar n above in
+      ap numbered_character top ∙ sym (ap (λ b. cond (b && not (is_control n)) (Some n) None) none)
+  | inr below ↦ let same : min n 4294967295 ≡ n = omega arith in ap numbered_character same ]

@@ -8,14 +8,16 @@ use Rattle.tl_token.specs.Grammar as grammar
 use Rattle.tl_token.specs.States.{Outcome, State, reads, unended, wrong, read, between, in_name, with_attribute, with_more}
 use Rattle.tl_token.specs.Reading.{Found, stands, faulty, tag_found}
 use Rattle.tl_token.specs.declared.piece.Piece.{Piece}
-use Rattle.tl_token.specs.declared.piece.Piece.TheVariants.{Hidden, Tag as TagPiece, Character}
+use Rattle.tl_token.specs.declared.piece.Piece.TheVariants.{Hidden, Start, End, Character}
+use Rattle.tl_token.specs.declared.token.TokenKind.TheVariants as kind
 use Rattle.tl_token.specs.declared.piece.Fault.{Fault}
 use Rattle.tl_token.specs.declared.piece.Fault.TheVariants.{UnendedTag, UnendedComment, BadTag, UnknownElement, BadReference, BadCharacter}
 use Rattle.tl_token.specs.declared.tag.Given.{Given}
 
 abbrev pub piece_of : Piece → grammar.Piece
 piece_of Hidden = hidden
-piece_of (TagPiece kind) = tag kind
+piece_of (Start e spans) = tag (kind.Start e spans)
+piece_of (End e) = tag (kind.End e)
 piece_of (Character c) = character c
 
 abbrev pub fault_of : Fault → grammar.Fault

@@ -7,3 +7,4 @@ pub mod States
 pub mod Reading
 pub mod Reader
 pub mod Found
+pub mod Output

@@ -4,7 +4,7 @@ use Rattle.std.specs.Char.{is_ascii_alphabetic, is_ascii_alphanumeric, is_ascii_
 use Rattle.tl_token.specs.Characters.{◌∈◌, begins, is_space, is_name_character, is_value_character, is_gap}
 use Rattle.tl_token.specs.declared.reader.Reader.{Reader}
 use Rattle.tl_token.specs.declared.reader.Class.{Class}
-use Rattle.tl_token.specs.declared.reader.Class.TheVariants.{Space, Alphanumeric, Digit, HexDigit, Name, Value, Sign, Letter, Gap, TagNameEnd, ValueEnd, Is, Not}
+use Rattle.tl_token.specs.declared.reader.Class.TheVariants.{Space, Alphanumeric, Digit, HexDigit, Name, Value, Sign, Letter, Gap, HexMark, TagNameEnd, ValueEnd, Is, Not}
 
 -- the characters that are still to read
 abbrev pub unread : Reader → List ℕ
@@ -21,6 +21,7 @@ is_in Value c = is_value_character c
 is_in Sign c = c ∈ "+-"
 is_in Letter c = is_ascii_alphabetic c
 is_in Gap c = is_gap c
+is_in HexMark c = c ∈ "xX"
 is_in TagNameEnd c = is_gap c || c ∈ ">"
 is_in ValueEnd c = is_space c || c ∈ ">"
 is_in (Is d) c = c == d

@@ -1,6 +1,5 @@
 -- How the bytes of a file spell tokens, and where the first fault stands. Places count bytes of the file from 0.
 use Rattle.std.specs.Prelude.{◌≡◌, ℕ, ◌+◌, ◌-◌, List, [], ◌∷◌, ◌++◌, length, ◌==◌, if◌then◌else◌, IsUtf8, chars}
-use Rattle.std.specs.List.{sum_by}
 use Rattle.std.specs.Str.Lossy.{utf8_valid_len}
 use Rattle.tl_token.specs.Characters.{byte_len}
 use Rattle.tl_token.specs.Grammar.{Piece, hidden, tag, character, Stands, Fault, unended_tag, unended_comment, bad_tag, unknown_element, bad_reference, bad_character, FaultStands}
@@ -15,6 +14,9 @@ pub record Part : Type 0 where
   pub piece : Piece
   pub first : ℕ
   pub past : ℕ
+
+abbrev pub Parts : Type 0
+Parts = List Part
 
 -- the place at which what is left of a file of that size begins
 abbrev pub place_of : ℕ → List ℕ → ℕ
@@ -86,4 +88,5 @@ token_size (Start e spans) = 1
 token_size (End e) = 1
 
 abbrev pub size_of : List Token → ℕ
-size_of tokens = sum_by (λ t. token_size (t.kind)) tokens
+size_of [] = 0
+size_of (t ∷ later) = token_size (t.kind) + size_of later

@@ -4,9 +4,12 @@
 #![tactic(auto)]
 
 mod elements;
+mod markup;
 mod number;
+mod output;
 mod piece;
 mod reader;
+mod reference;
 mod tag;
 mod token;
 

@@ -5,7 +5,7 @@ ghost use Rattle.std.specs.Str.{IsUtf8};
 ghost use Rattle.tl_token.specs.Characters.{first, begins, run, past, byte_len, is_name_character, is_value_character};
 
 /// What is left of a text.
-#[derive(Drop)]
+#[derive(Clone, Copy)]
 pub(crate) struct Reader<'a> {
     rest: &'a str,
     ghost text: { ∥ IsUtf8 rest.now ∥₁ },
@@ -27,6 +27,8 @@ pub(crate) enum Class {
     Letter,
     /// White space and `/`, which part attributes.
     Gap,
+    /// What makes a number hexadecimal.
+    HexMark,
     /// What ends the name of a tag.
     TagNameEnd,
     /// What ends a value without quotes.
@@ -62,6 +64,7 @@ impl Class {
             Class::Value => is_value_character(c),
             Class::Letter => c.is_ascii_alphabetic(),
             Class::Gap => c.is_ascii_whitespace() || c == '/',
+            Class::HexMark => matches!(c, 'x' | 'X'),
             Class::TagNameEnd => c.is_ascii_whitespace() || c == '/' || c == '>',
             Class::ValueEnd => c.is_ascii_whitespace() || c == '>',
             Class::Sign => matches!(c, '+' | '-'),

@@ -12,7 +12,7 @@ use crate::elements::is_word;
 use crate::number::{columns, floor, read_number, rows};
 use crate::piece::{Fault, Piece};
 use crate::reader::{Class, Reader};
-use crate::token::{Element, Spans, TokenKind};
+use crate::token::{Element, Spans};
 
 /// The numbers of a tag's attributes. Of each name the first attribute counts: `None` where there
 /// is none, and `Some(None)` where it has no number.
@@ -102,7 +102,7 @@ impl Given {
 
 impl<'a> Reader<'a> {
     /// What is wrong with a tag that cannot go on here.
-    fn tag_fault(&self) -> Fault
+    pub(crate) fn tag_fault(&self) -> Fault
         ensures { tag_found (stop (unread self.now)) ≡ found_of (Err result) (unread self.now) }
     {
         if self.peek().is_none() {
@@ -206,10 +206,10 @@ impl<'a> Reader<'a> {
         let Some(element) = Element::named(name) else {
             return Err(Fault::UnknownElement);
         };
-        Ok(Piece::Tag(if is_end {
-            TokenKind::End(element)
+        Ok(if is_end {
+            Piece::End(element)
         } else {
-            TokenKind::Start(element, given.spans(element))
-        }))
+            Piece::Start(element, given.spans(element))
+        })
     }
 }

@@ -12,7 +12,6 @@ use Rattle.tl_token.specs.Found.{stop, found_of}
 use Rattle.tl_token.specs.Reader.{unread}
 use Rattle.tl_token.proofs.TagSteps.{named_tag, tag_attributes, no_name_end, past_ended, failed_with}
 use Rattle.tl_token.proofs.reader.Reader.tag.Goals as goal
-use Rattle.tl_token.proofs.reader.Reader.tag.Goals.{then-is_end, else-is_end}
 
 pub returns-then-not-is_at-2 : goal.returns-then-not-is_at-2
 returns-then-not-is_at-2 c =
@@ -47,8 +46,8 @@ returns-in_default c =
     sym (ap tag_found (tag_attributes (unread c.args.self.now) new c.eat-is_end.result c.eat-is_end.ensures letter close ∙ ap (read (between t)) (sym c.run-name.ensures.past) ∙ h t)
       ∙ ap (known_or_not (with_more t all) rest) (ap element_of (sym c.run-name.ensures.run) ∙ sym c.named.ensures ∙ c.in_default.is))
 
-pub returns : goal.returns
-returns c =
+pub returns-then-is_end : goal.returns-then-is_end
+returns-then-is_end c =
     let new = unread c.eat-is_end.new.self in
     let letter = sym c.is_at.ensures ∙ c.if-not-is_at.false in
     let close = ap (begins (λ d. is_gap d || d ∈ ">")) (sym c.run-name.ensures.past) ∙ sym c.is_at-2.ensures ∙ c.if-not-is_at-2.false in
@@ -57,9 +56,20 @@ returns c =
     let (all, given, h) = c.in_ok-given.ensures in
     let rest = unread c.attributes.new.self in
     let e = c.in-Some.element in
-    let kind : c.if-is_end.result ≡ kind_of e (with_more t all) = elim c.if-is_end.branch [
-        then-is_end w ↦ w.result-is ∙ ap (λ b. cond b (End e) (Start e (spans_of e all))) (sym w.if-is_end.true)
-      | else-is_end w ↦ w.result-is ∙ ap (Start e) (w.spans.ensures all given) ∙ ap (λ b. cond b (End e) (Start e (spans_of e all))) (sym w.if-is_end.false) ] in
     sym (ap tag_found (tag_attributes (unread c.args.self.now) new c.eat-is_end.result c.eat-is_end.ensures letter close ∙ ap (read (between t)) (sym c.run-name.ensures.past) ∙ h t)
       ∙ ap (known_or_not (with_more t all) rest) (ap element_of (sym c.run-name.ensures.run) ∙ sym c.named.ensures ∙ c.in-Some.is)
-      ∙ ap (λ (k : TokenKind). stands (tag k) rest) (sym kind))
+      ∙ ap (λ b. stands (tag (cond b (End e) (Start e (spans_of e all)))) rest) c.if-is_end.true)
+
+pub returns-else-is_end : goal.returns-else-is_end
+returns-else-is_end c =
+    let new = unread c.eat-is_end.new.self in
+    let letter = sym c.is_at.ensures ∙ c.if-not-is_at.false in
+    let close = ap (begins (λ d. is_gap d || d ∈ ">")) (sym c.run-name.ensures.past) ∙ sym c.is_at-2.ensures ∙ c.if-not-is_at-2.false in
+    let name = run is_ascii_alphanumeric new in
+    let t = empty_tag c.eat-is_end.result name in
+    let (all, given, h) = c.in_ok-given.ensures in
+    let rest = unread c.attributes.new.self in
+    let e = c.in-Some.element in
+    sym (ap tag_found (tag_attributes (unread c.args.self.now) new c.eat-is_end.result c.eat-is_end.ensures letter close ∙ ap (read (between t)) (sym c.run-name.ensures.past) ∙ h t)
+      ∙ ap (known_or_not (with_more t all) rest) (ap element_of (sym c.run-name.ensures.run) ∙ sym c.named.ensures ∙ c.in-Some.is)
+      ∙ ap (λ b. stands (tag (cond b (End e) (Start e (spans_of e all)))) rest) c.if-is_end.false ∙ ap (λ s. stands (tag (Start e s)) rest) (sym (c.spans.ensures all given)))
