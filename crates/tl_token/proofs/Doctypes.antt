@@ -1,12 +1,10 @@
 -- What is read as a doctype is one of the grammar, and what is no front of one is none.
-use Rattle.std.proofs.Common.{◌≡◌, ◌≢◌, ℕ, Bool, true, false, not, ◌||◌, ◌&&◌, ◌⊎◌, List, [], ◌∷◌, ◌++◌, Option, Some, None, refl, sym, ap, ◌∙◌, subst, inl, inr, eqb, cond, append_assoc, map}
-use Rattle.std.proofs.lemmas.Bool.{eqb-true, eq-eqb, false≢true}
-use Rattle.std.proofs.lemmas.List.{append-nil}
-use Rattle.std.specs.Prelude.{IsTrue, codes}
+use Rattle.std.proofs.Common.{◌≡◌, ◌≢◌, ℕ, Bool, true, false, ◌&&◌, List, [], ◌∷◌, ◌++◌, Option, Some, None, refl, sym, ap, ◌∙◌, subst, inl, inr, eqb, cond, append_assoc}
+use Rattle.std.proofs.lemmas.Bool.{false≢true}
+use Rattle.std.specs.Prelude.{codes}
 use Rattle.std.specs.Char.{to_ascii_lowercase}
-use Rattle.tl_token.specs.Characters.{◌∈◌}
 use Rattle.tl_token.specs.Elements.{is_word}
-use Rattle.tl_token.specs.Grammar.{past_first, Piece, hidden, tag, character, Fault, unended_tag, unended_comment, bad_tag, unknown_element, bad_reference, bad_character}
+use Rattle.tl_token.specs.Grammar.{past_first, hidden, tag, character, unended_tag, unended_comment, bad_tag, unknown_element, bad_reference, bad_character}
 use Rattle.tl_token.specs.Reading.{Found, stands, faulty, closed_or, in_doctype, doctype_word}
 use Rattle.tl_token.proofs.Tests.{chosen, cases_bool, clash}
 
@@ -22,17 +20,19 @@ pub record Worded (w cs rest : List ℕ) : Type 0 where
 mark_at_end : (cs : List ℕ) → past_first (codes ">") cs ≡ None → past_first (codes ">") (cs ++ codes ">") ≡ Some []
 mark_at_end [] h = refl
 mark_at_end (c ∷ cs) h = elim (chosen (λ (o : Option (List ℕ)). o ≡ None) (eqb c 62 && true) _ _ h) [
-    inl e ↦ cc
-  | inr e ↦ ap (λ b. cond b (Some (cs ++ codes ">")) (past_first (codes ">") (cs ++ codes ">"))) (e.0) ∙ mark_at_end cs (e.1) ]
+  | inl e ↦ cc
+  | inr e ↦ ap (λ b. cond b (Some (cs ++ codes ">")) (past_first (codes ">") (cs ++ codes ">"))) (e.0) ∙ mark_at_end cs (e.1)
+]
 
 -- what follows the first `>` goes on with more text
 pub mark_and_more : (cs rest more : List ℕ) → past_first (codes ">") cs ≡ Some rest → past_first (codes ">") (cs ++ more) ≡ Some (rest ++ more)
 mark_and_more [] rest more h = cc
 mark_and_more (c ∷ cs) rest more h = elim (chosen (λ (o : Option (List ℕ)). o ≡ Some rest) (eqb c 62 && true) _ _ h) [
-    inl e ↦
+  | inl e ↦
       let same : cs ≡ rest = cc in
       ap (λ b. cond b (Some (cs ++ more)) (past_first (codes ">") (cs ++ more))) (e.0) ∙ ap (λ x. Some (x ++ more)) same
-  | inr e ↦ ap (λ b. cond b (Some (cs ++ more)) (past_first (codes ">") (cs ++ more))) (e.0) ∙ mark_and_more cs rest more (e.1) ]
+  | inr e ↦ ap (λ b. cond b (Some (cs ++ more)) (past_first (codes ">") (cs ++ more))) (e.0) ∙ mark_and_more cs rest more (e.1)
+]
 
 -- the first letter of a word and its others
 and_cases : (a b : Bool) → (a && b) ≡ true → (a ≡ true) × (b ≡ true)
@@ -96,12 +96,13 @@ word_is [] cs small = closed_word cs (past_first (codes ">") cs) refl
 word_is (d ∷ w) [] small =
     ((d ∷ w) ++ codes ">", (λ e. cc), record { word = d ∷ w; inside = codes ">"; opened = refl; named = small; closed = refl })
 word_is (d ∷ w) (c ∷ cs) small = elim (cases_bool (eqb (to_ascii_lowercase c) d)) [
-    inl e ↦
+  | inl e ↦
       let P : Bool → Type 0 = λ b. WordIs (cond b (doctype_word w cs) (faulty bad_tag)) (d ∷ w) (c ∷ cs) in
       subst P (sym e) (more_word (doctype_word w cs) w cs c d e (word_is w cs ((and_cases _ _ small).1)))
   | inr e ↦
       let P : Bool → Type 0 = λ b. WordIs (cond b (doctype_word w cs) (faulty bad_tag)) (d ∷ w) (c ∷ cs) in
-      subst P (sym e) (λ more rest given. clash _ ((Worded-less w (cs ++ more) rest c d given).0) e) ]
+      subst P (sym e) (λ more rest given. clash _ ((Worded-less w (cs ++ more) rest c d given).0) e)
+]
 
 -- a word and what is behind it is read
 pub word_whole : (w cs rest : List ℕ) → Worded w cs rest → doctype_word w cs ≡ stands hidden rest
@@ -126,11 +127,16 @@ word_unended w cs more small some k = from (doctype_word w cs) refl (word_is w c
     none : (xs : List ℕ) → xs ++ more ≡ [] → ⊥
     none [] e = some e
     none (x ∷ xs) e = cc
+
     from : (found : Found) → doctype_word w cs ≡ found → WordIs found w cs → found ≡ faulty unended_tag
     from (stands hidden left) e j =
         let longer : Worded w (cs ++ more) (left ++ more) = record {
-              word = j.word; inside = j.inside ++ more; opened = ap (λ x. x ++ more) (j.opened) ∙ append_assoc (j.word) (j.inside) more;
-              named = j.named; closed = mark_and_more (j.inside) left more (j.closed) } in
+          word = j.word;
+          inside = j.inside ++ more;
+          opened = ap (λ x. x ++ more) (j.opened) ∙ append_assoc (j.word) (j.inside) more;
+          named = j.named;
+          closed = mark_and_more (j.inside) left more (j.closed);
+        } in
         let a = word_whole w (cs ++ more) (left ++ more) longer in
         let b = word_whole w (cs ++ more) [] k in
         let same : left ++ more ≡ [] = cc in

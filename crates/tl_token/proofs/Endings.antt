@@ -1,8 +1,8 @@
 -- Pieces lead one way only: to the end of the file, or to its first fault.
-use Rattle.std.proofs.Common.{◌≡◌, ◌≢◌, ℕ, ◌+◌, ◌-◌, ◌≤◌, ◌<◌, ◌⊎◌, Bool, true, false, List, [], ◌∷◌, ◌++◌, Option, Some, None, refl, sym, ap, ◌∙◌, subst, inl, inr}
+use Rattle.std.proofs.Common.{◌≡◌, ℕ, List, [], ◌∷◌, ◌++◌, refl, sym, ◌∙◌, subst}
 use Rattle.tl_token.specs.Grammar.{Piece, Stands, Fault, FaultStands}
-use Rattle.tl_token.specs.Spelling.{Part, Parts, place_of, Leads, here, next, tokens_of}
-use Rattle.tl_token.specs.Reading.{Found, stands, faulty, standing}
+use Rattle.tl_token.specs.Spelling.{Part, place_of, Leads, here, next}
+use Rattle.tl_token.specs.Reading.{stands, faulty}
 use Rattle.tl_token.proofs.PlacesWhole.{place_whole, fault_whole, nothing_at_end, no_fault_at_end}
 
 -- one piece at most stands at a place

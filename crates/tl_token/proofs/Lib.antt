@@ -14,3 +14,4 @@ pub mod MarkupSteps
 pub mod Texts
 pub mod Sizes
 pub mod Endings
+pub mod Answered

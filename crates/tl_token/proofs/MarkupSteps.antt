@@ -1,5 +1,5 @@
 -- How comments and doctypes end, by the runs that the reader passes.
-use Rattle.std.proofs.Common.{◌≡◌, ◌≢◌, ℕ, ◌<◌, ◌≤◌, Bool, true, false, not, ◌&&◌, ◌⊎◌, List, [], ◌∷◌, ◌++◌, Option, Some, None, length, refl, sym, ap, ◌∙◌, subst, inl, inr, eqb, cond, arith, drop, get_or, ◌+◌, add-one, drop-cons}
+use Rattle.std.proofs.Common.{◌≡◌, ℕ, ◌<◌, Bool, true, false, not, ◌&&◌, List, [], ◌∷◌, ◌++◌, Some, None, length, refl, sym, ap, ◌∙◌, inl, inr, eqb, cond, drop, get_or, ◌+◌, add-one, drop-cons}
 use Rattle.std.proofs.lemmas.Bool.{eqb-true, eq-eqb, false≢true}
 use Rattle.std.proofs.lemmas.Bool.Decides.{eqb_tells}
 use Rattle.std.specs.Prelude.{codes}
@@ -9,7 +9,7 @@ use Rattle.tl_token.specs.Grammar.{unended_tag, bad_tag}
 use Rattle.std.proofs.Math.Seq.{drop-length}
 use Rattle.tl_token.specs.Characters.{first, begins, run, past}
 use Rattle.tl_token.specs.Grammar.{Each, has_front, past_first}
-use Rattle.tl_token.proofs.Tests.{cases_bool, chosen, not_true}
+use Rattle.tl_token.proofs.Tests.{not_true}
 use Rattle.tl_token.proofs.TagSteps.{run_split, run_each, past_ended}
 
 -- characters that are no `>`, before the first `>`

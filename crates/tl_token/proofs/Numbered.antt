@@ -1,5 +1,5 @@
 -- The numbers of a tag's attributes, one attribute after another.
-use Rattle.std.proofs.Common.{◌≡◌, ℕ, Bool, true, false, List, [], ◌∷◌, ◌++◌, Option, Some, None, refl, sym, ap, ◌∙◌, cond, min, unwrap_or}
+use Rattle.std.proofs.Common.{◌≡◌, ℕ, Bool, true, false, List, [], ◌∷◌, ◌++◌, Option, Some, None, refl, cond, min, unwrap_or}
 use Rattle.std.specs.Option.{option_map, option_and_then}
 use Rattle.std.specs.Prelude.{codes}
 use Rattle.tl_token.specs.Numbers.{number_of, columns_of, rows_of, floor_of}
@@ -19,6 +19,7 @@ number_in-push word (d ∷ all) a = by_test (is_word (d.name) word) (number_in-p
   where
     as_number : Option (List ℕ) → Option (Option ℕ)
     as_number o = option_map (λ v. option_map (λ n. min n 4294967295) (number_of v)) o
+
     by_test : (b : Bool) → number_in word (all ++ a ∷ []) ≡ number_after (number_in word all) word a
         → option_map (λ v. option_map (λ n. min n 4294967295) (number_of v)) (cond b (Some (d.value)) (value_of word (all ++ a ∷ [])))
         ≡ number_after (option_map (λ v. option_map (λ n. min n 4294967295) (number_of v)) (cond b (Some (d.value)) (value_of word all))) word a

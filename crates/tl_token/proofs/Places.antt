@@ -1,20 +1,20 @@
 -- What the reader finds at a place is what the grammar says of it, and the other way round.
-use Rattle.std.proofs.Common.{◌≡◌, ◌≢◌, ℕ, Bool, true, false, not, ◌||◌, ◌&&◌, ◌⊎◌, List, [], ◌∷◌, ◌++◌, Option, Some, None, refl, sym, ap, ◌∙◌, subst, inl, inr, eqb, cond, append_assoc}
-use Rattle.std.proofs.lemmas.Bool.{eqb-true, eq-eqb, false≢true}
+use Rattle.std.proofs.Common.{◌≡◌, ℕ, Bool, true, false, not, ◌||◌, List, [], ◌∷◌, ◌++◌, Option, Some, None, refl, sym, ap, ◌∙◌, subst, inl, inr, cond}
+use Rattle.std.proofs.lemmas.Bool.{false≢true}
 use Rattle.std.proofs.lemmas.List.{append-nil}
-use Rattle.std.specs.Prelude.{IsTrue, codes}
-use Rattle.std.specs.Char.{is_ascii_alphabetic, to_ascii_lowercase}
-use Rattle.tl_token.specs.Characters.{◌∈◌, is_among, is_control, opens_markup, begins}
-use Rattle.tl_token.specs.Elements.{Tag, element_of, kind_of, is_word}
-use Rattle.tl_token.specs.Grammar.{past_first, Comment, Doctype, opening, IsTagName, IsTag, reference, Piece, hidden, tag, character, IsPlain, Stands, comment, doctype, markup, by_reference, plain, Fault, unended_tag, unended_comment, bad_tag, unknown_element, bad_reference, bad_character, IsFrontOf, IsWholeTag, IsWholeDoctype, IsUnendedTag, IsUnendedComment, IsBadTag, FaultStands}
+use Rattle.std.specs.Prelude.{codes}
+use Rattle.std.specs.Char.{is_ascii_alphabetic}
+use Rattle.tl_token.specs.Characters.{◌∈◌, is_control, opens_markup}
+use Rattle.tl_token.specs.Elements.{Tag, element_of}
+use Rattle.tl_token.specs.Grammar.{past_first, Doctype, opening, IsTagName, IsTag, reference, hidden, tag, character, Stands, comment, doctype, markup, by_reference, plain, unended_tag, unended_comment, bad_tag, unknown_element, bad_reference, bad_character, IsUnendedTag, IsBadTag, FaultStands}
 use Rattle.tl_token.specs.States.{tag_open, Outcome, reads, unended, wrong, read}
 use Rattle.tl_token.specs.Reading.{Found, stands, faulty, closed_or, in_comment, comment_open, doctype_word, declaration, known_or_not, tag_found, angle, referred_or, standing}
 use Rattle.tl_token.specs.declared.token.Element.{Element}
-use Rattle.tl_token.proofs.Tests.{chosen, cases_bool, clash, is_it, or_cases, or_false, or_left, or_right, not_true}
+use Rattle.tl_token.proofs.Tests.{clash, is_it, or_left}
 use Rattle.tl_token.proofs.TagSound.{tag_sound}
 use Rattle.tl_token.proofs.TagWhole.{tag_whole}
-use Rattle.tl_token.proofs.TagMore.{further, Further, IsLive, ending}
-use Rattle.tl_token.proofs.Doctypes.{Worded, WordIs, word_is, word_whole, word_unended}
+use Rattle.tl_token.proofs.TagMore.{further, Further, ending}
+use Rattle.tl_token.proofs.Doctypes.{Worded, WordIs, word_is, word_whole}
 
 -- what was found stands there
 abbrev pub Holds : List ℕ → Found → Type 0
@@ -52,15 +52,20 @@ wrong_is_bad d cs opens mark h =
     let stays = subst F h (further tag_open (d ∷ cs)) in
     let marked = λ (e : d ≡ 33). let P : ℕ → Type 0 = λ x. (x ∈ "!") ≡ false in false≢true (sym (subst P e mark)) in
     record {
-      second = d; behind = cs; opened = refl; opens = opens;
+      second = d;
+      behind = cs;
+      opened = refl;
+      opens = opens;
       no_tag = λ t rest k. let e = tag_whole (d ∷ cs) t rest k in let never : reads t rest ≡ wrong = sym e ∙ h in cc;
       no_comment = λ rest k. let e = k.opened in marked cc;
       no_doctype = λ rest k. let e = k.opened in marked cc;
       ended = λ u. elim u [
-          inl k ↦ elim k [
-              inl f ↦ let (t, whole) = f.3 in let e = tag_whole ((d ∷ cs) ++ f.1) t [] whole in let never : reads t [] ≡ wrong = sym e ∙ stays (f.1) in cc
-            | inr f ↦ let e = f.3.opened in marked cc ]
-        | inr e ↦ marked cc ];
+        | inl k ↦ elim k [
+          | inl f ↦ let (t, whole) = f.3 in let e = tag_whole ((d ∷ cs) ++ f.1) t [] whole in let never : reads t [] ≡ wrong = sym e ∙ stays (f.1) in cc
+          | inr f ↦ let e = f.3.opened in marked cc
+        ]
+        | inr e ↦ marked cc
+      ];
       comment_ended = λ k. let e = k.opened in marked cc;
     }
 
@@ -91,17 +96,22 @@ bad_declaration : (c : ℕ) (cs : List ℕ) → (c ∈ "-") ≡ false → ((more
 bad_declaration c cs dash never =
     let dashed = λ (e : c ≡ 45). let P : ℕ → Type 0 = λ x. (x ∈ "-") ≡ false in false≢true (sym (subst P e dash)) in
     record {
-      second = 33; behind = c ∷ cs; opened = refl; opens = refl;
+      second = 33;
+      behind = c ∷ cs;
+      opened = refl;
+      opens = refl;
       no_tag = λ t rest k. no_tag_here (c ∷ cs) t rest k;
       no_comment = λ rest k. let e = k.opened in dashed cc;
       no_doctype = λ rest k.
-        let P : List ℕ → Type 0 = λ x. Worded (codes "doctype") x rest in
-        never [] rest (subst P (sym (append-nil (c ∷ cs))) (worded_of (c ∷ cs) rest k));
+          let P : List ℕ → Type 0 = λ x. Worded (codes "doctype") x rest in
+          never [] rest (subst P (sym (append-nil (c ∷ cs))) (worded_of (c ∷ cs) rest k));
       ended = λ u. elim u [
-          inl k ↦ elim k [
-              inl f ↦ no_tag_here ((c ∷ cs) ++ f.1) (f.3.0) [] (f.3.1)
-            | inr f ↦ never (f.1) [] (worded_of ((c ∷ cs) ++ f.1) [] (f.3)) ]
-        | inr e ↦ dashed cc ];
+        | inl k ↦ elim k [
+          | inl f ↦ no_tag_here ((c ∷ cs) ++ f.1) (f.3.0) [] (f.3.1)
+          | inr f ↦ never (f.1) [] (worded_of ((c ∷ cs) ++ f.1) [] (f.3))
+        ]
+        | inr e ↦ dashed cc
+      ];
       comment_ended = λ k. let e = k.opened in dashed cc;
     }
 
@@ -110,15 +120,20 @@ bad_comment : (c : ℕ) (cs : List ℕ) → (c ∈ "-") ≡ false → IsBadTag (
 bad_comment c cs dash =
     let dashed = λ (e : c ≡ 45). let P : ℕ → Type 0 = λ x. (x ∈ "-") ≡ false in false≢true (sym (subst P e dash)) in
     record {
-      second = 33; behind = 45 ∷ c ∷ cs; opened = refl; opens = refl;
+      second = 33;
+      behind = 45 ∷ c ∷ cs;
+      opened = refl;
+      opens = refl;
       no_tag = λ t rest k. no_tag_here (45 ∷ c ∷ cs) t rest k;
       no_comment = λ rest k. let e = k.opened in dashed cc;
       no_doctype = λ rest k. no_dash (c ∷ cs) rest (worded_of (45 ∷ c ∷ cs) rest k);
       ended = λ u. elim u [
-          inl k ↦ elim k [
-              inl f ↦ no_tag_here ((45 ∷ c ∷ cs) ++ f.1) (f.3.0) [] (f.3.1)
-            | inr f ↦ no_dash ((c ∷ cs) ++ f.1) [] (worded_of ((45 ∷ c ∷ cs) ++ f.1) [] (f.3)) ]
-        | inr e ↦ cc ];
+        | inl k ↦ elim k [
+          | inl f ↦ no_tag_here ((45 ∷ c ∷ cs) ++ f.1) (f.3.0) [] (f.3.1)
+          | inr f ↦ no_dash ((c ∷ cs) ++ f.1) [] (worded_of ((45 ∷ c ∷ cs) ++ f.1) [] (f.3))
+        ]
+        | inr e ↦ cc
+      ];
       comment_ended = λ k. let e = k.opened in dashed cc;
     }
 
@@ -160,8 +175,8 @@ angle_holds [] = inl (inl ((λ e. cc), codes "a>", (λ e. cc), (_, tag_sound (co
 angle_holds (c ∷ cs) = found_by (codes "<" ++ (c ∷ cs)) (c ∈ "!") _ _
     (λ e. let P : ℕ → Type 0 = λ x. Holds (codes "<" ++ (x ∷ cs)) (declaration cs) in subst P (sym (is_it c 33 e)) (declaration_holds cs))
     (λ e. found_by (codes "<" ++ (c ∷ cs)) (opens_markup c) _ _
-      (λ o. tag_holds c cs (read tag_open (c ∷ cs)) o e refl)
-      (λ o. plain (refl, (λ _. ((λ e. cc), ap not o)), (λ k. absurd (false≢true k)))))
+    (λ o. tag_holds c cs (read tag_open (c ∷ cs)) o e refl)
+    (λ o. plain (refl, (λ _. ((λ e. cc), ap not o)), (λ k. absurd (false≢true k)))))
 
 reference_holds : (cs : List ℕ) (o : Option (Option ℕ × List ℕ)) → reference cs ≡ o → Holds (codes "&" ++ cs) (referred_or cs o)
 reference_holds cs None h = plain (refl, (λ k. absurd (false≢true k)), (λ _. h))
@@ -173,7 +188,7 @@ pub place_sound : (c : ℕ) (cs : List ℕ) → Holds (c ∷ cs) (standing c cs)
 place_sound c cs = found_by (c ∷ cs) (c ∈ "<") _ _
     (λ e. let P : ℕ → Type 0 = λ x. Holds (x ∷ cs) (angle cs) in subst P (sym (is_it c 60 e)) (angle_holds cs))
     (λ e. found_by (c ∷ cs) (c ∈ "&") _ _
-      (λ a. let P : ℕ → Type 0 = λ x. Holds (x ∷ cs) (referred_or cs (reference cs)) in subst P (sym (is_it c 38 a)) (reference_holds cs (reference cs) refl))
-      (λ a. found_by (c ∷ cs) (is_control c) _ _
-        (λ k. (c, cs, refl, k))
-        (λ k. plain (ap not k, (λ l. absurd (clash (c ∈ "<") l e)), (λ l. absurd (clash (c ∈ "&") l a))))))
+    (λ a. let P : ℕ → Type 0 = λ x. Holds (x ∷ cs) (referred_or cs (reference cs)) in subst P (sym (is_it c 38 a)) (reference_holds cs (reference cs) refl))
+    (λ a. found_by (c ∷ cs) (is_control c) _ _
+    (λ k. (c, cs, refl, k))
+    (λ k. plain (ap not k, (λ l. absurd (clash (c ∈ "<") l e)), (λ l. absurd (clash (c ∈ "&") l a))))))

@@ -1,20 +1,19 @@
 -- The reader finds each piece and each fault of the grammar. So at most one stands at a place.
-use Rattle.std.proofs.Common.{◌≡◌, ◌≢◌, ℕ, Bool, true, false, not, ◌||◌, ◌&&◌, ◌⊎◌, List, [], ◌∷◌, ◌++◌, Option, Some, None, refl, sym, ap, ◌∙◌, subst, inl, inr, eqb, cond, append_assoc}
-use Rattle.std.proofs.lemmas.Bool.{eqb-true, eq-eqb, false≢true}
-use Rattle.std.specs.Prelude.{IsTrue, codes}
-use Rattle.std.specs.Char.{is_ascii_alphabetic, to_ascii_lowercase}
-use Rattle.tl_token.specs.Characters.{◌∈◌, is_among, is_control, opens_markup, begins}
-use Rattle.tl_token.specs.Elements.{Tag, element_of, kind_of, is_word}
-use Rattle.tl_token.specs.Grammar.{past_first, Comment, Doctype, opening, IsTagName, IsTag, reference, Piece, hidden, tag, character, IsPlain, Stands, comment, doctype, markup, by_reference, plain, Fault, unended_tag, unended_comment, bad_tag, unknown_element, bad_reference, bad_character, IsFrontOf, IsWholeTag, IsWholeDoctype, IsUnendedTag, IsUnendedComment, IsBadTag, FaultStands}
+use Rattle.std.proofs.Common.{◌≡◌, ◌≢◌, ℕ, Bool, true, false, ◌||◌, ◌⊎◌, List, [], ◌∷◌, ◌++◌, refl, sym, ap, ◌∙◌, subst, inl, inr, eqb, cond}
+use Rattle.std.proofs.lemmas.Bool.{false≢true}
+use Rattle.std.specs.Prelude.{codes}
+use Rattle.std.specs.Char.{is_ascii_alphabetic}
+use Rattle.tl_token.specs.Characters.{◌∈◌, is_control, opens_markup, begins}
+use Rattle.tl_token.specs.Elements.{Tag, element_of}
+use Rattle.tl_token.specs.Grammar.{Doctype, opening, IsTag, Piece, hidden, tag, character, Stands, comment, doctype, markup, by_reference, plain, Fault, unended_tag, unended_comment, bad_tag, unknown_element, bad_reference, bad_character, IsBadTag, FaultStands}
 use Rattle.tl_token.specs.States.{tag_open, Outcome, reads, unended, wrong, read}
-use Rattle.tl_token.specs.Reading.{Found, stands, faulty, closed_or, in_comment, comment_open, doctype_word, declaration, known_or_not, tag_found, angle, referred_or, standing}
-use Rattle.tl_token.specs.declared.token.Element.{Element}
+use Rattle.tl_token.specs.Reading.{Found, stands, faulty, closed_or, declaration, known_or_not, tag_found, angle, referred_or, standing}
 use Rattle.tl_token.specs.declared.token.TokenKind.{TokenKind}
-use Rattle.tl_token.proofs.Tests.{chosen, cases_bool, clash, is_it, or_cases, or_false, or_left, or_right, not_true, excludes}
+use Rattle.tl_token.proofs.Tests.{cases_bool, clash, is_it, or_cases, or_false, or_left, not_true, excludes}
 use Rattle.tl_token.proofs.TagWhole.{tag_whole}
 use Rattle.tl_token.proofs.TagMore.{further, Further}
 use Rattle.tl_token.proofs.Doctypes.{Worded, word_whole, word_unended}
-use Rattle.tl_token.proofs.Places.{Holds, place_sound, tag_second, no_tag_here, worded_of, no_dash}
+use Rattle.tl_token.proofs.Places.{Holds, place_sound, tag_second, worded_of, no_dash}
 
 -- the first or the second of two, by a test
 first_of_two : (b : Bool) (x y : Found) → b ≡ true → cond b x y ≡ x
@@ -79,18 +78,21 @@ place_whole c cs _ rest (doctype k) =
     worded : (ds : List ℕ) → Worded (codes "doctype") ds rest → declaration ds ≡ stands hidden rest
     worded [] w = let never : faulty unended_tag ≡ stands hidden rest = word_whole (codes "doctype") [] rest w in cc
     worded (d ∷ ds) w = elim (cases_bool (d ∈ "-")) [
-        inl e ↦
+      | inl e ↦
           let P : ℕ → Type 0 = λ x. Worded (codes "doctype") (x ∷ ds) rest in
           absurd (no_dash ds rest (subst P (is_it d 45 e) w))
-      | inr e ↦ second_of_two (d ∈ "-") _ _ e ∙ word_whole (codes "doctype") (d ∷ ds) rest w ]
+      | inr e ↦ second_of_two (d ∈ "-") _ _ e ∙ word_whole (codes "doctype") (d ∷ ds) rest w
+    ]
 place_whole c cs _ rest (markup element t k known kind) =
     tag_is_read c cs t rest k ∙ ap (known_or_not t rest) known ∙ ap (λ (x : TokenKind). stands (tag x) rest) (sym kind)
 place_whole c cs _ rest (by_reference a h) = ap (λ x. standing x cs) (is_it c 38 a) ∙ ap (referred_or cs) h
 place_whole c cs _ _ (plain k) = elim (cases_bool (c ∈ "<")) [
-    inl l ↦ ap (λ x. standing x cs) (is_it c 60 l) ∙ text cs ((k.1 l).0) (not_true (begins opens_markup cs) ((k.1 l).1)) ∙ ap (λ x. stands (character x) cs) (sym (is_it c 60 l))
+  | inl l ↦ ap (λ x. standing x cs) (is_it c 60 l) ∙ text cs ((k.1 l).0) (not_true (begins opens_markup cs) ((k.1 l).1)) ∙ ap (λ x. stands (character x) cs) (sym (is_it c 60 l))
   | inr l ↦ second_of_two (c ∈ "<") _ _ l ∙ elim (cases_bool (c ∈ "&")) [
-      inl a ↦ first_of_two (c ∈ "&") _ _ a ∙ ap (referred_or cs) (k.2 a) ∙ ap (λ x. stands (character x) cs) (sym (is_it c 38 a))
-    | inr a ↦ second_of_two (c ∈ "&") _ _ a ∙ second_of_two (is_control c) _ _ (not_true (is_control c) (k.0)) ] ]
+    | inl a ↦ first_of_two (c ∈ "&") _ _ a ∙ ap (referred_or cs) (k.2 a) ∙ ap (λ x. stands (character x) cs) (sym (is_it c 38 a))
+    | inr a ↦ second_of_two (c ∈ "&") _ _ a ∙ second_of_two (is_control c) _ _ (not_true (is_control c) (k.0))
+  ]
+]
   where
     text : (ds : List ℕ) → ds ≢ [] → begins opens_markup ds ≡ false → angle ds ≡ stands (character 60) ds
     text [] some h = absurd (some refl)
@@ -113,6 +115,7 @@ front_of_tag c (d ∷ cs) more t some h =
     none : (xs : List ℕ) → xs ++ more ≡ [] → ⊥
     none [] e = some e
     none (x ∷ xs) e = cc
+
     from : (o : Outcome) → Further tag_open (d ∷ cs) o → read tag_open ((d ∷ cs) ++ more) ≡ reads t [] → o ≡ unended
     from (reads u rest) f e = let k = f more in let same : rest ++ more ≡ [] = cc in absurd (none rest same)
     from unended f e = refl
@@ -132,10 +135,11 @@ front_of_doctype c (d ∷ cs) more some k =
     worded : (ds : List ℕ) → Worded (codes "doctype") (ds ++ more) [] → declaration ds ≡ faulty unended_tag
     worded [] w = refl
     worded (d ∷ ds) w = elim (cases_bool (d ∈ "-")) [
-        inl e ↦
+      | inl e ↦
           let P : ℕ → Type 0 = λ x. Worded (codes "doctype") (x ∷ (ds ++ more)) [] in
           absurd (no_dash (ds ++ more) [] (subst P (is_it d 45 e) w))
-      | inr e ↦ second_of_two (d ∈ "-") _ _ e ∙ word_unended (codes "doctype") (d ∷ ds) more refl some w ]
+      | inr e ↦ second_of_two (d ∈ "-") _ _ e ∙ word_unended (codes "doctype") (d ∷ ds) more refl some w
+    ]
 
 -- where nothing stands that a `<` may open, the reader finds a bad tag
 bad_is_found : (c : ℕ) (cs : List ℕ) (found : Found) → IsBadTag (c ∷ cs) → Holds (c ∷ cs) found → found ≡ faulty bad_tag

@@ -1,12 +1,12 @@
 -- What a step over one character of a text leaves.
-use Rattle.std.proofs.Common.{◌≡◌, ℕ, ◌+◌, ◌<◌, Bool, true, false, ◌&&◌, List, [], ◌∷◌, ◌++◌, length, Option, Some, None, refl, sym, ap, ◌∙◌, arith, append_assoc, MatchOption, encode_utf8, take, drop, ◌-◌, length-append, subst}
+use Rattle.std.proofs.Common.{◌≡◌, ℕ, Bool, true, false, ◌&&◌, List, [], ◌∷◌, ◌++◌, length, Option, Some, None, refl, sym, ap, ◌∙◌, arith, append_assoc, MatchOption, encode_utf8, take, drop, ◌-◌, length-append, subst}
 use Rattle.std.specs.Str.{chars, IsUtf8, IsCharBoundary}
-use Rattle.std.proofs.lemmas.Str.{IsCharBoundary-at_seam, chars-encodes, encodes-append, scalars-chars, chars-nil, chars_past_char, IsUtf8-past_char, encodes-chars}
+use Rattle.std.proofs.lemmas.Str.{IsCharBoundary-at_seam, chars-encodes, encodes-append, scalars-chars, chars-nil, chars_past_char, encodes-chars}
 use Rattle.std.proofs.lemmas.List.{append-nil, take_at}
 use Rattle.std.specs.declared.str.Chars.{Chars}
 use lib.Utf8.{encodes, scalars, scalar}
 use Rattle.std.proofs.lemmas.Bool.{false≢true}
-use Rattle.tl_token.specs.Characters.{first, begins, run, past}
+use Rattle.tl_token.specs.Characters.{begins, run, past}
 
 -- the next character, and the characters behind it
 found_in : (before after : List ℕ) → IsUtf8 before → (o : Option ℕ)

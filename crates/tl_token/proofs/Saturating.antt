@@ -1,5 +1,5 @@
 -- Numbers that stop at the top of their type.
-use Rattle.std.proofs.Common.{◌≡◌, ◌≢◌, ℕ, ◌+◌, ◌*◌, ◌<◌, ◌≤◌, min, max, Bool, true, false, not, ◌&&◌, ◌⊎◌, List, [], ◌∷◌, Option, Some, None, refl, sym, ap, ◌∙◌, subst, inl, inr, cond, arith, length}
+use Rattle.std.proofs.Common.{◌≡◌, ◌≢◌, ℕ, ◌<◌, min, max, Bool, true, false, not, ◌&&◌, ◌⊎◌, List, [], ◌∷◌, Option, Some, None, refl, sym, ap, ◌∙◌, inl, inr, cond, arith, length}
 use Rattle.std.specs.Prelude.{nat_lt}
 use Rattle.std.specs.Option.{option_map}
 use Rattle.std.proofs.lemmas.Bool.{cases_lt, false≢true}
@@ -39,6 +39,7 @@ signed_either top b ds n t some h = ((λ k. low b (k.0) (k.1) ∙ signed_below t
     low : (b : Bool) → b ≡ true → 0 < n → None ≡ cond (b && nat_lt 0 n) None (Some n)
     low true e k = grind (arith, nat_tests)
     low false e k = absurd (false≢true e)
+
     high : (b : Bool) → (b ≡ false) ⊎ (n ≡ 0) → Some n ≡ cond (b && nat_lt 0 n) None (Some n)
     high false k = refl
     high true (inl e) = absurd (false≢true (sym e))
@@ -71,8 +72,9 @@ not_scalar n h = grind (arith, nat_tests, h)
 -- a number above the top of its type is no character
 pub numbered_below : (n : ℕ) → numbered_character (min n 4294967295) ≡ numbered_character n
 numbered_below n = elim (cases_lt 4294967295 n) [
-    inl above ↦
+  | inl above ↦
       let top : min n 4294967295 ≡ 4294967295 = omega arith in
       let none : scalar n ≡ false = not_scalar n above in
       ap numbered_character top ∙ sym (ap (λ b. cond (b && not (is_control n)) (Some n) None) none)
-  | inr below ↦ let same : min n 4294967295 ≡ n = omega arith in ap numbered_character same ]
+  | inr below ↦ let same : min n 4294967295 ≡ n = omega arith in ap numbered_character same
+]

@@ -1,19 +1,20 @@
 -- A piece takes at least as many bytes of the file as its token or its character has.
-use Rattle.std.proofs.Common.{◌≡◌, ◌≢◌, ℕ, zero, suc, ◌+◌, ◌-◌, ◌*◌, ◌<◌, ◌≤◌, Bool, true, false, not, ◌&&◌, ◌⊎◌, List, [], ◌∷◌, ◌++◌, Option, Some, None, length, refl, sym, ap, ◌∙◌, subst, inl, inr, eqb, cond, arith, drop, length-append}
+use Rattle.std.proofs.Common.{◌≡◌, ℕ, zero, suc, ◌+◌, ◌<◌, ◌≤◌, Bool, true, false, ◌&&◌, List, [], ◌∷◌, ◌++◌, Option, Some, None, length, refl, sym, ap, ◌∙◌, subst, inl, inr, cond, arith, drop, length-append}
 use Rattle.std.proofs.lemmas.Bool.{false≢true}
-use Rattle.std.proofs.lemmas.Str.{encodes-append, length-encode, len_utf8_bounds, len_utf8_ascii}
+use Rattle.std.proofs.lemmas.Str.{encodes-append, length-encode, len_utf8_bounds}
 use Rattle.std.specs.Prelude.{codes}
-use Rattle.std.specs.Char.{len_utf8}
+use Rattle.std.specs.Char.{len_utf8, is_ascii_hexdigit, is_ascii_alphanumeric}
+use Rattle.tl_token.specs.Numbers.{number}
 use lib.Utf8.{encode, encodes}
-use Rattle.tl_token.specs.Characters.{◌∈◌, begins, run, past, byte_len}
+use Rattle.tl_token.specs.Characters.{◌∈◌, begins, past, byte_len}
 use Rattle.tl_token.specs.Elements.{Attribute, Tag, kind_of, spans_of}
-use Rattle.tl_token.specs.Grammar.{has_front, past_first, Comment, Doctype, Value, missing, quoted, unquoted, Attributes, end, gap, attribute, opening, IsTag, named_character, numbered_character, ended_run, referred, numeric_reference, reference, Piece, hidden, tag, character, Stands, comment, doctype, markup, by_reference, plain}
-use Rattle.tl_token.specs.Spelling.{Part, place_of, Leads, here, next, token, join_before, character_before, piece_before, tokens_of, token_size, size_of}
+use Rattle.tl_token.specs.Grammar.{has_front, past_first, Value, missing, quoted, unquoted, Attributes, end, gap, attribute, opening, IsTag, named_character, numbered_character, ended_run, referred, numeric_reference, reference, Piece, hidden, tag, character, Stands, comment, doctype, markup, by_reference, plain}
+use Rattle.tl_token.specs.Spelling.{Part, place_of, Leads, here, next, join_before, character_before, piece_before, tokens_of, token_size, size_of}
 use Rattle.tl_token.specs.declared.token.TokenKind.{TokenKind}
 use Rattle.tl_token.specs.declared.token.TokenKind.TheVariants.{Start, End, Text}
 use Rattle.tl_token.specs.declared.token.Token.{Token}
 use Rattle.tl_token.specs.declared.token.Element.{Element}
-use Rattle.tl_token.proofs.Tests.{chosen, cases_bool}
+use Rattle.tl_token.proofs.Tests.{chosen}
 
 pub byte_len-cons : (c : ℕ) (cs : List ℕ) → byte_len (c ∷ cs) ≡ len_utf8 c + byte_len cs
 byte_len-cons c cs = length-append (encode c) (encodes cs) ∙ ap (λ n. n + byte_len cs) (length-encode c)
@@ -36,8 +37,9 @@ drop_le (suc n) (c ∷ cs) = let h = drop_le n cs in omega (arith, h, more_bytes
 past_first_le : (mark cs rest : List ℕ) → past_first mark cs ≡ Some rest → byte_len rest ≤ byte_len cs
 past_first_le mark [] rest h = cc
 past_first_le mark (c ∷ cs) rest h = elim (chosen (λ (o : Option (List ℕ)). o ≡ Some rest) (has_front mark (c ∷ cs)) _ _ h) [
-    inl e ↦ let same : drop (length mark) (c ∷ cs) ≡ rest = cc in omega (arith, ap byte_len (sym same), drop_le (length mark) (c ∷ cs))
-  | inr e ↦ let k = past_first_le mark cs rest (e.1) in omega (arith, k, more_bytes c cs) ]
+  | inl e ↦ let same : drop (length mark) (c ∷ cs) ≡ rest = cc in omega (arith, ap byte_len (sym same), drop_le (length mark) (c ∷ cs))
+  | inr e ↦ let k = past_first_le mark cs rest (e.1) in omega (arith, k, more_bytes c cs)
+]
 
 past_le : (test : ℕ → Bool) (cs : List ℕ) → byte_len (past test cs) ≤ byte_len cs
 past_le test [] = omega arith
@@ -80,6 +82,7 @@ tag_less cs t rest k = from (t.is_end) (k.spelled)
   where
     later : byte_len rest ≤ byte_len (t.name ++ k.behind)
     later = omega (arith, attributes_le (k.behind) (t.attributes) rest (k.attributes), byte_len-append (t.name) (k.behind))
+
     from : (e : Bool) → cs ≡ opening e ++ (t.name ++ k.behind) → byte_len rest < byte_len cs
     from true e = omega (arith, ap byte_len e, more_bytes 60 (47 ∷ (t.name ++ k.behind)), more_bytes 47 (t.name ++ k.behind), later)
     from false e = omega (arith, ap byte_len e, more_bytes 60 (t.name ++ k.behind), later)
@@ -91,11 +94,12 @@ after_of (Some p) = p.1
 -- a run and its `;` have two bytes at least
 run_less : (test : ℕ → Bool) (cs text rest : List ℕ) → ended_run test cs ≡ Some (text, rest) → byte_len rest + 2 ≤ byte_len cs
 run_less test cs text rest h = elim (chosen (λ (o : Option (List ℕ × List ℕ)). o ≡ Some (text, rest)) (begins test cs && begins (λ c. c ∈ ";") (past test cs)) _ _ h) [
-    inl e ↦
+  | inl e ↦
       let (some, close) = and_cases (begins test cs) _ (e.0) in
       let same : drop 1 (past test cs) ≡ rest = ap after_of (e.1) in
       omega (arith, past_less test cs some, one_less (λ c. c ∈ ";") (past test cs) close, ap byte_len (sym same))
-  | inr e ↦ let never = e.1 in cc ]
+  | inr e ↦ let never = e.1 in cc
+]
   where
     and_cases : (a b : Bool) → (a && b) ≡ true → (a ≡ true) × (b ≡ true)
     and_cases true b h = (refl, h)
@@ -119,6 +123,7 @@ referred_from meaning (Some p) c rest h =
     after : Option (Option ℕ × List ℕ) → List ℕ
     after None = []
     after (Some q) = q.1
+
     meant : Option (Option ℕ × List ℕ) → Option ℕ
     meant None = None
     meant (Some q) = q.0
@@ -130,19 +135,22 @@ named_small name d h = grind (arith, h)
 -- a reference has more bytes than its character
 numeric_less : (cs : List ℕ) (c : Option ℕ) (rest : List ℕ) → numeric_reference cs ≡ Some (c, rest) → byte_len rest + 2 ≤ byte_len cs
 numeric_less cs c rest h = elim (chosen (λ (o : Option (Option ℕ × List ℕ)). o ≡ Some (c, rest)) (begins (λ c. c ∈ "xX") cs) _ _ h) [
-    inl e ↦
-      let (text, ended, means) = referred_from _ _ c rest (e.1) in
-      omega (arith, run_less _ (drop 1 cs) text rest ended, one_less (λ c. c ∈ "xX") cs (e.0))
+  | inl e ↦
+      let meaning : List ℕ → Option ℕ = λ digits. numbered_character (number 16 digits) in
+      let (text, ended, means) = referred_from meaning (ended_run is_ascii_hexdigit (drop 1 cs)) c rest (e.1) in
+      omega (arith, run_less is_ascii_hexdigit (drop 1 cs) text rest ended, one_less (λ c. c ∈ "xX") cs (e.0))
   | inr e ↦
       let (text, ended, means) = referred_from _ _ c rest (e.1) in
-      run_less _ cs text rest ended ]
+      run_less _ cs text rest ended
+]
 
 referred_less : (cs : List ℕ) (d : ℕ) (rest : List ℕ) → reference cs ≡ Some (Some d, rest) → len_utf8 d + byte_len rest < byte_len cs + 2
 referred_less cs d rest h = elim (chosen (λ (o : Option (Option ℕ × List ℕ)). o ≡ Some (Some d, rest)) (begins (λ c. c ∈ "#") cs) _ _ h) [
-    inl e ↦ omega (arith, numeric_less (drop 1 cs) (Some d) rest (e.1), one_less (λ c. c ∈ "#") cs (e.0), (len_utf8_bounds d).1)
+  | inl e ↦ omega (arith, numeric_less (drop 1 cs) (Some d) rest (e.1), one_less (λ c. c ∈ "#") cs (e.0), (len_utf8_bounds d).1)
   | inr e ↦
-      let (text, ended, means) = referred_from _ _ (Some d) rest (e.1) in
-      omega (arith, run_less _ cs text rest ended, named_small text d means) ]
+      let (text, ended, means) = referred_from named_character (ended_run is_ascii_alphanumeric cs) (Some d) rest (e.1) in
+      omega (arith, run_less is_ascii_alphanumeric cs text rest ended, named_small text d means)
+]
 
 kind_size : (e : Element) (t : Tag) → token_size (kind_of e t) ≡ 1
 kind_size e t = by_end (t.is_end)

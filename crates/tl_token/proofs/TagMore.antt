@@ -1,5 +1,5 @@
 -- What more text changes in how a tag is read: nothing where it ended or failed, and where it did not end, some text ends it.
-use Rattle.std.proofs.Common.{◌≡◌, ◌≢◌, ℕ, Bool, true, false, List, [], ◌∷◌, ◌++◌, refl, sym, ap, ◌∙◌, eqb, cond}
+use Rattle.std.proofs.Common.{◌≡◌, ◌≢◌, ℕ, List, [], ◌∷◌, ◌++◌, refl, ap, cond}
 use Rattle.std.proofs.lemmas.Bool.{eq-eqb}
 use Rattle.std.specs.Prelude.{codes}
 use Rattle.tl_token.specs.Elements.{Tag}
@@ -61,5 +61,5 @@ ending (after_name t n) live = ends_by (after_name t n) (codes ">") _ (λ e. cc)
 ending (before_value t n) live = ends_by (before_value t n) (codes "a>") _ (λ e. cc) refl
 ending (in_quotes t n q v) live =
     ends_by (in_quotes t n q v) (q ∷ codes ">") (with_attribute t n v) (λ e. cc)
-        (ap (λ b. read (cond b (between (with_attribute t n v)) (in_quotes t n q (v ++ q ∷ []))) (codes ">")) (eq-eqb q q refl))
+    (ap (λ b. read (cond b (between (with_attribute t n v)) (in_quotes t n q (v ++ q ∷ []))) (codes ">")) (eq-eqb q q refl))
 ending (in_value t n v) live = ends_by (in_value t n v) (codes ">") _ (λ e. cc) refl

@@ -1,21 +1,21 @@
 -- How the states read what the reader's methods pass.
-use Rattle.std.proofs.Common.{◌≡◌, ◌≢◌, ℕ, ◌+◌, ◌<◌, ◌≤◌, Bool, true, false, not, ◌||◌, ◌⊎◌, List, [], ◌∷◌, ◌++◌, length, refl, sym, ap, ◌∙◌, subst, inl, inr, eqb, cond, append_assoc, arith, if◌then◌else◌}
-use Rattle.std.proofs.lemmas.Bool.{eqb-true, eq-eqb, false≢true}
+use Rattle.std.proofs.Common.{◌≡◌, ◌≢◌, ℕ, ◌<◌, ◌≤◌, Bool, true, false, not, ◌||◌, ◌⊎◌, List, [], ◌∷◌, ◌++◌, length, refl, sym, ap, ◌∙◌, subst, inl, inr, eqb, cond, append_assoc, arith, if◌then◌else◌}
+use Rattle.std.proofs.lemmas.Bool.{eq-eqb, false≢true}
 use Rattle.std.proofs.lemmas.List.{append-nil}
 use Rattle.std.proofs.lemmas.Bool.Decides.{nat_tests}
-use Rattle.std.specs.Prelude.{IsTrue, codes, IfOk, Result, Ok, Err, MatchResult, IsErrAnd}
+use Rattle.std.specs.Prelude.{IfOk, Result, Ok, Err, IsErrAnd}
 use Rattle.std.specs.Char.{is_ascii_alphabetic, is_ascii_alphanumeric}
 use Rattle.tl_token.specs.Characters.{◌∈◌, is_space, is_name_character, is_value_character, is_gap, begins, run, past}
 use Rattle.tl_token.specs.Elements.{Attribute, Tag}
 use Rattle.tl_token.specs.Grammar.{Each}
-use Rattle.tl_token.specs.States.{State, tag_open, end_tag_open, tag_name, between, in_name, after_name, before_value, in_quotes, in_value, ended, failed, empty_tag, with_attribute, with_more, attribute, step, Outcome, reads, unended, wrong, read}
+use Rattle.tl_token.specs.States.{State, tag_open, end_tag_open, tag_name, between, in_name, after_name, before_value, in_quotes, in_value, ended, failed, empty_tag, with_attribute, with_more, attribute, unended, read}
 use Rattle.tl_token.specs.Found.{stop, Stops, ReadsValue, ReadsAttributes}
 use Rattle.tl_token.specs.declared.tag.Given.{Given}
 use Rattle.tl_token.specs.Reading.{tag_found}
 use Rattle.tl_token.specs.declared.piece.Fault.{Fault}
 use Rattle.tl_token.specs.Reader.{Eats}
-use Rattle.tl_token.proofs.Tests.{cases_bool, chosen, or_cases, or_left, or_right, or_false, not_true, is_it}
-use Rattle.tl_token.proofs.TagWhole.{took, left, in_name_run, after_name_run, before_value_run, in_quotes_run, in_value_run, tag_name_run, to_equals, gap_between, unquoted_read, value_ends, named_read, tag_name_ends, letter_no_slash, space_no_name, gap_no_name}
+use Rattle.tl_token.proofs.Tests.{cases_bool, or_right, or_false}
+use Rattle.tl_token.proofs.TagWhole.{took, left, after_name_run, before_value_run, in_quotes_run, tag_name_run, to_equals, gap_between, unquoted_read, value_ends, named_read, tag_name_ends, letter_no_slash}
 
 -- a text is its longest run and what follows it
 pub run_split : (test : ℕ → Bool) (cs : List ℕ) → cs ≡ run test cs ++ past test cs
@@ -73,7 +73,7 @@ pub quoted_ends : (t : Tag) (n old new : List ℕ) (quote : ℕ) → past (λ c.
 quoted_ends t n old new quote e =
     let v = run (λ c. not (eqb c quote)) old in
     run_read (λ c. not (eqb c quote)) (in_quotes t n quote []) (in_quotes t n quote v) old
-        (λ w ds each same. in_quotes_run t n quote [] w ds each ∙ ap (λ x. read (in_quotes t n quote x) ds) same)
+    (λ w ds each same. in_quotes_run t n quote [] w ds each ∙ ap (λ x. read (in_quotes t n quote x) ds) same)
     ∙ ap (read (in_quotes t n quote v)) e ∙ took (eqb quote quote) _ _ new (eq-eqb quote quote refl)
 
 nothing_left : (quote : ℕ) (cs : List ℕ) → begins (λ c. eqb c quote) cs ≡ false → begins (λ c. not (eqb c quote)) cs ≡ false → cs ≡ []
@@ -85,7 +85,7 @@ pub quoted_stops : (t : Tag) (n old : List ℕ) (quote : ℕ) → begins (λ c. 
 quoted_stops t n old quote h =
     let v = run (λ c. not (eqb c quote)) old in
     run_read (λ c. not (eqb c quote)) (in_quotes t n quote []) (in_quotes t n quote v) old
-        (λ w ds each same. in_quotes_run t n quote [] w ds each ∙ ap (λ x. read (in_quotes t n quote x) ds) same)
+    (λ w ds each same. in_quotes_run t n quote [] w ds each ∙ ap (λ x. read (in_quotes t n quote x) ds) same)
     ∙ ap (read (in_quotes t n quote v)) (nothing_left quote (past (λ c. not (eqb c quote)) old) h (past_ended (λ c. not (eqb c quote)) old))
 
 -- a value without quotes
@@ -93,7 +93,7 @@ value_run : (t : Tag) (n old : List ℕ) → begins is_value_character old ≡ t
     → read (before_value t n) old ≡ read (in_value t n (run is_value_character old)) (past is_value_character old)
 value_run t n old h = run_read is_value_character (before_value t n) (in_value t n (run is_value_character old)) old
     (λ w ds each same. let P : List ℕ → Type 0 = λ x. x ≢ [] in
-      unquoted_read t n w ds (subst P (sym same) (run_some is_value_character old h)) each ∙ ap (λ x. read (in_value t n x) ds) same)
+    unquoted_read t n w ds (subst P (sym same) (run_some is_value_character old h)) each ∙ ap (λ x. read (in_value t n x) ds) same)
 
 pub unquoted_ends : (t : Tag) (n old : List ℕ) → begins is_value_character old ≡ true
     → begins (λ c. is_space c || c ∈ ">") (past is_value_character old) ≡ true
@@ -121,26 +121,29 @@ pub unquoted_stops : (t : Tag) (n old : List ℕ) → begins is_space old ≡ fa
     → read (before_value t n) old ≡ stop (past is_value_character old)
 unquoted_stops t n old s q (inl v) = no_value_start t n old s q v ∙ ap stop (sym (past_nothing is_value_character old v))
 unquoted_stops t n old s q (inr k) = elim (cases_bool (begins is_value_character old)) [
-    inl v ↦ value_run t n old v ∙ no_value_end t n (run is_value_character old) (past is_value_character old) (past_ended is_value_character old) k
-  | inr v ↦ no_value_start t n old s q v ∙ ap stop (sym (past_nothing is_value_character old v)) ]
+  | inl v ↦ value_run t n old v ∙ no_value_end t n (run is_value_character old) (past is_value_character old) (past_ended is_value_character old) k
+  | inr v ↦ no_value_start t n old s q v ∙ ap stop (sym (past_nothing is_value_character old v))
+]
 
 -- behind an attribute without a value, what is neither a character of a name nor white space
 without_value : (t : Tag) (c : ℕ) (cs : List ℕ) → is_name_character c ≡ false → is_space c ≡ false
     → read (if c ∈ "/" then between t else if c ∈ ">" then ended t else failed) cs ≡ read (between t) (c ∷ cs)
 without_value t c cs k s = elim (cases_bool (c ∈ "/")) [
-    inl d ↦ took (c ∈ "/") _ _ cs d ∙ sym (gap_between t c cs (or_right (is_space c) (c ∈ "/") d))
+  | inl d ↦ took (c ∈ "/") _ _ cs d ∙ sym (gap_between t c cs (or_right (is_space c) (c ∈ "/") d))
   | inr d ↦
       let none : is_gap c ≡ false = ap (λ b. b || (c ∈ "/")) s ∙ d in
       let next : State = if c ∈ ">" then ended t else failed in
-      left (c ∈ "/") (between t) next cs d ∙ sym (left (is_name_character c) (in_name t (c ∷ [])) (if is_gap c then between t else next) cs k ∙ left (is_gap c) (between t) next cs none) ]
+      left (c ∈ "/") (between t) next cs d ∙ sym (left (is_name_character c) (in_name t (c ∷ [])) (if is_gap c then between t else next) cs k ∙ left (is_gap c) (between t) next cs none)
+]
 
 -- a name that no `=` follows
 no_equals : (t : Tag) (n cs : List ℕ) → begins is_space cs ≡ false → begins (λ c. c ∈ "=") cs ≡ false
     → read (after_name t n) cs ≡ read (between (with_attribute t n [])) cs
 no_equals t n [] s q = refl
 no_equals t n (c ∷ cs) s q = left (is_space c) _ _ cs s ∙ left (c ∈ "=") _ _ cs q ∙ elim (cases_bool (is_name_character c)) [
-    inl k ↦ took (is_name_character c) _ _ cs k ∙ sym (took (is_name_character c) _ _ cs k)
-  | inr k ↦ left (is_name_character c) _ _ cs k ∙ without_value (with_attribute t n []) c cs k s ]
+  | inl k ↦ took (is_name_character c) _ _ cs k ∙ sym (took (is_name_character c) _ _ cs k)
+  | inr k ↦ left (is_name_character c) _ _ cs k ∙ without_value (with_attribute t n []) c cs k s
+]
 
 -- the same directly behind the name
 no_equals_at_once : (t : Tag) (n cs : List ℕ) → begins is_name_character cs ≡ false → begins is_space cs ≡ false → begins (λ c. c ∈ "=") cs ≡ false
@@ -181,7 +184,7 @@ pub name_read : (t : Tag) (old : List ℕ) → begins is_name_character old ≡ 
     → read (between t) old ≡ read (in_name t (run is_name_character old)) (past is_name_character old)
 name_read t old h = run_read is_name_character (between t) (in_name t (run is_name_character old)) old
     (λ w ds each same. let P : List ℕ → Type 0 = λ x. x ≢ [] in
-      named_read t w ds (subst P (sym same) (run_some is_name_character old h)) each ∙ ap (λ x. read (in_name t x) ds) same)
+    named_read t w ds (subst P (sym same) (run_some is_name_character old h)) each ∙ ap (λ x. read (in_name t x) ds) same)
 
 -- where no attribute and no `>` is next, the tag is broken
 pub attributes_stop : (t : Tag) (cs : List ℕ) → begins is_name_character cs ≡ false → begins is_gap cs ≡ false → begins (λ c. c ∈ ">") cs ≡ false
@@ -215,7 +218,7 @@ tag_named b [] h = absurd (false≢true h)
 tag_named b (c ∷ cs) h =
     let letter = letter_alphanumeric c h in
     start b ∙ run_read is_ascii_alphanumeric (tag_name b (c ∷ [])) (tag_name b (c ∷ run is_ascii_alphanumeric cs)) cs
-        (λ w ds each same. tag_name_run b (c ∷ []) w ds each ∙ ap (λ x. read (tag_name b (c ∷ x)) ds) same)
+    (λ w ds each same. tag_name_run b (c ∷ []) w ds each ∙ ap (λ x. read (tag_name b (c ∷ x)) ds) same)
     ∙ sym (ap (λ t. read (tag_name b (cond t (c ∷ run is_ascii_alphanumeric cs) [])) (cond t (past is_ascii_alphanumeric cs) (c ∷ cs))) letter)
   where
     start : (b : Bool) → read (opened b) (c ∷ cs) ≡ read (tag_name b (c ∷ [])) cs

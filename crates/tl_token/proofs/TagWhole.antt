@@ -1,16 +1,16 @@
 -- A tag of the grammar is what the states read.
-use Rattle.std.proofs.Common.{◌≡◌, ◌≢◌, ℕ, Bool, true, false, not, ◌||◌, ◌⊎◌, List, [], ◌∷◌, ◌++◌, refl, sym, ap, ◌∙◌, subst, inl, inr, eqb, cond, append_assoc, if◌then◌else◌}
-use Rattle.std.proofs.lemmas.Bool.{eqb-true, eq-eqb, false≢true}
+use Rattle.std.proofs.Common.{◌≡◌, ◌≢◌, ℕ, Bool, true, false, not, ◌||◌, List, [], ◌∷◌, ◌++◌, refl, sym, ap, ◌∙◌, subst, inl, inr, eqb, cond, append_assoc}
+use Rattle.std.proofs.lemmas.Bool.{eq-eqb, false≢true}
 use Rattle.std.proofs.lemmas.List.{append-nil}
 use Rattle.std.proofs.Common.{arith}
 use Rattle.std.proofs.lemmas.Bool.Decides.{nat_tests}
-use Rattle.std.specs.Prelude.{IsTrue, codes}
+use Rattle.std.specs.Prelude.{codes}
 use Rattle.std.specs.Char.{is_ascii_alphabetic, is_ascii_alphanumeric}
-use Rattle.tl_token.specs.Characters.{◌∈◌, is_among, is_space, is_name_character, is_value_character, is_gap, begins}
+use Rattle.tl_token.specs.Characters.{◌∈◌, is_space, is_name_character, is_value_character, is_gap, begins}
 use Rattle.tl_token.specs.Elements.{Attribute, Tag}
 use Rattle.tl_token.specs.Grammar.{Each, Value, missing, quoted, unquoted, Attributes, end, gap, attribute, IsTagName, opening, IsTag}
-use Rattle.tl_token.specs.States.{State, tag_open, end_tag_open, tag_name, between, in_name, after_name, before_value, in_quotes, in_value, ended, failed, empty_tag, with_attribute, step, Outcome, reads, unended, wrong, read}
-use Rattle.tl_token.proofs.Tests.{chosen, or_left, or_right, or_cases, or_false, not_true, not_false, is_it, is_either, push_regroup, clash, cases_bool, excludes}
+use Rattle.tl_token.specs.States.{State, tag_open, tag_name, between, in_name, after_name, before_value, in_quotes, in_value, empty_tag, with_attribute, reads, read}
+use Rattle.tl_token.proofs.Tests.{or_left, or_cases, or_false, not_true, not_false, is_it, is_either, push_regroup, clash, excludes}
 use Rattle.tl_token.specs.States.{with_more}
 
 -- tests of one character that exclude each other
@@ -19,8 +19,9 @@ space_no_name c h = not_false (is_space c || c ∈ "/>=\"'<") (or_left (is_space
 
 pub gap_no_name : (c : ℕ) → is_gap c ≡ true → is_name_character c ≡ false
 gap_no_name c h = elim (or_cases (is_space c) (c ∈ "/") h) [
-    inl s ↦ space_no_name c s
-  | inr s ↦ let P : ℕ → Type 0 = λ d. is_name_character d ≡ false in subst P (sym (is_it c 47 (s.1))) refl ]
+  | inl s ↦ space_no_name c s
+  | inr s ↦ let P : ℕ → Type 0 = λ d. is_name_character d ≡ false in subst P (sym (is_it c 47 (s.1))) refl
+]
 
 name_no_space : (c : ℕ) → is_name_character c ≡ true → is_space c ≡ false
 name_no_space c h = (or_false (is_space c) (c ∈ "/>=\"'<") (not_true (is_space c || c ∈ "/>=\"'<") h)).0
@@ -33,8 +34,9 @@ letter_no_slash c h = excludes is_ascii_alphabetic c 47 refl h
 
 gap_no_letter : (c : ℕ) → is_gap c ≡ true → is_ascii_alphanumeric c ≡ false
 gap_no_letter c h = elim (or_cases (is_space c) (c ∈ "/") h) [
-    inl s ↦ grind (arith, nat_tests, s)
-  | inr s ↦ let P : ℕ → Type 0 = λ d. is_ascii_alphanumeric d ≡ false in subst P (sym (is_it c 47 (s.1))) refl ]
+  | inl s ↦ grind (arith, nat_tests, s)
+  | inr s ↦ let P : ℕ → Type 0 = λ d. is_ascii_alphanumeric d ≡ false in subst P (sym (is_it c 47 (s.1))) refl
+]
 
 value_no_space : (c : ℕ) → is_value_character c ≡ true → is_space c ≡ false
 value_no_space c h = (or_false (is_space c) (c ∈ "\"'=<>`") (not_true (is_space c || c ∈ "\"'=<>`") h)).0
@@ -107,10 +109,11 @@ name_then t n _ rest _ (end {c = c} {rest = cs} h) =
     let P : ℕ → Type 0 = λ d. read (after_name t n) (d ∷ cs) ≡ read (between (with_attribute t n [])) (d ∷ cs) in
     subst P (sym (is_it c 62 h)) refl
 name_then t n _ rest others (gap {c = c} {cs = cs} h later) = elim (or_cases (is_space c) (c ∈ "/") h) [
-    inl s ↦ took (is_space c) _ _ cs s ∙ name_then t n cs rest others later ∙ sym (gap_between (with_attribute t n []) c cs h)
+  | inl s ↦ took (is_space c) _ _ cs s ∙ name_then t n cs rest others later ∙ sym (gap_between (with_attribute t n []) c cs h)
   | inr s ↦
       let P : ℕ → Type 0 = λ d. read (after_name t n) (d ∷ cs) ≡ read (between (with_attribute t n [])) (d ∷ cs) in
-      subst P (sym (is_it c 47 (s.1))) refl ]
+      subst P (sym (is_it c 47 (s.1))) refl
+]
 name_then t n cs rest _ (attribute {a = a} {behind = behind} some each e value later) = named (a.name) some each e
   where
     named : (m : List ℕ) → m ≢ [] → Each is_name_character m → cs ≡ m ++ behind → read (after_name t n) cs ≡ read (between (with_attribute t n [])) cs
@@ -118,7 +121,7 @@ name_then t n cs rest _ (attribute {a = a} {behind = behind} some each e value l
     named (c ∷ m) some each e =
         let P : List ℕ → Type 0 = λ x. read (after_name t n) x ≡ read (between (with_attribute t n [])) x in
         subst P (sym e) (left (is_space c) _ _ (m ++ behind) (name_no_space c (each.0)) ∙ left (c ∈ "=") _ _ (m ++ behind) (name_no_equals c (each.0))
-            ∙ took (is_name_character c) _ _ (m ++ behind) (each.0) ∙ sym (took (is_name_character c) _ _ (m ++ behind) (each.0)))
+        ∙ took (is_name_character c) _ _ (m ++ behind) (each.0) ∙ sym (took (is_name_character c) _ _ (m ++ behind) (each.0)))
 
 -- The same behind the name itself.
 name_ends : (t : Tag) (n cs rest : List ℕ) (others : List Attribute) → begins is_name_character cs ≡ false → Attributes cs others rest
@@ -127,11 +130,12 @@ name_ends t n _ rest _ b (end {c = c} {rest = cs} h) =
     let P : ℕ → Type 0 = λ d. read (in_name t n) (d ∷ cs) ≡ read (between (with_attribute t n [])) (d ∷ cs) in
     subst P (sym (is_it c 62 h)) refl
 name_ends t n _ rest others b (gap {c = c} {cs = cs} h later) = elim (or_cases (is_space c) (c ∈ "/") h) [
-    inl s ↦ left (is_name_character c) _ _ cs (space_no_name c s) ∙ took (is_space c) _ _ cs s ∙ name_then t n cs rest others later
-        ∙ sym (gap_between (with_attribute t n []) c cs h)
+  | inl s ↦ left (is_name_character c) _ _ cs (space_no_name c s) ∙ took (is_space c) _ _ cs s ∙ name_then t n cs rest others later
+      ∙ sym (gap_between (with_attribute t n []) c cs h)
   | inr s ↦
       let P : ℕ → Type 0 = λ d. read (in_name t n) (d ∷ cs) ≡ read (between (with_attribute t n [])) (d ∷ cs) in
-      subst P (sym (is_it c 47 (s.1))) refl ]
+      subst P (sym (is_it c 47 (s.1))) refl
+]
 name_ends t n cs rest _ b (attribute {a = a} {behind = behind} some each e value later) = named (a.name) some each e
   where
     named : (m : List ℕ) → m ≢ [] → Each is_name_character m → cs ≡ m ++ behind → read (in_name t n) cs ≡ read (between (with_attribute t n [])) cs
@@ -143,9 +147,10 @@ quoted_read : (t : Tag) (n value rest : List ℕ) (quote : ℕ) → (quote ∈ "
     → read (before_value t n) (quote ∷ (value ++ (quote ∷ rest))) ≡ read (between (with_attribute t n value)) rest
 quoted_read t n value rest quote q v =
     let opens : read (before_value t n) (quote ∷ (value ++ (quote ∷ rest))) ≡ read (in_quotes t n quote []) (value ++ (quote ∷ rest)) =
-        elim (is_either quote 34 39 q) [
-            inl e ↦ let P : ℕ → Type 0 = λ d. read (before_value t n) (d ∷ (value ++ (quote ∷ rest))) ≡ read (in_quotes t n d []) (value ++ (quote ∷ rest)) in subst P (sym e) refl
-          | inr e ↦ let P : ℕ → Type 0 = λ d. read (before_value t n) (d ∷ (value ++ (quote ∷ rest))) ≡ read (in_quotes t n d []) (value ++ (quote ∷ rest)) in subst P (sym e) refl ] in
+    elim (is_either quote 34 39 q) [
+      | inl e ↦ let P : ℕ → Type 0 = λ d. read (before_value t n) (d ∷ (value ++ (quote ∷ rest))) ≡ read (in_quotes t n d []) (value ++ (quote ∷ rest)) in subst P (sym e) refl
+      | inr e ↦ let P : ℕ → Type 0 = λ d. read (before_value t n) (d ∷ (value ++ (quote ∷ rest))) ≡ read (in_quotes t n d []) (value ++ (quote ∷ rest)) in subst P (sym e) refl
+    ] in
     opens ∙ in_quotes_run t n quote [] value (quote ∷ rest) v ∙ took (eqb quote quote) _ _ rest (eq-eqb quote quote refl)
 
 pub unquoted_read : (t : Tag) (n value rest : List ℕ) → value ≢ [] → Each is_value_character value
@@ -159,11 +164,12 @@ pub value_ends : (t : Tag) (n value cs : List ℕ) → begins (λ c. is_space c 
     → read (in_value t n value) cs ≡ read (between (with_attribute t n value)) cs
 value_ends t n value [] h = absurd (false≢true h)
 value_ends t n value (c ∷ cs) h = elim (or_cases (is_space c) (c ∈ ">") h) [
-    inl s ↦ left (is_value_character c) _ _ cs (space_no_value c s) ∙ took (is_space c) _ _ cs s
-        ∙ sym (gap_between (with_attribute t n value) c cs (or_left (is_space c) (c ∈ "/") s))
+  | inl s ↦ left (is_value_character c) _ _ cs (space_no_value c s) ∙ took (is_space c) _ _ cs s
+      ∙ sym (gap_between (with_attribute t n value) c cs (or_left (is_space c) (c ∈ "/") s))
   | inr e ↦
       let P : ℕ → Type 0 = λ d. read (in_value t n value) (d ∷ cs) ≡ read (between (with_attribute t n value)) (d ∷ cs) in
-      subst P (sym (is_it c 62 (e.1))) refl ]
+      subst P (sym (is_it c 62 (e.1))) refl
+]
 
 -- a name that is read whole
 pub named_read : (t : Tag) (n cs : List ℕ) → n ≢ [] → Each is_name_character n → read (between t) (n ++ cs) ≡ read (in_name t n) cs
@@ -198,10 +204,11 @@ attributes_read t cs rest _ (attribute {a = a} {others = others} {behind = behin
 pub tag_name_ends : (e : Bool) (n cs : List ℕ) → begins (λ c. is_gap c || c ∈ ">") cs ≡ true → read (tag_name e n) cs ≡ read (between (empty_tag e n)) cs
 tag_name_ends e n [] h = absurd (false≢true h)
 tag_name_ends e n (c ∷ cs) h = elim (or_cases (is_gap c) (c ∈ ">") h) [
-    inl g ↦ left (is_ascii_alphanumeric c) _ _ cs (gap_no_letter c g) ∙ took (is_gap c) _ _ cs g ∙ sym (gap_between (empty_tag e n) c cs g)
+  | inl g ↦ left (is_ascii_alphanumeric c) _ _ cs (gap_no_letter c g) ∙ took (is_gap c) _ _ cs g ∙ sym (gap_between (empty_tag e n) c cs g)
   | inr g ↦
       let P : ℕ → Type 0 = λ d. read (tag_name e n) (d ∷ cs) ≡ read (between (empty_tag e n)) (d ∷ cs) in
-      subst P (sym (is_it c 62 (g.1))) refl ]
+      subst P (sym (is_it c 62 (g.1))) refl
+]
 
 -- a tag from its name on
 from_name : (e : Bool) (c : ℕ) (n behind rest : List ℕ) (others : List Attribute) → Each is_ascii_alphanumeric n

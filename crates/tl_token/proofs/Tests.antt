@@ -1,8 +1,6 @@
 -- What tests of characters say of one another.
-use Rattle.std.proofs.Common.{◌≡◌, ◌≢◌, ℕ, Bool, true, false, not, ◌||◌, ◌&&◌, ◌⊎◌, List, [], ◌∷◌, ◌++◌, refl, sym, ap, ◌∙◌, subst, inl, inr, eqb, cond, append_assoc}
-use Rattle.std.proofs.lemmas.Bool.{eqb-true, eq-eqb, false≢true}
-use Rattle.std.specs.List.{AllByRecursion}
-use Rattle.std.specs.Prelude.{IsTrue}
+use Rattle.std.proofs.Common.{◌≡◌, ◌≢◌, ℕ, Bool, true, false, not, ◌||◌, ◌⊎◌, List, [], ◌∷◌, ◌++◌, refl, sym, ◌∙◌, subst, inl, inr, eqb, cond, append_assoc}
+use Rattle.std.proofs.lemmas.Bool.{eqb-true, false≢true}
 use Rattle.tl_token.specs.Characters.{is_among, begins}
 use Rattle.tl_token.specs.Reader.{Eats}
 use Rattle.tl_token.specs.Grammar.{Each}
@@ -65,8 +63,9 @@ cases_bool false = inr refl
 -- a character of a class is none that is not of it
 pub excludes : (test : ℕ → Bool) (c d : ℕ) → test d ≡ false → test c ≡ true → is_among c (d ∷ []) ≡ false
 excludes test c d not_d is_c = elim (cases_bool (is_among c (d ∷ []))) [
-    inl e ↦ let P : ℕ → Type 0 = λ x. test x ≡ true in absurd (clash (test d) (subst P (is_it c d e) is_c) not_d)
-  | inr e ↦ e ]
+  | inl e ↦ let P : ℕ → Type 0 = λ x. test x ≡ true in absurd (clash (test d) (subst P (is_it c d e) is_c) not_d)
+  | inr e ↦ e
+]
 
 -- whether a character was passed
 pub eats_true : (c : ℕ) (b : Bool) (old new : List ℕ) → b ≡ true → Eats c b old new → old ≡ c ∷ new

@@ -1,13 +1,12 @@
 -- A name compared with a word of small letters, as bytes and as characters.
-use Rattle.std.proofs.Common.{◌≡◌, ℕ, zero, suc, ◌+◌, ◌<◌, ◌≤◌, Bool, true, false, ◌||◌, ◌&&◌, ◌⊎◌, List, [], ◌∷◌, refl, sym, ap, ◌∙◌, subst, inl, inr, eqb, map, arith, get_or, cond}
-use Rattle.std.proofs.lemmas.Bool.{eqb-true, false≢true}
+use Rattle.std.proofs.Common.{◌≡◌, ℕ, zero, suc, ◌<◌, ◌≤◌, Bool, true, false, ◌||◌, ◌&&◌, List, [], ◌∷◌, refl, sym, ap, ◌∙◌, subst, inl, inr, map, arith}
+use Rattle.std.proofs.lemmas.Bool.{false≢true}
 use Rattle.std.proofs.lemmas.Bool.Decides.{nat_tests}
 use Rattle.std.proofs.lemmas.Str.{chars-IsAscii, encodes-IsAscii, encodes-chars}
 use Rattle.std.specs.Prelude.{IsTrue, nat_eq, ◌↔◌}
 use Rattle.std.specs.Str.{chars, IsUtf8, IsAscii}
 use Rattle.std.specs.Char.{to_ascii_lowercase, is_ascii_lowercase}
 use lib.Pointwise.{pointwise, bytes_decides}
-use lib.Utf8.{encodes}
 use Rattle.tl_token.specs.Characters.{◌∈◌}
 use Rattle.tl_token.specs.Elements.{is_word, is_small}
 use Rattle.tl_token.proofs.Tests.{or_cases, is_it}
@@ -26,8 +25,9 @@ small_letter c h = (grind (arith, nat_tests, h), grind (arith, nat_tests, h))
 
 small_is : (c : ℕ) → (is_ascii_lowercase c || c ∈ "-") ≡ true → (c < 128) × (to_ascii_lowercase c ≡ c)
 small_is c h = elim (or_cases (is_ascii_lowercase c) (c ∈ "-") h) [
-    inl s ↦ small_letter c s
-  | inr d ↦ let P : ℕ → Type 0 = λ x. (x < 128) × (to_ascii_lowercase x ≡ x) in subst P (sym (is_it c 45 (d.1))) (omega arith, refl) ]
+  | inl s ↦ small_letter c s
+  | inr d ↦ let P : ℕ → Type 0 = λ x. (x < 128) × (to_ascii_lowercase x ≡ x) in subst P (sym (is_it c 45 (d.1))) (omega arith, refl)
+]
 
 both_true : (a b : Bool) → (a && b) ≡ true → (a ≡ true) × (b ≡ true)
 both_true true b h = (refl, h)
@@ -80,11 +80,11 @@ is_word_from bs w b u h same = same_bool b (is_word (chars bs) w)
 pub is_exactly_from : (bs w : List ℕ) → IsUtf8 bs → is_small w ≡ true → pointwise nat_eq bs w ≡ pointwise nat_eq (chars bs) w
 is_exactly_from bs w u h = same_bool (pointwise nat_eq bs w) (pointwise nat_eq (chars bs) w)
     (λ t.
-      let e = (bytes_decides bs w).0 t in
-      let P : List ℕ → Type 0 = λ x. IsAscii x in
-      (bytes_decides (chars bs) w).1 (chars-IsAscii bs (subst P (sym e) (ascii_small w h)) ∙ e))
+    let e = (bytes_decides bs w).0 t in
+    let P : List ℕ → Type 0 = λ x. IsAscii x in
+    (bytes_decides (chars bs) w).1 (chars-IsAscii bs (subst P (sym e) (ascii_small w h)) ∙ e))
     (λ t.
-      let e = (bytes_decides (chars bs) w).0 t in
-      let P : List ℕ → Type 0 = λ x. IsAscii x in
-      let same : chars bs ≡ bs = sym (encodes-IsAscii (chars bs) (subst P (sym e) (ascii_small w h))) ∙ encodes-chars bs u in
-      (bytes_decides bs w).1 (sym same ∙ e))
+    let e = (bytes_decides (chars bs) w).0 t in
+    let P : List ℕ → Type 0 = λ x. IsAscii x in
+    let same : chars bs ≡ bs = sym (encodes-IsAscii (chars bs) (subst P (sym e) (ascii_small w h))) ∙ encodes-chars bs u in
+    (bytes_decides bs w).1 (sym same ∙ e))

@@ -1,7 +1,7 @@
 -- Classes of characters. White space, letters and digits are those of ASCII, as in the HTML Standard
 -- (section 2.3 of the Infra Standard); the characters of names and values are a profile of its section 13.1.2.
-use Rattle.std.specs.Prelude.{ℕ, Bool, true, false, ◌||◌, ◌&&◌, not, ◌==◌, nat_lt, nat_le, List, [], ◌∷◌, Option, Some, None, length, if◌then◌else◌, codes, encode_utf8_all}
-use Rattle.std.specs.Char.{is_ascii_whitespace, is_ascii_alphabetic, is_ascii_alphanumeric}
+use Rattle.std.specs.Prelude.{ℕ, Bool, false, ◌||◌, ◌&&◌, not, ◌==◌, nat_lt, nat_le, List, [], ◌∷◌, Option, Some, None, length, if◌then◌else◌, codes, encode_utf8_all}
+use Rattle.std.specs.Char.{is_ascii_whitespace, is_ascii_alphabetic}
 use Prim.Native.String.{String}
 
 abbrev pub is_among : ℕ → List ℕ → Bool

@@ -1,5 +1,5 @@
 -- The elements by their names, and the numbers that their start tags give.
-use Rattle.std.specs.Prelude.{ℕ, Bool, true, false, ◌||◌, List, [], ◌∷◌, Option, Some, None, option_and_then, map, if◌then◌else◌, codes}
+use Rattle.std.specs.Prelude.{ℕ, Bool, ◌||◌, List, [], ◌∷◌, Option, Some, None, option_and_then, map, if◌then◌else◌, codes}
 use Rattle.std.specs.Char.{to_ascii_lowercase, is_ascii_lowercase}
 use Rattle.std.specs.List.{list_all}
 use Rattle.tl_token.specs.Characters.{◌∈◌}

@@ -1,11 +1,11 @@
 -- What the reader's methods answer, in the words of the grammar.
-use Rattle.std.specs.Prelude.{◌≡◌, ℕ, min, List, [], ◌∷◌, ◌++◌, Option, Some, None, Result, Ok, Err, MatchResult, if◌then◌else◌, codes}
+use Rattle.std.specs.Prelude.{◌≡◌, ℕ, min, List, [], ◌∷◌, Option, Some, None, Result, Ok, Err, MatchResult, if◌then◌else◌, codes}
 use Rattle.std.specs.Option.{option_map}
 use Rattle.tl_token.specs.Numbers.{number_of}
 use Rattle.tl_token.specs.Elements.{Attribute, Tag, is_word, value_of}
 use Rattle.tl_token.specs.Grammar.{hidden, tag, character, unended_tag, unended_comment, bad_tag, unknown_element, bad_reference, bad_character}
 use Rattle.tl_token.specs.Grammar as grammar
-use Rattle.tl_token.specs.States.{Outcome, State, reads, unended, wrong, read, between, in_name, with_attribute, with_more}
+use Rattle.tl_token.specs.States.{Outcome, State, reads, unended, wrong, read, between, with_attribute, with_more}
 use Rattle.tl_token.specs.Reading.{Found, stands, faulty, tag_found}
 use Rattle.tl_token.specs.declared.piece.Piece.{Piece}
 use Rattle.tl_token.specs.declared.piece.Piece.TheVariants.{Hidden, Start, End, Character}

@@ -8,3 +8,4 @@ pub mod Reading
 pub mod Reader
 pub mod Found
 pub mod Output
+pub mod Answer

@@ -1,6 +1,6 @@
 -- The numbers of attributes, by the HTML Standard's rules for parsing non-negative integers (section 2.3.4.2):
 -- white space, one `+` or `-` or none, one or more digits, and then anything.
-use Rattle.std.specs.Prelude.{ℕ, ◌+◌, ◌*◌, min, max, Bool, ◌&&◌, ◌==◌, nat_lt, List, [], ◌∷◌, length, drop, Option, Some, None, if◌then◌else◌}
+use Rattle.std.specs.Prelude.{ℕ, ◌+◌, ◌*◌, min, max, Bool, ◌&&◌, nat_lt, List, [], ◌∷◌, drop, Option, Some, None, if◌then◌else◌}
 use Rattle.std.specs.List.{fold}
 use Rattle.std.specs.Char.{is_ascii_digit, digit_value}
 use Rattle.tl_token.specs.Characters.{◌∈◌, is_space, begins, run, past}

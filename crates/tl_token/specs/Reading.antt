@@ -1,5 +1,5 @@
 -- What the reader finds at a place. It decides which piece or which fault of the grammar stands there.
-use Rattle.std.specs.Prelude.{ℕ, Bool, true, false, ◌||◌, ◌==◌, List, [], ◌∷◌, Option, Some, None, if◌then◌else◌, codes}
+use Rattle.std.specs.Prelude.{ℕ, ◌==◌, List, [], ◌∷◌, Option, Some, None, if◌then◌else◌, codes}
 use Rattle.std.specs.Char.{to_ascii_lowercase}
 use Rattle.tl_token.specs.Characters.{◌∈◌, is_control, opens_markup}
 use Rattle.tl_token.specs.Elements.{Tag, element_of, kind_of}

@@ -1,5 +1,5 @@
 -- How the bytes of a file spell tokens, and where the first fault stands. Places count bytes of the file from 0.
-use Rattle.std.specs.Prelude.{◌≡◌, ℕ, ◌+◌, ◌-◌, List, [], ◌∷◌, ◌++◌, length, ◌==◌, if◌then◌else◌, IsUtf8, chars}
+use Rattle.std.specs.Prelude.{◌≡◌, ℕ, ◌+◌, ◌-◌, List, [], ◌∷◌, length, ◌==◌, if◌then◌else◌, IsUtf8, chars}
 use Rattle.std.specs.Str.Lossy.{utf8_valid_len}
 use Rattle.tl_token.specs.Characters.{byte_len}
 use Rattle.tl_token.specs.Grammar.{Piece, hidden, tag, character, Stands, Fault, unended_tag, unended_comment, bad_tag, unknown_element, bad_reference, bad_character, FaultStands}

@@ -1,6 +1,6 @@
 -- How a tag is read, a character at a time: states as those of the HTML Standard's tokenizer (section 13.2.5), with what
 -- the tag has so far. It decides what the grammar of tags says of a text, also of one that ends too early.
-use Rattle.std.specs.Prelude.{◌≡◌, ℕ, Bool, true, false, ◌||◌, ◌==◌, List, [], ◌∷◌, ◌++◌, if◌then◌else◌}
+use Rattle.std.specs.Prelude.{ℕ, Bool, true, false, ◌==◌, List, [], ◌∷◌, ◌++◌, if◌then◌else◌}
 use Rattle.std.specs.Char.{is_ascii_alphabetic, is_ascii_alphanumeric}
 use Rattle.tl_token.specs.Characters.{◌∈◌, is_space, is_name_character, is_value_character, is_gap}
 use Rattle.tl_token.specs.Elements.{Attribute, Tag}

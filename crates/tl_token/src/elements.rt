@@ -1,7 +1,6 @@
 //! The elements that a table file may have, by their names, and the numbers of their start tags.
 
 ghost use Rattle.std.specs.Prelude.{◌≡◌, IsTrue, chars, nat_eq};
-
 ghost use lib.Pointwise.{pointwise};
 ghost use Rattle.tl_token.specs.Elements.{is_word, is_small, is_inline, is_outer, element_of};
 

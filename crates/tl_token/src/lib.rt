@@ -4,6 +4,7 @@
 #![tactic(auto)]
 
 mod elements;
+mod file;
 mod markup;
 mod number;
 mod output;
@@ -13,4 +14,5 @@ mod reference;
 mod tag;
 mod token;
 
+pub use file::tokens;
 pub use token::{Element, Spans, Token, TokenError, TokenKind};

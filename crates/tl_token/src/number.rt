@@ -24,7 +24,9 @@ pub(crate) fn number(base: u32, digits: &str) -> u32
     let mut number: u32 = 0;
     let mut digits = Reader::new(digits);
     while let Some(digit) = digits.next() {
-        number = number.saturating_mul(base).saturating_add(digit_value(digit));
+        number = number
+            .saturating_mul(base)
+            .saturating_add(digit_value(digit));
     }
     number
 }

@@ -1,4 +1,4 @@
-use Rattle.std.proofs.Common.{◌≡◌, ℕ, sym, ap, ◌∙◌, lit<, length, inl, inr, arith, min}
+use Rattle.std.proofs.Common.{sym, ap, ◌∙◌, lit<, length, inl, inr, arith, min}
 use Rattle.std.proofs.lemmas.Bool.{eqb-true, eq-eqb, false≢true}
 use Rattle.std.specs.Str.{chars}
 use Rattle.std.specs.Option.{option_map}

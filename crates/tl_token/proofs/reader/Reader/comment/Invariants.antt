@@ -1,4 +1,4 @@
-use Rattle.std.proofs.Common.{◌≡◌, ℕ, false, not, eqb, length}
+use Rattle.std.proofs.Common.{◌≡◌, false, not, eqb, length}
 use Rattle.std.specs.Prelude.{codes}
 use Rattle.tl_token.specs.Characters.{begins}
 use Rattle.tl_token.specs.Grammar.{past_first}

@@ -6,4 +6,4 @@ pub returns : goal.returns
 returns c =
     let text = c.args.self.now.rest.now in
     next_found text c.as_str-self.result.now c.chars-chars.result c.next-next.new.self (IsUtf8-had text c.args.self.now.text)
-        c.chars-chars.ensures.rest c.as_str-self.ensures c.next-next.result c.next-next.ensures.steps.0
+    c.chars-chars.ensures.rest c.as_str-self.ensures c.next-next.result c.next-next.ensures.steps.0

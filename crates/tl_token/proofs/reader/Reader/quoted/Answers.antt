@@ -1,5 +1,5 @@
-use Rattle.std.proofs.Common.{◌≡◌, ◌≤◌, ℕ, List, ◌∷◌, not, eqb, sym, ap, ◌∙◌, arith, length}
-use Rattle.tl_token.specs.Characters.{past, begins}
+use Rattle.std.proofs.Common.{not, eqb, sym, ap, ◌∙◌, arith, length}
+use Rattle.tl_token.specs.Characters.{begins}
 use Rattle.tl_token.specs.States.{between, with_attribute, read}
 use Rattle.tl_token.specs.Reading.{tag_found}
 use Rattle.tl_token.specs.Reader.{unread}

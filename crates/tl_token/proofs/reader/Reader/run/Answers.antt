@@ -1,10 +1,10 @@
-use Rattle.std.proofs.Common.{◌≡◌, ◌++◌, ◌≤◌, ◌∙◌, sym, List, ℕ, length, arith, length-append, ap, take, ◌-◌}
+use Rattle.std.proofs.Common.{◌≡◌, ◌++◌, ◌∙◌, sym, length, arith, length-append, ap, take, ◌-◌}
 use Rattle.std.proofs.lemmas.Grind.{common_steps}
-use Rattle.std.specs.Str.{chars, IsUtf8}
+use Rattle.std.specs.Str.{chars}
 use Rattle.std.proofs.lemmas.Str.{IsUtf8-had}
 use lib.Utf8.{encodes}
 use Rattle.tl_token.specs.Reader.{is_in}
-use Rattle.tl_token.proofs.ReaderLemmas.{Passed, Passed-more, Passed-run, next_passed, bytes_passed, boundary_passed, chars_passed}
+use Rattle.tl_token.proofs.ReaderLemmas.{Passed-more, Passed-run, next_passed, bytes_passed, boundary_passed, chars_passed}
 use Rattle.tl_token.proofs.reader.Reader.run.Goals as goal
 
 pub loop-class-preserved : goal.loop-class-preserved
@@ -38,4 +38,4 @@ returns-clause-run c =
     let e : text ≡ encodes front ++ rest = bytes_passed text rest front u (IsUtf8-had rest c.loop-class.self.text) passed.whole_is in
     let cut : c.range.result.now ≡ take (length text - length rest) text = grind (arith, common_steps, c.range.ensures.value) in
     ap chars cut ∙ chars_passed text rest front u e passed.whole_is
-        ∙ sym (Passed-run _ _ front _ passed (sym c.is_at.ensures ∙ c.loop-class-test.false))
+    ∙ sym (Passed-run _ _ front _ passed (sym c.is_at.ensures ∙ c.loop-class-test.false))

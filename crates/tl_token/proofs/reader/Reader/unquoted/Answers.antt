@@ -1,6 +1,6 @@
-use Rattle.std.proofs.Common.{◌≡◌, ℕ, false, ◌⊎◌, ◌||◌, sym, ap, ◌∙◌, arith, inl, inr, length}
+use Rattle.std.proofs.Common.{◌≡◌, false, ◌⊎◌, ◌||◌, sym, ap, ◌∙◌, arith, inl, inr, length}
 use Rattle.tl_token.specs.Characters.{◌∈◌, past, begins, is_space, is_value_character}
-use Rattle.tl_token.specs.States.{between, with_attribute, read, before_value}
+use Rattle.tl_token.specs.States.{between, with_attribute, read}
 use Rattle.tl_token.specs.Reading.{tag_found}
 use Rattle.tl_token.specs.Found.{stop}
 use Rattle.tl_token.specs.Reader.{unread}
@@ -12,7 +12,7 @@ pub returns-then-is_at-clause-value : goal.returns-then-is_at-clause-value
 returns-then-is_at-clause-value c = λ t n.
     let old = unread c.args.self.now in
     unquoted_ends t n old (sym c.is_at-is_value.ensures ∙ c.if-is_value.true)
-        (ap (begins (λ d. is_space d || d ∈ ">")) (sym c.run-value.ensures.past) ∙ sym c.is_at.ensures ∙ c.if-is_at.true)
+    (ap (begins (λ d. is_space d || d ∈ ">")) (sym c.run-value.ensures.past) ∙ sym c.is_at.ensures ∙ c.if-is_at.true)
     ∙ ap (read (between (with_attribute t n (Rattle.tl_token.specs.Characters.run is_value_character old)))) (sym c.run-value.ensures.past)
     ∙ ap (λ v. read (between (with_attribute t n v)) (unread c.run-value.new.self)) (sym c.run-value.ensures.run)
 
@@ -24,7 +24,8 @@ returns-else-is_value-clause-value c = λ t n.
     let old = unread c.args.self.now in
     let behind = past is_value_character old in
     let which : (begins is_value_character old ≡ false) ⊎ (begins (λ d. is_space d || d ∈ ">") behind ≡ false) = elim c.else-is_value.branch [
-        else-is_value-via-then-is_value+else-is_at w ↦ inr (ap (begins (λ d. is_space d || d ∈ ">")) (sym c.run-value.ensures.past) ∙ sym w.is_at.ensures ∙ w.if-is_at.false)
-      | else-is_value-via-else-is_value w ↦ inl (sym c.is_at-is_value.ensures ∙ w.if-is_value.false) ] in
+      | else-is_value-via-then-is_value+else-is_at w ↦ inr (ap (begins (λ d. is_space d || d ∈ ">")) (sym c.run-value.ensures.past) ∙ sym w.is_at.ensures ∙ w.if-is_at.false)
+      | else-is_value-via-else-is_value w ↦ inl (sym c.is_at-is_value.ensures ∙ w.if-is_value.false)
+    ] in
     ap tag_found (unquoted_stops t n old c.requires.space c.requires.quote which) ∙ ap (λ x. tag_found (stop x)) (sym c.run-value.ensures.past)
     ∙ c.tag_fault.ensures

@@ -1,4 +1,4 @@
-use Rattle.std.proofs.Common.{◌≡◌, ℕ, ap, ◌∙◌, None, unwrap_or}
+use Rattle.std.proofs.Common.{ap, ◌∙◌, None, unwrap_or}
 use Rattle.std.specs.Prelude.{codes}
 use Rattle.tl_token.specs.Numbers.{columns_of, rows_of, floor_of}
 use Rattle.tl_token.specs.declared.tag.Given.{Given}
