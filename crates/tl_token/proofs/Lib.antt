@@ -1,5 +1,5 @@
 pub mod ReaderLemmas
-pub mod Tests
+pub mod CharacterTests
 pub mod TagSound
 pub mod TagWhole
 pub mod TagMore

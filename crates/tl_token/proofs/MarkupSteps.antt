@@ -9,7 +9,7 @@ use Rattle.tl_token.specs.Grammar.{unended_tag, bad_tag}
 use Rattle.std.proofs.Math.Seq.{drop-length}
 use Rattle.tl_token.specs.Characters.{first, begins, run, past}
 use Rattle.tl_token.specs.Grammar.{Each, has_front, past_first}
-use Rattle.tl_token.proofs.Tests.{not_true}
+use Rattle.tl_token.proofs.CharacterTests.{not_true}
 use Rattle.tl_token.proofs.TagSteps.{run_split, run_each, past_ended}
 
 -- characters that are no `>`, before the first `>`

@@ -10,7 +10,7 @@ use Rattle.tl_token.specs.Grammar.{past_first, Doctype, opening, IsTagName, IsTa
 use Rattle.tl_token.specs.States.{tag_open, Outcome, reads, unended, wrong, read}
 use Rattle.tl_token.specs.Reading.{Found, stands, faulty, closed_or, in_comment, comment_open, doctype_word, declaration, known_or_not, tag_found, angle, referred_or, standing}
 use Rattle.tl_token.specs.declared.token.Element.{Element}
-use Rattle.tl_token.proofs.Tests.{clash, is_it, or_left}
+use Rattle.tl_token.proofs.CharacterTests.{clash, is_it, or_left}
 use Rattle.tl_token.proofs.TagSound.{tag_sound}
 use Rattle.tl_token.proofs.TagWhole.{tag_whole}
 use Rattle.tl_token.proofs.TagMore.{further, Further, ending}

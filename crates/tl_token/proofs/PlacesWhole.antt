@@ -9,7 +9,7 @@ use Rattle.tl_token.specs.Grammar.{Doctype, opening, IsTag, Piece, hidden, tag, 
 use Rattle.tl_token.specs.States.{tag_open, Outcome, reads, unended, wrong, read}
 use Rattle.tl_token.specs.Reading.{Found, stands, faulty, closed_or, declaration, known_or_not, tag_found, angle, referred_or, standing}
 use Rattle.tl_token.specs.declared.token.TokenKind.{TokenKind}
-use Rattle.tl_token.proofs.Tests.{cases_bool, clash, is_it, or_cases, or_false, or_left, not_true, excludes}
+use Rattle.tl_token.proofs.CharacterTests.{cases_bool, clash, is_it, or_cases, or_false, or_left, not_true, excludes}
 use Rattle.tl_token.proofs.TagWhole.{tag_whole}
 use Rattle.tl_token.proofs.TagMore.{further, Further}
 use Rattle.tl_token.proofs.Doctypes.{Worded, word_whole, word_unended}

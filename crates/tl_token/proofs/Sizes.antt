@@ -14,7 +14,7 @@ use Rattle.tl_token.specs.declared.token.TokenKind.{TokenKind}
 use Rattle.tl_token.specs.declared.token.TokenKind.TheVariants.{Start, End, Text}
 use Rattle.tl_token.specs.declared.token.Token.{Token}
 use Rattle.tl_token.specs.declared.token.Element.{Element}
-use Rattle.tl_token.proofs.Tests.{chosen}
+use Rattle.tl_token.proofs.CharacterTests.{chosen}
 
 pub byte_len-cons : (c : ℕ) (cs : List ℕ) → byte_len (c ∷ cs) ≡ len_utf8 c + byte_len cs
 byte_len-cons c cs = length-append (encode c) (encodes cs) ∙ ap (λ n. n + byte_len cs) (length-encode c)

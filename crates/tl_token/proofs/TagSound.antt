@@ -9,7 +9,7 @@ use Rattle.tl_token.specs.Elements.{Attribute, Tag}
 use Rattle.tl_token.specs.Grammar.{Each, Value, missing, quoted, unquoted, Attributes, end, gap, attribute, IsTagName, opening, IsTag}
 use Rattle.tl_token.specs.States.{State, tag_open, end_tag_open, tag_name, between, in_name, after_name, before_value, in_quotes, in_value, ended, failed, empty_tag, with_attribute, step, reads, read}
 use Rattle.tl_token.specs.States.{with_more}
-use Rattle.tl_token.proofs.Tests.{chosen, or_left, or_right, not_true, is_it, is_either, Each-push, push≢nil, push_regroup, clash}
+use Rattle.tl_token.proofs.CharacterTests.{chosen, or_left, or_right, not_true, is_it, is_either, Each-push, push≢nil, push_regroup, clash}
 
 -- behind the tag t, cs goes on to the whole tag, from which the rest follows
 pub record Continues (t : Tag) (cs : List ℕ) (whole : Tag) (rest : List ℕ) : Type 0 where
@@ -73,7 +73,7 @@ continues_end t whole c cs rest e k =
     })
 
 space_no_name : (c : ℕ) → is_space c ≡ true → is_name_character c ≡ false
-space_no_name c h = Rattle.tl_token.proofs.Tests.not_false (is_space c || c ∈ "/>=\"'<") (or_left (is_space c) (c ∈ "/>=\"'<") h)
+space_no_name c h = Rattle.tl_token.proofs.CharacterTests.not_false (is_space c || c ∈ "/>=\"'<") (or_left (is_space c) (c ∈ "/>=\"'<") h)
 
 -- a value is missing where white space, `/` or `>` is next
 no_value : (c : ℕ) (cs : List ℕ) → is_name_character c ≡ false → Value (c ∷ cs) [] (c ∷ cs)

@@ -14,7 +14,7 @@ use Rattle.tl_token.specs.declared.tag.Given.{Given}
 use Rattle.tl_token.specs.Reading.{tag_found}
 use Rattle.tl_token.specs.declared.piece.Fault.{Fault}
 use Rattle.tl_token.specs.Reader.{Eats}
-use Rattle.tl_token.proofs.Tests.{cases_bool, or_right, or_false}
+use Rattle.tl_token.proofs.CharacterTests.{cases_bool, or_right, or_false}
 use Rattle.tl_token.proofs.TagWhole.{took, left, after_name_run, before_value_run, in_quotes_run, tag_name_run, to_equals, gap_between, unquoted_read, value_ends, named_read, tag_name_ends, letter_no_slash}
 
 -- a text is its longest run and what follows it

@@ -10,7 +10,7 @@ use Rattle.tl_token.specs.Characters.{◌∈◌, is_space, is_name_character, is
 use Rattle.tl_token.specs.Elements.{Attribute, Tag}
 use Rattle.tl_token.specs.Grammar.{Each, Value, missing, quoted, unquoted, Attributes, end, gap, attribute, IsTagName, opening, IsTag}
 use Rattle.tl_token.specs.States.{State, tag_open, tag_name, between, in_name, after_name, before_value, in_quotes, in_value, empty_tag, with_attribute, reads, read}
-use Rattle.tl_token.proofs.Tests.{or_left, or_cases, or_false, not_true, not_false, is_it, is_either, push_regroup, clash, excludes}
+use Rattle.tl_token.proofs.CharacterTests.{or_left, or_cases, or_false, not_true, not_false, is_it, is_either, push_regroup, clash, excludes}
 use Rattle.tl_token.specs.States.{with_more}
 
 -- tests of one character that exclude each other

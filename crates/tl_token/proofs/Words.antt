@@ -9,7 +9,7 @@ use Rattle.std.specs.Char.{to_ascii_lowercase, is_ascii_lowercase}
 use lib.Pointwise.{pointwise, bytes_decides}
 use Rattle.tl_token.specs.Characters.{◌∈◌}
 use Rattle.tl_token.specs.Elements.{is_word, is_small}
-use Rattle.tl_token.proofs.Tests.{or_cases, is_it}
+use Rattle.tl_token.proofs.CharacterTests.{or_cases, is_it}
 
 -- two tests that say the same are equal
 pub same_bool : (a b : Bool) → (a ≡ true → b ≡ true) → (b ≡ true → a ≡ true) → a ≡ b

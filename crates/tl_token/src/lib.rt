@@ -16,3 +16,6 @@ mod token;
 
 pub use file::tokens;
 pub use token::{Element, Spans, Token, TokenError, TokenKind};
+
+#[cfg(test)]
+mod tests;

@@ -5,7 +5,7 @@ use Rattle.tl_token.specs.Grammar.{past_first, unended_comment}
 use Rattle.tl_token.specs.Reading.{closed_or}
 use Rattle.tl_token.specs.Reader.{unread}
 use Rattle.tl_token.specs.declared.reader.Reader.{Reader}
-use Rattle.tl_token.proofs.Tests.{eats_true, eats_false}
+use Rattle.tl_token.proofs.CharacterTests.{eats_true, eats_false}
 use Rattle.tl_token.proofs.TagSteps.{past_le}
 use Rattle.tl_token.proofs.MarkupSteps.{to_dash, one_dash, dashes_close, dashes_open}
 use Rattle.tl_token.proofs.reader.Reader.comment.Goals as goal

@@ -3,7 +3,7 @@ use Rattle.tl_token.specs.Characters.{begins}
 use Rattle.tl_token.specs.States.{between, with_attribute, read}
 use Rattle.tl_token.specs.Reading.{tag_found}
 use Rattle.tl_token.specs.Reader.{unread}
-use Rattle.tl_token.proofs.Tests.{eats_true, eats_false}
+use Rattle.tl_token.proofs.CharacterTests.{eats_true, eats_false}
 use Rattle.tl_token.proofs.TagSteps.{quoted_ends, quoted_stops, past_le}
 use Rattle.tl_token.proofs.reader.Reader.quoted.Goals as goal
 

@@ -4,7 +4,7 @@ use Rattle.std.proofs.lemmas.Str.{chars-nil}
 use Rattle.tl_token.specs.Characters.{is_space, begins}
 use Rattle.tl_token.specs.States.{read, before_value, in_name, between, with_attribute}
 use Rattle.tl_token.specs.Reader.{unread}
-use Rattle.tl_token.proofs.Tests.{eats_true, eats_false}
+use Rattle.tl_token.proofs.CharacterTests.{eats_true, eats_false}
 use Rattle.tl_token.proofs.TagSteps.{reads_from, no_longer_than, name_equals, name_alone, past_le}
 use Rattle.tl_token.proofs.reader.Reader.value.Goals as goal
 
