@@ -15,3 +15,4 @@ pub mod Texts
 pub mod Sizes
 pub mod Endings
 pub mod Answered
+pub mod Examples
