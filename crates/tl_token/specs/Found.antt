@@ -1,5 +1,5 @@
 -- What the reader's methods answer, in the words of the grammar.
-use Rattle.std.specs.Prelude.{◌≡◌, ℕ, min, List, [], ◌∷◌, Option, Some, None, Result, Ok, Err, MatchResult, if◌then◌else◌, codes}
+use Rattle.std.specs.Prelude.{◌≡◌, ℕ, min, List, [], ◌∷◌, Option, Some, None, Result, Ok, Err, MatchResult, MatchOption, if◌then◌else◌, codes}
 use Rattle.std.specs.Option.{option_map}
 use Rattle.tl_token.specs.Numbers.{number_of}
 use Rattle.tl_token.specs.Elements.{Attribute, Tag, is_word, value_of}
@@ -81,3 +81,7 @@ abbrev pub ReadsAttributes : Result Given Fault → List ℕ → List ℕ → Ty
 ReadsAttributes result old new = MatchResult result
     (λ given. (all : List Attribute) × (given ≡ given_of all) × ((t : Tag) → read (between t) old ≡ reads (with_more t all) new))
     (λ fault. (t : Tag) → Stops (between t) old fault)
+
+-- an answer says what was found, with what is left behind it, or that nothing was
+abbrev pub Finds : {X A : Type 0} → (X → A) → Option X → List ℕ → Option (A × List ℕ) → Type 0
+Finds view result rest found = MatchOption result (found ≡ None) (λ x. found ≡ Some (view x, rest))

@@ -1,5 +1,5 @@
 -- The tokens that pieces make, where some pieces are still to come.
-use Rattle.std.specs.Prelude.{ℕ, List, [], ◌∷◌, ◌++◌, string_bytes, chars}
+use Rattle.std.specs.Prelude.{◌≡◌, ℕ, List, [], ◌∷◌, ◌++◌, string_bytes, chars}
 use Rattle.tl_token.specs.Grammar.{Piece}
 use Rattle.tl_token.specs.Spelling.{Part, token, tokens_of}
 use Rattle.tl_token.specs.declared.token.TokenKind.{TokenKind}
@@ -32,3 +32,12 @@ with_text (c ∷ cs) first past later = text_before (c ∷ cs) first past later
 -- all the tokens, where the pieces that are still to come are these
 abbrev pub resumed : Output → List Part → List Token
 resumed output parts = output.tokens ++ with_text (open_text output) output.first output.past (tokens_of parts)
+
+-- all the tokens, where no piece is to come
+abbrev pub closed : Output → List Token
+closed output = output.tokens ++ with_text (open_text output) output.first output.past []
+
+-- the piece between those bytes was taken: the tokens go on as they did where it was to come
+abbrev pub Takes : Output → Output → Piece → ℕ → ℕ → Type 0
+Takes old new piece first past =
+    (parts : List Part) → resumed new parts ≡ resumed old (part piece first past ∷ parts)

@@ -1,5 +1,5 @@
 -- What is left to read, and the classes of characters that the reader knows.
-use Rattle.std.specs.Prelude.{ℕ, Bool, true, false, ◌≡◌, ◌||◌, not, ◌==◌, List, ◌∷◌, chars}
+use Rattle.std.specs.Prelude.{ℕ, Bool, true, false, ◌≡◌, ◌||◌, not, ◌==◌, List, [], ◌∷◌, Option, MatchOption, chars}
 use Rattle.std.specs.Char.{is_ascii_alphabetic, is_ascii_alphanumeric, is_ascii_digit, is_ascii_hexdigit}
 use Rattle.tl_token.specs.Characters.{◌∈◌, begins, is_space, is_name_character, is_value_character, is_gap}
 use Rattle.tl_token.specs.declared.reader.Reader.{Reader}
@@ -31,3 +31,7 @@ is_in (Not d) c = not (c == d)
 abbrev pub Eats : ℕ → Bool → List ℕ → List ℕ → Type 0
 Eats c true old new = old ≡ c ∷ new
 Eats c false old new = (new ≡ old) × (begins (λ d. d == c) old ≡ false)
+
+-- the next character, which was passed, or the end of the text
+abbrev pub NextIs : Option ℕ → List ℕ → List ℕ → Type 0
+NextIs next old new = MatchOption next ((old ≡ []) × (new ≡ [])) (λ c. old ≡ c ∷ new)

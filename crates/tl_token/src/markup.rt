@@ -43,7 +43,8 @@ impl<'a> Reader<'a> {
 
     /// The rest of a doctype, from behind its `<!` on.
     fn doctype(&mut self) -> Result<Piece, Fault>
-        ensures { found_of result (unread self.new) ≡ doctype_word (codes "doctype") (unread self.old) }
+        ensures { found_of result (unread self.new)
+            ≡ doctype_word (codes "doctype") (unread self.old) }
     {
         for letter in b"doctype" {
             match self.next() {

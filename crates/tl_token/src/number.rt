@@ -45,7 +45,8 @@ fn pass_sign(text: &mut Reader<'_>) -> bool
 
 /// The number of the digits behind a sign, if it is one and not below 0.
 fn signed_number(is_negative: bool, digits: &str) -> Option<u32>
-    ensures { result ≡ option_map (λ n. min n 4294967295) (signed_number is_negative (chars digits.now)) }
+    ensures { result
+        ≡ option_map (λ n. min n 4294967295) (signed_number is_negative (chars digits.now)) }
 {
     if digits.is_empty() {
         return None;

@@ -21,7 +21,7 @@ pub(crate) struct Output {
 }
 
 impl Output {
-    ghost use Rattle.tl_token.specs.Output.{open_text, with_text, resumed, part};
+    ghost use Rattle.tl_token.specs.Output.{open_text, resumed, closed, Takes};
 
     pub(crate) fn new(alloc: Global) -> Output
         ensures { (parts : Parts) → resumed result parts ≡ tokens_of parts }
@@ -45,7 +45,7 @@ impl Output {
 
     /// Ends the open text, if there is one.
     fn close(&mut self) -> Result<(), AllocError>
-        ensures tokens { OnOk result (self.new.tokens ≡ self.old.tokens ++ with_text (open_text self.old) self.old.first self.old.past []) }
+        ensures tokens { OnOk result (self.new.tokens ≡ closed self.old) }
         ensures text { OnOk result (open_text self.new ≡ []) }
     {
         if !self.has_text() {
@@ -61,7 +61,7 @@ impl Output {
 
     /// Takes a tag, which ends the text before it.
     fn tag(&mut self, kind: TokenKind, first: u32, past: u32) -> Result<(), AllocError>
-        ensures tokens { OnOk result (self.new.tokens ≡ (self.old.tokens ++ with_text (open_text self.old) self.old.first self.old.past []) ++ token kind first past ∷ []) }
+        ensures tokens { OnOk result (self.new.tokens ≡ closed self.old ++ token kind first past ∷ []) }
         ensures text { OnOk result (open_text self.new ≡ []) }
     {
         self.close()?;
@@ -71,7 +71,7 @@ impl Output {
 
     /// Takes a character of text.
     fn character(&mut self, c: char, first: u32, past: u32) -> Result<(), AllocError>
-        ensures { OnOk result ((parts : Parts) → resumed self.new parts ≡ resumed self.old (part (character c) first past ∷ parts)) }
+        ensures { OnOk result (Takes self.old self.new (character c) first past) }
     {
         let first = if self.has_text() { self.first } else { first };
         self.text.push(c)?;
@@ -82,7 +82,7 @@ impl Output {
 
     /// Takes the piece that stands between those bytes.
     pub(crate) fn add(&mut self, piece: Piece, first: u32, past: u32) -> Result<(), AllocError>
-        ensures { OnOk result ((parts : Parts) → resumed self.new parts ≡ resumed self.old (part (piece_of piece) first past ∷ parts)) }
+        ensures { OnOk result (Takes self.old self.new (piece_of piece) first past) }
     {
         match piece {
             Piece::Hidden => Ok(()),

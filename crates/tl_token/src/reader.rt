@@ -75,7 +75,7 @@ impl Class {
 }
 
 impl<'a> Reader<'a> {
-    ghost use Rattle.tl_token.specs.Reader.{unread, is_in, Eats};
+    ghost use Rattle.tl_token.specs.Reader.{unread, is_in, Eats, NextIs};
 
     pub(crate) fn new(text: &'a str) -> Reader<'a>
         ensures { unread result ≡ chars text.now }
@@ -99,7 +99,7 @@ impl<'a> Reader<'a> {
 
     /// Passes the next character.
     pub(crate) fn next(&mut self) -> Option<char>
-        ensures { MatchOption result ((unread self.old ≡ []) × (unread self.new ≡ [])) (λ c. unread self.old ≡ c ∷ unread self.new) }
+        ensures { NextIs result (unread self.old) (unread self.new) }
     {
         let mut chars = self.rest.chars();
         let next = chars.next();

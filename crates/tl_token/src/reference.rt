@@ -5,7 +5,7 @@ ghost use Rattle.std.specs.Char.{is_ascii_digit, is_ascii_hexdigit};
 ghost use Rattle.tl_token.specs.Numbers.{number};
 ghost use Rattle.tl_token.specs.Grammar.{named_character, numbered_character, ended_run, referred, numeric_reference, reference};
 ghost use Rattle.tl_token.specs.Reading.{referred_or};
-ghost use Rattle.tl_token.specs.Found.{found_of};
+ghost use Rattle.tl_token.specs.Found.{found_of, Finds};
 
 use crate::elements::is_exactly;
 use crate::markup::is_control;
@@ -49,7 +49,8 @@ impl<'a> Reader<'a> {
 
     /// A run of characters of the class and the `;` behind it. It has one character at least.
     fn ended_run(&mut self, class: Class) -> Option<&'a str>
-        ensures { MatchOption result (ended_run (is_in class) (unread self.old) ≡ None) (λ text. ended_run (is_in class) (unread self.old) ≡ Some (chars text.now, unread self.new)) }
+        ensures { Finds (λ text. chars text.now) result (unread self.new)
+            (ended_run (is_in class) (unread self.old)) }
     {
         let has_some = self.is_at(class);
         let text = self.run(class);
@@ -62,7 +63,7 @@ impl<'a> Reader<'a> {
 
     /// A reference by a number, from behind its `&#` on: the character, if it stands for one.
     fn numeric_reference(&mut self) -> Option<Option<char>>
-        ensures { MatchOption result (numeric_reference (unread self.old) ≡ None) (λ c. numeric_reference (unread self.old) ≡ Some (c, unread self.new)) }
+        ensures { Finds (λ c. c) result (unread self.new) (numeric_reference (unread self.old)) }
     {
         if self.is_at(Class::HexMark) {
             self.pass();
@@ -76,7 +77,7 @@ impl<'a> Reader<'a> {
 
     /// A reference, from behind its `&` on: the character, if it stands for one.
     fn referred(&mut self) -> Option<Option<char>>
-        ensures { MatchOption result (reference (unread self.old) ≡ None) (λ c. reference (unread self.old) ≡ Some (c, unread self.new)) }
+        ensures { Finds (λ c. c) result (unread self.new) (reference (unread self.old)) }
     {
         if self.eat('#') {
             self.numeric_reference()
@@ -88,7 +89,8 @@ impl<'a> Reader<'a> {
 
     /// What stands at a `&`, from behind it on.
     pub(crate) fn reference(&mut self) -> Result<Piece, Fault>
-        ensures { found_of result (unread self.new) ≡ referred_or (unread self.old) (reference (unread self.old)) }
+        ensures { found_of result (unread self.new)
+            ≡ referred_or (unread self.old) (reference (unread self.old)) }
     {
         let mut ahead = *self;
         match ahead.referred() {

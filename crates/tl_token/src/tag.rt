@@ -115,7 +115,8 @@ impl<'a> Reader<'a> {
     /// The value of an attribute, from behind its name on. It is empty where there is none.
     fn value(&mut self) -> Result<&'a str, Fault>
         requires { begins is_name_character (unread self.old) ≡ false }
-        ensures value { ReadsValue in_name (λ v. chars v.now) result (unread self.old) (unread self.new) }
+        ensures value { ReadsValue in_name (λ v. chars v.now) result
+            (unread self.old) (unread self.new) }
         ensures no_longer { IfOk result (λ _. length (unread self.new) ≤ length (unread self.old)) }
     {
         self.run(Class::Space);
@@ -130,7 +131,8 @@ impl<'a> Reader<'a> {
     /// The value of an attribute that has one.
     fn given_value(&mut self) -> Result<&'a str, Fault>
         requires { begins is_space (unread self.old) ≡ false }
-        ensures value { ReadsValue before_value (λ v. chars v.now) result (unread self.old) (unread self.new) }
+        ensures value { ReadsValue before_value (λ v. chars v.now) result
+            (unread self.old) (unread self.new) }
         ensures no_longer { IfOk result (λ _. length (unread self.new) ≤ length (unread self.old)) }
     {
         if self.eat('"') {
@@ -144,7 +146,8 @@ impl<'a> Reader<'a> {
 
     /// The rest of a value in quotes, behind the first quote.
     fn quoted(&mut self, quote: char) -> Result<&'a str, Fault>
-        ensures value { ReadsValue (λ t n. in_quotes t n quote []) (λ v. chars v.now) result (unread self.old) (unread self.new) }
+        ensures value { ReadsValue (λ t n. in_quotes t n quote []) (λ v. chars v.now) result
+            (unread self.old) (unread self.new) }
         ensures no_longer { IfOk result (λ _. length (unread self.new) ≤ length (unread self.old)) }
     {
         let value = self.run(Class::Not(quote));
@@ -159,7 +162,8 @@ impl<'a> Reader<'a> {
     fn unquoted(&mut self) -> Result<&'a str, Fault>
         requires space { begins is_space (unread self.old) ≡ false }
         requires quote { begins (λ c. c ∈ "\"'") (unread self.old) ≡ false }
-        ensures value { ReadsValue before_value (λ v. chars v.now) result (unread self.old) (unread self.new) }
+        ensures value { ReadsValue before_value (λ v. chars v.now) result
+            (unread self.old) (unread self.new) }
         ensures no_longer { IfOk result (λ _. length (unread self.new) ≤ length (unread self.old)) }
     {
         let is_value = self.is_at(Class::Value);
