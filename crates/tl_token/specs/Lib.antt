@@ -1,0 +1,11 @@
+pub mod Characters
+pub mod Numbers
+pub mod Elements
+pub mod Grammar
+pub mod Spelling
+pub mod States
+pub mod Reading
+pub mod Reader
+pub mod Found
+pub mod Output
+pub mod Answer

@@ -1,0 +1,21 @@
+//! Cuts the bytes of a table file into tags and texts. It does not know which tags may stand inside
+//! which others, and it forms no table. Its one contract: `tokens` answers the tokens exactly where
+//! the grammar spells the bytes, and otherwise the first fault and its place.
+#![tactic(auto)]
+
+mod elements;
+mod file;
+mod markup;
+mod number;
+mod output;
+mod piece;
+mod reader;
+mod reference;
+mod tag;
+mod token;
+
+pub use file::tokens;
+pub use token::{Element, Spans, Token, TokenError, TokenKind};
+
+#[cfg(test)]
+mod tests;

@@ -1,0 +1,107 @@
+use std::alloc::{AllocError, AllocFailed};
+use thiserror::Error;
+use tl_base::Text;
+
+/// An element that a table file may have.
+#[derive(Clone, Copy, Debug, PartialEq, Eq)]
+pub enum Element {
+    Table,
+    Caption,
+    Colgroup,
+    Col,
+    Thead,
+    Tbody,
+    Tfoot,
+    Tr,
+    Td,
+    Th,
+    Br,
+    P,
+    Div,
+    /// An element within a line of text, as `b` or `span`, which changes no layout.
+    Inline,
+    /// An element around the table: `html`, `head`, `body` or `meta`.
+    Outer,
+}
+
+/// The numbers that a start tag gives.
+#[derive(Clone, Copy, Debug, PartialEq, Eq)]
+pub struct Spans {
+    /// The columns that a cell covers, 1 to 1000.
+    pub colspan: u32,
+    /// The rows that a cell covers, up to 65534. 0: it grows downward to its group's end.
+    pub rowspan: u32,
+    /// The columns that a `col` or a `colgroup` stands for, 1 to 1000.
+    pub span: u32,
+    /// The columns of text that a cell is wide at least, up to 500.
+    pub least: u32,
+}
+
+/// What a token is.
+#[derive(Debug, Drop)]
+pub enum TokenKind {
+    Start(Element, Spans),
+    End(Element),
+    /// The characters between two tags, with references replaced. Never empty.
+    Text(Text),
+}
+
+/// A tag or a text, and the bytes of the file from its first character to past its last one.
+#[derive(Debug, Drop)]
+pub struct Token {
+    pub kind: TokenKind,
+    pub first: u32,
+    pub past: u32,
+}
+
+/// Why bytes are no tokens. Each number but that of `NotUtf8` is the byte at which the named thing
+/// begins; what stands before it is whole tags, comments, doctypes and text.
+#[derive(Debug, Drop, Error)]
+pub enum TokenError {
+    /// Number 0.
+    #[error("out of memory")]
+    Memory(AllocError),
+    /// Number 1. The bytes are not UTF-8, and as many as this are the longest front that is.
+    #[error("not utf-8 at {0}")]
+    NotUtf8(u32),
+    /// Number 2. The file ends inside a tag or a doctype.
+    #[error("unended tag at {0}")]
+    UnendedTag(u32),
+    /// Number 3. The file ends inside a comment.
+    #[error("unended comment at {0}")]
+    UnendedComment(u32),
+    /// Number 4. A `<` that opens markup, but no tag, comment or doctype.
+    #[error("bad tag at {0}")]
+    BadTag(u32),
+    /// Number 5. A tag of an element that no table file has.
+    #[error("unknown element at {0}")]
+    UnknownElement(u32),
+    /// Number 6. A reference to no character, or to one that no text has.
+    #[error("bad reference at {0}")]
+    BadReference(u32),
+    /// Number 7. A control character in text.
+    #[error("bad character at {0}")]
+    BadCharacter(u32),
+}
+
+impl From<AllocError> for TokenError {
+    ghost use Rattle.std.specs.Prelude.{◌≡◌};
+    ghost use Rattle.tl_token.specs.declared.token.TokenError.TheVariants.{Memory};
+
+    ghost from_gives = { λ error given. given ≡ Memory error };
+
+    fn from(error: AllocError) -> TokenError {
+        TokenError::Memory(error)
+    }
+}
+
+impl<T: Drop> From<AllocFailed<T>> for TokenError {
+    ghost use Rattle.std.specs.Prelude.{◌≡◌, alloc_error};
+    ghost use Rattle.tl_token.specs.declared.token.TokenError.TheVariants.{Memory};
+
+    ghost from_gives = { λ _ given. given ≡ Memory alloc_error };
+
+    fn from(_: AllocFailed<T>) -> TokenError {
+        TokenError::Memory(AllocError)
+    }
+}
