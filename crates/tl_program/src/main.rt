@@ -12,6 +12,8 @@ mod page;
 mod rows;
 mod run;
 mod status;
+#[cfg(test)]
+mod tests;
 
 use run::run;
 use status::Status;
