@@ -5,14 +5,13 @@
 --   |aa bb|    |aa|         |a|                               |abc|    |ab|
 --              |bb|         | |                                        |c |
 --                           |b|
-use Rattle.std.proofs.Common.{◌≡◌, ◌<◌, ◌≤◌, Bool, true, false, List, [], ◌∷◌, length, codes, refl, arith}
-use Rattle.std.specs.List.{AllByRecursion}
+use Rattle.std.proofs.Common.{◌≡◌, true, false, [], ◌∷◌, codes, refl, arith}
 use Rattle.unicode_width.proofs.Computing.{unicode_width}
 use Rattle.tl_text.specs.declared.paragraph.Atom.{Atom}
 use Rattle.tl_text.specs.declared.paragraph.Atom.TheVariants.{Word, Glue, Break}
 use Rattle.tl_text.specs.Words.{words_of}
 use Rattle.tl_text.specs.Paragraph.{lined_pieces, has_leading_glue}
-use Rattle.tl_text.specs.Cuttings.{line_width, joined, IsCutting, HoldsIn, FillsLines}
+use Rattle.tl_text.specs.Cuttings.{line_width, IsCutting, HoldsIn, FillsLines}
 
 abbrev aa : Atom
 aa = Word (codes "aa")

@@ -62,7 +62,8 @@ pub fn lines(alloc: Global, p: &Para, width: u32) -> Result<List<Line>, TextErro
     for (at, atom) in atoms.iter().enumerate() {
         let at = at as u32;
         let measure = measured(atom);
-        if measure.width() > width {
+        let too_wide = measure.width() > width;
+        if too_wide {
             return Err(TextError::TooWide(at));
         }
         let ended = filling.ended;

@@ -192,3 +192,15 @@ fn a_long_paragraph_is_answered_at_all_widths(rt: HostRuntime) -> Result<(), Fai
     }
     Ok(())
 }
+
+fn share<T: Send + Sync + Drop>(_value: T) {}
+
+#[test]
+fn paragraphs_lines_and_steps_may_go_to_other_threads(rt: HostRuntime) -> Result<(), Fail> {
+    let p = paragraph(rt.alloc(), "aa bb")?;
+    assert!(rt; least_width(&p) <= 7);
+    share(lines(rt.alloc(), &p, 5));
+    share(configs(rt.alloc(), &p, 7));
+    share(p);
+    Ok(())
+}

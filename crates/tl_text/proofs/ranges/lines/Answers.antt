@@ -17,8 +17,8 @@ loop-at-init c = record {
   cut = rw (c.new-filling.ensures.line, c.new-lines.ensures) (IsCutUpTo-none c.args.width c.atoms-atoms.result.now);
 }
 
-pub returns-then-width-clause-too_wide : goal.returns-then-width-clause-too_wide
-returns-then-width-clause-too_wide c =
+pub returns-then-too_wide-clause-too_wide : goal.returns-then-too_wide-clause-too_wide
+returns-then-too_wide-clause-too_wide c =
     let atoms = c.atoms-atoms.result.now in
     let atom = c.index-atoms-at.result in
     let width : c.width.result ≡ unit_width atom = c.width.ensures ∙ ap columns_of c.measured-measure.ensures ∙ columns_of-measure_of atom in
