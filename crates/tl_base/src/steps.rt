@@ -108,9 +108,6 @@ mod tests {
     use std::alloc::{AllocError, Global};
     use std::test::Fail;
 
-    /// What pieces of work may share and give, each on a thread of its own.
-    fn share<T: Send + Sync + Drop>(_value: T) {}
-
     fn steps(alloc: Global, pairs: &[(u32, u32)]) -> Result<Option<Steps>, AllocError> {
         let mut list = List::new(alloc);
         for &(width, height) in pairs {
@@ -162,7 +159,6 @@ mod tests {
         ] {
             assert_eq!(rt; three_words.width_for(height), width, "height {height}");
         }
-        share((three_words, Style::Plain));
         Ok(())
     }
 
