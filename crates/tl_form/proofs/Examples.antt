@@ -3,8 +3,8 @@
 --
 --   |aa  b|
 --   |aa bb|
-use Rattle.std.proofs.Common.{◌≡◌, ℕ, ◌<◌, ◌≤◌, true, false, List, [], ◌∷◌, codes, length, refl, sym, subst, arith}
-use Rattle.std.specs.List.{AllZip, AllByRecursion}
+use Rattle.std.proofs.Common.{◌≡◌, ℕ, ◌≤◌, List, [], ◌∷◌, codes, refl, sym, ap, subst, append-nil, arith}
+use Rattle.std.specs.List.{AllZip}
 use Rattle.unicode_width.proofs.Computing.{unicode_width}
 use Rattle.tl_base.specs.declared.style.Style.TheVariants.{Plain}
 use Rattle.tl_text.specs.declared.paragraph.Atom.{Atom}
@@ -12,7 +12,7 @@ use Rattle.tl_text.specs.declared.paragraph.Atom.TheVariants.{Word}
 use Rattle.tl_text.specs.Paragraph.{lined_pieces}
 use Rattle.tl_text.specs.Cuttings.{line_width, IsPieceCut}
 use Rattle.tl_form.specs.declared.layout.Layout.{Layout}
-use Rattle.tl_form.specs.Table.{Cell, Table}
+use Rattle.tl_form.specs.Table.{Table}
 use Rattle.tl_form.specs.Layout.{position, room, total, FitBlocks, Fits}
 use Rattle.tl_form.specs.TextPage.{Shown, page_text}
 
@@ -74,18 +74,22 @@ the_page = refl
 one_line_fits : (w height : ℕ) (unit : Atom) (units : List Atom) → lined_pieces (unit ∷ units) ≡ (unit ∷ units) ∷ [] →
     line_width (unit ∷ units) ≤ w → 1 ≤ height → FitBlocks w height ((unit ∷ units) ∷ [])
 one_line_fits w height unit units one wide high =
-    (1 ∷ [], ((cut, subst (λ pieces. AllZip IsPieceCut pieces cut) (sym one) (((λ none. cc, tt), refl), tt), (wide, tt), omega arith), tt), omega (arith, high)) where
-  cut : List (List (List Atom))
-  cut = ((unit ∷ units) ∷ []) ∷ []
+    (1 ∷ [], ((cut, subst (λ pieces. AllZip IsPieceCut pieces cut) (sym one) (((λ none. cc, tt), ap (λ more. unit ∷ more) (append-nil units)), tt), (wide, tt), omega arith), tt), omega (arith, high)) where
+      cut : List (List (List Atom))
+      cut = ((unit ∷ units) ∷ []) ∷ []
 
 fits : Fits table Plain 5 2 layout
 unfolding unicode_width
 fits = record {
-  columns = refl
-  rows = refl
-  within = omega arith
-  high = refl
-  cells = (one_line_fits 2 1 aa [] refl (omega arith) (omega arith),
-      (one_line_fits 1 1 b [] refl (omega arith) (omega arith),
-      (one_line_fits 5 1 aa (bb ∷ []) refl (omega arith) (omega arith), tt)))
+  columns = refl;
+  rows = refl;
+  within = omega arith;
+  high = refl;
+  cells = (
+    one_line_fits 2 1 aa [] refl (omega arith) (omega arith),
+    (
+      one_line_fits 1 1 b [] refl (omega arith) (omega arith),
+      (one_line_fits 5 1 aa (bb ∷ []) refl (omega arith) (omega arith), tt),
+    ),
+  );
 }

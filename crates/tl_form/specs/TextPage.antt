@@ -1,8 +1,7 @@
 -- The text page of a layout in style plain, slot by slot: cells side by side, filled with spaces, with a gap of spaces
 -- between two columns. A page is a list of characters; each line ends with a line feed.
-use Rattle.std.specs.Prelude.{◌≡◌, ℕ, ◌+◌, ◌-◌, ◌<◌, Bool, ◌&&◌, nat_le, nat_lt, ◌==◌, if◌then◌else◌, List, [], ◌∷◌, ◌++◌, length, replicate, get_or, find, Option, Some, None}
+use Rattle.std.specs.Prelude.{◌≡◌, ℕ, ◌+◌, ◌-◌, Bool, ◌&&◌, nat_le, nat_lt, ◌==◌, if◌then◌else◌, List, [], ◌∷◌, ◌++◌, replicate, get_or, find, Option, Some, None}
 use Rattle.std.specs.List.{AllZip, flat_map, filter_map, range_with_len}
-use Rattle.tl_base.specs.declared.style.Style.{Style}
 use Rattle.tl_base.specs.declared.style.Style.TheVariants.{Plain}
 use Rattle.tl_base.specs.Style.{gap_of, row_gap_of}
 use Rattle.tl_text.specs.declared.paragraph.Atom.{Atom}

@@ -202,52 +202,67 @@ fn words_that_are_no_command_are_usage(rt: HostRuntime) -> Result<(), Failure> {
 fn what_stands_where_a_call_of_the_desk_fails(rt: HostRuntime) -> Result<(), Failure> {
     let alloc = rt.alloc();
     let fail = |call, bytes| Fail { call, bytes };
-    for (line, fails, status, page, said) in [
+    for (line, first, second, status, page, said) in [
         (
             "lay 7 t.html p.txt",
-            [fail(0, 0), fail(9, 0)],
+            fail(0, 0),
+            None,
             7,
             None,
             "read fault\n",
         ),
         (
             "lay 7 t.html p.txt",
-            [fail(0, 0), fail(1, 4)],
+            fail(0, 0),
+            Some(fail(1, 4)),
             8,
             None,
             "read",
         ),
         (
             "lay 7 none.html p.txt",
-            [fail(9, 0), fail(9, 0)],
+            fail(9, 0),
+            None,
             7,
             None,
             "read fault\n",
         ),
         (
             "lay 7 t.html p.txt",
-            [fail(1, 3), fail(9, 0)],
+            fail(1, 3),
+            None,
             8,
             Some("aa "),
             "",
         ),
         (
             "lay 7 t.html p.txt",
-            [fail(2, 6), fail(9, 0)],
+            fail(2, 6),
+            None,
             8,
             Some("aa bb\ncc   \n"),
             "lowest",
         ),
-        ("lay 1 t.html p.txt", [fail(1, 0), fail(9, 0)], 8, None, ""),
+        (
+            "lay 1 t.html p.txt",
+            fail(1, 0),
+            None,
+            8,
+            None,
+            "",
+        ),
         (
             "lay 0 t.html p.txt",
-            [fail(0, 5), fail(9, 0)],
+            fail(0, 5),
+            None,
             8,
             None,
             "usage",
         ),
     ] {
-        let mut desk = desk(alloc, ONE_CELL.as_bytes(), &fails)?;
+        let mut fails = List::from_slice(alloc, &[first])?;
+        fails.extend_from_slice(second.as_slice())?;
+        let mut desk = desk(alloc, ONE_CELL.as_bytes(), fails.as_slice())?;
         let words = words(alloc, line)?;
         assert_eq!(rt;
             run(alloc, words.as_slice(), &mut desk, &NoGate),

@@ -1,5 +1,5 @@
 -- The words of a text are a paragraph, where there is one and the text is within the limit.
-use Rattle.std.proofs.Common.{◌≡◌, ℕ, ◌+◌, ◌<◌, ◌≤◌, Bool, true, false, cond, ◌||◌, List, [], ◌∷◌, ◌++◌, length, map, filter, sum_by, refl, sym, ◌∙◌, ap, arith, length-append}
+use Rattle.std.proofs.Common.{◌≡◌, ℕ, ◌+◌, ◌<◌, ◌≤◌, Bool, true, false, cond, ◌||◌, List, [], ◌∷◌, length, map, filter, sum_by, refl, arith, length-append}
 use Rattle.std.specs.List.{AllByRecursion, list_any, slice_split, onto_first}
 use Rattle.std.specs.Char.{is_ascii_whitespace, encode_utf8}
 use Rattle.std.specs.Str.{encode_utf8_all}
@@ -9,7 +9,7 @@ use Rattle.std.proofs.lemmas.List.Sums.{sum_by-cons}
 use Rattle.std.proofs.lemmas.List.Elements.{All-from_recursion}
 use Rattle.std.proofs.lemmas.List.Splits.{slice_split-cons_yes, slice_split-cons_no}
 use Rattle.tl_text.specs.declared.paragraph.Atom.{Atom}
-use Rattle.tl_text.specs.declared.paragraph.Atom.TheVariants.{Word, Glue, Break}
+use Rattle.tl_text.specs.declared.paragraph.Atom.TheVariants.{Word}
 use Rattle.tl_text.specs.Words.{words_of, has_character, byte_count}
 use Rattle.tl_text.specs.Paragraph.{IsSolid, IsSpelt, IsParagraph, atom_size, lined_pieces, begins_with_glue, has_leading_glue}
 
@@ -40,9 +40,10 @@ parts_more : (c : ℕ) (text : List ℕ) (white : Bool) → is_ascii_whitespace 
     AreParts (c ∷ text) (slice_split is_ascii_whitespace (c ∷ text))
 parts_more c text true is parts = rw (slice_split-cons_yes is_ascii_whitespace c text is)
     ((refl, parts.0), omega (arith, parts.1, bytes-cons c text, sum_by-cons byte_count [] (slice_split is_ascii_whitespace text)))
-parts_more c text false is parts = rw (slice_split-cons_no is_ascii_whitespace c text is)
-    (clean_more c (slice_split is_ascii_whitespace text) is parts.0,
-    omega (arith, parts.1, bytes-cons c text, size_more c (slice_split is_ascii_whitespace text)))
+parts_more c text false is parts = rw (slice_split-cons_no is_ascii_whitespace c text is) (
+  clean_more c (slice_split is_ascii_whitespace text) is parts.0,
+  omega (arith, parts.1, bytes-cons c text, size_more c (slice_split is_ascii_whitespace text)),
+)
 
 -- the parts between white space
 parts_of : (text : List ℕ) → AreParts text (slice_split is_ascii_whitespace text)
@@ -68,8 +69,12 @@ kept_size part parts true = omega (arith, sum_by-cons byte_count part parts)
 
 words_size : (parts : List (List ℕ)) → sum_by byte_count (filter has_character parts) ≤ sum_by byte_count parts
 words_size [] = omega arith
-words_size (part ∷ parts) = omega (arith, words_size parts, kept_size part (filter has_character parts) (has_character part),
-    sum_by-cons byte_count part parts)
+words_size (part ∷ parts) = omega (
+  arith,
+  words_size parts,
+  kept_size part (filter has_character parts) (has_character part),
+  sum_by-cons byte_count part parts,
+)
 
 -- words as units that begin one
 spelt_words : (words : List (List ℕ)) → AllByRecursion IsSolid words → AllByRecursion IsSpelt (map Word words)
