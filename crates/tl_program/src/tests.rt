@@ -227,14 +227,7 @@ fn what_stands_where_a_call_of_the_desk_fails(rt: HostRuntime) -> Result<(), Fai
             None,
             "read fault\n",
         ),
-        (
-            "lay 7 t.html p.txt",
-            fail(1, 3),
-            None,
-            8,
-            Some("aa "),
-            "",
-        ),
+        ("lay 7 t.html p.txt", fail(1, 3), None, 8, Some("aa "), ""),
         (
             "lay 7 t.html p.txt",
             fail(2, 6),
@@ -243,22 +236,8 @@ fn what_stands_where_a_call_of_the_desk_fails(rt: HostRuntime) -> Result<(), Fai
             Some("aa bb\ncc   \n"),
             "lowest",
         ),
-        (
-            "lay 1 t.html p.txt",
-            fail(1, 0),
-            None,
-            8,
-            None,
-            "",
-        ),
-        (
-            "lay 0 t.html p.txt",
-            fail(0, 5),
-            None,
-            8,
-            None,
-            "usage",
-        ),
+        ("lay 1 t.html p.txt", fail(1, 0), None, 8, None, ""),
+        ("lay 0 t.html p.txt", fail(0, 5), None, 8, None, "usage"),
     ] {
         let mut fails = List::from_slice(alloc, &[first])?;
         fails.extend_from_slice(second.as_slice())?;
