@@ -33,135 +33,76 @@ fn held<'a>(desk: &'a MemoryDesk, name: &str) -> Option<&'a [u8]> {
 
 const ONE_CELL: &str = "<table><tr><td>aa bb cc</td></tr></table>";
 
+/// The status that `lay WIDTH t.html p.txt` ends with over the desk.
+fn lay(alloc: Global, width: &str, desk: &mut MemoryDesk) -> Result<u8, AllocError> {
+    let mut words = words(alloc, "lay")?;
+    for word in [width, "t.html", "p.txt"] {
+        words.push(String::from_str(alloc, word)?)?;
+    }
+    Ok(run(alloc, words.as_slice(), desk, &NoGate))
+}
+
 #[test]
-fn each_file_is_answered_as_counted_by_hand(rt: HostRuntime) -> Result<(), Failure> {
+fn a_file_of_one_column_is_answered_with_its_lowest_page(rt: HostRuntime) -> Result<(), Failure> {
     let alloc = rt.alloc();
-    for (file, width, status, page, said) in [
-        (
-            ONE_CELL,
-            "8",
-            0,
-            Some("aa bb cc\n"),
-            "lowest height 1 width 8\n",
-        ),
-        (
-            ONE_CELL,
-            "7",
-            0,
-            Some("aa bb\ncc   \n"),
-            "lowest height 2 width 5\n",
-        ),
-        (
-            ONE_CELL,
-            "5",
-            0,
-            Some("aa bb\ncc   \n"),
-            "lowest height 2 width 5\n",
-        ),
-        (
-            ONE_CELL,
-            "4",
-            0,
-            Some("aa\nbb\ncc\n"),
-            "lowest height 3 width 2\n",
-        ),
-        (
-            ONE_CELL,
-            "2",
-            0,
-            Some("aa\nbb\ncc\n"),
-            "lowest height 3 width 2\n",
-        ),
-        (ONE_CELL, "1", 4, None, "narrow least 2 width 1\n"),
-        (
-            "<table><tr><td>a b</td></tr><tr><td>ccc</td></tr></table>",
-            "3",
-            0,
-            Some("a b\nccc\n"),
-            "lowest height 2 width 3\n",
-        ),
-        (
-            "<table><tr><td> </td></tr></table>",
-            "5",
-            0,
-            Some(""),
-            "lowest height 0 width 0\n",
-        ),
-        (
-            "<table></table>",
-            "10",
-            0,
-            Some(""),
-            "lowest height 0 width 0\n",
-        ),
-        (
-            "\n <table>\t<tr> <td>abcdef\n</td>\r</tr>\n</table>\n",
-            "6",
-            0,
-            Some("abcdef\n"),
-            "lowest height 1 width 6\n",
-        ),
-        (
-            "<table><tr><td>abcdef</td></tr><tr><td></td></tr></table>",
-            "5",
-            4,
-            None,
-            "narrow least 6 width 5\n",
-        ),
-        (
-            "<table><tr><td>a</td><td>b</td></tr></table>",
-            "10",
-            11,
-            None,
-            "not built\n",
-        ),
-        ("", "10", 11, None, "not built\n"),
-        (
-            "<table><tr><td>a</td></tr></table>x",
-            "10",
-            11,
-            None,
-            "not built\n",
-        ),
-        ("<TABLE></TABLE>", "10", 11, None, "not built\n"),
-        (
-            "<table><tr><td>a &amp; b</td></tr></table>",
-            "10",
-            11,
-            None,
-            "not built\n",
-        ),
-        (
-            "<table><tr><td>a<b</td></tr></table>",
-            "10",
-            11,
-            None,
-            "not built\n",
-        ),
-        (
-            "<table><tr><td>\u{e9}</td></tr></table>",
-            "10",
-            11,
-            None,
-            "not built\n",
-        ),
+    let two_rows = "<table><tr><td>a b</td></tr><tr><td>ccc</td></tr></table>";
+    let spaced = "\n <table>\t<tr> <td>abcdef\n</td>\r</tr>\n</table>\n";
+    for (file, width, page, height, column) in [
+        (ONE_CELL, "8", "aa bb cc\n", 1, 8),
+        (ONE_CELL, "7", "aa bb\ncc   \n", 2, 5),
+        (ONE_CELL, "5", "aa bb\ncc   \n", 2, 5),
+        (ONE_CELL, "4", "aa\nbb\ncc\n", 3, 2),
+        (ONE_CELL, "2", "aa\nbb\ncc\n", 3, 2),
+        (two_rows, "3", "a b\nccc\n", 2, 3),
+        ("<table><tr><td> </td></tr></table>", "5", "", 0, 0),
+        ("<table></table>", "10", "", 0, 0),
+        (spaced, "6", "abcdef\n", 1, 6),
     ] {
         let mut desk = desk(alloc, file.as_bytes(), &[])?;
-        let mut words = words(alloc, "lay")?;
-        for word in [width, "t.html", "p.txt"] {
-            words.push(String::from_str(alloc, word)?)?;
-        }
-        assert_eq!(rt;
-            run(alloc, words.as_slice(), &mut desk, &NoGate),
-            status,
-            "{file} {width}"
-        );
+        let said = format!(in alloc; "lowest height {height} width {column}\n")?;
+        assert_eq!(rt; lay(alloc, width, &mut desk)?, 0, "{file} {width}");
         assert_eq!(rt;
             held(&desk, "p.txt"),
-            page.map(|page| page.as_bytes()),
+            Some(page.as_bytes()),
             "{file} {width}"
         );
+        assert_eq!(rt; desk.said(), said.as_str().as_bytes(), "{file} {width}");
+    }
+    Ok(())
+}
+
+#[test]
+fn a_page_narrower_than_a_word_is_told_the_least_width(rt: HostRuntime) -> Result<(), Failure> {
+    let alloc = rt.alloc();
+    let wide = "<table><tr><td>abcdef</td></tr><tr><td></td></tr></table>";
+    for (file, width, said) in [
+        (ONE_CELL, "1", "narrow least 2 width 1\n"),
+        (wide, "5", "narrow least 6 width 5\n"),
+    ] {
+        let mut desk = desk(alloc, file.as_bytes(), &[])?;
+        assert_eq!(rt; lay(alloc, width, &mut desk)?, 4, "{file} {width}");
+        assert_eq!(rt; held(&desk, "p.txt"), None, "{file} {width}");
         assert_eq!(rt; desk.said(), said.as_bytes(), "{file} {width}");
+    }
+    Ok(())
+}
+
+#[test]
+fn a_file_of_another_form_is_not_built(rt: HostRuntime) -> Result<(), Failure> {
+    let alloc = rt.alloc();
+    for file in [
+        "",
+        "<table><tr><td>a</td><td>b</td></tr></table>",
+        "<table><tr><td>a</td></tr></table>x",
+        "<TABLE></TABLE>",
+        "<table><tr><td>a &amp; b</td></tr></table>",
+        "<table><tr><td>a<b</td></tr></table>",
+        "<table><tr><td>\u{e9}</td></tr></table>",
+    ] {
+        let mut desk = desk(alloc, file.as_bytes(), &[])?;
+        assert_eq!(rt; lay(alloc, "10", &mut desk)?, 11, "{file}");
+        assert_eq!(rt; held(&desk, "p.txt"), None, "{file}");
+        assert_eq!(rt; desk.said(), b"not built\n".as_slice(), "{file}");
     }
     Ok(())
 }
@@ -202,64 +143,35 @@ fn words_that_are_no_command_are_usage(rt: HostRuntime) -> Result<(), Failure> {
 fn what_stands_where_a_call_of_the_desk_fails(rt: HostRuntime) -> Result<(), Failure> {
     let alloc = rt.alloc();
     let fail = |call, bytes| Fail { call, bytes };
-    for (line, first, second, status, page, said) in [
-        (
-            "lay 7 t.html p.txt",
-            fail(0, 0),
-            None,
-            7,
-            None,
-            "read fault\n",
-        ),
-        (
-            "lay 7 t.html p.txt",
-            fail(0, 0),
-            Some(fail(1, 4)),
-            8,
-            None,
-            "read",
-        ),
-        (
-            "lay 7 none.html p.txt",
-            fail(9, 0),
-            None,
-            7,
-            None,
-            "read fault\n",
-        ),
-        ("lay 7 t.html p.txt", fail(1, 3), None, 8, Some("aa "), ""),
-        (
-            "lay 7 t.html p.txt",
-            fail(2, 6),
-            None,
-            8,
-            Some("aa bb\ncc   \n"),
-            "lowest",
-        ),
-        ("lay 1 t.html p.txt", fail(1, 0), None, 8, None, ""),
-        ("lay 0 t.html p.txt", fail(0, 5), None, 8, None, "usage"),
+    let whole = Some("aa bb\ncc   \n");
+    for (width, first, second, status, page, said) in [
+        ("7", fail(0, 0), None, 7, None, "read fault\n"),
+        ("7", fail(0, 0), Some(fail(1, 4)), 8, None, "read"),
+        ("7", fail(1, 3), None, 8, Some("aa "), ""),
+        ("7", fail(2, 6), None, 8, whole, "lowest"),
+        ("1", fail(1, 0), None, 8, None, ""),
+        ("0", fail(0, 5), None, 8, None, "usage"),
     ] {
         let mut fails = List::from_slice(alloc, &[first])?;
         fails.extend_from_slice(second.as_slice())?;
         let mut desk = desk(alloc, ONE_CELL.as_bytes(), fails.as_slice())?;
-        let words = words(alloc, line)?;
-        assert_eq!(rt;
-            run(alloc, words.as_slice(), &mut desk, &NoGate),
-            status,
-            "{line} {status}"
-        );
-        assert_eq!(rt;
-            held(&desk, "p.txt"),
-            page.map(|page| page.as_bytes()),
-            "{line} {status}"
-        );
-        assert_eq!(rt; desk.said(), said.as_bytes(), "{line} {status}");
-        assert_eq!(rt;
-            held(&desk, "t.html"),
-            Some(ONE_CELL.as_bytes()),
-            "{line} {status}"
-        );
+        assert_eq!(rt; lay(alloc, width, &mut desk)?, status, "{width} {status}");
+        let page = page.map(|page| page.as_bytes());
+        assert_eq!(rt; held(&desk, "p.txt"), page, "{width} {status}");
+        assert_eq!(rt; desk.said(), said.as_bytes(), "{width} {status}");
+        let file = Some(ONE_CELL.as_bytes());
+        assert_eq!(rt; held(&desk, "t.html"), file, "{width} {status}");
     }
+    Ok(())
+}
+
+#[test]
+fn a_file_that_is_missing_is_a_read_fault(rt: HostRuntime) -> Result<(), Failure> {
+    let alloc = rt.alloc();
+    let mut desk = MemoryDesk::new(alloc, BTreeMap::new(alloc), List::new(alloc));
+    assert_eq!(rt; lay(alloc, "7", &mut desk)?, 7);
+    assert_eq!(rt; desk.said(), b"read fault\n".as_slice());
+    assert_eq!(rt; held(&desk, "p.txt"), None);
     Ok(())
 }
 
@@ -287,12 +199,7 @@ fn rows_and_bytes_up_to_their_limits_are_laid_out(rt: HostRuntime) -> Result<(),
     ] {
         let file = rows_file(alloc, rows, size)?;
         let mut desk = desk(alloc, file.as_slice(), &[])?;
-        let words = words(alloc, "lay 9 t.html p.txt")?;
-        assert_eq!(rt;
-            run(alloc, words.as_slice(), &mut desk, &NoGate),
-            status,
-            "{rows} rows"
-        );
+        assert_eq!(rt; lay(alloc, "9", &mut desk)?, status, "{rows} rows");
         assert_eq!(rt; desk.said(), said.as_bytes(), "{rows} rows");
     }
     Ok(())
