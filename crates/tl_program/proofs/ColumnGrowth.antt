@@ -2,10 +2,10 @@
 use Rattle.std.proofs.Common.{◌≡◌, ℕ, zero, suc, ◌<◌, ◌≤◌, List, [], ◌∷◌, ◌++◌, length, get_or, arith}
 use Rattle.std.specs.Prelude.{Option, Some, None, max}
 use Rattle.std.specs.List.{AllByRecursion, AllZip}
-use Rattle.tl_text.specs.Cuttings.{joined}
+use Rattle.tl_text.proofs.Paragraphs.{HoldsIn-wider}
 use Rattle.tl_text.specs.declared.paragraph.Atom.{Atom}
 use Rattle.tl_program.specs.ColumnSizes.{FitsRow, RowNeeds, HoldsRow, IsWidest, IsSized, IsLaid, IsTooNarrowFor, IsTooNarrow}
-use Rattle.tl_program.proofs.ColumnRooms.{fits_wider, holds_wider}
+use Rattle.tl_program.proofs.ColumnRooms.{fits_wider}
 
 -- what holds at each place, and at one place more
 zip_more : {A B : Type 0} (R : A → B → Type 0) (xs : List A) (ys : List B) (x : A) (y : B) → AllZip R xs ys → R x y →
@@ -64,7 +64,7 @@ too_narrow_at page rows k d within narrow = λ w heights le fits. narrow w (get_
 -- a row that has a cutting has one in each greater width
 holds_row_wider : (w v : ℕ) (row : Option (List Atom)) → w ≤ v → HoldsRow w row → HoldsRow v row
 holds_row_wider w v None le holds = tt
-holds_row_wider w v (Some paragraph) le (cut, cutting, holds) = (cut, cutting, holds_wider w v (joined cut) le holds)
+holds_row_wider w v (Some paragraph) le (cut, cutting, holds) = (cut, cutting, HoldsIn-wider w v cut le holds)
 
 holds_rows_wider : (w v : ℕ) (rows : List (Option (List Atom))) → w ≤ v → AllByRecursion (HoldsRow w) rows → AllByRecursion (HoldsRow v) rows
 holds_rows_wider w v [] le holds = tt

@@ -6,13 +6,14 @@ use Rattle.std.specs.List.{AllByRecursion, AllZip}
 use Rattle.tl_base.specs.declared.style.Style.TheVariants.{Plain}
 use Rattle.tl_text.specs.declared.paragraph.Atom.{Atom}
 use Rattle.tl_text.specs.Cuttings.{joined, LeastLines}
+use Rattle.tl_text.proofs.Paragraphs.{HoldsIn-wider}
 use Rattle.tl_form.specs.declared.layout.Layout.{Layout}
 use Rattle.tl_form.specs.Layout.{room, total, position, total_height, HoldsCell, Fits}
 use Rattle.tl_form.specs.Least.{IsLeastHeight}
 use Rattle.tl_form.specs.Tight.{NeedsNoMore, IsTight}
 use Rattle.tl_program.specs.Column.{cells_from, column_of, column_layout}
 use Rattle.tl_program.specs.ColumnSizes.{FitsRow, RowNeeds}
-use Rattle.tl_program.proofs.ColumnRooms.{holds_wider, column_room, row_fits, rows_are_held, held_rows_fit, needs_are_least, sum-take-le, sum-le, sum-one, total-plain}
+use Rattle.tl_program.proofs.ColumnRooms.{column_room, row_fits, rows_are_held, held_rows_fit, needs_are_least, sum-take-le, sum-le, sum-one, total-plain}
 
 -- as many heights as rows
 pub as_many : (R : Option (List Atom) → ℕ → Type 0) (rows : List (Option (List Atom))) (heights : List ℕ) → AllZip R rows heights → length heights ≡ length rows
@@ -86,10 +87,10 @@ column_is_least w s rows heights le fit need = record {
 pub need_in_column : (w s h : ℕ) (paragraph : List Atom) → s ≤ w → FitsRow s (Some paragraph) h → RowNeeds w (Some paragraph) h →
     LeastLines s paragraph h
 need_in_column w s h paragraph le (cut, cutting, holds, few) need =
-    let enough : h ≤ length (joined cut) = need.least cut cutting (holds_wider s w (joined cut) le holds) in
+    let enough : h ≤ length (joined cut) = need.least cut cutting (HoldsIn-wider s w cut le holds) in
     record {
       attained = (cut, cutting, holds, omega arith);
-      least = λ other is_cutting is_held. need.least other is_cutting (holds_wider s w (joined other) le is_held);
+      least = λ other is_cutting is_held. need.least other is_cutting (HoldsIn-wider s w other le is_held);
     }
 
 -- under widths in which no cell needs more lines, each row fits the height that it needs

@@ -6,22 +6,17 @@ use Rattle.std.proofs.lemmas.List.Sums.{sum_by-cons}
 use Rattle.std.proofs.Math.Seq.{drop-append_seam}
 use Rattle.tl_base.specs.declared.style.Style.TheVariants.{Plain}
 use Rattle.tl_text.specs.declared.paragraph.Atom.{Atom}
-use Rattle.tl_text.specs.Cuttings.{joined, line_width}
+use Rattle.tl_text.specs.Cuttings.{joined}
+use Rattle.tl_text.proofs.Paragraphs.{HoldsIn-wider}
 use Rattle.tl_form.specs.declared.layout.Layout.{Layout}
 use Rattle.tl_form.specs.Layout.{room, total, FitsBlock, FitBlocks, HoldsCell}
 use Rattle.tl_program.specs.Column.{cells_from}
 use Rattle.tl_program.specs.ColumnSizes.{FitsRow, RowNeeds}
 
--- what holds in a width holds in each greater one
-pub holds_wider : (w v : ℕ) (lines : List (List Atom)) → w ≤ v → AllByRecursion (λ line. line_width line ≤ w) lines →
-    AllByRecursion (λ line. line_width line ≤ v) lines
-holds_wider w v [] le holds = tt
-holds_wider w v (line ∷ lines) le holds = (omega arith, holds_wider w v lines le holds.1)
-
 -- a block that fits in a width fits in each greater one, and in more lines
 pub fits_wider : (w v g h : ℕ) (paragraph : List Atom) → w ≤ v → g ≤ h → FitsBlock w paragraph g → FitsBlock v paragraph h
 fits_wider w v g h paragraph le more (cut, cutting, holds, high) =
-    (cut, cutting, holds_wider w v (joined cut) le holds, omega arith)
+    (cut, cutting, HoldsIn-wider w v cut le holds, omega arith)
 
 -- the sum of one number
 pub sum-one : (n : ℕ) → sum (n ∷ []) ≡ n
@@ -104,7 +99,7 @@ needs_are_least w v (row ∷ rows) (n ∷ needs) (h ∷ heights) le need fit =
       least : (row : Option (List Atom)) → RowNeeds v row n → FitsRow w row h → n ≤ h
       least None need fit = omega arith
       least (Some paragraph) need (cut, cutting, holds, high) =
-          let few : n ≤ length (joined cut) = need.least cut cutting (holds_wider w v (joined cut) le holds) in omega arith
+          let few : n ≤ length (joined cut) = need.least cut cutting (HoldsIn-wider w v cut le holds) in omega arith
 
 -- sums follow their parts, up to each place
 pub sum-take-le : (needs heights : List ℕ) (place : ℕ) → AllZip (λ need height. need ≤ height) needs heights →
