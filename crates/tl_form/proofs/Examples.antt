@@ -13,7 +13,7 @@ use Rattle.tl_text.specs.Paragraph.{lined_pieces}
 use Rattle.tl_text.specs.Cuttings.{line_width, IsPieceCut}
 use Rattle.tl_form.specs.declared.layout.Layout.{Layout}
 use Rattle.tl_form.specs.Table.{Table}
-use Rattle.tl_form.specs.Layout.{position, room, total, FitBlocks, Fits}
+use Rattle.tl_form.specs.Layout.{FitBlocks, Fits}
 use Rattle.tl_form.specs.TextPage.{Shown, page_text}
 
 abbrev aa : Atom
@@ -24,28 +24,6 @@ bb = Word (codes "bb")
 
 abbrev b : Atom
 b = Word (codes "b")
-
--- ---- the places of two columns, two and one wide, with a gap of two columns
-
-second_column : position 2 (2 ∷ 1 ∷ []) 1 ≡ 4
-second_column = refl
-
-one_column : room 2 (2 ∷ 1 ∷ []) 1 2 ≡ 1
-one_column = refl
-
-both_columns : room 2 (2 ∷ 1 ∷ []) 0 2 ≡ 5
-both_columns = refl
-
-whole_width : total 2 0 (2 ∷ 1 ∷ []) ≡ 5
-whole_width = refl
-
--- with lines around: a gap of one column, and one at each edge
-framed_width : total 1 1 (2 ∷ 1 ∷ []) ≡ 6
-framed_width = refl
-
--- a table without a row has no edges
-no_height : total 1 1 [] ≡ 0
-no_height = refl
 
 -- ---- the page: the lines of the cells of a slot side by side, each filled to its cell's room
 

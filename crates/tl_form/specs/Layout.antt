@@ -1,25 +1,13 @@
 -- Layouts of a table: a width for each column and a height for each row, each whatever it may be; and when one fits.
-use Rattle.std.specs.Prelude.{◌≡◌, ℕ, ◌+◌, ◌-◌, ◌*◌, ◌≤◌, List, [], ◌∷◌, length, take, sum, slice_range}
+use Rattle.std.specs.Prelude.{◌≡◌, ℕ, ◌≤◌, List, length, sum}
 use Rattle.std.specs.List.{AllByRecursion, AllZip}
 use Rattle.tl_base.specs.declared.style.Style.{Style}
 use Rattle.tl_base.specs.Style.{gap_of, row_gap_of, edge_of}
+use Rattle.tl_problem.specs.Sizes.{room, total}
 use Rattle.tl_text.specs.declared.paragraph.Atom.{Atom}
 use Rattle.tl_text.specs.Cuttings.{joined, IsCutting, HoldsIn}
 use Rattle.tl_form.specs.declared.layout.Layout.{Layout}
 use Rattle.tl_form.specs.Table.{Cell, Table}
-
--- where the column or row of this number begins, counted from the first: behind the sizes and gaps before it
-abbrev pub position : ℕ → List ℕ → ℕ → ℕ
-position gap sizes place = sum (take place sizes) + gap * place
-
--- the room of a span: the sizes of its columns or rows, and the gaps between them
-abbrev pub room : ℕ → List ℕ → ℕ → ℕ → ℕ
-room gap sizes from past = sum (slice_range sizes from past) + gap * (past - from - 1)
-
--- the total size: all sizes, the gaps between them, and an edge at each side; nothing for no column or row
-abbrev pub total : ℕ → ℕ → List ℕ → ℕ
-total gap edge [] = 0
-total gap edge (size ∷ sizes) = size + sum sizes + gap * length sizes + 2 * edge
 
 -- the total width and height of a layout
 abbrev pub total_width : Style → Layout → ℕ

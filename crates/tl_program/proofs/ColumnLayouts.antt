@@ -8,7 +8,8 @@ use Rattle.tl_text.specs.declared.paragraph.Atom.{Atom}
 use Rattle.tl_text.specs.Cuttings.{joined, LeastLines}
 use Rattle.tl_text.proofs.Paragraphs.{HoldsIn-wider}
 use Rattle.tl_form.specs.declared.layout.Layout.{Layout}
-use Rattle.tl_form.specs.Layout.{room, total, position, total_height, HoldsCell, Fits}
+use Rattle.tl_problem.specs.Sizes.{room, total, position}
+use Rattle.tl_form.specs.Layout.{total_height, HoldsCell, Fits}
 use Rattle.tl_form.specs.Least.{IsLeastHeight}
 use Rattle.tl_form.specs.Tight.{NeedsNoMore, IsTight}
 use Rattle.tl_program.specs.Column.{cells_from, column_of, column_layout}

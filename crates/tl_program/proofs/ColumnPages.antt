@@ -9,7 +9,7 @@ use Rattle.tl_text.specs.Cuttings.{joined, IsGreedyCutting}
 use Rattle.tl_text.proofs.Paragraphs.{LeastLines-falls}
 use Rattle.tl_form.specs.declared.layout.Layout.{Layout}
 use Rattle.tl_form.specs.Table.{Cell, Table}
-use Rattle.tl_form.specs.Layout.{room, position}
+use Rattle.tl_problem.specs.Sizes.{room, position}
 use Rattle.tl_form.specs.TextPage.{filled, IsContent, Shown, ShowsCells, covers, piece, with_gaps, page_line, row_lines, IsTextPage}
 use Rattle.tl_program.specs.Column.{cells_from, column_of, column_layout, ShowsRow, lines_text}
 use Rattle.tl_program.specs.ColumnSizes.{RowNeeds}
