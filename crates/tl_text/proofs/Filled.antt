@@ -6,7 +6,7 @@ use Rattle.std.proofs.lemmas.List.{at_drop_all, at_drop_more, take_all}
 use Rattle.tl_text.specs.declared.filling.Filling.{Filling}
 use Rattle.tl_text.specs.declared.paragraph.Atom.{Atom}
 use Rattle.tl_text.specs.Cuttings.{LeastLines}
-use Rattle.tl_text.specs.Measure.{measure_of, lines_after}
+use Rattle.tl_text.specs.inner.Measure.{measure_of, lines_after}
 use Rattle.tl_text.specs.Paragraph.{unit_width}
 use Rattle.tl_text.specs.Ranges.{IsFirstTooWide}
 use Rattle.tl_text.specs.declared.measure.Measure.{Measure}

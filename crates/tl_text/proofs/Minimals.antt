@@ -13,7 +13,7 @@ use Rattle.tl_text.specs.Minimal.{IsMinimal}
 use Rattle.std.specs.List.{All, AllByRecursion}
 use Rattle.std.proofs.lemmas.List.Elements.{All-from_recursion}
 use Rattle.std.proofs.lemmas.List.{length-map}
-use Rattle.tl_text.specs.Measure.{measure_of, lines_after, columns_of}
+use Rattle.tl_text.specs.inner.Measure.{measure_of, lines_after, columns_of}
 use Rattle.tl_text.specs.declared.filling.Filling.{Filling}
 use Rattle.tl_text.specs.declared.measure.Measure.{Measure}
 use Rattle.tl_text.proofs.Paragraphs.{AllFit, AllFit-wider, LeastLines-falls, greedy_cut, greedy_cut-least, columns_of-measure_of, atoms-of-cut-fit}

@@ -7,7 +7,7 @@ use Rattle.tl_text.specs.declared.paragraph.Atom.{Atom}
 use Rattle.tl_text.specs.declared.paragraph.Atom.TheVariants.{Word, Glue, Break}
 use Rattle.tl_text.specs.Paragraph.{unit_width, gap_before, lined_pieces}
 use Rattle.tl_text.specs.Cuttings.{line_width, joined, IsPieceCut, IsCutting, HoldsIn, HasCutting, FillsLines, IsGreedyCutting, LeastLines}
-use Rattle.tl_text.specs.Measure.{measure_of, columns_of}
+use Rattle.tl_text.specs.inner.Measure.{measure_of, columns_of}
 use Rattle.std.proofs.lemmas.List.{take_more}
 use Rattle.tl_text.proofs.Widths.{units_within, at_choice}
 use Rattle.tl_text.proofs.Greedy.{piece_lines, more, more-least, fill-joined, fill-some, fill-holds, fill-filled, fill-length, line_width-single}

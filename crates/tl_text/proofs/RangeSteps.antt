@@ -9,7 +9,7 @@ use Rattle.tl_text.specs.declared.paragraph.Atom.TheVariants.{Word, Glue, Break}
 use Rattle.tl_text.specs.declared.ranges.Line.{Line}
 use Rattle.tl_text.specs.Paragraph.{unit_width, gap_before, lined_pieces}
 use Rattle.tl_text.specs.Cuttings.{line_width, joined, LeastLines}
-use Rattle.tl_text.specs.Measure.{measure_of, next_line, ends_line}
+use Rattle.tl_text.specs.inner.Measure.{measure_of, next_line, ends_line}
 use Rattle.tl_text.specs.Ranges.{AreInOrder, ShowsLine, ShowsGreedyCutting}
 use Rattle.tl_text.proofs.Widths.{line_width-push}
 use Rattle.tl_text.proofs.Greedy.{fill, piece_lines, line_width-single}

@@ -5,7 +5,7 @@ use Rattle.tl_text.specs.declared.paragraph.Atom.{Atom}
 use Rattle.tl_text.specs.declared.paragraph.Atom.TheVariants.{Word, Glue, Break}
 use Rattle.tl_text.specs.Paragraph.{unit_width, gap_before, lined_pieces}
 use Rattle.tl_text.specs.Cuttings.{joined}
-use Rattle.tl_text.specs.Measure.{measure_of, lines_after}
+use Rattle.tl_text.specs.inner.Measure.{measure_of, lines_after}
 use Rattle.tl_text.proofs.Greedy.{fill, piece_lines, more, fill-length, line_width-single}
 use Rattle.tl_text.proofs.Paragraphs.{greedy_cut}
 

@@ -1,6 +1,6 @@
 pub mod Words
 pub mod Paragraph
 pub mod Cuttings
-pub mod Measure
+pub mod inner
 pub mod Minimal
 pub mod Ranges

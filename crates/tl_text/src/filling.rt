@@ -1,7 +1,7 @@
 ghost use Rattle.std.specs.Prelude.{◌≡◌, ◌+◌, ◌-◌, ◌<◌, ◌≤◌, ◌^◌, ℕ, List, [], ◌∷◌, None, IfSome, if◌then◌else◌};
 ghost use Rattle.std.specs.Option.{ForSome};
 ghost use Rattle.tl_text.specs.declared.measure.Measure.{Measure};
-ghost use Rattle.tl_text.specs.Measure.{lines_after, next_line, ends_line, columns_of};
+ghost use Rattle.tl_text.specs.inner.Measure.{lines_after, next_line, ends_line, columns_of};
 
 use crate::measure::Measure;
 

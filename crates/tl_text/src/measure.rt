@@ -1,5 +1,5 @@
 ghost use Rattle.std.specs.Prelude.{◌≡◌, ◌≤◌};
-ghost use Rattle.tl_text.specs.Measure.{measure_of, columns_of};
+ghost use Rattle.tl_text.specs.inner.Measure.{measure_of, columns_of};
 ghost use Rattle.tl_text.specs.Paragraph.{atom_size};
 
 use crate::{Atom, word_width};

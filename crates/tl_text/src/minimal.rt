@@ -2,7 +2,7 @@ ghost use Rattle.std.specs.Prelude.{◌≡◌, ◌+◌, ◌-◌, ◌^◌, ◌≤
 ghost use Rattle.std.specs.List.{All};
 ghost use Rattle.tl_text.specs.Cuttings.{HasCutting};
 ghost use Rattle.tl_text.specs.Minimal.{AreMinimal};
-ghost use Rattle.tl_text.specs.Measure.{measure_of, lines_after, columns_of};
+ghost use Rattle.tl_text.specs.inner.Measure.{measure_of, lines_after, columns_of};
 
 use crate::filling::Filling;
 use crate::measure::{Measure, measured};

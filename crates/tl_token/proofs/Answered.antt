@@ -1,16 +1,15 @@
 -- What is read of a text is what its grammar says, and the grammar says one thing only.
-use Rattle.std.proofs.Common.{◌≡◌, ℕ, ◌≤◌, Bool, true, false, List, [], ◌∷◌, length, refl, sym, ap, ◌∙◌, subst, inl, inr, eqb, cond, arith, Result, Ok, Err, IfOk}
+use Rattle.std.proofs.Common.{◌≡◌, ℕ, ◌≤◌, Bool, true, false, List, [], ◌∷◌, length, refl, sym, ap, ◌∙◌, subst, inl, inr, eqb, cond, arith, Result, Ok, Err, IfOk, IfErr}
 use Rattle.std.proofs.lemmas.Str.{encodes-chars}
 use Rattle.std.specs.Str.{chars, IsUtf8}
 use Rattle.std.specs.Str.Lossy.{utf8_valid_len}
 use Rattle.tl_token.specs.Characters.{byte_len}
 use Rattle.tl_token.specs.Grammar.{Piece, Stands, FaultStands}
 use Rattle.tl_token.specs.Grammar as grammar
-use Rattle.tl_token.specs.Spelling.{place_of, tokens_of, without_mark, characters, Spells, FirstFault, Refused, size_of}
-use Rattle.tl_token.specs.Reading.{Found, stands, faulty, standing}
-use Rattle.tl_token.specs.Reader.{Eats}
-use Rattle.tl_token.specs.Found.{fault_of}
-use Rattle.tl_token.specs.Answer.{Tokens, error_of, Answers, OnlyTokens, OnlyError}
+use Rattle.tl_token.specs.Spelling.{place_of, tokens_of, without_mark, characters, SpellsTokens, FirstFault, Refused, RefusedOrMemory, Tokens, ReturnsTokens, ReturnsError, size_of}
+use Rattle.tl_token.specs.inner.Reading.{Found, stands, faulty, standing}
+use Rattle.tl_token.specs.inner.Reader.{Eats}
+use Rattle.tl_token.specs.inner.Found.{fault_of, error_of}
 use Rattle.tl_token.specs.declared.token.TokenError.{TokenError}
 use Rattle.tl_token.specs.declared.token.TokenError.TheVariants.{Memory, NotUtf8, UnendedTag, UnendedComment, BadTag, UnknownElement, BadReference, BadCharacter}
 use Rattle.tl_token.specs.declared.piece.Fault.{Fault}
@@ -59,13 +58,13 @@ refused bytes fault.BadReference place h = h
 refused bytes fault.BadCharacter place h = h
 
 -- The grammar says one thing of the bytes.
-spelled_once : (bytes : List ℕ) (ts us : Tokens) → Spells bytes ts → Spells bytes us → ts ≡ us
+spelled_once : (bytes : List ℕ) (ts us : Tokens) → SpellsTokens bytes ts → SpellsTokens bytes us → ts ≡ us
 spelled_once bytes ts us h k = h.3 ∙ ap tokens_of (one_way (length bytes) (characters bytes) (h.1) (k.1) (h.2) (k.2)) ∙ sym (k.3)
 
-not_both : (bytes : List ℕ) (ts : Tokens) (f : grammar.Fault) (place : ℕ) → Spells bytes ts → FirstFault bytes f place → ⊥
+not_both : (bytes : List ℕ) (ts : Tokens) (f : grammar.Fault) (place : ℕ) → SpellsTokens bytes ts → FirstFault bytes f place → ⊥
 not_both bytes ts f place h k = whole_or_broken (length bytes) (characters bytes) (k.2) (h.1) (k.1) f (h.2) (k.3) (k.4)
 
-spelled_or_refused : (bytes : List ℕ) (ts : Tokens) (error : TokenError) → Spells bytes ts → Refused bytes error → ⊥
+spelled_or_refused : (bytes : List ℕ) (ts : Tokens) (error : TokenError) → SpellsTokens bytes ts → Refused bytes error → ⊥
 spelled_or_refused bytes ts (Memory e) h k = k
 spelled_or_refused bytes ts (NotUtf8 n) h k = k.0 (h.0)
 spelled_or_refused bytes ts (UnendedTag p) h k = not_both bytes ts grammar.unended_tag p h k
@@ -109,26 +108,25 @@ said_once bytes d e (at_fault f p h l) (at_fault g q k m) =
     let places : p ≡ q = l.5 ∙ ap (place_of (length bytes)) rests ∙ sym (m.5) in
     h ∙ ap (λ x. error_at x p) faults ∙ ap (error_at g) places ∙ sym k
 
--- So each answer excludes the others.
-pub only_tokens : (bytes : List ℕ) (result : Result Tokens TokenError) → Answers bytes result → (ts : Tokens) → Spells bytes ts → OnlyTokens ts result
-only_tokens bytes (Ok us) h ts k = spelled_once bytes us ts h k
-only_tokens bytes (Err e) (inl h) ts k = h
-only_tokens bytes (Err e) (inr h) ts k = absurd (spelled_or_refused bytes ts e k h)
+-- So each result excludes the others.
+module _ (bytes : List ℕ) where
+  pub only_tokens : (result : Result Tokens TokenError) → IfOk result (SpellsTokens bytes) → IfErr result (RefusedOrMemory bytes)
+      → (ts : Tokens) → SpellsTokens bytes ts → ReturnsTokens ts result
+  only_tokens (Ok us) h _ ts k = spelled_once bytes us ts h k
+  only_tokens (Err e) _ (inl h) ts k = h
+  only_tokens (Err e) _ (inr h) ts k = absurd (spelled_or_refused bytes ts e k h)
 
-pub only_error : (bytes : List ℕ) (result : Result Tokens TokenError) → Answers bytes result → (e : TokenError) → Refused bytes e → OnlyError e result
-only_error bytes (Ok us) h e k = spelled_or_refused bytes us e h k
-only_error bytes (Err d) (inl h) e k = inl h
-only_error bytes (Err d) (inr h) e k = inr (said_once bytes d e (said bytes d h) (said bytes e k))
+  pub only_error : (result : Result Tokens TokenError) → IfOk result (SpellsTokens bytes) → IfErr result (RefusedOrMemory bytes)
+      → (e : TokenError) → Refused bytes e → ReturnsError e result
+  only_error (Ok us) h _ e k = spelled_or_refused bytes us e h k
+  only_error (Err d) _ (inl h) e k = inl h
+  only_error (Err d) _ (inr h) e k = inr (said_once bytes d e (said bytes d h) (said bytes e k))
 
-pub spelled : (bytes : List ℕ) (result : Result Tokens TokenError) → Answers bytes result → IfOk result (λ ts. Spells bytes ts)
-spelled bytes (Ok ts) h = h
-spelled bytes (Err e) h = tt
+  -- and the tokens are no larger than the file
+  tokens_small : (ts : Tokens) → SpellsTokens bytes ts → size_of ts ≤ length bytes
+  tokens_small ts h =
+      omega (arith, tokens_le (length bytes) (characters bytes) [] (h.1) (h.2), ap size_of (h.3), mark_le (chars bytes), bytes_of bytes (h.0))
 
--- and the tokens are no larger than the file
-tokens_small : (bytes : List ℕ) (ts : Tokens) → Spells bytes ts → size_of ts ≤ length bytes
-tokens_small bytes ts h =
-    omega (arith, tokens_le (length bytes) (characters bytes) [] (h.1) (h.2), ap size_of (h.3), mark_le (chars bytes), bytes_of bytes (h.0))
-
-pub small : (bytes : List ℕ) (result : Result Tokens TokenError) → Answers bytes result → IfOk result (λ ts. size_of ts ≤ length bytes)
-small bytes (Ok ts) h = tokens_small bytes ts h
-small bytes (Err e) h = tt
+  pub small : (result : Result Tokens TokenError) → IfOk result (SpellsTokens bytes) → IfOk result (λ ts. size_of ts ≤ length bytes)
+  small (Ok ts) h = tokens_small ts h
+  small (Err e) h = tt

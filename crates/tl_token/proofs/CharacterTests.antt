@@ -2,7 +2,7 @@
 use Rattle.std.proofs.Common.{◌≡◌, ◌≢◌, ℕ, Bool, true, false, not, ◌||◌, ◌⊎◌, List, [], ◌∷◌, ◌++◌, refl, sym, ◌∙◌, subst, inl, inr, eqb, cond, append_assoc}
 use Rattle.std.proofs.lemmas.Bool.{eqb-true, false≢true}
 use Rattle.tl_token.specs.Characters.{is_among, begins}
-use Rattle.tl_token.specs.Reader.{Eats}
+use Rattle.tl_token.specs.inner.Reader.{Eats}
 use Rattle.tl_token.specs.Grammar.{Each}
 
 -- a choice has the property of the one or of the other

@@ -5,7 +5,7 @@ use Rattle.std.specs.Prelude.{codes}
 use Rattle.std.specs.Char.{to_ascii_lowercase}
 use Rattle.tl_token.specs.Elements.{is_word}
 use Rattle.tl_token.specs.Grammar.{past_first, hidden, tag, character, unended_tag, unended_comment, bad_tag, unknown_element, bad_reference, bad_character}
-use Rattle.tl_token.specs.Reading.{Found, stands, faulty, closed_or, in_doctype, doctype_word}
+use Rattle.tl_token.specs.inner.Reading.{Found, stands, faulty, closed_or, in_doctype, doctype_word}
 use Rattle.tl_token.proofs.CharacterTests.{chosen, cases_bool, clash}
 
 -- behind the `<!`, the rest w of the word, and anything up to the first `>`

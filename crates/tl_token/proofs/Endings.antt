@@ -2,7 +2,7 @@
 use Rattle.std.proofs.Common.{◌≡◌, ℕ, List, [], ◌∷◌, ◌++◌, refl, sym, ◌∙◌, subst}
 use Rattle.tl_token.specs.Grammar.{Piece, Stands, Fault, FaultStands}
 use Rattle.tl_token.specs.Spelling.{Part, place_of, Leads, here, next}
-use Rattle.tl_token.specs.Reading.{stands, faulty}
+use Rattle.tl_token.specs.inner.Reading.{stands, faulty}
 use Rattle.tl_token.proofs.PlacesWhole.{place_whole, fault_whole, nothing_at_end, no_fault_at_end}
 
 -- one piece at most stands at a place
@@ -73,14 +73,14 @@ one_break size cs _ last _ qs f g here broken k other = from k refl other
     from here e o = let P : List ℕ → Type 0 = λ x. FaultStands f x in (one_fault last f g (subst P (sym e) broken) o, sym e)
     from (next {cs = ds} {mid = mid} piece s later) e o = let P : List ℕ → Type 0 = λ x. Stands x piece mid in absurd (no_piece_at_fault cs piece mid f (subst P e s) broken)
 one_break size cs rest last _ qs f g (next {mid = mid} {parts = ps} p h later) broken k other =
-    from k refl other (λ behind rs same l o. one_break size mid rest last ps rs f g later broken (subst (λ (x : List ℕ). Leads size x rs last) (sym same) l) o)
+    from k refl other (λ after rs same l o. one_break size mid rest last ps rs f g later broken (subst (λ (x : List ℕ). Leads size x rs last) (sym same) l) o)
   where
     from : {ds : List ℕ} {qs : List Part} → Leads size ds qs last → ds ≡ cs → FaultStands g last
-        → ((behind : List ℕ) (rs : List Part) → mid ≡ behind → Leads size behind rs last → FaultStands g last → (f ≡ g) × (rest ≡ last)) → (f ≡ g) × (rest ≡ last)
+        → ((after : List ℕ) (rs : List Part) → mid ≡ after → Leads size after rs last → FaultStands g last → (f ≡ g) × (rest ≡ last)) → (f ≡ g) × (rest ≡ last)
     from here e o ih = let P : List ℕ → Type 0 = λ x. FaultStands g x in absurd (no_piece_at_fault cs p mid g h (subst P e o))
-    from (next {cs = ds} {mid = behind} {parts = rs} q s l) e o ih =
-        let P : List ℕ → Type 0 = λ x. Stands x q behind in
-        ih behind rs ((one_piece cs p q mid behind h (subst P e s)).1) l o
+    from (next {cs = ds} {mid = after} {parts = rs} q s l) e o ih =
+        let P : List ℕ → Type 0 = λ x. Stands x q after in
+        ih after rs ((one_piece cs p q mid after h (subst P e s)).1) l o
 
 -- one piece more at the end
 pub leads_more : (size : ℕ) (cs mid rest : List ℕ) (ps : List Part) (piece : Piece) → Leads size cs ps mid → Stands mid piece rest

@@ -6,27 +6,27 @@ use lib.Utf8.{encode}
 use Rattle.tl_token.specs.Numbers.{number_of, columns_of, rows_of, floor_of}
 use Rattle.tl_token.specs.Elements.{element_of}
 use Rattle.tl_token.specs.Grammar.{past_first, Comment, unquoted, quoted, end, gap, attribute, IsTag, reference, hidden, character, plain, by_reference, bad_character, IsUnendedTag}
-use Rattle.tl_token.specs.Spelling.{here, next, token, tokens_of, Spells, FirstFault}
+use Rattle.tl_token.specs.Spelling.{here, next, token, tokens_of, SpellsTokens, FirstFault}
 use Rattle.tl_token.specs.declared.token.Element.TheVariants.{Td}
 use Rattle.tl_token.specs.declared.token.TokenKind.TheVariants.{Text}
 
 -- `<td a=b/>`: a value without quotes is as long as it can be, so the `/` is its own
 slash_in_value : IsTag (codes "<td a=b/>") (record { is_end = false; name = codes "td"; attributes = record { name = codes "a"; value = codes "b/" } ∷ [] }) []
 slash_in_value = record {
-  behind = codes " a=b/>";
+  following = codes " a=b/>";
   spelled = refl;
   named = (refl, (refl, tt));
-  parted = refl;
+  separated = refl;
   attributes = gap refl (attribute (λ e. cc) (refl, tt) refl (unquoted [] [] tt tt (λ e. cc) (refl, (refl, tt)) refl refl) (end refl));
 }
 
 -- `</td a = "/">x`: an end tag may have attributes, and what is in quotes is the value
 quoted_slash : IsTag (codes "</td a = \"/\">x") (record { is_end = true; name = codes "td"; attributes = record { name = codes "a"; value = codes "/" } ∷ [] }) (codes "x")
 quoted_slash = record {
-  behind = codes " a = \"/\">x";
+  following = codes " a = \"/\">x";
   spelled = refl;
   named = (refl, (refl, tt));
-  parted = refl;
+  separated = refl;
   attributes = gap refl (attribute (λ e. cc) (refl, tt) refl (quoted 34 refl (codes " ") (codes " ") (refl, tt) (refl, tt) (refl, tt) refl) (end refl));
 }
 
@@ -38,7 +38,7 @@ lone_angle = inl (inl (
   (λ e. cc),
   (
     record { is_end = false; name = codes "a"; attributes = [] },
-    record { behind = codes ">"; spelled = refl; named = (refl, tt); parted = refl; attributes = end refl },
+    record { following = codes ">"; spelled = refl; named = (refl, tt); separated = refl; attributes = end refl },
   ),
 ))
 
@@ -100,7 +100,7 @@ one_text : tokens_of (record { piece = character 97; first = 0; past = 1 } ∷ r
 one_text = refl
 
 -- `b&lt;` spells the one text `b<`, of the bytes 0 to 5
-whole_file : Spells (codes "b&lt;") (token (Text (codes "b<")) 0 5 ∷ [])
+whole_file : SpellsTokens (codes "b&lt;") (token (Text (codes "b<")) 0 5 ∷ [])
 unfolding chars encode
 whole_file = (
   (codes "b&lt;", (refl, refl)),

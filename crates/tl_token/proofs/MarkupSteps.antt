@@ -4,11 +4,11 @@ use Rattle.std.proofs.lemmas.Bool.{eqb-true, eq-eqb, false≢true}
 use Rattle.std.proofs.lemmas.Bool.Decides.{eqb_tells}
 use Rattle.std.specs.Prelude.{codes}
 use Rattle.std.specs.Char.{to_ascii_lowercase}
-use Rattle.tl_token.specs.Reading.{doctype_word, in_doctype, faulty, angle, declaration}
+use Rattle.tl_token.specs.inner.Reading.{doctype_word, in_doctype, faulty, angle, declaration}
 use Rattle.tl_token.specs.Grammar.{unended_tag, bad_tag}
 use Rattle.std.proofs.Math.Seq.{drop-length}
 use Rattle.tl_token.specs.Characters.{first, begins, run, past}
-use Rattle.tl_token.specs.Grammar.{Each, has_front, past_first}
+use Rattle.tl_token.specs.Grammar.{Each, has_prefix, past_first}
 use Rattle.tl_token.proofs.CharacterTests.{not_true}
 use Rattle.tl_token.proofs.TagSteps.{run_split, run_each, past_ended}
 
@@ -37,7 +37,7 @@ close_missing old h =
 before_dash : (w cs : List ℕ) → Each (λ c. not (eqb c 45)) w → past_first (codes "-->") (w ++ cs) ≡ past_first (codes "-->") cs
 before_dash [] cs h = refl
 before_dash (c ∷ w) cs h =
-    ap (λ b. cond (b && has_front (codes "->") (w ++ cs)) (Some (drop 3 (c ∷ (w ++ cs)))) (past_first (codes "-->") (w ++ cs))) (not_true (eqb c 45) (h.0)) ∙ before_dash w cs (h.1)
+    ap (λ b. cond (b && has_prefix (codes "->") (w ++ cs)) (Some (drop 3 (c ∷ (w ++ cs)))) (past_first (codes "-->") (w ++ cs))) (not_true (eqb c 45) (h.0)) ∙ before_dash w cs (h.1)
 
 pub to_dash : (old : List ℕ) → past_first (codes "-->") old ≡ past_first (codes "-->") (past (λ c. not (eqb c 45)) old)
 to_dash old =
@@ -50,7 +50,7 @@ dash_missing cs h k = ap (past_first (codes "-->")) (nothing_left 45 cs h k)
 -- one `-` alone ends nothing
 pub one_dash : (cs : List ℕ) → begins (λ c. eqb c 45) cs ≡ false → past_first (codes "-->") (45 ∷ cs) ≡ past_first (codes "-->") cs
 one_dash [] h = refl
-one_dash (c ∷ cs) h = ap (λ b. cond (b && has_front (codes ">") cs) (Some (drop 3 (45 ∷ c ∷ cs))) (past_first (codes "-->") (c ∷ cs))) h
+one_dash (c ∷ cs) h = ap (λ b. cond (b && has_prefix (codes ">") cs) (Some (drop 3 (45 ∷ c ∷ cs))) (past_first (codes "-->") (c ∷ cs))) h
 
 -- two and more, and then no `>`
 two_dashes : (cs : List ℕ) → begins (λ c. eqb c 45) cs ≡ false → begins (λ c. eqb c 62) cs ≡ false → past_first (codes "-->") (45 ∷ 45 ∷ cs) ≡ past_first (codes "-->") cs

@@ -4,7 +4,7 @@ use Rattle.std.specs.Option.{option_map, option_and_then}
 use Rattle.std.specs.Prelude.{codes}
 use Rattle.tl_token.specs.Numbers.{number_of, columns_of, rows_of, floor_of}
 use Rattle.tl_token.specs.Elements.{Attribute, is_word, value_of, attribute_number}
-use Rattle.tl_token.specs.Found.{number_in, number_after, given_of, given_after}
+use Rattle.tl_token.specs.inner.Found.{number_in, number_after, given_of, given_after}
 use Rattle.tl_token.proofs.Saturating.{columns_below, rows_below, floor_below}
 
 -- one more attribute counts where no attribute of its name stands before it

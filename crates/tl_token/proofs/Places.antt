@@ -7,8 +7,8 @@ use Rattle.std.specs.Char.{is_ascii_alphabetic}
 use Rattle.tl_token.specs.Characters.{◌∈◌, is_control, opens_markup}
 use Rattle.tl_token.specs.Elements.{Tag, element_of}
 use Rattle.tl_token.specs.Grammar.{past_first, Doctype, opening, IsTagName, IsTag, reference, hidden, tag, character, Stands, comment, doctype, markup, by_reference, plain, unended_tag, unended_comment, bad_tag, unknown_element, bad_reference, bad_character, IsUnendedTag, IsBadTag, FaultStands}
-use Rattle.tl_token.specs.States.{tag_open, Outcome, reads, unended, wrong, read}
-use Rattle.tl_token.specs.Reading.{Found, stands, faulty, closed_or, in_comment, comment_open, doctype_word, declaration, known_or_not, tag_found, angle, referred_or, standing}
+use Rattle.tl_token.specs.inner.States.{tag_open, Outcome, reads, unended, wrong, read}
+use Rattle.tl_token.specs.inner.Reading.{Found, stands, faulty, closed_or, in_comment, comment_open, doctype_word, declaration, known_or_not, tag_found, angle, referred_or, standing}
 use Rattle.tl_token.specs.declared.token.Element.{Element}
 use Rattle.tl_token.proofs.CharacterTests.{clash, is_it, or_left}
 use Rattle.tl_token.proofs.TagSound.{tag_sound}
@@ -25,7 +25,7 @@ Holds cs (faulty fault) = FaultStands fault cs
 pub tag_second : (d : ℕ) (cs : List ℕ) (t : Tag) (rest : List ℕ) → IsTag (codes "<" ++ (d ∷ cs)) t rest → (is_ascii_alphabetic d || d ∈ "/") ≡ true
 tag_second d cs t rest h = from (t.is_end) (t.name) (h.named) (h.spelled)
   where
-    from : (e : Bool) (n : List ℕ) → IsTagName n → codes "<" ++ (d ∷ cs) ≡ opening e ++ (n ++ h.behind) → (is_ascii_alphabetic d || d ∈ "/") ≡ true
+    from : (e : Bool) (n : List ℕ) → IsTagName n → codes "<" ++ (d ∷ cs) ≡ opening e ++ (n ++ h.following) → (is_ascii_alphabetic d || d ∈ "/") ≡ true
     from e [] n k = absurd n
     from true (c ∷ m) n k = let same : d ≡ 47 = cc in let P : ℕ → Type 0 = λ x. (is_ascii_alphabetic x || x ∈ "/") ≡ true in subst P (sym same) refl
     from false (c ∷ m) n k =
@@ -53,7 +53,7 @@ wrong_is_bad d cs opens mark h =
     let marked = λ (e : d ≡ 33). let P : ℕ → Type 0 = λ x. (x ∈ "!") ≡ false in false≢true (sym (subst P e mark)) in
     record {
       second = d;
-      behind = cs;
+      after = cs;
       opened = refl;
       opens = opens;
       no_tag = λ t rest k. let e = tag_whole (d ∷ cs) t rest k in let never : reads t rest ≡ wrong = sym e ∙ h in cc;
@@ -97,7 +97,7 @@ bad_declaration c cs dash never =
     let dashed = λ (e : c ≡ 45). let P : ℕ → Type 0 = λ x. (x ∈ "-") ≡ false in false≢true (sym (subst P e dash)) in
     record {
       second = 33;
-      behind = c ∷ cs;
+      after = c ∷ cs;
       opened = refl;
       opens = refl;
       no_tag = λ t rest k. no_tag_here (c ∷ cs) t rest k;
@@ -121,7 +121,7 @@ bad_comment c cs dash =
     let dashed = λ (e : c ≡ 45). let P : ℕ → Type 0 = λ x. (x ∈ "-") ≡ false in false≢true (sym (subst P e dash)) in
     record {
       second = 33;
-      behind = 45 ∷ c ∷ cs;
+      after = 45 ∷ c ∷ cs;
       opened = refl;
       opens = refl;
       no_tag = λ t rest k. no_tag_here (45 ∷ c ∷ cs) t rest k;

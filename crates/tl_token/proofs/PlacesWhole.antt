@@ -6,8 +6,8 @@ use Rattle.std.specs.Char.{is_ascii_alphabetic}
 use Rattle.tl_token.specs.Characters.{◌∈◌, is_control, opens_markup, begins}
 use Rattle.tl_token.specs.Elements.{Tag, element_of}
 use Rattle.tl_token.specs.Grammar.{Doctype, opening, IsTag, Piece, hidden, tag, character, Stands, comment, doctype, markup, by_reference, plain, Fault, unended_tag, unended_comment, bad_tag, unknown_element, bad_reference, bad_character, IsBadTag, FaultStands}
-use Rattle.tl_token.specs.States.{tag_open, Outcome, reads, unended, wrong, read}
-use Rattle.tl_token.specs.Reading.{Found, stands, faulty, closed_or, declaration, known_or_not, tag_found, angle, referred_or, standing}
+use Rattle.tl_token.specs.inner.States.{tag_open, Outcome, reads, unended, wrong, read}
+use Rattle.tl_token.specs.inner.Reading.{Found, stands, faulty, closed_or, declaration, known_or_not, tag_found, angle, referred_or, standing}
 use Rattle.tl_token.specs.declared.token.TokenKind.{TokenKind}
 use Rattle.tl_token.proofs.CharacterTests.{cases_bool, clash, is_it, or_cases, or_false, or_left, not_true, excludes}
 use Rattle.tl_token.proofs.TagWhole.{tag_whole}
@@ -28,7 +28,7 @@ second_of_two false x y h = refl
 tag_first : (c : ℕ) (cs : List ℕ) (t : Tag) (rest : List ℕ) → IsTag (c ∷ cs) t rest → c ≡ 60
 tag_first c cs t rest h = from (t.is_end) (h.spelled)
   where
-    from : (e : Bool) → c ∷ cs ≡ opening e ++ (t.name ++ h.behind) → c ≡ 60
+    from : (e : Bool) → c ∷ cs ≡ opening e ++ (t.name ++ h.following) → c ≡ 60
     from true k = cc
     from false k = cc
 
@@ -151,7 +151,7 @@ bad_is_found c cs (stands _ rest) bad (by_reference a h) =
 bad_is_found c cs (stands _ rest) bad (plain k) =
     let o = bad.opened in
     let is : c ≡ 60 = cc in
-    let later : cs ≡ bad.second ∷ bad.behind = cc in
+    let later : cs ≡ bad.second ∷ bad.after = cc in
     let P : ℕ → Type 0 = λ x. (x ∈ "<") ≡ true in
     let no = (k.1 (subst P (sym is) refl)).1 in
     absurd (clash (opens_markup (bad.second)) (bad.opens) (sym (ap (begins opens_markup) later) ∙ not_true (begins opens_markup cs) no))
@@ -201,7 +201,7 @@ nothing_at_end _ rest (comment k) = let e = k.opened in cc
 nothing_at_end _ rest (doctype k) = let e = k.opened in cc
 nothing_at_end _ rest (markup e t k known kind) = from (t.is_end) (k.spelled)
   where
-    from : (e : Bool) → [] ≡ opening e ++ (t.name ++ k.behind) → ⊥
+    from : (e : Bool) → [] ≡ opening e ++ (t.name ++ k.following) → ⊥
     from true h = cc
     from false h = cc
 
@@ -213,7 +213,7 @@ no_fault_at_end unended_comment k = let e = k.opened in cc
 no_fault_at_end bad_tag k = let e = k.opened in cc
 no_fault_at_end unknown_element k = nothing_at_end hidden [] (absurd (from ((k.0).is_end) (k.2.spelled)))
   where
-    from : (e : Bool) → [] ≡ opening e ++ ((k.0).name ++ k.2.behind) → ⊥
+    from : (e : Bool) → [] ≡ opening e ++ ((k.0).name ++ k.2.following) → ⊥
     from true h = cc
     from false h = cc
 no_fault_at_end bad_reference k = let e = k.2 in cc

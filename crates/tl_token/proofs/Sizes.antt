@@ -8,7 +8,7 @@ use Rattle.tl_token.specs.Numbers.{number}
 use lib.Utf8.{encode, encodes}
 use Rattle.tl_token.specs.Characters.{◌∈◌, begins, past, byte_len}
 use Rattle.tl_token.specs.Elements.{Attribute, Tag, kind_of, spans_of}
-use Rattle.tl_token.specs.Grammar.{has_front, past_first, Value, missing, quoted, unquoted, Attributes, end, gap, attribute, opening, IsTag, named_character, numbered_character, ended_run, referred, numeric_reference, reference, Piece, hidden, tag, character, Stands, comment, doctype, markup, by_reference, plain}
+use Rattle.tl_token.specs.Grammar.{has_prefix, past_first, Value, missing, quoted, unquoted, Attributes, end, gap, attribute, opening, IsTag, named_character, numbered_character, ended_run, referred, numeric_reference, reference, Piece, hidden, tag, character, Stands, comment, doctype, markup, by_reference, plain}
 use Rattle.tl_token.specs.Spelling.{Part, place_of, Leads, here, next, join_before, character_before, piece_before, tokens_of, token_size, size_of}
 use Rattle.tl_token.specs.declared.token.TokenKind.{TokenKind}
 use Rattle.tl_token.specs.declared.token.TokenKind.TheVariants.{Start, End, Text}
@@ -36,7 +36,7 @@ drop_le (suc n) (c ∷ cs) = let h = drop_le n cs in omega (arith, h, more_bytes
 
 past_first_le : (mark cs rest : List ℕ) → past_first mark cs ≡ Some rest → byte_len rest ≤ byte_len cs
 past_first_le mark [] rest h = cc
-past_first_le mark (c ∷ cs) rest h = elim (chosen (λ (o : Option (List ℕ)). o ≡ Some rest) (has_front mark (c ∷ cs)) _ _ h) [
+past_first_le mark (c ∷ cs) rest h = elim (chosen (λ (o : Option (List ℕ)). o ≡ Some rest) (has_prefix mark (c ∷ cs)) _ _ h) [
   | inl e ↦ let same : drop (length mark) (c ∷ cs) ≡ rest = cc in omega (arith, ap byte_len (sym same), drop_le (length mark) (c ∷ cs))
   | inr e ↦ let k = past_first_le mark cs rest (e.1) in omega (arith, k, more_bytes c cs)
 ]
@@ -73,19 +73,19 @@ value_le cs value rest (unquoted before after b a some v k e) =
 attributes_le : (cs : List ℕ) (others : List Attribute) (rest : List ℕ) → Attributes cs others rest → byte_len rest ≤ byte_len cs
 attributes_le _ _ rest (end {c = c} h) = omega (arith, more_bytes c rest)
 attributes_le _ others rest (gap {c = c} {cs = cs} h later) = let k = attributes_le cs others rest later in omega (arith, k, more_bytes c cs)
-attributes_le cs _ rest (attribute {a = a} {others = others} {behind = behind} {later = later} some each e value attributes) =
+attributes_le cs _ rest (attribute {a = a} {others = others} {following = following} {later = later} some each e value attributes) =
     let k = attributes_le later others rest attributes in
-    omega (arith, k, value_le behind (a.value) later value, behind_le cs (a.name) behind e)
+    omega (arith, k, value_le following (a.value) later value, behind_le cs (a.name) following e)
 
 tag_less : (cs : List ℕ) (t : Tag) (rest : List ℕ) → IsTag cs t rest → byte_len rest < byte_len cs
 tag_less cs t rest k = from (t.is_end) (k.spelled)
   where
-    later : byte_len rest ≤ byte_len (t.name ++ k.behind)
-    later = omega (arith, attributes_le (k.behind) (t.attributes) rest (k.attributes), byte_len-append (t.name) (k.behind))
+    later : byte_len rest ≤ byte_len (t.name ++ k.following)
+    later = omega (arith, attributes_le (k.following) (t.attributes) rest (k.attributes), byte_len-append (t.name) (k.following))
 
-    from : (e : Bool) → cs ≡ opening e ++ (t.name ++ k.behind) → byte_len rest < byte_len cs
-    from true e = omega (arith, ap byte_len e, more_bytes 60 (47 ∷ (t.name ++ k.behind)), more_bytes 47 (t.name ++ k.behind), later)
-    from false e = omega (arith, ap byte_len e, more_bytes 60 (t.name ++ k.behind), later)
+    from : (e : Bool) → cs ≡ opening e ++ (t.name ++ k.following) → byte_len rest < byte_len cs
+    from true e = omega (arith, ap byte_len e, more_bytes 60 (47 ∷ (t.name ++ k.following)), more_bytes 47 (t.name ++ k.following), later)
+    from false e = omega (arith, ap byte_len e, more_bytes 60 (t.name ++ k.following), later)
 
 abbrev after_of : Option (List ℕ × List ℕ) → List ℕ
 after_of None = []

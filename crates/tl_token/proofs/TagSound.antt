@@ -7,8 +7,8 @@ use Rattle.std.specs.Char.{is_ascii_alphabetic, is_ascii_alphanumeric}
 use Rattle.tl_token.specs.Characters.{◌∈◌, is_space, is_name_character, is_value_character, is_gap}
 use Rattle.tl_token.specs.Elements.{Attribute, Tag}
 use Rattle.tl_token.specs.Grammar.{Each, Value, missing, quoted, unquoted, Attributes, end, gap, attribute, IsTagName, opening, IsTag}
-use Rattle.tl_token.specs.States.{State, tag_open, end_tag_open, tag_name, between, in_name, after_name, before_value, in_quotes, in_value, ended, failed, empty_tag, with_attribute, step, reads, read}
-use Rattle.tl_token.specs.States.{with_more}
+use Rattle.tl_token.specs.inner.States.{State, tag_open, end_tag_open, tag_name, between, in_name, after_name, before_value, in_quotes, in_value, ended, failed, empty_tag, with_attribute, step, reads, read}
+use Rattle.tl_token.specs.inner.States.{with_more}
 use Rattle.tl_token.proofs.CharacterTests.{chosen, or_left, or_right, not_true, is_it, is_either, Each-push, push≢nil, push_regroup, clash}
 
 -- behind the tag t, cs goes on to the whole tag, from which the rest follows
@@ -46,9 +46,9 @@ Completes (ended t) cs whole rest = (whole ≡ t) × (rest ≡ cs)
 Completes failed cs whole rest = ⊥
 
 -- an attribute, and what continues the tag with it
-continues_with : (t whole : Tag) (name value behind later rest : List ℕ) → IsName name → Value behind value later
-    → Continues (with_attribute t name value) later whole rest → Continues t (name ++ behind) whole rest
-continues_with t whole name value behind later rest n v k = record {
+continues_with : (t whole : Tag) (name value following later rest : List ℕ) → IsName name → Value following value later
+    → Continues (with_attribute t name value) later whole rest → Continues t (name ++ following) whole rest
+continues_with t whole name value following later rest n v k = record {
   others = record { name = name; value = value } ∷ k.others;
   whole_is = k.whole_is ∙ ap (λ (x : List Attribute). record { is_end = t.is_end; name = t.name; attributes = x }) (append_assoc (t.attributes) (record { name = name; value = value } ∷ []) (k.others));
   spelled = attribute {a = record { name = name; value = value }} (n.some) (n.each) refl v (k.spelled);
@@ -196,7 +196,7 @@ module _ (c : ℕ) (cs : List ℕ) (whole : Tag) (rest : List ℕ) where
       → IsTag (opening is_end ++ (name ++ (c ∷ cs))) whole rest
   back_named is_end name n p k =
       let P : Tag → Type 0 = λ w. IsTag (opening is_end ++ (name ++ (c ∷ cs))) w rest in
-      subst P (sym (k.whole_is)) (record { behind = c ∷ cs; spelled = refl; named = n; parted = p; attributes = k.spelled })
+      subst P (sym (k.whole_is)) (record { following = c ∷ cs; spelled = refl; named = n; separated = p; attributes = k.spelled })
 
   back_tag_name : (is_end : Bool) (name : List ℕ) → Goes (step (tag_name is_end name) c) → Completes (tag_name is_end name) (c ∷ cs) whole rest
   back_tag_name is_end name h = λ n. elim (chosen Goes (is_ascii_alphanumeric c) _ _ h) [

@@ -8,12 +8,12 @@ use Rattle.std.specs.Char.{is_ascii_alphabetic, is_ascii_alphanumeric}
 use Rattle.tl_token.specs.Characters.{◌∈◌, is_space, is_name_character, is_value_character, is_gap, begins, run, past}
 use Rattle.tl_token.specs.Elements.{Attribute, Tag}
 use Rattle.tl_token.specs.Grammar.{Each}
-use Rattle.tl_token.specs.States.{State, tag_open, end_tag_open, tag_name, between, in_name, after_name, before_value, in_quotes, in_value, ended, failed, empty_tag, with_attribute, with_more, attribute, unended, read}
-use Rattle.tl_token.specs.Found.{stop, Stops, ReadsValue, ReadsAttributes}
+use Rattle.tl_token.specs.inner.States.{State, tag_open, end_tag_open, tag_name, between, in_name, after_name, before_value, in_quotes, in_value, ended, failed, empty_tag, with_attribute, with_more, attribute, unended, read}
+use Rattle.tl_token.specs.inner.Found.{stop, Stops, ReadsValue, ReadsAttributes}
 use Rattle.tl_token.specs.declared.tag.Given.{Given}
-use Rattle.tl_token.specs.Reading.{tag_found}
+use Rattle.tl_token.specs.inner.Reading.{tag_found}
 use Rattle.tl_token.specs.declared.piece.Fault.{Fault}
-use Rattle.tl_token.specs.Reader.{Eats}
+use Rattle.tl_token.specs.inner.Reader.{Eats}
 use Rattle.tl_token.proofs.CharacterTests.{cases_bool, or_right, or_false}
 use Rattle.tl_token.proofs.TagWhole.{took, left, after_name_run, before_value_run, in_quotes_run, tag_name_run, to_equals, gap_between, unquoted_read, value_ends, named_read, tag_name_ends, letter_no_slash}
 
@@ -166,10 +166,10 @@ name_alone t n (c ∷ cs) m q = by_test (is_space c) refl q
     by_test false s q = no_equals_at_once t n (c ∷ cs) m s q
 
 -- a name and its `=`, up to the value
-pub name_equals : (t : Tag) (n old behind : List ℕ) → past is_space old ≡ 61 ∷ behind → read (in_name t n) old ≡ read (before_value t n) (past is_space behind)
-name_equals t n old behind e =
-    ap (read (in_name t n)) (run_split is_space old ∙ ap (λ x. run is_space old ++ x) e) ∙ to_equals t n (run is_space old) behind (run_each is_space old)
-    ∙ run_read is_space (before_value t n) (before_value t n) behind (λ w ds each same. before_value_run t n w ds each)
+pub name_equals : (t : Tag) (n old after : List ℕ) → past is_space old ≡ 61 ∷ after → read (in_name t n) old ≡ read (before_value t n) (past is_space after)
+name_equals t n old after e =
+    ap (read (in_name t n)) (run_split is_space old ∙ ap (λ x. run is_space old ++ x) e) ∙ to_equals t n (run is_space old) after (run_each is_space old)
+    ∙ run_read is_space (before_value t n) (before_value t n) after (λ w ds each same. before_value_run t n w ds each)
 
 -- white space and `/` between attributes
 gaps_run : (t : Tag) (w cs : List ℕ) → Each is_gap w → read (between t) (w ++ cs) ≡ read (between t) cs

@@ -9,9 +9,9 @@ use Rattle.std.specs.Char.{is_ascii_alphabetic, is_ascii_alphanumeric}
 use Rattle.tl_token.specs.Characters.{◌∈◌, is_space, is_name_character, is_value_character, is_gap, begins}
 use Rattle.tl_token.specs.Elements.{Attribute, Tag}
 use Rattle.tl_token.specs.Grammar.{Each, Value, missing, quoted, unquoted, Attributes, end, gap, attribute, IsTagName, opening, IsTag}
-use Rattle.tl_token.specs.States.{State, tag_open, tag_name, between, in_name, after_name, before_value, in_quotes, in_value, empty_tag, with_attribute, reads, read}
+use Rattle.tl_token.specs.inner.States.{State, tag_open, tag_name, between, in_name, after_name, before_value, in_quotes, in_value, empty_tag, with_attribute, reads, read}
 use Rattle.tl_token.proofs.CharacterTests.{or_left, or_cases, or_false, not_true, not_false, is_it, is_either, push_regroup, clash, excludes}
-use Rattle.tl_token.specs.States.{with_more}
+use Rattle.tl_token.specs.inner.States.{with_more}
 
 -- tests of one character that exclude each other
 pub space_no_name : (c : ℕ) → is_space c ≡ true → is_name_character c ≡ false
@@ -95,8 +95,8 @@ tag_name_run e m (c ∷ n) cs h =
 pub to_equals : (t : Tag) (n before cs : List ℕ) → Each is_space before → read (in_name t n) (before ++ (codes "=" ++ cs)) ≡ read (before_value t n) cs
 to_equals t n [] cs h = refl
 to_equals t n (c ∷ before) cs h =
-    let behind = before ++ (codes "=" ++ cs) in
-    left (is_name_character c) _ _ behind (space_no_name c (h.0)) ∙ took (is_space c) _ _ behind (h.0) ∙ after_name_run t n before (codes "=" ++ cs) (h.1)
+    let following = before ++ (codes "=" ++ cs) in
+    left (is_name_character c) _ _ following (space_no_name c (h.0)) ∙ took (is_space c) _ _ following (h.0) ∙ after_name_run t n before (codes "=" ++ cs) (h.1)
 
 -- a `/` or a `>`, or white space, behind the attributes so far
 pub gap_between : (t : Tag) (c : ℕ) (cs : List ℕ) → is_gap c ≡ true → read (between t) (c ∷ cs) ≡ read (between t) cs
@@ -114,14 +114,14 @@ name_then t n _ rest others (gap {c = c} {cs = cs} h later) = elim (or_cases (is
       let P : ℕ → Type 0 = λ d. read (after_name t n) (d ∷ cs) ≡ read (between (with_attribute t n [])) (d ∷ cs) in
       subst P (sym (is_it c 47 (s.1))) refl
 ]
-name_then t n cs rest _ (attribute {a = a} {behind = behind} some each e value later) = named (a.name) some each e
+name_then t n cs rest _ (attribute {a = a} {following = following} some each e value later) = named (a.name) some each e
   where
-    named : (m : List ℕ) → m ≢ [] → Each is_name_character m → cs ≡ m ++ behind → read (after_name t n) cs ≡ read (between (with_attribute t n [])) cs
+    named : (m : List ℕ) → m ≢ [] → Each is_name_character m → cs ≡ m ++ following → read (after_name t n) cs ≡ read (between (with_attribute t n [])) cs
     named [] some each e = absurd (some refl)
     named (c ∷ m) some each e =
         let P : List ℕ → Type 0 = λ x. read (after_name t n) x ≡ read (between (with_attribute t n [])) x in
-        subst P (sym e) (left (is_space c) _ _ (m ++ behind) (name_no_space c (each.0)) ∙ left (c ∈ "=") _ _ (m ++ behind) (name_no_equals c (each.0))
-        ∙ took (is_name_character c) _ _ (m ++ behind) (each.0) ∙ sym (took (is_name_character c) _ _ (m ++ behind) (each.0)))
+        subst P (sym e) (left (is_space c) _ _ (m ++ following) (name_no_space c (each.0)) ∙ left (c ∈ "=") _ _ (m ++ following) (name_no_equals c (each.0))
+        ∙ took (is_name_character c) _ _ (m ++ following) (each.0) ∙ sym (took (is_name_character c) _ _ (m ++ following) (each.0)))
 
 -- The same behind the name itself.
 name_ends : (t : Tag) (n cs rest : List ℕ) (others : List Attribute) → begins is_name_character cs ≡ false → Attributes cs others rest
@@ -136,9 +136,9 @@ name_ends t n _ rest others b (gap {c = c} {cs = cs} h later) = elim (or_cases (
       let P : ℕ → Type 0 = λ d. read (in_name t n) (d ∷ cs) ≡ read (between (with_attribute t n [])) (d ∷ cs) in
       subst P (sym (is_it c 47 (s.1))) refl
 ]
-name_ends t n cs rest _ b (attribute {a = a} {behind = behind} some each e value later) = named (a.name) some each e
+name_ends t n cs rest _ b (attribute {a = a} {following = following} some each e value later) = named (a.name) some each e
   where
-    named : (m : List ℕ) → m ≢ [] → Each is_name_character m → cs ≡ m ++ behind → read (in_name t n) cs ≡ read (between (with_attribute t n [])) cs
+    named : (m : List ℕ) → m ≢ [] → Each is_name_character m → cs ≡ m ++ following → read (in_name t n) cs ≡ read (between (with_attribute t n [])) cs
     named [] some each e = absurd (some refl)
     named (c ∷ m) some each e = absurd (clash (is_name_character c) (each.0) (sym (ap (begins is_name_character) e) ∙ b))
 
@@ -177,16 +177,16 @@ named_read t [] cs some each = absurd (some refl)
 named_read t (c ∷ n) cs some each = took (is_name_character c) _ _ (n ++ cs) (each.0) ∙ in_name_run t (c ∷ []) n cs (each.1)
 
 -- behind a name, its value
-valued_read : (t : Tag) (n behind value later rest : List ℕ) (others : List Attribute) → Value behind value later → Attributes later others rest
-    → read (in_name t n) behind ≡ read (between (with_attribute t n value)) later
-valued_read t n behind value later rest others (missing v l b) attributes =
-    let P : List ℕ → Type 0 = λ x. read (in_name t n) behind ≡ read (between (with_attribute t n x)) later in
+valued_read : (t : Tag) (n following value later rest : List ℕ) (others : List Attribute) → Value following value later → Attributes later others rest
+    → read (in_name t n) following ≡ read (between (with_attribute t n value)) later
+valued_read t n following value later rest others (missing v l b) attributes =
+    let P : List ℕ → Type 0 = λ x. read (in_name t n) following ≡ read (between (with_attribute t n x)) later in
     let Q : List ℕ → Type 0 = λ x. read (in_name t n) x ≡ read (between (with_attribute t n [])) later in
-    subst P (sym v) (subst Q l (name_ends t n later rest others (ap (begins is_name_character) l ∙ not_true (begins is_name_character behind) b) attributes))
-valued_read t n behind value later rest others (quoted quote q before after b a v e) attributes =
+    subst P (sym v) (subst Q l (name_ends t n later rest others (ap (begins is_name_character) l ∙ not_true (begins is_name_character following) b) attributes))
+valued_read t n following value later rest others (quoted quote q before after b a v e) attributes =
     let opened = quote ∷ (value ++ (quote ∷ later)) in
     ap (read (in_name t n)) e ∙ to_equals t n before (after ++ opened) b ∙ before_value_run t n after opened a ∙ quoted_read t n value later quote q v
-valued_read t n behind value later rest others (unquoted before after b a some v ends e) attributes =
+valued_read t n following value later rest others (unquoted before after b a some v ends e) attributes =
     ap (read (in_name t n)) e ∙ to_equals t n before (after ++ (value ++ later)) b ∙ before_value_run t n after (value ++ later) a
     ∙ unquoted_read t n value later some v ∙ value_ends t n value later ends
 
@@ -196,8 +196,8 @@ attributes_read t _ rest _ (end {c = c} {rest = cs} h) =
     let P : ℕ → Type 0 = λ d. read (between t) (d ∷ cs) ≡ reads (with_more t []) cs in
     subst P (sym (is_it c 62 h)) (ap (λ (x : List Attribute). reads (record { is_end = t.is_end; name = t.name; attributes = x }) cs) (sym (append-nil (t.attributes))))
 attributes_read t _ rest others (gap {c = c} {cs = cs} h later) = gap_between t c cs h ∙ attributes_read t cs rest others later
-attributes_read t cs rest _ (attribute {a = a} {others = others} {behind = behind} {later = later} some each e value attributes) =
-    ap (read (between t)) e ∙ named_read t (a.name) behind some each ∙ valued_read t (a.name) behind (a.value) later rest others value attributes
+attributes_read t cs rest _ (attribute {a = a} {others = others} {following = following} {later = later} some each e value attributes) =
+    ap (read (between t)) e ∙ named_read t (a.name) following some each ∙ valued_read t (a.name) following (a.value) later rest others value attributes
     ∙ attributes_read (with_attribute t (a.name) (a.value)) later rest others attributes
     ∙ ap (λ (x : List Attribute). reads (record { is_end = t.is_end; name = t.name; attributes = x }) rest) (append_assoc (t.attributes) (a ∷ []) others)
 
@@ -211,24 +211,24 @@ tag_name_ends e n (c ∷ cs) h = elim (or_cases (is_gap c) (c ∈ ">") h) [
 ]
 
 -- a tag from its name on
-from_name : (e : Bool) (c : ℕ) (n behind rest : List ℕ) (others : List Attribute) → Each is_ascii_alphanumeric n
-    → begins (λ c. is_gap c || c ∈ ">") behind ≡ true → Attributes behind others rest
-    → read (tag_name e (c ∷ [])) (n ++ behind) ≡ reads (record { is_end = e; name = c ∷ n; attributes = others }) rest
-from_name e c n behind rest others each parted attributes =
-    tag_name_run e (c ∷ []) n behind each ∙ tag_name_ends e (c ∷ n) behind parted ∙ attributes_read (empty_tag e (c ∷ n)) behind rest others attributes
+from_name : (e : Bool) (c : ℕ) (n following rest : List ℕ) (others : List Attribute) → Each is_ascii_alphanumeric n
+    → begins (λ c. is_gap c || c ∈ ">") following ≡ true → Attributes following others rest
+    → read (tag_name e (c ∷ [])) (n ++ following) ≡ reads (record { is_end = e; name = c ∷ n; attributes = others }) rest
+from_name e c n following rest others each parted attributes =
+    tag_name_run e (c ∷ []) n following each ∙ tag_name_ends e (c ∷ n) following parted ∙ attributes_read (empty_tag e (c ∷ n)) following rest others attributes
 
-head_read : (e : Bool) (n cs behind rest : List ℕ) (others : List Attribute) → IsTagName n → begins (λ c. is_gap c || c ∈ ">") behind ≡ true
-    → Attributes behind others rest → codes "<" ++ cs ≡ opening e ++ (n ++ behind)
+head_read : (e : Bool) (n cs following rest : List ℕ) (others : List Attribute) → IsTagName n → begins (λ c. is_gap c || c ∈ ">") following ≡ true
+    → Attributes following others rest → codes "<" ++ cs ≡ opening e ++ (n ++ following)
     → read tag_open cs ≡ reads (record { is_end = e; name = n; attributes = others }) rest
-head_read e [] cs behind rest others n parted attributes h = absurd n
-head_read true (c ∷ m) cs behind rest others n parted attributes h =
-    let cut : cs ≡ 47 ∷ ((c ∷ m) ++ behind) = cc in
-    ap (read tag_open) cut ∙ took (is_ascii_alphabetic c) _ _ (m ++ behind) (n.0) ∙ from_name true c m behind rest others (n.1) parted attributes
-head_read false (c ∷ m) cs behind rest others n parted attributes h =
-    let cut : cs ≡ (c ∷ m) ++ behind = cc in
-    ap (read tag_open) cut ∙ left (c ∈ "/") _ _ (m ++ behind) (letter_no_slash c (n.0)) ∙ took (is_ascii_alphabetic c) _ _ (m ++ behind) (n.0)
-    ∙ from_name false c m behind rest others (n.1) parted attributes
+head_read e [] cs following rest others n parted attributes h = absurd n
+head_read true (c ∷ m) cs following rest others n parted attributes h =
+    let cut : cs ≡ 47 ∷ ((c ∷ m) ++ following) = cc in
+    ap (read tag_open) cut ∙ took (is_ascii_alphabetic c) _ _ (m ++ following) (n.0) ∙ from_name true c m following rest others (n.1) parted attributes
+head_read false (c ∷ m) cs following rest others n parted attributes h =
+    let cut : cs ≡ (c ∷ m) ++ following = cc in
+    ap (read tag_open) cut ∙ left (c ∈ "/") _ _ (m ++ following) (letter_no_slash c (n.0)) ∙ took (is_ascii_alphabetic c) _ _ (m ++ following) (n.0)
+    ∙ from_name false c m following rest others (n.1) parted attributes
 
 -- each tag is read
 pub tag_whole : (cs : List ℕ) (t : Tag) (rest : List ℕ) → IsTag (codes "<" ++ cs) t rest → read tag_open cs ≡ reads t rest
-tag_whole cs t rest h = head_read (t.is_end) (t.name) cs (h.behind) rest (t.attributes) (h.named) (h.parted) (h.attributes) (h.spelled)
+tag_whole cs t rest h = head_read (t.is_end) (t.name) cs (h.following) rest (t.attributes) (h.named) (h.separated) (h.attributes) (h.spelled)

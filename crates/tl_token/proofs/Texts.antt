@@ -6,7 +6,7 @@ use Rattle.std.specs.Str.{chars, IsUtf8}
 use Rattle.std.proofs.lemmas.Str.{chars-append, chars-encodes}
 use lib.Utf8.{scalar, encode}
 use Rattle.tl_token.specs.Spelling.{token, character_before, join_before}
-use Rattle.tl_token.specs.Output.{text_and, text_before, with_text}
+use Rattle.tl_token.specs.inner.Output.{text_and, text_before, with_text}
 use Rattle.tl_token.specs.declared.token.TokenKind.{TokenKind}
 use Rattle.tl_token.specs.declared.token.TokenKind.TheVariants.{Start, End, Text}
 use Rattle.tl_token.specs.declared.token.Token.{Token}

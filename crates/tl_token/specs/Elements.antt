@@ -24,8 +24,8 @@ pub record Tag : Type 0 where
   pub attributes : List Attribute
 
 -- the word is of small letters and dashes
-abbrev pub is_small : List ℕ → Bool
-is_small word = list_all (λ c. is_ascii_lowercase c || c ∈ "-") word
+abbrev pub is_lowercase : List ℕ → Bool
+is_lowercase word = list_all (λ c. is_ascii_lowercase c || c ∈ "-") word
 
 -- the name is this word of small letters, in any case
 abbrev pub is_word : List ℕ → List ℕ → Bool

@@ -16,15 +16,15 @@ abbrev pub Each : (ℕ → Bool) → List ℕ → Type 0
 Each test = AllByRecursion (λ c. IsTrue (test c))
 
 -- the text begins with this front
-abbrev pub has_front : List ℕ → List ℕ → Bool
-has_front [] cs = true
-has_front (d ∷ ds) [] = false
-has_front (d ∷ ds) (c ∷ cs) = c == d && has_front ds cs
+abbrev pub has_prefix : List ℕ → List ℕ → Bool
+has_prefix [] cs = true
+has_prefix (d ∷ ds) [] = false
+has_prefix (d ∷ ds) (c ∷ cs) = c == d && has_prefix ds cs
 
 -- what follows the first place at which the mark stands
 abbrev pub past_first : List ℕ → List ℕ → Option (List ℕ)
 past_first mark [] = None
-past_first mark (c ∷ cs) = if has_front mark (c ∷ cs) then Some (drop (length mark) (c ∷ cs)) else past_first mark cs
+past_first mark (c ∷ cs) = if has_prefix mark (c ∷ cs) then Some (drop (length mark) (c ∷ cs)) else past_first mark cs
 
 -- `<!--`, and anything up to the first `-->` behind that, from which the rest follows. So `<!-->` ends no comment.
 pub record Comment (cs rest : List ℕ) : Type 0 where
@@ -53,8 +53,8 @@ pub data Value (cs value rest : List ℕ) : Type 0 where
 pub data Attributes : List ℕ → List Attribute → List ℕ → Type 0 where
   end : {c : ℕ} {rest : List ℕ} → IsTrue (c ∈ ">") → Attributes (c ∷ rest) [] rest
   gap : {c : ℕ} {cs rest : List ℕ} {others : List Attribute} → IsTrue (is_gap c) → Attributes cs others rest → Attributes (c ∷ cs) others rest
-  attribute : {a : Attribute} {others : List Attribute} {cs behind later rest : List ℕ} → a.name ≢ [] → Each is_name_character (a.name)
-      → cs ≡ a.name ++ behind → Value behind (a.value) later → Attributes later others rest → Attributes cs (a ∷ others) rest
+  attribute : {a : Attribute} {others : List Attribute} {cs following later rest : List ℕ} → a.name ≢ [] → Each is_name_character (a.name)
+      → cs ≡ a.name ++ following → Value following (a.value) later → Attributes later others rest → Attributes cs (a ∷ others) rest
 
 -- a letter, and then letters and digits
 abbrev pub IsTagName : List ℕ → Type 0
@@ -66,11 +66,11 @@ opening is_end = if is_end then codes "</" else codes "<"
 
 -- `<` or `</`, a name, and the attributes. Behind the name there is white space, `/` or `>`.
 pub record IsTag (cs : List ℕ) (tag : Tag) (rest : List ℕ) : Type 0 where
-  pub behind : List ℕ
-  pub spelled : cs ≡ opening (tag.is_end) ++ (tag.name ++ behind)
+  pub following : List ℕ
+  pub spelled : cs ≡ opening (tag.is_end) ++ (tag.name ++ following)
   pub named : IsTagName (tag.name)
-  pub parted : IsTrue (begins (λ c. is_gap c || c ∈ ">") behind)
-  pub attributes : Attributes behind (tag.attributes) rest
+  pub separated : IsTrue (begins (λ c. is_gap c || c ∈ ">") following)
+  pub attributes : Attributes following (tag.attributes) rest
 
 -- what `&name;` stands for, by exact letters
 abbrev pub named_character : List ℕ → Option ℕ
@@ -142,8 +142,8 @@ pub data Fault : Type 0 where
   bad_character : Fault
 
 -- the text begins a whole such thing, of which something is wanting
-abbrev pub IsFrontOf : (List ℕ → Type 0) → List ℕ → Type 0
-IsFrontOf IsWhole cs = (cs ≢ []) × (more : List ℕ) × (more ≢ []) × IsWhole (cs ++ more)
+abbrev pub IsProperPrefixOf : (List ℕ → Type 0) → List ℕ → Type 0
+IsProperPrefixOf IsWhole cs = (cs ≢ []) × (more : List ℕ) × (more ≢ []) × IsWhole (cs ++ more)
 
 -- the text is one whole tag, or one whole doctype
 abbrev pub IsWholeTag : List ℕ → Type 0
@@ -154,7 +154,7 @@ IsWholeDoctype cs = Doctype cs []
 
 -- The text ends inside a tag or a doctype, or behind the `<!-` of a comment.
 abbrev pub IsUnendedTag : List ℕ → Type 0
-IsUnendedTag cs = (IsFrontOf IsWholeTag cs ⊎ IsFrontOf IsWholeDoctype cs) ⊎ (cs ≡ codes "<!-")
+IsUnendedTag cs = (IsProperPrefixOf IsWholeTag cs ⊎ IsProperPrefixOf IsWholeDoctype cs) ⊎ (cs ≡ codes "<!-")
 
 -- a comment begins, and no `-->` is behind its `<!--`
 pub record IsUnendedComment (cs : List ℕ) : Type 0 where
@@ -165,8 +165,8 @@ pub record IsUnendedComment (cs : List ℕ) : Type 0 where
 -- A `<` that opens markup, where nothing that it may open stands.
 pub record IsBadTag (cs : List ℕ) : Type 0 where
   pub second : ℕ
-  pub behind : List ℕ
-  pub opened : cs ≡ codes "<" ++ (second ∷ behind)
+  pub after : List ℕ
+  pub opened : cs ≡ codes "<" ++ (second ∷ after)
   pub opens : IsTrue (opens_markup second)
   pub no_tag : (t : Tag) (rest : List ℕ) → ¬ (IsTag cs t rest)
   pub no_comment : (rest : List ℕ) → ¬ (Comment cs rest)
@@ -180,5 +180,5 @@ FaultStands unended_tag cs = IsUnendedTag cs
 FaultStands unended_comment cs = IsUnendedComment cs
 FaultStands bad_tag cs = IsBadTag cs
 FaultStands unknown_element cs = (t : Tag) × (rest : List ℕ) × IsTag cs t rest × (element_of (t.name) ≡ None)
-FaultStands bad_reference cs = (behind rest : List ℕ) × (cs ≡ codes "&" ++ behind) × (reference behind ≡ Some (None, rest))
+FaultStands bad_reference cs = (after rest : List ℕ) × (cs ≡ codes "&" ++ after) × (reference after ≡ Some (None, rest))
 FaultStands bad_character cs = (c : ℕ) × (rest : List ℕ) × (cs ≡ c ∷ rest) × IsTrue (is_control c)

@@ -3,9 +3,4 @@ pub mod Numbers
 pub mod Elements
 pub mod Grammar
 pub mod Spelling
-pub mod States
-pub mod Reading
-pub mod Reader
-pub mod Found
-pub mod Output
-pub mod Answer
+pub mod inner

@@ -1,5 +1,6 @@
--- How the bytes of a file spell tokens, and where the first fault stands. Places count bytes of the file from 0.
-use Rattle.std.specs.Prelude.{◌≡◌, ℕ, ◌+◌, ◌-◌, List, [], ◌∷◌, length, ◌==◌, if◌then◌else◌, IsUtf8, chars}
+-- How the bytes of a file spell tokens, where the first fault stands, and what `tokens` returns of it. Places count
+-- bytes of the file from 0.
+use Rattle.std.specs.Prelude.{◌≡◌, ℕ, ◌+◌, ◌-◌, ◌⊎◌, List, [], ◌∷◌, length, ◌==◌, if◌then◌else◌, IsUtf8, chars, Result, Ok, Err, alloc_error}
 use Rattle.std.specs.Str.Lossy.{utf8_valid_len}
 use Rattle.tl_token.specs.Characters.{byte_len}
 use Rattle.tl_token.specs.Grammar.{Piece, hidden, tag, character, Stands, Fault, unended_tag, unended_comment, bad_tag, unknown_element, bad_reference, bad_character, FaultStands}
@@ -61,8 +62,8 @@ abbrev pub characters : List ℕ → List ℕ
 characters bytes = without_mark (chars bytes)
 
 -- The bytes spell the tokens: they are UTF-8, and pieces lead to their end, whose tokens these are.
-abbrev pub Spells : List ℕ → List Token → Type 0
-Spells bytes tokens = IsUtf8 bytes × (parts : List Part) × Leads (length bytes) (characters bytes) parts [] × (tokens ≡ tokens_of parts)
+abbrev pub SpellsTokens : List ℕ → List Token → Type 0
+SpellsTokens bytes tokens = IsUtf8 bytes × (parts : List Part) × Leads (length bytes) (characters bytes) parts [] × (tokens ≡ tokens_of parts)
 
 -- the fault stands at that byte, and what stands before it is whole pieces
 abbrev pub FirstFault : List ℕ → Fault → ℕ → Type 0
@@ -70,7 +71,7 @@ FirstFault bytes fault place =
     IsUtf8 bytes × (parts : List Part) × (rest : List ℕ) × Leads (length bytes) (characters bytes) parts rest
     × FaultStands fault rest × (place ≡ place_of (length bytes) rest)
 
--- When each error comes, but for want of memory.
+-- The error that refuses the bytes; out of memory is none of them.
 abbrev pub Refused : List ℕ → TokenError → Type 0
 Refused bytes (Memory error) = ⊥
 Refused bytes (NotUtf8 n) = ¬ (IsUtf8 bytes) × (n ≡ utf8_valid_len bytes)
@@ -80,6 +81,23 @@ Refused bytes (BadTag place) = FirstFault bytes bad_tag place
 Refused bytes (UnknownElement place) = FirstFault bytes unknown_element place
 Refused bytes (BadReference place) = FirstFault bytes bad_reference place
 Refused bytes (BadCharacter place) = FirstFault bytes bad_character place
+
+abbrev pub Tokens : Type 0
+Tokens = List Token
+
+-- the error refuses the bytes, or memory ran out
+abbrev pub RefusedOrMemory : List ℕ → TokenError → Type 0
+RefusedOrMemory bytes error = (error ≡ Memory alloc_error) ⊎ Refused bytes error
+
+-- these tokens are returned, unless memory ran out
+abbrev pub ReturnsTokens : Tokens → Result Tokens TokenError → Type 0
+ReturnsTokens tokens (Ok returned) = returned ≡ tokens
+ReturnsTokens tokens (Err error) = error ≡ Memory alloc_error
+
+-- this error is returned, unless memory ran out
+abbrev pub ReturnsError : TokenError → Result Tokens TokenError → Type 0
+ReturnsError expected (Ok returned) = ⊥
+ReturnsError expected (Err error) = (error ≡ Memory alloc_error) ⊎ (error ≡ expected)
 
 -- the bytes of a text, and 1 for a tag
 abbrev pub token_size : TokenKind → ℕ

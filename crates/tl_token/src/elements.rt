@@ -2,13 +2,13 @@
 
 ghost use Rattle.std.specs.Prelude.{◌≡◌, IsTrue, chars, nat_eq};
 ghost use lib.Pointwise.{pointwise};
-ghost use Rattle.tl_token.specs.Elements.{is_word, is_small, is_inline, is_outer, element_of};
+ghost use Rattle.tl_token.specs.Elements.{is_word, is_lowercase, is_inline, is_outer, element_of};
 
 use crate::token::Element;
 
 /// Whether the name is the word, which is of small ASCII letters, in any case.
 pub(crate) fn is_word(name: &str, word: &str) -> bool
-    requires { IsTrue (is_small word.now) }
+    requires { IsTrue (is_lowercase word.now) }
     ensures { result ≡ is_word (chars name.now) word.now }
 {
     name.eq_ignore_ascii_case(word)
@@ -16,7 +16,7 @@ pub(crate) fn is_word(name: &str, word: &str) -> bool
 
 /// Whether the name is exactly the word.
 pub(crate) fn is_exactly(name: &str, word: &str) -> bool
-    requires { IsTrue (is_small word.now) }
+    requires { IsTrue (is_lowercase word.now) }
     ensures { result ≡ pointwise nat_eq (chars name.now) word.now }
 {
     name == word

@@ -1,8 +1,7 @@
 //! The tokens of a whole file.
 
-ghost use Rattle.std.specs.Prelude.{◌≡◌, ◌≤◌, length, IfOk};
-ghost use Rattle.tl_token.specs.Spelling.{Spells, Refused, size_of};
-ghost use Rattle.tl_token.specs.Answer.{Answers, OnlyTokens, OnlyError, Tokens};
+ghost use Rattle.std.specs.Prelude.{◌≡◌, ◌≤◌, length, IfOk, IfErr};
+ghost use Rattle.tl_token.specs.Spelling.{SpellsTokens, Refused, RefusedOrMemory, ReturnsTokens, ReturnsError, Tokens, size_of};
 
 use crate::output::Output;
 use crate::piece::Fault;
@@ -13,7 +12,7 @@ use std::str::from_utf8;
 use tl_base::List;
 
 impl Fault {
-    ghost use Rattle.tl_token.specs.Answer.{error_of};
+    ghost use Rattle.tl_token.specs.inner.Found.{error_of};
 
     /// The error of a fault at that byte.
     fn at(self, place: u32) -> TokenError
@@ -33,7 +32,8 @@ impl Fault {
 /// The tokens of a text.
 fn read(alloc: Global, text: &str) -> Result<List<Token>, TokenError>
     requires { length text.now ≤ 1048576 }
-    ensures { Answers text.now result }
+    ensures ok { IfOk result (SpellsTokens text.now) }
+    ensures err { IfErr result (RefusedOrMemory text.now) }
 {
     let size = text.len();
     let mut reader = Reader::new(text);
@@ -59,12 +59,12 @@ fn read(alloc: Global, text: &str) -> Result<List<Token>, TokenError>
 /// and text. The time grows with the number of bytes alone.
 pub fn tokens(alloc: Global, text: &[u8]) -> Result<List<Token>, TokenError>
     requires { length text.now ≤ 1048576 }
-    // The tokens are those that the grammar spells, and where it spells some, they are the answer.
-    ensures ok { IfOk result (λ tokens. Spells text.now tokens) }
-    ensures only { (tokens : Tokens) → Spells text.now tokens → OnlyTokens tokens result }
-    // Each error comes exactly where its fault stands.
-    ensures err { Answers text.now result }
-    ensures exact { (error : TokenError) → Refused text.now error → OnlyError error result }
+    // The tokens are those that the grammar spells, and where it spells some, they are returned.
+    ensures ok { IfOk result (SpellsTokens text.now) }
+    ensures each_ok { (tokens : Tokens) → SpellsTokens text.now tokens → ReturnsTokens tokens result }
+    // An error comes only where its fault is the first, and where one is the first, it is returned.
+    ensures err { IfErr result (RefusedOrMemory text.now) }
+    ensures each_err { (error : TokenError) → Refused text.now error → ReturnsError error result }
     // The bytes of the texts and the number of the tags are no more than the bytes of the file.
     ensures size { IfOk result (λ tokens. size_of tokens ≤ length text.now) }
 {

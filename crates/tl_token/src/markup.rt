@@ -2,9 +2,9 @@
 
 ghost use Rattle.std.specs.Prelude.{◌≡◌, codes, chars};
 ghost use Rattle.tl_token.specs.Characters.{is_control, opens_markup};
-ghost use Rattle.tl_token.specs.Reading.{in_comment, doctype_word, declaration, angle, standing};
-ghost use Rattle.tl_token.specs.Reader.{unread};
-ghost use Rattle.tl_token.specs.Found.{found_of};
+ghost use Rattle.tl_token.specs.inner.Reading.{in_comment, doctype_word, declaration, angle, standing};
+ghost use Rattle.tl_token.specs.inner.Reader.{unread};
+ghost use Rattle.tl_token.specs.inner.Found.{found_of};
 
 use crate::piece::{Fault, Piece};
 use crate::reader::{Class, Reader};

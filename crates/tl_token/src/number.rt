@@ -5,7 +5,7 @@ ghost use Rattle.std.specs.Option.{option_map};
 ghost use Rattle.std.specs.Char.{digit_value};
 ghost use Rattle.tl_token.specs.Numbers.{number, unsigned, signed_number, number_of, columns_of, rows_of, floor_of};
 ghost use Rattle.tl_token.specs.Characters.{◌∈◌, begins};
-ghost use Rattle.tl_token.specs.Reader.{unread};
+ghost use Rattle.tl_token.specs.inner.Reader.{unread};
 
 use crate::reader::{Class, Reader};
 

@@ -3,7 +3,7 @@
 ghost use Rattle.std.specs.Prelude.{◌≡◌, ◌≢◌, true, false, [], ◌∷◌, ◌++◌, OnOk, IfOk};
 ghost use Rattle.tl_token.specs.Spelling.{Parts, tokens_of, token};
 ghost use Rattle.tl_token.specs.Grammar.{character};
-ghost use Rattle.tl_token.specs.Found.{piece_of};
+ghost use Rattle.tl_token.specs.inner.Found.{piece_of};
 
 use crate::piece::Piece;
 use crate::token::{Token, TokenKind};
@@ -21,7 +21,7 @@ pub(crate) struct Output {
 }
 
 impl Output {
-    ghost use Rattle.tl_token.specs.Output.{open_text, resumed, closed, Takes};
+    ghost use Rattle.tl_token.specs.inner.Output.{open_text, resumed, closed, Takes};
 
     pub(crate) fn new(alloc: Global) -> Output
         ensures { (parts : Parts) → resumed result parts ≡ tokens_of parts }

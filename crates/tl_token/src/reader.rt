@@ -50,7 +50,7 @@ fn is_value_character(c: char) -> bool
 }
 
 impl Class {
-    ghost use Rattle.tl_token.specs.Reader.{is_in};
+    ghost use Rattle.tl_token.specs.inner.Reader.{is_in};
 
     pub(crate) fn contains(self, c: char) -> bool
         ensures { result ≡ is_in self c }
@@ -75,7 +75,7 @@ impl Class {
 }
 
 impl<'a> Reader<'a> {
-    ghost use Rattle.tl_token.specs.Reader.{unread, is_in, Eats, NextIs};
+    ghost use Rattle.tl_token.specs.inner.Reader.{unread, is_in, Eats, NextIs};
 
     pub(crate) fn new(text: &'a str) -> Reader<'a>
         ensures { unread result ≡ chars text.now }

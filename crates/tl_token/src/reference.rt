@@ -4,8 +4,8 @@ ghost use Rattle.std.specs.Prelude.{◌≡◌, Some, None, chars, MatchOption};
 ghost use Rattle.std.specs.Char.{is_ascii_digit, is_ascii_hexdigit};
 ghost use Rattle.tl_token.specs.Numbers.{number};
 ghost use Rattle.tl_token.specs.Grammar.{named_character, numbered_character, ended_run, referred, numeric_reference, reference};
-ghost use Rattle.tl_token.specs.Reading.{referred_or};
-ghost use Rattle.tl_token.specs.Found.{found_of, Finds};
+ghost use Rattle.tl_token.specs.inner.Reading.{referred_or};
+ghost use Rattle.tl_token.specs.inner.Found.{found_of, Finds};
 
 use crate::elements::is_exactly;
 use crate::markup::is_control;
@@ -45,7 +45,7 @@ fn numbered_character(number: u32) -> Option<char>
 }
 
 impl<'a> Reader<'a> {
-    ghost use Rattle.tl_token.specs.Reader.{unread, is_in};
+    ghost use Rattle.tl_token.specs.inner.Reader.{unread, is_in};
 
     /// A run of characters of the class and the `;` behind it. It has one character at least.
     fn ended_run(&mut self, class: Class) -> Option<&'a str>

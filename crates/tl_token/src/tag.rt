@@ -2,11 +2,11 @@
 
 ghost use Rattle.std.specs.Prelude.{◌≡◌, ◌≤◌, IsTrue, false, codes, length, chars, List, [], Err, IfOk};
 ghost use Rattle.tl_token.specs.Characters.{◌∈◌, begins, is_space, is_name_character};
-ghost use Rattle.tl_token.specs.Elements.{Attribute, is_small};
-ghost use Rattle.tl_token.specs.States.{tag_open, in_name, before_value, in_quotes, read, attribute};
-ghost use Rattle.tl_token.specs.Reading.{tag_found};
-ghost use Rattle.tl_token.specs.Reader.{unread};
-ghost use Rattle.tl_token.specs.Found.{found_of, number_after, stop, ReadsValue, ReadsAttributes};
+ghost use Rattle.tl_token.specs.Elements.{Attribute, is_lowercase};
+ghost use Rattle.tl_token.specs.inner.States.{tag_open, in_name, before_value, in_quotes, read, attribute};
+ghost use Rattle.tl_token.specs.inner.Reading.{tag_found};
+ghost use Rattle.tl_token.specs.inner.Reader.{unread};
+ghost use Rattle.tl_token.specs.inner.Found.{found_of, number_after, stop, ReadsValue, ReadsAttributes};
 
 use crate::elements::is_word;
 use crate::number::{columns, floor, read_number, rows};
@@ -31,7 +31,7 @@ fn first_number(
     name: &str,
     value: &str,
 ) -> Option<Option<u32>>
-    requires { IsTrue (is_small word.now) }
+    requires { IsTrue (is_lowercase word.now) }
     ensures { result ≡ number_after known word.now (attribute (chars name.now) (chars value.now)) }
 {
     if known.is_some() || !is_word(name, word) {
@@ -43,7 +43,7 @@ fn first_number(
 
 impl Given {
     ghost use Rattle.tl_token.specs.Elements.{cell_spans, spans_of};
-    ghost use Rattle.tl_token.specs.Found.{given_of, given_after};
+    ghost use Rattle.tl_token.specs.inner.Found.{given_of, given_after};
 
     fn none() -> Given
         ensures { result ≡ given_of [] }

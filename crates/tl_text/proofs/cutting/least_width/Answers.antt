@@ -1,7 +1,7 @@
 use Rattle.std.proofs.Common.{◌≡◌, ◌∙◌, take, arith, subst, sym, ap}
 use Rattle.std.proofs.lemmas.List.{take_all}
 use Rattle.tl_text.specs.Cuttings.{HasCutting}
-use Rattle.tl_text.specs.Measure.{columns_of}
+use Rattle.tl_text.specs.inner.Measure.{columns_of}
 use Rattle.tl_text.specs.Paragraph.{unit_width}
 use Rattle.tl_text.proofs.Paragraphs.{AllFit, AllFit-wider, AllFit-more, AllFit-less, HasCutting-from_fit, atoms-of-cut-fit, columns_of-measure_of}
 use Rattle.tl_text.proofs.cutting.least_width.Goals as goal

@@ -1,6 +1,6 @@
 use Rattle.std.proofs.Common.{◌≡◌, ◌+◌, ◌<◌, ◌≤◌, ℕ, None, drop}
 use Rattle.std.specs.Option.{ForSome}
-use Rattle.tl_text.specs.Measure.{lines_after}
+use Rattle.tl_text.specs.inner.Measure.{lines_after}
 use Rattle.tl_text.proofs.minimal.filled.Given as goal
 
 -- at each width up to the next one, the lines so far and those to come are those of all units

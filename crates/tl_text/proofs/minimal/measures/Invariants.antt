@@ -1,5 +1,5 @@
 use Rattle.std.proofs.Common.{◌≡◌, map, take}
-use Rattle.tl_text.specs.Measure.{measure_of}
+use Rattle.tl_text.specs.inner.Measure.{measure_of}
 use Rattle.tl_text.proofs.minimal.measures.Given as goal
 
 -- the atoms so far are measured

@@ -2,7 +2,7 @@ use Rattle.std.proofs.Common.{◌≡◌, ◌<◌, ◌∙◌, ◌+◌, ◌∷◌,
 use Rattle.std.specs.List.{AllZip}
 use Rattle.std.proofs.lemmas.List.{take_all}
 use Rattle.tl_text.specs.Cuttings.{LeastLines, joined}
-use Rattle.tl_text.specs.Measure.{measure_of, columns_of, next_line, ends_line, lines_after}
+use Rattle.tl_text.specs.inner.Measure.{measure_of, columns_of, next_line, ends_line, lines_after}
 use Rattle.tl_text.specs.Paragraph.{unit_width}
 use Rattle.tl_text.specs.Ranges.{AreInOrder, ShowsLine, ShowsGreedyCutting, IsFirstTooWide}
 use Rattle.tl_text.proofs.Filled.{IsFilled-none, IsFilled-more, IsFirstTooWide-from}

@@ -3,9 +3,9 @@ use Rattle.std.specs.Str.{chars}
 use Rattle.std.proofs.lemmas.List.{append-nil}
 use Rattle.tl_token.specs.Characters.{byte_len}
 use Rattle.tl_token.specs.Spelling.{place_of, Leads, here, tokens_of, characters, without_mark}
-use Rattle.tl_token.specs.Reader.{unread}
-use Rattle.tl_token.specs.Found.{piece_of, fault_of}
-use Rattle.tl_token.specs.Output.{resumed, part}
+use Rattle.tl_token.specs.inner.Reader.{unread}
+use Rattle.tl_token.specs.inner.Found.{piece_of, fault_of}
+use Rattle.tl_token.specs.inner.Output.{resumed, part}
 use Rattle.tl_token.specs.Spelling.{Refused}
 use Rattle.tl_token.specs.declared.token.TokenError.{TokenError}
 use Rattle.tl_token.proofs.Endings.{leads_more}
@@ -32,8 +32,8 @@ loop-c-init c =
       omega (arith, ap byte_len passed, mark_le (chars text), bytes_of text c.utf8.text),
     )
 
-pub returns-in-Err : goal.returns-in-Err
-returns-in-Err c =
+pub returns-in-Err-clause-err : goal.returns-in-Err-clause-err
+returns-in-Err-clause-err c =
     let text = c.args.text.now in
     let (parts, leads, resumes, place, within) = c.loop-c.invariant in
     let fault = fault_there c.in-Some.c (unread c.loop-c.reader) (unread c.next.new.self) (fault_of c.in-Err.fault) c.in-Some.ensures c.in-Err.ensures in
@@ -72,8 +72,8 @@ loop-c-preserved c =
       omega (arith, less, within),
     )
 
-pub returns : goal.returns
-returns c =
+pub returns-clause-ok : goal.returns-clause-ok
+returns-clause-ok c =
     let text = c.args.text.now in
     let (parts, leads, resumes, place, within) = c.loop-c.invariant in
     let P : List ℕ → Type 0 = λ x. Leads (length text) (characters text) parts x in

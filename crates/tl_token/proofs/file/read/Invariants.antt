@@ -1,8 +1,8 @@
 use Rattle.std.proofs.Common.{◌≡◌, ◌≤◌, ◌++◌, length}
 use Rattle.tl_token.specs.Characters.{byte_len}
 use Rattle.tl_token.specs.Spelling.{Parts, place_of, Leads, tokens_of, characters}
-use Rattle.tl_token.specs.Reader.{unread}
-use Rattle.tl_token.specs.Output.{resumed}
+use Rattle.tl_token.specs.inner.Reader.{unread}
+use Rattle.tl_token.specs.inner.Output.{resumed}
 use Rattle.tl_token.proofs.file.read.Given as goal
 
 -- the pieces so far lead to what is left, and the tokens go on with those of the pieces that are to come

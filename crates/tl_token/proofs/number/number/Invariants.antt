@@ -1,6 +1,6 @@
 use Rattle.std.proofs.Common.{◌≡◌, ℕ, min, length}
 use Rattle.tl_token.specs.Numbers.{number, number_from}
-use Rattle.tl_token.specs.Reader.{unread}
+use Rattle.tl_token.specs.inner.Reader.{unread}
 use Rattle.tl_token.proofs.number.number.Given as goal
 
 -- the digits that are left stand, behind the number so far, for the whole number

@@ -4,7 +4,7 @@ use Rattle.std.specs.Char.{is_ascii_digit}
 use Rattle.std.specs.Option.{option_map}
 use Rattle.tl_token.specs.Characters.{◌∈◌, is_space, begins, run, past}
 use Rattle.tl_token.specs.Numbers.{unsigned, signed_number}
-use Rattle.tl_token.specs.Reader.{unread}
+use Rattle.tl_token.specs.inner.Reader.{unread}
 use Rattle.tl_token.proofs.number.read_number.Goals as goal
 
 pub returns : goal.returns

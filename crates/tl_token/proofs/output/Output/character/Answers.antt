@@ -3,7 +3,7 @@ use Rattle.std.specs.Prelude.{string_bytes}
 use Rattle.std.specs.Str.{chars}
 use Rattle.std.proofs.lemmas.Str.{IsUtf8-string_bytes}
 use Rattle.tl_token.specs.Spelling.{tokens_of}
-use Rattle.tl_token.specs.Output.{open_text}
+use Rattle.tl_token.specs.inner.Output.{open_text}
 use Rattle.tl_token.proofs.Texts.{chars_push, character_taken}
 use Rattle.tl_token.proofs.output.Output.character.Goals as goal
 use Rattle.tl_token.proofs.output.Output.character.Goals.{then-has_text, else-has_text}

@@ -3,7 +3,7 @@ use Rattle.std.specs.Str.{chars}
 use Rattle.std.proofs.lemmas.List.{append-nil}
 use Rattle.std.proofs.lemmas.Str.{chars-nil}
 use Rattle.tl_token.specs.Spelling.{token}
-use Rattle.tl_token.specs.Output.{with_text, open_text}
+use Rattle.tl_token.specs.inner.Output.{with_text, open_text}
 use Rattle.tl_token.specs.declared.token.TokenKind.TheVariants.{Text}
 use Rattle.tl_token.proofs.Texts.{some_text}
 use Rattle.tl_token.proofs.output.Output.close.Goals as goal

@@ -3,7 +3,7 @@ use Rattle.std.specs.Prelude.{string_bytes}
 use Rattle.std.specs.Str.{chars}
 use Rattle.std.proofs.lemmas.Str.{chars-nil}
 use Rattle.tl_token.specs.Spelling.{tokens_of}
-use Rattle.tl_token.specs.Output.{with_text}
+use Rattle.tl_token.specs.inner.Output.{with_text}
 use Rattle.tl_token.specs.declared.token.Token.{Token}
 use Rattle.tl_token.proofs.output.Output.new.Goals as goal
 

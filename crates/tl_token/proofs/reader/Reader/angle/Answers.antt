@@ -1,5 +1,5 @@
 use Rattle.std.proofs.Common.{sym, ap, Some, ◌∙◌}
-use Rattle.tl_token.specs.Reader.{unread}
+use Rattle.tl_token.specs.inner.Reader.{unread}
 use Rattle.tl_token.proofs.MarkupSteps.{angle_declares}
 use Rattle.tl_token.proofs.reader.Reader.angle.Goals as goal
 

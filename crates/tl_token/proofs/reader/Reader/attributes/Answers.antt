@@ -1,10 +1,10 @@
 use Rattle.std.proofs.Common.{[], ◌∷◌, ◌++◌, sym, ap, ◌∙◌, arith, length}
 use Rattle.std.specs.Str.{chars}
 use Rattle.tl_token.specs.Characters.{is_name_character, is_gap, run}
-use Rattle.tl_token.specs.States.{read, in_name, between, with_more, attribute}
-use Rattle.tl_token.specs.Reading.{tag_found}
-use Rattle.tl_token.specs.Found.{given_of, given_after}
-use Rattle.tl_token.specs.Reader.{unread}
+use Rattle.tl_token.specs.inner.States.{read, in_name, between, with_more, attribute}
+use Rattle.tl_token.specs.inner.Reading.{tag_found}
+use Rattle.tl_token.specs.inner.Found.{given_of, given_after}
+use Rattle.tl_token.specs.inner.Reader.{unread}
 use Rattle.tl_token.specs.declared.tag.Given.{Given}
 use Rattle.tl_token.proofs.Numbered.{given_of-push}
 use Rattle.tl_token.proofs.TagSteps.{so_far_none, so_far_more, name_read, past_le, past_less, attributes_failed}

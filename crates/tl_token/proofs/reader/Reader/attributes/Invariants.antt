@@ -1,9 +1,9 @@
 use Rattle.std.proofs.Common.{◌≡◌, false, List, length}
 use Rattle.tl_token.specs.Characters.{begins, is_gap}
 use Rattle.tl_token.specs.Elements.{Attribute, Tag}
-use Rattle.tl_token.specs.States.{between, with_more, read}
-use Rattle.tl_token.specs.Found.{given_of}
-use Rattle.tl_token.specs.Reader.{unread}
+use Rattle.tl_token.specs.inner.States.{between, with_more, read}
+use Rattle.tl_token.specs.inner.Found.{given_of}
+use Rattle.tl_token.specs.inner.Reader.{unread}
 use Rattle.tl_token.proofs.reader.Reader.attributes.Given as goal
 
 -- the attributes so far, with their numbers: a tag that has them goes on here as one without them went on before

@@ -2,8 +2,8 @@ use Rattle.std.proofs.Common.{◌≡◌, ◌≤◌, ◌∷◌, not, eqb, sym, ap
 use Rattle.std.specs.Prelude.{codes}
 use Rattle.tl_token.specs.Characters.{begins}
 use Rattle.tl_token.specs.Grammar.{past_first, unended_comment}
-use Rattle.tl_token.specs.Reading.{closed_or}
-use Rattle.tl_token.specs.Reader.{unread}
+use Rattle.tl_token.specs.inner.Reading.{closed_or}
+use Rattle.tl_token.specs.inner.Reader.{unread}
 use Rattle.tl_token.specs.declared.reader.Reader.{Reader}
 use Rattle.tl_token.proofs.CharacterTests.{eats_true, eats_false}
 use Rattle.tl_token.proofs.TagSteps.{past_le}

@@ -2,7 +2,7 @@ use Rattle.std.proofs.Common.{◌≡◌, false, not, eqb, length}
 use Rattle.std.specs.Prelude.{codes}
 use Rattle.tl_token.specs.Characters.{begins}
 use Rattle.tl_token.specs.Grammar.{past_first}
-use Rattle.tl_token.specs.Reader.{unread}
+use Rattle.tl_token.specs.inner.Reader.{unread}
 use Rattle.tl_token.proofs.reader.Reader.comment.Given as goal
 
 -- what was passed has no `-->`, and a `-` is next, or nothing

@@ -2,8 +2,8 @@ use Rattle.std.proofs.Common.{◌≡◌, sym, ap, ◌∙◌, arith, eqb}
 use Rattle.std.specs.Prelude.{codes}
 use Rattle.tl_token.specs.Characters.{begins}
 use Rattle.tl_token.specs.Grammar.{unended_tag}
-use Rattle.tl_token.specs.Reading.{closed_or}
-use Rattle.tl_token.specs.Reader.{unread}
+use Rattle.tl_token.specs.inner.Reading.{closed_or}
+use Rattle.tl_token.specs.inner.Reader.{unread}
 use Rattle.tl_token.proofs.CharacterTests.{eats_true, eats_false}
 use Rattle.tl_token.proofs.MarkupSteps.{word_ends, word_differs, word_agrees, word_over, close_found, close_missing}
 use Rattle.tl_token.proofs.reader.Reader.doctype.Goals as goal

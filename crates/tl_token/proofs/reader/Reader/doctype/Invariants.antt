@@ -1,7 +1,7 @@
 use Rattle.std.proofs.Common.{◌≡◌, drop}
 use Rattle.std.specs.Prelude.{codes}
-use Rattle.tl_token.specs.Reading.{doctype_word}
-use Rattle.tl_token.specs.Reader.{unread}
+use Rattle.tl_token.specs.inner.Reading.{doctype_word}
+use Rattle.tl_token.specs.inner.Reader.{unread}
 use Rattle.tl_token.proofs.reader.Reader.doctype.Given as goal
 
 -- the rest of the word is to come

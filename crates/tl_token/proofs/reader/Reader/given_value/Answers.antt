@@ -1,7 +1,7 @@
 use Rattle.std.proofs.Common.{[], sym, ap, ◌∙◌}
 use Rattle.std.specs.Str.{chars}
-use Rattle.tl_token.specs.States.{read, before_value, in_quotes}
-use Rattle.tl_token.specs.Reader.{unread}
+use Rattle.tl_token.specs.inner.States.{read, before_value, in_quotes}
+use Rattle.tl_token.specs.inner.Reader.{unread}
 use Rattle.tl_token.proofs.CharacterTests.{eats_true, eats_false}
 use Rattle.tl_token.proofs.TagSteps.{reads_from}
 use Rattle.tl_token.proofs.reader.Reader.given_value.Goals as goal

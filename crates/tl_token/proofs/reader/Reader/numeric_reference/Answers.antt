@@ -3,7 +3,7 @@ use Rattle.std.specs.Str.{chars}
 use Rattle.std.specs.Char.{is_ascii_hexdigit, is_ascii_digit}
 use Rattle.tl_token.specs.Numbers.{number}
 use Rattle.tl_token.specs.Grammar.{numbered_character, ended_run, referred}
-use Rattle.tl_token.specs.Reader.{unread}
+use Rattle.tl_token.specs.inner.Reader.{unread}
 use Rattle.tl_token.proofs.Saturating.{numbered_below}
 use Rattle.tl_token.proofs.reader.Reader.numeric_reference.Goals as goal
 

@@ -3,7 +3,7 @@ use Rattle.std.proofs.lemmas.Grind.{common_steps}
 use Rattle.std.specs.Str.{chars}
 use Rattle.std.proofs.lemmas.Str.{IsUtf8-had}
 use lib.Utf8.{encodes}
-use Rattle.tl_token.specs.Reader.{is_in}
+use Rattle.tl_token.specs.inner.Reader.{is_in}
 use Rattle.tl_token.proofs.ReaderLemmas.{Passed-more, Passed-run, next_passed, bytes_passed, boundary_passed, chars_passed}
 use Rattle.tl_token.proofs.reader.Reader.run.Goals as goal
 

@@ -1,6 +1,6 @@
 use Rattle.std.proofs.Common.{length, ℕ, List}
 use Rattle.std.specs.Str.{chars}
-use Rattle.tl_token.specs.Reader.{unread, is_in}
+use Rattle.tl_token.specs.inner.Reader.{unread, is_in}
 use Rattle.tl_token.proofs.ReaderLemmas.{Passed}
 use Rattle.tl_token.proofs.reader.Reader.run.Given as goal
 

@@ -5,13 +5,15 @@ use Rattle.tl_token.specs.Numbers.{number_of}
 use Rattle.tl_token.specs.Elements.{Attribute, Tag, is_word, value_of}
 use Rattle.tl_token.specs.Grammar.{hidden, tag, character, unended_tag, unended_comment, bad_tag, unknown_element, bad_reference, bad_character}
 use Rattle.tl_token.specs.Grammar as grammar
-use Rattle.tl_token.specs.States.{Outcome, State, reads, unended, wrong, read, between, with_attribute, with_more}
-use Rattle.tl_token.specs.Reading.{Found, stands, faulty, tag_found}
+use Rattle.tl_token.specs.inner.States.{Outcome, State, reads, unended, wrong, read, between, with_attribute, with_more}
+use Rattle.tl_token.specs.inner.Reading.{Found, stands, faulty, tag_found}
 use Rattle.tl_token.specs.declared.piece.Piece.{Piece}
 use Rattle.tl_token.specs.declared.piece.Piece.TheVariants.{Hidden, Start, End, Character}
 use Rattle.tl_token.specs.declared.token.TokenKind.TheVariants as kind
 use Rattle.tl_token.specs.declared.piece.Fault.{Fault}
 use Rattle.tl_token.specs.declared.piece.Fault.TheVariants.{UnendedTag, UnendedComment, BadTag, UnknownElement, BadReference, BadCharacter}
+use Rattle.tl_token.specs.declared.token.TokenError.{TokenError}
+use Rattle.tl_token.specs.declared.token.TokenError.TheVariants as error
 use Rattle.tl_token.specs.declared.tag.Given.{Given}
 
 abbrev pub piece_of : Piece → grammar.Piece
@@ -28,7 +30,16 @@ fault_of UnknownElement = unknown_element
 fault_of BadReference = bad_reference
 fault_of BadCharacter = bad_character
 
--- what an answer says stands there, with what is left behind it
+-- the error of a fault at that byte
+abbrev pub error_of : Fault → ℕ → TokenError
+error_of UnendedTag place = error.UnendedTag place
+error_of UnendedComment place = error.UnendedComment place
+error_of BadTag place = error.BadTag place
+error_of UnknownElement place = error.UnknownElement place
+error_of BadReference place = error.BadReference place
+error_of BadCharacter place = error.BadCharacter place
+
+-- what a result says stands there, with what is left after it
 abbrev pub found_of : Result Piece Fault → List ℕ → Found
 found_of (Ok piece) rest = stands (piece_of piece) rest
 found_of (Err fault) rest = faulty (fault_of fault)
