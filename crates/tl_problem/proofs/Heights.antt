@@ -114,7 +114,7 @@ height-same steps w v more none =
           elim (cases_lt w at.width) [
             | inr narrow ↦ test_le at.width w narrow ∙ sym (test_le at.width v (omega arith))
             | inl wide ↦ elim (cases_lt v at.width) [
-                | inl wider ↦ test_le_false at.width w wide ∙ sym (test_le_false at.width v wider)
-                | inr between ↦ absurd (none k d within wide between)
-              ]
+              | inl wider ↦ test_le_false at.width w wide ∙ sym (test_le_false at.width v wider)
+              | inr between ↦ absurd (none k d within wide between)
+            ]
           ]

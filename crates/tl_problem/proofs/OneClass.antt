@@ -29,7 +29,7 @@ pub IsLowAt-decides : (steps : List Config) (h w : ℕ) → IsLowAt steps h w �
 IsLowAt-decides steps h w = decides (height_at steps w) where
   decides : (o : Option ℕ) → IsSomeAnd o (λ height. height ≤ h) ⊎ (IsSomeAnd o (λ height. height ≤ h) → ⊥)
   decides None = inr (λ none. none)
-  decides (Some height) = elim (cases_lt h height) [ | inl above ↦ inr (λ le. omega arith) | inr enough ↦ inl enough ]
+  decides (Some height) = elim (cases_lt h height) [ inl above ↦ inr (λ le. omega arith) | inr enough ↦ inl enough ]
 
 -- a set that has widths, none of which give the span more than some room, cannot be without a greatest room
 module _ (problem : ProblemModel) (Among : List ℕ → Type 0) (left right most : ℕ) (limit : (widths : List ℕ) → Among widths → room (gap_of problem.style) widths left right ≤ most)
@@ -81,14 +81,14 @@ module _ (problem : ProblemModel) (sound : IsSound problem) (zone : List Range) 
           | inr high ↦ absurd (greatest-not_none problem (InZone problem zone) cell.left cell.right (page_room problem)
               (λ ws among. room-in_page problem ws among.page cell.left cell.right (sound.cells k d within).columns.0 (sound.cells k d within).columns.1)
               (λ w greatest. high (
-                let some = greatest.attained in
-                let there_too = some.1.ranges s there in
-                let more = greatest.never_more widths inside in
-                let unchanged = class-same_low problem sound s class (is.ranges s there).1 cell has same v w more
-                    (omega (arith, here.0, width_is widths, from)) (omega (arith, there_too.1, width_is some.0, some.2)) in
-                let low = IsLowAt-same cell.low h w v (sym unchanged) (give.cells k d within w greatest) in
-                subst (λ o. IsSomeAnd o (λ height. height ≤ h))
-                (agree s v cell there (omega (arith, here.0, width_is widths), omega (arith, here.1, width_is widths)) has same) low))
+              let some = greatest.attained in
+              let there_too = some.1.ranges s there in
+              let more = greatest.never_more widths inside in
+              let unchanged = class-same_low problem sound s class (is.ranges s there).1 cell has same v w more
+              (omega (arith, here.0, width_is widths, from)) (omega (arith, there_too.1, width_is some.0, some.2)) in
+              let low = IsLowAt-same cell.low h w v (sym unchanged) (give.cells k d within w greatest) in
+              subst (λ o. IsSomeAnd o (λ height. height ≤ h))
+              (agree s v cell there (omega (arith, here.0, width_is widths), omega (arith, here.1, width_is widths)) has same) low))
               widths inside)
         ]
 

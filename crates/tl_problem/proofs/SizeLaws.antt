@@ -72,8 +72,8 @@ same-positions gap (x ∷ xs) [] same at = absurd (omega arith)
 same-positions gap (x ∷ xs) (y ∷ ys) same at =
     let first : x ≡ y = omega (arith, at 1 (omega arith)) in
     let tails : xs ≡ ys = same-positions gap xs ys (omega arith) (λ place within.
-        let here = at (suc place) (omega arith) in
-        let left = sum_by-cons (λ n. n) x (take place xs) in
-        let right = sum_by-cons (λ n. n) y (take place ys) in
-        omega (arith, here, left, right, first)) in
+    let here = at (suc place) (omega arith) in
+    let left = sum_by-cons (λ n. n) x (take place xs) in
+    let right = sum_by-cons (λ n. n) y (take place ys) in
+    omega (arith, here, left, right, first)) in
     cc

@@ -35,7 +35,7 @@ whole-is_zone problem = record {
 }
 
 -- a span of the problem lies within its columns
-span-within : (problem : ProblemModel) → IsSound problem → (s : ℕ) → s < length (spans_of problem) → ((span_at problem s).left < (span_at problem s).right) × ((span_at problem s).right ≤ problem.cols)
+pub span-within : (problem : ProblemModel) → IsSound problem → (s : ℕ) → s < length (spans_of problem) → ((span_at problem s).left < (span_at problem s).right) × ((span_at problem s).right ≤ problem.cols)
 span-within problem sound s within =
     let found = spans-cell problem (span_at problem s) (Contains-get_or (spans_of problem) s (span 0 0) within) in
     let parts = has_span-parts (span_at problem s) found.0 found.2 in
@@ -59,7 +59,7 @@ whole-all problem sound widths page = record {
 
 -- two numbers are the same or not
 cases_eq : (t s : ℕ) → (t ≡ s) ⊎ (t ≢ s)
-cases_eq t s = elim (cases_lt t s) [ | inl less ↦ inr (λ e. omega arith) | inr more ↦ elim (cases_lt s t) [ | inl above ↦ inr (λ e. omega arith) | inr same ↦ inl (omega arith) ] ]
+cases_eq t s = elim (cases_lt t s) [ inl less ↦ inr (λ e. omega arith) | inr more ↦ elim (cases_lt s t) [ inl above ↦ inr (λ e. omega arith) | inr same ↦ inl (omega arith) ] ]
 
 module _ (problem : ProblemModel) (sound : IsSound problem) (zone : List Range) (is : IsZone problem zone) (s class : ℕ) (there : s < length zone)
     (from : (range_at zone s).first ≤ class) (before : class < (range_at zone s).last) where
@@ -84,16 +84,16 @@ module _ (problem : ProblemModel) (sound : IsSound problem) (zone : List Range) 
       elim (cases_lt a b) [
         | inr same ↦ let here : a ≡ b = omega arith in omega (arith, ap (last_in_class problem s) here)
         | inl less ↦ elim (cases_lt (b + 1) (length (classes_at problem s))) [
-            | inr last ↦
-                let end = get_or_past (classes_at problem s) (b + 1) (page_room problem + 1) last in
-                let page = class-in_page problem sound s a (omega arith) in
-                omega (arith, end, page)
-            | inl more ↦
-                let start = get_or_default (classes_at problem s) (a + 1) 0 (page_room problem + 1) (omega arith) in
-                let stop = get_or_default (classes_at problem s) (b + 1) 0 (page_room problem + 1) more in
-                let rise = classes-rising problem (span_at problem s) (a + 1) (b + 1) 0 (omega arith) more in
-                omega (arith, start, stop, rise)
-          ]
+          | inr last ↦
+              let end = get_or_past (classes_at problem s) (b + 1) (page_room problem + 1) last in
+              let page = class-in_page problem sound s a (omega arith) in
+              omega (arith, end, page)
+          | inl more ↦
+              let start = get_or_default (classes_at problem s) (a + 1) 0 (page_room problem + 1) (omega arith) in
+              let stop = get_or_default (classes_at problem s) (b + 1) 0 (page_room problem + 1) more in
+              let rise = classes-rising problem (span_at problem s) (a + 1) (b + 1) 0 (omega arith) more in
+              omega (arith, start, stop, rise)
+        ]
       ]
 
   -- and a later class begins no earlier

@@ -3,14 +3,22 @@
 //! contract: a zone's bound is the least total height by which no layout in the zone is lower.
 #![tactic(auto)]
 
+mod axis;
+mod bound;
 mod cell;
 mod chain;
+mod constraints;
+mod demands;
 mod placed;
+mod placing;
 mod problem;
+mod spans;
+mod work;
 mod zone;
 
 pub use cell::{Cell, Span};
 pub use chain::{Chain, Entry};
 pub use placed::Placed;
 pub use problem::{MAX_COLUMNS, MAX_LINES, MAX_ROWS, MAX_WIDTH, Problem};
+pub use work::Work;
 pub use zone::{Range, Zone};
