@@ -35,13 +35,13 @@ last-from p x [] s is = let e : x ≡ s = cc in inl e
 last-from p x (step ∷ steps) s is =
     (elim (p step) as (λ b. p step ≡ b → last_or (Some x) (cond b (step ∷ filter p steps) (filter p steps)) ≡ Some s → (x ≡ s) ⊎ ((k : ℕ) × ((k < length (step ∷ steps)) × ((step_at (step ∷ steps) k ≡ s) × (p s ≡ true))))) [
       | true ↦ λ passes here. elim (last-from p step steps s here) [
-          | inl same ↦ inr (0, (omega arith, (same, ap p (sym same) ∙ passes)))
-          | inr later ↦ inr (suc later.0, (omega (arith, later.1.0), later.1.1))
-        ]
+        | inl same ↦ inr (0, (omega arith, (same, ap p (sym same) ∙ passes)))
+        | inr later ↦ inr (suc later.0, (omega (arith, later.1.0), later.1.1))
+      ]
       | false ↦ λ passes here. elim (last-from p x steps s here) [
-          | inl same ↦ inl same
-          | inr later ↦ inr (suc later.0, (omega (arith, later.1.0), later.1.1))
-        ]
+        | inl same ↦ inl same
+        | inr later ↦ inr (suc later.0, (omega (arith, later.1.0), later.1.1))
+      ]
     ]) refl is
 
 -- where a step begins, its height is the height
@@ -140,9 +140,9 @@ module _ (gap row_gap : ℕ) (steps : List Config) (low high start : ℕ) where
       ];
       attained = elim (cases_lt least (area_with gap row_gap here.width here.height)) [
         | inl old ↦ elim h.attained [
-            | inl first ↦ inl (omega (arith, first))
-            | inr later ↦ inr (later.0, (omega (arith, later.1.0), (later.1.1.0, (later.1.1.1.0, omega (arith, later.1.1.1.1)))))
-          ]
+          | inl first ↦ inl (omega (arith, first))
+          | inr later ↦ inr (later.0, (omega (arith, later.1.0), (later.1.1.0, (later.1.1.1.0, omega (arith, later.1.1.1.1)))))
+        ]
         | inr new ↦ inr (upto, (omega arith, (past, (within, omega (arith, new)))))
       ];
     }
@@ -153,6 +153,7 @@ area-mono : (gap row_gap v w h : ℕ) → v ≤ w → area_with gap row_gap v h 
 area-mono gap row_gap v w h le = mul-le-mul (wider v w gap le) (same (h + row_gap)) where
   wider : (v w gap : ℕ) → v ≤ w → v + gap ≤ w + gap
   wider v w gap le = omega arith
+
   same : (n : ℕ) → n ≤ n
   same n = omega arith
 

@@ -9,7 +9,7 @@ use Rattle.tl_base.specs.Style.{gap_of, edge_of, row_gap_of}
 use Rattle.tl_base.specs.declared.style.Style.{Style}
 use Rattle.tl_base.specs.declared.style.Style.TheVariants.{Plain, Frame}
 use Rattle.tl_base.specs.Steps.{first_width, IsLowAt}
-use Rattle.tl_diff.specs.Bounds.{Bounds, Satisfies, IsSatisfiable, HasNoGreatest}
+use Rattle.tl_diff.specs.Bounds.{Bounds, Satisfies, IsSatisfiable, HasNoGreatest, IsLeast}
 use Rattle.tl_diff.specs.Marks.{MarkedBounds}
 use Rattle.tl_problem.specs.declared.cell.Cell.{Cell}
 use Rattle.tl_problem.specs.declared.zone.Range.{Range}
@@ -20,7 +20,9 @@ use Rattle.tl_problem.specs.Sound.{IsSound, IsSoundCell}
 use Rattle.tl_problem.specs.Spans.{spans_of, page_room, least_width}
 use Rattle.tl_problem.specs.Zones.{span_at, classes_at, range_at, first_in_class, last_in_class, span_width, IsWidthOf, IsZone, InZone}
 use Rattle.tl_problem.specs.Bounds.{HasNoWidths, IsGreatestRoom, GiveLow, IsLeastTotal, IsBound}
+use Rattle.tl_problem.specs.Placements.{AreLeast}
 use Rattle.tl_problem.specs.Works.{places, IsLeft, KeepsPage}
+use Rattle.tl_problem.specs.inner.Needs.{IsLeastRoom}
 use Rattle.tl_problem.specs.inner.Demands.{cell_at}
 use Rattle.tl_problem.specs.inner.Constraints.{widths_of, AreApart, AreNear, PageUpto, AddsFact, HasFirst, HasLast, AddsRanges}
 use Rattle.tl_problem.proofs.SizeLaws.{total-position, room-position, position-mono}
@@ -28,12 +30,12 @@ use Rattle.tl_problem.proofs.SpanLaws.{room-in_page, least_width-within, classes
 use Rattle.tl_problem.proofs.ZoneLaws.{span-within}
 use Rattle.tl_problem.proofs.DemandLemmas.{sum_take-mono}
 use Rattle.tl_problem.proofs.NeedLemmas.{All-from_numbers, IsLeastTotal-same}
-use Rattle.tl_problem.proofs.WorkLemmas.{left-from, left-room}
+use Rattle.tl_problem.proofs.WorkLemmas.{left-from, left-room, left-position}
 
 abbrev no_cell : Cell
 no_cell = record { left = 0; right = 0; top = 0; bottom = 0; low = []; high = [] }
 
-gap-some : (style : Style) → 1 ≤ gap_of style
+pub gap-some : (style : Style) → 1 ≤ gap_of style
 gap-some Plain = omega arith
 gap-some Frame = omega arith
 
@@ -324,6 +326,17 @@ module _ (problem : ProblemModel) (sound : IsSound problem) (bounds : Bounds) (k
       let small = room-small problem sound (widths_of more.0 (gap_of problem.style) problem.cols) page left right ahead within in
       omega (arith, ints, more.1.1, at, small, gap-few problem.style)
 
+  pub least-small : (w : ℕ) → IsLeastRoom problem (IsLeft problem bounds) left right w → w ≤ 500
+  least-small w is =
+      let small = room-small problem sound is.attained.0 (keeps.page is.attained.0 is.attained.1) left right ahead within in
+      omega (arith, small, is.attained.2)
+
+  pub least-some : HasNoGreatest bounds right left → ⊥
+  least-some none =
+      let more = none (pos 0) in
+      let at = left-room problem bounds keeps left right ahead within more.0 more.1.0 in
+      omega (arith, ints, more.1.1, at)
+
 -- a class begins within the page
 pub class-small : (problem : ProblemModel) → IsSound problem → (s class : ℕ) → s < length (spans_of problem) → class < length (classes_at problem s) → first_in_class problem s class ≤ 500
 class-small problem sound s class inside within =
@@ -336,3 +349,73 @@ class-small problem sound s class inside within =
           omega (arith, first, least, small)
       | inr later ↦ omega (arith, later.1, sound.narrow)
     ]
+
+-- a cell's least width is within the page
+pub first-small : (problem : ProblemModel) → IsSound problem → (k : ℕ) → k < length problem.cells → first_width (cell_at problem.cells k).low ≤ 500
+first-small problem sound k within =
+    let page = sound.fits in
+    let cell = cell_at problem.cells k in
+    let is = sound.cells k no_cell within in
+    omega (arith, page.1.cells k no_cell within, room-small problem sound page.0 page.1 cell.left cell.right is.columns.0 is.columns.1)
+
+-- ---- what a zone's ranges leave
+
+module _ (problem : ProblemModel) (zone : List Range) (marks : ℕ) (held : List Bounds) (base : Bounds) (new : MarkedBounds) (whole : Bool)
+    (adds : AddsRanges problem zone (length zone) (record { marks = marks; bounds = base; held = held }) new (IsTrue whole)) where
+  -- is in the zone,
+  pub ranges-zone : whole ≡ true → KeepsPage problem base → (widths : List ℕ) → IsLeft problem new.bounds widths → InZone problem zone widths
+  ranges-zone all keeps widths left = record {
+    page = keeps.page widths (record { columns = left.columns; satisfies = adds.keeps (places problem widths) left.satisfies });
+    ranges = λ s below. adds.to all widths left s below;
+  }
+
+  -- and all of the zone is left,
+  pub ranges-left : ((widths : List ℕ) → WithinPage problem widths → IsLeft problem base widths) → (widths : List ℕ) → InZone problem zone widths → IsLeft problem new.bounds widths
+  ranges-left page widths is = adds.from widths (page widths is.page) is.ranges
+
+  -- so that where nothing is left the zone has no widths
+  pub ranges-none : whole ≡ false → ((widths : List ℕ) → WithinPage problem widths → IsLeft problem base widths) → (IsSatisfiable new.bounds → IsTrue whole) → HasNoWidths (InZone problem zone)
+  ranges-none none page holds widths is =
+      let yes = holds (places problem widths, (ranges-left page widths is).satisfies) in
+      let both : true ≡ false = sym yes ∙ none in
+      cc
+
+-- ---- the least places
+
+module _ (problem : ProblemModel) (bounds : Bounds) (keeps : KeepsPage problem bounds) where
+  -- no place is bounded from above alone
+  pub place-bounded : (k : ℕ) → k < bounds.n → HasNoGreatest bounds k 0 → ⊥
+  place-bounded k below none =
+      let more = none (pos 0) in
+      let at = left-position problem bounds keeps more.0 more.1.0 k (omega (arith, keeps.variables)) in
+      omega (arith, ints, more.1.1, at)
+
+  module _ (x : ℕ → ℤ) (is : IsLeast bounds x) where
+    pub least-left : AreLeast (gap_of problem.style) (IsLeft problem bounds) (widths_of x (gap_of problem.style) problem.cols)
+    least-left = record {
+      kind = left-from problem bounds keeps x is.satisfies;
+      earliest = λ other kind place within.
+          let inside : place ≤ problem.cols = omega (arith, (left-from problem bounds keeps x is.satisfies).columns) in
+          let at = left-position problem bounds keeps x is.satisfies place inside in
+          let start = position-start (gap_of problem.style) other in
+          let less = is.least (places problem other) kind.satisfies (ap pos start) place (omega (arith, keeps.variables)) in
+          omega (arith, ints, at, less, is.starts);
+    }
+
+    -- the least places are within the page
+    pub place-small : IsSound problem → (k : ℕ) → k ≤ problem.cols → (pos 0 ≤ℤ x k) × (x k ≤ℤ pos 1000)
+    place-small sound k up =
+        let widths = widths_of x (gap_of problem.style) problem.cols in
+        let left = left-from problem bounds keeps x is.satisfies in
+        let at = left-position problem bounds keeps x is.satisfies k up in
+        let page = keeps.page widths left in
+        elim (cases_lt 0 problem.cols) [
+          | inr none ↦
+              let here : k ≡ 0 = omega arith in
+              rw here (omega (arith, ints, is.starts), omega (arith, ints, is.starts))
+          | inl some ↦
+              let whole = total-position (gap_of problem.style) (edge_of problem.style) widths (omega (arith, left.columns)) in
+              let ends = ap (position (gap_of problem.style) widths) left.columns in
+              let before = position-mono (gap_of problem.style) widths k problem.cols up in
+              (omega (arith, ints, at, is.starts), omega (arith, ints, at, is.starts, whole, ends, before, page.page, sound.narrow, gap-few problem.style))
+        ]

@@ -191,10 +191,10 @@ path-ahead n arcs forward p (i ∷ is) k path = omega (arith, path.1, forward i 
 -- ---- the least sizes
 
 module _ (problem : ProblemModel) (axis : Axis) (demands ends : List ℕ) (h : HaveEnds problem axis demands ends) where
-  abbrev end_at : ℕ → ℕ
+  abbrev pub end_at : ℕ → ℕ
   end_at k = get_or ends k 0
 
-  abbrev sizes : List ℕ
+  abbrev pub sizes : List ℕ
   sizes = rises end_at (count_on axis problem)
 
   pub ends-start : end_at 0 ≡ 0

@@ -15,3 +15,4 @@ pub mod WorkLemmas
 pub mod NeedLemmas
 pub mod ConstraintLemmas
 pub mod AreaSteps
+pub mod AreaFound

@@ -6,8 +6,10 @@ use Rattle.std.specs.Option.{option_map, IsSomeAnd, IfSome}
 use Rattle.std.proofs.lemmas.Bool.{cases_eq, cases_lt}
 use Rattle.std.proofs.lemmas.Bool.Decides.{nat_tests}
 use Rattle.std.proofs.lemmas.List.{get_or_default, get_or_push, get_or_append_left, get_or-set_same, get_or-set_other}
-use Rattle.std.proofs.lemmas.List.Sums.{sum_by-cons, sum_by-take-le, sum_by-take-drop}
+use Rattle.std.proofs.lemmas.List.Sums.{sum_by-cons, sum_by-take-le, sum_by-take-drop, sum_by-le}
 use Rattle.tl_base.specs.Style.{gap_of, row_gap_of, edge_of}
+use Rattle.tl_base.specs.declared.style.Style.{Style}
+use Rattle.tl_base.specs.declared.style.Style.TheVariants.{Plain, Frame}
 use Rattle.tl_base.specs.declared.steps.Config.{Config}
 use Rattle.tl_base.specs.Steps.{AreSteps, first_width, height_at, IsLowAt, IsLeastWidthFor}
 use Rattle.tl_problem.specs.declared.axis.Axis.TheVariants.{Columns, Rows}
@@ -22,6 +24,8 @@ use Rattle.tl_problem.specs.Tight.{KeepHigh}
 use Rattle.tl_problem.specs.inner.Demands.{cell_at, GiveDemands}
 use Rattle.tl_problem.specs.inner.Needs.{NeedHigh, NeedLow, NeedWidths, NeedLeast}
 use Rattle.tl_problem.proofs.Heights.{IsLowAt-from, IsLowAt-higher, IsLowAt-wider, height-from_low, height-from_first}
+use Rattle.tl_problem.proofs.SpanLaws.{room-in_page}
+use Rattle.tl_problem.proofs.DemandLemmas.{few-cells}
 use Rattle.tl_problem.proofs.TightLaws.{least-total, KeepHigh-itself}
 
 abbrev none : Cell
@@ -43,7 +47,7 @@ low-le steps w h k is low =
 
 -- ---- below the first width there is no height
 
-filter-none : (p : Config → Bool) (steps : List Config) → All (λ s. p s ≡ false) steps → filter p steps ≡ []
+pub filter-none : (p : Config → Bool) (steps : List Config) → All (λ s. p s ≡ false) steps → filter p steps ≡ []
 filter-none p [] all = refl
 filter-none p (step ∷ steps) all = rw (all 0 step (omega arith)) (filter-none p steps (λ k d within. all (suc k) d (omega arith)))
 
@@ -280,13 +284,13 @@ last-there x (y ∷ steps) = last-there y steps
 
 -- so a width is found for it
 pub width-found : (steps : List Config) → AreSteps steps → (w h : ℕ) → height_at steps w ≡ Some h → (found : Option ℕ) → IfSome (last_or None steps) (λ last. IsNone found ↔ (h < last.height)) → IsSome found
-width-found [] are w h is found no = cc
-width-found (x ∷ steps) are w h is None no =
+width-found [] are w h is found never = cc
+width-found (x ∷ steps) are w h is None never =
     let last = last-there x steps in
     let low : last.0.height ≤ h = rw last.1 at (last-lowest (x ∷ steps) are w h is) in
-    let high = (rw last.1 at no).0 refl in
+    let high = (rw last.1 at never).0 refl in
     absurd (omega (arith, low, high))
-width-found (x ∷ steps) are w h is (Some v) no = refl
+width-found (x ∷ steps) are w h is (Some v) never = refl
 
 -- ---- lists that grow
 
@@ -312,3 +316,42 @@ sum-range sizes from past =
     let inner = sum_by-take-le (λ x. x) (drop from sizes) (past - from) in
     let whole = sum_by-take-drop (λ x. x) sizes from in
     omega (arith, inner, whole)
+
+-- sizes of 32 bits do not sum to much
+pub sum-bound : (sizes : List ℕ) → ((k : ℕ) → get_or sizes k 0 < 4294967296) → sum sizes ≤ length sizes * 4294967295
+sum-bound sizes fit = sum_by-le (λ x. x) 4294967295 sizes (λ k d within. omega (arith, get_or_default sizes k d 0 within, fit k))
+
+-- the total height of few rows is little more than the sum
+pub total-few : (style : Style) (heights : List ℕ) → length heights ≤ 2001 → total (row_gap_of style) (edge_of style) heights ≤ sum heights + 2003
+total-few Plain [] few = omega arith
+total-few Frame [] few = omega arith
+total-few Plain (h ∷ heights) few = omega (arith, sum_by-cons (λ x. x) h heights)
+total-few Frame (h ∷ heights) few = omega (arith, sum_by-cons (λ x. x) h heights)
+
+-- ---- demands on columns are small
+
+pub all-most : (f : ℕ → ℕ) (most : ℕ) (ns : List ℕ) → ((k : ℕ) → k < length ns → get_or ns k 0 ≤ most) → sum ns ≤ length ns * most
+all-most f most ns each = sum_by-le (λ x. x) most ns (λ k d within. omega (arith, get_or_default ns k d 0 within, each k within))
+
+module _ (problem : ProblemModel) (sound : IsSound problem) where
+  room-most : (widths : List ℕ) → WithinPage problem widths → (k : ℕ) → k < length problem.cells → cell_width problem widths (cell_at problem.cells k) ≤ 500
+  room-most widths page k within =
+      let cell = cell_at problem.cells k in
+      let is = sound.cells k none within in
+      omega (arith, room-in_page problem widths page cell.left cell.right is.columns.0 is.columns.1, sound.narrow)
+
+  pub least-sum : (demands : List ℕ) → NeedLeast problem demands → sum demands ≤ 60030000
+  least-sum demands need =
+      let page = sound.fits in
+      let all = all-most (λ x. x) 500 demands (λ k within. omega (arith, need.each k (omega (arith, need.count)), page.1.cells k none (omega (arith, need.count)), room-most page.0 page.1 k (omega (arith, need.count)))) in
+      omega (arith, all, need.count, few-cells problem sound)
+
+  pub width-sum : (widths demands : List ℕ) → WithinPage problem widths → NeedWidths problem widths demands → sum demands ≤ 60030000
+  width-sum widths demands page need =
+      let all = all-most (λ x. x) 500 demands (λ k within.
+      let inside : k < length problem.cells = omega (arith, need.count) in
+      let found = need.each k inside in
+      let cell = cell_at problem.cells k in
+      let less = found.1.1.least (cell_width problem widths cell) (IsLowAt-from cell.high found.0 (cell_width problem widths cell) found.1.0) in
+      omega (arith, less, room-most widths page k inside)) in
+      omega (arith, all, need.count, few-cells problem sound)

@@ -11,10 +11,11 @@ use Rattle.tl_problem.specs.Sizes.{position, room}
 use Rattle.tl_problem.specs.Problem.{ProblemModel}
 use Rattle.tl_problem.specs.Bounds.{IsGreatestRoom}
 use Rattle.tl_problem.specs.Works.{places, IsLeft, KeepsPage}
+use Rattle.tl_problem.specs.inner.Needs.{IsLeastRoom}
 use Rattle.tl_problem.specs.inner.Constraints.{part_above, widths_of}
 use Rattle.tl_problem.proofs.SizeLaws.{room-position}
 
-part_above-is : (z : ℤ) → pos 0 ≤ℤ z → pos (part_above z) ≡ z
+pub part_above-is : (z : ℤ) → pos 0 ≤ℤ z → pos (part_above z) ≡ z
 part_above-is (pos n) up = refl
 part_above-is (negsuc n) up = absurd (omega (arith, ints))
 
@@ -98,8 +99,7 @@ module _ (problem : ProblemModel) (bounds : Bounds) (keeps : KeepsPage problem b
         )
 
     -- the greatest difference the other way round is that of the least room
-    pub least-room : (most : ℤ) → IsGreatest bounds right left most → (w : ℕ) × ((most ≡ neg_ℤ (pos (w + gap_of problem.style))) ×
-        (((widths : List ℕ) × IsLeft problem bounds widths × (room (gap_of problem.style) widths left right ≡ w)) × ((widths : List ℕ) → IsLeft problem bounds widths → w ≤ room (gap_of problem.style) widths left right)))
+    pub least-room : (most : ℤ) → IsGreatest bounds right left most → (w : ℕ) × ((most ≡ neg_ℤ (pos (w + gap_of problem.style))) × IsLeastRoom problem (IsLeft problem bounds) left right w)
     least-room most is =
         let x = is.reached.0 in
         let widths = widths_of x (gap_of problem.style) problem.cols in
@@ -108,12 +108,12 @@ module _ (problem : ProblemModel) (bounds : Bounds) (keeps : KeepsPage problem b
           room (gap_of problem.style) widths left right,
           (
             same,
-            (
-              (widths, left-from x is.reached.1.0, refl),
-              λ other kept.
+            record {
+              attained = (widths, left-from x is.reached.1.0, refl);
+              never_less = λ other kept.
                   let apart = is.implied (places problem other) kept.satisfies in
                   let room_is = room-position (gap_of problem.style) other left right ahead in
-                  omega (arith, ints, apart, room_is, same),
-            ),
+                  omega (arith, ints, apart, room_is, same);
+            },
           ),
         )

@@ -7,6 +7,7 @@ use Rattle.tl_problem.specs.declared.work.Work.{Work}
 use Rattle.tl_problem.specs.Sizes.{position}
 use Rattle.tl_problem.specs.Problem.{ProblemModel}
 use Rattle.tl_problem.specs.Layouts.{WithinPage}
+use Rattle.tl_problem.specs.Sound.{IsSound}
 
 -- where each column begins, as an assignment to the variables of a matrix
 abbrev pub places : ProblemModel → List ℕ → ℕ → ℤ
@@ -25,6 +26,7 @@ pub record KeepsPage (problem : ProblemModel) (bounds : Bounds) : Type 0 where
 
 -- the work is for this problem: its constraints keep the page, and its buffers have room for the cells and rows
 pub record IsWorkOf (problem : ProblemModel) (work : Work) : Type 0 where
+  pub sound : IsSound problem
   pub keeps : KeepsPage problem work.matrix.bounds
   pub demands : length work.demands.items ≡ length problem.cells
   pub arcs : length work.arcs.items ≡ length problem.cells

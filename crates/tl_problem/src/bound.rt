@@ -1,16 +1,16 @@
 //! The bound of a zone, and that of whatever constraints a work holds.
 
-ghost use Rattle.std.specs.Prelude.{◌≡◌, ℕ, ◌+◌, ◌<◌, pos, ◌+ℤ◌, ◌≤ℤ◌, length, Contains, Some, IfOk, MatchOption};
+ghost use Rattle.std.specs.Prelude.{◌≡◌, ℕ, ◌+◌, ◌<◌, ◌≤◌, pos, ◌+ℤ◌, ◌≤ℤ◌, length, Contains, Some, IfOk, MatchOption};
 ghost use Rattle.tl_base.specs.Style.{gap_of};
 ghost use Rattle.tl_base.specs.Steps.{height_at};
 ghost use Rattle.tl_diff.specs.Bounds.{IsSatisfiable, assignment_of};
 ghost use Rattle.tl_problem.specs.Bounds.{HasNoWidths, IsBound, IsGreatestRoom};
-ghost use Rattle.tl_problem.specs.Placements.{IsPlacementIn};
+ghost use Rattle.tl_problem.specs.Placements.{AreLeast, IsPlacementIn};
 ghost use Rattle.tl_problem.specs.Sound.{IsSound, IsSoundCell};
 ghost use Rattle.tl_problem.specs.Works.{HasPage, IsLeft, IsWorkOf, KeepsPage};
 ghost use Rattle.tl_problem.specs.Zones.{InZone, IsZone};
 ghost use Rattle.tl_problem.specs.inner.Constraints.{widths_of};
-ghost use Rattle.tl_problem.specs.inner.Needs.{NeedLow};
+ghost use Rattle.tl_problem.specs.inner.Needs.{IsLeastRoom, NeedLow};
 
 use crate::constraints::add_ranges;
 use crate::demands::least_height;
@@ -18,7 +18,7 @@ use crate::placing::place_under;
 use crate::{Cell, Placed, Problem, Work, Zone};
 use std::alloc::AllocError;
 use tl_base::List;
-use tl_diff::Matrix;
+use tl_diff::{Arc, Matrix};
 
 impl Problem {
     /// The bound of the widths that the work leaves: the least total height of rows that give each cell
@@ -34,8 +34,13 @@ impl Problem {
         if !work.matrix.holds() {
             return None;
         }
-        fill_low(self, &work.matrix, &mut work.demands);
-        Some(least_height(self, &work.demands, &mut work.arcs, &mut work.ends))
+        Some(bound_in(
+            self,
+            &work.matrix,
+            &mut work.demands,
+            &mut work.arcs,
+            &mut work.ends,
+        ))
     }
 
     /// The bound of the zone: the least total height of rows that give each cell its `low` at the
@@ -72,20 +77,69 @@ impl Problem {
         ensures page { HasPage self.now work.new }
         ensures matrix { work.new.matrix ≡ work.old.matrix }
     {
-        let mut places = vec![in self.alloc(); 0; self.cols() as usize + 1]?;
         work.matrix.mark();
-        let some = add_ranges(self, zone, &mut work.matrix);
-        if some {
-            work.matrix.solve_least(&mut places);
-        }
+        let found = if add_ranges(self, zone, &mut work.matrix) {
+            Some(least_widths(self, &work.matrix))
+        } else {
+            None
+        };
         work.matrix.undo();
-        if !some {
+        let Some(found) = found else {
             return Ok(None);
-        }
-        let widths = widths_between(self, &places)?;
+        };
+        let widths = found?;
         let placed = place_under(self, widths.as_slice())?;
         Ok(Some(placed))
     }
+}
+
+/// The widths at the least places that satisfy the constraints.
+fn least_widths(problem: &Problem, matrix: &Matrix) -> Result<List<u32>, AllocError>
+    requires sound { IsSound problem.now }
+    requires keeps { KeepsPage problem.now matrix.now.bounds }
+    requires some { IsSatisfiable matrix.now.bounds }
+    ensures { IfOk result (AreLeast (gap_of problem.now.style) (IsLeft problem.now matrix.now.bounds)) }
+{
+    let mut places = vec![in problem.alloc(); 0; problem.cols() as usize + 1]?;
+    let widths = widths_in(problem, matrix, &mut places)?;
+    Ok(widths)
+}
+
+/// The widths at the least places that satisfy the constraints. `places` is room.
+fn widths_in(
+    problem: &Problem,
+    matrix: &Matrix,
+    places: &mut [i32],
+) -> Result<List<u32>, AllocError>
+    requires sound { IsSound problem.now }
+    requires keeps { KeepsPage problem.now matrix.now.bounds }
+    requires some { IsSatisfiable matrix.now.bounds }
+    requires room { length places.old ≡ problem.now.cols + 1 }
+    ensures { IfOk result (AreLeast (gap_of problem.now.style) (IsLeft problem.now matrix.now.bounds)) }
+{
+    matrix.solve_least(places);
+    let widths = widths_between(problem, places)?;
+    Ok(widths)
+}
+
+/// The bound of the widths that the matrix leaves, of which there are some. `demands`, `arcs` and
+/// `ends` are room.
+fn bound_in(
+    problem: &Problem,
+    matrix: &Matrix,
+    demands: &mut [u32],
+    arcs: &mut [Arc],
+    ends: &mut [u32],
+) -> u32
+    requires keeps { KeepsPage problem.now matrix.now.bounds }
+    requires some { IsSatisfiable matrix.now.bounds }
+    requires demand_room { length demands.old ≡ length problem.now.cells }
+    requires arc_room { length arcs.old ≡ length problem.now.cells }
+    requires end_room { length ends.old ≡ problem.now.rows + 1 }
+    ensures { IsBound problem.now (IsLeft problem.now matrix.now.bounds) result }
+{
+    fill_low(problem, matrix, demands);
+    least_height(problem, demands, arcs, ends)
 }
 
 /// Fills `demands` with the `low` of each cell at the greatest room of its span.
@@ -105,23 +159,53 @@ fn fill_low(problem: &Problem, matrix: &Matrix, demands: &mut [u32])
 
 /// The `low` of the cell at the greatest room of its span.
 fn low_at_greatest(problem: &Problem, gap: u32, matrix: &Matrix, cell: &Cell) -> u32
+    requires sound { IsSound problem.now }
     requires keeps { KeepsPage problem.now matrix.now.bounds }
     requires some { IsSatisfiable matrix.now.bounds }
     requires gap { gap ≡ gap_of problem.now.style }
-    requires sound { IsSound problem.now }
     requires cell { IsSoundCell problem.now cell.now }
     requires inside { Contains problem.now.cells cell.now }
     ensures { (w : ℕ) × (IsGreatestRoom problem.now (IsLeft problem.now matrix.now.bounds) cell.now.left cell.now.right w
         × (height_at cell.now.low w ≡ Some result)) }
 {
-    let apart = matrix.upper(cell.left, cell.right).unwrap();
-    let room = apart as u32 - gap;
+    let room = greatest_room(problem, gap, matrix, cell);
     cell.low.height_at(room).unwrap()
+}
+
+/// The greatest room of the cell's span.
+pub fn greatest_room(problem: &Problem, gap: u32, matrix: &Matrix, cell: &Cell) -> u32
+    requires sound { IsSound problem.now }
+    requires keeps { KeepsPage problem.now matrix.now.bounds }
+    requires some { IsSatisfiable matrix.now.bounds }
+    requires gap { gap ≡ gap_of problem.now.style }
+    requires cell { IsSoundCell problem.now cell.now }
+    ensures room { IsGreatestRoom problem.now (IsLeft problem.now matrix.now.bounds) cell.now.left cell.now.right result }
+    ensures small { result ≤ 500 }
+{
+    let apart = matrix.upper(cell.left, cell.right).unwrap();
+    apart as u32 - gap
+}
+
+/// The least room of the cell's span.
+pub fn least_room(problem: &Problem, gap: u32, matrix: &Matrix, cell: &Cell) -> u32
+    requires sound { IsSound problem.now }
+    requires keeps { KeepsPage problem.now matrix.now.bounds }
+    requires some { IsSatisfiable matrix.now.bounds }
+    requires gap { gap ≡ gap_of problem.now.style }
+    requires cell { IsSoundCell problem.now cell.now }
+    ensures room { IsLeastRoom problem.now (IsLeft problem.now matrix.now.bounds) cell.now.left cell.now.right result }
+    ensures small { result ≤ 500 }
+{
+    let apart = matrix.upper(cell.right, cell.left).unwrap();
+    let apart = -apart;
+    apart as u32 - gap
 }
 
 /// The widths of columns that begin at these places, with a gap after each.
 fn widths_between(problem: &Problem, places: &[i32]) -> Result<List<u32>, AllocError>
     requires count { length places.now ≡ problem.now.cols + 1 }
+    requires small { (k : ℕ) → k ≤ problem.now.cols →
+        (pos 0 ≤ℤ assignment_of places.now k) × (assignment_of places.now k ≤ℤ pos 1000) }
     requires rising { (k : ℕ) → k < problem.now.cols →
         (assignment_of places.now k +ℤ pos (gap_of problem.now.style)) ≤ℤ assignment_of places.now (k + 1) }
     ensures { IfOk result (λ widths.

@@ -3,6 +3,7 @@
 ghost use Rattle.std.specs.Prelude.{◌≡◌, ℕ, ◌<◌, ◌≤◌, List, [], length, IfOk, IsTrue, ◌↔◌};
 ghost use Rattle.tl_diff.specs.Bounds.{IsSatisfiable};
 ghost use Rattle.tl_problem.specs.Layouts.{WithinPage};
+ghost use Rattle.tl_problem.specs.Sound.{IsSound};
 ghost use Rattle.tl_problem.specs.Works.{IsLeft, KeepsPage};
 ghost use Rattle.tl_problem.specs.Zones.{IsZone};
 ghost use Rattle.tl_problem.specs.inner.Constraints.{AddsFact, AddsRanges, AreApart, AreNear, HasFirst, HasLast, PageUpto};
@@ -87,6 +88,7 @@ fn keep_near(matrix: &mut Matrix, a: u32, b: u32, most: u32) -> bool
 /// Adds the constraints that the cuts of the zone made: those of a span that has not all its classes.
 /// Returns whether some widths are left; once none are, the rest is left out.
 pub fn add_ranges(problem: &Problem, zone: &Zone, matrix: &mut Matrix) -> bool
+    requires sound { IsSound problem.now }
     requires zone { IsZone problem.now zone.now }
     requires keeps { KeepsPage problem.now matrix.old.bounds }
     requires holds { IsSatisfiable matrix.old.bounds }

@@ -26,7 +26,9 @@ pub const NO_ARC: Arc = Arc {
 pub fn least_sizes(problem: &Problem, axis: Axis, demands: &[u32]) -> Result<List<u32>, AllocError>
     requires count { length demands.now ≡ length problem.now.cells }
     requires fits { sum demands.now ≤ 2 ^ 31 }
-    ensures { IfOk result (AreLeast (gap_on axis problem.now) (GiveDemands problem.now axis demands.now)) }
+    ensures least { IfOk result (AreLeast (gap_on axis problem.now)
+        (GiveDemands problem.now axis demands.now)) }
+    ensures small { IfOk result (λ sizes. sum sizes ≤ sum demands.now) }
 {
     let mut arcs = vec![in problem.alloc(); NO_ARC; problem.cells().len()]?;
     let mut ends = vec![in problem.alloc(); 0; axis.count(problem) as usize + 1]?;
@@ -46,7 +48,9 @@ fn sizes_in(
     requires fits { sum demands.now ≤ 2 ^ 31 }
     requires arc_room { length arcs.old ≡ length problem.now.cells }
     requires end_room { length ends.old ≡ count_on axis problem.now + 1 }
-    ensures { IfOk result (AreLeast (gap_on axis problem.now) (GiveDemands problem.now axis demands.now)) }
+    ensures least { IfOk result (AreLeast (gap_on axis problem.now)
+        (GiveDemands problem.now axis demands.now)) }
+    ensures small { IfOk result (λ sizes. sum sizes ≤ sum demands.now) }
 {
     find_ends(problem, axis, demands, arcs, ends);
     let sizes = sizes_between(problem.alloc(), ends)?;

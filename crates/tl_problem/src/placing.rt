@@ -1,10 +1,11 @@
 //! Placements: the least heights of rows under given widths, and tight and opening placements.
 
-ghost use Rattle.std.specs.Prelude.{◌≡◌, ℕ, ◌*◌, ◌<◌, ◌≤◌, length, sum, IfOk, IsTrue, ◌↔◌, MatchOption};
+ghost use Rattle.std.specs.Prelude.{◌≡◌, ℕ, ◌<◌, ◌≤◌, length, sum, IfOk, IsTrue, ◌↔◌, MatchOption};
 ghost use Rattle.tl_base.specs.Steps.{AreSteps, IsLeastWidthFor, first_width, height_at};
 ghost use Rattle.tl_problem.specs.Layouts.{WithinPage};
 ghost use Rattle.tl_problem.specs.Placements.{IsOpening, IsPlacement};
 ghost use Rattle.tl_problem.specs.Sizes.{room, total};
+ghost use Rattle.tl_problem.specs.Sound.{IsSound};
 ghost use Rattle.tl_problem.specs.Tight.{IsTightFrom};
 ghost use Rattle.tl_problem.specs.inner.Needs.{NeedHigh, NeedLeast, NeedWidths};
 
@@ -33,7 +34,8 @@ impl Problem {
     pub fn opening(&self) -> Result<Placed, AllocError>
         ensures { IfOk result (IsOpening self.now) }
     {
-        let demands = least_needs(self)?;
+        let cells = self.cells();
+        let demands = least_needs(self, cells)?;
         let widths = least_sizes(self, Axis::Columns, &demands)?;
         let placed = place_under(self, widths.as_slice())?;
         Ok(placed)
@@ -48,10 +50,11 @@ impl Problem {
         ensures no_wider { IfOk result (λ tight. tight.width ≤ placed.now.width) }
         ensures no_higher { IfOk result (λ tight. tight.height ≤ placed.now.height) }
     {
-        let demands = width_needs(self, placed.widths.as_slice())?;
+        let cells = self.cells();
+        let demands = width_needs(self, cells, placed.widths.as_slice())?;
         let widths = least_sizes(self, Axis::Columns, &demands)?;
-        let placed = place_under(self, widths.as_slice())?;
-        Ok(placed)
+        let tight = place_under(self, widths.as_slice())?;
+        Ok(tight)
     }
 }
 
@@ -80,7 +83,8 @@ pub fn place_under(problem: &Problem, widths: &[u32]) -> Result<Placed, AllocErr
     requires { WithinPage problem.now widths.now }
     ensures { IfOk result (λ placed. IsPlacement problem.now placed × (placed.widths ≡ widths.now)) }
 {
-    let demands = high_needs(problem, widths)?;
+    let cells = problem.cells();
+    let demands = high_needs(problem, cells, widths)?;
     let heights = least_sizes(problem, Axis::Rows, &demands)?;
     let style = problem.style();
     let width = total_size(style.gap(), style.edge(), widths) as u32;
@@ -94,10 +98,10 @@ pub fn place_under(problem: &Problem, widths: &[u32]) -> Result<Placed, AllocErr
 }
 
 /// The least width of each cell.
-fn least_needs(problem: &Problem) -> Result<Vec<u32>, AllocError>
+fn least_needs(problem: &Problem, cells: &[Cell]) -> Result<Vec<u32>, AllocError>
+    requires { cells.now ≡ problem.now.cells }
     ensures { IfOk result (λ demands. NeedLeast problem.now demands.items) }
 {
-    let cells = problem.cells();
     let mut demands = Vec::new(problem.alloc());
     for number in 0..cells.len() {
         demands.push(cells[number].low.least())?;
@@ -106,12 +110,13 @@ fn least_needs(problem: &Problem) -> Result<Vec<u32>, AllocError>
 }
 
 /// The height that each cell needs by `high` under these widths.
-fn high_needs(problem: &Problem, widths: &[u32]) -> Result<Vec<u32>, AllocError>
-    requires { WithinPage problem.now widths.now }
+fn high_needs(problem: &Problem, cells: &[Cell], widths: &[u32]) -> Result<Vec<u32>, AllocError>
+    requires cells { cells.now ≡ problem.now.cells }
+    requires sound { IsSound problem.now }
+    requires page { WithinPage problem.now widths.now }
     ensures { IfOk result (λ demands. NeedHigh problem.now widths.now demands.items) }
 {
     let gap = problem.style().gap();
-    let cells = problem.cells();
     let mut demands = Vec::new(problem.alloc());
     for number in 0..cells.len() {
         demands.push(high_at(gap, widths, &cells[number]))?;
@@ -120,12 +125,13 @@ fn high_needs(problem: &Problem, widths: &[u32]) -> Result<Vec<u32>, AllocError>
 }
 
 /// The least width at which each cell needs no more by `high` than under these widths.
-fn width_needs(problem: &Problem, widths: &[u32]) -> Result<Vec<u32>, AllocError>
-    requires { WithinPage problem.now widths.now }
+fn width_needs(problem: &Problem, cells: &[Cell], widths: &[u32]) -> Result<Vec<u32>, AllocError>
+    requires cells { cells.now ≡ problem.now.cells }
+    requires sound { IsSound problem.now }
+    requires page { WithinPage problem.now widths.now }
     ensures { IfOk result (λ demands. NeedWidths problem.now widths.now demands.items) }
 {
     let gap = problem.style().gap();
-    let cells = problem.cells();
     let mut demands = Vec::new(problem.alloc());
     for number in 0..cells.len() {
         demands.push(width_at(gap, widths, &cells[number]))?;
@@ -179,8 +185,7 @@ pub fn total_size(gap: u32, edge: u32, sizes: &[u32]) -> u64
 /// The sum of sizes.
 fn sum_of(sizes: &[u32]) -> u64
     requires { length sizes.now ≤ 2001 }
-    ensures sum { result ≡ sum sizes.now }
-    ensures small { result ≤ 2001 * 4294967295 }
+    ensures { result ≡ sum sizes.now }
 {
     sizes.iter().map(|&size| u64::from(size)).sum()
 }

@@ -1,6 +1,9 @@
 -- The least area over the steps of a cell; no public clause cites this file.
-use Rattle.std.specs.Prelude.{◌≡◌, ℕ, ◌+◌, ◌*◌, ◌<◌, ◌≤◌, ◌⊎◌, List, length, get_or}
+use Rattle.std.specs.Prelude.{◌≡◌, ℕ, ◌+◌, ◌*◌, ◌<◌, ◌≤◌, ◌⊎◌, List, length, get_or, sum}
 use Rattle.tl_base.specs.declared.steps.Config.{Config}
+use Rattle.tl_problem.specs.Problem.{ProblemModel}
+use Rattle.tl_problem.specs.Areas.{IsLeastArea}
+use Rattle.tl_problem.specs.inner.Demands.{cell_at}
 
 -- the step with this number
 abbrev pub step_at : List Config → ℕ → Config
@@ -15,3 +18,10 @@ pub record IsLeastStep (gap row_gap : ℕ) (steps : List Config) (upto low high 
   pub below_start : least ≤ start
   pub below_steps : (k : ℕ) → k < upto → low < (step_at steps k).width → (step_at steps k).width ≤ high → least ≤ area_with gap row_gap (step_at steps k).width (step_at steps k).height
   pub attained : (least ≡ start) ⊎ ((k : ℕ) × ((k < upto) × ((low < (step_at steps k).width) × (((step_at steps k).width ≤ high) × (least ≡ area_with gap row_gap (step_at steps k).width (step_at steps k).height)))))
+
+-- the least areas of the first cells, and their sum
+pub record HaveAreas (problem : ProblemModel) (Among : List ℕ → Type 0) (upto total : ℕ) : Type 0 where
+  pub areas : List ℕ
+  pub count : length areas ≡ upto
+  pub each : (k : ℕ) → k < upto → IsLeastArea problem Among (cell_at problem.cells k) (get_or areas k 0)
+  pub sums : sum areas ≡ total
