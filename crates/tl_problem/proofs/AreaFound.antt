@@ -1,6 +1,6 @@
 -- The area bound from the least areas of the cells and the greatest place where the columns end.
-use Rattle.std.proofs.Common.{◌≡◌, ◌≢◌, ℕ, ◌+◌, ◌-◌, ◌*◌, ◌/◌, ◌%◌, ◌<◌, ◌≤◌, zero, suc, min, ℤ, pos, ◌+ℤ◌, ◌-ℤ◌, List, [], ◌∷◌, ◌++◌, ◌⊎◌, inl, inr, length, get_or, sum, Option, Some, None, MatchOption, refl, sym, ap, ◌∙◌, subst, arith}
-use Rattle.std.specs.List.{All, AllZip, sum_by}
+use Rattle.std.proofs.Common.{◌≡◌, ℕ, ◌+◌, ◌-◌, ◌*◌, ◌/◌, ◌%◌, ◌<◌, ◌≤◌, suc, min, ℤ, pos, List, [], ◌∷◌, ◌++◌, inl, inr, length, get_or, Option, Some, None, MatchOption, refl, sym, ap, ◌∙◌, subst, arith}
+use Rattle.std.specs.List.{AllZip, sum_by}
 use Rattle.std.specs.Int.{div_ceil}
 use Rattle.std.proofs.lemmas.Int.{ints}
 use Rattle.std.proofs.lemmas.Bool.{cases_lt}
@@ -11,15 +11,15 @@ use Rattle.std.proofs.Math.Nat.{mul-le-mul, mul-le-mul_right}
 use Rattle.tl_base.specs.Style.{gap_of, row_gap_of, edge_of}
 use Rattle.tl_base.specs.declared.style.Style.{Style}
 use Rattle.tl_base.specs.declared.style.Style.TheVariants.{Plain, Frame}
-use Rattle.tl_base.specs.Steps.{first_width, height_at}
-use Rattle.tl_diff.specs.Bounds.{Bounds, Satisfies, IsGreatest, HasNoGreatest}
+use Rattle.tl_base.specs.Steps.{height_at}
+use Rattle.tl_diff.specs.Bounds.{Bounds, IsGreatest, HasNoGreatest}
 use Rattle.tl_problem.specs.declared.cell.Cell.{Cell}
-use Rattle.tl_problem.specs.Sizes.{position, room}
+use Rattle.tl_problem.specs.Sizes.{position}
 use Rattle.tl_problem.specs.Problem.{ProblemModel, cell_width}
 use Rattle.tl_problem.specs.Layouts.{WithinPage}
 use Rattle.tl_problem.specs.Sound.{IsSound, IsSoundCell, greatest_height}
 use Rattle.tl_problem.specs.Bounds.{HasNoWidths, IsGreatestRoom}
-use Rattle.tl_problem.specs.Areas.{IsBetweenRooms, area, IsLeastArea, IsGreatestEnd, IsRoundedUp, HoldAreas, IsAreaBound}
+use Rattle.tl_problem.specs.Areas.{IsBetweenRooms, IsLeastArea, IsGreatestEnd, IsRoundedUp, IsAreaBound}
 use Rattle.tl_problem.specs.Works.{places, IsLeft, KeepsPage}
 use Rattle.tl_problem.specs.inner.Demands.{cell_at}
 use Rattle.tl_problem.specs.inner.Needs.{IsLeastRoom}
@@ -38,6 +38,10 @@ no_cell = record { left = 0; right = 0; top = 0; bottom = 0; low = []; high = []
 row_gap-few : (style : Style) → row_gap_of style ≤ 1
 row_gap-few Plain = omega arith
 row_gap-few Frame = omega arith
+
+pub edge-few : (style : Style) → edge_of style ≤ 1
+edge-few Plain = omega arith
+edge-few Frame = omega arith
 
 -- ---- the least area of one cell
 

@@ -1,12 +1,12 @@
 -- The least area of a cell is at its least room, or where a step begins.
-use Rattle.std.proofs.Common.{◌≡◌, ◌≢◌, ℕ, ◌+◌, ◌-◌, ◌*◌, ◌<◌, ◌≤◌, zero, suc, min, Bool, true, false, cond, nat_le, List, [], ◌∷◌, ◌⊎◌, inl, inr, length, get_or, filter, Option, Some, None, refl, sym, ap, ◌∙◌, subst, arith}
-use Rattle.std.specs.List.{All, AllPairs, last_or, sum_by}
+use Rattle.std.proofs.Common.{◌≡◌, ℕ, ◌+◌, ◌<◌, ◌≤◌, zero, suc, min, Bool, true, false, cond, nat_le, List, [], ◌∷◌, ◌⊎◌, inl, inr, length, get_or, filter, Option, Some, None, refl, sym, ap, ◌∙◌, arith}
+use Rattle.std.specs.List.{AllPairs, last_or}
 use Rattle.std.specs.Option.{option_map}
 use Rattle.std.proofs.lemmas.Bool.{cases_eq, cases_lt}
 use Rattle.std.proofs.lemmas.Bool.Decides.{nat_tests}
 use Rattle.std.proofs.Math.Nat.{mul-le-mul}
 use Rattle.tl_base.specs.declared.steps.Config.{Config}
-use Rattle.tl_base.specs.Steps.{AreSteps, first_width, height_at}
+use Rattle.tl_base.specs.Steps.{AreSteps, height_at}
 use Rattle.tl_problem.specs.inner.Least.{step_at, area_with, IsLeastStep}
 use Rattle.tl_problem.proofs.NeedLemmas.{filter-none}
 

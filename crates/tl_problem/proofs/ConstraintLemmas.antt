@@ -1,25 +1,24 @@
 -- Constraints of the page and of a zone's ranges, one after another, and the sets of widths that they leave.
-use Rattle.std.proofs.Common.{◌≡◌, ◌≢◌, ℕ, ◌+◌, ◌-◌, ◌*◌, ◌<◌, ◌≤◌, zero, suc, ℤ, pos, ◌+ℤ◌, ◌-ℤ◌, ◌≤ℤ◌, Bool, true, false, IsTrue, ◌↔◌, List, [], ◌∷◌, ◌⊎◌, inl, inr, length, get_or, take, sum, Option, Some, None, MatchOption, refl, sym, ap, ◌∙◌, subst, arith}
+use Rattle.std.proofs.Common.{◌≡◌, ℕ, ◌+◌, ◌-◌, ◌*◌, ◌<◌, ◌≤◌, ℤ, pos, ◌≤ℤ◌, Bool, true, false, IsTrue, List, [], ◌∷◌, inl, inr, length, get_or, Option, Some, None, MatchOption, refl, sym, ap, ◌∙◌, arith}
 use Rattle.std.proofs.lemmas.Int.{ints}
 use Rattle.std.proofs.lemmas.Bool.{cases_eq, cases_lt}
 use Rattle.std.proofs.lemmas.List.{get_or_past}
 use Rattle.std.proofs.lemmas.List.Elements.{Contains-get_or}
-use Rattle.std.specs.List.{All}
 use Rattle.tl_base.specs.Style.{gap_of, edge_of, row_gap_of}
 use Rattle.tl_base.specs.declared.style.Style.{Style}
 use Rattle.tl_base.specs.declared.style.Style.TheVariants.{Plain, Frame}
-use Rattle.tl_base.specs.Steps.{first_width, IsLowAt}
+use Rattle.tl_base.specs.Steps.{first_width}
 use Rattle.tl_diff.specs.Bounds.{Bounds, Satisfies, IsSatisfiable, HasNoGreatest, IsLeast}
 use Rattle.tl_diff.specs.Marks.{MarkedBounds}
 use Rattle.tl_problem.specs.declared.cell.Cell.{Cell}
 use Rattle.tl_problem.specs.declared.zone.Range.{Range}
-use Rattle.tl_problem.specs.Sizes.{position, room, total}
-use Rattle.tl_problem.specs.Problem.{ProblemModel, cell_width, cell_height, total_width}
+use Rattle.tl_problem.specs.Sizes.{position, room}
+use Rattle.tl_problem.specs.Problem.{ProblemModel, cell_width, total_width}
 use Rattle.tl_problem.specs.Layouts.{WithinPage}
-use Rattle.tl_problem.specs.Sound.{IsSound, IsSoundCell}
-use Rattle.tl_problem.specs.Spans.{spans_of, page_room, least_width}
-use Rattle.tl_problem.specs.Zones.{span_at, classes_at, range_at, first_in_class, last_in_class, span_width, IsWidthOf, IsZone, InZone}
-use Rattle.tl_problem.specs.Bounds.{HasNoWidths, IsGreatestRoom, GiveLow, IsLeastTotal, IsBound}
+use Rattle.tl_problem.specs.Sound.{IsSound}
+use Rattle.tl_problem.specs.Spans.{spans_of, page_room}
+use Rattle.tl_problem.specs.Zones.{span_at, classes_at, range_at, first_in_class, last_in_class, span_width, IsWidthOf, InZone}
+use Rattle.tl_problem.specs.Bounds.{HasNoWidths, IsGreatestRoom, GiveLow, IsBound}
 use Rattle.tl_problem.specs.Placements.{AreLeast}
 use Rattle.tl_problem.specs.Works.{places, IsLeft, KeepsPage}
 use Rattle.tl_problem.specs.inner.Needs.{IsLeastRoom}

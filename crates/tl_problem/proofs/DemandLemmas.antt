@@ -1,6 +1,6 @@
 -- Heaviest paths over the cells give the least sizes that meet what the cells demand: such sizes are the rises between
 -- the weights of heaviest paths, and no sizes that meet all demands are behind a path.
-use Rattle.std.proofs.Common.{◌≡◌, ℕ, ◌+◌, ◌-◌, ◌*◌, ◌<◌, ◌≤◌, zero, suc, List, [], ◌∷◌, ◌++◌, ◌⊎◌, inl, inr, length, get_or, map, take, sum, refl, sym, ap, ◌∙◌, subst, arith}
+use Rattle.std.proofs.Common.{◌≡◌, ℕ, ◌+◌, ◌-◌, ◌*◌, ◌<◌, ◌≤◌, zero, suc, List, [], ◌∷◌, inl, inr, length, get_or, map, take, sum, refl, sym, ap, ◌∙◌, subst, arith}
 use Rattle.std.specs.List.{All, sum_by}
 use Rattle.std.proofs.lemmas.Bool.{cases_lt}
 use Rattle.std.proofs.lemmas.List.{length-append, take_all, take-append-le, length-map, get_or-map, get_or_default}
@@ -8,7 +8,7 @@ use Rattle.std.proofs.lemmas.List.Sums.{sum_by-append, sum_by-cons}
 use Rattle.std.proofs.Math.Nat.{mul-le-mul}
 use Rattle.tl_base.specs.Style.{row_gap_of, edge_of}
 use Rattle.tl_diff.specs.declared.paths.Arc.{Arc}
-use Rattle.tl_diff.specs.Paths.{arc_at, IsPath, path_weight, IsHeaviest, total_weight, LeadForward, InOrder}
+use Rattle.tl_diff.specs.Paths.{arc_at, IsPath, path_weight, total_weight, LeadForward, InOrder}
 use Rattle.tl_diff.proofs.PathLaws.{IsHeaviest-further, IsHeaviest-along}
 use Rattle.tl_problem.specs.declared.axis.Axis.{Axis}
 use Rattle.tl_problem.specs.declared.axis.Axis.TheVariants.{Columns, Rows}
@@ -19,7 +19,7 @@ use Rattle.tl_problem.specs.Problem.{ProblemModel}
 use Rattle.tl_problem.specs.Sound.{IsSound, IsSoundCell}
 use Rattle.tl_problem.specs.Bounds.{IsLeastTotal}
 use Rattle.tl_problem.specs.Placements.{AreLeast}
-use Rattle.tl_problem.specs.inner.Axes.{start_of, end_of, count_on, gap_on, turn, IsOrder}
+use Rattle.tl_problem.specs.inner.Axes.{start_of, end_of, count_on, gap_on, turn}
 use Rattle.tl_problem.specs.inner.Demands.{cell_at, cell_arc, arc_for, AreArcs, GiveDemands, HaveEnds, rises}
 use Rattle.tl_problem.proofs.SizeLaws.{room-position, total-position, total-le, take-between}
 use Rattle.tl_problem.proofs.Rectangles.{amount, late, areas-within}

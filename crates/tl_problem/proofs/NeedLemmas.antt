@@ -1,8 +1,8 @@
 -- What the cells need, by number, says what layouts, bounds and tight placements ask for: sizes give the one where they
 -- give the other.
-use Rattle.std.proofs.Common.{◌≡◌, ℕ, ◌+◌, ◌-◌, ◌*◌, ◌<◌, ◌≤◌, zero, suc, Bool, true, false, cond, nat_le, IsSome, IsNone, ◌↔◌, List, [], ◌∷◌, ◌++◌, length, get_or, set, drop, filter, map, sum, Option, Some, None, refl, sym, ap, ◌∙◌, subst, inl, inr, arith}
+use Rattle.std.proofs.Common.{◌≡◌, ℕ, ◌+◌, ◌-◌, ◌*◌, ◌<◌, ◌≤◌, zero, suc, Bool, true, false, cond, nat_le, IsSome, IsNone, ◌↔◌, List, [], ◌∷◌, ◌++◌, length, get_or, set, drop, filter, sum, Option, Some, None, refl, sym, ap, ◌∙◌, subst, inl, inr, arith}
 use Rattle.std.specs.List.{All, AllPairs, last_or, sum_by, slice_range}
-use Rattle.std.specs.Option.{option_map, IsSomeAnd, IfSome}
+use Rattle.std.specs.Option.{option_map, IfSome}
 use Rattle.std.proofs.lemmas.Bool.{cases_eq, cases_lt}
 use Rattle.std.proofs.lemmas.Bool.Decides.{nat_tests}
 use Rattle.std.proofs.lemmas.List.{get_or_default, get_or_push, get_or_append_left, get_or-set_same, get_or-set_other}
@@ -11,11 +11,11 @@ use Rattle.tl_base.specs.Style.{gap_of, row_gap_of, edge_of}
 use Rattle.tl_base.specs.declared.style.Style.{Style}
 use Rattle.tl_base.specs.declared.style.Style.TheVariants.{Plain, Frame}
 use Rattle.tl_base.specs.declared.steps.Config.{Config}
-use Rattle.tl_base.specs.Steps.{AreSteps, first_width, height_at, IsLowAt, IsLeastWidthFor}
+use Rattle.tl_base.specs.Steps.{AreSteps, first_width, height_at, IsLowAt}
 use Rattle.tl_problem.specs.declared.axis.Axis.TheVariants.{Columns, Rows}
 use Rattle.tl_problem.specs.declared.cell.Cell.{Cell}
-use Rattle.tl_problem.specs.Sizes.{position, room, total}
-use Rattle.tl_problem.specs.Problem.{ProblemModel, cell_width, cell_height, total_width}
+use Rattle.tl_problem.specs.Sizes.{total}
+use Rattle.tl_problem.specs.Problem.{ProblemModel, cell_width, cell_height}
 use Rattle.tl_problem.specs.Layouts.{WithinPage, GiveHigh}
 use Rattle.tl_problem.specs.Sound.{IsSound, IsSoundCell, greatest_height}
 use Rattle.tl_problem.specs.Bounds.{IsGreatestRoom, GiveLow, IsLeastTotal}

@@ -10,15 +10,14 @@ use Rattle.tl_base.specs.declared.steps.Config.{Config}
 use Rattle.tl_base.specs.Steps.{height_at, IsLowAt}
 use Rattle.tl_problem.specs.declared.cell.Cell.{Cell}
 use Rattle.tl_problem.specs.declared.zone.Range.{Range}
-use Rattle.tl_problem.specs.declared.placed.Placed.{Placed}
-use Rattle.tl_problem.specs.Sizes.{room, total}
+use Rattle.tl_problem.specs.Sizes.{room}
 use Rattle.tl_problem.specs.Problem.{ProblemModel, total_height, cell_width, cell_height}
-use Rattle.tl_problem.specs.Layouts.{WithinPage, GiveHigh}
-use Rattle.tl_problem.specs.Sound.{IsSound, IsSoundCell}
+use Rattle.tl_problem.specs.Layouts.{GiveHigh}
+use Rattle.tl_problem.specs.Sound.{IsSound}
 use Rattle.tl_problem.specs.Spans.{span, has_span, spans_of, page_room}
-use Rattle.tl_problem.specs.Zones.{span_at, range, range_at, first_in_class, last_in_class, IsZone, span_width, IsWidthOf, InZone, HasOneClass, AgreeIn}
+use Rattle.tl_problem.specs.Zones.{span_at, range, range_at, first_in_class, IsZone, InZone, HasOneClass, AgreeIn}
 use Rattle.tl_problem.specs.Bounds.{IsGreatestRoom, GiveLow, IsBound}
-use Rattle.tl_problem.specs.Placements.{AreLeast, IsPlacement}
+use Rattle.tl_problem.specs.Placements.{AreLeast}
 use Rattle.tl_problem.proofs.Heights.{IsLowAt-same}
 use Rattle.tl_problem.proofs.SpanLaws.{has_span-from, spans-Contains, room-in_page, class-same_low}
 use Rattle.tl_problem.proofs.BoundLaws.{bound-below_layout, low-from_high}

@@ -1,12 +1,10 @@
 -- Making a placement tight raises neither its width nor its height, and doing so again changes nothing.
-use Rattle.std.proofs.Common.{◌≡◌, ℕ, ◌≤◌, List, Some, length, get_or, refl, sym, ap, ◌∙◌, subst, arith}
+use Rattle.std.proofs.Common.{◌≡◌, ℕ, ◌≤◌, List, length, get_or, sym, ap, ◌∙◌, subst, arith}
 use Rattle.tl_base.specs.Style.{gap_of, row_gap_of, edge_of}
-use Rattle.tl_base.specs.Steps.{height_at, IsLowAt}
-use Rattle.tl_problem.specs.declared.cell.Cell.{Cell}
 use Rattle.tl_problem.specs.declared.placed.Placed.{Placed}
-use Rattle.tl_problem.specs.Sizes.{position, total}
+use Rattle.tl_problem.specs.Sizes.{total}
 use Rattle.tl_problem.specs.Problem.{ProblemModel, total_width, total_height, cell_width, cell_height}
-use Rattle.tl_problem.specs.Layouts.{WithinPage, GiveHigh}
+use Rattle.tl_problem.specs.Layouts.{GiveHigh}
 use Rattle.tl_problem.specs.Placements.{AreLeast, IsPlacement}
 use Rattle.tl_problem.specs.Tight.{KeepHigh, IsTightFrom, IsTight}
 use Rattle.tl_problem.proofs.SizeLaws.{total-le, same-positions}

@@ -1,12 +1,12 @@
 -- Assignments to the places of columns and widths of columns are the same thing, moved as a whole: so the tightest bounds
 -- of a matrix are the greatest and least rooms of the widths that it leaves.
-use Rattle.std.proofs.Common.{◌≡◌, ℕ, ◌+◌, ◌-◌, ◌*◌, ◌<◌, ◌≤◌, zero, suc, ℤ, pos, negsuc, ◌+ℤ◌, ◌-ℤ◌, ◌≤ℤ◌, neg_ℤ, List, [], ◌∷◌, ◌++◌, ◌⊎◌, inl, inr, length, take, sum, refl, sym, ap, ◌∙◌, subst, arith}
+use Rattle.std.proofs.Common.{◌≡◌, ℕ, ◌+◌, ◌*◌, ◌<◌, ◌≤◌, zero, suc, ℤ, pos, negsuc, ◌+ℤ◌, ◌-ℤ◌, ◌≤ℤ◌, neg_ℤ, List, [], ◌∷◌, ◌++◌, inl, inr, length, take, sum, refl, ap, ◌∙◌, arith}
 use Rattle.std.proofs.lemmas.Int.{ints}
 use Rattle.std.proofs.lemmas.Bool.{cases_lt}
 use Rattle.std.proofs.lemmas.List.{length-append, take_all, take-append-le}
 use Rattle.std.proofs.lemmas.List.Sums.{sum_by-append}
 use Rattle.tl_base.specs.Style.{gap_of}
-use Rattle.tl_diff.specs.Bounds.{Bounds, Satisfies, IsSatisfiable, IsGreatest, HasNoGreatest}
+use Rattle.tl_diff.specs.Bounds.{Bounds, Satisfies, IsSatisfiable, IsGreatest}
 use Rattle.tl_problem.specs.Sizes.{position, room}
 use Rattle.tl_problem.specs.Problem.{ProblemModel}
 use Rattle.tl_problem.specs.Bounds.{IsGreatestRoom}
@@ -18,6 +18,10 @@ use Rattle.tl_problem.proofs.SizeLaws.{room-position}
 pub part_above-is : (z : ℤ) → pos 0 ≤ℤ z → pos (part_above z) ≡ z
 part_above-is (pos n) up = refl
 part_above-is (negsuc n) up = absurd (omega (arith, ints))
+
+-- one width more
+pub widths_of-next : (x : ℕ → ℤ) (gap n : ℕ) → widths_of x gap (n + 1) ≡ widths_of x gap n ++ part_above (x (n + 1) -ℤ (x n +ℤ pos gap)) ∷ []
+widths_of-next x gap n = let next : n + 1 ≡ suc n = omega arith in ap (widths_of x gap) next
 
 module _ (x : ℕ → ℤ) (gap : ℕ) where
   pub widths_of-length : (n : ℕ) → length (widths_of x gap n) ≡ n

@@ -1,17 +1,13 @@
 -- Zones: the whole has all widths within the page, and the two parts of a cut have between them those of the zone.
-use Rattle.std.proofs.Common.{◌≡◌, ◌≢◌, ℕ, ◌+◌, ◌-◌, ◌*◌, ◌<◌, ◌≤◌, zero, suc, List, [], ◌∷◌, ◌⊎◌, inl, inr, length, map, get_or, set, refl, sym, ap, ◌∙◌, subst, arith, length-set}
-use Rattle.std.specs.List.{All, AllPairs, Contains}
+use Rattle.std.proofs.Common.{◌≡◌, ◌≢◌, ℕ, ◌+◌, ◌-◌, ◌<◌, ◌≤◌, List, ◌⊎◌, inl, inr, length, set, sym, ap, ◌∙◌, subst, arith, length-set}
 use Rattle.std.proofs.lemmas.Bool.{cases_lt}
 use Rattle.std.proofs.lemmas.List.{length-map, get_or-map, get_or_default, get_or_past, get_or-set_same, get_or-set_other}
 use Rattle.std.proofs.lemmas.List.Elements.{All-contains, Contains-get_or}
-use Rattle.tl_base.specs.Style.{gap_of}
-use Rattle.tl_problem.specs.declared.cell.Cell.{Cell}
-use Rattle.tl_problem.specs.declared.cell.Span.{Span}
 use Rattle.tl_problem.specs.declared.zone.Range.{Range}
 use Rattle.tl_problem.specs.Problem.{ProblemModel}
 use Rattle.tl_problem.specs.Layouts.{WithinPage}
 use Rattle.tl_problem.specs.Sound.{IsSound, IsSoundCell}
-use Rattle.tl_problem.specs.Spans.{span, spans_of, classes_of, least_width, page_room}
+use Rattle.tl_problem.specs.Spans.{span, spans_of, classes_of, page_room}
 use Rattle.tl_problem.specs.Zones.{span_at, classes_at, first_in_class, last_in_class, range, range_at, IsZone, whole_zone, lower_part, upper_part, span_width, InZone}
 use Rattle.tl_problem.proofs.SpanLaws.{has_span-parts, spans-cell, least_width-within, classes-rising, classes-first, classes-some, class-in_page, room-in_page}
 

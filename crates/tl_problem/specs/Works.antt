@@ -1,6 +1,6 @@
 -- What a `Work` leaves: the widths whose columns begin at places that satisfy the constraints of its matrix. Variable k of
 -- the matrix is the place where column k begins, and the last one the place where the columns end, a gap after the last.
-use Rattle.std.specs.Prelude.{◌≡◌, ◌↔◌, ℕ, ◌+◌, ◌<◌, ◌≤◌, ℤ, pos, ◌+ℤ◌, ◌≤ℤ◌, List, length}
+use Rattle.std.specs.Prelude.{◌≡◌, ℕ, ◌+◌, ◌<◌, ℤ, pos, ◌+ℤ◌, ◌≤ℤ◌, List, length}
 use Rattle.tl_base.specs.Style.{gap_of}
 use Rattle.tl_diff.specs.Bounds.{Bounds, Satisfies}
 use Rattle.tl_problem.specs.declared.work.Work.{Work}

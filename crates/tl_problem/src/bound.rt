@@ -1,10 +1,11 @@
 //! The bound of a zone, and that of whatever constraints a work holds.
 
-ghost use Rattle.std.specs.Prelude.{◌≡◌, ℕ, ◌+◌, ◌<◌, ◌≤◌, pos, ◌+ℤ◌, ◌≤ℤ◌, length, Contains, Some, IfOk, MatchOption};
+ghost use Rattle.std.specs.Prelude.{◌≡◌, ℕ, ◌+◌, ◌<◌, ◌≤◌, pos, ◌+ℤ◌, ◌≤ℤ◌, List, length, Contains, Some, IfOk, MatchOption};
 ghost use Rattle.tl_base.specs.Style.{gap_of};
 ghost use Rattle.tl_base.specs.Steps.{height_at};
 ghost use Rattle.tl_diff.specs.Bounds.{IsSatisfiable, assignment_of};
 ghost use Rattle.tl_problem.specs.Bounds.{HasNoWidths, IsBound, IsGreatestRoom};
+ghost use Rattle.tl_problem.specs.Layouts.{WithinPage};
 ghost use Rattle.tl_problem.specs.Placements.{AreLeast, IsPlacementIn};
 ghost use Rattle.tl_problem.specs.Sound.{IsSound, IsSoundCell};
 ghost use Rattle.tl_problem.specs.Works.{HasPage, IsLeft, IsWorkOf, KeepsPage};
@@ -78,19 +79,37 @@ impl Problem {
         ensures matrix { work.new.matrix ≡ work.old.matrix }
     {
         work.matrix.mark();
-        let found = if add_ranges(self, zone, &mut work.matrix) {
-            Some(least_widths(self, &work.matrix))
-        } else {
-            None
-        };
+        let attempt = zone_widths(self, zone, &mut work.matrix);
         work.matrix.undo();
-        let Some(found) = found else {
+        let found = attempt?;
+        let Some(widths) = found else {
             return Ok(None);
         };
-        let widths = found?;
         let placed = place_under(self, widths.as_slice())?;
         Ok(Some(placed))
     }
+}
+
+/// The widths at the least places in the zone, whose constraints join those of the page.
+fn zone_widths(
+    problem: &Problem,
+    zone: &Zone,
+    matrix: &mut Matrix,
+) -> Result<Option<List<u32>>, AllocError>
+    requires sound { IsSound problem.now }
+    requires zone { IsZone problem.now zone.now }
+    requires keeps { KeepsPage problem.now matrix.old.bounds }
+    requires whole { (widths : List ℕ) → WithinPage problem.now widths → IsLeft problem.now matrix.old.bounds widths }
+    ensures widths { IfOk result (λ found. MatchOption found (HasNoWidths (InZone problem.now zone.now))
+        (AreLeast (gap_of problem.now.style) (InZone problem.now zone.now))) }
+    ensures held { matrix.new.held ≡ matrix.old.held }
+    ensures marks { matrix.new.marks ≡ matrix.old.marks }
+{
+    if !add_ranges(problem, zone, matrix) {
+        return Ok(None);
+    }
+    let widths = least_widths(problem, matrix)?;
+    Ok(Some(widths))
 }
 
 /// The widths at the least places that satisfy the constraints.

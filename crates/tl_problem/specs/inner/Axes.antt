@@ -1,6 +1,5 @@
 -- Columns and rows alike, and cells in the order in which they begin; no public clause cites this file.
-use Rattle.std.specs.Prelude.{◌≡◌, ℕ, ◌+◌, ◌≤◌, List, [], ◌∷◌}
-use Rattle.std.specs.List.{AllPairs}
+use Rattle.std.specs.Prelude.{ℕ, ◌+◌, List, [], ◌∷◌}
 use Rattle.std.specs.List.Sorted.{IsPermutation, IsNonDecreasingBy}
 use Rattle.tl_base.specs.Style.{gap_of, row_gap_of}
 use Rattle.tl_problem.specs.declared.axis.Axis.{Axis}

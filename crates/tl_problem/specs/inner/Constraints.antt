@@ -1,10 +1,9 @@
 -- Constraints of the page, one after another; no public clause cites this file.
-use Rattle.std.specs.Prelude.{◌≡◌, ℕ, zero, suc, ◌+◌, ◌-◌, ◌*◌, ◌<◌, ◌≤◌, ℤ, pos, negsuc, ◌+ℤ◌, ◌-ℤ◌, ◌≤ℤ◌, List, [], ◌∷◌, ◌++◌, length}
-use Rattle.tl_base.specs.Style.{gap_of, edge_of}
+use Rattle.std.specs.Prelude.{◌≡◌, ℕ, zero, suc, ◌+◌, ◌<◌, ℤ, pos, negsuc, ◌+ℤ◌, ◌-ℤ◌, ◌≤ℤ◌, List, [], ◌∷◌, ◌++◌, length}
+use Rattle.tl_base.specs.Style.{gap_of}
 use Rattle.tl_base.specs.Steps.{first_width}
-use Rattle.tl_diff.specs.Bounds.{Bounds, Satisfies, IsSatisfiable}
+use Rattle.tl_diff.specs.Bounds.{Satisfies}
 use Rattle.tl_diff.specs.Marks.{MarkedBounds}
-use Rattle.tl_problem.specs.declared.cell.Cell.{Cell}
 use Rattle.tl_problem.specs.Problem.{ProblemModel}
 use Rattle.tl_problem.specs.declared.zone.Range.{Range}
 use Rattle.tl_problem.specs.Layouts.{WithinPage}

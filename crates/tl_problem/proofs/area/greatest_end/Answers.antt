@@ -1,5 +1,5 @@
 -- The tightest bound between the first place and the last is the greatest end.
-use Rattle.std.proofs.Common.{◌≡◌, pos, arith, sym}
+use Rattle.std.proofs.Common.{◌≡◌, pos, arith}
 use Rattle.std.specs.Int.{w32}
 use mir.Val.{to_z, of_z}
 use Rattle.std.proofs.lemmas.Int.{ints}

@@ -1,5 +1,5 @@
 -- The turns are those of the cells seen so far; a sort keeps them, in the order of their starts.
-use Rattle.std.proofs.Common.{◌≡◌, length, arith, rules, sym, refl, ◌∙◌, ap}
+use Rattle.std.proofs.Common.{arith, rules, sym, refl, ◌∙◌, ap}
 use Rattle.std.proofs.lemmas.List.{take_all}
 use Rattle.std.proofs.lemmas.List.Sorted.{IsNonDecreasingBy-from_sort_by_key}
 use Rattle.tl_problem.specs.inner.Axes.{turns_from}

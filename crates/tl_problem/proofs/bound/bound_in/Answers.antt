@@ -1,5 +1,4 @@
 -- The least height for what the cells need is the bound.
-use Rattle.std.proofs.Common.{arith, sym, ◌∙◌}
 use Rattle.tl_base.specs.Style.{row_gap_of, edge_of}
 use Rattle.tl_problem.specs.declared.axis.Axis.TheVariants.{Rows}
 use Rattle.tl_problem.specs.Bounds.{GiveLow}

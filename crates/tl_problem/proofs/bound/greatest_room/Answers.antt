@@ -1,12 +1,9 @@
 -- The tightest bound between the edges of the cell's span is its greatest room and a gap.
-use Rattle.std.proofs.Common.{◌≡◌, ◌+◌, ◌-◌, ◌≤◌, pos, neg_ℤ, ◌-ℤ◌, arith, subst, sym}
+use Rattle.std.proofs.Common.{◌≡◌, ◌+◌, ◌-◌, pos, arith}
 use Rattle.std.specs.Int.{w32}
 use mir.Val.{to_z, of_z}
 use Rattle.std.proofs.lemmas.Int.{ints}
 use Rattle.tl_diff.proofs.BoundLaws.{IsSome-greatest}
-use Rattle.tl_problem.specs.Bounds.{IsGreatestRoom}
-use Rattle.tl_problem.specs.Works.{IsLeft}
-use Rattle.tl_problem.specs.inner.Needs.{IsLeastRoom}
 use Rattle.tl_problem.proofs.WorkLemmas.{greatest-room}
 use Rattle.tl_problem.proofs.ConstraintLemmas.{greatest-some, greatest-small, gap-few}
 use Rattle.tl_problem.proofs.bound.greatest_room.Goals as goal

@@ -1,19 +1,16 @@
 -- The tightest bound between the edges of the cell's span is its least room and a gap.
-use Rattle.std.proofs.Common.{◌≡◌, ◌+◌, ◌-◌, ◌≤◌, pos, neg_ℤ, ◌-ℤ◌, arith, subst, sym}
+use Rattle.std.proofs.Common.{◌≡◌, ◌+◌, ◌-◌, pos, ◌-ℤ◌, arith}
 use Rattle.std.specs.Int.{w32}
 use mir.Val.{to_z, of_z}
 use Rattle.std.proofs.lemmas.Int.{ints}
-use Rattle.tl_diff.proofs.BoundLaws.{IsSome-least}
-use Rattle.tl_problem.specs.Bounds.{IsGreatestRoom}
-use Rattle.tl_problem.specs.Works.{IsLeft}
-use Rattle.tl_problem.specs.inner.Needs.{IsLeastRoom}
+use Rattle.tl_diff.proofs.BoundLaws.{IsSome-greatest}
 use Rattle.tl_problem.proofs.WorkLemmas.{least-room}
 use Rattle.tl_problem.proofs.ConstraintLemmas.{least-some, least-small, gap-few}
 use Rattle.tl_problem.proofs.bound.least_room.Goals as goal
 
 pub unwrap-apart-requires : goal.unwrap-apart-requires
 unwrap-apart-requires c =
-    IsSome-least c.args.matrix.now.bounds c.args.cell.now.right c.args.cell.now.left c.upper.result c.upper.ensures.exact
+    IsSome-greatest c.args.matrix.now.bounds c.args.cell.now.right c.args.cell.now.left c.upper.result c.upper.ensures.exact
     (least-some c.args.problem.now c.requires.sound c.args.matrix.now.bounds c.requires.keeps c.args.cell.now.left c.args.cell.now.right c.requires.cell.columns.0 c.requires.cell.columns.1)
 
 pub overflow_cast-result : goal.overflow_cast-result

@@ -1,5 +1,5 @@
 -- The least assignment gives the widths at the least places.
-use Rattle.std.proofs.Common.{arith, sym, subst, ◌∙◌}
+use Rattle.std.proofs.Common.{sym, subst, ◌∙◌}
 use Rattle.tl_base.specs.Style.{gap_of}
 use Rattle.tl_diff.specs.Bounds.{assignment_of}
 use Rattle.tl_problem.specs.Placements.{AreLeast}

@@ -1,5 +1,5 @@
 -- What is left keeps the page, so that the next range can be added.
-use Rattle.std.proofs.Common.{◌≡◌, ◌<◌, length, false, arith, ap, sym}
+use Rattle.std.proofs.Common.{◌<◌, length, false, arith, ap}
 use Rattle.std.specs.Prelude.{IsTrue}
 use Rattle.tl_problem.specs.Spans.{spans_of}
 use Rattle.tl_problem.proofs.ConstraintLemmas.{KeepsPage-adds, AddsRanges-first, AddsRanges-last, AddsRanges-more}

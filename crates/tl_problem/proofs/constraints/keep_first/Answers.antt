@@ -1,8 +1,8 @@
 -- The first class of a span is kept by the page; any other begins within it.
-use Rattle.std.proofs.Common.{◌≡◌, ◌<◌, ◌≤◌, length, arith, ap}
+use Rattle.std.proofs.Common.{◌<◌, length, arith, ap}
 use Rattle.tl_base.specs.Style.{gap_of}
 use Rattle.tl_problem.specs.Spans.{spans_of}
-use Rattle.tl_problem.specs.Zones.{range, range_at, classes_at, first_in_class}
+use Rattle.tl_problem.specs.Zones.{range_at}
 use Rattle.tl_problem.specs.inner.Constraints.{HasFirst}
 use Rattle.tl_problem.proofs.ZoneLaws.{span-within}
 use Rattle.tl_problem.proofs.ConstraintLemmas.{AddsFact-none, first-kept, class-small, gap-few}

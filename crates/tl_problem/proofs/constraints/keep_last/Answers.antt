@@ -1,10 +1,10 @@
 -- The last class of a span ends with the page; any other ends before the next begins.
-use Rattle.std.proofs.Common.{◌≡◌, ◌+◌, ◌-◌, ◌<◌, ◌≤◌, length, get_or, arith, ap, sym}
+use Rattle.std.proofs.Common.{◌+◌, ◌<◌, length, arith, ap}
 use Rattle.std.proofs.lemmas.List.{get_or_default}
 use Rattle.tl_base.specs.Style.{gap_of}
 use Rattle.tl_problem.specs.Spans.{spans_of, page_room}
-use Rattle.tl_problem.specs.Zones.{range, span_at, range_at, classes_at, first_in_class, last_in_class}
-use Rattle.tl_problem.specs.inner.Constraints.{HasLast, AddsFact, AreNear}
+use Rattle.tl_problem.specs.Zones.{span_at, range_at, classes_at}
+use Rattle.tl_problem.specs.inner.Constraints.{HasLast}
 use Rattle.tl_problem.proofs.SpanLaws.{classes-rising}
 use Rattle.tl_problem.proofs.ZoneLaws.{span-within}
 use Rattle.tl_problem.proofs.ConstraintLemmas.{AddsFact-none, last-kept, class-small, gap-few}

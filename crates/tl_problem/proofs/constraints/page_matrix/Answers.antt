@@ -1,6 +1,5 @@
 -- The constraints of the page, one after another: the gaps, the least widths, and the end.
-use Rattle.std.proofs.Common.{◌≡◌, refl, sym, ◌∙◌, ap, arith}
-use Rattle.tl_base.specs.Style.{gap_of, edge_of}
+use Rattle.std.proofs.Common.{arith}
 use Rattle.tl_problem.specs.Works.{places}
 use Rattle.tl_problem.proofs.ConstraintLemmas.{page-satisfiable, KeepsPage-ends, whole-ends}
 use Rattle.tl_problem.proofs.constraints.page_matrix.Goals as goal

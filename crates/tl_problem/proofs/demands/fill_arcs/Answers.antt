@@ -1,10 +1,9 @@
 -- Each turn is that of a cell, and the arc that is written is that cell's.
-use Rattle.std.proofs.Common.{◌≡◌, ◌<◌, ◌≤◌, length, get_or, take, map, arith, refl, sym, subst, ap, ◌∙◌}
+use Rattle.std.proofs.Common.{◌≡◌, ◌<◌, ◌≤◌, length, get_or, map, arith, refl, sym, subst, ap, ◌∙◌}
 use Rattle.std.proofs.lemmas.List.{take_all, take_more_set, map_more, get_or_default}
 use Rattle.tl_problem.specs.declared.axis.Turn.{Turn}
-use Rattle.tl_problem.specs.declared.cell.Cell.{Cell}
 use Rattle.tl_problem.specs.inner.Axes.{start_of, end_of, turn}
-use Rattle.tl_problem.specs.inner.Demands.{cell_at, cell_arc, arc_for}
+use Rattle.tl_problem.specs.inner.Demands.{cell_at, arc_for}
 use Rattle.tl_problem.proofs.AxisLemmas.{order-length, order-turns}
 use Rattle.tl_problem.proofs.DemandLemmas.{sound-axis, count-few}
 use Rattle.tl_problem.proofs.demands.fill_arcs.Goals as goal

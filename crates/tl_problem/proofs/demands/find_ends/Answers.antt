@@ -1,5 +1,5 @@
 -- The arcs lead forward, in order, and weigh no more than what is demanded.
-use Rattle.std.proofs.Common.{◌≤◌, arith, sym}
+use Rattle.std.proofs.Common.{arith}
 use Rattle.tl_problem.proofs.DemandLemmas.{arcs-forward, arcs-in_order, arcs-weight}
 use Rattle.tl_problem.proofs.demands.find_ends.Goals as goal
 

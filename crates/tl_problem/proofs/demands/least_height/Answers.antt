@@ -1,5 +1,5 @@
 -- The heaviest path, the gaps between the rows, and both edges.
-use Rattle.std.proofs.Common.{◌≡◌, ◌<◌, arith}
+use Rattle.std.proofs.Common.{◌<◌, arith}
 use Rattle.tl_problem.proofs.DemandLemmas.{least_total-none, least_total-some}
 use Rattle.tl_problem.proofs.demands.least_height.Goals as goal
 

@@ -1,8 +1,7 @@
 -- Each test that fails is a part of what it is to be within the page.
-use Rattle.std.proofs.Common.{◌≡◌, ◌≤◌, length, refl, arith, ap, ◌∙◌}
+use Rattle.std.proofs.Common.{◌≡◌, ◌≤◌, length, refl, arith, ap}
 use Rattle.tl_base.specs.Steps.{first_width}
 use Rattle.tl_problem.specs.Problem.{cell_width, total_width}
-use Rattle.tl_problem.specs.inner.Demands.{cell_at}
 use Rattle.tl_problem.proofs.NeedLemmas.{All-from_numbers}
 use Rattle.tl_problem.proofs.placing.is_within_page.Goals as goal
 

@@ -1,4 +1,4 @@
-use Rattle.std.proofs.Common.{◌≡◌, ℕ, ◌<◌, ◌≤◌}
+use Rattle.std.proofs.Common.{ℕ, ◌<◌, ◌≤◌}
 use Rattle.tl_base.specs.Steps.{first_width}
 use Rattle.tl_problem.specs.Problem.{cell_width}
 use Rattle.tl_problem.specs.inner.Demands.{cell_at}

@@ -1,4 +1,4 @@
-use Rattle.std.proofs.Common.{◌≡◌, length, arith, ap}
+use Rattle.std.proofs.Common.{length, arith, ap}
 use Rattle.tl_problem.proofs.placing.least_needs.Goals as goal
 
 pub returns : goal.returns

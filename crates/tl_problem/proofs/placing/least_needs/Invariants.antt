@@ -1,4 +1,4 @@
-use Rattle.std.proofs.Common.{◌≡◌, ℕ, ◌<◌, Some, length, get_or}
+use Rattle.std.proofs.Common.{◌≡◌, ℕ, ◌<◌, length, get_or}
 use Rattle.tl_base.specs.Steps.{first_width}
 use Rattle.tl_problem.specs.inner.Demands.{cell_at}
 use Rattle.tl_problem.proofs.placing.least_needs.Given as goal

@@ -1,12 +1,10 @@
 -- The least heights that give what is needed are those of a placement, and they are not large.
-use Rattle.std.proofs.Common.{◌≡◌, ◌≤◌, length, sum, List, ℕ, refl, sym, subst, arith, ap, ◌∙◌}
-use Rattle.std.proofs.Math.Nat.{mul-le-mul}
-use Rattle.tl_base.specs.Style.{gap_of, row_gap_of, edge_of}
+use Rattle.std.proofs.Common.{◌≡◌, refl, arith}
+use Rattle.tl_base.specs.Style.{row_gap_of}
 use Rattle.tl_problem.specs.declared.axis.Axis.TheVariants.{Rows}
-use Rattle.tl_problem.specs.Sizes.{total}
 use Rattle.tl_problem.specs.Problem.{total_width, total_height}
-use Rattle.tl_problem.specs.Layouts.{WithinPage, GiveHigh}
-use Rattle.tl_problem.specs.Placements.{AreLeast, IsPlacement}
+use Rattle.tl_problem.specs.Layouts.{GiveHigh}
+use Rattle.tl_problem.specs.Placements.{AreLeast}
 use Rattle.tl_problem.specs.inner.Demands.{GiveDemands}
 use Rattle.tl_problem.proofs.NeedLemmas.{AreLeast-same, high-give, give-high, high-sum, total-few}
 use Rattle.tl_problem.proofs.placing.place_under.Goals as goal

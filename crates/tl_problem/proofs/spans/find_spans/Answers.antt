@@ -1,7 +1,6 @@
 -- The marked places of the square, in order, are the spans by left, then right.
-use Rattle.std.proofs.Common.{◌≡◌, ◌≢◌, ◌+◌, ◌*◌, ◌<◌, get_or, length, true, false, arith, sym, ◌∙◌, subst}
+use Rattle.std.proofs.Common.{◌≡◌, ◌+◌, ◌*◌, ◌<◌, get_or, length, true, false, arith, sym, ◌∙◌}
 use Rattle.std.proofs.lemmas.List.{get_or_default}
-use Rattle.tl_problem.specs.inner.Spanning.{AreSpansUpto}
 use Rattle.tl_problem.proofs.SpanningLemmas.{AreSpansUpto-skip, AreSpansUpto-push, AreSpans-all}
 use Rattle.tl_problem.proofs.spans.find_spans.Goals as goal
 use Rattle.tl_problem.proofs.spans.find_spans.Goals.{then-index+in_ok-push, else-index}

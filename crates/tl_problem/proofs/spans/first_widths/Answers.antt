@@ -1,12 +1,12 @@
 -- A cell of the span adds the widths at which its steps begin; then a sort and a dedup leave each width once, rising.
-use Rattle.std.proofs.Common.{◌≡◌, ◌≤◌, length, take, eqb, arith, sym, ◌∙◌, subst, ap}
-use Rattle.std.specs.List.{dedup, Contains}
+use Rattle.std.proofs.Common.{◌≡◌, take, eqb, arith, sym, ◌∙◌, subst}
+use Rattle.std.specs.List.{dedup}
 use Rattle.std.proofs.lemmas.List.{take_more, take_all}
 use Rattle.std.proofs.lemmas.List.Filters.{dedup_is}
 use Rattle.std.proofs.lemmas.List.Kept.{AllPairs-from_increasing, Contains-dedup_nat, Contains-from_dedup}
 use Rattle.std.proofs.lemmas.List.Sorted.{Contains-permutation, IsPermutation-sym}
 use Rattle.std.proofs.lemmas.Map.Keys.{IsStrictlyIncreasing-dedup}
-use Rattle.tl_problem.specs.inner.Spanning.{least_among, AreFound, AreFirsts}
+use Rattle.tl_problem.specs.inner.Spanning.{AreFound}
 use Rattle.tl_problem.proofs.SpanLaws.{has_span-from}
 use Rattle.tl_problem.proofs.SpanningLemmas.{AreFound-skip, AreFound-add, AreFound-same, has_span-false}
 use Rattle.tl_problem.proofs.spans.first_widths.Goals as goal

@@ -1,6 +1,4 @@
 -- The zone's ranges leave exactly the widths in the zone.
-use Rattle.std.proofs.Common.{◌≡◌, true, false, Option, None, MatchOption, refl, sym, ap, subst, ◌∙◌, arith}
-use Rattle.tl_problem.specs.Bounds.{HasNoWidths, IsBound}
 use Rattle.tl_problem.specs.Zones.{InZone}
 use Rattle.tl_problem.specs.Works.{IsLeft, places}
 use Rattle.tl_problem.proofs.ConstraintLemmas.{KeepsPage-adds, bound-same, ranges-left, ranges-zone, ranges-none}

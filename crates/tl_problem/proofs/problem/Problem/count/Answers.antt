@@ -1,5 +1,5 @@
 -- The product so far, cut at the greatest number, times the next factor.
-use Rattle.std.proofs.Common.{◌≡◌, ◌+◌, ◌-◌, ◌^◌, min, length, take, map, List, ℕ, arith, sym, subst, ap, ◌∙◌}
+use Rattle.std.proofs.Common.{◌≡◌, ◌+◌, ◌-◌, ◌^◌, min, length, take, map, List, ℕ, arith, subst, ap, ◌∙◌}
 use Rattle.std.proofs.lemmas.List.{map_more, take_all}
 use Rattle.std.proofs.lemmas.Simd.{map-map}
 use Rattle.tl_problem.specs.Spans.{product, spans_of, classes_of}

@@ -1,5 +1,5 @@
 -- The buffers keep their lengths.
-use Rattle.std.proofs.Common.{◌≡◌, length, false, arith, ap, sym, ◌∙◌}
+use Rattle.std.proofs.Common.{length, arith, ap, ◌∙◌}
 use Rattle.std.proofs.lemmas.List.{with_items_is}
 use Rattle.tl_problem.specs.Works.{places}
 use Rattle.tl_problem.proofs.problem.Problem.held_bound.Goals as goal

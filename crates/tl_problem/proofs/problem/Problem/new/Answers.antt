@@ -1,5 +1,5 @@
 -- The cells share no slot, so there are few; what was found is what the spans and classes of the problem are.
-use Rattle.std.proofs.Common.{◌≡◌, ◌<◌, ◌^◌, length, arith}
+use Rattle.std.proofs.Common.{arith}
 use Rattle.tl_problem.specs.Problem.{ProblemModel}
 use Rattle.tl_problem.proofs.DemandLemmas.{few-cells}
 use Rattle.tl_problem.proofs.SpanningLemmas.{spans-found, classes-found}

@@ -1,8 +1,5 @@
 -- The least positions for the least widths are those of all widths within the page.
-use Rattle.std.proofs.Common.{arith, sym, subst, ap}
-use Rattle.tl_base.specs.Style.{gap_of}
-use Rattle.tl_problem.specs.Layouts.{WithinPage}
-use Rattle.tl_problem.specs.Placements.{AreLeast}
+use Rattle.std.proofs.Common.{arith}
 use Rattle.tl_problem.proofs.NeedLemmas.{page-give, page-least, least-sum}
 use Rattle.tl_problem.proofs.problem.Problem.opening.Goals as goal
 

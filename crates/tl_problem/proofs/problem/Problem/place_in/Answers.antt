@@ -1,34 +1,30 @@
--- The zone's ranges leave exactly the widths in the zone, and the placement is at the least of these.
-use Rattle.std.proofs.Common.{◌≡◌, true, false, refl, sym, ap, subst, ◌∙◌, arith}
+-- The placement is at the least widths of the zone.
 use Rattle.tl_base.specs.Style.{gap_of}
 use Rattle.tl_problem.specs.Placements.{AreLeast}
 use Rattle.tl_problem.specs.Zones.{InZone}
-use Rattle.tl_problem.specs.Works.{IsLeft, places}
-use Rattle.tl_problem.proofs.NeedLemmas.{AreLeast-same}
-use Rattle.tl_problem.proofs.ConstraintLemmas.{KeepsPage-adds, ranges-left, ranges-zone, ranges-none}
 use Rattle.tl_problem.proofs.problem.Problem.place_in.Goals as goal
 
-pub add_ranges-requires-clause-sound : goal.add_ranges-requires-clause-sound
-add_ranges-requires-clause-sound c = c.requires.page.work_of.sound
+pub zone_widths-attempt-requires-clause-sound : goal.zone_widths-attempt-requires-clause-sound
+zone_widths-attempt-requires-clause-sound c = c.requires.page.work_of.sound
 
-pub add_ranges-requires-clause-holds : goal.add_ranges-requires-clause-holds
-add_ranges-requires-clause-holds c =
-    let fits = c.requires.page.work_of.sound.fits in
-    rw c.mark.ensures (places c.args.self.now fits.0, (c.requires.page.whole fits.0 fits.1).satisfies)
+pub zone_widths-attempt-requires-clause-keeps : goal.zone_widths-attempt-requires-clause-keeps
+zone_widths-attempt-requires-clause-keeps c = rw c.mark.ensures c.requires.page.work_of.keeps
 
-pub least_widths-requires-clause-keeps : goal.least_widths-requires-clause-keeps
-least_widths-requires-clause-keeps c =
-    let adds = rw c.mark.ensures at c.add_ranges.ensures.adds in
-    KeepsPage-adds c.args.self.now c.args.work.now.matrix.bounds c.add_ranges.new.matrix.bounds adds.variables adds.keeps c.requires.page.work_of.keeps
-
-pub least_widths-requires-clause-sound : goal.least_widths-requires-clause-sound
-least_widths-requires-clause-sound c = c.requires.page.work_of.sound
+pub zone_widths-attempt-requires-clause-whole : goal.zone_widths-attempt-requires-clause-whole
+zone_widths-attempt-requires-clause-whole c = rw c.mark.ensures c.requires.page.whole
 
 pub returns-in_default-clause-placed : goal.returns-in_default-clause-placed
-returns-in_default-clause-placed c = ?
+returns-in_default-clause-placed c = rw (c.in_ok-found.was, c.in_default.is) at c.zone_widths-attempt.ensures.widths
 
 pub place_under-requires : goal.place_under-requires
-place_under-requires c = ?
+place_under-requires c =
+    let least : AreLeast (gap_of c.args.self.now.style) (InZone c.args.self.now c.args.zone.now) c.in-Some.widths = rw (c.in_ok-found.was, c.in-Some.is) at c.zone_widths-attempt.ensures.widths in
+    rw c.as_slice.ensures least.kind.page
 
 pub returns-clause-placed : goal.returns-clause-placed
-returns-clause-placed c = ?
+returns-clause-placed c =
+    let least : AreLeast (gap_of c.args.self.now.style) (InZone c.args.self.now c.args.zone.now) c.in-Some.widths = rw (c.in_ok-found.was, c.in-Some.is) at c.zone_widths-attempt.ensures.widths in
+    record {
+      columns = rw (c.in_ok-placed.ensures.1, c.as_slice.ensures) least;
+      placement = c.in_ok-placed.ensures.0;
+    }

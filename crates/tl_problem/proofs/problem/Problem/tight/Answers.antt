@@ -1,8 +1,7 @@
 -- The least positions that keep each cell's height.
-use Rattle.std.proofs.Common.{◌≡◌, arith, sym, subst, ap, ◌∙◌}
+use Rattle.std.proofs.Common.{arith}
 use Rattle.tl_base.specs.Style.{gap_of}
 use Rattle.tl_problem.specs.declared.axis.Axis.TheVariants.{Columns}
-use Rattle.tl_problem.specs.Placements.{AreLeast}
 use Rattle.tl_problem.specs.Tight.{KeepHigh, IsTightFrom}
 use Rattle.tl_problem.specs.inner.Demands.{GiveDemands}
 use Rattle.tl_problem.proofs.NeedLemmas.{AreLeast-same, keep-give, give-keep, page-keep, width-sum}

@@ -1,9 +1,9 @@
 -- Each span has a class, and few; the ranges are those of the spans in order.
-use Rattle.std.proofs.Common.{◌≡◌, ◌-◌, ◌<◌, length, map, take, get_or, List, ℕ, arith, sym, subst, ap, ◌∙◌}
+use Rattle.std.proofs.Common.{◌≡◌, ◌-◌, ◌<◌, length, map, get_or, List, ℕ, arith, subst, ap, ◌∙◌}
 use Rattle.std.proofs.lemmas.List.{take_all, get_or-map, length-map}
 use Rattle.std.proofs.lemmas.Simd.{map-map}
 use Rattle.tl_problem.specs.Spans.{span, spans_of, classes_of}
-use Rattle.tl_problem.specs.Zones.{range, classes_at}
+use Rattle.tl_problem.specs.Zones.{range}
 use Rattle.tl_problem.specs.inner.Parts.{HasParts}
 use Rattle.tl_problem.proofs.SpanningLemmas.{classes-few}
 use Rattle.tl_problem.proofs.problem.Problem.whole.Goals as goal
