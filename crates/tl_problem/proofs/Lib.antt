@@ -1,1 +1,5 @@
 mod Examples
+pub mod Heights
+pub mod SizeLaws
+pub mod BoundLaws
+pub mod TightLaws
