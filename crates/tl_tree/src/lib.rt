@@ -9,3 +9,6 @@ mod node;
 
 pub use error::TreeError;
 pub use node::{Block, CellNode, GroupNode, Part, TableNode};
+
+#[cfg(test)]
+mod tests;
