@@ -1,0 +1,67 @@
+-- The outline of a tree: what stands in it, in order. Where a table ends it says so; a cell, a row,
+-- a group or a caption ends where the next thing cannot be a part of it.
+use Rattle.std.specs.Prelude.{ℕ, Bool, Option, Some, None, List, [], ◌∷◌, ◌++◌}
+use Rattle.std.specs.List.{flat_map}
+use Rattle.tl_text.specs.declared.paragraph.Atom.{Atom}
+use Rattle.tl_tree.specs.declared.node.Part.{Part}
+use Rattle.tl_tree.specs.declared.node.Block.{Block, fold-Block}
+use Rattle.tl_tree.specs.declared.node.Block.TheOpen as parts
+use Rattle.tl_tree.specs.declared.node.CellNode.{CellNode, fold-CellNode}
+use Rattle.tl_tree.specs.declared.node.GroupNode.{GroupNode, fold-GroupNode}
+use Rattle.tl_tree.specs.declared.node.TableNode.{TableNode, fold-TableNode}
+
+-- a thing that stands in a tree
+pub data Entry : Type 0 where
+  -- a table begins, with its number
+  table : ℕ → Entry
+  caption : Entry
+  -- how many columns the column tags of a table stand for
+  columns : ℕ → Entry
+  group : Part → Entry
+  row : Entry
+  -- whether it is a header cell, its colspan, its rowspan, and how wide it is at least
+  cell : Bool → ℕ → ℕ → ℕ → Entry
+  paragraph : List Atom → Entry
+  -- a table ends
+  table_end : Entry
+
+abbrev pub Entries : Type 0
+Entries = List Entry
+
+-- the entries of all of these, one after another
+abbrev pub joined : List Entries → Entries
+joined lists = flat_map (λ entries. entries) lists
+
+abbrev pub row_entries : List Entries → Entries
+row_entries cells = row ∷ joined cells
+
+abbrev pub caption_entries : Option (List Entries) → Entries
+caption_entries None = []
+caption_entries (Some flow) = caption ∷ joined flow
+
+-- what each part of a tree adds, where its own parts have these entries
+abbrev pub block_entries : parts.Block-F Entries Entries Entries Entries → Entries
+block_entries (parts.Para p) = paragraph p ∷ []
+block_entries (parts.Table box) = box.value
+
+abbrev pub cell_entries : parts.CellNode-F Entries Entries Entries Entries → Entries
+cell_entries c = cell c.head c.colspan c.rowspan c.least ∷ joined c.flow
+
+abbrev pub group_entries : parts.GroupNode-F Entries Entries Entries Entries → Entries
+group_entries g = group g.part ∷ flat_map row_entries g.rows
+
+abbrev pub table_entries : parts.TableNode-F Entries Entries Entries Entries → Entries
+table_entries t = table t.number ∷ (caption_entries t.caption ++ (columns t.columns ∷ (joined t.groups ++ table_end ∷ [])))
+
+-- the outline of a block, a cell, a group and a table
+abbrev pub block_outline : Block → Entries
+block_outline = fold-Block Entries Entries Entries Entries block_entries cell_entries group_entries table_entries
+
+abbrev pub cell_outline : CellNode → Entries
+cell_outline = fold-CellNode Entries Entries Entries Entries block_entries cell_entries group_entries table_entries
+
+abbrev pub group_outline : GroupNode → Entries
+group_outline = fold-GroupNode Entries Entries Entries Entries block_entries cell_entries group_entries table_entries
+
+abbrev pub outline : TableNode → Entries
+outline = fold-TableNode Entries Entries Entries Entries block_entries cell_entries group_entries table_entries
