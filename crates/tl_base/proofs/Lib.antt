@@ -1,3 +1,6 @@
 pub mod Decimals
+mod Examples
 pub mod Falling
 pub mod MemoryDesks
+pub mod Stacking
+pub mod Texts
