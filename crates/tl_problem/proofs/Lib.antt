@@ -3,3 +3,8 @@ pub mod Heights
 pub mod SizeLaws
 pub mod BoundLaws
 pub mod TightLaws
+pub mod SpanLaws
+pub mod ZoneLaws
+pub mod OneClass
+pub mod Rectangles
+pub mod AreaLaws
