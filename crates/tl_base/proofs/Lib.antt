@@ -4,4 +4,6 @@ pub mod Falling
 pub mod Members
 pub mod MemoryDesks
 pub mod Stacking
+pub mod Sums
 pub mod Texts
+pub mod Zips
