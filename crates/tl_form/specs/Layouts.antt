@@ -8,10 +8,10 @@ use Rattle.tl_grid.specs.declared.shape.Place.{Place}
 use Rattle.tl_problem.specs.Sizes.{room, total}
 use Rattle.tl_text.specs.declared.paragraph.Atom.{Atom}
 use Rattle.tl_text.specs.Cuttings.{joined, IsCutting, HoldsIn}
-use Rattle.tl_form.specs.declared.cell.Content.{Content, out-Content}
+use Rattle.tl_form.specs.declared.cell.Content.{out-Content}
 use Rattle.tl_form.specs.declared.cell.Content.TheOpen as open_content
 use Rattle.tl_form.specs.declared.cell.Table.{Table, out-Table}
-use Rattle.tl_form.specs.declared.cell.TableCell.{TableCell, out-TableCell}
+use Rattle.tl_form.specs.declared.cell.TableCell.{out-TableCell}
 use Rattle.tl_form.specs.declared.layout.Layout.{Layout, Layout-F, out-Layout}
 use Rattle.tl_form.specs.Tables.{OpenTable, OpenCell, OpenContent}
 

@@ -2,3 +2,4 @@ pub mod Tables
 pub mod Layouts
 pub mod Least
 pub mod Chains
+pub mod inner

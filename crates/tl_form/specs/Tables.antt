@@ -3,7 +3,7 @@ use Rattle.std.specs.Prelude.{List, [], ◌∷◌}
 use Rattle.std.specs.List.{flat_map}
 use Rattle.tl_form.specs.declared.cell.Content.{Content, Content-F, out-Content}
 use Rattle.tl_form.specs.declared.cell.Content.TheOpen as open_content
-use Rattle.tl_form.specs.declared.cell.Table.{Table, Table-F, out-Table}
+use Rattle.tl_form.specs.declared.cell.Table.{Table, Table-F}
 use Rattle.tl_form.specs.declared.cell.TableCell.{TableCell, TableCell-F, out-TableCell}
 
 -- a table by its fields

@@ -5,6 +5,7 @@
 
 mod cell;
 mod layout;
+mod widest;
 
 pub use cell::{Content, Kind, Table, TableCell};
 pub use layout::Layout;
