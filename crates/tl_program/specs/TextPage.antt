@@ -8,10 +8,10 @@ use Rattle.tl_text.specs.declared.paragraph.Atom.{Atom}
 use Rattle.tl_text.specs.declared.paragraph.Atom.TheVariants.{Word, Glue, Break}
 use Rattle.tl_text.specs.Paragraph.{gap_before}
 use Rattle.tl_text.specs.Cuttings.{joined, line_width, IsGreedyCutting}
-use Rattle.tl_form.specs.declared.layout.Layout.{Layout}
-use Rattle.tl_form.specs.Table.{Cell, Table}
+use Rattle.tl_program.specs.Table.{Layout}
+use Rattle.tl_program.specs.Table.{Cell, Table}
 use Rattle.tl_problem.specs.Sizes.{position}
-use Rattle.tl_form.specs.Layout.{width_for}
+use Rattle.tl_program.specs.Layout.{width_for}
 
 -- so many spaces
 abbrev pub spaces : ℕ → List ℕ

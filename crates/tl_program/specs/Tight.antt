@@ -5,10 +5,10 @@ use Rattle.tl_base.specs.declared.style.Style.{Style}
 use Rattle.tl_base.specs.Style.{gap_of, row_gap_of}
 use Rattle.tl_text.specs.declared.paragraph.Atom.{Atom}
 use Rattle.tl_text.specs.Cuttings.{LeastLines}
-use Rattle.tl_form.specs.declared.layout.Layout.{Layout}
-use Rattle.tl_form.specs.Table.{Cell, Table}
+use Rattle.tl_program.specs.Table.{Layout}
+use Rattle.tl_program.specs.Table.{Cell, Table}
 use Rattle.tl_problem.specs.Sizes.{position}
-use Rattle.tl_form.specs.Layout.{width_for, FitBlocks, HoldsCell}
+use Rattle.tl_program.specs.Layout.{width_for, FitBlocks, HoldsCell}
 
 -- `lines` is the least number of lines that the paragraphs need in `w` columns, one under the other
 abbrev pub Need : ℕ → List (List Atom) → ℕ → Type 0

@@ -16,3 +16,8 @@ pub record Table : Type 0 where
   pub columns : ℕ
   pub rows : ℕ
   pub cells : List Cell
+
+-- the sizes of a table's columns, in columns of the page, and of its rows, in lines
+pub record Layout : Type 0 where
+  pub widths : List ℕ
+  pub heights : List ℕ

@@ -11,10 +11,10 @@ use Rattle.tl_text.specs.declared.paragraph.Atom.{Atom}
 use Rattle.tl_text.specs.declared.paragraph.Atom.TheVariants.{Word}
 use Rattle.tl_text.specs.Paragraph.{lined_pieces}
 use Rattle.tl_text.specs.Cuttings.{line_width, IsPieceCut}
-use Rattle.tl_form.specs.declared.layout.Layout.{Layout}
-use Rattle.tl_form.specs.Table.{Table}
-use Rattle.tl_form.specs.Layout.{FitBlocks, Fits}
-use Rattle.tl_form.specs.TextPage.{Shown, page_text}
+use Rattle.tl_program.specs.Table.{Layout}
+use Rattle.tl_program.specs.Table.{Table}
+use Rattle.tl_program.specs.Layout.{FitBlocks, Fits}
+use Rattle.tl_program.specs.TextPage.{Shown, page_text}
 
 abbrev aa : Atom
 aa = Word (codes "aa")

@@ -6,8 +6,8 @@ use Rattle.tl_base.specs.Style.{gap_of, row_gap_of, edge_of}
 use Rattle.tl_problem.specs.Sizes.{room, total}
 use Rattle.tl_text.specs.declared.paragraph.Atom.{Atom}
 use Rattle.tl_text.specs.Cuttings.{joined, IsCutting, HoldsIn}
-use Rattle.tl_form.specs.declared.layout.Layout.{Layout}
-use Rattle.tl_form.specs.Table.{Cell, Table}
+use Rattle.tl_program.specs.Table.{Layout}
+use Rattle.tl_program.specs.Table.{Cell, Table}
 
 -- the total width and height of a layout
 abbrev pub total_width : Style → Layout → ℕ
