@@ -1,3 +1,4 @@
 pub mod Decimals
 pub mod Falling
 pub mod MemoryDesks
+pub mod Members

@@ -3,3 +3,4 @@ pub mod Heights
 pub mod SizeLaws
 pub mod BoundLaws
 pub mod TightLaws
+pub mod SpanLaws

@@ -27,7 +27,7 @@ total-le gap edge (x ∷ xs) ys same ends =
 -- ---- a room, by the places where its span begins and ends
 
 -- the sizes before a place are those before an earlier one and those between
-take-between : (sizes : List ℕ) (from more : ℕ) → sum (take (from + more) sizes) ≡ sum (take from sizes) + sum (take more (drop from sizes))
+pub take-between : (sizes : List ℕ) (from more : ℕ) → sum (take (from + more) sizes) ≡ sum (take from sizes) + sum (take more (drop from sizes))
 take-between sizes zero more = let all : 0 + more ≡ more = omega arith in rw all (omega arith)
 take-between [] (suc from) more = let next : suc from + more ≡ suc (from + more) = omega arith in rw next (omega (arith, no_sum more)) where
   no_sum : (more : ℕ) → sum (take more []) ≡ 0
@@ -51,6 +51,16 @@ room-position gap sizes from past ahead =
     omega (arith, sums, counted) where
       gaps_between : (gap from inner : ℕ) → gap * inner + gap + gap * from ≡ gap * (from + inner + 1)
       gaps_between gap from inner = grind arith
+
+-- a later place is no nearer
+pub position-mono : (gap : ℕ) (sizes : List ℕ) (from past : ℕ) → from ≤ past → position gap sizes from ≤ position gap sizes past
+position-mono gap sizes from past more =
+    let whole : from + (past - from) ≡ past = omega arith in
+    let sums = rw whole at (take-between sizes from (past - from)) in
+    let gaps = rw whole at (gaps_split gap from (past - from)) in
+    omega (arith, sums, gaps) where
+      gaps_split : (gap from more : ℕ) → gap * (from + more) ≡ gap * from + gap * more
+      gaps_split gap from more = grind arith
 
 -- ---- sizes are known by their places
 
