@@ -4,3 +4,4 @@ pub mod SizeLaws
 pub mod BoundLaws
 pub mod TightLaws
 pub mod SpanLaws
+pub mod ZoneLaws
