@@ -5,3 +5,4 @@ pub mod BoundLaws
 pub mod TightLaws
 pub mod SpanLaws
 pub mod ZoneLaws
+pub mod OneClass
