@@ -6,3 +6,4 @@ pub mod TightLaws
 pub mod SpanLaws
 pub mod ZoneLaws
 pub mod OneClass
+pub mod Rectangles
