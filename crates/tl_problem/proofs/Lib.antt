@@ -7,3 +7,4 @@ pub mod SpanLaws
 pub mod ZoneLaws
 pub mod OneClass
 pub mod Rectangles
+pub mod AreaLaws
