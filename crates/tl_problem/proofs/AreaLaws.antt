@@ -1,15 +1,15 @@
 -- No layout by `low` is lower than the area bound of a set that has its widths.
-use Rattle.std.proofs.Common.{◌≡◌, ℕ, ◌+◌, ◌-◌, ◌*◌, ◌<◌, ◌≤◌, zero, suc, List, [], ◌∷◌, ◌⊎◌, inl, inr, length, get_or, sum, refl, sym, ap, ◌∙◌, subst, arith}
+use Rattle.std.proofs.Common.{◌≡◌, ℕ, ◌+◌, ◌*◌, ◌<◌, ◌≤◌, suc, List, [], ◌∷◌, inl, inr, length, get_or, sum, ap, arith}
 use Rattle.std.specs.List.{All, AllZip, sum_by}
 use Rattle.std.proofs.lemmas.Bool.{cases_lt}
 use Rattle.std.proofs.lemmas.List.Sums.{sum_by-cons}
 use Rattle.tl_base.specs.Style.{gap_of, row_gap_of, edge_of}
 use Rattle.tl_problem.specs.declared.cell.Cell.{Cell}
-use Rattle.tl_problem.specs.Sizes.{position, room, total}
+use Rattle.tl_problem.specs.Sizes.{position}
 use Rattle.tl_problem.specs.Problem.{ProblemModel, total_height, cell_width, cell_height}
 use Rattle.tl_problem.specs.Layouts.{IsLayoutByLow}
 use Rattle.tl_problem.specs.Sound.{IsSound}
-use Rattle.tl_problem.specs.Areas.{IsBetweenRooms, area, IsLeastArea, HoldAreas, IsAreaBound}
+use Rattle.tl_problem.specs.Areas.{IsBetweenRooms, IsLeastArea, IsAreaBound}
 use Rattle.tl_problem.proofs.Heights.{height-from_low}
 use Rattle.tl_problem.proofs.SizeLaws.{total-position, room-position, position-mono}
 use Rattle.tl_problem.proofs.Rectangles.{amount, late, areas-within}

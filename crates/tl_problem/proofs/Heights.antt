@@ -1,5 +1,5 @@
 -- Falling step functions: wider is no higher, a height stands from the first width on, and changes where a step begins.
-use Rattle.std.proofs.Common.{cond, ◌≡◌, ℕ, ◌+◌, ◌<◌, ◌≤◌, zero, suc, Bool, true, false, nat_le, List, [], ◌∷◌, length, get_or, filter, Option, Some, None, refl, sym, ap, ◌∙◌, subst, inl, inr, arith}
+use Rattle.std.proofs.Common.{cond, ◌≡◌, ℕ, ◌<◌, ◌≤◌, suc, Bool, true, false, nat_le, List, [], ◌∷◌, length, get_or, filter, Option, Some, None, refl, sym, ap, ◌∙◌, subst, inl, inr, arith}
 use Rattle.std.specs.Option.{option_map, IsSomeAnd}
 use Rattle.std.specs.List.{All, AllPairs, last_or}
 use Rattle.std.proofs.lemmas.Bool.{cases_lt}
@@ -114,7 +114,7 @@ height-same steps w v more none =
           elim (cases_lt w at.width) [
             | inr narrow ↦ test_le at.width w narrow ∙ sym (test_le at.width v (omega arith))
             | inl wide ↦ elim (cases_lt v at.width) [
-                | inl wider ↦ test_le_false at.width w wide ∙ sym (test_le_false at.width v wider)
-                | inr between ↦ absurd (none k d within wide between)
-              ]
+              | inl wider ↦ test_le_false at.width w wide ∙ sym (test_le_false at.width v wider)
+              | inr between ↦ absurd (none k d within wide between)
+            ]
           ]

@@ -10,15 +10,14 @@ use Rattle.tl_base.specs.declared.steps.Config.{Config}
 use Rattle.tl_base.specs.Steps.{height_at, IsLowAt}
 use Rattle.tl_problem.specs.declared.cell.Cell.{Cell}
 use Rattle.tl_problem.specs.declared.zone.Range.{Range}
-use Rattle.tl_problem.specs.declared.placed.Placed.{Placed}
-use Rattle.tl_problem.specs.Sizes.{room, total}
+use Rattle.tl_problem.specs.Sizes.{room}
 use Rattle.tl_problem.specs.Problem.{ProblemModel, total_height, cell_width, cell_height}
-use Rattle.tl_problem.specs.Layouts.{WithinPage, GiveHigh}
-use Rattle.tl_problem.specs.Sound.{IsSound, IsSoundCell}
+use Rattle.tl_problem.specs.Layouts.{GiveHigh}
+use Rattle.tl_problem.specs.Sound.{IsSound}
 use Rattle.tl_problem.specs.Spans.{span, has_span, spans_of, page_room}
-use Rattle.tl_problem.specs.Zones.{span_at, range, range_at, first_in_class, last_in_class, IsZone, span_width, IsWidthOf, InZone, HasOneClass, AgreeIn}
+use Rattle.tl_problem.specs.Zones.{span_at, range, range_at, first_in_class, IsZone, InZone, HasOneClass, AgreeIn}
 use Rattle.tl_problem.specs.Bounds.{IsGreatestRoom, GiveLow, IsBound}
-use Rattle.tl_problem.specs.Placements.{AreLeast, IsPlacement}
+use Rattle.tl_problem.specs.Placements.{AreLeast}
 use Rattle.tl_problem.proofs.Heights.{IsLowAt-same}
 use Rattle.tl_problem.proofs.SpanLaws.{has_span-from, spans-Contains, room-in_page, class-same_low}
 use Rattle.tl_problem.proofs.BoundLaws.{bound-below_layout, low-from_high}
@@ -29,7 +28,7 @@ pub IsLowAt-decides : (steps : List Config) (h w : ℕ) → IsLowAt steps h w �
 IsLowAt-decides steps h w = decides (height_at steps w) where
   decides : (o : Option ℕ) → IsSomeAnd o (λ height. height ≤ h) ⊎ (IsSomeAnd o (λ height. height ≤ h) → ⊥)
   decides None = inr (λ none. none)
-  decides (Some height) = elim (cases_lt h height) [ | inl above ↦ inr (λ le. omega arith) | inr enough ↦ inl enough ]
+  decides (Some height) = elim (cases_lt h height) [ inl above ↦ inr (λ le. omega arith) | inr enough ↦ inl enough ]
 
 -- a set that has widths, none of which give the span more than some room, cannot be without a greatest room
 module _ (problem : ProblemModel) (Among : List ℕ → Type 0) (left right most : ℕ) (limit : (widths : List ℕ) → Among widths → room (gap_of problem.style) widths left right ≤ most)
@@ -81,14 +80,14 @@ module _ (problem : ProblemModel) (sound : IsSound problem) (zone : List Range) 
           | inr high ↦ absurd (greatest-not_none problem (InZone problem zone) cell.left cell.right (page_room problem)
               (λ ws among. room-in_page problem ws among.page cell.left cell.right (sound.cells k d within).columns.0 (sound.cells k d within).columns.1)
               (λ w greatest. high (
-                let some = greatest.attained in
-                let there_too = some.1.ranges s there in
-                let more = greatest.never_more widths inside in
-                let unchanged = class-same_low problem sound s class (is.ranges s there).1 cell has same v w more
-                    (omega (arith, here.0, width_is widths, from)) (omega (arith, there_too.1, width_is some.0, some.2)) in
-                let low = IsLowAt-same cell.low h w v (sym unchanged) (give.cells k d within w greatest) in
-                subst (λ o. IsSomeAnd o (λ height. height ≤ h))
-                (agree s v cell there (omega (arith, here.0, width_is widths), omega (arith, here.1, width_is widths)) has same) low))
+              let some = greatest.attained in
+              let there_too = some.1.ranges s there in
+              let more = greatest.never_more widths inside in
+              let unchanged = class-same_low problem sound s class (is.ranges s there).1 cell has same v w more
+              (omega (arith, here.0, width_is widths, from)) (omega (arith, there_too.1, width_is some.0, some.2)) in
+              let low = IsLowAt-same cell.low h w v (sym unchanged) (give.cells k d within w greatest) in
+              subst (λ o. IsSomeAnd o (λ height. height ≤ h))
+              (agree s v cell there (omega (arith, here.0, width_is widths), omega (arith, here.1, width_is widths)) has same) low))
               widths inside)
         ]
 

@@ -1,6 +1,6 @@
 -- Rectangles on a grid that share no slot: their areas together are at most the area of the grid. A slot is as wide as
 -- the places of its column's two sides are apart, and as high as those of its row's.
-use Rattle.std.proofs.Common.{◌≡◌, ℕ, ◌+◌, ◌-◌, ◌*◌, ◌<◌, ◌≤◌, zero, suc, Bool, true, false, cond, ◌&&◌, nat_le, nat_lt, List, [], ◌∷◌, ◌⊎◌, inl, inr, length, get_or, refl, sym, ap, ◌∙◌, subst, arith}
+use Rattle.std.proofs.Common.{◌≡◌, ℕ, ◌+◌, ◌-◌, ◌*◌, ◌<◌, ◌≤◌, zero, suc, cond, ◌&&◌, nat_le, nat_lt, List, [], ◌∷◌, ◌⊎◌, inl, inr, refl, ap, ◌∙◌, arith}
 use Rattle.std.specs.List.{All, AllPairs, sum_by}
 use Rattle.std.proofs.lemmas.Bool.{cases_lt}
 use Rattle.std.proofs.lemmas.Bool.Decides.{nat_tests}
@@ -27,6 +27,7 @@ sum_by-split v a i d (x ∷ xs) =
     omega (arith, whole, first, rest, scaled, head, spread) where
       split_one : (v a i d : ℕ) → v * (a + i * d) ≡ v * a + v * i * d
       split_one v a i d = grind arith
+
       add_times : (a b d : ℕ) → (a + b) * d ≡ a * d + b * d
       add_times a b d = grind arith
 
@@ -102,6 +103,7 @@ module _ (at : ℕ → ℕ) (rising : (n : ℕ) → at n ≤ at (n + 1)) where
       omega (arith, split, rest, load, whole, ap (λ k. most * at k) next) where
         times_le : (a b d : ℕ) → a ≤ b → a * d ≤ b * d
         times_le a b d le = grind arith
+
         difference : (m a b : ℕ) → a ≤ b → m * a + m * (b - a) ≡ m * b
         difference m a b le = grind arith
 
@@ -123,18 +125,18 @@ module _ {X : Type 0} (left right top bottom : X → ℕ) where
       elim (inside-cases (top x) (bottom x) row) [
         | inl none ↦ inl (ap (λ i. i * inside (left x) (right x) column) none ∙ omega arith)
         | inr (one, rows) ↦ elim (inside-cases (left x) (right x) column) [
-            | inl none ↦ inl (ap (λ i. inside (top x) (bottom x) row * i) none ∙ omega arith)
-            | inr (other, columns) ↦ inr (ap (λ i. i * inside (left x) (right x) column) one ∙ omega (arith, other), (columns, rows))
-          ]
+          | inl none ↦ inl (ap (λ i. inside (top x) (bottom x) row * i) none ∙ omega arith)
+          | inr (other, columns) ↦ inr (ap (λ i. i * inside (left x) (right x) column) one ∙ omega (arith, other), (columns, rows))
+        ]
       ] where
         inside-cases : (from past n : ℕ) → (inside from past n ≡ 0) ⊎ ((inside from past n ≡ 1) × ((from ≤ n) × (n < past)))
         inside-cases from past n =
             elim (cases_lt n from) [
               | inl before ↦ inl (inside-early from past n before)
               | inr after ↦ elim (cases_lt n past) [
-                  | inl within ↦ inr (inside-yes from past n after within, (after, within))
-                  | inr past_it ↦ inl (inside-late from past n past_it)
-                ]
+                | inl within ↦ inr (inside-yes from past n after within, (after, within))
+                | inr past_it ↦ inl (inside-late from past n past_it)
+              ]
             ]
 
   -- no rectangle that shares no slot with one that covers the slot covers it

@@ -1,8 +1,7 @@
 -- Columns and rows: where they end, what all take together, and that their places tell their sizes.
-use Rattle.std.proofs.Common.{◌≡◌, ℕ, ◌+◌, ◌-◌, ◌*◌, ◌<◌, ◌≤◌, zero, suc, List, [], ◌∷◌, length, take, drop, sum, refl, sym, ap, ◌∙◌, subst, arith}
+use Rattle.std.proofs.Common.{◌≡◌, ℕ, ◌+◌, ◌-◌, ◌*◌, ◌<◌, ◌≤◌, zero, suc, List, [], ◌∷◌, length, take, drop, sum, refl, ap, arith}
 use Rattle.std.proofs.lemmas.List.{take_all}
 use Rattle.std.proofs.lemmas.List.Sums.{sum_by-cons}
-use Rattle.std.specs.List.{sum_by, slice_range}
 use Rattle.tl_problem.specs.Sizes.{position, room, total}
 
 -- ---- the total, by the place where the last one ends
@@ -72,8 +71,8 @@ same-positions gap (x ∷ xs) [] same at = absurd (omega arith)
 same-positions gap (x ∷ xs) (y ∷ ys) same at =
     let first : x ≡ y = omega (arith, at 1 (omega arith)) in
     let tails : xs ≡ ys = same-positions gap xs ys (omega arith) (λ place within.
-        let here = at (suc place) (omega arith) in
-        let left = sum_by-cons (λ n. n) x (take place xs) in
-        let right = sum_by-cons (λ n. n) y (take place ys) in
-        omega (arith, here, left, right, first)) in
+    let here = at (suc place) (omega arith) in
+    let left = sum_by-cons (λ n. n) x (take place xs) in
+    let right = sum_by-cons (λ n. n) y (take place ys) in
+    omega (arith, here, left, right, first)) in
     cc

@@ -1,18 +1,17 @@
 -- The spans of a problem in their order, and the classes of a span: where they begin, and that no height changes within.
-use Rattle.std.proofs.Common.{◌≡◌, ◌≢◌, ℕ, ◌+◌, ◌-◌, ◌*◌, ◌<◌, ◌≤◌, zero, suc, max, Bool, true, false, ◌&&◌, nat_eq, List, [], ◌∷◌, ◌++◌, ◌⊎◌, inl, inr, length, map, get_or, filter, take, sum, refl, sym, ap, ◌∙◌, subst, arith}
-use Rattle.std.specs.List.{All, AllPairs, Contains, list_any, flat_map, range_with_len}
+use Rattle.std.proofs.Common.{◌≡◌, ℕ, ◌+◌, ◌-◌, ◌<◌, ◌≤◌, true, nat_eq, List, [], ◌∷◌, ◌++◌, ◌⊎◌, inl, inr, length, map, get_or, filter, refl, sym, ap, ◌∙◌, subst, arith}
+use Rattle.std.specs.List.{AllPairs, Contains, list_any, range_with_len}
 use Rattle.std.proofs.lemmas.Bool.{cases_lt, eqb-true, eq-eqb, and_parts, and_from}
 use Rattle.std.proofs.lemmas.List.{get_or_default, get_or_past}
 use Rattle.std.proofs.lemmas.List.Elements.{All-contains, Contains-get_or, Contains-append_left, Contains-append_right}
 use Rattle.std.proofs.lemmas.List.Folds.{Any-from_list_any, list_any_at}
-use Rattle.std.proofs.lemmas.List.Sums.{sum_by-take-le}
 use Rattle.tl_base.specs.Style.{gap_of, edge_of}
 use Rattle.tl_base.specs.declared.steps.Config.{Config}
 use Rattle.tl_base.specs.Steps.{first_width, height_at}
-use Rattle.tl_base.proofs.Members.{All-from_Contains, Contains-first, Contains-later, Contains-cases, Contains-filter, filter-Contains, Contains-map, map-Contains, Contains-flat_map, flat_map-Contains, Contains-range, range-Contains, AllPairs-cons, AllPairs-filter, AllPairs-map, AllPairs-flat_map, AllPairs-range, same-ordered}
+use Rattle.tl_base.proofs.Members.{All-from_Contains, Contains-first, Contains-later, Contains-cases, Contains-filter, filter-Contains, Contains-map, map-Contains, Contains-flat_map, Contains-range, range-Contains, AllPairs-cons, AllPairs-filter, AllPairs-map, AllPairs-flat_map, AllPairs-range, same-ordered}
 use Rattle.tl_problem.specs.declared.cell.Cell.{Cell}
 use Rattle.tl_problem.specs.declared.cell.Span.{Span}
-use Rattle.tl_problem.specs.Sizes.{position, room, total}
+use Rattle.tl_problem.specs.Sizes.{room}
 use Rattle.tl_problem.specs.Problem.{ProblemModel, cell_width}
 use Rattle.tl_problem.specs.Layouts.{WithinPage}
 use Rattle.tl_problem.specs.Sound.{IsSound, IsSoundCell}
@@ -47,9 +46,9 @@ all_spans-ordered cols =
     AllPairs-flat_map IsBefore (λ a b. a < b) (λ left. map (span left) (range_with_len (left + 1) (cols - left))) (range_with_len 0 cols) (AllPairs-range 0 cols)
     (λ left. AllPairs-map IsBefore (span left) (range_with_len (left + 1) (cols - left)) (λ i j d before within. inr (refl, AllPairs-range (left + 1) (cols - left) i j d before within)))
     (λ left later a b less first second.
-        let one = map-Contains (span left) (range_with_len (left + 1) (cols - left)) a first in
-        let other = map-Contains (span later) (range_with_len (later + 1) (cols - later)) b second in
-        inl (omega (arith, ap (λ s. s.left) one.2, ap (λ s. s.left) other.2, less)))
+    let one = map-Contains (span left) (range_with_len (left + 1) (cols - left)) a first in
+    let other = map-Contains (span later) (range_with_len (later + 1) (cols - later)) b second in
+    inl (omega (arith, ap (λ s. s.left) one.2, ap (λ s. s.left) other.2, less)))
 
 all_spans-Contains : (cols left right : ℕ) → left < right → right ≤ cols → Contains (all_spans cols) (span left right)
 all_spans-Contains cols left right ahead within =
@@ -126,13 +125,13 @@ module _ (problem : ProblemModel) (columns : Span) where
   pub least_width-within : (widths : List ℕ) → WithinPage problem widths → least_width problem columns ≤ room (gap_of problem.style) widths columns.left columns.right
   least_width-within widths is =
       greatest-least (map (λ c. first_width c.low) (cells_of problem columns)) (room (gap_of problem.style) widths columns.left columns.right) (λ n has.
-          let found = map-Contains (λ c. first_width c.low) (cells_of problem columns) n has in
-          let kept = filter-Contains (has_span columns) problem.cells found.0 found.1 in
-          let parts = has_span-parts columns found.0 kept.1 in
-          let wide = All-contains (λ c. first_width c.low ≤ cell_width problem widths c) problem.cells found.0 is.cells kept.0 in
-          let left = ap (λ l. room (gap_of problem.style) widths l found.0.right) parts.0 in
-          let right = ap (room (gap_of problem.style) widths columns.left) parts.1 in
-          omega (arith, wide, found.2, left, right))
+      let found = map-Contains (λ c. first_width c.low) (cells_of problem columns) n has in
+      let kept = filter-Contains (has_span columns) problem.cells found.0 found.1 in
+      let parts = has_span-parts columns found.0 kept.1 in
+      let wide = All-contains (λ c. first_width c.low ≤ cell_width problem widths c) problem.cells found.0 is.cells kept.0 in
+      let left = ap (λ l. room (gap_of problem.style) widths l found.0.right) parts.0 in
+      let right = ap (room (gap_of problem.style) widths columns.left) parts.1 in
+      omega (arith, wide, found.2, left, right))
 
   pub classes-rising : AllPairs (λ a b. a < b) (classes_of problem columns)
   unfolding classes_of
@@ -140,9 +139,9 @@ module _ (problem : ProblemModel) (columns : Span) where
       let least = least_width problem columns in
       AllPairs-cons (λ a b. a < b) least (filter (begins_step problem columns) (range_with_len (least + 1) (page_room problem - least)))
       (All-from_Contains (λ w. least < w) (filter (begins_step problem columns) (range_with_len (least + 1) (page_room problem - least))) (λ w has.
-          let kept = filter-Contains (begins_step problem columns) (range_with_len (least + 1) (page_room problem - least)) w has in
-          let between = range-Contains (least + 1) (page_room problem - least) w kept.0 in
-          omega (arith, between.0)))
+      let kept = filter-Contains (begins_step problem columns) (range_with_len (least + 1) (page_room problem - least)) w has in
+      let between = range-Contains (least + 1) (page_room problem - least) w kept.0 in
+      omega (arith, between.0)))
       (AllPairs-filter (λ a b. a < b) (begins_step problem columns) (range_with_len (least + 1) (page_room problem - least)) (AllPairs-range (least + 1) (page_room problem - least)))
 
   -- where a class begins: at the least width, or past it and within the page where a step begins
@@ -188,7 +187,7 @@ module _ (problem : ProblemModel) (columns : Span) where
   begins-from cell step has is among =
       let inside : Contains (cells_of problem columns) cell = Contains-filter (has_span columns) problem.cells cell is has in
       let one : list_any (λ s. nat_eq s.width step.width) (cell.low ++ cell.high) ≡ true =
-        list_any_at (λ s. nat_eq s.width step.width) (cell.low ++ cell.high) among.0 step among.1 (eq-eqb (get_or (cell.low ++ cell.high) among.0 step).width step.width (ap (λ s. s.width) among.2)) in
+      list_any_at (λ s. nat_eq s.width step.width) (cell.low ++ cell.high) among.0 step among.1 (eq-eqb (get_or (cell.low ++ cell.high) among.0 step).width step.width (ap (λ s. s.width) among.2)) in
       list_any_at (λ c. list_any (λ s. nat_eq s.width step.width) (c.low ++ c.high)) (cells_of problem columns) inside.0 cell inside.1
       (subst (λ c. list_any (λ s. nat_eq s.width step.width) (c.low ++ c.high) ≡ true) (sym inside.2) one)
 
@@ -200,9 +199,9 @@ between-none xs rising k top x inside has past before =
     let at = get_or_default xs has.0 0 x has.1 in
     elim (cases_lt k has.0) [
       | inr early ↦ elim (cases_lt has.0 k) [
-          | inl less ↦ let low = rising has.0 k 0 less inside in omega (arith, low, at, has.2)
-          | inr same ↦ let here : has.0 ≡ k = omega arith in omega (arith, ap (λ i. get_or xs i 0) here, at, has.2)
-        ]
+        | inl less ↦ let low = rising has.0 k 0 less inside in omega (arith, low, at, has.2)
+        | inr same ↦ let here : has.0 ≡ k = omega arith in omega (arith, ap (λ i. get_or xs i 0) here, at, has.2)
+      ]
       | inl later ↦
           let next = get_or_default xs (k + 1) 0 (top + 1) (omega (arith, has.1)) in
           let above = rising k (k + 1) 0 (omega arith) (omega (arith, has.1)) in

@@ -1,17 +1,13 @@
 -- Zones: the whole has all widths within the page, and the two parts of a cut have between them those of the zone.
-use Rattle.std.proofs.Common.{◌≡◌, ◌≢◌, ℕ, ◌+◌, ◌-◌, ◌*◌, ◌<◌, ◌≤◌, zero, suc, List, [], ◌∷◌, ◌⊎◌, inl, inr, length, map, get_or, set, refl, sym, ap, ◌∙◌, subst, arith, length-set}
-use Rattle.std.specs.List.{All, AllPairs, Contains}
+use Rattle.std.proofs.Common.{◌≡◌, ◌≢◌, ℕ, ◌+◌, ◌-◌, ◌<◌, ◌≤◌, List, ◌⊎◌, inl, inr, length, set, sym, ap, ◌∙◌, subst, arith, length-set}
 use Rattle.std.proofs.lemmas.Bool.{cases_lt}
 use Rattle.std.proofs.lemmas.List.{length-map, get_or-map, get_or_default, get_or_past, get_or-set_same, get_or-set_other}
 use Rattle.std.proofs.lemmas.List.Elements.{All-contains, Contains-get_or}
-use Rattle.tl_base.specs.Style.{gap_of}
-use Rattle.tl_problem.specs.declared.cell.Cell.{Cell}
-use Rattle.tl_problem.specs.declared.cell.Span.{Span}
 use Rattle.tl_problem.specs.declared.zone.Range.{Range}
 use Rattle.tl_problem.specs.Problem.{ProblemModel}
 use Rattle.tl_problem.specs.Layouts.{WithinPage}
 use Rattle.tl_problem.specs.Sound.{IsSound, IsSoundCell}
-use Rattle.tl_problem.specs.Spans.{span, spans_of, classes_of, least_width, page_room}
+use Rattle.tl_problem.specs.Spans.{span, spans_of, classes_of, page_room}
 use Rattle.tl_problem.specs.Zones.{span_at, classes_at, first_in_class, last_in_class, range, range_at, IsZone, whole_zone, lower_part, upper_part, span_width, InZone}
 use Rattle.tl_problem.proofs.SpanLaws.{has_span-parts, spans-cell, least_width-within, classes-rising, classes-first, classes-some, class-in_page, room-in_page}
 
@@ -59,7 +55,7 @@ whole-all problem sound widths page = record {
 
 -- two numbers are the same or not
 cases_eq : (t s : ℕ) → (t ≡ s) ⊎ (t ≢ s)
-cases_eq t s = elim (cases_lt t s) [ | inl less ↦ inr (λ e. omega arith) | inr more ↦ elim (cases_lt s t) [ | inl above ↦ inr (λ e. omega arith) | inr same ↦ inl (omega arith) ] ]
+cases_eq t s = elim (cases_lt t s) [ inl less ↦ inr (λ e. omega arith) | inr more ↦ elim (cases_lt s t) [ inl above ↦ inr (λ e. omega arith) | inr same ↦ inl (omega arith) ] ]
 
 module _ (problem : ProblemModel) (sound : IsSound problem) (zone : List Range) (is : IsZone problem zone) (s class : ℕ) (there : s < length zone)
     (from : (range_at zone s).first ≤ class) (before : class < (range_at zone s).last) where
@@ -84,16 +80,16 @@ module _ (problem : ProblemModel) (sound : IsSound problem) (zone : List Range) 
       elim (cases_lt a b) [
         | inr same ↦ let here : a ≡ b = omega arith in omega (arith, ap (last_in_class problem s) here)
         | inl less ↦ elim (cases_lt (b + 1) (length (classes_at problem s))) [
-            | inr last ↦
-                let end = get_or_past (classes_at problem s) (b + 1) (page_room problem + 1) last in
-                let page = class-in_page problem sound s a (omega arith) in
-                omega (arith, end, page)
-            | inl more ↦
-                let start = get_or_default (classes_at problem s) (a + 1) 0 (page_room problem + 1) (omega arith) in
-                let stop = get_or_default (classes_at problem s) (b + 1) 0 (page_room problem + 1) more in
-                let rise = classes-rising problem (span_at problem s) (a + 1) (b + 1) 0 (omega arith) more in
-                omega (arith, start, stop, rise)
-          ]
+          | inr last ↦
+              let end = get_or_past (classes_at problem s) (b + 1) (page_room problem + 1) last in
+              let page = class-in_page problem sound s a (omega arith) in
+              omega (arith, end, page)
+          | inl more ↦
+              let start = get_or_default (classes_at problem s) (a + 1) 0 (page_room problem + 1) (omega arith) in
+              let stop = get_or_default (classes_at problem s) (b + 1) 0 (page_room problem + 1) more in
+              let rise = classes-rising problem (span_at problem s) (a + 1) (b + 1) 0 (omega arith) more in
+              omega (arith, start, stop, rise)
+        ]
       ]
 
   -- and a later class begins no earlier
