@@ -84,7 +84,8 @@ wide_part : upper_part (whole_zone problem) 1 0 ≡ range 0 0 ∷ range 1 1 ∷ 
 unfolding spans_of classes_of
 wide_part = refl
 
-within : (first second : ℕ) → 1 ≤ first → 2 ≤ second → first + second ≤ 7 → WithinPage problem (first ∷ second ∷ [])
+-- widths of a sum that the page has room for are within it
+pub within : (first second : ℕ) → 1 ≤ first → 2 ≤ second → first + second ≤ 7 → WithinPage problem (first ∷ second ∷ [])
 within first second some more page = record {
   columns = refl;
   page = omega arith;

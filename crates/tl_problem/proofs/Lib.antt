@@ -1,4 +1,5 @@
 mod Examples
+mod BoundExamples
 pub mod Heights
 pub mod SizeLaws
 pub mod BoundLaws
