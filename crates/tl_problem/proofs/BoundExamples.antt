@@ -1,36 +1,30 @@
 -- Bounds and placements of the problem of two columns, counted by hand. On nine columns the wide cell has at most nine
 -- and needs two lines, and one line is below it; where it has at most six it needs three.
-use Rattle.std.proofs.Common.{◌≡◌, ℕ, ◌+◌, ◌-◌, ◌*◌, ◌<◌, ◌≤◌, zero, suc, List, [], ◌∷◌, ◌⊎◌, inl, inr, length, get_or, Option, Some, None, refl, sym, ap, ◌∙◌, subst, arith}
-use Rattle.std.specs.List.{All, AllPairs}
+use Rattle.std.proofs.Common.{◌≡◌, ℕ, ◌+◌, ◌-◌, ◌<◌, ◌≤◌, zero, suc, List, [], ◌∷◌, length, Some, refl, sym, subst, arith}
 use Rattle.std.specs.Option.{IsSomeAnd}
-use Rattle.std.proofs.lemmas.Bool.{cases_lt}
 use Rattle.std.proofs.lemmas.List.Elements.{All-from_recursion}
 use Rattle.tl_base.specs.declared.steps.Config.{Config}
-use Rattle.tl_base.specs.Steps.{AreSteps, first_width, height_at, IsLowAt}
+use Rattle.tl_base.specs.Steps.{AreSteps, height_at, IsLowAt}
 use Rattle.tl_base.proofs.Members.{AllPairs-none, AllPairs-cons}
 use Rattle.tl_problem.specs.declared.cell.Cell.{Cell}
-use Rattle.tl_problem.specs.declared.placed.Placed.{Placed}
 use Rattle.tl_problem.specs.declared.zone.Range.{Range}
-use Rattle.tl_problem.specs.Sizes.{position, room, total}
-use Rattle.tl_problem.specs.Problem.{ProblemModel, cell_width, cell_height}
-use Rattle.tl_problem.specs.Layouts.{WithinPage, GiveHigh}
+use Rattle.tl_problem.specs.Sizes.{room, total}
+use Rattle.tl_problem.specs.Problem.{cell_height}
 use Rattle.tl_problem.specs.Spans.{spans_of, classes_of}
-use Rattle.tl_problem.specs.Zones.{whole_zone, lower_part, upper_part, span_width, IsWidthOf, InZone}
-use Rattle.tl_problem.specs.Bounds.{IsGreatestRoom, GiveLow, IsBound}
-use Rattle.tl_problem.specs.Placements.{AreLeast, IsPlacement, IsOpening}
-use Rattle.tl_problem.specs.Tight.{KeepHigh, IsTightFrom}
+use Rattle.tl_problem.specs.Zones.{whole_zone, lower_part, span_width, IsWidthOf, InZone}
+use Rattle.tl_problem.specs.Bounds.{IsGreatestRoom, IsBound}
 use Rattle.tl_problem.proofs.Heights.{test_le, IsLowAt-wider}
 use Rattle.tl_problem.proofs.Examples.{step, cell, wide, problem, within}
 
-falling : AreSteps wide.low
+pub falling : AreSteps wide.low
 falling = record {
   has_step = omega arith;
   falling = AllPairs-cons Falls (step 4 3) (step 7 2 ∷ step 12 1 ∷ []) (All-from_recursion (Falls (step 4 3)) (step 7 2 ∷ step 12 1 ∷ []) ((omega arith, omega arith), ((omega arith, omega arith), tt)))
       (AllPairs-cons Falls (step 7 2) (step 12 1 ∷ []) (All-from_recursion (Falls (step 7 2)) (step 12 1 ∷ []) ((omega arith, omega arith), tt))
       (AllPairs-cons Falls (step 12 1) [] (All-from_recursion (Falls (step 12 1)) [] tt) (AllPairs-none Falls)));
 } where
-    Falls : Config → Config → Type 0
-    Falls a b = (a.width < b.width) × (b.height < a.height)
+  Falls : Config → Config → Type 0
+  Falls a b = (a.width < b.width) × (b.height < a.height)
 
 one_step : (width height : ℕ) → AreSteps (step width height ∷ [])
 one_step width height = record { has_step = omega arith; falling = λ i j d before inside. absurd (omega arith) }
@@ -81,27 +75,32 @@ module _ (zone : List Range) (most need : ℕ) (some : 5 ≤ most) (is : height_
           two_rows heights give.rows one (line heights (most - 4) (omega arith) (give.cells 1 wide (omega arith) (most - 4) first_room));
     };
   } where
-      Given : Cell → Type 0
-      Given c = (w : ℕ) → IsGreatestRoom problem (InZone problem zone) c.left c.right w → IsLowAt c.low (cell_height problem (need ∷ 1 ∷ []) c) w
-      tall : Given wide
-      tall w greatest =
-          let more = greatest.never_more (1 ∷ (most - 3) ∷ []) (fill 1 (most - 3) (omega arith) (omega arith) (omega arith)) in
-          IsLowAt-wider wide.low falling (cell_height problem (need ∷ 1 ∷ []) wide) most w (omega (arith, more)) (subst (λ o. IsSomeAnd o (λ height. height ≤ cell_height problem (need ∷ 1 ∷ []) wide)) (sym is) (omega arith))
-      short_first : Given (cell 0 1 1 2 (step 1 1 ∷ []))
-      short_first w greatest =
-          let more = greatest.never_more (1 ∷ (most - 3) ∷ []) (fill 1 (most - 3) (omega arith) (omega arith) (omega arith)) in
-          IsLowAt-wider (step 1 1 ∷ []) (one_step 1 1) 1 1 w (omega (arith, more)) (omega arith)
-      short_second : Given (cell 1 2 1 2 (step 2 1 ∷ []))
-      short_second w greatest =
-          let more = greatest.never_more (1 ∷ (most - 3) ∷ []) (fill 1 (most - 3) (omega arith) (omega arith) (omega arith)) in
-          IsLowAt-wider (step 2 1 ∷ []) (one_step 2 1) 1 2 w (omega (arith, more)) (omega arith)
-      line : (heights : List ℕ) (w : ℕ) → 1 ≤ w → IsLowAt (step 1 1 ∷ []) (room 0 heights 1 2) w → 1 ≤ room 0 heights 1 2
-      line heights w enough low = rw (test_le 1 w enough) at low
-      two_rows : (heights : List ℕ) → length heights ≡ 2 → need ≤ cell_height problem heights (cell 0 2 0 1 []) → 1 ≤ room 0 heights 1 2 → need + 1 ≤ total 0 0 heights
-      two_rows [] rows tall short = absurd (omega arith)
-      two_rows (first ∷ []) rows tall short = absurd (omega arith)
-      two_rows (first ∷ second ∷ []) rows tall short = omega arith
-      two_rows (first ∷ second ∷ third ∷ more) rows tall short = absurd (omega arith)
+    Given : Cell → Type 0
+    Given c = (w : ℕ) → IsGreatestRoom problem (InZone problem zone) c.left c.right w → IsLowAt c.low (cell_height problem (need ∷ 1 ∷ []) c) w
+
+    tall : Given wide
+    tall w greatest =
+        let more = greatest.never_more (1 ∷ (most - 3) ∷ []) (fill 1 (most - 3) (omega arith) (omega arith) (omega arith)) in
+        IsLowAt-wider wide.low falling (cell_height problem (need ∷ 1 ∷ []) wide) most w (omega (arith, more)) (subst (λ o. IsSomeAnd o (λ height. height ≤ cell_height problem (need ∷ 1 ∷ []) wide)) (sym is) (omega arith))
+
+    short_first : Given (cell 0 1 1 2 (step 1 1 ∷ []))
+    short_first w greatest =
+        let more = greatest.never_more (1 ∷ (most - 3) ∷ []) (fill 1 (most - 3) (omega arith) (omega arith) (omega arith)) in
+        IsLowAt-wider (step 1 1 ∷ []) (one_step 1 1) 1 1 w (omega (arith, more)) (omega arith)
+
+    short_second : Given (cell 1 2 1 2 (step 2 1 ∷ []))
+    short_second w greatest =
+        let more = greatest.never_more (1 ∷ (most - 3) ∷ []) (fill 1 (most - 3) (omega arith) (omega arith) (omega arith)) in
+        IsLowAt-wider (step 2 1 ∷ []) (one_step 2 1) 1 2 w (omega (arith, more)) (omega arith)
+
+    line : (heights : List ℕ) (w : ℕ) → 1 ≤ w → IsLowAt (step 1 1 ∷ []) (room 0 heights 1 2) w → 1 ≤ room 0 heights 1 2
+    line heights w enough low = rw (test_le 1 w enough) at low
+
+    two_rows : (heights : List ℕ) → length heights ≡ 2 → need ≤ cell_height problem heights (cell 0 2 0 1 []) → 1 ≤ room 0 heights 1 2 → need + 1 ≤ total 0 0 heights
+    two_rows [] rows tall short = absurd (omega arith)
+    two_rows (first ∷ []) rows tall short = absurd (omega arith)
+    two_rows (first ∷ second ∷ []) rows tall short = omega arith
+    two_rows (first ∷ second ∷ third ∷ more) rows tall short = absurd (omega arith)
 
 -- each span of the problem has a width of its range's classes where the wide cell has one
 module _ (zone : List Range) (widths : List ℕ) where
