@@ -1,2 +1,3 @@
 mod Moves
 mod MachineWhole
+mod MachineSound
