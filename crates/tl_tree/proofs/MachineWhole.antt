@@ -6,10 +6,10 @@ use Rattle.std.specs.Prelude.{IsTrue, map, sum}
 use Rattle.tl_token.specs.declared.token.Spans.{Spans}
 use Rattle.tl_tree.specs.declared.node.Part.{Part}
 use Rattle.tl_tree.specs.declared.node.Part.TheVariants.{Loose}
-use Rattle.tl_tree.specs.Tags.{Kind, Kinds, text, table_start, table_end, caption_end, colgroup_start, colgroup_end, col, group_start, group_end, row_start, row_end, cell_start, cell_end, caption_start, br, p_or_div, inline_tag, is_white, is_row_start, is_col, begins_with}
+use Rattle.tl_tree.specs.Tags.{Section, part_of, Kind, Kinds, text, table_start, table_end, caption_end, colgroup_start, colgroup_end, col, group_start, group_end, row_start, row_end, cell_start, cell_end, caption_start, br, p_or_div, inline_tag, is_white, is_row_start, is_col, begins_with}
 use Rattle.tl_tree.specs.Grammar.{Mark, Marks, table_begins, caption_begins, cell_begins, line_break, columns, group_begins, row_begins, character, paragraph_ends, table_ends, Spaces, no_space, space, Ended, by_tag, left_out, Cols, no_col, col_space, next_col, colgroup_columns, Columns, no_columns, colgroup, lone_col, Flow, no_flow, words, break, edge, inline, nested, Table, table, Caption, no_caption, caption, Cells, no_cell, cell, Rows, no_row, row, Parts, no_part, group, loose_rows, Outer, no_outer, outer_space, outer, Document}
-use Rattle.tl_tree.specs.inner.Machine.{Holder, of_caption, of_cell, Place, opened, in_columns, in_colgroup, between, in_group, in_row, in_flow, Move, to, enter, leave, never, same_part, same_head, move, State, before, inside, after, failed, left, moved, marks_of, next, told, reached, all_told, Accepts}
-use Rattle.tl_tree.proofs.Moves.{reached-failed, no_way, same_head-refl, same_part-refl, is_plain, white_stays, stray_text, told_first, is_entry, Alike, nowhere, alike, cell_as_row, row_as_group, group_as_between, columns_as_between, colgroup_as_columns, caption_as_columns, opened_as_columns}
+use Rattle.tl_tree.specs.inner.Machine.{Holder, of_caption, of_cell, Place, opened, in_columns, in_colgroup, between, in_group, in_row, in_flow, Move, to, enter, leave, never, closes, same_head, move, State, before, inside, after, failed, left, moved, marks_of, next, told, reached, all_told, Accepts}
+use Rattle.tl_tree.proofs.Moves.{reached-failed, no_way, same_head-refl, closes-own, is_plain, white_stays, stray_text, told_first, is_entry, Alike, nowhere, alike, cell_as_row, row_as_group, group_as_between, columns_as_between, colgroup_as_columns, caption_as_columns, opened_as_columns}
 
 -- a token that moves to a place from which the rest is accepted
 pub by_move : (p q : Place) (hs : List Holder) (k : Kind) (ns : Marks) {ks : Kinds} {ms : Marks} → move p k ≡ to q ns
@@ -170,10 +170,11 @@ mutual
   parts_whole : (hs : List Holder) {ks rest : Kinds} {ms more : Marks} → begins_with is_white rest ≡ false → Parts ks ms rest more
       → Accepts (inside between hs) rest more → Accepts (inside between hs) ks ms
   parts_whole hs solid no_part a = a
-  parts_whole hs solid (group {part = part} spaces rows ended later) a =
-      let b = ended_whole (group_end part) (in_group part) between hs [] is_row_start (when (same_part part part) _ _ (same_part-refl part)) refl
+  parts_whole hs solid (group {section = section} spaces rows ended later) a =
+      let part = part_of section in
+      let b = ended_whole (group_end section) (in_group part) between hs [] is_row_start (when (closes section part) _ _ (closes-own section)) refl
               (λ k w o. group_as_between part k w o) (rows_end rows) ended (parts_whole hs solid later a) in
-      by_move between (in_group part) hs (group_start part) (group_begins part ∷ []) refl (spaces_whole (in_group part) hs refl spaces (rows_whole part hs rows b))
+      by_move between (in_group part) hs (group_start section) (group_begins part ∷ []) refl (spaces_whole (in_group part) hs refl spaces (rows_whole part hs rows b))
   parts_whole hs solid (loose_rows {k1 = k1} rows later) a =
       let b = as_alike_all (in_group Loose) between hs [] is_row_start (λ k w o. group_as_between Loose k w o) k1 (parts_solid solid later) (rows_end rows) (parts_whole hs solid later a) in
       let c = rows_whole Loose hs rows b in

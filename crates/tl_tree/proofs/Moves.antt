@@ -4,9 +4,9 @@ use Rattle.std.proofs.lemmas.Bool.{false≢true}
 use Rattle.tl_token.specs.declared.token.Spans.{Spans}
 use Rattle.tl_tree.specs.declared.node.Part.{Part}
 use Rattle.tl_tree.specs.declared.node.Part.TheVariants.{Loose, Head, Body, Foot}
-use Rattle.tl_tree.specs.Tags.{Kind, Kinds, text, table_start, table_end, caption_start, caption_end, colgroup_start, colgroup_end, col, group_start, group_end, row_start, row_end, cell_start, cell_end, br, p_or_div, inline_tag, outer_tag, lone_end, is_white, is_row_start, is_col, begins_with}
+use Rattle.tl_tree.specs.Tags.{Section, thead, tbody, tfoot, part_of, Kind, Kinds, text, table_start, table_end, caption_start, caption_end, colgroup_start, colgroup_end, col, group_start, group_end, row_start, row_end, cell_start, cell_end, br, p_or_div, inline_tag, outer_tag, lone_end, is_white, is_row_start, is_col, begins_with}
 use Rattle.tl_tree.specs.Grammar.{Mark, Marks, table_begins, caption_begins, columns, group_begins, row_begins, cell_begins, character, line_break, paragraph_ends, table_ends}
-use Rattle.tl_tree.specs.inner.Machine.{Holder, of_caption, of_cell, Place, opened, in_columns, in_colgroup, between, in_group, in_row, in_flow, Move, to, enter, leave, never, same_part, same_head, move, State, before, inside, after, failed, left, moved, marks_of, next, told, reached, all_told, Accepts}
+use Rattle.tl_tree.specs.inner.Machine.{Holder, of_caption, of_cell, Place, opened, in_columns, in_colgroup, between, in_group, in_row, in_flow, Move, to, enter, leave, never, closes, same_head, move, State, before, inside, after, failed, left, moved, marks_of, next, told, reached, all_told, Accepts}
 
 -- once failed, always failed
 pub reached-failed : (ks : Kinds) → reached failed ks ≡ failed
@@ -20,11 +20,10 @@ pub same_head-refl : (b : Bool) → same_head b b ≡ true
 same_head-refl true = refl
 same_head-refl false = refl
 
-pub same_part-refl : (part : Part) → same_part part part ≡ true
-same_part-refl Loose = refl
-same_part-refl Head = refl
-same_part-refl Body = refl
-same_part-refl Foot = refl
+pub closes-own : (section : Section) → closes section (part_of section) ≡ true
+closes-own thead = refl
+closes-own tbody = refl
+closes-own tfoot = refl
 
 -- a place that white space leaves as it is
 abbrev pub is_plain : Place → Bool
@@ -92,7 +91,7 @@ cell_as_row part head (colgroup_start span) h = nowhere refl
 cell_as_row part head colgroup_end h = nowhere refl
 cell_as_row part head (col span) h = nowhere refl
 cell_as_row part head (group_start other) h = alike refl refl
-cell_as_row part head (group_end other) h = alike (no_entry_if (same_part part other) between []) (first_if (same_part part other) between (paragraph_ends ∷ []) [])
+cell_as_row part head (group_end other) h = alike (no_entry_if (closes other part) between []) (first_if (closes other part) between (paragraph_ends ∷ []) [])
 cell_as_row part head row_start h = alike refl refl
 cell_as_row part head row_end h = alike refl refl
 cell_as_row part head (cell_start other spans) h = alike refl refl
@@ -113,7 +112,7 @@ row_as_group part (colgroup_start span) h = nowhere refl
 row_as_group part colgroup_end h = nowhere refl
 row_as_group part (col span) h = nowhere refl
 row_as_group part (group_start other) h = alike refl refl
-row_as_group part (group_end other) h = alike (no_entry_if (same_part part other) between []) (first_if (same_part part other) between [] [])
+row_as_group part (group_end other) h = alike (no_entry_if (closes other part) between []) (first_if (closes other part) between [] [])
 row_as_group part row_start h = alike refl refl
 row_as_group part row_end h = nowhere refl
 row_as_group part (cell_start other spans) h = nowhere refl

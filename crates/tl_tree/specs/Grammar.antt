@@ -22,7 +22,7 @@ use Rattle.std.specs.Prelude.{◌≡◌, ℕ, ◌+◌, Bool, false, IsTrue, List
 use Rattle.tl_token.specs.declared.token.Spans.{Spans}
 use Rattle.tl_tree.specs.declared.node.Part.{Part}
 use Rattle.tl_tree.specs.declared.node.Part.TheVariants.{Loose}
-use Rattle.tl_tree.specs.Tags.{Kind, Kinds, text, table_start, table_end, caption_start, caption_end, colgroup_start, colgroup_end, col, group_start, group_end, row_start, row_end, cell_start, cell_end, br, p_or_div, inline_tag, outer_tag, is_white, is_row_start, is_col, begins_with}
+use Rattle.tl_tree.specs.Tags.{Section, part_of, Kind, Kinds, text, table_start, table_end, caption_start, caption_end, colgroup_start, colgroup_end, col, group_start, group_end, row_start, row_end, cell_start, cell_end, br, p_or_div, inline_tag, outer_tag, is_white, is_row_start, is_col, begins_with}
 
 pub data Mark : Type 0 where
   table_begins : Mark
@@ -106,9 +106,9 @@ mutual
 
   pub data Parts : Kinds → Marks → Kinds → Marks → Type 0 where
     no_part : {ks : Kinds} {ms : Marks} → Parts ks ms ks ms
-    group : {part : Part} {ks k1 k2 k3 rest : Kinds} {ms m1 more : Marks}
-        → Spaces ks k1 → Rows k1 ms k2 m1 → Ended (group_end part) k2 k3 → Parts k3 m1 rest more
-        → Parts (group_start part ∷ ks) (group_begins part ∷ ms) rest more
+    group : {section : Section} {ks k1 k2 k3 rest : Kinds} {ms m1 more : Marks}
+        → Spaces ks k1 → Rows k1 ms k2 m1 → Ended (group_end section) k2 k3 → Parts k3 m1 rest more
+        → Parts (group_start section ∷ ks) (group_begins (part_of section) ∷ ms) rest more
     loose_rows : {ks k1 rest : Kinds} {ms m1 more : Marks}
         → Rows (row_start ∷ ks) ms k1 m1 → Parts k1 m1 rest more
         → Parts (row_start ∷ ks) (group_begins Loose ∷ ms) rest more

@@ -3,4 +3,5 @@ pub mod Tags
 pub mod Grammar
 pub mod Paragraphs
 pub mod Outline
+pub mod Spelling
 pub mod Sound

@@ -11,6 +11,18 @@ use Rattle.tl_token.specs.declared.token.TokenKind.TheVariants.{Start, End, Text
 use Rattle.tl_tree.specs.declared.node.Part.{Part}
 use Rattle.tl_tree.specs.declared.node.Part.TheVariants.{Head, Body, Foot}
 
+-- the elements of a group of rows
+pub data Section : Type 0 where
+  thead : Section
+  tbody : Section
+  tfoot : Section
+
+abbrev pub part_of : Section → Part
+part_of thead = Head
+part_of tbody = Body
+part_of tfoot = Foot
+
+-- what a token is to the grammar
 pub data Kind : Type 0 where
   text : List ℕ → Kind
   table_start : Kind
@@ -22,9 +34,8 @@ pub data Kind : Type 0 where
   colgroup_end : Kind
   -- with its span
   col : ℕ → Kind
-  -- `thead`, `tbody` and `tfoot`
-  group_start : Part → Kind
-  group_end : Part → Kind
+  group_start : Section → Kind
+  group_end : Section → Kind
   row_start : Kind
   row_end : Kind
   -- `th`, if true, and `td`
@@ -46,9 +57,9 @@ start_of Table spans = table_start
 start_of Caption spans = caption_start
 start_of Colgroup spans = colgroup_start spans.span
 start_of Col spans = col spans.span
-start_of Thead spans = group_start Head
-start_of Tbody spans = group_start Body
-start_of Tfoot spans = group_start Foot
+start_of Thead spans = group_start thead
+start_of Tbody spans = group_start tbody
+start_of Tfoot spans = group_start tfoot
 start_of Tr spans = row_start
 start_of Td spans = cell_start false spans
 start_of Th spans = cell_start true spans
@@ -63,9 +74,9 @@ end_of Table = table_end
 end_of Caption = caption_end
 end_of Colgroup = colgroup_end
 end_of Col = lone_end
-end_of Thead = group_end Head
-end_of Tbody = group_end Body
-end_of Tfoot = group_end Foot
+end_of Thead = group_end thead
+end_of Tbody = group_end tbody
+end_of Tfoot = group_end tfoot
 end_of Tr = row_end
 end_of Td = cell_end false
 end_of Th = cell_end true

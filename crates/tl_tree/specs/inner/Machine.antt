@@ -3,7 +3,7 @@ use Rattle.std.specs.Prelude.{◌≡◌, ℕ, ◌+◌, Bool, true, false, Option
 use Rattle.tl_token.specs.declared.token.Spans.{Spans}
 use Rattle.tl_tree.specs.declared.node.Part.{Part}
 use Rattle.tl_tree.specs.declared.node.Part.TheVariants.{Loose, Head, Body, Foot}
-use Rattle.tl_tree.specs.Tags.{Kind, Kinds, text, table_start, table_end, caption_start, caption_end, colgroup_start, colgroup_end, col, group_start, group_end, row_start, row_end, cell_start, cell_end, br, p_or_div, inline_tag, outer_tag, lone_end, is_white}
+use Rattle.tl_tree.specs.Tags.{Section, thead, tbody, tfoot, part_of, Kind, Kinds, text, table_start, table_end, caption_start, caption_end, colgroup_start, colgroup_end, col, group_start, group_end, row_start, row_end, cell_start, cell_end, br, p_or_div, inline_tag, outer_tag, lone_end, is_white}
 use Rattle.tl_tree.specs.Grammar.{Mark, Marks, table_begins, caption_begins, columns, group_begins, row_begins, cell_begins, character, line_break, paragraph_ends, table_ends}
 
 -- what a flow stands in: a caption, or a cell of a group of that part, a header cell or not
@@ -66,12 +66,12 @@ due (in_row part) = []
 due (in_flow of_caption) = paragraph_ends ∷ columns 0 ∷ []
 due (in_flow (of_cell part head)) = paragraph_ends ∷ []
 
-abbrev pub same_part : Part → Part → Bool
-same_part Loose Loose = true
-same_part Head Head = true
-same_part Body Body = true
-same_part Foot Foot = true
-same_part _ _ = false
+-- the end tag of that element ends a group of that part
+abbrev pub closes : Section → Part → Bool
+closes thead Head = true
+closes tbody Body = true
+closes tfoot Foot = true
+closes _ _ = false
 
 abbrev pub same_head : Bool → Bool → Bool
 same_head true b = b
@@ -115,9 +115,9 @@ abbrev pub read_col : ℕ → Place → Move
 read_col span (in_colgroup n pending) = to (in_colgroup (n + span) 0) []
 read_col span p = lone_col span (columns_of p)
 
-abbrev pub end_group : Part → Option (Part × Marks) → Move
-end_group part None = never
-end_group part (Some g) = if same_part g.0 part then to between g.1 else never
+abbrev pub end_group : Section → Option (Part × Marks) → Move
+end_group section None = never
+end_group section (Some g) = if closes section g.0 then to between g.1 else never
 
 abbrev pub start_row : Marks → Option (Part × Marks) → Move
 start_row marks None = to (in_row Loose) (marks ++ (group_begins Loose ∷ row_begins ∷ []))
@@ -144,8 +144,8 @@ move p caption_end = end_caption p
 move p (colgroup_start span) = start_colgroup span (columns_of p)
 move p colgroup_end = end_colgroup p
 move p (col span) = read_col span p
-move p (group_start part) = to (in_group part) (due p ++ group_begins part ∷ [])
-move p (group_end part) = end_group part (group_of p)
+move p (group_start section) = to (in_group (part_of section)) (due p ++ group_begins (part_of section) ∷ [])
+move p (group_end section) = end_group section (group_of p)
 move p row_start = start_row (due p) (group_of p)
 move p row_end = end_row (row_of p)
 move p (cell_start head spans) = start_cell head spans (row_of p)
