@@ -1,6 +1,7 @@
-pub mod Decimals
 mod Examples
+pub mod Decimals
 pub mod Falling
+pub mod Members
 pub mod MemoryDesks
 pub mod Stacking
 pub mod Sums

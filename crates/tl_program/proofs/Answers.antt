@@ -8,10 +8,10 @@ use Rattle.std.proofs.lemmas.Slice.Zip.{AllZip-long}
 use Rattle.tl_base.specs.declared.style.Style.TheVariants.{Plain}
 use Rattle.tl_text.specs.declared.paragraph.Atom.{Atom}
 use Rattle.tl_text.specs.Cuttings.{joined}
-use Rattle.tl_form.specs.declared.layout.Layout.{Layout}
-use Rattle.tl_form.specs.Layout.{total_width, total_height, Fits}
-use Rattle.tl_form.specs.Least.{IsLeastWidth}
-use Rattle.tl_form.specs.TextPage.{IsTextPage}
+use Rattle.tl_program.specs.Table.{Layout}
+use Rattle.tl_program.specs.Layout.{total_width, total_height, Fits}
+use Rattle.tl_program.specs.Least.{IsLeastWidth}
+use Rattle.tl_program.specs.TextPage.{IsTextPage}
 use Rattle.tl_program.specs.Answer.{page_summary, narrow_summary, IsLowestPage, IsTooNarrowPage}
 use Rattle.tl_program.specs.OneColumn.{IsOneColumn}
 use Rattle.tl_program.specs.Column.{paragraph_of, column_of, column_layout}

@@ -7,11 +7,11 @@ use Rattle.tl_base.specs.declared.style.Style.TheVariants.{Plain}
 use Rattle.tl_text.specs.declared.paragraph.Atom.{Atom}
 use Rattle.tl_text.specs.Cuttings.{joined, LeastLines}
 use Rattle.tl_text.proofs.Paragraphs.{HoldsIn-wider}
-use Rattle.tl_form.specs.declared.layout.Layout.{Layout}
+use Rattle.tl_program.specs.Table.{Layout}
 use Rattle.tl_problem.specs.Sizes.{room, total, position}
-use Rattle.tl_form.specs.Layout.{total_height, HoldsCell, Fits}
-use Rattle.tl_form.specs.Least.{IsLeastHeight}
-use Rattle.tl_form.specs.Tight.{NeedsNoMore, IsTight}
+use Rattle.tl_program.specs.Layout.{total_height, HoldsCell, Fits}
+use Rattle.tl_program.specs.Least.{IsLeastHeight}
+use Rattle.tl_program.specs.Tight.{NeedsNoMore, IsTight}
 use Rattle.tl_program.specs.Column.{cells_from, column_of, column_layout}
 use Rattle.tl_program.specs.ColumnSizes.{FitsRow, RowNeeds}
 use Rattle.tl_program.proofs.ColumnRooms.{column_room, row_fits, rows_are_held, held_rows_fit, needs_are_least, total-plain}

@@ -9,9 +9,9 @@ use Rattle.tl_base.specs.declared.style.Style.TheVariants.{Plain}
 use Rattle.tl_text.specs.declared.paragraph.Atom.{Atom}
 use Rattle.tl_text.specs.Cuttings.{joined}
 use Rattle.tl_text.proofs.Paragraphs.{HoldsIn-wider}
-use Rattle.tl_form.specs.declared.layout.Layout.{Layout}
+use Rattle.tl_program.specs.Table.{Layout}
 use Rattle.tl_problem.specs.Sizes.{room, total}
-use Rattle.tl_form.specs.Layout.{FitsBlock, FitBlocks, HoldsCell}
+use Rattle.tl_program.specs.Layout.{FitsBlock, FitBlocks, HoldsCell}
 use Rattle.tl_program.specs.Column.{cells_from}
 use Rattle.tl_program.specs.ColumnSizes.{FitsRow, RowNeeds}
 
