@@ -5,3 +5,4 @@ pub mod Nogoods
 pub mod Implied
 pub mod Lines
 pub mod Worked
+pub mod Counting
