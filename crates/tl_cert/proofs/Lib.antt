@@ -1,1 +1,3 @@
 pub mod reading
+pub mod LogLaws
+pub mod TraceLaws
