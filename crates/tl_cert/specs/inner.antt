@@ -1,1 +1,3 @@
 pub mod reading
+pub mod Areas
+pub mod CertReading

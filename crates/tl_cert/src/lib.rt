@@ -4,6 +4,7 @@
 //! contract: `write` and `read` are the certificate's text, both ways.
 #![tactic(auto)]
 
+mod areas;
 mod certificate;
 mod error;
 mod limits;
@@ -16,7 +17,7 @@ mod trace;
 pub use certificate::{Certificate, Claim};
 pub use error::CertError;
 pub use limits::{
-    MAX_BOUNDS, MAX_CLASS, MAX_FIRES, MAX_INNER_TABLE, MAX_LINE, MAX_SECTIONS, MAX_SPAN, MAX_ZONE,
+    MAX_BOUNDS, MAX_CLASS, MAX_FIRES, MAX_LINE, MAX_SECTIONS, MAX_SPAN, MAX_TABLE, MAX_ZONE,
 };
 pub use log::{Bound, End, Log, LogLine, Nogood, Side};
 pub use section::Section;

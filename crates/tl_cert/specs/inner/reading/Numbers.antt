@@ -1,7 +1,7 @@
 -- No public clause cites this file. The reading of a number and of the character that ends it.
 use Rattle.std.specs.Prelude.{ℕ, suc, ◌+◌, ◌*◌, ◌-◌, nat_le, Bool, true, false, ◌&&◌, ◌==◌, List, [], ◌∷◌, length, if◌then◌else◌}
 use Rattle.std.specs.Char.{is_ascii_digit}
-use Rattle.tl_cert.specs.inner.reading.Readings.{Answer, got, wrong, outside, Reading, begins}
+use Rattle.tl_cert.specs.inner.reading.Readings.{Answer, got, wrong, outside, Reading, ◌>>=◌, give, begins}
 
 -- the number that digits go on with from this one, and what follows the digits
 abbrev pub read_run : ℕ → List ℕ → ℕ × List ℕ
@@ -32,3 +32,7 @@ number_at low high possible allowed (c ∷ text) =
     then (if c == 48 then zero_ended low high possible allowed text
         else (let run = read_run (c - 48) text in run_ended low high possible allowed (suc (length text)) (run.0) (run.1)))
     else wrong (suc (length text))
+
+-- a number that this character ends
+unfoldable pub field_at : (low high end : ℕ) → Reading ℕ
+field_at low high end = number_at low high (λ n. true) (λ n c. c == end) >>= λ x. give (x.0)
