@@ -10,3 +10,4 @@ pub mod NumberReading
 pub mod Same
 pub mod ListExact
 pub mod Unlimited
+pub mod Parts

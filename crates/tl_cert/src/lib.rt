@@ -7,8 +7,10 @@
 mod areas;
 mod certificate;
 mod error;
+mod follow;
 mod limits;
 mod log;
+mod reader;
 mod section;
 #[cfg(test)]
 mod tests;

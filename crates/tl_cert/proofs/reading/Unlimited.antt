@@ -2,7 +2,7 @@
 use Rattle.std.proofs.Common.{◌≡◌, ℕ, zero, suc, ◌+◌, ◌≤◌, ◌<◌, List, [], ◌∷◌, ◌++◌, length, refl, sym, ap, subst, ◌∙◌, arith}
 use Rattle.std.proofs.lemmas.List.{length-append}
 use Rattle.tl_cert.specs.Pieces.{Piece, number, spell, numeral, AllWithin}
-use Rattle.tl_cert.specs.inner.reading.Readings.{Answer, got, wrong, outside, Reading, then_read, ◌>>=◌, give, either}
+use Rattle.tl_cert.specs.inner.reading.Readings.{Answer, got, wrong, outside, Reading, then_read, followed, ◌>>=◌, give, either}
 use Rattle.tl_cert.specs.inner.reading.Lists.{Turn, halt, go, look, by_turn, ListReading, Listing, listing, stopping, list_at, all_at}
 use Rattle.tl_cert.proofs.reading.Spellings.{spell-append}
 use Rattle.tl_cert.proofs.reading.Exact.{SameStart, Stuck, Outside, Takes, Exact}
@@ -49,7 +49,7 @@ module _ {S A V E : Type 0} (list : ListReading S A V E) (form : ListForm S A V 
   LessFuelSame (suc k) (suc j) = FuelSame k j
 
   items_same : (k j : ℕ) (less : LessFuelSame k j) (s : S) (text : List ℕ) (x : Answer A) → length text ≤ k → length text ≤ j → list.item k s text ≡ x → items k s x ≡ items j s x
-  unfolding ◌>>=◌
+  unfolding followed
   items_same k j less s text (wrong left) hk hj is = refl
   items_same k j less s text (outside left) hk hj is = refl
   items_same zero j less s text (got a rest) hk hj is = absurd (omega (arith, unlimited.shorter zero s text a rest is))
@@ -59,7 +59,7 @@ module _ {S A V E : Type 0} (list : ListReading S A V E) (form : ListForm S A V 
       ap (λ (x : Answer (Listing V E)). then_read x (λ y. give (listing (list.view a ∷ y.0) (y.1)))) (less (list.next s a) rest (omega arith) (omega arith))
 
   fuel_step : (k j : ℕ) (less : LessFuelSame k j) → FuelSame k j
-  unfolding list_at ◌>>=◌
+  unfolding list_at followed
   fuel_step k j less s text hk hj =
       let goes_k : Reading (Listing V E) = list.item k s >>= λ a. (list_at list k (list.next s a) >>= λ x. give (listing (list.view a ∷ x.0) (x.1))) in
       let goes_j : Reading (Listing V E) = list.item j s >>= λ a. (list_at list j (list.next s a) >>= λ x. give (listing (list.view a ∷ x.0) (x.1))) in

@@ -36,3 +36,18 @@ number_at low high possible allowed (c ∷ text) =
 -- a number that this character ends
 unfoldable pub field_at : (low high end : ℕ) → Reading ℕ
 field_at low high end = number_at low high (λ n. true) (λ n c. c == end) >>= λ x. give (x.0)
+
+-- a whole number up to `high` that may stand here, before what ends it
+unfoldable pub run_at : ℕ → (ℕ → Bool) → Reading ℕ
+run_at high possible [] = wrong 0
+run_at high possible (c ∷ text) =
+    if is_ascii_digit c
+    then (if c == 48
+        then (if possible 0 then (if begins is_ascii_digit text then wrong (length text) else got 0 text) else wrong (suc (length text)))
+        else (let run = read_run (c - 48) text in
+          if possible (run.0) then (if nat_le (run.0) high then got (run.0) (run.1) else outside (suc (length text))) else wrong (length run.1)))
+    else wrong (suc (length text))
+
+-- the number's lower limit, and the character that ends it
+abbrev pub least_ended : ℕ → (ℕ → ℕ → Bool) → ℕ → ℕ → Reading (ℕ × ℕ)
+least_ended low allowed left n rest = if nat_le low n then ended allowed n rest else outside left
