@@ -11,3 +11,4 @@ pub mod Same
 pub mod ListExact
 pub mod Unlimited
 pub mod Parts
+pub mod Loops

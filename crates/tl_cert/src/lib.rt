@@ -10,6 +10,7 @@ mod error;
 mod follow;
 mod limits;
 mod log;
+mod log_text;
 mod reader;
 mod section;
 #[cfg(test)]
