@@ -1,7 +1,7 @@
 //! Where log lines that end by `area` may stand, and where one has to.
 
 ghost use Rattle.std.specs.Prelude.{◌≡◌};
-ghost use Rattle.tl_cert.specs.inner.Areas.{before_others, after};
+ghost use Rattle.tl_cert.specs.inner.Areas.{before_others, for_part, after};
 
 /// Whether lines that are still to be read may end by `area`. The text of a certificate is of
 /// version 2 exactly where one does.
@@ -17,12 +17,23 @@ pub(crate) enum Areas {
 
 impl Areas {
     /// What is asked of a part that others follow: what is owed may come with them.
-    pub(crate) fn before_others(self) -> Areas
+    fn before_others(self) -> Areas
         ensures { result ≡ before_others self }
     {
         match self {
             Areas::Never => Areas::Never,
             Areas::Free | Areas::Owed => Areas::Free,
+        }
+    }
+
+    /// What is asked of a part that so many others may follow.
+    pub(crate) fn for_part(self, others: usize) -> Areas
+        ensures { result ≡ for_part others self }
+    {
+        if others == 0 {
+            self
+        } else {
+            self.before_others()
         }
     }
 

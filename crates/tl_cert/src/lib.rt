@@ -10,7 +10,10 @@ mod error;
 mod follow;
 mod limits;
 mod log;
+mod chain_text;
+mod certificate_text;
 mod log_text;
+mod section_text;
 mod reader;
 mod section;
 #[cfg(test)]

@@ -1,9 +1,10 @@
 //! Reads the lines of a log and the cuts of a trace.
 
-ghost use Rattle.std.specs.Prelude.{◌≡◌, ◌≤◌, ℕ, length, IfSome};
-ghost use Rattle.tl_cert.specs.declared.limits.TheConstants.{MAX_SPAN};
+ghost use Rattle.std.specs.Prelude.{◌≡◌, ◌≤◌, ℕ, length, IfSome, IfOk};
 ghost use Rattle.tl_cert.specs.inner.Gives.{Gives};
 ghost use Rattle.tl_cert.specs.inner.CertReading as read;
+ghost use Rattle.tl_cert.specs.Text as text;
+ghost use Rattle.tl_cert.specs.inner.reading.Lists.{listing};
 
 use crate::areas::Areas;
 use crate::follow::Follow;
@@ -58,7 +59,7 @@ impl<'a> Reader<'a> {
 
     /// The lines that are fired, and the end.
     fn fires(&mut self, alloc: Global, areas: Areas) -> Result<(List<u32>, End), Fault>
-        ensures { Gives (λ x. (x.0, x.1)) result self.new.rest.now (read.fires_at areas self.old.rest.now) }
+        ensures { Gives (λ x. listing x.0 x.1) result self.new.rest.now (read.fires_at areas self.old.rest.now) }
     {
         let mut fires = List::new(alloc);
         'fires: while fires.len() < MAX_FIRES && self.next_is(b'@') {
@@ -73,12 +74,29 @@ impl<'a> Reader<'a> {
     #[tactic(auto, unfolding(crate::specs::inner::CertReading::bound_at, crate::specs::inner::reading::Readings::followed, crate::specs::inner::reading::Readings::give))]
     fn bound(&mut self, before: Option<Bound>) -> Result<Bound, Fault>
         requires { IfSome before (λ bound. bound.span ≤ MAX_SPAN) }
-        ensures { Gives (λ x. x) result self.new.rest.now (read.bound_at before self.old.rest.now) }
+        ensures gives { Gives (λ x. x) result self.new.rest.now (read.bound_at before self.old.rest.now) }
+        ensures most { IfOk result (λ bound. bound.span ≤ MAX_SPAN) }
     {
         let (span, sign) = self.number(0, MAX_SPAN, Follow::Sign(before))?;
         let side = if sign == b'-' { Side::Most } else { Side::Least };
         let width = self.field(0, MAX_PAGE_WIDTH, b' ')?;
         Ok(Bound { span, side, width })
+    }
+
+    /// Bounds in order, the lines that are fired, and the end.
+    fn bounds(&mut self, alloc: Global, areas: Areas) -> Result<(List<Bound>, List<u32>, End), Fault>
+        ensures { Gives (λ x. listing x.0 (listing x.1 x.2)) result self.new.rest.now (read.bounds_at areas self.old.rest.now) }
+    {
+        let mut bounds = List::new(alloc);
+        let mut before = self.bound(None)?;
+        bounds.push(before)?;
+        'bounds: while bounds.len() < MAX_BOUNDS && self.next_is_digit() {
+            let bound = self.bound(Some(before))?;
+            bounds.push(bound)?;
+            before = bound;
+        }
+        let (fires, end) = self.fires(alloc, areas)?;
+        Ok((bounds, fires, end))
     }
 
     /// A line with the number of a zone.
@@ -96,6 +114,46 @@ impl<'a> Reader<'a> {
         })
     }
 
+    /// A line with bounds that are written out.
+    #[tactic(auto, unfolding(crate::specs::inner::reading::Readings::followed, crate::specs::inner::reading::Readings::give))]
+    fn bounds_line(&mut self, alloc: Global, areas: Areas) -> Result<LogLine, Fault>
+        ensures { Gives (λ x. x) result self.new.rest.now (read.bounds_line_at areas self.old.rest.now) }
+    {
+        let (bounds, fires, end) = self.bounds(alloc, areas)?;
+        Ok(LogLine {
+            nogood: Nogood::Bounds(bounds),
+            fires,
+            end,
+        })
+    }
+
+    /// One log line.
+    #[tactic(auto, unfolding(crate::specs::inner::CertReading::line_at, crate::specs::inner::reading::Readings::either))]
+    fn line(&mut self, alloc: Global, areas: Areas) -> Result<LogLine, Fault>
+        ensures { Gives (λ x. x) result self.new.rest.now (read.line_at areas self.old.rest.now) }
+    {
+        if self.next_is(b'z') {
+            self.zone_line(alloc, areas)
+        } else {
+            self.bounds_line(alloc, areas)
+        }
+    }
+
+    /// So many log lines.
+    pub(crate) fn lines(&mut self, alloc: Global, count: u32, areas: Areas) -> Result<Log, Fault>
+        ensures { Gives (λ x. listing x tt) result self.new.rest.now (read.lines_at count areas self.old.rest.now) }
+    {
+        let mut lines = List::new(alloc);
+        let mut asked = areas;
+        'lines: for number in 0..count {
+            let others = (count - 1 - number) as usize;
+            let line = self.line(alloc, asked.for_part(others))?;
+            asked = asked.after(is_area(line.end));
+            lines.push(line)?;
+        }
+        Ok(lines)
+    }
+
     /// One cut.
     #[tactic(auto, unfolding(crate::specs::inner::CertReading::cut_at, crate::specs::inner::reading::Readings::followed, crate::specs::inner::reading::Readings::give))]
     fn cut(&mut self) -> Result<CutAt, Fault>
@@ -109,8 +167,8 @@ impl<'a> Reader<'a> {
     }
 
     /// So many cuts.
-    fn cuts(&mut self, alloc: Global, count: u32) -> Result<Trace, Fault>
-        ensures { Gives (λ x. x) result self.new.rest.now (read.cuts_at count self.old.rest.now) }
+    pub(crate) fn cuts(&mut self, alloc: Global, count: u32) -> Result<Trace, Fault>
+        ensures { Gives (λ x. listing x tt) result self.new.rest.now (read.cuts_at count self.old.rest.now) }
     {
         let mut cuts = List::new(alloc);
         'cuts: for _ in 0..count {
@@ -119,4 +177,11 @@ impl<'a> Reader<'a> {
         }
         Ok(cuts)
     }
+}
+
+/// Whether a line ends by `area`.
+pub(crate) fn is_area(end: End) -> bool
+    ensures { result ≡ text.is_area end }
+{
+    matches!(end, End::Area)
 }

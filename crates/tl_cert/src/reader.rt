@@ -1,6 +1,6 @@
 //! A text from front to back, as the bytes that are still to read. Each byte is read once.
 
-ghost use Rattle.std.specs.Prelude.{◌≡◌, ◌<◌, ◌≤◌, ℕ, true, ◌==◌, ◌^◌, [], ◌∷◌, length, IfSome, IfNone, alloc_error};
+ghost use Rattle.std.specs.Prelude.{◌≡◌, ◌<◌, ◌≤◌, ℕ, true, ◌==◌, ◌^◌, [], ◌∷◌, length, IfOk, IfSome, IfNone, alloc_error};
 ghost use Rattle.std.specs.Char.{is_ascii_digit};
 ghost use Rattle.tl_cert.specs.declared.reader.Fault.TheVariants.{Memory};
 ghost use Rattle.tl_cert.specs.inner.Gives.{Gives, Fails};
@@ -115,7 +115,8 @@ impl<'a> Reader<'a> {
     #[tactic(auto, unfolding(crate::specs::inner::reading::Numbers::run_at))]
     fn whole_number(&mut self, high: u32, follow: Follow) -> Result<u32, Fault>
         requires { (n : ℕ) → high < n → follows.may_be follow n ≡ true }
-        ensures { Gives (λ x. x) result self.new.rest.now (run_at high (follows.may_be follow) self.old.rest.now) }
+        ensures gives { Gives (λ x. x) result self.new.rest.now (run_at high (follows.may_be follow) self.old.rest.now) }
+        ensures most { IfOk result (λ n. n ≤ high) }
     {
         let start = self.rest.len();
         match self.first() {
@@ -151,8 +152,9 @@ impl<'a> Reader<'a> {
         follow: Follow,
     ) -> Result<(u32, u8), Fault>
         requires { (n : ℕ) → high < n → follows.may_be follow n ≡ true }
-        ensures { Gives (λ x. (x.0, x.1)) result self.new.rest.now
+        ensures gives { Gives (λ x. (x.0, x.1)) result self.new.rest.now
             (number_at low high (follows.may_be follow) (follows.may_end follow) self.old.rest.now) }
+        ensures most { IfOk result (λ x. x.0 ≤ high) }
     {
         let start = self.rest.len();
         let number = self.whole_number(high, follow)?;
@@ -171,7 +173,8 @@ impl<'a> Reader<'a> {
     /// A number within its range that this byte ends.
     #[tactic(auto, unfolding(crate::specs::inner::reading::Numbers::field_at, crate::specs::inner::reading::Readings::followed, crate::specs::inner::reading::Readings::give))]
     pub(crate) fn field(&mut self, low: u32, high: u32, end: u8) -> Result<u32, Fault>
-        ensures { Gives (λ x. x) result self.new.rest.now (field_at low high end self.old.rest.now) }
+        ensures gives { Gives (λ x. x) result self.new.rest.now (field_at low high end self.old.rest.now) }
+        ensures most { IfOk result (λ n. n ≤ high) }
     {
         let (number, _) = self.number(low, high, Follow::Byte(end))?;
         Ok(number)

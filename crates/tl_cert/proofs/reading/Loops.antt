@@ -5,7 +5,7 @@ use Rattle.tl_cert.specs.declared.reader.Fault.{Fault}
 use Rattle.tl_cert.specs.declared.reader.Fault.TheVariants.{Memory, Wrong, Outside}
 use Rattle.tl_cert.specs.inner.Gives.{Fails}
 use Rattle.tl_cert.specs.inner.reading.Readings.{Answer, got, wrong, outside, Reading, then_read, followed, ◌>>=◌, give, begins, either}
-use Rattle.tl_cert.specs.inner.reading.Lists.{Turn, halt, go, look, by_turn, ListReading, Listing, listing, stopping, list_at}
+use Rattle.tl_cert.specs.inner.reading.Lists.{Turn, halt, go, look, by_turn, comes, ListReading, Listing, listing, stopping, list_at}
 
 -- items that were read before the others
 abbrev pub prepend : {V E : Type 0} → List V → Answer (Listing V E) → Answer (Listing V E)
@@ -13,16 +13,14 @@ prepend front (got x rest) = got (listing (front ++ x.0) (x.1)) rest
 prepend front (wrong left) = wrong left
 prepend front (outside left) = outside left
 
--- whether an item comes
-abbrev pub comes : Turn → List ℕ → Bool
-comes halt text = false
-comes go text = true
-comes (look test) text = begins test text
-
 -- nothing comes, for want of room or by the turn
 abbrev pub Stops : {S A V E : Type 0} → ListReading S A V E → ℕ → S → List ℕ → Type 0
 Stops list zero s text = Unit {0}
 Stops list (suc k) s text = comes (list.turn k s) text ≡ false
+
+pub stops_by : {S A V E : Type 0} (list : ListReading S A V E) (k : ℕ) (s : S) (text : List ℕ) → ((j : ℕ) → k ≡ suc j → comes (list.turn j s) text ≡ false) → Stops list k s text
+stops_by list zero s text none = tt
+stops_by list (suc k) s text none = none k refl
 
 module _ {S A V E : Type 0} (list : ListReading S A V E) where
 
@@ -60,10 +58,11 @@ module _ {S A V E : Type 0} (list : ListReading S A V E) where
   pushed front v (outside left) = refl
 
   -- one item more
-  pub goes_on : (front : List V) (k : ℕ) (s : S) (text : List ℕ) (a : A) (rest : List ℕ) (total : Answer (Listing V E)) → comes (list.turn k s) text ≡ true
-      → list.item k s text ≡ got a rest → Whole front (suc k) s text total → Whole (front ++ list.view a ∷ []) k (list.next s a) rest total
+  pub goes_on : (front : List V) (room k : ℕ) (s : S) (text : List ℕ) (a : A) (rest : List ℕ) (total : Answer (Listing V E)) → room ≡ suc k → comes (list.turn k s) text ≡ true
+      → list.item k s text ≡ got a rest → Whole front room s text total → Whole (front ++ list.view a ∷ []) k (list.next s a) rest total
   unfolding followed
-  goes_on front k s text a rest total come is whole =
+  goes_on front room k s text a rest total room-is come is all =
+      let whole : Whole front (suc k) s text total = let P : ℕ → Type 0 = λ j. Whole front j s text total in subst P room-is all in
       sym (pushed front (list.view a) (list_at list k (list.next s a) rest)) ∙ ap (prepend front) (sym (item_so k s text come ∙ ap (items k s) is)) ∙ whole
 
   failed : (f : Fault) (front : List V) (k : ℕ) (s : S) (x : Answer A) → Fails f x → Fails f (prepend front (items k s x))
@@ -72,9 +71,10 @@ module _ {S A V E : Type 0} (list : ListReading S A V E) where
   failed (Outside left) front k s x is = ap (λ (y : Answer A). prepend front (items k s y)) is
 
   -- an item at which the reading fails
-  pub fails_on : (f : Fault) (front : List V) (k : ℕ) (s : S) (text : List ℕ) (total : Answer (Listing V E)) → comes (list.turn k s) text ≡ true
-      → Fails f (list.item k s text) → Whole front (suc k) s text total → Fails f total
-  fails_on f front k s text total come is whole =
+  pub fails_on : (f : Fault) (front : List V) (room k : ℕ) (s : S) (text : List ℕ) (total : Answer (Listing V E)) → room ≡ suc k → comes (list.turn k s) text ≡ true
+      → Fails f (list.item k s text) → Whole front room s text total → Fails f total
+  fails_on f front room k s text total room-is come is all =
+      let whole : Whole front (suc k) s text total = let P : ℕ → Type 0 = λ j. Whole front j s text total in subst P room-is all in
       let P : Answer (Listing V E) → Type 0 = Fails f in
       subst P (ap (prepend front) (sym (item_so k s text come)) ∙ whole) (failed f front k s (list.item k s text) is)
 

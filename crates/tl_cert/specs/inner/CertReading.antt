@@ -23,7 +23,7 @@ use Rattle.tl_cert.specs.declared.areas.Areas.TheVariants.{Never, Free, Owed}
 use Rattle.tl_cert.specs.inner.Areas.{for_part, after}
 use Rattle.tl_cert.specs.inner.reading.Readings.{Reading, ◌>>=◌, give, word_at, either}
 use Rattle.tl_cert.specs.inner.reading.Numbers.{number_at, field_at}
-use Rattle.tl_cert.specs.inner.reading.Lists.{Turn, halt, go, look, ListReading, Listing, list_at, all_at}
+use Rattle.tl_cert.specs.inner.reading.Lists.{Turn, halt, go, look, ListReading, Listing, listing, list_at, all_at}
 use Rattle.tl_cert.specs.Text.{space, line_feed, side_sign, is_area, log_has_area}
 
 -- ---- the end of a log line
@@ -50,7 +50,7 @@ fire_at = word_at (codes "@") >>= λ _. field_at 0 MAX_LINE space
 abbrev pub fires_reading : Areas → ListReading (Unit {0}) ℕ ℕ End
 fires_reading areas = record { turn = λ k s. look (λ c. c == 64); item = λ k s. fire_at; next = λ s n. s; view = λ n. n; stop = λ s. end_at areas }
 
-unfoldable pub fires_at : Areas → Reading (Listing ℕ End)
+abbrev pub fires_at : Areas → Reading (Listing ℕ End)
 fires_at areas = list_at (fires_reading areas) MAX_FIRES tt
 
 -- ---- bounds, in order
@@ -84,7 +84,7 @@ bounds_reading areas = record {
     turn = λ k before. bounds_turn before; item = λ k before. bound_at before; next = λ before bound. Some bound; view = λ bound. bound; stop = λ before. fires_at areas;
   }
 
-unfoldable pub bounds_at : Areas → Reading (Listing Bound (Listing ℕ End))
+abbrev pub bounds_at : Areas → Reading (Listing Bound (Listing ℕ End))
 bounds_at areas = list_at (bounds_reading areas) MAX_BOUNDS None
 
 -- ---- log lines
@@ -104,8 +104,8 @@ lines_reading = record {
     turn = λ k areas. go; item = λ k areas. line_at (for_part k areas); next = λ areas line. after areas (is_area line.end); view = λ line. line; stop = λ areas. give tt;
   }
 
-unfoldable pub lines_at : ℕ → Areas → Reading (List LogLine)
-lines_at count areas = list_at lines_reading count areas >>= λ x. give (x.0)
+abbrev pub lines_at : ℕ → Areas → Reading (Listing LogLine (Unit {0}))
+lines_at count areas = list_at lines_reading count areas
 
 -- ---- cuts
 
@@ -116,8 +116,8 @@ cut_at = word_at (codes "cut ") >>= λ _. (field_at 0 MAX_ZONE space >>= λ zone
 abbrev pub cuts_reading : ListReading (Unit {0}) CutAt CutAt (Unit {0})
 cuts_reading = record { turn = λ k s. go; item = λ k s. cut_at; next = λ s cut. s; view = λ cut. cut; stop = λ s. give tt }
 
-unfoldable pub cuts_at : ℕ → Reading (List CutAt)
-cuts_at count = list_at cuts_reading count tt >>= λ x. give (x.0)
+abbrev pub cuts_at : ℕ → Reading (Listing CutAt (Unit {0}))
+cuts_at count = list_at cuts_reading count tt
 
 -- ---- widths
 
@@ -136,11 +136,12 @@ more_turn false = halt
 abbrev pub widths_reading : ListReading Bool (ℕ × Bool) ℕ (Unit {0})
 widths_reading = record { turn = λ k more. more_turn more; item = λ k more. width_at (nat_lt 0 k); next = λ more a. a.1; view = λ a. a.0; stop = λ more. give tt }
 
-abbrev pub some_widths_at : Reading (List ℕ)
-some_widths_at = word_at (codes " ") >>= λ _. (list_at widths_reading MAX_COLUMNS true >>= λ x. give (x.0))
+abbrev pub some_widths_at : Reading (Listing ℕ (Unit {0}))
+some_widths_at = list_at widths_reading MAX_COLUMNS true
 
-unfoldable pub widths_at : Reading (List ℕ)
-widths_at = word_at (codes "widths") >>= λ _. either (λ c. c == space) some_widths_at (word_at (codes "\n") >>= λ _. give [])
+unfoldable pub widths_at : Reading (Listing ℕ (Unit {0}))
+widths_at = word_at (codes "widths") >>= λ _.
+    either (λ c. c == space) (word_at (codes " ") >>= λ _. some_widths_at) (word_at (codes "\n") >>= λ _. give (listing [] tt))
 
 -- ---- sections
 
@@ -165,7 +166,7 @@ section_at areas =
     (widths_at >>= λ widths.
     (cuts_at cuts >>= λ trace.
     (lines_at lines areas >>= λ log.
-    give (record { table = table; width = width; height = height; lower = lower; widths = widths; trace = trace; log = log }))))))))))
+    give (record { table = table; width = width; height = height; lower = lower; widths = widths.0; trace = trace.0; log = log.0 }))))))))))
 
 -- whether a section has to come: where none was read, or a line with `area` is owed
 abbrev pub sections_turn : Bool → Areas → Turn
@@ -184,8 +185,8 @@ sections_reading = record {
     stop = λ s. word_at (codes "end\n");
   }
 
-unfoldable pub sections_at : Areas → Reading (List Section)
-sections_at areas = list_at sections_reading MAX_SECTIONS (true, areas) >>= λ x. give (x.0)
+abbrev pub sections_at : Areas → Reading (Listing Section (Unit {0}))
+sections_at areas = list_at sections_reading MAX_SECTIONS (true, areas)
 
 -- ---- chains
 
@@ -202,9 +203,12 @@ entry_at more = number_at 0 MAX_CELLS (λ n. true) (λ n c. c == 58 || ends_item
 abbrev pub entries_reading : ListReading Bool (Entry × Bool) Entry (Unit {0})
 entries_reading = record { turn = λ k more. more_turn more; item = λ k more. entry_at (nat_lt 0 k); next = λ more a. a.1; view = λ a. a.0; stop = λ more. give tt }
 
+abbrev pub entries_at : Reading (Listing Entry (Unit {0}))
+entries_at = all_at entries_reading true
+
 unfoldable pub chain_at : Reading Chain
 chain_at = word_at (codes "chain ") >>= λ _. (field_at 0 MAX_TABLE space >>= λ table.
-    (all_at entries_reading true >>= λ x. give (record { table = table; entries = x.0 })))
+    (entries_at >>= λ x. give (record { table = table; entries = x.0 })))
 
 abbrev pub chains_turn : Bool → Turn
 chains_turn true = go
@@ -214,8 +218,8 @@ chains_turn false = look (λ c. c == 99)
 abbrev pub chains_reading : ListReading Bool Chain Chain (Unit {0})
 chains_reading = record { turn = λ k first. chains_turn first; item = λ k first. chain_at; next = λ first chain. false; view = λ chain. chain; stop = λ first. word_at (codes "end\n") }
 
-unfoldable pub chains_at : Reading (List Chain)
-chains_at = all_at chains_reading true >>= λ x. give (x.0)
+abbrev pub chains_at : Reading (Listing Chain (Unit {0}))
+chains_at = all_at chains_reading true
 
 -- ---- the whole
 
@@ -249,11 +253,11 @@ areas_of false = Never
 
 abbrev pub proof_at : Bool → ℕ → Style → ℕ → Claim → Reading Certificate
 proof_at has_area width style budget (Lowest height) =
-    sections_at (areas_of has_area) >>= λ sections. give (record { width = width; style = style; budget = budget; claim = Lowest height; chains = []; sections = sections })
+    sections_at (areas_of has_area) >>= λ sections. give (record { width = width; style = style; budget = budget; claim = Lowest height; chains = []; sections = sections.0 })
 proof_at has_area width style budget (Bounded height lower) =
-    sections_at (areas_of has_area) >>= λ sections. give (record { width = width; style = style; budget = budget; claim = Bounded height lower; chains = []; sections = sections })
+    sections_at (areas_of has_area) >>= λ sections. give (record { width = width; style = style; budget = budget; claim = Bounded height lower; chains = []; sections = sections.0 })
 proof_at has_area width style budget (Narrow least) =
-    chains_at >>= λ chains. give (record { width = width; style = style; budget = budget; claim = Narrow least; chains = chains; sections = [] })
+    chains_at >>= λ chains. give (record { width = width; style = style; budget = budget; claim = Narrow least; chains = chains.0; sections = [] })
 
 unfoldable pub certificate_at : Reading Certificate
 certificate_at =

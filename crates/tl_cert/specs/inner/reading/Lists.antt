@@ -1,6 +1,6 @@
 -- No public clause cites this file. The reading of lists, item by item, up to what stops them.
-use Rattle.std.specs.Prelude.{ℕ, zero, suc, Bool, List, [], ◌∷◌, length}
-use Rattle.tl_cert.specs.inner.reading.Readings.{Answer, Reading, ◌>>=◌, give, either}
+use Rattle.std.specs.Prelude.{ℕ, zero, suc, Bool, true, false, List, [], ◌∷◌, length}
+use Rattle.tl_cert.specs.inner.reading.Readings.{Answer, Reading, ◌>>=◌, give, begins, either}
 
 -- Whether another item comes: it does not, it does, or the next character tells.
 pub data Turn : Type 0 where
@@ -12,6 +12,12 @@ abbrev pub by_turn : {C : Type 0} → Turn → Reading C → Reading C → Readi
 by_turn halt item stop = stop
 by_turn go item stop = item
 by_turn (look test) item stop = either test item stop
+
+-- whether an item comes
+abbrev pub comes : Turn → List ℕ → Bool
+comes halt text = false
+comes go text = true
+comes (look test) text = begins test text
 
 -- How a list is read: a state goes with it, and a number of items that may still follow the next one.
 pub record ListReading (S A V E : Type 0) : Type 0 where

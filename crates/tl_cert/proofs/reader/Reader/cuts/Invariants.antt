@@ -1,9 +1,0 @@
-use Rattle.std.proofs.Common.{◌≡◌, ◌≤◌, ◌-◌, length}
-use Rattle.tl_cert.specs.inner.CertReading.{cuts_reading}
-use Rattle.tl_cert.specs.inner.reading.Lists.{list_at}
-use Rattle.tl_cert.proofs.reading.Loops.{Whole}
-use Rattle.tl_cert.proofs.reader.Reader.cuts.Given as goal
-
--- the cuts so far and those that are left to read are all
-abbrev pub invariant-cuts : goal.invariant-cuts
-invariant-cuts l = Whole cuts_reading l.cuts (l.count - l.counter) tt l.self.rest.now (list_at cuts_reading l.count tt l.fn.self.rest.now)
