@@ -1,18 +1,18 @@
--- Greatest differences are reached: positions that stay under given heights and are otherwise as great as possible.
+-- Tightest bounds are reached: assignments that stay under given heights and are otherwise as great as possible.
 use Rattle.std.proofs.Common.{◌≡◌, ◌≢◌, ℕ, zero, suc, ◌+◌, ◌<◌, ◌≤◌, ℤ, pos, negsuc, ◌+ℤ◌, ◌≤ℤ◌, Option, Some, None, cond, eqb, refl, arith, inl, inr, ◌⊎◌, ⊎_elim, sym, subst}
 use Rattle.std.specs.Int.{int_min}
 use Rattle.std.proofs.lemmas.Int.{ints, clamps}
 use Rattle.std.proofs.lemmas.Bool.{cases_eq}
-use Rattle.tl_diff.specs.Bounds.{Bounds, bound_at, Meets, IsGreatest, HasNoGreatest}
-use Rattle.tl_diff.specs.Closed.{AtMost, IsClosed}
-use Rattle.tl_diff.proofs.AtMostLemmas.{Meets-from}
+use Rattle.tl_diff.specs.Bounds.{Bounds, bound_at, Satisfies, IsGreatest, HasNoGreatest}
+use Rattle.tl_diff.specs.inner.Closed.{AtMost, IsClosed}
+use Rattle.tl_diff.proofs.AtMostLemmas.{Satisfies-from}
 
 -- the lower of a height and a bound above a source
 abbrev pub lower : Option ℤ → ℤ → ℤ → ℤ
 lower None y e = e
 lower (Some c) y e = int_min e (y +ℤ c)
 
--- place p under the heights `top`: its own, and those of the first k places with their bounds to it
+-- variable p under the heights `top`: its own, and those of the first k variables with their bounds to it
 abbrev pub under : Bounds → (ℕ → ℤ) → ℕ → ℕ → ℤ
 under bounds top p zero = top p
 under bounds top p (suc k) = lower (bound_at bounds k p) (top k) (under bounds top p k)
@@ -46,7 +46,7 @@ module _ (bounds : Bounds) (top : ℕ → ℤ) where
       (λ apart. omega (arith, ints, lower_le (bound_at bounds k p) (top k) (under bounds top p k), under_le p q k c (omega arith) h))
       (cases_eq q k)
 
-  -- which height holds a place down
+  -- which height holds a variable down
   pub record HeldBy (p : ℕ) (e : ℤ) : Type 0 where
     pub source : ℕ
     pub by : ℤ
@@ -63,9 +63,9 @@ module _ (bounds : Bounds) (top : ℕ → ℤ) where
       (λ new. record { source = k; by = new.0; there = omega arith; bound = new.1.0; reached = new.1.1 })
       (lower_cases (bound_at bounds k p) (top k) (under bounds top p k))
 
-  -- these positions meet every bound
-  pub Meets-under : IsClosed bounds → Meets bounds (λ p. under bounds top p bounds.n)
-  Meets-under closed = Meets-from bounds (λ p. under bounds top p bounds.n) (λ p q t from to h.
+  -- this assignment satisfies every constraint
+  pub Satisfies-under : IsClosed bounds → Satisfies bounds (λ p. under bounds top p bounds.n)
+  Satisfies-under closed = Satisfies-from bounds (λ p. under bounds top p bounds.n) (λ p q t from to h.
       let held = under_held closed p bounds.n from (omega arith) in
       omega (arith, ints, held.reached, under_le q held.source bounds.n (held.by +ℤ t) held.there (closed.through held.source p q held.by t held.there from to held.bound h)))
 
@@ -75,7 +75,7 @@ past (pos n) = (n, (omega (arith, ints), omega (arith, ints)))
 past (negsuc n) = (suc n, (omega (arith, ints), omega (arith, ints)))
 
 module _ (bounds : Bounds) (closed : IsClosed bounds) (a b : ℕ) (first : a < bounds.n) (second : b < bounds.n) where
-  -- place a at 0, and all others far behind it
+  -- variable a at 0, and all others far above it
   abbrev far : ℕ → ℕ → ℤ
   far k q = cond (eqb q a) (pos 0) (pos k)
 
@@ -85,7 +85,7 @@ module _ (bounds : Bounds) (closed : IsClosed bounds) (a b : ℕ) (first : a < b
   far_other : (k q : ℕ) → q ≢ a → far k q ≡ pos k
   far_other k q e = grind arith
 
-  -- k is enough where it brings all ways to a, and to b less `target`, up to 0
+  -- k is enough where it brings all bounds to a, and to b less `target`, up to 0
   module _ (k : ℕ) (target : ℤ) (free : (c : ℤ) → AtMost (bound_at bounds a b) c → target ≤ℤ c)
       (to_a : (q : ℕ) (c : ℤ) → q < bounds.n → AtMost (bound_at bounds q a) c → pos 0 ≤ℤ (pos k +ℤ c))
       (to_b : (q : ℕ) (c : ℤ) → q < bounds.n → AtMost (bound_at bounds q b) c → target ≤ℤ (pos k +ℤ c)) where
@@ -105,17 +105,17 @@ module _ (bounds : Bounds) (closed : IsClosed bounds) (a b : ℕ) (first : a < b
         (λ apart. omega (arith, ints, held.reached, far_other k held.source apart, to_b held.source held.by held.there held.bound))
         (cases_eq held.source a)
 
-    reaches_by : (x : ℕ → ℤ) × (Meets bounds x × ((x a +ℤ target) ≤ℤ x b))
+    reaches_by : (x : ℕ → ℤ) × (Satisfies bounds x × ((x a +ℤ target) ≤ℤ x b))
     reaches_by = (
       (λ p. under bounds (far k) p bounds.n),
       (
-        Meets-under bounds (far k) closed,
+        Satisfies-under bounds (far k) closed,
         omega (arith, ints, a_up, b_up, far_here k a refl, under_le bounds (far k) a a bounds.n (pos 0) first (closed.own a first)),
       ),
     )
 
-  -- If no bound from a to b is below `target`, some positions have b so much behind a.
-  pub reaches : (target : ℤ) → ((c : ℤ) → AtMost (bound_at bounds a b) c → target ≤ℤ c) → (x : ℕ → ℤ) × (Meets bounds x × ((x a +ℤ target) ≤ℤ x b))
+  -- If no bound from a to b is below `target`, some assignment has `x_b >= x_a + target`.
+  pub reaches : (target : ℤ) → ((c : ℤ) → AtMost (bound_at bounds a b) c → target ≤ℤ c) → (x : ℕ → ℤ) × (Satisfies bounds x × ((x a +ℤ target) ≤ℤ x b))
   reaches target free =
       let i = past (under bounds (λ q. pos 0) a bounds.n) in
       let j = past (under bounds (λ q. pos 0) b bounds.n) in
@@ -124,14 +124,14 @@ module _ (bounds : Bounds) (closed : IsClosed bounds) (a b : ℕ) (first : a < b
       (λ q c there h. omega (arith, ints, i.1.0, under_le bounds (λ q. pos 0) a q bounds.n c there h))
       (λ q c there h. omega (arith, ints, j.1.0, l.1.1, under_le bounds (λ q. pos 0) b q bounds.n c there h))
 
-  -- a bound of a closed table is the greatest difference
+  -- a bound of a closed matrix is the greatest difference
   pub IsGreatest-closed : (c : ℤ) → bound_at bounds a b ≡ Some c → IsGreatest bounds a b c
   IsGreatest-closed c is =
-      let most = λ (x : ℕ → ℤ) (meets : Meets bounds x). meets a b first second c is in
+      let most = λ (x : ℕ → ℤ) (meets : Satisfies bounds x). meets a b first second c is in
       let r = reaches c (λ t h. rw is at h) in
-      record { never_more = most; reached = (r.0, (r.1.0, omega (arith, ints, most r.0 r.1.0, r.1.1))) }
+      record { implied = most; reached = (r.0, (r.1.0, omega (arith, ints, most r.0 r.1.0, r.1.1))) }
 
-  -- and where there is none, there is no greatest
+  -- where a closed matrix has no bound there is no greatest difference
   pub HasNoGreatest-closed : bound_at bounds a b ≡ None → HasNoGreatest bounds a b
   HasNoGreatest-closed is d =
       let r = reaches (d +ℤ pos 1) (λ c h. absurd (rw is at h)) in

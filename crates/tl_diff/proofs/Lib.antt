@@ -8,4 +8,4 @@ pub mod ImproveLemmas
 pub mod PathLaws
 pub mod PathLemmas
 pub mod RowLemmas
-pub mod TableLemmas
+pub mod InsertionLemmas

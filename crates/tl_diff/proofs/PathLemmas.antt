@@ -5,7 +5,7 @@ use Rattle.std.proofs.lemmas.List.Sums.{sum_by_push, sum_by_more, sum_by-cons}
 use Rattle.std.proofs.lemmas.Bool.{cases_eq, cases_lt}
 use Rattle.tl_diff.specs.declared.paths.Arc.{Arc}
 use Rattle.tl_diff.specs.Paths.{arc_at, IsPath, path_weight, IsHeaviest, total_weight, LeadForward, InOrder}
-use Rattle.tl_diff.specs.Relaxing.{IsRelaxed}
+use Rattle.tl_diff.specs.inner.Relaxing.{IsRelaxed}
 
 -- ---- paths
 

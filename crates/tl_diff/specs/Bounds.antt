@@ -1,66 +1,71 @@
--- Difference bounds between places, and the positions that meet them.
+-- Difference constraints, the assignments that satisfy them, and the tightest bound between two variables.
 --
--- Positions give each place a whole number of any sign. A bound from place a to place b says that b lies at most `most`
--- behind a: `x_b - x_a <= most`; a negative one says that b lies that much before a, or more. Such systems are known as
--- difference constraints. All that is said here is said of every positions that meet the bounds.
+-- An assignment gives each variable a whole number of any sign. A constraint from variable a to variable b says
+-- `x_b <= x_a + m`. Such systems are known as difference constraints; a matrix with the tightest bound for each pair is a
+-- closed difference bound matrix. All that is said here is said of every assignment that satisfies the constraints.
 use Rattle.std.specs.Prelude.{◌≡◌, ℕ, ◌+◌, ◌*◌, ◌<◌, ℤ, pos, ◌+ℤ◌, neg_ℤ, ◌≤ℤ◌, ◌<ℤ◌, Option, None, List, get_or}
 use Rattle.std.specs.Option.{ForSome}
+use Rattle.tl_diff.specs.declared.matrix.TheConstants.{MAX_BOUND, MAX_VARIABLES}
 
--- The bounds between n places, row by row: number a * n + b is the bound from a to b, where there is one.
+-- The constraints between n variables, row by row: number a * n + b is the m of `x_b <= x_a + m`, where there is one.
 pub record Bounds : Type 0 where
   pub n : ℕ
   pub rows : List (Option ℤ)
 
--- the bounds between n places that these rows have
-abbrev pub table : ℕ → List (Option ℤ) → Bounds
-table n rows = record { n = n; rows = rows }
+-- the constraints between n variables that these rows have
+abbrev pub bounds_of : ℕ → List (Option ℤ) → Bounds
+bounds_of n rows = record { n = n; rows = rows }
 
--- the bound from place a to place b
+-- the m of the constraint `x_b <= x_a + m`
 abbrev pub bound_at : Bounds → ℕ → ℕ → Option ℤ
 bound_at bounds a b = get_or bounds.rows (a * bounds.n + b) None
 
--- place b lies at most `most` behind place a
+-- the assignment has `x_b <= x_a + m`
 abbrev pub IsWithin : (ℕ → ℤ) → ℕ → ℕ → ℤ → Type 0
-IsWithin x a b most = x b ≤ℤ (x a +ℤ most)
+IsWithin x a b m = x b ≤ℤ (x a +ℤ m)
 
--- the positions meet every bound
-abbrev pub Meets : Bounds → (ℕ → ℤ) → Type 0
-Meets bounds x = (a b : ℕ) → a < bounds.n → b < bounds.n → ForSome (bound_at bounds a b) (IsWithin x a b)
+-- the assignment satisfies every constraint
+abbrev pub Satisfies : Bounds → (ℕ → ℤ) → Type 0
+Satisfies bounds x = (a b : ℕ) → a < bounds.n → b < bounds.n → ForSome (bound_at bounds a b) (IsWithin x a b)
 
--- some positions meet every bound
-abbrev pub HavePositions : Bounds → Type 0
-HavePositions bounds = (x : ℕ → ℤ) × Meets bounds x
+-- some assignment satisfies every constraint
+abbrev pub IsSatisfiable : Bounds → Type 0
+IsSatisfiable bounds = (x : ℕ → ℤ) × Satisfies bounds x
 
--- the positions that meet the new bounds are those that met the old ones and have b at most `most` behind a
-pub record AddsBound (old new : Bounds) (a b : ℕ) (most : ℤ) : Type 0 where
-  pub places : new.n ≡ old.n
-  pub keeps : (x : ℕ → ℤ) → Meets new x → Meets old x
-  pub adds : (x : ℕ → ℤ) → Meets new x → IsWithin x a b most
-  pub all : (x : ℕ → ℤ) → Meets old x → IsWithin x a b most → Meets new x
+-- `x_b <= x_a + m` is implied: every assignment that satisfies the constraints has it
+abbrev pub Implied : Bounds → ℕ → ℕ → ℤ → Type 0
+Implied bounds a b m = (x : ℕ → ℤ) → Satisfies bounds x → IsWithin x a b m
 
--- `most` is the greatest difference from a to b over all positions: none have more, and some have it
-pub record IsGreatest (bounds : Bounds) (a b : ℕ) (most : ℤ) : Type 0 where
-  pub never_more : (x : ℕ → ℤ) → Meets bounds x → IsWithin x a b most
-  pub reached : (x : ℕ → ℤ) × (Meets bounds x × (x b ≡ x a +ℤ most))
+-- the assignments that satisfy the new constraints are those that satisfy the old ones and have `x_b <= x_a + m`
+pub record AddsBound (old new : Bounds) (a b : ℕ) (m : ℤ) : Type 0 where
+  pub variables : new.n ≡ old.n
+  pub keeps : (x : ℕ → ℤ) → Satisfies new x → Satisfies old x
+  pub adds : Implied new a b m
+  pub all : (x : ℕ → ℤ) → Satisfies old x → IsWithin x a b m → Satisfies new x
 
--- there is a greatest difference from a to b
+-- m is the greatest `x_b - x_a`: the bound is implied, and some assignment that satisfies the constraints reaches it
+pub record IsGreatest (bounds : Bounds) (a b : ℕ) (m : ℤ) : Type 0 where
+  pub implied : Implied bounds a b m
+  pub reached : (x : ℕ → ℤ) × (Satisfies bounds x × (x b ≡ x a +ℤ m))
+
+-- there is a greatest `x_b - x_a`
 abbrev pub HasGreatest : Bounds → ℕ → ℕ → Type 0
-HasGreatest bounds a b = (most : ℤ) × IsGreatest bounds a b most
+HasGreatest bounds a b = (m : ℤ) × IsGreatest bounds a b m
 
--- there is no greatest difference from a to b: for each number some positions have more
+-- there is no greatest `x_b - x_a`: for each number some assignment that satisfies the constraints has more
 abbrev pub HasNoGreatest : Bounds → ℕ → ℕ → Type 0
-HasNoGreatest bounds a b = (d : ℤ) → (x : ℕ → ℤ) × (Meets bounds x × ((x a +ℤ d) <ℤ x b))
+HasNoGreatest bounds a b = (m : ℤ) → (x : ℕ → ℤ) × (Satisfies bounds x × ((x a +ℤ m) <ℤ x b))
 
--- between -64000000 and 64000000, as each greatest difference between 64 places is
+-- as each tightest bound is: up to the greatest number of a constraint times the most variables, or as much below 0
 abbrev pub IsSmall : ℤ → Type 0
-IsSmall most = (neg_ℤ (pos 64000000) ≤ℤ most) × (most ≤ℤ pos 64000000)
+IsSmall m = (neg_ℤ (pos (MAX_BOUND * MAX_VARIABLES)) ≤ℤ m) × (m ≤ℤ pos (MAX_BOUND * MAX_VARIABLES))
 
--- the positions that a list gives
-abbrev pub positions_of : List ℤ → ℕ → ℤ
-positions_of xs k = get_or xs k (pos 0)
+-- the assignment that a list gives
+abbrev pub assignment_of : List ℤ → ℕ → ℤ
+assignment_of xs k = get_or xs k (pos 0)
 
--- of all positions with place 0 at 0 that meet the bounds, each of these is the least possible
+-- of all assignments with `x_0 = 0` that satisfy the constraints, this one has each variable as small as possible
 pub record IsLeast (bounds : Bounds) (x : ℕ → ℤ) : Type 0 where
   pub starts : x 0 ≡ pos 0
-  pub meets : Meets bounds x
-  pub least : (y : ℕ → ℤ) → Meets bounds y → y 0 ≡ pos 0 → (k : ℕ) → k < bounds.n → x k ≤ℤ y k
+  pub satisfies : Satisfies bounds x
+  pub least : (y : ℕ → ℤ) → Satisfies bounds y → y 0 ≡ pos 0 → (k : ℕ) → k < bounds.n → x k ≤ℤ y k

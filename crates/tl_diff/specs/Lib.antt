@@ -1,5 +1,4 @@
 pub mod Bounds
-pub mod Closed
+pub mod inner
 pub mod Marks
 pub mod Paths
-pub mod Relaxing

@@ -2,7 +2,7 @@
 
 ghost use Rattle.std.specs.Prelude.{◌≡◌, ℕ, ◌+◌, ◌<◌, ◌≤◌, ◌^◌, length, slice_index, IfOk};
 ghost use Rattle.tl_diff.specs.Paths.{IsHeaviest, IsPath, InOrder, LeadForward, path_weight, total_weight};
-ghost use Rattle.tl_diff.specs.Relaxing.{IsRelaxed};
+ghost use Rattle.tl_diff.specs.inner.Relaxing.{IsRelaxed};
 
 use std::alloc::{AllocError, Global};
 use tl_base::List;
@@ -19,7 +19,7 @@ pub struct Arc {
 }
 
 /// Fills `out[k]` with the greatest weight of a path from place 0 to place `k`, for each place up
-/// to `n`, and answers that of `n`. A path goes along arcs, and from a place to the next at no
+/// to `n`, and returns that of `n`. A path goes along arcs, and from a place to the next at no
 /// weight. It takes no memory and looks at each arc once.
 pub fn heaviest(n: u32, arcs: &[Arc], out: &mut [u32]) -> u32
     requires forward { LeadForward n arcs.now }
@@ -28,6 +28,7 @@ pub fn heaviest(n: u32, arcs: &[Arc], out: &mut [u32]) -> u32
     requires room { length out.old ≡ n + 1 }
     ensures each { (k : ℕ) → k ≤ n → IsHeaviest arcs.now k (slice_index out.new k) }
     ensures last { result ≡ slice_index out.new n }
+    ensures at_most { result ≤ total_weight arcs.now }
 {
     out.fill(0);
     let last = n as usize;
@@ -39,7 +40,7 @@ pub fn heaviest(n: u32, arcs: &[Arc], out: &mut [u32]) -> u32
 }
 
 /// Takes the arcs that begin at `place`, the first of which may be `next`, and goes on to the next
-/// place. Answers the number of the first arc that begins later.
+/// place. Returns the number of the first arc that begins later.
 fn relax(n: u32, place: usize, next: usize, arcs: &[Arc], out: &mut [u32]) -> usize
     requires there { place < n }
     requires forward { LeadForward n arcs.now }
@@ -59,8 +60,8 @@ fn relax(n: u32, place: usize, next: usize, arcs: &[Arc], out: &mut [u32]) -> us
     next
 }
 
-/// The numbers of the arcs of a heaviest path from place 0 to place `n`, in order. `out` is as
-/// `heaviest` left it for these arcs.
+/// The numbers of the arcs of a heaviest path from place 0 to place `n`, in order. `out` holds what
+/// `heaviest` filled in for these arcs.
 pub fn chain(alloc: Global, n: u32, arcs: &[Arc], out: &[u32]) -> Result<List<u32>, AllocError>
     requires forward { LeadForward n arcs.now }
     requires in_order { InOrder arcs.now }

@@ -1,8 +1,21 @@
 //! The problem that every search and the checker reason with: a grid of cells, each with the heights
 //! that it needs at its widths, on a page of some width. It knows no text and no tables. Its one
-//! contract: sizes, rooms and totals mean the same to all that lay out, search and check.
+//! contract: a zone's bound is the least total height by which no layout in the zone is lower.
 #![tactic(auto)]
 
+mod cell;
 mod chain;
+mod laws;
+mod placed;
+mod problem;
+mod zone;
 
+pub use cell::{Cell, Span};
 pub use chain::{Chain, Entry};
+pub use laws::{
+    area_bound_is_below_layouts, bound_is_below_layouts, bound_is_below_placements,
+    cuts_are_partitions, one_class_is_exact, tight_once, tight_raises_nothing, whole_has_all,
+};
+pub use placed::Placed;
+pub use problem::{MAX_COLUMNS, MAX_LINES, MAX_ROWS, MAX_WIDTH, Problem};
+pub use zone::{Range, Zone};

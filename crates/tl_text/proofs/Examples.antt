@@ -12,6 +12,8 @@ use Rattle.tl_text.specs.declared.paragraph.Atom.TheVariants.{Word, Glue, Break}
 use Rattle.tl_text.specs.Words.{words_of}
 use Rattle.tl_text.specs.Paragraph.{lined_pieces, has_leading_glue}
 use Rattle.tl_text.specs.Cuttings.{line_width, IsCutting, HoldsIn, FillsLines}
+use Rattle.tl_text.specs.Clusters.{units_of, by_clusters}
+use Rattle.unicode_segmentation.proofs.Computing.{unicode_segmentation}
 
 abbrev aa : Atom
 aa = Word (codes "aa")
@@ -77,3 +79,23 @@ no_leading_glue = refl
 
 leading_glue : has_leading_glue (ab ∷ Break ∷ c ∷ []) ≡ true
 leading_glue = refl
+
+-- ---- words between whose grapheme clusters a line may end
+
+-- `abc`; an accent belongs to its letter; two regional indicators are one flag, and a third stands alone
+letters : units_of (Word (codes "abc")) ≡ Word (codes "a") ∷ Glue (codes "b") ∷ Glue (codes "c") ∷ []
+unfolding unicode_segmentation
+letters = refl
+
+accents : units_of (Word (0x65 ∷ 0x301 ∷ 0x65 ∷ 0x301 ∷ [])) ≡ Word (0x65 ∷ 0x301 ∷ []) ∷ Glue (0x65 ∷ 0x301 ∷ []) ∷ []
+unfolding unicode_segmentation
+accents = refl
+
+flags : units_of (Word (0x1F1F7 ∷ 0x1F1FA ∷ 0x1F1F8 ∷ [])) ≡ Word (0x1F1F7 ∷ 0x1F1FA ∷ []) ∷ Glue (0x1F1F8 ∷ []) ∷ []
+unfolding unicode_segmentation
+flags = refl
+
+-- breaks stay, and so does a unit that goes on with a word
+rest_stays : by_clusters (Break ∷ aa ∷ c ∷ Break ∷ []) ≡ Break ∷ Word (codes "a") ∷ Glue (codes "a") ∷ c ∷ Break ∷ []
+unfolding unicode_segmentation
+rest_stays = refl

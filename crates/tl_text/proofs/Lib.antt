@@ -10,4 +10,5 @@ pub mod Rest
 pub mod Filled
 pub mod RangeSteps
 pub mod WordParagraphs
+pub mod ClusterLemmas
 pub mod Minimals

@@ -56,6 +56,14 @@ impl Para {
         }
     }
 
+    /// The paragraph of these atoms, which are known to be one.
+    pub(crate) fn of_units(atoms: List<Atom>) -> Para
+        requires { IsParagraph atoms }
+        ensures { result ≡ atoms }
+    {
+        Para { atoms }
+    }
+
     /// Lends the atoms, in order.
     pub fn atoms(&self) -> &[Atom]
         ensures atoms { result.now ≡ self.now }

@@ -1,17 +1,17 @@
-//! The kept table against bounds that are closed anew, and small cases counted by hand.
+//! A matrix against constraints that are closed anew, and small cases counted by hand.
 
 ghost use Rattle.std.specs.Prelude.{◌≡◌, ◌<◌, length};
-ghost use Rattle.tl_diff.specs.Bounds.{HavePositions};
+ghost use Rattle.tl_diff.specs.Bounds.{IsSatisfiable};
 
-use super::Matrix;
+use super::{MAX_MARKS, MAX_VARIABLES, Matrix};
 use std::process::Abort;
 use std::test::Fail;
 
-const PLACES: usize = 7;
+const VARIABLES: usize = 7;
 
 const MARKS: u32 = 4;
 
-/// A bound as it was given.
+/// The constraint `x_to <= x_from + most`, as it was given.
 #[derive(Clone, Copy)]
 struct Given {
     from: usize,
@@ -19,7 +19,7 @@ struct Given {
     most: i64,
 }
 
-/// The bounds given so far, and how many there were at each mark.
+/// The constraints given so far, and how many there were at each mark.
 #[derive(Drop)]
 struct History {
     given: Vec<Given>,
@@ -42,17 +42,17 @@ impl Draws {
     }
 }
 
-/// The greatest difference from place `start` to each place: every bound is taken in turn, as often
-/// as there are places.
-fn closed_anew(given: &[Given], start: usize) -> [Option<i64>; PLACES] {
-    let mut far: [Option<i64>; PLACES] = [None; PLACES];
-    if start < PLACES {
+/// The tightest bound from variable `start` to each variable: every constraint is taken in turn, as
+/// often as there are variables.
+fn closed_anew(given: &[Given], start: usize) -> [Option<i64>; VARIABLES] {
+    let mut far: [Option<i64>; VARIABLES] = [None; VARIABLES];
+    if start < VARIABLES {
         far[start] = Some(0);
     }
-    for _ in 0..PLACES {
+    for _ in 0..VARIABLES {
         for bound in given {
-            if bound.from < PLACES
-                && bound.to < PLACES
+            if bound.from < VARIABLES
+                && bound.to < VARIABLES
                 && let Some(from) = far[bound.from]
             {
                 let through = from.saturating_add(bound.most);
@@ -65,18 +65,18 @@ fn closed_anew(given: &[Given], start: usize) -> [Option<i64>; PLACES] {
     far
 }
 
-/// Asserts that the table answers as the bounds do when they are closed anew, and says whether
-/// positions meet them.
+/// Asserts that the matrix agrees with the constraints closed anew, and returns whether some
+/// assignment satisfies them.
 fn agree(rt: &impl Abort, matrix: &Matrix, given: &[Given]) -> bool
     requires { matrix.now.bounds.n ≡ 7 }
 {
     let holds = matrix.holds();
     let mut met = true;
-    for a in 0..PLACES {
+    for a in 0..VARIABLES {
         let far = closed_anew(given, a);
         met &= far[a] == Some(0);
         if holds {
-            for b in 0..PLACES {
+            for b in 0..VARIABLES {
                 let upper = matrix.upper(a as u32, b as u32).map(i64::from);
                 assert_eq!(rt; upper, far[b], "from {a} to {b} of {} bounds", given.len());
             }
@@ -87,7 +87,7 @@ fn agree(rt: &impl Abort, matrix: &Matrix, given: &[Given]) -> bool
 }
 
 #[test]
-fn a_kept_table_answers_as_bounds_closed_anew(rt: HostRuntime) -> Result<(), Fail> {
+fn a_matrix_agrees_with_constraints_closed_anew(rt: HostRuntime) -> Result<(), Fail> {
     let mut draws = Draws { state: 0 };
     let mut matrix = Matrix::new(rt.alloc(), 7, MARKS)?;
     let mut history = History {
@@ -125,22 +125,21 @@ fn a_kept_table_answers_as_bounds_closed_anew(rt: HostRuntime) -> Result<(), Fai
     Ok(())
 }
 
-/// The least positions, once every place is seen to have a bound from below.
+/// The least assignment, once every variable is seen to be bounded from below.
 fn least(rt: &impl Abort, matrix: &Matrix, out: &mut [i32])
-    requires places { matrix.now.bounds.n ≡ 3 }
+    requires variables { matrix.now.bounds.n ≡ 3 }
     requires room { length out.old ≡ 3 }
-    requires holds { HavePositions matrix.now.bounds }
+    requires holds { IsSatisfiable matrix.now.bounds }
 {
-    for place in 0..3 {
-        assert!(rt; matrix.upper(place, 0).is_some());
+    for variable in 0..3 {
+        assert!(rt; matrix.upper(variable, 0).is_some());
     }
     matrix.solve_least(out);
 }
 
-// Place 1 is 2 or more behind place 0, place 2 is 3 or more behind place 1, and at most 9 behind
-// place 0.
+// `x_0 <= x_1 - 2`, `x_1 <= x_2 - 3` and `x_2 <= x_0 + 9`.
 #[test]
-fn three_places_counted_by_hand(rt: HostRuntime) -> Result<(), Fail> {
+fn three_variables_counted_by_hand(rt: HostRuntime) -> Result<(), Fail> {
     let mut matrix = Matrix::new(rt.alloc(), 3, 1)?;
     assert!(rt; matrix.holds());
     assert_eq!(rt; matrix.upper(0, 2), None);
@@ -183,4 +182,23 @@ fn the_draws_are_the_known_sequence(rt: HostRuntime) {
         draws.draw(1);
         assert_eq!(rt; draws.state, want);
     }
+}
+
+// `x_(k+1) >= x_k + 2` for all k, one mark after another: variable 63 is at least at 126.
+#[test]
+fn the_most_variables_and_marks_are_held(rt: HostRuntime) -> Result<(), Fail> {
+    let mut matrix = Matrix::new(rt.alloc(), MAX_VARIABLES, MAX_MARKS)?;
+    'marks: for _ in 0..MAX_MARKS {
+        matrix.mark();
+    }
+    for variable in 0..63 {
+        assert!(rt; matrix.bound(variable + 1, variable, -2));
+    }
+    assert_eq!(rt; matrix.upper(63, 0), Some(-126));
+    'undone: for _ in 0..MAX_MARKS {
+        matrix.undo();
+    }
+    assert!(rt; matrix.holds());
+    assert_eq!(rt; matrix.upper(63, 0), None);
+    Ok(())
 }

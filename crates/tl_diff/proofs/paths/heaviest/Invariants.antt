@@ -1,4 +1,4 @@
-use Rattle.tl_diff.specs.Relaxing.{IsRelaxed}
+use Rattle.tl_diff.specs.inner.Relaxing.{IsRelaxed}
 use Rattle.tl_diff.proofs.paths.heaviest.Given as goal
 
 abbrev pub invariant-loop-place : goal.invariant-loop-place

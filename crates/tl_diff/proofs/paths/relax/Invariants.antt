@@ -1,5 +1,5 @@
 use Rattle.std.proofs.Common.{length, ◌-◌, ◌+◌}
-use Rattle.tl_diff.specs.Relaxing.{IsRelaxed}
+use Rattle.tl_diff.specs.inner.Relaxing.{IsRelaxed}
 use Rattle.tl_diff.proofs.paths.relax.Given as goal
 
 abbrev pub invariant-loop-next : goal.invariant-loop-next

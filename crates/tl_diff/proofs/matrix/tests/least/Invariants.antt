@@ -1,6 +1,6 @@
 use Rattle.std.proofs.Common.{ℕ, ◌<◌}
-use Rattle.tl_diff.specs.Bounds.{HasGreatest}
+use Rattle.tl_diff.specs.Bounds.{HasNoGreatest}
 use Rattle.tl_diff.proofs.matrix.tests.least.Given as goal
 
-abbrev pub invariant-loop-place : goal.invariant-loop-place
-invariant-loop-place g l = (k : ℕ) → k < l.place → HasGreatest l.matrix.bounds k 0
+abbrev pub invariant-loop-variable : goal.invariant-loop-variable
+invariant-loop-variable g l = (k : ℕ) → k < l.variable → HasNoGreatest l.matrix.bounds k 0 → ⊥

@@ -1,0 +1,23 @@
+//! Certificates of a layout: what proves that no lower page exists, or that no page is wide enough. Each
+//! is a text that a second program can read and check, line by line. This crate knows the certificate's
+//! parts, its text and when a line of it is good; it knows no table and searches nothing. Its one
+//! contract: `write` and `read` are the certificate's text, both ways.
+#![tactic(auto)]
+
+mod certificate;
+mod error;
+mod limits;
+mod log;
+mod section;
+#[cfg(test)]
+mod tests;
+mod trace;
+
+pub use certificate::{Certificate, Claim};
+pub use error::CertError;
+pub use limits::{
+    MAX_BOUNDS, MAX_CLASS, MAX_FIRES, MAX_INNER_TABLE, MAX_LINE, MAX_SECTIONS, MAX_SPAN, MAX_ZONE,
+};
+pub use log::{Bound, End, Log, LogLine, Nogood, Side};
+pub use section::Section;
+pub use trace::{CutAt, Trace};

@@ -1,0 +1,78 @@
+-- Columns and rows: where they end, what all take together, and that their places tell their sizes.
+use Rattle.std.proofs.Common.{◌≡◌, ℕ, ◌+◌, ◌-◌, ◌*◌, ◌<◌, ◌≤◌, zero, suc, List, [], ◌∷◌, length, take, drop, sum, refl, ap, arith}
+use Rattle.std.proofs.lemmas.List.{take_all}
+use Rattle.std.proofs.lemmas.List.Sums.{sum_by-cons}
+use Rattle.tl_problem.specs.Sizes.{position, room, total}
+
+-- ---- the total, by the place where the last one ends
+
+pub total-position : (gap edge : ℕ) (sizes : List ℕ) → 0 < length sizes → total gap edge sizes + gap ≡ position gap sizes (length sizes) + 2 * edge
+total-position gap edge [] some = absurd (omega arith)
+total-position gap edge (size ∷ sizes) some =
+    let all = ap sum (take_all (length (size ∷ sizes)) (size ∷ sizes) (omega arith)) in
+    let head = sum_by-cons (λ x. x) size sizes in
+    let product : gap * length (size ∷ sizes) ≡ gap * length sizes + gap = grind arith in
+    omega (arith, all, head, product)
+
+-- sizes that end no later take no more in all
+pub total-le : (gap edge : ℕ) (xs ys : List ℕ) → length xs ≡ length ys → position gap xs (length xs) ≤ position gap ys (length xs) → total gap edge xs ≤ total gap edge ys
+total-le gap edge [] ys same ends = omega arith
+total-le gap edge (x ∷ xs) ys same ends =
+    let first = total-position gap edge (x ∷ xs) (omega arith) in
+    let second = total-position gap edge ys (omega arith) in
+    let at = ap (position gap ys) same in
+    omega (arith, first, second, at, ends)
+
+-- ---- a room, by the places where its span begins and ends
+
+-- the sizes before a place are those before an earlier one and those between
+pub take-between : (sizes : List ℕ) (from more : ℕ) → sum (take (from + more) sizes) ≡ sum (take from sizes) + sum (take more (drop from sizes))
+take-between sizes zero more = let all : 0 + more ≡ more = omega arith in rw all (omega arith)
+take-between [] (suc from) more = let next : suc from + more ≡ suc (from + more) = omega arith in rw next (omega (arith, no_sum more)) where
+  no_sum : (more : ℕ) → sum (take more []) ≡ 0
+  no_sum zero = refl
+  no_sum (suc more) = refl
+take-between (size ∷ sizes) (suc from) more =
+    let before = sum_by-cons (λ x. x) size (take (from + more) sizes) in
+    let after = sum_by-cons (λ x. x) size (take from sizes) in
+    let rest = take-between sizes from more in
+    let next : suc from + more ≡ suc (from + more) = omega arith in
+    rw next (omega (arith, before, after, rest))
+
+pub room-position : (gap : ℕ) (sizes : List ℕ) (from past : ℕ) → from < past → room gap sizes from past + gap + position gap sizes from ≡ position gap sizes past
+room-position gap sizes from past ahead =
+    let between = take-between sizes from (past - from) in
+    let whole : from + (past - from) ≡ past = omega arith in
+    let sums = rw whole at between in
+    let gaps = gaps_between gap from (past - from - 1) in
+    let count : from + (past - from - 1) + 1 ≡ past = omega arith in
+    let counted = rw count at gaps in
+    omega (arith, sums, counted) where
+      gaps_between : (gap from inner : ℕ) → gap * inner + gap + gap * from ≡ gap * (from + inner + 1)
+      gaps_between gap from inner = grind arith
+
+-- a later place is no nearer
+pub position-mono : (gap : ℕ) (sizes : List ℕ) (from past : ℕ) → from ≤ past → position gap sizes from ≤ position gap sizes past
+position-mono gap sizes from past more =
+    let whole : from + (past - from) ≡ past = omega arith in
+    let sums = rw whole at (take-between sizes from (past - from)) in
+    let gaps = rw whole at (gaps_split gap from (past - from)) in
+    omega (arith, sums, gaps) where
+      gaps_split : (gap from more : ℕ) → gap * (from + more) ≡ gap * from + gap * more
+      gaps_split gap from more = grind arith
+
+-- ---- sizes are known by their places
+
+-- of lists as long as each other that end each place alike, each size is the same
+pub same-positions : (gap : ℕ) (xs ys : List ℕ) → length xs ≡ length ys → ((place : ℕ) → place ≤ length xs → position gap xs place ≡ position gap ys place) → xs ≡ ys
+same-positions gap [] [] same at = refl
+same-positions gap [] (y ∷ ys) same at = absurd (omega arith)
+same-positions gap (x ∷ xs) [] same at = absurd (omega arith)
+same-positions gap (x ∷ xs) (y ∷ ys) same at =
+    let first : x ≡ y = omega (arith, at 1 (omega arith)) in
+    let tails : xs ≡ ys = same-positions gap xs ys (omega arith) (λ place within.
+    let here = at (suc place) (omega arith) in
+    let left = sum_by-cons (λ n. n) x (take place xs) in
+    let right = sum_by-cons (λ n. n) y (take place ys) in
+    omega (arith, here, left, right, first)) in
+    cc

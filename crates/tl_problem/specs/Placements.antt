@@ -1,0 +1,28 @@
+-- Placements: widths within the page with the least heights of rows under them, by `high`.
+use Rattle.std.specs.Prelude.{◌≡◌, ℕ, ◌≤◌, List, length}
+use Rattle.tl_base.specs.Style.{gap_of, row_gap_of}
+use Rattle.tl_problem.specs.declared.placed.Placed.{Placed}
+use Rattle.tl_problem.specs.Sizes.{position}
+use Rattle.tl_problem.specs.Problem.{ProblemModel, total_width, total_height}
+use Rattle.tl_problem.specs.Layouts.{WithinPage, GiveHigh}
+
+-- of all sizes of this kind, these begin each column, or row, at the least place, and end at the least
+pub record AreLeast (gap : ℕ) (OfKind : List ℕ → Type 0) (sizes : List ℕ) : Type 0 where
+  pub kind : OfKind sizes
+  pub earliest : (other : List ℕ) → OfKind other → (place : ℕ) → place ≤ length sizes → position gap sizes place ≤ position gap other place
+
+-- a placement: widths within the page, the least heights that give each cell its `high` at its room, and both totals
+pub record IsPlacement (problem : ProblemModel) (placed : Placed) : Type 0 where
+  pub page : WithinPage problem placed.widths
+  pub rows : AreLeast (row_gap_of problem.style) (GiveHigh problem placed.widths) placed.heights
+  pub width : placed.width ≡ total_width problem placed.widths
+  pub height : placed.height ≡ total_height problem placed.heights
+
+-- the placement at the least positions of a set of widths
+pub record IsPlacementIn (problem : ProblemModel) (Among : List ℕ → Type 0) (placed : Placed) : Type 0 where
+  pub columns : AreLeast (gap_of problem.style) Among placed.widths
+  pub placement : IsPlacement problem placed
+
+-- the opening: the placement at the least positions of all widths within the page
+abbrev pub IsOpening : ProblemModel → Placed → Type 0
+IsOpening problem placed = IsPlacementIn problem (WithinPage problem) placed
