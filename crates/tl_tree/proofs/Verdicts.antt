@@ -128,10 +128,12 @@ fault_none n tables s k h = by_test (is_failed (next s k)) refl
         by_tables : (b : Bool) → nat_le 200 tables ≡ b → nat_le 8 (depth s) ≡ false → (depth s < 8) × (tables < 200)
         by_tables false few shallow = (grind (arith, nat_tests), grind (arith, nat_tests))
         by_tables true many shallow = absurd (let c : Some (TooManyTables n) ≡ None = sym (rw (shallow, many) refl) ∙ e in cc)
+
         by_depth : (b : Bool) → nat_le 8 (depth s) ≡ b → (depth s < 8) × (tables < 200)
         by_depth false shallow = by_tables (nat_le 200 tables) refl shallow
         by_depth true deep = absurd (let c : Some (TooDeep n) ≡ None = sym (rw deep refl) ∙ e in cc)
     limits _ e = tt
+
     by_test : (b : Bool) → is_failed (next s k) ≡ b → (is_failed (next s k) ≡ false) × FitsLimits (depth s) tables k
     by_test false alive = (alive, limits k (rw alive at h))
     by_test true dead = absurd (let c : Some (misfit n k) ≡ None = sym (rw dead refl) ∙ h in cc)
@@ -149,7 +151,7 @@ found_later n tables s k ks e (still, here) (at_token front k' rest split goes f
     let P : ℕ → Type 0 = λ x. FitLimits x (tables_with tables k) front in
     let c : n + 1 + length front ≡ n + length (k ∷ front) = omega arith in
     at_token (k ∷ front) k' rest (ap (λ x. k ∷ x) split) goes (here, subst P (depth-next s k still) fits)
-        (sym (ap (λ x. fault x (tables_after tables (k ∷ front)) (reached s (k ∷ front)) k') c) ∙ found)
+    (sym (ap (λ x. fault x (tables_after tables (k ∷ front)) (reached s (k ∷ front)) k') c) ∙ found)
 found_later n tables s k ks e (still, here) (at_end goes fits found) =
     let P : ℕ → Type 0 = λ x. FitLimits x (tables_with tables k) ks in
     at_end goes (here, subst P (depth-next s k still) fits) found
@@ -177,7 +179,7 @@ fine n tables failed [] alive h = absurd (cc)
 fine n tables s (k ∷ ks) alive h = by_fault (λ still later. fine (n + 1) (tables_with tables k) (next s k) ks still later) (fault n tables s k) refl
   where
     by_fault : (is_failed (next s k) ≡ false → verdict (n + 1) (tables_with tables k) (next s k) ks ≡ None
-            → (reached (next s k) ks ≡ after) × FitLimits (depth (next s k)) (tables_with tables k) ks)
+        → (reached (next s k) ks ≡ after) × FitLimits (depth (next s k)) (tables_with tables k) ks)
         → (o : Option TreeError) → fault n tables s k ≡ o → (reached s (k ∷ ks) ≡ after) × FitLimits (depth s) tables (k ∷ ks)
     by_fault go None none =
         let (still, here) = fault_none n tables s k none in
@@ -303,23 +305,23 @@ refused_first ks Unclosed (prefix, within, deep) =
 refused_first ks (StrayText n) w =
     let place : 0 + length w.front ≡ n = let p = w.place in omega arith in
     at_place ks w.front w.rest w.token (StrayText n) w.split w.begun w.within
-        (misfit_fault _ _ _ w.token (no_prefix w.front w.token w.wrong.1) ∙ ap (λ x. Some x) (text_misfit _ n w.token w.wrong.0 place))
+    (misfit_fault _ _ _ w.token (no_prefix w.front w.token w.wrong.1) ∙ ap (λ x. Some x) (text_misfit _ n w.token w.wrong.0 place))
 refused_first ks (Misplaced n) w =
     let place : 0 + length w.front ≡ n = let p = w.place in omega arith in
     at_place ks w.front w.rest w.token (Misplaced n) w.split w.begun w.within
-        (misfit_fault _ _ _ w.token (no_prefix w.front w.token w.wrong.1) ∙ ap (λ x. Some x) (tag_misfit _ n w.token w.wrong.0 place))
+    (misfit_fault _ _ _ w.token (no_prefix w.front w.token w.wrong.1) ∙ ap (λ x. Some x) (tag_misfit _ n w.token w.wrong.0 place))
 refused_first ks (TooDeep n) w =
     let place : 0 + length w.front ≡ n = let p = w.place in omega arith in
     let same = depth-reached before w.front (prefix_alive w.front w.begun) in
     let deep : 8 ≤ depth (reached before w.front) = let d = w.wrong.2 in omega arith in
     at_place ks w.front w.rest w.token (TooDeep n) w.split w.begun w.within
-        (table_fault _ _ _ w.token w.wrong.0 (alive_next w.front w.token w.wrong.1) ∙ deep_fault _ n _ _ deep place)
+    (table_fault _ _ _ w.token w.wrong.0 (alive_next w.front w.token w.wrong.1) ∙ deep_fault _ n _ _ deep place)
 refused_first ks (TooManyTables n) w =
     let place : 0 + length w.front ≡ n = let p = w.place in omega arith in
     let same = depth-reached before w.front (prefix_alive w.front w.begun) in
     let shallow : depth (reached before w.front) < 8 = let d = w.wrong.2 in omega arith in
     at_place ks w.front w.rest w.token (TooManyTables n) w.split w.begun w.within
-        (table_fault _ _ _ w.token w.wrong.0 (alive_next w.front w.token w.wrong.1) ∙ many_fault _ n _ _ shallow w.wrong.3 place)
+    (table_fault _ _ _ w.token w.wrong.0 (alive_next w.front w.token w.wrong.1) ∙ many_fault _ n _ _ shallow w.wrong.3 place)
 
 -- a fault of a token with which a document goes on is one of a table
 limited : (n tables : ℕ) (s : State) (k : Kind) (e : TreeError) → is_failed (next s k) ≡ false → fault n tables s k ≡ Some e
@@ -335,6 +337,7 @@ which_limit n tables d e h = by_depth (nat_le 8 d) refl
     by_tables true many shallow =
         inr (let c : Some (TooManyTables n) ≡ Some e = sym (rw (shallow, many) refl) ∙ h in cc, grind (arith, nat_tests), grind (arith, nat_tests))
     by_tables false few shallow = absurd (let c : None ≡ Some e = sym (rw (shallow, few) refl) ∙ h in cc)
+
     by_depth : (b : Bool) → nat_le 8 d ≡ b → ((TooDeep n ≡ e) × (8 ≤ d)) ⊎ ((TooManyTables n ≡ e) × (d < 8) × (200 ≤ tables))
     by_depth true deep = inl (let c : Some (TooDeep n) ≡ Some e = sym (rw deep refl) ∙ h in cc, grind (arith, nat_tests))
     by_depth false shallow = by_tables (nat_le 200 tables) refl shallow
@@ -346,16 +349,19 @@ wrong_at ks front k rest e split alive within h = by_test (is_failed (next (reac
   where
     at : {IsWrong : Kinds → Kind → Type 0} → IsWrong front k → IsWrongAt ks (0 + length front) IsWrong
     at wrong = record { front = front; token = k; rest = rest; split = split; place = omega arith; begun = alive_prefix front alive; within = within; wrong = wrong }
+
     as_found : (found : TreeError) → fault (0 + length front) (tables_after 0 front) (reached before front) k ≡ Some found → IsRefused ks found → IsRefused ks e
     as_found found f r = let same : found ≡ e = (let c : Some found ≡ Some e = sym f ∙ h in cc) in subst (IsRefused ks) same r
+
     by_kind : (b : Bool) → is_text k ≡ b → is_failed (next (reached before front) k) ≡ true → IsRefused ks e
     by_kind true is dead =
         as_found (StrayText (0 + length front)) (misfit_fault _ _ _ k dead ∙ ap (λ x. Some x) (text_misfit _ _ k is refl)) (at (is, is_no_prefix front k dead))
     by_kind false is dead =
         as_found (Misplaced (0 + length front)) (misfit_fault _ _ _ k dead ∙ ap (λ x. Some x) (tag_misfit _ _ k is refl)) (at (is, is_no_prefix front k dead))
+
     by_limit : is_failed (next (reached before front) k) ≡ false → k ≡ table_start
         → ((TooDeep (0 + length front) ≡ e) × (8 ≤ depth (reached before front)))
-          ⊎ ((TooManyTables (0 + length front) ≡ e) × (depth (reached before front) < 8) × (200 ≤ tables_after 0 front))
+        ⊎ ((TooManyTables (0 + length front) ≡ e) × (depth (reached before front) < 8) × (200 ≤ tables_after 0 front))
         → IsRefused ks e
     by_limit goes table (inl (same, deep)) =
         let d = depth-reached before front alive in
@@ -363,6 +369,7 @@ wrong_at ks front k rest e split alive within h = by_test (is_failed (next (reac
     by_limit goes table (inr (same, shallow, many)) =
         let d = depth-reached before front alive in
         subst (IsRefused ks) same (at (table, prefix_next front k goes, omega arith, many))
+
     by_test : (b : Bool) → is_failed (next (reached before front) k) ≡ b → IsRefused ks e
     by_test true dead = by_kind (is_text k) refl dead
     by_test false goes =
@@ -383,6 +390,7 @@ first_refused ks e h = by_place (find 0 0 before ks e refl h)
         subst (IsRefused ks) same (alive_prefix ks live, within, omega arith)
     at_the_end after stands alive within f = absurd (cc)
     at_the_end failed stands alive within f = absurd (false≢true (sym alive))
+
     by_place : Finds 0 0 before ks e → IsRefused ks e
     by_place (at_token front k rest split alive within f) = wrong_at ks front k rest e split alive within f
     by_place (at_end alive within f) = at_the_end (reached before ks) refl alive within f
