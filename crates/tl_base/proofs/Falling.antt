@@ -7,17 +7,18 @@ use Rattle.std.proofs.lemmas.Bool.{cases_lt}
 use Rattle.std.proofs.lemmas.Bool.Decides.{nat_tests}
 use Rattle.std.proofs.lemmas.List.{get_or_default, take_all}
 use Rattle.tl_base.specs.declared.steps.Config.{Config}
-use Rattle.tl_base.specs.Steps.{AreSteps, IsLowAt, IsLeastWidthFor, first_width, height_at}
+use Rattle.tl_base.specs.Steps.{AreSteps, IsLowAt, IsLeastWidthFor, first_width, first_height, height_at}
+use Rattle.tl_base.specs.inner.Stacking.{IsPastNarrow}
 
 -- what a read past the end of the steps gives
 abbrev pub no_step : Config
 no_step = record { width = 0; height = 0 }
 
 -- tests and what they mean
-test_le : {a b : ℕ} → a ≤ b → nat_le a b ≡ true
+pub test_le : {a b : ℕ} → a ≤ b → nat_le a b ≡ true
 test_le le = grind (arith, nat_tests)
 
-test_le_false : {a b : ℕ} → b < a → nat_le a b ≡ false
+pub test_le_false : {a b : ℕ} → b < a → nat_le a b ≡ false
 test_le_false gt = grind (arith, nat_tests)
 
 pub le_test : {a b : ℕ} → nat_le a b ≡ true → a ≤ b
@@ -180,7 +181,11 @@ module _ (steps : List Config) (are : AreSteps steps) (h n : ℕ) (within : n < 
     least = none_before;
   }
 
--- ---- the first width and the last height
+-- ---- the first step and the last height
+
+pub first_height-is : (steps : List Config) (d : Config) → 0 < length steps → first_height steps ≡ (get_or steps 0 d).height
+first_height-is [] d some = absurd (omega arith)
+first_height-is (step ∷ steps) d some = refl
 
 pub first_width-is : (steps : List Config) (d : Config) → 0 < length steps → first_width steps ≡ (get_or steps 0 d).width
 first_width-is [] d some = absurd (omega arith)
@@ -206,25 +211,42 @@ module _ (steps : List Config) (are : AreSteps steps) (h : ℕ) where
 pub test_le_below : {a b : ℕ} → nat_le a b ≡ false → b < a
 test_le_below test = grind (arith, nat_tests)
 
--- ---- what a search for a width or a height finds
+-- ---- what the steps up to a width tell
 
--- where no step is narrow enough
-module _ (steps self : List Config) (same : steps ≡ self) (are : AreSteps steps) (w : ℕ) (at : IsPartitionPoint (λ step. nat_le step.width w ≡ true) (λ step. nat_le step.width w ≡ false) steps 0) where
-  pub too_narrow_height : None ≡ height_at self w
-  too_narrow_height = sym (ap (λ all. height_at all w) (sym same) ∙ height_at-none steps w at)
+module _ (steps : List Config) (are : AreSteps steps) (w : ℕ) where
+  -- below the first width there is no height
+  pub height_at-below : w < first_width steps → height_at steps w ≡ None
+  height_at-below below = height_at-none steps w (
+    (λ k d low high. absurd (omega arith)),
+    (λ k d low high. wide (cases_lt 0 k) d high),
+  ) where
+    wide : {k : ℕ} → (0 < k) ⊎ (k ≤ 0) → (d : Config) → k < length steps → nat_le (get_or steps k d).width w ≡ false
+    wide {k} (inl later) d high =
+        let fall = are.falling 0 k d later high in
+        test_le_false (omega (arith, fall.0, first_width-is steps d are.has_step, below))
+    wide {k} (inr first) d high =
+        let here : k ≡ 0 = omega (arith, first) in
+        test_le_false (omega (arith, first_width-is steps d are.has_step, below, ap (λ n. (get_or steps n d).width) here))
 
-  pub too_narrow : w < first_width self
-  too_narrow = omega (arith, ap first_width same, first_width-is steps no_step are.has_step, test_le_below (at.1 0 no_step (omega arith) are.has_step))
+  -- no step is narrow enough: the width is below the first
+  pub below_first : IsPastNarrow steps w 0 → w < first_width steps
+  below_first at = omega (arith, first_width-is steps no_step are.has_step, test_le_below (at.1 0 no_step (omega arith) are.has_step))
 
--- where the step before `n` is the last that is narrow enough
-module _ (steps self : List Config) (same : steps ≡ self) (are : AreSteps steps) (w n : ℕ) (some : n ≡ 0 → ⊥) (within : n ≤ length steps) (at : IsPartitionPoint (λ step. nat_le step.width w ≡ true) (λ step. nat_le step.width w ≡ false) steps n) where
-  pub last_narrow_height : Some (get_or steps (n - 1) no_step).height ≡ height_at self w
-  last_narrow_height =
-      let past : suc (n - 1) ≡ n = omega (arith, some) in
-      sym (ap (λ all. height_at all w) (sym same) ∙ height_at-some steps w (n - 1) no_step (omega (arith, some)) (subst (λ k. IsPartitionPoint (λ step. nat_le step.width w ≡ true) (λ step. nat_le step.width w ≡ false) steps k) (sym past) at))
+  -- a step is narrow enough: the width is not below the first
+  pub from_first : (n : ℕ) → 0 < n → IsPastNarrow steps w n → first_width steps ≤ w
+  from_first n some at = omega (arith, first_width-is steps no_step are.has_step, le_test (at.0 0 no_step (omega arith) some))
 
-  pub wide_enough : first_width self ≤ w
-  wide_enough = omega (arith, ap first_width same, first_width-is steps no_step are.has_step, le_test (at.0 0 no_step (omega arith) (omega (arith, some))))
+  -- a width that is not below the first has a step
+  pub some_narrow : (n : ℕ) → IsPastNarrow steps w n → first_width steps ≤ w → 0 < n
+  some_narrow zero at from = absurd (omega (arith, below_first at, from))
+  some_narrow (suc n) at from = omega arith
+
+  -- the height is that of the last step that is narrow enough
+  pub height_at-last : (n : ℕ) → 0 < n → n ≤ length steps → IsPastNarrow steps w n → height_at steps w ≡ Some (get_or steps (n - 1) no_step).height
+  height_at-last zero some within at = absurd (omega (arith, some))
+  height_at-last (suc n) some within at =
+      let here : suc n - 1 ≡ n = omega arith in
+      height_at-some steps w n no_step (omega (arith, within)) at ∙ ap (λ k. Some (get_or steps k no_step).height) (sym here)
 
 pub IfSome-weaker : {X : Type 0} (o : Option X) (P Q : X → Type 0) → ((x : X) → P x → Q x) → IfSome o P → IfSome o Q
 IfSome-weaker None P Q weaker is = tt

@@ -58,6 +58,43 @@ fn a_list_and_a_text_hold_what_was_put_in(rt: HostRuntime) -> Result<(), Failure
     Ok(())
 }
 
+#[test]
+fn a_list_is_gone_over_in_order(rt: HostRuntime) -> Result<(), Failure> {
+    let list = List::from_slice(rt.alloc(), &[7u32, 1, 4])?;
+    let mut seen = List::new(rt.alloc());
+    for &item in &list {
+        seen.push(item)?;
+    }
+    assert_eq!(rt; seen.as_slice(), [7, 1, 4].as_slice());
+    assert_eq!(rt; list.iter().count(), 3);
+    Ok(())
+}
+
+#[test]
+fn lists_and_texts_are_equal_by_what_they_hold(rt: HostRuntime) -> Result<(), Failure> {
+    let mut list = List::new(rt.alloc());
+    list.push(Text::from_str(rt.alloc(), "a\u{e9}\u{4e2d}")?)?;
+    let mut other = List::new(rt.alloc());
+    let string = String::from_str(rt.alloc(), "a\u{e9}\u{4e2d}")?;
+    other.push(Text::from_string(string))?;
+    assert!(rt; list == other);
+    other.push(Text::from_str(rt.alloc(), "")?)?;
+    assert!(rt; list != other);
+    for (text, len, is_empty) in [
+        ("", 0, true),
+        ("a", 1, false),
+        ("a\u{e9}\u{4e2d}", 6, false),
+    ] {
+        let held = Text::from_str(rt.alloc(), text)?;
+        assert_eq!(rt; (held.len(), held.is_empty()), (len, is_empty), "{text:?}");
+        assert!(rt;
+            held != Text::from_str(rt.alloc(), "a\u{4e2d}")?,
+            "{text:?}"
+        );
+    }
+    Ok(())
+}
+
 /// A desk with one file, `in`, that holds `held`.
 fn desk_with(alloc: Global, held: &[u8], fails: &[Fail]) -> Result<MemoryDesk, AllocError> {
     let mut files = BTreeMap::new(alloc);

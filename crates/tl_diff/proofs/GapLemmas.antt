@@ -3,6 +3,7 @@ use Rattle.std.proofs.Common.{◌≡◌, ℕ, zero, suc, ◌+◌, ◌*◌, ◌<�
 use Rattle.std.specs.Prelude.{int_le}
 use Rattle.std.proofs.lemmas.Int.{ints, by_lt_z}
 use Rattle.std.proofs.lemmas.Bool.{cases_eq}
+use Rattle.tl_diff.specs.declared.matrix.TheConstants.{MAX_BOUND}
 use Rattle.tl_diff.specs.Bounds.{Bounds, bound_at, Satisfies, IsWithin, AddsBound}
 use Rattle.tl_diff.specs.inner.Closed.{IsClosed, IsLoose, IsGap, AreSmall, moved_past}
 use Rattle.tl_diff.proofs.EnvelopeLemmas.{reaches}
@@ -53,11 +54,11 @@ module _ (x : ℕ → ℤ) where
       (λ apart. omega (arith, count_more t u n p le (omega arith) low high, up_to_le (x n) t u le))
       (cases_eq p n)
 
-  -- whether some variable lies within the 1000000 above t
-  side : (y t : ℤ) → ((y ≤ℤ t) ⊎ ((t +ℤ pos 1000000) <ℤ y)) ⊎ ((t <ℤ y) × (y ≤ℤ (t +ℤ pos 1000000)))
+  -- whether some variable lies within the MAX_BOUND above t
+  side : (y t : ℤ) → ((y ≤ℤ t) ⊎ ((t +ℤ pos MAX_BOUND) <ℤ y)) ⊎ ((t <ℤ y) × (y ≤ℤ (t +ℤ pos MAX_BOUND)))
   side y t = grind (arith, ints)
 
-  find_gap : (t : ℤ) (n : ℕ) → IsGap n x t ⊎ ((p : ℕ) × ((p < n) × ((t <ℤ x p) × (x p ≤ℤ (t +ℤ pos 1000000)))))
+  find_gap : (t : ℤ) (n : ℕ) → IsGap n x t ⊎ ((p : ℕ) × ((p < n) × ((t <ℤ x p) × (x p ≤ℤ (t +ℤ pos MAX_BOUND)))))
   find_gap t zero = inl (λ p there. absurd (omega arith))
   find_gap t (suc n) =
       ⊎_elim
@@ -68,24 +69,24 @@ module _ (x : ℕ → ℤ) where
       (λ f. inr (f.0, (omega arith, f.1.1)))
       (find_gap t n)
 
-  -- A gap among the first k windows of 1000000 above variable l, or more than k variables up to their end.
-  gap_among : (n l : ℕ) → l < n → (k : ℕ) → ((j : ℕ) × ((j < k) × IsGap n x (x l +ℤ pos (1000000 * j)))) ⊎ (k < count_up_to x (x l +ℤ pos (1000000 * k)) n)
-  gap_among n l there zero = inr (omega (arith, count_some (x l +ℤ pos (1000000 * 0)) n l there (omega (arith, ints))))
+  -- A gap among the first k windows of MAX_BOUND above variable l, or more than k variables up to their end.
+  gap_among : (n l : ℕ) → l < n → (k : ℕ) → ((j : ℕ) × ((j < k) × IsGap n x (x l +ℤ pos (MAX_BOUND * j)))) ⊎ (k < count_up_to x (x l +ℤ pos (MAX_BOUND * k)) n)
+  gap_among n l there zero = inr (omega (arith, count_some (x l +ℤ pos (MAX_BOUND * 0)) n l there (omega (arith, ints))))
   gap_among n l there (suc k) =
       ⊎_elim
       (λ g. inl (g.0, (omega arith, g.1.1)))
       (λ more. ⊎_elim
       (λ gap. inl (k, (omega arith, gap)))
-      (λ f. inr (omega (arith, more, count_more (x l +ℤ pos (1000000 * k)) (x l +ℤ pos (1000000 * suc k)) n f.0 (omega (arith, ints)) f.1.0 f.1.1.0 (omega (arith, ints, f.1.1.1)))))
-      (find_gap (x l +ℤ pos (1000000 * k)) n))
+      (λ f. inr (omega (arith, more, count_more (x l +ℤ pos (MAX_BOUND * k)) (x l +ℤ pos (MAX_BOUND * suc k)) n f.0 (omega (arith, ints)) f.1.0 f.1.1.0 (omega (arith, ints, f.1.1.1)))))
+      (find_gap (x l +ℤ pos (MAX_BOUND * k)) n))
       (gap_among n l there k)
 
-  -- Between two variables that are more than 1000000 for each variable apart there is a gap.
-  gap_between : (n l h : ℕ) → l < n → h < n → (x l +ℤ pos (1000000 * n)) <ℤ x h → (t : ℤ) × (IsGap n x t × ((x l ≤ℤ t) × (t <ℤ x h)))
+  -- Between two variables that are more than MAX_BOUND for each variable apart there is a gap.
+  gap_between : (n l h : ℕ) → l < n → h < n → (x l +ℤ pos (MAX_BOUND * n)) <ℤ x h → (t : ℤ) × (IsGap n x t × ((x l ≤ℤ t) × (t <ℤ x h)))
   gap_between n l h low high far =
       ⊎_elim
-      (λ g. (x l +ℤ pos (1000000 * g.0), (g.1.1, (omega (arith, ints), omega (arith, ints, g.1.0)))))
-      (λ more. absurd (omega (arith, more, count_le (x l +ℤ pos (1000000 * n)) n)))
+      (λ g. (x l +ℤ pos (MAX_BOUND * g.0), (g.1.1, (omega (arith, ints), omega (arith, ints, g.1.0)))))
+      (λ more. absurd (omega (arith, more, count_le (x l +ℤ pos (MAX_BOUND * n)) n)))
       (gap_among n l low n)
 
 -- ---- what moves
@@ -97,7 +98,7 @@ moved_high : (x : ℕ → ℤ) (t s : ℤ) (p : ℕ) → t <ℤ x p → moved_pa
 moved_high x t s p h = grind (arith, ints)
 
 -- a constraint that is not large still holds when the variables above a gap move
-moved_within : (x : ℕ → ℤ) (t s : ℤ) (u v n : ℕ) (w : ℤ) → u < n → v < n → IsGap n x t → negsuc 0 ≤ℤ s → neg_ℤ (pos 1000000) ≤ℤ w → w ≤ℤ pos 1000000
+moved_within : (x : ℕ → ℤ) (t s : ℤ) (u v n : ℕ) (w : ℤ) → u < n → v < n → IsGap n x t → negsuc 0 ≤ℤ s → neg_ℤ (pos MAX_BOUND) ≤ℤ w → w ≤ℤ pos MAX_BOUND
     → IsWithin x u v w → IsWithin (moved_past x t s) u v w
 moved_within x t s u v n w first second gap low small_low small_high h =
     ⊎_elim
@@ -111,7 +112,7 @@ moved_within x t s u v n w first second gap low small_low small_high h =
     (gap v second))
     (gap u first)
 
-pub IsLoose-adds : (old new : Bounds) (u v : ℕ) (w : ℤ) → u < old.n → v < old.n → AddsBound old new u v w → neg_ℤ (pos 1000000) ≤ℤ w → w ≤ℤ pos 1000000 → IsLoose old → IsLoose new
+pub IsLoose-adds : (old new : Bounds) (u v : ℕ) (w : ℤ) → u < old.n → v < old.n → AddsBound old new u v w → neg_ℤ (pos MAX_BOUND) ≤ℤ w → w ≤ℤ pos MAX_BOUND → IsLoose old → IsLoose new
 IsLoose-adds old new u v w first second adds low high loose x t s meets gap back =
     let gap_old : IsGap old.n x t = (λ p there. gap p (omega (arith, adds.variables))) in
     adds.all (moved_past x t s) (loose x t s (adds.keeps x meets) gap_old back)
@@ -125,20 +126,20 @@ IsLoose-free bounds free x t s meets gap back = free (moved_past x t s)
 
 module _ (bounds : Bounds) (closed : IsClosed bounds) (loose : IsLoose bounds) where
   -- variables that are far apart can be moved one further apart, and one nearer
-  stretch : (x : ℕ → ℤ) (l h : ℕ) (s : ℤ) → Satisfies bounds x → l < bounds.n → h < bounds.n → (x l +ℤ pos (1000000 * bounds.n)) <ℤ x h → negsuc 0 ≤ℤ s
+  stretch : (x : ℕ → ℤ) (l h : ℕ) (s : ℤ) → Satisfies bounds x → l < bounds.n → h < bounds.n → (x l +ℤ pos (MAX_BOUND * bounds.n)) <ℤ x h → negsuc 0 ≤ℤ s
       → (y : ℕ → ℤ) × (Satisfies bounds y × ((y l ≡ x l) × (y h ≡ x h +ℤ s)))
   stretch x l h s meets low high far back =
       let g = gap_between x bounds.n l h low high far in
       (moved_past x g.0 s, (loose x g.0 s meets g.1.0 back, (moved_low x g.0 s l g.1.1.0, moved_high x g.0 s h g.1.1.1)))
 
   module _ (a b : ℕ) (first : a < bounds.n) (second : b < bounds.n) (c : ℤ) (is : bound_at bounds a b ≡ Some c) where
-    not_above : (pos (1000000 * bounds.n) <ℤ c) → ⊥
+    not_above : (pos (MAX_BOUND * bounds.n) <ℤ c) → ⊥
     not_above large =
         let r = reaches bounds closed a b first second c (λ t h. rw is at h) in
         let y = stretch r.0 a b (pos 1) r.1.0 first second (omega (arith, ints, r.1.1)) (omega (arith, ints)) in
         omega (arith, ints, r.1.1, y.1.0 a b first second c is, y.1.1.0, y.1.1.1)
 
-    not_below : (c <ℤ neg_ℤ (pos (1000000 * bounds.n))) → ⊥
+    not_below : (c <ℤ neg_ℤ (pos (MAX_BOUND * bounds.n))) → ⊥
     not_below large =
         let r = reaches bounds closed a b first second c (λ t h. rw is at h) in
         let y = stretch r.0 b a (negsuc 0) r.1.0 second first (omega (arith, ints, r.1.0 a b first second c is)) (omega (arith, ints)) in
@@ -146,7 +147,7 @@ module _ (bounds : Bounds) (closed : IsClosed bounds) (loose : IsLoose bounds) w
 
   pub AreSmall-closed : AreSmall bounds
   AreSmall-closed a b c first second is =
-      (by_order c (neg_ℤ (pos (1000000 * bounds.n))) (not_below a b first second c is), by_order (pos (1000000 * bounds.n)) c (not_above a b first second c is))
+      (by_order c (neg_ℤ (pos (MAX_BOUND * bounds.n))) (not_below a b first second c is), by_order (pos (MAX_BOUND * bounds.n)) c (not_above a b first second c is))
     where
       by_order : (i j : ℤ) → ((i <ℤ j) → ⊥) → j ≤ℤ i
       by_order i j h = by_lt_z i j (λ less. absurd (h less)) (λ le. le)

@@ -3,6 +3,7 @@ use Rattle.std.proofs.Common.{◌≡◌, ◌≢◌, ℕ, ◌+◌, ◌*◌, ◌<�
 use Rattle.std.proofs.lemmas.Int.{ints, by_lt_z}
 use Rattle.std.proofs.lemmas.Bool.{cases_eq}
 use Rattle.std.proofs.lemmas.List.{length-set}
+use Rattle.tl_diff.specs.declared.matrix.TheConstants.{MAX_BOUND, MAX_VARIABLES}
 use Rattle.tl_diff.specs.Bounds.{bounds_of, Bounds, bound_at, Satisfies, IsWithin, IsSatisfiable, AddsBound, IsGreatest, HasNoGreatest, IsSmall}
 use Rattle.tl_diff.specs.inner.Closed.{AtMost, IsClosed, AreSmall, IsExact, IsSound, IsImproved, IsRowSmall, IsFree}
 use Rattle.tl_diff.proofs.AtMostLemmas.{AtMost-from, AtMost-more, Satisfies-at, Satisfies-from}
@@ -29,8 +30,8 @@ upper_sound bounds holds a b (Some c) h some first second is =
 pub IsExact-sound : (bounds : Bounds) (holds : Bool) → IsSound bounds holds → IsSatisfiable bounds → IsExact bounds
 IsExact-sound bounds holds h some = h.exact ((IsSatisfiable-sound bounds holds h).1 some)
 
--- in a matrix of at most 64 variables no bound is above 64000000, or as much below 0
-pub IsRowSmall-sound : (bounds : Bounds) (p : ℕ) → bounds.n ≤ 64 → AreSmall bounds → p < bounds.n → IsRowSmall bounds p
+-- no bound is above MAX_BOUND times MAX_VARIABLES, or as much below 0
+pub IsRowSmall-sound : (bounds : Bounds) (p : ℕ) → bounds.n ≤ MAX_VARIABLES → AreSmall bounds → p < bounds.n → IsRowSmall bounds p
 IsRowSmall-sound bounds p few small there q c within is =
     let h = small p q c there within is in
     (omega (arith, ints, h.0), omega (arith, ints, h.1))
@@ -90,7 +91,7 @@ module _ (bounds : Bounds) (h : IsFree bounds bounds.n) where
         free_own p r (s +ℤ t) from (c.0 ∙ d.0) (omega (arith, ints, c.1, d.1));
   }
 
-  pub IsSound-free : 1 ≤ bounds.n → bounds.n ≤ 64 → IsSound bounds true
+  pub IsSound-free : 1 ≤ bounds.n → bounds.n ≤ MAX_VARIABLES → IsSound bounds true
   IsSound-free some few =
       let loose = IsLoose-free bounds Satisfies-free in
       record {
@@ -143,7 +144,7 @@ module _ (n : ℕ) (rows : List (Option ℤ)) (a b : ℕ) (most : ℤ) (first : 
       all = λ x meets within. absurd (none_meet_old x meets within);
     }
 
-    pub IsSound-refused : 1 ≤ n → n ≤ 64 → IsSound refused false
+    pub IsSound-refused : 1 ≤ n → n ≤ MAX_VARIABLES → IsSound refused false
     IsSound-refused some few = record {
       some = some;
       few = few;
@@ -163,7 +164,7 @@ module _ (n : ℕ) (rows : List (Option ℤ)) (a b : ℕ) (most : ℤ) (first : 
     pub AddsBound-sound : AddsBound (bounds_of n rows) (bounds_of n new) a b most
     AddsBound-sound = AddsBound-improved (bounds_of n rows) (bounds_of n new) a b most first second improved exact.closed
 
-    pub IsSound-improved : 1 ≤ n → n ≤ 64 → neg_ℤ (pos 1000000) ≤ℤ most → most ≤ℤ pos 1000000
+    pub IsSound-improved : 1 ≤ n → n ≤ MAX_VARIABLES → neg_ℤ (pos MAX_BOUND) ≤ℤ most → most ≤ℤ pos MAX_BOUND
         → ((t : ℤ) → AtMost (bound_at (bounds_of n rows) b a) t → pos 0 ≤ℤ (t +ℤ most)) → IsSound (bounds_of n new) true
     IsSound-improved some few low high round =
         let closed = IsClosed-improved (bounds_of n rows) (bounds_of n new) a b most first second improved exact.closed round in

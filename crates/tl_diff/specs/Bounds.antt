@@ -5,6 +5,7 @@
 -- closed difference bound matrix. All that is said here is said of every assignment that satisfies the constraints.
 use Rattle.std.specs.Prelude.{◌≡◌, ℕ, ◌+◌, ◌*◌, ◌<◌, ℤ, pos, ◌+ℤ◌, neg_ℤ, ◌≤ℤ◌, ◌<ℤ◌, Option, None, List, get_or}
 use Rattle.std.specs.Option.{ForSome}
+use Rattle.tl_diff.specs.declared.matrix.TheConstants.{MAX_BOUND, MAX_VARIABLES}
 
 -- The constraints between n variables, row by row: number a * n + b is the m of `x_b <= x_a + m`, where there is one.
 pub record Bounds : Type 0 where
@@ -55,9 +56,9 @@ HasGreatest bounds a b = (m : ℤ) × IsGreatest bounds a b m
 abbrev pub HasNoGreatest : Bounds → ℕ → ℕ → Type 0
 HasNoGreatest bounds a b = (m : ℤ) → (x : ℕ → ℤ) × (Satisfies bounds x × ((x a +ℤ m) <ℤ x b))
 
--- between -64000000 and 64000000, as each tightest bound between 64 variables is
+-- as each tightest bound is: up to the greatest number of a constraint times the most variables, or as much below 0
 abbrev pub IsSmall : ℤ → Type 0
-IsSmall m = (neg_ℤ (pos 64000000) ≤ℤ m) × (m ≤ℤ pos 64000000)
+IsSmall m = (neg_ℤ (pos (MAX_BOUND * MAX_VARIABLES)) ≤ℤ m) × (m ≤ℤ pos (MAX_BOUND * MAX_VARIABLES))
 
 -- the assignment that a list gives
 abbrev pub assignment_of : List ℤ → ℕ → ℤ

@@ -4,6 +4,7 @@ ghost use Rattle.std.specs.Prelude.{◌≡◌, ℕ, ◌<◌, ◌≤◌, ℤ, pos
 ghost use Rattle.tl_diff.specs.Bounds.{AddsBound, IsSatisfiable, IsGreatest, HasNoGreatest, IsLeast, IsSmall, assignment_of, Satisfies};
 
 use crate::insertion::add;
+use crate::matrix::{MAX_BOUND, MAX_VARIABLES};
 use std::alloc::{AllocError, Global};
 use std::marker::Model;
 
@@ -31,7 +32,7 @@ impl ClosedBounds {
     /// No constraints between so many variables.
     pub fn new(alloc: Global, variables: usize) -> Result<ClosedBounds, AllocError>
         requires some { 1 ≤ variables }
-        requires few { variables ≤ 64 }
+        requires few { variables ≤ MAX_VARIABLES }
         ensures variables { IfOk result (λ d. d.n ≡ variables) }
         ensures free { IfOk result (λ d. (x : ℕ → ℤ) → Satisfies d x) }
     {
@@ -78,8 +79,8 @@ impl ClosedBounds {
     pub fn bound(&mut self, a: usize, b: usize, most: i32) -> bool
         requires begins { a < self.old.n }
         requires ends { b < self.old.n }
-        requires low { neg_ℤ (pos 1000000) ≤ℤ most }
-        requires high { most ≤ℤ pos 1000000 }
+        requires low { neg_ℤ (pos MAX_BOUND) ≤ℤ most }
+        requires high { most ≤ℤ pos MAX_BOUND }
         requires holds { IsSatisfiable self.old }
         ensures adds { AddsBound self.old self.new a b most }
         ensures holds { IsTrue result ↔ IsSatisfiable self.new }

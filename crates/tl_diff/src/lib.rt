@@ -9,5 +9,5 @@ mod insertion;
 mod matrix;
 mod paths;
 
-pub use matrix::Matrix;
+pub use matrix::{MAX_BOUND, MAX_MARKS, MAX_VARIABLES, Matrix};
 pub use paths::{Arc, chain, heaviest};

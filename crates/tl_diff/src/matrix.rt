@@ -7,6 +7,15 @@ use crate::closed_bounds::ClosedBounds;
 use std::alloc::{AllocError, Global};
 use std::marker::Model;
 
+/// The most variables that a matrix has.
+pub const MAX_VARIABLES: u32 = 64;
+
+/// The most marks that a matrix holds at one time.
+pub const MAX_MARKS: u32 = 8;
+
+/// The greatest number of a constraint that is added; the least is as much below 0.
+pub const MAX_BOUND: u32 = 1_000_000;
+
 /// Constraints `x_b <= x_a + most` between whole-number variables, kept as a closed difference bound
 /// matrix, so that each tightest bound is one look-up. `new` makes all the room; every other call
 /// takes no memory.
@@ -37,8 +46,8 @@ impl Matrix {
     /// No constraints between `n` variables, and room for so many marks.
     pub fn new(alloc: Global, n: u32, marks: u32) -> Result<Matrix, AllocError>
         requires some { 1 ≤ n }
-        requires few { n ≤ 64 }
-        requires few_marks { marks ≤ 8 }
+        requires few { n ≤ MAX_VARIABLES }
+        requires few_marks { marks ≤ MAX_MARKS }
         ensures variables { IfOk result (λ m. m.bounds.n ≡ n) }
         ensures marks { IfOk result (λ m. m.marks ≡ marks) }
         ensures free { IfOk result (λ m. (x : ℕ → ℤ) → Satisfies m.bounds x) }
@@ -62,8 +71,8 @@ impl Matrix {
     pub fn bound(&mut self, a: u32, b: u32, most: i32) -> bool
         requires begins { a < self.old.bounds.n }
         requires ends { b < self.old.bounds.n }
-        requires low { neg_ℤ (pos 1000000) ≤ℤ most }
-        requires high { most ≤ℤ pos 1000000 }
+        requires low { neg_ℤ (pos MAX_BOUND) ≤ℤ most }
+        requires high { most ≤ℤ pos MAX_BOUND }
         requires holds { IsSatisfiable self.old.bounds }
         ensures adds { AddsBound self.old.bounds self.new.bounds a b most }
         ensures holds { IsTrue result ↔ IsSatisfiable self.new.bounds }

@@ -3,8 +3,8 @@ use Rattle.std.proofs.Common.{ℕ, ◌≤◌, leb, List, [], ◌∷◌, ◌++◌
 use Rattle.std.specs.List.{AllByRecursion}
 use Rattle.std.proofs.lemmas.Bool.{cases_Bool}
 use Rattle.tl_grid.specs.declared.block.Block.{Block}
-use Rattle.tl_grid.specs.Walk.{Walk, pass_taken}
-use Rattle.tl_grid.specs.Answers.{EndsBy}
+use Rattle.tl_grid.specs.inner.Walk.{Walk, pass_taken}
+use Rattle.tl_grid.specs.inner.States.{EndsBy}
 use Rattle.tl_grid.proofs.Passing.{pass_on, pass_stop}
 
 -- a walk's column and blocks end by column `width`

@@ -11,7 +11,7 @@ use Rattle.tl_grid.specs.declared.error.GridError.TheVariants.{Memory, TooManyCe
 use Rattle.tl_grid.specs.Forming.{Cell, Forming, with_cell, form_cells, begin_row, next_row, form_row, form_rows, grown_into}
 use Rattle.tl_grid.specs.Overlap.{numbers_over, IsBefore}
 use Rattle.tl_grid.specs.declared.group.Group.{Group}
-use Rattle.tl_grid.specs.Walk.{reaches, Walk, hit, Row, placed, walk_of, unless_hit, place_cells, row_of, after_row, then_ok, place_rows}
+use Rattle.tl_grid.specs.inner.Walk.{reaches, Walk, hit, Row, placed, walk_of, unless_hit, place_cells, row_of, after_row, then_ok, place_rows}
 use Rattle.tl_grid.proofs.Chains.{spot, spot_ended, not_below, Chain, filter_yes, filter_no, chain_append, chain_kept}
 use Rattle.tl_grid.proofs.Passing.{EndsWithin, Reaches, passes}
 use Rattle.tl_grid.proofs.Cells.{cell_of, AllQuiet, BeginsBy, BeginsAbove, block_number, numbers_here, grown_cells, still_cells, grown_elsewhere}

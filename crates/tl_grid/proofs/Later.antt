@@ -4,7 +4,7 @@ use Rattle.std.proofs.lemmas.Bool.{lt-leb, le-ltb, ne_eqb, cases_Bool, and_left,
 use Rattle.std.proofs.lemmas.List.Folds.{list_any-append}
 use Rattle.tl_grid.specs.declared.shape.SpanOf.{SpanOf}
 use Rattle.tl_grid.specs.declared.shape.ShapeGroup.{ShapeGroup}
-use Rattle.tl_grid.specs.Forming.{Cell, Forming, covers, has_cell, first_free, first_rows, cell_at, with_cell, form_cells, grown_into, begin_row, next_row, form_row, form_rows, at_group_end, end_group, form_group, form_groups, cells_in}
+use Rattle.tl_grid.specs.Forming.{Cell, Forming, covers, has_cell, first_free, initial_rowspan, cell_at, with_cell, form_cells, grown_into, begin_row, next_row, form_row, form_rows, at_group_end, end_group, form_group, form_groups, cells_in}
 use Rattle.tl_grid.specs.Overlap.{numbers_over, IsBefore}
 use Rattle.tl_grid.specs.Dropping.{keeps_row}
 use Rattle.tl_grid.proofs.Chains.{filter_yes, filter_no}
@@ -33,10 +33,10 @@ later_then y z s t u le a b = record {
 -- a cell of row y covers no slot above it, and none further left
 misses : (number x y : ℕ) (span : SpanOf) (x' y' : ℕ) → IsBefore x' y' x y → covers x' y' (cell_at number x y span) ≡ false
 misses number x y span x' y' (inl above) =
-    and_right (leb x x' && ltb x' (x + span.colspan)) (leb y y' && ltb y' (y + first_rows span))
-    (and_left (leb y y') (ltb y' (y + first_rows span)) (lt-leb y y' above))
+    and_right (leb x x' && ltb x' (x + span.colspan)) (leb y y' && ltb y' (y + initial_rowspan span))
+    (and_left (leb y y') (ltb y' (y + initial_rowspan span)) (lt-leb y y' above))
 misses number x y span x' y' (inr (same, left)) =
-    and_left (leb x x' && ltb x' (x + span.colspan)) (leb y y' && ltb y' (y + first_rows span))
+    and_left (leb x x' && ltb x' (x + span.colspan)) (leb y y' && ltb y' (y + initial_rowspan span))
     (and_left (leb x x') (ltb x' (x + span.colspan)) (lt-leb x x' left))
 
 -- a cell that is formed changes no slot before it

@@ -9,7 +9,11 @@ pub mod Rows
 pub mod Groups
 pub mod Tables
 pub mod Counts
-pub mod Grids
+pub mod Members
 pub mod Numbers
-pub mod Within
-pub mod Refusals
+pub mod Put
+pub mod FilledLeft
+pub mod Grids
+pub mod Wide
+pub mod Laws
+pub mod Results

@@ -4,7 +4,7 @@ use Rattle.std.specs.List.{filter, list_any, AllByRecursion}
 use Rattle.std.proofs.lemmas.Bool.{leb-true, leb-false, cases_Bool, cases_lt, cond-true, cond-false}
 use Rattle.std.proofs.lemmas.List.Elements.{filter-append}
 use Rattle.tl_grid.specs.declared.block.Block.{Block}
-use Rattle.tl_grid.specs.Walk.{reaches, Walk, pass_taken}
+use Rattle.tl_grid.specs.inner.Walk.{reaches, Walk, pass_taken}
 use Rattle.tl_grid.proofs.Chains.{spot, Chain, ChainTo, spot_in, filter_yes, filter_no, chain_yes, chain_push}
 
 -- whether a list has an element

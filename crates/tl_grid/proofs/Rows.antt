@@ -6,9 +6,9 @@ use Rattle.std.proofs.lemmas.List.{map-append, length-map}
 use Rattle.std.proofs.lemmas.List.Elements.{filter-append}
 use Rattle.tl_grid.specs.declared.shape.SpanOf.{SpanOf}
 use Rattle.tl_grid.specs.declared.block.Block.{Block}
-use Rattle.tl_grid.specs.Forming.{Cell, Forming, has_cell, first_free, first_rows, cell_at, with_cell}
+use Rattle.tl_grid.specs.Forming.{Cell, Forming, has_cell, first_free, initial_rowspan, cell_at, with_cell}
 use Rattle.tl_grid.specs.Overlap.{numbers_over, IsBefore}
-use Rattle.tl_grid.specs.Walk.{reaches, Walk, block_at, hit, Row, placed, walk_of}
+use Rattle.tl_grid.specs.inner.Walk.{reaches, Walk, block_at, hit, Row, placed, walk_of}
 use Rattle.tl_grid.proofs.Chains.{spot, Chain, ChainTo, spot_in, spot_before, spot_from, filter_yes, filter_no, none_left, none_right, at_most_one, chain_append, chain_yes}
 use Rattle.tl_grid.proofs.Passing.{some, BeginsAfter, Reaches, EndsWithin, Passes, passes, push_front}
 use Rattle.tl_grid.proofs.Cells.{cell_of, AllQuiet, block_number, BeginsBy, numbers_here, has_cell_here, first_free_is, formed_cell}
@@ -159,7 +159,7 @@ begins_here y n =
     ]
 
 -- a cell has a row
-rows_some : (y n : ℕ) → y < y + cond (eqb n 0) 1 n
+pub rows_some : (y n : ℕ) → y < y + cond (eqb n 0) 1 n
 rows_some y n =
     elim (cases_eq n 0) [
       | inl e ↦ (let t : eqb n 0 ≡ true = eq-eqb n 0 e in rw t (omega arith))
@@ -186,11 +186,11 @@ row_step done y number span s r quiet wide m none =
     let at_row : s.row ≡ y = m.at_row in
     let high : s.height ≡ r.height = m.high in
     let width : ℕ = max s.width right in
-    let height : ℕ = max r.height (y + first_rows span) in
+    let height : ℕ = max r.height (y + initial_rowspan span) in
     record {
       cells = placed_cells done y number w.column span s r.blocks m.at_row m.cells;
       at_row = at_row;
-      high = ap (λ h. max h (s.row + first_rows span)) high ∙ ap (λ row. max r.height (row + first_rows span)) at_row;
+      high = ap (λ h. max h (s.row + initial_rowspan span)) high ∙ ap (λ row. max r.height (row + initial_rowspan span)) at_row;
       wide = omega arith;
       within = all_insert (EndsWithin width) w.passed b w.ahead (omega arith)
           (all_weaken (EndsWithin s.width) (EndsWithin width) (λ c h. omega arith) (w.passed ++ w.ahead) (p.kept s.width m.within));

@@ -5,8 +5,8 @@ use Rattle.tl_grid.specs.declared.shape.SpanOf.{SpanOf}
 use Rattle.tl_grid.specs.declared.block.Block.{Block}
 use Rattle.tl_grid.specs.declared.row.Cursor.{Cursor}
 use Rattle.tl_grid.specs.declared.row.RowState.{RowState}
-use Rattle.tl_grid.specs.Walk.{hit, Walk, Row, block_at, placed, walk_of, unless_hit, place_cell}
-use Rattle.tl_grid.specs.Answers.{walk_over, row_over}
+use Rattle.tl_grid.specs.inner.Walk.{hit, Walk, Row, block_at, placed, walk_of, unless_hit, place_cell}
+use Rattle.tl_grid.specs.inner.States.{walk_over, row_over}
 
 -- the front of a list, with one element put at its end, and what comes after that
 take_put : {X : Type 0} (b : X) (xs : List X) (i : ℕ) → i ≤ length xs → take (suc i) (take i xs ++ b ∷ drop i xs) ≡ take i xs ++ b ∷ []

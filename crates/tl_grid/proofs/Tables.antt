@@ -15,7 +15,7 @@ use Rattle.tl_grid.specs.Overlap.{numbers_over}
 use Rattle.tl_grid.specs.Dropping.{keeps_row}
 use Rattle.tl_grid.specs.declared.group.Group.{Group}
 use Rattle.tl_grid.specs.declared.table.Table.{Table}
-use Rattle.tl_grid.specs.Walk.{reaches, group_at, then_ok, place_rows, settled, after_group, place_groups, place_all}
+use Rattle.tl_grid.specs.inner.Walk.{reaches, group_at, then_ok, place_rows, settled, after_group, place_groups, place_all}
 use Rattle.tl_grid.proofs.Chains.{spot, filter_yes, filter_no, at_most_one}
 use Rattle.tl_grid.proofs.Cells.{cell_of, AllQuiet, BeginsAbove, number_of, or_false, numbers-append, quiet_none}
 use Rattle.tl_grid.proofs.Later.{Later, later_rows, later_end, later_groups, anchors-map, ended_elsewhere}

@@ -45,8 +45,8 @@ first_free taken x zero = x
 first_free taken x (suc more) = if taken x then first_free taken (x + 1) more else x
 
 -- the rows that a cell takes when it is formed: a cell with rowspan 0 begins with one and grows
-abbrev pub first_rows : SpanOf → ℕ
-first_rows span = if span.rowspan == 0 then 1 else span.rowspan
+abbrev pub initial_rowspan : SpanOf → ℕ
+initial_rowspan span = if span.rowspan == 0 then 1 else span.rowspan
 
 -- the cell of this number, anchored at column x of the row y
 abbrev pub cell_at : ℕ → ℕ → ℕ → SpanOf → Cell
@@ -55,7 +55,7 @@ cell_at number x y span = record {
   left = x;
   right = x + span.colspan;
   top = y;
-  rows = λ row. nat_le y row && nat_lt row (y + first_rows span);
+  rows = λ row. nat_le y row && nat_lt row (y + initial_rowspan span);
   grows = span.rowspan == 0;
 }
 
@@ -63,7 +63,7 @@ cell_at number x y span = record {
 abbrev pub with_cell : ℕ → ℕ → SpanOf → Forming → Forming
 with_cell number x span s = record {
   width = max s.width (x + span.colspan);
-  height = max s.height (s.row + first_rows span);
+  height = max s.height (s.row + initial_rowspan span);
   row = s.row;
   cells = s.cells ++ cell_at number x s.row span ∷ [];
 }

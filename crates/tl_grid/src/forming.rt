@@ -1,8 +1,15 @@
-ghost use Rattle.std.specs.Prelude.{◌≡◌, ◌<◌, ◌^◌, length, All, IfOk, IfErr};
+//! `form`: counts the cells, forms them, and drops the columns and rows without an anchor.
+
+ghost use Rattle.std.specs.Prelude.{◌≡◌, ◌<◌, ◌^◌, ◌⊎◌, ℕ, length, All, IfOk, IfErr, alloc_error};
+ghost use Rattle.std.specs.List.{AllPairs, AllByRecursion};
+ghost use Rattle.tl_grid.specs.declared.shape.Grid.{Grid};
+ghost use Rattle.tl_grid.specs.declared.error.GridError.{GridError};
+ghost use Rattle.tl_grid.specs.declared.error.GridError.TheVariants.{Memory};
 ghost use Rattle.tl_grid.specs.Shapes.{AllSpans};
-ghost use Rattle.tl_grid.specs.Forming.{cell_count, row_count, cells_of};
+ghost use Rattle.tl_grid.specs.Forming.{cell_count, row_count, cells_of, formed};
 ghost use Rattle.tl_grid.specs.Dropping.{IsPlaced};
-ghost use Rattle.tl_grid.specs.Form.{HasGrid, IsRefusal};
+ghost use Rattle.tl_grid.specs.Slots.{AreApart, HasAnchorInColumn, HasAnchorInRow, IsFilledToLeft, KeepsSlots};
+ghost use Rattle.tl_grid.specs.Form.{HasGrid, IsRefused, ReturnsGrid, ReturnsError};
 
 use crate::dropping::{kept_columns, kept_rows, places_as_written};
 use crate::error::GridError;
@@ -31,19 +38,15 @@ fn count_all(groups: &[ShapeGroup]) -> u32
     count
 }
 
-/// Forms the grid of a table (HTML Standard, "Forming a table") and drops the columns and rows in
-/// which no cell is anchored. A `tfoot` is formed last; a cell of rowspan 0 grows to the end of its
-/// row group; two cells over one slot are refused. No slot is made: the time goes with the numbers
-/// of cells and rows, and not with spans.
-pub fn form(alloc: Global, shape: &Shape) -> Result<Grid, GridError>
+/// The grid, or the first reason why there is none.
+fn first_result(alloc: Global, shape: &Shape) -> Result<Grid, GridError>
     requires spans { AllSpans shape.now.groups }
     requires columns { shape.now.columns < 2 ^ 30 }
     requires rows { row_count shape.now < 2 ^ 20 }
     requires cells { cell_count shape.now < 2 ^ 32 }
-    ensures grid { IfOk result (λ grid. HasGrid shape.now grid) }
-    ensures count { IfOk result (λ grid. length grid.places ≡ cell_count shape.now) }
-    ensures within { IfOk result (λ grid. All (IsPlaced grid.cols grid.rows) grid.places) }
-    ensures refusal { IfErr result (λ error. IsRefusal shape.now error) }
+    ensures ok { IfOk result (λ grid. HasGrid shape.now grid) }
+    ensures err { IfErr result (λ error.
+        (error ≡ Memory alloc_error) ⊎ IsRefused shape.now error) }
 {
     let groups = shape.groups.as_slice();
     let count = count_all(groups);
@@ -66,4 +69,36 @@ pub fn form(alloc: Global, shape: &Shape) -> Result<Grid, GridError>
         rows: rows.len() as u32,
         places,
     })
+}
+
+/// Forms the grid of a table (HTML Standard, "Forming a table") and drops the columns and rows in
+/// which no cell is anchored. A `tfoot` is formed last; a cell of rowspan 0 grows to the end of its
+/// row group; two cells over one slot are refused. No slot is made: the time goes with the numbers
+/// of cells and rows, and not with spans.
+pub fn form(alloc: Global, shape: &Shape) -> Result<Grid, GridError>
+    requires spans { AllSpans shape.now.groups }
+    requires columns { shape.now.columns < 2 ^ 30 }
+    requires rows { row_count shape.now < 2 ^ 20 }
+    requires cells { cell_count shape.now < 2 ^ 32 }
+    ensures ok { IfOk result (λ grid. HasGrid shape.now grid) }
+    ensures count { IfOk result (λ grid. length grid.places ≡ cell_count shape.now) }
+    ensures within { IfOk result (λ grid. All (IsPlaced grid.cols grid.rows) grid.places) }
+    // No two places share a slot.
+    ensures apart { IfOk result (λ grid. AllPairs AreApart grid.places) }
+    // In each column and in each row a cell is anchored.
+    ensures columns { IfOk result (λ grid.
+        (x : ℕ) → x < grid.cols → HasAnchorInColumn grid.places x) }
+    ensures rows { IfOk result (λ grid. (y : ℕ) → y < grid.rows → HasAnchorInRow grid.places y) }
+    // All slots to the left of an anchored cell are covered in its row.
+    ensures left { IfOk result (λ grid. All (IsFilledToLeft grid.places) grid.places) }
+    // The kept slots of a cell are exactly those of its place.
+    ensures kept { IfOk result (λ grid.
+        AllByRecursion (KeepsSlots (formed shape.now)) (formed shape.now).cells) }
+    ensures err { IfErr result (λ error.
+        (error ≡ Memory alloc_error) ⊎ IsRefused shape.now error) }
+    // The grid and the causes exclude one another: each is the only result.
+    ensures each_ok { (grid : Grid) → HasGrid shape.now grid → ReturnsGrid grid result }
+    ensures each_err { (error : GridError) → IsRefused shape.now error → ReturnsError error result }
+{
+    first_result(alloc, shape)
 }

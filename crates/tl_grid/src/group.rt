@@ -1,9 +1,9 @@
 ghost use Rattle.std.specs.Prelude.{◌≡◌, ◌+◌, ◌*◌, ◌<◌, ◌≤◌, ◌^◌, IfOk, length, Ok};
 ghost use Rattle.std.specs.List.{AllByRecursion};
 ghost use Rattle.tl_grid.specs.Forming.{cells_in};
-ghost use Rattle.tl_grid.specs.Walk.{place_cells, row_of, after_row, then_ok, group_at, place_rows};
+ghost use Rattle.tl_grid.specs.inner.Walk.{place_cells, row_of, after_row, then_ok, group_at, place_rows};
 ghost use Rattle.tl_grid.specs.Shapes.{IsSpan};
-ghost use Rattle.tl_grid.specs.Answers.{IsAnswer, EndsBy};
+ghost use Rattle.tl_grid.specs.inner.States.{IsWalked, EndsBy};
 
 use crate::block::Block;
 use crate::error::GridError;
@@ -33,7 +33,7 @@ fn form_row(mut number: u32, spans: &[SpanOf], group: Group) -> Result<Group, Gr
     requires low { group.row ≤ group.height }
     requires room { group.height + 65534 < 2 ^ 32 }
     requires columns { AllByRecursion (EndsBy (1000 * number)) group.open_blocks }
-    ensures row { IsAnswer (λ after. after)
+    ensures row { IsWalked (λ after. after)
         (then_ok (λ row. Ok (after_row group.row row))
         (place_cells group.row number (row_of group) spans.now))
         result }
@@ -80,7 +80,7 @@ pub fn form_group(
     requires spans { AllByRecursion (AllByRecursion IsSpan) rows.now }
     requires number { number + cells_in rows.now ≤ 20000 }
     requires room { row + 65534 * cells_in rows.now + length rows.now + 65534 < 2 ^ 32 }
-    ensures rows { IsAnswer (λ after. after) (place_rows number (group_at row) rows.now) result }
+    ensures rows { IsWalked (λ after. after) (place_rows number (group_at row) rows.now) result }
     ensures count { IfOk result (λ after. length after.blocks ≡ cells_in rows.now) }
     ensures height { IfOk result (λ after.
         after.height ≤ row + 65534 * cells_in rows.now + length rows.now) }

@@ -1,5 +1,5 @@
 ghost use Rattle.std.specs.Prelude.{◌≡◌, ◌≤◌, [], length, insert, filter, OnOk};
-ghost use Rattle.tl_grid.specs.Walk.{reaches};
+ghost use Rattle.tl_grid.specs.inner.Walk.{reaches};
 
 use crate::block::Block;
 use std::alloc::{AllocFailed, Global};

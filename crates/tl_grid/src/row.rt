@@ -1,7 +1,7 @@
 ghost use Rattle.std.specs.Prelude.{◌≡◌, ◌+◌, ◌*◌, ◌<◌, ◌≤◌, ◌^◌, IfOk, max, take, drop, length};
-ghost use Rattle.tl_grid.specs.Walk.{pass_taken, block_at, hit, place_cell};
+ghost use Rattle.tl_grid.specs.inner.Walk.{pass_taken, block_at, hit, place_cell};
 ghost use Rattle.tl_grid.specs.Shapes.{IsSpan};
-ghost use Rattle.tl_grid.specs.Answers.{walk_over, row_over, IsAnswer, StaysWithin};
+ghost use Rattle.tl_grid.specs.inner.States.{walk_over, row_over, IsWalked, StaysWithin};
 
 use crate::block::Block;
 use crate::error::GridError;
@@ -86,7 +86,7 @@ pub fn form_cell(y: u32, number: u32, span: SpanOf, row: RowState) -> Result<Row
     requires row { y + 65534 < 2 ^ 32 }
     requires within { row.cursor.at ≤ length row.open_blocks }
     requires columns { StaysWithin (1000 * number) (row_over row) }
-    ensures cell { IsAnswer row_over (place_cell y number (row_over row) span) result }
+    ensures cell { IsWalked row_over (place_cell y number (row_over row) span) result }
     ensures columns { IfOk result (λ after. StaysWithin (1000 * (number + 1)) (row_over after)) }
     ensures height { IfOk result (λ after. after.height ≤ max row.height (y + 65534)) }
     ensures count { IfOk result (λ after. length after.blocks ≡ length row.blocks + 1) }

@@ -2,9 +2,9 @@ ghost use Rattle.std.specs.Prelude.{◌≡◌, ◌+◌, ◌*◌, ◌<◌, ◌≤
 ghost use Rattle.std.specs.List.{AllByRecursion, sum_by};
 ghost use Rattle.tl_grid.specs.declared.error.GridError.TheVariants.{Memory};
 ghost use Rattle.tl_grid.specs.Forming.{cells_in, cells_of, rows_of};
-ghost use Rattle.tl_grid.specs.Walk.{after_group, has_turn, place_groups, place_all};
+ghost use Rattle.tl_grid.specs.inner.Walk.{after_group, has_turn, place_groups, place_all};
 ghost use Rattle.tl_grid.specs.Shapes.{IsSpan, AllSpans};
-ghost use Rattle.tl_grid.specs.Answers.{IsAnswer};
+ghost use Rattle.tl_grid.specs.inner.States.{IsWalked};
 
 use crate::block::Block;
 use crate::error::GridError;
@@ -73,7 +73,7 @@ fn form_groups(
     requires spans { AllSpans groups.now }
     requires cells { cells_of groups.now ≤ 20000 }
     requires room { table.row + 65534 * cells_of groups.now + rows_of groups.now + 65534 < 2 ^ 32 }
-    ensures groups { IsAnswer (λ after. after)
+    ensures groups { IsWalked (λ after. after)
         (place_groups (has_turn feet) 0 table groups.now)
         result }
     ensures count { IfOk result (λ after.
@@ -98,7 +98,7 @@ pub fn form_table(alloc: Global, groups: &[ShapeGroup]) -> Result<Table, GridErr
     requires spans { AllSpans groups.now }
     requires cells { cells_of groups.now ≤ 20000 }
     requires rows { rows_of groups.now < 2 ^ 20 }
-    ensures table { IsAnswer (λ table. table) (place_all groups.now) result }
+    ensures table { IsWalked (λ table. table) (place_all groups.now) result }
     ensures count { IfOk result (λ table. length table.blocks ≤ 2 * cells_of groups.now) }
 {
     let table = Table {

@@ -1,14 +1,11 @@
 -- No layout by `low` is lower than the bound of a set of widths that has its own, and no placement is.
-use Rattle.std.proofs.Common.{◌≡◌, ℕ, ◌<◌, ◌≤◌, List, length, get_or, refl, sym, ap, subst, arith}
-use Rattle.std.specs.List.{All}
-use Rattle.tl_base.specs.Style.{gap_of, row_gap_of, edge_of}
-use Rattle.tl_base.specs.Steps.{IsLowAt}
+use Rattle.std.proofs.Common.{ℕ, ◌<◌, ◌≤◌, List, length, get_or, arith}
 use Rattle.tl_problem.specs.declared.cell.Cell.{Cell}
 use Rattle.tl_problem.specs.declared.placed.Placed.{Placed}
-use Rattle.tl_problem.specs.Problem.{ProblemModel, total_width, total_height, cell_width, cell_height}
-use Rattle.tl_problem.specs.Layouts.{WithinPage, GiveHeights, GiveHigh, IsLayoutByLow}
+use Rattle.tl_problem.specs.Problem.{ProblemModel, total_height, cell_width, cell_height}
+use Rattle.tl_problem.specs.Layouts.{GiveHeights, GiveHigh, IsLayoutByLow}
 use Rattle.tl_problem.specs.Sound.{IsSound, IsSoundCell}
-use Rattle.tl_problem.specs.Bounds.{IsGreatestRoom, GiveLow, IsBound}
+use Rattle.tl_problem.specs.Bounds.{GiveLow, IsBound}
 use Rattle.tl_problem.specs.Placements.{IsPlacement}
 use Rattle.tl_problem.proofs.Heights.{IsLowAt-wider}
 

@@ -1,5 +1,5 @@
 -- Falling step functions: wider is no higher, a height stands from the first width on, and changes where a step begins.
-use Rattle.std.proofs.Common.{cond, ◌≡◌, ℕ, ◌+◌, ◌<◌, ◌≤◌, zero, suc, Bool, true, false, nat_le, List, [], ◌∷◌, length, get_or, filter, Option, Some, None, refl, sym, ap, ◌∙◌, subst, inl, inr, arith}
+use Rattle.std.proofs.Common.{cond, ◌≡◌, ℕ, ◌<◌, ◌≤◌, suc, Bool, true, false, nat_le, List, [], ◌∷◌, length, get_or, filter, Option, Some, None, refl, sym, ap, ◌∙◌, subst, inl, inr, arith}
 use Rattle.std.specs.Option.{option_map, IsSomeAnd}
 use Rattle.std.specs.List.{All, AllPairs, last_or}
 use Rattle.std.proofs.lemmas.Bool.{cases_lt}
@@ -8,10 +8,10 @@ use Rattle.tl_base.specs.declared.steps.Config.{Config}
 use Rattle.tl_base.specs.Steps.{AreSteps, first_width, height_at, IsLowAt}
 
 -- tests and what they mean
-test_le : (a b : ℕ) → a ≤ b → nat_le a b ≡ true
+pub test_le : (a b : ℕ) → a ≤ b → nat_le a b ≡ true
 test_le a b le = grind (arith, nat_tests)
 
-test_le_false : (a b : ℕ) → b < a → nat_le a b ≡ false
+pub test_le_false : (a b : ℕ) → b < a → nat_le a b ≡ false
 test_le_false a b gt = grind (arith, nat_tests)
 
 -- ---- more lines are enough where fewer are
@@ -114,7 +114,7 @@ height-same steps w v more none =
           elim (cases_lt w at.width) [
             | inr narrow ↦ test_le at.width w narrow ∙ sym (test_le at.width v (omega arith))
             | inl wide ↦ elim (cases_lt v at.width) [
-                | inl wider ↦ test_le_false at.width w wide ∙ sym (test_le_false at.width v wider)
-                | inr between ↦ absurd (none k d within wide between)
-              ]
+              | inl wider ↦ test_le_false at.width w wide ∙ sym (test_le_false at.width v wider)
+              | inr between ↦ absurd (none k d within wide between)
+            ]
           ]

@@ -1,5 +1,13 @@
 mod Examples
+mod AreaExamples
+mod BoundExamples
+mod PlacementExamples
 pub mod Heights
 pub mod SizeLaws
 pub mod BoundLaws
 pub mod TightLaws
+pub mod SpanLaws
+pub mod ZoneLaws
+pub mod OneClass
+pub mod Rectangles
+pub mod AreaLaws

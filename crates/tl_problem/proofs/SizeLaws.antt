@@ -1,8 +1,7 @@
 -- Columns and rows: where they end, what all take together, and that their places tell their sizes.
-use Rattle.std.proofs.Common.{◌≡◌, ℕ, ◌+◌, ◌-◌, ◌*◌, ◌<◌, ◌≤◌, zero, suc, List, [], ◌∷◌, length, take, drop, sum, refl, sym, ap, ◌∙◌, subst, arith}
+use Rattle.std.proofs.Common.{◌≡◌, ℕ, ◌+◌, ◌-◌, ◌*◌, ◌<◌, ◌≤◌, zero, suc, List, [], ◌∷◌, length, take, drop, sum, refl, ap, arith}
 use Rattle.std.proofs.lemmas.List.{take_all}
 use Rattle.std.proofs.lemmas.List.Sums.{sum_by-cons}
-use Rattle.std.specs.List.{sum_by, slice_range}
 use Rattle.tl_problem.specs.Sizes.{position, room, total}
 
 -- ---- the total, by the place where the last one ends
@@ -27,7 +26,7 @@ total-le gap edge (x ∷ xs) ys same ends =
 -- ---- a room, by the places where its span begins and ends
 
 -- the sizes before a place are those before an earlier one and those between
-take-between : (sizes : List ℕ) (from more : ℕ) → sum (take (from + more) sizes) ≡ sum (take from sizes) + sum (take more (drop from sizes))
+pub take-between : (sizes : List ℕ) (from more : ℕ) → sum (take (from + more) sizes) ≡ sum (take from sizes) + sum (take more (drop from sizes))
 take-between sizes zero more = let all : 0 + more ≡ more = omega arith in rw all (omega arith)
 take-between [] (suc from) more = let next : suc from + more ≡ suc (from + more) = omega arith in rw next (omega (arith, no_sum more)) where
   no_sum : (more : ℕ) → sum (take more []) ≡ 0
@@ -52,6 +51,16 @@ room-position gap sizes from past ahead =
       gaps_between : (gap from inner : ℕ) → gap * inner + gap + gap * from ≡ gap * (from + inner + 1)
       gaps_between gap from inner = grind arith
 
+-- a later place is no nearer
+pub position-mono : (gap : ℕ) (sizes : List ℕ) (from past : ℕ) → from ≤ past → position gap sizes from ≤ position gap sizes past
+position-mono gap sizes from past more =
+    let whole : from + (past - from) ≡ past = omega arith in
+    let sums = rw whole at (take-between sizes from (past - from)) in
+    let gaps = rw whole at (gaps_split gap from (past - from)) in
+    omega (arith, sums, gaps) where
+      gaps_split : (gap from more : ℕ) → gap * (from + more) ≡ gap * from + gap * more
+      gaps_split gap from more = grind arith
+
 -- ---- sizes are known by their places
 
 -- of lists as long as each other that end each place alike, each size is the same
@@ -62,8 +71,8 @@ same-positions gap (x ∷ xs) [] same at = absurd (omega arith)
 same-positions gap (x ∷ xs) (y ∷ ys) same at =
     let first : x ≡ y = omega (arith, at 1 (omega arith)) in
     let tails : xs ≡ ys = same-positions gap xs ys (omega arith) (λ place within.
-        let here = at (suc place) (omega arith) in
-        let left = sum_by-cons (λ n. n) x (take place xs) in
-        let right = sum_by-cons (λ n. n) y (take place ys) in
-        omega (arith, here, left, right, first)) in
+    let here = at (suc place) (omega arith) in
+    let left = sum_by-cons (λ n. n) x (take place xs) in
+    let right = sum_by-cons (λ n. n) y (take place ys) in
+    omega (arith, here, left, right, first)) in
     cc

@@ -1,12 +1,10 @@
 -- Making a placement tight raises neither its width nor its height, and doing so again changes nothing.
-use Rattle.std.proofs.Common.{◌≡◌, ℕ, ◌≤◌, List, Some, length, get_or, refl, sym, ap, ◌∙◌, subst, arith}
+use Rattle.std.proofs.Common.{◌≡◌, ℕ, ◌≤◌, List, length, get_or, sym, ap, ◌∙◌, subst, arith}
 use Rattle.tl_base.specs.Style.{gap_of, row_gap_of, edge_of}
-use Rattle.tl_base.specs.Steps.{height_at, IsLowAt}
-use Rattle.tl_problem.specs.declared.cell.Cell.{Cell}
 use Rattle.tl_problem.specs.declared.placed.Placed.{Placed}
-use Rattle.tl_problem.specs.Sizes.{position, total}
+use Rattle.tl_problem.specs.Sizes.{total}
 use Rattle.tl_problem.specs.Problem.{ProblemModel, total_width, total_height, cell_width, cell_height}
-use Rattle.tl_problem.specs.Layouts.{WithinPage, GiveHigh}
+use Rattle.tl_problem.specs.Layouts.{GiveHigh}
 use Rattle.tl_problem.specs.Placements.{AreLeast, IsPlacement}
 use Rattle.tl_problem.specs.Tight.{KeepHigh, IsTightFrom, IsTight}
 use Rattle.tl_problem.proofs.SizeLaws.{total-le, same-positions}
@@ -51,14 +49,14 @@ module _ (problem : ProblemModel) where
     pub tight-no_wider : tight.width ≤ placed.width
     tight-no_wider =
         let less = least-total (gap_of problem.style) (edge_of problem.style) (KeepHigh problem placed.widths) tight.widths placed.widths made.columns (KeepHigh-itself placed.widths is.page.columns)
-            (made.placement.page.columns ∙ sym is.page.columns) in
+        (made.placement.page.columns ∙ sym is.page.columns) in
         omega (arith, less, is.width, made.placement.width)
 
     pub tight-no_higher : tight.height ≤ placed.height
     tight-no_higher =
         let enough = GiveHigh-kept placed.widths tight.widths placed.heights made.columns.kind is.rows.kind in
         let less = least-total (row_gap_of problem.style) (edge_of problem.style) (GiveHigh problem tight.widths) tight.heights placed.heights made.placement.rows enough
-            (made.placement.rows.kind.rows ∙ sym is.rows.kind.rows) in
+        (made.placement.rows.kind.rows ∙ sym is.rows.kind.rows) in
         omega (arith, less, is.height, made.placement.height)
 
   -- what tightening makes is tight
@@ -79,7 +77,7 @@ module _ (problem : ProblemModel) where
   pub placement-unique : (first second : Placed) → first.widths ≡ second.widths → IsPlacement problem first → IsPlacement problem second → first ≡ second
   placement-unique first second same one other =
       let rows : first.heights ≡ second.heights = least-unique (row_gap_of problem.style) (GiveHigh problem second.widths) first.heights second.heights
-          (one.rows.kind.rows ∙ sym other.rows.kind.rows) (subst (λ widths. AreLeast (row_gap_of problem.style) (GiveHigh problem widths) first.heights) same one.rows) other.rows in
+      (one.rows.kind.rows ∙ sym other.rows.kind.rows) (subst (λ widths. AreLeast (row_gap_of problem.style) (GiveHigh problem widths) first.heights) same one.rows) other.rows in
       let wide : first.width ≡ second.width = one.width ∙ ap (total_width problem) same ∙ sym other.width in
       let high : first.height ≡ second.height = one.height ∙ ap (total_height problem) rows ∙ sym other.height in
       same-made (λ widths heights width height. placed_of widths heights width height) first.widths second.widths first.heights second.heights first.width second.width first.height second.height same rows wide high

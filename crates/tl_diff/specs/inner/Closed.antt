@@ -2,6 +2,7 @@
 -- is large.
 use Rattle.std.specs.Prelude.{◌≡◌, ℕ, ◌*◌, ◌<◌, ◌≤◌, ℤ, pos, negsuc, ◌+ℤ◌, neg_ℤ, ◌≤ℤ◌, ◌<ℤ◌, int_le, Option, Some, None, length, Bool, IsTrue, IsFalse, ◌≢◌, if◌then◌else◌, ◌⊎◌}
 use Rattle.std.specs.Int.{int_min}
+use Rattle.tl_diff.specs.declared.matrix.TheConstants.{MAX_BOUND, MAX_VARIABLES}
 use Rattle.tl_diff.specs.Bounds.{Bounds, bound_at, IsSmall, Satisfies}
 
 -- a bound is there, and it is t or less
@@ -36,19 +37,19 @@ pub record IsClosed (bounds : Bounds) : Type 0 where
 abbrev pub moved_past : (ℕ → ℤ) → ℤ → ℤ → ℕ → ℤ
 moved_past x t s p = if int_le (x p) t then x p else x p +ℤ s
 
--- no variable lies within the 1000000 above t: each is up to t, or above them
+-- no variable lies within MAX_BOUND above t: each is up to t, or above them
 abbrev pub IsGap : ℕ → (ℕ → ℤ) → ℤ → Type 0
-IsGap n x t = (p : ℕ) → p < n → (x p ≤ℤ t) ⊎ ((t +ℤ pos 1000000) <ℤ x p)
+IsGap n x t = (p : ℕ) → p < n → (x p ≤ℤ t) ⊎ ((t +ℤ pos MAX_BOUND) <ℤ x p)
 
 -- Above a gap that no single constraint spans, all variables can grow together, or shrink by one. It holds since no
--- constraint that was given is above 1000000 or below -1000000, and it is why no tightest bound is large.
+-- constraint that was given is above MAX_BOUND or as much below 0, and it is why no tightest bound is large.
 abbrev pub IsLoose : Bounds → Type 0
 IsLoose bounds = (x : ℕ → ℤ) (t s : ℤ) → Satisfies bounds x → IsGap bounds.n x t → negsuc 0 ≤ℤ s → Satisfies bounds (moved_past x t s)
 
--- no bound is above 1000000 times the number of variables, or below as much under 0
+-- no bound is above MAX_BOUND times the number of variables, or below as much under 0
 abbrev pub AreSmall : Bounds → Type 0
 AreSmall bounds = (p q : ℕ) (c : ℤ) → p < bounds.n → q < bounds.n → bound_at bounds p q ≡ Some c
-    → (neg_ℤ (pos (1000000 * bounds.n)) ≤ℤ c) × (c ≤ℤ pos (1000000 * bounds.n))
+    → (neg_ℤ (pos (MAX_BOUND * bounds.n)) ≤ℤ c) × (c ≤ℤ pos (MAX_BOUND * bounds.n))
 
 -- the bounds in the row of variable p are small
 abbrev pub IsRowSmall : Bounds → ℕ → Type 0
@@ -64,7 +65,7 @@ pub record IsExact (bounds : Bounds) : Type 0 where
 -- satisfies them, and none does once one was refused.
 pub record IsSound (bounds : Bounds) (holds : Bool) : Type 0 where
   pub some : 1 ≤ bounds.n
-  pub few : bounds.n ≤ 64
+  pub few : bounds.n ≤ MAX_VARIABLES
   pub pairs : length bounds.rows ≡ bounds.n * bounds.n
   pub exact : IsTrue holds → IsExact bounds
   pub none : IsFalse holds → (x : ℕ → ℤ) → Satisfies bounds x → ⊥

@@ -3,7 +3,7 @@
 ghost use Rattle.std.specs.Prelude.{◌≡◌, ◌<◌, length};
 ghost use Rattle.tl_diff.specs.Bounds.{IsSatisfiable};
 
-use super::Matrix;
+use super::{MAX_MARKS, MAX_VARIABLES, Matrix};
 use std::process::Abort;
 use std::test::Fail;
 
@@ -182,4 +182,23 @@ fn the_draws_are_the_known_sequence(rt: HostRuntime) {
         draws.draw(1);
         assert_eq!(rt; draws.state, want);
     }
+}
+
+// `x_(k+1) >= x_k + 2` for all k, one mark after another: variable 63 is at least at 126.
+#[test]
+fn the_most_variables_and_marks_are_held(rt: HostRuntime) -> Result<(), Fail> {
+    let mut matrix = Matrix::new(rt.alloc(), MAX_VARIABLES, MAX_MARKS)?;
+    'marks: for _ in 0..MAX_MARKS {
+        matrix.mark();
+    }
+    for variable in 0..63 {
+        assert!(rt; matrix.bound(variable + 1, variable, -2));
+    }
+    assert_eq!(rt; matrix.upper(63, 0), Some(-126));
+    'undone: for _ in 0..MAX_MARKS {
+        matrix.undo();
+    }
+    assert!(rt; matrix.holds());
+    assert_eq!(rt; matrix.upper(63, 0), None);
+    Ok(())
 }

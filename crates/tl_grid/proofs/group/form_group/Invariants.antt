@@ -1,8 +1,8 @@
 use Rattle.std.proofs.Common.{◌≡◌, ◌+◌, ◌*◌, ◌≤◌, length, drop}
 use Rattle.std.specs.List.{AllByRecursion}
 use Rattle.tl_grid.specs.Forming.{cells_in}
-use Rattle.tl_grid.specs.Walk.{place_rows, group_at}
-use Rattle.tl_grid.specs.Answers.{EndsBy}
+use Rattle.tl_grid.specs.inner.Walk.{place_rows, group_at}
+use Rattle.tl_grid.specs.inner.States.{EndsBy}
 use Rattle.tl_grid.proofs.group.form_group.Given as goal
 
 -- the walk from here on is the whole one

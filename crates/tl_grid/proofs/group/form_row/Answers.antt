@@ -2,8 +2,8 @@ use Rattle.std.proofs.Common.{◌*◌, arith, sym, subst, List}
 use Rattle.std.specs.List.{AllByRecursion}
 use Rattle.std.proofs.lemmas.Grind.{common_steps}
 use Rattle.tl_grid.specs.declared.block.Block.{Block}
-use Rattle.tl_grid.specs.Walk.{reaches}
-use Rattle.tl_grid.specs.Answers.{EndsBy}
+use Rattle.tl_grid.specs.inner.Walk.{reaches}
+use Rattle.tl_grid.specs.inner.States.{EndsBy}
 use Rattle.tl_grid.proofs.Groups.{all_filter}
 use Rattle.tl_grid.proofs.group.form_row.Goals as goal
 

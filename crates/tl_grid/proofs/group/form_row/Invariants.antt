@@ -1,6 +1,6 @@
 use Rattle.std.proofs.Common.{◌≡◌, ◌+◌, ◌*◌, ◌<◌, ◌≤◌, length, drop}
-use Rattle.tl_grid.specs.Walk.{place_cells, row_of}
-use Rattle.tl_grid.specs.Answers.{row_over, StaysWithin}
+use Rattle.tl_grid.specs.inner.Walk.{place_cells, row_of}
+use Rattle.tl_grid.specs.inner.States.{row_over, StaysWithin}
 use Rattle.tl_grid.proofs.group.form_row.Given as goal
 
 -- the walk from here on is the whole one

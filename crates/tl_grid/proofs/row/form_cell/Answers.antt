@@ -1,8 +1,8 @@
 use Rattle.std.proofs.Common.{List, ◌+◌, ◌*◌, ◌≤◌, ◌++◌, ◌∷◌, [], take, drop, subst, sym, ap, ◌∙◌, arith}
 use Rattle.std.specs.List.{AllByRecursion}
 use Rattle.tl_grid.specs.declared.block.Block.{Block}
-use Rattle.tl_grid.specs.Walk.{Walk}
-use Rattle.tl_grid.specs.Answers.{EndsBy}
+use Rattle.tl_grid.specs.inner.Walk.{Walk}
+use Rattle.tl_grid.specs.inner.States.{EndsBy}
 use Rattle.tl_grid.proofs.Bounds.{EndsIn, passed_within, all_wider}
 use Rattle.tl_grid.proofs.Steps.{take_inserted, drop_inserted, cell_done}
 use Rattle.tl_grid.proofs.row.form_cell.Goals as goal

@@ -1,5 +1,5 @@
 use Rattle.std.proofs.Common.{length, ◌-◌, ◌≡◌, ◌≤◌, take, drop}
-use Rattle.tl_grid.specs.Walk.{pass_taken}
+use Rattle.tl_grid.specs.inner.Walk.{pass_taken}
 use Rattle.tl_grid.proofs.row.pass_open.Given as goal
 
 -- the walk from here on is the whole one

@@ -1,6 +1,6 @@
 use Rattle.std.proofs.Common.{◌≡◌, ◌+◌, ◌*◌, ◌≤◌, drop, length}
 use Rattle.tl_grid.specs.Forming.{cells_of, rows_of}
-use Rattle.tl_grid.specs.Walk.{has_turn, place_groups}
+use Rattle.tl_grid.specs.inner.Walk.{has_turn, place_groups}
 use Rattle.tl_grid.proofs.table.form_groups.Given as goal
 
 -- the walk from here on is the whole one

@@ -1,5 +1,5 @@
 -- A returned bound that is a number is a greatest difference, so that not every number is passed.
-use Rattle.std.proofs.Common.{◌≡◌, sym, subst, ⊎_elim, arith, rules}
+use Rattle.std.proofs.Common.{⊎_elim, arith, rules}
 use Rattle.std.proofs.lemmas.Bool.{cases_eq}
 use Rattle.tl_diff.specs.Bounds.{HasNoGreatest}
 use Rattle.tl_diff.proofs.BoundLaws.{HasGreatest-some, IsGreatest-bounded}

@@ -1,7 +1,7 @@
 use Rattle.std.proofs.Common.{ap, ◌∙◌, rules}
 use Rattle.std.specs.List.{filter}
 use Rattle.std.proofs.lemmas.Fn.{filter_same}
-use Rattle.tl_grid.specs.Walk.{reaches}
+use Rattle.tl_grid.specs.inner.Walk.{reaches}
 use Rattle.tl_grid.proofs.open_blocks.OpenBlocks.leave_ended.Goals as goal
 
 pub returns : goal.returns

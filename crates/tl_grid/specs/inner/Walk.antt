@@ -8,7 +8,7 @@ use Rattle.tl_grid.specs.declared.table.Table.{Table}
 use Rattle.tl_grid.specs.declared.error.GridError.{GridError}
 use Rattle.tl_grid.specs.declared.error.GridError.TheVariants.{Overlap}
 use Rattle.tl_grid.specs.declared.shape.ShapeGroup.{ShapeGroup}
-use Rattle.tl_grid.specs.Forming.{first_rows, cells_in}
+use Rattle.tl_grid.specs.Forming.{initial_rowspan, cells_in}
 
 -- whether a block that begins in row y or above it takes that row
 abbrev pub reaches : ℕ → Block → Bool
@@ -35,7 +35,7 @@ block_at number x y span = record {
   left = x;
   right = x + span.colspan;
   top = y;
-  bottom = y + first_rows span;
+  bottom = y + initial_rowspan span;
   grows = span.rowspan == 0;
 }
 
@@ -57,7 +57,7 @@ pub record Row : Type 0 where
 abbrev pub placed : ℕ → ℕ → SpanOf → Row → Walk → Row
 placed y number span row walk = record {
   column = walk.column + span.colspan;
-  height = max row.height (y + first_rows span);
+  height = max row.height (y + initial_rowspan span);
   blocks = row.blocks ++ block_at number walk.column y span ∷ [];
   passed = walk.passed ++ block_at number walk.column y span ∷ [];
   ahead = walk.ahead;

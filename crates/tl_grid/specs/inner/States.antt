@@ -6,7 +6,7 @@ use Rattle.tl_grid.specs.declared.row.Cursor.{Cursor}
 use Rattle.tl_grid.specs.declared.row.RowState.{RowState}
 use Rattle.tl_grid.specs.declared.error.GridError.{GridError}
 use Rattle.tl_grid.specs.declared.error.GridError.TheVariants.{Memory}
-use Rattle.tl_grid.specs.Walk.{Walk, Row}
+use Rattle.tl_grid.specs.inner.Walk.{Walk, Row}
 
 -- the walk of a cursor over the open blocks
 abbrev pub walk_over : List Block → Cursor → Walk
@@ -26,9 +26,9 @@ row_over row = record {
 }
 
 -- the code's answer is the walk's, seen by `view`, or there was not enough memory
-abbrev pub IsAnswer : {X Y : Type 0} → (X → Y) → Result Y GridError → Result X GridError → Type 0
-IsAnswer view walked (Ok value) = walked ≡ Ok (view value)
-IsAnswer view walked (Err error) = (error ≡ Memory alloc_error) ⊎ (walked ≡ Err error)
+abbrev pub IsWalked : {X Y : Type 0} → (X → Y) → Result Y GridError → Result X GridError → Type 0
+IsWalked view walked (Ok value) = walked ≡ Ok (view value)
+IsWalked view walked (Err error) = (error ≡ Memory alloc_error) ⊎ (walked ≡ Err error)
 
 -- a block ends before column `width`, or at it
 abbrev pub EndsBy : ℕ → Block → Type 0

@@ -1,0 +1,9 @@
+pub mod Numerals
+pub mod Runs
+pub mod NumeralDigits
+pub mod Spellings
+pub mod Exact
+pub mod Sequence
+pub mod Words
+pub mod Choice
+pub mod NumberReading

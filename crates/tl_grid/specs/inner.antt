@@ -1,0 +1,4 @@
+-- What the private functions promise one another. No public clause cites it.
+pub mod Walk
+pub mod States
+pub mod Places

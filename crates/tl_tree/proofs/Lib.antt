@@ -1,0 +1,4 @@
+mod Moves
+mod MachineWhole
+mod MachineSound
+mod Verdicts
