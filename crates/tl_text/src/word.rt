@@ -1,6 +1,6 @@
 //! The words of a text, and how wide a word is.
 
-ghost use Rattle.std.specs.Prelude.{◌≡◌, ◌≤◌, IfOk};
+ghost use Rattle.std.specs.Prelude.{◌≡◌, ◌*◌, ◌≤◌, IfOk};
 ghost use Rattle.std.specs.Str.{chars};
 ghost use Rattle.tl_text.specs.Words.{words_of, width_of, byte_count};
 
@@ -36,6 +36,7 @@ pub fn word_width(word: &Text) -> u32
     requires { byte_count word.now ≤ 1048576 }
     ensures width { result ≡ width_of word.now }
     ensures bound { result ≤ 2097152 }
+    ensures bytes { result ≤ 2 * byte_count word.now }
 {
     word.as_str().width() as u32
 }
