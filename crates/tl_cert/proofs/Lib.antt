@@ -1,1 +1,4 @@
+pub mod LogLaws
+pub mod TextExamples
+pub mod TraceLaws
 pub mod reading

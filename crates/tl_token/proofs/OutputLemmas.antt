@@ -48,7 +48,8 @@ text_opens c first past f p later = sym (first_character c f p later)
 pub text_goes_on : (cs : List ℕ) (c first past f p : ℕ) (later : List Token) → cs ≢ []
     → with_text (cs ++ c ∷ []) first p later ≡ with_text cs first past (character_before c f p later)
 text_goes_on cs c first past f p later h =
-    some_text (cs ++ c ∷ []) first p later (push≢nil cs c) ∙ sym (some_text cs first past (character_before c f p later) h ∙ next_character cs c first past f p later)
+    some_text (cs ++ c ∷ []) first p later (push≢nil cs c)
+    ∙ sym (some_text cs first past (character_before c f p later) h ∙ next_character cs c first past f p later)
 
 -- a tag ends the text before it
 pub tag_ends : (cs : List ℕ) (first past f p : ℕ) (k : TokenKind) (later : List Token) → ((cs : List ℕ) → k ≡ Text cs → ⊥)
@@ -75,5 +76,6 @@ character_taken tokens open_cs new_cs c first past f p g later e (inl h) =
     ap (λ x. tokens ++ with_text x g p later) e ∙ ap (λ x. tokens ++ with_text (open_cs ++ c ∷ []) x p later) (h.1)
     ∙ ap (λ x. tokens ++ x) (text_goes_on open_cs c first past f p later (h.0))
 character_taken tokens open_cs new_cs c first past f p g later e (inr h) =
-    ap (λ x. tokens ++ with_text x g p later) e ∙ ap (λ x. tokens ++ with_text (x ++ c ∷ []) g p later) (h.0) ∙ ap (λ x. tokens ++ with_text ([] ++ c ∷ []) x p later) (h.1)
+    ap (λ x. tokens ++ with_text x g p later) e ∙ ap (λ x. tokens ++ with_text (x ++ c ∷ []) g p later) (h.0)
+    ∙ ap (λ x. tokens ++ with_text ([] ++ c ∷ []) x p later) (h.1)
     ∙ ap (λ x. tokens ++ x) (text_opens c first past f p later) ∙ ap (λ x. tokens ++ with_text x first past (character_before c f p later)) (sym (h.0))

@@ -1,17 +1,20 @@
 -- What is read of a text is what its grammar says, and the grammar says one thing only.
-use Rattle.std.proofs.Common.{◌≡◌, ℕ, ◌≤◌, Bool, true, false, List, [], ◌∷◌, length, refl, sym, ap, ◌∙◌, subst, inl, inr, eqb, cond, arith, Result, Ok, Err, IfOk, IfErr}
+use Rattle.std.proofs.Common.{◌≡◌, ℕ, ◌≤◌, Bool, true, false, List, [], ◌∷◌, length, refl, sym, ap, ◌∙◌, subst, inl, inr, eqb, cond, arith, Result}
+use Rattle.std.proofs.Common.{Ok, Err, IfOk, IfErr}
 use Rattle.std.proofs.lemmas.Str.{encodes-chars}
 use Rattle.std.specs.Str.{chars, IsUtf8}
 use Rattle.std.specs.Str.Lossy.{utf8_valid_len}
 use Rattle.tl_token.specs.Characters.{byte_len}
 use Rattle.tl_token.specs.Grammar.{Piece, Stands, FaultStands}
 use Rattle.tl_token.specs.Grammar as grammar
-use Rattle.tl_token.specs.Spelling.{place_of, tokens_of, without_mark, characters, SpellsTokens, FirstFault, Refused, RefusedOrMemory, Tokens, ReturnsTokens, ReturnsError, size_of}
+use Rattle.tl_token.specs.Spelling.{place_of, tokens_of, without_mark, characters, SpellsTokens, FirstFault, Refused, RefusedOrMemory, Tokens}
+use Rattle.tl_token.specs.Spelling.{ReturnsTokens, ReturnsError, size_of}
 use Rattle.tl_token.specs.inner.Reading.{Found, stands, faulty, standing}
 use Rattle.tl_token.specs.inner.Reader.{Eats}
 use Rattle.tl_token.specs.inner.Found.{fault_of, error_of}
 use Rattle.tl_token.specs.declared.token.TokenError.{TokenError}
-use Rattle.tl_token.specs.declared.token.TokenError.TheVariants.{Memory, NotUtf8, UnendedTag, UnendedComment, BadTag, UnknownElement, BadReference, BadCharacter}
+use Rattle.tl_token.specs.declared.token.TokenError.TheVariants.{Memory, NotUtf8, UnendedTag, UnendedComment, BadTag, UnknownElement, BadReference}
+use Rattle.tl_token.specs.declared.token.TokenError.TheVariants.{BadCharacter}
 use Rattle.tl_token.specs.declared.piece.Fault.{Fault}
 use Rattle.tl_token.specs.declared.piece.Fault.TheVariants as fault
 use Rattle.tl_token.proofs.Places.{Holds, place_sound}

@@ -31,10 +31,12 @@ prepend-onto_first word c (part ∷ parts) = ap (λ (first : List ℕ). first �
 
 pub words_from-letter : (word rest : List ℕ) (c : ℕ) → is_ascii_whitespace c ≡ false → words_from word (c ∷ rest) ≡ words_from (word ++ c ∷ []) rest
 words_from-letter word rest c letter =
-    ap (λ parts. filter has_character (prepend word parts)) (slice_split-cons_no is_ascii_whitespace c rest letter) ∙ ap (λ parts. filter has_character parts) (prepend-onto_first word c (slice_split is_ascii_whitespace rest))
+    ap (λ parts. filter has_character (prepend word parts)) (slice_split-cons_no is_ascii_whitespace c rest letter)
+    ∙ ap (λ parts. filter has_character parts) (prepend-onto_first word c (slice_split is_ascii_whitespace rest))
 
 -- white space ends the open word
-pub words_from-white : (word rest : List ℕ) (c : ℕ) → is_ascii_whitespace c ≡ true → words_from word (c ∷ rest) ≡ cond (has_character word) (word ∷ words_from [] rest) (words_from [] rest)
+pub words_from-white : (word rest : List ℕ) (c : ℕ) → is_ascii_whitespace c ≡ true → words_from word (c ∷ rest)
+    ≡ cond (has_character word) (word ∷ words_from [] rest) (words_from [] rest)
 words_from-white word rest c white =
     ap (λ parts. filter has_character (prepend word parts)) (slice_split-cons_yes is_ascii_whitespace c rest white)
     ∙ rw (append-nil, words_from-nil) refl
@@ -43,10 +45,12 @@ words_from-white word rest c white =
 pub words_from-end : (word : List ℕ) → words_from word [] ≡ cond (has_character word) (word ∷ []) []
 words_from-end word = rw append-nil refl
 
--- one more character, at the place behind those that were read
-module _ (list : List (List ℕ)) (cs y : List ℕ) (c : ℕ) (word : List ℕ) (turn : (length y < length cs) × (c ≡ get_or cs (length y) c)) (so_far : list ++ words_from word (drop (length y) cs) ≡ words_of cs) where
+-- one more character, at the place after those that were read
+module _ (list : List (List ℕ)) (cs y : List ℕ) (c : ℕ) (word : List ℕ) (turn : (length y < length cs) × (c ≡ get_or cs (length y) c))
+    (so_far : list ++ words_from word (drop (length y) cs) ≡ words_of cs) where
   rest : drop (length y) cs ≡ c ∷ drop (length (y ++ c ∷ [])) cs
-  rest = at_drop_more (λ l. l) cs (length y) c turn.0 ∙ ap (λ first. first ∷ drop (length y + 1) cs) (sym turn.1) ∙ ap (λ n. c ∷ drop n cs) (sym (length_push y c))
+  rest = at_drop_more (λ l. l) cs (length y) c turn.0 ∙ ap (λ first. first ∷ drop (length y + 1) cs) (sym turn.1)
+      ∙ ap (λ n. c ∷ drop n cs) (sym (length_push y c))
 
   known : list ++ words_from word (c ∷ drop (length (y ++ c ∷ [])) cs) ≡ words_of cs
   known = ap (λ l. list ++ words_from word l) (sym rest) ∙ so_far
@@ -56,7 +60,8 @@ module _ (list : List (List ℕ)) (cs y : List ℕ) (c : ℕ) (word : List ℕ) 
   after_letter letter = ap (λ words. list ++ words) (sym (words_from-letter word (drop (length (y ++ c ∷ [])) cs) c letter)) ∙ known
 
   -- white space ends a word
-  pub after_word : is_ascii_whitespace c ≡ true → has_character word ≡ true → (list ++ word ∷ []) ++ words_from [] (drop (length (y ++ c ∷ [])) cs) ≡ words_of cs
+  pub after_word : is_ascii_whitespace c ≡ true → has_character word ≡ true → (list ++ word ∷ []) ++ words_from [] (drop (length (y ++ c ∷ [])) cs)
+      ≡ words_of cs
   after_word white some =
       append_assoc list (word ∷ []) _
       ∙ ap (λ b. list ++ cond b (word ∷ words_from [] (drop (length (y ++ c ∷ [])) cs)) (words_from [] (drop (length (y ++ c ∷ [])) cs))) (sym some)

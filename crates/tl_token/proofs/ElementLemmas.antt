@@ -1,4 +1,4 @@
--- A name compared with a word of small letters, as bytes and as characters.
+-- A name compared with a lowercase word, as bytes and as characters.
 use Rattle.std.proofs.Common.{◌≡◌, ℕ, zero, suc, ◌<◌, ◌≤◌, Bool, true, false, ◌||◌, ◌&&◌, List, [], ◌∷◌, refl, sym, ap, ◌∙◌, subst, inl, inr, map, arith}
 use Rattle.std.proofs.lemmas.Bool.{false≢true}
 use Rattle.std.proofs.lemmas.Bool.Decides.{nat_tests}
@@ -11,7 +11,7 @@ use Rattle.tl_token.specs.Characters.{◌∈◌}
 use Rattle.tl_token.specs.Elements.{is_word, is_lowercase}
 use Rattle.tl_token.proofs.CharacterTests.{or_cases, is_it}
 
--- two tests that say the same are equal
+-- two tests that hold of each other are equal
 pub same_bool : (a b : Bool) → (a ≡ true → b ≡ true) → (b ≡ true → a ≡ true) → a ≡ b
 same_bool true b f g = sym (f refl)
 same_bool false true f g = absurd (false≢true (g refl))
@@ -33,7 +33,7 @@ both_true : (a b : Bool) → (a && b) ≡ true → (a ≡ true) × (b ≡ true)
 both_true true b h = (refl, h)
 both_true false b h = absurd (false≢true h)
 
--- a small word in small letters is itself
+-- a lowercase word in lowercase is itself
 small_lower : (w : List ℕ) → is_lowercase w ≡ true → map to_ascii_lowercase w ≡ w
 small_lower [] h = refl
 small_lower (c ∷ w) h =
@@ -46,7 +46,7 @@ ascii_first : (b : ℕ) (bs : List ℕ) → b < 128 → IsAscii bs → IsAscii (
 ascii_first b bs h k zero = h
 ascii_first b bs h k (suc i) = k i
 
--- what is a small word in small letters is ASCII
+-- what is a lowercase word in lowercase is ASCII
 ascii_from_lower : (bs w : List ℕ) → is_lowercase w ≡ true → map to_ascii_lowercase bs ≡ w → IsAscii bs
 ascii_from_lower [] w h e = λ i. omega arith
 ascii_from_lower (b ∷ bs) [] h e = cc
@@ -60,7 +60,8 @@ ascii_small : (w : List ℕ) → is_lowercase w ≡ true → IsAscii w
 ascii_small w h = ascii_from_lower w w h (small_lower w h)
 
 -- as bytes and as characters
-pub word_bytes : (bs w : List ℕ) → IsUtf8 bs → is_lowercase w ≡ true → map to_ascii_lowercase (chars bs) ≡ w → map to_ascii_lowercase bs ≡ map to_ascii_lowercase w
+pub word_bytes : (bs w : List ℕ) → IsUtf8 bs → is_lowercase w ≡ true → map to_ascii_lowercase (chars bs) ≡ w → map to_ascii_lowercase bs
+    ≡ map to_ascii_lowercase w
 word_bytes bs w u h e =
     let same : chars bs ≡ bs = sym (encodes-IsAscii (chars bs) (ascii_from_lower (chars bs) w h e)) ∙ encodes-chars bs u in
     ap (map to_ascii_lowercase) (sym same) ∙ e ∙ sym (small_lower w h)
@@ -71,7 +72,8 @@ word_characters bs w h e =
     ap (map to_ascii_lowercase) (chars-IsAscii bs (ascii_from_lower bs w h k)) ∙ k
 
 -- what a comparison of bytes without case tells
-pub is_word_from : (bs w : List ℕ) (b : Bool) → IsUtf8 bs → is_lowercase w ≡ true → (IsTrue b ↔ (map to_ascii_lowercase bs ≡ map to_ascii_lowercase w)) → b ≡ is_word (chars bs) w
+pub is_word_from : (bs w : List ℕ) (b : Bool) → IsUtf8 bs → is_lowercase w ≡ true
+    → (IsTrue b ↔ (map to_ascii_lowercase bs ≡ map to_ascii_lowercase w)) → b ≡ is_word (chars bs) w
 is_word_from bs w b u h same = same_bool b (is_word (chars bs) w)
     (λ t. (bytes_decides (map to_ascii_lowercase (chars bs)) w).1 (word_characters bs w h (same.0 t)))
     (λ t. same.1 (word_bytes bs w u h ((bytes_decides (map to_ascii_lowercase (chars bs)) w).0 t)))
