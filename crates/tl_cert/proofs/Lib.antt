@@ -1,3 +1,4 @@
 pub mod reading
 pub mod LogLaws
 pub mod TraceLaws
+pub mod CountLaws
