@@ -248,3 +248,98 @@ module _ (problem : ProblemModel) (sound : IsSound problem) where
       joined (inr (has, inl low)) (inr (also, inr high)) = absurd (omega (arith, low.1, high.1))
       joined (inr (has, inr high)) (inr (also, inl low)) = absurd (omega (arith, low.1, high.1))
       joined (inr (has, inr high)) (inr (also, inr higher)) = omega (arith, high.0, higher.0)
+
+-- ---- how many vectors a zone has
+
+-- how many classes a range has, and how many vectors a zone has
+wide : Range → ℕ
+wide r = r.last + 1 - r.first
+
+size : List Range → ℕ
+size zone = product (map wide zone)
+
+-- a range parted in two parts the vectors
+size-parts : (zone : List Range) (s : ℕ) (a b : Range) → s < length zone → wide a + wide b ≡ wide (range_at zone s) → size (set zone s a) + size (set zone s b) ≡ size zone
+unfolding size
+size-parts [] s a b there parts = absurd (omega arith)
+size-parts (r ∷ zone) zero a b there parts = times_sum (wide a) (wide b) (wide r) (product (map wide zone)) parts where
+  times_sum : (x y z n : ℕ) → x + y ≡ z → x * n + y * n ≡ z * n
+  times_sum x y z n sum = rw (← sum) (grind arith)
+size-parts (r ∷ zone) (suc s) a b there parts =
+    let rest = size-parts zone s a b (omega arith) parts in
+    spread (wide r) (product (map wide (set zone s a))) (product (map wide (set zone s b))) (product (map wide zone)) rest where
+      spread : (n x y z : ℕ) → x + y ≡ z → n * x + n * y ≡ n * z
+      spread n x y z sum = rw (← sum) (grind arith)
+
+-- a zone in which each range has a class has a vector
+size-some : (zone : List Range) → ((s : ℕ) → s < length zone → (range_at zone s).first ≤ (range_at zone s).last) → 1 ≤ size zone
+unfolding size wide
+size-some [] each = omega arith
+size-some (r ∷ zone) each = times_some (r.last + 1 - r.first) (product (map wide zone)) (let first = each 0 (omega arith) in omega (arith, first)) (size-some zone (λ s within. each (suc s) (omega arith))) where
+  times_some : (m n : ℕ) → 1 ≤ m → 1 ≤ n → 1 ≤ m * n
+  times_some m n one other = grind arith
+
+-- the whole has as many as there are class vectors
+size-whole : (problem : ProblemModel) → size (whole_zone problem) ≡ product (map (λ columns. length (classes_of problem columns)) (spans_of problem))
+unfolding size wide
+size-whole problem = each (spans_of problem) where
+  each : (spans : List Span) → product (map wide (map (λ columns. range 0 (length (classes_of problem columns) - 1)) spans)) ≡ product (map (λ columns. length (classes_of problem columns)) spans)
+  each [] = refl
+  each (columns ∷ spans) =
+      let here : length (classes_of problem columns) - 1 + 1 - 0 ≡ length (classes_of problem columns) = omega (arith, classes-some problem columns) in
+      ap (λ n. n * product (map wide (map (λ c. range 0 (length (classes_of problem c) - 1)) spans))) here ∙ ap (λ n. length (classes_of problem columns) * n) (each spans)
+
+-- the numbers of a list of terms of at least one are no more than their sum
+length-le_sum : (g : ℕ → ℕ) (zs : List ℕ) → All (λ z. 1 ≤ g z) zs → length zs ≤ sum_by g zs
+length-le_sum g [] each = omega arith
+length-le_sum g (z ∷ zs) each = omega (arith, sum_by-cons g z zs, each 0 z (omega arith), length-le_sum g zs (λ k d within. each (suc k) d (omega arith)))
+
+module _ (problem : ProblemModel) (sound : IsSound problem) where
+  -- what stands: one more than the cuts, with the vectors of the whole
+  record Counted (trace : List CutAt) : Type 0 where
+    standing : List ℕ
+    are : AreStanding trace standing
+    count : length standing ≡ length trace + 1
+    sizes : sum_by (λ z. size (zone_at (whole_zone problem) trace z)) standing ≡ size (whole_zone problem)
+
+  counted : (trace : List CutAt) → IsTrace (whole_zone problem) trace → Counted trace
+  unfolding wide
+  counted trace is = trace-by (whole_zone problem) Counted none more trace is where
+    none : Counted []
+    none = record {
+      standing = 0 ∷ [];
+      are = record { rising = AllPairs-cons (λ a b. a < b) 0 [] (λ k d within. absurd (omega arith)) (AllPairs-none (λ a b. a < b)); each = λ z. (
+        (λ has. elim (Contains-cases 0 [] z has) [ | inl here ↦ record { there = omega arith; not_cut = λ k d within. absurd (omega arith) } | inr later ↦ absurd (Contains-none z later) ]),
+        (λ stands. let first : 0 ≡ z = omega (arith, stands.there) in subst (Contains (0 ∷ [])) first (Contains-first 0 []))) };
+      count = refl;
+      sizes = omega (arith, sum_by-cons (λ z. size (zone_at (whole_zone problem) [] z)) 0 []);
+    }
+    more : (trace : List CutAt) (cut : CutAt) → IsTrace (whole_zone problem) trace → IsCut (whole_zone problem) trace cut → Counted trace → Counted (trace ++ cut ∷ [])
+    more trace cut is now before =
+        let whole = whole_zone problem in
+        let parent = zone_at whole trace cut.zone in
+        let zone = zones-are problem sound trace is cut.zone now.stands.there in
+        let parts = size-parts parent cut.span (range (range_at parent cut.span).first cut.class) (range (cut.class + 1) (range_at parent cut.span).last) (cut-span problem sound trace cut is now) (omega (arith, now.lower, now.upper)) in
+        record {
+          standing = standing-more trace cut before.standing;
+          are = standing-are whole trace cut is now before.standing before.are;
+          count = omega (arith, standing-count whole trace cut is now before.standing before.are, before.count, length-append trace (cut ∷ []));
+          sizes = standing-weighs whole trace cut is now before.standing before.are size parts ∙ before.sizes;
+        }
+
+  pub parts-vectors : (trace : List CutAt) → IsTrace (whole_zone problem) trace → PartsVectors problem trace
+  unfolding InSome InOne
+  parts-vectors trace is =
+      let found = counted trace is in
+      let whole = whole_zone problem in
+      let some = length-le_sum (λ z. size (zone_at whole trace z)) found.standing (All-from_Contains (λ z. 1 ≤ size (zone_at whole trace z)) found.standing (λ z has.
+          size-some (zone_at whole trace z) (λ s within. ((zones-are problem sound trace is z ((found.are.each z).0 has).there).ranges s within).0))) in
+      record {
+        standing = found.standing;
+        are = found.are;
+        count = found.count;
+        has_one = λ z stands. first-vector problem sound (zone_at whole trace z) (zones-are problem sound trace is z stands.there);
+        in_some = vector-in_some problem sound trace is;
+        in_no_other = vector-in_one problem sound trace is;
+        fewer = λ few. omega (arith, some, found.count, found.sizes, size-whole problem);
+      }
