@@ -1,5 +1,5 @@
 -- The zones of a trace that stand are one more than its cuts, and part the class vectors of the problem.
-use Rattle.std.proofs.Common.{◌≡◌, ◌≢◌, ℕ, ◌+◌, ◌-◌, ◌*◌, ◌^◌, ◌<◌, ◌≤◌, zero, suc, min, Bool, true, false, not, nat_eq, List, [], ◌∷◌, ◌++◌, ◌⊎◌, inl, inr, length, map, filter, get_or, set, refl, sym, ap, ◌∙◌, subst, arith, length-append, length-set}
+use Rattle.std.proofs.Common.{◌≡◌, ◌≢◌, ℕ, ◌+◌, ◌-◌, ◌*◌, ◌<◌, ◌≤◌, zero, suc, Bool, true, false, not, nat_eq, List, [], ◌∷◌, ◌++◌, ◌⊎◌, inl, inr, length, map, filter, get_or, set, refl, sym, ap, ◌∙◌, subst, arith, length-append, length-set}
 use Rattle.std.specs.List.{All, AllPairs, Contains, sum_by}
 use Rattle.std.proofs.lemmas.Bool.{cases_lt, cases_Bool, eqb-true, eq-eqb}
 use Rattle.std.proofs.lemmas.List.{length-map, get_or-map, get_or-set_same, get_or-set_other}
@@ -10,14 +10,14 @@ use Rattle.tl_problem.specs.declared.cell.Span.{Span}
 use Rattle.tl_problem.specs.declared.zone.Range.{Range}
 use Rattle.tl_problem.specs.Problem.{ProblemModel}
 use Rattle.tl_problem.specs.Sound.{IsSound}
-use Rattle.tl_problem.specs.Spans.{spans_of, classes_of, product, count_of}
-use Rattle.tl_problem.specs.Zones.{span_at, classes_at, range, range_at, IsZone, whole_zone, lower_part, upper_part}
+use Rattle.tl_problem.specs.Spans.{spans_of, classes_of, product}
+use Rattle.tl_problem.specs.Zones.{range, range_at, IsZone, whole_zone, lower_part, upper_part}
 use Rattle.tl_problem.proofs.SpanLaws.{classes-some}
 use Rattle.tl_problem.proofs.ZoneLaws.{cases_eq, whole-range, whole-is_zone}
 use Rattle.tl_cert.specs.declared.trace.CutAt.{CutAt}
-use Rattle.tl_cert.specs.Traces.{zone_at, IsZoneOf, Stands, IsCut, IsTrace}
+use Rattle.tl_cert.specs.Traces.{zone_at, Stands, IsCut, IsTrace}
 use Rattle.tl_cert.specs.Counting.{IsVector, HasVector, AreStanding, PartsVectors}
-use Rattle.tl_cert.proofs.TraceLaws.{zone-old, zone-lower, zone-upper, zone-cases, stands-old, stood-before, trace-by, cuts-there, stands-new, zones-are}
+use Rattle.tl_cert.proofs.TraceLaws.{zone-old, zone-lower, zone-upper, zone-cases, stands-old, stood-before, trace-by, stands-new, zones-are}
 
 -- ---- a rising list without one of its numbers
 
@@ -26,7 +26,7 @@ abbrev other_than : ℕ → ℕ → Bool
 other_than c z = not (nat_eq z c)
 
 other-true : (c z : ℕ) → c ≢ z → other_than c z ≡ true
-other-true c z apart = elim (cases_Bool (nat_eq z c)) [ | inl same ↦ absurd (apart (sym (eqb-true z c same))) | inr differ ↦ ap not differ ]
+other-true c z apart = elim (cases_Bool (nat_eq z c)) [ inl same ↦ absurd (apart (sym (eqb-true z c same))) | inr differ ↦ ap not differ ]
 
 other-not : (c z : ℕ) → other_than c z ≡ true → c ≢ z
 other-not c z other same = let eq = eq-eqb z c (sym same) in let f = ap not eq in cc
@@ -79,38 +79,40 @@ module _ (whole : List Range) (trace : List CutAt) (cut : CutAt) (is : IsTrace w
         (AllPairs-cons (λ a b. a < b) (2 * length trace + 1) ((2 * length trace + 2) ∷ []) (λ k d within. one_more k d within)
         (AllPairs-cons (λ a b. a < b) (2 * length trace + 2) [] (λ k d within. absurd (omega arith)) (AllPairs-none (λ a b. a < b))))
         (λ a b left right.
-            let stands = (are.each a).0 (filter-Contains (other_than cut.zone) zones a left).0 in
-            let low = stands.there in
-            elim (Contains-cases (2 * length trace + 1) ((2 * length trace + 2) ∷ []) b right) [
-              | inl first ↦ omega arith
-              | inr later ↦ elim (Contains-cases (2 * length trace + 2) [] b later) [ | inl second ↦ omega arith | inr none ↦ absurd (Contains-none b none) ]
-            ]);
+        let stands = (are.each a).0 (filter-Contains (other_than cut.zone) zones a left).0 in
+        let low = stands.there in
+        elim (Contains-cases (2 * length trace + 1) ((2 * length trace + 2) ∷ []) b right) [
+          | inl first ↦ omega arith
+          | inr later ↦ elim (Contains-cases (2 * length trace + 2) [] b later) [ inl second ↦ omega arith | inr none ↦ absurd (Contains-none b none) ]
+        ]);
     each = λ z. (to_stands z, from_stands z);
   } where
-      one_more : (k d : ℕ) → k < 1 → 2 * length trace + 1 < get_or ((2 * length trace + 2) ∷ []) k d
-      one_more zero d within = omega arith
-      one_more (suc k) d within = absurd (omega arith)
-      to_stands : (z : ℕ) → Contains (standing-more trace cut zones) z → Stands (trace ++ cut ∷ []) z
-      to_stands z has =
-          elim (Contains-append_cases (filter (other_than cut.zone) zones) ((2 * length trace + 1) ∷ (2 * length trace + 2) ∷ []) z has) [
-            | inl old ↦ let kept = filter-Contains (other_than cut.zone) zones z old in stands-old whole trace cut z ((are.each z).0 kept.0) (other-not cut.zone z kept.1)
-            | inr new ↦ elim (Contains-cases (2 * length trace + 1) ((2 * length trace + 2) ∷ []) z new) [
-                | inl first ↦ stands-new whole trace cut is now z (omega arith) (omega arith)
-                | inr later ↦ elim (Contains-cases (2 * length trace + 2) [] z later) [ | inl second ↦ stands-new whole trace cut is now z (omega arith) (omega arith) | inr none ↦ absurd (Contains-none z none) ]
-              ]
+    one_more : (k d : ℕ) → k < 1 → 2 * length trace + 1 < get_or ((2 * length trace + 2) ∷ []) k d
+    one_more zero d within = omega arith
+    one_more (suc k) d within = absurd (omega arith)
+
+    to_stands : (z : ℕ) → Contains (standing-more trace cut zones) z → Stands (trace ++ cut ∷ []) z
+    to_stands z has =
+        elim (Contains-append_cases (filter (other_than cut.zone) zones) ((2 * length trace + 1) ∷ (2 * length trace + 2) ∷ []) z has) [
+          | inl old ↦ let kept = filter-Contains (other_than cut.zone) zones z old in stands-old whole trace cut z ((are.each z).0 kept.0) (other-not cut.zone z kept.1)
+          | inr new ↦ elim (Contains-cases (2 * length trace + 1) ((2 * length trace + 2) ∷ []) z new) [
+            | inl first ↦ stands-new whole trace cut is now z (omega arith) (omega arith)
+            | inr later ↦ elim (Contains-cases (2 * length trace + 2) [] z later) [ inl second ↦ stands-new whole trace cut is now z (omega arith) (omega arith) | inr none ↦ absurd (Contains-none z none) ]
           ]
-      from_stands : (z : ℕ) → Stands (trace ++ cut ∷ []) z → Contains (standing-more trace cut zones) z
-      from_stands z stands =
-          elim (zone-cases whole trace cut z stands.there) [
-            | inl old ↦
-                let before = stood-before whole trace cut z stands old in
-                Contains-append_left (filter (other_than cut.zone) zones) ((2 * length trace + 1) ∷ (2 * length trace + 2) ∷ []) z
-                (Contains-filter (other_than cut.zone) zones z (other-true cut.zone z before.1) ((are.each z).1 before.0))
-            | inr (inl first) ↦ Contains-append_right (filter (other_than cut.zone) zones) ((2 * length trace + 1) ∷ (2 * length trace + 2) ∷ []) z
-                (subst (Contains ((2 * length trace + 1) ∷ (2 * length trace + 2) ∷ [])) (sym first) (Contains-first (2 * length trace + 1) ((2 * length trace + 2) ∷ [])))
-            | inr (inr second) ↦ Contains-append_right (filter (other_than cut.zone) zones) ((2 * length trace + 1) ∷ (2 * length trace + 2) ∷ []) z
-                (Contains-later (2 * length trace + 1) ((2 * length trace + 2) ∷ []) z (subst (Contains ((2 * length trace + 2) ∷ [])) (sym second) (Contains-first (2 * length trace + 2) [])))
-          ]
+        ]
+
+    from_stands : (z : ℕ) → Stands (trace ++ cut ∷ []) z → Contains (standing-more trace cut zones) z
+    from_stands z stands =
+        elim (zone-cases whole trace cut z stands.there) [
+          | inl old ↦
+              let before = stood-before whole trace cut z stands old in
+              Contains-append_left (filter (other_than cut.zone) zones) ((2 * length trace + 1) ∷ (2 * length trace + 2) ∷ []) z
+              (Contains-filter (other_than cut.zone) zones z (other-true cut.zone z before.1) ((are.each z).1 before.0))
+          | inr (inl first) ↦ Contains-append_right (filter (other_than cut.zone) zones) ((2 * length trace + 1) ∷ (2 * length trace + 2) ∷ []) z
+              (subst (Contains ((2 * length trace + 1) ∷ (2 * length trace + 2) ∷ [])) (sym first) (Contains-first (2 * length trace + 1) ((2 * length trace + 2) ∷ [])))
+          | inr (inr second) ↦ Contains-append_right (filter (other_than cut.zone) zones) ((2 * length trace + 1) ∷ (2 * length trace + 2) ∷ []) z
+              (Contains-later (2 * length trace + 1) ((2 * length trace + 2) ∷ []) z (subst (Contains ((2 * length trace + 2) ∷ [])) (sym second) (Contains-first (2 * length trace + 2) [])))
+        ]
 
   -- of a weight of which a cut zone has as much as its two parts, the standing zones have as much after the cut
   standing-weighs : (f : List Range → ℕ) →
@@ -124,7 +126,7 @@ module _ (whole : List Range) (trace : List CutAt) (cut : CutAt) (is : IsTrace w
       let pair = sum_by-cons after (2 * length trace + 1) ((2 * length trace + 2) ∷ []) in
       let single = sum_by-cons after (2 * length trace + 2) [] in
       let old = sum_by-same_on after before (filter (other_than cut.zone) zones)
-          (All-from_Contains (λ z. after z ≡ before z) (filter (other_than cut.zone) zones) (λ z has. ap f (zone-old whole trace cut z ((are.each z).0 (filter-Contains (other_than cut.zone) zones z has).0).there))) in
+      (All-from_Contains (λ z. after z ≡ before z) (filter (other_than cut.zone) zones) (λ z has. ap f (zone-old whole trace cut z ((are.each z).0 (filter-Contains (other_than cut.zone) zones z has).0).there))) in
       let without = without-weighs before cut.zone zones are.rising ((are.each cut.zone).1 now.stands) in
       omega (arith, split, pair, single, old, without, parts, ap f (zone-lower whole trace cut), ap f (zone-upper whole trace cut))
 
@@ -172,13 +174,18 @@ module _ (problem : ProblemModel) (sound : IsSound problem) where
 
   -- the first classes of a zone's ranges are a vector in it
   first-vector : (zone : List Range) → IsZone problem zone → (vector : List ℕ) × IsVector problem vector × HasVector zone vector
-  first-vector zone is = (map (λ r. r.first) zone,
-    record { spans = length-map zone (λ r. r.first) ∙ is.spans; classes = λ s within.
-        let inside : s < length zone = omega (arith, within, length-map zone (λ r. r.first)) in
-        let at = get_or-map (λ r. r.first) zone s (range 0 0) 0 inside in
-        let ranges = is.ranges s inside in
-        omega (arith, at, ranges.0, ranges.1) },
-    λ s within. let at = get_or-map (λ r. r.first) zone s (range 0 0) 0 within in let ranges = is.ranges s within in (omega (arith, at), omega (arith, at, ranges.0)))
+  first-vector zone is = (
+    map (λ r. r.first) zone,
+    record {
+      spans = length-map zone (λ r. r.first) ∙ is.spans;
+      classes = λ s within.
+          let inside : s < length zone = omega (arith, within, length-map zone (λ r. r.first)) in
+          let at = get_or-map (λ r. r.first) zone s (range 0 0) 0 inside in
+          let ranges = is.ranges s inside in
+          omega (arith, at, ranges.0, ranges.1);
+    },
+    λ s within. let at = get_or-map (λ r. r.first) zone s (range 0 0) 0 within in let ranges = is.ranges s within in (omega (arith, at), omega (arith, at, ranges.0)),
+  )
 
   -- the cut's span is one of the zone that is cut
   cut-span : (trace : List CutAt) (cut : CutAt) → IsTrace (whole_zone problem) trace → IsCut (whole_zone problem) trace cut → cut.span < length (zone_at (whole_zone problem) trace cut.zone)
@@ -203,10 +210,16 @@ module _ (problem : ProblemModel) (sound : IsSound problem) where
               let has = subst (λ z. HasVector (zone_at whole trace z) vector) (sym same) found.2 in
               let here = has cut.span span in
               elim (cases_lt cut.class (get_or vector cut.span 0)) [
-                | inr low ↦ (2 * length trace + 1, stands-new whole trace cut is now (2 * length trace + 1) (omega arith) (omega arith),
-                    subst (λ zone. HasVector zone vector) (sym (zone-lower whole trace cut)) (vector-set parent cut.span (range (range_at parent cut.span).first cut.class) vector span here.0 low has))
-                | inl high ↦ (2 * length trace + 2, stands-new whole trace cut is now (2 * length trace + 2) (omega arith) (omega arith),
-                    subst (λ zone. HasVector zone vector) (sym (zone-upper whole trace cut)) (vector-set parent cut.span (range (cut.class + 1) (range_at parent cut.span).last) vector span (omega arith) here.1 has))
+                | inr low ↦ (
+                  2 * length trace + 1,
+                  stands-new whole trace cut is now (2 * length trace + 1) (omega arith) (omega arith),
+                  subst (λ zone. HasVector zone vector) (sym (zone-lower whole trace cut)) (vector-set parent cut.span (range (range_at parent cut.span).first cut.class) vector span here.0 low has),
+                )
+                | inl high ↦ (
+                  2 * length trace + 2,
+                  stands-new whole trace cut is now (2 * length trace + 2) (omega arith) (omega arith),
+                  subst (λ zone. HasVector zone vector) (sym (zone-upper whole trace cut)) (vector-set parent cut.span (range (cut.class + 1) (range_at parent cut.span).last) vector span (omega arith) here.1 has),
+                )
               ]
         ]
 
@@ -223,6 +236,7 @@ module _ (problem : ProblemModel) (sound : IsSound problem) where
       Comes : ℕ → Type 0
       Comes z = (Stands trace z × (cut.zone ≢ z) × HasVector (zone_at (whole_zone problem) trace z) vector)
           ⊎ (HasVector (zone_at (whole_zone problem) trace cut.zone) vector × (((z ≡ 2 * length trace + 1) × (get_or vector cut.span 0 ≤ cut.class)) ⊎ ((z ≡ 2 * length trace + 2) × (cut.class < get_or vector cut.span 0))))
+
       from_before : (z : ℕ) → Stands (trace ++ cut ∷ []) z → HasVector (zone_at (whole_zone problem) (trace ++ cut ∷ []) z) vector → Comes z
       from_before z stands has =
           let whole = whole_zone problem in
@@ -232,14 +246,19 @@ module _ (problem : ProblemModel) (sound : IsSound problem) where
             | inl old ↦ let stood = stood-before whole trace cut z stands old in inl (stood.0, stood.1, subst (λ zone. HasVector zone vector) (zone-old whole trace cut z old) has)
             | inr (inl low) ↦
                 let part = subst (λ zone. HasVector zone vector) (ap (zone_at whole (trace ++ cut ∷ [])) low ∙ zone-lower whole trace cut) has in
-                inr (vector-unset parent cut.span (range (range_at parent cut.span).first cut.class) vector span (omega arith) (omega (arith, now.upper)) part,
-                  inl (low, (vector-at parent cut.span (range (range_at parent cut.span).first cut.class) vector span part).1))
+                inr (
+                  vector-unset parent cut.span (range (range_at parent cut.span).first cut.class) vector span (omega arith) (omega (arith, now.upper)) part,
+                  inl (low, (vector-at parent cut.span (range (range_at parent cut.span).first cut.class) vector span part).1),
+                )
             | inr (inr high) ↦
                 let part = subst (λ zone. HasVector zone vector) (ap (zone_at whole (trace ++ cut ∷ [])) high ∙ zone-upper whole trace cut) has in
                 let here = vector-at parent cut.span (range (cut.class + 1) (range_at parent cut.span).last) vector span part in
-                inr (vector-unset parent cut.span (range (cut.class + 1) (range_at parent cut.span).last) vector span (omega (arith, now.lower)) (omega arith) part,
-                  inr (high, omega (arith, here.0)))
+                inr (
+                  vector-unset parent cut.span (range (cut.class + 1) (range_at parent cut.span).last) vector span (omega (arith, now.lower)) (omega arith) part,
+                  inr (high, omega (arith, here.0)),
+                )
           ]
+
       joined : Comes a → Comes b → a ≡ b
       joined (inl old) (inl also) = before vector a b old.0 also.0 old.2 also.2
       joined (inl old) (inr new) = absurd (old.1 (before vector cut.zone a now.stands old.0 new.0 old.2))
@@ -308,12 +327,17 @@ module _ (problem : ProblemModel) (sound : IsSound problem) where
     none : Counted []
     none = record {
       standing = 0 ∷ [];
-      are = record { rising = AllPairs-cons (λ a b. a < b) 0 [] (λ k d within. absurd (omega arith)) (AllPairs-none (λ a b. a < b)); each = λ z. (
-        (λ has. elim (Contains-cases 0 [] z has) [ | inl here ↦ record { there = omega arith; not_cut = λ k d within. absurd (omega arith) } | inr later ↦ absurd (Contains-none z later) ]),
-        (λ stands. let first : 0 ≡ z = omega (arith, stands.there) in subst (Contains (0 ∷ [])) first (Contains-first 0 []))) };
+      are = record {
+        rising = AllPairs-cons (λ a b. a < b) 0 [] (λ k d within. absurd (omega arith)) (AllPairs-none (λ a b. a < b));
+        each = λ z. (
+          (λ has. elim (Contains-cases 0 [] z has) [ inl here ↦ record { there = omega arith; not_cut = λ k d within. absurd (omega arith) } | inr later ↦ absurd (Contains-none z later) ]),
+          (λ stands. let first : 0 ≡ z = omega (arith, stands.there) in subst (Contains (0 ∷ [])) first (Contains-first 0 [])),
+        );
+      };
       count = refl;
       sizes = omega (arith, sum_by-cons (λ z. size (zone_at (whole_zone problem) [] z)) 0 []);
     }
+
     more : (trace : List CutAt) (cut : CutAt) → IsTrace (whole_zone problem) trace → IsCut (whole_zone problem) trace cut → Counted trace → Counted (trace ++ cut ∷ [])
     more trace cut is now before =
         let whole = whole_zone problem in
@@ -333,7 +357,7 @@ module _ (problem : ProblemModel) (sound : IsSound problem) where
       let found = counted trace is in
       let whole = whole_zone problem in
       let some = length-le_sum (λ z. size (zone_at whole trace z)) found.standing (All-from_Contains (λ z. 1 ≤ size (zone_at whole trace z)) found.standing (λ z has.
-          size-some (zone_at whole trace z) (λ s within. ((zones-are problem sound trace is z ((found.are.each z).0 has).there).ranges s within).0))) in
+      size-some (zone_at whole trace z) (λ s within. ((zones-are problem sound trace is z ((found.are.each z).0 has).there).ranges s within).0))) in
       record {
         standing = found.standing;
         are = found.are;

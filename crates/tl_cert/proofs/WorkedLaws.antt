@@ -1,16 +1,16 @@
 -- Where `low` is `high` and the budget is at least the count, the lower bound of a worked trace is its height.
-use Rattle.std.proofs.Common.{◌≡◌, ℕ, ◌+◌, ◌-◌, ◌^◌, ◌<◌, ◌≤◌, List, ◌⊎◌, inl, inr, length, refl, sym, ap, ◌∙◌, subst, arith}
+use Rattle.std.proofs.Common.{◌≡◌, ℕ, ◌-◌, ◌^◌, ◌<◌, ◌≤◌, List, inl, inr, arith}
 use Rattle.std.proofs.lemmas.Bool.{cases_lt}
 use Rattle.tl_problem.specs.declared.zone.Range.{Range}
 use Rattle.tl_problem.specs.Problem.{ProblemModel}
 use Rattle.tl_problem.specs.Sound.{IsSound}
-use Rattle.tl_problem.specs.Spans.{page_room, count_of}
+use Rattle.tl_problem.specs.Spans.{count_of}
 use Rattle.tl_problem.specs.Zones.{range_at, IsZone, whole_zone, InZone, LowIsHigh, DifferIn}
-use Rattle.tl_problem.specs.Bounds.{IsLeastTotal, IsBound}
+use Rattle.tl_problem.specs.Bounds.{IsBound}
 use Rattle.tl_problem.proofs.SpanLaws.{class-in_page}
 use Rattle.tl_cert.specs.declared.trace.CutAt.{CutAt}
-use Rattle.tl_cert.specs.Traces.{zone_at, Stands}
-use Rattle.tl_cert.specs.Worked.{IsClosed, IsWorked}
+use Rattle.tl_cert.specs.Traces.{zone_at}
+use Rattle.tl_cert.specs.Worked.{IsWorked}
 use Rattle.tl_cert.proofs.TraceLaws.{zones-are}
 use Rattle.tl_cert.proofs.CountLaws.{parts-vectors}
 

@@ -6,3 +6,4 @@ pub mod Implied
 pub mod Lines
 pub mod Worked
 pub mod Counting
+pub mod Laws

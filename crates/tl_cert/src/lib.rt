@@ -6,6 +6,7 @@
 
 mod certificate;
 mod error;
+mod laws;
 mod limits;
 mod log;
 mod section;
@@ -15,6 +16,7 @@ mod trace;
 
 pub use certificate::{Certificate, Claim};
 pub use error::CertError;
+pub use laws::{enough_budget_closes, good_logs_are_sound, nogoods_are_true, traces_part_vectors};
 pub use limits::{
     MAX_BOUNDS, MAX_CLASS, MAX_FIRES, MAX_INNER_TABLE, MAX_LINE, MAX_SECTIONS, MAX_SPAN, MAX_ZONE,
 };
