@@ -1,4 +1,6 @@
 pub mod Pieces
+pub mod Text
+pub mod Faults
 pub mod inner
 pub mod Traces
 pub mod Nogoods

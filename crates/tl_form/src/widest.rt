@@ -181,7 +181,7 @@ fn chain_by_arcs(
     requires plain { plain.now ≡ map (λ one. one.arc) arcs.now }
     ensures least { IfOk result (λ chain. IsLeastFor style cols demands.now chain.weight) }
     ensures chain { IfOk result (λ chain. IsRowOf style cols demands.now chain.numbers chain.weight) }
-    ensures small { IfOk result (λ chain. chain.weight < 2 ^ 31) }
+    ensures small { IfOk result (λ chain. chain.weight ≤ sum_by (λ demand. demand.width) demands.now + 118) }
 {
     let mut out = vec![in alloc; 0u32; cols as usize + 1]?;
     let (path, heaviest) = heaviest_path(alloc, cols, plain, &mut out)?;
@@ -205,7 +205,7 @@ pub fn heaviest_chain(
     requires demands { AreDemands cols demands.now }
     ensures least { IfOk result (λ chain. IsLeastFor style cols demands.now chain.weight) }
     ensures chain { IfOk result (λ chain. IsRowOf style cols demands.now chain.numbers chain.weight) }
-    ensures small { IfOk result (λ chain. chain.weight < 2 ^ 31) }
+    ensures small { IfOk result (λ chain. chain.weight ≤ sum_by (λ demand. demand.width) demands.now + 118) }
 {
     let arcs = arcs_in_order(alloc, demands, style.gap())?;
     let plain = plain_arcs(alloc, &arcs)?;

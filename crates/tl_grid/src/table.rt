@@ -4,7 +4,7 @@ ghost use Rattle.tl_grid.specs.declared.error.GridError.TheVariants.{Memory};
 ghost use Rattle.tl_grid.specs.Forming.{cells_in, cells_of, rows_of};
 ghost use Rattle.tl_grid.specs.inner.Walk.{after_group, has_turn, place_groups, place_all};
 ghost use Rattle.tl_grid.specs.Shapes.{IsSpan, AllSpans};
-ghost use Rattle.tl_grid.specs.inner.States.{IsWalked};
+ghost use Rattle.tl_grid.specs.inner.States.{IsWalked, group_over};
 
 use crate::block::Block;
 use crate::error::GridError;
@@ -37,7 +37,7 @@ pub fn count_cells(rows: &[List<SpanOf>]) -> u32
 /// Ends a row group: the next row is below the table's height, to which growing cells reach.
 fn end_group(mut table: Table, group: Group) -> Result<Table, GridError>
     ensures { MatchResult result
-        (λ after. after ≡ after_group table group)
+        (λ after. after ≡ after_group table (group_over group))
         (λ e. e ≡ Memory alloc_error) }
 {
     for block in group.blocks.as_slice() {

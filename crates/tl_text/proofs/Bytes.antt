@@ -24,10 +24,12 @@ has_character bytes utf8 some = some_of (chars bytes) (byte_count-chars bytes ut
 pub length-chars : (bytes : List ℕ) → IsUtf8 bytes → length (chars bytes) ≤ length bytes
 length-chars bytes utf8 = omega (arith, length-le-encodes (chars bytes), byte_count-chars bytes utf8)
 
--- a character written behind a text
+-- a character appended to a text
 pub chars-push : (bytes more : List ℕ) (c : ℕ) → IsUtf8 bytes → IsUtf8 more → more ≡ bytes ++ encode_utf8 c → chars more ≡ chars bytes ++ c ∷ []
 chars-push bytes more c utf8 valid is =
-    sym (chars_from_encodes (chars bytes ++ c ∷ []) more valid (encodes-append (chars bytes) (c ∷ []) ∙ ap (λ front. front ++ encode_utf8_all (c ∷ [])) (encodes-chars bytes utf8) ∙ ap (λ last. bytes ++ last) (append-nil (encode_utf8 c)) ∙ sym is))
+    sym (chars_from_encodes (chars bytes ++ c ∷ []) more valid
+    (encodes-append (chars bytes) (c ∷ []) ∙ ap (λ front. front ++ encode_utf8_all (c ∷ [])) (encodes-chars bytes utf8)
+    ∙ ap (λ last. bytes ++ last) (append-nil (encode_utf8 c)) ∙ sym is))
 
 -- whether a text has a character, by its bytes
 pub has_character-chars : (bytes : List ℕ) → IsUtf8 bytes → spec.has_character (chars bytes) ≡ not (length bytes == 0)

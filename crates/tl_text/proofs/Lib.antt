@@ -1,6 +1,6 @@
 pub mod Bytes
 pub mod Leading
-pub mod Parts
+pub mod WordLemmas
 pub mod Sizes
 pub mod Widths
 mod Examples

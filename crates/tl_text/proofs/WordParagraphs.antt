@@ -22,7 +22,7 @@ clean_more : (c : ℕ) (parts : List (List ℕ)) → is_ascii_whitespace c ≡ f
 clean_more c [] solid clean = (rw solid, tt)
 clean_more c (part ∷ parts) solid clean = (rw solid clean.0, clean.1)
 
--- the bytes of a character and of a text behind it
+-- the bytes of a character and of the text after it
 bytes-cons : (c : ℕ) (text : List ℕ) → byte_count (c ∷ text) ≡ length (encode_utf8 c) + byte_count text
 bytes-cons c text = length-append (encode_utf8 c) (encode_utf8_all text)
 
@@ -35,7 +35,7 @@ size_more c (part ∷ parts) =
 abbrev AreParts : List ℕ → List (List ℕ) → Type 0
 AreParts text parts = AllByRecursion IsClean parts × (sum_by byte_count parts ≤ byte_count text)
 
--- one more character in front
+-- one more character before it
 parts_more : (c : ℕ) (text : List ℕ) (white : Bool) → is_ascii_whitespace c ≡ white → AreParts text (slice_split is_ascii_whitespace text) →
     AreParts (c ∷ text) (slice_split is_ascii_whitespace (c ∷ text))
 parts_more c text true is parts = rw (slice_split-cons_yes is_ascii_whitespace c text is)

@@ -1,4 +1,4 @@
--- Paragraphs: which lists of units and breaks are one, and the pieces that its breaks part.
+-- Paragraphs: which lists of units and breaks are one, and the pieces between its breaks.
 use Rattle.std.specs.Prelude.{◌≡◌, ℕ, ◌<◌, ◌≤◌, Bool, true, false, List, [], ◌∷◌, length, sum_by}
 use Rattle.std.specs.List.{All, onto_first, list_any}
 use Rattle.std.specs.Char.{is_ascii_whitespace}

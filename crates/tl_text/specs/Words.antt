@@ -10,7 +10,8 @@ use Rattle.unicode_width.specs.Width.{str_width}
 abbrev pub has_character : List ℕ → Bool
 has_character text = nat_lt 0 (length text)
 
--- the words of a text: of the parts between its white space characters those with a character
+-- the words of a text: it is split at each white space character, and the parts with a character
+-- count
 abbrev pub words_of : List ℕ → List (List ℕ)
 words_of text = filter has_character (slice_split is_ascii_whitespace text)
 

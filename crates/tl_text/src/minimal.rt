@@ -1,3 +1,5 @@
+//! The widths that a paragraph is worth.
+
 ghost use Rattle.std.specs.Prelude.{◌≡◌, ◌+◌, ◌-◌, ◌^◌, ◌≤◌, ◌<◌, ℕ, [], None, length, IfOk, map};
 ghost use Rattle.std.specs.List.{All};
 ghost use Rattle.tl_text.specs.Cuttings.{HasCutting};
@@ -57,7 +59,7 @@ fn measures(alloc: Global, p: &Para) -> Result<List<Measure>, AllocError>
 }
 
 /// The lines of `width` columns that are filled with all of the units. At each width from `width`
-/// on, up to the next one worth trying, they are the same.
+/// on, up to the next one worth trying, there are as many.
 fn filled(units: &[Measure], width: u32, most: u32) -> Filling
     requires fits { All (λ unit. columns_of unit ≤ width) units.now }
     requires width { width ≤ most }

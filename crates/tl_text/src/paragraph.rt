@@ -1,3 +1,5 @@
+//! Paragraphs: which lists of units and breaks are one.
+
 ghost use Rattle.std.specs.Prelude.{◌≡◌, ◌↔◌, ◌≤◌, IsTrue, SomeIff, length, sum_by};
 ghost use Rattle.std.specs.Char.{is_ascii_whitespace};
 ghost use Rattle.std.specs.List.{All, list_any};
@@ -16,7 +18,8 @@ const MOST_BYTES: usize = 1 << 20;
 pub enum Atom {
     /// A unit that begins a word.
     Word(Text),
-    /// A unit that goes on with the word before it: no gap stands between the two.
+    /// A unit that goes on with the word before it. It is *not* separated from the unit before it:
+    /// no gap stands between the two. (TeX uses the word glue for the stretchable gap itself.)
     Glue(Text),
     /// A forced end of a line, as `<br>` makes it.
     Break,

@@ -1,5 +1,6 @@
 -- A piece takes at least as many bytes of the file as its token or its character has.
-use Rattle.std.proofs.Common.{◌≡◌, ℕ, zero, suc, ◌+◌, ◌<◌, ◌≤◌, Bool, true, false, ◌&&◌, List, [], ◌∷◌, ◌++◌, Option, Some, None, length, refl, sym, ap, ◌∙◌, subst, inl, inr, cond, arith, drop, length-append}
+use Rattle.std.proofs.Common.{◌≡◌, ℕ, zero, suc, ◌+◌, ◌<◌, ◌≤◌, Bool, true, false, ◌&&◌, List, [], ◌∷◌, ◌++◌, Option, Some, None, length, refl, sym}
+use Rattle.std.proofs.Common.{ap, ◌∙◌, subst, inl, inr, cond, arith, drop, length-append}
 use Rattle.std.proofs.lemmas.Bool.{false≢true}
 use Rattle.std.proofs.lemmas.Str.{encodes-append, length-encode, len_utf8_bounds}
 use Rattle.std.specs.Prelude.{codes}
@@ -8,7 +9,9 @@ use Rattle.tl_token.specs.Numbers.{number}
 use lib.Utf8.{encode, encodes}
 use Rattle.tl_token.specs.Characters.{◌∈◌, begins, past, byte_len}
 use Rattle.tl_token.specs.Elements.{Attribute, Tag, kind_of, spans_of}
-use Rattle.tl_token.specs.Grammar.{has_prefix, past_first, Value, missing, quoted, unquoted, Attributes, end, gap, attribute, opening, IsTag, named_character, numbered_character, ended_run, referred, numeric_reference, reference, Piece, hidden, tag, character, Stands, comment, doctype, markup, by_reference, plain}
+use Rattle.tl_token.specs.Grammar.{has_prefix, past_first, Value, missing, quoted, unquoted, Attributes, end, gap, attribute, opening, IsTag}
+use Rattle.tl_token.specs.Grammar.{named_character, numbered_character, ended_run, referred, numeric_reference, reference, Piece, hidden, tag}
+use Rattle.tl_token.specs.Grammar.{character, Stands, comment, doctype, markup, by_reference, plain}
 use Rattle.tl_token.specs.Spelling.{Part, place_of, Leads, here, next, join_before, character_before, piece_before, tokens_of, token_size, size_of}
 use Rattle.tl_token.specs.declared.token.TokenKind.{TokenKind}
 use Rattle.tl_token.specs.declared.token.TokenKind.TheVariants.{Start, End, Text}
@@ -25,7 +28,7 @@ byte_len-append xs ys = ap length (encodes-append xs ys) ∙ length-append (enco
 pub more_bytes : (c : ℕ) (cs : List ℕ) → byte_len cs < byte_len (c ∷ cs)
 more_bytes c cs = omega (arith, byte_len-cons c cs, (len_utf8_bounds c).0)
 
--- what stands behind some text has no more bytes than all
+-- what follows some text has no more bytes than all
 pub behind_le : (cs xs rest : List ℕ) → cs ≡ xs ++ rest → byte_len rest ≤ byte_len cs
 behind_le cs xs rest e = omega (arith, ap byte_len e, byte_len-append xs rest)
 
@@ -63,12 +66,28 @@ value_le : (cs value rest : List ℕ) → Value cs value rest → byte_len rest 
 value_le cs value rest (missing v e b) = omega (arith, ap byte_len e)
 value_le cs value rest (quoted q i before after b a v e) =
     let inner = quote_le q value rest in
-    omega (arith, ap byte_len e, byte_len-append before (codes "=" ++ (after ++ (q ∷ (value ++ (q ∷ rest))))), more_bytes 61 (after ++ (q ∷ (value ++ (q ∷ rest)))), byte_len-append after (q ∷ (value ++ (q ∷ rest))), inner)
+    omega (
+      arith,
+      ap byte_len e,
+      byte_len-append before (codes "=" ++ (after ++ (q ∷ (value ++ (q ∷ rest))))),
+      more_bytes 61
+          (after ++ (q ∷ (value ++ (q ∷ rest)))),
+      byte_len-append after (q ∷ (value ++ (q ∷ rest))),
+      inner,
+    )
   where
     quote_le : (q : ℕ) (value rest : List ℕ) → byte_len rest ≤ byte_len (q ∷ (value ++ (q ∷ rest)))
     quote_le q value rest = omega (arith, more_bytes q (value ++ (q ∷ rest)), byte_len-append value (q ∷ rest), more_bytes q rest)
 value_le cs value rest (unquoted before after b a some v k e) =
-    omega (arith, ap byte_len e, byte_len-append before (codes "=" ++ (after ++ (value ++ rest))), more_bytes 61 (after ++ (value ++ rest)), byte_len-append after (value ++ rest), byte_len-append value rest)
+    omega (
+      arith,
+      ap byte_len e,
+      byte_len-append before (codes "=" ++ (after ++ (value ++ rest))),
+      more_bytes 61
+          (after ++ (value ++ rest)),
+      byte_len-append after (value ++ rest),
+      byte_len-append value rest,
+    )
 
 attributes_le : (cs : List ℕ) (others : List Attribute) (rest : List ℕ) → Attributes cs others rest → byte_len rest ≤ byte_len cs
 attributes_le _ _ rest (end {c = c} h) = omega (arith, more_bytes c rest)
@@ -93,13 +112,14 @@ after_of (Some p) = p.1
 
 -- a run and its `;` have two bytes at least
 run_less : (test : ℕ → Bool) (cs text rest : List ℕ) → ended_run test cs ≡ Some (text, rest) → byte_len rest + 2 ≤ byte_len cs
-run_less test cs text rest h = elim (chosen (λ (o : Option (List ℕ × List ℕ)). o ≡ Some (text, rest)) (begins test cs && begins (λ c. c ∈ ";") (past test cs)) _ _ h) [
-  | inl e ↦
-      let (some, close) = and_cases (begins test cs) _ (e.0) in
-      let same : drop 1 (past test cs) ≡ rest = ap after_of (e.1) in
-      omega (arith, past_less test cs some, one_less (λ c. c ∈ ";") (past test cs) close, ap byte_len (sym same))
-  | inr e ↦ let never = e.1 in cc
-]
+run_less test cs text rest h =
+    elim (chosen (λ (o : Option (List ℕ × List ℕ)). o ≡ Some (text, rest)) (begins test cs && begins (λ c. c ∈ ";") (past test cs)) _ _ h) [
+      | inl e ↦
+          let (some, close) = and_cases (begins test cs) _ (e.0) in
+          let same : drop 1 (past test cs) ≡ rest = ap after_of (e.1) in
+          omega (arith, past_less test cs some, one_less (λ c. c ∈ ";") (past test cs) close, ap byte_len (sym same))
+      | inr e ↦ let never = e.1 in cc
+    ]
   where
     and_cases : (a b : Bool) → (a && b) ≡ true → (a ≡ true) × (b ≡ true)
     and_cases true b h = (refl, h)
@@ -110,7 +130,7 @@ piece_size hidden = 0
 piece_size (tag kind) = token_size kind
 piece_size (character c) = len_utf8 c
 
--- behind a run, what it stands for and the rest
+-- after a run, what it stands for and the rest
 referred_from : (meaning : List ℕ → Option ℕ) (ended : Option (List ℕ × List ℕ)) (c : Option ℕ) (rest : List ℕ) → referred meaning ended ≡ Some (c, rest)
     → (text : List ℕ) × (ended ≡ Some (text, rest)) × (meaning text ≡ c)
 referred_from meaning None c rest h = cc
@@ -160,14 +180,34 @@ kind_size e t = by_end (t.is_end)
     by_end false = refl
 
 -- a piece has no more bytes than the text in which it stands
-pub piece_le : (cs : List ℕ) (piece : Piece) (rest : List ℕ) → Stands cs piece rest → (piece_size piece + byte_len rest ≤ byte_len cs) × (byte_len rest < byte_len cs)
+pub piece_le : (cs : List ℕ) (piece : Piece) (rest : List ℕ) → Stands cs piece rest → (piece_size piece + byte_len rest ≤ byte_len cs)
+    × (byte_len rest < byte_len cs)
 piece_le cs _ rest (comment k) =
     let h = past_first_le (codes "-->") (k.inside) rest (k.closed) in
-    let g : byte_len rest < byte_len cs = omega (arith, h, ap byte_len (k.opened), more_bytes 60 (33 ∷ 45 ∷ 45 ∷ k.inside), more_bytes 33 (45 ∷ 45 ∷ k.inside), more_bytes 45 (45 ∷ k.inside), more_bytes 45 (k.inside)) in
+    let g : byte_len rest < byte_len cs =
+    omega (
+      arith,
+      h,
+      ap byte_len (k.opened),
+      more_bytes 60 (33 ∷ 45 ∷ 45 ∷ k.inside),
+      more_bytes 33 (45 ∷ 45 ∷ k.inside),
+      more_bytes 45
+          (45 ∷ k.inside),
+      more_bytes 45 (k.inside),
+    ) in
     (omega (arith, g), g)
 piece_le cs _ rest (doctype k) =
     let h = past_first_le (codes ">") (k.inside) rest (k.closed) in
-    let g : byte_len rest < byte_len cs = omega (arith, h, ap byte_len (k.opened), more_bytes 60 (33 ∷ (k.word ++ k.inside)), more_bytes 33 (k.word ++ k.inside), byte_len-append (k.word) (k.inside)) in
+    let g : byte_len rest < byte_len cs =
+    omega (
+      arith,
+      h,
+      ap byte_len (k.opened),
+      more_bytes 60 (33 ∷ (k.word ++ k.inside)),
+      more_bytes 33 (k.word ++ k.inside),
+      byte_len-append
+          (k.word) (k.inside),
+    ) in
     (omega (arith, g), g)
 piece_le cs _ rest (markup e t k known kind) =
     let g = tag_less cs t rest k in

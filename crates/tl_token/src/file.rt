@@ -55,8 +55,8 @@ fn read(alloc: Global, text: &str) -> Result<List<Token>, TokenError>
 /// The tokens that the bytes of a file spell: the tags of known elements, with the numbers of
 /// their attributes, and the texts between them. A byte order mark at the very start is skipped.
 ///
-/// Each error names what stands at its place; all before that is whole tags, comments, doctypes
-/// and text. The time grows with the number of bytes alone.
+/// Each error names what stands at its place; before that stand whole tags, comments, doctypes and
+/// text. The time grows with the number of bytes alone.
 pub fn tokens(alloc: Global, text: &[u8]) -> Result<List<Token>, TokenError>
     requires { length text.now ≤ 1048576 }
     // The tokens are those that the grammar spells, and where it spells some, they are returned.

@@ -31,7 +31,7 @@ pub(crate) fn number(base: u32, digits: &str) -> u32
     number
 }
 
-/// Passes a sign, if there is one. True: it is a `-`.
+/// Passes a sign, if there is one, and returns whether it is a `-`.
 fn pass_sign(text: &mut Reader<'_>) -> bool
     ensures negative { result ≡ begins (λ c. c ∈ "-") (unread text.old) }
     ensures passed { unread text.new ≡ unsigned (unread text.old) }
@@ -43,7 +43,7 @@ fn pass_sign(text: &mut Reader<'_>) -> bool
     is_negative
 }
 
-/// The number of the digits behind a sign, if it is one and not below 0.
+/// The number of the digits after a sign, if there is one and it is not below 0.
 fn signed_number(is_negative: bool, digits: &str) -> Option<u32>
     ensures { result
         ≡ option_map (λ n. min n 4294967295) (signed_number is_negative (chars digits.now)) }

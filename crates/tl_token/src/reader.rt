@@ -1,4 +1,4 @@
-//! A text from front to back, a character at a time. It knows no tags.
+//! A text from its start to its end, a character at a time. It knows no tags.
 
 ghost use Rattle.std.specs.Prelude.{◌≡◌, false, [], ◌∷◌, ◌++◌, length, drop, chars, MatchOption, if◌then◌else◌};
 ghost use Rattle.std.specs.Str.{IsUtf8};
@@ -25,7 +25,7 @@ pub(crate) enum Class {
     Sign,
     /// A letter of ASCII.
     Letter,
-    /// White space and `/`, which part attributes.
+    /// White space and `/`, which separate attributes.
     Gap,
     /// What makes a number hexadecimal.
     HexMark,
@@ -121,7 +121,7 @@ impl<'a> Reader<'a> {
         self.peek().is_some_and(|c| class.contains(c))
     }
 
-    /// Passes the next character, if it is this one. True: it was.
+    /// Passes the next character, if it is this one, and returns whether it was.
     pub(crate) fn eat(&mut self, c: char) -> bool
         ensures { Eats c result (unread self.old) (unread self.new) }
     {

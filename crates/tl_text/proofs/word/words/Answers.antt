@@ -8,7 +8,7 @@ use Rattle.std.proofs.lemmas.Iterator.Consumers.{YieldsList-turn, YieldsList-end
 use Rattle.std.proofs.lemmas.Str.{chars-nil, IsUtf8-string_bytes}
 use Rattle.tl_text.specs.Words.{has_character}
 use Rattle.tl_text.proofs.Bytes.{chars-push, has_character-chars}
-use Rattle.tl_text.proofs.Parts.{words_from-start, after_letter, after_word, after_none, at_end, no_character}
+use Rattle.tl_text.proofs.WordLemmas.{words_from-start, after_letter, after_word, after_none, at_end, no_character}
 use Rattle.tl_text.proofs.word.words.Goals as goal
 use Rattle.tl_text.proofs.word.words.Goals.{then-not-is_empty-2+in_ok-from_str-2+in_ok-push-3, else-not-is_empty-2}
 
@@ -18,7 +18,8 @@ loop-c-init c =
 
 pub loop-c-preserved-in_ok-push : goal.loop-c-preserved-in_ok-push
 loop-c-preserved-in_ok-push c =
-    let turn = YieldsList-turn (YieldsList-from_chars c.args.text.now c.utf8.text cc) c.loop-c.yielded _ c.loop-c.yielded_by _ _ c.in-Some.c c.in-Some.is c.next.ensures.steps in
+    let turn = YieldsList-turn
+    (YieldsList-from_chars c.args.text.now c.utf8.text cc) c.loop-c.yielded _ c.loop-c.yielded_by _ _ c.in-Some.c c.in-Some.is c.next.ensures.steps in
     let bytes = string_bytes c.loop-c.word in
     let more = string_bytes c.push.new.self in
     let spelt = chars-push bytes more c.in-Some.c (IsUtf8-string_bytes c.loop-c.word) (IsUtf8-string_bytes c.push.new.self) c.in_ok-push.ensures.bytes in
@@ -27,28 +28,33 @@ loop-c-preserved-in_ok-push c =
 
 pub loop-c-preserved-then-not-is_empty : goal.loop-c-preserved-then-not-is_empty
 loop-c-preserved-then-not-is_empty c =
-    let turn = YieldsList-turn (YieldsList-from_chars c.args.text.now c.utf8.text cc) c.loop-c.yielded _ c.loop-c.yielded_by _ _ c.in-Some.c c.in-Some.is c.next.ensures.steps in
+    let turn = YieldsList-turn
+    (YieldsList-from_chars c.args.text.now c.utf8.text cc) c.loop-c.yielded _ c.loop-c.yielded_by _ _ c.in-Some.c c.in-Some.is c.next.ensures.steps in
     let bytes = string_bytes c.loop-c.word in
     let white : is_ascii_whitespace c.in-Some.c ≡ true = grind (arith, tests) in
     let shown = has_character-chars bytes (IsUtf8-string_bytes c.loop-c.word) in
     let counted = c.loop-c.word.bytes.ok.0 in
     let some : has_character (chars bytes) ≡ true = grind (arith, nat_tests, tests) in
     let copied = c.in_ok-from_str.ensures ∙ ap chars c.as_str.ensures.value in
-    rw (c.in_ok-push-2.ensures.ok, copied, c.clear.ensures.bytes, chars-nil) (after_word c.loop-c.list (chars c.args.text.now) c.loop-c.yielded c.in-Some.c (chars bytes) turn c.loop-c.invariant white some)
+    rw (c.in_ok-push-2.ensures.ok, copied, c.clear.ensures.bytes, chars-nil)
+    (after_word c.loop-c.list (chars c.args.text.now) c.loop-c.yielded c.in-Some.c (chars bytes) turn c.loop-c.invariant white some)
 
 pub loop-c-preserved : goal.loop-c-preserved
 loop-c-preserved c =
-    let turn = YieldsList-turn (YieldsList-from_chars c.args.text.now c.utf8.text cc) c.loop-c.yielded _ c.loop-c.yielded_by _ _ c.in-Some.c c.in-Some.is c.next.ensures.steps in
+    let turn = YieldsList-turn
+    (YieldsList-from_chars c.args.text.now c.utf8.text cc) c.loop-c.yielded _ c.loop-c.yielded_by _ _ c.in-Some.c c.in-Some.is c.next.ensures.steps in
     let bytes = string_bytes c.loop-c.word in
     let white : is_ascii_whitespace c.in-Some.c ≡ true = grind (arith, tests) in
     let shown = has_character-chars bytes (IsUtf8-string_bytes c.loop-c.word) in
     let counted = c.loop-c.word.bytes.ok.0 in
     let none : has_character (chars bytes) ≡ false = grind (arith, nat_tests, tests) in
-    rw (no_character (chars bytes) none) (after_none c.loop-c.list (chars c.args.text.now) c.loop-c.yielded c.in-Some.c (chars bytes) turn c.loop-c.invariant white none)
+    rw (no_character (chars bytes) none)
+    (after_none c.loop-c.list (chars c.args.text.now) c.loop-c.yielded c.in-Some.c (chars bytes) turn c.loop-c.invariant white none)
 
 pub returns : goal.returns
 returns c =
-    let end = YieldsList-end (YieldsList-from_chars c.args.text.now c.utf8.text cc) c.loop-c.yielded _ c.loop-c.yielded_by _ _ c.in-None.is c.next.ensures.steps in
+    let end = YieldsList-end
+    (YieldsList-from_chars c.args.text.now c.utf8.text cc) c.loop-c.yielded _ c.loop-c.yielded_by _ _ c.in-None.is c.next.ensures.steps in
     let bytes = string_bytes c.loop-c.word in
     let shown = has_character-chars bytes (IsUtf8-string_bytes c.loop-c.word) in
     let counted = c.loop-c.word.bytes.ok.0 in

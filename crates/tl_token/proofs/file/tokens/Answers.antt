@@ -1,6 +1,6 @@
 use Rattle.std.proofs.Common.{List, ℕ, subst, IfOk, IfErr}
 use Rattle.tl_token.specs.Spelling.{SpellsTokens, RefusedOrMemory}
-use Rattle.tl_token.proofs.Answered.{only_tokens, only_error, small}
+use Rattle.tl_token.proofs.SpellingLemmas.{only_tokens, only_error, small}
 use Rattle.tl_token.proofs.file.tokens.Goals as goal
 
 pub returns-in-Ok-clause-each_ok : goal.returns-in-Ok-clause-each_ok
