@@ -1,11 +1,7 @@
 -- No public clause cites this file. The reading of a number and of the character that ends it.
-use Rattle.std.specs.Prelude.{ℕ, suc, ◌+◌, ◌*◌, ◌-◌, nat_le, Bool, ◌&&◌, ◌==◌, List, [], ◌∷◌, length, if◌then◌else◌}
+use Rattle.std.specs.Prelude.{ℕ, suc, ◌+◌, ◌*◌, ◌-◌, nat_le, Bool, true, false, ◌&&◌, ◌==◌, List, [], ◌∷◌, length, if◌then◌else◌}
 use Rattle.std.specs.Char.{is_ascii_digit}
-<<<<<<< HEAD
-use Rattle.tl_cert.specs.inner.reading.Readings.{got, wrong, outside, Reading, begins}
-=======
 use Rattle.tl_cert.specs.inner.reading.Readings.{Answer, got, wrong, outside, Reading, ◌>>=◌, give, begins}
->>>>>>> 417906e273d24a5c2adb508de638f5583301e69c
 
 -- the number that digits go on with from this one, and what follows the digits
 abbrev pub read_run : ℕ → List ℕ → ℕ × List ℕ
@@ -34,7 +30,7 @@ number_at low high possible allowed [] = wrong 0
 number_at low high possible allowed (c ∷ text) =
     if is_ascii_digit c
     then (if c == 48 then zero_ended low high possible allowed text
-    else (let run = read_run (c - 48) text in run_ended low high possible allowed (suc (length text)) (run.0) (run.1)))
+        else (let run = read_run (c - 48) text in run_ended low high possible allowed (suc (length text)) (run.0) (run.1)))
     else wrong (suc (length text))
 
 -- a number that this character ends
