@@ -1,14 +1,14 @@
 -- Traces, cut by cut: the zones that a further cut makes, and which zones then stand.
-use Rattle.std.proofs.Common.{◌≡◌, ◌≢◌, ℕ, ◌+◌, ◌-◌, ◌*◌, ◌<◌, ◌≤◌, zero, suc, List, [], ◌∷◌, ◌++◌, ◌⊎◌, inl, inr, length, get_or, take, refl, sym, ap, ◌∙◌, subst, arith, append_assoc, append-nil, length-append, length-take}
+use Rattle.std.proofs.Common.{◌≡◌, ◌≢◌, ℕ, ◌+◌, ◌*◌, ◌<◌, ◌≤◌, zero, suc, List, [], ◌∷◌, ◌++◌, ◌⊎◌, inl, inr, length, get_or, take, refl, sym, ap, ◌∙◌, subst, arith, length-append, length-take}
 use Rattle.std.specs.List.{All}
 use Rattle.std.proofs.lemmas.Bool.{cases_lt}
 use Rattle.std.proofs.lemmas.List.{take_all, get_or-take, take-take, get_or_append_left, get_or-append-add}
-use Rattle.std.proofs.lemmas.List.Elements.{All-push, All-append}
+use Rattle.std.proofs.lemmas.List.Elements.{All-push}
 use Rattle.std.proofs.Math.Seq.{take-suc}
 use Rattle.tl_problem.specs.declared.zone.Range.{Range}
 use Rattle.tl_problem.specs.Problem.{ProblemModel}
 use Rattle.tl_problem.specs.Sound.{IsSound}
-use Rattle.tl_problem.specs.Zones.{range_at, IsZone, whole_zone, lower_part, upper_part}
+use Rattle.tl_problem.specs.Zones.{IsZone, whole_zone, lower_part, upper_part}
 use Rattle.tl_problem.proofs.ZoneLaws.{whole-is_zone, lower-is_zone, upper-is_zone}
 use Rattle.tl_cert.specs.declared.trace.CutAt.{CutAt}
 use Rattle.tl_cert.specs.Traces.{with_parts, zones_after, zones_of, zone_at, IsZoneOf, Stands, IsCut, IsTrace}
@@ -56,9 +56,9 @@ module _ (whole : List Range) (trace : List CutAt) (cut : CutAt) where
       elim (cases_lt z (2 * length trace + 1)) [
         | inl old ↦ inl old
         | inr new ↦ elim (cases_lt z (2 * length trace + 2)) [
-            | inl first ↦ inr (inl (omega arith))
-            | inr second ↦ inr (inr (omega (arith, there, more)))
-          ]
+          | inl first ↦ inr (inl (omega arith))
+          | inr second ↦ inr (inr (omega (arith, there, more)))
+        ]
       ]
 
   -- a zone from before stands where it stood and is not the one that is cut
@@ -69,8 +69,10 @@ module _ (whole : List Range) (trace : List CutAt) (cut : CutAt) where
   }
 
   pub stood-before : (z : ℕ) → Stands (trace ++ cut ∷ []) z → IsZoneOf trace z → Stands trace z × (cut.zone ≢ z)
-  stood-before z stands old = (record { there = old; not_cut = λ k d within. subst (λ c. c.zone ≢ z) (get_or_append_left trace (cut ∷ []) d k within) (stands.not_cut k d (omega (arith, within, length-append trace (cut ∷ [])))) },
-    subst (λ c. c.zone ≢ z) (get_or-append-add trace (cut ∷ []) 0 cut) (stands.not_cut (length trace + 0) cut (omega (arith, length-append trace (cut ∷ [])))))
+  stood-before z stands old = (
+    record { there = old; not_cut = λ k d within. subst (λ c. c.zone ≢ z) (get_or_append_left trace (cut ∷ []) d k within) (stands.not_cut k d (omega (arith, within, length-append trace (cut ∷ [])))) },
+    subst (λ c. c.zone ≢ z) (get_or-append-add trace (cut ∷ []) 0 cut) (stands.not_cut (length trace + 0) cut (omega (arith, length-append trace (cut ∷ [])))),
+  )
 
 -- ---- what holds of no cuts, and of each trace with one cut more, holds of each trace
 
@@ -109,8 +111,10 @@ pub zones-are : (problem : ProblemModel) → IsSound problem → (trace : List C
 zones-are problem sound trace is = trace-by (whole_zone problem) AllZones none more trace is where
   AllZones : List CutAt → Type 0
   AllZones cuts = (z : ℕ) → IsZoneOf cuts z → IsZone problem (zone_at (whole_zone problem) cuts z)
+
   none : AllZones []
   none z there = let first : z ≡ 0 = omega arith in subst (λ n. IsZone problem (zone_at (whole_zone problem) [] n)) (sym first) (whole-is_zone problem)
+
   more : (cuts : List CutAt) (cut : CutAt) → IsTrace (whole_zone problem) cuts → IsCut (whole_zone problem) cuts cut → AllZones cuts → AllZones (cuts ++ cut ∷ [])
   more cuts cut before now zones z there =
       let parent = zones cut.zone now.stands.there in

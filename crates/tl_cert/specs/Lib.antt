@@ -8,3 +8,4 @@ pub mod Implied
 pub mod Lines
 pub mod Worked
 pub mod Counting
+pub mod Laws
