@@ -1,5 +1,5 @@
-//! The open blocks of a row group, and the walk of a row over them. A row steps over the blocks that
-//! it meets on the way to its last cell, and drops those that have ended.
+//! The open blocks of a row group, and the walk of a row over them. A row meets the blocks between
+//! the end of a run of blocks from column 0 on and its last cell, and drops the ended ones.
 
 ghost use Rattle.std.specs.Prelude.{◌≡◌, ◌⊎◌, ◌+◌, ◌<◌, ◌≤◌, ◌^◌, [], ◌∷◌, ◌++◌, length, take, drop, IfOk, IfErr, MatchResult, IsTrue, if◌then◌else◌, alloc_error};
 ghost use Rattle.tl_grid.specs.declared.error.GridError.TheVariants.{Memory};
@@ -101,7 +101,7 @@ fn run_at(run: Run, passed: &[Block], column: u32, row: u32) -> Run
     }
 }
 
-/// Moves the blocks from `count` on, of those passed, back in front of those ahead.
+/// Moves the blocks from `count` on, of those passed, back before those ahead.
 fn rewind(
     passed: &mut Vec<Block>,
     ahead: &mut VecDeque<Block>,
