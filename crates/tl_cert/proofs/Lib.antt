@@ -1,1 +1,6 @@
+pub mod CountLaws
+pub mod LogLaws
+pub mod TextExamples
+pub mod TraceLaws
+pub mod WorkedLaws
 pub mod reading

@@ -6,6 +6,8 @@
 mod cell;
 mod layout;
 mod widest;
+mod width;
 
 pub use cell::{Content, Kind, Table, TableCell};
 pub use layout::Layout;
+pub use width::least_width;

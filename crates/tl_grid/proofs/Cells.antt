@@ -8,7 +8,8 @@ use Rattle.tl_grid.specs.declared.shape.SpanOf.{SpanOf}
 use Rattle.tl_grid.specs.declared.block.Block.{Block}
 use Rattle.tl_grid.specs.Forming.{Cell, covers, has_cell, first_free, cell_at, grown_into}
 use Rattle.tl_grid.specs.Overlap.{cells_over, numbers_over}
-use Rattle.tl_grid.specs.inner.Walk.{reaches, block_at}
+use Rattle.tl_grid.specs.inner.OpenBlocks.{reaches}
+use Rattle.tl_grid.specs.inner.Walk.{block_at}
 use Rattle.tl_grid.proofs.Chains.{spot, filter_yes, filter_no}
 use Rattle.tl_grid.proofs.Passing.{some, any_is_some}
 

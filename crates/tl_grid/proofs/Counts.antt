@@ -1,17 +1,18 @@
--- How many kept numbers lie below a number: their places in a list that rises.
+-- How many kept numbers are below a number: their places in a list in strictly increasing order.
 use Rattle.std.proofs.Common.{◌≡◌, ℕ, ◌+◌, ◌<◌, ◌≤◌, zero, suc, Bool, true, false, ◌||◌, cond, ltb, eqb, List, [], ◌∷◌, length, get_or, refl, sym, ap, ◌∙◌, inl, inr, arith, add-one}
 use Rattle.std.specs.List.{filter, dedup, dedup_from}
 use Rattle.std.specs.List.Sorted.{IsStrictlyIncreasing, IsNonDecreasingBy}
 use Rattle.std.proofs.lemmas.Bool.{lt-ltb, le-ltb, eq-eqb, ne_eqb, eqb-true, cases_Bool, cases_lt, cases_eq, cases_order, both_ways, cond-true, cond-false}
 use Rattle.std.proofs.lemmas.List.Kept.{AllPairs-from_increasing}
-use Rattle.tl_grid.specs.Dropping.{count_below, is_among}
+use Rattle.tl_grid.specs.Dropping.{count_below}
+use Rattle.tl_base.specs.Lists.{is_among}
 use Rattle.tl_grid.proofs.Chains.{filter_yes, filter_no}
 
 -- 1 if the test passes
 abbrev pub one_if : Bool → ℕ
 one_if b = cond b 1 0
 
--- tests that answer alike count alike
+-- tests that agree count alike
 pub count_same : (p q : ℕ → Bool) → ((x : ℕ) → p x ≡ q x) → (n : ℕ) → count_below p n ≡ count_below q n
 count_same p q same zero = refl
 count_same p q same (suc n) = ap (λ t. count_below p n + one_if t) (same n) ∙ ap (λ c. c + one_if (q n)) (count_same p q same n)

@@ -7,7 +7,8 @@ use Rattle.tl_grid.specs.declared.block.Block.{Block}
 use Rattle.tl_grid.specs.declared.table.Table.{Table}
 use Rattle.tl_grid.specs.declared.shape.Place.{Place}
 use Rattle.tl_grid.specs.Forming.{Cell, Forming}
-use Rattle.tl_grid.specs.Dropping.{count_below, keeps_column, keeps_row, new_column, new_row, place_of, is_among}
+use Rattle.tl_grid.specs.Dropping.{count_below, keeps_column, keeps_row, new_column, new_row, place_of}
+use Rattle.tl_base.specs.Lists.{is_among}
 use Rattle.tl_grid.specs.inner.Places.{begins_in_column, begins_in_row, place_by}
 use Rattle.std.proofs.lemmas.Simd.{map-map}
 use Rattle.tl_grid.proofs.Cells.{number_of, block_number}

@@ -1,5 +1,6 @@
--- What holds of every dropped grid: laws of its slots, in terms of `HasGrid`.
-use Rattle.std.proofs.Common.{◌≡◌, ℕ, ◌+◌, ◌<◌, ◌≤◌, zero, suc, Bool, true, false, ◌&&◌, ltb, leb, eqb, List, [], ◌∷◌, map, length, get_or, Result, Ok, Err, ◌↔◌, refl, sym, ap, ◌∙◌, subst, inl, inr, arith, All}
+-- The laws of dropped grids, in terms of `HasGrid`: `all_within`, `all_apart`, `edges_apart`,
+-- `all_columns`, `all_rows`, `all_filled` and `kept_slots`.
+use Rattle.std.proofs.Common.{◌≡◌, ℕ, ◌+◌, ◌<◌, ◌≤◌, max, zero, suc, Bool, true, false, ◌&&◌, ltb, leb, eqb, List, [], ◌∷◌, map, length, get_or, Result, Ok, Err, ◌↔◌, refl, sym, ap, ◌∙◌, subst, inl, inr, arith, All}
 use Rattle.std.specs.List.{filter, AllByRecursion, AllPairs, Any}
 use Rattle.std.proofs.lemmas.Bool.{ltb-true, leb-true, lt-ltb, le-leb, eq-eqb, eqb-true, and_parts, and_from, cases_Bool, cases_lt}
 use Rattle.std.proofs.lemmas.List.{length-map}
@@ -246,6 +247,13 @@ all_apart shape grid spans has i j d lt below x y first second =
     let same : c ≡ c' = same_slot shape has.no_overlap (kept_slots shape grid spans has) c c' x y is.0 is'.0 (subst P is.2 first) (subst P is'.2 second) in
     let number : c.number ≡ c'.number = ap number_of same in
     omega (arith, is.1, is'.1)
+
+-- Places that are apart do not overlap both across and down.
+pub edges_apart : (cols rows : ℕ) (p q : Place) → IsPlaced cols rows p → IsPlaced cols rows q → AreApart p q → p.left < q.right → q.left < p.right → p.top < q.bottom → q.top < p.bottom → ⊥
+edges_apart cols rows p q is is' apart across across' down down' =
+    apart (max p.left q.left) (max p.top q.top)
+    (omega arith, omega (arith, is.0), omega arith, omega (arith, is.2))
+    (omega arith, omega (arith, is'.0), omega arith, omega (arith, is'.2))
 
 -- In each column a cell is anchored.
 pub all_columns : (shape : Shape) (grid : Grid) → HasGrid shape grid → (x : ℕ) → x < grid.cols → HasAnchorInColumn grid.places x

@@ -59,3 +59,8 @@ put_all f g (x ∷ xs) vs once low =
           (λ n. let more : tally n (map f (x ∷ xs)) ≡ one_if (eqb (f x) n) + tally n (map f xs) = refl in omega (arith, once n))
           (λ n le. (tally_one n (f x) (map f xs) (low n (omega (arith, length-set vs (f x) (g x))))).1),
     )
+
+-- what is put changes no length
+pub length_put : {X V : Type 0} (f : X → ℕ) (g : X → V) (xs : List X) (vs : List V) → length (fold (λ found x. slice_set found (f x) (g x)) vs xs) ≡ length vs
+length_put f g [] vs = refl
+length_put f g (x ∷ xs) vs = length_put f g xs (slice_set vs (f x) (g x)) ∙ length-set vs (f x) (g x)

@@ -8,9 +8,10 @@ use Rattle.tl_grid.specs.declared.shape.SpanOf.{SpanOf}
 use Rattle.tl_grid.specs.declared.block.Block.{Block}
 use Rattle.tl_grid.specs.Forming.{Cell, Forming, has_cell, first_free, initial_rowspan, cell_at, with_cell}
 use Rattle.tl_grid.specs.Overlap.{numbers_over, IsBefore}
-use Rattle.tl_grid.specs.inner.Walk.{reaches, Walk, block_at, hit, Row, placed, walk_of}
+use Rattle.tl_grid.specs.inner.OpenBlocks.{reaches, Walk, hit}
+use Rattle.tl_grid.specs.inner.Walk.{block_at, Row, placed, walk_of}
 use Rattle.tl_grid.proofs.Chains.{spot, Chain, ChainTo, spot_in, spot_before, spot_from, filter_yes, filter_no, none_left, none_right, at_most_one, chain_append, chain_yes}
-use Rattle.tl_grid.proofs.Passing.{some, BeginsAfter, Reaches, EndsWithin, Passes, passes, push_front}
+use Rattle.tl_grid.proofs.Passing.{some, BeginsAfter, EndsWithin, Passes, passes, push_front}
 use Rattle.tl_grid.proofs.Cells.{cell_of, AllQuiet, block_number, BeginsBy, numbers_here, has_cell_here, first_free_is, formed_cell}
 use Rattle.tl_grid.proofs.Later.{with_cell_before}
 
@@ -62,7 +63,6 @@ pub record RowMatches (done : List Cell) (y : ℕ) (s : Forming) (r : Row) : Typ
   pub same : (x' y' : ℕ) → y ≤ y' → filter (spot x' y') r.blocks ≡ filter (spot x' y') (r.passed ++ r.ahead)
   pub front : ChainTo 0 (filter (reaches y) r.passed) r.column
   pub rest : Chain r.column (filter (reaches y) r.ahead)
-  pub alive : AllByRecursion (Reaches y) r.ahead
   pub past : (x' y' : ℕ) → y' < y → length (numbers_over x' y' s.cells) ≤ 1
 
 -- what holds of all holds of the last
@@ -99,10 +99,10 @@ none_between y x r w right y' p begins ge lt le =
     ∙ none_left right x y y' lt le w.ahead (chain_later y w.column right w.ahead begins p.rest)
 
 -- the walk comes to the column that the standard's steps come to
-pub column_found : (done : List Cell) (y : ℕ) (s : Forming) (r : Row) → AllQuiet y done → RowMatches done y s r → first_free (λ column. has_cell column s.row s.cells) r.column (s.width - r.column) ≡ (walk_of r).column
+pub column_found : (done : List Cell) (y : ℕ) (s : Forming) (r : Row) → AllQuiet y done → RowMatches done y s r → first_free (λ column. has_cell column s.row s.cells) r.column (s.width - r.column) ≡ (walk_of y r).column
 column_found done y s r quiet m =
-    let w : Walk = walk_of r in
-    let p : Passes y r.column r.passed r.ahead w = passes y r.ahead r.column r.passed m.front m.rest m.alive in
+    let w : Walk = walk_of y r in
+    let p : Passes y r.column r.passed r.ahead w = passes y r.ahead r.column r.passed m.front m.rest in
     let wide : r.column ≤ s.width = m.wide in
     let on : r.column ≤ w.column = p.on in
     let within : w.column ≤ s.width = p.within s.width wide (all_right (EndsWithin s.width) r.passed r.ahead m.within) in
@@ -176,10 +176,10 @@ placed_cells done y number x span s bs at_row e =
     ∙ ap (λ l. done ++ l) (sym (map-append (cell_of (y + 1)) bs (block_at number x y span ∷ [])))
 
 -- one more cell that runs into no block
-pub row_step : (done : List Cell) (y number : ℕ) (span : SpanOf) (s : Forming) (r : Row) → AllQuiet y done → IsWide span → RowMatches done y s r → hit (walk_of r).ahead ((walk_of r).column + span.colspan) ≡ None → RowMatches done y (with_cell number (walk_of r).column span s) (placed y number span r (walk_of r))
+pub row_step : (done : List Cell) (y number : ℕ) (span : SpanOf) (s : Forming) (r : Row) → AllQuiet y done → IsWide span → RowMatches done y s r → hit (walk_of y r).ahead ((walk_of y r).column + span.colspan) ≡ None → RowMatches done y (with_cell number (walk_of y r).column span s) (placed y number span r (walk_of y r))
 row_step done y number span s r quiet wide m none =
-    let w : Walk = walk_of r in
-    let p : Passes y r.column r.passed r.ahead w = passes y r.ahead r.column r.passed m.front m.rest m.alive in
+    let w : Walk = walk_of y r in
+    let p : Passes y r.column r.passed r.ahead w = passes y r.ahead r.column r.passed m.front m.rest in
     let b : Block = block_at number w.column y span in
     let right : ℕ = w.column + span.colspan in
     let begins : BeginsFrom y right w.ahead = no_hit y w.column right w.ahead p.begins none in
@@ -204,7 +204,6 @@ row_step done y number span s r quiet wide m none =
           (λ e. none_between y x' r w right y' p begins (spot_from x' y' b e) (spot_before x' y' b e) le);
       front = push_front y w.column w.passed b (begins_here y span.rowspan) p.front (omega arith) (omega arith);
       rest = chain_later y w.column right w.ahead begins p.rest;
-      alive = p.alive;
       past = λ x' y' lt.
           let P : List ℕ → Type 0 = λ l. length l ≤ 1 in
           subst P (sym (with_cell_before number w.column span s x' y' (inl (omega arith)))) (m.past x' y' lt);
@@ -246,16 +245,16 @@ numbers_placed done y number span s r x x' quiet m =
     (all_push (BeginsBy y) r.blocks (block_at number x y span) (omega arith) m.tops)
 
 -- up to the block that a cell runs into no slot has two cells
-before_overlap : (done : List Cell) (y number : ℕ) (span : SpanOf) (s : Forming) (r : Row) (right : ℕ) → AllQuiet y done → RowMatches done y s r → BeginsFrom y right (walk_of r).ahead → (x' y' : ℕ) → IsBefore x' y' right y → length (numbers_over x' y' (with_cell number (walk_of r).column span s).cells) ≤ 1
+before_overlap : (done : List Cell) (y number : ℕ) (span : SpanOf) (s : Forming) (r : Row) (right : ℕ) → AllQuiet y done → RowMatches done y s r → BeginsFrom y right (walk_of y r).ahead → (x' y' : ℕ) → IsBefore x' y' right y → length (numbers_over x' y' (with_cell number (walk_of y r).column span s).cells) ≤ 1
 before_overlap done y number span s r right quiet m begins x' y' (inl above) =
-    let w : Walk = walk_of r in
+    let w : Walk = walk_of y r in
     let at_row : s.row ≡ y = m.at_row in
     let P : List ℕ → Type 0 = λ l. length l ≤ 1 in
     subst P (sym (with_cell_before number w.column span s x' y' (inl (omega arith)))) (m.past x' y' above)
 before_overlap done y number span s r right quiet m begins x' y' (inr (same, left)) =
-    let w : Walk = walk_of r in
+    let w : Walk = walk_of y r in
     let c : Block = block_at number w.column y span in
-    let p : Passes y r.column r.passed r.ahead w = passes y r.ahead r.column r.passed m.front m.rest m.alive in
+    let p : Passes y r.column r.passed r.ahead w = passes y r.ahead r.column r.passed m.front m.rest in
     let cells : List Cell = (with_cell number w.column span s).cells in
     let P : List ℕ → Type 0 = λ l. length l ≤ 1 in
     let Q : List Block → Type 0 = λ l. length (map block_number l) ≤ 1 in
@@ -273,10 +272,10 @@ before_overlap done y number span s r right quiet m begins x' y' (inr (same, lef
     ])
 
 -- a cell that runs into a block overlaps it where that begins
-pub row_overlap : (done : List Cell) (y number : ℕ) (span : SpanOf) (s : Forming) (r : Row) (b : Block) → AllQuiet y done → IsWide span → RowMatches done y s r → hit (walk_of r).ahead ((walk_of r).column + span.colspan) ≡ Some b → IsFoundIn (with_cell number (walk_of r).column span s).cells b.number number b.left y
+pub row_overlap : (done : List Cell) (y number : ℕ) (span : SpanOf) (s : Forming) (r : Row) (b : Block) → AllQuiet y done → IsWide span → RowMatches done y s r → hit (walk_of y r).ahead ((walk_of y r).column + span.colspan) ≡ Some b → IsFoundIn (with_cell number (walk_of y r).column span s).cells b.number number b.left y
 row_overlap done y number span s r b quiet wide m found =
-    let w : Walk = walk_of r in
-    let p : Passes y r.column r.passed r.ahead w = passes y r.ahead r.column r.passed m.front m.rest m.alive in
+    let w : Walk = walk_of y r in
+    let p : Passes y r.column r.passed r.ahead w = passes y r.ahead r.column r.passed m.front m.rest in
     let c : Block = block_at number w.column y span in
     let at_row : s.row ≡ y = m.at_row in
     let (rest, is) = hit_block y w.column (w.column + span.colspan) w.ahead b p.begins found in

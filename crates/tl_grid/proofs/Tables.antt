@@ -1,4 +1,4 @@
--- Whole tables: group after group, the feet last.
+-- Whole tables: group after group, the footers last.
 use Rattle.std.proofs.Common.{◌≡◌, ℕ, ◌+◌, ◌<◌, ◌≤◌, suc, Bool, true, false, ◌&&◌, ◌||◌, not, cond, ltb, leb, eqb, List, [], ◌∷◌, ◌++◌, map, length, Result, Ok, Err, refl, sym, ap, ◌∙◌, subst, inl, inr, arith, append-nil}
 use Rattle.std.specs.List.{filter, AllByRecursion}
 use Rattle.std.proofs.lemmas.Bool.{lt-ltb, le-ltb, le-leb, ne_eqb, cases_Bool, cases_lt, cases_order, both_ways, and_left, and_right, cond-true, cond-false}
@@ -13,9 +13,9 @@ use Rattle.tl_grid.specs.declared.error.GridError.{GridError}
 use Rattle.tl_grid.specs.Forming.{Cell, Forming, covers, form_rows, at_group_end, end_group, form_group, form_groups, cells_in, no_cells, formed}
 use Rattle.tl_grid.specs.Overlap.{numbers_over}
 use Rattle.tl_grid.specs.Dropping.{keeps_row}
-use Rattle.tl_grid.specs.declared.group.Group.{Group}
 use Rattle.tl_grid.specs.declared.table.Table.{Table}
-use Rattle.tl_grid.specs.inner.Walk.{reaches, group_at, then_ok, place_rows, settled, after_group, place_groups, place_all}
+use Rattle.tl_grid.specs.inner.OpenBlocks.{reaches}
+use Rattle.tl_grid.specs.inner.Walk.{RowGroup, group_at, then_ok, place_rows, settled, after_group, place_groups, place_all}
 use Rattle.tl_grid.proofs.Chains.{spot, filter_yes, filter_no, at_most_one}
 use Rattle.tl_grid.proofs.Cells.{cell_of, AllQuiet, BeginsAbove, number_of, or_false, numbers-append, quiet_none}
 use Rattle.tl_grid.proofs.Later.{Later, later_rows, later_end, later_groups, anchors-map, ended_elsewhere}
@@ -81,7 +81,7 @@ still_all row height y (c ∷ cs) q =
     ∙ ap (λ ds. c ∷ ds) (still_all row height y cs q.1)
 
 -- the cells after a group
-ended_cells : (done : List Cell) (s : Forming) (g : Group) → GroupMatches done s g → (end_group s).cells ≡ done ++ map (ended_cell g.row g.height) g.blocks
+ended_cells : (done : List Cell) (s : Forming) (g : RowGroup) → GroupMatches done s g → (end_group s).cells ≡ done ++ map (ended_cell g.row g.height) g.blocks
 ended_cells done s g m =
     ap (λ row. map (at_group_end row s.height) s.cells) m.at_row
     ∙ ap (λ height. map (at_group_end g.row height) s.cells) m.high
@@ -161,7 +161,7 @@ ended_covers x y row height b ge none =
     ]
 
 -- after a group no slot has two cells
-one_after : (done : List Cell) (s : Forming) (g : Group) → GroupMatches done s g → (x y : ℕ) → length (numbers_over x y (end_group s).cells) ≤ 1
+one_after : (done : List Cell) (s : Forming) (g : RowGroup) → GroupMatches done s g → (x y : ℕ) → length (numbers_over x y (end_group s).cells) ≤ 1
 one_after done s g m x y =
     let at_row : s.row ≡ g.row = m.at_row in
     let P : List ℕ → Type 0 = λ l. length l ≤ 1 in
@@ -245,7 +245,7 @@ anchors-append : (cs ds : List Cell) (y : ℕ) → keeps_row (cs ++ ds) y ≡ (k
 anchors-append cs ds y = list_any-append (λ (c : Cell). eqb c.top y) cs ds
 
 -- a group that is formed: from `s` on by the standard, from `t` on in the walk
-pub group_ends : (s last : Forming) (t : Table) (g : Group) → TableMatches s t → Later s.row s last → GroupMatches s.cells last g → TableMatches (end_group last) (after_group t g)
+pub group_ends : (s last : Forming) (t : Table) (g : RowGroup) → TableMatches s t → Later s.row s last → GroupMatches s.cells last g → TableMatches (end_group last) (after_group t g)
 group_ends s last t g before later m =
     let at_row : last.row ≡ g.row = m.at_row in
     let high : last.height ≡ g.height = m.high in
@@ -315,7 +315,7 @@ TableGives s (Ok table) = TableMatches s table
 TableGives s (Err error) = IsFound s error
 
 -- the same at the end of a group
-abbrev pub GroupGives : Forming → Forming → Table → Result Group GridError → Type 0
+abbrev pub GroupGives : Forming → Forming → Table → Result RowGroup GridError → Type 0
 GroupGives s last t (Ok group) = TableMatches (end_group last) (after_group t group)
 GroupGives s last t (Err error) = IsFound (end_group last) error
 
@@ -326,7 +326,7 @@ found_later s t error later found =
     (found_kept s.row s.cells t.cells error later.numbers found)
 
 -- a group, by what its rows gave
-group_gives_from : (result : Result Group GridError) (s last : Forming) (t : Table) → TableMatches s t → Later s.row s last → RowsGive s.cells last result → GroupGives s last t result
+group_gives_from : (result : Result RowGroup GridError) (s last : Forming) (t : Table) → TableMatches s t → Later s.row s last → RowsGive s.cells last result → GroupGives s last t result
 group_gives_from (Ok group) s last t m later gives = group_ends s last t group m later gives
 group_gives_from (Err error) s last t m later gives = found_later last (end_group last) error (later_end last) gives
 
@@ -341,7 +341,7 @@ abbrev pub GroupWide : ShapeGroup → Type 0
 GroupWide group = AllWide group.rows
 
 -- the rest of the groups, after one
-groups_give_step : (result : Result Group GridError) (turn : ShapeGroup → Bool) (number : ℕ) (s last : Forming) (t : Table) (groups : List ShapeGroup) → GroupGives s last t result → ((u : Table) → TableMatches (end_group last) u → TableGives (form_groups turn number groups (end_group last)) (place_groups turn number u groups)) → TableGives (form_groups turn number groups (end_group last)) (then_ok (λ group. place_groups turn number (after_group t group) groups) result)
+groups_give_step : (result : Result RowGroup GridError) (turn : ShapeGroup → Bool) (number : ℕ) (s last : Forming) (t : Table) (groups : List ShapeGroup) → GroupGives s last t result → ((u : Table) → TableMatches (end_group last) u → TableGives (form_groups turn number groups (end_group last)) (place_groups turn number u groups)) → TableGives (form_groups turn number groups (end_group last)) (then_ok (λ group. place_groups turn number (after_group t group) groups) result)
 groups_give_step (Ok group) turn number s last t groups gives next = next (after_group t group) gives
 groups_give_step (Err error) turn number s last t groups gives next =
     found_later (end_group last) (form_groups turn number groups (end_group last)) error (later_groups turn groups number (end_group last)) gives
@@ -383,15 +383,15 @@ none_yet columns = record {
   pairs = λ keeps same. refl;
 }
 
--- the feet, after all others
-feet_give : (result : Result Table GridError) (groups : List ShapeGroup) (s : Forming) → AllByRecursion GroupWide groups → TableGives s result → TableGives (form_groups (λ group. group.foot) 0 groups s) (then_ok (λ table. place_groups (λ group. group.foot) 0 table groups) result)
-feet_give (Ok table) groups s wide m = groups_give (λ group. group.foot) groups 0 s table wide m
-feet_give (Err error) groups s wide found =
+-- the footers, after all others
+footers_give : (result : Result Table GridError) (groups : List ShapeGroup) (s : Forming) → AllByRecursion GroupWide groups → TableGives s result → TableGives (form_groups (λ group. group.foot) 0 groups s) (then_ok (λ table. place_groups (λ group. group.foot) 0 table groups) result)
+footers_give (Ok table) groups s wide m = groups_give (λ group. group.foot) groups 0 s table wide m
+footers_give (Err error) groups s wide found =
     found_later s (form_groups (λ group. group.foot) 0 groups s) error (later_groups (λ group. group.foot) groups 0 s) found
 
 -- the walk over the whole table gives the standard's cells, or the first overlap
 pub all_give : (shape : Shape) → AllByRecursion GroupWide shape.groups → TableGives (formed shape) (place_all shape.groups)
 all_give shape wide =
-    feet_give (place_groups (λ group. not group.foot) 0 (record { row = 0; blocks = [] }) shape.groups) shape.groups
+    footers_give (place_groups (λ group. not group.foot) 0 (record { row = 0; blocks = [] }) shape.groups) shape.groups
     (form_groups (λ group. not group.foot) 0 shape.groups (no_cells shape.columns)) wide
     (groups_give (λ group. not group.foot) shape.groups 0 (no_cells shape.columns) record { row = 0; blocks = [] } wide (none_yet shape.columns))

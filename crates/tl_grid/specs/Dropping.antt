@@ -36,10 +36,6 @@ covered_columns s cell =
 abbrev pub covered_rows : Forming → Cell → ℕ
 covered_rows s cell = count_below (λ y. keeps_row s.cells y && cell.rows y) s.height
 
--- whether x is one of the numbers
-abbrev pub is_among : List ℕ → ℕ → Bool
-is_among numbers x = list_any (λ (number : ℕ). number == x) numbers
-
 -- a cell begins at its renumbered anchor, and takes its kept columns and rows
 abbrev pub place_of : Forming → Cell → Place
 place_of s cell = record {

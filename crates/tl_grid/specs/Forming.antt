@@ -44,7 +44,7 @@ abbrev pub first_free : (ℕ → Bool) → ℕ → ℕ → ℕ
 first_free taken x zero = x
 first_free taken x (suc more) = if taken x then first_free taken (x + 1) more else x
 
--- the rows that a cell takes when it is formed: a cell with rowspan 0 begins with one and grows
+-- how many rows a cell takes when it is formed: a cell of rowspan 0 begins with one and grows
 abbrev pub initial_rowspan : SpanOf → ℕ
 initial_rowspan span = if span.rowspan == 0 then 1 else span.rowspan
 
@@ -145,7 +145,7 @@ form_groups turn number (group ∷ groups) s =
 abbrev pub no_cells : ℕ → Forming
 no_cells columns = record { width = columns; height = 0; row = 0; cells = [] }
 
--- the standard's result: the feet wait until all other groups are formed
+-- the standard's result: the footers wait until all other groups are formed
 abbrev pub formed : Shape → Forming
 formed shape =
     form_groups (λ group. group.foot) 0 shape.groups

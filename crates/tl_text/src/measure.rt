@@ -1,6 +1,6 @@
 //! Atoms as breaking sees them: columns and gaps.
 
-ghost use Rattle.std.specs.Prelude.{◌≡◌, ◌≤◌};
+ghost use Rattle.std.specs.Prelude.{◌≡◌, ◌*◌, ◌≤◌};
 ghost use Rattle.tl_text.specs.inner.Measure.{measure_of, columns_of};
 ghost use Rattle.tl_text.specs.Paragraph.{atom_size};
 
@@ -32,7 +32,8 @@ impl Measure {
 /// Measures one atom.
 pub fn measured(atom: &Atom) -> Measure
     requires { atom_size atom.now ≤ MAX_FILE_BYTES }
-    ensures { result ≡ measure_of atom.now }
+    ensures measure { result ≡ measure_of atom.now }
+    ensures bytes { columns_of result ≤ 2 * atom_size atom.now }
 {
     match atom {
         Atom::Word(text) => Measure::Columns {

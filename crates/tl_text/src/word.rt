@@ -46,6 +46,7 @@ pub fn word_width(word: &Text) -> u32
     requires { byte_count word.now ≤ MAX_FILE_BYTES }
     ensures width { result ≡ width_of word.now }
     ensures bound { result ≤ 2 * MAX_FILE_BYTES }
+    ensures bytes { result ≤ 2 * byte_count word.now }
 {
     word.as_str().width() as u32
 }

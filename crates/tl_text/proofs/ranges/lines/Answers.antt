@@ -23,7 +23,7 @@ pub returns-then-too_wide-clause-too_wide : goal.returns-then-too_wide-clause-to
 returns-then-too_wide-clause-too_wide c =
     let atoms = c.atoms-atoms.result.now in
     let atom = c.index-atoms-at.result in
-    let width : c.width.result ≡ unit_width atom = c.width.ensures ∙ ap columns_of c.measured-measure.ensures ∙ columns_of-measure_of atom in
+    let width : c.width.result ≡ unit_width atom = c.width.ensures ∙ ap columns_of c.measured-measure.ensures.measure ∙ columns_of-measure_of atom in
     subst (λ all. IsFirstTooWide c.args.width all c.loop-at.at) c.atoms-atoms.ensures.atoms
     (IsFirstTooWide-from c.args.width atoms c.loop-at.at atom (omega arith) c.index-atoms-at.is c.loop-at.invariant.filled.fit (omega arith))
 
@@ -34,7 +34,7 @@ loop-at-preserved c =
     let w = c.args.width in
     let n = c.loop-at.at in
     let within : n < length atoms = omega arith in
-    let seen : c.measured-measure.result ≡ measure_of atom = c.measured-measure.ensures in
+    let seen : c.measured-measure.result ≡ measure_of atom = c.measured-measure.ensures.measure in
     let width : c.width.result ≡ unit_width atom = c.width.ensures ∙ ap columns_of seen ∙ columns_of-measure_of atom in
     let cut = c.loop-at.invariant.cut in
     let next : c.with-filling.result.line ≡ next_line w c.loop-at.filling.line (measure_of atom) =

@@ -13,3 +13,8 @@ pub returns-clause-bound : goal.returns-clause-bound
 returns-clause-bound c =
     let bytes = ap length (encodes-chars c.as_str.result.now c.as_str.utf8) in
     omega (arith, bytes, ap byte_count c.as_str.ensures)
+
+pub returns-clause-bytes : goal.returns-clause-bytes
+returns-clause-bytes c =
+    let bytes = ap length (encodes-chars c.as_str.result.now c.as_str.utf8) in
+    omega (arith, bytes, ap byte_count c.as_str.ensures, c.width.ensures.bound)
