@@ -6,7 +6,8 @@ use Rattle.tl_base.specs.declared.limits.TheConstants.{MAX_CELLS, MAX_COLUMNS, M
 use Rattle.tl_grid.specs.declared.shape.Shape.{Shape}
 use Rattle.tl_grid.specs.declared.shape.Grid.{Grid}
 use Rattle.tl_grid.specs.declared.error.GridError.{GridError}
-use Rattle.tl_grid.specs.declared.error.GridError.TheVariants.{Memory, TooManyCells, Overlap, TooManyColumns, TooManyRows}
+use Rattle.tl_grid.specs.declared.error.GridError.TheVariants.{Memory, TooManyCells, Overlap}
+use Rattle.tl_grid.specs.declared.error.GridError.TheVariants.{TooManyColumns, TooManyRows}
 use Rattle.tl_grid.specs.Forming.{formed, cell_count}
 use Rattle.tl_grid.specs.Overlap.{HasNoOverlap, IsFirstOverlap}
 use Rattle.tl_grid.specs.Dropping.{ArePlaces, kept_column_count, kept_row_count}

@@ -1,7 +1,9 @@
 -- Which cell covers which slot: the steps of the HTML Standard's "Forming a table" (4.9.12.1).
 -- A slot (x, y) is column x of row y, both counted from 0. One departure is here: a cell that grows
 -- downward stops at the table's height, where the standard's last turn would take one row more.
-use Rattle.std.specs.Prelude.{ℕ, ◌+◌, ◌-◌, max, zero, suc, Bool, false, ◌&&◌, ◌||◌, not, ◌==◌, nat_lt, nat_le, if◌then◌else◌, List, [], ◌∷◌, ◌++◌, map, length, sum_by}
+use Rattle.std.specs.Prelude.{ℕ, ◌+◌, ◌-◌, max, zero, suc, Bool, false, ◌&&◌, ◌||◌, not, ◌==◌}
+use Rattle.std.specs.Prelude.{nat_lt, nat_le, if◌then◌else◌, List, [], ◌∷◌, ◌++◌, map, length}
+use Rattle.std.specs.Prelude.{sum_by}
 use Rattle.std.specs.List.{list_any}
 use Rattle.tl_grid.specs.declared.shape.SpanOf.{SpanOf}
 use Rattle.tl_grid.specs.declared.shape.ShapeGroup.{ShapeGroup}

@@ -8,7 +8,8 @@ ghost use Rattle.tl_grid.specs.declared.error.GridError.TheVariants.{Memory};
 ghost use Rattle.tl_grid.specs.Shapes.{AllSpans};
 ghost use Rattle.tl_grid.specs.Forming.{cell_count, row_count, cells_of, formed};
 ghost use Rattle.tl_grid.specs.Dropping.{IsPlaced};
-ghost use Rattle.tl_grid.specs.Slots.{AreApart, HasAnchorInColumn, HasAnchorInRow, IsFilledToLeft, KeepsSlots};
+ghost use Rattle.tl_grid.specs.Slots.{AreApart, HasAnchorInColumn, HasAnchorInRow, IsFilledToLeft};
+ghost use Rattle.tl_grid.specs.Slots.{KeepsSlots};
 ghost use Rattle.tl_grid.specs.Form.{HasGrid, IsRefused};
 ghost use Rattle.tl_base.specs.Returned.{ReturnsOk, ReturnsError, IsMemoryOr};
 

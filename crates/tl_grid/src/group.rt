@@ -3,7 +3,8 @@
 ghost use Rattle.std.specs.Prelude.{◌≡◌, ◌+◌, ◌*◌, ◌<◌, ◌≤◌, ◌^◌, ◌++◌, IfOk, length, Ok};
 ghost use Rattle.std.specs.List.{AllByRecursion};
 ghost use Rattle.tl_grid.specs.Forming.{cells_in};
-ghost use Rattle.tl_grid.specs.inner.Walk.{place_cells, row_of, after_row, then_ok, group_at, place_rows};
+ghost use Rattle.tl_grid.specs.inner.Walk.{place_cells, row_of, after_row, then_ok, group_at};
+ghost use Rattle.tl_grid.specs.inner.Walk.{place_rows};
 ghost use Rattle.tl_grid.specs.Shapes.{IsSpan};
 ghost use Rattle.tl_grid.specs.inner.States.{IsWalked, EndsBy, group_over};
 
@@ -41,7 +42,8 @@ fn form_row(mut number: u32, spans: &[SpanOf], group: Group) -> Result<Group, Gr
         (place_cells group.row number (row_of (group_over group)) spans.now))
         result }
     ensures columns { IfOk result (λ after.
-        AllByRecursion (EndsBy (MAX_COLSPAN * (number + length spans.now))) (group_over after).open_blocks) }
+        AllByRecursion (EndsBy (MAX_COLSPAN * (number + length spans.now)))
+        (group_over after).open_blocks) }
     ensures count { IfOk result (λ after.
         length after.blocks ≡ length group.blocks + length spans.now) }
     ensures low { IfOk result (λ after. after.row ≤ after.height) }

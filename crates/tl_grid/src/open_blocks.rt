@@ -1,7 +1,9 @@
 //! The open blocks of a row group, and the walk of a row over them. A row meets the blocks between
 //! the end of a run of blocks from column 0 on and its last cell, and drops the ended ones.
 
-ghost use Rattle.std.specs.Prelude.{◌≡◌, ◌⊎◌, ◌+◌, ◌<◌, ◌≤◌, ◌^◌, [], ◌∷◌, ◌++◌, length, take, drop, IfOk, IfErr, MatchResult, IsTrue, if◌then◌else◌, alloc_error};
+ghost use Rattle.std.specs.Prelude.{◌≡◌, ◌⊎◌, ◌+◌, ◌<◌, ◌≤◌, ◌^◌, [], ◌∷◌, ◌++◌, length, take};
+ghost use Rattle.std.specs.Prelude.{drop, IfOk, IfErr, MatchResult, IsTrue, if◌then◌else◌};
+ghost use Rattle.std.specs.Prelude.{alloc_error};
 ghost use Rattle.tl_grid.specs.declared.error.GridError.TheVariants.{Memory};
 ghost use Rattle.tl_grid.specs.inner.OpenBlocks.{reaches, pass_taken, hit, HoldsRun};
 
@@ -46,9 +48,14 @@ impl Model for OpenBlocks {
 
     ghost Value = { Walk };
 
-    ghost view = { λ open_blocks. record { column = open_blocks.column; passed = open_blocks.passed.items; ahead = open_blocks.ahead.items } };
+    ghost view = { λ open_blocks. record {
+      column = open_blocks.column;
+      passed = open_blocks.passed.items;
+      ahead = open_blocks.ahead.items;
+    } };
 
-    ghost invariant = { λ open_blocks. HoldsRun open_blocks.column open_blocks.passed.items open_blocks.run };
+    ghost invariant = { λ open_blocks.
+        HoldsRun open_blocks.column open_blocks.passed.items open_blocks.run };
 }
 
 /// The row below the last one that the block is sure to take: a growing one takes all to come.

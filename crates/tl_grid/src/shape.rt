@@ -7,7 +7,8 @@ use tl_base::List;
 pub struct SpanOf {
     /// 1 to [`tl_base::MAX_COLSPAN`] columns.
     pub colspan: u32,
-    /// 1 to [`tl_base::MAX_ROWSPAN`] rows, or 0 for a cell that grows downward to the end of its row group.
+    /// 1 to [`tl_base::MAX_ROWSPAN`] rows, or 0 for a cell that grows downward to the end of its row
+    /// group.
     pub rowspan: u32,
 }
 

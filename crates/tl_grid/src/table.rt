@@ -1,6 +1,7 @@
 //! A whole table: its row groups in order, the footers last.
 
-ghost use Rattle.std.specs.Prelude.{◌≡◌, ◌+◌, ◌*◌, ◌<◌, ◌≤◌, ◌^◌, IfOk, MatchResult, alloc_error, length, not};
+ghost use Rattle.std.specs.Prelude.{◌≡◌, ◌+◌, ◌*◌, ◌<◌, ◌≤◌, ◌^◌, IfOk, MatchResult, alloc_error};
+ghost use Rattle.std.specs.Prelude.{length, not};
 ghost use Rattle.std.specs.List.{AllByRecursion, sum_by};
 ghost use Rattle.tl_grid.specs.declared.error.GridError.TheVariants.{Memory};
 ghost use Rattle.tl_grid.specs.Forming.{cells_in, cells_of, rows_of};
@@ -74,7 +75,8 @@ fn form_groups(
 ) -> Result<Table, GridError>
     requires spans { AllSpans groups.now }
     requires cells { cells_of groups.now ≤ MAX_CELLS }
-    requires room { table.row + MAX_ROWSPAN * cells_of groups.now + rows_of groups.now + MAX_ROWSPAN < 2 ^ 32 }
+    requires room { table.row + MAX_ROWSPAN * cells_of groups.now + rows_of groups.now + MAX_ROWSPAN
+        < 2 ^ 32 }
     ensures groups { IsWalked (λ after. after)
         (place_groups (has_turn footers) 0 table groups.now)
         result }

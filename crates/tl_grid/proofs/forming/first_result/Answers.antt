@@ -1,4 +1,4 @@
-use Rattle.std.proofs.Common.{◌≡◌, ◌≤◌, List, replicate, ap, ◌∙◌, inr, arith, rules}
+use Rattle.std.proofs.Common.{◌≤◌, List, replicate, ap, ◌∙◌, inr, arith, rules}
 use Rattle.tl_base.specs.declared.limits.TheConstants.{MAX_CELLS}
 use Rattle.tl_grid.specs.declared.shape.Place.{Place}
 use Rattle.tl_grid.specs.Forming.{cells_of, cell_count}

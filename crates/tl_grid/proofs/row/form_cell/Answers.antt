@@ -1,10 +1,8 @@
-use Rattle.std.proofs.Common.{List, ◌+◌, ◌*◌, ◌≤◌, ◌++◌, ◌∷◌, [], subst, sym, ap, ◌∙◌, arith}
-use Rattle.std.specs.List.{AllByRecursion}
+use Rattle.std.proofs.Common.{◌+◌, ◌*◌, ◌≤◌, subst, sym, ap, ◌∙◌, arith}
 use Rattle.tl_base.specs.declared.limits.TheConstants.{MAX_COLSPAN}
 use Rattle.tl_grid.specs.declared.block.Block.{Block}
 use Rattle.tl_grid.specs.inner.OpenBlocks.{Walk}
 use Rattle.tl_grid.specs.inner.Walk.{block_at}
-use Rattle.tl_grid.specs.inner.States.{EndsBy}
 use Rattle.tl_grid.proofs.Bounds.{EndsIn, passed_within, all_wider}
 use Rattle.tl_grid.proofs.Steps.{cell_done}
 use Rattle.tl_grid.proofs.row.form_cell.Goals as goal
