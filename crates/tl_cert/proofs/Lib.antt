@@ -4,3 +4,4 @@ pub mod TextExamples
 pub mod TraceLaws
 pub mod WorkedLaws
 pub mod reading
+pub mod ZoneBounds
