@@ -5,3 +5,4 @@ pub mod TraceLaws
 pub mod WorkedLaws
 pub mod reading
 pub mod ZoneBounds
+mod Examples
