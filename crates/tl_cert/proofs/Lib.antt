@@ -4,3 +4,5 @@ pub mod TextExamples
 pub mod TraceLaws
 pub mod WorkedLaws
 pub mod reading
+pub mod ZoneBounds
+mod Examples

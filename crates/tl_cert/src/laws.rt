@@ -1,5 +1,5 @@
 //! Laws of the definitions in this crate's specs. Each is the contract of a function that does nothing.
-ghost use Rattle.tl_cert.specs.Laws.{EnoughBudgetCloses, GoodLogsAreSound, NogoodsAreTrue, TracesPartVectors};
+ghost use Rattle.tl_cert.specs.Laws.{EnoughBudgetCloses, GoodLogsAreSound, NogoodsAreTrue, TracesPartVectors, ZonesMeetTheirBounds};
 
 /// No layout by `low` is lower than what a log is good for.
 pub fn good_logs_are_sound()
@@ -23,3 +23,9 @@ pub fn traces_part_vectors()
 pub fn enough_budget_closes()
     ensures { EnoughBudgetCloses }
 {}
+
+/// The widths of a zone are those within the page that meet the bounds that its cuts made.
+pub fn zones_meet_their_bounds()
+    ensures { ZonesMeetTheirBounds }
+{
+}

@@ -23,7 +23,10 @@ mod trace;
 
 pub use certificate::{Certificate, Claim};
 pub use error::CertError;
-pub use laws::{enough_budget_closes, good_logs_are_sound, nogoods_are_true, traces_part_vectors};
+pub use laws::{
+    enough_budget_closes, good_logs_are_sound, nogoods_are_true, traces_part_vectors,
+    zones_meet_their_bounds,
+};
 pub use limits::{
     MAX_BOUNDS, MAX_CLASS, MAX_FIRES, MAX_LINE, MAX_SECTIONS, MAX_SPAN, MAX_TABLE, MAX_ZONE,
 };

@@ -31,7 +31,7 @@ whole-is_zone problem = record {
 }
 
 -- a span of the problem lies within its columns
-span-within : (problem : ProblemModel) → IsSound problem → (s : ℕ) → s < length (spans_of problem) → ((span_at problem s).left < (span_at problem s).right) × ((span_at problem s).right ≤ problem.cols)
+pub span-within : (problem : ProblemModel) → IsSound problem → (s : ℕ) → s < length (spans_of problem) → ((span_at problem s).left < (span_at problem s).right) × ((span_at problem s).right ≤ problem.cols)
 span-within problem sound s within =
     let found = spans-cell problem (span_at problem s) (Contains-get_or (spans_of problem) s (span 0 0) within) in
     let parts = has_span-parts (span_at problem s) found.0 found.2 in
