@@ -1,6 +1,6 @@
 //! One row group: its rows in order.
 
-ghost use Rattle.std.specs.Prelude.{◌≡◌, ◌+◌, ◌*◌, ◌<◌, ◌≤◌, ◌^◌, ◌++◌, IfOk, length, Ok};
+ghost use Rattle.std.specs.Prelude.{◌≡◌, ◌+◌, ◌*◌, ◌<◌, ◌≤◌, ◌^◌, IfOk, length, Ok};
 ghost use Rattle.std.specs.List.{AllByRecursion};
 ghost use Rattle.tl_grid.specs.Forming.{cells_in};
 ghost use Rattle.tl_grid.specs.inner.Walk.{place_cells, row_of, after_row, then_ok, group_at};

@@ -2,7 +2,7 @@
 //! the end of a run of blocks from column 0 on and its last cell, and drops the ended ones.
 
 ghost use Rattle.std.specs.Prelude.{◌≡◌, ◌⊎◌, ◌+◌, ◌<◌, ◌≤◌, ◌^◌, [], ◌∷◌, ◌++◌, length, take};
-ghost use Rattle.std.specs.Prelude.{drop, IfOk, IfErr, MatchResult, IsTrue, if◌then◌else◌};
+ghost use Rattle.std.specs.Prelude.{drop, IfOk, IfErr, MatchResult, IsTrue};
 ghost use Rattle.std.specs.Prelude.{alloc_error};
 ghost use Rattle.tl_grid.specs.declared.error.GridError.TheVariants.{Memory};
 ghost use Rattle.tl_grid.specs.inner.OpenBlocks.{reaches, pass_taken, hit, HoldsRun};
@@ -31,6 +31,13 @@ pub struct Run {
     /// The row below the last one that all of them take.
     pub until: u32,
 }
+
+/// No block.
+const NO_RUN: Run = Run {
+    count: 0,
+    column: 0,
+    until: 0,
+};
 
 /// The open blocks of a row group, those that may take rows to come, and a walk over them from left
 /// to right. Contracts see the column that the walk has come to, and the blocks to its left and to
@@ -101,11 +108,7 @@ fn run_at(run: Run, passed: &[Block], column: u32, row: u32) -> Run
     if row < run.until {
         return run;
     }
-    Run {
-        count: 0,
-        column: 0,
-        until: 0,
-    }
+    NO_RUN
 }
 
 /// Moves the blocks from `count` on, of those passed, back before those ahead.
@@ -136,11 +139,7 @@ impl OpenBlocks {
             column: 0,
             passed: Vec::new(alloc),
             ahead: VecDeque::new(alloc),
-            run: Run {
-                count: 0,
-                column: 0,
-                until: 0,
-            },
+            run: NO_RUN,
         }
     }
 

@@ -2,11 +2,10 @@
 
 ghost use Rattle.std.specs.Prelude.{◌≡◌, ◌+◌, ◌*◌, ◌<◌, ◌≤◌, ◌^◌, IfOk, MatchResult, alloc_error};
 ghost use Rattle.std.specs.Prelude.{length, not};
-ghost use Rattle.std.specs.List.{AllByRecursion, sum_by};
 ghost use Rattle.tl_grid.specs.declared.error.GridError.TheVariants.{Memory};
 ghost use Rattle.tl_grid.specs.Forming.{cells_in, cells_of, rows_of};
 ghost use Rattle.tl_grid.specs.inner.Walk.{after_group, has_turn, place_groups, place_all};
-ghost use Rattle.tl_grid.specs.Shapes.{IsSpan, AllSpans};
+ghost use Rattle.tl_grid.specs.Shapes.{AllSpans};
 ghost use Rattle.tl_grid.specs.inner.States.{IsWalked, group_over};
 
 use crate::block::Block;

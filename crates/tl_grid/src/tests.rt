@@ -1,6 +1,6 @@
 //! Tables with their grids drawn by hand, the message of each error, and tables at the limits.
 
-ghost use Rattle.std.specs.Prelude.{◌≡◌, ◌+◌, ◌<◌, ◌≤◌, ◌^◌, ℕ, IsTrue, IfSome, length};
+ghost use Rattle.std.specs.Prelude.{◌≡◌, ◌+◌, ◌<◌, ◌≤◌, IsTrue, IfSome};
 ghost use Rattle.std.specs.List.{AllByRecursion};
 ghost use Rattle.tl_grid.specs.Shapes.{IsSpan, AllSpans};
 ghost use Rattle.tl_grid.specs.Forming.{cells_in, cells_of, rows_of};
