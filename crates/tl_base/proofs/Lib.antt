@@ -1,4 +1,9 @@
+mod Examples
 pub mod Decimals
 pub mod Falling
-pub mod MemoryDesks
 pub mod Members
+pub mod MemoryDesks
+pub mod Stacking
+pub mod Sums
+pub mod Texts
+pub mod Zips

@@ -1,6 +1,6 @@
--- Falling step functions: how high something is at each width that it is given. The wider, the
+-- Decreasing step functions: how high something is at each width that it is given. The wider, the
 -- lower, by steps.
-use Rattle.std.specs.Prelude.{ℕ, ◌<◌, ◌≤◌, nat_le, List, [], ◌∷◌, length, Option, filter, option_map, IsSomeAnd}
+use Rattle.std.specs.Prelude.{ℕ, ◌+◌, ◌<◌, ◌≤◌, nat_le, List, [], ◌∷◌, length, Option, Some, filter, option_map, IsSomeAnd}
 use Rattle.std.specs.List.{AllPairs, last_or}
 use Rattle.std.specs.Prelude.{None}
 use Rattle.tl_base.specs.declared.steps.Config.{Config}
@@ -18,6 +18,21 @@ first_width (step ∷ steps) = step.width
 -- the height at a width: that of the last step whose width is at most this one
 abbrev pub height_at : List Config → ℕ → Option ℕ
 height_at steps w = option_map (λ step. step.height) (last_or None (filter (λ step. nat_le step.width w) steps))
+
+-- the height of the first step, the greatest
+abbrev pub first_height : List Config → ℕ
+first_height [] = 0
+first_height (step ∷ steps) = step.height
+
+-- the sum of two heights, where there are both
+abbrev pub both_heights : Option ℕ → Option ℕ → Option ℕ
+both_heights None n = None
+both_heights (Some m) None = None
+both_heights (Some m) (Some n) = Some (m + n)
+
+-- the height at a width of two things one above the other
+abbrev pub stacked_height : List Config → List Config → ℕ → Option ℕ
+stacked_height a b w = both_heights (height_at a w) (height_at b w)
 
 -- at this width the height is at most `h`
 abbrev pub IsLowAt : List Config → ℕ → ℕ → Type 0

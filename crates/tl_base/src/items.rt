@@ -1,7 +1,12 @@
-ghost use Rattle.std.specs.Prelude.{◌≡◌, [], ◌∷◌, ◌++◌, length, OnOk, OnErr, IfOk, IfErr, IsTrue, ◌↔◌};
+//! The list that every layer uses: a `Vec` that contracts see as its items.
+ghost use Rattle.std.specs.Prelude.{◌≡◌, ◌<◌, ◌^◌, [], ◌∷◌, ◌++◌, length, OnOk, OnErr, IfOk, IfErr, IsTrue, ◌↔◌};
+ghost use Rattle.std.specs.Cmp.Lexicographic.{pointwise, lists_per, lists_equiv};
+ghost use Rattle.std.specs.Iterator.Runs.{EveryRun, ItemsMapTo};
+ghost use Rattle.std.specs.Slice.Iter.{iter_rest, iter_steps};
 
 use std::alloc::{AllocError, AllocFailed, Global};
 use std::marker::Model;
+use std::slice;
 
 /// A growing list. Contracts see it as the list of its items, so that two lists with the same
 /// items are equal; where the items lie in memory is not seen.
@@ -66,11 +71,45 @@ impl<T> List<T> {
     {
         self.items.as_slice()
     }
+
+    /// Goes over the items, in order.
+    pub fn iter(&self) -> slice::Iter<'_, T>
+        ensures { iter_rest result ≡ self.now }
+    {
+        self.items.as_slice().iter()
+    }
+}
+
+impl<'a, T> IntoIterator for &'a List<T> {
+    type Item = &'a T;
+
+    type IntoIter = slice::Iter<'a, T>;
+
+    ghost into_iter_gives = { λ list iter. (iter_rest iter ≡ list.now) × (length (iter_rest iter) < 2 ^ 64)
+        × EveryRun (iter_steps {A = T}) (λ run. ItemsMapTo run (λ item. item.now) (iter_rest run.from)) };
+
+    fn into_iter(self) -> slice::Iter<'a, T> {
+        self.items.as_slice().iter()
+    }
+}
+
+impl<T: PartialEq> PartialEq for List<T> {
+    ghost eq = { pointwise T.eq };
+
+    ghost laws = { lists_per T.laws };
+
+    fn eq(&self, other: &List<T>) -> bool {
+        self.items.as_slice() == other.items.as_slice()
+    }
+}
+
+impl<T: Eq> Eq for List<T> {
+    ghost laws = { lists_equiv T.Eq.laws };
 }
 
 impl<T: Drop> List<T> {
-    /// Puts `item` at the end. Where no memory is found the list stays as it was and the error
-    /// gives the item back.
+    /// Puts `item` at the end. When out of memory the list stays as it was and the error gives the
+    /// item back.
     pub fn push(&mut self, item: T) -> Result<(), AllocFailed<T>>
         ensures ok { OnOk result (self.new ≡ self.old ++ item ∷ []) }
         ensures err { OnErr result (self.new ≡ self.old) }
@@ -89,8 +128,8 @@ impl<T: Copy> List<T> {
         Ok(List { items })
     }
 
-    /// Puts a copy of each item of `more` at the end, in order. Where no memory is found the list
-    /// stays as it was.
+    /// Puts a copy of each item of `more` at the end, in order. When out of memory the list stays as
+    /// it was.
     pub fn extend_from_slice(&mut self, more: &[T]) -> Result<(), AllocError>
         ensures ok { OnOk result (self.new ≡ self.old ++ more.now) }
         ensures err { OnErr result (self.new ≡ self.old) }

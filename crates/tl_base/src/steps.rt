@@ -1,8 +1,12 @@
-ghost use Rattle.std.specs.Prelude.{◌≡◌, ◌<◌, ◌↔◌, IsTrue, IsNone, IfSome, SomeIff};
+//! Step functions from widths to heights: what a paragraph or a cell needs at each width.
+ghost use Rattle.std.specs.Prelude.{◌≡◌, ℕ, ◌+◌, ◌<◌, ◌≤◌, ◌↔◌, max, length, Some, None, IsTrue, IsNone, IsSome, IfSome, IfNone, IfOk, SomeIff};
 ghost use Rattle.std.specs.List.{last_or};
-ghost use Rattle.tl_base.specs.Steps.{AreSteps, IsLeastWidthFor, first_width, height_at};
+ghost use Rattle.tl_base.specs.inner.Stacking.{IsPastNarrow, IsNextWidth};
+ghost use Rattle.tl_base.specs.Steps.{AreSteps, IsLeastWidthFor, first_width, first_height, height_at, stacked_height};
 
 use crate::List;
+use crate::limits::MAX_HEIGHT;
+use std::alloc::{AllocError, Global};
 use std::marker::Model;
 
 /// One step: from `width` columns on, up to the next step's, `height` lines are enough.
@@ -12,7 +16,7 @@ pub struct Config {
     pub height: u32,
 }
 
-/// A falling step function from widths to heights. Contracts see it as the list of its steps, at
+/// A decreasing step function from widths to heights. Contracts see it as the list of its steps, at
 /// least one, whose widths rise strictly and whose heights fall strictly.
 #[derive(Debug, Drop)]
 pub struct Steps {
@@ -45,6 +49,33 @@ impl Steps {
         }
     }
 
+    /// The step function with these steps, for a caller that knows that they are steps.
+    pub fn from_list(list: List<Config>) -> Steps
+        requires { AreSteps list }
+        ensures { result ≡ list }
+    {
+        Steps { configs: list }
+    }
+
+    /// The step function of two things one above the other: at each width the height is the sum of
+    /// both heights, and the least width is the greater of both.
+    pub fn stack(alloc: Global, a: &Steps, b: &Steps) -> Result<Steps, AllocError>
+        requires { first_height a.now + first_height b.now ≤ MAX_HEIGHT }
+        ensures least { IfOk result (λ steps. first_width steps ≡ max (first_width a.now) (first_width b.now)) }
+        ensures heights { IfOk result (λ steps. (w : ℕ) → height_at steps w ≡ stacked_height a.now b.now w) }
+    {
+        let mut list = List::new(alloc);
+        let mut width = least_of_both(a, b);
+        loop {
+            let height = height_of_both(a, b, width);
+            list.push(Config { width, height })?;
+            match next_of_both(a, b, width) {
+                Some(next) => width = next,
+                None => return Ok(Steps::from_list(list)),
+            }
+        }
+    }
+
     /// Lends the steps, in order.
     pub fn configs(&self) -> &[Config]
         ensures configs { result.now ≡ self.now }
@@ -60,18 +91,24 @@ impl Steps {
         self.configs.as_slice()[0].width
     }
 
+    /// The first height, in lines: at each other width the height is at most this.
+    pub fn max_height(&self) -> u32
+        ensures { result ≡ first_height self.now }
+    {
+        self.configs.as_slice()[0].height
+    }
+
     /// The height at the width `w`: that of the last step whose width is at most `w`. `None`
     /// exactly where `w` is below the first width.
     pub fn height_at(&self, w: u32) -> Option<u32>
         ensures height { result ≡ height_at self.now w }
         ensures none { IsNone result ↔ (w < first_width self.now) }
     {
-        let configs = self.configs.as_slice();
-        let past = configs.partition_point(|config| config.width <= w);
-        if past == 0 {
+        let narrow = self.steps_up_to(w);
+        if narrow == 0 {
             return None;
         }
-        Some(configs[past - 1].height)
+        Some(self.configs()[narrow - 1].height)
     }
 
     /// The least width at which the height is at most `h`. `None` exactly where the last height is
@@ -86,6 +123,73 @@ impl Steps {
             return None;
         }
         Some(configs[first].width)
+    }
+
+    /// The number of steps whose width is at most `w`.
+    fn steps_up_to(&self, w: u32) -> usize
+        ensures bound { result ≤ length self.now }
+        ensures point { IsPastNarrow self.now w result }
+        ensures sound { AreSteps self.now }
+    {
+        self.configs
+            .as_slice()
+            .partition_point(|config| config.width <= w)
+    }
+
+    /// The height at a width at which there is one.
+    fn height_within(&self, w: u32) -> u32
+        requires { first_width self.now ≤ w }
+        ensures height { height_at self.now w ≡ Some result }
+        ensures bound { result ≤ first_height self.now }
+    {
+        let narrow = self.steps_up_to(w);
+        self.configs()[narrow - 1].height
+    }
+
+    /// The least width above `w` at which a step begins. Up to it the height is that at `w`.
+    fn next_width(&self, w: u32) -> Option<u32>
+        requires { first_width self.now ≤ w }
+        ensures next { IfSome result (IsNextWidth (height_at self.now) w) }
+        ensures none { IfNone result ((v : ℕ) → w ≤ v → height_at self.now v ≡ height_at self.now w) }
+        ensures some { IsSome (height_at self.now w) }
+    {
+        let narrow = self.steps_up_to(w);
+        if narrow == self.configs().len() {
+            return None;
+        }
+        Some(self.configs()[narrow].width)
+    }
+}
+
+/// The greater of both first widths: below it there is no height.
+fn least_of_both(a: &Steps, b: &Steps) -> u32
+    ensures least { result ≡ max (first_width a.now) (first_width b.now) }
+    ensures none { (v : ℕ) → v < result → stacked_height a.now b.now v ≡ None }
+{
+    a.configs()[0].width.max(b.configs()[0].width)
+}
+
+/// The sum of the heights at a width at which there are both.
+fn height_of_both(a: &Steps, b: &Steps, width: u32) -> u32
+    requires small { first_height a.now + first_height b.now ≤ MAX_HEIGHT }
+    requires in_a { first_width a.now ≤ width }
+    requires in_b { first_width b.now ≤ width }
+    ensures { stacked_height a.now b.now width ≡ Some result }
+{
+    a.height_within(width) + b.height_within(width)
+}
+
+/// The least width above this one at which a step of either begins.
+fn next_of_both(a: &Steps, b: &Steps, width: u32) -> Option<u32>
+    requires in_a { first_width a.now ≤ width }
+    requires in_b { first_width b.now ≤ width }
+    ensures next { IfSome result (IsNextWidth (stacked_height a.now b.now) width) }
+    ensures none { IfNone result ((v : ℕ) → width ≤ v → stacked_height a.now b.now v ≡ stacked_height a.now b.now width) }
+{
+    match (a.next_width(width), b.next_width(width)) {
+        (Some(in_a), Some(in_b)) => Some(in_a.min(in_b)),
+        (Some(in_a), None) => Some(in_a),
+        (None, in_b) => in_b,
     }
 }
 
@@ -104,7 +208,7 @@ fn are_steps(configs: &[Config]) -> bool
 #[cfg(test)]
 mod tests {
     use super::{Config, Steps};
-    use crate::{List, Style};
+    use crate::{List, MAX_HEIGHT, Style};
     use std::alloc::{AllocError, Global};
     use std::test::Fail;
 
@@ -158,6 +262,55 @@ mod tests {
             (u32::MAX, Some(2)),
         ] {
             assert_eq!(rt; three_words.width_for(height), width, "height {height}");
+        }
+        Ok(())
+    }
+
+    /// Two step functions one above the other, unless together they are too high.
+    fn stacked(
+        alloc: Global,
+        above: &[(u32, u32)],
+        below: &[(u32, u32)],
+    ) -> Result<Option<Steps>, AllocError> {
+        let (Some(above), Some(below)) = (steps(alloc, above)?, steps(alloc, below)?) else {
+            return Ok(None);
+        };
+        if u64::from(above.max_height()) + u64::from(below.max_height()) > u64::from(MAX_HEIGHT) {
+            return Ok(None);
+        }
+        Ok(Some(Steps::stack(alloc, &above, &below)?))
+    }
+
+    // Two words, of four columns and of one, under three words of two columns; and the greatest heights.
+    #[test]
+    fn stacked_heights_are_added_at_each_width(rt: HostRuntime) -> Result<(), Fail> {
+        let three_words = [(2, 3), (5, 2), (8, 1)].as_slice();
+        let two_words = [(4, 2), (6, 1)].as_slice();
+        let highest = [(1, 536_870_912), (u32::MAX, 0)].as_slice();
+        for (above, below, want) in [
+            (
+                three_words,
+                two_words,
+                [(4, 5), (5, 4), (6, 3), (8, 2)].as_slice(),
+            ),
+            (
+                two_words,
+                three_words,
+                [(4, 5), (5, 4), (6, 3), (8, 2)].as_slice(),
+            ),
+            (
+                highest,
+                highest,
+                [(1, 1_073_741_824), (u32::MAX, 0)].as_slice(),
+            ),
+        ] {
+            let stacked = stacked(rt.alloc(), above, below)?.ok_or("steps")?;
+            let want = steps(rt.alloc(), want)?.ok_or("steps")?;
+            assert_eq!(rt;
+                stacked.configs(),
+                want.configs(),
+                "{above:?} above {below:?}"
+            );
         }
         Ok(())
     }

@@ -1,1 +1,12 @@
-mod Examples
+pub mod Arcs
+pub mod Deeper
+pub mod Duality
+pub mod Found
+pub mod LeastRoomLemmas
+pub mod LeastWidths
+pub mod Rooms
+pub mod Rows
+pub mod SizesOpen
+pub mod Sorted
+pub mod SoundParts
+pub mod Widths

@@ -1,9 +1,9 @@
 -- When a height, or a width, is the least that any layout has.
 use Rattle.std.specs.Prelude.{ℕ, ◌≤◌}
 use Rattle.tl_base.specs.declared.style.Style.{Style}
+use Rattle.tl_form.specs.declared.cell.Table.{Table}
 use Rattle.tl_form.specs.declared.layout.Layout.{Layout}
-use Rattle.tl_form.specs.Table.{Table}
-use Rattle.tl_form.specs.Layout.{Fits}
+use Rattle.tl_form.specs.Layouts.{Fits}
 
 -- `height` is the least height of any layout that fits the page
 pub record IsLeastHeight (table : Table) (style : Style) (width height : ℕ) : Type 0 where

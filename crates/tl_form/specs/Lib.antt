@@ -1,5 +1,6 @@
-pub mod Table
-pub mod Layout
+pub mod Tables
+pub mod Layouts
 pub mod Least
-pub mod Tight
-pub mod TextPage
+pub mod Chains
+pub mod Sound
+pub mod inner

@@ -1,12 +1,15 @@
-ghost use Rattle.std.specs.Prelude.{◌≡◌};
+//! Layouts of a table.
 
 use tl_base::List;
 
-/// The sizes of a table's columns, in columns of the page, and of its rows, in lines.
+/// The sizes of a table's columns, in columns of the page, and of its rows, in lines; and the same of
+/// the tables nested in it.
 #[derive(Debug, Drop)]
 pub struct Layout {
     /// The widths of the columns, from left to right.
     pub widths: List<u32>,
     /// The heights of the rows, from top to bottom.
     pub heights: List<u32>,
+    /// A layout of each table nested directly in a cell, in the order of the cells and their blocks.
+    pub inner: List<Layout>,
 }

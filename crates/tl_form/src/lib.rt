@@ -3,6 +3,11 @@
 //! contract: the definitions in its specs, which every search and every page cite.
 #![tactic(auto)]
 
+mod cell;
 mod layout;
+mod widest;
+mod width;
 
+pub use cell::{Content, Kind, Table, TableCell};
 pub use layout::Layout;
+pub use width::least_width;

@@ -6,17 +6,17 @@ use Rattle.tl_grid.specs.declared.shape.Shape.{Shape}
 use Rattle.tl_grid.specs.declared.shape.Place.{Place}
 use Rattle.tl_grid.specs.Forming.{formed}
 use Rattle.tl_grid.specs.Overlap.{numbers_over}
-use Rattle.tl_grid.specs.Dropping.{grid_of}
+use Rattle.tl_grid.specs.Dropping.{ArePlaces, kept_column_count, kept_row_count}
 
 -- a cell of these spans
 abbrev cell : ℕ → ℕ → SpanOf
 cell colspan rowspan = record { colspan = colspan; rowspan = rowspan }
 
--- a group that is no foot
+-- a group that is no footer
 abbrev body : List (List SpanOf) → ShapeGroup
 body rows = record { foot = false; rows = rows }
 
--- a foot
+-- a footer
 abbrev foot : List (List SpanOf) → ShapeGroup
 foot rows = record { foot = true; rows = rows }
 
@@ -55,14 +55,18 @@ growing_next : numbers_over 0 3 (formed growing).cells ≡ 2 ∷ []
 growing_next = refl
 
 -- after dropping
-growing_grid : grid_of growing ≡ record {
-  cols = 2;
-  rows = 2;
-  places = place 0 1 0 1 ∷ place 1 2 0 1 ∷ place 0 2 1 2 ∷ [];
-}
-growing_grid = refl
+growing_column_count : kept_column_count growing ≡ 2
+growing_column_count = refl
 
--- A foot that is written first goes to the end, and keeps its place among the cells as written.
+-- and its rows
+growing_row_count : kept_row_count growing ≡ 2
+growing_row_count = refl
+
+-- the places
+growing_places : ArePlaces growing (place 0 1 0 1 ∷ place 1 2 0 1 ∷ place 0 2 1 2 ∷ [])
+growing_places = record { as_many = refl; each = (refl, (refl, (refl, tt))) }
+
+-- A footer that is written first goes to the end, and keeps its place among the cells as written.
 --     A
 --     A (dropped)
 --     F
@@ -71,12 +75,16 @@ foot_first = table
     (foot ((cell 1 1 ∷ []) ∷ []) ∷ body ((cell 1 2 ∷ []) ∷ []) ∷ [])
 
 -- after dropping
-foot_first_grid : grid_of foot_first ≡ record {
-  cols = 1;
-  rows = 2;
-  places = place 0 1 1 2 ∷ place 0 1 0 1 ∷ [];
-}
-foot_first_grid = refl
+foot_first_column_count : kept_column_count foot_first ≡ 1
+foot_first_column_count = refl
+
+-- and its rows
+foot_first_row_count : kept_row_count foot_first ≡ 2
+foot_first_row_count = refl
+
+-- the places
+foot_first_places : ArePlaces foot_first (place 0 1 1 2 ∷ place 0 1 0 1 ∷ [])
+foot_first_places = record { as_many = refl; each = (refl, (refl, tt)) }
 
 -- C is two columns wide, and B still covers the second.
 --     A B
@@ -103,9 +111,13 @@ wide = table
     (body ((cell 3 1 ∷ []) ∷ [] ∷ (cell 1 1 ∷ cell 1 1 ∷ []) ∷ []) ∷ [])
 
 -- after dropping
-wide_grid : grid_of wide ≡ record {
-  cols = 2;
-  rows = 2;
-  places = place 0 2 0 1 ∷ place 0 1 1 2 ∷ place 1 2 1 2 ∷ [];
-}
-wide_grid = refl
+wide_column_count : kept_column_count wide ≡ 2
+wide_column_count = refl
+
+-- and its rows
+wide_row_count : kept_row_count wide ≡ 2
+wide_row_count = refl
+
+-- the places
+wide_places : ArePlaces wide (place 0 2 0 1 ∷ place 0 1 1 2 ∷ place 1 2 1 2 ∷ [])
+wide_places = record { as_many = refl; each = (refl, (refl, (refl, tt))) }

@@ -1,16 +1,19 @@
 -- The blocks' dropped grid is the definition's.
-use Rattle.std.proofs.Common.{◌≡◌, ℕ, ◌+◌, ◌<◌, ◌≤◌, zero, suc, Bool, true, false, ◌&&◌, ◌||◌, ltb, leb, eqb, List, [], ◌∷◌, map, length, fold, refl, sym, ap, ◌∙◌, inl, inr, arith}
-use Rattle.std.specs.Prelude.{slice_set}
+use Rattle.std.proofs.Common.{◌≡◌, ℕ, ◌+◌, ◌<◌, ◌≤◌, zero, suc, Bool, true, false, ◌&&◌, ◌||◌, ltb, leb, eqb, List, [], ◌∷◌, map, length, refl, sym}
+use Rattle.std.proofs.Common.{ap, ◌∙◌, subst, inl, inr, arith}
 use Rattle.std.specs.List.{AllByRecursion}
 use Rattle.std.specs.List.Sorted.{IsStrictlyIncreasing}
 use Rattle.std.proofs.lemmas.Bool.{lt-ltb, le-ltb, le-leb, lt-leb, ne_eqb, cases_lt, and_left, and_right}
-use Rattle.std.proofs.lemmas.List.Folds.{fold-map}
 use Rattle.tl_grid.specs.declared.block.Block.{Block}
 use Rattle.tl_grid.specs.declared.table.Table.{Table}
 use Rattle.tl_grid.specs.declared.shape.Place.{Place}
 use Rattle.tl_grid.specs.Forming.{Cell, Forming}
-use Rattle.tl_grid.specs.Dropping.{count_below, keeps_column, keeps_row, new_column, new_row, place_of, is_among}
-use Rattle.tl_grid.specs.Places.{begins_in_column, begins_in_row, place_in, put_places}
+use Rattle.tl_grid.specs.Dropping.{count_below, keeps_column, keeps_row, new_column, new_row, place_of}
+use Rattle.tl_base.specs.Lists.{is_among}
+use Rattle.tl_grid.specs.inner.Places.{begins_in_column, begins_in_row, place_by}
+use Rattle.std.proofs.lemmas.Simd.{map-map}
+use Rattle.tl_grid.proofs.Cells.{number_of, block_number}
+use Rattle.tl_grid.proofs.Members.{all_from_map, all_to_map}
 use Rattle.tl_grid.proofs.Rows.{IsSound}
 use Rattle.tl_grid.proofs.Tables.{mask, whole, TableMatches}
 use Rattle.tl_grid.proofs.Counts.{one_if, count_same, count_among, count_whole, rises_from}
@@ -66,14 +69,18 @@ no_row width height (b ∷ bs) sound y le =
     ∙ no_row width height bs sound.1 y le
 
 -- how many are kept
-pub column_count : (s : Forming) (t : Table) (ks : List ℕ) → TableMatches s t → IsStrictlyIncreasing ks → ((x : ℕ) → is_among ks x ≡ begins_in_column t.blocks x) → count_below (keeps_column s.cells) s.width ≡ length ks
+pub column_count : (s : Forming) (t : Table) (ks : List ℕ) → TableMatches s t → IsStrictlyIncreasing ks →
+    ((x : ℕ) → is_among ks x ≡ begins_in_column t.blocks x) →
+    count_below (keeps_column s.cells) s.width ≡ length ks
 column_count s t ks m up same =
     count_same (keeps_column s.cells) (is_among ks) (λ x. same_columns s t m x ∙ sym (same x)) s.width
     ∙ count_among 0 s.width ks (rises_from 0 ks up (λ has. omega arith))
     ∙ count_whole s.width ks (λ x le. same x ∙ no_column s.width s.height t.blocks m.sound x le)
 
 -- and how many rows
-pub row_count : (s : Forming) (t : Table) (ks : List ℕ) → TableMatches s t → IsStrictlyIncreasing ks → ((y : ℕ) → is_among ks y ≡ begins_in_row t.blocks y) → count_below (keeps_row s.cells) s.height ≡ length ks
+pub row_count : (s : Forming) (t : Table) (ks : List ℕ) → TableMatches s t → IsStrictlyIncreasing ks →
+    ((y : ℕ) → is_among ks y ≡ begins_in_row t.blocks y) →
+    count_below (keeps_row s.cells) s.height ≡ length ks
 row_count s t ks m up same =
     count_same (keeps_row s.cells) (is_among ks) (λ y. same_rows s t m y ∙ sym (same y)) s.height
     ∙ count_among 0 s.height ks (rises_from 0 ks up (λ has. omega arith))
@@ -151,35 +158,76 @@ place_shown s c = record {
   bottom = new_row s.cells c.top + count_below c.rows s.height;
 }
 
--- a block's place is its cell's
-block_place : (s : Forming) (t : Table) (columns rows : List ℕ) → TableMatches s t → ((x : ℕ) → is_among columns x ≡ begins_in_column t.blocks x) → ((y : ℕ) → is_among rows y ≡ begins_in_row t.blocks y) → (b : Block) → IsSound s.width s.height b → place_shown s (mask (keeps_row s.cells) (whole b)) ≡ place_in columns rows b
-block_place s t columns rows m same_cols same_row b sound =
-    let by_column : (x : ℕ) → keeps_column s.cells x ≡ is_among columns x = λ x. same_columns s t m x ∙ sym (same_cols x) in
-    let by_row : (y : ℕ) → keeps_row s.cells y ≡ is_among rows y = λ y. same_rows s t m y ∙ sym (same_row y) in
-    let left = count_same (keeps_column s.cells) (is_among columns) by_column b.left in
-    let right = count_between (keeps_column s.cells) b.left b.right s.width (omega (arith, sound.0)) sound.1
-    ∙ count_same (keeps_column s.cells) (is_among columns) by_column b.right in
-    let top = count_same (keeps_row s.cells) (is_among rows) by_row b.top in
-    let bottom = count_between (keeps_row s.cells) b.top b.bottom s.height (omega (arith, sound.2)) sound.3
-    ∙ count_same (keeps_row s.cells) (is_among rows) by_row b.bottom in
-    λ i. record { left = left i; right = right i; top = top i; bottom = bottom i }
+-- the place of a sound block
+block_place : (s : Forming) (b : Block) → IsSound s.width s.height b →
+    place_shown s (mask (keeps_row s.cells) (whole b)) ≡ place_by (keeps_column s.cells) (keeps_row s.cells) b
+block_place s b sound =
+    let right = count_between (keeps_column s.cells) b.left b.right s.width (omega (arith, sound.0)) sound.1 in
+    let bottom = count_between (keeps_row s.cells) b.top b.bottom s.height (omega (arith, sound.2)) sound.3 in
+    λ i. record {
+      left = new_column s.cells b.left;
+      right = right i;
+      top = new_row s.cells b.top;
+      bottom = bottom i;
+    }
 
--- folds by steps that agree
-fold_same : (f g : List Place → Block → List Place) (P : Block → Type 0) → ((ps : List Place) (b : Block) → P b → f ps b ≡ g ps b) → (ps : List Place) (bs : List Block) → AllByRecursion P bs → fold f ps bs ≡ fold g ps bs
-fold_same f g P same ps [] all = refl
-fold_same f g P same ps (b ∷ bs) all =
-    ap (λ qs. fold f qs bs) (same ps b all.0) ∙ fold_same f g P same (g ps b) bs all.1
+-- the block shows where the cell is
+pub record IsShownBy (s : Forming) (cell : Cell) (b : Block) : Type 0 where
+  pub same : mask (keeps_row s.cells) cell ≡ mask (keeps_row s.cells) (whole b)
+  pub sound : IsSound s.width s.height b
+  pub place : place_of s cell ≡ place_by (keeps_column s.cells) (keeps_row s.cells) b
 
--- the places as written are those of the blocks
-pub same_places : (s : Forming) (t : Table) (columns rows : List ℕ) (blank : List Place) → TableMatches s t → ((x : ℕ) → is_among columns x ≡ begins_in_column t.blocks x) → ((y : ℕ) → is_among rows y ≡ begins_in_row t.blocks y) → fold (λ places cell. slice_set places cell.number (place_of s cell)) blank s.cells ≡ put_places columns rows blank t.blocks
-same_places s t columns rows blank m same_cols same_row =
+-- a block shows a cell that looks alike where rows are kept
+shows : (s : Forming) (cell : Cell) (b : Block) →
+    mask (keeps_row s.cells) cell ≡ mask (keeps_row s.cells) (whole b) → IsSound s.width s.height b →
+    IsShownBy s cell b
+shows s cell b same sound = record {
+  same = same;
+  sound = sound;
+  place = ap (place_shown s) same ∙ block_place s b sound;
+}
+
+-- lists of cells and blocks that look alike do so one by one
+shown_each : (s : Forming) (cells : List Cell) (bs : List Block) →
+    map (mask (keeps_row s.cells)) cells ≡ map (mask (keeps_row s.cells)) (map whole bs) →
+    AllByRecursion (IsSound s.width s.height) bs →
+    AllByRecursion (λ cell. (b : Block) × IsShownBy s cell b) cells
+shown_each s [] bs same sound = tt
+shown_each s (cell ∷ cells) [] same sound = cc
+shown_each s (cell ∷ cells) (b ∷ bs) same sound =
+    let first : mask (keeps_row s.cells) cell ≡ mask (keeps_row s.cells) (whole b) = cc in
+    let rest : map (mask (keeps_row s.cells)) cells ≡ map (mask (keeps_row s.cells)) (map whole bs) = cc in
+    ((b, shows s cell b first sound.0), shown_each s cells bs rest sound.1)
+
+-- each cell of a table that was formed is shown by a block
+pub all_shown : (s : Forming) (t : Table) → TableMatches s t → AllByRecursion (λ cell. (b : Block) × IsShownBy s cell b) s.cells
+all_shown s t m = shown_each s s.cells t.blocks (masked s t m) m.sound
+
+-- what holds of the blocks' numbers and places holds of the cells'
+pub all_placed : (s : Forming) (t : Table) (P : ℕ → Place → Type 0) → TableMatches s t →
+    AllByRecursion (λ (b : Block). P b.number (place_by (keeps_column s.cells) (keeps_row s.cells) b)) t.blocks →
+    AllByRecursion (λ (cell : Cell). P cell.number (place_of s cell)) s.cells
+all_placed s t P m all =
     let keeps : ℕ → Bool = keeps_row s.cells in
-    let put : List Place → Cell → List Place = λ places c. slice_set places c.number (place_shown s c) in
-    sym (fold-map put (mask keeps) blank s.cells)
-    ∙ ap (fold put blank) (masked s t m)
-    ∙ fold-map put (mask keeps) blank (map whole t.blocks)
-    ∙ fold-map (λ places c. put places (mask keeps c)) whole blank t.blocks
-    ∙ fold_same (λ places b. put places (mask keeps (whole b))) (λ places b. slice_set places b.number (place_in columns rows b))
-    (IsSound s.width s.height)
-    (λ places b sound. ap (slice_set places b.number) (block_place s t columns rows m same_cols same_row b sound))
-    blank t.blocks m.sound
+    let Q : Cell → Type 0 = λ cell. P cell.number (place_shown s cell) in
+    let R : List Cell → Type 0 = λ cells. AllByRecursion Q cells in
+    all_from_map Q (mask keeps) s.cells
+    (subst R (sym (masked s t m))
+    (all_to_map Q (mask keeps) (map whole t.blocks)
+    (all_to_map (λ cell. Q (mask keeps cell)) whole t.blocks (each t.blocks m.sound all))))
+  where
+    each : (bs : List Block) → AllByRecursion (IsSound s.width s.height) bs →
+        AllByRecursion (λ (b : Block). P b.number (place_by (keeps_column s.cells) (keeps_row s.cells) b)) bs →
+        AllByRecursion (λ (b : Block). P b.number (place_shown s (mask (keeps_row s.cells) (whole b)))) bs
+    each [] sound all = tt
+    each (b ∷ bs) sound all = (
+      (let T : Place → Type 0 = λ place. P b.number place in subst T (sym (block_place s b sound.0)) all.0),
+      each bs sound.1 all.1,
+    )
+
+-- the cells and the blocks have the same numbers
+pub same_numbers : (s : Forming) (t : Table) → TableMatches s t → map number_of s.cells ≡ map block_number t.blocks
+same_numbers s t m =
+    let keeps : ℕ → Bool = keeps_row s.cells in
+    sym (map-map number_of (mask keeps) s.cells) ∙ ap (map number_of) (masked s t m)
+    ∙ map-map number_of (mask keeps) (map whole t.blocks) ∙ map-map number_of whole t.blocks

@@ -1,6 +1,7 @@
 mod Examples
 pub mod Chains
 pub mod Passing
+pub mod Runs
 pub mod Bounds
 pub mod Steps
 pub mod Cells
@@ -9,7 +10,11 @@ pub mod Rows
 pub mod Groups
 pub mod Tables
 pub mod Counts
-pub mod Grids
+pub mod Members
 pub mod Numbers
-pub mod Within
-pub mod Refusals
+pub mod Put
+pub mod FilledLeft
+pub mod Grids
+pub mod Wide
+pub mod Laws
+pub mod Results

@@ -1,184 +1,207 @@
--- Every cell has a place, and every place is within the grid.
-use Rattle.std.proofs.Common.{◌≡◌, ℕ, ◌+◌, ◌<◌, ◌≤◌, Bool, true, false, ◌||◌, not, eqb, List, [], ◌∷◌, ◌++◌, map, length, get_or, set, fold, Option, Some, None, Result, Ok, Err, refl, sym, ap, ◌∙◌, subst, inl, inr, ◌⊎◌, arith, zero-add, get_or-set_same, get_or-set_other, length-set}
-use Rattle.std.specs.Prelude.{slice_set}
-use Rattle.std.specs.List.{list_any, AllByRecursion}
-use Rattle.std.proofs.lemmas.Bool.{eq-eqb, eqb-true, or_left, or_right, or_cases, both_ways, cases_Bool, cases_eq, cases_lt, cond-true, cond-false}
-use Rattle.std.proofs.lemmas.List.Folds.{list_any-append}
-use Rattle.std.proofs.lemmas.List.Sums.{sum_by-append}
+-- The numbers of the formed cells: each number below the table's count of cells, once.
+use Rattle.std.proofs.Common.{◌≡◌, ℕ, ◌+◌, ◌-◌, ◌<◌, ◌≤◌, zero, suc, Bool, true, false, not, cond, eqb, List, [], ◌∷◌, ◌++◌, map, length, refl, sym}
+use Rattle.std.proofs.Common.{ap, ◌∙◌, inl, inr, arith, zero-add}
+use Rattle.std.proofs.lemmas.Bool.{eq-eqb, eqb-true, ne_eqb, cases_Bool, cases_eq, cases_lt}
+use Rattle.std.proofs.lemmas.List.{map-append}
+use Rattle.std.proofs.lemmas.List.Sums.{sum_by-cons}
+use Rattle.std.proofs.lemmas.Simd.{map-map}
 use Rattle.tl_grid.specs.declared.shape.SpanOf.{SpanOf}
 use Rattle.tl_grid.specs.declared.shape.ShapeGroup.{ShapeGroup}
-use Rattle.tl_grid.specs.declared.shape.Place.{Place}
-use Rattle.tl_grid.specs.declared.block.Block.{Block}
-use Rattle.tl_grid.specs.declared.group.Group.{Group}
-use Rattle.tl_grid.specs.declared.table.Table.{Table}
-use Rattle.tl_grid.specs.declared.error.GridError.{GridError}
-use Rattle.tl_grid.specs.Forming.{cells_in, cells_of}
-use Rattle.tl_grid.specs.Walk.{hit, Row, placed, walk_of, unless_hit, place_cells, row_of, after_row, then_ok, place_rows, settled, group_at, after_group, place_groups, has_turn, place_all}
+use Rattle.tl_grid.specs.declared.shape.Shape.{Shape}
+use Rattle.tl_grid.specs.Forming.{Cell, Forming, has_cell, first_free, cell_at, with_cell, form_cells, grown_into, begin_row, form_row, form_rows}
+use Rattle.tl_grid.specs.Forming.{at_group_end, form_group, form_groups, cells_in, cells_of, no_cells, formed, cell_count}
+use Rattle.tl_grid.proofs.Cells.{number_of}
+use Rattle.tl_grid.proofs.Counts.{one_if}
+use Rattle.tl_grid.proofs.Members.{IsIn}
 
--- whether one of the blocks is that of cell n
-abbrev pub has_number : ℕ → List Block → Bool
-has_number n bs = list_any (λ (b : Block). eqb b.number n) bs
+-- how often n is among the numbers
+abbrev pub tally : ℕ → List ℕ → ℕ
+tally n [] = 0
+tally n (k ∷ ks) = one_if (eqb k n) + tally n ks
 
--- the cells from a on and before z are among the blocks
-abbrev pub HasAll : ℕ → ℕ → List Block → Type 0
-HasAll a z bs = (n : ℕ) → a ≤ n → n < z → has_number n bs ≡ true
+-- the cells' numbers
+abbrev pub numbers : List Cell → List ℕ
+numbers cells = map number_of cells
 
--- the cells of some blocks are among others
-abbrev pub AreAmong : List Block → List Block → Type 0
-AreAmong bs cs = (n : ℕ) → has_number n bs ≡ true → has_number n cs ≡ true
+-- 1 if n is one of the k numbers from a on
+abbrev pub one_among : ℕ → ℕ → ℕ → ℕ
+one_among n a zero = 0
+one_among n a (suc k) = one_if (eqb a n) + one_among n (a + 1) k
 
--- blocks are among those with more at the end
-among_front : (bs cs : List Block) → AreAmong bs (bs ++ cs)
-among_front bs cs n h = list_any-append (λ (b : Block). eqb b.number n) bs cs ∙ or_left (has_number n bs) (has_number n cs) h
+-- of two lists
+tally-append : (n : ℕ) (ks js : List ℕ) → tally n (ks ++ js) ≡ tally n ks + tally n js
+tally-append n [] js = omega arith
+tally-append n (k ∷ ks) js =
+    let rest : tally n (ks ++ js) ≡ tally n ks + tally n js = tally-append n ks js in omega arith
 
--- and among those with more in front
-among_back : (bs cs : List Block) → AreAmong cs (bs ++ cs)
-among_back bs cs n h = list_any-append (λ (b : Block). eqb b.number n) bs cs ∙ or_right (has_number n bs) (has_number n cs) h
+-- of j numbers and k more
+one_among-sum : (n a j k : ℕ) → one_among n a (j + k) ≡ one_among n a j + one_among n (a + j) k
+one_among-sum n a zero k =
+    let start : a + 0 ≡ a = omega arith in
+    let all : one_among n a (0 + k) ≡ one_among n a k = ap (one_among n a) (zero-add k) in
+    let same : one_among n (a + 0) k ≡ one_among n a k = ap (λ b. one_among n b k) start in
+    all ∙ sym same ∙ sym (zero-add (one_among n (a + 0) k))
+one_among-sum n a (suc j) k =
+    let count : suc j + k ≡ suc (j + k) = omega arith in
+    let start : a + 1 + j ≡ a + suc j = omega arith in
+    let all : one_among n a (suc j + k) ≡ one_if (eqb a n) + one_among n (a + 1) (j + k) = ap (one_among n a) count in
+    let rest : one_among n (a + 1) (j + k) ≡ one_among n (a + 1) j + one_among n (a + 1 + j) k = one_among-sum n (a + 1) j k in
+    let same : one_among n (a + 1 + j) k ≡ one_among n (a + suc j) k = ap (λ b. one_among n b k) start in
+    let first : one_among n a (suc j) ≡ one_if (eqb a n) + one_among n (a + 1) j = refl in
+    omega arith
 
--- where a row goes on, no block was hit
-unless_ok : {X : Type 0} (o : Option Block) (number y : ℕ) (more : Result X GridError) (x : X) → unless_hit o number y more ≡ Ok x → more ≡ Ok x
-unless_ok None number y more x e = e
-unless_ok (Some b) number y more x e = cc
+-- none below the first
+one_among-below : (n a k : ℕ) → n < a → one_among n a k ≡ 0
+one_among-below n a zero lt = refl
+one_among-below n a (suc k) lt =
+    let rest : one_among n (a + 1) k ≡ 0 = one_among-below n (a + 1) k (omega arith) in
+    let here : one_if (eqb a n) ≡ 0 = ap one_if (ne_eqb a n (λ e. omega arith)) in
+    omega arith
 
--- where two steps give a value, each gives one
-then_value : {X Y : Type 0} (next : X → Result Y GridError) (r : Result X GridError) (y : Y) → then_ok next r ≡ Ok y → (x : X) × ((r ≡ Ok x) × (next x ≡ Ok y))
-then_value next (Ok x) y e = (x, (refl, e))
-then_value next (Err error) y e = cc
+-- none past the last
+one_among-past : (n a k : ℕ) → a + k ≤ n → one_among n a k ≡ 0
+one_among-past n a zero le = refl
+one_among-past n a (suc k) le =
+    let rest : one_among n (a + 1) k ≡ 0 = one_among-past n (a + 1) k (omega arith) in
+    let here : one_if (eqb a n) ≡ 0 = ap one_if (ne_eqb a n (λ e. omega arith)) in
+    omega arith
 
--- a row places its cells
-cells_numbered : (spans : List SpanOf) (y number : ℕ) (r r' : Row) → place_cells y number r spans ≡ Ok r' → AreAmong r.blocks r'.blocks × HasAll number (number + length spans) r'.blocks
-cells_numbered [] y number r r' e =
-    let P : Row → Type 0 = λ q. AreAmong r.blocks q.blocks in
-    let same : r ≡ r' = cc in
-    (subst P same (λ n h. h), λ n le lt. absurd (omega arith))
-cells_numbered (span ∷ spans) y number r r' e =
-    let next : Row = placed y number span r (walk_of r) in
-    let rest = cells_numbered spans y (number + 1) next r'
-    (unless_ok (hit (walk_of r).ahead ((walk_of r).column + span.colspan)) number y (place_cells y (number + 1) next spans) r' e) in (
-      λ n h. rest.0 n (among_front r.blocks _ n h),
-      λ n le lt. elim (cases_eq number n) [
-        | inl same ↦ rest.0 n (among_back r.blocks _ n (or_left (eqb number n) false (eq-eqb number n same)))
-        | inr other ↦ rest.1 n (omega arith) (omega arith)
-      ],
-    )
-
--- a group places its cells
-rows_numbered : (rows : List (List SpanOf)) (number : ℕ) (g g' : Group) → place_rows number g rows ≡ Ok g' → AreAmong g.blocks g'.blocks × HasAll number (number + cells_in rows) g'.blocks
-rows_numbered [] number g g' e =
-    let P : Group → Type 0 = λ q. AreAmong g.blocks q.blocks in
-    let same : g ≡ g' = cc in
-    (subst P same (λ n h. h), λ n le lt. absurd (omega arith))
-rows_numbered (spans ∷ rows) number g g' e =
-    let (row, is) = then_value (λ r. place_rows (number + length spans) (after_row g.row r) rows) (place_cells g.row number (row_of g) spans) g' e in
-    let here = cells_numbered spans g.row number (row_of g) row is.0 in
-    let rest = rows_numbered rows (number + length spans) (after_row g.row row) g' is.1 in (
-      λ n h. rest.0 n (here.0 n h),
-      λ n le lt. let all : cells_in (spans ∷ rows) ≡ length spans + cells_in rows =
-          sum_by-append length (spans ∷ []) rows ∙ ap (λ k. k + cells_in rows) (zero-add (length spans)) in
-          elim (cases_lt n (number + length spans)) [
-            | inl before ↦ rest.0 n (here.1 n le before)
-            | inr after ↦ rest.1 n after (omega arith)
-          ],
-    )
-
--- the end of a group changes no number
-settled_numbers : (height n : ℕ) (bs : List Block) → has_number n (map (settled height) bs) ≡ has_number n bs
-settled_numbers height n [] = refl
-settled_numbers height n (b ∷ bs) = ap (λ t. eqb b.number n || t) (settled_numbers height n bs)
-
--- the blocks of the table and of the group are in the table after it
-among_after : (t : Table) (g : Group) → AreAmong t.blocks (after_group t g).blocks × AreAmong g.blocks (after_group t g).blocks
-among_after t g = (
-  among_front t.blocks (map (settled g.height) g.blocks),
-  λ n h. among_back t.blocks (map (settled g.height) g.blocks) n (settled_numbers g.height n g.blocks ∙ h),
-)
-
--- what a group whose turn it is, and one whose turn it is not, leave for the others
-turn_taken : (turn : ShapeGroup → Bool) (number : ℕ) (t t' : Table) (g : ShapeGroup) (gs : List ShapeGroup) → turn g ≡ true → place_groups turn number t (g ∷ gs) ≡ Ok t' → (placed' : Group) × ((place_rows number (group_at t.row) g.rows ≡ Ok placed') × (place_groups turn (number + cells_in g.rows) (after_group t placed') gs ≡ Ok t'))
-turn_taken turn number t t' g gs yes' e =
-    then_value (λ group. place_groups turn (number + cells_in g.rows) (after_group t group) gs) (place_rows number (group_at t.row) g.rows) t'
-    (sym (cond-true (turn g) _ _ yes') ∙ e)
-
--- a group whose turn it is not is passed over
-turn_passed : (turn : ShapeGroup → Bool) (number : ℕ) (t t' : Table) (g : ShapeGroup) (gs : List ShapeGroup) → turn g ≡ false → place_groups turn number t (g ∷ gs) ≡ Ok t' → place_groups turn (number + cells_in g.rows) t gs ≡ Ok t'
-turn_passed turn number t t' g gs no' e = sym (cond-false (turn g) _ _ no') ∙ e
-
--- groups that are formed take no block away
-groups_keep : (turn : ShapeGroup → Bool) (groups : List ShapeGroup) (number : ℕ) (t t' : Table) → place_groups turn number t groups ≡ Ok t' → AreAmong t.blocks t'.blocks
-groups_keep turn [] number t t' e =
-    let P : Table → Type 0 = λ q. AreAmong t.blocks q.blocks in
-    let same : t ≡ t' = cc in subst P same (λ n h. h)
-groups_keep turn (g ∷ gs) number t t' e =
-    elim (cases_Bool (turn g)) [
-      | inl y ↦
-          let (group, is) = turn_taken turn number t t' g gs y e in
-          λ n h. groups_keep turn gs (number + cells_in g.rows) (after_group t group) t' is.1 n ((among_after t group).0 n h)
-      | inr n' ↦ groups_keep turn gs (number + cells_in g.rows) t t' (turn_passed turn number t t' g gs n' e)
+-- one of those between
+one_among-in : (n a k : ℕ) → a ≤ n → n < a + k → one_among n a k ≡ 1
+one_among-in n a zero le lt = absurd (omega arith)
+one_among-in n a (suc k) le lt =
+    elim (cases_eq a n) [
+      | inl e ↦
+          let rest : one_among n (a + 1) k ≡ 0 = one_among-below n (a + 1) k (omega arith) in
+          let here : one_if (eqb a n) ≡ 1 = ap one_if (eq-eqb a n e) in
+          omega arith
+      | inr ne ↦
+          let rest : one_among n (a + 1) k ≡ 1 = one_among-in n (a + 1) k (omega arith) (omega arith) in
+          let here : one_if (eqb a n) ≡ 0 = ap one_if (ne_eqb a n ne) in
+          omega arith
     ]
 
--- a group is placed in its turn, and stays
-group_placed : (turn : ShapeGroup → Bool) (number : ℕ) (t t' : Table) (g : ShapeGroup) (gs : List ShapeGroup) → turn g ≡ true → place_groups turn number t (g ∷ gs) ≡ Ok t' → (u : Table) × (HasAll number (number + cells_in g.rows) t'.blocks × (place_groups turn (number + cells_in g.rows) u gs ≡ Ok t'))
-group_placed turn number t t' g gs y e =
-    let (group, is) = turn_taken turn number t t' g gs y e in
-    let rows = rows_numbered g.rows number (group_at t.row) group is.0 in (
-      after_group t group,
-      (
-        λ n le lt. groups_keep turn gs (number + cells_in g.rows) (after_group t group) t' is.1 n ((among_after t group).1 n (rows.1 n le lt)),
-        is.1,
-      ),
-    )
+-- a row numbers its cells in order
+cells_tally : (n : ℕ) (spans : List SpanOf) (number x : ℕ) (s : Forming) →
+    tally n (numbers (form_cells number x spans s).cells) ≡ tally n (numbers s.cells) + one_among n number (length spans)
+cells_tally n [] number x s = omega arith
+cells_tally n (span ∷ spans) number x s =
+    let at : ℕ = first_free (λ column. has_cell column s.row s.cells) x (s.width - x) in
+    let next : Forming = with_cell number at span s in
+    let rest : tally n (numbers (form_cells (number + 1) (at + span.colspan) spans next).cells)
+    ≡ tally n (numbers next.cells) + one_among n (number + 1) (length spans) =
+    cells_tally n spans (number + 1) (at + span.colspan) next in
+    let here : tally n (numbers next.cells) ≡ tally n (numbers s.cells) + (one_if (eqb number n) + 0) =
+    ap (tally n) (map-append number_of s.cells (cell_at number at s.row span ∷ [])) ∙ tally-append n (numbers s.cells) (number ∷ []) in
+    let more : one_among n number (length (span ∷ spans)) ≡ one_if (eqb number n) + one_among n (number + 1) (length spans) = refl in
+    rest ∙ (let sums : tally n (numbers next.cells) + one_among n (number + 1) (length spans)
+    ≡ tally n (numbers s.cells) + one_among n number (length (span ∷ spans)) = omega arith in sums)
 
--- both turns together place all groups
-groups_numbered : (groups : List ShapeGroup) (number : ℕ) (a b c d : Table) → place_groups (has_turn false) number a groups ≡ Ok b → place_groups (has_turn true) number c groups ≡ Ok d → AreAmong b.blocks d.blocks → HasAll number (number + cells_of groups) d.blocks
-groups_numbered [] number a b c d e f stay n le lt = absurd (omega arith)
-groups_numbered (g ∷ gs) number a b c d e f stay n le lt =
-    let all : cells_of (g ∷ gs) ≡ cells_in g.rows + cells_of gs =
-    sum_by-append (λ (h : ShapeGroup). cells_in h.rows) (g ∷ []) gs ∙ ap (λ k. k + cells_of gs) (zero-add (cells_in g.rows)) in
-    elim (cases_Bool g.foot) [
-      | inl foot ↦
-          let (u, is) = group_placed (has_turn true) number c d g gs foot f in
-          elim (cases_lt n (number + cells_in g.rows)) [
-            | inl before ↦ is.0 n le before
-            | inr after ↦ groups_numbered gs (number + cells_in g.rows) a b u d
-                (turn_passed (has_turn false) number a b g gs (ap not foot) e) is.1 stay n after (omega arith)
-          ]
-      | inr body ↦
-          let (u, is) = group_placed (has_turn false) number a b g gs (ap not body) e in
-          elim (cases_lt n (number + cells_in g.rows)) [
-            | inl before ↦ stay n (is.0 n le before)
-            | inr after ↦ groups_numbered gs (number + cells_in g.rows) u b c d is.1
-                (turn_passed (has_turn true) number c d g gs body f) stay n after (omega arith)
-          ]
+-- so do the rows of a group
+rows_tally : (n : ℕ) (rows : List (List SpanOf)) (number : ℕ) (s : Forming) →
+    tally n (numbers (form_rows number rows s).cells) ≡ tally n (numbers s.cells) + one_among n number (cells_in rows)
+rows_tally n [] number s = omega arith
+rows_tally n (spans ∷ rows) number s =
+    let next : Forming = form_row number spans s in
+    let rest : tally n (numbers (form_rows (number + length spans) rows next).cells)
+    ≡ tally n (numbers next.cells) + one_among n (number + length spans) (cells_in rows) =
+    rows_tally n rows (number + length spans) next in
+    let here : tally n (numbers next.cells) ≡ tally n (numbers s.cells) + one_among n number (length spans) =
+    cells_tally n spans number 0 (begin_row s)
+    ∙ ap (λ ks. tally n ks + one_among n number (length spans)) (map-map number_of (grown_into s.row) s.cells) in
+    let more : one_among n number (cells_in (spans ∷ rows)) ≡ one_among n number (length spans) + one_among n (number + length spans) (cells_in rows) =
+    ap (one_among n number) (sum_by-cons length spans rows) ∙ one_among-sum n number (length spans) (cells_in rows) in
+    rest ∙ (let sums : tally n (numbers next.cells) + one_among n (number + length spans) (cells_in rows)
+    ≡ tally n (numbers s.cells) + one_among n number (cells_in (spans ∷ rows)) = omega arith in sums)
+
+-- a group in its turn, and one that is passed over
+turn_tally : (b : Bool) (n number : ℕ) (rows : List (List SpanOf)) (s : Forming) →
+    tally n (numbers (cond b (form_group number rows s) s).cells) ≡ tally n (numbers s.cells) + cond b (one_among n number (cells_in rows)) 0
+turn_tally true n number rows s =
+    let last : Forming = form_rows number rows s in
+    ap (tally n) (map-map number_of (at_group_end last.row last.height) last.cells) ∙ rows_tally n rows number s
+turn_tally false n number rows s = omega arith
+
+-- 1 if n is the number of a cell of the groups whose turn it is
+abbrev in_turn : (ShapeGroup → Bool) → ℕ → ℕ → List ShapeGroup → ℕ
+in_turn turn n number [] = 0
+in_turn turn n number (g ∷ gs) = cond (turn g) (one_among n number (cells_in g.rows)) 0 + in_turn turn n (number + cells_in g.rows) gs
+
+-- all groups whose turn it is
+groups_tally : (turn : ShapeGroup → Bool) (n : ℕ) (gs : List ShapeGroup) (number : ℕ) (s : Forming) →
+    tally n (numbers (form_groups turn number gs s).cells) ≡ tally n (numbers s.cells) + in_turn turn n number gs
+groups_tally turn n [] number s = omega arith
+groups_tally turn n (g ∷ gs) number s =
+    let next : Forming = cond (turn g) (form_group number g.rows s) s in
+    let rest : tally n (numbers (form_groups turn (number + cells_in g.rows) gs next).cells)
+    ≡ tally n (numbers next.cells) + in_turn turn n (number + cells_in g.rows) gs =
+    groups_tally turn n gs (number + cells_in g.rows) next in
+    let here : tally n (numbers next.cells) ≡ tally n (numbers s.cells) + cond (turn g) (one_among n number (cells_in g.rows)) 0 =
+    turn_tally (turn g) n number g.rows s in
+    let more : in_turn turn n number (g ∷ gs) ≡ cond (turn g) (one_among n number (cells_in g.rows)) 0 + in_turn turn n (number + cells_in g.rows) gs = refl in
+    rest ∙ (let sums : tally n (numbers next.cells) + in_turn turn n (number + cells_in g.rows) gs
+    ≡ tally n (numbers s.cells) + in_turn turn n number (g ∷ gs) = omega arith in sums)
+
+-- a group has its turn once
+one_turn : (b : Bool) (a : ℕ) → cond (not b) a 0 + cond b a 0 ≡ a
+one_turn true a = omega arith
+one_turn false a = omega arith
+
+-- so both turns together form all groups
+both_turns : (n : ℕ) (gs : List ShapeGroup) (number : ℕ) →
+    in_turn (λ g. not g.foot) n number gs + in_turn (λ g. g.foot) n number gs ≡ one_among n number (cells_of gs)
+both_turns n [] number = refl
+both_turns n (g ∷ gs) number =
+    let one : ℕ = one_among n number (cells_in g.rows) in
+    let next : ℕ = number + cells_in g.rows in
+    let rest : in_turn (λ g. not g.foot) n next gs + in_turn (λ g. g.foot) n next gs ≡ one_among n next (cells_of gs) = both_turns n gs next in
+    let here : cond (not g.foot) one 0 + cond g.foot one 0 ≡ one = one_turn g.foot one in
+    let more : one_among n number (cells_of (g ∷ gs)) ≡ one + one_among n next (cells_of gs) =
+    ap (one_among n number) (sum_by-cons (λ (h : ShapeGroup). cells_in h.rows) g gs) ∙ one_among-sum n number (cells_in g.rows) (cells_of gs) in
+    let sums : (cond (not g.foot) one 0 + in_turn (λ g. not g.foot) n next gs) + (cond g.foot one 0 + in_turn (λ g. g.foot) n next gs)
+    ≡ one + one_among n next (cells_of gs) = omega arith in
+    sums ∙ sym more
+
+-- each number from 0 to the count of cells is that of one cell
+pub numbered : (n : ℕ) (shape : Shape) → tally n (numbers (formed shape).cells) ≡ one_among n 0 (cell_count shape)
+numbered n shape =
+    let bodies : Forming = form_groups (λ group. not group.foot) 0 shape.groups (no_cells shape.columns) in
+    let first : tally n (numbers bodies.cells) ≡ 0 + in_turn (λ group. not group.foot) n 0 shape.groups =
+    groups_tally (λ group. not group.foot) n shape.groups 0 (no_cells shape.columns) in
+    let then : tally n (numbers (formed shape).cells) ≡ tally n (numbers bodies.cells) + in_turn (λ group. group.foot) n 0 shape.groups =
+    groups_tally (λ group. group.foot) n shape.groups 0 bodies in
+    let both : in_turn (λ g. not g.foot) n 0 shape.groups + in_turn (λ g. g.foot) n 0 shape.groups
+    ≡ one_among n 0 (cell_count shape) = both_turns n shape.groups 0 in
+    omega arith
+
+-- no number stands twice
+pub numbered_once : (n : ℕ) (shape : Shape) → tally n (numbers (formed shape).cells) ≤ 1
+numbered_once n shape =
+    let all : tally n (numbers (formed shape).cells) ≡ one_among n 0 (cell_count shape) = numbered n shape in
+    elim (cases_lt n (cell_count shape)) [
+      | inl lt ↦ (let one : one_among n 0 (cell_count shape) ≡ 1 = one_among-in n 0 (cell_count shape) (omega arith) (omega arith) in omega arith)
+      | inr ge ↦ (let none : one_among n 0 (cell_count shape) ≡ 0 = one_among-past n 0 (cell_count shape) (omega arith) in omega arith)
     ]
 
--- every cell of a table that was formed has a block
-pub all_numbered : (groups : List ShapeGroup) (t : Table) → place_all groups ≡ Ok t → HasAll 0 (cells_of groups) t.blocks
-all_numbered groups t e =
-    let (b, is) = then_value (λ table. place_groups (has_turn true) 0 table groups) (place_groups (has_turn false) 0 (record { row = 0; blocks = [] }) groups) t e in
-    λ n le lt. groups_numbered groups 0 record { row = 0; blocks = [] } b b t is.0 is.1 (groups_keep (has_turn true) groups 0 b t is.1) n le (omega arith)
+-- none is as large as the count
+pub numbered_below : (n : ℕ) (shape : Shape) → cell_count shape ≤ n → tally n (numbers (formed shape).cells) ≡ 0
+numbered_below n shape le = numbered n shape ∙ one_among-past n 0 (cell_count shape) (omega arith)
 
--- a write elsewhere leaves what is to be shown
-put_other : (P : Place → Type 0) (n : ℕ) (b : Block) (bs : List Block) (p q : Place) → (b.number ≡ n → ⊥) → q ≡ p → (has_number n (b ∷ bs) ≡ true) ⊎ P p → (has_number n bs ≡ true) ⊎ P q
-put_other P n b bs p q other same (inl has) =
-    elim (or_cases (eqb b.number n) (has_number n bs) has) [
-      | inl here ↦ absurd (other (eqb-true b.number n here))
-      | inr later ↦ inl later
+-- an element of a number that is there
+pub numbered_in : {X : Type 0} (f : X → ℕ) (n : ℕ) (xs : List X) → 1 ≤ tally n (map f xs) → (x : X) × (IsIn x xs × (f x ≡ n))
+numbered_in f n [] has = absurd (omega arith)
+numbered_in f n (x ∷ xs) has =
+    elim (cases_Bool (eqb (f x) n)) [
+      | inl e ↦ (x, (inl refl, eqb-true (f x) n e))
+      | inr e ↦
+          let none : one_if (eqb (f x) n) ≡ 0 = ap one_if e in
+          let (y, is) = numbered_in f n xs (omega arith) in
+          (y, (inr is.0, is.1))
     ]
-put_other P n b bs p q other same (inr good) = inr (subst P (sym same) good)
 
--- what is put at the cells' numbers, where each cell has a block
-pub put_good : (P : Place → Type 0) (f : Block → Place) (bs : List Block) (ps : List Place) (n : ℕ) (d : Place) → n < length ps → AllByRecursion (λ b. P (f b)) bs → (has_number n bs ≡ true) ⊎ P (get_or ps n d) → P (get_or (fold (λ found b. slice_set found b.number (f b)) ps bs) n d)
-put_good P f [] ps n d lt all (inl has) = absurd (both_ways true (sym has) refl)
-put_good P f [] ps n d lt all (inr good) = good
-put_good P f (b ∷ bs) ps n d lt all ok =
-    put_good P f bs (set ps b.number (f b)) n d (rw (length-set ps b.number (f b)) lt) all.1
-    (elim (cases_eq b.number n) [
-      | inl here ↦
-          let at : get_or (set ps b.number (f b)) n d ≡ f b =
-          ap (λ i. get_or (set ps i (f b)) n d) here ∙ get_or-set_same ps n (f b) d lt in
-          inr (subst P (sym at) all.0)
-      | inr other ↦
-          let same : get_or (set ps b.number (f b)) n d ≡ get_or ps n d =
-          get_or-set_other ps b.number n (f b) d (λ e. other (sym e)) in
-          put_other P n b bs (get_or ps n d) (get_or (set ps b.number (f b)) n d) other same ok
-    ])
+-- each number below the count has a cell
+pub cell_numbered : (shape : Shape) (n : ℕ) → n < cell_count shape → (cell : Cell) × (IsIn cell (formed shape).cells × (cell.number ≡ n))
+cell_numbered shape n lt =
+    let all : tally n (numbers (formed shape).cells) ≡ one_among n 0 (cell_count shape) = numbered n shape in
+    let one : one_among n 0 (cell_count shape) ≡ 1 = one_among-in n 0 (cell_count shape) (omega arith) (omega arith) in
+    numbered_in number_of n (formed shape).cells (omega arith)

@@ -1,10 +1,10 @@
 -- The dropped grid: columns and rows in which no cell is anchored are left out, and the others are
--- numbered anew, in order. This is a rule of ours, not the HTML Standard's.
-use Rattle.std.specs.Prelude.{ℕ, ◌+◌, ◌<◌, ◌≤◌, zero, suc, Bool, ◌&&◌, ◌==◌, nat_lt, nat_le, if◌then◌else◌, List, fold, replicate, slice_set}
-use Rattle.std.specs.List.{list_any}
+-- renumbered from 0, in order. This is a rule of ours, not the HTML Standard's.
+use Rattle.std.specs.Prelude.{ℕ, ◌+◌, ◌<◌, ◌≤◌, ◌≡◌, zero, suc, Bool, ◌&&◌, ◌==◌, nat_lt, nat_le}
+use Rattle.std.specs.Prelude.{if◌then◌else◌, List, length, slice_get, Some}
+use Rattle.std.specs.List.{list_any, AllByRecursion}
 use Rattle.tl_grid.specs.declared.shape.Shape.{Shape}
 use Rattle.tl_grid.specs.declared.shape.Place.{Place}
-use Rattle.tl_grid.specs.declared.shape.Grid.{Grid}
 use Rattle.tl_grid.specs.Forming.{Cell, Forming, formed, cell_count}
 
 -- how many of the numbers below n are kept
@@ -12,9 +12,11 @@ abbrev pub count_below : (ℕ → Bool) → ℕ → ℕ
 count_below keeps zero = 0
 count_below keeps (suc n) = count_below keeps n + (if keeps n then 1 else 0)
 
+-- whether a cell is anchored in column x
 abbrev pub keeps_column : List Cell → ℕ → Bool
 keeps_column cells x = list_any (λ (cell : Cell). cell.left == x) cells
 
+-- whether a cell is anchored in row y
 abbrev pub keeps_row : List Cell → ℕ → Bool
 keeps_row cells y = list_any (λ (cell : Cell). cell.top == y) cells
 
@@ -26,25 +28,22 @@ new_column cells x = count_below (keeps_column cells) x
 abbrev pub new_row : List Cell → ℕ → ℕ
 new_row cells y = count_below (keeps_row cells) y
 
--- how many kept columns, and rows, a cell covers
-abbrev pub kept_columns : Forming → Cell → ℕ
-kept_columns s cell =
+-- how many kept columns a cell covers
+abbrev pub covered_columns : Forming → Cell → ℕ
+covered_columns s cell =
     count_below (λ x. keeps_column s.cells x && (nat_le cell.left x && nat_lt x cell.right)) s.width
 
-abbrev pub kept_rows : Forming → Cell → ℕ
-kept_rows s cell = count_below (λ y. keeps_row s.cells y && cell.rows y) s.height
+-- how many kept rows a cell covers
+abbrev pub covered_rows : Forming → Cell → ℕ
+covered_rows s cell = count_below (λ y. keeps_row s.cells y && cell.rows y) s.height
 
--- whether x is one of the numbers
-abbrev pub is_among : List ℕ → ℕ → Bool
-is_among numbers x = list_any (λ (number : ℕ). number == x) numbers
-
--- a cell begins where its anchor is now, and takes its kept columns and rows
+-- a cell begins at its renumbered anchor, and takes its kept columns and rows
 abbrev pub place_of : Forming → Cell → Place
 place_of s cell = record {
   left = new_column s.cells cell.left;
-  right = new_column s.cells cell.left + kept_columns s cell;
+  right = new_column s.cells cell.left + covered_columns s cell;
   top = new_row s.cells cell.top;
-  bottom = new_row s.cells cell.top + kept_rows s cell;
+  bottom = new_row s.cells cell.top + covered_rows s cell;
 }
 
 -- a place has a slot, and lies within a grid of so many columns and rows
@@ -53,25 +52,19 @@ IsPlaced cols rows place =
     (place.left < place.right) × (place.right ≤ cols)
     × (place.top < place.bottom) × (place.bottom ≤ rows)
 
--- the place before any is known
-abbrev pub nowhere : Place
-nowhere = record { left = 0; right = 0; top = 0; bottom = 0 }
+-- the cell's place stands at the cell's number
+abbrev pub StandsAtNumber : Forming → List Place → Cell → Type 0
+StandsAtNumber s places cell = slice_get places cell.number ≡ Some (place_of s cell)
 
--- the places in the order of the cells as written: each at its cell's number
-abbrev pub places_as_written : Forming → ℕ → List Place
-places_as_written s count =
-    fold (λ places cell. slice_set places cell.number (place_of s cell)) (replicate count nowhere)
-    s.cells
+-- these are the places of the table's cells, in the order of the cells as written
+pub record ArePlaces (shape : Shape) (places : List Place) : Type 0 where
+  pub as_many : length places ≡ cell_count shape
+  pub each : AllByRecursion (StandsAtNumber (formed shape) places) (formed shape).cells
 
+-- how many columns are kept
 abbrev pub kept_column_count : Shape → ℕ
 kept_column_count shape = count_below (keeps_column (formed shape).cells) (formed shape).width
 
+-- how many rows are kept
 abbrev pub kept_row_count : Shape → ℕ
 kept_row_count shape = count_below (keeps_row (formed shape).cells) (formed shape).height
-
-abbrev pub grid_of : Shape → Grid
-grid_of shape = record {
-  cols = kept_column_count shape;
-  rows = kept_row_count shape;
-  places = places_as_written (formed shape) (cell_count shape);
-}

@@ -3,6 +3,5 @@ pub mod Forming
 pub mod Overlap
 pub mod Dropping
 pub mod Form
-pub mod Walk
-pub mod Answers
-pub mod Places
+pub mod Slots
+pub mod inner

@@ -1,9 +1,13 @@
-ghost use Rattle.std.specs.Prelude.{◌≡◌, ◌<◌, ◌≤◌, ◌^◌, ℕ, length, IfOk, IfErr, MatchResult, alloc_error, replicate, map};
+//! Drops the columns and rows in which no cell is anchored, and gives each cell its place.
+
+ghost use Rattle.std.specs.Prelude.{◌≡◌, ◌<◌, ◌≤◌, ◌^◌, ℕ, length, IfOk, IfErr, MatchResult};
+ghost use Rattle.std.specs.Prelude.{alloc_error, replicate, map};
 ghost use Rattle.std.specs.List.Sorted.{IsStrictlyIncreasing};
 ghost use Rattle.tl_grid.specs.declared.block.Block.{Block};
 ghost use Rattle.tl_grid.specs.declared.error.GridError.TheVariants.{Memory};
-ghost use Rattle.tl_grid.specs.Dropping.{is_among, nowhere};
-ghost use Rattle.tl_grid.specs.Places.{begins_in_column, begins_in_row, place_in, put_places};
+ghost use Rattle.tl_base.specs.Lists.{is_among};
+ghost use Rattle.tl_grid.specs.inner.Places.{begins_in_column, begins_in_row, nowhere, place_in};
+ghost use Rattle.tl_grid.specs.inner.Places.{put_places};
 
 use crate::block::Block;
 use crate::error::GridError;
@@ -13,7 +17,7 @@ use std::alloc::{AllocError, Global};
 use tl_base::List;
 
 /// The column in which each block begins.
-fn first_columns(alloc: Global, blocks: &[Block]) -> Result<Vec<u32>, AllocError>
+fn anchor_columns(alloc: Global, blocks: &[Block]) -> Result<Vec<u32>, AllocError>
     ensures { IfOk result (λ columns.
         columns.items ≡ map (λ (block : Block). block.left) blocks.now) }
 {
@@ -21,7 +25,7 @@ fn first_columns(alloc: Global, blocks: &[Block]) -> Result<Vec<u32>, AllocError
 }
 
 /// The row in which each block begins.
-fn first_rows(alloc: Global, blocks: &[Block]) -> Result<Vec<u32>, AllocError>
+fn anchor_rows(alloc: Global, blocks: &[Block]) -> Result<Vec<u32>, AllocError>
     ensures { IfOk result (λ rows. rows.items ≡ map (λ (block : Block). block.top) blocks.now) }
 {
     blocks.iter().map(|block| block.top).collect(alloc)
@@ -34,7 +38,7 @@ pub fn kept_columns(alloc: Global, blocks: &[Block]) -> Result<List<u32>, GridEr
     ensures few { IfOk result (λ kept. length kept ≤ length blocks.now) }
     ensures err { IfErr result (λ e. e ≡ Memory alloc_error) }
 {
-    Ok(List::from_vec(in_order(first_columns(alloc, blocks)?)))
+    Ok(List::from_vec(in_order(anchor_columns(alloc, blocks)?)))
 }
 
 /// The rows in which a cell is anchored, in order.
@@ -44,7 +48,7 @@ pub fn kept_rows(alloc: Global, blocks: &[Block]) -> Result<List<u32>, GridError
     ensures few { IfOk result (λ kept. length kept ≤ length blocks.now) }
     ensures err { IfErr result (λ e. e ≡ Memory alloc_error) }
 {
-    Ok(List::from_vec(in_order(first_rows(alloc, blocks)?)))
+    Ok(List::from_vec(in_order(anchor_rows(alloc, blocks)?)))
 }
 
 /// Where a block lies once columns and rows are dropped.

@@ -402,7 +402,7 @@ module _ (problem : ProblemModel) (bounds : Bounds) (keeps : KeepsPage problem b
     }
 
     -- the least places are within the page
-    pub place-small : IsSound problem → (k : ℕ) → k ≤ problem.cols → (pos 0 ≤ℤ x k) × (x k ≤ℤ pos 1000)
+    pub place-small : IsSound problem → (k : ℕ) → k ≤ problem.cols → (pos 0 ≤ℤ x k) × (x k ≤ℤ pos 502)
     place-small sound k up =
         let widths = widths_of x (gap_of problem.style) problem.cols in
         let left = left-from problem bounds keeps x is.satisfies in

@@ -1,5 +1,6 @@
 -- The definitions, run on cases counted by hand.
-use Rattle.std.proofs.Common.{◌≡◌, ℕ, ◌+◌, ◌≤◌, List, [], ◌∷◌, refl, arith}
+use Rattle.std.proofs.Common.{◌≡◌, ℕ, ◌+◌, ◌-◌, ◌^◌, ◌≤◌, List, [], ◌∷◌, map, refl, arith}
+use Rattle.std.specs.List.{range_with_len}
 use Rattle.std.proofs.lemmas.List.Elements.{All-from_recursion}
 use Rattle.tl_base.specs.declared.style.Style.TheVariants.{Plain}
 use Rattle.tl_base.specs.declared.steps.Config.{Config}
@@ -71,6 +72,14 @@ two_vectors : count_of problem ≡ 2
 unfolding spans_of classes_of
 two_vectors = refl
 
+-- 32 columns of four classes each have 2 ^ 64 vectors: the count stops one before
+abbrev many : ProblemModel
+many = record { cols = 32; rows = 1; style = Plain; width = 190; cells = map (λ column. cell column (column + 1) 0 1 (step 1 4 ∷ step 2 3 ∷ step 3 2 ∷ step 4 1 ∷ [])) (range_with_len 0 32) }
+
+count_stops : count_of many ≡ 2 ^ 64 - 1
+unfolding spans_of classes_of
+count_stops = refl
+
 -- the classes by number
 the_whole : whole_zone problem ≡ range 0 0 ∷ range 0 1 ∷ range 0 0 ∷ []
 unfolding spans_of classes_of
@@ -84,7 +93,8 @@ wide_part : upper_part (whole_zone problem) 1 0 ≡ range 0 0 ∷ range 1 1 ∷ 
 unfolding spans_of classes_of
 wide_part = refl
 
-within : (first second : ℕ) → 1 ≤ first → 2 ≤ second → first + second ≤ 7 → WithinPage problem (first ∷ second ∷ [])
+-- widths of a sum that the page has room for are within it
+pub within : (first second : ℕ) → 1 ≤ first → 2 ≤ second → first + second ≤ 7 → WithinPage problem (first ∷ second ∷ [])
 within first second some more page = record {
   columns = refl;
   page = omega arith;

@@ -8,10 +8,10 @@ use Rattle.tl_base.specs.declared.steps.Config.{Config}
 use Rattle.tl_base.specs.Steps.{AreSteps, first_width, height_at, IsLowAt}
 
 -- tests and what they mean
-test_le : (a b : ℕ) → a ≤ b → nat_le a b ≡ true
+pub test_le : (a b : ℕ) → a ≤ b → nat_le a b ≡ true
 test_le a b le = grind (arith, nat_tests)
 
-test_le_false : (a b : ℕ) → b < a → nat_le a b ≡ false
+pub test_le_false : (a b : ℕ) → b < a → nat_le a b ≡ false
 test_le_false a b gt = grind (arith, nat_tests)
 
 -- ---- more lines are enough where fewer are

@@ -1,4 +1,7 @@
 mod Examples
+mod AreaExamples
+mod BoundExamples
+mod PlacementExamples
 pub mod Heights
 pub mod SizeLaws
 pub mod BoundLaws

@@ -1,6 +1,6 @@
 //! The area bound of a zone, and that of whatever constraints a work holds.
 
-ghost use Rattle.std.specs.Prelude.{◌≡◌, ◌<◌, ◌≤◌, length, Contains, MatchOption};
+ghost use Rattle.std.specs.Prelude.{◌≡◌, ◌+◌, ◌<◌, ◌≤◌, length, Contains, MatchOption};
 ghost use Rattle.tl_diff.specs.Bounds.{IsSatisfiable};
 ghost use Rattle.tl_problem.specs.Areas.{IsAreaBound, IsGreatestEnd, IsLeastArea};
 ghost use Rattle.tl_problem.specs.Bounds.{HasNoWidths};
@@ -12,7 +12,7 @@ ghost use Rattle.tl_problem.specs.inner.Least.{HaveAreas, IsLeastStep, area_with
 use crate::bound::{greatest_room, least_room};
 use crate::constraints::add_ranges;
 use crate::{Cell, Problem, Work, Zone};
-use tl_base::Config;
+use tl_base::{Config, MAX_PAGE_WIDTH};
 use tl_diff::Matrix;
 
 impl Problem {
@@ -76,7 +76,7 @@ fn greatest_end(problem: &Problem, matrix: &Matrix) -> u32
     requires columns { 0 < problem.now.cols }
     ensures end { IsGreatestEnd problem.now (IsLeft problem.now matrix.now.bounds) result }
     ensures some { 0 < result }
-    ensures small { result ≤ 502 }
+    ensures small { result ≤ MAX_PAGE_WIDTH + 2 }
 {
     matrix.upper(0, problem.cols()).unwrap() as u32
 }
@@ -87,7 +87,7 @@ fn sum_of_areas(problem: &Problem, matrix: &Matrix, end: u32) -> u64
     requires keeps { KeepsPage problem.now matrix.now.bounds }
     requires some { IsSatisfiable matrix.now.bounds }
     requires end { IsGreatestEnd problem.now (IsLeft problem.now matrix.now.bounds) end }
-    requires small { end ≤ 502 }
+    requires small { end ≤ MAX_PAGE_WIDTH + 2 }
     ensures { HaveAreas problem.now (IsLeft problem.now matrix.now.bounds) (length problem.now.cells) result }
 {
     let cells = problem.cells();
@@ -120,7 +120,7 @@ fn least_area(problem: &Problem, matrix: &Matrix, cell: &Cell) -> u64
 fn least_step(gap: u32, row_gap: u32, steps: &[Config], low: u32, high: u32, start: u64) -> u64
     requires gap { gap ≤ 2 }
     requires row_gap { row_gap ≤ 2 }
-    requires narrow { high ≤ 500 }
+    requires narrow { high ≤ MAX_PAGE_WIDTH }
     ensures { IsLeastStep gap row_gap steps.now (length steps.now) low high start result }
 {
     let mut least = start;
@@ -137,7 +137,7 @@ fn least_step(gap: u32, row_gap: u32, steps: &[Config], low: u32, high: u32, sta
 fn area_at(gap: u32, row_gap: u32, width: u32, height: u32) -> u64
     requires gap { gap ≤ 2 }
     requires row_gap { row_gap ≤ 2 }
-    requires narrow { width ≤ 500 }
+    requires narrow { width ≤ MAX_PAGE_WIDTH }
     ensures { result ≡ area_with gap row_gap width height }
 {
     u64::from(width + gap) * (u64::from(height) + u64::from(row_gap))

@@ -18,7 +18,7 @@ use crate::demands::least_height;
 use crate::placing::place_under;
 use crate::{Cell, Placed, Problem, Work, Zone};
 use std::alloc::AllocError;
-use tl_base::List;
+use tl_base::{List, MAX_PAGE_WIDTH};
 use tl_diff::{Arc, Matrix};
 
 impl Problem {
@@ -199,7 +199,7 @@ pub fn greatest_room(problem: &Problem, gap: u32, matrix: &Matrix, cell: &Cell) 
     requires gap { gap ≡ gap_of problem.now.style }
     requires cell { IsSoundCell problem.now cell.now }
     ensures room { IsGreatestRoom problem.now (IsLeft problem.now matrix.now.bounds) cell.now.left cell.now.right result }
-    ensures small { result ≤ 500 }
+    ensures small { result ≤ MAX_PAGE_WIDTH }
 {
     let apart = matrix.upper(cell.left, cell.right).unwrap();
     apart as u32 - gap
@@ -213,7 +213,7 @@ pub fn least_room(problem: &Problem, gap: u32, matrix: &Matrix, cell: &Cell) -> 
     requires gap { gap ≡ gap_of problem.now.style }
     requires cell { IsSoundCell problem.now cell.now }
     ensures room { IsLeastRoom problem.now (IsLeft problem.now matrix.now.bounds) cell.now.left cell.now.right result }
-    ensures small { result ≤ 500 }
+    ensures small { result ≤ MAX_PAGE_WIDTH }
 {
     let apart = matrix.upper(cell.right, cell.left).unwrap();
     let apart = -apart;
@@ -224,7 +224,7 @@ pub fn least_room(problem: &Problem, gap: u32, matrix: &Matrix, cell: &Cell) -> 
 fn widths_between(problem: &Problem, places: &[i32]) -> Result<List<u32>, AllocError>
     requires count { length places.now ≡ problem.now.cols + 1 }
     requires small { (k : ℕ) → k ≤ problem.now.cols →
-        (pos 0 ≤ℤ assignment_of places.now k) × (assignment_of places.now k ≤ℤ pos 1000) }
+        (pos 0 ≤ℤ assignment_of places.now k) × (assignment_of places.now k ≤ℤ pos (MAX_PAGE_WIDTH + 2)) }
     requires rising { (k : ℕ) → k < problem.now.cols →
         (assignment_of places.now k +ℤ pos (gap_of problem.now.style)) ≤ℤ assignment_of places.now (k + 1) }
     ensures { IfOk result (λ widths.

@@ -1,6 +1,6 @@
 //! Constraints on the places where the columns of a problem begin.
 
-ghost use Rattle.std.specs.Prelude.{◌≡◌, ℕ, ◌<◌, ◌≤◌, List, [], length, IfOk, IsTrue, ◌↔◌};
+ghost use Rattle.std.specs.Prelude.{◌≡◌, ℕ, ◌+◌, ◌<◌, ◌≤◌, List, [], length, IfOk, IsTrue, ◌↔◌};
 ghost use Rattle.tl_diff.specs.Bounds.{IsSatisfiable};
 ghost use Rattle.tl_problem.specs.Layouts.{WithinPage};
 ghost use Rattle.tl_problem.specs.Sound.{IsSound};
@@ -10,6 +10,7 @@ ghost use Rattle.tl_problem.specs.inner.Constraints.{AddsFact, AddsRanges, AreAp
 
 use crate::{Cell, Problem, Zone};
 use std::alloc::AllocError;
+use tl_base::MAX_PAGE_WIDTH;
 use tl_diff::Matrix;
 
 /// The marks that a work holds at most: one for a zone, and others for its callers.
@@ -64,7 +65,7 @@ fn add_rooms(problem: &Problem, cells: &[Cell], matrix: &mut Matrix)
 fn keep_apart(matrix: &mut Matrix, a: u32, b: u32, least: u32) -> bool
     requires begins { a < matrix.old.bounds.n }
     requires ends { b < matrix.old.bounds.n }
-    requires small { least ≤ 1000 }
+    requires small { least ≤ MAX_PAGE_WIDTH + 2 }
     requires holds { IsSatisfiable matrix.old.bounds }
     ensures adds { AddsFact matrix.old matrix.new (λ x. AreApart x a b least) }
     ensures holds { IsTrue result ↔ IsSatisfiable matrix.new.bounds }
@@ -77,7 +78,7 @@ fn keep_apart(matrix: &mut Matrix, a: u32, b: u32, least: u32) -> bool
 fn keep_near(matrix: &mut Matrix, a: u32, b: u32, most: u32) -> bool
     requires begins { a < matrix.old.bounds.n }
     requires ends { b < matrix.old.bounds.n }
-    requires small { most ≤ 1000 }
+    requires small { most ≤ MAX_PAGE_WIDTH + 2 }
     requires holds { IsSatisfiable matrix.old.bounds }
     ensures adds { AddsFact matrix.old matrix.new (λ x. AreNear x a b most) }
     ensures holds { IsTrue result ↔ IsSatisfiable matrix.new.bounds }

@@ -12,7 +12,7 @@ ghost use Rattle.tl_problem.specs.inner.Demands.{AreArcs, GiveDemands, HaveEnds,
 use crate::axis::Axis;
 use crate::{Cell, Problem};
 use std::alloc::{AllocError, Global};
-use tl_base::List;
+use tl_base::{List, MAX_HEIGHT, MAX_ROWS};
 use tl_diff::{Arc, heaviest};
 
 /// An arc that stands in a buffer until another is written over it.
@@ -60,7 +60,7 @@ fn sizes_in(
 /// The least total height of rows that give each cell what it demands. `arcs` and `ends` are room.
 pub fn least_height(problem: &Problem, demands: &[u32], arcs: &mut [Arc], ends: &mut [u32]) -> u32
     requires count { length demands.now ≡ length problem.now.cells }
-    requires fits { sum demands.now ≤ 2 ^ 30 }
+    requires fits { sum demands.now ≤ MAX_HEIGHT }
     requires arc_room { length arcs.old ≡ length problem.now.cells }
     requires end_room { length ends.old ≡ problem.now.rows + 1 }
     ensures { IsLeastTotal (row_gap_of problem.now.style) (edge_of problem.now.style)
@@ -113,7 +113,7 @@ fn fill_arcs(problem: &Problem, axis: Axis, demands: &[u32], arcs: &mut [Arc])
 /// The arc of a cell: what it demands beyond the gaps inside its span.
 fn arc_of(axis: Axis, gap: u32, cell: &Cell, demand: u32) -> Arc
     requires ahead { start_of axis cell.now < end_of axis cell.now }
-    requires near { end_of axis cell.now ≤ 2001 }
+    requires near { end_of axis cell.now ≤ MAX_ROWS + 1 }
     requires small { gap ≤ 2 }
     ensures { result ≡ cell_arc axis gap cell.now demand }
 {

@@ -10,6 +10,7 @@ mod cell;
 mod chain;
 mod constraints;
 mod demands;
+mod laws;
 mod placed;
 mod placing;
 mod problem;
@@ -19,7 +20,11 @@ mod zone;
 
 pub use cell::{Cell, Span};
 pub use chain::{Chain, Entry};
+pub use laws::{
+    area_bound_is_below_layouts, bound_is_below_layouts, bound_is_below_placements,
+    cuts_are_partitions, one_class_is_exact, tight_once, tight_raises_nothing, whole_has_all,
+};
 pub use placed::Placed;
-pub use problem::{MAX_COLUMNS, MAX_LINES, MAX_ROWS, MAX_WIDTH, Problem};
+pub use problem::Problem;
 pub use work::Work;
 pub use zone::{Range, Zone};

@@ -1,6 +1,6 @@
 //! Placements: the least heights of rows under given widths, and tight and opening placements.
 
-ghost use Rattle.std.specs.Prelude.{◌≡◌, ℕ, ◌<◌, ◌≤◌, length, sum, IfOk, IsTrue, ◌↔◌, MatchOption};
+ghost use Rattle.std.specs.Prelude.{◌≡◌, ℕ, ◌+◌, ◌<◌, ◌≤◌, length, sum, IfOk, IsTrue, ◌↔◌, MatchOption};
 ghost use Rattle.tl_base.specs.Steps.{AreSteps, IsLeastWidthFor, first_width, height_at};
 ghost use Rattle.tl_problem.specs.Layouts.{WithinPage};
 ghost use Rattle.tl_problem.specs.Placements.{IsOpening, IsPlacement};
@@ -13,7 +13,7 @@ use crate::axis::Axis;
 use crate::demands::least_sizes;
 use crate::{Cell, Placed, Problem};
 use std::alloc::AllocError;
-use tl_base::List;
+use tl_base::{List, MAX_COLUMNS, MAX_PAGE_WIDTH, MAX_ROWS};
 
 impl Problem {
     /// The least heights of the rows under these widths, by the `high` steps of the cells. `None`
@@ -142,10 +142,10 @@ fn width_needs(problem: &Problem, cells: &[Cell], widths: &[u32]) -> Result<Vec<
 /// The height that the cell needs by `high` under these widths.
 fn high_at(gap: u32, widths: &[u32], cell: &Cell) -> u32
     requires gap { gap ≤ 2 }
-    requires sum { sum widths.now ≤ 500 }
+    requires sum { sum widths.now ≤ MAX_PAGE_WIDTH }
     requires ahead { cell.now.left < cell.now.right }
     requires within { cell.now.right ≤ length widths.now }
-    requires few { length widths.now ≤ 60 }
+    requires few { length widths.now ≤ MAX_COLUMNS }
     requires wide { first_width cell.now.high ≤ room gap widths.now cell.now.left cell.now.right }
     ensures { height_at cell.now.high (room gap widths.now cell.now.left cell.now.right) ≡ Some result }
 {
@@ -156,10 +156,10 @@ fn high_at(gap: u32, widths: &[u32], cell: &Cell) -> u32
 /// The least width at which the cell needs no more by `high` than under these widths.
 fn width_at(gap: u32, widths: &[u32], cell: &Cell) -> u32
     requires gap { gap ≤ 2 }
-    requires sum { sum widths.now ≤ 500 }
+    requires sum { sum widths.now ≤ MAX_PAGE_WIDTH }
     requires ahead { cell.now.left < cell.now.right }
     requires within { cell.now.right ≤ length widths.now }
-    requires few { length widths.now ≤ 60 }
+    requires few { length widths.now ≤ MAX_COLUMNS }
     requires wide { first_width cell.now.high ≤ room gap widths.now cell.now.left cell.now.right }
     requires steps { AreSteps cell.now.high }
     ensures { (h : ℕ) × ((height_at cell.now.high (room gap widths.now cell.now.left cell.now.right) ≡ Some h)
@@ -173,7 +173,7 @@ fn width_at(gap: u32, widths: &[u32], cell: &Cell) -> u32
 pub fn total_size(gap: u32, edge: u32, sizes: &[u32]) -> u64
     requires gap { gap ≤ 2 }
     requires edge { edge ≤ 2 }
-    requires few { length sizes.now ≤ 2001 }
+    requires few { length sizes.now ≤ MAX_ROWS + 1 }
     ensures { result ≡ total gap edge sizes.now }
 {
     if sizes.is_empty() {
@@ -184,7 +184,7 @@ pub fn total_size(gap: u32, edge: u32, sizes: &[u32]) -> u64
 
 /// The sum of sizes.
 fn sum_of(sizes: &[u32]) -> u64
-    requires { length sizes.now ≤ 2001 }
+    requires { length sizes.now ≤ MAX_ROWS + 1 }
     ensures { result ≡ sum sizes.now }
 {
     sizes.iter().map(|&size| u64::from(size)).sum()
@@ -193,10 +193,10 @@ fn sum_of(sizes: &[u32]) -> u64
 /// The room of a span of sizes, with the gaps between them.
 pub fn room_size(gap: u32, sizes: &[u32], from: u32, past: u32) -> u32
     requires gap { gap ≤ 2 }
-    requires sum { sum sizes.now ≤ 500 }
+    requires sum { sum sizes.now ≤ MAX_PAGE_WIDTH }
     requires ahead { from < past }
     requires within { past ≤ length sizes.now }
-    requires few { length sizes.now ≤ 60 }
+    requires few { length sizes.now ≤ MAX_COLUMNS }
     ensures { result ≡ room gap sizes.now from past }
 {
     small_sum(&sizes[from as usize..past as usize]) + gap * (past - from - 1)
@@ -204,7 +204,7 @@ pub fn room_size(gap: u32, sizes: &[u32], from: u32, past: u32) -> u32
 
 /// The sum of sizes that fit a page.
 fn small_sum(sizes: &[u32]) -> u32
-    requires { sum sizes.now ≤ 500 }
+    requires { sum sizes.now ≤ MAX_PAGE_WIDTH }
     ensures { result ≡ sum sizes.now }
 {
     sizes.iter().sum()

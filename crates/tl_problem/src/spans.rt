@@ -1,16 +1,16 @@
 //! The distinct spans of cells, and the classes of their widths.
 
-ghost use Rattle.std.specs.Prelude.{◌≡◌, ◌<◌, ◌≤◌, length, IfOk, OnOk};
+ghost use Rattle.std.specs.Prelude.{◌≡◌, ◌+◌, ◌<◌, ◌≤◌, length, IfOk, OnOk};
 ghost use Rattle.std.specs.List.{All};
 ghost use Rattle.tl_problem.specs.inner.Spanning.{AddsSteps, AreClasses, AreFirsts, AreSpans, IsInGrid, IsSeen, least_among};
 
 use crate::{Cell, Span};
 use std::alloc::{AllocError, Global};
-use tl_base::{Config, List};
+use tl_base::{Config, List, MAX_COLUMNS};
 
 /// The distinct spans of the cells, by left, then right.
 pub fn find_spans(alloc: Global, cols: u32, cells: &[Cell]) -> Result<Vec<Span>, AllocError>
-    requires few { cols ≤ 60 }
+    requires few { cols ≤ MAX_COLUMNS }
     requires grid { All (IsInGrid cols) cells.now }
     ensures { IfOk result (λ spans. AreSpans cells.now spans.items) }
 {
@@ -30,7 +30,7 @@ pub fn find_spans(alloc: Global, cols: u32, cells: &[Cell]) -> Result<Vec<Span>,
 
 /// For each left and right edge, row by row, whether a cell spans from the one to the other.
 fn seen_spans(alloc: Global, side: usize, cells: &[Cell]) -> Result<Vec<bool>, AllocError>
-    requires few { side ≤ 61 }
+    requires few { side ≤ MAX_COLUMNS + 1 }
     requires grid { All (λ cell. (cell.left < side) × (cell.right < side)) cells.now }
     ensures { IfOk result (λ seen. IsSeen side cells.now (length cells.now) seen.items) }
 {

@@ -4,19 +4,20 @@ use Rattle.std.specs.Prelude.{Option, sum}
 use Rattle.std.specs.List.{AllByRecursion, AllZip}
 use Rattle.std.specs.Str.{encode_utf8_all}
 use Rattle.std.proofs.lemmas.List.{length-map}
+use Rattle.std.proofs.lemmas.Slice.Zip.{AllZip-long}
 use Rattle.tl_base.specs.declared.style.Style.TheVariants.{Plain}
 use Rattle.tl_text.specs.declared.paragraph.Atom.{Atom}
 use Rattle.tl_text.specs.Cuttings.{joined}
-use Rattle.tl_form.specs.declared.layout.Layout.{Layout}
-use Rattle.tl_form.specs.Layout.{total_width, total_height, Fits}
-use Rattle.tl_form.specs.Least.{IsLeastWidth}
-use Rattle.tl_form.specs.TextPage.{IsTextPage}
+use Rattle.tl_program.specs.Table.{Layout}
+use Rattle.tl_program.specs.Layout.{total_width, total_height, Fits}
+use Rattle.tl_program.specs.Least.{IsLeastWidth}
+use Rattle.tl_program.specs.TextPage.{IsTextPage}
 use Rattle.tl_program.specs.Answer.{page_summary, narrow_summary, IsLowestPage, IsTooNarrowPage}
 use Rattle.tl_program.specs.OneColumn.{IsOneColumn}
 use Rattle.tl_program.specs.Column.{paragraph_of, column_of, column_layout}
 use Rattle.tl_program.specs.ColumnSizes.{FitsRow, RowNeeds, HoldsRow, IsLaid, IsWidest, IsTooNarrow}
 use Rattle.tl_program.proofs.ColumnRooms.{held_rows_fit, total-plain}
-use Rattle.tl_program.proofs.ColumnLayouts.{as_many, column_fits, column_is_least, column_is_tight, need_in_column, one_width, total-one}
+use Rattle.tl_program.proofs.ColumnLayouts.{column_fits, column_is_least, column_is_tight, need_in_column, one_width, total-one}
 
 -- the rows of a column that is laid out have cuttings in its width
 pub rows_hold : (w : ℕ) (rows : List (Option (List Atom))) (heights : List ℕ) → AllZip (FitsRow w) rows heights → AllByRecursion (HoldsRow w) rows
@@ -136,4 +137,4 @@ lowest_page width bytes rows texts w heights page summary form is laid shows tol
 pub few_heights : (width : ℕ) (bytes : List ℕ) (rows : List (Option (List Atom))) (texts : List (List ℕ)) (w : ℕ) (heights : List ℕ) →
     IsOneColumn bytes texts → rows ≡ map paragraph_of texts → IsLaid width rows w heights → length heights ≤ 1048576
 few_heights width bytes rows texts w heights form is laid =
-    omega (arith, form.rows, ap length is, length-map texts paragraph_of, as_many (FitsRow w) rows heights laid.fits)
+    omega (arith, form.rows, ap length is, length-map texts paragraph_of, AllZip-long (FitsRow w) rows heights laid.fits)

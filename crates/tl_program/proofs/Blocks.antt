@@ -6,7 +6,7 @@ use Rattle.tl_text.specs.Paragraph.{unit_width}
 use Rattle.tl_text.specs.Cuttings.{joined, LeastLines}
 use Rattle.tl_text.proofs.Paragraphs.{atoms-of-cut-fit}
 use Rattle.std.proofs.lemmas.List.Elements.{All-from_recursion}
-use Rattle.tl_form.specs.Layout.{FitsBlock}
+use Rattle.tl_program.specs.Layout.{FitsBlock}
 use Rattle.tl_program.proofs.ColumnRooms.{fits_wider}
 
 -- it fits as many lines as it needs

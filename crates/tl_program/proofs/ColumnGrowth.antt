@@ -5,32 +5,8 @@ use Rattle.std.specs.List.{AllByRecursion, AllZip}
 use Rattle.tl_text.proofs.Paragraphs.{HoldsIn-wider}
 use Rattle.tl_text.specs.declared.paragraph.Atom.{Atom}
 use Rattle.tl_program.specs.ColumnSizes.{FitsRow, RowNeeds, HoldsRow, IsWidest, IsSized, IsLaid, IsTooNarrowFor, IsTooNarrow}
+use Rattle.tl_base.proofs.Zips.{AllZip-push, AllZip-unpush, AllZip-get_or}
 use Rattle.tl_program.proofs.ColumnRooms.{fits_wider}
-
--- what holds at each place, and at one place more
-zip_more : {A B : Type 0} (R : A → B → Type 0) (xs : List A) (ys : List B) (x : A) (y : B) → AllZip R xs ys → R x y →
-    AllZip R (xs ++ x ∷ []) (ys ++ y ∷ [])
-zip_more R [] [] x y all one = (one, tt)
-zip_more R [] (b ∷ ys) x y all one = absurd all
-zip_more R (a ∷ xs) [] x y all one = absurd all
-zip_more R (a ∷ xs) (b ∷ ys) x y all one = (all.0, zip_more R xs ys x y all.1 one)
-
--- of lists that are as long as each other, what holds at each place and at one more
-zip_less : {A B : Type 0} (R S : A → B → Type 0) (xs : List A) (ys : List B) (x : A) (y : B) → AllZip S xs ys →
-    AllZip R (xs ++ x ∷ []) (ys ++ y ∷ []) → AllZip R xs ys × R x y
-zip_less R S [] [] x y long all = (tt, all.0)
-zip_less R S [] (b ∷ ys) x y long all = absurd long
-zip_less R S (a ∷ xs) [] x y long all = absurd long
-zip_less R S (a ∷ xs) (b ∷ ys) x y long all =
-    let rest = zip_less R S xs ys x y long.1 all.1 in ((all.0, rest.0), rest.1)
-
--- what holds at each place holds at one of them
-zip_at : {A B : Type 0} (R : A → B → Type 0) (xs : List A) (ys : List B) (k : ℕ) (x : A) (y : B) → AllZip R xs ys → k < length xs →
-    R (get_or xs k x) (get_or ys k y)
-zip_at R [] ys k x y all within = absurd (omega arith)
-zip_at R (a ∷ xs) [] k x y all within = absurd all
-zip_at R (a ∷ xs) (b ∷ ys) zero x y all within = all.0
-zip_at R (a ∷ xs) (b ∷ ys) (suc k) x y all within = zip_at R xs ys k x y all.1 (omega arith)
 
 -- a row that fits a width fits a greater one
 row_wider : (w v h : ℕ) (row : Option (List Atom)) → w ≤ v → FitsRow w row h → FitsRow v row h
@@ -48,18 +24,18 @@ pub laid_more : (page : ℕ) (rows : List (Option (List Atom))) (width : ℕ) (h
     IsLaid page rows width heights → IsSized page row w h → both ≡ max width w → IsLaid page (rows ++ row ∷ []) both (heights ++ h ∷ [])
 laid_more page rows width heights row w h both laid sized is = record {
   within = omega (arith, laid.within, sized.within);
-  fits = zip_more (FitsRow both) rows heights row h (rows_wider width both rows heights (omega arith) laid.fits)
+  fits = AllZip-push (FitsRow both) rows heights row h (rows_wider width both rows heights (omega arith) laid.fits)
       (row_wider w both h row (omega arith) sized.fits);
-  needs = zip_more (RowNeeds page) rows heights row h laid.needs sized.needs;
+  needs = AllZip-push (RowNeeds page) rows heights row h laid.needs sized.needs;
   slim = λ v fits.
-      let parts = zip_less (FitsRow v) (FitsRow width) rows heights row h laid.fits fits in
+      let parts = AllZip-unpush (FitsRow v) (FitsRow width) rows heights row h laid.fits fits in
       omega (arith, laid.slim v parts.0, sized.slim v parts.1);
 }
 
 -- a row for which the page is too narrow
 pub too_narrow_at : (page : ℕ) (rows : List (Option (List Atom))) (k : ℕ) (d : Option (List Atom)) → k < length rows →
     IsTooNarrowFor page (get_or rows k d) → IsTooNarrow page rows
-too_narrow_at page rows k d within narrow = λ w heights le fits. narrow w (get_or heights k 0) le (zip_at (FitsRow w) rows heights k d 0 fits within)
+too_narrow_at page rows k d within narrow = λ w heights le fits. narrow w (get_or heights k 0) le (AllZip-get_or (FitsRow w) rows heights k d 0 fits within)
 
 -- a row that has a cutting has one in each greater width
 holds_row_wider : (w v : ℕ) (row : Option (List Atom)) → w ≤ v → HoldsRow w row → HoldsRow v row

@@ -7,21 +7,16 @@ use Rattle.tl_base.specs.declared.style.Style.TheVariants.{Plain}
 use Rattle.tl_text.specs.declared.paragraph.Atom.{Atom}
 use Rattle.tl_text.specs.Cuttings.{joined, LeastLines}
 use Rattle.tl_text.proofs.Paragraphs.{HoldsIn-wider}
-use Rattle.tl_form.specs.declared.layout.Layout.{Layout}
+use Rattle.tl_program.specs.Table.{Layout}
 use Rattle.tl_problem.specs.Sizes.{room, total, position}
-use Rattle.tl_form.specs.Layout.{total_height, HoldsCell, Fits}
-use Rattle.tl_form.specs.Least.{IsLeastHeight}
-use Rattle.tl_form.specs.Tight.{NeedsNoMore, IsTight}
+use Rattle.tl_program.specs.Layout.{total_height, HoldsCell, Fits}
+use Rattle.tl_program.specs.Least.{IsLeastHeight}
+use Rattle.tl_program.specs.Tight.{NeedsNoMore, IsTight}
 use Rattle.tl_program.specs.Column.{cells_from, column_of, column_layout}
 use Rattle.tl_program.specs.ColumnSizes.{FitsRow, RowNeeds}
-use Rattle.tl_program.proofs.ColumnRooms.{column_room, row_fits, rows_are_held, held_rows_fit, needs_are_least, sum-take-le, sum-le, sum-one, total-plain}
-
--- as many heights as rows
-pub as_many : (R : Option (List Atom) → ℕ → Type 0) (rows : List (Option (List Atom))) (heights : List ℕ) → AllZip R rows heights → length heights ≡ length rows
-as_many R [] [] all = refl
-as_many R [] (h ∷ heights) all = absurd all
-as_many R (row ∷ rows) [] all = absurd all
-as_many R (row ∷ rows) (h ∷ heights) all = ap suc (as_many R rows heights all.1)
+use Rattle.tl_program.proofs.ColumnRooms.{column_room, row_fits, rows_are_held, held_rows_fit, needs_are_least, total-plain}
+use Rattle.tl_base.proofs.Sums.{sum-one, sum-le, sum-take-le}
+use Rattle.std.proofs.lemmas.Slice.Zip.{AllZip-long}
 
 -- a list of one number
 one_number : (sizes : List ℕ) → length sizes ≡ 1 → (n : ℕ) × (sizes ≡ n ∷ [])
@@ -34,14 +29,14 @@ pub column_fits : (w s : ℕ) (rows : List (Option (List Atom))) (heights : List
     Fits (column_of rows) Plain w (total_height Plain (column_layout rows s heights)) (column_layout rows s heights)
 column_fits w s [] heights le fit = record {
   columns = refl;
-  rows = as_many (FitsRow s) [] heights fit;
+  rows = AllZip-long (FitsRow s) [] heights fit;
   within = omega arith;
   high = refl;
   cells = tt;
 }
 column_fits w s (row ∷ rows) heights le fit = record {
   columns = omega arith;
-  rows = as_many (FitsRow s) (row ∷ rows) heights fit;
+  rows = AllZip-long (FitsRow s) (row ∷ rows) heights fit;
   within = omega arith;
   high = refl;
   cells = rows_are_held (column_layout (row ∷ rows) s heights) s refl [] 0 (row ∷ rows) heights refl refl fit;

@@ -7,10 +7,10 @@ use Rattle.std.proofs.lemmas.Str.{encodes-append}
 use Rattle.tl_text.specs.declared.paragraph.Atom.{Atom}
 use Rattle.tl_text.specs.Cuttings.{joined, IsGreedyCutting}
 use Rattle.tl_text.proofs.Paragraphs.{LeastLines-falls}
-use Rattle.tl_form.specs.declared.layout.Layout.{Layout}
-use Rattle.tl_form.specs.Table.{Cell, Table}
+use Rattle.tl_program.specs.Table.{Layout}
+use Rattle.tl_program.specs.Table.{Cell, Table}
 use Rattle.tl_problem.specs.Sizes.{room, position}
-use Rattle.tl_form.specs.TextPage.{filled, IsContent, Shown, ShowsCells, covers, piece, with_gaps, page_line, row_lines, IsTextPage}
+use Rattle.tl_program.specs.TextPage.{filled, IsContent, Shown, ShowsCells, covers, piece, with_gaps, page_line, row_lines, IsTextPage}
 use Rattle.tl_program.specs.Column.{cells_from, column_of, column_layout, ShowsRow, lines_text}
 use Rattle.tl_program.specs.ColumnSizes.{RowNeeds}
 use Rattle.tl_program.proofs.ColumnRooms.{column_room}

@@ -4,13 +4,14 @@ use Rattle.std.specs.Prelude.{Option, sum, slice_range, option_to_list}
 use Rattle.std.specs.List.{AllZip, AllByRecursion}
 use Rattle.std.proofs.lemmas.List.Sums.{sum_by-cons}
 use Rattle.std.proofs.Math.Seq.{drop-append_seam}
+use Rattle.tl_base.proofs.Sums.{sum-one}
 use Rattle.tl_base.specs.declared.style.Style.TheVariants.{Plain}
 use Rattle.tl_text.specs.declared.paragraph.Atom.{Atom}
 use Rattle.tl_text.specs.Cuttings.{joined}
 use Rattle.tl_text.proofs.Paragraphs.{HoldsIn-wider}
-use Rattle.tl_form.specs.declared.layout.Layout.{Layout}
+use Rattle.tl_program.specs.Table.{Layout}
 use Rattle.tl_problem.specs.Sizes.{room, total}
-use Rattle.tl_form.specs.Layout.{FitsBlock, FitBlocks, HoldsCell}
+use Rattle.tl_program.specs.Layout.{FitsBlock, FitBlocks, HoldsCell}
 use Rattle.tl_program.specs.Column.{cells_from}
 use Rattle.tl_program.specs.ColumnSizes.{FitsRow, RowNeeds}
 
@@ -18,10 +19,6 @@ use Rattle.tl_program.specs.ColumnSizes.{FitsRow, RowNeeds}
 pub fits_wider : (w v g h : ℕ) (paragraph : List Atom) → w ≤ v → g ≤ h → FitsBlock w paragraph g → FitsBlock v paragraph h
 fits_wider w v g h paragraph le more (cut, cutting, holds, high) =
     (cut, cutting, HoldsIn-wider w v cut le holds, omega arith)
-
--- the sum of one number
-pub sum-one : (n : ℕ) → sum (n ∷ []) ≡ n
-sum-one n = omega (arith, sum_by-cons (λ x. x) n [])
 
 -- a room of one size is that size
 pub room-one : (gap : ℕ) (before rest : List ℕ) (size : ℕ) → room gap (before ++ (size ∷ rest)) (length before) (length before + 1) ≡ size
@@ -101,24 +98,6 @@ needs_are_least w v (row ∷ rows) (n ∷ needs) (h ∷ heights) le need fit =
       least None need fit = omega arith
       least (Some paragraph) need (cut, cutting, holds, high) =
           let few : n ≤ length (joined cut) = need.least cut cutting (HoldsIn-wider w v cut le holds) in omega arith
-
--- sums follow their parts, up to each place
-pub sum-take-le : (needs heights : List ℕ) (place : ℕ) → AllZip (λ need height. need ≤ height) needs heights →
-    sum (take place needs) ≤ sum (take place heights)
-sum-take-le needs heights zero le = omega arith
-sum-take-le [] [] (suc place) le = omega arith
-sum-take-le [] (h ∷ heights) (suc place) le = absurd le
-sum-take-le (n ∷ needs) [] (suc place) le = absurd le
-sum-take-le (n ∷ needs) (h ∷ heights) (suc place) le =
-    omega (arith, le.0, sum-take-le needs heights place le.1, sum_by-cons (λ x. x) n (take place needs), sum_by-cons (λ x. x) h (take place heights))
-
--- the sum of all of them
-pub sum-le : (needs heights : List ℕ) → AllZip (λ need height. need ≤ height) needs heights → sum needs ≤ sum heights
-sum-le [] [] le = omega arith
-sum-le [] (h ∷ heights) le = absurd le
-sum-le (n ∷ needs) [] le = absurd le
-sum-le (n ∷ needs) (h ∷ heights) le =
-    omega (arith, le.0, sum-le needs heights le.1, sum_by-cons (λ x. x) n needs, sum_by-cons (λ x. x) h heights)
 
 -- the total of a column's heights is their sum
 pub total-plain : (heights : List ℕ) → total 0 0 heights ≡ sum heights

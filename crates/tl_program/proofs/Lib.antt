@@ -5,6 +5,7 @@ pub mod ColumnLayouts
 pub mod ColumnPages
 pub mod ColumnRooms
 pub mod Ends
+mod Examples
 pub mod FormAnswers
 pub mod LineTexts
 pub mod Prefixes

@@ -10,7 +10,7 @@ use Rattle.tl_text.specs.declared.paragraph.Atom.TheVariants.{Break}
 use Rattle.tl_text.specs.Paragraph.{unit_width, gap_before}
 use Rattle.tl_text.specs.Cuttings.{line_width}
 use Rattle.tl_text.proofs.Widths.{line_width-push}
-use Rattle.tl_form.specs.TextPage.{spaces, unit_text, line_text, filled}
+use Rattle.tl_program.specs.TextPage.{spaces, unit_text, line_text, filled}
 use Rattle.tl_program.specs.Column.{gap_in_line}
 
 -- a space takes a byte

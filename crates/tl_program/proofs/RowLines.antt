@@ -9,7 +9,7 @@ use Rattle.tl_text.specs.Paragraph.{unit_width, atom_size}
 use Rattle.tl_text.specs.Cuttings.{joined, HasCutting, LeastLines}
 use Rattle.tl_text.specs.Ranges.{AreInOrder, ShowsLine, ShowsGreedyCutting, IsFirstTooWide}
 use Rattle.tl_text.proofs.Paragraphs.{AllFit, atoms-of-cut-fit}
-use Rattle.tl_form.specs.TextPage.{filled}
+use Rattle.tl_program.specs.TextPage.{filled}
 use Rattle.tl_program.specs.Column.{ShowsRow, ranged, lines_text}
 use Rattle.tl_program.proofs.LineTexts.{filled-break, written_more}
 

@@ -2,11 +2,11 @@
 use Rattle.std.specs.Prelude.{◌≡◌, ℕ, List, [], ◌∷◌, ◌++◌, codes, decimal, string_bytes}
 use Rattle.std.specs.Str.{encode_utf8_all}
 use Rattle.tl_base.specs.declared.style.Style.TheVariants.{Plain}
-use Rattle.tl_form.specs.declared.layout.Layout.{Layout}
-use Rattle.tl_form.specs.Layout.{total_width, Fits}
-use Rattle.tl_form.specs.Least.{IsLeastHeight, IsLeastWidth}
-use Rattle.tl_form.specs.Tight.{IsTight}
-use Rattle.tl_form.specs.TextPage.{IsTextPage}
+use Rattle.tl_program.specs.Table.{Layout}
+use Rattle.tl_program.specs.Layout.{total_width, Fits}
+use Rattle.tl_program.specs.Least.{IsLeastHeight, IsLeastWidth}
+use Rattle.tl_program.specs.Tight.{IsTight}
+use Rattle.tl_program.specs.TextPage.{IsTextPage}
 use Rattle.tl_program.specs.declared.answer.Answer.{Answer}
 use Rattle.tl_program.specs.declared.answer.Answer.TheVariants.{Page, Narrow, OtherForm}
 use Rattle.tl_program.specs.OneColumn.{IsOneColumn}

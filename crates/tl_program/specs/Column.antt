@@ -7,9 +7,9 @@ use Rattle.tl_text.specs.declared.ranges.Line.{Line}
 use Rattle.tl_text.specs.Words.{words_of}
 use Rattle.tl_text.specs.Paragraph.{gap_before}
 use Rattle.tl_text.specs.Cuttings.{joined, IsGreedyCutting, LeastLines}
-use Rattle.tl_form.specs.declared.layout.Layout.{Layout}
-use Rattle.tl_form.specs.Table.{Cell, Table}
-use Rattle.tl_form.specs.TextPage.{filled}
+use Rattle.tl_program.specs.Table.{Layout}
+use Rattle.tl_program.specs.Table.{Cell, Table}
+use Rattle.tl_program.specs.TextPage.{filled}
 
 -- the paragraph that words make: none where there is no word
 abbrev pub paragraph_of_words : List (List ℕ) → Option (List Atom)

@@ -3,7 +3,7 @@ use Rattle.std.specs.Prelude.{◌≡◌, ℕ, ◌≤◌, List, Option, Some, Non
 use Rattle.std.specs.List.{AllByRecursion, AllZip}
 use Rattle.tl_text.specs.declared.paragraph.Atom.{Atom}
 use Rattle.tl_text.specs.Cuttings.{HasCutting, LeastLines}
-use Rattle.tl_form.specs.Layout.{FitsBlock}
+use Rattle.tl_program.specs.Layout.{FitsBlock}
 
 -- a row's paragraph, if it has one, fits in `w` columns and `h` lines
 abbrev pub FitsRow : ℕ → Option (List Atom) → ℕ → Type 0

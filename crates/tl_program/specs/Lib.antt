@@ -2,5 +2,10 @@ pub mod Answer
 pub mod Column
 pub mod ColumnSizes
 pub mod Command
+pub mod Layout
+pub mod Least
 pub mod OneColumn
 pub mod Run
+pub mod Table
+pub mod TextPage
+pub mod Tight

@@ -1,6 +1,6 @@
 ghost use Rattle.std.specs.Prelude.{◌≡◌, ◌≤◌, ℕ, List, length, sum, Option, Some, IfOk, IfSome, IfNone, IsTrue, ◌↔◌};
 ghost use Rattle.tl_text.specs.declared.paragraph.Atom.{Atom};
-ghost use Rattle.tl_form.specs.Layout.{FitsBlock};
+ghost use Rattle.tl_program.specs.Layout.{FitsBlock};
 ghost use Rattle.tl_program.specs.ColumnSizes.{HoldsRow, IsWidest, IsSized, IsLaid, IsTooNarrowFor, IsTooNarrow};
 
 use std::alloc::{AllocError, Global};

@@ -1,6 +1,5 @@
-pub mod Bytes
 pub mod Leading
-pub mod Parts
+pub mod WordLemmas
 pub mod Sizes
 pub mod Widths
 mod Examples
@@ -10,4 +9,5 @@ pub mod Rest
 pub mod Filled
 pub mod RangeSteps
 pub mod WordParagraphs
+pub mod ClusterLemmas
 pub mod Minimals

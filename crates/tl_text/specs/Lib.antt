@@ -1,6 +1,7 @@
 pub mod Words
 pub mod Paragraph
+pub mod Clusters
 pub mod Cuttings
-pub mod inner
 pub mod Minimal
 pub mod Ranges
+pub mod inner

@@ -1,7 +1,8 @@
 //! Breaks paragraphs into lines. It knows words, widths and lines, and no tables. Its one contract:
-//! no cutting of a paragraph that holds in a width has fewer lines than these calls answer.
+//! no cutting of a paragraph that holds in a width has fewer lines than these calls return.
 #![tactic(auto)]
 
+mod clusters;
 mod cutting;
 mod filling;
 mod measure;
@@ -12,6 +13,7 @@ mod ranges;
 mod tests;
 mod word;
 
+pub use clusters::part;
 pub use cutting::{count_lines, least_width};
 pub use minimal::configs;
 pub use paragraph::{Atom, Para};

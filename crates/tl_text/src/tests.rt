@@ -1,5 +1,7 @@
-use crate::{Atom, Para, TextError, configs, count_lines, least_width, lines, words};
-use std::alloc::Global;
+//! Words, units and lines counted by hand, and each call at its limit.
+
+use crate::{Atom, Para, TextError, configs, count_lines, least_width, lines, part, words};
+use std::alloc::{AllocError, Global};
 use std::test::Fail;
 use tl_base::{List, Text};
 
@@ -24,8 +26,36 @@ fn paragraph(alloc: Global, spelt: &str) -> Result<Para, Fail> {
     Ok(Para::new(atoms(alloc, spelt)?).ok_or("no paragraph")?)
 }
 
+/// The paragraph as it is written by hand.
+fn written(alloc: Global, p: &Para) -> Result<String, AllocError> {
+    let mut line = String::new(alloc);
+    for atom in p.atoms() {
+        if !line.is_empty() {
+            line.push(' ')?;
+        }
+        match atom {
+            Atom::Word(text) => line.push_str(text.as_str())?,
+            Atom::Glue(text) => {
+                line.push('+')?;
+                line.push_str(text.as_str())?;
+            }
+            Atom::Break => line.push('/')?,
+        }
+    }
+    Ok(line)
+}
+
+/// A paragraph of so many words of four columns.
+fn long_paragraph(alloc: Global, words: u32) -> Result<Para, Fail> {
+    let mut list = List::new(alloc);
+    for _ in 0..words {
+        list.push(Atom::Word(Text::from_str(alloc, "word")?))?;
+    }
+    Ok(Para::new(list).ok_or("no paragraph")?)
+}
+
 #[test]
-fn words_are_parted_by_ascii_white_space_alone(rt: HostRuntime) -> Result<(), Fail> {
+fn words_are_separated_by_ascii_white_space_alone(rt: HostRuntime) -> Result<(), Fail> {
     for (text, want) in [
         ("", ""),
         (" \t\n\u{c}\r", ""),
@@ -176,19 +206,81 @@ fn the_first_unit_that_is_too_wide_is_named(rt: HostRuntime) -> Result<(), Fail>
 
 // Words of four columns: a line of w columns holds (w + 1) / 5 of them.
 #[test]
-fn a_long_paragraph_is_answered_at_all_widths(rt: HostRuntime) -> Result<(), Fail> {
-    let mut list = List::new(rt.alloc());
-    for _ in 0..10_000 {
-        list.push(Atom::Word(Text::from_str(rt.alloc(), "word")?))?;
-    }
-    let p = Para::new(list).ok_or("no paragraph")?;
+fn a_long_paragraph_has_the_least_number_of_lines_at_each_width(
+    rt: HostRuntime,
+) -> Result<(), Fail> {
+    let p = long_paragraph(rt.alloc(), 70_000)?;
     assert!(rt; least_width(&p) <= 500);
     let steps = configs(rt.alloc(), &p, 500)?;
     for width in 4..=500 {
         let held = (width + 1) / 5;
         assert!(rt; held > 0);
-        let want = (10_000u32).div_ceil(held);
+        let want = (70_000u32).div_ceil(held);
         assert_eq!(rt; steps.height_at(width), Some(want), "{width}");
+    }
+    for (width, want) in [(4, 70_000), (14, 23_334), (500, 700)] {
+        let made = lines(rt.alloc(), &p, width).ok().map(|made| made.len());
+        assert_eq!(rt; made, Some(want), "{width}");
+    }
+    Ok(())
+}
+
+#[test]
+fn a_long_text_has_each_of_its_words(rt: HostRuntime) -> Result<(), Fail> {
+    let mut text = String::new(rt.alloc());
+    for _ in 0..10_000 {
+        text.push_str("a bb\tccc ")?;
+    }
+    assert_eq!(rt; words(rt.alloc(), text.as_str())?.len(), 30_000);
+    Ok(())
+}
+
+#[test]
+fn a_word_is_separated_between_its_grapheme_clusters(rt: HostRuntime) -> Result<(), Fail> {
+    for (spelt, want) in [
+        ("abc", "a +b +c"),
+        ("e\u{301}e\u{301}", "e\u{301} +e\u{301}"),
+        // two regional indicators are a flag, and a third stands alone
+        ("\u{1f1f7}\u{1f1fa}", "\u{1f1f7}\u{1f1fa}"),
+        (
+            "\u{1f1f7}\u{1f1fa}\u{1f1f8}",
+            "\u{1f1f7}\u{1f1fa} +\u{1f1f8}",
+        ),
+        ("中文 ab", "中 +文 a +b"),
+        // breaks stay, and so does a unit that goes on with a word
+        ("/ ab / / c /", "/ a +b / / c /"),
+        ("ab +cd", "a +b +cd"),
+    ] {
+        let p = paragraph(rt.alloc(), spelt)?;
+        let separated = part(rt.alloc(), &p)?;
+        assert_eq!(rt; written(rt.alloc(), &separated)?.as_str(), want);
+    }
+    Ok(())
+}
+
+#[test]
+fn the_longest_word_and_a_long_paragraph_are_separated(rt: HostRuntime) -> Result<(), Fail> {
+    let mut text = String::new(rt.alloc());
+    for _ in 0..1 << 20 {
+        text.push('a')?;
+    }
+    let p = paragraph(rt.alloc(), text.as_str())?;
+    assert_eq!(rt; part(rt.alloc(), &p)?.atoms().len(), 1 << 20);
+    let p = long_paragraph(rt.alloc(), 70_000)?;
+    assert_eq!(rt; part(rt.alloc(), &p)?.atoms().len(), 280_000);
+    Ok(())
+}
+
+#[test]
+fn each_error_has_its_message(rt: HostRuntime) -> Result<(), Fail> {
+    for (error, want) in [
+        (TextError::Memory(AllocError), "out of memory"),
+        (
+            TextError::TooWide(7),
+            "the unit at 7 is wider than the width",
+        ),
+    ] {
+        assert_eq!(rt; format!(in rt.alloc(); "{error}")?.as_str(), want);
     }
     Ok(())
 }
@@ -200,6 +292,7 @@ fn paragraphs_lines_and_steps_may_go_to_other_threads(rt: HostRuntime) -> Result
     let p = paragraph(rt.alloc(), "aa bb")?;
     assert!(rt; least_width(&p) <= 7);
     share(lines(rt.alloc(), &p, 5));
+    share(part(rt.alloc(), &p));
     share(configs(rt.alloc(), &p, 7));
     share(p);
     Ok(())

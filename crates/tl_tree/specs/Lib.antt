@@ -1,2 +1,7 @@
+pub mod inner
+pub mod Tags
+pub mod Grammar
+pub mod Paragraphs
 pub mod Outline
+pub mod Spelling
 pub mod Sound

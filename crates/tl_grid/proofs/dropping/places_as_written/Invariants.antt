@@ -1,6 +1,5 @@
 use Rattle.std.proofs.Common.{◌≡◌, length, take, replicate}
-use Rattle.tl_grid.specs.Dropping.{nowhere}
-use Rattle.tl_grid.specs.Places.{put_places}
+use Rattle.tl_grid.specs.inner.Places.{nowhere, put_places}
 use Rattle.tl_grid.proofs.dropping.places_as_written.Given as goal
 
 -- the places of the blocks up to here

@@ -1,5 +1,5 @@
 use Rattle.std.proofs.Common.{◌≡◌, ◌++◌, map, take}
-use Rattle.tl_grid.specs.Walk.{settled}
+use Rattle.tl_grid.specs.inner.Walk.{settled}
 use Rattle.tl_grid.proofs.table.end_group.Given as goal
 
 -- the group's blocks up to here are in the table, and grow no more

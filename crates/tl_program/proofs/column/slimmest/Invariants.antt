@@ -1,6 +1,6 @@
 -- The paragraph is low enough at `high`, and in no width below `low`.
 use Rattle.std.proofs.Common.{ℕ, ◌-◌, ◌≤◌}
-use Rattle.tl_form.specs.Layout.{FitsBlock}
+use Rattle.tl_program.specs.Layout.{FitsBlock}
 use Rattle.tl_program.proofs.column.slimmest.Given as goal
 
 abbrev pub invariant-loop-low : goal.invariant-loop-low

@@ -1,6 +1,6 @@
 -- The units, the spaces and the line feed are the filled line.
 use Rattle.std.proofs.Common.{◌++◌, ◌-◌, ◌∙◌, ap}
-use Rattle.tl_form.specs.TextPage.{spaces}
+use Rattle.tl_program.specs.TextPage.{spaces}
 use Rattle.tl_program.proofs.LineTexts.{line_written}
 use Rattle.tl_program.proofs.page.write_line.Goals as goal
 

@@ -1,6 +1,6 @@
 -- One more unit is written behind those so far.
 use Rattle.std.proofs.Common.{◌<◌, ◌∙◌, ◌++◌, encode_utf8_all, length, take, ap, sym, arith}
-use Rattle.tl_form.specs.TextPage.{line_text}
+use Rattle.tl_program.specs.TextPage.{line_text}
 use Rattle.tl_program.proofs.LineTexts.{written_more, units_more}
 use Rattle.tl_program.proofs.page.write_units.Goals as goal
 

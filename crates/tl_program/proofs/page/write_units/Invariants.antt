@@ -1,7 +1,7 @@
 -- The units so far are written.
 use Rattle.std.proofs.Common.{◌≡◌, ◌++◌, ◌*◌, ◌≤◌, take, encode_utf8_all}
 use Rattle.tl_text.specs.Cuttings.{line_width}
-use Rattle.tl_form.specs.TextPage.{line_text}
+use Rattle.tl_program.specs.TextPage.{line_text}
 use Rattle.tl_program.proofs.page.write_units.Given as goal
 
 abbrev pub invariant-loop-at : goal.invariant-loop-at

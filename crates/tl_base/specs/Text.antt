@@ -1,0 +1,7 @@
+-- Texts, which contracts see as the lists of their characters (Unicode scalar values).
+use Rattle.std.specs.Prelude.{ℕ, List, length}
+use Rattle.std.specs.Str.{encode_utf8_all}
+
+-- how many bytes a text takes in UTF-8
+abbrev pub byte_count : List ℕ → ℕ
+byte_count text = length (encode_utf8_all text)

@@ -1,0 +1,14 @@
+pub mod Numerals
+pub mod Runs
+pub mod NumeralDigits
+pub mod Spellings
+pub mod Exact
+pub mod Sequence
+pub mod Words
+pub mod Choice
+pub mod NumberReading
+pub mod Same
+pub mod ListExact
+pub mod Unlimited
+pub mod Parts
+pub mod Loops

@@ -1,0 +1,14 @@
+use Rattle.std.proofs.Common.{◌≡◌, ap, sym, ◌∙◌, subst}
+use Rattle.std.proofs.lemmas.List.{take_all}
+use Rattle.tl_text.specs.Paragraph.{IsParagraph}
+use Rattle.tl_text.specs.Clusters.{by_clusters}
+use Rattle.tl_text.proofs.ClusterLemmas.{separated_paragraph}
+use Rattle.tl_text.proofs.clusters.part.Goals as goal
+
+pub of_units-requires : goal.of_units-requires
+of_units-requires c =
+    let atoms = c.atoms-atoms.result.now in
+    let all : c.loop-atom.units ≡ by_clusters c.args.p.now =
+    c.loop-atom.invariant ∙ ap by_clusters (take_all c.loop-atom.atom-index atoms c.loop-atom-test.false ∙ c.atoms-atoms.ensures.atoms)
+    in
+    subst IsParagraph (sym all) (separated_paragraph c.args.p.now c.atoms-atoms.ensures.sound)

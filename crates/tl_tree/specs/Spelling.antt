@@ -1,0 +1,109 @@
+-- Which trees tokens spell, within which limits, and when each error comes.
+use Rattle.std.specs.Prelude.{◌≡◌, ◌<◌, ◌≤◌, ℕ, ◌+◌, ◌-◌, ◌⊎◌, true, false, List, [], ◌∷◌, ◌++◌, length, IsTrue, IsFalse, Result, Ok, Err, alloc_error}
+use Rattle.tl_token.specs.declared.token.Token.{Token}
+use Rattle.tl_tree.specs.Tags.{Kind, Kinds, table_start, table_end, kinds, is_text}
+use Rattle.tl_tree.specs.Grammar.{Marks, Document}
+use Rattle.tl_tree.specs.Paragraphs.{entries_of}
+use Rattle.tl_tree.specs.Outline.{outline}
+use Rattle.tl_tree.specs.declared.node.TableNode.{TableNode}
+use Rattle.tl_tree.specs.declared.error.TreeError.{TreeError}
+use Rattle.tl_tree.specs.declared.error.TreeError.TheVariants.{Memory, NoTable, StrayText, Misplaced, Unclosed, TooDeep, TooManyTables}
+
+abbrev pub Tokens : Type 0
+Tokens = List Token
+
+-- The tokens spell the tree: they are a document whose marks make the outline of the tree.
+pub record SpellsTree (tokens : Tokens) (node : TableNode) : Type 0 where
+  pub marks : Marks
+  pub document : Document (kinds tokens) marks
+  pub same : outline node ≡ entries_of 0 marks
+
+-- other tokens after these make them a document
+abbrev pub IsPrefix : Kinds → Type 0
+IsPrefix ks = (more : Kinds) × (ms : Marks) × Document (ks ++ more) ms
+
+-- how many tables are open after a token, where so many were open before it
+abbrev pub depth_with : ℕ → Kind → ℕ
+depth_with depth table_start = depth + 1
+depth_with depth table_end = depth - 1
+depth_with depth _ = depth
+
+abbrev pub depth_after : ℕ → Kinds → ℕ
+depth_after depth [] = depth
+depth_after depth (k ∷ ks) = depth_after (depth_with depth k) ks
+
+-- how many tables have begun, where so many had begun before
+abbrev pub tables_with : ℕ → Kind → ℕ
+tables_with tables table_start = tables + 1
+tables_with tables _ = tables
+
+abbrev pub tables_after : ℕ → Kinds → ℕ
+tables_after tables [] = tables
+tables_after tables (k ∷ ks) = tables_after (tables_with tables k) ks
+
+-- a table that begins is inside fewer than 8 others, and fewer than 200 have begun before it
+abbrev pub FitsLimits : ℕ → ℕ → Kind → Type 0
+FitsLimits depth tables table_start = (depth < 8) × (tables < 200)
+FitsLimits depth tables _ = Unit {0}
+
+abbrev pub FitLimits : ℕ → ℕ → Kinds → Type 0
+FitLimits depth tables [] = Unit {0}
+FitLimits depth tables (k ∷ ks) = FitsLimits depth tables k × FitLimits (depth_with depth k) (tables_with tables k) ks
+
+-- every table of the tokens is within the limits
+abbrev pub IsWithinLimits : Kinds → Type 0
+IsWithinLimits ks = FitLimits 0 0 ks
+
+-- The token of that number is wrong: the tokens before it are within the limits and begin a document.
+pub record IsWrongAt (ks : Kinds) (n : ℕ) (IsWrong : Kinds → Kind → Type 0) : Type 0 where
+  pub front : Kinds
+  pub token : Kind
+  pub rest : Kinds
+  pub split : ks ≡ front ++ (token ∷ rest)
+  pub place : length front ≡ n
+  pub begun : IsPrefix front
+  pub within : IsWithinLimits front
+  pub wrong : IsWrong front token
+
+-- a text, or a tag, with which the tokens before it begin no document
+abbrev pub IsStray : Kinds → Kind → Type 0
+IsStray front token = IsTrue (is_text token) × ¬ (IsPrefix (front ++ token ∷ []))
+
+abbrev pub IsMisplaced : Kinds → Kind → Type 0
+IsMisplaced front token = IsFalse (is_text token) × ¬ (IsPrefix (front ++ token ∷ []))
+
+-- a table that begins inside 8 others
+abbrev pub IsTooDeep : Kinds → Kind → Type 0
+IsTooDeep front token = (token ≡ table_start) × IsPrefix (front ++ token ∷ []) × (8 ≤ depth_after 0 front)
+
+-- a table that begins after 200 others, and not inside 8
+abbrev pub IsOneTooMany : Kinds → Kind → Type 0
+IsOneTooMany front token =
+    (token ≡ table_start) × IsPrefix (front ++ token ∷ []) × (depth_after 0 front < 8) × (200 ≤ tables_after 0 front)
+
+-- The error that refuses the tokens; out of memory is none of them.
+abbrev pub IsRefused : Kinds → TreeError → Type 0
+IsRefused ks (Memory error) = ⊥
+IsRefused ks NoTable = IsPrefix ks × (tables_after 0 ks ≡ 0)
+IsRefused ks (StrayText n) = IsWrongAt ks n IsStray
+IsRefused ks (Misplaced n) = IsWrongAt ks n IsMisplaced
+IsRefused ks Unclosed = IsPrefix ks × IsWithinLimits ks × (0 < depth_after 0 ks)
+IsRefused ks (TooDeep n) = IsWrongAt ks n IsTooDeep
+IsRefused ks (TooManyTables n) = IsWrongAt ks n IsOneTooMany
+
+abbrev pub Refused : Tokens → TreeError → Type 0
+Refused tokens error = IsRefused (kinds tokens) error
+
+-- the error refuses the tokens, or memory ran out
+abbrev pub RefusedOrMemory : Tokens → TreeError → Type 0
+RefusedOrMemory tokens error = (error ≡ Memory alloc_error) ⊎ Refused tokens error
+
+-- a tree with the outline of this one is returned, unless memory ran out
+abbrev pub ReturnsTree : TableNode → Result TableNode TreeError → Type 0
+ReturnsTree node (Ok returned) = outline returned ≡ outline node
+ReturnsTree node (Err error) = error ≡ Memory alloc_error
+
+-- this error is returned, unless memory ran out
+abbrev pub ReturnsError : TreeError → Result TableNode TreeError → Type 0
+ReturnsError expected (Ok returned) = ⊥
+ReturnsError expected (Err error) = (error ≡ Memory alloc_error) ⊎ (error ≡ expected)

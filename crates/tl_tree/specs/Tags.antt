@@ -1,0 +1,124 @@
+-- What the tokens of a table file are to the grammar of documents.
+use Rattle.std.specs.Prelude.{ℕ, Bool, true, false, List, [], ◌∷◌, map}
+use Rattle.std.specs.List.{list_all}
+use Rattle.tl_token.specs.Characters.{is_space}
+use Rattle.tl_token.specs.declared.token.Element.{Element}
+use Rattle.tl_token.specs.declared.token.Element.TheVariants.{Table, Caption, Colgroup, Col, Thead, Tbody, Tfoot, Tr, Td, Th, Br, P, Div, Inline, Outer}
+use Rattle.tl_token.specs.declared.token.Spans.{Spans}
+use Rattle.tl_token.specs.declared.token.Token.{Token}
+use Rattle.tl_token.specs.declared.token.TokenKind.{TokenKind}
+use Rattle.tl_token.specs.declared.token.TokenKind.TheVariants.{Start, End, Text}
+use Rattle.tl_tree.specs.declared.node.Part.{Part}
+use Rattle.tl_tree.specs.declared.node.Part.TheVariants.{Head, Body, Foot}
+
+-- the elements of a group of rows
+pub data Section : Type 0 where
+  thead : Section
+  tbody : Section
+  tfoot : Section
+
+abbrev pub part_of : Section → Part
+part_of thead = Head
+part_of tbody = Body
+part_of tfoot = Foot
+
+-- what a token is to the grammar
+pub data Kind : Type 0 where
+  text : List ℕ → Kind
+  table_start : Kind
+  table_end : Kind
+  caption_start : Kind
+  caption_end : Kind
+  -- with its span
+  colgroup_start : ℕ → Kind
+  colgroup_end : Kind
+  -- with its span
+  col : ℕ → Kind
+  group_start : Section → Kind
+  group_end : Section → Kind
+  row_start : Kind
+  row_end : Kind
+  -- `th`, if true, and `td`
+  cell_start : Bool → Spans → Kind
+  cell_end : Bool → Kind
+  br : Kind
+  -- a start or an end tag of `p` or `div`
+  p_or_div : Kind
+  inline_tag : Kind
+  outer_tag : Kind
+  -- the end tags of `br` and `col`, which stand nowhere
+  lone_end : Kind
+
+abbrev pub Kinds : Type 0
+Kinds = List Kind
+
+abbrev pub start_of : Element → Spans → Kind
+start_of Table spans = table_start
+start_of Caption spans = caption_start
+start_of Colgroup spans = colgroup_start spans.span
+start_of Col spans = col spans.span
+start_of Thead spans = group_start thead
+start_of Tbody spans = group_start tbody
+start_of Tfoot spans = group_start tfoot
+start_of Tr spans = row_start
+start_of Td spans = cell_start false spans
+start_of Th spans = cell_start true spans
+start_of Br spans = br
+start_of P spans = p_or_div
+start_of Div spans = p_or_div
+start_of Inline spans = inline_tag
+start_of Outer spans = outer_tag
+
+abbrev pub end_of : Element → Kind
+end_of Table = table_end
+end_of Caption = caption_end
+end_of Colgroup = colgroup_end
+end_of Col = lone_end
+end_of Thead = group_end thead
+end_of Tbody = group_end tbody
+end_of Tfoot = group_end tfoot
+end_of Tr = row_end
+end_of Td = cell_end false
+end_of Th = cell_end true
+end_of Br = lone_end
+end_of P = p_or_div
+end_of Div = p_or_div
+end_of Inline = inline_tag
+end_of Outer = outer_tag
+
+abbrev pub class_of : TokenKind → Kind
+class_of (Start element spans) = start_of element spans
+class_of (End element) = end_of element
+class_of (Text characters) = text characters
+
+abbrev pub kind_of : Token → Kind
+kind_of token = class_of token.kind
+
+abbrev pub kinds : List Token → Kinds
+kinds tokens = map kind_of tokens
+
+-- a text of white space alone
+abbrev pub is_white : Kind → Bool
+is_white (text characters) = list_all is_space characters
+is_white _ = false
+
+abbrev pub is_text : Kind → Bool
+is_text (text characters) = true
+is_text _ = false
+
+abbrev pub is_table_start : Kind → Bool
+is_table_start table_start = true
+is_table_start _ = false
+
+abbrev pub is_row_start : Kind → Bool
+is_row_start row_start = true
+is_row_start _ = false
+
+abbrev pub is_col : Kind → Bool
+is_col (col span) = true
+is_col _ = false
+
+-- the first of the tokens is such a one
+abbrev pub begins_with : (Kind → Bool) → Kinds → Bool
+begins_with test [] = false
+begins_with test (k ∷ ks) = test k
