@@ -6,22 +6,13 @@ use Rattle.tl_problem.specs.Problem.{ProblemModel}
 use Rattle.tl_problem.specs.Sound.{IsSound}
 use Rattle.tl_problem.specs.Spans.{count_of}
 use Rattle.tl_problem.specs.Zones.{range_at, IsZone, whole_zone, InZone, LowIsHigh, DifferIn}
-use Rattle.tl_problem.specs.Bounds.{IsBound}
+use Rattle.tl_problem.proofs.BoundLaws.{bound-unique}
 use Rattle.tl_problem.proofs.SpanLaws.{class-in_page}
 use Rattle.tl_cert.specs.declared.trace.CutAt.{CutAt}
 use Rattle.tl_cert.specs.Traces.{zone_at}
 use Rattle.tl_cert.specs.Worked.{IsWorked}
 use Rattle.tl_cert.proofs.TraceLaws.{zones-are}
 use Rattle.tl_cert.proofs.CountLaws.{parts-vectors}
-
--- a set has no two bounds
-pub bound-unique : (problem : ProblemModel) (Among : List ℕ → Type 0) (a b : ℕ) → IsBound problem Among a → IsBound problem Among b → a ≡ b
-bound-unique problem Among a b first second =
-    let one = first.least.attained in
-    let other = second.least.attained in
-    let below = first.least.never_less other.0 other.1 in
-    let above = second.least.never_less one.0 one.1 in
-    omega (arith, below, above, one.2, other.2)
 
 -- where `low` is `high` at all widths of the page, no zone has a cell for which they differ
 pub agree-everywhere : (problem : ProblemModel) → IsSound problem → (zone : List Range) → IsZone problem zone → LowIsHigh problem → DifferIn problem zone → ⊥
