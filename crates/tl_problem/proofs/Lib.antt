@@ -11,3 +11,4 @@ pub mod ZoneLaws
 pub mod OneClass
 pub mod Rectangles
 pub mod AreaLaws
+pub mod SetLaws
