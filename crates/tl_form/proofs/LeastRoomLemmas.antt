@@ -1,6 +1,8 @@
 -- The least room of a paragraph, of a nested table, of blocks one after the other, and of a cell.
 use Rattle.std.proofs.Common.{◌≡◌, ◌∙◌, ℕ, zero, suc, ◌+◌, ◌≤◌, max, List, [], ◌∷◌, ◌++◌, length, sum_by, refl, sym, ap, subst, arith}
 use Rattle.std.specs.List.{AllZip, flat_map}
+use Rattle.std.specs.declared.alloc.Global.{Global}
+use Rattle.std.specs.declared.boxed.Box.{Box}
 use Rattle.tl_base.specs.declared.style.Style.{Style}
 use Rattle.tl_text.specs.declared.paragraph.Atom.{Atom}
 use Rattle.tl_text.specs.Cuttings.{joined, HasCutting}
@@ -46,7 +48,7 @@ deeper_shares : (style : Style) (more depth v : ℕ) (blocks : List Content) (sh
     AllZip (λ block share. FitsShare (FitsWithin (more + depth) style) v (out-Content block) share) blocks shares
 deeper_shares style more depth v blocks shares fits =
     AllZip-weaker (λ block share. FitsShare (FitsWithin depth style) v (out-Content block) share) (λ block share. FitsShare (FitsWithin (more + depth) style) v (out-Content block) share) blocks shares
-        (λ block share one. FitsShare-weaker (FitsWithin depth style) (FitsWithin (more + depth) style) (FitsWithin-deeper more depth style) v (out-Content block) share one) fits
+    (λ block share one. FitsShare-weaker (FitsWithin depth style) (FitsWithin (more + depth) style) (FitsWithin-deeper more depth style) v (out-Content block) share one) fits
 
 pub AllZip-push : {A B : Type 0} (R : A → B → Type 0) (xs : List A) (ys : List B) (x : A) (y : B) → AllZip R xs ys → R x y → AllZip R (xs ++ x ∷ []) (ys ++ y ∷ [])
 AllZip-push R [] [] x y all one = (one, tt)
@@ -70,10 +72,13 @@ least_for_more style floor blocks block w more before here = record {
   fits = λ v wider.
       let front = before.fits v (omega arith) in
       let last = here.fits v (omega arith) in
-      let same : front.0 + last.0 ≡ last.0 + front.0 = omega arith in
-      (last.0 + front.0, front.1 ++ last.1 ∷ [], AllZip-push (λ block share. FitsShare (FitsWithin (last.0 + front.0) style) v (out-Content block) share) blocks front.1 block last.1
-          (deeper_shares style last.0 front.0 v blocks front.1 front.2)
-          (FitsShare-weaker (FitsWithin last.0 style) (FitsWithin (last.0 + front.0) style) (FitsWithin-deeper' front.0 last.0 style) v (out-Content block) last.1 last.2));
+      let same : front.0 + last.0 ≡ last.0 + front.0 = omega arith in (
+        last.0 + front.0,
+        front.1 ++ last.1 ∷ [],
+        AllZip-push (λ block share. FitsShare (FitsWithin (last.0 + front.0) style) v (out-Content block) share) blocks front.1 block last.1
+            (deeper_shares style last.0 front.0 v blocks front.1 front.2)
+            (FitsShare-weaker (FitsWithin last.0 style) (FitsWithin (last.0 + front.0) style) (FitsWithin-deeper' front.0 last.0 style) v (out-Content block) last.1 last.2),
+      );
   least = λ depth v shares wide fits.
       let both = AllZip-pushed (λ block share. FitsShare (FitsWithin depth style) v (out-Content block) share) blocks shares block fits in
       omega (arith, before.least depth v both.0 wide both.2, here.least depth v both.1 both.3);
@@ -86,3 +91,9 @@ least_for_cell style cell w least = record {
       (one.0, sum_by (λ share. share.height) one.1, flat_map (λ share. share.inner) one.1, record { floor = omega (arith, least.floored); shares = one.1; blocks = one.2; within = omega arith; given = refl });
   least = λ depth v height inner fits. least.least depth v fits.shares fits.floor fits.blocks;
 }
+
+-- a nested table needs its least width
+pub least_for_box : (style : Style) (box : Box Table Global) (w : ℕ) → IsLeastWidth box.value style w → IsLeastForBlock style (open_content.Table box) w
+least_for_box style box w least = least_for_table style (open_content.Table box) box.value w least
+    (λ fits v share layout height laid within given. record { layout = layout; height = height; laid = laid; within = within; given = given })
+    (λ fits v share inside. (inside.height, inside.layout, inside.laid))

@@ -55,6 +55,7 @@ are_held style widths (cell ∷ cells) (demand ∷ demands) those wide = with_fi
   where
     here : demand.width ≤ room (gap_of style) widths (place_of cell).left (place_of cell).right
     here = subst (λ from. demand.width ≤ room (gap_of style) widths from (place_of cell).right) those.0.left (subst (λ past. demand.width ≤ room (gap_of style) widths demand.left past) those.0.right wide.0)
+
     with_first : AreHeld style widths cells → AreHeld style widths (cell ∷ cells)
     with_first rest =
         let one = those.0.room.fits (room (gap_of style) widths (place_of cell).left (place_of cell).right) here in record {
@@ -83,22 +84,28 @@ AllZip-helped H P Q (x ∷ xs) (y ∷ ys) weaker helps all = (weaker x y helps.0
 pub some_layout : (style : Style) (table : OpenTable) (demands : List Demand) (widths : List ℕ) → All (λ cell. IsPlaced table.cols table.rows (place_of cell)) table.cells →
     AreDemandsOf style table.cells demands → GiveRooms (gap_of style) table.cols demands widths →
     (depth : ℕ) × (height : ℕ) × (layout : OpenLayout) × FitsBy (FitsWithin depth style) style table (total (gap_of style) (edge_of style) widths) height layout
-some_layout style table demands widths placed those give = (held.depth, total_height style layout, layout, record {
-  columns = give.columns;
-  rows = length-replicate table.rows held.height;
-  within = omega arith;
-  high = refl;
-  parts = held.parts;
-  cells = AllZip-helped (λ cell. IsPlaced table.cols table.rows (place_of cell))
-      (λ cell inner. FitsRoom (FitsWithin held.depth style) (room (gap_of style) widths (place_of cell).left (place_of cell).right) held.height (out-TableCell cell) inner)
-      (λ cell inner. FitsCell (FitsWithin held.depth style) style layout (out-TableCell cell) inner) table.cells held.parts
-      (λ cell inner at fits. FitsRoom-higher (FitsWithin held.depth style) (room (gap_of style) widths (place_of cell).left (place_of cell).right) held.height (height_for style layout (place_of cell)) (out-TableCell cell) inner
-          (room-equal (row_gap_of style) table.rows held.height (place_of cell).top (place_of cell).bottom at.2 at.3) fits)
-      (recursion_from_All (λ cell. IsPlaced table.cols table.rows (place_of cell)) table.cells placed) held.each;
-  given = refl;
-}) where
+some_layout style table demands widths placed those give = (
+  held.depth,
+  total_height style layout,
+  layout,
+  record {
+    columns = give.columns;
+    rows = length-replicate table.rows held.height;
+    within = omega arith;
+    high = refl;
+    parts = held.parts;
+    cells = AllZip-helped (λ cell. IsPlaced table.cols table.rows (place_of cell))
+        (λ cell inner. FitsRoom (FitsWithin held.depth style) (room (gap_of style) widths (place_of cell).left (place_of cell).right) held.height (out-TableCell cell) inner)
+        (λ cell inner. FitsCell (FitsWithin held.depth style) style layout (out-TableCell cell) inner) table.cells held.parts
+        (λ cell inner at fits. FitsRoom-higher (FitsWithin held.depth style) (room (gap_of style) widths (place_of cell).left (place_of cell).right) held.height (height_for style layout (place_of cell)) (out-TableCell cell) inner
+        (room-equal (row_gap_of style) table.rows held.height (place_of cell).top (place_of cell).bottom at.2 at.3) fits)
+        (recursion_from_All (λ cell. IsPlaced table.cols table.rows (place_of cell)) table.cells placed) held.each;
+    given = refl;
+  },
+) where
   held : AreHeld style widths table.cells
   held = are_held style widths table.cells demands those (recursion_from_All (λ demand. demand.width ≤ room (gap_of style) widths demand.left demand.right) demands give.each)
+
   layout : OpenLayout
   layout = record { widths = widths; heights = replicate table.rows held.height; inner = flat_map (λ inner. inner) held.parts }
 
@@ -122,18 +129,28 @@ not_narrower : (style : Style) (table : Table) (demands : List Demand) (weight :
     (other height depth : ℕ) (layout : Layout) → FitsWithin depth style table other height layout → weight ≤ other
 not_narrower style table demands weight those least other height zero layout fits = absurd fits
 not_narrower style table demands weight those least other height (suc depth) layout fits =
-    omega (arith, fits.within, least.never_less (out-Layout layout).widths (record {
-      columns = fits.columns;
-      each = All-from_recursion (λ demand. demand.width ≤ room (gap_of style) (out-Layout layout).widths demand.left demand.right) demands (gives_rooms style depth (out-Layout layout) (out-Table table).cells fits.parts demands those fits.cells);
-    }))
+    omega (
+      arith,
+      fits.within,
+      least.never_less (out-Layout layout).widths (record {
+        columns = fits.columns;
+        each = All-from_recursion (λ demand. demand.width ≤ room (gap_of style) (out-Layout layout).widths demand.left demand.right) demands (gives_rooms style depth (out-Layout layout) (out-Table table).cells fits.parts demands those fits.cells);
+      }),
+    )
 
 -- the least total for the demands of its cells is the least width of the table
 pub least_width_for : (style : Style) (table : Table) (demands : List Demand) (weight : ℕ) → All (λ cell. IsPlaced (out-Table table).cols (out-Table table).rows (place_of cell)) (out-Table table).cells →
     AreDemandsOf style (out-Table table).cells demands → IsLeastFor style (out-Table table).cols demands weight → IsLeastWidth table style weight
 least_width_for style table demands weight placed those least =
     let made = some_layout style (out-Table table) demands least.attained.0 placed those least.attained.1 in record {
-      attained = (made.1, roll-Layout made.2, (suc made.0,
+      attained = (
+        made.1,
+        roll-Layout made.2,
+        (
+          suc made.0,
           subst (λ layout. FitsBy (FitsWithin made.0 style) style (out-Table table) weight made.1 layout) (sym (out-roll-Layout made.2))
-          (subst (λ width. FitsBy (FitsWithin made.0 style) style (out-Table table) width made.1 made.2) least.attained.2 made.3)));
+              (subst (λ width. FitsBy (FitsWithin made.0 style) style (out-Table table) width made.1 made.2) least.attained.2 made.3),
+        ),
+      );
       least = λ other height layout fits. not_narrower style table demands weight those least other height fits.0 layout fits.1;
     }

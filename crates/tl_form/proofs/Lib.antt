@@ -9,3 +9,4 @@ pub mod Rows
 pub mod SizesOpen
 pub mod Sorted
 pub mod SoundParts
+pub mod Widths

@@ -1,9 +1,10 @@
 -- The tables nested in a sound table are sound.
-use Rattle.std.proofs.Common.{◌≡◌, ◌∙◌, ℕ, zero, suc, ◌+◌, ◌*◌, ◌≤◌, List, [], ◌∷◌, ◌++◌, length, get_or, sum_by, refl, sym, ap, subst, arith}
+use Rattle.std.proofs.Common.{◌≡◌, ◌∙◌, ℕ, zero, suc, ◌+◌, ◌*◌, ◌<◌, ◌≤◌, List, [], ◌∷◌, ◌++◌, length, get_or, sum_by, refl, sym, ap, subst, arith}
 use Rattle.std.specs.List.{AllByRecursion, All, flat_map}
 use Rattle.std.proofs.lemmas.List.Concat.{flat_map-cons}
 use Rattle.std.proofs.lemmas.List.Sums.{sum_by-cons}
-use Rattle.std.proofs.lemmas.List.Elements.{recursion_from_All, All-from_recursion}
+use Rattle.std.proofs.lemmas.List.Elements.{recursion_from_All, All-from_recursion, All-get_or}
+use Rattle.tl_base.specs.declared.limits.TheConstants.{MAX_DEPTH, MAX_FILE_BYTES, MAX_PAGE_WIDTH}
 use Rattle.tl_form.specs.declared.cell.Content.{Content, out-Content}
 use Rattle.tl_form.specs.declared.cell.Content.TheOpen as open_content
 use Rattle.tl_form.specs.declared.cell.Table.{Table, out-Table}
@@ -47,39 +48,43 @@ small_joined f size [] each = tt
 small_joined f size (x ∷ xs) each =
     let sum = sum_by-cons size x xs in
     subst (AllByRecursion (λ table. table_size table ≤ sum_by size (x ∷ xs))) (sym (flat_map-cons f x xs))
-        (append_each (λ table. table_size table ≤ sum_by size (x ∷ xs)) (f x) (flat_map f xs)
-            (weaker_each (λ table. table_size table ≤ size x) (λ table. table_size table ≤ sum_by size (x ∷ xs)) (f x) (λ table small. omega arith) (each x))
-            (weaker_each (λ table. table_size table ≤ sum_by size xs) (λ table. table_size table ≤ sum_by size (x ∷ xs)) (flat_map f xs) (λ table small. omega arith) (small_joined f size xs each)))
+    (append_each (λ table. table_size table ≤ sum_by size (x ∷ xs)) (f x) (flat_map f xs)
+    (weaker_each (λ table. table_size table ≤ size x) (λ table. table_size table ≤ sum_by size (x ∷ xs)) (f x) (λ table small. omega arith) (each x))
+    (weaker_each (λ table. table_size table ≤ sum_by size xs) (λ table. table_size table ≤ sum_by size (x ∷ xs)) (flat_map f xs) (λ table small. omega arith) (small_joined f size xs each)))
 
 small_in_cell : (cell : TableCell) → AllByRecursion (λ table. table_size table ≤ cell_size cell) (tables_in (out-TableCell cell))
 small_in_cell cell =
     weaker_each (λ table. table_size table ≤ sum_by content_size (out-TableCell cell).blocks) (λ table. table_size table ≤ cell_size cell) (tables_in (out-TableCell cell)) (λ table small. omega (arith, cell_size-out cell))
-        (small_joined (λ block. tables_of (out-Content block)) content_size (out-TableCell cell).blocks (λ block. subst (λ n. AllByRecursion (λ table. table_size table ≤ n) (tables_of (out-Content block))) (sym (content_size-out block)) (small_in_block (out-Content block))))
+    (small_joined (λ block. tables_of (out-Content block)) content_size (out-TableCell cell).blocks (λ block. subst (λ n. AllByRecursion (λ table. table_size table ≤ n) (tables_of (out-Content block))) (sym (content_size-out block)) (small_in_block (out-Content block))))
 
 small_in_table : (table : Table) → AllByRecursion (λ inner. table_size inner ≤ table_size table) (inner_tables (out-Table table))
 small_in_table table = subst (λ n. AllByRecursion (λ inner. table_size inner ≤ n) (inner_tables (out-Table table))) (sym (table_size-out table))
     (small_joined (λ cell. tables_in (out-TableCell cell)) cell_size (out-Table table).cells small_in_cell)
 
-sound_inner : (table : Table) (depth : ℕ) → depth ≤ 8 → IsSoundWithin depth table → table_size table ≤ 1048576 → AllByRecursion IsSound (inner_tables (out-Table table))
+sound_inner : (table : Table) (depth : ℕ) → depth ≤ MAX_DEPTH → IsSoundWithin depth table → table_size table ≤ MAX_FILE_BYTES → AllByRecursion IsSound (inner_tables (out-Table table))
 sound_inner table zero shallow sound size = absurd sound
 sound_inner table (suc depth) shallow sound size =
     weaker_each (λ inner. IsSoundWithin depth inner × (table_size inner ≤ table_size table)) IsSound (inner_tables (out-Table table))
-        (λ inner both. record { depth = depth; shallow = omega arith; sound = both.0; size = omega (arith, both.1) })
-        (both_each (IsSoundWithin depth) (λ inner. table_size inner ≤ table_size table) (inner_tables (out-Table table)) sound.inner (small_in_table table))
+    (λ inner both. record { depth = depth; shallow = omega arith; sound = both.0; size = omega (arith, both.1) })
+    (both_each (IsSoundWithin depth) (λ inner. table_size inner ≤ table_size table) (inner_tables (out-Table table)) sound.inner (small_in_table table))
 
-narrow_of : (table : Table) (depth : ℕ) → IsSoundWithin depth table → All (λ cell. (out-TableCell cell).least ≤ 500) (out-Table table).cells
+narrow_of : (table : Table) (depth : ℕ) → IsSoundWithin depth table → All (λ cell. (out-TableCell cell).least ≤ MAX_PAGE_WIDTH) (out-Table table).cells
 narrow_of table zero sound = absurd sound
 narrow_of table (suc depth) sound = sound.narrow
 
 -- each cell of a sound table is sound
 pub sound_cells : (table : Table) → IsSound table → AllByRecursion (λ cell. IsSoundCell (out-TableCell cell)) (out-Table table).cells
 sound_cells table sound =
-    weaker_each (λ cell. ((out-TableCell cell).least ≤ 500) × AllByRecursion IsSound (tables_in (out-TableCell cell))) (λ cell. IsSoundCell (out-TableCell cell)) (out-Table table).cells
-        (λ cell both. record { narrow = both.0; inner = both.1 })
-        (both_each (λ cell. (out-TableCell cell).least ≤ 500) (λ cell. AllByRecursion IsSound (tables_in (out-TableCell cell))) (out-Table table).cells
-            (recursion_from_All (λ cell. (out-TableCell cell).least ≤ 500) (out-Table table).cells (narrow_of table sound.depth sound.sound))
-            (each_joined IsSound (λ cell. tables_in (out-TableCell cell)) (out-Table table).cells (sound_inner table sound.depth sound.shallow sound.sound sound.size)))
+    weaker_each (λ cell. ((out-TableCell cell).least ≤ MAX_PAGE_WIDTH) × AllByRecursion IsSound (tables_in (out-TableCell cell))) (λ cell. IsSoundCell (out-TableCell cell)) (out-Table table).cells
+    (λ cell both. record { narrow = both.0; inner = both.1 })
+    (both_each (λ cell. (out-TableCell cell).least ≤ MAX_PAGE_WIDTH) (λ cell. AllByRecursion IsSound (tables_in (out-TableCell cell))) (out-Table table).cells
+    (recursion_from_All (λ cell. (out-TableCell cell).least ≤ MAX_PAGE_WIDTH) (out-Table table).cells (narrow_of table sound.depth sound.sound))
+    (each_joined IsSound (λ cell. tables_in (out-TableCell cell)) (out-Table table).cells (sound_inner table sound.depth sound.shallow sound.sound sound.size)))
 
 -- each block of a sound cell is sound
 pub sound_blocks : (cell : TableCell) → IsSoundCell (out-TableCell cell) → AllByRecursion (λ block. IsSoundBlock (out-Content block)) (out-TableCell cell).blocks
 sound_blocks cell sound = each_joined IsSound (λ block. tables_of (out-Content block)) (out-TableCell cell).blocks sound.inner
+
+-- what holds of each item holds of one that a loop has come to
+pub at_item : {X : Type 0} (P : X → Type 0) (xs : List X) (i : ℕ) (x : X) → AllByRecursion P xs → i < length xs → x ≡ get_or xs i x → P x
+at_item P xs i x all within is = subst P (sym is) (All-get_or P xs i x within (All-from_recursion P xs all))

@@ -1,10 +1,11 @@
 -- When a table is sound: what `table` gives, and what every call that takes a table may count on. Its grid is one of
 -- the HTML Standard's, "Forming a table", in which no two cells share a slot.
-use Rattle.std.specs.Prelude.{◌≡◌, ℕ, zero, suc, ◌+◌, ◌<◌, ◌≤◌, ◌⊎◌, List, sum_by}
-use Rattle.std.specs.List.{All, AllPairs, AllByRecursion, Any}
+use Rattle.std.specs.Prelude.{◌≡◌, ℕ, zero, suc, ◌+◌, ◌<◌, ◌≤◌, ◌⊎◌, List, map, sum_by}
+use Rattle.std.specs.List.{All, AllPairs, AllByRecursion}
+use Rattle.tl_base.specs.declared.limits.TheConstants.{MAX_COLUMNS, MAX_DEPTH, MAX_FILE_BYTES, MAX_PAGE_WIDTH, MAX_ROWS}
 use Rattle.tl_grid.specs.declared.shape.Place.{Place}
 use Rattle.tl_grid.specs.Dropping.{IsPlaced}
-use Rattle.tl_problem.specs.declared.problem.TheConstants.{MAX_COLUMNS, MAX_ROWS}
+use Rattle.tl_grid.specs.Slots.{AreApart, HasAnchorInColumn, HasAnchorInRow}
 use Rattle.tl_text.specs.Paragraph.{atom_size}
 use Rattle.tl_form.specs.declared.cell.Content.TheOpen as open_content
 use Rattle.tl_form.specs.declared.cell.Table.{Table, out-Table, fold-Table}
@@ -39,27 +40,29 @@ content_size = fold-Content ℕ ℕ ℕ content_count table_count cell_count
 
 -- ---- soundness
 
+-- where the cell lies
 abbrev pub place_of : TableCell → Place
 place_of cell = (out-TableCell cell).place
+
+-- where the cells of a table lie, in their order
+abbrev pub places_of : OpenTable → List Place
+places_of table = map place_of table.cells
 
 -- the first comes before the second in the order by top, then left
 abbrev pub ComesBefore : Place → Place → Type 0
 ComesBefore first second = (first.top < second.top) ⊎ ((first.top ≡ second.top) × (first.left < second.left))
 
--- both places have some slot
-abbrev pub ShareSlot : Place → Place → Type 0
-ShareSlot a b = ((a.left < b.right) × (b.left < a.right)) × ((a.top < b.bottom) × (b.top < a.bottom))
-
 -- a table whose grid is sound; `sound` says the same of the tables nested directly in it
 pub record IsSoundBy (sound : Table → Type 0) (table : OpenTable) : Type 0 where
   pub few_columns : table.cols ≤ MAX_COLUMNS
-  pub few_rows : table.rows ≤ MAX_ROWS
-  pub placed : All (λ cell. IsPlaced table.cols table.rows (place_of cell)) table.cells
-  pub apart : AllPairs (λ a b. ShareSlot (place_of a) (place_of b) → ⊥) table.cells
-  pub in_order : AllPairs (λ a b. ComesBefore (place_of a) (place_of b)) table.cells
-  pub columns : (column : ℕ) → column < table.cols → Any (λ cell. (place_of cell).left ≡ column) table.cells
-  pub rows : (row : ℕ) → row < table.rows → Any (λ cell. (place_of cell).top ≡ row) table.cells
-  pub narrow : All (λ cell. (out-TableCell cell).least ≤ 500) table.cells
+  -- a caption has a row of its own
+  pub few_rows : table.rows ≤ MAX_ROWS + 1
+  pub placed : All (IsPlaced table.cols table.rows) (places_of table)
+  pub apart : AllPairs AreApart (places_of table)
+  pub in_order : AllPairs ComesBefore (places_of table)
+  pub columns : (column : ℕ) → column < table.cols → HasAnchorInColumn (places_of table) column
+  pub rows : (row : ℕ) → row < table.rows → HasAnchorInRow (places_of table) row
+  pub narrow : All (λ cell. (out-TableCell cell).least ≤ MAX_PAGE_WIDTH) table.cells
   pub inner : AllByRecursion sound (inner_tables table)
 
 -- the same of a table with fewer than `depth` tables inside one another
@@ -67,9 +70,9 @@ abbrev pub IsSoundWithin : ℕ → Table → Type 0
 IsSoundWithin zero table = ⊥
 IsSoundWithin (suc depth) table = IsSoundBy (IsSoundWithin depth) (out-Table table)
 
--- a sound table of at most 8 tables inside one another, which holds no more than a file does
+-- a sound table within the limits of depth and of a file's size
 pub record IsSound (table : Table) : Type 0 where
   pub depth : ℕ
-  pub shallow : depth ≤ 8
+  pub shallow : depth ≤ MAX_DEPTH
   pub sound : IsSoundWithin depth table
-  pub size : table_size table ≤ 1048576
+  pub size : table_size table ≤ MAX_FILE_BYTES

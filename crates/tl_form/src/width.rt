@@ -30,7 +30,25 @@ pub fn least_total(
     if cols == 0 {
         return Ok(0);
     }
-    Ok(heaviest_chain(alloc, cols, demands, style)?.weight)
+    let chain = heaviest_chain(alloc, cols, demands, style)?;
+    Ok(chain.weight)
+}
+
+/// The least width of the table by its cells' demands.
+fn width_by(
+    alloc: Global,
+    table: &Table,
+    demands: &[Demand],
+    style: Style,
+) -> Result<u32, AllocError>
+    requires sound { IsSound table.now }
+    requires each { AreDemandsOf style (out-Table table.now).cells demands.now }
+    requires small { sum_by (λ demand. demand.width) demands.now + 200 * length demands.now ≤ 700 * table_size table.now }
+    ensures least { IfOk result (IsLeastWidth table.now style) }
+    ensures small { IfOk result (λ width. width ≤ 700 * table_size table.now) }
+{
+    let width = least_total(alloc, table.cols, demands, style)?;
+    Ok(width)
 }
 
 /// What each cell of the table asks of its columns, in the order of the cells.
@@ -39,7 +57,7 @@ pub fn demands_of(alloc: Global, table: &Table, style: Style) -> Result<Vec<Dema
     requires { IsSound table.now }
     ensures each { IfOk result (λ demands. AreDemandsOf style (out-Table table.now).cells demands.items) }
     ensures small { IfOk result (λ demands.
-        sum_by (λ demand. demand.width) demands.items + 200 * vec_len demands ≤ 700 * table_size table.now) }
+        sum_by (λ demand. demand.width) demands.items + 200 * length demands.items ≤ 700 * table_size table.now) }
 {
     let mut demands = Vec::new(alloc);
     for cell in table.cells.as_slice() {
@@ -78,7 +96,8 @@ fn block_width(alloc: Global, block: &Content, style: Style) -> Result<u32, Allo
         Content::Para(paragraph) => Ok(tl_text::least_width(paragraph)),
         Content::Table(table) => {
             let demands = demands_of(alloc, table, style)?;
-            least_total(alloc, table.cols, &demands, style)
+            let width = width_by(alloc, table, &demands, style)?;
+            Ok(width)
         }
     }
 }
@@ -91,5 +110,5 @@ pub fn least_width(alloc: Global, table: &Table, style: Style) -> Result<u32, Al
     ensures { IfOk result (IsLeastWidth table.now style) }
 {
     let demands = demands_of(alloc, table, style)?;
-    least_total(alloc, table.cols, &demands, style)
+    width_by(alloc, table, &demands, style)
 }

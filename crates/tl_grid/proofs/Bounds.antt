@@ -17,7 +17,8 @@ mid_of P [] b ys a = a.0
 mid_of P (x ∷ xs) b ys a = mid_of P xs b ys a.1
 
 -- passing the open blocks goes no further than they end
-pub passed_within : (width y : ℕ) (qs : List Block) (x : ℕ) (ps : List Block) → x ≤ width → AllByRecursion (EndsBy width) (ps ++ qs) → EndsIn width (pass_taken y x ps qs)
+pub passed_within : (width y : ℕ) (qs : List Block) (x : ℕ) (ps : List Block) → x ≤ width →
+    AllByRecursion (EndsBy width) (ps ++ qs) → EndsIn width (pass_taken y x ps qs)
 passed_within width y [] x ps le all = (le, all)
 passed_within width y (b ∷ bs) x ps le all =
     let P : Walk → Type 0 = λ w. EndsIn width w in
@@ -40,6 +41,8 @@ all_by width wider le [] a = tt
 all_by width wider le (x ∷ xs) a = (omega (arith, a.0), all_by width wider le xs a.1)
 
 -- one more block, and a wider bound
-pub all_wider : (width wider : ℕ) → width ≤ wider → (xs : List Block) (b : Block) (ys : List Block) → EndsBy wider b → AllByRecursion (EndsBy width) (xs ++ ys) → AllByRecursion (EndsBy wider) ((xs ++ b ∷ []) ++ ys)
+pub all_wider : (width wider : ℕ) → width ≤ wider → (xs : List Block) (b : Block) (ys : List Block) →
+    EndsBy wider b → AllByRecursion (EndsBy width) (xs ++ ys) →
+    AllByRecursion (EndsBy wider) ((xs ++ b ∷ []) ++ ys)
 all_wider width wider le [] b ys end a = (end, all_by width wider le ys a)
 all_wider width wider le (x ∷ xs) b ys end a = (omega (arith, a.0), all_wider width wider le xs b ys end a.1)

@@ -1,9 +1,10 @@
 -- Whole rows and row groups: the walk gives the standard's cells, or the first overlap.
-use Rattle.std.proofs.Common.{◌≡◌, ℕ, ◌+◌, ◌<◌, ◌≤◌, max, Bool, List, [], ◌∷◌, ◌++◌, map, length, Option, Some, None, Result, Ok, Err, refl, sym, ap, ◌∙◌, subst, inl, inr, arith}
+use Rattle.std.proofs.Common.{◌≡◌, ℕ, ◌+◌, ◌<◌, ◌≤◌, max, List, [], ◌∷◌, ◌++◌, map, length, Option, Some, None, Result, Ok, Err, refl, sym, ap}
+use Rattle.std.proofs.Common.{◌∙◌, subst, inl, inr, arith}
 use Rattle.std.specs.List.{filter, AllByRecursion}
 use Rattle.std.proofs.lemmas.List.{map-append, length-map}
 use Rattle.std.proofs.lemmas.List.Elements.{filter-append}
-use Rattle.std.proofs.lemmas.Bool.{cases_lt, cases_Bool}
+use Rattle.std.proofs.lemmas.Bool.{cases_lt}
 use Rattle.tl_grid.specs.declared.shape.SpanOf.{SpanOf}
 use Rattle.tl_grid.specs.declared.block.Block.{Block}
 use Rattle.tl_grid.specs.declared.error.GridError.{GridError}
@@ -12,11 +13,12 @@ use Rattle.tl_grid.specs.Forming.{Cell, Forming, with_cell, form_cells, begin_ro
 use Rattle.tl_grid.specs.Overlap.{numbers_over, IsBefore}
 use Rattle.tl_grid.specs.inner.OpenBlocks.{reaches, Walk, hit}
 use Rattle.tl_grid.specs.inner.Walk.{Row, RowGroup, placed, walk_of, unless_hit, place_cells, row_of, after_row, then_ok, place_rows}
-use Rattle.tl_grid.proofs.Chains.{spot, spot_ended, not_below, Chain, filter_yes, filter_no, chain_append, chain_kept}
+use Rattle.tl_grid.proofs.Chains.{spot, Chain, chain_append, chain_kept}
 use Rattle.tl_grid.proofs.Passing.{EndsWithin, passes}
 use Rattle.tl_grid.proofs.Cells.{cell_of, AllQuiet, BeginsBy, BeginsAbove, block_number, numbers_here, grown_cells, still_cells, grown_elsewhere}
 use Rattle.tl_grid.proofs.Later.{form_cells_before, form_cells_row, Later, later_rows}
-use Rattle.tl_grid.proofs.Rows.{RowMatches, IsWide, IsFoundIn, IsSound, sound_on, column_found, row_step, row_overlap, hit_block, all_weaken, one_at_most_here}
+use Rattle.tl_grid.proofs.Rows.{RowMatches, IsWide, IsFoundIn, IsSound, sound_on, column_found, row_step, row_overlap, hit_block, all_weaken}
+use Rattle.tl_grid.proofs.Rows.{one_at_most_here}
 
 -- the error is the first overlap of the cells, in a row above row n
 abbrev pub FoundAbove : ℕ → List Cell → GridError → Type 0
@@ -32,7 +34,8 @@ up_to n x y x' y' lt (inl above) = omega arith
 up_to n x y x' y' lt (inr (same, left)) = omega arith
 
 -- it stays so where the slots up to it keep their cells
-pub found_kept : (n : ℕ) (cs ds : List Cell) (e : GridError) → ((x y : ℕ) → y < n → numbers_over x y ds ≡ numbers_over x y cs) → FoundAbove n cs e → FoundAbove n ds e
+pub found_kept : (n : ℕ) (cs ds : List Cell) (e : GridError) →
+    ((x y : ℕ) → y < n → numbers_over x y ds ≡ numbers_over x y cs) → FoundAbove n cs e → FoundAbove n ds e
 found_kept n cs ds (Memory e) same f = f
 found_kept n cs ds (TooManyCells count) same f = f
 found_kept n cs ds (Overlap first second x y) same f =
@@ -57,7 +60,12 @@ before_further x' y' x z y lt (inl above) = inl above
 before_further x' y' x z y lt (inr (same, left)) = inr (same, omega arith)
 
 -- one cell, by whether it runs into a block
-row_gives_step : (more : Result Row GridError) (o : Option Block) (span : SpanOf) (spans : List SpanOf) (done : List Cell) (y number : ℕ) (s : Forming) (r : Row) → AllQuiet y done → IsWide span → RowMatches done y s r → hit (walk_of y r).ahead ((walk_of y r).column + span.colspan) ≡ o → (o ≡ None → RowGives done y (form_cells (number + 1) ((walk_of y r).column + span.colspan) spans (with_cell number (walk_of y r).column span s)) more) → RowGives done y (form_cells (number + 1) ((walk_of y r).column + span.colspan) spans (with_cell number (walk_of y r).column span s)) (unless_hit o number y more)
+row_gives_step : (more : Result Row GridError) (o : Option Block) (span : SpanOf) (spans : List SpanOf)
+    (done : List Cell) (y number : ℕ) (s : Forming) (r : Row) → AllQuiet y done → IsWide span →
+    RowMatches done y s r → hit (walk_of y r).ahead ((walk_of y r).column + span.colspan) ≡ o →
+    (o ≡ None → RowGives done y (form_cells (number + 1) ((walk_of y r).column + span.colspan) spans (with_cell number (walk_of y r).column span s)) more) →
+    RowGives done y (form_cells (number + 1) ((walk_of y r).column + span.colspan) spans
+    (with_cell number (walk_of y r).column span s)) (unless_hit o number y more)
 row_gives_step more None span spans done y number s r quiet wide m found rest = rest refl
 row_gives_step more (Some b) span spans done y number s r quiet wide m found rest =
     let w : Walk = walk_of y r in
@@ -79,14 +87,19 @@ row_gives_step more (Some b) span spans done y number s r quiet wide m found res
     )
 
 -- a whole row
-pub row_gives : (spans : List SpanOf) (done : List Cell) (y number : ℕ) (s : Forming) (r : Row) → AllQuiet y done → AllByRecursion IsWide spans → RowMatches done y s r → RowGives done y (form_cells number r.column spans s) (place_cells y number r spans)
+pub row_gives : (spans : List SpanOf) (done : List Cell) (y number : ℕ) (s : Forming) (r : Row) →
+    AllQuiet y done → AllByRecursion IsWide spans → RowMatches done y s r →
+    RowGives done y (form_cells number r.column spans s) (place_cells y number r spans)
 row_gives [] done y number s r quiet wide m = m
 row_gives (span ∷ spans) done y number s r quiet wide m =
     let w : Walk = walk_of y r in
-    let P : ℕ → Type 0 = λ x. RowGives done y (form_cells (number + 1) (x + span.colspan) spans (with_cell number x span s)) (place_cells y number r (span ∷ spans)) in
+    let P : ℕ → Type 0 = λ x. RowGives done y (form_cells (number + 1) (x + span.colspan) spans
+    (with_cell number x span s)) (place_cells y number r (span ∷ spans)) in
     subst P (sym (column_found done y s r quiet m))
-    (row_gives_step (place_cells y (number + 1) (placed y number span r w) spans) (hit w.ahead (w.column + span.colspan)) span spans done y number s r quiet wide.0 m refl
-    (λ none. row_gives spans done y (number + 1) (with_cell number w.column span s) (placed y number span r w) quiet wide.1 (row_step done y number span s r quiet wide.0 m none)))
+    (row_gives_step (place_cells y (number + 1) (placed y number span r w) spans)
+    (hit w.ahead (w.column + span.colspan)) span spans done y number s r quiet wide.0 m refl
+    (λ none. row_gives spans done y (number + 1)
+    (with_cell number w.column span s) (placed y number span r w) quiet wide.1 (row_step done y number span s r quiet wide.0 m none)))
 
 -- a row group in the standard's steps and in the walk, between two rows
 pub record GroupMatches (done : List Cell) (s : Forming) (g : RowGroup) : Type 0 where
@@ -103,7 +116,9 @@ pub record GroupMatches (done : List Cell) (s : Forming) (g : RowGroup) : Type 0
   pub quiet : AllQuiet g.row done
 
 -- the cells when a row begins
-begun_cells : (done : List Cell) (y : ℕ) (bs : List Block) → AllQuiet y done → AllByRecursion (BeginsAbove y) bs → map (grown_into y) (done ++ map (cell_of y) bs) ≡ done ++ map (cell_of (y + 1)) bs
+begun_cells : (done : List Cell) (y : ℕ) (bs : List Block) → AllQuiet y done →
+    AllByRecursion (BeginsAbove y) bs →
+    map (grown_into y) (done ++ map (cell_of y) bs) ≡ done ++ map (cell_of (y + 1)) bs
 begun_cells done y bs quiet tops =
     map-append (grown_into y) done (map (cell_of y) bs)
     ∙ ap (λ l. l ++ map (grown_into y) (map (cell_of y) bs)) (still_cells y y done quiet)
@@ -187,7 +202,10 @@ abbrev pub AllWide : List (List SpanOf) → Type 0
 AllWide = AllByRecursion (AllByRecursion IsWide)
 
 -- the rest of the rows, after one
-rows_give_step : (result : Result Row GridError) (done : List Cell) (y number : ℕ) (s : Forming) (rows : List (List SpanOf)) → s.row ≡ y → AllQuiet y done → RowGives done y s result → ((row : Row) → RowMatches done y s row → RowsGive done (form_rows number rows (next_row s)) (place_rows number (after_row y row) rows)) → RowsGive done (form_rows number rows (next_row s)) (then_ok (λ row. place_rows number (after_row y row) rows) result)
+rows_give_step : (result : Result Row GridError) (done : List Cell) (y number : ℕ) (s : Forming)
+    (rows : List (List SpanOf)) → s.row ≡ y → AllQuiet y done → RowGives done y s result →
+    ((row : Row) → RowMatches done y s row → RowsGive done (form_rows number rows (next_row s)) (place_rows number (after_row y row) rows)) →
+    RowsGive done (form_rows number rows (next_row s)) (then_ok (λ row. place_rows number (after_row y row) rows) result)
 rows_give_step (Ok row) done y number s rows at_row quiet gives next = next row gives
 rows_give_step (Err error) done y number s rows at_row quiet gives next =
     let last : Forming = form_rows number rows (next_row s) in
@@ -197,7 +215,8 @@ rows_give_step (Err error) done y number s rows at_row quiet gives next =
     (found_kept (y + 1) s.cells last.cells error (λ x' y' lt. later.numbers x' y' (omega arith)) gives)
 
 -- all rows of a group
-pub rows_give : (rows : List (List SpanOf)) (done : List Cell) (number : ℕ) (s : Forming) (g : RowGroup) → AllWide rows → GroupMatches done s g → RowsGive done (form_rows number rows s) (place_rows number g rows)
+pub rows_give : (rows : List (List SpanOf)) (done : List Cell) (number : ℕ) (s : Forming) (g : RowGroup) →
+    AllWide rows → GroupMatches done s g → RowsGive done (form_rows number rows s) (place_rows number g rows)
 rows_give [] done number s g wide m = m
 rows_give (spans ∷ rows) done number s g wide m =
     let at_row : s.row ≡ g.row = m.at_row in

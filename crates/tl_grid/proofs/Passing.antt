@@ -42,11 +42,13 @@ pub record Passes (y x : ℕ) (passed ahead : List Block) (w : Walk) : Type 0 wh
   pub kept : (width : ℕ) → AllByRecursion (EndsWithin width) (passed ++ ahead) → AllByRecursion (EndsWithin width) (w.passed ++ w.ahead)
 
 -- a block is passed
-pub pass_on : (y x : ℕ) (ps : List Block) (b : Block) (bs : List Block) → reaches y b ≡ true → leb b.left x ≡ true → pass_taken y x ps (b ∷ bs) ≡ pass_taken y b.right (ps ++ b ∷ []) bs
+pub pass_on : (y x : ℕ) (ps : List Block) (b : Block) (bs : List Block) → reaches y b ≡ true →
+    leb b.left x ≡ true → pass_taken y x ps (b ∷ bs) ≡ pass_taken y b.right (ps ++ b ∷ []) bs
 pass_on y x ps b bs e f = cond-true (reaches y b) _ _ e ∙ cond-true (leb b.left x) _ _ f
 
 -- a block stops the walk
-pub pass_stop : (y x : ℕ) (ps : List Block) (b : Block) (bs : List Block) → reaches y b ≡ true → leb b.left x ≡ false → pass_taken y x ps (b ∷ bs) ≡ record { column = x; passed = ps; ahead = b ∷ bs }
+pub pass_stop : (y x : ℕ) (ps : List Block) (b : Block) (bs : List Block) → reaches y b ≡ true →
+    leb b.left x ≡ false → pass_taken y x ps (b ∷ bs) ≡ record { column = x; passed = ps; ahead = b ∷ bs }
 pass_stop y x ps b bs e f = cond-true (reaches y b) _ _ e ∙ cond-false (leb b.left x) _ _ f
 
 -- a block that has ended is dropped
@@ -63,7 +65,9 @@ some_mid p (x ∷ xs) b ys e =
     ]
 
 -- one block passed
-passes_on : (y x : ℕ) (ps : List Block) (b : Block) (bs : List Block) (w : Walk) → reaches y b ≡ true → b.left ≤ x → b.left < b.right → x ≤ b.left → Passes y b.right (ps ++ b ∷ []) bs w → Passes y x ps (b ∷ bs) w
+passes_on : (y x : ℕ) (ps : List Block) (b : Block) (bs : List Block) (w : Walk) → reaches y b ≡ true →
+    b.left ≤ x → b.left < b.right → x ≤ b.left → Passes y b.right (ps ++ b ∷ []) bs w →
+    Passes y x ps (b ∷ bs) w
 passes_on y x ps b bs w e le lt ge p = record {
   front = p.front;
   rest = p.rest;
@@ -109,7 +113,9 @@ passes_ended y x ps b bs w e p = record {
 }
 
 -- the row stops at the first block that begins further right
-passes_stop : (y x : ℕ) (ps : List Block) (qs : List Block) → ChainTo 0 (filter (reaches y) ps) x → Chain x (filter (reaches y) qs) → BeginsAfter y x qs → Passes y x ps qs record { column = x; passed = ps; ahead = qs }
+passes_stop : (y x : ℕ) (ps : List Block) (qs : List Block) → ChainTo 0 (filter (reaches y) ps) x →
+    Chain x (filter (reaches y) qs) → BeginsAfter y x qs →
+    Passes y x ps qs record { column = x; passed = ps; ahead = qs }
 passes_stop y x ps qs front rest begins = record {
   front = front;
   rest = rest;
@@ -122,14 +128,17 @@ passes_stop y x ps qs front rest begins = record {
 }
 
 -- a chain to a column, and one more block
-pub push_front : (y x : ℕ) (ps : List Block) (b : Block) → reaches y b ≡ true → ChainTo 0 (filter (reaches y) ps) x → x ≤ b.left → b.left < b.right → ChainTo 0 (filter (reaches y) (ps ++ b ∷ [])) b.right
+pub push_front : (y x : ℕ) (ps : List Block) (b : Block) → reaches y b ≡ true →
+    ChainTo 0 (filter (reaches y) ps) x → x ≤ b.left → b.left < b.right →
+    ChainTo 0 (filter (reaches y) (ps ++ b ∷ [])) b.right
 push_front y x ps b e front le lt =
     let P : List Block → Type 0 = λ l. ChainTo 0 l b.right in
     subst P (sym (filter-append (reaches y) ps (b ∷ []) ∙ ap (λ l. filter (reaches y) ps ++ l) (filter_yes (reaches y) b [] e)))
     (chain_push 0 x (filter (reaches y) ps) b front le lt)
 
 -- all blocks that take the columns are passed
-pub passes : (y : ℕ) (qs : List Block) (x : ℕ) (ps : List Block) → ChainTo 0 (filter (reaches y) ps) x → Chain x (filter (reaches y) qs) → Passes y x ps qs (pass_taken y x ps qs)
+pub passes : (y : ℕ) (qs : List Block) (x : ℕ) (ps : List Block) → ChainTo 0 (filter (reaches y) ps) x →
+    Chain x (filter (reaches y) qs) → Passes y x ps qs (pass_taken y x ps qs)
 passes y [] x ps front rest = passes_stop y x ps [] front rest tt
 passes y (b ∷ bs) x ps front rest =
     let P : Walk → Type 0 = λ w. Passes y x ps (b ∷ bs) w in

@@ -1,6 +1,7 @@
 -- Where a walk may begin after the blocks of a run.
-use Rattle.std.proofs.Common.{◌≡◌, ℕ, ◌+◌, ◌<◌, ◌≤◌, zero, suc, Bool, true, false, ◌||◌, cond, leb, List, [], ◌∷◌, ◌++◌, length, take, drop, Result, Ok, Err, refl, sym, ap, ◌∙◌, subst, inl, inr, ◌⊎◌, arith, append_assoc}
-use Rattle.std.proofs.lemmas.Bool.{le-leb, lt-ltb, or_left, or_right, cases_Bool, cond-true, cond-false}
+use Rattle.std.proofs.Common.{◌≡◌, ℕ, ◌+◌, ◌<◌, ◌≤◌, zero, suc, true, leb, List, [], ◌∷◌, ◌++◌, length, take, drop}
+use Rattle.std.proofs.Common.{refl, sym, ap, ◌∙◌, subst, inl, inr, ◌⊎◌, arith, append_assoc}
+use Rattle.std.proofs.lemmas.Bool.{le-leb, lt-ltb, or_left, or_right, cases_Bool}
 use Rattle.std.proofs.lemmas.List.{length-append, length-take-le, take-append-le, take-append-drop}
 use Rattle.tl_grid.specs.declared.block.Block.{Block}
 use Rattle.tl_grid.specs.declared.open_blocks.Run.{Run}
@@ -8,7 +9,9 @@ use Rattle.tl_grid.specs.inner.OpenBlocks.{reaches, Walk, pass_taken, HoldsRun}
 use Rattle.tl_grid.proofs.Passing.{pass_on, pass_stop, pass_ended}
 
 -- where the walk over some blocks passes them all, the walk over more goes on from there
-pub pass_append : (y : ℕ) (qs rs : List Block) (x : ℕ) (ps : List Block) (column : ℕ) (passed : List Block) → pass_taken y x ps qs ≡ record { column = column; passed = passed; ahead = [] } → pass_taken y x ps (qs ++ rs) ≡ pass_taken y column passed rs
+pub pass_append : (y : ℕ) (qs rs : List Block) (x : ℕ) (ps : List Block) (column : ℕ) (passed : List Block) →
+    pass_taken y x ps qs ≡ record { column = column; passed = passed; ahead = [] } →
+    pass_taken y x ps (qs ++ rs) ≡ pass_taken y column passed rs
 pass_append y [] rs x ps column passed e =
     let here : x ≡ column = ap (λ (w : Walk). w.column) e in
     let same : ps ≡ passed = ap (λ (w : Walk). w.passed) e in
@@ -28,7 +31,8 @@ pass_append y (b ∷ qs) rs x ps column passed e =
     ]
 
 -- the walk from where a walk has come to comes no further
-pub pass_again : (y : ℕ) (qs : List Block) (x : ℕ) (ps : List Block) → pass_taken y (pass_taken y x ps qs).column (pass_taken y x ps qs).passed (pass_taken y x ps qs).ahead ≡ pass_taken y x ps qs
+pub pass_again : (y : ℕ) (qs : List Block) (x : ℕ) (ps : List Block) →
+    pass_taken y (pass_taken y x ps qs).column (pass_taken y x ps qs).passed (pass_taken y x ps qs).ahead ≡ pass_taken y x ps qs
 pass_again y [] x ps = refl
 pass_again y (b ∷ qs) x ps =
     let P : Walk → Type 0 = λ w. pass_taken y w.column w.passed w.ahead ≡ w in
@@ -104,7 +108,10 @@ run_stays column passed run b holds =
     }
 
 -- a run takes in one more block, which takes the rows above `until`
-run_on : (column : ℕ) (passed : List Block) (run : Run) (until : ℕ) (b : Block) → HoldsRun column passed run → length passed ≡ run.count → b.left ≤ column → ((y : ℕ) → y < until → reaches y b ≡ true) → ((y : ℕ) → y < until → pass_taken y 0 [] passed ≡ record { column = column; passed = passed; ahead = [] }) → HoldsRun b.right (passed ++ b ∷ []) record { count = run.count + 1; column = b.right; until = until }
+run_on : (column : ℕ) (passed : List Block) (run : Run) (until : ℕ) (b : Block) → HoldsRun column passed run →
+    length passed ≡ run.count → b.left ≤ column → ((y : ℕ) → y < until → reaches y b ≡ true) →
+    ((y : ℕ) → y < until → pass_taken y 0 [] passed ≡ record { column = column; passed = passed; ahead = [] }) →
+    HoldsRun b.right (passed ++ b ∷ []) record { count = run.count + 1; column = b.right; until = until }
 run_on column passed run until b holds at left alive before =
     let more : length (passed ++ b ∷ []) ≡ suc (length passed) = length_push passed b in
     let same : take (run.count + 1) (passed ++ b ∷ []) ≡ passed ++ b ∷ [] = take_all (passed ++ b ∷ []) (run.count + 1) (omega arith) in
@@ -124,14 +131,20 @@ alive_to b end (inl grows) y lt = or_left b.grows _ grows
 alive_to b end (inr le) y lt = or_right b.grows _ (lt-ltb y b.bottom (omega arith))
 
 -- the first block of a run
-pub run_first : (column : ℕ) (passed : List Block) (run : Run) (end : ℕ) (b : Block) → HoldsRun column passed run → length passed ≡ run.count → run.count ≡ 0 → b.left ≤ column → (b.grows ≡ true) ⊎ (end ≤ b.bottom) → HoldsRun b.right (passed ++ b ∷ []) record { count = run.count + 1; column = b.right; until = end }
+pub run_first : (column : ℕ) (passed : List Block) (run : Run) (end : ℕ) (b : Block) →
+    HoldsRun column passed run → length passed ≡ run.count → run.count ≡ 0 → b.left ≤ column →
+    (b.grows ≡ true) ⊎ (end ≤ b.bottom) →
+    HoldsRun b.right (passed ++ b ∷ []) record { count = run.count + 1; column = b.right; until = end }
 run_first column [] run end b holds at none left ends =
     let start : column ≡ 0 = holds.level at ∙ holds.start none in
     run_on column [] run end b holds at left (alive_to b end ends) (λ y lt. λ i. record { column = sym start i; passed = []; ahead = [] })
 run_first column (p ∷ passed) run end b holds at none left ends = absurd (omega arith)
 
 -- a further block of a run
-pub run_next : (column : ℕ) (passed : List Block) (run : Run) (end : ℕ) (b : Block) → HoldsRun column passed run → length passed ≡ run.count → run.until ≤ end → b.left ≤ column → (b.grows ≡ true) ⊎ (end ≤ b.bottom) → HoldsRun b.right (passed ++ b ∷ []) record { count = run.count + 1; column = b.right; until = run.until }
+pub run_next : (column : ℕ) (passed : List Block) (run : Run) (end : ℕ) (b : Block) →
+    HoldsRun column passed run → length passed ≡ run.count → run.until ≤ end → b.left ≤ column →
+    (b.grows ≡ true) ⊎ (end ≤ b.bottom) →
+    HoldsRun b.right (passed ++ b ∷ []) record { count = run.count + 1; column = b.right; until = run.until }
 run_next column passed run end b holds at le left ends =
     let all : take run.count passed ≡ passed = take_all passed run.count (omega arith) in
     let P : List Block → Type 0 = λ l. (y : ℕ) → y < run.until → pass_taken y 0 [] l ≡ record { column = run.column; passed = l; ahead = [] } in
@@ -153,7 +166,10 @@ run_rewound column passed run holds =
     }
 
 -- the walk from the end of a run is the walk from column 0
-pub run_begins : (passed ahead : List Block) (run : Run) (y : ℕ) → pass_taken y 0 [] (take run.count passed) ≡ record { column = run.column; passed = take run.count passed; ahead = [] } → pass_taken y run.column (take run.count passed) (drop run.count passed ++ ahead) ≡ pass_taken y 0 [] (passed ++ ahead)
+pub run_begins : (passed ahead : List Block) (run : Run) (y : ℕ) →
+    pass_taken y 0 [] (take run.count passed) ≡ record { column = run.column; passed = take run.count passed; ahead = [] } →
+    pass_taken y run.column (take run.count passed) (drop run.count passed ++ ahead) ≡ pass_taken y 0 [] (passed ++ ahead)
 run_begins passed ahead run y passes =
     sym (pass_append y (take run.count passed) (drop run.count passed ++ ahead) 0 [] run.column (take run.count passed) passes)
-    ∙ ap (pass_taken y 0 []) (sym (append_assoc (take run.count passed) (drop run.count passed) ahead) ∙ ap (λ l. l ++ ahead) (take-append-drop run.count passed))
+    ∙ ap (pass_taken y 0 []) (sym (append_assoc (take run.count passed) (drop run.count passed) ahead)
+    ∙ ap (λ l. l ++ ahead) (take-append-drop run.count passed))

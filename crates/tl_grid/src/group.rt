@@ -1,9 +1,10 @@
 //! One row group: its rows in order.
 
-ghost use Rattle.std.specs.Prelude.{◌≡◌, ◌+◌, ◌*◌, ◌<◌, ◌≤◌, ◌^◌, ◌++◌, IfOk, length, Ok};
+ghost use Rattle.std.specs.Prelude.{◌≡◌, ◌+◌, ◌*◌, ◌<◌, ◌≤◌, ◌^◌, IfOk, length, Ok};
 ghost use Rattle.std.specs.List.{AllByRecursion};
 ghost use Rattle.tl_grid.specs.Forming.{cells_in};
-ghost use Rattle.tl_grid.specs.inner.Walk.{place_cells, row_of, after_row, then_ok, group_at, place_rows};
+ghost use Rattle.tl_grid.specs.inner.Walk.{place_cells, row_of, after_row, then_ok, group_at};
+ghost use Rattle.tl_grid.specs.inner.Walk.{place_rows};
 ghost use Rattle.tl_grid.specs.Shapes.{IsSpan};
 ghost use Rattle.tl_grid.specs.inner.States.{IsWalked, EndsBy, group_over};
 
@@ -13,7 +14,7 @@ use crate::open_blocks::OpenBlocks;
 use crate::row::{RowState, form_cell};
 use crate::shape::SpanOf;
 use std::alloc::Global;
-use tl_base::List;
+use tl_base::{List, MAX_CELLS, MAX_COLSPAN, MAX_ROWSPAN};
 
 /// A row group between two rows.
 #[derive(Drop)]
@@ -32,21 +33,22 @@ pub struct Group {
 /// no block.
 fn form_row(mut number: u32, spans: &[SpanOf], group: Group) -> Result<Group, GridError>
     requires spans { AllByRecursion IsSpan spans.now }
-    requires number { number + length spans.now ≤ 20000 }
+    requires number { number + length spans.now ≤ MAX_CELLS }
     requires low { group.row ≤ group.height }
-    requires room { group.height + 65534 < 2 ^ 32 }
-    requires columns { AllByRecursion (EndsBy (1000 * number)) (group_over group).open_blocks }
+    requires room { group.height + MAX_ROWSPAN < 2 ^ 32 }
+    requires columns { AllByRecursion (EndsBy (MAX_COLSPAN * number)) (group_over group).open_blocks }
     ensures row { IsWalked group_over
         (then_ok (λ row. Ok (after_row group.row row))
         (place_cells group.row number (row_of (group_over group)) spans.now))
         result }
     ensures columns { IfOk result (λ after.
-        AllByRecursion (EndsBy (1000 * (number + length spans.now))) (group_over after).open_blocks) }
+        AllByRecursion (EndsBy (MAX_COLSPAN * (number + length spans.now)))
+        (group_over after).open_blocks) }
     ensures count { IfOk result (λ after.
         length after.blocks ≡ length group.blocks + length spans.now) }
     ensures low { IfOk result (λ after. after.row ≤ after.height) }
     ensures height { IfOk result (λ after.
-        after.height ≤ group.height + 65534 * length spans.now + 1) }
+        after.height ≤ group.height + MAX_ROWSPAN * length spans.now + 1) }
 {
     let Group {
         row,
@@ -88,12 +90,12 @@ pub fn form_group(
     row: u32,
 ) -> Result<Group, GridError>
     requires spans { AllByRecursion (AllByRecursion IsSpan) rows.now }
-    requires number { number + cells_in rows.now ≤ 20000 }
-    requires room { row + 65534 * cells_in rows.now + length rows.now + 65534 < 2 ^ 32 }
+    requires number { number + cells_in rows.now ≤ MAX_CELLS }
+    requires room { row + MAX_ROWSPAN * cells_in rows.now + length rows.now + MAX_ROWSPAN < 2 ^ 32 }
     ensures rows { IsWalked group_over (place_rows number (group_at row) rows.now) result }
     ensures count { IfOk result (λ after. length after.blocks ≡ cells_in rows.now) }
     ensures height { IfOk result (λ after.
-        after.height ≤ row + 65534 * cells_in rows.now + length rows.now) }
+        after.height ≤ row + MAX_ROWSPAN * cells_in rows.now + length rows.now) }
 {
     let mut group = Group {
         row,

@@ -1,7 +1,9 @@
-//! The open blocks of a row group, and the walk of a row over them. A row steps over the blocks that
-//! it meets on the way to its last cell, and drops those that have ended.
+//! The open blocks of a row group, and the walk of a row over them. A row meets the blocks between
+//! the end of a run of blocks from column 0 on and its last cell, and drops the ended ones.
 
-ghost use Rattle.std.specs.Prelude.{◌≡◌, ◌⊎◌, ◌+◌, ◌<◌, ◌≤◌, ◌^◌, [], ◌∷◌, ◌++◌, length, take, drop, IfOk, IfErr, MatchResult, IsTrue, if◌then◌else◌, alloc_error};
+ghost use Rattle.std.specs.Prelude.{◌≡◌, ◌⊎◌, ◌+◌, ◌<◌, ◌≤◌, ◌^◌, [], ◌∷◌, ◌++◌, length, take};
+ghost use Rattle.std.specs.Prelude.{drop, IfOk, IfErr, MatchResult, IsTrue};
+ghost use Rattle.std.specs.Prelude.{alloc_error};
 ghost use Rattle.tl_grid.specs.declared.error.GridError.TheVariants.{Memory};
 ghost use Rattle.tl_grid.specs.inner.OpenBlocks.{reaches, pass_taken, hit, HoldsRun};
 
@@ -30,6 +32,13 @@ pub struct Run {
     pub until: u32,
 }
 
+/// No block.
+const NO_RUN: Run = Run {
+    count: 0,
+    column: 0,
+    until: 0,
+};
+
 /// The open blocks of a row group, those that may take rows to come, and a walk over them from left
 /// to right. Contracts see the column that the walk has come to, and the blocks to its left and to
 /// its right, each from left to right.
@@ -46,9 +55,14 @@ impl Model for OpenBlocks {
 
     ghost Value = { Walk };
 
-    ghost view = { λ open_blocks. record { column = open_blocks.column; passed = open_blocks.passed.items; ahead = open_blocks.ahead.items } };
+    ghost view = { λ open_blocks. record {
+      column = open_blocks.column;
+      passed = open_blocks.passed.items;
+      ahead = open_blocks.ahead.items;
+    } };
 
-    ghost invariant = { λ open_blocks. HoldsRun open_blocks.column open_blocks.passed.items open_blocks.run };
+    ghost invariant = { λ open_blocks.
+        HoldsRun open_blocks.column open_blocks.passed.items open_blocks.run };
 }
 
 /// The row below the last one that the block is sure to take: a growing one takes all to come.
@@ -94,14 +108,10 @@ fn run_at(run: Run, passed: &[Block], column: u32, row: u32) -> Run
     if row < run.until {
         return run;
     }
-    Run {
-        count: 0,
-        column: 0,
-        until: 0,
-    }
+    NO_RUN
 }
 
-/// Moves the blocks from `count` on, of those passed, back in front of those ahead.
+/// Moves the blocks from `count` on, of those passed, back before those ahead.
 fn rewind(
     passed: &mut Vec<Block>,
     ahead: &mut VecDeque<Block>,
@@ -129,11 +139,7 @@ impl OpenBlocks {
             column: 0,
             passed: Vec::new(alloc),
             ahead: VecDeque::new(alloc),
-            run: Run {
-                count: 0,
-                column: 0,
-                until: 0,
-            },
+            run: NO_RUN,
         }
     }
 

@@ -9,7 +9,7 @@ use crate::block::Block;
 use crate::error::GridError;
 use crate::open_blocks::OpenBlocks;
 use crate::shape::SpanOf;
-use tl_base::List;
+use tl_base::{List, MAX_CELLS, MAX_COLSPAN, MAX_ROWSPAN};
 
 /// A row while its cells are formed.
 #[derive(Drop)]
@@ -25,8 +25,8 @@ pub struct RowState {
 /// The block of a cell that begins in column `column` of row `row`.
 fn block_of(number: u32, column: u32, row: u32, span: SpanOf) -> Block
     requires span { IsSpan span }
-    requires column { column + 1000 < 2 ^ 32 }
-    requires row { row + 65534 < 2 ^ 32 }
+    requires column { column + MAX_COLSPAN < 2 ^ 32 }
+    requires row { row + MAX_ROWSPAN < 2 ^ 32 }
     ensures { result ≡ block_at number column row span }
 {
     let rows = if span.rowspan == 0 { 1 } else { span.rowspan };
@@ -44,12 +44,12 @@ fn block_of(number: u32, column: u32, row: u32, span: SpanOf) -> Block
 /// if it runs into it.
 pub fn form_cell(y: u32, number: u32, span: SpanOf, row: RowState) -> Result<RowState, GridError>
     requires span { IsSpan span }
-    requires number { number < 20000 }
-    requires row { y + 65534 < 2 ^ 32 }
-    requires columns { StaysWithin (1000 * number) (row_over row) }
+    requires number { number < MAX_CELLS }
+    requires row { y + MAX_ROWSPAN < 2 ^ 32 }
+    requires columns { StaysWithin (MAX_COLSPAN * number) (row_over row) }
     ensures cell { IsWalked row_over (place_cell y number (row_over row) span) result }
-    ensures columns { IfOk result (λ after. StaysWithin (1000 * (number + 1)) (row_over after)) }
-    ensures height { IfOk result (λ after. after.height ≤ max row.height (y + 65534)) }
+    ensures columns { IfOk result (λ after. StaysWithin (MAX_COLSPAN * (number + 1)) (row_over after)) }
+    ensures height { IfOk result (λ after. after.height ≤ max row.height (y + MAX_ROWSPAN)) }
     ensures count { IfOk result (λ after. length after.blocks ≡ length row.blocks + 1) }
     ensures higher { IfOk result (λ after. row.height ≤ after.height) }
 {

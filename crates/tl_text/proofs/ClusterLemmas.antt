@@ -13,7 +13,7 @@ use Rattle.unicode_segmentation.specs.Grapheme.{is_grapheme_break, graphemes}
 use Rattle.unicode_segmentation.specs.Segments.{Rule, cut, prepend, segments}
 use Rattle.tl_text.specs.declared.paragraph.Atom.{Atom}
 use Rattle.tl_text.specs.declared.paragraph.Atom.TheVariants.{Word, Glue, Break}
-use Rattle.tl_text.specs.Words.{byte_count}
+use Rattle.tl_base.specs.Text.{byte_count}
 use Rattle.tl_text.specs.Paragraph.{IsSolid, IsSpelt, IsParagraph, atom_size}
 use Rattle.tl_text.specs.Cuttings.{joined}
 use Rattle.tl_text.specs.Clusters.{clusters_of, word_of, units_of, by_clusters}

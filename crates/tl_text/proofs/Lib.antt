@@ -1,4 +1,3 @@
-pub mod Bytes
 pub mod Leading
 pub mod WordLemmas
 pub mod Sizes

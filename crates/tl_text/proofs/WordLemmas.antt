@@ -1,10 +1,13 @@
 -- The words of a text, read from the left.
-use Rattle.std.proofs.Common.{◌≡◌, ℕ, ◌+◌, ◌<◌, true, false, cond, List, [], ◌∷◌, ◌++◌, length, filter, refl, ap, sym, ◌∙◌, append_assoc, arith, get_or, drop}
+use Rattle.std.proofs.Common.{◌≡◌, ℕ, ◌+◌, ◌<◌, Bool, true, false, cond, List, [], ◌∷◌, ◌++◌, length, filter, refl, ap, sym, ◌∙◌, append_assoc, arith, get_or, drop, not, ◌==◌}
 use Rattle.std.specs.List.{slice_split, onto_first}
 use Rattle.std.specs.Char.{is_ascii_whitespace}
 use Rattle.std.proofs.lemmas.List.{at_drop_more, append-nil, length_push, drop_all}
 use Rattle.std.proofs.lemmas.List.Splits.{slice_split-cons_yes, slice_split-cons_no}
 use Rattle.std.proofs.lemmas.Bool.Decides.{nat_tests}
+use Rattle.std.specs.Str.{chars, IsUtf8}
+use Rattle.tl_base.proofs.Texts.{length-chars}
+use Rattle.tl_base.proofs.Texts as texts
 use Rattle.tl_text.specs.Words.{words_of, has_character}
 
 -- the parts, where an open one goes on into the first
@@ -45,6 +48,11 @@ words_from-white word rest c white =
 pub words_from-end : (word : List ℕ) → words_from word [] ≡ cond (has_character word) (word ∷ []) []
 words_from-end word = rw append-nil refl
 
+-- a word that is kept stands before those that come later
+kept : (some : Bool) (word : List ℕ) (later : List (List ℕ)) → cond some (word ∷ []) [] ++ later ≡ cond some (word ∷ later) later
+kept true word later = refl
+kept false word later = refl
+
 -- one more character, at the place after those that were read
 module _ (list : List (List ℕ)) (cs y : List ℕ) (c : ℕ) (word : List ℕ) (turn : (length y < length cs) × (c ≡ get_or cs (length y) c))
     (so_far : list ++ words_from word (drop (length y) cs) ≡ words_of cs) where
@@ -59,26 +67,23 @@ module _ (list : List (List ℕ)) (cs y : List ℕ) (c : ℕ) (word : List ℕ) 
   pub after_letter : is_ascii_whitespace c ≡ false → list ++ words_from (word ++ c ∷ []) (drop (length (y ++ c ∷ [])) cs) ≡ words_of cs
   after_letter letter = ap (λ words. list ++ words) (sym (words_from-letter word (drop (length (y ++ c ∷ [])) cs) c letter)) ∙ known
 
-  -- white space ends a word
-  pub after_word : is_ascii_whitespace c ≡ true → has_character word ≡ true → (list ++ word ∷ []) ++ words_from [] (drop (length (y ++ c ∷ [])) cs)
+  -- white space ends the open word, if it has a character
+  pub after_white : is_ascii_whitespace c ≡ true → (list ++ filter has_character (word ∷ [])) ++ words_from [] (drop (length (y ++ c ∷ [])) cs)
       ≡ words_of cs
-  after_word white some =
-      append_assoc list (word ∷ []) _
-      ∙ ap (λ b. list ++ cond b (word ∷ words_from [] (drop (length (y ++ c ∷ [])) cs)) (words_from [] (drop (length (y ++ c ∷ [])) cs))) (sym some)
-      ∙ ap (λ words. list ++ words) (sym (words_from-white word (drop (length (y ++ c ∷ [])) cs) c white)) ∙ known
-
-  -- white space ends no word where none is open
-  pub after_none : is_ascii_whitespace c ≡ true → has_character word ≡ false → list ++ words_from [] (drop (length (y ++ c ∷ [])) cs) ≡ words_of cs
-  after_none white none =
-      ap (λ b. list ++ cond b (word ∷ words_from [] (drop (length (y ++ c ∷ [])) cs)) (words_from [] (drop (length (y ++ c ∷ [])) cs))) (sym none)
-      ∙ ap (λ words. list ++ words) (sym (words_from-white word (drop (length (y ++ c ∷ [])) cs) c white)) ∙ known
+  after_white white =
+      let later = words_from [] (drop (length (y ++ c ∷ [])) cs) in
+      append_assoc list (filter has_character (word ∷ [])) later
+      ∙ ap (λ words. list ++ words) (kept (has_character word) word later ∙ sym (words_from-white word (drop (length (y ++ c ∷ [])) cs) c white))
+      ∙ known
 
 -- nothing is left: the open word is the last
 module _ (list : List (List ℕ)) (cs y word : List ℕ) (all : length y ≡ length cs) (so_far : list ++ words_from word (drop (length y) cs) ≡ words_of cs) where
-  pub at_end : list ++ cond (has_character word) (word ∷ []) [] ≡ words_of cs
+  pub at_end : list ++ filter has_character (word ∷ []) ≡ words_of cs
   at_end = ap (λ words. list ++ words) (sym (words_from-end word) ∙ ap (λ l. words_from word l) (sym (drop_all (length y) cs (omega arith)))) ∙ so_far
 
--- a text without characters is empty
-pub no_character : (text : List ℕ) → has_character text ≡ false → text ≡ []
-no_character [] none = refl
-no_character (c ∷ text) none = absurd (grind (arith, nat_tests))
+-- whether a text has a character, by its bytes
+pub has_character-chars : (bytes : List ℕ) → IsUtf8 bytes → has_character (chars bytes) ≡ not (length bytes == 0)
+has_character-chars bytes utf8 =
+    let more = texts.has_character bytes utf8 in
+    let fewer = length-chars bytes utf8 in
+    grind (arith, nat_tests)

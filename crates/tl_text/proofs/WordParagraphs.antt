@@ -8,9 +8,11 @@ use Rattle.std.proofs.lemmas.Bool.{ltb-true}
 use Rattle.std.proofs.lemmas.List.Sums.{sum_by-cons}
 use Rattle.std.proofs.lemmas.List.Elements.{All-from_recursion}
 use Rattle.std.proofs.lemmas.List.Splits.{slice_split-cons_yes, slice_split-cons_no}
+use Rattle.tl_base.specs.declared.limits.TheConstants.{MAX_FILE_BYTES}
 use Rattle.tl_text.specs.declared.paragraph.Atom.{Atom}
 use Rattle.tl_text.specs.declared.paragraph.Atom.TheVariants.{Word}
-use Rattle.tl_text.specs.Words.{words_of, has_character, byte_count}
+use Rattle.tl_base.specs.Text.{byte_count}
+use Rattle.tl_text.specs.Words.{words_of, has_character}
 use Rattle.tl_text.specs.Paragraph.{IsSolid, IsSpelt, IsParagraph, atom_size, lined_pieces, begins_with_glue, has_leading_glue}
 
 -- a part of a text without white space
@@ -100,7 +102,7 @@ begun_words [] = refl
 begun_words (word ∷ words) = begun_more word (lined_pieces (map Word words)) (begun_words words)
 
 -- the words of a text within the limit are a paragraph
-pub words_are_paragraph : (text : List ℕ) → byte_count text ≤ 1048576 → 0 < length (words_of text) → IsParagraph (map Word (words_of text))
+pub words_are_paragraph : (text : List ℕ) → byte_count text ≤ MAX_FILE_BYTES → 0 < length (words_of text) → IsParagraph (map Word (words_of text))
 words_are_paragraph text small some =
     let parts = parts_of text in
     record {

@@ -3,7 +3,6 @@
 use Rattle.std.specs.Prelude.{ℕ, Bool, false, List, length, filter, nat_lt}
 use Rattle.std.specs.List.{slice_split}
 use Rattle.std.specs.Char.{is_ascii_whitespace}
-use Rattle.std.specs.Str.{encode_utf8_all}
 use Rattle.unicode_width.specs.Width.{str_width}
 
 -- some character stands in the text
@@ -18,7 +17,3 @@ words_of text = filter has_character (slice_split is_ascii_whitespace text)
 -- how many columns a text takes
 abbrev pub width_of : List ℕ → ℕ
 width_of text = str_width false text
-
--- how many bytes a text takes in UTF-8
-abbrev pub byte_count : List ℕ → ℕ
-byte_count text = length (encode_utf8_all text)

@@ -5,6 +5,7 @@ ghost use Rattle.tl_text.specs.inner.Measure.{measure_of, columns_of};
 ghost use Rattle.tl_text.specs.Paragraph.{atom_size};
 
 use crate::{Atom, word_width};
+use tl_base::MAX_FILE_BYTES;
 
 /// An atom as breaking sees it.
 #[derive(Clone, Copy)]
@@ -30,7 +31,7 @@ impl Measure {
 
 /// Measures one atom.
 pub fn measured(atom: &Atom) -> Measure
-    requires { atom_size atom.now ≤ 1048576 }
+    requires { atom_size atom.now ≤ MAX_FILE_BYTES }
     ensures measure { result ≡ measure_of atom.now }
     ensures bytes { columns_of result ≤ 2 * atom_size atom.now }
 {

@@ -4,11 +4,11 @@ use Rattle.std.proofs.Common.{Ok, Err, IfOk, IfErr}
 use Rattle.std.proofs.lemmas.Str.{encodes-chars}
 use Rattle.std.specs.Str.{chars, IsUtf8}
 use Rattle.std.specs.Str.Lossy.{utf8_valid_len}
-use Rattle.tl_token.specs.Characters.{byte_len}
+use Rattle.tl_base.specs.Text.{byte_count}
 use Rattle.tl_token.specs.Grammar.{Piece, Stands, FaultStands}
 use Rattle.tl_token.specs.Grammar as grammar
-use Rattle.tl_token.specs.Spelling.{place_of, tokens_of, without_mark, characters, SpellsTokens, FirstFault, Refused, RefusedOrMemory, Tokens}
-use Rattle.tl_token.specs.Spelling.{ReturnsTokens, ReturnsError, size_of}
+use Rattle.tl_token.specs.Spelling.{place_of, tokens_of, without_mark, characters, SpellsTokens, FirstFault, Refused, out_of_memory, Tokens, size_of}
+use Rattle.tl_base.specs.Returned.{ReturnsOk, ReturnsError, IsMemoryOr}
 use Rattle.tl_token.specs.inner.Reading.{Found, stands, faulty, standing}
 use Rattle.tl_token.specs.inner.Reader.{Eats}
 use Rattle.tl_token.specs.inner.Found.{fault_of, error_of}
@@ -27,15 +27,15 @@ mark_passed old new true h = ap without_mark h
 mark_passed [] new false h = sym (h.0)
 mark_passed (c ∷ cs) new false h = ap (λ b. cond b cs (c ∷ cs)) (h.1) ∙ sym (h.0)
 
-pub mark_le : (cs : List ℕ) → byte_len (without_mark cs) ≤ byte_len cs
+pub mark_le : (cs : List ℕ) → byte_count (without_mark cs) ≤ byte_count cs
 mark_le [] = omega arith
 mark_le (c ∷ cs) = by_test (eqb c 0xFEFF)
   where
-    by_test : (b : Bool) → byte_len (cond b cs (c ∷ cs)) ≤ byte_len (c ∷ cs)
+    by_test : (b : Bool) → byte_count (cond b cs (c ∷ cs)) ≤ byte_count (c ∷ cs)
     by_test true = let h = more_bytes c cs in omega arith
     by_test false = omega arith
 
-pub bytes_of : (bytes : List ℕ) → IsUtf8 bytes → byte_len (chars bytes) ≡ length bytes
+pub bytes_of : (bytes : List ℕ) → IsUtf8 bytes → byte_count (chars bytes) ≡ length bytes
 bytes_of bytes u = ap length (encodes-chars bytes u)
 
 -- what stands where the reader finds it
@@ -113,14 +113,14 @@ said_once bytes d e (at_fault f p h l) (at_fault g q k m) =
 
 -- So each result excludes the others.
 module _ (bytes : List ℕ) where
-  pub only_tokens : (result : Result Tokens TokenError) → IfOk result (SpellsTokens bytes) → IfErr result (RefusedOrMemory bytes)
-      → (ts : Tokens) → SpellsTokens bytes ts → ReturnsTokens ts result
+  pub only_tokens : (result : Result Tokens TokenError) → IfOk result (SpellsTokens bytes) → IfErr result (IsMemoryOr out_of_memory (Refused bytes))
+      → (ts : Tokens) → SpellsTokens bytes ts → ReturnsOk out_of_memory ts result
   only_tokens (Ok us) h _ ts k = spelled_once bytes us ts h k
   only_tokens (Err e) _ (inl h) ts k = h
   only_tokens (Err e) _ (inr h) ts k = absurd (spelled_or_refused bytes ts e k h)
 
-  pub only_error : (result : Result Tokens TokenError) → IfOk result (SpellsTokens bytes) → IfErr result (RefusedOrMemory bytes)
-      → (e : TokenError) → Refused bytes e → ReturnsError e result
+  pub only_error : (result : Result Tokens TokenError) → IfOk result (SpellsTokens bytes) → IfErr result (IsMemoryOr out_of_memory (Refused bytes))
+      → (e : TokenError) → Refused bytes e → ReturnsError out_of_memory e result
   only_error (Ok us) h _ e k = spelled_or_refused bytes us e h k
   only_error (Err d) _ (inl h) e k = inl h
   only_error (Err d) _ (inr h) e k = inr (said_once bytes d e (said bytes d h) (said bytes e k))

@@ -1,20 +1,20 @@
 -- Classes of characters. White space, letters and digits are those of ASCII, as in the HTML
 -- Standard (section 2.3 of the Infra Standard); the characters of names and values are a profile of
 -- its section 13.1.2.
-use Rattle.std.specs.Prelude.{ℕ, Bool, false, ◌||◌, ◌&&◌, not, ◌==◌, nat_lt, nat_le, List, [], ◌∷◌, Option, Some, None, length, if◌then◌else◌, codes}
-use Rattle.std.specs.Prelude.{encode_utf8_all}
+use Rattle.std.specs.Prelude.{ℕ, Bool, false, ◌||◌, ◌&&◌, not, ◌==◌, nat_lt, nat_le, List, [], ◌∷◌, Option, Some, None, if◌then◌else◌, codes}
 use Rattle.std.specs.Char.{is_ascii_whitespace, is_ascii_alphabetic}
 use Prim.Native.String.{String}
 
-abbrev pub is_among : ℕ → List ℕ → Bool
-is_among c [] = false
-is_among c (d ∷ []) = c == d
-is_among c (d ∷ e ∷ others) = c == d || is_among c (e ∷ others)
+-- the character is one of these; a single one is compared once
+abbrev pub is_one_of : ℕ → List ℕ → Bool
+is_one_of c [] = false
+is_one_of c (d ∷ []) = c == d
+is_one_of c (d ∷ e ∷ others) = c == d || is_one_of c (e ∷ others)
 
--- the character is one of these
+-- the character stands in the text
 infix 60 ◌∈◌
 abbrev pub ◌∈◌ : ℕ → String → Bool
-c ∈ s = is_among c (codes s)
+c ∈ s = is_one_of c (codes s)
 
 -- a tab, a line feed, a form feed, a carriage return or a space
 abbrev pub is_space : ℕ → Bool
@@ -59,7 +59,3 @@ run test (c ∷ cs) = if test c then c ∷ run test cs else []
 abbrev pub past : (ℕ → Bool) → List ℕ → List ℕ
 past test [] = []
 past test (c ∷ cs) = if test c then past test cs else c ∷ cs
-
--- how many bytes the characters take in UTF-8
-abbrev pub byte_len : List ℕ → ℕ
-byte_len cs = length (encode_utf8_all cs)

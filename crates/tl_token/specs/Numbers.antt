@@ -3,6 +3,7 @@
 use Rattle.std.specs.Prelude.{ℕ, ◌+◌, ◌*◌, min, max, Bool, ◌&&◌, nat_lt, List, [], ◌∷◌, drop, Option, Some, None, if◌then◌else◌}
 use Rattle.std.specs.List.{fold}
 use Rattle.std.specs.Char.{is_ascii_digit, digit_value}
+use Rattle.tl_base.specs.declared.limits.TheConstants.{MAX_COLSPAN, MAX_ROWSPAN, MAX_PAGE_WIDTH}
 use Rattle.tl_token.specs.Characters.{◌∈◌, is_space, begins, run, past}
 
 -- the number that the digits of a base stand for, after the digits that stand for n
@@ -32,17 +33,17 @@ number_of value =
     signed_number (begins (λ c. c ∈ "-") cs) (run is_ascii_digit (unsigned cs))
 
 -- The columns of a cell, a `col` or a `colgroup`: 1 where there is no number or it is 0, and at
--- most 1000.
+-- most `MAX_COLSPAN`.
 abbrev pub columns_of : Option ℕ → ℕ
 columns_of None = 1
-columns_of (Some n) = max 1 (min n 1000)
+columns_of (Some n) = max 1 (min n MAX_COLSPAN)
 
--- The rows of a cell: 1 where there is no number, 0 for "grows downward", and at most 65534.
+-- The rows of a cell: 1 where there is no number, 0 for "grows downward", and at most `MAX_ROWSPAN`.
 abbrev pub rows_of : Option ℕ → ℕ
 rows_of None = 1
-rows_of (Some n) = min n 65534
+rows_of (Some n) = min n MAX_ROWSPAN
 
--- The columns of text that a cell is wide at least: 0 where there is no number, and at most 500.
+-- The columns of text that a cell is wide at least: 0 where there is no number, and at most `MAX_PAGE_WIDTH`.
 abbrev pub floor_of : Option ℕ → ℕ
 floor_of None = 0
-floor_of (Some n) = min n 500
+floor_of (Some n) = min n MAX_PAGE_WIDTH

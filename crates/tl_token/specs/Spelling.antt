@@ -1,8 +1,8 @@
 -- How the bytes of a file spell tokens, where the first fault stands, and what `tokens` returns of
 -- it. Places count bytes of the file from 0.
-use Rattle.std.specs.Prelude.{◌≡◌, ℕ, ◌+◌, ◌-◌, ◌⊎◌, List, [], ◌∷◌, length, ◌==◌, if◌then◌else◌, IsUtf8, chars, Result, Ok, Err, alloc_error}
+use Rattle.std.specs.Prelude.{◌≡◌, ℕ, ◌+◌, ◌-◌, List, [], ◌∷◌, length, ◌==◌, if◌then◌else◌, IsUtf8, chars, alloc_error}
 use Rattle.std.specs.Str.Lossy.{utf8_valid_len}
-use Rattle.tl_token.specs.Characters.{byte_len}
+use Rattle.tl_base.specs.Text.{byte_count}
 use Rattle.tl_token.specs.Grammar.{Piece, hidden, tag, character, Stands, Fault, unended_tag, unended_comment, bad_tag, unknown_element}
 use Rattle.tl_token.specs.Grammar.{bad_reference, bad_character, FaultStands}
 use Rattle.tl_token.specs.declared.token.TokenKind.{TokenKind}
@@ -28,7 +28,7 @@ Parts = List Part
 
 -- the place at which what is left of a file of that size begins
 abbrev pub place_of : ℕ → List ℕ → ℕ
-place_of size cs = size - byte_len cs
+place_of size cs = size - byte_count cs
 
 -- one piece after another stands there, up to the rest
 pub data Leads (size : ℕ) : List ℕ → List Part → List ℕ → Type 0 where
@@ -102,23 +102,13 @@ Refused bytes (BadCharacter place) = FirstFault bytes bad_character place
 abbrev pub Tokens : Type 0
 Tokens = List Token
 
--- the error refuses the bytes, or memory ran out
-abbrev pub RefusedOrMemory : List ℕ → TokenError → Type 0
-RefusedOrMemory bytes error = (error ≡ Memory alloc_error) ⊎ Refused bytes error
-
--- these tokens are returned, unless memory ran out
-abbrev pub ReturnsTokens : Tokens → Result Tokens TokenError → Type 0
-ReturnsTokens tokens (Ok returned) = returned ≡ tokens
-ReturnsTokens tokens (Err error) = error ≡ Memory alloc_error
-
--- this error is returned, unless memory ran out
-abbrev pub ReturnsError : TokenError → Result Tokens TokenError → Type 0
-ReturnsError expected (Ok returned) = ⊥
-ReturnsError expected (Err error) = (error ≡ Memory alloc_error) ⊎ (error ≡ expected)
+-- the error of a call that ran out of memory
+abbrev pub out_of_memory : TokenError
+out_of_memory = Memory alloc_error
 
 -- the bytes of a text, and 1 for a tag
 abbrev pub token_size : TokenKind → ℕ
-token_size (Text cs) = byte_len cs
+token_size (Text cs) = byte_count cs
 token_size (Start e spans) = 1
 token_size (End e) = 1
 

@@ -2,7 +2,8 @@
 
 ghost use Rattle.std.specs.Prelude.{◌≡◌, false, [], ◌∷◌, ◌++◌, length, drop, chars, MatchOption, if◌then◌else◌};
 ghost use Rattle.std.specs.Str.{IsUtf8};
-ghost use Rattle.tl_token.specs.Characters.{first, begins, run, past, byte_len, is_name_character, is_value_character};
+ghost use Rattle.tl_base.specs.Text.{byte_count};
+ghost use Rattle.tl_token.specs.Characters.{first, begins, run, past, is_name_character, is_value_character};
 
 /// What is left of a text.
 #[derive(Clone, Copy)]
@@ -85,7 +86,7 @@ impl<'a> Reader<'a> {
 
     /// The bytes that are left.
     pub(crate) fn len(&self) -> usize
-        ensures { result ≡ byte_len (unread self.now) }
+        ensures { result ≡ byte_count (unread self.now) }
     {
         self.rest.len()
     }

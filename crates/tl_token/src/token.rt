@@ -29,13 +29,13 @@ pub enum Element {
 /// The numbers that a start tag gives.
 #[derive(Clone, Copy, Debug, PartialEq, Eq)]
 pub struct Spans {
-    /// The columns that a cell covers, 1 to 1000.
+    /// The columns that a cell covers, 1 to `MAX_COLSPAN`.
     pub colspan: u32,
-    /// The rows that a cell covers, up to 65534. 0: it grows downward to its group's end.
+    /// The rows that a cell covers, up to `MAX_ROWSPAN`. 0: it grows downward to its group's end.
     pub rowspan: u32,
-    /// The columns that a `col` or a `colgroup` stands for, 1 to 1000.
+    /// The columns that a `col` or a `colgroup` stands for, 1 to `MAX_COLSPAN`.
     pub span: u32,
-    /// The columns of text that a cell is wide at least, up to 500.
+    /// The columns of text that a cell is wide at least, up to `MAX_PAGE_WIDTH`.
     pub least: u32,
 }
 

@@ -1,6 +1,7 @@
 -- The least room of a block and of a cell, and the demands of a table's cells. No public clause cites this file.
 use Rattle.std.specs.Prelude.{◌≡◌, ℕ, ◌≤◌, List}
 use Rattle.std.specs.List.{AllZip, AllByRecursion}
+use Rattle.tl_base.specs.declared.limits.TheConstants.{MAX_PAGE_WIDTH}
 use Rattle.tl_base.specs.declared.style.Style.{Style}
 use Rattle.tl_form.specs.declared.cell.Content.{Content, out-Content}
 use Rattle.tl_form.specs.declared.cell.Table.{Table}
@@ -42,5 +43,5 @@ abbrev pub IsSoundBlock : OpenContent → Type 0
 IsSoundBlock block = AllByRecursion IsSound (tables_of block)
 
 pub record IsSoundCell (cell : OpenCell) : Type 0 where
-  pub narrow : cell.least ≤ 500
+  pub narrow : cell.least ≤ MAX_PAGE_WIDTH
   pub inner : AllByRecursion IsSound (tables_in cell)

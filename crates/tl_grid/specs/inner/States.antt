@@ -1,6 +1,6 @@
 -- No public clause cites this file. What the code keeps while it forms a table over blocks, and how
 -- its results follow the definition's.
-use Rattle.std.specs.Prelude.{ℕ, ◌≤◌, ◌≡◌, ◌⊎◌, List, ◌++◌, Result, Ok, Err, alloc_error}
+use Rattle.std.specs.Prelude.{ℕ, ◌≤◌, ◌≡◌, ◌⊎◌, ◌++◌, Result, Ok, Err, alloc_error}
 use Rattle.std.specs.List.{AllByRecursion}
 use Rattle.tl_grid.specs.declared.block.Block.{Block}
 use Rattle.tl_grid.specs.declared.row.RowState.{RowState}

@@ -1,6 +1,7 @@
 -- No public clause cites this file. How a table is formed over blocks: row by row, group by group,
 -- the footers last.
-use Rattle.std.specs.Prelude.{ℕ, ◌+◌, max, Bool, ◌==◌, not, map, true, false, if◌then◌else◌, List, [], ◌∷◌, ◌++◌, length, Option, Some, None, Result, Ok, Err}
+use Rattle.std.specs.Prelude.{ℕ, ◌+◌, max, Bool, ◌==◌, not, map, true, false, if◌then◌else◌, List}
+use Rattle.std.specs.Prelude.{[], ◌∷◌, ◌++◌, length, Option, Some, None, Result, Ok, Err}
 use Rattle.tl_grid.specs.declared.shape.SpanOf.{SpanOf}
 use Rattle.tl_grid.specs.declared.block.Block.{Block}
 use Rattle.tl_grid.specs.declared.table.Table.{Table}

@@ -1,5 +1,7 @@
-use Rattle.std.proofs.Common.{◌≡◌, ◌*◌, ◌<◌, ◌++◌, List, [], ◌∷◌, true, false, eqb, length, drop, get_or, ap, ◌+◌, drop-cons, add-one, suc, arith, refl, sym, ◌∙◌, subst}
+use Rattle.std.proofs.Common.{◌≡◌, ◌*◌, ◌<◌, ◌++◌, List, [], ◌∷◌, true, false, eqb, length, drop, get_or, ap, ◌+◌, drop-cons, add-one, suc, arith}
+use Rattle.std.proofs.Common.{refl, sym, ◌∙◌, subst}
 use Rattle.std.proofs.lemmas.Bool.{both_ways}
+use Rattle.tl_base.specs.declared.limits.TheConstants.{MAX_COLSPAN}
 use Rattle.tl_grid.specs.declared.shape.SpanOf.{SpanOf}
 use Rattle.std.proofs.lemmas.Grind.{common_steps}
 use Rattle.tl_grid.specs.inner.OpenBlocks.{Walk}
@@ -16,9 +18,10 @@ has_some (x ∷ xs) none = omega arith
 
 pub loop-span-init : goal.loop-span-init
 loop-span-init c =
-    let P : Walk → Type 0 = λ w. EndsIn (1000 * c.args.number) w in
+    let P : Walk → Type 0 = λ w. EndsIn (MAX_COLSPAN * c.args.number) w in
     let columns = subst P (sym c.in_ok-begin_row.ensures)
-    (passed_within (1000 * c.args.number) c.args.group.row (c.args.group.open_blocks.passed ++ c.args.group.open_blocks.ahead) 0 [] (omega arith) c.requires.columns) in
+    (passed_within (MAX_COLSPAN * c.args.number) c.args.group.row
+    (c.args.group.open_blocks.passed ++ c.args.group.open_blocks.ahead) 0 [] (omega arith) c.requires.columns) in
     let cells = row_begun c.args.group.row c.args.number c.args.spans.now (row_of (group_over c.args.group)) c.in_ok-begin_row.field-0
     (has_some c.args.spans.now (sym c.is_empty.ensures ∙ c.if-is_empty.false)) c.in_ok-begin_row.ensures in
     grind (arith, common_steps, columns, cells)

@@ -1,4 +1,4 @@
-use Rattle.std.proofs.Common.{◌≡◌, List, ◌++◌, [], take, drop, MatchResult, alloc_error, ap, ◌∙◌, subst}
+use Rattle.std.proofs.Common.{◌≡◌, List, ◌++◌, [], take, MatchResult, alloc_error, ap, ◌∙◌, subst}
 use Rattle.tl_grid.specs.declared.block.Block.{Block}
 use Rattle.tl_grid.specs.declared.error.GridError.TheVariants.{Memory}
 use Rattle.tl_grid.specs.inner.OpenBlocks.{Walk, pass_taken}
