@@ -22,7 +22,8 @@ use Rattle.tl_problem.proofs.ZoneLaws.{whole-all}
 
 -- ---- two sets with the same widths
 
-module _ (problem : ProblemModel) (A B : List ℕ → Type 0) (there : (widths : List ℕ) → A widths → B widths) (back : (widths : List ℕ) → B widths → A widths) where
+module _ (problem : ProblemModel) (A B : List ℕ → Type 0) (there : (widths : List ℕ) → A widths → B widths) (back : (widths : List ℕ) → B widths →
+    A widths) where
   greatest_room-same : (left right w : ℕ) → IsGreatestRoom problem A left right w → IsGreatestRoom problem B left right w
   greatest_room-same left right w is = record {
     attained = (is.attained.0, there is.attained.0 is.attained.1, is.attained.2);
@@ -35,11 +36,13 @@ module _ (problem : ProblemModel) (A B : List ℕ → Type 0) (there : (widths :
   pub placement-same : (placed : Placed) → IsPlacementIn problem A placed → IsPlacementIn problem B placed
   placement-same placed is = record { columns = least-same (gap_of problem.style) placed.widths is.columns; placement = is.placement }
 
-module _ (problem : ProblemModel) (A B : List ℕ → Type 0) (there : (widths : List ℕ) → A widths → B widths) (back : (widths : List ℕ) → B widths → A widths) where
+module _ (problem : ProblemModel) (A B : List ℕ → Type 0) (there : (widths : List ℕ) → A widths → B widths) (back : (widths : List ℕ) → B widths →
+    A widths) where
   give_low-same : (heights : List ℕ) → GiveLow problem A heights → GiveLow problem B heights
   give_low-same heights give = record {
     rows = give.rows;
-    cells = λ k d within w greatest. give.cells k d within w (greatest_room-same problem B A back there (get_or problem.cells k d).left (get_or problem.cells k d).right w greatest);
+    cells = λ k d within w greatest. give.cells k d within w (greatest_room-same problem B A back there (get_or problem.cells k d).left
+        (get_or problem.cells k d).right w greatest);
   }
 
   between-same : (cell : Cell) (w : ℕ) → IsBetweenRooms problem A cell w → IsBetweenRooms problem B cell w
@@ -48,7 +51,8 @@ module _ (problem : ProblemModel) (A B : List ℕ → Type 0) (there : (widths :
     no_less = (is.no_less.0, there is.no_less.0 is.no_less.1, is.no_less.2);
   }
 
-module _ (problem : ProblemModel) (A B : List ℕ → Type 0) (there : (widths : List ℕ) → A widths → B widths) (back : (widths : List ℕ) → B widths → A widths) where
+module _ (problem : ProblemModel) (A B : List ℕ → Type 0) (there : (widths : List ℕ) → A widths → B widths) (back : (widths : List ℕ) → B widths →
+    A widths) where
   pub bound-same : (bound : ℕ) → IsBound problem A bound → IsBound problem B bound
   bound-same bound is = record {
     some = (is.some.0, there is.some.0 is.some.1);
@@ -78,21 +82,27 @@ module _ (problem : ProblemModel) (A B : List ℕ → Type 0) (there : (widths :
       areas = held.1.areas;
       end = held.1.end;
       least = areas-same problem.cells held.1.areas held.1.least;
-      greatest = record { attained = (held.1.greatest.attained.0, there held.1.greatest.attained.0 held.1.greatest.attained.1, held.1.greatest.attained.2); never_more = λ widths among. held.1.greatest.never_more widths (back widths among) };
+      greatest = record { attained = (held.1.greatest.attained.0, there held.1.greatest.attained.0 held.1.greatest.attained.1,
+          held.1.greatest.attained.2); never_more = λ widths among. held.1.greatest.never_more widths (back widths among) };
       rounded = held.1.rounded;
     }, held.2);
   }
 
 -- the opening is the placement in the whole zone
-pub opening-in_whole : (problem : ProblemModel) → IsSound problem → (placed : Placed) → IsOpening problem placed → IsPlacementIn problem (InZone problem (whole_zone problem)) placed
-opening-in_whole problem sound placed is = placement-same problem (WithinPage problem) (InZone problem (whole_zone problem)) (whole-all problem sound) (λ widths inside. inside.page) placed is
+pub opening-in_whole : (problem : ProblemModel) → IsSound problem → (placed : Placed) → IsOpening problem placed →
+    IsPlacementIn problem (InZone problem (whole_zone problem)) placed
+opening-in_whole problem sound placed is = placement-same problem (WithinPage problem) (InZone problem (whole_zone problem))
+    (whole-all problem sound) (λ widths inside. inside.page) placed is
 
-pub whole-opening : (problem : ProblemModel) → IsSound problem → (placed : Placed) → IsPlacementIn problem (InZone problem (whole_zone problem)) placed → IsOpening problem placed
-whole-opening problem sound placed is = placement-same problem (InZone problem (whole_zone problem)) (WithinPage problem) (λ widths inside. inside.page) (whole-all problem sound) placed is
+pub whole-opening : (problem : ProblemModel) → IsSound problem → (placed : Placed) →
+    IsPlacementIn problem (InZone problem (whole_zone problem)) placed → IsOpening problem placed
+whole-opening problem sound placed is = placement-same problem (InZone problem (whole_zone problem)) (WithinPage problem)
+    (λ widths inside. inside.page) (whole-all problem sound) placed is
 
 -- ---- a set within another has no lower bound
 
-module _ (problem : ProblemModel) (sound : IsSound problem) (A B : List ℕ → Type 0) (within : (widths : List ℕ) → A widths → B widths) (page : (widths : List ℕ) → A widths → WithinPage problem widths) where
+module _ (problem : ProblemModel) (sound : IsSound problem) (A B : List ℕ → Type 0) (within : (widths : List ℕ) → A widths →
+    B widths) (page : (widths : List ℕ) → A widths → WithinPage problem widths) where
   give_low-wider : (widths heights : List ℕ) → A widths → GiveLow problem A heights → GiveLow problem B heights
   give_low-wider widths heights among give = record {
     rows = give.rows;
