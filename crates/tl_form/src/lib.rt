@@ -5,9 +5,11 @@
 
 mod cell;
 mod layout;
+mod narrow;
 mod widest;
 mod width;
 
 pub use cell::{Content, Kind, Table, TableCell};
 pub use layout::Layout;
+pub use narrow::narrow_chain;
 pub use width::least_width;
