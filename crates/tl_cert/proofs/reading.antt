@@ -7,3 +7,8 @@ pub mod Sequence
 pub mod Words
 pub mod Choice
 pub mod NumberReading
+pub mod Same
+pub mod ListExact
+pub mod Unlimited
+pub mod Parts
+pub mod Loops

@@ -18,7 +18,7 @@ InRange problem widths s r = (first_in_class problem s r.first ≤ span_width pr
 -- ---- the whole
 
 -- the range of a span in the whole
-whole-range : (problem : ProblemModel) (s : ℕ) → s < length (spans_of problem) → range_at (whole_zone problem) s ≡ range 0 (length (classes_at problem s) - 1)
+pub whole-range : (problem : ProblemModel) (s : ℕ) → s < length (spans_of problem) → range_at (whole_zone problem) s ≡ range 0 (length (classes_at problem s) - 1)
 whole-range problem s within = get_or-map (λ columns. range 0 (length (classes_of problem columns) - 1)) (spans_of problem) s (span 0 0) (range 0 0) within
 
 pub whole-is_zone : (problem : ProblemModel) → IsZone problem (whole_zone problem)
@@ -31,7 +31,7 @@ whole-is_zone problem = record {
 }
 
 -- a span of the problem lies within its columns
-span-within : (problem : ProblemModel) → IsSound problem → (s : ℕ) → s < length (spans_of problem) → ((span_at problem s).left < (span_at problem s).right) × ((span_at problem s).right ≤ problem.cols)
+pub span-within : (problem : ProblemModel) → IsSound problem → (s : ℕ) → s < length (spans_of problem) → ((span_at problem s).left < (span_at problem s).right) × ((span_at problem s).right ≤ problem.cols)
 span-within problem sound s within =
     let found = spans-cell problem (span_at problem s) (Contains-get_or (spans_of problem) s (span 0 0) within) in
     let parts = has_span-parts (span_at problem s) found.0 found.2 in
@@ -54,7 +54,7 @@ whole-all problem sound widths page = record {
 -- ---- a cut
 
 -- two numbers are the same or not
-cases_eq : (t s : ℕ) → (t ≡ s) ⊎ (t ≢ s)
+pub cases_eq : (t s : ℕ) → (t ≡ s) ⊎ (t ≢ s)
 cases_eq t s = elim (cases_lt t s) [ inl less ↦ inr (λ e. omega arith) | inr more ↦ elim (cases_lt s t) [ inl above ↦ inr (λ e. omega arith) | inr same ↦ inl (omega arith) ] ]
 
 module _ (problem : ProblemModel) (sound : IsSound problem) (zone : List Range) (is : IsZone problem zone) (s class : ℕ) (there : s < length zone)

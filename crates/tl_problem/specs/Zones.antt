@@ -71,6 +71,10 @@ abbrev pub AgreeIn : ProblemModel → List Range → Type 0
 AgreeIn problem zone = (s w : ℕ) (cell : Cell) → s < length zone → IsWidthOf problem zone s w → Contains problem.cells cell → IsTrue (has_span (span_at problem s) cell) →
     height_at cell.low w ≡ height_at cell.high w
 
+-- each cell needs the same by `low` and by `high`, at all widths that the page has room for
+abbrev pub LowIsHigh : ProblemModel → Type 0
+LowIsHigh problem = (cell : Cell) → Contains problem.cells cell → (w : ℕ) → w ≤ page_room problem → height_at cell.low w ≡ height_at cell.high w
+
 -- some cell needs less by `low` than by `high` at a width that the zone gives its span
 pub record DifferIn (problem : ProblemModel) (zone : List Range) : Type 0 where
   pub s : ℕ

@@ -17,5 +17,5 @@ pub use laws::{
     cuts_are_partitions, one_class_is_exact, tight_once, tight_raises_nothing, whole_has_all,
 };
 pub use placed::Placed;
-pub use problem::{MAX_COLUMNS, MAX_LINES, MAX_ROWS, MAX_WIDTH, Problem};
+pub use problem::Problem;
 pub use zone::{Range, Zone};

@@ -3,18 +3,6 @@ use crate::Cell;
 use std::marker::Model;
 use tl_base::{List, Style};
 
-/// The most columns of a problem.
-pub const MAX_COLUMNS: u32 = 60;
-
-/// The most rows of a problem: those of the largest table, and one for its caption.
-pub const MAX_ROWS: u32 = 2_001;
-
-/// The widest page, in columns.
-pub const MAX_WIDTH: u32 = 500;
-
-/// The most lines that the cells may need in all, each at its least width.
-pub const MAX_LINES: u32 = 1 << 30;
-
 /// A grid of cells on a page of `width` columns. Contracts see it as the record of its columns, rows,
 /// style, width and cells; it is sound.
 #[derive(Debug, Drop)]

@@ -6,7 +6,8 @@ use Rattle.std.specs.Str.{IsAscii, IsUtf8, chars}
 use Rattle.std.proofs.lemmas.Str.{IsUtf8-from_ascii, encodes-chars, chars-IsAscii}
 use Rattle.tl_text.specs.declared.paragraph.Atom.{Atom}
 use Rattle.tl_text.specs.declared.paragraph.Atom.TheVariants.{Word}
-use Rattle.tl_text.specs.Words.{words_of, byte_count}
+use Rattle.tl_base.specs.Text.{byte_count}
+use Rattle.tl_text.specs.Words.{words_of}
 use Rattle.tl_text.specs.Paragraph.{IsParagraph}
 use Rattle.tl_text.proofs.WordParagraphs.{words_are_paragraph}
 use Rattle.tl_program.specs.OneColumn.{is_text_byte, IsText, HasRow, HasRows, IsOneColumn}

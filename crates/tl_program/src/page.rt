@@ -1,7 +1,8 @@
 ghost use Rattle.std.specs.Prelude.{◌≡◌, ◌+◌, ◌≤◌, ◌++◌, ◌∷◌, [], ℕ, List, length, encode_utf8_all, IfOk, OnOk, Some};
 ghost use Rattle.std.specs.List.{All, AllZip, AllByRecursion};
 ghost use Rattle.tl_text.specs.declared.paragraph.Atom.{Atom};
-ghost use Rattle.tl_text.specs.Words.{byte_count, width_of};
+ghost use Rattle.tl_base.specs.Text.{byte_count};
+ghost use Rattle.tl_text.specs.Words.{width_of};
 ghost use Rattle.tl_text.specs.Paragraph.{unit_width, atom_size};
 ghost use Rattle.tl_text.specs.Cuttings.{line_width, HasCutting};
 ghost use Rattle.tl_program.specs.TextPage.{spaces, unit_text, line_text, filled, IsTextPage};

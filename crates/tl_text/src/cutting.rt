@@ -1,3 +1,5 @@
+//! How many lines a paragraph needs, and how wide they must be.
+
 ghost use Rattle.std.specs.Prelude.{◌*◌, ◌<◌, ◌≤◌, ◌↔◌, ℕ, Any, IsNone, IfSome, sum_by};
 ghost use Rattle.tl_text.specs.Cuttings.{HasCutting, LeastLines};
 ghost use Rattle.tl_text.specs.Paragraph.{unit_width, atom_size};

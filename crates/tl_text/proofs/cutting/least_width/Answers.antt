@@ -11,8 +11,10 @@ pub loop-atom-preserved : goal.loop-atom-preserved
 loop-atom-preserved c =
     let atoms = c.atoms-atoms.result.now in
     let n = c.loop-atom.atom-index in
-    let width : c.width.result ≡ unit_width c.atom-item.result = c.width.ensures ∙ ap columns_of c.measured.ensures.measure ∙ columns_of-measure_of c.atom-item.result in (
-      AllFit-more c.max-widest.result atoms n c.atom-item.result (omega arith) c.atom-item.is (AllFit-wider c.loop-atom.widest c.max-widest.result (take n atoms) (omega arith) c.loop-atom.invariant.0) (omega arith),
+    let width : c.width.result ≡ unit_width c.atom-item.result =
+    c.width.ensures ∙ ap columns_of c.measured.ensures.measure ∙ columns_of-measure_of c.atom-item.result in (
+      AllFit-more c.max-widest.result atoms n c.atom-item.result (omega arith) c.atom-item.is
+          (AllFit-wider c.loop-atom.widest c.max-widest.result (take n atoms) (omega arith) c.loop-atom.invariant.0) (omega arith),
       λ w each.
           let both = AllFit-less w atoms n c.atom-item.result (omega arith) c.atom-item.is each in
           omega (arith, c.loop-atom.invariant.1 w both.0, both.1),
@@ -22,7 +24,8 @@ loop-atom-preserved c =
 pub returns-clause-holds : goal.returns-clause-holds
 returns-clause-holds c = λ w wider.
     let atoms = c.atoms-atoms.result.now in
-    let each : AllFit c.loop-atom.widest atoms = subst (λ first. AllFit c.loop-atom.widest first) (take_all c.loop-atom.atom-index atoms (omega arith)) c.loop-atom.invariant.0 in
+    let each : AllFit c.loop-atom.widest atoms =
+    subst (λ first. AllFit c.loop-atom.widest first) (take_all c.loop-atom.atom-index atoms (omega arith)) c.loop-atom.invariant.0 in
     subst (λ all. HasCutting w all) c.atoms-atoms.ensures.atoms (HasCutting-from_fit w atoms (AllFit-wider c.loop-atom.widest w atoms wider each))
 
 pub returns-clause-least : goal.returns-clause-least

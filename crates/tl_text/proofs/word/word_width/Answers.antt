@@ -1,6 +1,6 @@
 use Rattle.std.proofs.Common.{length, ap, arith}
 use Rattle.std.proofs.lemmas.Str.{encodes-chars}
-use Rattle.tl_text.specs.Words.{byte_count}
+use Rattle.tl_base.specs.Text.{byte_count}
 use Rattle.tl_text.proofs.word.word_width.Goals as goal
 
 -- a text of these many bytes is at most twice as wide, and fits a `u32` by far
