@@ -1,14 +1,12 @@
 -- No layout fits a page that is narrower than a chain of its table weighs.
-use Rattle.std.proofs.Common.{◌≡◌, ◌∙◌, ℕ, zero, suc, ◌+◌, ◌-◌, ◌*◌, ◌<◌, ◌≤◌, List, [], ◌∷◌, length, get_or, sum_by, map, Option, Some, None, Contains, slice_get, slice_index_or, refl, sym, ap, subst, arith}
-use Rattle.std.specs.List.{All, AllZip, AllByRecursion}
+use Rattle.std.proofs.Common.{◌≡◌, ℕ, zero, suc, ◌+◌, ◌-◌, ◌*◌, ◌<◌, ◌≤◌, List, [], ◌∷◌, length, sum_by, map, Option, Some, None, slice_get, sym, ap, subst, arith}
+use Rattle.std.specs.List.{AllZip, AllByRecursion}
 use Rattle.std.proofs.lemmas.List.{take_all}
 use Rattle.std.proofs.lemmas.List.Sums.{sum_by-cons}
 use Rattle.std.proofs.lemmas.List.Elements.{recursion_from_All, All-from_recursion, All-get_or}
-use Rattle.std.proofs.lemmas.Option.{slice_get_within, get_or_from_slice_get}
 use Rattle.tl_base.specs.declared.style.Style.{Style}
 use Rattle.tl_base.specs.declared.style.Style.TheVariants.{Plain, Frame}
 use Rattle.tl_base.specs.Style.{gap_of, edge_of}
-use Rattle.tl_grid.specs.declared.shape.Place.{Place}
 use Rattle.tl_grid.specs.Dropping.{IsPlaced}
 use Rattle.tl_problem.specs.Sizes.{room, total}
 use Rattle.tl_problem.specs.declared.chain.Chain.{Chain}
@@ -16,10 +14,10 @@ use Rattle.tl_problem.specs.declared.chain.Entry.{Entry}
 use Rattle.tl_form.specs.declared.cell.Table.{Table, out-Table}
 use Rattle.tl_form.specs.declared.cell.TableCell.{TableCell, out-TableCell}
 use Rattle.tl_form.specs.declared.layout.Layout.{Layout, out-Layout}
-use Rattle.tl_form.specs.Tables.{OpenTable, OpenCell, tables_in}
-use Rattle.tl_form.specs.Layouts.{OpenLayout, FitsRoom, FitsCell, FitsBy, FitsWithin, width_for, height_for}
-use Rattle.tl_form.specs.Chains.{Link, HasWidth, IsLink, AreSideBySide, covered, links_weight, own_width, IsChainBy, IsChainWithin}
-use Rattle.tl_form.specs.Sound.{IsSound, IsSoundWithin, place_of, places_of}
+use Rattle.tl_form.specs.Tables.{OpenCell, tables_in}
+use Rattle.tl_form.specs.Layouts.{OpenLayout, FitsRoom, FitsCell, FitsWithin, width_for, height_for}
+use Rattle.tl_form.specs.Chains.{Link, HasWidth, IsLink, AreSideBySide, covered, links_weight, IsChainWithin}
+use Rattle.tl_form.specs.Sound.{IsSound, place_of, places_of}
 use Rattle.tl_form.specs.inner.LeastRooms.{IsSoundCell}
 use Rattle.tl_form.proofs.OwnWidths.{own_width-fits, tables_in-fit}
 use Rattle.tl_form.proofs.Rooms.{ahead, room-ends, total-ahead}

@@ -3,6 +3,7 @@ pub mod ChainDepths
 pub mod ChainLaws
 pub mod Deeper
 pub mod Duality
+mod Examples
 pub mod Found
 pub mod LeastRoomLemmas
 pub mod LeastWidths

@@ -1,13 +1,13 @@
 -- The links of a heaviest chain, one after the other.
-use Rattle.std.proofs.Common.{◌≡◌, ◌∙◌, ℕ, zero, suc, ◌+◌, ◌-◌, ◌*◌, ◌<◌, ◌≤◌, List, [], ◌∷◌, ◌++◌, length, take, get_or, sum_by, Option, Some, None, Contains, slice_get, refl, sym, ap, subst, append-nil, length-append, arith}
-use Rattle.std.specs.List.{All, AllZip, AllByRecursion, flat_map}
+use Rattle.std.proofs.Common.{◌≡◌, ◌∙◌, ℕ, zero, suc, ◌+◌, ◌-◌, ◌*◌, ◌<◌, ◌≤◌, List, [], ◌∷◌, ◌++◌, length, take, get_or, sum_by, Some, None, Contains, slice_get, refl, sym, ap, subst, append-nil, length-append, arith}
+use Rattle.std.specs.List.{AllZip, AllByRecursion, flat_map}
 use Rattle.std.specs.declared.alloc.Global.{Global}
 use Rattle.std.specs.declared.boxed.Box.{Box}
 use Rattle.std.proofs.lemmas.Grind.{flat_map-append}
 use Rattle.std.proofs.lemmas.List.{take_more}
 use Rattle.std.proofs.lemmas.List.Concat.{flat_map-cons}
 use Rattle.std.proofs.lemmas.List.Sums.{sum_by-cons}
-use Rattle.std.proofs.lemmas.List.Elements.{Contains-append_left, Contains-append_right, All-from_get_or}
+use Rattle.std.proofs.lemmas.List.Elements.{Contains-append_left, Contains-append_right}
 use Rattle.std.proofs.lemmas.Option.{slice_get_within, slice_get_read, slice_get-get_or}
 use Rattle.tl_base.specs.declared.style.Style.{Style}
 use Rattle.tl_base.specs.Style.{gap_of, edge_of}
@@ -19,14 +19,13 @@ use Rattle.tl_form.specs.declared.cell.Table.{Table, out-Table}
 use Rattle.tl_form.specs.declared.cell.TableCell.{TableCell, out-TableCell}
 use Rattle.tl_form.specs.declared.narrow.Linked.{Linked}
 use Rattle.tl_form.specs.declared.widest.Demand.{Demand}
-use Rattle.tl_form.specs.Tables.{OpenTable, OpenCell, OpenContent, tables_of, tables_in}
-use Rattle.tl_form.specs.Layouts.{Fits}
+use Rattle.tl_form.specs.Tables.{OpenTable, OpenCell, OpenContent, tables_of}
 use Rattle.tl_form.specs.Least.{IsLeastWidth}
-use Rattle.tl_form.specs.Chains.{Link, HasWidth, IsLink, IsChainBy, IsChainWithin, IsChain, IsHeaviestChain, AreSideBySide, covered, links_weight, own_width}
+use Rattle.tl_form.specs.Chains.{Link, HasWidth, IsLink, IsChainWithin, IsChain, IsHeaviestChain, AreSideBySide, covered, links_weight, own_width}
 use Rattle.tl_form.specs.Sound.{IsSound, place_of}
 use Rattle.tl_form.specs.inner.Demands.{AreInRow, columns_of, demands_weight, IsRowOf}
-use Rattle.tl_form.specs.inner.LeastRooms.{IsDemandOf, AreDemandsOf, IsLeastRoom, IsSoundBlock}
-use Rattle.tl_form.specs.inner.Links.{IsLinked, IsLinkedBy, IsOther, AreOthers}
+use Rattle.tl_form.specs.inner.LeastRooms.{IsDemandOf, AreDemandsOf, IsSoundBlock}
+use Rattle.tl_form.specs.inner.Links.{IsLinked, IsLinkedBy, AreOthers}
 use Rattle.tl_form.proofs.ChainDepths.{Weighs, links_depth}
 use Rattle.tl_form.proofs.ChainLaws.{never_narrower}
 use Rattle.tl_form.proofs.LeastRoomLemmas.{AllZip-push}

@@ -1,5 +1,5 @@
 -- A cell's own width, and what it takes to hold the cell beside it: the least widths of its nested tables.
-use Rattle.std.proofs.Common.{◌≡◌, ◌∙◌, ℕ, zero, suc, ◌+◌, ◌-◌, ◌<◌, ◌≤◌, max, List, [], ◌∷◌, ◌++◌, length, take, get_or, sum_by, Contains, slice_index_or, refl, sym, ap, subst, ⊎_elim, arith}
+use Rattle.std.proofs.Common.{◌≡◌, ◌∙◌, ℕ, zero, suc, ◌+◌, ◌-◌, ◌<◌, ◌≤◌, max, List, [], ◌∷◌, ◌++◌, length, take, get_or, sum_by, refl, sym, ap, subst, ⊎_elim, arith}
 use Rattle.std.specs.List.{AllZip, AllByRecursion, flat_map}
 use Rattle.std.proofs.lemmas.Bool.{cases_lt}
 use Rattle.std.proofs.lemmas.List.{take_more}
@@ -9,16 +9,14 @@ use Rattle.tl_base.specs.Style.{gap_of, edge_of}
 use Rattle.tl_problem.specs.Sizes.{total}
 use Rattle.tl_text.specs.declared.paragraph.Atom.{Atom}
 use Rattle.tl_text.specs.Cuttings.{joined, HasCutting}
-use Rattle.tl_text.specs.Paragraph.{unit_width}
-use Rattle.tl_text.proofs.Paragraphs.{AllFit, HasCutting-from_fit, AllFit-wider}
+use Rattle.tl_text.proofs.Paragraphs.{AllFit, HasCutting-from_fit}
 use Rattle.tl_text.proofs.Minimals.{AllFit-from_cutting}
 use Rattle.tl_form.specs.declared.cell.Content.{Content, out-Content}
 use Rattle.tl_form.specs.declared.cell.Content.TheOpen as open_content
 use Rattle.tl_form.specs.declared.cell.Table.{Table, out-Table}
-use Rattle.tl_form.specs.declared.cell.TableCell.{TableCell, out-TableCell}
 use Rattle.tl_form.specs.declared.layout.Layout.{Layout, out-Layout}
 use Rattle.tl_form.specs.Tables.{OpenCell, OpenContent, tables_of, tables_in}
-use Rattle.tl_form.specs.Layouts.{Share, FitsShare, FitsRoom, FitsWithin, Fits}
+use Rattle.tl_form.specs.Layouts.{Share, FitsShare, FitsRoom, FitsWithin}
 use Rattle.tl_form.specs.Least.{IsLeastWidth}
 use Rattle.tl_form.specs.Chains.{widest_unit, widest_in, widest_among, own_width}
 use Rattle.tl_form.specs.inner.LeastRooms.{IsLeastRoom}

@@ -1,8 +1,7 @@
 -- Why a cell is as wide as it is: its own width, or the chain of a table nested in it. No public clause cites this file.
-use Rattle.std.specs.Prelude.{◌≡◌, ℕ, List, Option, Some, Contains}
+use Rattle.std.specs.Prelude.{◌≡◌, ℕ, Some, Contains}
 use Rattle.std.specs.List.{AllByRecursion}
 use Rattle.tl_base.specs.declared.style.Style.{Style}
-use Rattle.tl_problem.specs.declared.chain.Chain.{Chain}
 use Rattle.tl_form.specs.declared.cell.Content.{Content, out-Content}
 use Rattle.tl_form.specs.declared.cell.Table.{Table, out-Table}
 use Rattle.tl_form.specs.declared.narrow.Linked.{Linked}

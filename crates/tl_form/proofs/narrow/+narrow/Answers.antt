@@ -1,10 +1,10 @@
-use Rattle.std.proofs.Common.{◌≡◌, ◌∙◌, ◌+◌, ◌<◌, ◌≤◌, MatchOption, get_or, length, refl, sym, ap, subst, rules, arith}
+use Rattle.std.proofs.Common.{◌≡◌, ◌∙◌, ◌<◌, MatchOption, get_or, length, refl, sym, ap, subst, rules, arith}
 use Rattle.std.specs.List.{AllByRecursion}
 use Rattle.std.proofs.lemmas.List.{take_all}
 use Rattle.std.proofs.lemmas.Option.{slice_get_read}
 use Rattle.tl_form.specs.inner.Links.{AreOthers, IsLinkedBy}
 use Rattle.tl_form.specs.declared.cell.Content.{out-Content, the_lemmas}
-use Rattle.tl_form.specs.declared.cell.Content.TheVariants.{outs-Para, outs-Table}
+use Rattle.tl_form.specs.declared.cell.Content.TheVariants.{outs-Table}
 use Rattle.tl_form.specs.declared.cell.Table.{out-Table}
 use Rattle.tl_form.specs.declared.cell.TableCell.{out-TableCell}
 use Rattle.tl_form.specs.Least.{IsLeastWidth}

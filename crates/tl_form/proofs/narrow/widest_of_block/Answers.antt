@@ -1,6 +1,6 @@
-use Rattle.std.proofs.Common.{◌≡◌, ◌∙◌, sym, ap, subst}
+use Rattle.std.proofs.Common.{◌∙◌, sym, ap}
 use Rattle.tl_form.specs.declared.cell.Content.{out-Content}
-use Rattle.tl_form.specs.declared.cell.Content.TheVariants.{outs-Para, outs-Table}
+use Rattle.tl_form.specs.declared.cell.Content.TheVariants.{outs-Para}
 use Rattle.tl_form.specs.Chains.{widest_in}
 use Rattle.tl_form.proofs.OwnWidths.{widest_unit-is}
 use Rattle.tl_form.proofs.narrow.widest_of_block.Goals as goal
