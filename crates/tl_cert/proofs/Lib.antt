@@ -1,2 +1,4 @@
 pub mod reading
+pub mod text
+pub mod Loops
 pub mod TextExamples
