@@ -6,3 +6,6 @@ pub mod SectionParts
 pub mod Items
 pub mod SectionReading
 pub mod Sections
+pub mod Entries
+pub mod Chains
+pub mod Whole
