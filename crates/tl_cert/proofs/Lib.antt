@@ -6,3 +6,4 @@ pub mod WorkedLaws
 pub mod reading
 pub mod ZoneBounds
 mod Examples
+pub mod FireLaws
