@@ -1,9 +1,11 @@
+mod Examples
 pub mod CountLaws
+pub mod FireLaws
 pub mod LogLaws
+pub mod Loops
 pub mod TextExamples
 pub mod TraceLaws
 pub mod WorkedLaws
-pub mod reading
 pub mod ZoneBounds
-mod Examples
-pub mod FireLaws
+pub mod reading
+pub mod text
