@@ -1,19 +1,16 @@
 -- Bounds of sets of widths that have the same widths, and of a set within another.
-use Rattle.std.proofs.Common.{◌≡◌, ℕ, ◌+◌, ◌-◌, ◌*◌, ◌<◌, ◌≤◌, List, [], ◌∷◌, inl, inr, length, get_or, refl, sym, ap, ◌∙◌, subst, arith}
+use Rattle.std.proofs.Common.{ℕ, ◌≤◌, List, [], ◌∷◌, inl, inr, get_or, arith}
 use Rattle.std.specs.List.{AllZip}
-use Rattle.tl_base.specs.Style.{gap_of, row_gap_of}
-use Rattle.tl_base.specs.Steps.{IsLowAt}
+use Rattle.tl_base.specs.Style.{gap_of}
 use Rattle.tl_problem.specs.declared.cell.Cell.{Cell}
 use Rattle.tl_problem.specs.declared.placed.Placed.{Placed}
-use Rattle.tl_problem.specs.declared.zone.Range.{Range}
-use Rattle.tl_problem.specs.Sizes.{position, room}
 use Rattle.tl_problem.specs.Problem.{ProblemModel, cell_height}
 use Rattle.tl_problem.specs.Layouts.{WithinPage}
 use Rattle.tl_problem.specs.Sound.{IsSound}
 use Rattle.tl_problem.specs.Spans.{page_room}
 use Rattle.tl_problem.specs.Zones.{whole_zone, InZone}
 use Rattle.tl_problem.specs.Bounds.{IsGreatestRoom, GiveLow, IsBound}
-use Rattle.tl_problem.specs.Areas.{IsBetweenRooms, IsLeastArea, IsGreatestEnd, HoldAreas, IsAreaBound}
+use Rattle.tl_problem.specs.Areas.{IsBetweenRooms, IsLeastArea, IsAreaBound}
 use Rattle.tl_problem.specs.Placements.{AreLeast, IsPlacementIn, IsOpening}
 use Rattle.tl_problem.proofs.Heights.{IsLowAt-wider}
 use Rattle.tl_problem.proofs.OneClass.{IsLowAt-decides, greatest-not_none}
