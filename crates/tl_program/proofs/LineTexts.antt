@@ -55,12 +55,12 @@ break_text (first ∷ line) =
     ∙ ap (λ gap. line_text (first ∷ line) ++ (spaces gap ++ [])) (gap_later (length line) Break)
     ∙ append-nil (line_text (first ∷ line))
 
--- and takes no columns
+-- a break at the end of a line takes no columns
 break_width : (line : List Atom) → line_width (line ++ Break ∷ []) ≡ line_width line
 break_width [] = omega arith
 break_width (first ∷ line) = omega (arith, line_width-push first line Break)
 
--- so that the filled line is the same
+-- a line filled to a width is the same with a break at its end as without it
 pub filled-break : (w : ℕ) (line : List Atom) → filled w (line ++ Break ∷ []) ≡ filled w line
 filled-break w line =
     ap (λ text. text ++ spaces (w - line_width (line ++ Break ∷ []))) (break_text line)
