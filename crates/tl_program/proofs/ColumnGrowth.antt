@@ -4,7 +4,7 @@ use Rattle.std.specs.Prelude.{Option, Some, None, max}
 use Rattle.std.specs.List.{AllByRecursion, AllZip}
 use Rattle.tl_text.proofs.Paragraphs.{HoldsIn-wider}
 use Rattle.tl_text.specs.declared.paragraph.Atom.{Atom}
-use Rattle.tl_program.specs.ColumnSizes.{FitsRow, RowNeeds, HoldsRow, IsWidest, IsSized, IsLaid, IsTooNarrowFor, IsTooNarrow}
+use Rattle.tl_program.specs.inner.ColumnSizes.{FitsRow, RowNeeds, HoldsRow, IsWidest, IsSized, IsLaid, IsTooNarrowFor, IsTooNarrow}
 use Rattle.tl_base.proofs.Zips.{AllZip-push, AllZip-unpush, AllZip-get_or}
 use Rattle.tl_program.proofs.ColumnRooms.{fits_wider}
 
@@ -27,9 +27,9 @@ laid_more page rows width heights row w h both laid sized is = record {
   fits = AllZip-push (FitsRow both) rows heights row h (rows_wider width both rows heights (omega arith) laid.fits)
       (row_wider w both h row (omega arith) sized.fits);
   needs = AllZip-push (RowNeeds page) rows heights row h laid.needs sized.needs;
-  slim = λ v fits.
+  narrowest = λ v fits.
       let parts = AllZip-unpush (FitsRow v) (FitsRow width) rows heights row h laid.fits fits in
-      omega (arith, laid.slim v parts.0, sized.slim v parts.1);
+      omega (arith, laid.narrowest v parts.0, sized.narrowest v parts.1);
 }
 
 -- a row for which the page is too narrow

@@ -12,8 +12,9 @@ use Rattle.tl_problem.specs.Sizes.{room, total, position}
 use Rattle.tl_program.specs.Layout.{total_height, HoldsCell, Fits}
 use Rattle.tl_program.specs.Least.{IsLeastHeight}
 use Rattle.tl_program.specs.Tight.{NeedsNoMore, IsTight}
-use Rattle.tl_program.specs.Column.{cells_from, column_of, column_layout}
-use Rattle.tl_program.specs.ColumnSizes.{FitsRow, RowNeeds}
+use Rattle.tl_program.specs.Column.{cells_from, column_of}
+use Rattle.tl_program.specs.inner.ColumnPages.{column_layout}
+use Rattle.tl_program.specs.inner.ColumnSizes.{FitsRow, RowNeeds}
 use Rattle.tl_program.proofs.ColumnRooms.{column_room, row_fits, rows_are_held, held_rows_fit, needs_are_least, total-plain}
 use Rattle.tl_base.proofs.Sums.{sum-one, sum-le, sum-take-le}
 use Rattle.std.proofs.lemmas.Slice.Zip.{AllZip-long}
@@ -47,7 +48,7 @@ pub one_width : (row : Option (List Atom)) (rows : List (Option (List Atom))) (s
     (n : ℕ) × (sizes ≡ n ∷ [])
 one_width row rows sizes many = one_number sizes (omega (arith, many))
 
--- that width is the total width
+-- the width of one column is the total width
 pub total-one : (sizes : List ℕ) (n : ℕ) → sizes ≡ n ∷ [] → total 2 0 sizes ≡ n
 total-one sizes n is = ap (total 2 0) is ∙ only n where
   only : (n : ℕ) → total 2 0 (n ∷ []) ≡ n
@@ -116,11 +117,11 @@ first_place gap sizes others (suc place) none = absurd (omega (arith, none))
 pub column_is_tight : (w s : ℕ) (rows : List (Option (List Atom))) (heights : List ℕ) → s ≤ w → AllZip (FitsRow s) rows heights →
     AllZip (RowNeeds w) rows heights → ((v : ℕ) → AllZip (FitsRow v) rows heights → s ≤ v) →
     IsTight (column_of rows) Plain (column_layout rows s heights)
-column_is_tight w s [] heights le fit need slim = record {
+column_is_tight w s [] heights le fit need narrowest = record {
   columns = λ other many less place within. first_place 2 [] other.widths place within;
   rows = λ other same many held place within. first_place 0 heights other.heights place within;
 }
-column_is_tight w s (row ∷ rows) heights le fit need slim = record {
+column_is_tight w s (row ∷ rows) heights le fit need narrowest = record {
   columns = λ other many less place within. narrower other (one_width row rows other.widths many) less place within;
   rows = λ other same many held place within. lower other same many held place;
 } where
@@ -132,7 +133,7 @@ column_is_tight w s (row ∷ rows) heights le fit need slim = record {
       position 2 (s ∷ []) place ≤ position 2 other.widths place
   narrower other (n, is) less zero within = omega arith
   narrower other (n, is) less (suc zero) within =
-      let slimmer : s ≤ n = slim n (rows_fit_there w s n here other refl is le 0 (row ∷ rows) heights fit need less) in
+      let narrower : s ≤ n = narrowest n (rows_fit_there w s n here other refl is le 0 (row ∷ rows) heights fit need less) in
       let first : sum (take 1 other.widths) ≡ n = ap (λ widths. sum (take 1 widths)) is ∙ sum-one n in
       omega arith
   narrower other (n, is) less (suc (suc place)) within = absurd (omega (arith, within))

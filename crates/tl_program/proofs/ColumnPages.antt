@@ -11,8 +11,9 @@ use Rattle.tl_program.specs.Table.{Layout}
 use Rattle.tl_program.specs.Table.{Cell, Table}
 use Rattle.tl_problem.specs.Sizes.{room, position}
 use Rattle.tl_program.specs.TextPage.{filled, IsContent, Shown, ShowsCells, covers, piece, with_gaps, page_line, row_lines, IsTextPage}
-use Rattle.tl_program.specs.Column.{cells_from, column_of, column_layout, ShowsRow, lines_text}
-use Rattle.tl_program.specs.ColumnSizes.{RowNeeds}
+use Rattle.tl_program.specs.Column.{cells_from, column_of}
+use Rattle.tl_program.specs.inner.ColumnPages.{column_layout, ShowsRow, lines_text}
+use Rattle.tl_program.specs.inner.ColumnSizes.{RowNeeds}
 use Rattle.tl_program.proofs.ColumnRooms.{column_room}
 
 -- the characters of the rows' lines

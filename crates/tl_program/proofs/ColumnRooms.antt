@@ -13,7 +13,7 @@ use Rattle.tl_program.specs.Table.{Layout}
 use Rattle.tl_problem.specs.Sizes.{room, total}
 use Rattle.tl_program.specs.Layout.{FitsBlock, FitBlocks, HoldsCell}
 use Rattle.tl_program.specs.Column.{cells_from}
-use Rattle.tl_program.specs.ColumnSizes.{FitsRow, RowNeeds}
+use Rattle.tl_program.specs.inner.ColumnSizes.{FitsRow, RowNeeds}
 
 -- a block that fits in a width fits in each greater one, and in more lines
 pub fits_wider : (w v g h : ℕ) (paragraph : List Atom) → w ≤ v → g ≤ h → FitsBlock w paragraph g → FitsBlock v paragraph h

@@ -1,4 +1,4 @@
--- Each end of the program, from its cause and what stands.
+-- Each end of the program, from its cause and from what is stored and printed.
 use Rattle.std.proofs.Common.{◌≡◌, ◌⊎◌, inl, inr, ℕ, ◌+◌, ◌≤◌, List, length, take, Some, None, refl, sym, ◌∙◌, ap, subst, arith}
 use Rattle.tl_base.specs.declared.limits.TheConstants.{MAX_FILE_BYTES}
 use Rattle.std.specs.Prelude.{Option, IfSome, option_map}
@@ -6,13 +6,14 @@ use Rattle.tl_base.specs.Desk.{Files, IsReadFrom, Rose, stored}
 use Rattle.tl_program.specs.declared.status.Status.{Status}
 use Rattle.tl_program.specs.declared.status.Status.TheVariants.{Done, Usage, Narrow, ReadFault, WriteFault, Memory, NotBuilt}
 use Rattle.tl_program.specs.OneColumn.{IsOneColumn}
-use Rattle.tl_program.specs.Answer.{IsLowestPage, IsTooNarrowPage, IsOtherForm}
-use Rattle.tl_program.specs.Run.{number_of, Change, Holds, IsLaidOut, RefusesUsage, RefusesRead, RefusesNarrow, RefusesForm, IsRefusal, Tells, IsDone, StandsAtFault, StandsAtMemory, Ends, IsTold, IsDelivered}
+use Rattle.tl_program.specs.Outcome.{IsLowestPage, IsTooNarrowPage, IsOtherForm}
+use Rattle.tl_program.specs.Run.{number_of, Change, Holds, IsLaidOut, RefusesUsage, RefusesRead, RefusesNarrow, RefusesForm, IsRefusal, Prints, IsDone, AfterFault, AfterOutOfMemory, Ends}
+use Rattle.tl_program.specs.inner.Messages.{IsPrinted, IsDelivered}
 use Rattle.std.proofs.lemmas.List.{take_all, length-take}
 
-module _ (words : List (List ℕ)) (change : Change) where
+module _ (arguments : List (List ℕ)) (change : Change) where
   -- done
-  pub ends_done : IsDone words change → Ends words change 0
+  pub ends_done : IsDone arguments change → Ends arguments change 0
   ends_done is = record {
     known = (Done, refl);
     done = λ same. is;
@@ -24,12 +25,12 @@ module _ (words : List (List ℕ)) (change : Change) where
     not_built = λ same. absurd (omega (arith, same));
   }
 
-  -- the words are no command
-  pub ends_usage : (text : List ℕ) → RefusesUsage words text → Tells change text → Ends words change 2
-  ends_usage text is tells = record {
+  -- the arguments are invalid
+  pub ends_usage : (text : List ℕ) → RefusesUsage arguments text → Prints change text → Ends arguments change 2
+  ends_usage text is prints = record {
     known = (Usage, refl);
     done = λ same. absurd (omega (arith, same));
-    usage = λ same. (text, is, tells);
+    usage = λ same. (text, is, prints);
     narrow = λ same. absurd (omega (arith, same));
     read_fault = λ same. absurd (omega (arith, same));
     write_fault = λ same. absurd (omega (arith, same));
@@ -38,12 +39,12 @@ module _ (words : List (List ℕ)) (change : Change) where
   }
 
   -- no layout fits
-  pub ends_narrow : (text : List ℕ) → RefusesNarrow words change.files text → Tells change text → Ends words change 4
-  ends_narrow text is tells = record {
+  pub ends_narrow : (text : List ℕ) → RefusesNarrow arguments change.files text → Prints change text → Ends arguments change 4
+  ends_narrow text is prints = record {
     known = (Narrow, refl);
     done = λ same. absurd (omega (arith, same));
     usage = λ same. absurd (omega (arith, same));
-    narrow = λ same. (text, is, tells);
+    narrow = λ same. (text, is, prints);
     read_fault = λ same. absurd (omega (arith, same));
     write_fault = λ same. absurd (omega (arith, same));
     memory = λ same. absurd (omega (arith, same));
@@ -51,20 +52,20 @@ module _ (words : List (List ℕ)) (change : Change) where
   }
 
   -- the file could not be read
-  pub ends_read_fault : (text : List ℕ) → RefusesRead words change text → Tells change text → Ends words change 7
-  ends_read_fault text is tells = record {
+  pub ends_read_fault : (text : List ℕ) → RefusesRead arguments change text → Prints change text → Ends arguments change 7
+  ends_read_fault text is prints = record {
     known = (ReadFault, refl);
     done = λ same. absurd (omega (arith, same));
     usage = λ same. absurd (omega (arith, same));
     narrow = λ same. absurd (omega (arith, same));
-    read_fault = λ same. (text, is, tells);
+    read_fault = λ same. (text, is, prints);
     write_fault = λ same. absurd (omega (arith, same));
     memory = λ same. absurd (omega (arith, same));
     not_built = λ same. absurd (omega (arith, same));
   }
 
-  -- a store or a say failed
-  pub ends_write_fault : Rose change.write_faults change.write_faults_after → StandsAtFault words change → Ends words change 8
+  -- storing or printing failed
+  pub ends_write_fault : Rose change.write_faults change.write_faults_after → AfterFault arguments change → Ends arguments change 8
   ends_write_fault rose stands = record {
     known = (WriteFault, refl);
     done = λ same. absurd (omega (arith, same));
@@ -76,8 +77,8 @@ module _ (words : List (List ℕ)) (change : Change) where
     not_built = λ same. absurd (omega (arith, same));
   }
 
-  -- no memory was found
-  pub ends_memory : StandsAtMemory words change → Ends words change 9
+  -- out of memory
+  pub ends_memory : AfterOutOfMemory arguments change → Ends arguments change 9
   ends_memory stands = record {
     known = (Memory, refl);
     done = λ same. absurd (omega (arith, same));
@@ -90,8 +91,8 @@ module _ (words : List (List ℕ)) (change : Change) where
   }
 
   -- the file has another form
-  pub ends_not_built : (text : List ℕ) → RefusesForm words change.files text → Tells change text → Ends words change 11
-  ends_not_built text is tells = record {
+  pub ends_not_built : (text : List ℕ) → RefusesForm arguments change.files text → Prints change text → Ends arguments change 11
+  ends_not_built text is prints = record {
     known = (NotBuilt, refl);
     done = λ same. absurd (omega (arith, same));
     usage = λ same. absurd (omega (arith, same));
@@ -99,32 +100,32 @@ module _ (words : List (List ℕ)) (change : Change) where
     read_fault = λ same. absurd (omega (arith, same));
     write_fault = λ same. absurd (omega (arith, same));
     memory = λ same. absurd (omega (arith, same));
-    not_built = λ same. (text, is, tells);
+    not_built = λ same. (text, is, prints);
   }
 
-  -- a refusal is told, or telling it fails
-  pub told_ends : (status result : Status) (text : List ℕ) → IsTold status result change text → change.files_after ≡ change.files →
-      IsRefusal words change text → (Tells change text → Ends words change (number_of status)) → Ends words change (number_of result)
-  told_ends status result text (inl told) stay refusal ends =
-      subst (λ (s : Status). Ends words change (number_of s)) (sym told.0) (ends (stay, told.1))
-  told_ends status result text (inr (inl fault)) stay refusal ends =
-      subst (λ (s : Status). Ends words change (number_of s)) (sym fault.0) (ends_write_fault fault.1 (inl (stay, text, refusal, fault.2)))
-  told_ends status result text (inr (inr none)) stay refusal ends =
-      subst (λ (s : Status). Ends words change (number_of s)) (sym none.0) (ends_memory (none.1, inl stay))
+  -- a refusal is printed, or printing it fails
+  pub printed_ends : (status result : Status) (text : List ℕ) → IsPrinted status result change text → change.files_after ≡ change.files →
+      IsRefusal arguments change text → (Prints change text → Ends arguments change (number_of status)) → Ends arguments change (number_of result)
+  printed_ends status result text (inl printed) stay refusal ends =
+      subst (λ (s : Status). Ends arguments change (number_of s)) (sym printed.0) (ends (stay, printed.1))
+  printed_ends status result text (inr (inl fault)) stay refusal ends =
+      subst (λ (s : Status). Ends arguments change (number_of s)) (sym fault.0) (ends_write_fault fault.1 (inl (stay, text, refusal, fault.2)))
+  printed_ends status result text (inr (inr none)) stay refusal ends =
+      subst (λ (s : Status). Ends arguments change (number_of s)) (sym none.0) (ends_memory (none.1, inl stay))
 
-  -- a page is stored and told, or that fails
+  -- a page is stored and its summary is printed, or one of the two fails
   pub delivered_ends : (result : Status) (page written summary : List ℕ) → IsDelivered result change page written summary →
-      IsLaidOut words change.files page written summary → Ends words change (number_of result)
-  delivered_ends result page written summary (inl told) laid =
-      subst (λ (s : Status). Ends words change (number_of s)) (sym told.0) (ends_done (page, written, summary, laid, told.1, told.2))
+      IsLaidOut arguments change.files page written summary → Ends arguments change (number_of result)
+  delivered_ends result page written summary (inl printed) laid =
+      subst (λ (s : Status). Ends arguments change (number_of s)) (sym printed.0) (ends_done (page, written, summary, laid, printed.1, printed.2))
   delivered_ends result page written summary (inr (inl fault)) laid =
-      subst (λ (s : Status). Ends words change (number_of s)) (sym fault.0)
+      subst (λ (s : Status). Ends arguments change (number_of s)) (sym fault.0)
       (ends_write_fault fault.1 (inr (page, written, summary, laid, fault.2)))
   delivered_ends result page written summary (inr (inr none)) laid =
-      subst (λ (s : Status). Ends words change (number_of s)) (sym none.0) (ends_memory (none.1, stands none.2)) where
+      subst (λ (s : Status). Ends arguments change (number_of s)) (sym none.0) (ends_memory (none.1, stands none.2)) where
         stands : ((change.files_after ≡ change.files) ⊎ (change.files_after ≡ stored change.files page written)) →
             (change.files_after ≡ change.files)
-            ⊎ ((page : List ℕ) × (written : List ℕ) × (summary : List ℕ) × IsLaidOut words change.files page written summary
+            ⊎ ((page : List ℕ) × (written : List ℕ) × (summary : List ℕ) × IsLaidOut arguments change.files page written summary
             × (change.files_after ≡ stored change.files page written))
         stands (inl same) = inl same
         stands (inr kept) = inr (page, written, summary, laid, kept)

@@ -1,4 +1,3 @@
-pub mod Answers
 pub mod Blocks
 pub mod ColumnGrowth
 pub mod ColumnLayouts
@@ -6,11 +5,12 @@ pub mod ColumnPages
 pub mod ColumnRooms
 pub mod Ends
 mod Examples
-pub mod FormAnswers
+pub mod FormLemmas
 pub mod LineTexts
+pub mod OutcomeLemmas
 pub mod Prefixes
-pub mod RowAnswers
+pub mod RowLemmas
 pub mod RowLines
-pub mod TagAnswers
-pub mod TextAnswers
+pub mod TagLemmas
+pub mod TextLemmas
 pub mod Texts

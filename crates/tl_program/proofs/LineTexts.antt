@@ -11,19 +11,19 @@ use Rattle.tl_text.specs.Paragraph.{unit_width, gap_before}
 use Rattle.tl_text.specs.Cuttings.{line_width}
 use Rattle.tl_text.proofs.Widths.{line_width-push}
 use Rattle.tl_program.specs.TextPage.{spaces, unit_text, line_text, filled}
-use Rattle.tl_program.specs.Column.{gap_in_line}
+use Rattle.tl_program.specs.inner.ColumnPages.{gap_in_line}
 
 -- a space takes a byte
 pub spaces_are_bytes : (n : ℕ) → encode_utf8_all (spaces n) ≡ spaces n
 spaces_are_bytes zero = refl
 spaces_are_bytes (suc n) =
-    ap (λ front. front ++ encode_utf8_all (spaces n)) (encode_ascii 32 (lit< tt)) ∙ ap (λ rest. 32 ∷ rest) (spaces_are_bytes n)
+    ap (λ prefix. prefix ++ encode_utf8_all (spaces n)) (encode_ascii 32 (lit< tt)) ∙ ap (λ rest. 32 ∷ rest) (spaces_are_bytes n)
 
--- a gap stands before each unit but the first
+-- a gap is before each unit but the first
 gap_later : (n : ℕ) (unit : Atom) → gap_in_line (suc n) unit ≡ gap_before unit
 gap_later n unit = ap (λ first. if first then 0 else gap_before unit) (ne_eqb (suc n) 0 (λ none. absurd (omega (arith, none))))
 
--- more characters behind those that were written
+-- more characters after those that were written
 pub written_more : (old page new text more : List ℕ) → page ≡ old ++ encode_utf8_all text → new ≡ page ++ encode_utf8_all more →
     new ≡ old ++ encode_utf8_all (text ++ more)
 written_more old page new text more before now =
@@ -55,12 +55,12 @@ break_text (first ∷ line) =
     ∙ ap (λ gap. line_text (first ∷ line) ++ (spaces gap ++ [])) (gap_later (length line) Break)
     ∙ append-nil (line_text (first ∷ line))
 
--- and takes no columns
+-- a break at the end of a line takes no columns
 break_width : (line : List Atom) → line_width (line ++ Break ∷ []) ≡ line_width line
 break_width [] = omega arith
 break_width (first ∷ line) = omega (arith, line_width-push first line Break)
 
--- so that the filled line is the same
+-- a line filled to a width is the same with a break at its end as without it
 pub filled-break : (w : ℕ) (line : List Atom) → filled w (line ++ Break ∷ []) ≡ filled w line
 filled-break w line =
     ap (λ text. text ++ spaces (w - line_width (line ++ Break ∷ []))) (break_text line)
@@ -80,7 +80,7 @@ units_more units n unit within is =
           ∙ ap (λ at. line_width (take n units) + (gap_in_line at unit + unit_width unit)) place,
     )
 
--- the filled line behind what was written: its units, spaces and a line feed
+-- the filled line after what was written: its units, spaces and a line feed
 pub line_written : (old units_end spaces_end new : List ℕ) (w columns : ℕ) (line : List Atom) →
     units_end ≡ old ++ encode_utf8_all (line_text line) → columns ≡ line_width line →
     spaces_end ≡ units_end ++ spaces (w - columns) → new ≡ spaces_end ++ 10 ∷ [] →
@@ -91,4 +91,4 @@ line_written old units_end spaces_end new w columns line text wide filling ended
     ∙ ap (λ more. units_end ++ more) (sym (spaces_are_bytes (w - line_width line))) in
     written_more old spaces_end new (filled w line) (10 ∷ [])
     (written_more old units_end spaces_end (line_text line) (spaces (w - line_width line)) text spaced)
-    (ended ∙ ap (λ last. spaces_end ++ last) (sym (ap (λ front. front ++ []) (encode_ascii 10 (lit< tt)))))
+    (ended ∙ ap (λ last. spaces_end ++ last) (sym (ap (λ prefix. prefix ++ []) (encode_ascii 10 (lit< tt)))))

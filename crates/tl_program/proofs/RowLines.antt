@@ -10,10 +10,10 @@ use Rattle.tl_text.specs.Cuttings.{joined, HasCutting, LeastLines}
 use Rattle.tl_text.specs.Ranges.{AreInOrder, ShowsLine, ShowsGreedyCutting, IsFirstTooWide}
 use Rattle.tl_text.proofs.Paragraphs.{AllFit, atoms-of-cut-fit}
 use Rattle.tl_program.specs.TextPage.{filled}
-use Rattle.tl_program.specs.Column.{ShowsRow, ranged, lines_text}
+use Rattle.tl_program.specs.inner.ColumnPages.{ShowsRow, ranged, lines_text}
 use Rattle.tl_program.proofs.LineTexts.{filled-break, written_more}
 
--- the lines that the ranges show, and nothing else, stand on the page
+-- the lines that the ranges show, and nothing else, are on the page
 pub ranges_text : (w : ℕ) (atoms : List Atom) (ranges : List Line) (lines : List (List Atom)) → AllZip (ShowsLine atoms) ranges lines →
     lines_text w (map (ranged atoms) ranges) ≡ lines_text w lines
 ranges_text w atoms [] [] shown = refl
@@ -61,7 +61,7 @@ pub range_is_short : (atoms : List Atom) (range : Line) → length (ranged atoms
 range_is_short atoms range =
     omega (arith, length-take (range.past - range.first) (drop range.first atoms), length-drop range.first atoms)
 
--- one more line behind those that were written
+-- one more line after those that were written
 pub line_more : (old page new : List ℕ) (w : ℕ) (atoms : List Atom) (ranges : List Line) (n : ℕ) (none : Line) → n < length ranges →
     page ≡ old ++ encode_utf8_all (lines_text w (map (ranged atoms) (take n ranges))) →
     new ≡ page ++ encode_utf8_all (filled w (ranged atoms (get_or ranges n none)) ++ 10 ∷ []) →

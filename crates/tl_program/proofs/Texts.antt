@@ -35,7 +35,7 @@ text_is_ascii (b ∷ text) is =
 pub text_is_utf8 : (text : List ℕ) → IsText text → IsUtf8 text
 text_is_utf8 text is = IsUtf8-from_ascii text (text_is_ascii text is)
 
--- a text that stands in a file is a text, and no longer than the file
+-- a text that is in a file is a text, and no longer than the file
 abbrev pub IsTextIn : List ℕ → List ℕ → Type 0
 IsTextIn bytes text = IsText text × (length text ≤ length bytes)
 
@@ -66,24 +66,24 @@ texts_are_in bytes (text ∷ texts) (rest, row, rows) =
     ((row.cell_ends.0, omega arith), texts_in_more bytes rest texts (omega arith) (texts_are_in rest texts rows))
 
 -- the words of a text are its paragraph
-pub words_make_paragraph : (words : List (List ℕ)) (answer : Option (List Atom)) → (0 < length words → IsParagraph (map Word words)) →
-    SomeIff answer (IsParagraph (map Word words)) (map Word words) → answer ≡ paragraph_of_words words
-words_make_paragraph [] None makes told = refl
-words_make_paragraph [] (Some atoms) makes told = absurd (omega (arith, told.0.has_atom))
-words_make_paragraph (word ∷ words) None makes told = absurd (told (makes (omega arith)))
-words_make_paragraph (word ∷ words) (Some atoms) makes told = ap Some told.1
+pub words_make_paragraph : (words : List (List ℕ)) (result : Option (List Atom)) → (0 < length words → IsParagraph (map Word words)) →
+    SomeIff result (IsParagraph (map Word words)) (map Word words) → result ≡ paragraph_of_words words
+words_make_paragraph [] None makes known = refl
+words_make_paragraph [] (Some atoms) makes known = absurd (omega (arith, known.0.has_atom))
+words_make_paragraph (word ∷ words) None makes known = absurd (known (makes (omega arith)))
+words_make_paragraph (word ∷ words) (Some atoms) makes known = ap Some known.1
 
 -- the characters of a text are its bytes
 pub chars_of_text : (text : List ℕ) → IsText text → chars text ≡ text
 chars_of_text text is = chars-IsAscii text (text_is_ascii text is)
 
 -- the paragraph of a text
-pub text_makes_paragraph : (text : List ℕ) (answer : Option (List Atom)) → IsText text → length text ≤ MAX_FILE_BYTES →
-    SomeIff answer (IsParagraph (map Word (words_of (chars text)))) (map Word (words_of (chars text))) → answer ≡ paragraph_of text
-text_makes_paragraph text answer is small told =
+pub text_makes_paragraph : (text : List ℕ) (result : Option (List Atom)) → IsText text → length text ≤ MAX_FILE_BYTES →
+    SomeIff result (IsParagraph (map Word (words_of (chars text)))) (map Word (words_of (chars text))) → result ≡ paragraph_of text
+text_makes_paragraph text result is small known =
     let same : chars text ≡ text = chars_of_text text is in
     let bytes : byte_count text ≡ length text = ap byte_count (sym same) ∙ ap length (encodes-chars text (text_is_utf8 text is)) in
-    words_make_paragraph (words_of text) answer (λ some. words_are_paragraph text (omega arith) some) (rw same at told)
+    words_make_paragraph (words_of text) result (λ some. words_are_paragraph text (omega arith) some) (rw same at known)
 
 -- the texts as they were lent
 lent_texts : (bytes : List ℕ) (lent : List (Bor (List ℕ))) → AllByRecursion (IsTextIn bytes) (map (λ text. text.now) lent) →

@@ -8,8 +8,8 @@ pub record IsWidth (argument : List ℕ) (width : ℕ) : Type 0 where
   pub least : 1 ≤ width
   pub most : width ≤ MAX_PAGE_WIDTH
 
--- the arguments are `lay`, the page width, the file to read and the file to write; the names are not
--- empty, and differ
+-- the arguments are `lay`, the page width, the file to read and the file to write; the names are
+-- not empty, and differ
 pub record IsLay (arguments : List (List ℕ)) (width : ℕ) (input page : List ℕ) : Type 0 where
   pub width_argument : List ℕ
   pub spelled : arguments ≡ codes "lay" ∷ width_argument ∷ input ∷ page ∷ []

@@ -13,4 +13,5 @@ pub record IsLeastHeight (table : Table) (style : Style) (width height : ℕ) : 
 -- `width` is the least width of a page that any layout fits
 pub record IsLeastWidth (table : Table) (style : Style) (width : ℕ) : Type 0 where
   pub attained : (height : ℕ) × (layout : Layout) × Fits table style width height layout
-  pub least : (other height : ℕ) (layout : Layout) → Fits table style other height layout → width ≤ other
+  pub least : (other height : ℕ) (layout : Layout) → Fits table style other height layout →
+      width ≤ other

@@ -1,11 +1,11 @@
-pub mod Answer
 pub mod Column
-pub mod ColumnSizes
 pub mod Command
 pub mod Layout
 pub mod Least
 pub mod OneColumn
+pub mod Outcome
 pub mod Run
 pub mod Table
 pub mod TextPage
 pub mod Tight
+pub mod inner

@@ -1,4 +1,5 @@
--- The one-column form of a file: a table of rows with one cell each, in small tags without attributes.
+-- The one-column form of a file: a table of rows with one cell each, in lowercase tags without
+-- attributes.
 use Rattle.std.specs.Prelude.{◌≡◌, ℕ, ◌≤◌, Bool, true, ◌&&◌, ◌||◌, not, ◌==◌, nat_le, nat_lt, List, [], ◌∷◌, ◌++◌, length, codes}
 use Rattle.std.specs.List.{list_all}
 use Rattle.std.specs.Char.{is_ascii_whitespace}
@@ -10,7 +11,8 @@ IsWhiteSpace bytes = list_all is_ascii_whitespace bytes ≡ true
 
 -- a byte that a cell's text may have: white space, or printable ASCII but `<` (60) and `&` (38)
 abbrev pub is_text_byte : ℕ → Bool
-is_text_byte b = is_ascii_whitespace b || (nat_le 32 b && nat_lt b 127 && not (b == 60) && not (b == 38))
+is_text_byte b =
+    is_ascii_whitespace b || (nat_le 32 b && nat_lt b 127 && not (b == 60) && not (b == 38))
 
 -- a cell's text
 abbrev pub IsText : List ℕ → Type 0

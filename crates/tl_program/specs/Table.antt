@@ -1,9 +1,10 @@
--- What a layout sees of a table: the cells of its grid (HTML Standard, "Forming a table"), each with its paragraphs.
+-- What a layout sees of a table: the cells of its grid (HTML Standard, "Forming a table"), each
+-- with its paragraphs.
 use Rattle.std.specs.Prelude.{ℕ, List}
 use Rattle.tl_text.specs.declared.paragraph.Atom.{Atom}
 
--- a cell covers the columns from `left` on and before `right`, and the rows from `top` on and before `bottom`; its
--- paragraphs stand one under the other
+-- a cell covers the columns from `left` on and before `right`, and the rows from `top` on and
+-- before `bottom`; its paragraphs are one under the other
 pub record Cell : Type 0 where
   pub left : ℕ
   pub right : ℕ

@@ -1,13 +1,16 @@
+//! Lays the rows of a column out: each as low as it can be on the page, and the column as narrow as
+//! it then can be.
+
 ghost use Rattle.std.specs.Prelude.{◌≡◌, ◌≤◌, ℕ, List, length, sum, Option, Some, IfOk, IfSome, IfNone, IsTrue, ◌↔◌};
 ghost use Rattle.tl_text.specs.declared.paragraph.Atom.{Atom};
 ghost use Rattle.tl_program.specs.Layout.{FitsBlock};
-ghost use Rattle.tl_program.specs.ColumnSizes.{HoldsRow, IsWidest, IsSized, IsLaid, IsTooNarrowFor, IsTooNarrow};
+ghost use Rattle.tl_program.specs.inner.ColumnSizes.{HoldsRow, IsWidest, IsSized, IsLaid, IsTooNarrowFor, IsTooNarrow};
 
 use std::alloc::{AllocError, Global};
 use tl_base::{List, MAX_FILE_BYTES};
 use tl_text::{Para, count_lines, least_width};
 
-/// How wide and how high a row stands: its width in columns and its height in lines.
+/// How wide and how high a row is: its width in columns and its height in lines.
 #[derive(Clone, Copy, Debug, PartialEq, Eq)]
 struct Size {
     width: u32,
@@ -29,7 +32,8 @@ pub fn lay_column(
     rows: &[Option<Para>],
     width: u32,
 ) -> Result<Option<Column>, AllocError>
-    ensures laid { IfOk result (λ laid. IfSome laid (λ column. IsLaid width rows.now column.width column.heights)) }
+    ensures laid { IfOk result (λ laid. IfSome laid (λ column.
+        IsLaid width rows.now column.width column.heights)) }
     ensures narrow { IfOk result (λ laid. IfNone laid (IsTooNarrow width rows.now)) }
 {
     let mut column = Column {
@@ -95,22 +99,24 @@ fn row_size(row: &Option<Para>, width: u32) -> Option<Size>
     }
 }
 
-/// The same of a paragraph.
+/// The least height of a paragraph on a page of `width` columns, and the least width at which it is
+/// no higher.
 fn paragraph_size(paragraph: &Para, width: u32) -> Option<Size>
-    ensures sized { IfSome result (λ size. IsSized width (Some paragraph.now) size.width size.height) }
+    ensures sized { IfSome result (λ size.
+        IsSized width (Some paragraph.now) size.width size.height) }
     ensures narrow { IfNone result (IsTooNarrowFor width (Some paragraph.now)) }
 {
     match count_lines(paragraph, width) {
         None => None,
         Some(height) => Some(Size {
-            width: slimmest(paragraph, width, height),
+            width: narrowest(paragraph, width, height),
             height,
         }),
     }
 }
 
 /// The least width at which the paragraph takes at most `height` lines, as it does at `width`.
-fn slimmest(paragraph: &Para, width: u32, height: u32) -> u32
+fn narrowest(paragraph: &Para, width: u32, height: u32) -> u32
     requires { FitsBlock width paragraph.now height }
     ensures fits { FitsBlock result paragraph.now height }
     ensures least { (w : ℕ) → FitsBlock w paragraph.now height → result ≤ w }

@@ -1,16 +1,16 @@
 //! Lays out a table on a page of fixed-width text, as low as any layout can be. The command, the
-//! reading of its file, the layout and the page stand in their own modules; `run` is all of it
-//! over a desk. Its one contract: the statuses of `run`, what stands after each, and that the page
-//! stored is of the least height.
+//! reading of its file, the layout and the page are modules of their own; `run` is all of it over a
+//! desk. Its one contract: the statuses of `run`, what is stored and printed after each, and that
+//! the page stored is of the least height.
 #![tactic(auto)]
 
 ghost use Rattle.std.specs.Prelude.{◌≡◌, ◌≢◌};
 ghost use Rattle.std.specs.IoError.{error_kind};
 
-mod answer;
 mod column;
 mod command;
 mod form;
+mod outcome;
 mod page;
 mod rows;
 mod run;

@@ -1,3 +1,5 @@
+//! Writes the text page of a column: its lines one under the other, each filled to one width.
+
 ghost use Rattle.std.specs.Prelude.{◌≡◌, ◌+◌, ◌*◌, ◌≤◌, ◌++◌, ◌∷◌, [], ℕ, List, length, encode_utf8_all, IfOk, OnOk, Some};
 ghost use Rattle.std.specs.List.{All, AllZip, AllByRecursion};
 ghost use Rattle.tl_text.specs.declared.paragraph.Atom.{Atom};
@@ -6,8 +8,9 @@ ghost use Rattle.tl_text.specs.Words.{width_of};
 ghost use Rattle.tl_text.specs.Paragraph.{unit_width, atom_size};
 ghost use Rattle.tl_text.specs.Cuttings.{line_width, HasCutting};
 ghost use Rattle.tl_program.specs.TextPage.{spaces, unit_text, line_text, filled, IsTextPage};
-ghost use Rattle.tl_program.specs.Column.{ShowsRow, column_of, column_layout, lines_text, ranged, gap_in_line};
-ghost use Rattle.tl_program.specs.ColumnSizes.{HoldsRow, RowNeeds};
+ghost use Rattle.tl_program.specs.inner.ColumnPages.{ShowsRow, column_layout, lines_text, ranged, gap_in_line};
+ghost use Rattle.tl_program.specs.Column.{column_of};
+ghost use Rattle.tl_program.specs.inner.ColumnSizes.{HoldsRow, RowNeeds};
 
 use std::alloc::{AllocError, Global};
 use tl_base::{List, MAX_FILE_BYTES, Text};
@@ -17,8 +20,10 @@ use tl_text::{Atom, Line, Para, TextError, lines, word_width};
 /// by a line feed. A row without a paragraph has no line.
 pub fn column_page(alloc: Global, rows: &[Option<Para>], width: u32) -> Result<List<u8>, AllocError>
     requires fit { AllByRecursion (HoldsRow width) rows.now }
-    ensures page { IfOk result (λ page. (heights : List ℕ) → AllZip (RowNeeds width) rows.now heights
-        → (text : List ℕ) × IsTextPage (column_of rows.now) (column_layout rows.now width heights) text
+    ensures page { IfOk result (λ page.
+        (heights : List ℕ) → AllZip (RowNeeds width) rows.now heights
+        → (text : List ℕ) × IsTextPage (column_of rows.now)
+        (column_layout rows.now width heights) text
         × (page ≡ encode_utf8_all text)) }
 {
     let mut page = List::new(alloc);
@@ -38,7 +43,8 @@ fn write_row(
     width: u32,
 ) -> Result<(), AllocError>
     requires fit { HasCutting width paragraph.now }
-    ensures lines { OnOk result ((lines : List (List Atom)) × ShowsRow width (Some paragraph.now) lines
+    ensures lines { OnOk result ((lines : List (List Atom))
+        × ShowsRow width (Some paragraph.now) lines
         × (page.new ≡ page.old ++ encode_utf8_all (lines_text width lines))) }
 {
     let ranges = match lines(alloc, paragraph, width) {
@@ -67,7 +73,8 @@ fn units_of(atoms: &[Atom], line: Line) -> &[Atom]
 fn write_line(page: &mut List<u8>, units: &[Atom], width: u32) -> Result<(), AllocError>
     requires few { length units.now ≤ MAX_FILE_BYTES }
     requires small { All (λ atom. atom_size atom ≤ MAX_FILE_BYTES) units.now }
-    ensures line { OnOk result (page.new ≡ page.old ++ encode_utf8_all (filled width units.now ++ 10 ∷ [])) }
+    ensures line { OnOk result (page.new ≡ page.old
+        ++ encode_utf8_all (filled width units.now ++ 10 ∷ [])) }
 {
     let columns = write_units(page, units)?;
     write_spaces(page, u64::from(width).saturating_sub(columns))?;
@@ -75,7 +82,7 @@ fn write_line(page: &mut List<u8>, units: &[Atom], width: u32) -> Result<(), All
     Ok(())
 }
 
-/// Writes the units of a line, and answers how many columns they take.
+/// Writes the units of a line, and returns how many columns they take.
 fn write_units(page: &mut List<u8>, units: &[Atom]) -> Result<u64, AllocError>
     requires few { length units.now ≤ MAX_FILE_BYTES }
     requires small { All (λ atom. atom_size atom ≤ MAX_FILE_BYTES) units.now }
@@ -89,13 +96,14 @@ fn write_units(page: &mut List<u8>, units: &[Atom]) -> Result<u64, AllocError>
     Ok(columns)
 }
 
-/// Writes the unit at a place of a line, with the gap before it, and answers how many columns the
+/// Writes the unit at a place of a line, with the gap before it, and returns how many columns the
 /// two take. A break takes none.
 fn write_unit(page: &mut List<u8>, unit: &Atom, at: usize) -> Result<u32, AllocError>
     requires small { atom_size unit.now ≤ MAX_FILE_BYTES }
     ensures text { OnOk result (page.new ≡ page.old
         ++ encode_utf8_all (spaces (gap_in_line at unit.now) ++ unit_text unit.now)) }
-    ensures width { IfOk result (λ columns. columns ≡ gap_in_line at unit.now + unit_width unit.now) }
+    ensures width { IfOk result (λ columns.
+        columns ≡ gap_in_line at unit.now + unit_width unit.now) }
     ensures few { IfOk result (λ columns. columns ≤ 2 * MAX_FILE_BYTES + 1) }
 {
     match unit {
@@ -111,7 +119,7 @@ fn write_unit(page: &mut List<u8>, unit: &Atom, at: usize) -> Result<u32, AllocE
     }
 }
 
-/// Writes the text of a unit, and answers its width.
+/// Writes the text of a unit, and returns its width.
 fn write_text(page: &mut List<u8>, text: &Text) -> Result<u32, AllocError>
     requires small { byte_count text.now ≤ MAX_FILE_BYTES }
     ensures text { OnOk result (page.new ≡ page.old ++ encode_utf8_all text.now) }
@@ -139,7 +147,7 @@ mod tests {
     use tl_base::List;
     use tl_text::{Atom, Para, least_width, words};
 
-    // A `/` stands for a break. The width is that of the widest word.
+    // A `/` is a forced break. The width is that of the widest word.
     #[test]
     fn each_line_is_filled_and_ended(rt: HostRuntime) -> Result<(), Fail> {
         for (text, want) in [

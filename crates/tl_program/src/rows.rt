@@ -1,3 +1,5 @@
+//! The rows of a file in the one-column form, as paragraphs.
+
 ghost use Rattle.std.specs.Prelude.{◌≡◌, ◌≤◌, ℕ, List, length, map, IfOk, IfSome, IfNone};
 ghost use Rattle.tl_text.specs.declared.paragraph.Atom.TheVariants.{Word};
 ghost use Rattle.tl_program.specs.OneColumn.{IsText, IsOneColumn};
@@ -11,11 +13,12 @@ use tl_text::{Atom, Para, words};
 /// The rows of a file in the one-column form, each with its paragraph or, where its text has no
 /// word, none. `None` exactly where the file has not the form.
 pub fn first_form(alloc: Global, bytes: &[u8]) -> Result<Option<List<Option<Para>>>, AllocError>
-    ensures found { IfOk result (λ read. IfSome read (λ rows. (texts : List (List ℕ)) × IsOneColumn bytes.now texts
-        × (rows ≡ map paragraph_of texts))) }
-    ensures only { IfOk result (λ read. IfSome read (λ rows. (texts : List (List ℕ)) → IsOneColumn bytes.now texts
-        → rows ≡ map paragraph_of texts)) }
-    ensures none { IfOk result (λ read. IfNone read ((texts : List (List ℕ)) → ¬ (IsOneColumn bytes.now texts))) }
+    ensures found { IfOk result (λ read. IfSome read (λ rows.
+        (texts : List (List ℕ)) × IsOneColumn bytes.now texts × (rows ≡ map paragraph_of texts))) }
+    ensures only { IfOk result (λ read. IfSome read (λ rows.
+        (texts : List (List ℕ)) → IsOneColumn bytes.now texts → rows ≡ map paragraph_of texts)) }
+    ensures none { IfOk result (λ read.
+        IfNone read ((texts : List (List ℕ)) → ¬ (IsOneColumn bytes.now texts))) }
 {
     let Some(texts) = row_texts(alloc, bytes)? else {
         return Ok(None);

@@ -1,11 +1,13 @@
+//! The exit statuses.
+
 ghost use Rattle.std.specs.Prelude.{◌≡◌};
 
 /// How the program ends. The numbers are its exit statuses; a number that is missing is not used.
 #[derive(Clone, Copy, Debug, PartialEq, Eq)]
 pub enum Status {
-    /// The page is stored and its numbers are said.
+    /// The page is stored and its numbers are printed.
     Done = 0,
-    /// The words are no command.
+    /// The arguments are invalid.
     Usage = 2,
     /// No layout fits the page.
     Narrow = 4,
@@ -13,7 +15,7 @@ pub enum Status {
     ReadFault = 7,
     /// A file, or standard output, could not be written.
     WriteFault = 8,
-    /// No memory was found.
+    /// Out of memory.
     Memory = 9,
     /// The file has another form than this program reads.
     NotBuilt = 11,

@@ -1,19 +1,21 @@
+//! Runs the program over files in memory: each status with its page and its message.
+
 use crate::run::run;
 use std::alloc::{AllocError, Global};
 use std::collections::BTreeMap;
 use std::test::Fail as Failure;
 use tl_base::{Fail, List, MemoryDesk, NoGate};
 
-/// The words of a command line, parted by spaces.
-fn words(alloc: Global, line: &str) -> Result<Vec<String>, AllocError> {
-    let mut words = Vec::new(alloc);
+/// The arguments of a command line, separated by spaces.
+fn arguments(alloc: Global, line: &str) -> Result<Vec<String>, AllocError> {
+    let mut arguments = Vec::new(alloc);
     if line.is_empty() {
-        return Ok(words);
+        return Ok(arguments);
     }
     for word in line.split(' ') {
-        words.push(String::from_str(alloc, word)?)?;
+        arguments.push(String::from_str(alloc, word)?)?;
     }
-    Ok(words)
+    Ok(arguments)
 }
 
 /// A desk whose file `t.html` holds these bytes.
@@ -35,15 +37,15 @@ const ONE_CELL: &str = "<table><tr><td>aa bb cc</td></tr></table>";
 
 /// The status that `lay WIDTH t.html p.txt` ends with over the desk.
 fn lay(alloc: Global, width: &str, desk: &mut MemoryDesk) -> Result<u8, AllocError> {
-    let mut words = words(alloc, "lay")?;
+    let mut arguments = arguments(alloc, "lay")?;
     for word in [width, "t.html", "p.txt"] {
-        words.push(String::from_str(alloc, word)?)?;
+        arguments.push(String::from_str(alloc, word)?)?;
     }
-    Ok(run(alloc, words.as_slice(), desk, &NoGate))
+    Ok(run(alloc, arguments.as_slice(), desk, &NoGate))
 }
 
 #[test]
-fn a_file_of_one_column_is_answered_with_its_lowest_page(rt: HostRuntime) -> Result<(), Failure> {
+fn the_lowest_page_of_one_column_is_stored(rt: HostRuntime) -> Result<(), Failure> {
     let alloc = rt.alloc();
     let two_rows = "<table><tr><td>a b</td></tr><tr><td>ccc</td></tr></table>";
     let spaced = "\n <table>\t<tr> <td>abcdef\n</td>\r</tr>\n</table>\n";
@@ -72,7 +74,7 @@ fn a_file_of_one_column_is_answered_with_its_lowest_page(rt: HostRuntime) -> Res
 }
 
 #[test]
-fn a_page_narrower_than_a_word_is_told_the_least_width(rt: HostRuntime) -> Result<(), Failure> {
+fn a_page_narrower_than_a_word_prints_the_least_width(rt: HostRuntime) -> Result<(), Failure> {
     let alloc = rt.alloc();
     let wide = "<table><tr><td>abcdef</td></tr><tr><td></td></tr></table>";
     for (file, width, said) in [
@@ -108,7 +110,7 @@ fn a_file_of_another_form_is_not_built(rt: HostRuntime) -> Result<(), Failure> {
 }
 
 #[test]
-fn words_that_are_no_command_are_usage(rt: HostRuntime) -> Result<(), Failure> {
+fn invalid_arguments_print_the_usage(rt: HostRuntime) -> Result<(), Failure> {
     let alloc = rt.alloc();
     for line in [
         "",
@@ -127,9 +129,9 @@ fn words_that_are_no_command_are_usage(rt: HostRuntime) -> Result<(), Failure> {
         "lay 7 t.html t.html",
     ] {
         let mut desk = desk(alloc, ONE_CELL.as_bytes(), &[])?;
-        let words = words(alloc, line)?;
+        let arguments = arguments(alloc, line)?;
         assert_eq!(rt;
-            run(alloc, words.as_slice(), &mut desk, &NoGate),
+            run(alloc, arguments.as_slice(), &mut desk, &NoGate),
             2,
             "{line:?}"
         );
@@ -140,7 +142,7 @@ fn words_that_are_no_command_are_usage(rt: HostRuntime) -> Result<(), Failure> {
 }
 
 #[test]
-fn what_stands_where_a_call_of_the_desk_fails(rt: HostRuntime) -> Result<(), Failure> {
+fn a_call_of_the_desk_that_fails_leaves_a_prefix(rt: HostRuntime) -> Result<(), Failure> {
     let alloc = rt.alloc();
     let fail = |call, bytes| Fail { call, bytes };
     let whole = Some("aa bb\ncc   \n");
@@ -175,7 +177,7 @@ fn a_file_that_is_missing_is_a_read_fault(rt: HostRuntime) -> Result<(), Failure
     Ok(())
 }
 
-/// A file of so many rows, filled with spaces behind its end to at least `size` bytes.
+/// A file of so many rows, filled with spaces after its end to at least `size` bytes.
 fn rows_file(alloc: Global, rows: usize, size: usize) -> Result<List<u8>, AllocError> {
     let mut file = List::from_slice(alloc, b"<table>")?;
     for _ in 0..rows {
@@ -201,6 +203,29 @@ fn rows_and_bytes_up_to_their_limits_are_laid_out(rt: HostRuntime) -> Result<(),
         let mut desk = desk(alloc, file.as_slice(), &[])?;
         assert_eq!(rt; lay(alloc, "9", &mut desk)?, status, "{rows} rows");
         assert_eq!(rt; desk.said(), said.as_bytes(), "{rows} rows");
+    }
+    Ok(())
+}
+
+// Words of two columns with one column between two: 167 take 3 * 167 - 1 = 500 columns, 168 take
+// two lines, of 84 words and 3 * 84 - 1 = 251 columns each. Each line has a line feed more.
+#[test]
+fn a_page_of_500_columns_is_filled(rt: HostRuntime) -> Result<(), Failure> {
+    let alloc = rt.alloc();
+    for (words, bytes, said) in [
+        (167, 501, "lowest height 1 width 500\n"),
+        (168, 504, "lowest height 2 width 251\n"),
+    ] {
+        let mut file = List::from_slice(alloc, b"<table><tr><td>")?;
+        for _ in 0..words {
+            file.extend_from_slice(b" aa")?;
+        }
+        file.extend_from_slice(b"</td></tr></table>")?;
+        let mut desk = desk(alloc, file.as_slice(), &[])?;
+        assert_eq!(rt; lay(alloc, "500", &mut desk)?, 0, "{words} words");
+        assert_eq!(rt; desk.said(), said.as_bytes(), "{words} words");
+        let page = held(&desk, "p.txt").map(|page| page.len());
+        assert_eq!(rt; page, Some(bytes), "{words} words");
     }
     Ok(())
 }

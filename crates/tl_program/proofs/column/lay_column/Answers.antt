@@ -1,7 +1,7 @@
 -- One row after another.
 use Rattle.std.proofs.Common.{◌≡◌, ◌+◌, ◌++◌, ◌∷◌, [], take, sym, subst, ap, ◌∙◌}
 use Rattle.std.proofs.lemmas.List.{take_more}
-use Rattle.tl_program.specs.ColumnSizes.{IsTooNarrowFor}
+use Rattle.tl_program.specs.inner.ColumnSizes.{IsTooNarrowFor}
 use Rattle.tl_program.proofs.ColumnGrowth.{laid_more, too_narrow_at}
 use Rattle.tl_program.proofs.column.lay_column.Goals as goal
 

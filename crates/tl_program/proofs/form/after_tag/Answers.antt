@@ -1,6 +1,6 @@
--- The tag stands where the white space ends, or nowhere.
+-- The tag is where the white space ends, or nowhere.
 use Rattle.std.proofs.lemmas.Str.Ascii.{trim_ascii_start_is}
-use Rattle.tl_program.proofs.TagAnswers.{tag_is_there, tag_is_once, tag_is_nowhere}
+use Rattle.tl_program.proofs.TagLemmas.{tag_is_there, tag_is_once, tag_is_nowhere}
 use Rattle.tl_program.proofs.form.after_tag.Goals as goal
 
 pub returns-clause-found : goal.returns-clause-found

@@ -1,5 +1,5 @@
 -- A row has its parts, each of which can only be what was found.
-use Rattle.tl_program.proofs.RowAnswers.{cell_of_row, text_of_row, end_of_row, row_is_once}
+use Rattle.tl_program.proofs.RowLemmas.{cell_of_row, text_of_row, end_of_row, row_is_once}
 use Rattle.tl_program.proofs.form.next_row.Goals as goal
 
 pub returns-in_err-in_row-clause-none : goal.returns-in_err-in_row-clause-none

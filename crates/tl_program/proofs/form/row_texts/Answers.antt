@@ -2,8 +2,8 @@
 use Rattle.std.proofs.Common.{◌≡◌, length, length-append, ◌≤◌, arith}
 use Rattle.tl_base.specs.declared.limits.TheConstants.{MAX_ROWS}
 use Rattle.std.proofs.lemmas.List.{map-append, length-map}
-use Rattle.tl_program.proofs.RowAnswers.{row_more, no_more_rows}
-use Rattle.tl_program.proofs.FormAnswers.{texts_of, table_of, form_found, form_is_once, form_missing}
+use Rattle.tl_program.proofs.RowLemmas.{row_more, no_more_rows}
+use Rattle.tl_program.proofs.FormLemmas.{texts_of, table_of, form_found, form_is_once, form_missing}
 use Rattle.tl_program.proofs.form.row_texts.Goals as goal
 
 pub returns-in_default-clause-none : goal.returns-in_default-clause-none

@@ -1,7 +1,7 @@
 -- The texts so far are those of the rows between the table's begin and this place.
 use Rattle.std.proofs.Common.{◌-◌, ◌≤◌, length, map}
 use Rattle.tl_base.specs.declared.limits.TheConstants.{MAX_ROWS}
-use Rattle.tl_program.proofs.RowAnswers.{RowsBetween}
+use Rattle.tl_program.proofs.RowLemmas.{RowsBetween}
 use Rattle.tl_program.proofs.form.row_texts.Given as goal
 
 abbrev pub invariant-loop-row : goal.invariant-loop-row

@@ -1,4 +1,4 @@
--- The table ends here where its end tag stands, with white space alone behind it.
+-- The table ends here where its end tag is, with white space alone after it.
 use Rattle.std.proofs.Common.{sym, ◌∙◌, subst}
 use Rattle.tl_program.specs.OneColumn.{IsWhiteSpace}
 use Rattle.tl_program.proofs.form.table_ends.Goals as goal

@@ -1,6 +1,6 @@
 -- One more row is written, if it has a paragraph; all of them are the page.
 use Rattle.std.proofs.Common.{◌∙◌, [], refl, sym, subst, append-nil, arith}
-use Rattle.tl_program.specs.Column.{ShowsRow}
+use Rattle.tl_program.specs.inner.ColumnPages.{ShowsRow}
 use Rattle.tl_program.proofs.ColumnPages.{row_more_written, page_written}
 use Rattle.tl_program.proofs.page.column_page.Goals as goal
 use Rattle.tl_program.proofs.page.column_page.Goals.{in-Some+in_ok-write_row, in_default}

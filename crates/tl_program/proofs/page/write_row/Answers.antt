@@ -6,7 +6,7 @@ use Rattle.tl_text.specs.Paragraph.{atom_size}
 use Rattle.tl_text.specs.Ranges.{ShowsGreedyCutting}
 use Rattle.tl_text.specs.Cuttings.{LeastLines}
 use Rattle.tl_program.specs.TextPage.{filled}
-use Rattle.tl_program.specs.Column.{lines_text, ranged}
+use Rattle.tl_program.specs.inner.ColumnPages.{lines_text, ranged}
 use Rattle.tl_program.proofs.RowLines.{range_within, range_is_small, range_is_short, line_more, none_too_wide, row_written}
 use Rattle.tl_program.proofs.page.write_row.Goals as goal
 

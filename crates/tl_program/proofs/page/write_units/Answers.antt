@@ -1,4 +1,4 @@
--- One more unit is written behind those so far.
+-- One more unit is written after those so far.
 use Rattle.std.proofs.Common.{◌<◌, ◌∙◌, ◌++◌, encode_utf8_all, length, take, ap, sym, arith}
 use Rattle.tl_program.specs.TextPage.{line_text}
 use Rattle.tl_program.proofs.LineTexts.{written_more, units_more}

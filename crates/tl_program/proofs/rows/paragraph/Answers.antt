@@ -8,6 +8,6 @@ unwrap-text-requires c = grind (arith, text_is_utf8 c.args.text.now c.requires.t
 
 pub returns : goal.returns
 returns c =
-    let told = rw (c.in_ok-units.ensures, c.in_ok-words.ensures) at c.new.ensures in
+    let known = rw (c.in_ok-units.ensures, c.in_ok-words.ensures) at c.new.ensures in
     let same = (rw c.unwrap-text.ensures at c.from_utf8.ensures.cases).0 in
-    text_makes_paragraph c.args.text.now c.new.result c.requires.text c.requires.size (rw same at told)
+    text_makes_paragraph c.args.text.now c.new.result c.requires.text c.requires.size (rw same at known)

@@ -1,4 +1,4 @@
--- What the parts of a row tell of the row, and what one row after another tells of the table.
+-- What follows for a row from its parts, and for the table from one row after another.
 use Rattle.std.proofs.Common.{◌≡◌, ℕ, ◌≤◌, List, [], ◌∷◌, ◌++◌, length, drop, get_or, refl, sym, ◌∙◌, ap, subst, arith, append_assoc, length-append}
 use Rattle.std.specs.Prelude.{codes}
 use Rattle.std.specs.Char.{is_ascii_whitespace}
@@ -9,29 +9,29 @@ use Rattle.tl_program.proofs.Prefixes.{after_space}
 
 -- where each part of a row can only be this one, the row can only be this one
 module _ (bytes in_row : List ℕ) (begins : (r : List ℕ) → HasTag (codes "<tr>") bytes r → r ≡ in_row) where
-  -- a row goes on with its cell
+  -- a row begins with its tag and continues with its cell
   pub cell_of_row : (text rest : List ℕ) (row : HasRow bytes text rest) → HasTag (codes "<td>") in_row row.in_cell
   cell_of_row text rest row =
       subst (λ (xs : List ℕ). HasTag (codes "<td>") xs row.in_cell) (begins row.in_row row.row_begins) row.cell_begins
 
   module _ (in_cell : List ℕ) (cell_begins : (r : List ℕ) → HasTag (codes "<td>") in_row r → r ≡ in_cell) where
-    -- and its cell with a text
+    -- a cell begins with its tag and continues with its text
     pub text_of_row : (text rest : List ℕ) (row : HasRow bytes text rest) → HasText in_cell text row.past_cell
     text_of_row text rest row =
         subst (λ (xs : List ℕ). HasText xs text row.past_cell) (cell_begins row.in_cell (cell_of_row text rest row)) row.cell_ends
 
     module _ (text past_cell : List ℕ) (cell_ends : (t r : List ℕ) → HasText in_cell t r → (t ≡ text) × (r ≡ past_cell)) where
-      -- and then ends
+      -- after the cell the row ends
       pub end_of_row : (t r : List ℕ) (row : HasRow bytes t r) → HasTag (codes "</tr>") past_cell r
       end_of_row t r row =
           subst (λ (xs : List ℕ). HasTag (codes "</tr>") xs r) (cell_ends t row.past_cell (text_of_row t r row)).1 row.row_ends
 
-      -- so it is this row
+      -- each reading of the row has this text and this rest
       pub row_is_once : (rest : List ℕ) → ((r : List ℕ) → HasTag (codes "</tr>") past_cell r → r ≡ rest) →
           (t r : List ℕ) → HasRow bytes t r → (t ≡ text) × (r ≡ rest)
       row_is_once rest ends t r row = ((cell_ends t row.past_cell (text_of_row t r row)).0, ends r (end_of_row t r row))
 
--- where a row stands, the table does not end
+-- where there is a row, the table does not end
 pub row_is_no_end : (bytes text rest past : List ℕ) → HasRow bytes text rest → HasTag (codes "</table>") bytes past → ⊥
 row_is_no_end bytes text rest past row ends =
     let tag = row.row_begins in
@@ -45,14 +45,14 @@ row_is_no_end bytes text rest past row ends =
 pub record RowsBetween (start place : List ℕ) (texts : List (List ℕ)) : Type 0 where
   -- with the rows from the place on they are rows of the table
   pub sound : (more : List (List ℕ)) → HasRows place more → HasRows start (texts ++ more)
-  -- and each reading of the table has them first
+  -- each reading of the table has these texts first
   pub complete : (all : List (List ℕ)) → HasRows start all → (more : List (List ℕ)) × (all ≡ texts ++ more) × HasRows place more
 
--- at first there are none
+-- before the first row there are no texts
 pub no_rows : (start : List ℕ) → RowsBetween start start []
 no_rows start = record { sound = λ more rows. rows; complete = λ all rows. (all, refl, rows) }
 
--- what a reading has behind the rows so far, where one row more can only be this one
+-- what a reading has after the rows so far, where one row more can only be this one
 rest_of_rows : (place text rest : List ℕ) → HasRow place text rest →
     ((t r : List ℕ) → HasRow place t r → (t ≡ text) × (r ≡ rest)) → (more : List (List ℕ)) → HasRows place more →
     (others : List (List ℕ)) × (more ≡ text ∷ others) × HasRows rest others
@@ -61,7 +61,7 @@ rest_of_rows place text rest row only (t ∷ more) rows =
     let same = only t rows.0 rows.1 in
     (more, ap (λ x. x ∷ more) same.0, subst (λ (xs : List ℕ). HasRows xs more) same.1 rows.2)
 
--- one row more
+-- the texts with those of one row more
 pub row_more : (start place text rest : List ℕ) (texts : List (List ℕ)) → RowsBetween start place texts →
     HasRow place text rest → ((t r : List ℕ) → HasRow place t r → (t ≡ text) × (r ≡ rest)) →
     RowsBetween start rest (texts ++ text ∷ [])
@@ -69,8 +69,8 @@ row_more start place text rest texts so_far row only = record {
   sound = λ more rows. rw append_assoc (so_far.sound (text ∷ more) (rest, row, rows));
   complete = λ all rows.
       let before = so_far.complete all rows in
-      let behind = rest_of_rows place text rest row only before.0 before.2 in
-      (behind.0, before.1 ∙ ap (λ xs. texts ++ xs) behind.1 ∙ sym (append_assoc texts (text ∷ []) behind.0), behind.2);
+      let after = rest_of_rows place text rest row only before.0 before.2 in
+      (after.0, before.1 ∙ ap (λ xs. texts ++ xs) after.1 ∙ sym (append_assoc texts (text ∷ []) after.0), after.2);
 }
 
 -- where no row follows, the rows are all

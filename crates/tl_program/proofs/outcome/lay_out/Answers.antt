@@ -1,9 +1,9 @@
--- The answer is told by the rows' sizes.
+-- The outcome follows from the rows' sizes.
 use Rattle.std.proofs.Common.{◌≡◌, ◌∙◌, ap}
 use Rattle.std.specs.Prelude.{string_bytes, sum}
-use Rattle.tl_program.specs.Answer.{page_summary}
-use Rattle.tl_program.proofs.Answers.{rows_hold, rows_need, too_narrow_page, lowest_page, few_heights}
-use Rattle.tl_program.proofs.answer.answer_file.Goals as goal
+use Rattle.tl_program.specs.Outcome.{page_summary}
+use Rattle.tl_program.proofs.OutcomeLemmas.{rows_hold, rows_need, too_narrow_page, lowest_page, few_heights}
+use Rattle.tl_program.proofs.outcome.lay_out.Goals as goal
 
 pub returns-in_default : goal.returns-in_default
 returns-in_default c = rw c.in_default.is at c.in_ok-rows.ensures.none

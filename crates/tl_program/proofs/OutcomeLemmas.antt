@@ -1,4 +1,4 @@
--- What the sizes of a column tell of the answer to its file.
+-- What follows for the outcome of a file from the sizes of its column.
 use Rattle.std.proofs.Common.{◌≡◌, ℕ, ◌≤◌, List, [], ◌∷◌, length, map, Some, None, refl, sym, ◌∙◌, ap, subst, arith}
 use Rattle.tl_base.specs.declared.limits.TheConstants.{MAX_FILE_BYTES}
 use Rattle.std.specs.Prelude.{Option, sum}
@@ -13,10 +13,11 @@ use Rattle.tl_program.specs.Table.{Layout}
 use Rattle.tl_program.specs.Layout.{total_width, total_height, Fits}
 use Rattle.tl_program.specs.Least.{IsLeastWidth}
 use Rattle.tl_program.specs.TextPage.{IsTextPage}
-use Rattle.tl_program.specs.Answer.{page_summary, narrow_summary, IsLowestPage, IsTooNarrowPage}
+use Rattle.tl_program.specs.Outcome.{page_summary, narrow_summary, IsLowestPage, IsTooNarrowPage}
 use Rattle.tl_program.specs.OneColumn.{IsOneColumn}
-use Rattle.tl_program.specs.Column.{paragraph_of, column_of, column_layout}
-use Rattle.tl_program.specs.ColumnSizes.{FitsRow, RowNeeds, HoldsRow, IsLaid, IsWidest, IsTooNarrow}
+use Rattle.tl_program.specs.Column.{paragraph_of, column_of}
+use Rattle.tl_program.specs.inner.ColumnPages.{column_layout}
+use Rattle.tl_program.specs.inner.ColumnSizes.{FitsRow, RowNeeds, HoldsRow, IsLaid, IsWidest, IsTooNarrow}
 use Rattle.tl_program.proofs.ColumnRooms.{held_rows_fit, total-plain}
 use Rattle.tl_program.proofs.ColumnLayouts.{column_fits, column_is_least, column_is_tight, need_in_column, one_width, total-one}
 
@@ -27,7 +28,7 @@ rows_hold w (row ∷ rows) [] fits = absurd fits
 rows_hold w (None ∷ rows) (h ∷ heights) fits = (tt, rows_hold w rows heights fits.1)
 rows_hold w (Some paragraph ∷ rows) (h ∷ heights) fits = ((fits.0.0, fits.0.1, fits.0.2), rows_hold w rows heights fits.1)
 
--- and need there what they need in the page
+-- rows that fit in a width within the page need there what they need in the page
 pub rows_need : (page w : ℕ) (rows : List (Option (List Atom))) (heights : List ℕ) → w ≤ page → AllZip (FitsRow w) rows heights →
     AllZip (RowNeeds page) rows heights → AllZip (RowNeeds w) rows heights
 rows_need page w [] [] le fits need = tt
@@ -40,10 +41,10 @@ rows_need page w (Some paragraph ∷ rows) (h ∷ heights) le fits need =
 -- the column's width is its total width
 pub column_total : (page w : ℕ) (rows : List (Option (List Atom))) (heights : List ℕ) → IsLaid page rows w heights →
     total_width Plain (column_layout rows w heights) ≡ w
-column_total page w [] heights laid = nothing heights laid.fits laid.slim where
+column_total page w [] heights laid = nothing heights laid.fits laid.narrowest where
   nothing : (heights : List ℕ) → AllZip (FitsRow w) [] heights → ((v : ℕ) → AllZip (FitsRow v) [] heights → w ≤ v) → 0 ≡ w
-  nothing [] fits slim = omega (arith, slim 0 tt)
-  nothing (h ∷ heights) fits slim = absurd fits
+  nothing [] fits narrowest = omega (arith, narrowest 0 tt)
+  nothing (h ∷ heights) fits narrowest = absurd fits
 column_total page w (row ∷ rows) heights laid = total-one (w ∷ []) w refl
 
 -- rows that have cuttings in a width fit some heights there
@@ -92,13 +93,13 @@ nothing_fits page (row ∷ rows) narrow height layout fits =
 pub too_narrow_page : (width : ℕ) (bytes : List ℕ) (rows : List (Option (List Atom))) (texts : List (List ℕ)) (least : ℕ) (summary : List ℕ) →
     IsOneColumn bytes texts → rows ≡ map paragraph_of texts → IsTooNarrow width rows → IsWidest rows least →
     summary ≡ narrow_summary least width → IsTooNarrowPage width bytes summary
-too_narrow_page width bytes rows texts least summary form is narrow widest told = record {
+too_narrow_page width bytes rows texts least summary form is narrow widest message = record {
   texts = texts;
   form = form;
   narrow = nothing_fits width (map paragraph_of texts) (subst (λ (rs : List (Option (List Atom))). IsTooNarrow width rs) is narrow);
   least = least;
   least_width = widest_is_least (map paragraph_of texts) least (subst (λ (rs : List (Option (List Atom))). IsWidest rs least) is widest);
-  told = told;
+  message = message;
 }
 
 -- the page of a column
@@ -109,7 +110,7 @@ ShowsColumn rows w heights page = (text : List ℕ) × IsTextPage (column_of row
 page_of_texts : (width : ℕ) (bytes : List ℕ) (texts : List (List ℕ)) (w : ℕ) (heights page summary : List ℕ) → IsOneColumn bytes texts →
     IsLaid width (map paragraph_of texts) w heights → ShowsColumn (map paragraph_of texts) w heights page →
     summary ≡ page_summary (sum heights) w → IsLowestPage width bytes page summary
-page_of_texts width bytes texts w heights page summary form laid shows told =
+page_of_texts width bytes texts w heights page summary form laid shows message =
     let rows : List (Option (List Atom)) = map paragraph_of texts in
     record {
       texts = texts;
@@ -118,21 +119,21 @@ page_of_texts width bytes texts w heights page summary form laid shows told =
       height = total_height Plain (column_layout rows w heights);
       fits = column_fits width w rows heights laid.within laid.fits;
       lowest = column_is_least width w rows heights laid.within laid.fits laid.needs;
-      tight = column_is_tight width w rows heights laid.within laid.fits laid.needs laid.slim;
+      tight = column_is_tight width w rows heights laid.within laid.fits laid.needs laid.narrowest;
       text = shows.0;
       shown = shows.1;
       written = shows.2;
-      told = told ∙ ap (λ h. page_summary h w) (sym (total-plain heights))
+      message = message ∙ ap (λ h. page_summary h w) (sym (total-plain heights))
           ∙ ap (λ v. page_summary (total_height Plain (column_layout rows w heights)) v) (sym (column_total width w rows heights laid));
     }
 
 pub lowest_page : (width : ℕ) (bytes : List ℕ) (rows : List (Option (List Atom))) (texts : List (List ℕ)) (w : ℕ) (heights page summary : List ℕ) →
     IsOneColumn bytes texts → rows ≡ map paragraph_of texts → IsLaid width rows w heights → ShowsColumn rows w heights page →
     summary ≡ page_summary (sum heights) w → IsLowestPage width bytes page summary
-lowest_page width bytes rows texts w heights page summary form is laid shows told =
+lowest_page width bytes rows texts w heights page summary form is laid shows message =
     page_of_texts width bytes texts w heights page summary form
     (subst (λ (rs : List (Option (List Atom))). IsLaid width rs w heights) is laid)
-    (subst (λ (rs : List (Option (List Atom))). ShowsColumn rs w heights page) is shows) told
+    (subst (λ (rs : List (Option (List Atom))). ShowsColumn rs w heights page) is shows) message
 
 -- a file has few rows
 pub few_heights : (width : ℕ) (bytes : List ℕ) (rows : List (Option (List Atom))) (texts : List (List ℕ)) (w : ℕ) (heights : List ℕ) →

@@ -1,4 +1,5 @@
--- The sizes of a column: how high each row must be, and how wide the column then is at least.
+-- No public clause cites this file: it says how high each row of a column must be, and how wide the
+-- column then is at least.
 use Rattle.std.specs.Prelude.{◌≡◌, ℕ, ◌≤◌, List, Option, Some, None}
 use Rattle.std.specs.List.{AllByRecursion, AllZip}
 use Rattle.tl_text.specs.declared.paragraph.Atom.{Atom}
@@ -15,19 +16,21 @@ abbrev pub RowNeeds : ℕ → Option (List Atom) → ℕ → Type 0
 RowNeeds w None h = h ≡ 0
 RowNeeds w (Some paragraph) h = LeastLines w paragraph h
 
--- on a page of `page` columns the row needs `height` lines, and `width` is the least width at which it needs no more
+-- on a page of `page` columns the row needs `height` lines, and `width` is the least width at which
+-- it needs no more
 pub record IsSized (page : ℕ) (row : Option (List Atom)) (width height : ℕ) : Type 0 where
   pub within : width ≤ page
   pub fits : FitsRow width row height
   pub needs : RowNeeds page row height
-  pub slim : (w : ℕ) → FitsRow w row height → width ≤ w
+  pub narrowest : (w : ℕ) → FitsRow w row height → width ≤ w
 
--- the same of all rows of a column, one under the other
+-- on a page of `page` columns the rows, one under the other, need these heights, and `width` is the
+-- least width at which none needs more
 pub record IsLaid (page : ℕ) (rows : List (Option (List Atom))) (width : ℕ) (heights : List ℕ) : Type 0 where
   pub within : width ≤ page
   pub fits : AllZip (FitsRow width) rows heights
   pub needs : AllZip (RowNeeds page) rows heights
-  pub slim : (w : ℕ) → AllZip (FitsRow w) rows heights → width ≤ w
+  pub narrowest : (w : ℕ) → AllZip (FitsRow w) rows heights → width ≤ w
 
 -- in no width within the page the row fits any number of lines
 abbrev pub IsTooNarrowFor : ℕ → Option (List Atom) → Type 0

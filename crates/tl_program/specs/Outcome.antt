@@ -1,5 +1,6 @@
--- What a file is answered with on a page of some width: its page and what is said of it, or why there is none.
-use Rattle.std.specs.Prelude.{◌≡◌, ℕ, List, [], ◌∷◌, ◌++◌, codes, decimal, string_bytes}
+-- What becomes of a file on a page of some width: its page and the message about it, or why there
+-- is none.
+use Rattle.std.specs.Prelude.{◌≡◌, ℕ, List, [], ◌∷◌, ◌++◌, codes, decimal}
 use Rattle.std.specs.Str.{encode_utf8_all}
 use Rattle.tl_base.specs.declared.style.Style.TheVariants.{Plain}
 use Rattle.tl_program.specs.Table.{Layout}
@@ -7,31 +8,33 @@ use Rattle.tl_program.specs.Layout.{total_width, Fits}
 use Rattle.tl_program.specs.Least.{IsLeastHeight, IsLeastWidth}
 use Rattle.tl_program.specs.Tight.{IsTight}
 use Rattle.tl_program.specs.TextPage.{IsTextPage}
-use Rattle.tl_program.specs.declared.answer.Answer.{Answer}
-use Rattle.tl_program.specs.declared.answer.Answer.TheVariants.{Page, Narrow, OtherForm}
 use Rattle.tl_program.specs.OneColumn.{IsOneColumn}
 use Rattle.tl_program.specs.Column.{table_of_texts}
 
--- what is said of a page
+-- the message about a page
 abbrev pub page_summary : ℕ → ℕ → List ℕ
-page_summary height width = codes "lowest height " ++ (decimal height ++ (codes " width " ++ (decimal width ++ 10 ∷ [])))
+page_summary height width =
+    codes "lowest height " ++ (decimal height ++ (codes " width " ++ (decimal width ++ 10 ∷ [])))
 
--- what is said where no layout fits the page
+-- the message where no layout fits the page
 abbrev pub narrow_summary : ℕ → ℕ → List ℕ
-narrow_summary least width = codes "narrow least " ++ (decimal least ++ (codes " width " ++ (decimal width ++ 10 ∷ [])))
+narrow_summary least width =
+    codes "narrow least " ++ (decimal least ++ (codes " width " ++ (decimal width ++ 10 ∷ [])))
 
--- what is said of words that are no command, of a file that could not be read, and of one that has another form
+-- the message where the arguments are invalid
 abbrev pub usage_text : List ℕ
 usage_text = codes "usage" ++ 10 ∷ []
 
+-- the message where the file could not be read
 abbrev pub read_fault_text : List ℕ
 read_fault_text = codes "read fault" ++ 10 ∷ []
 
+-- the message where the file has another form
 abbrev pub not_built_text : List ℕ
 not_built_text = codes "not built" ++ 10 ∷ []
 
--- the bytes have the one-column form, and the page is that of a layout of their table that fits the width, is tight,
--- and is as low as any layout that fits
+-- the bytes have the one-column form, and the page is that of a layout of their table that fits the
+-- width, is tight, and is as low as any layout that fits
 pub record IsLowestPage (width : ℕ) (bytes page summary : List ℕ) : Type 0 where
   pub texts : List (List ℕ)
   pub form : IsOneColumn bytes texts
@@ -43,24 +46,19 @@ pub record IsLowestPage (width : ℕ) (bytes page summary : List ℕ) : Type 0 w
   pub text : List ℕ
   pub shown : IsTextPage (table_of_texts texts) layout text
   pub written : page ≡ encode_utf8_all text
-  pub told : summary ≡ page_summary height (total_width Plain layout)
+  pub message : summary ≡ page_summary height (total_width Plain layout)
 
--- the bytes have the one-column form, no layout of their table fits the width, and the least width at which one does
--- is told
+-- the bytes have the one-column form, no layout of their table fits the width, and the message
+-- gives the least width at which one does
 pub record IsTooNarrowPage (width : ℕ) (bytes summary : List ℕ) : Type 0 where
   pub texts : List (List ℕ)
   pub form : IsOneColumn bytes texts
-  pub narrow : (height : ℕ) (layout : Layout) → Fits (table_of_texts texts) Plain width height layout → ⊥
+  pub narrow : (height : ℕ) (layout : Layout) →
+      Fits (table_of_texts texts) Plain width height layout → ⊥
   pub least : ℕ
   pub least_width : IsLeastWidth (table_of_texts texts) Plain least
-  pub told : summary ≡ narrow_summary least width
+  pub message : summary ≡ narrow_summary least width
 
 -- the bytes have not the one-column form
 abbrev pub IsOtherForm : List ℕ → Type 0
 IsOtherForm bytes = (texts : List (List ℕ)) → IsOneColumn bytes texts → ⊥
-
--- the answer is the right one for a file of these bytes
-abbrev pub IsAnswer : ℕ → List ℕ → Answer → Type 0
-IsAnswer width bytes (Page page summary) = IsLowestPage width bytes page (string_bytes summary)
-IsAnswer width bytes (Narrow summary) = IsTooNarrowPage width bytes (string_bytes summary)
-IsAnswer width bytes OtherForm = IsOtherForm bytes

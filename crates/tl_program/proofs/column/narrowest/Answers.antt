@@ -1,7 +1,7 @@
 -- The middle is tried: what is low there is low in each greater width.
 use Rattle.std.proofs.Common.{◌≡◌, ◌≤◌, ◌+◌, ◌-◌, ◌/◌, ℕ, true, arith}
 use Rattle.tl_program.proofs.Blocks.{block_wider}
-use Rattle.tl_program.proofs.column.slimmest.Goals as goal
+use Rattle.tl_program.proofs.column.narrowest.Goals as goal
 
 pub loop-low-init : goal.loop-low-init
 loop-low-init c = record {

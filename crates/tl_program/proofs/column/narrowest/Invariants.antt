@@ -1,7 +1,7 @@
 -- The paragraph is low enough at `high`, and in no width below `low`.
 use Rattle.std.proofs.Common.{ℕ, ◌-◌, ◌≤◌}
 use Rattle.tl_program.specs.Layout.{FitsBlock}
-use Rattle.tl_program.proofs.column.slimmest.Given as goal
+use Rattle.tl_program.proofs.column.narrowest.Given as goal
 
 abbrev pub invariant-loop-low : goal.invariant-loop-low
 invariant-loop-low l = record {
