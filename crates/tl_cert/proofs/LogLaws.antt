@@ -36,13 +36,16 @@ breaks-not_meets problem widths bound = never bound.side bound.width (span_width
   never Least w room past on = omega arith
 
 -- what is so of the last element, with what is so of all
-last-and_all : {X : Type 0} (P Q : X → Type 0) (o : Option X) (xs : List X) → All P xs → (IsSomeAnd o Q → (x : X) × P x × Q x) → IsSomeAnd (last_or o xs) Q → (x : X) × P x × Q x
+last-and_all : {X : Type 0} (P Q : X → Type 0) (o : Option X) (xs : List X) → All P xs → (IsSomeAnd o Q → (x : X) × P x × Q x) →
+    IsSomeAnd (last_or o xs) Q → (x : X) × P x × Q x
 last-and_all P Q o [] all give last = give last
 last-and_all P Q o (y ∷ ys) all give last = last-and_all P Q (Some y) ys (λ k d within. all (suc k) d (omega arith)) (λ q. (y, all 0 y (omega arith), q)) last
 
-module _ (problem : ProblemModel) (sound : IsSound problem) (lower : ℕ) (widths heights : List ℕ) (layout : IsLayoutByLow problem widths heights) (low : total_height problem heights < lower) where
+module _ (problem : ProblemModel) (sound : IsSound problem) (lower : ℕ) (widths heights : List ℕ) (layout : IsLayoutByLow problem widths heights)
+    (low : total_height problem heights < lower) where
   -- a nogood that is true and all but one of whose bounds are implied has that one broken
-  left-breaks : (given joined nogood : List Bound) (bound : Bound) → IsTrueFor problem lower nogood → OneLeft problem (IsLeft problem given joined) nogood bound → IsLeft problem given joined widths → Breaks problem widths bound
+  left-breaks : (given joined nogood : List Bound) (bound : Bound) → IsTrueFor problem lower nogood →
+      OneLeft problem (IsLeft problem given joined) nogood bound → IsLeft problem given joined widths → Breaks problem widths bound
   left-breaks given joined nogood bound true_for one left =
       elim (meets-or_breaks problem widths bound) [
         | inr breaks ↦ breaks
@@ -50,12 +53,14 @@ module _ (problem : ProblemModel) (sound : IsSound problem) (lower : ℕ) (width
             let other = get_or nogood k d in
             elim (meets-or_breaks problem widths other) [
               | inl also ↦ also
-              | inr breaks ↦ one.others other (Contains-get_or nogood k d within) (λ same. breaks-not_meets problem widths other breaks (subst (Meets problem widths) (sym same) meets)) widths left
+              | inr breaks ↦ one.others other (Contains-get_or nogood k d within)
+                  (λ same. breaks-not_meets problem widths other breaks (subst (Meets problem widths) (sym same) meets)) widths left
             ]))
       ]
 
   -- firing true nogoods, a layout that is too low stays among what is left
-  fires-left : (given joined : List Bound) (nogoods : List (List Bound)) (last : List Bound) → All (IsTrueFor problem lower) nogoods → Fires problem given joined nogoods last →
+  fires-left : (given joined : List Bound) (nogoods : List (List Bound)) (last : List Bound) → All (IsTrueFor problem lower) nogoods →
+      Fires problem given joined nogoods last →
       IsLeft problem given joined widths → IsLeft problem given last widths
   fires-left given joined [] last true_for fires left = subst (λ js. IsLeft problem given js widths) (sym fires) left
   fires-left given joined (nogood ∷ nogoods) last true_for fires left =
@@ -68,7 +73,8 @@ module _ (problem : ProblemModel) (sound : IsSound problem) (lower : ℕ) (width
       ]
 
   -- but no end leaves it there
-  end-none : (given joined : List Bound) (nogoods : List (List Bound)) (end : End) → All (IsTrueFor problem lower) nogoods → IsLeft problem given joined widths →
+  end-none : (given joined : List Bound) (nogoods : List (List Bound)) (end : End) → All (IsTrueFor problem lower) nogoods →
+      IsLeft problem given joined widths →
       EndsBy problem (IsLeft problem given joined) nogoods lower end → ⊥
   end-none given joined nogoods Cycle true_for left ends = ends widths left
   end-none given joined nogoods Chain true_for left ends =
@@ -78,16 +84,20 @@ module _ (problem : ProblemModel) (sound : IsSound problem) (lower : ℕ) (width
       let below = area-below_layout problem sound (IsLeft problem given joined) widths heights left layout ends.0 ends.1 in
       omega (arith, below, ends.2)
   end-none given joined nogoods Fired true_for left ends =
-      let found = last-and_all (IsTrueFor problem lower) (All (Implied problem (IsLeft problem given joined))) None nogoods true_for (λ none. absurd none) ends in
+      let found = last-and_all (IsTrueFor problem lower) (All (Implied problem (IsLeft problem given joined))) None nogoods true_for
+          (λ none. absurd none) ends in
       found.1 widths heights layout low (λ k d within. found.2 k d within widths left)
 
 -- a good line's nogood is true if those of the lines before it are
-pub good_line-true : (problem : ProblemModel) → IsSound problem → (trace : List CutAt) (log : List LogLine) (lower k : ℕ) (line : LogLine) → IsGoodLine problem trace log lower k line →
-    ((f : ℕ) → f < k → IsTrueFor problem lower (nogood_bounds problem trace (nogood_at log f))) → IsTrueFor problem lower (nogood_bounds problem trace line.nogood)
+pub good_line-true : (problem : ProblemModel) → IsSound problem → (trace : List CutAt) (log : List LogLine) (lower k : ℕ) (line : LogLine) →
+    IsGoodLine problem trace log lower k line →
+    ((f : ℕ) → f < k → IsTrueFor problem lower (nogood_bounds problem trace (nogood_at log f))) →
+        IsTrueFor problem lower (nogood_bounds problem trace line.nogood)
 good_line-true problem sound trace log lower k line good before widths heights layout low meets =
     let given = nogood_bounds problem trace line.nogood in
     let nogoods = map (λ f. nogood_bounds problem trace (nogood_at log f)) line.fires in
-    let true_for : All (IsTrueFor problem lower) nogoods = All-map (IsTrueFor problem lower) (λ f. nogood_bounds problem trace (nogood_at log f)) line.fires (λ i d within. before (get_or line.fires i d) (good.earlier i d within).0) in
+    let true_for : All (IsTrueFor problem lower) nogoods = All-map (IsTrueFor problem lower) (λ f. nogood_bounds problem trace (nogood_at log f))
+        line.fires (λ i d within. before (get_or line.fires i d) (good.earlier i d within).0) in
     let start : IsLeft problem given [] widths = record { page = layout.page; meets = meets; breaks = All-nil (Breaks problem widths) } in
     let left = fires-left problem sound lower widths heights layout low given [] nogoods good.joined true_for good.fires start in
     end-none problem sound lower widths heights layout low given good.joined nogoods line.end true_for left good.ends
@@ -100,7 +110,8 @@ nogoods-true problem sound trace log lower good k within = upto (suc k) (omega a
   upto zero inside f before = absurd (omega arith)
   upto (suc n) inside f before =
       let earlier = upto n (omega arith) in
-      good_line-true problem sound trace log lower f (get_or log f (record { nogood = Zone 0; fires = []; end = Cycle })) (good.lines f (record { nogood = Zone 0; fires = []; end = Cycle }) (omega arith)) (λ g less. earlier g (omega arith))
+      good_line-true problem sound trace log lower f (get_or log f (record { nogood = Zone 0; fires = []; end = Cycle }))
+          (good.lines f (record { nogood = Zone 0; fires = []; end = Cycle }) (omega arith)) (λ g less. earlier g (omega arith))
 
 -- and no layout by `low` is lower than what the log is good for
 pub log-sound : (problem : ProblemModel) → IsSound problem → (trace : List CutAt) (log : List LogLine) (lower : ℕ) → IsGoodLog problem trace log lower →

@@ -32,7 +32,8 @@ module _ (whole : List Range) (trace : List CutAt) (cut : CutAt) where
   zone-old z there =
       let known : z < length (zones_of whole trace) = omega (arith, there, zones-length (whole ∷ []) trace) in
       ap (λ zones. get_or zones z []) (zones-push (whole ∷ []) trace cut) ∙
-      get_or_append_left (zones_of whole trace) (lower_part (zone_at whole trace cut.zone) cut.span cut.class ∷ upper_part (zone_at whole trace cut.zone) cut.span cut.class ∷ []) [] z known
+      get_or_append_left (zones_of whole trace) (lower_part (zone_at whole trace cut.zone) cut.span cut.class ∷ upper_part
+          (zone_at whole trace cut.zone) cut.span cut.class ∷ []) [] z known
 
   -- and its two parts follow
   pub zone-lower : zone_at whole (trace ++ cut ∷ []) (2 * length trace + 1) ≡ lower_part (zone_at whole trace cut.zone) cut.span cut.class
@@ -70,19 +71,22 @@ module _ (whole : List Range) (trace : List CutAt) (cut : CutAt) where
 
   pub stood-before : (z : ℕ) → Stands (trace ++ cut ∷ []) z → IsZoneOf trace z → Stands trace z × (cut.zone ≢ z)
   stood-before z stands old = (
-    record { there = old; not_cut = λ k d within. subst (λ c. c.zone ≢ z) (get_or_append_left trace (cut ∷ []) d k within) (stands.not_cut k d (omega (arith, within, length-append trace (cut ∷ [])))) },
+    record { there = old; not_cut = λ k d within. subst (λ c. c.zone ≢ z) (get_or_append_left trace (cut ∷ []) d k within)
+        (stands.not_cut k d (omega (arith, within, length-append trace (cut ∷ [])))) },
     subst (λ c. c.zone ≢ z) (get_or-append-add trace (cut ∷ []) 0 cut) (stands.not_cut (length trace + 0) cut (omega (arith, length-append trace (cut ∷ [])))),
   )
 
 -- ---- what holds of no cuts, and of each trace with one cut more, holds of each trace
 
-module _ (whole : List Range) (P : List CutAt → Type 0) (none : P []) (more : (trace : List CutAt) (cut : CutAt) → IsTrace whole trace → IsCut whole trace cut → P trace → P (trace ++ cut ∷ [])) where
+module _ (whole : List Range) (P : List CutAt → Type 0) (none : P []) (more : (trace : List CutAt) (cut : CutAt) → IsTrace whole trace →
+    IsCut whole trace cut → P trace → P (trace ++ cut ∷ [])) where
   trace-front : (trace : List CutAt) → IsTrace whole trace → (n : ℕ) → IsTrace whole (take n trace)
   trace-front trace is n = λ i d within.
       let short = length-take n trace in
       let same = get_or-take n trace i d (omega (arith, within, short)) in
       let twice = take-take i n trace (omega (arith, within, short)) in
-      subst (λ cut. IsCut whole (take i (take n trace)) cut) (sym same) (subst (λ cuts. IsCut whole cuts (get_or trace i d)) (sym twice) (is i d (omega (arith, within, short))))
+      subst (λ cut. IsCut whole (take i (take n trace)) cut) (sym same)
+          (subst (λ cuts. IsCut whole cuts (get_or trace i d)) (sym twice) (is i d (omega (arith, within, short))))
 
   upto : (trace : List CutAt) → IsTrace whole trace → (n : ℕ) → n ≤ length trace → P (take n trace)
   upto [] is zero within = none
@@ -90,7 +94,8 @@ module _ (whole : List Range) (P : List CutAt → Type 0) (none : P []) (more : 
   upto [] is (suc n) within = absurd (omega arith)
   upto (first ∷ trace) is (suc n) within =
       subst P (sym (take-suc (first ∷ trace) n first (omega arith)))
-      (more (take n (first ∷ trace)) (get_or (first ∷ trace) n first) (trace-front (first ∷ trace) is n) (is n first (omega arith)) (upto (first ∷ trace) is n (omega arith)))
+      (more (take n (first ∷ trace)) (get_or (first ∷ trace) n first) (trace-front (first ∷ trace) is n) (is n first (omega arith))
+          (upto (first ∷ trace) is n (omega arith)))
 
   pub trace-by : (trace : List CutAt) → IsTrace whole trace → P trace
   trace-by trace is = subst P (take_all (length trace) trace (omega arith)) (upto trace is (length trace) (omega arith))
@@ -101,13 +106,16 @@ pub cuts-there : (whole : List Range) (trace : List CutAt) → IsTrace whole tra
 cuts-there whole trace is = λ i d within. let stands = (is i d within).stands.there in omega (arith, stands, length-take i trace, within)
 
 -- so the two parts of a further cut stand
-pub stands-new : (whole : List Range) (trace : List CutAt) (cut : CutAt) → IsTrace whole trace → IsCut whole trace cut → (z : ℕ) → 2 * length trace + 1 ≤ z → z ≤ 2 * length trace + 2 → Stands (trace ++ cut ∷ []) z
+pub stands-new : (whole : List Range) (trace : List CutAt) (cut : CutAt) → IsTrace whole trace → IsCut whole trace cut → (z : ℕ) →
+    2 * length trace + 1 ≤ z → z ≤ 2 * length trace + 2 → Stands (trace ++ cut ∷ []) z
 stands-new whole trace cut is now z from upto = record {
   there = omega (arith, from, upto, length-append trace (cut ∷ []));
-  not_cut = All-push (λ c. c.zone ≢ z) trace cut (λ i d within same. let old = cuts-there whole trace is i d within in omega (arith, old, same, from)) (λ same. omega (arith, now.stands.there, same, from));
+  not_cut = All-push (λ c. c.zone ≢ z) trace cut (λ i d within same. let old = cuts-there whole trace is i d within in
+      omega (arith, old, same, from)) (λ same. omega (arith, now.stands.there, same, from));
 }
 
-pub zones-are : (problem : ProblemModel) → IsSound problem → (trace : List CutAt) → IsTrace (whole_zone problem) trace → (z : ℕ) → IsZoneOf trace z → IsZone problem (zone_at (whole_zone problem) trace z)
+pub zones-are : (problem : ProblemModel) → IsSound problem → (trace : List CutAt) → IsTrace (whole_zone problem) trace → (z : ℕ) → IsZoneOf trace z →
+    IsZone problem (zone_at (whole_zone problem) trace z)
 zones-are problem sound trace is = trace-by (whole_zone problem) AllZones none more trace is where
   AllZones : List CutAt → Type 0
   AllZones cuts = (z : ℕ) → IsZoneOf cuts z → IsZone problem (zone_at (whole_zone problem) cuts z)
@@ -115,14 +123,17 @@ zones-are problem sound trace is = trace-by (whole_zone problem) AllZones none m
   none : AllZones []
   none z there = let first : z ≡ 0 = omega arith in subst (λ n. IsZone problem (zone_at (whole_zone problem) [] n)) (sym first) (whole-is_zone problem)
 
-  more : (cuts : List CutAt) (cut : CutAt) → IsTrace (whole_zone problem) cuts → IsCut (whole_zone problem) cuts cut → AllZones cuts → AllZones (cuts ++ cut ∷ [])
+  more : (cuts : List CutAt) (cut : CutAt) → IsTrace (whole_zone problem) cuts → IsCut (whole_zone problem) cuts cut → AllZones cuts →
+      AllZones (cuts ++ cut ∷ [])
   more cuts cut before now zones z there =
       let parent = zones cut.zone now.stands.there in
       let span : cut.span < length (zone_at (whole_zone problem) cuts cut.zone) = omega (arith, now.span, parent.spans, (whole-is_zone problem).spans) in
       elim (zone-cases (whole_zone problem) cuts cut z there) [
         | inl old ↦ subst (IsZone problem) (sym (zone-old (whole_zone problem) cuts cut z old)) (zones z old)
-        | inr (inl first) ↦ subst (λ n. IsZone problem (zone_at (whole_zone problem) (cuts ++ cut ∷ []) n)) (sym first) (subst (IsZone problem) (sym (zone-lower (whole_zone problem) cuts cut))
+        | inr (inl first) ↦ subst (λ n. IsZone problem (zone_at (whole_zone problem) (cuts ++ cut ∷ []) n)) (sym first)
+            (subst (IsZone problem) (sym (zone-lower (whole_zone problem) cuts cut))
             (lower-is_zone problem sound (zone_at (whole_zone problem) cuts cut.zone) parent cut.span cut.class span now.lower now.upper))
-        | inr (inr second) ↦ subst (λ n. IsZone problem (zone_at (whole_zone problem) (cuts ++ cut ∷ []) n)) (sym second) (subst (IsZone problem) (sym (zone-upper (whole_zone problem) cuts cut))
+        | inr (inr second) ↦ subst (λ n. IsZone problem (zone_at (whole_zone problem) (cuts ++ cut ∷ []) n)) (sym second)
+            (subst (IsZone problem) (sym (zone-upper (whole_zone problem) cuts cut))
             (upper-is_zone problem sound (zone_at (whole_zone problem) cuts cut.zone) parent cut.span cut.class span now.lower now.upper))
       ]

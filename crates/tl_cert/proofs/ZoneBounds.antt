@@ -18,7 +18,7 @@ use Rattle.tl_problem.proofs.ZoneLaws.{span-within}
 use Rattle.tl_cert.specs.declared.log.Bound.{Bound}
 use Rattle.tl_cert.specs.declared.log.Side.{Side}
 use Rattle.tl_cert.specs.declared.log.Side.TheVariants.{Most, Least}
-use Rattle.tl_cert.specs.Nogoods.{Meets, range_bounds, zone_bounds}
+use Rattle.tl_cert.specs.Nogoods.{Meets, at_most, at_least, range_bounds, zone_bounds}
 
 lt_test : (a b : ℕ) → a < b → nat_lt a b ≡ true
 lt_test a b less = grind (arith, nat_tests)
@@ -35,22 +35,19 @@ Contains-given : {X : Type 0} (b : Bool) (x y : X) → Contains (if b then x ∷
 Contains-given true x y has = elim (Contains-cases x [] y has) [ | inl here ↦ here | inr later ↦ absurd (Contains-none y later) ]
 Contains-given false x y has = absurd (Contains-none y has)
 
-abbrev at_most : ℕ → ℕ → Bound
-at_most s w = record { span = s; side = Most; width = w }
-
-abbrev at_least : ℕ → ℕ → Bound
-at_least s w = record { span = s; side = Least; width = w }
-
 module _ (problem : ProblemModel) (sound : IsSound problem) (zone : List Range) (is : IsZone problem zone) (widths : List ℕ) where
   -- a bound of a zone is one of a span's range
-  bound-of_range : (bound : Bound) → Contains (zone_bounds problem zone) bound → (s : ℕ) × (s < length zone) × Contains (range_bounds problem s (range_at zone s)) bound
+  bound-of_range : (bound : Bound) → Contains (zone_bounds problem zone) bound →
+      (s : ℕ) × (s < length zone) × Contains (range_bounds problem s (range_at zone s)) bound
   bound-of_range bound has =
       let found = flat_map-Contains (λ s. range_bounds problem s (range_at zone s)) (range_with_len 0 (length zone)) bound has in
       let number = range-Contains 0 (length zone) found.0 found.1 in
       (found.0, omega (arith, number.1), found.2)
 
-  range-bound_of : (s : ℕ) → s < length zone → (bound : Bound) → Contains (range_bounds problem s (range_at zone s)) bound → Contains (zone_bounds problem zone) bound
-  range-bound_of s within bound has = Contains-flat_map (λ t. range_bounds problem t (range_at zone t)) (range_with_len 0 (length zone)) s bound (Contains-range 0 (length zone) s (omega arith) (omega arith)) has
+  range-bound_of : (s : ℕ) → s < length zone → (bound : Bound) → Contains (range_bounds problem s (range_at zone s)) bound →
+      Contains (zone_bounds problem zone) bound
+  range-bound_of s within bound has = Contains-flat_map (λ t. range_bounds problem t (range_at zone t)) (range_with_len 0 (length zone)) s bound
+      (Contains-range 0 (length zone) s (omega arith) (omega arith)) has
 
   pub zone-meets : InZone problem zone widths → All (Meets problem widths) (zone_bounds problem zone)
   zone-meets inside = All-from_Contains (Meets problem widths) (zone_bounds problem zone) meets where
@@ -62,7 +59,8 @@ module _ (problem : ProblemModel) (sound : IsSound problem) (zone : List Range) 
         let here = inside.ranges s found.1 in
         let upper = nat_lt (r.last + 1) (length (classes_at problem s)) in
         let lower = nat_lt 0 r.first in
-        elim (Contains-append_cases (if upper then at_most s (last_in_class problem s r.last) ∷ [] else []) (if lower then at_least s (first_in_class problem s r.first) ∷ [] else []) bound found.2) [
+        elim (Contains-append_cases (if upper then at_most s (last_in_class problem s r.last) ∷ [] else [])
+            (if lower then at_least s (first_in_class problem s r.first) ∷ [] else []) bound found.2) [
           | inl most ↦ subst (Meets problem widths) (Contains-given upper (at_most s (last_in_class problem s r.last)) bound most) here.1
           | inr least ↦ subst (Meets problem widths) (Contains-given lower (at_least s (first_in_class problem s r.first)) bound least) here.0
         ]
@@ -80,8 +78,10 @@ module _ (problem : ProblemModel) (sound : IsSound problem) (zone : List Range) 
       from : first_in_class problem s r.first ≤ span_width problem widths s
       from =
           elim (cases_lt 0 r.first) [
-            | inl past ↦ All-contains (Meets problem widths) (zone_bounds problem zone) (at_least s (first_in_class problem s r.first)) meets (range-bound_of s within (at_least s (first_in_class problem s r.first))
-                (Contains-append_right (if upper then at_most s (last_in_class problem s r.last) ∷ [] else []) (if lower then at_least s (first_in_class problem s r.first) ∷ [] else []) (at_least s (first_in_class problem s r.first))
+            | inl past ↦ All-contains (Meets problem widths) (zone_bounds problem zone) (at_least s (first_in_class problem s r.first)) meets
+                (range-bound_of s within (at_least s (first_in_class problem s r.first))
+                (Contains-append_right (if upper then at_most s (last_in_class problem s r.last) ∷ [] else [])
+                    (if lower then at_least s (first_in_class problem s r.first) ∷ [] else []) (at_least s (first_in_class problem s r.first))
                 (given-Contains lower (at_least s (first_in_class problem s r.first)) (lt_test 0 r.first past))))
             | inr none ↦
                 let first : r.first ≡ 0 = omega arith in
@@ -91,8 +91,10 @@ module _ (problem : ProblemModel) (sound : IsSound problem) (zone : List Range) 
       upto : span_width problem widths s ≤ last_in_class problem s r.last
       upto =
           elim (cases_lt (r.last + 1) (length (classes_at problem s))) [
-            | inl before ↦ All-contains (Meets problem widths) (zone_bounds problem zone) (at_most s (last_in_class problem s r.last)) meets (range-bound_of s within (at_most s (last_in_class problem s r.last))
-                (Contains-append_left (if upper then at_most s (last_in_class problem s r.last) ∷ [] else []) (if lower then at_least s (first_in_class problem s r.first) ∷ [] else []) (at_most s (last_in_class problem s r.last))
+            | inl before ↦ All-contains (Meets problem widths) (zone_bounds problem zone) (at_most s (last_in_class problem s r.last)) meets
+                (range-bound_of s within (at_most s (last_in_class problem s r.last))
+                (Contains-append_left (if upper then at_most s (last_in_class problem s r.last) ∷ [] else [])
+                    (if lower then at_least s (first_in_class problem s r.first) ∷ [] else []) (at_most s (last_in_class problem s r.last))
                 (given-Contains upper (at_most s (last_in_class problem s r.last)) (lt_test (r.last + 1) (length (classes_at problem s)) before))))
             | inr last ↦
                 let end = get_or_past (classes_at problem s) (r.last + 1) (page_room problem + 1) last in

@@ -1,14 +1,14 @@
 -- What fits by layouts of some depth fits by those of any greater one, in wider rooms and in higher ones.
-use Rattle.std.proofs.Common.{◌≡◌, ℕ, zero, suc, ◌+◌, ◌≤◌, List, [], ◌∷◌, length, refl, sym, ap, subst, arith}
+use Rattle.std.proofs.Common.{◌≡◌, ℕ, zero, suc, ◌+◌, ◌≤◌, List, [], ◌∷◌, sym, subst, arith}
 use Rattle.std.specs.List.{AllZip}
 use Rattle.tl_base.specs.declared.style.Style.{Style}
-use Rattle.tl_form.specs.declared.cell.Content.{Content, out-Content}
+use Rattle.tl_form.specs.declared.cell.Content.{out-Content}
 use Rattle.tl_form.specs.declared.cell.Content.TheOpen as open_content
 use Rattle.tl_form.specs.declared.cell.Table.{Table, out-Table}
-use Rattle.tl_form.specs.declared.cell.TableCell.{TableCell, out-TableCell}
+use Rattle.tl_form.specs.declared.cell.TableCell.{out-TableCell}
 use Rattle.tl_form.specs.declared.layout.Layout.{Layout, out-Layout}
 use Rattle.tl_form.specs.Tables.{OpenTable, OpenCell, OpenContent}
-use Rattle.tl_form.specs.Layouts.{OpenLayout, Share, FitsInside, FitsShare, FitsRoom, FitsCell, FitsBy, FitsWithin, Fits, total_width}
+use Rattle.tl_form.specs.Layouts.{OpenLayout, Share, FitsShare, FitsRoom, FitsCell, FitsBy, FitsWithin}
 
 -- what holds of two lists place by place, weakened
 pub AllZip-weaker : {A B : Type 0} (P Q : A → B → Type 0) (xs : List A) (ys : List B) → ((x : A) (y : B) → P x y → Q x y) → AllZip P xs ys → AllZip Q xs ys

@@ -1,5 +1,5 @@
 -- The least room of a paragraph, of a nested table, of blocks one after the other, and of a cell.
-use Rattle.std.proofs.Common.{◌≡◌, ◌∙◌, ℕ, zero, suc, ◌+◌, ◌≤◌, max, List, [], ◌∷◌, ◌++◌, length, sum_by, refl, sym, ap, subst, arith}
+use Rattle.std.proofs.Common.{◌≡◌, ℕ, ◌+◌, ◌≤◌, max, List, [], ◌∷◌, ◌++◌, length, sum_by, refl, arith}
 use Rattle.std.specs.List.{AllZip, flat_map}
 use Rattle.std.specs.declared.alloc.Global.{Global}
 use Rattle.std.specs.declared.boxed.Box.{Box}
@@ -11,7 +11,7 @@ use Rattle.tl_form.specs.declared.cell.Content.TheOpen as open_content
 use Rattle.tl_form.specs.declared.cell.Table.{Table}
 use Rattle.tl_form.specs.declared.layout.Layout.{Layout}
 use Rattle.tl_form.specs.Tables.{OpenCell, OpenContent}
-use Rattle.tl_form.specs.Layouts.{Share, FitsShare, FitsRoom, FitsWithin}
+use Rattle.tl_form.specs.Layouts.{Share, FitsShare, FitsWithin}
 use Rattle.tl_form.specs.Least.{IsLeastWidth}
 use Rattle.tl_form.specs.inner.LeastRooms.{IsLeastForBlock, IsLeastForBlocks, IsLeastRoom}
 use Rattle.tl_form.proofs.Deeper.{AllZip-weaker, FitsShare-weaker, FitsWithin-deeper, FitsWithin-deeper', FitsWithin-wider}

@@ -1,25 +1,23 @@
 -- The least width of a table is the least total of columns that give each cell its least room.
-use Rattle.std.proofs.Common.{◌≡◌, ◌∙◌, ℕ, zero, suc, ◌+◌, ◌-◌, ◌*◌, ◌<◌, ◌≤◌, List, [], ◌∷◌, length, take, get_or, replicate, sum_by, Contains, refl, sym, ap, subst, arith}
-use Rattle.std.specs.List.{All, AllZip, AllByRecursion, Any, flat_map}
+use Rattle.std.proofs.Common.{◌≡◌, ℕ, zero, suc, ◌+◌, ◌<◌, ◌≤◌, List, [], ◌∷◌, take, replicate, refl, sym, subst, arith}
+use Rattle.std.specs.List.{All, AllZip, AllByRecursion, flat_map}
 use Rattle.std.proofs.lemmas.List.{length-replicate}
 use Rattle.std.proofs.lemmas.List.Sums.{sum_by-cons}
 use Rattle.std.proofs.lemmas.List.Elements.{recursion_from_All, All-from_recursion}
 use Rattle.tl_base.specs.declared.style.Style.{Style}
 use Rattle.tl_base.specs.Style.{gap_of, row_gap_of, edge_of}
-use Rattle.tl_grid.specs.declared.shape.Place.{Place}
 use Rattle.tl_grid.specs.Dropping.{IsPlaced}
 use Rattle.tl_problem.specs.Sizes.{room, total}
-use Rattle.tl_problem.specs.Bounds.{IsLeastTotal}
 use Rattle.tl_form.specs.declared.cell.Table.{Table, out-Table}
 use Rattle.tl_form.specs.declared.cell.TableCell.{TableCell, out-TableCell}
-use Rattle.tl_form.specs.declared.layout.Layout.{Layout, Layout-F, out-Layout, roll-Layout, out-roll-Layout}
+use Rattle.tl_form.specs.declared.layout.Layout.{Layout, out-Layout, roll-Layout, out-roll-Layout}
 use Rattle.tl_form.specs.declared.widest.Demand.{Demand}
 use Rattle.tl_form.specs.Tables.{OpenTable}
-use Rattle.tl_form.specs.Layouts.{OpenLayout, FitsRoom, FitsCell, FitsBy, FitsWithin, Fits, width_for, height_for, total_width, total_height}
+use Rattle.tl_form.specs.Layouts.{OpenLayout, FitsRoom, FitsCell, FitsBy, FitsWithin, width_for, height_for, total_height}
 use Rattle.tl_form.specs.Least.{IsLeastWidth}
 use Rattle.tl_form.specs.Sound.{place_of}
 use Rattle.tl_form.specs.inner.Demands.{GiveRooms, IsLeastFor}
-use Rattle.tl_form.specs.inner.LeastRooms.{IsLeastRoom, IsDemandOf, AreDemandsOf}
+use Rattle.tl_form.specs.inner.LeastRooms.{AreDemandsOf}
 use Rattle.tl_form.proofs.Deeper.{AllZip-weaker, FitsRoom-weaker, FitsRoom-higher, FitsWithin-deeper, FitsWithin-deeper'}
 use Rattle.tl_form.proofs.Rooms.{ahead, room-ends}
 

@@ -1,29 +1,28 @@
 -- Demands of a sound table, and how wide it is beside what it holds.
-use Rattle.std.proofs.Common.{◌≡◌, ◌∙◌, ℕ, zero, suc, ◌+◌, ◌-◌, ◌*◌, ◌^◌, ◌<◌, ◌≤◌, max, List, [], ◌∷◌, ◌++◌, length, take, map, get_or, sum_by, slice_index_or, refl, sym, ap, subst, length-append, arith}
-use Rattle.std.specs.List.{All, AllZip, AllByRecursion, Any}
+use Rattle.std.proofs.Common.{◌≡◌, ◌∙◌, ℕ, zero, suc, ◌+◌, ◌-◌, ◌*◌, ◌<◌, ◌≤◌, max, List, [], ◌∷◌, ◌++◌, length, take, map, get_or, sum_by, slice_index_or, refl, sym, ap, subst, length-append, arith}
+use Rattle.std.specs.List.{All, AllByRecursion}
 use Rattle.std.proofs.lemmas.List.{take_more}
 use Rattle.std.proofs.lemmas.List.Sums.{sum_by-cons, sum_by-append, sum_by_more}
-use Rattle.std.proofs.lemmas.List.Elements.{recursion_from_All, All-from_recursion, All-nil}
+use Rattle.std.proofs.lemmas.List.Elements.{recursion_from_All, All-from_recursion}
 use Rattle.tl_base.specs.declared.style.Style.{Style}
-use Rattle.tl_base.specs.Style.{gap_of, edge_of}
-use Rattle.tl_base.specs.declared.limits.TheConstants.{MAX_COLUMNS, MAX_FILE_BYTES, MAX_PAGE_WIDTH}
+use Rattle.tl_base.specs.Style.{gap_of}
+use Rattle.tl_base.specs.declared.limits.TheConstants.{MAX_PAGE_WIDTH}
 use Rattle.tl_grid.specs.declared.shape.Place.{Place}
 use Rattle.tl_grid.specs.Dropping.{IsPlaced}
 use Rattle.tl_grid.specs.Slots.{HasAnchorInColumn}
-use Rattle.tl_problem.specs.Sizes.{room, total}
+use Rattle.tl_problem.specs.Sizes.{room}
 use Rattle.tl_form.specs.declared.cell.Content.{Content, out-Content}
-use Rattle.tl_form.specs.declared.cell.Content.TheOpen as open_content
 use Rattle.tl_form.specs.declared.cell.Table.{Table, out-Table}
 use Rattle.tl_form.specs.declared.cell.TableCell.{TableCell, out-TableCell}
 use Rattle.tl_form.specs.declared.widest.Demand.{Demand}
-use Rattle.tl_form.specs.Tables.{OpenTable, OpenContent}
+use Rattle.tl_form.specs.Tables.{OpenTable}
 use Rattle.tl_form.specs.Least.{IsLeastWidth}
-use Rattle.tl_form.specs.Sound.{IsSoundBy, IsSoundWithin, IsSound, place_of, places_of, table_size, cell_size, content_size}
-use Rattle.tl_form.specs.inner.Demands.{AreDemands, IsPlacedDemand, GiveRooms, IsLeastFor}
+use Rattle.tl_form.specs.Sound.{IsSoundWithin, IsSound, place_of, places_of, table_size, cell_size, content_size}
+use Rattle.tl_form.specs.inner.Demands.{AreDemands, IsPlacedDemand, IsLeastFor}
 use Rattle.tl_form.specs.inner.LeastRooms.{IsDemandOf, AreDemandsOf, IsLeastForBlock, IsLeastForBlocks, IsLeastRoom}
-use Rattle.tl_form.proofs.LeastRoomLemmas.{AllZip-push, least_for_none, least_for_more, least_for_cell, least_for_table}
+use Rattle.tl_form.proofs.LeastRoomLemmas.{AllZip-push, least_for_none, least_for_more, least_for_cell}
 use Rattle.tl_form.proofs.LeastWidths.{least_width_for}
-use Rattle.tl_form.proofs.SizesOpen.{table_size-out, cell_size-out, content_size-out, open_size}
+use Rattle.tl_form.proofs.SizesOpen.{table_size-out, cell_size-out}
 
 -- ---- a table without a column
 

@@ -2,7 +2,7 @@
 -- the HTML Standard's, "Forming a table", in which no two cells share a slot.
 use Rattle.std.specs.Prelude.{◌≡◌, ℕ, zero, suc, ◌+◌, ◌<◌, ◌≤◌, ◌⊎◌, List, map, sum_by}
 use Rattle.std.specs.List.{All, AllPairs, AllByRecursion}
-use Rattle.tl_base.specs.declared.limits.TheConstants.{MAX_COLUMNS, MAX_DEPTH, MAX_FILE_BYTES, MAX_PAGE_WIDTH, MAX_ROWS}
+use Rattle.tl_base.specs.declared.limits.TheConstants.{MAX_COLUMNS, MAX_DEPTH, MAX_FILE_BYTES, MAX_PAGE_WIDTH, MAX_ROWS, MAX_TABLES}
 use Rattle.tl_grid.specs.declared.shape.Place.{Place}
 use Rattle.tl_grid.specs.Dropping.{IsPlaced}
 use Rattle.tl_grid.specs.Slots.{AreApart, HasAnchorInColumn, HasAnchorInRow}
@@ -38,6 +38,29 @@ cell_size = fold-TableCell ℕ ℕ ℕ content_count table_count cell_count
 abbrev pub content_size : Content → ℕ
 content_size = fold-Content ℕ ℕ ℕ content_count table_count cell_count
 
+-- ---- how many tables a table has inside, by a fold over it
+
+-- a nested table counts 1 and those inside it
+abbrev pub content_tables : open_content.Content-F ℕ ℕ ℕ → ℕ
+content_tables (open_content.Para paragraph) = 0
+content_tables (open_content.Table box) = 1 + box.value
+
+abbrev pub cell_tables : open_content.TableCell-F ℕ ℕ ℕ → ℕ
+cell_tables cell = sum_by (λ block. block) cell.blocks
+
+abbrev pub table_tables : open_content.Table-F ℕ ℕ ℕ → ℕ
+table_tables table = sum_by (λ cell. cell) table.cells
+
+-- the number of tables inside a table, a cell and a block, at all depths; a block that is a table is one of them
+abbrev pub nested_in_table : Table → ℕ
+nested_in_table = fold-Table ℕ ℕ ℕ content_tables table_tables cell_tables
+
+abbrev pub nested_in_cell : TableCell → ℕ
+nested_in_cell = fold-TableCell ℕ ℕ ℕ content_tables table_tables cell_tables
+
+abbrev pub nested_in_content : Content → ℕ
+nested_in_content = fold-Content ℕ ℕ ℕ content_tables table_tables cell_tables
+
 -- ---- soundness
 
 -- where the cell lies
@@ -70,9 +93,10 @@ abbrev pub IsSoundWithin : ℕ → Table → Type 0
 IsSoundWithin zero table = ⊥
 IsSoundWithin (suc depth) table = IsSoundBy (IsSoundWithin depth) (out-Table table)
 
--- a sound table within the limits of depth and of a file's size
+-- a sound table within the limits of depth, of tables and of a file's size
 pub record IsSound (table : Table) : Type 0 where
   pub depth : ℕ
   pub shallow : depth ≤ MAX_DEPTH
   pub sound : IsSoundWithin depth table
+  pub few_tables : nested_in_table table < MAX_TABLES
   pub size : table_size table ≤ MAX_FILE_BYTES

@@ -4,11 +4,10 @@ use Rattle.std.specs.List.{AllZip, AllByRecursion}
 use Rattle.tl_base.specs.declared.limits.TheConstants.{MAX_PAGE_WIDTH}
 use Rattle.tl_base.specs.declared.style.Style.{Style}
 use Rattle.tl_form.specs.declared.cell.Content.{Content, out-Content}
-use Rattle.tl_form.specs.declared.cell.Table.{Table}
 use Rattle.tl_form.specs.declared.cell.TableCell.{TableCell, out-TableCell}
 use Rattle.tl_form.specs.declared.layout.Layout.{Layout}
 use Rattle.tl_form.specs.declared.widest.Demand.{Demand}
-use Rattle.tl_form.specs.Tables.{OpenTable, OpenCell, OpenContent, tables_of, tables_in}
+use Rattle.tl_form.specs.Tables.{OpenCell, OpenContent, tables_of, tables_in}
 use Rattle.tl_form.specs.Layouts.{Share, FitsShare, FitsRoom, FitsWithin}
 use Rattle.tl_form.specs.Sound.{IsSound}
 

@@ -1,4 +1,4 @@
-use Rattle.std.proofs.Common.{◌≡◌, ◌∙◌, ◌<◌, ℕ, true, false, length, map, sum_by, sym, ap, subst, arith, rules}
+use Rattle.std.proofs.Common.{◌≡◌, ◌∙◌, ◌<◌, true, false, length, map, sum_by, sym, ap, subst, arith, rules}
 use Rattle.std.specs.List.{All}
 use Rattle.tl_base.specs.Style.{gap_of}
 use Rattle.tl_diff.specs.Paths.{LeadForward, InOrder, total_weight}

@@ -1,11 +1,11 @@
-use Rattle.std.proofs.Common.{◌≡◌, ◌∙◌, ◌+◌, ◌<◌, ◌≤◌, max, take, get_or, length, vec_len, sym, ap, subst, rules, arith}
+use Rattle.std.proofs.Common.{◌≡◌, ◌∙◌, ◌+◌, ◌<◌, ◌≤◌, get_or, length, sym, ap, subst, rules}
 use Rattle.std.proofs.lemmas.List.{take_all}
 use Rattle.tl_form.specs.declared.cell.Content.{out-Content, the_lemmas}
 use Rattle.tl_form.specs.declared.cell.Content.TheVariants.{outs-Para, outs-Table}
 use Rattle.tl_form.specs.declared.cell.Table.{out-Table}
 use Rattle.tl_form.specs.declared.cell.TableCell.{out-TableCell}
 use Rattle.tl_form.specs.Least.{IsLeastWidth}
-use Rattle.tl_form.specs.inner.LeastRooms.{IsLeastForBlock, IsSoundBlock, IsSoundCell, AreDemandsOf}
+use Rattle.tl_form.specs.inner.LeastRooms.{IsLeastForBlock, IsSoundBlock, IsSoundCell}
 use Rattle.tl_form.proofs.LeastRoomLemmas.{least_for_paragraph, least_for_box}
 use Rattle.tl_form.proofs.SoundParts.{sound_cells, sound_blocks, at_item}
 use Rattle.tl_form.proofs.Widths.{BlocksSoFar, BlocksSoFar-none, BlocksSoFar-more, BlocksSoFar-all, CellsSoFar, CellsSoFar-more, CellsSoFar-all}

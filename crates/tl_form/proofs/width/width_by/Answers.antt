@@ -1,4 +1,3 @@
-use Rattle.std.proofs.Common.{arith}
 use Rattle.tl_form.proofs.Widths.{are_demands, least_of_demands, small_width}
 use Rattle.tl_form.proofs.width.width_by.Goals as goal
 
