@@ -15,6 +15,8 @@ mod placed;
 mod placing;
 mod problem;
 mod spans;
+#[cfg(test)]
+mod tests;
 mod work;
 mod zone;
 
