@@ -1,4 +1,5 @@
 pub mod reading
 pub mod text
 pub mod Loops
+pub mod ReadAnswers
 pub mod TextExamples

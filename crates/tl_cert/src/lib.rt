@@ -6,21 +6,22 @@
 
 mod areas;
 mod certificate;
+mod certificate_text;
+mod chain_text;
 mod error;
 mod follow;
 mod limits;
 mod log;
-mod chain_text;
-mod certificate_text;
 mod log_text;
-mod section_text;
 mod reader;
 mod section;
+mod section_text;
 #[cfg(test)]
 mod tests;
 mod trace;
 
 pub use certificate::{Certificate, Claim};
+pub use certificate_text::read;
 pub use error::CertError;
 pub use limits::{
     MAX_BOUNDS, MAX_CLASS, MAX_FIRES, MAX_LINE, MAX_SECTIONS, MAX_SPAN, MAX_TABLE, MAX_ZONE,
