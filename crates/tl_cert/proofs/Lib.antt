@@ -3,6 +3,7 @@ pub mod CountLaws
 pub mod FireLaws
 pub mod LogLaws
 pub mod Loops
+pub mod ReadAnswers
 pub mod TextExamples
 pub mod TraceLaws
 pub mod WorkedLaws
