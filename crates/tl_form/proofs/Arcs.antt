@@ -27,13 +27,15 @@ HaveArcsSoFar-none gap demands = record {
 width_more : (demands : List Demand) (n : ℕ) (demand : Demand) → slice_get demands n ≡ Some demand →
     sum_by (λ one. one.width) (take (n + 1) demands) ≡ sum_by (λ one. one.width) (take n demands) + demand.width
 width_more demands n demand here =
-    let one : take (n + 1) demands ≡ take n demands ++ demand ∷ [] = ap (λ k. take k demands) (add-one n) ∙ take-suc demands n demand (slice_get_within demands n demand here)
+    let one : take (n + 1) demands ≡ take n demands ++ demand ∷ [] =
+    ap (λ k. take k demands) (add-one n) ∙ take-suc demands n demand (slice_get_within demands n demand here)
     ∙ ap (λ last. take n demands ++ last ∷ []) (get_or_from_slice_get demands n demand demand here) in
     ap (sum_by (λ one. one.width)) one ∙ sum_by-append (λ one. one.width) (take n demands) (demand ∷ [])
     ∙ ap (λ w. sum_by (λ one. one.width) (take n demands) + w) (sum_by-cons (λ one. one.width) demand [] ∙ omega arith)
 
 -- the demand of the number n is this one alone
-same_demand : (demands : List Demand) (k n : ℕ) (demand other : Demand) → slice_get demands n ≡ Some demand → slice_get demands k ≡ Some other → k ≡ n → other ≡ demand
+same_demand : (demands : List Demand) (k n : ℕ) (demand other : Demand) → slice_get demands n ≡ Some demand → slice_get demands k ≡ Some other →
+    k ≡ n → other ≡ demand
 same_demand demands k n demand other here there same = let e : slice_get demands k ≡ slice_get demands n = ap (slice_get demands) same in cc
 
 -- a demand whose gaps are enough has no arc
@@ -53,14 +55,17 @@ HaveArcsSoFar-skip gap demands n arcs demand here light before = record {
 
 -- the arc of another demand comes at the end
 pub HaveArcsSoFar-push : (gap : ℕ) (demands : List Demand) (n : ℕ) (arcs : List NumberedArc) (demand : Demand) → slice_get demands n ≡ Some demand →
-    0 < (arc_of gap demand).weight → HaveArcsSoFar gap demands n arcs → HaveArcsSoFar gap demands (n + 1) (arcs ++ record { number = n; arc = arc_of gap demand } ∷ [])
+    0 < (arc_of gap demand).weight → HaveArcsSoFar gap demands n arcs →
+    HaveArcsSoFar gap demands (n + 1) (arcs ++ record { number = n; arc = arc_of gap demand } ∷ [])
 HaveArcsSoFar-push gap demands n arcs demand here heavy before = record {
   have = record {
-    each = All-push (IsArcOf gap demands) arcs one before.have.each (subst (λ found. IsSomeAnd found (λ d. (one.arc ≡ arc_of gap d) × (0 < one.arc.weight))) (sym here) (refl, heavy));
+    each = All-push (IsArcOf gap demands) arcs one before.have.each
+        (subst (λ found. IsSomeAnd found (λ d. (one.arc ≡ arc_of gap d) × (0 < one.arc.weight))) (sym here) (refl, heavy));
     every = λ k other below there. ⊎_elim
         (λ (past : k < n). ⊎_elim
         (λ (light : (arc_of gap other).weight ≡ 0). inl light)
-        (λ (among : Contains arcs (record { number = k; arc = arc_of gap other })). inr (Contains-append_left arcs (one ∷ []) (record { number = k; arc = arc_of gap other }) among))
+        (λ (among : Contains arcs (record { number = k; arc = arc_of gap other })). inr
+        (Contains-append_left arcs (one ∷ []) (record { number = k; arc = arc_of gap other }) among))
         (before.have.every k other past there))
         (λ (last : n ≤ k). let at : k ≡ n = omega arith in
         let same : other ≡ demand = same_demand demands k n demand other here there at in
@@ -68,20 +73,30 @@ HaveArcsSoFar-push gap demands n arcs demand here heavy before = record {
         inr (subst (Contains (arcs ++ one ∷ [])) now (Contains-push arcs one)))
         (cases_lt k n);
   };
-  total = omega (arith, before.total, width_more demands n demand here, sum_by-append (λ (each : NumberedArc). each.arc.weight) arcs (one ∷ []), sum_by-cons (λ (each : NumberedArc). each.arc.weight) one []);
+  total = omega (
+    arith,
+    before.total,
+    width_more demands n demand here,
+    sum_by-append (λ (each : NumberedArc). each.arc.weight) arcs (one ∷ []),
+    sum_by-cons (λ (each : NumberedArc). each.arc.weight) one [],
+  );
   few = omega (arith, before.few, length-append arcs (one ∷ []));
 } where
   one : NumberedArc
   one = record { number = n; arc = arc_of gap demand }
 
 -- the same, as a loop meets the next demand
-pub HaveArcsSoFar-skipped : (gap : ℕ) (demands : List Demand) (n : ℕ) (arcs : List NumberedArc) (d : Demand) (arc : Arc) → arc ≡ arc_of gap (get_or demands n d) →
+pub HaveArcsSoFar-skipped : (gap : ℕ) (demands : List Demand) (n : ℕ) (arcs : List NumberedArc) (d : Demand) (arc : Arc) →
+    arc ≡ arc_of gap (get_or demands n d) →
     n < length demands → arc.weight ≤ 0 → HaveArcsSoFar gap demands n arcs → HaveArcsSoFar gap demands (n + 1) arcs
 HaveArcsSoFar-skipped gap demands n arcs d arc is within light before =
-    HaveArcsSoFar-skip gap demands n arcs (get_or demands n d) (slice_get-get_or demands n d within) (let e : arc.weight ≡ (arc_of gap (get_or demands n d)).weight = ap (λ a. a.weight) is in omega (arith, e)) before
+    HaveArcsSoFar-skip gap demands n arcs (get_or demands n d) (slice_get-get_or demands n d within)
+    (let e : arc.weight ≡ (arc_of gap (get_or demands n d)).weight = ap (λ a. a.weight) is in omega (arith, e)) before
 
-pub HaveArcsSoFar-pushed : (gap : ℕ) (demands : List Demand) (n : ℕ) (arcs : List NumberedArc) (d : Demand) (arc : Arc) → arc ≡ arc_of gap (get_or demands n d) →
-    n < length demands → 0 < arc.weight → HaveArcsSoFar gap demands n arcs → HaveArcsSoFar gap demands (n + 1) (arcs ++ record { number = n; arc = arc } ∷ [])
+pub HaveArcsSoFar-pushed : (gap : ℕ) (demands : List Demand) (n : ℕ) (arcs : List NumberedArc) (d : Demand) (arc : Arc) →
+    arc ≡ arc_of gap (get_or demands n d) →
+    n < length demands → 0 < arc.weight → HaveArcsSoFar gap demands n arcs →
+    HaveArcsSoFar gap demands (n + 1) (arcs ++ record { number = n; arc = arc } ∷ [])
 HaveArcsSoFar-pushed gap demands n arcs d arc is within heavy before =
     let e : arc.weight ≡ (arc_of gap (get_or demands n d)).weight = ap (λ a. a.weight) is in
     subst (λ a. HaveArcsSoFar gap demands (n + 1) (arcs ++ record { number = n; arc = a } ∷ [])) (sym is)

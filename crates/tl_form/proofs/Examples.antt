@@ -125,19 +125,29 @@ nested_weight = refl
 -- ---- a layout that fits: the spanned table on a page of 6 columns, in 2 lines
 
 -- a paragraph on one line fits where the line does
-one_line_fits : (w h : ℕ) (unit : Atom) (units : List Atom) → lined_pieces (unit ∷ units) ≡ (unit ∷ units) ∷ [] → line_width (unit ∷ units) ≤ w → 1 ≤ h → FitsParagraph w (unit ∷ units) h
-one_line_fits w h unit units one wide high =
-    (cut, subst (λ pieces. AllZip IsPieceCut pieces cut) (sym one) (((λ none. cc, tt), ap (λ more. unit ∷ more) (append-nil units)), tt), (wide, tt), omega arith) where
-      cut : List (List (List Atom))
-      cut = ((unit ∷ units) ∷ []) ∷ []
+one_line_fits : (w h : ℕ) (unit : Atom) (units : List Atom) → lined_pieces (unit ∷ units) ≡ (unit ∷ units) ∷ [] → line_width (unit ∷ units) ≤ w →
+    1 ≤ h → FitsParagraph w (unit ∷ units) h
+one_line_fits w h unit units one wide high = (
+  cut,
+  subst (λ pieces. AllZip IsPieceCut pieces cut) (sym one) (((λ none. cc, tt), ap (λ more. unit ∷ more) (append-nil units)), tt),
+  (wide, tt),
+  omega arith,
+) where
+  cut : List (List (List Atom))
+  cut = ((unit ∷ units) ∷ []) ∷ []
 
 -- a cell with one paragraph on one line fits in a room of one line
-cell_fits : (fits : Table → ℕ → ℕ → Layout → Type 0) (w floor : ℕ) (place : Place) (unit : Atom) (units : List Atom) → floor ≤ w → lined_pieces (unit ∷ units) ≡ (unit ∷ units) ∷ [] → line_width (unit ∷ units) ≤ w →
+cell_fits : (fits : Table → ℕ → ℕ → Layout → Type 0) (w floor : ℕ) (place : Place) (unit : Atom) (units : List Atom) → floor ≤ w →
+    lined_pieces (unit ∷ units) ≡ (unit ∷ units) ∷ [] → line_width (unit ∷ units) ≤ w →
     FitsRoom fits w 1 (record { kind = kinds.Plain; place = place; least = floor; blocks = text (unit ∷ units) ∷ [] }) []
 cell_fits fits w floor place unit units narrow one wide = record {
   floor = narrow;
   shares = record { height = 1; inner = [] } ∷ [];
-  blocks = (subst (λ block. FitsShare fits w block (record { height = 1; inner = [] })) (sym (out-roll-Content (open_content.Para (unit ∷ units)))) (one_line_fits w 1 unit units one wide (omega arith), refl), tt);
+  blocks = (
+    subst (λ block. FitsShare fits w block (record { height = 1; inner = [] })) (sym (out-roll-Content (open_content.Para (unit ∷ units))))
+        (one_line_fits w 1 unit units one wide (omega arith), refl),
+    tt,
+  );
   within = omega arith;
   given = refl;
 }
@@ -146,7 +156,13 @@ abbrev cell : Place → ℕ → List Atom → OpenCell
 cell place floor paragraph = record { kind = kinds.Plain; place = place; least = floor; blocks = text paragraph ∷ [] }
 
 abbrev spanned : OpenTable
-spanned = record { number = 0; cols = 2; rows = 2; cells = roll-TableCell (cell over_both 0 (aaaa ∷ [])) ∷ roll-TableCell (cell below_left 0 (bb ∷ [])) ∷ roll-TableCell (cell below_right 0 (c ∷ [])) ∷ [] }
+spanned = record {
+  number = 0;
+  cols = 2;
+  rows = 2;
+  cells = roll-TableCell (cell over_both 0 (aaaa ∷ [])) ∷ roll-TableCell
+      (cell below_left 0 (bb ∷ [])) ∷ roll-TableCell (cell below_right 0 (c ∷ [])) ∷ [];
+}
 
 spanned_fits : (fits : Table → ℕ → ℕ → Layout → Type 0) → FitsBy fits Plain spanned 6 2 spanned_layout
 unfolding unicode_width
@@ -157,10 +173,16 @@ spanned_fits fits = record {
   high = refl;
   parts = [] ∷ [] ∷ [] ∷ [];
   cells = (
-    subst (λ open_cell. FitsCell fits Plain spanned_layout open_cell []) (sym (out-roll-TableCell (cell over_both 0 (aaaa ∷ [])))) (cell_fits fits 6 0 over_both aaaa [] (omega arith) refl (omega arith)),
+    subst (λ open_cell. FitsCell fits Plain spanned_layout open_cell []) (sym (out-roll-TableCell (cell over_both 0 (aaaa ∷ []))))
+        (cell_fits fits 6 0 over_both aaaa [] (omega arith) refl (omega arith)),
     (
-      subst (λ open_cell. FitsCell fits Plain spanned_layout open_cell []) (sym (out-roll-TableCell (cell below_left 0 (bb ∷ [])))) (cell_fits fits 2 0 below_left bb [] (omega arith) refl (omega arith)),
-      (subst (λ open_cell. FitsCell fits Plain spanned_layout open_cell []) (sym (out-roll-TableCell (cell below_right 0 (c ∷ [])))) (cell_fits fits 2 0 below_right c [] (omega arith) refl (omega arith)), tt),
+      subst (λ open_cell. FitsCell fits Plain spanned_layout open_cell []) (sym (out-roll-TableCell (cell below_left 0 (bb ∷ []))))
+          (cell_fits fits 2 0 below_left bb [] (omega arith) refl (omega arith)),
+      (
+        subst (λ open_cell. FitsCell fits Plain spanned_layout open_cell []) (sym (out-roll-TableCell (cell below_right 0 (c ∷ []))))
+            (cell_fits fits 2 0 below_right c [] (omega arith) refl (omega arith)),
+        tt,
+      ),
     ),
   );
   given = refl;

@@ -41,7 +41,8 @@ widest_unit-least w atoms has = widest_of_fit w atoms (AllFit-from_cutting w ato
 
 -- ---- what fits in a room is no wider than it
 
-widest_in-fits : (fits : Table → ℕ → ℕ → Layout → Type 0) (w : ℕ) (block : OpenContent) (share : Share) → FitsShare fits w block share → widest_in block ≤ w
+widest_in-fits : (fits : Table → ℕ → ℕ → Layout → Type 0) (w : ℕ) (block : OpenContent) (share : Share) → FitsShare fits w block share →
+    widest_in block ≤ w
 widest_in-fits fits w (open_content.Para paragraph) share one = widest_unit-least w paragraph (one.0.0, one.0.1, one.0.2)
 widest_in-fits fits w (open_content.Table box) share one = omega arith
 
@@ -50,9 +51,11 @@ widest_among-fits : (fits : Table → ℕ → ℕ → Layout → Type 0) (w : �
 widest_among-fits fits w [] [] all = omega arith
 widest_among-fits fits w [] (share ∷ shares) all = absurd all
 widest_among-fits fits w (block ∷ blocks) [] all = absurd all
-widest_among-fits fits w (block ∷ blocks) (share ∷ shares) all = omega (arith, widest_in-fits fits w (out-Content block) share all.0, widest_among-fits fits w blocks shares all.1)
+widest_among-fits fits w (block ∷ blocks) (share ∷ shares) all =
+    omega (arith, widest_in-fits fits w (out-Content block) share all.0, widest_among-fits fits w blocks shares all.1)
 
-pub own_width-fits : (fits : Table → ℕ → ℕ → Layout → Type 0) (w h : ℕ) (cell : OpenCell) (inner : List Layout) → FitsRoom fits w h cell inner → own_width cell ≤ w
+pub own_width-fits : (fits : Table → ℕ → ℕ → Layout → Type 0) (w h : ℕ) (cell : OpenCell) (inner : List Layout) → FitsRoom fits w h cell inner →
+    own_width cell ≤ w
 own_width-fits fits w h cell inner room = omega (arith, room.floor, widest_among-fits fits w cell.blocks room.shares room.blocks)
 
 -- each table nested in the cell fits in the room
@@ -71,8 +74,10 @@ tables_among-fit : (fits : Table → ℕ → ℕ → Layout → Type 0) (w : ℕ
 tables_among-fit fits w [] shares all = tt
 tables_among-fit fits w (block ∷ blocks) [] all = absurd all
 tables_among-fit fits w (block ∷ blocks) (share ∷ shares) all =
-    subst (AllByRecursion (λ table. (height : ℕ) × (layout : Layout) × fits table w height layout)) (sym (flat_map-cons (λ one. tables_of (out-Content one)) block blocks))
-    (append_each (λ table. (height : ℕ) × (layout : Layout) × fits table w height layout) (tables_of (out-Content block)) (flat_map (λ one. tables_of (out-Content one)) blocks)
+    subst (AllByRecursion (λ table. (height : ℕ) × (layout : Layout) × fits table w height layout))
+    (sym (flat_map-cons (λ one. tables_of (out-Content one)) block blocks))
+    (append_each (λ table. (height : ℕ) × (layout : Layout) × fits table w height layout) (tables_of (out-Content block))
+    (flat_map (λ one. tables_of (out-Content one)) blocks)
     (tables_of-fit fits w (out-Content block) share all.0) (tables_among-fit fits w blocks shares all.1))
 
 pub tables_in-fit : (fits : Table → ℕ → ℕ → Layout → Type 0) (w h : ℕ) (cell : OpenCell) (inner : List Layout) → FitsRoom fits w h cell inner →
@@ -81,15 +86,29 @@ tables_in-fit fits w h cell inner room = tables_among-fit fits w cell.blocks roo
 
 -- ---- what is as wide as all of it holds the cell
 
-share_in : (style : Style) (v : ℕ) (block : OpenContent) → widest_in block ≤ v → AllByRecursion (λ table. (least : ℕ) × IsLeastWidth table style least × (least ≤ v)) (tables_of block) →
+share_in : (style : Style) (v : ℕ) (block : OpenContent) → widest_in block ≤ v →
+    AllByRecursion (λ table. (least : ℕ) × IsLeastWidth table style least × (least ≤ v)) (tables_of block) →
     (depth : ℕ) × (share : Share) × FitsShare (FitsWithin depth style) v block share
 share_in style v (open_content.Para paragraph) narrow each =
-    let cut = widest_unit-fits v paragraph narrow in (0, record { height = length (joined cut.0); inner = [] }, ((cut.0, cut.1, cut.2, omega arith), refl))
+    let cut = widest_unit-fits v paragraph narrow in
+    (0, record { height = length (joined cut.0); inner = [] }, ((cut.0, cut.1, cut.2, omega arith), refl))
 share_in style v (open_content.Table box) narrow each =
-    let one = each.0.1.attained in
-    (one.2.0, record { height = one.0; inner = one.1 ∷ [] }, record { layout = one.1; height = one.0; laid = FitsWithin-wider one.2.0 style box.value each.0.0 v one.0 one.1 each.0.2 one.2.1; within = omega arith; given = refl })
+    let one = each.0.1.attained in (
+      one.2.0,
+      record { height = one.0; inner = one.1 ∷ [] },
+      record {
+        layout = one.1;
+        height = one.0;
+        laid = FitsWithin-wider one.2.0 style box.value each.0.0 v one.0 one.1 each.0.2 one.2.1;
+        within = omega
+            arith;
+        given = refl;
+      },
+    )
 
-shares_in : (style : Style) (v : ℕ) (blocks : List Content) → widest_among blocks ≤ v → AllByRecursion (λ block. AllByRecursion (λ table. (least : ℕ) × IsLeastWidth table style least × (least ≤ v)) (tables_of (out-Content block))) blocks →
+shares_in : (style : Style) (v : ℕ) (blocks : List Content) → widest_among blocks ≤ v →
+    AllByRecursion (λ block. AllByRecursion (λ table. (least : ℕ) × IsLeastWidth table style least × (least ≤ v)) (tables_of (out-Content block)))
+    blocks →
     (depth : ℕ) × (shares : List Share) × AllZip (λ block share. FitsShare (FitsWithin depth style) v (out-Content block) share) blocks shares
 shares_in style v [] narrow each = (0, [], tt)
 shares_in style v (block ∷ blocks) narrow each =
@@ -98,9 +117,12 @@ shares_in style v (block ∷ blocks) narrow each =
       one.0 + rest.0,
       one.1 ∷ rest.1,
       (
-        FitsShare-weaker (FitsWithin one.0 style) (FitsWithin (one.0 + rest.0) style) (FitsWithin-deeper' rest.0 one.0 style) v (out-Content block) one.1 one.2,
-        AllZip-weaker (λ other share. FitsShare (FitsWithin rest.0 style) v (out-Content other) share) (λ other share. FitsShare (FitsWithin (one.0 + rest.0) style) v (out-Content other) share) blocks rest.1
-            (λ other share fits. FitsShare-weaker (FitsWithin rest.0 style) (FitsWithin (one.0 + rest.0) style) (FitsWithin-deeper one.0 rest.0 style) v (out-Content other) share fits) rest.2,
+        FitsShare-weaker (FitsWithin one.0 style) (FitsWithin (one.0 + rest.0) style) (FitsWithin-deeper' rest.0 one.0 style) v (out-Content block)
+            one.1 one.2,
+        AllZip-weaker (λ other share. FitsShare (FitsWithin rest.0 style) v (out-Content other) share)
+            (λ other share. FitsShare (FitsWithin (one.0 + rest.0) style) v (out-Content other) share) blocks rest.1
+            (λ other share fits. FitsShare-weaker (FitsWithin rest.0 style) (FitsWithin (one.0 + rest.0) style)
+            (FitsWithin-deeper one.0 rest.0 style) v (out-Content other) share fits) rest.2,
       ),
     )
 
@@ -109,26 +131,34 @@ weaker_blocks : {X : Type 0} (P Q : X → Type 0) (xs : List X) → ((x : X) →
 weaker_blocks P Q [] weaker all = tt
 weaker_blocks P Q (x ∷ xs) weaker all = (weaker x all.0, weaker_blocks P Q xs weaker all.1)
 
-others_below : (style : Style) (w depth : ℕ) (blocks : List Content) (shares : List Share) → AllZip (λ block share. FitsShare (FitsWithin depth style) w (out-Content block) share) blocks shares →
-    AllByRecursion (AreOthers style w) blocks → 0 < w → AllByRecursion (λ block. AllByRecursion (λ table. (least : ℕ) × IsLeastWidth table style least × (least ≤ w - 1)) (tables_of (out-Content block))) blocks
+others_below : (style : Style) (w depth : ℕ) (blocks : List Content) (shares : List Share) →
+    AllZip (λ block share. FitsShare (FitsWithin depth style) w (out-Content block) share) blocks shares →
+    AllByRecursion (AreOthers style w) blocks → 0 < w → AllByRecursion
+    (λ block. AllByRecursion (λ table. (least : ℕ) × IsLeastWidth table style least × (least ≤ w - 1)) (tables_of (out-Content block))) blocks
 others_below style w depth [] shares fits others some = tt
 others_below style w depth (block ∷ blocks) [] fits others some = absurd fits
-others_below style w depth (block ∷ blocks) (share ∷ shares) fits others some = (go (out-Content block) fits.0 others.0, others_below style w depth blocks shares fits.1 others.1 some)
+others_below style w depth (block ∷ blocks) (share ∷ shares) fits others some =
+    (go (out-Content block) fits.0 others.0, others_below style w depth blocks shares fits.1 others.1 some)
   where
     below : (least : ℕ) → least ≤ w → (least ≡ w → ⊥) → least ≤ w - 1
-    below least within other = ⊎_elim (λ (less : least < w). omega arith) (λ (past : w ≤ least). let same : least ≡ w = omega arith in absurd (other same)) (cases_lt least w)
+    below least within other = ⊎_elim (λ (less : least < w). omega arith)
+        (λ (past : w ≤ least). let same : least ≡ w = omega arith in absurd (other same)) (cases_lt least w)
 
-    go : (block : OpenContent) → FitsShare (FitsWithin depth style) w block share → AllByRecursion (IsOther style w) (tables_of block) → AllByRecursion (λ table. (least : ℕ) × IsLeastWidth table style least × (least ≤ w - 1)) (tables_of block)
+    go : (block : OpenContent) → FitsShare (FitsWithin depth style) w block share → AllByRecursion (IsOther style w) (tables_of block) →
+        AllByRecursion (λ table. (least : ℕ) × IsLeastWidth table style least × (least ≤ w - 1)) (tables_of block)
     go (open_content.Para paragraph) one other = tt
-    go (open_content.Table box) one other = ((other.0.0, other.0.1, below other.0.0 (other.0.1.least w one.height one.layout (depth, one.laid)) other.0.2), tt)
+    go (open_content.Table box) one other =
+        ((other.0.0, other.0.1, below other.0.0 (other.0.1.least w one.height one.layout (depth, one.laid)) other.0.2), tt)
 
-pub own_or_inner : (style : Style) (cell : OpenCell) (w : ℕ) → IsLeastRoom style cell w → AllByRecursion (AreOthers style w) cell.blocks → w ≡ own_width cell
+pub own_or_inner : (style : Style) (cell : OpenCell) (w : ℕ) → IsLeastRoom style cell w → AllByRecursion (AreOthers style w) cell.blocks →
+    w ≡ own_width cell
 own_or_inner style cell w least others =
     let one = least.fits w (omega arith) in
     let own = own_width-fits (FitsWithin one.0 style) w one.1 cell one.2 one.3 in
     ⊎_elim
     (λ (less : own_width cell < w).
-    let made = shares_in style (w - 1) cell.blocks (omega arith) (others_below style w one.0 cell.blocks one.3.shares one.3.blocks others (omega arith)) in
+    let made = shares_in style (w - 1) cell.blocks (omega arith)
+    (others_below style w one.0 cell.blocks one.3.shares one.3.blocks others (omega arith)) in
     absurd (omega (
       arith,
       least.least made.0 (w - 1) (sum_by (λ share. share.height) made.1) (flat_map (λ share. share.inner) made.1)
@@ -141,7 +171,8 @@ own_or_inner style cell w least others =
 pub column_of_width : (table : Table) (style : Style) (w : ℕ) → IsLeastWidth table style w → 0 < w → 0 < (out-Table table).cols
 column_of_width table style w least some = let one = least.attained in go (out-Table table).cols refl one.0 one.1 one.2.0 one.2.1
   where
-    go : (cols : ℕ) → (out-Table table).cols ≡ cols → (height : ℕ) (layout : Layout) (depth : ℕ) → FitsWithin depth style table w height layout → 0 < (out-Table table).cols
+    go : (cols : ℕ) → (out-Table table).cols ≡ cols → (height : ℕ) (layout : Layout) (depth : ℕ) → FitsWithin depth style table w height layout →
+        0 < (out-Table table).cols
     go (suc cols) is height layout depth fits = omega (arith, is)
     go zero is height layout zero fits = absurd fits
     go zero is height layout (suc depth) fits = absurd (omega (
@@ -169,16 +200,24 @@ pub own_below : (style : Style) (cell : OpenCell) (w : ℕ) → IsLeastRoom styl
 own_below style cell w least = let one = least.fits w (omega arith) in own_width-fits (FitsWithin one.0 style) w one.1 cell one.2 one.3
 
 -- one more block may be wider
-pub widest_among-more : (blocks : List Content) (block : Content) → widest_among (blocks ++ block ∷ []) ≡ max (widest_among blocks) (widest_in (out-Content block))
+pub widest_among-more : (blocks : List Content) (block : Content) →
+    widest_among (blocks ++ block ∷ []) ≡ max (widest_among blocks) (widest_in (out-Content block))
 widest_among-more [] block = omega arith
 widest_among-more (one ∷ blocks) block = let rest = widest_among-more blocks block in omega arith
 
 -- the least width of a paragraph is that of its widest unit
-pub widest_unit-is : (paragraph : List Atom) (w : ℕ) → ((v : ℕ) → w ≤ v → HasCutting v paragraph) → ((v : ℕ) → HasCutting v paragraph → w ≤ v) → w ≡ widest_unit paragraph
-widest_unit-is paragraph w holds least = omega (arith, widest_unit-least w paragraph (holds w (omega arith)), least (widest_unit paragraph) (widest_unit-fits (widest_unit paragraph) paragraph (omega arith)))
+pub widest_unit-is : (paragraph : List Atom) (w : ℕ) → ((v : ℕ) → w ≤ v → HasCutting v paragraph) → ((v : ℕ) → HasCutting v paragraph → w ≤ v) →
+    w ≡ widest_unit paragraph
+widest_unit-is paragraph w holds least = omega (
+  arith,
+  widest_unit-least w paragraph (holds w (omega arith)),
+  least (widest_unit paragraph)
+      (widest_unit-fits (widest_unit paragraph) paragraph (omega arith)),
+)
 
 -- a loop over blocks comes to the next one
-pub widest_among-next : (least : ℕ) (items : List Content) (n : ℕ) (item : Content) (width more new : ℕ) → n < length items → item ≡ get_or items n item → width ≡ max least (widest_among (take n items)) →
+pub widest_among-next : (least : ℕ) (items : List Content) (n : ℕ) (item : Content) (width more new : ℕ) → n < length items →
+    item ≡ get_or items n item → width ≡ max least (widest_among (take n items)) →
     more ≡ widest_in (out-Content item) → new ≡ max width more → new ≡ max least (widest_among (take (n + 1) items))
 widest_among-next least items n item width more new within is before here max_is =
     let front : take (n + 1) items ≡ take n items ++ item ∷ [] = take_more items n item within ∙ ap (λ last. take n items ++ last ∷ []) (sym is) in

@@ -21,16 +21,19 @@ ahead-rest : (sizes : List ℕ) (place : ℕ) → ahead sizes place + sum_by (λ
 ahead-rest sizes place = sum_by-take-drop (λ size. size) sizes place
 
 -- a room is what lies between its ends, and its gaps
-pub room-ends : (gap : ℕ) (sizes : List ℕ) (from past : ℕ) → from ≤ past → room gap sizes from past + ahead sizes from ≡ ahead sizes past + gap * (past - from - 1)
+pub room-ends : (gap : ℕ) (sizes : List ℕ) (from past : ℕ) → from ≤ past →
+    room gap sizes from past + ahead sizes from ≡ ahead sizes past + gap * (past - from - 1)
 room-ends gap sizes from past order =
     let whole = ahead-rest sizes from in
     let rest = ahead-rest sizes past in
-    let split : sum_by (λ size. size) (drop from sizes) ≡ sum_by (λ size. size) (slice_range sizes from past) + sum_by (λ size. size) (drop past sizes)
+    let split : sum_by (λ size. size) (drop from sizes) ≡ sum_by (λ size. size) (slice_range sizes from past) + sum_by (λ size. size)
+    (drop past sizes)
     = ap (sum_by (λ size. size)) (drop_split sizes from past order) ∙ sum_by-append (λ size. size) (slice_range sizes from past) (drop past sizes) in
     omega (arith, sum-sum_by (slice_range sizes from past), whole, rest, split)
 
 -- the total of sizes is all that lies ahead of the end, the gaps and the edges
-pub total-ahead : (gap edge : ℕ) (sizes : List ℕ) → 0 < length sizes → total gap edge sizes ≡ sum_by (λ size. size) sizes + gap * (length sizes - 1) + 2 * edge
+pub total-ahead : (gap edge : ℕ) (sizes : List ℕ) → 0 < length sizes →
+    total gap edge sizes ≡ sum_by (λ size. size) sizes + gap * (length sizes - 1) + 2 * edge
 total-ahead gap edge [] some = absurd (omega arith)
 total-ahead gap edge (size ∷ sizes) some =
     let n : length (size ∷ sizes) - 1 ≡ length sizes = omega arith in

@@ -17,7 +17,8 @@ pub table_size-out : (table : Table) → table_size table ≡ sum_by cell_size (
 table_size-out table = fold_out-Table ℕ ℕ ℕ content_count table_count cell_count table ∙ mapped_sum cell_size (out-Table table).cells
 
 pub cell_size-out : (cell : TableCell) → cell_size cell ≡ 1 + sum_by content_size (out-TableCell cell).blocks
-cell_size-out cell = fold_out-TableCell ℕ ℕ ℕ content_count table_count cell_count cell ∙ ap (λ n. 1 + n) (mapped_sum content_size (out-TableCell cell).blocks)
+cell_size-out cell = fold_out-TableCell ℕ ℕ ℕ content_count table_count cell_count cell ∙
+    ap (λ n. 1 + n) (mapped_sum content_size (out-TableCell cell).blocks)
 
 -- what a block counts
 abbrev pub open_size : OpenContent → ℕ
@@ -37,14 +38,16 @@ pub nested_in_table-out : (table : Table) → nested_in_table table ≡ sum_by n
 nested_in_table-out table = fold_out-Table ℕ ℕ ℕ content_tables table_tables cell_tables table ∙ mapped_sum nested_in_cell (out-Table table).cells
 
 pub nested_in_cell-out : (cell : TableCell) → nested_in_cell cell ≡ sum_by nested_in_content (out-TableCell cell).blocks
-nested_in_cell-out cell = fold_out-TableCell ℕ ℕ ℕ content_tables table_tables cell_tables cell ∙ mapped_sum nested_in_content (out-TableCell cell).blocks
+nested_in_cell-out cell = fold_out-TableCell ℕ ℕ ℕ content_tables table_tables cell_tables cell ∙
+    mapped_sum nested_in_content (out-TableCell cell).blocks
 
 -- how many tables a block is and has inside
 abbrev pub open_tables : OpenContent → ℕ
 open_tables (open_content.Para paragraph) = 0
 open_tables (open_content.Table box) = 1 + nested_in_table box.value
 
-counted_tables : (block : OpenContent) → content_tables (map-Content Content Table TableCell ℕ ℕ ℕ nested_in_content nested_in_table nested_in_cell block) ≡ open_tables block
+counted_tables : (block : OpenContent) → content_tables
+    (map-Content Content Table TableCell ℕ ℕ ℕ nested_in_content nested_in_table nested_in_cell block) ≡ open_tables block
 counted_tables (open_content.Para paragraph) = refl
 counted_tables (open_content.Table box) = refl
 

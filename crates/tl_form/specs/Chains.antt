@@ -1,4 +1,5 @@
--- Chains of columns: cells of a table side by side, whose widths no page can do without. What a chain weighs is a lower
+-- Chains of columns: cells of a table side by side, whose widths no page can do without. What a chain weighs is a
+-- lower
 -- bound on the width of every page that the table fits.
 use Rattle.std.specs.Prelude.{◌≡◌, ℕ, zero, suc, ◌+◌, ◌-◌, ◌*◌, ◌<◌, ◌≤◌, max, List, [], ◌∷◌, length, sum_by, Option, Some, None, Contains, slice_get}
 use Rattle.std.specs.List.{AllZip, flat_map}
@@ -44,11 +45,13 @@ pub record Link : Type 0 where
 -- which chains are a nested table's, and what they weigh
 abbrev pub HasWidth : (Table → List Chain → ℕ → Type 0) → OpenCell → Option ℕ → Link → Type 0
 HasWidth weighs cell None link = (link.width ≡ own_width cell) × (link.inner ≡ [])
-HasWidth weighs cell (Some number) link = (nested : Table) × Contains (tables_in cell) nested × ((out-Table nested).number ≡ number)
+HasWidth weighs cell (Some number) link = (nested : Table) × Contains (tables_in cell) nested ×
+    ((out-Table nested).number ≡ number)
     × weighs nested link.inner link.width
 
 -- the entry names a cell of the table, and stands for this
-pub record IsLink (weighs : Table → List Chain → ℕ → Type 0) (table : OpenTable) (entry : Entry) (link : Link) : Type 0 where
+pub record IsLink (weighs : Table → List Chain → ℕ → Type 0) (table : OpenTable) (entry : Entry) (link : Link) : Type
+    0 where
   pub cell : TableCell
   pub named : slice_get table.cells entry.cell ≡ Some cell
   pub placed : link.place ≡ (out-TableCell cell).place
@@ -66,12 +69,14 @@ covered links = sum_by (λ link. link.place.right - link.place.left) links
 -- what entries weigh in a table of so many columns: their widths, a gap between each two of the entries and columns
 -- that no entry covers, and an edge at each side
 abbrev pub links_weight : Style → ℕ → List Link → ℕ
-links_weight style cols links = sum_by (λ link. link.width) links + gap_of style * (length links + (cols - covered links) - 1)
+links_weight style cols links = sum_by (λ link. link.width) links + gap_of style *
+    (length links + (cols - covered links) - 1)
     + 2 * edge_of style
 
 -- the chains are one of the table, and after it, for its entries in order, those of the nested tables that give their
 -- widths; the first weighs `weight`
-pub record IsChainBy (weighs : Table → List Chain → ℕ → Type 0) (style : Style) (table : OpenTable) (chains : List Chain) (weight : ℕ) : Type 0 where
+pub record IsChainBy (weighs : Table → List Chain → ℕ → Type 0) (style : Style) (table : OpenTable)
+    (chains : List Chain) (weight : ℕ) : Type 0 where
   pub chain : Chain
   pub links : List Link
   pub of_table : chain.table ≡ table.number
@@ -84,7 +89,8 @@ pub record IsChainBy (weighs : Table → List Chain → ℕ → Type 0) (style :
 -- the same of a table with fewer than `depth` tables inside one another
 abbrev pub IsChainWithin : ℕ → Style → Table → List Chain → ℕ → Type 0
 IsChainWithin zero style table chains weight = ⊥
-IsChainWithin (suc depth) style table chains weight = IsChainBy (IsChainWithin depth style) style (out-Table table) chains weight
+IsChainWithin (suc depth) style table chains weight =
+    IsChainBy (IsChainWithin depth style) style (out-Table table) chains weight
 
 -- the chains are one of the table with those of nested tables that it rests on, and it weighs `weight`
 abbrev pub IsChain : Table → Style → List Chain → ℕ → Type 0

@@ -1,4 +1,5 @@
--- Layouts of a table: a width for each column, a height for each row, and a layout of each table nested directly in it,
+-- Layouts of a table: a width for each column, a height for each row, and a layout of each table nested directly in
+-- it,
 -- each whatever it may be; and when one fits a page.
 use Rattle.std.specs.Prelude.{◌≡◌, ℕ, zero, suc, ◌≤◌, List, [], ◌∷◌, length, sum_by}
 use Rattle.std.specs.List.{AllZip, flat_map}
@@ -40,9 +41,11 @@ pub record Share : Type 0 where
 
 -- the paragraph has a cutting that holds in `w` columns, into at most `h` lines
 abbrev pub FitsParagraph : ℕ → List Atom → ℕ → Type 0
-FitsParagraph w paragraph h = (cut : List (List (List Atom))) × IsCutting paragraph cut × HoldsIn w cut × (length (joined cut) ≤ h)
+FitsParagraph w paragraph h = (cut : List (List (List Atom))) × IsCutting paragraph cut × HoldsIn w cut ×
+    (length (joined cut) ≤ h)
 
--- a nested table fits a page of `w` columns by the layout of its share, with a total height of at most the share's lines
+-- a nested table fits a page of `w` columns by the layout of its share, with a total height of at most the share's
+-- lines
 pub record FitsInside (fits : ℕ → ℕ → Layout → Type 0) (w : ℕ) (share : Share) : Type 0 where
   pub layout : Layout
   pub height : ℕ
@@ -55,9 +58,11 @@ abbrev pub FitsShare : (Table → ℕ → ℕ → Layout → Type 0) → ℕ →
 FitsShare fits w (open_content.Para paragraph) share = FitsParagraph w paragraph share.height × (share.inner ≡ [])
 FitsShare fits w (open_content.Table box) share = FitsInside (fits box.value) w share
 
--- a cell fits in a room of `w` columns and `h` lines: the room is as wide as the cell's floor, and its blocks stand one
+-- a cell fits in a room of `w` columns and `h` lines: the room is as wide as the cell's floor, and its blocks stand
+-- one
 -- under the other, its nested tables by these layouts
-pub record FitsRoom (fits : Table → ℕ → ℕ → Layout → Type 0) (w h : ℕ) (cell : OpenCell) (inner : List Layout) : Type 0 where
+pub record FitsRoom (fits : Table → ℕ → ℕ → Layout → Type 0) (w h : ℕ) (cell : OpenCell) (inner : List Layout) : Type
+    0 where
   pub floor : cell.least ≤ w
   pub shares : List Share
   pub blocks : AllZip (λ block share. FitsShare fits w (out-Content block) share) cell.blocks shares
@@ -66,11 +71,13 @@ pub record FitsRoom (fits : Table → ℕ → ℕ → Layout → Type 0) (w h : 
 
 -- a cell fits in the room that the layout gives it
 abbrev pub FitsCell : (Table → ℕ → ℕ → Layout → Type 0) → Style → OpenLayout → OpenCell → List Layout → Type 0
-FitsCell fits style layout cell inner = FitsRoom fits (width_for style layout cell.place) (height_for style layout cell.place) cell inner
+FitsCell fits style layout cell inner = FitsRoom fits (width_for style layout cell.place)
+    (height_for style layout cell.place) cell inner
 
 -- the layout fits a page of `width` columns with a total height of `height` lines, where `fits` says the same of the
 -- tables nested in its cells
-pub record FitsBy (fits : Table → ℕ → ℕ → Layout → Type 0) (style : Style) (table : OpenTable) (width height : ℕ) (layout : OpenLayout) : Type 0 where
+pub record FitsBy (fits : Table → ℕ → ℕ → Layout → Type 0) (style : Style) (table : OpenTable) (width height : ℕ)
+    (layout : OpenLayout) : Type 0 where
   pub columns : length layout.widths ≡ table.cols
   pub rows : length layout.heights ≡ table.rows
   pub within : total_width style layout ≤ width
@@ -82,7 +89,8 @@ pub record FitsBy (fits : Table → ℕ → ℕ → Layout → Type 0) (style : 
 -- the same of a table with fewer than `depth` tables inside one another
 abbrev pub FitsWithin : ℕ → Style → Table → ℕ → ℕ → Layout → Type 0
 FitsWithin zero style table width height layout = ⊥
-FitsWithin (suc depth) style table width height layout = FitsBy (FitsWithin depth style) style (out-Table table) width height (out-Layout layout)
+FitsWithin (suc depth) style table width height layout =
+    FitsBy (FitsWithin depth style) style (out-Table table) width height (out-Layout layout)
 
 -- the layout fits a page of `width` columns with a total height of `height` lines
 abbrev pub Fits : Table → Style → ℕ → ℕ → Layout → Type 0

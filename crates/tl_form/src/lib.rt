@@ -1,6 +1,7 @@
-//! What a layout of a table is, when it fits a page, when no layout is lower, and the page that it
-//! makes. It knows cells and paragraphs, and nothing of how a layout is searched for. Its one
-//! contract: the definitions in its specs, which every search and every page cite.
+//! Tables with their grids formed, and what a layout of one is: when it fits a page, and which height
+//! and which width are the least. It knows cells and paragraphs, and nothing of how a layout is
+//! searched for. Its one contract: `least_width` is the least width over all layouts, those of nested
+//! tables included, and `narrow_chain` is a chain of columns that weighs as much.
 #![tactic(auto)]
 
 mod cell;

@@ -29,15 +29,18 @@ pub record GiveRooms (gap cols : ℕ) (demands : List Demand) (widths : List ℕ
 
 -- the least total width of columns that give each demand its room
 abbrev pub IsLeastFor : Style → ℕ → List Demand → ℕ → Type 0
-IsLeastFor style cols demands weight = IsLeastTotal (gap_of style) (edge_of style) (GiveRooms (gap_of style) cols demands) weight
+IsLeastFor style cols demands weight = IsLeastTotal (gap_of style) (edge_of style)
+    (GiveRooms (gap_of style) cols demands) weight
 
 -- what the demand asks of its columns beside the gaps between them
 abbrev pub arc_of : ℕ → Demand → Arc
-arc_of gap demand = record { from = demand.left; to = demand.right; weight = demand.width - gap * (demand.right - demand.left - 1) }
+arc_of gap demand = record
+    { from = demand.left; to = demand.right; weight = demand.width - gap * (demand.right - demand.left - 1) }
 
 -- the arc is that of the demand of its number, and has a weight
 abbrev pub IsArcOf : ℕ → List Demand → NumberedArc → Type 0
-IsArcOf gap demands one = IsSomeAnd (slice_get demands one.number) (λ demand. (one.arc ≡ arc_of gap demand) × (0 < one.arc.weight))
+IsArcOf gap demands one = IsSomeAnd (slice_get demands one.number)
+    (λ demand. (one.arc ≡ arc_of gap demand) × (0 < one.arc.weight))
 
 -- the first `n` demands have their arcs among these, but those that the gaps are enough for
 pub record HaveArcs (gap : ℕ) (demands : List Demand) (n : ℕ) (arcs : List NumberedArc) : Type 0 where

@@ -19,13 +19,17 @@ pub record IsLeastForBlock (style : Style) (block : OpenContent) (w : ℕ) : Typ
 -- the same of blocks one under the other, where `w` is at least a floor
 pub record IsLeastForBlocks (style : Style) (floor : ℕ) (blocks : List Content) (w : ℕ) : Type 0 where
   pub floored : floor ≤ w
-  pub fits : (v : ℕ) → w ≤ v → (depth : ℕ) × (shares : List Share) × AllZip (λ block share. FitsShare (FitsWithin depth style) v (out-Content block) share) blocks shares
-  pub least : (depth v : ℕ) (shares : List Share) → floor ≤ v → AllZip (λ block share. FitsShare (FitsWithin depth style) v (out-Content block) share) blocks shares → w ≤ v
+  pub fits : (v : ℕ) → w ≤ v → (depth : ℕ) × (shares : List Share) ×
+      AllZip (λ block share. FitsShare (FitsWithin depth style) v (out-Content block) share) blocks shares
+  pub least : (depth v : ℕ) (shares : List Share) → floor ≤ v →
+      AllZip (λ block share. FitsShare (FitsWithin depth style) v (out-Content block) share) blocks shares → w ≤ v
 
 -- from `w` columns on the cell fits in some height, and in no fewer columns in any
 pub record IsLeastRoom (style : Style) (cell : OpenCell) (w : ℕ) : Type 0 where
-  pub fits : (v : ℕ) → w ≤ v → (depth : ℕ) × (height : ℕ) × (inner : List Layout) × FitsRoom (FitsWithin depth style) v height cell inner
-  pub least : (depth v height : ℕ) (inner : List Layout) → FitsRoom (FitsWithin depth style) v height cell inner → w ≤ v
+  pub fits : (v : ℕ) → w ≤ v → (depth : ℕ) × (height : ℕ) × (inner : List Layout) ×
+      FitsRoom (FitsWithin depth style) v height cell inner
+  pub least : (depth v height : ℕ) (inner : List Layout) → FitsRoom (FitsWithin depth style) v height cell inner →
+      w ≤ v
 
 -- the demand is that of the cell: its columns, and its least room
 pub record IsDemandOf (style : Style) (cell : OpenCell) (demand : Demand) : Type 0 where

@@ -1,4 +1,5 @@
--- Why a cell is as wide as it is: its own width, or the chain of a table nested in it. No public clause cites this file.
+-- Why a cell is as wide as it is: its own width, or the chain of a table nested in it. No public clause cites this
+-- file.
 use Rattle.std.specs.Prelude.{◌≡◌, ℕ, Some, Contains}
 use Rattle.std.specs.List.{AllByRecursion}
 use Rattle.tl_base.specs.declared.style.Style.{Style}
@@ -11,7 +12,8 @@ use Rattle.tl_form.specs.Chains.{HasWidth, IsChain}
 
 -- the reason for the cell's width, as an entry and its chains give it
 abbrev pub IsLinked : Style → OpenCell → ℕ → Linked → Type 0
-IsLinked style cell width linked = HasWidth (λ table chains weight. IsChain table style chains weight) cell linked.inner (record { place = cell.place; width = width; inner = linked.chains })
+IsLinked style cell width linked = HasWidth (λ table chains weight. IsChain table style chains weight) cell
+    linked.inner (record { place = cell.place; width = width; inner = linked.chains })
 
 -- a table that is the block has a chain of that weight
 pub record IsLinkedBy (style : Style) (block : OpenContent) (width : ℕ) (linked : Linked) : Type 0 where
