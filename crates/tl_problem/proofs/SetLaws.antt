@@ -1,19 +1,16 @@
 -- Bounds of sets of widths that have the same widths, and of a set within another.
-use Rattle.std.proofs.Common.{◌≡◌, ℕ, ◌+◌, ◌-◌, ◌*◌, ◌<◌, ◌≤◌, List, [], ◌∷◌, inl, inr, length, get_or, refl, sym, ap, ◌∙◌, subst, arith}
+use Rattle.std.proofs.Common.{ℕ, ◌≤◌, List, [], ◌∷◌, inl, inr, get_or, arith}
 use Rattle.std.specs.List.{AllZip}
-use Rattle.tl_base.specs.Style.{gap_of, row_gap_of}
-use Rattle.tl_base.specs.Steps.{IsLowAt}
+use Rattle.tl_base.specs.Style.{gap_of}
 use Rattle.tl_problem.specs.declared.cell.Cell.{Cell}
 use Rattle.tl_problem.specs.declared.placed.Placed.{Placed}
-use Rattle.tl_problem.specs.declared.zone.Range.{Range}
-use Rattle.tl_problem.specs.Sizes.{position, room}
 use Rattle.tl_problem.specs.Problem.{ProblemModel, cell_height}
 use Rattle.tl_problem.specs.Layouts.{WithinPage}
 use Rattle.tl_problem.specs.Sound.{IsSound}
 use Rattle.tl_problem.specs.Spans.{page_room}
 use Rattle.tl_problem.specs.Zones.{whole_zone, InZone}
 use Rattle.tl_problem.specs.Bounds.{IsGreatestRoom, GiveLow, IsBound}
-use Rattle.tl_problem.specs.Areas.{IsBetweenRooms, IsLeastArea, IsGreatestEnd, HoldAreas, IsAreaBound}
+use Rattle.tl_problem.specs.Areas.{IsBetweenRooms, IsLeastArea, IsAreaBound}
 use Rattle.tl_problem.specs.Placements.{AreLeast, IsPlacementIn, IsOpening}
 use Rattle.tl_problem.proofs.Heights.{IsLowAt-wider}
 use Rattle.tl_problem.proofs.OneClass.{IsLowAt-decides, greatest-not_none}
@@ -78,14 +75,24 @@ module _ (problem : ProblemModel) (A B : List ℕ → Type 0) (there : (widths :
   area_bound-same bound is = record {
     some = (is.some.0, there is.some.0 is.some.1);
     no_column = is.no_column;
-    columns = λ some. let held = is.columns some in (held.0, record {
-      areas = held.1.areas;
-      end = held.1.end;
-      least = areas-same problem.cells held.1.areas held.1.least;
-      greatest = record { attained = (held.1.greatest.attained.0, there held.1.greatest.attained.0 held.1.greatest.attained.1,
-          held.1.greatest.attained.2); never_more = λ widths among. held.1.greatest.never_more widths (back widths among) };
-      rounded = held.1.rounded;
-    }, held.2);
+    columns = λ some. let held = is.columns some in (
+      held.0,
+      record {
+        areas = held.1.areas;
+        end = held.1.end;
+        least = areas-same problem.cells held.1.areas held.1.least;
+        greatest = record {
+          attained = (
+            held.1.greatest.attained.0,
+            there held.1.greatest.attained.0 held.1.greatest.attained.1,
+            held.1.greatest.attained.2,
+          );
+          never_more = λ widths among. held.1.greatest.never_more widths (back widths among);
+        };
+        rounded = held.1.rounded;
+      },
+      held.2,
+    );
   }
 
 -- the opening is the placement in the whole zone
@@ -114,9 +121,9 @@ module _ (problem : ProblemModel) (sound : IsSound problem) (A B : List ℕ → 
           | inr high ↦ absurd (greatest-not_none problem A cell.left cell.right (page_room problem)
               (λ ws also. room-in_page problem ws (page ws also) cell.left cell.right (sound.cells k d inside).columns.0 (sound.cells k d inside).columns.1)
               (λ v narrower. high (
-                let some = narrower.attained in
-                let wider = greatest.never_more some.0 (within some.0 some.1) in
-                IsLowAt-wider cell.low (sound.cells k d inside).steps.0 h v w (omega (arith, wider, some.2)) (give.cells k d inside v narrower)))
+              let some = narrower.attained in
+              let wider = greatest.never_more some.0 (within some.0 some.1) in
+              IsLowAt-wider cell.low (sound.cells k d inside).steps.0 h v w (omega (arith, wider, some.2)) (give.cells k d inside v narrower)))
               widths among)
         ];
   }
