@@ -1,5 +1,6 @@
 mod Examples
 pub mod CountLaws
+pub mod FireLaws
 pub mod LogLaws
 pub mod Loops
 pub mod TextExamples
