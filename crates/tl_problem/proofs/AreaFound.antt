@@ -1,5 +1,6 @@
 -- The area bound from the least areas of the cells and the greatest place where the columns end.
-use Rattle.std.proofs.Common.{◌≡◌, ℕ, ◌+◌, ◌-◌, ◌*◌, ◌/◌, ◌%◌, ◌<◌, ◌≤◌, suc, min, ℤ, pos, List, [], ◌∷◌, ◌++◌, inl, inr, length, get_or, Option, Some, None, MatchOption, refl, sym, ap, ◌∙◌, subst, arith}
+use Rattle.std.proofs.Common.{◌≡◌, ℕ, ◌+◌, ◌-◌, ◌*◌, ◌/◌, ◌%◌, ◌<◌, ◌≤◌, suc, min, ℤ, pos, List, [], ◌∷◌, ◌++◌, inl, inr, length, get_or, Option}
+use Rattle.std.proofs.Common.{Some, None, MatchOption, refl, sym, ap, ◌∙◌, subst, arith}
 use Rattle.std.specs.List.{AllZip, sum_by}
 use Rattle.std.specs.Int.{div_ceil}
 use Rattle.std.proofs.lemmas.Int.{ints}
@@ -48,7 +49,8 @@ edge-few Frame = omega arith
 module _ (problem : ProblemModel) (Among : List ℕ → Type 0) (cell : Cell) (low high first least : ℕ) (sound : IsSoundCell problem cell)
     (narrow : IsLeastRoom problem Among cell.left cell.right low) (wide : IsGreatestRoom problem Among cell.left cell.right high)
     (is : height_at cell.low low ≡ Some first)
-    (h : IsLeastStep (gap_of problem.style) (row_gap_of problem.style) cell.low (length cell.low) low high (area_with (gap_of problem.style) (row_gap_of problem.style) low first) least) where
+    (h : IsLeastStep (gap_of problem.style) (row_gap_of problem.style) cell.low (length cell.low) low high
+    (area_with (gap_of problem.style) (row_gap_of problem.style) low first) least) where
   low-high : low ≤ high
   low-high = omega (arith, narrow.attained.2, wide.never_more narrow.attained.0 narrow.attained.1)
 
@@ -76,7 +78,8 @@ module _ (problem : ProblemModel) (Among : List ℕ → Type 0) (cell : Cell) (l
 pub HaveAreas-none : (problem : ProblemModel) (Among : List ℕ → Type 0) → HaveAreas problem Among 0 0
 HaveAreas-none problem Among = record { areas = []; count = refl; each = λ k below. absurd (omega arith); sums = refl }
 
-pub HaveAreas-more : (problem : ProblemModel) (Among : List ℕ → Type 0) (k total least : ℕ) → HaveAreas problem Among k total → IsLeastArea problem Among (cell_at problem.cells k) least → HaveAreas problem Among (k + 1) (total + least)
+pub HaveAreas-more : (problem : ProblemModel) (Among : List ℕ → Type 0) (k total least : ℕ) → HaveAreas problem Among k total →
+    IsLeastArea problem Among (cell_at problem.cells k) least → HaveAreas problem Among (k + 1) (total + least)
 HaveAreas-more problem Among k total least h one = record {
   areas = h.areas ++ least ∷ [];
   count = omega (arith, length_push h.areas least, h.count);
@@ -84,7 +87,8 @@ HaveAreas-more problem Among k total least h one = record {
   sums = omega (arith, sum_by_push (λ x. x) h.areas least, h.sums);
 }
 
-AllZip-from : (R : Cell → ℕ → Type 0) (cells : List Cell) (ns : List ℕ) → length ns ≡ length cells → ((k : ℕ) → k < length cells → R (cell_at cells k) (get_or ns k 0)) → AllZip R cells ns
+AllZip-from : (R : Cell → ℕ → Type 0) (cells : List Cell) (ns : List ℕ) → length ns ≡ length cells →
+    ((k : ℕ) → k < length cells → R (cell_at cells k) (get_or ns k 0)) → AllZip R cells ns
 AllZip-from R [] [] same each = tt
 AllZip-from R [] (n ∷ ns) same each = absurd (omega arith)
 AllZip-from R (c ∷ cells) [] same each = absurd (omega arith)
@@ -140,7 +144,8 @@ module _ (problem : ProblemModel) (sound : IsSound problem) (bounds : Bounds) (k
       let small = end-small widths (keeps.page widths (left-from problem bounds keeps more.0 more.1.0)) in
       omega (arith, ints, more.1.1, at, small)
 
-  pub greatest-end : (most : ℤ) → IsGreatest bounds 0 problem.cols most → (end : ℕ) × ((most ≡ pos end) × (IsGreatestEnd problem (IsLeft problem bounds) end × ((0 < end) × (end ≤ 502))))
+  pub greatest-end : (most : ℤ) → IsGreatest bounds 0 problem.cols most →
+      (end : ℕ) × ((most ≡ pos end) × (IsGreatestEnd problem (IsLeft problem bounds) end × ((0 < end) × (end ≤ 502))))
   greatest-end most is =
       let x = is.reached.0 in
       let widths = widths_of x (gap_of problem.style) problem.cols in
@@ -165,8 +170,10 @@ module _ (problem : ProblemModel) (sound : IsSound problem) (bounds : Bounds) (k
 
 -- ---- the areas are small against the end
 
-module _ (problem : ProblemModel) (sound : IsSound problem) (Among : List ℕ → Type 0) (page : (widths : List ℕ) → Among widths → WithinPage problem widths) (end : ℕ) (greatest : IsGreatestEnd problem Among end) where
-  area-small : (k least : ℕ) → k < length problem.cells → IsLeastArea problem Among (cell_at problem.cells k) least → least ≤ end * (greatest_height (cell_at problem.cells k).high + 1)
+module _ (problem : ProblemModel) (sound : IsSound problem) (Among : List ℕ → Type 0) (page : (widths : List ℕ) → Among widths →
+    WithinPage problem widths) (end : ℕ) (greatest : IsGreatestEnd problem Among end) where
+  area-small : (k least : ℕ) → k < length problem.cells → IsLeastArea problem Among (cell_at problem.cells k) least →
+      least ≤ end * (greatest_height (cell_at problem.cells k).high + 1)
   area-small k least within is =
       let cell = cell_at problem.cells k in
       let sound_cell = sound.cells k no_cell within in
@@ -199,8 +206,10 @@ module _ (problem : ProblemModel) (sound : IsSound problem) (Among : List ℕ �
   -- so few lines hold them
   pub areas-small : (total : ℕ) → HaveAreas problem Among (length problem.cells) total → total ≤ (1073741824 + length problem.cells) * end
   areas-small total h =
-      let each = sum-le (λ c. end * (greatest_height c.high + 1)) problem.cells h.areas h.count (λ k within. area-small k (get_or h.areas k 0) within (h.each k within)) in
-      let most = mul-le-mul (upto end end (omega arith)) (upto (sum_by (λ c. greatest_height c.high) problem.cells + length problem.cells) (1073741824 + length problem.cells) (omega (arith, sound.low_enough))) in
+      let each = sum-le (λ c. end * (greatest_height c.high + 1)) problem.cells h.areas h.count
+      (λ k within. area-small k (get_or h.areas k 0) within (h.each k within)) in
+      let most = mul-le-mul (upto end end (omega arith)) (upto (sum_by (λ c. greatest_height c.high) problem.cells + length problem.cells)
+      (1073741824 + length problem.cells) (omega (arith, sound.low_enough))) in
       let turned : end * (1073741824 + length problem.cells) ≡ (1073741824 + length problem.cells) * end = grind arith in
       omega (arith, each, scaled problem.cells, most, turned, h.sums)
 
@@ -215,10 +224,12 @@ module _ (problem : ProblemModel) (sound : IsSound problem) (Among : List ℕ �
   -- the areas of the first cells
   pub areas-few : (upto total : ℕ) → upto ≤ length problem.cells → end ≤ 502 → HaveAreas problem Among upto total → total ≤ upto * 1099511627776
   areas-few upto total within few h =
-      let all = all-most (λ x. x) 1099511627776 h.areas (λ k below. area-few k (get_or h.areas k 0) (omega (arith, h.count)) few (h.each k (omega (arith, h.count)))) in
+      let all = all-most (λ x. x) 1099511627776 h.areas (λ k below. area-few k (get_or h.areas k 0) (omega (arith, h.count)) few
+      (h.each k (omega (arith, h.count)))) in
       omega (arith, all, h.count, h.sums)
 
-  pub IsAreaBound-found : (total : ℕ) → 0 < problem.cols → 0 < end → HaveAreas problem Among (length problem.cells) total → IsAreaBound problem Among (2 * edge_of problem.style + div_ceil total end - row_gap_of problem.style)
+  pub IsAreaBound-found : (total : ℕ) → 0 < problem.cols → 0 < end → HaveAreas problem Among (length problem.cells) total →
+      IsAreaBound problem Among (2 * edge_of problem.style + div_ceil total end - row_gap_of problem.style)
   IsAreaBound-found total some_columns some h = record {
     some = (greatest.attained.0, greatest.attained.1);
     no_column = λ none. absurd (omega (arith, none));
@@ -268,7 +279,14 @@ module _ (problem : ProblemModel) (A B : List ℕ → Type 0) (to : (widths : Li
             areas = held.1.areas;
             end = held.1.end;
             least = zip-same problem.cells held.1.areas held.1.least;
-            greatest = record { attained = (held.1.greatest.attained.0, to held.1.greatest.attained.0 held.1.greatest.attained.1, held.1.greatest.attained.2); never_more = λ widths among. held.1.greatest.never_more widths (from widths among) };
+            greatest = record {
+              attained = (
+                held.1.greatest.attained.0,
+                to held.1.greatest.attained.0 held.1.greatest.attained.1,
+                held.1.greatest.attained.2,
+              );
+              never_more = λ widths among. held.1.greatest.never_more widths (from widths among);
+            };
             rounded = held.1.rounded;
           },
           held.2,

@@ -65,17 +65,17 @@ module _ (problem : ProblemModel) (sound : IsSound problem) (Among : List ℕ �
       let whole = sound.cells k d within in
       let found = height-from_low cell.low (cell_height problem heights cell) (cell_width problem widths cell) (layout.enough.cells k d within) in
       let here : IsBetweenRooms problem Among cell (cell_width problem widths cell) =
-          record { no_more = (widths, among, omega arith); no_less = (widths, among, omega arith) } in
+      record { no_more = (widths, among, omega arith); no_less = (widths, among, omega arith) } in
       let never = least.never_less (cell_width problem widths cell) found.0 here found.1 in
       let across = late x_at x_rising cell.left cell.right problem.cols (omega (arith, whole.columns.0)) whole.columns.1 in
       let down = late y_at y_rising cell.top cell.bottom problem.rows (omega (arith, whole.rows.0)) whole.rows.1 in
       let wide = room-position (gap_of problem.style) widths cell.left cell.right whole.columns.0 in
       let high = room-position (row_gap_of problem.style) heights cell.top cell.bottom whole.rows.0 in
       let columns : amount x_at x_rising cell.left cell.right problem.cols ≡ cell_width problem widths cell + gap_of problem.style =
-          omega (arith, across, wide) in
+      omega (arith, across, wide) in
       let rows : found.0 + row_gap_of problem.style ≤ amount y_at y_rising cell.top cell.bottom problem.rows = omega (arith, down, high, found.2) in
       let more = times_more (cell_width problem widths cell + gap_of problem.style) (found.0 + row_gap_of problem.style)
-          (amount y_at y_rising cell.top cell.bottom problem.rows) rows in
+      (amount y_at y_rising cell.top cell.bottom problem.rows) rows in
       let turned = ap (λ a. a * amount y_at y_rising cell.top cell.bottom problem.rows) columns in
       omega (arith, never, more, turned) where
         times_more : (a b c : ℕ) → b ≤ c → a * b ≤ a * c
@@ -94,7 +94,7 @@ module _ (problem : ProblemModel) (sound : IsSound problem) (Among : List ℕ �
             let rows : 0 < length heights = omega (arith, layout.enough.rows, cell.rows.0, cell.rows.1) in
             let each = zip-sum (IsLeastArea problem Among) taken problem.cells hold.areas hold.least (λ k d within n least. least-taken k d within n least) in
             let within = areas-within (λ c. c.left) (λ c. c.right) (λ c. c.top) (λ c. c.bottom) x_at y_at x_rising y_rising (omega arith)
-                (omega arith) problem.cells problem.cols problem.rows sound.apart in
+            (omega arith) problem.cells problem.cols problem.rows sound.apart in
             let end = hold.greatest.never_more widths among in
             let more = turned_more (x_at problem.cols) hold.end (y_at problem.rows) end in
             let lines = hold.rounded.least (y_at problem.rows) (omega (arith, each, within, more)) in

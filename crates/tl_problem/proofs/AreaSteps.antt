@@ -1,5 +1,6 @@
 -- The least area of a cell is at its least room, or where a step begins.
-use Rattle.std.proofs.Common.{◌≡◌, ℕ, ◌+◌, ◌<◌, ◌≤◌, zero, suc, min, Bool, true, false, cond, nat_le, List, [], ◌∷◌, ◌⊎◌, inl, inr, length, get_or, filter, Option, Some, None, refl, sym, ap, ◌∙◌, arith}
+use Rattle.std.proofs.Common.{◌≡◌, ℕ, ◌+◌, ◌<◌, ◌≤◌, zero, suc, min, Bool, true, false, cond, nat_le, List, [], ◌∷◌, ◌⊎◌, inl, inr, length, get_or}
+use Rattle.std.proofs.Common.{filter, Option, Some, None, refl, sym, ap, ◌∙◌, arith}
 use Rattle.std.specs.List.{AllPairs, last_or}
 use Rattle.std.specs.Option.{option_map}
 use Rattle.std.proofs.lemmas.Bool.{cases_eq, cases_lt}
@@ -27,13 +28,16 @@ tail step steps falling i j d before within = falling (suc i) (suc j) d (omega a
 
 -- steps wider than a width are none that begin up to it
 wider-none : (w : ℕ) (step : Config) (steps : List Config) → AllPairs Falls (step ∷ steps) → w ≤ step.width → filter (λ s. nat_le s.width w) steps ≡ []
-wider-none w step steps falling wide = filter-none (λ s. nat_le s.width w) steps (λ k d within. let more = falling 0 (suc k) d (omega arith) (omega arith) in test_le_false (get_or steps k d).width w (omega (arith, more.0)))
+wider-none w step steps falling wide = filter-none (λ s. nat_le s.width w) steps
+    (λ k d within. let more = falling 0 (suc k) d (omega arith) (omega arith) in test_le_false (get_or steps k d).width w (omega (arith, more.0)))
 
 -- the last of those that pass is the first or one of them
-last-from : (p : Config → Bool) (x : Config) (steps : List Config) (s : Config) → last_or (Some x) (filter p steps) ≡ Some s → (x ≡ s) ⊎ ((k : ℕ) × ((k < length steps) × ((step_at steps k ≡ s) × (p s ≡ true))))
+last-from : (p : Config → Bool) (x : Config) (steps : List Config) (s : Config) → last_or (Some x) (filter p steps) ≡ Some s →
+    (x ≡ s) ⊎ ((k : ℕ) × ((k < length steps) × ((step_at steps k ≡ s) × (p s ≡ true))))
 last-from p x [] s is = let e : x ≡ s = cc in inl e
 last-from p x (step ∷ steps) s is =
-    (elim (p step) as (λ b. p step ≡ b → last_or (Some x) (cond b (step ∷ filter p steps) (filter p steps)) ≡ Some s → (x ≡ s) ⊎ ((k : ℕ) × ((k < length (step ∷ steps)) × ((step_at (step ∷ steps) k ≡ s) × (p s ≡ true))))) [
+    (elim (p step) as (λ b. p step ≡ b → last_or (Some x) (cond b (step ∷ filter p steps) (filter p steps)) ≡ Some s →
+    (x ≡ s) ⊎ ((k : ℕ) × ((k < length (step ∷ steps)) × ((step_at (step ∷ steps) k ≡ s) × (p s ≡ true))))) [
       | true ↦ λ passes here. elim (last-from p step steps s here) [
         | inl same ↦ inr (0, (omega arith, (same, ap p (sym same) ∙ passes)))
         | inr later ↦ inr (suc later.0, (omega (arith, later.1.0), later.1.1))
@@ -45,7 +49,8 @@ last-from p x (step ∷ steps) s is =
     ]) refl is
 
 -- where a step begins, its height is the height
-at-step : (o : Option Config) (steps : List Config) → AllPairs Falls steps → (k : ℕ) → k < length steps → last_or o (filter (λ s. nat_le s.width (step_at steps k).width) steps) ≡ Some (step_at steps k)
+at-step : (o : Option Config) (steps : List Config) → AllPairs Falls steps → (k : ℕ) → k < length steps →
+    last_or o (filter (λ s. nat_le s.width (step_at steps k).width) steps) ≡ Some (step_at steps k)
 at-step o [] falling k within = absurd (omega arith)
 at-step o (step ∷ steps) falling zero within =
     let keep = test_le step.width step.width (omega arith) in
@@ -55,19 +60,24 @@ at-step o (step ∷ steps) falling (suc k) within =
     let keep = test_le step.width (step_at steps k).width (omega (arith, wide.0)) in
     rw keep (at-step (Some step) steps (tail step steps falling) k (omega arith))
 
-pub height-at-step : (steps : List Config) → AreSteps steps → (k : ℕ) → k < length steps → height_at steps (step_at steps k).width ≡ Some (step_at steps k).height
+pub height-at-step : (steps : List Config) → AreSteps steps → (k : ℕ) → k < length steps →
+    height_at steps (step_at steps k).width ≡ Some (step_at steps k).height
 height-at-step steps are k within = ap (option_map (λ s. s.height)) (at-step None steps are.falling k within)
 
 -- what is so of a step is so with one step before it
 shift : (o : Option Config) (step : Config) (steps : List Config) (low w : ℕ) (s : Config) →
-    (last_or o (filter (λ x. nat_le x.width low) steps) ≡ Some s) ⊎ ((k : ℕ) × ((k < length steps) × ((step_at steps k ≡ s) × ((low < s.width) × (s.width ≤ w))))) →
-    (last_or o (filter (λ x. nat_le x.width low) steps) ≡ Some s) ⊎ ((k : ℕ) × ((k < length (step ∷ steps)) × ((step_at (step ∷ steps) k ≡ s) × ((low < s.width) × (s.width ≤ w)))))
+    (last_or o (filter (λ x. nat_le x.width low) steps) ≡ Some s) ⊎
+    ((k : ℕ) × ((k < length steps) × ((step_at steps k ≡ s) × ((low < s.width) × (s.width ≤ w))))) →
+    (last_or o (filter (λ x. nat_le x.width low) steps) ≡ Some s) ⊎
+    ((k : ℕ) × ((k < length (step ∷ steps)) × ((step_at (step ∷ steps) k ≡ s) × ((low < s.width) × (s.width ≤ w)))))
 shift o step steps low w s (inl same) = inl same
 shift o step steps low w s (inr later) = inr (suc later.0, (omega (arith, later.1.0), later.1.1))
 
 -- a height past a width is that at the width, or that of a step between
-between : (o : Option Config) (steps : List Config) → AllPairs Falls steps → (low w : ℕ) → low ≤ w → (s : Config) → last_or o (filter (λ x. nat_le x.width w) steps) ≡ Some s →
-    (last_or o (filter (λ x. nat_le x.width low) steps) ≡ Some s) ⊎ ((k : ℕ) × ((k < length steps) × ((step_at steps k ≡ s) × ((low < s.width) × (s.width ≤ w)))))
+between : (o : Option Config) (steps : List Config) → AllPairs Falls steps → (low w : ℕ) → low ≤ w → (s : Config) →
+    last_or o (filter (λ x. nat_le x.width w) steps) ≡ Some s →
+    (last_or o (filter (λ x. nat_le x.width low) steps) ≡ Some s) ⊎
+    ((k : ℕ) × ((k < length steps) × ((step_at steps k ≡ s) × ((low < s.width) × (s.width ≤ w)))))
 between o [] falling low w more s is = inl is
 between o (step ∷ steps) falling low w more s is =
     elim (cases_lt low step.width) [
@@ -88,16 +98,24 @@ between o (step ∷ steps) falling low w more s is =
                   | inl same ↦ inr (0, (omega arith, (same, (omega (arith, ap (λ x. x.width) same), omega (arith, ap (λ x. x.width) same)))))
                   | inr later ↦
                       let wide = falling 0 (suc later.0) (record { width = 0; height = 0 }) (omega arith) (omega (arith, later.1.0)) in
-                      inr (suc later.0, (omega (arith, later.1.0), (later.1.1.0, (omega (arith, wide.0, ap (λ x. x.width) later.1.1.0), le_test s.width w later.1.1.1))))
+                      inr (
+                        suc later.0,
+                        (
+                          omega (arith, later.1.0),
+                          (later.1.1.0, (omega (arith, wide.0, ap (λ x. x.width) later.1.1.0), le_test s.width w later.1.1.1)),
+                        ),
+                      )
                 ]
           ]
     ]
 
 pub height-between : (steps : List Config) → AreSteps steps → (low w h : ℕ) → low ≤ w → height_at steps w ≡ Some h →
-    (height_at steps low ≡ Some h) ⊎ ((k : ℕ) × ((k < length steps) × ((low < (step_at steps k).width) × (((step_at steps k).width ≤ w) × ((step_at steps k).height ≡ h)))))
+    (height_at steps low ≡ Some h) ⊎
+    ((k : ℕ) × ((k < length steps) × ((low < (step_at steps k).width) × (((step_at steps k).width ≤ w) × ((step_at steps k).height ≡ h)))))
 height-between steps are low w h more is = at (last_or None (filter (λ x. nat_le x.width w) steps)) refl is where
   at : (o : Option Config) → last_or None (filter (λ x. nat_le x.width w) steps) ≡ o → option_map (λ x. x.height) o ≡ Some h →
-      (height_at steps low ≡ Some h) ⊎ ((k : ℕ) × ((k < length steps) × ((low < (step_at steps k).width) × (((step_at steps k).width ≤ w) × ((step_at steps k).height ≡ h)))))
+      (height_at steps low ≡ Some h) ⊎
+      ((k : ℕ) × ((k < length steps) × ((low < (step_at steps k).width) × (((step_at steps k).width ≤ w) × ((step_at steps k).height ≡ h)))))
   at None same none = cc
   at (Some s) same some =
       let e : s.height ≡ h = cc in
@@ -131,7 +149,8 @@ module _ (gap row_gap : ℕ) (steps : List Config) (low high start : ℕ) where
       ];
     }
 
-    pub IsLeastStep-more : low < here.width → here.width ≤ high → IsLeastStep gap row_gap steps (upto + 1) low high start (min least (area_with gap row_gap here.width here.height))
+    pub IsLeastStep-more : low < here.width → here.width ≤ high →
+        IsLeastStep gap row_gap steps (upto + 1) low high start (min least (area_with gap row_gap here.width here.height))
     IsLeastStep-more past within = record {
       below_start = omega (arith, h.below_start);
       below_steps = λ k below later inside. elim (cases_eq k upto) [

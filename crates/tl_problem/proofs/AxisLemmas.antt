@@ -10,25 +10,29 @@ use Rattle.tl_problem.specs.declared.cell.Cell.{Cell}
 use Rattle.tl_problem.specs.inner.Axes.{start_of, turn, turns_from, IsOrder}
 use Rattle.tl_problem.specs.inner.Demands.{cell_at}
 
-turns_from-push : (axis : Axis) (n : ℕ) (cells : List Cell) (cell : Cell) → turns_from axis n (cells ++ cell ∷ []) ≡ turns_from axis n cells ++ turn (start_of axis cell) (n + length cells) ∷ []
+turns_from-push : (axis : Axis) (n : ℕ) (cells : List Cell) (cell : Cell) →
+    turns_from axis n (cells ++ cell ∷ []) ≡ turns_from axis n cells ++ turn (start_of axis cell) (n + length cells) ∷ []
 turns_from-push axis n [] cell = ap (λ k. turn (start_of axis cell) k ∷ []) (omega arith)
 turns_from-push axis n (first ∷ cells) cell =
     let rest = turns_from-push axis (n + 1) cells cell in
     let same : n + 1 + length cells ≡ n + length (first ∷ cells) = omega arith in
-    ap (λ ts. turn (start_of axis first) n ∷ ts) (subst (λ k. turns_from axis (n + 1) (cells ++ cell ∷ []) ≡ turns_from axis (n + 1) cells ++ turn (start_of axis cell) k ∷ []) same rest)
+    ap (λ ts. turn (start_of axis first) n ∷ ts)
+    (subst (λ k. turns_from axis (n + 1) (cells ++ cell ∷ []) ≡ turns_from axis (n + 1) cells ++ turn (start_of axis cell) k ∷ []) same rest)
 
 pub turns_from-more : (axis : Axis) (cells : List Cell) (k : ℕ) (d : Cell) → k < length cells →
     turns_from axis 0 (take (k + 1) cells) ≡ turns_from axis 0 (take k cells) ++ turn (start_of axis (get_or cells k d)) k ∷ []
 turns_from-more axis cells k d within =
     let more = take_more cells k d within in
     let pushed = turns_from-push axis 0 (take k cells) (get_or cells k d) in
-    ap (turns_from axis 0) more ∙ pushed ∙ ap (λ j. turns_from axis 0 (take k cells) ++ turn (start_of axis (get_or cells k d)) j ∷ []) (seen cells k within) where
+    ap (turns_from axis 0) more ∙ pushed ∙ ap (λ j. turns_from axis 0 (take k cells) ++ turn (start_of axis (get_or cells k d)) j ∷ [])
+    (seen cells k within) where
       seen : (cells : List Cell) (k : ℕ) → k < length cells → 0 + length (take k cells) ≡ k
       seen [] k within = absurd (omega arith)
       seen (cell ∷ cells) zero within = refl
       seen (cell ∷ cells) (suc k) within = omega (arith, seen cells k (omega arith))
 
-turns_from-at : (axis : Axis) (n : ℕ) (cells : List Cell) (k : ℕ) (d : Turn) → k < length cells → get_or (turns_from axis n cells) k d ≡ turn (start_of axis (cell_at cells k)) (n + k)
+turns_from-at : (axis : Axis) (n : ℕ) (cells : List Cell) (k : ℕ) (d : Turn) → k < length cells →
+    get_or (turns_from axis n cells) k d ≡ turn (start_of axis (cell_at cells k)) (n + k)
 turns_from-at axis n [] k d within = absurd (omega arith)
 turns_from-at axis n (cell ∷ cells) zero d within = ap (turn (start_of axis cell)) (omega arith)
 turns_from-at axis n (cell ∷ cells) (suc k) d within =
@@ -57,8 +61,11 @@ module _ (axis : Axis) (cells : List Cell) (order : List Turn) (is : IsOrder axi
   -- each cell has its turn
   pub order-all : (k : ℕ) → k < length cells → Contains order (turn (start_of axis (cell_at cells k)) k)
   order-all k within =
-      Contains-permutation (turns_from axis 0 cells) order (turn (start_of axis (cell_at cells k)) k) is.same
-      (k, omega (arith, turns_from-length axis 0 cells), (let number : 0 + k ≡ k = omega arith in rw number at (turns_from-at axis 0 cells k (turn (start_of axis (cell_at cells k)) k) within)))
+      Contains-permutation (turns_from axis 0 cells) order (turn (start_of axis (cell_at cells k)) k) is.same (
+        k,
+        omega (arith, turns_from-length axis 0 cells),
+        (let number : 0 + k ≡ k = omega arith in rw number at (turns_from-at axis 0 cells k (turn (start_of axis (cell_at cells k)) k) within)),
+      )
 
   -- what is given for each cell sums up alike
   pub order-sum : (ns : List ℕ) → length ns ≡ length cells → sum_by (λ t. get_or ns t.cell 0) order ≡ sum ns

@@ -63,8 +63,11 @@ module _ (zone : List Range) (most need : ℕ) (some : 5 ≤ most) (is : height_
   first_room = record { attained = ((most - 4) ∷ 2 ∷ [], fill (most - 4) 2 (omega arith) (omega arith) (omega arith), omega arith); never_more = first_at_most }
 
   second_room : IsGreatestRoom problem (InZone problem zone) 1 2 (most - 3)
-  second_room = record { attained = (1 ∷ (most - 3) ∷ [], fill 1 (most - 3) (omega arith) (omega arith) (omega arith), omega arith); never_more =
-      second_at_most }
+  second_room = record {
+    attained = (1 ∷ (most - 3) ∷ [], fill 1 (most - 3) (omega arith) (omega arith) (omega arith), omega arith);
+    never_more =
+        second_at_most;
+  }
 
   -- the wide cell as high as it needs, and one line below it
   pub bound : IsBound problem (InZone problem zone) (need + 1)
@@ -84,7 +87,7 @@ module _ (zone : List Range) (most need : ℕ) (some : 5 ≤ most) (is : height_
     tall w greatest =
         let more = greatest.never_more (1 ∷ (most - 3) ∷ []) (fill 1 (most - 3) (omega arith) (omega arith) (omega arith)) in
         IsLowAt-wider wide.low falling (cell_height problem (need ∷ 1 ∷ []) wide) most w (omega (arith, more))
-            (subst (λ o. IsSomeAnd o (λ height. height ≤ cell_height problem (need ∷ 1 ∷ []) wide)) (sym is) (omega arith))
+        (subst (λ o. IsSomeAnd o (λ height. height ≤ cell_height problem (need ∷ 1 ∷ []) wide)) (sym is) (omega arith))
 
     short_first : Given (cell 0 1 1 2 (step 1 1 ∷ []))
     short_first w greatest =
@@ -135,8 +138,10 @@ in_narrow : (first second : ℕ) → 1 ≤ first → 2 ≤ second → first + se
 unfolding spans_of classes_of
 in_narrow first second some more page = record {
   page = within first second some more (omega arith);
-  ranges = ranges-from (lower_part (whole_zone problem) 1 0) (first ∷ second ∷ []) (omega arith, omega arith) (omega arith,
-      omega arith) (omega arith, omega arith) refl;
+  ranges = ranges-from (lower_part (whole_zone problem) 1 0) (first ∷ second ∷ []) (omega arith, omega arith) (
+    omega arith,
+    omega arith,
+  ) (omega arith, omega arith) refl;
 }
 
 narrow_at_most : (widths : List ℕ) → InZone problem (lower_part (whole_zone problem) 1 0) widths → room 2 widths 0 2 ≤ 6

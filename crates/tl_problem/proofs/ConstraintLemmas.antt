@@ -1,5 +1,6 @@
 -- Constraints of the page and of a zone's ranges, one after another, and the sets of widths that they leave.
-use Rattle.std.proofs.Common.{◌≡◌, ℕ, ◌+◌, ◌-◌, ◌*◌, ◌<◌, ◌≤◌, ℤ, pos, ◌≤ℤ◌, Bool, true, false, IsTrue, List, [], ◌∷◌, inl, inr, length, get_or, Option, Some, None, MatchOption, refl, sym, ap, ◌∙◌, arith}
+use Rattle.std.proofs.Common.{◌≡◌, ℕ, ◌+◌, ◌-◌, ◌*◌, ◌<◌, ◌≤◌, ℤ, pos, ◌≤ℤ◌, Bool, true, false, IsTrue, List, [], ◌∷◌, inl, inr, length, get_or}
+use Rattle.std.proofs.Common.{Option, Some, None, MatchOption, refl, sym, ap, ◌∙◌, arith}
 use Rattle.std.proofs.lemmas.Int.{ints}
 use Rattle.std.proofs.lemmas.Bool.{cases_eq, cases_lt}
 use Rattle.std.proofs.lemmas.List.{get_or_past}
@@ -50,11 +51,13 @@ position-start gap widths = omega arith
 
 -- ---- the page
 
-pub page-satisfiable : (problem : ProblemModel) (columns cells : ℕ) (matrix : MarkedBounds) → PageUpto problem columns cells matrix → IsSatisfiable matrix.bounds
+pub page-satisfiable : (problem : ProblemModel) (columns cells : ℕ) (matrix : MarkedBounds) → PageUpto problem columns cells matrix →
+    IsSatisfiable matrix.bounds
 page-satisfiable problem columns cells matrix h = let fits = h.sound.fits in (places problem fits.0, (h.whole fits.0 fits.1).satisfies)
 
 module _ (problem : ProblemModel) (k : ℕ) (old new : MarkedBounds) where
-  pub PageUpto-gap : k < problem.cols → PageUpto problem k 0 old → AddsFact old new (λ x. AreApart x k (k + 1) (gap_of problem.style)) → PageUpto problem (k + 1) 0 new
+  pub PageUpto-gap : k < problem.cols → PageUpto problem k 0 old → AddsFact old new (λ x. AreApart x k (k + 1) (gap_of problem.style)) →
+      PageUpto problem (k + 1) 0 new
   PageUpto-gap inside h adds = record {
     sound = h.sound;
     variables = adds.variables ∙ h.variables;
@@ -72,7 +75,8 @@ module _ (problem : ProblemModel) (k : ℕ) (old new : MarkedBounds) where
   }
 
   pub PageUpto-room : k < length problem.cells → PageUpto problem problem.cols k old →
-      AddsFact old new (λ x. AreApart x (cell_at problem.cells k).left (cell_at problem.cells k).right (first_width (cell_at problem.cells k).low + gap_of problem.style)) → PageUpto problem problem.cols (k + 1) new
+      AddsFact old new (λ x. AreApart x (cell_at problem.cells k).left (cell_at problem.cells k).right
+      (first_width (cell_at problem.cells k).low + gap_of problem.style)) → PageUpto problem problem.cols (k + 1) new
   PageUpto-room inside h adds = record {
     sound = h.sound;
     variables = adds.variables ∙ h.variables;
@@ -83,7 +87,11 @@ module _ (problem : ProblemModel) (k : ℕ) (old new : MarkedBounds) where
         let cell = cell_at problem.cells k in
         let ahead = (h.sound.cells k no_cell inside).columns.0 in
         let step = room-position (gap_of problem.style) widths cell.left cell.right ahead in
-        record { columns = before.columns; satisfies = adds.all (places problem widths) before.satisfies (omega (arith, ints, step, page.cells k no_cell inside)) };
+        record {
+          columns = before.columns;
+          satisfies = adds.all (places problem widths) before.satisfies
+              (omega (arith, ints, step, page.cells k no_cell inside));
+        };
     gaps = λ x meets j below. h.gaps x (adds.keeps x meets) j below;
     rooms = λ x meets j below. elim (cases_eq j k) [
       | inl same ↦ rw same (adds.adds x meets)
@@ -93,7 +101,9 @@ module _ (problem : ProblemModel) (k : ℕ) (old new : MarkedBounds) where
 
 module _ (problem : ProblemModel) (old new : MarkedBounds) (h : PageUpto problem problem.cols (length problem.cells) old)
     (adds : AddsFact old new (λ x. AreNear x 0 problem.cols (problem.width + gap_of problem.style - 2 * edge_of problem.style))) where
-  total-within : (widths : List ℕ) → length widths ≡ problem.cols → position (gap_of problem.style) widths problem.cols ≤ problem.width + gap_of problem.style - 2 * edge_of problem.style → total_width problem widths ≤ problem.width
+  total-within : (widths : List ℕ) → length widths ≡ problem.cols →
+      position (gap_of problem.style) widths problem.cols ≤ problem.width + gap_of problem.style - 2 * edge_of problem.style →
+      total_width problem widths ≤ problem.width
   total-within [] columns ends = omega arith
   total-within (w ∷ widths) columns ends =
       let whole = total-position (gap_of problem.style) (edge_of problem.style) (w ∷ widths) (omega arith) in
@@ -103,7 +113,8 @@ module _ (problem : ProblemModel) (old new : MarkedBounds) (h : PageUpto problem
       let some = gap-some problem.style in
       omega (arith, whole, at, one, first, some, ends)
 
-  ends-within : (widths : List ℕ) → WithinPage problem widths → position (gap_of problem.style) widths problem.cols ≤ problem.width + gap_of problem.style - 2 * edge_of problem.style
+  ends-within : (widths : List ℕ) → WithinPage problem widths →
+      position (gap_of problem.style) widths problem.cols ≤ problem.width + gap_of problem.style - 2 * edge_of problem.style
   ends-within widths page =
       elim (cases_lt 0 problem.cols) [
         | inr none ↦
@@ -142,7 +153,8 @@ module _ (problem : ProblemModel) (old new : MarkedBounds) (h : PageUpto problem
 
 -- ---- the ranges of a zone
 
-pub KeepsPage-adds : (problem : ProblemModel) (old new : Bounds) → new.n ≡ old.n → ((x : ℕ → ℤ) → Satisfies new x → Satisfies old x) → KeepsPage problem old → KeepsPage problem new
+pub KeepsPage-adds : (problem : ProblemModel) (old new : Bounds) → new.n ≡ old.n → ((x : ℕ → ℤ) → Satisfies new x → Satisfies old x) →
+    KeepsPage problem old → KeepsPage problem new
 KeepsPage-adds problem old new same keeps h = record {
   variables = same ∙ h.variables;
   gaps = λ x meets k below. h.gaps x (keeps x meets) k below;
@@ -178,7 +190,8 @@ module _ (problem : ProblemModel) (sound : IsSound problem) (zone : List Range) 
       omega (arith, ints, at, least, first)
 
   -- the last class ends with the page
-  pub last-kept : (bounds : Bounds) → KeepsPage problem bounds → (range_at zone s).last + 1 ≡ length (classes_at problem s) → (x : ℕ → ℤ) → Satisfies bounds x → HasLast problem zone s x
+  pub last-kept : (bounds : Bounds) → KeepsPage problem bounds → (range_at zone s).last + 1 ≡ length (classes_at problem s) → (x : ℕ → ℤ) →
+      Satisfies bounds x → HasLast problem zone s x
   last-kept bounds keeps all x meets =
       let widths = widths_of x (gap_of problem.style) problem.cols in
       let span = span-within problem sound s inside in
@@ -189,12 +202,14 @@ module _ (problem : ProblemModel) (sound : IsSound problem) (zone : List Range) 
       omega (arith, ints, at, most, last)
 
   -- widths have the range of a span where their places do
-  range-first : (widths : List ℕ) → HasFirst problem zone s (places problem widths) → first_in_class problem s (range_at zone s).first ≤ span_width problem widths s
+  range-first : (widths : List ℕ) → HasFirst problem zone s (places problem widths) →
+      first_in_class problem s (range_at zone s).first ≤ span_width problem widths s
   range-first widths has =
       let step = room-position (gap_of problem.style) widths left_of right_of (span-within problem sound s inside).0 in
       omega (arith, ints, step, has)
 
-  first-range : (widths : List ℕ) → first_in_class problem s (range_at zone s).first ≤ span_width problem widths s → HasFirst problem zone s (places problem widths)
+  first-range : (widths : List ℕ) → first_in_class problem s (range_at zone s).first ≤ span_width problem widths s →
+      HasFirst problem zone s (places problem widths)
   first-range widths has =
       let step = room-position (gap_of problem.style) widths left_of right_of (span-within problem sound s inside).0 in
       omega (arith, ints, step, has)
@@ -211,7 +226,8 @@ module _ (problem : ProblemModel) (sound : IsSound problem) (zone : List Range) 
 
   module _ (in_zone : s < length zone) (old mid : MarkedBounds) (h : AddsRanges problem zone s old mid (Unit {0})) where
     -- where the first class of the span leaves no widths
-    pub AddsRanges-first : (new : MarkedBounds) → AddsFact mid new (HasFirst problem zone s) → (Whole : Type 0) → (Whole → ⊥) → AddsRanges problem zone (length zone) old new Whole
+    pub AddsRanges-first : (new : MarkedBounds) → AddsFact mid new (HasFirst problem zone s) → (Whole : Type 0) → (Whole → ⊥) →
+        AddsRanges problem zone (length zone) old new Whole
     AddsRanges-first new first Whole none = record {
       variables = first.variables ∙ h.variables;
       marks = first.marks ∙ h.marks;
@@ -224,12 +240,14 @@ module _ (problem : ProblemModel) (sound : IsSound problem) (zone : List Range) 
     }
 
     module _ (half new : MarkedBounds) (first : AddsFact mid half (HasFirst problem zone s)) (last : AddsFact half new (HasLast problem zone s)) where
-      left-new : (widths : List ℕ) → IsLeft problem old.bounds widths → ((r : ℕ) → r < length zone → IsWidthOf problem zone r (span_width problem widths r)) → IsLeft problem new.bounds widths
+      left-new : (widths : List ℕ) → IsLeft problem old.bounds widths →
+          ((r : ℕ) → r < length zone → IsWidthOf problem zone r (span_width problem widths r)) → IsLeft problem new.bounds widths
       left-new widths left each =
           let before = h.from widths left each in
           record {
             columns = before.columns;
-            satisfies = last.all (places problem widths) (first.all (places problem widths) before.satisfies (first-range widths (each s in_zone).0)) (last-range widths (each s in_zone).1);
+            satisfies = last.all (places problem widths) (first.all (places problem widths) before.satisfies (first-range widths (each s in_zone).0))
+                (last-range widths (each s in_zone).1);
           }
 
       -- where its last class leaves none
@@ -253,7 +271,11 @@ module _ (problem : ProblemModel) (sound : IsSound problem) (zone : List Range) 
         to = λ whole widths left r below.
             let half_left = last.keeps (places problem widths) left.satisfies in
             elim (cases_eq r s) [
-              | inl same ↦ rw same (range-first widths (first.adds (places problem widths) half_left), range-last widths (last.adds (places problem widths) left.satisfies))
+              | inl same ↦ rw same (
+                range-first widths (first.adds (places problem widths) half_left),
+                range-last widths
+                    (last.adds (places problem widths) left.satisfies),
+              )
               | inr apart ↦ h.to tt widths (record { columns = left.columns; satisfies = first.keeps (places problem widths) half_left }) r (omega arith)
             ];
       }
@@ -281,14 +303,16 @@ module _ (problem : ProblemModel) (A B : List ℕ → Type 0) (to : (widths : Li
   give-same : (heights : List ℕ) → GiveLow problem A heights → GiveLow problem B heights
   give-same heights give = record {
     rows = give.rows;
-    cells = λ k d within w greatest. give.cells k d within w (greatest-same problem B A from to (get_or problem.cells k d).left (get_or problem.cells k d).right w greatest);
+    cells = λ k d within w greatest. give.cells k d within w (greatest-same problem B A from to (get_or problem.cells k d).left
+        (get_or problem.cells k d).right w greatest);
   }
 
 module _ (problem : ProblemModel) (A B : List ℕ → Type 0) (to : (widths : List ℕ) → A widths → B widths) (from : (widths : List ℕ) → B widths → A widths) where
   IsBound-same : (bound : ℕ) → IsBound problem A bound → IsBound problem B bound
   IsBound-same bound is = record {
     some = (is.some.0, to is.some.0 is.some.1);
-    least = IsLeastTotal-same (row_gap_of problem.style) (edge_of problem.style) (GiveLow problem A) (GiveLow problem B) bound (give-same problem A B to from) (give-same problem B A from to) is.least;
+    least = IsLeastTotal-same (row_gap_of problem.style) (edge_of problem.style) (GiveLow problem A) (GiveLow problem B) bound
+        (give-same problem A B to from) (give-same problem B A from to) is.least;
   }
 
   pub bound-same : (found : Option ℕ) → MatchOption found (HasNoWidths A) (IsBound problem A) → MatchOption found (HasNoWidths B) (IsBound problem B)
@@ -298,20 +322,23 @@ module _ (problem : ProblemModel) (A B : List ℕ → Type 0) (to : (widths : Li
 -- ---- a matrix is its parts
 
 pub same-matrix : (a b : MarkedBounds) → a.marks ≡ b.marks → a.bounds ≡ b.bounds → a.held ≡ b.held → a ≡ b
-same-matrix a b marks bounds held = made (λ m n h. record { marks = m; bounds = n; held = h }) a.marks b.marks a.bounds b.bounds a.held b.held marks bounds held where
-  made : {X Y Z W : Type 0} (make : X → Y → Z → W) (x x' : X) (y y' : Y) (z z' : Z) → x ≡ x' → y ≡ y' → z ≡ z' → make x y z ≡ make x' y' z'
-  made make x x' y y' z z' one two three = cc
+same-matrix a b marks bounds held = made (λ m n h. record { marks = m; bounds = n; held = h }) a.marks b.marks a.bounds b.bounds a.held b.held marks
+    bounds held where
+      made : {X Y Z W : Type 0} (make : X → Y → Z → W) (x x' : X) (y y' : Y) (z z' : Z) → x ≡ x' → y ≡ y' → z ≡ z' → make x y z ≡ make x' y' z'
+      made make x x' y y' z z' one two three = cc
 
 -- ---- rooms within a page are small, and there is a greatest
 
-pub room-small : (problem : ProblemModel) → IsSound problem → (widths : List ℕ) → WithinPage problem widths → (left right : ℕ) → left < right → right ≤ problem.cols → room (gap_of problem.style) widths left right ≤ 500
+pub room-small : (problem : ProblemModel) → IsSound problem → (widths : List ℕ) → WithinPage problem widths → (left right : ℕ) → left < right →
+    right ≤ problem.cols → room (gap_of problem.style) widths left right ≤ 500
 room-small problem sound widths page left right ahead within = omega (arith, room-in_page problem widths page left right ahead within, sound.narrow)
 
 pub gap-few : (style : Style) → gap_of style ≤ 2
 gap-few Plain = omega arith
 gap-few Frame = omega arith
 
-module _ (problem : ProblemModel) (sound : IsSound problem) (bounds : Bounds) (keeps : KeepsPage problem bounds) (left right : ℕ) (ahead : left < right) (within : right ≤ problem.cols) where
+module _ (problem : ProblemModel) (sound : IsSound problem) (bounds : Bounds) (keeps : KeepsPage problem bounds) (left right : ℕ)
+    (ahead : left < right) (within : right ≤ problem.cols) where
   pub greatest-small : (w : ℕ) → IsGreatestRoom problem (IsLeft problem bounds) left right w → w ≤ 500
   greatest-small w is =
       let small = room-small problem sound is.attained.0 (keeps.page is.attained.0 is.attained.1) left right ahead within in
@@ -337,7 +364,8 @@ module _ (problem : ProblemModel) (sound : IsSound problem) (bounds : Bounds) (k
       omega (arith, ints, more.1.1, at)
 
 -- a class begins within the page
-pub class-small : (problem : ProblemModel) → IsSound problem → (s class : ℕ) → s < length (spans_of problem) → class < length (classes_at problem s) → first_in_class problem s class ≤ 500
+pub class-small : (problem : ProblemModel) → IsSound problem → (s class : ℕ) → s < length (spans_of problem) → class < length (classes_at problem s) →
+    first_in_class problem s class ≤ 500
 class-small problem sound s class inside within =
     let page = sound.fits in
     let span = span-within problem sound s inside in
@@ -369,11 +397,13 @@ module _ (problem : ProblemModel) (zone : List Range) (marks : ℕ) (held : List
   }
 
   -- and all of the zone is left,
-  pub ranges-left : ((widths : List ℕ) → WithinPage problem widths → IsLeft problem base widths) → (widths : List ℕ) → InZone problem zone widths → IsLeft problem new.bounds widths
+  pub ranges-left : ((widths : List ℕ) → WithinPage problem widths → IsLeft problem base widths) → (widths : List ℕ) → InZone problem zone widths →
+      IsLeft problem new.bounds widths
   ranges-left page widths is = adds.from widths (page widths is.page) is.ranges
 
   -- so that where nothing is left the zone has no widths
-  pub ranges-none : whole ≡ false → ((widths : List ℕ) → WithinPage problem widths → IsLeft problem base widths) → (IsSatisfiable new.bounds → IsTrue whole) → HasNoWidths (InZone problem zone)
+  pub ranges-none : whole ≡ false → ((widths : List ℕ) → WithinPage problem widths → IsLeft problem base widths) →
+      (IsSatisfiable new.bounds → IsTrue whole) → HasNoWidths (InZone problem zone)
   ranges-none none page holds widths is =
       let yes = holds (places problem widths, (ranges-left page widths is).satisfies) in
       let both : true ≡ false = sym yes ∙ none in

@@ -1,6 +1,7 @@
 -- Heaviest paths over the cells give the least sizes that meet what the cells demand: such sizes are the rises between
 -- the weights of heaviest paths, and no sizes that meet all demands are behind a path.
-use Rattle.std.proofs.Common.{◌≡◌, ℕ, ◌+◌, ◌-◌, ◌*◌, ◌<◌, ◌≤◌, zero, suc, List, [], ◌∷◌, inl, inr, length, get_or, map, take, sum, refl, sym, ap, ◌∙◌, subst, arith}
+use Rattle.std.proofs.Common.{◌≡◌, ℕ, ◌+◌, ◌-◌, ◌*◌, ◌<◌, ◌≤◌, zero, suc, List, [], ◌∷◌, inl, inr, length, get_or, map, take, sum, refl, sym, ap, ◌∙◌}
+use Rattle.std.proofs.Common.{subst, arith}
 use Rattle.std.specs.List.{All, sum_by}
 use Rattle.std.proofs.lemmas.Bool.{cases_lt}
 use Rattle.std.proofs.lemmas.List.{length-append, take_all, take-append-le, length-map, get_or-map, get_or_default}
@@ -26,7 +27,8 @@ use Rattle.tl_problem.proofs.Rectangles.{amount, late, areas-within}
 use Rattle.tl_problem.proofs.AxisLemmas.{IsTurn, order-length, order-turns, order-all, order-sum}
 
 -- a sound cell begins before it ends, within the grid
-pub sound-axis : (problem : ProblemModel) (axis : Axis) (cell : Cell) → IsSoundCell problem cell → (start_of axis cell < end_of axis cell) × (end_of axis cell ≤ count_on axis problem)
+pub sound-axis : (problem : ProblemModel) (axis : Axis) (cell : Cell) → IsSoundCell problem cell →
+    (start_of axis cell < end_of axis cell) × (end_of axis cell ≤ count_on axis problem)
 sound-axis problem Columns cell is = is.columns
 sound-axis problem Rows cell is = is.rows
 
@@ -38,7 +40,8 @@ count-few problem Rows sound = sound.few_rows
 -- cells share no slot, so that there are no more of them than slots
 pub few-cells : (problem : ProblemModel) → IsSound problem → length problem.cells ≤ 120060
 few-cells problem sound =
-    let all = areas-within (λ (c : Cell). c.left) (λ (c : Cell). c.right) (λ (c : Cell). c.top) (λ (c : Cell). c.bottom) (λ n. n) (λ n. n) (λ n. omega arith) (λ n. omega arith) refl refl
+    let all = areas-within (λ (c : Cell). c.left) (λ (c : Cell). c.right) (λ (c : Cell). c.top) (λ (c : Cell). c.bottom) (λ n. n) (λ n. n)
+    (λ n. omega arith) (λ n. omega arith) refl refl
     problem.cells problem.cols problem.rows sound.apart in
     let each = count-le area problem.cells (λ k d within. one-at-least (get_or problem.cells k d) (sound.cells k d within)) in
     let product = mul-le-mul sound.few_columns sound.few_rows in
@@ -57,7 +60,8 @@ few-cells problem sound =
       one-at-least c is =
           let wide = late (λ n. n) (λ n. omega arith) c.left c.right problem.cols (omega (arith, is.columns.0)) is.columns.1 in
           let high = late (λ n. n) (λ n. omega arith) c.top c.bottom problem.rows (omega (arith, is.rows.0)) is.rows.1 in
-          positive (amount (λ n. n) (λ n. omega arith) c.left c.right problem.cols) (amount (λ n. n) (λ n. omega arith) c.top c.bottom problem.rows) (omega (arith, wide, is.columns.0)) (omega (arith, high, is.rows.0)) where
+          positive (amount (λ n. n) (λ n. omega arith) c.left c.right problem.cols) (amount (λ n. n) (λ n. omega arith) c.top c.bottom problem.rows)
+          (omega (arith, wide, is.columns.0)) (omega (arith, high, is.rows.0)) where
             positive : (a b : ℕ) → 1 ≤ a → 1 ≤ b → 1 ≤ a * b
             positive a b first second = let m = mul-le-mul first second in omega (arith, m)
 
@@ -94,7 +98,8 @@ sum_take-mono sizes from past more =
     omega (arith, rw whole at (take-between sizes from (past - from)))
 
 -- the room of a span, by the sums of the sizes before its ends
-pub room-sums : (gap : ℕ) (sizes : List ℕ) (from past : ℕ) → from < past → room gap sizes from past + sum (take from sizes) ≡ sum (take past sizes) + gap * (past - from - 1)
+pub room-sums : (gap : ℕ) (sizes : List ℕ) (from past : ℕ) → from < past →
+    room gap sizes from past + sum (take from sizes) ≡ sum (take past sizes) + gap * (past - from - 1)
 room-sums gap sizes from past ahead =
     let places = room-position gap sizes from past ahead in
     let gaps = gaps_between gap from (past - from - 1) in
@@ -129,7 +134,8 @@ module _ (problem : ProblemModel) (axis : Axis) (demands : List ℕ) (arcs : Lis
       ap (λ es. arc_at es i) are.are ∙ get_or-map arc_of are.order i (turn 0 0) (record { from = 0; to = 0; weight = 0 }) inside
 
   turns : (i : ℕ) → i < length arcs → IsTurn axis problem.cells (turn_at i)
-  turns i there = order-turns axis problem.cells are.order are.ordered i (turn 0 0) (omega (arith, arcs-length, order-length axis problem.cells are.order are.ordered))
+  turns i there = order-turns axis problem.cells are.order are.ordered i (turn 0 0)
+      (omega (arith, arcs-length, order-length axis problem.cells are.order are.ordered))
 
   -- the arc with a number is that of some cell
   pub arcs-cell : (i : ℕ) → i < length arcs → (k : ℕ) × ((k < length problem.cells) × (arc_at arcs i ≡ arc_for problem axis demands k))
@@ -208,7 +214,8 @@ module _ (problem : ProblemModel) (axis : Axis) (demands ends : List ℕ) (h : H
             absurd (omega (arith, forward i path.0, path-ahead (count_on axis problem) h.arcs forward (arc_at h.arcs i).to is 0 path.2))
 
   pub ends-rise : (k : ℕ) → k < count_on axis problem → end_at k ≤ end_at (k + 1)
-  ends-rise k below = IsHeaviest-further h.arcs k (k + 1) (end_at k) (end_at (k + 1)) (h.heaviest k (omega arith)) (h.heaviest (k + 1) (omega arith)) (omega arith)
+  ends-rise k below = IsHeaviest-further h.arcs k (k + 1) (end_at k) (end_at (k + 1)) (h.heaviest k (omega arith)) (h.heaviest (k + 1) (omega arith))
+      (omega arith)
 
   pub sizes-sum : (k : ℕ) → k ≤ count_on axis problem → sum (take k sizes) ≡ end_at k
   sizes-sum k up = omega (arith, rises-sum end_at (count_on axis problem) ends-rise k up, ends-start)

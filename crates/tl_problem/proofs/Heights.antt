@@ -64,7 +64,7 @@ wider_low h w v more o [] falling no_higher low = low
 wider_low h w v more o (step ∷ steps) falling no_higher low =
     let later = tail_pairs (λ a b. (a.width < b.width) × (b.height < a.height)) step steps falling in
     let lower : All (NoHigher (Some step)) steps = λ k d within. λ bound here. let fall =
-        head_pairs (λ a b. (a.width < b.width) × (b.height < a.height)) step steps falling k d within in omega (arith, fall.1, here) in
+    head_pairs (λ a b. (a.width < b.width) × (b.height < a.height)) step steps falling k d within in omega (arith, fall.1, here) in
     let rest : All (NoHigher o) steps = λ k d within. no_higher (suc k) d (omega arith) in
     elim (cases_lt w step.width) [
       | inr narrow ↦
@@ -79,7 +79,7 @@ wider_low h w v more o (step ∷ steps) falling no_higher low =
             | inr enough ↦
                 let second = test_le step.width v enough in
                 rw second (wider_low h w v more (Some step) steps later lower
-                    (last-low h o (Some step) (filter (λ s. nat_le s.width w) steps) (λ here. no_higher 0 step (omega arith) h here) below))
+                (last-low h o (Some step) (filter (λ s. nat_le s.width w) steps) (λ here. no_higher 0 step (omega arith) h here) below))
           ]
     ]
 
@@ -111,7 +111,7 @@ same_filter p q (x ∷ xs) agree =
 pub height-same : (steps : List Config) (w v : ℕ) → w ≤ v → All (λ step. w < step.width → step.width ≤ v → ⊥) steps → height_at steps w ≡ height_at steps v
 height-same steps w v more none =
     ap (λ narrow. option_map (λ step. step.height) (last_or None narrow))
-        (same_filter (λ step. nat_le step.width w) (λ step. nat_le step.width v) steps agree) where
+    (same_filter (λ step. nat_le step.width w) (λ step. nat_le step.width v) steps agree) where
       agree : All (λ step. nat_le step.width w ≡ nat_le step.width v) steps
       agree k d within =
           let at = get_or steps k d in

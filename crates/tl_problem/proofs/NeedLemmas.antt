@@ -1,6 +1,7 @@
 -- What the cells need, by number, says what layouts, bounds and tight placements ask for: sizes give the one where they
 -- give the other.
-use Rattle.std.proofs.Common.{◌≡◌, ℕ, ◌+◌, ◌-◌, ◌*◌, ◌<◌, ◌≤◌, zero, suc, Bool, true, false, cond, nat_le, IsSome, IsNone, ◌↔◌, List, [], ◌∷◌, ◌++◌, length, get_or, set, drop, filter, sum, Option, Some, None, refl, sym, ap, ◌∙◌, subst, inl, inr, arith}
+use Rattle.std.proofs.Common.{◌≡◌, ℕ, ◌+◌, ◌-◌, ◌*◌, ◌<◌, ◌≤◌, zero, suc, Bool, true, false, cond, nat_le, IsSome, IsNone, ◌↔◌, List, [], ◌∷◌, ◌++◌}
+use Rattle.std.proofs.Common.{length, get_or, set, drop, filter, sum, Option, Some, None, refl, sym, ap, ◌∙◌, subst, inl, inr, arith}
 use Rattle.std.specs.List.{All, AllPairs, last_or, sum_by, slice_range}
 use Rattle.std.specs.Option.{option_map, IfSome}
 use Rattle.std.proofs.lemmas.Bool.{cases_eq, cases_lt}
@@ -63,17 +64,20 @@ low-first (step ∷ steps) are h w low =
     ] where
       all : w < step.width → All (λ s. nat_le s.width w ≡ false) (step ∷ steps)
       all narrow zero d within = test_le_false step.width w narrow
-      all narrow (suc k) d within = let wider = are.falling 0 (suc k) d (omega arith) within in test_le_false (get_or steps k d).width w (omega (arith, wider.0, narrow))
+      all narrow (suc k) d within = let wider = are.falling 0 (suc k) d (omega arith) within in test_le_false (get_or steps k d).width w
+          (omega (arith, wider.0, narrow))
 
 -- ---- least sizes of kinds that hold each other
 
-pub AreLeast-same : (gap : ℕ) (A B : List ℕ → Type 0) (sizes : List ℕ) → ((xs : List ℕ) → A xs → B xs) → ((xs : List ℕ) → B xs → A xs) → AreLeast gap A sizes → AreLeast gap B sizes
+pub AreLeast-same : (gap : ℕ) (A B : List ℕ → Type 0) (sizes : List ℕ) → ((xs : List ℕ) → A xs → B xs) → ((xs : List ℕ) → B xs → A xs) →
+    AreLeast gap A sizes → AreLeast gap B sizes
 AreLeast-same gap A B sizes to from least = record {
   kind = to sizes least.kind;
   earliest = λ other kind place within. least.earliest other (from other kind) place within;
 }
 
-pub IsLeastTotal-same : (gap edge : ℕ) (A B : List ℕ → Type 0) (least : ℕ) → ((xs : List ℕ) → A xs → B xs) → ((xs : List ℕ) → B xs → A xs) → IsLeastTotal gap edge A least → IsLeastTotal gap edge B least
+pub IsLeastTotal-same : (gap edge : ℕ) (A B : List ℕ → Type 0) (least : ℕ) → ((xs : List ℕ) → A xs → B xs) → ((xs : List ℕ) → B xs → A xs) →
+    IsLeastTotal gap edge A least → IsLeastTotal gap edge B least
 IsLeastTotal-same gap edge A B least to from is = record {
   attained = (is.attained.0, to is.attained.0 is.attained.1, is.attained.2);
   never_less = λ sizes kind. is.never_less sizes (from sizes kind);
@@ -85,7 +89,8 @@ module _ (problem : ProblemModel) (sound : IsSound problem) where
 
   -- ---- heights
 
-  pub high-give : (widths demands heights : List ℕ) → NeedHigh problem widths demands → GiveDemands problem Rows demands heights → GiveHigh problem widths heights
+  pub high-give : (widths demands heights : List ℕ) → NeedHigh problem widths demands → GiveDemands problem Rows demands heights →
+      GiveHigh problem widths heights
   high-give widths demands heights need give = record {
     rows = give.count;
     cells = All-from_numbers (λ cell. IsLowAt cell.high (cell_height problem heights cell) (cell_width problem widths cell)) problem.cells (λ k within.
@@ -94,24 +99,34 @@ module _ (problem : ProblemModel) (sound : IsSound problem) where
         (IsLowAt-from cell.high (get_or demands k 0) (cell_width problem widths cell) (need.each k within)));
   }
 
-  pub give-high : (widths demands heights : List ℕ) → NeedHigh problem widths demands → GiveHigh problem widths heights → GiveDemands problem Rows demands heights
+  pub give-high : (widths demands heights : List ℕ) → NeedHigh problem widths demands → GiveHigh problem widths heights →
+      GiveDemands problem Rows demands heights
   give-high widths demands heights need give = record {
     count = give.rows;
     cells = λ k within.
         let cell = cell_at problem.cells k in
-        low-le cell.high (cell_width problem widths cell) (get_or demands k 0) (cell_height problem heights cell) (need.each k within) (give.cells k none within);
+        low-le cell.high (cell_width problem widths cell) (get_or demands k 0) (cell_height problem heights cell) (need.each k within)
+        (give.cells k none within);
   }
 
   module _ (Among : List ℕ → Type 0) (demands : List ℕ) (need : NeedLow problem Among demands) where
     pub low-give : (heights : List ℕ) → GiveDemands problem Rows demands heights → GiveLow problem Among heights
     low-give heights give = record {
       rows = give.count;
-      cells = All-from_numbers (λ cell. (w : ℕ) → IsGreatestRoom problem Among cell.left cell.right w → IsLowAt cell.low (cell_height problem heights cell) w) problem.cells (λ k within w greatest.
+      cells = All-from_numbers (λ cell. (w : ℕ) → IsGreatestRoom problem Among cell.left cell.right w →
+          IsLowAt cell.low (cell_height problem heights cell) w) problem.cells (λ k within w greatest.
           let cell = cell_at problem.cells k in
           let found = need.each k within in
-          let same : found.0 ≡ w = omega (arith, greatest.attained.2, greatest.never_more found.1.0.attained.0 found.1.0.attained.1, found.1.0.attained.2, found.1.0.never_more greatest.attained.0 greatest.attained.1) in
+          let same : found.0 ≡ w = omega (
+            arith,
+            greatest.attained.2,
+            greatest.never_more found.1.0.attained.0 found.1.0.attained.1,
+            found.1.0.attained.2,
+            found.1.0.never_more greatest.attained.0 greatest.attained.1,
+          ) in
           subst (IsLowAt cell.low (cell_height problem heights cell)) same
-          (IsLowAt-higher cell.low (get_or demands k 0) (cell_height problem heights cell) found.0 (give.cells k within) (IsLowAt-from cell.low (get_or demands k 0) found.0 found.1.1)));
+          (IsLowAt-higher cell.low (get_or demands k 0) (cell_height problem heights cell) found.0 (give.cells k within)
+          (IsLowAt-from cell.low (get_or demands k 0) found.0 found.1.1)));
     }
 
     pub give-low : (heights : List ℕ) → GiveLow problem Among heights → GiveDemands problem Rows demands heights
@@ -125,10 +140,12 @@ module _ (problem : ProblemModel) (sound : IsSound problem) where
 
   -- ---- widths
 
-  pub keep-give : (widths demands other : List ℕ) → NeedWidths problem widths demands → GiveDemands problem Columns demands other → KeepHigh problem widths other
+  pub keep-give : (widths demands other : List ℕ) → NeedWidths problem widths demands → GiveDemands problem Columns demands other →
+      KeepHigh problem widths other
   keep-give widths demands other need give = record {
     columns = give.count;
-    cells = All-from_numbers (λ cell. (h : ℕ) → height_at cell.high (cell_width problem widths cell) ≡ Some h → IsLowAt cell.high h (cell_width problem other cell)) problem.cells (λ k within h is.
+    cells = All-from_numbers (λ cell. (h : ℕ) → height_at cell.high (cell_width problem widths cell) ≡ Some h →
+        IsLowAt cell.high h (cell_width problem other cell)) problem.cells (λ k within h is.
         let cell = cell_at problem.cells k in
         let found = need.each k within in
         let same = same-height cell.high (cell_width problem widths cell) found.0 h found.1.0 is in
@@ -136,7 +153,8 @@ module _ (problem : ProblemModel) (sound : IsSound problem) where
         (IsLowAt-wider cell.high (sound-at k within).steps.1 found.0 (get_or demands k 0) (cell_width problem other cell) (give.cells k within) found.1.1.low));
   }
 
-  pub give-keep : (widths demands other : List ℕ) → NeedWidths problem widths demands → KeepHigh problem widths other → GiveDemands problem Columns demands other
+  pub give-keep : (widths demands other : List ℕ) → NeedWidths problem widths demands → KeepHigh problem widths other →
+      GiveDemands problem Columns demands other
   give-keep widths demands other need keep = record {
     count = keep.columns;
     cells = λ k within.
@@ -152,26 +170,32 @@ module _ (problem : ProblemModel) (sound : IsSound problem) where
   }
 
   -- the least widths that give each cell its least width are within the page
-  pub page-give : (demands widths : List ℕ) → NeedLeast problem demands → AreLeast (gap_of problem.style) (GiveDemands problem Columns demands) widths → WithinPage problem widths
+  pub page-give : (demands widths : List ℕ) → NeedLeast problem demands →
+      AreLeast (gap_of problem.style) (GiveDemands problem Columns demands) widths → WithinPage problem widths
   page-give demands widths need least =
       let fits = sound.fits in
-      let less = least-total (gap_of problem.style) (edge_of problem.style) (GiveDemands problem Columns demands) widths fits.0 least (give-page demands fits.0 need fits.1) (least.kind.count ∙ sym fits.1.columns) in
+      let less = least-total (gap_of problem.style) (edge_of problem.style) (GiveDemands problem Columns demands) widths fits.0 least
+      (give-page demands fits.0 need fits.1) (least.kind.count ∙ sym fits.1.columns) in
       record {
         columns = least.kind.count;
         page = omega (arith, less, fits.1.page);
-        cells = All-from_numbers (λ cell. first_width cell.low ≤ cell_width problem widths cell) problem.cells (λ k within. omega (arith, need.each k within, least.kind.cells k within));
+        cells = All-from_numbers (λ cell. first_width cell.low ≤ cell_width problem widths cell) problem.cells
+            (λ k within. omega (arith, need.each k within, least.kind.cells k within));
       }
 
-  pub page-least : (demands widths : List ℕ) → NeedLeast problem demands → AreLeast (gap_of problem.style) (GiveDemands problem Columns demands) widths → AreLeast (gap_of problem.style) (WithinPage problem) widths
+  pub page-least : (demands widths : List ℕ) → NeedLeast problem demands →
+      AreLeast (gap_of problem.style) (GiveDemands problem Columns demands) widths → AreLeast (gap_of problem.style) (WithinPage problem) widths
   page-least demands widths need least = record {
     kind = page-give demands widths need least;
     earliest = λ other page place within. least.earliest other (give-page demands other need page) place within;
   }
 
   -- and so are those of a tight placement
-  pub page-keep : (widths tight : List ℕ) → WithinPage problem widths → AreLeast (gap_of problem.style) (KeepHigh problem widths) tight → WithinPage problem tight
+  pub page-keep : (widths tight : List ℕ) → WithinPage problem widths → AreLeast (gap_of problem.style) (KeepHigh problem widths) tight →
+      WithinPage problem tight
   page-keep widths tight page least =
-      let less = least-total (gap_of problem.style) (edge_of problem.style) (KeepHigh problem widths) tight widths least (KeepHigh-itself problem widths page.columns) (least.kind.columns ∙ sym page.columns) in
+      let less = least-total (gap_of problem.style) (edge_of problem.style) (KeepHigh problem widths) tight widths least
+      (KeepHigh-itself problem widths page.columns) (least.kind.columns ∙ sym page.columns) in
       record {
         columns = least.kind.columns;
         page = omega (arith, less, page.page);
@@ -187,7 +211,8 @@ module _ (problem : ProblemModel) (sound : IsSound problem) where
 -- ---- demands are not large
 
 -- numbers that are each at most what their cell gives sum to at most what all give
-pub sum-le : (f : Cell → ℕ) (cells : List Cell) (ns : List ℕ) → length ns ≡ length cells → ((k : ℕ) → k < length cells → get_or ns k 0 ≤ f (cell_at cells k)) → sum ns ≤ sum_by f cells
+pub sum-le : (f : Cell → ℕ) (cells : List Cell) (ns : List ℕ) → length ns ≡ length cells →
+    ((k : ℕ) → k < length cells → get_or ns k 0 ≤ f (cell_at cells k)) → sum ns ≤ sum_by f cells
 sum-le f [] [] same each = omega arith
 sum-le f [] (n ∷ ns) same each = absurd (omega arith)
 sum-le f (c ∷ cells) [] same each = absurd (omega arith)
@@ -197,7 +222,8 @@ sum-le f (c ∷ cells) (n ∷ ns) same each =
     omega (arith, first, rest, sum_by-cons f c cells, sum_by-cons (λ x. x) n ns)
 
 -- no step is higher than the first
-last-le : (most : ℕ) (p : Config → Bool) (o : Option Config) (steps : List Config) → IfSome o (λ s. s.height ≤ most) → All (λ s. s.height ≤ most) steps → IfSome (last_or o (filter p steps)) (λ s. s.height ≤ most)
+last-le : (most : ℕ) (p : Config → Bool) (o : Option Config) (steps : List Config) → IfSome o (λ s. s.height ≤ most) →
+    All (λ s. s.height ≤ most) steps → IfSome (last_or o (filter p steps)) (λ s. s.height ≤ most)
 last-le most p o [] start all = start
 last-le most p o (step ∷ steps) start all =
     elim (p step) as (λ b. IfSome (last_or o (cond b (step ∷ filter p steps) (filter p steps))) (λ s. s.height ≤ most)) [
@@ -211,10 +237,11 @@ heights-le (step ∷ steps) are zero d within = omega arith
 heights-le (step ∷ steps) are (suc k) d within = let fall = are.falling 0 (suc k) d (omega arith) within in omega (arith, fall.1)
 
 pub height-le : (steps : List Config) → AreSteps steps → (w h : ℕ) → height_at steps w ≡ Some h → h ≤ greatest_height steps
-height-le steps are w h is = le (last_or None (filter (λ s. nat_le s.width w) steps)) (last-le (greatest_height steps) (λ s. nat_le s.width w) None steps tt (heights-le steps are)) is where
-  le : (o : Option Config) → IfSome o (λ s. s.height ≤ greatest_height steps) → option_map (λ s. s.height) o ≡ Some h → h ≤ greatest_height steps
-  le None small is = cc
-  le (Some s) small is = let e : s.height ≡ h = cc in omega (arith, small, e)
+height-le steps are w h is = le (last_or None (filter (λ s. nat_le s.width w) steps))
+    (last-le (greatest_height steps) (λ s. nat_le s.width w) None steps tt (heights-le steps are)) is where
+      le : (o : Option Config) → IfSome o (λ s. s.height ≤ greatest_height steps) → option_map (λ s. s.height) o ≡ Some h → h ≤ greatest_height steps
+      le None small is = cc
+      le (Some s) small is = let e : s.height ≡ h = cc in omega (arith, small, e)
 
 module _ (problem : ProblemModel) (sound : IsSound problem) where
   pub high-sum : (widths demands : List ℕ) → NeedHigh problem widths demands → sum demands ≤ 1073741824
@@ -224,7 +251,8 @@ module _ (problem : ProblemModel) (sound : IsSound problem) where
       height-le cell.high (sound.cells k none within).steps.1 (cell_width problem widths cell) (get_or demands k 0) (need.each k within)) in
       omega (arith, less, sound.low_enough)
 
-  pub low-sum : (Among : List ℕ → Type 0) (demands : List ℕ) → ((widths : List ℕ) → Among widths → WithinPage problem widths) → NeedLow problem Among demands → sum demands ≤ 1073741824
+  pub low-sum : (Among : List ℕ → Type 0) (demands : List ℕ) → ((widths : List ℕ) → Among widths → WithinPage problem widths) →
+      NeedLow problem Among demands → sum demands ≤ 1073741824
   low-sum Among demands page need =
       let less = sum-le (λ cell. greatest_height cell.high) problem.cells demands need.count (λ k within.
       let cell = cell_at problem.cells k in
@@ -248,11 +276,13 @@ sum-page problem sound widths page = omega (arith, sum-total (gap_of problem.sty
 -- the total of some sizes, by their sum
 pub total-sum : (gap edge : ℕ) (sizes : List ℕ) → 0 < length sizes → total gap edge sizes ≡ sum sizes + gap * (length sizes - 1) + 2 * edge
 total-sum gap edge [] some = absurd (omega arith)
-total-sum gap edge (size ∷ sizes) some = let rest : length (size ∷ sizes) - 1 ≡ length sizes = omega arith in rw rest (omega (arith, sum_by-cons (λ x. x) size sizes))
+total-sum gap edge (size ∷ sizes) some = let rest : length (size ∷ sizes) - 1 ≡ length sizes = omega arith in rw rest
+    (omega (arith, sum_by-cons (λ x. x) size sizes))
 
 -- ---- the last step is the lowest
 
-last-under : (p : Config → Bool) (o : Option Config) (steps : List Config) → AllPairs (λ a b. (a.width < b.width) × (b.height < a.height)) steps → All (λ s. IfSome o (λ x. s.height ≤ x.height)) steps →
+last-under : (p : Config → Bool) (o : Option Config) (steps : List Config) → AllPairs (λ a b. (a.width < b.width) × (b.height < a.height)) steps →
+    All (λ s. IfSome o (λ x. s.height ≤ x.height)) steps →
     (s : Config) → last_or o (filter p steps) ≡ Some s → IfSome (last_or o steps) (λ l. l.height ≤ s.height)
 last-under p o [] falling under s is = rw is (omega arith)
 last-under p o (step ∷ []) falling under s is = one (p step) is where
@@ -260,10 +290,13 @@ last-under p o (step ∷ []) falling under s is = one (p step) is where
   one true is = let e : step ≡ s = cc in omega (arith, ap (λ x. x.height) e)
   one false is = let first = under 0 step (omega arith) in rw is at first
 last-under p o (step ∷ next ∷ steps) falling under s is =
-    let rest : AllPairs (λ a b. (a.width < b.width) × (b.height < a.height)) (next ∷ steps) = λ i j d before within. falling (suc i) (suc j) d (omega arith) (omega arith) in
-    let below : All (λ x. IfSome (Some step) (λ y. x.height ≤ y.height)) (next ∷ steps) = λ k d within. let fall = falling 0 (suc k) d (omega arith) (omega arith) in omega (arith, fall.1) in
+    let rest : AllPairs (λ a b. (a.width < b.width) × (b.height < a.height)) (next ∷ steps) = λ i j d before within. falling (suc i) (suc j) d
+    (omega arith) (omega arith) in
+    let below : All (λ x. IfSome (Some step) (λ y. x.height ≤ y.height)) (next ∷ steps) = λ k d within. let fall = falling 0 (suc k) d (omega arith)
+    (omega arith) in omega (arith, fall.1) in
     let later : All (λ x. IfSome o (λ y. x.height ≤ y.height)) (next ∷ steps) = λ k d within. under (suc k) d (omega arith) in
-    (elim (p step) as (λ b. last_or o (cond b (step ∷ filter p (next ∷ steps)) (filter p (next ∷ steps))) ≡ Some s → IfSome (last_or (Some next) steps) (λ l. l.height ≤ s.height)) [
+    (elim (p step) as (λ b. last_or o (cond b (step ∷ filter p (next ∷ steps)) (filter p (next ∷ steps))) ≡ Some s →
+    IfSome (last_or (Some next) steps) (λ l. l.height ≤ s.height)) [
       | true ↦ λ is. last-under p (Some step) (next ∷ steps) rest below s is
       | false ↦ λ is. last-under p o (next ∷ steps) rest later s is
     ]) is
@@ -271,7 +304,8 @@ last-under p o (step ∷ next ∷ steps) falling under s is =
 -- a height is at least that of the last step
 pub last-lowest : (steps : List Config) → AreSteps steps → (w h : ℕ) → height_at steps w ≡ Some h → IfSome (last_or None steps) (λ last. last.height ≤ h)
 last-lowest steps are w h is = at (last_or None (filter (λ s. nat_le s.width w) steps)) refl is where
-  at : (o : Option Config) → last_or None (filter (λ s. nat_le s.width w) steps) ≡ o → option_map (λ s. s.height) o ≡ Some h → IfSome (last_or None steps) (λ last. last.height ≤ h)
+  at : (o : Option Config) → last_or None (filter (λ s. nat_le s.width w) steps) ≡ o → option_map (λ s. s.height) o ≡ Some h →
+      IfSome (last_or None steps) (λ last. last.height ≤ h)
   at None same is = cc
   at (Some s) same is =
       let e : s.height ≡ h = cc in
@@ -283,7 +317,8 @@ last-there x [] = (x, refl)
 last-there x (y ∷ steps) = last-there y steps
 
 -- so a width is found for it
-pub width-found : (steps : List Config) → AreSteps steps → (w h : ℕ) → height_at steps w ≡ Some h → (found : Option ℕ) → IfSome (last_or None steps) (λ last. IsNone found ↔ (h < last.height)) → IsSome found
+pub width-found : (steps : List Config) → AreSteps steps → (w h : ℕ) → height_at steps w ≡ Some h → (found : Option ℕ) →
+    IfSome (last_or None steps) (λ last. IsNone found ↔ (h < last.height)) → IsSome found
 width-found [] are w h is found never = cc
 width-found (x ∷ steps) are w h is None never =
     let last = last-there x steps in
@@ -294,7 +329,8 @@ width-found (x ∷ steps) are w h is (Some v) never = refl
 
 -- ---- lists that grow
 
-pub upto-push : (P : ℕ → ℕ → Type 0) (xs : List ℕ) (x n : ℕ) → length xs ≡ n → ((k : ℕ) → k < n → P k (get_or xs k 0)) → P n x → (k : ℕ) → k < n + 1 → P k (get_or (xs ++ x ∷ []) k 0)
+pub upto-push : (P : ℕ → ℕ → Type 0) (xs : List ℕ) (x n : ℕ) → length xs ≡ n → ((k : ℕ) → k < n → P k (get_or xs k 0)) → P n x → (k : ℕ) → k < n + 1 →
+    P k (get_or (xs ++ x ∷ []) k 0)
 upto-push P xs x n count each one k below =
     elim (cases_eq k n) [
       | inl same ↦ rw (same, get_or_push xs x 0 n count) one
@@ -303,7 +339,8 @@ upto-push P xs x n count each one k below =
           rw (get_or_append_left xs (x ∷ []) 0 k before) (each k (omega arith))
     ]
 
-pub upto-set : (P : ℕ → ℕ → Type 0) (xs : List ℕ) (x n : ℕ) → n < length xs → ((k : ℕ) → k < n → P k (get_or xs k 0)) → P n x → (k : ℕ) → k < n + 1 → P k (get_or (set xs n x) k 0)
+pub upto-set : (P : ℕ → ℕ → Type 0) (xs : List ℕ) (x n : ℕ) → n < length xs → ((k : ℕ) → k < n → P k (get_or xs k 0)) → P n x → (k : ℕ) → k < n + 1 →
+    P k (get_or (set xs n x) k 0)
 upto-set P xs x n inside each one k below =
     elim (cases_eq k n) [
       | inl same ↦ rw same (subst (P n) (sym (get_or-set_same xs n x 0 inside)) one)
@@ -343,7 +380,14 @@ module _ (problem : ProblemModel) (sound : IsSound problem) where
   pub least-sum : (demands : List ℕ) → NeedLeast problem demands → sum demands ≤ 60030000
   least-sum demands need =
       let page = sound.fits in
-      let all = all-most (λ x. x) 500 demands (λ k within. omega (arith, need.each k (omega (arith, need.count)), page.1.cells k none (omega (arith, need.count)), room-most page.0 page.1 k (omega (arith, need.count)))) in
+      let all = all-most (λ x. x) 500 demands
+      (λ k within. omega (
+        arith,
+        need.each k (omega (arith, need.count)),
+        page.1.cells k none (omega (arith, need.count)),
+        room-most page.0 page.1
+            k (omega (arith, need.count)),
+      )) in
       omega (arith, all, need.count, few-cells problem sound)
 
   pub width-sum : (widths demands : List ℕ) → WithinPage problem widths → NeedWidths problem widths demands → sum demands ≤ 60030000

@@ -101,9 +101,9 @@ module _ (problem : ProblemModel) (sound : IsSound problem) (zone : List Range) 
       IsBound problem (InZone problem zone) bound → total_height problem heights ≡ bound
   one_class-height widths heights bound inside least bounds =
       let below = bound-below_layout problem sound (InZone problem zone) bound widths heights bounds inside
-          (record { page = inside.page; enough = low-from_high problem sound widths heights least.kind }) in
+      (record { page = inside.page; enough = low-from_high problem sound widths heights least.kind }) in
       let rows = bounds.least.attained in
       let enough = high-from_greatest widths rows.0 inside rows.1 in
       let above = least-total (row_gap_of problem.style) (edge_of problem.style) (GiveHigh problem widths) heights rows.0 least enough
-          (least.kind.rows ∙ sym rows.1.rows) in
+      (least.kind.rows ∙ sym rows.1.rows) in
       omega (arith, below, above, rows.2)

@@ -157,8 +157,12 @@ module _ {X : Type 0} (left right top bottom : X → ℕ) where
   one_covers row column (x ∷ xs) apart =
       elim (covers-cases row column x) [
         | inl none ↦ omega (arith, sum_by-cons (covers row column) x xs, none, one_covers row column xs (AllPairs-tail (λ a b. Share a b → ⊥) x xs apart))
-        | inr (one, here) ↦ omega (arith, sum_by-cons (covers row column) x xs, one,
-            others-none row column x xs here (AllPairs-head (λ a b. Share a b → ⊥) x xs apart))
+        | inr (one, here) ↦ omega (
+          arith,
+          sum_by-cons (covers row column) x xs,
+          one,
+          others-none row column x xs here (AllPairs-head (λ a b. Share a b → ⊥) x xs apart),
+        )
       ]
 
   -- the areas of rectangles that share no slot are together at most the area of the grid
@@ -173,8 +177,8 @@ module _ {X : Type 0} (left right top bottom : X → ℕ) where
           row_load row before =
               let one = weighted x_at x_rising left right (λ x. inside (top x) (bottom x) row) 1 xs columns (λ column within. one_covers row column xs apart) in
               let turned = sum_by-same (λ x. amount x_at x_rising (left x) (right x) columns * inside (top x) (bottom x) row)
-                  (λ x. inside (top x) (bottom x) row * amount x_at x_rising (left x) (right x) columns) xs
-                  (λ x. turn (amount x_at x_rising (left x) (right x) columns) (inside (top x) (bottom x) row)) in
+              (λ x. inside (top x) (bottom x) row * amount x_at x_rising (left x) (right x) columns) xs
+              (λ x. turn (amount x_at x_rising (left x) (right x) columns) (inside (top x) (bottom x) row)) in
               omega (arith, one, turned) where
                 turn : (a b : ℕ) → a * b ≡ b * a
                 turn a b = grind arith

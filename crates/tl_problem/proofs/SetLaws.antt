@@ -75,14 +75,24 @@ module _ (problem : ProblemModel) (A B : List ℕ → Type 0) (there : (widths :
   area_bound-same bound is = record {
     some = (is.some.0, there is.some.0 is.some.1);
     no_column = is.no_column;
-    columns = λ some. let held = is.columns some in (held.0, record {
-      areas = held.1.areas;
-      end = held.1.end;
-      least = areas-same problem.cells held.1.areas held.1.least;
-      greatest = record { attained = (held.1.greatest.attained.0, there held.1.greatest.attained.0 held.1.greatest.attained.1,
-          held.1.greatest.attained.2); never_more = λ widths among. held.1.greatest.never_more widths (back widths among) };
-      rounded = held.1.rounded;
-    }, held.2);
+    columns = λ some. let held = is.columns some in (
+      held.0,
+      record {
+        areas = held.1.areas;
+        end = held.1.end;
+        least = areas-same problem.cells held.1.areas held.1.least;
+        greatest = record {
+          attained = (
+            held.1.greatest.attained.0,
+            there held.1.greatest.attained.0 held.1.greatest.attained.1,
+            held.1.greatest.attained.2,
+          );
+          never_more = λ widths among. held.1.greatest.never_more widths (back widths among);
+        };
+        rounded = held.1.rounded;
+      },
+      held.2,
+    );
   }
 
 -- the opening is the placement in the whole zone
@@ -111,9 +121,9 @@ module _ (problem : ProblemModel) (sound : IsSound problem) (A B : List ℕ → 
           | inr high ↦ absurd (greatest-not_none problem A cell.left cell.right (page_room problem)
               (λ ws also. room-in_page problem ws (page ws also) cell.left cell.right (sound.cells k d inside).columns.0 (sound.cells k d inside).columns.1)
               (λ v narrower. high (
-                let some = narrower.attained in
-                let wider = greatest.never_more some.0 (within some.0 some.1) in
-                IsLowAt-wider cell.low (sound.cells k d inside).steps.0 h v w (omega (arith, wider, some.2)) (give.cells k d inside v narrower)))
+              let some = narrower.attained in
+              let wider = greatest.never_more some.0 (within some.0 some.1) in
+              IsLowAt-wider cell.low (sound.cells k d inside).steps.0 h v w (omega (arith, wider, some.2)) (give.cells k d inside v narrower)))
               widths among)
         ];
   }

@@ -45,9 +45,9 @@ has_span-from columns cell left right = and_from (nat_eq cell.left columns.left)
 all_spans-ordered : (cols : ℕ) → AllPairs IsBefore (all_spans cols)
 all_spans-ordered cols =
     AllPairs-flat_map IsBefore (λ a b. a < b) (λ left. map (span left) (range_with_len (left + 1) (cols - left))) (range_with_len 0 cols)
-        (AllPairs-range 0 cols)
+    (AllPairs-range 0 cols)
     (λ left. AllPairs-map IsBefore (span left) (range_with_len (left + 1) (cols - left))
-        (λ i j d before within. inr (refl, AllPairs-range (left + 1) (cols - left) i j d before within)))
+    (λ i j d before within. inr (refl, AllPairs-range (left + 1) (cols - left) i j d before within)))
     (λ left later a b less first second.
     let one = map-Contains (span left) (range_with_len (left + 1) (cols - left)) a first in
     let other = map-Contains (span later) (range_with_len (later + 1) (cols - later)) b second in
@@ -72,7 +72,7 @@ spans-Contains problem sound cell has =
     let whole = All-contains (IsSoundCell problem) problem.cells cell sound.cells has in
     Contains-filter (λ columns. list_any (has_span columns) problem.cells) (all_spans problem.cols) (span cell.left cell.right)
     (list_any_at (has_span (span cell.left cell.right)) problem.cells has.0 cell has.1
-        (subst (λ c. has_span (span cell.left cell.right) c ≡ true) (sym has.2) (has_span-from (span cell.left cell.right) cell refl refl)))
+    (subst (λ c. has_span (span cell.left cell.right) c ≡ true) (sym has.2) (has_span-from (span cell.left cell.right) cell refl refl)))
     (all_spans-Contains problem.cols cell.left cell.right whole.columns.0 whole.columns.1)
 
 -- and each of them is some cell's
@@ -91,9 +91,9 @@ pub spans-are : (problem : ProblemModel) → IsSound problem → (spans : List S
 spans-are problem sound spans ordered each some =
     same-ordered IsBefore before-strict spans (spans_of problem) ordered (spans-ordered problem)
     (λ columns has. let found = some columns has in subst (λ s. Contains (spans_of problem) s) (same_span columns found.0 found.2)
-        (spans-Contains problem sound found.0 found.1))
+    (spans-Contains problem sound found.0 found.1))
     (λ columns has. let found = spans-cell problem columns has in
-        subst (λ s. Contains spans s) (same_span columns found.0 found.2) (each found.0 found.1)) where
+    subst (λ s. Contains spans s) (same_span columns found.0 found.2) (each found.0 found.1)) where
       same_span : (columns : Span) (cell : Cell) → has_span columns cell ≡ true → span cell.left cell.right ≡ columns
       same_span columns cell has = let parts = has_span-parts columns cell has in ap (λ left. span left cell.right) parts.0 ∙ ap (span columns.left) parts.1
 
@@ -153,7 +153,7 @@ module _ (problem : ProblemModel) (columns : Span) where
       let between = range-Contains (least + 1) (page_room problem - least) w kept.0 in
       omega (arith, between.0)))
       (AllPairs-filter (λ a b. a < b) (begins_step problem columns) (range_with_len (least + 1) (page_room problem - least))
-          (AllPairs-range (least + 1) (page_room problem - least)))
+      (AllPairs-range (least + 1) (page_room problem - least)))
 
   -- where a class begins: at the least width, or past it and within the page where a step begins
   pub classes-cases : (w : ℕ) → Contains (classes_of problem columns) w →
@@ -189,7 +189,7 @@ module _ (problem : ProblemModel) (columns : Span) where
       let least = least_width problem columns in
       Contains-later least (filter (begins_step problem columns) (range_with_len (least + 1) (page_room problem - least))) w
       (Contains-filter (begins_step problem columns) (range_with_len (least + 1) (page_room problem - least)) w begins
-          (Contains-range (least + 1) (page_room problem - least) w (omega arith) (omega arith)))
+      (Contains-range (least + 1) (page_room problem - least) w (omega arith) (omega arith)))
 
   -- a rising list of these widths, and of no others, is the list of the classes
   pub classes-are : (firsts : List ℕ) → AllPairs (λ a b. a < b) firsts → ((w : ℕ) → Contains firsts w → Contains (classes_of problem columns) w) →
@@ -204,7 +204,7 @@ module _ (problem : ProblemModel) (columns : Span) where
       let inside : Contains (cells_of problem columns) cell = Contains-filter (has_span columns) problem.cells cell is has in
       let one : list_any (λ s. nat_eq s.width step.width) (cell.low ++ cell.high) ≡ true =
       list_any_at (λ s. nat_eq s.width step.width) (cell.low ++ cell.high) among.0 step among.1
-          (eq-eqb (get_or (cell.low ++ cell.high) among.0 step).width step.width (ap (λ s. s.width) among.2)) in
+      (eq-eqb (get_or (cell.low ++ cell.high) among.0 step).width step.width (ap (λ s. s.width) among.2)) in
       list_any_at (λ c. list_any (λ s. nat_eq s.width step.width) (c.low ++ c.high)) (cells_of problem columns) inside.0 cell inside.1
       (subst (λ c. list_any (λ s. nat_eq s.width step.width) (c.low ++ c.high) ≡ true) (sym inside.2) one)
 
@@ -236,8 +236,11 @@ module _ (problem : ProblemModel) (sound : IsSound problem) (s class : ℕ) (ins
       elim (cases_lt 0 class) [
         | inl past ↦ let rise = classes-rising problem (span_at problem s) 0 class 0 past inside in
             omega (arith, rise, classes-first problem (span_at problem s) 0)
-        | inr none ↦ let here : class ≡ 0 = omega arith in omega (arith, ap (λ i. get_or (classes_at problem s) i 0) here,
-            classes-first problem (span_at problem s) 0)
+        | inr none ↦ let here : class ≡ 0 = omega arith in omega (
+          arith,
+          ap (λ i. get_or (classes_at problem s) i 0) here,
+          classes-first problem (span_at problem s) 0,
+        )
       ]
 
   -- a class ends within the page
@@ -249,7 +252,7 @@ module _ (problem : ProblemModel) (sound : IsSound problem) (s class : ℕ) (ins
             let above = classes-rising problem (span_at problem s) class (class + 1) 0 (omega arith) more in
             let first = class-past_least in
             elim (classes-cases problem (span_at problem s) (get_or (classes_at problem s) (class + 1) 0)
-                (Contains-get_or (classes_at problem s) (class + 1) 0 more)) [
+            (Contains-get_or (classes_at problem s) (class + 1) 0 more)) [
               | inl least ↦ omega (arith, next, least, above, first)
               | inr later ↦ omega (arith, next, later.1)
             ]
@@ -263,7 +266,7 @@ module _ (problem : ProblemModel) (sound : IsSound problem) (s class : ℕ) (ins
     no_step step among past before =
         between-none (classes_at problem s) (classes-rising problem (span_at problem s)) class (page_room problem) step.width inside
         (classes-Contains problem (span_at problem s) step.width (omega (arith, class-past_least, past, from))
-            (omega (arith, class-in_page, upto, before)) (begins-from problem (span_at problem s) cell step has is among))
+        (omega (arith, class-in_page, upto, before)) (begins-from problem (span_at problem s) cell step has is among))
         (omega (arith, past, from)) (omega (arith, upto, before))
 
     pub class-same_low : height_at cell.low w ≡ height_at cell.low v

@@ -1,8 +1,10 @@
 -- How the spans of cells, and the classes of a span, are found step by step.
-use Rattle.std.proofs.Common.{◌≡◌, ◌≢◌, ℕ, ◌+◌, ◌-◌, ◌*◌, ◌/◌, ◌%◌, ◌<◌, ◌≤◌, zero, suc, min, max, mul_assoc, Bool, true, false, nat_eq, List, [], ◌∷◌, ◌++◌, ◌⊎◌, inl, inr, length, map, get_or, set, refl, sym, ap, ◌∙◌, subst, arith}
+use Rattle.std.proofs.Common.{◌≡◌, ◌≢◌, ℕ, ◌+◌, ◌-◌, ◌*◌, ◌/◌, ◌%◌, ◌<◌, ◌≤◌, zero, suc, min, max, mul_assoc, Bool, true, false, nat_eq, List, []}
+use Rattle.std.proofs.Common.{◌∷◌, ◌++◌, ◌⊎◌, inl, inr, length, map, get_or, set, refl, sym, ap, ◌∙◌, subst, arith}
 use Rattle.std.specs.List.{All, AllPairs, Contains, list_any}
 use Rattle.std.proofs.lemmas.Bool.{cases_eq, cases_lt, eqb-true}
-use Rattle.std.proofs.lemmas.List.{map-append, length-map, get_or-map, get_or_push, get_or_append_left, length_push, get_or-set_same, get_or-set_other, length-set, get_or_default, ext_get_or}
+use Rattle.std.proofs.lemmas.List.{map-append, length-map, get_or-map, get_or_push, get_or_append_left, length_push, get_or-set_same}
+use Rattle.std.proofs.lemmas.List.{get_or-set_other, length-set, get_or_default, ext_get_or}
 use Rattle.std.proofs.lemmas.List.Elements.{filter-append, All-contains, Contains-get_or, Contains-append_left, Contains-append_right, Contains-append_cases}
 use Rattle.std.proofs.lemmas.List.Folds.{Any-from_list_any}
 use Rattle.std.proofs.lemmas.Nat.{div-mul-add, mod-mul-add, div-add-mod', mod_below}
@@ -17,8 +19,10 @@ use Rattle.tl_problem.specs.Sound.{IsSound}
 use Rattle.tl_problem.specs.Spans.{span, has_span, greatest, spans_of, cells_of, least_width, page_room, begins_step, classes_of, product}
 use Rattle.tl_problem.specs.Zones.{span_at, classes_at}
 use Rattle.tl_problem.specs.inner.Demands.{cell_at}
-use Rattle.tl_problem.specs.inner.Spanning.{slot_of, IsSeen, IsEarlier, AreSpansUpto, AreSpans, cells_among, least_among, IsStepAt, AddsSteps, IsClass, AreFound, AreFirsts, AreClasses}
-use Rattle.tl_problem.proofs.SpanLaws.{has_span-from, has_span-parts, spans-are, begins-from, classes-are, classes-cases, classes-least, classes-Contains, classes-some, classes-rising, class-in_page}
+use Rattle.tl_problem.specs.inner.Spanning.{slot_of, IsSeen, IsEarlier, AreSpansUpto, AreSpans, cells_among, least_among, IsStepAt, AddsSteps}
+use Rattle.tl_problem.specs.inner.Spanning.{IsClass, AreFound, AreFirsts, AreClasses}
+use Rattle.tl_problem.proofs.SpanLaws.{has_span-from, has_span-parts, spans-are, begins-from, classes-are, classes-cases, classes-least}
+use Rattle.tl_problem.proofs.SpanLaws.{classes-Contains, classes-some, classes-rising, class-in_page}
 
 -- ---- the steps of one cell
 
@@ -59,8 +63,10 @@ module _ (old new : List ℕ) (least most : ℕ) where
       adds = λ w is. adds w is (Contains-append_cases done (step ∷ []) is.step is.has);
       only = λ w has. only w (Contains-append_cases new (step.width ∷ []) w has);
     } where
-      adds : (w : ℕ) → (is : IsStepAt (done ++ step ∷ []) least most w) → Contains done is.step ⊎ Contains (step ∷ []) is.step → Contains (new ++ step.width ∷ []) w
-      adds w is (inl left) = Contains-append_left new (step.width ∷ []) w (h.adds w (record { past = is.past; within = is.within; step = is.step; has = left; begins = is.begins }))
+      adds : (w : ℕ) → (is : IsStepAt (done ++ step ∷ []) least most w) → Contains done is.step ⊎ Contains (step ∷ []) is.step →
+          Contains (new ++ step.width ∷ []) w
+      adds w is (inl left) = Contains-append_left new (step.width ∷ []) w
+          (h.adds w (record { past = is.past; within = is.within; step = is.step; has = left; begins = is.begins }))
       adds w is (inr right) =
           subst (Contains (new ++ step.width ∷ [])) (ap (λ s. s.width) (Contains-one step is.step right) ∙ is.begins) (Contains-push new step.width)
 
@@ -79,7 +85,8 @@ greatest-push (m ∷ ns) n = omega (arith, greatest-push ns n)
 module _ (done : List Cell) (columns : Span) (cell : Cell) where
   pub least_among-skip : has_span columns cell ≡ false → least_among (done ++ cell ∷ []) columns ≡ least_among done columns
   least_among-skip out =
-      ap (λ cells. greatest (map (λ c. first_width c.low) cells)) (filter-append (has_span columns) done (cell ∷ []) ∙ rw out (nothing (cells_among done columns))) where
+      ap (λ cells. greatest (map (λ c. first_width c.low) cells))
+      (filter-append (has_span columns) done (cell ∷ []) ∙ rw out (nothing (cells_among done columns))) where
         nothing : (cells : List Cell) → cells ++ [] ≡ cells
         nothing [] = refl
         nothing (c ∷ cells) = ap (λ cs. c ∷ cs) (nothing cells)
@@ -114,14 +121,16 @@ module _ (cells : List Cell) (columns : Span) (least most : ℕ) where
           let both : true ≡ false = sym is.spans ∙ sym (ap (has_span columns) same) ∙ out in
           absurd (cc)
 
-    pub AreFound-add : (mid new : List ℕ) → AddsSteps old mid cell.low least most → AddsSteps mid new cell.high least most → has_span columns cell ≡ true → Contains cells cell →
+    pub AreFound-add : (mid new : List ℕ) → AddsSteps old mid cell.low least most → AddsSteps mid new cell.high least most →
+        has_span columns cell ≡ true → Contains cells cell →
         AreFound cells (done ++ cell ∷ []) columns least most new
     AreFound-add mid new low high spans among = record {
       least_in = high.keeps least (low.keeps least h.least_in);
       there = λ w has. there w (high.only w has);
       back = λ w is. back w is (Contains-append_cases done (cell ∷ []) is.cell is.has);
     } where
-      one : (w : ℕ) (steps : List Config) → ((s : Config) → Contains steps s → Contains (cell.low ++ cell.high) s) → IsStepAt steps least most w → IsClass cells columns least most w
+      one : (w : ℕ) (steps : List Config) → ((s : Config) → Contains steps s → Contains (cell.low ++ cell.high) s) → IsStepAt steps least most w →
+          IsClass cells columns least most w
       one w steps inside is = record {
         cell = cell;
         has = among;
@@ -174,7 +183,8 @@ module _ (side : ℕ) (cells : List Cell) where
     some = λ slot is. let both : true ≡ false = sym is ∙ clear slot in absurd (cc);
   }
 
-  pub IsSeen-more : (k : ℕ) (seen : List Bool) → slot_of side (cell_at cells k) < side * side → IsSeen side cells k seen → IsSeen side cells (k + 1) (set seen (slot_of side (cell_at cells k)) true)
+  pub IsSeen-more : (k : ℕ) (seen : List Bool) → slot_of side (cell_at cells k) < side * side → IsSeen side cells k seen →
+      IsSeen side cells (k + 1) (set seen (slot_of side (cell_at cells k)) true)
   IsSeen-more k seen inside h =
       let here = slot_of side (cell_at cells k) in
       let there : here < length seen = omega (arith, h.size) in
@@ -183,13 +193,17 @@ module _ (side : ℕ) (cells : List Cell) where
         all = λ j below. all j below (cases_eq (slot_of side (cell_at cells j)) here) (cases_eq j k);
         some = λ slot is. some slot is (cases_eq slot here);
       } where
-        all : (j : ℕ) → j < k + 1 → (slot_of side (cell_at cells j) ≡ slot_of side (cell_at cells k)) ⊎ (slot_of side (cell_at cells j) ≢ slot_of side (cell_at cells k)) → (j ≡ k) ⊎ (j ≢ k) →
+        all : (j : ℕ) → j < k + 1 →
+            (slot_of side (cell_at cells j) ≡ slot_of side (cell_at cells k)) ⊎ (slot_of side (cell_at cells j) ≢ slot_of side (cell_at cells k)) →
+            (j ≡ k) ⊎ (j ≢ k) →
             get_or (set seen (slot_of side (cell_at cells k)) true) (slot_of side (cell_at cells j)) false ≡ true
         all j below (inl same) any = rw same (get_or-set_same seen (slot_of side (cell_at cells k)) true false (omega (arith, h.size)))
         all j below (inr apart) (inl last) = absurd (apart (ap (λ i. slot_of side (cell_at cells i)) last))
-        all j below (inr apart) (inr before) = get_or-set_other seen (slot_of side (cell_at cells k)) (slot_of side (cell_at cells j)) true false apart ∙ h.all j (omega arith)
+        all j below (inr apart) (inr before) = get_or-set_other seen (slot_of side (cell_at cells k)) (slot_of side (cell_at cells j)) true false
+            apart ∙ h.all j (omega arith)
 
-        some : (slot : ℕ) → get_or (set seen (slot_of side (cell_at cells k)) true) slot false ≡ true → (slot ≡ slot_of side (cell_at cells k)) ⊎ (slot ≢ slot_of side (cell_at cells k)) →
+        some : (slot : ℕ) → get_or (set seen (slot_of side (cell_at cells k)) true) slot false ≡ true →
+            (slot ≡ slot_of side (cell_at cells k)) ⊎ (slot ≢ slot_of side (cell_at cells k)) →
             (j : ℕ) × ((j < k + 1) × (slot_of side (cell_at cells j) ≡ slot))
         some slot is (inl same) = (k, (omega arith, sym same))
         some slot is (inr apart) =
@@ -240,7 +254,8 @@ module _ (side : ℕ) (seen : List Bool) (some : 0 < side) where
     AreSpansUpto-push marked = record {
       ordered = AllPairs-append IsEarlier spans (here ∷ []) h.ordered (λ i j d before within. absurd (omega arith)) (λ a b first second.
           let found = h.some a first in
-          subst (λ x. IsEarlier x b) found.1.1.1 (subst (IsEarlier (span (found.0 / side) (found.0 % side))) (Contains-one here b second) (earlier side found.0 slot some found.1.0)));
+          subst (λ x. IsEarlier x b) found.1.1.1 (subst (IsEarlier (span (found.0 / side) (found.0 % side))) (Contains-one here b second)
+          (earlier side found.0 slot some found.1.0)));
       all = λ other below is. elim (cases_eq other slot) [
         | inl same ↦ subst (λ i. Contains (spans ++ here ∷ []) (span (i / side) (i % side))) (sym same) (Contains-push spans here)
         | inr apart ↦ Contains-append_left spans (here ∷ []) (span (other / side) (other % side)) (h.all other (omega arith) is)
@@ -252,7 +267,8 @@ module _ (side : ℕ) (seen : List Bool) (some : 0 < side) where
     }
 
   -- the spans of all marked places are those of the cells
-  pub AreSpans-all : (cells : List Cell) (spans : List Span) → All (λ cell. (cell.left < side) × (cell.right < side)) cells → IsSeen side cells (length cells) seen →
+  pub AreSpans-all : (cells : List Cell) (spans : List Span) → All (λ cell. (cell.left < side) × (cell.right < side)) cells →
+      IsSeen side cells (length cells) seen →
       AreSpansUpto side seen (side * side) spans → AreSpans cells spans
   AreSpans-all cells spans grid is h = record {
     ordered = h.ordered;
@@ -267,8 +283,10 @@ module _ (side : ℕ) (seen : List Bool) (some : 0 < side) where
         let one = is.some found.0 found.1.1.0 in
         let cell = cell_at cells one.0 in
         let in_grid = grid one.0 (record { left = 0; right = 0; top = 0; bottom = 0; low = []; high = [] }) one.1.0 in
-        let left : cell.left ≡ columns.left = sym (div-mul-add cell.left side cell.right in_grid.1) ∙ ap (λ i. i / side) one.1.1 ∙ ap (λ s. s.left) found.1.1.1 in
-        let right : cell.right ≡ columns.right = sym (mod-mul-add cell.left side cell.right in_grid.1) ∙ ap (λ i. i % side) one.1.1 ∙ ap (λ s. s.right) found.1.1.1 in
+        let left : cell.left ≡ columns.left = sym (div-mul-add cell.left side cell.right in_grid.1) ∙ ap (λ i. i / side) one.1.1 ∙ ap (λ s. s.left)
+        found.1.1.1 in
+        let right : cell.right ≡ columns.right = sym (mod-mul-add cell.left side cell.right in_grid.1) ∙ ap (λ i. i % side) one.1.1 ∙ ap
+        (λ s. s.right) found.1.1.1 in
         (cell, Contains-get_or cells one.0 _ one.1.0, has_span-from columns cell left right);
   }
 
@@ -277,18 +295,22 @@ module _ (side : ℕ) (seen : List Bool) (some : 0 < side) where
 pub spans-found : (problem : ProblemModel) → IsSound problem → (spans : List Span) → AreSpans problem.cells spans → spans ≡ spans_of problem
 spans-found problem sound spans are = spans-are problem sound spans are.ordered are.each are.some
 
-firsts-found : (problem : ProblemModel) (columns : Span) (firsts : List ℕ) → AreFirsts problem.cells columns (page_room problem) firsts → firsts ≡ classes_of problem columns
+firsts-found : (problem : ProblemModel) (columns : Span) (firsts : List ℕ) → AreFirsts problem.cells columns (page_room problem) firsts →
+    firsts ≡ classes_of problem columns
 firsts-found problem columns firsts are =
     classes-are problem columns firsts are.rising
     (λ w has. there w (are.found.there w has))
     (λ w has. back w (classes-cases problem columns w has)) where
-      there : (w : ℕ) → (w ≡ least_among problem.cells columns) ⊎ IsClass problem.cells columns (least_among problem.cells columns) (page_room problem) w → Contains (classes_of problem columns) w
+      there : (w : ℕ) → (w ≡ least_among problem.cells columns) ⊎ IsClass problem.cells columns (least_among problem.cells columns)
+          (page_room problem) w → Contains (classes_of problem columns) w
       there w (inl first) = subst (Contains (classes_of problem columns)) (sym first) (classes-least problem columns)
       there w (inr is) =
           classes-Contains problem columns w is.begins.past is.begins.within
-          (subst (λ v. begins_step problem columns v ≡ true) is.begins.begins (begins-from problem columns is.cell is.begins.step is.has is.spans is.begins.has))
+          (subst (λ v. begins_step problem columns v ≡ true) is.begins.begins (begins-from problem columns is.cell is.begins.step is.has is.spans
+          is.begins.has))
 
-      back : (w : ℕ) → (w ≡ least_width problem columns) ⊎ ((least_width problem columns < w) × (w ≤ page_room problem) × (begins_step problem columns w ≡ true)) → Contains firsts w
+      back : (w : ℕ) → (w ≡ least_width problem columns) ⊎
+          ((least_width problem columns < w) × (w ≤ page_room problem) × (begins_step problem columns w ≡ true)) → Contains firsts w
       back w (inl first) = subst (Contains firsts) (sym first) are.found.least_in
       back w (inr later) =
           let one = Any-from_list_any (λ cell. list_any (λ step. nat_eq step.width w) (cell.low ++ cell.high)) (cells_of problem columns) later.2 in
@@ -301,12 +323,14 @@ firsts-found problem columns firsts are =
             begins = record { past = later.0; within = later.1; step = at.1; has = (at.0, at.2, at.3); begins = eqb-true at.1.width w at.4 };
           })
 
-pub classes-found : (problem : ProblemModel) (classes : List (List ℕ)) → AreClasses problem.cells (page_room problem) (spans_of problem) (length (spans_of problem)) classes →
+pub classes-found : (problem : ProblemModel) (classes : List (List ℕ)) →
+    AreClasses problem.cells (page_room problem) (spans_of problem) (length (spans_of problem)) classes →
     classes ≡ map (classes_of problem) (spans_of problem)
 classes-found problem classes are =
     ext_get_or [] classes (map (classes_of problem) (spans_of problem)) (are.count ∙ sym (length-map (spans_of problem) (classes_of problem))) (λ s within.
     let inside : s < length (spans_of problem) = omega (arith, are.count) in
-    firsts-found problem (get_or (spans_of problem) s (span 0 0)) (get_or classes s []) (are.each s inside) ∙ sym (get_or-map (classes_of problem) (spans_of problem) s (span 0 0) [] inside))
+    firsts-found problem (get_or (spans_of problem) s (span 0 0)) (get_or classes s []) (are.each s inside) ∙ sym
+    (get_or-map (classes_of problem) (spans_of problem) s (span 0 0) [] inside))
 
 -- ---- how many classes there are
 
@@ -318,7 +342,8 @@ rising-at xs rising (suc k) within =
     omega (arith, before, more)
 
 -- the classes of a span are few, and there is one
-pub classes-few : (problem : ProblemModel) → IsSound problem → (s : ℕ) → s < length (spans_of problem) → (1 ≤ length (classes_at problem s)) × (length (classes_at problem s) ≤ 503)
+pub classes-few : (problem : ProblemModel) → IsSound problem → (s : ℕ) → s < length (spans_of problem) →
+    (1 ≤ length (classes_at problem s)) × (length (classes_at problem s) ≤ 503)
 classes-few problem sound s within =
     let some = classes-some problem (span_at problem s) in
     elim (cases_lt 1 (length (classes_at problem s))) [
@@ -364,7 +389,8 @@ has_span-false columns cell apart = decide (has_span columns cell) (λ is. let p
   decide true never = absurd (never refl)
   decide false never = refl
 
-pub AreClasses-push : (cells : List Cell) (most : ℕ) (spans : List Span) (k : ℕ) (classes : List (List ℕ)) (firsts : List ℕ) → AreClasses cells most spans k classes →
+pub AreClasses-push : (cells : List Cell) (most : ℕ) (spans : List Span) (k : ℕ) (classes : List (List ℕ)) (firsts : List ℕ) →
+    AreClasses cells most spans k classes →
     AreFirsts cells (get_or spans k (span 0 0)) most firsts → AreClasses cells most spans (k + 1) (classes ++ firsts ∷ [])
 AreClasses-push cells most spans k classes firsts h one = record {
   count = omega (arith, length_push classes firsts, h.count);

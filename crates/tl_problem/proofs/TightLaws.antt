@@ -25,8 +25,11 @@ least-unique gap OfKind xs ys same first second =
 
 module _ (problem : ProblemModel) where
   pub KeepHigh-itself : (widths : List ℕ) → length widths ≡ problem.cols → KeepHigh problem widths widths
-  KeepHigh-itself widths columns = record { columns = columns; cells =
-      λ k d within h is. IsLowAt-from (get_or problem.cells k d).high h (cell_width problem widths (get_or problem.cells k d)) is }
+  KeepHigh-itself widths columns = record {
+    columns = columns;
+    cells =
+        λ k d within h is. IsLowAt-from (get_or problem.cells k d).high h (cell_width problem widths (get_or problem.cells k d)) is;
+  }
 
   pub KeepHigh-next : (widths other third : List ℕ) → KeepHigh problem widths other → KeepHigh problem other third → KeepHigh problem widths third
   KeepHigh-next widths other third first second = record {
@@ -51,7 +54,7 @@ module _ (problem : ProblemModel) where
     pub tight-no_wider : tight.width ≤ placed.width
     tight-no_wider =
         let less = least-total (gap_of problem.style) (edge_of problem.style) (KeepHigh problem placed.widths) tight.widths placed.widths
-            made.columns (KeepHigh-itself placed.widths is.page.columns)
+        made.columns (KeepHigh-itself placed.widths is.page.columns)
         (made.placement.page.columns ∙ sym is.page.columns) in
         omega (arith, less, is.width, made.placement.width)
 
@@ -59,7 +62,7 @@ module _ (problem : ProblemModel) where
     tight-no_higher =
         let enough = GiveHigh-kept placed.widths tight.widths placed.heights made.columns.kind is.rows.kind in
         let less = least-total (row_gap_of problem.style) (edge_of problem.style) (GiveHigh problem tight.widths) tight.heights placed.heights
-            made.placement.rows enough
+        made.placement.rows enough
         (made.placement.rows.kind.rows ∙ sym is.rows.kind.rows) in
         omega (arith, less, is.height, made.placement.height)
 
@@ -82,15 +85,15 @@ module _ (problem : ProblemModel) where
   placement-unique first second same one other =
       let rows : first.heights ≡ second.heights = least-unique (row_gap_of problem.style) (GiveHigh problem second.widths) first.heights second.heights
       (one.rows.kind.rows ∙ sym other.rows.kind.rows) (subst (λ widths. AreLeast (row_gap_of problem.style) (GiveHigh problem widths) first.heights)
-          same one.rows) other.rows in
+      same one.rows) other.rows in
       let wide : first.width ≡ second.width = one.width ∙ ap (total_width problem) same ∙ sym other.width in
       let high : first.height ≡ second.height = one.height ∙ ap (total_height problem) rows ∙ sym other.height in
       same-made (λ widths heights width height. placed_of widths heights width height) first.widths second.widths first.heights second.heights
-          first.width second.width first.height second.height same rows wide high
+      first.width second.width first.height second.height same rows wide high
 
   pub tight-unique : (widths : List ℕ) (first second : Placed) → IsTightFrom problem widths first → IsTightFrom problem widths second → first ≡ second
   tight-unique widths first second one other =
       placement-unique first second
       (least-unique (gap_of problem.style) (KeepHigh problem widths) first.widths second.widths
-          (one.placement.page.columns ∙ sym other.placement.page.columns) one.columns other.columns)
+      (one.placement.page.columns ∙ sym other.placement.page.columns) one.columns other.columns)
       one.placement other.placement

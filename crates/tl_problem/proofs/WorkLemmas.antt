@@ -1,6 +1,7 @@
 -- Assignments to the places of columns and widths of columns are the same thing, moved as a whole: so the tightest bounds
 -- of a matrix are the greatest and least rooms of the widths that it leaves.
-use Rattle.std.proofs.Common.{◌≡◌, ℕ, ◌+◌, ◌*◌, ◌<◌, ◌≤◌, zero, suc, ℤ, pos, negsuc, ◌+ℤ◌, ◌-ℤ◌, ◌≤ℤ◌, neg_ℤ, List, [], ◌∷◌, ◌++◌, inl, inr, length, take, sum, refl, ap, ◌∙◌, arith}
+use Rattle.std.proofs.Common.{◌≡◌, ℕ, ◌+◌, ◌*◌, ◌<◌, ◌≤◌, zero, suc, ℤ, pos, negsuc, ◌+ℤ◌, ◌-ℤ◌, ◌≤ℤ◌, neg_ℤ, List, [], ◌∷◌, ◌++◌, inl, inr, length}
+use Rattle.std.proofs.Common.{take, sum, refl, ap, ◌∙◌, arith}
 use Rattle.std.proofs.lemmas.Int.{ints}
 use Rattle.std.proofs.lemmas.Bool.{cases_lt}
 use Rattle.std.proofs.lemmas.List.{length-append, take_all, take-append-le}
@@ -66,7 +67,8 @@ module _ (problem : ProblemModel) (bounds : Bounds) (keeps : KeepsPage problem b
         omega (arith, ints, one, other, meets a b first second c is);
   }
 
-  pub left-position : (x : ℕ → ℤ) → Satisfies bounds x → (k : ℕ) → k ≤ problem.cols → pos (position (gap_of problem.style) (widths_of x (gap_of problem.style) problem.cols) k) ≡ x k -ℤ x 0
+  pub left-position : (x : ℕ → ℤ) → Satisfies bounds x → (k : ℕ) → k ≤ problem.cols →
+      pos (position (gap_of problem.style) (widths_of x (gap_of problem.style) problem.cols) k) ≡ x k -ℤ x 0
   left-position x meets k up = widths_of-position x (gap_of problem.style) problem.cols (keeps.gaps x meets) k up
 
   -- some assignment satisfies the constraints where some widths are left
@@ -75,7 +77,8 @@ module _ (problem : ProblemModel) (bounds : Bounds) (keeps : KeepsPage problem b
 
   module _ (left right : ℕ) (ahead : left < right) (within : right ≤ problem.cols) where
     -- the room of a span by the assignment
-    pub left-room : (x : ℕ → ℤ) → Satisfies bounds x → pos (room (gap_of problem.style) (widths_of x (gap_of problem.style) problem.cols) left right + gap_of problem.style) ≡ x right -ℤ x left
+    pub left-room : (x : ℕ → ℤ) → Satisfies bounds x →
+        pos (room (gap_of problem.style) (widths_of x (gap_of problem.style) problem.cols) left right + gap_of problem.style) ≡ x right -ℤ x left
     left-room x meets =
         let places = room-position (gap_of problem.style) (widths_of x (gap_of problem.style) problem.cols) left right ahead in
         let one = left-position x meets left (omega arith) in
@@ -83,7 +86,8 @@ module _ (problem : ProblemModel) (bounds : Bounds) (keeps : KeepsPage problem b
         omega (arith, ints, places, one, other)
 
     -- the greatest difference of two places is the greatest room of the span between, and a gap
-    pub greatest-room : (most : ℤ) → IsGreatest bounds left right most → (w : ℕ) × ((most ≡ pos (w + gap_of problem.style)) × IsGreatestRoom problem (IsLeft problem bounds) left right w)
+    pub greatest-room : (most : ℤ) → IsGreatest bounds left right most →
+        (w : ℕ) × ((most ≡ pos (w + gap_of problem.style)) × IsGreatestRoom problem (IsLeft problem bounds) left right w)
     greatest-room most is =
         let x = is.reached.0 in
         let widths = widths_of x (gap_of problem.style) problem.cols in
@@ -103,7 +107,8 @@ module _ (problem : ProblemModel) (bounds : Bounds) (keeps : KeepsPage problem b
         )
 
     -- the greatest difference the other way round is that of the least room
-    pub least-room : (most : ℤ) → IsGreatest bounds right left most → (w : ℕ) × ((most ≡ neg_ℤ (pos (w + gap_of problem.style))) × IsLeastRoom problem (IsLeft problem bounds) left right w)
+    pub least-room : (most : ℤ) → IsGreatest bounds right left most →
+        (w : ℕ) × ((most ≡ neg_ℤ (pos (w + gap_of problem.style))) × IsLeastRoom problem (IsLeft problem bounds) left right w)
     least-room most is =
         let x = is.reached.0 in
         let widths = widths_of x (gap_of problem.style) problem.cols in

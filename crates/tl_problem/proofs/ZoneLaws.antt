@@ -44,23 +44,31 @@ pub whole-all : (problem : ProblemModel) → IsSound problem → (widths : List 
 whole-all problem sound widths page = record {
   page = page;
   ranges = λ s inside.
-      let within : s < length (spans_of problem) = omega (arith, inside,
-          length-map (spans_of problem) (λ columns. range 0 (length (classes_of problem columns) - 1))) in
+      let within : s < length (spans_of problem) = omega (
+        arith,
+        inside,
+        length-map (spans_of problem) (λ columns. range 0 (length (classes_of problem columns) - 1)),
+      ) in
       let some = classes-some problem (span_at problem s) in
       let columns = span-within problem sound s within in
       let least = least_width-within problem (span_at problem s) widths page in
       let most = room-in_page problem widths page (span_at problem s).left (span_at problem s).right columns.0 columns.1 in
       let end = get_or_past (classes_at problem s) (length (classes_at problem s) - 1 + 1) (page_room problem + 1) (omega arith) in
-      subst (InRange problem widths s) (sym (whole-range problem s within)) (omega (arith, least, classes-first problem (span_at problem s) 0),
-          omega (arith, most, end));
+      subst (InRange problem widths s) (sym (whole-range problem s within)) (
+        omega (arith, least, classes-first problem (span_at problem s) 0),
+        omega (arith, most, end),
+      );
 }
 
 -- ---- a cut
 
 -- two numbers are the same or not
 pub cases_eq : (t s : ℕ) → (t ≡ s) ⊎ (t ≢ s)
-cases_eq t s = elim (cases_lt t s) [ inl less ↦ inr (λ e. omega arith) | inr more ↦
-    elim (cases_lt s t) [ inl above ↦ inr (λ e. omega arith) | inr same ↦ inl (omega arith) ] ]
+cases_eq t s = elim (cases_lt t s) [
+  | inl less ↦ inr (λ e. omega arith)
+  | inr more ↦
+      elim (cases_lt s t) [ inl above ↦ inr (λ e. omega arith) | inr same ↦ inl (omega arith) ]
+]
 
 module _ (problem : ProblemModel) (sound : IsSound problem) (zone : List Range) (is : IsZone problem zone) (s class : ℕ) (there : s < length zone)
     (from : (range_at zone s).first ≤ class) (before : class < (range_at zone s).last) where
@@ -127,11 +135,19 @@ module _ (problem : ProblemModel) (sound : IsSound problem) (zone : List Range) 
   cut-cases widths inside =
       let here = inside.ranges s there in
       elim (cases_lt (last_in_class problem s class) (span_width problem widths s)) [
-        | inr narrow ↦ inl (record { page = inside.page; ranges =
-            each_range widths (range (range_at zone s).first class) (here.0, narrow) (λ t within apart. inside.ranges t within) })
-        | inl wide ↦ inr (record { page = inside.page; ranges =
-            each_range widths (range (class + 1) (range_at zone s).last) (omega (arith, next_class.0, wide),
-            here.1) (λ t within apart. inside.ranges t within) })
+        | inr narrow ↦ inl (record {
+          page = inside.page;
+          ranges =
+              each_range widths (range (range_at zone s).first class) (here.0, narrow) (λ t within apart. inside.ranges t within);
+        })
+        | inl wide ↦ inr (record {
+          page = inside.page;
+          ranges =
+              each_range widths (range (class + 1) (range_at zone s).last) (
+                omega (arith, next_class.0, wide),
+                here.1,
+              ) (λ t within apart. inside.ranges t within);
+        })
       ]
 
   part_inside : (r : Range) (widths : List ℕ) → (InRange problem widths s r → InRange problem widths s (range_at zone s)) →
@@ -143,7 +159,7 @@ module _ (problem : ProblemModel) (sound : IsSound problem) (zone : List Range) 
         elim (cases_eq t s) [
           | inl same ↦ subst (λ u. InRange problem widths u (range_at zone u)) (sym same)
               (wider (subst (InRange problem widths s) (get_or-set_same zone s r (range 0 0) there)
-                  (inside.ranges s (omega (arith, there, length-set zone s r)))))
+              (inside.ranges s (omega (arith, there, length-set zone s r)))))
           | inr apart ↦ subst (InRange problem widths t) (other_at r t apart) (inside.ranges t long)
         ];
   }
@@ -152,20 +168,22 @@ module _ (problem : ProblemModel) (sound : IsSound problem) (zone : List Range) 
   pub lower-inside : (widths : List ℕ) → InZone problem (lower_part zone s class) widths → InZone problem zone widths
   lower-inside widths inside =
       part_inside (range (range_at zone s).first class) widths
-          (λ here. (here.0, omega (arith, here.1, earlier_end class (range_at zone s).last (omega arith) (is.ranges s there).1))) inside
+      (λ here. (here.0, omega (arith, here.1, earlier_end class (range_at zone s).last (omega arith) (is.ranges s there).1))) inside
 
   pub upper-inside : (widths : List ℕ) → InZone problem (upper_part zone s class) widths → InZone problem zone widths
   upper-inside widths inside =
       part_inside (range (class + 1) (range_at zone s).last) widths
-          (λ here. (omega (arith, here.0, later_start (range_at zone s).first (class + 1) (omega arith) (omega (arith, (is.ranges s there).1))),
-          here.1)) inside
+      (λ here. (
+        omega (arith, here.0, later_start (range_at zone s).first (class + 1) (omega arith) (omega (arith, (is.ranges s there).1))),
+        here.1,
+      )) inside
 
   -- no widths are in both parts
   pub parts-apart : (widths : List ℕ) → InZone problem (lower_part zone s class) widths → InZone problem (upper_part zone s class) widths → ⊥
   parts-apart widths low high =
       let below = subst (InRange problem widths s) lower_at (low.ranges s (omega (arith, there, length-set zone s (range (range_at zone s).first class)))) in
       let above = subst (InRange problem widths s) upper_at (high.ranges s
-          (omega (arith, there, length-set zone s (range (class + 1) (range_at zone s).last)))) in
+      (omega (arith, there, length-set zone s (range (class + 1) (range_at zone s).last)))) in
       omega (arith, below.1, above.0, next_class.0)
 
   -- both parts are zones

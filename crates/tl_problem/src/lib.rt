@@ -15,8 +15,6 @@ mod placed;
 mod placing;
 mod problem;
 mod spans;
-#[cfg(test)]
-mod tests;
 mod work;
 mod zone;
 

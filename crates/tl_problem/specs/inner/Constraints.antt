@@ -53,7 +53,8 @@ pub record AddsFact (old new : MarkedBounds) (Fact : (ℕ → ℤ) → Type 0) :
 
 -- the room of the span is at least the first width of its first class
 abbrev pub HasFirst : ProblemModel → List Range → ℕ → (ℕ → ℤ) → Type 0
-HasFirst problem zone s x = AreApart x (span_at problem s).left (span_at problem s).right (first_in_class problem s (range_at zone s).first + gap_of problem.style)
+HasFirst problem zone s x = AreApart x (span_at problem s).left (span_at problem s).right
+    (first_in_class problem s (range_at zone s).first + gap_of problem.style)
 
 -- the room of the span is at most the last width of its last class
 abbrev pub HasLast : ProblemModel → List Range → ℕ → (ℕ → ℤ) → Type 0
@@ -65,5 +66,6 @@ pub record AddsRanges (problem : ProblemModel) (zone : List Range) (upto : ℕ) 
   pub marks : new.marks ≡ old.marks
   pub held : new.held ≡ old.held
   pub keeps : (x : ℕ → ℤ) → Satisfies new.bounds x → Satisfies old.bounds x
-  pub from : (widths : List ℕ) → IsLeft problem old.bounds widths → ((s : ℕ) → s < length zone → IsWidthOf problem zone s (span_width problem widths s)) → IsLeft problem new.bounds widths
+  pub from : (widths : List ℕ) → IsLeft problem old.bounds widths →
+      ((s : ℕ) → s < length zone → IsWidthOf problem zone s (span_width problem widths s)) → IsLeft problem new.bounds widths
   pub to : Whole → (widths : List ℕ) → IsLeft problem new.bounds widths → (s : ℕ) → s < upto → IsWidthOf problem zone s (span_width problem widths s)

@@ -16,8 +16,12 @@ area_with gap row_gap w h = (w + gap) * (h + row_gap)
 -- `least` is the least of `start` and of the areas of those of the first steps that begin past `low` and up to `high`
 pub record IsLeastStep (gap row_gap : ℕ) (steps : List Config) (upto low high start least : ℕ) : Type 0 where
   pub below_start : least ≤ start
-  pub below_steps : (k : ℕ) → k < upto → low < (step_at steps k).width → (step_at steps k).width ≤ high → least ≤ area_with gap row_gap (step_at steps k).width (step_at steps k).height
-  pub attained : (least ≡ start) ⊎ ((k : ℕ) × ((k < upto) × ((low < (step_at steps k).width) × (((step_at steps k).width ≤ high) × (least ≡ area_with gap row_gap (step_at steps k).width (step_at steps k).height)))))
+  pub below_steps : (k : ℕ) → k < upto → low < (step_at steps k).width → (step_at steps k).width ≤ high →
+      least ≤ area_with gap row_gap (step_at steps k).width (step_at steps k).height
+  pub attained : (least ≡ start) ⊎
+      ((k : ℕ) × ((k < upto) ×
+      ((low < (step_at steps k).width) ×
+      (((step_at steps k).width ≤ high) × (least ≡ area_with gap row_gap (step_at steps k).width (step_at steps k).height)))))
 
 -- the least areas of the first cells, and their sum
 pub record HaveAreas (problem : ProblemModel) (Among : List ℕ → Type 0) (upto total : ℕ) : Type 0 where

@@ -30,7 +30,8 @@ IsEarlier a b = (a.left < b.left) ⊎ ((a.left ≡ b.left) × (a.right < b.right
 pub record AreSpansUpto (side : ℕ) (seen : List Bool) (upto : ℕ) (spans : List Span) : Type 0 where
   pub ordered : AllPairs IsEarlier spans
   pub all : (slot : ℕ) → slot < upto → get_or seen slot false ≡ true → Contains spans (span (slot / side) (slot % side))
-  pub some : (columns : Span) → Contains spans columns → (slot : ℕ) × ((slot < upto) × ((get_or seen slot false ≡ true) × (span (slot / side) (slot % side) ≡ columns)))
+  pub some : (columns : Span) → Contains spans columns →
+      (slot : ℕ) × ((slot < upto) × ((get_or seen slot false ≡ true) × (span (slot / side) (slot % side) ≡ columns)))
 
 -- the spans of the cells, by left, then right
 pub record AreSpans (cells : List Cell) (spans : List Span) : Type 0 where

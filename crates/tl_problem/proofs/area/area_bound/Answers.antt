@@ -39,4 +39,5 @@ returns c =
     let total = c.sum_of_areas.result in
     let lines : c.div_ceil-lines.result ≡ div_ceil total end = rw c.from.ensures at c.div_ceil-lines.ensures in
     rw (c.saturating_sub.ensures, c.edge.ensures, c.row_gap.ensures, c.style-style.ensures, lines)
-    (IsAreaBound-found p c.requires.sound Among c.requires.keeps.page end c.greatest_end-end.ensures.end total c.requires.columns c.greatest_end-end.ensures.some c.sum_of_areas.ensures)
+    (IsAreaBound-found p c.requires.sound Among c.requires.keeps.page end c.greatest_end-end.ensures.end total c.requires.columns
+    c.greatest_end-end.ensures.some c.sum_of_areas.ensures)

@@ -15,27 +15,31 @@ unwrap-requires c =
 pub overflow_cast-result : goal.overflow_cast-result
 overflow_cast-result c =
     let p = c.args.problem.now in
-    let found = greatest-end p c.requires.sound c.args.matrix.now.bounds c.requires.keeps c.requires.columns c.unwrap.result (rw (c.unwrap.ensures, c.cols.ensures) at c.upper.ensures.exact) in
+    let found = greatest-end p c.requires.sound c.args.matrix.now.bounds c.requires.keeps c.requires.columns c.unwrap.result
+    (rw (c.unwrap.ensures, c.cols.ensures) at c.upper.ensures.exact) in
     let m : to_z w32 (of_z w32 c.unwrap.result) ≡ pos found.0 = omega (arith, ints, found.1.0, found.1.1.1.1) in
     rw m (tt, omega (arith, found.1.1.1.1))
 
 pub returns-clause-end : goal.returns-clause-end
 returns-clause-end c =
     let p = c.args.problem.now in
-    let found = greatest-end p c.requires.sound c.args.matrix.now.bounds c.requires.keeps c.requires.columns c.unwrap.result (rw (c.unwrap.ensures, c.cols.ensures) at c.upper.ensures.exact) in
+    let found = greatest-end p c.requires.sound c.args.matrix.now.bounds c.requires.keeps c.requires.columns c.unwrap.result
+    (rw (c.unwrap.ensures, c.cols.ensures) at c.upper.ensures.exact) in
     let m : to_z w32 (of_z w32 c.unwrap.result) ≡ pos found.0 = omega (arith, ints, found.1.0, found.1.1.1.1) in
     rw m found.1.1.0
 
 pub returns-clause-some : goal.returns-clause-some
 returns-clause-some c =
     let p = c.args.problem.now in
-    let found = greatest-end p c.requires.sound c.args.matrix.now.bounds c.requires.keeps c.requires.columns c.unwrap.result (rw (c.unwrap.ensures, c.cols.ensures) at c.upper.ensures.exact) in
+    let found = greatest-end p c.requires.sound c.args.matrix.now.bounds c.requires.keeps c.requires.columns c.unwrap.result
+    (rw (c.unwrap.ensures, c.cols.ensures) at c.upper.ensures.exact) in
     let m : to_z w32 (of_z w32 c.unwrap.result) ≡ pos found.0 = omega (arith, ints, found.1.0, found.1.1.1.1) in
     rw m found.1.1.1.0
 
 pub returns-clause-small : goal.returns-clause-small
 returns-clause-small c =
     let p = c.args.problem.now in
-    let found = greatest-end p c.requires.sound c.args.matrix.now.bounds c.requires.keeps c.requires.columns c.unwrap.result (rw (c.unwrap.ensures, c.cols.ensures) at c.upper.ensures.exact) in
+    let found = greatest-end p c.requires.sound c.args.matrix.now.bounds c.requires.keeps c.requires.columns c.unwrap.result
+    (rw (c.unwrap.ensures, c.cols.ensures) at c.upper.ensures.exact) in
     let m : to_z w32 (of_z w32 c.unwrap.result) ≡ pos found.0 = omega (arith, ints, found.1.0, found.1.1.1.1) in
     rw m found.1.1.1.1

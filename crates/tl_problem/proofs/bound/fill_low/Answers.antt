@@ -17,9 +17,11 @@ loop-number-preserved c =
     let is = rw c.cells-cells.ensures.cells at c.index-cells-number.is in
     let cell : c.index-cells-number.result ≡ cell_at p.cells number = is ∙ get_or_default p.cells number _ _ inside in
     let room : number < length c.loop-number.demands = omega (arith, c.loop-number.auto.demands, c.requires.room) in
-    upto-set (λ k v. (w : ℕ) × (IsGreatestRoom p (IsLeft p c.args.matrix.now.bounds) (cell_at p.cells k).left (cell_at p.cells k).right w × (height_at (cell_at p.cells k).low w ≡ Some v)))
+    upto-set (λ k v. (w : ℕ) × (IsGreatestRoom p (IsLeft p c.args.matrix.now.bounds) (cell_at p.cells k).left (cell_at p.cells k).right w ×
+    (height_at (cell_at p.cells k).low w ≡ Some v)))
     c.loop-number.demands c.low_at_greatest.result number room c.loop-number.invariant
-    (subst (λ (x : Cell). (w : ℕ) × (IsGreatestRoom p (IsLeft p c.args.matrix.now.bounds) x.left x.right w × (height_at x.low w ≡ Some c.low_at_greatest.result))) cell c.low_at_greatest.ensures)
+    (subst (λ (x : Cell). (w : ℕ) × (IsGreatestRoom p (IsLeft p c.args.matrix.now.bounds) x.left x.right w ×
+    (height_at x.low w ≡ Some c.low_at_greatest.result))) cell c.low_at_greatest.ensures)
 
 pub returns-clause-low : goal.returns-clause-low
 returns-clause-low c = record {

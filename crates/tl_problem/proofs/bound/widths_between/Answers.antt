@@ -35,9 +35,16 @@ overflow_cast-places c =
     let rise = c.requires.rising c.loop-column.column (omega (arith, c.cols-column-end.ensures)) in
     let gap : c.gap-gap.result ≡ gap_of c.args.problem.now.style = c.gap-gap.ensures ∙ ap gap_of c.style.ensures in
     let few = gap-few c.args.problem.now.style in
-    let w : ℕ = part_above (assignment_of c.args.places.now (c.loop-column.column + 1) -ℤ (assignment_of c.args.places.now c.loop-column.column +ℤ pos (gap_of c.args.problem.now.style))) in
-    let is = part_above-is (assignment_of c.args.places.now (c.loop-column.column + 1) -ℤ (assignment_of c.args.places.now c.loop-column.column +ℤ pos (gap_of c.args.problem.now.style))) (omega (arith, ints, rise)) in
-    let m : to_z w32 (of_z w32 (to_z w32 (of_z w32 (to_z w32 (of_z w32 (get_or c.args.places.now (c.loop-column.column + 1) (pos 0))) -ℤ to_z w32 (of_z w32 (get_or c.args.places.now c.loop-column.column (pos 0))))) -ℤ to_z w32 c.gap-gap.result)) ≡ pos w = omega (arith, ints, one.0, one.1, other.0, other.1, gap, few, is) in
+    let w : ℕ = part_above
+    (assignment_of c.args.places.now (c.loop-column.column + 1) -ℤ
+    (assignment_of c.args.places.now c.loop-column.column +ℤ pos (gap_of c.args.problem.now.style))) in
+    let is = part_above-is
+    (assignment_of c.args.places.now (c.loop-column.column + 1) -ℤ
+    (assignment_of c.args.places.now c.loop-column.column +ℤ pos (gap_of c.args.problem.now.style))) (omega (arith, ints, rise)) in
+    let m : to_z w32 (of_z w32
+    (to_z w32 (of_z w32 (to_z w32 (of_z w32 (get_or c.args.places.now (c.loop-column.column + 1) (pos 0))) -ℤ to_z w32
+    (of_z w32 (get_or c.args.places.now c.loop-column.column (pos 0))))) -ℤ to_z w32 c.gap-gap.result)) ≡ pos w = omega
+    (arith, ints, one.0, one.1, other.0, other.1, gap, few, is) in
     rw m (tt, omega (arith, ints, one.0, other.1, is, few))
 
 pub loop-column-preserved : goal.loop-column-preserved
@@ -47,10 +54,19 @@ loop-column-preserved c =
     let rise = c.requires.rising c.loop-column.column (omega (arith, c.cols-column-end.ensures)) in
     let gap : c.gap-gap.result ≡ gap_of c.args.problem.now.style = c.gap-gap.ensures ∙ ap gap_of c.style.ensures in
     let few = gap-few c.args.problem.now.style in
-    let w : ℕ = part_above (assignment_of c.args.places.now (c.loop-column.column + 1) -ℤ (assignment_of c.args.places.now c.loop-column.column +ℤ pos (gap_of c.args.problem.now.style))) in
-    let is = part_above-is (assignment_of c.args.places.now (c.loop-column.column + 1) -ℤ (assignment_of c.args.places.now c.loop-column.column +ℤ pos (gap_of c.args.problem.now.style))) (omega (arith, ints, rise)) in
-    let m : to_z w32 (of_z w32 (to_z w32 (of_z w32 (to_z w32 (of_z w32 (get_or c.args.places.now (c.loop-column.column + 1) (pos 0))) -ℤ to_z w32 (of_z w32 (get_or c.args.places.now c.loop-column.column (pos 0))))) -ℤ to_z w32 c.gap-gap.result)) ≡ pos w = omega (arith, ints, one.0, one.1, other.0, other.1, gap, few, is) in
-    let next : widths_of (assignment_of c.args.places.now) (gap_of c.args.problem.now.style) (c.loop-column.column + 1) ≡ widths_of (assignment_of c.args.places.now) (gap_of c.args.problem.now.style) c.loop-column.column ++ w ∷ [] = widths_of-next (assignment_of c.args.places.now) (gap_of c.args.problem.now.style) c.loop-column.column in
+    let w : ℕ = part_above
+    (assignment_of c.args.places.now (c.loop-column.column + 1) -ℤ
+    (assignment_of c.args.places.now c.loop-column.column +ℤ pos (gap_of c.args.problem.now.style))) in
+    let is = part_above-is
+    (assignment_of c.args.places.now (c.loop-column.column + 1) -ℤ
+    (assignment_of c.args.places.now c.loop-column.column +ℤ pos (gap_of c.args.problem.now.style))) (omega (arith, ints, rise)) in
+    let m : to_z w32 (of_z w32
+    (to_z w32 (of_z w32 (to_z w32 (of_z w32 (get_or c.args.places.now (c.loop-column.column + 1) (pos 0))) -ℤ to_z w32
+    (of_z w32 (get_or c.args.places.now c.loop-column.column (pos 0))))) -ℤ to_z w32 c.gap-gap.result)) ≡ pos w = omega
+    (arith, ints, one.0, one.1, other.0, other.1, gap, few, is) in
+    let next : widths_of (assignment_of c.args.places.now) (gap_of c.args.problem.now.style) (c.loop-column.column + 1) ≡ widths_of
+    (assignment_of c.args.places.now) (gap_of c.args.problem.now.style) c.loop-column.column ++ w ∷ [] = widths_of-next
+    (assignment_of c.args.places.now) (gap_of c.args.problem.now.style) c.loop-column.column in
     let wanted : c.push.new.self ≡ widths_of (assignment_of c.args.places.now) (gap_of c.args.problem.now.style) (c.loop-column.column + 1) =
     rw (next, c.in_ok-push.ensures.ok, m, c.loop-column.invariant) refl in
     wanted

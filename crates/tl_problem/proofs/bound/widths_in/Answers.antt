@@ -14,7 +14,8 @@ pub solve_least-requires-clause-bounded : goal.solve_least-requires-clause-bound
 solve_least-requires-clause-bounded c = place-bounded c.args.problem.now c.args.matrix.now.bounds c.requires.keeps
 
 pub widths_between-requires-clause-small : goal.widths_between-requires-clause-small
-widths_between-requires-clause-small c = place-small c.args.problem.now c.args.matrix.now.bounds c.requires.keeps (assignment_of c.solve_least.new.out) c.solve_least.ensures c.requires.sound
+widths_between-requires-clause-small c = place-small c.args.problem.now c.args.matrix.now.bounds c.requires.keeps
+    (assignment_of c.solve_least.new.out) c.solve_least.ensures c.requires.sound
 
 pub widths_between-requires-clause-rising : goal.widths_between-requires-clause-rising
 widths_between-requires-clause-rising c = λ k below. c.requires.keeps.gaps (assignment_of c.solve_least.new.out) c.solve_least.ensures.satisfies k below

@@ -13,5 +13,6 @@ keep_apart-requires-clause-holds c = page-satisfiable c.args.problem.now c.loop-
 
 pub loop-column-preserved : goal.loop-column-preserved
 loop-column-preserved c =
-    PageUpto-gap c.args.problem.now c.loop-column.column c.loop-column.matrix c.keep_apart.new.matrix (omega (arith, c.cols-column-end.ensures)) c.loop-column.invariant
+    PageUpto-gap c.args.problem.now c.loop-column.column c.loop-column.matrix c.keep_apart.new.matrix (omega (arith, c.cols-column-end.ensures))
+    c.loop-column.invariant
     (rw (c.gap-gap.ensures, c.style.ensures) at c.keep_apart.ensures.adds)

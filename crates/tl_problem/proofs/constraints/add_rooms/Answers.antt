@@ -14,7 +14,15 @@ overflow_add-least c =
     let inside : number < length p.cells = omega (arith, c.loop-number-test.true, ap length c.requires.cells) in
     let is = rw c.requires.cells at c.index-cells-number.is in
     let cell : c.index-cells-number.result ≡ cell_at p.cells number = is ∙ get_or_default p.cells number _ _ inside in
-    omega (arith, first-small p c.loop-number.invariant.sound number inside, c.least.ensures, ap (λ (x : Cell). first_width x.low) cell, c.gap-gap.ensures, ap gap_of c.style.ensures, gap-few p.style)
+    omega (
+      arith,
+      first-small p c.loop-number.invariant.sound number inside,
+      c.least.ensures,
+      ap (λ (x : Cell). first_width x.low) cell,
+      c.gap-gap.ensures,
+      ap gap_of c.style.ensures,
+      gap-few p.style,
+    )
 
 pub keep_apart-requires-clause-small : goal.keep_apart-requires-clause-small
 keep_apart-requires-clause-small c =
@@ -23,10 +31,19 @@ keep_apart-requires-clause-small c =
     let inside : number < length p.cells = omega (arith, c.loop-number-test.true, ap length c.requires.cells) in
     let is = rw c.requires.cells at c.index-cells-number.is in
     let cell : c.index-cells-number.result ≡ cell_at p.cells number = is ∙ get_or_default p.cells number _ _ inside in
-    omega (arith, first-small p c.loop-number.invariant.sound number inside, c.least.ensures, ap (λ (x : Cell). first_width x.low) cell, c.gap-gap.ensures, ap gap_of c.style.ensures, gap-few p.style)
+    omega (
+      arith,
+      first-small p c.loop-number.invariant.sound number inside,
+      c.least.ensures,
+      ap (λ (x : Cell). first_width x.low) cell,
+      c.gap-gap.ensures,
+      ap gap_of c.style.ensures,
+      gap-few p.style,
+    )
 
 pub keep_apart-requires-clause-holds : goal.keep_apart-requires-clause-holds
-keep_apart-requires-clause-holds c = page-satisfiable c.args.problem.now c.args.problem.now.cols c.loop-number.number c.loop-number.matrix c.loop-number.invariant
+keep_apart-requires-clause-holds c = page-satisfiable c.args.problem.now c.args.problem.now.cols c.loop-number.number c.loop-number.matrix
+    c.loop-number.invariant
 
 pub loop-number-preserved : goal.loop-number-preserved
 loop-number-preserved c =

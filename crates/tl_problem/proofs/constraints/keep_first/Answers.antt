@@ -12,13 +12,15 @@ pub returns-then-first-eq0-clause-adds : goal.returns-then-first-eq0-clause-adds
 returns-then-first-eq0-clause-adds c =
     let inside : c.args.s < length (spans_of c.args.problem.now) = omega (arith, c.requires.zone.spans, c.requires.span) in
     AddsFact-none c.args.matrix.now (HasFirst c.args.problem.now c.args.zone.now c.args.s)
-    (first-kept c.args.problem.now c.spans.ensures.sound c.args.zone.now c.args.s inside c.args.matrix.now.bounds c.requires.keeps (rw c.ranges-2.ensures at c.if-first-eq0.true))
+    (first-kept c.args.problem.now c.spans.ensures.sound c.args.zone.now c.args.s inside c.args.matrix.now.bounds c.requires.keeps
+    (rw c.ranges-2.ensures at c.if-first-eq0.true))
 
 pub overflow_add-classes : goal.overflow_add-classes
 overflow_add-classes c =
     let inside : c.args.s < length (spans_of c.args.problem.now) = omega (arith, c.requires.zone.spans, c.requires.span) in
     let in_range = c.requires.zone.ranges c.args.s c.requires.span in
-    let small = class-small c.args.problem.now c.spans.ensures.sound c.args.s (range_at c.args.zone.now c.args.s).first inside (omega (arith, in_range.0, in_range.1)) in
+    let small = class-small c.args.problem.now c.spans.ensures.sound c.args.s (range_at c.args.zone.now c.args.s).first inside
+    (omega (arith, in_range.0, in_range.1)) in
     rw (c.class_list-classes.ensures, c.ranges-2.ensures) (omega (arith, small, c.gap.ensures, ap gap_of c.style.ensures, gap-few c.args.problem.now.style))
 
 pub keep_apart-requires-clause-begins : goal.keep_apart-requires-clause-begins
@@ -37,8 +39,10 @@ pub keep_apart-requires-clause-small : goal.keep_apart-requires-clause-small
 keep_apart-requires-clause-small c =
     let inside : c.args.s < length (spans_of c.args.problem.now) = omega (arith, c.requires.zone.spans, c.requires.span) in
     let in_range = c.requires.zone.ranges c.args.s c.requires.span in
-    let small = class-small c.args.problem.now c.spans.ensures.sound c.args.s (range_at c.args.zone.now c.args.s).first inside (omega (arith, in_range.0, in_range.1)) in
+    let small = class-small c.args.problem.now c.spans.ensures.sound c.args.s (range_at c.args.zone.now c.args.s).first inside
+    (omega (arith, in_range.0, in_range.1)) in
     rw (c.class_list-classes.ensures, c.ranges-2.ensures) (omega (arith, small, c.gap.ensures, ap gap_of c.style.ensures, gap-few c.args.problem.now.style))
 
 pub returns-clause-adds : goal.returns-clause-adds
-returns-clause-adds c = rw (c.spans.ensures.spans, c.class_list-classes.ensures, c.ranges-2.ensures, c.gap.ensures, c.style.ensures) at c.keep_apart.ensures.adds
+returns-clause-adds c = rw (c.spans.ensures.spans, c.class_list-classes.ensures, c.ranges-2.ensures, c.gap.ensures, c.style.ensures) at
+    c.keep_apart.ensures.adds

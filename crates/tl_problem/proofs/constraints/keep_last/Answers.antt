@@ -14,7 +14,8 @@ pub returns-then-next-classes-clause-adds : goal.returns-then-next-classes-claus
 returns-then-next-classes-clause-adds c =
     let inside : c.args.s < length (spans_of c.args.problem.now) = omega (arith, c.requires.zone.spans, c.requires.span) in
     AddsFact-none c.args.matrix.now (HasLast c.args.problem.now c.args.zone.now c.args.s)
-    (last-kept c.args.problem.now c.spans.ensures.sound c.args.zone.now c.args.s inside c.args.matrix.now.bounds c.requires.keeps (rw (c.class_list-classes.ensures, c.ranges-2.ensures) at c.if-next-classes.true))
+    (last-kept c.args.problem.now c.spans.ensures.sound c.args.zone.now c.args.s inside c.args.matrix.now.bounds c.requires.keeps
+    (rw (c.class_list-classes.ensures, c.ranges-2.ensures) at c.if-next-classes.true))
 
 pub overflow_sub-classes : goal.overflow_sub-classes
 overflow_sub-classes c =
@@ -22,7 +23,8 @@ overflow_sub-classes c =
     let in_range = c.requires.zone.ranges c.args.s c.requires.span in
     let apart = rw (c.class_list-classes.ensures, c.ranges-2.ensures) at c.if-next-classes.false in
     let more : (range_at c.args.zone.now c.args.s).last + 1 < length (classes_at p c.args.s) = omega (arith, in_range.1, apart) in
-    let rise = classes-rising p (span_at p c.args.s) (range_at c.args.zone.now c.args.s).last ((range_at c.args.zone.now c.args.s).last + 1) 0 (omega arith) more in
+    let rise = classes-rising p (span_at p c.args.s) (range_at c.args.zone.now c.args.s).last ((range_at c.args.zone.now c.args.s).last + 1) 0
+    (omega arith) more in
     rw (c.class_list-classes.ensures, c.ranges-2.ensures) (omega (arith, rise))
 
 pub overflow_add-classes : goal.overflow_add-classes

@@ -9,13 +9,15 @@ use Rattle.tl_problem.proofs.demands.sizes_in.Goals as goal
 
 pub sizes_between-requires-clause-rising : goal.sizes_between-requires-clause-rising
 sizes_between-requires-clause-rising c = λ k within.
-    ends-rise c.args.problem.now c.args.axis c.args.demands.now c.find_ends.new.ends c.find_ends.ensures.ends k (omega (arith, c.find_ends.auto.ends, c.requires.end_room))
+    ends-rise c.args.problem.now c.args.axis c.args.demands.now c.find_ends.new.ends c.find_ends.ensures.ends k
+    (omega (arith, c.find_ends.auto.ends, c.requires.end_room))
 
 pub returns-clause-least : goal.returns-clause-least
 returns-clause-least c =
     let ends = c.find_ends.new.ends in
     let count : length ends - 1 ≡ count_on c.args.axis c.args.problem.now = omega (arith, c.find_ends.auto.ends, c.requires.end_room) in
-    let is : c.in_ok-sizes.sizes ≡ rises (λ k. get_or ends k 0) (count_on c.args.axis c.args.problem.now) = c.in_ok-sizes.ensures ∙ ap (rises (λ k. get_or ends k 0)) count in
+    let is : c.in_ok-sizes.sizes ≡ rises (λ k. get_or ends k 0) (count_on c.args.axis c.args.problem.now) = c.in_ok-sizes.ensures ∙ ap
+    (rises (λ k. get_or ends k 0)) count in
     subst (AreLeast (gap_on c.args.axis c.args.problem.now) (GiveDemands c.args.problem.now c.args.axis c.args.demands.now)) (sym is)
     (sizes-least c.args.problem.now c.args.axis c.args.demands.now ends c.find_ends.ensures.ends)
 

@@ -5,7 +5,8 @@ use Rattle.tl_problem.specs.inner.Spanning.{least_among}
 use Rattle.tl_problem.proofs.SpanLaws.{has_span-from}
 use Rattle.tl_problem.proofs.SpanningLemmas.{least_among-skip, least_among-more, has_span-false}
 use Rattle.tl_problem.proofs.spans.greatest_least.Goals as goal
-use Rattle.tl_problem.proofs.spans.greatest_least.Goals.{then-cell-span+then-cell-span-2, else-cell-span, else-cell-span-via-then-cell-span+else-cell-span-2, else-cell-span-via-else-cell-span}
+use Rattle.tl_problem.proofs.spans.greatest_least.Goals.{then-cell-span+then-cell-span-2, else-cell-span}
+use Rattle.tl_problem.proofs.spans.greatest_least.Goals.{else-cell-span-via-then-cell-span+else-cell-span-2, else-cell-span-via-else-cell-span}
 
 pub loop-cell-preserved : goal.loop-cell-preserved
 loop-cell-preserved c =

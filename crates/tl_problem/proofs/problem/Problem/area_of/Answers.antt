@@ -19,7 +19,8 @@ held_area-bound-requires c =
     let adds = rw c.mark.ensures at c.add_ranges.ensures.adds in
     record {
       sound = c.requires.page.work_of.sound;
-      keeps = KeepsPage-adds c.args.self.now c.args.work.now.matrix.bounds c.add_ranges.new.matrix.bounds adds.variables adds.keeps c.requires.page.work_of.keeps;
+      keeps = KeepsPage-adds c.args.self.now c.args.work.now.matrix.bounds c.add_ranges.new.matrix.bounds adds.variables adds.keeps
+          c.requires.page.work_of.keeps;
       demands = c.requires.page.work_of.demands;
       arcs = c.requires.page.work_of.arcs;
       ends = c.requires.page.work_of.ends;
@@ -40,5 +41,6 @@ returns-clause-bound c =
           w.held_area-bound.result w.held_area-bound.ensures)
       | else-add_ranges w ↦
           rw w.bound-is
-          (ranges-none p zone _ _ base.bounds c.add_ranges.new.matrix c.add_ranges.result adds w.if-add_ranges.false c.requires.page.whole c.add_ranges.ensures.holds.1)
+          (ranges-none p zone _ _ base.bounds c.add_ranges.new.matrix c.add_ranges.result adds w.if-add_ranges.false c.requires.page.whole
+          c.add_ranges.ensures.holds.1)
     ]

@@ -22,7 +22,8 @@ pub returns : goal.returns
 returns c =
     let items = c.deref-classes-items.result.now in
     let parts : HasParts c.args.self.now c.self.inside.spans.items c.self.inside.classes.items c.self.inside.by_left.items c.self.inside.by_top.items =
-    subst (λ p. HasParts p c.self.inside.spans.items c.self.inside.classes.items c.self.inside.by_left.items c.self.inside.by_top.items) c.self.view_is c.self.invariant in
+    subst (λ p. HasParts p c.self.inside.spans.items c.self.inside.classes.items c.self.inside.by_left.items c.self.inside.by_top.items)
+    c.self.view_is c.self.invariant in
     let all = take_all c.loop-classes.classes-index items (omega arith) in
     let are : items ≡ map (classes_of c.args.self.now) (spans_of c.args.self.now) = c.deref-classes-items.ensures.value ∙ parts.each_class in
     c.loop-classes.invariant ∙ ap (λ ws. min (product (map (λ (firsts : List ℕ). length firsts) ws)) (2 ^ 64 - 1)) (all ∙ are) ∙

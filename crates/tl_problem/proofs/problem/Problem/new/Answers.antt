@@ -22,7 +22,8 @@ invariant_of-result c =
     record {
       sound = c.requires;
       each_span = each;
-      each_class = classes-found p c.in_ok-classes.classes.items (rw (c.as_slice-2.ensures, c.saturating_sub-page_room.ensures, c.edge.ensures, c.deref.ensures.value, each) at c.in_ok-classes.ensures);
+      each_class = classes-found p c.in_ok-classes.classes.items
+          (rw (c.as_slice-2.ensures, c.saturating_sub-page_room.ensures, c.edge.ensures, c.deref.ensures.value, each) at c.in_ok-classes.ensures);
       columns = rw c.as_slice-3.ensures at c.in_ok-by_left.ensures;
       rows = rw c.as_slice-4.ensures at c.in_ok-by_top.ensures;
     }

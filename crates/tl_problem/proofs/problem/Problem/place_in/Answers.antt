@@ -18,12 +18,14 @@ returns-in_default-clause-placed c = rw (c.in_ok-found.was, c.in_default.is) at 
 
 pub place_under-requires : goal.place_under-requires
 place_under-requires c =
-    let least : AreLeast (gap_of c.args.self.now.style) (InZone c.args.self.now c.args.zone.now) c.in-Some.widths = rw (c.in_ok-found.was, c.in-Some.is) at c.zone_widths-attempt.ensures.widths in
+    let least : AreLeast (gap_of c.args.self.now.style) (InZone c.args.self.now c.args.zone.now) c.in-Some.widths = rw
+    (c.in_ok-found.was, c.in-Some.is) at c.zone_widths-attempt.ensures.widths in
     rw c.as_slice.ensures least.kind.page
 
 pub returns-clause-placed : goal.returns-clause-placed
 returns-clause-placed c =
-    let least : AreLeast (gap_of c.args.self.now.style) (InZone c.args.self.now c.args.zone.now) c.in-Some.widths = rw (c.in_ok-found.was, c.in-Some.is) at c.zone_widths-attempt.ensures.widths in
+    let least : AreLeast (gap_of c.args.self.now.style) (InZone c.args.self.now c.args.zone.now) c.in-Some.widths = rw
+    (c.in_ok-found.was, c.in-Some.is) at c.zone_widths-attempt.ensures.widths in
     record {
       columns = rw (c.in_ok-placed.ensures.1, c.as_slice.ensures) least;
       placement = c.in_ok-placed.ensures.0;

@@ -10,7 +10,12 @@ use Rattle.tl_problem.proofs.problem.Problem.tight.Goals as goal
 
 pub least_sizes-requires-clause-fits : goal.least_sizes-requires-clause-fits
 least_sizes-requires-clause-fits c =
-    rw c.deref.ensures.value (omega (arith, width-sum c.args.self.now c.cells-cells.ensures.sound c.args.placed.now.widths c.in_ok-demands.demands.items c.requires.page (rw c.as_slice.ensures at c.in_ok-demands.ensures)))
+    rw c.deref.ensures.value
+    (omega (
+      arith,
+      width-sum c.args.self.now c.cells-cells.ensures.sound c.args.placed.now.widths c.in_ok-demands.demands.items c.requires.page
+          (rw c.as_slice.ensures at c.in_ok-demands.ensures),
+    ))
 
 pub place_under-requires : goal.place_under-requires
 place_under-requires c =
@@ -20,7 +25,8 @@ place_under-requires c =
     let demands = c.in_ok-demands.demands.items in
     let need = rw c.as_slice.ensures at c.in_ok-demands.ensures in
     let least = AreLeast-same (gap_of p.style) (GiveDemands p Columns demands) (KeepHigh p widths) c.in_ok-widths.widths
-    (λ xs. keep-give p sound widths demands xs need) (λ xs. give-keep p sound widths demands xs need) (rw c.deref.ensures.value at c.in_ok-widths.ensures.least) in
+    (λ xs. keep-give p sound widths demands xs need) (λ xs. give-keep p sound widths demands xs need)
+    (rw c.deref.ensures.value at c.in_ok-widths.ensures.least) in
     rw c.as_slice-2.ensures (page-keep p sound widths c.in_ok-widths.widths c.requires.page least)
 
 pub returns-clause-tight : goal.returns-clause-tight
@@ -31,7 +37,8 @@ returns-clause-tight c =
     let demands = c.in_ok-demands.demands.items in
     let need = rw c.as_slice.ensures at c.in_ok-demands.ensures in
     let least = AreLeast-same (gap_of p.style) (GiveDemands p Columns demands) (KeepHigh p widths) c.in_ok-widths.widths
-    (λ xs. keep-give p sound widths demands xs need) (λ xs. give-keep p sound widths demands xs need) (rw c.deref.ensures.value at c.in_ok-widths.ensures.least) in
+    (λ xs. keep-give p sound widths demands xs need) (λ xs. give-keep p sound widths demands xs need)
+    (rw c.deref.ensures.value at c.in_ok-widths.ensures.least) in
     let made : IsTightFrom p widths c.in_ok-tight.tight = record {
       columns = rw (c.in_ok-tight.ensures.1, c.as_slice-2.ensures) least;
       placement = c.in_ok-tight.ensures.0;
@@ -46,7 +53,8 @@ returns-clause-no_wider c =
     let demands = c.in_ok-demands.demands.items in
     let need = rw c.as_slice.ensures at c.in_ok-demands.ensures in
     let least = AreLeast-same (gap_of p.style) (GiveDemands p Columns demands) (KeepHigh p widths) c.in_ok-widths.widths
-    (λ xs. keep-give p sound widths demands xs need) (λ xs. give-keep p sound widths demands xs need) (rw c.deref.ensures.value at c.in_ok-widths.ensures.least) in
+    (λ xs. keep-give p sound widths demands xs need) (λ xs. give-keep p sound widths demands xs need)
+    (rw c.deref.ensures.value at c.in_ok-widths.ensures.least) in
     let made : IsTightFrom p widths c.in_ok-tight.tight = record {
       columns = rw (c.in_ok-tight.ensures.1, c.as_slice-2.ensures) least;
       placement = c.in_ok-tight.ensures.0;
@@ -61,7 +69,8 @@ returns-clause-no_higher c =
     let demands = c.in_ok-demands.demands.items in
     let need = rw c.as_slice.ensures at c.in_ok-demands.ensures in
     let least = AreLeast-same (gap_of p.style) (GiveDemands p Columns demands) (KeepHigh p widths) c.in_ok-widths.widths
-    (λ xs. keep-give p sound widths demands xs need) (λ xs. give-keep p sound widths demands xs need) (rw c.deref.ensures.value at c.in_ok-widths.ensures.least) in
+    (λ xs. keep-give p sound widths demands xs need) (λ xs. give-keep p sound widths demands xs need)
+    (rw c.deref.ensures.value at c.in_ok-widths.ensures.least) in
     let made : IsTightFrom p widths c.in_ok-tight.tight = record {
       columns = rw (c.in_ok-tight.ensures.1, c.as_slice-2.ensures) least;
       placement = c.in_ok-tight.ensures.0;
