@@ -19,6 +19,7 @@ mod section_text;
 #[cfg(test)]
 mod tests;
 mod trace;
+mod writing;
 
 pub use certificate::{Certificate, Claim};
 pub use certificate_text::read;
@@ -29,3 +30,4 @@ pub use limits::{
 pub use log::{Bound, End, Log, LogLine, Nogood, Side};
 pub use section::Section;
 pub use trace::{CutAt, Trace};
+pub use writing::write;
