@@ -1,6 +1,12 @@
-pub mod reading
-pub mod text
+mod Examples
+pub mod CountLaws
+pub mod LogLaws
 pub mod Loops
 pub mod ReadAnswers
 pub mod Appending
 pub mod TextExamples
+pub mod TraceLaws
+pub mod WorkedLaws
+pub mod ZoneBounds
+pub mod reading
+pub mod text

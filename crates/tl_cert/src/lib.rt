@@ -9,6 +9,7 @@ mod certificate;
 mod certificate_text;
 mod chain_text;
 mod error;
+mod laws;
 mod follow;
 mod limits;
 mod log;
@@ -24,6 +25,10 @@ mod writing;
 pub use certificate::{Certificate, Claim};
 pub use certificate_text::read;
 pub use error::CertError;
+pub use laws::{
+    enough_budget_closes, good_logs_are_sound, nogoods_are_true, traces_part_vectors,
+    zones_meet_their_bounds,
+};
 pub use limits::{
     MAX_BOUNDS, MAX_CLASS, MAX_FIRES, MAX_LINE, MAX_SECTIONS, MAX_SPAN, MAX_TABLE, MAX_ZONE,
 };

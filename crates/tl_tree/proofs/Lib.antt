@@ -1,4 +1,5 @@
 mod Moves
 mod MachineWhole
 mod MachineSound
+mod Depths
 mod Verdicts

@@ -178,6 +178,7 @@ col_step {n} {pending} {span} (at_colgroup {spans = spans} cols ended later) = a
     sums : (rest : List ℕ) → colgroup_columns 0 rest ≡ sum rest
     sums [] = refl
     sums (t ∷ rest) = refl
+
     same_number : n + span + colgroup_columns 0 spans ≡ n + sum (span ∷ spans)
     same_number = add_assoc n span _ ∙ ap (λ x. n + x) (ap (λ x. span + x) (sums spans) ∙ sym (sum_by-cons (λ s. s) span spans))
 

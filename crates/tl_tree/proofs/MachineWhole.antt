@@ -97,13 +97,15 @@ cols_whole hs n pending (col_space {cs = cs} white later) ended a =
     by_move (in_colgroup n pending) (in_colgroup n pending) hs (text cs) [] (white_stays (in_colgroup n pending) cs refl white) (cols_whole hs n pending later ended a)
 cols_whole hs n pending {ms = ms} (next_col {span = span} {spans = spans} later) ended a =
     by_move (in_colgroup n pending) (in_colgroup (n + span) 0) hs (col span) [] refl
-        (cols_whole hs (n + span) 0 later ended (same_columns a))
+    (cols_whole hs (n + span) 0 later ended (same_columns a))
   where
     sums : (s : ℕ) (rest : List ℕ) → colgroup_columns 0 rest ≡ sum rest
     sums s [] = refl
     sums s (t ∷ rest) = refl
+
     same_number : n + sum (span ∷ spans) ≡ n + span + colgroup_columns 0 spans
     same_number = ap (λ x. n + x) (sum_by-cons (λ s. s) span spans ∙ ap (λ x. span + x) (sym (sums span spans))) ∙ sym (add_assoc n span _)
+
     same_columns : {k2 : Kinds} → Accepts (inside (in_columns (n + sum (span ∷ spans))) hs) k2 ms → Accepts (inside (in_columns (n + span + colgroup_columns 0 spans)) hs) k2 ms
     same_columns {k2} b = let P : ℕ → Type 0 = λ x. Accepts (inside (in_columns x) hs) k2 ms in subst P same_number b
 
@@ -157,7 +159,7 @@ mutual
   cells_whole part hs no_cell a = a
   cells_whole part hs (cell {head = head} {spans = spans} {k1 = k1} flow ended later) a =
       let b = ended_whole (cell_end head) (in_flow (of_cell part head)) (in_row part) hs (paragraph_ends ∷ []) none (when (same_head head head) _ _ (same_head-refl head)) refl
-              (λ k w o. cell_as_row part head k w) (none_begins k1) ended (cells_whole part hs later a) in
+      (λ k w o. cell_as_row part head k w) (none_begins k1) ended (cells_whole part hs later a) in
       by_move (in_row part) (in_flow (of_cell part head)) hs (cell_start head spans) (cell_begins head spans ∷ []) refl (flow_whole (of_cell part head) hs flow b)
 
   rows_whole : (part : Part) (hs : List Holder) {ks rest : Kinds} {ms more : Marks} → Rows ks ms rest more
@@ -173,7 +175,7 @@ mutual
   parts_whole hs solid (group {section = section} spaces rows ended later) a =
       let part = part_of section in
       let b = ended_whole (group_end section) (in_group part) between hs [] is_row_start (when (closes section part) _ _ (closes-own section)) refl
-              (λ k w o. group_as_between part k w o) (rows_end rows) ended (parts_whole hs solid later a) in
+      (λ k w o. group_as_between part k w o) (rows_end rows) ended (parts_whole hs solid later a) in
       by_move between (in_group part) hs (group_start section) (group_begins part ∷ []) refl (spaces_whole (in_group part) hs refl spaces (rows_whole part hs rows b))
   parts_whole hs solid (loose_rows {k1 = k1} rows later) a =
       let b = as_alike_all (in_group Loose) between hs [] is_row_start (λ k w o. group_as_between Loose k w o) k1 (parts_solid solid later) (rows_end rows) (parts_whole hs solid later a) in
