@@ -4,6 +4,7 @@ pub mod FireLaws
 pub mod LogLaws
 pub mod Loops
 pub mod ReadAnswers
+pub mod Appending
 pub mod TextExamples
 pub mod TraceLaws
 pub mod WorkedLaws

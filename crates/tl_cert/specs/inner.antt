@@ -3,3 +3,4 @@ pub mod Areas
 pub mod CertReading
 pub mod Follows
 pub mod Gives
+pub mod Head

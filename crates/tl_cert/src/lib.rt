@@ -20,6 +20,7 @@ mod section_text;
 #[cfg(test)]
 mod tests;
 mod trace;
+mod writing;
 
 pub use certificate::{Certificate, Claim};
 pub use certificate_text::read;
@@ -34,3 +35,4 @@ pub use limits::{
 pub use log::{Bound, End, Log, LogLine, Nogood, Side};
 pub use section::Section;
 pub use trace::{CutAt, Trace};
+pub use writing::write;

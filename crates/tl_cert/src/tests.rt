@@ -1,4 +1,322 @@
-use crate::{Bound, CertError, Certificate, Claim, CutAt, End, LogLine, Nogood, Section, Side};
+use crate::{
+    Bound, CertError, Certificate, Claim, CutAt, End, LogLine, Nogood, Section, Side, read, write,
+};
+use std::alloc::{AllocError, Global};
+use std::test::Fail;
+
+/// Two columns of widths 3 and 5 on a page of 12, of height 2.
+const LOWEST: &str =
+    "tablelayout 1 12 plain 6\nlowest 2\nsection 0 12 2 2 0 1\nwidths 3 5\nz0 chain\nend\n";
+
+/// What is said of the text: the message of its fault, or that it is read and written again as it is.
+fn answer(alloc: Global, text: &str) -> Result<String, AllocError> {
+    match read(alloc, text.as_bytes()) {
+        Err(error) => format!(in alloc; "{error}"),
+        Ok(certificate) => {
+            let again = write(alloc, &certificate)?;
+            if again.as_slice() == text.as_bytes() {
+                String::from_str(alloc, "read")
+            } else {
+                String::from_str(alloc, "written in another way")
+            }
+        }
+    }
+}
+
+#[test]
+fn texts_are_read_and_written_again(rt: HostRuntime) -> Result<(), Fail> {
+    for text in [
+        LOWEST,
+        "tablelayout 1 12 plain 0\nbounded 3 2\nsection 0 12 3 2 0 1\nwidths 3 2\nz0 chain\nend\n",
+        "tablelayout 1 11 plain 5000\nnarrow 12\nchain 0 0 1\nend\n",
+        "tablelayout 1 6 plain 5000\nnarrow 7\nchain 0 0:1\nchain 1 0 1\nend\n",
+        "tablelayout 1 25 plain 3\nlowest 4\nsection 0 25 4 4 3 3\nwidths 1 1 4 4\ncut 0 0 0\ncut 1 1 0\ncut 3 2 0\n2-8 chain\n2+9 chain\nz0 @0 @1 fired\nend\n",
+        "tablelayout 2 7 plain 0\nlowest 2\nsection 0 7 2 2 0 1\nwidths 1 1\nz0 area\nend\n",
+        "tablelayout 1 1 frame 0\nlowest 0\nsection 0 1 0 0 0 1\nwidths\n0-3 0+4 cycle\nend\n",
+    ] {
+        assert_eq!(rt; answer(rt.alloc(), text)?.as_str(), "read", "{text}");
+    }
+    Ok(())
+}
+
+#[test]
+fn a_certificate_has_the_numbers_of_its_text(rt: HostRuntime) -> Result<(), Fail> {
+    let certificate = read(rt.alloc(), LOWEST.as_bytes())?;
+    assert_eq!(rt; certificate.width, 12);
+    assert_eq!(rt; certificate.budget, 6);
+    assert_eq!(rt; certificate.claim, Claim::Lowest(2));
+    assert_eq!(rt; certificate.chains.len(), 0);
+    assert_eq!(rt; certificate.sections.len(), 1);
+    let section = &certificate.sections.as_slice()[0];
+    assert_eq!(rt; section.widths.as_slice(), [3, 5].as_slice());
+    assert_eq!(rt; section.trace.len(), 0);
+    assert_eq!(rt; section.log.len(), 1);
+    let line = &section.log.as_slice()[0];
+    assert!(rt; matches!(line.nogood, Nogood::Zone(0)));
+    assert_eq!(rt; line.end, End::Chain);
+    Ok(())
+}
+
+#[test]
+fn a_fault_stands_at_its_place(rt: HostRuntime) -> Result<(), Fail> {
+    for (text, want) in [
+        ("", "syntax at 0"),
+        ("tablelayout 1 12 plain 6\r\n", "syntax at 24"),
+        ("tablelayout 3", "syntax at 12"),
+        ("tablelayout 1 0 plain 6\n", "range at 14"),
+        ("tablelayout 1 00 plain 6\n", "syntax at 15"),
+        ("tablelayout 1 501", "range at 14"),
+        ("tablelayout 1 99999999999999999999x", "range at 14"),
+        ("tablelayout 1 12 fancy 6\n", "syntax at 18"),
+        ("tablelayout 1 12 plain 100001\n", "range at 23"),
+        // The number of a claim, and a second zero in it.
+        ("tablelayout 1 12 plain 6\nlowest 02", "syntax at 33"),
+        (
+            "tablelayout 1 12 plain 6\nlowest 1073741825\n",
+            "range at 32",
+        ),
+        // Chains stand with `narrow` and sections with the others, and no area with `narrow`.
+        (
+            "tablelayout 1 12 plain 6\nlowest 2\nchain 0 0\nend\n",
+            "syntax at 34",
+        ),
+        (
+            "tablelayout 1 12 plain 6\nnarrow 2\nsection 0",
+            "syntax at 34",
+        ),
+        ("tablelayout 2 12 plain 6\nnarrow 2\n", "syntax at 25"),
+        ("tablelayout 1 12 plain 6\nnarrow 2\nend\n", "syntax at 34"),
+        (
+            "tablelayout 1 12 plain 6\nnarrow 2\nchain 200 0\nend\n",
+            "range at 40",
+        ),
+        (
+            "tablelayout 1 12 plain 6\nnarrow 2\nchain 0 20001\nend\n",
+            "range at 42",
+        ),
+        (
+            "tablelayout 1 12 plain 6\nnarrow 2\nchain 0 0:200\nend\n",
+            "range at 44",
+        ),
+        (
+            "tablelayout 1 12 plain 6\nnarrow 2\nchain 0 \nend\n",
+            "syntax at 42",
+        ),
+    ] {
+        assert_eq!(rt; answer(rt.alloc(), text)?.as_str(), want, "{text}");
+    }
+    Ok(())
+}
+
+/// The answer to the text with one section of this line, these widths and this log line.
+fn section_answer(
+    alloc: Global,
+    version: &str,
+    head: &str,
+    widths: &str,
+    line: &str,
+) -> Result<String, AllocError> {
+    let text = format!(in alloc;
+        "tablelayout {version} 12 plain 6\nlowest 2\n{head}\n{widths}\n{line}\nend\n"
+    )?;
+    answer(alloc, text.as_str())
+}
+
+#[test]
+fn a_fault_in_a_log_line_stands_at_its_place(rt: HostRuntime) -> Result<(), Fail> {
+    for (line, want) in [
+        // The line begins at byte 66.
+        ("z0 chain", "read"),
+        ("z200000 @200000 fired", "read"),
+        ("z200001 chain", "range at 67"),
+        ("z0 @200001 fired", "range at 70"),
+        ("z0 fired ", "syntax at 74"),
+        ("z0 area", "syntax at 69"),
+        ("z0 chair", "syntax at 73"),
+        ("z0  chain", "syntax at 69"),
+        ("z0 @0 @0 @0 @0 @0 @0 @0 @0 cycle", "read"),
+        ("z0 @0 @0 @0 @0 @0 @0 @0 @0 @0 cycle", "syntax at 93"),
+        ("0-1 1-1 2-1 3-1 4-1 5-1 6-1 7-1 cycle", "read"),
+        ("0-1 1-1 2-1 3-1 4-1 5-1 6-1 7-1 8-1 cycle", "syntax at 98"),
+        ("1829-500 chain", "read"),
+        ("1830-500 chain", "range at 66"),
+        ("1829-501 chain", "range at 71"),
+        // Bounds in order: by span, "at most" before "at least", each once.
+        ("0-3 0+4 cycle", "read"),
+        ("0+3 0-4 cycle", "syntax at 70"),
+        ("0-3 0-3 cycle", "syntax at 71"),
+        ("12-3 1-4 cycle", "syntax at 72"),
+        ("12-3 1", "syntax at 72"),
+        ("12+3 12+4 cycle", "syntax at 73"),
+        ("12-3 13-4 cycle", "read"),
+        ("12-3 02-4 cycle", "syntax at 71"),
+        ("07-3 cycle", "syntax at 67"),
+    ] {
+        let said = section_answer(rt.alloc(), "1", "section 0 12 2 2 0 1", "widths 3 5", line)?;
+        assert_eq!(rt; said.as_str(), want, "{line}");
+    }
+    Ok(())
+}
+
+#[test]
+fn a_fault_in_a_section_stands_at_its_place(rt: HostRuntime) -> Result<(), Fail> {
+    for (version, head, widths, line, want) in [
+        // The section begins at byte 34, and its last number at byte 53.
+        (
+            "1",
+            "section 200 12 2 2 0 1",
+            "widths",
+            "z0 chain",
+            "range at 42",
+        ),
+        (
+            "1",
+            "section 0 501 2 2 0 1",
+            "widths",
+            "z0 chain",
+            "range at 44",
+        ),
+        (
+            "1",
+            "section 0 12 2 2 100001 1",
+            "widths",
+            "z0 chain",
+            "range at 51",
+        ),
+        (
+            "1",
+            "section 0 12 2 2 0 0",
+            "widths",
+            "z0 chain",
+            "range at 53",
+        ),
+        (
+            "1",
+            "section 0 12 2 2 0 2",
+            "widths",
+            "z0 chain",
+            "range at 53",
+        ),
+        (
+            "1",
+            "section 0 12 2 2 0 1",
+            "widths ",
+            "z0 chain",
+            "syntax at 62",
+        ),
+        (
+            "1",
+            "section 0 12 2 2 0 1",
+            "widths 501",
+            "z0 chain",
+            "range at 62",
+        ),
+        (
+            "1",
+            "section 0 12 2 2 1 1",
+            "widths\ncut 200000 1829 499",
+            "z0 chain",
+            "read",
+        ),
+        (
+            "1",
+            "section 0 12 2 2 1 1",
+            "widths\ncut 0 0 500",
+            "z0 chain",
+            "range at 70",
+        ),
+        (
+            "1",
+            "section 0 12 2 2 1 1",
+            "widths",
+            "z0 chain",
+            "syntax at 62",
+        ),
+        // In version 2 a log line ends by `area`, in the last section at the latest.
+        (
+            "2",
+            "section 0 12 2 2 0 1",
+            "widths 3 5",
+            "z0 chain",
+            "syntax at 75",
+        ),
+        ("2", "section 0 12 2 2 0 1", "widths 3 5", "z0 area", "read"),
+        (
+            "1",
+            "section 0 12 2 2 0 1",
+            "widths 3 5",
+            "z0 area",
+            "syntax at 69",
+        ),
+    ] {
+        let said = section_answer(rt.alloc(), version, head, widths, line)?;
+        assert_eq!(rt; said.as_str(), want, "{head} {widths} {line}");
+    }
+    Ok(())
+}
+
+#[test]
+fn there_are_at_most_60_widths(rt: HostRuntime) -> Result<(), Fail> {
+    for (count, want) in [(60, "read"), (61, "syntax at 181")] {
+        let mut widths = String::from_str(rt.alloc(), "widths")?;
+        for _ in 0..count {
+            widths.push_str(" 3")?;
+        }
+        let said = section_answer(
+            rt.alloc(),
+            "1",
+            "section 0 12 2 2 0 1",
+            widths.as_str(),
+            "z0 chain",
+        )?;
+        assert_eq!(rt; said.as_str(), want);
+    }
+    Ok(())
+}
+
+// A front of the text is no text, and it goes wrong where it ends.
+#[test]
+fn a_front_goes_wrong_where_it_ends(rt: HostRuntime) {
+    let bytes = LOWEST.as_bytes();
+    for length in 0..bytes.len() {
+        assert!(rt;
+            matches!(read(rt.alloc(), &bytes[..length]), Err(CertError::Syntax(place)) if place as usize == length),
+            "{length}"
+        );
+    }
+}
+
+// A text with one other byte is no text, or that of another certificate.
+#[test]
+fn one_other_byte_is_not_overlooked(rt: HostRuntime) -> Result<(), Fail> {
+    for place in 0..LOWEST.len() {
+        for byte in *b"09z \n" {
+            let mut bytes = LOWEST.as_bytes().to_vec(rt.alloc())?;
+            if place >= bytes.len() || bytes[place] == byte {
+                continue;
+            }
+            bytes[place] = byte;
+            if let Ok(certificate) = read(rt.alloc(), &bytes) {
+                let again = write(rt.alloc(), &certificate)?;
+                assert!(rt; again.as_slice() == bytes.as_slice(), "{place}");
+            }
+        }
+    }
+    Ok(())
+}
+
+#[test]
+fn each_error_has_its_message(rt: HostRuntime) -> Result<(), Fail> {
+    for (error, want) in [
+        (CertError::Memory(AllocError), "out of memory"),
+        (CertError::Syntax(33), "syntax at 33"),
+        (CertError::Range(14), "range at 14"),
+        (CertError::TooLong, "too long"),
+    ] {
+        assert_eq!(rt; format!(in rt.alloc(); "{error}")?.as_str(), want);
+    }
+    Ok(())
+}
 
 fn share<T: Send + Sync + Drop>(_value: T) {}
 
