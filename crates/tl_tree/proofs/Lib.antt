@@ -1,5 +1,1 @@
-mod Moves
-mod MachineWhole
-mod MachineSound
-mod Depths
-mod Verdicts
+mod Lines

@@ -1,2 +1,5 @@
+pub mod Lines
 pub mod Machine
 pub mod Verdict
+pub mod Atoms
+pub mod Stops
