@@ -1,1 +1,8 @@
+mod Moves
+mod MachineWhole
+mod MachineSound
+mod Depths
+mod Verdicts
 mod Lines
+pub mod Outlines
+mod Adds

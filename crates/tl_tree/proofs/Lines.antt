@@ -47,8 +47,8 @@ pub read_white : (atoms : List Atom) (word : List ℕ) (c : ℕ) (ms : Marks) �
 read_white atoms word c ms white =
     let rest = words_from [] (first_text ms) in
     let e : map Word (words_from word (c ∷ first_text ms)) ≡ open_atoms word ++ map Word rest =
-            ap (λ ws. map Word ws) (words_from-white word (first_text ms) c white) ∙ map-if (has_character word) word rest
-            ∙ ap (λ ws. map Word ws ++ map Word rest) (sym (words_from-end word)) in
+    ap (λ ws. map Word ws) (words_from-white word (first_text ms) c white) ∙ map-if (has_character word) word rest
+    ∙ ap (λ ws. map Word ws ++ map Word rest) (sym (words_from-end word)) in
     append_assoc atoms (open_atoms word) _ ∙ ap (λ x. atoms ++ x) (sym (append_assoc (open_atoms word) (map Word rest) (after_breaks ms)) ∙ ap (λ x. x ++ after_breaks ms) (sym e))
 
 -- a break ends the word and stands after it

@@ -3,3 +3,4 @@ pub mod Machine
 pub mod Verdict
 pub mod Atoms
 pub mod Stops
+pub mod Reading

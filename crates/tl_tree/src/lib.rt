@@ -7,7 +7,9 @@
 mod error;
 mod flow;
 mod node;
+mod open;
 mod stop;
+mod tags;
 
 pub use error::TreeError;
 pub use node::{Block, CellNode, GroupNode, Part, TableNode};

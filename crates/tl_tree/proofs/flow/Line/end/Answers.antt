@@ -16,4 +16,4 @@ returns c =
     let same = c.in_ok-end_word.ensures.atoms in
     let few : sum_by atom_size c.end_word.new.self.atoms ≤ 1048576 = rw same (omega arith) in
     ends_paragraph c.new.result c.end_word.new.self.atoms (line_atoms c.args.self []) c.new.ensures
-        (same ∙ sym (read_end c.args.self.atoms (open_word c.args.self))) c.end_word.new.self.whole few
+    (same ∙ sym (read_end c.args.self.atoms (open_word c.args.self))) c.end_word.new.self.whole few
