@@ -59,9 +59,9 @@ empty_flow flow blocks atoms word entries = record {
       let e = entries_after k later in
       ap (λ bs. (entries ++ blocks_outline bs) ++ (paragraph_of (line_atoms flow.line (leading later)) ++ e)) blocks
       ∙ ap (λ es. es ++ (paragraph_of (line_atoms flow.line (leading later)) ++ e)) (append-nil entries)
-      ∙ ap (λ as. entries ++ (paragraph_of (atoms_from as (open_word flow.line) (leading later)) ++ e)) atoms
+      ∙ ap (λ list. entries ++ (paragraph_of (atoms_from list (open_word flow.line) (leading later)) ++ e)) atoms
       ∙ ap (λ w. entries ++ (paragraph_of (atoms_from [] w (leading later)) ++ e)) word
-      ∙ ap (λ as. entries ++ (paragraph_of as ++ e)) (read_none (leading later));
+      ∙ ap (λ list. entries ++ (paragraph_of list ++ e)) (read_none (leading later));
 }
 
 -- a flow whose paragraph ends and is one of its blocks
@@ -71,9 +71,9 @@ paragraph_ended old new entries blocks atoms word = record {
   same = λ k later.
       let e = entries_after k later in
       ap (λ bs. (entries ++ bs) ++ (paragraph_of (line_atoms new.line (leading later)) ++ e)) blocks
-      ∙ ap (λ as. (entries ++ (blocks_outline old.blocks ++ paragraph_of (line_atoms old.line []))) ++ (paragraph_of (atoms_from as (open_word new.line) (leading later)) ++ e)) atoms
+      ∙ ap (λ list. (entries ++ (blocks_outline old.blocks ++ paragraph_of (line_atoms old.line []))) ++ (paragraph_of (atoms_from list (open_word new.line) (leading later)) ++ e)) atoms
       ∙ ap (λ w. (entries ++ (blocks_outline old.blocks ++ paragraph_of (line_atoms old.line []))) ++ (paragraph_of (atoms_from [] w (leading later)) ++ e)) word
-      ∙ ap (λ as. (entries ++ (blocks_outline old.blocks ++ paragraph_of (line_atoms old.line []))) ++ (paragraph_of as ++ e)) (read_none (leading later))
+      ∙ ap (λ list. (entries ++ (blocks_outline old.blocks ++ paragraph_of (line_atoms old.line []))) ++ (paragraph_of list ++ e)) (read_none (leading later))
       ∙ regroup_line entries (blocks_outline old.blocks) (paragraph_of (line_atoms old.line [])) (entries_of k later);
 }
   where
@@ -94,8 +94,8 @@ pub text_read : (old new : Flow) (entries : Entries) (cs : List ℕ) → new.blo
 text_read old new entries cs blocks line = record {
   same = λ k later.
       ap (λ bs. (entries ++ blocks_outline bs) ++ (paragraph_of (line_atoms new.line (leading later)) ++ entries_after k later)) blocks
-      ∙ ap (λ as. (entries ++ blocks_outline old.blocks) ++ (paragraph_of as ++ entries_after k later))
-          (line.same (leading later) ∙ ap (λ x. line_atoms old.line x) (sym (leading-text cs later)))
+      ∙ ap (λ list. (entries ++ blocks_outline old.blocks) ++ (paragraph_of list ++ entries_after k later))
+      (line.same (leading later) ∙ ap (λ x. line_atoms old.line x) (sym (leading-text cs later)))
       ∙ ap (λ es. (entries ++ blocks_outline old.blocks) ++ (paragraph_of (line_atoms old.line (leading (map character cs ++ later))) ++ es)) (sym (after-text k cs later));
 }
 
@@ -104,5 +104,5 @@ pub break_read : (old new : Flow) (entries : Entries) → new.blocks ≡ old.blo
 break_read old new entries blocks line = record {
   same = λ k later.
       ap (λ bs. (entries ++ blocks_outline bs) ++ (paragraph_of (line_atoms new.line (leading later)) ++ entries_after k later)) blocks
-      ∙ ap (λ as. (entries ++ blocks_outline old.blocks) ++ (paragraph_of as ++ entries_after k later)) (line.same (leading later));
+      ∙ ap (λ list. (entries ++ blocks_outline old.blocks) ++ (paragraph_of list ++ entries_after k later)) (line.same (leading later));
 }

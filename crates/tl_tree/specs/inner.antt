@@ -4,3 +4,4 @@ pub mod Verdict
 pub mod Atoms
 pub mod Stops
 pub mod Reading
+pub mod Documents

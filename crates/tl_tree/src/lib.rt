@@ -8,6 +8,7 @@ mod error;
 mod flow;
 mod node;
 mod open;
+mod reading;
 mod stop;
 mod tags;
 
