@@ -13,7 +13,15 @@ use Rattle.tl_tree.specs.declared.flow.Flow.{Flow}
 use Rattle.tl_tree.specs.declared.open.OpenCell.{OpenCell}
 use Rattle.tl_tree.specs.inner.Lines.{line_atoms, open_word, blocks_outline, ReadsMarks}
 use Rattle.tl_tree.proofs.Lines.{atoms_from, read_none}
-use Rattle.tl_tree.specs.inner.Reading.{Outcome, after_entries, in_flow, cell_so_far, group_so_far, row_outline, Adds}
+use Rattle.tl_tree.specs.Tags.{row_start}
+use Rattle.tl_tree.specs.Grammar.{group_begins, row_begins}
+use Rattle.tl_tree.specs.declared.node.Part.TheVariants.{Loose}
+use Rattle.tl_tree.specs.declared.open.Parts.{Parts}
+use Rattle.tl_tree.specs.declared.open.OpenGroup.{OpenGroup}
+use Rattle.tl_tree.specs.declared.open.OpenTable.{OpenTable}
+use Rattle.tl_tree.specs.declared.open.OpenTable.TheVariants.{Row}
+use Rattle.tl_tree.specs.inner.Machine.{move, to, in_row, start_row, group_of, due}
+use Rattle.tl_tree.specs.inner.Reading.{outcome, place_of, parts_so_far, Moves, Outcome, after_entries, in_flow, cell_so_far, group_so_far, row_outline, Adds}
 
 regroup : (g f : Entries) (r x : Entry) (b p e : Entries) → (g ++ (r ∷ (f ++ (x ∷ (b ++ p))))) ++ e ≡ (((g ++ (r ∷ f)) ++ x ∷ []) ++ b) ++ (p ++ e)
 regroup g f r x b p e = simp append_assoc
@@ -106,3 +114,24 @@ break_read old new entries blocks line = record {
       ap (λ bs. (entries ++ blocks_outline bs) ++ (paragraph_of (line_atoms new.line (leading later)) ++ entries_after k later)) blocks
       ∙ ap (λ list. (entries ++ blocks_outline old.blocks) ++ (paragraph_of list ++ entries_after k later)) (line.same (leading later));
 }
+
+-- a row of loose rows, where no group is open
+pub loose_row_moves : (t : OpenTable) (parts : Parts) (g : OpenGroup) (cells : List CellNode) → group_of (place_of t) ≡ None
+    → Adds (outcome t) (after_entries (parts_so_far parts)) (due (place_of t)) → group_so_far g ≡ parts_so_far parts ++ group Loose ∷ []
+    → g.part ≡ Loose → cells ≡ [] → Moves t row_start (Row (record { group = g; cells = cells }))
+loose_row_moves t parts g cells none adds so_far part empty =
+    let ms = group_begins Loose ∷ row_begins ∷ [] in
+    let e : move (place_of t) row_start ≡ to (in_row Loose) (due (place_of t) ++ ms) = ap (λ o. start_row (due (place_of t)) o) none in
+    let two : Adds (after_entries (parts_so_far parts)) (after_entries (group_so_far g ++ row_outline cells)) ms = record {
+      same = λ k later.
+          ap (λ cs. (group_so_far g ++ row_outline cs) ++ entries_of k later) empty
+          ∙ ap (λ es. (es ++ row ∷ []) ++ entries_of k later) so_far
+          ∙ regroup_row (parts_so_far parts) (group Loose) row (entries_of k later);
+    } in
+    record {
+      goes = rw e (ap (λ x. to (in_row x) (due (place_of t) ++ ms)) (sym part));
+      adds = rw e (adds_then (due (place_of t)) ms adds two);
+    }
+  where
+    regroup_row : (a : Entries) (x y : Entry) (e : Entries) → ((a ++ x ∷ []) ++ y ∷ []) ++ e ≡ a ++ (x ∷ (y ∷ e))
+    regroup_row a x y e = simp append_assoc

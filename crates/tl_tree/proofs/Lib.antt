@@ -6,3 +6,7 @@ mod Verdicts
 mod Lines
 pub mod Outlines
 mod Adds
+mod Readings
+mod FineMoves
+mod EntrySizes
+mod Documents

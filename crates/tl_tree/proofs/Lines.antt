@@ -142,7 +142,7 @@ whole_paragraph atoms some whole small = record {
 }
 
 -- the sizes of the atoms and of the word that is open
-open_size : (word : List ℕ) → sum_by atom_size (open_atoms word) ≤ byte_count word
+pub open_size : (word : List ℕ) → sum_by atom_size (open_atoms word) ≤ byte_count word
 open_size word = subst (λ (ws : List (List ℕ)). sum_by atom_size (map Word ws) ≤ byte_count word) (sym (words_from-end word)) (by_test (has_character word))
   where
     by_test : (b : Bool) → sum_by atom_size (map Word (cond b (word ∷ []) [])) ≤ byte_count word

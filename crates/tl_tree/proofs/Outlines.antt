@@ -7,8 +7,9 @@ use Rattle.std.specs.declared.alloc.Global.{Global}
 use Rattle.tl_text.specs.declared.paragraph.Atom.{Atom}
 use Rattle.std.specs.List.{flat_map}
 use Rattle.tl_tree.specs.Outline.{Entries, table, caption, columns, group, row, cell, paragraph, table_end, joined, row_entries, block_entries, cell_entries, group_entries, table_entries, block_outline, cell_outline, group_outline, outline}
-use Rattle.tl_tree.specs.declared.node.Block.{Block, roll-Block, fold-roll-Block}
+use Rattle.tl_tree.specs.declared.node.Block.{Block, Table, roll-Block, fold-roll-Block}
 use Rattle.tl_tree.specs.inner.Reading.{caption_outline}
+use Rattle.tl_tree.specs.declared.node.Block.TheViews.{rolls-Table}
 use Rattle.tl_tree.specs.declared.node.Block.TheOpen as parts
 use Rattle.tl_tree.specs.declared.node.CellNode.{CellNode, roll-CellNode, fold-roll-CellNode}
 use Rattle.tl_tree.specs.declared.node.GroupNode.{GroupNode, roll-GroupNode, fold-roll-GroupNode}
@@ -29,6 +30,9 @@ paragraph_made p = fold-roll-Block Entries Entries Entries Entries block_entries
 
 pub nested_made : (box : Box TableNode Global) → block_outline (roll-Block (parts.Table box)) ≡ outline box.value
 nested_made box = fold-roll-Block Entries Entries Entries Entries block_entries cell_entries group_entries table_entries (parts.Table box)
+
+pub nested_block : (box : Box TableNode Global) → block_outline (Table box) ≡ outline box.value
+nested_block box = ap block_outline (sym (rolls-Table box)) ∙ nested_made box
 
 pub cell_made : (c : parts.CellNode-F Block CellNode GroupNode TableNode)
     → cell_outline (roll-CellNode c) ≡ cell c.head c.colspan c.rowspan c.least ∷ flat_map block_outline c.flow

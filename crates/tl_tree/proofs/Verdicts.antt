@@ -227,7 +227,7 @@ white_or_failed : (b : Bool) (ks : Kinds) → reached (cond b before failed) ks 
 white_or_failed true ks h = h
 white_or_failed false ks h = absurd (let c : failed ≡ before = sym (reached-failed ks) ∙ h in cc)
 
-no_table : (tables : ℕ) (ks : Kinds) → reached before ks ≡ before → tables_after tables ks ≡ tables
+pub no_table : (tables : ℕ) (ks : Kinds) → reached before ks ≡ before → tables_after tables ks ≡ tables
 unfolding begun
 no_table tables [] h = refl
 no_table tables (text cs ∷ ks) h = no_table tables ks (white_or_failed (is_white (text cs)) ks h)
@@ -265,7 +265,7 @@ at_place : (ks front rest : Kinds) (k : Kind) (e : TreeError) → ks ≡ front +
 at_place ks front rest k e split prefix within h =
     ap (λ x. verdict 0 0 before x) split ∙ passes 0 0 before front (k ∷ rest) (prefix_alive front prefix) within ∙ rw h refl
 
-misfit_fault : (n tables : ℕ) (s : State) (k : Kind) → is_failed (next s k) ≡ true → fault n tables s k ≡ Some (misfit n k)
+pub misfit_fault : (n tables : ℕ) (s : State) (k : Kind) → is_failed (next s k) ≡ true → fault n tables s k ≡ Some (misfit n k)
 misfit_fault n tables s k h = rw h refl
 
 text_misfit : (n m : ℕ) (k : Kind) → is_text k ≡ true → n ≡ m → misfit n k ≡ StrayText m
@@ -274,16 +274,16 @@ text_misfit n m k h e = rw h (ap StrayText e)
 tag_misfit : (n m : ℕ) (k : Kind) → is_text k ≡ false → n ≡ m → misfit n k ≡ Misplaced m
 tag_misfit n m k h e = rw h (ap Misplaced e)
 
-deep_fault : (n m tables d : ℕ) → 8 ≤ d → n ≡ m → limit_fault n tables d ≡ Some (TooDeep m)
+pub deep_fault : (n m tables d : ℕ) → 8 ≤ d → n ≡ m → limit_fault n tables d ≡ Some (TooDeep m)
 deep_fault n m tables d h e = let a : nat_le 8 d ≡ true = grind (arith, nat_tests) in rw a (ap (λ x. Some (TooDeep x)) e)
 
-many_fault : (n m tables d : ℕ) → d < 8 → 200 ≤ tables → n ≡ m → limit_fault n tables d ≡ Some (TooManyTables m)
+pub many_fault : (n m tables d : ℕ) → d < 8 → 200 ≤ tables → n ≡ m → limit_fault n tables d ≡ Some (TooManyTables m)
 many_fault n m tables d shallow many e =
     let a : nat_le 8 d ≡ false = grind (arith, nat_tests) in
     let b : nat_le 200 tables ≡ true = grind (arith, nat_tests) in
     rw (a, b) (ap (λ x. Some (TooManyTables x)) e)
 
-table_fault : (n tables : ℕ) (s : State) (k : Kind) → k ≡ table_start → is_failed (next s k) ≡ false → fault n tables s k ≡ limit_fault n tables (depth s)
+pub table_fault : (n tables : ℕ) (s : State) (k : Kind) → k ≡ table_start → is_failed (next s k) ≡ false → fault n tables s k ≡ limit_fault n tables (depth s)
 table_fault n tables s k e alive = rw alive (ap (λ x. cond (is_table_start x) (limit_fault n tables (depth s)) None) e)
 
 -- Each error whose cause is so is the first fault.
@@ -343,7 +343,7 @@ which_limit n tables d e h = by_depth (nat_le 8 d) refl
     by_depth false shallow = by_tables (nat_le 200 tables) refl shallow
 
 -- The first fault is refused by the grammar.
-wrong_at : (ks front : Kinds) (k : Kind) (rest : Kinds) (e : TreeError) → ks ≡ front ++ (k ∷ rest) → is_failed (reached before front) ≡ false
+pub wrong_at : (ks front : Kinds) (k : Kind) (rest : Kinds) (e : TreeError) → ks ≡ front ++ (k ∷ rest) → is_failed (reached before front) ≡ false
     → IsWithinLimits front → fault (0 + length front) (tables_after 0 front) (reached before front) k ≡ Some e → IsRefused ks e
 wrong_at ks front k rest e split alive within h = by_test (is_failed (next (reached before front) k)) refl
   where

@@ -4,6 +4,7 @@
 //! depth and tables, and otherwise the first token that no document has there.
 #![tactic(auto)]
 
+mod document;
 mod error;
 mod flow;
 mod node;
@@ -12,5 +13,9 @@ mod reading;
 mod stop;
 mod tags;
 
+pub use document::tree;
 pub use error::TreeError;
 pub use node::{Block, CellNode, GroupNode, Part, TableNode};
+
+#[cfg(test)]
+mod tests;

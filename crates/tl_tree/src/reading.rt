@@ -8,9 +8,10 @@ ghost use Rattle.tl_tree.specs.Tags as tags;
 ghost use Rattle.tl_tree.specs.Tags.{class_of, start_of, end_of, is_table_start};
 ghost use Rattle.tl_tree.specs.inner.Machine as machine;
 ghost use Rattle.tl_tree.specs.inner.Machine.{next, in_flow};
+ghost use Rattle.tl_tree.specs.Readable.{IsReadable};
 ghost use Rattle.tl_tree.specs.inner.Lines.{line_size};
 ghost use Rattle.tl_tree.specs.inner.Reading.{IsModest};
-ghost use Rattle.tl_tree.specs.inner.Documents.{state_of, IsModestReading, HasFewColumns, Reads, IsStop, IsLimit, Nests, Leaves};
+ghost use Rattle.tl_tree.specs.inner.Documents.{state_of, IsModestReading, IsFresh, Reads, IsStop, IsLimit, Nests, Leaves};
 
 use crate::flow::Flow;
 use crate::node::{Block, TableNode};
@@ -18,7 +19,7 @@ use crate::open::{Holder, OpenTable};
 use crate::stop::Stop;
 use crate::tags::is_white;
 use std::alloc::{AllocError, Global};
-use tl_base::{List, MAX_COLSPAN, MAX_DEPTH, MAX_FILE_BYTES, MAX_TABLES};
+use tl_base::{List, MAX_DEPTH, MAX_FILE_BYTES, MAX_TABLES};
 use tl_token::{Element, Spans, TokenKind};
 
 /// A flow in which a table is open, with its blocks before that table.
@@ -48,8 +49,9 @@ impl Reading {
         tables: usize,
     ) -> Result<Reading, Stop>
         requires modest { IsModestReading self }
-        requires few { HasFewColumns kind.now }
+        requires few { IsReadable (class_of kind.now) }
         requires counted { tables ≤ MAX_TABLES }
+        requires fresh { IsFresh self tables }
         ensures ok { IfOk result (Reads self tables (class_of kind.now)) }
         ensures err { IfErr result (IsStop (state_of self) tables (class_of kind.now)) }
     {
@@ -85,8 +87,9 @@ impl Reading {
         tables: usize,
     ) -> Result<Reading, Stop>
         requires modest { IsModestReading self }
-        requires few { spans.span ≤ MAX_COLSPAN }
+        requires few { IsReadable (start_of element spans) }
         requires counted { tables ≤ MAX_TABLES }
+        requires fresh { IsFresh self tables }
         ensures ok { IfOk result (Reads self tables (start_of element spans)) }
         ensures err { IfErr result (IsStop (state_of self) tables (start_of element spans)) }
     {
@@ -121,6 +124,7 @@ impl Reading {
     fn start_table(self, alloc: Global, tables: usize) -> Result<Reading, Stop>
         requires modest { IsModestReading self }
         requires counted { tables ≤ MAX_TABLES }
+        requires fresh { IsFresh self tables }
         ensures ok { IfOk result (Reads self tables tags.table_start) }
         ensures err { IfErr result (IsStop (state_of self) tables tags.table_start) }
     {

@@ -5,6 +5,7 @@ ghost use Rattle.tl_token.specs.declared.token.Element.TheVariants.{Table};
 ghost use Rattle.tl_tree.specs.Tags as tags;
 ghost use Rattle.tl_tree.specs.Tags.{Section, part_of, start_of, end_of, is_white, is_table_start};
 ghost use Rattle.tl_tree.specs.inner.Machine.{move, never, of_caption, of_cell, in_flow};
+ghost use Rattle.tl_tree.specs.Readable.{IsReadable};
 ghost use Rattle.tl_tree.specs.inner.Stops.{IsMisfitOr};
 
 use crate::flow::Flow;
@@ -125,15 +126,15 @@ impl OpenTable {
         ensures ok { IfOk result (Moves self tags.row_start) }
         ensures err { IfErr result (IsMisfitOr (move (place_of self) tags.row_start ≡ never)) }
     {
-        let group = if self.has_group() {
-            self.into_group(alloc)?
-        } else {
-            OpenGroup::new(alloc, self.into_parts(alloc)?, Part::Loose)
-        };
-        Ok(OpenTable::Row(OpenRow {
-            group,
-            cells: List::new(alloc),
-        }))
+        if self.has_group() {
+            let group = self.into_group(alloc)?;
+            let cells = List::new(alloc);
+            return Ok(OpenTable::Row(OpenRow { group, cells }));
+        }
+        let table = self.into_parts(alloc)?;
+        let group = OpenGroup::new(alloc, table, Part::Loose);
+        let cells = List::new(alloc);
+        Ok(OpenTable::Row(OpenRow { group, cells }))
     }
 
     fn end_row(self, alloc: Global) -> Result<OpenTable, Stop>
@@ -234,7 +235,7 @@ impl OpenTable {
         spans: Spans,
     ) -> Result<OpenTable, Stop>
         requires modest { IsModest self }
-        requires few { spans.span ≤ MAX_COLSPAN }
+        requires few { IsReadable (start_of element spans) }
         requires no_table { is_table_start (start_of element spans) ≡ false }
         ensures ok { IfOk result (Moves self (start_of element spans)) }
         ensures err { IfErr result (IsMisfitOr (move (place_of self) (start_of element spans) ≡ never)) }

@@ -3,13 +3,13 @@ use Rattle.std.specs.Prelude.{◌≡◌, ◌<◌, ◌≤◌, ◌^◌, ℕ, ◌+�
 use Rattle.std.specs.List.{flat_map}
 use Rattle.tl_token.specs.declared.token.TokenKind.{TokenKind}
 use Rattle.tl_token.specs.declared.token.TokenKind.TheVariants.{Start, End, Text}
-use Rattle.tl_tree.specs.Tags.{Kind, table_start, is_text, kind_of}
+use Rattle.tl_tree.specs.Tags.{Kind, Kinds, table_start, is_text, kind_of}
 use Rattle.tl_tree.specs.Grammar.{Marks, paragraph_ends, table_ends}
-use Rattle.tl_tree.specs.Paragraphs.{paragraph_of}
+use Rattle.tl_tree.specs.Paragraphs.{paragraph_of, entries_of}
 use Rattle.tl_tree.specs.Outline.{Entries, table, table_end, outline}
-use Rattle.tl_tree.specs.Spelling.{FitsLimits, tables_with}
+use Rattle.tl_tree.specs.Spelling.{FitsLimits, FitLimits, tables_with, tables_after}
 use Rattle.tl_tree.specs.inner.Machine as machine
-use Rattle.tl_tree.specs.inner.Machine.{State, next, told, due}
+use Rattle.tl_tree.specs.inner.Machine.{State, next, told, due, reached, all_told}
 use Rattle.tl_tree.specs.inner.Verdict.{depth, is_failed, misfit}
 use Rattle.tl_tree.specs.inner.Lines.{line_atoms, line_size, blocks_outline}
 use Rattle.tl_tree.specs.inner.Reading.{Outcome, after_entries, outcome, Adds, in_flow, holder_so_far, holder_of, place_of, IsModest}
@@ -48,9 +48,10 @@ abbrev pub IsModestReading : Reading → Type 0
 IsModestReading (Inside outer t) = IsModest t
 IsModestReading _ = Unit {0}
 
-abbrev pub HasFewColumns : TokenKind → Type 0
-HasFewColumns (Start element spans) = spans.span ≤ 1000
-HasFewColumns _ = Unit {0}
+-- no table has begun before the document's
+abbrev pub IsFresh : Reading → ℕ → Type 0
+IsFresh Before tables = tables ≡ 0
+IsFresh _ tables = Unit {0}
 
 -- the token leads on within the limits, and adds the marks that the machine tells
 pub record Reads (old : Reading) (tables : ℕ) (k : Kind) (new : Reading) : Type 0 where
@@ -92,3 +93,11 @@ stop_error n k (stops.Memory error) = errors.Memory error
 stop_error n k stops.Misfit = misfit n k
 stop_error n k stops.TooDeep = errors.TooDeep n
 stop_error n k stops.TooManyTables = errors.TooManyTables n
+
+-- what has been read once those tokens were read
+pub record HasRead (front : Kinds) (tables : ℕ) (reading : Reading) : Type 0 where
+  pub goes : reached machine.before front ≡ state_of reading
+  pub alive : is_failed (state_of reading) ≡ false
+  pub within : FitLimits 0 0 front
+  pub counted : tables ≡ tables_after 0 front
+  pub same : (later : Marks) → outcome_of reading tables later ≡ entries_of 0 (all_told machine.before front ++ later)
