@@ -1,11 +1,10 @@
 -- What is added to the outline by each mark.
-use Rattle.std.proofs.Common.{◌≡◌, ℕ, Option, Some, None, List, [], ◌∷◌, ◌++◌, refl, sym, ap, ◌∙◌, append_assoc, map}
+use Rattle.std.proofs.Common.{◌≡◌, ℕ, None, List, [], ◌∷◌, ◌++◌, refl, sym, ap, ◌∙◌, append_assoc, map}
 use Rattle.std.proofs.lemmas.List.{append-nil}
 use Rattle.std.specs.List.{flat_map}
-use Rattle.tl_tree.specs.Outline.{Entry, Entries, table, caption, columns, group, row, cell, table_end, cell_outline}
-use Rattle.tl_tree.specs.Grammar as marks
+use Rattle.tl_tree.specs.Outline.{Entry, Entries, group, row, cell, cell_outline}
 use Rattle.tl_tree.specs.Grammar.{Mark, Marks, character, line_break, paragraph_ends}
-use Rattle.tl_tree.specs.Paragraphs.{leading, atoms_of, paragraph_of, entries_of, entries_after}
+use Rattle.tl_tree.specs.Paragraphs.{leading, paragraph_of, entries_of, entries_after}
 use Rattle.tl_tree.proofs.Outlines.{flat_map-push}
 use Rattle.tl_tree.specs.declared.node.Block.{Block}
 use Rattle.tl_tree.specs.declared.node.CellNode.{CellNode}

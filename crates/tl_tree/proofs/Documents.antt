@@ -1,16 +1,15 @@
 -- What has been read of a document, token by token, and what it comes to.
-use Rattle.std.proofs.Common.{◌≡◌, ◌≤◌, ◌<◌, ℕ, ◌+◌, ◌*◌, ◌^◌, ◌⊎◌, inl, inr, Bool, true, false, Option, Some, None, Result, Ok, Err, IfOk, OnOk, List, [], ◌∷◌, ◌++◌, length, map, take, drop, get_or, sum_by, refl, sym, ap, ◌∙◌, subst, cond, arith, append_assoc, zero-add, alloc_error}
+use Rattle.std.proofs.Common.{◌≡◌, ◌≤◌, ◌<◌, ℕ, ◌+◌, inl, inr, true, false, Some, None, Result, Ok, Err, IfOk, OnOk, List, [], ◌∷◌, ◌++◌, length, take, drop, get_or, sum_by, refl, sym, ap, ◌∙◌, subst, arith, append_assoc, zero-add, alloc_error}
 use Rattle.std.proofs.lemmas.Bool.{false≢true}
-use Rattle.std.proofs.lemmas.List.{append-nil, length-map, map-append, take_more, length-take-le, take-append-drop, at_drop_more, take_all}
+use Rattle.std.proofs.lemmas.List.{append-nil, map-append, take_more, take-append-drop, at_drop_more, take_all}
 use Rattle.std.proofs.lemmas.List.Sums.{sum_by-cons, sum_by-append}
 use Rattle.std.proofs.lemmas.Str.{length-le-encodes}
 use Rattle.std.specs.List.{AllByRecursion}
 use Rattle.std.specs.Prelude.{IfErr}
 use Rattle.tl_base.specs.Returned.{ReturnsError, IsMemoryOr}
 use Rattle.tl_token.specs.declared.token.Token.{Token}
-use Rattle.tl_text.specs.Paragraph.{atom_size}
 use Rattle.tl_tree.specs.declared.error.TreeError.{TreeError}
-use Rattle.tl_tree.specs.declared.error.TreeError.TheVariants.{Memory, NoTable, StrayText, Misplaced, Unclosed, TooDeep, TooManyTables}
+use Rattle.tl_tree.specs.declared.error.TreeError.TheVariants.{Memory, TooDeep, TooManyTables}
 use Rattle.tl_tree.specs.declared.stop.Stop.{Stop}
 use Rattle.tl_tree.specs.declared.stop.Stop.TheVariants as stops
 use Rattle.tl_tree.specs.declared.node.TableNode.{TableNode}
@@ -19,23 +18,19 @@ use Rattle.tl_tree.specs.declared.open.OpenTable.TheVariants as stages
 use Rattle.tl_tree.specs.declared.reading.Reading.{Reading}
 use Rattle.tl_tree.specs.declared.reading.Reading.TheVariants.{Before, Inside, After}
 use Rattle.tl_tree.specs.Tags.{Kind, Kinds, text, table_start, kind_of, kinds, is_table_start}
-use Rattle.tl_tree.specs.Grammar.{Marks, Document}
-use Rattle.tl_tree.specs.Outline.{Entries, outline}
-use Rattle.tl_tree.specs.Paragraphs.{paragraph_of, entries_of, entries_after}
-use Rattle.tl_tree.specs.Readable.{IsReadable, kind_size, AreReadable}
+use Rattle.tl_tree.specs.Outline.{outline}
+use Rattle.tl_tree.specs.Paragraphs.{paragraph_of, entries_of}
+use Rattle.tl_tree.specs.Readable.{IsReadable, kind_size}
 use Rattle.tl_tree.specs.Sound.{entry_size}
 use Rattle.tl_tree.specs.Spelling.{SpellsTree, IsWithinLimits, depth_with, depth_after, tables_with, tables_after, FitsLimits, FitLimits, IsRefused, Refused, ReturnsTree}
-use Rattle.tl_tree.specs.inner.Machine as machine
-use Rattle.tl_tree.specs.inner.Machine.{State, before, inside, after, failed, next, told, reached, all_told, Accepts}
-use Rattle.tl_tree.specs.inner.Verdict.{is_failed, depth, misfit, fault, end_fault, verdict}
-use Rattle.tl_tree.specs.inner.Lines.{line_atoms, line_size, open_word, blocks_outline}
-use Rattle.tl_tree.specs.inner.Reading.{place_of, place_columns, open_size, IsModest, holder_so_far, outcome}
-use Rattle.tl_tree.specs.inner.Documents.{around, state_of, outcome_of, IsModestReading, IsFresh, Reads, IsStop, stop_error, HasRead}
+use Rattle.tl_tree.specs.inner.Machine.{State, before, next, told, reached, all_told}
+use Rattle.tl_tree.specs.inner.Verdict.{is_failed, depth, misfit, end_fault, verdict}
+use Rattle.tl_tree.specs.inner.Lines.{line_atoms, blocks_outline}
+use Rattle.tl_tree.specs.inner.Reading.{place_of, place_columns, open_size, holder_so_far, outcome}
+use Rattle.tl_tree.specs.inner.Documents.{around, state_of, IsModestReading, IsFresh, Reads, IsStop, stop_error, HasRead}
 use Rattle.tl_tree.proofs.MachineSound.{document_sound}
-use Rattle.tl_tree.proofs.MachineWhole.{document_whole}
-use Rattle.tl_tree.proofs.Depths.{depth-next}
 use Rattle.tl_tree.proofs.Verdicts.{reached-append, depth-reached, passes, refused_first, first_refused, document_clean, same_marks, no_table, wrong_at, misfit_fault, table_fault, deep_fault, many_fault}
-use Rattle.tl_tree.proofs.FineMoves.{mark_size, state_columns, few_columns, small_marks}
+use Rattle.tl_tree.proofs.FineMoves.{state_columns, few_columns, small_marks}
 use Rattle.tl_tree.proofs.EntrySizes.{entries_size, paragraph_size, open_line_size}
 
 -- one more token

@@ -1,7 +1,5 @@
 -- How much the entries of marks count.
-use Rattle.std.proofs.Common.{◌≡◌, ◌≤◌, ◌<◌, ℕ, ◌+◌, Bool, true, false, List, [], ◌∷◌, ◌++◌, length, map, sum_by, refl, sym, ap, ◌∙◌, subst, cond, arith, length-append}
-use Rattle.std.proofs.lemmas.Bool.{false≢true}
-use Rattle.std.proofs.lemmas.Bool.Decides.{nat_tests}
+use Rattle.std.proofs.Common.{◌≡◌, ◌≤◌, ℕ, ◌+◌, Bool, true, false, List, [], ◌∷◌, ◌++◌, length, map, sum_by, refl, sym, ap, ◌∙◌, subst, cond, arith, length-append}
 use Rattle.std.proofs.lemmas.List.{append-nil}
 use Rattle.std.proofs.lemmas.List.Sums.{sum_by-cons, sum_by-append}
 use Rattle.std.specs.Char.{is_ascii_whitespace, encode_utf8}
@@ -12,10 +10,9 @@ use Rattle.tl_text.specs.Words.{has_character}
 use Rattle.tl_text.specs.Paragraph.{atom_size}
 use Rattle.tl_text.specs.declared.paragraph.Atom.{Atom}
 use Rattle.tl_text.specs.declared.paragraph.Atom.TheVariants.{Word, Break}
-use Rattle.tl_text.proofs.Parts.{words_from, words_from-start, words_from-end, no_character}
-use Rattle.tl_tree.specs.Grammar as marks
+use Rattle.tl_text.proofs.Parts.{words_from, words_from-end, no_character}
 use Rattle.tl_tree.specs.Grammar.{Mark, Marks, character, line_break}
-use Rattle.tl_tree.specs.Paragraphs.{leading, first_text, after_breaks, atoms_of, paragraph_of, entry_of, number_after, paragraph_after, entries_after, entries_of}
+use Rattle.tl_tree.specs.Paragraphs.{leading, first_text, after_breaks, atoms_of, paragraph_of, entry_of, number_after, entries_after, entries_of}
 use Rattle.tl_tree.specs.Outline.{Entries, paragraph}
 use Rattle.tl_tree.specs.Sound.{entry_size}
 use Rattle.tl_tree.specs.inner.Lines.{line_atoms, line_size, open_word}

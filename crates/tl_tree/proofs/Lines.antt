@@ -1,5 +1,5 @@
 -- The paragraph that is open, as its text comes.
-use Rattle.std.proofs.Common.{◌≡◌, ◌≢◌, ◌<◌, ◌≤◌, ℕ, ◌+◌, Bool, true, false, not, ◌&&◌, ◌||◌, List, [], ◌∷◌, ◌++◌, length, map, sum_by, filter, refl, sym, ap, ◌∙◌, subst, cond, arith, append_assoc, Result, Ok, Err, OnOk}
+use Rattle.std.proofs.Common.{◌≡◌, ◌<◌, ◌≤◌, ℕ, ◌+◌, Bool, true, false, not, ◌&&◌, ◌||◌, List, [], ◌∷◌, ◌++◌, length, map, sum_by, refl, sym, ap, ◌∙◌, subst, cond, arith, append_assoc, Result, Ok, Err, OnOk}
 use Rattle.std.specs.Prelude.{OnErr, is_ok, Option, Some, None, MatchOption, SomeIff, string_bytes}
 use Rattle.tl_tree.specs.declared.flow.Line.{Line}
 use Rattle.tl_tree.specs.inner.Lines.{open_word, ReadsMarks}
@@ -8,20 +8,20 @@ use Rattle.std.specs.Char.{encode_utf8}
 use Rattle.std.proofs.lemmas.Str.{chars-nil}
 use Rattle.tl_text.proofs.Bytes.{chars-push, has_character-chars}
 use Rattle.std.specs.Char.{is_ascii_whitespace}
-use Rattle.std.specs.List.{All, AllByRecursion, list_all, list_any, onto_first}
+use Rattle.std.specs.List.{AllByRecursion, list_all, list_any, onto_first}
 use Rattle.std.proofs.lemmas.Bool.{false≢true, ltb-true}
 use Rattle.std.proofs.lemmas.Bool.Decides.{nat_tests}
 use Rattle.std.proofs.lemmas.List.{append-nil}
 use Rattle.std.proofs.lemmas.List.Elements.{All-from_recursion}
 use Rattle.std.proofs.lemmas.List.Sums.{sum_by-cons, sum_by-append}
 use Rattle.tl_base.specs.Text.{byte_count}
-use Rattle.tl_text.specs.Words.{words_of, has_character}
+use Rattle.tl_text.specs.Words.{has_character}
 use Rattle.tl_text.specs.Paragraph.{IsParagraph, IsSolid, IsSpelt, atom_size, lined_pieces, begins_with_glue, has_leading_glue}
 use Rattle.tl_text.specs.declared.paragraph.Atom.{Atom}
 use Rattle.tl_text.specs.declared.paragraph.Atom.TheVariants.{Word, Glue, Break}
 use Rattle.tl_text.proofs.Parts.{words_from, words_from-start, words_from-letter, words_from-white, words_from-end}
-use Rattle.tl_tree.specs.Grammar.{Mark, Marks, character, line_break}
-use Rattle.tl_tree.specs.Paragraphs.{leading, first_text, after_breaks, atoms_of, paragraph_of}
+use Rattle.tl_tree.specs.Grammar.{Marks, character, line_break}
+use Rattle.tl_tree.specs.Paragraphs.{first_text, after_breaks, atoms_of}
 use Rattle.tl_tree.specs.inner.Atoms.{is_whole}
 
 -- the atoms once the paragraph goes on with those marks

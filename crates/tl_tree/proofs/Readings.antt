@@ -1,27 +1,24 @@
 -- What reading a token leaves, from what it does to the table that is open.
-use Rattle.std.proofs.Common.{◌≡◌, ◌<◌, ◌≤◌, ℕ, ◌+◌, Bool, true, false, Option, Some, None, Result, Ok, Err, IfOk, List, [], ◌∷◌, ◌++◌, length, map, reverse, refl, sym, ap, ◌∙◌, subst, arith, append_assoc, lit<}
-use Rattle.std.proofs.lemmas.List.{length-map, length-reverse, map-append, reverse-append}
+use Rattle.std.proofs.Common.{◌≡◌, ℕ, ◌+◌, false, Option, Some, None, Result, Ok, Err, IfOk, List, [], ◌∷◌, ◌++◌, length, map, refl, sym, ap, ◌∙◌, arith, append_assoc, lit<}
+use Rattle.std.proofs.lemmas.List.{length-map, length-reverse, reverse-append}
 use Rattle.std.specs.declared.vec.Vec.{Vec}
 use Rattle.std.specs.declared.alloc.Global.{Global}
 use Rattle.std.proofs.lemmas.Bool.{false≢true}
-use Rattle.std.proofs.lemmas.List.{append-nil}
-use Rattle.std.specs.List.{flat_map}
 use Rattle.std.specs.Prelude.{is_some}
 use Rattle.tl_token.specs.declared.token.Spans.{Spans}
 use Rattle.tl_token.specs.declared.token.Element.{Element}
 use Rattle.tl_token.specs.declared.token.Element.TheVariants as elements
 use Rattle.tl_tree.specs.Tags.{Kind, table_start, is_table_start, start_of, end_of}
-use Rattle.tl_tree.specs.Grammar.{Marks, table_begins, table_ends}
+use Rattle.tl_tree.specs.Grammar.{Marks, table_ends}
 use Rattle.tl_tree.specs.Paragraphs.{leading, paragraph_of, entries_of, entries_after}
 use Rattle.tl_tree.specs.Outline.{Entry, Entries, table, table_end, outline}
 use Rattle.tl_tree.specs.Spelling.{FitsLimits, tables_with}
 use Rattle.tl_tree.specs.inner.Machine as machine
 use Rattle.tl_tree.specs.inner.Machine.{State, move, moved, marks_of, next, told, due}
-use Rattle.tl_tree.specs.inner.Verdict.{depth, is_failed}
+use Rattle.tl_tree.specs.inner.Verdict.{is_failed}
 use Rattle.tl_tree.specs.inner.Lines.{line_atoms, open_word, blocks_outline}
 use Rattle.tl_tree.specs.inner.Reading.{after_entries, outcome, parts_so_far, Adds, in_flow, holder_so_far, holder_of, place_of, Moves}
 use Rattle.tl_tree.specs.inner.Documents.{around, holders, state_of, outcome_of, Reads, Nests, Leaves}
-use Rattle.tl_tree.specs.declared.node.Block.{Block}
 use Rattle.tl_tree.specs.declared.node.TableNode.{TableNode}
 use Rattle.tl_tree.specs.declared.flow.Flow.{Flow}
 use Rattle.tl_tree.specs.declared.open.Parts.{Parts}
@@ -30,7 +27,7 @@ use Rattle.tl_tree.specs.declared.open.OpenTable.{OpenTable}
 use Rattle.tl_tree.specs.declared.open.OpenTable.TheVariants as stages
 use Rattle.tl_tree.specs.declared.reading.Outer.{Outer}
 use Rattle.tl_tree.specs.declared.reading.Reading.{Reading}
-use Rattle.tl_tree.specs.declared.reading.Reading.TheVariants.{Before, Inside, After}
+use Rattle.tl_tree.specs.declared.reading.Reading.TheVariants.{Before, Inside}
 use Rattle.tl_tree.proofs.Outlines.{flat_map-push}
 use Rattle.tl_tree.proofs.Lines.{atoms_from, read_none}
 

@@ -1,17 +1,17 @@
 -- The first fault that the machine meets is the one that the grammar has.
-use Rattle.std.proofs.Common.{◌≡◌, ◌<◌, ◌≤◌, ℕ, ◌+◌, ◌-◌, ◌⊎◌, Bool, true, false, List, [], ◌∷◌, ◌++◌, length, Option, Some, None, refl, sym, ap, ◌∙◌, subst, inl, inr, cond, arith, append_assoc, add_assoc, add-zero}
+use Rattle.std.proofs.Common.{◌≡◌, ◌<◌, ◌≤◌, ℕ, ◌+◌, ◌⊎◌, Bool, true, false, List, [], ◌∷◌, ◌++◌, length, Option, Some, None, refl, sym, ap, ◌∙◌, subst, inl, inr, cond, arith, add-zero}
 use Rattle.std.proofs.lemmas.Bool.{false≢true}
 use Rattle.std.proofs.lemmas.Bool.Decides.{nat_tests}
 use Rattle.std.proofs.lemmas.List.{append-nil}
-use Rattle.std.specs.Prelude.{IsTrue, nat_le}
+use Rattle.std.specs.Prelude.{nat_le}
 use Rattle.tl_tree.specs.declared.error.TreeError.{TreeError}
 use Rattle.tl_tree.specs.declared.error.TreeError.TheVariants.{Memory, NoTable, StrayText, Misplaced, Unclosed, TooDeep, TooManyTables}
 use Rattle.tl_tree.specs.Tags.{Kind, Kinds, text, table_start, table_end, outer_tag, is_white, is_text, is_table_start}
 use Rattle.tl_tree.specs.Grammar.{Marks, Document}
-use Rattle.tl_tree.specs.Spelling.{IsPrefix, depth_with, depth_after, tables_with, tables_after, FitsLimits, FitLimits, IsWithinLimits, IsWrongAt, IsStray, IsMisplaced, IsTooDeep, IsOneTooMany, IsRefused}
-use Rattle.tl_tree.specs.inner.Machine.{Holder, Place, opened, between, in_flow, Move, to, enter, leave, never, move, moved, State, before, inside, after, failed, left, next, reached, all_told, Accepts}
-use Rattle.tl_tree.specs.inner.Verdict.{is_failed, depth, misfit, limit_fault, fault, end_fault, or_later, verdict}
-use Rattle.tl_tree.proofs.Moves.{reached-failed, no_way}
+use Rattle.tl_tree.specs.Spelling.{IsPrefix, depth_after, tables_with, tables_after, FitsLimits, FitLimits, IsWithinLimits, IsWrongAt, IsRefused}
+use Rattle.tl_tree.specs.inner.Machine.{Holder, Place, opened, in_flow, Move, to, enter, leave, never, move, moved, State, before, inside, after, failed, next, reached, all_told}
+use Rattle.tl_tree.specs.inner.Verdict.{is_failed, depth, misfit, limit_fault, fault, end_fault, verdict}
+use Rattle.tl_tree.proofs.Moves.{reached-failed}
 use Rattle.tl_tree.proofs.MachineWhole.{document_whole}
 use Rattle.tl_tree.proofs.MachineSound.{document_sound}
 use Rattle.tl_tree.proofs.Depths.{depth-next}

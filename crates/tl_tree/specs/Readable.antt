@@ -4,7 +4,7 @@ use Rattle.std.specs.List.{AllByRecursion, list_any}
 use Rattle.tl_base.specs.Text.{byte_count}
 use Rattle.tl_token.specs.Characters.{is_control}
 use Rattle.tl_token.specs.declared.token.Token.{Token}
-use Rattle.tl_tree.specs.Tags.{Kind, Kinds, text, colgroup_start, col, cell_start, kinds}
+use Rattle.tl_tree.specs.Tags.{Kind, text, colgroup_start, col, cell_start, kinds}
 use Rattle.tl_tree.specs.Sound.{IsCellInRange}
 
 -- a text has a character, and no control character; a span is in its range

@@ -1,5 +1,5 @@
 -- What the paragraph that is open keeps. No public clause cites this file.
-use Rattle.std.specs.Prelude.{ℕ, Bool, true, false, not, ◌&&◌, List}
+use Rattle.std.specs.Prelude.{Bool, true, false, not, ◌&&◌}
 use Rattle.std.specs.List.{list_any}
 use Rattle.std.specs.Char.{is_ascii_whitespace}
 use Rattle.tl_text.specs.Words.{has_character}

@@ -1,22 +1,19 @@
 -- What has been read of a document, and why it is not read on. No public clause cites this file.
-use Rattle.std.specs.Prelude.{◌≡◌, ◌<◌, ◌≤◌, ◌^◌, ℕ, ◌+◌, true, false, List, [], ◌∷◌, ◌++◌, map, reverse, length, alloc_error}
+use Rattle.std.specs.Prelude.{◌≡◌, ◌<◌, ◌≤◌, ℕ, ◌+◌, true, false, List, [], ◌∷◌, ◌++◌, map, reverse, length}
 use Rattle.std.specs.List.{flat_map}
-use Rattle.tl_token.specs.declared.token.TokenKind.{TokenKind}
-use Rattle.tl_token.specs.declared.token.TokenKind.TheVariants.{Start, End, Text}
-use Rattle.tl_tree.specs.Tags.{Kind, Kinds, table_start, is_text, kind_of}
-use Rattle.tl_tree.specs.Grammar.{Marks, paragraph_ends, table_ends}
+use Rattle.tl_tree.specs.Tags.{Kind, Kinds, table_start}
+use Rattle.tl_tree.specs.Grammar.{Marks, table_ends}
 use Rattle.tl_tree.specs.Paragraphs.{paragraph_of, entries_of}
-use Rattle.tl_tree.specs.Outline.{Entries, table, table_end, outline}
+use Rattle.tl_tree.specs.Outline.{Entries, table, outline}
 use Rattle.tl_tree.specs.Spelling.{FitsLimits, FitLimits, tables_with, tables_after}
 use Rattle.tl_tree.specs.inner.Machine as machine
 use Rattle.tl_tree.specs.inner.Machine.{State, next, told, due, reached, all_told}
 use Rattle.tl_tree.specs.inner.Verdict.{depth, is_failed, misfit}
-use Rattle.tl_tree.specs.inner.Lines.{line_atoms, line_size, blocks_outline}
-use Rattle.tl_tree.specs.inner.Reading.{Outcome, after_entries, outcome, Adds, in_flow, holder_so_far, holder_of, place_of, IsModest}
+use Rattle.tl_tree.specs.inner.Lines.{line_atoms, blocks_outline}
+use Rattle.tl_tree.specs.inner.Reading.{Outcome, after_entries, outcome, holder_so_far, holder_of, place_of, IsModest}
 use Rattle.tl_tree.specs.declared.flow.Flow.{Flow}
 use Rattle.tl_tree.specs.declared.open.Holder.{Holder}
 use Rattle.tl_tree.specs.declared.open.OpenTable.{OpenTable}
-use Rattle.tl_tree.specs.declared.open.OpenTable.TheVariants as tables
 use Rattle.tl_tree.specs.declared.reading.Outer.{Outer}
 use Rattle.tl_tree.specs.declared.reading.Reading.{Reading}
 use Rattle.tl_tree.specs.declared.reading.Reading.TheVariants.{Before, Inside, After}

@@ -1,25 +1,16 @@
 -- What has been read of a document: its place in the machine, and the outline that comes once the marks
 -- that are still to come have come. No public clause cites this file.
-use Rattle.std.specs.Prelude.{◌≡◌, ℕ, ◌+◌, ◌≤◌, ◌<◌, ◌^◌, ◌⊎◌, Bool, true, false, Option, Some, None, List, [], ◌∷◌, ◌++◌, map, reverse, sum_by, chars, string_bytes, alloc_error, length}
+use Rattle.std.specs.Prelude.{◌≡◌, ℕ, ◌+◌, ◌≤◌, ◌<◌, ◌^◌, Bool, true, false, Option, Some, None, List, [], ◌∷◌, ◌++◌}
 use Rattle.std.specs.List.{flat_map}
-use Rattle.tl_token.specs.declared.token.Spans.{Spans}
-use Rattle.tl_text.specs.Words.{byte_count}
-use Rattle.tl_text.specs.Paragraph.{atom_size}
-use Rattle.tl_text.proofs.Parts.{words_from}
-use Rattle.tl_text.specs.declared.paragraph.Atom.{Atom}
-use Rattle.tl_text.specs.declared.paragraph.Atom.TheVariants.{Word}
-use Rattle.tl_tree.specs.Tags.{Kind, table_start}
+use Rattle.tl_tree.specs.Tags.{Kind}
 use Rattle.tl_tree.specs.Grammar.{Marks, paragraph_ends}
-use Rattle.tl_tree.specs.Paragraphs.{leading, first_text, after_breaks, paragraph_of, entries_after, entries_of}
-use Rattle.tl_tree.specs.Outline.{Entries, table, caption, columns, group, row, cell, block_outline, cell_outline, group_outline, outline}
-use Rattle.tl_tree.specs.Spelling.{FitsLimits, tables_with}
+use Rattle.tl_tree.specs.Paragraphs.{leading, paragraph_of, entries_after, entries_of}
+use Rattle.tl_tree.specs.Outline.{Entries, table, caption, columns, group, row, cell, cell_outline, group_outline}
 use Rattle.tl_tree.specs.inner.Lines.{line_atoms, line_size, blocks_outline}
 use Rattle.tl_tree.specs.inner.Machine as machine
 use Rattle.tl_tree.specs.inner.Machine.{Place, State, row_of, group_of, columns_of, move, to, never, marks_of, next, told}
-use Rattle.tl_tree.specs.inner.Verdict.{depth, fault, misfit}
 use Rattle.tl_tree.specs.declared.node.Block.{Block}
 use Rattle.tl_tree.specs.declared.node.CellNode.{CellNode}
-use Rattle.tl_tree.specs.declared.node.GroupNode.{GroupNode}
 use Rattle.tl_tree.specs.declared.flow.Line.{Line}
 use Rattle.tl_tree.specs.declared.flow.Flow.{Flow}
 use Rattle.tl_tree.specs.declared.open.Head.{Head}

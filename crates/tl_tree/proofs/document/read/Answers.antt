@@ -1,7 +1,6 @@
-use Rattle.std.proofs.Common.{◌≡◌, ◌≤◌, ◌<◌, ℕ, ◌+◌, true, false, Some, List, [], ◌∷◌, ◌++◌, length, take, drop, inl, inr, refl, sym, ap, ◌∙◌, subst, arith, alloc_error, sum_by}
+use Rattle.std.proofs.Common.{◌≡◌, ◌≤◌, ◌<◌, ℕ, ◌+◌, true, false, ◌∷◌, length, take, drop, inr, sym, ap, ◌∙◌, subst, arith, alloc_error, sum_by}
 use Rattle.std.proofs.lemmas.List.{length-map, length-take-le}
 use Rattle.tl_base.specs.Returned.{IsMemoryOr}
-use Rattle.tl_token.specs.declared.token.Token.{Token}
 use Rattle.tl_tree.specs.Tags.{Kinds, kind_of, kinds, is_table_start}
 use Rattle.tl_tree.specs.Readable.{kind_size}
 use Rattle.tl_tree.specs.Spelling.{IsRefused, tables_with}

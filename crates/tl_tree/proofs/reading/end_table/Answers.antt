@@ -1,4 +1,4 @@
-use Rattle.std.proofs.Common.{◌≡◌, sym, subst, ap, ◌∙◌, ◌++◌, refl}
+use Rattle.std.proofs.Common.{ap, ◌∙◌, ◌++◌, refl}
 use Rattle.tl_tree.specs.Outline.{outline, block_outline}
 use Rattle.tl_tree.specs.inner.Lines.{blocks_outline}
 use Rattle.tl_tree.proofs.Outlines.{flat_map-push, nested_block}

@@ -1,9 +1,7 @@
-use Rattle.std.proofs.Common.{◌≡◌, ◌<◌, ◌≤◌, ℕ, ◌+◌, Bool, true, false, List, [], ◌∷◌, ◌++◌, length, map, refl, sym, ap, ◌∙◌, arith, string_bytes}
+use Rattle.std.proofs.Common.{◌≡◌, ◌<◌, [], ◌∷◌, ◌++◌, length, refl, sym, ap, ◌∙◌, arith, string_bytes}
 use Rattle.std.proofs.lemmas.Bool.Decides.{nat_tests}
 use Rattle.std.specs.Str.{chars}
-use Rattle.std.specs.Char.{is_ascii_whitespace}
 use Rattle.std.proofs.lemmas.Str.{chars-nil, IsUtf8-string_bytes}
-use Rattle.tl_tree.specs.Grammar.{Marks, character, line_break}
 use Rattle.std.proofs.lemmas.List.{append-nil}
 use Rattle.tl_text.specs.declared.paragraph.Atom.TheVariants.{Word}
 use Rattle.tl_tree.proofs.Lines.{whole_push, whole_text, open_text, open_none, none_open}

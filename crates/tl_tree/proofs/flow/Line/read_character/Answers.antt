@@ -1,9 +1,6 @@
-use Rattle.std.proofs.Common.{◌≡◌, ◌<◌, ◌≤◌, ℕ, ◌+◌, Bool, true, false, List, [], ◌∷◌, ◌++◌, length, map, refl, sym, ap, ◌∙◌, arith, string_bytes}
-use Rattle.std.proofs.lemmas.Bool.Decides.{nat_tests}
-use Rattle.std.specs.Str.{chars}
+use Rattle.std.proofs.Common.{◌≡◌, true, false, refl, arith, string_bytes}
 use Rattle.std.specs.Char.{is_ascii_whitespace}
-use Rattle.std.proofs.lemmas.Str.{chars-nil, IsUtf8-string_bytes}
-use Rattle.tl_tree.specs.Grammar.{Marks, character, line_break}
+use Rattle.std.proofs.lemmas.Str.{IsUtf8-string_bytes}
 use Rattle.std.proofs.Common.{tests}
 use Rattle.std.specs.Prelude.{is_ok}
 use Rattle.tl_tree.proofs.Lines.{solid_after, reads_letter, reads_white}

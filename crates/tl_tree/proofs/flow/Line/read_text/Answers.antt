@@ -1,9 +1,6 @@
-use Rattle.std.proofs.Common.{◌≡◌, ◌<◌, ◌≤◌, ℕ, ◌+◌, Bool, true, false, List, [], ◌∷◌, ◌++◌, length, map, refl, sym, ap, ◌∙◌, arith, string_bytes}
-use Rattle.std.proofs.lemmas.Bool.Decides.{nat_tests}
+use Rattle.std.proofs.Common.{◌∷◌, refl, sym, ap, ◌∙◌}
 use Rattle.std.specs.Str.{chars}
-use Rattle.std.specs.Char.{is_ascii_whitespace}
-use Rattle.std.proofs.lemmas.Str.{chars-nil, IsUtf8-string_bytes}
-use Rattle.tl_tree.specs.Grammar.{Marks, character, line_break}
+use Rattle.tl_tree.specs.Grammar.{character}
 use Rattle.std.proofs.lemmas.Iterator.{YieldsList-from_chars}
 use Rattle.std.proofs.lemmas.Iterator.Consumers.{YieldsList-end}
 use Rattle.tl_tree.specs.inner.Lines.{line_atoms}

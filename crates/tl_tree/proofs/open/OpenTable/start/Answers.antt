@@ -1,4 +1,4 @@
-use Rattle.std.proofs.Common.{◌≡◌, refl, sym, subst}
+use Rattle.std.proofs.Common.{refl, sym, subst}
 use Rattle.tl_token.specs.declared.token.Element.{Element}
 use Rattle.tl_tree.specs.Tags.{start_of, thead, tbody, tfoot}
 use Rattle.tl_tree.specs.inner.Reading.{Moves}

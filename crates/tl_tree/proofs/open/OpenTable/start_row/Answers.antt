@@ -1,4 +1,4 @@
-use Rattle.std.proofs.Common.{◌≡◌, sym, ◌∙◌}
+use Rattle.std.proofs.Common.{sym, ◌∙◌}
 use Rattle.tl_tree.specs.inner.Machine.{group_of}
 use Rattle.tl_tree.specs.inner.Reading.{place_of}
 use Rattle.tl_tree.proofs.Readings.{none_of}

@@ -1,4 +1,4 @@
-use Rattle.std.proofs.Common.{◌≡◌, refl, sym, subst, chars}
+use Rattle.std.proofs.Common.{refl, sym, subst, chars}
 use Rattle.tl_tree.specs.Tags as tags
 use Rattle.tl_tree.specs.inner.Reading.{holder_so_far, Moves}
 use Rattle.tl_tree.specs.declared.open.OpenTable.{OpenTable}

@@ -1,9 +1,8 @@
-use Rattle.std.proofs.Common.{◌≡◌, ℕ, List, [], ◌∷◌, ◌++◌, refl, sym, ap, ◌∙◌, append_assoc}
+use Rattle.std.proofs.Common.{[], ◌∷◌, sym, ◌∙◌, append_assoc}
 use Rattle.std.specs.List.{flat_map}
-use Rattle.tl_tree.specs.Outline.{Entries, table, columns, group, row, cell, group_outline, cell_outline, table_end}
-use Rattle.tl_tree.specs.Grammar.{Marks, paragraph_ends}
+use Rattle.tl_tree.specs.Outline.{columns, group_outline, table_end}
 use Rattle.tl_tree.specs.inner.Reading.{head_so_far}
-use Rattle.tl_tree.proofs.Outlines.{cell_made, group_made, table_made, flat_map-push}
+use Rattle.tl_tree.proofs.Outlines.{table_made}
 use Rattle.tl_tree.proofs.open.Parts.end.Goals as goal
 
 pub returns : goal.returns

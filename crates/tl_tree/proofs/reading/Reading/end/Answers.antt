@@ -1,4 +1,4 @@
-use Rattle.std.proofs.Common.{◌≡◌, sym, subst}
+use Rattle.std.proofs.Common.{sym, subst}
 use Rattle.tl_tree.specs.Tags.{end_of}
 use Rattle.tl_tree.specs.inner.Documents.{Reads}
 use Rattle.tl_tree.specs.declared.reading.Reading.{Reading}

@@ -1,5 +1,4 @@
-use Rattle.std.proofs.Common.{◌≡◌, sym, ap, ◌∙◌, subst, IfOk, chars}
-use Rattle.tl_token.specs.declared.token.TokenKind.{TokenKind}
+use Rattle.std.proofs.Common.{◌≡◌, sym, ap, ◌∙◌, subst, chars}
 use Rattle.tl_tree.specs.Tags as tags
 use Rattle.tl_tree.specs.Tags.{Kind, class_of, end_of}
 use Rattle.tl_tree.specs.inner.Documents.{Reads}

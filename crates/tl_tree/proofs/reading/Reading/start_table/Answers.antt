@@ -1,4 +1,4 @@
-use Rattle.std.proofs.Common.{◌≡◌, ℕ, sym, ap, ◌∙◌, subst, IfOk}
+use Rattle.std.proofs.Common.{◌≡◌, sym, ap, ◌∙◌, subst}
 use Rattle.tl_tree.specs.Tags as tags
 use Rattle.tl_tree.specs.inner.Documents.{Reads}
 use Rattle.tl_tree.specs.declared.reading.Reading.{Reading}
