@@ -1,20 +1,13 @@
 -- How many tables are open is counted by the table tags alone.
-use Rattle.std.proofs.Common.{◌≡◌, ◌<◌, ◌≤◌, ℕ, ◌+◌, ◌-◌, ◌⊎◌, Bool, true, false, List, [], ◌∷◌, ◌++◌, length, Option, Some, None, refl, sym, ap, ◌∙◌, subst, inl, inr, cond, arith, append_assoc, add_assoc, add-zero}
+use Rattle.std.proofs.Common.{◌≡◌, ℕ, ◌+◌, Bool, true, false, List, [], ◌∷◌, length, Option, Some, None, refl, sym, ap, subst, cond, arith}
 use Rattle.std.proofs.lemmas.Bool.{false≢true}
-use Rattle.std.proofs.lemmas.List.{append-nil}
-use Rattle.std.specs.Prelude.{IsTrue, nat_le}
-use Rattle.tl_tree.specs.declared.error.TreeError.{TreeError}
-use Rattle.tl_tree.specs.declared.error.TreeError.TheVariants.{Memory, NoTable, StrayText, Misplaced, Unclosed, TooDeep, TooManyTables}
 use Rattle.tl_token.specs.declared.token.Spans.{Spans}
 use Rattle.tl_tree.specs.declared.node.Part.{Part}
-use Rattle.tl_tree.specs.Tags.{Section, part_of, Kind, Kinds, text, table_start, table_end, caption_start, caption_end, colgroup_start, colgroup_end, col, group_start, group_end, row_start, row_end, cell_start, cell_end, br, p_or_div, inline_tag, outer_tag, lone_end, is_white, is_text, is_table_start}
-use Rattle.tl_tree.specs.Grammar.{Mark, Marks, Document}
-use Rattle.tl_tree.specs.Spelling.{IsPrefix, depth_with, depth_after, tables_with, tables_after, FitsLimits, FitLimits, IsWithinLimits, IsWrongAt, IsStray, IsMisplaced, IsTooDeep, IsOneTooMany, IsRefused}
-use Rattle.tl_tree.specs.inner.Machine.{Holder, of_caption, of_cell, Place, opened, in_columns, in_colgroup, between, in_group, in_row, in_flow, row_of, group_of, columns_of, due, closes, same_head, in_flow_only, start_table, start_caption, end_caption, start_colgroup, end_colgroup, read_col, lone_col, end_group, start_row, end_row, start_cell, end_cell, Move, to, enter, leave, never, move, State, before, inside, after, failed, left, moved, marks_of, next, told, reached, all_told, Accepts}
-use Rattle.tl_tree.specs.inner.Verdict.{is_failed, depth, misfit, limit_fault, fault, end_fault, or_later, verdict}
-use Rattle.tl_tree.proofs.Moves.{reached-failed, no_way, is_entry}
-use Rattle.tl_tree.proofs.MachineWhole.{document_whole}
-use Rattle.tl_tree.proofs.MachineSound.{document_sound}
+use Rattle.tl_tree.specs.Tags.{Section, Kind, text, table_start, table_end, caption_start, caption_end, colgroup_start, colgroup_end, col, group_start, group_end, row_start, row_end, cell_start, cell_end, br, p_or_div, inline_tag, outer_tag, lone_end, is_white, is_table_start}
+use Rattle.tl_tree.specs.Grammar.{Marks}
+use Rattle.tl_tree.specs.Spelling.{depth_with}
+use Rattle.tl_tree.specs.inner.Machine.{Holder, of_caption, of_cell, Place, opened, in_columns, in_colgroup, between, in_group, in_row, in_flow, row_of, group_of, columns_of, due, closes, same_head, in_flow_only, start_colgroup, lone_col, end_group, start_row, end_row, start_cell, Move, to, enter, leave, never, move, State, before, inside, after, failed, moved, next}
+use Rattle.tl_tree.specs.inner.Verdict.{is_failed, depth}
 
 -- only table tags enter or leave a table
 abbrev DepthFits : Kind → Move → Type 0

@@ -3,3 +3,10 @@ mod MachineWhole
 mod MachineSound
 mod Depths
 mod Verdicts
+mod Lines
+pub mod Outlines
+mod Adds
+mod Readings
+mod FineMoves
+mod EntrySizes
+mod Documents

@@ -1,15 +1,15 @@
 -- What the machine accepts is a document, with those marks.
-use Rattle.std.proofs.Common.{◌≡◌, ℕ, ◌+◌, Bool, true, false, List, [], ◌∷◌, ◌++◌, Option, Some, None, refl, sym, ap, ◌∙◌, subst, inl, inr, cond, arith, append_assoc, add_assoc, add-zero, zero-add}
+use Rattle.std.proofs.Common.{◌≡◌, ℕ, ◌+◌, Bool, true, false, List, [], ◌∷◌, ◌++◌, refl, sym, ap, ◌∙◌, subst, cond, append_assoc, add_assoc, add-zero, zero-add}
 use Rattle.std.proofs.lemmas.Bool.{false≢true}
 use Rattle.std.proofs.lemmas.List.Sums.{sum_by-cons}
-use Rattle.std.specs.Prelude.{IsTrue, map, sum}
+use Rattle.std.specs.Prelude.{map, sum}
 use Rattle.tl_token.specs.declared.token.Spans.{Spans}
 use Rattle.tl_tree.specs.declared.node.Part.{Part}
 use Rattle.tl_tree.specs.declared.node.Part.TheVariants.{Loose, Head, Body, Foot}
 use Rattle.tl_tree.specs.Tags.{Section, thead, tbody, tfoot, part_of, Kind, Kinds, text, table_start, table_end, caption_start, caption_end, colgroup_start, colgroup_end, col, group_start, group_end, row_start, row_end, cell_start, cell_end, br, p_or_div, inline_tag, outer_tag, lone_end, is_white, is_row_start, is_col, begins_with}
 use Rattle.tl_tree.specs.Grammar.{Mark, Marks, table_begins, caption_begins, columns, group_begins, row_begins, cell_begins, character, line_break, paragraph_ends, table_ends, Spaces, no_space, space, Ended, by_tag, left_out, Cols, no_col, col_space, next_col, colgroup_columns, Columns, no_columns, colgroup, lone_col, Flow, no_flow, words, break, edge, inline, nested, Table, table, Caption, no_caption, caption, Cells, no_cell, cell, Rows, no_row, row, Parts, no_part, group, loose_rows, Outer, no_outer, outer_space, outer, Document}
-use Rattle.tl_tree.specs.inner.Machine.{Holder, of_caption, of_cell, Place, opened, in_columns, in_colgroup, between, in_group, in_row, in_flow, row_of, group_of, columns_of, due, closes, same_head, Move, to, enter, leave, never, move, State, before, inside, after, failed, left, moved, marks_of, next, told, reached, all_told, Accepts}
-use Rattle.tl_tree.proofs.Moves.{no_way, is_plain, white_stays, stray_text}
+use Rattle.tl_tree.specs.inner.Machine.{Holder, of_caption, of_cell, Place, opened, in_columns, in_colgroup, between, in_group, in_row, in_flow, due, closes, Move, to, enter, leave, never, move, State, before, inside, after, failed, left, moved, marks_of, next, told, reached, all_told, Accepts}
+use Rattle.tl_tree.proofs.Moves.{no_way, is_plain}
 
 -- Each type has the rest of a table as it goes on from a place, up to what follows the table.
 abbrev RestOfParts : Kinds → Marks → Kinds → Marks → Type 0

@@ -1,12 +1,10 @@
 -- Single moves of the machine: white space, and places that a token moves alike.
-use Rattle.std.proofs.Common.{◌≡◌, ℕ, ◌+◌, Bool, true, false, List, [], ◌∷◌, ◌++◌, refl, sym, ap, ◌∙◌, inl, inr, cond, arith, append_assoc}
+use Rattle.std.proofs.Common.{◌≡◌, ℕ, ◌+◌, Bool, true, false, List, [], ◌∷◌, ◌++◌, refl, sym, ◌∙◌, cond}
 use Rattle.std.proofs.lemmas.Bool.{false≢true}
-use Rattle.tl_token.specs.declared.token.Spans.{Spans}
 use Rattle.tl_tree.specs.declared.node.Part.{Part}
-use Rattle.tl_tree.specs.declared.node.Part.TheVariants.{Loose, Head, Body, Foot}
-use Rattle.tl_tree.specs.Tags.{Section, thead, tbody, tfoot, part_of, Kind, Kinds, text, table_start, table_end, caption_start, caption_end, colgroup_start, colgroup_end, col, group_start, group_end, row_start, row_end, cell_start, cell_end, br, p_or_div, inline_tag, outer_tag, lone_end, is_white, is_row_start, is_col, begins_with}
-use Rattle.tl_tree.specs.Grammar.{Mark, Marks, table_begins, caption_begins, columns, group_begins, row_begins, cell_begins, character, line_break, paragraph_ends, table_ends}
-use Rattle.tl_tree.specs.inner.Machine.{Holder, of_caption, of_cell, Place, opened, in_columns, in_colgroup, between, in_group, in_row, in_flow, Move, to, enter, leave, never, closes, same_head, move, State, before, inside, after, failed, left, moved, marks_of, next, told, reached, all_told, Accepts}
+use Rattle.tl_tree.specs.Tags.{Section, thead, tbody, tfoot, part_of, Kind, Kinds, text, table_start, table_end, caption_start, caption_end, colgroup_start, colgroup_end, col, group_start, group_end, row_start, row_end, cell_start, cell_end, br, p_or_div, inline_tag, outer_tag, lone_end, is_white, is_row_start, is_col}
+use Rattle.tl_tree.specs.Grammar.{Marks, columns, paragraph_ends}
+use Rattle.tl_tree.specs.inner.Machine.{of_caption, of_cell, Place, opened, in_columns, in_colgroup, between, in_group, in_row, in_flow, Move, to, enter, leave, never, closes, same_head, move, after, failed, reached}
 
 -- once failed, always failed
 pub reached-failed : (ks : Kinds) → reached failed ks ≡ failed

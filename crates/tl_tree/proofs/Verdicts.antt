@@ -1,17 +1,17 @@
 -- The first fault that the machine meets is the one that the grammar has.
-use Rattle.std.proofs.Common.{◌≡◌, ◌<◌, ◌≤◌, ℕ, ◌+◌, ◌-◌, ◌⊎◌, Bool, true, false, List, [], ◌∷◌, ◌++◌, length, Option, Some, None, refl, sym, ap, ◌∙◌, subst, inl, inr, cond, arith, append_assoc, add_assoc, add-zero}
+use Rattle.std.proofs.Common.{◌≡◌, ◌<◌, ◌≤◌, ℕ, ◌+◌, ◌⊎◌, Bool, true, false, List, [], ◌∷◌, ◌++◌, length, Option, Some, None, refl, sym, ap, ◌∙◌, subst, inl, inr, cond, arith, add-zero}
 use Rattle.std.proofs.lemmas.Bool.{false≢true}
 use Rattle.std.proofs.lemmas.Bool.Decides.{nat_tests}
 use Rattle.std.proofs.lemmas.List.{append-nil}
-use Rattle.std.specs.Prelude.{IsTrue, nat_le}
+use Rattle.std.specs.Prelude.{nat_le}
 use Rattle.tl_tree.specs.declared.error.TreeError.{TreeError}
 use Rattle.tl_tree.specs.declared.error.TreeError.TheVariants.{Memory, NoTable, StrayText, Misplaced, Unclosed, TooDeep, TooManyTables}
 use Rattle.tl_tree.specs.Tags.{Kind, Kinds, text, table_start, table_end, outer_tag, is_white, is_text, is_table_start}
 use Rattle.tl_tree.specs.Grammar.{Marks, Document}
-use Rattle.tl_tree.specs.Spelling.{IsPrefix, depth_with, depth_after, tables_with, tables_after, FitsLimits, FitLimits, IsWithinLimits, IsWrongAt, IsStray, IsMisplaced, IsTooDeep, IsOneTooMany, IsRefused}
-use Rattle.tl_tree.specs.inner.Machine.{Holder, Place, opened, between, in_flow, Move, to, enter, leave, never, move, moved, State, before, inside, after, failed, left, next, reached, all_told, Accepts}
-use Rattle.tl_tree.specs.inner.Verdict.{is_failed, depth, misfit, limit_fault, fault, end_fault, or_later, verdict}
-use Rattle.tl_tree.proofs.Moves.{reached-failed, no_way}
+use Rattle.tl_tree.specs.Spelling.{IsPrefix, depth_after, tables_with, tables_after, FitsLimits, FitLimits, IsWithinLimits, IsWrongAt, IsRefused}
+use Rattle.tl_tree.specs.inner.Machine.{Holder, Place, opened, in_flow, Move, to, enter, leave, never, move, moved, State, before, inside, after, failed, next, reached, all_told}
+use Rattle.tl_tree.specs.inner.Verdict.{is_failed, depth, misfit, limit_fault, fault, end_fault, verdict}
+use Rattle.tl_tree.proofs.Moves.{reached-failed}
 use Rattle.tl_tree.proofs.MachineWhole.{document_whole}
 use Rattle.tl_tree.proofs.MachineSound.{document_sound}
 use Rattle.tl_tree.proofs.Depths.{depth-next}
@@ -227,7 +227,7 @@ white_or_failed : (b : Bool) (ks : Kinds) → reached (cond b before failed) ks 
 white_or_failed true ks h = h
 white_or_failed false ks h = absurd (let c : failed ≡ before = sym (reached-failed ks) ∙ h in cc)
 
-no_table : (tables : ℕ) (ks : Kinds) → reached before ks ≡ before → tables_after tables ks ≡ tables
+pub no_table : (tables : ℕ) (ks : Kinds) → reached before ks ≡ before → tables_after tables ks ≡ tables
 unfolding begun
 no_table tables [] h = refl
 no_table tables (text cs ∷ ks) h = no_table tables ks (white_or_failed (is_white (text cs)) ks h)
@@ -265,7 +265,7 @@ at_place : (ks front rest : Kinds) (k : Kind) (e : TreeError) → ks ≡ front +
 at_place ks front rest k e split prefix within h =
     ap (λ x. verdict 0 0 before x) split ∙ passes 0 0 before front (k ∷ rest) (prefix_alive front prefix) within ∙ rw h refl
 
-misfit_fault : (n tables : ℕ) (s : State) (k : Kind) → is_failed (next s k) ≡ true → fault n tables s k ≡ Some (misfit n k)
+pub misfit_fault : (n tables : ℕ) (s : State) (k : Kind) → is_failed (next s k) ≡ true → fault n tables s k ≡ Some (misfit n k)
 misfit_fault n tables s k h = rw h refl
 
 text_misfit : (n m : ℕ) (k : Kind) → is_text k ≡ true → n ≡ m → misfit n k ≡ StrayText m
@@ -274,16 +274,16 @@ text_misfit n m k h e = rw h (ap StrayText e)
 tag_misfit : (n m : ℕ) (k : Kind) → is_text k ≡ false → n ≡ m → misfit n k ≡ Misplaced m
 tag_misfit n m k h e = rw h (ap Misplaced e)
 
-deep_fault : (n m tables d : ℕ) → 8 ≤ d → n ≡ m → limit_fault n tables d ≡ Some (TooDeep m)
+pub deep_fault : (n m tables d : ℕ) → 8 ≤ d → n ≡ m → limit_fault n tables d ≡ Some (TooDeep m)
 deep_fault n m tables d h e = let a : nat_le 8 d ≡ true = grind (arith, nat_tests) in rw a (ap (λ x. Some (TooDeep x)) e)
 
-many_fault : (n m tables d : ℕ) → d < 8 → 200 ≤ tables → n ≡ m → limit_fault n tables d ≡ Some (TooManyTables m)
+pub many_fault : (n m tables d : ℕ) → d < 8 → 200 ≤ tables → n ≡ m → limit_fault n tables d ≡ Some (TooManyTables m)
 many_fault n m tables d shallow many e =
     let a : nat_le 8 d ≡ false = grind (arith, nat_tests) in
     let b : nat_le 200 tables ≡ true = grind (arith, nat_tests) in
     rw (a, b) (ap (λ x. Some (TooManyTables x)) e)
 
-table_fault : (n tables : ℕ) (s : State) (k : Kind) → k ≡ table_start → is_failed (next s k) ≡ false → fault n tables s k ≡ limit_fault n tables (depth s)
+pub table_fault : (n tables : ℕ) (s : State) (k : Kind) → k ≡ table_start → is_failed (next s k) ≡ false → fault n tables s k ≡ limit_fault n tables (depth s)
 table_fault n tables s k e alive = rw alive (ap (λ x. cond (is_table_start x) (limit_fault n tables (depth s)) None) e)
 
 -- Each error whose cause is so is the first fault.
@@ -343,7 +343,7 @@ which_limit n tables d e h = by_depth (nat_le 8 d) refl
     by_depth false shallow = by_tables (nat_le 200 tables) refl shallow
 
 -- The first fault is refused by the grammar.
-wrong_at : (ks front : Kinds) (k : Kind) (rest : Kinds) (e : TreeError) → ks ≡ front ++ (k ∷ rest) → is_failed (reached before front) ≡ false
+pub wrong_at : (ks front : Kinds) (k : Kind) (rest : Kinds) (e : TreeError) → ks ≡ front ++ (k ∷ rest) → is_failed (reached before front) ≡ false
     → IsWithinLimits front → fault (0 + length front) (tables_after 0 front) (reached before front) k ≡ Some e → IsRefused ks e
 wrong_at ks front k rest e split alive within h = by_test (is_failed (next (reached before front) k)) refl
   where

@@ -4,4 +4,5 @@ pub mod Grammar
 pub mod Paragraphs
 pub mod Outline
 pub mod Spelling
+pub mod Readable
 pub mod Sound

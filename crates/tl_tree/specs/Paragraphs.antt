@@ -6,7 +6,7 @@ use Rattle.tl_text.specs.declared.paragraph.Atom.TheVariants.{Word, Break}
 use Rattle.tl_text.specs.Words.{words_of}
 use Rattle.tl_tree.specs.Grammar as marks
 use Rattle.tl_tree.specs.Grammar.{Mark, Marks, character, line_break}
-use Rattle.tl_tree.specs.Outline.{Entry, Entries, table, caption, columns, group, row, cell, paragraph, table_end}
+use Rattle.tl_tree.specs.Outline.{Entries, table, caption, columns, group, row, cell, paragraph, table_end}
 
 -- the characters and line breaks with which the marks begin, up to the first other mark
 abbrev pub leading : Marks → Marks

@@ -1,5 +1,5 @@
 -- Which trees tokens spell, within which limits, and when each error comes.
-use Rattle.std.specs.Prelude.{◌≡◌, ◌<◌, ◌≤◌, ℕ, ◌+◌, ◌-◌, ◌⊎◌, true, false, List, [], ◌∷◌, ◌++◌, length, IsTrue, IsFalse, Result, Ok, Err, alloc_error}
+use Rattle.std.specs.Prelude.{◌≡◌, ◌<◌, ◌≤◌, ℕ, ◌+◌, ◌-◌, List, [], ◌∷◌, ◌++◌, length, IsTrue, IsFalse, Result, Ok, Err, alloc_error}
 use Rattle.tl_token.specs.declared.token.Token.{Token}
 use Rattle.tl_tree.specs.Tags.{Kind, Kinds, table_start, table_end, kinds, is_text}
 use Rattle.tl_tree.specs.Grammar.{Marks, Document}
@@ -94,16 +94,7 @@ IsRefused ks (TooManyTables n) = IsWrongAt ks n IsOneTooMany
 abbrev pub Refused : Tokens → TreeError → Type 0
 Refused tokens error = IsRefused (kinds tokens) error
 
--- the error refuses the tokens, or memory ran out
-abbrev pub RefusedOrMemory : Tokens → TreeError → Type 0
-RefusedOrMemory tokens error = (error ≡ Memory alloc_error) ⊎ Refused tokens error
-
 -- a tree with the outline of this one is returned, unless memory ran out
 abbrev pub ReturnsTree : TableNode → Result TableNode TreeError → Type 0
 ReturnsTree node (Ok returned) = outline returned ≡ outline node
 ReturnsTree node (Err error) = error ≡ Memory alloc_error
-
--- this error is returned, unless memory ran out
-abbrev pub ReturnsError : TreeError → Result TableNode TreeError → Type 0
-ReturnsError expected (Ok returned) = ⊥
-ReturnsError expected (Err error) = (error ≡ Memory alloc_error) ⊎ (error ≡ expected)

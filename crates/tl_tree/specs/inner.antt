@@ -1,2 +1,7 @@
+pub mod Lines
 pub mod Machine
 pub mod Verdict
+pub mod Atoms
+pub mod Stops
+pub mod Reading
+pub mod Documents

@@ -1,5 +1,14 @@
 //! The tree of a whole document.
 
+ghost use Rattle.std.specs.Prelude.{◌≡◌, OnOk, IfOk, IfErr, alloc_error};
+ghost use Rattle.tl_base.specs.Returned.{ReturnsError, IsMemoryOr};
+ghost use Rattle.tl_tree.specs.Tags.{class_of, kinds, is_text, is_table_start};
+ghost use Rattle.tl_tree.specs.Readable.{AreReadable};
+ghost use Rattle.tl_tree.specs.Spelling.{SpellsTree, IsWithinLimits, Refused, ReturnsTree};
+ghost use Rattle.tl_tree.specs.declared.node.TableNode.{TableNode};
+ghost use Rattle.tl_tree.specs.declared.error.TreeError.{TreeError};
+ghost use Rattle.tl_tree.specs.declared.error.TreeError.TheVariants.{Memory};
+
 use crate::error::TreeError;
 use crate::node::TableNode;
 use crate::reading::Reading;
@@ -8,26 +17,52 @@ use std::alloc::Global;
 use tl_token::{Element, Token, TokenKind};
 
 impl Stop {
+    ghost use Rattle.tl_tree.specs.inner.Documents.{stop_error};
+
     /// The error of a token at which reading stops.
-    fn at(self, index: u32, kind: &TokenKind) -> TreeError {
+    fn at(self, index: u32, kind: &TokenKind) -> TreeError
+        ensures { result ≡ stop_error index (class_of kind.now) self }
+    {
         match self {
             Stop::Memory(error) => TreeError::Memory(error),
-            Stop::Misfit => match kind {
-                TokenKind::Text(_) => TreeError::StrayText(index),
-                _ => TreeError::Misplaced(index),
-            },
             Stop::TooDeep => TreeError::TooDeep(index),
             Stop::TooManyTables => TreeError::TooManyTables(index),
+            Stop::Misfit => {
+                if is_text(kind) {
+                    TreeError::StrayText(index)
+                } else {
+                    TreeError::Misplaced(index)
+                }
+            }
         }
     }
 }
 
-fn is_table_start(kind: &TokenKind) -> bool {
-    matches!(kind, TokenKind::Start(Element::Table, _))
+fn is_text(kind: &TokenKind) -> bool
+    ensures { result ≡ is_text (class_of kind.now) }
+{
+    match kind {
+        TokenKind::Text(_) => true,
+        TokenKind::Start(_, _) | TokenKind::End(_) => false,
+    }
 }
 
-/// The tree of tables that the tokens of a file spell.
-pub fn tree(alloc: Global, tokens: &[Token]) -> Result<TableNode, TreeError> {
+fn is_table_start(kind: &TokenKind) -> bool
+    ensures { result ≡ is_table_start (class_of kind.now) }
+{
+    match kind {
+        TokenKind::Start(element, _) => matches!(element, Element::Table),
+        TokenKind::Text(_) | TokenKind::End(_) => false,
+    }
+}
+
+/// Reads the tokens one after another.
+fn read(alloc: Global, tokens: &[Token]) -> Result<TableNode, TreeError>
+    requires { AreReadable tokens.now }
+    ensures ok { IfOk result (SpellsTree tokens.now) }
+    ensures within { OnOk result (IsWithinLimits (kinds tokens.now)) }
+    ensures err { IfErr result (IsMemoryOr (Memory alloc_error) (Refused tokens.now)) }
+{
     let mut reading = Reading::Before;
     let mut tables = 0usize;
     for (index, token) in tokens.iter().enumerate() {
@@ -44,4 +79,23 @@ pub fn tree(alloc: Global, tokens: &[Token]) -> Result<TableNode, TreeError> {
         Reading::Inside(_outer, _table) => Err(TreeError::Unclosed),
         Reading::After(node) => Ok(node),
     }
+}
+
+/// The tree that the tokens of a file spell: its table, with the tables nested in it. The tables are
+/// numbered from 0 by their start tags.
+///
+/// Each error that names a token names the first at which no document goes on, or at which a limit is
+/// passed; at one token a misplaced tag comes before `MAX_DEPTH`, and that before `MAX_TABLES`. The
+/// time and the memory grow with the number of tokens and characters alone.
+pub fn tree(alloc: Global, tokens: &[Token]) -> Result<TableNode, TreeError>
+    requires { AreReadable tokens.now }
+    // The tree is one that the tokens spell, within the limits, and each that they spell is returned.
+    ensures ok { IfOk result (SpellsTree tokens.now) }
+    ensures within { OnOk result (IsWithinLimits (kinds tokens.now)) }
+    ensures each_ok { (node : TableNode) → SpellsTree tokens.now node → IsWithinLimits (kinds tokens.now) → ReturnsTree node result }
+    // Each error comes exactly where its cause is so.
+    ensures err { IfErr result (IsMemoryOr (Memory alloc_error) (Refused tokens.now)) }
+    ensures each_err { (error : TreeError) → Refused tokens.now error → ReturnsError (Memory alloc_error) error result }
+{
+    read(alloc, tokens)
 }

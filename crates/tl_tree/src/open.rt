@@ -1,11 +1,15 @@
 //! A table as it is read: what of it is whole, and what is open in it. Each value owns what stands
 //! around it: a row its group, a group the groups before it.
 
+ghost use Rattle.std.specs.Prelude.{◌≡◌, ◌+◌, ◌<◌, ◌≤◌, ◌^◌, ◌++◌, ◌∷◌, [], None, IfOk, IfErr, is_some};
+ghost use Rattle.tl_tree.specs.inner.Machine.{row_of, group_of, columns_of, due};
+ghost use Rattle.tl_tree.specs.inner.Stops.{IsMisfitOr};
+
 use crate::flow::Flow;
 use crate::node::{Block, CellNode, GroupNode, Part, TableNode};
 use crate::stop::Stop;
 use std::alloc::{AllocError, Global};
-use tl_base::List;
+use tl_base::{List, MAX_FILE_BYTES};
 use tl_token::Spans;
 
 /// What a table has before its groups.
@@ -70,7 +74,15 @@ pub(crate) enum OpenTable {
 }
 
 impl Head {
-    fn new(number: u32) -> Head {
+    ghost use Rattle.tl_tree.specs.inner.Reading.{head_so_far, parts_so_far, after_entries, in_flow, Adds};
+    ghost use Rattle.tl_tree.specs.inner.Lines.{line_size};
+    ghost use Rattle.tl_tree.specs.Outline.{table, caption, columns};
+    ghost use Rattle.tl_tree.specs.Grammar.{paragraph_ends, columns as columns_mark};
+
+    fn new(number: u32) -> Head
+        ensures so_far { head_so_far result ≡ table number ∷ [] }
+        ensures none { result.columns ≡ 0 }
+    {
         Head {
             number,
             caption: None,
@@ -78,7 +90,11 @@ impl Head {
         }
     }
 
-    fn with_caption(number: u32, alloc: Global, flow: Flow) -> Result<Head, AllocError> {
+    fn with_caption(number: u32, alloc: Global, flow: Flow) -> Result<Head, AllocError>
+        requires { line_size flow.line ≤ MAX_FILE_BYTES }
+        ensures adds { IfOk result (λ head. Adds (in_flow (table number ∷ caption ∷ []) flow) (after_entries (head_so_far head)) (paragraph_ends ∷ [])) }
+        ensures none { IfOk result (λ head. head.columns ≡ 0) }
+    {
         Ok(Head {
             number,
             caption: Some(flow.end(alloc)?),
@@ -86,7 +102,11 @@ impl Head {
         })
     }
 
-    pub(crate) fn add_columns(self, more: u32) -> Head {
+    pub(crate) fn add_columns(self, more: u32) -> Head
+        requires { self.columns + more < 2 ^ 32 }
+        ensures more { result.columns ≡ self.columns + more }
+        ensures same { head_so_far result ≡ head_so_far self }
+    {
         let Head {
             number,
             caption,
@@ -100,7 +120,9 @@ impl Head {
     }
 
     /// No more columns come.
-    fn end(self, alloc: Global) -> Parts {
+    fn end(self, alloc: Global) -> Parts
+        ensures { Adds (after_entries (head_so_far self)) (after_entries (parts_so_far result)) (columns_mark self.columns ∷ []) }
+    {
         Parts {
             head: self,
             groups: List::new(alloc),
@@ -109,8 +131,16 @@ impl Head {
 }
 
 impl OpenCell {
+    ghost use Rattle.tl_tree.specs.inner.Reading.{cell_so_far, row_so_far, after_entries, in_flow, Adds};
+    ghost use Rattle.tl_tree.specs.inner.Lines.{line_size};
+    ghost use Rattle.tl_tree.specs.Grammar.{paragraph_ends};
+
     /// The row with the cell of that flow as its last.
-    pub(crate) fn end(self, alloc: Global, flow: Flow) -> Result<OpenRow, AllocError> {
+    pub(crate) fn end(self, alloc: Global, flow: Flow) -> Result<OpenRow, AllocError>
+        requires { line_size flow.line ≤ MAX_FILE_BYTES }
+        ensures adds { IfOk result (λ row. Adds (in_flow (cell_so_far self) flow) (after_entries (row_so_far row)) (paragraph_ends ∷ [])) }
+        ensures part { IfOk result (λ row. row.group.part ≡ self.row.group.part) }
+    {
         let OpenCell { row, head, spans } = self;
         let OpenRow { group, mut cells } = row;
         let flow = flow.end(alloc)?;
@@ -126,8 +156,13 @@ impl OpenCell {
 }
 
 impl OpenRow {
+    ghost use Rattle.tl_tree.specs.inner.Reading.{row_so_far, group_so_far};
+
     /// The group with the row as its last.
-    pub(crate) fn end(self) -> Result<OpenGroup, AllocError> {
+    pub(crate) fn end(self) -> Result<OpenGroup, AllocError>
+        ensures so_far { IfOk result (λ group. group_so_far group ≡ row_so_far self) }
+        ensures part { IfOk result (λ group. group.part ≡ self.group.part) }
+    {
         let OpenRow { group, cells } = self;
         let OpenGroup {
             table,
@@ -140,7 +175,13 @@ impl OpenRow {
 }
 
 impl OpenGroup {
-    pub(crate) fn new(alloc: Global, table: Parts, part: Part) -> OpenGroup {
+    ghost use Rattle.tl_tree.specs.inner.Reading.{group_so_far, parts_so_far};
+    ghost use Rattle.tl_tree.specs.Outline.{group};
+
+    pub(crate) fn new(alloc: Global, table: Parts, part: Part) -> OpenGroup
+        ensures so_far { group_so_far result ≡ parts_so_far table ++ group part ∷ [] }
+        ensures part { result.part ≡ part }
+    {
         OpenGroup {
             table,
             part,
@@ -149,7 +190,9 @@ impl OpenGroup {
     }
 
     /// The table with the group as its last.
-    pub(crate) fn end(self) -> Result<Parts, AllocError> {
+    pub(crate) fn end(self) -> Result<Parts, AllocError>
+        ensures { IfOk result (λ parts. parts_so_far parts ≡ group_so_far self) }
+    {
         let OpenGroup { table, part, rows } = self;
         let Parts { head, mut groups } = table;
         groups.push(GroupNode { part, rows })?;
@@ -158,8 +201,13 @@ impl OpenGroup {
 }
 
 impl Parts {
+    ghost use Rattle.tl_tree.specs.inner.Reading.{parts_so_far};
+    ghost use Rattle.tl_tree.specs.Outline.{outline, table_end};
+
     /// The whole table.
-    pub(crate) fn end(self) -> TableNode {
+    pub(crate) fn end(self) -> TableNode
+        ensures { outline result ≡ parts_so_far self ++ table_end ∷ [] }
+    {
         let Parts { head, groups } = self;
         let Head {
             number,
@@ -176,40 +224,65 @@ impl Parts {
 }
 
 impl OpenTable {
+    ghost use Rattle.tl_tree.specs.inner.Reading.{outcome, after_entries, parts_so_far, place_of, place_columns, open_size, Adds, IsModest, RowGoesOn, GroupGoesOn, ColumnsGoOn};
+
     /// The row that goes on, once the cell in it has ended.
-    pub(crate) fn into_row(self, alloc: Global) -> Result<OpenRow, Stop> {
+    pub(crate) fn into_row(self, alloc: Global) -> Result<OpenRow, Stop>
+        requires { open_size self ≤ MAX_FILE_BYTES }
+        ensures ok { IfOk result (λ row. RowGoesOn (outcome self) (place_of self) row) }
+        ensures err { IfErr result (λ stop. IsMisfitOr (row_of (place_of self) ≡ None) stop) }
+    {
         match self {
             OpenTable::Row(row) => Ok(row),
-            OpenTable::Flow(Holder::Cell(cell), flow) => Ok(cell.end(alloc, flow)?),
+            OpenTable::Flow(holder, flow) => match holder {
+                Holder::Cell(cell) => Ok(cell.end(alloc, flow)?),
+                Holder::Caption(_) => Err(Stop::Misfit),
+            },
             _ => Err(Stop::Misfit),
         }
     }
 
     /// The group that goes on, once what is open in it has ended.
-    pub(crate) fn into_group(self, alloc: Global) -> Result<OpenGroup, Stop> {
+    pub(crate) fn into_group(self, alloc: Global) -> Result<OpenGroup, Stop>
+        requires { open_size self ≤ MAX_FILE_BYTES }
+        ensures ok { IfOk result (λ group. GroupGoesOn (outcome self) (place_of self) group) }
+        ensures err { IfErr result (λ stop. IsMisfitOr (group_of (place_of self) ≡ None) stop) }
+    {
         match self {
             OpenTable::Group(group) => Ok(group),
             OpenTable::Row(row) => Ok(row.end()?),
-            OpenTable::Flow(Holder::Cell(cell), flow) => Ok(cell.end(alloc, flow)?.end()?),
+            OpenTable::Flow(holder, flow) => match holder {
+                Holder::Cell(cell) => Ok(cell.end(alloc, flow)?.end()?),
+                Holder::Caption(_) => Err(Stop::Misfit),
+            },
             _ => Err(Stop::Misfit),
         }
     }
 
     /// The columns that go on, once what is open before them has ended.
-    pub(crate) fn into_head(self, alloc: Global) -> Result<Head, Stop> {
+    pub(crate) fn into_head(self, alloc: Global) -> Result<Head, Stop>
+        requires { IsModest self }
+        ensures ok { IfOk result (λ head. ColumnsGoOn (outcome self) (place_of self) head) }
+        ensures few { IfOk result (λ head. head.columns ≡ place_columns (place_of self)) }
+        ensures err { IfErr result (λ stop. IsMisfitOr (columns_of (place_of self) ≡ None) stop) }
+    {
         match self {
             OpenTable::Start(number) => Ok(Head::new(number)),
-            OpenTable::Flow(Holder::Caption(number), flow) => {
-                Ok(Head::with_caption(number, alloc, flow)?)
-            }
             OpenTable::Columns(head) => Ok(head),
             OpenTable::Colgroup(head, pending) => Ok(head.add_columns(pending)),
+            OpenTable::Flow(holder, flow) => match holder {
+                Holder::Caption(number) => Ok(Head::with_caption(number, alloc, flow)?),
+                Holder::Cell(_) => Err(Stop::Misfit),
+            },
             _ => Err(Stop::Misfit),
         }
     }
 
     /// The table, once all that is open in it has ended.
-    pub(crate) fn into_parts(self, alloc: Global) -> Result<Parts, AllocError> {
+    pub(crate) fn into_parts(self, alloc: Global) -> Result<Parts, AllocError>
+        requires { IsModest self }
+        ensures { IfOk result (λ parts. Adds (outcome self) (after_entries (parts_so_far parts)) (due (place_of self))) }
+    {
         match self {
             OpenTable::Start(number) => Ok(Head::new(number).end(alloc)),
             OpenTable::Columns(head) => Ok(head.end(alloc)),
@@ -217,17 +290,23 @@ impl OpenTable {
             OpenTable::Between(parts) => Ok(parts),
             OpenTable::Group(group) => group.end(),
             OpenTable::Row(row) => row.end()?.end(),
-            OpenTable::Flow(Holder::Caption(number), flow) => {
-                Ok(Head::with_caption(number, alloc, flow)?.end(alloc))
-            }
-            OpenTable::Flow(Holder::Cell(cell), flow) => cell.end(alloc, flow)?.end()?.end(),
+            OpenTable::Flow(holder, flow) => match holder {
+                Holder::Caption(number) => {
+                    Ok(Head::with_caption(number, alloc, flow)?.end(alloc))
+                }
+                Holder::Cell(cell) => cell.end(alloc, flow)?.end()?.end(),
+            },
         }
     }
 
-    pub(crate) fn has_group(&self) -> bool {
-        matches!(
-            self,
-            OpenTable::Group(_) | OpenTable::Row(_) | OpenTable::Flow(Holder::Cell(_), _)
-        )
+    /// Whether a group is open, for a row to go on with.
+    pub(crate) fn has_group(&self) -> bool
+        ensures { result ≡ is_some (group_of (place_of self.now)) }
+    {
+        match self {
+            OpenTable::Group(_) | OpenTable::Row(_) => true,
+            OpenTable::Flow(holder, _) => matches!(holder, Holder::Cell(_)),
+            _ => false,
+        }
     }
 }

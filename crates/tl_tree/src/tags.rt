@@ -1,15 +1,51 @@
 //! What the tags and texts of a table do to it, one by one.
 
+ghost use Rattle.std.specs.Prelude.{◌≡◌, ◌≢◌, ◌≤◌, false, true, IfOk, IfErr, chars};
+ghost use Rattle.tl_token.specs.declared.token.Element.TheVariants.{Table};
+ghost use Rattle.tl_tree.specs.Tags as tags;
+ghost use Rattle.tl_tree.specs.Tags.{Section, part_of, start_of, end_of, is_white, is_table_start};
+ghost use Rattle.tl_tree.specs.inner.Machine.{move, never, of_caption, of_cell, in_flow};
+ghost use Rattle.tl_tree.specs.Readable.{IsReadable};
+ghost use Rattle.tl_tree.specs.inner.Stops.{IsMisfitOr};
+
 use crate::flow::Flow;
 use crate::node::Part;
 use crate::open::{Holder, OpenCell, OpenGroup, OpenRow, OpenTable};
 use crate::stop::Stop;
 use std::alloc::{AllocError, Global};
-use tl_base::List;
+use tl_base::{List, MAX_COLSPAN};
 use tl_token::{Element, Spans};
 
 impl OpenTable {
-    fn start_caption(self, alloc: Global) -> Result<OpenTable, Stop> {
+    ghost use Rattle.tl_tree.specs.inner.Reading.{outcome, place_of, place_columns, IsModest, Moves, is_caption_flow, is_cell_flow};
+
+    fn is_in_caption(&self) -> bool
+        ensures { result ≡ is_caption_flow (place_of self.now) }
+    {
+        match self {
+            OpenTable::Flow(holder, _) => matches!(holder, Holder::Caption(_)),
+            _ => false,
+        }
+    }
+
+    /// Whether a header cell is open, if `head`, or one that is none.
+    fn is_in_cell(&self, head: bool) -> bool
+        ensures { result ≡ is_cell_flow head (place_of self.now) }
+    {
+        match self {
+            OpenTable::Flow(holder, _) => match holder {
+                Holder::Cell(cell) => cell.head == head,
+                Holder::Caption(_) => false,
+            },
+            _ => false,
+        }
+    }
+
+    fn start_caption(self, alloc: Global) -> Result<OpenTable, Stop>
+        requires modest { IsModest self }
+        ensures ok { IfOk result (Moves self tags.caption_start) }
+        ensures err { IfErr result (IsMisfitOr (move (place_of self) tags.caption_start ≡ never)) }
+    {
         match self {
             OpenTable::Start(number) => Ok(OpenTable::Flow(
                 Holder::Caption(number),
@@ -19,7 +55,11 @@ impl OpenTable {
         }
     }
 
-    fn end_caption(self, alloc: Global) -> Result<OpenTable, Stop> {
+    fn end_caption(self, alloc: Global) -> Result<OpenTable, Stop>
+        requires modest { IsModest self }
+        ensures ok { IfOk result (Moves self tags.caption_end) }
+        ensures err { IfErr result (IsMisfitOr (move (place_of self) tags.caption_end ≡ never)) }
+    {
         match self {
             OpenTable::Flow(Holder::Caption(_), _) => Ok(OpenTable::Columns(self.into_head(
                 alloc,
@@ -28,30 +68,50 @@ impl OpenTable {
         }
     }
 
-    fn start_colgroup(self, alloc: Global, span: u32) -> Result<OpenTable, Stop> {
+    fn start_colgroup(self, alloc: Global, span: u32) -> Result<OpenTable, Stop>
+        requires modest { IsModest self }
+        ensures ok { IfOk result (Moves self (tags.colgroup_start span)) }
+        ensures err { IfErr result (IsMisfitOr (move (place_of self) (tags.colgroup_start span) ≡ never)) }
+    {
         Ok(OpenTable::Colgroup(self.into_head(alloc)?, span))
     }
 
-    fn end_colgroup(self) -> Result<OpenTable, Stop> {
+    fn end_colgroup(self) -> Result<OpenTable, Stop>
+        requires modest { IsModest self }
+        ensures ok { IfOk result (Moves self tags.colgroup_end) }
+        ensures err { IfErr result (IsMisfitOr (move (place_of self) tags.colgroup_end ≡ never)) }
+    {
         match self {
             OpenTable::Colgroup(head, pending) => Ok(OpenTable::Columns(head.add_columns(pending))),
             _ => Err(Stop::Misfit),
         }
     }
 
-    fn read_col(self, alloc: Global, span: u32) -> Result<OpenTable, Stop> {
+    fn read_col(self, alloc: Global, span: u32) -> Result<OpenTable, Stop>
+        requires modest { IsModest self }
+        requires few { span ≤ MAX_COLSPAN }
+        ensures ok { IfOk result (Moves self (tags.col span)) }
+        ensures err { IfErr result (IsMisfitOr (move (place_of self) (tags.col span) ≡ never)) }
+    {
         match self {
             OpenTable::Colgroup(head, _) => Ok(OpenTable::Colgroup(head.add_columns(span), 0)),
             other => Ok(OpenTable::Columns(other.into_head(alloc)?.add_columns(span))),
         }
     }
 
-    fn start_group(self, alloc: Global, part: Part) -> Result<OpenTable, AllocError> {
+    fn start_group(self, alloc: Global, part: Part) -> Result<OpenTable, AllocError>
+        requires { IsModest self }
+        ensures { IfOk result (λ new. (section : Section) → part_of section ≡ part → Moves self (tags.group_start section) new) }
+    {
         let table = self.into_parts(alloc)?;
         Ok(OpenTable::Group(OpenGroup::new(alloc, table, part)))
     }
 
-    fn end_group(self, alloc: Global, part: Part) -> Result<OpenTable, Stop> {
+    fn end_group(self, alloc: Global, part: Part) -> Result<OpenTable, Stop>
+        requires { IsModest self }
+        ensures ok { IfOk result (λ new. (section : Section) → part_of section ≡ part → Moves self (tags.group_end section) new) }
+        ensures err { IfErr result (λ stop. (section : Section) → part_of section ≡ part → IsMisfitOr (move (place_of self) (tags.group_end section) ≡ never) stop) }
+    {
         let group = self.into_group(alloc)?;
         if group.part == part {
             Ok(OpenTable::Between(group.end()?))
@@ -61,39 +121,58 @@ impl OpenTable {
     }
 
     /// A row goes on with the group that is open, or with loose rows of its own.
-    fn start_row(self, alloc: Global) -> Result<OpenTable, Stop> {
-        let group = if self.has_group() {
-            self.into_group(alloc)?
-        } else {
-            OpenGroup::new(alloc, self.into_parts(alloc)?, Part::Loose)
-        };
-        Ok(OpenTable::Row(OpenRow {
-            group,
-            cells: List::new(alloc),
-        }))
+    fn start_row(self, alloc: Global) -> Result<OpenTable, Stop>
+        requires modest { IsModest self }
+        ensures ok { IfOk result (Moves self tags.row_start) }
+        ensures err { IfErr result (IsMisfitOr (move (place_of self) tags.row_start ≡ never)) }
+    {
+        if self.has_group() {
+            let group = self.into_group(alloc)?;
+            let cells = List::new(alloc);
+            return Ok(OpenTable::Row(OpenRow { group, cells }));
+        }
+        let table = self.into_parts(alloc)?;
+        let group = OpenGroup::new(alloc, table, Part::Loose);
+        let cells = List::new(alloc);
+        Ok(OpenTable::Row(OpenRow { group, cells }))
     }
 
-    fn end_row(self, alloc: Global) -> Result<OpenTable, Stop> {
+    fn end_row(self, alloc: Global) -> Result<OpenTable, Stop>
+        requires modest { IsModest self }
+        ensures ok { IfOk result (Moves self tags.row_end) }
+        ensures err { IfErr result (IsMisfitOr (move (place_of self) tags.row_end ≡ never)) }
+    {
         Ok(OpenTable::Group(self.into_row(alloc)?.end()?))
     }
 
-    fn start_cell(self, alloc: Global, head: bool, spans: Spans) -> Result<OpenTable, Stop> {
+    fn start_cell(self, alloc: Global, head: bool, spans: Spans) -> Result<OpenTable, Stop>
+        requires modest { IsModest self }
+        ensures ok { IfOk result (Moves self (tags.cell_start head spans)) }
+        ensures err { IfErr result (IsMisfitOr (move (place_of self) (tags.cell_start head spans) ≡ never)) }
+    {
         let row = self.into_row(alloc)?;
         let cell = OpenCell { row, head, spans };
         let flow = Flow::new(alloc, List::new(alloc));
         Ok(OpenTable::Flow(Holder::Cell(cell), flow))
     }
 
-    fn end_cell(self, alloc: Global, head: bool) -> Result<OpenTable, Stop> {
-        match self {
-            OpenTable::Flow(Holder::Cell(cell), flow) if cell.head == head => {
-                Ok(OpenTable::Row(cell.end(alloc, flow)?))
-            }
-            _ => Err(Stop::Misfit),
+    fn end_cell(self, alloc: Global, head: bool) -> Result<OpenTable, Stop>
+        requires modest { IsModest self }
+        ensures ok { IfOk result (Moves self (tags.cell_end head)) }
+        ensures err { IfErr result (IsMisfitOr (move (place_of self) (tags.cell_end head) ≡ never)) }
+    {
+        if self.is_in_cell(head) {
+            Ok(OpenTable::Row(self.into_row(alloc)?))
+        } else {
+            Err(Stop::Misfit)
         }
     }
 
-    fn read_break(self, alloc: Global) -> Result<OpenTable, Stop> {
+    fn read_break(self, alloc: Global) -> Result<OpenTable, Stop>
+        requires modest { IsModest self }
+        ensures ok { IfOk result (Moves self tags.br) }
+        ensures err { IfErr result (IsMisfitOr (move (place_of self) tags.br ≡ never)) }
+    {
         match self {
             OpenTable::Flow(holder, mut flow) => {
                 flow.read_break(alloc)?;
@@ -103,7 +182,11 @@ impl OpenTable {
         }
     }
 
-    fn end_paragraph(self, alloc: Global) -> Result<OpenTable, Stop> {
+    fn end_paragraph(self, alloc: Global) -> Result<OpenTable, Stop>
+        requires modest { IsModest self }
+        ensures ok { IfOk result (Moves self tags.p_or_div) }
+        ensures err { IfErr result (IsMisfitOr (move (place_of self) tags.p_or_div ≡ never)) }
+    {
         match self {
             OpenTable::Flow(holder, flow) => {
                 Ok(OpenTable::Flow(holder, Flow::new(alloc, flow.end(alloc)?)))
@@ -112,7 +195,11 @@ impl OpenTable {
         }
     }
 
-    fn pass_inline(self) -> Result<OpenTable, Stop> {
+    fn pass_inline(self) -> Result<OpenTable, Stop>
+        requires modest { IsModest self }
+        ensures ok { IfOk result (Moves self tags.inline_tag) }
+        ensures err { IfErr result (IsMisfitOr (move (place_of self) tags.inline_tag ≡ never)) }
+    {
         match self {
             OpenTable::Flow(holder, flow) => Ok(OpenTable::Flow(holder, flow)),
             _ => Err(Stop::Misfit),
@@ -120,7 +207,11 @@ impl OpenTable {
     }
 
     /// A text: a part of the flow that is open, or white space between tags.
-    pub(crate) fn text(self, alloc: Global, text: &str) -> Result<OpenTable, Stop> {
+    pub(crate) fn text(self, alloc: Global, text: &str) -> Result<OpenTable, Stop>
+        requires modest { IsModest self }
+        ensures ok { IfOk result (Moves self (tags.text (chars text.now))) }
+        ensures err { IfErr result (IsMisfitOr (move (place_of self) (tags.text (chars text.now)) ≡ never)) }
+    {
         match self {
             OpenTable::Flow(holder, mut flow) => {
                 flow.read_text(alloc, text)?;
@@ -142,7 +233,13 @@ impl OpenTable {
         alloc: Global,
         element: Element,
         spans: Spans,
-    ) -> Result<OpenTable, Stop> {
+    ) -> Result<OpenTable, Stop>
+        requires modest { IsModest self }
+        requires few { IsReadable (start_of element spans) }
+        requires no_table { is_table_start (start_of element spans) ≡ false }
+        ensures ok { IfOk result (Moves self (start_of element spans)) }
+        ensures err { IfErr result (IsMisfitOr (move (place_of self) (start_of element spans) ≡ never)) }
+    {
         match element {
             Element::Caption => self.start_caption(alloc),
             Element::Colgroup => self.start_colgroup(alloc, spans.span),
@@ -161,7 +258,12 @@ impl OpenTable {
     }
 
     /// An end tag that ends no table.
-    pub(crate) fn end(self, alloc: Global, element: Element) -> Result<OpenTable, Stop> {
+    pub(crate) fn end(self, alloc: Global, element: Element) -> Result<OpenTable, Stop>
+        requires modest { IsModest self }
+        requires no_table { element ≢ Table }
+        ensures ok { IfOk result (Moves self (end_of element)) }
+        ensures err { IfErr result (IsMisfitOr (move (place_of self) (end_of element) ≡ never)) }
+    {
         match element {
             Element::Caption => self.end_caption(alloc),
             Element::Colgroup => self.end_colgroup(),
@@ -179,6 +281,8 @@ impl OpenTable {
 }
 
 /// Whether the text is white space alone.
-pub(crate) fn is_white(text: &str) -> bool {
+pub(crate) fn is_white(text: &str) -> bool
+    ensures { result ≡ is_white (tags.text (chars text.now)) }
+{
     text.chars().all(|c| c.is_ascii_whitespace())
 }

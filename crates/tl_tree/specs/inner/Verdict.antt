@@ -1,5 +1,5 @@
 -- The first fault that the machine meets. No public clause cites this file.
-use Rattle.std.specs.Prelude.{ℕ, ◌+◌, Bool, true, false, nat_le, Option, Some, None, List, [], ◌∷◌, length, if◌then◌else◌}
+use Rattle.std.specs.Prelude.{ℕ, ◌+◌, Bool, true, false, nat_le, Option, Some, None, [], ◌∷◌, length, if◌then◌else◌}
 use Rattle.tl_tree.specs.Tags.{Kind, Kinds, is_text, is_table_start}
 use Rattle.tl_tree.specs.Spelling.{tables_with}
 use Rattle.tl_tree.specs.inner.Machine.{State, before, inside, after, failed, next}

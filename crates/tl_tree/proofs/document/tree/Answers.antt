@@ -1,0 +1,8 @@
+use Rattle.tl_tree.proofs.Documents.{each_ok, each_err}
+use Rattle.tl_tree.proofs.document.tree.Goals as goal
+
+pub returns-clause-each_ok : goal.returns-clause-each_ok
+returns-clause-each_ok c = each_ok c.args.tokens.now c.read.result c.read.ensures.ok c.read.ensures.err
+
+pub returns-clause-each_err : goal.returns-clause-each_err
+returns-clause-each_err c = each_err c.args.tokens.now c.read.result c.read.ensures.ok c.read.ensures.within c.read.ensures.err

@@ -1,0 +1,140 @@
+-- What has been read of a document: its place in the machine, and the outline that comes once the marks
+-- that are still to come have come. No public clause cites this file.
+use Rattle.std.specs.Prelude.{◌≡◌, ℕ, ◌+◌, ◌≤◌, ◌<◌, ◌^◌, Bool, true, false, Option, Some, None, List, [], ◌∷◌, ◌++◌}
+use Rattle.std.specs.List.{flat_map}
+use Rattle.tl_tree.specs.Tags.{Kind}
+use Rattle.tl_tree.specs.Grammar.{Marks, paragraph_ends}
+use Rattle.tl_tree.specs.Paragraphs.{leading, paragraph_of, entries_after, entries_of}
+use Rattle.tl_tree.specs.Outline.{Entries, table, caption, columns, group, row, cell, cell_outline, group_outline}
+use Rattle.tl_tree.specs.inner.Lines.{line_atoms, line_size, blocks_outline}
+use Rattle.tl_tree.specs.inner.Machine as machine
+use Rattle.tl_tree.specs.inner.Machine.{Place, State, row_of, group_of, columns_of, move, to, never, marks_of, next, told}
+use Rattle.tl_tree.specs.declared.node.Block.{Block}
+use Rattle.tl_tree.specs.declared.node.CellNode.{CellNode}
+use Rattle.tl_tree.specs.declared.flow.Line.{Line}
+use Rattle.tl_tree.specs.declared.flow.Flow.{Flow}
+use Rattle.tl_tree.specs.declared.open.Head.{Head}
+use Rattle.tl_tree.specs.declared.open.Parts.{Parts}
+use Rattle.tl_tree.specs.declared.open.OpenGroup.{OpenGroup}
+use Rattle.tl_tree.specs.declared.open.OpenRow.{OpenRow}
+use Rattle.tl_tree.specs.declared.open.OpenCell.{OpenCell}
+use Rattle.tl_tree.specs.declared.open.Holder.{Holder}
+use Rattle.tl_tree.specs.declared.open.Holder.TheVariants as holders
+use Rattle.tl_tree.specs.declared.open.OpenTable.{OpenTable}
+use Rattle.tl_tree.specs.declared.open.OpenTable.TheVariants as tables
+
+-- the entries of what is whole in each part of a table that is open
+abbrev pub caption_outline : Option (List Block) → Entries
+caption_outline None = []
+caption_outline (Some blocks) = caption ∷ blocks_outline blocks
+
+abbrev pub row_outline : List CellNode → Entries
+row_outline cells = row ∷ flat_map cell_outline cells
+
+abbrev pub head_so_far : Head → Entries
+head_so_far head = table head.number ∷ caption_outline head.caption
+
+abbrev pub parts_so_far : Parts → Entries
+parts_so_far parts = head_so_far parts.head ++ (columns parts.head.columns ∷ flat_map group_outline parts.groups)
+
+abbrev pub group_so_far : OpenGroup → Entries
+group_so_far g = parts_so_far g.table ++ (group g.part ∷ flat_map row_outline g.rows)
+
+abbrev pub row_so_far : OpenRow → Entries
+row_so_far r = group_so_far r.group ++ row_outline r.cells
+
+abbrev pub cell_so_far : OpenCell → Entries
+cell_so_far c = row_so_far c.row ++ (cell c.head c.spans.colspan c.spans.rowspan c.spans.least ∷ [])
+
+abbrev pub holder_so_far : Holder → Entries
+holder_so_far (holders.Caption number) = table number ∷ caption ∷ []
+holder_so_far (holders.Cell c) = cell_so_far c
+
+-- The outline that comes, with `k` as the number of the next table and those marks still to come: after
+-- these entries, and where a paragraph is open besides.
+abbrev pub Outcome : Type 0
+Outcome = ℕ → Marks → Entries
+
+abbrev pub after_entries : Entries → Outcome
+after_entries entries k ms = entries ++ entries_of k ms
+
+abbrev pub in_paragraph : Entries → Line → Outcome
+in_paragraph entries line k ms = entries ++ (paragraph_of (line_atoms line (leading ms)) ++ entries_after k ms)
+
+abbrev pub in_flow : Entries → Flow → Outcome
+in_flow entries flow = in_paragraph (entries ++ blocks_outline flow.blocks) flow.line
+
+abbrev pub outcome : OpenTable → Outcome
+outcome (tables.Start number) = after_entries (table number ∷ [])
+outcome (tables.Columns head) = after_entries (head_so_far head)
+outcome (tables.Colgroup head pending) = after_entries (head_so_far head)
+outcome (tables.Between parts) = after_entries (parts_so_far parts)
+outcome (tables.Group g) = after_entries (group_so_far g)
+outcome (tables.Row r) = after_entries (row_so_far r)
+outcome (tables.Flow holder flow) = in_flow (holder_so_far holder) flow
+
+-- the second comes of the first by those marks, among which no table begins
+pub record Adds (old new : Outcome) (ms : Marks) : Type 0 where
+  pub same : (k : ℕ) (later : Marks) → new k later ≡ old k (ms ++ later)
+
+-- where a table stands in the machine
+abbrev pub holder_of : Holder → machine.Holder
+holder_of (holders.Caption number) = machine.of_caption
+holder_of (holders.Cell c) = machine.of_cell c.row.group.part c.head
+
+abbrev pub place_of : OpenTable → Place
+place_of (tables.Start number) = machine.opened
+place_of (tables.Columns head) = machine.in_columns head.columns
+place_of (tables.Colgroup head pending) = machine.in_colgroup head.columns pending
+place_of (tables.Between parts) = machine.between
+place_of (tables.Group g) = machine.in_group g.part
+place_of (tables.Row r) = machine.in_row r.group.part
+place_of (tables.Flow holder flow) = machine.in_flow (holder_of holder)
+
+-- the marks of the end of the flow at a place, if there is one
+abbrev pub ending : Place → Marks
+ending (machine.in_flow holder) = paragraph_ends ∷ []
+ending _ = []
+
+-- the flow of a caption, and that of a header cell or of one that is none
+abbrev pub is_caption_flow : Place → Bool
+is_caption_flow (machine.in_flow machine.of_caption) = true
+is_caption_flow _ = false
+
+abbrev pub is_cell_flow : Bool → Place → Bool
+is_cell_flow head (machine.in_flow (machine.of_cell part open_head)) = machine.same_head open_head head
+is_cell_flow head _ = false
+
+-- how many columns a place has, with those that the end of a `colgroup` adds
+abbrev pub place_columns : Place → ℕ
+place_columns (machine.in_columns n) = n
+place_columns (machine.in_colgroup n pending) = n + pending
+place_columns _ = 0
+
+-- how much the paragraph that is open counts so far
+abbrev pub open_size : OpenTable → ℕ
+open_size (tables.Flow holder flow) = line_size flow.line
+open_size _ = 0
+
+-- what reading a table on may count on: that few columns and few characters have come
+pub record IsModest (t : OpenTable) : Type 0 where
+  pub few_columns : place_columns (place_of t) < 2 ^ 31
+  pub small : open_size t ≤ 1048576
+
+-- what is left once all that is open in a row, a group or before the columns has ended
+pub record RowGoesOn (old : Outcome) (p : Place) (r : OpenRow) : Type 0 where
+  pub found : row_of p ≡ Some (r.group.part, ending p)
+  pub adds : Adds old (after_entries (row_so_far r)) (ending p)
+
+pub record GroupGoesOn (old : Outcome) (p : Place) (g : OpenGroup) : Type 0 where
+  pub found : group_of p ≡ Some (g.part, ending p)
+  pub adds : Adds old (after_entries (group_so_far g)) (ending p)
+
+pub record ColumnsGoOn (old : Outcome) (p : Place) (head : Head) : Type 0 where
+  pub found : columns_of p ≡ Some (head.columns, ending p)
+  pub adds : Adds old (after_entries (head_so_far head)) (ending p)
+
+-- the token moves the table on, and adds the marks of that move
+pub record Moves (old : OpenTable) (k : Kind) (new : OpenTable) : Type 0 where
+  pub goes : move (place_of old) k ≡ to (place_of new) (marks_of (move (place_of old) k))
+  pub adds : Adds (outcome old) (outcome new) (marks_of (move (place_of old) k))
