@@ -8,7 +8,7 @@ use Rattle.tl_problem.specs.declared.chain.Chain.{Chain}
 use Rattle.tl_cert.specs.declared.log.LogLine.{LogLine}
 use Rattle.tl_cert.specs.declared.section.Section.{Section}
 use Rattle.tl_cert.specs.declared.certificate.Certificate.{Certificate}
-use Rattle.tl_cert.specs.declared.limits.TheConstants.{MAX_PAGE_WIDTH, MAX_BUDGET}
+use Rattle.tl_base.specs.declared.limits.TheConstants.{MAX_PAGE_WIDTH, MAX_BUDGET}
 use Rattle.tl_cert.specs.Pieces.{Piece, spell, numeral, word, character, field}
 use Rattle.tl_cert.specs.Text.{space, line_feed, spaced, chain_pieces, entry_pieces, cut_pieces, nogood_pieces, fire_pieces, end_word, line_pieces, section_head, section_pieces, claim_pieces, version_word, style_word, has_area, cert_text}
 use Rattle.tl_cert.specs.inner.Head.{head_text}

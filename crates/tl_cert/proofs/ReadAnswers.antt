@@ -5,7 +5,7 @@ use Rattle.tl_base.specs.Returned.{ReturnsOk, ReturnsError, IsMemoryOr}
 use Rattle.tl_cert.specs.declared.certificate.Certificate.{Certificate}
 use Rattle.tl_cert.specs.declared.error.CertError.{CertError}
 use Rattle.tl_cert.specs.declared.error.CertError.TheVariants.{Memory, Syntax, Range, TooLong}
-use Rattle.tl_cert.specs.declared.limits.TheConstants.{MAX_CERTIFICATE_BYTES}
+use Rattle.tl_base.specs.declared.limits.TheConstants.{MAX_CERTIFICATE_BYTES}
 use Rattle.tl_cert.specs.Text.{cert_text, IsWritable}
 use Rattle.tl_cert.specs.Faults.{IsRangeFault, IsSyntaxFault, Refused, IsTextOf}
 use Rattle.tl_cert.specs.inner.CertReading.{whole_at}

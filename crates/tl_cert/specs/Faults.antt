@@ -3,7 +3,7 @@ use Rattle.std.specs.Prelude.{◌≡◌, ◌≢◌, ℕ, ◌+◌, ◌<◌, ◌�
 use Rattle.tl_cert.specs.declared.certificate.Certificate.{Certificate}
 use Rattle.tl_cert.specs.declared.error.CertError.{CertError}
 use Rattle.tl_cert.specs.declared.error.CertError.TheVariants.{Memory, Syntax, Range, TooLong}
-use Rattle.tl_cert.specs.declared.limits.TheConstants.{MAX_CERTIFICATE_BYTES}
+use Rattle.tl_base.specs.declared.limits.TheConstants.{MAX_CERTIFICATE_BYTES}
 use Rattle.tl_cert.specs.Pieces.{Piece, number, spell, numeral, IsWithin, AllWithin, IsPastDigits}
 use Rattle.tl_cert.specs.Text.{cert_pieces, cert_text, IsShaped, IsWritable}
 

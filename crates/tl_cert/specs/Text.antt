@@ -19,7 +19,8 @@ use Rattle.tl_cert.specs.declared.section.Section.{Section}
 use Rattle.tl_cert.specs.declared.certificate.Claim.{Claim}
 use Rattle.tl_cert.specs.declared.certificate.Claim.TheVariants.{Lowest, Bounded, Narrow}
 use Rattle.tl_cert.specs.declared.certificate.Certificate.{Certificate}
-use Rattle.tl_cert.specs.declared.limits.TheConstants.{MAX_PAGE_WIDTH, MAX_HEIGHT, MAX_BUDGET, MAX_COLUMNS, MAX_CELLS, MAX_TABLE, MAX_SECTIONS, MAX_ZONE, MAX_LINE, MAX_SPAN, MAX_CLASS, MAX_BOUNDS, MAX_FIRES}
+use Rattle.tl_base.specs.declared.limits.TheConstants.{MAX_PAGE_WIDTH, MAX_HEIGHT, MAX_BUDGET, MAX_COLUMNS, MAX_CELLS}
+use Rattle.tl_cert.specs.declared.limits.TheConstants.{MAX_TABLE, MAX_SECTIONS, MAX_ZONE, MAX_LINE, MAX_SPAN, MAX_CLASS, MAX_BOUNDS, MAX_FIRES}
 use Rattle.tl_cert.specs.Pieces.{Piece, character, number, field, word, spell, AllWithin}
 
 abbrev pub space : ℕ
@@ -225,3 +226,7 @@ IsChainWritable chain = (1 ≤ length chain.entries) × AllWithin (chain_pieces 
 -- A certificate that has a text: every number and list is within its range.
 abbrev pub IsWritable : Certificate → Type 0
 IsWritable c = IsShaped c × AllWithin (cert_pieces c)
+
+-- No two certificates have one text, and no text is a proper prefix of another, the ranges left aside.
+abbrev pub TextsAreApart : Type 0
+TextsAreApart = (c d : Certificate) (t u : List ℕ) → IsShaped c → IsShaped d → cert_text c ++ t ≡ cert_text d ++ u → (c ≡ d) × (t ≡ u)

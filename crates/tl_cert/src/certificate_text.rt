@@ -12,10 +12,9 @@ ghost use Rattle.tl_cert.specs.inner.CertReading as read;
 use crate::areas::Areas;
 use crate::certificate::{Certificate, Claim};
 use crate::error::CertError;
-use crate::limits::{MAX_BUDGET, MAX_CERTIFICATE_BYTES, MAX_HEIGHT, MAX_PAGE_WIDTH};
 use crate::reader::{Fault, Reader};
 use std::alloc::{AllocError, Global};
-use tl_base::{List, Style};
+use tl_base::{List, MAX_BUDGET, MAX_CERTIFICATE_BYTES, MAX_HEIGHT, MAX_PAGE_WIDTH, Style};
 
 impl<'a> Reader<'a> {
     /// Whether the text is of version 2.

@@ -6,10 +6,10 @@ ghost use Rattle.tl_cert.specs.inner.CertReading as read;
 ghost use Rattle.tl_cert.specs.inner.reading.Lists.{listing, comes};
 
 use crate::follow::Follow;
-use crate::limits::{MAX_CELLS, MAX_TABLE};
+use crate::limits::MAX_TABLE;
 use crate::reader::{Fault, Reader};
 use std::alloc::Global;
-use tl_base::List;
+use tl_base::{List, MAX_CELLS};
 use tl_problem::{Chain, Entry};
 
 impl<'a> Reader<'a> {
@@ -18,7 +18,7 @@ impl<'a> Reader<'a> {
     fn entry(&mut self) -> Result<(Entry, bool), Fault>
         ensures { Gives (λ x. (x.0, x.1)) result self.new.rest.now (read.entry_at true self.old.rest.now) }
     {
-        let (cell, end) = self.number(0, MAX_CELLS, Follow::Entry(true))?;
+        let (cell, end) = self.number(0, MAX_CELLS as u32, Follow::Entry(true))?;
         if end != b':' {
             return Ok((Entry { cell, inner: None }, end == b' '));
         }

@@ -1,7 +1,7 @@
 //! Certificates of a layout: what proves that no lower page exists, or that no page is wide enough. Each
 //! is a text that a second program can read and check, line by line. This crate knows the certificate's
 //! parts, its text and when a line of it is good; it knows no table and searches nothing. Its one
-//! contract: `write` and `read` are the certificate's text, both ways.
+//! contract: `write` and `read` are the certificate's text, both ways, each fault at its place.
 #![tactic(auto)]
 
 mod areas;
@@ -9,8 +9,8 @@ mod certificate;
 mod certificate_text;
 mod chain_text;
 mod error;
-mod laws;
 mod follow;
+mod laws;
 mod limits;
 mod log;
 mod log_text;
@@ -19,6 +19,7 @@ mod section;
 mod section_text;
 #[cfg(test)]
 mod tests;
+mod text_laws;
 mod trace;
 mod writing;
 
@@ -34,5 +35,6 @@ pub use limits::{
 };
 pub use log::{Bound, End, Log, LogLine, Nogood, Side};
 pub use section::Section;
+pub use text_laws::texts_are_apart;
 pub use trace::{CutAt, Trace};
 pub use writing::write;

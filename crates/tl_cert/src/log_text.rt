@@ -8,14 +8,12 @@ ghost use Rattle.tl_cert.specs.inner.reading.Lists.{listing};
 
 use crate::areas::Areas;
 use crate::follow::Follow;
-use crate::limits::{
-    MAX_BOUNDS, MAX_CLASS, MAX_FIRES, MAX_LINE, MAX_PAGE_WIDTH, MAX_SPAN, MAX_ZONE,
-};
+use crate::limits::{MAX_BOUNDS, MAX_CLASS, MAX_FIRES, MAX_LINE, MAX_SPAN, MAX_ZONE};
 use crate::log::{Bound, End, Log, LogLine, Nogood, Side};
 use crate::reader::{Fault, Reader};
 use crate::trace::{CutAt, Trace};
 use std::alloc::Global;
-use tl_base::List;
+use tl_base::{List, MAX_PAGE_WIDTH};
 
 impl<'a> Reader<'a> {
     /// How a log line ends, its line feed with it.

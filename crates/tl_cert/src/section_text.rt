@@ -8,13 +8,13 @@ ghost use Rattle.tl_cert.specs.inner.reading.Lists.{listing, comes};
 
 use crate::areas::Areas;
 use crate::follow::Follow;
-use crate::limits::{MAX_BUDGET, MAX_COLUMNS, MAX_HEIGHT, MAX_PAGE_WIDTH, MAX_SECTIONS, MAX_TABLE};
+use crate::limits::{MAX_SECTIONS, MAX_TABLE};
 use crate::log::LogLine;
 use crate::log_text::is_area;
 use crate::reader::{Fault, Reader};
 use crate::section::Section;
 use std::alloc::Global;
-use tl_base::List;
+use tl_base::{List, MAX_BUDGET, MAX_COLUMNS, MAX_HEIGHT, MAX_PAGE_WIDTH};
 
 impl<'a> Reader<'a> {
     /// A width, and whether another follows.

@@ -7,13 +7,12 @@ ghost use Rattle.tl_cert.specs.Text as text;
 ghost use Rattle.tl_cert.specs.inner.Head.{head_text};
 
 use crate::certificate::{Certificate, Claim};
-use crate::limits::MAX_PAGE_WIDTH;
 use crate::log::{Bound, End, LogLine, Nogood, Side};
 use crate::section::Section;
 use crate::section_text::has_area as log_has_area;
 use crate::trace::CutAt;
 use std::alloc::{AllocError, Global};
-use tl_base::{List, Style};
+use tl_base::{List, MAX_PAGE_WIDTH, Style};
 use tl_problem::{Chain, Entry};
 
 /// Appends the canonical decimal of a number, digit by digit.

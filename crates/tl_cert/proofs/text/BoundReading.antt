@@ -11,7 +11,8 @@ use Rattle.tl_cert.specs.declared.log.Bound.{Bound}
 use Rattle.tl_cert.specs.declared.log.End.{End}
 use Rattle.tl_cert.specs.declared.log.End.TheVariants as ends
 use Rattle.tl_cert.specs.declared.areas.Areas.{Areas}
-use Rattle.tl_cert.specs.declared.limits.TheConstants.{MAX_SPAN, MAX_PAGE_WIDTH, MAX_BOUNDS}
+use Rattle.tl_base.specs.declared.limits.TheConstants.{MAX_PAGE_WIDTH}
+use Rattle.tl_cert.specs.declared.limits.TheConstants.{MAX_SPAN, MAX_BOUNDS}
 use Rattle.tl_cert.specs.Pieces.{Piece, character, number, field, word, spell, numeral}
 use Rattle.tl_cert.specs.Text.{space, side_sign, bound_pieces, comes_before, AreInOrder, AreBounds}
 use Rattle.tl_cert.specs.inner.CertReading.{may_follow, may_follow_as, is_sign, side_of, bound_at, bounds_reading, bounds_at, fires_at}

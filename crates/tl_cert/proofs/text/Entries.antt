@@ -6,7 +6,8 @@ use Rattle.std.specs.List.{AllByRecursion}
 use Rattle.std.proofs.lemmas.Bool.{cases_Bool, eqb-true, eqb-false, eq-eqb, or_cases, or_left, or_right, ltb-true, lt-ltb}
 use Rattle.std.proofs.lemmas.List.{append-nil, length-append}
 use Rattle.tl_problem.specs.declared.chain.Entry.{Entry}
-use Rattle.tl_cert.specs.declared.limits.TheConstants.{MAX_CELLS, MAX_TABLE}
+use Rattle.tl_base.specs.declared.limits.TheConstants.{MAX_CELLS}
+use Rattle.tl_cert.specs.declared.limits.TheConstants.{MAX_TABLE}
 use Rattle.tl_cert.specs.Pieces.{Piece, character, number, spell, numeral}
 use Rattle.tl_cert.specs.Text.{space, line_feed, entry_pieces, inner_pieces}
 use Rattle.tl_cert.specs.inner.CertReading.{ends_item, inner_at, entry_at, entries_reading, entries_at, more_turn}

@@ -8,7 +8,8 @@ use Rattle.tl_cert.specs.declared.log.Nogood.TheVariants as nogoods
 use Rattle.tl_cert.specs.declared.log.End.{End}
 use Rattle.tl_cert.specs.declared.log.LogLine.{LogLine}
 use Rattle.tl_cert.specs.declared.areas.Areas.{Areas}
-use Rattle.tl_cert.specs.declared.limits.TheConstants.{MAX_ZONE, MAX_LINE, MAX_SPAN, MAX_PAGE_WIDTH}
+use Rattle.tl_base.specs.declared.limits.TheConstants.{MAX_PAGE_WIDTH}
+use Rattle.tl_cert.specs.declared.limits.TheConstants.{MAX_ZONE, MAX_LINE, MAX_SPAN}
 use Rattle.tl_cert.specs.Pieces.{Piece, character, number, field, word, spell, numeral}
 use Rattle.tl_cert.specs.Text.{space, side_sign, bound_pieces, bounds_pieces, fire_pieces, line_pieces, end_word, is_area, IsLineShaped, IsNogoodShaped, AreBounds}
 use Rattle.tl_cert.specs.inner.Areas.{Suits}

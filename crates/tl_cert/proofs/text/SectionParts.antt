@@ -9,7 +9,8 @@ use Rattle.tl_cert.specs.declared.trace.CutAt.{CutAt}
 use Rattle.tl_cert.specs.declared.log.LogLine.{LogLine}
 use Rattle.tl_cert.specs.declared.areas.Areas.{Areas}
 use Rattle.tl_cert.specs.declared.areas.Areas.TheVariants.{Never, Free, Owed}
-use Rattle.tl_cert.specs.declared.limits.TheConstants.{MAX_PAGE_WIDTH, MAX_COLUMNS, MAX_ZONE, MAX_SPAN, MAX_CLASS}
+use Rattle.tl_base.specs.declared.limits.TheConstants.{MAX_PAGE_WIDTH, MAX_COLUMNS}
+use Rattle.tl_cert.specs.declared.limits.TheConstants.{MAX_ZONE, MAX_SPAN, MAX_CLASS}
 use Rattle.tl_cert.specs.Pieces.{Piece, character, number, field, word, spell, numeral}
 use Rattle.tl_cert.specs.Text.{space, line_feed, spaced, line_pieces, cut_pieces, is_area, log_has_area, IsLineShaped}
 use Rattle.tl_cert.specs.inner.Areas.{Suits, for_part, after}

@@ -10,7 +10,8 @@ use Rattle.tl_cert.specs.declared.log.LogLine.{LogLine}
 use Rattle.tl_cert.specs.declared.section.Section.{Section}
 use Rattle.tl_cert.specs.declared.areas.Areas.{Areas}
 use Rattle.tl_cert.specs.declared.areas.Areas.TheVariants.{Never, Free, Owed}
-use Rattle.tl_cert.specs.declared.limits.TheConstants.{MAX_PAGE_WIDTH, MAX_COLUMNS, MAX_TABLE, MAX_HEIGHT, MAX_BUDGET}
+use Rattle.tl_base.specs.declared.limits.TheConstants.{MAX_PAGE_WIDTH, MAX_COLUMNS, MAX_HEIGHT, MAX_BUDGET}
+use Rattle.tl_cert.specs.declared.limits.TheConstants.{MAX_TABLE}
 use Rattle.tl_cert.specs.Pieces.{Piece, character, number, field, word, spell, numeral}
 use Rattle.tl_cert.specs.Text.{space, line_feed, spaced, line_pieces, cut_pieces, section_pieces, log_has_area, IsLineShaped, IsSectionShaped}
 use Rattle.tl_cert.specs.inner.Areas.{Suits}

@@ -9,7 +9,7 @@ use Rattle.tl_cert.specs.declared.section.Section.{Section}
 use Rattle.tl_cert.specs.declared.certificate.Claim.{Claim}
 use Rattle.tl_cert.specs.declared.certificate.Claim.TheVariants.{Lowest, Bounded, Narrow}
 use Rattle.tl_cert.specs.declared.certificate.Certificate.{Certificate}
-use Rattle.tl_cert.specs.declared.limits.TheConstants.{MAX_PAGE_WIDTH, MAX_BUDGET, MAX_HEIGHT}
+use Rattle.tl_base.specs.declared.limits.TheConstants.{MAX_PAGE_WIDTH, MAX_BUDGET, MAX_HEIGHT}
 use Rattle.tl_cert.specs.Pieces.{Piece, character, number, field, word, spell}
 use Rattle.tl_cert.specs.Text.{space, line_feed, version_word, style_word, claim_pieces, chain_pieces, section_pieces, cert_pieces, has_area, HasChains, HasSections, HasProof, IsShaped}
 use Rattle.tl_cert.specs.inner.Areas.{Suits}

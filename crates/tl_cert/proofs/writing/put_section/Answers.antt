@@ -3,7 +3,7 @@ use Rattle.std.specs.Prelude.{codes}
 use Rattle.std.specs.List.{flat_map}
 use Rattle.tl_cert.specs.declared.trace.CutAt.{CutAt}
 use Rattle.tl_cert.specs.declared.log.LogLine.{LogLine}
-use Rattle.tl_cert.specs.declared.limits.TheConstants.{MAX_PAGE_WIDTH}
+use Rattle.tl_base.specs.declared.limits.TheConstants.{MAX_PAGE_WIDTH}
 use Rattle.tl_cert.specs.Pieces.{spell}
 use Rattle.tl_cert.specs.Text.{spaced, cut_pieces, line_pieces, section_head}
 use Rattle.tl_cert.proofs.Appending.{twice, section_spelled}

@@ -1,7 +1,7 @@
 use Rattle.std.proofs.Common.{◌≡◌, ℕ, suc, ◌+◌, ◌-◌, ◌≤◌, ◌<◌, true, false, nat_lt, List, [], length, refl, sym, ap, ◌∙◌, arith}
 use Rattle.std.proofs.lemmas.Result.{err_from_is_err_and}
 use Rattle.std.proofs.lemmas.List.{length_push}
-use Rattle.tl_cert.specs.declared.limits.TheConstants.{MAX_COLUMNS}
+use Rattle.tl_base.specs.declared.limits.TheConstants.{MAX_COLUMNS}
 use Rattle.tl_cert.specs.inner.CertReading.{widths_reading, some_widths_at, width_at, more_turn}
 use Rattle.tl_cert.specs.inner.reading.Readings.{give}
 use Rattle.tl_cert.specs.inner.reading.Lists.{comes}
