@@ -11,3 +11,11 @@ pub mod ZoneLaws
 pub mod OneClass
 pub mod Rectangles
 pub mod AreaLaws
+pub mod AxisLemmas
+pub mod SpanningLemmas
+pub mod DemandLemmas
+pub mod WorkLemmas
+pub mod NeedLemmas
+pub mod ConstraintLemmas
+pub mod AreaSteps
+pub mod AreaFound

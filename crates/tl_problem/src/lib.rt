@@ -3,11 +3,19 @@
 //! contract: a zone's bound is the least total height by which no layout in the zone is lower.
 #![tactic(auto)]
 
+mod area;
+mod axis;
+mod bound;
 mod cell;
 mod chain;
+mod constraints;
+mod demands;
 mod laws;
 mod placed;
+mod placing;
 mod problem;
+mod spans;
+mod work;
 mod zone;
 
 pub use cell::{Cell, Span};
@@ -18,4 +26,5 @@ pub use laws::{
 };
 pub use placed::Placed;
 pub use problem::Problem;
+pub use work::Work;
 pub use zone::{Range, Zone};
