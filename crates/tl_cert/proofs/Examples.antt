@@ -35,7 +35,7 @@ use Rattle.tl_cert.specs.declared.log.LogLine.{LogLine}
 use Rattle.tl_cert.specs.declared.log.Nogood.TheVariants.{Zone, Bounds}
 use Rattle.tl_cert.specs.declared.trace.CutAt.{CutAt}
 use Rattle.tl_cert.specs.Traces.{IsCut, IsTraceOf}
-use Rattle.tl_cert.specs.Nogoods.{Meets, Breaks, zone_bounds, NamesAreThere}
+use Rattle.tl_cert.specs.Nogoods.{Meets, Breaks, at_most, at_least, zone_bounds, NamesAreThere}
 use Rattle.tl_cert.specs.Implied.{IsLeft, Implied, OneLeft}
 use Rattle.tl_cert.specs.Lines.{nogood_at, IsGoodLine, IsGoodLog}
 use Rattle.tl_cert.specs.Worked.{IsWorked}
@@ -78,10 +78,10 @@ is_trace (suc (suc (suc i))) d within = absurd (omega arith)
 -- ---- the widths that are left
 
 abbrev third_at_most_8 : Bound
-third_at_most_8 = record { span = 2; side = Most; width = 8 }
+third_at_most_8 = at_most 2 8
 
 abbrev third_at_least_9 : Bound
-third_at_least_9 = record { span = 2; side = Least; width = 9 }
+third_at_least_9 = at_least 2 9
 
 fits : (a b c d : ℕ) → 1 ≤ a → 1 ≤ b → 4 ≤ c → 4 ≤ d → a + b + c + d ≤ 19 → WithinPage problem (a ∷ b ∷ c ∷ d ∷ [])
 fits a b c d first second third fourth page = record {

@@ -5,23 +5,15 @@ use Rattle.tl_problem.specs.declared.zone.Range.{Range}
 use Rattle.tl_problem.specs.Problem.{ProblemModel}
 use Rattle.tl_problem.specs.Sound.{IsSound}
 use Rattle.tl_problem.specs.Spans.{count_of}
-use Rattle.tl_problem.specs.Zones.{range_at, IsZone, whole_zone, InZone, LowIsHigh, DifferIn}
-use Rattle.tl_problem.specs.Bounds.{IsBound}
+use Rattle.tl_problem.specs.Zones.{range_at, IsZone, whole_zone, InZone}
+use Rattle.tl_problem.specs.Agreement.{LowIsHigh, DifferIn}
+use Rattle.tl_problem.proofs.BoundLaws.{bound-unique}
 use Rattle.tl_problem.proofs.SpanLaws.{class-in_page}
 use Rattle.tl_cert.specs.declared.trace.CutAt.{CutAt}
 use Rattle.tl_cert.specs.Traces.{zone_at}
 use Rattle.tl_cert.specs.Worked.{IsWorked}
 use Rattle.tl_cert.proofs.TraceLaws.{zones-are}
 use Rattle.tl_cert.proofs.CountLaws.{parts-vectors}
-
--- a set has no two bounds
-pub bound-unique : (problem : ProblemModel) (Among : List ℕ → Type 0) (a b : ℕ) → IsBound problem Among a → IsBound problem Among b → a ≡ b
-bound-unique problem Among a b first second =
-    let one = first.least.attained in
-    let other = second.least.attained in
-    let below = first.least.never_less other.0 other.1 in
-    let above = second.least.never_less one.0 one.1 in
-    omega (arith, below, above, one.2, other.2)
 
 -- where `low` is `high` at all widths of the page, no zone has a cell for which they differ
 pub agree-everywhere : (problem : ProblemModel) → IsSound problem → (zone : List Range) → IsZone problem zone → LowIsHigh problem → DifferIn problem zone → ⊥
@@ -41,15 +33,16 @@ worked-lower problem sound trace height lower budget same enough small worked =
             | inl all ↦ absurd (omega (arith, fewer, all, enough))
             | inr closed ↦
                 let z = open_work.enough.0 in
-                let stands = open_work.enough.1 in
-                let bounded = open_work.enough.2 in
+                let bound = open_work.enough.1 in
+                let stands = open_work.enough.2 in
+                let is_bound = open_work.enough.3 in
                 let zone = zone_at (whole_zone problem) trace z in
                 let is = zones-are problem sound trace worked.trace_of z stands.there in
                 elim (closed z stands) [
-                  | inl none ↦ absurd (none bounded.1.some.0 bounded.1.some.1)
+                  | inl none ↦ absurd (none is_bound.some.0 is_bound.some.1)
                   | inr (inl high) ↦
-                      let one = bound-unique problem (InZone problem zone) high.0 bounded.0 high.1 bounded.1 in
-                      absurd (omega (arith, one, high.2, bounded.2, below))
+                      let one = bound-unique problem (InZone problem zone) high.0 bound high.1 is_bound in
+                      absurd (omega (arith, one, high.2, open_work.enough.4, below))
                   | inr (inr single) ↦ absurd (agree-everywhere problem sound zone is same single.1)
                 ]
           ]

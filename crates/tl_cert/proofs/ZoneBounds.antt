@@ -18,7 +18,7 @@ use Rattle.tl_problem.proofs.ZoneLaws.{span-within}
 use Rattle.tl_cert.specs.declared.log.Bound.{Bound}
 use Rattle.tl_cert.specs.declared.log.Side.{Side}
 use Rattle.tl_cert.specs.declared.log.Side.TheVariants.{Most, Least}
-use Rattle.tl_cert.specs.Nogoods.{Meets, range_bounds, zone_bounds}
+use Rattle.tl_cert.specs.Nogoods.{Meets, at_most, at_least, range_bounds, zone_bounds}
 
 lt_test : (a b : ℕ) → a < b → nat_lt a b ≡ true
 lt_test a b less = grind (arith, nat_tests)
@@ -34,12 +34,6 @@ given-Contains false x is = cc
 Contains-given : {X : Type 0} (b : Bool) (x y : X) → Contains (if b then x ∷ [] else []) y → x ≡ y
 Contains-given true x y has = elim (Contains-cases x [] y has) [ | inl here ↦ here | inr later ↦ absurd (Contains-none y later) ]
 Contains-given false x y has = absurd (Contains-none y has)
-
-abbrev at_most : ℕ → ℕ → Bound
-at_most s w = record { span = s; side = Most; width = w }
-
-abbrev at_least : ℕ → ℕ → Bound
-at_least s w = record { span = s; side = Least; width = w }
 
 module _ (problem : ProblemModel) (sound : IsSound problem) (zone : List Range) (is : IsZone problem zone) (widths : List ℕ) where
   -- a bound of a zone is one of a span's range

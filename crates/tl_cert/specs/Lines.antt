@@ -24,23 +24,28 @@ abbrev pub Fires : ProblemModel → List Bound → List Bound → List (List Bou
 Fires problem given joined [] last = last ≡ joined
 Fires problem given joined (nogood ∷ nogoods) last =
     (All (Implied problem (IsLeft problem given joined)) nogood × Fires problem given joined nogoods last)
-    ⊎ ((bound : Bound) × OneLeft problem (IsLeft problem given joined) nogood bound × Fires problem given (joined ++ bound ∷ []) nogoods last)
+    ⊎ ((bound : Bound) × OneLeft problem (IsLeft problem given joined) nogood bound
+        × Fires problem given (joined ++ bound ∷ []) nogoods last)
 
 -- the end of a line: no widths are left; their bound, or their area bound, is at least `lower`; or all bounds of the
 -- nogood that was fired last are implied
 abbrev pub EndsBy : ProblemModel → (List ℕ → Type 0) → List (List Bound) → ℕ → End → Type 0
-EndsBy problem Among fired lower Cycle = HasNoWidths Among
-EndsBy problem Among fired lower Chain = (bound : ℕ) × IsBound problem Among bound × (lower ≤ bound)
-EndsBy problem Among fired lower Area = (bound : ℕ) × IsAreaBound problem Among bound × (lower ≤ bound)
-EndsBy problem Among fired lower Fired = IsSomeAnd (last_or None fired) (All (Implied problem Among))
+EndsBy problem Among nogoods lower Cycle = HasNoWidths Among
+EndsBy problem Among nogoods lower Chain = (bound : ℕ) × IsBound problem Among bound × (lower ≤ bound)
+EndsBy problem Among nogoods lower Area = (bound : ℕ) × IsAreaBound problem Among bound × (lower ≤ bound)
+EndsBy problem Among nogoods lower Fired = IsSomeAnd (last_or None nogoods) (All (Implied problem Among))
+
+-- the bounds of the nogoods that a line fires
+abbrev pub fired : ProblemModel → List CutAt → List LogLine → LogLine → List (List Bound)
+fired problem trace log line = map (λ f. nogood_bounds problem trace (nogood_at log f)) line.fires
 
 -- line `k`, which is `line`, is good for `lower`
 pub record IsGoodLine (problem : ProblemModel) (trace : List CutAt) (log : List LogLine) (lower k : ℕ) (line : LogLine) : Type 0 where
   pub names : NamesAreThere problem trace line.nogood
   pub earlier : All (λ f. (f < k) × NamesAreThere problem trace (nogood_at log f)) line.fires
   pub joined : List Bound
-  pub fires : Fires problem (nogood_bounds problem trace line.nogood) [] (map (λ f. nogood_bounds problem trace (nogood_at log f)) line.fires) joined
-  pub ends : EndsBy problem (IsLeft problem (nogood_bounds problem trace line.nogood) joined) (map (λ f. nogood_bounds problem trace (nogood_at log f)) line.fires) lower line.end
+  pub fires : Fires problem (nogood_bounds problem trace line.nogood) [] (fired problem trace log line) joined
+  pub ends : EndsBy problem (IsLeft problem (nogood_bounds problem trace line.nogood) joined) (fired problem trace log line) lower line.end
 
 -- a good log: it has a line, each line is good, and the nogood of the last has no bounds
 pub record IsGoodLog (problem : ProblemModel) (trace : List CutAt) (log : List LogLine) (lower : ℕ) : Type 0 where

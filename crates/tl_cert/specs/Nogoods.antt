@@ -5,14 +5,14 @@ use Rattle.tl_problem.specs.declared.zone.Range.{Range}
 use Rattle.tl_problem.specs.Problem.{ProblemModel, total_height}
 use Rattle.tl_problem.specs.Layouts.{IsLayoutByLow}
 use Rattle.tl_problem.specs.Spans.{spans_of}
-use Rattle.tl_problem.specs.Zones.{classes_at, first_in_class, last_in_class, range_at, whole_zone, span_width}
+use Rattle.tl_problem.specs.Zones.{classes_at, first_in_class, last_in_class, range_at, span_width}
 use Rattle.tl_cert.specs.declared.log.Bound.{Bound}
 use Rattle.tl_cert.specs.declared.log.Side.{Side}
 use Rattle.tl_cert.specs.declared.log.Side.TheVariants.{Most, Least}
 use Rattle.tl_cert.specs.declared.log.Nogood.{Nogood}
 use Rattle.tl_cert.specs.declared.log.Nogood.TheVariants.{Zone, Bounds}
 use Rattle.tl_cert.specs.declared.trace.CutAt.{CutAt}
-use Rattle.tl_cert.specs.Traces.{zone_at, IsZoneOf}
+use Rattle.tl_cert.specs.Traces.{IsZoneOf, zone_of}
 
 -- the room is on this side of the width
 abbrev pub IsOnSide : Side → ℕ → ℕ → Type 0
@@ -31,12 +31,19 @@ Meets problem widths bound = IsOnSide bound.side bound.width (span_width problem
 abbrev pub Breaks : ProblemModel → List ℕ → Bound → Type 0
 Breaks problem widths bound = IsPast bound.side bound.width (span_width problem widths bound.span)
 
+-- the bounds that a span has at most, and at least, so many columns
+abbrev pub at_most : ℕ → ℕ → Bound
+at_most s w = record { span = s; side = Most; width = w }
+
+abbrev pub at_least : ℕ → ℕ → Bound
+at_least s w = record { span = s; side = Least; width = w }
+
 -- the bounds that cuts made of a span's range: at most its last width where further classes follow, at least its first
 -- width where classes are before it
 abbrev pub range_bounds : ProblemModel → ℕ → Range → List Bound
 range_bounds problem s r =
-    (if nat_lt (r.last + 1) (length (classes_at problem s)) then record { span = s; side = Most; width = last_in_class problem s r.last } ∷ [] else [])
-    ++ (if nat_lt 0 r.first then record { span = s; side = Least; width = first_in_class problem s r.first } ∷ [] else [])
+    (if nat_lt (r.last + 1) (length (classes_at problem s)) then at_most s (last_in_class problem s r.last) ∷ [] else [])
+    ++ (if nat_lt 0 r.first then at_least s (first_in_class problem s r.first) ∷ [] else [])
 
 -- the bounds of a zone, span by span
 abbrev pub zone_bounds : ProblemModel → List Range → List Bound
@@ -44,7 +51,7 @@ zone_bounds problem zone = flat_map (λ s. range_bounds problem s (range_at zone
 
 -- the bounds of a nogood: those of a zone of the trace, or those written out
 abbrev pub nogood_bounds : ProblemModel → List CutAt → Nogood → List Bound
-nogood_bounds problem trace (Zone z) = zone_bounds problem (zone_at (whole_zone problem) trace z)
+nogood_bounds problem trace (Zone z) = zone_bounds problem (zone_of problem trace z)
 nogood_bounds problem trace (Bounds bounds) = bounds
 
 -- the zone, or each span, that the nogood names is there
@@ -54,4 +61,5 @@ NamesAreThere problem trace (Bounds bounds) = All (λ bound. bound.span < length
 
 -- the nogood with these bounds is true for `lower`: no layout by `low` that is lower meets them all
 abbrev pub IsTrueFor : ProblemModel → ℕ → List Bound → Type 0
-IsTrueFor problem lower bounds = (widths heights : List ℕ) → IsLayoutByLow problem widths heights → total_height problem heights < lower → All (Meets problem widths) bounds → ⊥
+IsTrueFor problem lower bounds = (widths heights : List ℕ) → IsLayoutByLow problem widths heights →
+    total_height problem heights < lower → All (Meets problem widths) bounds → ⊥

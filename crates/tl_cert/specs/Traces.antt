@@ -11,7 +11,9 @@ use Rattle.tl_cert.specs.declared.trace.CutAt.{CutAt}
 
 -- the zones with the two parts of a cut one after them
 abbrev pub with_parts : List (List Range) → CutAt → List (List Range)
-with_parts zones cut = zones ++ lower_part (get_or zones cut.zone []) cut.span cut.class ∷ upper_part (get_or zones cut.zone []) cut.span cut.class ∷ []
+with_parts zones cut =
+    let zone = get_or zones cut.zone [] in
+    zones ++ lower_part zone cut.span cut.class ∷ upper_part zone cut.span cut.class ∷ []
 
 -- the zones once these cuts are made
 abbrev pub zones_after : List (List Range) → List CutAt → List (List Range)
@@ -45,10 +47,14 @@ pub record IsCut (whole : List Range) (cuts : List CutAt) (cut : CutAt) : Type 0
 abbrev pub IsTrace : List Range → List CutAt → Type 0
 IsTrace whole trace = (i : ℕ) (d : CutAt) → i < length trace → IsCut whole (take i trace) (get_or trace i d)
 
--- a trace of the problem, from the whole of it
+-- a trace of the problem, from the whole of it, and its zone with a number
 abbrev pub IsTraceOf : ProblemModel → List CutAt → Type 0
 IsTraceOf problem trace = IsTrace (whole_zone problem) trace
 
+abbrev pub zone_of : ProblemModel → List CutAt → ℕ → List Range
+zone_of problem trace z = zone_at (whole_zone problem) trace z
+
 -- the height is at most that of the placement in each zone of the trace, cut or not, that has one
 abbrev pub IsKeen : ProblemModel → List Range → List CutAt → ℕ → Type 0
-IsKeen problem whole trace height = (z : ℕ) (placed : Placed) → IsZoneOf trace z → IsPlacementIn problem (InZone problem (zone_at whole trace z)) placed → height ≤ placed.height
+IsKeen problem whole trace height = (z : ℕ) (placed : Placed) → IsZoneOf trace z →
+    IsPlacementIn problem (InZone problem (zone_at whole trace z)) placed → height ≤ placed.height

@@ -1,5 +1,6 @@
 //! Laws of the definitions in this crate's specs. Each is the contract of a function that does nothing.
-ghost use Rattle.tl_cert.specs.Laws.{EnoughBudgetCloses, GoodLogsAreSound, NogoodsAreTrue, TracesPartVectors, ZonesMeetTheirBounds};
+ghost use Rattle.tl_cert.specs.Laws.{EnoughBudgetCloses, GoodLogsAreSound, NogoodsAreTrue};
+ghost use Rattle.tl_cert.specs.Laws.{TracesPartVectors, ZonesMeetTheirBounds};
 
 /// No layout by `low` is lower than what a log is good for.
 pub fn good_logs_are_sound()

@@ -1,5 +1,5 @@
 -- No layout by `low` is lower than the area bound of a set that has its widths.
-use Rattle.std.proofs.Common.{◌≡◌, ℕ, ◌+◌, ◌*◌, ◌<◌, ◌≤◌, suc, List, [], ◌∷◌, inl, inr, length, get_or, sum, ap, arith}
+use Rattle.std.proofs.Common.{◌≡◌, refl, ℕ, ◌+◌, ◌*◌, ◌<◌, ◌≤◌, suc, List, [], ◌∷◌, inl, inr, length, get_or, sum, ap, arith}
 use Rattle.std.specs.List.{All, AllZip, sum_by}
 use Rattle.std.proofs.lemmas.Bool.{cases_lt}
 use Rattle.std.proofs.lemmas.List.Sums.{sum_by-cons}
@@ -9,7 +9,7 @@ use Rattle.tl_problem.specs.Sizes.{position}
 use Rattle.tl_problem.specs.Problem.{ProblemModel, total_height, cell_width, cell_height}
 use Rattle.tl_problem.specs.Layouts.{IsLayoutByLow}
 use Rattle.tl_problem.specs.Sound.{IsSound}
-use Rattle.tl_problem.specs.Areas.{IsBetweenRooms, IsLeastArea, IsAreaBound}
+use Rattle.tl_problem.specs.Areas.{IsBetweenRooms, IsLeastArea, HoldAreas, IsAreaBound}
 use Rattle.tl_problem.proofs.Heights.{height-from_low}
 use Rattle.tl_problem.proofs.SizeLaws.{total-position, room-position, position-mono}
 use Rattle.tl_problem.proofs.Rectangles.{amount, late, areas-within}
@@ -95,3 +95,42 @@ module _ (problem : ProblemModel) (sound : IsSound problem) (Among : List ℕ �
             let all = ap (position (row_gap_of problem.style) heights) layout.enough.rows in
             omega (arith, held.2, lines, whole, all)
       ]
+
+-- ---- a set of widths has no two area bounds
+
+least_area-unique : (problem : ProblemModel) (Among : List ℕ → Type 0) (cell : Cell) (a b : ℕ) → IsLeastArea problem Among cell a → IsLeastArea problem Among cell b → a ≡ b
+least_area-unique problem Among cell a b first second =
+    let one = first.attained in
+    let other = second.attained in
+    omega (arith, first.never_less other.0 other.1 other.2 other.3, second.never_less one.0 one.1 one.2 one.3, one.4, other.4)
+
+areas-unique : (problem : ProblemModel) (Among : List ℕ → Type 0) (cells : List Cell) (ms ns : List ℕ) → AllZip (IsLeastArea problem Among) cells ms → AllZip (IsLeastArea problem Among) cells ns → ms ≡ ns
+areas-unique problem Among [] [] [] first second = refl
+areas-unique problem Among [] [] (n ∷ ns) first second = absurd second
+areas-unique problem Among [] (m ∷ ms) ns first second = absurd first
+areas-unique problem Among (cell ∷ cells) [] ns first second = absurd first
+areas-unique problem Among (cell ∷ cells) (m ∷ ms) [] first second = absurd second
+areas-unique problem Among (cell ∷ cells) (m ∷ ms) (n ∷ ns) first second =
+    let here = least_area-unique problem Among cell m n first.0 second.0 in
+    let rest = areas-unique problem Among cells ms ns first.1 second.1 in
+    cc
+
+lines-unique : (problem : ProblemModel) (Among : List ℕ → Type 0) (a b : ℕ) → HoldAreas problem Among a → HoldAreas problem Among b → a ≡ b
+lines-unique problem Among a b first second =
+    let areas = ap sum (areas-unique problem Among problem.cells first.areas second.areas first.least second.least) in
+    let one = first.greatest.attained in
+    let other = second.greatest.attained in
+    let ends : first.end ≡ second.end = omega (arith, first.greatest.never_more other.0 other.1, second.greatest.never_more one.0 one.1, one.2, other.2) in
+    let below = first.rounded.least b (omega (arith, second.rounded.enough, areas, ap (λ e. b * e) ends)) in
+    let above = second.rounded.least a (omega (arith, first.rounded.enough, areas, ap (λ e. a * e) ends)) in
+    omega (arith, below, above)
+
+pub area-unique : (problem : ProblemModel) (Among : List ℕ → Type 0) (a b : ℕ) → IsAreaBound problem Among a → IsAreaBound problem Among b → a ≡ b
+area-unique problem Among a b first second =
+    elim (cases_lt 0 problem.cols) [
+      | inr none ↦ omega (arith, first.no_column (omega arith), second.no_column (omega arith))
+      | inl some ↦
+          let one = first.columns some in
+          let other = second.columns some in
+          omega (arith, lines-unique problem Among one.0 other.0 one.1 other.1, one.2, other.2)
+    ]

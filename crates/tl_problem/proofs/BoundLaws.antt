@@ -1,5 +1,5 @@
 -- No layout by `low` is lower than the bound of a set of widths that has its own, and no placement is.
-use Rattle.std.proofs.Common.{ℕ, ◌<◌, ◌≤◌, List, length, get_or, arith}
+use Rattle.std.proofs.Common.{◌≡◌, ℕ, ◌<◌, ◌≤◌, List, length, get_or, arith}
 use Rattle.tl_problem.specs.declared.cell.Cell.{Cell}
 use Rattle.tl_problem.specs.declared.placed.Placed.{Placed}
 use Rattle.tl_problem.specs.Problem.{ProblemModel, total_height, cell_width, cell_height}
@@ -12,6 +12,15 @@ use Rattle.tl_problem.proofs.Heights.{IsLowAt-wider}
 -- the cell with a number is sound
 pub sound-cell : (problem : ProblemModel) → IsSound problem → (k : ℕ) (d : Cell) → k < length problem.cells → IsSoundCell problem (get_or problem.cells k d)
 sound-cell problem sound k d within = sound.cells k d within
+
+-- a set of widths has no two bounds
+pub bound-unique : (problem : ProblemModel) (Among : List ℕ → Type 0) (a b : ℕ) → IsBound problem Among a → IsBound problem Among b → a ≡ b
+bound-unique problem Among a b first second =
+    let one = first.least.attained in
+    let other = second.least.attained in
+    let below = first.least.never_less other.0 other.1 in
+    let above = second.least.never_less one.0 one.1 in
+    omega (arith, below, above, one.2, other.2)
 
 module _ (problem : ProblemModel) (sound : IsSound problem) where
   -- heights that are enough at some widths are enough at the greatest room of a set that has them

@@ -19,3 +19,4 @@ pub mod NeedLemmas
 pub mod ConstraintLemmas
 pub mod AreaSteps
 pub mod AreaFound
+pub mod SetLaws

@@ -15,7 +15,8 @@ use Rattle.tl_problem.specs.Problem.{ProblemModel, total_height, cell_width, cel
 use Rattle.tl_problem.specs.Layouts.{GiveHigh}
 use Rattle.tl_problem.specs.Sound.{IsSound}
 use Rattle.tl_problem.specs.Spans.{span, has_span, spans_of, page_room}
-use Rattle.tl_problem.specs.Zones.{span_at, range, range_at, first_in_class, IsZone, InZone, HasOneClass, AgreeIn}
+use Rattle.tl_problem.specs.Zones.{span_at, range, range_at, first_in_class, IsZone, InZone}
+use Rattle.tl_problem.specs.Agreement.{HasOneClass, AgreeIn}
 use Rattle.tl_problem.specs.Bounds.{IsGreatestRoom, GiveLow, IsBound}
 use Rattle.tl_problem.specs.Placements.{AreLeast}
 use Rattle.tl_problem.proofs.Heights.{IsLowAt-same}
