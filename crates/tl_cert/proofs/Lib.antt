@@ -1,8 +1,10 @@
+mod Examples
 pub mod CountLaws
 pub mod LogLaws
+pub mod Loops
 pub mod TextExamples
 pub mod TraceLaws
 pub mod WorkedLaws
-pub mod reading
 pub mod ZoneBounds
-mod Examples
+pub mod reading
+pub mod text

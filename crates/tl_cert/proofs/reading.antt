@@ -11,4 +11,3 @@ pub mod Same
 pub mod ListExact
 pub mod Unlimited
 pub mod Parts
-pub mod Loops

@@ -1,7 +1,7 @@
 use Rattle.std.proofs.Common.{◌≡◌, ◌≤◌, ◌-◌, length}
 use Rattle.tl_cert.specs.declared.limits.TheConstants.{MAX_FIRES}
 use Rattle.tl_cert.specs.inner.CertReading.{fires_reading, fires_at}
-use Rattle.tl_cert.proofs.reading.Loops.{Whole}
+use Rattle.tl_cert.proofs.Loops.{Whole}
 use Rattle.tl_cert.proofs.reader.Reader.fires.Given as goal
 
 -- the lines so far and those that are left to read are all, and there is room for the latter

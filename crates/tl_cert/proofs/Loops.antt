@@ -65,6 +65,17 @@ module _ {S A V E : Type 0} (list : ListReading S A V E) where
       let whole : Whole front (suc k) s text total = let P : ℕ → Type 0 = λ j. Whole front j s text total in subst P room-is all in
       sym (pushed front (list.view a) (list_at list k (list.next s a) rest)) ∙ ap (prepend front) (sym (item_so k s text come ∙ ap (items k s) is)) ∙ whole
 
+  -- the same, in the words of a loop: the list with the item, and the next state
+  pub pushed_on : (front new : List V) (room k : ℕ) (s t : S) (text : List ℕ) (a : A) (v : V) (rest : List ℕ) (total : Answer (Listing V E)) → new ≡ front ++ v ∷ [] → list.view a ≡ v
+      → list.next s a ≡ t → room ≡ suc k → comes (list.turn k s) text ≡ true → list.item k s text ≡ got a rest → Whole front room s text total → Whole new k t rest total
+  pushed_on front new room k s t text a v rest total new-is view-is next-is room-is come is whole =
+      let one : Whole (front ++ list.view a ∷ []) k (list.next s a) rest total = goes_on front room k s text a rest total room-is come is whole in
+      let P : S → Type 0 = λ u. Whole (front ++ list.view a ∷ []) k u rest total in
+      let two : Whole (front ++ list.view a ∷ []) k t rest total = subst P next-is one in
+      let Q : V → Type 0 = λ w. Whole (front ++ w ∷ []) k t rest total in
+      let R : List V → Type 0 = λ l. Whole l k t rest total in
+      subst R (sym new-is) (subst Q view-is two)
+
   failed : (f : Fault) (front : List V) (k : ℕ) (s : S) (x : Answer A) → Fails f x → Fails f (prepend front (items k s x))
   failed Memory front k s x is = tt
   failed (Wrong left) front k s x is = ap (λ (y : Answer A). prepend front (items k s y)) is
