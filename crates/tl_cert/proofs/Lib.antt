@@ -2,6 +2,7 @@ mod Examples
 pub mod CountLaws
 pub mod LogLaws
 pub mod Loops
+pub mod ReadAnswers
 pub mod TextExamples
 pub mod TraceLaws
 pub mod WorkedLaws

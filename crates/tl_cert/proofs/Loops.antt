@@ -5,6 +5,8 @@ use Rattle.tl_cert.specs.declared.reader.Fault.{Fault}
 use Rattle.tl_cert.specs.declared.reader.Fault.TheVariants.{Memory, Wrong, Outside}
 use Rattle.tl_cert.specs.inner.Gives.{Fails}
 use Rattle.tl_cert.specs.inner.reading.Readings.{Answer, got, wrong, outside, Reading, then_read, followed, ◌>>=◌, give, begins, either}
+use Rattle.tl_cert.proofs.reading.ListExact.{ListForm}
+use Rattle.tl_cert.proofs.reading.Unlimited.{IsUnlimited, fuel_same}
 use Rattle.tl_cert.specs.inner.reading.Lists.{Turn, halt, go, look, by_turn, comes, ListReading, Listing, listing, stopping, list_at}
 
 -- items that were read before the others
@@ -23,7 +25,6 @@ stops_by list zero s text none = tt
 stops_by list (suc k) s text none = none k refl
 
 module _ {S A V E : Type 0} (list : ListReading S A V E) where
-
   abbrev pub Whole : List V → ℕ → S → List ℕ → Answer (Listing V E) → Type 0
   Whole front k s text total = prepend front (list_at list k s text) ≡ total
 
@@ -116,3 +117,10 @@ module _ {S A V E : Type 0} (list : ListReading S A V E) where
       unchanged (got x rest) = refl
       unchanged (wrong left) = refl
       unchanged (outside left) = refl
+
+-- room for as many items as there are characters is enough
+pub refuel : {S A V E : Type 0} (list : ListReading S A V E) (form : ListForm S A V E) (unlimited : IsUnlimited list form) (front : List V) (room : ℕ) (s : S) (rest : List ℕ)
+    (total : Answer (Listing V E)) → length rest < room → Whole list front room s rest total → Whole list front (suc (length rest)) s rest total
+refuel list form unlimited front zero s rest total enough whole = absurd (omega arith)
+refuel list form unlimited front (suc k) s rest total enough whole =
+    ap (prepend front) (fuel_same list form unlimited (length rest) k s rest (omega arith) (omega arith)) ∙ whole

@@ -9,3 +9,4 @@ pub mod Sections
 pub mod Entries
 pub mod Chains
 pub mod Whole
+pub mod Laws

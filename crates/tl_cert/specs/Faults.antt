@@ -1,8 +1,11 @@
 -- Where bytes that are no certificate go wrong. Places count bytes from 0.
 use Rattle.std.specs.Prelude.{◌≡◌, ◌≢◌, ℕ, ◌+◌, ◌<◌, ◌≤◌, List, ◌∷◌, ◌++◌, length, take}
 use Rattle.tl_cert.specs.declared.certificate.Certificate.{Certificate}
+use Rattle.tl_cert.specs.declared.error.CertError.{CertError}
+use Rattle.tl_cert.specs.declared.error.CertError.TheVariants.{Memory, Syntax, Range, TooLong}
+use Rattle.tl_cert.specs.declared.limits.TheConstants.{MAX_CERTIFICATE_BYTES}
 use Rattle.tl_cert.specs.Pieces.{Piece, number, spell, numeral, IsWithin, AllWithin, IsPastDigits}
-use Rattle.tl_cert.specs.Text.{cert_pieces, cert_text, IsShaped}
+use Rattle.tl_cert.specs.Text.{cert_pieces, cert_text, IsShaped, IsWritable}
 
 -- the text of a certificate begins so, the ranges of its numbers left aside
 pub record BeginsText (bytes : List ℕ) : Type 0 where
@@ -37,3 +40,16 @@ pub record IsSyntaxFault (bytes : List ℕ) (place : ℕ) : Type 0 where
   pub ends : place < length bytes → ¬ BeginsText (take (place + 1) bytes)
   pub no_text : (c : Certificate) → IsShaped c → cert_text c ≢ bytes
   pub no_range : (other : ℕ) → ¬ IsRangeFault bytes other
+
+-- Why the bytes are no certificate: there are too many, or of the other two faults this is the first by place.
+abbrev pub Refused : List ℕ → CertError → Type 0
+Refused bytes (Memory error) = ⊥
+Refused bytes (Syntax place) = (length bytes ≤ MAX_CERTIFICATE_BYTES) × IsSyntaxFault bytes place
+Refused bytes (Range place) = (length bytes ≤ MAX_CERTIFICATE_BYTES) × IsRangeFault bytes place
+Refused bytes TooLong = MAX_CERTIFICATE_BYTES < length bytes
+
+-- the bytes are the text of this certificate
+pub record IsTextOf (bytes : List ℕ) (c : Certificate) : Type 0 where
+  pub short : length bytes ≤ MAX_CERTIFICATE_BYTES
+  pub writable : IsWritable c
+  pub text : bytes ≡ cert_text c

@@ -88,9 +88,9 @@ end_word ends.Area = codes "area\n"
 abbrev pub line_pieces : LogLine → List Piece
 line_pieces line = nogood_pieces line.nogood ++ (flat_map fire_pieces line.fires ++ (character space ∷ word (end_word line.end)))
 
--- `section T W H L C N`, the widths, and then so many cuts and log lines as C and N say
-abbrev pub section_pieces : Section → List Piece
-section_pieces section =
+-- `section T W H L C N`: the table, the width, the height, the lower bound, and how many cuts and log lines follow
+abbrev pub section_head : Section → List Piece
+section_head section =
     let cuts = length section.trace in
     word (codes "section ")
     ++ (field 0 MAX_TABLE section.table space
@@ -98,12 +98,17 @@ section_pieces section =
     ++ (field 0 MAX_HEIGHT section.height space
     ++ (field 0 MAX_HEIGHT section.lower space
     ++ (field 0 MAX_BUDGET cuts space
-    ++ (field 1 (2 * cuts + 1) (length section.log) line_feed
+    ++ field 1 (2 * cuts + 1) (length section.log) line_feed)))))
+
+-- that line, the line of the widths, the cuts and the log lines
+abbrev pub section_pieces : Section → List Piece
+section_pieces section =
+    section_head section
     ++ (word (codes "widths")
     ++ (flat_map (spaced MAX_PAGE_WIDTH) section.widths
     ++ (word (codes "\n")
     ++ (flat_map cut_pieces section.trace
-    ++ flat_map line_pieces section.log))))))))))
+    ++ flat_map line_pieces section.log))))
 
 -- ---- the whole
 

@@ -1,14 +1,20 @@
 //! Reads a whole certificate.
 
-ghost use Rattle.std.specs.Prelude.{◌≡◌, ℕ};
-ghost use Rattle.tl_cert.specs.inner.Gives.{Gives};
+ghost use Rattle.std.specs.Prelude.{◌≡◌, ◌≤◌, ℕ, [], length, IfOk, IfErr, alloc_error};
+ghost use Rattle.tl_base.specs.Returned.{ReturnsOk, ReturnsError, IsMemoryOr};
+ghost use Rattle.tl_cert.specs.declared.certificate.Certificate.{Certificate};
+ghost use Rattle.tl_cert.specs.declared.error.CertError.{CertError};
+ghost use Rattle.tl_cert.specs.declared.error.CertError.TheVariants.{Memory};
+ghost use Rattle.tl_cert.specs.Faults.{IsTextOf, Refused};
+ghost use Rattle.tl_cert.specs.inner.Gives.{Gives, AnswersAs};
 ghost use Rattle.tl_cert.specs.inner.CertReading as read;
 
 use crate::areas::Areas;
 use crate::certificate::{Certificate, Claim};
-use crate::limits::{MAX_BUDGET, MAX_HEIGHT, MAX_PAGE_WIDTH};
+use crate::error::CertError;
+use crate::limits::{MAX_BUDGET, MAX_CERTIFICATE_BYTES, MAX_HEIGHT, MAX_PAGE_WIDTH};
 use crate::reader::{Fault, Reader};
-use std::alloc::Global;
+use std::alloc::{AllocError, Global};
 use tl_base::{List, Style};
 
 impl<'a> Reader<'a> {
@@ -99,4 +105,45 @@ fn areas_of(has_area: bool) -> Areas
     ensures { result ≡ read.areas_of has_area }
 {
     if has_area { Areas::Owed } else { Areas::Never }
+}
+
+/// The certificate that all of the bytes spell, or why they spell none.
+#[tactic(auto, unfolding(crate::specs::inner::CertReading::whole_at))]
+fn whole(alloc: Global, bytes: &[u8]) -> Result<Certificate, Fault>
+    ensures { Gives (λ x. x) result [] (read.whole_at bytes.now) }
+{
+    let mut reader = Reader { rest: bytes };
+    let certificate = reader.certificate(alloc)?;
+    if reader.rest.is_empty() {
+        Ok(certificate)
+    } else {
+        Err(reader.wrong())
+    }
+}
+
+/// As `whole`, with the fault at its place from the front.
+fn read_short(alloc: Global, bytes: &[u8]) -> Result<Certificate, CertError>
+    requires { length bytes.now ≤ MAX_CERTIFICATE_BYTES }
+    ensures { AnswersAs result (length bytes.now) (read.whole_at bytes.now) }
+{
+    match whole(alloc, bytes) {
+        Ok(certificate) => Ok(certificate),
+        Err(Fault::Memory) => Err(CertError::Memory(AllocError)),
+        Err(Fault::Wrong(left)) => Err(CertError::Syntax(bytes.len().saturating_sub(left) as u32)),
+        Err(Fault::Outside(left)) => Err(CertError::Range(bytes.len().saturating_sub(left) as u32)),
+    }
+}
+
+/// Reads the text of a certificate. It is read once, from front to back, and no further than to its
+/// first fault.
+pub fn read(alloc: Global, bytes: &[u8]) -> Result<Certificate, CertError>
+    ensures ok { IfOk result (IsTextOf bytes.now) }
+    ensures each_ok { (c : Certificate) → IsTextOf bytes.now c → ReturnsOk (Memory alloc_error) c result }
+    ensures err { IfErr result (IsMemoryOr (Memory alloc_error) (Refused bytes.now)) }
+    ensures each_err { (e : CertError) → Refused bytes.now e → ReturnsError (Memory alloc_error) e result }
+{
+    if bytes.len() > MAX_CERTIFICATE_BYTES {
+        return Err(CertError::TooLong);
+    }
+    read_short(alloc, bytes)
 }

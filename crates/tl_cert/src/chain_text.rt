@@ -3,7 +3,7 @@
 ghost use Rattle.std.specs.Prelude.{◌≡◌, ℕ, true};
 ghost use Rattle.tl_cert.specs.inner.Gives.{Gives};
 ghost use Rattle.tl_cert.specs.inner.CertReading as read;
-ghost use Rattle.tl_cert.specs.inner.reading.Lists.{listing};
+ghost use Rattle.tl_cert.specs.inner.reading.Lists.{listing, comes};
 
 use crate::follow::Follow;
 use crate::limits::{MAX_CELLS, MAX_TABLE};
@@ -52,13 +52,20 @@ impl<'a> Reader<'a> {
         Ok(Chain { table, entries })
     }
 
+    /// Whether a chain comes, or has to: where none was read.
+    fn chain_comes(&self, first: bool) -> bool
+        ensures { result ≡ comes (read.chains_turn first) self.now.rest.now }
+    {
+        first || self.next_is(b'c')
+    }
+
     /// The chains, at least one, and the last line.
     pub(crate) fn chains(&mut self, alloc: Global) -> Result<List<Chain>, Fault>
         ensures { Gives (λ x. listing x tt) result self.new.rest.now (read.chains_at self.old.rest.now) }
     {
         let mut chains = List::new(alloc);
         let mut first = true;
-        'chains: while first || self.next_is(b'c') {
+        'chains: while self.chain_comes(first) {
             let chain = self.chain(alloc)?;
             chains.push(chain)?;
             first = false;

@@ -6,22 +6,23 @@
 
 mod areas;
 mod certificate;
+mod certificate_text;
+mod chain_text;
 mod error;
 mod laws;
 mod follow;
 mod limits;
 mod log;
-mod chain_text;
-mod certificate_text;
 mod log_text;
-mod section_text;
 mod reader;
 mod section;
+mod section_text;
 #[cfg(test)]
 mod tests;
 mod trace;
 
 pub use certificate::{Certificate, Claim};
+pub use certificate_text::read;
 pub use error::CertError;
 pub use laws::{
     enough_budget_closes, good_logs_are_sound, nogoods_are_true, traces_part_vectors,

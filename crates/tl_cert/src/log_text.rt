@@ -8,7 +8,9 @@ ghost use Rattle.tl_cert.specs.inner.reading.Lists.{listing};
 
 use crate::areas::Areas;
 use crate::follow::Follow;
-use crate::limits::{MAX_BOUNDS, MAX_CLASS, MAX_FIRES, MAX_LINE, MAX_PAGE_WIDTH, MAX_SPAN, MAX_ZONE};
+use crate::limits::{
+    MAX_BOUNDS, MAX_CLASS, MAX_FIRES, MAX_LINE, MAX_PAGE_WIDTH, MAX_SPAN, MAX_ZONE,
+};
 use crate::log::{Bound, End, Log, LogLine, Nogood, Side};
 use crate::reader::{Fault, Reader};
 use crate::trace::{CutAt, Trace};
@@ -78,13 +80,21 @@ impl<'a> Reader<'a> {
         ensures most { IfOk result (λ bound. bound.span ≤ MAX_SPAN) }
     {
         let (span, sign) = self.number(0, MAX_SPAN, Follow::Sign(before))?;
-        let side = if sign == b'-' { Side::Most } else { Side::Least };
+        let side = if sign == b'-' {
+            Side::Most
+        } else {
+            Side::Least
+        };
         let width = self.field(0, MAX_PAGE_WIDTH, b' ')?;
         Ok(Bound { span, side, width })
     }
 
     /// Bounds in order, the lines that are fired, and the end.
-    fn bounds(&mut self, alloc: Global, areas: Areas) -> Result<(List<Bound>, List<u32>, End), Fault>
+    fn bounds(
+        &mut self,
+        alloc: Global,
+        areas: Areas,
+    ) -> Result<(List<Bound>, List<u32>, End), Fault>
         ensures { Gives (λ x. listing x.0 (listing x.1 x.2)) result self.new.rest.now (read.bounds_at areas self.old.rest.now) }
     {
         let mut bounds = List::new(alloc);

@@ -145,12 +145,7 @@ impl<'a> Reader<'a> {
 
     /// A number within its range, and the byte that ends it.
     #[tactic(auto, using(crate::proofs::reading::Parts::number_by_parts))]
-    pub(crate) fn number(
-        &mut self,
-        low: u32,
-        high: u32,
-        follow: Follow,
-    ) -> Result<(u32, u8), Fault>
+    pub(crate) fn number(&mut self, low: u32, high: u32, follow: Follow) -> Result<(u32, u8), Fault>
         requires { (n : ℕ) → high < n → follows.may_be follow n ≡ true }
         ensures gives { Gives (λ x. (x.0, x.1)) result self.new.rest.now
             (number_at low high (follows.may_be follow) (follows.may_end follow) self.old.rest.now) }

@@ -30,7 +30,6 @@ pub record Chosen {C : Type 0} (test : ℕ → Bool) (pieces : C → List Piece)
 
 module _ {C : Type 0} {test : ℕ → Bool} {pieces : C → List Piece} {IsFirst IsOther IsShaped : C → Type 0} {one two : Reading C}
     (first : Exact one IsFirst pieces) (other : Exact two IsOther pieces) (chosen : Chosen test pieces IsFirst IsOther IsShaped) where
-
   clash : (v w : C) (t u : List ℕ) → IsFirst v → IsOther w → spell (pieces v) ++ t ≡ spell (pieces w) ++ u → ⊥
   clash v w t u is_first is_other e =
       let yes = chosen.yes v t is_first in
@@ -69,32 +68,56 @@ module _ {C : Type 0} {test : ℕ → Bool} {pieces : C → List Piece} {IsFirst
       let stuck = first.wrong_at text left e in
       let begun' : begins test (stuck.front ++ stuck.rest) ≡ true = ap (begins test) (sym stuck.parts) ∙ begun in
       record {
-        front = stuck.front; rest = stuck.rest; parts = stuck.parts; count = stuck.count; value = stuck.value; more = stuck.more;
-        shaped = chosen.first stuck.value stuck.shaped; begins = stuck.begins;
+        front = stuck.front;
+        rest = stuck.rest;
+        parts = stuck.parts;
+        count = stuck.count;
+        value = stuck.value;
+        more = stuck.more;
+        shaped = chosen.first stuck.value stuck.shaped;
+        begins = stuck.begins;
         ends = λ v after next shaped same goes_on.
-          elim (chosen.parted v shaped) [
-            inl is_first ↦ stuck.ends v after next is_first same goes_on
-            | inr is_other ↦ first_ends stuck.front stuck.rest v after next begun' is_other same goes_on
-          ];
+            elim (chosen.parted v shaped) [
+              | inl is_first ↦ stuck.ends v after next is_first same goes_on
+              | inr is_other ↦ first_ends stuck.front stuck.rest v after next begun' is_other same goes_on
+            ];
       }
   either_wrong text left false begun e =
       let stuck = other.wrong_at text left e in
       let begun' : begins test (stuck.front ++ stuck.rest) ≡ false = ap (begins test) (sym stuck.parts) ∙ begun in
       record {
-        front = stuck.front; rest = stuck.rest; parts = stuck.parts; count = stuck.count; value = stuck.value; more = stuck.more;
-        shaped = chosen.other stuck.value stuck.shaped; begins = stuck.begins;
+        front = stuck.front;
+        rest = stuck.rest;
+        parts = stuck.parts;
+        count = stuck.count;
+        value = stuck.value;
+        more = stuck.more;
+        shaped = chosen.other stuck.value stuck.shaped;
+        begins = stuck.begins;
         ends = λ v after next shaped same goes_on.
-          elim (chosen.parted v shaped) [
-            inl is_first ↦ other_ends stuck.front stuck.rest v after next begun' is_first same goes_on
-            | inr is_other ↦ stuck.ends v after next is_other same goes_on
-          ];
+            elim (chosen.parted v shaped) [
+              | inl is_first ↦ other_ends stuck.front stuck.rest v after next begun' is_first same goes_on
+              | inr is_other ↦ stuck.ends v after next is_other same goes_on
+            ];
       }
 
   abbrev as_outside : (IsPart : C → Type 0) → ((v : C) → IsPart v → IsShaped v) → (text : List ℕ) (left : ℕ) → Outside IsPart pieces text left → Outside IsShaped pieces text left
   as_outside IsPart is text left out = record {
-      value = out.value; shaped = is out.value out.shaped; before = out.before; low = out.low; high = out.high; n = out.n; after = out.after; tail = out.tail;
-      split = out.split; within = out.within; beyond = out.beyond; parts = out.parts; past = out.past; count = out.count;
-    }
+    value = out.value;
+    shaped = is out.value out.shaped;
+    before = out.before;
+    low = out.low;
+    high = out.high;
+    n = out.n;
+    after = out.after;
+    tail = out.tail;
+    split = out.split;
+    within = out.within;
+    beyond = out.beyond;
+    parts = out.parts;
+    past = out.past;
+    count = out.count;
+  }
 
   either_outside : (text : List ℕ) (left : ℕ) (b : Bool) → cond b (one text) (two text) ≡ outside left → Outside IsShaped pieces text left
   either_outside text left true e = as_outside IsFirst chosen.first text left (first.outside_at text left e)
@@ -105,21 +128,45 @@ module _ {C : Type 0} {test : ℕ → Bool} {pieces : C → List Piece} {IsFirst
   begins_as text left out =
       ap (begins test) out.parts ∙ begins-numeral test (spell out.before) out.n out.tail (spell out.after ++ [])
       ∙ ap (begins test) (sym (ap (λ (ps : List Piece). spell ps ++ []) out.split ∙ spell_two out.before (number out.low out.high out.n ∷ out.after) []
-        ∙ ap (λ (t : List ℕ). spell out.before ++ t) (append_assoc (numeral out.n) (spell out.after) [])))
+      ∙ ap (λ (t : List ℕ). spell out.before ++ t) (append_assoc (numeral out.n) (spell out.after) [])))
 
   either_first_out : (text : List ℕ) (left : ℕ) → Outside IsShaped pieces text left → cond (begins test text) (one text) (two text) ≡ outside left
   either_first_out text left out =
       elim (chosen.parted out.value out.shaped) [
         | inl is_first ↦
-          rw (begins_as text left out ∙ chosen.yes out.value [] is_first) (first.first_out text left (record {
-            value = out.value; shaped = is_first; before = out.before; low = out.low; high = out.high; n = out.n; after = out.after; tail = out.tail;
-            split = out.split; within = out.within; beyond = out.beyond; parts = out.parts; past = out.past; count = out.count;
-          }))
+            rw (begins_as text left out ∙ chosen.yes out.value [] is_first) (first.first_out text left (record {
+              value = out.value;
+              shaped = is_first;
+              before = out.before;
+              low = out.low;
+              high = out.high;
+              n = out.n;
+              after = out.after;
+              tail = out.tail;
+              split = out.split;
+              within = out.within;
+              beyond = out.beyond;
+              parts = out.parts;
+              past = out.past;
+              count = out.count;
+            }))
         | inr is_other ↦
-          rw (begins_as text left out ∙ chosen.no out.value [] is_other) (other.first_out text left (record {
-            value = out.value; shaped = is_other; before = out.before; low = out.low; high = out.high; n = out.n; after = out.after; tail = out.tail;
-            split = out.split; within = out.within; beyond = out.beyond; parts = out.parts; past = out.past; count = out.count;
-          }))
+            rw (begins_as text left out ∙ chosen.no out.value [] is_other) (other.first_out text left (record {
+              value = out.value;
+              shaped = is_other;
+              before = out.before;
+              low = out.low;
+              high = out.high;
+              n = out.n;
+              after = out.after;
+              tail = out.tail;
+              split = out.split;
+              within = out.within;
+              beyond = out.beyond;
+              parts = out.parts;
+              past = out.past;
+              count = out.count;
+            }))
       ]
 
   either_again : (v : C) (rest : List ℕ) → IsShaped v → AllWithin (pieces v) → cond (begins test (spell (pieces v) ++ rest)) (one (spell (pieces v) ++ rest)) (two (spell (pieces v) ++ rest)) ≡ got v rest
@@ -132,12 +179,12 @@ module _ {C : Type 0} {test : ℕ → Bool} {pieces : C → List Piece} {IsFirst
   pub exact_either : Exact (either test one two) IsShaped pieces
   unfolding either
   exact_either = record {
-      some = first.some;
-      some_shaped = chosen.first first.some first.some_shaped;
-      apart = either_apart;
-      takes = λ text v rest e. either_takes text v rest (begins test text) e;
-      again = either_again;
-      wrong_at = λ text left e. either_wrong text left (begins test text) refl e;
-      outside_at = λ text left e. either_outside text left (begins test text) e;
-      first_out = either_first_out;
-    }
+    some = first.some;
+    some_shaped = chosen.first first.some first.some_shaped;
+    apart = either_apart;
+    takes = λ text v rest e. either_takes text v rest (begins test text) e;
+    again = either_again;
+    wrong_at = λ text left e. either_wrong text left (begins test text) refl e;
+    outside_at = λ text left e. either_outside text left (begins test text) e;
+    first_out = either_first_out;
+  }

@@ -60,7 +60,6 @@ pub record IsExactList {S A V E : Type 0} (list : ListReading S A V E) (form : L
   pub lifted : (k : ℕ) (s : S) (a : A) (vs : List V) (e : E) → form.IsItem k s a → IsListed list form k (list.next s a) vs e → form.lift (list.view a) vs ≡ a
 
 module _ {S A V E : Type 0} (list : ListReading S A V E) (form : ListForm S A V E) where
-
   abbrev pub Listed : ℕ → S → Listing V E → Type 0
   Listed k s x = IsListed list form k s (x.0) (x.1)
 
@@ -114,7 +113,6 @@ module _ {S A V E : Type 0} (list : ListReading S A V E) (form : ListForm S A V 
   going_parted k s (v ∷ vs) e is = record { part = form.lift v vs; first = is.1.0; second = (is.0, is.1.1) }
 
   module _ (exact : IsExactList list form) where
-
     item_is : (k : ℕ) (s : S) (a : A) (v : V) (vs : List V) (e : E) → form.IsItem k s a → list.view a ≡ v → IsListed list form k (list.next s a) vs e → form.lift v vs ≡ a
     item_is k s a v vs e is_item seen is_list = ap (λ (w : V). form.lift w vs) (sym seen) ∙ exact.lifted k s a vs e is_item is_list
 
@@ -134,16 +132,16 @@ module _ {S A V E : Type 0} (list : ListReading S A V E) (form : ListForm S A V 
         → Exact (list.item k s >>= λ a. (list_at list k (list.next s a) >>= λ x. give (listing (list.view a ∷ x.0) (x.1)))) (Going k s) pieces
     exact_going k s item rest =
         let inner : (a : A) → Joined (Listed k (list.next s a)) pieces (λ (y x : Listing V E). x ≡ listing (list.view a ∷ y.0) (y.1)) (λ (y x : Listing V E). []) (Later k s a) (λ (x : Listing V E). later_pieces (x.0) (x.1)) =
-          λ a. record {
-            parted = λ x is. later_parted k s a (x.0) (x.1) is;
-            shaped = λ y x first second. let P : Listing V E → Type 0 = Later k s a in subst P (sym second) (refl, first);
-            text = λ y x first second. ap (λ (z : Listing V E). later_pieces (z.0) (z.1)) second ∙ sym (append-nil (pieces y));
-          } in
+        λ a. record {
+          parted = λ x is. later_parted k s a (x.0) (x.1) is;
+          shaped = λ y x first second. let P : Listing V E → Type 0 = Later k s a in subst P (sym second) (refl, first);
+          text = λ y x first second. ap (λ (z : Listing V E). later_pieces (z.0) (z.1)) second ∙ sym (append-nil (pieces y));
+        } in
         let outer : Joined (form.IsItem k s) form.item_pieces (Later k s) (λ (a : A) (x : Listing V E). later_pieces (x.0) (x.1)) (Going k s) pieces = record {
-            parted = λ x is. going_parted k s (x.0) (x.1) is;
-            shaped = λ a x first second. going_shaped k s a (x.0) (x.1) first second;
-            text = λ a x first second. going_text k s a (x.0) (x.1) first second;
-          } in
+          parted = λ x is. going_parted k s (x.0) (x.1) is;
+          shaped = λ a x first second. going_shaped k s a (x.0) (x.1) first second;
+          text = λ a x first second. going_text k s a (x.0) (x.1) first second;
+        } in
         exact_then item (λ a is_a. exact_then (rest a is_a) (λ y is_y. exact_give (listing (list.view a ∷ y.0) (y.1))) (inner a)) outer
 
     listed_stopped : (k : ℕ) (s : S) (x : Listing V E) → IsStopped (suc k) s x → Listed (suc k) s x
@@ -171,14 +169,14 @@ module _ {S A V E : Type 0} (list : ListReading S A V E) (form : ListForm S A V 
         → Exact (by_turn turn going (stopping list s)) (Listed (suc k) s) pieces
     exact_turn k s halt going turns goes =
         exact_same (Listed (suc k) s) pieces (exact_stopping (suc k) s turns.stop) (listed_stopped k s)
-          (λ x is. elim (either_is k s (x.0) (x.1) is) [ inl going ↦ absurd (never (x.0) (x.1) going) | inr stopped ↦ stopped ]) (λ x is. refl)
+        (λ x is. elim (either_is k s (x.0) (x.1) is) [ inl going ↦ absurd (never (x.0) (x.1) going) | inr stopped ↦ stopped ]) (λ x is. refl)
       where
         never : (vs : List V) (e : E) → IsGoing k s vs e → ⊥
         never [] e is = is
         never (v ∷ vs) e is = turns.no_item (form.lift v vs) is.1.0
     exact_turn k s go going turns goes =
         exact_same (Listed (suc k) s) pieces (goes turns.item) (λ x is. listed_going k s (x.0) (x.1) is)
-          (λ x is. elim (either_is k s (x.0) (x.1) is) [ inl going ↦ going | inr stopped ↦ absurd (turns.no_stop x.1 stopped.end) ]) (λ x is. refl)
+        (λ x is. elim (either_is k s (x.0) (x.1) is) [ inl going ↦ going | inr stopped ↦ absurd (turns.no_stop x.1 stopped.end) ]) (λ x is. refl)
     exact_turn k s (look test) going turns goes =
         let chosen : Chosen test pieces (Going k s) (IsStopped (suc k) s) (Listed (suc k) s) = record {
           parted = λ x is. either_is k s (x.0) (x.1) is;
@@ -193,8 +191,8 @@ module _ {S A V E : Type 0} (list : ListReading S A V E) (form : ListForm S A V 
     unfolding list_at
     exact_list zero s ready =
         exact_same (Listed zero s) pieces (exact_stopping zero s (exact.at_end s ready))
-          (λ x is. let P : List V → Type 0 = λ vs. IsListed list form zero s vs x.1 in subst P (sym is.none) is.end)
-          (λ x is. listed_zero s (x.0) (x.1) is) (λ x is. refl)
+        (λ x is. let P : List V → Type 0 = λ vs. IsListed list form zero s vs x.1 in subst P (sym is.none) is.end)
+        (λ x is. listed_zero s (x.0) (x.1) is) (λ x is. refl)
     exact_list (suc k) s ready =
         exact_turn k s (list.turn k s) (list.item k s >>= λ a. (list_at list k (list.next s a) >>= λ x. give (listing (list.view a ∷ x.0) (x.1)))) (exact.turns k s ready)
-          (λ item. exact_going k s item (λ a is_a. exact_list k (list.next s a) (exact.ready k s a ready is_a)))
+        (λ item. exact_going k s item (λ a is_a. exact_list k (list.next s a) (exact.ready k s a ready is_a)))

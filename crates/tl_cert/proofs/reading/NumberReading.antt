@@ -44,7 +44,6 @@ abbrev pub number_pieces : ℕ → ℕ → ℕ × ℕ → List Piece
 number_pieces low high x = number low high x.0 ∷ character x.1 ∷ []
 
 module _ (low high : ℕ) {possible : ℕ → Bool} {allowed : ℕ → ℕ → Bool} (rule : IsRule possible allowed) where
-
   abbrev IsEnded : ℕ × ℕ → Type 0
   IsEnded x = allowed x.0 x.1 ≡ true
 
@@ -69,7 +68,14 @@ module _ (low high : ℕ) {possible : ℕ → Bool} {allowed : ℕ → ℕ → B
       let p = rule.longer 1 (omega arith) in
       let end = rule.some_end p.0 p.2 in
       record {
-        front = []; rest = text; parts = refl; count = refl; value = pair p.0 end.0; more = spell (pieces (pair p.0 end.0)); shaped = end.1; begins = refl;
+        front = [];
+        rest = text;
+        parts = refl;
+        count = refl;
+        value = pair p.0 end.0;
+        more = spell (pieces (pair p.0 end.0));
+        shaped = end.1;
+        begins = refl;
         ends = λ v after other shaped same e. ends v.0 v.1 after other shaped same (sym (spelled v.0 v.1 after) ∙ e);
       }
 
@@ -77,13 +83,19 @@ module _ (low high : ℕ) {possible : ℕ → Bool} {allowed : ℕ → ℕ → B
   stuck_behind : (text : List ℕ) (n : ℕ) (rest : List ℕ) (m e : ℕ) (more : List ℕ) → text ≡ numeral n ++ rest → IsPastDigits rest → allowed m e ≡ true → numeral m ≡ numeral n ++ more
       → ((e : ℕ) (after other : List ℕ) → allowed n e ≡ true → SameStart rest other → e ∷ after ≡ other → ⊥) → Stuck IsEnded pieces text (length rest)
   stuck_behind text n rest m e more parts past shaped longer ends = record {
-      front = numeral n; rest = rest; parts = parts; count = refl; value = pair m e; more = more ++ (e ∷ []); shaped = shaped;
-      begins = ap (λ (t : List ℕ). t ++ (e ∷ [])) longer ∙ append_assoc (numeral n) more (e ∷ []);
-      ends = λ v after other shaped same is.
+    front = numeral n;
+    rest = rest;
+    parts = parts;
+    count = refl;
+    value = pair m e;
+    more = more ++ (e ∷ []);
+    shaped = shaped;
+    begins = ap (λ (t : List ℕ). t ++ (e ∷ [])) longer ∙ append_assoc (numeral n) more (e ∷ []);
+    ends = λ v after other shaped same is.
         let g = same_number v.0 n (v.1 ∷ after) other (rule.not_digit v.0 v.1 shaped) (past_same rest other same past) (sym (spelled v.0 v.1 after) ∙ is) in
         let P : ℕ → Type 0 = λ k. allowed k v.1 ≡ true in
         ends v.1 after other (subst P g.0 shaped) same g.1;
-    }
+  }
 
   no_end_follows : (n : ℕ) (rest : List ℕ) → possible n ≡ false → (e : ℕ) (after other : List ℕ) → allowed n e ≡ true → SameStart rest other → e ∷ after ≡ other → ⊥
   no_end_follows n rest impossible e after other shaped same is = rule.no_end n e impossible shaped
@@ -108,11 +120,11 @@ module _ (low high : ℕ) {possible : ℕ → Bool} {allowed : ℕ → ℕ → B
       let P : Answer (ℕ × ℕ) → Type 0 = NumberAnswer text in
       elim (cases_Bool (allowed n c)) [
         | inl ends ↦
-          let is : ended allowed n (c ∷ rest) ≡ got (pair n c) rest = rw ends refl in
-          subst P (sym is) (record { shaped = ends; within = ((least, most), (tt, tt)); parts = parts ∙ sym (spelled n c rest) })
+            let is : ended allowed n (c ∷ rest) ≡ got (pair n c) rest = rw ends refl in
+            subst P (sym is) (record { shaped = ends; within = ((least, most), (tt, tt)); parts = parts ∙ sym (spelled n c rest) })
         | inr refused ↦
-          let is : ended allowed n (c ∷ rest) ≡ wrong (suc (length rest)) = rw refused refl in
-          subst P (sym is) (stuck_behind text n (c ∷ rest) n end.0 [] parts past end.1 (sym (append-nil (numeral n))) (no_such_end n c rest refused))
+            let is : ended allowed n (c ∷ rest) ≡ wrong (suc (length rest)) = rw refused refl in
+            subst P (sym is) (stuck_behind text n (c ∷ rest) n end.0 [] parts past end.1 (sym (append-nil (numeral n))) (no_such_end n c rest refused))
       ]
 
   in_range : (n : ℕ) → (leb low n && leb n high) ≡ true → (low ≤ n) × (n ≤ high)
@@ -127,24 +139,36 @@ module _ (low high : ℕ) {possible : ℕ → Bool} {allowed : ℕ → ℕ → B
       let P : Answer (ℕ × ℕ) → Type 0 = NumberAnswer text in
       elim (cases_Bool (possible n)) [
         | inl can ↦
-          elim (cases_Bool (leb low n && leb n high)) [
-            | inl within ↦
-              let range = in_range n within in
-              let is : run_ended low high possible allowed (length text) n rest ≡ ended allowed n rest = rw (can, within) refl in
-              subst P (sym is) (ended_answer text n rest parts past can range.0 range.1)
-            | inr beyond ↦
-              let end = rule.some_end n can in
-              let is : run_ended low high possible allowed (length text) n rest ≡ outside (length text) = rw (can, beyond) refl in
-              subst P (sym is) (record {
-                value = pair n end.0; shaped = end.1; before = []; low = low; high = high; n = n; after = character end.0 ∷ []; tail = rest;
-                split = refl; within = tt; beyond = not_in_range n beyond; parts = parts; past = past; count = ap length (sym parts);
-              })
-          ]
+            elim (cases_Bool (leb low n && leb n high)) [
+              | inl within ↦
+                  let range = in_range n within in
+                  let is : run_ended low high possible allowed (length text) n rest ≡ ended allowed n rest = rw (can, within) refl in
+                  subst P (sym is) (ended_answer text n rest parts past can range.0 range.1)
+              | inr beyond ↦
+                  let end = rule.some_end n can in
+                  let is : run_ended low high possible allowed (length text) n rest ≡ outside (length text) = rw (can, beyond) refl in
+                  subst P (sym is) (record {
+                    value = pair n end.0;
+                    shaped = end.1;
+                    before = [];
+                    low = low;
+                    high = high;
+                    n = n;
+                    after = character end.0 ∷ [];
+                    tail = rest;
+                    split = refl;
+                    within = tt;
+                    beyond = not_in_range n beyond;
+                    parts = parts;
+                    past = past;
+                    count = ap length (sym parts);
+                  })
+            ]
         | inr impossible ↦
-          let is : run_ended low high possible allowed (length text) n rest ≡ wrong (length rest) = rw impossible refl in
-          let longer = rule.longer n (positive impossible) in
-          let end = rule.some_end longer.0 longer.2 in
-          subst P (sym is) (stuck_behind text n rest longer.0 end.0 longer.1 parts past end.1 longer.3 (no_end_follows n rest impossible))
+            let is : run_ended low high possible allowed (length text) n rest ≡ wrong (length rest) = rw impossible refl in
+            let longer = rule.longer n (positive impossible) in
+            let end = rule.some_end longer.0 longer.2 in
+            subst P (sym is) (stuck_behind text n rest longer.0 end.0 longer.1 parts past end.1 longer.3 (no_end_follows n rest impossible))
       ]
 
   not_a_digit : (c : ℕ) (text : List ℕ) → is_ascii_digit c ≡ false → (n e : ℕ) (after other : List ℕ) → allowed n e ≡ true → SameStart (c ∷ text) other → numeral n ++ (e ∷ after) ≡ other → ⊥
@@ -190,7 +214,13 @@ module _ (low high : ℕ) {possible : ℕ → Bool} {allowed : ℕ → ℕ → B
   stuck_at_digit (c ∷ text) can digit =
       let end = rule.some_end 0 can in
       record {
-        front = 48 ∷ []; rest = c ∷ text; parts = refl; count = refl; value = pair 0 end.0; more = end.0 ∷ []; shaped = end.1;
+        front = 48 ∷ [];
+        rest = c ∷ text;
+        parts = refl;
+        count = refl;
+        value = pair 0 end.0;
+        more = end.0 ∷ [];
+        shaped = end.1;
         begins = sym (zero_text (end.0 ∷ []));
         ends = λ v after other shaped same is. zero_then c text digit v.0 v.1 after other shaped same (sym (spelled v.0 v.1 after) ∙ is);
       }
@@ -211,19 +241,19 @@ module _ (low high : ℕ) {possible : ℕ → Bool} {allowed : ℕ → ℕ → B
       let P : Answer (ℕ × ℕ) → Type 0 = NumberAnswer (48 ∷ text) in
       elim (cases_Bool (possible 0)) [
         | inl can ↦
-          elim (cases_Bool (begins is_ascii_digit text)) [
-            | inl digit ↦
-              let is : zero_ended low high possible allowed text ≡ wrong (length text) = rw (can, digit) refl in
-              subst P (sym is) (stuck_at_digit text can digit)
-            | inr alone ↦
-              let is : zero_ended low high possible allowed text ≡ run_ended low high possible allowed (length (48 ∷ text)) 0 text =
-                ap (λ (b : Bool). cond b (cond (begins is_ascii_digit text) (wrong (length text)) (run_ended low high possible allowed (suc (length text)) 0 text)) (wrong (suc (length text)))) can
-                ∙ ap (λ (b : Bool). cond b (wrong (length text)) (run_ended low high possible allowed (suc (length text)) 0 text)) alone in
-              subst P (sym is) (run_answer (48 ∷ text) 0 text (zero_text text) (past_from text alone) (λ impossible. absurd cc))
-          ]
+            elim (cases_Bool (begins is_ascii_digit text)) [
+              | inl digit ↦
+                  let is : zero_ended low high possible allowed text ≡ wrong (length text) = rw (can, digit) refl in
+                  subst P (sym is) (stuck_at_digit text can digit)
+              | inr alone ↦
+                  let is : zero_ended low high possible allowed text ≡ run_ended low high possible allowed (length (48 ∷ text)) 0 text =
+                  ap (λ (b : Bool). cond b (cond (begins is_ascii_digit text) (wrong (length text)) (run_ended low high possible allowed (suc (length text)) 0 text)) (wrong (suc (length text)))) can
+                  ∙ ap (λ (b : Bool). cond b (wrong (length text)) (run_ended low high possible allowed (suc (length text)) 0 text)) alone in
+                  subst P (sym is) (run_answer (48 ∷ text) 0 text (zero_text text) (past_from text alone) (λ impossible. absurd cc))
+            ]
         | inr impossible ↦
-          let is : zero_ended low high possible allowed text ≡ wrong (suc (length text)) = rw impossible refl in
-          subst P (sym is) (stuck_here (48 ∷ text) (no_zero text impossible))
+            let is : zero_ended low high possible allowed text ≡ wrong (suc (length text)) = rw impossible refl in
+            subst P (sym is) (stuck_here (48 ∷ text) (no_zero text impossible))
       ]
 
   -- a digit that is not 0 begins a whole run
@@ -240,22 +270,22 @@ module _ (low high : ℕ) {possible : ℕ → Bool} {allowed : ℕ → ℕ → B
       let P : Answer (ℕ × ℕ) → Type 0 = NumberAnswer (c ∷ text) in
       elim (cases_Bool (is_ascii_digit c)) [
         | inl digit ↦
-          elim (cases_Bool (eqb c 48)) [
-            | inl is_zero ↦
-              let c-is : c ≡ 48 = eqb-true c 48 is_zero in
-              let is : number_at low high possible allowed (c ∷ text) ≡ zero_ended low high possible allowed text = rw (digit, is_zero) refl in
-              let Q : ℕ → Type 0 = λ d. NumberAnswer (d ∷ text) (zero_ended low high possible allowed text) in
-              subst P (sym is) (subst Q (sym c-is) (zero_answer text))
-            | inr nonzero ↦
-              let range = digit_range c digit in
-              let differs = eqb-false c 48 nonzero in
-              let gives = run_gives (c - 48) text (omega arith) in
-              let is : number_at low high possible allowed (c ∷ text) ≡ run_ended low high possible allowed (suc (length text)) ((read_run (c - 48) text).0) ((read_run (c - 48) text).1) = rw (digit, nonzero) refl in
-              subst P (sym is) (run_answer (c ∷ text) ((read_run (c - 48) text).0) ((read_run (c - 48) text).1) (run_parts c text digit differs) gives.past (λ _. omega (arith, gives.least)))
-          ]
+            elim (cases_Bool (eqb c 48)) [
+              | inl is_zero ↦
+                  let c-is : c ≡ 48 = eqb-true c 48 is_zero in
+                  let is : number_at low high possible allowed (c ∷ text) ≡ zero_ended low high possible allowed text = rw (digit, is_zero) refl in
+                  let Q : ℕ → Type 0 = λ d. NumberAnswer (d ∷ text) (zero_ended low high possible allowed text) in
+                  subst P (sym is) (subst Q (sym c-is) (zero_answer text))
+              | inr nonzero ↦
+                  let range = digit_range c digit in
+                  let differs = eqb-false c 48 nonzero in
+                  let gives = run_gives (c - 48) text (omega arith) in
+                  let is : number_at low high possible allowed (c ∷ text) ≡ run_ended low high possible allowed (suc (length text)) ((read_run (c - 48) text).0) ((read_run (c - 48) text).1) = rw (digit, nonzero) refl in
+                  subst P (sym is) (run_answer (c ∷ text) ((read_run (c - 48) text).0) ((read_run (c - 48) text).1) (run_parts c text digit differs) gives.past (λ _. omega (arith, gives.least)))
+            ]
         | inr other ↦
-          let is : number_at low high possible allowed (c ∷ text) ≡ wrong (suc (length text)) = rw other refl in
-          subst P (sym is) (stuck_here (c ∷ text) (not_a_digit c text other))
+            let is : number_at low high possible allowed (c ∷ text) ≡ wrong (suc (length text)) = rw other refl in
+            subst P (sym is) (stuck_here (c ∷ text) (not_a_digit c text other))
       ]
 
   abbrev run_pair : ℕ → List ℕ → ℕ × List ℕ
@@ -272,18 +302,18 @@ module _ (low high : ℕ) {possible : ℕ → Bool} {allowed : ℕ → ℕ → B
       let P : List ℕ → Type 0 = λ ds. number_at low high possible allowed (ds ++ rest) ≡ run_ended low high possible allowed (length (ds ++ rest)) 0 rest in
       let none = past_begins rest past in
       subst P (sym (numeral_small 0 (omega arith)))
-        (ap (λ (b : Bool). cond b (cond (begins is_ascii_digit rest) (wrong (length rest)) (run_ended low high possible allowed (suc (length rest)) 0 rest)) (wrong (suc (length rest)))) can
-        ∙ ap (λ (b : Bool). cond b (wrong (length rest)) (run_ended low high possible allowed (suc (length rest)) 0 rest)) none)
+      (ap (λ (b : Bool). cond b (cond (begins is_ascii_digit rest) (wrong (length rest)) (run_ended low high possible allowed (suc (length rest)) 0 rest)) (wrong (suc (length rest)))) can
+      ∙ ap (λ (b : Bool). cond b (wrong (length rest)) (run_ended low high possible allowed (suc (length rest)) 0 rest)) none)
   number_run (suc n) rest past can =
       let p = numeral_first (suc n) in
       let nonzero = p.4 (omega arith) in
       let range = digit_range p.0 p.3 in
       let run : read_run (p.0 - 48) (p.1 ++ rest) ≡ run_pair (suc n) rest =
-        same_run (p.0 - 48) (10 * 0 + (p.0 - 48)) (p.1 ++ rest) (omega arith) ∙ sym (run_digit 0 p.0 (p.1 ++ rest) p.3) ∙ ap (λ (ds : List ℕ). read_run 0 (ds ++ rest)) (sym p.2)
-        ∙ run-numeral (suc n) rest ∙ run_stops (suc n) rest past in
+      same_run (p.0 - 48) (10 * 0 + (p.0 - 48)) (p.1 ++ rest) (omega arith) ∙ sym (run_digit 0 p.0 (p.1 ++ rest) p.3) ∙ ap (λ (ds : List ℕ). read_run 0 (ds ++ rest)) (sym p.2)
+      ∙ run-numeral (suc n) rest ∙ run_stops (suc n) rest past in
       let P : List ℕ → Type 0 = λ ds. number_at low high possible allowed (ds ++ rest) ≡ run_ended low high possible allowed (length (ds ++ rest)) (suc n) rest in
       subst P (sym p.2)
-        (rw (p.3, ne_eqb p.0 48 nonzero) (ap (λ (r : ℕ × List ℕ). run_ended low high possible allowed (suc (length (p.1 ++ rest))) (r.0) (r.1)) run))
+      (rw (p.3, ne_eqb p.0 48 nonzero) (ap (λ (r : ℕ × List ℕ). run_ended low high possible allowed (suc (length (p.1 ++ rest))) (r.0) (r.1)) run))
 
   can_be : (n e : ℕ) → allowed n e ≡ true → possible n ≡ true
   can_be n e ends = elim (cases_Bool (possible n)) [ inl can ↦ can | inr impossible ↦ absurd (rule.no_end n e impossible ends) ]
@@ -303,6 +333,7 @@ module _ (low high : ℕ) {possible : ℕ → Bool} {allowed : ℕ → ℕ → B
             | inl within ↦ let range = in_range n within in absurd (beyond (omega arith, omega arith))
             | inr beyond' ↦ beyond'
           ]
+
       at_number : (text : List ℕ) (left : ℕ) (x : ℕ × ℕ) → IsEnded x → (before : List Piece) (l h n : ℕ) (after : List Piece) (tail : List ℕ) → pieces x ≡ before ++ number l h n ∷ after
           → (IsWithin (number l h n) → ⊥) → text ≡ spell before ++ (numeral n ++ tail) → IsPastDigits tail → length (numeral n ++ tail) ≡ left → number_at low high possible allowed text ≡ outside left
       at_number text left x ends [] l h n after tail split beyond parts past count =
@@ -315,6 +346,7 @@ module _ (low high : ℕ) {possible : ℕ → Bool} {allowed : ℕ → ℕ → B
       at_number text left x ends (p ∷ before) l h n after tail split beyond parts past count =
           let rest : character x.1 ∷ [] ≡ before ++ number l h n ∷ after = cc in
           absurd (no_number (x.1 ∷ []) before after l h n rest)
+
   number_apart : (v w : ℕ × ℕ) (t u : List ℕ) → IsEnded v → IsEnded w → spell (pieces v) ++ t ≡ spell (pieces w) ++ u → (v ≡ w) × (t ≡ u)
   number_apart v w t u one two e =
       let g = same_number v.0 w.0 (v.1 ∷ t) (w.1 ∷ u) (rule.not_digit v.0 v.1 one) (rule.not_digit w.0 w.1 two) (sym (spelled v.0 v.1 t) ∙ e ∙ spelled w.0 w.1 u) in

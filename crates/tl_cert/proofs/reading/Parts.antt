@@ -28,7 +28,7 @@ tested false within above x start n rest next is = refl
 
 zero_tested : (can digit within above : Bool) (x : Answer (ℕ × ℕ)) (left : ℕ) (text : List ℕ) (next : ℕ → Reading (ℕ × ℕ)) → above ≡ true → next 0 text ≡ cond within x (outside (suc left))
     → cond can (cond digit (wrong left) (cond can (cond (within && above) x (outside (suc left))) (wrong left))) (wrong (suc left))
-      ≡ then_read (cond can (cond digit (wrong left) (got 0 text)) (wrong (suc left))) next
+    ≡ then_read (cond can (cond digit (wrong left) (got 0 text)) (wrong (suc left))) next
 zero_tested true true within above x left text next holds is = refl
 zero_tested true false true true x left text next holds is = sym is
 zero_tested true false true false x left text next holds is = absurd cc
@@ -43,13 +43,13 @@ number_by_parts low high possible allowed [] = refl
 number_by_parts low high possible allowed (c ∷ text) =
     elim (cases_Bool (is_ascii_digit c)) [
       | inl digit ↦
-        elim (cases_Bool (eqb c 48)) [
-          | inl is_zero ↦ rw (digit, is_zero)
-            (zero_tested (possible 0) (begins is_ascii_digit text) (leb low 0) (leb 0 high) (ended allowed 0 text) (length text) text (least_ended low allowed (suc (length text))) (le-leb 0 high (omega arith)) refl)
-          | inr nonzero ↦ rw (digit, nonzero)
-            (let run = read_run (c - 48) text in
-              tested (possible run.0) (leb low run.0) (leb run.0 high) (ended allowed run.0 run.1) (suc (length text)) (run.0) (run.1) (least_ended low allowed (suc (length text))) (λ _. refl))
-        ]
+          elim (cases_Bool (eqb c 48)) [
+            | inl is_zero ↦ rw (digit, is_zero)
+                (zero_tested (possible 0) (begins is_ascii_digit text) (leb low 0) (leb 0 high) (ended allowed 0 text) (length text) text (least_ended low allowed (suc (length text))) (le-leb 0 high (omega arith)) refl)
+            | inr nonzero ↦ rw (digit, nonzero)
+                (let run = read_run (c - 48) text in
+                tested (possible run.0) (leb low run.0) (leb run.0 high) (ended allowed run.0 run.1) (suc (length text)) (run.0) (run.1) (least_ended low allowed (suc (length text))) (λ _. refl))
+          ]
       | inr other ↦ rw other refl
     ]
 

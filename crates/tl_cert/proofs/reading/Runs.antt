@@ -17,10 +17,10 @@ run_stops n (c ∷ text) past = rw (past, read_run) refl
 pub run-numeral : (n : ℕ) (text : List ℕ) → read_run 0 (numeral n ++ text) ≡ read_run n text
 run-numeral n =
     numeral_by_steps (λ m ds. (text : List ℕ) → read_run 0 (ds ++ text) ≡ read_run m text)
-      (λ m small text. run_digit 0 (48 + m) text (digit_is (48 + m) (omega arith) (omega arith)) ∙ ap (λ (k : ℕ). read_run k text) (omega arith))
-      (λ m ds large before text. ap (read_run 0) (append_assoc ds ((48 + m % 10) ∷ []) text) ∙ before ((48 + m % 10) ∷ text)
-        ∙ run_digit (m / 10) (48 + m % 10) text (digit_is (48 + m % 10) (omega arith) (omega arith)) ∙ ap (λ (k : ℕ). read_run k text) (omega arith))
-      n
+    (λ m small text. run_digit 0 (48 + m) text (digit_is (48 + m) (omega arith) (omega arith)) ∙ ap (λ (k : ℕ). read_run k text) (omega arith))
+    (λ m ds large before text. ap (read_run 0) (append_assoc ds ((48 + m % 10) ∷ []) text) ∙ before ((48 + m % 10) ∷ text)
+    ∙ run_digit (m / 10) (48 + m % 10) text (digit_is (48 + m % 10) (omega arith) (omega arith)) ∙ ap (λ (k : ℕ). read_run k text) (omega arith))
+    n
 
 -- what a run of digits gives, from a number above 0 on
 pub record RunGives (n : ℕ) (text : List ℕ) : Type 0 where
@@ -33,13 +33,13 @@ run_gives n [] positive = record { parts = refl; past = tt; least = omega arith 
 run_gives n (c ∷ text) positive =
     elim (cases_Bool (is_ascii_digit c)) [
       | inl digit ↦
-        let range = digit_range c digit in
-        let step = run_digit n c text digit in
-        let rest = run_gives (10 * n + (c - 48)) text (omega arith) in
-        let front : numeral n ++ (c ∷ text) ≡ numeral (10 * n + (c - 48)) ++ text =
-            sym (append_assoc (numeral n) (c ∷ []) text) ∙ ap (λ (ds : List ℕ). ds ++ text) (ap (λ (k : ℕ). numeral n ++ (k ∷ [])) (omega arith) ∙ sym (numeral_push n (c - 48) positive (omega arith))) in
-        record { parts = rw step (front ∙ rest.parts); past = rw step rest.past; least = rw step (omega (arith, rest.least)) }
+          let range = digit_range c digit in
+          let step = run_digit n c text digit in
+          let rest = run_gives (10 * n + (c - 48)) text (omega arith) in
+          let front : numeral n ++ (c ∷ text) ≡ numeral (10 * n + (c - 48)) ++ text =
+          sym (append_assoc (numeral n) (c ∷ []) text) ∙ ap (λ (ds : List ℕ). ds ++ text) (ap (λ (k : ℕ). numeral n ++ (k ∷ [])) (omega arith) ∙ sym (numeral_push n (c - 48) positive (omega arith))) in
+          record { parts = rw step (front ∙ rest.parts); past = rw step rest.past; least = rw step (omega (arith, rest.least)) }
       | inr other ↦
-        let stop = run_stops n (c ∷ text) other in
-        record { parts = rw stop refl; past = rw stop other; least = rw stop (omega arith) }
+          let stop = run_stops n (c ∷ text) other in
+          record { parts = rw stop refl; past = rw stop other; least = rw stop (omega arith) }
     ]

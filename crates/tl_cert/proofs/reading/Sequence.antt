@@ -22,7 +22,6 @@ module _ {A C : Type 0} {IsFirst : A → Type 0} {first_pieces : A → List Piec
     {IsShaped : C → Type 0} {pieces : C → List Piece} {read : Reading A} {next : A → Reading C}
     (first : Exact read IsFirst first_pieces) (second : (a : A) → IsFirst a → Exact (next a) (IsSecond a) (second_pieces a))
     (joined : Joined IsFirst first_pieces IsSecond second_pieces IsShaped pieces) where
-
   -- the characters of a value, and what follows them
   spelled : (a : A) (v : C) (t : List ℕ) → IsFirst a → IsSecond a v → spell (pieces v) ++ t ≡ spell (first_pieces a) ++ (spell (second_pieces a v) ++ t)
   spelled a v t one two = ap (λ (ps : List Piece). spell ps ++ t) (joined.text a v one two) ∙ spell_two (first_pieces a) (second_pieces a v) t
@@ -73,8 +72,8 @@ module _ {A C : Type 0} {IsFirst : A → Type 0} {first_pieces : A → List Piec
         shaped = joined.shaped a stuck.value one.shaped stuck.shaped;
         begins = spelled_alone a stuck.value one.shaped stuck.shaped ∙ ap (λ (t : List ℕ). spell (first_pieces a) ++ t) stuck.begins ∙ sym (append_assoc (spell (first_pieces a)) stuck.front stuck.more);
         ends = λ v after other shaped same goes_on.
-          let g = same_first a v after (stuck.front ++ other) one.shaped shaped (goes_on ∙ append_assoc (spell (first_pieces a)) stuck.front other) in
-          stuck.ends v after other g.0 same g.1;
+            let g = same_first a v after (stuck.front ++ other) one.shaped shaped (goes_on ∙ append_assoc (spell (first_pieces a)) stuck.front other) in
+            stuck.ends v after other g.0 same g.1;
       }
   then_wrong text left (wrong behind) is e =
       let behind-is : behind ≡ left = cc in
@@ -89,10 +88,10 @@ module _ {A C : Type 0} {IsFirst : A → Type 0} {first_pieces : A → List Piec
         more = stuck.more ++ spell (second_pieces stuck.value last.some);
         shaped = joined.shaped stuck.value last.some stuck.shaped last.some_shaped;
         begins = spelled_alone stuck.value last.some stuck.shaped last.some_shaped ∙ ap (λ (t : List ℕ). t ++ spell (second_pieces stuck.value last.some)) stuck.begins
-          ∙ append_assoc stuck.front stuck.more (spell (second_pieces stuck.value last.some));
+            ∙ append_assoc stuck.front stuck.more (spell (second_pieces stuck.value last.some));
         ends = λ v after other shaped same goes_on.
-          let p = joined.parted v shaped in
-          stuck.ends p.part (spell (second_pieces p.part v) ++ after) other p.first same (sym (spelled p.part v after p.first p.second) ∙ goes_on);
+            let p = joined.parted v shaped in
+            stuck.ends p.part (spell (second_pieces p.part v) ++ after) other p.first same (sym (spelled p.part v after p.first p.second) ∙ goes_on);
       }
   then_wrong text left (outside behind) is e = absurd cc
 
@@ -110,7 +109,7 @@ module _ {A C : Type 0} {IsFirst : A → Type 0} {first_pieces : A → List Piec
         after = out.after;
         tail = out.tail;
         split = joined.text a out.value one.shaped out.shaped ∙ ap (λ (ps : List Piece). first_pieces a ++ ps) out.split
-          ∙ sym (append_assoc (first_pieces a) out.before (number out.low out.high out.n ∷ out.after));
+            ∙ sym (append_assoc (first_pieces a) out.before (number out.low out.high out.n ∷ out.after));
         within = within-append (first_pieces a) out.before one.within out.within;
         beyond = out.beyond;
         parts = one.parts ∙ ap (λ (t : List ℕ). spell (first_pieces a) ++ t) out.parts ∙ sym (spell_two (first_pieces a) out.before (numeral out.n ++ out.tail));
@@ -132,7 +131,7 @@ module _ {A C : Type 0} {IsFirst : A → Type 0} {first_pieces : A → List Piec
         after = out.after ++ second_pieces out.value last.some;
         tail = out.tail;
         split = joined.text out.value last.some out.shaped last.some_shaped ∙ ap (λ (ps : List Piece). ps ++ second_pieces out.value last.some) out.split
-          ∙ append_assoc out.before (number out.low out.high out.n ∷ out.after) (second_pieces out.value last.some);
+            ∙ append_assoc out.before (number out.low out.high out.n ∷ out.after) (second_pieces out.value last.some);
         within = out.within;
         beyond = out.beyond;
         parts = out.parts;
@@ -146,21 +145,45 @@ module _ {A C : Type 0} {IsFirst : A → Type 0} {first_pieces : A → List Piec
       let split = sym (joined.text p.part out.value p.first p.second) ∙ out.split in
       elim (lies_in (first_pieces p.part) (second_pieces p.part out.value) out.before (number out.low out.high out.n) out.after split) [
         | inl there ↦
-          let here : read text ≡ outside left = first.first_out text left (record {
-            value = p.part; shaped = p.first; before = out.before; low = out.low; high = out.high; n = out.n; after = there.others; tail = out.tail;
-            split = there.parts; within = out.within; beyond = out.beyond; parts = out.parts; past = out.past; count = out.count;
-          }) in
-          ap (λ (x : Answer A). then_read x next) here
+            let here : read text ≡ outside left = first.first_out text left (record {
+              value = p.part;
+              shaped = p.first;
+              before = out.before;
+              low = out.low;
+              high = out.high;
+              n = out.n;
+              after = there.others;
+              tail = out.tail;
+              split = there.parts;
+              within = out.within;
+              beyond = out.beyond;
+              parts = out.parts;
+              past = out.past;
+              count = out.count;
+            }) in
+            ap (λ (x : Answer A). then_read x next) here
         | inr there ↦
-          let both = let P : List Piece → Type 0 = AllWithin in subst P there.front out.within in
-          let mid : List ℕ = spell there.others ++ (numeral out.n ++ out.tail) in
-          let text-is : text ≡ spell (first_pieces p.part) ++ mid =
+            let both = let P : List Piece → Type 0 = AllWithin in subst P there.front out.within in
+            let mid : List ℕ = spell there.others ++ (numeral out.n ++ out.tail) in
+            let text-is : text ≡ spell (first_pieces p.part) ++ mid =
             out.parts ∙ ap (λ (ps : List Piece). spell ps ++ (numeral out.n ++ out.tail)) there.front ∙ spell_two (first_pieces p.part) there.others (numeral out.n ++ out.tail) in
-          let here : read text ≡ got p.part mid = ap read text-is ∙ first.again p.part mid p.first (within-first (first_pieces p.part) there.others both) in
-          ap (λ (x : Answer A). then_read x next) here ∙ (second p.part p.first).first_out mid left (record {
-            value = out.value; shaped = p.second; before = there.others; low = out.low; high = out.high; n = out.n; after = out.after; tail = out.tail;
-            split = there.parts; within = within-second (first_pieces p.part) there.others both; beyond = out.beyond; parts = refl; past = out.past; count = out.count;
-          })
+            let here : read text ≡ got p.part mid = ap read text-is ∙ first.again p.part mid p.first (within-first (first_pieces p.part) there.others both) in
+            ap (λ (x : Answer A). then_read x next) here ∙ (second p.part p.first).first_out mid left (record {
+              value = out.value;
+              shaped = p.second;
+              before = there.others;
+              low = out.low;
+              high = out.high;
+              n = out.n;
+              after = out.after;
+              tail = out.tail;
+              split = there.parts;
+              within = within-second (first_pieces p.part) there.others both;
+              beyond = out.beyond;
+              parts = refl;
+              past = out.past;
+              count = out.count;
+            })
       ]
 
   then_again : (v : C) (rest : List ℕ) → IsShaped v → AllWithin (pieces v) → then_read (read (spell (pieces v) ++ rest)) next ≡ got v rest

@@ -30,7 +30,6 @@ pub record IsUnlimited {S A V E : Type 0} (list : ListReading S A V E) (form : L
   pub item_text : (a : A) → 0 < length (spell (form.item_pieces a))
 
 module _ {S A V E : Type 0} (list : ListReading S A V E) (form : ListForm S A V E) (unlimited : IsUnlimited list form) where
-
   abbrev items : ℕ → S → Answer A → Answer (Listing V E)
   items k s x = then_read x (λ a. list_at list k (list.next s a) >>= λ y. give (listing (list.view a ∷ y.0) (y.1)))
 
@@ -65,7 +64,7 @@ module _ {S A V E : Type 0} (list : ListReading S A V E) (form : ListForm S A V 
       let goes_j : Reading (Listing V E) = list.item j s >>= λ a. (list_at list j (list.next s a) >>= λ x. give (listing (list.view a ∷ x.0) (x.1))) in
       ap (λ (turn : Turn). by_turn turn goes_k (stopping list s) text) (unlimited.turn_same k j s)
       ∙ same_turn (list.turn j s) text goes_k goes_j (stopping list s)
-        (items_same k j less s text (list.item k s text) hk hj refl ∙ ap (λ (x : Answer A). items j s x) (unlimited.item_same k j s text hk hj))
+      (items_same k j less s text (list.item k s text) hk hj refl ∙ ap (λ (x : Answer A). items j s x) (unlimited.item_same k j s text hk hj))
 
   -- more room than the text has characters makes no difference
   pub fuel_same : (k j : ℕ) → FuelSame k j
@@ -110,7 +109,6 @@ module _ {S A V E : Type 0} (list : ListReading S A V E) (form : ListForm S A V 
   any_more s x k is le = listed_more (suc is.0) (suc k) s (x.0) (x.1) (omega arith) is.1
 
   module _ (exact : IsExactList list form) (s : S) (ready : (k : ℕ) → form.IsReady (suc k) s) where
-
     part : (k : ℕ) → Exact (list_at list (suc k) s) (λ (x : Listing V E). IsListed list form (suc k) s (x.0) (x.1)) pieces
     part k = exact_list list form exact (suc k) s (ready k)
 
@@ -121,21 +119,40 @@ module _ {S A V E : Type 0} (list : ListReading S A V E) (form : ListForm S A V 
     all_wrong text left e =
         let p = (part (length text)).wrong_at text left e in
         record {
-          front = p.front; rest = p.rest; parts = p.parts; count = p.count; value = p.value; more = p.more; shaped = (length text, p.shaped); begins = p.begins;
+          front = p.front;
+          rest = p.rest;
+          parts = p.parts;
+          count = p.count;
+          value = p.value;
+          more = p.more;
+          shaped = (length text, p.shaped);
+          begins = p.begins;
           ends = λ v after other shaped start is.
-            let k : ℕ = length text + shaped.0 in
-            let q = (part k).wrong_at text left (fuel_same k (length text) s text (omega arith) (omega arith) ∙ e) in
-            let same = same_front p.front q.front p.rest q.rest (sym p.parts ∙ q.parts) (p.count ∙ sym q.count) in
-            let P : List ℕ → Type 0 = λ rest. SameStart rest other in
-            q.ends v after other (any_more s v k shaped (omega arith)) (subst P same.1 start) (is ∙ ap (λ (front : List ℕ). front ++ other) same.0);
+              let k : ℕ = length text + shaped.0 in
+              let q = (part k).wrong_at text left (fuel_same k (length text) s text (omega arith) (omega arith) ∙ e) in
+              let same = same_front p.front q.front p.rest q.rest (sym p.parts ∙ q.parts) (p.count ∙ sym q.count) in
+              let P : List ℕ → Type 0 = λ rest. SameStart rest other in
+              q.ends v after other (any_more s v k shaped (omega arith)) (subst P same.1 start) (is ∙ ap (λ (front : List ℕ). front ++ other) same.0);
         }
 
     all_outside : (text : List ℕ) (left : ℕ) → list_at list (suc (length text)) s text ≡ outside left → Outside (IsListedAt s) pieces text left
     all_outside text left e =
         let p = (part (length text)).outside_at text left e in
         record {
-          value = p.value; shaped = (length text, p.shaped); before = p.before; low = p.low; high = p.high; n = p.n; after = p.after; tail = p.tail;
-          split = p.split; within = p.within; beyond = p.beyond; parts = p.parts; past = p.past; count = p.count;
+          value = p.value;
+          shaped = (length text, p.shaped);
+          before = p.before;
+          low = p.low;
+          high = p.high;
+          n = p.n;
+          after = p.after;
+          tail = p.tail;
+          split = p.split;
+          within = p.within;
+          beyond = p.beyond;
+          parts = p.parts;
+          past = p.past;
+          count = p.count;
         }
 
     all_first_out : (text : List ℕ) (left : ℕ) → Outside (IsListedAt s) pieces text left → list_at list (suc (length text)) s text ≡ outside left
@@ -143,8 +160,20 @@ module _ {S A V E : Type 0} (list : ListReading S A V E) (form : ListForm S A V 
         let k : ℕ = length text + p.shaped.0 in
         fuel_same (length text) k s text (omega arith) (omega arith)
         ∙ (part k).first_out text left (record {
-          value = p.value; shaped = any_more s p.value k p.shaped (omega arith); before = p.before; low = p.low; high = p.high; n = p.n; after = p.after; tail = p.tail;
-          split = p.split; within = p.within; beyond = p.beyond; parts = p.parts; past = p.past; count = p.count;
+          value = p.value;
+          shaped = any_more s p.value k p.shaped (omega arith);
+          before = p.before;
+          low = p.low;
+          high = p.high;
+          n = p.n;
+          after = p.after;
+          tail = p.tail;
+          split = p.split;
+          within = p.within;
+          beyond = p.beyond;
+          parts = p.parts;
+          past = p.past;
+          count = p.count;
         })
 
     all_again : (v : Listing V E) (rest : List ℕ) → IsListedAt s v → AllWithin (pieces v) → list_at list (suc (length (spell (pieces v) ++ rest))) s (spell (pieces v) ++ rest) ≡ got v rest
@@ -155,12 +184,12 @@ module _ {S A V E : Type 0} (list : ListReading S A V E) (form : ListForm S A V 
     pub exact_all : Exact (all_at list s) (IsListedAt s) pieces
     unfolding all_at
     exact_all = record {
-        some = (part 0).some;
-        some_shaped = (0, (part 0).some_shaped);
-        apart = all_apart;
-        takes = λ text v rest e. let p = (part (length text)).takes text v rest e in record { shaped = (length text, p.shaped); within = p.within; parts = p.parts };
-        again = all_again;
-        wrong_at = all_wrong;
-        outside_at = all_outside;
-        first_out = all_first_out;
-      }
+      some = (part 0).some;
+      some_shaped = (0, (part 0).some_shaped);
+      apart = all_apart;
+      takes = λ text v rest e. let p = (part (length text)).takes text v rest e in record { shaped = (length text, p.shaped); within = p.within; parts = p.parts };
+      again = all_again;
+      wrong_at = all_wrong;
+      outside_at = all_outside;
+      first_out = all_first_out;
+    }

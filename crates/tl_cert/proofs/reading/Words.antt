@@ -52,9 +52,14 @@ WordAnswer w text (outside left) = ⊥
 further : (c : ℕ) (w text : List ℕ) (x : Answer (Unit {0})) → WordAnswer w text x → WordAnswer (c ∷ w) (c ∷ text) x
 further c w text (got v rest) a = ap (λ (t : List ℕ). c ∷ t) a
 further c w text (wrong left) a = record {
-    front = c ∷ a.front; rest = a.rest; more = a.more; parts = ap (λ (t : List ℕ). c ∷ t) a.parts; count = a.count; begins = ap (λ (t : List ℕ). c ∷ t) a.begins;
-    ends = λ after other same e. let tail : w ++ after ≡ a.front ++ other = cc in a.ends after other same tail;
-  }
+  front = c ∷ a.front;
+  rest = a.rest;
+  more = a.more;
+  parts = ap (λ (t : List ℕ). c ∷ t) a.parts;
+  count = a.count;
+  begins = ap (λ (t : List ℕ). c ∷ t) a.begins;
+  ends = λ after other same e. let tail : w ++ after ≡ a.front ++ other = cc in a.ends after other same tail;
+}
 further c w text (outside left) a = a
 
 at_end : (c : ℕ) (w after other : List ℕ) → SameStart [] other → (c ∷ w) ++ after ≡ other → ⊥
@@ -72,13 +77,13 @@ word_answer (c ∷ w) [] = record { front = []; rest = []; more = c ∷ w; parts
 word_answer (c ∷ w) (b ∷ text) =
     elim (cases_Bool (eqb b c)) [
       | inl hit ↦
-        let same : b ≡ c = eqb-true b c hit in
-        let P : ℕ → Type 0 = λ d. WordAnswer (c ∷ w) (d ∷ text) (word_at (c ∷ w) (d ∷ text)) in
-        let Q : Answer (Unit {0}) → Type 0 = WordAnswer (c ∷ w) (c ∷ text) in
-        subst P (sym same) (subst Q (sym (word_head c c w text refl)) (further c w text (word_at w text) (word_answer w text)))
+          let same : b ≡ c = eqb-true b c hit in
+          let P : ℕ → Type 0 = λ d. WordAnswer (c ∷ w) (d ∷ text) (word_at (c ∷ w) (d ∷ text)) in
+          let Q : Answer (Unit {0}) → Type 0 = WordAnswer (c ∷ w) (c ∷ text) in
+          subst P (sym same) (subst Q (sym (word_head c c w text refl)) (further c w text (word_at w text) (word_answer w text)))
       | inr miss ↦
-        let Q : Answer (Unit {0}) → Type 0 = WordAnswer (c ∷ w) (b ∷ text) in
-        subst Q (sym (word_ends b c w text (eqb-false b c miss)))
+          let Q : Answer (Unit {0}) → Type 0 = WordAnswer (c ∷ w) (b ∷ text) in
+          subst Q (sym (word_ends b c w text (eqb-false b c miss)))
           (record { front = []; rest = b ∷ text; more = c ∷ w; parts = refl; count = refl; begins = refl; ends = λ after other. at_other b c w text after other (eqb-false b c miss) })
     ]
 
@@ -88,34 +93,40 @@ IsAny v = Unit {0}
 
 pub exact_word : (w : List ℕ) → Exact (word_at w) IsAny (λ _. word w)
 exact_word w = record {
-    some = tt;
-    some_shaped = tt;
-    apart = λ v u t s _ _ e. (refl, append_cancel_left (spell (word w)) t s e);
-    takes = λ text v rest e.
+  some = tt;
+  some_shaped = tt;
+  apart = λ v u t s _ _ e. (refl, append_cancel_left (spell (word w)) t s e);
+  takes = λ text v rest e.
       let P : Answer (Unit {0}) → Type 0 = WordAnswer w text in
       record { shaped = tt; within = within-word w; parts = subst P e (word_answer w text) ∙ ap (λ (t : List ℕ). t ++ rest) (sym (spell-word w)) };
-    again = λ v rest _ _. ap (λ (t : List ℕ). word_at w (t ++ rest)) (spell-word w) ∙ word_again w rest;
-    wrong_at = λ text left e.
+  again = λ v rest _ _. ap (λ (t : List ℕ). word_at w (t ++ rest)) (spell-word w) ∙ word_again w rest;
+  wrong_at = λ text left e.
       let P : Answer (Unit {0}) → Type 0 = WordAnswer w text in
       let stuck : WordStuck w text left = subst P e (word_answer w text) in
       record {
-        front = stuck.front; rest = stuck.rest; parts = stuck.parts; count = stuck.count; value = tt; more = stuck.more; shaped = tt;
+        front = stuck.front;
+        rest = stuck.rest;
+        parts = stuck.parts;
+        count = stuck.count;
+        value = tt;
+        more = stuck.more;
+        shaped = tt;
         begins = spell-word w ∙ stuck.begins;
         ends = λ v after other _ same e. stuck.ends after other same (ap (λ (t : List ℕ). t ++ after) (sym (spell-word w)) ∙ e);
       };
-    outside_at = λ text left e. let P : Answer (Unit {0}) → Type 0 = WordAnswer w text in absurd (subst P e (word_answer w text));
-    first_out = λ text left out. absurd (no_number w out.before out.after out.low out.high out.n out.split);
-  }
+  outside_at = λ text left e. let P : Answer (Unit {0}) → Type 0 = WordAnswer w text in absurd (subst P e (word_answer w text));
+  first_out = λ text left out. absurd (no_number w out.before out.after out.low out.high out.n out.split);
+}
 
 pub exact_give : {A : Type 0} (a : A) → Exact (give a) (λ v. v ≡ a) (λ _. [])
 unfolding give
 exact_give a = record {
-    some = a;
-    some_shaped = refl;
-    apart = λ v w t u one two e. (one ∙ sym two, e);
-    takes = λ text v rest e. record { shaped = cc; within = tt; parts = cc };
-    again = λ v rest same _. ap (λ x. got x rest) (sym same);
-    wrong_at = λ text left e. absurd cc;
-    outside_at = λ text left e. absurd cc;
-    first_out = λ text left out. absurd (no_number [] out.before out.after out.low out.high out.n out.split);
-  }
+  some = a;
+  some_shaped = refl;
+  apart = λ v w t u one two e. (one ∙ sym two, e);
+  takes = λ text v rest e. record { shaped = cc; within = tt; parts = cc };
+  again = λ v rest same _. ap (λ x. got x rest) (sym same);
+  wrong_at = λ text left e. absurd cc;
+  outside_at = λ text left e. absurd cc;
+  first_out = λ text left out. absurd (no_number [] out.before out.after out.low out.high out.n out.split);
+}

@@ -54,19 +54,19 @@ sign_no_digit before n e is = elim (sign_is before n e is) [ inl minus ↦ ap is
 
 pub span_rule : (before : Option Bound) → IsRule (may_follow before) (is_sign before)
 span_rule None = record {
-    some_end = λ n can. (45, refl);
-    no_end = λ n e cannot is. absurd cc;
-    not_digit = sign_no_digit None;
-    longer = λ n positive. (n, [], refl, sym (append-nil (numeral n)));
-  }
+  some_end = λ n can. (45, refl);
+  no_end = λ n e cannot is. absurd cc;
+  not_digit = sign_no_digit None;
+  longer = λ n positive. (n, [], refl, sym (append-nil (numeral n)));
+}
 span_rule (Some b) = record {
-    some_end = λ n can. (43, can_sign (ltb b.span n) (eqb b.span n) (eqb (side_sign b.side) 45) can);
-    no_end = λ n e cannot is. cannot_sign (eqb e 45 || eqb e 43) (ltb b.span n) (eqb b.span n) (eqb (side_sign b.side) 45) (eqb e 43) cannot is;
-    not_digit = sign_no_digit (Some b);
-    longer = λ n positive.
+  some_end = λ n can. (43, can_sign (ltb b.span n) (eqb b.span n) (eqb (side_sign b.side) 45) can);
+  no_end = λ n e cannot is. cannot_sign (eqb e 45 || eqb e 43) (ltb b.span n) (eqb b.span n) (eqb (side_sign b.side) 45) (eqb e 43) cannot is;
+  not_digit = sign_no_digit (Some b);
+  longer = λ n positive.
       let p = numeral_longer (suc b.span) n positive in
       (p.0, p.1, or_left (ltb b.span p.0) (eqb b.span p.0 && eqb (side_sign b.side) 45) (lt-ltb b.span p.0 (omega (arith, p.2))), p.4);
-  }
+}
 
 -- the bound may follow
 abbrev pub follows : Option Bound → Bound → Bool
@@ -119,11 +119,11 @@ exact_bound : (before : Option Bound) → Exact (bound_at before) (λ b. follows
 unfolding bound_at
 exact_bound before =
     exact_part_then signed (λ b. follows before b ≡ true) bounded (λ x b. field 0 MAX_PAGE_WIDTH b.width space) (exact_number 0 MAX_SPAN (span_rule before))
-      (λ x sign. exact_part_then (λ (b : Bound). b.width) (λ b. (follows before b ≡ true) × (signed b ≡ x)) (λ b. field 0 MAX_PAGE_WIDTH b.width space) (λ w b. []) (exact_field 0 MAX_PAGE_WIDTH space refl)
-        (λ width any. exact_only (bound_of x width) (λ b. ((follows before b ≡ true) × (signed b ≡ x)) × (b.width ≡ width))
-          ((sign_follows before x width sign, signed_again before x width sign), refl) (λ b is. bound_again b x width is.0.1 is.1))
-        (λ b is. (tt, refl)))
-      (λ b is. (follows_sign before b is, refl))
+    (λ x sign. exact_part_then (λ (b : Bound). b.width) (λ b. (follows before b ≡ true) × (signed b ≡ x)) (λ b. field 0 MAX_PAGE_WIDTH b.width space) (λ w b. []) (exact_field 0 MAX_PAGE_WIDTH space refl)
+    (λ width any. exact_only (bound_of x width) (λ b. ((follows before b ≡ true) × (signed b ≡ x)) × (b.width ≡ width))
+    ((sign_follows before x width sign, signed_again before x width sign), refl) (λ b is. bound_again b x width is.0.1 is.1))
+    (λ b is. (tt, refl)))
+    (λ b is. (follows_sign before b is, refl))
 
 -- ---- the list of them
 
@@ -138,8 +138,13 @@ IsBegun (suc k) before = Unit {0}
 
 abbrev bounds_form : Areas → ListForm (Option Bound) Bound Bound (Listing ℕ End)
 bounds_form areas = record {
-    IsItem = λ k before b. follows before b ≡ true; item_pieces = bounded; IsStop = λ k before x. IsPast areas before x; stop_pieces = fires_pieces; lift = λ b bs. b; IsReady = IsBegun;
-  }
+  IsItem = λ k before b. follows before b ≡ true;
+  item_pieces = bounded;
+  IsStop = λ k before x. IsPast areas before x;
+  stop_pieces = fires_pieces;
+  lift = λ b bs. b;
+  IsReady = IsBegun;
+}
 
 digit_first : (n : ℕ) (t : List ℕ) → begins is_ascii_digit (numeral n ++ t) ≡ true
 digit_first n t = let p = numeral_first n in ap (λ (ds : List ℕ). begins is_ascii_digit (ds ++ t)) p.2 ∙ p.3
@@ -160,23 +165,28 @@ fires_no_digit (n ∷ ns) e t = refl
 
 bounds_exact : (areas : Areas) → IsExactList (bounds_reading areas) (bounds_form areas)
 bounds_exact areas = record {
-    at_end = at_end;
-    turns = turns;
-    ready = λ k before b ready is. begun k b;
-    lifted = λ k before b bs x is listed. refl;
-  }
+  at_end = at_end;
+  turns = turns;
+  ready = λ k before b ready is. begun k b;
+  lifted = λ k before b bs x is listed. refl;
+}
   where
     begun : (k : ℕ) (b : Bound) → IsBegun k (Some b)
     begun zero b = tt
     begun (suc k) b = tt
+
     at_end : (before : Option Bound) → IsBegun zero before → Exact (fires_at areas) (IsPast areas before) fires_pieces
     at_end None ready = absurd ready
     at_end (Some before) ready = exact_fires areas
+
     turns : (k : ℕ) (before : Option Bound) → IsBegun (suc k) before → Turns (bounds_reading areas) (bounds_form areas) ((bounds_reading areas).turn k before) k before
     turns k None ready = record { item = exact_bound None; no_stop = λ x is. is }
     turns k (Some before) ready = record {
-        item = exact_bound (Some before); stop = exact_fires areas; item_begins = λ b t is. bound_first b t; stop_begins = λ x t is. fires_no_digit (x.0) (x.1) t;
-      }
+      item = exact_bound (Some before);
+      stop = exact_fires areas;
+      item_begins = λ b t is. bound_first b t;
+      stop_begins = λ x t is. fires_no_digit (x.0) (x.1) t;
+    }
 
 -- what was read after the first bound
 later_to : (areas : Areas) (k : ℕ) (before : Bound) (bs : List Bound) (x : Listing ℕ End) → IsListed (bounds_reading areas) (bounds_form areas) k (Some before) bs x
@@ -217,4 +227,4 @@ bounds_same areas (b ∷ bs) x = ap (λ (ps : List Piece). bounded b ++ ps) (bou
 pub exact_bounds : (areas : Areas) → Exact (bounds_at areas) (AreBoundsAndFires areas) bounds_text
 exact_bounds areas =
     exact_same (AreBoundsAndFires areas) bounds_text (exact_list (bounds_reading areas) (bounds_form areas) (bounds_exact areas) MAX_BOUNDS None tt)
-      (λ x is. bounds_to areas (x.0) (x.1) is) (λ x is. bounds_from areas (x.0) (x.1) is) (λ x is. bounds_same areas (x.0) (x.1))
+    (λ x is. bounds_to areas (x.0) (x.1) is) (λ x is. bounds_from areas (x.0) (x.1) is) (λ x is. bounds_same areas (x.0) (x.1))

@@ -37,19 +37,19 @@ chain_text : (entries : List Entry) (table : ℕ) → 1 ≤ length entries
 chain_text [] table some = absurd (omega arith)
 chain_text (e ∷ entries) table some =
     ap (λ (ps : List Piece). number 0 MAX_TABLE table ∷ ps)
-      (items_text AnyEntry entry_pieces (λ k more. entry_at true) e entries tt [] ∙ ap (λ (ps : List Piece). character space ∷ ps) (append-nil (entries_read (listing (e ∷ entries) tt))))
+    (items_text AnyEntry entry_pieces (λ k more. entry_at true) e entries tt [] ∙ ap (λ (ps : List Piece). character space ∷ ps) (append-nil (entries_read (listing (e ∷ entries) tt))))
 
 exact_chain : Exact chain_at IsChain chain_pieces
 unfolding chain_at
 exact_chain =
     exact_after (codes "chain ") after_word chain_pieces
-      (exact_part_then (λ (chain : Chain). chain.table) IsChain after_word (λ table chain. entries_read (entries_of chain)) (exact_field 0 MAX_TABLE space refl)
-        (λ table any. exact_part_then entries_of (λ chain. IsChain chain × (chain.table ≡ table)) (λ chain. entries_read (entries_of chain)) (λ x chain. []) exact_entries
-          (λ x some. exact_only (record { table = table; entries = x.0 }) (λ chain. (IsChain chain × (chain.table ≡ table)) × (entries_of chain ≡ x)) ((some, refl), refl)
-            (λ chain is. chain_again chain table x is.0.1 is.1))
-          (λ chain is. (is.0, sym (append-nil (entries_read (entries_of chain))))))
-        (λ chain is. (tt, refl)))
-      (λ chain some. ap (λ (ps : List Piece). word (codes "chain ") ++ ps) (chain_text chain.entries chain.table some))
+    (exact_part_then (λ (chain : Chain). chain.table) IsChain after_word (λ table chain. entries_read (entries_of chain)) (exact_field 0 MAX_TABLE space refl)
+    (λ table any. exact_part_then entries_of (λ chain. IsChain chain × (chain.table ≡ table)) (λ chain. entries_read (entries_of chain)) (λ x chain. []) exact_entries
+    (λ x some. exact_only (record { table = table; entries = x.0 }) (λ chain. (IsChain chain × (chain.table ≡ table)) × (entries_of chain ≡ x)) ((some, refl), refl)
+    (λ chain is. chain_again chain table x is.0.1 is.1))
+    (λ chain is. (is.0, sym (append-nil (entries_read (entries_of chain))))))
+    (λ chain is. (tt, refl)))
+    (λ chain some. ap (λ (ps : List Piece). word (codes "chain ") ++ ps) (chain_text chain.entries chain.table some))
   where
     chain_again : (chain : Chain) (table : ℕ) (x : Listing Entry (Unit {0})) → chain.table ≡ table → entries_of chain ≡ x → chain ≡ record { table = table; entries = x.0 }
     chain_again chain table x a b =
@@ -78,15 +78,16 @@ exact_end_line IsEnd is = exact_same (λ (e : Unit {0}). IsEnd) (λ e. end_line)
 
 chains_exact : IsExactList chains_reading chains_form
 chains_exact = record {
-    at_end = λ first ready. exact_end_line (IsLater first) ready;
-    turns = λ k first ready. turns k first;
-    ready = later;
-    lifted = λ k first chain chains e is listed. refl;
-  }
+  at_end = λ first ready. exact_end_line (IsLater first) ready;
+  turns = λ k first ready. turns k first;
+  ready = later;
+  lifted = λ k first chain chains e is listed. refl;
+}
   where
     turns : (k : ℕ) (first : Bool) → Turns chains_reading chains_form (chains_turn first) k first
     turns k true = record { item = exact_chain; no_stop = λ e is. is }
     turns k false = record { item = exact_chain; stop = exact_end_line (Unit {0}) tt; item_begins = λ chain t is. refl; stop_begins = λ e t is. refl }
+
     later : (k : ℕ) (first : Bool) (chain : Chain) → IsReadyFor (suc k) first → IsChain chain → IsReadyFor k false
     later zero first chain ready is = tt
     later (suc k) first chain ready is = tt
@@ -96,14 +97,14 @@ chain_shorter = shorter_by exact_chain (λ chain. omega arith)
 
 pub chains_unlimited : IsUnlimited chains_reading chains_form
 chains_unlimited = record {
-    turn_same = λ k j first. refl;
-    item_same = λ k j first text hk hj. refl;
-    shorter = λ k first text chain rest is. chain_shorter text chain rest is;
-    item_more = λ k j first chain le is. is;
-    item_fits = λ k first chain chains is. is;
-    stop_any = λ k j first e is. is;
-    item_text = λ chain. omega arith;
-  }
+  turn_same = λ k j first. refl;
+  item_same = λ k j first text hk hj. refl;
+  shorter = λ k first text chain rest is. chain_shorter text chain rest is;
+  item_more = λ k j first chain le is. is;
+  item_fits = λ k first chain chains is. is;
+  stop_any = λ k j first e is. is;
+  item_text = λ chain. omega arith;
+}
 
 -- at least one chain, each with an entry
 pub record AreChains (x : Listing Chain (Unit {0})) : Type 0 where
@@ -138,6 +139,6 @@ chains_text (chain ∷ chains) e =
 pub exact_chains : Exact chains_at AreChains chains_pieces
 exact_chains =
     exact_same AreChains chains_pieces (exact_all chains_reading chains_form chains_unlimited chains_exact true (λ k. tt))
-      (λ x is. let p = chains_to (suc is.0) true (x.0) (x.1) is.1 in record { some = p.1 refl; each = p.0 })
-      (λ x is. (length (x.0), chains_from (suc (length (x.0))) true (x.0) (x.1) (omega arith) is.each (λ begun. is.some)))
-      (λ x is. chains_text (x.0) (x.1))
+    (λ x is. let p = chains_to (suc is.0) true (x.0) (x.1) is.1 in record { some = p.1 refl; each = p.0 })
+    (λ x is. (length (x.0), chains_from (suc (length (x.0))) true (x.0) (x.1) (omega arith) is.each (λ begun. is.some)))
+    (λ x is. chains_text (x.0) (x.1))

@@ -137,8 +137,13 @@ exact_fire = exact_after (codes "@") (λ n. field 0 MAX_LINE n space) fired (exa
 
 abbrev fires_form : Areas → ListForm (Unit {0}) ℕ ℕ End
 fires_form areas = record {
-    IsItem = λ k s n. IsAny n; item_pieces = fired; IsStop = λ k s e. Suits areas (is_area e); stop_pieces = end_pieces; lift = λ n ns. n; IsReady = λ k s. Unit {0};
-  }
+  IsItem = λ k s n. IsAny n;
+  item_pieces = fired;
+  IsStop = λ k s e. Suits areas (is_area e);
+  stop_pieces = end_pieces;
+  lift = λ n ns. n;
+  IsReady = λ k s. Unit {0};
+}
 
 end_no : (e : End) (t : List ℕ) → begins (λ c. eqb c 64) (spell (end_pieces e) ++ t) ≡ false
 end_no Area t = refl
@@ -148,11 +153,11 @@ end_no Chain t = refl
 
 fires_exact : (areas : Areas) → IsExactList (fires_reading areas) (fires_form areas)
 fires_exact areas = record {
-    at_end = λ s ready. exact_end areas;
-    turns = λ k s ready. record { item = exact_fire; stop = exact_end areas; item_begins = λ n t is. refl; stop_begins = λ e t is. end_no e t };
-    ready = λ k s n ready is. tt;
-    lifted = λ k s n ns e is listed. refl;
-  }
+  at_end = λ s ready. exact_end areas;
+  turns = λ k s ready. record { item = exact_fire; stop = exact_end areas; item_begins = λ n t is. refl; stop_begins = λ e t is. end_no e t };
+  ready = λ k s n ready is. tt;
+  lifted = λ k s n ns e is listed. refl;
+}
 
 -- at most 8 lines that are fired, and an end as it is asked
 pub record AreFires (areas : Areas) (x : Listing ℕ End) : Type 0 where
@@ -181,6 +186,6 @@ fires_text areas (n ∷ ns) e = ap (λ (ps : List Piece). fired n ++ ps) (fires_
 pub exact_fires : (areas : Areas) → Exact (fires_at areas) (AreFires areas) fires_pieces
 exact_fires areas =
     exact_same (AreFires areas) fires_pieces (exact_list (fires_reading areas) (fires_form areas) (fires_exact areas) MAX_FIRES tt tt)
-      (λ x is. let p = fires_to areas MAX_FIRES (x.0) (x.1) is in record { most = p.0; end = p.1 })
-      (λ x is. fires_from areas MAX_FIRES (x.0) (x.1) is.most is.end)
-      (λ x is. fires_text areas (x.0) (x.1))
+    (λ x is. let p = fires_to areas MAX_FIRES (x.0) (x.1) is in record { most = p.0; end = p.1 })
+    (λ x is. fires_from areas MAX_FIRES (x.0) (x.1) is.most is.end)
+    (λ x is. fires_text areas (x.0) (x.1))

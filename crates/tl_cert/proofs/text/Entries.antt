@@ -99,7 +99,6 @@ inner_none None more c same differ = (refl, same)
 inner_none (Some table) more c same differ = absurd (differ (sym same))
 
 module _ (more : Bool) (x : ℕ × ℕ) (allowed : (eqb (x.1) 58 || ends_item more (x.1)) ≡ true) where
-
   abbrev IsRest : Entry × Bool → Type 0
   IsRest a = IsFlagged more a × (first_part a ≡ x)
 
@@ -116,22 +115,23 @@ module _ (more : Bool) (x : ℕ × ℕ) (allowed : (eqb (x.1) 58 || ends_item mo
   exact_some : x.1 ≡ 58 → Exact (number_at 0 MAX_TABLE (λ n. true) (λ n d. ends_item more d) >>= λ y. give (flag (record { cell = x.0; inner = Some (y.0) }) (eqb (y.1) space))) IsRest entry_rest
   exact_some c-is =
       exact_made (λ (y : ℕ × ℕ). flag (record { cell = x.0; inner = Some (y.0) }) (eqb (y.1) space)) (λ (a : Entry × Bool). pair (table_of (a.0.inner)) (end_of (a.1))) IsRest entry_rest
-        (exact_number 0 MAX_TABLE (item_rule more))
-        (λ a is. some_again a c-is is)
-        (λ y is.
-          let p = end_is more (y.1) is in
-          (((tt, p.1), ap (pair (x.0)) (sym c-is)), ap (λ (c : ℕ). number 0 MAX_TABLE (y.0) ∷ character c ∷ []) (sym p.0)))
+      (exact_number 0 MAX_TABLE (item_rule more))
+      (λ a is. some_again a c-is is)
+      (λ y is.
+      let p = end_is more (y.1) is in
+      (((tt, p.1), ap (pair (x.0)) (sym c-is)), ap (λ (c : ℕ). number 0 MAX_TABLE (y.0) ∷ character c ∷ []) (sym p.0)))
 
   exact_none : (x.1 ≡ 58 → ⊥) → Exact (give (flag (record { cell = x.0; inner = None }) (eqb (x.1) space))) IsRest entry_rest
   exact_none differ =
       let ends : ends_item more (x.1) ≡ true = end_only in
       let p = end_is more (x.1) ends in
       exact_same IsRest entry_rest
-        (exact_only (flag (record { cell = x.0; inner = None }) (eqb (x.1) space)) IsRest ((tt, p.1), ap (pair (x.0)) (sym p.0)) none_again)
-        (λ a is. is) (λ a is. is) (λ a is. nothing a is)
+      (exact_only (flag (record { cell = x.0; inner = None }) (eqb (x.1) space)) IsRest ((tt, p.1), ap (pair (x.0)) (sym p.0)) none_again)
+      (λ a is. is) (λ a is. is) (λ a is. nothing a is)
     where
       end_only : ends_item more (x.1) ≡ true
       end_only = elim (or_cases (eqb (x.1) 58) (ends_item more (x.1)) allowed) [ inl colon ↦ absurd (differ (eqb-true (x.1) 58 colon)) | inr end ↦ end ]
+
       none_again : (a : Entry × Bool) → IsRest a → a ≡ flag (record { cell = x.0; inner = None }) (eqb (x.1) space)
       none_again a is =
           let cell : a.0.cell ≡ x.0 = ap (λ (p : ℕ × ℕ). p.0) is.1 in
@@ -141,6 +141,7 @@ module _ (more : Bool) (x : ℕ × ℕ) (allowed : (eqb (x.1) 58 || ends_item mo
           let Q : Option ℕ → Entry × Bool = λ o. flag (record { cell = x.0; inner = o }) (a.1) in
           let R : Bool → Entry × Bool = λ b. flag (record { cell = x.0; inner = None }) b in
           ap P cell ∙ ap Q q.0 ∙ ap R (sym (space_again (a.1)) ∙ ap (λ (c : ℕ). eqb c space) q.1)
+
       nothing : (a : Entry × Bool) → IsRest a → [] ≡ entry_rest a
       nothing a is =
           let end : cell_end (a.0.inner) (a.1) ≡ x.1 = ap (λ (p : ℕ × ℕ). p.1) is.1 in
@@ -154,8 +155,8 @@ exact_entry : (more : Bool) → Exact (entry_at more) (IsFlagged more) (item_pie
 unfolding entry_at
 exact_entry more =
     exact_part_then first_part (IsFlagged more) (item_pieces AnyEntry entry_pieces) (λ x a. entry_rest a) (exact_number 0 MAX_CELLS (entry_rule more))
-      (λ x allowed. exact_inner more x allowed)
-      (λ a is. (colon_or_end more (a.0.inner) (a.1) is.1, entry_text (a.0.inner) (a.0.cell) (a.1)))
+    (λ x allowed. exact_inner more x allowed)
+    (λ a is. (colon_or_end more (a.0.inner) (a.1) is.1, entry_text (a.0.inner) (a.0.cell) (a.1)))
 
 -- ---- as many as there are
 
@@ -183,18 +184,19 @@ entry_same k (c ∷ text) most = ap (λ (more : Bool). entry_at more (c ∷ text
 
 pub entries_unlimited : IsUnlimited entries_reading entries_form
 entries_unlimited = record {
-    turn_same = λ k j more. refl;
-    item_same = λ k j more text hk hj. entry_same k text hk ∙ sym (entry_same j text hj);
-    shorter = λ k more text a rest is. shorter_by (exact_entry (ltb 0 k)) entry_length text a rest is;
-    item_more = item_more;
-    item_fits = item_fits;
-    stop_any = λ k j more e is. is;
-    item_text = entry_length;
-  }
+  turn_same = λ k j more. refl;
+  item_same = λ k j more text hk hj. entry_same k text hk ∙ sym (entry_same j text hj);
+  shorter = λ k more text a rest is. shorter_by (exact_entry (ltb 0 k)) entry_length text a rest is;
+  item_more = item_more;
+  item_fits = item_fits;
+  stop_any = λ k j more e is. is;
+  item_text = entry_length;
+}
   where
     item_more : (k j : ℕ) (more : Bool) (a : Entry × Bool) → k ≤ j → entries_form.IsItem k more a → entries_form.IsItem j more a
     item_more k j true a le is = (tt, λ goes_on. lt-ltb 0 j (omega (arith, ltb-true 0 k (is.1 goes_on))))
     item_more k j false a le is = is
+
     item_fits : (k : ℕ) (more : Bool) (v : Entry) (vs : List Entry) → entries_form.IsItem k more (entries_form.lift v vs) → entries_form.IsItem (length vs) more (entries_form.lift v vs)
     item_fits k true v [] is = (tt, λ goes_on. absurd cc)
     item_fits k true v (w ∷ vs) is = (tt, λ goes_on. lt-ltb 0 (length (w ∷ vs)) (omega arith))
@@ -210,6 +212,6 @@ entries_read x = list_pieces entries_form (x.0) (x.1)
 pub exact_entries : Exact entries_at (λ x. 1 ≤ length (x.0)) entries_read
 exact_entries =
     exact_same (λ (x : Listing Entry (Unit {0})). 1 ≤ length (x.0)) entries_read (exact_all entries_reading entries_form entries_unlimited entries_exact true (λ k. tt))
-      (λ x is. let p = items_to AnyEntry entry_pieces entry_item (suc is.0) (x.0) (x.1) is.1 in p.0)
-      (λ x some. (length (x.0), items_from AnyEntry entry_pieces entry_item (suc (length (x.0))) (x.0) (x.1) some (omega arith) (any_entries (x.0))))
-      (λ x is. refl)
+    (λ x is. let p = items_to AnyEntry entry_pieces entry_item (suc is.0) (x.0) (x.1) is.1 in p.0)
+    (λ x some. (length (x.0), items_from AnyEntry entry_pieces entry_item (suc (length (x.0))) (x.0) (x.1) some (omega arith) (any_entries (x.0))))
+    (λ x is. refl)

@@ -43,18 +43,18 @@ exact_sign {C} w value pieces text = exact_after w (λ _. []) pieces (exact_give
 -- the character is the only one that ends the number
 pub one_end : (end : ℕ) → is_ascii_digit end ≡ false → IsRule (λ n. true) (λ n c. eqb c end)
 one_end end other = record {
-    some_end = λ n can. (end, eq-eqb end end refl);
-    no_end = λ n e cannot ends. absurd cc;
-    not_digit = λ n e ends. ap is_ascii_digit (eqb-true e end ends) ∙ other;
-    longer = λ n positive. (n, [], refl, sym (append-nil _));
-  }
+  some_end = λ n can. (end, eq-eqb end end refl);
+  no_end = λ n e cannot ends. absurd cc;
+  not_digit = λ n e ends. ap is_ascii_digit (eqb-true e end ends) ∙ other;
+  longer = λ n positive. (n, [], refl, sym (append-nil _));
+}
 
 pub exact_field : (low high end : ℕ) → is_ascii_digit end ≡ false → Exact (field_at low high end) IsAny (λ n. field low high n end)
 unfolding field_at
 exact_field low high end other =
     exact_made (λ (x : ℕ × ℕ). x.0) (λ n. (n, end)) IsAny (λ n. field low high n end) (exact_number low high (one_end end other))
-      (λ n is. (eq-eqb end end refl, refl))
-      (λ x is. (tt, ap (λ (c : ℕ). number low high x.0 ∷ character c ∷ []) (sym (eqb-true x.1 end is))))
+    (λ n is. (eq-eqb end end refl, refl))
+    (λ x is. (tt, ap (λ (c : ℕ). number low high x.0 ∷ character c ∷ []) (sym (eqb-true x.1 end is))))
 
 -- Any part of a value, and then the others.
 pub exact_part_then : {A C : Type 0} {read : Reading A} {IsFirst : A → Type 0} {first_pieces : A → List Piece} (part : C → A) {next : A → Reading C} (IsShaped : C → Type 0)
@@ -78,5 +78,5 @@ pub shifted : {X : Type 0} (f : X → List Piece) (sep : Piece) (xs : List X) (t
 shifted f sep [] t = refl
 shifted f sep (x ∷ xs) t =
     ap (λ (ps : List Piece). sep ∷ ps)
-      (append_assoc (f x) (flat_map (λ y. sep ∷ f y) xs) (sep ∷ t) ∙ ap (λ (ps : List Piece). f x ++ ps) (shifted f sep xs t)
-      ∙ sym (append_assoc (f x ++ (sep ∷ [])) (flat_map (λ y. f y ++ (sep ∷ [])) xs) t ∙ append_assoc (f x) (sep ∷ []) (flat_map (λ y. f y ++ (sep ∷ [])) xs ++ t)))
+    (append_assoc (f x) (flat_map (λ y. sep ∷ f y) xs) (sep ∷ t) ∙ ap (λ (ps : List Piece). f x ++ ps) (shifted f sep xs t)
+    ∙ sym (append_assoc (f x ++ (sep ∷ [])) (flat_map (λ y. f y ++ (sep ∷ [])) xs) t ∙ append_assoc (f x) (sep ∷ []) (flat_map (λ y. f y ++ (sep ∷ [])) xs ++ t)))

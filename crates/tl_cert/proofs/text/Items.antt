@@ -29,23 +29,23 @@ pub end_is : (more : Bool) (c : ℕ) → ends_item more c ≡ true → (c ≡ en
 end_is more c ends =
     elim (or_cases (eqb c line_feed) (more && eqb c space) ends) [
       | inl feed ↦
-        let c-is : c ≡ 10 = eqb-true c 10 feed in
-        (c-is ∙ ap (λ (k : ℕ). end_of (eqb k space)) (sym c-is), λ spaced. absurd (omega (arith, eqb-true c 32 spaced)))
+          let c-is : c ≡ 10 = eqb-true c 10 feed in
+          (c-is ∙ ap (λ (k : ℕ). end_of (eqb k space)) (sym c-is), λ spaced. absurd (omega (arith, eqb-true c 32 spaced)))
       | inr spaced ↦
-        let p = and_parts more (eqb c space) spaced in
-        (eqb-true c 32 p.1 ∙ ap end_of (sym p.1), λ _. p.0)
+          let p = and_parts more (eqb c space) spaced in
+          (eqb-true c 32 p.1 ∙ ap end_of (sym p.1), λ _. p.0)
     ]
 
 pub item_rule : (more : Bool) → IsRule (λ n. true) (λ n c. ends_item more c)
 item_rule more = record {
-    some_end = λ n can. (10, refl);
-    no_end = λ n e cannot ends. absurd cc;
-    not_digit = λ n e ends. elim (or_cases (eqb e line_feed) (more && eqb e space) ends) [
-      | inl feed ↦ ap is_ascii_digit (eqb-true e 10 feed)
-      | inr spaced ↦ ap is_ascii_digit (eqb-true e 32 ((and_parts more (eqb e space) spaced).1))
-    ];
-    longer = λ n positive. (n, [], refl, sym (append-nil (numeral n)));
-  }
+  some_end = λ n can. (10, refl);
+  no_end = λ n e cannot ends. absurd cc;
+  not_digit = λ n e ends. elim (or_cases (eqb e line_feed) (more && eqb e space) ends) [
+    | inl feed ↦ ap is_ascii_digit (eqb-true e 10 feed)
+    | inr spaced ↦ ap is_ascii_digit (eqb-true e 32 ((and_parts more (eqb e space) spaced).1))
+  ];
+  longer = λ n positive. (n, [], refl, sym (append-nil (numeral n)));
+}
 
 -- ---- the list
 
@@ -54,7 +54,6 @@ any_left [] = false
 any_left (v ∷ vs) = true
 
 module _ {V : Type 0} (IsOne : V → Type 0) (one_pieces : V → List Piece) where
-
   abbrev pub flagged : V → Bool → V × Bool
   flagged v more = (v, more)
 
@@ -75,27 +74,33 @@ module _ {V : Type 0} (IsOne : V → Type 0) (one_pieces : V → List Piece) whe
 
   abbrev pub items_form : ListForm Bool (V × Bool) V (Unit {0})
   items_form = record {
-      IsItem = IsItemOf; item_pieces = item_pieces; IsStop = λ k more e. IsLast more; stop_pieces = λ e. []; lift = λ v vs. flagged v (any_left vs); IsReady = IsReadyFor;
-    }
+    IsItem = IsItemOf;
+    item_pieces = item_pieces;
+    IsStop = λ k more e. IsLast more;
+    stop_pieces = λ e. [];
+    lift = λ v vs. flagged v (any_left vs);
+    IsReady = IsReadyFor;
+  }
 
   module _ (item : ℕ → Bool → Reading (V × Bool)) where
-
     abbrev pub items_reading : ListReading Bool (V × Bool) V (Unit {0})
     items_reading = record { turn = λ k more. more_turn more; item = item; next = λ more a. a.1; view = λ a. a.0; stop = λ more. give tt }
 
     pub items_exact : ((k : ℕ) → Exact (item k true) (λ a. IsOne (a.0) × (a.1 ≡ true → ltb 0 k ≡ true)) item_pieces) → IsExactList items_reading items_form
     items_exact exact_item = record {
-        at_end = at_end;
-        turns = turns;
-        ready = later;
-        lifted = lifted;
-      }
+      at_end = at_end;
+      turns = turns;
+      ready = later;
+      lifted = lifted;
+    }
       where
         at_end : (more : Bool) → IsReadyFor zero more → Exact (give tt) (λ (e : Unit {0}). IsLast more) (λ e. [])
         at_end more ready = exact_only tt (λ (e : Unit {0}). IsLast more) ready (λ e is. refl)
+
         turns : (k : ℕ) (more : Bool) → IsReadyFor (suc k) more → Turns items_reading items_form (more_turn more) k more
         turns k true ready = record { item = exact_item k; no_stop = λ e is. is }
         turns k false ready = record { stop = exact_only tt (λ (e : Unit {0}). Unit {0}) tt (λ e is. refl); no_item = λ a is. is }
+
         later : (k : ℕ) (more : Bool) (a : V × Bool) → IsReadyFor (suc k) more → IsItemOf k more a → IsReadyFor k (a.1)
         later zero true a ready is = last (a.1) is.1
           where
@@ -104,6 +109,7 @@ module _ {V : Type 0} (IsOne : V → Type 0) (one_pieces : V → List Piece) whe
             last false may = tt
         later zero false a ready is = absurd is
         later (suc k) more a ready is = tt
+
         lifted : (k : ℕ) (more : Bool) (a : V × Bool) (vs : List V) (e : Unit {0}) → IsItemOf k more a → IsListed items_reading items_form k (a.1) vs e → flagged (a.0) (any_left vs) ≡ a
         lifted k more a vs e is listed = ap (flagged (a.0)) (left k (a.1) vs e listed)
           where
@@ -144,10 +150,10 @@ module _ {V : Type 0} (IsOne : V → Type 0) (one_pieces : V → List Piece) whe
         → flat_map (λ u. character space ∷ one_pieces u) (v ∷ vs) ++ (character line_feed ∷ t) ≡ character space ∷ (list_pieces items_form (v ∷ vs) e ++ t)
     items_text v [] e t =
         ap (λ (ps : List Piece). character space ∷ ps)
-          (append_assoc (one_pieces v) [] (character line_feed ∷ t)
-          ∙ sym (append_assoc (one_pieces v ++ (character line_feed ∷ [])) [] t ∙ append_assoc (one_pieces v) (character line_feed ∷ []) t))
+        (append_assoc (one_pieces v) [] (character line_feed ∷ t)
+        ∙ sym (append_assoc (one_pieces v ++ (character line_feed ∷ [])) [] t ∙ append_assoc (one_pieces v) (character line_feed ∷ []) t))
     items_text v (w ∷ vs) e t =
         ap (λ (ps : List Piece). character space ∷ ps)
-          (append_assoc (one_pieces v) (flat_map (λ u. character space ∷ one_pieces u) (w ∷ vs)) (character line_feed ∷ t)
-          ∙ ap (λ (ps : List Piece). one_pieces v ++ ps) (items_text w vs e t)
-          ∙ sym (append_assoc (one_pieces v ++ (character space ∷ [])) (list_pieces items_form (w ∷ vs) e) t ∙ append_assoc (one_pieces v) (character space ∷ []) (list_pieces items_form (w ∷ vs) e ++ t)))
+        (append_assoc (one_pieces v) (flat_map (λ u. character space ∷ one_pieces u) (w ∷ vs)) (character line_feed ∷ t)
+        ∙ ap (λ (ps : List Piece). one_pieces v ++ ps) (items_text w vs e t)
+        ∙ sym (append_assoc (one_pieces v ++ (character space ∷ [])) (list_pieces items_form (w ∷ vs) e) t ∙ append_assoc (one_pieces v) (character space ∷ []) (list_pieces items_form (w ∷ vs) e ++ t)))

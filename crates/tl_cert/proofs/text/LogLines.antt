@@ -73,13 +73,13 @@ line_again line zone x is same rest =
 exact_zone_line : (areas : Areas) → Exact (zone_line_at areas) (IsZoneLine areas) line_pieces
 exact_zone_line areas =
     exact_after (codes "z") after_zone line_pieces
-      (exact_part_then (λ (line : LogLine). zone_of line.nogood) (IsZoneLine areas) after_zone (λ zone line. fires_pieces (fired_by line)) (exact_field 0 MAX_ZONE space refl)
-        (λ zone any. exact_part_then fired_by (λ line. IsZoneLine areas line × (zone_of line.nogood ≡ zone)) (λ line. fires_pieces (fired_by line)) (λ x line. []) (exact_fires areas)
-          (λ x fires. exact_only (record { nogood = nogoods.Zone zone; fires = x.0; end = x.1 }) (λ line. (IsZoneLine areas line × (zone_of line.nogood ≡ zone)) × (fired_by line ≡ x))
-            ((record { zone = tt; fires = fires }, refl), refl) (λ line is. line_again line zone x is.0.0.zone is.0.1 is.1))
-          (λ line is. (is.0.fires, sym (append-nil (fires_pieces (fired_by line))))))
-        (λ line is. (tt, refl)))
-      (λ line is. zone_text line.nogood line is.zone refl)
+    (exact_part_then (λ (line : LogLine). zone_of line.nogood) (IsZoneLine areas) after_zone (λ zone line. fires_pieces (fired_by line)) (exact_field 0 MAX_ZONE space refl)
+    (λ zone any. exact_part_then fired_by (λ line. IsZoneLine areas line × (zone_of line.nogood ≡ zone)) (λ line. fires_pieces (fired_by line)) (λ x line. []) (exact_fires areas)
+    (λ x fires. exact_only (record { nogood = nogoods.Zone zone; fires = x.0; end = x.1 }) (λ line. (IsZoneLine areas line × (zone_of line.nogood ≡ zone)) × (fired_by line ≡ x))
+    ((record { zone = tt; fires = fires }, refl), refl) (λ line is. line_again line zone x is.0.0.zone is.0.1 is.1))
+    (λ line is. (is.0.fires, sym (append-nil (fires_pieces (fired_by line))))))
+    (λ line is. (tt, refl)))
+    (λ line is. zone_text line.nogood line is.zone refl)
 
 -- ---- by bounds
 
@@ -115,11 +115,11 @@ bounds_line_text (b ∷ bs) x some =
 exact_bounds_line : (areas : Areas) → Exact (bounds_line_at areas) (IsBoundsLine areas) line_pieces
 exact_bounds_line areas =
     exact_made line_of parts_of (IsBoundsLine areas) line_pieces (exact_bounds areas)
-      (λ line is.
-        let p = bounds_again line.nogood is.bounds in
-        let P : Nogood → LogLine = λ nogood. record { nogood = nogood; fires = line.fires; end = line.end } in
-        (record { bounds = p.0; fires = is.fires }, ap P p.1))
-      (λ x is. (record { bounds = is.bounds; fires = is.fires }, bounds_line_text (x.0) (x.1) is.bounds.some))
+    (λ line is.
+    let p = bounds_again line.nogood is.bounds in
+    let P : Nogood → LogLine = λ nogood. record { nogood = nogood; fires = line.fires; end = line.end } in
+    (record { bounds = p.0; fires = is.fires }, ap P p.1))
+    (λ x is. (record { bounds = is.bounds; fires = is.fires }, bounds_line_text (x.0) (x.1) is.bounds.some))
 
 -- ---- either
 

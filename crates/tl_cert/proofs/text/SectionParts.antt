@@ -79,8 +79,13 @@ IsAtEnd (suc k) areas = ⊥
 
 abbrev lines_form : ListForm Areas LogLine LogLine (Unit {0})
 lines_form = record {
-    IsItem = λ k areas line. IsLine (for_part k areas) line; item_pieces = line_pieces; IsStop = λ k areas e. IsAtEnd k areas; stop_pieces = λ e. []; lift = λ line lines. line; IsReady = IsReadyFor;
-  }
+  IsItem = λ k areas line. IsLine (for_part k areas) line;
+  item_pieces = line_pieces;
+  IsStop = λ k areas e. IsAtEnd k areas;
+  stop_pieces = λ e. [];
+  lift = λ line lines. line;
+  IsReady = IsReadyFor;
+}
 
 -- nothing is left to read
 exact_nothing : (IsEnd : Type 0) → IsEnd → Exact (give tt) (λ (e : Unit {0}). IsEnd) (λ e. [])
@@ -88,11 +93,11 @@ exact_nothing IsEnd is = exact_only tt (λ (e : Unit {0}). IsEnd) is (λ e end. 
 
 lines_exact : IsExactList lines_reading lines_form
 lines_exact = record {
-    at_end = λ areas ready. exact_nothing (IsPaid areas) ready;
-    turns = λ k areas ready. record { item = exact_line (for_part k areas); no_stop = λ e is. is };
-    ready = later;
-    lifted = λ k areas line lines e is listed. refl;
-  }
+  at_end = λ areas ready. exact_nothing (IsPaid areas) ready;
+  turns = λ k areas ready. record { item = exact_line (for_part k areas); no_stop = λ e is. is };
+  ready = later;
+  lifted = λ k areas line lines e is listed. refl;
+}
   where
     later : (k : ℕ) (areas : Areas) (line : LogLine) → IsReadyFor (suc k) areas → IsLine (for_part k areas) line → IsReadyFor k (after areas (is_area line.end))
     later zero areas line ready is = paid_at_last areas (is_area line.end) is.end
@@ -136,9 +141,13 @@ lines_from zero areas (line ∷ lines) e is = absurd (omega (arith, is.count_is)
 lines_from (suc k) areas [] e is = absurd (omega (arith, is.count_is))
 lines_from (suc k) areas (line ∷ lines) e is =
     let left : length lines ≡ k = omega (arith, is.count_is) in
-    let first = suits_first areas k (is_area line.end) (log_has_area lines) (no_more_lines lines k left) is.asked in
-    (refl, (record { shaped = is.shaped.0; end = first },
-      lines_from k (after areas (is_area line.end)) lines e (record { count_is = left; shaped = is.shaped.1; asked = suits_others areas (is_area line.end) (log_has_area lines) is.asked })))
+    let first = suits_first areas k (is_area line.end) (log_has_area lines) (no_more_lines lines k left) is.asked in (
+      refl,
+      (
+        record { shaped = is.shaped.0; end = first },
+        lines_from k (after areas (is_area line.end)) lines e (record { count_is = left; shaped = is.shaped.1; asked = suits_others areas (is_area line.end) (log_has_area lines) is.asked }),
+      ),
+    )
 
 lines_text : (lines : List LogLine) (e : Unit {0}) → list_pieces lines_form lines e ≡ flat_map line_pieces lines
 lines_text [] e = refl
@@ -147,7 +156,7 @@ lines_text (line ∷ lines) e = ap (λ (ps : List Piece). line_pieces line ++ ps
 pub exact_lines : (count : ℕ) (areas : Areas) → IsReadyFor count areas → Exact (lines_at count areas) (λ x. AreLines count areas (x.0)) (λ x. flat_map line_pieces (x.0))
 exact_lines count areas ready =
     exact_same (λ (x : Listing LogLine (Unit {0})). AreLines count areas (x.0)) (λ x. flat_map line_pieces (x.0)) (exact_list lines_reading lines_form lines_exact count areas ready)
-      (λ x is. lines_to count areas (x.0) (x.1) is) (λ x is. lines_from count areas (x.0) (x.1) is) (λ x is. lines_text (x.0) (x.1))
+    (λ x is. lines_to count areas (x.0) (x.1) is) (λ x is. lines_from count areas (x.0) (x.1) is) (λ x is. lines_text (x.0) (x.1))
 
 -- ---- cuts
 
@@ -157,15 +166,15 @@ exact_cut =
     let after_zone : CutAt → List Piece = λ cut. field 0 MAX_SPAN cut.span space ++ field 0 MAX_CLASS cut.class line_feed in
     let after_word : CutAt → List Piece = λ cut. field 0 MAX_ZONE cut.zone space ++ after_zone cut in
     exact_after (codes "cut ") after_word cut_pieces
-      (exact_part_then (λ (cut : CutAt). cut.zone) IsAny after_word (λ zone cut. after_zone cut) (exact_field 0 MAX_ZONE space refl)
-        (λ zone a. exact_part_then (λ (cut : CutAt). cut.span) (λ cut. IsAny cut × (cut.zone ≡ zone)) after_zone (λ span cut. field 0 MAX_CLASS cut.class line_feed) (exact_field 0 MAX_SPAN space refl)
-          (λ span b. exact_part_then (λ (cut : CutAt). cut.class) (λ cut. (IsAny cut × (cut.zone ≡ zone)) × (cut.span ≡ span)) (λ cut. field 0 MAX_CLASS cut.class line_feed) (λ class cut. []) (exact_field 0 MAX_CLASS line_feed refl)
-            (λ class d. exact_only (record { zone = zone; span = span; class = class }) (λ cut. ((IsAny cut × (cut.zone ≡ zone)) × (cut.span ≡ span)) × (cut.class ≡ class))
-              (((tt, refl), refl), refl) (λ cut is. cut_again cut zone span class is.0.0.1 is.0.1 is.1))
-            (λ cut is. (tt, refl)))
-          (λ cut is. (tt, refl)))
-        (λ cut is. (tt, refl)))
-      (λ cut is. refl)
+    (exact_part_then (λ (cut : CutAt). cut.zone) IsAny after_word (λ zone cut. after_zone cut) (exact_field 0 MAX_ZONE space refl)
+    (λ zone a. exact_part_then (λ (cut : CutAt). cut.span) (λ cut. IsAny cut × (cut.zone ≡ zone)) after_zone (λ span cut. field 0 MAX_CLASS cut.class line_feed) (exact_field 0 MAX_SPAN space refl)
+    (λ span b. exact_part_then (λ (cut : CutAt). cut.class) (λ cut. (IsAny cut × (cut.zone ≡ zone)) × (cut.span ≡ span)) (λ cut. field 0 MAX_CLASS cut.class line_feed) (λ class cut. []) (exact_field 0 MAX_CLASS line_feed refl)
+    (λ class d. exact_only (record { zone = zone; span = span; class = class }) (λ cut. ((IsAny cut × (cut.zone ≡ zone)) × (cut.span ≡ span)) × (cut.class ≡ class))
+    (((tt, refl), refl), refl) (λ cut is. cut_again cut zone span class is.0.0.1 is.0.1 is.1))
+    (λ cut is. (tt, refl)))
+    (λ cut is. (tt, refl)))
+    (λ cut is. (tt, refl)))
+    (λ cut is. refl)
   where
     cut_again : (cut : CutAt) (zone span class : ℕ) → cut.zone ≡ zone → cut.span ≡ span → cut.class ≡ class → cut ≡ record { zone = zone; span = span; class = class }
     cut_again cut zone span class a b d =
@@ -183,11 +192,11 @@ cuts_form = record { IsItem = λ k s cut. IsAny cut; item_pieces = cut_pieces; I
 
 cuts_exact : IsExactList cuts_reading cuts_form
 cuts_exact = record {
-    at_end = λ s ready. exact_nothing (Unit {0}) tt;
-    turns = λ k s ready. record { item = exact_cut; no_stop = λ e is. is };
-    ready = λ k s cut ready is. tt;
-    lifted = λ k s cut cuts e is listed. refl;
-  }
+  at_end = λ s ready. exact_nothing (Unit {0}) tt;
+  turns = λ k s ready. record { item = exact_cut; no_stop = λ e is. is };
+  ready = λ k s cut ready is. tt;
+  lifted = λ k s cut cuts e is listed. refl;
+}
 
 cuts_to : (k : ℕ) (cuts : List CutAt) (e : Unit {0}) → IsListed cuts_reading cuts_form k tt cuts e → length cuts ≡ k
 cuts_to zero [] e is = refl
@@ -208,4 +217,4 @@ cuts_text (cut ∷ cuts) e = ap (λ (ps : List Piece). cut_pieces cut ++ ps) (cu
 pub exact_cuts : (count : ℕ) → Exact (cuts_at count) (λ x. length (x.0) ≡ count) (λ x. flat_map cut_pieces (x.0))
 exact_cuts count =
     exact_same (λ (x : Listing CutAt (Unit {0})). length (x.0) ≡ count) (λ x. flat_map cut_pieces (x.0)) (exact_list cuts_reading cuts_form cuts_exact count tt tt)
-      (λ x is. cuts_to count (x.0) (x.1) is) (λ x is. cuts_from count (x.0) (x.1) is) (λ x is. cuts_text (x.0) (x.1))
+    (λ x is. cuts_to count (x.0) (x.1) is) (λ x is. cuts_from count (x.0) (x.1) is) (λ x is. cuts_text (x.0) (x.1))

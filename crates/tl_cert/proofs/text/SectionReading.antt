@@ -43,9 +43,9 @@ exact_width : (more : Bool) → Exact (width_at more) (λ (a : ℕ × Bool). Any
 unfolding width_at
 exact_width more =
     exact_made (λ (x : ℕ × ℕ). flagged AnyWidth width_pieces (x.0) (eqb (x.1) space)) (λ (a : ℕ × Bool). (a.0, end_of (a.1)))
-      (λ (a : ℕ × Bool). AnyWidth (a.0) × (a.1 ≡ true → more ≡ true)) (item_pieces AnyWidth width_pieces) (exact_number 0 MAX_PAGE_WIDTH (item_rule more))
-      (λ a is. (ends_by more (a.1) is.1, ap (flagged AnyWidth width_pieces (a.0)) (sym (space_again (a.1)))))
-      (λ x is. let p = end_is more (x.1) is in ((tt, p.1), ap (λ (c : ℕ). number 0 MAX_PAGE_WIDTH (x.0) ∷ character c ∷ []) (sym p.0)))
+    (λ (a : ℕ × Bool). AnyWidth (a.0) × (a.1 ≡ true → more ≡ true)) (item_pieces AnyWidth width_pieces) (exact_number 0 MAX_PAGE_WIDTH (item_rule more))
+    (λ a is. (ends_by more (a.1) is.1, ap (flagged AnyWidth width_pieces (a.0)) (sym (space_again (a.1)))))
+    (λ x is. let p = end_is more (x.1) is in ((tt, p.1), ap (λ (c : ℕ). number 0 MAX_PAGE_WIDTH (x.0) ∷ character c ∷ []) (sym p.0)))
 
 record AreSomeWidths (x : Listing ℕ (Unit {0})) : Type 0 where
   some : 1 ≤ length (x.0)
@@ -61,10 +61,10 @@ widths_read x = list_pieces (items_form AnyWidth width_pieces) (x.0) (x.1)
 exact_some_widths : Exact some_widths_at AreSomeWidths widths_read
 exact_some_widths =
     exact_same AreSomeWidths widths_read
-      (exact_list widths_reading (items_form AnyWidth width_pieces) (items_exact AnyWidth width_pieces (λ k more. width_at (ltb 0 k)) (λ k. exact_width (ltb 0 k))) MAX_COLUMNS true tt)
-      (λ x is. let p = items_to AnyWidth width_pieces (λ k more. width_at (ltb 0 k)) MAX_COLUMNS (x.0) (x.1) is in record { some = p.0; most = p.1.0 })
-      (λ x is. items_from AnyWidth width_pieces (λ k more. width_at (ltb 0 k)) MAX_COLUMNS (x.0) (x.1) is.some is.most (any_widths (x.0)))
-      (λ x is. refl)
+    (exact_list widths_reading (items_form AnyWidth width_pieces) (items_exact AnyWidth width_pieces (λ k more. width_at (ltb 0 k)) (λ k. exact_width (ltb 0 k))) MAX_COLUMNS true tt)
+    (λ x is. let p = items_to AnyWidth width_pieces (λ k more. width_at (ltb 0 k)) MAX_COLUMNS (x.0) (x.1) is in record { some = p.0; most = p.1.0 })
+    (λ x is. items_from AnyWidth width_pieces (λ k more. width_at (ltb 0 k)) MAX_COLUMNS (x.0) (x.1) is.some is.most (any_widths (x.0)))
+    (λ x is. refl)
 
 abbrev widths_tail : Listing ℕ (Unit {0}) → List Piece
 widths_tail x = flat_map (spaced MAX_PAGE_WIDTH) (x.0) ++ word (codes "\n")
@@ -99,8 +99,8 @@ exact_widths =
       no = λ x t is. ap (λ (y : Listing ℕ (Unit {0})). begins (λ c. eqb c space) (spell (widths_tail y) ++ t)) is;
     } in
     exact_after (codes "widths") widths_tail widths_pieces
-      (exact_either (exact_after (codes " ") widths_read widths_tail exact_some_widths (λ x is. some_widths_text (x.0) (x.1) is.some)) (exact_sign (codes "\n") (listing [] tt) widths_tail refl) chosen)
-      (λ x is. refl)
+    (exact_either (exact_after (codes " ") widths_read widths_tail exact_some_widths (λ x is. some_widths_text (x.0) (x.1) is.some)) (exact_sign (codes "\n") (listing [] tt) widths_tail refl) chosen)
+    (λ x is. refl)
 
 -- ---- the number of log lines
 
@@ -111,20 +111,20 @@ some_count Owed n positive = lt-ltb 0 n positive
 
 count_rule : (areas : Areas) → IsRule (may_count areas) (λ n c. eqb c line_feed && may_count areas n)
 count_rule areas = record {
-    some_end = λ n can. (10, can);
-    no_end = λ n e cannot ends. let can = (and_parts (eqb e line_feed) (may_count areas n) ends).1 in cc;
-    not_digit = λ n e ends. ap is_ascii_digit (eqb-true e 10 ((and_parts (eqb e line_feed) (may_count areas n) ends).0));
-    longer = λ n positive. (n, [], some_count areas n positive, sym (append-nil (numeral n)));
-  }
+  some_end = λ n can. (10, can);
+  no_end = λ n e cannot ends. let can = (and_parts (eqb e line_feed) (may_count areas n) ends).1 in cc;
+  not_digit = λ n e ends. ap is_ascii_digit (eqb-true e 10 ((and_parts (eqb e line_feed) (may_count areas n) ends).0));
+  longer = λ n positive. (n, [], some_count areas n positive, sym (append-nil (numeral n)));
+}
 
 exact_count : (areas : Areas) (cuts : ℕ) → Exact (count_at areas cuts) (λ n. may_count areas n ≡ true) (λ n. field 1 (2 * cuts + 1) n line_feed)
 unfolding count_at
 exact_count areas cuts =
     exact_made (λ (x : ℕ × ℕ). x.0) (λ n. (n, line_feed)) (λ n. may_count areas n ≡ true) (λ n. field 1 (2 * cuts + 1) n line_feed) (exact_number 1 (2 * cuts + 1) (count_rule areas))
-      (λ n is. (is, refl))
-      (λ x is.
-        let p = and_parts (eqb x.1 line_feed) (may_count areas x.0) is in
-        (p.1, ap (λ (c : ℕ). number 1 (2 * cuts + 1) x.0 ∷ character c ∷ []) (sym (eqb-true x.1 10 p.0))))
+    (λ n is. (is, refl))
+    (λ x is.
+    let p = and_parts (eqb x.1 line_feed) (may_count areas x.0) is in
+    (p.1, ap (λ (c : ℕ). number 1 (2 * cuts + 1) x.0 ∷ character c ∷ []) (sym (eqb-true x.1 10 p.0))))
 
 -- ---- a section
 
@@ -146,7 +146,6 @@ counted Owed [] asked = absurd cc
 counted Owed (line ∷ log) asked = lt-ltb 0 (length (line ∷ log)) (omega arith)
 
 module _ (areas : Areas) where
-
   abbrev log_part : Section → List Piece
   log_part s = flat_map line_pieces s.log
 
@@ -243,12 +242,15 @@ module _ (areas : Areas) where
       exact_part_then trace_of (Is7 table width height lower cuts lines widths) trace_part (λ a s. log_part s) (exact_cuts cuts) (λ trace cut.
       exact_part_then log_of (Is8 table width height lower cuts lines widths trace) log_part (λ a s. []) (exact_lines lines areas (ready_for areas lines can)) (λ log lined.
       exact_only (made table width height lower (widths.0) (trace.0) (log.0)) (Is9 table width height lower cuts lines widths trace log)
-        (section_made table width height lower cuts lines widths trace log most cut lined) (section_again table width height lower cuts lines widths trace log))
+      (section_made table width height lower cuts lines widths trace log most cut lined) (section_again table width height lower cuts lines widths trace log))
       (λ s is. (record { count_is = is.0.0.1; shaped = is.0.0.0.0.0.0.0.0.shaped.lines; asked = is.0.0.0.0.0.0.0.0.asked }, sym (append-nil (log_part s)))))
       (λ s is. (is.0.0.1, refl)))
-      (λ s is. (is.0.0.0.0.0.0.shaped.widths, sym (append_assoc (word (codes "widths") ++ flat_map (spaced MAX_PAGE_WIDTH) s.widths) (word (codes "\n")) (trace_part s)
-        ∙ append_assoc (word (codes "widths")) (flat_map (spaced MAX_PAGE_WIDTH) s.widths) (word (codes "\n") ++ trace_part s)) ∙ ap (λ (ps : List Piece). ps ++ trace_part s)
-        (append_assoc (word (codes "widths")) (flat_map (spaced MAX_PAGE_WIDTH) s.widths) (word (codes "\n"))))))
+      (λ s is. (
+        is.0.0.0.0.0.0.shaped.widths,
+        sym (append_assoc (word (codes "widths") ++ flat_map (spaced MAX_PAGE_WIDTH) s.widths) (word (codes "\n")) (trace_part s)
+            ∙ append_assoc (word (codes "widths")) (flat_map (spaced MAX_PAGE_WIDTH) s.widths) (word (codes "\n") ++ trace_part s)) ∙ ap (λ (ps : List Piece). ps ++ trace_part s)
+            (append_assoc (word (codes "widths")) (flat_map (spaced MAX_PAGE_WIDTH) s.widths) (word (codes "\n"))),
+      )))
       (λ s is. (counted areas s.log is.0.0.0.0.0.asked, ap (λ (k : ℕ). field 1 (2 * k + 1) (length s.log) line_feed ++ widths_part s) is.1)))
       (λ s is. (tt, refl)))
       (λ s is. (tt, refl)))

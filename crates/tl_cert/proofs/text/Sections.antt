@@ -39,26 +39,31 @@ end_line = word (codes "end\n")
 
 abbrev sections_form : ListForm State Section Section (Unit {0})
 sections_form = record {
-    IsItem = λ k s section. IsSection (for_part k (s.1)) section; item_pieces = section_pieces; IsStop = λ k s e. IsOver (s.0) (s.1); stop_pieces = λ e. end_line;
-    lift = λ section sections. section; IsReady = IsReadyFor;
-  }
+  IsItem = λ k s section. IsSection (for_part k (s.1)) section;
+  item_pieces = section_pieces;
+  IsStop = λ k s e. IsOver (s.0) (s.1);
+  stop_pieces = λ e. end_line;
+  lift = λ section sections. section;
+  IsReady = IsReadyFor;
+}
 
 exact_end_line : (IsEnd : Type 0) → IsEnd → Exact (word_at (codes "end\n")) (λ (e : Unit {0}). IsEnd) (λ e. end_line)
 exact_end_line IsEnd is = exact_same (λ (e : Unit {0}). IsEnd) (λ e. end_line) (exact_word (codes "end\n")) (λ e any. is) (λ e end. tt) (λ e any. refl)
 
 sections_exact : IsExactList sections_reading sections_form
 sections_exact = record {
-    at_end = λ s ready. exact_end_line (IsOver (s.0) (s.1)) ready;
-    turns = λ k s ready. turns k (s.0) (s.1);
-    ready = later;
-    lifted = λ k s section sections e is listed. refl;
-  }
+  at_end = λ s ready. exact_end_line (IsOver (s.0) (s.1)) ready;
+  turns = λ k s ready. turns k (s.0) (s.1);
+  ready = later;
+  lifted = λ k s section sections e is listed. refl;
+}
   where
     turns : (k : ℕ) (first : Bool) (areas : Areas) → Turns sections_reading sections_form (sections_turn first areas) k (state first areas)
     turns k true areas = record { item = exact_section (for_part k areas); no_stop = λ e is. is }
     turns k false Never = record { item = exact_section (for_part k Never); stop = exact_end_line (Unit {0}) tt; item_begins = λ section t is. refl; stop_begins = λ e t is. refl }
     turns k false Free = record { item = exact_section (for_part k Free); stop = exact_end_line (Unit {0}) tt; item_begins = λ section t is. refl; stop_begins = λ e t is. refl }
     turns k false Owed = record { item = exact_section (for_part k Owed); no_stop = λ e is. is }
+
     later : (k : ℕ) (s : State) (section : Section) → IsReadyFor (suc k) s → IsSection (for_part k (s.1)) section → IsReadyFor k (state false (after (s.1) (log_has_area section.log)))
     later zero s section ready is = paid_at_last (s.1) (log_has_area section.log) is.asked
     later (suc k) s section ready is = tt
@@ -77,12 +82,14 @@ sections_to zero first areas (section ∷ sections) e is = absurd is
 sections_to (suc k) true areas [] e is = absurd is
 sections_to (suc k) false areas [] e is = (record { most = omega arith; shaped = tt; asked = none_owed areas is }, λ begun. absurd cc)
 sections_to (suc k) first areas (section ∷ sections) e is =
-    let p = sections_to k false (after areas (log_has_area section.log)) sections e is.1.1 in
-    (record {
-      most = omega (arith, p.0.most);
-      shaped = (is.1.0.shaped, p.0.shaped);
-      asked = suits_parts areas k (log_has_area section.log) (has_area sections) is.1.0.asked p.0.asked;
-    }, λ begun. omega arith)
+    let p = sections_to k false (after areas (log_has_area section.log)) sections e is.1.1 in (
+      record {
+        most = omega (arith, p.0.most);
+        shaped = (is.1.0.shaped, p.0.shaped);
+        asked = suits_parts areas k (log_has_area section.log) (has_area sections) is.1.0.asked p.0.asked;
+      },
+      λ begun. omega arith,
+    )
 
 none_after : (sections : List Section) (k : ℕ) → length sections ≤ k → k ≡ 0 → has_area sections ≡ false
 none_after [] k most none = refl
@@ -96,10 +103,14 @@ sections_from zero first areas (section ∷ sections) e is some = absurd (omega 
 sections_from (suc k) true areas [] e is some = absurd (omega (arith, some refl))
 sections_from (suc k) false areas [] e is some = paid_if_none areas is.asked
 sections_from (suc k) first areas (section ∷ sections) e is some =
-    let left : length sections ≤ k = omega (arith, is.most) in
-    (refl, (record { shaped = is.shaped.0; asked = suits_first areas k (log_has_area section.log) (has_area sections) (none_after sections k left) is.asked },
-      sections_from k false (after areas (log_has_area section.log)) sections e
-        (record { most = left; shaped = is.shaped.1; asked = suits_others areas (log_has_area section.log) (has_area sections) is.asked }) (λ begun. absurd cc)))
+    let left : length sections ≤ k = omega (arith, is.most) in (
+      refl,
+      (
+        record { shaped = is.shaped.0; asked = suits_first areas k (log_has_area section.log) (has_area sections) (none_after sections k left) is.asked },
+        sections_from k false (after areas (log_has_area section.log)) sections e
+            (record { most = left; shaped = is.shaped.1; asked = suits_others areas (log_has_area section.log) (has_area sections) is.asked }) (λ begun. absurd cc),
+      ),
+    )
 
 abbrev pub sections_pieces : Listing Section (Unit {0}) → List Piece
 sections_pieces x = flat_map section_pieces (x.0) ++ end_line
@@ -117,6 +128,6 @@ pub record AreAllSections (areas : Areas) (x : Listing Section (Unit {0})) : Typ
 pub exact_sections : (areas : Areas) → Exact (sections_at areas) (AreAllSections areas) sections_pieces
 exact_sections areas =
     exact_same (AreAllSections areas) sections_pieces (exact_list sections_reading sections_form sections_exact MAX_SECTIONS (state true areas) tt)
-      (λ x is. let p = sections_to MAX_SECTIONS true areas (x.0) (x.1) is in record { sections = p.0; some = p.1 refl })
-      (λ x is. sections_from MAX_SECTIONS true areas (x.0) (x.1) is.sections (λ begun. is.some))
-      (λ x is. sections_text (x.0) (x.1))
+    (λ x is. let p = sections_to MAX_SECTIONS true areas (x.0) (x.1) is in record { sections = p.0; some = p.1 refl })
+    (λ x is. sections_from MAX_SECTIONS true areas (x.0) (x.1) is.sections (λ begun. is.some))
+    (λ x is. sections_text (x.0) (x.1))

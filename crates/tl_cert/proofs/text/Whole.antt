@@ -107,10 +107,10 @@ lowest_text (Narrow least) is = absurd is
 exact_lowest : Exact lowest_at IsLowest claim_pieces
 exact_lowest =
     exact_after (codes "lowest ") last_field claim_pieces
-      (exact_part_then first_of IsLowest last_field (λ n claim. []) (exact_field 0 MAX_HEIGHT line_feed refl)
-        (λ n any. exact_only (Lowest n) (λ claim. IsLowest claim × (first_of claim ≡ n)) (tt, refl) (λ claim is. lowest_again claim n is.0 is.1))
-        (λ claim is. (tt, refl)))
-      lowest_text
+    (exact_part_then first_of IsLowest last_field (λ n claim. []) (exact_field 0 MAX_HEIGHT line_feed refl)
+    (λ n any. exact_only (Lowest n) (λ claim. IsLowest claim × (first_of claim ≡ n)) (tt, refl) (λ claim is. lowest_again claim n is.0 is.1))
+    (λ claim is. (tt, refl)))
+    lowest_text
 
 narrow_again : (claim : Claim) (n : ℕ) → IsNarrow claim → first_of claim ≡ n → claim ≡ Narrow n
 narrow_again (Lowest height) n is same = absurd is
@@ -125,10 +125,10 @@ narrow_text (Narrow least) is = refl
 exact_narrow : Exact narrow_at IsNarrow claim_pieces
 exact_narrow =
     exact_after (codes "narrow ") last_field claim_pieces
-      (exact_part_then first_of IsNarrow last_field (λ n claim. []) (exact_field 0 MAX_HEIGHT line_feed refl)
-        (λ n any. exact_only (Narrow n) (λ claim. IsNarrow claim × (first_of claim ≡ n)) (tt, refl) (λ claim is. narrow_again claim n is.0 is.1))
-        (λ claim is. (tt, refl)))
-      narrow_text
+    (exact_part_then first_of IsNarrow last_field (λ n claim. []) (exact_field 0 MAX_HEIGHT line_feed refl)
+    (λ n any. exact_only (Narrow n) (λ claim. IsNarrow claim × (first_of claim ≡ n)) (tt, refl) (λ claim is. narrow_again claim n is.0 is.1))
+    (λ claim is. (tt, refl)))
+    narrow_text
 
 abbrev lower_field : Claim → List Piece
 lower_field claim = field 0 MAX_HEIGHT (second_of claim) line_feed
@@ -149,13 +149,13 @@ bounded_text (Narrow least) is = absurd is
 exact_bounded : Exact bounded_at IsBounded claim_pieces
 exact_bounded =
     exact_after (codes "bounded ") both_fields claim_pieces
-      (exact_part_then first_of IsBounded both_fields (λ n claim. lower_field claim) (exact_field 0 MAX_HEIGHT space refl)
-        (λ n any. exact_part_then second_of (λ claim. IsBounded claim × (first_of claim ≡ n)) lower_field (λ m claim. []) (exact_field 0 MAX_HEIGHT line_feed refl)
-          (λ m some. exact_only (Bounded n m) (λ claim. (IsBounded claim × (first_of claim ≡ n)) × (second_of claim ≡ m)) ((tt, refl), refl)
-            (λ claim is. bounded_again claim n m is.0.0 is.0.1 is.1))
-          (λ claim is. (tt, refl)))
-        (λ claim is. (tt, refl)))
-      bounded_text
+    (exact_part_then first_of IsBounded both_fields (λ n claim. lower_field claim) (exact_field 0 MAX_HEIGHT space refl)
+    (λ n any. exact_part_then second_of (λ claim. IsBounded claim × (first_of claim ≡ n)) lower_field (λ m claim. []) (exact_field 0 MAX_HEIGHT line_feed refl)
+    (λ m some. exact_only (Bounded n m) (λ claim. (IsBounded claim × (first_of claim ≡ n)) × (second_of claim ≡ m)) ((tt, refl), refl)
+    (λ claim is. bounded_again claim n m is.0.0 is.0.1 is.1))
+    (λ claim is. (tt, refl)))
+    (λ claim is. (tt, refl)))
+    bounded_text
 
 -- no line that ends by `area` stands with `narrow`
 abbrev Claims : Bool → Claim → Type 0
@@ -182,7 +182,11 @@ exact_other : (has : Bool) → Exact (other_claim_at has) (IsOther has) claim_pi
 exact_other true = exact_bounded
 exact_other false =
     let chosen : Chosen (λ c. eqb c 98) claim_pieces IsBounded IsNarrow (IsOther false) = record {
-      parted = λ claim is. is; first = λ claim is. inl is; other = λ claim is. inr is; yes = bounded_begins; no = other_begins;
+      parted = λ claim is. is;
+      first = λ claim is. inl is;
+      other = λ claim is. inr is;
+      yes = bounded_begins;
+      no = other_begins;
     } in
     exact_either exact_bounded exact_narrow chosen
 
@@ -225,7 +229,11 @@ exact_claim : (has : Bool) → Exact (claim_at has) (Claims has) claim_pieces
 unfolding claim_at
 exact_claim has =
     let chosen : Chosen (λ c. eqb c 108) claim_pieces IsLowest (IsOther has) (Claims has) = record {
-      parted = claim_parted has; first = claim_first has; other = claim_other has; yes = lowest_begins; no = not_lowest_begins has;
+      parted = claim_parted has;
+      first = claim_first has;
+      other = claim_other has;
+      yes = lowest_begins;
+      no = not_lowest_begins has;
     } in
     exact_either exact_lowest (exact_other has) chosen
 
@@ -238,7 +246,6 @@ abbrev made : ℕ → Style → ℕ → Claim → List Chain → List Section �
 made width style budget claim chains sections = record { width = width; style = style; budget = budget; claim = claim; chains = chains; sections = sections }
 
 module _ (has : Bool) (width : ℕ) (style : Style) (budget : ℕ) where
-
   abbrev Is4 : Certificate → Type 0
   Is4 c = (((IsShaped c × (has_area c.sections ≡ has)) × (c.width ≡ width)) × (c.style ≡ style)) × (c.budget ≡ budget)
 
@@ -271,23 +278,24 @@ module _ (has : Bool) (width : ℕ) (style : Style) (budget : ℕ) where
       → Exact (sections_at (areas_of has) >>= λ x. give (made width style budget claim [] (x.0))) (Is5 claim) proof_pieces
   exact_by_sections claim to from =
       exact_made (λ (x : Listing Section (Unit {0})). made width style budget claim [] (x.0)) (λ (c : Certificate). listing c.sections tt) (Is5 claim) proof_pieces (exact_sections (areas_of has))
-        (λ c is.
-          let p = to c (shaped_as claim c is.1 is.0.0.0.0.0) in
-          (record { sections = record { most = p.most; shaped = p.sections; asked = asked_for (has_area c.sections) is.0.0.0.0.1 }; some = p.some },
-            head_again claim c is ∙ ap (λ (chains : List Chain). made width style budget claim chains c.sections) p.no_chain))
-        (λ x is.
-          let c : Certificate = made width style budget claim [] (x.0) in
-          ((((((from c (record { some = is.some; most = is.sections.most; sections = is.sections.shaped; no_chain = refl }), asked_back has (has_area (x.0)) is.sections.asked), refl), refl), refl), refl), refl))
+      (λ c is.
+      let p = to c (shaped_as claim c is.1 is.0.0.0.0.0) in (
+        record { sections = record { most = p.most; shaped = p.sections; asked = asked_for (has_area c.sections) is.0.0.0.0.1 }; some = p.some },
+        head_again claim c is ∙ ap (λ (chains : List Chain). made width style budget claim chains c.sections) p.no_chain,
+      ))
+      (λ x is.
+      let c : Certificate = made width style budget claim [] (x.0) in
+      ((((((from c (record { some = is.some; most = is.sections.most; sections = is.sections.shaped; no_chain = refl }), asked_back has (has_area (x.0)) is.sections.asked), refl), refl), refl), refl), refl))
 
   exact_proof : (claim : Claim) → Claims has claim → Exact (proof_at has width style budget claim) (Is5 claim) proof_pieces
   exact_proof (Lowest height) may = exact_by_sections (Lowest height) (λ c is. is) (λ c is. is)
   exact_proof (Bounded height lower) may = exact_by_sections (Bounded height lower) (λ c is. is) (λ c is. is)
   exact_proof (Narrow least) may =
       exact_made (λ (x : Listing Chain (Unit {0})). made width style budget (Narrow least) (x.0) []) (λ (c : Certificate). listing c.chains tt) (Is5 (Narrow least)) proof_pieces exact_chains
-        (λ c is.
-          let p = shaped_as (Narrow least) c is.1 is.0.0.0.0.0 in
-          (record { some = p.some; each = p.entries }, head_again (Narrow least) c is ∙ ap (λ (sections : List Section). made width style budget (Narrow least) c.chains sections) p.no_section))
-        (λ x is. ((((((record { some = is.some; entries = is.each; no_section = refl }, no_area has may), refl), refl), refl), refl), refl))
+      (λ c is.
+      let p = shaped_as (Narrow least) c is.1 is.0.0.0.0.0 in
+      (record { some = p.some; each = p.entries }, head_again (Narrow least) c is ∙ ap (λ (sections : List Section). made width style budget (Narrow least) c.chains sections) p.no_section))
+      (λ x is. ((((((record { some = is.some; entries = is.each; no_section = refl }, no_area has may), refl), refl), refl), refl), refl))
     where
       no_area : (has : Bool) → Claims has (Narrow least) → false ≡ has
       no_area true may = absurd may
@@ -328,12 +336,12 @@ exact_certificate =
     exact_part_then (λ (c : Certificate). c.width) (λ c. IsShaped c × (has_area c.sections ≡ has)) after_version (λ width c. after_width c) (exact_field 1 MAX_PAGE_WIDTH space refl) (λ width _.
     exact_part_then (λ (c : Certificate). c.style) (λ c. (IsShaped c × (has_area c.sections ≡ has)) × (c.width ≡ width)) after_width (λ style c. after_style c) exact_style (λ style _.
     exact_part_then (λ (c : Certificate). c.budget) (λ c. ((IsShaped c × (has_area c.sections ≡ has)) × (c.width ≡ width)) × (c.style ≡ style)) after_style (λ budget c. claim_pieces c.claim ++ proof_pieces c)
-      (exact_field 0 MAX_BUDGET line_feed refl) (λ budget _.
+    (exact_field 0 MAX_BUDGET line_feed refl) (λ budget _.
     exact_part_then (λ (c : Certificate). c.claim) (Is4 has width style budget) (λ c. claim_pieces c.claim ++ proof_pieces c) (λ claim c. proof_pieces c) (exact_claim has)
-      (λ claim may. exact_proof has width style budget claim may)
-      (λ c is. (let P : Bool → Type 0 = λ has. Claims has c.claim in subst P is.0.0.0.1 (claims_of c c.claim refl is.0.0.0.0), refl)))
-      (λ c is. (tt, refl)))
-      (λ c is. (tt, refl)))
-      (λ c is. (tt, refl)))
-      (λ c is. (tt, refl)))
-      (λ c is. refl)
+    (λ claim may. exact_proof has width style budget claim may)
+    (λ c is. (let P : Bool → Type 0 = λ has. Claims has c.claim in subst P is.0.0.0.1 (claims_of c c.claim refl is.0.0.0.0), refl)))
+    (λ c is. (tt, refl)))
+    (λ c is. (tt, refl)))
+    (λ c is. (tt, refl)))
+    (λ c is. (tt, refl)))
+    (λ c is. refl)

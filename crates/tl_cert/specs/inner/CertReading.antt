@@ -21,7 +21,7 @@ use Rattle.tl_cert.specs.declared.limits.TheConstants.{MAX_PAGE_WIDTH, MAX_HEIGH
 use Rattle.tl_cert.specs.declared.areas.Areas.{Areas}
 use Rattle.tl_cert.specs.declared.areas.Areas.TheVariants.{Never, Free, Owed}
 use Rattle.tl_cert.specs.inner.Areas.{for_part, after}
-use Rattle.tl_cert.specs.inner.reading.Readings.{Reading, ◌>>=◌, give, word_at, either}
+use Rattle.tl_cert.specs.inner.reading.Readings.{Answer, got, wrong, Reading, then_read, ◌>>=◌, give, word_at, either}
 use Rattle.tl_cert.specs.inner.reading.Numbers.{number_at, field_at}
 use Rattle.tl_cert.specs.inner.reading.Lists.{Turn, halt, go, look, ListReading, Listing, listing, list_at, all_at}
 use Rattle.tl_cert.specs.Text.{space, line_feed, side_sign, is_area, log_has_area}
@@ -81,8 +81,12 @@ bounds_turn (Some before) = look is_ascii_digit
 
 abbrev pub bounds_reading : Areas → ListReading (Option Bound) Bound Bound (Listing ℕ End)
 bounds_reading areas = record {
-    turn = λ k before. bounds_turn before; item = λ k before. bound_at before; next = λ before bound. Some bound; view = λ bound. bound; stop = λ before. fires_at areas;
-  }
+  turn = λ k before. bounds_turn before;
+  item = λ k before. bound_at before;
+  next = λ before bound. Some bound;
+  view = λ bound. bound;
+  stop = λ before. fires_at areas;
+}
 
 abbrev pub bounds_at : Areas → Reading (Listing Bound (Listing ℕ End))
 bounds_at areas = list_at (bounds_reading areas) MAX_BOUNDS None
@@ -101,8 +105,12 @@ line_at areas = either (λ c. c == 122) (zone_line_at areas) (bounds_line_at are
 
 abbrev pub lines_reading : ListReading Areas LogLine LogLine (Unit {0})
 lines_reading = record {
-    turn = λ k areas. go; item = λ k areas. line_at (for_part k areas); next = λ areas line. after areas (is_area line.end); view = λ line. line; stop = λ areas. give tt;
-  }
+  turn = λ k areas. go;
+  item = λ k areas. line_at (for_part k areas);
+  next = λ areas line. after areas (is_area line.end);
+  view = λ line. line;
+  stop = λ areas. give tt;
+}
 
 abbrev pub lines_at : ℕ → Areas → Reading (Listing LogLine (Unit {0}))
 lines_at count areas = list_at lines_reading count areas
@@ -178,12 +186,12 @@ sections_turn false Owed = go
 -- the state is whether no section was read yet, and what is asked of those that come
 abbrev pub sections_reading : ListReading (Bool × Areas) Section Section (Unit {0})
 sections_reading = record {
-    turn = λ k s. sections_turn (s.0) (s.1);
-    item = λ k s. section_at (for_part k (s.1));
-    next = λ s section. (false, after (s.1) (log_has_area section.log));
-    view = λ section. section;
-    stop = λ s. word_at (codes "end\n");
-  }
+  turn = λ k s. sections_turn (s.0) (s.1);
+  item = λ k s. section_at (for_part k (s.1));
+  next = λ s section. (false, after (s.1) (log_has_area section.log));
+  view = λ section. section;
+  stop = λ s. word_at (codes "end\n");
+}
 
 abbrev pub sections_at : Areas → Reading (Listing Section (Unit {0}))
 sections_at areas = list_at sections_reading MAX_SECTIONS (true, areas)
@@ -268,3 +276,12 @@ certificate_at =
     (field_at 0 MAX_BUDGET line_feed >>= λ budget.
     (claim_at has_area >>= λ claim.
     proof_at has_area width style budget claim)))))
+
+-- nothing follows the last line
+abbrev pub ended_by : Certificate → List ℕ → Answer Certificate
+ended_by c [] = got c []
+ended_by c (b ∷ rest) = wrong (suc (length rest))
+
+-- the whole text
+unfoldable pub whole_at : Reading Certificate
+whole_at text = then_read (certificate_at text) ended_by

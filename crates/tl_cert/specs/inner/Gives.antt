@@ -1,5 +1,7 @@
 -- No public clause cites this file. A function gives what a reading answers, unless memory runs out.
-use Rattle.std.specs.Prelude.{◌≡◌, ℕ, List, Result, Ok, Err}
+use Rattle.std.specs.Prelude.{◌≡◌, ℕ, ◌-◌, List, [], Result, Ok, Err}
+use Rattle.tl_cert.specs.declared.error.CertError.{CertError}
+use Rattle.tl_cert.specs.declared.error.CertError.TheVariants as errors
 use Rattle.tl_cert.specs.declared.reader.Fault.{Fault}
 use Rattle.tl_cert.specs.declared.reader.Fault.TheVariants.{Memory, Wrong, Outside}
 use Rattle.tl_cert.specs.inner.reading.Readings.{Answer, got, wrong, outside}
@@ -13,3 +15,11 @@ Fails (Outside left) answer = answer ≡ outside left
 abbrev pub Gives : {X A : Type 0} → (X → A) → Result X Fault → List ℕ → Answer A → Type 0
 Gives view (Ok x) rest answer = answer ≡ got (view x) rest
 Gives view (Err fault) rest answer = Fails fault answer
+
+-- the fault at its place in a text of this length
+abbrev pub AnswersAs : {A : Type 0} → Result A CertError → ℕ → Answer A → Type 0
+AnswersAs (Ok x) length answer = answer ≡ got x []
+AnswersAs (Err (errors.Memory e)) length answer = Unit {0}
+AnswersAs (Err (errors.Syntax place)) length answer = (left : ℕ) × (answer ≡ wrong left) × (place ≡ length - left)
+AnswersAs (Err (errors.Range place)) length answer = (left : ℕ) × (answer ≡ outside left) × (place ≡ length - left)
+AnswersAs (Err errors.TooLong) length answer = ⊥

@@ -43,8 +43,8 @@ unfoldable pub list_at : {S A V E : Type 0} → ListReading S A V E → ℕ → 
 list_at list zero s = stopping list s
 list_at list (suc k) s =
     by_turn (list.turn k s)
-      (list.item k s >>= λ a. (list_at list k (list.next s a) >>= λ x. give (listing (list.view a ∷ x.0) (x.1))))
-      (stopping list s)
+    (list.item k s >>= λ a. (list_at list k (list.next s a) >>= λ x. give (listing (list.view a ∷ x.0) (x.1))))
+    (stopping list s)
 
 -- a list with no limit on its items: it has fewer of them than the text has characters
 unfoldable pub all_at : {S A V E : Type 0} → ListReading S A V E → S → Reading (Listing V E)

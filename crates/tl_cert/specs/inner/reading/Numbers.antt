@@ -30,7 +30,7 @@ number_at low high possible allowed [] = wrong 0
 number_at low high possible allowed (c ∷ text) =
     if is_ascii_digit c
     then (if c == 48 then zero_ended low high possible allowed text
-        else (let run = read_run (c - 48) text in run_ended low high possible allowed (suc (length text)) (run.0) (run.1)))
+    else (let run = read_run (c - 48) text in run_ended low high possible allowed (suc (length text)) (run.0) (run.1)))
     else wrong (suc (length text))
 
 -- a number that this character ends
@@ -43,9 +43,9 @@ run_at high possible [] = wrong 0
 run_at high possible (c ∷ text) =
     if is_ascii_digit c
     then (if c == 48
-        then (if possible 0 then (if begins is_ascii_digit text then wrong (length text) else got 0 text) else wrong (suc (length text)))
-        else (let run = read_run (c - 48) text in
-          if possible (run.0) then (if nat_le (run.0) high then got (run.0) (run.1) else outside (suc (length text))) else wrong (length run.1)))
+    then (if possible 0 then (if begins is_ascii_digit text then wrong (length text) else got 0 text) else wrong (suc (length text)))
+    else (let run = read_run (c - 48) text in
+    if possible (run.0) then (if nat_le (run.0) high then got (run.0) (run.1) else outside (suc (length text))) else wrong (length run.1)))
     else wrong (suc (length text))
 
 -- the number's lower limit, and the character that ends it

@@ -15,7 +15,7 @@ returns-in_err-line c =
     let asked : for_part k c.lines.asked ≡ c.for_part.result = ap (λ (j : ℕ). for_part j c.lines.asked) (omega arith) ∙ sym c.for_part.ensures in
     let failed : Fails c.in_err-line.field-0.0 (line_at (for_part k c.lines.asked) c.lines.self.rest.now) = rw asked c.in_err-line.ensures in
     rw (p.1, p.2) (fails_on lines_reading c.in_err-line.field-0.0 c.lines.lines (c.args.count - c.lines.number) k c.lines.asked c.lines.self.rest.now
-      (lines_at c.args.count c.args.areas c.args.self.now.rest.now) (omega arith) refl failed c.lines.invariant)
+    (lines_at c.args.count c.args.areas c.args.self.now.rest.now) (omega arith) refl failed c.lines.invariant)
 
 pub lines-preserved : goal.lines-preserved
 lines-preserved c =
@@ -23,8 +23,8 @@ lines-preserved c =
     let line = c.in_ok-line.line in
     let asked : for_part k c.lines.asked ≡ c.for_part.result = ap (λ (j : ℕ). for_part j c.lines.asked) (omega arith) ∙ sym c.for_part.ensures in
     pushed_on lines_reading c.lines.lines c.push.new.self (c.args.count - c.lines.number) k c.lines.asked c.after-asked.result c.lines.self.rest.now
-      line line c.line.new.self.rest.now (lines_at c.args.count c.args.areas c.args.self.now.rest.now) c.in_ok-push.ensures.ok refl
-      (sym (c.after-asked.ensures ∙ ap (after c.lines.asked) c.is_area.ensures)) (omega arith) refl (ap (λ (areas : Areas). line_at areas c.lines.self.rest.now) asked ∙ c.in_ok-line.ensures) c.lines.invariant
+    line line c.line.new.self.rest.now (lines_at c.args.count c.args.areas c.args.self.now.rest.now) c.in_ok-push.ensures.ok refl
+    (sym (c.after-asked.ensures ∙ ap (after c.lines.asked) c.is_area.ensures)) (omega arith) refl (ap (λ (areas : Areas). line_at areas c.lines.self.rest.now) asked ∙ c.in_ok-line.ensures) c.lines.invariant
 
 pub returns : goal.returns
 unfolding give

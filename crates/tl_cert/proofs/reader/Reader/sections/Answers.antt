@@ -23,7 +23,7 @@ returns-in_err-section c =
     let asked : for_part k c.sections.asked ≡ c.for_part.result = sym c.for_part.ensures in
     let failed : Fails c.in_err-section.field-0.0 (section_at (for_part k c.sections.asked) c.sections.self.rest.now) = rw asked c.in_err-section.ensures in
     rw (p.1, p.2) (fails_on sections_reading c.in_err-section.field-0.0 front (MAX_SECTIONS - length front) k (state c.sections.first c.sections.asked) c.sections.self.rest.now
-      (sections_at c.args.areas c.args.self.now.rest.now) (omega arith) (cc) failed c.sections.invariant.whole)
+    (sections_at c.args.areas c.args.self.now.rest.now) (omega arith) (cc) failed c.sections.invariant.whole)
 
 pub sections-preserved : goal.sections-preserved
 sections-preserved c =
@@ -35,9 +35,9 @@ sections-preserved c =
     let next : state false (after c.sections.asked c.has_area.result) ≡ state false c.after-asked.result = ap (state false) (sym c.after-asked.ensures) in
     record {
       whole = pushed_on sections_reading front c.push.new.self (MAX_SECTIONS - length front) k (state c.sections.first c.sections.asked) (state false c.after-asked.result) c.sections.self.rest.now
-        section section c.section.new.self.rest.now (sections_at c.args.areas c.args.self.now.rest.now) c.in_ok-push.ensures.ok refl
-        (ap (λ (has : Bool). state false (after c.sections.asked has)) (ap log_has_area (sym c.as_slice.ensures) ∙ sym c.has_area.ensures) ∙ next) (omega (arith, grown)) (cc)
-        (ap (λ (areas : Areas). section_at areas c.sections.self.rest.now) asked ∙ c.in_ok-section.ensures) c.sections.invariant.whole;
+          section section c.section.new.self.rest.now (sections_at c.args.areas c.args.self.now.rest.now) c.in_ok-push.ensures.ok refl
+          (ap (λ (has : Bool). state false (after c.sections.asked has)) (ap log_has_area (sym c.as_slice.ensures) ∙ sym c.has_area.ensures) ∙ next) (omega (arith, grown)) (cc)
+          (ap (λ (areas : Areas). section_at areas c.sections.self.rest.now) asked ∙ c.in_ok-section.ensures) c.sections.invariant.whole;
       room = omega (arith, grown);
     }
 
@@ -48,9 +48,9 @@ returns-in_err-word c =
     let room = MAX_SECTIONS - length front in
     let now = state c.sections.first c.sections.asked in
     let stop : Stops sections_reading room now c.sections.self.rest.now = stops_by sections_reading room now c.sections.self.rest.now
-      (λ j is. elim c.sections-test.branch [ then-sections-test+else-section_comes w ↦ cc | else-sections-test w ↦ absurd (omega arith) ]) in
+    (λ j is. elim c.sections-test.branch [ then-sections-test+else-section_comes w ↦ cc | else-sections-test w ↦ absurd (omega arith) ]) in
     rw (p.1, p.2) (fails_at sections_reading c.in_err-word.field-0.0 front room now c.sections.self.rest.now
-      (sections_at c.args.areas c.args.self.now.rest.now) stop c.in_err-word.ensures c.sections.invariant.whole)
+    (sections_at c.args.areas c.args.self.now.rest.now) stop c.in_err-word.ensures c.sections.invariant.whole)
 
 pub returns : goal.returns
 returns c =
@@ -58,6 +58,6 @@ returns c =
     let room = MAX_SECTIONS - length front in
     let now = state c.sections.first c.sections.asked in
     let stop : Stops sections_reading room now c.sections.self.rest.now = stops_by sections_reading room now c.sections.self.rest.now
-      (λ j is. elim c.sections-test.branch [ then-sections-test+else-section_comes w ↦ cc | else-sections-test w ↦ absurd (omega arith) ]) in
+    (λ j is. elim c.sections-test.branch [ then-sections-test+else-section_comes w ↦ cc | else-sections-test w ↦ absurd (omega arith) ]) in
     stops_at sections_reading front room now c.sections.self.rest.now tt c.word.new.self.rest.now
-      (sections_at c.args.areas c.args.self.now.rest.now) stop c.in_ok-word.ensures c.sections.invariant.whole
+    (sections_at c.args.areas c.args.self.now.rest.now) stop c.in_ok-word.ensures c.sections.invariant.whole

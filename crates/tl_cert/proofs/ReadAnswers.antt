@@ -1,0 +1,68 @@
+-- What `read` returns, for each way in which a whole text is read.
+use Rattle.std.proofs.Common.{◌≡◌, ℕ, ◌-◌, ◌≤◌, ◌<◌, List, [], length, ◌⊎◌, inl, inr, refl, sym, ap, subst, ◌∙◌, arith}
+use Rattle.std.specs.Prelude.{Result, Ok, Err, IfOk, IfErr, alloc_error}
+use Rattle.tl_base.specs.Returned.{ReturnsOk, ReturnsError, IsMemoryOr}
+use Rattle.tl_cert.specs.declared.certificate.Certificate.{Certificate}
+use Rattle.tl_cert.specs.declared.error.CertError.{CertError}
+use Rattle.tl_cert.specs.declared.error.CertError.TheVariants.{Memory, Syntax, Range, TooLong}
+use Rattle.tl_cert.specs.declared.limits.TheConstants.{MAX_CERTIFICATE_BYTES}
+use Rattle.tl_cert.specs.Text.{cert_text, IsWritable}
+use Rattle.tl_cert.specs.Faults.{IsRangeFault, IsSyntaxFault, Refused, IsTextOf}
+use Rattle.tl_cert.specs.inner.CertReading.{whole_at}
+use Rattle.tl_cert.specs.inner.Gives.{AnswersAs}
+use Rattle.tl_cert.specs.inner.reading.Readings.{Answer, got, wrong, outside}
+use Rattle.tl_cert.proofs.text.Laws.{whole_again, whole_outside, whole_wrong, syntax_from, range_of, text_of}
+
+abbrev Read : Type 0
+Read = Result Certificate CertError
+
+abbrev Answers : Read → List ℕ → Type 0
+Answers r bytes = AnswersAs r (length bytes) (whole_at bytes)
+
+pub answered_ok : (r : Read) (bytes : List ℕ) → length bytes ≤ MAX_CERTIFICATE_BYTES → Answers r bytes → IfOk r (λ c. IsTextOf bytes c)
+answered_ok (Ok c) bytes short is = let p = text_of bytes c [] is in record { short = short; writable = p.0; text = p.1 }
+answered_ok (Err e) bytes short is = tt
+
+pub answered_each_ok : (r : Read) (bytes : List ℕ) → Answers r bytes → (c : Certificate) → IsTextOf bytes c → ReturnsOk (Memory alloc_error) c r
+answered_each_ok (Ok d) bytes is c text = let again = whole_again bytes c text.writable text.text in cc
+answered_each_ok (Err (Memory e)) bytes is c text = refl
+answered_each_ok (Err (Syntax place)) bytes is c text = let again = whole_again bytes c text.writable text.text in let here = is.1 in absurd cc
+answered_each_ok (Err (Range place)) bytes is c text = let again = whole_again bytes c text.writable text.text in let here = is.1 in absurd cc
+answered_each_ok (Err TooLong) bytes is c text = absurd is
+
+pub answered_err : (r : Read) (bytes : List ℕ) → length bytes ≤ MAX_CERTIFICATE_BYTES → Answers r bytes → IfErr r (IsMemoryOr (Memory alloc_error) (Refused bytes))
+answered_err (Ok c) bytes short is = tt
+answered_err (Err (Memory e)) bytes short is = inl refl
+answered_err (Err (Syntax place)) bytes short is = inr (short, subst (IsSyntaxFault bytes) (sym is.2) (syntax_from bytes is.0 is.1))
+answered_err (Err (Range place)) bytes short is = inr (short, subst (IsRangeFault bytes) (sym is.2) (range_of bytes is.0 is.1))
+answered_err (Err TooLong) bytes short is = absurd is
+
+pub answered_each_err : (r : Read) (bytes : List ℕ) → length bytes ≤ MAX_CERTIFICATE_BYTES → Answers r bytes → (e : CertError) → Refused bytes e → ReturnsError (Memory alloc_error) e r
+answered_each_err r bytes short is (Memory e) refused = absurd refused
+answered_each_err r bytes short is TooLong refused = absurd (omega arith)
+answered_each_err r bytes short is (Syntax place) refused =
+    let p = whole_wrong bytes place refused.1 in
+    at_wrong r is p.0 p.1 p.2
+  where
+    at_wrong : (r : Read) → Answers r bytes → (left : ℕ) → whole_at bytes ≡ wrong left → length bytes - left ≡ place → ReturnsError (Memory alloc_error) (Syntax place) r
+    at_wrong (Ok c) is left w p = absurd cc
+    at_wrong (Err (Memory e)) is left w p = inl refl
+    at_wrong (Err (Syntax other)) is left w p =
+        let here = is.1 in
+        let same : is.0 ≡ left = cc in
+        inr (ap (λ (k : ℕ). Syntax k) (is.2 ∙ ap (λ (k : ℕ). length bytes - k) same ∙ p))
+    at_wrong (Err (Range other)) is left w p = let here = is.1 in absurd cc
+    at_wrong (Err TooLong) is left w p = absurd is
+answered_each_err r bytes short is (Range place) refused =
+    let p = whole_outside bytes place refused.1 in
+    at_outside r is p.0 p.1
+  where
+    at_outside : (r : Read) → Answers r bytes → whole_at bytes ≡ outside (length bytes - place) → length bytes - (length bytes - place) ≡ place → ReturnsError (Memory alloc_error) (Range place) r
+    at_outside (Ok c) is w p = absurd cc
+    at_outside (Err (Memory e)) is w p = inl refl
+    at_outside (Err (Syntax other)) is w p = let here = is.1 in absurd cc
+    at_outside (Err (Range other)) is w p =
+        let here = is.1 in
+        let same : is.0 ≡ length bytes - place = cc in
+        inr (ap (λ (k : ℕ). Range k) (is.2 ∙ ap (λ (k : ℕ). length bytes - k) same ∙ p))
+    at_outside (Err TooLong) is w p = absurd is
