@@ -1,10 +1,10 @@
 mod Examples
+pub mod Appending
 pub mod CountLaws
 pub mod FireLaws
 pub mod LogLaws
 pub mod Loops
 pub mod ReadAnswers
-pub mod Appending
 pub mod TextExamples
 pub mod TraceLaws
 pub mod WorkedLaws

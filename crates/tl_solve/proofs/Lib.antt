@@ -1,0 +1,6 @@
+mod Parts
+mod Firing
+mod GoodLines
+mod Writable
+mod Cuts
+mod ZoneLists

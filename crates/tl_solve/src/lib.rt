@@ -1,0 +1,14 @@
+//! Searches for a lowest layout of a problem: what every search promises, and the log that proves what
+//! it found. It knows no table and no text. Its one contract: the outcome of `Solver::solve` is a tight
+//! placement, with a log that is good for its lower bound and a trace worked for its budget.
+#![tactic(auto)]
+
+mod lines;
+mod log;
+mod outcome;
+mod solver;
+mod zones;
+
+pub use log::trace_log;
+pub use outcome::Outcome;
+pub use solver::Solver;
