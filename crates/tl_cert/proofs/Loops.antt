@@ -1,10 +1,10 @@
 -- A list that a loop reads, item by item: what was read, and what is left to read, make the whole.
-use Rattle.std.proofs.Common.{◌≡◌, ℕ, zero, suc, ◌+◌, ◌-◌, ◌≤◌, ◌<◌, Bool, true, false, List, [], ◌∷◌, ◌++◌, length, refl, sym, ap, subst, ◌∙◌, append_assoc, arith}
-use Rattle.std.proofs.lemmas.List.{append-nil, length_push}
+use Rattle.std.proofs.Common.{◌≡◌, ℕ, zero, suc, ◌<◌, true, false, List, [], ◌∷◌, ◌++◌, length, refl, sym, ap, subst, ◌∙◌, append_assoc, arith}
+use Rattle.std.proofs.lemmas.List.{append-nil}
 use Rattle.tl_cert.specs.declared.reader.Fault.{Fault}
 use Rattle.tl_cert.specs.declared.reader.Fault.TheVariants.{Memory, Wrong, Outside}
 use Rattle.tl_cert.specs.inner.Gives.{Fails}
-use Rattle.tl_cert.specs.inner.reading.Readings.{Answer, got, wrong, outside, Reading, then_read, followed, ◌>>=◌, give, begins, either}
+use Rattle.tl_cert.specs.inner.reading.Readings.{Answer, got, wrong, outside, Reading, then_read, followed, ◌>>=◌, give, either}
 use Rattle.tl_cert.proofs.reading.ListExact.{ListForm}
 use Rattle.tl_cert.proofs.reading.Unlimited.{IsUnlimited, fuel_same}
 use Rattle.tl_cert.specs.inner.reading.Lists.{Turn, halt, go, look, by_turn, comes, ListReading, Listing, listing, stopping, list_at}

@@ -1,16 +1,15 @@
 -- What `read` returns, for each way in which a whole text is read.
-use Rattle.std.proofs.Common.{◌≡◌, ℕ, ◌-◌, ◌≤◌, ◌<◌, List, [], length, ◌⊎◌, inl, inr, refl, sym, ap, subst, ◌∙◌, arith}
+use Rattle.std.proofs.Common.{◌≡◌, ℕ, ◌-◌, ◌≤◌, List, [], length, inl, inr, refl, sym, ap, subst, ◌∙◌, arith}
 use Rattle.std.specs.Prelude.{Result, Ok, Err, IfOk, IfErr, alloc_error}
 use Rattle.tl_base.specs.Returned.{ReturnsOk, ReturnsError, IsMemoryOr}
 use Rattle.tl_cert.specs.declared.certificate.Certificate.{Certificate}
 use Rattle.tl_cert.specs.declared.error.CertError.{CertError}
 use Rattle.tl_cert.specs.declared.error.CertError.TheVariants.{Memory, Syntax, Range, TooLong}
 use Rattle.tl_base.specs.declared.limits.TheConstants.{MAX_CERTIFICATE_BYTES}
-use Rattle.tl_cert.specs.Text.{cert_text, IsWritable}
 use Rattle.tl_cert.specs.Faults.{IsRangeFault, IsSyntaxFault, Refused, IsTextOf}
 use Rattle.tl_cert.specs.inner.CertReading.{whole_at}
 use Rattle.tl_cert.specs.inner.Gives.{AnswersAs}
-use Rattle.tl_cert.specs.inner.reading.Readings.{Answer, got, wrong, outside}
+use Rattle.tl_cert.specs.inner.reading.Readings.{wrong, outside}
 use Rattle.tl_cert.proofs.text.Laws.{whole_again, whole_outside, whole_wrong, syntax_from, range_of, text_of}
 
 abbrev Read : Type 0

@@ -1,20 +1,14 @@
 -- The texts of small certificates, written out. Each stands as it is read, a line for a line.
-use Rattle.std.proofs.Common.{◌≡◌, ℕ, List, [], ◌∷◌, ◌++◌, refl, Bool, true, false}
-use Rattle.std.specs.Prelude.{Option, Some, None, codes}
+use Rattle.std.proofs.Common.{◌≡◌, ℕ, List, [], ◌∷◌, refl}
+use Rattle.std.specs.Prelude.{Some, None, codes}
 use Rattle.std.specs.List.{concat}
 use Rattle.tl_base.specs.declared.style.Style.TheVariants.{Plain, Frame}
-use Rattle.tl_problem.specs.declared.chain.Chain.{Chain}
-use Rattle.tl_problem.specs.declared.chain.Entry.{Entry}
-use Rattle.tl_cert.specs.declared.trace.CutAt.{CutAt}
 use Rattle.tl_cert.specs.declared.log.Side.TheVariants.{Most, Least}
-use Rattle.tl_cert.specs.declared.log.Bound.{Bound}
-use Rattle.tl_cert.specs.declared.log.Nogood.{Nogood}
 use Rattle.tl_cert.specs.declared.log.Nogood.TheVariants as nogoods
 use Rattle.tl_cert.specs.declared.log.End.{End}
 use Rattle.tl_cert.specs.declared.log.End.TheVariants as ends
 use Rattle.tl_cert.specs.declared.log.LogLine.{LogLine}
 use Rattle.tl_cert.specs.declared.section.Section.{Section}
-use Rattle.tl_cert.specs.declared.certificate.Certificate.{Certificate}
 use Rattle.tl_cert.specs.declared.certificate.Claim.TheVariants.{Lowest, Bounded, Narrow}
 use Rattle.tl_cert.specs.Pieces.{numeral}
 use Rattle.tl_cert.specs.Text.{cert_text}

@@ -1,8 +1,7 @@
 -- One reading or another, by the next character, is exact for the texts of both.
-use Rattle.std.proofs.Common.{◌≡◌, ℕ, Bool, true, false, cond, List, [], ◌∷◌, ◌++◌, ◌⊎◌, inl, inr, length, refl, sym, ap, subst, ◌∙◌, append_assoc}
-use Rattle.std.specs.Char.{is_ascii_digit}
+use Rattle.std.proofs.Common.{◌≡◌, ℕ, Bool, true, false, cond, List, [], ◌∷◌, ◌++◌, ◌⊎◌, inl, inr, refl, sym, ap, ◌∙◌, append_assoc}
 use Rattle.tl_cert.specs.Pieces.{Piece, number, spell, numeral, AllWithin}
-use Rattle.tl_cert.specs.inner.reading.Readings.{Answer, got, wrong, outside, Reading, begins, either}
+use Rattle.tl_cert.specs.inner.reading.Readings.{got, wrong, outside, Reading, begins, either}
 use Rattle.tl_cert.proofs.reading.Spellings.{spell_two}
 use Rattle.tl_cert.proofs.reading.NumeralDigits.{numeral_first}
 use Rattle.tl_cert.proofs.reading.Exact.{SameStart, Stuck, Outside, Takes, Exact}

@@ -2,7 +2,7 @@
 -- where it has to be.
 use Rattle.std.proofs.Common.{◌≡◌, ℕ, List, [], ◌∷◌, ◌++◌, length}
 use Rattle.tl_cert.specs.Pieces.{Piece, number, spell, numeral, IsWithin, AllWithin, IsPastDigits}
-use Rattle.tl_cert.specs.inner.reading.Readings.{Answer, got, wrong, outside, Reading}
+use Rattle.tl_cert.specs.inner.reading.Readings.{got, wrong, outside, Reading}
 
 -- both end at once, or begin with one character
 abbrev pub SameStart : List ℕ → List ℕ → Type 0

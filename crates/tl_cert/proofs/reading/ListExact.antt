@@ -1,8 +1,8 @@
 -- Reading a list is exact for the texts of its items, one after the other, and of what stops it.
 use Rattle.std.proofs.Common.{◌≡◌, ℕ, zero, suc, Bool, true, false, List, [], ◌∷◌, ◌++◌, ◌⊎◌, inl, inr, refl, sym, ap, subst, ◌∙◌}
 use Rattle.std.proofs.lemmas.List.{append-nil}
-use Rattle.tl_cert.specs.Pieces.{Piece, spell, AllWithin}
-use Rattle.tl_cert.specs.inner.reading.Readings.{Answer, Reading, ◌>>=◌, give, begins, either}
+use Rattle.tl_cert.specs.Pieces.{Piece, spell}
+use Rattle.tl_cert.specs.inner.reading.Readings.{Reading, ◌>>=◌, give, begins}
 use Rattle.tl_cert.specs.inner.reading.Lists.{Turn, halt, go, look, by_turn, ListReading, Listing, listing, stopping, list_at}
 use Rattle.tl_cert.proofs.reading.Spellings.{spell_two}
 use Rattle.tl_cert.proofs.reading.Exact.{Exact}

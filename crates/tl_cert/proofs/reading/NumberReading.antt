@@ -2,9 +2,9 @@
 use Rattle.std.proofs.Common.{◌≡◌, ℕ, zero, suc, ◌+◌, ◌*◌, ◌-◌, ◌≤◌, ◌<◌, Bool, true, false, cond, eqb, leb, ◌&&◌, List, [], ◌∷◌, ◌++◌, length, inl, inr, refl, sym, ap, subst, ◌∙◌, append_assoc, arith}
 use Rattle.std.specs.Char.{is_ascii_digit}
 use Rattle.std.proofs.lemmas.List.{append-nil}
-use Rattle.std.proofs.lemmas.Bool.{cases_Bool, cases_lt, eqb-true, eqb-false, eq-eqb, ne_eqb, and_parts, and_from, and_cases, leb-true, leb-false, le-leb}
+use Rattle.std.proofs.lemmas.Bool.{cases_Bool, eqb-true, eqb-false, ne_eqb, and_parts, and_from, leb-true, le-leb}
 use Rattle.tl_cert.specs.Pieces.{Piece, number, character, spell, numeral, IsWithin, AllWithin, IsPastDigits}
-use Rattle.tl_cert.specs.inner.reading.Readings.{Answer, got, wrong, outside, Reading, begins}
+use Rattle.tl_cert.specs.inner.reading.Readings.{Answer, got, wrong, outside, begins}
 use Rattle.tl_cert.specs.inner.reading.Numbers.{read_run, ended, run_ended, zero_ended, number_at}
 use Rattle.tl_cert.proofs.reading.Numerals.{numeral_small, digit_range}
 use Rattle.tl_cert.proofs.reading.Runs.{run_digit, run_stops, run-numeral, run_gives}

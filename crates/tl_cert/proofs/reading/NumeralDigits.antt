@@ -1,9 +1,9 @@
 -- The first digit of a numeral, and numerals that go on with more digits.
-use Rattle.std.proofs.Common.{◌≡◌, ℕ, zero, suc, ◌+◌, ◌*◌, ◌%◌, ◌≤◌, ◌<◌, Bool, true, List, [], ◌∷◌, ◌++◌, refl, sym, ap, ◌∙◌, arith, append_assoc}
+use Rattle.std.proofs.Common.{◌≡◌, ℕ, zero, suc, ◌+◌, ◌*◌, ◌%◌, ◌≤◌, ◌<◌, true, List, [], ◌∷◌, ◌++◌, refl, sym, ap, ◌∙◌, arith, append_assoc}
 use Rattle.std.proofs.lemmas.List.{append-nil}
 use Rattle.std.specs.Char.{is_ascii_digit}
 use Rattle.tl_cert.specs.Pieces.{numeral}
-use Rattle.tl_cert.proofs.reading.Numerals.{numeral_by_steps, numeral_push, numeral_small, digit_is}
+use Rattle.tl_cert.proofs.reading.Numerals.{numeral_by_steps, numeral_push, digit_is}
 
 abbrev pub HasFirst : ℕ → List ℕ → Type 0
 HasFirst n digits = (c : ℕ) × (more : List ℕ) × (digits ≡ c ∷ more) × (is_ascii_digit c ≡ true) × (0 < n → c ≡ 48 → ⊥)

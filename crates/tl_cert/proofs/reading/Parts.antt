@@ -1,11 +1,10 @@
 -- Readings of words and numbers as a loop does them, byte by byte.
-use Rattle.std.proofs.Common.{◌≡◌, ℕ, zero, suc, ◌+◌, ◌*◌, ◌-◌, ◌≤◌, ◌<◌, Bool, true, false, cond, eqb, leb, ◌&&◌, List, [], ◌∷◌, ◌++◌, length, get_or, drop, inl, inr, refl, sym, ap, subst, ◌∙◌, arith}
+use Rattle.std.proofs.Common.{◌≡◌, ℕ, suc, ◌+◌, ◌*◌, ◌-◌, ◌≤◌, ◌<◌, Bool, true, false, cond, eqb, leb, ◌&&◌, List, [], ◌∷◌, length, get_or, drop, inl, inr, refl, sym, ap, ◌∙◌, arith}
 use Rattle.std.specs.Char.{is_ascii_digit}
 use Rattle.std.proofs.lemmas.Bool.{cases_Bool, eq-eqb, ne_eqb, le-leb}
 use Rattle.std.proofs.lemmas.List.{drop_more, drop_all}
 use Rattle.tl_cert.specs.inner.reading.Readings.{Answer, got, wrong, outside, Reading, then_read, begins, word_at}
-use Rattle.tl_cert.specs.inner.reading.Numbers.{read_run, ended, run_ended, zero_ended, number_at, run_at, least_ended}
-use Rattle.tl_cert.proofs.reading.Numerals.{digit_range}
+use Rattle.tl_cert.specs.inner.reading.Numbers.{read_run, ended, number_at, run_at, least_ended}
 use Rattle.tl_cert.proofs.reading.Runs.{run_digit, run_stops}
 
 -- a run of digits gives no less than it begins with

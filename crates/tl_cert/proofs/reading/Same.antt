@@ -1,8 +1,8 @@
 -- A reading that is exact stays so where its texts are described in other words.
-use Rattle.std.proofs.Common.{◌≡◌, ℕ, List, ◌++◌, ◌∙◌, sym, ap, subst}
-use Rattle.tl_cert.specs.Pieces.{Piece, number, spell, AllWithin}
-use Rattle.tl_cert.specs.inner.reading.Readings.{Answer, got, Reading}
-use Rattle.tl_cert.proofs.reading.Exact.{SameStart, Stuck, Outside, Takes, Exact}
+use Rattle.std.proofs.Common.{◌≡◌, List, ◌++◌, ◌∙◌, sym, ap, subst}
+use Rattle.tl_cert.specs.Pieces.{Piece, spell, AllWithin}
+use Rattle.tl_cert.specs.inner.reading.Readings.{got, Reading}
+use Rattle.tl_cert.proofs.reading.Exact.{Exact}
 
 pub exact_same : {C : Type 0} {read : Reading C} {IsShaped : C → Type 0} {pieces : C → List Piece} (IsAlso : C → Type 0) (others : C → List Piece)
     → Exact read IsShaped pieces → ((v : C) → IsShaped v → IsAlso v) → ((v : C) → IsAlso v → IsShaped v) → ((v : C) → IsShaped v → pieces v ≡ others v) → Exact read IsAlso others

@@ -1,9 +1,9 @@
 -- One reading after the other is exact for the texts that are joined of both.
-use Rattle.std.proofs.Common.{◌≡◌, ℕ, List, [], ◌∷◌, ◌++◌, length, refl, sym, ap, subst, ◌∙◌, inl, inr, append_assoc}
+use Rattle.std.proofs.Common.{◌≡◌, ℕ, List, ◌∷◌, ◌++◌, refl, sym, ap, subst, ◌∙◌, inl, inr, append_assoc}
 use Rattle.tl_cert.specs.Pieces.{Piece, number, spell, numeral, AllWithin}
 use Rattle.tl_cert.specs.inner.reading.Readings.{Answer, got, wrong, outside, Reading, then_read, followed, ◌>>=◌}
-use Rattle.tl_cert.proofs.reading.Spellings.{spell-append, spell_two, within-append, within-first, within-second, InFirst, InSecond, lies_in}
-use Rattle.tl_cert.proofs.reading.Exact.{SameStart, Stuck, Outside, Takes, Exact}
+use Rattle.tl_cert.proofs.reading.Spellings.{spell-append, spell_two, within-append, within-first, within-second, lies_in}
+use Rattle.tl_cert.proofs.reading.Exact.{Stuck, Outside, Takes, Exact}
 
 -- the part of a value that is read first
 pub record Parted {A C : Type 0} (IsFirst : A → Type 0) (IsSecond : A → C → Type 0) (v : C) : Type 0 where

@@ -1,6 +1,6 @@
 -- The characters of pieces that are joined, and where a number stands among them.
 use Rattle.std.proofs.Common.{◌≡◌, ℕ, List, [], ◌∷◌, ◌++◌, ◌⊎◌, inl, inr, refl, sym, ap, subst, ◌∙◌, append_assoc}
-use Rattle.tl_cert.specs.Pieces.{Piece, spelling, spell, IsWithin, AllWithin}
+use Rattle.tl_cert.specs.Pieces.{Piece, spelling, spell, AllWithin}
 
 pub spell-append : (ps qs : List Piece) → spell (ps ++ qs) ≡ spell ps ++ spell qs
 spell-append [] qs = refl

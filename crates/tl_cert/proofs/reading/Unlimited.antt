@@ -1,11 +1,11 @@
 -- Reading a list without a limit on its items is exact.
 use Rattle.std.proofs.Common.{◌≡◌, ℕ, zero, suc, ◌+◌, ◌≤◌, ◌<◌, List, [], ◌∷◌, ◌++◌, length, refl, sym, ap, subst, ◌∙◌, arith}
 use Rattle.std.proofs.lemmas.List.{length-append}
-use Rattle.tl_cert.specs.Pieces.{Piece, number, spell, numeral, AllWithin}
+use Rattle.tl_cert.specs.Pieces.{Piece, spell, AllWithin}
 use Rattle.tl_cert.specs.inner.reading.Readings.{Answer, got, wrong, outside, Reading, then_read, followed, ◌>>=◌, give, either}
 use Rattle.tl_cert.specs.inner.reading.Lists.{Turn, halt, go, look, by_turn, ListReading, Listing, listing, stopping, list_at, all_at}
 use Rattle.tl_cert.proofs.reading.Spellings.{spell-append}
-use Rattle.tl_cert.proofs.reading.Exact.{SameStart, Stuck, Outside, Takes, Exact}
+use Rattle.tl_cert.proofs.reading.Exact.{SameStart, Stuck, Outside, Exact}
 use Rattle.tl_cert.proofs.reading.ListExact.{ListForm, IsListed, list_pieces, IsExactList, exact_list}
 
 -- two fronts of a text that leave equally much are one

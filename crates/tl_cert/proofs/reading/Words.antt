@@ -1,10 +1,10 @@
 -- Reading a word, or nothing, is exact.
-use Rattle.std.proofs.Common.{◌≡◌, ℕ, suc, Bool, true, false, eqb, List, [], ◌∷◌, ◌++◌, length, refl, sym, ap, subst, ◌∙◌, inl, inr}
+use Rattle.std.proofs.Common.{◌≡◌, ℕ, suc, eqb, List, [], ◌∷◌, ◌++◌, length, refl, sym, ap, subst, ◌∙◌, inl, inr}
 use Rattle.std.proofs.lemmas.Bool.{cases_Bool, eqb-true, eqb-false, eq-eqb}
 use Rattle.std.proofs.lemmas.List.{append_cancel_left}
 use Rattle.tl_cert.specs.Pieces.{Piece, number, spell, word, AllWithin}
-use Rattle.tl_cert.specs.inner.reading.Readings.{Answer, got, wrong, outside, Reading, word_at, give}
-use Rattle.tl_cert.proofs.reading.Exact.{SameStart, Stuck, Outside, Takes, Exact}
+use Rattle.tl_cert.specs.inner.reading.Readings.{Answer, got, wrong, outside, word_at, give}
+use Rattle.tl_cert.proofs.reading.Exact.{SameStart, Exact}
 
 pub spell-word : (w : List ℕ) → spell (word w) ≡ w
 spell-word [] = refl

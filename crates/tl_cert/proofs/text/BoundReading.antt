@@ -1,9 +1,9 @@
 -- Reading bounds, in order, is exact.
-use Rattle.std.proofs.Common.{◌≡◌, ℕ, zero, suc, ◌+◌, ◌≤◌, ◌<◌, Bool, true, false, eqb, ltb, ◌&&◌, ◌||◌, List, [], ◌∷◌, ◌++◌, ◌⊎◌, inl, inr, length, refl, sym, ap, subst, ◌∙◌, append_assoc, arith}
-use Rattle.std.specs.Prelude.{Option, Some, None, IsTrue}
+use Rattle.std.proofs.Common.{◌≡◌, ℕ, zero, suc, ◌≤◌, Bool, true, false, eqb, ltb, ◌&&◌, ◌||◌, List, [], ◌∷◌, ◌++◌, ◌⊎◌, inl, inr, length, refl, sym, ap, subst, ◌∙◌, append_assoc, arith}
+use Rattle.std.specs.Prelude.{Option, Some, None}
 use Rattle.std.specs.Char.{is_ascii_digit}
 use Rattle.std.specs.List.{flat_map}
-use Rattle.std.proofs.lemmas.Bool.{eqb-true, eq-eqb, or_cases, and_parts, and_from, or_left, lt-ltb}
+use Rattle.std.proofs.lemmas.Bool.{eqb-true, or_cases, and_parts, and_from, or_left, lt-ltb}
 use Rattle.std.proofs.lemmas.List.{append-nil}
 use Rattle.tl_cert.specs.declared.log.Side.{Side}
 use Rattle.tl_cert.specs.declared.log.Side.TheVariants.{Most, Least}
@@ -13,17 +13,15 @@ use Rattle.tl_cert.specs.declared.log.End.TheVariants as ends
 use Rattle.tl_cert.specs.declared.areas.Areas.{Areas}
 use Rattle.tl_base.specs.declared.limits.TheConstants.{MAX_PAGE_WIDTH}
 use Rattle.tl_cert.specs.declared.limits.TheConstants.{MAX_SPAN, MAX_BOUNDS}
-use Rattle.tl_cert.specs.Pieces.{Piece, character, number, field, word, spell, numeral}
+use Rattle.tl_cert.specs.Pieces.{Piece, character, number, field, spell, numeral}
 use Rattle.tl_cert.specs.Text.{space, side_sign, bound_pieces, comes_before, AreInOrder, AreBounds}
 use Rattle.tl_cert.specs.inner.CertReading.{may_follow, may_follow_as, is_sign, side_of, bound_at, bounds_reading, bounds_at, fires_at}
-use Rattle.tl_cert.specs.inner.reading.Readings.{Reading, ◌>>=◌, give, begins}
-use Rattle.tl_cert.specs.inner.reading.Numbers.{field_at}
+use Rattle.tl_cert.specs.inner.reading.Readings.{begins}
 use Rattle.tl_cert.specs.inner.reading.Lists.{Listing, listing}
 use Rattle.tl_cert.proofs.reading.Exact.{Exact}
-use Rattle.tl_cert.proofs.reading.Words.{IsAny}
 use Rattle.tl_cert.proofs.reading.Same.{exact_same}
 use Rattle.tl_cert.proofs.reading.NumeralDigits.{numeral_first, numeral_longer}
-use Rattle.tl_cert.proofs.reading.NumberReading.{IsRule, number_pieces, exact_number}
+use Rattle.tl_cert.proofs.reading.NumberReading.{IsRule, exact_number}
 use Rattle.tl_cert.proofs.reading.ListExact.{ListForm, IsListed, list_pieces, Turns, IsExactList, exact_list}
 use Rattle.tl_cert.proofs.text.Fields.{exact_field, exact_part_then, exact_only}
 use Rattle.tl_cert.proofs.text.Ends.{AreFires, fires_pieces, exact_fires, end_pieces}

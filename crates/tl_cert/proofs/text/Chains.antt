@@ -1,15 +1,15 @@
 -- Reading the chains of a certificate, and its last line, is exact.
-use Rattle.std.proofs.Common.{◌≡◌, ℕ, zero, suc, ◌+◌, ◌≤◌, ◌<◌, Bool, true, false, eqb, List, [], ◌∷◌, ◌++◌, length, refl, sym, ap, subst, ◌∙◌, append_assoc, arith}
+use Rattle.std.proofs.Common.{◌≡◌, ℕ, zero, suc, ◌≤◌, ◌<◌, Bool, true, false, List, [], ◌∷◌, ◌++◌, length, refl, sym, ap, ◌∙◌, append_assoc, arith}
 use Rattle.std.specs.Prelude.{codes}
 use Rattle.std.specs.List.{flat_map, AllByRecursion}
 use Rattle.std.proofs.lemmas.List.{append-nil}
 use Rattle.tl_problem.specs.declared.chain.Entry.{Entry}
 use Rattle.tl_problem.specs.declared.chain.Chain.{Chain}
 use Rattle.tl_cert.specs.declared.limits.TheConstants.{MAX_TABLE}
-use Rattle.tl_cert.specs.Pieces.{Piece, character, number, field, word, spell}
-use Rattle.tl_cert.specs.Text.{space, line_feed, entry_pieces, chain_pieces}
+use Rattle.tl_cert.specs.Pieces.{Piece, character, number, field, word}
+use Rattle.tl_cert.specs.Text.{space, entry_pieces, chain_pieces}
 use Rattle.tl_cert.specs.inner.CertReading.{entry_at, chain_at, chains_turn, chains_reading, chains_at}
-use Rattle.tl_cert.specs.inner.reading.Readings.{Reading, got, word_at}
+use Rattle.tl_cert.specs.inner.reading.Readings.{got, word_at}
 use Rattle.tl_cert.specs.inner.reading.Lists.{Listing, listing}
 use Rattle.tl_cert.proofs.reading.Exact.{Exact}
 use Rattle.tl_cert.proofs.reading.Words.{exact_word}

@@ -1,5 +1,5 @@
 -- Reading the end of a log line, and the lines that are fired before it, is exact.
-use Rattle.std.proofs.Common.{◌≡◌, ℕ, zero, suc, ◌+◌, ◌≤◌, Bool, true, false, eqb, List, [], ◌∷◌, ◌++◌, ◌⊎◌, inl, inr, length, refl, sym, ap, subst, ◌∙◌, arith}
+use Rattle.std.proofs.Common.{◌≡◌, ℕ, zero, suc, ◌≤◌, true, false, eqb, List, [], ◌∷◌, ◌++◌, ◌⊎◌, inl, inr, length, refl, sym, ap, subst, arith}
 use Rattle.std.specs.Prelude.{codes}
 use Rattle.std.specs.List.{flat_map}
 use Rattle.tl_cert.specs.declared.log.End.{End}
@@ -7,11 +7,11 @@ use Rattle.tl_cert.specs.declared.log.End.TheVariants.{Fired, Cycle, Chain, Area
 use Rattle.tl_cert.specs.declared.areas.Areas.{Areas}
 use Rattle.tl_cert.specs.declared.areas.Areas.TheVariants.{Never, Free, Owed}
 use Rattle.tl_cert.specs.declared.limits.TheConstants.{MAX_LINE, MAX_FIRES}
-use Rattle.tl_cert.specs.Pieces.{Piece, character, number, field, word, spell}
+use Rattle.tl_cert.specs.Pieces.{Piece, character, field, word, spell}
 use Rattle.tl_cert.specs.Text.{space, end_word, is_area}
 use Rattle.tl_cert.specs.inner.Areas.{Suits}
 use Rattle.tl_cert.specs.inner.CertReading.{cycle_or_chain_at, plain_end_at, area_at, end_at, fire_at, fires_reading, fires_at}
-use Rattle.tl_cert.specs.inner.reading.Readings.{Reading, begins}
+use Rattle.tl_cert.specs.inner.reading.Readings.{begins}
 use Rattle.tl_cert.specs.inner.reading.Lists.{Listing}
 use Rattle.tl_cert.proofs.reading.Exact.{Exact}
 use Rattle.tl_cert.proofs.reading.Words.{IsAny}

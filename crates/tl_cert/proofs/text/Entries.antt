@@ -1,27 +1,27 @@
 -- Reading the entries of a chain is exact.
-use Rattle.std.proofs.Common.{◌≡◌, ℕ, zero, suc, ◌+◌, ◌≤◌, ◌<◌, Bool, true, false, cond, eqb, ltb, ◌&&◌, ◌||◌, List, [], ◌∷◌, ◌++◌, ◌⊎◌, inl, inr, length, refl, sym, ap, subst, ◌∙◌, append_assoc, arith}
+use Rattle.std.proofs.Common.{◌≡◌, ℕ, suc, ◌+◌, ◌≤◌, ◌<◌, Bool, true, false, cond, eqb, ltb, ◌||◌, List, [], ◌∷◌, ◌++◌, inl, inr, length, refl, sym, ap, ◌∙◌, arith}
 use Rattle.std.specs.Prelude.{Option, Some, None}
 use Rattle.std.specs.Char.{is_ascii_digit}
 use Rattle.std.specs.List.{AllByRecursion}
-use Rattle.std.proofs.lemmas.Bool.{cases_Bool, eqb-true, eqb-false, eq-eqb, or_cases, or_left, or_right, ltb-true, lt-ltb}
-use Rattle.std.proofs.lemmas.List.{append-nil, length-append}
+use Rattle.std.proofs.lemmas.Bool.{eqb-true, eqb-false, or_cases, or_right, ltb-true, lt-ltb}
+use Rattle.std.proofs.lemmas.List.{length-append}
 use Rattle.tl_problem.specs.declared.chain.Entry.{Entry}
 use Rattle.tl_base.specs.declared.limits.TheConstants.{MAX_CELLS}
 use Rattle.tl_cert.specs.declared.limits.TheConstants.{MAX_TABLE}
 use Rattle.tl_cert.specs.Pieces.{Piece, character, number, spell, numeral}
-use Rattle.tl_cert.specs.Text.{space, line_feed, entry_pieces, inner_pieces}
-use Rattle.tl_cert.specs.inner.CertReading.{ends_item, inner_at, entry_at, entries_reading, entries_at, more_turn}
-use Rattle.tl_cert.specs.inner.reading.Readings.{Answer, got, wrong, Reading, followed, ◌>>=◌, give}
+use Rattle.tl_cert.specs.Text.{space, entry_pieces, inner_pieces}
+use Rattle.tl_cert.specs.inner.CertReading.{ends_item, inner_at, entry_at, entries_reading, entries_at}
+use Rattle.tl_cert.specs.inner.reading.Readings.{got, Reading, followed, ◌>>=◌, give}
 use Rattle.tl_cert.specs.inner.reading.Numbers.{number_at}
-use Rattle.tl_cert.specs.inner.reading.Lists.{Listing, listing}
+use Rattle.tl_cert.specs.inner.reading.Lists.{Listing}
 use Rattle.tl_cert.proofs.reading.Exact.{Exact}
 use Rattle.tl_cert.proofs.reading.Same.{exact_same}
 use Rattle.tl_cert.proofs.reading.NumeralDigits.{numeral_first}
 use Rattle.tl_cert.proofs.reading.NumberReading.{IsRule, number_pieces, exact_number}
-use Rattle.tl_cert.proofs.reading.ListExact.{ListForm, IsListed, list_pieces, IsExactList}
-use Rattle.tl_cert.proofs.reading.Unlimited.{IsUnlimited, IsListedAt, exact_all}
+use Rattle.tl_cert.proofs.reading.ListExact.{ListForm, list_pieces, IsExactList}
+use Rattle.tl_cert.proofs.reading.Unlimited.{IsUnlimited, exact_all}
 use Rattle.tl_cert.proofs.text.Fields.{exact_part_then, exact_only, exact_made}
-use Rattle.tl_cert.proofs.text.Items.{end_of, ends_by, end_is, item_rule, any_left, flagged, item_pieces, items_form, items_exact, items_to, items_from}
+use Rattle.tl_cert.proofs.text.Items.{end_of, ends_by, end_is, item_rule, item_pieces, items_form, items_exact, items_to, items_from}
 use Rattle.tl_cert.proofs.text.SectionReading.{space_again}
 
 -- one reading or another, by a test

@@ -1,17 +1,17 @@
 -- Readings of a number that one character ends, and of a word that stands for a value, are exact.
-use Rattle.std.proofs.Common.{◌≡◌, ℕ, Bool, true, false, eqb, List, [], ◌∷◌, ◌++◌, refl, sym, ap, subst, ◌∙◌, append_assoc, arith}
+use Rattle.std.proofs.Common.{◌≡◌, ℕ, true, false, eqb, List, [], ◌∷◌, ◌++◌, refl, sym, ap, subst, ◌∙◌, append_assoc}
 use Rattle.std.specs.List.{flat_map}
 use Rattle.std.specs.Char.{is_ascii_digit}
 use Rattle.std.proofs.lemmas.Bool.{eqb-true, eq-eqb}
 use Rattle.std.proofs.lemmas.List.{append-nil}
-use Rattle.tl_cert.specs.Pieces.{Piece, number, character, field, word, spell}
-use Rattle.tl_cert.specs.inner.reading.Readings.{Answer, Reading, ◌>>=◌, give, word_at}
-use Rattle.tl_cert.specs.inner.reading.Numbers.{number_at, field_at}
+use Rattle.tl_cert.specs.Pieces.{Piece, number, character, field, word}
+use Rattle.tl_cert.specs.inner.reading.Readings.{Reading, ◌>>=◌, give, word_at}
+use Rattle.tl_cert.specs.inner.reading.Numbers.{field_at}
 use Rattle.tl_cert.proofs.reading.Exact.{Exact}
-use Rattle.tl_cert.proofs.reading.Sequence.{Parted, Joined, exact_then}
+use Rattle.tl_cert.proofs.reading.Sequence.{Joined, exact_then}
 use Rattle.tl_cert.proofs.reading.Words.{IsAny, exact_word, exact_give}
 use Rattle.tl_cert.proofs.reading.Same.{exact_same}
-use Rattle.tl_cert.proofs.reading.NumberReading.{IsRule, number_pieces, exact_number}
+use Rattle.tl_cert.proofs.reading.NumberReading.{IsRule, exact_number}
 
 -- A value that a reading's value stands for.
 pub exact_made : {A C : Type 0} {read : Reading A} {IsFirst : A → Type 0} {first_pieces : A → List Piece} (make : A → C) (part : C → A) (IsShaped : C → Type 0) (pieces : C → List Piece)

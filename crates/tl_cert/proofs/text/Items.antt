@@ -1,14 +1,14 @@
 -- Lists whose items are separated by a space and ended by a line feed: widths, and the entries of a chain.
-use Rattle.std.proofs.Common.{◌≡◌, ℕ, zero, suc, ◌+◌, ◌≤◌, ◌<◌, Bool, true, false, cond, eqb, ltb, ◌&&◌, ◌||◌, List, [], ◌∷◌, ◌++◌, ◌⊎◌, inl, inr, length, refl, sym, ap, subst, ◌∙◌, append_assoc, arith}
+use Rattle.std.proofs.Common.{◌≡◌, ℕ, zero, suc, ◌≤◌, Bool, true, false, eqb, ltb, ◌&&◌, List, [], ◌∷◌, ◌++◌, inl, inr, length, refl, sym, ap, ◌∙◌, append_assoc, arith}
 use Rattle.std.specs.Char.{is_ascii_digit}
 use Rattle.std.specs.List.{flat_map, AllByRecursion}
-use Rattle.std.proofs.lemmas.Bool.{eqb-true, eq-eqb, or_cases, or_left, or_right, and_parts, and_from, ltb-true, lt-ltb}
+use Rattle.std.proofs.lemmas.Bool.{eqb-true, or_cases, and_parts, lt-ltb}
 use Rattle.std.proofs.lemmas.List.{append-nil}
-use Rattle.tl_cert.specs.Pieces.{Piece, character, number, spell, numeral}
+use Rattle.tl_cert.specs.Pieces.{Piece, character, numeral}
 use Rattle.tl_cert.specs.Text.{space, line_feed}
 use Rattle.tl_cert.specs.inner.CertReading.{ends_item, more_turn}
 use Rattle.tl_cert.specs.inner.reading.Readings.{Reading, give}
-use Rattle.tl_cert.specs.inner.reading.Lists.{ListReading, Listing}
+use Rattle.tl_cert.specs.inner.reading.Lists.{ListReading}
 use Rattle.tl_cert.proofs.reading.Exact.{Exact}
 use Rattle.tl_cert.proofs.reading.ListExact.{ListForm, IsListed, list_pieces, Turns, IsExactList}
 use Rattle.tl_cert.proofs.reading.NumberReading.{IsRule}

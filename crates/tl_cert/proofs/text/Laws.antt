@@ -1,14 +1,14 @@
 -- What is read from a whole text is what the text says: its certificate, or its first fault.
-use Rattle.std.proofs.Common.{◌≡◌, ℕ, zero, suc, ◌+◌, ◌-◌, ◌≤◌, ◌<◌, Bool, true, false, List, [], ◌∷◌, ◌++◌, ◌⊎◌, inl, inr, length, take, drop, refl, sym, ap, subst, ◌∙◌, append_assoc, arith}
+use Rattle.std.proofs.Common.{◌≡◌, ℕ, ◌+◌, ◌-◌, ◌≤◌, ◌<◌, List, [], ◌∷◌, ◌++◌, inl, inr, length, take, drop, refl, sym, ap, subst, ◌∙◌, append_assoc, arith}
 use Rattle.std.proofs.lemmas.Bool.{cases_order}
-use Rattle.std.proofs.lemmas.List.{append-nil, length-append, take_at, take-append-drop, length-take, take-take, drop_all, take_more}
+use Rattle.std.proofs.lemmas.List.{append-nil, length-append, take_at, take-append-drop, take-take}
 use Rattle.tl_cert.specs.declared.certificate.Certificate.{Certificate}
-use Rattle.tl_cert.specs.Pieces.{Piece, number, spell, numeral, IsWithin, AllWithin}
+use Rattle.tl_cert.specs.Pieces.{spell, numeral}
 use Rattle.tl_cert.specs.Text.{cert_pieces, cert_text, IsShaped, IsWritable}
 use Rattle.tl_cert.specs.Faults.{BeginsText, IsRangeFault, IsSyntaxFault}
 use Rattle.tl_cert.specs.inner.CertReading.{certificate_at, ended_by, whole_at}
 use Rattle.tl_cert.specs.inner.reading.Readings.{Answer, got, wrong, outside, then_read}
-use Rattle.tl_cert.proofs.reading.Exact.{SameStart, Stuck, Outside, Takes, Exact}
+use Rattle.tl_cert.proofs.reading.Exact.{SameStart, Outside, Takes}
 use Rattle.tl_cert.proofs.text.Whole.{exact_certificate}
 
 -- ---- the laws of the text

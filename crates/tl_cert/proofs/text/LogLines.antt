@@ -1,5 +1,5 @@
 -- Reading a log line is exact.
-use Rattle.std.proofs.Common.{◌≡◌, ℕ, zero, suc, ◌+◌, ◌≤◌, Bool, true, false, eqb, List, [], ◌∷◌, ◌++◌, ◌⊎◌, inl, inr, length, refl, sym, ap, subst, ◌∙◌, append_assoc, arith}
+use Rattle.std.proofs.Common.{◌≡◌, ℕ, ◌≤◌, Bool, true, false, eqb, List, [], ◌∷◌, ◌++◌, ◌⊎◌, inl, inr, length, refl, sym, ap, subst, ◌∙◌, append_assoc, arith}
 use Rattle.std.specs.Prelude.{codes}
 use Rattle.std.specs.List.{flat_map}
 use Rattle.tl_cert.specs.declared.log.Bound.{Bound}
@@ -9,24 +9,23 @@ use Rattle.tl_cert.specs.declared.log.End.{End}
 use Rattle.tl_cert.specs.declared.log.LogLine.{LogLine}
 use Rattle.tl_cert.specs.declared.areas.Areas.{Areas}
 use Rattle.tl_base.specs.declared.limits.TheConstants.{MAX_PAGE_WIDTH}
-use Rattle.tl_cert.specs.declared.limits.TheConstants.{MAX_ZONE, MAX_LINE, MAX_SPAN}
+use Rattle.tl_cert.specs.declared.limits.TheConstants.{MAX_ZONE, MAX_LINE}
 use Rattle.tl_cert.specs.Pieces.{Piece, character, number, field, word, spell, numeral}
-use Rattle.tl_cert.specs.Text.{space, side_sign, bound_pieces, bounds_pieces, fire_pieces, line_pieces, end_word, is_area, IsLineShaped, IsNogoodShaped, AreBounds}
+use Rattle.tl_cert.specs.Text.{space, side_sign, bound_pieces, bounds_pieces, fire_pieces, line_pieces, is_area, IsLineShaped, IsNogoodShaped, AreBounds}
 use Rattle.tl_cert.specs.inner.Areas.{Suits}
-use Rattle.tl_cert.specs.inner.CertReading.{zone_line_at, bounds_line_at, line_at, fires_at, bounds_at}
-use Rattle.tl_cert.specs.inner.reading.Readings.{Reading, ◌>>=◌, give, begins}
+use Rattle.tl_cert.specs.inner.CertReading.{zone_line_at, bounds_line_at, line_at}
+use Rattle.tl_cert.specs.inner.reading.Readings.{begins}
 use Rattle.tl_cert.specs.inner.reading.Lists.{Listing, listing}
 use Rattle.tl_cert.proofs.reading.Exact.{Exact}
 use Rattle.tl_cert.proofs.reading.Choice.{Chosen, exact_either}
-use Rattle.tl_cert.proofs.reading.Words.{IsAny}
 use Rattle.tl_cert.proofs.reading.NumeralDigits.{numeral_first}
 use Rattle.tl_cert.proofs.reading.Numerals.{digit_range}
 use Rattle.std.specs.Char.{is_ascii_digit}
 use Rattle.std.proofs.lemmas.Bool.{ne_eqb}
 use Rattle.std.proofs.lemmas.List.{append-nil}
 use Rattle.tl_cert.proofs.text.Fields.{exact_after, exact_field, exact_part_then, exact_only, exact_made, shifted}
-use Rattle.tl_cert.proofs.text.Ends.{fired, AreFires, fires_pieces, exact_fires, end_pieces}
-use Rattle.tl_cert.proofs.text.BoundReading.{bounded, AreBoundsAndFires, bounds_text, exact_bounds}
+use Rattle.tl_cert.proofs.text.Ends.{AreFires, fires_pieces, exact_fires, end_pieces}
+use Rattle.tl_cert.proofs.text.BoundReading.{bounds_text, exact_bounds}
 
 -- a line that is shaped, with an end as it is asked
 pub record IsLine (areas : Areas) (line : LogLine) : Type 0 where

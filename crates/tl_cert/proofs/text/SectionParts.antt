@@ -1,29 +1,23 @@
 -- Reading the log lines, the cuts and the widths of a section is exact.
-use Rattle.std.proofs.Common.{◌≡◌, ℕ, zero, suc, ◌+◌, ◌*◌, ◌≤◌, ◌<◌, Bool, true, false, cond, eqb, ltb, ◌&&◌, ◌||◌, List, [], ◌∷◌, ◌++◌, ◌⊎◌, inl, inr, length, refl, sym, ap, subst, ◌∙◌, arith}
+use Rattle.std.proofs.Common.{◌≡◌, ℕ, zero, suc, Bool, true, false, ◌||◌, List, [], ◌∷◌, ◌++◌, length, refl, ap, ◌∙◌, arith}
 use Rattle.std.specs.Prelude.{codes}
-use Rattle.std.specs.List.{flat_map, list_any, AllByRecursion}
-use Rattle.std.specs.Char.{is_ascii_digit}
-use Rattle.std.proofs.lemmas.Bool.{cases_Bool, eqb-true, eq-eqb, or_cases, or_left, or_right, and_parts, and_from}
-use Rattle.std.proofs.lemmas.List.{append-nil}
+use Rattle.std.specs.List.{flat_map, AllByRecursion}
 use Rattle.tl_cert.specs.declared.trace.CutAt.{CutAt}
 use Rattle.tl_cert.specs.declared.log.LogLine.{LogLine}
 use Rattle.tl_cert.specs.declared.areas.Areas.{Areas}
 use Rattle.tl_cert.specs.declared.areas.Areas.TheVariants.{Never, Free, Owed}
-use Rattle.tl_base.specs.declared.limits.TheConstants.{MAX_PAGE_WIDTH, MAX_COLUMNS}
 use Rattle.tl_cert.specs.declared.limits.TheConstants.{MAX_ZONE, MAX_SPAN, MAX_CLASS}
-use Rattle.tl_cert.specs.Pieces.{Piece, character, number, field, word, spell, numeral}
-use Rattle.tl_cert.specs.Text.{space, line_feed, spaced, line_pieces, cut_pieces, is_area, log_has_area, IsLineShaped}
+use Rattle.tl_cert.specs.Pieces.{Piece, field}
+use Rattle.tl_cert.specs.Text.{space, line_feed, line_pieces, cut_pieces, is_area, log_has_area, IsLineShaped}
 use Rattle.tl_cert.specs.inner.Areas.{Suits, for_part, after}
-use Rattle.tl_cert.specs.inner.CertReading.{line_at, lines_reading, lines_at, cut_at, cuts_reading, cuts_at, ends_item, width_at}
-use Rattle.tl_cert.specs.inner.reading.Readings.{Reading, ◌>>=◌, give, word_at, begins}
-use Rattle.tl_cert.specs.inner.reading.Lists.{Listing, listing}
+use Rattle.tl_cert.specs.inner.CertReading.{lines_reading, lines_at, cut_at, cuts_reading, cuts_at}
+use Rattle.tl_cert.specs.inner.reading.Readings.{give}
+use Rattle.tl_cert.specs.inner.reading.Lists.{Listing}
 use Rattle.tl_cert.proofs.reading.Exact.{Exact}
-use Rattle.tl_cert.proofs.reading.Words.{IsAny, exact_word, exact_give}
-use Rattle.tl_cert.proofs.reading.Choice.{Chosen, exact_either}
+use Rattle.tl_cert.proofs.reading.Words.{IsAny}
 use Rattle.tl_cert.proofs.reading.Same.{exact_same}
-use Rattle.tl_cert.proofs.reading.NumberReading.{IsRule, number_pieces, exact_number}
-use Rattle.tl_cert.proofs.reading.ListExact.{ListForm, IsListed, list_pieces, Turns, IsExactList, exact_list}
-use Rattle.tl_cert.proofs.text.Fields.{exact_after, exact_field, exact_part_then, exact_only, exact_made}
+use Rattle.tl_cert.proofs.reading.ListExact.{ListForm, IsListed, list_pieces, IsExactList, exact_list}
+use Rattle.tl_cert.proofs.text.Fields.{exact_after, exact_field, exact_part_then, exact_only}
 use Rattle.tl_cert.proofs.text.LogLines.{IsLine, exact_line}
 
 -- ---- where a line that ends by `area` stands

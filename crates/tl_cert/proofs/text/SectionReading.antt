@@ -1,9 +1,9 @@
 -- Reading the widths, the number of log lines and a whole section is exact.
-use Rattle.std.proofs.Common.{◌≡◌, ℕ, zero, suc, ◌+◌, ◌*◌, ◌≤◌, ◌<◌, Bool, true, false, eqb, ltb, ◌&&◌, ◌||◌, List, [], ◌∷◌, ◌++◌, ◌⊎◌, inl, inr, length, refl, sym, ap, subst, ◌∙◌, append_assoc, arith}
+use Rattle.std.proofs.Common.{◌≡◌, ℕ, zero, suc, ◌+◌, ◌*◌, ◌≤◌, ◌<◌, Bool, true, false, eqb, ltb, ◌&&◌, List, [], ◌∷◌, ◌++◌, ◌⊎◌, inl, inr, length, refl, sym, ap, subst, ◌∙◌, append_assoc, arith}
 use Rattle.std.specs.Prelude.{codes}
 use Rattle.std.specs.List.{flat_map, AllByRecursion}
 use Rattle.std.specs.Char.{is_ascii_digit}
-use Rattle.std.proofs.lemmas.Bool.{eqb-true, and_parts, and_from, lt-ltb}
+use Rattle.std.proofs.lemmas.Bool.{eqb-true, and_parts, lt-ltb}
 use Rattle.std.proofs.lemmas.List.{append-nil}
 use Rattle.tl_cert.specs.declared.trace.CutAt.{CutAt}
 use Rattle.tl_cert.specs.declared.log.LogLine.{LogLine}
@@ -13,16 +13,15 @@ use Rattle.tl_cert.specs.declared.areas.Areas.TheVariants.{Never, Free, Owed}
 use Rattle.tl_base.specs.declared.limits.TheConstants.{MAX_PAGE_WIDTH, MAX_COLUMNS, MAX_HEIGHT, MAX_BUDGET}
 use Rattle.tl_cert.specs.declared.limits.TheConstants.{MAX_TABLE}
 use Rattle.tl_cert.specs.Pieces.{Piece, character, number, field, word, spell, numeral}
-use Rattle.tl_cert.specs.Text.{space, line_feed, spaced, line_pieces, cut_pieces, section_pieces, log_has_area, IsLineShaped, IsSectionShaped}
+use Rattle.tl_cert.specs.Text.{space, line_feed, spaced, line_pieces, cut_pieces, section_pieces, log_has_area, IsSectionShaped}
 use Rattle.tl_cert.specs.inner.Areas.{Suits}
-use Rattle.tl_cert.specs.inner.CertReading.{width_at, widths_reading, some_widths_at, widths_at, may_count, count_at, section_at, cuts_at, lines_at}
-use Rattle.tl_cert.specs.inner.reading.Readings.{Reading, begins}
+use Rattle.tl_cert.specs.inner.CertReading.{width_at, widths_reading, some_widths_at, widths_at, may_count, count_at, section_at}
+use Rattle.tl_cert.specs.inner.reading.Readings.{begins}
 use Rattle.tl_cert.specs.inner.reading.Lists.{Listing, listing}
 use Rattle.tl_cert.proofs.reading.Exact.{Exact}
-use Rattle.tl_cert.proofs.reading.Words.{IsAny}
 use Rattle.tl_cert.proofs.reading.Choice.{Chosen, exact_either}
 use Rattle.tl_cert.proofs.reading.Same.{exact_same}
-use Rattle.tl_cert.proofs.reading.NumberReading.{IsRule, number_pieces, exact_number}
+use Rattle.tl_cert.proofs.reading.NumberReading.{IsRule, exact_number}
 use Rattle.tl_cert.proofs.reading.ListExact.{list_pieces, exact_list}
 use Rattle.tl_cert.proofs.text.Fields.{exact_after, exact_field, exact_part_then, exact_only, exact_made, exact_sign}
 use Rattle.tl_cert.proofs.text.Items.{end_of, ends_by, end_is, item_rule, flagged, item_pieces, items_form, items_exact, items_to, items_from, items_text}

@@ -1,17 +1,17 @@
 -- Reading the sections of a certificate, and its last line, is exact.
-use Rattle.std.proofs.Common.{◌≡◌, ℕ, zero, suc, ◌+◌, ◌≤◌, ◌<◌, Bool, true, false, eqb, ◌||◌, List, [], ◌∷◌, ◌++◌, length, refl, sym, ap, subst, ◌∙◌, append_assoc, arith}
+use Rattle.std.proofs.Common.{◌≡◌, ℕ, zero, suc, ◌≤◌, Bool, true, false, List, [], ◌∷◌, ◌++◌, length, refl, sym, ap, ◌∙◌, append_assoc, arith}
 use Rattle.std.specs.Prelude.{codes}
 use Rattle.std.specs.List.{flat_map, AllByRecursion}
 use Rattle.tl_cert.specs.declared.section.Section.{Section}
 use Rattle.tl_cert.specs.declared.areas.Areas.{Areas}
 use Rattle.tl_cert.specs.declared.areas.Areas.TheVariants.{Never, Free, Owed}
 use Rattle.tl_cert.specs.declared.limits.TheConstants.{MAX_SECTIONS}
-use Rattle.tl_cert.specs.Pieces.{Piece, word, spell}
+use Rattle.tl_cert.specs.Pieces.{Piece, word}
 use Rattle.tl_cert.specs.Text.{section_pieces, log_has_area, has_area, IsSectionShaped}
 use Rattle.tl_cert.specs.inner.Areas.{Suits, for_part, after}
-use Rattle.tl_cert.specs.inner.CertReading.{section_at, sections_turn, sections_reading, sections_at}
+use Rattle.tl_cert.specs.inner.CertReading.{sections_turn, sections_reading, sections_at}
 use Rattle.tl_cert.specs.inner.reading.Readings.{word_at}
-use Rattle.tl_cert.specs.inner.reading.Lists.{Listing, listing}
+use Rattle.tl_cert.specs.inner.reading.Lists.{Listing}
 use Rattle.tl_cert.proofs.reading.Exact.{Exact}
 use Rattle.tl_cert.proofs.reading.Words.{exact_word}
 use Rattle.tl_cert.proofs.reading.Same.{exact_same}

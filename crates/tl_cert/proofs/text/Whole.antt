@@ -1,7 +1,7 @@
 -- Reading a whole certificate is exact.
-use Rattle.std.proofs.Common.{◌≡◌, ℕ, zero, suc, ◌+◌, ◌≤◌, ◌<◌, Bool, true, false, eqb, List, [], ◌∷◌, ◌++◌, ◌⊎◌, inl, inr, length, refl, sym, ap, subst, ◌∙◌, append_assoc, arith}
+use Rattle.std.proofs.Common.{◌≡◌, ℕ, Bool, true, false, eqb, List, [], ◌++◌, ◌⊎◌, inl, inr, refl, sym, ap, subst, ◌∙◌}
 use Rattle.std.specs.Prelude.{codes}
-use Rattle.std.specs.List.{flat_map, AllByRecursion}
+use Rattle.std.specs.List.{flat_map}
 use Rattle.tl_base.specs.declared.style.Style.{Style}
 use Rattle.tl_base.specs.declared.style.Style.TheVariants.{Plain, Frame}
 use Rattle.tl_problem.specs.declared.chain.Chain.{Chain}
@@ -10,19 +10,18 @@ use Rattle.tl_cert.specs.declared.certificate.Claim.{Claim}
 use Rattle.tl_cert.specs.declared.certificate.Claim.TheVariants.{Lowest, Bounded, Narrow}
 use Rattle.tl_cert.specs.declared.certificate.Certificate.{Certificate}
 use Rattle.tl_base.specs.declared.limits.TheConstants.{MAX_PAGE_WIDTH, MAX_BUDGET, MAX_HEIGHT}
-use Rattle.tl_cert.specs.Pieces.{Piece, character, number, field, word, spell}
+use Rattle.tl_cert.specs.Pieces.{Piece, field, word, spell}
 use Rattle.tl_cert.specs.Text.{space, line_feed, version_word, style_word, claim_pieces, chain_pieces, section_pieces, cert_pieces, has_area, HasChains, HasSections, HasProof, IsShaped}
 use Rattle.tl_cert.specs.inner.Areas.{Suits}
 use Rattle.tl_cert.specs.inner.CertReading.{version_at, style_at, lowest_at, bounded_at, narrow_at, other_claim_at, claim_at, areas_of, sections_at, proof_at, certificate_at}
-use Rattle.tl_cert.specs.inner.reading.Readings.{Reading, ◌>>=◌, give, begins}
+use Rattle.tl_cert.specs.inner.reading.Readings.{◌>>=◌, give, begins}
 use Rattle.tl_cert.specs.inner.reading.Lists.{Listing, listing}
 use Rattle.tl_cert.proofs.reading.Exact.{Exact}
 use Rattle.tl_cert.proofs.reading.Words.{IsAny}
 use Rattle.tl_cert.proofs.reading.Choice.{Chosen, exact_either}
-use Rattle.tl_cert.proofs.reading.Same.{exact_same}
 use Rattle.tl_cert.proofs.text.Fields.{exact_after, exact_field, exact_part_then, exact_only, exact_made, exact_sign}
-use Rattle.tl_cert.proofs.text.Sections.{AreAllSections, sections_pieces, exact_sections}
-use Rattle.tl_cert.proofs.text.Chains.{AreChains, chains_pieces, exact_chains}
+use Rattle.tl_cert.proofs.text.Sections.{exact_sections}
+use Rattle.tl_cert.proofs.text.Chains.{exact_chains}
 
 -- ---- version and style
 

@@ -1,4 +1,3 @@
-use Rattle.std.proofs.Common.{◌≡◌, ℕ, List, [], ◌∷◌, ◌++◌, refl, sym, ap, ◌∙◌}
 use Rattle.tl_cert.specs.Text.{cut_pieces}
 use Rattle.tl_cert.proofs.Appending.{written_at}
 use Rattle.tl_cert.proofs.writing.put_cuts.Goals as goal

@@ -1,4 +1,4 @@
-use Rattle.std.proofs.Common.{◌≡◌, ℕ, List, [], ◌∷◌, ◌++◌, refl, sym, ap, ◌∙◌}
+use Rattle.std.proofs.Common.{[], ◌∷◌}
 use Rattle.tl_problem.specs.declared.chain.Entry.{Entry}
 use Rattle.tl_cert.specs.Pieces.{character}
 use Rattle.tl_cert.specs.Text.{space, entry_pieces}

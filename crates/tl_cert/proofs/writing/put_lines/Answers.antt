@@ -1,4 +1,3 @@
-use Rattle.std.proofs.Common.{◌≡◌, ℕ, List, [], ◌∷◌, ◌++◌, refl, sym, ap, ◌∙◌}
 use Rattle.tl_cert.specs.Text.{line_pieces}
 use Rattle.tl_cert.proofs.Appending.{written_more}
 use Rattle.tl_cert.proofs.writing.put_lines.Goals as goal

@@ -1,6 +1,6 @@
 -- No public clause cites this file. The reading of lists, item by item, up to what stops them.
 use Rattle.std.specs.Prelude.{ℕ, zero, suc, Bool, true, false, List, [], ◌∷◌, length}
-use Rattle.tl_cert.specs.inner.reading.Readings.{Answer, Reading, ◌>>=◌, give, begins, either}
+use Rattle.tl_cert.specs.inner.reading.Readings.{Reading, ◌>>=◌, give, begins, either}
 
 -- Whether another item comes: it does not, it does, or the next character tells.
 pub data Turn : Type 0 where

@@ -1,7 +1,7 @@
 -- No public clause cites this file. The reading of a number and of the character that ends it.
-use Rattle.std.specs.Prelude.{ℕ, suc, ◌+◌, ◌*◌, ◌-◌, nat_le, Bool, true, false, ◌&&◌, ◌==◌, List, [], ◌∷◌, length, if◌then◌else◌}
+use Rattle.std.specs.Prelude.{ℕ, suc, ◌+◌, ◌*◌, ◌-◌, nat_le, Bool, true, ◌&&◌, ◌==◌, List, [], ◌∷◌, length, if◌then◌else◌}
 use Rattle.std.specs.Char.{is_ascii_digit}
-use Rattle.tl_cert.specs.inner.reading.Readings.{Answer, got, wrong, outside, Reading, ◌>>=◌, give, begins}
+use Rattle.tl_cert.specs.inner.reading.Readings.{got, wrong, outside, Reading, ◌>>=◌, give, begins}
 
 -- the number that digits go on with from this one, and what follows the digits
 abbrev pub read_run : ℕ → List ℕ → ℕ × List ℕ

@@ -1,6 +1,5 @@
 -- No public clause cites this file. Readings of a text from front to back, and what they answer. They know no certificates.
-use Rattle.std.specs.Prelude.{◌≡◌, ℕ, suc, zero, ◌+◌, ◌*◌, ◌-◌, ◌≤◌, nat_lt, Bool, true, false, ◌&&◌, ◌||◌, ◌==◌, List, [], ◌∷◌, ◌++◌, length, if◌then◌else◌}
-use Rattle.std.specs.Char.{is_ascii_digit}
+use Rattle.std.specs.Prelude.{ℕ, suc, Bool, false, ◌==◌, List, [], ◌∷◌, length, if◌then◌else◌}
 
 -- A value and what is left of the text. Or so many characters are left where no text goes on with the next one; or where
 -- a number begins that is outside its range.

@@ -1,4 +1,4 @@
-use Rattle.std.proofs.Common.{◌≡◌, ◌≤◌, ◌-◌, length}
+use Rattle.std.proofs.Common.{◌≤◌, ◌-◌, length}
 use Rattle.std.specs.Prelude.{Some}
 use Rattle.tl_cert.specs.declared.limits.TheConstants.{MAX_BOUNDS, MAX_SPAN}
 use Rattle.tl_cert.specs.inner.CertReading.{bounds_reading, bounds_at}

@@ -1,7 +1,7 @@
-use Rattle.std.proofs.Common.{◌≡◌, ℕ, suc, ◌+◌, ◌-◌, ◌≤◌, ◌<◌, Bool, true, false, List, [], length, refl, sym, ap, ◌∙◌, arith}
+use Rattle.std.proofs.Common.{suc, true, false, length, refl}
 use Rattle.std.proofs.lemmas.Result.{err_from_is_err_and}
-use Rattle.tl_cert.specs.inner.CertReading.{chains_reading, chains_at, chain_at, chains_turn}
-use Rattle.tl_cert.specs.inner.reading.Lists.{comes, all_at}
+use Rattle.tl_cert.specs.inner.CertReading.{chains_reading, chains_at}
+use Rattle.tl_cert.specs.inner.reading.Lists.{all_at}
 use Rattle.tl_cert.proofs.Loops.{Stops, stops_by, pushed_on, fails_on, stops_at, fails_at, starts, refuel}
 use Rattle.tl_cert.proofs.text.Chains.{chains_form, chains_unlimited, chain_shorter}
 use Rattle.tl_cert.proofs.reader.Reader.chains.Goals as goal

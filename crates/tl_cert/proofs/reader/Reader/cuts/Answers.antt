@@ -1,4 +1,4 @@
-use Rattle.std.proofs.Common.{◌≡◌, ℕ, suc, ◌+◌, ◌-◌, ◌≤◌, ◌<◌, List, [], refl, arith}
+use Rattle.std.proofs.Common.{◌+◌, ◌-◌, refl, arith}
 use Rattle.std.proofs.lemmas.Result.{err_from_is_err_and}
 use Rattle.tl_cert.specs.inner.CertReading.{cuts_reading, cuts_at}
 use Rattle.tl_cert.specs.inner.reading.Readings.{give}

@@ -1,9 +1,8 @@
-use Rattle.std.proofs.Common.{◌≡◌, ℕ, suc, ◌+◌, ◌-◌, ◌≤◌, ◌<◌, true, false, List, [], ◌∷◌, ◌++◌, length, refl, ap, ◌∙◌, arith}
+use Rattle.std.proofs.Common.{◌≡◌, ◌+◌, ◌-◌, length, refl, ap, ◌∙◌, arith}
 use Rattle.std.proofs.lemmas.Result.{err_from_is_err_and}
 use Rattle.std.proofs.lemmas.List.{length_push}
 use Rattle.tl_cert.specs.declared.limits.TheConstants.{MAX_FIRES}
 use Rattle.tl_cert.specs.inner.CertReading.{fires_reading, fires_at}
-use Rattle.tl_cert.specs.inner.reading.Lists.{comes}
 use Rattle.tl_cert.proofs.Loops.{Stops, stops_by, pushed_on, fails_on, stops_at, fails_at}
 use Rattle.tl_cert.proofs.reader.Reader.fires.Goals as goal
 use Rattle.tl_cert.proofs.reader.Reader.fires.Goals.{then-fires-test+else-next_is, else-fires-test}

@@ -1,4 +1,4 @@
-use Rattle.std.proofs.Common.{◌≡◌, ◌≤◌, ◌-◌, length}
+use Rattle.std.proofs.Common.{◌≤◌, ◌-◌, length}
 use Rattle.tl_cert.specs.declared.limits.TheConstants.{MAX_FIRES}
 use Rattle.tl_cert.specs.inner.CertReading.{fires_reading, fires_at}
 use Rattle.tl_cert.proofs.Loops.{Whole}

@@ -1,13 +1,12 @@
-use Rattle.std.proofs.Common.{◌≡◌, ℕ, suc, ◌+◌, ◌-◌, ◌≤◌, ◌<◌, Bool, true, false, List, [], length, refl, sym, ap, ◌∙◌, arith}
+use Rattle.std.proofs.Common.{◌≡◌, ℕ, ◌+◌, ◌-◌, Bool, false, length, refl, sym, ap, ◌∙◌, arith}
 use Rattle.std.proofs.lemmas.Result.{err_from_is_err_and}
 use Rattle.std.proofs.lemmas.List.{length_push}
 use Rattle.tl_cert.specs.declared.areas.Areas.{Areas}
 use Rattle.tl_cert.specs.declared.limits.TheConstants.{MAX_SECTIONS}
 use Rattle.tl_cert.specs.Text.{log_has_area}
 use Rattle.tl_cert.specs.inner.Areas.{for_part, after}
-use Rattle.tl_cert.specs.inner.CertReading.{sections_reading, sections_at, section_at, sections_turn}
+use Rattle.tl_cert.specs.inner.CertReading.{sections_reading, sections_at, section_at}
 use Rattle.tl_cert.specs.inner.Gives.{Fails}
-use Rattle.tl_cert.specs.inner.reading.Lists.{comes}
 use Rattle.tl_cert.proofs.Loops.{Stops, stops_by, pushed_on, fails_on, stops_at, fails_at}
 use Rattle.tl_cert.proofs.reader.Reader.sections.Goals as goal
 use Rattle.tl_cert.proofs.reader.Reader.sections.Goals.{then-sections-test+else-section_comes, else-sections-test}

@@ -1,4 +1,4 @@
-use Rattle.std.proofs.Common.{◌≡◌, ◌≤◌, ◌-◌, length}
+use Rattle.std.proofs.Common.{◌≤◌, ◌-◌, length}
 use Rattle.tl_cert.specs.declared.limits.TheConstants.{MAX_SECTIONS}
 use Rattle.tl_cert.specs.inner.CertReading.{sections_reading, sections_at}
 use Rattle.tl_cert.proofs.Loops.{Whole}
