@@ -3,7 +3,6 @@
 
 ghost use Rattle.std.specs.Prelude.{◌≡◌, ℕ, ◌+◌, ◌*◌, ◌<◌, ◌≤◌, length, get_or, IfOk};
 ghost use Rattle.tl_cert.specs.declared.trace.CutAt.{CutAt};
-ghost use Rattle.tl_base.specs.declared.limits.TheConstants.{MAX_BUDGET};
 ghost use Rattle.tl_solve.specs.inner.Found.{AreCutsOf};
 ghost use Rattle.tl_solve.specs.inner.Shapes.{closing_line_of, firing_line_of};
 

@@ -33,6 +33,7 @@ pub fn trace_log(
     ensures writable { IfOk result IsLogWritable }
     ensures short { IfOk result (λ log. length log ≤ 2 * length trace.now + 1) }
 {
+    // The cells come with the fact that the problem is sound.
     let _cells = problem.cells();
     let zones = zones_of_trace(alloc, problem, trace)?;
     let bounds = bounds_of_trace(alloc, problem, trace, &zones)?;
