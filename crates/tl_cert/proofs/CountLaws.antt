@@ -62,8 +62,13 @@ without-weighs g c (z ∷ zs) rising has =
 -- sums over lists on whose elements the terms agree
 sum_by-same_on : (f g : ℕ → ℕ) (zs : List ℕ) → All (λ z. f z ≡ g z) zs → sum_by f zs ≡ sum_by g zs
 sum_by-same_on f g [] same = refl
-sum_by-same_on f g (z ∷ zs) same = omega (arith, sum_by-cons f z zs, sum_by-cons g z zs, same 0 z (omega arith),
-    sum_by-same_on f g zs (λ k d within. same (suc k) d (omega arith)))
+sum_by-same_on f g (z ∷ zs) same = omega (
+  arith,
+  sum_by-cons f z zs,
+  sum_by-cons g z zs,
+  same 0 z (omega arith),
+  sum_by-same_on f g zs (λ k d within. same (suc k) d (omega arith)),
+)
 
 -- ---- the standing zones of a trace
 
@@ -100,8 +105,11 @@ module _ (whole : List Range) (trace : List CutAt) (cut : CutAt) (is : IsTrace w
               stands-old whole trace cut z ((are.each z).0 kept.0) (other-not cut.zone z kept.1)
           | inr new ↦ elim (Contains-cases (2 * length trace + 1) ((2 * length trace + 2) ∷ []) z new) [
             | inl first ↦ stands-new whole trace cut is now z (omega arith) (omega arith)
-            | inr later ↦ elim (Contains-cases (2 * length trace + 2) [] z later) [ inl second ↦
-                stands-new whole trace cut is now z (omega arith) (omega arith) | inr none ↦ absurd (Contains-none z none) ]
+            | inr later ↦ elim (Contains-cases (2 * length trace + 2) [] z later) [
+              | inl second ↦
+                  stands-new whole trace cut is now z (omega arith) (omega arith)
+              | inr none ↦ absurd (Contains-none z none)
+            ]
           ]
         ]
 
@@ -114,16 +122,16 @@ module _ (whole : List Range) (trace : List CutAt) (cut : CutAt) (is : IsTrace w
               (Contains-filter (other_than cut.zone) zones z (other-true cut.zone z before.1) ((are.each z).1 before.0))
           | inr (inl first) ↦ Contains-append_right (filter (other_than cut.zone) zones) ((2 * length trace + 1) ∷ (2 * length trace + 2) ∷ []) z
               (subst (Contains ((2 * length trace + 1) ∷ (2 * length trace + 2) ∷ [])) (sym first)
-                  (Contains-first (2 * length trace + 1) ((2 * length trace + 2) ∷ [])))
+              (Contains-first (2 * length trace + 1) ((2 * length trace + 2) ∷ [])))
           | inr (inr second) ↦ Contains-append_right (filter (other_than cut.zone) zones) ((2 * length trace + 1) ∷ (2 * length trace + 2) ∷ []) z
               (Contains-later (2 * length trace + 1) ((2 * length trace + 2) ∷ []) z
-                  (subst (Contains ((2 * length trace + 2) ∷ [])) (sym second) (Contains-first (2 * length trace + 2) [])))
+              (subst (Contains ((2 * length trace + 2) ∷ [])) (sym second) (Contains-first (2 * length trace + 2) [])))
         ]
 
   -- of a weight of which a cut zone has as much as its two parts, the standing zones have as much after the cut
   standing-weighs : (f : List Range → ℕ) →
       f (lower_part (zone_at whole trace cut.zone) cut.span cut.class) + f (upper_part (zone_at whole trace cut.zone) cut.span cut.class) ≡ f
-          (zone_at whole trace cut.zone) →
+      (zone_at whole trace cut.zone) →
       sum_by (λ z. f (zone_at whole (trace ++ cut ∷ []) z)) (standing-more trace cut zones) ≡ sum_by (λ z. f (zone_at whole trace z)) zones
   unfolding standing-more
   standing-weighs f parts =
@@ -134,7 +142,7 @@ module _ (whole : List Range) (trace : List CutAt) (cut : CutAt) (is : IsTrace w
       let single = sum_by-cons after (2 * length trace + 2) [] in
       let old = sum_by-same_on after before (filter (other_than cut.zone) zones)
       (All-from_Contains (λ z. after z ≡ before z) (filter (other_than cut.zone) zones)
-          (λ z has. ap f (zone-old whole trace cut z ((are.each z).0 (filter-Contains (other_than cut.zone) zones z has).0).there))) in
+      (λ z has. ap f (zone-old whole trace cut z ((are.each z).0 (filter-Contains (other_than cut.zone) zones z has).0).there))) in
       let without = without-weighs before cut.zone zones are.rising ((are.each cut.zone).1 now.stands) in
       omega (arith, split, pair, single, old, without, parts, ap f (zone-lower whole trace cut), ap f (zone-upper whole trace cut))
 
@@ -166,7 +174,7 @@ vector-at : (zone : List Range) (s : ℕ) (r : Range) (vector : List ℕ) → s 
     (r.first ≤ get_or vector s 0) × (get_or vector s 0 ≤ r.last)
 vector-at zone s r vector there has =
     subst (λ q. (q.first ≤ get_or vector s 0) × (get_or vector s 0 ≤ q.last)) (get_or-set_same zone s r (range 0 0) there)
-        (has s (omega (arith, there, length-set zone s r)))
+    (has s (omega (arith, there, length-set zone s r)))
 
 vector-unset : (zone : List Range) (s : ℕ) (r : Range) (vector : List ℕ) → s < length zone → (range_at zone s).first ≤ r.first →
     r.last ≤ (range_at zone s).last → HasVector (set zone s r) vector → HasVector zone vector
@@ -218,34 +226,37 @@ module _ (problem : ProblemModel) (sound : IsSound problem) where
   unfolding InSome
   vector-in_some trace is = trace-by (whole_zone problem) InSome
       (λ vector of. (0, record { there = omega arith; not_cut = λ k d within. absurd (omega arith) }, whole-vector vector of)) more trace is where
-    more : (trace : List CutAt) (cut : CutAt) → IsTrace (whole_zone problem) trace → IsCut (whole_zone problem) trace cut → InSome trace →
-        InSome (trace ++ cut ∷ [])
-    more trace cut is now before vector of =
-        let found = before vector of in
-        let whole = whole_zone problem in
-        let parent = zone_at whole trace cut.zone in
-        let span = cut-span trace cut is now in
-        elim (cases_eq cut.zone found.0) [
-          | inr apart ↦ (found.0, stands-old whole trace cut found.0 found.1 apart,
-              subst (λ zone. HasVector zone vector) (sym (zone-old whole trace cut found.0 found.1.there)) found.2)
-          | inl same ↦
-              let has = subst (λ z. HasVector (zone_at whole trace z) vector) (sym same) found.2 in
-              let here = has cut.span span in
-              elim (cases_lt cut.class (get_or vector cut.span 0)) [
-                | inr low ↦ (
-                  2 * length trace + 1,
-                  stands-new whole trace cut is now (2 * length trace + 1) (omega arith) (omega arith),
-                  subst (λ zone. HasVector zone vector) (sym (zone-lower whole trace cut))
-                      (vector-set parent cut.span (range (range_at parent cut.span).first cut.class) vector span here.0 low has),
-                )
-                | inl high ↦ (
-                  2 * length trace + 2,
-                  stands-new whole trace cut is now (2 * length trace + 2) (omega arith) (omega arith),
-                  subst (λ zone. HasVector zone vector) (sym (zone-upper whole trace cut))
-                      (vector-set parent cut.span (range (cut.class + 1) (range_at parent cut.span).last) vector span (omega arith) here.1 has),
-                )
-              ]
-        ]
+        more : (trace : List CutAt) (cut : CutAt) → IsTrace (whole_zone problem) trace → IsCut (whole_zone problem) trace cut → InSome trace →
+            InSome (trace ++ cut ∷ [])
+        more trace cut is now before vector of =
+            let found = before vector of in
+            let whole = whole_zone problem in
+            let parent = zone_at whole trace cut.zone in
+            let span = cut-span trace cut is now in
+            elim (cases_eq cut.zone found.0) [
+              | inr apart ↦ (
+                found.0,
+                stands-old whole trace cut found.0 found.1 apart,
+                subst (λ zone. HasVector zone vector) (sym (zone-old whole trace cut found.0 found.1.there)) found.2,
+              )
+              | inl same ↦
+                  let has = subst (λ z. HasVector (zone_at whole trace z) vector) (sym same) found.2 in
+                  let here = has cut.span span in
+                  elim (cases_lt cut.class (get_or vector cut.span 0)) [
+                    | inr low ↦ (
+                      2 * length trace + 1,
+                      stands-new whole trace cut is now (2 * length trace + 1) (omega arith) (omega arith),
+                      subst (λ zone. HasVector zone vector) (sym (zone-lower whole trace cut))
+                          (vector-set parent cut.span (range (range_at parent cut.span).first cut.class) vector span here.0 low has),
+                    )
+                    | inl high ↦ (
+                      2 * length trace + 2,
+                      stands-new whole trace cut is now (2 * length trace + 2) (omega arith) (omega arith),
+                      subst (λ zone. HasVector zone vector) (sym (zone-upper whole trace cut))
+                          (vector-set parent cut.span (range (cut.class + 1) (range_at parent cut.span).last) vector span (omega arith) here.1 has),
+                    )
+                  ]
+            ]
 
   -- and in no other
   InOne : List CutAt → Type 0
@@ -256,48 +267,48 @@ module _ (problem : ProblemModel) (sound : IsSound problem) where
   unfolding InOne
   vector-in_one trace is = trace-by (whole_zone problem) InOne (λ vector a b first second one other. omega (arith, first.there, second.there)) more
       trace is where
-    more : (trace : List CutAt) (cut : CutAt) → IsTrace (whole_zone problem) trace → IsCut (whole_zone problem) trace cut → InOne trace →
-        InOne (trace ++ cut ∷ [])
-    more trace cut is now before vector a b first second one other = joined (from_before a first one) (from_before b second other) where
-      -- a zone that stands after the cut stood before, or it is a part of the zone that is cut
-      Comes : ℕ → Type 0
-      Comes z = (Stands trace z × (cut.zone ≢ z) × HasVector (zone_at (whole_zone problem) trace z) vector)
-          ⊎ (HasVector (zone_at (whole_zone problem) trace cut.zone) vector ×
+        more : (trace : List CutAt) (cut : CutAt) → IsTrace (whole_zone problem) trace → IsCut (whole_zone problem) trace cut → InOne trace →
+            InOne (trace ++ cut ∷ [])
+        more trace cut is now before vector a b first second one other = joined (from_before a first one) (from_before b second other) where
+          -- a zone that stands after the cut stood before, or it is a part of the zone that is cut
+          Comes : ℕ → Type 0
+          Comes z = (Stands trace z × (cut.zone ≢ z) × HasVector (zone_at (whole_zone problem) trace z) vector)
+              ⊎ (HasVector (zone_at (whole_zone problem) trace cut.zone) vector ×
               (((z ≡ 2 * length trace + 1) × (get_or vector cut.span 0 ≤ cut.class)) ⊎
               ((z ≡ 2 * length trace + 2) × (cut.class < get_or vector cut.span 0))))
 
-      from_before : (z : ℕ) → Stands (trace ++ cut ∷ []) z → HasVector (zone_at (whole_zone problem) (trace ++ cut ∷ []) z) vector → Comes z
-      from_before z stands has =
-          let whole = whole_zone problem in
-          let parent = zone_at whole trace cut.zone in
-          let span = cut-span trace cut is now in
-          elim (zone-cases whole trace cut z stands.there) [
-            | inl old ↦ let stood = stood-before whole trace cut z stands old in
-                inl (stood.0, stood.1, subst (λ zone. HasVector zone vector) (zone-old whole trace cut z old) has)
-            | inr (inl low) ↦
-                let part = subst (λ zone. HasVector zone vector) (ap (zone_at whole (trace ++ cut ∷ [])) low ∙ zone-lower whole trace cut) has in
-                inr (
-                  vector-unset parent cut.span (range (range_at parent cut.span).first cut.class) vector span (omega arith) (omega (arith, now.upper)) part,
-                  inl (low, (vector-at parent cut.span (range (range_at parent cut.span).first cut.class) vector span part).1),
-                )
-            | inr (inr high) ↦
-                let part = subst (λ zone. HasVector zone vector) (ap (zone_at whole (trace ++ cut ∷ [])) high ∙ zone-upper whole trace cut) has in
-                let here = vector-at parent cut.span (range (cut.class + 1) (range_at parent cut.span).last) vector span part in
-                inr (
-                  vector-unset parent cut.span (range (cut.class + 1) (range_at parent cut.span).last) vector span (omega (arith, now.lower))
-                      (omega arith) part,
-                  inr (high, omega (arith, here.0)),
-                )
-          ]
+          from_before : (z : ℕ) → Stands (trace ++ cut ∷ []) z → HasVector (zone_at (whole_zone problem) (trace ++ cut ∷ []) z) vector → Comes z
+          from_before z stands has =
+              let whole = whole_zone problem in
+              let parent = zone_at whole trace cut.zone in
+              let span = cut-span trace cut is now in
+              elim (zone-cases whole trace cut z stands.there) [
+                | inl old ↦ let stood = stood-before whole trace cut z stands old in
+                    inl (stood.0, stood.1, subst (λ zone. HasVector zone vector) (zone-old whole trace cut z old) has)
+                | inr (inl low) ↦
+                    let part = subst (λ zone. HasVector zone vector) (ap (zone_at whole (trace ++ cut ∷ [])) low ∙ zone-lower whole trace cut) has in
+                    inr (
+                      vector-unset parent cut.span (range (range_at parent cut.span).first cut.class) vector span (omega arith) (omega (arith, now.upper)) part,
+                      inl (low, (vector-at parent cut.span (range (range_at parent cut.span).first cut.class) vector span part).1),
+                    )
+                | inr (inr high) ↦
+                    let part = subst (λ zone. HasVector zone vector) (ap (zone_at whole (trace ++ cut ∷ [])) high ∙ zone-upper whole trace cut) has in
+                    let here = vector-at parent cut.span (range (cut.class + 1) (range_at parent cut.span).last) vector span part in
+                    inr (
+                      vector-unset parent cut.span (range (cut.class + 1) (range_at parent cut.span).last) vector span (omega (arith, now.lower))
+                          (omega arith) part,
+                      inr (high, omega (arith, here.0)),
+                    )
+              ]
 
-      joined : Comes a → Comes b → a ≡ b
-      joined (inl old) (inl also) = before vector a b old.0 also.0 old.2 also.2
-      joined (inl old) (inr new) = absurd (old.1 (before vector cut.zone a now.stands old.0 new.0 old.2))
-      joined (inr new) (inl old) = absurd (old.1 (before vector cut.zone b now.stands old.0 new.0 old.2))
-      joined (inr (has, inl low)) (inr (also, inl lower)) = omega (arith, low.0, lower.0)
-      joined (inr (has, inl low)) (inr (also, inr high)) = absurd (omega (arith, low.1, high.1))
-      joined (inr (has, inr high)) (inr (also, inl low)) = absurd (omega (arith, low.1, high.1))
-      joined (inr (has, inr high)) (inr (also, inr higher)) = omega (arith, high.0, higher.0)
+          joined : Comes a → Comes b → a ≡ b
+          joined (inl old) (inl also) = before vector a b old.0 also.0 old.2 also.2
+          joined (inl old) (inr new) = absurd (old.1 (before vector cut.zone a now.stands old.0 new.0 old.2))
+          joined (inr new) (inl old) = absurd (old.1 (before vector cut.zone b now.stands old.0 new.0 old.2))
+          joined (inr (has, inl low)) (inr (also, inl lower)) = omega (arith, low.0, lower.0)
+          joined (inr (has, inl low)) (inr (also, inr high)) = absurd (omega (arith, low.1, high.1))
+          joined (inr (has, inr high)) (inr (also, inl low)) = absurd (omega (arith, low.1, high.1))
+          joined (inr (has, inr high)) (inr (also, inr higher)) = omega (arith, high.0, higher.0)
 
 -- ---- how many vectors a zone has
 
@@ -328,8 +339,8 @@ unfolding size wide
 size-some [] each = omega arith
 size-some (r ∷ zone) each = times_some (r.last + 1 - r.first) (product (map wide zone)) (let first = each 0 (omega arith) in
     omega (arith, first)) (size-some zone (λ s within. each (suc s) (omega arith))) where
-  times_some : (m n : ℕ) → 1 ≤ m → 1 ≤ n → 1 ≤ m * n
-  times_some m n one other = grind arith
+      times_some : (m n : ℕ) → 1 ≤ m → 1 ≤ n → 1 ≤ m * n
+      times_some m n one other = grind arith
 
 -- the whole has as many as there are class vectors
 size-whole : (problem : ProblemModel) → size (whole_zone problem) ≡ product (map (λ columns. length (classes_of problem columns)) (spans_of problem))
@@ -341,7 +352,7 @@ size-whole problem = each (spans_of problem) where
   each (columns ∷ spans) =
       let here : length (classes_of problem columns) - 1 + 1 - 0 ≡ length (classes_of problem columns) = omega (arith, classes-some problem columns) in
       ap (λ n. n * product (map wide (map (λ c. range 0 (length (classes_of problem c) - 1)) spans))) here ∙ ap
-          (λ n. length (classes_of problem columns) * n) (each spans)
+      (λ n. length (classes_of problem columns) * n) (each spans)
 
 -- the numbers of a list of terms of at least one are no more than their sum
 length-le_sum : (g : ℕ → ℕ) (zs : List ℕ) → All (λ z. 1 ≤ g z) zs → length zs ≤ sum_by g zs
@@ -365,8 +376,11 @@ module _ (problem : ProblemModel) (sound : IsSound problem) where
       are = record {
         rising = AllPairs-cons (λ a b. a < b) 0 [] (λ k d within. absurd (omega arith)) (AllPairs-none (λ a b. a < b));
         each = λ z. (
-          (λ has. elim (Contains-cases 0 [] z has) [ inl here ↦
-              record { there = omega arith; not_cut = λ k d within. absurd (omega arith) } | inr later ↦ absurd (Contains-none z later) ]),
+          (λ has. elim (Contains-cases 0 [] z has) [
+            | inl here ↦
+                record { there = omega arith; not_cut = λ k d within. absurd (omega arith) }
+            | inr later ↦ absurd (Contains-none z later)
+          ]),
           (λ stands. let first : 0 ≡ z = omega (arith, stands.there) in subst (Contains (0 ∷ [])) first (Contains-first 0 [])),
         );
       };
@@ -381,7 +395,7 @@ module _ (problem : ProblemModel) (sound : IsSound problem) where
         let parent = zone_at whole trace cut.zone in
         let zone = zones-are problem sound trace is cut.zone now.stands.there in
         let parts = size-parts parent cut.span (range (range_at parent cut.span).first cut.class)
-            (range (cut.class + 1) (range_at parent cut.span).last) (cut-span problem sound trace cut is now) (omega (arith, now.lower, now.upper)) in
+        (range (cut.class + 1) (range_at parent cut.span).last) (cut-span problem sound trace cut is now) (omega (arith, now.lower, now.upper)) in
         record {
           standing = standing-more trace cut before.standing;
           are = standing-are whole trace cut is now before.standing before.are;
@@ -395,7 +409,7 @@ module _ (problem : ProblemModel) (sound : IsSound problem) where
       let found = counted trace is in
       let whole = whole_zone problem in
       let some = length-le_sum (λ z. size (zone_at whole trace z)) found.standing
-          (All-from_Contains (λ z. 1 ≤ size (zone_at whole trace z)) found.standing (λ z has.
+      (All-from_Contains (λ z. 1 ≤ size (zone_at whole trace z)) found.standing (λ z has.
       size-some (zone_at whole trace z) (λ s within. ((zones-are problem sound trace is z ((found.are.each z).0 has).there).ranges s within).0))) in
       record {
         standing = found.standing;

@@ -71,13 +71,34 @@ trace = cut 0 0 ∷ cut 1 1 ∷ cut 3 2 ∷ []
 
 is_trace : IsTraceOf problem trace
 unfolding spans_of classes_of
-is_trace zero d within = record { stands = record { there = omega arith; not_cut = All-nil (λ c. c.zone ≢ 0) }; span = omega arith; lower =
-    omega arith; upper = omega arith }
-is_trace (suc zero) d within = record { stands = record { there = omega arith; not_cut =
-    All-from_recursion (λ c. c.zone ≢ 1) (take 1 trace) ((λ same. omega arith), tt) }; span = omega arith; lower = omega arith; upper = omega arith }
-is_trace (suc (suc zero)) d within = record { stands = record { there = omega arith; not_cut =
-    All-from_recursion (λ c. c.zone ≢ 3) (take 2 trace) ((λ same. omega arith), ((λ same. omega arith), tt)) }; span = omega arith; lower =
-    omega arith; upper = omega arith }
+is_trace zero d within = record {
+  stands = record { there = omega arith; not_cut = All-nil (λ c. c.zone ≢ 0) };
+  span = omega arith;
+  lower =
+      omega arith;
+  upper = omega arith;
+}
+is_trace (suc zero) d within = record {
+  stands = record {
+    there = omega arith;
+    not_cut =
+        All-from_recursion (λ c. c.zone ≢ 1) (take 1 trace) ((λ same. omega arith), tt);
+  };
+  span = omega arith;
+  lower = omega arith;
+  upper = omega arith;
+}
+is_trace (suc (suc zero)) d within = record {
+  stands = record {
+    there = omega arith;
+    not_cut =
+        All-from_recursion (λ c. c.zone ≢ 3) (take 2 trace) ((λ same. omega arith), ((λ same. omega arith), tt));
+  };
+  span = omega arith;
+  lower =
+      omega arith;
+  upper = omega arith;
+}
 is_trace (suc (suc (suc i))) d within = absurd (omega arith)
 
 -- ---- the widths that are left
@@ -92,15 +113,22 @@ fits : (a b c d : ℕ) → 1 ≤ a → 1 ≤ b → 4 ≤ c → 4 ≤ d → a + b
 fits a b c d first second third fourth page = record {
   columns = refl;
   page = omega arith;
-  cells = All-from_recursion (λ one. first_width one.low ≤ cell_width problem (a ∷ b ∷ c ∷ d ∷ []) one) cells (omega arith,
-      (omega arith, (omega arith, (omega arith, (omega arith, (omega arith, (omega arith, tt)))))));
+  cells = All-from_recursion (λ one. first_width one.low ≤ cell_width problem (a ∷ b ∷ c ∷ d ∷ []) one) cells (
+    omega arith,
+    (omega arith, (omega arith, (omega arith, (omega arith, (omega arith, (omega arith, tt)))))),
+  );
 }
 
 -- of any widths within the page the four rooms sum to at most 19
 rooms : (widths : List ℕ) → WithinPage problem widths → (1 ≤ room 2 widths 0 1) × (1 ≤ room 2 widths 1 2) × (4 ≤ room 2 widths 2 3) × (4 ≤ room 2 widths 3 4)
     × (room 2 widths 0 1 + room 2 widths 1 2 + room 2 widths 2 3 + room 2 widths 3 4 ≤ 19)
-rooms widths is = (is.cells 3 (cell 0 0 []) (omega arith), is.cells 4 (cell 0 0 []) (omega arith), is.cells 5 (cell 0 0 []) (omega arith),
-    is.cells 6 (cell 0 0 []) (omega arith), all widths is.columns is.page) where
+rooms widths is = (
+  is.cells 3 (cell 0 0 []) (omega arith),
+  is.cells 4 (cell 0 0 []) (omega arith),
+  is.cells 5 (cell 0 0 []) (omega arith),
+  is.cells 6 (cell 0 0 []) (omega arith),
+  all widths is.columns is.page,
+) where
   all : (ws : List ℕ) → length ws ≡ 4 → total 2 0 ws ≤ 25 → room 2 ws 0 1 + room 2 ws 1 2 + room 2 ws 2 3 + room 2 ws 3 4 ≤ 19
   all [] four page = absurd (omega arith)
   all (a ∷ []) four page = absurd (omega arith)
@@ -133,27 +161,48 @@ step-needed n lines w h wider low = rw (test_le n w wider) at low
 
 module _ (Among : List ℕ → Type 0) (page : (widths : List ℕ) → Among widths → WithinPage problem widths) (some : List ℕ) (among : Among some) where
   enough : GiveLow problem Among (2 ∷ 2 ∷ [])
-  enough = record { rows = refl; cells = All-from_recursion Given cells (above 0 0 1 first (omega arith),
-      (above 1 0 1 second (omega arith), (upper, (line 0 first,
-      (line 1 second, (above 2 1 4 third (omega arith), (above 3 1 4 fourth (omega arith), tt))))))) } where
+  enough = record {
+    rows = refl;
+    cells = All-from_recursion Given cells (
+      above 0 0 1 first (omega arith),
+      (
+        above 1 0 1 second (omega arith),
+        (
+          upper,
+          (
+            line 0 first,
+            (line 1 second, (above 2 1 4 third (omega arith), (above 3 1 4 fourth (omega arith), tt))),
+          ),
+        ),
+      ),
+    );
+  } where
     least : (1 ≤ room 2 some 0 1) × (1 ≤ room 2 some 1 2) × (4 ≤ room 2 some 2 3) × (4 ≤ room 2 some 3 4) ×
         (room 2 some 0 1 + room 2 some 1 2 + room 2 some 2 3 + room 2 some 3 4 ≤ 19)
     least = rooms some (page some among)
+
     first : 1 ≤ room 2 some 0 1
     first = least.0
+
     second : 1 ≤ room 2 some 1 2
     second = least.1
+
     third : 4 ≤ room 2 some 2 3
     third = least.2
+
     fourth : 4 ≤ room 2 some 3 4
     fourth = least.3
+
     Given : Cell → Type 0
     Given c = (w : ℕ) → IsGreatestRoom problem Among c.left c.right w → IsLowAt c.low (cell_height problem (2 ∷ 2 ∷ []) c) w
+
     above : (left top n : ℕ) → n ≤ room 2 some left (left + 1) → 2 ≤ cell_height problem (2 ∷ 2 ∷ []) (cell left top []) → Given (cell left top (two_words n))
     above left top n wide two w greatest = let more = greatest.never_more some among in
         two-enough n w (cell_height problem (2 ∷ 2 ∷ []) (cell left top [])) (omega (arith, wide, more)) two
+
     upper : Given (cell 2 0 (step 1 2 ∷ []))
     upper w greatest = let more = greatest.never_more some among in step-enough 1 2 w 2 (omega (arith, third, more)) (omega arith)
+
     line : (left : ℕ) → 1 ≤ room 2 some left (left + 1) → Given (cell left 1 (step 1 1 ∷ []))
     line left wide w greatest = let more = greatest.never_more some among in step-enough 1 1 w 2 (omega (arith, wide, more)) (omega arith)
 
@@ -170,11 +219,11 @@ module _ (Among : List ℕ → Type 0) (page : (widths : List ℕ) → Among wid
           two_rows heights give.rows first (lower heights give);
     };
   } where
-      two_rows : (hs : List ℕ) → length hs ≡ 2 → 2 ≤ room 0 hs 0 1 → 2 ≤ room 0 hs 1 2 → 4 ≤ total 0 0 hs
-      two_rows [] rows first second = absurd (omega arith)
-      two_rows (a ∷ []) rows first second = absurd (omega arith)
-      two_rows (a ∷ b ∷ []) rows first second = omega arith
-      two_rows (a ∷ b ∷ c ∷ more) rows first second = absurd (omega arith)
+    two_rows : (hs : List ℕ) → length hs ≡ 2 → 2 ≤ room 0 hs 0 1 → 2 ≤ room 0 hs 1 2 → 4 ≤ total 0 0 hs
+    two_rows [] rows first second = absurd (omega arith)
+    two_rows (a ∷ []) rows first second = absurd (omega arith)
+    two_rows (a ∷ b ∷ []) rows first second = omega arith
+    two_rows (a ∷ b ∷ c ∷ more) rows first second = absurd (omega arith)
 
 -- ---- the three lines
 
@@ -184,17 +233,28 @@ narrow widths = IsLeft problem (third_at_most_8 ∷ []) [] widths
 
 narrow-fits : (a b c d : ℕ) → WithinPage problem (a ∷ b ∷ c ∷ d ∷ []) → c ≤ 8 → narrow (a ∷ b ∷ c ∷ d ∷ [])
 unfolding narrow spans_of
-narrow-fits a b c d page third = record { page = page; meets =
-    All-from_recursion (Meets problem (a ∷ b ∷ c ∷ d ∷ [])) (third_at_most_8 ∷ []) (omega arith, tt); breaks =
-    All-nil (Breaks problem (a ∷ b ∷ c ∷ d ∷ [])) }
+narrow-fits a b c d page third = record {
+  page = page;
+  meets =
+      All-from_recursion (Meets problem (a ∷ b ∷ c ∷ d ∷ [])) (third_at_most_8 ∷ []) (omega arith, tt);
+  breaks =
+      All-nil (Breaks problem (a ∷ b ∷ c ∷ d ∷ []));
+}
 
 narrow-third : (widths : List ℕ) → narrow widths → room 2 widths 2 3 ≤ 8
 unfolding narrow spans_of
 narrow-third widths left = left.meets 0 third_at_most_8 (omega arith)
 
 narrow_room : IsGreatestRoom problem narrow 2 3 8
-narrow_room = record { attained = (1 ∷ 1 ∷ 8 ∷ 4 ∷ [], narrow-fits 1 1 8 4
-    (fits 1 1 8 4 (omega arith) (omega arith) (omega arith) (omega arith) (omega arith)) (omega arith), refl); never_more = narrow-third }
+narrow_room = record {
+  attained = (
+    1 ∷ 1 ∷ 8 ∷ 4 ∷ [],
+    narrow-fits 1 1 8 4
+        (fits 1 1 8 4 (omega arith) (omega arith) (omega arith) (omega arith) (omega arith)) (omega arith),
+    refl,
+  );
+  never_more = narrow-third;
+}
 
 narrow_bound : IsBound problem narrow 4
 unfolding narrow narrow_room
@@ -207,8 +267,12 @@ wide widths = IsLeft problem (third_at_least_9 ∷ []) [] widths
 
 wide-fits : (a b c d : ℕ) → WithinPage problem (a ∷ b ∷ c ∷ d ∷ []) → 9 ≤ c → wide (a ∷ b ∷ c ∷ d ∷ [])
 unfolding wide spans_of
-wide-fits a b c d page third = record { page = page; meets = All-from_recursion (Meets problem (a ∷ b ∷ c ∷ d ∷ [])) (third_at_least_9 ∷ [])
-    (omega arith, tt); breaks = All-nil (Breaks problem (a ∷ b ∷ c ∷ d ∷ [])) }
+wide-fits a b c d page third = record {
+  page = page;
+  meets = All-from_recursion (Meets problem (a ∷ b ∷ c ∷ d ∷ [])) (third_at_least_9 ∷ [])
+      (omega arith, tt);
+  breaks = All-nil (Breaks problem (a ∷ b ∷ c ∷ d ∷ []));
+}
 
 wide-rooms : (widths : List ℕ) → wide widths → (room 2 widths 2 3 ≤ 13) × (room 2 widths 3 4 ≤ 8)
 unfolding wide spans_of
@@ -216,14 +280,28 @@ wide-rooms widths left = let all = rooms widths left.page in let third = left.me
     (omega (arith, all), omega (arith, all, third))
 
 wide_room : IsGreatestRoom problem wide 2 3 13
-wide_room = record { attained = (1 ∷ 1 ∷ 13 ∷ 4 ∷ [], wide-fits 1 1 13 4
-    (fits 1 1 13 4 (omega arith) (omega arith) (omega arith) (omega arith) (omega arith)) (omega arith), refl); never_more =
-    λ widths left. (wide-rooms widths left).0 }
+wide_room = record {
+  attained = (
+    1 ∷ 1 ∷ 13 ∷ 4 ∷ [],
+    wide-fits 1 1 13 4
+        (fits 1 1 13 4 (omega arith) (omega arith) (omega arith) (omega arith) (omega arith)) (omega arith),
+    refl,
+  );
+  never_more =
+      λ widths left. (wide-rooms widths left).0;
+}
 
 fourth_room : IsGreatestRoom problem wide 3 4 8
-fourth_room = record { attained = (1 ∷ 1 ∷ 9 ∷ 8 ∷ [], wide-fits 1 1 9 8
-    (fits 1 1 9 8 (omega arith) (omega arith) (omega arith) (omega arith) (omega arith)) (omega arith), refl); never_more =
-    λ widths left. (wide-rooms widths left).1 }
+fourth_room = record {
+  attained = (
+    1 ∷ 1 ∷ 9 ∷ 8 ∷ [],
+    wide-fits 1 1 9 8
+        (fits 1 1 9 8 (omega arith) (omega arith) (omega arith) (omega arith) (omega arith)) (omega arith),
+    refl,
+  );
+  never_more =
+      λ widths left. (wide-rooms widths left).1;
+}
 
 wide_bound : IsBound problem wide 4
 unfolding wide wide_room
@@ -231,8 +309,11 @@ wide_bound = bound-four wide (λ widths left. left.page) (1 ∷ 1 ∷ 13 ∷ 4 �
     (λ heights give. two-needed 4 8 (room 0 heights 1 2) (omega arith) (omega arith) (give.cells 6 (cell 0 0 []) (omega arith) 8 fourth_room))
 
 abbrev log : List LogLine
-log = record { nogood = Bounds (third_at_most_8 ∷ []); fires = []; end = Chain } ∷ record { nogood = Bounds (third_at_least_9 ∷ []); fires = [];
-    end = Chain } ∷ record { nogood = Zone 0; fires = 0 ∷ 1 ∷ []; end = Fired } ∷ []
+log = record { nogood = Bounds (third_at_most_8 ∷ []); fires = []; end = Chain } ∷ record {
+  nogood = Bounds (third_at_least_9 ∷ []);
+  fires = [];
+  end = Chain;
+} ∷ record { nogood = Zone 0; fires = 0 ∷ 1 ∷ []; end = Fired } ∷ []
 
 -- the whole has no bounds
 no_bounds : zone_bounds problem (whole_zone problem) ≡ []
@@ -243,8 +324,12 @@ no_bounds = refl
 not_implied : Implied problem (IsLeft problem [] []) third_at_most_8 → ⊥
 unfolding spans_of
 not_implied all =
-    let room = all (1 ∷ 1 ∷ 9 ∷ 4 ∷ []) (record { page = fits 1 1 9 4 (omega arith) (omega arith) (omega arith) (omega arith) (omega arith); meets =
-        All-nil (Meets problem (1 ∷ 1 ∷ 9 ∷ 4 ∷ [])); breaks = All-nil (Breaks problem (1 ∷ 1 ∷ 9 ∷ 4 ∷ [])) }) in
+    let room = all (1 ∷ 1 ∷ 9 ∷ 4 ∷ []) (record {
+      page = fits 1 1 9 4 (omega arith) (omega arith) (omega arith) (omega arith) (omega arith);
+      meets =
+          All-nil (Meets problem (1 ∷ 1 ∷ 9 ∷ 4 ∷ []));
+      breaks = All-nil (Breaks problem (1 ∷ 1 ∷ 9 ∷ 4 ∷ []));
+    }) in
     omega (arith, room)
 
 -- and where it has not at most 8, it has at least 9
@@ -273,19 +358,32 @@ good_log = record { some = omega arith; lines = lines; last = no_bounds } where
   }
   lines (suc (suc zero)) d within = record {
     names = omega arith;
-    earlier = All-from_recursion (λ f. (f < 2) × NamesAreThere problem trace (nogood_at log f)) (0 ∷ 1 ∷ []) ((omega arith, first_names),
-        ((omega arith, second_names), tt));
+    earlier = All-from_recursion (λ f. (f < 2) × NamesAreThere problem trace (nogood_at log f)) (0 ∷ 1 ∷ []) (
+      (omega arith, first_names),
+      ((omega arith, second_names), tt),
+    );
     joined = third_at_most_8 ∷ [];
-    fires = inr (third_at_most_8, record { among = Contains-first third_at_most_8 []; not_implied = not_implied; others =
-        λ other has apart. elim (Contains-cases third_at_most_8 [] other has) [ | inl same ↦ absurd (apart (sym same)) | inr none ↦
-        absurd (Contains-none other none) ] },
-        inl (then_implied, refl));
+    fires = inr (
+      third_at_most_8,
+      record {
+        among = Contains-first third_at_most_8 [];
+        not_implied = not_implied;
+        others =
+            λ other has apart. elim (Contains-cases third_at_most_8 [] other has) [
+              | inl same ↦ absurd (apart (sym same))
+              | inr none ↦
+                  absurd (Contains-none other none)
+            ];
+      },
+      inl (then_implied, refl),
+    );
     ends = then_implied;
   } where
-      first_names : NamesAreThere problem trace (nogood_at log 0)
-      first_names = All-from_recursion (λ bound. bound.span < length (spans_of problem)) (third_at_most_8 ∷ []) (omega arith, tt)
-      second_names : NamesAreThere problem trace (nogood_at log 1)
-      second_names = All-from_recursion (λ bound. bound.span < length (spans_of problem)) (third_at_least_9 ∷ []) (omega arith, tt)
+    first_names : NamesAreThere problem trace (nogood_at log 0)
+    first_names = All-from_recursion (λ bound. bound.span < length (spans_of problem)) (third_at_most_8 ∷ []) (omega arith, tt)
+
+    second_names : NamesAreThere problem trace (nogood_at log 1)
+    second_names = All-from_recursion (λ bound. bound.span < length (spans_of problem)) (third_at_least_9 ∷ []) (omega arith, tt)
   lines (suc (suc (suc k))) d within = absurd (omega arith)
 
 -- and the section of this height, trace and log was worked for its three cuts

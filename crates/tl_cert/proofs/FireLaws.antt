@@ -16,20 +16,22 @@ bound-decides a b =
     elim (cases_eq a.span b.span) [
       | inr apart ↦ inr (λ same. apart (ap (λ c. c.span) same))
       | inl span ↦ elim (cases_eq a.width b.width) [
-          | inr apart ↦ inr (λ same. apart (ap (λ c. c.width) same))
-          | inl width ↦ elim (sides a.side b.side) [
-              | inr apart ↦ inr (λ same. apart (ap (λ c. c.side) same))
-              | inl side ↦ inl (made span side width)
-            ]
+        | inr apart ↦ inr (λ same. apart (ap (λ c. c.width) same))
+        | inl width ↦ elim (sides a.side b.side) [
+          | inr apart ↦ inr (λ same. apart (ap (λ c. c.side) same))
+          | inl side ↦ inl (made span side width)
         ]
+      ]
     ] where
       sides : (s t : Side) → (s ≡ t) ⊎ (s ≢ t)
       sides Most Most = inl refl
       sides Most Least = inr (λ same. cc)
       sides Least Most = inr (λ same. cc)
       sides Least Least = inl refl
+
       bound_of : ℕ → Side → ℕ → Bound
       bound_of span side width = record { span = span; side = side; width = width }
+
       made : a.span ≡ b.span → a.side ≡ b.side → a.width ≡ b.width → a ≡ b
       made span side width = ap (λ s. bound_of s a.side a.width) span ∙ ap (λ s. bound_of b.span s a.width) side ∙ ap (bound_of b.span b.side) width
 
@@ -78,7 +80,7 @@ module _ (problem : ProblemModel) (given : List Bound) where
   pub fires-stuck : (joined : List Bound) (nogoods more : List (List Bound)) (nogood between last : List Bound) (a b : Bound) →
       Fires problem given joined nogoods between →
       Contains nogood a → Contains nogood b → a ≢ b → (Implied problem (IsLeft problem given between) a → ⊥) →
-          (Implied problem (IsLeft problem given between) b → ⊥) →
+      (Implied problem (IsLeft problem given between) b → ⊥) →
       Fires problem given joined (nogoods ++ nogood ∷ more) last → ⊥
   fires-stuck joined nogoods more nogood between last a b first has_a has_b apart not_a not_b fires =
       let found = fires-split joined nogoods (nogood ∷ more) last fires in

@@ -85,19 +85,19 @@ module _ (problem : ProblemModel) (sound : IsSound problem) (lower : ℕ) (width
       omega (arith, below, ends.2)
   end-none given joined nogoods Fired true_for left ends =
       let found = last-and_all (IsTrueFor problem lower) (All (Implied problem (IsLeft problem given joined))) None nogoods true_for
-          (λ none. absurd none) ends in
+      (λ none. absurd none) ends in
       found.1 widths heights layout low (λ k d within. found.2 k d within widths left)
 
 -- a good line's nogood is true if those of the lines before it are
 pub good_line-true : (problem : ProblemModel) → IsSound problem → (trace : List CutAt) (log : List LogLine) (lower k : ℕ) (line : LogLine) →
     IsGoodLine problem trace log lower k line →
     ((f : ℕ) → f < k → IsTrueFor problem lower (nogood_bounds problem trace (nogood_at log f))) →
-        IsTrueFor problem lower (nogood_bounds problem trace line.nogood)
+    IsTrueFor problem lower (nogood_bounds problem trace line.nogood)
 good_line-true problem sound trace log lower k line good before widths heights layout low meets =
     let given = nogood_bounds problem trace line.nogood in
     let nogoods = map (λ f. nogood_bounds problem trace (nogood_at log f)) line.fires in
     let true_for : All (IsTrueFor problem lower) nogoods = All-map (IsTrueFor problem lower) (λ f. nogood_bounds problem trace (nogood_at log f))
-        line.fires (λ i d within. before (get_or line.fires i d) (good.earlier i d within).0) in
+    line.fires (λ i d within. before (get_or line.fires i d) (good.earlier i d within).0) in
     let start : IsLeft problem given [] widths = record { page = layout.page; meets = meets; breaks = All-nil (Breaks problem widths) } in
     let left = fires-left problem sound lower widths heights layout low given [] nogoods good.joined true_for good.fires start in
     end-none problem sound lower widths heights layout low given good.joined nogoods line.end true_for left good.ends
@@ -111,7 +111,7 @@ nogoods-true problem sound trace log lower good k within = upto (suc k) (omega a
   upto (suc n) inside f before =
       let earlier = upto n (omega arith) in
       good_line-true problem sound trace log lower f (get_or log f (record { nogood = Zone 0; fires = []; end = Cycle }))
-          (good.lines f (record { nogood = Zone 0; fires = []; end = Cycle }) (omega arith)) (λ g less. earlier g (omega arith))
+      (good.lines f (record { nogood = Zone 0; fires = []; end = Cycle }) (omega arith)) (λ g less. earlier g (omega arith))
 
 -- and no layout by `low` is lower than what the log is good for
 pub log-sound : (problem : ProblemModel) → IsSound problem → (trace : List CutAt) (log : List LogLine) (lower : ℕ) → IsGoodLog problem trace log lower →

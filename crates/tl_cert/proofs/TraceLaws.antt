@@ -33,7 +33,7 @@ module _ (whole : List Range) (trace : List CutAt) (cut : CutAt) where
       let known : z < length (zones_of whole trace) = omega (arith, there, zones-length (whole ∷ []) trace) in
       ap (λ zones. get_or zones z []) (zones-push (whole ∷ []) trace cut) ∙
       get_or_append_left (zones_of whole trace) (lower_part (zone_at whole trace cut.zone) cut.span cut.class ∷ upper_part
-          (zone_at whole trace cut.zone) cut.span cut.class ∷ []) [] z known
+      (zone_at whole trace cut.zone) cut.span cut.class ∷ []) [] z known
 
   -- and its two parts follow
   pub zone-lower : zone_at whole (trace ++ cut ∷ []) (2 * length trace + 1) ≡ lower_part (zone_at whole trace cut.zone) cut.span cut.class
@@ -71,8 +71,11 @@ module _ (whole : List Range) (trace : List CutAt) (cut : CutAt) where
 
   pub stood-before : (z : ℕ) → Stands (trace ++ cut ∷ []) z → IsZoneOf trace z → Stands trace z × (cut.zone ≢ z)
   stood-before z stands old = (
-    record { there = old; not_cut = λ k d within. subst (λ c. c.zone ≢ z) (get_or_append_left trace (cut ∷ []) d k within)
-        (stands.not_cut k d (omega (arith, within, length-append trace (cut ∷ [])))) },
+    record {
+      there = old;
+      not_cut = λ k d within. subst (λ c. c.zone ≢ z) (get_or_append_left trace (cut ∷ []) d k within)
+          (stands.not_cut k d (omega (arith, within, length-append trace (cut ∷ []))));
+    },
     subst (λ c. c.zone ≢ z) (get_or-append-add trace (cut ∷ []) 0 cut) (stands.not_cut (length trace + 0) cut (omega (arith, length-append trace (cut ∷ [])))),
   )
 
@@ -86,7 +89,7 @@ module _ (whole : List Range) (P : List CutAt → Type 0) (none : P []) (more : 
       let same = get_or-take n trace i d (omega (arith, within, short)) in
       let twice = take-take i n trace (omega (arith, within, short)) in
       subst (λ cut. IsCut whole (take i (take n trace)) cut) (sym same)
-          (subst (λ cuts. IsCut whole cuts (get_or trace i d)) (sym twice) (is i d (omega (arith, within, short))))
+      (subst (λ cuts. IsCut whole cuts (get_or trace i d)) (sym twice) (is i d (omega (arith, within, short))))
 
   upto : (trace : List CutAt) → IsTrace whole trace → (n : ℕ) → n ≤ length trace → P (take n trace)
   upto [] is zero within = none
@@ -95,7 +98,7 @@ module _ (whole : List Range) (P : List CutAt → Type 0) (none : P []) (more : 
   upto (first ∷ trace) is (suc n) within =
       subst P (sym (take-suc (first ∷ trace) n first (omega arith)))
       (more (take n (first ∷ trace)) (get_or (first ∷ trace) n first) (trace-front (first ∷ trace) is n) (is n first (omega arith))
-          (upto (first ∷ trace) is n (omega arith)))
+      (upto (first ∷ trace) is n (omega arith)))
 
   pub trace-by : (trace : List CutAt) → IsTrace whole trace → P trace
   trace-by trace is = subst P (take_all (length trace) trace (omega arith)) (upto trace is (length trace) (omega arith))

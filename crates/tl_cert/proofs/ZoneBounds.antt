@@ -32,7 +32,7 @@ given-Contains true x is = Contains-first x []
 given-Contains false x is = cc
 
 Contains-given : {X : Type 0} (b : Bool) (x y : X) → Contains (if b then x ∷ [] else []) y → x ≡ y
-Contains-given true x y has = elim (Contains-cases x [] y has) [ | inl here ↦ here | inr later ↦ absurd (Contains-none y later) ]
+Contains-given true x y has = elim (Contains-cases x [] y has) [ inl here ↦ here | inr later ↦ absurd (Contains-none y later) ]
 Contains-given false x y has = absurd (Contains-none y has)
 
 module _ (problem : ProblemModel) (sound : IsSound problem) (zone : List Range) (is : IsZone problem zone) (widths : List ℕ) where
@@ -60,7 +60,7 @@ module _ (problem : ProblemModel) (sound : IsSound problem) (zone : List Range) 
         let upper = nat_lt (r.last + 1) (length (classes_at problem s)) in
         let lower = nat_lt 0 r.first in
         elim (Contains-append_cases (if upper then at_most s (last_in_class problem s r.last) ∷ [] else [])
-            (if lower then at_least s (first_in_class problem s r.first) ∷ [] else []) bound found.2) [
+        (if lower then at_least s (first_in_class problem s r.first) ∷ [] else []) bound found.2) [
           | inl most ↦ subst (Meets problem widths) (Contains-given upper (at_most s (last_in_class problem s r.last)) bound most) here.1
           | inr least ↦ subst (Meets problem widths) (Contains-given lower (at_least s (first_in_class problem s r.first)) bound least) here.0
         ]
@@ -71,30 +71,34 @@ module _ (problem : ProblemModel) (sound : IsSound problem) (zone : List Range) 
     in_range s within = (from, upto) where
       r : Range
       r = range_at zone s
+
       upper : Bool
       upper = nat_lt (r.last + 1) (length (classes_at problem s))
+
       lower : Bool
       lower = nat_lt 0 r.first
+
       from : first_in_class problem s r.first ≤ span_width problem widths s
       from =
           elim (cases_lt 0 r.first) [
             | inl past ↦ All-contains (Meets problem widths) (zone_bounds problem zone) (at_least s (first_in_class problem s r.first)) meets
                 (range-bound_of s within (at_least s (first_in_class problem s r.first))
                 (Contains-append_right (if upper then at_most s (last_in_class problem s r.last) ∷ [] else [])
-                    (if lower then at_least s (first_in_class problem s r.first) ∷ [] else []) (at_least s (first_in_class problem s r.first))
+                (if lower then at_least s (first_in_class problem s r.first) ∷ [] else []) (at_least s (first_in_class problem s r.first))
                 (given-Contains lower (at_least s (first_in_class problem s r.first)) (lt_test 0 r.first past))))
             | inr none ↦
                 let first : r.first ≡ 0 = omega arith in
                 let least = least_width-within problem (span_at problem s) widths page in
                 omega (arith, ap (first_in_class problem s) first, classes-first problem (span_at problem s) 0, least)
           ]
+
       upto : span_width problem widths s ≤ last_in_class problem s r.last
       upto =
           elim (cases_lt (r.last + 1) (length (classes_at problem s))) [
             | inl before ↦ All-contains (Meets problem widths) (zone_bounds problem zone) (at_most s (last_in_class problem s r.last)) meets
                 (range-bound_of s within (at_most s (last_in_class problem s r.last))
                 (Contains-append_left (if upper then at_most s (last_in_class problem s r.last) ∷ [] else [])
-                    (if lower then at_least s (first_in_class problem s r.first) ∷ [] else []) (at_most s (last_in_class problem s r.last))
+                (if lower then at_least s (first_in_class problem s r.first) ∷ [] else []) (at_most s (last_in_class problem s r.last))
                 (given-Contains upper (at_most s (last_in_class problem s r.last)) (lt_test (r.last + 1) (length (classes_at problem s)) before))))
             | inr last ↦
                 let end = get_or_past (classes_at problem s) (r.last + 1) (page_room problem + 1) last in

@@ -25,7 +25,7 @@ Fires problem given joined [] last = last ≡ joined
 Fires problem given joined (nogood ∷ nogoods) last =
     (All (Implied problem (IsLeft problem given joined)) nogood × Fires problem given joined nogoods last)
     ⊎ ((bound : Bound) × OneLeft problem (IsLeft problem given joined) nogood bound
-        × Fires problem given (joined ++ bound ∷ []) nogoods last)
+    × Fires problem given (joined ++ bound ∷ []) nogoods last)
 
 -- the end of a line: no widths are left; their bound, or their area bound, is at least `lower`; or all bounds of the
 -- nogood that was fired last are implied

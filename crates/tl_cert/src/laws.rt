@@ -28,5 +28,4 @@ pub fn enough_budget_closes()
 /// The widths of a zone are those within the page that meet the bounds that its cuts made.
 pub fn zones_meet_their_bounds()
     ensures { ZonesMeetTheirBounds }
-{
-}
+{}
