@@ -4,6 +4,7 @@ use Rattle.std.specs.List.{All, AllByRecursion}
 use Rattle.std.proofs.lemmas.List.{take_more}
 use Rattle.std.proofs.lemmas.List.Sums.{sum_by-cons, sum_by-append, sum_by_more}
 use Rattle.std.proofs.lemmas.List.Elements.{recursion_from_All, All-from_recursion}
+use Rattle.tl_base.specs.declared.limits.TheConstants.{MAX_COLUMNS}
 use Rattle.tl_base.specs.declared.style.Style.{Style}
 use Rattle.tl_base.specs.Style.{gap_of}
 use Rattle.tl_base.specs.declared.limits.TheConstants.{MAX_PAGE_WIDTH}
@@ -81,7 +82,7 @@ module _ (style : Style) (cols : ℕ) where
 
 -- a sound table has these facts at any depth
 pub record HasGrid (table : OpenTable) : Type 0 where
-  pub few : table.cols ≤ 60
+  pub few : table.cols ≤ MAX_COLUMNS
   pub placed : All (IsPlaced table.cols table.rows) (places_of table)
   pub columns : (column : ℕ) → column < table.cols → HasAnchorInColumn (places_of table) column
 

@@ -9,7 +9,7 @@ ghost use Rattle.tl_form.specs.inner.Demands.{number_at};
 ghost use Rattle.tl_diff.specs.Paths.{IsHeaviest, IsPath, InOrder, LeadForward, path_weight, total_weight};
 
 use std::alloc::{AllocError, Global};
-use tl_base::{List, Style};
+use tl_base::{List, MAX_COLUMNS, Style};
 use tl_diff::{Arc, chain, heaviest};
 
 /// What a cell asks of the columns that it covers: a room of at least `width`, their gaps counted.
@@ -36,7 +36,7 @@ pub struct HeaviestChain {
 
 /// What the demand asks of its columns beside the gaps between them.
 fn arc_of(demand: Demand, gap: u32) -> Arc
-    requires placed { IsPlacedDemand 60 demand }
+    requires placed { IsPlacedDemand MAX_COLUMNS demand }
     requires gap { gap ≤ 2 }
     ensures { result ≡ arc_of gap demand }
 {
@@ -54,7 +54,7 @@ fn numbered_arcs(
     demands: &[Demand],
     gap: u32,
 ) -> Result<Vec<NumberedArc>, AllocError>
-    requires placed { All (IsPlacedDemand 60) demands.now }
+    requires placed { All (IsPlacedDemand MAX_COLUMNS) demands.now }
     requires few { length demands.now < 2 ^ 31 }
     requires gap { gap ≤ 2 }
     ensures arcs { IfOk result (λ arcs. HaveArcs gap demands.now (length demands.now) arcs.items) }
@@ -108,7 +108,7 @@ fn numbers_along(alloc: Global, path: &[u32], arcs: &[NumberedArc]) -> Result<Li
 /// The number of the first demand that begins in the last column.
 fn in_last_column(demands: &[Demand], cols: u32) -> u32
     requires few { length demands.now < 2 ^ 31 }
-    requires placed { All (IsPlacedDemand 60) demands.now }
+    requires placed { All (IsPlacedDemand MAX_COLUMNS) demands.now }
     requires there { Any (λ demand. demand.left + 1 ≡ cols) demands.now }
     ensures { IsSomeAnd (slice_get demands.now result) (λ demand. demand.left + 1 ≡ cols) }
 {
@@ -149,7 +149,7 @@ fn arcs_in_order(
     demands: &[Demand],
     gap: u32,
 ) -> Result<Vec<NumberedArc>, AllocError>
-    requires placed { All (IsPlacedDemand 60) demands.now }
+    requires placed { All (IsPlacedDemand MAX_COLUMNS) demands.now }
     requires few { length demands.now < 2 ^ 31 }
     requires gap { gap ≤ 2 }
     ensures arcs { IfOk result (λ arcs. HaveArcs gap demands.now (length demands.now) arcs.items) }

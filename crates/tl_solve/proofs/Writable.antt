@@ -2,6 +2,7 @@
 use Rattle.std.proofs.Common.{ℕ, ◌+◌, ◌-◌, ◌*◌, ◌<◌, ◌≤◌, zero, suc, List, [], ◌∷◌, ◌++◌, length, get_or, Option, Some, None, codes, sym, subst, arith}
 use Rattle.std.specs.List.{All, AllByRecursion, flat_map}
 use Rattle.std.proofs.lemmas.List.Concat.{flat_map-cons}
+use Rattle.tl_cert.specs.declared.limits.TheConstants.{MAX_LINE, MAX_ZONE}
 use Rattle.tl_cert.specs.declared.log.End.{End}
 use Rattle.tl_cert.specs.declared.log.End.TheVariants.{Fired}
 use Rattle.tl_cert.specs.declared.log.LogLine.{LogLine}
@@ -27,11 +28,11 @@ word-within : (cs : List ℕ) → AllWithin (word cs)
 word-within [] = tt
 word-within (c ∷ cs) = (tt, word-within cs)
 
-fire-within : (f : ℕ) → f ≤ 200000 → AllWithin (fire_pieces f)
-fire-within f small = all-append IsWithin (word (codes " @")) (number 0 200000 f ∷ []) (word-within (codes " @")) ((omega arith, small), tt)
+fire-within : (f : ℕ) → f ≤ MAX_LINE → AllWithin (fire_pieces f)
+fire-within f small = all-append IsWithin (word (codes " @")) (number 0 MAX_LINE f ∷ []) (word-within (codes " @")) ((omega arith, small), tt)
 
 -- a line of a zone, with at most two fires
-line-within : (z : ℕ) (fires : List ℕ) (end : End) → z ≤ 200000 → All (λ f. f ≤ 200000) fires →
+line-within : (z : ℕ) (fires : List ℕ) (end : End) → z ≤ MAX_ZONE → All (λ f. f ≤ MAX_LINE) fires →
     AllWithin (line_pieces (record { nogood = Zone z; fires = fires; end = end }))
 line-within z fires end small few =
     ((
@@ -43,7 +44,7 @@ line-within z fires end small few =
       ),
     ))
 
-fired-few : (last cut : ℕ) (upper : Option ℕ) → last ≤ 200000 → All (λ f. f ≤ 200000) (parts_fired last cut upper)
+fired-few : (last cut : ℕ) (upper : Option ℕ) → last ≤ MAX_ZONE → All (λ f. f ≤ MAX_LINE) (parts_fired last cut upper)
 fired-few last cut None small zero d within = omega arith
 fired-few last cut None small (suc i) d within = absurd (omega arith)
 fired-few last cut (Some bound) small zero d within = omega arith
@@ -54,7 +55,7 @@ fired-length : (last cut : ℕ) (upper : Option ℕ) → length (parts_fired las
 fired-length last cut None = omega arith
 fired-length last cut (Some bound) = omega arith
 
-line-writable : (last lower z : ℕ) (bounds : List (Option ℕ)) (found : Option ℕ) → z ≤ last → last ≤ 200000 →
+line-writable : (last lower z : ℕ) (bounds : List (Option ℕ)) (found : Option ℕ) → z ≤ last → last ≤ MAX_ZONE →
     IsLineShaped (line_of last bounds lower z found) × AllWithin (line_pieces (line_of last bounds lower z found))
 line-writable last lower z bounds None within small = (
   record { nogood = tt; fires = omega arith },
@@ -66,7 +67,7 @@ line-writable last lower z bounds (Some cut) within small = (
       (fired-few last cut (get_or bounds (2 * cut + 2) None) small),
 )
 
-pub log-writable : (last lower : ℕ) (cuts bounds : List (Option ℕ)) (log : List LogLine) → last ≤ 200000 →
+pub log-writable : (last lower : ℕ) (cuts bounds : List (Option ℕ)) (log : List LogLine) → last ≤ MAX_ZONE →
     AreLinesOf last cuts bounds lower (last + 1) log → IsLogWritable log
 log-writable last lower cuts bounds log small lines = (
   all-by_recursion IsLineShaped log (λ k d within. (each k d within).0),

@@ -7,12 +7,12 @@ ghost use Rattle.tl_solve.specs.inner.Found.{AreCutsOf};
 ghost use Rattle.tl_solve.specs.inner.Shapes.{closing_line_of, firing_line_of};
 
 use std::alloc::{AllocError, Global};
-use tl_base::List;
-use tl_cert::{End, LogLine, Nogood, Trace};
+use tl_base::{List, MAX_BUDGET};
+use tl_cert::{End, LogLine, MAX_ZONE, Nogood, Trace};
 
 /// For each zone of the trace the number of the cut that cuts it, `None` where it stands.
 pub(crate) fn cuts_of_zones(alloc: Global, trace: &Trace) -> Result<Vec<Option<u32>>, AllocError>
-    requires few { length trace.now ≤ 100000 }
+    requires few { length trace.now ≤ MAX_BUDGET }
     requires there { (i : ℕ) (d : CutAt) → i < length trace.now → (get_or trace.now i d).zone < 2 * length trace.now + 1 }
     ensures { IfOk result (λ cuts. AreCutsOf trace.now (length trace.now) cuts.items) }
 {
@@ -55,7 +55,7 @@ pub(crate) fn firing_line(
     cut: u32,
     upper: Option<u32>,
 ) -> Result<LogLine, AllocError>
-    requires small { last ≤ 200000 }
+    requires small { last ≤ MAX_ZONE }
     requires there { 2 * cut + 2 ≤ last }
     ensures { IfOk result (λ line. line ≡ firing_line_of last zone cut upper) }
 {

@@ -12,8 +12,8 @@ ghost use Rattle.tl_solve.specs.inner.Shapes.{AreLinesOf};
 use crate::lines::{closing_line, cuts_of_zones, firing_line};
 use crate::zones::{bounds_of_trace, zones_of_trace};
 use std::alloc::{AllocError, Global};
-use tl_base::List;
-use tl_cert::{Log, Trace};
+use tl_base::{List, MAX_BUDGET};
+use tl_cert::{Log, MAX_ZONE, Trace};
 use tl_problem::Problem;
 
 /// The log of the trace for `lower`, a line for each zone, parts before what was cut: a zone that stands
@@ -50,7 +50,7 @@ pub(crate) fn log_of_bounds(
 ) -> Result<Log, AllocError>
     requires sound { IsSound problem.now }
     requires trace_of { IsTraceOf problem.now trace.now }
-    requires few { length trace.now ≤ 100000 }
+    requires few { length trace.now ≤ MAX_BUDGET }
     requires standing { (z : ℕ) → Stands trace.now z → Proves problem.now (zone_of problem.now trace.now z) lower }
     requires bounds { AreBoundsOf problem.now trace.now bounds.now }
     ensures good { IfOk result (λ log. IsGoodLog problem.now trace.now log lower) }
@@ -69,7 +69,7 @@ fn lines_of_zones(
     bounds: &[Option<u32>],
     lower: u32,
 ) -> Result<Log, AllocError>
-    requires small { last ≤ 200000 }
+    requires small { last ≤ MAX_ZONE }
     requires cuts { length cuts.now ≡ last + 1 }
     requires bounds { length bounds.now ≡ last + 1 }
     requires parts { ArePartsThere last cuts.now }

@@ -2,6 +2,7 @@
 use Rattle.std.specs.Prelude.{◌≡◌, ℕ, ◌+◌, ◌-◌, ◌*◌, ◌^◌, ◌<◌, ◌≤◌, ◌⊎◌, List, [], ◌∷◌, length, sum_by, Some, IsSomeAnd, Contains, slice_get, get_or}
 use Rattle.std.specs.List.{All, AllZip, Any}
 use Rattle.tl_base.specs.declared.style.Style.{Style}
+use Rattle.tl_base.specs.declared.limits.TheConstants.{MAX_COLUMNS}
 use Rattle.tl_base.specs.Style.{gap_of, edge_of}
 use Rattle.tl_diff.specs.declared.paths.Arc.{Arc}
 use Rattle.tl_problem.specs.Sizes.{room}
@@ -16,7 +17,7 @@ IsPlacedDemand cols demand = (demand.left < demand.right) × (demand.right ≤ c
 -- demands that a table of so many columns may have: each covers columns, one covers the last column alone, and their
 -- widths are small
 pub record AreDemands (cols : ℕ) (demands : List Demand) : Type 0 where
-  pub few_columns : cols ≤ 60
+  pub few_columns : cols ≤ MAX_COLUMNS
   pub few : length demands < 2 ^ 31
   pub placed : All (IsPlacedDemand cols) demands
   pub anchored : 0 < cols → Any (λ demand. demand.left + 1 ≡ cols) demands
