@@ -9,7 +9,15 @@ use Rattle.std.specs.Result.{result_ok}
 use Rattle.std.specs.Str.Parse.{digits_value, ParsesUnsigned}
 use Rattle.std.proofs.lemmas.Str.{IsUtf8-from_ascii}
 use Rattle.std.proofs.lemmas.Str.Parse.{IsNumeralModel, numerals_by_value, tells_all_ascii_digits, parse_digits}
-use Rattle.std.proofs.lemmas.Fmt.{decimal_digit, first_decimal, IsAscii-from_digits, decimal-digits_value, parse-decimal, decimal_is_IsNumeral, decimal_injective}
+use Rattle.std.proofs.lemmas.Fmt.{
+  decimal_digit,
+  first_decimal,
+  IsAscii-from_digits,
+  decimal-digits_value,
+  parse-decimal,
+  decimal_is_IsNumeral,
+  decimal_injective,
+}
 use Rattle.tl_base.specs.Number.{StandsAt}
 use Rattle.std.proofs.lemmas.List.Sums.{take_while-cons}
 use Rattle.std.proofs.lemmas.List.Folds.{length-prefix_len}
@@ -27,19 +35,19 @@ pub zero_is_alone : (n : ℕ) → n < 2 ^ 64 → get_or (decimal n) 0 0 ≡ 48 �
 zero_is_alone zero small first = rw (decimal_digit 0 (omega arith))
 zero_is_alone (suc m) small first = omega (arith, first_decimal (suc m) (omega arith) small)
 
--- a digit in front of digits
+-- a digit before digits
 digits_step : (is_digit : Bool) (b : ℕ) (ds : List ℕ) → is_ascii_digit b ≡ is_digit →
     all_ascii_digits ds ≡ true → all_ascii_digits (cond is_digit (b ∷ ds) []) ≡ true
 digits_step false b ds is digits = refl
 digits_step true b ds is digits = rw is digits
 
--- the run of digits at the front is all digits
+-- the run of digits that bytes begin with is all digits
 pub digits-take_while : (bs : List ℕ) → all_ascii_digits (take_while is_ascii_digit bs) ≡ true
 digits-take_while [] = refl
 digits-take_while (b ∷ bs) =
     rw (take_while-cons is_ascii_digit b bs) (digits_step (is_ascii_digit b) b _ refl (digits-take_while bs))
 
--- the front as long as the run of digits is the run
+-- the prefix as long as the run of digits is all digits
 pub digits-take : (bs : List ℕ) → all_ascii_digits (take (length (take_while is_ascii_digit bs)) bs) ≡ true
 digits-take bs = rw (length-prefix_len is_ascii_digit bs) (digits-take_while bs)
 
@@ -73,7 +81,7 @@ take_while-digits [] digits = refl
 take_while-digits (d ∷ ds) digits =
     rw (take_while-cons is_ascii_digit d ds) (run_more (is_ascii_digit d) d ds digits (take_while-digits ds))
 
--- a number's decimal stands at the front of itself
+-- a number's decimal begins with itself
 pub decimal_stands : (n : ℕ) → n < 2 ^ 64 → StandsAt (decimal n) 0 n
 decimal_stands n small = (small, take_while-digits (decimal n) (own.from (decimal n) (decimal_is_IsNumeral n small).0.1))
 

@@ -1,5 +1,40 @@
--- Falling step functions: where a search lands, and what the height there is.
-use Rattle.std.proofs.Common.{◌≡◌, ℕ, ◌+◌, ◌-◌, ◌<◌, ◌≤◌, zero, suc, Bool, true, false, cond, nat_le, nat_lt, List, [], ◌∷◌, ◌⊎◌, inl, inr, length, take, get_or, filter, Option, Some, None, IfSome, refl, sym, ap, ◌∙◌, subst, arith}
+-- Decreasing step functions: where a search lands, and what the height there is.
+use Rattle.std.proofs.Common.{
+  ◌≡◌,
+  ℕ,
+  ◌+◌,
+  ◌-◌,
+  ◌<◌,
+  ◌≤◌,
+  zero,
+  suc,
+  Bool,
+  true,
+  false,
+  cond,
+  nat_le,
+  nat_lt,
+  List,
+  [],
+  ◌∷◌,
+  ◌⊎◌,
+  inl,
+  inr,
+  length,
+  take,
+  get_or,
+  filter,
+  Option,
+  Some,
+  None,
+  IfSome,
+  refl,
+  sym,
+  ap,
+  ◌∙◌,
+  subst,
+  arith,
+}
 use Rattle.std.specs.List.{AllWithin, last_or}
 use Rattle.std.specs.List.Sorted.{IsPartitionedBy, IsPartitionPoint}
 use Rattle.std.specs.Option.{option_map, IsSomeAnd}
@@ -44,7 +79,8 @@ abbrev pub FallsBelow : List Config → ℕ → Type 0
 FallsBelow steps n = (i j : ℕ) → i < j → j < n → Falls (get_or steps i no_step) (get_or steps j no_step)
 
 -- one more step
-pub FallsBelow-more : (steps : List Config) (n : ℕ) → 1 ≤ n → FallsBelow steps n → Falls (get_or steps (n - 1) no_step) (get_or steps n no_step) → FallsBelow steps (n + 1)
+pub FallsBelow-more : (steps : List Config) (n : ℕ) → 1 ≤ n → FallsBelow steps n →
+    Falls (get_or steps (n - 1) no_step) (get_or steps n no_step) → FallsBelow steps (n + 1)
 FallsBelow-more steps n some below last = λ i j before within.
     elim (cases_lt j n) [
       | inl old ↦ below i j before old
@@ -96,9 +132,16 @@ filter-take : {X : Type 0} (p : X → Bool) (xs : List X) (n : ℕ) → IsPartit
 filter-take p [] zero at = refl
 filter-take p [] (suc n) at = refl
 filter-take p (x ∷ xs) zero at =
-    rw (at.1 0 x (omega arith) (omega arith)) (filter-take p xs zero ((λ k d low high. absurd (omega arith)), (λ k d low high. at.1 (suc k) d (omega arith) (omega arith))))
+    rw (at.1 0 x (omega arith) (omega arith)) (filter-take p xs zero (
+      (λ k d low high. absurd (omega arith)),
+      (λ k d low high. at.1 (suc k) d (omega arith) (omega arith)),
+    ))
 filter-take p (x ∷ xs) (suc n) at =
-    rw (at.0 0 x (omega arith) (omega arith)) (ap (λ rest. x ∷ rest) (filter-take p xs n ((λ k d low high. at.0 (suc k) d (omega arith) (omega arith)), (λ k d low high. at.1 (suc k) d (omega arith) (omega arith)))))
+    rw (at.0 0 x (omega arith) (omega arith)) (ap (λ rest. x ∷ rest) (filter-take p xs n (
+      (λ k d low high. at.0 (suc k) d (omega arith)
+          (omega arith)),
+      (λ k d low high. at.1 (suc k) d (omega arith) (omega arith)),
+    )))
 
 last_or-take : {X : Type 0} (o : Option X) (xs : List X) (n : ℕ) (d : X) → n < length xs → last_or o (take (suc n) xs) ≡ Some (get_or xs n d)
 last_or-take o [] n d within = absurd (omega arith)
@@ -106,32 +149,43 @@ last_or-take o (x ∷ xs) zero d within = refl
 last_or-take o (x ∷ xs) (suc n) d within = last_or-take (Some x) xs n d (omega arith)
 
 -- no step is narrow enough
-pub height_at-none : (steps : List Config) (w : ℕ) → IsPartitionPoint (λ step. nat_le step.width w ≡ true) (λ step. nat_le step.width w ≡ false) steps 0 → height_at steps w ≡ None
+pub height_at-none : (steps : List Config) (w : ℕ) → IsPartitionPoint (λ step. nat_le step.width w ≡ true) (λ step. nat_le step.width w ≡
+    false) steps 0 → height_at steps w ≡ None
 height_at-none steps w at = ap (λ narrow. option_map (λ step. step.height) (last_or None narrow)) (filter-take (λ step. nat_le step.width w) steps 0 at)
 
 -- the last step that is narrow enough
-pub height_at-some : (steps : List Config) (w n : ℕ) (d : Config) → n < length steps → IsPartitionPoint (λ step. nat_le step.width w ≡ true) (λ step. nat_le step.width w ≡ false) steps (suc n) → height_at steps w ≡ Some (get_or steps n d).height
+pub height_at-some : (steps : List Config) (w n : ℕ) (d : Config) → n < length steps →
+    IsPartitionPoint (λ step. nat_le step.width w ≡ true) (λ step. nat_le step.width w ≡ false) steps (suc n) →
+    height_at steps w ≡ Some (get_or steps n d).height
 height_at-some steps w n d within at =
     ap (λ narrow. option_map (λ step. step.height) (last_or None narrow)) (filter-take (λ step. nat_le step.width w) steps (suc n) at)
     ∙ ap (λ last. option_map (λ step. step.height) last) (last_or-take None steps n d within)
 
 -- at a step's own width the height is its own
-pub height_at-step : (steps : List Config) → AreSteps steps → (n : ℕ) → n < length steps → height_at steps (get_or steps n no_step).width ≡ Some (get_or steps n no_step).height
+pub height_at-step : (steps : List Config) → AreSteps steps → (n : ℕ) → n < length steps →
+    height_at steps (get_or steps n no_step).width ≡ Some (get_or steps n no_step).height
 height_at-step steps are n within =
     let w = (get_or steps n no_step).width in
     height_at-some steps w n no_step within (
-      (λ k d low high. narrow_first steps are w k n d (omega arith) within (test_le (omega (arith, ap (λ a. a.width) (get_or_default steps n d no_step within))))),
-      (λ k d low high. let fall = are.falling n k d (omega arith) high in test_le_false (omega (arith, fall.0, ap (λ a. a.width) (get_or_default steps n d no_step within)))),
+      (λ k d low high. narrow_first steps are w k n d (omega arith) within (test_le (omega (
+        arith,
+        ap (λ a. a.width) (get_or_default steps n d no_step within),
+      )))),
+      (λ k d low high. let fall = are.falling n k d (omega arith) high in
+          test_le_false (omega (arith, fall.0, ap (λ a. a.width) (get_or_default steps n d no_step within)))),
     )
 
--- `x` stands in front of a list, or it is an item that passes
+-- `x` is the item before a list, or it is an item of the list that passes
 abbrev IsFound : {X : Type 0} → (X → Bool) → Option X → List X → X → X → Type 0
 IsFound p o xs x d = (o ≡ Some x) ⊎ ((k : ℕ) × (k < length xs) × (p (get_or xs k d) ≡ true) × (get_or xs k d ≡ x))
 
-found_later : {X : Type 0} (p : X → Bool) (o first : Option X) (y : X) (xs : List X) (x d : X) → IsFound p o xs x d → (o ≡ Some x → IsFound p first (y ∷ xs) x d) → IsFound p first (y ∷ xs) x d
+found_later : {X : Type 0} (p : X → Bool) (o first : Option X) (y : X) (xs : List X) (x d : X) → IsFound p o xs x d → (o ≡ Some x →
+    IsFound p first (y ∷ xs) x d) → IsFound p first (y ∷ xs) x d
 found_later p o first y xs x d found start = elim found [ inl front ↦ start front | inr at ↦ inr (suc at.0, omega (arith, at.1), at.2, at.3) ]
 
-found_choice : {X : Type 0} (p : X → Bool) (o : Option X) (y : X) (xs : List X) (x d : X) (test : Bool) → p y ≡ test → (last_or (Some y) (filter p xs) ≡ Some x → IsFound p (Some y) xs x d) → (last_or o (filter p xs) ≡ Some x → IsFound p o xs x d) → last_or o (cond test (y ∷ filter p xs) (filter p xs)) ≡ Some x → IsFound p o (y ∷ xs) x d
+found_choice : {X : Type 0} (p : X → Bool) (o : Option X) (y : X) (xs : List X) (x d : X) (test : Bool) → p y ≡ test →
+    (last_or (Some y) (filter p xs) ≡ Some x → IsFound p (Some y) xs x d) → (last_or o (filter p xs) ≡ Some x → IsFound p o xs x d) →
+    last_or o (cond test (y ∷ filter p xs) (filter p xs)) ≡ Some x → IsFound p o (y ∷ xs) x d
 found_choice p o y xs x d true passes kept dropped is = found_later p (Some y) o y xs x d (kept is) (λ front. inr (0, omega arith, passes, cc))
 found_choice p o y xs x d false fails kept dropped is = found_later p o o y xs x d (dropped is) (λ front. inl front)
 
@@ -141,10 +195,14 @@ last_filter p o [] x d is = inl is
 last_filter p o (y ∷ xs) x d is = found_choice p o y xs x d (p y) refl (last_filter p (Some y) xs x d) (last_filter p o xs x d) is
 
 -- a height is that of a step that is narrow enough
-height_of_step : (steps : List Config) (w h : ℕ) → height_at steps w ≡ Some h → (k : ℕ) × (k < length steps) × ((get_or steps k no_step).width ≤ w) × ((get_or steps k no_step).height ≡ h)
-height_of_step steps w h is = open_last (last_or None (filter (λ step. nat_le step.width w) steps)) (λ step. last_filter (λ s. nat_le s.width w) None steps step no_step) is
+height_of_step : (steps : List Config) (w h : ℕ) → height_at steps w ≡ Some h →
+    (k : ℕ) × (k < length steps) × ((get_or steps k no_step).width ≤ w) × ((get_or steps k no_step).height ≡ h)
+height_of_step steps w h is = open_last (last_or None (filter (λ step. nat_le step.width w) steps)) (λ step. last_filter (λ s. nat_le
+    s.width w) None steps step no_step) is
   where
-    open_last : (last : Option Config) → ((step : Config) → last ≡ Some step → IsFound (λ s. nat_le s.width w) None steps step no_step) → option_map (λ step. step.height) last ≡ Some h → (k : ℕ) × (k < length steps) × ((get_or steps k no_step).width ≤ w) × ((get_or steps k no_step).height ≡ h)
+    open_last : (last : Option Config) → ((step : Config) → last ≡ Some step → IsFound (λ s. nat_le s.width w) None steps step no_step) →
+        option_map (λ step. step.height) last ≡ Some h → (k : ℕ) × (k < length steps) × ((get_or steps k no_step).width ≤ w) × ((get_or
+        steps k no_step).height ≡ h)
     open_last None found same = cc
     open_last (Some step) found same =
         elim (found step refl) [
@@ -154,7 +212,8 @@ height_of_step steps w h is = open_last (last_or None (filter (λ step. nat_le s
 
 -- ---- the least width for a height
 
-module _ (steps : List Config) (are : AreSteps steps) (h n : ℕ) (within : n < length steps) (at : IsPartitionPoint (λ step. nat_lt h step.height ≡ true) (λ step. nat_lt h step.height ≡ false) steps n) where
+module _ (steps : List Config) (are : AreSteps steps) (h n : ℕ) (within : n < length steps) (at : IsPartitionPoint (λ step. nat_lt h
+    step.height ≡ true) (λ step. nat_lt h step.height ≡ false) steps n) where
   -- the first step that is low enough
   pub low_here : (get_or steps n no_step).height ≤ h
   low_here = test_lt_false (at.1 n no_step (omega arith) within)
@@ -163,7 +222,9 @@ module _ (steps : List Config) (are : AreSteps steps) (h n : ℕ) (within : n < 
   none_before : (v : ℕ) → IsLowAt steps h v → (get_or steps n no_step).width ≤ v
   none_before v low = at_height (height_at steps v) (height_of_step steps v) low
     where
-      at_height : (height : Option ℕ) → ((x : ℕ) → height ≡ Some x → (k : ℕ) × (k < length steps) × ((get_or steps k no_step).width ≤ v) × ((get_or steps k no_step).height ≡ x)) → IsSomeAnd height (λ x. x ≤ h) → (get_or steps n no_step).width ≤ v
+      at_height : (height : Option ℕ) → ((x : ℕ) → height ≡ Some x →
+          (k : ℕ) × (k < length steps) × ((get_or steps k no_step).width ≤ v) × ((get_or steps k no_step).height ≡ x)) →
+          IsSomeAnd height (λ x. x ≤ h) → (get_or steps n no_step).width ≤ v
       at_height None found low' = absurd low'
       at_height (Some x) found low' =
           let step = found x refl in
@@ -199,10 +260,12 @@ last-is steps some =
 module _ (steps : List Config) (are : AreSteps steps) (h : ℕ) where
   -- the last step is too high just where no step is low enough
   pub last_high : AllWithin (λ step. nat_lt h step.height ≡ true) steps 0 (length steps) → IfSome (last_or None steps) (λ last. h < last.height)
-  last_high each = subst (λ last. IfSome last (λ step. h < step.height)) (sym (last-is steps are.has_step)) (lt_test (each (length steps - 1) no_step (omega arith) (omega (arith, are.has_step))))
+  last_high each = subst (λ last. IfSome last (λ step. h < step.height)) (sym (last-is steps are.has_step)) (lt_test (each (length steps -
+      1) no_step (omega arith) (omega (arith, are.has_step))))
 
   pub last_low : (n : ℕ) → n < length steps → (get_or steps n no_step).height ≤ h → IfSome (last_or None steps) (λ last. last.height ≤ h)
-  last_low n within low = subst (λ last. IfSome last (λ step. step.height ≤ h)) (sym (last-is steps are.has_step)) (last_low_here (cases_lt n (length steps - 1)))
+  last_low n within low = subst (λ last. IfSome last (λ step. step.height ≤ h)) (sym (last-is steps are.has_step)) (last_low_here (cases_lt
+      n (length steps - 1)))
     where
       last_low_here : (n < length steps - 1) ⊎ (length steps - 1 ≤ n) → (get_or steps (length steps - 1) no_step).height ≤ h
       last_low_here (inl before) = let fall = falls steps are n (length steps - 1) before (omega arith) in omega (arith, fall.1, low)

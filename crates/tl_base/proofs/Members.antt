@@ -44,9 +44,9 @@ filter-Contains p [] x has = absurd (Contains-none x has)
 filter-Contains p (y ∷ ys) x has =
     elim (cases_Bool (p y)) [
       | inl kept ↦ elim (Contains-cases y (filter p ys) x (rw kept at has)) [
-          | inl here ↦ (subst (λ z. Contains (y ∷ ys) z) here (Contains-first y ys), sym (ap p here) ∙ kept)
-          | inr later ↦ let rest = filter-Contains p ys x later in (Contains-later y ys x rest.0, rest.1)
-        ]
+        | inl here ↦ (subst (λ z. Contains (y ∷ ys) z) here (Contains-first y ys), sym (ap p here) ∙ kept)
+        | inr later ↦ let rest = filter-Contains p ys x later in (Contains-later y ys x rest.0, rest.1)
+      ]
       | inr left ↦ let rest = filter-Contains p ys x (rw left at has) in (Contains-later y ys x rest.0, rest.1)
     ]
 
@@ -132,8 +132,8 @@ AllPairs-map R f [] all = AllPairs-none R
 AllPairs-map R f (x ∷ xs) all =
     AllPairs-cons R (f x) (map f xs)
     (All-from_Contains (R (f x)) (map f xs) (λ y has.
-        let found = map-Contains f xs y has in
-        subst (R (f x)) found.2 (All-contains (λ b. R (f x) (f b)) xs found.0 (AllPairs-head (λ a b. R (f a) (f b)) x xs all) found.1)))
+    let found = map-Contains f xs y has in
+    subst (R (f x)) found.2 (All-contains (λ b. R (f x) (f b)) xs found.0 (AllPairs-head (λ a b. R (f a) (f b)) x xs all) found.1)))
     (AllPairs-map R f xs (AllPairs-tail (λ a b. R (f a) (f b)) x xs all))
 
 -- the parts of a joined list in order, and each part's elements before the next part's
@@ -142,8 +142,8 @@ pub AllPairs-flat_map : {X Y : Type 0} (R : Y → Y → Type 0) (Before : X → 
 AllPairs-flat_map R Before f [] all each between = AllPairs-none R
 AllPairs-flat_map R Before f (x ∷ xs) all each between =
     AllPairs-append R (f x) (flat_map f xs) (each x) (AllPairs-flat_map R Before f xs (AllPairs-tail Before x xs all) each between) (λ a b left right.
-        let found = flat_map-Contains f xs b right in
-        between x found.0 a b (All-contains (Before x) xs found.0 (AllPairs-head Before x xs all) found.1) left found.2)
+    let found = flat_map-Contains f xs b right in
+    between x found.0 a b (All-contains (Before x) xs found.0 (AllPairs-head Before x xs all) found.1) left found.2)
 
 pub AllPairs-range : (a n : ℕ) → AllPairs (λ x y. x < y) (range_with_len a n)
 AllPairs-range a zero = AllPairs-none (λ x y. x < y)
@@ -165,17 +165,17 @@ module _ {X : Type 0} (R : X → X → Type 0) (strict : (x y : X) → R x y →
       let same : x ≡ y = elim (Contains-cases y ys x (there x (Contains-first x xs))) [
         | inl here ↦ sym here
         | inr later ↦ elim (Contains-cases x xs y (back y (Contains-first y ys))) [
-            | inl here ↦ here
-            | inr past ↦ absurd (strict x y (All-contains (R x) xs y after_x past) (All-contains (R y) ys x after_y later))
-          ]
+          | inl here ↦ here
+          | inr past ↦ absurd (strict x y (All-contains (R x) xs y after_x past) (All-contains (R y) ys x after_y later))
+        ]
       ] in
       let tails : xs ≡ ys = same-ordered xs ys (AllPairs-tail R x xs first) (AllPairs-tail R y ys second)
-          (λ z has. elim (Contains-cases y ys z (there z (Contains-later x xs z has))) [
-            | inl here ↦ let before = All-contains (R x) xs z after_x has in let loop = subst (R x) (sym here ∙ sym same) before in absurd (strict x x loop loop)
-            | inr later ↦ later
-          ])
-          (λ z has. elim (Contains-cases x xs z (back z (Contains-later y ys z has))) [
-            | inl here ↦ let before = All-contains (R y) ys z after_y has in let loop = subst (R y) (sym here ∙ same) before in absurd (strict y y loop loop)
-            | inr later ↦ later
-          ]) in
+      (λ z has. elim (Contains-cases y ys z (there z (Contains-later x xs z has))) [
+        | inl here ↦ let before = All-contains (R x) xs z after_x has in let loop = subst (R x) (sym here ∙ sym same) before in absurd (strict x x loop loop)
+        | inr later ↦ later
+      ])
+      (λ z has. elim (Contains-cases x xs z (back z (Contains-later y ys z has))) [
+        | inl here ↦ let before = All-contains (R y) ys z after_y has in let loop = subst (R y) (sym here ∙ same) before in absurd (strict y y loop loop)
+        | inr later ↦ later
+      ]) in
       cc

@@ -1,5 +1,43 @@
 -- Two step functions one above the other: where their sum changes, and that the steps found are its steps.
-use Rattle.std.proofs.Common.{◌≡◌, ℕ, ◌+◌, ◌-◌, ◌<◌, ◌≤◌, max, min, Bool, zero, suc, nat_le, true, false, List, [], ◌∷◌, ◌++◌, ◌⊎◌, inl, inr, length, get_or, filter, cond, Option, Some, None, IfSome, IfNone, refl, sym, ap, ap₂, ◌∙◌, subst, arith}
+use Rattle.std.proofs.Common.{
+  ◌≡◌,
+  ℕ,
+  ◌+◌,
+  ◌-◌,
+  ◌<◌,
+  ◌≤◌,
+  max,
+  min,
+  Bool,
+  zero,
+  suc,
+  nat_le,
+  true,
+  false,
+  List,
+  [],
+  ◌∷◌,
+  ◌++◌,
+  ◌⊎◌,
+  inl,
+  inr,
+  length,
+  get_or,
+  filter,
+  cond,
+  Option,
+  Some,
+  None,
+  IfSome,
+  IfNone,
+  refl,
+  sym,
+  ap,
+  ap₂,
+  ◌∙◌,
+  subst,
+  arith,
+}
 use Rattle.std.specs.List.{AllPairs, last_or}
 use Rattle.std.specs.Option.{option_map, IsSomeAnd, IsSome}
 use Rattle.std.proofs.lemmas.Bool.{cases_lt}
@@ -10,7 +48,21 @@ use Rattle.std.proofs.lemmas.List.Quantifiers.{all_pairs_push}
 use Rattle.tl_base.specs.declared.steps.Config.{Config}
 use Rattle.tl_base.specs.Steps.{AreSteps, first_width, first_height, height_at, both_heights, stacked_height}
 use Rattle.tl_base.specs.inner.Stacking.{IsPastNarrow, IsNextWidth}
-use Rattle.tl_base.proofs.Falling.{no_step, Falls, falls, le_test, first_width-is, first_height-is, height_at-below, height_at-last, some_narrow, height_at-step, test_le, test_le_false, test_le_below}
+use Rattle.tl_base.proofs.Falling.{
+  no_step,
+  Falls,
+  falls,
+  le_test,
+  first_width-is,
+  first_height-is,
+  height_at-below,
+  height_at-last,
+  some_narrow,
+  height_at-step,
+  test_le,
+  test_le_false,
+  test_le_below,
+}
 
 -- ---- one step function
 
@@ -50,7 +102,8 @@ module _ (steps : List Config) (are : AreSteps steps) (w n : ℕ) (some : 0 < n)
     same = λ v from below. same_between v from (λ _. below);
     lower =
         let fall = falls steps are (n - 1) n (omega arith) more in
-        lower_of (height_at steps w) (height_at steps (get_or steps n no_step).width) (height_at-last steps are w n some within at) (height_at-step steps are n more) fall.1;
+        lower_of (height_at steps w) (height_at steps (get_or steps n no_step).width) (height_at-last steps are w n some within at)
+        (height_at-step steps are n more) fall.1;
   } where
     lower_of : (before here : Option ℕ) {high low : ℕ} → before ≡ Some high → here ≡ Some low → low < high → IsSomeAnd before (λ b. IsSomeAnd here (λ h. h < b))
     lower_of before here is_before is_here less = rw is_before (rw is_here less)
@@ -64,7 +117,11 @@ module _ (steps : List Config) (are : AreSteps steps) (w n : ℕ) (some : 0 < n)
   height_le_first = at_most (cases_lt 0 (n - 1)) where
     at_most : (0 < n - 1) ⊎ (n - 1 ≤ 0) → (get_or steps (n - 1) no_step).height ≤ first_height steps
     at_most (inl later) = let fall = falls steps are 0 (n - 1) later (omega arith) in omega (arith, fall.1, first_height-is steps no_step are.has_step)
-    at_most (inr first) = let here : n - 1 ≡ 0 = omega arith in omega (arith, first_height-is steps no_step are.has_step, ap (λ k. (get_or steps k no_step).height) here)
+    at_most (inr first) = let here : n - 1 ≡ 0 = omega arith in omega (
+      arith,
+      first_height-is steps no_step are.has_step,
+      ap (λ k. (get_or steps k no_step).height) here,
+    )
 
 -- ---- two, one above the other
 
@@ -82,7 +139,8 @@ none_below a b are_a are_b v below = none (cases_lt v (first_width a)) where
 -- ---- the steps found so far
 
 -- the height with one step more
-height_at-push : (steps : List Config) (step : Config) (w : ℕ) → height_at (steps ++ step ∷ []) w ≡ cond (nat_le step.width w) (Some step.height) (height_at steps w)
+height_at-push : (steps : List Config) (step : Config) (w : ℕ) →
+    height_at (steps ++ step ∷ []) w ≡ cond (nat_le step.width w) (Some step.height) (height_at steps w)
 height_at-push steps step w =
     ap (λ narrow. option_map (λ s. s.height) (last_or None narrow)) (filter-append (λ s. nat_le s.width w) steps (step ∷ []))
     ∙ last_is (filter (λ s. nat_le s.width w) steps) (nat_le step.width w)
@@ -95,7 +153,8 @@ height_at-push steps step w =
     last_nil all = ap (last_or None) (append-nil all)
 
     last_is : (all : List Config) (narrow : Bool) →
-        option_map (λ s. s.height) (last_or None (all ++ cond narrow (step ∷ []) [])) ≡ cond narrow (Some step.height) (option_map (λ s. s.height) (last_or None all))
+        option_map (λ s. s.height) (last_or None (all ++ cond narrow (step ∷ []) [])) ≡ cond narrow (Some step.height) (option_map (λ s.
+        s.height) (last_or None all))
     last_is all true = ap (option_map (λ s. s.height)) (last_push None all)
     last_is all false = ap (option_map (λ s. s.height)) (last_nil all)
 
@@ -105,11 +164,13 @@ pub record AreStepsBelow (least : ℕ) (height : ℕ → Option ℕ) (steps : Li
   pub begins : (length steps ≡ 0) → width ≡ least
   pub first : 0 < length steps → first_width steps ≡ least
   pub falling : AllPairs Falls steps
-  pub before : (k : ℕ) (d : Config) → k < length steps → ((get_or steps k d).width < width) × IsSomeAnd (height width) (λ here. here < (get_or steps k d).height)
+  pub before : (k : ℕ) (d : Config) → k < length steps → ((get_or steps k d).width < width) × IsSomeAnd (height width) (λ here. here <
+      (get_or steps k d).height)
   pub heights : (v : ℕ) → v < width → height_at steps v ≡ height v
 
 -- no step is found yet
-pub none_found : (least : ℕ) (height : ℕ → Option ℕ) (steps : List Config) → steps ≡ [] → ((v : ℕ) → v < least → height v ≡ None) → AreStepsBelow least height steps least
+pub none_found : (least : ℕ) (height : ℕ → Option ℕ) (steps : List Config) → steps ≡ [] → ((v : ℕ) → v < least → height v ≡ None) →
+    AreStepsBelow least height steps least
 none_found least height steps is none = subst (λ list. AreStepsBelow least height list least) (sym is) (record {
   from = omega arith;
   begins = λ _. refl;
@@ -119,7 +180,8 @@ none_found least height steps is none = subst (λ list. AreStepsBelow least heig
   heights = λ v below. sym (none v below);
 })
 
-module _ (least : ℕ) (height : ℕ → Option ℕ) (steps : List Config) (width h : ℕ) (found : AreStepsBelow least height steps width) (here : height width ≡ Some h) where
+module _ (least : ℕ) (height : ℕ → Option ℕ) (steps : List Config) (width h : ℕ) (found : AreStepsBelow least height steps width) (here :
+    height width ≡ Some h) where
   -- the step at this width
   abbrev step : Config
   step = record { width = width; height = h }
@@ -127,7 +189,8 @@ module _ (least : ℕ) (height : ℕ → Option ℕ) (steps : List Config) (widt
   -- it is wider and lower than those before
   falls_to : AllPairs Falls (steps ++ step ∷ [])
   falls_to = all_pairs_push Falls steps step found.falling (λ k d within. falls_here k d (found.before k d within)) where
-    falls_here : (k : ℕ) (d : Config) → ((get_or steps k d).width < width) × IsSomeAnd (height width) (λ low. low < (get_or steps k d).height) → Falls (get_or steps k d) step
+    falls_here : (k : ℕ) (d : Config) → ((get_or steps k d).width < width) × IsSomeAnd (height width) (λ low. low < (get_or steps k
+        d).height) → Falls (get_or steps k d) step
     falls_here k d before = (before.0, rw here at before.1)
 
   -- the first width
@@ -161,7 +224,8 @@ module _ (least : ℕ) (height : ℕ → Option ℕ) (steps : List Config) (widt
           lower_still (height width) (height next) before.1 changes.lower (ap (λ s. s.height) same),
         )
       where
-        lower_still : (now then : Option ℕ) {high same : ℕ} → IsSomeAnd now (λ low. low < high) → IsSomeAnd now (λ before. IsSomeAnd then (λ low. low < before)) → same ≡ high → IsSomeAnd then (λ low. low < same)
+        lower_still : (now then : Option ℕ) {high same : ℕ} → IsSomeAnd now (λ low. low < high) →
+            IsSomeAnd now (λ before. IsSomeAnd then (λ low. low < before)) → same ≡ high → IsSomeAnd then (λ low. low < same)
         lower_still None then less falls is = absurd less
         lower_still (Some now) None less falls is = absurd falls
         lower_still (Some now) (Some then) less falls is = omega (arith, less, falls, is)
@@ -172,7 +236,8 @@ module _ (least : ℕ) (height : ℕ → Option ℕ) (steps : List Config) (widt
           lower_here (height width) (height next) here changes.lower (ap (λ s. s.height) same),
         )
       where
-        lower_here : (now then : Option ℕ) {same : ℕ} → now ≡ Some h → IsSomeAnd now (λ before. IsSomeAnd then (λ low. low < before)) → same ≡ h → IsSomeAnd then (λ low. low < same)
+        lower_here : (now then : Option ℕ) {same : ℕ} → now ≡ Some h → IsSomeAnd now (λ before. IsSomeAnd then (λ low. low < before)) →
+            same ≡ h → IsSomeAnd then (λ low. low < same)
         lower_here now None is falls same = absurd (rw is at falls)
         lower_here now (Some then) is falls same = let less : then < h = rw is at falls in omega (arith, less, same)
 

@@ -1,3 +1,4 @@
+//! The one way to the outside, and what goes wrong there.
 ghost use Rattle.std.specs.Prelude.{◌≡◌, ℕ, ◌+◌, ◌≤◌, length, List, Option, Err, IfOk, OnOk, IfSome, alloc_error};
 ghost use Rattle.tl_base.specs.Desk.{Files, stored, longer, IsReadFrom, StoresPrefix, SaysPrefix, Rose};
 ghost use Rattle.tl_base.specs.declared.desk.DeskFault.TheVariants.{Failed, Memory};
@@ -9,7 +10,7 @@ use thiserror::Error;
 /// Why a call of a [`Desk`] was not carried out.
 #[derive(Debug, Drop, Error)]
 pub enum DeskFault {
-    /// Want of memory: nothing outside has changed.
+    /// Out of memory: nothing outside has changed.
     #[error("out of memory")]
     Memory(AllocError),
     /// Reading or writing failed, and the desk's count of such faults rose.
@@ -25,9 +26,10 @@ impl From<AllocError> for DeskFault {
     }
 }
 
-/// The one way to the outside: files by name, and what is said on standard output. What a desk
-/// holds has two meanings, `files` and `said`, that it tells or not. Two counts of faults, one of
-/// `load` and one of `store` and `say`, never fall and stay at 2<sup>64</sup> - 1 once there.
+/// The one way to the outside: files by name, and what is printed on standard output. What a desk
+/// holds has two meanings that it tells or not: `files`, the bytes of each file, and `said`, the
+/// bytes printed. Two counts of faults, one of `load` and one of `store` and `say`, never fall and
+/// stay at 2<sup>64</sup> - 1 once there.
 pub trait Desk {
     ghost files: { Self → Option Files };
 
@@ -44,7 +46,8 @@ pub trait Desk {
         ensures read { IfOk result (λ bytes. IfSome (files self.old) (λ held. IsReadFrom held name.now most bytes)) }
         ensures failed { result ≡ Err Failed → Rose (load_faults self.old) (load_faults self.new) }
 
-        // The counts never fall, and nothing outside changes.
+        // The counts never fall and rise in no call that succeeds, and nothing outside changes.
+        ensures ok_count { OnOk result (load_faults self.new ≡ load_faults self.old) }
         ensures load_count { load_faults self.old ≤ load_faults self.new }
         ensures write_count { write_faults self.new ≡ write_faults self.old }
         ensures files_stay { files self.new ≡ files self.old }
@@ -57,17 +60,19 @@ pub trait Desk {
         ensures prefix { result ≡ Err Failed → StoresPrefix (files self.old) (files self.new) name.now bytes.now }
         ensures memory { result ≡ Err (Memory alloc_error) → files self.new ≡ files self.old }
 
+        ensures ok_count { OnOk result (write_faults self.new ≡ write_faults self.old) }
         ensures write_count { write_faults self.old ≤ write_faults self.new }
         ensures load_count { load_faults self.new ≡ load_faults self.old }
         ensures said_stays { said self.new ≡ said self.old };
 
-    /// Says `bytes` on standard output, behind what was said before.
+    /// Prints `bytes` on standard output, after what was printed before.
     fn say(&mut self, bytes: &[u8]) -> Result<(), DeskFault>
         ensures ok { OnOk result (said self.new ≡ longer (said self.old) bytes.now) }
         ensures failed { result ≡ Err Failed → Rose (write_faults self.old) (write_faults self.new) }
         ensures prefix { result ≡ Err Failed → SaysPrefix (said self.old) (said self.new) bytes.now }
         ensures memory { result ≡ Err (Memory alloc_error) → said self.new ≡ said self.old }
 
+        ensures ok_count { OnOk result (write_faults self.new ≡ write_faults self.old) }
         ensures write_count { write_faults self.old ≤ write_faults self.new }
         ensures load_count { load_faults self.new ≡ load_faults self.old }
         ensures files_stay { files self.new ≡ files self.old };

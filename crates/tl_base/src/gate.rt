@@ -1,5 +1,7 @@
+//! What parallel pieces of work pass before they begin.
+
 /// What each parallel piece of work passes once before it begins, named by the piece's number. A
-/// gate changes no answer: it exists so that a test can see two pieces at work at one time.
+/// gate changes no result: it exists so that a test can see two pieces at work at one time.
 pub trait Gate: Sync {
     fn pass(&self, piece: u32);
 }

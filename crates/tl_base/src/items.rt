@@ -108,8 +108,8 @@ impl<T: Eq> Eq for List<T> {
 }
 
 impl<T: Drop> List<T> {
-    /// Puts `item` at the end. Where no memory is found the list stays as it was and the error
-    /// gives the item back.
+    /// Puts `item` at the end. When out of memory the list stays as it was and the error gives the
+    /// item back.
     pub fn push(&mut self, item: T) -> Result<(), AllocFailed<T>>
         ensures ok { OnOk result (self.new ≡ self.old ++ item ∷ []) }
         ensures err { OnErr result (self.new ≡ self.old) }
@@ -128,8 +128,8 @@ impl<T: Copy> List<T> {
         Ok(List { items })
     }
 
-    /// Puts a copy of each item of `more` at the end, in order. Where no memory is found the list
-    /// stays as it was.
+    /// Puts a copy of each item of `more` at the end, in order. When out of memory the list stays as
+    /// it was.
     pub fn extend_from_slice(&mut self, more: &[T]) -> Result<(), AllocError>
         ensures ok { OnOk result (self.new ≡ self.old ++ more.now) }
         ensures err { OnErr result (self.new ≡ self.old) }

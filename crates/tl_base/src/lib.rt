@@ -1,8 +1,8 @@
 //! What every layer shares: lists and texts that contracts see as their items, canonical decimal
 //! numbers, the desk through which files and standard output are reached, and the gate that
-//! parallel pieces of work pass. It knows no table, no text breaking and no layout. Its one
-//! contract: what the desk holds after each answer, and that it answers a fault only where its
-//! count of faults rose.
+//! parallel pieces of work pass, step functions from widths to heights, and the limits that more
+//! than one crate knows. It knows no table, no text breaking and no layout. Its one contract: what
+//! the desk holds after each call, and that a fault is returned only where its count of faults rose.
 #![tactic(auto)]
 
 mod breaking;

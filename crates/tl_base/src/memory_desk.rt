@@ -1,5 +1,7 @@
-ghost use Rattle.std.specs.Prelude.{◌≡◌, ◌≢◌, ◌-◌, ◌+◌, ◌^◌, ◌≤◌, ℕ, [], ◌++◌, length, take, List, Option, Some, None, Err, OnOk, OnErr, IfOk, IfSome, IfNone, IsSome, alloc_error};
-ghost use Rattle.tl_base.specs.Desk.{Files, stored, longer, put, IsReadFrom, StoresPrefix, SaysPrefix, Rose};
+//! The desk of tests, which holds its files in memory.
+ghost use Rattle.std.specs.Prelude.{◌≡◌, ◌≢◌, ◌-◌, ◌+◌, ◌^◌, ◌≤◌, ℕ, [], ◌++◌, length, take};
+ghost use Rattle.std.specs.Prelude.{List, Option, Some, None, Err, OnOk, OnErr, IfOk, IfSome, IfNone, IsSome, alloc_error};
+ghost use Rattle.tl_base.specs.Desk.{Files, stored, longer, put, IsReadFrom, StoresPrefix, SaysPrefix, Rose, next_up_to};
 ghost use Rattle.tl_base.specs.declared.desk.DeskFault.TheVariants.{Failed, Memory};
 
 use crate::desk::{Desk, DeskFault};
@@ -7,8 +9,8 @@ use crate::items::List;
 use std::alloc::{AllocError, Global};
 use std::collections::BTreeMap;
 
-/// One planned failure of a [`MemoryDesk`]: the number of the call, from 0 over loads, stores and
-/// says together, and how many bytes a store or a say passes before it fails.
+/// One planned failure of a [`MemoryDesk`]: the number of the call, from 0 over `load`, `store` and
+/// `say` together, and how many bytes a `store` or a `say` passes before it fails.
 #[derive(Clone, Copy, Debug, PartialEq, Eq)]
 pub struct Fail {
     pub call: u32,
@@ -29,9 +31,9 @@ pub struct MemoryDesk {
 }
 
 impl MemoryDesk {
-    ghost use Rattle.tl_base.specs.MemoryDesk.{file_map, files_of, said_of, planned_failures, calls_made, load_faults_of, write_faults_of, next_failure, next_up_to};
+    ghost use Rattle.tl_base.specs.MemoryDesk.{file_map, files_of, said_of, planned_failures, calls_made, load_faults_of, write_faults_of, next_failure};
 
-    /// A desk with these files, nothing said, and no call made yet. Where two entries of `fails`
+    /// A desk with these files, nothing printed, and no call made yet. Where two entries of `fails`
     /// name one call, the first counts.
     pub fn new(alloc: Global, files: BTreeMap<String, List<u8>>, fails: List<Fail>) -> MemoryDesk
         ensures files { file_map result ≡ files }
@@ -59,14 +61,14 @@ impl MemoryDesk {
         &self.files
     }
 
-    /// Lends all that was said.
+    /// Lends all that was printed.
     pub fn said(&self) -> &[u8]
         ensures { result.now ≡ said_of self.now }
     {
         self.said.as_slice()
     }
 
-    /// Counts a call, and gives the number of bytes that it passes where it is to fail.
+    /// Counts a call, and returns the number of bytes that it passes where it is to fail.
     fn next_call(&mut self) -> Option<u32>
         ensures planned { result ≡ next_failure self.old }
         ensures counted { self.new ≡ record self.old { calls = next_up_to (2 ^ 32 - 1) self.old.calls } }
@@ -104,7 +106,7 @@ fn at_most(bytes: &[u8], count: u64) -> &[u8]
 }
 
 impl Desk for MemoryDesk {
-    ghost use Rattle.tl_base.specs.MemoryDesk.{files_of, said_of, load_faults_of, write_faults_of, next_failure, next_up_to, CountsCall};
+    ghost use Rattle.tl_base.specs.MemoryDesk.{files_of, said_of, load_faults_of, write_faults_of, next_failure, CountsCall};
 
     ghost files = { λ desk. Some (files_of desk) };
 
@@ -119,6 +121,7 @@ impl Desk for MemoryDesk {
         ensures read { IfOk result (λ bytes. IsReadFrom (files_of self.old) name.now most bytes) }
         ensures failed { result ≡ Err Failed → Rose (load_faults_of self.old) (load_faults_of self.new) }
 
+        ensures ok_count { OnOk result (load_faults_of self.new ≡ load_faults_of self.old) }
         ensures load_count { load_faults_of self.old ≤ load_faults_of self.new }
         ensures write_count { write_faults_of self.new ≡ write_faults_of self.old }
         ensures files_stay { files_of self.new ≡ files_of self.old }
@@ -128,6 +131,7 @@ impl Desk for MemoryDesk {
         ensures planned { IsSome (next_failure self.old) → result ≡ Err Failed }
         ensures missing { files_of self.old name.now ≡ None → result ≡ Err Failed }
         ensures only { next_failure self.old ≡ None → IsSome (files_of self.old name.now) → result ≢ Err Failed }
+        ensures fault { result ≡ Err Failed → load_faults_of self.new ≡ next_up_to (2 ^ 64 - 1) (load_faults_of self.old) }
         ensures no_fault { result ≢ Err Failed → load_faults_of self.new ≡ load_faults_of self.old }
         ensures counted { CountsCall self.old self.new }
     {
@@ -147,6 +151,7 @@ impl Desk for MemoryDesk {
         ensures prefix { result ≡ Err Failed → StoresPrefix (Some (files_of self.old)) (Some (files_of self.new)) name.now bytes.now }
         ensures memory { result ≡ Err (Memory alloc_error) → files_of self.new ≡ files_of self.old }
 
+        ensures ok_count { OnOk result (write_faults_of self.new ≡ write_faults_of self.old) }
         ensures write_count { write_faults_of self.old ≤ write_faults_of self.new }
         ensures load_count { load_faults_of self.new ≡ load_faults_of self.old }
         ensures said_stays { said_of self.new ≡ said_of self.old }
@@ -156,6 +161,7 @@ impl Desk for MemoryDesk {
         ensures only { next_failure self.old ≡ None → result ≢ Err Failed }
         ensures passed { IfSome (next_failure self.old)
             (λ count. result ≡ Err Failed → files_of self.new ≡ put name.now (take count bytes.now) (files_of self.old)) }
+        ensures fault { result ≡ Err Failed → write_faults_of self.new ≡ next_up_to (2 ^ 64 - 1) (write_faults_of self.old) }
         ensures no_fault { result ≢ Err Failed → write_faults_of self.new ≡ write_faults_of self.old }
         ensures counted { CountsCall self.old self.new }
     {
@@ -173,6 +179,7 @@ impl Desk for MemoryDesk {
         ensures prefix { result ≡ Err Failed → SaysPrefix (Some (said_of self.old)) (Some (said_of self.new)) bytes.now }
         ensures memory { result ≡ Err (Memory alloc_error) → said_of self.new ≡ said_of self.old }
 
+        ensures ok_count { OnOk result (write_faults_of self.new ≡ write_faults_of self.old) }
         ensures write_count { write_faults_of self.old ≤ write_faults_of self.new }
         ensures load_count { load_faults_of self.new ≡ load_faults_of self.old }
         ensures files_stay { files_of self.new ≡ files_of self.old }
@@ -182,6 +189,7 @@ impl Desk for MemoryDesk {
         ensures only { next_failure self.old ≡ None → result ≢ Err Failed }
         ensures passed { IfSome (next_failure self.old)
             (λ count. result ≡ Err Failed → said_of self.new ≡ said_of self.old ++ take count bytes.now) }
+        ensures fault { result ≡ Err Failed → write_faults_of self.new ≡ next_up_to (2 ^ 64 - 1) (write_faults_of self.old) }
         ensures no_fault { result ≢ Err Failed → write_faults_of self.new ≡ write_faults_of self.old }
         ensures counted { CountsCall self.old self.new }
     {

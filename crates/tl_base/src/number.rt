@@ -1,3 +1,4 @@
+//! Canonical decimal numbers, read and written.
 ghost use Rattle.std.specs.Prelude.{◌≡◌, ◌≢◌, true, ℕ, ◌+◌, ◌<◌, ◌^◌, ◌≤◌, ◌++◌, length, decimal, OnOk, OnErr, IfSome, IfNone, IsTrue, ◌↔◌, slice_index};
 ghost use Rattle.std.specs.Str.{all_ascii_digits};
 ghost use Rattle.tl_base.specs.Number.{digit_run, StandsAt};
@@ -7,7 +8,7 @@ use std::alloc::{AllocError, Global};
 
 /// Reads the canonical decimal number that stands at `at` (a place in bytes, from 0): the whole
 /// run of digits there, without a leading zero unless it is `0` itself, of a value up to
-/// 2<sup>64</sup> - 1. Gives the number and the place past its last digit, or `None` where no
+/// 2<sup>64</sup> - 1. Returns the number and the place past its last digit, or `None` where no
 /// such number stands there.
 pub fn read_number(bytes: &[u8], at: usize) -> Option<(u64, usize)>
     requires { at ≤ length bytes.now }
@@ -34,7 +35,7 @@ fn canonical_value(digits: &[u8]) -> Option<u64>
     text.parse::<u64>().ok()
 }
 
-/// Whether a zero stands in front of other digits.
+/// Whether the first of several digits is a zero.
 fn has_leading_zero(digits: &[u8]) -> bool
     ensures { IsTrue result ↔ ((1 < length digits.now) × (slice_index digits.now 0 ≡ 48)) }
 {
@@ -48,8 +49,8 @@ fn leading_digits(bytes: &[u8]) -> usize
     bytes.iter().take_while(|b| b.is_ascii_digit()).count()
 }
 
-/// Appends the canonical decimal of `n`: its digits, with no leading zero unless `n` is 0. Where
-/// no memory is found `out` stays as it was.
+/// Appends the canonical decimal of `n`: its digits, with no leading zero unless `n` is 0. When out
+/// of memory `out` stays as it was.
 pub fn write_number(alloc: Global, out: &mut List<u8>, n: u64) -> Result<(), AllocError>
     ensures ok { OnOk result (out.new ≡ out.old ++ decimal n) }
     ensures err { OnErr result (out.new ≡ out.old) }

@@ -16,7 +16,7 @@ pub struct Config {
     pub height: u32,
 }
 
-/// A falling step function from widths to heights. Contracts see it as the list of its steps, at
+/// A decreasing step function from widths to heights. Contracts see it as the list of its steps, at
 /// least one, whose widths rise strictly and whose heights fall strictly.
 #[derive(Debug, Drop)]
 pub struct Steps {
@@ -208,7 +208,7 @@ fn are_steps(configs: &[Config]) -> bool
 #[cfg(test)]
 mod tests {
     use super::{Config, Steps};
-    use crate::{List, Style};
+    use crate::{List, MAX_HEIGHT, Style};
     use std::alloc::{AllocError, Global};
     use std::test::Fail;
 
@@ -266,30 +266,52 @@ mod tests {
         Ok(())
     }
 
-    // Two words, of four columns and of one, under the three words.
-    #[test]
-    fn stacked_heights_are_added_at_each_width(rt: HostRuntime) -> Result<(), Fail> {
-        let above = steps(rt.alloc(), &[(2, 3), (5, 2), (8, 1)])?.ok_or("three steps")?;
-        let below = steps(rt.alloc(), &[(4, 2), (6, 1)])?.ok_or("two steps")?;
-        let want = steps(rt.alloc(), &[(4, 5), (5, 4), (6, 3), (8, 2)])?.ok_or("four steps")?;
-        assert_eq!(rt; (above.max_height(), below.max_height()), (3, 2));
-        let stacked = Steps::stack(rt.alloc(), &above, &below)?;
-        assert_eq!(rt; stacked.configs(), want.configs());
-        let stacked = Steps::stack(rt.alloc(), &below, &above)?;
-        assert_eq!(rt; stacked.configs(), want.configs());
-        Ok(())
+    /// Two step functions one above the other, unless together they are too high.
+    fn stacked(
+        alloc: Global,
+        above: &[(u32, u32)],
+        below: &[(u32, u32)],
+    ) -> Result<Option<Steps>, AllocError> {
+        let (Some(above), Some(below)) = (steps(alloc, above)?, steps(alloc, below)?) else {
+            return Ok(None);
+        };
+        if u64::from(above.max_height()) + u64::from(below.max_height()) > u64::from(MAX_HEIGHT) {
+            return Ok(None);
+        }
+        Ok(Some(Steps::stack(alloc, &above, &below)?))
     }
 
+    // Two words, of four columns and of one, under three words of two columns; and the greatest heights.
     #[test]
-    fn a_stack_of_the_greatest_height_has_one_step_where_both_have_one(
-        rt: HostRuntime,
-    ) -> Result<(), Fail> {
-        let one = steps(rt.alloc(), &[(1, 536870912), (u32::MAX, 0)])?.ok_or("two steps")?;
-        let want = steps(rt.alloc(), &[(1, 1073741824), (u32::MAX, 0)])?.ok_or("two steps")?;
-        assert_eq!(rt;
-            Steps::stack(rt.alloc(), &one, &one)?.configs(),
-            want.configs()
-        );
+    fn stacked_heights_are_added_at_each_width(rt: HostRuntime) -> Result<(), Fail> {
+        let three_words = [(2, 3), (5, 2), (8, 1)].as_slice();
+        let two_words = [(4, 2), (6, 1)].as_slice();
+        let highest = [(1, 536_870_912), (u32::MAX, 0)].as_slice();
+        for (above, below, want) in [
+            (
+                three_words,
+                two_words,
+                [(4, 5), (5, 4), (6, 3), (8, 2)].as_slice(),
+            ),
+            (
+                two_words,
+                three_words,
+                [(4, 5), (5, 4), (6, 3), (8, 2)].as_slice(),
+            ),
+            (
+                highest,
+                highest,
+                [(1, 1_073_741_824), (u32::MAX, 0)].as_slice(),
+            ),
+        ] {
+            let stacked = stacked(rt.alloc(), above, below)?.ok_or("steps")?;
+            let want = steps(rt.alloc(), want)?.ok_or("steps")?;
+            assert_eq!(rt;
+                stacked.configs(),
+                want.configs(),
+                "{above:?} above {below:?}"
+            );
+        }
         Ok(())
     }
 

@@ -1,3 +1,5 @@
+//! The two ways in which a table is drawn.
+
 /// How a table is drawn.
 #[derive(Clone, Copy, Debug, PartialEq, Eq)]
 pub enum Style {

@@ -1,6 +1,5 @@
 use crate::{
-    Desk, DeskFault, Fail, Gate, List, MemoryDesk, NoGate, RealDesk, Text, read_number,
-    write_number,
+    Desk, DeskFault, Fail, Gate, List, MemoryDesk, NoGate, Text, read_number, write_number,
 };
 use std::alloc::{AllocError, Global};
 use std::collections::BTreeMap;
@@ -32,7 +31,7 @@ fn a_number_is_read_only_in_its_canonical_form(rt: HostRuntime) {
 }
 
 #[test]
-fn a_number_is_written_behind_what_stands(rt: HostRuntime) -> Result<(), Failure> {
+fn a_number_is_appended(rt: HostRuntime) -> Result<(), Failure> {
     let mut out = List::from_slice(rt.alloc(), b"n ")?;
     for n in [0, 7, 10, 18446744073709551615] {
         write_number(rt.alloc(), &mut out, n)?;
@@ -104,7 +103,7 @@ fn desk_with(alloc: Global, held: &[u8], fails: &[Fail]) -> Result<MemoryDesk, A
 }
 
 #[test]
-fn a_desk_in_memory_holds_what_was_stored_and_said(rt: HostRuntime) -> Result<(), Failure> {
+fn a_desk_in_memory_holds_what_was_stored_and_printed(rt: HostRuntime) -> Result<(), Failure> {
     let mut desk = desk_with(rt.alloc(), b"abcd", &[])?;
     assert_eq!(rt; desk.load("in", 2)?.as_slice(), b"abc".as_slice());
     assert_eq!(rt; desk.load("in", 9)?.as_slice(), b"abcd".as_slice());
@@ -137,26 +136,29 @@ fn a_planned_failure_passes_so_many_bytes(rt: HostRuntime) -> Result<(), Failure
 }
 
 #[test]
-fn the_real_desk_reads_what_it_stored(rt: HostRuntime) -> Result<(), Failure> {
-    let mut desk = RealDesk::new(&rt);
-    desk.store("real_desk_test.txt", b"one\ntwo\n")?;
-    desk.store("real_desk_test.txt", b"three\n")?;
-    assert_eq!(rt;
-        desk.load("real_desk_test.txt", 9)?.as_slice(),
-        b"three\n".as_slice()
-    );
-    assert_eq!(rt;
-        desk.load("real_desk_test.txt", 2)?.as_slice(),
-        b"thr".as_slice()
-    );
-    assert!(rt; matches!(desk.load("no_such_file.txt", 9), Err(DeskFault::Failed)));
-    assert!(rt;
-        matches!(
-            desk.store("no_such_folder/x.txt", b"x"),
-            Err(DeskFault::Failed)
-        )
-    );
-    desk.say(b"said by the real desk\n")?;
-    std::fs::remove_file(&rt, "real_desk_test.txt")?;
+fn long_texts_and_files_are_held_whole(rt: HostRuntime) -> Result<(), Failure> {
+    let mut string = String::new(rt.alloc());
+    for _ in 0..10_000 {
+        string.push_str("seven b")?;
+    }
+    let text = Text::from_str(rt.alloc(), string.as_str())?;
+    assert_eq!(rt; text.len(), 70_000);
+    assert!(rt; text == Text::from_string(string));
+    let bytes = text.as_str().as_bytes();
+    let mut desk = desk_with(rt.alloc(), bytes, &[])?;
+    desk.store("out", bytes)?;
+    desk.say(b"1")?;
+    desk.say(bytes)?;
+    assert!(rt; desk.load("out", 69_999)?.as_slice() == bytes);
+    assert_eq!(rt; desk.said().len(), 70_001);
+    Ok(())
+}
+
+#[test]
+fn a_fault_is_printed_in_the_users_words(rt: HostRuntime) -> Result<(), Failure> {
+    let failed = format!(in rt.alloc(); "{}", DeskFault::Failed)?;
+    assert_eq!(rt; failed.as_str(), "reading or writing failed");
+    let memory = format!(in rt.alloc(); "{}", DeskFault::from(AllocError))?;
+    assert_eq!(rt; memory.as_str(), "out of memory");
     Ok(())
 }

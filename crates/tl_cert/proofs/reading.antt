@@ -7,3 +7,7 @@ pub mod Sequence
 pub mod Words
 pub mod Choice
 pub mod NumberReading
+pub mod Same
+pub mod ListExact
+pub mod Unlimited
+pub mod Parts

@@ -1,2 +1,11 @@
 pub mod Pieces
+pub mod Text
+pub mod Faults
 pub mod inner
+pub mod Traces
+pub mod Nogoods
+pub mod Implied
+pub mod Lines
+pub mod Worked
+pub mod Counting
+pub mod Laws

@@ -38,6 +38,10 @@ IsWithin (number low high value) = (low ≤ value) × (value ≤ high)
 abbrev pub AllWithin : List Piece → Type 0
 AllWithin = AllByRecursion IsWithin
 
+-- a number and the character that ends it
+abbrev pub field : ℕ → ℕ → ℕ → ℕ → List Piece
+field low high value end = number low high value ∷ character end ∷ []
+
 -- the characters of a word
 abbrev pub word : List ℕ → List Piece
 word = map character

@@ -1,1 +1,5 @@
 pub mod reading
+pub mod Areas
+pub mod CertReading
+pub mod Follows
+pub mod Gives

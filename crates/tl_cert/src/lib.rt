@@ -4,10 +4,18 @@
 //! contract: `write` and `read` are the certificate's text, both ways.
 #![tactic(auto)]
 
+mod areas;
 mod certificate;
 mod error;
+mod laws;
+mod follow;
 mod limits;
 mod log;
+mod chain_text;
+mod certificate_text;
+mod log_text;
+mod section_text;
+mod reader;
 mod section;
 #[cfg(test)]
 mod tests;
@@ -15,8 +23,12 @@ mod trace;
 
 pub use certificate::{Certificate, Claim};
 pub use error::CertError;
+pub use laws::{
+    enough_budget_closes, good_logs_are_sound, nogoods_are_true, traces_part_vectors,
+    zones_meet_their_bounds,
+};
 pub use limits::{
-    MAX_BOUNDS, MAX_CLASS, MAX_FIRES, MAX_INNER_TABLE, MAX_LINE, MAX_SECTIONS, MAX_SPAN, MAX_ZONE,
+    MAX_BOUNDS, MAX_CLASS, MAX_FIRES, MAX_LINE, MAX_SECTIONS, MAX_SPAN, MAX_TABLE, MAX_ZONE,
 };
 pub use log::{Bound, End, Log, LogLine, Nogood, Side};
 pub use section::Section;

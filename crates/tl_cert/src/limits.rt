@@ -1,8 +1,26 @@
 //! How great the numbers of a certificate may be, and how many parts it may have, where no lower crate
 //! knows of the limit.
 
-/// The greatest number of a nested table or of the outer one: there are at most 200 tables.
-pub const MAX_INNER_TABLE: u32 = 199;
+/// How wide a page may be, in columns.
+pub const MAX_PAGE_WIDTH: u32 = 500;
+
+/// What the heights on one page may sum to, in lines.
+pub const MAX_HEIGHT: u32 = 1_073_741_824;
+
+/// How many cuts the search of one table at one width may be allowed.
+pub const MAX_BUDGET: u32 = 100_000;
+
+/// How many columns one table may have.
+pub const MAX_COLUMNS: usize = 60;
+
+/// How many cells one table may have.
+pub const MAX_CELLS: u32 = 20_000;
+
+/// How many bytes a certificate that is read may have.
+pub const MAX_CERTIFICATE_BYTES: usize = 1_073_741_824;
+
+/// The greatest number of a table: there are at most 200, the outer one counted.
+pub const MAX_TABLE: u32 = 199;
 
 /// How many sections there may be.
 pub const MAX_SECTIONS: usize = 100_001;

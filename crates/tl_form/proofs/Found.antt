@@ -3,6 +3,7 @@ use Rattle.std.proofs.Common.{◌≡◌, ℕ, ◌+◌, ◌-◌, ◌*◌, ◌<◌
 use Rattle.std.specs.List.{All}
 use Rattle.std.proofs.lemmas.List.{length-map}
 use Rattle.tl_base.specs.declared.style.Style.{Style}
+use Rattle.tl_base.specs.declared.style.Style.TheVariants.{Plain, Frame}
 use Rattle.tl_base.specs.Style.{gap_of, edge_of}
 use Rattle.tl_diff.specs.declared.paths.Arc.{Arc}
 use Rattle.tl_diff.specs.Paths.{IsPath, IsHeaviest, path_weight}
@@ -81,3 +82,8 @@ empty_of_nil xs nil = omega (arith, ap length nil)
 pub some_of_not_nil : {X : Type 0} (xs : List X) → (xs ≡ [] → ⊥) → 0 < length xs
 some_of_not_nil [] not_nil = absurd (not_nil refl)
 some_of_not_nil (x ∷ xs) not_nil = omega arith
+
+-- a chain is little wider than all demands together
+pub small_found : (style : Style) (cols w sum gap edge : ℕ) → cols ≤ 60 → w ≤ sum → gap ≡ gap_of style → edge ≡ edge_of style → w + gap * (cols - 1) + 2 * edge ≤ sum + 118
+small_found Plain cols w sum gap edge few light is also = let g : gap * (cols - 1) ≡ 2 * (cols - 1) = ap (λ k. k * (cols - 1)) is in omega arith
+small_found Frame cols w sum gap edge few light is also = let g : gap * (cols - 1) ≡ 1 * (cols - 1) = ap (λ k. k * (cols - 1)) is in omega arith

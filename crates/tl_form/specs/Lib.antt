@@ -2,4 +2,5 @@ pub mod Tables
 pub mod Layouts
 pub mod Least
 pub mod Chains
+pub mod Sound
 pub mod inner

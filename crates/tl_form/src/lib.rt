@@ -4,8 +4,14 @@
 #![tactic(auto)]
 
 mod cell;
+mod count;
 mod layout;
+mod narrow;
 mod widest;
+mod width;
 
 pub use cell::{Content, Kind, Table, TableCell};
+pub use count::nested;
 pub use layout::Layout;
+pub use narrow::narrow_chain;
+pub use width::least_width;

@@ -129,14 +129,14 @@ fn heaviest_path(
 ) -> Result<(List<u32>, u32), AllocError>
     requires forward { LeadForward cols arcs.now }
     requires in_order { InOrder arcs.now }
-    requires small { total_weight arcs.now ≤ 2 ^ 30 }
+    requires light { total_weight arcs.now ≤ 2 ^ 30 }
     requires few { length arcs.now < 2 ^ 31 }
     requires room { length out.old ≡ cols + 1 }
     ensures each { (k : ℕ) → k ≤ cols → IsHeaviest arcs.now k (slice_index out.new k) }
     ensures path { IfOk result (λ found. IsPath arcs.now 0 found.0 cols) }
     ensures weight { IfOk result (λ found. path_weight arcs.now found.0 ≡ found.1) }
     ensures last { IfOk result (λ found. found.1 ≡ slice_index out.new cols) }
-    ensures small { IfOk result (λ found. found.1 ≤ 2 ^ 30) }
+    ensures small { IfOk result (λ found. found.1 ≤ total_weight arcs.now) }
 {
     let weight = heaviest(cols, arcs, out);
     let path = chain(alloc, cols, arcs, out)?;
@@ -176,12 +176,12 @@ fn chain_by_arcs(
     requires demands { AreDemands cols demands.now }
     requires arcs { HaveArcs (gap_of style) demands.now (length demands.now) arcs.now }
     requires sorted { IsNonDecreasingBy (λ one. one.arc.from) arcs.now }
-    requires small { sum_by (λ one. one.arc.weight) arcs.now ≤ 2 ^ 30 }
+    requires light { sum_by (λ one. one.arc.weight) arcs.now ≤ sum_by (λ demand. demand.width) demands.now }
     requires few { length arcs.now < 2 ^ 31 }
     requires plain { plain.now ≡ map (λ one. one.arc) arcs.now }
     ensures least { IfOk result (λ chain. IsLeastFor style cols demands.now chain.weight) }
     ensures chain { IfOk result (λ chain. IsRowOf style cols demands.now chain.numbers chain.weight) }
-    ensures small { IfOk result (λ chain. chain.weight < 2 ^ 31) }
+    ensures small { IfOk result (λ chain. chain.weight ≤ sum_by (λ demand. demand.width) demands.now + 118) }
 {
     let mut out = vec![in alloc; 0u32; cols as usize + 1]?;
     let (path, heaviest) = heaviest_path(alloc, cols, plain, &mut out)?;
@@ -205,7 +205,7 @@ pub fn heaviest_chain(
     requires demands { AreDemands cols demands.now }
     ensures least { IfOk result (λ chain. IsLeastFor style cols demands.now chain.weight) }
     ensures chain { IfOk result (λ chain. IsRowOf style cols demands.now chain.numbers chain.weight) }
-    ensures small { IfOk result (λ chain. chain.weight < 2 ^ 31) }
+    ensures small { IfOk result (λ chain. chain.weight ≤ sum_by (λ demand. demand.width) demands.now + 118) }
 {
     let arcs = arcs_in_order(alloc, demands, style.gap())?;
     let plain = plain_arcs(alloc, &arcs)?;

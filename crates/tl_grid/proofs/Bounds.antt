@@ -3,9 +3,9 @@ use Rattle.std.proofs.Common.{ℕ, ◌≤◌, leb, List, [], ◌∷◌, ◌++◌
 use Rattle.std.specs.List.{AllByRecursion}
 use Rattle.std.proofs.lemmas.Bool.{cases_Bool}
 use Rattle.tl_grid.specs.declared.block.Block.{Block}
-use Rattle.tl_grid.specs.inner.Walk.{Walk, pass_taken}
+use Rattle.tl_grid.specs.inner.OpenBlocks.{reaches, Walk, pass_taken}
 use Rattle.tl_grid.specs.inner.States.{EndsBy}
-use Rattle.tl_grid.proofs.Passing.{pass_on, pass_stop}
+use Rattle.tl_grid.proofs.Passing.{pass_on, pass_stop, pass_ended, all_drop}
 
 -- a walk's column and blocks end by column `width`
 abbrev pub EndsIn : ℕ → Walk → Type 0
@@ -17,17 +17,22 @@ mid_of P [] b ys a = a.0
 mid_of P (x ∷ xs) b ys a = mid_of P xs b ys a.1
 
 -- passing the open blocks goes no further than they end
-pub passed_within : (width : ℕ) (qs : List Block) (x : ℕ) (ps : List Block) → x ≤ width → AllByRecursion (EndsBy width) (ps ++ qs) → EndsIn width (pass_taken x ps qs)
-passed_within width [] x ps le all = (le, all)
-passed_within width (b ∷ bs) x ps le all =
+pub passed_within : (width y : ℕ) (qs : List Block) (x : ℕ) (ps : List Block) → x ≤ width →
+    AllByRecursion (EndsBy width) (ps ++ qs) → EndsIn width (pass_taken y x ps qs)
+passed_within width y [] x ps le all = (le, all)
+passed_within width y (b ∷ bs) x ps le all =
     let P : Walk → Type 0 = λ w. EndsIn width w in
-    elim (cases_Bool (leb b.left x)) [
-      | inl f ↦
-          let Q : List Block → Type 0 = λ l. AllByRecursion (EndsBy width) l in
-          subst P (sym (pass_on x ps b bs f))
-          (passed_within width bs b.right (ps ++ b ∷ []) (mid_of (EndsBy width) ps b bs all)
-          (subst Q (sym (append_assoc ps (b ∷ []) bs)) all))
-      | inr f ↦ subst P (sym (pass_stop x ps b bs f)) (le, all)
+    elim (cases_Bool (reaches y b)) [
+      | inl e ↦
+          elim (cases_Bool (leb b.left x)) [
+            | inl f ↦
+                let Q : List Block → Type 0 = λ l. AllByRecursion (EndsBy width) l in
+                subst P (sym (pass_on y x ps b bs e f))
+                (passed_within width y bs b.right (ps ++ b ∷ []) (mid_of (EndsBy width) ps b bs all)
+                (subst Q (sym (append_assoc ps (b ∷ []) bs)) all))
+            | inr f ↦ subst P (sym (pass_stop y x ps b bs e f)) (le, all)
+          ]
+      | inr e ↦ subst P (sym (pass_ended y x ps b bs e)) (passed_within width y bs x ps le (all_drop (EndsBy width) ps b bs all))
     ]
 
 -- what ends by a column ends by one further right
@@ -36,6 +41,8 @@ all_by width wider le [] a = tt
 all_by width wider le (x ∷ xs) a = (omega (arith, a.0), all_by width wider le xs a.1)
 
 -- one more block, and a wider bound
-pub all_wider : (width wider : ℕ) → width ≤ wider → (xs : List Block) (b : Block) (ys : List Block) → EndsBy wider b → AllByRecursion (EndsBy width) (xs ++ ys) → AllByRecursion (EndsBy wider) ((xs ++ b ∷ []) ++ ys)
+pub all_wider : (width wider : ℕ) → width ≤ wider → (xs : List Block) (b : Block) (ys : List Block) →
+    EndsBy wider b → AllByRecursion (EndsBy width) (xs ++ ys) →
+    AllByRecursion (EndsBy wider) ((xs ++ b ∷ []) ++ ys)
 all_wider width wider le [] b ys end a = (end, all_by width wider le ys a)
 all_wider width wider le (x ∷ xs) b ys end a = (omega (arith, a.0), all_wider width wider le xs b ys end a.1)

@@ -1,5 +1,6 @@
 -- The definition's cells beside the blocks: which cells lie over a slot.
-use Rattle.std.proofs.Common.{◌≡◌, ℕ, ◌+◌, ◌<◌, ◌≤◌, zero, suc, Bool, true, false, ◌&&◌, ◌||◌, cond, ltb, leb, eqb, List, [], ◌∷◌, ◌++◌, map, refl, sym, ap, ◌∙◌, inl, inr, arith}
+use Rattle.std.proofs.Common.{◌≡◌, ℕ, ◌+◌, ◌<◌, ◌≤◌, zero, suc, Bool, true, false, ◌&&◌, ◌||◌, cond, ltb, leb, eqb, List, [], ◌∷◌, ◌++◌, map, refl}
+use Rattle.std.proofs.Common.{sym, ap, ◌∙◌, inl, inr, arith}
 use Rattle.std.specs.List.{filter, AllByRecursion}
 use Rattle.std.proofs.lemmas.Bool.{lt-ltb, le-ltb, le-leb, eq-eqb, ne_eqb, cases_Bool, cases_lt, cases_eq, cond-true, cond-false, and_right}
 use Rattle.std.proofs.lemmas.List.{map-append}
@@ -8,7 +9,8 @@ use Rattle.tl_grid.specs.declared.shape.SpanOf.{SpanOf}
 use Rattle.tl_grid.specs.declared.block.Block.{Block}
 use Rattle.tl_grid.specs.Forming.{Cell, covers, has_cell, first_free, cell_at, grown_into}
 use Rattle.tl_grid.specs.Overlap.{cells_over, numbers_over}
-use Rattle.tl_grid.specs.inner.Walk.{reaches, block_at}
+use Rattle.tl_grid.specs.inner.OpenBlocks.{reaches}
+use Rattle.tl_grid.specs.inner.Walk.{block_at}
 use Rattle.tl_grid.proofs.Chains.{spot, filter_yes, filter_no}
 use Rattle.tl_grid.proofs.Passing.{some, any_is_some}
 
@@ -64,7 +66,9 @@ numbers-append x y cs ds =
     ap (map number_of) (filter-append (covers x y) cs ds) ∙ map-append number_of (cells_over x y cs) (cells_over x y ds)
 
 -- the cells lie over a slot as the blocks do, where each covers it just as its block
-pub numbers_same : (x y : ℕ) (f : Block → Cell) (p : Block → Bool) (P : Block → Type 0) → ((b : Block) → (f b).number ≡ b.number) → ((b : Block) → P b → covers x y (f b) ≡ p b) → (bs : List Block) → AllByRecursion P bs → numbers_over x y (map f bs) ≡ map block_number (filter p bs)
+pub numbers_same : (x y : ℕ) (f : Block → Cell) (p : Block → Bool) (P : Block → Type 0) →
+    ((b : Block) → (f b).number ≡ b.number) → ((b : Block) → P b → covers x y (f b) ≡ p b) →
+    (bs : List Block) → AllByRecursion P bs → numbers_over x y (map f bs) ≡ map block_number (filter p bs)
 numbers_same x y f p P names same [] all = refl
 numbers_same x y f p P names same (b ∷ bs) all =
     let rest : numbers_over x y (map f bs) ≡ map block_number (filter p bs) = numbers_same x y f p P names same bs all.1 in
@@ -96,7 +100,9 @@ pub covers_spot : (x y : ℕ) (b : Block) → BeginsBy y b → covers x y (cell_
 covers_spot x y b le = ap (λ r. (leb b.left x && ltb x b.right) && r) (rows_reach y b le)
 
 -- the cells over a slot of the row that is formed
-pub numbers_here : (x y : ℕ) (done : List Cell) (bs : List Block) → AllQuiet y done → AllByRecursion (BeginsBy y) bs → numbers_over x y (done ++ map (cell_of (y + 1)) bs) ≡ map block_number (filter (spot x y) bs)
+pub numbers_here : (x y : ℕ) (done : List Cell) (bs : List Block) → AllQuiet y done →
+    AllByRecursion (BeginsBy y) bs →
+    numbers_over x y (done ++ map (cell_of (y + 1)) bs) ≡ map block_number (filter (spot x y) bs)
 numbers_here x y done bs quiet tops =
     numbers-append x y done (map (cell_of (y + 1)) bs)
     ∙ ap (λ l. l ++ numbers_over x y (map (cell_of (y + 1)) bs)) (quiet_none x y y (omega arith) done quiet)
@@ -108,7 +114,9 @@ some_map f [] = refl
 some_map f (x ∷ xs) = refl
 
 -- a slot of the row that is formed has a cell where it has a block
-pub has_cell_here : (x y : ℕ) (done : List Cell) (bs : List Block) → AllQuiet y done → AllByRecursion (BeginsBy y) bs → has_cell x y (done ++ map (cell_of (y + 1)) bs) ≡ some (filter (spot x y) bs)
+pub has_cell_here : (x y : ℕ) (done : List Cell) (bs : List Block) → AllQuiet y done →
+    AllByRecursion (BeginsBy y) bs →
+    has_cell x y (done ++ map (cell_of (y + 1)) bs) ≡ some (filter (spot x y) bs)
 has_cell_here x y done bs quiet tops =
     any_is_some (covers x y) (done ++ map (cell_of (y + 1)) bs)
     ∙ sym (some_map number_of (cells_over x y (done ++ map (cell_of (y + 1)) bs)))
@@ -116,7 +124,8 @@ has_cell_here x y done bs quiet tops =
     ∙ some_map block_number (filter (spot x y) bs)
 
 -- the first free column is the one up to which all are taken
-pub first_free_is : (taken : ℕ → Bool) (k x z : ℕ) → x ≤ z → z ≤ x + k → ((x' : ℕ) → x ≤ x' → x' < z → taken x' ≡ true) → taken z ≡ false → first_free taken x k ≡ z
+pub first_free_is : (taken : ℕ → Bool) (k x z : ℕ) → x ≤ z → z ≤ x + k →
+    ((x' : ℕ) → x ≤ x' → x' < z → taken x' ≡ true) → taken z ≡ false → first_free taken x k ≡ z
 first_free_is taken zero x z le in' all free = omega arith
 first_free_is taken (suc k) x z le in' all free =
     elim (cases_eq x z) [
@@ -172,7 +181,8 @@ one_more y top row lt =
     ]
 
 -- grown into row y, a block covers its rows down to y
-same : (g : Bool) (y top bottom : ℕ) → top < y → (row : ℕ) → ((leb top row && ltb row (cond g y bottom)) || (g && eqb row y)) ≡ (leb top row && ltb row (cond g (y + 1) bottom))
+same : (g : Bool) (y top bottom : ℕ) → top < y → (row : ℕ) →
+    ((leb top row && ltb row (cond g y bottom)) || (g && eqb row y)) ≡ (leb top row && ltb row (cond g (y + 1) bottom))
 same true y top bottom lt row = one_more y top row lt
 same false y top bottom lt row = or_false (leb top row && ltb row bottom)
 

@@ -1,9 +1,10 @@
 -- Blocks in order, side by side: which of them cover a slot.
 use Rattle.std.proofs.Common.{◌≡◌, ℕ, ◌<◌, ◌≤◌, Bool, true, false, ◌&&◌, ltb, leb, List, [], ◌∷◌, ◌++◌, length, refl, inl, inr, arith}
 use Rattle.std.specs.List.{filter}
-use Rattle.std.proofs.lemmas.Bool.{ltb-true, leb-true, lt-ltb, le-ltb, le-leb, lt-leb, and_parts, and_from, and_left, and_right, or_cases, or_left, or_right, cases_Bool, cond-true, cond-false}
+use Rattle.std.proofs.lemmas.Bool.{ltb-true, leb-true, lt-ltb, le-ltb, le-leb, lt-leb, and_parts, and_from, and_left, and_right, or_cases, or_left}
+use Rattle.std.proofs.lemmas.Bool.{or_right, cases_Bool, cond-true, cond-false}
 use Rattle.tl_grid.specs.declared.block.Block.{Block}
-use Rattle.tl_grid.specs.inner.Walk.{reaches}
+use Rattle.tl_grid.specs.inner.OpenBlocks.{reaches}
 
 -- whether a block that begins in row y or above it covers the slot (x, y)
 abbrev pub spot : ℕ → ℕ → Block → Bool

@@ -1,17 +1,20 @@
--- How many kept numbers lie below a number: their places in a list that rises.
-use Rattle.std.proofs.Common.{◌≡◌, ℕ, ◌+◌, ◌<◌, ◌≤◌, zero, suc, Bool, true, false, ◌||◌, cond, ltb, eqb, List, [], ◌∷◌, length, get_or, refl, sym, ap, ◌∙◌, inl, inr, arith, add-one}
+-- How many kept numbers are below a number: their places in a list in strictly increasing order.
+use Rattle.std.proofs.Common.{◌≡◌, ℕ, ◌+◌, ◌<◌, ◌≤◌, zero, suc, Bool, true, false, ◌||◌, cond, ltb, eqb, List, [], ◌∷◌, length, get_or, refl, sym, ap}
+use Rattle.std.proofs.Common.{◌∙◌, inl, inr, arith, add-one}
 use Rattle.std.specs.List.{filter, dedup, dedup_from}
 use Rattle.std.specs.List.Sorted.{IsStrictlyIncreasing, IsNonDecreasingBy}
-use Rattle.std.proofs.lemmas.Bool.{lt-ltb, le-ltb, eq-eqb, ne_eqb, eqb-true, cases_Bool, cases_lt, cases_eq, cases_order, both_ways, cond-true, cond-false}
+use Rattle.std.proofs.lemmas.Bool.{lt-ltb, le-ltb, eq-eqb, ne_eqb, eqb-true, cases_Bool, cases_lt, cases_eq, cases_order, both_ways, cond-true}
+use Rattle.std.proofs.lemmas.Bool.{cond-false}
 use Rattle.std.proofs.lemmas.List.Kept.{AllPairs-from_increasing}
-use Rattle.tl_grid.specs.Dropping.{count_below, is_among}
+use Rattle.tl_grid.specs.Dropping.{count_below}
+use Rattle.tl_base.specs.Lists.{is_among}
 use Rattle.tl_grid.proofs.Chains.{filter_yes, filter_no}
 
 -- 1 if the test passes
 abbrev pub one_if : Bool → ℕ
 one_if b = cond b 1 0
 
--- tests that answer alike count alike
+-- tests that agree count alike
 pub count_same : (p q : ℕ → Bool) → ((x : ℕ) → p x ≡ q x) → (n : ℕ) → count_below p n ≡ count_below q n
 count_same p q same zero = refl
 count_same p q same (suc n) = ap (λ t. count_below p n + one_if t) (same n) ∙ ap (λ c. c + one_if (q n)) (count_same p q same n)
@@ -93,7 +96,9 @@ count_among a n (k ∷ ks) r =
     ]
 
 -- a place up to which all pass a test, and from which on none does
-pub point_is_count : (p : ℕ → Bool) (ks : List ℕ) (i : ℕ) → i ≤ length ks → ((k : ℕ) → k < i → p (get_or ks k 0) ≡ true) → ((k : ℕ) → i ≤ k → k < length ks → p (get_or ks k 0) ≡ false) → length (filter p ks) ≡ i
+pub point_is_count : (p : ℕ → Bool) (ks : List ℕ) (i : ℕ) → i ≤ length ks →
+    ((k : ℕ) → k < i → p (get_or ks k 0) ≡ true) →
+    ((k : ℕ) → i ≤ k → k < length ks → p (get_or ks k 0) ≡ false) → length (filter p ks) ≡ i
 point_is_count p [] i le passes fails = omega arith
 point_is_count p (x ∷ xs) zero le passes fails =
     ap length (filter_no p x xs (fails 0 (omega arith) (omega arith)))

@@ -7,7 +7,6 @@ use Rattle.tl_grid.specs.declared.shape.Place.{Place}
 use Rattle.tl_grid.specs.Forming.{formed}
 use Rattle.tl_grid.specs.Overlap.{numbers_over}
 use Rattle.tl_grid.specs.Dropping.{ArePlaces, kept_column_count, kept_row_count}
-use Rattle.tl_grid.specs.Form.{HasGrid, HasOverlap}
 
 -- a cell of these spans
 abbrev cell : ℕ → ℕ → SpanOf

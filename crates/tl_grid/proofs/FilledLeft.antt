@@ -1,12 +1,15 @@
 -- In each row of the standard's steps the slots to the left of an anchor are taken.
-use Rattle.std.proofs.Common.{◌≡◌, ℕ, ◌+◌, ◌-◌, ◌<◌, ◌≤◌, zero, suc, Bool, true, false, ◌&&◌, ◌||◌, not, cond, ltb, leb, eqb, List, [], ◌∷◌, ◌++◌, map, length, refl, sym, ap, ◌∙◌, inl, inr, arith}
-use Rattle.std.specs.List.{list_any, AllByRecursion}
-use Rattle.std.proofs.lemmas.Bool.{lt-ltb, le-leb, and_parts, and_from, or_left, or_right, or_cases, cases_Bool, cases_eq, cases_lt, cond-true, cond-false}
+use Rattle.std.proofs.Common.{◌≡◌, ℕ, ◌+◌, ◌-◌, ◌<◌, ◌≤◌, zero, suc, Bool, true, false, ◌&&◌, ◌||◌, not, cond, ltb, leb, eqb, List, [], ◌∷◌, ◌++◌}
+use Rattle.std.proofs.Common.{map, length, sym, ap, ◌∙◌, inl, inr, arith}
+use Rattle.std.specs.List.{AllByRecursion}
+use Rattle.std.proofs.lemmas.Bool.{lt-ltb, le-leb, and_parts, and_from, or_left, or_right, or_cases, cases_Bool, cases_eq, cases_lt, cond-true}
+use Rattle.std.proofs.lemmas.Bool.{cond-false}
 use Rattle.std.proofs.lemmas.List.Folds.{list_any-append}
 use Rattle.tl_grid.specs.declared.shape.SpanOf.{SpanOf}
 use Rattle.tl_grid.specs.declared.shape.ShapeGroup.{ShapeGroup}
 use Rattle.tl_grid.specs.declared.shape.Shape.{Shape}
-use Rattle.tl_grid.specs.Forming.{Cell, Forming, covers, has_cell, first_free, initial_rowspan, cell_at, with_cell, form_cells, grown_into, begin_row, next_row, form_row, form_rows, at_group_end, end_group, form_group, form_groups, cells_in, no_cells, formed}
+use Rattle.tl_grid.specs.Forming.{Cell, Forming, covers, has_cell, first_free, initial_rowspan, cell_at, with_cell, form_cells, grown_into, begin_row}
+use Rattle.tl_grid.specs.Forming.{form_row, form_rows, at_group_end, end_group, form_group, form_groups, cells_in, no_cells, formed}
 use Rattle.tl_grid.proofs.Rows.{rows_some}
 
 -- the slots to the left of the cell are taken in the row of its anchor
@@ -60,7 +63,9 @@ covers_first number x y span x' le lt =
     (lt-ltb y (y + initial_rowspan span) (rows_some y span.rowspan)))
 
 -- the row is taken up to the end of one more cell
-row_on : (number at : ℕ) (span : SpanOf) (s : Forming) → ((x' : ℕ) → x' < at → has_cell x' s.row s.cells ≡ true) → (x' : ℕ) → x' < at + span.colspan → has_cell x' s.row (with_cell number at span s).cells ≡ true
+row_on : (number at : ℕ) (span : SpanOf) (s : Forming) →
+    ((x' : ℕ) → x' < at → has_cell x' s.row s.cells ≡ true) → (x' : ℕ) → x' < at + span.colspan →
+    has_cell x' s.row (with_cell number at span s).cells ≡ true
 row_on number at span s before x' lt =
     let c : Cell = cell_at number at s.row span in
     elim (cases_lt x' at) [
@@ -72,7 +77,9 @@ row_on number at span s before x' lt =
     ]
 
 -- a row, of which the slots before column x are taken
-cells_filled : (spans : List SpanOf) (number x : ℕ) (s : Forming) → ((x' : ℕ) → x' < x → has_cell x' s.row s.cells ≡ true) → AllFilled s → AllFilled (form_cells number x spans s)
+cells_filled : (spans : List SpanOf) (number x : ℕ) (s : Forming) →
+    ((x' : ℕ) → x' < x → has_cell x' s.row s.cells ≡ true) → AllFilled s →
+    AllFilled (form_cells number x spans s)
 cells_filled [] number x s before all = all
 cells_filled (span ∷ spans) number x s before all =
     let taken : ℕ → Bool = λ column. has_cell column s.row s.cells in
@@ -98,7 +105,9 @@ covers_map f more (c ∷ cs) x y has =
     ]
 
 -- a change that moves no anchor
-map_filled : (others : List Cell) (f : Cell → Cell) → ((c : Cell) → IsFilled others c → IsFilled others (f c)) → (cs : List Cell) → AllByRecursion (IsFilled others) cs → AllByRecursion (IsFilled others) (map f cs)
+map_filled : (others : List Cell) (f : Cell → Cell) →
+    ((c : Cell) → IsFilled others c → IsFilled others (f c)) → (cs : List Cell) →
+    AllByRecursion (IsFilled others) cs → AllByRecursion (IsFilled others) (map f cs)
 map_filled others f same [] all = tt
 map_filled others f same (c ∷ cs) all = (same c all.0, map_filled others f same cs all.1)
 

@@ -1,5 +1,6 @@
 -- The blocks' dropped grid is the definition's.
-use Rattle.std.proofs.Common.{◌≡◌, ℕ, ◌+◌, ◌<◌, ◌≤◌, zero, suc, Bool, true, false, ◌&&◌, ◌||◌, ltb, leb, eqb, List, [], ◌∷◌, map, length, refl, sym, ap, ◌∙◌, subst, inl, inr, arith}
+use Rattle.std.proofs.Common.{◌≡◌, ℕ, ◌+◌, ◌<◌, ◌≤◌, zero, suc, Bool, true, false, ◌&&◌, ◌||◌, ltb, leb, eqb, List, [], ◌∷◌, map, length, refl, sym}
+use Rattle.std.proofs.Common.{ap, ◌∙◌, subst, inl, inr, arith}
 use Rattle.std.specs.List.{AllByRecursion}
 use Rattle.std.specs.List.Sorted.{IsStrictlyIncreasing}
 use Rattle.std.proofs.lemmas.Bool.{lt-ltb, le-ltb, le-leb, lt-leb, ne_eqb, cases_lt, and_left, and_right}
@@ -7,7 +8,8 @@ use Rattle.tl_grid.specs.declared.block.Block.{Block}
 use Rattle.tl_grid.specs.declared.table.Table.{Table}
 use Rattle.tl_grid.specs.declared.shape.Place.{Place}
 use Rattle.tl_grid.specs.Forming.{Cell, Forming}
-use Rattle.tl_grid.specs.Dropping.{count_below, keeps_column, keeps_row, new_column, new_row, place_of, is_among}
+use Rattle.tl_grid.specs.Dropping.{count_below, keeps_column, keeps_row, new_column, new_row, place_of}
+use Rattle.tl_base.specs.Lists.{is_among}
 use Rattle.tl_grid.specs.inner.Places.{begins_in_column, begins_in_row, place_by}
 use Rattle.std.proofs.lemmas.Simd.{map-map}
 use Rattle.tl_grid.proofs.Cells.{number_of, block_number}
@@ -67,14 +69,18 @@ no_row width height (b ∷ bs) sound y le =
     ∙ no_row width height bs sound.1 y le
 
 -- how many are kept
-pub column_count : (s : Forming) (t : Table) (ks : List ℕ) → TableMatches s t → IsStrictlyIncreasing ks → ((x : ℕ) → is_among ks x ≡ begins_in_column t.blocks x) → count_below (keeps_column s.cells) s.width ≡ length ks
+pub column_count : (s : Forming) (t : Table) (ks : List ℕ) → TableMatches s t → IsStrictlyIncreasing ks →
+    ((x : ℕ) → is_among ks x ≡ begins_in_column t.blocks x) →
+    count_below (keeps_column s.cells) s.width ≡ length ks
 column_count s t ks m up same =
     count_same (keeps_column s.cells) (is_among ks) (λ x. same_columns s t m x ∙ sym (same x)) s.width
     ∙ count_among 0 s.width ks (rises_from 0 ks up (λ has. omega arith))
     ∙ count_whole s.width ks (λ x le. same x ∙ no_column s.width s.height t.blocks m.sound x le)
 
 -- and how many rows
-pub row_count : (s : Forming) (t : Table) (ks : List ℕ) → TableMatches s t → IsStrictlyIncreasing ks → ((y : ℕ) → is_among ks y ≡ begins_in_row t.blocks y) → count_below (keeps_row s.cells) s.height ≡ length ks
+pub row_count : (s : Forming) (t : Table) (ks : List ℕ) → TableMatches s t → IsStrictlyIncreasing ks →
+    ((y : ℕ) → is_among ks y ≡ begins_in_row t.blocks y) →
+    count_below (keeps_row s.cells) s.height ≡ length ks
 row_count s t ks m up same =
     count_same (keeps_row s.cells) (is_among ks) (λ y. same_rows s t m y ∙ sym (same y)) s.height
     ∙ count_among 0 s.height ks (rises_from 0 ks up (λ has. omega arith))
@@ -153,7 +159,8 @@ place_shown s c = record {
 }
 
 -- the place of a sound block
-block_place : (s : Forming) (b : Block) → IsSound s.width s.height b → place_shown s (mask (keeps_row s.cells) (whole b)) ≡ place_by (keeps_column s.cells) (keeps_row s.cells) b
+block_place : (s : Forming) (b : Block) → IsSound s.width s.height b →
+    place_shown s (mask (keeps_row s.cells) (whole b)) ≡ place_by (keeps_column s.cells) (keeps_row s.cells) b
 block_place s b sound =
     let right = count_between (keeps_column s.cells) b.left b.right s.width (omega (arith, sound.0)) sound.1 in
     let bottom = count_between (keeps_row s.cells) b.top b.bottom s.height (omega (arith, sound.2)) sound.3 in
@@ -171,7 +178,9 @@ pub record IsShownBy (s : Forming) (cell : Cell) (b : Block) : Type 0 where
   pub place : place_of s cell ≡ place_by (keeps_column s.cells) (keeps_row s.cells) b
 
 -- a block shows a cell that looks alike where rows are kept
-shows : (s : Forming) (cell : Cell) (b : Block) → mask (keeps_row s.cells) cell ≡ mask (keeps_row s.cells) (whole b) → IsSound s.width s.height b → IsShownBy s cell b
+shows : (s : Forming) (cell : Cell) (b : Block) →
+    mask (keeps_row s.cells) cell ≡ mask (keeps_row s.cells) (whole b) → IsSound s.width s.height b →
+    IsShownBy s cell b
 shows s cell b same sound = record {
   same = same;
   sound = sound;
@@ -179,7 +188,10 @@ shows s cell b same sound = record {
 }
 
 -- lists of cells and blocks that look alike do so one by one
-shown_each : (s : Forming) (cells : List Cell) (bs : List Block) → map (mask (keeps_row s.cells)) cells ≡ map (mask (keeps_row s.cells)) (map whole bs) → AllByRecursion (IsSound s.width s.height) bs → AllByRecursion (λ cell. (b : Block) × IsShownBy s cell b) cells
+shown_each : (s : Forming) (cells : List Cell) (bs : List Block) →
+    map (mask (keeps_row s.cells)) cells ≡ map (mask (keeps_row s.cells)) (map whole bs) →
+    AllByRecursion (IsSound s.width s.height) bs →
+    AllByRecursion (λ cell. (b : Block) × IsShownBy s cell b) cells
 shown_each s [] bs same sound = tt
 shown_each s (cell ∷ cells) [] same sound = cc
 shown_each s (cell ∷ cells) (b ∷ bs) same sound =
@@ -192,7 +204,9 @@ pub all_shown : (s : Forming) (t : Table) → TableMatches s t → AllByRecursio
 all_shown s t m = shown_each s s.cells t.blocks (masked s t m) m.sound
 
 -- what holds of the blocks' numbers and places holds of the cells'
-pub all_placed : (s : Forming) (t : Table) (P : ℕ → Place → Type 0) → TableMatches s t → AllByRecursion (λ (b : Block). P b.number (place_by (keeps_column s.cells) (keeps_row s.cells) b)) t.blocks → AllByRecursion (λ (cell : Cell). P cell.number (place_of s cell)) s.cells
+pub all_placed : (s : Forming) (t : Table) (P : ℕ → Place → Type 0) → TableMatches s t →
+    AllByRecursion (λ (b : Block). P b.number (place_by (keeps_column s.cells) (keeps_row s.cells) b)) t.blocks →
+    AllByRecursion (λ (cell : Cell). P cell.number (place_of s cell)) s.cells
 all_placed s t P m all =
     let keeps : ℕ → Bool = keeps_row s.cells in
     let Q : Cell → Type 0 = λ cell. P cell.number (place_shown s cell) in
@@ -202,7 +216,9 @@ all_placed s t P m all =
     (all_to_map Q (mask keeps) (map whole t.blocks)
     (all_to_map (λ cell. Q (mask keeps cell)) whole t.blocks (each t.blocks m.sound all))))
   where
-    each : (bs : List Block) → AllByRecursion (IsSound s.width s.height) bs → AllByRecursion (λ (b : Block). P b.number (place_by (keeps_column s.cells) (keeps_row s.cells) b)) bs → AllByRecursion (λ (b : Block). P b.number (place_shown s (mask (keeps_row s.cells) (whole b)))) bs
+    each : (bs : List Block) → AllByRecursion (IsSound s.width s.height) bs →
+        AllByRecursion (λ (b : Block). P b.number (place_by (keeps_column s.cells) (keeps_row s.cells) b)) bs →
+        AllByRecursion (λ (b : Block). P b.number (place_shown s (mask (keeps_row s.cells) (whole b)))) bs
     each [] sound all = tt
     each (b ∷ bs) sound all = (
       (let T : Place → Type 0 = λ place. P b.number place in subst T (sym (block_place s b sound.0)) all.0),

@@ -1,22 +1,24 @@
 -- Whole rows and row groups: the walk gives the standard's cells, or the first overlap.
-use Rattle.std.proofs.Common.{◌≡◌, ℕ, ◌+◌, ◌<◌, ◌≤◌, max, Bool, List, [], ◌∷◌, ◌++◌, map, length, Option, Some, None, Result, Ok, Err, refl, sym, ap, ◌∙◌, subst, inl, inr, arith}
+use Rattle.std.proofs.Common.{◌≡◌, ℕ, ◌+◌, ◌<◌, ◌≤◌, max, List, [], ◌∷◌, ◌++◌, map, length, Option, Some, None, Result, Ok, Err, refl, sym, ap}
+use Rattle.std.proofs.Common.{◌∙◌, subst, inl, inr, arith}
 use Rattle.std.specs.List.{filter, AllByRecursion}
 use Rattle.std.proofs.lemmas.List.{map-append, length-map}
 use Rattle.std.proofs.lemmas.List.Elements.{filter-append}
-use Rattle.std.proofs.lemmas.Bool.{cases_lt, cases_Bool}
+use Rattle.std.proofs.lemmas.Bool.{cases_lt}
 use Rattle.tl_grid.specs.declared.shape.SpanOf.{SpanOf}
 use Rattle.tl_grid.specs.declared.block.Block.{Block}
 use Rattle.tl_grid.specs.declared.error.GridError.{GridError}
 use Rattle.tl_grid.specs.declared.error.GridError.TheVariants.{Memory, TooManyCells, Overlap, TooManyColumns, TooManyRows}
 use Rattle.tl_grid.specs.Forming.{Cell, Forming, with_cell, form_cells, begin_row, next_row, form_row, form_rows, grown_into}
 use Rattle.tl_grid.specs.Overlap.{numbers_over, IsBefore}
-use Rattle.tl_grid.specs.declared.group.Group.{Group}
-use Rattle.tl_grid.specs.inner.Walk.{reaches, Walk, hit, Row, placed, walk_of, unless_hit, place_cells, row_of, after_row, then_ok, place_rows}
-use Rattle.tl_grid.proofs.Chains.{spot, spot_ended, not_below, Chain, filter_yes, filter_no, chain_append, chain_kept}
-use Rattle.tl_grid.proofs.Passing.{EndsWithin, Reaches, passes}
+use Rattle.tl_grid.specs.inner.OpenBlocks.{reaches, Walk, hit}
+use Rattle.tl_grid.specs.inner.Walk.{Row, RowGroup, placed, walk_of, unless_hit, place_cells, row_of, after_row, then_ok, place_rows}
+use Rattle.tl_grid.proofs.Chains.{spot, Chain, chain_append, chain_kept}
+use Rattle.tl_grid.proofs.Passing.{EndsWithin, passes}
 use Rattle.tl_grid.proofs.Cells.{cell_of, AllQuiet, BeginsBy, BeginsAbove, block_number, numbers_here, grown_cells, still_cells, grown_elsewhere}
 use Rattle.tl_grid.proofs.Later.{form_cells_before, form_cells_row, Later, later_rows}
-use Rattle.tl_grid.proofs.Rows.{RowMatches, IsWide, IsFoundIn, IsSound, sound_on, column_found, row_step, row_overlap, hit_block, all_weaken, one_at_most_here}
+use Rattle.tl_grid.proofs.Rows.{RowMatches, IsWide, IsFoundIn, IsSound, sound_on, column_found, row_step, row_overlap, hit_block, all_weaken}
+use Rattle.tl_grid.proofs.Rows.{one_at_most_here}
 
 -- the error is the first overlap of the cells, in a row above row n
 abbrev pub FoundAbove : ℕ → List Cell → GridError → Type 0
@@ -32,7 +34,8 @@ up_to n x y x' y' lt (inl above) = omega arith
 up_to n x y x' y' lt (inr (same, left)) = omega arith
 
 -- it stays so where the slots up to it keep their cells
-pub found_kept : (n : ℕ) (cs ds : List Cell) (e : GridError) → ((x y : ℕ) → y < n → numbers_over x y ds ≡ numbers_over x y cs) → FoundAbove n cs e → FoundAbove n ds e
+pub found_kept : (n : ℕ) (cs ds : List Cell) (e : GridError) →
+    ((x y : ℕ) → y < n → numbers_over x y ds ≡ numbers_over x y cs) → FoundAbove n cs e → FoundAbove n ds e
 found_kept n cs ds (Memory e) same f = f
 found_kept n cs ds (TooManyCells count) same f = f
 found_kept n cs ds (Overlap first second x y) same f =
@@ -57,14 +60,19 @@ before_further x' y' x z y lt (inl above) = inl above
 before_further x' y' x z y lt (inr (same, left)) = inr (same, omega arith)
 
 -- one cell, by whether it runs into a block
-row_gives_step : (more : Result Row GridError) (o : Option Block) (span : SpanOf) (spans : List SpanOf) (done : List Cell) (y number : ℕ) (s : Forming) (r : Row) → AllQuiet y done → IsWide span → RowMatches done y s r → hit (walk_of r).ahead ((walk_of r).column + span.colspan) ≡ o → (o ≡ None → RowGives done y (form_cells (number + 1) ((walk_of r).column + span.colspan) spans (with_cell number (walk_of r).column span s)) more) → RowGives done y (form_cells (number + 1) ((walk_of r).column + span.colspan) spans (with_cell number (walk_of r).column span s)) (unless_hit o number y more)
+row_gives_step : (more : Result Row GridError) (o : Option Block) (span : SpanOf) (spans : List SpanOf)
+    (done : List Cell) (y number : ℕ) (s : Forming) (r : Row) → AllQuiet y done → IsWide span →
+    RowMatches done y s r → hit (walk_of y r).ahead ((walk_of y r).column + span.colspan) ≡ o →
+    (o ≡ None → RowGives done y (form_cells (number + 1) ((walk_of y r).column + span.colspan) spans (with_cell number (walk_of y r).column span s)) more) →
+    RowGives done y (form_cells (number + 1) ((walk_of y r).column + span.colspan) spans
+    (with_cell number (walk_of y r).column span s)) (unless_hit o number y more)
 row_gives_step more None span spans done y number s r quiet wide m found rest = rest refl
 row_gives_step more (Some b) span spans done y number s r quiet wide m found rest =
-    let w : Walk = walk_of r in
+    let w : Walk = walk_of y r in
     let t : Forming = with_cell number w.column span s in
     let at_row : s.row ≡ y = m.at_row in
     let f : IsFoundIn t.cells b.number number b.left y = row_overlap done y number span s r b quiet wide m found in
-    let (ahead, is) = hit_block y w.column (w.column + span.colspan) w.ahead b (passes y r.ahead r.column r.passed m.front m.rest m.alive).begins found in
+    let (ahead, is) = hit_block y w.column (w.column + span.colspan) w.ahead b (passes y r.ahead r.column r.passed m.front m.rest).begins found in
     let left : b.left < w.column + span.colspan = is.3 in
     let P : List ℕ → Type 0 = λ l. length l ≤ 1 in (
       record {
@@ -79,17 +87,22 @@ row_gives_step more (Some b) span spans done y number s r quiet wide m found res
     )
 
 -- a whole row
-pub row_gives : (spans : List SpanOf) (done : List Cell) (y number : ℕ) (s : Forming) (r : Row) → AllQuiet y done → AllByRecursion IsWide spans → RowMatches done y s r → RowGives done y (form_cells number r.column spans s) (place_cells y number r spans)
+pub row_gives : (spans : List SpanOf) (done : List Cell) (y number : ℕ) (s : Forming) (r : Row) →
+    AllQuiet y done → AllByRecursion IsWide spans → RowMatches done y s r →
+    RowGives done y (form_cells number r.column spans s) (place_cells y number r spans)
 row_gives [] done y number s r quiet wide m = m
 row_gives (span ∷ spans) done y number s r quiet wide m =
-    let w : Walk = walk_of r in
-    let P : ℕ → Type 0 = λ x. RowGives done y (form_cells (number + 1) (x + span.colspan) spans (with_cell number x span s)) (place_cells y number r (span ∷ spans)) in
+    let w : Walk = walk_of y r in
+    let P : ℕ → Type 0 = λ x. RowGives done y (form_cells (number + 1) (x + span.colspan) spans
+    (with_cell number x span s)) (place_cells y number r (span ∷ spans)) in
     subst P (sym (column_found done y s r quiet m))
-    (row_gives_step (place_cells y (number + 1) (placed y number span r w) spans) (hit w.ahead (w.column + span.colspan)) span spans done y number s r quiet wide.0 m refl
-    (λ none. row_gives spans done y (number + 1) (with_cell number w.column span s) (placed y number span r w) quiet wide.1 (row_step done y number span s r quiet wide.0 m none)))
+    (row_gives_step (place_cells y (number + 1) (placed y number span r w) spans)
+    (hit w.ahead (w.column + span.colspan)) span spans done y number s r quiet wide.0 m refl
+    (λ none. row_gives spans done y (number + 1)
+    (with_cell number w.column span s) (placed y number span r w) quiet wide.1 (row_step done y number span s r quiet wide.0 m none)))
 
 -- a row group in the standard's steps and in the walk, between two rows
-pub record GroupMatches (done : List Cell) (s : Forming) (g : Group) : Type 0 where
+pub record GroupMatches (done : List Cell) (s : Forming) (g : RowGroup) : Type 0 where
   pub cells : s.cells ≡ done ++ map (cell_of g.row) g.blocks
   pub at_row : s.row ≡ g.row
   pub high : s.height ≡ g.height
@@ -103,62 +116,16 @@ pub record GroupMatches (done : List Cell) (s : Forming) (g : Group) : Type 0 wh
   pub quiet : AllQuiet g.row done
 
 -- the cells when a row begins
-begun_cells : (done : List Cell) (y : ℕ) (bs : List Block) → AllQuiet y done → AllByRecursion (BeginsAbove y) bs → map (grown_into y) (done ++ map (cell_of y) bs) ≡ done ++ map (cell_of (y + 1)) bs
+begun_cells : (done : List Cell) (y : ℕ) (bs : List Block) → AllQuiet y done →
+    AllByRecursion (BeginsAbove y) bs →
+    map (grown_into y) (done ++ map (cell_of y) bs) ≡ done ++ map (cell_of (y + 1)) bs
 begun_cells done y bs quiet tops =
     map-append (grown_into y) done (map (cell_of y) bs)
     ∙ ap (λ l. l ++ map (grown_into y) (map (cell_of y) bs)) (still_cells y y done quiet)
     ∙ ap (λ l. done ++ l) (grown_cells y bs tops)
 
--- the blocks that take a row take it
-all_reach : (y : ℕ) (bs : List Block) → AllByRecursion (Reaches y) (filter (reaches y) bs)
-all_reach y [] = tt
-all_reach y (b ∷ bs) =
-    let P : List Block → Type 0 = λ l. AllByRecursion (Reaches y) l in
-    elim (cases_Bool (reaches y b)) [
-      | inl e ↦ subst P (sym (filter_yes (reaches y) b bs e)) (e, all_reach y bs)
-      | inr e ↦ subst P (sym (filter_no (reaches y) b bs e)) (all_reach y bs)
-    ]
-
--- what holds of all blocks holds of those that are kept
-pub all_filter : (P : Block → Type 0) (p : Block → Bool) (bs : List Block) → AllByRecursion P bs → AllByRecursion P (filter p bs)
-all_filter P p [] all = tt
-all_filter P p (b ∷ bs) all =
-    let Q : List Block → Type 0 = λ l. AllByRecursion P l in
-    elim (cases_Bool (p b)) [
-      | inl e ↦ subst Q (sym (filter_yes p b bs e)) (all.0, all_filter P p bs all.1)
-      | inr e ↦ subst Q (sym (filter_no p b bs e)) (all_filter P p bs all.1)
-    ]
-
--- a filter that keeps all
-filter_all : (y : ℕ) (bs : List Block) → AllByRecursion (Reaches y) bs → filter (reaches y) bs ≡ bs
-filter_all y [] all = refl
-filter_all y (b ∷ bs) all = filter_yes (reaches y) b bs all.0 ∙ ap (λ l. b ∷ l) (filter_all y bs all.1)
-
--- a second filter keeps the chain
-chain_twice : (y : ℕ) (bs : List Block) → Chain 0 (filter (reaches y) bs) → Chain 0 (filter (reaches y) (filter (reaches y) bs))
-chain_twice y bs c =
-    let P : List Block → Type 0 = λ l. Chain 0 l in
-    subst P (sym (filter_all y (filter (reaches y) bs) (all_reach y bs))) c
-
--- a block that ends above row y covers no slot from there on
-spots_kept : (y x' y' : ℕ) → y ≤ y' → (bs : List Block) → filter (spot x' y') (filter (reaches y) bs) ≡ filter (spot x' y') bs
-spots_kept y x' y' le [] = refl
-spots_kept y x' y' le (b ∷ bs) =
-    let rest : filter (spot x' y') (filter (reaches y) bs) ≡ filter (spot x' y') bs = spots_kept y x' y' le bs in
-    elim (cases_Bool (reaches y b)) [
-      | inl e ↦
-          ap (filter (spot x' y')) (filter_yes (reaches y) b bs e)
-          ∙ elim (cases_Bool (spot x' y' b)) [
-            | inl t ↦ filter_yes (spot x' y') b (filter (reaches y) bs) t ∙ ap (λ l. b ∷ l) rest ∙ sym (filter_yes (spot x' y') b bs t)
-            | inr f ↦ filter_no (spot x' y') b (filter (reaches y) bs) f ∙ rest ∙ sym (filter_no (spot x' y') b bs f)
-          ]
-      | inr e ↦
-          ap (filter (spot x' y')) (filter_no (reaches y) b bs e) ∙ rest
-          ∙ sym (filter_no (spot x' y') b bs (spot_ended x' y' b (not_below y y' b le e)))
-    ]
-
 -- a row begins
-row_begins : (done : List Cell) (s : Forming) (g : Group) → GroupMatches done s g → RowMatches done g.row (begin_row s) (row_of g)
+row_begins : (done : List Cell) (s : Forming) (g : RowGroup) → GroupMatches done s g → RowMatches done g.row (begin_row s) (row_of g)
 row_begins done s g m =
     let at_row : s.row ≡ g.row = m.at_row in
     record {
@@ -167,15 +134,14 @@ row_begins done s g m =
       at_row = at_row;
       high = ap (λ h. max h (s.row + 1)) m.high ∙ ap (λ row. max g.height (row + 1)) at_row;
       wide = omega arith;
-      within = all_filter (EndsWithin s.width) (reaches g.row) g.open_blocks m.within;
+      within = m.within;
       tops = all_weaken (BeginsAbove g.row) (BeginsBy g.row) (λ b h. omega arith) g.blocks m.tops;
       sound = all_weaken (IsSound s.width g.height) (IsSound s.width (max g.height (g.row + 1)))
           (sound_on s.width s.width g.height (max g.height (g.row + 1)) (omega arith) (omega arith)) g.blocks m.sound;
       low = omega arith;
-      same = λ x' y' le. m.same x' y' le ∙ sym (spots_kept g.row x' y' le g.open_blocks);
+      same = m.same;
       front = omega arith;
-      rest = chain_twice g.row g.open_blocks m.chain;
-      alive = all_reach g.row g.open_blocks;
+      rest = m.chain;
       past = λ x' y' lt.
           let P : List ℕ → Type 0 = λ l. length l ≤ 1 in
           subst P (sym (grown_elsewhere x' s.row y' (λ e. omega arith) s.cells)) (m.past x' y' lt);
@@ -219,7 +185,7 @@ row_ends done y s r quiet m =
     }
 
 -- the rows of a group in the walk are the standard's, or stop at their first overlap
-abbrev pub RowsGive : List Cell → Forming → Result Group GridError → Type 0
+abbrev pub RowsGive : List Cell → Forming → Result RowGroup GridError → Type 0
 RowsGive done s (Ok group) = GroupMatches done s group
 RowsGive done s (Err error) = FoundAbove s.row s.cells error
 
@@ -236,7 +202,10 @@ abbrev pub AllWide : List (List SpanOf) → Type 0
 AllWide = AllByRecursion (AllByRecursion IsWide)
 
 -- the rest of the rows, after one
-rows_give_step : (result : Result Row GridError) (done : List Cell) (y number : ℕ) (s : Forming) (rows : List (List SpanOf)) → s.row ≡ y → AllQuiet y done → RowGives done y s result → ((row : Row) → RowMatches done y s row → RowsGive done (form_rows number rows (next_row s)) (place_rows number (after_row y row) rows)) → RowsGive done (form_rows number rows (next_row s)) (then_ok (λ row. place_rows number (after_row y row) rows) result)
+rows_give_step : (result : Result Row GridError) (done : List Cell) (y number : ℕ) (s : Forming)
+    (rows : List (List SpanOf)) → s.row ≡ y → AllQuiet y done → RowGives done y s result →
+    ((row : Row) → RowMatches done y s row → RowsGive done (form_rows number rows (next_row s)) (place_rows number (after_row y row) rows)) →
+    RowsGive done (form_rows number rows (next_row s)) (then_ok (λ row. place_rows number (after_row y row) rows) result)
 rows_give_step (Ok row) done y number s rows at_row quiet gives next = next row gives
 rows_give_step (Err error) done y number s rows at_row quiet gives next =
     let last : Forming = form_rows number rows (next_row s) in
@@ -246,7 +215,8 @@ rows_give_step (Err error) done y number s rows at_row quiet gives next =
     (found_kept (y + 1) s.cells last.cells error (λ x' y' lt. later.numbers x' y' (omega arith)) gives)
 
 -- all rows of a group
-pub rows_give : (rows : List (List SpanOf)) (done : List Cell) (number : ℕ) (s : Forming) (g : Group) → AllWide rows → GroupMatches done s g → RowsGive done (form_rows number rows s) (place_rows number g rows)
+pub rows_give : (rows : List (List SpanOf)) (done : List Cell) (number : ℕ) (s : Forming) (g : RowGroup) →
+    AllWide rows → GroupMatches done s g → RowsGive done (form_rows number rows s) (place_rows number g rows)
 rows_give [] done number s g wide m = m
 rows_give (spans ∷ rows) done number s g wide m =
     let at_row : s.row ≡ g.row = m.at_row in

@@ -1,10 +1,12 @@
 -- The steps of the standard change nothing in the rows above the current one.
-use Rattle.std.proofs.Common.{◌≡◌, ℕ, ◌+◌, ◌-◌, ◌<◌, ◌≤◌, max, Bool, false, ◌&&◌, ◌||◌, ltb, leb, eqb, List, [], ◌∷◌, ◌++◌, map, length, refl, sym, ap, ◌∙◌, subst, inl, inr, arith, append-nil}
+use Rattle.std.proofs.Common.{◌≡◌, ℕ, ◌+◌, ◌-◌, ◌<◌, ◌≤◌, max, Bool, false, ◌&&◌, ◌||◌, ltb, leb, eqb, List, [], ◌∷◌, ◌++◌, map, length, refl, sym}
+use Rattle.std.proofs.Common.{ap, ◌∙◌, subst, inl, inr, arith, append-nil}
 use Rattle.std.proofs.lemmas.Bool.{lt-leb, le-ltb, ne_eqb, cases_Bool, and_left, and_right, cond-true, cond-false}
 use Rattle.std.proofs.lemmas.List.Folds.{list_any-append}
 use Rattle.tl_grid.specs.declared.shape.SpanOf.{SpanOf}
 use Rattle.tl_grid.specs.declared.shape.ShapeGroup.{ShapeGroup}
-use Rattle.tl_grid.specs.Forming.{Cell, Forming, covers, has_cell, first_free, initial_rowspan, cell_at, with_cell, form_cells, grown_into, begin_row, next_row, form_row, form_rows, at_group_end, end_group, form_group, form_groups, cells_in}
+use Rattle.tl_grid.specs.Forming.{Cell, Forming, covers, has_cell, first_free, initial_rowspan, cell_at, with_cell, form_cells, grown_into, begin_row}
+use Rattle.tl_grid.specs.Forming.{next_row, form_row, form_rows, at_group_end, end_group, form_group, form_groups, cells_in}
 use Rattle.tl_grid.specs.Overlap.{numbers_over, IsBefore}
 use Rattle.tl_grid.specs.Dropping.{keeps_row}
 use Rattle.tl_grid.proofs.Chains.{filter_yes, filter_no}
@@ -40,7 +42,8 @@ misses number x y span x' y' (inr (same, left)) =
     (and_left (leb x x') (ltb x' (x + span.colspan)) (lt-leb x x' left))
 
 -- a cell that is formed changes no slot before it
-pub with_cell_before : (number x : ℕ) (span : SpanOf) (s : Forming) (x' y' : ℕ) → IsBefore x' y' x s.row → numbers_over x' y' (with_cell number x span s).cells ≡ numbers_over x' y' s.cells
+pub with_cell_before : (number x : ℕ) (span : SpanOf) (s : Forming) (x' y' : ℕ) → IsBefore x' y' x s.row →
+    numbers_over x' y' (with_cell number x span s).cells ≡ numbers_over x' y' s.cells
 with_cell_before number x span s x' y' before =
     numbers-append x' y' s.cells (cell_at number x s.row span ∷ [])
     ∙ ap (λ l. numbers_over x' y' s.cells ++ map number_of l)
@@ -53,7 +56,9 @@ before_on x' y' x z y le (inl above) = inl above
 before_on x' y' x z y le (inr (same, left)) = inr (same, omega arith)
 
 -- the cells that a row still forms change nothing above it or further left
-pub form_cells_before : (spans : List SpanOf) (number x : ℕ) (s : Forming) (x' y' : ℕ) → IsBefore x' y' x s.row → numbers_over x' y' (form_cells number x spans s).cells ≡ numbers_over x' y' s.cells
+pub form_cells_before : (spans : List SpanOf) (number x : ℕ) (s : Forming) (x' y' : ℕ) →
+    IsBefore x' y' x s.row →
+    numbers_over x' y' (form_cells number x spans s).cells ≡ numbers_over x' y' s.cells
 form_cells_before [] number x s x' y' before = refl
 form_cells_before (span ∷ spans) number x s x' y' before =
     let at : ℕ = first_free (λ column. has_cell column s.row s.cells) x (s.width - x) in
@@ -70,7 +75,8 @@ form_cells_row (span ∷ spans) number x s =
     form_cells_row spans (number + 1) (at + span.colspan) (with_cell number at span s)
 
 -- the anchors above it stay
-form_cells_anchors : (spans : List SpanOf) (number x : ℕ) (s : Forming) (y' : ℕ) → y' < s.row → keeps_row (form_cells number x spans s).cells y' ≡ keeps_row s.cells y'
+form_cells_anchors : (spans : List SpanOf) (number x : ℕ) (s : Forming) (y' : ℕ) → y' < s.row →
+    keeps_row (form_cells number x spans s).cells y' ≡ keeps_row s.cells y'
 form_cells_anchors [] number x s y' lt = refl
 form_cells_anchors (span ∷ spans) number x s y' lt =
     let at : ℕ = first_free (λ column. has_cell column s.row s.cells) x (s.width - x) in
@@ -141,7 +147,8 @@ ended_elsewhere x row height y' le (c ∷ cs) =
     let rest : numbers_over x y' (map (at_group_end row height) cs) ≡ numbers_over x y' cs = ended_elsewhere x row height y' le cs in
     let same : covers x y' (at_group_end row height c) ≡ covers x y' c =
     ap (λ r. (leb c.left x && ltb x c.right) && r)
-    (ap (λ t. c.rows y' || t) (and_right c.grows (ltb row y' && ltb y' height) (and_left (ltb row y') (ltb y' height) (le-ltb row y' le))) ∙ or_false (c.rows y')) in
+    (ap (λ t. c.rows y' || t) (and_right c.grows (ltb row y' && ltb y' height)
+    (and_left (ltb row y') (ltb y' height) (le-ltb row y' le))) ∙ or_false (c.rows y')) in
     elim (cases_Bool (covers x y' c)) [
       | inl e ↦
           ap (map number_of) (filter_yes (covers x y') (at_group_end row height c) (map (at_group_end row height) cs) (same ∙ e))

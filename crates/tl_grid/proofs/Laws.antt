@@ -1,6 +1,8 @@
--- What holds of every dropped grid: laws of its slots, in terms of `HasGrid`.
-use Rattle.std.proofs.Common.{◌≡◌, ℕ, ◌+◌, ◌<◌, ◌≤◌, zero, suc, Bool, true, false, ◌&&◌, ltb, leb, eqb, List, [], ◌∷◌, map, length, get_or, Result, Ok, Err, ◌↔◌, refl, sym, ap, ◌∙◌, subst, inl, inr, arith, All}
-use Rattle.std.specs.List.{filter, AllByRecursion, AllPairs, Any}
+-- The laws of dropped grids, in terms of `HasGrid`: `all_within`, `all_apart`, `edges_apart`,
+-- `all_columns`, `all_rows`, `all_filled` and `kept_slots`.
+use Rattle.std.proofs.Common.{◌≡◌, ℕ, ◌+◌, ◌<◌, ◌≤◌, max, zero, suc, Bool, true, ◌&&◌, ltb, leb, eqb, List, length, get_or}
+use Rattle.std.proofs.Common.{Result, Ok, Err, refl, sym, ap, ◌∙◌, subst, inl, inr, arith, All}
+use Rattle.std.specs.List.{AllByRecursion, AllPairs, Any}
 use Rattle.std.proofs.lemmas.Bool.{ltb-true, leb-true, lt-ltb, le-leb, eq-eqb, eqb-true, and_parts, and_from, cases_Bool, cases_lt}
 use Rattle.std.proofs.lemmas.List.{length-map}
 use Rattle.std.proofs.lemmas.Option.{slice_get_within, get_or_from_slice_get}
@@ -18,13 +20,12 @@ use Rattle.tl_grid.specs.Dropping.{count_below, keeps_column, keeps_row, new_col
 use Rattle.tl_grid.specs.Slots.{HasSlot, AreApart, HasAnchorInColumn, HasAnchorInRow, IsFilledToLeft, KeepsSlots}
 use Rattle.tl_grid.specs.Form.{HasGrid}
 use Rattle.tl_grid.specs.inner.Walk.{place_all}
-use Rattle.tl_grid.specs.inner.Places.{place_by}
 use Rattle.tl_grid.proofs.Cells.{number_of}
 use Rattle.tl_grid.proofs.Counts.{one_if}
 use Rattle.tl_grid.proofs.Members.{IsIn, all_at, all_from, any_in, any_of, one_passes}
 use Rattle.tl_grid.proofs.Numbers.{cell_numbered}
 use Rattle.tl_grid.proofs.FilledLeft.{IsFilled, formed_filled}
-use Rattle.tl_grid.proofs.Tables.{mask, whole, TableMatches, TableGives, IsFound, all_give}
+use Rattle.tl_grid.proofs.Tables.{TableMatches, TableGives, IsFound, all_give}
 use Rattle.tl_grid.proofs.Grids.{IsShownBy, all_shown}
 use Rattle.tl_grid.proofs.Wide.{wide_groups}
 
@@ -83,7 +84,8 @@ kept_at keeps (suc n) k lt =
     ]
 
 -- a table without an overlap is formed by the walk
-table_of : (shape : Shape) (result : Result Table GridError) → HasNoOverlap (formed shape).cells → TableGives (formed shape) result → (t : Table) × TableMatches (formed shape) t
+table_of : (shape : Shape) (result : Result Table GridError) → HasNoOverlap (formed shape).cells →
+    TableGives (formed shape) result → (t : Table) × TableMatches (formed shape) t
 table_of shape (Ok t) one gives = (t, gives)
 table_of shape (Err error) one found = absurd (overlaps error found)
   where
@@ -96,7 +98,8 @@ table_of shape (Err error) one found = absurd (overlaps error found)
     overlaps (TooManyRows count) found = found
 
 -- each cell of such a table is shown by a block
-shown : (shape : Shape) → AllSpans shape.groups → HasNoOverlap (formed shape).cells → AllByRecursion (λ cell. (b : Block) × IsShownBy (formed shape) cell b) (formed shape).cells
+shown : (shape : Shape) → AllSpans shape.groups → HasNoOverlap (formed shape).cells →
+    AllByRecursion (λ cell. (b : Block) × IsShownBy (formed shape) cell b) (formed shape).cells
 shown shape spans one =
     let (t, m) = table_of shape (place_all shape.groups) one (all_give shape (wide_groups shape.groups spans)) in
     all_shown (formed shape) t m
@@ -110,7 +113,8 @@ row_kept : (cells : List Cell) (c : Cell) → IsIn c cells → keeps_row cells c
 row_kept cells c is = any_of (λ (d : Cell). eqb d.top c.top) cells c is (eq-eqb c.top c.top refl)
 
 -- the place of a cell that a block shows
-shown_placed : (s : Forming) (c : Cell) (b : Block) → IsIn c s.cells → IsShownBy s c b → IsPlaced (count_below (keeps_column s.cells) s.width) (count_below (keeps_row s.cells) s.height) (place_of s c)
+shown_placed : (s : Forming) (c : Cell) (b : Block) → IsIn c s.cells → IsShownBy s c b →
+    IsPlaced (count_below (keeps_column s.cells) s.width) (count_below (keeps_row s.cells) s.height) (place_of s c)
 shown_placed s c b is shows =
     let left : c.left ≡ b.left = ap (λ (d : Cell). d.left) shows.same in
     let top : c.top ≡ b.top = ap (λ (d : Cell). d.top) shows.same in
@@ -123,7 +127,8 @@ shown_placed s c b is shows =
     )
 
 -- in a kept row a cell covers what its block does
-covers_shown : (s : Forming) (c : Cell) (b : Block) (x y : ℕ) → IsShownBy s c b → keeps_row s.cells y ≡ true → covers x y c ≡ ((leb b.left x && ltb x b.right) && (leb b.top y && ltb y b.bottom))
+covers_shown : (s : Forming) (c : Cell) (b : Block) (x y : ℕ) → IsShownBy s c b → keeps_row s.cells y ≡ true →
+    covers x y c ≡ ((leb b.left x && ltb x b.right) && (leb b.top y && ltb y b.bottom))
 covers_shown s c b x y shows kept =
     let left : c.left ≡ b.left = ap (λ (d : Cell). d.left) shows.same in
     let right : c.right ≡ b.right = ap (λ (d : Cell). d.right) shows.same in
@@ -136,7 +141,9 @@ covers_shown s c b x y shows kept =
     ∙ ap (λ r. (leb b.left x && ltb x b.right) && r) rows
 
 -- a kept slot of a cell is one of its place
-slot_of : (s : Forming) (c : Cell) (b : Block) (x y : ℕ) → IsShownBy s c b → keeps_column s.cells x ≡ true → keeps_row s.cells y ≡ true → covers x y c ≡ true → HasSlot (new_column s.cells x) (new_row s.cells y) (place_of s c)
+slot_of : (s : Forming) (c : Cell) (b : Block) (x y : ℕ) → IsShownBy s c b → keeps_column s.cells x ≡ true →
+    keeps_row s.cells y ≡ true → covers x y c ≡ true →
+    HasSlot (new_column s.cells x) (new_row s.cells y) (place_of s c)
 slot_of s c b x y shows column row has =
     let is = and_parts (leb b.left x && ltb x b.right) (leb b.top y && ltb y b.bottom) (sym (covers_shown s c b x y shows row) ∙ has) in
     let across = and_parts (leb b.left x) (ltb x b.right) is.0 in
@@ -150,7 +157,9 @@ slot_of s c b x y shows column row has =
     )
 
 -- and the converse
-slot_back : (s : Forming) (c : Cell) (b : Block) (x y : ℕ) → IsShownBy s c b → keeps_column s.cells x ≡ true → keeps_row s.cells y ≡ true → HasSlot (new_column s.cells x) (new_row s.cells y) (place_of s c) → covers x y c ≡ true
+slot_back : (s : Forming) (c : Cell) (b : Block) (x y : ℕ) → IsShownBy s c b → keeps_column s.cells x ≡ true →
+    keeps_row s.cells y ≡ true → HasSlot (new_column s.cells x) (new_row s.cells y) (place_of s c) →
+    covers x y c ≡ true
 slot_back s c b x y shows column row has =
     let P : Place → Type 0 = λ place. HasSlot (new_column s.cells x) (new_row s.cells y) place in
     let is = subst P shows.place has in
@@ -164,7 +173,9 @@ slot_back s c b x y shows column row has =
     (lt-ltb y b.bottom (below_back (keeps_row s.cells) y b.bottom is.3)))
 
 -- a slot of the place of a cell comes from a kept one
-slot_from : (s : Forming) (c : Cell) (b : Block) (x y : ℕ) → IsIn c s.cells → IsShownBy s c b → HasSlot x y (place_of s c) → (column row : ℕ) × (keeps_column s.cells column ≡ true) × (keeps_row s.cells row ≡ true) × (new_column s.cells column ≡ x) × (new_row s.cells row ≡ y)
+slot_from : (s : Forming) (c : Cell) (b : Block) (x y : ℕ) → IsIn c s.cells → IsShownBy s c b →
+    HasSlot x y (place_of s c) →
+    (column row : ℕ) × (keeps_column s.cells column ≡ true) × (keeps_row s.cells row ≡ true) × (new_column s.cells column ≡ x) × (new_row s.cells row ≡ y)
 slot_from s c b x y is shows has =
     let placed = shown_placed s c b is shows in
     let (column, at) = kept_at (keeps_column s.cells) s.width x (omega (arith, has.1, placed.1)) in
@@ -187,7 +198,9 @@ kept_slots shape grid spans has =
     shown_keeps (formed shape) c b is shows)
 
 -- each place is that of a cell
-place_at : (shape : Shape) (places : List Place) → ArePlaces shape places → (k : ℕ) (d : Place) → k < length places → (c : Cell) × (IsIn c (formed shape).cells × (c.number ≡ k) × (get_or places k d ≡ place_of (formed shape) c))
+place_at : (shape : Shape) (places : List Place) → ArePlaces shape places → (k : ℕ) (d : Place) →
+    k < length places →
+    (c : Cell) × (IsIn c (formed shape).cells × (c.number ≡ k) × (get_or places k d ≡ place_of (formed shape) c))
 place_at shape places are k d lt =
     let many : length places ≡ cell_count shape = are.as_many in
     let (c, is) = cell_numbered shape k (omega arith) in
@@ -195,12 +208,14 @@ place_at shape places are k d lt =
     (c, (is.0, is.1, ap (λ i. get_or places i d) (sym is.1) ∙ get_or_from_slice_get places c.number (place_of (formed shape) c) d stands))
 
 -- what holds of the place of each cell holds of each place
-all_places : (shape : Shape) (places : List Place) (P : Place → Type 0) → ArePlaces shape places → ((c : Cell) → IsIn c (formed shape).cells → P (place_of (formed shape) c)) → All P places
+all_places : (shape : Shape) (places : List Place) (P : Place → Type 0) → ArePlaces shape places →
+    ((c : Cell) → IsIn c (formed shape).cells → P (place_of (formed shape) c)) → All P places
 all_places shape places P are each k d lt =
     let (c, is) = place_at shape places are k d lt in subst P (sym is.2) (each c is.0)
 
 -- what holds of the place of a cell holds of a place
-any_place : (shape : Shape) (places : List Place) (P : Place → Type 0) (c : Cell) → ArePlaces shape places → IsIn c (formed shape).cells → P (place_of (formed shape) c) → Any P places
+any_place : (shape : Shape) (places : List Place) (P : Place → Type 0) (c : Cell) → ArePlaces shape places →
+    IsIn c (formed shape).cells → P (place_of (formed shape) c) → Any P places
 any_place shape places P c are is holds =
     let stands : StandsAtNumber (formed shape) places c = all_at (StandsAtNumber (formed shape) places) (formed shape).cells c are.each is in (
       c.number,
@@ -222,7 +237,10 @@ all_within shape grid spans has =
     subst P (sym has.columns) (subst Q (sym has.rows) (shown_placed s c b is shows)))
 
 -- two cells whose places share a slot are one
-same_slot : (shape : Shape) → HasNoOverlap (formed shape).cells → AllByRecursion (KeepsSlots (formed shape)) (formed shape).cells → (c d : Cell) (x y : ℕ) → IsIn c (formed shape).cells → IsIn d (formed shape).cells → HasSlot x y (place_of (formed shape) c) → HasSlot x y (place_of (formed shape) d) → c ≡ d
+same_slot : (shape : Shape) → HasNoOverlap (formed shape).cells →
+    AllByRecursion (KeepsSlots (formed shape)) (formed shape).cells → (c d : Cell) (x y : ℕ) →
+    IsIn c (formed shape).cells → IsIn d (formed shape).cells → HasSlot x y (place_of (formed shape) c) →
+    HasSlot x y (place_of (formed shape) d) → c ≡ d
 same_slot shape one keeps c d x y is is' has has' =
     let s : Forming = formed shape in
     let kc : KeepsSlots s c = all_at (KeepsSlots s) s.cells c keeps is in
@@ -232,7 +250,8 @@ same_slot shape one keeps c d x y is is' has has' =
     let back : (e : Cell) → HasSlot x y (place_of s e) → HasSlot (new_column s.cells column) (new_row s.cells row) (place_of s e) =
     λ e h. subst (λ i. P i (new_row s.cells row) e) (sym to) (subst (λ j. P x j e) (sym to') h) in
     one_passes (covers column row) s.cells c d
-    (let over : length (cells_over column row s.cells) ≡ length (numbers_over column row s.cells) = sym (length-map (cells_over column row s.cells) number_of) in
+    (let over : length (cells_over column row s.cells) ≡ length (numbers_over column row s.cells)
+    = sym (length-map (cells_over column row s.cells) number_of) in
     omega (arith, one column row))
     is is' ((kc.same column row kept kept').1 (back c has)) ((kd.same column row kept kept').1 (back d has'))
 
@@ -246,6 +265,14 @@ all_apart shape grid spans has i j d lt below x y first second =
     let same : c ≡ c' = same_slot shape has.no_overlap (kept_slots shape grid spans has) c c' x y is.0 is'.0 (subst P is.2 first) (subst P is'.2 second) in
     let number : c.number ≡ c'.number = ap number_of same in
     omega (arith, is.1, is'.1)
+
+-- Places that are apart do not overlap both across and down.
+pub edges_apart : (cols rows : ℕ) (p q : Place) → IsPlaced cols rows p → IsPlaced cols rows q → AreApart p q →
+    p.left < q.right → q.left < p.right → p.top < q.bottom → q.top < p.bottom → ⊥
+edges_apart cols rows p q is is' apart across across' down down' =
+    apart (max p.left q.left) (max p.top q.top)
+    (omega arith, omega (arith, is.0), omega arith, omega (arith, is.2))
+    (omega arith, omega (arith, is'.0), omega arith, omega (arith, is'.2))
 
 -- In each column a cell is anchored.
 pub all_columns : (shape : Shape) (grid : Grid) → HasGrid shape grid → (x : ℕ) → x < grid.cols → HasAnchorInColumn grid.places x

@@ -1,6 +1,7 @@
 mod Examples
 pub mod Chains
 pub mod Passing
+pub mod Runs
 pub mod Bounds
 pub mod Steps
 pub mod Cells

@@ -1,5 +1,6 @@
 -- The numbers of the formed cells: each number below the table's count of cells, once.
-use Rattle.std.proofs.Common.{◌≡◌, ℕ, ◌+◌, ◌-◌, ◌<◌, ◌≤◌, zero, suc, Bool, true, false, not, cond, eqb, List, [], ◌∷◌, ◌++◌, map, length, refl, sym, ap, ◌∙◌, inl, inr, arith, zero-add}
+use Rattle.std.proofs.Common.{◌≡◌, ℕ, ◌+◌, ◌-◌, ◌<◌, ◌≤◌, zero, suc, Bool, true, false, not, cond, eqb, List, [], ◌∷◌, ◌++◌, map, length, refl, sym}
+use Rattle.std.proofs.Common.{ap, ◌∙◌, inl, inr, arith, zero-add}
 use Rattle.std.proofs.lemmas.Bool.{eq-eqb, eqb-true, ne_eqb, cases_Bool, cases_eq, cases_lt}
 use Rattle.std.proofs.lemmas.List.{map-append}
 use Rattle.std.proofs.lemmas.List.Sums.{sum_by-cons}
@@ -7,7 +8,8 @@ use Rattle.std.proofs.lemmas.Simd.{map-map}
 use Rattle.tl_grid.specs.declared.shape.SpanOf.{SpanOf}
 use Rattle.tl_grid.specs.declared.shape.ShapeGroup.{ShapeGroup}
 use Rattle.tl_grid.specs.declared.shape.Shape.{Shape}
-use Rattle.tl_grid.specs.Forming.{Cell, Forming, has_cell, first_free, cell_at, with_cell, form_cells, grown_into, begin_row, form_row, form_rows, at_group_end, form_group, form_groups, cells_in, cells_of, no_cells, formed, cell_count}
+use Rattle.tl_grid.specs.Forming.{Cell, Forming, has_cell, first_free, cell_at, with_cell, form_cells, grown_into, begin_row, form_row, form_rows}
+use Rattle.tl_grid.specs.Forming.{at_group_end, form_group, form_groups, cells_in, cells_of, no_cells, formed, cell_count}
 use Rattle.tl_grid.proofs.Cells.{number_of}
 use Rattle.tl_grid.proofs.Counts.{one_if}
 use Rattle.tl_grid.proofs.Members.{IsIn}
@@ -80,34 +82,41 @@ one_among-in n a (suc k) le lt =
     ]
 
 -- a row numbers its cells in order
-cells_tally : (n : ℕ) (spans : List SpanOf) (number x : ℕ) (s : Forming) → tally n (numbers (form_cells number x spans s).cells) ≡ tally n (numbers s.cells) + one_among n number (length spans)
+cells_tally : (n : ℕ) (spans : List SpanOf) (number x : ℕ) (s : Forming) →
+    tally n (numbers (form_cells number x spans s).cells) ≡ tally n (numbers s.cells) + one_among n number (length spans)
 cells_tally n [] number x s = omega arith
 cells_tally n (span ∷ spans) number x s =
     let at : ℕ = first_free (λ column. has_cell column s.row s.cells) x (s.width - x) in
     let next : Forming = with_cell number at span s in
-    let rest : tally n (numbers (form_cells (number + 1) (at + span.colspan) spans next).cells) ≡ tally n (numbers next.cells) + one_among n (number + 1) (length spans) =
+    let rest : tally n (numbers (form_cells (number + 1) (at + span.colspan) spans next).cells)
+    ≡ tally n (numbers next.cells) + one_among n (number + 1) (length spans) =
     cells_tally n spans (number + 1) (at + span.colspan) next in
     let here : tally n (numbers next.cells) ≡ tally n (numbers s.cells) + (one_if (eqb number n) + 0) =
     ap (tally n) (map-append number_of s.cells (cell_at number at s.row span ∷ [])) ∙ tally-append n (numbers s.cells) (number ∷ []) in
     let more : one_among n number (length (span ∷ spans)) ≡ one_if (eqb number n) + one_among n (number + 1) (length spans) = refl in
-    rest ∙ (let sums : tally n (numbers next.cells) + one_among n (number + 1) (length spans) ≡ tally n (numbers s.cells) + one_among n number (length (span ∷ spans)) = omega arith in sums)
+    rest ∙ (let sums : tally n (numbers next.cells) + one_among n (number + 1) (length spans)
+    ≡ tally n (numbers s.cells) + one_among n number (length (span ∷ spans)) = omega arith in sums)
 
 -- so do the rows of a group
-rows_tally : (n : ℕ) (rows : List (List SpanOf)) (number : ℕ) (s : Forming) → tally n (numbers (form_rows number rows s).cells) ≡ tally n (numbers s.cells) + one_among n number (cells_in rows)
+rows_tally : (n : ℕ) (rows : List (List SpanOf)) (number : ℕ) (s : Forming) →
+    tally n (numbers (form_rows number rows s).cells) ≡ tally n (numbers s.cells) + one_among n number (cells_in rows)
 rows_tally n [] number s = omega arith
 rows_tally n (spans ∷ rows) number s =
     let next : Forming = form_row number spans s in
-    let rest : tally n (numbers (form_rows (number + length spans) rows next).cells) ≡ tally n (numbers next.cells) + one_among n (number + length spans) (cells_in rows) =
+    let rest : tally n (numbers (form_rows (number + length spans) rows next).cells)
+    ≡ tally n (numbers next.cells) + one_among n (number + length spans) (cells_in rows) =
     rows_tally n rows (number + length spans) next in
     let here : tally n (numbers next.cells) ≡ tally n (numbers s.cells) + one_among n number (length spans) =
     cells_tally n spans number 0 (begin_row s)
     ∙ ap (λ ks. tally n ks + one_among n number (length spans)) (map-map number_of (grown_into s.row) s.cells) in
     let more : one_among n number (cells_in (spans ∷ rows)) ≡ one_among n number (length spans) + one_among n (number + length spans) (cells_in rows) =
     ap (one_among n number) (sum_by-cons length spans rows) ∙ one_among-sum n number (length spans) (cells_in rows) in
-    rest ∙ (let sums : tally n (numbers next.cells) + one_among n (number + length spans) (cells_in rows) ≡ tally n (numbers s.cells) + one_among n number (cells_in (spans ∷ rows)) = omega arith in sums)
+    rest ∙ (let sums : tally n (numbers next.cells) + one_among n (number + length spans) (cells_in rows)
+    ≡ tally n (numbers s.cells) + one_among n number (cells_in (spans ∷ rows)) = omega arith in sums)
 
 -- a group in its turn, and one that is passed over
-turn_tally : (b : Bool) (n number : ℕ) (rows : List (List SpanOf)) (s : Forming) → tally n (numbers (cond b (form_group number rows s) s).cells) ≡ tally n (numbers s.cells) + cond b (one_among n number (cells_in rows)) 0
+turn_tally : (b : Bool) (n number : ℕ) (rows : List (List SpanOf)) (s : Forming) →
+    tally n (numbers (cond b (form_group number rows s) s).cells) ≡ tally n (numbers s.cells) + cond b (one_among n number (cells_in rows)) 0
 turn_tally true n number rows s =
     let last : Forming = form_rows number rows s in
     ap (tally n) (map-map number_of (at_group_end last.row last.height) last.cells) ∙ rows_tally n rows number s
@@ -119,16 +128,19 @@ in_turn turn n number [] = 0
 in_turn turn n number (g ∷ gs) = cond (turn g) (one_among n number (cells_in g.rows)) 0 + in_turn turn n (number + cells_in g.rows) gs
 
 -- all groups whose turn it is
-groups_tally : (turn : ShapeGroup → Bool) (n : ℕ) (gs : List ShapeGroup) (number : ℕ) (s : Forming) → tally n (numbers (form_groups turn number gs s).cells) ≡ tally n (numbers s.cells) + in_turn turn n number gs
+groups_tally : (turn : ShapeGroup → Bool) (n : ℕ) (gs : List ShapeGroup) (number : ℕ) (s : Forming) →
+    tally n (numbers (form_groups turn number gs s).cells) ≡ tally n (numbers s.cells) + in_turn turn n number gs
 groups_tally turn n [] number s = omega arith
 groups_tally turn n (g ∷ gs) number s =
     let next : Forming = cond (turn g) (form_group number g.rows s) s in
-    let rest : tally n (numbers (form_groups turn (number + cells_in g.rows) gs next).cells) ≡ tally n (numbers next.cells) + in_turn turn n (number + cells_in g.rows) gs =
+    let rest : tally n (numbers (form_groups turn (number + cells_in g.rows) gs next).cells)
+    ≡ tally n (numbers next.cells) + in_turn turn n (number + cells_in g.rows) gs =
     groups_tally turn n gs (number + cells_in g.rows) next in
     let here : tally n (numbers next.cells) ≡ tally n (numbers s.cells) + cond (turn g) (one_among n number (cells_in g.rows)) 0 =
     turn_tally (turn g) n number g.rows s in
     let more : in_turn turn n number (g ∷ gs) ≡ cond (turn g) (one_among n number (cells_in g.rows)) 0 + in_turn turn n (number + cells_in g.rows) gs = refl in
-    rest ∙ (let sums : tally n (numbers next.cells) + in_turn turn n (number + cells_in g.rows) gs ≡ tally n (numbers s.cells) + in_turn turn n number (g ∷ gs) = omega arith in sums)
+    rest ∙ (let sums : tally n (numbers next.cells) + in_turn turn n (number + cells_in g.rows) gs
+    ≡ tally n (numbers s.cells) + in_turn turn n number (g ∷ gs) = omega arith in sums)
 
 -- a group has its turn once
 one_turn : (b : Bool) (a : ℕ) → cond (not b) a 0 + cond b a 0 ≡ a
@@ -136,7 +148,8 @@ one_turn true a = omega arith
 one_turn false a = omega arith
 
 -- so both turns together form all groups
-both_turns : (n : ℕ) (gs : List ShapeGroup) (number : ℕ) → in_turn (λ g. not g.foot) n number gs + in_turn (λ g. g.foot) n number gs ≡ one_among n number (cells_of gs)
+both_turns : (n : ℕ) (gs : List ShapeGroup) (number : ℕ) →
+    in_turn (λ g. not g.foot) n number gs + in_turn (λ g. g.foot) n number gs ≡ one_among n number (cells_of gs)
 both_turns n [] number = refl
 both_turns n (g ∷ gs) number =
     let one : ℕ = one_among n number (cells_in g.rows) in
@@ -145,7 +158,8 @@ both_turns n (g ∷ gs) number =
     let here : cond (not g.foot) one 0 + cond g.foot one 0 ≡ one = one_turn g.foot one in
     let more : one_among n number (cells_of (g ∷ gs)) ≡ one + one_among n next (cells_of gs) =
     ap (one_among n number) (sum_by-cons (λ (h : ShapeGroup). cells_in h.rows) g gs) ∙ one_among-sum n number (cells_in g.rows) (cells_of gs) in
-    let sums : (cond (not g.foot) one 0 + in_turn (λ g. not g.foot) n next gs) + (cond g.foot one 0 + in_turn (λ g. g.foot) n next gs) ≡ one + one_among n next (cells_of gs) = omega arith in
+    let sums : (cond (not g.foot) one 0 + in_turn (λ g. not g.foot) n next gs) + (cond g.foot one 0 + in_turn (λ g. g.foot) n next gs)
+    ≡ one + one_among n next (cells_of gs) = omega arith in
     sums ∙ sym more
 
 -- each number from 0 to the count of cells is that of one cell
@@ -156,7 +170,8 @@ numbered n shape =
     groups_tally (λ group. not group.foot) n shape.groups 0 (no_cells shape.columns) in
     let then : tally n (numbers (formed shape).cells) ≡ tally n (numbers bodies.cells) + in_turn (λ group. group.foot) n 0 shape.groups =
     groups_tally (λ group. group.foot) n shape.groups 0 bodies in
-    let both : in_turn (λ g. not g.foot) n 0 shape.groups + in_turn (λ g. g.foot) n 0 shape.groups ≡ one_among n 0 (cell_count shape) = both_turns n shape.groups 0 in
+    let both : in_turn (λ g. not g.foot) n 0 shape.groups + in_turn (λ g. g.foot) n 0 shape.groups
+    ≡ one_among n 0 (cell_count shape) = both_turns n shape.groups 0 in
     omega arith
 
 -- no number stands twice

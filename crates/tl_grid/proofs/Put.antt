@@ -1,8 +1,9 @@
 -- What is put at numbers of which each stands once.
-use Rattle.std.proofs.Common.{◌≡◌, ℕ, ◌+◌, ◌<◌, ◌≤◌, zero, suc, eqb, List, [], ◌∷◌, map, length, set, fold, Some, refl, sym, ap, ◌∙◌, inl, inr, arith, length-set}
+use Rattle.std.proofs.Common.{◌≡◌, ℕ, ◌+◌, ◌<◌, ◌≤◌, zero, suc, eqb, List, [], ◌∷◌, map, length, fold, Some, refl, ap, ◌∙◌, inl, inr, arith}
+use Rattle.std.proofs.Common.{length-set}
 use Rattle.std.specs.Prelude.{slice_set, slice_get}
 use Rattle.std.specs.List.{AllByRecursion}
-use Rattle.std.proofs.lemmas.Bool.{eq-eqb, cases_eq, cases_lt}
+use Rattle.std.proofs.lemmas.Bool.{eq-eqb, cases_lt}
 use Rattle.tl_grid.proofs.Counts.{one_if}
 use Rattle.tl_grid.proofs.Numbers.{tally}
 
@@ -28,7 +29,9 @@ tally_one n k ks none = (
 )
 
 -- nothing is put at a number that is not there
-put_other : {X V : Type 0} (f : X → ℕ) (g : X → V) (xs : List X) (vs : List V) (n : ℕ) → tally n (map f xs) ≡ 0 → slice_get (fold (λ found x. slice_set found (f x) (g x)) vs xs) n ≡ slice_get vs n
+put_other : {X V : Type 0} (f : X → ℕ) (g : X → V) (xs : List X) (vs : List V) (n : ℕ) →
+    tally n (map f xs) ≡ 0 →
+    slice_get (fold (λ found x. slice_set found (f x) (g x)) vs xs) n ≡ slice_get vs n
 put_other f g [] vs n none = refl
 put_other f g (x ∷ xs) vs n none =
     let is = tally_one n (f x) (map f xs) none in
@@ -49,7 +52,9 @@ tally_within k ks long low =
     ]
 
 -- all stand at their numbers
-pub put_all : {X V : Type 0} (f : X → ℕ) (g : X → V) (xs : List X) (vs : List V) → ((n : ℕ) → tally n (map f xs) ≤ 1) → ((n : ℕ) → length vs ≤ n → tally n (map f xs) ≡ 0) → AllByRecursion (λ x. slice_get (fold (λ found y. slice_set found (f y) (g y)) vs xs) (f x) ≡ Some (g x)) xs
+pub put_all : {X V : Type 0} (f : X → ℕ) (g : X → V) (xs : List X) (vs : List V) →
+    ((n : ℕ) → tally n (map f xs) ≤ 1) → ((n : ℕ) → length vs ≤ n → tally n (map f xs) ≡ 0) →
+    AllByRecursion (λ x. slice_get (fold (λ found y. slice_set found (f y) (g y)) vs xs) (f x) ≡ Some (g x)) xs
 put_all f g [] vs once low = tt
 put_all f g (x ∷ xs) vs once low =
     let next = slice_set vs (f x) (g x) in (
@@ -59,3 +64,8 @@ put_all f g (x ∷ xs) vs once low =
           (λ n. let more : tally n (map f (x ∷ xs)) ≡ one_if (eqb (f x) n) + tally n (map f xs) = refl in omega (arith, once n))
           (λ n le. (tally_one n (f x) (map f xs) (low n (omega (arith, length-set vs (f x) (g x))))).1),
     )
+
+-- what is put changes no length
+pub length_put : {X V : Type 0} (f : X → ℕ) (g : X → V) (xs : List X) (vs : List V) → length (fold (λ found x. slice_set found (f x) (g x)) vs xs) ≡ length vs
+length_put f g [] vs = refl
+length_put f g (x ∷ xs) vs = length_put f g xs (slice_set vs (f x) (g x)) ∙ length-set vs (f x) (g x)

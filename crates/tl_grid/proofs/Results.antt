@@ -1,11 +1,14 @@
--- The results of `form`: which walk gives which, and that they exclude one another.
-use Rattle.std.proofs.Common.{◌≡◌, ℕ, ◌+◌, ◌<◌, ◌≤◌, zero, suc, Bool, List, [], ◌∷◌, ◌++◌, map, replicate, length, Result, Ok, Err, Some, refl, sym, ap, ◌∙◌, subst, inl, inr, ◌⊎◌, arith, zero-add}
-use Rattle.std.specs.Prelude.{alloc_error, slice_get, IfOk, IfErr}
+-- The results of `form`: which walk gives which, that they exclude one another, and that each table
+-- has one (`decided`).
+use Rattle.std.proofs.Common.{◌≡◌, ℕ, ◌<◌, ◌≤◌, suc, Bool, List, [], ◌∷◌, fold, replicate, length, Result, Ok, Err, Some, refl}
+use Rattle.std.proofs.Common.{sym, ap, ◌∙◌, subst, inl, inr, ◌⊎◌, arith}
+use Rattle.std.specs.Prelude.{alloc_error, slice_get, slice_set, IfOk, IfErr}
 use Rattle.std.specs.List.{AllByRecursion}
 use Rattle.std.specs.List.Sorted.{IsStrictlyIncreasing}
 use Rattle.std.proofs.lemmas.Bool.{cases_lt, cases_order}
 use Rattle.std.proofs.lemmas.List.{length-replicate}
-use Rattle.std.proofs.lemmas.Option.{get_or_from_slice_get, slice_get-get_or}
+use Rattle.tl_base.specs.Returned.{ReturnsOk, ReturnsError, IsMemoryOr}
+use Rattle.tl_base.specs.declared.limits.TheConstants.{MAX_CELLS, MAX_COLUMNS, MAX_ROWS}
 use Rattle.tl_grid.specs.declared.shape.Shape.{Shape}
 use Rattle.tl_grid.specs.declared.shape.Place.{Place}
 use Rattle.tl_grid.specs.declared.shape.Grid.{Grid}
@@ -15,16 +18,17 @@ use Rattle.tl_grid.specs.declared.error.GridError.{GridError}
 use Rattle.tl_grid.specs.declared.error.GridError.TheVariants.{Memory, TooManyCells, Overlap, TooManyColumns, TooManyRows}
 use Rattle.tl_grid.specs.Forming.{Cell, formed, cell_count}
 use Rattle.tl_grid.specs.Overlap.{numbers_over, IsBefore, HasNoOverlap, IsFirstOverlap}
-use Rattle.tl_grid.specs.Dropping.{count_below, is_among, keeps_column, keeps_row, place_of, ArePlaces, StandsAtNumber, kept_column_count, kept_row_count}
-use Rattle.tl_grid.specs.Form.{HasGrid, HasTooManyCells, HasOverlap, HasTooManyColumns, HasTooManyRows, IsRefused, ReturnsGrid, ReturnsError}
+use Rattle.tl_grid.specs.Dropping.{keeps_column, keeps_row, place_of, ArePlaces, StandsAtNumber, kept_column_count, kept_row_count}
+use Rattle.tl_base.specs.Lists.{is_among}
+use Rattle.tl_grid.specs.Form.{HasGrid, HasTooManyColumns, HasTooManyRows, IsRefused}
 use Rattle.tl_grid.specs.inner.Walk.{place_all}
 use Rattle.tl_grid.specs.Shapes.{AllSpans}
 use Rattle.tl_grid.specs.inner.Places.{begins_in_column, begins_in_row, place_by, place_in, put_places, nowhere}
 use Rattle.tl_grid.proofs.Cells.{number_of, block_number}
 use Rattle.tl_grid.proofs.Counts.{count_same}
 use Rattle.tl_grid.proofs.Members.{all_at}
-use Rattle.tl_grid.proofs.Numbers.{tally, numbers, numbered_once, numbered_below, cell_numbered}
-use Rattle.tl_grid.proofs.Put.{put_all}
+use Rattle.tl_grid.proofs.Numbers.{tally, numbered_once, numbered_below, cell_numbered}
+use Rattle.tl_grid.proofs.Put.{put_all, length_put}
 use Rattle.tl_grid.proofs.Tables.{TableMatches, TableGives, IsFound, all_give}
 use Rattle.tl_grid.proofs.Grids.{column_count, row_count, same_columns, same_rows, same_numbers, all_placed}
 use Rattle.tl_grid.proofs.Wide.{wide_groups}
@@ -46,7 +50,7 @@ table_matches shape t spans e =
     subst P e (all_give shape (wide_groups shape.groups spans))
 
 -- an overlap that the walk found is refused
-found_refused : (shape : Shape) (error : GridError) → cell_count shape ≤ 20000 → IsFound (formed shape) error → IsRefused shape error
+found_refused : (shape : Shape) (error : GridError) → cell_count shape ≤ MAX_CELLS → IsFound (formed shape) error → IsRefused shape error
 found_refused shape (Memory e) few found = found
 found_refused shape (TooManyCells count) few found = absurd found
 found_refused shape (Overlap first second x y) few found = record {
@@ -57,14 +61,18 @@ found_refused shape (TooManyColumns count) few found = absurd found
 found_refused shape (TooManyRows count) few found = absurd found
 
 -- an error of the walk, or out of memory
-pub walk_refused : (shape : Shape) (error : GridError) → AllSpans shape.groups → cell_count shape ≤ 20000 → (error ≡ Memory alloc_error) ⊎ (place_all shape.groups ≡ Err error) → (error ≡ Memory alloc_error) ⊎ IsRefused shape error
+pub walk_refused : (shape : Shape) (error : GridError) → AllSpans shape.groups →
+    cell_count shape ≤ MAX_CELLS → (error ≡ Memory alloc_error) ⊎ (place_all shape.groups ≡ Err error) →
+    IsMemoryOr (Memory alloc_error) (IsRefused shape) error
 walk_refused shape error spans few (inl memory) = inl memory
 walk_refused shape error spans few (inr walked) =
     let P : Result Table GridError → Type 0 = λ r. TableGives (formed shape) r in
     inr (found_refused shape error few (subst P walked (all_give shape (wide_groups shape.groups spans))))
 
 -- too many kept columns
-pub columns_refused : (shape : Shape) (t : Table) (columns : List ℕ) (count : ℕ) → AllSpans shape.groups → cell_count shape ≤ 20000 → place_all shape.groups ≡ Ok t → AreColumns t.blocks columns → count ≡ length columns → 60 < count → HasTooManyColumns shape count
+pub columns_refused : (shape : Shape) (t : Table) (columns : List ℕ) (count : ℕ) → AllSpans shape.groups →
+    cell_count shape ≤ MAX_CELLS → place_all shape.groups ≡ Ok t → AreColumns t.blocks columns →
+    count ≡ length columns → MAX_COLUMNS < count → HasTooManyColumns shape count
 columns_refused shape t columns count spans few walked are counted many =
     let m : TableMatches (formed shape) t = table_matches shape t spans walked in
     record {
@@ -75,7 +83,10 @@ columns_refused shape t columns count spans few walked are counted many =
     }
 
 -- too many kept rows
-pub rows_refused : (shape : Shape) (t : Table) (columns rows : List ℕ) (count : ℕ) → AllSpans shape.groups → cell_count shape ≤ 20000 → place_all shape.groups ≡ Ok t → AreColumns t.blocks columns → length columns ≤ 60 → AreRows t.blocks rows → count ≡ length rows → 2000 < count → HasTooManyRows shape count
+pub rows_refused : (shape : Shape) (t : Table) (columns rows : List ℕ) (count : ℕ) → AllSpans shape.groups →
+    cell_count shape ≤ MAX_CELLS → place_all shape.groups ≡ Ok t → AreColumns t.blocks columns →
+    length columns ≤ MAX_COLUMNS → AreRows t.blocks rows → count ≡ length rows → MAX_ROWS < count →
+    HasTooManyRows shape count
 rows_refused shape t columns rows count spans few walked are narrow are' counted many =
     let m : TableMatches (formed shape) t = table_matches shape t spans walked in
     let columns_are : kept_column_count shape ≡ length columns = column_count (formed shape) t columns m are.rises are.same in
@@ -97,7 +108,10 @@ place_same p q p' q' b across down = λ i. record {
 }
 
 -- what is put for the blocks are the places of the cells
-are_places : (shape : Shape) (t : Table) (columns rows : List ℕ) (count : ℕ) (places : List Place) → TableMatches (formed shape) t → AreColumns t.blocks columns → AreRows t.blocks rows → count ≡ cell_count shape → length places ≡ count → places ≡ put_places columns rows (replicate count nowhere) t.blocks → ArePlaces shape places
+are_places : (shape : Shape) (t : Table) (columns rows : List ℕ) (count : ℕ) (places : List Place) →
+    TableMatches (formed shape) t → AreColumns t.blocks columns → AreRows t.blocks rows →
+    count ≡ cell_count shape → length places ≡ count →
+    places ≡ put_places columns rows (replicate count nowhere) t.blocks → ArePlaces shape places
 are_places shape t columns rows count places m are are' counted many put = record {
   as_many = many ∙ counted;
   each = all_placed (formed shape) t (λ n place. slice_get places n ≡ Some place) m (each t.blocks
@@ -108,7 +122,12 @@ are_places shape t columns rows count places m are are' counted many put = recor
       ∙ numbered_below n shape (omega (arith, length-replicate count nowhere, counted)))));
 }
   where
-    each : (bs : List Block) → AllByRecursion (λ (b : Block). slice_get (put_places columns rows (replicate count nowhere) t.blocks) b.number ≡ Some (place_in columns rows b)) bs → AllByRecursion (λ (b : Block). slice_get places b.number ≡ Some (place_by (keeps_column (formed shape).cells) (keeps_row (formed shape).cells) b)) bs
+    each : (bs : List Block) →
+        AllByRecursion (λ (b : Block).
+        slice_get (put_places columns rows (replicate count nowhere) t.blocks) b.number
+        ≡ Some (place_in columns rows b)) bs →
+        AllByRecursion (λ (b : Block). slice_get places b.number
+        ≡ Some (place_by (keeps_column (formed shape).cells) (keeps_row (formed shape).cells) b)) bs
     each [] all = tt
     each (b ∷ bs) all = (
       ap (λ ps. slice_get ps b.number) put ∙ all.0
@@ -119,7 +138,13 @@ are_places shape t columns rows count places m are are' counted many put = recor
     )
 
 -- the dropped grid
-pub has_grid : (shape : Shape) (t : Table) (columns rows : List ℕ) (cols lines count : ℕ) (places : List Place) → AllSpans shape.groups → cell_count shape ≤ 20000 → place_all shape.groups ≡ Ok t → AreColumns t.blocks columns → length columns ≤ 60 → AreRows t.blocks rows → length rows ≤ 2000 → cols ≡ length columns → lines ≡ length rows → count ≡ cell_count shape → length places ≡ count → places ≡ put_places columns rows (replicate count nowhere) t.blocks → HasGrid shape record { cols = cols; rows = lines; places = places }
+pub has_grid : (shape : Shape) (t : Table) (columns rows : List ℕ) (cols lines count : ℕ)
+    (places : List Place) → AllSpans shape.groups → cell_count shape ≤ MAX_CELLS →
+    place_all shape.groups ≡ Ok t → AreColumns t.blocks columns → length columns ≤ MAX_COLUMNS →
+    AreRows t.blocks rows → length rows ≤ MAX_ROWS → cols ≡ length columns → lines ≡ length rows →
+    count ≡ cell_count shape → length places ≡ count →
+    places ≡ put_places columns rows (replicate count nowhere) t.blocks →
+    HasGrid shape record { cols = cols; rows = lines; places = places }
 has_grid shape t columns rows cols lines count places spans few walked are narrow are' low wide high counted many put =
     let m : TableMatches (formed shape) t = table_matches shape t spans walked in
     let columns_are : kept_column_count shape ≡ length columns = column_count (formed shape) t columns m are.rises are.same in
@@ -183,7 +208,8 @@ many_over cells first second x y is one =
     omega arith
 
 -- there is one first overlap
-one_overlap : (cells : List Cell) (a b x y a' b' x' y' : ℕ) → IsFirstOverlap cells a b x y → IsFirstOverlap cells a' b' x' y' → Overlap a b x y ≡ Overlap a' b' x' y'
+one_overlap : (cells : List Cell) (a b x y a' b' x' y' : ℕ) → IsFirstOverlap cells a b x y →
+    IsFirstOverlap cells a' b' x' y' → Overlap a b x y ≡ Overlap a' b' x' y'
 one_overlap cells a b x y a' b' x' y' is is' =
     elim (order x y x' y') [
       | inl same ↦
@@ -231,18 +257,72 @@ one_cause shape (TooManyRows n) (TooManyColumns m) is is' = absurd (omega (arith
 one_cause shape (TooManyRows n) (TooManyRows m) is is' = ap TooManyRows (is.counted ∙ sym is'.counted)
 
 -- what holds of each grid of the table holds of the one that is returned
-pub ok_law : (shape : Shape) (P : Grid → Type 0) (result : Result Grid GridError) → ((grid : Grid) → HasGrid shape grid → P grid) → IfOk result (λ grid. HasGrid shape grid) → IfOk result P
+pub ok_law : (shape : Shape) (P : Grid → Type 0) (result : Result Grid GridError) →
+    ((grid : Grid) → HasGrid shape grid → P grid) → IfOk result (λ grid. HasGrid shape grid) → IfOk result P
 ok_law shape P (Ok grid) law has = law grid has
 ok_law shape P (Err error) law has = tt
 
 -- a grid of the table is returned, or out of memory
-pub each_ok : (shape : Shape) (result : Result Grid GridError) → IfOk result (λ grid. HasGrid shape grid) → IfErr result (λ error. (error ≡ Memory alloc_error) ⊎ IsRefused shape error) → (grid : Grid) → HasGrid shape grid → ReturnsGrid grid result
+pub each_ok : (shape : Shape) (result : Result Grid GridError) → IfOk result (λ grid. HasGrid shape grid) →
+    IfErr result (λ error. IsMemoryOr (Memory alloc_error) (IsRefused shape) error) → (grid : Grid) →
+    HasGrid shape grid → ReturnsOk (Memory alloc_error) grid result
 each_ok shape (Ok found) has refused grid has' = one_grid shape found grid has has'
 each_ok shape (Err error) has (inl memory) grid has' = memory
 each_ok shape (Err error) has (inr is) grid has' = absurd (no_cause shape grid error has' is)
 
 -- a cause of the table is returned, or out of memory
-pub each_err : (shape : Shape) (result : Result Grid GridError) → IfOk result (λ grid. HasGrid shape grid) → IfErr result (λ error. (error ≡ Memory alloc_error) ⊎ IsRefused shape error) → (error : GridError) → IsRefused shape error → ReturnsError error result
+pub each_err : (shape : Shape) (result : Result Grid GridError) → IfOk result (λ grid. HasGrid shape grid) →
+    IfErr result (λ error. IsMemoryOr (Memory alloc_error) (IsRefused shape) error) → (error : GridError) →
+    IsRefused shape error → ReturnsError (Memory alloc_error) error result
 each_err shape (Ok found) has refused error is = no_cause shape found error has is
 each_err shape (Err error) has (inl memory) expected is = inl memory
 each_err shape (Err error) has (inr is') expected is = inr (one_cause shape error expected is' is)
+
+-- the places of a table, as the list of them
+abbrev formed_places : Shape → List Place
+formed_places shape = fold (λ found (c : Cell). slice_set found c.number (place_of (formed shape) c))
+    (replicate (cell_count shape) nowhere) (formed shape).cells
+
+-- there are such places
+have_places : (shape : Shape) → ArePlaces shape (formed_places shape)
+have_places shape = record {
+  as_many = length_put number_of (place_of (formed shape)) (formed shape).cells (replicate (cell_count shape) nowhere)
+      ∙ length-replicate (cell_count shape) nowhere;
+  each = put_all number_of (place_of (formed shape)) (formed shape).cells (replicate (cell_count shape) nowhere)
+      (λ n. numbered_once n shape)
+      (λ n le. numbered_below n shape (omega (arith, length-replicate (cell_count shape) nowhere)));
+}
+
+-- a table within the limits has a grid, or too many columns or rows
+within_limits : (shape : Shape) → cell_count shape ≤ MAX_CELLS → HasNoOverlap (formed shape).cells →
+    ((grid : Grid) × HasGrid shape grid) ⊎ ((error : GridError) × IsRefused shape error)
+within_limits shape few one =
+    elim (cases_lt MAX_COLUMNS (kept_column_count shape)) [
+      | inl wide ↦ inr (TooManyColumns (kept_column_count shape), record { few_cells = few; no_overlap = one; counted = refl; many = wide })
+      | inr narrow ↦
+          elim (cases_lt MAX_ROWS (kept_row_count shape)) [
+            | inl high ↦ inr (
+              TooManyRows (kept_row_count shape),
+              record { few_cells = few; no_overlap = one; few_columns = narrow; counted = refl; many = high },
+            )
+            | inr low ↦ inl (
+              record { cols = kept_column_count shape; rows = kept_row_count shape; places = formed_places shape },
+              record { few_cells = few; no_overlap = one; few_columns = narrow; few_rows = low; columns = refl; rows = refl; places = have_places shape },
+            )
+          ]
+    ]
+
+-- what the walk gives is the first overlap, or there is none
+walk_decides : (shape : Shape) (result : Result Table GridError) → cell_count shape ≤ MAX_CELLS →
+    TableGives (formed shape) result →
+    ((grid : Grid) × HasGrid shape grid) ⊎ ((error : GridError) × IsRefused shape error)
+walk_decides shape (Ok t) few gives = within_limits shape few gives.one
+walk_decides shape (Err error) few found = inr (error, found_refused shape error few found)
+
+-- Each table has a grid, or one of the causes holds.
+pub decided : (shape : Shape) → AllSpans shape.groups → ((grid : Grid) × HasGrid shape grid) ⊎ ((error : GridError) × IsRefused shape error)
+decided shape spans =
+    elim (cases_lt MAX_CELLS (cell_count shape)) [
+      | inl many ↦ inr (TooManyCells (cell_count shape), record { counted = refl; many = many })
+      | inr few ↦ walk_decides shape (place_all shape.groups) few (all_give shape (wide_groups shape.groups spans))
+    ]

@@ -1,7 +1,9 @@
--- Whole tables: group after group, the feet last.
-use Rattle.std.proofs.Common.{◌≡◌, ℕ, ◌+◌, ◌<◌, ◌≤◌, suc, Bool, true, false, ◌&&◌, ◌||◌, not, cond, ltb, leb, eqb, List, [], ◌∷◌, ◌++◌, map, length, Result, Ok, Err, refl, sym, ap, ◌∙◌, subst, inl, inr, arith, append-nil}
+-- Whole tables: group after group, the footers last.
+use Rattle.std.proofs.Common.{◌≡◌, ℕ, ◌+◌, ◌<◌, ◌≤◌, suc, Bool, true, false, ◌&&◌, ◌||◌, not, cond, ltb, leb, eqb, List, [], ◌∷◌, ◌++◌, map, length}
+use Rattle.std.proofs.Common.{Result, Ok, Err, refl, sym, ap, ◌∙◌, subst, inl, inr, arith, append-nil}
 use Rattle.std.specs.List.{filter, AllByRecursion}
-use Rattle.std.proofs.lemmas.Bool.{lt-ltb, le-ltb, le-leb, ne_eqb, cases_Bool, cases_lt, cases_order, both_ways, and_left, and_right, cond-true, cond-false}
+use Rattle.std.proofs.lemmas.Bool.{lt-ltb, le-ltb, le-leb, ne_eqb, cases_Bool, cases_lt, cases_order, both_ways, and_left, and_right, cond-true}
+use Rattle.std.proofs.lemmas.Bool.{cond-false}
 use Rattle.std.proofs.lemmas.List.{map-append}
 use Rattle.std.proofs.lemmas.Simd.{map-map}
 use Rattle.std.proofs.lemmas.List.Folds.{list_any-append}
@@ -13,9 +15,9 @@ use Rattle.tl_grid.specs.declared.error.GridError.{GridError}
 use Rattle.tl_grid.specs.Forming.{Cell, Forming, covers, form_rows, at_group_end, end_group, form_group, form_groups, cells_in, no_cells, formed}
 use Rattle.tl_grid.specs.Overlap.{numbers_over}
 use Rattle.tl_grid.specs.Dropping.{keeps_row}
-use Rattle.tl_grid.specs.declared.group.Group.{Group}
 use Rattle.tl_grid.specs.declared.table.Table.{Table}
-use Rattle.tl_grid.specs.inner.Walk.{reaches, group_at, then_ok, place_rows, settled, after_group, place_groups, place_all}
+use Rattle.tl_grid.specs.inner.OpenBlocks.{reaches}
+use Rattle.tl_grid.specs.inner.Walk.{RowGroup, group_at, then_ok, place_rows, settled, after_group, place_groups, place_all}
 use Rattle.tl_grid.proofs.Chains.{spot, filter_yes, filter_no, at_most_one}
 use Rattle.tl_grid.proofs.Cells.{cell_of, AllQuiet, BeginsAbove, number_of, or_false, numbers-append, quiet_none}
 use Rattle.tl_grid.proofs.Later.{Later, later_rows, later_end, later_groups, anchors-map, ended_elsewhere}
@@ -81,7 +83,7 @@ still_all row height y (c ∷ cs) q =
     ∙ ap (λ ds. c ∷ ds) (still_all row height y cs q.1)
 
 -- the cells after a group
-ended_cells : (done : List Cell) (s : Forming) (g : Group) → GroupMatches done s g → (end_group s).cells ≡ done ++ map (ended_cell g.row g.height) g.blocks
+ended_cells : (done : List Cell) (s : Forming) (g : RowGroup) → GroupMatches done s g → (end_group s).cells ≡ done ++ map (ended_cell g.row g.height) g.blocks
 ended_cells done s g m =
     ap (λ row. map (at_group_end row s.height) s.cells) m.at_row
     ∙ ap (λ height. map (at_group_end g.row height) s.cells) m.high
@@ -91,7 +93,8 @@ ended_cells done s g m =
     ∙ ap (λ l. done ++ l) (map-map (at_group_end g.row g.height) (cell_of g.row) g.blocks)
 
 -- the rows of a cell whose group has ended
-rows_in_group : (g : Bool) (row height top bottom y : ℕ) → row ≤ height → bottom ≤ height → height ≤ y → ((leb top y && ltb y (cond g row bottom)) || (g && (ltb row y && ltb y height))) ≡ false
+rows_in_group : (g : Bool) (row height top bottom y : ℕ) → row ≤ height → bottom ≤ height → height ≤ y →
+    ((leb top y && ltb y (cond g row bottom)) || (g && (ltb row y && ltb y height))) ≡ false
 rows_in_group true row height top bottom y low le ge =
     ap (λ t. (leb top y && t) || (ltb row y && ltb y height)) (le-ltb y row (omega arith))
     ∙ ap (λ t. (leb top y && false) || (ltb row y && t)) (le-ltb y height ge)
@@ -101,7 +104,8 @@ rows_in_group false row height top bottom y low le ge =
     or_false (leb top y && ltb y bottom) ∙ and_right (leb top y) (ltb y bottom) (le-ltb y bottom (omega arith))
 
 -- the cells of a group cover no row below its end
-quiet_ended : (row height width : ℕ) → row ≤ height → (bs : List Block) → AllByRecursion (IsSound width height) bs → AllQuiet height (map (ended_cell row height) bs)
+quiet_ended : (row height width : ℕ) → row ≤ height → (bs : List Block) →
+    AllByRecursion (IsSound width height) bs → AllQuiet height (map (ended_cell row height) bs)
 quiet_ended row height width low [] sound = tt
 quiet_ended row height width low (b ∷ bs) sound = (
   record { still = refl; above = λ y ge. rows_in_group b.grows row height b.top b.bottom y low sound.0.3 ge },
@@ -121,7 +125,9 @@ no_anchor row height y (b ∷ bs) le tops =
     ∙ no_anchor row height y bs le tops.1
 
 -- no slot has more cells than blocks
-numbers_fewer : (x y : ℕ) (f : Block → Cell) (p : Block → Bool) → ((b : Block) → p b ≡ false → covers x y (f b) ≡ false) → (bs : List Block) → length (numbers_over x y (map f bs)) ≤ length (filter p bs)
+numbers_fewer : (x y : ℕ) (f : Block → Cell) (p : Block → Bool) →
+    ((b : Block) → p b ≡ false → covers x y (f b) ≡ false) → (bs : List Block) →
+    length (numbers_over x y (map f bs)) ≤ length (filter p bs)
 numbers_fewer x y f p none [] = omega arith
 numbers_fewer x y f p none (b ∷ bs) =
     let rest : length (numbers_over x y (map f bs)) ≤ length (filter p bs) = numbers_fewer x y f p none bs in
@@ -146,7 +152,8 @@ numbers_fewer x y f p none (b ∷ bs) =
     ]
 
 -- the rows of a block that ends above row y
-rows_none : (g : Bool) (row height top bottom y : ℕ) → row ≤ y → (g || ltb y bottom) ≡ false → ((leb top y && ltb y (cond g row bottom)) || (g && (ltb row y && ltb y height))) ≡ false
+rows_none : (g : Bool) (row height top bottom y : ℕ) → row ≤ y → (g || ltb y bottom) ≡ false →
+    ((leb top y && ltb y (cond g row bottom)) || (g && (ltb row y && ltb y height))) ≡ false
 rows_none true row height top bottom y ge none = absurd (both_ways true none refl)
 rows_none false row height top bottom y ge none =
     or_false (leb top y && ltb y bottom) ∙ and_right (leb top y) (ltb y bottom) none
@@ -161,7 +168,7 @@ ended_covers x y row height b ge none =
     ]
 
 -- after a group no slot has two cells
-one_after : (done : List Cell) (s : Forming) (g : Group) → GroupMatches done s g → (x y : ℕ) → length (numbers_over x y (end_group s).cells) ≤ 1
+one_after : (done : List Cell) (s : Forming) (g : RowGroup) → GroupMatches done s g → (x y : ℕ) → length (numbers_over x y (end_group s).cells) ≤ 1
 one_after done s g m x y =
     let at_row : s.row ≡ g.row = m.at_row in
     let P : List ℕ → Type 0 = λ l. length l ≤ 1 in
@@ -180,7 +187,9 @@ one_after done s g m x y =
     ]
 
 -- the rows of a cell and of its block, where those with an anchor are kept
-kept_rows_same : (keep g : Bool) (row height top bottom y : ℕ) → row ≤ height → top < row → (y ≡ row → row < height → keep ≡ false) → (keep && ((leb top y && ltb y (cond g row bottom)) || (g && (ltb row y && ltb y height)))) ≡ (keep && (leb top y && ltb y (cond g height bottom)))
+kept_rows_same : (keep g : Bool) (row height top bottom y : ℕ) → row ≤ height → top < row →
+    (y ≡ row → row < height → keep ≡ false) →
+    (keep && ((leb top y && ltb y (cond g row bottom)) || (g && (ltb row y && ltb y height)))) ≡ (keep && (leb top y && ltb y (cond g height bottom)))
 kept_rows_same false g row height top bottom y low lt gap = refl
 kept_rows_same true false row height top bottom y low lt gap = or_false (leb top y && ltb y bottom)
 kept_rows_same true true row height top bottom y low lt gap =
@@ -206,7 +215,9 @@ kept_rows_same true true row height top bottom y low lt gap =
     ]
 
 -- a cell and its block, where rows with an anchor are looked at
-masked_same : (keeps : ℕ → Bool) (row height : ℕ) (b : Block) → row ≤ height → BeginsAbove row b → (row < height → keeps row ≡ false) → mask keeps (ended_cell row height b) ≡ mask keeps (whole (settled height b))
+masked_same : (keeps : ℕ → Bool) (row height : ℕ) (b : Block) → row ≤ height → BeginsAbove row b →
+    (row < height → keeps row ≡ false) →
+    mask keeps (ended_cell row height b) ≡ mask keeps (whole (settled height b))
 masked_same keeps row height b low top gap = λ i. record {
   number = b.number;
   left = b.left;
@@ -217,7 +228,9 @@ masked_same keeps row height b low top gap = λ i. record {
 }
 
 -- so for all blocks of a group
-masked_all : (keeps : ℕ → Bool) (row height : ℕ) (bs : List Block) → row ≤ height → AllByRecursion (BeginsAbove row) bs → (row < height → keeps row ≡ false) → map (mask keeps) (map (ended_cell row height) bs) ≡ map (mask keeps) (map whole (map (settled height) bs))
+masked_all : (keeps : ℕ → Bool) (row height : ℕ) (bs : List Block) → row ≤ height →
+    AllByRecursion (BeginsAbove row) bs → (row < height → keeps row ≡ false) →
+    map (mask keeps) (map (ended_cell row height) bs) ≡ map (mask keeps) (map whole (map (settled height) bs))
 masked_all keeps row height [] low tops gap = refl
 masked_all keeps row height (b ∷ bs) low tops gap =
     ap (λ c. c ∷ map (mask keeps) (map (ended_cell row height) bs)) (masked_same keeps row height b low tops.0 gap)
@@ -229,7 +242,8 @@ settled_bottom true height bottom top lt le = (omega arith, omega arith)
 settled_bottom false height bottom top lt le = (lt, le)
 
 -- a block stays sound when its group ends
-settled_sound : (width height : ℕ) (bs : List Block) → AllByRecursion (IsSound width height) bs → AllByRecursion (IsSound width height) (map (settled height) bs)
+settled_sound : (width height : ℕ) (bs : List Block) → AllByRecursion (IsSound width height) bs →
+    AllByRecursion (IsSound width height) (map (settled height) bs)
 settled_sound width height [] s = tt
 settled_sound width height (b ∷ bs) s =
     let ends = settled_bottom b.grows height b.bottom b.top s.0.2 s.0.3 in
@@ -245,7 +259,8 @@ anchors-append : (cs ds : List Cell) (y : ℕ) → keeps_row (cs ++ ds) y ≡ (k
 anchors-append cs ds y = list_any-append (λ (c : Cell). eqb c.top y) cs ds
 
 -- a group that is formed: from `s` on by the standard, from `t` on in the walk
-pub group_ends : (s last : Forming) (t : Table) (g : Group) → TableMatches s t → Later s.row s last → GroupMatches s.cells last g → TableMatches (end_group last) (after_group t g)
+pub group_ends : (s last : Forming) (t : Table) (g : RowGroup) → TableMatches s t → Later s.row s last →
+    GroupMatches s.cells last g → TableMatches (end_group last) (after_group t g)
 group_ends s last t g before later m =
     let at_row : last.row ≡ g.row = m.at_row in
     let high : last.height ≡ g.height = m.high in
@@ -315,7 +330,7 @@ TableGives s (Ok table) = TableMatches s table
 TableGives s (Err error) = IsFound s error
 
 -- the same at the end of a group
-abbrev pub GroupGives : Forming → Forming → Table → Result Group GridError → Type 0
+abbrev pub GroupGives : Forming → Forming → Table → Result RowGroup GridError → Type 0
 GroupGives s last t (Ok group) = TableMatches (end_group last) (after_group t group)
 GroupGives s last t (Err error) = IsFound (end_group last) error
 
@@ -326,12 +341,14 @@ found_later s t error later found =
     (found_kept s.row s.cells t.cells error later.numbers found)
 
 -- a group, by what its rows gave
-group_gives_from : (result : Result Group GridError) (s last : Forming) (t : Table) → TableMatches s t → Later s.row s last → RowsGive s.cells last result → GroupGives s last t result
+group_gives_from : (result : Result RowGroup GridError) (s last : Forming) (t : Table) → TableMatches s t →
+    Later s.row s last → RowsGive s.cells last result → GroupGives s last t result
 group_gives_from (Ok group) s last t m later gives = group_ends s last t group m later gives
 group_gives_from (Err error) s last t m later gives = found_later last (end_group last) error (later_end last) gives
 
 -- a whole group
-group_gives : (number : ℕ) (rows : List (List SpanOf)) (s : Forming) (t : Table) → AllWide rows → TableMatches s t → GroupGives s (form_rows number rows s) t (place_rows number (group_at t.row) rows)
+group_gives : (number : ℕ) (rows : List (List SpanOf)) (s : Forming) (t : Table) → AllWide rows →
+    TableMatches s t → GroupGives s (form_rows number rows s) t (place_rows number (group_at t.row) rows)
 group_gives number rows s t wide m =
     group_gives_from (place_rows number (group_at t.row) rows) s (form_rows number rows s) t m (later_rows rows number s)
     (rows_give rows s.cells number s (group_at t.row) wide (group_begins s t m))
@@ -341,13 +358,18 @@ abbrev pub GroupWide : ShapeGroup → Type 0
 GroupWide group = AllWide group.rows
 
 -- the rest of the groups, after one
-groups_give_step : (result : Result Group GridError) (turn : ShapeGroup → Bool) (number : ℕ) (s last : Forming) (t : Table) (groups : List ShapeGroup) → GroupGives s last t result → ((u : Table) → TableMatches (end_group last) u → TableGives (form_groups turn number groups (end_group last)) (place_groups turn number u groups)) → TableGives (form_groups turn number groups (end_group last)) (then_ok (λ group. place_groups turn number (after_group t group) groups) result)
+groups_give_step : (result : Result RowGroup GridError) (turn : ShapeGroup → Bool) (number : ℕ)
+    (s last : Forming) (t : Table) (groups : List ShapeGroup) → GroupGives s last t result →
+    ((u : Table) → TableMatches (end_group last) u → TableGives (form_groups turn number groups (end_group last)) (place_groups turn number u groups)) →
+    TableGives (form_groups turn number groups (end_group last)) (then_ok (λ group. place_groups turn number (after_group t group) groups) result)
 groups_give_step (Ok group) turn number s last t groups gives next = next (after_group t group) gives
 groups_give_step (Err error) turn number s last t groups gives next =
     found_later (end_group last) (form_groups turn number groups (end_group last)) error (later_groups turn groups number (end_group last)) gives
 
 -- all groups whose turn it is
-pub groups_give : (turn : ShapeGroup → Bool) (groups : List ShapeGroup) (number : ℕ) (s : Forming) (t : Table) → AllByRecursion GroupWide groups → TableMatches s t → TableGives (form_groups turn number groups s) (place_groups turn number t groups)
+pub groups_give : (turn : ShapeGroup → Bool) (groups : List ShapeGroup) (number : ℕ) (s : Forming)
+    (t : Table) → AllByRecursion GroupWide groups → TableMatches s t →
+    TableGives (form_groups turn number groups s) (place_groups turn number t groups)
 groups_give turn [] number s t wide m = m
 groups_give turn (group ∷ groups) number s t wide m =
     let rest : ℕ = number + cells_in group.rows in
@@ -383,15 +405,17 @@ none_yet columns = record {
   pairs = λ keeps same. refl;
 }
 
--- the feet, after all others
-feet_give : (result : Result Table GridError) (groups : List ShapeGroup) (s : Forming) → AllByRecursion GroupWide groups → TableGives s result → TableGives (form_groups (λ group. group.foot) 0 groups s) (then_ok (λ table. place_groups (λ group. group.foot) 0 table groups) result)
-feet_give (Ok table) groups s wide m = groups_give (λ group. group.foot) groups 0 s table wide m
-feet_give (Err error) groups s wide found =
+-- the footers, after all others
+footers_give : (result : Result Table GridError) (groups : List ShapeGroup) (s : Forming) →
+    AllByRecursion GroupWide groups → TableGives s result →
+    TableGives (form_groups (λ group. group.foot) 0 groups s) (then_ok (λ table. place_groups (λ group. group.foot) 0 table groups) result)
+footers_give (Ok table) groups s wide m = groups_give (λ group. group.foot) groups 0 s table wide m
+footers_give (Err error) groups s wide found =
     found_later s (form_groups (λ group. group.foot) 0 groups s) error (later_groups (λ group. group.foot) groups 0 s) found
 
 -- the walk over the whole table gives the standard's cells, or the first overlap
 pub all_give : (shape : Shape) → AllByRecursion GroupWide shape.groups → TableGives (formed shape) (place_all shape.groups)
 all_give shape wide =
-    feet_give (place_groups (λ group. not group.foot) 0 (record { row = 0; blocks = [] }) shape.groups) shape.groups
+    footers_give (place_groups (λ group. not group.foot) 0 (record { row = 0; blocks = [] }) shape.groups) shape.groups
     (form_groups (λ group. not group.foot) 0 shape.groups (no_cells shape.columns)) wide
     (groups_give (λ group. not group.foot) shape.groups 0 (no_cells shape.columns) record { row = 0; blocks = [] } wide (none_yet shape.columns))

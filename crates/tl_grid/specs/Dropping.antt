@@ -1,6 +1,7 @@
 -- The dropped grid: columns and rows in which no cell is anchored are left out, and the others are
 -- renumbered from 0, in order. This is a rule of ours, not the HTML Standard's.
-use Rattle.std.specs.Prelude.{ℕ, ◌+◌, ◌<◌, ◌≤◌, ◌≡◌, zero, suc, Bool, ◌&&◌, ◌==◌, nat_lt, nat_le, if◌then◌else◌, List, length, slice_get, Some}
+use Rattle.std.specs.Prelude.{ℕ, ◌+◌, ◌<◌, ◌≤◌, ◌≡◌, zero, suc, Bool, ◌&&◌, ◌==◌, nat_lt, nat_le}
+use Rattle.std.specs.Prelude.{if◌then◌else◌, List, length, slice_get, Some}
 use Rattle.std.specs.List.{list_any, AllByRecursion}
 use Rattle.tl_grid.specs.declared.shape.Shape.{Shape}
 use Rattle.tl_grid.specs.declared.shape.Place.{Place}
@@ -35,10 +36,6 @@ covered_columns s cell =
 -- how many kept rows a cell covers
 abbrev pub covered_rows : Forming → Cell → ℕ
 covered_rows s cell = count_below (λ y. keeps_row s.cells y && cell.rows y) s.height
-
--- whether x is one of the numbers
-abbrev pub is_among : List ℕ → ℕ → Bool
-is_among numbers x = list_any (λ (number : ℕ). number == x) numbers
 
 -- a cell begins at its renumbered anchor, and takes its kept columns and rows
 abbrev pub place_of : Forming → Cell → Place

@@ -1,7 +1,9 @@
 -- Which cell covers which slot: the steps of the HTML Standard's "Forming a table" (4.9.12.1).
 -- A slot (x, y) is column x of row y, both counted from 0. One departure is here: a cell that grows
 -- downward stops at the table's height, where the standard's last turn would take one row more.
-use Rattle.std.specs.Prelude.{ℕ, ◌+◌, ◌-◌, max, zero, suc, Bool, false, ◌&&◌, ◌||◌, not, ◌==◌, nat_lt, nat_le, if◌then◌else◌, List, [], ◌∷◌, ◌++◌, map, length, sum_by}
+use Rattle.std.specs.Prelude.{ℕ, ◌+◌, ◌-◌, max, zero, suc, Bool, false, ◌&&◌, ◌||◌, not, ◌==◌}
+use Rattle.std.specs.Prelude.{nat_lt, nat_le, if◌then◌else◌, List, [], ◌∷◌, ◌++◌, map, length}
+use Rattle.std.specs.Prelude.{sum_by}
 use Rattle.std.specs.List.{list_any}
 use Rattle.tl_grid.specs.declared.shape.SpanOf.{SpanOf}
 use Rattle.tl_grid.specs.declared.shape.ShapeGroup.{ShapeGroup}
@@ -44,7 +46,7 @@ abbrev pub first_free : (ℕ → Bool) → ℕ → ℕ → ℕ
 first_free taken x zero = x
 first_free taken x (suc more) = if taken x then first_free taken (x + 1) more else x
 
--- the rows that a cell takes when it is formed: a cell with rowspan 0 begins with one and grows
+-- how many rows a cell takes when it is formed: a cell of rowspan 0 begins with one and grows
 abbrev pub initial_rowspan : SpanOf → ℕ
 initial_rowspan span = if span.rowspan == 0 then 1 else span.rowspan
 
@@ -145,7 +147,7 @@ form_groups turn number (group ∷ groups) s =
 abbrev pub no_cells : ℕ → Forming
 no_cells columns = record { width = columns; height = 0; row = 0; cells = [] }
 
--- the standard's result: the feet wait until all other groups are formed
+-- the standard's result: the footers wait until all other groups are formed
 abbrev pub formed : Shape → Forming
 formed shape =
     form_groups (λ group. group.foot) 0 shape.groups

@@ -2,12 +2,13 @@
 -- Standard, section 4.9.11.
 use Rattle.std.specs.Prelude.{◌≤◌, List}
 use Rattle.std.specs.List.{AllByRecursion}
+use Rattle.tl_base.specs.declared.limits.TheConstants.{MAX_COLSPAN, MAX_ROWSPAN}
 use Rattle.tl_grid.specs.declared.shape.SpanOf.{SpanOf}
 use Rattle.tl_grid.specs.declared.shape.ShapeGroup.{ShapeGroup}
 
 -- the spans that a cell may have
 abbrev pub IsSpan : SpanOf → Type 0
-IsSpan span = (1 ≤ span.colspan) × (span.colspan ≤ 1000) × (span.rowspan ≤ 65534)
+IsSpan span = (1 ≤ span.colspan) × (span.colspan ≤ MAX_COLSPAN) × (span.rowspan ≤ MAX_ROWSPAN)
 
 -- each cell of the groups has such a span
 abbrev pub AllSpans : List ShapeGroup → Type 0

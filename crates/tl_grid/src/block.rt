@@ -1,5 +1,7 @@
-/// A cell in the grid before dropping: the slots in the columns `left..right` and from the row
-/// `top` on.
+//! A cell as a rectangle of slots.
+
+/// A cell in the grid before columns and rows are dropped: the slots in the columns `left..right`
+/// and from the row `top` on.
 #[derive(Debug, Drop, Clone, Copy)]
 pub struct Block {
     /// The cell's number as written, counted from 0.

@@ -1,9 +1,13 @@
-ghost use Rattle.std.specs.Prelude.{◌≡◌, ◌<◌, ◌≤◌, ◌^◌, ℕ, length, IfOk, IfErr, MatchResult, alloc_error, replicate, map};
+//! Drops the columns and rows in which no cell is anchored, and gives each cell its place.
+
+ghost use Rattle.std.specs.Prelude.{◌≡◌, ◌<◌, ◌≤◌, ◌^◌, ℕ, length, IfOk, IfErr, MatchResult};
+ghost use Rattle.std.specs.Prelude.{alloc_error, replicate, map};
 ghost use Rattle.std.specs.List.Sorted.{IsStrictlyIncreasing};
 ghost use Rattle.tl_grid.specs.declared.block.Block.{Block};
 ghost use Rattle.tl_grid.specs.declared.error.GridError.TheVariants.{Memory};
-ghost use Rattle.tl_grid.specs.Dropping.{is_among};
-ghost use Rattle.tl_grid.specs.inner.Places.{begins_in_column, begins_in_row, nowhere, place_in, put_places};
+ghost use Rattle.tl_base.specs.Lists.{is_among};
+ghost use Rattle.tl_grid.specs.inner.Places.{begins_in_column, begins_in_row, nowhere, place_in};
+ghost use Rattle.tl_grid.specs.inner.Places.{put_places};
 
 use crate::block::Block;
 use crate::error::GridError;

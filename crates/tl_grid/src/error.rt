@@ -1,16 +1,18 @@
+//! Why a table has no grid.
+
 ghost use Rattle.std.specs.Prelude.{◌≡◌, alloc_error};
 
 use std::alloc::{AllocError, AllocFailed};
 use thiserror::Error;
 
-/// Why a table has no grid. The causes are looked for in the order 1, 2, 3, 4, and the first that
-/// holds is the answer; want of memory may take the place of any.
+/// Why a table has no grid. The causes are numbered: of those that hold, that with the least number
+/// is returned, or 0, out of memory, in place of it.
 #[derive(Debug, Drop, Error)]
 pub enum GridError {
-    /// 0: there was not enough memory.
+    /// 0: memory ran out.
     #[error("out of memory")]
     Memory(AllocError),
-    /// 1: the table has this many cells, more than 20,000.
+    /// 1: the table has this many cells, more than [`tl_base::MAX_CELLS`].
     #[error("{0} cells in a table")]
     TooManyCells(u32),
     /// 2: two cells cover the slot in column `x` and row `y`, both counted from 0 before columns
@@ -25,10 +27,10 @@ pub enum GridError {
         x: u32,
         y: u32,
     },
-    /// 3: in this many columns a cell is anchored, more than 60.
+    /// 3: in this many columns a cell is anchored, more than [`tl_base::MAX_COLUMNS`].
     #[error("{0} columns in a table")]
     TooManyColumns(u32),
-    /// 4: in this many rows a cell is anchored, more than 2,000.
+    /// 4: in this many rows a cell is anchored, more than [`tl_base::MAX_ROWS`].
     #[error("{0} rows in a table")]
     TooManyRows(u32),
 }

@@ -1,6 +1,6 @@
 //! `form`: counts the cells, forms them, and drops the columns and rows without an anchor.
 
-ghost use Rattle.std.specs.Prelude.{◌≡◌, ◌<◌, ◌^◌, ◌⊎◌, ℕ, length, All, IfOk, IfErr, alloc_error};
+ghost use Rattle.std.specs.Prelude.{◌≡◌, ◌<◌, ◌^◌, ℕ, length, All, IfOk, IfErr, alloc_error};
 ghost use Rattle.std.specs.List.{AllPairs, AllByRecursion};
 ghost use Rattle.tl_grid.specs.declared.shape.Grid.{Grid};
 ghost use Rattle.tl_grid.specs.declared.error.GridError.{GridError};
@@ -8,23 +8,17 @@ ghost use Rattle.tl_grid.specs.declared.error.GridError.TheVariants.{Memory};
 ghost use Rattle.tl_grid.specs.Shapes.{AllSpans};
 ghost use Rattle.tl_grid.specs.Forming.{cell_count, row_count, cells_of, formed};
 ghost use Rattle.tl_grid.specs.Dropping.{IsPlaced};
-ghost use Rattle.tl_grid.specs.Slots.{AreApart, HasAnchorInColumn, HasAnchorInRow, IsFilledToLeft, KeepsSlots};
-ghost use Rattle.tl_grid.specs.Form.{HasGrid, IsRefused, ReturnsGrid, ReturnsError};
+ghost use Rattle.tl_grid.specs.Slots.{AreApart, HasAnchorInColumn, HasAnchorInRow, IsFilledToLeft};
+ghost use Rattle.tl_grid.specs.Slots.{KeepsSlots};
+ghost use Rattle.tl_grid.specs.Form.{HasGrid, IsRefused};
+ghost use Rattle.tl_base.specs.Returned.{ReturnsOk, ReturnsError, IsMemoryOr};
 
 use crate::dropping::{kept_columns, kept_rows, places_as_written};
 use crate::error::GridError;
 use crate::shape::{Grid, Shape, ShapeGroup};
 use crate::table::{count_cells, form_table};
 use std::alloc::Global;
-
-/// The most cells that a table may have.
-const MAX_CELLS: u32 = 20_000;
-
-/// The most columns that a table may have in which a cell is anchored.
-const MAX_COLUMNS: usize = 60;
-
-/// The most rows that a table may have in which a cell is anchored.
-const MAX_ROWS: usize = 2_000;
+use tl_base::{MAX_CELLS, MAX_COLUMNS, MAX_ROWS};
 
 /// How many cells the groups have.
 fn count_all(groups: &[ShapeGroup]) -> u32
@@ -45,12 +39,11 @@ fn first_result(alloc: Global, shape: &Shape) -> Result<Grid, GridError>
     requires rows { row_count shape.now < 2 ^ 20 }
     requires cells { cell_count shape.now < 2 ^ 32 }
     ensures ok { IfOk result (λ grid. HasGrid shape.now grid) }
-    ensures err { IfErr result (λ error.
-        (error ≡ Memory alloc_error) ⊎ IsRefused shape.now error) }
+    ensures err { IfErr result (IsMemoryOr (Memory alloc_error) (IsRefused shape.now)) }
 {
     let groups = shape.groups.as_slice();
     let count = count_all(groups);
-    if count > MAX_CELLS {
+    if count as usize > MAX_CELLS {
         return Err(GridError::TooManyCells(count));
     }
     let table = form_table(alloc, groups)?;
@@ -73,8 +66,9 @@ fn first_result(alloc: Global, shape: &Shape) -> Result<Grid, GridError>
 
 /// Forms the grid of a table (HTML Standard, "Forming a table") and drops the columns and rows in
 /// which no cell is anchored. A `tfoot` is formed last; a cell of rowspan 0 grows to the end of its
-/// row group; two cells over one slot are refused. No slot is made: the time goes with the numbers
-/// of cells and rows, and not with spans.
+/// row group; two cells over one slot are refused. No slot is made: the time does not depend on how
+/// many slots a cell covers. A row without cells takes one step, and any other walks the cells from
+/// rows above that it meets on the way to its own.
 pub fn form(alloc: Global, shape: &Shape) -> Result<Grid, GridError>
     requires spans { AllSpans shape.now.groups }
     requires columns { shape.now.columns < 2 ^ 30 }
@@ -94,11 +88,12 @@ pub fn form(alloc: Global, shape: &Shape) -> Result<Grid, GridError>
     // The kept slots of a cell are exactly those of its place.
     ensures kept { IfOk result (λ grid.
         AllByRecursion (KeepsSlots (formed shape.now)) (formed shape.now).cells) }
-    ensures err { IfErr result (λ error.
-        (error ≡ Memory alloc_error) ⊎ IsRefused shape.now error) }
+    ensures err { IfErr result (IsMemoryOr (Memory alloc_error) (IsRefused shape.now)) }
     // The grid and the causes exclude one another: each is the only result.
-    ensures each_ok { (grid : Grid) → HasGrid shape.now grid → ReturnsGrid grid result }
-    ensures each_err { (error : GridError) → IsRefused shape.now error → ReturnsError error result }
+    ensures each_ok { (grid : Grid) → HasGrid shape.now grid
+        → ReturnsOk (Memory alloc_error) grid result }
+    ensures each_err { (error : GridError) → IsRefused shape.now error
+        → ReturnsError (Memory alloc_error) error result }
 {
     first_result(alloc, shape)
 }

@@ -1,17 +1,20 @@
+//! One row group: its rows in order.
+
 ghost use Rattle.std.specs.Prelude.{◌≡◌, ◌+◌, ◌*◌, ◌<◌, ◌≤◌, ◌^◌, IfOk, length, Ok};
 ghost use Rattle.std.specs.List.{AllByRecursion};
 ghost use Rattle.tl_grid.specs.Forming.{cells_in};
-ghost use Rattle.tl_grid.specs.inner.Walk.{place_cells, row_of, after_row, then_ok, group_at, place_rows};
+ghost use Rattle.tl_grid.specs.inner.Walk.{place_cells, row_of, after_row, then_ok, group_at};
+ghost use Rattle.tl_grid.specs.inner.Walk.{place_rows};
 ghost use Rattle.tl_grid.specs.Shapes.{IsSpan};
-ghost use Rattle.tl_grid.specs.inner.States.{IsWalked, EndsBy};
+ghost use Rattle.tl_grid.specs.inner.States.{IsWalked, EndsBy, group_over};
 
 use crate::block::Block;
 use crate::error::GridError;
 use crate::open_blocks::OpenBlocks;
-use crate::row::{Cursor, RowState, form_cell};
+use crate::row::{RowState, form_cell};
 use crate::shape::SpanOf;
 use std::alloc::Global;
-use tl_base::List;
+use tl_base::{List, MAX_CELLS, MAX_COLSPAN, MAX_ROWSPAN};
 
 /// A row group between two rows.
 #[derive(Drop)]
@@ -22,41 +25,50 @@ pub struct Group {
     pub height: u32,
     /// The blocks of the group's cells, in the order in which they were formed.
     pub blocks: List<Block>,
-    /// Those that may take rows to come, from left to right.
+    /// The open ones.
     pub open_blocks: OpenBlocks,
 }
 
-/// Forms the next row of a group; `number` is that of its first cell.
+/// Forms the next row of a group; `number` is that of its first cell. A row without cells looks at
+/// no block.
 fn form_row(mut number: u32, spans: &[SpanOf], group: Group) -> Result<Group, GridError>
     requires spans { AllByRecursion IsSpan spans.now }
-    requires number { number + length spans.now ≤ 20000 }
+    requires number { number + length spans.now ≤ MAX_CELLS }
     requires low { group.row ≤ group.height }
-    requires room { group.height + 65534 < 2 ^ 32 }
-    requires columns { AllByRecursion (EndsBy (1000 * number)) group.open_blocks }
-    ensures row { IsWalked (λ after. after)
+    requires room { group.height + MAX_ROWSPAN < 2 ^ 32 }
+    requires columns { AllByRecursion (EndsBy (MAX_COLSPAN * number)) (group_over group).open_blocks }
+    ensures row { IsWalked group_over
         (then_ok (λ row. Ok (after_row group.row row))
-        (place_cells group.row number (row_of group) spans.now))
+        (place_cells group.row number (row_of (group_over group)) spans.now))
         result }
     ensures columns { IfOk result (λ after.
-        AllByRecursion (EndsBy (1000 * (number + length spans.now))) after.open_blocks) }
+        AllByRecursion (EndsBy (MAX_COLSPAN * (number + length spans.now)))
+        (group_over after).open_blocks) }
     ensures count { IfOk result (λ after.
         length after.blocks ≡ length group.blocks + length spans.now) }
     ensures low { IfOk result (λ after. after.row ≤ after.height) }
     ensures height { IfOk result (λ after.
-        after.height ≤ group.height + 65534 * length spans.now + 1) }
+        after.height ≤ group.height + MAX_ROWSPAN * length spans.now + 1) }
 {
     let Group {
         row,
         height,
         blocks,
-        mut open_blocks,
-    } = group;
-    open_blocks.leave_ended(row);
-    let mut state = RowState {
-        cursor: Cursor { column: 0, at: 0 },
-        height: height.max(row + 1),
-        blocks,
         open_blocks,
+    } = group;
+    let height = height.max(row + 1);
+    if spans.is_empty() {
+        return Ok(Group {
+            row: row + 1,
+            height,
+            blocks,
+            open_blocks,
+        });
+    }
+    let mut state = RowState {
+        height,
+        blocks,
+        open_blocks: open_blocks.begin_row(row)?,
     };
     for span in spans {
         state = form_cell(row, number, *span, state)?;
@@ -78,12 +90,12 @@ pub fn form_group(
     row: u32,
 ) -> Result<Group, GridError>
     requires spans { AllByRecursion (AllByRecursion IsSpan) rows.now }
-    requires number { number + cells_in rows.now ≤ 20000 }
-    requires room { row + 65534 * cells_in rows.now + length rows.now + 65534 < 2 ^ 32 }
-    ensures rows { IsWalked (λ after. after) (place_rows number (group_at row) rows.now) result }
+    requires number { number + cells_in rows.now ≤ MAX_CELLS }
+    requires room { row + MAX_ROWSPAN * cells_in rows.now + length rows.now + MAX_ROWSPAN < 2 ^ 32 }
+    ensures rows { IsWalked group_over (place_rows number (group_at row) rows.now) result }
     ensures count { IfOk result (λ after. length after.blocks ≡ cells_in rows.now) }
     ensures height { IfOk result (λ after.
-        after.height ≤ row + 65534 * cells_in rows.now + length rows.now) }
+        after.height ≤ row + MAX_ROWSPAN * cells_in rows.now + length rows.now) }
 {
     let mut group = Group {
         row,

@@ -1,11 +1,14 @@
+//! What is given of a table, its *shape*, and the dropped grid that is formed of it.
+
 use tl_base::List;
 
 /// How many columns and rows a cell takes, as its attributes `colspan` and `rowspan` say.
 #[derive(Debug, Drop, Clone, Copy)]
 pub struct SpanOf {
-    /// 1 to 1000 columns.
+    /// 1 to [`tl_base::MAX_COLSPAN`] columns.
     pub colspan: u32,
-    /// 1 to 65534 rows, or 0 for a cell that grows downward to the end of its row group.
+    /// 1 to [`tl_base::MAX_ROWSPAN`] rows, or 0 for a cell that grows downward to the end of its row
+    /// group.
     pub rowspan: u32,
 }
 

@@ -1,17 +1,19 @@
-ghost use Rattle.std.specs.Prelude.{◌≡◌, ◌+◌, ◌*◌, ◌<◌, ◌≤◌, ◌^◌, IfOk, MatchResult, alloc_error, length, not};
-ghost use Rattle.std.specs.List.{AllByRecursion, sum_by};
+//! A whole table: its row groups in order, the footers last.
+
+ghost use Rattle.std.specs.Prelude.{◌≡◌, ◌+◌, ◌*◌, ◌<◌, ◌≤◌, ◌^◌, IfOk, MatchResult, alloc_error};
+ghost use Rattle.std.specs.Prelude.{length, not};
 ghost use Rattle.tl_grid.specs.declared.error.GridError.TheVariants.{Memory};
 ghost use Rattle.tl_grid.specs.Forming.{cells_in, cells_of, rows_of};
 ghost use Rattle.tl_grid.specs.inner.Walk.{after_group, has_turn, place_groups, place_all};
-ghost use Rattle.tl_grid.specs.Shapes.{IsSpan, AllSpans};
-ghost use Rattle.tl_grid.specs.inner.States.{IsWalked};
+ghost use Rattle.tl_grid.specs.Shapes.{AllSpans};
+ghost use Rattle.tl_grid.specs.inner.States.{IsWalked, group_over};
 
 use crate::block::Block;
 use crate::error::GridError;
 use crate::group::{Group, form_group};
 use crate::shape::{ShapeGroup, SpanOf};
 use std::alloc::Global;
-use tl_base::List;
+use tl_base::{List, MAX_CELLS, MAX_ROWSPAN};
 
 /// A table between two row groups.
 #[derive(Drop)]
@@ -37,7 +39,7 @@ pub fn count_cells(rows: &[List<SpanOf>]) -> u32
 /// Ends a row group: the next row is below the table's height, to which growing cells reach.
 fn end_group(mut table: Table, group: Group) -> Result<Table, GridError>
     ensures { MatchResult result
-        (λ after. after ≡ after_group table group)
+        (λ after. after ≡ after_group table (group_over group))
         (λ e. e ≡ Memory alloc_error) }
 {
     for block in group.blocks.as_slice() {
@@ -56,35 +58,36 @@ fn end_group(mut table: Table, group: Group) -> Result<Table, GridError>
     Ok(table)
 }
 
-/// Whether a group is formed with the feet, or with the others.
-fn is_formed(feet: bool, group: &ShapeGroup) -> bool
-    ensures { result ≡ has_turn feet group.now }
+/// Whether a group is formed with the footers, or with the others.
+fn is_formed(footers: bool, group: &ShapeGroup) -> bool
+    ensures { result ≡ has_turn footers group.now }
 {
-    group.foot == feet
+    group.foot == footers
 }
 
-/// Forms the groups that are feet, or those that are not, in order.
+/// Forms the groups that are footers, or those that are not, in order.
 fn form_groups(
     alloc: Global,
-    feet: bool,
+    footers: bool,
     groups: &[ShapeGroup],
     mut table: Table,
 ) -> Result<Table, GridError>
     requires spans { AllSpans groups.now }
-    requires cells { cells_of groups.now ≤ 20000 }
-    requires room { table.row + 65534 * cells_of groups.now + rows_of groups.now + 65534 < 2 ^ 32 }
+    requires cells { cells_of groups.now ≤ MAX_CELLS }
+    requires room { table.row + MAX_ROWSPAN * cells_of groups.now + rows_of groups.now + MAX_ROWSPAN
+        < 2 ^ 32 }
     ensures groups { IsWalked (λ after. after)
-        (place_groups (has_turn feet) 0 table groups.now)
+        (place_groups (has_turn footers) 0 table groups.now)
         result }
     ensures count { IfOk result (λ after.
         length after.blocks ≤ length table.blocks + cells_of groups.now) }
     ensures row { IfOk result (λ after.
-        after.row ≤ table.row + 65534 * cells_of groups.now + rows_of groups.now) }
+        after.row ≤ table.row + MAX_ROWSPAN * cells_of groups.now + rows_of groups.now) }
 {
     let mut number = 0;
     for group in groups {
         let rows = group.rows.as_slice();
-        if is_formed(feet, group) {
+        if is_formed(footers, group) {
             let formed = form_group(alloc, number, rows, table.row)?;
             table = end_group(table, formed)?;
         }
@@ -93,10 +96,10 @@ fn form_groups(
     Ok(table)
 }
 
-/// Forms all groups, the feet last.
+/// Forms all groups, the footers last.
 pub fn form_table(alloc: Global, groups: &[ShapeGroup]) -> Result<Table, GridError>
     requires spans { AllSpans groups.now }
-    requires cells { cells_of groups.now ≤ 20000 }
+    requires cells { cells_of groups.now ≤ MAX_CELLS }
     requires rows { rows_of groups.now < 2 ^ 20 }
     ensures table { IsWalked (λ table. table) (place_all groups.now) result }
     ensures count { IfOk result (λ table. length table.blocks ≤ 2 * cells_of groups.now) }

@@ -1,4 +1,6 @@
-ghost use Rattle.std.specs.Prelude.{◌≡◌, ◌+◌, ◌<◌, ◌≤◌, ◌^◌, ℕ, IsTrue, IfSome, length};
+//! Tables with their grids drawn by hand, the message of each error, and tables at the limits.
+
+ghost use Rattle.std.specs.Prelude.{◌≡◌, ◌+◌, ◌<◌, ◌≤◌, IsTrue, IfSome};
 ghost use Rattle.std.specs.List.{AllByRecursion};
 ghost use Rattle.tl_grid.specs.Shapes.{IsSpan, AllSpans};
 ghost use Rattle.tl_grid.specs.Forming.{cells_in, cells_of, rows_of};
@@ -89,7 +91,7 @@ fn digit(byte: Option<&u8>, low: u32) -> u32
 }
 
 /// Reads a table: `|` stands between row groups, `/` between rows and a blank between cells; a
-/// group of which the text begins with `f` is a foot; a cell is the digits of its colspan and its
+/// group of which the text begins with `f` is a footer; a cell is the digits of its colspan and its
 /// rowspan.
 fn read(alloc: Global, text: &str) -> Result<Shape, AllocError> {
     let mut groups = List::new(alloc);
@@ -173,7 +175,7 @@ fn tables_have_their_grids(rt: HostRuntime) -> Result<(), Fail> {
         ("10 12|11", "AB/C."),
         // a rowspan that goes past the last row of its group keeps the next group below it
         ("15 11|11 11", "AB/CD"),
-        // a foot goes to the end
+        // a footer goes to the end
         ("f11|11/11", "B/C/A"),
         ("f11|13", "B/A"),
         ("f12 11/11|11|f11 11|11", "D./G./AB/AC/EF"),
@@ -188,51 +190,42 @@ fn tables_have_their_grids(rt: HostRuntime) -> Result<(), Fail> {
     Ok(())
 }
 
-/// One group of `rows` rows with `cells` cells each.
-fn many_cells(alloc: Global, rows: u32, cells: u32, span: SpanOf) -> Result<Shape, AllocError> {
+/// One group: for each part so many rows, of so many cells with that span each.
+fn group_of_parts(alloc: Global, parts: &[(u32, u32, SpanOf)]) -> Result<Shape, AllocError> {
     let mut all = List::new(alloc);
-    for _ in 0..rows {
-        let mut spans = List::new(alloc);
-        for _ in 0..cells {
-            spans.push(span)?;
+    for &(rows, cells, span) in parts {
+        for _ in 0..rows {
+            let mut spans = List::new(alloc);
+            for _ in 0..cells {
+                spans.push(span)?;
+            }
+            all.push(spans)?;
         }
-        all.push(spans)?;
     }
     let mut groups = List::new(alloc);
     groups.push(ShapeGroup {
         foot: false,
         rows: all,
     })?;
-    Ok(Shape { columns: 0, groups })
+    Ok(Shape { columns: 7, groups })
 }
 
-/// What a refusal carries: its number, and then its fields.
-fn numbers_of(error: &GridError) -> (u32, u32, u32, u32, u32) {
-    match error {
-        GridError::Memory(_) => (0, 0, 0, 0, 0),
-        GridError::TooManyCells(count) => (1, *count, 0, 0, 0),
-        GridError::Overlap {
-            first,
-            second,
-            x,
-            y,
-        } => (2, *first, *second, *x, *y),
-        GridError::TooManyColumns(count) => (3, *count, 0, 0, 0),
-        GridError::TooManyRows(count) => (4, *count, 0, 0, 0),
-    }
-}
-
-/// The answer for a table: (9, columns, rows, cells, 0) for a grid, or what the refusal carries.
-fn answer(alloc: Global, shape: &Shape) -> Option<(u32, u32, u32, u32, u32)> {
-    if !are_groups(shape.groups.as_slice()) || !are_few(shape.groups.as_slice()) {
-        return None;
-    }
-    if shape.columns > 1_000_000_000 {
-        return None;
+/// What `form` returns for a table, in words: the size of its grid or the message of the error.
+fn outcome(alloc: Global, shape: &Shape) -> Result<String, AllocError> {
+    if !are_groups(shape.groups.as_slice())
+        || !are_few(shape.groups.as_slice())
+        || shape.columns > 1_000_000_000
+    {
+        return String::from_str(alloc, "not a shape that form takes");
     }
     match form(alloc, shape) {
-        Ok(grid) => Some((9, grid.cols, grid.rows, grid.places.len() as u32, 0)),
-        Err(error) => Some(numbers_of(&error)),
+        Ok(grid) => format!(in alloc;
+            "{} by {}, {} cells",
+            grid.cols,
+            grid.rows,
+            grid.places.len()
+        ),
+        Err(error) => format!(in alloc; "{error}"),
     }
 }
 
@@ -311,93 +304,92 @@ fn the_first_overlap_is_named(rt: HostRuntime) -> Result<(), Fail> {
     for (table, wanted) in [
         // A B
         // C *   with B above the second column of C
-        ("11 12/21", (2, 1, 2, 1, 1)),
+        ("11 12/21", "cells 1 and 2 overlap at row 1 column 1"),
         // of two overlapped slots the left one, and of two rows the upper one
-        ("11 12 12/31", (2, 1, 3, 1, 1)),
-        ("11 13/22/11", (2, 1, 2, 1, 1)),
+        ("11 12 12/31", "cells 1 and 3 overlap at row 1 column 1"),
+        ("11 13/22/11", "cells 1 and 2 overlap at row 1 column 1"),
         // a growing cell
-        ("11 10/21", (2, 1, 2, 1, 1)),
-        // cells are numbered as written, rows as formed: the foot's rows come last
-        ("f21|11 12", (9, 2, 2, 3, 0)),
-        ("f11 12/21|11", (2, 1, 2, 1, 2)),
+        ("11 10/21", "cells 1 and 2 overlap at row 1 column 1"),
+        // cells are numbered as written, rows as formed: the footer's rows come last
+        ("f21|11 12", "2 by 2, 3 cells"),
+        ("f11 12/21|11", "cells 1 and 2 overlap at row 2 column 1"),
         // a slot that dropping would leave out
-        ("41/11 12/31", (2, 2, 3, 1, 2)),
+        ("41/11 12/31", "cells 2 and 3 overlap at row 2 column 1"),
     ] {
         let shape = read(rt.alloc(), table)?;
-        assert_eq!(rt; answer(rt.alloc(), &shape), Some(wanted), "{table}");
+        let found = outcome(rt.alloc(), &shape)?;
+        assert_eq!(rt; found.as_str(), wanted, "{table}");
     }
     Ok(())
 }
+
+/// What `form` returns for one group of such rows, in words.
+fn outcome_of(alloc: Global, parts: &[(u32, u32, SpanOf)]) -> Result<String, AllocError> {
+    let shape = group_of_parts(alloc, parts)?;
+    outcome(alloc, &shape)
+}
+
+const ONE: SpanOf = SpanOf {
+    colspan: 1,
+    rowspan: 1,
+};
 
 #[test]
 fn limits_are_refused_one_past_their_ends(rt: HostRuntime) -> Result<(), Fail> {
-    let one = SpanOf {
-        colspan: 1,
-        rowspan: 1,
-    };
-    for (rows, cells, span, wanted) in [
-        (1, 60, one, (9, 60, 1, 60, 0)),
-        (1, 61, one, (3, 61, 0, 0, 0)),
-        (2000, 1, one, (9, 1, 2000, 2000, 0)),
-        (2001, 1, one, (4, 2001, 0, 0, 0)),
-        (400, 50, one, (9, 50, 400, 20000, 0)),
-        (1, 20001, one, (1, 20001, 0, 0, 0)),
-        (20001, 1, one, (1, 20001, 0, 0, 0)),
-        (3000, 5, one, (4, 3000, 0, 0, 0)),
+    for (parts, wanted) in [
+        (
+            [(1, 60, ONE), (1999, 9, ONE)].as_slice(),
+            "60 by 2000, 18051 cells",
+        ),
+        ([(1, 61, ONE)].as_slice(), "61 columns in a table"),
+        ([(2001, 1, ONE)].as_slice(), "2001 rows in a table"),
+        ([(400, 50, ONE)].as_slice(), "50 by 400, 20000 cells"),
+        ([(1, 20001, ONE)].as_slice(), "20001 cells in a table"),
+        ([(3000, 5, ONE)].as_slice(), "3000 rows in a table"),
     ] {
-        let shape = many_cells(rt.alloc(), rows, cells, span)?;
-        assert_eq!(rt;
-            answer(rt.alloc(), &shape),
-            Some(wanted),
-            "{rows} rows of {cells}"
-        );
+        let found = outcome_of(rt.alloc(), parts)?;
+        assert_eq!(rt; found.as_str(), wanted);
     }
     Ok(())
 }
 
-// Built without optimization the third table takes a minute, since its rows pass 200 million blocks.
 #[test]
-fn large_spans_take_no_longer(rt: HostRuntime) -> Result<(), Fail> {
-    let wide = SpanOf {
-        colspan: 1000,
-        rowspan: 1,
+fn out_of_memory_is_printed(rt: HostRuntime) -> Result<(), Fail> {
+    let printed = format!(in rt.alloc(); "{}", GridError::Memory(AllocError))?;
+    assert_eq!(rt; printed.as_str(), "out of memory");
+    Ok(())
+}
+
+#[test]
+fn growing_cells_above_many_empty_rows(rt: HostRuntime) -> Result<(), Fail> {
+    let growing = SpanOf {
+        colspan: 1,
+        rowspan: 0,
     };
-    let deep = SpanOf {
+    let found = outcome_of(rt.alloc(), &[(1, 20000, growing), (192_000, 0, ONE)])?;
+    assert_eq!(rt; found.as_str(), "20000 columns in a table");
+    Ok(())
+}
+
+#[test]
+fn long_cells_one_under_the_other(rt: HostRuntime) -> Result<(), Fail> {
+    let long = SpanOf {
         colspan: 1000,
         rowspan: 65534,
     };
-    for (rows, cells, span, wanted) in [
-        (1, 20000, wide, (3, 20000, 0, 0, 0)),
-        (1, 20000, deep, (3, 20000, 0, 0, 0)),
-        (20000, 1, deep, (3, 20000, 0, 0, 0)),
-        (141, 141, deep, (3, 19881, 0, 0, 0)),
-    ] {
-        let shape = many_cells(rt.alloc(), rows, cells, span)?;
-        assert_eq!(rt;
-            answer(rt.alloc(), &shape),
-            Some(wanted),
-            "{rows} rows of {cells}"
-        );
-    }
+    let found = outcome_of(rt.alloc(), &[(20000, 1, long)])?;
+    assert_eq!(rt; found.as_str(), "20000 columns in a table");
     Ok(())
 }
 
 #[test]
-fn a_cell_grows_over_many_empty_rows(rt: HostRuntime) -> Result<(), Fail> {
-    let mut rows = List::new(rt.alloc());
-    let mut first = List::new(rt.alloc());
-    first.push(SpanOf {
+fn long_cells_in_a_square(rt: HostRuntime) -> Result<(), Fail> {
+    let long = SpanOf {
         colspan: 1000,
-        rowspan: 0,
-    })?;
-    rows.push(first)?;
-    for _ in 0..100_000 {
-        rows.push(List::new(rt.alloc()))?;
-    }
-    let mut groups = List::new(rt.alloc());
-    groups.push(ShapeGroup { foot: false, rows })?;
-    let shape = Shape { columns: 7, groups };
-    assert_eq!(rt; answer(rt.alloc(), &shape), Some((9, 1, 1, 1, 0)));
+        rowspan: 65534,
+    };
+    let found = outcome_of(rt.alloc(), &[(141, 141, long)])?;
+    assert_eq!(rt; found.as_str(), "19881 columns in a table");
     Ok(())
 }
 

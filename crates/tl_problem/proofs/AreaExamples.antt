@@ -50,13 +50,15 @@ area-least w h some is =
 
 first_area : IsLeastArea side_by_side (WithinPage side_by_side) first 5
 first_area = record {
-  attained = (3, 1, record { no_more = (1 ∷ 1 ∷ [], fits 1 1 (omega arith) (omega arith) (omega arith), omega arith); no_less = (3 ∷ 1 ∷ [], fits 3 1 (omega arith) (omega arith) (omega arith), omega arith) }, refl, refl);
+  attained = (3, 1, record { no_more = (1 ∷ 1 ∷ [], fits 1 1 (omega arith) (omega arith) (omega arith), omega arith); no_less =
+      (3 ∷ 1 ∷ [], fits 3 1 (omega arith) (omega arith) (omega arith), omega arith) }, refl, refl);
   never_less = λ w h between is. let wide = between.no_more.1.cells 0 first (omega arith) in area-least w h (omega (arith, wide, between.no_more.2)) is;
 }
 
 second_area : IsLeastArea side_by_side (WithinPage side_by_side) second 5
 second_area = record {
-  attained = (3, 1, record { no_more = (1 ∷ 1 ∷ [], fits 1 1 (omega arith) (omega arith) (omega arith), omega arith); no_less = (1 ∷ 3 ∷ [], fits 1 3 (omega arith) (omega arith) (omega arith), omega arith) }, refl, refl);
+  attained = (3, 1, record { no_more = (1 ∷ 1 ∷ [], fits 1 1 (omega arith) (omega arith) (omega arith), omega arith); no_less =
+      (1 ∷ 3 ∷ [], fits 1 3 (omega arith) (omega arith) (omega arith), omega arith) }, refl, refl);
   never_less = λ w h between is. let wide = between.no_more.1.cells 1 first (omega arith) in area-least w h (omega (arith, wide, between.no_more.2)) is;
 }
 
@@ -70,7 +72,8 @@ two_lines = record {
       areas = 5 ∷ 5 ∷ [];
       end = 9;
       least = (first_area, (second_area, tt));
-      greatest = record { attained = (1 ∷ 4 ∷ [], fits 1 4 (omega arith) (omega arith) (omega arith), refl); never_more = λ widths is. ends widths is.columns is.page };
+      greatest = record { attained = (1 ∷ 4 ∷ [], fits 1 4 (omega arith) (omega arith) (omega arith), refl); never_more =
+          λ widths is. ends widths is.columns is.page };
       rounded = record { enough = omega arith; least = λ other enough. omega arith };
     },
     refl,

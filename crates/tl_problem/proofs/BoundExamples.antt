@@ -19,7 +19,8 @@ use Rattle.tl_problem.proofs.Examples.{step, cell, wide, problem, within}
 pub falling : AreSteps wide.low
 falling = record {
   has_step = omega arith;
-  falling = AllPairs-cons Falls (step 4 3) (step 7 2 ∷ step 12 1 ∷ []) (All-from_recursion (Falls (step 4 3)) (step 7 2 ∷ step 12 1 ∷ []) ((omega arith, omega arith), ((omega arith, omega arith), tt)))
+  falling = AllPairs-cons Falls (step 4 3) (step 7 2 ∷ step 12 1 ∷ [])
+      (All-from_recursion (Falls (step 4 3)) (step 7 2 ∷ step 12 1 ∷ []) ((omega arith, omega arith), ((omega arith, omega arith), tt)))
       (AllPairs-cons Falls (step 7 2) (step 12 1 ∷ []) (All-from_recursion (Falls (step 7 2)) (step 12 1 ∷ []) ((omega arith, omega arith), tt))
       (AllPairs-cons Falls (step 12 1) [] (All-from_recursion (Falls (step 12 1)) [] tt) (AllPairs-none Falls)));
 } where
@@ -62,7 +63,8 @@ module _ (zone : List Range) (most need : ℕ) (some : 5 ≤ most) (is : height_
   first_room = record { attained = ((most - 4) ∷ 2 ∷ [], fill (most - 4) 2 (omega arith) (omega arith) (omega arith), omega arith); never_more = first_at_most }
 
   second_room : IsGreatestRoom problem (InZone problem zone) 1 2 (most - 3)
-  second_room = record { attained = (1 ∷ (most - 3) ∷ [], fill 1 (most - 3) (omega arith) (omega arith) (omega arith), omega arith); never_more = second_at_most }
+  second_room = record { attained = (1 ∷ (most - 3) ∷ [], fill 1 (most - 3) (omega arith) (omega arith) (omega arith), omega arith); never_more =
+      second_at_most }
 
   -- the wide cell as high as it needs, and one line below it
   pub bound : IsBound problem (InZone problem zone) (need + 1)
@@ -81,7 +83,8 @@ module _ (zone : List Range) (most need : ℕ) (some : 5 ≤ most) (is : height_
     tall : Given wide
     tall w greatest =
         let more = greatest.never_more (1 ∷ (most - 3) ∷ []) (fill 1 (most - 3) (omega arith) (omega arith) (omega arith)) in
-        IsLowAt-wider wide.low falling (cell_height problem (need ∷ 1 ∷ []) wide) most w (omega (arith, more)) (subst (λ o. IsSomeAnd o (λ height. height ≤ cell_height problem (need ∷ 1 ∷ []) wide)) (sym is) (omega arith))
+        IsLowAt-wider wide.low falling (cell_height problem (need ∷ 1 ∷ []) wide) most w (omega (arith, more))
+            (subst (λ o. IsSomeAnd o (λ height. height ≤ cell_height problem (need ∷ 1 ∷ []) wide)) (sym is) (omega arith))
 
     short_first : Given (cell 0 1 1 2 (step 1 1 ∷ []))
     short_first w greatest =
@@ -96,7 +99,8 @@ module _ (zone : List Range) (most need : ℕ) (some : 5 ≤ most) (is : height_
     line : (heights : List ℕ) (w : ℕ) → 1 ≤ w → IsLowAt (step 1 1 ∷ []) (room 0 heights 1 2) w → 1 ≤ room 0 heights 1 2
     line heights w enough low = rw (test_le 1 w enough) at low
 
-    two_rows : (heights : List ℕ) → length heights ≡ 2 → need ≤ cell_height problem heights (cell 0 2 0 1 []) → 1 ≤ room 0 heights 1 2 → need + 1 ≤ total 0 0 heights
+    two_rows : (heights : List ℕ) → length heights ≡ 2 → need ≤ cell_height problem heights (cell 0 2 0 1 []) → 1 ≤ room 0 heights 1 2 →
+        need + 1 ≤ total 0 0 heights
     two_rows [] rows tall short = absurd (omega arith)
     two_rows (first ∷ []) rows tall short = absurd (omega arith)
     two_rows (first ∷ second ∷ []) rows tall short = omega arith
@@ -104,7 +108,8 @@ module _ (zone : List Range) (most need : ℕ) (some : 5 ≤ most) (is : height_
 
 -- each span of the problem has a width of its range's classes where the wide cell has one
 module _ (zone : List Range) (widths : List ℕ) where
-  ranges-from : IsWidthOf problem zone 0 (span_width problem widths 0) → IsWidthOf problem zone 1 (span_width problem widths 1) → IsWidthOf problem zone 2 (span_width problem widths 2) → length zone ≡ 3 →
+  ranges-from : IsWidthOf problem zone 0 (span_width problem widths 0) → IsWidthOf problem zone 1 (span_width problem widths 1) →
+      IsWidthOf problem zone 2 (span_width problem widths 2) → length zone ≡ 3 →
       (s : ℕ) → s < length zone → IsWidthOf problem zone s (span_width problem widths s)
   ranges-from first both second three zero inside = first
   ranges-from first both second three (suc zero) inside = both
@@ -130,7 +135,8 @@ in_narrow : (first second : ℕ) → 1 ≤ first → 2 ≤ second → first + se
 unfolding spans_of classes_of
 in_narrow first second some more page = record {
   page = within first second some more (omega arith);
-  ranges = ranges-from (lower_part (whole_zone problem) 1 0) (first ∷ second ∷ []) (omega arith, omega arith) (omega arith, omega arith) (omega arith, omega arith) refl;
+  ranges = ranges-from (lower_part (whole_zone problem) 1 0) (first ∷ second ∷ []) (omega arith, omega arith) (omega arith,
+      omega arith) (omega arith, omega arith) refl;
 }
 
 narrow_at_most : (widths : List ℕ) → InZone problem (lower_part (whole_zone problem) 1 0) widths → room 2 widths 0 2 ≤ 6

@@ -74,7 +74,8 @@ two_vectors = refl
 
 -- 32 columns of four classes each have 2 ^ 64 vectors: the count stops one before
 abbrev many : ProblemModel
-many = record { cols = 32; rows = 1; style = Plain; width = 190; cells = map (λ column. cell column (column + 1) 0 1 (step 1 4 ∷ step 2 3 ∷ step 3 2 ∷ step 4 1 ∷ [])) (range_with_len 0 32) }
+many = record { cols = 32; rows = 1; style = Plain; width = 190; cells =
+    map (λ column. cell column (column + 1) 0 1 (step 1 4 ∷ step 2 3 ∷ step 3 2 ∷ step 4 1 ∷ [])) (range_with_len 0 32) }
 
 count_stops : count_of many ≡ 2 ^ 64 - 1
 unfolding spans_of classes_of
@@ -98,5 +99,6 @@ pub within : (first second : ℕ) → 1 ≤ first → 2 ≤ second → first + s
 within first second some more page = record {
   columns = refl;
   page = omega arith;
-  cells = All-from_recursion (λ c. first_width c.low ≤ cell_width problem (first ∷ second ∷ []) c) problem.cells (omega arith, (omega arith, (omega arith, tt)));
+  cells = All-from_recursion (λ c. first_width c.low ≤ cell_width problem (first ∷ second ∷ []) c) problem.cells (omega arith,
+      (omega arith, (omega arith, tt)));
 }

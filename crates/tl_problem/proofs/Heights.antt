@@ -57,12 +57,14 @@ tail_pairs R x xs all = λ i j d before within. all (suc i) (suc j) d (omega ari
 head_pairs : {X : Type 0} (R : X → X → Type 0) (x : X) (xs : List X) → AllPairs R (x ∷ xs) → All (R x) xs
 head_pairs R x xs all = λ k d within. all 0 (suc k) d (omega arith) (omega arith)
 
-wider_low : (h w v : ℕ) → w ≤ v → (o : Option Config) (steps : List Config) → AllPairs (λ a b. (a.width < b.width) × (b.height < a.height)) steps → All (NoHigher o) steps →
+wider_low : (h w v : ℕ) → w ≤ v → (o : Option Config) (steps : List Config) → AllPairs (λ a b. (a.width < b.width) × (b.height < a.height)) steps →
+    All (NoHigher o) steps →
     Low h (last_or o (filter (λ step. nat_le step.width w) steps)) → Low h (last_or o (filter (λ step. nat_le step.width v) steps))
 wider_low h w v more o [] falling no_higher low = low
 wider_low h w v more o (step ∷ steps) falling no_higher low =
     let later = tail_pairs (λ a b. (a.width < b.width) × (b.height < a.height)) step steps falling in
-    let lower : All (NoHigher (Some step)) steps = λ k d within. λ bound here. let fall = head_pairs (λ a b. (a.width < b.width) × (b.height < a.height)) step steps falling k d within in omega (arith, fall.1, here) in
+    let lower : All (NoHigher (Some step)) steps = λ k d within. λ bound here. let fall =
+        head_pairs (λ a b. (a.width < b.width) × (b.height < a.height)) step steps falling k d within in omega (arith, fall.1, here) in
     let rest : All (NoHigher o) steps = λ k d within. no_higher (suc k) d (omega arith) in
     elim (cases_lt w step.width) [
       | inr narrow ↦
@@ -76,7 +78,8 @@ wider_low h w v more o (step ∷ steps) falling no_higher low =
             | inl wider ↦ let second = test_le_false step.width v wider in rw second (wider_low h w v more o steps later rest below)
             | inr enough ↦
                 let second = test_le step.width v enough in
-                rw second (wider_low h w v more (Some step) steps later lower (last-low h o (Some step) (filter (λ s. nat_le s.width w) steps) (λ here. no_higher 0 step (omega arith) h here) below))
+                rw second (wider_low h w v more (Some step) steps later lower
+                    (last-low h o (Some step) (filter (λ s. nat_le s.width w) steps) (λ here. no_higher 0 step (omega arith) h here) below))
           ]
     ]
 
@@ -107,7 +110,8 @@ same_filter p q (x ∷ xs) agree =
 -- no step begins after the one width up to the other
 pub height-same : (steps : List Config) (w v : ℕ) → w ≤ v → All (λ step. w < step.width → step.width ≤ v → ⊥) steps → height_at steps w ≡ height_at steps v
 height-same steps w v more none =
-    ap (λ narrow. option_map (λ step. step.height) (last_or None narrow)) (same_filter (λ step. nat_le step.width w) (λ step. nat_le step.width v) steps agree) where
+    ap (λ narrow. option_map (λ step. step.height) (last_or None narrow))
+        (same_filter (λ step. nat_le step.width w) (λ step. nat_le step.width v) steps agree) where
       agree : All (λ step. nat_le step.width w ≡ nat_le step.width v) steps
       agree k d within =
           let at = get_or steps k d in

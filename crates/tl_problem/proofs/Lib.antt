@@ -1,13 +1,22 @@
-mod Examples
 mod AreaExamples
 mod BoundExamples
+mod Examples
 mod PlacementExamples
-pub mod Heights
-pub mod SizeLaws
+pub mod AreaFound
+pub mod AreaLaws
+pub mod AreaSteps
+pub mod AxisLemmas
 pub mod BoundLaws
-pub mod TightLaws
-pub mod SpanLaws
-pub mod ZoneLaws
+pub mod ConstraintLemmas
+pub mod DemandLemmas
+pub mod Heights
+pub mod NeedLemmas
 pub mod OneClass
 pub mod Rectangles
-pub mod AreaLaws
+pub mod SetLaws
+pub mod SizeLaws
+pub mod SpanLaws
+pub mod SpanningLemmas
+pub mod TightLaws
+pub mod WorkLemmas
+pub mod ZoneLaws

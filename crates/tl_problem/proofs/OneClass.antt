@@ -15,7 +15,8 @@ use Rattle.tl_problem.specs.Problem.{ProblemModel, total_height, cell_width, cel
 use Rattle.tl_problem.specs.Layouts.{GiveHigh}
 use Rattle.tl_problem.specs.Sound.{IsSound}
 use Rattle.tl_problem.specs.Spans.{span, has_span, spans_of, page_room}
-use Rattle.tl_problem.specs.Zones.{span_at, range, range_at, first_in_class, IsZone, InZone, HasOneClass, AgreeIn}
+use Rattle.tl_problem.specs.Zones.{span_at, range, range_at, first_in_class, IsZone, InZone}
+use Rattle.tl_problem.specs.Agreement.{HasOneClass, AgreeIn}
 use Rattle.tl_problem.specs.Bounds.{IsGreatestRoom, GiveLow, IsBound}
 use Rattle.tl_problem.specs.Placements.{AreLeast}
 use Rattle.tl_problem.proofs.Heights.{IsLowAt-same}
@@ -31,7 +32,8 @@ IsLowAt-decides steps h w = decides (height_at steps w) where
   decides (Some height) = elim (cases_lt h height) [ inl above ↦ inr (λ le. omega arith) | inr enough ↦ inl enough ]
 
 -- a set that has widths, none of which give the span more than some room, cannot be without a greatest room
-module _ (problem : ProblemModel) (Among : List ℕ → Type 0) (left right most : ℕ) (limit : (widths : List ℕ) → Among widths → room (gap_of problem.style) widths left right ≤ most)
+module _ (problem : ProblemModel) (Among : List ℕ → Type 0) (left right most : ℕ) (limit : (widths : List ℕ) → Among widths →
+    room (gap_of problem.style) widths left right ≤ most)
     (none : (w : ℕ) → IsGreatestRoom problem Among left right w → ⊥) where
   nearer : (n : ℕ) (widths : List ℕ) → Among widths → most ≤ room (gap_of problem.style) widths left right + n → ⊥
   nearer zero widths among close = none (room (gap_of problem.style) widths left right) (record {
@@ -51,14 +53,17 @@ module _ (problem : ProblemModel) (Among : List ℕ → Type 0) (left right most
   greatest-not_none widths among = nearer most widths among (omega arith)
 
 -- the number of a cell's span
-pub span-number : (problem : ProblemModel) → IsSound problem → (cell : Cell) → Contains problem.cells cell → (s : ℕ) × (s < length (spans_of problem)) × (span_at problem s ≡ span cell.left cell.right)
+pub span-number : (problem : ProblemModel) → IsSound problem → (cell : Cell) → Contains problem.cells cell →
+    (s : ℕ) × (s < length (spans_of problem)) × (span_at problem s ≡ span cell.left cell.right)
 span-number problem sound cell has =
     let found = spans-Contains problem sound cell has in
     (found.0, found.1, get_or_default (spans_of problem) found.0 (span 0 0) (span cell.left cell.right) found.1 ∙ found.2)
 
-module _ (problem : ProblemModel) (sound : IsSound problem) (zone : List Range) (is : IsZone problem zone) (one : HasOneClass zone) (agree : AgreeIn problem zone) where
+module _ (problem : ProblemModel) (sound : IsSound problem) (zone : List Range) (is : IsZone problem zone) (one : HasOneClass zone)
+    (agree : AgreeIn problem zone) where
   -- heights that give each cell its `low` at the greatest room give it its `high` at each room in the zone
-  pub high-from_greatest : (widths heights : List ℕ) → InZone problem zone widths → GiveLow problem (InZone problem zone) heights → GiveHigh problem widths heights
+  pub high-from_greatest : (widths heights : List ℕ) → InZone problem zone widths → GiveLow problem (InZone problem zone) heights →
+      GiveHigh problem widths heights
   high-from_greatest widths heights inside give = record { rows = give.rows; cells = enough } where
     enough : All (λ cell. IsLowAt cell.high (cell_height problem heights cell) (cell_width problem widths cell)) problem.cells
     enough k d within =
@@ -91,11 +96,14 @@ module _ (problem : ProblemModel) (sound : IsSound problem) (zone : List Range) 
               widths inside)
         ]
 
-  pub one_class-height : (widths heights : List ℕ) (bound : ℕ) → InZone problem zone widths → AreLeast (row_gap_of problem.style) (GiveHigh problem widths) heights →
+  pub one_class-height : (widths heights : List ℕ) (bound : ℕ) → InZone problem zone widths →
+      AreLeast (row_gap_of problem.style) (GiveHigh problem widths) heights →
       IsBound problem (InZone problem zone) bound → total_height problem heights ≡ bound
   one_class-height widths heights bound inside least bounds =
-      let below = bound-below_layout problem sound (InZone problem zone) bound widths heights bounds inside (record { page = inside.page; enough = low-from_high problem sound widths heights least.kind }) in
+      let below = bound-below_layout problem sound (InZone problem zone) bound widths heights bounds inside
+          (record { page = inside.page; enough = low-from_high problem sound widths heights least.kind }) in
       let rows = bounds.least.attained in
       let enough = high-from_greatest widths rows.0 inside rows.1 in
-      let above = least-total (row_gap_of problem.style) (edge_of problem.style) (GiveHigh problem widths) heights rows.0 least enough (least.kind.rows ∙ sym rows.1.rows) in
+      let above = least-total (row_gap_of problem.style) (edge_of problem.style) (GiveHigh problem widths) heights rows.0 least enough
+          (least.kind.rows ∙ sym rows.1.rows) in
       omega (arith, below, above, rows.2)

@@ -21,9 +21,12 @@ placed widths heights width height = record { widths = widths; heights = heights
 
 -- two sizes whose places are no greater than those of each other two of a kind
 two-least : (gap : ℕ) (OfKind : List ℕ → Type 0) (first second : ℕ) → OfKind (first ∷ second ∷ []) →
-    ((other : List ℕ) → OfKind other → (length other ≡ 2) × ((first ≤ room gap other 0 1) × (first + second ≤ room gap other 0 1 + room gap other 1 2))) → AreLeast gap OfKind (first ∷ second ∷ [])
-two-least gap OfKind first second kind each = record { kind = kind; earliest = λ other also place inside. let facts = each other also in at other facts.0 facts.1.0 facts.1.1 place inside } where
-  at : (other : List ℕ) → length other ≡ 2 → first ≤ room gap other 0 1 → first + second ≤ room gap other 0 1 + room gap other 1 2 → (place : ℕ) → place ≤ 2 → position gap (first ∷ second ∷ []) place ≤ position gap other place
+    ((other : List ℕ) → OfKind other → (length other ≡ 2) × ((first ≤ room gap other 0 1) ×
+        (first + second ≤ room gap other 0 1 + room gap other 1 2))) → AreLeast gap OfKind (first ∷ second ∷ [])
+two-least gap OfKind first second kind each = record { kind = kind; earliest = λ other also place inside. let facts = each other also in
+    at other facts.0 facts.1.0 facts.1.1 place inside } where
+  at : (other : List ℕ) → length other ≡ 2 → first ≤ room gap other 0 1 → first + second ≤ room gap other 0 1 + room gap other 1 2 → (place : ℕ) →
+      place ≤ 2 → position gap (first ∷ second ∷ []) place ≤ position gap other place
   at [] two one both place inside = absurd (omega arith)
   at (a ∷ []) two one both place inside = absurd (omega arith)
   at (a ∷ b ∷ c ∷ more) two one both place inside = absurd (omega arith)
@@ -37,10 +40,13 @@ line-needs : (w width h : ℕ) → width ≤ w → IsLowAt (step width 1 ∷ [])
 line-needs w width h wider low = rw (test_le width w wider) at low
 
 -- the heights that are least under some widths, where the wide cell needs so many lines
-rows-least : (widths : List ℕ) (need : ℕ) → (height_at wide.high (room 2 widths 0 2) ≡ Some need) → 1 ≤ room 2 widths 0 1 → 2 ≤ room 2 widths 1 2 → AreLeast 0 (GiveHigh problem widths) (need ∷ 1 ∷ [])
+rows-least : (widths : List ℕ) (need : ℕ) → (height_at wide.high (room 2 widths 0 2) ≡ Some need) → 1 ≤ room 2 widths 0 1 → 2 ≤ room 2 widths 1 2 →
+    AreLeast 0 (GiveHigh problem widths) (need ∷ 1 ∷ [])
 rows-least widths need is first second =
     two-least 0 (GiveHigh problem widths) need 1
-    (record { rows = refl; cells = All-from_recursion Given problem.cells (subst (λ o. IsSomeAnd o (λ height. height ≤ cell_height problem (need ∷ 1 ∷ []) wide)) (sym is) (omega arith), (short 1 (room 2 widths 0 1) first, (short 2 (room 2 widths 1 2) second, tt))) })
+    (record { rows = refl; cells = All-from_recursion Given problem.cells
+        (subst (λ o. IsSomeAnd o (λ height. height ≤ cell_height problem (need ∷ 1 ∷ []) wide)) (sym is) (omega arith),
+        (short 1 (room 2 widths 0 1) first, (short 2 (room 2 widths 1 2) second, tt))) })
     (λ heights give.
     let tall = subst (λ o. IsSomeAnd o (λ height. height ≤ cell_height problem heights wide)) is (give.cells 0 wide (omega arith)) in
     let line = line-needs (room 2 widths 0 1) 1 (cell_height problem heights (cell 0 1 1 2 [])) first (give.cells 1 wide (omega arith)) in
@@ -55,8 +61,10 @@ rows-least widths need is first second =
 opening : IsOpening problem (placed (1 ∷ 2 ∷ []) (3 ∷ 1 ∷ []) 5 4)
 opening = record {
   columns = two-least 2 (WithinPage problem) 1 2 (within 1 2 (omega arith) (omega arith) (omega arith))
-      (λ other is. let one = is.cells 1 wide (omega arith) in let two = is.cells 2 wide (omega arith) in (is.columns, (omega (arith, one), omega (arith, one, two))));
-  placement = record { page = within 1 2 (omega arith) (omega arith) (omega arith); rows = rows-least (1 ∷ 2 ∷ []) 3 refl (omega arith) (omega arith); width = refl; height = refl };
+      (λ other is. let one = is.cells 1 wide (omega arith) in let two = is.cells 2 wide (omega arith) in
+          (is.columns, (omega (arith, one), omega (arith, one, two))));
+  placement = record { page = within 1 2 (omega arith) (omega arith) (omega arith); rows =
+      rows-least (1 ∷ 2 ∷ []) 3 refl (omega arith) (omega arith); width = refl; height = refl };
 }
 
 -- two lines are enough for the wide cell in seven columns and no fewer
@@ -84,7 +92,8 @@ tight = record {
       let both = wide-needs (room 2 other 0 2) (keep.cells 0 wide (omega arith) 2 refl) in
       let one = step-needs 1 (room 2 other 0 1) (keep.cells 1 wide (omega arith) 1 refl) in
       (keep.columns, (one, two_rooms other keep.columns both)));
-  placement = record { page = within 1 4 (omega arith) (omega arith) (omega arith); rows = rows-least (1 ∷ 4 ∷ []) 2 refl (omega arith) (omega arith); width = refl; height = refl };
+  placement = record { page = within 1 4 (omega arith) (omega arith) (omega arith); rows =
+      rows-least (1 ∷ 4 ∷ []) 2 refl (omega arith) (omega arith); width = refl; height = refl };
 } where
   Keeps : Cell → Type 0
   Keeps c = (h : ℕ) → height_at c.high (cell_width problem (1 ∷ 6 ∷ []) c) ≡ Some h → IsLowAt c.high h (cell_width problem (1 ∷ 4 ∷ []) c)

@@ -14,7 +14,8 @@ sum_by-same f g [] same = refl
 sum_by-same f g (x ∷ xs) same = omega (arith, sum_by-cons f x xs, sum_by-cons g x xs, same x, sum_by-same f g xs same)
 
 -- the sum of products with a term that is itself a sum, of which a part has a factor of its own
-sum_by-split : {X : Type 0} (v a i : X → ℕ) (d : ℕ) (xs : List X) → sum_by (λ x. v x * (a x + i x * d)) xs ≡ sum_by (λ x. v x * a x) xs + sum_by (λ x. v x * i x) xs * d
+sum_by-split : {X : Type 0} (v a i : X → ℕ) (d : ℕ) (xs : List X) →
+    sum_by (λ x. v x * (a x + i x * d)) xs ≡ sum_by (λ x. v x * a x) xs + sum_by (λ x. v x * i x) xs * d
 sum_by-split v a i d [] = omega arith
 sum_by-split v a i d (x ∷ xs) =
     let whole = sum_by-cons (λ x. v x * (a x + i x * d)) x xs in
@@ -87,7 +88,8 @@ module _ (at : ℕ → ℕ) (rising : (n : ℕ) → at n ≤ at (n + 1)) where
 
   -- of weighted intervals, no place of which bears more than `most`, the weights times the lengths are at most `most`
   -- times the length of all
-  pub weighted : {X : Type 0} (from past v : X → ℕ) (most : ℕ) (xs : List X) (n : ℕ) → ((k : ℕ) → k < n → sum_by (λ x. v x * inside (from x) (past x) k) xs ≤ most) →
+  pub weighted : {X : Type 0} (from past v : X → ℕ) (most : ℕ) (xs : List X) (n : ℕ) →
+      ((k : ℕ) → k < n → sum_by (λ x. v x * inside (from x) (past x) k) xs ≤ most) →
       sum_by (λ x. v x * amount (from x) (past x) n) xs + most * at 0 ≤ most * at n
   unfolding amount
   weighted {X = X} from past v most xs zero bear = let none = zeros xs in omega (arith, none) where
@@ -140,7 +142,8 @@ module _ {X : Type 0} (left right top bottom : X → ℕ) where
             ]
 
   -- no rectangle that shares no slot with one that covers the slot covers it
-  others-none : (row column : ℕ) (x : X) (xs : List X) → ((left x ≤ column) × (column < right x)) × ((top x ≤ row) × (row < bottom x)) → All (λ y. Share x y → ⊥) xs → sum_by (covers row column) xs ≡ 0
+  others-none : (row column : ℕ) (x : X) (xs : List X) → ((left x ≤ column) × (column < right x)) × ((top x ≤ row) × (row < bottom x)) →
+      All (λ y. Share x y → ⊥) xs → sum_by (covers row column) xs ≡ 0
   others-none row column x [] here apart = refl
   others-none row column x (y ∷ ys) here apart =
       let rest = others-none row column x ys here (λ k d within. apart (suc k) d (omega arith)) in
@@ -154,11 +157,13 @@ module _ {X : Type 0} (left right top bottom : X → ℕ) where
   one_covers row column (x ∷ xs) apart =
       elim (covers-cases row column x) [
         | inl none ↦ omega (arith, sum_by-cons (covers row column) x xs, none, one_covers row column xs (AllPairs-tail (λ a b. Share a b → ⊥) x xs apart))
-        | inr (one, here) ↦ omega (arith, sum_by-cons (covers row column) x xs, one, others-none row column x xs here (AllPairs-head (λ a b. Share a b → ⊥) x xs apart))
+        | inr (one, here) ↦ omega (arith, sum_by-cons (covers row column) x xs, one,
+            others-none row column x xs here (AllPairs-head (λ a b. Share a b → ⊥) x xs apart))
       ]
 
   -- the areas of rectangles that share no slot are together at most the area of the grid
-  module _ (x_at y_at : ℕ → ℕ) (x_rising : (n : ℕ) → x_at n ≤ x_at (n + 1)) (y_rising : (n : ℕ) → y_at n ≤ y_at (n + 1)) (x_starts : x_at 0 ≡ 0) (y_starts : y_at 0 ≡ 0) where
+  module _ (x_at y_at : ℕ → ℕ) (x_rising : (n : ℕ) → x_at n ≤ x_at (n + 1)) (y_rising : (n : ℕ) →
+      y_at n ≤ y_at (n + 1)) (x_starts : x_at 0 ≡ 0) (y_starts : y_at 0 ≡ 0) where
     pub areas-within : (xs : List X) (columns rows : ℕ) → AllPairs (λ a b. Share a b → ⊥) xs →
         sum_by (λ x. amount x_at x_rising (left x) (right x) columns * amount y_at y_rising (top x) (bottom x) rows) xs ≤ x_at columns * y_at rows
     areas-within xs columns rows apart =
@@ -167,7 +172,9 @@ module _ {X : Type 0} (left right top bottom : X → ℕ) where
           row_load : (row : ℕ) → row < rows → sum_by (λ x. amount x_at x_rising (left x) (right x) columns * inside (top x) (bottom x) row) xs ≤ x_at columns
           row_load row before =
               let one = weighted x_at x_rising left right (λ x. inside (top x) (bottom x) row) 1 xs columns (λ column within. one_covers row column xs apart) in
-              let turned = sum_by-same (λ x. amount x_at x_rising (left x) (right x) columns * inside (top x) (bottom x) row) (λ x. inside (top x) (bottom x) row * amount x_at x_rising (left x) (right x) columns) xs (λ x. turn (amount x_at x_rising (left x) (right x) columns) (inside (top x) (bottom x) row)) in
+              let turned = sum_by-same (λ x. amount x_at x_rising (left x) (right x) columns * inside (top x) (bottom x) row)
+                  (λ x. inside (top x) (bottom x) row * amount x_at x_rising (left x) (right x) columns) xs
+                  (λ x. turn (amount x_at x_rising (left x) (right x) columns) (inside (top x) (bottom x) row)) in
               omega (arith, one, turned) where
                 turn : (a b : ℕ) → a * b ≡ b * a
                 turn a b = grind arith

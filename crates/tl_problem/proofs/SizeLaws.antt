@@ -15,7 +15,8 @@ total-position gap edge (size ∷ sizes) some =
     omega (arith, all, head, product)
 
 -- sizes that end no later take no more in all
-pub total-le : (gap edge : ℕ) (xs ys : List ℕ) → length xs ≡ length ys → position gap xs (length xs) ≤ position gap ys (length xs) → total gap edge xs ≤ total gap edge ys
+pub total-le : (gap edge : ℕ) (xs ys : List ℕ) → length xs ≡ length ys → position gap xs (length xs) ≤ position gap ys (length xs) →
+    total gap edge xs ≤ total gap edge ys
 total-le gap edge [] ys same ends = omega arith
 total-le gap edge (x ∷ xs) ys same ends =
     let first = total-position gap edge (x ∷ xs) (omega arith) in
@@ -39,7 +40,8 @@ take-between (size ∷ sizes) (suc from) more =
     let next : suc from + more ≡ suc (from + more) = omega arith in
     rw next (omega (arith, before, after, rest))
 
-pub room-position : (gap : ℕ) (sizes : List ℕ) (from past : ℕ) → from < past → room gap sizes from past + gap + position gap sizes from ≡ position gap sizes past
+pub room-position : (gap : ℕ) (sizes : List ℕ) (from past : ℕ) → from < past →
+    room gap sizes from past + gap + position gap sizes from ≡ position gap sizes past
 room-position gap sizes from past ahead =
     let between = take-between sizes from (past - from) in
     let whole : from + (past - from) ≡ past = omega arith in
@@ -64,7 +66,8 @@ position-mono gap sizes from past more =
 -- ---- sizes are known by their places
 
 -- of lists as long as each other that end each place alike, each size is the same
-pub same-positions : (gap : ℕ) (xs ys : List ℕ) → length xs ≡ length ys → ((place : ℕ) → place ≤ length xs → position gap xs place ≡ position gap ys place) → xs ≡ ys
+pub same-positions : (gap : ℕ) (xs ys : List ℕ) → length xs ≡ length ys →
+    ((place : ℕ) → place ≤ length xs → position gap xs place ≡ position gap ys place) → xs ≡ ys
 same-positions gap [] [] same at = refl
 same-positions gap [] (y ∷ ys) same at = absurd (omega arith)
 same-positions gap (x ∷ xs) [] same at = absurd (omega arith)

@@ -39,12 +39,15 @@ has_span-parts columns cell has =
     (eqb-true cell.left columns.left parts.0, eqb-true cell.right columns.right parts.1)
 
 pub has_span-from : (columns : Span) (cell : Cell) → cell.left ≡ columns.left → cell.right ≡ columns.right → has_span columns cell ≡ true
-has_span-from columns cell left right = and_from (nat_eq cell.left columns.left) (nat_eq cell.right columns.right) (eq-eqb cell.left columns.left left) (eq-eqb cell.right columns.right right)
+has_span-from columns cell left right = and_from (nat_eq cell.left columns.left) (nat_eq cell.right columns.right)
+    (eq-eqb cell.left columns.left left) (eq-eqb cell.right columns.right right)
 
 all_spans-ordered : (cols : ℕ) → AllPairs IsBefore (all_spans cols)
 all_spans-ordered cols =
-    AllPairs-flat_map IsBefore (λ a b. a < b) (λ left. map (span left) (range_with_len (left + 1) (cols - left))) (range_with_len 0 cols) (AllPairs-range 0 cols)
-    (λ left. AllPairs-map IsBefore (span left) (range_with_len (left + 1) (cols - left)) (λ i j d before within. inr (refl, AllPairs-range (left + 1) (cols - left) i j d before within)))
+    AllPairs-flat_map IsBefore (λ a b. a < b) (λ left. map (span left) (range_with_len (left + 1) (cols - left))) (range_with_len 0 cols)
+        (AllPairs-range 0 cols)
+    (λ left. AllPairs-map IsBefore (span left) (range_with_len (left + 1) (cols - left))
+        (λ i j d before within. inr (refl, AllPairs-range (left + 1) (cols - left) i j d before within)))
     (λ left later a b less first second.
     let one = map-Contains (span left) (range_with_len (left + 1) (cols - left)) a first in
     let other = map-Contains (span later) (range_with_len (later + 1) (cols - later)) b second in
@@ -58,19 +61,23 @@ all_spans-Contains cols left right ahead within =
 
 pub spans-ordered : (problem : ProblemModel) → AllPairs IsBefore (spans_of problem)
 unfolding spans_of
-spans-ordered problem = AllPairs-filter IsBefore (λ columns. list_any (has_span columns) problem.cells) (all_spans problem.cols) (all_spans-ordered problem.cols)
+spans-ordered problem = AllPairs-filter IsBefore (λ columns. list_any (has_span columns) problem.cells) (all_spans problem.cols)
+    (all_spans-ordered problem.cols)
 
 -- each cell's span is one of them
-pub spans-Contains : (problem : ProblemModel) → IsSound problem → (cell : Cell) → Contains problem.cells cell → Contains (spans_of problem) (span cell.left cell.right)
+pub spans-Contains : (problem : ProblemModel) → IsSound problem → (cell : Cell) → Contains problem.cells cell →
+    Contains (spans_of problem) (span cell.left cell.right)
 unfolding spans_of
 spans-Contains problem sound cell has =
     let whole = All-contains (IsSoundCell problem) problem.cells cell sound.cells has in
     Contains-filter (λ columns. list_any (has_span columns) problem.cells) (all_spans problem.cols) (span cell.left cell.right)
-    (list_any_at (has_span (span cell.left cell.right)) problem.cells has.0 cell has.1 (subst (λ c. has_span (span cell.left cell.right) c ≡ true) (sym has.2) (has_span-from (span cell.left cell.right) cell refl refl)))
+    (list_any_at (has_span (span cell.left cell.right)) problem.cells has.0 cell has.1
+        (subst (λ c. has_span (span cell.left cell.right) c ≡ true) (sym has.2) (has_span-from (span cell.left cell.right) cell refl refl)))
     (all_spans-Contains problem.cols cell.left cell.right whole.columns.0 whole.columns.1)
 
 -- and each of them is some cell's
-pub spans-cell : (problem : ProblemModel) (columns : Span) → Contains (spans_of problem) columns → (cell : Cell) × Contains problem.cells cell × (has_span columns cell ≡ true)
+pub spans-cell : (problem : ProblemModel) (columns : Span) → Contains (spans_of problem) columns →
+    (cell : Cell) × Contains problem.cells cell × (has_span columns cell ≡ true)
 unfolding spans_of
 spans-cell problem columns has =
     let kept = filter-Contains (λ s. list_any (has_span s) problem.cells) (all_spans problem.cols) columns has in
@@ -83,8 +90,10 @@ pub spans-are : (problem : ProblemModel) → IsSound problem → (spans : List S
     ((columns : Span) → Contains spans columns → (cell : Cell) × Contains problem.cells cell × (has_span columns cell ≡ true)) → spans ≡ spans_of problem
 spans-are problem sound spans ordered each some =
     same-ordered IsBefore before-strict spans (spans_of problem) ordered (spans-ordered problem)
-    (λ columns has. let found = some columns has in subst (λ s. Contains (spans_of problem) s) (same_span columns found.0 found.2) (spans-Contains problem sound found.0 found.1))
-    (λ columns has. let found = spans-cell problem columns has in subst (λ s. Contains spans s) (same_span columns found.0 found.2) (each found.0 found.1)) where
+    (λ columns has. let found = some columns has in subst (λ s. Contains (spans_of problem) s) (same_span columns found.0 found.2)
+        (spans-Contains problem sound found.0 found.1))
+    (λ columns has. let found = spans-cell problem columns has in
+        subst (λ s. Contains spans s) (same_span columns found.0 found.2) (each found.0 found.1)) where
       same_span : (columns : Span) (cell : Cell) → has_span columns cell ≡ true → span cell.left cell.right ≡ columns
       same_span columns cell has = let parts = has_span-parts columns cell has in ap (λ left. span left cell.right) parts.0 ∙ ap (span columns.left) parts.1
 
@@ -122,7 +131,8 @@ module _ (problem : ProblemModel) (columns : Span) where
       (Contains-map (λ c. first_width c.low) (cells_of problem columns) cell (Contains-filter (has_span columns) problem.cells cell is has))
 
   -- widths within the page give the span at least the width of its first class
-  pub least_width-within : (widths : List ℕ) → WithinPage problem widths → least_width problem columns ≤ room (gap_of problem.style) widths columns.left columns.right
+  pub least_width-within : (widths : List ℕ) → WithinPage problem widths →
+      least_width problem columns ≤ room (gap_of problem.style) widths columns.left columns.right
   least_width-within widths is =
       greatest-least (map (λ c. first_width c.low) (cells_of problem columns)) (room (gap_of problem.style) widths columns.left columns.right) (λ n has.
       let found = map-Contains (λ c. first_width c.low) (cells_of problem columns) n has in
@@ -142,7 +152,8 @@ module _ (problem : ProblemModel) (columns : Span) where
       let kept = filter-Contains (begins_step problem columns) (range_with_len (least + 1) (page_room problem - least)) w has in
       let between = range-Contains (least + 1) (page_room problem - least) w kept.0 in
       omega (arith, between.0)))
-      (AllPairs-filter (λ a b. a < b) (begins_step problem columns) (range_with_len (least + 1) (page_room problem - least)) (AllPairs-range (least + 1) (page_room problem - least)))
+      (AllPairs-filter (λ a b. a < b) (begins_step problem columns) (range_with_len (least + 1) (page_room problem - least))
+          (AllPairs-range (least + 1) (page_room problem - least)))
 
   -- where a class begins: at the least width, or past it and within the page where a step begins
   pub classes-cases : (w : ℕ) → Contains (classes_of problem columns) w →
@@ -160,7 +171,8 @@ module _ (problem : ProblemModel) (columns : Span) where
 
   pub classes-least : Contains (classes_of problem columns) (least_width problem columns)
   unfolding classes_of
-  classes-least = Contains-first (least_width problem columns) (filter (begins_step problem columns) (range_with_len (least_width problem columns + 1) (page_room problem - least_width problem columns)))
+  classes-least = Contains-first (least_width problem columns)
+      (filter (begins_step problem columns) (range_with_len (least_width problem columns + 1) (page_room problem - least_width problem columns)))
 
   pub classes-first : (d : ℕ) → get_or (classes_of problem columns) 0 d ≡ least_width problem columns
   unfolding classes_of
@@ -170,31 +182,37 @@ module _ (problem : ProblemModel) (columns : Span) where
   unfolding classes_of
   classes-some = omega arith
 
-  pub classes-Contains : (w : ℕ) → least_width problem columns < w → w ≤ page_room problem → begins_step problem columns w ≡ true → Contains (classes_of problem columns) w
+  pub classes-Contains : (w : ℕ) → least_width problem columns < w → w ≤ page_room problem → begins_step problem columns w ≡ true →
+      Contains (classes_of problem columns) w
   unfolding classes_of
   classes-Contains w past page begins =
       let least = least_width problem columns in
       Contains-later least (filter (begins_step problem columns) (range_with_len (least + 1) (page_room problem - least))) w
-      (Contains-filter (begins_step problem columns) (range_with_len (least + 1) (page_room problem - least)) w begins (Contains-range (least + 1) (page_room problem - least) w (omega arith) (omega arith)))
+      (Contains-filter (begins_step problem columns) (range_with_len (least + 1) (page_room problem - least)) w begins
+          (Contains-range (least + 1) (page_room problem - least) w (omega arith) (omega arith)))
 
   -- a rising list of these widths, and of no others, is the list of the classes
   pub classes-are : (firsts : List ℕ) → AllPairs (λ a b. a < b) firsts → ((w : ℕ) → Contains firsts w → Contains (classes_of problem columns) w) →
       ((w : ℕ) → Contains (classes_of problem columns) w → Contains firsts w) → firsts ≡ classes_of problem columns
-  classes-are firsts rising there back = same-ordered (λ a b. a < b) (λ a b less more. omega arith) firsts (classes_of problem columns) rising classes-rising there back
+  classes-are firsts rising there back = same-ordered (λ a b. a < b) (λ a b less more. omega arith) firsts (classes_of problem columns) rising
+      classes-rising there back
 
   -- a step of a cell of the span begins where it does
-  pub begins-from : (cell : Cell) (step : Config) → Contains problem.cells cell → has_span columns cell ≡ true → Contains (cell.low ++ cell.high) step → begins_step problem columns step.width ≡ true
+  pub begins-from : (cell : Cell) (step : Config) → Contains problem.cells cell → has_span columns cell ≡ true →
+      Contains (cell.low ++ cell.high) step → begins_step problem columns step.width ≡ true
   begins-from cell step has is among =
       let inside : Contains (cells_of problem columns) cell = Contains-filter (has_span columns) problem.cells cell is has in
       let one : list_any (λ s. nat_eq s.width step.width) (cell.low ++ cell.high) ≡ true =
-      list_any_at (λ s. nat_eq s.width step.width) (cell.low ++ cell.high) among.0 step among.1 (eq-eqb (get_or (cell.low ++ cell.high) among.0 step).width step.width (ap (λ s. s.width) among.2)) in
+      list_any_at (λ s. nat_eq s.width step.width) (cell.low ++ cell.high) among.0 step among.1
+          (eq-eqb (get_or (cell.low ++ cell.high) among.0 step).width step.width (ap (λ s. s.width) among.2)) in
       list_any_at (λ c. list_any (λ s. nat_eq s.width step.width) (c.low ++ c.high)) (cells_of problem columns) inside.0 cell inside.1
       (subst (λ c. list_any (λ s. nat_eq s.width step.width) (c.low ++ c.high) ≡ true) (sym inside.2) one)
 
 -- ---- within a class no height changes
 
 -- no element of a rising list lies past one element and before the next
-between-none : (xs : List ℕ) → AllPairs (λ a b. a < b) xs → (k top x : ℕ) → k < length xs → Contains xs x → get_or xs k 0 < x → x ≤ get_or xs (k + 1) (top + 1) - 1 → ⊥
+between-none : (xs : List ℕ) → AllPairs (λ a b. a < b) xs → (k top x : ℕ) → k < length xs → Contains xs x → get_or xs k 0 < x →
+    x ≤ get_or xs (k + 1) (top + 1) - 1 → ⊥
 between-none xs rising k top x inside has past before =
     let at = get_or_default xs has.0 0 x has.1 in
     elim (cases_lt k has.0) [
@@ -216,8 +234,10 @@ module _ (problem : ProblemModel) (sound : IsSound problem) (s class : ℕ) (ins
   pub class-past_least : least_width problem (span_at problem s) ≤ first_in_class problem s class
   class-past_least =
       elim (cases_lt 0 class) [
-        | inl past ↦ let rise = classes-rising problem (span_at problem s) 0 class 0 past inside in omega (arith, rise, classes-first problem (span_at problem s) 0)
-        | inr none ↦ let here : class ≡ 0 = omega arith in omega (arith, ap (λ i. get_or (classes_at problem s) i 0) here, classes-first problem (span_at problem s) 0)
+        | inl past ↦ let rise = classes-rising problem (span_at problem s) 0 class 0 past inside in
+            omega (arith, rise, classes-first problem (span_at problem s) 0)
+        | inr none ↦ let here : class ≡ 0 = omega arith in omega (arith, ap (λ i. get_or (classes_at problem s) i 0) here,
+            classes-first problem (span_at problem s) 0)
       ]
 
   -- a class ends within the page
@@ -228,7 +248,8 @@ module _ (problem : ProblemModel) (sound : IsSound problem) (s class : ℕ) (ins
             let next = get_or_default (classes_at problem s) (class + 1) 0 (page_room problem + 1) more in
             let above = classes-rising problem (span_at problem s) class (class + 1) 0 (omega arith) more in
             let first = class-past_least in
-            elim (classes-cases problem (span_at problem s) (get_or (classes_at problem s) (class + 1) 0) (Contains-get_or (classes_at problem s) (class + 1) 0 more)) [
+            elim (classes-cases problem (span_at problem s) (get_or (classes_at problem s) (class + 1) 0)
+                (Contains-get_or (classes_at problem s) (class + 1) 0 more)) [
               | inl least ↦ omega (arith, next, least, above, first)
               | inr later ↦ omega (arith, next, later.1)
             ]
@@ -241,11 +262,14 @@ module _ (problem : ProblemModel) (sound : IsSound problem) (s class : ℕ) (ins
     no_step : (step : Config) → Contains (cell.low ++ cell.high) step → w < step.width → step.width ≤ v → ⊥
     no_step step among past before =
         between-none (classes_at problem s) (classes-rising problem (span_at problem s)) class (page_room problem) step.width inside
-        (classes-Contains problem (span_at problem s) step.width (omega (arith, class-past_least, past, from)) (omega (arith, class-in_page, upto, before)) (begins-from problem (span_at problem s) cell step has is among))
+        (classes-Contains problem (span_at problem s) step.width (omega (arith, class-past_least, past, from))
+            (omega (arith, class-in_page, upto, before)) (begins-from problem (span_at problem s) cell step has is among))
         (omega (arith, past, from)) (omega (arith, upto, before))
 
     pub class-same_low : height_at cell.low w ≡ height_at cell.low v
-    class-same_low = height-same cell.low w v more (λ k d within. no_step (get_or cell.low k d) (Contains-append_left cell.low cell.high (get_or cell.low k d) (Contains-get_or cell.low k d within)))
+    class-same_low = height-same cell.low w v more (λ k d within. no_step (get_or cell.low k d)
+        (Contains-append_left cell.low cell.high (get_or cell.low k d) (Contains-get_or cell.low k d within)))
 
     pub class-same_high : height_at cell.high w ≡ height_at cell.high v
-    class-same_high = height-same cell.high w v more (λ k d within. no_step (get_or cell.high k d) (Contains-append_right cell.low cell.high (get_or cell.high k d) (Contains-get_or cell.high k d within)))
+    class-same_high = height-same cell.high w v more (λ k d within. no_step (get_or cell.high k d)
+        (Contains-append_right cell.low cell.high (get_or cell.high k d) (Contains-get_or cell.high k d within)))

@@ -14,7 +14,8 @@ abbrev placed_of : List ℕ → List ℕ → ℕ → ℕ → Placed
 placed_of widths heights width height = record { widths = widths; heights = heights; width = width; height = height }
 
 -- least sizes of a kind take no more in all than others of it
-pub least-total : (gap edge : ℕ) (OfKind : List ℕ → Type 0) (sizes other : List ℕ) → AreLeast gap OfKind sizes → OfKind other → length sizes ≡ length other → total gap edge sizes ≤ total gap edge other
+pub least-total : (gap edge : ℕ) (OfKind : List ℕ → Type 0) (sizes other : List ℕ) → AreLeast gap OfKind sizes → OfKind other →
+    length sizes ≡ length other → total gap edge sizes ≤ total gap edge other
 least-total gap edge OfKind sizes other least kind same = total-le gap edge sizes other same (least.earliest other kind (length sizes) (omega arith))
 
 -- a kind has no two lists of least sizes of one length
@@ -24,7 +25,8 @@ least-unique gap OfKind xs ys same first second =
 
 module _ (problem : ProblemModel) where
   pub KeepHigh-itself : (widths : List ℕ) → length widths ≡ problem.cols → KeepHigh problem widths widths
-  KeepHigh-itself widths columns = record { columns = columns; cells = λ k d within h is. IsLowAt-from (get_or problem.cells k d).high h (cell_width problem widths (get_or problem.cells k d)) is }
+  KeepHigh-itself widths columns = record { columns = columns; cells =
+      λ k d within h is. IsLowAt-from (get_or problem.cells k d).high h (cell_width problem widths (get_or problem.cells k d)) is }
 
   pub KeepHigh-next : (widths other third : List ℕ) → KeepHigh problem widths other → KeepHigh problem other third → KeepHigh problem widths third
   KeepHigh-next widths other third first second = record {
@@ -48,14 +50,16 @@ module _ (problem : ProblemModel) where
   module _ (placed tight : Placed) (is : IsPlacement problem placed) (made : IsTightFrom problem placed.widths tight) where
     pub tight-no_wider : tight.width ≤ placed.width
     tight-no_wider =
-        let less = least-total (gap_of problem.style) (edge_of problem.style) (KeepHigh problem placed.widths) tight.widths placed.widths made.columns (KeepHigh-itself placed.widths is.page.columns)
+        let less = least-total (gap_of problem.style) (edge_of problem.style) (KeepHigh problem placed.widths) tight.widths placed.widths
+            made.columns (KeepHigh-itself placed.widths is.page.columns)
         (made.placement.page.columns ∙ sym is.page.columns) in
         omega (arith, less, is.width, made.placement.width)
 
     pub tight-no_higher : tight.height ≤ placed.height
     tight-no_higher =
         let enough = GiveHigh-kept placed.widths tight.widths placed.heights made.columns.kind is.rows.kind in
-        let less = least-total (row_gap_of problem.style) (edge_of problem.style) (GiveHigh problem tight.widths) tight.heights placed.heights made.placement.rows enough
+        let less = least-total (row_gap_of problem.style) (edge_of problem.style) (GiveHigh problem tight.widths) tight.heights placed.heights
+            made.placement.rows enough
         (made.placement.rows.kind.rows ∙ sym is.rows.kind.rows) in
         omega (arith, less, is.height, made.placement.height)
 
@@ -77,13 +81,16 @@ module _ (problem : ProblemModel) where
   pub placement-unique : (first second : Placed) → first.widths ≡ second.widths → IsPlacement problem first → IsPlacement problem second → first ≡ second
   placement-unique first second same one other =
       let rows : first.heights ≡ second.heights = least-unique (row_gap_of problem.style) (GiveHigh problem second.widths) first.heights second.heights
-      (one.rows.kind.rows ∙ sym other.rows.kind.rows) (subst (λ widths. AreLeast (row_gap_of problem.style) (GiveHigh problem widths) first.heights) same one.rows) other.rows in
+      (one.rows.kind.rows ∙ sym other.rows.kind.rows) (subst (λ widths. AreLeast (row_gap_of problem.style) (GiveHigh problem widths) first.heights)
+          same one.rows) other.rows in
       let wide : first.width ≡ second.width = one.width ∙ ap (total_width problem) same ∙ sym other.width in
       let high : first.height ≡ second.height = one.height ∙ ap (total_height problem) rows ∙ sym other.height in
-      same-made (λ widths heights width height. placed_of widths heights width height) first.widths second.widths first.heights second.heights first.width second.width first.height second.height same rows wide high
+      same-made (λ widths heights width height. placed_of widths heights width height) first.widths second.widths first.heights second.heights
+          first.width second.width first.height second.height same rows wide high
 
   pub tight-unique : (widths : List ℕ) (first second : Placed) → IsTightFrom problem widths first → IsTightFrom problem widths second → first ≡ second
   tight-unique widths first second one other =
       placement-unique first second
-      (least-unique (gap_of problem.style) (KeepHigh problem widths) first.widths second.widths (one.placement.page.columns ∙ sym other.placement.page.columns) one.columns other.columns)
+      (least-unique (gap_of problem.style) (KeepHigh problem widths) first.widths second.widths
+          (one.placement.page.columns ∙ sym other.placement.page.columns) one.columns other.columns)
       one.placement other.placement

@@ -18,7 +18,8 @@ InRange problem widths s r = (first_in_class problem s r.first ≤ span_width pr
 -- ---- the whole
 
 -- the range of a span in the whole
-whole-range : (problem : ProblemModel) (s : ℕ) → s < length (spans_of problem) → range_at (whole_zone problem) s ≡ range 0 (length (classes_at problem s) - 1)
+pub whole-range : (problem : ProblemModel) (s : ℕ) → s < length (spans_of problem) →
+    range_at (whole_zone problem) s ≡ range 0 (length (classes_at problem s) - 1)
 whole-range problem s within = get_or-map (λ columns. range 0 (length (classes_of problem columns) - 1)) (spans_of problem) s (span 0 0) (range 0 0) within
 
 pub whole-is_zone : (problem : ProblemModel) → IsZone problem (whole_zone problem)
@@ -31,7 +32,8 @@ whole-is_zone problem = record {
 }
 
 -- a span of the problem lies within its columns
-span-within : (problem : ProblemModel) → IsSound problem → (s : ℕ) → s < length (spans_of problem) → ((span_at problem s).left < (span_at problem s).right) × ((span_at problem s).right ≤ problem.cols)
+pub span-within : (problem : ProblemModel) → IsSound problem → (s : ℕ) → s < length (spans_of problem) →
+    ((span_at problem s).left < (span_at problem s).right) × ((span_at problem s).right ≤ problem.cols)
 span-within problem sound s within =
     let found = spans-cell problem (span_at problem s) (Contains-get_or (spans_of problem) s (span 0 0) within) in
     let parts = has_span-parts (span_at problem s) found.0 found.2 in
@@ -42,20 +44,23 @@ pub whole-all : (problem : ProblemModel) → IsSound problem → (widths : List 
 whole-all problem sound widths page = record {
   page = page;
   ranges = λ s inside.
-      let within : s < length (spans_of problem) = omega (arith, inside, length-map (spans_of problem) (λ columns. range 0 (length (classes_of problem columns) - 1))) in
+      let within : s < length (spans_of problem) = omega (arith, inside,
+          length-map (spans_of problem) (λ columns. range 0 (length (classes_of problem columns) - 1))) in
       let some = classes-some problem (span_at problem s) in
       let columns = span-within problem sound s within in
       let least = least_width-within problem (span_at problem s) widths page in
       let most = room-in_page problem widths page (span_at problem s).left (span_at problem s).right columns.0 columns.1 in
       let end = get_or_past (classes_at problem s) (length (classes_at problem s) - 1 + 1) (page_room problem + 1) (omega arith) in
-      subst (InRange problem widths s) (sym (whole-range problem s within)) (omega (arith, least, classes-first problem (span_at problem s) 0), omega (arith, most, end));
+      subst (InRange problem widths s) (sym (whole-range problem s within)) (omega (arith, least, classes-first problem (span_at problem s) 0),
+          omega (arith, most, end));
 }
 
 -- ---- a cut
 
 -- two numbers are the same or not
-cases_eq : (t s : ℕ) → (t ≡ s) ⊎ (t ≢ s)
-cases_eq t s = elim (cases_lt t s) [ inl less ↦ inr (λ e. omega arith) | inr more ↦ elim (cases_lt s t) [ inl above ↦ inr (λ e. omega arith) | inr same ↦ inl (omega arith) ] ]
+pub cases_eq : (t s : ℕ) → (t ≡ s) ⊎ (t ≢ s)
+cases_eq t s = elim (cases_lt t s) [ inl less ↦ inr (λ e. omega arith) | inr more ↦
+    elim (cases_lt s t) [ inl above ↦ inr (λ e. omega arith) | inr same ↦ inl (omega arith) ] ]
 
 module _ (problem : ProblemModel) (sound : IsSound problem) (zone : List Range) (is : IsZone problem zone) (s class : ℕ) (there : s < length zone)
     (from : (range_at zone s).first ≤ class) (before : class < (range_at zone s).last) where
@@ -66,7 +71,8 @@ module _ (problem : ProblemModel) (sound : IsSound problem) (zone : List Range) 
   upper_at = get_or-set_same zone s (range (class + 1) (range_at zone s).last) (range 0 0) there
 
   -- the class after the cut begins just past the end of the class before it
-  next_class : (last_in_class problem s class + 1 ≡ first_in_class problem s (class + 1)) × (first_in_class problem s class < first_in_class problem s (class + 1))
+  next_class : (last_in_class problem s class + 1 ≡ first_in_class problem s (class + 1)) ×
+      (first_in_class problem s class < first_in_class problem s (class + 1))
   next_class =
       let inside = is.ranges s there in
       let more : class + 1 < length (classes_at problem s) = omega (arith, inside.1) in
@@ -110,27 +116,34 @@ module _ (problem : ProblemModel) (sound : IsSound problem) (zone : List Range) 
   each_range widths r here others t within =
       let inside : t < length zone = omega (arith, within, length-set zone s r) in
       elim (cases_eq t s) [
-        | inl same ↦ subst (λ u. InRange problem widths u (range_at (set zone s r) u)) (sym same) (subst (InRange problem widths s) (sym (get_or-set_same zone s r (range 0 0) there)) here)
+        | inl same ↦ subst (λ u. InRange problem widths u (range_at (set zone s r) u)) (sym same)
+            (subst (InRange problem widths s) (sym (get_or-set_same zone s r (range 0 0) there)) here)
         | inr apart ↦ subst (InRange problem widths t) (sym (other_at r t apart)) (others t inside apart)
       ]
 
   -- widths in the zone are in the lower part or in the upper one
-  pub cut-cases : (widths : List ℕ) → InZone problem zone widths → InZone problem (lower_part zone s class) widths ⊎ InZone problem (upper_part zone s class) widths
+  pub cut-cases : (widths : List ℕ) → InZone problem zone widths →
+      InZone problem (lower_part zone s class) widths ⊎ InZone problem (upper_part zone s class) widths
   cut-cases widths inside =
       let here = inside.ranges s there in
       elim (cases_lt (last_in_class problem s class) (span_width problem widths s)) [
-        | inr narrow ↦ inl (record { page = inside.page; ranges = each_range widths (range (range_at zone s).first class) (here.0, narrow) (λ t within apart. inside.ranges t within) })
-        | inl wide ↦ inr (record { page = inside.page; ranges = each_range widths (range (class + 1) (range_at zone s).last) (omega (arith, next_class.0, wide), here.1) (λ t within apart. inside.ranges t within) })
+        | inr narrow ↦ inl (record { page = inside.page; ranges =
+            each_range widths (range (range_at zone s).first class) (here.0, narrow) (λ t within apart. inside.ranges t within) })
+        | inl wide ↦ inr (record { page = inside.page; ranges =
+            each_range widths (range (class + 1) (range_at zone s).last) (omega (arith, next_class.0, wide),
+            here.1) (λ t within apart. inside.ranges t within) })
       ]
 
-  part_inside : (r : Range) (widths : List ℕ) → (InRange problem widths s r → InRange problem widths s (range_at zone s)) → InZone problem (set zone s r) widths → InZone problem zone widths
+  part_inside : (r : Range) (widths : List ℕ) → (InRange problem widths s r → InRange problem widths s (range_at zone s)) →
+      InZone problem (set zone s r) widths → InZone problem zone widths
   part_inside r widths wider inside = record {
     page = inside.page;
     ranges = λ t within.
         let long : t < length (set zone s r) = omega (arith, within, length-set zone s r) in
         elim (cases_eq t s) [
           | inl same ↦ subst (λ u. InRange problem widths u (range_at zone u)) (sym same)
-              (wider (subst (InRange problem widths s) (get_or-set_same zone s r (range 0 0) there) (inside.ranges s (omega (arith, there, length-set zone s r)))))
+              (wider (subst (InRange problem widths s) (get_or-set_same zone s r (range 0 0) there)
+                  (inside.ranges s (omega (arith, there, length-set zone s r)))))
           | inr apart ↦ subst (InRange problem widths t) (other_at r t apart) (inside.ranges t long)
         ];
   }
@@ -138,17 +151,21 @@ module _ (problem : ProblemModel) (sound : IsSound problem) (zone : List Range) 
   -- and what is in a part is in the zone
   pub lower-inside : (widths : List ℕ) → InZone problem (lower_part zone s class) widths → InZone problem zone widths
   lower-inside widths inside =
-      part_inside (range (range_at zone s).first class) widths (λ here. (here.0, omega (arith, here.1, earlier_end class (range_at zone s).last (omega arith) (is.ranges s there).1))) inside
+      part_inside (range (range_at zone s).first class) widths
+          (λ here. (here.0, omega (arith, here.1, earlier_end class (range_at zone s).last (omega arith) (is.ranges s there).1))) inside
 
   pub upper-inside : (widths : List ℕ) → InZone problem (upper_part zone s class) widths → InZone problem zone widths
   upper-inside widths inside =
-      part_inside (range (class + 1) (range_at zone s).last) widths (λ here. (omega (arith, here.0, later_start (range_at zone s).first (class + 1) (omega arith) (omega (arith, (is.ranges s there).1))), here.1)) inside
+      part_inside (range (class + 1) (range_at zone s).last) widths
+          (λ here. (omega (arith, here.0, later_start (range_at zone s).first (class + 1) (omega arith) (omega (arith, (is.ranges s there).1))),
+          here.1)) inside
 
   -- no widths are in both parts
   pub parts-apart : (widths : List ℕ) → InZone problem (lower_part zone s class) widths → InZone problem (upper_part zone s class) widths → ⊥
   parts-apart widths low high =
       let below = subst (InRange problem widths s) lower_at (low.ranges s (omega (arith, there, length-set zone s (range (range_at zone s).first class)))) in
-      let above = subst (InRange problem widths s) upper_at (high.ranges s (omega (arith, there, length-set zone s (range (class + 1) (range_at zone s).last)))) in
+      let above = subst (InRange problem widths s) upper_at (high.ranges s
+          (omega (arith, there, length-set zone s (range (class + 1) (range_at zone s).last)))) in
       omega (arith, below.1, above.0, next_class.0)
 
   -- both parts are zones
@@ -158,7 +175,8 @@ module _ (problem : ProblemModel) (sound : IsSound problem) (zone : List Range) 
     ranges = λ t long.
         let inside : t < length zone = omega (arith, long, length-set zone s r) in
         elim (cases_eq t s) [
-          | inl same ↦ subst (λ u. ((range_at (set zone s r) u).first ≤ (range_at (set zone s r) u).last) × ((range_at (set zone s r) u).last < length (classes_at problem u))) (sym same)
+          | inl same ↦ subst (λ u. ((range_at (set zone s r) u).first ≤ (range_at (set zone s r) u).last) ×
+              ((range_at (set zone s r) u).last < length (classes_at problem u))) (sym same)
               (subst (λ q. (q.first ≤ q.last) × (q.last < length (classes_at problem s))) (sym (get_or-set_same zone s r (range 0 0) there)) (ordered, within))
           | inr apart ↦ subst (λ q. (q.first ≤ q.last) × (q.last < length (classes_at problem t))) (sym (other_at r t apart)) (is.ranges t inside)
         ];

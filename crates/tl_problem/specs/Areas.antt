@@ -18,8 +18,10 @@ area problem w h = (w + gap_of problem.style) * (h + row_gap_of problem.style)
 
 -- the least area of a cell, over the widths between its least and its greatest room
 pub record IsLeastArea (problem : ProblemModel) (Among : List ℕ → Type 0) (cell : Cell) (least : ℕ) : Type 0 where
-  pub attained : (w h : ℕ) × IsBetweenRooms problem Among cell w × (height_at cell.low w ≡ Some h) × (area problem w h ≡ least)
-  pub never_less : (w h : ℕ) → IsBetweenRooms problem Among cell w → height_at cell.low w ≡ Some h → least ≤ area problem w h
+  pub attained : (w h : ℕ) × IsBetweenRooms problem Among cell w × (height_at cell.low w ≡ Some h)
+      × (area problem w h ≡ least)
+  pub never_less : (w h : ℕ) → IsBetweenRooms problem Among cell w → height_at cell.low w ≡ Some h →
+      least ≤ area problem w h
 
 -- the greatest place at which the columns end, with a gap after the last
 pub record IsGreatestEnd (problem : ProblemModel) (Among : List ℕ → Type 0) (end : ℕ) : Type 0 where
@@ -44,4 +46,5 @@ pub record HoldAreas (problem : ProblemModel) (Among : List ℕ → Type 0) (lin
 pub record IsAreaBound (problem : ProblemModel) (Among : List ℕ → Type 0) (bound : ℕ) : Type 0 where
   pub some : (widths : List ℕ) × Among widths
   pub no_column : problem.cols ≡ 0 → bound ≡ 0
-  pub columns : 0 < problem.cols → (lines : ℕ) × HoldAreas problem Among lines × (bound ≡ 2 * edge_of problem.style + lines - row_gap_of problem.style)
+  pub columns : 0 < problem.cols → (lines : ℕ) × HoldAreas problem Among lines
+      × (bound ≡ 2 * edge_of problem.style + lines - row_gap_of problem.style)

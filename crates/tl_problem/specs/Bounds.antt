@@ -19,7 +19,8 @@ pub record IsGreatestRoom (problem : ProblemModel) (Among : List ℕ → Type 0)
 -- the heights, one for each row, give each cell its `low` at the greatest room of its span
 pub record GiveLow (problem : ProblemModel) (Among : List ℕ → Type 0) (heights : List ℕ) : Type 0 where
   pub rows : length heights ≡ problem.rows
-  pub cells : All (λ cell. (w : ℕ) → IsGreatestRoom problem Among cell.left cell.right w → IsLowAt cell.low (cell_height problem heights cell) w) problem.cells
+  pub cells : All (λ cell. (w : ℕ) → IsGreatestRoom problem Among cell.left cell.right w →
+      IsLowAt cell.low (cell_height problem heights cell) w) problem.cells
 
 -- `least` is the least total of sizes of this kind
 pub record IsLeastTotal (gap edge : ℕ) (OfKind : List ℕ → Type 0) (least : ℕ) : Type 0 where

@@ -16,7 +16,8 @@ pub record WithinPage (problem : ProblemModel) (widths : List ℕ) : Type 0 wher
 -- under these widths the heights, one for each row, give each cell what these steps of it need at its room
 pub record GiveHeights (problem : ProblemModel) (steps_of : Cell → List Config) (widths heights : List ℕ) : Type 0 where
   pub rows : length heights ≡ problem.rows
-  pub cells : All (λ cell. IsLowAt (steps_of cell) (cell_height problem heights cell) (cell_width problem widths cell)) problem.cells
+  pub cells : All (λ cell. IsLowAt (steps_of cell) (cell_height problem heights cell) (cell_width problem widths cell))
+      problem.cells
 
 -- the heights give each cell its `high` at its room
 abbrev pub GiveHigh : ProblemModel → List ℕ → List ℕ → Type 0

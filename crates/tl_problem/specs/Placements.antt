@@ -9,7 +9,8 @@ use Rattle.tl_problem.specs.Layouts.{WithinPage, GiveHigh}
 -- of all sizes of this kind, these begin each column, or row, at the least place, and end at the least
 pub record AreLeast (gap : ℕ) (OfKind : List ℕ → Type 0) (sizes : List ℕ) : Type 0 where
   pub kind : OfKind sizes
-  pub earliest : (other : List ℕ) → OfKind other → (place : ℕ) → place ≤ length sizes → position gap sizes place ≤ position gap other place
+  pub earliest : (other : List ℕ) → OfKind other → (place : ℕ) → place ≤ length sizes →
+      position gap sizes place ≤ position gap other place
 
 -- a placement: widths within the page, the least heights that give each cell its `high` at its room, and both totals
 pub record IsPlacement (problem : ProblemModel) (placed : Placed) : Type 0 where

@@ -1,11 +1,11 @@
 -- When a problem is sound: a grid in the limits, in which no two cells cover one slot, each column and row has a cell
 -- that begins there, and some layout is within the page.
-use Rattle.std.specs.Prelude.{◌≡◌, ℕ, ◌<◌, ◌≤◌, List, [], ◌∷◌, sum_by}
+use Rattle.std.specs.Prelude.{◌≡◌, ℕ, ◌+◌, ◌<◌, ◌≤◌, List, [], ◌∷◌, sum_by}
 use Rattle.std.specs.List.{All, AllPairs, Any}
+use Rattle.tl_base.specs.declared.limits.TheConstants.{MAX_COLUMNS, MAX_ROWS, MAX_PAGE_WIDTH, MAX_HEIGHT}
 use Rattle.tl_base.specs.declared.steps.Config.{Config}
 use Rattle.tl_base.specs.Steps.{AreSteps, first_width, IsLowAt}
 use Rattle.tl_problem.specs.declared.cell.Cell.{Cell}
-use Rattle.tl_problem.specs.declared.problem.TheConstants.{MAX_COLUMNS, MAX_ROWS, MAX_WIDTH, MAX_LINES}
 use Rattle.tl_problem.specs.Problem.{ProblemModel}
 use Rattle.tl_problem.specs.Layouts.{WithinPage}
 
@@ -27,14 +27,15 @@ pub record IsSoundCell (problem : ProblemModel) (cell : Cell) : Type 0 where
 abbrev pub ShareSlot : Cell → Cell → Type 0
 ShareSlot a b = ((a.left < b.right) × (b.left < a.right)) × ((a.top < b.bottom) × (b.top < a.bottom))
 
--- where there is no cell, no column and no row has one that begins there: then there is none of either
+-- the rows are those of a table and one for its caption; where there is no cell, no column and no row has one that begins
+-- there, so there is none of either
 pub record IsSound (problem : ProblemModel) : Type 0 where
   pub few_columns : problem.cols ≤ MAX_COLUMNS
-  pub few_rows : problem.rows ≤ MAX_ROWS
-  pub narrow : problem.width ≤ MAX_WIDTH
+  pub few_rows : problem.rows ≤ MAX_ROWS + 1
+  pub narrow : problem.width ≤ MAX_PAGE_WIDTH
   pub cells : All (IsSoundCell problem) problem.cells
   pub apart : AllPairs (λ a b. ShareSlot a b → ⊥) problem.cells
   pub columns : (column : ℕ) → column < problem.cols → Any (λ cell. cell.left ≡ column) problem.cells
   pub rows : (row : ℕ) → row < problem.rows → Any (λ cell. cell.top ≡ row) problem.cells
-  pub low_enough : sum_by (λ cell. greatest_height cell.high) problem.cells ≤ MAX_LINES
+  pub low_enough : sum_by (λ cell. greatest_height cell.high) problem.cells ≤ MAX_HEIGHT
   pub fits : (widths : List ℕ) × WithinPage problem widths

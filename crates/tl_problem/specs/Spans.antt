@@ -43,12 +43,14 @@ page_room problem = problem.width - 2 * edge_of problem.style
 
 -- whether `low` or `high` of a cell of the span has a step that begins at this width
 abbrev pub begins_step : ProblemModel → Span → ℕ → Bool
-begins_step problem columns w = list_any (λ cell. list_any (λ step. step.width == w) (cell.low ++ cell.high)) (cells_of problem columns)
+begins_step problem columns w =
+    list_any (λ cell. list_any (λ step. step.width == w) (cell.low ++ cell.high)) (cells_of problem columns)
 
 -- the first widths of the span's classes: the least width, and each further width of the page at which a step begins
 unfoldable pub classes_of : ProblemModel → Span → List ℕ
 classes_of problem columns =
-    least_width problem columns ∷ filter (begins_step problem columns) (range_with_len (least_width problem columns + 1) (page_room problem - least_width problem columns))
+    let least = least_width problem columns in
+    least ∷ filter (begins_step problem columns) (range_with_len (least + 1) (page_room problem - least))
 
 -- the product of some numbers
 abbrev pub product : List ℕ → ℕ

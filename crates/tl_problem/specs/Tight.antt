@@ -11,7 +11,8 @@ use Rattle.tl_problem.specs.Placements.{AreLeast, IsPlacement}
 -- `high` is at most that there
 pub record KeepHigh (problem : ProblemModel) (widths other : List ℕ) : Type 0 where
   pub columns : length other ≡ problem.cols
-  pub cells : All (λ cell. (h : ℕ) → height_at cell.high (cell_width problem widths cell) ≡ Some h → IsLowAt cell.high h (cell_width problem other cell)) problem.cells
+  pub cells : All (λ cell. (h : ℕ) → height_at cell.high (cell_width problem widths cell) ≡ Some h →
+      IsLowAt cell.high h (cell_width problem other cell)) problem.cells
 
 -- the placement made tight from these widths: the least positions that keep each cell's height, with the least heights
 pub record IsTightFrom (problem : ProblemModel) (widths : List ℕ) (placed : Placed) : Type 0 where

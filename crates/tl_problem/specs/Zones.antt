@@ -1,16 +1,13 @@
 -- Zones of a problem, and the widths in them. A zone gives each span a range of its classes; spans and classes go by
 -- number, from 0.
-use Rattle.std.specs.Prelude.{◌≡◌, ◌≢◌, IsTrue, ℕ, ◌+◌, ◌-◌, ◌<◌, ◌≤◌, List, length, map, get_or, set}
-use Rattle.std.specs.List.{All, Contains}
+use Rattle.std.specs.Prelude.{◌≡◌, ℕ, ◌+◌, ◌-◌, ◌<◌, ◌≤◌, List, length, map, get_or, set}
 use Rattle.tl_base.specs.Style.{gap_of}
-use Rattle.tl_base.specs.Steps.{height_at}
-use Rattle.tl_problem.specs.declared.cell.Cell.{Cell}
 use Rattle.tl_problem.specs.declared.cell.Span.{Span}
 use Rattle.tl_problem.specs.declared.zone.Range.{Range}
 use Rattle.tl_problem.specs.Sizes.{room}
 use Rattle.tl_problem.specs.Problem.{ProblemModel}
 use Rattle.tl_problem.specs.Layouts.{WithinPage}
-use Rattle.tl_problem.specs.Spans.{span, has_span, spans_of, classes_of, page_room}
+use Rattle.tl_problem.specs.Spans.{span, spans_of, classes_of, page_room}
 
 -- the span with this number, and its classes
 abbrev pub span_at : ProblemModel → ℕ → Span
@@ -36,7 +33,8 @@ range_at zone s = get_or zone s (range 0 0)
 -- a zone of the problem: for each span a range of its classes
 pub record IsZone (problem : ProblemModel) (zone : List Range) : Type 0 where
   pub spans : length zone ≡ length (spans_of problem)
-  pub ranges : (s : ℕ) → s < length zone → ((range_at zone s).first ≤ (range_at zone s).last) × ((range_at zone s).last < length (classes_at problem s))
+  pub ranges : (s : ℕ) → s < length zone →
+      ((range_at zone s).first ≤ (range_at zone s).last) × ((range_at zone s).last < length (classes_at problem s))
 
 -- the whole: each span has all its classes
 abbrev pub whole_zone : ProblemModel → List Range
@@ -55,29 +53,10 @@ span_width problem widths s = room (gap_of problem.style) widths (span_at proble
 
 -- the width is one of those that the zone gives the span
 abbrev pub IsWidthOf : ProblemModel → List Range → ℕ → ℕ → Type 0
-IsWidthOf problem zone s w = (first_in_class problem s (range_at zone s).first ≤ w) × (w ≤ last_in_class problem s (range_at zone s).last)
+IsWidthOf problem zone s w =
+    (first_in_class problem s (range_at zone s).first ≤ w) × (w ≤ last_in_class problem s (range_at zone s).last)
 
 -- the widths are in the zone: within the page, and the room of each span is a width of its range's classes
 pub record InZone (problem : ProblemModel) (zone : List Range) (widths : List ℕ) : Type 0 where
   pub page : WithinPage problem widths
   pub ranges : (s : ℕ) → s < length zone → IsWidthOf problem zone s (span_width problem widths s)
-
--- each span of the zone has one class
-abbrev pub HasOneClass : List Range → Type 0
-HasOneClass zone = All (λ r. r.first ≡ r.last) zone
-
--- at each width that the zone gives its span, a cell needs the same by `low` and by `high`
-abbrev pub AgreeIn : ProblemModel → List Range → Type 0
-AgreeIn problem zone = (s w : ℕ) (cell : Cell) → s < length zone → IsWidthOf problem zone s w → Contains problem.cells cell → IsTrue (has_span (span_at problem s) cell) →
-    height_at cell.low w ≡ height_at cell.high w
-
--- some cell needs less by `low` than by `high` at a width that the zone gives its span
-pub record DifferIn (problem : ProblemModel) (zone : List Range) : Type 0 where
-  pub s : ℕ
-  pub w : ℕ
-  pub cell : Cell
-  pub span : s < length zone
-  pub width : IsWidthOf problem zone s w
-  pub inside : Contains problem.cells cell
-  pub has : IsTrue (has_span (span_at problem s) cell)
-  pub differ : height_at cell.low w ≢ height_at cell.high w

@@ -1,5 +1,6 @@
 //! Laws of the definitions in this crate's specs. Each is the contract of a function that does nothing.
-ghost use Rattle.tl_problem.specs.Laws.{AreaBoundIsBelowLayouts, BoundIsBelowLayouts, BoundIsBelowPlacements, CutsArePartitions, OneClassIsExact, TightOnce, TightRaisesNothing, WholeHasAll};
+ghost use Rattle.tl_problem.specs.Laws.{AreaBoundIsBelowLayouts, BoundIsBelowLayouts, BoundIsBelowPlacements};
+ghost use Rattle.tl_problem.specs.Laws.{CutsArePartitions, OneClassIsExact, TightOnce, TightRaisesNothing, WholeHasAll};
 
 /// No layout by `low` with widths in a zone is lower than the zone's bound.
 pub fn bound_is_below_layouts()

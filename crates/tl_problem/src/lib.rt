@@ -3,11 +3,19 @@
 //! contract: a zone's bound is the least total height by which no layout in the zone is lower.
 #![tactic(auto)]
 
+mod area;
+mod axis;
+mod bound;
 mod cell;
 mod chain;
+mod constraints;
+mod demands;
 mod laws;
 mod placed;
+mod placing;
 mod problem;
+mod spans;
+mod work;
 mod zone;
 
 pub use cell::{Cell, Span};
@@ -17,5 +25,6 @@ pub use laws::{
     cuts_are_partitions, one_class_is_exact, tight_once, tight_raises_nothing, whole_has_all,
 };
 pub use placed::Placed;
-pub use problem::{MAX_COLUMNS, MAX_LINES, MAX_ROWS, MAX_WIDTH, Problem};
+pub use problem::Problem;
+pub use work::Work;
 pub use zone::{Range, Zone};

@@ -1,29 +1,32 @@
 //! A problem: a grid of cells to be laid out on a page of some width.
-use crate::Cell;
+
+ghost use Rattle.std.specs.Prelude.{◌≡◌, ◌<◌, ◌≤◌, ◌^◌, length, IfOk};
+ghost use Rattle.tl_problem.specs.Sound.{IsSound};
+ghost use Rattle.tl_problem.specs.Spans.{count_of, spans_of};
+ghost use Rattle.tl_problem.specs.inner.Axes.{IsOrder};
+ghost use Rattle.tl_problem.specs.Zones.{classes_at, whole_zone};
+
+use crate::axis::{Axis, Turn, order};
+use crate::spans::{find_classes, find_spans};
+use crate::{Cell, Range, Span, Zone};
+use std::alloc::{AllocError, Global};
 use std::marker::Model;
 use tl_base::{List, Style};
-
-/// The most columns of a problem.
-pub const MAX_COLUMNS: u32 = 60;
-
-/// The most rows of a problem: those of the largest table, and one for its caption.
-pub const MAX_ROWS: u32 = 2_001;
-
-/// The widest page, in columns.
-pub const MAX_WIDTH: u32 = 500;
-
-/// The most lines that the cells may need in all, each at its least width.
-pub const MAX_LINES: u32 = 1 << 30;
 
 /// A grid of cells on a page of `width` columns. Contracts see it as the record of its columns, rows,
 /// style, width and cells; it is sound.
 #[derive(Debug, Drop)]
 pub struct Problem {
+    alloc: Global,
     cols: u32,
     rows: u32,
     style: Style,
     width: u32,
     cells: List<Cell>,
+    spans: Vec<Span>,
+    classes: Vec<List<u32>>,
+    by_left: Vec<Turn>,
+    by_top: Vec<Turn>,
 }
 
 impl Model for Problem {
@@ -33,7 +36,143 @@ impl Model for Problem {
 
     ghost view = { λ p. record { cols = p.cols; rows = p.rows; style = p.style; width = p.width; cells = p.cells } };
 
-    ghost use Rattle.tl_problem.specs.Sound.{IsSound};
+    ghost use Rattle.tl_problem.specs.inner.Parts.{HasParts};
 
-    ghost invariant = { λ p. IsSound (record { cols = p.cols; rows = p.rows; style = p.style; width = p.width; cells = p.cells }) };
+    ghost invariant = { λ p. HasParts (record { cols = p.cols; rows = p.rows; style = p.style; width = p.width; cells = p.cells })
+        p.spans.items p.classes.items p.by_left.items p.by_top.items };
+}
+
+impl Problem {
+    /// The problem of these cells, which is sound: in the limits, with no two cells over one slot and
+    /// a cell that begins in each column and row, and with a layout within the page. It is taken apart
+    /// once, into its spans with their classes and its cells by left and by top.
+    pub fn new(
+        alloc: Global,
+        cols: u32,
+        rows: u32,
+        style: Style,
+        width: u32,
+        cells: List<Cell>,
+    ) -> Result<Problem, AllocError>
+        requires { IsSound (record { cols = cols; rows = rows; style = style; width = width; cells = cells }) }
+        ensures { IfOk result (λ problem. problem ≡ record { cols = cols; rows = rows; style = style; width = width; cells = cells }) }
+    {
+        let page_room = width.saturating_sub(2 * style.edge());
+        let spans = find_spans(alloc, cols, cells.as_slice())?;
+        let classes = find_classes(alloc, cells.as_slice(), &spans, page_room)?;
+        let by_left = order(alloc, cells.as_slice(), Axis::Columns)?;
+        let by_top = order(alloc, cells.as_slice(), Axis::Rows)?;
+        Ok(Problem {
+            alloc,
+            cols,
+            rows,
+            style,
+            width,
+            cells,
+            spans,
+            classes,
+            by_left,
+            by_top,
+        })
+    }
+
+    /// The number of columns.
+    pub fn cols(&self) -> u32
+        ensures { result ≡ self.now.cols }
+    {
+        self.cols
+    }
+
+    /// The number of rows.
+    pub fn rows(&self) -> u32
+        ensures { result ≡ self.now.rows }
+    {
+        self.rows
+    }
+
+    /// The width of the page, in columns.
+    pub fn width(&self) -> u32
+        ensures { result ≡ self.now.width }
+    {
+        self.width
+    }
+
+    /// How the table is drawn.
+    pub fn style(&self) -> Style
+        ensures { result ≡ self.now.style }
+    {
+        self.style
+    }
+
+    /// Lends the cells, in the order in which they were given.
+    pub fn cells(&self) -> &[Cell]
+        ensures cells { result.now ≡ self.now.cells }
+        ensures sound { IsSound self.now }
+    {
+        self.cells.as_slice()
+    }
+
+    /// Lends the distinct spans of the cells, by left, then right.
+    pub fn spans(&self) -> &[Span]
+        ensures spans { result.now ≡ spans_of self.now }
+        ensures sound { IsSound self.now }
+    {
+        self.spans.as_slice()
+    }
+
+    /// Lends the first widths of the classes of the span with number `s`, rising.
+    pub fn classes(&self, s: u32) -> &[u32]
+        requires { s < length (spans_of self.now) }
+        ensures { result.now ≡ classes_at self.now s }
+    {
+        self.class_list(s as usize)
+    }
+
+    /// The first widths of the classes of the span with number `s`.
+    pub(crate) fn class_list(&self, s: usize) -> &[u32]
+        requires { s < length (spans_of self.now) }
+        ensures { result.now ≡ classes_at self.now s }
+    {
+        self.classes[s].as_slice()
+    }
+
+    /// The allocator.
+    pub(crate) fn alloc(&self) -> Global {
+        self.alloc
+    }
+
+    /// The cells in the order in which they begin.
+    pub(crate) fn order(&self, axis: Axis) -> &[Turn]
+        ensures { IsOrder axis self.now.cells result.now }
+    {
+        match axis {
+            Axis::Columns => self.by_left.as_slice(),
+            Axis::Rows => self.by_top.as_slice(),
+        }
+    }
+
+    /// How many ways there are to give each span one of its classes, at most `2^64 - 1`.
+    pub fn count(&self) -> u64
+        ensures { result ≡ count_of self.now }
+    {
+        let mut count: u64 = 1;
+        for classes in &self.classes {
+            count = count.saturating_mul(classes.len() as u64);
+        }
+        count
+    }
+
+    /// The zone of all layouts: each span has all its classes.
+    pub fn whole(&self) -> Result<Zone, AllocError>
+        ensures { IfOk result (λ zone. zone ≡ whole_zone self.now) }
+    {
+        let mut ranges = List::new(self.alloc);
+        for classes in &self.classes {
+            ranges.push(Range {
+                first: 0,
+                last: (classes.len() - 1) as u32,
+            })?;
+        }
+        Ok(Zone::from_ranges(self.alloc, ranges))
+    }
 }

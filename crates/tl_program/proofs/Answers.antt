@@ -1,5 +1,6 @@
 -- What the sizes of a column tell of the answer to its file.
 use Rattle.std.proofs.Common.{◌≡◌, ℕ, ◌≤◌, List, [], ◌∷◌, length, map, Some, None, refl, sym, ◌∙◌, ap, subst, arith}
+use Rattle.tl_base.specs.declared.limits.TheConstants.{MAX_FILE_BYTES}
 use Rattle.std.specs.Prelude.{Option, sum}
 use Rattle.std.specs.List.{AllByRecursion, AllZip}
 use Rattle.std.specs.Str.{encode_utf8_all}
@@ -135,6 +136,6 @@ lowest_page width bytes rows texts w heights page summary form is laid shows tol
 
 -- a file has few rows
 pub few_heights : (width : ℕ) (bytes : List ℕ) (rows : List (Option (List Atom))) (texts : List (List ℕ)) (w : ℕ) (heights : List ℕ) →
-    IsOneColumn bytes texts → rows ≡ map paragraph_of texts → IsLaid width rows w heights → length heights ≤ 1048576
+    IsOneColumn bytes texts → rows ≡ map paragraph_of texts → IsLaid width rows w heights → length heights ≤ MAX_FILE_BYTES
 few_heights width bytes rows texts w heights form is laid =
     omega (arith, form.rows, ap length is, length-map texts paragraph_of, AllZip-long (FitsRow w) rows heights laid.fits)

@@ -1,5 +1,6 @@
 -- Each end of the program, from its cause and what stands.
-use Rattle.std.proofs.Common.{◌≡◌, ◌⊎◌, inl, inr, ℕ, ◌≤◌, List, length, take, Some, None, refl, sym, ◌∙◌, ap, subst, arith}
+use Rattle.std.proofs.Common.{◌≡◌, ◌⊎◌, inl, inr, ℕ, ◌+◌, ◌≤◌, List, length, take, Some, None, refl, sym, ◌∙◌, ap, subst, arith}
+use Rattle.tl_base.specs.declared.limits.TheConstants.{MAX_FILE_BYTES}
 use Rattle.std.specs.Prelude.{Option, IfSome, option_map}
 use Rattle.tl_base.specs.Desk.{Files, IsReadFrom, Rose, stored}
 use Rattle.tl_program.specs.declared.status.Status.{Status}
@@ -129,33 +130,33 @@ module _ (words : List (List ℕ)) (change : Change) where
         stands (inr kept) = inr (page, written, summary, laid, kept)
 
 -- the content of which the bytes are the first, or all
-pub content_of : (files : Option Files) (name bytes : List ℕ) → length bytes ≤ 1048577 →
-    IfSome files (λ held. IsReadFrom held name 1048576 bytes) → (content : List ℕ) × Holds files name content × (take 1048577 content ≡ bytes)
-content_of None name bytes short read = (bytes, tt, take_all 1048577 bytes short)
+pub content_of : (files : Option Files) (name bytes : List ℕ) → length bytes ≤ MAX_FILE_BYTES + 1 →
+    IfSome files (λ held. IsReadFrom held name MAX_FILE_BYTES bytes) → (content : List ℕ) × Holds files name content × (take (MAX_FILE_BYTES + 1) content ≡ bytes)
+content_of None name bytes short read = (bytes, tt, take_all (MAX_FILE_BYTES + 1) bytes short)
 content_of (Some held) name bytes short read = found (held name) read where
-  found : (there : Option (List ℕ)) → option_map (take 1048577) there ≡ Some bytes →
-      (content : List ℕ) × (there ≡ Some content) × (take 1048577 content ≡ bytes)
+  found : (there : Option (List ℕ)) → option_map (take (MAX_FILE_BYTES + 1)) there ≡ Some bytes →
+      (content : List ℕ) × (there ≡ Some content) × (take (MAX_FILE_BYTES + 1) content ≡ bytes)
   found None is = absurd cc
   found (Some content) is = (content, refl, cc)
 
 -- bytes within the limit are the whole content
-whole_content : (content bytes : List ℕ) → take 1048577 content ≡ bytes → length bytes ≤ 1048576 → bytes ≡ content
+whole_content : (content bytes : List ℕ) → take (MAX_FILE_BYTES + 1) content ≡ bytes → length bytes ≤ MAX_FILE_BYTES → bytes ≡ content
 whole_content content bytes is short =
-    let long : length content ≤ 1048577 = omega (arith, ap length is, length-take 1048577 content) in
-    sym is ∙ take_all 1048577 content long
+    let long : length content ≤ MAX_FILE_BYTES + 1 = omega (arith, ap length is, length-take (MAX_FILE_BYTES + 1) content) in
+    sym is ∙ take_all (MAX_FILE_BYTES + 1) content long
 
 -- what is laid out is the whole file
-pub lowest_of_content : (width : ℕ) (content bytes page summary : List ℕ) → take 1048577 content ≡ bytes →
+pub lowest_of_content : (width : ℕ) (content bytes page summary : List ℕ) → take (MAX_FILE_BYTES + 1) content ≡ bytes →
     IsLowestPage width bytes page summary → IsLowestPage width content page summary
 lowest_of_content width content bytes page summary is lowest =
     subst (λ (bs : List ℕ). IsLowestPage width bs page summary) (whole_content content bytes is lowest.form.size) lowest
 
-pub narrow_of_content : (width : ℕ) (content bytes summary : List ℕ) → take 1048577 content ≡ bytes →
+pub narrow_of_content : (width : ℕ) (content bytes summary : List ℕ) → take (MAX_FILE_BYTES + 1) content ≡ bytes →
     IsTooNarrowPage width bytes summary → IsTooNarrowPage width content summary
 narrow_of_content width content bytes summary is narrow =
     subst (λ (bs : List ℕ). IsTooNarrowPage width bs summary) (whole_content content bytes is narrow.form.size) narrow
 
-pub other_of_content : (content bytes : List ℕ) → take 1048577 content ≡ bytes → IsOtherForm bytes → IsOtherForm content
+pub other_of_content : (content bytes : List ℕ) → take (MAX_FILE_BYTES + 1) content ≡ bytes → IsOtherForm bytes → IsOtherForm content
 other_of_content content bytes is other = λ texts form.
-    let same : content ≡ bytes = sym (take_all 1048577 content (omega (arith, form.size))) ∙ is in
+    let same : content ≡ bytes = sym (take_all (MAX_FILE_BYTES + 1) content (omega (arith, form.size))) ∙ is in
     other texts (subst (λ (bs : List ℕ). IsOneColumn bs texts) same form)

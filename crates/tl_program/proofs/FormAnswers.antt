@@ -1,5 +1,6 @@
 -- What the rows that were found tell of the whole file.
 use Rattle.std.proofs.Common.{◌≡◌, ℕ, ◌≤◌, List, [], length, map, Bool, true, false, refl, subst, Bor}
+use Rattle.tl_base.specs.declared.limits.TheConstants.{MAX_FILE_BYTES, MAX_ROWS}
 use Rattle.std.specs.Prelude.{IfSome, IfNone, IsTrue, ◌↔◌, codes}
 use Rattle.std.specs.Bool.{then_some}
 use Rattle.tl_program.specs.OneColumn.{HasTag, HasRow, HasRows, IsOneColumn}
@@ -20,7 +21,7 @@ module _ (bytes in_table place : List ℕ) (lent : List (Bor (List ℕ)))
     (so_far : RowsBetween in_table place (texts_of lent)) (none : (t r : List ℕ) → HasRow place t r → ⊥) where
   -- where the table ends behind the rows, the file has the form
   pub form_found : (ends : Bool) → (IsTrue ends ↔ HasRows place []) → HasTag (codes "<table>") bytes in_table →
-      length bytes ≤ 1048576 → length (texts_of lent) ≤ 2000 → IfSome (then_some ends lent) (λ texts. IsOneColumn bytes (texts_of texts))
+      length bytes ≤ MAX_FILE_BYTES → length (texts_of lent) ≤ MAX_ROWS → IfSome (then_some ends lent) (λ texts. IsOneColumn bytes (texts_of texts))
   form_found false told table_begins size rows = tt
   form_found true told table_begins size rows = record {
     size = size;

@@ -1,12 +1,14 @@
 -- The texts of rows are ASCII, and no longer than the file; their words are paragraphs.
 use Rattle.std.proofs.Common.{◌≡◌, ℕ, ◌+◌, ◌<◌, ◌≤◌, true, zero, suc, List, [], ◌∷◌, ◌++◌, length, map, refl, sym, ◌∙◌, ap, arith, Some, None, length-append, get_or, Bor}
+use Rattle.tl_base.specs.declared.limits.TheConstants.{MAX_FILE_BYTES}
 use Rattle.std.specs.Prelude.{Option, SomeIff, codes}
 use Rattle.std.specs.List.{AllByRecursion, list_all}
 use Rattle.std.specs.Str.{IsAscii, IsUtf8, chars}
 use Rattle.std.proofs.lemmas.Str.{IsUtf8-from_ascii, encodes-chars, chars-IsAscii}
 use Rattle.tl_text.specs.declared.paragraph.Atom.{Atom}
 use Rattle.tl_text.specs.declared.paragraph.Atom.TheVariants.{Word}
-use Rattle.tl_text.specs.Words.{words_of, byte_count}
+use Rattle.tl_base.specs.Text.{byte_count}
+use Rattle.tl_text.specs.Words.{words_of}
 use Rattle.tl_text.specs.Paragraph.{IsParagraph}
 use Rattle.tl_text.proofs.WordParagraphs.{words_are_paragraph}
 use Rattle.tl_program.specs.OneColumn.{is_text_byte, IsText, HasRow, HasRows, IsOneColumn}
@@ -76,7 +78,7 @@ pub chars_of_text : (text : List ℕ) → IsText text → chars text ≡ text
 chars_of_text text is = chars-IsAscii text (text_is_ascii text is)
 
 -- the paragraph of a text
-pub text_makes_paragraph : (text : List ℕ) (answer : Option (List Atom)) → IsText text → length text ≤ 1048576 →
+pub text_makes_paragraph : (text : List ℕ) (answer : Option (List Atom)) → IsText text → length text ≤ MAX_FILE_BYTES →
     SomeIff answer (IsParagraph (map Word (words_of (chars text)))) (map Word (words_of (chars text))) → answer ≡ paragraph_of text
 text_makes_paragraph text answer is small told =
     let same : chars text ≡ text = chars_of_text text is in
@@ -91,7 +93,7 @@ lent_texts bytes (text ∷ lent) all = (all.0, lent_texts bytes lent all.1)
 
 -- each of them is a text, and within the limit
 pub text_at : (bytes : List ℕ) (lent : List (Bor (List ℕ))) (k : ℕ) (none : Bor (List ℕ)) → IsOneColumn bytes (map (λ text. text.now) lent) →
-    k < length lent → IsText (get_or lent k none).now × (length (get_or lent k none).now ≤ 1048576)
+    k < length lent → IsText (get_or lent k none).now × (length (get_or lent k none).now ≤ MAX_FILE_BYTES)
 text_at bytes lent k none form within =
     let all = lent_texts form.in_table lent (texts_are_in form.in_table (map (λ text. text.now) lent) form.table) in
     let here = All-from_recursion (λ text. IsTextIn form.in_table text.now) lent all k none within in (

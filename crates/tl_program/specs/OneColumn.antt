@@ -2,6 +2,7 @@
 use Rattle.std.specs.Prelude.{◌≡◌, ℕ, ◌≤◌, Bool, true, ◌&&◌, ◌||◌, not, ◌==◌, nat_le, nat_lt, List, [], ◌∷◌, ◌++◌, length, codes}
 use Rattle.std.specs.List.{list_all}
 use Rattle.std.specs.Char.{is_ascii_whitespace}
+use Rattle.tl_base.specs.declared.limits.TheConstants.{MAX_FILE_BYTES, MAX_ROWS}
 
 -- white space alone: tab, line feed, form feed, carriage return and space
 abbrev pub IsWhiteSpace : List ℕ → Type 0
@@ -40,8 +41,8 @@ HasRows bytes (text ∷ texts) = (rest : List ℕ) × HasRow bytes text rest × 
 
 -- the file has the one-column form, and these are its rows' texts
 pub record IsOneColumn (bytes : List ℕ) (texts : List (List ℕ)) : Type 0 where
-  pub size : length bytes ≤ 1048576
-  pub rows : length texts ≤ 2000
+  pub size : length bytes ≤ MAX_FILE_BYTES
+  pub rows : length texts ≤ MAX_ROWS
   pub in_table : List ℕ
   pub table_begins : HasTag (codes "<table>") bytes in_table
   pub table : HasRows in_table texts

@@ -4,7 +4,7 @@ ghost use Rattle.tl_program.specs.Layout.{FitsBlock};
 ghost use Rattle.tl_program.specs.ColumnSizes.{HoldsRow, IsWidest, IsSized, IsLaid, IsTooNarrowFor, IsTooNarrow};
 
 use std::alloc::{AllocError, Global};
-use tl_base::List;
+use tl_base::{List, MAX_FILE_BYTES};
 use tl_text::{Para, count_lines, least_width};
 
 /// How wide and how high a row stands: its width in columns and its height in lines.
@@ -70,7 +70,7 @@ fn row_least_width(row: &Option<Para>) -> u32
 
 /// The sum of the heights, in lines.
 pub fn total_height(heights: &[u32]) -> u64
-    requires { length heights.now ≤ 1048576 }
+    requires { length heights.now ≤ MAX_FILE_BYTES }
     ensures { result ≡ sum heights.now }
 {
     let mut total = 0;

@@ -1,12 +1,12 @@
 ghost use Rattle.std.specs.Prelude.{◌≡◌, ◌≢◌, ◌↔◌, ℕ, [], map, codes, string_bytes, IfSome, IfNone, IsTrue};
 ghost use Rattle.tl_program.specs.Command.{IsLay, IsUsage, IsWidth};
 
-use tl_base::read_number;
+use tl_base::{MAX_PAGE_WIDTH, read_number};
 
 /// The command to lay a table out, as its words say it: `lay WIDTH IN PAGE`.
 #[derive(Clone, Copy, Debug)]
 pub struct Lay<'a> {
-    /// The page width in columns, from 1 to 500.
+    /// The page width in columns, from 1 to [`MAX_PAGE_WIDTH`].
     pub width: u32,
     /// The name of the file to read.
     pub input: &'a str,
@@ -16,7 +16,7 @@ pub struct Lay<'a> {
 
 impl<'a> Lay<'a> {
     /// The command that the words are, or `None` where they are none: WIDTH is a canonical decimal
-    /// from 1 to 500, and the names are not empty and differ.
+    /// from 1 to [`MAX_PAGE_WIDTH`], and the names are not empty and differ.
     pub fn parse(words: &'a [String]) -> Option<Lay<'a>>
         ensures command { IfSome result (λ lay. IsLay (map string_bytes words.now) lay.width lay.input.now lay.page.now) }
         ensures usage { IfNone result (IsUsage (map string_bytes words.now)) }
@@ -49,7 +49,7 @@ fn page_width(word: &str) -> Option<u32>
     ensures none { IfNone result ((width : ℕ) → ¬ (IsWidth word.now width)) }
 {
     let (width, past) = read_number(word.as_bytes(), 0)?;
-    if past != word.len() || width < 1 || width > 500 {
+    if past != word.len() || width < 1 || width > u64::from(MAX_PAGE_WIDTH) {
         return None;
     }
     Some(width as u32)

@@ -4,13 +4,7 @@ ghost use Rattle.std.specs.Char.{is_ascii_whitespace};
 ghost use Rattle.tl_program.specs.OneColumn.{is_text_byte, IsWhiteSpace, IsText, HasTag, HasText, HasRow, HasRows, IsOneColumn};
 
 use std::alloc::{AllocError, Global};
-use tl_base::List;
-
-/// The most bytes that a file may have.
-pub const MOST_BYTES: usize = 1_048_576;
-
-/// The most rows that a table may have.
-pub const MOST_ROWS: usize = 2000;
+use tl_base::{List, MAX_FILE_BYTES, MAX_ROWS};
 
 /// A row of one cell: its text, and the bytes behind the row.
 #[derive(Clone, Copy)]
@@ -20,7 +14,7 @@ struct Row<'a> {
 }
 
 /// The texts of the rows, where the file has the one-column form: `<table>`, at most
-/// [`MOST_ROWS`] rows `<tr><td>TEXT</td></tr>`, and `</table>`, in at most [`MOST_BYTES`] bytes.
+/// [`MAX_ROWS`] rows `<tr><td>TEXT</td></tr>`, and `</table>`, in at most [`MAX_FILE_BYTES`] bytes.
 /// White space may stand before and after each tag; what stands between `<td>` and `</td>` is the
 /// text, of printable ASCII without `<` and `&`, and white space.
 pub fn row_texts(alloc: Global, bytes: &[u8]) -> Result<Option<List<&[u8]>>, AllocError>
@@ -29,7 +23,7 @@ pub fn row_texts(alloc: Global, bytes: &[u8]) -> Result<Option<List<&[u8]>>, All
         → other ≡ map (λ text. text.now) texts)) }
     ensures none { IfOk result (λ read. IfNone read ((texts : List (List ℕ)) → ¬ (IsOneColumn bytes.now texts))) }
 {
-    if bytes.len() > MOST_BYTES {
+    if bytes.len() > MAX_FILE_BYTES {
         return Ok(None);
     }
     let Some(in_table) = after_tag(bytes, b"<table>") else {
@@ -38,7 +32,7 @@ pub fn row_texts(alloc: Global, bytes: &[u8]) -> Result<Option<List<&[u8]>>, All
     let mut texts = List::new(alloc);
     let mut rest = in_table;
     while let Some(row) = next_row(rest) {
-        if texts.len() == MOST_ROWS {
+        if texts.len() == MAX_ROWS {
             return Ok(None);
         }
         texts.push(row.text)?;

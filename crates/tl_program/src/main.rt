@@ -4,6 +4,9 @@
 //! stored is of the least height.
 #![tactic(auto)]
 
+ghost use Rattle.std.specs.Prelude.{◌≡◌, ◌≢◌};
+ghost use Rattle.std.specs.IoError.{error_kind};
+
 mod answer;
 mod column;
 mod command;
@@ -17,24 +20,40 @@ mod tests;
 
 use run::run;
 use status::Status;
+use std::env;
+use std::io::{self, ErrorKind};
 use std::process::ExitCode;
-use std::{env, io};
 use tl_base::{NoGate, RealDesk};
 
-/// Carries out the words of the command line. Where the words cannot be had, it says nothing: it
-/// ends with 9 for want of memory, and with 2 for another cause, such as a word that is not UTF-8.
+/// Carries out the arguments of the command line. Where they cannot be had, nothing is printed.
 fn main(rt: HostRuntime) -> ExitCode {
     let alloc = rt.alloc();
-    let status = match words(&rt) {
-        Ok(words) => run(alloc, words.as_slice(), &mut RealDesk::new(&rt), &NoGate),
-        Err(error) if error.kind() == io::ErrorKind::OutOfMemory => Status::Memory as u8,
-        Err(_) => Status::Usage as u8,
+    let status = match arguments(&rt) {
+        Ok(arguments) => run(
+            alloc,
+            arguments.as_slice(),
+            &mut RealDesk::new(&rt),
+            &NoGate,
+        ),
+        Err(error) => status_without_arguments(&error).number(),
     };
     ExitCode::from(status)
 }
 
-/// The words after the program's name.
-fn words(rt: &(impl std::rt::Env + AllocGlobal)) -> io::Result<Vec<String>> {
+/// The status where the arguments cannot be had: memory ran out, or there is another cause, such as
+/// an argument that is not UTF-8.
+fn status_without_arguments(error: &io::Error) -> Status
+    ensures memory { error_kind error.now ≡ ErrorKind.OutOfMemory → result ≡ Status.Memory }
+    ensures other { error_kind error.now ≢ ErrorKind.OutOfMemory → result ≡ Status.Usage }
+{
+    match error.kind() {
+        ErrorKind::OutOfMemory => Status::Memory,
+        _ => Status::Usage,
+    }
+}
+
+/// The arguments after the program's name.
+fn arguments(rt: &(impl std::rt::Env + AllocGlobal)) -> io::Result<Vec<String>> {
     env::args(rt)?
         .skip(1)
         .collect(rt.alloc())

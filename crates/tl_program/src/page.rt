@@ -1,7 +1,8 @@
-ghost use Rattle.std.specs.Prelude.{◌≡◌, ◌+◌, ◌≤◌, ◌++◌, ◌∷◌, [], ℕ, List, length, encode_utf8_all, IfOk, OnOk, Some};
+ghost use Rattle.std.specs.Prelude.{◌≡◌, ◌+◌, ◌*◌, ◌≤◌, ◌++◌, ◌∷◌, [], ℕ, List, length, encode_utf8_all, IfOk, OnOk, Some};
 ghost use Rattle.std.specs.List.{All, AllZip, AllByRecursion};
 ghost use Rattle.tl_text.specs.declared.paragraph.Atom.{Atom};
-ghost use Rattle.tl_text.specs.Words.{byte_count, width_of};
+ghost use Rattle.tl_base.specs.Text.{byte_count};
+ghost use Rattle.tl_text.specs.Words.{width_of};
 ghost use Rattle.tl_text.specs.Paragraph.{unit_width, atom_size};
 ghost use Rattle.tl_text.specs.Cuttings.{line_width, HasCutting};
 ghost use Rattle.tl_program.specs.TextPage.{spaces, unit_text, line_text, filled, IsTextPage};
@@ -9,7 +10,7 @@ ghost use Rattle.tl_program.specs.Column.{ShowsRow, column_of, column_layout, li
 ghost use Rattle.tl_program.specs.ColumnSizes.{HoldsRow, RowNeeds};
 
 use std::alloc::{AllocError, Global};
-use tl_base::{List, Text};
+use tl_base::{List, MAX_FILE_BYTES, Text};
 use tl_text::{Atom, Line, Para, TextError, lines, word_width};
 
 /// The text page of a column: line by line, each filled with spaces to `width` columns and ended
@@ -64,8 +65,8 @@ fn units_of(atoms: &[Atom], line: Line) -> &[Atom]
 
 /// Writes a line, with spaces up to `width` columns and a line feed.
 fn write_line(page: &mut List<u8>, units: &[Atom], width: u32) -> Result<(), AllocError>
-    requires few { length units.now ≤ 1048576 }
-    requires small { All (λ atom. atom_size atom ≤ 1048576) units.now }
+    requires few { length units.now ≤ MAX_FILE_BYTES }
+    requires small { All (λ atom. atom_size atom ≤ MAX_FILE_BYTES) units.now }
     ensures line { OnOk result (page.new ≡ page.old ++ encode_utf8_all (filled width units.now ++ 10 ∷ [])) }
 {
     let columns = write_units(page, units)?;
@@ -76,8 +77,8 @@ fn write_line(page: &mut List<u8>, units: &[Atom], width: u32) -> Result<(), All
 
 /// Writes the units of a line, and answers how many columns they take.
 fn write_units(page: &mut List<u8>, units: &[Atom]) -> Result<u64, AllocError>
-    requires few { length units.now ≤ 1048576 }
-    requires small { All (λ atom. atom_size atom ≤ 1048576) units.now }
+    requires few { length units.now ≤ MAX_FILE_BYTES }
+    requires small { All (λ atom. atom_size atom ≤ MAX_FILE_BYTES) units.now }
     ensures text { OnOk result (page.new ≡ page.old ++ encode_utf8_all (line_text units.now)) }
     ensures width { IfOk result (λ columns. columns ≡ line_width units.now) }
 {
@@ -91,11 +92,11 @@ fn write_units(page: &mut List<u8>, units: &[Atom]) -> Result<u64, AllocError>
 /// Writes the unit at a place of a line, with the gap before it, and answers how many columns the
 /// two take. A break takes none.
 fn write_unit(page: &mut List<u8>, unit: &Atom, at: usize) -> Result<u32, AllocError>
-    requires small { atom_size unit.now ≤ 1048576 }
+    requires small { atom_size unit.now ≤ MAX_FILE_BYTES }
     ensures text { OnOk result (page.new ≡ page.old
         ++ encode_utf8_all (spaces (gap_in_line at unit.now) ++ unit_text unit.now)) }
     ensures width { IfOk result (λ columns. columns ≡ gap_in_line at unit.now + unit_width unit.now) }
-    ensures few { IfOk result (λ columns. columns ≤ 2097153) }
+    ensures few { IfOk result (λ columns. columns ≤ 2 * MAX_FILE_BYTES + 1) }
 {
     match unit {
         Atom::Word(text) => {
@@ -112,10 +113,10 @@ fn write_unit(page: &mut List<u8>, unit: &Atom, at: usize) -> Result<u32, AllocE
 
 /// Writes the text of a unit, and answers its width.
 fn write_text(page: &mut List<u8>, text: &Text) -> Result<u32, AllocError>
-    requires small { byte_count text.now ≤ 1048576 }
+    requires small { byte_count text.now ≤ MAX_FILE_BYTES }
     ensures text { OnOk result (page.new ≡ page.old ++ encode_utf8_all text.now) }
     ensures width { IfOk result (λ columns. columns ≡ width_of text.now) }
-    ensures few { IfOk result (λ columns. columns ≤ 2097152) }
+    ensures few { IfOk result (λ columns. columns ≤ 2 * MAX_FILE_BYTES) }
 {
     page.extend_from_slice(text.as_str().as_bytes())?;
     Ok(word_width(text))

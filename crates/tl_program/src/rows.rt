@@ -5,7 +5,7 @@ ghost use Rattle.tl_program.specs.Column.{paragraph_of};
 
 use crate::form::row_texts;
 use std::alloc::{AllocError, Global};
-use tl_base::{List, Text};
+use tl_base::{List, MAX_FILE_BYTES, Text};
 use tl_text::{Atom, Para, words};
 
 /// The rows of a file in the one-column form, each with its paragraph or, where its text has no
@@ -30,7 +30,7 @@ pub fn first_form(alloc: Global, bytes: &[u8]) -> Result<Option<List<Option<Para
 /// The paragraph of a text: its words, or none where it has no word.
 fn paragraph(alloc: Global, text: &[u8]) -> Result<Option<Para>, AllocError>
     requires text { IsText text.now }
-    requires size { length text.now ≤ 1048576 }
+    requires size { length text.now ≤ MAX_FILE_BYTES }
     ensures { IfOk result (λ paragraph. paragraph ≡ paragraph_of text.now) }
 {
     let text = str::from_utf8(text).unwrap();

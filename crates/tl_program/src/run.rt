@@ -4,10 +4,9 @@ ghost use Rattle.tl_program.specs.Run.{Change, number_of, Ends, IsTold, IsDelive
 
 use crate::answer::{Answer, answer_file};
 use crate::command::Lay;
-use crate::form::MOST_BYTES;
 use crate::status::Status;
 use std::alloc::Global;
-use tl_base::{Desk, DeskFault, Gate};
+use tl_base::{Desk, DeskFault, Gate, MAX_FILE_BYTES};
 
 /// Carries out the words over the desk, and answers the exit status. The gate is for parallel
 /// work, of which there is none yet.
@@ -42,7 +41,7 @@ fn lay_file<D: Desk>(alloc: Global, lay: Lay<'_>, desk: &mut D) -> Status
       write_faults_after = D.write_faults desk.new;
     }) (number_of result) }
 {
-    let bytes = match desk.load(lay.input, MOST_BYTES as u32) {
+    let bytes = match desk.load(lay.input, MAX_FILE_BYTES as u32) {
         Ok(bytes) => bytes,
         Err(DeskFault::Failed) => return tell(desk, Status::ReadFault, b"read fault\n"),
         Err(DeskFault::Memory(_)) => return Status::Memory,

@@ -1,5 +1,6 @@
 -- The clusters of a text make it up and none is empty; so a paragraph that is separated into clusters is a paragraph.
-use Rattle.std.proofs.Common.{◌≡◌, ℕ, ◌+◌, ◌<◌, Bool, true, false, cond, ◌&&◌, ◌||◌, List, [], ◌∷◌, ◌++◌, length, map, sum_by, refl, ap, sym, subst, ◌∙◌, arith, length-append}
+use Rattle.std.proofs.Common.{◌≡◌, ℕ, ◌+◌, ◌<◌, Bool, true, false, cond, ◌&&◌, ◌||◌, List, [], ◌∷◌, ◌++◌, length, map, sum_by, refl, ap, sym, subst}
+use Rattle.std.proofs.Common.{◌∙◌, arith, length-append}
 use Rattle.std.specs.List.{AllByRecursion, list_any}
 use Rattle.std.specs.Char.{is_ascii_whitespace}
 use Rattle.std.specs.Str.{chars, encode_utf8_all, IsUtf8}
@@ -12,7 +13,7 @@ use Rattle.unicode_segmentation.specs.Grapheme.{is_grapheme_break, graphemes}
 use Rattle.unicode_segmentation.specs.Segments.{Rule, cut, prepend, segments}
 use Rattle.tl_text.specs.declared.paragraph.Atom.{Atom}
 use Rattle.tl_text.specs.declared.paragraph.Atom.TheVariants.{Word, Glue, Break}
-use Rattle.tl_text.specs.Words.{byte_count}
+use Rattle.tl_base.specs.Text.{byte_count}
 use Rattle.tl_text.specs.Paragraph.{IsSolid, IsSpelt, IsParagraph, atom_size}
 use Rattle.tl_text.specs.Cuttings.{joined}
 use Rattle.tl_text.specs.Clusters.{clusters_of, word_of, units_of, by_clusters}
@@ -26,7 +27,8 @@ module _ (Q : ℕ → Type 0) (P : List ℕ → Type 0) (one : (c : ℕ) → Q c
   all-prepend c [] is each = (one c is, tt)
   all-prepend c (piece ∷ pieces) is each = (more c piece is each.0, each.1)
 
-  all-choice : (b : Bool) (c : ℕ) (pieces : List (List ℕ)) → Q c → AllByRecursion P pieces → AllByRecursion P (cond b ((c ∷ []) ∷ pieces) (prepend (c ∷ []) pieces))
+  all-choice : (b : Bool) (c : ℕ) (pieces : List (List ℕ)) → Q c → AllByRecursion P pieces
+      → AllByRecursion P (cond b ((c ∷ []) ∷ pieces) (prepend (c ∷ []) pieces))
   all-choice true c pieces is each = (one c is, each)
   all-choice false c pieces is each = all-prepend c pieces is each
 
@@ -46,7 +48,8 @@ joined-cut : (rule : Rule) (before cs after : List ℕ) → joined (cut rule bef
 unfolding cut
 joined-cut rule before [] after = refl
 joined-cut rule before (c ∷ cs) after =
-    joined-choice (rule (c ∷ before) (cs ++ after)) c (cut rule (c ∷ before) cs after) ∙ ap (λ (rest : List ℕ). c ∷ rest) (joined-cut rule (c ∷ before) cs after)
+    joined-choice (rule (c ∷ before) (cs ++ after)) c (cut rule (c ∷ before) cs after)
+    ∙ ap (λ (rest : List ℕ). c ∷ rest) (joined-cut rule (c ∷ before) cs after)
 
 -- the clusters of a text, joined, are the text
 pub joined-clusters : (text : List ℕ) → joined (clusters_of text) ≡ text
@@ -100,7 +103,10 @@ shown-pieces (piece ∷ pieces) each = λ i. chars-encodes piece each.0 i ∷ sh
 pub shown-graphemes : (bytes : List ℕ) → IsUtf8 bytes → map chars (graphemes true bytes) ≡ clusters_of (chars bytes)
 unfolding segments
 shown-graphemes bytes utf8 =
-    shown-pieces (clusters_of (chars bytes)) (all-cut (λ c. scalar c ≡ true) (λ piece. scalars piece ≡ true) (λ c is. ap (λ b. b && true) is) (λ c piece is each. ap (λ b. b && scalars piece) is ∙ each) (is_grapheme_break true) [] (chars bytes) [] (each-scalar (chars bytes) (scalars-chars bytes utf8)))
+    shown-pieces (clusters_of (chars bytes))
+    (all-cut (λ c. scalar c ≡ true) (λ piece. scalars piece ≡ true) (λ c is. ap (λ b. b && true) is)
+    (λ c piece is each. ap (λ b. b && scalars piece) is ∙ each) (is_grapheme_break true) [] (chars bytes) []
+    (each-scalar (chars bytes) (scalars-chars bytes utf8)))
 
 -- ---- one more cluster
 
@@ -116,11 +122,13 @@ word_of-more (first ∷ others) text = ap (λ (units : List Atom). Word first �
 -- ---- a separated paragraph is a paragraph
 
 -- units whose texts are solid
-spelt-glues : (texts : List (List ℕ)) (rest : List Atom) → AllByRecursion IsSolid texts → AllByRecursion IsSpelt rest → AllByRecursion IsSpelt (map Glue texts ++ rest)
+spelt-glues : (texts : List (List ℕ)) (rest : List Atom) → AllByRecursion IsSolid texts → AllByRecursion IsSpelt rest
+    → AllByRecursion IsSpelt (map Glue texts ++ rest)
 spelt-glues [] rest each after = after
 spelt-glues (text ∷ texts) rest each after = (each.0, spelt-glues texts rest each.1 after)
 
-spelt-word : (texts : List (List ℕ)) (rest : List Atom) → AllByRecursion IsSolid texts → AllByRecursion IsSpelt rest → AllByRecursion IsSpelt (word_of texts ++ rest)
+spelt-word : (texts : List (List ℕ)) (rest : List Atom) → AllByRecursion IsSolid texts → AllByRecursion IsSpelt rest
+    → AllByRecursion IsSpelt (word_of texts ++ rest)
 spelt-word [] rest each after = after
 spelt-word (text ∷ texts) rest each after = (each.0, spelt-glues texts rest each.1 after)
 

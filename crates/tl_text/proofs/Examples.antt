@@ -51,12 +51,12 @@ two_lines_hold : HoldsIn 2 (((aa ∷ []) ∷ (bb ∷ []) ∷ []) ∷ [])
 unfolding unicode_width
 two_lines_hold = (omega arith, (omega arith, tt))
 
--- and is greedy up to four columns: the second word does not fit on the first line
+-- the two lines are greedy up to four columns: the second word does not fit on the first line
 two_lines_fill : FillsLines 4 ((aa ∷ []) ∷ (bb ∷ []) ∷ [])
 unfolding unicode_width
 two_lines_fill = (omega arith, tt)
 
--- ---- breaks: the piece between two is a line, the one behind the last is none
+-- ---- breaks: the piece between two is a line, and the one after the last is none
 
 three_pieces : lined_pieces (a ∷ Break ∷ Break ∷ b ∷ Break ∷ []) ≡ (a ∷ []) ∷ [] ∷ (b ∷ []) ∷ []
 three_pieces = refl
@@ -70,7 +70,7 @@ glued_line : line_width (ab ∷ c ∷ []) ≡ 3
 unfolding unicode_width
 glued_line = refl
 
--- it may begin a line, and no piece
+-- a unit that goes on with a word may begin a line, and no piece
 glued_lines : IsCutting (ab ∷ c ∷ []) (((ab ∷ []) ∷ (c ∷ []) ∷ []) ∷ [])
 glued_lines = (((λ none. cc, (λ none. cc, tt)), refl), tt)
 

@@ -20,10 +20,12 @@ piece_lines w (unit ∷ units) = fill w (unit ∷ []) units
 -- how many lines follow an open line of `used` columns
 abbrev pub more : ℕ → ℕ → List Atom → ℕ
 more w used [] = 0
-more w used (unit ∷ units) = if nat_le (used + gap_before unit + unit_width unit) w then more w (used + gap_before unit + unit_width unit) units else 1 + more w (unit_width unit) units
+more w used (unit ∷ units) =
+    if nat_le (used + gap_before unit + unit_width unit) w then more w (used + gap_before unit + unit_width unit) units else 1 + more w (unit_width unit) units
 
 -- an open line never gets more room in a cutting's line than the rest of that line needs
-line_rest : (w : ℕ) (head rest : List Atom) (n used v : ℕ) → ((u : ℕ) → more w u rest ≤ n) → v + (sum_by unit_width head + sum_by gap_before head) ≤ w → (used ≤ v → more w used (head ++ rest) ≤ n) × (more w used (head ++ rest) ≤ 1 + n)
+line_rest : (w : ℕ) (head rest : List Atom) (n used v : ℕ) → ((u : ℕ) → more w u rest ≤ n) → v + (sum_by unit_width head + sum_by gap_before head) ≤ w
+    → (used ≤ v → more w used (head ++ rest) ≤ n) × (more w used (head ++ rest) ≤ 1 + n)
 line_rest w [] rest n used v after within = (λ _. after used, omega (arith, after used))
 line_rest w (unit ∷ head) rest n used v after within =
     let widths = sum_by-cons unit_width unit head in
@@ -36,13 +38,15 @@ line_rest w (unit ∷ head) rest n used v after within =
     )
 
 -- however full a line is, no more lines follow it than any cutting of the rest has
-pub more-least : (w : ℕ) (lines : List (List Atom)) → AllByRecursion (λ line. line ≢ []) lines → AllByRecursion (λ line. line_width line ≤ w) lines → (used : ℕ) → more w used (joined lines) ≤ length lines
+pub more-least : (w : ℕ) (lines : List (List Atom)) → AllByRecursion (λ line. line ≢ []) lines → AllByRecursion (λ line. line_width line ≤ w) lines
+    → (used : ℕ) → more w used (joined lines) ≤ length lines
 more-least w [] some holds used = omega arith
 more-least w ([] ∷ lines) some holds used = absurd (some.0 refl)
 more-least w ((unit ∷ line) ∷ lines) some holds used =
     let widths = sum_by-cons unit_width unit line in
     let next = λ (u : ℕ). line_rest w line (joined lines) (length lines) u (unit_width unit) (more-least w lines some.1 holds.1) (omega (arith, holds.0)) in
-    at_choice (λ m. m ≤ length ((unit ∷ line) ∷ lines)) (used + gap_before unit + unit_width unit) w _ _ (λ fits. omega (arith, (next (used + gap_before unit + unit_width unit)).1)) (λ over. omega (arith, (next (unit_width unit)).0 (omega arith)))
+    at_choice (λ m. m ≤ length ((unit ∷ line) ∷ lines)) (used + gap_before unit + unit_width unit) w _ _
+    (λ fits. omega (arith, (next (used + gap_before unit + unit_width unit)).1)) (λ over. omega (arith, (next (unit_width unit)).0 (omega arith)))
 
 -- filled lines have all units, in order
 pub fill-joined : (w : ℕ) (line units : List Atom) → joined (fill w line units) ≡ line ++ units
@@ -65,15 +69,17 @@ pub line_width-single : (unit : Atom) → line_width (unit ∷ []) ≡ unit_widt
 line_width-single unit = omega (arith, sum_by-cons unit_width unit [])
 
 -- no filled line is wider than `w` where no unit is
-pub fill-holds : (w : ℕ) (line units : List Atom) → line_width line ≤ w → AllByRecursion (λ unit. unit_width unit ≤ w) units → AllByRecursion (λ l. line_width l ≤ w) (fill w line units)
+pub fill-holds : (w : ℕ) (line units : List Atom) → line_width line ≤ w → AllByRecursion (λ unit. unit_width unit ≤ w) units
+    → AllByRecursion (λ l. line_width l ≤ w) (fill w line units)
 fill-holds w line [] within each = (within, tt)
 fill-holds w line (unit ∷ units) within each =
     at_choice (λ lines. AllByRecursion (λ l. line_width l ≤ w) lines) (line_width (line ++ unit ∷ [])) w _ _
     (λ fits. fill-holds w (line ++ unit ∷ []) units fits each.1)
     (λ over. (within, fill-holds w (unit ∷ []) units (omega (arith, line_width-single unit, each.0)) each.1))
 
--- a line in front of filled lines, into which their first unit does not fit
-FillsLines-onto : (w : ℕ) (before : List Atom) (first : Atom) (line units : List Atom) → w < line_width (before ++ first ∷ []) → FillsLines w (fill w (first ∷ line) units) → FillsLines w (before ∷ fill w (first ∷ line) units)
+-- a line before filled lines, into which their first unit does not fit
+FillsLines-onto : (w : ℕ) (before : List Atom) (first : Atom) (line units : List Atom) → w < line_width (before ++ first ∷ [])
+    → FillsLines w (fill w (first ∷ line) units) → FillsLines w (before ∷ fill w (first ∷ line) units)
 FillsLines-onto w before first line [] over = λ rest. (over, tt)
 FillsLines-onto w before first line (unit ∷ units) over =
     at_choice (λ lines. FillsLines w lines → FillsLines w (before ∷ lines)) (line_width ((first ∷ line) ++ unit ∷ [])) w _ _

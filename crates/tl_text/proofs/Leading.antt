@@ -13,8 +13,9 @@ leads true (Glue text ∷ atoms) = true
 leads false (Glue text ∷ atoms) = leads false atoms
 leads begins (Break ∷ atoms) = leads true atoms
 
--- a unit in front of a piece decides whether that piece begins with a Glue
-list_any-onto_first : (unit : Atom) (pieces : List (List Atom)) → list_any begins_with_glue (onto_first unit pieces) ≡ begins_with_glue (unit ∷ []) || list_any begins_with_glue (drop 1 pieces)
+-- a unit before a piece decides whether that piece begins with a Glue
+list_any-onto_first : (unit : Atom) (pieces : List (List Atom)) → list_any begins_with_glue (onto_first unit pieces)
+    ≡ begins_with_glue (unit ∷ []) || list_any begins_with_glue (drop 1 pieces)
 list_any-onto_first (Word text) [] = refl
 list_any-onto_first (Glue text) [] = refl
 list_any-onto_first Break [] = refl
@@ -31,7 +32,7 @@ abbrev pub begun_pieces : Bool → List Atom → List (List Atom)
 begun_pieces true atoms = lined_pieces atoms
 begun_pieces false atoms = drop 1 (lined_pieces atoms)
 
--- read from the left, the answer is that of the pieces
+-- read from the left, the flag is what the pieces say
 pub leads_is : (begins : Bool) (atoms : List Atom) → leads begins atoms ≡ list_any begins_with_glue (begun_pieces begins atoms)
 leads_is true [] = refl
 leads_is false [] = refl

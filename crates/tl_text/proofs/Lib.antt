@@ -1,6 +1,5 @@
-pub mod Bytes
 pub mod Leading
-pub mod Parts
+pub mod WordLemmas
 pub mod Sizes
 pub mod Widths
 mod Examples

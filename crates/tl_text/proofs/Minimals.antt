@@ -1,5 +1,6 @@
 -- Widths at which a paragraph needs fewer lines, found from the narrowest on.
-use Rattle.std.proofs.Common.{◌≡◌, ℕ, ◌+◌, ◌-◌, ◌<◌, ◌≤◌, ◌↔◌, List, [], ◌∷◌, ◌++◌, ◌⊎◌, inl, inr, length, get_or, map, Option, Some, None, Contains, refl, sym, ap, ◌∙◌, subst, arith}
+use Rattle.std.proofs.Common.{◌≡◌, ℕ, ◌+◌, ◌-◌, ◌<◌, ◌≤◌, ◌↔◌, List, [], ◌∷◌, ◌++◌, ◌⊎◌, inl, inr, length, get_or, map, Option, Some, None, Contains}
+use Rattle.std.proofs.Common.{refl, sym, ap, ◌∙◌, subst, arith}
 use Rattle.std.specs.List.{AllPairs}
 use Rattle.std.proofs.lemmas.Bool.{cases_lt}
 use Rattle.std.proofs.lemmas.List.{length_push}
@@ -47,7 +48,8 @@ not_minimal atoms w config next least minimal =
     omega (arith, minimal.narrower w cut.0 next cut.1 cut.2, cut.3)
 
 -- a minimal configuration in a flat range stands at its beginning
-at_beginning : (atoms : List Atom) (from past h : ℕ) → IsFlat atoms from past h → (config : Config) → IsMinimal atoms config → from ≤ config.width → config.width < past → (config.width ≡ from) × (config.height ≡ h)
+at_beginning : (atoms : List Atom) (from past h : ℕ) → IsFlat atoms from past h → (config : Config) → IsMinimal atoms config → from ≤ config.width
+    → config.width < past → (config.width ≡ from) × (config.height ≡ h)
 at_beginning atoms from past h flat config minimal low high =
     let same : config.height ≡ h = same_lines config.width atoms config.height h minimal.lines (flat config.width low high) in (
       begins (cases_lt from config.width),
@@ -57,31 +59,39 @@ at_beginning atoms from past h flat config minimal low high =
     begins : (from < config.width) ⊎ (config.width ≤ from) → config.width ≡ from
     begins (inl above) =
         let h-here : config.height ≡ h = same_lines config.width atoms config.height h minimal.lines (flat config.width low high) in
-        let before : LeastLines (config.width - 1) atoms config.height = subst (λ n. LeastLines (config.width - 1) atoms n) (sym h-here) (flat (config.width - 1) (omega arith) (omega arith)) in
+        let before : LeastLines (config.width - 1) atoms config.height =
+        subst (λ n. LeastLines (config.width - 1) atoms n) (sym h-here) (flat (config.width - 1) (omega arith) (omega arith)) in
         absurd (not_minimal atoms (config.width - 1) config (omega arith) before minimal)
     begins (inr at) = omega arith
 
 -- a step is wider and lower than all before it
-falls-push : (steps : List Config) (step : Config) → AllPairs (λ a b. (a.width < b.width) × (b.height < a.height)) steps → ((c : Config) → Contains steps c → (c.width < step.width) × (step.height < c.height)) → AllPairs (λ a b. (a.width < b.width) × (b.height < a.height)) (steps ++ step ∷ [])
-falls-push steps step before last = all_pairs_push (λ a b. (a.width < b.width) × (b.height < a.height)) steps step before (λ k d within. last (get_or steps k d) (Contains-get_or steps k d within))
+falls-push : (steps : List Config) (step : Config) → AllPairs (λ a b. (a.width < b.width) × (b.height < a.height)) steps
+    → ((c : Config) → Contains steps c → (c.width < step.width) × (step.height < c.height))
+    → AllPairs (λ a b. (a.width < b.width) × (b.height < a.height)) (steps ++ step ∷ [])
+falls-push steps step before last =
+    all_pairs_push (λ a b. (a.width < b.width) × (b.height < a.height)) steps step before
+    (λ k d within. last (get_or steps k d) (Contains-get_or steps k d within))
 
 -- a configuration by its parts
 same_config : {w h : ℕ} (config : Config) → (config.width ≡ w) × (config.height ≡ h) → record { width = w; height = h } ≡ config
-same_config {w} {h} config is = ap (λ width. record { width = width; height = h }) (sym is.0) ∙ ap (λ height. record { width = config.width; height = height }) (sym is.1)
+same_config {w} {h} config is =
+    ap (λ width. record { width = width; height = h }) (sym is.0) ∙ ap (λ height. record { width = config.width; height = height }) (sym is.1)
 
 -- at a minimal width a cutting holds
 has_cutting : {atoms : List Atom} (config : Config) → IsMinimal atoms config → HasCutting config.width atoms
 has_cutting config minimal = let cut = minimal.lines.attained in (cut.0, cut.1, cut.2)
 
 -- the first step is minimal where no cutting holds in less
-first_is : (atoms : List Atom) (w past h : ℕ) → w < past → IsFlat atoms w past h → ((v : ℕ) → HasCutting v atoms → w ≤ v) → (config : Config) → Contains [] config ⊎ (record { width = w; height = h } ≡ config) → IsMinimal atoms config × (config.width < past)
+first_is : (atoms : List Atom) (w past h : ℕ) → w < past → IsFlat atoms w past h → ((v : ℕ) → HasCutting v atoms → w ≤ v) → (config : Config)
+    → Contains [] config ⊎ (record { width = w; height = h } ≡ config) → IsMinimal atoms config × (config.width < past)
 first_is atoms w past h some flat least config (inl has) = absurd (omega (arith, has.1))
 first_is atoms w past h some flat least config (inr is) =
     subst (λ c. IsMinimal atoms c × (c.width < past)) is
     (record { lines = flat w (omega arith) some; narrower = λ v cut next cutting holds. absurd (omega (arith, least v (cut, cutting, holds), next)) }, some)
 
 -- at the least width
-pub IsSearchedBelow-first : (atoms : List Atom) (w past h : ℕ) → w < past → IsFlat atoms w past h → ((v : ℕ) → HasCutting v atoms → w ≤ v) → IsSearchedBelow atoms past h (record { width = w; height = h } ∷ [])
+pub IsSearchedBelow-first : (atoms : List Atom) (w past h : ℕ) → w < past → IsFlat atoms w past h → ((v : ℕ) → HasCutting v atoms → w ≤ v)
+    → IsSearchedBelow atoms past h (record { width = w; height = h } ∷ [])
 IsSearchedBelow-first atoms w past h some flat least = record {
   width = w;
   some = some;
@@ -89,14 +99,17 @@ IsSearchedBelow-first atoms w past h some flat least = record {
   found = record {
     exact = λ config. (
       λ has. first_is atoms w past h some flat least config (Contains-push_cases [] (record { width = w; height = h }) config has),
-      λ is. subst (λ c. Contains (record { width = w; height = h } ∷ []) c) (same_config config (at_beginning atoms w past h flat config is.0 (least config.width (has_cutting config is.0)) is.1)) (Contains-push [] (record { width = w; height = h })),
+      λ is. subst (λ c. Contains (record { width = w; height = h } ∷ []) c)
+          (same_config config (at_beginning atoms w past h flat config is.0 (least config.width (has_cutting config is.0)) is.1))
+          (Contains-push [] (record { width = w; height = h })),
     );
     are = record { has_step = omega arith; falling = λ i j d before within. absurd (omega arith) };
   };
 }
 
 -- at the next width worth trying there are fewer lines
-pub IsSearchedBelow-fewer : (atoms : List Atom) (past next h lower : ℕ) (steps : List Config) → IsSearchedBelow atoms past h steps → past < next → IsFlat atoms past next lower → lower < h → IsSearchedBelow atoms next lower (steps ++ record { width = past; height = lower } ∷ [])
+pub IsSearchedBelow-fewer : (atoms : List Atom) (past next h lower : ℕ) (steps : List Config) → IsSearchedBelow atoms past h steps → past < next
+    → IsFlat atoms past next lower → lower < h → IsSearchedBelow atoms next lower (steps ++ record { width = past; height = lower } ∷ [])
 IsSearchedBelow-fewer atoms past next h lower steps searched some flat fewer = record {
   width = past;
   some = some;
@@ -124,19 +137,25 @@ IsSearchedBelow-fewer atoms past next h lower steps searched some flat fewer = r
     minimal : IsMinimal atoms (record { width = past; height = lower })
     minimal = record {
       lines = flat past (omega arith) some;
-      narrower = λ v cut next' cutting holds. omega (arith, (searched.flat v (omega (arith, next', searched.some)) (omega (arith, next'))).least cut cutting holds);
+      narrower = λ v cut next' cutting holds. omega
+          (arith, (searched.flat v (omega (arith, next', searched.some)) (omega (arith, next'))).least cut cutting holds);
     }
 
     step_is : (config : Config) → Contains steps config ⊎ (record { width = past; height = lower } ≡ config) → IsMinimal atoms config × (config.width < next)
     step_is config (inl has) = let is = (searched.found.exact config).0 has in (is.0, omega (arith, is.1))
     step_is config (inr is) = subst (λ c. IsMinimal atoms c × (c.width < next)) is (minimal, some)
 
-    step_has : (config : Config) → IsMinimal atoms config × (config.width < next) → (config.width < past) ⊎ (past ≤ config.width) → Contains (steps ++ record { width = past; height = lower } ∷ []) config
-    step_has config is (inl old) = Contains-append_left steps (record { width = past; height = lower } ∷ []) config ((searched.found.exact config).1 (is.0, old))
-    step_has config is (inr new) = subst (λ c. Contains (steps ++ record { width = past; height = lower } ∷ []) c) (same_config config (at_beginning atoms past next lower flat config is.0 new is.1)) (Contains-push steps (record { width = past; height = lower }))
+    step_has : (config : Config) → IsMinimal atoms config × (config.width < next) → (config.width < past) ⊎ (past ≤ config.width)
+        → Contains (steps ++ record { width = past; height = lower } ∷ []) config
+    step_has config is (inl old) =
+        Contains-append_left steps (record { width = past; height = lower } ∷ []) config ((searched.found.exact config).1 (is.0, old))
+    step_has config is (inr new) =
+        subst (λ c. Contains (steps ++ record { width = past; height = lower } ∷ []) c)
+        (same_config config (at_beginning atoms past next lower flat config is.0 new is.1)) (Contains-push steps (record { width = past; height = lower }))
 
 -- at the next width worth trying there are as many
-pub IsSearchedBelow-same : (atoms : List Atom) (past next h same : ℕ) (steps : List Config) → IsSearchedBelow atoms past h steps → past < next → IsFlat atoms past next same → h ≤ same → IsSearchedBelow atoms next same steps
+pub IsSearchedBelow-same : (atoms : List Atom) (past next h same : ℕ) (steps : List Config) → IsSearchedBelow atoms past h steps → past < next
+    → IsFlat atoms past next same → h ≤ same → IsSearchedBelow atoms next same steps
 IsSearchedBelow-same atoms past next h same steps searched some flat more = record {
   width = past;
   some = some;
@@ -160,7 +179,8 @@ IsSearchedBelow-same atoms past next h same steps searched some flat more = reco
     old config is (inl below) = (searched.found.exact config).1 (is.0, below)
     old config is (inr new) =
         let at = at_beginning atoms past next same flat config is.0 new is.1 in
-        absurd (not_minimal atoms (past - 1) config (omega (arith, at.0, searched.some)) (subst (λ n. LeastLines (past - 1) atoms n) (as_many ∙ sym at.1) lines_before) is.0)
+        absurd (not_minimal atoms (past - 1) config (omega (arith, at.0, searched.some))
+        (subst (λ n. LeastLines (past - 1) atoms n) (as_many ∙ sym at.1) lines_before) is.0)
 
 -- ---- what filling lines once tells of a range of widths
 
@@ -173,7 +193,9 @@ lines_after-nil v w (Some used) = refl
 abbrev pub lines_of : Filling → ℕ
 lines_of filling = filling.ended + lines_after 0 filling.line []
 
-pub IsFlat-from : (atoms : List Atom) (units : List Measure) (width : ℕ) (filling : Filling) → units ≡ map measure_of atoms → AllFit width atoms → ((w : ℕ) → width ≤ w → w < filling.next → filling.ended + lines_after w filling.line [] ≡ lines_after w None units) → IsFlat atoms width filling.next (lines_of filling)
+pub IsFlat-from : (atoms : List Atom) (units : List Measure) (width : ℕ) (filling : Filling) → units ≡ map measure_of atoms → AllFit width atoms
+    → ((w : ℕ) → width ≤ w → w < filling.next → filling.ended + lines_after w filling.line [] ≡ lines_after w None units)
+    → IsFlat atoms width filling.next (lines_of filling)
 IsFlat-from atoms units width filling measured fit lines = λ w low high.
     let same : lines_of filling ≡ length (joined (greedy_cut w atoms)) =
     ap (λ n. filling.ended + n) (lines_after-nil 0 w filling.line) ∙ lines w low high ∙ ap (λ us. lines_after w None us) measured ∙ lines_after-start w atoms in
@@ -185,7 +207,9 @@ measures-fit w (atom ∷ atoms) fit = (omega (arith, columns_of-measure_of atom,
 
 -- the units fit where the atoms do
 pub units-fit : (w : ℕ) (atoms : List Atom) (units : List Measure) → units ≡ map measure_of atoms → AllFit w atoms → All (λ unit. columns_of unit ≤ w) units
-units-fit w atoms units measured fit = subst (λ us. All (λ unit. columns_of unit ≤ w) us) (sym measured) (All-from_recursion (λ unit. columns_of unit ≤ w) (map measure_of atoms) (measures-fit w atoms fit))
+units-fit w atoms units measured fit =
+    subst (λ us. All (λ unit. columns_of unit ≤ w) us) (sym measured)
+    (All-from_recursion (λ unit. columns_of unit ≤ w) (map measure_of atoms) (measures-fit w atoms fit))
 
 pub length-units : (atoms : List Atom) (units : List Measure) → units ≡ map measure_of atoms → length units ≡ length atoms
 length-units atoms units measured = ap length measured ∙ length-map atoms measure_of

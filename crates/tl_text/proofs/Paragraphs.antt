@@ -15,18 +15,18 @@ use Rattle.tl_text.proofs.Greedy.{piece_lines, more, more-least, fill-joined, fi
 -- ---- what holds of each item of lists
 
 module _ {X : Type 0} (P : X → Type 0) where
-  -- of lists one behind the other
+  -- of lists one after the other
   pub all-append : (xs ys : List X) → AllByRecursion P xs → AllByRecursion P ys → AllByRecursion P (xs ++ ys)
   all-append [] ys left right = right
   all-append (x ∷ xs) ys left right = (left.0, all-append xs ys left.1 right)
 
-  pub all-front : (xs ys : List X) → AllByRecursion P (xs ++ ys) → AllByRecursion P xs
-  all-front [] ys each = tt
-  all-front (x ∷ xs) ys each = (each.0, all-front xs ys each.1)
+  pub all-prefix : (xs ys : List X) → AllByRecursion P (xs ++ ys) → AllByRecursion P xs
+  all-prefix [] ys each = tt
+  all-prefix (x ∷ xs) ys each = (each.0, all-prefix xs ys each.1)
 
-  pub all-back : (xs ys : List X) → AllByRecursion P (xs ++ ys) → AllByRecursion P ys
-  all-back [] ys each = each
-  all-back (x ∷ xs) ys each = all-back xs ys each.1
+  pub all-suffix : (xs ys : List X) → AllByRecursion P (xs ++ ys) → AllByRecursion P ys
+  all-suffix [] ys each = each
+  all-suffix (x ∷ xs) ys each = all-suffix xs ys each.1
 
   -- of the items of a list's lists
   pub all-joined : (lists : List (List X)) → AllByRecursion (AllByRecursion P) lists → AllByRecursion P (joined lists)
@@ -83,7 +83,9 @@ piece-holds w (unit ∷ units) each = fill-holds w (unit ∷ []) units (omega (a
 
 pieces-hold : (w : ℕ) (pieces : List (List Atom)) → AllByRecursion (AllFit w) pieces → HoldsIn w (map (piece_lines w) pieces)
 pieces-hold w [] each = tt
-pieces-hold w (piece ∷ pieces) each = all-append (λ line. line_width line ≤ w) (piece_lines w piece) (joined (map (piece_lines w) pieces)) (piece-holds w piece each.0) (pieces-hold w pieces each.1)
+pieces-hold w (piece ∷ pieces) each =
+    all-append (λ line. line_width line ≤ w) (piece_lines w piece) (joined (map (piece_lines w) pieces)) (piece-holds w piece each.0)
+    (pieces-hold w pieces each.1)
 
 pieces-filled : (w : ℕ) (pieces : List (List Atom)) → AllByRecursion (FillsLines w) (map (piece_lines w) pieces)
 pieces-filled w [] = tt
@@ -99,20 +101,24 @@ greedy_cut-IsGreedyCutting w atoms each = record {
 
 -- ---- no cutting has fewer lines
 
-piece-least : (w : ℕ) (piece : List Atom) (lines : List (List Atom)) → IsPieceCut piece lines → AllByRecursion (λ line. line_width line ≤ w) lines → length (piece_lines w piece) ≤ length lines
+piece-least : (w : ℕ) (piece : List Atom) (lines : List (List Atom)) → IsPieceCut piece lines → AllByRecursion (λ line. line_width line ≤ w) lines
+    → length (piece_lines w piece) ≤ length lines
 piece-least w [] lines cut holds = omega (arith, ap length cut)
 piece-least w (unit ∷ units) lines cut holds =
-    -- a full line in front: the first unit begins another
+    -- a full line before it: the first unit begins another
     let rest : more w (suc w) (unit ∷ units) ≤ length lines = subst (λ all. more w (suc w) all ≤ length lines) cut.1 (more-least w lines cut.0 holds (suc w)) in
-    let begun : 1 + more w (unit_width unit) units ≡ more w (suc w) (unit ∷ units) = at_choice (λ m. 1 + more w (unit_width unit) units ≡ m) (suc w + gap_before unit + unit_width unit) w _ _ (λ fits. absurd (omega arith)) (λ over. refl) in
+    let begun : 1 + more w (unit_width unit) units ≡ more w (suc w) (unit ∷ units) =
+    at_choice (λ m. 1 + more w (unit_width unit) units ≡ m) (suc w + gap_before unit + unit_width unit) w _ _ (λ fits. absurd (omega arith))
+    (λ over. refl) in
     omega (arith, fill-length w unit [] units, ap (λ used. more w used units) (line_width-single unit))
 
-pieces-least : (w : ℕ) (pieces : List (List Atom)) (cut : List (List (List Atom))) → AllZip IsPieceCut pieces cut → HoldsIn w cut → length (joined (map (piece_lines w) pieces)) ≤ length (joined cut)
+pieces-least : (w : ℕ) (pieces : List (List Atom)) (cut : List (List (List Atom))) → AllZip IsPieceCut pieces cut → HoldsIn w cut
+    → length (joined (map (piece_lines w) pieces)) ≤ length (joined cut)
 pieces-least w [] cut is holds = omega arith
 pieces-least w (piece ∷ pieces) [] is holds = absurd is
 pieces-least w (piece ∷ pieces) (lines ∷ cut) is holds =
-    let here = piece-least w piece lines is.0 (all-front (λ line. line_width line ≤ w) lines (joined cut) holds) in
-    let there = pieces-least w pieces cut is.1 (all-back (λ line. line_width line ≤ w) lines (joined cut) holds) in
+    let here = piece-least w piece lines is.0 (all-prefix (λ line. line_width line ≤ w) lines (joined cut) holds) in
+    let there = pieces-least w pieces cut is.1 (all-suffix (λ line. line_width line ≤ w) lines (joined cut) holds) in
     omega (arith, length-append lines (joined cut), length-append (piece_lines w piece) (joined (map (piece_lines w) pieces)))
 
 -- the greedy cutting has the least number of lines
@@ -128,18 +134,21 @@ greedy_cut-least w atoms each =
 
 lines-fit : (w : ℕ) (lines : List (List Atom)) → AllByRecursion (λ line. line_width line ≤ w) lines → AllFit w (joined lines)
 lines-fit w [] holds = tt
-lines-fit w (line ∷ lines) holds = all-append (λ atom. unit_width atom ≤ w) line (joined lines) (units_within w line (omega (arith, holds.0))) (lines-fit w lines holds.1)
+lines-fit w (line ∷ lines) holds =
+    all-append (λ atom. unit_width atom ≤ w) line (joined lines) (units_within w line (omega (arith, holds.0))) (lines-fit w lines holds.1)
 
-piece-fits : (w : ℕ) (piece : List Atom) (lines : List (List Atom)) → IsPieceCut piece lines → AllByRecursion (λ line. line_width line ≤ w) lines → AllFit w piece
+piece-fits : (w : ℕ) (piece : List Atom) (lines : List (List Atom)) → IsPieceCut piece lines → AllByRecursion (λ line. line_width line ≤ w) lines
+    → AllFit w piece
 piece-fits w [] lines cut holds = tt
 piece-fits w (unit ∷ units) lines cut holds = subst (λ all. AllFit w all) cut.1 (lines-fit w lines holds)
 
-pieces-of-cut-fit : (w : ℕ) (pieces : List (List Atom)) (cut : List (List (List Atom))) → AllZip IsPieceCut pieces cut → HoldsIn w cut → AllByRecursion (AllFit w) pieces
+pieces-of-cut-fit : (w : ℕ) (pieces : List (List Atom)) (cut : List (List (List Atom))) → AllZip IsPieceCut pieces cut → HoldsIn w cut
+    → AllByRecursion (AllFit w) pieces
 pieces-of-cut-fit w [] cut is holds = tt
 pieces-of-cut-fit w (piece ∷ pieces) [] is holds = absurd is
 pieces-of-cut-fit w (piece ∷ pieces) (lines ∷ cut) is holds = (
-  piece-fits w piece lines is.0 (all-front (λ line. line_width line ≤ w) lines (joined cut) holds),
-  pieces-of-cut-fit w pieces cut is.1 (all-back (λ line. line_width line ≤ w) lines (joined cut) holds),
+  piece-fits w piece lines is.0 (all-prefix (λ line. line_width line ≤ w) lines (joined cut) holds),
+  pieces-of-cut-fit w pieces cut is.1 (all-suffix (λ line. line_width line ≤ w) lines (joined cut) holds),
 )
 
 pub atoms-of-cut-fit : (w : ℕ) (atoms : List Atom) (cut : List (List (List Atom))) → IsCutting atoms cut → HoldsIn w cut → AllFit w atoms
@@ -184,7 +193,7 @@ module _ (w : ℕ) (atoms : List Atom) (n : ℕ) (atom : Atom) (within : n < len
   pub AllFit-less : AllFit w (take (n + 1) atoms) → AllFit w (take n atoms) × (unit_width atom ≤ w)
   AllFit-less each =
       let both : AllFit w (take n atoms ++ atom ∷ []) = subst (λ first. AllFit w first) front each in
-      (all-front (λ a. unit_width a ≤ w) (take n atoms) (atom ∷ []) both, (all-back (λ a. unit_width a ≤ w) (take n atoms) (atom ∷ []) both).0)
+      (all-prefix (λ a. unit_width a ≤ w) (take n atoms) (atom ∷ []) both, (all-suffix (λ a. unit_width a ≤ w) (take n atoms) (atom ∷ []) both).0)
 
 -- ---- the least width
 

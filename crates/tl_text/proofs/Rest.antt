@@ -1,5 +1,6 @@
 -- What a loop over the atoms has left to do, against the greedy cutting of the pieces.
-use Rattle.std.proofs.Common.{◌≡◌, ℕ, ◌+◌, Bool, true, false, if◌then◌else◌, nat_le, List, [], ◌∷◌, length, map, Option, Some, None, refl, sym, ap, ◌∙◌, arith, length-append}
+use Rattle.std.proofs.Common.{◌≡◌, ℕ, ◌+◌, Bool, true, false, if◌then◌else◌, nat_le, List, [], ◌∷◌, length, map, Option, Some, None, refl, sym, ap}
+use Rattle.std.proofs.Common.{◌∙◌, arith, length-append}
 use Rattle.std.specs.List.{onto_first}
 use Rattle.tl_text.specs.declared.paragraph.Atom.{Atom}
 use Rattle.tl_text.specs.declared.paragraph.Atom.TheVariants.{Word, Glue, Break}
@@ -19,7 +20,13 @@ rest_lines w (Some used) (piece ∷ pieces) = 1 + more w used piece + length (jo
 rest_lines-first : (w : ℕ) (unit : Atom) (pieces : List (List Atom)) → rest_lines w None (onto_first unit pieces) ≡ rest_lines w (Some (unit_width unit)) pieces
 rest_lines-first w unit [] = refl
 rest_lines-first w unit (piece ∷ pieces) =
-    omega (arith, length-append (fill w (unit ∷ []) piece) (joined (map (piece_lines w) pieces)), fill-length w unit [] piece, ap (λ used. more w used piece) (line_width-single unit))
+    omega (
+      arith,
+      length-append (fill w (unit ∷ []) piece) (joined (map (piece_lines w) pieces)),
+      fill-length w unit [] piece,
+      ap
+          (λ used. more w used piece) (line_width-single unit),
+    )
 
 choice-sum : (b : Bool) (m n k : ℕ) → 1 + (if b then m else 1 + n) + k ≡ (if b then 1 + m + k else 1 + (1 + n + k))
 choice-sum true m n k = refl
@@ -30,9 +37,13 @@ choice-same true m n p q first second = first
 choice-same false m n p q first second = ap (λ k. 1 + k) second
 
 -- a unit comes to the open line, or begins another
-rest_lines-unit : (w used : ℕ) (unit : Atom) (pieces : List (List Atom)) → rest_lines w (Some used) (onto_first unit pieces) ≡ (if nat_le (used + gap_before unit + unit_width unit) w then rest_lines w (Some (used + gap_before unit + unit_width unit)) pieces else 1 + rest_lines w (Some (unit_width unit)) pieces)
+rest_lines-unit : (w used : ℕ) (unit : Atom) (pieces : List (List Atom)) → rest_lines w (Some used) (onto_first unit pieces)
+    ≡ (if nat_le (used + gap_before unit + unit_width unit) w then rest_lines w
+    (Some (used + gap_before unit + unit_width unit)) pieces else 1 + rest_lines w (Some (unit_width unit)) pieces)
 rest_lines-unit w used unit [] = choice-sum (nat_le (used + gap_before unit + unit_width unit) w) 0 0 0
-rest_lines-unit w used unit (piece ∷ pieces) = choice-sum (nat_le (used + gap_before unit + unit_width unit) w) (more w (used + gap_before unit + unit_width unit) piece) (more w (unit_width unit) piece) (length (joined (map (piece_lines w) pieces)))
+rest_lines-unit w used unit (piece ∷ pieces) =
+    choice-sum (nat_le (used + gap_before unit + unit_width unit) w) (more w (used + gap_before unit + unit_width unit) piece)
+    (more w (unit_width unit) piece) (length (joined (map (piece_lines w) pieces)))
 
 -- what the loop counts is what the pieces have
 pub lines_after-is : (w : ℕ) (line : Option ℕ) (atoms : List Atom) → lines_after w line (map measure_of atoms) ≡ rest_lines w line (lined_pieces atoms)
@@ -44,11 +55,13 @@ lines_after-is w None (Word text ∷ atoms) = lines_after-is w (Some (unit_width
 lines_after-is w None (Glue text ∷ atoms) = lines_after-is w (Some (unit_width (Glue text))) atoms ∙ sym (rest_lines-first w (Glue text) (lined_pieces atoms))
 lines_after-is w (Some used) (Word text ∷ atoms) =
     let unit = Word text in
-    choice-same (nat_le (used + gap_before unit + unit_width unit) w) _ _ _ _ (lines_after-is w (Some (used + gap_before unit + unit_width unit)) atoms) (lines_after-is w (Some (unit_width unit)) atoms)
+    choice-same (nat_le (used + gap_before unit + unit_width unit) w) _ _ _ _
+    (lines_after-is w (Some (used + gap_before unit + unit_width unit)) atoms) (lines_after-is w (Some (unit_width unit)) atoms)
     ∙ sym (rest_lines-unit w used unit (lined_pieces atoms))
 lines_after-is w (Some used) (Glue text ∷ atoms) =
     let unit = Glue text in
-    choice-same (nat_le (used + gap_before unit + unit_width unit) w) _ _ _ _ (lines_after-is w (Some (used + gap_before unit + unit_width unit)) atoms) (lines_after-is w (Some (unit_width unit)) atoms)
+    choice-same (nat_le (used + gap_before unit + unit_width unit) w) _ _ _ _
+    (lines_after-is w (Some (used + gap_before unit + unit_width unit)) atoms) (lines_after-is w (Some (unit_width unit)) atoms)
     ∙ sym (rest_lines-unit w used unit (lined_pieces atoms))
 
 -- from the beginning: the lines of the greedy cutting

@@ -4,6 +4,7 @@ use Rattle.std.specs.List.{All, AllByRecursion}
 use Rattle.std.proofs.lemmas.List.Sums.{sum_by-cons}
 use Rattle.std.proofs.lemmas.List.Elements.{All-from_recursion, recursion_from_All}
 use Rattle.std.proofs.lemmas.Str.{length-le-encodes}
+use Rattle.tl_base.specs.declared.limits.TheConstants.{MAX_FILE_BYTES}
 use Rattle.tl_text.specs.declared.paragraph.Atom.{Atom}
 use Rattle.tl_text.specs.declared.paragraph.Atom.TheVariants.{Word, Glue, Break}
 use Rattle.tl_text.specs.Paragraph.{IsParagraph, IsSpelt, atom_size}
@@ -15,8 +16,8 @@ within n (atom ∷ atoms) h =
     (omega arith, within n atoms (omega arith))
 
 -- no atom is larger than all of them
-pub small_atoms : (atoms : List Atom) → IsParagraph atoms → All (λ atom. atom_size atom ≤ 1048576) atoms
-small_atoms atoms is = All-from_recursion (λ atom. atom_size atom ≤ 1048576) atoms (within 1048576 atoms is.size)
+pub small_atoms : (atoms : List Atom) → IsParagraph atoms → All (λ atom. atom_size atom ≤ MAX_FILE_BYTES) atoms
+small_atoms atoms is = All-from_recursion (λ atom. atom_size atom ≤ MAX_FILE_BYTES) atoms (within MAX_FILE_BYTES atoms is.size)
 
 -- an atom that is spelt counts
 counts : (atom : Atom) → IsSpelt atom → 1 ≤ atom_size atom
@@ -29,5 +30,5 @@ length-le [] is = omega arith
 length-le (atom ∷ atoms) is = omega (arith, sum_by-cons atom_size atom atoms, counts atom is.0, length-le atoms is.1)
 
 -- there are no more atoms than the limit
-pub few_atoms : (atoms : List Atom) → IsParagraph atoms → length atoms ≤ 1048576
+pub few_atoms : (atoms : List Atom) → IsParagraph atoms → length atoms ≤ MAX_FILE_BYTES
 few_atoms atoms is = omega (arith, is.size, length-le atoms (recursion_from_All IsSpelt atoms is.spelt))

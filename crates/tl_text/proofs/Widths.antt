@@ -8,9 +8,17 @@ use Rattle.tl_text.specs.Paragraph.{unit_width, gap_before}
 use Rattle.tl_text.specs.Cuttings.{line_width}
 
 -- a line with units grows by the unit and its gap
-pub line_width-push : (first : Atom) (line : List Atom) (unit : Atom) → line_width ((first ∷ line) ++ unit ∷ []) ≡ line_width (first ∷ line) + gap_before unit + unit_width unit
+pub line_width-push : (first : Atom) (line : List Atom) (unit : Atom) → line_width ((first ∷ line) ++ unit ∷ [])
+    ≡ line_width (first ∷ line) + gap_before unit + unit_width unit
 line_width-push first line unit =
-    omega (arith, sum_by-append unit_width (first ∷ line) (unit ∷ []), sum_by-append gap_before line (unit ∷ []), sum_by-cons unit_width unit [], sum_by-cons gap_before unit [])
+    omega (
+      arith,
+      sum_by-append unit_width (first ∷ line) (unit ∷ []),
+      sum_by-append gap_before line
+          (unit ∷ []),
+      sum_by-cons unit_width unit [],
+      sum_by-cons gap_before unit [],
+    )
 
 -- what holds of both arms of a choice holds of it
 pub at_choice : {X : Type 0} (P : X → Type 0) (a b : ℕ) (x y : X) → (a ≤ b → P x) → (b < a → P y) → P (if nat_le a b then x else y)

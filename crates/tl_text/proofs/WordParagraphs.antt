@@ -8,9 +8,11 @@ use Rattle.std.proofs.lemmas.Bool.{ltb-true}
 use Rattle.std.proofs.lemmas.List.Sums.{sum_by-cons}
 use Rattle.std.proofs.lemmas.List.Elements.{All-from_recursion}
 use Rattle.std.proofs.lemmas.List.Splits.{slice_split-cons_yes, slice_split-cons_no}
+use Rattle.tl_base.specs.declared.limits.TheConstants.{MAX_FILE_BYTES}
 use Rattle.tl_text.specs.declared.paragraph.Atom.{Atom}
 use Rattle.tl_text.specs.declared.paragraph.Atom.TheVariants.{Word}
-use Rattle.tl_text.specs.Words.{words_of, has_character, byte_count}
+use Rattle.tl_base.specs.Text.{byte_count}
+use Rattle.tl_text.specs.Words.{words_of, has_character}
 use Rattle.tl_text.specs.Paragraph.{IsSolid, IsSpelt, IsParagraph, atom_size, lined_pieces, begins_with_glue, has_leading_glue}
 
 -- a part of a text without white space
@@ -22,7 +24,7 @@ clean_more : (c : ℕ) (parts : List (List ℕ)) → is_ascii_whitespace c ≡ f
 clean_more c [] solid clean = (rw solid, tt)
 clean_more c (part ∷ parts) solid clean = (rw solid clean.0, clean.1)
 
--- the bytes of a character and of a text behind it
+-- the bytes of a character and of the text after it
 bytes-cons : (c : ℕ) (text : List ℕ) → byte_count (c ∷ text) ≡ length (encode_utf8 c) + byte_count text
 bytes-cons c text = length-append (encode_utf8 c) (encode_utf8_all text)
 
@@ -35,7 +37,7 @@ size_more c (part ∷ parts) =
 abbrev AreParts : List ℕ → List (List ℕ) → Type 0
 AreParts text parts = AllByRecursion IsClean parts × (sum_by byte_count parts ≤ byte_count text)
 
--- one more character in front
+-- one more character before it
 parts_more : (c : ℕ) (text : List ℕ) (white : Bool) → is_ascii_whitespace c ≡ white → AreParts text (slice_split is_ascii_whitespace text) →
     AreParts (c ∷ text) (slice_split is_ascii_whitespace (c ∷ text))
 parts_more c text true is parts = rw (slice_split-cons_yes is_ascii_whitespace c text is)
@@ -100,7 +102,7 @@ begun_words [] = refl
 begun_words (word ∷ words) = begun_more word (lined_pieces (map Word words)) (begun_words words)
 
 -- the words of a text within the limit are a paragraph
-pub words_are_paragraph : (text : List ℕ) → byte_count text ≤ 1048576 → 0 < length (words_of text) → IsParagraph (map Word (words_of text))
+pub words_are_paragraph : (text : List ℕ) → byte_count text ≤ MAX_FILE_BYTES → 0 < length (words_of text) → IsParagraph (map Word (words_of text))
 words_are_paragraph text small some =
     let parts = parts_of text in
     record {

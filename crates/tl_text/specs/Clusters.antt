@@ -1,5 +1,5 @@
--- Paragraphs whose words may be broken between grapheme clusters: the extended clusters of Unicode Standard Annex #29,
--- as the crate `unicode_segmentation` has them.
+-- Paragraphs whose words may be broken between grapheme clusters: the extended clusters of Unicode
+-- Standard Annex #29, as the crate `unicode_segmentation` has them.
 use Rattle.std.specs.Prelude.{ℕ, true, List, [], ◌∷◌, map}
 use Rattle.std.specs.List.{flat_map}
 use Rattle.unicode_segmentation.specs.Grapheme.{is_grapheme_break}
@@ -7,7 +7,8 @@ use Rattle.unicode_segmentation.specs.Segments.{cut}
 use Rattle.tl_text.specs.declared.paragraph.Atom.{Atom}
 use Rattle.tl_text.specs.declared.paragraph.Atom.TheVariants.{Word, Glue, Break}
 
--- the extended grapheme clusters of a text, in order: its characters, cut at each boundary of a cluster
+-- the extended grapheme clusters of a text, in order: its characters, cut at each boundary of a
+-- cluster
 abbrev pub clusters_of : List ℕ → List (List ℕ)
 clusters_of text = cut (is_grapheme_break true) [] text []
 

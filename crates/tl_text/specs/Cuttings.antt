@@ -16,7 +16,8 @@ line_width line = sum_by unit_width line + sum_by gap_before (drop 1 line)
 -- without units is one empty line
 abbrev pub IsPieceCut : List Atom → List (List Atom) → Type 0
 IsPieceCut [] lines = lines ≡ [] ∷ []
-IsPieceCut (unit ∷ units) lines = AllByRecursion (λ line. line ≢ []) lines × (joined lines ≡ unit ∷ units)
+IsPieceCut (unit ∷ units) lines =
+    AllByRecursion (λ line. line ≢ []) lines × (joined lines ≡ unit ∷ units)
 
 -- a cutting of a paragraph: the lines of each piece that makes lines
 abbrev pub IsCutting : List Atom → List (List (List Atom)) → Type 0
@@ -34,7 +35,8 @@ HasCutting w atoms = (cut : List (List (List Atom))) × IsCutting atoms cut × H
 abbrev pub FillsLines : ℕ → List (List Atom) → Type 0
 FillsLines w [] = Unit {0}
 FillsLines w (line ∷ []) = Unit {0}
-FillsLines w (line ∷ next ∷ lines) = (w < line_width (line ++ take 1 next)) × FillsLines w (next ∷ lines)
+FillsLines w (line ∷ next ∷ lines) =
+    (w < line_width (line ++ take 1 next)) × FillsLines w (next ∷ lines)
 
 -- a cutting that holds in `w` columns and is greedy there
 pub record IsGreedyCutting (w : ℕ) (atoms : List Atom) (cut : List (List (List Atom))) : Type 0 where
@@ -44,5 +46,7 @@ pub record IsGreedyCutting (w : ℕ) (atoms : List Atom) (cut : List (List (List
 
 -- `n` is the least number of lines of a cutting that holds in `w` columns
 pub record LeastLines (w : ℕ) (atoms : List Atom) (n : ℕ) : Type 0 where
-  pub attained : (cut : List (List (List Atom))) × IsCutting atoms cut × HoldsIn w cut × (length (joined cut) ≡ n)
-  pub least : (cut : List (List (List Atom))) → IsCutting atoms cut → HoldsIn w cut → n ≤ length (joined cut)
+  pub attained : (cut : List (List (List Atom))) × IsCutting atoms cut × HoldsIn w cut
+      × (length (joined cut) ≡ n)
+  pub least : (cut : List (List (List Atom))) → IsCutting atoms cut → HoldsIn w cut
+      → n ≤ length (joined cut)

@@ -8,8 +8,10 @@ use Rattle.tl_text.specs.Cuttings.{IsCutting, HoldsIn, LeastLines, joined}
 -- cutting at all
 pub record IsMinimal (atoms : List Atom) (config : Config) : Type 0 where
   pub lines : LeastLines config.width atoms config.height
-  pub narrower : (w : ℕ) (cut : List (List (List Atom))) → w + 1 ≡ config.width → IsCutting atoms cut → HoldsIn w cut → config.height < length (joined cut)
+  pub narrower : (w : ℕ) (cut : List (List (List Atom))) → w + 1 ≡ config.width
+      → IsCutting atoms cut → HoldsIn w cut → config.height < length (joined cut)
 
 -- exactly the minimal configurations of width at most `most`
 abbrev pub AreMinimal : List Atom → ℕ → List Config → Type 0
-AreMinimal atoms most steps = (config : Config) → Contains steps config ↔ (IsMinimal atoms config × (config.width ≤ most))
+AreMinimal atoms most steps =
+    (config : Config) → Contains steps config ↔ (IsMinimal atoms config × (config.width ≤ most))

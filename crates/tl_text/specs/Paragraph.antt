@@ -1,10 +1,12 @@
--- Paragraphs: which lists of units and breaks are one, and the pieces that its breaks part.
+-- Paragraphs: which lists of units and breaks are one, and the pieces between its breaks.
 use Rattle.std.specs.Prelude.{◌≡◌, ℕ, ◌<◌, ◌≤◌, Bool, true, false, List, [], ◌∷◌, length, sum_by}
 use Rattle.std.specs.List.{All, onto_first, list_any}
 use Rattle.std.specs.Char.{is_ascii_whitespace}
+use Rattle.tl_base.specs.declared.limits.TheConstants.{MAX_FILE_BYTES}
+use Rattle.tl_base.specs.Text.{byte_count}
 use Rattle.tl_text.specs.declared.paragraph.Atom.{Atom}
 use Rattle.tl_text.specs.declared.paragraph.Atom.TheVariants.{Word, Glue, Break}
-use Rattle.tl_text.specs.Words.{width_of, byte_count}
+use Rattle.tl_text.specs.Words.{width_of}
 
 -- a unit's width in columns
 abbrev pub unit_width : Atom → ℕ
@@ -55,4 +57,4 @@ pub record IsParagraph (atoms : List Atom) : Type 0 where
   pub has_atom : 0 < length atoms
   pub begun : has_leading_glue atoms ≡ false
   pub spelt : All IsSpelt atoms
-  pub size : sum_by atom_size atoms ≤ 1048576
+  pub size : sum_by atom_size atoms ≤ MAX_FILE_BYTES

@@ -13,11 +13,14 @@ use Rattle.tl_text.specs.Cuttings.{joined, IsGreedyCutting}
 -- last ends at `past`
 abbrev pub AreInOrder : ℕ → List Line → ℕ → Type 0
 AreInOrder from [] past = from ≡ past
-AreInOrder from (range ∷ ranges) past = (range.first ≡ from) × (range.first < range.past) × AreInOrder range.past ranges past
+AreInOrder from (range ∷ ranges) past =
+    (range.first ≡ from) × (range.first < range.past) × AreInOrder range.past ranges past
 
--- the range has the line's units, and at most a break behind them
+-- the range has the line's units, and at most a break after them
 abbrev pub ShowsLine : List Atom → Line → List Atom → Type 0
-ShowsLine atoms range line = let shown = slice_range atoms range.first range.past in (shown ≡ line) ⊎ (shown ≡ line ++ Break ∷ [])
+ShowsLine atoms range line =
+    let shown = slice_range atoms range.first range.past in
+    (shown ≡ line) ⊎ (shown ≡ line ++ Break ∷ [])
 
 -- the ranges are the lines of the paragraph's greedy cutting in `w` columns
 pub record ShowsGreedyCutting (w : ℕ) (atoms : List Atom) (ranges : List Line) : Type 0 where

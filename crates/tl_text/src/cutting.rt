@@ -1,6 +1,8 @@
-ghost use Rattle.std.specs.Prelude.{◌<◌, ◌≤◌, ◌↔◌, ℕ, Any, IsNone, IfSome};
+//! How many lines a paragraph needs, and how wide they must be.
+
+ghost use Rattle.std.specs.Prelude.{◌*◌, ◌<◌, ◌≤◌, ◌↔◌, ℕ, Any, IsNone, IfSome, sum_by};
 ghost use Rattle.tl_text.specs.Cuttings.{HasCutting, LeastLines};
-ghost use Rattle.tl_text.specs.Paragraph.{unit_width};
+ghost use Rattle.tl_text.specs.Paragraph.{unit_width, atom_size};
 
 use crate::Para;
 use crate::filling::Filling;
@@ -11,6 +13,8 @@ use crate::measure::measured;
 pub fn least_width(p: &Para) -> u32
     ensures holds { (w : ℕ) → result ≤ w → HasCutting w p.now }
     ensures least { (w : ℕ) → HasCutting w p.now → result ≤ w }
+    // No unit takes more than two columns for each of its bytes.
+    ensures bytes { result ≤ 2 * sum_by atom_size p.now }
 {
     let atoms = p.atoms();
     let mut widest: u32 = 0;

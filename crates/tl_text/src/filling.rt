@@ -1,3 +1,5 @@
+//! Lines that are filled from the left, an atom at a time.
+
 ghost use Rattle.std.specs.Prelude.{◌≡◌, ◌+◌, ◌-◌, ◌<◌, ◌≤◌, ◌^◌, ℕ, List, [], ◌∷◌, None, IfSome, if◌then◌else◌};
 ghost use Rattle.std.specs.Option.{ForSome};
 ghost use Rattle.tl_text.specs.declared.measure.Measure.{Measure};
@@ -30,7 +32,7 @@ impl Filling {
         }
     }
 
-    /// Puts an atom behind those so far, in lines of `width` columns.
+    /// Puts an atom after those so far, in lines of `width` columns.
     pub fn with(self, measure: Measure, width: u32) -> Filling
         requires fits { columns_of measure ≤ width }
         requires line { ForSome self.line (λ used. used ≤ width) }

@@ -1,5 +1,5 @@
 //! Breaks paragraphs into lines. It knows words, widths and lines, and no tables. Its one contract:
-//! no cutting of a paragraph that holds in a width has fewer lines than these calls answer.
+//! no cutting of a paragraph that holds in a width has fewer lines than these calls return.
 #![tactic(auto)]
 
 mod clusters;

@@ -1,13 +1,16 @@
-ghost use Rattle.std.specs.Prelude.{◌≡◌, ◌≤◌};
+//! Atoms as breaking sees them: columns and gaps.
+
+ghost use Rattle.std.specs.Prelude.{◌≡◌, ◌*◌, ◌≤◌};
 ghost use Rattle.tl_text.specs.inner.Measure.{measure_of, columns_of};
 ghost use Rattle.tl_text.specs.Paragraph.{atom_size};
 
 use crate::{Atom, word_width};
+use tl_base::MAX_FILE_BYTES;
 
 /// An atom as breaking sees it.
 #[derive(Clone, Copy)]
 pub enum Measure {
-    /// A unit: its width in columns, and the columns that part it from a unit before it on its
+    /// A unit: its width in columns, and the columns between it and a unit before it on its
     /// line.
     Columns { width: u32, gap: u32 },
     /// A forced end of a line.
@@ -28,8 +31,9 @@ impl Measure {
 
 /// Measures one atom.
 pub fn measured(atom: &Atom) -> Measure
-    requires { atom_size atom.now ≤ 1048576 }
-    ensures { result ≡ measure_of atom.now }
+    requires { atom_size atom.now ≤ MAX_FILE_BYTES }
+    ensures measure { result ≡ measure_of atom.now }
+    ensures bytes { columns_of result ≤ 2 * atom_size atom.now }
 {
     match atom {
         Atom::Word(text) => Measure::Columns {

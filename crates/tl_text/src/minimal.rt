@@ -1,3 +1,5 @@
+//! The widths that a paragraph is worth.
+
 ghost use Rattle.std.specs.Prelude.{◌≡◌, ◌+◌, ◌-◌, ◌^◌, ◌≤◌, ◌<◌, ℕ, [], None, length, IfOk, map};
 ghost use Rattle.std.specs.List.{All};
 ghost use Rattle.tl_text.specs.Cuttings.{HasCutting};
@@ -8,7 +10,7 @@ use crate::filling::Filling;
 use crate::measure::{Measure, measured};
 use crate::{Para, least_width};
 use std::alloc::{AllocError, Global};
-use tl_base::{Config, List, Steps};
+use tl_base::{Config, List, MAX_FILE_BYTES, MAX_PAGE_WIDTH, Steps};
 
 /// The widths up to `most` columns that the paragraph is worth, each with its least number of
 /// lines: those at which one column less takes more lines, or at which no cutting held before.
@@ -17,7 +19,7 @@ use tl_base::{Config, List, Steps};
 /// line of its greedy cutting could take one more unit.
 pub fn configs(alloc: Global, p: &Para, most: u32) -> Result<Steps, AllocError>
     requires holds { HasCutting most p.now }
-    requires limit { most ≤ 500 }
+    requires limit { most ≤ MAX_PAGE_WIDTH }
     ensures { IfOk result (AreMinimal p.now most) }
 {
     let measures = measures(alloc, p)?;
@@ -46,7 +48,7 @@ pub fn configs(alloc: Global, p: &Para, most: u32) -> Result<Steps, AllocError>
 /// What breaking sees of each atom.
 fn measures(alloc: Global, p: &Para) -> Result<List<Measure>, AllocError>
     ensures measured { IfOk result (λ list. list ≡ map measure_of p.now) }
-    ensures few { IfOk result (λ list. length list ≤ 1048576) }
+    ensures few { IfOk result (λ list. length list ≤ MAX_FILE_BYTES) }
 {
     let atoms = p.atoms();
     let mut list = List::new(alloc);
@@ -57,7 +59,7 @@ fn measures(alloc: Global, p: &Para) -> Result<List<Measure>, AllocError>
 }
 
 /// The lines of `width` columns that are filled with all of the units. At each width from `width`
-/// on, up to the next one worth trying, they are the same.
+/// on, up to the next one worth trying, there are as many.
 fn filled(units: &[Measure], width: u32, most: u32) -> Filling
     requires fits { All (λ unit. columns_of unit ≤ width) units.now }
     requires width { width ≤ most }

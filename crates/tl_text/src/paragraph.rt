@@ -1,22 +1,21 @@
+//! Paragraphs: which lists of units and breaks are one.
+
 ghost use Rattle.std.specs.Prelude.{◌≡◌, ◌↔◌, ◌≤◌, IsTrue, SomeIff, length, sum_by};
 ghost use Rattle.std.specs.Char.{is_ascii_whitespace};
 ghost use Rattle.std.specs.List.{All, list_any};
 ghost use Rattle.std.specs.Str.{chars};
 ghost use Rattle.tl_text.specs.Paragraph.{IsParagraph, IsSolid, IsSpelt, atom_size, has_leading_glue};
-ghost use Rattle.tl_text.specs.Words.{byte_count};
 
 use std::marker::Model;
-use tl_base::{List, Text};
-
-/// How many bytes a paragraph may have, each break counted as one.
-const MOST_BYTES: usize = 1 << 20;
+use tl_base::{List, MAX_FILE_BYTES, Text};
 
 /// What a paragraph is made of.
 #[derive(Debug, Drop)]
 pub enum Atom {
     /// A unit that begins a word.
     Word(Text),
-    /// A unit that goes on with the word before it: no gap stands between the two.
+    /// A unit that goes on with the word before it. It is *not* separated from the unit before it:
+    /// no gap stands between the two. (TeX uses the word glue for the stretchable gap itself.)
     Glue(Text),
     /// A forced end of a line, as `<br>` makes it.
     Break,
@@ -45,7 +44,7 @@ impl Model for Para {
 impl Para {
     /// A paragraph of these atoms. `None` exactly where there is no atom, a piece (the units
     /// before, between or after breaks) begins with a Glue, a Word or a Glue is empty or has ASCII
-    /// white space, or the bytes of all units and the number of breaks sum to more than 1,048,576.
+    /// white space, or the bytes of all units and the number of breaks sum to more than `MAX_FILE_BYTES`.
     pub fn new(atoms: List<Atom>) -> Option<Para>
         ensures { SomeIff result (IsParagraph atoms) atoms }
     {
@@ -68,8 +67,8 @@ impl Para {
     pub fn atoms(&self) -> &[Atom]
         ensures atoms { result.now ≡ self.now }
         ensures sound { IsParagraph self.now }
-        ensures few { length result.now ≤ 1048576 }
-        ensures small { All (λ atom. atom_size atom ≤ 1048576) result.now }
+        ensures few { length result.now ≤ MAX_FILE_BYTES }
+        ensures small { All (λ atom. atom_size atom ≤ MAX_FILE_BYTES) result.now }
     {
         self.atoms.as_slice()
     }
@@ -123,11 +122,11 @@ fn has_white_space(text: &str) -> bool
     text.chars().any(|c| c.is_ascii_whitespace())
 }
 
-/// Whether the bytes of the units and the number of the breaks are at most `MOST_BYTES` together.
+/// Whether the bytes of the units and the number of the breaks are at most `MAX_FILE_BYTES` together.
 fn is_in_limit(atoms: &[Atom]) -> bool
-    ensures { IsTrue result ↔ (sum_by atom_size atoms.now ≤ 1048576) }
+    ensures { IsTrue result ↔ (sum_by atom_size atoms.now ≤ MAX_FILE_BYTES) }
 {
-    let mut left = MOST_BYTES;
+    let mut left = MAX_FILE_BYTES;
     for atom in atoms {
         let size = size_of(atom);
         if size > left {
@@ -143,13 +142,7 @@ fn size_of(atom: &Atom) -> usize
     ensures { result ≡ atom_size atom.now }
 {
     match atom {
-        Atom::Word(text) | Atom::Glue(text) => byte_len(text),
+        Atom::Word(text) | Atom::Glue(text) => text.len(),
         Atom::Break => 1,
     }
-}
-
-fn byte_len(text: &Text) -> usize
-    ensures { result ≡ byte_count text.now }
-{
-    text.as_str().len()
 }

@@ -1,3 +1,5 @@
+//! The lines of a paragraph, as ranges of its atoms.
+
 ghost use Rattle.std.specs.Prelude.{◌≡◌, ◌<◌, ◌≤◌, length, IfOk, IfErr, OnOk, alloc_error};
 ghost use Rattle.std.specs.List.{All};
 ghost use Rattle.tl_text.specs.Cuttings.{LeastLines};
@@ -12,8 +14,8 @@ use std::alloc::{AllocError, AllocFailed, Global};
 use thiserror::Error;
 use tl_base::List;
 
-/// A line of a paragraph, by the places of its atoms: `first` is its first atom's, `past` the one
-/// behind its last atom's. A break belongs to the line that it ends.
+/// A line of a paragraph: its atoms are those from `first` on and before `past`, counted from 0. A
+/// break belongs to the line that it ends.
 #[derive(Clone, Copy, Debug, PartialEq, Eq)]
 pub struct Line {
     pub first: u32,
@@ -23,10 +25,10 @@ pub struct Line {
 /// Why a paragraph was not cut into lines.
 #[derive(Debug, Drop, Error)]
 pub enum TextError {
-    /// 0: no memory was found.
+    /// Number 0: out of memory.
     #[error("out of memory")]
     Memory(AllocError),
-    /// 1: the atom at this place is the first unit that is wider than the width.
+    /// Number 1: the atom at this place, counted from 0, is the first unit wider than the width.
     #[error("the unit at {0} is wider than the width")]
     TooWide(u32),
 }

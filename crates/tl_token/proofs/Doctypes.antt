@@ -1,5 +1,6 @@
--- What is read as a doctype is one of the grammar, and what is no front of one is none.
-use Rattle.std.proofs.Common.{◌≡◌, ◌≢◌, ℕ, Bool, true, false, ◌&&◌, List, [], ◌∷◌, ◌++◌, Option, Some, None, refl, sym, ap, ◌∙◌, subst, inl, inr, eqb, cond, append_assoc}
+-- What is read as a doctype is one of the grammar, and what is no prefix of one is none.
+use Rattle.std.proofs.Common.{◌≡◌, ◌≢◌, ℕ, Bool, true, false, ◌&&◌, List, [], ◌∷◌, ◌++◌, Option, Some, None, refl, sym, ap, ◌∙◌, subst, inl, inr, eqb}
+use Rattle.std.proofs.Common.{cond, append_assoc}
 use Rattle.std.proofs.lemmas.Bool.{false≢true}
 use Rattle.std.specs.Prelude.{codes}
 use Rattle.std.specs.Char.{to_ascii_lowercase}
@@ -8,7 +9,7 @@ use Rattle.tl_token.specs.Grammar.{past_first, hidden, tag, character, unended_t
 use Rattle.tl_token.specs.inner.Reading.{Found, stands, faulty, closed_or, in_doctype, doctype_word}
 use Rattle.tl_token.proofs.CharacterTests.{chosen, cases_bool, clash}
 
--- behind the `<!`, the rest w of the word, and anything up to the first `>`
+-- after the `<!`, the rest w of the word, and anything up to the first `>`
 pub record Worded (w cs rest : List ℕ) : Type 0 where
   pub word : List ℕ
   pub inside : List ℕ
@@ -63,7 +64,7 @@ Worded-less w cs rest c d k = from (k.word) (k.opened) (k.named)
         let (head, others) = and_cases _ _ named in
         (ap (λ x. eqb (to_ascii_lowercase x) d) (sym same) ∙ head, record { word = word; inside = k.inside; opened = later; named = others; closed = k.closed })
 
--- what stands behind the `<!`, where the rest w of the word is to come
+-- what follows the `<!`, where the rest w of the word is to come
 abbrev pub WordIs : Found → List ℕ → List ℕ → Type 0
 WordIs (stands hidden rest) w cs = Worded w cs rest
 WordIs (stands (tag kind) rest) w cs = ⊥
@@ -90,7 +91,7 @@ more_word (faulty unknown_element) w cs c d e k = k
 more_word (faulty bad_reference) w cs c d e k = k
 more_word (faulty bad_character) w cs c d e k = k
 
--- the word is of small letters
+-- the word is of lowercase letters
 pub word_is : (w cs : List ℕ) → is_word w w ≡ true → WordIs (doctype_word w cs) w cs
 word_is [] cs small = closed_word cs (past_first (codes ">") cs) refl
 word_is (d ∷ w) [] small =
@@ -104,7 +105,7 @@ word_is (d ∷ w) (c ∷ cs) small = elim (cases_bool (eqb (to_ascii_lowercase c
       subst P (sym e) (λ more rest given. clash _ ((Worded-less w (cs ++ more) rest c d given).0) e)
 ]
 
--- a word and what is behind it is read
+-- a word and what follows it are read
 pub word_whole : (w cs rest : List ℕ) → Worded w cs rest → doctype_word w cs ≡ stands hidden rest
 word_whole [] cs rest k = from (k.word) (k.opened) (k.named)
   where

@@ -36,7 +36,8 @@ one_way size cs _ _ here k = from k refl
     from : {ds : List ℕ} {qs : List Part} → Leads size ds qs [] → ds ≡ [] → [] ≡ qs
     from here e = refl
     from (next {mid = mid} piece s later) e = let P : List ℕ → Type 0 = λ x. Stands x piece mid in absurd (nothing_at_end piece mid (subst P e s))
-one_way size cs _ qs (next {mid = mid} {parts = ps} p h later) k = from k refl (λ last rs same l. one_way size mid ps rs later (subst (λ (x : List ℕ). Leads size x rs []) (sym same) l))
+one_way size cs _ qs (next {mid = mid} {parts = ps} p h later) k =
+    from k refl (λ last rs same l. one_way size mid ps rs later (subst (λ (x : List ℕ). Leads size x rs []) (sym same) l))
   where
     from : {ds : List ℕ} {qs : List Part} → Leads size ds qs [] → ds ≡ cs
         → ((last : List ℕ) (rs : List Part) → mid ≡ last → Leads size last rs [] → ps ≡ rs)
@@ -48,8 +49,9 @@ one_way size cs _ qs (next {mid = mid} {parts = ps} p h later) k = from k refl (
         let others = ih last rs mids l in
         λ i. record { piece = same i; first = place_of size (sym e i); past = place_of size (mids i) } ∷ others i
 
--- no fault is behind pieces where others lead to the end
-pub whole_or_broken : (size : ℕ) (cs rest : List ℕ) (ps qs : List Part) (fault : Fault) → Leads size cs ps [] → Leads size cs qs rest → FaultStands fault rest → ⊥
+-- where pieces lead to the end, no pieces lead to a fault
+pub whole_or_broken : (size : ℕ) (cs rest : List ℕ) (ps qs : List Part) (fault : Fault) → Leads size cs ps [] → Leads size cs qs rest
+    → FaultStands fault rest → ⊥
 whole_or_broken size cs rest _ qs fault here k broken = from k refl
   where
     from : {ds : List ℕ} {qs : List Part} → Leads size ds qs rest → ds ≡ [] → ⊥
@@ -64,14 +66,16 @@ whole_or_broken size cs rest _ qs fault (next {mid = mid} {parts = ps} p h later
         let P : List ℕ → Type 0 = λ x. Stands x q last in
         ih last rs ((one_piece cs p q mid last h (subst P e s)).1) l
 
--- two faults behind pieces are one
-pub one_break : (size : ℕ) (cs rest last : List ℕ) (ps qs : List Part) (f g : Fault) → Leads size cs ps rest → FaultStands f rest → Leads size cs qs last → FaultStands g last
+-- two faults to which pieces lead are one
+pub one_break : (size : ℕ) (cs rest last : List ℕ) (ps qs : List Part) (f g : Fault) → Leads size cs ps rest → FaultStands f rest
+    → Leads size cs qs last → FaultStands g last
     → (f ≡ g) × (rest ≡ last)
 one_break size cs _ last _ qs f g here broken k other = from k refl other
   where
     from : {ds : List ℕ} {qs : List Part} → Leads size ds qs last → ds ≡ cs → FaultStands g last → (f ≡ g) × (cs ≡ last)
     from here e o = let P : List ℕ → Type 0 = λ x. FaultStands f x in (one_fault last f g (subst P (sym e) broken) o, sym e)
-    from (next {cs = ds} {mid = mid} piece s later) e o = let P : List ℕ → Type 0 = λ x. Stands x piece mid in absurd (no_piece_at_fault cs piece mid f (subst P e s) broken)
+    from (next {cs = ds} {mid = mid} piece s later) e o =
+        let P : List ℕ → Type 0 = λ x. Stands x piece mid in absurd (no_piece_at_fault cs piece mid f (subst P e s) broken)
 one_break size cs rest last _ qs f g (next {mid = mid} {parts = ps} p h later) broken k other =
     from k refl other (λ after rs same l o. one_break size mid rest last ps rs f g later broken (subst (λ (x : List ℕ). Leads size x rs last) (sym same) l) o)
   where

@@ -1,11 +1,12 @@
--- The grammar on texts so small that each answer can be counted by hand.
+-- The grammar on texts so small that each result can be counted by hand.
 use Rattle.std.proofs.Common.{◌≡◌, true, false, [], ◌∷◌, Some, None, refl, inl}
 use Rattle.std.specs.Prelude.{codes}
 use Rattle.std.specs.Str.{chars}
 use lib.Utf8.{encode}
 use Rattle.tl_token.specs.Numbers.{number_of, columns_of, rows_of, floor_of}
 use Rattle.tl_token.specs.Elements.{element_of}
-use Rattle.tl_token.specs.Grammar.{past_first, Comment, unquoted, quoted, end, gap, attribute, IsTag, reference, hidden, character, plain, by_reference, bad_character, IsUnendedTag}
+use Rattle.tl_token.specs.Grammar.{past_first, Comment, unquoted, quoted, end, gap, attribute, IsTag, reference, hidden, character, plain}
+use Rattle.tl_token.specs.Grammar.{by_reference, bad_character, IsUnendedTag}
 use Rattle.tl_token.specs.Spelling.{here, next, token, tokens_of, SpellsTokens, FirstFault}
 use Rattle.tl_token.specs.declared.token.Element.TheVariants.{Td}
 use Rattle.tl_token.specs.declared.token.TokenKind.TheVariants.{Text}
@@ -21,7 +22,8 @@ slash_in_value = record {
 }
 
 -- `</td a = "/">x`: an end tag may have attributes, and what is in quotes is the value
-quoted_slash : IsTag (codes "</td a = \"/\">x") (record { is_end = true; name = codes "td"; attributes = record { name = codes "a"; value = codes "/" } ∷ [] }) (codes "x")
+quoted_slash : IsTag (codes "</td a = \"/\">x")
+    (record { is_end = true; name = codes "td"; attributes = record { name = codes "a"; value = codes "/" } ∷ [] }) (codes "x")
 quoted_slash = record {
   following = codes " a = \"/\">x";
   spelled = refl;
@@ -30,7 +32,7 @@ quoted_slash = record {
   attributes = gap refl (attribute (λ e. cc) (refl, tt) refl (quoted 34 refl (codes " ") (codes " ") (refl, tt) (refl, tt) (refl, tt) refl) (end refl));
 }
 
--- a `<` at the end is a front of `<a>`
+-- a `<` at the end is a prefix of `<a>`
 lone_angle : IsUnendedTag (codes "<")
 lone_angle = inl (inl (
   (λ e. cc),
@@ -42,14 +44,14 @@ lone_angle = inl (inl (
   ),
 ))
 
--- `<!---->x` is a comment and x; `<!-->` has no `-->` behind its `<!--`
+-- `<!---->x` is a comment and x; in `<!-->` no `-->` follows the `<!--`
 short_comment : Comment (codes "<!---->x") (codes "x")
 short_comment = record { inside = codes "-->x"; opened = refl; closed = refl }
 
 open_comment : past_first (codes "-->") (codes ">") ≡ None
 open_comment = refl
 
--- behind a `&`
+-- references, from after the `&` on
 named_reference : reference (codes "amp;x") ≡ Some (Some 38, codes "x")
 named_reference = refl
 
@@ -94,8 +96,10 @@ any_case = refl
 no_element : element_of (codes "img") ≡ None
 no_element = refl
 
--- a comment does not part the text around it: `a`, eight bytes of comment, `b`
-one_text : tokens_of (record { piece = character 97; first = 0; past = 1 } ∷ record { piece = hidden; first = 1; past = 9 } ∷ record { piece = character 98; first = 9; past = 10 } ∷ [])
+-- a comment does not separate the text around it: `a`, eight bytes of comment, `b`
+one_text : tokens_of
+    (record { piece = character 97; first = 0; past = 1 } ∷ record { piece = hidden; first = 1; past = 9 }
+    ∷ record { piece = character 98; first = 9; past = 10 } ∷ [])
     ≡ token (Text (codes "ab")) 0 10 ∷ []
 one_text = refl
 
@@ -109,7 +113,7 @@ whole_file = (
   refl,
 )
 
--- a NUL is the first fault, behind one character of two bytes
+-- a NUL is the first fault, after one character of two bytes
 first_fault : FirstFault (0xC3 ∷ 0xA9 ∷ 0 ∷ []) bad_character 2
 unfolding chars encode
 first_fault = (

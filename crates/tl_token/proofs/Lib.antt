@@ -6,13 +6,13 @@ pub mod TagMore
 pub mod Doctypes
 pub mod Places
 pub mod PlacesWhole
-pub mod Words
+pub mod ElementLemmas
 pub mod Saturating
 pub mod TagSteps
 pub mod Numbered
 pub mod MarkupSteps
-pub mod Texts
+pub mod OutputLemmas
 pub mod Sizes
 pub mod Endings
-pub mod Answered
+pub mod SpellingLemmas
 pub mod Examples

@@ -1,5 +1,6 @@
 -- How comments and doctypes end, by the runs that the reader passes.
-use Rattle.std.proofs.Common.{◌≡◌, ℕ, ◌<◌, Bool, true, false, not, ◌&&◌, List, [], ◌∷◌, ◌++◌, Some, None, length, refl, sym, ap, ◌∙◌, inl, inr, eqb, cond, drop, get_or, ◌+◌, add-one, drop-cons}
+use Rattle.std.proofs.Common.{◌≡◌, ℕ, ◌<◌, Bool, true, false, not, ◌&&◌, List, [], ◌∷◌, ◌++◌, Some, None, length, refl, sym, ap, ◌∙◌, inl, inr, eqb}
+use Rattle.std.proofs.Common.{cond, drop, get_or, ◌+◌, add-one, drop-cons}
 use Rattle.std.proofs.lemmas.Bool.{eqb-true, eq-eqb, false≢true}
 use Rattle.std.proofs.lemmas.Bool.Decides.{eqb_tells}
 use Rattle.std.specs.Prelude.{codes}
@@ -37,7 +38,8 @@ close_missing old h =
 before_dash : (w cs : List ℕ) → Each (λ c. not (eqb c 45)) w → past_first (codes "-->") (w ++ cs) ≡ past_first (codes "-->") cs
 before_dash [] cs h = refl
 before_dash (c ∷ w) cs h =
-    ap (λ b. cond (b && has_prefix (codes "->") (w ++ cs)) (Some (drop 3 (c ∷ (w ++ cs)))) (past_first (codes "-->") (w ++ cs))) (not_true (eqb c 45) (h.0)) ∙ before_dash w cs (h.1)
+    ap (λ b. cond (b && has_prefix (codes "->") (w ++ cs)) (Some (drop 3 (c ∷ (w ++ cs)))) (past_first (codes "-->") (w ++ cs)))
+    (not_true (eqb c 45) (h.0)) ∙ before_dash w cs (h.1)
 
 pub to_dash : (old : List ℕ) → past_first (codes "-->") old ≡ past_first (codes "-->") (past (λ c. not (eqb c 45)) old)
 to_dash old =
@@ -53,7 +55,8 @@ one_dash [] h = refl
 one_dash (c ∷ cs) h = ap (λ b. cond (b && has_prefix (codes ">") cs) (Some (drop 3 (45 ∷ c ∷ cs))) (past_first (codes "-->") (c ∷ cs))) h
 
 -- two and more, and then no `>`
-two_dashes : (cs : List ℕ) → begins (λ c. eqb c 45) cs ≡ false → begins (λ c. eqb c 62) cs ≡ false → past_first (codes "-->") (45 ∷ 45 ∷ cs) ≡ past_first (codes "-->") cs
+two_dashes : (cs : List ℕ) → begins (λ c. eqb c 45) cs ≡ false → begins (λ c. eqb c 62) cs ≡ false → past_first (codes "-->") (45 ∷ 45 ∷ cs)
+    ≡ past_first (codes "-->") cs
 two_dashes [] h k = refl
 two_dashes (c ∷ cs) h k = ap (λ b. cond (b && true) (Some (drop 3 (45 ∷ 45 ∷ c ∷ cs))) (past_first (codes "-->") (45 ∷ c ∷ cs))) k ∙ one_dash (c ∷ cs) h
 
@@ -103,7 +106,7 @@ word_agrees w i c cs ds h e k =
 pub word_over : (w : List ℕ) (i : ℕ) (cs : List ℕ) → length w ≡ i → doctype_word (drop i w) cs ≡ in_doctype cs
 word_over w i cs h = ap (λ x. doctype_word x cs) (ap (λ n. drop n w) (sym h) ∙ drop-length w)
 
--- a `!` behind a `<`
+-- a `!` after a `<`
 pub angle_declares : (old new : List ℕ) → first old ≡ Some 33 → new ≡ drop 1 old → angle old ≡ declaration new
 angle_declares [] new h k = cc
 angle_declares (c ∷ cs) new h k = let is : c ≡ 33 = cc in ap (λ x. angle (x ∷ cs)) is ∙ ap declaration (sym k)

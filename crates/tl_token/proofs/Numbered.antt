@@ -30,21 +30,24 @@ number_in-push word (d ∷ all) a = by_test (is_word (d.name) word) (number_in-p
 pub columns_in : (word : List ℕ) (all : List Attribute) → columns_of (unwrap_or (number_in word all) None) ≡ columns_of (attribute_number word all)
 columns_in word all = from (value_of word all)
   where
-    from : (o : Option (List ℕ)) → columns_of (unwrap_or (option_map (λ v. option_map (λ n. min n 4294967295) (number_of v)) o) None) ≡ columns_of (option_and_then number_of o)
+    from : (o : Option (List ℕ)) → columns_of (unwrap_or (option_map (λ v. option_map (λ n. min n 4294967295) (number_of v)) o) None)
+        ≡ columns_of (option_and_then number_of o)
     from None = refl
     from (Some v) = columns_below (number_of v)
 
 pub rows_in : (word : List ℕ) (all : List Attribute) → rows_of (unwrap_or (number_in word all) None) ≡ rows_of (attribute_number word all)
 rows_in word all = from (value_of word all)
   where
-    from : (o : Option (List ℕ)) → rows_of (unwrap_or (option_map (λ v. option_map (λ n. min n 4294967295) (number_of v)) o) None) ≡ rows_of (option_and_then number_of o)
+    from : (o : Option (List ℕ)) → rows_of (unwrap_or (option_map (λ v. option_map (λ n. min n 4294967295) (number_of v)) o) None)
+        ≡ rows_of (option_and_then number_of o)
     from None = refl
     from (Some v) = rows_below (number_of v)
 
 pub floor_in : (word : List ℕ) (all : List Attribute) → floor_of (unwrap_or (number_in word all) None) ≡ floor_of (attribute_number word all)
 floor_in word all = from (value_of word all)
   where
-    from : (o : Option (List ℕ)) → floor_of (unwrap_or (option_map (λ v. option_map (λ n. min n 4294967295) (number_of v)) o) None) ≡ floor_of (option_and_then number_of o)
+    from : (o : Option (List ℕ)) → floor_of (unwrap_or (option_map (λ v. option_map (λ n. min n 4294967295) (number_of v)) o) None)
+        ≡ floor_of (option_and_then number_of o)
     from None = refl
     from (Some v) = floor_below (number_of v)
 

@@ -6,9 +6,12 @@ use Rattle.std.specs.Prelude.{codes}
 use Rattle.std.specs.Char.{is_ascii_alphabetic}
 use Rattle.tl_token.specs.Characters.{◌∈◌, is_control, opens_markup}
 use Rattle.tl_token.specs.Elements.{Tag, element_of}
-use Rattle.tl_token.specs.Grammar.{past_first, Doctype, opening, IsTagName, IsTag, reference, hidden, tag, character, Stands, comment, doctype, markup, by_reference, plain, unended_tag, unended_comment, bad_tag, unknown_element, bad_reference, bad_character, IsUnendedTag, IsBadTag, FaultStands}
+use Rattle.tl_token.specs.Grammar.{past_first, Doctype, opening, IsTagName, IsTag, reference, hidden, tag, character, Stands, comment, doctype}
+use Rattle.tl_token.specs.Grammar.{markup, by_reference, plain, unended_tag, unended_comment, bad_tag, unknown_element, bad_reference, bad_character}
+use Rattle.tl_token.specs.Grammar.{IsUnendedTag, IsBadTag, FaultStands}
 use Rattle.tl_token.specs.inner.States.{tag_open, Outcome, reads, unended, wrong, read}
-use Rattle.tl_token.specs.inner.Reading.{Found, stands, faulty, closed_or, in_comment, comment_open, doctype_word, declaration, known_or_not, tag_found, angle, referred_or, standing}
+use Rattle.tl_token.specs.inner.Reading.{Found, stands, faulty, closed_or, in_comment, comment_open, doctype_word, declaration, known_or_not}
+use Rattle.tl_token.specs.inner.Reading.{tag_found, angle, referred_or, standing}
 use Rattle.tl_token.specs.declared.token.Element.{Element}
 use Rattle.tl_token.proofs.CharacterTests.{clash, is_it, or_left}
 use Rattle.tl_token.proofs.TagSound.{tag_sound}
@@ -21,7 +24,7 @@ abbrev pub Holds : List ℕ → Found → Type 0
 Holds cs (stands piece rest) = Stands cs piece rest
 Holds cs (faulty fault) = FaultStands fault cs
 
--- a tag begins with `<`, and behind it stands a letter or `/`
+-- a tag begins with `<`, and a letter or `/` follows it
 pub tag_second : (d : ℕ) (cs : List ℕ) (t : Tag) (rest : List ℕ) → IsTag (codes "<" ++ (d ∷ cs)) t rest → (is_ascii_alphabetic d || d ∈ "/") ≡ true
 tag_second d cs t rest h = from (t.is_end) (t.name) (h.named) (h.spelled)
   where
@@ -37,7 +40,7 @@ tag_second d cs t rest h = from (t.is_end) (t.name) (h.named) (h.spelled)
 pub no_tag_here : (cs : List ℕ) (t : Tag) (rest : List ℕ) → IsTag (codes "<!" ++ cs) t rest → ⊥
 no_tag_here cs t rest h = false≢true (tag_second 33 cs t rest h)
 
--- a front of a tag that did not end
+-- a proper prefix of a tag
 unended_stands : (d : ℕ) (cs : List ℕ) → read tag_open (d ∷ cs) ≡ unended → IsUnendedTag (codes "<" ++ (d ∷ cs))
 unended_stands d cs h =
     let F : Outcome → Type 0 = λ o. Further tag_open (d ∷ cs) o in
@@ -45,7 +48,7 @@ unended_stands d cs h =
     let e = ending u live in
     inl (inl ((λ e. cc), e.more, e.some, (e.whole, tag_sound ((d ∷ cs) ++ e.more) (e.whole) [] (same (e.more) ∙ e.is_read))))
 
--- what is no tag, and no front of one
+-- what is no tag, and no prefix of one
 wrong_is_bad : (d : ℕ) (cs : List ℕ) → opens_markup d ≡ true → (d ∈ "!") ≡ false → read tag_open (d ∷ cs) ≡ wrong → IsBadTag (codes "<" ++ (d ∷ cs))
 wrong_is_bad d cs opens mark h =
     let F : Outcome → Type 0 = λ o. Further tag_open (d ∷ cs) o in
@@ -79,7 +82,7 @@ tag_holds d cs (reads t rest) opens mark h = known (element_of (t.name)) refl
 tag_holds d cs unended opens mark h = unended_stands d cs h
 tag_holds d cs wrong opens mark h = wrong_is_bad d cs opens mark h
 
--- behind `<!` and the word `doctype`, what is found there
+-- what is found after `<!` and the word `doctype`
 doctype_of : (cs rest : List ℕ) → Worded (codes "doctype") cs rest → Doctype (codes "<!" ++ cs) rest
 doctype_of cs rest k = record { word = k.word; inside = k.inside; opened = ap (λ x. codes "<!" ++ x) (k.opened); named = k.named; closed = k.closed }
 
@@ -90,7 +93,7 @@ worded_of cs rest k = let e = k.opened in record { word = k.word; inside = k.ins
 pub no_dash : (cs rest : List ℕ) → Worded (codes "doctype") (codes "-" ++ cs) rest → ⊥
 no_dash cs rest k = let h = word_whole (codes "doctype") (codes "-" ++ cs) rest k in let never : faulty bad_tag ≡ stands hidden rest = h in cc
 
--- `<!` and a character that is no `-`, of what is no doctype and no front of one
+-- `<!` and a character that is no `-`, of what is no doctype and no prefix of one
 bad_declaration : (c : ℕ) (cs : List ℕ) → (c ∈ "-") ≡ false → ((more rest : List ℕ) → Worded (codes "doctype") ((c ∷ cs) ++ more) rest → ⊥)
     → IsBadTag (codes "<!" ++ (c ∷ cs))
 bad_declaration c cs dash never =
@@ -160,7 +163,8 @@ found_by cs false x y f g = g refl
 open_holds : (cs : List ℕ) → Holds (codes "<!-" ++ cs) (comment_open cs)
 open_holds [] = inr refl
 open_holds (c ∷ cs) = found_by (codes "<!-" ++ (c ∷ cs)) (c ∈ "-") _ _
-    (λ e. let P : ℕ → Type 0 = λ x. Holds (codes "<!-" ++ (x ∷ cs)) (in_comment cs) in subst P (sym (is_it c 45 e)) (comment_holds cs (past_first (codes "-->") cs) refl))
+    (λ e. let P : ℕ → Type 0 = λ x. Holds (codes "<!-" ++ (x ∷ cs)) (in_comment cs) in
+    subst P (sym (is_it c 45 e)) (comment_holds cs (past_first (codes "-->") cs) refl))
     (λ e. bad_comment c cs e)
 
 declaration_holds : (cs : List ℕ) → Holds (codes "<!" ++ cs) (declaration cs)

@@ -5,7 +5,8 @@ use Rattle.std.specs.Prelude.{codes}
 use Rattle.std.specs.Char.{is_ascii_alphabetic}
 use Rattle.tl_token.specs.Characters.{◌∈◌, is_control, opens_markup, begins}
 use Rattle.tl_token.specs.Elements.{Tag, element_of}
-use Rattle.tl_token.specs.Grammar.{Doctype, opening, IsTag, Piece, hidden, tag, character, Stands, comment, doctype, markup, by_reference, plain, Fault, unended_tag, unended_comment, bad_tag, unknown_element, bad_reference, bad_character, IsBadTag, FaultStands}
+use Rattle.tl_token.specs.Grammar.{Doctype, opening, IsTag, Piece, hidden, tag, character, Stands, comment, doctype, markup, by_reference, plain}
+use Rattle.tl_token.specs.Grammar.{Fault, unended_tag, unended_comment, bad_tag, unknown_element, bad_reference, bad_character, IsBadTag, FaultStands}
 use Rattle.tl_token.specs.inner.States.{tag_open, Outcome, reads, unended, wrong, read}
 use Rattle.tl_token.specs.inner.Reading.{Found, stands, faulty, closed_or, declaration, known_or_not, tag_found, angle, referred_or, standing}
 use Rattle.tl_token.specs.declared.token.TokenKind.{TokenKind}
@@ -32,7 +33,7 @@ tag_first c cs t rest h = from (t.is_end) (h.spelled)
     from true k = cc
     from false k = cc
 
--- behind the `<` of a tag, what is read decides
+-- after the `<` of a tag, what is read decides
 angle_tag : (d : ℕ) (cs : List ℕ) → (is_ascii_alphabetic d || d ∈ "/") ≡ true → angle (d ∷ cs) ≡ tag_found (read tag_open (d ∷ cs))
 angle_tag d cs h =
     second_of_two (d ∈ "!") _ _ (excludes (λ x. is_ascii_alphabetic x || x ∈ "/") d 33 refl h)
@@ -73,7 +74,8 @@ place_whole c cs _ rest (doctype k) =
     let e = k.opened in
     let is : c ≡ 60 = cc in
     let later : cs ≡ 33 ∷ (k.word ++ k.inside) = cc in
-    ap (λ x. standing x cs) is ∙ ap (standing 60) later ∙ worded (k.word ++ k.inside) (record { word = k.word; inside = k.inside; opened = refl; named = k.named; closed = k.closed })
+    ap (λ x. standing x cs) is ∙ ap (standing 60) later
+    ∙ worded (k.word ++ k.inside) (record { word = k.word; inside = k.inside; opened = refl; named = k.named; closed = k.closed })
   where
     worded : (ds : List ℕ) → Worded (codes "doctype") ds rest → declaration ds ≡ stands hidden rest
     worded [] w = let never : faulty unended_tag ≡ stands hidden rest = word_whole (codes "doctype") [] rest w in cc
@@ -87,7 +89,8 @@ place_whole c cs _ rest (markup element t k known kind) =
     tag_is_read c cs t rest k ∙ ap (known_or_not t rest) known ∙ ap (λ (x : TokenKind). stands (tag x) rest) (sym kind)
 place_whole c cs _ rest (by_reference a h) = ap (λ x. standing x cs) (is_it c 38 a) ∙ ap (referred_or cs) h
 place_whole c cs _ _ (plain k) = elim (cases_bool (c ∈ "<")) [
-  | inl l ↦ ap (λ x. standing x cs) (is_it c 60 l) ∙ text cs ((k.1 l).0) (not_true (begins opens_markup cs) ((k.1 l).1)) ∙ ap (λ x. stands (character x) cs) (sym (is_it c 60 l))
+  | inl l ↦ ap (λ x. standing x cs) (is_it c 60 l) ∙ text cs ((k.1 l).0) (not_true (begins opens_markup cs) ((k.1 l).1))
+      ∙ ap (λ x. stands (character x) cs) (sym (is_it c 60 l))
   | inr l ↦ second_of_two (c ∈ "<") _ _ l ∙ elim (cases_bool (c ∈ "&")) [
     | inl a ↦ first_of_two (c ∈ "&") _ _ a ∙ ap (referred_or cs) (k.2 a) ∙ ap (λ x. stands (character x) cs) (sym (is_it c 38 a))
     | inr a ↦ second_of_two (c ∈ "&") _ _ a ∙ second_of_two (is_control c) _ _ (not_true (is_control c) (k.0))
@@ -104,10 +107,10 @@ place_whole c cs _ _ (plain k) = elim (cases_bool (c ∈ "<")) [
         unmarked : (d : ℕ) → (d ∈ "/!?") ≡ false → (d ∈ "!") ≡ false
         unmarked d h = (or_false (eqb d 33) _ ((or_false (eqb d 47) _ h).1)).0
 
--- A front of a tag did not end.
-front_of_tag : (c : ℕ) (cs more : List ℕ) (t : Tag) → more ≢ [] → IsTag ((c ∷ cs) ++ more) t [] → standing c cs ≡ faulty unended_tag
-front_of_tag c [] more t some h = ap (λ x. standing x []) (tag_first c more t [] h)
-front_of_tag c (d ∷ cs) more t some h =
+-- A proper prefix of a tag does not end.
+prefix_of_tag : (c : ℕ) (cs more : List ℕ) (t : Tag) → more ≢ [] → IsTag ((c ∷ cs) ++ more) t [] → standing c cs ≡ faulty unended_tag
+prefix_of_tag c [] more t some h = ap (λ x. standing x []) (tag_first c more t [] h)
+prefix_of_tag c (d ∷ cs) more t some h =
     let P : ℕ → Type 0 = λ x. IsTag (x ∷ ((d ∷ cs) ++ more)) t [] in
     let e = tag_whole ((d ∷ cs) ++ more) t [] (subst P (tag_first c ((d ∷ cs) ++ more) t [] h) h) in
     tag_standing c (d ∷ cs) more t [] h (λ e. cc) ∙ ap tag_found (from (read tag_open (d ∷ cs)) (further tag_open (d ∷ cs)) e)
@@ -121,10 +124,10 @@ front_of_tag c (d ∷ cs) more t some h =
     from unended f e = refl
     from wrong f e = let k = f more in let never : wrong ≡ reads t [] = sym k ∙ e in cc
 
--- So did a front of a doctype.
-front_of_doctype : (c : ℕ) (cs more : List ℕ) → more ≢ [] → Doctype ((c ∷ cs) ++ more) [] → standing c cs ≡ faulty unended_tag
-front_of_doctype c [] more some k = let e = k.opened in let is : c ≡ 60 = cc in ap (λ x. standing x []) is
-front_of_doctype c (d ∷ cs) more some k =
+-- A proper prefix of a doctype does not end.
+prefix_of_doctype : (c : ℕ) (cs more : List ℕ) → more ≢ [] → Doctype ((c ∷ cs) ++ more) [] → standing c cs ≡ faulty unended_tag
+prefix_of_doctype c [] more some k = let e = k.opened in let is : c ≡ 60 = cc in ap (λ x. standing x []) is
+prefix_of_doctype c (d ∷ cs) more some k =
     let e = k.opened in
     let is : c ≡ 60 = cc in
     let mark : d ≡ 33 = cc in
@@ -169,8 +172,8 @@ bad_is_found c cs (faulty bad_character) bad k =
 
 -- each fault that stands at a place is found
 pub fault_whole : (fault : Fault) (c : ℕ) (cs : List ℕ) → FaultStands fault (c ∷ cs) → standing c cs ≡ faulty fault
-fault_whole unended_tag c cs (inl (inl k)) = front_of_tag c cs (k.1) (k.3.0) (k.2) (k.3.1)
-fault_whole unended_tag c cs (inl (inr k)) = front_of_doctype c cs (k.1) (k.2) (k.3)
+fault_whole unended_tag c cs (inl (inl k)) = prefix_of_tag c cs (k.1) (k.3.0) (k.2) (k.3.1)
+fault_whole unended_tag c cs (inl (inr k)) = prefix_of_doctype c cs (k.1) (k.2) (k.3)
 fault_whole unended_tag c cs (inr e) =
     let is : c ≡ 60 = cc in
     let later : cs ≡ 33 ∷ 45 ∷ [] = cc in

@@ -1,5 +1,6 @@
 -- What a step over one character of a text leaves.
-use Rattle.std.proofs.Common.{◌≡◌, ℕ, Bool, true, false, ◌&&◌, List, [], ◌∷◌, ◌++◌, length, Option, Some, None, refl, sym, ap, ◌∙◌, arith, append_assoc, MatchOption, encode_utf8, take, drop, ◌-◌, length-append, subst}
+use Rattle.std.proofs.Common.{◌≡◌, ℕ, Bool, true, false, ◌&&◌, List, [], ◌∷◌, ◌++◌, length, Option, Some, None, refl, sym, ap, ◌∙◌, arith}
+use Rattle.std.proofs.Common.{append_assoc, MatchOption, encode_utf8, take, drop, ◌-◌, length-append, subst}
 use Rattle.std.specs.Str.{chars, IsUtf8, IsCharBoundary}
 use Rattle.std.proofs.lemmas.Str.{IsCharBoundary-at_seam, chars-encodes, encodes-append, scalars-chars, chars-nil, chars_past_char, encodes-chars}
 use Rattle.std.proofs.lemmas.List.{append-nil, take_at}
@@ -8,7 +9,7 @@ use lib.Utf8.{encodes, scalars, scalar}
 use Rattle.std.proofs.lemmas.Bool.{false≢true}
 use Rattle.tl_token.specs.Characters.{begins, run, past}
 
--- the next character, and the characters behind it
+-- the next character, and the characters after it
 found_in : (before after : List ℕ) → IsUtf8 before → (o : Option ℕ)
     → MatchOption o ((length before ≡ 0) × (after ≡ before)) (λ c. before ≡ encode_utf8 c ++ after)
     → MatchOption o ((chars before ≡ []) × (chars after ≡ [])) (λ c. chars before ≡ c ∷ chars after)
@@ -23,12 +24,12 @@ next_found before after s t u e f None h =
     found_in before after u None (ap length (sym e) ∙ h.0, f ∙ ap (λ (x : Chars). x.rest.now) h.1 ∙ e)
 next_found before after s t u e f (Some c) h = found_in before after u (Some c) (sym e ∙ h ∙ ap (λ x. encode_utf8 c ++ x) (sym f))
 
--- the front of characters that text may have
-pub scalars_front : (front cs : List ℕ) → scalars (front ++ cs) ≡ true → scalars front ≡ true
-scalars_front [] cs h = refl
-scalars_front (c ∷ front) cs h = both (scalar c) (scalars front) (λ k. scalars_front front cs k) h
+-- a prefix of characters that text may have
+pub scalars_prefix : (prefix cs : List ℕ) → scalars (prefix ++ cs) ≡ true → scalars prefix ≡ true
+scalars_prefix [] cs h = refl
+scalars_prefix (c ∷ prefix) cs h = both (scalar c) (scalars prefix) (λ k. scalars_prefix prefix cs k) h
   where
-    both : (a b : Bool) → (scalars (front ++ cs) ≡ true → b ≡ true) → (a && scalars (front ++ cs)) ≡ true → (a && b) ≡ true
+    both : (a b : Bool) → (scalars (prefix ++ cs) ≡ true → b ≡ true) → (a && scalars (prefix ++ cs)) ≡ true → (a && b) ≡ true
     both true b f k = f k
     both false b f k = k
 
@@ -56,50 +57,51 @@ past_none test (c ∷ cs) h = rw h refl
 
 -- What a loop over a run keeps: what was passed and what is left are the text, and the run is what was passed and the
 -- run of what is left.
-pub record Passed (test : ℕ → Bool) (whole front cs : List ℕ) : Type 0 where
-  pub whole_is : whole ≡ front ++ cs
-  pub run_is : run test whole ≡ front ++ run test cs
+pub record Passed (test : ℕ → Bool) (whole prefix cs : List ℕ) : Type 0 where
+  pub whole_is : whole ≡ prefix ++ cs
+  pub run_is : run test whole ≡ prefix ++ run test cs
   pub past_is : past test whole ≡ past test cs
 
 pub Passed-none : (test : ℕ → Bool) (whole : List ℕ) → Passed test whole [] whole
 Passed-none test whole = record { whole_is = refl; run_is = refl; past_is = refl }
 
-pub Passed-more : (test : ℕ → Bool) (whole front cs ds : List ℕ) (c : ℕ) → Passed test whole front cs → cs ≡ c ∷ ds → test c ≡ true
-    → Passed test whole (front ++ c ∷ []) ds
-Passed-more test whole front cs ds c p e h = record {
-  whole_is = p.whole_is ∙ ap (λ x. front ++ x) e ∙ sym (append_assoc front (c ∷ []) ds);
-  run_is = p.run_is ∙ ap (λ x. front ++ run test x) e ∙ ap (λ x. front ++ x) (run_more test c ds h) ∙ sym (append_assoc front (c ∷ []) (run test ds));
+pub Passed-more : (test : ℕ → Bool) (whole prefix cs ds : List ℕ) (c : ℕ) → Passed test whole prefix cs → cs ≡ c ∷ ds → test c ≡ true
+    → Passed test whole (prefix ++ c ∷ []) ds
+Passed-more test whole prefix cs ds c p e h = record {
+  whole_is = p.whole_is ∙ ap (λ x. prefix ++ x) e ∙ sym (append_assoc prefix (c ∷ []) ds);
+  run_is = p.run_is ∙ ap (λ x. prefix ++ run test x) e ∙ ap (λ x. prefix ++ x) (run_more test c ds h) ∙ sym (append_assoc prefix (c ∷ []) (run test ds));
   past_is = p.past_is ∙ ap (past test) e ∙ past_more test c ds h;
 }
 
 -- where the run ends, it is what was passed
-pub Passed-run : (test : ℕ → Bool) (whole front cs : List ℕ) → Passed test whole front cs → begins test cs ≡ false → run test whole ≡ front
-Passed-run test whole front cs p h = p.run_is ∙ ap (λ x. front ++ x) (run_none test cs h) ∙ append-nil front
+pub Passed-run : (test : ℕ → Bool) (whole prefix cs : List ℕ) → Passed test whole prefix cs → begins test cs ≡ false → run test whole ≡ prefix
+Passed-run test whole prefix cs p h = p.run_is ∙ ap (λ x. prefix ++ x) (run_none test cs h) ∙ append-nil prefix
 
-pub Passed-past : (test : ℕ → Bool) (whole front cs : List ℕ) → Passed test whole front cs → begins test cs ≡ false → past test whole ≡ cs
-Passed-past test whole front cs p h = p.past_is ∙ past_none test cs h
+pub Passed-past : (test : ℕ → Bool) (whole prefix cs : List ℕ) → Passed test whole prefix cs → begins test cs ≡ false → past test whole ≡ cs
+Passed-past test whole prefix cs p h = p.past_is ∙ past_none test cs h
 
 -- the bytes of a text are those of what was passed and of what is left
-pub bytes_passed : (text rest front : List ℕ) → IsUtf8 text → IsUtf8 rest → chars text ≡ front ++ chars rest → text ≡ encodes front ++ rest
-bytes_passed text rest front u v e =
-    sym (encodes-chars text u) ∙ ap encodes e ∙ encodes-append front (chars rest) ∙ ap (λ x. encodes front ++ x) (encodes-chars rest v)
+pub bytes_passed : (text rest prefix : List ℕ) → IsUtf8 text → IsUtf8 rest → chars text ≡ prefix ++ chars rest → text ≡ encodes prefix ++ rest
+bytes_passed text rest prefix u v e =
+    sym (encodes-chars text u) ∙ ap encodes e ∙ encodes-append prefix (chars rest) ∙ ap (λ x. encodes prefix ++ x) (encodes-chars rest v)
 
-pub length_passed : (text rest front : List ℕ) → text ≡ encodes front ++ rest → length text - length rest ≡ length (encodes front)
-length_passed text rest front e = omega (arith, ap length e, length-append (encodes front) rest)
+pub length_passed : (text rest prefix : List ℕ) → text ≡ encodes prefix ++ rest → length text - length rest ≡ length (encodes prefix)
+length_passed text rest prefix e = omega (arith, ap length e, length-append (encodes prefix) rest)
 
-pub chars_passed : (text rest front : List ℕ) → IsUtf8 text → text ≡ encodes front ++ rest → chars text ≡ front ++ chars rest
-    → chars (take (length text - length rest) text) ≡ front
-chars_passed text rest front u e f =
-    let taken : take (length text - length rest) text ≡ encodes front = ap (λ n. take n text) (length_passed text rest front e) ∙ ap (take (length (encodes front))) e ∙ take_at (encodes front) rest _ refl in
-    ap chars taken ∙ chars-encodes front (scalars_front front (chars rest) (ap scalars (sym f) ∙ scalars-chars text u))
+pub chars_passed : (text rest prefix : List ℕ) → IsUtf8 text → text ≡ encodes prefix ++ rest → chars text ≡ prefix ++ chars rest
+    → chars (take (length text - length rest) text) ≡ prefix
+chars_passed text rest prefix u e f =
+    let taken : take (length text - length rest) text ≡ encodes prefix =
+    ap (λ n. take n text) (length_passed text rest prefix e) ∙ ap (take (length (encodes prefix))) e ∙ take_at (encodes prefix) rest _ refl in
+    ap chars taken ∙ chars-encodes prefix (scalars_prefix prefix (chars rest) (ap scalars (sym f) ∙ scalars-chars text u))
 
 -- what is left begins at a character of the text
-pub boundary_passed : (text rest front : List ℕ) → IsUtf8 rest → text ≡ encodes front ++ rest → IsCharBoundary text (length text - length rest)
-boundary_passed text rest front v e =
+pub boundary_passed : (text rest prefix : List ℕ) → IsUtf8 rest → text ≡ encodes prefix ++ rest → IsCharBoundary text (length text - length rest)
+boundary_passed text rest prefix v e =
     let P : ℕ → Type 0 = λ n. IsCharBoundary text n in
-    subst P (sym (length_passed text rest front e)) (IsCharBoundary-at_seam text (encodes front) rest e v)
+    subst P (sym (length_passed text rest prefix e)) (IsCharBoundary-at_seam text (encodes prefix) rest e v)
 
--- what is left behind the next character
+-- what is left after the next character
 pub passed_one : (cs after : List ℕ) (o : Option ℕ) → MatchOption o ((cs ≡ []) × (after ≡ [])) (λ c. cs ≡ c ∷ after) → after ≡ drop 1 cs
 passed_one [] after None h = h.1
 passed_one (d ∷ cs) after None h = let e = h.0 in cc

@@ -1,5 +1,6 @@
 -- Numbers that stop at the top of their type.
-use Rattle.std.proofs.Common.{◌≡◌, ◌≢◌, ℕ, ◌<◌, min, max, Bool, true, false, not, ◌&&◌, ◌⊎◌, List, [], ◌∷◌, Option, Some, None, refl, sym, ap, ◌∙◌, inl, inr, cond, arith, length}
+use Rattle.std.proofs.Common.{◌≡◌, ◌≢◌, ℕ, ◌<◌, min, max, Bool, true, false, not, ◌&&◌, ◌⊎◌, List, [], ◌∷◌, Option, Some, None, refl, sym, ap, ◌∙◌}
+use Rattle.std.proofs.Common.{inl, inr, cond, arith, length}
 use Rattle.std.specs.Prelude.{nat_lt}
 use Rattle.std.specs.Option.{option_map}
 use Rattle.std.proofs.lemmas.Bool.{cases_lt, false≢true}
@@ -7,7 +8,7 @@ use Rattle.std.proofs.lemmas.Bool.Decides.{nat_tests}
 use Rattle.std.proofs.lemmas.Str.{encodes-chars, chars-nil}
 use Rattle.std.specs.Str.{chars, IsUtf8}
 use lib.Utf8.{encodes}
-use Rattle.tl_token.proofs.Words.{same_bool}
+use Rattle.tl_token.proofs.ElementLemmas.{same_bool}
 use Rattle.tl_token.specs.Grammar.{numbered_character}
 use Rattle.tl_token.specs.Characters.{is_control}
 use lib.Utf8.{scalar}
@@ -17,7 +18,7 @@ use Rattle.tl_token.specs.Numbers.{number, signed_number, columns_of, rows_of, f
 positive_same : (top n total : ℕ) → 0 < top → n ≡ min total top → nat_lt 0 n ≡ nat_lt 0 total
 positive_same top n total t h = same_bool (nat_lt 0 n) (nat_lt 0 total) (λ a. grind (arith, nat_tests)) (λ a. grind (arith, nat_tests))
 
--- no more than the top, behind a sign
+-- the number after a sign, where it stops at the top
 pub signed_below : (top : ℕ) (b : Bool) (ds : List ℕ) (n : ℕ) → 0 < top → ds ≢ [] → n ≡ min (number 10 ds) top
     → cond (b && nat_lt 0 n) None (Some n) ≡ option_map (λ x. min x top) (signed_number b ds)
 signed_below top b [] n t some h = absurd (some refl)

@@ -1,5 +1,6 @@
 -- What the states read as a tag is a tag of the grammar.
-use Rattle.std.proofs.Common.{◌≡◌, ◌≢◌, ℕ, Bool, true, false, not, ◌||◌, List, [], ◌∷◌, ◌++◌, refl, sym, ap, ◌∙◌, subst, inl, inr, eqb, append_assoc, if◌then◌else◌}
+use Rattle.std.proofs.Common.{◌≡◌, ◌≢◌, ℕ, Bool, true, false, not, ◌||◌, List, [], ◌∷◌, ◌++◌, refl, sym, ap, ◌∙◌, subst, inl, inr, eqb, append_assoc}
+use Rattle.std.proofs.Common.{if◌then◌else◌}
 use Rattle.std.proofs.lemmas.Bool.{eqb-true}
 use Rattle.std.proofs.lemmas.List.{append-nil}
 use Rattle.std.specs.Prelude.{IsTrue, codes}
@@ -7,11 +8,12 @@ use Rattle.std.specs.Char.{is_ascii_alphabetic, is_ascii_alphanumeric}
 use Rattle.tl_token.specs.Characters.{◌∈◌, is_space, is_name_character, is_value_character, is_gap}
 use Rattle.tl_token.specs.Elements.{Attribute, Tag}
 use Rattle.tl_token.specs.Grammar.{Each, Value, missing, quoted, unquoted, Attributes, end, gap, attribute, IsTagName, opening, IsTag}
-use Rattle.tl_token.specs.inner.States.{State, tag_open, end_tag_open, tag_name, between, in_name, after_name, before_value, in_quotes, in_value, ended, failed, empty_tag, with_attribute, step, reads, read}
+use Rattle.tl_token.specs.inner.States.{State, tag_open, end_tag_open, tag_name, between, in_name, after_name, before_value, in_quotes, in_value}
+use Rattle.tl_token.specs.inner.States.{ended, failed, empty_tag, with_attribute, step, reads, read}
 use Rattle.tl_token.specs.inner.States.{with_more}
 use Rattle.tl_token.proofs.CharacterTests.{chosen, or_left, or_right, not_true, is_it, is_either, Each-push, push≢nil, push_regroup, clash}
 
--- behind the tag t, cs goes on to the whole tag, from which the rest follows
+-- after the tag t, cs goes on to the whole tag, from which the rest follows
 pub record Continues (t : Tag) (cs : List ℕ) (whole : Tag) (rest : List ℕ) : Type 0 where
   pub others : List Attribute
   pub whole_is : whole ≡ with_more t others
@@ -50,7 +52,9 @@ continues_with : (t whole : Tag) (name value following later rest : List ℕ) �
     → Continues (with_attribute t name value) later whole rest → Continues t (name ++ following) whole rest
 continues_with t whole name value following later rest n v k = record {
   others = record { name = name; value = value } ∷ k.others;
-  whole_is = k.whole_is ∙ ap (λ (x : List Attribute). record { is_end = t.is_end; name = t.name; attributes = x }) (append_assoc (t.attributes) (record { name = name; value = value } ∷ []) (k.others));
+  whole_is = k.whole_is
+      ∙ ap (λ (x : List Attribute). record { is_end = t.is_end; name = t.name; attributes = x })
+      (append_assoc (t.attributes) (record { name = name; value = value } ∷ []) (k.others));
   spelled = attribute {a = record { name = name; value = value }} (n.some) (n.each) refl v (k.spelled);
 }
 
@@ -102,7 +106,7 @@ module _ (c : ℕ) (cs : List ℕ) (whole : Tag) (rest : List ℕ) where
     ]
   ]
 
-  -- the characters `/` and `>` behind an attribute that has no value
+  -- the characters `/` and `>` after an attribute that has no value
   without_value : (t : Tag) (name spaces : List ℕ) → IsName name → Value (spaces ++ c ∷ cs) [] (spaces ++ c ∷ cs) → Each is_space spaces
       → Goes (if c ∈ "/" then between (with_attribute t name []) else if c ∈ ">" then ended (with_attribute t name []) else failed)
       → Continues t (name ++ (spaces ++ (c ∷ cs))) whole rest
@@ -191,7 +195,7 @@ module _ (c : ℕ) (cs : List ℕ) (whole : Tag) (rest : List ℕ) where
     ]
   ]
 
-  -- the name is whole, and behind it stand the attributes
+  -- the name is whole, and the attributes follow it
   back_named : (is_end : Bool) (name : List ℕ) → IsTagName name → (is_gap c || c ∈ ">") ≡ true → Continues (empty_tag is_end name) (c ∷ cs) whole rest
       → IsTag (opening is_end ++ (name ++ (c ∷ cs))) whole rest
   back_named is_end name n p k =

@@ -1,5 +1,6 @@
 -- How the states read what the reader's methods pass.
-use Rattle.std.proofs.Common.{◌≡◌, ◌≢◌, ℕ, ◌<◌, ◌≤◌, Bool, true, false, not, ◌||◌, ◌⊎◌, List, [], ◌∷◌, ◌++◌, length, refl, sym, ap, ◌∙◌, subst, inl, inr, eqb, cond, append_assoc, arith, if◌then◌else◌}
+use Rattle.std.proofs.Common.{◌≡◌, ◌≢◌, ℕ, ◌<◌, ◌≤◌, Bool, true, false, not, ◌||◌, ◌⊎◌, List, [], ◌∷◌, ◌++◌, length, refl, sym, ap, ◌∙◌, subst, inl}
+use Rattle.std.proofs.Common.{inr, eqb, cond, append_assoc, arith, if◌then◌else◌}
 use Rattle.std.proofs.lemmas.Bool.{eq-eqb, false≢true}
 use Rattle.std.proofs.lemmas.List.{append-nil}
 use Rattle.std.proofs.lemmas.Bool.Decides.{nat_tests}
@@ -8,14 +9,16 @@ use Rattle.std.specs.Char.{is_ascii_alphabetic, is_ascii_alphanumeric}
 use Rattle.tl_token.specs.Characters.{◌∈◌, is_space, is_name_character, is_value_character, is_gap, begins, run, past}
 use Rattle.tl_token.specs.Elements.{Attribute, Tag}
 use Rattle.tl_token.specs.Grammar.{Each}
-use Rattle.tl_token.specs.inner.States.{State, tag_open, end_tag_open, tag_name, between, in_name, after_name, before_value, in_quotes, in_value, ended, failed, empty_tag, with_attribute, with_more, attribute, unended, read}
+use Rattle.tl_token.specs.inner.States.{State, tag_open, end_tag_open, tag_name, between, in_name, after_name, before_value, in_quotes, in_value}
+use Rattle.tl_token.specs.inner.States.{ended, failed, empty_tag, with_attribute, with_more, attribute, unended, read}
 use Rattle.tl_token.specs.inner.Found.{stop, Stops, ReadsValue, ReadsAttributes}
 use Rattle.tl_token.specs.declared.tag.Given.{Given}
 use Rattle.tl_token.specs.inner.Reading.{tag_found}
 use Rattle.tl_token.specs.declared.piece.Fault.{Fault}
 use Rattle.tl_token.specs.inner.Reader.{Eats}
 use Rattle.tl_token.proofs.CharacterTests.{cases_bool, or_right, or_false}
-use Rattle.tl_token.proofs.TagWhole.{took, left, after_name_run, before_value_run, in_quotes_run, tag_name_run, to_equals, gap_between, unquoted_read, value_ends, named_read, tag_name_ends, letter_no_slash}
+use Rattle.tl_token.proofs.TagWhole.{took, left, after_name_run, before_value_run, in_quotes_run, tag_name_run, to_equals, gap_between, unquoted_read}
+use Rattle.tl_token.proofs.TagWhole.{value_ends, named_read, tag_name_ends, letter_no_slash}
 
 -- a text is its longest run and what follows it
 pub run_split : (test : ℕ → Bool) (cs : List ℕ) → cs ≡ run test cs ++ past test cs
@@ -52,7 +55,8 @@ past_le test (c ∷ cs) = by_test (test c) (past_le test cs)
 
 pub run_some : (test : ℕ → Bool) (cs : List ℕ) → begins test cs ≡ true → run test cs ≢ []
 run_some test [] h = λ e. false≢true h
-run_some test (c ∷ cs) h = λ e. let k : run test (c ∷ cs) ≡ c ∷ run test cs = ap (λ b. cond b (c ∷ run test cs) []) h in let never : c ∷ run test cs ≡ [] = sym k ∙ e in cc
+run_some test (c ∷ cs) h =
+    λ e. let k : run test (c ∷ cs) ≡ c ∷ run test cs = ap (λ b. cond b (c ∷ run test cs) []) h in let never : c ∷ run test cs ≡ [] = sym k ∙ e in cc
 
 pub past_less : (test : ℕ → Bool) (cs : List ℕ) → begins test cs ≡ true → length (past test cs) < length cs
 past_less test [] h = absurd (false≢true h)
@@ -125,7 +129,7 @@ unquoted_stops t n old s q (inr k) = elim (cases_bool (begins is_value_character
   | inr v ↦ no_value_start t n old s q v ∙ ap stop (sym (past_nothing is_value_character old v))
 ]
 
--- behind an attribute without a value, what is neither a character of a name nor white space
+-- after an attribute without a value, what is neither a character of a name nor white space
 without_value : (t : Tag) (c : ℕ) (cs : List ℕ) → is_name_character c ≡ false → is_space c ≡ false
     → read (if c ∈ "/" then between t else if c ∈ ">" then ended t else failed) cs ≡ read (between t) (c ∷ cs)
 without_value t c cs k s = elim (cases_bool (c ∈ "/")) [
@@ -133,7 +137,8 @@ without_value t c cs k s = elim (cases_bool (c ∈ "/")) [
   | inr d ↦
       let none : is_gap c ≡ false = ap (λ b. b || (c ∈ "/")) s ∙ d in
       let next : State = if c ∈ ">" then ended t else failed in
-      left (c ∈ "/") (between t) next cs d ∙ sym (left (is_name_character c) (in_name t (c ∷ [])) (if is_gap c then between t else next) cs k ∙ left (is_gap c) (between t) next cs none)
+      left (c ∈ "/") (between t) next cs d
+      ∙ sym (left (is_name_character c) (in_name t (c ∷ [])) (if is_gap c then between t else next) cs k ∙ left (is_gap c) (between t) next cs none)
 ]
 
 -- a name that no `=` follows
@@ -145,7 +150,7 @@ no_equals t n (c ∷ cs) s q = left (is_space c) _ _ cs s ∙ left (c ∈ "=") _
   | inr k ↦ left (is_name_character c) _ _ cs k ∙ without_value (with_attribute t n []) c cs k s
 ]
 
--- the same directly behind the name
+-- directly after the name of an attribute without a value, what is neither a character of a name nor white space
 no_equals_at_once : (t : Tag) (n cs : List ℕ) → begins is_name_character cs ≡ false → begins is_space cs ≡ false → begins (λ c. c ∈ "=") cs ≡ false
     → read (in_name t n) cs ≡ read (between (with_attribute t n [])) cs
 no_equals_at_once t n [] m s q = refl
@@ -248,20 +253,23 @@ ReadSoFar old all cs = (t : Tag) → read (between t) old ≡ read (between (wit
 
 pub so_far_none : (old : List ℕ) → ReadSoFar old [] (past is_gap old)
 so_far_none old t =
-    gaps_read t old ∙ ap (λ (x : List Attribute). read (between (record { is_end = t.is_end; name = t.name; attributes = x })) (past is_gap old)) (sym (append-nil (t.attributes)))
+    gaps_read t old ∙ ap (λ (x : List Attribute). read (between (record { is_end = t.is_end; name = t.name; attributes = x })) (past is_gap old))
+    (sym (append-nil (t.attributes)))
 
--- one more attribute, and the white space and `/` behind it
+-- one more attribute, and the white space and `/` after it
 pub so_far_more : (old cs later value : List ℕ) (all : List Attribute) → ReadSoFar old all cs → begins is_name_character cs ≡ true
     → ((t : Tag) (n : List ℕ) → read (in_name t n) (past is_name_character cs) ≡ read (between (with_attribute t n value)) later)
     → ReadSoFar old (all ++ attribute (run is_name_character cs) value ∷ []) (past is_gap later)
 so_far_more old cs later value all h named v t =
     let name = run is_name_character cs in
     h t ∙ name_read (with_more t all) cs named ∙ v (with_more t all) name
-    ∙ ap (λ (x : List Attribute). read (between (record { is_end = t.is_end; name = t.name; attributes = x })) later) (append_assoc (t.attributes) all (attribute name value ∷ []))
+    ∙ ap (λ (x : List Attribute). read (between (record { is_end = t.is_end; name = t.name; attributes = x })) later)
+    (append_assoc (t.attributes) all (attribute name value ∷ []))
     ∙ gaps_read (with_more t (all ++ attribute name value ∷ [])) later
 
 -- a fault that is handed on
-pub failed_with : {X : Type 0} (P : Result X Fault → Type 0) (result : Result X Fault) (fault : Fault) → IsErrAnd result (λ e. e ≡ fault) → P (Err fault) → P result
+pub failed_with : {X : Type 0} (P : Result X Fault → Type 0) (result : Result X Fault) (fault : Fault) → IsErrAnd result (λ e. e ≡ fault)
+    → P (Err fault) → P result
 failed_with P (Ok x) fault h k = absurd h
 failed_with P (Err e) fault h k = let Q : Fault → Type 0 = λ f. P (Err f) in subst Q (sym h) k
 

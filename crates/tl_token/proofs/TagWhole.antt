@@ -9,7 +9,8 @@ use Rattle.std.specs.Char.{is_ascii_alphabetic, is_ascii_alphanumeric}
 use Rattle.tl_token.specs.Characters.{◌∈◌, is_space, is_name_character, is_value_character, is_gap, begins}
 use Rattle.tl_token.specs.Elements.{Attribute, Tag}
 use Rattle.tl_token.specs.Grammar.{Each, Value, missing, quoted, unquoted, Attributes, end, gap, attribute, IsTagName, opening, IsTag}
-use Rattle.tl_token.specs.inner.States.{State, tag_open, tag_name, between, in_name, after_name, before_value, in_quotes, in_value, empty_tag, with_attribute, reads, read}
+use Rattle.tl_token.specs.inner.States.{State, tag_open, tag_name, between, in_name, after_name, before_value, in_quotes, in_value, empty_tag}
+use Rattle.tl_token.specs.inner.States.{with_attribute, reads, read}
 use Rattle.tl_token.proofs.CharacterTests.{or_left, or_cases, or_false, not_true, not_false, is_it, is_either, push_regroup, clash, excludes}
 use Rattle.tl_token.specs.inner.States.{with_more}
 
@@ -98,11 +99,11 @@ to_equals t n (c ∷ before) cs h =
     let following = before ++ (codes "=" ++ cs) in
     left (is_name_character c) _ _ following (space_no_name c (h.0)) ∙ took (is_space c) _ _ following (h.0) ∙ after_name_run t n before (codes "=" ++ cs) (h.1)
 
--- a `/` or a `>`, or white space, behind the attributes so far
+-- a `/` or a `>`, or white space, after the attributes so far
 pub gap_between : (t : Tag) (c : ℕ) (cs : List ℕ) → is_gap c ≡ true → read (between t) (c ∷ cs) ≡ read (between t) cs
 gap_between t c cs h = left (is_name_character c) _ _ cs (gap_no_name c h) ∙ took (is_gap c) _ _ cs h
 
--- White space behind a name ends an attribute without a value, where what follows goes on as a tag does.
+-- White space after a name ends an attribute without a value, where what follows goes on as a tag does.
 name_then : (t : Tag) (n cs rest : List ℕ) (others : List Attribute) → Attributes cs others rest
     → read (after_name t n) cs ≡ read (between (with_attribute t n [])) cs
 name_then t n _ rest _ (end {c = c} {rest = cs} h) =
@@ -123,7 +124,7 @@ name_then t n cs rest _ (attribute {a = a} {following = following} some each e v
         subst P (sym e) (left (is_space c) _ _ (m ++ following) (name_no_space c (each.0)) ∙ left (c ∈ "=") _ _ (m ++ following) (name_no_equals c (each.0))
         ∙ took (is_name_character c) _ _ (m ++ following) (each.0) ∙ sym (took (is_name_character c) _ _ (m ++ following) (each.0)))
 
--- The same behind the name itself.
+-- What follows a name ends an attribute without a value, where it goes on as a tag does and no value follows.
 name_ends : (t : Tag) (n cs rest : List ℕ) (others : List Attribute) → begins is_name_character cs ≡ false → Attributes cs others rest
     → read (in_name t n) cs ≡ read (between (with_attribute t n [])) cs
 name_ends t n _ rest _ b (end {c = c} {rest = cs} h) =
@@ -148,8 +149,10 @@ quoted_read : (t : Tag) (n value rest : List ℕ) (quote : ℕ) → (quote ∈ "
 quoted_read t n value rest quote q v =
     let opens : read (before_value t n) (quote ∷ (value ++ (quote ∷ rest))) ≡ read (in_quotes t n quote []) (value ++ (quote ∷ rest)) =
     elim (is_either quote 34 39 q) [
-      | inl e ↦ let P : ℕ → Type 0 = λ d. read (before_value t n) (d ∷ (value ++ (quote ∷ rest))) ≡ read (in_quotes t n d []) (value ++ (quote ∷ rest)) in subst P (sym e) refl
-      | inr e ↦ let P : ℕ → Type 0 = λ d. read (before_value t n) (d ∷ (value ++ (quote ∷ rest))) ≡ read (in_quotes t n d []) (value ++ (quote ∷ rest)) in subst P (sym e) refl
+      | inl e ↦ let P : ℕ → Type 0 =
+          λ d. read (before_value t n) (d ∷ (value ++ (quote ∷ rest))) ≡ read (in_quotes t n d []) (value ++ (quote ∷ rest)) in subst P (sym e) refl
+      | inr e ↦ let P : ℕ → Type 0 =
+          λ d. read (before_value t n) (d ∷ (value ++ (quote ∷ rest))) ≡ read (in_quotes t n d []) (value ++ (quote ∷ rest)) in subst P (sym e) refl
     ] in
     opens ∙ in_quotes_run t n quote [] value (quote ∷ rest) v ∙ took (eqb quote quote) _ _ rest (eq-eqb quote quote refl)
 
@@ -176,7 +179,7 @@ pub named_read : (t : Tag) (n cs : List ℕ) → n ≢ [] → Each is_name_chara
 named_read t [] cs some each = absurd (some refl)
 named_read t (c ∷ n) cs some each = took (is_name_character c) _ _ (n ++ cs) (each.0) ∙ in_name_run t (c ∷ []) n cs (each.1)
 
--- behind a name, its value
+-- the value after a name
 valued_read : (t : Tag) (n following value later rest : List ℕ) (others : List Attribute) → Value following value later → Attributes later others rest
     → read (in_name t n) following ≡ read (between (with_attribute t n value)) later
 valued_read t n following value later rest others (missing v l b) attributes =
@@ -194,7 +197,8 @@ valued_read t n following value later rest others (unquoted before after b a som
 pub attributes_read : (t : Tag) (cs rest : List ℕ) (others : List Attribute) → Attributes cs others rest → read (between t) cs ≡ reads (with_more t others) rest
 attributes_read t _ rest _ (end {c = c} {rest = cs} h) =
     let P : ℕ → Type 0 = λ d. read (between t) (d ∷ cs) ≡ reads (with_more t []) cs in
-    subst P (sym (is_it c 62 h)) (ap (λ (x : List Attribute). reads (record { is_end = t.is_end; name = t.name; attributes = x }) cs) (sym (append-nil (t.attributes))))
+    subst P (sym (is_it c 62 h))
+    (ap (λ (x : List Attribute). reads (record { is_end = t.is_end; name = t.name; attributes = x }) cs) (sym (append-nil (t.attributes))))
 attributes_read t _ rest others (gap {c = c} {cs = cs} h later) = gap_between t c cs h ∙ attributes_read t cs rest others later
 attributes_read t cs rest _ (attribute {a = a} {others = others} {following = following} {later = later} some each e value attributes) =
     ap (read (between t)) e ∙ named_read t (a.name) following some each ∙ valued_read t (a.name) following (a.value) later rest others value attributes

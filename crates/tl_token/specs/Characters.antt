@@ -1,18 +1,20 @@
--- Classes of characters. White space, letters and digits are those of ASCII, as in the HTML Standard
--- (section 2.3 of the Infra Standard); the characters of names and values are a profile of its section 13.1.2.
-use Rattle.std.specs.Prelude.{ℕ, Bool, false, ◌||◌, ◌&&◌, not, ◌==◌, nat_lt, nat_le, List, [], ◌∷◌, Option, Some, None, length, if◌then◌else◌, codes, encode_utf8_all}
+-- Classes of characters. White space, letters and digits are those of ASCII, as in the HTML
+-- Standard (section 2.3 of the Infra Standard); the characters of names and values are a profile of
+-- its section 13.1.2.
+use Rattle.std.specs.Prelude.{ℕ, Bool, false, ◌||◌, ◌&&◌, not, ◌==◌, nat_lt, nat_le, List, [], ◌∷◌, Option, Some, None, if◌then◌else◌, codes}
 use Rattle.std.specs.Char.{is_ascii_whitespace, is_ascii_alphabetic}
 use Prim.Native.String.{String}
 
-abbrev pub is_among : ℕ → List ℕ → Bool
-is_among c [] = false
-is_among c (d ∷ []) = c == d
-is_among c (d ∷ e ∷ others) = c == d || is_among c (e ∷ others)
+-- the character is one of these; a single one is compared once
+abbrev pub is_one_of : ℕ → List ℕ → Bool
+is_one_of c [] = false
+is_one_of c (d ∷ []) = c == d
+is_one_of c (d ∷ e ∷ others) = c == d || is_one_of c (e ∷ others)
 
--- the character is one of these
+-- the character stands in the text
 infix 60 ◌∈◌
 abbrev pub ◌∈◌ : ℕ → String → Bool
-c ∈ s = is_among c (codes s)
+c ∈ s = is_one_of c (codes s)
 
 -- a tab, a line feed, a form feed, a carriage return or a space
 abbrev pub is_space : ℕ → Bool
@@ -26,7 +28,7 @@ is_name_character c = not (is_space c || c ∈ "/>=\"'<")
 abbrev pub is_value_character : ℕ → Bool
 is_value_character c = not (is_space c || c ∈ "\"'=<>`")
 
--- white space or `/`, which part the attributes of a tag
+-- white space or `/`, which separate the attributes of a tag
 abbrev pub is_gap : ℕ → Bool
 is_gap c = is_space c || c ∈ "/"
 
@@ -34,7 +36,7 @@ is_gap c = is_space c || c ∈ "/"
 abbrev pub is_control : ℕ → Bool
 is_control c = (nat_lt c 32 && not (is_space c)) || (nat_le 127 c && nat_le c 159)
 
--- behind a `<`, what makes the two more than text
+-- a character that makes more than text of a `<` before it
 abbrev pub opens_markup : ℕ → Bool
 opens_markup c = is_ascii_alphabetic c || c ∈ "/!?"
 
@@ -48,16 +50,12 @@ abbrev pub begins : (ℕ → Bool) → List ℕ → Bool
 begins test [] = false
 begins test (c ∷ cs) = test c
 
--- the longest run of characters at the front that pass the test
+-- the longest prefix of characters that all pass the test
 abbrev pub run : (ℕ → Bool) → List ℕ → List ℕ
 run test [] = []
 run test (c ∷ cs) = if test c then c ∷ run test cs else []
 
--- what follows that run
+-- what follows the longest prefix of characters that all pass the test
 abbrev pub past : (ℕ → Bool) → List ℕ → List ℕ
 past test [] = []
 past test (c ∷ cs) = if test c then past test cs else c ∷ cs
-
--- how many bytes the characters take in UTF-8
-abbrev pub byte_len : List ℕ → ℕ
-byte_len cs = length (encode_utf8_all cs)

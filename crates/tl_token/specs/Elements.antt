@@ -23,25 +23,29 @@ pub record Tag : Type 0 where
   pub name : List ℕ
   pub attributes : List Attribute
 
--- the word is of small letters and dashes
+-- the word is of lowercase letters and dashes
 abbrev pub is_lowercase : List ℕ → Bool
 is_lowercase word = list_all (λ c. is_ascii_lowercase c || c ∈ "-") word
 
--- the name is this word of small letters, in any case
+-- the name is this lowercase word, in any case
 abbrev pub is_word : List ℕ → List ℕ → Bool
 is_word name word = pointwise nat_eq (map to_ascii_lowercase name) word
 
--- the name is one of these words
+-- the name of an element within a line of text
 abbrev pub is_inline : List ℕ → Bool
 is_inline name =
-    is_word name (codes "a") || is_word name (codes "abbr") || is_word name (codes "b") || is_word name (codes "cite")
-    || is_word name (codes "code") || is_word name (codes "em") || is_word name (codes "i") || is_word name (codes "kbd")
-    || is_word name (codes "mark") || is_word name (codes "s") || is_word name (codes "samp") || is_word name (codes "small")
-    || is_word name (codes "span") || is_word name (codes "strong") || is_word name (codes "sub") || is_word name (codes "sup")
-    || is_word name (codes "u") || is_word name (codes "var")
+    is_word name (codes "a") || is_word name (codes "abbr") || is_word name (codes "b")
+    || is_word name (codes "cite") || is_word name (codes "code") || is_word name (codes "em")
+    || is_word name (codes "i") || is_word name (codes "kbd") || is_word name (codes "mark")
+    || is_word name (codes "s") || is_word name (codes "samp") || is_word name (codes "small")
+    || is_word name (codes "span") || is_word name (codes "strong") || is_word name (codes "sub")
+    || is_word name (codes "sup") || is_word name (codes "u") || is_word name (codes "var")
 
+-- the name of an element around the table
 abbrev pub is_outer : List ℕ → Bool
-is_outer name = is_word name (codes "html") || is_word name (codes "head") || is_word name (codes "body") || is_word name (codes "meta")
+is_outer name =
+    is_word name (codes "html") || is_word name (codes "head") || is_word name (codes "body")
+    || is_word name (codes "meta")
 
 -- the element of that name, if it may stand in a table file
 abbrev pub element_of : List ℕ → Option Element
@@ -72,9 +76,11 @@ value_of word (a ∷ others) = if is_word a.name word then Some a.value else val
 abbrev pub attribute_number : List ℕ → List Attribute → Option ℕ
 attribute_number word attributes = option_and_then number_of (value_of word attributes)
 
+-- the numbers of an element that has none
 abbrev pub no_spans : Spans
 no_spans = record { colspan = 1; rowspan = 1; span = 1; least = 0 }
 
+-- the numbers of a cell
 abbrev pub cell_spans : List Attribute → Spans
 cell_spans attributes = record {
   colspan = columns_of (attribute_number (codes "colspan") attributes);
@@ -83,8 +89,14 @@ cell_spans attributes = record {
   least = floor_of (attribute_number (codes "data-min") attributes);
 }
 
+-- the numbers of a `col` or a `colgroup`
 abbrev pub column_spans : List Attribute → Spans
-column_spans attributes = record { colspan = 1; rowspan = 1; span = columns_of (attribute_number (codes "span") attributes); least = 0 }
+column_spans attributes = record {
+  colspan = 1;
+  rowspan = 1;
+  span = columns_of (attribute_number (codes "span") attributes);
+  least = 0;
+}
 
 -- a cell has its own numbers, a `col` and a `colgroup` their span, and no other element has any
 abbrev pub spans_of : Element → List Attribute → Spans

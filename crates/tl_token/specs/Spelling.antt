@@ -1,14 +1,16 @@
--- How the bytes of a file spell tokens, where the first fault stands, and what `tokens` returns of it. Places count
--- bytes of the file from 0.
-use Rattle.std.specs.Prelude.{◌≡◌, ℕ, ◌+◌, ◌-◌, ◌⊎◌, List, [], ◌∷◌, length, ◌==◌, if◌then◌else◌, IsUtf8, chars, Result, Ok, Err, alloc_error}
+-- How the bytes of a file spell tokens, where the first fault stands, and what `tokens` returns of
+-- it. Places count bytes of the file from 0.
+use Rattle.std.specs.Prelude.{◌≡◌, ℕ, ◌+◌, ◌-◌, List, [], ◌∷◌, length, ◌==◌, if◌then◌else◌, IsUtf8, chars, alloc_error}
 use Rattle.std.specs.Str.Lossy.{utf8_valid_len}
-use Rattle.tl_token.specs.Characters.{byte_len}
-use Rattle.tl_token.specs.Grammar.{Piece, hidden, tag, character, Stands, Fault, unended_tag, unended_comment, bad_tag, unknown_element, bad_reference, bad_character, FaultStands}
+use Rattle.tl_base.specs.Text.{byte_count}
+use Rattle.tl_token.specs.Grammar.{Piece, hidden, tag, character, Stands, Fault, unended_tag, unended_comment, bad_tag, unknown_element}
+use Rattle.tl_token.specs.Grammar.{bad_reference, bad_character, FaultStands}
 use Rattle.tl_token.specs.declared.token.TokenKind.{TokenKind}
 use Rattle.tl_token.specs.declared.token.TokenKind.TheVariants.{Start, End, Text}
 use Rattle.tl_token.specs.declared.token.Token.{Token}
 use Rattle.tl_token.specs.declared.token.TokenError.{TokenError}
-use Rattle.tl_token.specs.declared.token.TokenError.TheVariants.{Memory, NotUtf8, UnendedTag, UnendedComment, BadTag, UnknownElement, BadReference, BadCharacter}
+use Rattle.tl_token.specs.declared.token.TokenError.TheVariants.{Memory, NotUtf8, UnendedTag, UnendedComment, BadTag, UnknownElement, BadReference}
+use Rattle.tl_token.specs.declared.token.TokenError.TheVariants.{BadCharacter}
 
 -- a piece, and the bytes of the file from its first to past its last
 pub record Part : Type 0 where
@@ -16,43 +18,54 @@ pub record Part : Type 0 where
   pub first : ℕ
   pub past : ℕ
 
+-- a piece between those bytes
+abbrev pub part : Piece → ℕ → ℕ → Part
+part piece first past = record { piece = piece; first = first; past = past }
+
+-- pieces in their order
 abbrev pub Parts : Type 0
 Parts = List Part
 
 -- the place at which what is left of a file of that size begins
 abbrev pub place_of : ℕ → List ℕ → ℕ
-place_of size cs = size - byte_len cs
+place_of size cs = size - byte_count cs
 
 -- one piece after another stands there, up to the rest
 pub data Leads (size : ℕ) : List ℕ → List Part → List ℕ → Type 0 where
   here : {cs : List ℕ} → Leads size cs [] cs
-  next : {cs mid rest : List ℕ} {parts : List Part} → (piece : Piece) → Stands cs piece mid → Leads size mid parts rest
-      → Leads size cs (record { piece = piece; first = place_of size cs; past = place_of size mid } ∷ parts) rest
+  next : {cs mid rest : List ℕ} {parts : List Part} → (piece : Piece) → Stands cs piece mid
+      → Leads size mid parts rest
+      → Leads size cs (part piece (place_of size cs) (place_of size mid) ∷ parts) rest
 
+-- a token between those bytes
 abbrev pub token : TokenKind → ℕ → ℕ → Token
 token kind first past = record { kind = kind; first = first; past = past }
 
--- a character of text before tokens: it joins a text that follows it, and is one of its own where none does
+-- the tokens from a character of text on, before a token: it joins a text that follows it, and is a
+-- text of its own before a tag
 abbrev pub join_before : ℕ → ℕ → ℕ → TokenKind → Token → List Token → List Token
 join_before c first past (Text cs) t later = token (Text (c ∷ cs)) first (t.past) ∷ later
 join_before c first past (Start e spans) t later = token (Text (c ∷ [])) first past ∷ t ∷ later
 join_before c first past (End e) t later = token (Text (c ∷ [])) first past ∷ t ∷ later
 
+-- the tokens from a character of text on, before later tokens
 abbrev pub character_before : ℕ → ℕ → ℕ → List Token → List Token
 character_before c first past [] = token (Text (c ∷ [])) first past ∷ []
 character_before c first past (t ∷ later) = join_before c first past (t.kind) t later
 
+-- the tokens from a piece on, before later tokens
 abbrev pub piece_before : Piece → ℕ → ℕ → List Token → List Token
 piece_before hidden first past later = later
 piece_before (tag kind) first past later = token kind first past ∷ later
 piece_before (character c) first past later = character_before c first past later
 
--- The tokens of the pieces: each tag is one, and so is each longest run of characters that no tag parts.
+-- The tokens of the pieces: each tag is one, and so is each longest run of characters with no tag
+-- between them.
 abbrev pub tokens_of : List Part → List Token
 tokens_of [] = []
 tokens_of (p ∷ ps) = piece_before (p.piece) (p.first) (p.past) (tokens_of ps)
 
--- the characters behind a byte order mark, if the text begins with one
+-- the text without a byte order mark at its start
 abbrev pub without_mark : List ℕ → List ℕ
 without_mark [] = []
 without_mark (c ∷ cs) = if c == 0xFEFF then cs else c ∷ cs
@@ -63,12 +76,15 @@ characters bytes = without_mark (chars bytes)
 
 -- The bytes spell the tokens: they are UTF-8, and pieces lead to their end, whose tokens these are.
 abbrev pub SpellsTokens : List ℕ → List Token → Type 0
-SpellsTokens bytes tokens = IsUtf8 bytes × (parts : List Part) × Leads (length bytes) (characters bytes) parts [] × (tokens ≡ tokens_of parts)
+SpellsTokens bytes tokens =
+    IsUtf8 bytes × (parts : List Part) × Leads (length bytes) (characters bytes) parts []
+    × (tokens ≡ tokens_of parts)
 
 -- the fault stands at that byte, and what stands before it is whole pieces
 abbrev pub FirstFault : List ℕ → Fault → ℕ → Type 0
 FirstFault bytes fault place =
-    IsUtf8 bytes × (parts : List Part) × (rest : List ℕ) × Leads (length bytes) (characters bytes) parts rest
+    IsUtf8 bytes × (parts : List Part) × (rest : List ℕ)
+    × Leads (length bytes) (characters bytes) parts rest
     × FaultStands fault rest × (place ≡ place_of (length bytes) rest)
 
 -- The error that refuses the bytes; out of memory is none of them.
@@ -82,29 +98,21 @@ Refused bytes (UnknownElement place) = FirstFault bytes unknown_element place
 Refused bytes (BadReference place) = FirstFault bytes bad_reference place
 Refused bytes (BadCharacter place) = FirstFault bytes bad_character place
 
+-- a list of tokens
 abbrev pub Tokens : Type 0
 Tokens = List Token
 
--- the error refuses the bytes, or memory ran out
-abbrev pub RefusedOrMemory : List ℕ → TokenError → Type 0
-RefusedOrMemory bytes error = (error ≡ Memory alloc_error) ⊎ Refused bytes error
-
--- these tokens are returned, unless memory ran out
-abbrev pub ReturnsTokens : Tokens → Result Tokens TokenError → Type 0
-ReturnsTokens tokens (Ok returned) = returned ≡ tokens
-ReturnsTokens tokens (Err error) = error ≡ Memory alloc_error
-
--- this error is returned, unless memory ran out
-abbrev pub ReturnsError : TokenError → Result Tokens TokenError → Type 0
-ReturnsError expected (Ok returned) = ⊥
-ReturnsError expected (Err error) = (error ≡ Memory alloc_error) ⊎ (error ≡ expected)
+-- the error of a call that ran out of memory
+abbrev pub out_of_memory : TokenError
+out_of_memory = Memory alloc_error
 
 -- the bytes of a text, and 1 for a tag
 abbrev pub token_size : TokenKind → ℕ
-token_size (Text cs) = byte_len cs
+token_size (Text cs) = byte_count cs
 token_size (Start e spans) = 1
 token_size (End e) = 1
 
+-- the bytes of the texts and the number of the tags
 abbrev pub size_of : List Token → ℕ
 size_of [] = 0
 size_of (t ∷ later) = token_size (t.kind) + size_of later

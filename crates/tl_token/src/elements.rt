@@ -6,7 +6,7 @@ ghost use Rattle.tl_token.specs.Elements.{is_word, is_lowercase, is_inline, is_o
 
 use crate::token::Element;
 
-/// Whether the name is the word, which is of small ASCII letters, in any case.
+/// Whether the name is the word, which is of lowercase ASCII letters and dashes, in any case.
 pub(crate) fn is_word(name: &str, word: &str) -> bool
     requires { IsTrue (is_lowercase word.now) }
     ensures { result ≡ is_word (chars name.now) word.now }

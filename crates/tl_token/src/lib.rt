@@ -1,5 +1,5 @@
 //! Cuts the bytes of a table file into tags and texts. It does not know which tags may stand inside
-//! which others, and it forms no table. Its one contract: `tokens` answers the tokens exactly where
+//! which others, and it forms no table. Its one contract: `tokens` returns the tokens exactly where
 //! the grammar spells the bytes, and otherwise the first fault and its place.
 #![tactic(auto)]
 

@@ -24,7 +24,7 @@ fn opens_markup(c: char) -> bool
 }
 
 impl<'a> Reader<'a> {
-    /// The rest of a comment, from behind its `<!--` on.
+    /// Reads a comment after its `<!--`.
     fn comment(&mut self) -> Result<Piece, Fault>
         ensures { found_of result (unread self.new) ≡ in_comment (unread self.old) }
     {
@@ -41,7 +41,7 @@ impl<'a> Reader<'a> {
         Err(Fault::UnendedComment)
     }
 
-    /// The rest of a doctype, from behind its `<!` on.
+    /// Reads a doctype after its `<!`.
     fn doctype(&mut self) -> Result<Piece, Fault>
         ensures { found_of result (unread self.new)
             ≡ doctype_word (codes "doctype") (unread self.old) }
@@ -61,7 +61,7 @@ impl<'a> Reader<'a> {
         }
     }
 
-    /// A comment or a doctype, from behind its `<!` on.
+    /// Reads a comment or a doctype after its `<!`.
     fn declaration(&mut self) -> Result<Piece, Fault>
         ensures { found_of result (unread self.new) ≡ declaration (unread self.old) }
     {
@@ -76,7 +76,7 @@ impl<'a> Reader<'a> {
         }
     }
 
-    /// What a `<` opens, from behind it on.
+    /// Reads what a `<` opens, after it.
     fn angle(&mut self) -> Result<Piece, Fault>
         ensures { found_of result (unread self.new) ≡ angle (unread self.old) }
     {
@@ -91,7 +91,7 @@ impl<'a> Reader<'a> {
         }
     }
 
-    /// What stands at a character, from behind it on.
+    /// Reads what stands at a character, after it.
     pub(crate) fn piece(&mut self, first: char) -> Result<Piece, Fault>
         ensures { found_of result (unread self.new) ≡ standing first (unread self.old) }
     {

@@ -8,6 +8,7 @@ ghost use Rattle.tl_token.specs.Characters.{◌∈◌, begins};
 ghost use Rattle.tl_token.specs.inner.Reader.{unread};
 
 use crate::reader::{Class, Reader};
+use tl_base::{MAX_COLSPAN, MAX_PAGE_WIDTH, MAX_ROWSPAN};
 
 /// The value of a digit or a letter, and 36 for any other character.
 fn digit_value(c: char) -> u32
@@ -31,7 +32,7 @@ pub(crate) fn number(base: u32, digits: &str) -> u32
     number
 }
 
-/// Passes a sign, if there is one. True: it is a `-`.
+/// Passes a sign, if there is one, and returns whether it is a `-`.
 fn pass_sign(text: &mut Reader<'_>) -> bool
     ensures negative { result ≡ begins (λ c. c ∈ "-") (unread text.old) }
     ensures passed { unread text.new ≡ unsigned (unread text.old) }
@@ -43,7 +44,7 @@ fn pass_sign(text: &mut Reader<'_>) -> bool
     is_negative
 }
 
-/// The number of the digits behind a sign, if it is one and not below 0.
+/// The number of the digits after a sign, if there is one and it is not below 0.
 fn signed_number(is_negative: bool, digits: &str) -> Option<u32>
     ensures { result
         ≡ option_map (λ n. min n 4294967295) (signed_number is_negative (chars digits.now)) }
@@ -75,7 +76,7 @@ pub(crate) fn columns(number: Option<u32>) -> u32
     ensures { result ≡ columns_of number }
 {
     match number {
-        Some(columns) => columns.clamp(1, 1000),
+        Some(columns) => columns.clamp(1, MAX_COLSPAN),
         None => 1,
     }
 }
@@ -85,7 +86,7 @@ pub(crate) fn rows(number: Option<u32>) -> u32
     ensures { result ≡ rows_of number }
 {
     match number {
-        Some(rows) => rows.min(65534),
+        Some(rows) => rows.min(MAX_ROWSPAN),
         None => 1,
     }
 }
@@ -95,7 +96,7 @@ pub(crate) fn floor(number: Option<u32>) -> u32
     ensures { result ≡ floor_of number }
 {
     match number {
-        Some(floor) => floor.min(500),
+        Some(floor) => floor.min(MAX_PAGE_WIDTH),
         None => 0,
     }
 }

@@ -1,8 +1,9 @@
-//! A text from front to back, a character at a time. It knows no tags.
+//! A text from its start to its end, a character at a time. It knows no tags.
 
 ghost use Rattle.std.specs.Prelude.{◌≡◌, false, [], ◌∷◌, ◌++◌, length, drop, chars, MatchOption, if◌then◌else◌};
 ghost use Rattle.std.specs.Str.{IsUtf8};
-ghost use Rattle.tl_token.specs.Characters.{first, begins, run, past, byte_len, is_name_character, is_value_character};
+ghost use Rattle.tl_base.specs.Text.{byte_count};
+ghost use Rattle.tl_token.specs.Characters.{first, begins, run, past, is_name_character, is_value_character};
 
 /// What is left of a text.
 #[derive(Clone, Copy)]
@@ -25,7 +26,7 @@ pub(crate) enum Class {
     Sign,
     /// A letter of ASCII.
     Letter,
-    /// White space and `/`, which part attributes.
+    /// White space and `/`, which separate attributes.
     Gap,
     /// What makes a number hexadecimal.
     HexMark,
@@ -85,7 +86,7 @@ impl<'a> Reader<'a> {
 
     /// The bytes that are left.
     pub(crate) fn len(&self) -> usize
-        ensures { result ≡ byte_len (unread self.now) }
+        ensures { result ≡ byte_count (unread self.now) }
     {
         self.rest.len()
     }
@@ -121,7 +122,7 @@ impl<'a> Reader<'a> {
         self.peek().is_some_and(|c| class.contains(c))
     }
 
-    /// Passes the next character, if it is this one. True: it was.
+    /// Passes the next character, if it is this one, and returns whether it was.
     pub(crate) fn eat(&mut self, c: char) -> bool
         ensures { Eats c result (unread self.old) (unread self.new) }
     {

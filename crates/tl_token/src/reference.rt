@@ -47,7 +47,7 @@ fn numbered_character(number: u32) -> Option<char>
 impl<'a> Reader<'a> {
     ghost use Rattle.tl_token.specs.inner.Reader.{unread, is_in};
 
-    /// A run of characters of the class and the `;` behind it. It has one character at least.
+    /// Reads a run of one or more characters of the class and the `;` after it.
     fn ended_run(&mut self, class: Class) -> Option<&'a str>
         ensures { Finds (λ text. chars text.now) result (unread self.new)
             (ended_run (is_in class) (unread self.old)) }
@@ -61,7 +61,7 @@ impl<'a> Reader<'a> {
         }
     }
 
-    /// A reference by a number, from behind its `&#` on: the character, if it stands for one.
+    /// Reads a reference by a number after its `&#`: the character, if it stands for one.
     fn numeric_reference(&mut self) -> Option<Option<char>>
         ensures { Finds (λ c. c) result (unread self.new) (numeric_reference (unread self.old)) }
     {
@@ -75,7 +75,7 @@ impl<'a> Reader<'a> {
         }
     }
 
-    /// A reference, from behind its `&` on: the character, if it stands for one.
+    /// Reads a reference after its `&`: the character, if it stands for one.
     fn referred(&mut self) -> Option<Option<char>>
         ensures { Finds (λ c. c) result (unread self.new) (reference (unread self.old)) }
     {
@@ -87,7 +87,7 @@ impl<'a> Reader<'a> {
         }
     }
 
-    /// What stands at a `&`, from behind it on.
+    /// Reads what stands at a `&`, after it.
     pub(crate) fn reference(&mut self) -> Result<Piece, Fault>
         ensures { found_of result (unread self.new)
             ≡ referred_or (unread self.old) (reference (unread self.old)) }

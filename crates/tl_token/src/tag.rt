@@ -112,7 +112,7 @@ impl<'a> Reader<'a> {
         }
     }
 
-    /// The value of an attribute, from behind its name on. It is empty where there is none.
+    /// Reads the value of an attribute after its name. It is empty where there is none.
     fn value(&mut self) -> Result<&'a str, Fault>
         requires { begins is_name_character (unread self.old) ≡ false }
         ensures value { ReadsValue in_name (λ v. chars v.now) result
@@ -128,7 +128,7 @@ impl<'a> Reader<'a> {
         }
     }
 
-    /// The value of an attribute that has one.
+    /// Reads the value of an attribute after its `=`.
     fn given_value(&mut self) -> Result<&'a str, Fault>
         requires { begins is_space (unread self.old) ≡ false }
         ensures value { ReadsValue before_value (λ v. chars v.now) result
@@ -144,7 +144,7 @@ impl<'a> Reader<'a> {
         }
     }
 
-    /// The rest of a value in quotes, behind the first quote.
+    /// Reads a value in quotes after the first quote.
     fn quoted(&mut self, quote: char) -> Result<&'a str, Fault>
         ensures value { ReadsValue (λ t n. in_quotes t n quote []) (λ v. chars v.now) result
             (unread self.old) (unread self.new) }
@@ -158,7 +158,7 @@ impl<'a> Reader<'a> {
         }
     }
 
-    /// A value without quotes.
+    /// Reads a value without quotes.
     fn unquoted(&mut self) -> Result<&'a str, Fault>
         requires space { begins is_space (unread self.old) ≡ false }
         requires quote { begins (λ c. c ∈ "\"'") (unread self.old) ≡ false }
@@ -175,7 +175,7 @@ impl<'a> Reader<'a> {
         }
     }
 
-    /// The numbers of the attributes, up to and with the `>`.
+    /// Reads the attributes up to and with the `>`, and gives their numbers.
     fn attributes(&mut self) -> Result<Given, Fault>
         ensures { ReadsAttributes result (unread self.old) (unread self.new) }
     {
@@ -194,7 +194,7 @@ impl<'a> Reader<'a> {
         }
     }
 
-    /// A tag, from behind its `<` on.
+    /// Reads a tag after its `<`.
     pub(crate) fn tag(&mut self) -> Result<Piece, Fault>
         ensures { found_of result (unread self.new) ≡ tag_found (read tag_open (unread self.old)) }
     {

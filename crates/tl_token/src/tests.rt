@@ -1,4 +1,6 @@
-use crate::{Element, Spans, Token, TokenKind, tokens};
+//! Files of a few bytes with the tokens or the error that the grammar gives them, counted by hand.
+
+use crate::{Element, Spans, Token, TokenError, TokenKind, tokens};
 use std::alloc::{AllocError, Global};
 use std::process::Abort;
 use std::test::Fail;
@@ -73,10 +75,14 @@ const TAGS: &str = "
 <table> => <Table 0-7>
 </table> => </Table 0-8>
 <tAbLe></TaBlE> => <Table 0-7> </Table 7-15>
-<caption><colgroup><col><thead><tbody><tfoot> => <Caption 0-9> <Colgroup 9-19> <Col 19-24> <Thead 24-31> <Tbody 31-38> <Tfoot 38-45>
+<caption><colgroup><col> => <Caption 0-9> <Colgroup 9-19> <Col 19-24>
+<thead><tbody><tfoot> => <Thead 0-7> <Tbody 7-14> <Tfoot 14-21>
 <tr><td><th><br><p><div> => <Tr 0-4> <Td 4-8> <Th 8-12> <Br 12-16> <P 16-19> <Div 19-24>
-<a><abbr><b><cite><code><em><i><kbd><mark> => <Inline 0-3> <Inline 3-9> <Inline 9-12> <Inline 12-18> <Inline 18-24> <Inline 24-28> <Inline 28-31> <Inline 31-36> <Inline 36-42>
-<s><samp><small><span><strong><sub><sup><u><var> => <Inline 0-3> <Inline 3-9> <Inline 9-16> <Inline 16-22> <Inline 22-30> <Inline 30-35> <Inline 35-40> <Inline 40-43> <Inline 43-48>
+<a><abbr><b><cite> => <Inline 0-3> <Inline 3-9> <Inline 9-12> <Inline 12-18>
+<code><em><i><kbd><mark> => <Inline 0-6> <Inline 6-10> <Inline 10-13> <Inline 13-18> <Inline 18-24>
+<s><samp><small><span> => <Inline 0-3> <Inline 3-9> <Inline 9-16> <Inline 16-22>
+<strong><sub><sup> => <Inline 0-8> <Inline 8-13> <Inline 13-18>
+<u><var> => <Inline 0-3> <Inline 3-8>
 <html><head><body><meta> => <Outer 0-6> <Outer 6-12> <Outer 12-18> <Outer 18-24>
 <td a> => <Td 0-6>
 <td a=b> => <Td 0-8>
@@ -230,42 +236,40 @@ x<td a  => unended tag at 1
 <table border=\"1\" class=\"dataframe\"> => <Table 0-36>
 ";
 
-/// Reads each line's input, and compares what is shown with what stands behind its arrow.
-fn compare(rt: &impl Abort, alloc: Global, table: &str) -> Result<(), AllocError> {
-    for line in table.lines() {
-        if let Some((input, wanted)) = line.split_once(" => ") {
-            assert_eq!(rt; shown(alloc, input.as_bytes())?.as_str(), wanted);
-        }
+/// Reads what stands before the arrow of each line after the first, which is empty, and compares
+/// what is shown with what stands after the arrow.
+fn compare(rt: &impl Abort, alloc: Global, table: &str) -> Result<(), Fail> {
+    let cases = table.strip_prefix('\n').ok_or("a case on the first line")?;
+    for line in cases.lines() {
+        let (input, wanted) = line.split_once(" => ").ok_or("a line without an arrow")?;
+        let found = shown(alloc, input.as_bytes())?;
+        assert_eq!(rt; found.as_str(), wanted, "{input:?}");
     }
     Ok(())
 }
 
 #[test]
 fn tags_are_read_or_refused(rt: HostRuntime) -> Result<(), Fail> {
-    compare(&rt, rt.alloc(), TAGS)?;
-    Ok(())
+    compare(&rt, rt.alloc(), TAGS)
 }
 
 #[test]
 fn numbers_are_read_by_the_rules_of_html(rt: HostRuntime) -> Result<(), Fail> {
-    compare(&rt, rt.alloc(), NUMBERS)?;
-    Ok(())
+    compare(&rt, rt.alloc(), NUMBERS)
 }
 
 #[test]
 fn texts_are_read_or_refused(rt: HostRuntime) -> Result<(), Fail> {
-    compare(&rt, rt.alloc(), TEXTS)?;
-    Ok(())
+    compare(&rt, rt.alloc(), TEXTS)
 }
 
 #[test]
 fn comments_doctypes_and_ends_of_file(rt: HostRuntime) -> Result<(), Fail> {
-    compare(&rt, rt.alloc(), MARKUP)?;
-    Ok(())
+    compare(&rt, rt.alloc(), MARKUP)
 }
 
 #[test]
-fn white_space_parts_attributes_and_is_text(rt: HostRuntime) -> Result<(), Fail> {
+fn white_space_separates_attributes_and_is_text(rt: HostRuntime) -> Result<(), Fail> {
     let tag = shown(rt.alloc(), b"<td\ta\nb\x0cc\rd>")?;
     assert_eq!(rt; tag.as_str(), "<Td 0-12>");
     let text = shown(rt.alloc(), b"\t\n\x0c\r ")?;
@@ -287,12 +291,46 @@ fn bytes_that_are_no_text_are_refused_first(rt: HostRuntime) -> Result<(), Fail>
 }
 
 #[test]
-fn each_front_of_a_tag_is_unended(rt: HostRuntime) -> Result<(), Fail> {
+fn each_proper_prefix_of_a_tag_is_unended(rt: HostRuntime) -> Result<(), Fail> {
     let tag = "<td a b=c/ d = \"e f\" g='h'i/>";
     assert_eq!(rt; shown(rt.alloc(), tag.as_bytes())?.as_str(), "<Td 0-29>");
     for cut in 1..tag.len() {
-        let front = &tag.as_bytes()[..cut];
-        assert_eq!(rt; shown(rt.alloc(), front)?.as_str(), "unended tag at 0");
+        let prefix = &tag.as_bytes()[..cut];
+        assert_eq!(rt; shown(rt.alloc(), prefix)?.as_str(), "unended tag at 0");
+    }
+    Ok(())
+}
+
+// A file of 1,048,576 bytes: three tokens to every 16 bytes, or one text.
+#[test]
+fn a_file_at_the_limit_is_read(rt: HostRuntime) -> Result<(), Fail> {
+    for (bytes, wanted) in [("<td>ab &lt;</td>", 196_608), ("a text of 16 b. ", 1)] {
+        let mut file = Vec::new(rt.alloc());
+        for _ in 0..1 << 16 {
+            file.extend_from_slice(bytes.as_bytes())?;
+        }
+        assert_eq!(rt; file.len(), 1 << 20);
+        let found = tokens(rt.alloc(), file.as_slice())
+            .ok()
+            .map(|found| found.len());
+        assert_eq!(rt; found, Some(wanted), "{bytes:?}");
+    }
+    Ok(())
+}
+
+#[test]
+fn each_error_has_its_message(rt: HostRuntime) -> Result<(), Fail> {
+    for (error, wanted) in [
+        (TokenError::Memory(AllocError), "out of memory"),
+        (TokenError::NotUtf8(1), "not utf-8 at 1"),
+        (TokenError::UnendedTag(2), "unended tag at 2"),
+        (TokenError::UnendedComment(3), "unended comment at 3"),
+        (TokenError::BadTag(4), "bad tag at 4"),
+        (TokenError::UnknownElement(5), "unknown element at 5"),
+        (TokenError::BadReference(6), "bad reference at 6"),
+        (TokenError::BadCharacter(7), "bad character at 7"),
+    ] {
+        assert_eq!(rt; format!(in rt.alloc(); "{error}")?.as_str(), wanted);
     }
     Ok(())
 }

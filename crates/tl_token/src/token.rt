@@ -1,3 +1,5 @@
+//! Tokens, and why bytes are none.
+
 use std::alloc::{AllocError, AllocFailed};
 use thiserror::Error;
 use tl_base::Text;
@@ -27,13 +29,13 @@ pub enum Element {
 /// The numbers that a start tag gives.
 #[derive(Clone, Copy, Debug, PartialEq, Eq)]
 pub struct Spans {
-    /// The columns that a cell covers, 1 to 1000.
+    /// The columns that a cell covers, 1 to `MAX_COLSPAN`.
     pub colspan: u32,
-    /// The rows that a cell covers, up to 65534. 0: it grows downward to its group's end.
+    /// The rows that a cell covers, up to `MAX_ROWSPAN`. 0: it grows downward to its group's end.
     pub rowspan: u32,
-    /// The columns that a `col` or a `colgroup` stands for, 1 to 1000.
+    /// The columns that a `col` or a `colgroup` stands for, 1 to `MAX_COLSPAN`.
     pub span: u32,
-    /// The columns of text that a cell is wide at least, up to 500.
+    /// The columns of text that a cell is wide at least, up to `MAX_PAGE_WIDTH`.
     pub least: u32,
 }
 
@@ -46,7 +48,8 @@ pub enum TokenKind {
     Text(Text),
 }
 
-/// A tag or a text, and the bytes of the file from its first character to past its last one.
+/// A tag or a text, and the bytes of the file from `first` on and before `past` that spell it,
+/// counted from 0.
 #[derive(Debug, Drop)]
 pub struct Token {
     pub kind: TokenKind,
@@ -54,32 +57,33 @@ pub struct Token {
     pub past: u32,
 }
 
-/// Why bytes are no tokens. Each number but that of `NotUtf8` is the byte at which the named thing
-/// begins; what stands before it is whole tags, comments, doctypes and text.
+/// Why bytes are no tokens. Each number is a byte of the file, counted from 0, at which the named
+/// thing begins; before it stand whole tags, comments, doctypes and text (before that of `NotUtf8`,
+/// UTF-8).
 #[derive(Debug, Drop, Error)]
 pub enum TokenError {
-    /// Number 0.
+    /// Number 0: out of memory.
     #[error("out of memory")]
     Memory(AllocError),
-    /// Number 1. The bytes are not UTF-8, and as many as this are the longest front that is.
+    /// Number 1: the bytes are not UTF-8, and the longest prefix that is has as many as this.
     #[error("not utf-8 at {0}")]
     NotUtf8(u32),
-    /// Number 2. The file ends inside a tag or a doctype.
+    /// Number 2: the file ends inside a tag or a doctype.
     #[error("unended tag at {0}")]
     UnendedTag(u32),
-    /// Number 3. The file ends inside a comment.
+    /// Number 3: the file ends inside a comment.
     #[error("unended comment at {0}")]
     UnendedComment(u32),
-    /// Number 4. A `<` that opens markup, but no tag, comment or doctype.
+    /// Number 4: a `<` that opens markup, but no tag, comment or doctype.
     #[error("bad tag at {0}")]
     BadTag(u32),
-    /// Number 5. A tag of an element that no table file has.
+    /// Number 5: a tag of an element that no table file has.
     #[error("unknown element at {0}")]
     UnknownElement(u32),
-    /// Number 6. A reference to no character, or to one that no text has.
+    /// Number 6: a reference to no character, or to one that no text has.
     #[error("bad reference at {0}")]
     BadReference(u32),
-    /// Number 7. A control character in text.
+    /// Number 7: a control character in text.
     #[error("bad character at {0}")]
     BadCharacter(u32),
 }

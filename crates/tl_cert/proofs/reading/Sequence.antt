@@ -1,7 +1,7 @@
 -- One reading after the other is exact for the texts that are joined of both.
 use Rattle.std.proofs.Common.{◌≡◌, ℕ, List, [], ◌∷◌, ◌++◌, length, refl, sym, ap, subst, ◌∙◌, inl, inr, append_assoc}
 use Rattle.tl_cert.specs.Pieces.{Piece, number, spell, numeral, AllWithin}
-use Rattle.tl_cert.specs.inner.reading.Readings.{Answer, got, wrong, outside, Reading, then_read, ◌>>=◌}
+use Rattle.tl_cert.specs.inner.reading.Readings.{Answer, got, wrong, outside, Reading, then_read, followed, ◌>>=◌}
 use Rattle.tl_cert.proofs.reading.Spellings.{spell-append, spell_two, within-append, within-first, within-second, InFirst, InSecond, lies_in}
 use Rattle.tl_cert.proofs.reading.Exact.{SameStart, Stuck, Outside, Takes, Exact}
 
@@ -171,7 +171,7 @@ module _ {A C : Type 0} {IsFirst : A → Type 0} {first_pieces : A → List Piec
       ap (λ (x : Answer A). then_read x next) here ∙ (second p.part p.first).again v rest p.second (within-second (first_pieces p.part) (second_pieces p.part v) both)
 
   pub exact_then : Exact (read >>= next) IsShaped pieces
-  unfolding ◌>>=◌
+  unfolding followed
   exact_then =
       let last = second first.some first.some_shaped in
       record {

@@ -3,7 +3,8 @@
 use Rattle.std.specs.Prelude.{ℕ, Bool, List, map, fold, slice_set}
 use Rattle.tl_grid.specs.declared.block.Block.{Block}
 use Rattle.tl_grid.specs.declared.shape.Place.{Place}
-use Rattle.tl_grid.specs.Dropping.{count_below, is_among}
+use Rattle.tl_grid.specs.Dropping.{count_below}
+use Rattle.tl_base.specs.Lists.{is_among}
 
 -- whether a block begins in the column
 abbrev pub begins_in_column : List Block → ℕ → Bool

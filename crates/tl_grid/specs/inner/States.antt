@@ -1,31 +1,34 @@
--- What the code keeps for a walk, and how its answers follow the walk.
-use Rattle.std.specs.Prelude.{ℕ, ◌≤◌, ◌≡◌, ◌⊎◌, List, ◌++◌, take, drop, Result, Ok, Err, alloc_error}
+-- No public clause cites this file. What the code keeps while it forms a table over blocks, and how
+-- its results follow the definition's.
+use Rattle.std.specs.Prelude.{ℕ, ◌≤◌, ◌≡◌, ◌⊎◌, ◌++◌, Result, Ok, Err, alloc_error}
 use Rattle.std.specs.List.{AllByRecursion}
 use Rattle.tl_grid.specs.declared.block.Block.{Block}
-use Rattle.tl_grid.specs.declared.row.Cursor.{Cursor}
 use Rattle.tl_grid.specs.declared.row.RowState.{RowState}
+use Rattle.tl_grid.specs.declared.group.Group.{Group}
 use Rattle.tl_grid.specs.declared.error.GridError.{GridError}
 use Rattle.tl_grid.specs.declared.error.GridError.TheVariants.{Memory}
-use Rattle.tl_grid.specs.inner.Walk.{Walk, Row}
+use Rattle.tl_grid.specs.inner.Walk.{Row, RowGroup}
 
--- the walk of a cursor over the open blocks
-abbrev pub walk_over : List Block → Cursor → Walk
-walk_over open_blocks cursor = record {
-  column = cursor.column;
-  passed = take cursor.at open_blocks;
-  ahead = drop cursor.at open_blocks;
-}
-
+-- a row, as the code keeps it
 abbrev pub row_over : RowState → Row
 row_over row = record {
-  column = row.cursor.column;
+  column = row.open_blocks.column;
   height = row.height;
   blocks = row.blocks;
-  passed = take row.cursor.at row.open_blocks;
-  ahead = drop row.cursor.at row.open_blocks;
+  passed = row.open_blocks.passed;
+  ahead = row.open_blocks.ahead;
 }
 
--- the code's answer is the walk's, seen by `view`, or there was not enough memory
+-- a row group between two rows, as the code keeps it
+abbrev pub group_over : Group → RowGroup
+group_over group = record {
+  row = group.row;
+  height = group.height;
+  blocks = group.blocks;
+  open_blocks = group.open_blocks.passed ++ group.open_blocks.ahead;
+}
+
+-- the code's result is the definition's, seen by `view`, or memory ran out
 abbrev pub IsWalked : {X Y : Type 0} → (X → Y) → Result Y GridError → Result X GridError → Type 0
 IsWalked view walked (Ok value) = walked ≡ Ok (view value)
 IsWalked view walked (Err error) = (error ≡ Memory alloc_error) ⊎ (walked ≡ Err error)

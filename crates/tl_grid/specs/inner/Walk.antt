@@ -1,32 +1,15 @@
--- How a row is walked from left to right over the blocks that are open above it: those that may
--- cover it and the rows to come, by their columns. No slot is made.
-use Rattle.std.specs.Prelude.{ℕ, ◌+◌, max, Bool, ◌||◌, ◌==◌, nat_lt, nat_le, not, map, true, false, if◌then◌else◌, List, [], ◌∷◌, ◌++◌, filter, length, Option, Some, None, Result, Ok, Err}
+-- No public clause cites this file. How a table is formed over blocks: row by row, group by group,
+-- the footers last.
+use Rattle.std.specs.Prelude.{ℕ, ◌+◌, max, Bool, ◌==◌, not, map, true, false, if◌then◌else◌, List}
+use Rattle.std.specs.Prelude.{[], ◌∷◌, ◌++◌, length, Option, Some, None, Result, Ok, Err}
 use Rattle.tl_grid.specs.declared.shape.SpanOf.{SpanOf}
 use Rattle.tl_grid.specs.declared.block.Block.{Block}
-use Rattle.tl_grid.specs.declared.group.Group.{Group}
 use Rattle.tl_grid.specs.declared.table.Table.{Table}
 use Rattle.tl_grid.specs.declared.error.GridError.{GridError}
 use Rattle.tl_grid.specs.declared.error.GridError.TheVariants.{Overlap}
 use Rattle.tl_grid.specs.declared.shape.ShapeGroup.{ShapeGroup}
 use Rattle.tl_grid.specs.Forming.{initial_rowspan, cells_in}
-
--- whether a block that begins in row y or above it takes that row
-abbrev pub reaches : ℕ → Block → Bool
-reaches y block = block.grows || nat_lt y block.bottom
-
--- how far a row has come: the next column, and the open blocks that lie before it and after it
-pub record Walk : Type 0 where
-  pub column : ℕ
-  pub passed : List Block
-  pub ahead : List Block
-
--- passes the blocks that take the columns from x on, one after another
-abbrev pub pass_taken : ℕ → List Block → List Block → Walk
-pass_taken x passed [] = record { column = x; passed = passed; ahead = [] }
-pass_taken x passed (block ∷ blocks) =
-    if nat_le block.left x
-    then pass_taken block.right (passed ++ block ∷ []) blocks
-    else record { column = x; passed = passed; ahead = block ∷ blocks }
+use Rattle.tl_grid.specs.inner.OpenBlocks.{Walk, pass_taken, hit}
 
 -- the block of a cell at column x of row y
 abbrev pub block_at : ℕ → ℕ → ℕ → SpanOf → Block
@@ -38,11 +21,6 @@ block_at number x y span = record {
   bottom = y + initial_rowspan span;
   grows = span.rowspan == 0;
 }
-
--- the first block ahead, if it begins before the column `right`
-abbrev pub hit : List Block → ℕ → Option Block
-hit [] right = None
-hit (block ∷ blocks) right = if nat_lt block.left right then Some block else None
 
 -- a row while its cells are formed: the next column, the table's height, the blocks of the row
 -- group so far, and the open ones before and after that column
@@ -63,8 +41,9 @@ placed y number span row walk = record {
   ahead = walk.ahead;
 }
 
-abbrev pub walk_of : Row → Walk
-walk_of row = pass_taken row.column row.passed row.ahead
+-- the walk to the next cell of row y
+abbrev pub walk_of : ℕ → Row → Walk
+walk_of y row = pass_taken y row.column row.passed row.ahead
 
 -- `more`, unless cell `number` in row y runs into a block
 abbrev pub unless_hit : {X : Type 0} → Option Block → ℕ → ℕ
@@ -76,26 +55,34 @@ unless_hit (Some block) number y more = Err (Overlap block.number number block.l
 abbrev pub place_cells : ℕ → ℕ → Row → List SpanOf → Result Row GridError
 place_cells y number row [] = Ok row
 place_cells y number row (span ∷ spans) =
-    let walk : Walk = walk_of row in
+    let walk : Walk = walk_of y row in
     unless_hit (hit walk.ahead (walk.column + span.colspan)) number y
     (place_cells y (number + 1) (placed y number span row walk) spans)
 
+-- a row group between two rows: the next row, the table's height, the blocks of the group so far,
+-- and the open ones
+pub record RowGroup : Type 0 where
+  pub row : ℕ
+  pub height : ℕ
+  pub blocks : List Block
+  pub open_blocks : List Block
+
 -- a group begins at row y, below all rows before it
-abbrev pub group_at : ℕ → Group
+abbrev pub group_at : ℕ → RowGroup
 group_at y = record { row = y; height = y; blocks = []; open_blocks = [] }
 
--- the next row begins, over the open blocks that take it
-abbrev pub row_of : Group → Row
+-- the next row begins, over the open blocks
+abbrev pub row_of : RowGroup → Row
 row_of group = record {
   column = 0;
   height = max group.height (group.row + 1);
   blocks = group.blocks;
   passed = [];
-  ahead = filter (reaches group.row) group.open_blocks;
+  ahead = group.open_blocks;
 }
 
 -- the row ends
-abbrev pub after_row : ℕ → Row → Group
+abbrev pub after_row : ℕ → Row → RowGroup
 after_row y row = record {
   row = y + 1;
   height = row.height;
@@ -110,7 +97,7 @@ then_ok next (Ok value) = next value
 then_ok next (Err error) = Err error
 
 -- the rows of a group, one after another; `number` is that of their first cell
-abbrev pub place_rows : ℕ → Group → List (List SpanOf) → Result Group GridError
+abbrev pub place_rows : ℕ → RowGroup → List (List SpanOf) → Result RowGroup GridError
 place_rows number group [] = Ok group
 place_rows number group (spans ∷ rows) =
     then_ok
@@ -129,7 +116,7 @@ settled height block = record {
 }
 
 -- the table after a group
-abbrev pub after_group : Table → Group → Table
+abbrev pub after_group : Table → RowGroup → Table
 after_group table group = record {
   row = group.height;
   blocks = table.blocks ++ map (settled group.height) group.blocks;
@@ -145,12 +132,12 @@ place_groups turn number table (group ∷ groups) =
     (place_rows number (group_at table.row) group.rows)
     else place_groups turn (number + cells_in group.rows) table groups
 
--- the groups that are feet, or those that are not
+-- the groups that are footers, or those that are not
 abbrev pub has_turn : Bool → ShapeGroup → Bool
 has_turn true group = group.foot
 has_turn false group = not group.foot
 
--- all groups, the feet last
+-- all groups, the footers last
 abbrev pub place_all : List ShapeGroup → Result Table GridError
 place_all groups =
     then_ok (λ table. place_groups (has_turn true) 0 table groups)
@@ -159,5 +146,5 @@ place_all groups =
 -- one cell of a row
 abbrev pub place_cell : ℕ → ℕ → Row → SpanOf → Result Row GridError
 place_cell y number row span =
-    unless_hit (hit (walk_of row).ahead ((walk_of row).column + span.colspan)) number y
-    (Ok (placed y number span row (walk_of row)))
+    unless_hit (hit (walk_of y row).ahead ((walk_of y row).column + span.colspan)) number y
+    (Ok (placed y number span row (walk_of y row)))

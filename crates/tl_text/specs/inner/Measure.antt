@@ -1,5 +1,5 @@
--- What breaking sees of a paragraph: widths and gaps, and how lines are filled with them from the
--- left. No contract of a public call speaks of it.
+-- No public clause cites this file: it says what breaking sees of a paragraph, widths and gaps, and
+-- how lines are filled with them from the left.
 use Rattle.std.specs.Prelude.{ℕ, ◌+◌, Bool, true, false, not, nat_le, if◌then◌else◌, List, [], ◌∷◌, Option, Some, None}
 use Rattle.tl_text.specs.declared.paragraph.Atom.{Atom}
 use Rattle.tl_text.specs.declared.paragraph.Atom.TheVariants as atoms
@@ -24,13 +24,17 @@ lines_after w None [] = 0
 lines_after w (Some used) [] = 1
 lines_after w line (Break ∷ measures) = 1 + lines_after w None measures
 lines_after w None (Columns width gap ∷ measures) = lines_after w (Some width) measures
-lines_after w (Some used) (Columns width gap ∷ measures) = if nat_le (used + gap + width) w then lines_after w (Some (used + gap + width)) measures else 1 + lines_after w (Some width) measures
+lines_after w (Some used) (Columns width gap ∷ measures) =
+    if nat_le (used + gap + width) w
+    then lines_after w (Some (used + gap + width)) measures
+    else 1 + lines_after w (Some width) measures
 
 -- how wide the open line is once one more atom comes, if a unit stands on it
 abbrev pub next_line : ℕ → Option ℕ → Measure → Option ℕ
 next_line w line Break = None
 next_line w None (Columns width gap) = Some width
-next_line w (Some used) (Columns width gap) = if nat_le (used + gap + width) w then Some (used + gap + width) else Some width
+next_line w (Some used) (Columns width gap) =
+    if nat_le (used + gap + width) w then Some (used + gap + width) else Some width
 
 -- a line ends with this break, or before this unit
 abbrev pub ends_line : ℕ → Option ℕ → Measure → Bool

@@ -1,4 +1,5 @@
--- What the reader's methods answer, in the words of the grammar.
+-- No public clause cites this file: it says what the results of the reader's methods mean, in the
+-- words of the grammar.
 use Rattle.std.specs.Prelude.{◌≡◌, ℕ, min, List, [], ◌∷◌, Option, Some, None, Result, Ok, Err, MatchResult, MatchOption, if◌then◌else◌, codes}
 use Rattle.std.specs.Option.{option_map}
 use Rattle.tl_token.specs.Numbers.{number_of}
@@ -16,12 +17,14 @@ use Rattle.tl_token.specs.declared.token.TokenError.{TokenError}
 use Rattle.tl_token.specs.declared.token.TokenError.TheVariants as error
 use Rattle.tl_token.specs.declared.tag.Given.{Given}
 
+-- the grammar's piece
 abbrev pub piece_of : Piece → grammar.Piece
 piece_of Hidden = hidden
 piece_of (Start e spans) = tag (kind.Start e spans)
 piece_of (End e) = tag (kind.End e)
 piece_of (Character c) = character c
 
+-- the grammar's fault
 abbrev pub fault_of : Fault → grammar.Fault
 fault_of UnendedTag = unended_tag
 fault_of UnendedComment = unended_comment
@@ -39,19 +42,21 @@ error_of UnknownElement place = error.UnknownElement place
 error_of BadReference place = error.BadReference place
 error_of BadCharacter place = error.BadCharacter place
 
--- what a result says stands there, with what is left after it
+-- what a result says stands there, where the rest follows
 abbrev pub found_of : Result Piece Fault → List ℕ → Found
 found_of (Ok piece) rest = stands (piece_of piece) rest
 found_of (Err fault) rest = faulty (fault_of fault)
 
 -- the number of the first attribute of that name, where there is one
 abbrev pub number_in : List ℕ → List Attribute → Option (Option ℕ)
-number_in word attributes = option_map (λ v. option_map (λ n. min n 4294967295) (number_of v)) (value_of word attributes)
+number_in word attributes =
+    option_map (λ v. option_map (λ n. min n 4294967295) (number_of v)) (value_of word attributes)
 
--- the same with one more attribute
+-- the number of the first attribute of that name, with one more attribute
 abbrev pub number_after : Option (Option ℕ) → List ℕ → Attribute → Option (Option ℕ)
 number_after (Some known) word a = Some known
-number_after None word a = if is_word a.name word then Some (option_map (λ n. min n 4294967295) (number_of a.value)) else None
+number_after None word a =
+    if is_word a.name word then Some (option_map (λ n. min n 4294967295) (number_of a.value)) else None
 
 -- the numbers of the attributes that a tag has so far
 abbrev pub given_of : List Attribute → Given
@@ -62,7 +67,7 @@ given_of attributes = record {
   least = number_in (codes "data-min") attributes;
 }
 
--- the same with one more attribute
+-- the numbers of the attributes, with one more attribute
 abbrev pub given_after : Given → Attribute → Given
 given_after given a = record {
   colspan = number_after given.colspan (codes "colspan") a;
@@ -71,7 +76,7 @@ given_after given a = record {
   least = number_after given.least (codes "data-min") a;
 }
 
--- what a tag is that cannot go on there
+-- what a text is, read as a tag that cannot go on there
 abbrev pub stop : List ℕ → Outcome
 stop [] = unended
 stop (c ∷ cs) = wrong
@@ -80,19 +85,22 @@ stop (c ∷ cs) = wrong
 abbrev pub Stops : State → List ℕ → Fault → Type 0
 Stops s cs fault = tag_found (read s cs) ≡ faulty (fault_of fault)
 
--- From those states on, with a tag and the name of an attribute, its value was read from old, and new is left; or the tag
--- is broken there.
-abbrev pub ReadsValue : {X : Type 0} → (Tag → List ℕ → State) → (X → List ℕ) → Result X Fault → List ℕ → List ℕ → Type 0
+-- From those states on, with a tag and the name of an attribute, its value was read from old, and
+-- new is left; or the tag is broken there.
+abbrev pub ReadsValue : {X : Type 0} → (Tag → List ℕ → State) → (X → List ℕ) → Result X Fault
+    → List ℕ → List ℕ → Type 0
 ReadsValue state text result old new = (t : Tag) (name : List ℕ) → MatchResult result
     (λ value. read (state t name) old ≡ read (between (with_attribute t name (text value))) new)
     (λ fault. Stops (state t name) old fault)
 
--- The attributes of a tag, with their numbers, were read from old up to the `>`, and new is left; or the tag is broken there.
+-- The attributes of a tag, with their numbers, were read from old up to the `>`, and new is left;
+-- or the tag is broken there.
 abbrev pub ReadsAttributes : Result Given Fault → List ℕ → List ℕ → Type 0
 ReadsAttributes result old new = MatchResult result
-    (λ given. (all : List Attribute) × (given ≡ given_of all) × ((t : Tag) → read (between t) old ≡ reads (with_more t all) new))
+    (λ given. (all : List Attribute) × (given ≡ given_of all)
+    × ((t : Tag) → read (between t) old ≡ reads (with_more t all) new))
     (λ fault. (t : Tag) → Stops (between t) old fault)
 
--- an answer says what was found, with what is left behind it, or that nothing was
+-- a result says what was found, where the rest follows, or that nothing was
 abbrev pub Finds : {X A : Type 0} → (X → A) → Option X → List ℕ → Option (A × List ℕ) → Type 0
 Finds view result rest found = MatchOption result (found ≡ None) (λ x. found ≡ Some (view x, rest))

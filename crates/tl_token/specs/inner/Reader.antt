@@ -1,10 +1,12 @@
--- What is left to read, and the classes of characters that the reader knows.
+-- No public clause cites this file: it says what is left to read, and which characters are of the
+-- reader's classes.
 use Rattle.std.specs.Prelude.{ℕ, Bool, true, false, ◌≡◌, ◌||◌, not, ◌==◌, List, [], ◌∷◌, Option, MatchOption, chars}
 use Rattle.std.specs.Char.{is_ascii_alphabetic, is_ascii_alphanumeric, is_ascii_digit, is_ascii_hexdigit}
 use Rattle.tl_token.specs.Characters.{◌∈◌, begins, is_space, is_name_character, is_value_character, is_gap}
 use Rattle.tl_token.specs.declared.reader.Reader.{Reader}
 use Rattle.tl_token.specs.declared.reader.Class.{Class}
-use Rattle.tl_token.specs.declared.reader.Class.TheVariants.{Space, Alphanumeric, Digit, HexDigit, Name, Value, Sign, Letter, Gap, HexMark, TagNameEnd, ValueEnd, Is, Not}
+use Rattle.tl_token.specs.declared.reader.Class.TheVariants.{Space, Alphanumeric, Digit, HexDigit, Name, Value, Sign, Letter, Gap, HexMark}
+use Rattle.tl_token.specs.declared.reader.Class.TheVariants.{TagNameEnd, ValueEnd, Is, Not}
 
 -- the characters that are still to read
 abbrev pub unread : Reader → List ℕ

@@ -1,45 +1,54 @@
--- How a tag is read, a character at a time: states as those of the HTML Standard's tokenizer (section 13.2.5), with what
--- the tag has so far. It decides what the grammar of tags says of a text, also of one that ends too early.
+-- No public clause cites this file: it says how a tag is read, a character at a time, by states as
+-- those of the HTML Standard's tokenizer (section 13.2.5), with what the tag has so far. It decides
+-- what the grammar of tags says of a text, also of one that ends too early.
 use Rattle.std.specs.Prelude.{ℕ, Bool, true, false, ◌==◌, List, [], ◌∷◌, ◌++◌, if◌then◌else◌}
 use Rattle.std.specs.Char.{is_ascii_alphabetic, is_ascii_alphanumeric}
 use Rattle.tl_token.specs.Characters.{◌∈◌, is_space, is_name_character, is_value_character, is_gap}
 use Rattle.tl_token.specs.Elements.{Attribute, Tag}
 
+-- where in a tag the next character stands, and what was read of the tag
 pub data State : Type 0 where
-  -- behind the `<`, and behind the `</`
+  -- after the `<`
   tag_open : State
+  -- after the `</`
   end_tag_open : State
   -- in the name of the tag
   tag_name : Bool → List ℕ → State
   -- between two attributes
   between : Tag → State
-  -- in the name of an attribute, behind it and white space, and behind its `=`
+  -- in the name of an attribute
   in_name : Tag → List ℕ → State
+  -- after the name of an attribute and white space
   after_name : Tag → List ℕ → State
+  -- after the `=` of an attribute
   before_value : Tag → List ℕ → State
-  -- in a value, with the quote that ends it, or with none
+  -- in a value, with the quote that ends it
   in_quotes : Tag → List ℕ → ℕ → List ℕ → State
+  -- in a value without quotes
   in_value : Tag → List ℕ → List ℕ → State
-  -- behind the `>`
+  -- after the `>`
   ended : Tag → State
   -- this is no tag
   failed : State
 
+-- the attribute of that name and value
 abbrev pub attribute : List ℕ → List ℕ → Attribute
 attribute name value = record { name = name; value = value }
 
+-- the tag of that name without attributes
 abbrev pub empty_tag : Bool → List ℕ → Tag
 empty_tag is_end name = record { is_end = is_end; name = name; attributes = [] }
 
 -- the tag with one more attribute
 abbrev pub with_attribute : Tag → List ℕ → List ℕ → Tag
-with_attribute t name value = record { is_end = t.is_end; name = t.name; attributes = t.attributes ++ attribute name value ∷ [] }
+with_attribute t name value =
+    record { is_end = t.is_end; name = t.name; attributes = t.attributes ++ attribute name value ∷ [] }
 
 -- the tag with more attributes
 abbrev pub with_more : Tag → List Attribute → Tag
 with_more t others = record { is_end = t.is_end; name = t.name; attributes = t.attributes ++ others }
 
--- the state behind one more character
+-- the state after one more character
 abbrev pub step : State → ℕ → State
 step tag_open c =
     if c ∈ "/" then end_tag_open
@@ -76,7 +85,8 @@ step (before_value t name) c =
     else if is_value_character c then in_value t name (c ∷ [])
     else failed
 step (in_quotes t name quote value) c =
-    if c == quote then between (with_attribute t name value) else in_quotes t name quote (value ++ c ∷ [])
+    if c == quote then between (with_attribute t name value)
+    else in_quotes t name quote (value ++ c ∷ [])
 step (in_value t name value) c =
     if is_value_character c then in_value t name (value ++ c ∷ [])
     else if is_space c then between (with_attribute t name value)
@@ -93,6 +103,7 @@ pub data Outcome : Type 0 where
   unended : Outcome
   wrong : Outcome
 
+-- what the text is, read from that state on
 abbrev pub read : State → List ℕ → Outcome
 read (ended t) cs = reads t cs
 read failed cs = wrong

@@ -20,9 +20,12 @@ then_read (wrong left) next = wrong left
 then_read (outside left) next = outside left
 
 -- one reading after the other
+unfoldable pub followed : {A B : Type 0} → Reading A → (A → Reading B) → Reading B
+followed read next = λ text. then_read (read text) next
+
 infixl 10 ◌>>=◌
-unfoldable pub ◌>>=◌ : {A B : Type 0} → Reading A → (A → Reading B) → Reading B
-(read >>= next) = λ text. then_read (read text) next
+abbrev pub ◌>>=◌ : {A B : Type 0} → Reading A → (A → Reading B) → Reading B
+◌>>=◌ = followed
 
 -- no character, and the value
 unfoldable pub give : {A : Type 0} → A → Reading A

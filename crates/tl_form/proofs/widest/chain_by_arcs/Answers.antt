@@ -1,12 +1,12 @@
-use Rattle.std.proofs.Common.{◌≡◌, ◌∙◌, ◌<◌, true, false, length, map, sym, ap, subst, rules}
+use Rattle.std.proofs.Common.{◌≡◌, ◌∙◌, ◌<◌, true, false, length, map, sum_by, sym, ap, subst, arith, rules}
 use Rattle.std.specs.List.{All}
 use Rattle.tl_base.specs.Style.{gap_of}
-use Rattle.tl_diff.specs.Paths.{LeadForward, InOrder}
+use Rattle.tl_diff.specs.Paths.{LeadForward, InOrder, total_weight}
 use Rattle.std.proofs.lemmas.List.{length-map}
 use Rattle.tl_form.specs.declared.widest.NumberedArc.{NumberedArc}
 use Rattle.tl_form.specs.inner.Demands.{number_at}
-use Rattle.tl_form.proofs.Found.{empty_of_nil, some_of_not_nil, IsFound-made, least_found, row_found, last_found}
-use Rattle.tl_form.proofs.Sorted.{LeadForward-plain, InOrder-plain, path-within}
+use Rattle.tl_form.proofs.Found.{empty_of_nil, some_of_not_nil, IsFound-made, small_found, least_found, row_found, last_found}
+use Rattle.tl_form.proofs.Sorted.{LeadForward-plain, InOrder-plain, path-within, total_weight-plain}
 use Rattle.tl_form.proofs.widest.chain_by_arcs.Goals as goal
 use Rattle.tl_form.proofs.widest.chain_by_arcs.Goals.{then-is_empty+in_ok-push, else-is_empty}
 
@@ -34,3 +34,10 @@ returns-clause-chain c =
       | then-is_empty+in_ok-push w ↦ last_found c.args.style c.args.cols c.args.demands.now c.args.arcs.now c.args.plain.now c.heaviest_path.new.out c.in_ok-path.path c.in_ok-numbers.numbers c.if-is_empty.numbers c.in_ok-path.heaviest c.gap.result c.edge.result w.in_last_column.result found c.requires.plain c.in_ok-path.ensures.weight named (empty_of_nil c.in_ok-numbers.numbers (w.if-is_empty.ensures.0 (search rules))) (w.numbers-is ∙ w.in_ok-push.ensures.ok) w.in_last_column.ensures c.gap.ensures c.edge.ensures
       | else-is_empty w ↦ row_found c.args.style c.args.cols c.args.demands.now c.args.arcs.now c.args.plain.now c.heaviest_path.new.out c.in_ok-path.path c.if-is_empty.numbers c.in_ok-path.heaviest c.gap.result c.edge.result found c.requires.plain c.in_ok-path.ensures.path c.in_ok-path.ensures.weight (w.numbers-is ∙ named) (subst (λ those. 0 < length those) (sym w.numbers-is) (some_of_not_nil c.in_ok-numbers.numbers (λ nil. let no : false ≡ true = w.if-is_empty.ensures.1 nil in cc))) c.gap.ensures c.edge.ensures
     ]
+
+pub heaviest_path-requires-clause-light : goal.heaviest_path-requires-clause-light
+heaviest_path-requires-clause-light c = omega (arith, ap total_weight c.requires.plain, total_weight-plain c.args.arcs.now, c.requires.light, c.requires.demands.small)
+
+pub returns-clause-small : goal.returns-clause-small
+returns-clause-small c = small_found c.args.style c.args.cols c.in_ok-path.heaviest (sum_by (λ demand. demand.width) c.args.demands.now) c.gap.result c.edge.result c.requires.demands.few_columns
+    (omega (arith, c.in_ok-path.ensures.small, ap total_weight c.requires.plain, total_weight-plain c.args.arcs.now, c.requires.light)) c.gap.ensures c.edge.ensures

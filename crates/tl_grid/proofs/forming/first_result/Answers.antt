@@ -1,4 +1,5 @@
-use Rattle.std.proofs.Common.{◌≡◌, ◌≤◌, List, replicate, ap, ◌∙◌, inr, arith, rules}
+use Rattle.std.proofs.Common.{◌≤◌, List, replicate, ap, ◌∙◌, inr, arith, rules}
+use Rattle.tl_base.specs.declared.limits.TheConstants.{MAX_CELLS}
 use Rattle.tl_grid.specs.declared.shape.Place.{Place}
 use Rattle.tl_grid.specs.Forming.{cells_of, cell_count}
 use Rattle.tl_grid.specs.inner.Places.{begins_in_column, begins_in_row, nowhere, put_places}
@@ -7,7 +8,7 @@ use Rattle.tl_grid.proofs.forming.first_result.Goals as goal
 
 pub returns-in_err-table-clause-err : goal.returns-in_err-table-clause-err
 returns-in_err-table-clause-err c =
-    let few : cell_count c.args.shape.now ≤ 20000 =
+    let few : cell_count c.args.shape.now ≤ MAX_CELLS =
     omega (arith, c.count_all-count.ensures, ap cells_of c.as_slice-groups.ensures) in
     let groups = c.as_slice-groups.ensures in
     let refused = walk_refused c.args.shape.now c.in_err-table.field-0.0 c.requires.spans few
@@ -16,7 +17,7 @@ returns-in_err-table-clause-err c =
 
 pub returns-then-len-gt-MAX_COLUMNS-clause-err : goal.returns-then-len-gt-MAX_COLUMNS-clause-err
 returns-then-len-gt-MAX_COLUMNS-clause-err c =
-    let few : cell_count c.args.shape.now ≤ 20000 =
+    let few : cell_count c.args.shape.now ≤ MAX_CELLS =
     omega (arith, c.count_all-count.ensures, ap cells_of c.as_slice-groups.ensures) in
     let groups = c.as_slice-groups.ensures in
     let columns : AreColumns c.in_ok-table.table.blocks c.in_ok-columns.columns = record {
@@ -29,7 +30,7 @@ returns-then-len-gt-MAX_COLUMNS-clause-err c =
 
 pub returns-then-len-gt-MAX_ROWS-clause-err : goal.returns-then-len-gt-MAX_ROWS-clause-err
 returns-then-len-gt-MAX_ROWS-clause-err c =
-    let few : cell_count c.args.shape.now ≤ 20000 =
+    let few : cell_count c.args.shape.now ≤ MAX_CELLS =
     omega (arith, c.count_all-count.ensures, ap cells_of c.as_slice-groups.ensures) in
     let groups = c.as_slice-groups.ensures in
     let columns : AreColumns c.in_ok-table.table.blocks c.in_ok-columns.columns = record {
@@ -46,7 +47,7 @@ returns-then-len-gt-MAX_ROWS-clause-err c =
 
 pub returns-clause-ok : goal.returns-clause-ok
 returns-clause-ok c =
-    let few : cell_count c.args.shape.now ≤ 20000 =
+    let few : cell_count c.args.shape.now ≤ MAX_CELLS =
     omega (arith, c.count_all-count.ensures, ap cells_of c.as_slice-groups.ensures) in
     let groups = c.as_slice-groups.ensures in
     let blank : List Place = replicate c.count_all-count.result nowhere in

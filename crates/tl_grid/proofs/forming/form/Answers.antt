@@ -1,8 +1,3 @@
-use Rattle.std.proofs.Common.{ℕ, ◌<◌, length, All}
-use Rattle.std.specs.List.{AllByRecursion, AllPairs}
-use Rattle.tl_grid.specs.Forming.{cell_count, formed}
-use Rattle.tl_grid.specs.Dropping.{IsPlaced}
-use Rattle.tl_grid.specs.Slots.{AreApart, HasAnchorInColumn, HasAnchorInRow, IsFilledToLeft, KeepsSlots}
 use Rattle.tl_grid.proofs.Laws.{all_within, all_apart, all_columns, all_rows, all_filled, kept_slots}
 use Rattle.tl_grid.proofs.Results.{ok_law, each_ok, each_err}
 use Rattle.tl_grid.proofs.forming.form.Goals as goal

@@ -2,7 +2,7 @@ use Rattle.std.proofs.Common.{ℕ, eqb, sym, ap, ◌∙◌}
 use Rattle.std.proofs.lemmas.List.Filters.{dedup_is}
 use Rattle.std.proofs.lemmas.List.Sorted.{list_any-IsPermutation}
 use Rattle.std.proofs.lemmas.Map.Keys.{IsStrictlyIncreasing-dedup}
-use Rattle.tl_grid.specs.Dropping.{is_among}
+use Rattle.tl_base.specs.Lists.{is_among}
 use Rattle.tl_grid.proofs.Counts.{among-dedup}
 use Rattle.tl_grid.proofs.kept.in_order.Goals as goal
 

@@ -1,5 +1,6 @@
 -- The ranges lie within the paragraph, and show its lines.
 use Rattle.std.proofs.Common.{◌≡◌, ◌≤◌, ◌++◌, ◌∙◌, ◌∷◌, [], length, get_or, subst, encode_utf8_all, map, take, ap, sym, arith}
+use Rattle.tl_base.specs.declared.limits.TheConstants.{MAX_FILE_BYTES}
 use Rattle.std.specs.List.{All}
 use Rattle.tl_text.specs.Paragraph.{atom_size}
 use Rattle.tl_text.specs.Ranges.{ShowsGreedyCutting}
@@ -27,8 +28,8 @@ write_line-requires c =
     let range = get_or c.as_slice-range-items.result.now c.loop-range.range-index (record { first = 0; past = 0 }) in
     record {
       few = omega (arith, ap length c.units_of.ensures, range_is_short c.atoms-atoms.result.now range);
-      small = subst (All (λ atom. atom_size atom ≤ 1048576)) (sym c.units_of.ensures)
-          (range_is_small 1048576 c.atoms-atoms.result.now range c.atoms-atoms.ensures.small);
+      small = subst (All (λ atom. atom_size atom ≤ MAX_FILE_BYTES)) (sym c.units_of.ensures)
+          (range_is_small MAX_FILE_BYTES c.atoms-atoms.result.now range c.atoms-atoms.ensures.small);
     }
 
 pub loop-range-preserved : goal.loop-range-preserved

@@ -1,5 +1,5 @@
 use Rattle.std.proofs.Common.{arith, tests}
-use Rattle.tl_text.proofs.Bytes.{has_character, length-chars}
+use Rattle.tl_base.proofs.Texts.{has_character, length-chars}
 use Rattle.tl_text.proofs.paragraph.is_solid.Goals as goal
 
 pub returns-then-not-is_empty : goal.returns-then-not-is_empty

@@ -1,5 +1,5 @@
 use Rattle.std.proofs.Common.{◌∙◌}
-use Rattle.tl_token.proofs.Words.{is_exactly_from}
+use Rattle.tl_token.proofs.ElementLemmas.{is_exactly_from}
 use Rattle.tl_token.proofs.elements.is_exactly.Goals as goal
 
 pub returns : goal.returns

@@ -1,4 +1,4 @@
-use Rattle.tl_token.proofs.Words.{is_word_from}
+use Rattle.tl_token.proofs.ElementLemmas.{is_word_from}
 use Rattle.tl_token.proofs.elements.is_word.Goals as goal
 
 pub returns : goal.returns

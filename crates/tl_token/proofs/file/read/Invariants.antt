@@ -1,5 +1,5 @@
 use Rattle.std.proofs.Common.{◌≡◌, ◌≤◌, ◌++◌, length}
-use Rattle.tl_token.specs.Characters.{byte_len}
+use Rattle.tl_base.specs.Text.{byte_count}
 use Rattle.tl_token.specs.Spelling.{Parts, place_of, Leads, tokens_of, characters}
 use Rattle.tl_token.specs.inner.Reader.{unread}
 use Rattle.tl_token.specs.inner.Output.{resumed}
@@ -10,7 +10,7 @@ abbrev pub invariant-loop-c : goal.invariant-loop-c
 invariant-loop-c l = (parts : Parts) × Leads (length l.text) (characters l.text) parts (unread l.reader)
     × ((later : Parts) → tokens_of (parts ++ later) ≡ resumed l.output later)
     × (l.first ≡ place_of (length l.text) (unread l.reader))
-    × (byte_len (unread l.reader) ≤ length l.text)
+    × (byte_count (unread l.reader) ≤ length l.text)
 
 abbrev pub decreases-loop-c : goal.decreases-loop-c
-decreases-loop-c l = byte_len (unread l.reader)
+decreases-loop-c l = byte_count (unread l.reader)

@@ -21,10 +21,16 @@ returns-then-narrow-eq0-clause-none c =
 pub returns-clause-height : goal.returns-clause-height
 returns-clause-height c =
     let n = c.steps_up_to-narrow.result in
-    let of_all = height_at-last c.args.self.now c.steps_up_to-narrow.ensures.sound c.args.w n (omega (arith, c.if-narrow-eq0.false)) c.steps_up_to-narrow.ensures.bound c.steps_up_to-narrow.ensures.point in
+    let of_all = height_at-last c.args.self.now c.steps_up_to-narrow.ensures.sound c.args.w n (omega (
+      arith,
+      c.if-narrow-eq0.false,
+    )) c.steps_up_to-narrow.ensures.bound c.steps_up_to-narrow.ensures.point in
     ap (λ all. Some (get_or all (n - 1) no_step).height) c.configs.ensures.configs ∙ sym of_all
 
 pub returns-clause-none : goal.returns-clause-none
 returns-clause-none c =
-    let wide = from_first c.args.self.now c.steps_up_to-narrow.ensures.sound c.args.w c.steps_up_to-narrow.result (omega (arith, c.if-narrow-eq0.false)) c.steps_up_to-narrow.ensures.point in
+    let wide = from_first c.args.self.now c.steps_up_to-narrow.ensures.sound c.args.w c.steps_up_to-narrow.result (omega (
+      arith,
+      c.if-narrow-eq0.false,
+    )) c.steps_up_to-narrow.ensures.point in
     (λ h. absurd (false≢true (sym h)), λ narrow. absurd (omega arith))

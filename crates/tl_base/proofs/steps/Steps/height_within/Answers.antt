@@ -6,7 +6,11 @@ use Rattle.tl_base.proofs.steps.Steps.height_within.Goals as goal
 
 pub overflow_sub-result : goal.overflow_sub-result
 overflow_sub-result c =
-    omega (arith, some_narrow c.args.self.now c.steps_up_to-narrow.ensures.sound c.args.w c.steps_up_to-narrow.result c.steps_up_to-narrow.ensures.point c.requires)
+    omega (
+      arith,
+      some_narrow c.args.self.now c.steps_up_to-narrow.ensures.sound c.args.w c.steps_up_to-narrow.result
+          c.steps_up_to-narrow.ensures.point c.requires,
+    )
 
 pub returns-clause-height : goal.returns-clause-height
 returns-clause-height c =

@@ -5,7 +5,7 @@ use Rattle.std.proofs.lemmas.Str.{chars-nil}
 use Rattle.tl_token.specs.Spelling.{token}
 use Rattle.tl_token.specs.inner.Output.{with_text, open_text}
 use Rattle.tl_token.specs.declared.token.TokenKind.TheVariants.{Text}
-use Rattle.tl_token.proofs.Texts.{some_text}
+use Rattle.tl_token.proofs.OutputLemmas.{some_text}
 use Rattle.tl_token.proofs.output.Output.close.Goals as goal
 
 pub returns-then-not-has_text-clause-text : goal.returns-then-not-has_text-clause-text

@@ -14,7 +14,8 @@ returns-clause-open c = λ h.
 pub returns-clause-closed : goal.returns-clause-closed
 returns-clause-closed c = λ h.
     let empty : c.is_empty.result ≡ true = undone c.is_empty.result h in
-    chars_none (string_bytes c.args.self.now.text) (sym (ap length c.as_str.ensures.value) ∙ eqb-true (length c.as_str.result.now) 0 (sym c.is_empty.ensures ∙ empty))
+    chars_none (string_bytes c.args.self.now.text)
+    (sym (ap length c.as_str.ensures.value) ∙ eqb-true (length c.as_str.result.now) 0 (sym c.is_empty.ensures ∙ empty))
   where
     undone : (b : Bool) → not b ≡ false → b ≡ true
     undone true h = Rattle.std.proofs.Common.refl

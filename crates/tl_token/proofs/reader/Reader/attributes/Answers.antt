@@ -23,7 +23,8 @@ returns-in_err-value c =
     let (all, given, gap, h) = c.loop-self.invariant in
     let cs = unread c.loop-self.self in
     attributes_failed c.from_residual.result c.in_err-value.field-0.0 (unread c.args.self.now) (unread c.value.new.self) c.from_residual.ensures.1
-    (λ t. ap tag_found (h t ∙ name_read (with_more t all) cs (sym c.is_at.ensures ∙ c.loop-self-test.true) ∙ ap (read (in_name (with_more t all) (run is_name_character cs))) (sym c.run-name.ensures.past))
+    (λ t. ap tag_found (h t ∙ name_read (with_more t all) cs (sym c.is_at.ensures ∙ c.loop-self-test.true)
+    ∙ ap (read (in_name (with_more t all) (run is_name_character cs))) (sym c.run-name.ensures.past))
     ∙ c.in_err-value.ensures.value (with_more t all) (run is_name_character cs))
 
 pub loop-self-smaller : goal.loop-self-smaller

@@ -30,7 +30,15 @@ loop-self-smaller c =
       | then-eat+else-eat-2 w ↦
           let second = eats_true 45 c.eat-in-loop-self.result _ _ w.if-eat.true c.eat-in-loop-self.ensures in
           let stopped = eats_false 62 w.eat-then-eat.result _ _ w.if-eat-2.false w.eat-then-eat.ensures in
-          omega (arith, ap (λ (r : Reader). length (unread r)) w.self-is, ap length stopped.0, ap length w.run-then-eat.ensures.past, past_le (λ d. eqb d 45) (unread c.eat-in-loop-self.new.self), ap length second)
+          omega (
+            arith,
+            ap (λ (r : Reader). length (unread r)) w.self-is,
+            ap length stopped.0,
+            ap length w.run-then-eat.ensures.past,
+            past_le
+                (λ d. eqb d 45) (unread c.eat-in-loop-self.new.self),
+            ap length second,
+          )
       | else-eat w ↦
           let stopped = eats_false 45 c.eat-in-loop-self.result _ _ w.if-eat.false c.eat-in-loop-self.ensures in
           omega (arith, ap (λ (r : Reader). length (unread r)) w.self-is, ap length stopped.0)

@@ -28,7 +28,8 @@ pub returns-then-eat : goal.returns-then-eat
 returns-then-eat c =
     let over : 7 ≡ c.loop-letter.letter-index = omega arith in
     let close = sym c.run.ensures.past ∙ eats_true 62 c.eat.result _ _ c.if-eat.true c.eat.ensures in
-    sym (c.loop-letter.invariant.1 ∙ word_over (codes "doctype") c.loop-letter.letter-index _ over ∙ ap (closed_or unended_tag) (close_found (unread c.loop-letter.self) (unread c.eat.new.self) close))
+    sym (c.loop-letter.invariant.1 ∙ word_over (codes "doctype") c.loop-letter.letter-index _ over
+    ∙ ap (closed_or unended_tag) (close_found (unread c.loop-letter.self) (unread c.eat.new.self) close))
 
 pub returns-else-eat : goal.returns-else-eat
 returns-else-eat c =

@@ -12,7 +12,9 @@ returns-in_ok-digits c =
     let cs = unread c.args.self.now in
     let meaning : List ℕ → Option ℕ = λ digits. numbered_character (number 16 digits) in
     let rest = unread c.ended_run.new.self in
-    ap (λ b. cond b (referred meaning (ended_run is_ascii_hexdigit (drop 1 cs))) (referred (λ digits. numbered_character (number 10 digits)) (ended_run is_ascii_digit cs)))
+    ap (λ b. cond b (referred meaning (ended_run is_ascii_hexdigit (drop 1 cs)))
+    (referred (λ digits. numbered_character (number 10 digits)) (ended_run is_ascii_digit cs)))
     (sym c.is_at.ensures ∙ c.if-is_at.true)
     ∙ ap (λ x. referred meaning (ended_run is_ascii_hexdigit x)) (sym c.pass.ensures) ∙ ap (referred meaning) c.in_ok-digits.ensures
-    ∙ ap (λ (x : Option ℕ). Some (x, rest)) (sym (c.numbered_character.ensures ∙ ap numbered_character c.number.ensures ∙ numbered_below (number 16 (chars c.in_ok-digits.digits.now))))
+    ∙ ap (λ (x : Option ℕ). Some (x, rest))
+    (sym (c.numbered_character.ensures ∙ ap numbered_character c.number.ensures ∙ numbered_below (number 16 (chars c.in_ok-digits.digits.now))))

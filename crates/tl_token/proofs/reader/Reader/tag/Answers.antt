@@ -29,7 +29,8 @@ returns-in_err-given c =
     let t = empty_tag c.eat-is_end.result (run is_ascii_alphanumeric new) in
     failed_with (λ r. found_of r (unread c.attributes.new.self) ≡ tag_found (read Rattle.tl_token.specs.inner.States.tag_open (unread c.args.self.now)))
     c.from_residual.result c.in_err-given.field-0.0 c.from_residual.ensures.1
-    (sym (ap tag_found (tag_attributes (unread c.args.self.now) new c.eat-is_end.result c.eat-is_end.ensures letter close ∙ ap (read (between t)) (sym c.run-name.ensures.past))
+    (sym (ap tag_found (tag_attributes (unread c.args.self.now) new c.eat-is_end.result c.eat-is_end.ensures letter close
+    ∙ ap (read (between t)) (sym c.run-name.ensures.past))
     ∙ c.in_err-given.ensures t))
 
 pub returns-in_default : goal.returns-in_default
@@ -41,7 +42,8 @@ returns-in_default c =
     let t = empty_tag c.eat-is_end.result name in
     let (all, given, h) = c.in_ok-given.ensures in
     let rest = unread c.attributes.new.self in
-    sym (ap tag_found (tag_attributes (unread c.args.self.now) new c.eat-is_end.result c.eat-is_end.ensures letter close ∙ ap (read (between t)) (sym c.run-name.ensures.past) ∙ h t)
+    sym (ap tag_found (tag_attributes (unread c.args.self.now) new c.eat-is_end.result c.eat-is_end.ensures letter close
+    ∙ ap (read (between t)) (sym c.run-name.ensures.past) ∙ h t)
     ∙ ap (known_or_not (with_more t all) rest) (ap element_of (sym c.run-name.ensures.run) ∙ sym c.named.ensures ∙ c.in_default.is))
 
 pub returns-then-is_end : goal.returns-then-is_end
@@ -54,7 +56,8 @@ returns-then-is_end c =
     let (all, given, h) = c.in_ok-given.ensures in
     let rest = unread c.attributes.new.self in
     let e = c.in-Some.element in
-    sym (ap tag_found (tag_attributes (unread c.args.self.now) new c.eat-is_end.result c.eat-is_end.ensures letter close ∙ ap (read (between t)) (sym c.run-name.ensures.past) ∙ h t)
+    sym (ap tag_found (tag_attributes (unread c.args.self.now) new c.eat-is_end.result c.eat-is_end.ensures letter close
+    ∙ ap (read (between t)) (sym c.run-name.ensures.past) ∙ h t)
     ∙ ap (known_or_not (with_more t all) rest) (ap element_of (sym c.run-name.ensures.run) ∙ sym c.named.ensures ∙ c.in-Some.is)
     ∙ ap (λ b. stands (tag (cond b (End e) (Start e (spans_of e all)))) rest) c.if-is_end.true)
 
@@ -68,6 +71,8 @@ returns-else-is_end c =
     let (all, given, h) = c.in_ok-given.ensures in
     let rest = unread c.attributes.new.self in
     let e = c.in-Some.element in
-    sym (ap tag_found (tag_attributes (unread c.args.self.now) new c.eat-is_end.result c.eat-is_end.ensures letter close ∙ ap (read (between t)) (sym c.run-name.ensures.past) ∙ h t)
+    sym (ap tag_found (tag_attributes (unread c.args.self.now) new c.eat-is_end.result c.eat-is_end.ensures letter close
+    ∙ ap (read (between t)) (sym c.run-name.ensures.past) ∙ h t)
     ∙ ap (known_or_not (with_more t all) rest) (ap element_of (sym c.run-name.ensures.run) ∙ sym c.named.ensures ∙ c.in-Some.is)
-    ∙ ap (λ b. stands (tag (cond b (End e) (Start e (spans_of e all)))) rest) c.if-is_end.false ∙ ap (λ s. stands (tag (Start e s)) rest) (sym (c.spans.ensures all given)))
+    ∙ ap (λ b. stands (tag (cond b (End e) (Start e (spans_of e all)))) rest) c.if-is_end.false
+    ∙ ap (λ s. stands (tag (Start e s)) rest) (sym (c.spans.ensures all given)))

@@ -24,7 +24,8 @@ returns-else-is_value-clause-value c = λ t n.
     let old = unread c.args.self.now in
     let after = past is_value_character old in
     let which : (begins is_value_character old ≡ false) ⊎ (begins (λ d. is_space d || d ∈ ">") after ≡ false) = elim c.else-is_value.branch [
-      | else-is_value-via-then-is_value+else-is_at w ↦ inr (ap (begins (λ d. is_space d || d ∈ ">")) (sym c.run-value.ensures.past) ∙ sym w.is_at.ensures ∙ w.if-is_at.false)
+      | else-is_value-via-then-is_value+else-is_at w ↦ inr
+          (ap (begins (λ d. is_space d || d ∈ ">")) (sym c.run-value.ensures.past) ∙ sym w.is_at.ensures ∙ w.if-is_at.false)
       | else-is_value-via-else-is_value w ↦ inl (sym c.is_at-is_value.ensures ∙ w.if-is_value.false)
     ] in
     ap tag_found (unquoted_stops t n old c.requires.space c.requires.quote which) ∙ ap (λ x. tag_found (stop x)) (sym c.run-value.ensures.past)

@@ -1,0 +1,11 @@
+pub mod Fields
+pub mod Ends
+pub mod BoundReading
+pub mod LogLines
+pub mod SectionParts
+pub mod Items
+pub mod SectionReading
+pub mod Sections
+pub mod Entries
+pub mod Chains
+pub mod Whole

@@ -1,0 +1,102 @@
+-- When a table is sound: what `table` gives, and what every call that takes a table may count on. Its grid is one of
+-- the HTML Standard's, "Forming a table", in which no two cells share a slot.
+use Rattle.std.specs.Prelude.{◌≡◌, ℕ, zero, suc, ◌+◌, ◌<◌, ◌≤◌, ◌⊎◌, List, map, sum_by}
+use Rattle.std.specs.List.{All, AllPairs, AllByRecursion}
+use Rattle.tl_base.specs.declared.limits.TheConstants.{MAX_COLUMNS, MAX_DEPTH, MAX_FILE_BYTES, MAX_PAGE_WIDTH, MAX_ROWS, MAX_TABLES}
+use Rattle.tl_grid.specs.declared.shape.Place.{Place}
+use Rattle.tl_grid.specs.Dropping.{IsPlaced}
+use Rattle.tl_grid.specs.Slots.{AreApart, HasAnchorInColumn, HasAnchorInRow}
+use Rattle.tl_text.specs.Paragraph.{atom_size}
+use Rattle.tl_form.specs.declared.cell.Content.TheOpen as open_content
+use Rattle.tl_form.specs.declared.cell.Table.{Table, out-Table, fold-Table}
+use Rattle.tl_form.specs.declared.cell.TableCell.{TableCell, out-TableCell, fold-TableCell}
+use Rattle.tl_form.specs.declared.cell.Content.{Content, fold-Content}
+use Rattle.tl_form.specs.Tables.{OpenTable, inner_tables}
+
+-- ---- how much a table holds, by a fold over it
+
+-- a paragraph counts the bytes of its units and 1 for each break, a nested table what it counts
+abbrev pub content_count : open_content.Content-F ℕ ℕ ℕ → ℕ
+content_count (open_content.Para paragraph) = sum_by atom_size paragraph
+content_count (open_content.Table box) = box.value
+
+-- a cell counts 1 and its blocks
+abbrev pub cell_count : open_content.TableCell-F ℕ ℕ ℕ → ℕ
+cell_count cell = 1 + sum_by (λ block. block) cell.blocks
+
+-- a table counts its cells
+abbrev pub table_count : open_content.Table-F ℕ ℕ ℕ → ℕ
+table_count table = sum_by (λ cell. cell) table.cells
+
+-- the number of cells of a table, and the bytes and breaks of their paragraphs, those of nested tables included
+abbrev pub table_size : Table → ℕ
+table_size = fold-Table ℕ ℕ ℕ content_count table_count cell_count
+
+abbrev pub cell_size : TableCell → ℕ
+cell_size = fold-TableCell ℕ ℕ ℕ content_count table_count cell_count
+
+abbrev pub content_size : Content → ℕ
+content_size = fold-Content ℕ ℕ ℕ content_count table_count cell_count
+
+-- ---- how many tables a table has inside, by a fold over it
+
+-- a nested table counts 1 and those inside it
+abbrev pub content_tables : open_content.Content-F ℕ ℕ ℕ → ℕ
+content_tables (open_content.Para paragraph) = 0
+content_tables (open_content.Table box) = 1 + box.value
+
+abbrev pub cell_tables : open_content.TableCell-F ℕ ℕ ℕ → ℕ
+cell_tables cell = sum_by (λ block. block) cell.blocks
+
+abbrev pub table_tables : open_content.Table-F ℕ ℕ ℕ → ℕ
+table_tables table = sum_by (λ cell. cell) table.cells
+
+-- the number of tables inside a table, a cell and a block, at all depths; a block that is a table is one of them
+abbrev pub nested_in_table : Table → ℕ
+nested_in_table = fold-Table ℕ ℕ ℕ content_tables table_tables cell_tables
+
+abbrev pub nested_in_cell : TableCell → ℕ
+nested_in_cell = fold-TableCell ℕ ℕ ℕ content_tables table_tables cell_tables
+
+abbrev pub nested_in_content : Content → ℕ
+nested_in_content = fold-Content ℕ ℕ ℕ content_tables table_tables cell_tables
+
+-- ---- soundness
+
+-- where the cell lies
+abbrev pub place_of : TableCell → Place
+place_of cell = (out-TableCell cell).place
+
+-- where the cells of a table lie, in their order
+abbrev pub places_of : OpenTable → List Place
+places_of table = map place_of table.cells
+
+-- the first comes before the second in the order by top, then left
+abbrev pub ComesBefore : Place → Place → Type 0
+ComesBefore first second = (first.top < second.top) ⊎ ((first.top ≡ second.top) × (first.left < second.left))
+
+-- a table whose grid is sound; `sound` says the same of the tables nested directly in it
+pub record IsSoundBy (sound : Table → Type 0) (table : OpenTable) : Type 0 where
+  pub few_columns : table.cols ≤ MAX_COLUMNS
+  -- a caption has a row of its own
+  pub few_rows : table.rows ≤ MAX_ROWS + 1
+  pub placed : All (IsPlaced table.cols table.rows) (places_of table)
+  pub apart : AllPairs AreApart (places_of table)
+  pub in_order : AllPairs ComesBefore (places_of table)
+  pub columns : (column : ℕ) → column < table.cols → HasAnchorInColumn (places_of table) column
+  pub rows : (row : ℕ) → row < table.rows → HasAnchorInRow (places_of table) row
+  pub narrow : All (λ cell. (out-TableCell cell).least ≤ MAX_PAGE_WIDTH) table.cells
+  pub inner : AllByRecursion sound (inner_tables table)
+
+-- the same of a table with fewer than `depth` tables inside one another
+abbrev pub IsSoundWithin : ℕ → Table → Type 0
+IsSoundWithin zero table = ⊥
+IsSoundWithin (suc depth) table = IsSoundBy (IsSoundWithin depth) (out-Table table)
+
+-- a sound table within the limits of depth, of tables and of a file's size
+pub record IsSound (table : Table) : Type 0 where
+  pub depth : ℕ
+  pub shallow : depth ≤ MAX_DEPTH
+  pub sound : IsSoundWithin depth table
+  pub few_tables : nested_in_table table < MAX_TABLES
+  pub size : table_size table ≤ MAX_FILE_BYTES

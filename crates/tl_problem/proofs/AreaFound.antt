@@ -1,0 +1,280 @@
+-- The area bound from the least areas of the cells and the greatest place where the columns end.
+use Rattle.std.proofs.Common.{◌≡◌, ℕ, ◌+◌, ◌-◌, ◌*◌, ◌/◌, ◌%◌, ◌<◌, ◌≤◌, suc, min, ℤ, pos, List, [], ◌∷◌, ◌++◌, inl, inr, length, get_or, Option, Some, None, MatchOption, refl, sym, ap, ◌∙◌, subst, arith}
+use Rattle.std.specs.List.{AllZip, sum_by}
+use Rattle.std.specs.Int.{div_ceil}
+use Rattle.std.proofs.lemmas.Int.{ints}
+use Rattle.std.proofs.lemmas.Bool.{cases_lt}
+use Rattle.std.proofs.lemmas.Nat.{div-add-mod', mod_below}
+use Rattle.std.proofs.lemmas.List.{length_push}
+use Rattle.std.proofs.lemmas.List.Sums.{sum_by-cons, sum_by_push, get_or-le-sum_by}
+use Rattle.std.proofs.Math.Nat.{mul-le-mul, mul-le-mul_right}
+use Rattle.tl_base.specs.Style.{gap_of, row_gap_of, edge_of}
+use Rattle.tl_base.specs.declared.style.Style.{Style}
+use Rattle.tl_base.specs.declared.style.Style.TheVariants.{Plain, Frame}
+use Rattle.tl_base.specs.Steps.{height_at}
+use Rattle.tl_diff.specs.Bounds.{Bounds, IsGreatest, HasNoGreatest}
+use Rattle.tl_problem.specs.declared.cell.Cell.{Cell}
+use Rattle.tl_problem.specs.Sizes.{position}
+use Rattle.tl_problem.specs.Problem.{ProblemModel, cell_width}
+use Rattle.tl_problem.specs.Layouts.{WithinPage}
+use Rattle.tl_problem.specs.Sound.{IsSound, IsSoundCell, greatest_height}
+use Rattle.tl_problem.specs.Bounds.{HasNoWidths, IsGreatestRoom}
+use Rattle.tl_problem.specs.Areas.{IsBetweenRooms, IsLeastArea, IsGreatestEnd, IsRoundedUp, IsAreaBound}
+use Rattle.tl_problem.specs.Works.{places, IsLeft, KeepsPage}
+use Rattle.tl_problem.specs.inner.Demands.{cell_at}
+use Rattle.tl_problem.specs.inner.Needs.{IsLeastRoom}
+use Rattle.tl_problem.specs.inner.Least.{area_with, IsLeastStep, HaveAreas}
+use Rattle.tl_problem.specs.inner.Constraints.{widths_of}
+use Rattle.tl_problem.proofs.Heights.{height-from_first, IsLowAt-from}
+use Rattle.tl_problem.proofs.SizeLaws.{total-position, room-position, position-mono}
+use Rattle.tl_problem.proofs.NeedLemmas.{upto-push, all-most, sum-le, height-le, low-le}
+use Rattle.tl_problem.proofs.WorkLemmas.{left-from, left-position}
+use Rattle.tl_problem.proofs.ConstraintLemmas.{gap-few, gap-some}
+use Rattle.tl_problem.proofs.AreaSteps.{least-below, least-attained}
+
+abbrev no_cell : Cell
+no_cell = record { left = 0; right = 0; top = 0; bottom = 0; low = []; high = [] }
+
+row_gap-few : (style : Style) → row_gap_of style ≤ 1
+row_gap-few Plain = omega arith
+row_gap-few Frame = omega arith
+
+pub edge-few : (style : Style) → edge_of style ≤ 1
+edge-few Plain = omega arith
+edge-few Frame = omega arith
+
+-- ---- the least area of one cell
+
+module _ (problem : ProblemModel) (Among : List ℕ → Type 0) (cell : Cell) (low high first least : ℕ) (sound : IsSoundCell problem cell)
+    (narrow : IsLeastRoom problem Among cell.left cell.right low) (wide : IsGreatestRoom problem Among cell.left cell.right high)
+    (is : height_at cell.low low ≡ Some first)
+    (h : IsLeastStep (gap_of problem.style) (row_gap_of problem.style) cell.low (length cell.low) low high (area_with (gap_of problem.style) (row_gap_of problem.style) low first) least) where
+  low-high : low ≤ high
+  low-high = omega (arith, narrow.attained.2, wide.never_more narrow.attained.0 narrow.attained.1)
+
+  pub IsLeastArea-found : IsLeastArea problem Among cell least
+  IsLeastArea-found = record {
+    attained =
+        let at = least-attained (gap_of problem.style) (row_gap_of problem.style) cell.low sound.steps.0 low high first least is h low-high in (
+          at.0,
+          at.1.0,
+          record {
+            no_more = (narrow.attained.0, narrow.attained.1, omega (arith, narrow.attained.2, at.1.1.0));
+            no_less = (wide.attained.0, wide.attained.1, omega (arith, wide.attained.2, at.1.1.1.0));
+          },
+          at.1.1.1.1.0,
+          at.1.1.1.1.1,
+        );
+    never_less = λ w k between here.
+        least-below (gap_of problem.style) (row_gap_of problem.style) cell.low sound.steps.0 low high first least is h w k
+        (omega (arith, narrow.never_less between.no_more.0 between.no_more.1, between.no_more.2))
+        (omega (arith, wide.never_more between.no_less.0 between.no_less.1, between.no_less.2)) here;
+  }
+
+-- ---- the areas of all cells
+
+pub HaveAreas-none : (problem : ProblemModel) (Among : List ℕ → Type 0) → HaveAreas problem Among 0 0
+HaveAreas-none problem Among = record { areas = []; count = refl; each = λ k below. absurd (omega arith); sums = refl }
+
+pub HaveAreas-more : (problem : ProblemModel) (Among : List ℕ → Type 0) (k total least : ℕ) → HaveAreas problem Among k total → IsLeastArea problem Among (cell_at problem.cells k) least → HaveAreas problem Among (k + 1) (total + least)
+HaveAreas-more problem Among k total least h one = record {
+  areas = h.areas ++ least ∷ [];
+  count = omega (arith, length_push h.areas least, h.count);
+  each = upto-push (λ j v. IsLeastArea problem Among (cell_at problem.cells j) v) h.areas least k h.count h.each one;
+  sums = omega (arith, sum_by_push (λ x. x) h.areas least, h.sums);
+}
+
+AllZip-from : (R : Cell → ℕ → Type 0) (cells : List Cell) (ns : List ℕ) → length ns ≡ length cells → ((k : ℕ) → k < length cells → R (cell_at cells k) (get_or ns k 0)) → AllZip R cells ns
+AllZip-from R [] [] same each = tt
+AllZip-from R [] (n ∷ ns) same each = absurd (omega arith)
+AllZip-from R (c ∷ cells) [] same each = absurd (omega arith)
+AllZip-from R (c ∷ cells) (n ∷ ns) same each = (each 0 (omega arith), AllZip-from R cells ns (omega arith) (λ k within. each (suc k) (omega arith)))
+
+-- ---- rounded up
+
+upto : (a b : ℕ) → a ≤ b → a ≤ b
+upto a b h = h
+
+pub rounded-up : (n divisor : ℕ) → 0 < divisor → IsRoundedUp n divisor (div_ceil n divisor)
+rounded-up n divisor some =
+    let split = div-add-mod' n divisor in
+    let rest = mod_below n divisor some in
+    record {
+      enough = elim (cases_lt 0 (n % divisor)) [
+        | inr none ↦
+            let exact : n / divisor + min 1 (n % divisor) ≡ n / divisor = omega arith in
+            rw exact (omega (arith, split))
+        | inl more ↦
+            let up : n / divisor + min 1 (n % divisor) ≡ n / divisor + 1 = omega arith in
+            let product : (n / divisor + 1) * divisor ≡ n / divisor * divisor + divisor = grind arith in
+            rw up (omega (arith, split, rest, product))
+      ];
+      least = λ other enough. elim (cases_lt other (div_ceil n divisor)) [
+        | inr le ↦ le
+        | inl less ↦ elim (cases_lt 0 (n % divisor)) [
+          | inr none ↦
+              let below = mul-le-mul_right divisor (upto (other + 1) (n / divisor) (omega arith)) in
+              let product : (other + 1) * divisor ≡ other * divisor + divisor = grind arith in
+              absurd (omega (arith, split, below, product, enough, some))
+          | inl more ↦
+              let below = mul-le-mul_right divisor (upto other (n / divisor) (omega arith)) in
+              absurd (omega (arith, split, below, enough, more))
+        ]
+      ];
+    }
+
+-- ---- the greatest end
+
+module _ (problem : ProblemModel) (sound : IsSound problem) (bounds : Bounds) (keeps : KeepsPage problem bounds) (some : 0 < problem.cols) where
+  end-small : (widths : List ℕ) → WithinPage problem widths → position (gap_of problem.style) widths problem.cols ≤ 502
+  end-small widths page =
+      let whole = total-position (gap_of problem.style) (edge_of problem.style) widths (omega (arith, page.columns)) in
+      let at = ap (position (gap_of problem.style) widths) page.columns in
+      omega (arith, whole, at, page.page, sound.narrow, gap-few problem.style)
+
+  pub end-some : HasNoGreatest bounds 0 problem.cols → ⊥
+  end-some none =
+      let more = none (pos 1000) in
+      let widths = widths_of more.0 (gap_of problem.style) problem.cols in
+      let at = left-position problem bounds keeps more.0 more.1.0 problem.cols (omega arith) in
+      let small = end-small widths (keeps.page widths (left-from problem bounds keeps more.0 more.1.0)) in
+      omega (arith, ints, more.1.1, at, small)
+
+  pub greatest-end : (most : ℤ) → IsGreatest bounds 0 problem.cols most → (end : ℕ) × ((most ≡ pos end) × (IsGreatestEnd problem (IsLeft problem bounds) end × ((0 < end) × (end ≤ 502))))
+  greatest-end most is =
+      let x = is.reached.0 in
+      let widths = widths_of x (gap_of problem.style) problem.cols in
+      let left = left-from problem bounds keeps x is.reached.1.0 in
+      let at = left-position problem bounds keeps x is.reached.1.0 problem.cols (omega arith) in
+      let end = position (gap_of problem.style) widths problem.cols in
+      let same : most ≡ pos end = omega (arith, ints, at, is.reached.1.1) in
+      let one = position-mono (gap_of problem.style) widths 1 problem.cols (omega arith) in
+      let first : 1 ≤ position (gap_of problem.style) widths 1 = omega (arith, gap-some problem.style) in (
+        end,
+        (
+          same,
+          (
+            record {
+              attained = (widths, left, refl);
+              never_more = λ other kept. let apart = is.implied (places problem other) kept.satisfies in omega (arith, ints, apart, same);
+            },
+            (omega (arith, one, first), end-small widths (keeps.page widths left)),
+          ),
+        ),
+      )
+
+-- ---- the areas are small against the end
+
+module _ (problem : ProblemModel) (sound : IsSound problem) (Among : List ℕ → Type 0) (page : (widths : List ℕ) → Among widths → WithinPage problem widths) (end : ℕ) (greatest : IsGreatestEnd problem Among end) where
+  area-small : (k least : ℕ) → k < length problem.cells → IsLeastArea problem Among (cell_at problem.cells k) least → least ≤ end * (greatest_height (cell_at problem.cells k).high + 1)
+  area-small k least within is =
+      let cell = cell_at problem.cells k in
+      let sound_cell = sound.cells k no_cell within in
+      let widths = greatest.attained.0 in
+      let among = greatest.attained.1 in
+      let here = page widths among in
+      let w = cell_width problem widths cell in
+      let found = height-from_first cell.low sound_cell.steps.0.has_step w (here.cells k no_cell within) in
+      let high = height-from_first cell.high sound_cell.steps.1.has_step w (omega (arith, sound_cell.same_least, here.cells k no_cell within)) in
+      let low = low-le cell.low w found.0 high.0 found.1 (sound_cell.low_below high.0 w (IsLowAt-from cell.high high.0 w high.1)) in
+      let most = height-le cell.high sound_cell.steps.1 w high.0 high.1 in
+      let below = is.never_less w found.0 (record { no_more = (widths, among, omega arith); no_less = (widths, among, omega arith) }) found.1 in
+      let place = room-position (gap_of problem.style) widths cell.left cell.right sound_cell.columns.0 in
+      let far = position-mono (gap_of problem.style) widths cell.right problem.cols sound_cell.columns.1 in
+      let wide : w + gap_of problem.style ≤ end = omega (arith, place, far, greatest.attained.2) in
+      let tall : found.0 + row_gap_of problem.style ≤ greatest_height cell.high + 1 = omega (arith, low, most, row_gap-few problem.style) in
+      omega (arith, below, mul-le-mul wide tall)
+
+  scaled : (cells : List Cell) → sum_by (λ c. end * (greatest_height c.high + 1)) cells ≡ end * (sum_by (λ c. greatest_height c.high) cells + length cells)
+  scaled [] = omega arith
+  scaled (c ∷ cells) =
+      let rest = scaled cells in
+      let one = sum_by-cons (λ (x : Cell). end * (greatest_height x.high + 1)) c cells in
+      let other = sum_by-cons (λ (x : Cell). greatest_height x.high) c cells in
+      let product = spread end (greatest_height c.high) (sum_by (λ x. greatest_height x.high) cells) (length cells) in
+      one ∙ omega (arith, rest, product) ∙ ap (λ s. end * (s + length (c ∷ cells))) (sym other) where
+        spread : (e g s n : ℕ) → e * (g + 1) + e * (s + n) ≡ e * (g + s + suc n)
+        spread e g s n = grind arith
+
+  -- so few lines hold them
+  pub areas-small : (total : ℕ) → HaveAreas problem Among (length problem.cells) total → total ≤ (1073741824 + length problem.cells) * end
+  areas-small total h =
+      let each = sum-le (λ c. end * (greatest_height c.high + 1)) problem.cells h.areas h.count (λ k within. area-small k (get_or h.areas k 0) within (h.each k within)) in
+      let most = mul-le-mul (upto end end (omega arith)) (upto (sum_by (λ c. greatest_height c.high) problem.cells + length problem.cells) (1073741824 + length problem.cells) (omega (arith, sound.low_enough))) in
+      let turned : end * (1073741824 + length problem.cells) ≡ (1073741824 + length problem.cells) * end = grind arith in
+      omega (arith, each, scaled problem.cells, most, turned, h.sums)
+
+  pub area-few : (k least : ℕ) → k < length problem.cells → end ≤ 502 → IsLeastArea problem Among (cell_at problem.cells k) least → least ≤ 1099511627776
+  area-few k least within few is =
+      let small = area-small k least within is in
+      let cell = cell_at problem.cells k in
+      let one = get_or-le-sum_by (λ (c : Cell). greatest_height c.high) problem.cells k no_cell within in
+      let most = mul-le-mul few (upto (greatest_height cell.high + 1) 1073741825 (omega (arith, one, sound.low_enough))) in
+      omega (arith, small, most)
+
+  -- the areas of the first cells
+  pub areas-few : (upto total : ℕ) → upto ≤ length problem.cells → end ≤ 502 → HaveAreas problem Among upto total → total ≤ upto * 1099511627776
+  areas-few upto total within few h =
+      let all = all-most (λ x. x) 1099511627776 h.areas (λ k below. area-few k (get_or h.areas k 0) (omega (arith, h.count)) few (h.each k (omega (arith, h.count)))) in
+      omega (arith, all, h.count, h.sums)
+
+  pub IsAreaBound-found : (total : ℕ) → 0 < problem.cols → 0 < end → HaveAreas problem Among (length problem.cells) total → IsAreaBound problem Among (2 * edge_of problem.style + div_ceil total end - row_gap_of problem.style)
+  IsAreaBound-found total some_columns some h = record {
+    some = (greatest.attained.0, greatest.attained.1);
+    no_column = λ none. absurd (omega (arith, none));
+    columns = λ columns. (
+      div_ceil total end,
+      record {
+        areas = h.areas;
+        end = end;
+        least = AllZip-from (IsLeastArea problem Among) problem.cells h.areas h.count h.each;
+        greatest = greatest;
+        rounded = subst (λ n. IsRoundedUp n end (div_ceil total end)) (sym h.sums) (rounded-up total end some);
+      },
+      refl,
+    );
+  }
+
+-- ---- sets that hold each other have one area bound
+
+module _ (problem : ProblemModel) (A B : List ℕ → Type 0) (to : (widths : List ℕ) → A widths → B widths) (from : (widths : List ℕ) → B widths → A widths) where
+  between-same : (cell : Cell) (w : ℕ) → IsBetweenRooms problem A cell w → IsBetweenRooms problem B cell w
+  between-same cell w is = record {
+    no_more = (is.no_more.0, to is.no_more.0 is.no_more.1, is.no_more.2);
+    no_less = (is.no_less.0, to is.no_less.0 is.no_less.1, is.no_less.2);
+  }
+
+module _ (problem : ProblemModel) (A B : List ℕ → Type 0) (to : (widths : List ℕ) → A widths → B widths) (from : (widths : List ℕ) → B widths → A widths) where
+  least-same : (cell : Cell) (least : ℕ) → IsLeastArea problem A cell least → IsLeastArea problem B cell least
+  least-same cell least is = record {
+    attained = (is.attained.0, is.attained.1, between-same problem A B to from cell is.attained.0 is.attained.2, is.attained.3, is.attained.4);
+    never_less = λ w h between here. is.never_less w h (between-same problem B A from to cell w between) here;
+  }
+
+  zip-same : (cells : List Cell) (ns : List ℕ) → AllZip (IsLeastArea problem A) cells ns → AllZip (IsLeastArea problem B) cells ns
+  zip-same [] [] all = tt
+  zip-same [] (n ∷ ns) all = absurd all
+  zip-same (c ∷ cells) [] all = absurd all
+  zip-same (c ∷ cells) (n ∷ ns) all = (least-same c n all.0, zip-same cells ns all.1)
+
+  area-same-some : (bound : ℕ) → IsAreaBound problem A bound → IsAreaBound problem B bound
+  area-same-some bound is = record {
+    some = (is.some.0, to is.some.0 is.some.1);
+    no_column = is.no_column;
+    columns = λ columns.
+        let held = is.columns columns in (
+          held.0,
+          record {
+            areas = held.1.areas;
+            end = held.1.end;
+            least = zip-same problem.cells held.1.areas held.1.least;
+            greatest = record { attained = (held.1.greatest.attained.0, to held.1.greatest.attained.0 held.1.greatest.attained.1, held.1.greatest.attained.2); never_more = λ widths among. held.1.greatest.never_more widths (from widths among) };
+            rounded = held.1.rounded;
+          },
+          held.2,
+        );
+  }
+
+  pub area-same : (found : Option ℕ) → MatchOption found (HasNoWidths A) (IsAreaBound problem A) → MatchOption found (HasNoWidths B) (IsAreaBound problem B)
+  area-same None none = λ widths among. none widths (from widths among)
+  area-same (Some bound) is = area-same-some bound is

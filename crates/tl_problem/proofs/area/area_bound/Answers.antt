@@ -1,0 +1,42 @@
+-- The areas are small against the end, so that few lines hold them.
+use Rattle.std.proofs.Common.{◌≡◌, ◌+◌, length, arith, ap}
+use Rattle.std.specs.Int.{div_ceil}
+use Rattle.tl_base.specs.Style.{edge_of}
+use Rattle.tl_problem.specs.Works.{IsLeft}
+use Rattle.tl_problem.proofs.DemandLemmas.{few-cells}
+use Rattle.tl_problem.proofs.AreaFound.{areas-small, rounded-up, IsAreaBound-found, edge-few}
+use Rattle.tl_problem.proofs.area.area_bound.Goals as goal
+
+pub overflow_cast-lines : goal.overflow_cast-lines
+overflow_cast-lines c =
+    let p = c.args.problem.now in
+    let Among = IsLeft p c.args.matrix.now.bounds in
+    let end = c.greatest_end-end.result in
+    let total = c.sum_of_areas.result in
+    let lines : c.div_ceil-lines.result ≡ div_ceil total end = rw c.from.ensures at c.div_ceil-lines.ensures in
+    let few = few-cells p c.requires.sound in
+    let most = areas-small p c.requires.sound Among c.requires.keeps.page end c.greatest_end-end.ensures.end total c.sum_of_areas.ensures in
+    let least = (rounded-up total end c.greatest_end-end.ensures.some).least (1073741824 + length p.cells) most in
+    omega (arith, lines, few, least)
+
+pub overflow_add-edge : goal.overflow_add-edge
+overflow_add-edge c =
+    let p = c.args.problem.now in
+    let Among = IsLeft p c.args.matrix.now.bounds in
+    let end = c.greatest_end-end.result in
+    let total = c.sum_of_areas.result in
+    let lines : c.div_ceil-lines.result ≡ div_ceil total end = rw c.from.ensures at c.div_ceil-lines.ensures in
+    let few = few-cells p c.requires.sound in
+    let most = areas-small p c.requires.sound Among c.requires.keeps.page end c.greatest_end-end.ensures.end total c.sum_of_areas.ensures in
+    let least = (rounded-up total end c.greatest_end-end.ensures.some).least (1073741824 + length p.cells) most in
+    omega (arith, lines, few, least, c.edge.ensures, ap edge_of c.style-style.ensures, edge-few p.style)
+
+pub returns : goal.returns
+returns c =
+    let p = c.args.problem.now in
+    let Among = IsLeft p c.args.matrix.now.bounds in
+    let end = c.greatest_end-end.result in
+    let total = c.sum_of_areas.result in
+    let lines : c.div_ceil-lines.result ≡ div_ceil total end = rw c.from.ensures at c.div_ceil-lines.ensures in
+    rw (c.saturating_sub.ensures, c.edge.ensures, c.row_gap.ensures, c.style-style.ensures, lines)
+    (IsAreaBound-found p c.requires.sound Among c.requires.keeps.page end c.greatest_end-end.ensures.end total c.requires.columns c.greatest_end-end.ensures.some c.sum_of_areas.ensures)

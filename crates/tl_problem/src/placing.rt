@@ -1,0 +1,211 @@
+//! Placements: the least heights of rows under given widths, and tight and opening placements.
+
+ghost use Rattle.std.specs.Prelude.{◌≡◌, ℕ, ◌+◌, ◌<◌, ◌≤◌, length, sum, IfOk, IsTrue, ◌↔◌, MatchOption};
+ghost use Rattle.tl_base.specs.Steps.{AreSteps, IsLeastWidthFor, first_width, height_at};
+ghost use Rattle.tl_problem.specs.Layouts.{WithinPage};
+ghost use Rattle.tl_problem.specs.Placements.{IsOpening, IsPlacement};
+ghost use Rattle.tl_problem.specs.Sizes.{room, total};
+ghost use Rattle.tl_problem.specs.Sound.{IsSound};
+ghost use Rattle.tl_problem.specs.Tight.{IsTightFrom};
+ghost use Rattle.tl_problem.specs.inner.Needs.{NeedHigh, NeedLeast, NeedWidths};
+
+use crate::axis::Axis;
+use crate::demands::least_sizes;
+use crate::{Cell, Placed, Problem};
+use std::alloc::AllocError;
+use tl_base::{List, MAX_COLUMNS, MAX_PAGE_WIDTH, MAX_ROWS};
+
+impl Problem {
+    /// The least heights of the rows under these widths, by the `high` steps of the cells. `None`
+    /// exactly where the widths are not within the page: there is not one for each column, the total
+    /// width passes that of the page, or a cell has less than its least width.
+    pub fn place(&self, widths: &[u32]) -> Result<Option<Placed>, AllocError>
+        ensures { IfOk result (λ found. MatchOption found (WithinPage self.now widths.now → ⊥)
+            (λ placed. IsPlacement self.now placed × (placed.widths ≡ widths.now))) }
+    {
+        if !is_within_page(self, widths) {
+            return Ok(None);
+        }
+        let placed = place_under(self, widths)?;
+        Ok(Some(placed))
+    }
+
+    /// The placement at the least positions of all widths within the page.
+    pub fn opening(&self) -> Result<Placed, AllocError>
+        ensures { IfOk result (IsOpening self.now) }
+    {
+        let cells = self.cells();
+        let demands = least_needs(self, cells)?;
+        let widths = least_sizes(self, Axis::Columns, &demands)?;
+        let placed = place_under(self, widths.as_slice())?;
+        Ok(placed)
+    }
+
+    /// The placement made tight: its columns begin at the least places at which no cell needs more
+    /// lines than it does now. Neither its width nor its height is more than before, and making it
+    /// tight again changes nothing.
+    pub fn tight(&self, placed: &Placed) -> Result<Placed, AllocError>
+        requires { IsPlacement self.now placed.now }
+        ensures tight { IfOk result (IsTightFrom self.now placed.now.widths) }
+        ensures no_wider { IfOk result (λ tight. tight.width ≤ placed.now.width) }
+        ensures no_higher { IfOk result (λ tight. tight.height ≤ placed.now.height) }
+    {
+        let cells = self.cells();
+        let demands = width_needs(self, cells, placed.widths.as_slice())?;
+        let widths = least_sizes(self, Axis::Columns, &demands)?;
+        let tight = place_under(self, widths.as_slice())?;
+        Ok(tight)
+    }
+}
+
+/// Whether the widths are within the page.
+fn is_within_page(problem: &Problem, widths: &[u32]) -> bool
+    ensures { IsTrue result ↔ WithinPage problem.now widths.now }
+{
+    let cells = problem.cells();
+    let style = problem.style();
+    if widths.len() != problem.cols() as usize
+        || total_size(style.gap(), style.edge(), widths) > u64::from(problem.width())
+    {
+        return false;
+    }
+    for number in 0..cells.len() {
+        let cell = &cells[number];
+        if room_size(style.gap(), widths, cell.left, cell.right) < cell.low.least() {
+            return false;
+        }
+    }
+    true
+}
+
+/// The least heights of the rows under these widths.
+pub fn place_under(problem: &Problem, widths: &[u32]) -> Result<Placed, AllocError>
+    requires { WithinPage problem.now widths.now }
+    ensures { IfOk result (λ placed. IsPlacement problem.now placed × (placed.widths ≡ widths.now)) }
+{
+    let cells = problem.cells();
+    let demands = high_needs(problem, cells, widths)?;
+    let heights = least_sizes(problem, Axis::Rows, &demands)?;
+    let style = problem.style();
+    let width = total_size(style.gap(), style.edge(), widths) as u32;
+    let height = total_size(style.row_gap(), style.edge(), heights.as_slice()) as u32;
+    Ok(Placed {
+        widths: List::from_slice(problem.alloc(), widths)?,
+        heights,
+        width,
+        height,
+    })
+}
+
+/// The least width of each cell.
+fn least_needs(problem: &Problem, cells: &[Cell]) -> Result<Vec<u32>, AllocError>
+    requires { cells.now ≡ problem.now.cells }
+    ensures { IfOk result (λ demands. NeedLeast problem.now demands.items) }
+{
+    let mut demands = Vec::new(problem.alloc());
+    for number in 0..cells.len() {
+        demands.push(cells[number].low.least())?;
+    }
+    Ok(demands)
+}
+
+/// The height that each cell needs by `high` under these widths.
+fn high_needs(problem: &Problem, cells: &[Cell], widths: &[u32]) -> Result<Vec<u32>, AllocError>
+    requires cells { cells.now ≡ problem.now.cells }
+    requires sound { IsSound problem.now }
+    requires page { WithinPage problem.now widths.now }
+    ensures { IfOk result (λ demands. NeedHigh problem.now widths.now demands.items) }
+{
+    let gap = problem.style().gap();
+    let mut demands = Vec::new(problem.alloc());
+    for number in 0..cells.len() {
+        demands.push(high_at(gap, widths, &cells[number]))?;
+    }
+    Ok(demands)
+}
+
+/// The least width at which each cell needs no more by `high` than under these widths.
+fn width_needs(problem: &Problem, cells: &[Cell], widths: &[u32]) -> Result<Vec<u32>, AllocError>
+    requires cells { cells.now ≡ problem.now.cells }
+    requires sound { IsSound problem.now }
+    requires page { WithinPage problem.now widths.now }
+    ensures { IfOk result (λ demands. NeedWidths problem.now widths.now demands.items) }
+{
+    let gap = problem.style().gap();
+    let mut demands = Vec::new(problem.alloc());
+    for number in 0..cells.len() {
+        demands.push(width_at(gap, widths, &cells[number]))?;
+    }
+    Ok(demands)
+}
+
+/// The height that the cell needs by `high` under these widths.
+fn high_at(gap: u32, widths: &[u32], cell: &Cell) -> u32
+    requires gap { gap ≤ 2 }
+    requires sum { sum widths.now ≤ MAX_PAGE_WIDTH }
+    requires ahead { cell.now.left < cell.now.right }
+    requires within { cell.now.right ≤ length widths.now }
+    requires few { length widths.now ≤ MAX_COLUMNS }
+    requires wide { first_width cell.now.high ≤ room gap widths.now cell.now.left cell.now.right }
+    ensures { height_at cell.now.high (room gap widths.now cell.now.left cell.now.right) ≡ Some result }
+{
+    let room = room_size(gap, widths, cell.left, cell.right);
+    cell.high.height_at(room).unwrap()
+}
+
+/// The least width at which the cell needs no more by `high` than under these widths.
+fn width_at(gap: u32, widths: &[u32], cell: &Cell) -> u32
+    requires gap { gap ≤ 2 }
+    requires sum { sum widths.now ≤ MAX_PAGE_WIDTH }
+    requires ahead { cell.now.left < cell.now.right }
+    requires within { cell.now.right ≤ length widths.now }
+    requires few { length widths.now ≤ MAX_COLUMNS }
+    requires wide { first_width cell.now.high ≤ room gap widths.now cell.now.left cell.now.right }
+    requires steps { AreSteps cell.now.high }
+    ensures { (h : ℕ) × ((height_at cell.now.high (room gap widths.now cell.now.left cell.now.right) ≡ Some h)
+        × IsLeastWidthFor cell.now.high h result) }
+{
+    let height = high_at(gap, widths, cell);
+    cell.high.width_for(height).unwrap()
+}
+
+/// The total of sizes, with the gaps between them and an edge at each side.
+pub fn total_size(gap: u32, edge: u32, sizes: &[u32]) -> u64
+    requires gap { gap ≤ 2 }
+    requires edge { edge ≤ 2 }
+    requires few { length sizes.now ≤ MAX_ROWS + 1 }
+    ensures { result ≡ total gap edge sizes.now }
+{
+    if sizes.is_empty() {
+        return 0;
+    }
+    sum_of(sizes) + u64::from(gap) * (sizes.len() as u64 - 1) + 2 * u64::from(edge)
+}
+
+/// The sum of sizes.
+fn sum_of(sizes: &[u32]) -> u64
+    requires { length sizes.now ≤ MAX_ROWS + 1 }
+    ensures { result ≡ sum sizes.now }
+{
+    sizes.iter().map(|&size| u64::from(size)).sum()
+}
+
+/// The room of a span of sizes, with the gaps between them.
+pub fn room_size(gap: u32, sizes: &[u32], from: u32, past: u32) -> u32
+    requires gap { gap ≤ 2 }
+    requires sum { sum sizes.now ≤ MAX_PAGE_WIDTH }
+    requires ahead { from < past }
+    requires within { past ≤ length sizes.now }
+    requires few { length sizes.now ≤ MAX_COLUMNS }
+    ensures { result ≡ room gap sizes.now from past }
+{
+    small_sum(&sizes[from as usize..past as usize]) + gap * (past - from - 1)
+}
+
+/// The sum of sizes that fit a page.
+fn small_sum(sizes: &[u32]) -> u32
+    requires { sum sizes.now ≤ MAX_PAGE_WIDTH }
+    ensures { result ≡ sum sizes.now }
+{
+    sizes.iter().sum()
+}
