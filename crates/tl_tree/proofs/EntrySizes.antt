@@ -1,5 +1,6 @@
 -- How much the entries of marks count.
 use Rattle.std.proofs.Common.{◌≡◌, ◌≤◌, ℕ, ◌+◌, Bool, true, false, List, [], ◌∷◌, ◌++◌, length, map, sum_by, refl, sym, ap, ◌∙◌, subst, cond, arith, length-append}
+use Rattle.std.proofs.lemmas.Bool.Decides.{nat_tests}
 use Rattle.std.proofs.lemmas.List.{append-nil}
 use Rattle.std.proofs.lemmas.List.Sums.{sum_by-cons, sum_by-append}
 use Rattle.std.specs.Char.{is_ascii_whitespace, encode_utf8}
@@ -10,7 +11,7 @@ use Rattle.tl_text.specs.Words.{has_character}
 use Rattle.tl_text.specs.Paragraph.{atom_size}
 use Rattle.tl_text.specs.declared.paragraph.Atom.{Atom}
 use Rattle.tl_text.specs.declared.paragraph.Atom.TheVariants.{Word, Break}
-use Rattle.tl_text.proofs.Parts.{words_from, words_from-end, no_character}
+use Rattle.tl_text.proofs.WordLemmas.{words_from, words_from-end}
 use Rattle.tl_tree.specs.Grammar.{Mark, Marks, character, line_break}
 use Rattle.tl_tree.specs.Paragraphs.{leading, first_text, after_breaks, atoms_of, paragraph_of, entry_of, number_after, entries_after, entries_of}
 use Rattle.tl_tree.specs.Outline.{Entries, paragraph}
@@ -19,6 +20,11 @@ use Rattle.tl_tree.specs.inner.Lines.{line_atoms, line_size, open_word}
 use Rattle.tl_tree.specs.declared.flow.Line.{Line}
 use Rattle.tl_tree.proofs.Lines.{atoms_from, open_atoms, read_letter, read_white, read_line_break, read_none, read_end, open_size}
 use Rattle.tl_tree.proofs.FineMoves.{mark_size}
+
+-- a text without a character is empty
+no_character : (text : List ℕ) → has_character text ≡ false → text ≡ []
+no_character [] none = refl
+no_character (c ∷ text) none = absurd (grind (arith, nat_tests))
 
 bytes-push : (word : List ℕ) (c : ℕ) → byte_count (word ++ c ∷ []) ≡ byte_count word + length (encode_utf8 c)
 bytes-push word c =

@@ -10,3 +10,4 @@ mod Readings
 mod FineMoves
 mod EntrySizes
 mod Documents
+pub mod ReadableTokens

@@ -6,7 +6,7 @@ use Rattle.tl_tree.specs.inner.Lines.{open_word, ReadsMarks}
 use Rattle.std.specs.Str.{chars, IsUtf8}
 use Rattle.std.specs.Char.{encode_utf8}
 use Rattle.std.proofs.lemmas.Str.{chars-nil}
-use Rattle.tl_text.proofs.Bytes.{chars-push, has_character-chars}
+use Rattle.tl_base.proofs.Texts.{chars-push}
 use Rattle.std.specs.Char.{is_ascii_whitespace}
 use Rattle.std.specs.List.{AllByRecursion, list_all, list_any, onto_first}
 use Rattle.std.proofs.lemmas.Bool.{false≢true, ltb-true}
@@ -19,7 +19,7 @@ use Rattle.tl_text.specs.Words.{has_character}
 use Rattle.tl_text.specs.Paragraph.{IsParagraph, IsSolid, IsSpelt, atom_size, lined_pieces, begins_with_glue, has_leading_glue}
 use Rattle.tl_text.specs.declared.paragraph.Atom.{Atom}
 use Rattle.tl_text.specs.declared.paragraph.Atom.TheVariants.{Word, Glue, Break}
-use Rattle.tl_text.proofs.Parts.{words_from, words_from-start, words_from-letter, words_from-white, words_from-end}
+use Rattle.tl_text.proofs.WordLemmas.{words_from, words_from-start, words_from-letter, words_from-white, words_from-end, has_character-chars}
 use Rattle.tl_tree.specs.Grammar.{Marks, character, line_break}
 use Rattle.tl_tree.specs.Paragraphs.{first_text, after_breaks, atoms_of}
 use Rattle.tl_tree.specs.inner.Atoms.{is_whole}

@@ -3,7 +3,7 @@
 ghost use Rattle.std.specs.Prelude.{◌≡◌, ◌+◌, ◌<◌, ◌≤◌, ◌++◌, ◌∷◌, [], false, true, IfOk, OnOk, map, chars, string_bytes, MatchOption};
 ghost use Rattle.std.specs.List.{list_all, list_any};
 ghost use Rattle.std.specs.Char.{is_ascii_whitespace};
-ghost use Rattle.tl_text.proofs.Parts.{words_from};
+ghost use Rattle.tl_text.proofs.WordLemmas.{words_from};
 ghost use Rattle.tl_text.specs.declared.paragraph.Atom.TheVariants.{Word};
 ghost use Rattle.tl_tree.specs.inner.Atoms.{is_whole};
 

@@ -3,7 +3,7 @@ use Rattle.std.specs.Prelude.{◌≡◌, ℕ, ◌+◌, List, ◌++◌, map, sum_
 use Rattle.std.specs.List.{flat_map}
 use Rattle.tl_base.specs.Text.{byte_count}
 use Rattle.tl_text.specs.Paragraph.{atom_size}
-use Rattle.tl_text.proofs.Parts.{words_from}
+use Rattle.tl_text.proofs.WordLemmas.{words_from}
 use Rattle.tl_text.specs.declared.paragraph.Atom.{Atom}
 use Rattle.tl_text.specs.declared.paragraph.Atom.TheVariants.{Word}
 use Rattle.tl_tree.specs.Grammar.{Marks}
