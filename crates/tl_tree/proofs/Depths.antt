@@ -3,10 +3,13 @@ use Rattle.std.proofs.Common.{◌≡◌, ℕ, ◌+◌, Bool, true, false, List, 
 use Rattle.std.proofs.lemmas.Bool.{false≢true}
 use Rattle.tl_token.specs.declared.token.Spans.{Spans}
 use Rattle.tl_tree.specs.declared.node.Part.{Part}
-use Rattle.tl_tree.specs.Tags.{Section, Kind, text, table_start, table_end, caption_start, caption_end, colgroup_start, colgroup_end, col, group_start, group_end, row_start, row_end, cell_start, cell_end, br, p_or_div, inline_tag, outer_tag, lone_end, is_white, is_table_start}
+use Rattle.tl_tree.specs.Tags.{Section, Kind, text, table_start, table_end, caption_start, caption_end, colgroup_start, colgroup_end, col, group_start}
+use Rattle.tl_tree.specs.Tags.{group_end, row_start, row_end, cell_start, cell_end, br, p_or_div, inline_tag, outer_tag, lone_end, is_white, is_table_start}
 use Rattle.tl_tree.specs.Grammar.{Marks}
 use Rattle.tl_tree.specs.Spelling.{depth_with}
-use Rattle.tl_tree.specs.inner.Machine.{Holder, of_caption, of_cell, Place, opened, in_columns, in_colgroup, between, in_group, in_row, in_flow, row_of, group_of, columns_of, due, closes, same_head, in_flow_only, start_colgroup, lone_col, end_group, start_row, end_row, start_cell, Move, to, enter, leave, never, move, State, before, inside, after, failed, moved, next}
+use Rattle.tl_tree.specs.inner.Machine.{Holder, of_caption, of_cell, Place, opened, in_columns, in_colgroup, between, in_group, in_row, in_flow, row_of}
+use Rattle.tl_tree.specs.inner.Machine.{group_of, columns_of, due, closes, same_head, in_flow_only, start_colgroup, lone_col, end_group, start_row, end_row}
+use Rattle.tl_tree.specs.inner.Machine.{start_cell, Move, to, enter, leave, never, move, State, before, inside, after, failed, moved, next}
 use Rattle.tl_tree.specs.inner.Verdict.{is_failed, depth}
 
 -- only table tags enter or leave a table

@@ -1,11 +1,13 @@
 -- What has been read of a document, token by token, and what it comes to.
-use Rattle.std.proofs.Common.{◌≡◌, ◌≤◌, ◌<◌, ℕ, ◌+◌, inl, inr, true, false, Some, None, Result, Ok, Err, IfOk, OnOk, List, [], ◌∷◌, ◌++◌, length, take, drop, get_or, sum_by, refl, sym, ap, ◌∙◌, subst, arith, append_assoc, zero-add, alloc_error}
+use Rattle.std.proofs.Common.{◌≡◌, ◌≤◌, ◌<◌, ℕ, ◌+◌, inl, inr, true, false, Some, None, Result, Ok, Err, IfOk, OnOk, List, [], ◌∷◌, ◌++◌, length, take, drop}
+use Rattle.std.proofs.Common.{get_or, sum_by, refl, sym, ap, ◌∙◌, subst, arith, append_assoc, zero-add, alloc_error}
 use Rattle.std.proofs.lemmas.Bool.{false≢true}
 use Rattle.std.proofs.lemmas.List.{append-nil, map-append, take_more, take-append-drop, at_drop_more, take_all}
 use Rattle.std.proofs.lemmas.List.Sums.{sum_by-cons, sum_by-append}
 use Rattle.std.proofs.lemmas.Str.{length-le-encodes}
 use Rattle.std.specs.List.{AllByRecursion}
 use Rattle.std.specs.Prelude.{IfErr}
+use Rattle.tl_base.specs.declared.limits.TheConstants.{MAX_FILE_BYTES, MAX_DEPTH, MAX_TABLES}
 use Rattle.tl_base.specs.Returned.{ReturnsError, IsMemoryOr}
 use Rattle.tl_token.specs.declared.token.Token.{Token}
 use Rattle.tl_tree.specs.declared.error.TreeError.{TreeError}
@@ -22,14 +24,16 @@ use Rattle.tl_tree.specs.Outline.{outline}
 use Rattle.tl_tree.specs.Paragraphs.{paragraph_of, entries_of}
 use Rattle.tl_tree.specs.Readable.{IsReadable, kind_size}
 use Rattle.tl_tree.specs.Sound.{entry_size}
-use Rattle.tl_tree.specs.Spelling.{SpellsTree, IsWithinLimits, depth_with, depth_after, tables_with, tables_after, FitsLimits, FitLimits, IsRefused, Refused, ReturnsTree}
+use Rattle.tl_tree.specs.Spelling.{SpellsTree, IsWithinLimits, depth_with, depth_after, tables_with, tables_after, FitsLimits, FitLimits, IsRefused, Refused}
+use Rattle.tl_tree.specs.Spelling.{ReturnsTree}
 use Rattle.tl_tree.specs.inner.Machine.{State, before, next, told, reached, all_told}
 use Rattle.tl_tree.specs.inner.Verdict.{is_failed, depth, misfit, end_fault, verdict}
 use Rattle.tl_tree.specs.inner.Lines.{line_atoms, blocks_outline}
 use Rattle.tl_tree.specs.inner.Reading.{place_of, place_columns, open_size, holder_so_far, outcome}
 use Rattle.tl_tree.specs.inner.Documents.{around, state_of, IsModestReading, IsFresh, Reads, IsStop, stop_error, HasRead}
 use Rattle.tl_tree.proofs.MachineSound.{document_sound}
-use Rattle.tl_tree.proofs.Verdicts.{reached-append, depth-reached, passes, refused_first, first_refused, document_clean, same_marks, no_table, wrong_at, misfit_fault, table_fault, deep_fault, many_fault}
+use Rattle.tl_tree.proofs.Verdicts.{reached-append, depth-reached, passes, refused_first, first_refused, document_clean, same_marks, no_table, wrong_at}
+use Rattle.tl_tree.proofs.Verdicts.{misfit_fault, table_fault, deep_fault, many_fault}
 use Rattle.tl_tree.proofs.FineMoves.{state_columns, few_columns, small_marks}
 use Rattle.tl_tree.proofs.EntrySizes.{entries_size, paragraph_size, open_line_size}
 
@@ -75,13 +79,13 @@ stopped ks front rest k tables reading stops.Misfit split h stop =
     (misfit_fault _ _ _ k dead ∙ ap (λ n. Some (misfit n k)) (zero-add (length front))))
 stopped ks front rest k tables reading stops.TooDeep split h (table, goes, deep) =
     let alive : is_failed (next (reached before front) k) ≡ false = ap (λ s. is_failed (next s k)) h.goes ∙ goes in
-    let d : 8 ≤ depth (reached before front) = (let P : ℕ → Type 0 = λ n. 8 ≤ n in subst P (sym (ap depth h.goes)) deep) in
+    let d : MAX_DEPTH ≤ depth (reached before front) = (let P : ℕ → Type 0 = λ n. MAX_DEPTH ≤ n in subst P (sym (ap depth h.goes)) deep) in
     inr (wrong_at ks front k rest (TooDeep (length front)) split (ap is_failed h.goes ∙ h.alive) h.within
     (table_fault _ _ _ k table alive ∙ deep_fault _ _ _ _ d (zero-add (length front))))
 stopped ks front rest k tables reading stops.TooManyTables split h (table, goes, shallow, many) =
     let alive : is_failed (next (reached before front) k) ≡ false = ap (λ s. is_failed (next s k)) h.goes ∙ goes in
-    let d : depth (reached before front) < 8 = (let P : ℕ → Type 0 = λ n. n < 8 in subst P (sym (ap depth h.goes)) shallow) in
-    let m : 200 ≤ tables_after 0 front = (let P : ℕ → Type 0 = λ n. 200 ≤ n in subst P h.counted many) in
+    let d : depth (reached before front) < MAX_DEPTH = (let P : ℕ → Type 0 = λ n. n < MAX_DEPTH in subst P (sym (ap depth h.goes)) shallow) in
+    let m : MAX_TABLES ≤ tables_after 0 front = (let P : ℕ → Type 0 = λ n. MAX_TABLES ≤ n in subst P h.counted many) in
     inr (wrong_at ks front k rest (TooManyTables (length front)) split (ap is_failed h.goes ∙ h.alive) h.within
     (table_fault _ _ _ k table alive ∙ many_fault _ _ _ _ d m (zero-add (length front))))
 
@@ -146,7 +150,7 @@ flow_size (stages.Flow holder flow) k =
     omega arith
 
 pub modest : (front : Kinds) (tables : ℕ) (reading : Reading) → HasRead front tables reading → AllByRecursion IsReadable front
-    → sum_by kind_size front ≤ 1048576 → IsModestReading reading
+    → sum_by kind_size front ≤ MAX_FILE_BYTES → IsModestReading reading
 modest front tables Before h readable small = tt
 modest front tables (After node) h readable small = tt
 modest front tables (Inside outer t) h readable small =
@@ -161,11 +165,11 @@ modest front tables (Inside outer t) h readable small =
     let part = flow_size t tables in
     record { few_columns = omega arith; small = omega arith }
 
-pub few_tables : (d t : ℕ) (ks : Kinds) → t ≤ 200 → FitLimits d t ks → tables_after t ks ≤ 200
+pub few_tables : (d t : ℕ) (ks : Kinds) → t ≤ MAX_TABLES → FitLimits d t ks → tables_after t ks ≤ MAX_TABLES
 few_tables d t [] h fits = h
 few_tables d t (k ∷ ks) h fits = few_tables (depth_with d k) (tables_with t k) ks (with_fits d t k h fits.0) fits.1
   where
-    with_fits : (d t : ℕ) (k : Kind) → t ≤ 200 → FitsLimits d t k → tables_with t k ≤ 200
+    with_fits : (d t : ℕ) (k : Kind) → t ≤ MAX_TABLES → FitsLimits d t k → tables_with t k ≤ MAX_TABLES
     with_fits d t table_start h fits = let f = fits.1 in omega arith
     with_fits d t _ h fits = h
 
@@ -196,7 +200,7 @@ all_front (k ∷ front) rest h = let (a, b) = all_front front rest h.1 in ((h.0,
 pub readable_parts : (ks front rest : Kinds) → ks ≡ front ++ rest → AllByRecursion IsReadable ks → AllByRecursion IsReadable front × AllByRecursion IsReadable rest
 readable_parts ks front rest split h = all_front front rest (subst (λ (x : Kinds). AllByRecursion IsReadable x) split h)
 
-pub small_front : (ks front rest : Kinds) → ks ≡ front ++ rest → sum_by kind_size ks ≤ 1048576 → sum_by kind_size front ≤ 1048576
+pub small_front : (ks front rest : Kinds) → ks ≡ front ++ rest → sum_by kind_size ks ≤ MAX_FILE_BYTES → sum_by kind_size front ≤ MAX_FILE_BYTES
 small_front ks front rest split h =
     let e : sum_by kind_size ks ≡ sum_by kind_size (front ++ rest) = ap (λ x. sum_by kind_size x) split in
     let s = sum_by-append kind_size front rest in

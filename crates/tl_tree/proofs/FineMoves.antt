@@ -1,19 +1,24 @@
 -- What a token that is readable leads to: few more columns, marks that count no more than the token, and
 -- numbers in their ranges.
-use Rattle.std.proofs.Common.{◌≡◌, ◌≤◌, ℕ, ◌+◌, ◌*◌, Bool, true, false, ◌||◌, List, [], ◌∷◌, ◌++◌, length, map, sum_by, refl, sym, ap, ◌∙◌, cond, arith, length-append}
+use Rattle.std.proofs.Common.{◌≡◌, ◌≤◌, ℕ, ◌+◌, ◌*◌, Bool, true, false, ◌||◌, List, [], ◌∷◌, ◌++◌, length, map, sum_by, refl, sym, ap, ◌∙◌, cond, arith}
+use Rattle.std.proofs.Common.{length-append}
 use Rattle.std.proofs.lemmas.Bool.{false≢true}
 use Rattle.std.proofs.lemmas.List.Sums.{sum_by-cons, sum_by-append}
 use Rattle.std.specs.List.{AllByRecursion, list_any}
 use Rattle.std.specs.Char.{encode_utf8}
 use Rattle.std.specs.Str.{encode_utf8_all}
+use Rattle.tl_base.specs.declared.limits.TheConstants.{MAX_COLSPAN}
 use Rattle.tl_base.specs.Text.{byte_count}
 use Rattle.tl_token.specs.Characters.{is_control}
 use Rattle.tl_token.specs.declared.token.Spans.{Spans}
-use Rattle.tl_tree.specs.Tags.{Section, part_of, Kind, Kinds, text, table_start, table_end, caption_start, caption_end, colgroup_start, colgroup_end, col, group_start, group_end, row_start, row_end, cell_start, cell_end, br, p_or_div, inline_tag, outer_tag, lone_end, is_white}
+use Rattle.tl_tree.specs.Tags.{Section, part_of, Kind, Kinds, text, table_start, table_end, caption_start, caption_end, colgroup_start, colgroup_end, col}
+use Rattle.tl_tree.specs.Tags.{group_start, group_end, row_start, row_end, cell_start, cell_end, br, p_or_div, inline_tag, outer_tag, lone_end, is_white}
 use Rattle.tl_tree.specs.Grammar.{Mark, Marks, table_begins, columns, group_begins, row_begins, cell_begins, character, line_break, paragraph_ends, table_ends}
 use Rattle.tl_tree.specs.Sound.{IsCellInRange}
 use Rattle.tl_tree.specs.Readable.{IsReadable, kind_size}
-use Rattle.tl_tree.specs.inner.Machine.{Holder, of_caption, of_cell, Place, opened, in_columns, in_colgroup, between, in_group, in_row, in_flow, due, closes, same_head, Move, to, enter, leave, never, move, State, before, inside, after, failed, left, moved, marks_of, next, told, reached, all_told}
+use Rattle.tl_tree.specs.inner.Machine.{Holder, of_caption, of_cell, Place, opened, in_columns, in_colgroup, between, in_group, in_row, in_flow, due, closes}
+use Rattle.tl_tree.specs.inner.Machine.{same_head, Move, to, enter, leave, never, move, State, before, inside, after, failed, left, moved, marks_of, next}
+use Rattle.tl_tree.specs.inner.Machine.{told, reached, all_told}
 use Rattle.tl_tree.specs.inner.Reading.{place_columns}
 
 -- how much a mark counts
@@ -33,7 +38,7 @@ IsFineMark n (character c) = is_control c ≡ false
 IsFineMark n _ = Unit {0}
 
 abbrev FineMove : Place → Kind → Move → Type 0
-FineMove p k (to q ms) = (place_columns q ≤ place_columns p + 1000) × (sum_by mark_size ms ≤ kind_size k) × AllByRecursion (IsFineMark (place_columns p)) ms
+FineMove p k (to q ms) = (place_columns q ≤ place_columns p + MAX_COLSPAN) × (sum_by mark_size ms ≤ kind_size k) × AllByRecursion (IsFineMark (place_columns p)) ms
 FineMove p k (enter holder) = 1 ≤ kind_size k
 FineMove p k (leave ms) = (sum_by mark_size ms ≤ kind_size k) × AllByRecursion (IsFineMark (place_columns p)) ms
 FineMove p k never = Unit {0}
@@ -59,7 +64,7 @@ fine_if true p q k ms h = h
 fine_if false p q k ms h = tt
 
 -- a move without a mark, or with marks that count nothing
-plain : (p q : Place) (k : Kind) → place_columns q ≤ place_columns p + 1000 → FineMove p k (to q [])
+plain : (p q : Place) (k : Kind) → place_columns q ≤ place_columns p + MAX_COLSPAN → FineMove p k (to q [])
 plain p q k h = (h, omega arith, tt)
 
 text_moves : (cs : List ℕ) → IsReadable (text cs) → (p : Place) → FineMove p (text cs) (move p (text cs))
@@ -103,7 +108,7 @@ caption_end_moves : (p : Place) → FineMove p caption_end (move p caption_end)
 caption_end_moves (in_flow of_caption) = (omega arith, omega arith, (tt, tt))
 caption_end_moves _ = tt
 
-colgroup_moves : (span : ℕ) → span ≤ 1000 → (p : Place) → FineMove p (colgroup_start span) (move p (colgroup_start span))
+colgroup_moves : (span : ℕ) → span ≤ MAX_COLSPAN → (p : Place) → FineMove p (colgroup_start span) (move p (colgroup_start span))
 colgroup_moves span h opened = (omega arith, omega arith, tt)
 colgroup_moves span h (in_columns n) = (omega arith, omega arith, tt)
 colgroup_moves span h (in_colgroup n pending) = (omega arith, omega arith, tt)
@@ -114,7 +119,7 @@ colgroup_end_moves : (p : Place) → FineMove p colgroup_end (move p colgroup_en
 colgroup_end_moves (in_colgroup n pending) = (omega arith, omega arith, tt)
 colgroup_end_moves _ = tt
 
-col_moves : (span : ℕ) → span ≤ 1000 → (p : Place) → FineMove p (col span) (move p (col span))
+col_moves : (span : ℕ) → span ≤ MAX_COLSPAN → (p : Place) → FineMove p (col span) (move p (col span))
 col_moves span h opened = (omega arith, omega arith, tt)
 col_moves span h (in_columns n) = (omega arith, omega arith, tt)
 col_moves span h (in_colgroup n pending) = (omega arith, omega arith, tt)
@@ -193,7 +198,7 @@ state_columns _ = 0
 
 -- the same of a whole step
 pub record FineStep (s : State) (k : Kind) : Type 0 where
-  pub few : state_columns (next s k) ≤ state_columns s + 1000
+  pub few : state_columns (next s k) ≤ state_columns s + MAX_COLSPAN
   pub small : sum_by mark_size (told s k) ≤ kind_size k
   pub fine : AllByRecursion (IsFineMark (state_columns s)) (told s k)
 
@@ -202,13 +207,13 @@ left_columns [] = refl
 left_columns (holder ∷ hs) = refl
 
 moved_step : (p : Place) (hs : List Holder) (k : Kind) (m : Move) → FineMove p k m
-    → (state_columns (moved hs m) ≤ place_columns p + 1000) × (sum_by mark_size (marks_of m) ≤ kind_size k) × AllByRecursion (IsFineMark (place_columns p)) (marks_of m)
+    → (state_columns (moved hs m) ≤ place_columns p + MAX_COLSPAN) × (sum_by mark_size (marks_of m) ≤ kind_size k) × AllByRecursion (IsFineMark (place_columns p)) (marks_of m)
 moved_step p hs k (to q ms) h = h
 moved_step p hs k (enter holder) h = (omega arith, h, (tt, tt))
 moved_step p hs k (leave ms) h = (let e = left_columns hs in omega arith, h.0, h.1)
 moved_step p hs k never h = (omega arith, omega arith, tt)
 
-no_columns_if : (b : Bool) (s : State) → state_columns s ≡ 0 → state_columns (cond b s failed) ≤ 1000
+no_columns_if : (b : Bool) (s : State) → state_columns s ≡ 0 → state_columns (cond b s failed) ≤ MAX_COLSPAN
 no_columns_if true s h = omega arith
 no_columns_if false s h = omega arith
 
@@ -224,7 +229,7 @@ fine_step after _ h = record { few = omega arith; small = omega arith; fine = tt
 fine_step failed k h = record { few = omega arith; small = omega arith; fine = tt }
 
 -- and of steps one after another
-pub few_columns : (s : State) (ks : Kinds) → AllByRecursion IsReadable ks → state_columns (reached s ks) ≤ state_columns s + 1000 * length ks
+pub few_columns : (s : State) (ks : Kinds) → AllByRecursion IsReadable ks → state_columns (reached s ks) ≤ state_columns s + MAX_COLSPAN * length ks
 few_columns s [] h = omega arith
 few_columns s (k ∷ ks) (here, later) = let a = (fine_step s k here).few in let b = few_columns (next s k) ks later in omega arith
 

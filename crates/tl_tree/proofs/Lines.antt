@@ -1,6 +1,8 @@
 -- The paragraph that is open, as its text comes.
-use Rattle.std.proofs.Common.{◌≡◌, ◌<◌, ◌≤◌, ℕ, ◌+◌, Bool, true, false, not, ◌&&◌, ◌||◌, List, [], ◌∷◌, ◌++◌, length, map, sum_by, refl, sym, ap, ◌∙◌, subst, cond, arith, append_assoc, Result, Ok, Err, OnOk}
+use Rattle.std.proofs.Common.{◌≡◌, ◌<◌, ◌≤◌, ℕ, ◌+◌, Bool, true, false, not, ◌&&◌, ◌||◌, List, [], ◌∷◌, ◌++◌, length, map, sum_by, refl, sym, ap, ◌∙◌, subst}
+use Rattle.std.proofs.Common.{cond, arith, append_assoc, Result, Ok, Err, OnOk}
 use Rattle.std.specs.Prelude.{OnErr, is_ok, Option, Some, None, MatchOption, SomeIff, string_bytes}
+use Rattle.tl_base.specs.declared.limits.TheConstants.{MAX_FILE_BYTES}
 use Rattle.tl_tree.specs.declared.flow.Line.{Line}
 use Rattle.tl_tree.specs.inner.Lines.{open_word, ReadsMarks}
 use Rattle.std.specs.Str.{chars, IsUtf8}
@@ -133,7 +135,7 @@ begun_whole (Word text ∷ atoms) h = begun_onto text (lined_pieces atoms) (begu
 begun_whole (Glue text ∷ atoms) h = absurd (false≢true h)
 begun_whole (Break ∷ atoms) h = begun_whole atoms h
 
-pub whole_paragraph : (atoms : List Atom) → 0 < length atoms → list_all is_whole atoms ≡ true → sum_by atom_size atoms ≤ 1048576 → IsParagraph atoms
+pub whole_paragraph : (atoms : List Atom) → 0 < length atoms → list_all is_whole atoms ≡ true → sum_by atom_size atoms ≤ MAX_FILE_BYTES → IsParagraph atoms
 whole_paragraph atoms some whole small = record {
   has_atom = some;
   begun = begun_whole atoms whole;
@@ -221,7 +223,7 @@ reads_white (Err error) old new c atoms word white = tt
 
 -- the paragraph that ends, if it has an atom
 pub ends_paragraph : (o : Option (List Atom)) (atoms all : List Atom) → SomeIff o (IsParagraph atoms) atoms → atoms ≡ all
-    → list_all is_whole atoms ≡ true → sum_by atom_size atoms ≤ 1048576 → MatchOption o (all ≡ []) (λ p. p ≡ all)
+    → list_all is_whole atoms ≡ true → sum_by atom_size atoms ≤ MAX_FILE_BYTES → MatchOption o (all ≡ []) (λ p. p ≡ all)
 ends_paragraph (Some p) atoms all given same whole small = given.1 ∙ same
 ends_paragraph None [] all given same whole small = sym same
 ends_paragraph None (atom ∷ atoms) all given same whole small = absurd (given (whole_paragraph (atom ∷ atoms) (omega arith) whole small))

@@ -6,9 +6,17 @@ use Rattle.std.specs.Prelude.{map, sum}
 use Rattle.tl_token.specs.declared.token.Spans.{Spans}
 use Rattle.tl_tree.specs.declared.node.Part.{Part}
 use Rattle.tl_tree.specs.declared.node.Part.TheVariants.{Loose, Head, Body, Foot}
-use Rattle.tl_tree.specs.Tags.{Section, thead, tbody, tfoot, part_of, Kind, Kinds, text, table_start, table_end, caption_start, caption_end, colgroup_start, colgroup_end, col, group_start, group_end, row_start, row_end, cell_start, cell_end, br, p_or_div, inline_tag, outer_tag, lone_end, is_white, is_row_start, is_col, begins_with}
-use Rattle.tl_tree.specs.Grammar.{Mark, Marks, table_begins, caption_begins, columns, group_begins, row_begins, cell_begins, character, line_break, paragraph_ends, table_ends, Spaces, no_space, space, Ended, by_tag, left_out, Cols, no_col, col_space, next_col, colgroup_columns, Columns, no_columns, colgroup, lone_col, Flow, no_flow, words, break, edge, inline, nested, Table, table, Caption, no_caption, caption, Cells, no_cell, cell, Rows, no_row, row, Parts, no_part, group, loose_rows, Outer, no_outer, outer_space, outer, Document}
-use Rattle.tl_tree.specs.inner.Machine.{Holder, of_caption, of_cell, Place, opened, in_columns, in_colgroup, between, in_group, in_row, in_flow, due, closes, Move, to, enter, leave, never, move, State, before, inside, after, failed, left, moved, marks_of, next, told, reached, all_told, Accepts}
+use Rattle.tl_tree.specs.Tags.{Section, thead, tbody, tfoot, part_of, Kind, Kinds, text, table_start, table_end, caption_start, caption_end, colgroup_start}
+use Rattle.tl_tree.specs.Tags.{colgroup_end, col, group_start, group_end, row_start, row_end, cell_start, cell_end, br, p_or_div, inline_tag, outer_tag}
+use Rattle.tl_tree.specs.Tags.{lone_end, is_white, is_row_start, is_col, begins_with}
+use Rattle.tl_tree.specs.Grammar.{Mark, Marks, table_begins, caption_begins, columns, group_begins, row_begins, cell_begins, character, line_break}
+use Rattle.tl_tree.specs.Grammar.{paragraph_ends, table_ends, Spaces, no_space, space, Ended, by_tag, left_out, Cols, no_col, col_space, next_col}
+use Rattle.tl_tree.specs.Grammar.{colgroup_columns, Columns, no_columns, colgroup, lone_col, Flow, no_flow, words, break, edge, inline, nested, Table, table}
+use Rattle.tl_tree.specs.Grammar.{Caption, no_caption, caption, Cells, no_cell, cell, Rows, no_row, row, Parts, no_part, group, loose_rows, Outer, no_outer}
+use Rattle.tl_tree.specs.Grammar.{outer_space, outer, Document}
+use Rattle.tl_tree.specs.inner.Machine.{Holder, of_caption, of_cell, Place, opened, in_columns, in_colgroup, between, in_group, in_row, in_flow, due, closes}
+use Rattle.tl_tree.specs.inner.Machine.{Move, to, enter, leave, never, move, State, before, inside, after, failed, left, moved, marks_of, next, told, reached}
+use Rattle.tl_tree.specs.inner.Machine.{all_told, Accepts}
 use Rattle.tl_tree.proofs.Moves.{no_way, is_plain}
 
 -- Each type has the rest of a table as it goes on from a place, up to what follows the table.

@@ -5,10 +5,18 @@ use Rattle.std.proofs.lemmas.List.Sums.{sum_by-cons}
 use Rattle.std.specs.Prelude.{map, sum}
 use Rattle.tl_tree.specs.declared.node.Part.{Part}
 use Rattle.tl_tree.specs.declared.node.Part.TheVariants.{Loose}
-use Rattle.tl_tree.specs.Tags.{part_of, Kind, Kinds, text, table_start, table_end, caption_end, colgroup_start, colgroup_end, col, group_start, group_end, row_start, row_end, cell_start, cell_end, caption_start, br, p_or_div, inline_tag, is_white, is_row_start, is_col, begins_with}
-use Rattle.tl_tree.specs.Grammar.{Marks, table_begins, caption_begins, cell_begins, line_break, columns, group_begins, row_begins, character, paragraph_ends, table_ends, Spaces, no_space, space, Ended, by_tag, left_out, Cols, no_col, col_space, next_col, colgroup_columns, Columns, no_columns, colgroup, lone_col, Flow, no_flow, words, break, edge, inline, nested, Table, table, Caption, no_caption, caption, Cells, no_cell, cell, Rows, no_row, row, Parts, no_part, group, loose_rows, Outer, no_outer, outer_space, outer, Document}
-use Rattle.tl_tree.specs.inner.Machine.{Holder, of_caption, of_cell, Place, opened, in_columns, in_colgroup, between, in_group, in_row, in_flow, Move, to, enter, leave, never, closes, same_head, move, State, before, inside, after, left, moved, marks_of, next, told, reached, all_told, Accepts}
-use Rattle.tl_tree.proofs.Moves.{no_way, same_head-refl, closes-own, is_plain, white_stays, told_first, is_entry, Alike, nowhere, alike, cell_as_row, row_as_group, group_as_between, columns_as_between, colgroup_as_columns, caption_as_columns, opened_as_columns}
+use Rattle.tl_tree.specs.Tags.{part_of, Kind, Kinds, text, table_start, table_end, caption_end, colgroup_start, colgroup_end, col, group_start, group_end}
+use Rattle.tl_tree.specs.Tags.{row_start, row_end, cell_start, cell_end, caption_start, br, p_or_div, inline_tag, is_white, is_row_start, is_col, begins_with}
+use Rattle.tl_tree.specs.Grammar.{Marks, table_begins, caption_begins, cell_begins, line_break, columns, group_begins, row_begins, character, paragraph_ends}
+use Rattle.tl_tree.specs.Grammar.{table_ends, Spaces, no_space, space, Ended, by_tag, left_out, Cols, no_col, col_space, next_col, colgroup_columns, Columns}
+use Rattle.tl_tree.specs.Grammar.{no_columns, colgroup, lone_col, Flow, no_flow, words, break, edge, inline, nested, Table, table, Caption, no_caption}
+use Rattle.tl_tree.specs.Grammar.{caption, Cells, no_cell, cell, Rows, no_row, row, Parts, no_part, group, loose_rows, Outer, no_outer, outer_space, outer}
+use Rattle.tl_tree.specs.Grammar.{Document}
+use Rattle.tl_tree.specs.inner.Machine.{Holder, of_caption, of_cell, Place, opened, in_columns, in_colgroup, between, in_group, in_row, in_flow, Move, to}
+use Rattle.tl_tree.specs.inner.Machine.{enter, leave, never, closes, same_head, move, State, before, inside, after, left, moved, marks_of, next, told}
+use Rattle.tl_tree.specs.inner.Machine.{reached, all_told, Accepts}
+use Rattle.tl_tree.proofs.Moves.{no_way, same_head-refl, closes-own, is_plain, white_stays, told_first, is_entry, Alike, nowhere, alike, cell_as_row}
+use Rattle.tl_tree.proofs.Moves.{row_as_group, group_as_between, columns_as_between, colgroup_as_columns, caption_as_columns, opened_as_columns}
 
 -- a token that moves to a place from which the rest is accepted
 pub by_move : (p q : Place) (hs : List Holder) (k : Kind) (ns : Marks) {ks : Kinds} {ms : Marks} → move p k ≡ to q ns

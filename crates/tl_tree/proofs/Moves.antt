@@ -2,9 +2,12 @@
 use Rattle.std.proofs.Common.{◌≡◌, ℕ, ◌+◌, Bool, true, false, List, [], ◌∷◌, ◌++◌, refl, sym, ◌∙◌, cond}
 use Rattle.std.proofs.lemmas.Bool.{false≢true}
 use Rattle.tl_tree.specs.declared.node.Part.{Part}
-use Rattle.tl_tree.specs.Tags.{Section, thead, tbody, tfoot, part_of, Kind, Kinds, text, table_start, table_end, caption_start, caption_end, colgroup_start, colgroup_end, col, group_start, group_end, row_start, row_end, cell_start, cell_end, br, p_or_div, inline_tag, outer_tag, lone_end, is_white, is_row_start, is_col}
+use Rattle.tl_tree.specs.Tags.{Section, thead, tbody, tfoot, part_of, Kind, Kinds, text, table_start, table_end, caption_start, caption_end, colgroup_start}
+use Rattle.tl_tree.specs.Tags.{colgroup_end, col, group_start, group_end, row_start, row_end, cell_start, cell_end, br, p_or_div, inline_tag, outer_tag}
+use Rattle.tl_tree.specs.Tags.{lone_end, is_white, is_row_start, is_col}
 use Rattle.tl_tree.specs.Grammar.{Marks, columns, paragraph_ends}
-use Rattle.tl_tree.specs.inner.Machine.{of_caption, of_cell, Place, opened, in_columns, in_colgroup, between, in_group, in_row, in_flow, Move, to, enter, leave, never, closes, same_head, move, after, failed, reached}
+use Rattle.tl_tree.specs.inner.Machine.{of_caption, of_cell, Place, opened, in_columns, in_colgroup, between, in_group, in_row, in_flow, Move, to, enter}
+use Rattle.tl_tree.specs.inner.Machine.{leave, never, closes, same_head, move, after, failed, reached}
 
 -- once failed, always failed
 pub reached-failed : (ks : Kinds) → reached failed ks ≡ failed

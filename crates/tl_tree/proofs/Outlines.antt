@@ -6,7 +6,8 @@ use Rattle.std.specs.declared.boxed.Box.{Box}
 use Rattle.std.specs.declared.alloc.Global.{Global}
 use Rattle.tl_text.specs.declared.paragraph.Atom.{Atom}
 use Rattle.std.specs.List.{flat_map}
-use Rattle.tl_tree.specs.Outline.{Entries, table, caption, columns, group, row, cell, paragraph, table_end, joined, row_entries, block_entries, cell_entries, group_entries, table_entries, block_outline, cell_outline, group_outline, outline}
+use Rattle.tl_tree.specs.Outline.{Entries, table, caption, columns, group, row, cell, paragraph, table_end, joined, row_entries, block_entries, cell_entries}
+use Rattle.tl_tree.specs.Outline.{group_entries, table_entries, block_outline, cell_outline, group_outline, outline}
 use Rattle.tl_tree.specs.declared.node.Block.{Block, Table, roll-Block, fold-roll-Block}
 use Rattle.tl_tree.specs.inner.Reading.{caption_outline}
 use Rattle.tl_tree.specs.declared.node.Block.TheViews.{rolls-Table}

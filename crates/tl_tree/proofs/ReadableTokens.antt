@@ -1,5 +1,6 @@
 -- What `tokens` returns is what `tree` reads.
-use Rattle.std.proofs.Common.{◌≡◌, ◌<◌, ◌≤◌, ℕ, ◌+◌, Bool, true, false, not, ◌&&◌, ◌||◌, List, [], ◌∷◌, Option, Some, None, length, map, sum_by, refl, sym, ap, ◌∙◌, subst, inl, inr, cond, arith, drop}
+use Rattle.std.proofs.Common.{◌≡◌, ◌<◌, ◌≤◌, ℕ, ◌+◌, Bool, true, false, not, ◌&&◌, ◌||◌, List, [], ◌∷◌, Option, Some, None, length, map, sum_by, refl, sym}
+use Rattle.std.proofs.Common.{ap, ◌∙◌, subst, inl, inr, cond, arith, drop}
 use Rattle.std.specs.Prelude.{max, min}
 use Rattle.std.specs.List.{AllByRecursion, list_any}
 use Rattle.std.specs.Char.{is_ascii_hexdigit, is_ascii_digit, is_ascii_alphanumeric}
@@ -7,13 +8,15 @@ use Rattle.std.proofs.lemmas.Bool.{false≢true}
 use Rattle.std.proofs.lemmas.Int.{clamps}
 use Rattle.std.proofs.lemmas.List.Sums.{sum_by-cons}
 use lib.Utf8.{scalar}
+use Rattle.tl_base.specs.declared.limits.TheConstants.{MAX_FILE_BYTES, MAX_COLSPAN, MAX_ROWSPAN, MAX_PAGE_WIDTH}
 use Rattle.tl_base.specs.Text.{byte_count}
 use Rattle.tl_token.specs.Characters.{◌∈◌, is_control, begins}
 use Rattle.tl_token.specs.Numbers.{number, columns_of, rows_of, floor_of}
 use Rattle.tl_token.specs.Elements.{Attribute, Tag, kind_of, spans_of}
 use Rattle.tl_token.specs.Grammar.{named_character, numbered_character, ended_run, referred, numeric_reference, reference, Piece, hidden, tag}
 use Rattle.tl_token.specs.Grammar.{character, Stands, comment, doctype, markup, by_reference, plain}
-use Rattle.tl_token.specs.Spelling.{Part, place_of, Leads, here, next, token, join_before, character_before, piece_before, tokens_of, token_size, size_of, SpellsTokens}
+use Rattle.tl_token.specs.Spelling.{Part, place_of, Leads, here, next, token, join_before, character_before, piece_before, tokens_of, token_size, size_of}
+use Rattle.tl_token.specs.Spelling.{SpellsTokens}
 use Rattle.tl_token.specs.declared.token.Element.{Element}
 use Rattle.tl_token.specs.declared.token.Element.TheVariants.{Table, Caption, Colgroup, Col, Thead, Tbody, Tfoot, Tr, Td, Th, Br, P, Div, Inline, Outer}
 use Rattle.tl_token.specs.declared.token.Spans.{Spans}
@@ -77,15 +80,15 @@ reference_plain cs d rest h = elim (chosen (λ (o : Option (Option ℕ × List �
 ]
 
 -- the numbers of a start tag
-some_columns : (n : Option ℕ) → (0 < columns_of n) × (columns_of n ≤ 1000)
+some_columns : (n : Option ℕ) → (0 < columns_of n) × (columns_of n ≤ MAX_COLSPAN)
 some_columns None = (omega arith, omega arith)
 some_columns (Some n) = (omega (arith, clamps), omega (arith, clamps))
 
-few_rows : (n : Option ℕ) → rows_of n ≤ 65534
+few_rows : (n : Option ℕ) → rows_of n ≤ MAX_ROWSPAN
 few_rows None = omega arith
 few_rows (Some n) = omega (arith, clamps)
 
-narrow : (n : Option ℕ) → floor_of n ≤ 500
+narrow : (n : Option ℕ) → floor_of n ≤ MAX_PAGE_WIDTH
 narrow None = omega arith
 narrow (Some n) = omega (arith, clamps)
 
@@ -209,7 +212,7 @@ same_size (t ∷ later) =
     omega (arith, h, k, sum_by-cons kind_size (class_of (t.kind)) (kinds later))
 
 -- The tokens that the bytes of a file spell, of which there are no more than bytes, are readable.
-pub tokens_readable : (bytes : List ℕ) (tokens : List Token) → SpellsTokens bytes tokens → size_of tokens ≤ length bytes → length bytes ≤ 1048576
+pub tokens_readable : (bytes : List ℕ) (tokens : List Token) → SpellsTokens bytes tokens → size_of tokens ≤ length bytes → length bytes ≤ MAX_FILE_BYTES
     → AreReadable tokens
 tokens_readable bytes tokens spelt few small =
     let (utf8, parts, leads, same) = spelt in

@@ -1,15 +1,18 @@
 -- The first fault that the machine meets is the one that the grammar has.
-use Rattle.std.proofs.Common.{◌≡◌, ◌<◌, ◌≤◌, ℕ, ◌+◌, ◌⊎◌, Bool, true, false, List, [], ◌∷◌, ◌++◌, length, Option, Some, None, refl, sym, ap, ◌∙◌, subst, inl, inr, cond, arith, add-zero}
+use Rattle.std.proofs.Common.{◌≡◌, ◌<◌, ◌≤◌, ℕ, ◌+◌, ◌⊎◌, Bool, true, false, List, [], ◌∷◌, ◌++◌, length, Option, Some, None, refl, sym, ap, ◌∙◌, subst, inl}
+use Rattle.std.proofs.Common.{inr, cond, arith, add-zero}
 use Rattle.std.proofs.lemmas.Bool.{false≢true}
 use Rattle.std.proofs.lemmas.Bool.Decides.{nat_tests}
 use Rattle.std.proofs.lemmas.List.{append-nil}
 use Rattle.std.specs.Prelude.{nat_le}
+use Rattle.tl_base.specs.declared.limits.TheConstants.{MAX_DEPTH, MAX_TABLES}
 use Rattle.tl_tree.specs.declared.error.TreeError.{TreeError}
 use Rattle.tl_tree.specs.declared.error.TreeError.TheVariants.{Memory, NoTable, StrayText, Misplaced, Unclosed, TooDeep, TooManyTables}
 use Rattle.tl_tree.specs.Tags.{Kind, Kinds, text, table_start, table_end, outer_tag, is_white, is_text, is_table_start}
 use Rattle.tl_tree.specs.Grammar.{Marks, Document}
 use Rattle.tl_tree.specs.Spelling.{IsPrefix, depth_after, tables_with, tables_after, FitsLimits, FitLimits, IsWithinLimits, IsWrongAt, IsRefused}
-use Rattle.tl_tree.specs.inner.Machine.{Holder, Place, opened, in_flow, Move, to, enter, leave, never, move, moved, State, before, inside, after, failed, next, reached, all_told}
+use Rattle.tl_tree.specs.inner.Machine.{Holder, Place, opened, in_flow, Move, to, enter, leave, never, move, moved, State, before, inside, after, failed}
+use Rattle.tl_tree.specs.inner.Machine.{next, reached, all_told}
 use Rattle.tl_tree.specs.inner.Verdict.{is_failed, depth, misfit, limit_fault, fault, end_fault, verdict}
 use Rattle.tl_tree.proofs.Moves.{reached-failed}
 use Rattle.tl_tree.proofs.MachineWhole.{document_whole}
@@ -103,8 +106,8 @@ depth-reached s (k ∷ ks) alive =
 no_fault : (n tables : ℕ) (s : State) (k : Kind) → is_failed (next s k) ≡ false → FitsLimits (depth s) tables k → fault n tables s k ≡ None
 no_fault n tables s table_start alive (shallow, few) = rw alive (limits (depth s) shallow)
   where
-    limits : (d : ℕ) → d < 8 → limit_fault n tables d ≡ None
-    limits d h = let a : nat_le 8 d ≡ false = grind (arith, nat_tests) in let b : nat_le 200 tables ≡ false = grind (arith, nat_tests) in rw (a, b) refl
+    limits : (d : ℕ) → d < MAX_DEPTH → limit_fault n tables d ≡ None
+    limits d h = let a : nat_le MAX_DEPTH d ≡ false = grind (arith, nat_tests) in let b : nat_le MAX_TABLES tables ≡ false = grind (arith, nat_tests) in rw (a, b) refl
 no_fault n tables s k alive fits = rw alive refl
 
 -- tokens without a fault lead on
@@ -123,14 +126,14 @@ fault_none : (n tables : ℕ) (s : State) (k : Kind) → fault n tables s k ≡ 
 fault_none n tables s k h = by_test (is_failed (next s k)) refl
   where
     limits : (k : Kind) → cond (is_table_start k) (limit_fault n tables (depth s)) None ≡ None → FitsLimits (depth s) tables k
-    limits table_start e = by_depth (nat_le 8 (depth s)) refl
+    limits table_start e = by_depth (nat_le MAX_DEPTH (depth s)) refl
       where
-        by_tables : (b : Bool) → nat_le 200 tables ≡ b → nat_le 8 (depth s) ≡ false → (depth s < 8) × (tables < 200)
+        by_tables : (b : Bool) → nat_le MAX_TABLES tables ≡ b → nat_le MAX_DEPTH (depth s) ≡ false → (depth s < MAX_DEPTH) × (tables < MAX_TABLES)
         by_tables false few shallow = (grind (arith, nat_tests), grind (arith, nat_tests))
         by_tables true many shallow = absurd (let c : Some (TooManyTables n) ≡ None = sym (rw (shallow, many) refl) ∙ e in cc)
 
-        by_depth : (b : Bool) → nat_le 8 (depth s) ≡ b → (depth s < 8) × (tables < 200)
-        by_depth false shallow = by_tables (nat_le 200 tables) refl shallow
+        by_depth : (b : Bool) → nat_le MAX_DEPTH (depth s) ≡ b → (depth s < MAX_DEPTH) × (tables < MAX_TABLES)
+        by_depth false shallow = by_tables (nat_le MAX_TABLES tables) refl shallow
         by_depth true deep = absurd (let c : Some (TooDeep n) ≡ None = sym (rw deep refl) ∙ e in cc)
     limits _ e = tt
 
@@ -274,13 +277,13 @@ text_misfit n m k h e = rw h (ap StrayText e)
 tag_misfit : (n m : ℕ) (k : Kind) → is_text k ≡ false → n ≡ m → misfit n k ≡ Misplaced m
 tag_misfit n m k h e = rw h (ap Misplaced e)
 
-pub deep_fault : (n m tables d : ℕ) → 8 ≤ d → n ≡ m → limit_fault n tables d ≡ Some (TooDeep m)
-deep_fault n m tables d h e = let a : nat_le 8 d ≡ true = grind (arith, nat_tests) in rw a (ap (λ x. Some (TooDeep x)) e)
+pub deep_fault : (n m tables d : ℕ) → MAX_DEPTH ≤ d → n ≡ m → limit_fault n tables d ≡ Some (TooDeep m)
+deep_fault n m tables d h e = let a : nat_le MAX_DEPTH d ≡ true = grind (arith, nat_tests) in rw a (ap (λ x. Some (TooDeep x)) e)
 
-pub many_fault : (n m tables d : ℕ) → d < 8 → 200 ≤ tables → n ≡ m → limit_fault n tables d ≡ Some (TooManyTables m)
+pub many_fault : (n m tables d : ℕ) → d < MAX_DEPTH → MAX_TABLES ≤ tables → n ≡ m → limit_fault n tables d ≡ Some (TooManyTables m)
 many_fault n m tables d shallow many e =
-    let a : nat_le 8 d ≡ false = grind (arith, nat_tests) in
-    let b : nat_le 200 tables ≡ true = grind (arith, nat_tests) in
+    let a : nat_le MAX_DEPTH d ≡ false = grind (arith, nat_tests) in
+    let b : nat_le MAX_TABLES tables ≡ true = grind (arith, nat_tests) in
     rw (a, b) (ap (λ x. Some (TooManyTables x)) e)
 
 pub table_fault : (n tables : ℕ) (s : State) (k : Kind) → k ≡ table_start → is_failed (next s k) ≡ false → fault n tables s k ≡ limit_fault n tables (depth s)
@@ -313,13 +316,13 @@ refused_first ks (Misplaced n) w =
 refused_first ks (TooDeep n) w =
     let place : 0 + length w.front ≡ n = let p = w.place in omega arith in
     let same = depth-reached before w.front (prefix_alive w.front w.begun) in
-    let deep : 8 ≤ depth (reached before w.front) = let d = w.wrong.2 in omega arith in
+    let deep : MAX_DEPTH ≤ depth (reached before w.front) = let d = w.wrong.2 in omega arith in
     at_place ks w.front w.rest w.token (TooDeep n) w.split w.begun w.within
     (table_fault _ _ _ w.token w.wrong.0 (alive_next w.front w.token w.wrong.1) ∙ deep_fault _ n _ _ deep place)
 refused_first ks (TooManyTables n) w =
     let place : 0 + length w.front ≡ n = let p = w.place in omega arith in
     let same = depth-reached before w.front (prefix_alive w.front w.begun) in
-    let shallow : depth (reached before w.front) < 8 = let d = w.wrong.2 in omega arith in
+    let shallow : depth (reached before w.front) < MAX_DEPTH = let d = w.wrong.2 in omega arith in
     at_place ks w.front w.rest w.token (TooManyTables n) w.split w.begun w.within
     (table_fault _ _ _ w.token w.wrong.0 (alive_next w.front w.token w.wrong.1) ∙ many_fault _ n _ _ shallow w.wrong.3 place)
 
@@ -330,17 +333,17 @@ limited n tables s table_start e alive h = (refl, rw alive at h)
 limited n tables s k e alive h = absurd (let c : None ≡ Some e = rw alive at h in cc)
 
 which_limit : (n tables d : ℕ) (e : TreeError) → limit_fault n tables d ≡ Some e
-    → ((TooDeep n ≡ e) × (8 ≤ d)) ⊎ ((TooManyTables n ≡ e) × (d < 8) × (200 ≤ tables))
-which_limit n tables d e h = by_depth (nat_le 8 d) refl
+    → ((TooDeep n ≡ e) × (MAX_DEPTH ≤ d)) ⊎ ((TooManyTables n ≡ e) × (d < MAX_DEPTH) × (MAX_TABLES ≤ tables))
+which_limit n tables d e h = by_depth (nat_le MAX_DEPTH d) refl
   where
-    by_tables : (b : Bool) → nat_le 200 tables ≡ b → nat_le 8 d ≡ false → ((TooDeep n ≡ e) × (8 ≤ d)) ⊎ ((TooManyTables n ≡ e) × (d < 8) × (200 ≤ tables))
+    by_tables : (b : Bool) → nat_le MAX_TABLES tables ≡ b → nat_le MAX_DEPTH d ≡ false → ((TooDeep n ≡ e) × (MAX_DEPTH ≤ d)) ⊎ ((TooManyTables n ≡ e) × (d < MAX_DEPTH) × (MAX_TABLES ≤ tables))
     by_tables true many shallow =
         inr (let c : Some (TooManyTables n) ≡ Some e = sym (rw (shallow, many) refl) ∙ h in cc, grind (arith, nat_tests), grind (arith, nat_tests))
     by_tables false few shallow = absurd (let c : None ≡ Some e = sym (rw (shallow, few) refl) ∙ h in cc)
 
-    by_depth : (b : Bool) → nat_le 8 d ≡ b → ((TooDeep n ≡ e) × (8 ≤ d)) ⊎ ((TooManyTables n ≡ e) × (d < 8) × (200 ≤ tables))
+    by_depth : (b : Bool) → nat_le MAX_DEPTH d ≡ b → ((TooDeep n ≡ e) × (MAX_DEPTH ≤ d)) ⊎ ((TooManyTables n ≡ e) × (d < MAX_DEPTH) × (MAX_TABLES ≤ tables))
     by_depth true deep = inl (let c : Some (TooDeep n) ≡ Some e = sym (rw deep refl) ∙ h in cc, grind (arith, nat_tests))
-    by_depth false shallow = by_tables (nat_le 200 tables) refl shallow
+    by_depth false shallow = by_tables (nat_le MAX_TABLES tables) refl shallow
 
 -- The first fault is refused by the grammar.
 pub wrong_at : (ks front : Kinds) (k : Kind) (rest : Kinds) (e : TreeError) → ks ≡ front ++ (k ∷ rest) → is_failed (reached before front) ≡ false
@@ -360,8 +363,8 @@ wrong_at ks front k rest e split alive within h = by_test (is_failed (next (reac
         as_found (Misplaced (0 + length front)) (misfit_fault _ _ _ k dead ∙ ap (λ x. Some x) (tag_misfit _ _ k is refl)) (at (is, is_no_prefix front k dead))
 
     by_limit : is_failed (next (reached before front) k) ≡ false → k ≡ table_start
-        → ((TooDeep (0 + length front) ≡ e) × (8 ≤ depth (reached before front)))
-        ⊎ ((TooManyTables (0 + length front) ≡ e) × (depth (reached before front) < 8) × (200 ≤ tables_after 0 front))
+        → ((TooDeep (0 + length front) ≡ e) × (MAX_DEPTH ≤ depth (reached before front)))
+        ⊎ ((TooManyTables (0 + length front) ≡ e) × (depth (reached before front) < MAX_DEPTH) × (MAX_TABLES ≤ tables_after 0 front))
         → IsRefused ks e
     by_limit goes table (inl (same, deep)) =
         let d = depth-reached before front alive in

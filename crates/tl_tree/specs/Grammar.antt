@@ -22,7 +22,9 @@ use Rattle.std.specs.Prelude.{◌≡◌, ℕ, ◌+◌, Bool, false, IsTrue, List
 use Rattle.tl_token.specs.declared.token.Spans.{Spans}
 use Rattle.tl_tree.specs.declared.node.Part.{Part}
 use Rattle.tl_tree.specs.declared.node.Part.TheVariants.{Loose}
-use Rattle.tl_tree.specs.Tags.{Section, part_of, Kind, Kinds, text, table_start, table_end, caption_start, caption_end, colgroup_start, colgroup_end, col, group_start, group_end, row_start, row_end, cell_start, cell_end, br, p_or_div, inline_tag, outer_tag, is_white, is_row_start, is_col, begins_with}
+use Rattle.tl_tree.specs.Tags.{Section, part_of, Kind, Kinds, text, table_start, table_end, caption_start, caption_end, colgroup_start, colgroup_end, col}
+use Rattle.tl_tree.specs.Tags.{group_start, group_end, row_start, row_end, cell_start, cell_end, br, p_or_div, inline_tag, outer_tag, is_white, is_row_start}
+use Rattle.tl_tree.specs.Tags.{is_col, begins_with}
 
 pub data Mark : Type 0 where
   table_begins : Mark

@@ -1,6 +1,7 @@
 -- Which tokens `tree` reads: those that `tokens` gives, of a file within the limit.
 use Rattle.std.specs.Prelude.{◌≡◌, ◌<◌, ◌≤◌, ℕ, false, List, length, sum_by}
 use Rattle.std.specs.List.{AllByRecursion, list_any}
+use Rattle.tl_base.specs.declared.limits.TheConstants.{MAX_FILE_BYTES, MAX_COLSPAN}
 use Rattle.tl_base.specs.Text.{byte_count}
 use Rattle.tl_token.specs.Characters.{is_control}
 use Rattle.tl_token.specs.declared.token.Token.{Token}
@@ -10,8 +11,8 @@ use Rattle.tl_tree.specs.Sound.{IsCellInRange}
 -- a text has a character, and no control character; a span is in its range
 abbrev pub IsReadable : Kind → Type 0
 IsReadable (text characters) = (0 < length characters) × (list_any is_control characters ≡ false)
-IsReadable (colgroup_start span) = span ≤ 1000
-IsReadable (col span) = span ≤ 1000
+IsReadable (colgroup_start span) = span ≤ MAX_COLSPAN
+IsReadable (col span) = span ≤ MAX_COLSPAN
 IsReadable (cell_start head spans) = IsCellInRange spans.colspan spans.rowspan spans.least
 IsReadable _ = Unit {0}
 
@@ -22,4 +23,4 @@ kind_size _ = 1
 
 pub record AreReadable (tokens : List Token) : Type 0 where
   pub readable : AllByRecursion IsReadable (kinds tokens)
-  pub size : sum_by kind_size (kinds tokens) ≤ 1048576
+  pub size : sum_by kind_size (kinds tokens) ≤ MAX_FILE_BYTES

@@ -2,6 +2,7 @@
 -- The ranges of the spans are those of the HTML Standard, 4.9.11.
 use Rattle.std.specs.Prelude.{◌≡◌, ◌<◌, ◌≤◌, ◌^◌, ℕ, ◌+◌, ◌-◌, false, List, [], ◌∷◌, sum_by}
 use Rattle.std.specs.List.{AllByRecursion, list_any}
+use Rattle.tl_base.specs.declared.limits.TheConstants.{MAX_FILE_BYTES, MAX_COLSPAN, MAX_ROWSPAN, MAX_PAGE_WIDTH, MAX_DEPTH, MAX_TABLES}
 use Rattle.tl_token.specs.Characters.{is_control}
 use Rattle.tl_text.specs.declared.paragraph.Atom.{Atom}
 use Rattle.tl_text.specs.declared.paragraph.Atom.TheVariants as atoms
@@ -36,9 +37,9 @@ IsPlainAtom atoms.Break = Unit {0}
 
 pub record IsCellInRange (colspan rowspan least : ℕ) : Type 0 where
   pub some_column : 0 < colspan
-  pub few_columns : colspan ≤ 1000
-  pub few_rows : rowspan ≤ 65534
-  pub narrow : least ≤ 500
+  pub few_columns : colspan ≤ MAX_COLSPAN
+  pub few_rows : rowspan ≤ MAX_ROWSPAN
+  pub narrow : least ≤ MAX_PAGE_WIDTH
 
 pub record IsPlainParagraph (p : List Atom) : Type 0 where
   pub is_paragraph : IsParagraph p
@@ -64,12 +65,12 @@ entry_size _ = 0
 -- of the outline of each part of a sound tree.
 pub record AreSound (entries : Entries) : Type 0 where
   pub in_range : AllByRecursion IsInRange entries
-  pub size : sum_by entry_size entries ≤ 1048576
+  pub size : sum_by entry_size entries ≤ MAX_FILE_BYTES
 
--- A sound tree: besides, its tables are numbered from 0 by their start tags, there are at most 200 of
--- them, and none is inside 8 others.
+-- A sound tree: besides, its tables are numbered from 0 by their start tags, there are at most `MAX_TABLES` of
+-- them, and none is inside `MAX_DEPTH` others.
 pub record IsSound (node : TableNode) : Type 0 where
   pub numbered : IsNumberedFrom 0 (outline node)
-  pub few_tables : table_count (outline node) ≤ 200
-  pub shallow : IsNestedBelow 8 0 (outline node)
+  pub few_tables : table_count (outline node) ≤ MAX_TABLES
+  pub shallow : IsNestedBelow MAX_DEPTH 0 (outline node)
   pub sound : AreSound (outline node)

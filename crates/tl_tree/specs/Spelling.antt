@@ -1,5 +1,6 @@
 -- Which trees tokens spell, within which limits, and when each error comes.
 use Rattle.std.specs.Prelude.{◌≡◌, ◌<◌, ◌≤◌, ℕ, ◌+◌, ◌-◌, List, [], ◌∷◌, ◌++◌, length, IsTrue, IsFalse, Result, Ok, Err, alloc_error}
+use Rattle.tl_base.specs.declared.limits.TheConstants.{MAX_DEPTH, MAX_TABLES}
 use Rattle.tl_token.specs.declared.token.Token.{Token}
 use Rattle.tl_tree.specs.Tags.{Kind, Kinds, table_start, table_end, kinds, is_text}
 use Rattle.tl_tree.specs.Grammar.{Marks, Document}
@@ -41,9 +42,9 @@ abbrev pub tables_after : ℕ → Kinds → ℕ
 tables_after tables [] = tables
 tables_after tables (k ∷ ks) = tables_after (tables_with tables k) ks
 
--- a table that begins is inside fewer than 8 others, and fewer than 200 have begun before it
+-- a table that begins is inside fewer than `MAX_DEPTH` others, and fewer than `MAX_TABLES` have begun before it
 abbrev pub FitsLimits : ℕ → ℕ → Kind → Type 0
-FitsLimits depth tables table_start = (depth < 8) × (tables < 200)
+FitsLimits depth tables table_start = (depth < MAX_DEPTH) × (tables < MAX_TABLES)
 FitsLimits depth tables _ = Unit {0}
 
 abbrev pub FitLimits : ℕ → ℕ → Kinds → Type 0
@@ -72,14 +73,14 @@ IsStray front token = IsTrue (is_text token) × ¬ (IsPrefix (front ++ token ∷
 abbrev pub IsMisplaced : Kinds → Kind → Type 0
 IsMisplaced front token = IsFalse (is_text token) × ¬ (IsPrefix (front ++ token ∷ []))
 
--- a table that begins inside 8 others
+-- a table that begins inside `MAX_DEPTH` others
 abbrev pub IsTooDeep : Kinds → Kind → Type 0
-IsTooDeep front token = (token ≡ table_start) × IsPrefix (front ++ token ∷ []) × (8 ≤ depth_after 0 front)
+IsTooDeep front token = (token ≡ table_start) × IsPrefix (front ++ token ∷ []) × (MAX_DEPTH ≤ depth_after 0 front)
 
--- a table that begins after 200 others, and not inside 8
+-- a table that begins after `MAX_TABLES` others, and not inside `MAX_DEPTH`
 abbrev pub IsOneTooMany : Kinds → Kind → Type 0
 IsOneTooMany front token =
-    (token ≡ table_start) × IsPrefix (front ++ token ∷ []) × (depth_after 0 front < 8) × (200 ≤ tables_after 0 front)
+    (token ≡ table_start) × IsPrefix (front ++ token ∷ []) × (depth_after 0 front < MAX_DEPTH) × (MAX_TABLES ≤ tables_after 0 front)
 
 -- The error that refuses the tokens; out of memory is none of them.
 abbrev pub IsRefused : Kinds → TreeError → Type 0

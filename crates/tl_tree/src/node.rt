@@ -18,11 +18,11 @@ pub enum Block {
 pub struct CellNode {
     /// Whether it is a header cell (`th`).
     pub head: bool,
-    /// How many columns it covers, 1 to 1000.
+    /// How many columns it covers, 1 to `MAX_COLSPAN`.
     pub colspan: u32,
-    /// How many rows it covers, up to 65534. 0: it grows downward to its group's end.
+    /// How many rows it covers, up to `MAX_ROWSPAN`. 0: it grows downward to its group's end.
     pub rowspan: u32,
-    /// How many columns of text it is wide at least, up to 500.
+    /// How many columns of text it is wide at least, up to `MAX_PAGE_WIDTH`.
     pub least: u32,
     /// The paragraphs and nested tables, in order.
     pub flow: List<Block>,

@@ -224,7 +224,8 @@ impl Parts {
 }
 
 impl OpenTable {
-    ghost use Rattle.tl_tree.specs.inner.Reading.{outcome, after_entries, parts_so_far, place_of, place_columns, open_size, Adds, IsModest, RowGoesOn, GroupGoesOn, ColumnsGoOn};
+    ghost use Rattle.tl_tree.specs.inner.Reading.{outcome, after_entries, parts_so_far, place_of, place_columns, open_size, Adds, IsModest, RowGoesOn};
+    ghost use Rattle.tl_tree.specs.inner.Reading.{GroupGoesOn, ColumnsGoOn};
 
     /// The row that goes on, once the cell in it has ended.
     pub(crate) fn into_row(self, alloc: Global) -> Result<OpenRow, Stop>

@@ -110,7 +110,8 @@ impl OpenTable {
     fn end_group(self, alloc: Global, part: Part) -> Result<OpenTable, Stop>
         requires { IsModest self }
         ensures ok { IfOk result (λ new. (section : Section) → part_of section ≡ part → Moves self (tags.group_end section) new) }
-        ensures err { IfErr result (λ stop. (section : Section) → part_of section ≡ part → IsMisfitOr (move (place_of self) (tags.group_end section) ≡ never) stop) }
+        ensures err { IfErr result (λ stop. (section : Section) → part_of section ≡ part
+            → IsMisfitOr (move (place_of self) (tags.group_end section) ≡ never) stop) }
     {
         let group = self.into_group(alloc)?;
         if group.part == part {

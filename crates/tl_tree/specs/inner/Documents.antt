@@ -1,6 +1,7 @@
 -- What has been read of a document, and why it is not read on. No public clause cites this file.
 use Rattle.std.specs.Prelude.{◌≡◌, ◌<◌, ◌≤◌, ℕ, ◌+◌, true, false, List, [], ◌∷◌, ◌++◌, map, reverse, length}
 use Rattle.std.specs.List.{flat_map}
+use Rattle.tl_base.specs.declared.limits.TheConstants.{MAX_DEPTH, MAX_TABLES}
 use Rattle.tl_tree.specs.Tags.{Kind, Kinds, table_start}
 use Rattle.tl_tree.specs.Grammar.{Marks, table_ends}
 use Rattle.tl_tree.specs.Paragraphs.{paragraph_of, entries_of}
@@ -61,23 +62,24 @@ pub record Reads (old : Reading) (tables : ℕ) (k : Kind) (new : Reading) : Typ
 abbrev pub IsStop : State → ℕ → Kind → Stop → Type 0
 IsStop s tables k (stops.Memory error) = Unit {0}
 IsStop s tables k stops.Misfit = is_failed (next s k) ≡ true
-IsStop s tables k stops.TooDeep = (k ≡ table_start) × (is_failed (next s k) ≡ false) × (8 ≤ depth s)
-IsStop s tables k stops.TooManyTables = (k ≡ table_start) × (is_failed (next s k) ≡ false) × (depth s < 8) × (200 ≤ tables)
+IsStop s tables k stops.TooDeep = (k ≡ table_start) × (is_failed (next s k) ≡ false) × (MAX_DEPTH ≤ depth s)
+IsStop s tables k stops.TooManyTables = (k ≡ table_start) × (is_failed (next s k) ≡ false) × (depth s < MAX_DEPTH) × (MAX_TABLES ≤ tables)
 
 -- a limit, where so many tables are open and so many have begun
 abbrev pub IsLimit : ℕ → ℕ → Stop → Type 0
 IsLimit deep tables (stops.Memory error) = Unit {0}
 IsLimit deep tables stops.Misfit = ⊥
-IsLimit deep tables stops.TooDeep = 8 ≤ deep
-IsLimit deep tables stops.TooManyTables = (deep < 8) × (200 ≤ tables)
+IsLimit deep tables stops.TooDeep = MAX_DEPTH ≤ deep
+IsLimit deep tables stops.TooManyTables = (deep < MAX_DEPTH) × (MAX_TABLES ≤ tables)
 
 -- a table begins in the flow of that holder
 pub record Nests (outer : List Outer) (holder : Holder) (flow : Flow) (tables : ℕ) (new : Reading) : Type 0 where
   pub goes : state_of new ≡ machine.inside machine.opened (holder_of holder ∷ holders outer)
-  pub shallow : length outer + 1 < 8
-  pub few : tables < 200
+  pub shallow : length outer + 1 < MAX_DEPTH
+  pub few : tables < MAX_TABLES
   pub same : (k : ℕ) (later : Marks) → outcome_of new k later
-      ≡ around outer ++ after_entries (((holder_so_far holder ++ blocks_outline flow.blocks) ++ paragraph_of (line_atoms flow.line [])) ++ table tables ∷ []) k later
+      ≡ around outer
+      ++ after_entries (((holder_so_far holder ++ blocks_outline flow.blocks) ++ paragraph_of (line_atoms flow.line [])) ++ table tables ∷ []) k later
 
 -- the table that is open ends
 pub record Leaves (outer : List Outer) (t : OpenTable) (new : Reading) : Type 0 where

@@ -3,8 +3,11 @@ use Rattle.std.specs.Prelude.{◌≡◌, ℕ, ◌+◌, Bool, true, false, Option
 use Rattle.tl_token.specs.declared.token.Spans.{Spans}
 use Rattle.tl_tree.specs.declared.node.Part.{Part}
 use Rattle.tl_tree.specs.declared.node.Part.TheVariants.{Loose, Head, Body, Foot}
-use Rattle.tl_tree.specs.Tags.{Section, thead, tbody, tfoot, part_of, Kind, Kinds, text, table_start, table_end, caption_start, caption_end, colgroup_start, colgroup_end, col, group_start, group_end, row_start, row_end, cell_start, cell_end, br, p_or_div, inline_tag, outer_tag, lone_end, is_white}
-use Rattle.tl_tree.specs.Grammar.{Marks, table_begins, caption_begins, columns, group_begins, row_begins, cell_begins, character, line_break, paragraph_ends, table_ends}
+use Rattle.tl_tree.specs.Tags.{Section, thead, tbody, tfoot, part_of, Kind, Kinds, text, table_start, table_end, caption_start, caption_end, colgroup_start}
+use Rattle.tl_tree.specs.Tags.{colgroup_end, col, group_start, group_end, row_start, row_end, cell_start, cell_end, br, p_or_div, inline_tag, outer_tag}
+use Rattle.tl_tree.specs.Tags.{lone_end, is_white}
+use Rattle.tl_tree.specs.Grammar.{Marks, table_begins, caption_begins, columns, group_begins, row_begins, cell_begins, character, line_break, paragraph_ends}
+use Rattle.tl_tree.specs.Grammar.{table_ends}
 
 -- what a flow stands in: a caption, or a cell of a group of that part, a header cell or not
 pub data Holder : Type 0 where

@@ -2,6 +2,7 @@
 -- that are still to come have come. No public clause cites this file.
 use Rattle.std.specs.Prelude.{◌≡◌, ℕ, ◌+◌, ◌≤◌, ◌<◌, ◌^◌, Bool, true, false, Option, Some, None, List, [], ◌∷◌, ◌++◌}
 use Rattle.std.specs.List.{flat_map}
+use Rattle.tl_base.specs.declared.limits.TheConstants.{MAX_FILE_BYTES}
 use Rattle.tl_tree.specs.Tags.{Kind}
 use Rattle.tl_tree.specs.Grammar.{Marks, paragraph_ends}
 use Rattle.tl_tree.specs.Paragraphs.{leading, paragraph_of, entries_after, entries_of}
@@ -119,7 +120,7 @@ open_size _ = 0
 -- what reading a table on may count on: that few columns and few characters have come
 pub record IsModest (t : OpenTable) : Type 0 where
   pub few_columns : place_columns (place_of t) < 2 ^ 31
-  pub small : open_size t ≤ 1048576
+  pub small : open_size t ≤ MAX_FILE_BYTES
 
 -- what is left once all that is open in a row, a group or before the columns has ended
 pub record RowGoesOn (old : Outcome) (p : Place) (r : OpenRow) : Type 0 where

@@ -1,5 +1,6 @@
 -- The first fault that the machine meets. No public clause cites this file.
 use Rattle.std.specs.Prelude.{ℕ, ◌+◌, Bool, true, false, nat_le, Option, Some, None, [], ◌∷◌, length, if◌then◌else◌}
+use Rattle.tl_base.specs.declared.limits.TheConstants.{MAX_DEPTH, MAX_TABLES}
 use Rattle.tl_tree.specs.Tags.{Kind, Kinds, is_text, is_table_start}
 use Rattle.tl_tree.specs.Spelling.{tables_with}
 use Rattle.tl_tree.specs.inner.Machine.{State, before, inside, after, failed, next}
@@ -21,7 +22,7 @@ misfit n k = if is_text k then StrayText n else Misplaced n
 
 -- the fault of a table that begins as token `n`
 abbrev pub limit_fault : ℕ → ℕ → ℕ → Option TreeError
-limit_fault n tables deep = if nat_le 8 deep then Some (TooDeep n) else if nat_le 200 tables then Some (TooManyTables n) else None
+limit_fault n tables deep = if nat_le MAX_DEPTH deep then Some (TooDeep n) else if nat_le MAX_TABLES tables then Some (TooManyTables n) else None
 
 -- the fault of token `n`, after so many tables
 abbrev pub fault : ℕ → ℕ → State → Kind → Option TreeError

@@ -1,5 +1,6 @@
 use Rattle.std.proofs.Common.{◌≡◌, ◌≤◌, ◌<◌, ℕ, ◌+◌, true, false, ◌∷◌, length, take, drop, inr, sym, ap, ◌∙◌, subst, arith, alloc_error, sum_by}
 use Rattle.std.proofs.lemmas.List.{length-map, length-take-le}
+use Rattle.tl_base.specs.declared.limits.TheConstants.{MAX_FILE_BYTES}
 use Rattle.tl_base.specs.Returned.{IsMemoryOr}
 use Rattle.tl_tree.specs.Tags.{Kinds, kind_of, kinds, is_table_start}
 use Rattle.tl_tree.specs.Readable.{kind_size}
@@ -10,7 +11,8 @@ use Rattle.tl_tree.specs.declared.reading.Reading.{Reading}
 use Rattle.tl_tree.specs.inner.Verdict.{end_fault}
 use Rattle.tl_tree.specs.inner.Documents.{state_of, HasRead, stop_error}
 use Rattle.tl_tree.proofs.Readings.{tables_tag}
-use Rattle.tl_tree.proofs.Documents.{one_more_read, stopped, ended_refused, ended_tree, kinds_length, modest, few_tables, at_token, with_token, readable_parts, small_front, fresh, one_more_table, all_taken}
+use Rattle.tl_tree.proofs.Documents.{one_more_read, stopped, ended_refused, ended_tree, kinds_length, modest, few_tables, at_token, with_token}
+use Rattle.tl_tree.proofs.Documents.{readable_parts, small_front, fresh, one_more_table, all_taken}
 use Rattle.tl_tree.proofs.document.read.Goals as goal
 use Rattle.tl_tree.proofs.document.read.Goals.{then-is_table_start, else-is_table_start}
 
@@ -46,7 +48,7 @@ pub overflow_cast-index : goal.overflow_cast-index
 overflow_cast-index c =
     let long = kinds_length (kinds c.args.tokens.now) c.requires.readable in
     let same : length (kinds c.args.tokens.now) ≡ length c.args.tokens.now = simp length-map in
-    let size : sum_by kind_size (kinds c.args.tokens.now) ≤ 1048576 = c.requires.size in
+    let size : sum_by kind_size (kinds c.args.tokens.now) ≤ MAX_FILE_BYTES = c.requires.size in
     let inside : c.loop-index.index < length c.args.tokens.now = c.loop-index-test.true in
     omega arith
 
