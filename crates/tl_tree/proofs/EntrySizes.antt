@@ -69,10 +69,10 @@ pub paragraph_size : (atoms : List Atom) → sum_by entry_size (paragraph_of ato
 paragraph_size [] = refl
 paragraph_size (atom ∷ atoms) = omega (arith, sum_by-cons entry_size (paragraph (atom ∷ atoms)) [])
 
-leading_atoms_size : (ms : Marks) → sum_by atom_size (atoms_of ms) ≤ sum_by mark_size ms
+pub leading_atoms_size : (ms : Marks) → sum_by atom_size (atoms_of ms) ≤ sum_by mark_size ms
 leading_atoms_size ms = let h = atoms_size [] ms in let P : List Atom → Type 0 = λ atoms. sum_by atom_size atoms ≤ sum_by mark_size ms in subst P (read_none ms) (omega arith)
 
-later_size : (k : ℕ) (ms : Marks) → sum_by entry_size (entries_after k ms) + sum_by mark_size (leading ms) ≤ sum_by mark_size ms
+pub later_size : (k : ℕ) (ms : Marks) → sum_by entry_size (entries_after k ms) + sum_by mark_size (leading ms) ≤ sum_by mark_size ms
 later_size k [] = omega arith
 later_size k (character c ∷ ms) =
     let h = later_size k ms in

@@ -8,6 +8,8 @@ pub mod Outlines
 mod Adds
 mod Readings
 mod FineMoves
+mod FineMarks
 mod EntrySizes
 mod Documents
+mod Soundness
 pub mod ReadableTokens
