@@ -32,8 +32,9 @@ use Rattle.tl_tree.specs.inner.Lines.{line_atoms, blocks_outline}
 use Rattle.tl_tree.specs.inner.Reading.{place_of, place_columns, open_size, holder_so_far, outcome}
 use Rattle.tl_tree.specs.inner.Documents.{around, state_of, IsModestReading, IsFresh, Reads, IsStop, stop_error, HasRead}
 use Rattle.tl_tree.proofs.MachineSound.{document_sound}
-use Rattle.tl_tree.proofs.Verdicts.{reached-append, depth-reached, passes, refused_first, first_refused, document_clean, same_marks, no_table, wrong_at}
+use Rattle.tl_tree.proofs.Verdicts.{reached-append, depth-reached, passes, refused_first, first_refused, document_clean, no_table, wrong_at}
 use Rattle.tl_tree.proofs.Verdicts.{misfit_fault, table_fault, deep_fault, many_fault}
+use Rattle.tl_tree.proofs.SameTrees.{one_tree}
 use Rattle.tl_tree.proofs.FineMoves.{state_columns, few_columns, small_marks}
 use Rattle.tl_tree.proofs.EntrySizes.{entries_size, paragraph_size, open_line_size}
 
@@ -104,8 +105,7 @@ ended_tree tokens tables node h = record {
 -- the answer decides all others
 pub each_ok : (tokens : List Token) (r : Result TableNode TreeError) → IfOk r (SpellsTree tokens) → IfErr r (IsMemoryOr (Memory alloc_error) (Refused tokens))
     → (node : TableNode) → SpellsTree tokens node → IsWithinLimits (kinds tokens) → ReturnsTree node r
-each_ok tokens (Ok returned) ok err node spelt within =
-    ok.same ∙ ap (λ ms. entries_of 0 ms) (same_marks (kinds tokens) ok.marks spelt.marks ok.document spelt.document) ∙ sym spelt.same
+each_ok tokens (Ok returned) ok err node spelt within = one_tree tokens returned node ok spelt
 each_ok tokens (Err error) ok (inl memory) node spelt within = memory
 each_ok tokens (Err error) ok (inr refused) node spelt within =
     absurd (let c : Some error ≡ None = sym (refused_first (kinds tokens) error refused) ∙ document_clean (kinds tokens) spelt.marks spelt.document within in cc)

@@ -10,6 +10,7 @@ mod Readings
 mod FineMoves
 mod FineMarks
 mod EntrySizes
+mod SameTrees
 mod Documents
 mod Soundness
 pub mod ReadableTokens
