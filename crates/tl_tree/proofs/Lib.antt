@@ -14,3 +14,4 @@ mod SameTrees
 mod Documents
 mod Soundness
 pub mod ReadableTokens
+mod Examples
