@@ -110,7 +110,7 @@ grouped_outline = refl
 
 -- ---- columns, and a tree that tokens spell
 
-pub own_span : colgroup_columns 5 [] ≡ 5
+own_span : colgroup_columns 5 [] ≡ 5
 own_span = refl
 
 spans_of_cols : colgroup_columns 5 (2 ∷ 1 ∷ []) ≡ 3

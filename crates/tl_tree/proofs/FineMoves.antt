@@ -12,7 +12,8 @@ use Rattle.tl_base.specs.Text.{byte_count}
 use Rattle.tl_token.specs.Characters.{is_control}
 use Rattle.tl_token.specs.declared.token.Spans.{Spans}
 use Rattle.tl_tree.specs.Tags.{Section, part_of, Kind, Kinds, text, table_start, table_end, caption_start, caption_end, colgroup_start, colgroup_end, col}
-use Rattle.tl_tree.specs.Tags.{group_start, group_end, row_start, row_end, cell_start, cell_end, br, p_or_div, inline_tag, outer_tag, lone_end, is_white, is_table_start}
+use Rattle.tl_tree.specs.Tags.{group_start, group_end, row_start, row_end, cell_start, cell_end, br, p_or_div, inline_tag, outer_tag}
+use Rattle.tl_tree.specs.Tags.{lone_end, is_white, is_table_start}
 use Rattle.tl_tree.specs.Grammar.{Mark, Marks, table_begins, columns, group_begins, row_begins, cell_begins, character, line_break, paragraph_ends, table_ends}
 use Rattle.tl_tree.specs.Sound.{IsCellInRange}
 use Rattle.tl_tree.specs.Paragraphs.{number_after}
@@ -45,7 +46,8 @@ IsFineMark n (character c) = is_control c ≡ false
 IsFineMark n _ = Unit {0}
 
 abbrev FineMove : Place → Kind → Move → Type 0
-FineMove p k (to q ms) = (place_columns q ≤ place_columns p + MAX_COLSPAN) × (sum_by mark_size ms ≤ kind_size k) × AllByRecursion (IsFineMark (place_columns p)) ms
+FineMove p k (to q ms) = (place_columns q ≤ place_columns p + MAX_COLSPAN) × (sum_by mark_size ms ≤ kind_size k)
+    × AllByRecursion (IsFineMark (place_columns p)) ms
 FineMove p k (enter holder) = k ≡ table_start
 FineMove p k (leave ms) = (k ≡ table_end) × (ms ≡ due p ++ table_ends ∷ [])
 FineMove p k never = Unit {0}
@@ -77,11 +79,15 @@ plain p q k h = (h, omega arith, tt)
 text_moves : (cs : List ℕ) → IsReadable (text cs) → (p : Place) → FineMove p (text cs) (move p (text cs))
 text_moves cs h (in_flow holder) = (omega arith, let e = text_size cs in omega arith, text_fine 0 cs h.1)
 text_moves cs h opened = fine_if (is_white (text cs)) opened opened (text cs) [] (plain opened opened (text cs) (omega arith))
-text_moves cs h (in_columns n) = fine_if (is_white (text cs)) (in_columns n) (in_columns n) (text cs) [] (plain (in_columns n) (in_columns n) (text cs) (omega arith))
-text_moves cs h (in_colgroup n pending) = fine_if (is_white (text cs)) (in_colgroup n pending) (in_colgroup n pending) (text cs) [] (plain (in_colgroup n pending) (in_colgroup n pending) (text cs) (omega arith))
+text_moves cs h (in_columns n) = fine_if (is_white (text cs)) (in_columns n) (in_columns n) (text cs) []
+    (plain (in_columns n) (in_columns n) (text cs) (omega arith))
+text_moves cs h (in_colgroup n pending) = fine_if (is_white (text cs)) (in_colgroup n pending) (in_colgroup n pending) (text cs) []
+    (plain (in_colgroup n pending) (in_colgroup n pending) (text cs) (omega arith))
 text_moves cs h between = fine_if (is_white (text cs)) between between (text cs) [] (plain between between (text cs) (omega arith))
-text_moves cs h (in_group part) = fine_if (is_white (text cs)) (in_group part) (in_group part) (text cs) [] (plain (in_group part) (in_group part) (text cs) (omega arith))
-text_moves cs h (in_row part) = fine_if (is_white (text cs)) (in_row part) (in_row part) (text cs) [] (plain (in_row part) (in_row part) (text cs) (omega arith))
+text_moves cs h (in_group part) = fine_if (is_white (text cs)) (in_group part) (in_group part) (text cs) []
+    (plain (in_group part) (in_group part) (text cs) (omega arith))
+text_moves cs h (in_row part) = fine_if (is_white (text cs)) (in_row part) (in_row part) (text cs) []
+    (plain (in_row part) (in_row part) (text cs) (omega arith))
 
 table_moves : (p : Place) → FineMove p table_start (move p table_start)
 table_moves (in_flow holder) = refl
@@ -136,7 +142,8 @@ col_moves span h _ = tt
 group_end_moves : (section : Section) (p : Place) → FineMove p (group_end section) (move p (group_end section))
 group_end_moves section (in_group part) = fine_if (closes section part) (in_group part) between (group_end section) [] (omega arith, omega arith, tt)
 group_end_moves section (in_row part) = fine_if (closes section part) (in_row part) between (group_end section) [] (omega arith, omega arith, tt)
-group_end_moves section (in_flow (of_cell part head)) = fine_if (closes section part) (in_flow (of_cell part head)) between (group_end section) (paragraph_ends ∷ []) (omega arith, omega arith, (tt, tt))
+group_end_moves section (in_flow (of_cell part head)) = fine_if (closes section part) (in_flow (of_cell part head)) between (group_end section)
+    (paragraph_ends ∷ []) (omega arith, omega arith, (tt, tt))
 group_end_moves section _ = tt
 
 row_moves : (p : Place) → FineMove p row_start (move p row_start)
@@ -154,13 +161,15 @@ row_end_moves (in_row part) = (omega arith, omega arith, tt)
 row_end_moves (in_flow (of_cell part head)) = (omega arith, omega arith, (tt, tt))
 row_end_moves _ = tt
 
-cell_moves : (head : Bool) (spans : Spans) → IsCellInRange spans.colspan spans.rowspan spans.least → (p : Place) → FineMove p (cell_start head spans) (move p (cell_start head spans))
+cell_moves : (head : Bool) (spans : Spans) → IsCellInRange spans.colspan spans.rowspan spans.least → (p : Place) →
+    FineMove p (cell_start head spans) (move p (cell_start head spans))
 cell_moves head spans h (in_row part) = (omega arith, omega arith, (h, tt))
 cell_moves head spans h (in_flow (of_cell part other)) = (omega arith, omega arith, (tt, (h, tt)))
 cell_moves head spans h _ = tt
 
 cell_end_moves : (head : Bool) (p : Place) → FineMove p (cell_end head) (move p (cell_end head))
-cell_end_moves head (in_flow (of_cell part other)) = fine_if (same_head other head) (in_flow (of_cell part other)) (in_row part) (cell_end head) (paragraph_ends ∷ []) (omega arith, omega arith, (tt, tt))
+cell_end_moves head (in_flow (of_cell part other)) = fine_if (same_head other head) (in_flow (of_cell part other)) (in_row part) (cell_end head)
+    (paragraph_ends ∷ []) (omega arith, omega arith, (tt, tt))
 cell_end_moves head _ = tt
 
 br_moves : (p : Place) → FineMove p br (move p br)
@@ -209,7 +218,8 @@ AreMarksOf n table_start ms = ms ≡ table_begins ∷ []
 AreMarksOf n table_end ms = (due : Marks) × (ms ≡ due ++ table_ends ∷ []) × AllByRecursion (IsFineMark n) due
 AreMarksOf n _ ms = AllByRecursion (IsFineMark n) ms
 
-marks_inside : (n : ℕ) (k : Kind) (ms : Marks) → is_table_start k ≡ false → ((d : ℕ) → depth_with d k ≡ d) → AllByRecursion (IsFineMark n) ms → AreMarksOf n k ms
+marks_inside : (n : ℕ) (k : Kind) (ms : Marks) → is_table_start k ≡ false → ((d : ℕ) → depth_with d k ≡ d) → AllByRecursion (IsFineMark n) ms →
+    AreMarksOf n k ms
 marks_inside n table_start ms start same h = absurd (false≢true (sym start))
 marks_inside n table_end ms start same h = absurd (let e : 0 ≡ 1 = same 1 in omega arith)
 marks_inside n _ ms start same h = h
@@ -229,7 +239,8 @@ moved_step : (p : Place) (hs : List Holder) (k : Kind) (m : Move) → FineMove p
     × (is_failed (moved hs m) ≡ false → AreMarksOf (place_columns p) k (marks_of m))
 moved_step p hs k (to q ms) h d = (h.0, h.1, λ alive. marks_inside (place_columns p) k ms d.0 d.1 h.2)
 moved_step p hs k (enter holder) h d =
-    let P : Kind → Type 0 = λ x. (0 ≤ place_columns p + MAX_COLSPAN) × (1 ≤ kind_size x) × (false ≡ false → AreMarksOf (place_columns p) x (table_begins ∷ [])) in
+    let P : Kind → Type 0 = λ x. (0 ≤ place_columns p + MAX_COLSPAN) × (1 ≤ kind_size x)
+    × (false ≡ false → AreMarksOf (place_columns p) x (table_begins ∷ [])) in
     subst P (sym h) (omega arith, omega arith, λ alive. refl)
 moved_step p hs k (leave ms) h d =
     let due_marks = due_fine p in

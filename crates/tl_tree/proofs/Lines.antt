@@ -51,7 +51,8 @@ read_white atoms word c ms white =
     let e : map Word (words_from word (c ∷ first_text ms)) ≡ open_atoms word ++ map Word rest =
     ap (λ ws. map Word ws) (words_from-white word (first_text ms) c white) ∙ map-if (has_character word) word rest
     ∙ ap (λ ws. map Word ws ++ map Word rest) (sym (words_from-end word)) in
-    append_assoc atoms (open_atoms word) _ ∙ ap (λ x. atoms ++ x) (sym (append_assoc (open_atoms word) (map Word rest) (after_breaks ms)) ∙ ap (λ x. x ++ after_breaks ms) (sym e))
+    append_assoc atoms (open_atoms word) _
+    ∙ ap (λ x. atoms ++ x) (sym (append_assoc (open_atoms word) (map Word rest) (after_breaks ms)) ∙ ap (λ x. x ++ after_breaks ms) (sym e))
 
 -- a break ends the word and stands after it
 pub read_line_break : (atoms : List Atom) (word : List ℕ) (ms : Marks)

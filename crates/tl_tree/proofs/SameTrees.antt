@@ -4,7 +4,8 @@ use Rattle.std.proofs.Common.{length-append}
 use Rattle.std.specs.List.{AllZip, flat_map}
 use Rattle.tl_token.specs.declared.token.Token.{Token}
 use Rattle.tl_tree.specs.Tags.{kinds}
-use Rattle.tl_tree.specs.Outline.{Entry, Entries, table, caption, columns, group, row, cell, paragraph, table_end, block_outline, cell_outline, group_outline, outline}
+use Rattle.tl_tree.specs.Outline.{Entry, Entries, table, caption, columns, group, row, cell, paragraph, table_end, block_outline}
+use Rattle.tl_tree.specs.Outline.{cell_outline, group_outline, outline}
 use Rattle.tl_tree.specs.Paragraphs.{entries_of}
 use Rattle.tl_tree.specs.Spelling.{SpellsTree}
 use Rattle.tl_tree.specs.Same.{OpenBlock, OpenCell, OpenGroup, OpenTable, AreSameBlock, AreSameCell, AreSameRow, AreSameGroup, AreSameCaption, AreSameTable}
@@ -104,8 +105,10 @@ module _ (n : ℕ) (same : TableNode → TableNode → Type 0)
   open_block_same : (x y : OpenBlock) (r s : Entries) → length (open_block x ++ r) ≤ n → open_block x ++ r ≡ open_block y ++ s
       → AreSameBlock same x y × (r ≡ s)
   open_block_same (parts.Para p) (parts.Para q) r s few e = (cc, cc)
-  open_block_same (parts.Para p) (parts.Table box) r s few e = absurd (let t : paragraph p ∷ r ≡ open_table (out-TableNode box.value) ++ s = e ∙ ap (λ es. es ++ s) (table_opened box.value) in cc)
-  open_block_same (parts.Table box) (parts.Para q) r s few e = absurd (let t : open_table (out-TableNode box.value) ++ r ≡ paragraph q ∷ s = sym (ap (λ es. es ++ r) (table_opened box.value)) ∙ e in cc)
+  open_block_same (parts.Para p) (parts.Table box) r s few e =
+      absurd (let t : paragraph p ∷ r ≡ open_table (out-TableNode box.value) ++ s = e ∙ ap (λ es. es ++ s) (table_opened box.value) in cc)
+  open_block_same (parts.Table box) (parts.Para q) r s few e =
+      absurd (let t : open_table (out-TableNode box.value) ++ r ≡ paragraph q ∷ s = sym (ap (λ es. es ++ r) (table_opened box.value)) ∙ e in cc)
   open_block_same (parts.Table x) (parts.Table y) r s few e = nested x.value y.value r s few e
 
   block_same : (x y : Block) (r s : Entries) → 0 ≤ first_rank r → 0 ≤ first_rank s → length (block_outline x ++ r) ≤ n
@@ -146,13 +149,15 @@ module _ (n : ℕ) (same : TableNode → TableNode → Type 0)
   row_same : (x y : List CellNode) (r s : Entries) → 2 ≤ first_rank r → 2 ≤ first_rank s → length (row_outline x ++ r) ≤ n
       → row_outline x ++ r ≡ row_outline y ++ s → AreSameRow same x y × (r ≡ s)
   row_same x y r s h i few e =
-      all_same cell_outline (λ c d. AreSameCell same (out-CellNode c) (out-CellNode d)) 1 n cell_rank cell_same x y r s (omega arith) (omega arith) (omega arith) (tail_same e)
+      all_same cell_outline (λ c d. AreSameCell same (out-CellNode c) (out-CellNode d)) 1 n cell_rank cell_same x y r s (omega arith) (omega arith)
+      (omega arith) (tail_same e)
 
   -- ---- groups
   open_group_same : (x y : OpenGroup) (r s : Entries) → 3 ≤ first_rank r → 3 ≤ first_rank s → length (open_group x ++ r) ≤ n
       → open_group x ++ r ≡ open_group y ++ s → AreSameGroup same x y × (r ≡ s)
   open_group_same x y r s h i few e =
-      let rows = all_same row_outline (AreSameRow same) 2 n (λ cells more. refl) row_same x.rows y.rows r s (omega arith) (omega arith) (omega arith) (tail_same e) in
+      let rows = all_same row_outline (AreSameRow same) 2 n (λ cells more. refl) row_same x.rows y.rows r s (omega arith) (omega arith) (omega arith)
+      (tail_same e) in
       (record { part = cc; rows = rows.0 }, rows.1)
 
   group_same : (x y : GroupNode) (r s : Entries) → 3 ≤ first_rank r → 3 ≤ first_rank s → length (group_outline x ++ r) ≤ n
@@ -171,19 +176,22 @@ module _ (n : ℕ) (same : TableNode → TableNode → Type 0)
   caption_same None None a b r s few e = (tt, e)
   caption_same None (Some flow) a b r s few e = absurd (cc)
   caption_same (Some flow) None a b r s few e = absurd (cc)
-  caption_same (Some one) (Some other) a b r s few e = flow_same one other (columns a ∷ r) (columns b ∷ s) (omega arith) (omega arith) (omega arith) (tail_same e)
+  caption_same (Some one) (Some other) a b r s few e = flow_same one other (columns a ∷ r) (columns b ∷ s) (omega arith) (omega arith) (omega arith)
+      (tail_same e)
 
   laid_out : (t : OpenTable) (r : Entries) → open_table t ++ r
       ≡ table t.number ∷ (caption_outline t.caption ++ (columns t.columns ∷ (flat_map group_outline t.groups ++ (table_end ∷ r))))
   laid_out t r = simp append_assoc
 
-  open_table_same : (x y : OpenTable) (r s : Entries) → length (open_table x ++ r) ≤ n + 1 → open_table x ++ r ≡ open_table y ++ s → AreSameTable same x y × (r ≡ s)
+  open_table_same : (x y : OpenTable) (r s : Entries) → length (open_table x ++ r) ≤ n + 1 → open_table x ++ r ≡ open_table y ++ s →
+      AreSameTable same x y × (r ≡ s)
   open_table_same x y r s few e =
       let a = laid_out x r in
       let b = laid_out y s in
       let x_groups = flat_map group_outline x.groups ++ (table_end ∷ r) in
       let y_groups = flat_map group_outline y.groups ++ (table_end ∷ s) in
-      let whole : table x.number ∷ (caption_outline x.caption ++ (columns x.columns ∷ x_groups)) ≡ table y.number ∷ (caption_outline y.caption ++ (columns y.columns ∷ y_groups)) = sym a ∙ e ∙ b in
+      let whole : table x.number ∷ (caption_outline x.caption ++ (columns x.columns ∷ x_groups)) ≡ table y.number ∷
+      (caption_outline y.caption ++ (columns y.columns ∷ y_groups)) = sym a ∙ e ∙ b in
       let long : length (open_table x ++ r) ≡ length (table x.number ∷ (caption_outline x.caption ++ (columns x.columns ∷ x_groups))) = ap length a in
       let later = length-append (caption_outline x.caption) (columns x.columns ∷ x_groups) in
       let captions = caption_same x.caption y.caption x.columns y.columns x_groups y_groups (omega arith) (tail_same whole) in

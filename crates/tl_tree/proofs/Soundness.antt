@@ -1,11 +1,11 @@
 -- The tree that tokens spell within the limits is sound.
-use Rattle.std.proofs.Common.{◌≡◌, ◌≤◌, ◌<◌, ℕ, ◌+◌, ◌*◌, ◌-◌, ◌^◌, Bool, true, false, ◌||◌, List, [], ◌∷◌, ◌++◌, length, map, sum_by, refl, sym, ap, ◌∙◌, subst}
+use Rattle.std.proofs.Common.{◌≡◌, ◌≤◌, ◌<◌, ℕ, ◌+◌, ◌*◌, ◌-◌, Bool, true, false, ◌||◌, List, [], ◌∷◌, ◌++◌, length, map, sum_by, refl, sym, ap, ◌∙◌, subst}
 use Rattle.std.proofs.Common.{cond, arith, Result, Ok, Err, IfOk, OnOk}
 use Rattle.std.proofs.lemmas.Bool.{false≢true}
 use Rattle.std.proofs.lemmas.List.Sums.{sum_by-cons}
 use Rattle.std.specs.Char.{is_ascii_whitespace}
 use Rattle.std.specs.List.{AllByRecursion, list_all, list_any}
-use Rattle.tl_base.specs.declared.limits.TheConstants.{MAX_FILE_BYTES, MAX_COLSPAN, MAX_DEPTH, MAX_TABLES}
+use Rattle.tl_base.specs.declared.limits.TheConstants.{MAX_FILE_BYTES, MAX_COLSPAN, MAX_DECLARED_COLUMNS, MAX_DEPTH, MAX_TABLES}
 use Rattle.tl_token.specs.Characters.{is_control}
 use Rattle.tl_token.specs.declared.token.Token.{Token}
 use Rattle.tl_text.specs.Words.{has_character}
@@ -91,7 +91,8 @@ all_plain (atom ∷ atoms) h = (h.0.1, all_plain atoms h.1)
 fewer : (m : Mark) (ms : Marks) → sum_by mark_size (m ∷ ms) ≤ MAX_FILE_BYTES → sum_by mark_size ms ≤ MAX_FILE_BYTES
 fewer m ms h = omega (arith, sum_by-cons mark_size m ms)
 
-paragraph_in_range : (atoms : List Atom) → AllByRecursion IsPlain atoms → sum_by atom_size atoms ≤ MAX_FILE_BYTES → AllByRecursion IsInRange (paragraph_of atoms)
+paragraph_in_range : (atoms : List Atom) → AllByRecursion IsPlain atoms → sum_by atom_size atoms ≤ MAX_FILE_BYTES →
+    AllByRecursion IsInRange (paragraph_of atoms)
 paragraph_in_range [] plain size = tt
 paragraph_in_range (atom ∷ atoms) plain size = (
   record {
@@ -101,7 +102,7 @@ paragraph_in_range (atom ∷ atoms) plain size = (
   tt,
 )
 
-module _ (n : ℕ) (few : n < 2 ^ 30) where
+module _ (n : ℕ) (few : n ≤ MAX_DECLARED_COLUMNS) where
   leading_fine : (d : ℕ) (ms : Marks) → AreFineMarks n d ms → AllByRecursion (IsFineMark n) (leading ms)
   leading_fine d [] fine = tt
   leading_fine d (character c ∷ ms) fine = (fine.0, leading_fine d ms fine.1)

@@ -1,4 +1,3 @@
-use Rattle.tl_tree.proofs.Examples.{own_span}
 use Rattle.tl_tree.proofs.SameTrees.{one_tree}
 use Rattle.tl_tree.proofs.laws.tokens_spell_one_tree.Goals as goal
 
