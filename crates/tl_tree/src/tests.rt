@@ -392,6 +392,74 @@ fn two_hundred_tables_are_in_a_document(rt: HostRuntime) -> Result<(), Fail> {
     Ok(())
 }
 
+/// A table of a whole file, with the same text so many times, and its tree.
+fn compare_large(
+    rt: &impl Abort,
+    alloc: Global,
+    times: usize,
+    file: (&str, &str, &str),
+    wanted: (&str, &str, &str),
+) -> Result<(), AllocError> {
+    let inner = repeated(alloc, file.1, times)?;
+    let whole = format!(in alloc; "{}{}{}", file.0, inner.as_str(), file.2)?;
+    let inner = repeated(alloc, wanted.1, times)?;
+    let line = format!(in alloc; "{}{}{}", wanted.0, inner.as_str(), wanted.2)?;
+    assert_eq!(rt; shown(alloc, whole.as_bytes())?.as_str(), line.as_str());
+    Ok(())
+}
+
+#[test]
+fn rows_that_fill_a_file(rt: HostRuntime) -> Result<(), Fail> {
+    let file = ("<table>", "<tr>", "</table>");
+    compare_large(&rt, rt.alloc(), 262_140, file, ("[T0 Loose{", "|", "}]"))?;
+    Ok(())
+}
+
+#[test]
+fn empty_cells_that_fill_a_file(rt: HostRuntime) -> Result<(), Fail> {
+    let file = ("<table><tr>", "<td></td>", "</table>");
+    compare_large(&rt, rt.alloc(), 116_506, file, ("[T0 Loose{|", " d", "}]"))?;
+    Ok(())
+}
+
+#[test]
+fn breaks_that_fill_a_file(rt: HostRuntime) -> Result<(), Fail> {
+    let file = ("<table><tr><td><br>", "<br>", "</table>");
+    let wanted = ("[T0 Loose{| d(/", " /", ")}]");
+    compare_large(&rt, rt.alloc(), 262_136, file, wanted)?;
+    Ok(())
+}
+
+#[test]
+fn words_that_fill_a_file(rt: HostRuntime) -> Result<(), Fail> {
+    let file = ("<table><tr><td>a", " b", "</table>");
+    let wanted = ("[T0 Loose{| d(a", " b", ")}]");
+    compare_large(&rt, rt.alloc(), 524_276, file, wanted)?;
+    Ok(())
+}
+
+#[test]
+fn two_hundred_tables_that_fill_a_file(rt: HostRuntime) -> Result<(), Fail> {
+    let alloc = rt.alloc();
+    let cells = repeated(alloc, "<td>", 1_305)?;
+    let shown_cells = repeated(alloc, " d", 1_305)?;
+    let mut file = String::from_str(alloc, "<table><tr><td>")?;
+    let mut wanted = String::from_str(alloc, "[T0 Loose{| d")?;
+    for number in 1..200 {
+        file.push_str("<table><tr>")?;
+        file.push_str(cells.as_str())?;
+        file.push_str("</table>")?;
+        let begun = format!(in alloc; "[T{number} Loose{{|")?;
+        wanted.push_str(begun.as_str())?;
+        wanted.push_str(shown_cells.as_str())?;
+        wanted.push_str("}]")?;
+    }
+    file.push_str("</table>")?;
+    wanted.push_str("}]")?;
+    assert_eq!(rt; shown(alloc, file.as_bytes())?.as_str(), wanted.as_str());
+    Ok(())
+}
+
 fn share<T: Send + Sync + Drop>(_value: Option<T>) {}
 
 #[test]
