@@ -3,7 +3,7 @@ use Rattle.std.proofs.Common.{◌≡◌, List, [], ◌∷◌, Some, None, true, 
 use Rattle.tl_base.specs.declared.steps.Config.{Config}
 use Rattle.tl_base.specs.declared.limits.TheConstants.{MAX_FILE_BYTES, MAX_HEIGHT}
 use Rattle.tl_base.specs.Lists.{is_among}
-use Rattle.tl_base.specs.Steps.{first_width, first_height, height_at, stacked_height}
+use Rattle.tl_base.specs.Steps.{height_at, stacked_height}
 use Rattle.tl_base.specs.Text.{byte_count}
 
 -- Three words of two columns: three lines from 2 columns on, two from 5, one from 8.

@@ -1,8 +1,10 @@
 -- What filters, maps and joined lists contain, and lists in a strict order: two with the same elements are the same.
-use Rattle.std.proofs.Common.{◌≡◌, ℕ, ◌+◌, ◌-◌, ◌<◌, ◌≤◌, zero, suc, Bool, true, false, cond, List, [], ◌∷◌, ◌++◌, ◌⊎◌, inl, inr, length, map, get_or, filter, refl, sym, ap, ◌∙◌, subst, arith}
-use Rattle.std.specs.List.{All, AllPairs, Contains, flat_map, range_with_len}
-use Rattle.std.proofs.lemmas.Bool.{cases_Bool}
+use Rattle.std.proofs.Common.{◌≡◌, ℕ, ◌+◌, ◌-◌, ◌<◌, ◌≤◌, zero, suc, Bool, true, false, List, [], ◌∷◌, ◌++◌, ◌⊎◌, inl, inr, length, map, get_or, filter, refl, sym, ap, ◌∙◌, subst, arith}
+use Rattle.std.proofs.Common.{eqb, ◌||◌}
+use Rattle.std.specs.List.{All, AllPairs, Contains, flat_map, list_any, range_with_len}
+use Rattle.std.proofs.lemmas.Bool.{cases_Bool, cases_eq, eq-eqb, ne_eqb}
 use Rattle.std.proofs.lemmas.List.Elements.{All-filter, All-contains, Contains-get_or, Contains-append_left, Contains-append_right, Contains-append_cases}
+use Rattle.tl_base.specs.Lists.{is_among}
 use Rattle.std.proofs.lemmas.List.FromFn.{length-range_with_len, get_or-range_with_len}
 
 -- ---- the first element, and the others
@@ -23,6 +25,28 @@ Contains-none x has = omega (arith, has.1)
 -- what is so of each element that the list contains is so of all
 pub All-from_Contains : {X : Type 0} (P : X → Type 0) (xs : List X) → ((x : X) → Contains xs x → P x) → All P xs
 All-from_Contains P xs each = λ k d within. each (get_or xs k d) (Contains-get_or xs k d within)
+
+-- ---- the numbers of a list
+
+-- each of two equal numbers equals the other
+eqb-sym : (m n : ℕ) → eqb m n ≡ eqb n m
+eqb-sym m n = elim (cases_eq m n) [
+  | inl same ↦ eq-eqb m n same ∙ sym (eq-eqb n m (sym same))
+  | inr other ↦ ne_eqb m n other ∙ sym (ne_eqb n m (λ same. other (sym same)))
+]
+
+or-false : (b : Bool) → b ≡ (b || false)
+or-false true = refl
+or-false false = refl
+
+-- a number is among those of a list if it is the first or among the others
+pub is_among-cons : (number : ℕ) (others : List ℕ) (n : ℕ) → is_among (number ∷ others) n ≡ (eqb number n || is_among others n)
+is_among-cons number [] n = eqb-sym n number ∙ or-false (eqb number n)
+is_among-cons number (another ∷ others) n = ap (λ b. b || is_among (another ∷ others) n) (eqb-sym n number)
+
+pub is_among-list_any : (numbers : List ℕ) (n : ℕ) → is_among numbers n ≡ list_any (λ number. eqb number n) numbers
+is_among-list_any [] n = refl
+is_among-list_any (number ∷ others) n = is_among-cons number others n ∙ ap (λ b. eqb number n || b) (is_among-list_any others n)
 
 -- ---- filters, maps, joined lists, and numbers in a row
 
@@ -108,7 +132,8 @@ AllPairs-head R x xs all = λ k d within. all 0 (suc k) d (omega arith) (omega a
 pub AllPairs-tail : {X : Type 0} (R : X → X → Type 0) (x : X) (xs : List X) → AllPairs R (x ∷ xs) → AllPairs R xs
 AllPairs-tail R x xs all = λ i j d before within. all (suc i) (suc j) d (omega arith) (omega arith)
 
-pub AllPairs-append : {X : Type 0} (R : X → X → Type 0) (xs ys : List X) → AllPairs R xs → AllPairs R ys → ((x y : X) → Contains xs x → Contains ys y → R x y) → AllPairs R (xs ++ ys)
+pub AllPairs-append : {X : Type 0} (R : X → X → Type 0) (xs ys : List X) → AllPairs R xs → AllPairs R ys →
+    ((x y : X) → Contains xs x → Contains ys y → R x y) → AllPairs R (xs ++ ys)
 AllPairs-append R [] ys first second between = second
 AllPairs-append R (x ∷ xs) ys first second between =
     AllPairs-cons R x (xs ++ ys)
@@ -155,7 +180,8 @@ AllPairs-range a (suc n) =
 -- ---- in a strict order two lists with the same elements are the same
 
 module _ {X : Type 0} (R : X → X → Type 0) (strict : (x y : X) → R x y → R y x → ⊥) where
-  pub same-ordered : (xs ys : List X) → AllPairs R xs → AllPairs R ys → ((x : X) → Contains xs x → Contains ys x) → ((x : X) → Contains ys x → Contains xs x) → xs ≡ ys
+  pub same-ordered : (xs ys : List X) → AllPairs R xs → AllPairs R ys → ((x : X) → Contains xs x → Contains ys x) →
+      ((x : X) → Contains ys x → Contains xs x) → xs ≡ ys
   same-ordered [] [] first second there back = refl
   same-ordered [] (y ∷ ys) first second there back = absurd (Contains-none y (back y (Contains-first y ys)))
   same-ordered (x ∷ xs) [] first second there back = absurd (Contains-none x (there x (Contains-first x xs)))

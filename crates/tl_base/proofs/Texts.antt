@@ -7,7 +7,7 @@ use Rattle.std.specs.Char.{encode_utf8}
 use Rattle.std.specs.Str.{chars, IsUtf8, encode_utf8_all}
 use Rattle.std.proofs.lemmas.List.{append-nil, nil_from_length}
 use Rattle.std.proofs.lemmas.Slice.Eq.{bytes_eq-Decides}
-use Rattle.std.proofs.lemmas.Str.{chars-nil, encodes-chars, encodes-append, chars_from_encodes, length-le-encodes}
+use Rattle.std.proofs.lemmas.Str.{encodes-chars, encodes-append, chars_from_encodes, length-le-encodes}
 use Rattle.tl_base.specs.Text.{byte_count}
 
 -- a text has as many bytes as its characters take

@@ -11,6 +11,10 @@ pub const MAX_PAGE_WIDTH: u32 = 500;
 /// How many columns a cell may span, and a `col` or `colgroup` (HTML Standard, 4.9.11 and 4.9.3).
 pub const MAX_COLSPAN: u32 = 1_000;
 
+/// How many columns the `col` and `colgroup` tags of one table may stand for together. No file of
+/// at most [`MAX_FILE_BYTES`] bytes passes it.
+pub const MAX_DECLARED_COLUMNS: u32 = 1_073_741_823;
+
 /// How many rows a cell may span (HTML Standard, 4.9.11).
 pub const MAX_ROWSPAN: u32 = 65_534;
 

@@ -41,10 +41,12 @@ via-AtMost (Some c) None w t h = absurd h
 via-AtMost (Some c) (Some e) w t h = (c, (e, (omega (arith, ints), (omega (arith, ints), h))))
 
 -- what a bound of t says of positions
-pub Satisfies-at : (bounds : Bounds) (x : ℕ → ℤ) (p q : ℕ) (t : ℤ) → Satisfies bounds x → p < bounds.n → q < bounds.n → AtMost (bound_at bounds p q) t → IsWithin x p q t
+pub Satisfies-at : (bounds : Bounds) (x : ℕ → ℤ) (p q : ℕ) (t : ℤ) → Satisfies bounds x → p < bounds.n → q < bounds.n → AtMost (bound_at bounds p q) t
+    → IsWithin x p q t
 Satisfies-at bounds x p q t meets first second h =
     let c = AtMost-some (bound_at bounds p q) t h in
     omega (arith, ints, meets p q first second c.0 c.1.0, c.1.1)
 
-pub Satisfies-from : (bounds : Bounds) (x : ℕ → ℤ) → ((p q : ℕ) (t : ℤ) → p < bounds.n → q < bounds.n → AtMost (bound_at bounds p q) t → IsWithin x p q t) → Satisfies bounds x
+pub Satisfies-from : (bounds : Bounds) (x : ℕ → ℤ) →
+    ((p q : ℕ) (t : ℤ) → p < bounds.n → q < bounds.n → AtMost (bound_at bounds p q) t → IsWithin x p q t) → Satisfies bounds x
 Satisfies-from bounds x h p q first second c is = h p q c first second (rw is (omega (arith, ints)))

@@ -16,12 +16,14 @@ IsGreatest-bounded bounds a b most h none =
     omega (arith, ints, more.1.1, h.implied more.0 more.1.0)
 
 -- a returned bound is a number where there is a greatest difference
-pub IsSome-greatest : (bounds : Bounds) (a b : ℕ) (o : Option ℤ) → MatchOption o (HasNoGreatest bounds a b) (IsGreatest bounds a b) → (HasNoGreatest bounds a b → ⊥) → IsSome o
+pub IsSome-greatest : (bounds : Bounds) (a b : ℕ) (o : Option ℤ) → MatchOption o (HasNoGreatest bounds a b) (IsGreatest bounds a b) →
+    (HasNoGreatest bounds a b → ⊥) → IsSome o
 IsSome-greatest bounds a b None none has = absurd (has none)
 IsSome-greatest bounds a b (Some c) h has = refl
 
 -- a returned bound that is a number is a greatest difference, so that not every number is passed
-pub HasGreatest-some : (bounds : Bounds) (a b : ℕ) (o : Option ℤ) → MatchOption o (HasNoGreatest bounds a b) (IsGreatest bounds a b) → IsSome o → HasGreatest bounds a b
+pub HasGreatest-some : (bounds : Bounds) (a b : ℕ) (o : Option ℤ) → MatchOption o (HasNoGreatest bounds a b) (IsGreatest bounds a b) → IsSome o →
+    HasGreatest bounds a b
 HasGreatest-some bounds a b None h some = cc
 HasGreatest-some bounds a b (Some c) h some = (c, h)
 
@@ -44,7 +46,8 @@ pub AddsBound-shrinks : (old new : Bounds) (a b : ℕ) (most : ℤ) → AddsBoun
 AddsBound-shrinks old new a b most h some = (some.0, h.keeps some.0 some.1)
 
 -- a greatest difference does not rise by one constraint more
-pub IsGreatest-falls : (old new : Bounds) (a b : ℕ) (most : ℤ) → AddsBound old new a b most → (p q : ℕ) (s t : ℤ) → IsGreatest old p q s → IsGreatest new p q t → t ≤ℤ s
+pub IsGreatest-falls : (old new : Bounds) (a b : ℕ) (most : ℤ) → AddsBound old new a b most → (p q : ℕ) (s t : ℤ) → IsGreatest old p q s →
+    IsGreatest new p q t → t ≤ℤ s
 IsGreatest-falls old new a b most h p q s t before after =
     omega (arith, ints, after.reached.1.1, before.implied after.reached.0 (h.keeps after.reached.0 after.reached.1.0))
 
@@ -62,10 +65,12 @@ Implied-none bounds a b most none implied =
     omega (arith, ints, more.1.1, implied more.0 more.1.0)
 
 -- `undo` gives back the constraints of the last mark, and so what satisfies them.
-pub undo_last : (old new : MarkedBounds) (last : Bounds) (rest : List Bounds) → old.held ≡ new.bounds ∷ new.held → old.held ≡ last ∷ rest → (new.bounds ≡ last) × (new.held ≡ rest)
+pub undo_last : (old new : MarkedBounds) (last : Bounds) (rest : List Bounds) → old.held ≡ new.bounds ∷ new.held → old.held ≡ last ∷ rest →
+    (new.bounds ≡ last) × (new.held ≡ rest)
 undo_last old new last rest undone held = (cc, cc)
 
-pub undo_gives_back : (old new : MarkedBounds) (last : Bounds) (rest : List Bounds) → old.held ≡ new.bounds ∷ new.held → old.held ≡ last ∷ rest → (x : ℕ → ℤ) → Satisfies new.bounds x ↔ Satisfies last x
+pub undo_gives_back : (old new : MarkedBounds) (last : Bounds) (rest : List Bounds) → old.held ≡ new.bounds ∷ new.held → old.held ≡ last ∷ rest →
+    (x : ℕ → ℤ) → Satisfies new.bounds x ↔ Satisfies last x
 undo_gives_back old new last rest undone held x =
     let same = (undo_last old new last rest undone held).0 in
     (λ meets. rw same at meets, λ meets. rw same meets)

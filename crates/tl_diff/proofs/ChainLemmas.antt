@@ -48,7 +48,8 @@ pub record IsTaken (n : ℕ) (arcs : List Arc) (out : List ℕ) (place i : ℕ) 
   pub weighs : path_weight arcs taken + get_or out place 0 ≡ get_or out n 0
   pub done : (j : ℕ) → i ≤ j → j < length arcs → (arc_at arcs j).to ≤ place → get_or out (arc_at arcs j).from 0 + (arc_at arcs j).weight < get_or out place 0
 
-module _ (n : ℕ) (arcs : List Arc) (out : List ℕ) (forward : LeadForward n arcs) (in_order : InOrder arcs) (heaviest : (k : ℕ) → k ≤ n → IsHeaviest arcs k (get_or out k 0)) where
+module _ (n : ℕ) (arcs : List Arc) (out : List ℕ) (forward : LeadForward n arcs) (in_order : InOrder arcs)
+    (heaviest : (k : ℕ) → k ≤ n → IsHeaviest arcs k (get_or out k 0)) where
   -- what an arc adds is never more than what is between its ends, nor than what is up to a later place
   pub arc-le : (i k : ℕ) → i < length arcs → (arc_at arcs i).to ≤ k → k ≤ n → get_or out (arc_at arcs i).from 0 + (arc_at arcs i).weight ≤ get_or out k 0
   arc-le i k there ends up =
@@ -86,10 +87,12 @@ module _ (n : ℕ) (arcs : List Arc) (out : List ℕ) (forward : LeadForward n a
     weighs = h.weighs;
     done = λ j from within ends. done j from within ends (cases_eq i j);
   } where
-    done : (j : ℕ) → i ≤ j → j < length arcs → (arc_at arcs j).to ≤ place → (i ≡ j) ⊎ (i ≢ j) → get_or out (arc_at arcs j).from 0 + (arc_at arcs j).weight < get_or out place 0
+    done : (j : ℕ) → i ≤ j → j < length arcs → (arc_at arcs j).to ≤ place → (i ≡ j) ⊎ (i ≢ j) →
+        get_or out (arc_at arcs j).from 0 + (arc_at arcs j).weight < get_or out place 0
     done j from within ends (inl e) =
         let here : (arc_at arcs i).to ≤ place = rw e ends in
-        let less : get_or out (arc_at arcs i).from 0 + (arc_at arcs i).weight < get_or out place 0 = omega (arith, arc-le i place there here h.up, apart here) in
+        let less : get_or out (arc_at arcs i).from 0 + (arc_at arcs i).weight < get_or out place 0 =
+            omega (arith, arc-le i place there here h.up, apart here) in
         rw e at less
     done j from within ends (inr other) = h.done j (omega arith) within ends
 
@@ -106,4 +109,5 @@ module _ (n : ℕ) (arcs : List Arc) (out : List ℕ) (forward : LeadForward n a
       nothing [] path weighs = sym weighs
       nothing (i ∷ is) path weighs =
           let e = IsPath-last arcs 0 i is place path in
-          absurd (omega (arith, h.done e.last (omega arith) e.there e.ends, e.weighs, (heaviest (arc_at arcs e.last).from (omega (arith, forward e.last e.there, h.up, e.ends))).greatest e.way e.leads))
+          absurd (omega (arith, h.done e.last (omega arith) e.there e.ends, e.weighs,
+              (heaviest (arc_at arcs e.last).from (omega (arith, forward e.last e.there, h.up, e.ends))).greatest e.way e.leads))

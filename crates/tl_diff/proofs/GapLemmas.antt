@@ -77,7 +77,8 @@ module _ (x : ℕ → ℤ) where
       (λ g. inl (g.0, (omega arith, g.1.1)))
       (λ more. ⊎_elim
       (λ gap. inl (k, (omega arith, gap)))
-      (λ f. inr (omega (arith, more, count_more (x l +ℤ pos (MAX_BOUND * k)) (x l +ℤ pos (MAX_BOUND * suc k)) n f.0 (omega (arith, ints)) f.1.0 f.1.1.0 (omega (arith, ints, f.1.1.1)))))
+      (λ f. inr (omega (arith, more, count_more (x l +ℤ pos (MAX_BOUND * k)) (x l +ℤ pos (MAX_BOUND * suc k)) n f.0
+          (omega (arith, ints)) f.1.0 f.1.1.0 (omega (arith, ints, f.1.1.1)))))
       (find_gap (x l +ℤ pos (MAX_BOUND * k)) n))
       (gap_among n l there k)
 
@@ -112,7 +113,8 @@ moved_within x t s u v n w first second gap low small_low small_high h =
     (gap v second))
     (gap u first)
 
-pub IsLoose-adds : (old new : Bounds) (u v : ℕ) (w : ℤ) → u < old.n → v < old.n → AddsBound old new u v w → neg_ℤ (pos MAX_BOUND) ≤ℤ w → w ≤ℤ pos MAX_BOUND → IsLoose old → IsLoose new
+pub IsLoose-adds : (old new : Bounds) (u v : ℕ) (w : ℤ) → u < old.n → v < old.n → AddsBound old new u v w → neg_ℤ (pos MAX_BOUND) ≤ℤ w →
+    w ≤ℤ pos MAX_BOUND → IsLoose old → IsLoose new
 IsLoose-adds old new u v w first second adds low high loose x t s meets gap back =
     let gap_old : IsGap old.n x t = (λ p there. gap p (omega (arith, adds.variables))) in
     adds.all (moved_past x t s) (loose x t s (adds.keeps x meets) gap_old back)
@@ -147,7 +149,8 @@ module _ (bounds : Bounds) (closed : IsClosed bounds) (loose : IsLoose bounds) w
 
   pub AreSmall-closed : AreSmall bounds
   AreSmall-closed a b c first second is =
-      (by_order c (neg_ℤ (pos (MAX_BOUND * bounds.n))) (not_below a b first second c is), by_order (pos (MAX_BOUND * bounds.n)) c (not_above a b first second c is))
+      (by_order c (neg_ℤ (pos (MAX_BOUND * bounds.n))) (not_below a b first second c is), by_order (pos (MAX_BOUND * bounds.n)) c
+          (not_above a b first second c is))
     where
       by_order : (i j : ℤ) → ((i <ℤ j) → ⊥) → j ≤ℤ i
       by_order i j h = by_lt_z i j (λ less. absurd (h less)) (λ le. le)

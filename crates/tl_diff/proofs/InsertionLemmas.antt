@@ -20,7 +20,8 @@ IsSatisfiable-sound bounds true h = (λ _. ((λ p. under bounds (λ _. pos 0) p 
 IsSatisfiable-sound bounds false h = (λ e. cc, λ some. absurd (h.none refl some.0 some.1))
 
 -- one look-up gives the greatest difference
-pub upper_sound : (bounds : Bounds) (holds : Bool) (a b : ℕ) (o : Option ℤ) → IsSound bounds holds → IsSatisfiable bounds → a < bounds.n → b < bounds.n → o ≡ bound_at bounds a b
+pub upper_sound : (bounds : Bounds) (holds : Bool) (a b : ℕ) (o : Option ℤ) → IsSound bounds holds → IsSatisfiable bounds → a < bounds.n →
+    b < bounds.n → o ≡ bound_at bounds a b
     → MatchOption o (HasNoGreatest bounds a b) (IsGreatest bounds a b)
 upper_sound bounds holds a b None h some first second is =
     HasNoGreatest-closed bounds (h.exact ((IsSatisfiable-sound bounds holds h).1 some)).closed a b first second (sym is)
@@ -37,7 +38,8 @@ IsRowSmall-sound bounds p few small there q c within is =
     (omega (arith, ints, h.0), omega (arith, ints, h.1))
 
 -- the bound that one look-up finds is small
-pub small_sound : (bounds : Bounds) (holds : Bool) (a b : ℕ) (o : Option ℤ) → IsSound bounds holds → IsSatisfiable bounds → a < bounds.n → b < bounds.n → o ≡ bound_at bounds a b → IfSome o IsSmall
+pub small_sound : (bounds : Bounds) (holds : Bool) (a b : ℕ) (o : Option ℤ) → IsSound bounds holds → IsSatisfiable bounds → a < bounds.n →
+    b < bounds.n → o ≡ bound_at bounds a b → IfSome o IsSmall
 small_sound bounds holds a b None h some first second is = tt
 small_sound bounds holds a b (Some c) h some first second is =
     IsRowSmall-sound bounds a h.few (IsExact-sound bounds holds h some).small first b c second (sym is)
@@ -45,19 +47,22 @@ small_sound bounds holds a b (Some c) h some first second is =
 -- ---- no constraints
 
 module _ (n : ℕ) (rows : List (Option ℤ)) where
-  pub IsFree-own : (variable : ℕ) → IsFree (bounds_of n rows) variable → variable < n → IsFree (bounds_of n (set rows (variable * n + variable) (Some (pos 0)))) (variable + 1)
+  pub IsFree-own : (variable : ℕ) → IsFree (bounds_of n rows) variable → variable < n →
+      IsFree (bounds_of n (set rows (variable * n + variable) (Some (pos 0)))) (variable + 1)
   IsFree-own variable h there = record {
     pairs = length-set rows (variable * n + variable) (Some (pos 0)) ∙ h.pairs;
     own = λ p from below. own p from below (cases_eq p variable);
     other = λ p q from to apart. other p q from to apart (cases_eq p variable);
   } where
-    own : (p : ℕ) → p < n → p < variable + 1 → (p ≡ variable) ⊎ (p ≢ variable) → bound_at (bounds_of n (set rows (variable * n + variable) (Some (pos 0)))) p p ≡ Some (pos 0)
+    own : (p : ℕ) → p < n → p < variable + 1 → (p ≡ variable) ⊎ (p ≢ variable) →
+        bound_at (bounds_of n (set rows (variable * n + variable) (Some (pos 0)))) p p ≡ Some (pos 0)
     own p from below (inl e) =
         subst (λ j. bound_at (bounds_of n (set rows (variable * n + variable) (Some (pos 0)))) j j ≡ Some (pos 0)) (sym e)
         (bound_at-set_same n rows variable variable (Some (pos 0)) h.pairs there there)
     own p from below (inr apart) = bound_at-set_row n rows variable variable (Some (pos 0)) p p there from apart ∙ h.own p from (omega arith)
 
-    other : (p q : ℕ) → p < n → q < n → p ≢ q → (p ≡ variable) ⊎ (p ≢ variable) → bound_at (bounds_of n (set rows (variable * n + variable) (Some (pos 0)))) p q ≡ None
+    other : (p q : ℕ) → p < n → q < n → p ≢ q → (p ≡ variable) ⊎ (p ≢ variable) →
+        bound_at (bounds_of n (set rows (variable * n + variable) (Some (pos 0)))) p q ≡ None
     other p q from to apart (inl e) =
         bound_at-set_column n rows variable variable (Some (pos 0)) p q there to (λ k. apart (e ∙ sym k)) ∙ h.other p q from to apart
     other p q from to apart (inr off) = bound_at-set_row n rows variable variable (Some (pos 0)) p q there to off ∙ h.other p q from to apart
@@ -130,7 +135,8 @@ module _ (n : ℕ) (rows : List (Option ℤ)) (a b : ℕ) (most : ℤ) (first : 
 
         cases : (a ≡ b) ⊎ (a ≢ b) → ⊥
         cases (inl e) =
-            let low = exact.closed.own_least a (negsuc 0 -ℤ most) first (subst (λ j. AtMost (bound_at (bounds_of n rows) j a) (negsuc 0 -ℤ most)) (sym e) back) in
+            let low = exact.closed.own_least a (negsuc 0 -ℤ most) first
+                (subst (λ j. AtMost (bound_at (bounds_of n rows) j a) (negsuc 0 -ℤ most)) (sym e) back) in
             omega (arith, ints, low, there, ap x e)
         cases (inr apart) =
             let still = bound_at-set_row n rows a b (Some most) b a second first (λ e. apart (sym e)) in

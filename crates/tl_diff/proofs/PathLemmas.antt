@@ -15,7 +15,8 @@ IsPath-further arcs p [] k m path far = omega arith
 IsPath-further arcs p (i ∷ is) k m path far = (path.0, path.1, IsPath-further arcs (arc_at arcs i).to is k m path.2 far)
 
 -- and along an arc that begins there or later
-pub IsPath-push : (arcs : List Arc) (p : ℕ) (is : List ℕ) (k i m : ℕ) → IsPath arcs p is k → i < length arcs → k ≤ (arc_at arcs i).from → (arc_at arcs i).to ≤ m → IsPath arcs p (is ++ i ∷ []) m
+pub IsPath-push : (arcs : List Arc) (p : ℕ) (is : List ℕ) (k i m : ℕ) → IsPath arcs p is k → i < length arcs → k ≤ (arc_at arcs i).from →
+    (arc_at arcs i).to ≤ m → IsPath arcs p (is ++ i ∷ []) m
 IsPath-push arcs p [] k i m path there from to = (there, omega arith, to)
 IsPath-push arcs p (j ∷ is) k i m path there from to =
     (path.0, path.1, IsPath-push arcs (arc_at arcs j).to is k i m path.2 there from to)
@@ -58,26 +59,31 @@ module _ (n : ℕ) (arcs : List Arc) (place next : ℕ) (out : List ℕ) (forwar
     in_room : (arc_at arcs next).to < length out
     in_room = omega (arith, h.room, forward next there)
 
-    arc-reached : (k : ℕ) → k ≤ n → (k ≡ (arc_at arcs next).to) ⊎ (k ≢ (arc_at arcs next).to) → (is : List ℕ) × (IsPath arcs 0 is k × (path_weight arcs is ≡ get_or after k 0))
+    arc-reached : (k : ℕ) → k ≤ n → (k ≡ (arc_at arcs next).to) ⊎ (k ≢ (arc_at arcs next).to) →
+        (is : List ℕ) × (IsPath arcs 0 is k × (path_weight arcs is ≡ get_or after k 0))
     arc-reached k up (inr apart) = let r = h.reached k up in (r.0, (r.1.0, r.1.1 ∙ sym (raised_other out _ along in_room k apart)))
     arc-reached k up (inl same) = go (cases_lt (get_or out k 0) along)
       where
         go : (get_or out k 0 < along) ⊎ (along ≤ get_or out k 0) → (is : List ℕ) × (IsPath arcs 0 is k × (path_weight arcs is ≡ get_or after k 0))
         go (inl less) =
             let r = h.reached place (omega (arith, forward next there)) in
-            (r.0 ++ next ∷ [], (IsPath-push arcs 0 r.0 place next k r.1.0 there (omega arith) (omega arith), path_weight-push arcs r.0 next ∙ omega (arith, r.1.1, raised_same out _ along in_room k same, ap (λ j. get_or out j 0) same)))
+            (r.0 ++ next ∷ [], (IsPath-push arcs 0 r.0 place next k r.1.0 there (omega arith) (omega arith), path_weight-push arcs r.0 next
+                ∙ omega (arith, r.1.1, raised_same out _ along in_room k same, ap (λ j. get_or out j 0) same)))
         go (inr more) = let r = h.reached k up in (r.0, (r.1.0, omega (arith, r.1.1, raised_same out _ along in_room k same, ap (λ j. get_or out j 0) same)))
 
     arc-taken-here : get_or after (arc_at arcs next).from 0 + (arc_at arcs next).weight ≤ get_or after (arc_at arcs next).to 0
     arc-taken-here =
-        omega (arith, raised_other out _ along in_room (arc_at arcs next).from (omega (arith, forward next there)), raised_at out _ along in_room, ap (λ j. get_or out j 0) from)
+        omega (arith, raised_other out _ along in_room (arc_at arcs next).from (omega (arith, forward next there)), raised_at out _ along in_room, ap
+            (λ j. get_or out j 0) from)
 
-    arc-taken : (i : ℕ) → i < next + 1 → (i ≡ next) ⊎ (i ≢ next) → get_or after (arc_at arcs i).from 0 + (arc_at arcs i).weight ≤ get_or after (arc_at arcs i).to 0
+    arc-taken : (i : ℕ) → i < next + 1 → (i ≡ next) ⊎ (i ≢ next) →
+        get_or after (arc_at arcs i).from 0 + (arc_at arcs i).weight ≤ get_or after (arc_at arcs i).to 0
     arc-taken i below (inl same) =
         rw same arc-taken-here
     arc-taken i below (inr apart) =
         let low : i < next = omega arith in
-        omega (arith, raised_other out _ along in_room (arc_at arcs i).from (omega (arith, h.before i low, forward next there)), raised_le out _ along in_room (arc_at arcs i).to, h.taken i low)
+        omega (arith, raised_other out _ along in_room (arc_at arcs i).from (omega (arith, h.before i low, forward next there)), raised_le out _ along
+            in_room (arc_at arcs i).to, h.taken i low)
 
     arc-before : (i : ℕ) → i < next + 1 → (i ≡ next) ⊎ (i ≢ next) → (arc_at arcs i).from < place + 1
     arc-before i below (inl same) = rw same (omega arith)
@@ -121,17 +127,21 @@ module _ (n : ℕ) (arcs : List Arc) (place next : ℕ) (out : List ℕ) (forwar
     on-reached k up (inr apart) = let r = h.reached k up in (r.0, (r.1.0, r.1.1 ∙ sym (raised_other out _ (get_or out place 0) on-room k apart)))
     on-reached k up (inl same) = go (cases_lt (get_or out k 0) (get_or out place 0))
       where
-        go : (get_or out k 0 < get_or out place 0) ⊎ (get_or out place 0 ≤ get_or out k 0) → (is : List ℕ) × (IsPath arcs 0 is k × (path_weight arcs is ≡ get_or on k 0))
+        go : (get_or out k 0 < get_or out place 0) ⊎ (get_or out place 0 ≤ get_or out k 0) →
+            (is : List ℕ) × (IsPath arcs 0 is k × (path_weight arcs is ≡ get_or on k 0))
         go (inl less) =
             let r = h.reached place (omega arith) in
-            (r.0, (IsPath-further arcs 0 r.0 place k r.1.0 (omega arith), omega (arith, r.1.1, raised_same out _ (get_or out place 0) on-room k same, ap (λ j. get_or out j 0) same)))
-        go (inr more) = let r = h.reached k up in (r.0, (r.1.0, omega (arith, r.1.1, raised_same out _ (get_or out place 0) on-room k same, ap (λ j. get_or out j 0) same)))
+            (r.0, (IsPath-further arcs 0 r.0 place k r.1.0 (omega arith), omega
+                (arith, r.1.1, raised_same out _ (get_or out place 0) on-room k same, ap (λ j. get_or out j 0) same)))
+        go (inr more) = let r = h.reached k up in
+            (r.0, (r.1.0, omega (arith, r.1.1, raised_same out _ (get_or out place 0) on-room k same, ap (λ j. get_or out j 0) same)))
 
     on-rising : (k : ℕ) → k < place + 1 → (k ≡ place) ⊎ (k ≢ place) → get_or on k 0 ≤ get_or on (k + 1) 0
     on-rising k below (inl same) =
         rw same (omega (arith, raised_other out _ (get_or out place 0) on-room place (omega arith), raised_at out _ (get_or out place 0) on-room))
     on-rising k below (inr apart) =
-        omega (arith, raised_other out _ (get_or out place 0) on-room k (omega arith), raised_other out _ (get_or out place 0) on-room (k + 1) (omega arith), h.rising k (omega arith))
+        omega (arith, raised_other out _ (get_or out place 0) on-room k (omega arith), raised_other out _ (get_or out place 0) on-room (k + 1)
+            (omega arith), h.rising k (omega arith))
 
     on-later : (i : ℕ) → next ≤ i → i < length arcs → (i ≡ next) ⊎ (i ≢ next) → place + 1 ≤ (arc_at arcs i).from
     on-later i from within (inl same) =
@@ -158,7 +168,8 @@ module _ (n : ℕ) (arcs : List Arc) (place next : ℕ) (out : List ℕ) (forwar
       reached = λ k up. on-reached k up (cases_eq k (place + 1));
       rising = λ k below. on-rising k below (cases_eq k place);
       taken = λ i below.
-          omega (arith, raised_other out _ (get_or out place 0) on-room (arc_at arcs i).from (omega (arith, h.before i below)), raised_le out _ (get_or out place 0) on-room (arc_at arcs i).to, h.taken i below);
+          omega (arith, raised_other out _ (get_or out place 0) on-room (arc_at arcs i).from (omega (arith, h.before i below)), raised_le out _
+              (get_or out place 0) on-room (arc_at arcs i).to, h.taken i below);
       before = h.before;
       later = λ i from within. on-later i from within (cases_eq i next);
       small = λ k up. on-small k up (cases_eq k (place + 1));
@@ -182,7 +193,8 @@ module _ (n : ℕ) (arcs : List Arc) (next : ℕ) (out : List ℕ) (forward : Le
   path_weight-le p [] k path up = omega (arith, rising_to p k path up)
   path_weight-le p (i ∷ is) k path up =
       let past : i < next = ⊎_elim (λ l. l) (λ g. absurd (omega (arith, h.later i g path.0, forward i path.0))) (cases_lt i next) in
-      omega (arith, path_weight-le (arc_at arcs i).to is k path.2 up, h.taken i past, rising_to p (arc_at arcs i).from path.1 (omega (arith, forward i path.0)), sum_by-cons (λ j. (arc_at arcs j).weight) i is)
+      omega (arith, path_weight-le (arc_at arcs i).to is k path.2 up, h.taken i past, rising_to p (arc_at arcs i).from path.1
+          (omega (arith, forward i path.0)), sum_by-cons (λ j. (arc_at arcs j).weight) i is)
 
   pub IsHeaviest-relaxed : (k : ℕ) → k ≤ n → IsHeaviest arcs k (get_or out k 0)
   IsHeaviest-relaxed k up = record {

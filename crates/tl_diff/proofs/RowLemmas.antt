@@ -42,16 +42,21 @@ module _ (n : ℕ) (old cur : List (Option ℤ)) (variable to : ℕ) (way : ℤ)
       (λ apart. h.others to end goes there apart)
       (cases_eq to variable)
 
-  skip_here : bound_at (bounds_of n cur) to end ≡ None → bound_at (bounds_of n cur) variable end ≡ lesser (bound_at (bounds_of n old) variable end) (beyond way (bound_at (bounds_of n old) to end))
+  skip_here : bound_at (bounds_of n cur) to end ≡ None →
+      bound_at (bounds_of n cur) variable end ≡ lesser (bound_at (bounds_of n old) variable end) (beyond way (bound_at (bounds_of n old) to end))
   skip_here none =
       let at_old : bound_at (bounds_of n old) to end ≡ None = sym read_old ∙ none in
-      h.rest end there (omega arith) ∙ (sym (lesser-none (bound_at (bounds_of n old) variable end)) ∙ ap (λ m. lesser (bound_at (bounds_of n old) variable end) (beyond way m)) (sym at_old))
+      h.rest end there (omega arith) ∙ (sym (lesser-none (bound_at (bounds_of n old) variable end))
+          ∙ ap (λ m. lesser (bound_at (bounds_of n old) variable end) (beyond way m)) (sym at_old))
 
   write_here : (t : ℤ) (o : Option ℤ) → bound_at (bounds_of n cur) to end ≡ Some t → o ≡ lesser (bound_at (bounds_of n cur) variable end) (Some (way +ℤ t))
-      → bound_at (bounds_of n (set cur (variable * n + end) o)) variable end ≡ lesser (bound_at (bounds_of n old) variable end) (beyond way (bound_at (bounds_of n old) to end))
+      → bound_at (bounds_of n (set cur (variable * n + end) o)) variable end ≡ lesser (bound_at (bounds_of n old) variable end)
+          (beyond way (bound_at (bounds_of n old) to end))
   write_here t o some is =
       let at_old : bound_at (bounds_of n old) to end ≡ Some t = sym read_old ∙ some in
-      bound_at-set_same n cur variable end o h.pairs begins there ∙ (is ∙ (ap (λ m. lesser m (Some (way +ℤ t))) (h.rest end there (omega arith)) ∙ ap (λ m. lesser (bound_at (bounds_of n old) variable end) (beyond way m)) (sym at_old)))
+      bound_at-set_same n cur variable end o h.pairs begins there
+          ∙ (is ∙ (ap (λ m. lesser m (Some (way +ℤ t))) (h.rest end there (omega arith))
+          ∙ ap (λ m. lesser (bound_at (bounds_of n old) variable end) (beyond way m)) (sym at_old)))
 
   pub IsRowImproved-skip : bound_at (bounds_of n cur) to end ≡ None → IsRowImproved (bounds_of n old) (bounds_of n cur) variable to way (end + 1)
   IsRowImproved-skip none = record {
@@ -61,11 +66,15 @@ module _ (n : ℕ) (old cur : List (Option ℤ)) (variable to : ℕ) (way : ℤ)
     done = λ q within below. done q within below (cases_eq q end);
     rest = λ q within from. h.rest q within (omega arith);
   } where
-    done : (q : ℕ) → q < n → q < end + 1 → (q ≡ end) ⊎ (q ≢ end) → bound_at (bounds_of n cur) variable q ≡ lesser (bound_at (bounds_of n old) variable q) (beyond way (bound_at (bounds_of n old) to q))
-    done q within below (inl e) = subst (λ j. bound_at (bounds_of n cur) variable j ≡ lesser (bound_at (bounds_of n old) variable j) (beyond way (bound_at (bounds_of n old) to j))) (sym e) (skip_here none)
+    done : (q : ℕ) → q < n → q < end + 1 → (q ≡ end) ⊎ (q ≢ end) →
+        bound_at (bounds_of n cur) variable q ≡ lesser (bound_at (bounds_of n old) variable q) (beyond way (bound_at (bounds_of n old) to q))
+    done q within below (inl e) = subst
+        (λ j. bound_at (bounds_of n cur) variable j ≡ lesser (bound_at (bounds_of n old) variable j) (beyond way (bound_at (bounds_of n old) to j)))
+        (sym e) (skip_here none)
     done q within below (inr apart) = h.done q within (omega arith)
 
-  pub IsRowImproved-write : (t : ℤ) (o : Option ℤ) → bound_at (bounds_of n cur) to end ≡ Some t → o ≡ lesser (bound_at (bounds_of n cur) variable end) (Some (way +ℤ t))
+  pub IsRowImproved-write : (t : ℤ) (o : Option ℤ) → bound_at (bounds_of n cur) to end ≡ Some t →
+      o ≡ lesser (bound_at (bounds_of n cur) variable end) (Some (way +ℤ t))
       → IsRowImproved (bounds_of n old) (bounds_of n (set cur (variable * n + end) o)) variable to way (end + 1)
   IsRowImproved-write t o some is = record {
     variables = refl;
@@ -75,8 +84,11 @@ module _ (n : ℕ) (old cur : List (Option ℤ)) (variable to : ℕ) (way : ℤ)
     rest = λ q within from. bound_at-set_column n cur variable end o variable q there within (omega arith) ∙ h.rest q within (omega arith);
   } where
     done : (q : ℕ) → q < n → q < end + 1 → (q ≡ end) ⊎ (q ≢ end)
-        → bound_at (bounds_of n (set cur (variable * n + end) o)) variable q ≡ lesser (bound_at (bounds_of n old) variable q) (beyond way (bound_at (bounds_of n old) to q))
-    done q within below (inl e) = subst (λ j. bound_at (bounds_of n (set cur (variable * n + end) o)) variable j ≡ lesser (bound_at (bounds_of n old) variable j) (beyond way (bound_at (bounds_of n old) to j))) (sym e) (write_here t o some is)
+        → bound_at (bounds_of n (set cur (variable * n + end) o)) variable q ≡ lesser (bound_at (bounds_of n old) variable q)
+            (beyond way (bound_at (bounds_of n old) to q))
+    done q within below (inl e) = subst
+        (λ j. bound_at (bounds_of n (set cur (variable * n + end) o)) variable j ≡ lesser (bound_at (bounds_of n old) variable j)
+        (beyond way (bound_at (bounds_of n old) to j))) (sym e) (write_here t o some is)
     done q within below (inr apart) = bound_at-set_column n cur variable end o variable q there within apart ∙ h.done q within (omega arith)
 
 -- a cycle over the added constraint, if there is one, tightens nothing
@@ -87,7 +99,8 @@ round_same (Some s) None w h = refl
 round_same (Some s) (Some c) w h = let up = h s (omega (arith, ints)) in ap Some (omega (arith, ints, clamps))
 
 module _ (n : ℕ) (old cur : List (Option ℤ)) (u v : ℕ) (w : ℤ) (variable : ℕ) (begins : u < n) (goes : v < n) (there : variable < n)
-    (no_cycle : (t : ℤ) → AtMost (bound_at (bounds_of n old) v u) t → pos 0 ≤ℤ (t +ℤ w)) (h : IsImproved (bounds_of n old) (bounds_of n cur) u v w variable) where
+    (no_cycle : (t : ℤ) → AtMost (bound_at (bounds_of n old) v u) t → pos 0 ≤ℤ (t +ℤ w))
+        (h : IsImproved (bounds_of n old) (bounds_of n cur) u v w variable) where
   -- the row of the added constraint's end never changes
   pub row_same : (q : ℕ) → q < n → bound_at (bounds_of n cur) v q ≡ bound_at (bounds_of n old) v q
   row_same q within =
@@ -97,7 +110,8 @@ module _ (n : ℕ) (old cur : List (Option ℤ)) (u v : ℕ) (w : ℤ) (variable
       (cases_lt v variable)
 
   abbrev Improved : List (Option ℤ) → ℕ → ℕ → Type 0
-  Improved new p q = bound_at (bounds_of n new) p q ≡ lesser (bound_at (bounds_of n old) p q) (via (bound_at (bounds_of n old) p u) w (bound_at (bounds_of n old) v q))
+  Improved new p q = bound_at (bounds_of n new) p q ≡ lesser (bound_at (bounds_of n old) p q)
+      (via (bound_at (bounds_of n old) p u) w (bound_at (bounds_of n old) v q))
 
   pub IsImproved-skip : bound_at (bounds_of n cur) variable u ≡ None → IsImproved (bounds_of n old) (bounds_of n cur) u v w (variable + 1)
   IsImproved-skip none = record {
@@ -109,13 +123,16 @@ module _ (n : ℕ) (old cur : List (Option ℤ)) (u v : ℕ) (w : ℤ) (variable
     here : (q : ℕ) → q < n → Improved cur variable q
     here q within =
         let at_old : bound_at (bounds_of n old) variable u ≡ None = sym (h.rest variable u there begins (omega arith)) ∙ none in
-        h.rest variable q there within (omega arith) ∙ (sym (lesser-none (bound_at (bounds_of n old) variable q)) ∙ ap (λ m. lesser (bound_at (bounds_of n old) variable q) (via m w (bound_at (bounds_of n old) v q))) (sym at_old))
+        h.rest variable q there within (omega arith)
+            ∙ (sym (lesser-none (bound_at (bounds_of n old) variable q))
+            ∙ ap (λ m. lesser (bound_at (bounds_of n old) variable q) (via m w (bound_at (bounds_of n old) v q))) (sym at_old))
 
     done : (p q : ℕ) → p < n → q < n → p < variable + 1 → (p ≡ variable) ⊎ (p ≢ variable) → Improved cur p q
     done p q from to below (inl e) = subst (λ j. Improved cur j q) (sym e) (here q to)
     done p q from to below (inr apart) = h.done p q from to (omega arith)
 
-  pub IsImproved-row : (s : ℤ) (new : List (Option ℤ)) → bound_at (bounds_of n cur) variable u ≡ Some s → IsRowImproved (bounds_of n cur) (bounds_of n new) variable v (s +ℤ w) n → IsImproved (bounds_of n old) (bounds_of n new) u v w (variable + 1)
+  pub IsImproved-row : (s : ℤ) (new : List (Option ℤ)) → bound_at (bounds_of n cur) variable u ≡ Some s →
+      IsRowImproved (bounds_of n cur) (bounds_of n new) variable v (s +ℤ w) n → IsImproved (bounds_of n old) (bounds_of n new) u v w (variable + 1)
   IsImproved-row s new some r = record {
     variables = refl;
     pairs = r.pairs;

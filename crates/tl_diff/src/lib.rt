@@ -10,4 +10,4 @@ mod matrix;
 mod paths;
 
 pub use matrix::{MAX_BOUND, MAX_MARKS, MAX_VARIABLES, Matrix};
-pub use paths::{Arc, chain, heaviest};
+pub use paths::{Arc, MAX_PATH_WEIGHT, chain, heaviest};

@@ -7,6 +7,9 @@ ghost use Rattle.tl_diff.specs.inner.Relaxing.{IsRelaxed};
 use std::alloc::{AllocError, Global};
 use tl_base::List;
 
+/// What the weights of all arcs may sum to, and so no path is heavier.
+pub const MAX_PATH_WEIGHT: u32 = 2_147_483_648;
+
 /// A step from one place to a later one, at a weight.
 #[derive(Clone, Copy, Debug, PartialEq, Eq)]
 pub struct Arc {
@@ -24,7 +27,7 @@ pub struct Arc {
 pub fn heaviest(n: u32, arcs: &[Arc], out: &mut [u32]) -> u32
     requires forward { LeadForward n arcs.now }
     requires in_order { InOrder arcs.now }
-    requires fits { total_weight arcs.now ≤ 2 ^ 31 }
+    requires fits { total_weight arcs.now ≤ MAX_PATH_WEIGHT }
     requires room { length out.old ≡ n + 1 }
     ensures each { (k : ℕ) → k ≤ n → IsHeaviest arcs.now k (slice_index out.new k) }
     ensures last { result ≡ slice_index out.new n }
@@ -45,7 +48,7 @@ fn relax(n: u32, place: usize, next: usize, arcs: &[Arc], out: &mut [u32]) -> us
     requires there { place < n }
     requires forward { LeadForward n arcs.now }
     requires in_order { InOrder arcs.now }
-    requires fits { total_weight arcs.now ≤ 2 ^ 31 }
+    requires fits { total_weight arcs.now ≤ MAX_PATH_WEIGHT }
     requires before { IsRelaxed arcs.now n place place place next out.old }
     ensures { IsRelaxed arcs.now n (place + 1) (place + 1) (place + 1) result out.new }
 {

@@ -8,6 +8,7 @@ use Rattle.std.proofs.lemmas.Bool.{cond-false}
 use Rattle.std.proofs.lemmas.List.Kept.{AllPairs-from_increasing}
 use Rattle.tl_grid.specs.Dropping.{count_below}
 use Rattle.tl_base.specs.Lists.{is_among}
+use Rattle.tl_base.proofs.Members.{is_among-cons}
 use Rattle.tl_grid.proofs.Chains.{filter_yes, filter_no}
 
 -- 1 if the test passes
@@ -69,7 +70,7 @@ Rises a (k ∷ ks) = (a ≤ k) × Rises (k + 1) ks
 not_among : (a x : ℕ) → x < a → (ks : List ℕ) → Rises a ks → is_among ks x ≡ false
 not_among a x lt [] r = refl
 not_among a x lt (k ∷ ks) r =
-    ap (λ t. t || is_among ks x) (ne_eqb k x (λ e. let le : a ≤ k = r.0 in omega arith))
+    is_among-cons k ks x ∙ ap (λ t. t || is_among ks x) (ne_eqb k x (λ e. let le : a ≤ k = r.0 in omega arith))
     ∙ not_among (k + 1) x (omega (arith, r.0)) ks r.1
 
 -- how many numbers below n are in a list that rises
@@ -79,7 +80,7 @@ count_among a n (k ∷ ks) r =
     let apart : (x : ℕ) → eqb k x ≡ true → is_among ks x ≡ false =
     λ x e. not_among (k + 1) x (let same : k ≡ x = eqb-true k x e in omega arith) ks r.1 in
     let both : count_below (is_among (k ∷ ks)) n ≡ count_below (λ x. eqb k x) n + count_below (is_among ks) n =
-    count_or (λ x. eqb k x) (is_among ks) apart n in
+    count_same (is_among (k ∷ ks)) (λ x. eqb k x || is_among ks x) (λ x. is_among-cons k ks x) n ∙ count_or (λ x. eqb k x) (is_among ks) apart n in
     let one : count_below (λ x. eqb k x) n ≡ one_if (ltb k n) = count_one k n in
     let rest : count_below (is_among ks) n ≡ length (filter (λ j. ltb j n) ks) = count_among (k + 1) n ks r.1 in
     elim (cases_Bool (ltb k n)) [
@@ -137,8 +138,8 @@ count_whole n [] none = refl
 count_whole n (k ∷ ks) none =
     elim (cases_lt k n) [
       | inl lt ↦ ap length (filter_yes (λ j. ltb j n) k ks (lt-ltb k n lt))
-          ∙ ap suc (count_whole n ks (λ x le. not_later (eqb k x) (is_among ks x) (none x le)))
-      | inr ge ↦ absurd (both_ways true (sym (ap (λ t. t || is_among ks k) (eq-eqb k k refl)) ∙ none k ge) refl)
+          ∙ ap suc (count_whole n ks (λ x le. not_later (eqb k x) (is_among ks x) (sym (is_among-cons k ks x) ∙ none x le)))
+      | inr ge ↦ absurd (both_ways true (sym (ap (λ t. t || is_among ks k) (eq-eqb k k refl)) ∙ sym (is_among-cons k ks k) ∙ none k ge) refl)
     ]
 
 -- `a` again changes no "or"
@@ -149,22 +150,24 @@ or_again false false c e = refl
 
 -- the same, after a first number
 among_from : (x k : ℕ) (ks : List ℕ) → is_among (dedup_from eqb k ks) x ≡ (eqb k x || is_among ks x)
-among_from x k [] = refl
+among_from x k [] = is_among-cons k [] x
 among_from x k (j ∷ ks) =
     elim (cases_Bool (eqb j k)) [
       | inl e ↦
           ap (λ l. is_among l x) (cond-true (eqb j k) (dedup_from eqb k ks) (k ∷ dedup_from eqb j ks) e)
           ∙ among_from x k ks
           ∙ or_again (eqb k x) (eqb j x) (is_among ks x) (ap (λ i. eqb i x) (sym (eqb-true j k e)))
+          ∙ ap (λ t. eqb k x || t) (sym (is_among-cons j ks x))
       | inr e ↦
           ap (λ l. is_among l x) (cond-false (eqb j k) (dedup_from eqb k ks) (k ∷ dedup_from eqb j ks) e)
-          ∙ ap (λ t. eqb k x || t) (among_from x j ks)
+          ∙ is_among-cons k (dedup_from eqb j ks) x
+          ∙ ap (λ t. eqb k x || t) (among_from x j ks ∙ sym (is_among-cons j ks x))
     ]
 
 -- a list without repetitions has the same numbers
 pub among-dedup : (x : ℕ) (ks : List ℕ) → is_among (dedup eqb ks) x ≡ is_among ks x
 among-dedup x [] = refl
-among-dedup x (k ∷ ks) = among_from x k ks
+among-dedup x (k ∷ ks) = among_from x k ks ∙ sym (is_among-cons k ks x)
 
 -- a list that rises does not fall
 pub non_decreasing : (ks : List ℕ) → IsStrictlyIncreasing ks → IsNonDecreasingBy (λ k. k) ks

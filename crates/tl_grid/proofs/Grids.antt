@@ -10,6 +10,7 @@ use Rattle.tl_grid.specs.declared.shape.Place.{Place}
 use Rattle.tl_grid.specs.Forming.{Cell, Forming}
 use Rattle.tl_grid.specs.Dropping.{count_below, keeps_column, keeps_row, new_column, new_row, place_of}
 use Rattle.tl_base.specs.Lists.{is_among}
+use Rattle.tl_base.proofs.Members.{is_among-cons}
 use Rattle.tl_grid.specs.inner.Places.{begins_in_column, begins_in_row, place_by}
 use Rattle.std.proofs.lemmas.Simd.{map-map}
 use Rattle.tl_grid.proofs.Cells.{number_of, block_number}
@@ -35,12 +36,12 @@ rows_of_masked keeps (c ∷ cs) y = ap (λ t. eqb c.top y || t) (rows_of_masked 
 -- the columns in which blocks begin
 columns_of_whole : (bs : List Block) (x : ℕ) → keeps_column (map whole bs) x ≡ begins_in_column bs x
 columns_of_whole [] x = refl
-columns_of_whole (b ∷ bs) x = ap (λ t. eqb b.left x || t) (columns_of_whole bs x)
+columns_of_whole (b ∷ bs) x = ap (λ t. eqb b.left x || t) (columns_of_whole bs x) ∙ sym (is_among-cons b.left (map (λ (block : Block). block.left) bs) x)
 
 -- and the rows
 rows_of_whole : (bs : List Block) (y : ℕ) → keeps_row (map whole bs) y ≡ begins_in_row bs y
 rows_of_whole [] y = refl
-rows_of_whole (b ∷ bs) y = ap (λ t. eqb b.top y || t) (rows_of_whole bs y)
+rows_of_whole (b ∷ bs) y = ap (λ t. eqb b.top y || t) (rows_of_whole bs y) ∙ sym (is_among-cons b.top (map (λ (block : Block). block.top) bs) y)
 
 -- the same columns and rows are kept
 pub same_columns : (s : Forming) (t : Table) → TableMatches s t → (x : ℕ) → keeps_column s.cells x ≡ begins_in_column t.blocks x
@@ -58,14 +59,16 @@ same_rows s t m y =
 pub no_column : (width height : ℕ) (bs : List Block) → AllByRecursion (IsSound width height) bs → (x : ℕ) → width ≤ x → begins_in_column bs x ≡ false
 no_column width height [] sound x le = refl
 no_column width height (b ∷ bs) sound x le =
-    ap (λ t. t || begins_in_column bs x) (ne_eqb b.left x (λ e. omega (arith, sound.0.0, sound.0.1)))
+    is_among-cons b.left (map (λ (block : Block). block.left) bs) x
+    ∙ ap (λ t. t || begins_in_column bs x) (ne_eqb b.left x (λ e. omega (arith, sound.0.0, sound.0.1)))
     ∙ no_column width height bs sound.1 x le
 
 -- and none below its height
 pub no_row : (width height : ℕ) (bs : List Block) → AllByRecursion (IsSound width height) bs → (y : ℕ) → height ≤ y → begins_in_row bs y ≡ false
 no_row width height [] sound y le = refl
 no_row width height (b ∷ bs) sound y le =
-    ap (λ t. t || begins_in_row bs y) (ne_eqb b.top y (λ e. omega (arith, sound.0.2, sound.0.3)))
+    is_among-cons b.top (map (λ (block : Block). block.top) bs) y
+    ∙ ap (λ t. t || begins_in_row bs y) (ne_eqb b.top y (λ e. omega (arith, sound.0.2, sound.0.3)))
     ∙ no_row width height bs sound.1 y le
 
 -- how many are kept

@@ -1,6 +1,6 @@
 //! `form`: counts the cells, forms them, and drops the columns and rows without an anchor.
 
-ghost use Rattle.std.specs.Prelude.{◌≡◌, ◌<◌, ◌^◌, ℕ, length, All, IfOk, IfErr, alloc_error};
+ghost use Rattle.std.specs.Prelude.{◌≡◌, ◌<◌, ◌≤◌, ◌^◌, ℕ, length, All, IfOk, IfErr, alloc_error};
 ghost use Rattle.std.specs.List.{AllPairs, AllByRecursion};
 ghost use Rattle.tl_grid.specs.declared.shape.Grid.{Grid};
 ghost use Rattle.tl_grid.specs.declared.error.GridError.{GridError};
@@ -18,7 +18,7 @@ use crate::error::GridError;
 use crate::shape::{Grid, Shape, ShapeGroup};
 use crate::table::{count_cells, form_table};
 use std::alloc::Global;
-use tl_base::{MAX_CELLS, MAX_COLUMNS, MAX_ROWS};
+use tl_base::{MAX_CELLS, MAX_COLUMNS, MAX_DECLARED_COLUMNS, MAX_ROWS};
 
 /// How many cells the groups have.
 fn count_all(groups: &[ShapeGroup]) -> u32
@@ -35,7 +35,7 @@ fn count_all(groups: &[ShapeGroup]) -> u32
 /// The grid, or the first reason why there is none.
 fn first_result(alloc: Global, shape: &Shape) -> Result<Grid, GridError>
     requires spans { AllSpans shape.now.groups }
-    requires columns { shape.now.columns < 2 ^ 30 }
+    requires columns { shape.now.columns ≤ MAX_DECLARED_COLUMNS }
     requires rows { row_count shape.now < 2 ^ 20 }
     requires cells { cell_count shape.now < 2 ^ 32 }
     ensures ok { IfOk result (λ grid. HasGrid shape.now grid) }
@@ -71,7 +71,7 @@ fn first_result(alloc: Global, shape: &Shape) -> Result<Grid, GridError>
 /// rows above that it meets on the way to its own.
 pub fn form(alloc: Global, shape: &Shape) -> Result<Grid, GridError>
     requires spans { AllSpans shape.now.groups }
-    requires columns { shape.now.columns < 2 ^ 30 }
+    requires columns { shape.now.columns ≤ MAX_DECLARED_COLUMNS }
     requires rows { row_count shape.now < 2 ^ 20 }
     requires cells { cell_count shape.now < 2 ^ 32 }
     ensures ok { IfOk result (λ grid. HasGrid shape.now grid) }

@@ -40,7 +40,8 @@ abbrev pub IsTextIn : List ℕ → List ℕ → Type 0
 IsTextIn bytes text = IsText text × (length text ≤ length bytes)
 
 -- what is no longer than a part is no longer than the whole
-texts_in_more : (bytes rest : List ℕ) (texts : List (List ℕ)) → length rest ≤ length bytes → AllByRecursion (IsTextIn rest) texts → AllByRecursion (IsTextIn bytes) texts
+texts_in_more : (bytes rest : List ℕ) (texts : List (List ℕ)) → length rest ≤ length bytes → AllByRecursion (IsTextIn rest) texts →
+    AllByRecursion (IsTextIn bytes) texts
 texts_in_more bytes rest [] le all = tt
 texts_in_more bytes rest (text ∷ texts) le all = ((all.0.0, omega arith), texts_in_more bytes rest texts le all.1)
 

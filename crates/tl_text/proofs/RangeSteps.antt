@@ -5,6 +5,7 @@ use Rattle.std.specs.List.{onto_first, AllZip, slice_range}
 use Rattle.std.proofs.lemmas.List.{append-nil, drop_more, drop_all, take_at, length_push}
 use Rattle.std.proofs.lemmas.Slice.Zip.{AllZip-long}
 use Rattle.std.proofs.lemmas.Bool.{false≢true}
+use Rattle.tl_base.proofs.Zips.{AllZip-push}
 use Rattle.tl_text.specs.declared.paragraph.Atom.{Atom}
 use Rattle.tl_text.specs.declared.paragraph.Atom.TheVariants.{Word, Glue, Break}
 use Rattle.tl_text.specs.declared.ranges.Line.{Line}
@@ -156,12 +157,6 @@ AreInOrder-push : (from : ℕ) (ranges : List Line) (first past : ℕ) → AreIn
     → AreInOrder from (ranges ++ record { first = first; past = past } ∷ []) past
 AreInOrder-push from [] first past before some = (sym before, some, refl)
 AreInOrder-push from (range ∷ ranges) first past before some = (before.0, before.1, AreInOrder-push range.past ranges first past before.2 some)
-
-AllZip-push : {A B : Type 0} (R : A → B → Type 0) (xs : List A) (ys : List B) (x : A) (y : B) → AllZip R xs ys → R x y → AllZip R (xs ++ x ∷ []) (ys ++ y ∷ [])
-AllZip-push R [] [] x y each here = (here, tt)
-AllZip-push R [] (b ∷ ys) x y each here = absurd each
-AllZip-push R (a ∷ xs) [] x y each here = absurd each
-AllZip-push R (a ∷ xs) (b ∷ ys) x y each here = (each.0, AllZip-push R xs ys x y each.1 here)
 
 -- the first `n` atoms are in ranges and on an open line, which begins at the atom `first`
 pub record IsCutUpTo (w : ℕ) (atoms : List Atom) (n first : ℕ) (line : Option ℕ) (ranges : List Line) : Type 0 where

@@ -1,7 +1,8 @@
 -- What tests of characters say of one another.
 use Rattle.std.proofs.Common.{◌≡◌, ◌≢◌, ℕ, Bool, true, false, not, ◌||◌, ◌⊎◌, List, [], ◌∷◌, ◌++◌, refl, sym, ◌∙◌, subst, inl, inr, eqb, cond, append_assoc}
 use Rattle.std.proofs.lemmas.Bool.{eqb-true, false≢true}
-use Rattle.tl_token.specs.Characters.{is_one_of, begins}
+use Rattle.tl_base.specs.Lists.{is_among}
+use Rattle.tl_token.specs.Characters.{begins}
 use Rattle.tl_token.specs.inner.Reader.{Eats}
 use Rattle.tl_token.specs.Grammar.{Each}
 
@@ -38,10 +39,10 @@ pub clash : (a : Bool) → a ≡ true → a ≡ false → ⊥
 clash a h k = false≢true (sym k ∙ h)
 
 -- one character, and one of two
-pub is_it : (c d : ℕ) → is_one_of c (d ∷ []) ≡ true → c ≡ d
+pub is_it : (c d : ℕ) → is_among (d ∷ []) c ≡ true → c ≡ d
 is_it c d h = eqb-true c d h
 
-pub is_either : (c d e : ℕ) → is_one_of c (d ∷ e ∷ []) ≡ true → (c ≡ d) ⊎ (c ≡ e)
+pub is_either : (c d e : ℕ) → is_among (d ∷ e ∷ []) c ≡ true → (c ≡ d) ⊎ (c ≡ e)
 is_either c d e h = elim (or_cases (eqb c d) _ h) [ inl k ↦ inl (eqb-true c d k) | inr k ↦ inr (is_it c e (k.1)) ]
 
 -- one more character that passes the test
@@ -61,8 +62,8 @@ cases_bool true = inl refl
 cases_bool false = inr refl
 
 -- a character of a class is none that is not of it
-pub excludes : (test : ℕ → Bool) (c d : ℕ) → test d ≡ false → test c ≡ true → is_one_of c (d ∷ []) ≡ false
-excludes test c d not_d is_c = elim (cases_bool (is_one_of c (d ∷ []))) [
+pub excludes : (test : ℕ → Bool) (c d : ℕ) → test d ≡ false → test c ≡ true → is_among (d ∷ []) c ≡ false
+excludes test c d not_d is_c = elim (cases_bool (is_among (d ∷ []) c)) [
   | inl e ↦ let P : ℕ → Type 0 = λ x. test x ≡ true in absurd (clash (test d) (subst P (is_it c d e) is_c) not_d)
   | inr e ↦ e
 ]

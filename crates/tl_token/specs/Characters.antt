@@ -1,20 +1,15 @@
 -- Classes of characters. White space, letters and digits are those of ASCII, as in the HTML
 -- Standard (section 2.3 of the Infra Standard); the characters of names and values are a profile of
 -- its section 13.1.2.
-use Rattle.std.specs.Prelude.{ℕ, Bool, false, ◌||◌, ◌&&◌, not, ◌==◌, nat_lt, nat_le, List, [], ◌∷◌, Option, Some, None, if◌then◌else◌, codes}
+use Rattle.std.specs.Prelude.{ℕ, Bool, false, ◌||◌, ◌&&◌, not, nat_lt, nat_le, List, [], ◌∷◌, Option, Some, None, if◌then◌else◌, codes}
 use Rattle.std.specs.Char.{is_ascii_whitespace, is_ascii_alphabetic}
 use Prim.Native.String.{String}
-
--- the character is one of these; a single one is compared once
-abbrev pub is_one_of : ℕ → List ℕ → Bool
-is_one_of c [] = false
-is_one_of c (d ∷ []) = c == d
-is_one_of c (d ∷ e ∷ others) = c == d || is_one_of c (e ∷ others)
+use Rattle.tl_base.specs.Lists.{is_among}
 
 -- the character stands in the text
 infix 60 ◌∈◌
 abbrev pub ◌∈◌ : ℕ → String → Bool
-c ∈ s = is_one_of c (codes s)
+c ∈ s = is_among (codes s) c
 
 -- a tab, a line feed, a form feed, a carriage return or a space
 abbrev pub is_space : ℕ → Bool

@@ -12,7 +12,8 @@ returns-in-None g c =
     let arguments : List (List ℕ) = map string_bytes c.args.arguments.now in
     let refuses : RefusesUsage arguments usage_text = (c.in-None.ensures.usage, refl) in
     record {
-      ends = rw c.number.ensures (printed_ends arguments _ Usage c.print_message.result usage_text c.print_message.ensures.printed c.print_message.ensures.files_stay
+      ends = rw c.number.ensures (printed_ends arguments _ Usage c.print_message.result usage_text c.print_message.ensures.printed
+          c.print_message.ensures.files_stay
           (inl refuses) (ends_usage arguments _ usage_text refuses));
     }
 

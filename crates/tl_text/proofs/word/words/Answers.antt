@@ -1,4 +1,4 @@
-use Rattle.std.proofs.Common.{◌≡◌, true, false, [], ◌∷◌, ◌++◌, string_bytes, ap, sym, ◌∙◌, arith, tests}
+use Rattle.std.proofs.Common.{◌≡◌, true, false, string_bytes, ◌∙◌, arith, tests}
 use Rattle.std.specs.Str.{chars}
 use Rattle.std.specs.Char.{is_ascii_whitespace}
 use Rattle.std.proofs.lemmas.Iterator.{YieldsList-from_chars}
