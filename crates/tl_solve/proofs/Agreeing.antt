@@ -1,6 +1,6 @@
 -- A zone of one class for each span, whose placement was looked at and whose bound is below the best height, has a cell for
 -- which `low` and `high` differ.
-use Rattle.std.proofs.Common.{◌≡◌, ◌≢◌, ℕ, ◌+◌, ◌<◌, ◌≤◌, zero, suc, Bool, true, false, List, [], ◌∷◌, ◌⊎◌, inl, inr, length, get_or, Option, Some, None, refl, sym, ap, ◌∙◌, subst, arith}
+use Rattle.std.proofs.Common.{◌≡◌, ◌≢◌, ℕ, ◌+◌, ◌<◌, zero, suc, Bool, true, false, List, [], ◌∷◌, ◌⊎◌, inl, inr, length, Option, Some, None, refl, ap, subst, arith}
 use Rattle.std.specs.Bool.{IsTrue}
 use Rattle.std.specs.List.{Contains}
 use Rattle.std.proofs.lemmas.Bool.{cases_lt}
@@ -8,7 +8,7 @@ use Rattle.tl_base.specs.Steps.{height_at}
 use Rattle.tl_base.proofs.Members.{Contains-first, Contains-later, Contains-cases, Contains-none}
 use Rattle.tl_problem.specs.declared.cell.Cell.{Cell}
 use Rattle.tl_problem.specs.declared.zone.Range.{Range}
-use Rattle.tl_problem.specs.Problem.{ProblemModel, total_height}
+use Rattle.tl_problem.specs.Problem.{ProblemModel}
 use Rattle.tl_problem.specs.Sound.{IsSound}
 use Rattle.tl_problem.specs.Spans.{has_span}
 use Rattle.tl_problem.specs.Zones.{span_at, range_at, first_in_class, last_in_class, IsZone, IsWidthOf, InZone}

@@ -1,7 +1,6 @@
 -- The arena of a problem when it is opened, and after a further cut.
 use Rattle.std.proofs.Common.{◌≡◌, ℕ, ◌+◌, ◌*◌, ◌<◌, ◌≤◌, List, [], ◌∷◌, ◌++◌, inl, inr, length, get_or, Option, refl, sym, ap, ◌∙◌, subst, arith, append_assoc, length-append}
 use Rattle.std.specs.List.{All}
-use Rattle.std.proofs.lemmas.Bool.{cases_lt}
 use Rattle.std.proofs.lemmas.List.Elements.{All-nil, All-push}
 use Rattle.tl_base.specs.declared.limits.TheConstants.{MAX_BUDGET}
 use Rattle.tl_problem.specs.declared.placed.Placed.{Placed}
@@ -9,18 +8,18 @@ use Rattle.tl_problem.specs.declared.zone.Range.{Range}
 use Rattle.tl_problem.specs.Problem.{ProblemModel}
 use Rattle.tl_problem.specs.Sound.{IsSound}
 use Rattle.tl_problem.specs.Zones.{whole_zone, IsZone, InZone, lower_part, upper_part}
-use Rattle.tl_problem.specs.Bounds.{HasNoWidths, IsBound}
-use Rattle.tl_problem.specs.Placements.{IsPlacementIn, IsOpening}
+use Rattle.tl_problem.specs.Bounds.{IsBound}
+use Rattle.tl_problem.specs.Placements.{IsOpening}
 use Rattle.tl_problem.specs.Tight.{IsTightFrom, IsTight}
 use Rattle.tl_problem.specs.Works.{HasPage}
 use Rattle.tl_problem.proofs.BoundLaws.{bound-below_placement}
 use Rattle.tl_problem.proofs.SetLaws.{opening-in_whole}
 use Rattle.tl_problem.proofs.ZoneLaws.{whole-is_zone}
 use Rattle.tl_cert.specs.declared.trace.CutAt.{CutAt}
-use Rattle.tl_cert.specs.Traces.{with_parts, zones_of, zone_at, zone_of, IsZoneOf, IsCut, IsTrace, IsTraceOf, IsKeen}
+use Rattle.tl_cert.specs.Traces.{with_parts, zones_of, zone_of, IsZoneOf, IsCut, IsTrace, IsTraceOf, IsKeen}
 use Rattle.tl_cert.proofs.TraceLaws.{zone-old, zone-lower, zone-upper, zone-cases, cuts-there, zones-are}
 use Rattle.tl_solve.specs.declared.arena.Arena.{Arena}
-use Rattle.tl_solve.specs.Arenas.{IsBoundFound, AreBoundsOf, HasBoundBelow, IsLookedAt, IsLowered, IsOpeningOrLower, IsArenaOf}
+use Rattle.tl_solve.specs.Arenas.{IsBoundFound, AreBoundsOf, HasBoundBelow, IsLookedAt, IsLowered, IsArenaOf}
 use Rattle.tl_solve.proofs.Opening.{placement_in-unique, tight-opening, opening-is_tight}
 use Rattle.tl_solve.proofs.OrderLaws.{at-each-push}
 use Rattle.tl_solve.proofs.ZoneLists.{zones-push, zones-count, zone-item, found-more}

@@ -1,12 +1,8 @@
 -- The least of the bounds that stand, and what the end of a search has.
-use Rattle.std.proofs.Common.{◌≡◌, ◌≢◌, ℕ, ◌+◌, ◌-◌, ◌*◌, ◌^◌, ◌<◌, ◌≤◌, min, List, ◌⊎◌, inl, inr, length, get_or, Option, Some, None, refl, sym, ap, ◌∙◌, subst, arith}
+use Rattle.std.proofs.Common.{◌≡◌, ℕ, ◌+◌, ◌<◌, ◌≤◌, min, List, inl, inr, length, get_or, Option, Some, None, refl, sym, ap, ◌∙◌, subst, arith}
 use Rattle.std.proofs.lemmas.Bool.{cases_lt}
-use Rattle.std.proofs.lemmas.List.{get_or_default}
-use Rattle.tl_base.specs.declared.limits.TheConstants.{MAX_BUDGET}
 use Rattle.tl_problem.specs.Problem.{ProblemModel}
-use Rattle.tl_problem.specs.Sound.{IsSound}
 use Rattle.tl_problem.specs.Zones.{InZone}
-use Rattle.tl_problem.specs.Bounds.{IsBound}
 use Rattle.tl_problem.proofs.BoundLaws.{bound-unique}
 use Rattle.tl_cert.specs.declared.trace.CutAt.{CutAt}
 use Rattle.tl_cert.specs.Traces.{Stands, zone_of}

@@ -5,11 +5,11 @@
 --       1     2            cut 2: zone 2 into 5 and 6
 --      / \   / \
 --     3   4 5   6
-use Rattle.std.proofs.Common.{◌≡◌, ◌≢◌, ℕ, ◌+◌, ◌*◌, ◌<◌, zero, suc, List, [], ◌∷◌, ◌⊎◌, inl, inr, length, get_or, refl, sym, ap, ◌∙◌, subst, arith}
+use Rattle.std.proofs.Common.{◌≡◌, ℕ, ◌+◌, ◌*◌, ◌<◌, List, [], ◌∷◌, ◌⊎◌, inl, inr, length, get_or, refl, sym, subst, arith}
 use Rattle.tl_problem.specs.declared.zone.Range.{Range}
 use Rattle.tl_problem.specs.Zones.{range}
 use Rattle.tl_cert.specs.declared.trace.CutAt.{CutAt}
-use Rattle.tl_solve.specs.Orders.{IsFirstOpen, IsFirstCut, ComesFrom, itself, lower, upper, ComesBefore, Follows}
+use Rattle.tl_solve.specs.Orders.{IsFirstCut, ComesFrom, itself, lower, upper, ComesBefore, Follows}
 
 abbrev lower_first : List CutAt
 lower_first = record { zone = 0; span = 0; class = 0 } ∷ record { zone = 1; span = 0; class = 0 } ∷ record { zone = 2; span = 0; class = 0 } ∷ []

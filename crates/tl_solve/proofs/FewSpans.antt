@@ -1,22 +1,21 @@
 -- The cuts of a trace are within the ranges of a certificate's text: a problem has few spans, and a span few classes.
-use Rattle.std.proofs.Common.{◌≡◌, ◌≢◌, ℕ, ◌+◌, ◌-◌, ◌*◌, ◌<◌, ◌≤◌, zero, suc, Bool, true, false, cond, List, [], ◌∷◌, ◌++◌, inl, inr, length, get_or, map, filter, codes, refl, ap, ◌∙◌, arith, length-append}
+use Rattle.std.proofs.Common.{◌≡◌, ℕ, ◌+◌, ◌-◌, ◌*◌, ◌<◌, ◌≤◌, zero, suc, Bool, true, false, cond, List, [], ◌∷◌, ◌++◌, inl, inr, length, get_or, map, filter, codes, ap, ◌∙◌, arith, length-append}
 use Rattle.std.specs.List.{All, AllPairs, AllByRecursion, flat_map, range_with_len, list_any}
 use Rattle.std.proofs.Math.Nat.{mul-le-mul_left}
-use Rattle.std.proofs.lemmas.Bool.{cases_lt}
 use Rattle.std.proofs.lemmas.List.Concat.{flat_map-cons}
 use Rattle.std.proofs.lemmas.List.FromFn.{length-map-range_with_len}
 use Rattle.std.proofs.lemmas.List.Elements.{All-nil, All-push, Contains-get_or}
-use Rattle.tl_base.specs.declared.limits.TheConstants.{MAX_BUDGET, MAX_COLUMNS, MAX_PAGE_WIDTH}
+use Rattle.tl_base.specs.declared.limits.TheConstants.{MAX_BUDGET}
 use Rattle.tl_problem.specs.declared.cell.Span.{Span}
 use Rattle.tl_problem.specs.Problem.{ProblemModel}
 use Rattle.tl_problem.specs.Sound.{IsSound}
-use Rattle.tl_problem.specs.Spans.{span, has_span, all_spans, spans_of, page_room}
-use Rattle.tl_problem.specs.Zones.{span_at, classes_at, range_at, whole_zone}
+use Rattle.tl_problem.specs.Spans.{span, has_span, all_spans, spans_of}
+use Rattle.tl_problem.specs.Zones.{span_at, classes_at, whole_zone}
 use Rattle.tl_problem.proofs.SpanLaws.{classes-rising, classes-first, classes-cases}
 use Rattle.tl_problem.proofs.ZoneLaws.{whole-is_zone}
 use Rattle.tl_cert.specs.declared.limits.TheConstants.{MAX_ZONE, MAX_SPAN, MAX_CLASS}
 use Rattle.tl_cert.specs.declared.trace.CutAt.{CutAt}
-use Rattle.tl_cert.specs.Pieces.{number, character, field, word, IsWithin, AllWithin}
+use Rattle.tl_cert.specs.Pieces.{field, word, IsWithin, AllWithin}
 use Rattle.tl_cert.specs.Text.{space, line_feed, cut_pieces, IsTraceWritable}
 use Rattle.tl_cert.specs.Traces.{IsTraceOf, zone_of, IsCut}
 use Rattle.tl_cert.proofs.TraceLaws.{trace-by, zones-are}

@@ -1,10 +1,10 @@
 -- The opening is tight, and a set of widths has one placement at its least positions.
-use Rattle.std.proofs.Common.{◌≡◌, ℕ, ◌≤◌, List, length, sym, ◌∙◌, subst, arith}
+use Rattle.std.proofs.Common.{◌≡◌, ℕ, List, sym, ◌∙◌, arith}
 use Rattle.tl_base.specs.Style.{gap_of}
 use Rattle.tl_problem.specs.declared.placed.Placed.{Placed}
 use Rattle.tl_problem.specs.Problem.{ProblemModel}
 use Rattle.tl_problem.specs.Placements.{IsPlacementIn, IsOpening}
-use Rattle.tl_problem.specs.Tight.{KeepHigh, IsTightFrom, IsTight}
+use Rattle.tl_problem.specs.Tight.{IsTightFrom, IsTight}
 use Rattle.tl_problem.proofs.SizeLaws.{same-positions}
 use Rattle.tl_problem.proofs.TightLaws.{KeepHigh-itself, least-unique, placement-unique, tight-is_tight}
 

@@ -1,5 +1,5 @@
 -- The way of the plain search: how its stack and the order of its cuts go on.
-use Rattle.std.proofs.Common.{◌≡◌, ◌≢◌, ℕ, ◌+◌, ◌*◌, ◌<◌, ◌≤◌, zero, suc, List, [], ◌∷◌, ◌++◌, ◌⊎◌, inl, inr, length, get_or, take, Result, Ok, Err, refl, sym, ap, ◌∙◌, subst, arith, length-append}
+use Rattle.std.proofs.Common.{◌≡◌, ◌≢◌, ℕ, ◌+◌, ◌*◌, ◌<◌, ◌≤◌, List, [], ◌∷◌, ◌++◌, ◌⊎◌, inl, inr, length, get_or, Result, Ok, Err, sym, ap, ◌∙◌, subst, arith, length-append}
 use Rattle.std.specs.List.{All, AllPairs, Contains}
 use Rattle.std.specs.Result.{IfOk}
 use Rattle.std.proofs.lemmas.Bool.{cases_lt}
@@ -7,23 +7,21 @@ use Rattle.std.proofs.lemmas.List.{get_or_append_left, get_or-append-add}
 use Rattle.std.proofs.lemmas.List.Elements.{All-nil, All-push, Contains-append_left, Contains-append_right, Contains-append_cases}
 use Rattle.std.proofs.lemmas.List.Quantifiers.{all_pairs_push}
 use Rattle.tl_base.proofs.Members.{Contains-first, Contains-cases, Contains-none}
-use Rattle.tl_problem.specs.declared.placed.Placed.{Placed}
 use Rattle.tl_problem.specs.declared.zone.Range.{Range}
 use Rattle.tl_problem.specs.Problem.{ProblemModel}
-use Rattle.tl_problem.specs.Zones.{range_at, IsZone, whole_zone, InZone}
+use Rattle.tl_problem.specs.Zones.{range_at, IsZone, whole_zone}
 use Rattle.tl_problem.proofs.ZoneLaws.{whole-is_zone}
-use Rattle.tl_problem.specs.Placements.{IsPlacementIn}
 use Rattle.tl_cert.specs.declared.trace.CutAt.{CutAt}
-use Rattle.tl_cert.specs.Traces.{IsZoneOf, zone_of, Stands, IsCut, IsTraceOf, IsKeen}
+use Rattle.tl_cert.specs.Traces.{zone_of, Stands, IsCut, IsTraceOf, IsKeen}
 use Rattle.tl_cert.specs.Worked.{IsClosed, IsBoundOf}
-use Rattle.tl_cert.proofs.TraceLaws.{zone-old, zone-cases, stands-old, stood-before, stands-new, cuts-there}
+use Rattle.tl_cert.proofs.TraceLaws.{zone-old, zone-cases, stands-old, stood-before, stands-new}
 use Rattle.tl_solve.specs.declared.arena.Arena.{Arena}
 use Rattle.tl_solve.specs.declared.outcome.Outcome.{Outcome}
 use Rattle.tl_solve.specs.Arenas.{HasBoundBelow, IsLowered, IsArenaOf}
 use Rattle.tl_solve.specs.Plain.{IsPlainOutcome}
-use Rattle.tl_solve.specs.Orders.{IsFirstCut, CutsFirstSpans, IsBelowPlacements, CutsBelowPlacements, ComesFrom, itself, ComesBefore, Follows, IsInClassOrder}
+use Rattle.tl_solve.specs.Orders.{IsFirstCut, CutsFirstSpans, IsBelowPlacements, CutsBelowPlacements, ComesFrom, ComesBefore, Follows, IsInClassOrder}
 use Rattle.tl_solve.specs.inner.Walk.{IsStack, KeepsOrder}
-use Rattle.tl_solve.proofs.OrderLaws.{at-each-push, before-from, from-before, follows-from, from-more, before-more, follows-more, lower-from, upper-from, lower-before_upper}
+use Rattle.tl_solve.proofs.OrderLaws.{at-each-push, from-before, follows-from, before-more, follows-more, lower-from, upper-from, lower-before_upper}
 
 -- what holds of all but the last holds of the first ones, and of the last
 all-init : {X : Type 0} (P : X → Type 0) (xs : List X) (x : X) → All P (xs ++ x ∷ []) → All P xs

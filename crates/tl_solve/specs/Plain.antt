@@ -1,5 +1,4 @@
 -- What the plain search promises besides what every search does.
-use Rattle.std.specs.Prelude.{ℕ}
 use Rattle.tl_problem.specs.Problem.{ProblemModel}
 use Rattle.tl_problem.specs.declared.placed.Placed.{Placed}
 use Rattle.tl_problem.specs.Placements.{IsOpening}

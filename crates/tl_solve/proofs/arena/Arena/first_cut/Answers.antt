@@ -1,4 +1,4 @@
-use Rattle.std.proofs.Common.{◌≡◌, ◌<◌, ◌≤◌, length, get_or, Option, Some, None, inl, inr, sym, ap, ◌∙◌, subst, arith}
+use Rattle.std.proofs.Common.{length, Option, Some, None, inr, sym, ap, ◌∙◌, subst, arith}
 use Rattle.std.specs.Option.{IfNone}
 use Rattle.tl_problem.specs.Agreement.{HasOneClass}
 use Rattle.tl_problem.specs.Zones.{range_at, whole_zone}
