@@ -15,3 +15,12 @@ pub mod SizesOpen
 pub mod Sorted
 pub mod SoundParts
 pub mod Widths
+pub mod TreeParts
+pub mod SoundNodes
+pub mod Becoming
+pub mod Gridless
+pub mod Writing
+pub mod Formed
+pub mod Orders
+pub mod Laid
+pub mod UnitSizes

@@ -6,13 +6,19 @@
 
 mod cell;
 mod count;
+mod error;
+mod forming;
 mod layout;
 mod narrow;
+mod paragraph;
+mod shape;
 mod widest;
 mod width;
 
 pub use cell::{Content, Kind, Table, TableCell};
 pub use count::nested;
+pub use error::FormError;
+pub use forming::table;
 pub use layout::Layout;
 pub use narrow::narrow_chain;
 pub use width::least_width;
