@@ -156,7 +156,8 @@ piece_readable cs rest _ first past later (doctype k) fine = fine
 piece_readable cs rest _ first past later (markup e t k known kind) fine =
     let Q : TokenKind → Type 0 = λ x. IsReadable (class_of x) in
     (subst Q (sym kind) (tag_readable e t), fine)
-piece_readable _ rest _ first past later (by_reference {c = c} {d = d} {cs = cs} a h) fine = character_readable d first past later (reference_plain cs d rest h) fine
+piece_readable _ rest _ first past later (by_reference {c = c} {d = d} {cs = cs} a h) fine =
+    character_readable d first past later (reference_plain cs d rest h) fine
 piece_readable _ rest _ first past later (plain {c = c} k) fine = character_readable c first past later (not_true (is_control c) (k.0)) fine
 
 -- the tokens of pieces that lead somewhere
