@@ -21,6 +21,7 @@ pub mod Becoming
 pub mod Gridless
 pub mod Writing
 pub mod Formed
+pub mod SoundFormed
 pub mod Orders
 pub mod Laid
 pub mod UnitSizes

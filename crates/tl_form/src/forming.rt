@@ -311,6 +311,8 @@ pub fn table(alloc: Global, node: &TableNode, breaking: Breaking) -> Result<Tabl
     requires { IsSound node.now }
     // The table is what the tree becomes.
     ensures ok { IfOk result (Becomes breaking node.now) }
+    // What every call that takes a table may count on.
+    ensures sound { IfOk result IsSoundTable }
     // Each error comes exactly where its cause is so.
     ensures err { IfErr result (IsMemoryOr (Memory alloc_error) (IsRefused node.now)) }
     ensures each_err { (error : FormError) → IsRefused node.now error → ReturnsError (Memory alloc_error) error result }

@@ -22,3 +22,6 @@ pub use forming::table;
 pub use layout::Layout;
 pub use narrow::narrow_chain;
 pub use width::least_width;
+
+#[cfg(test)]
+mod tests;
