@@ -204,7 +204,7 @@ no_cause : (shape : Shape) (grid : Grid) (error : GridError) → HasGrid shape g
 no_cause shape grid error has is = each_err shape (Ok grid) has tt error is
 
 -- the table without a grid is no one of those that have one
-not_among : (tables : List NumberedShape) (error : FormError) → Gridded tables → AreRefused tables error → ⊥
+pub not_among : (tables : List NumberedShape) (error : FormError) → Gridded tables → AreRefused tables error → ⊥
 not_among tables (errors.Memory memory) gridded refused = absurd refused
 not_among tables (errors.Grid number cause) gridded refused =
     at_middle refused.before (subst Gridded refused.split gridded)

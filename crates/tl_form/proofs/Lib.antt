@@ -22,6 +22,8 @@ pub mod Gridless
 pub mod Writing
 pub mod Formed
 pub mod SoundFormed
+pub mod OneTable
+pub mod OneFile
 pub mod Orders
 pub mod Laid
 pub mod UnitSizes

@@ -6,4 +6,6 @@ pub mod Sound
 pub mod Formed
 pub mod Refused
 pub mod Same
+pub mod Spells
+pub mod Laws
 pub mod inner

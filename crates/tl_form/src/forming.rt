@@ -309,8 +309,9 @@ fn formed(alloc: Global, node: &TableNode, breaking: Breaking) -> Result<Table, 
 /// the number of cells, words and tables.
 pub fn table(alloc: Global, node: &TableNode, breaking: Breaking) -> Result<Table, FormError>
     requires { IsSound node.now }
-    // The table is what the tree becomes.
+    // The table is what the tree becomes, and whatever table it becomes is returned.
     ensures ok { IfOk result (Becomes breaking node.now) }
+    ensures each_ok { (table : Table) → Becomes breaking node.now table → ReturnsTable table result }
     // What every call that takes a table may count on.
     ensures sound { IfOk result IsSoundTable }
     // Each error comes exactly where its cause is so.

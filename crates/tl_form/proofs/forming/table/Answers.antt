@@ -7,6 +7,7 @@ use Rattle.tl_form.specs.declared.error.FormError.{FormError}
 use Rattle.tl_form.specs.Formed.{Becomes}
 use Rattle.tl_form.specs.Sound.{IsSound}
 use Rattle.tl_form.proofs.Gridless.{each_error}
+use Rattle.tl_form.proofs.OneTable.{each_table}
 use Rattle.tl_form.proofs.SoundFormed.{becomes_sound}
 use Rattle.tl_form.proofs.forming.table.Goals as goal
 
@@ -20,3 +21,6 @@ returns-clause-sound c = sound_result c.args.breaking c.args.node.now c.formed.r
 
 pub returns-clause-each_err : goal.returns-clause-each_err
 returns-clause-each_err c = each_error c.args.breaking c.args.node.now c.formed.result c.formed.ensures.ok c.formed.ensures.err
+
+pub returns-clause-each_ok : goal.returns-clause-each_ok
+returns-clause-each_ok c = each_table c.args.breaking c.args.node.now c.formed.result c.formed.ensures.ok c.formed.ensures.err
