@@ -4,6 +4,7 @@ pub mod ChainLaws
 pub mod Deeper
 pub mod Duality
 mod Examples
+mod Lowest
 pub mod Found
 pub mod LeastRoomLemmas
 pub mod LeastWidths
@@ -23,6 +24,7 @@ pub mod Writing
 pub mod Formed
 pub mod SoundFormed
 pub mod OneTable
+pub mod Numbered
 pub mod OneFile
 pub mod Orders
 pub mod Laid

@@ -40,13 +40,13 @@ use Rattle.tl_form.proofs.UnitSizes.{broken_size}
 
 -- ---- entries without those that begin and end no table
 
-abbrev tables_alone : Entries → Entries
+abbrev pub tables_alone : Entries → Entries
 tables_alone [] = []
 tables_alone (table number ∷ es) = table number ∷ tables_alone es
 tables_alone (table_end ∷ es) = table_end ∷ tables_alone es
 tables_alone (_ ∷ es) = tables_alone es
 
-alone-append : (xs ys : Entries) → tables_alone (xs ++ ys) ≡ tables_alone xs ++ tables_alone ys
+pub alone-append : (xs ys : Entries) → tables_alone (xs ++ ys) ≡ tables_alone xs ++ tables_alone ys
 alone-append [] ys = refl
 alone-append (table number ∷ xs) ys = ap (λ (es : Entries). table number ∷ es) (alone-append xs ys)
 alone-append (table_end ∷ xs) ys = ap (λ (es : Entries). table_end ∷ es) (alone-append xs ys)
@@ -68,7 +68,7 @@ alone-nested most depth (row ∷ es) nested = alone-nested most depth es nested
 alone-nested most depth (cell head colspan rowspan least ∷ es) nested = alone-nested most depth es nested
 alone-nested most depth (paragraph atoms ∷ es) nested = alone-nested most depth es nested
 
-alone-count : (es : Entries) → table_count (tables_alone es) ≡ table_count es
+pub alone-count : (es : Entries) → table_count (tables_alone es) ≡ table_count es
 alone-count [] = refl
 alone-count (table number ∷ es) = ap (λ n. n + 1) (alone-count es)
 alone-count (table_end ∷ es) = alone-count es
@@ -79,7 +79,7 @@ alone-count (row ∷ es) = alone-count es
 alone-count (cell head colspan rowspan least ∷ es) = alone-count es
 alone-count (paragraph atoms ∷ es) = alone-count es
 
-count-append : (xs ys : Entries) → table_count (xs ++ ys) ≡ table_count xs + table_count ys
+pub count-append : (xs ys : Entries) → table_count (xs ++ ys) ≡ table_count xs + table_count ys
 count-append [] ys = omega arith
 count-append (table number ∷ xs) ys = omega (arith, count-append xs ys)
 count-append (table_end ∷ xs) ys = count-append xs ys
@@ -92,17 +92,17 @@ count-append (paragraph atoms ∷ xs) ys = count-append xs ys
 
 -- ---- the blocks of a table, and those of a tree, in one list
 
-abbrev flow_of : CellNode → List Block
+abbrev pub flow_of : CellNode → List Block
 flow_of node = (out-CellNode node).flow
 
-abbrev captured : Option (List Block) → List Block
+abbrev pub captured : Option (List Block) → List Block
 captured None = []
 captured (Some flow) = flow
 
-abbrev blocks_of : OpenNode → List Block
+abbrev pub blocks_of : OpenNode → List Block
 blocks_of node = captured node.caption ++ flat_map flow_of (cells_written node)
 
-abbrev alone : List Block → Entries
+abbrev pub alone : List Block → Entries
 alone flow = tables_alone (flow_outline flow)
 
 alone-flows : (xs ys : List Block) → alone (xs ++ ys) ≡ alone xs ++ alone ys
@@ -141,7 +141,7 @@ alone-caption None = refl
 alone-caption (Some flow) = refl
 
 -- a table begins, then come its blocks, and then it ends
-alone-table : (node : TableNode) → tables_alone (outline node) ≡
+pub alone-table : (node : TableNode) → tables_alone (outline node) ≡
     table (out-TableNode node).number ∷ (alone (blocks_of (out-TableNode node)) ++ table_end ∷ [])
 alone-table node =
     let o = out-TableNode node in
