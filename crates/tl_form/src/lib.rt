@@ -6,13 +6,27 @@
 
 mod cell;
 mod count;
+mod error;
+mod forming;
+mod laws;
 mod layout;
 mod narrow;
+mod paragraph;
+mod shape;
 mod widest;
 mod width;
 
 pub use cell::{Content, Kind, Table, TableCell};
 pub use count::nested;
+pub use error::FormError;
+pub use forming::table;
+pub use laws::{
+    file_spells_one_table, no_page_is_narrower_than_a_chain,
+    the_first_without_a_grid_has_the_least_number,
+};
 pub use layout::Layout;
 pub use narrow::narrow_chain;
 pub use width::least_width;
+
+#[cfg(test)]
+mod tests;
