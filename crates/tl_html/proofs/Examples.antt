@@ -5,7 +5,8 @@ use Rattle.std.proofs.lemmas.Fmt.{decimal_digit}
 use Rattle.tl_grid.specs.declared.shape.Place.{Place}
 use Rattle.tl_text.specs.declared.paragraph.Atom.{Atom}
 use Rattle.tl_text.specs.declared.paragraph.Atom.TheVariants.{Word, Glue, Break}
-use Rattle.tl_html.specs.Html.{Filled, paragraph_html, caption_html, columns_html, rows_html}
+use Rattle.tl_html.specs.declared.filled.Filled.{Filled}
+use Rattle.tl_html.specs.Html.{paragraph_html, caption_html, columns_html, rows_html}
 use Rattle.tl_form.specs.declared.cell.Kind.TheVariants as kinds
 
 -- a space between two words, none at a break, and four characters escaped

@@ -12,6 +12,7 @@ use Rattle.tl_form.specs.declared.cell.Kind.{Kind}
 use Rattle.tl_form.specs.declared.cell.Kind.TheVariants as kinds
 use Rattle.tl_form.specs.declared.cell.Table.{Table, fold-Table}
 use Rattle.tl_form.specs.declared.layout.Layout.{Layout, out-Layout}
+use Rattle.tl_html.specs.declared.filled.Filled.{Filled}
 
 -- ---- paragraphs
 
@@ -26,23 +27,22 @@ atom_html (Word text) = flat_map escaped text
 atom_html (Glue text) = flat_map escaped text
 atom_html Break = codes "<br>"
 
--- a space stands between two words
-abbrev pub space_between : Atom → Atom → List ℕ
-space_between (Word text) (Word next) = 0x20 ∷ []
-space_between (Glue text) (Word next) = 0x20 ∷ []
-space_between _ _ = []
+-- a word that follows a unit on its line has a space before it
+abbrev pub space_before : Bool → Atom → List ℕ
+space_before true (Word text) = 0x20 ∷ []
+space_before _ _ = []
 
--- the atoms after one of them
-abbrev pub atoms_after : Atom → List Atom → List ℕ
-atoms_after atom [] = []
-atoms_after atom (next ∷ atoms) = space_between atom next ++ atom_html next ++ atoms_after next atoms
+abbrev pub is_unit : Atom → Bool
+is_unit Break = false
+is_unit _ = true
 
-abbrev pub atoms_html : List Atom → List ℕ
-atoms_html [] = []
-atoms_html (atom ∷ atoms) = atom_html atom ++ atoms_after atom atoms
+-- the atoms of a paragraph, where a unit stands before them on their line or none does
+abbrev pub atoms_html : Bool → List Atom → List ℕ
+atoms_html follows [] = []
+atoms_html follows (atom ∷ atoms) = space_before follows atom ++ atom_html atom ++ atoms_html (is_unit atom) atoms
 
 abbrev pub paragraph_html : List Atom → List ℕ
-paragraph_html paragraph = codes "<p>" ++ atoms_html paragraph ++ codes "</p>"
+paragraph_html paragraph = codes "<p>" ++ atoms_html false paragraph ++ codes "</p>"
 
 -- ---- flows
 
@@ -71,13 +71,6 @@ pub record Cell : Type 0 where
   pub place : Place
   pub least : ℕ
   pub flow : Block
-
--- a cell with the text of its flow
-pub record Filled : Type 0 where
-  pub kind : Kind
-  pub place : Place
-  pub least : ℕ
-  pub text : List ℕ
 
 -- the cells, each with its text
 abbrev pub fill : List Cell → List Layout → List Filled

@@ -2,4 +2,6 @@
 //! no certificate. Its one contract: the bytes are exactly those of the page's definition.
 #![tactic(auto)]
 
-mod escape;
+mod builder;
+mod filled;
+mod paragraph;
