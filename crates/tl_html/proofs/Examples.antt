@@ -1,9 +1,7 @@
 -- The page of a table with a cell over both columns and two below it, in a layout of 1 and 4 columns; and that of a
 -- table with a caption, a header cell with a floor, and a table nested in a cell.
-use Rattle.std.proofs.Common.{◌≡◌, ℕ, List, [], ◌∷◌, ◌++◌, codes, refl, arith}
+use Rattle.std.proofs.Common.{◌≡◌, [], ◌∷◌, codes, refl, arith}
 use Rattle.std.proofs.lemmas.Fmt.{decimal_digit}
-use Rattle.tl_grid.specs.declared.shape.Place.{Place}
-use Rattle.tl_text.specs.declared.paragraph.Atom.{Atom}
 use Rattle.tl_text.specs.declared.paragraph.Atom.TheVariants.{Word, Glue, Break}
 use Rattle.tl_html.specs.declared.filled.Filled.{Filled}
 use Rattle.tl_html.specs.Html.{paragraph_html, caption_html, columns_html, rows_html}

@@ -1,12 +1,11 @@
 -- The HTML page of a table in a layout. A flow is a cell's blocks in order: paragraphs, and nested tables in this same
 -- form. The escapes are those of the HTML Standard, "Serializing HTML fragments" (13.3), for text.
-use Rattle.std.specs.Prelude.{◌≡◌, ℕ, ◌+◌, ◌-◌, ◌&&◌, Bool, true, false, not, nat_lt, ◌==◌, List, [], ◌∷◌, ◌++◌, map, filter, decimal, codes, if◌then◌else◌}
+use Rattle.std.specs.Prelude.{ℕ, ◌-◌, Bool, true, false, nat_lt, ◌==◌, List, [], ◌∷◌, ◌++◌, filter, decimal, codes, if◌then◌else◌}
 use Rattle.std.specs.List.{flat_map, range_with_len, list_any}
 use Rattle.std.specs.Str.{encode_utf8_all}
 use Rattle.tl_grid.specs.declared.shape.Place.{Place}
 use Rattle.tl_text.specs.declared.paragraph.Atom.{Atom}
 use Rattle.tl_text.specs.declared.paragraph.Atom.TheVariants.{Word, Glue, Break}
-use Rattle.tl_text.specs.Paragraph.{gap_before}
 use Rattle.tl_form.specs.declared.cell.Content.TheOpen as open_content
 use Rattle.tl_form.specs.declared.cell.Kind.{Kind}
 use Rattle.tl_form.specs.declared.cell.Kind.TheVariants as kinds
@@ -124,9 +123,13 @@ abbrev pub columns_html : List ℕ → List ℕ
 columns_html [] = []
 columns_html (width ∷ widths) = line (codes "<colgroup>" ++ flat_map column_html (width ∷ widths) ++ codes "</colgroup>")
 
--- the cells that begin in a row, from left to right
+-- a cell stands in the row in which it begins
+abbrev pub cell_in_row : ℕ → Filled → List ℕ
+cell_in_row row cell = if cell.place.top == row then cell_html cell else []
+
+-- the cells of a row, from left to right
 abbrev pub row_html : List Filled → ℕ → List ℕ
-row_html cells row = line (codes "<tr>" ++ flat_map cell_html (filter (λ cell. cell.place.top == row) cells) ++ codes "</tr>")
+row_html cells row = line (codes "<tr>" ++ flat_map (cell_in_row row) cells ++ codes "</tr>")
 
 -- the rows below the caption's
 abbrev pub rows_html : ℕ → List Filled → List ℕ

@@ -1,6 +1,6 @@
 //! A text that grows at its end.
 
-ghost use Rattle.std.specs.Prelude.{◌≡◌, ◌++◌, [], ◌∷◌, OnOk, true};
+ghost use Rattle.std.specs.Prelude.{◌≡◌, ◌++◌, [], ◌∷◌, OnOk, true, decimal};
 ghost use Rattle.std.specs.Str.{chars, encode_utf8_all};
 ghost use Rattle.tl_html.specs.inner.Ascii.{is_ascii};
 
@@ -58,6 +58,14 @@ impl TextBuilder {
     {
         self.string.push(character)?;
         Ok(())
+    }
+
+    /// Appends the decimal of a number.
+    pub(crate) fn push_number(&mut self, alloc: Global, number: u32) -> Result<(), AllocError>
+        ensures { OnOk result (self.new ≡ self.old ++ decimal number) }
+    {
+        let digits = format!(in alloc; "{number}")?;
+        self.push_str(digits.as_str())
     }
 
     /// The text, in its memory.

@@ -5,3 +5,4 @@
 mod builder;
 mod filled;
 mod paragraph;
+mod row;
