@@ -1,6 +1,6 @@
 -- The HTML page of a table in a layout. A flow is a cell's blocks in order: paragraphs, and nested tables in this same
 -- form. The escapes are those of the HTML Standard, "Serializing HTML fragments" (13.3), for text.
-use Rattle.std.specs.Prelude.{ℕ, ◌-◌, Bool, true, false, nat_lt, ◌==◌, List, [], ◌∷◌, ◌++◌, filter, decimal, codes, if◌then◌else◌}
+use Rattle.std.specs.Prelude.{ℕ, ◌-◌, Bool, true, false, nat_lt, ◌==◌, List, [], ◌∷◌, ◌++◌, decimal, codes, if◌then◌else◌}
 use Rattle.std.specs.List.{flat_map, range_with_len, list_any}
 use Rattle.std.specs.Str.{encode_utf8_all}
 use Rattle.tl_grid.specs.declared.shape.Place.{Place}
@@ -9,7 +9,9 @@ use Rattle.tl_text.specs.declared.paragraph.Atom.TheVariants.{Word, Glue, Break}
 use Rattle.tl_form.specs.declared.cell.Content.TheOpen as open_content
 use Rattle.tl_form.specs.declared.cell.Kind.{Kind}
 use Rattle.tl_form.specs.declared.cell.Kind.TheVariants as kinds
+use Rattle.tl_form.specs.declared.cell.Content.{Content, fold-Content}
 use Rattle.tl_form.specs.declared.cell.Table.{Table, fold-Table}
+use Rattle.tl_form.specs.declared.cell.TableCell.{TableCell, fold-TableCell}
 use Rattle.tl_form.specs.declared.layout.Layout.{Layout, out-Layout}
 use Rattle.tl_html.specs.declared.filled.Filled.{Filled}
 
@@ -111,8 +113,11 @@ abbrev pub is_caption : Filled → Bool
 is_caption cell = is_caption_kind cell.kind
 
 -- the caption's line, where there is one
+abbrev pub caption_line : Filled → List ℕ
+caption_line cell = if is_caption cell then line (codes "<caption>" ++ cell.text ++ codes "</caption>") else []
+
 abbrev pub caption_html : List Filled → List ℕ
-caption_html cells = flat_map (λ cell. line (codes "<caption>" ++ cell.text ++ codes "</caption>")) (filter is_caption cells)
+caption_html cells = flat_map caption_line cells
 
 -- a column by its width
 abbrev pub column_html : ℕ → List ℕ
@@ -131,10 +136,14 @@ cell_in_row row cell = if cell.place.top == row then cell_html cell else []
 abbrev pub row_html : List Filled → ℕ → List ℕ
 row_html cells row = line (codes "<tr>" ++ flat_map (cell_in_row row) cells ++ codes "</tr>")
 
+-- how many rows a caption takes
+abbrev pub caption_rows : List Filled → ℕ
+caption_rows cells = if list_any is_caption cells then 1 else 0
+
 -- the rows below the caption's
 abbrev pub rows_html : ℕ → List Filled → List ℕ
 rows_html rows cells =
-    let captions = if list_any is_caption cells then 1 else 0 in
+    let captions = caption_rows cells in
     flat_map (row_html cells) (range_with_len captions (rows - captions))
 
 -- a table whose nested tables stand as their flows say
@@ -152,6 +161,13 @@ block_page (open_content.Table box) (layout ∷ inner) = record { text = box.val
 
 abbrev pub cell_page : open_content.TableCell-F Block (Layout → List ℕ) Cell → Cell
 cell_page cell = record { kind = cell.kind; place = cell.place; least = cell.least; flow = blocks_html cell.blocks }
+
+-- the flow of a block of a table, and a cell with its flow
+abbrev pub flow_of : Content → Block
+flow_of = fold-Content Block (Layout → List ℕ) Cell block_page table_page cell_page
+
+abbrev pub cell_of : TableCell → Cell
+cell_of = fold-TableCell Block (Layout → List ℕ) Cell block_page table_page cell_page
 
 -- the characters of the HTML page of a table in a layout
 abbrev pub html_of : Table → Layout → List ℕ

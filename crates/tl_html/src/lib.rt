@@ -6,3 +6,6 @@ mod builder;
 mod filled;
 mod paragraph;
 mod row;
+mod table;
+
+pub use table::html;
