@@ -7,5 +7,7 @@ mod filled;
 mod paragraph;
 mod row;
 mod table;
+#[cfg(test)]
+mod tests;
 
 pub use table::html;
