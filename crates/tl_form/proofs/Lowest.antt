@@ -6,6 +6,7 @@
 --                                         |x  yy |     |a     b|
 use Rattle.std.proofs.Common.{◌≡◌, ◌∙◌, ℕ, zero, suc, ◌+◌, ◌<◌, ◌≤◌, List, [], ◌∷◌, ◌++◌, length, sum_by, codes, refl, sym, ap, subst, append-nil, arith}
 use Rattle.std.specs.List.{AllZip, AllByRecursion}
+use Rattle.std.proofs.lemmas.List.Sums.{sum_by-cons}
 use Rattle.unicode_width.proofs.Computing.{unicode_width}
 use Rattle.std.specs.declared.alloc.Global.{Global}
 use Rattle.std.specs.declared.boxed.Box.{Box}
@@ -22,7 +23,7 @@ use Rattle.tl_form.specs.declared.cell.Table.{Table, out-Table, roll-Table, out-
 use Rattle.tl_form.specs.declared.cell.TableCell.{out-TableCell, roll-TableCell, out-roll-TableCell}
 use Rattle.tl_form.specs.declared.layout.Layout.{Layout, out-Layout, roll-Layout, out-roll-Layout}
 use Rattle.tl_form.specs.Tables.{OpenTable, OpenCell}
-use Rattle.tl_form.specs.Layouts.{OpenLayout, Share, FitsParagraph, FitsShare, FitsRoom, FitsCell, FitsBy, FitsWithin, Fits}
+use Rattle.tl_form.specs.Layouts.{OpenLayout, Share, FitsParagraph, FitsShare, FitsRoom, FitsCell, FitsBy, FitsWithin, Fits, width_for, height_for}
 use Rattle.tl_form.specs.Least.{IsLeastHeight}
 
 abbrev aaaa : Atom
@@ -334,13 +335,15 @@ narrow_fits fits = record {
 -- ---- the least heights
 
 -- a layout of one level is one of the whole
+within_one : (table : OpenTable) (w h : ℕ) (layout : OpenLayout) → ((fits : Table → ℕ → ℕ → Layout → Type 0) → FitsBy fits Plain table w h layout) →
+    FitsWithin 1 Plain (roll-Table table) w h (roll-Layout layout)
+within_one table w h layout fit =
+    subst (λ seen. FitsBy (FitsWithin 0 Plain) Plain seen w h (out-Layout (roll-Layout layout))) (sym (out-roll-Table table))
+    (subst (FitsBy (FitsWithin 0 Plain) Plain table w h) (sym (out-roll-Layout layout)) (fit (FitsWithin 0 Plain)))
+
 whole : (table : OpenTable) (w h : ℕ) (layout : OpenLayout) → ((fits : Table → ℕ → ℕ → Layout → Type 0) → FitsBy fits Plain table w h layout) →
     Fits (roll-Table table) Plain w h (roll-Layout layout)
-whole table w h layout fit = (
-  1,
-  subst (λ seen. FitsBy (FitsWithin 0 Plain) Plain seen w h (out-Layout (roll-Layout layout))) (sym (out-roll-Table table))
-      (subst (FitsBy (FitsWithin 0 Plain) Plain table w h) (sym (out-roll-Layout layout)) (fit (FitsWithin 0 Plain))),
-)
+whole table w h layout fit = (1, within_one table w h layout fit)
 
 -- what holds of every layout of one level holds of every layout
 opened : (table : OpenTable) (w h least : ℕ) (layout : Layout) →
@@ -362,3 +365,172 @@ least_at_6 = record {
   attained = (roll-Layout narrow_layout, whole spanned 6 4 narrow_layout narrow_fits);
   least = λ other layout fits. opened spanned 6 other 4 layout (λ inner seen by. lowest_at_6 inner 6 other seen (omega arith) by) fits;
 }
+
+-- ---- a floor: no page of 6 columns, and one line on a page of 7
+
+abbrev left : Place
+left = record { left = 0; right = 1; top = 0; bottom = 1 }
+
+abbrev right : Place
+right = record { left = 1; right = 2; top = 0; bottom = 1 }
+
+abbrev floored : OpenTable
+floored = record {
+  number = 0;
+  cols = 2;
+  rows = 1;
+  cells = roll-TableCell (cell left 4 (x ∷ [])) ∷ roll-TableCell (cell right 0 (x ∷ [])) ∷ [];
+}
+
+-- a word needs its width
+one_width : (w h : ℕ) → FitsParagraph w (x ∷ []) h → 1 ≤ w
+unfolding unicode_width
+one_width w h fits = by_lines found.lines found.some found.whole found.narrow
+  where
+    found : Lines w h (x ∷ [])
+    found = lines_of w h x [] refl fits
+
+    by_lines : (lines : List (List Atom)) → AllByRecursion (λ line. line ≡ [] → ⊥) lines → joined lines ≡ x ∷ [] →
+        AllByRecursion (λ line. line_width line ≤ w) lines → 1 ≤ w
+    by_lines [] some whole narrow = cc
+    by_lines ([] ∷ lines) some whole narrow = absurd (some.0 refl)
+    by_lines ((u ∷ []) ∷ lines) some whole narrow = let same : u ∷ [] ≡ x ∷ [] = cc in omega (arith, narrow.0, ap line_width same)
+    by_lines ((u ∷ v ∷ line) ∷ lines) some whole narrow = cc
+
+none_at_6 : (fits : Table → ℕ → ℕ → Layout → Type 0) (h : ℕ) (layout : OpenLayout) → FitsBy fits Plain floored 6 h layout → ⊥
+none_at_6 fits h layout by = at layout.widths layout.heights layout.inner by
+  where
+    at : (widths heights : List ℕ) (inner : List Layout) →
+        FitsBy fits Plain floored 6 h (record { widths = widths; heights = heights; inner = inner }) → ⊥
+    at [] heights inner by = omega (arith, by.columns)
+    at (a ∷ []) heights inner by = omega (arith, by.columns)
+    at (a ∷ b ∷ c ∷ widths) heights inner by = omega (arith, by.columns)
+    at (a ∷ b ∷ []) heights inner by = cells by.parts by.cells
+      where
+        now : OpenLayout
+        now = record { widths = a ∷ b ∷ []; heights = heights; inner = inner }
+
+        cells : (parts : List (List Layout)) → AllZip (λ one part. FitsCell fits Plain now (out-TableCell one) part) floored.cells parts → ⊥
+        cells [] all = all
+        cells (p ∷ []) all = all.1
+        cells (p ∷ q ∷ parts) all =
+            let first = subst (λ one. FitsCell fits Plain now one p) (out-roll-TableCell (cell left 4 (x ∷ []))) all.0 in
+            let second = subst (λ one. FitsCell fits Plain now one q) (out-roll-TableCell (cell right 0 (x ∷ []))) all.1.0 in
+            omega (arith, by.within, first.floor, one_width _ _ (in_room fits _ _ right 0 (x ∷ []) q second))
+
+-- ---- the first table in the one cell of another
+
+abbrev around : Box Table Global → OpenCell
+around box = record { kind = kinds.Plain; place = left; least = 0; blocks = roll-Content (open_content.Table box) ∷ [] }
+
+abbrev outer : Box Table Global → OpenTable
+outer box = record { number = 0; cols = 1; rows = 1; cells = roll-TableCell (around box) ∷ [] }
+
+module _ (box : Box Table Global) (is : box.value ≡ roll-Table spanned) where
+  -- what the nested table needs, the outer one needs
+  inside_needs : (most least : ℕ) → ((fits : Table → ℕ → ℕ → Layout → Type 0) (w h : ℕ) (layout : OpenLayout) → w ≤ most →
+      FitsBy fits Plain spanned w h layout → least ≤ h) → (depth h : ℕ) (layout : OpenLayout) →
+      FitsBy (FitsWithin depth Plain) Plain (outer box) most h layout → least ≤ h
+  inside_needs most least each depth h layout by = at layout.widths layout.heights layout.inner by
+    where
+      at : (widths heights : List ℕ) (inner : List Layout) →
+          FitsBy (FitsWithin depth Plain) Plain (outer box) most h (record { widths = widths; heights = heights; inner = inner }) → least ≤ h
+      at [] heights inner by = absurd (omega (arith, by.columns))
+      at (a ∷ b ∷ widths) heights inner by = absurd (omega (arith, by.columns))
+      at (a ∷ []) [] inner by = absurd (omega (arith, by.rows))
+      at (a ∷ []) (c ∷ d ∷ heights) inner by = absurd (omega (arith, by.rows))
+      at (a ∷ []) (c ∷ []) inner by = cells by.parts by.cells
+        where
+          now : OpenLayout
+          now = record { widths = a ∷ []; heights = c ∷ []; inner = inner }
+
+          nested : (depth w h : ℕ) (layout : Layout) → w ≤ most → FitsWithin depth Plain box.value w h layout → least ≤ h
+          nested zero w h layout few fits = absurd fits
+          nested (suc depth) w h layout few fits =
+              each (FitsWithin depth Plain) w h (out-Layout layout) few
+              (subst (λ seen. FitsBy (FitsWithin depth Plain) Plain seen w h (out-Layout layout)) (ap out-Table is ∙ out-roll-Table spanned) fits)
+
+          cells : (parts : List (List Layout)) →
+              AllZip (λ one part. FitsCell (FitsWithin depth Plain) Plain now (out-TableCell one) part) (outer box).cells parts → least ≤ h
+          cells [] all = absurd all
+          cells (p ∷ parts) all = shares room.shares room.blocks room.within
+            where
+              room : FitsCell (FitsWithin depth Plain) Plain now (around box) p
+              room = subst (λ one. FitsCell (FitsWithin depth Plain) Plain now one p) (out-roll-TableCell (around box)) all.0
+
+              shares : (given : List Share) →
+                  AllZip (λ block share. FitsShare (FitsWithin depth Plain) (width_for Plain now left) (out-Content block) share) (around box).blocks given →
+                  sum_by (λ share. share.height) given ≤ height_for Plain now left → least ≤ h
+              shares [] blocks within = absurd blocks
+              shares (share ∷ given) blocks within =
+                  let own = subst (λ block. FitsShare (FitsWithin depth Plain) (width_for Plain now left) block share) (out-roll-Content (open_content.Table box))
+                  blocks.0 in
+                  omega (
+                    arith,
+                    by.high,
+                    within,
+                    sum_by-cons (λ (each : Share). each.height) share given,
+                    own.within,
+                    nested depth (width_for Plain now left) own.height own.layout (omega (arith, by.within)) own.laid,
+                  )
+
+  -- and as high it can be
+  outer_fits : (w h : ℕ) (layout : OpenLayout) → ((fits : Table → ℕ → ℕ → Layout → Type 0) → FitsBy fits Plain spanned w h layout) →
+      Fits (roll-Table (outer box)) Plain w h (roll-Layout (record { widths = w ∷ []; heights = h ∷ []; inner = roll-Layout layout ∷ [] }))
+  outer_fits w h layout fit = (
+    2,
+    subst (λ seen. FitsBy (FitsWithin 1 Plain) Plain seen w h (out-Layout (roll-Layout made))) (sym (out-roll-Table (outer box)))
+        (subst (FitsBy (FitsWithin 1 Plain) Plain (outer box) w h) (sym (out-roll-Layout made)) (record {
+          columns = refl;
+          rows = refl;
+          within = omega arith;
+          high = omega arith;
+          parts = (roll-Layout layout ∷ []) ∷ [];
+          cells = (
+            subst (λ one. FitsCell (FitsWithin 1 Plain) Plain made one (roll-Layout layout ∷ [])) (sym (out-roll-TableCell (around box))) (record {
+              floor = omega arith;
+              shares = record { height = h; inner = roll-Layout layout ∷ [] } ∷ [];
+              blocks = (
+                subst (λ block. FitsShare (FitsWithin 1 Plain) (width_for Plain made left) block (record { height = h; inner = roll-Layout layout ∷ [] }))
+                    (sym (out-roll-Content (open_content.Table box))) (record {
+                      layout = roll-Layout layout;
+                      height = h;
+                      laid = subst (λ n. FitsWithin 1 Plain box.value n h (roll-Layout layout)) (omega arith)
+                          (subst (λ table. FitsWithin 1 Plain table w h (roll-Layout layout)) (sym is) (within_one spanned w h layout fit));
+                      within = omega arith;
+                      given = refl;
+                    }),
+                tt,
+              );
+              within = omega arith;
+              given = refl;
+            }),
+            tt,
+          );
+          given = refl;
+        })),
+  ) where
+    made : OpenLayout
+    made = record { widths = w ∷ []; heights = h ∷ []; inner = roll-Layout layout ∷ [] }
+
+  nested_least_at_9 : IsLeastHeight (roll-Table (outer box)) Plain 9 3
+  nested_least_at_9 = record {
+    attained = (_, outer_fits 9 3 wide_layout wide_fits);
+    least = λ other layout fits. by_depth other layout fits;
+  } where
+    by_depth : (other : ℕ) (layout : Layout) → Fits (roll-Table (outer box)) Plain 9 other layout → 3 ≤ other
+    by_depth other layout (zero, fits) = absurd fits
+    by_depth other layout (suc depth, fits) =
+        inside_needs 9 3 (λ f w h seen few by. lowest_at_9 f w h seen few by) depth other (out-Layout layout)
+        (subst (λ seen. FitsBy (FitsWithin depth Plain) Plain seen 9 other (out-Layout layout)) (out-roll-Table (outer box)) fits)
+
+  nested_least_at_6 : IsLeastHeight (roll-Table (outer box)) Plain 6 4
+  nested_least_at_6 = record {
+    attained = (_, outer_fits 6 4 narrow_layout narrow_fits);
+    least = λ other layout fits. by_depth other layout fits;
+  } where
+    by_depth : (other : ℕ) (layout : Layout) → Fits (roll-Table (outer box)) Plain 6 other layout → 4 ≤ other
+    by_depth other layout (zero, fits) = absurd fits
+    by_depth other layout (suc depth, fits) =
+        inside_needs 6 4 (λ f w h seen few by. lowest_at_6 f w h seen few by) depth other (out-Layout layout)
+        (subst (λ seen. FitsBy (FitsWithin depth Plain) Plain seen 6 other (out-Layout layout)) (out-roll-Table (outer box)) fits)

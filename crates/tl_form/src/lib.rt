@@ -1,7 +1,8 @@
 //! Tables with their grids formed, and what a layout of one is: when it fits a page, and which height
 //! and which width are the least. It knows cells and paragraphs, and nothing of how a layout is
-//! searched for. Its one contract: `least_width` is the least width over all layouts, those of nested
-//! tables included, and `narrow_chain` is a chain of columns that weighs as much.
+//! searched for. Its one contract: `table` is the table that a tree becomes, or names the first of its
+//! tables without a grid; `least_width` is the least width over all layouts, those of nested tables
+//! included, and `narrow_chain` is a chain of columns that weighs as much.
 #![tactic(auto)]
 
 mod cell;
