@@ -1,6 +1,7 @@
-//! Searches for a lowest layout of a problem: what every search promises, and the log that proves what
-//! it found. It knows no table and no text. Its one contract: the outcome of `Solver::solve` is a tight
-//! placement, with a log that is good for its lower bound and a trace worked for its budget.
+//! Searches for a lowest layout of a problem: what every search promises, the arena of zones that all of
+//! them share, the log that proves what was found, and the plain search. It knows no table and no text. Its
+//! one contract: the outcome of `Solver::solve` is a tight placement, with a log that is good for its lower
+//! bound and a trace worked for its budget.
 #![tactic(auto)]
 
 mod arena;
