@@ -20,7 +20,8 @@ abbrev pub Stops : {S A V E : Type 0} → ListReading S A V E → ℕ → S → 
 Stops list zero s text = Unit {0}
 Stops list (suc k) s text = comes (list.turn k s) text ≡ false
 
-pub stops_by : {S A V E : Type 0} (list : ListReading S A V E) (k : ℕ) (s : S) (text : List ℕ) → ((j : ℕ) → k ≡ suc j → comes (list.turn j s) text ≡ false) → Stops list k s text
+pub stops_by : {S A V E : Type 0} (list : ListReading S A V E) (k : ℕ) (s : S) (text : List ℕ) → ((j : ℕ) → k ≡ suc j → comes (list.turn j s) text ≡ false)
+    → Stops list k s text
 stops_by list zero s text none = tt
 stops_by list (suc k) s text none = none k refl
 
@@ -45,12 +46,14 @@ module _ {S A V E : Type 0} (list : ListReading S A V E) where
 
   item_so : (k : ℕ) (s : S) (text : List ℕ) → comes (list.turn k s) text ≡ true → list_at list (suc k) s text ≡ items k s (list.item k s text)
   unfolding list_at followed
-  item_so k s text e = comes_so (list.turn k s) text (list.item k s >>= λ a. (list_at list k (list.next s a) >>= λ y. give (listing (list.view a ∷ y.0) (y.1)))) (stopping list s) e
+  item_so k s text e = comes_so (list.turn k s) text
+      (list.item k s >>= λ a. (list_at list k (list.next s a) >>= λ y. give (listing (list.view a ∷ y.0) (y.1)))) (stopping list s) e
 
   stop_so : (k : ℕ) (s : S) (text : List ℕ) → Stops list k s text → list_at list k s text ≡ then_read (list.stop s text) (λ e. give (listing [] e))
   unfolding list_at followed stopping
   stop_so zero s text e = refl
-  stop_so (suc k) s text e = stops_so (list.turn k s) text (list.item k s >>= λ a. (list_at list k (list.next s a) >>= λ y. give (listing (list.view a ∷ y.0) (y.1)))) (stopping list s) e
+  stop_so (suc k) s text e = stops_so (list.turn k s) text (list.item k s >>= λ a.
+      (list_at list k (list.next s a) >>= λ y. give (listing (list.view a ∷ y.0) (y.1)))) (stopping list s) e
 
   pushed : (front : List V) (v : V) (x : Answer (Listing V E)) → prepend front (then_read x (λ y. give (listing (v ∷ y.0) (y.1)))) ≡ prepend (front ++ v ∷ []) x
   unfolding give
@@ -59,7 +62,8 @@ module _ {S A V E : Type 0} (list : ListReading S A V E) where
   pushed front v (outside left) = refl
 
   -- one item more
-  pub goes_on : (front : List V) (room k : ℕ) (s : S) (text : List ℕ) (a : A) (rest : List ℕ) (total : Answer (Listing V E)) → room ≡ suc k → comes (list.turn k s) text ≡ true
+  pub goes_on : (front : List V) (room k : ℕ) (s : S) (text : List ℕ) (a : A) (rest : List ℕ) (total : Answer (Listing V E)) → room ≡ suc k
+      → comes (list.turn k s) text ≡ true
       → list.item k s text ≡ got a rest → Whole front room s text total → Whole (front ++ list.view a ∷ []) k (list.next s a) rest total
   unfolding followed
   goes_on front room k s text a rest total room-is come is all =
@@ -67,8 +71,10 @@ module _ {S A V E : Type 0} (list : ListReading S A V E) where
       sym (pushed front (list.view a) (list_at list k (list.next s a) rest)) ∙ ap (prepend front) (sym (item_so k s text come ∙ ap (items k s) is)) ∙ whole
 
   -- the same, in the words of a loop: the list with the item, and the next state
-  pub pushed_on : (front new : List V) (room k : ℕ) (s t : S) (text : List ℕ) (a : A) (v : V) (rest : List ℕ) (total : Answer (Listing V E)) → new ≡ front ++ v ∷ [] → list.view a ≡ v
-      → list.next s a ≡ t → room ≡ suc k → comes (list.turn k s) text ≡ true → list.item k s text ≡ got a rest → Whole front room s text total → Whole new k t rest total
+  pub pushed_on : (front new : List V) (room k : ℕ) (s t : S) (text : List ℕ) (a : A) (v : V) (rest : List ℕ) (total : Answer (Listing V E))
+      → new ≡ front ++ v ∷ [] → list.view a ≡ v
+      → list.next s a ≡ t → room ≡ suc k → comes (list.turn k s) text ≡ true → list.item k s text ≡ got a rest → Whole front room s text total
+      → Whole new k t rest total
   pushed_on front new room k s t text a v rest total new-is view-is next-is room-is come is whole =
       let one : Whole (front ++ list.view a ∷ []) k (list.next s a) rest total = goes_on front room k s text a rest total room-is come is whole in
       let P : S → Type 0 = λ u. Whole (front ++ list.view a ∷ []) k u rest total in
@@ -83,7 +89,8 @@ module _ {S A V E : Type 0} (list : ListReading S A V E) where
   failed (Outside left) front k s x is = ap (λ (y : Answer A). prepend front (items k s y)) is
 
   -- an item at which the reading fails
-  pub fails_on : (f : Fault) (front : List V) (room k : ℕ) (s : S) (text : List ℕ) (total : Answer (Listing V E)) → room ≡ suc k → comes (list.turn k s) text ≡ true
+  pub fails_on : (f : Fault) (front : List V) (room k : ℕ) (s : S) (text : List ℕ) (total : Answer (Listing V E)) → room ≡ suc k
+      → comes (list.turn k s) text ≡ true
       → Fails f (list.item k s text) → Whole front room s text total → Fails f total
   fails_on f front room k s text total room-is come is all =
       let whole : Whole front (suc k) s text total = let P : ℕ → Type 0 = λ j. Whole front j s text total in subst P room-is all in
@@ -119,7 +126,8 @@ module _ {S A V E : Type 0} (list : ListReading S A V E) where
       unchanged (outside left) = refl
 
 -- room for as many items as there are characters is enough
-pub refuel : {S A V E : Type 0} (list : ListReading S A V E) (form : ListForm S A V E) (unlimited : IsUnlimited list form) (front : List V) (room : ℕ) (s : S) (rest : List ℕ)
+pub refuel : {S A V E : Type 0} (list : ListReading S A V E) (form : ListForm S A V E) (unlimited : IsUnlimited list form) (front : List V) (room : ℕ) (s : S)
+    (rest : List ℕ)
     (total : Answer (Listing V E)) → length rest < room → Whole list front room s rest total → Whole list front (suc (length rest)) s rest total
 refuel list form unlimited front zero s rest total enough whole = absurd (omega arith)
 refuel list form unlimited front (suc k) s rest total enough whole =

@@ -29,21 +29,24 @@ answered_each_ok (Err (Syntax place)) bytes is c text = let again = whole_again 
 answered_each_ok (Err (Range place)) bytes is c text = let again = whole_again bytes c text.writable text.text in let here = is.1 in absurd cc
 answered_each_ok (Err TooLong) bytes is c text = absurd is
 
-pub answered_err : (r : Read) (bytes : List ℕ) → length bytes ≤ MAX_CERTIFICATE_BYTES → Answers r bytes → IfErr r (IsMemoryOr (Memory alloc_error) (Refused bytes))
+pub answered_err : (r : Read) (bytes : List ℕ) → length bytes ≤ MAX_CERTIFICATE_BYTES → Answers r bytes
+    → IfErr r (IsMemoryOr (Memory alloc_error) (Refused bytes))
 answered_err (Ok c) bytes short is = tt
 answered_err (Err (Memory e)) bytes short is = inl refl
 answered_err (Err (Syntax place)) bytes short is = inr (short, subst (IsSyntaxFault bytes) (sym is.2) (syntax_from bytes is.0 is.1))
 answered_err (Err (Range place)) bytes short is = inr (short, subst (IsRangeFault bytes) (sym is.2) (range_of bytes is.0 is.1))
 answered_err (Err TooLong) bytes short is = absurd is
 
-pub answered_each_err : (r : Read) (bytes : List ℕ) → length bytes ≤ MAX_CERTIFICATE_BYTES → Answers r bytes → (e : CertError) → Refused bytes e → ReturnsError (Memory alloc_error) e r
+pub answered_each_err : (r : Read) (bytes : List ℕ) → length bytes ≤ MAX_CERTIFICATE_BYTES → Answers r bytes → (e : CertError) → Refused bytes e
+    → ReturnsError (Memory alloc_error) e r
 answered_each_err r bytes short is (Memory e) refused = absurd refused
 answered_each_err r bytes short is TooLong refused = absurd (omega arith)
 answered_each_err r bytes short is (Syntax place) refused =
     let p = whole_wrong bytes place refused.1 in
     at_wrong r is p.0 p.1 p.2
   where
-    at_wrong : (r : Read) → Answers r bytes → (left : ℕ) → whole_at bytes ≡ wrong left → length bytes - left ≡ place → ReturnsError (Memory alloc_error) (Syntax place) r
+    at_wrong : (r : Read) → Answers r bytes → (left : ℕ) → whole_at bytes ≡ wrong left → length bytes - left ≡ place
+        → ReturnsError (Memory alloc_error) (Syntax place) r
     at_wrong (Ok c) is left w p = absurd cc
     at_wrong (Err (Memory e)) is left w p = inl refl
     at_wrong (Err (Syntax other)) is left w p =
@@ -56,7 +59,8 @@ answered_each_err r bytes short is (Range place) refused =
     let p = whole_outside bytes place refused.1 in
     at_outside r is p.0 p.1
   where
-    at_outside : (r : Read) → Answers r bytes → whole_at bytes ≡ outside (length bytes - place) → length bytes - (length bytes - place) ≡ place → ReturnsError (Memory alloc_error) (Range place) r
+    at_outside : (r : Read) → Answers r bytes → whole_at bytes ≡ outside (length bytes - place) → length bytes - (length bytes - place) ≡ place
+        → ReturnsError (Memory alloc_error) (Range place) r
     at_outside (Ok c) is w p = absurd cc
     at_outside (Err (Memory e)) is w p = inl refl
     at_outside (Err (Syntax other)) is w p = let here = is.1 in absurd cc

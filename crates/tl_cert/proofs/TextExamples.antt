@@ -30,7 +30,8 @@ uncut table width height lower widths end = record {
 }
 
 -- two columns of widths 3 and 5, of height 2
-lowest_of_two_columns : cert_text (record { width = 12; style = Plain; budget = 6; claim = Lowest 2; chains = []; sections = uncut 0 12 2 2 (3 ∷ 5 ∷ []) ends.Chain ∷ [] })
+lowest_of_two_columns : cert_text
+    (record { width = 12; style = Plain; budget = 6; claim = Lowest 2; chains = []; sections = uncut 0 12 2 2 (3 ∷ 5 ∷ []) ends.Chain ∷ [] })
     ≡ concat (
     codes "tablelayout 1 12 plain 6\n" ∷
     codes "lowest 2\n" ∷
@@ -41,7 +42,8 @@ lowest_of_two_columns : cert_text (record { width = 12; style = Plain; budget = 
 unfolding numeral
 lowest_of_two_columns = refl
 
-bounded_of_two_columns : cert_text (record { width = 12; style = Plain; budget = 0; claim = Bounded 3 2; chains = []; sections = uncut 0 12 3 2 (3 ∷ 2 ∷ []) ends.Chain ∷ [] })
+bounded_of_two_columns : cert_text
+    (record { width = 12; style = Plain; budget = 0; claim = Bounded 3 2; chains = []; sections = uncut 0 12 3 2 (3 ∷ 2 ∷ []) ends.Chain ∷ [] })
     ≡ concat (
     codes "tablelayout 1 12 plain 0\n" ∷
     codes "bounded 3 2\n" ∷
@@ -148,7 +150,15 @@ unfolding numeral
 lowest_by_three_cuts = refl
 
 -- a line that ends by `area`: the second version of the text
-lowest_by_area : cert_text (record { width = 7; style = Plain; budget = 0; claim = Lowest 2; chains = []; sections = uncut 0 7 2 2 (1 ∷ 1 ∷ []) ends.Area ∷ [] })
+lowest_by_area : cert_text (record {
+  width = 7;
+  style = Plain;
+  budget = 0;
+  claim = Lowest 2;
+  chains = [];
+  sections =
+      uncut 0 7 2 2 (1 ∷ 1 ∷ []) ends.Area ∷ [];
+})
     ≡ concat (
     codes "tablelayout 2 7 plain 0\n" ∷
     codes "lowest 2\n" ∷
@@ -173,7 +183,11 @@ bounds_of_one_span : cert_text (record {
     lower = 0;
     widths = [];
     trace = [];
-    log = record { nogood = nogoods.Bounds (record { span = 0; side = Most; width = 3 } ∷ record { span = 0; side = Least; width = 4 } ∷ []); fires = []; end = ends.Cycle } ∷ [];
+    log = record {
+      nogood = nogoods.Bounds (record { span = 0; side = Most; width = 3 } ∷ record { span = 0; side = Least; width = 4 } ∷ []);
+      fires = [];
+      end = ends.Cycle;
+    } ∷ [];
   } ∷ [];
 })
     ≡ concat (

@@ -1,5 +1,6 @@
 -- Traces, cut by cut: the zones that a further cut makes, and which zones then stand.
-use Rattle.std.proofs.Common.{◌≡◌, ◌≢◌, ℕ, ◌+◌, ◌*◌, ◌<◌, ◌≤◌, zero, suc, List, [], ◌∷◌, ◌++◌, ◌⊎◌, inl, inr, length, get_or, take, refl, sym, ap, ◌∙◌, subst, arith, length-append, length-take}
+use Rattle.std.proofs.Common.{◌≡◌, ◌≢◌, ℕ, ◌+◌, ◌*◌, ◌<◌, ◌≤◌, zero, suc, List, [], ◌∷◌, ◌++◌}
+use Rattle.std.proofs.Common.{◌⊎◌, inl, inr, length, get_or, take, refl, sym, ap, ◌∙◌, subst, arith, length-append, length-take}
 use Rattle.std.specs.List.{All}
 use Rattle.std.proofs.lemmas.Bool.{cases_lt}
 use Rattle.std.proofs.lemmas.List.{take_all, get_or-take, take-take, get_or_append_left, get_or-append-add}
@@ -15,11 +16,11 @@ use Rattle.tl_cert.specs.Traces.{with_parts, zones_after, zones_of, zone_at, IsZ
 
 -- ---- the zones after a further cut
 
-zones-push : (zones : List (List Range)) (cuts : List CutAt) (cut : CutAt) → zones_after zones (cuts ++ cut ∷ []) ≡ with_parts (zones_after zones cuts) cut
+pub zones-push : (zones : List (List Range)) (cuts : List CutAt) (cut : CutAt) → zones_after zones (cuts ++ cut ∷ []) ≡ with_parts (zones_after zones cuts) cut
 zones-push zones [] cut = refl
 zones-push zones (first ∷ cuts) cut = zones-push (with_parts zones first) cuts cut
 
-zones-length : (zones : List (List Range)) (cuts : List CutAt) → length (zones_after zones cuts) ≡ length zones + 2 * length cuts
+pub zones-length : (zones : List (List Range)) (cuts : List CutAt) → length (zones_after zones cuts) ≡ length zones + 2 * length cuts
 zones-length zones [] = omega arith
 zones-length zones (cut ∷ cuts) =
     let rest = zones-length (with_parts zones cut) cuts in

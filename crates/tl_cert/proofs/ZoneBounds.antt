@@ -1,12 +1,14 @@
 -- The widths of a zone are those within the page that meet its bounds.
-use Rattle.std.proofs.Common.{◌≡◌, ◌≢◌, ℕ, ◌+◌, ◌-◌, ◌<◌, ◌≤◌, zero, suc, Bool, true, false, nat_lt, if◌then◌else◌, List, [], ◌∷◌, ◌++◌, ◌⊎◌, inl, inr, length, get_or, refl, sym, ap, ◌∙◌, subst, arith}
+use Rattle.std.proofs.Common.{◌≡◌, ◌≢◌, ℕ, ◌+◌, ◌-◌, ◌<◌, ◌≤◌, zero, suc, Bool, true, false, nat_lt, if◌then◌else◌}
+use Rattle.std.proofs.Common.{List, [], ◌∷◌, ◌++◌, ◌⊎◌, inl, inr, length, get_or, refl, sym, ap, ◌∙◌, subst, arith}
 use Rattle.std.specs.List.{All, Contains, flat_map, range_with_len}
 use Rattle.std.proofs.lemmas.Bool.{cases_lt}
 use Rattle.std.proofs.lemmas.Bool.Decides.{nat_tests}
 use Rattle.std.proofs.lemmas.List.{get_or_past}
 use Rattle.std.proofs.lemmas.List.Elements.{All-contains, Contains-append_left, Contains-append_right, Contains-append_cases}
 use Rattle.tl_base.specs.Style.{gap_of}
-use Rattle.tl_base.proofs.Members.{All-from_Contains, Contains-first, Contains-cases, Contains-none, Contains-flat_map, flat_map-Contains, Contains-range, range-Contains}
+use Rattle.tl_base.proofs.Members.{All-from_Contains, Contains-first, Contains-cases, Contains-none}
+use Rattle.tl_base.proofs.Members.{Contains-flat_map, flat_map-Contains, Contains-range, range-Contains}
 use Rattle.tl_problem.specs.declared.zone.Range.{Range}
 use Rattle.tl_problem.specs.Problem.{ProblemModel}
 use Rattle.tl_problem.specs.Layouts.{WithinPage}
@@ -20,18 +22,18 @@ use Rattle.tl_cert.specs.declared.log.Side.{Side}
 use Rattle.tl_cert.specs.declared.log.Side.TheVariants.{Most, Least}
 use Rattle.tl_cert.specs.Nogoods.{Meets, at_most, at_least, range_bounds, zone_bounds}
 
-lt_test : (a b : ℕ) → a < b → nat_lt a b ≡ true
+pub lt_test : (a b : ℕ) → a < b → nat_lt a b ≡ true
 lt_test a b less = grind (arith, nat_tests)
 
-not_lt_test : (a b : ℕ) → b ≤ a → nat_lt a b ≡ false
+pub not_lt_test : (a b : ℕ) → b ≤ a → nat_lt a b ≡ false
 not_lt_test a b less = grind (arith, nat_tests)
 
 -- the list of one element that a test gives has it where the test holds, and nothing else ever
-given-Contains : {X : Type 0} (b : Bool) (x : X) → b ≡ true → Contains (if b then x ∷ [] else []) x
+pub given-Contains : {X : Type 0} (b : Bool) (x : X) → b ≡ true → Contains (if b then x ∷ [] else []) x
 given-Contains true x is = Contains-first x []
 given-Contains false x is = cc
 
-Contains-given : {X : Type 0} (b : Bool) (x y : X) → Contains (if b then x ∷ [] else []) y → x ≡ y
+pub Contains-given : {X : Type 0} (b : Bool) (x y : X) → Contains (if b then x ∷ [] else []) y → x ≡ y
 Contains-given true x y has = elim (Contains-cases x [] y has) [ inl here ↦ here | inr later ↦ absurd (Contains-none y later) ]
 Contains-given false x y has = absurd (Contains-none y has)
 

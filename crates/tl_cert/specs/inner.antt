@@ -1,3 +1,4 @@
+-- What the private functions promise one another. No public clause cites it.
 pub mod reading
 pub mod Areas
 pub mod CertReading

@@ -6,15 +6,13 @@
 --
 --   a table with a caption and a row       loose rows, a group         a table of three columns
 --   of one cell, in which another stands   and more loose rows
-use Rattle.std.proofs.Common.{◌≡◌, ℕ, ◌+◌, false, Some, None, List, [], ◌∷◌, ◌++◌, codes, sum_by, refl, ap, ◌∙◌, lit<}
+use Rattle.std.proofs.Common.{◌≡◌, false, Some, List, [], ◌∷◌, ◌++◌, codes, sum_by, refl, ap, ◌∙◌, lit<}
 use lib.Utf8.{encode}
 use Rattle.tl_base.specs.declared.limits.TheConstants.{MAX_DEPTH}
 use Rattle.tl_token.specs.declared.token.Element.TheVariants as elements
 use Rattle.tl_token.specs.declared.token.Spans.{Spans}
 use Rattle.tl_token.specs.declared.token.Token.{Token}
-use Rattle.tl_token.specs.declared.token.TokenKind.{TokenKind}
 use Rattle.tl_token.specs.declared.token.TokenKind.TheVariants.{Start, End, Text}
-use Rattle.tl_text.specs.declared.paragraph.Atom.{Atom}
 use Rattle.tl_text.specs.declared.paragraph.Atom.TheVariants.{Word, Break}
 use Rattle.tl_tree.specs.Tags.{Kinds, tbody, text, table_start, table_end, caption_start, caption_end, col, group_start, group_end, row_start, cell_start, br}
 use Rattle.tl_tree.specs.Tags.{p_or_div, class_of}
@@ -22,7 +20,7 @@ use Rattle.tl_tree.specs.Grammar as grammar
 use Rattle.tl_tree.specs.Grammar.{Marks, Document, colgroup_columns, no_outer, no_space, by_tag, left_out, no_columns, lone_col, no_flow, words, break, nested}
 use Rattle.tl_tree.specs.Grammar.{no_caption, no_cell, no_row, no_part, loose_rows, character, line_break, paragraph_ends}
 use Rattle.tl_tree.specs.Paragraphs.{entries_of}
-use Rattle.tl_tree.specs.Outline.{Entries, table, caption, columns, group, row, cell, paragraph, table_end, outline}
+use Rattle.tl_tree.specs.Outline.{Entries, table, caption, columns, group, row, cell, paragraph, table_end}
 use Rattle.tl_tree.specs.Sound.{table_count, IsNumberedFrom, IsNestedBelow, entry_size}
 use Rattle.tl_tree.specs.Spelling.{SpellsTree, IsRefused}
 use Rattle.tl_tree.specs.declared.error.TreeError.TheVariants.{NoTable, StrayText, Misplaced, Unclosed}

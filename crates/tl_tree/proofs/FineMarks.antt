@@ -1,5 +1,5 @@
 -- The marks of the tokens of a document: their numbers are in their ranges, their tables within the limits.
-use Rattle.std.proofs.Common.{◌≡◌, ◌≤◌, ◌<◌, ℕ, ◌+◌, ◌*◌, ◌-◌, false, List, [], ◌∷◌, ◌++◌, length, refl, sym, ap, ◌∙◌, subst, arith, append_assoc}
+use Rattle.std.proofs.Common.{◌≡◌, ◌≤◌, ◌<◌, ℕ, ◌+◌, ◌*◌, ◌-◌, false, [], ◌∷◌, ◌++◌, length, refl, ◌∙◌, arith, append_assoc}
 use Rattle.std.specs.List.{AllByRecursion}
 use Rattle.tl_base.specs.declared.limits.TheConstants.{MAX_COLSPAN, MAX_DEPTH}
 use Rattle.tl_tree.specs.Tags.{Kind, Kinds, table_start, table_end}

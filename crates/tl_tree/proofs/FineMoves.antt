@@ -1,13 +1,13 @@
 -- What a token that is readable leads to: few more columns, marks that count no more than the token, and
 -- numbers in their ranges.
-use Rattle.std.proofs.Common.{◌≡◌, ◌≤◌, ◌<◌, ℕ, ◌+◌, ◌*◌, ◌-◌, Bool, true, false, ◌||◌, List, [], ◌∷◌, ◌++◌, length, map, sum_by, refl, sym, ap, ◌∙◌}
+use Rattle.std.proofs.Common.{◌≡◌, ◌≤◌, ℕ, ◌+◌, ◌*◌, Bool, true, false, ◌||◌, List, [], ◌∷◌, ◌++◌, length, map, sum_by, refl, sym, ap, ◌∙◌}
 use Rattle.std.proofs.Common.{subst, cond, arith, length-append}
 use Rattle.std.proofs.lemmas.Bool.{false≢true}
 use Rattle.std.proofs.lemmas.List.Sums.{sum_by-cons, sum_by-append}
 use Rattle.std.specs.List.{AllByRecursion, list_any}
 use Rattle.std.specs.Char.{encode_utf8}
 use Rattle.std.specs.Str.{encode_utf8_all}
-use Rattle.tl_base.specs.declared.limits.TheConstants.{MAX_COLSPAN, MAX_DEPTH}
+use Rattle.tl_base.specs.declared.limits.TheConstants.{MAX_COLSPAN}
 use Rattle.tl_base.specs.Text.{byte_count}
 use Rattle.tl_token.specs.Characters.{is_control}
 use Rattle.tl_token.specs.declared.token.Spans.{Spans}
@@ -16,15 +16,13 @@ use Rattle.tl_tree.specs.Tags.{group_start, group_end, row_start, row_end, cell_
 use Rattle.tl_tree.specs.Tags.{lone_end, is_white, is_table_start}
 use Rattle.tl_tree.specs.Grammar.{Mark, Marks, table_begins, columns, group_begins, row_begins, cell_begins, character, line_break, paragraph_ends, table_ends}
 use Rattle.tl_tree.specs.Sound.{IsCellInRange}
-use Rattle.tl_tree.specs.Paragraphs.{number_after}
 use Rattle.tl_tree.specs.Readable.{IsReadable, kind_size}
-use Rattle.tl_tree.specs.Spelling.{depth_with, tables_with, tables_after, FitLimits}
+use Rattle.tl_tree.specs.Spelling.{depth_with}
 use Rattle.tl_tree.specs.inner.Machine.{Holder, of_caption, of_cell, Place, opened, in_columns, in_colgroup, between, in_group, in_row, in_flow, due, closes}
 use Rattle.tl_tree.specs.inner.Machine.{same_head, Move, to, enter, leave, never, move, State, before, inside, after, failed, left, moved, marks_of, next}
 use Rattle.tl_tree.specs.inner.Machine.{told, reached, all_told}
 use Rattle.tl_tree.specs.inner.Reading.{place_columns}
 use Rattle.tl_tree.specs.inner.Verdict.{is_failed}
-use Rattle.tl_tree.proofs.Moves.{reached-failed}
 use Rattle.tl_tree.proofs.Depths.{DepthFits, depth_fits}
 
 -- how much a mark counts

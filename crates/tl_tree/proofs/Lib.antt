@@ -10,7 +10,7 @@ mod Readings
 mod FineMoves
 mod FineMarks
 mod EntrySizes
-mod SameTrees
+pub mod SameTrees
 mod Documents
 mod Soundness
 pub mod ReadableTokens

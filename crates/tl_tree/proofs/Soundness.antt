@@ -1,27 +1,26 @@
 -- The tree that tokens spell within the limits is sound.
-use Rattle.std.proofs.Common.{◌≡◌, ◌≤◌, ◌<◌, ℕ, ◌+◌, ◌*◌, ◌-◌, Bool, true, false, ◌||◌, List, [], ◌∷◌, ◌++◌, length, map, sum_by, refl, sym, ap, ◌∙◌, subst}
+use Rattle.std.proofs.Common.{◌≡◌, ◌≤◌, ℕ, ◌+◌, ◌*◌, ◌-◌, Bool, true, false, List, [], ◌∷◌, ◌++◌, map, sum_by, refl, sym, ap, ◌∙◌, subst}
 use Rattle.std.proofs.Common.{cond, arith, Result, Ok, Err, IfOk, OnOk}
-use Rattle.std.proofs.lemmas.Bool.{false≢true}
 use Rattle.std.proofs.lemmas.List.Sums.{sum_by-cons}
 use Rattle.std.specs.Char.{is_ascii_whitespace}
 use Rattle.std.specs.List.{AllByRecursion, list_all, list_any}
-use Rattle.tl_base.specs.declared.limits.TheConstants.{MAX_FILE_BYTES, MAX_COLSPAN, MAX_DECLARED_COLUMNS, MAX_DEPTH, MAX_TABLES}
+use Rattle.tl_base.specs.declared.limits.TheConstants.{MAX_FILE_BYTES, MAX_COLSPAN, MAX_DECLARED_COLUMNS, MAX_DEPTH}
 use Rattle.tl_token.specs.Characters.{is_control}
 use Rattle.tl_token.specs.declared.token.Token.{Token}
 use Rattle.tl_text.specs.Words.{has_character}
-use Rattle.tl_text.specs.Paragraph.{IsParagraph, atom_size}
+use Rattle.tl_text.specs.Paragraph.{atom_size}
 use Rattle.tl_text.specs.declared.paragraph.Atom.{Atom}
 use Rattle.tl_text.specs.declared.paragraph.Atom.TheVariants.{Word, Break}
 use Rattle.tl_text.proofs.WordLemmas.{words_from, words_from-end}
 use Rattle.tl_text.proofs.Paragraphs.{all-append, all-suffix}
-use Rattle.tl_tree.specs.Tags.{Kinds, kinds}
+use Rattle.tl_tree.specs.Tags.{kinds}
 use Rattle.tl_tree.specs.Grammar as marks
 use Rattle.tl_tree.specs.Grammar.{Mark, Marks, character, line_break}
-use Rattle.tl_tree.specs.Paragraphs.{leading, first_text, after_breaks, atoms_of, paragraph_of, number_after, entries_after, entries_of}
+use Rattle.tl_tree.specs.Paragraphs.{leading, first_text, after_breaks, atoms_of, paragraph_of, entries_after, entries_of}
 use Rattle.tl_tree.specs.Outline.{Entries, outline}
-use Rattle.tl_tree.specs.Readable.{AreReadable, kind_size}
-use Rattle.tl_tree.specs.Sound.{IsNumberedFrom, table_count, IsNestedBelow, IsPlainAtom, IsInRange, entry_size, IsSound}
-use Rattle.tl_tree.specs.Spelling.{SpellsTree, IsWithinLimits, tables_after}
+use Rattle.tl_tree.specs.Readable.{AreReadable}
+use Rattle.tl_tree.specs.Sound.{IsNumberedFrom, table_count, IsNestedBelow, IsPlainAtom, IsInRange, IsSound}
+use Rattle.tl_tree.specs.Spelling.{SpellsTree, IsWithinLimits}
 use Rattle.tl_tree.specs.declared.node.TableNode.{TableNode}
 use Rattle.tl_tree.specs.declared.error.TreeError.{TreeError}
 use Rattle.tl_tree.specs.inner.Atoms.{is_whole}

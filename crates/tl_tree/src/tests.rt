@@ -317,7 +317,7 @@ fn line_feeds_and_indents_between_tags_are_nothing(rt: HostRuntime) -> Result<()
 }
 
 #[test]
-fn a_limit_is_passed_at_the_first_and_at_the_last_token_at_which_it_can_be(
+fn a_limit_is_passed_at_the_first_token_at_which_it_can_be_and_at_later_ones(
     rt: HostRuntime,
 ) -> Result<(), Fail> {
     let alloc = rt.alloc();

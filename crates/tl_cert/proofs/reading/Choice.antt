@@ -16,7 +16,8 @@ same_begins test (d ∷ front) rest other same = refl
 
 -- what follows a number's first digit makes no difference
 begins-numeral : (test : ℕ → Bool) (front : List ℕ) (n : ℕ) (x y : List ℕ) → begins test (front ++ (numeral n ++ x)) ≡ begins test (front ++ (numeral n ++ y))
-begins-numeral test [] n x y = let p = numeral_first n in ap (λ (ds : List ℕ). begins test (ds ++ x)) p.2 ∙ sym (ap (λ (ds : List ℕ). begins test (ds ++ y)) p.2)
+begins-numeral test [] n x y = let p = numeral_first n in ap (λ (ds : List ℕ). begins test (ds ++ x)) p.2
+    ∙ sym (ap (λ (ds : List ℕ). begins test (ds ++ y)) p.2)
 begins-numeral test (d ∷ front) n x y = refl
 
 -- which reading it is
@@ -48,14 +49,16 @@ module _ {C : Type 0} {test : ℕ → Bool} {pieces : C → List Piece} {IsFirst
   either_takes text v rest false e = let p = other.takes text v rest e in record { shaped = chosen.other v p.shaped; within = p.within; parts = p.parts }
 
   -- a value of the other kind begins with another character
-  first_ends : (front rest : List ℕ) (v : C) (after other : List ℕ) → begins test (front ++ rest) ≡ true → IsOther v → SameStart rest other → spell (pieces v) ++ after ≡ front ++ other → ⊥
+  first_ends : (front rest : List ℕ) (v : C) (after other : List ℕ) → begins test (front ++ rest) ≡ true → IsOther v → SameStart rest other
+      → spell (pieces v) ++ after ≡ front ++ other → ⊥
   first_ends front rest v after other begun is_other same e =
       let no = chosen.no v after is_other in
       let start = same_begins test front rest other same in
       let both : begins test (spell (pieces v) ++ after) ≡ begins test (front ++ other) = ap (begins test) e in
       cc
 
-  other_ends : (front rest : List ℕ) (v : C) (after other : List ℕ) → begins test (front ++ rest) ≡ false → IsFirst v → SameStart rest other → spell (pieces v) ++ after ≡ front ++ other → ⊥
+  other_ends : (front rest : List ℕ) (v : C) (after other : List ℕ) → begins test (front ++ rest) ≡ false → IsFirst v → SameStart rest other
+      → spell (pieces v) ++ after ≡ front ++ other → ⊥
   other_ends front rest v after other begun is_first same e =
       let yes = chosen.yes v after is_first in
       let start = same_begins test front rest other same in
@@ -100,7 +103,8 @@ module _ {C : Type 0} {test : ℕ → Bool} {pieces : C → List Piece} {IsFirst
             ];
       }
 
-  abbrev as_outside : (IsPart : C → Type 0) → ((v : C) → IsPart v → IsShaped v) → (text : List ℕ) (left : ℕ) → Outside IsPart pieces text left → Outside IsShaped pieces text left
+  abbrev as_outside : (IsPart : C → Type 0) → ((v : C) → IsPart v → IsShaped v) → (text : List ℕ) (left : ℕ) → Outside IsPart pieces text left
+      → Outside IsShaped pieces text left
   as_outside IsPart is text left out = record {
     value = out.value;
     shaped = is out.value out.shaped;
@@ -168,7 +172,8 @@ module _ {C : Type 0} {test : ℕ → Bool} {pieces : C → List Piece} {IsFirst
             }))
       ]
 
-  either_again : (v : C) (rest : List ℕ) → IsShaped v → AllWithin (pieces v) → cond (begins test (spell (pieces v) ++ rest)) (one (spell (pieces v) ++ rest)) (two (spell (pieces v) ++ rest)) ≡ got v rest
+  either_again : (v : C) (rest : List ℕ) → IsShaped v → AllWithin (pieces v) → cond (begins test (spell (pieces v) ++ rest)) (one (spell (pieces v) ++ rest))
+      (two (spell (pieces v) ++ rest)) ≡ got v rest
   either_again v rest shaped within =
       elim (chosen.parted v shaped) [
         | inl is_first ↦ rw (chosen.yes v rest is_first) (first.again v rest is_first within)

@@ -77,7 +77,8 @@ module _ {S A V E : Type 0} (list : ListReading S A V E) (form : ListForm S A V 
   exact_stopping : (k : ℕ) (s : S) → Exact (list.stop s) (form.IsStop k s) form.stop_pieces → Exact (stopping list s) (IsStopped k s) pieces
   unfolding stopping
   exact_stopping k s stop =
-      let joined : Joined (form.IsStop k s) form.stop_pieces (λ (e : E) (x : Listing V E). x ≡ listing [] e) (λ (e : E) (x : Listing V E). []) (IsStopped k s) pieces = record {
+      let joined : Joined (form.IsStop k s) form.stop_pieces (λ (e : E) (x : Listing V E). x ≡ listing [] e) (λ (e : E) (x : Listing V E). [])
+      (IsStopped k s) pieces = record {
         parted = λ x is. record { part = x.1; first = is.end; second = ap (λ (vs : List V). listing vs x.1) is.none };
         shaped = λ e x first second. let P : Listing V E → Type 0 = IsStopped k s in subst P (sym second) (record { end = first; none = refl });
         text = λ e x first second. ap pieces second ∙ sym (append-nil (form.stop_pieces e));
@@ -113,7 +114,8 @@ module _ {S A V E : Type 0} (list : ListReading S A V E) (form : ListForm S A V 
   going_parted k s (v ∷ vs) e is = record { part = form.lift v vs; first = is.1.0; second = (is.0, is.1.1) }
 
   module _ (exact : IsExactList list form) where
-    item_is : (k : ℕ) (s : S) (a : A) (v : V) (vs : List V) (e : E) → form.IsItem k s a → list.view a ≡ v → IsListed list form k (list.next s a) vs e → form.lift v vs ≡ a
+    item_is : (k : ℕ) (s : S) (a : A) (v : V) (vs : List V) (e : E) → form.IsItem k s a → list.view a ≡ v → IsListed list form k (list.next s a) vs e
+        → form.lift v vs ≡ a
     item_is k s a v vs e is_item seen is_list = ap (λ (w : V). form.lift w vs) (sym seen) ∙ exact.lifted k s a vs e is_item is_list
 
     going_shaped : (k : ℕ) (s : S) (a : A) (vs : List V) (e : E) → form.IsItem k s a → GoesOn k s a vs e → IsGoing k s vs e
@@ -122,7 +124,8 @@ module _ {S A V E : Type 0} (list : ListReading S A V E) (form : ListForm S A V 
         let P : A → Type 0 = λ b. (list.view b ≡ v) × (form.IsItem k s b × IsListed list form k (list.next s b) vs e) in
         subst P (sym (item_is k s a v vs e first second.0 second.1)) (second.0, (first, second.1))
 
-    going_text : (k : ℕ) (s : S) (a : A) (vs : List V) (e : E) → form.IsItem k s a → GoesOn k s a vs e → list_pieces form vs e ≡ form.item_pieces a ++ later_pieces vs e
+    going_text : (k : ℕ) (s : S) (a : A) (vs : List V) (e : E) → form.IsItem k s a → GoesOn k s a vs e
+        → list_pieces form vs e ≡ form.item_pieces a ++ later_pieces vs e
     going_text k s a [] e first second = absurd second
     going_text k s a (v ∷ vs) e first second =
         ap (λ (b : A). form.item_pieces b ++ list_pieces form vs e) (item_is k s a v vs e first second.0 second.1)
@@ -131,7 +134,8 @@ module _ {S A V E : Type 0} (list : ListReading S A V E) (form : ListForm S A V 
         → ((a : A) → form.IsItem k s a → Exact (list_at list k (list.next s a)) (Listed k (list.next s a)) pieces)
         → Exact (list.item k s >>= λ a. (list_at list k (list.next s a) >>= λ x. give (listing (list.view a ∷ x.0) (x.1)))) (Going k s) pieces
     exact_going k s item rest =
-        let inner : (a : A) → Joined (Listed k (list.next s a)) pieces (λ (y x : Listing V E). x ≡ listing (list.view a ∷ y.0) (y.1)) (λ (y x : Listing V E). []) (Later k s a) (λ (x : Listing V E). later_pieces (x.0) (x.1)) =
+        let inner : (a : A) → Joined (Listed k (list.next s a)) pieces (λ (y x : Listing V E). x ≡ listing (list.view a ∷ y.0) (y.1))
+        (λ (y x : Listing V E). []) (Later k s a) (λ (x : Listing V E). later_pieces (x.0) (x.1)) =
         λ a. record {
           parted = λ x is. later_parted k s a (x.0) (x.1) is;
           shaped = λ y x first second. let P : Listing V E → Type 0 = Later k s a in subst P (sym second) (refl, first);
@@ -159,10 +163,12 @@ module _ {S A V E : Type 0} (list : ListReading S A V E) (form : ListForm S A V 
     listed_zero s [] e is = record { end = is; none = refl }
     listed_zero s (v ∷ vs) e is = absurd is
 
-    going_begins : (k : ℕ) (s : S) (test : ℕ → Bool) (looks : Looks list form test k s) (vs : List V) (e : E) (t : List ℕ) → IsGoing k s vs e → begins test (spell (list_pieces form vs e) ++ t) ≡ true
+    going_begins : (k : ℕ) (s : S) (test : ℕ → Bool) (looks : Looks list form test k s) (vs : List V) (e : E) (t : List ℕ) → IsGoing k s vs e
+        → begins test (spell (list_pieces form vs e) ++ t) ≡ true
     going_begins k s test looks [] e t is = absurd is
     going_begins k s test looks (v ∷ vs) e t is =
-        ap (begins test) (spell_two (form.item_pieces (form.lift v vs)) (list_pieces form vs e) t) ∙ looks.item_begins (form.lift v vs) (spell (list_pieces form vs e) ++ t) is.1.0
+        ap (begins test) (spell_two (form.item_pieces (form.lift v vs)) (list_pieces form vs e) t)
+        ∙ looks.item_begins (form.lift v vs) (spell (list_pieces form vs e) ++ t) is.1.0
 
     exact_turn : (k : ℕ) (s : S) (turn : Turn) (going : Reading (Listing V E)) → Turns list form turn k s
         → (Exact (list.item k s) (form.IsItem k s) form.item_pieces → Exact going (Going k s) pieces)
@@ -194,5 +200,6 @@ module _ {S A V E : Type 0} (list : ListReading S A V E) (form : ListForm S A V 
         (λ x is. let P : List V → Type 0 = λ vs. IsListed list form zero s vs x.1 in subst P (sym is.none) is.end)
         (λ x is. listed_zero s (x.0) (x.1) is) (λ x is. refl)
     exact_list (suc k) s ready =
-        exact_turn k s (list.turn k s) (list.item k s >>= λ a. (list_at list k (list.next s a) >>= λ x. give (listing (list.view a ∷ x.0) (x.1)))) (exact.turns k s ready)
+        exact_turn k s (list.turn k s) (list.item k s >>= λ a. (list_at list k (list.next s a) >>= λ x. give (listing (list.view a ∷ x.0) (x.1))))
+        (exact.turns k s ready)
         (λ item. exact_going k s item (λ a is_a. exact_list k (list.next s a) (exact.ready k s a ready is_a)))

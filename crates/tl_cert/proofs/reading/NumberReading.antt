@@ -1,5 +1,6 @@
 -- Reading a number and the character that ends it is exact.
-use Rattle.std.proofs.Common.{◌≡◌, ℕ, zero, suc, ◌+◌, ◌*◌, ◌-◌, ◌≤◌, ◌<◌, Bool, true, false, cond, eqb, leb, ◌&&◌, List, [], ◌∷◌, ◌++◌, length, inl, inr, refl, sym, ap, subst, ◌∙◌, append_assoc, arith}
+use Rattle.std.proofs.Common.{◌≡◌, ℕ, zero, suc, ◌+◌, ◌*◌, ◌-◌, ◌≤◌, ◌<◌, Bool, true, false, cond, eqb, leb}
+use Rattle.std.proofs.Common.{◌&&◌, List, [], ◌∷◌, ◌++◌, length, inl, inr, refl, sym, ap, subst, ◌∙◌, append_assoc, arith}
 use Rattle.std.specs.Char.{is_ascii_digit}
 use Rattle.std.proofs.lemmas.List.{append-nil}
 use Rattle.std.proofs.lemmas.Bool.{cases_Bool, eqb-true, eqb-false, ne_eqb, and_parts, and_from, leb-true, le-leb}
@@ -80,7 +81,8 @@ module _ (low high : ℕ) {possible : ℕ → Bool} {allowed : ℕ → ℕ → B
       }
 
   -- the number is read, and nothing goes on as the rest does
-  stuck_behind : (text : List ℕ) (n : ℕ) (rest : List ℕ) (m e : ℕ) (more : List ℕ) → text ≡ numeral n ++ rest → IsPastDigits rest → allowed m e ≡ true → numeral m ≡ numeral n ++ more
+  stuck_behind : (text : List ℕ) (n : ℕ) (rest : List ℕ) (m e : ℕ) (more : List ℕ) → text ≡ numeral n ++ rest → IsPastDigits rest → allowed m e ≡ true
+      → numeral m ≡ numeral n ++ more
       → ((e : ℕ) (after other : List ℕ) → allowed n e ≡ true → SameStart rest other → e ∷ after ≡ other → ⊥) → Stuck IsEnded pieces text (length rest)
   stuck_behind text n rest m e more parts past shaped longer ends = record {
     front = numeral n;
@@ -97,21 +99,24 @@ module _ (low high : ℕ) {possible : ℕ → Bool} {allowed : ℕ → ℕ → B
         ends v.1 after other (subst P g.0 shaped) same g.1;
   }
 
-  no_end_follows : (n : ℕ) (rest : List ℕ) → possible n ≡ false → (e : ℕ) (after other : List ℕ) → allowed n e ≡ true → SameStart rest other → e ∷ after ≡ other → ⊥
+  no_end_follows : (n : ℕ) (rest : List ℕ) → possible n ≡ false → (e : ℕ) (after other : List ℕ) → allowed n e ≡ true → SameStart rest other
+      → e ∷ after ≡ other → ⊥
   no_end_follows n rest impossible e after other shaped same is = rule.no_end n e impossible shaped
 
   no_end_at_end : (n : ℕ) (e : ℕ) (after other : List ℕ) → allowed n e ≡ true → SameStart [] other → e ∷ after ≡ other → ⊥
   no_end_at_end n e after [] shaped same is = cc
   no_end_at_end n e after (c ∷ other) shaped same is = same
 
-  no_such_end : (n c : ℕ) (rest : List ℕ) → allowed n c ≡ false → (e : ℕ) (after other : List ℕ) → allowed n e ≡ true → SameStart (c ∷ rest) other → e ∷ after ≡ other → ⊥
+  no_such_end : (n c : ℕ) (rest : List ℕ) → allowed n c ≡ false → (e : ℕ) (after other : List ℕ) → allowed n e ≡ true → SameStart (c ∷ rest) other
+      → e ∷ after ≡ other → ⊥
   no_such_end n c rest refused e after [] shaped same is = same
   no_such_end n c rest refused e after (d ∷ other) shaped same is =
       let head : e ≡ d = cc in
       let this : allowed n c ≡ allowed n e = ap (allowed n) (same ∙ sym head) in
       cc
 
-  ended_answer : (text : List ℕ) (n : ℕ) (rest : List ℕ) → text ≡ numeral n ++ rest → IsPastDigits rest → possible n ≡ true → low ≤ n → n ≤ high → NumberAnswer text (ended allowed n rest)
+  ended_answer : (text : List ℕ) (n : ℕ) (rest : List ℕ) → text ≡ numeral n ++ rest → IsPastDigits rest → possible n ≡ true → low ≤ n → n ≤ high
+      → NumberAnswer text (ended allowed n rest)
   ended_answer text n [] parts past can least most =
       let end = rule.some_end n can in
       stuck_behind text n [] n end.0 [] parts tt end.1 (sym (append-nil (numeral n))) (no_end_at_end n)
@@ -171,7 +176,8 @@ module _ (low high : ℕ) {possible : ℕ → Bool} {allowed : ℕ → ℕ → B
             subst P (sym is) (stuck_behind text n rest longer.0 end.0 longer.1 parts past end.1 longer.3 (no_end_follows n rest impossible))
       ]
 
-  not_a_digit : (c : ℕ) (text : List ℕ) → is_ascii_digit c ≡ false → (n e : ℕ) (after other : List ℕ) → allowed n e ≡ true → SameStart (c ∷ text) other → numeral n ++ (e ∷ after) ≡ other → ⊥
+  not_a_digit : (c : ℕ) (text : List ℕ) → is_ascii_digit c ≡ false → (n e : ℕ) (after other : List ℕ) → allowed n e ≡ true → SameStart (c ∷ text) other
+      → numeral n ++ (e ∷ after) ≡ other → ⊥
   not_a_digit c text other_sign n e after [] shaped same is = same
   not_a_digit c text other_sign n e after (d ∷ other) shaped same is =
       let p = numeral_first n in
@@ -188,7 +194,8 @@ module _ (low high : ℕ) {possible : ℕ → Bool} {allowed : ℕ → ℕ → B
       cc
   nothing_left n e after (d ∷ other) shaped same is = same
 
-  no_zero : (text : List ℕ) → possible 0 ≡ false → (n e : ℕ) (after other : List ℕ) → allowed n e ≡ true → SameStart (48 ∷ text) other → numeral n ++ (e ∷ after) ≡ other → ⊥
+  no_zero : (text : List ℕ) → possible 0 ≡ false → (n e : ℕ) (after other : List ℕ) → allowed n e ≡ true → SameStart (48 ∷ text) other
+      → numeral n ++ (e ∷ after) ≡ other → ⊥
   no_zero text impossible n e after [] shaped same is = same
   no_zero text impossible zero e after (d ∷ other) shaped same is = rule.no_end 0 e impossible shaped
   no_zero text impossible (suc n) e after (d ∷ other) shaped same is =
@@ -197,7 +204,8 @@ module _ (low high : ℕ) {possible : ℕ → Bool} {allowed : ℕ → ℕ → B
       let head : p.0 ≡ d = cc in
       p.4 (omega arith) (head ∙ sym same)
 
-  zero_goes_on : (c : ℕ) (text : List ℕ) → is_ascii_digit c ≡ true → (e : ℕ) (after other : List ℕ) → allowed 0 e ≡ true → SameStart (c ∷ text) other → e ∷ after ≡ other → ⊥
+  zero_goes_on : (c : ℕ) (text : List ℕ) → is_ascii_digit c ≡ true → (e : ℕ) (after other : List ℕ) → allowed 0 e ≡ true → SameStart (c ∷ text) other
+      → e ∷ after ≡ other → ⊥
   zero_goes_on c text digit e after [] shaped same is = same
   zero_goes_on c text digit e after (d ∷ other) shaped same is =
       let head : e ≡ d = cc in
@@ -225,7 +233,8 @@ module _ (low high : ℕ) {possible : ℕ → Bool} {allowed : ℕ → ℕ → B
         ends = λ v after other shaped same is. zero_then c text digit v.0 v.1 after other shaped same (sym (spelled v.0 v.1 after) ∙ is);
       }
     where
-      zero_then : (c : ℕ) (text : List ℕ) → is_ascii_digit c ≡ true → (n e : ℕ) (after other : List ℕ) → allowed n e ≡ true → SameStart (c ∷ text) other → numeral n ++ (e ∷ after) ≡ 48 ∷ other → ⊥
+      zero_then : (c : ℕ) (text : List ℕ) → is_ascii_digit c ≡ true → (n e : ℕ) (after other : List ℕ) → allowed n e ≡ true → SameStart (c ∷ text) other
+          → numeral n ++ (e ∷ after) ≡ 48 ∷ other → ⊥
       zero_then c text digit zero e after other shaped same is =
           let both : 48 ∷ (e ∷ after) ≡ 48 ∷ other = zero_text (e ∷ after) ∙ is in
           let tail : e ∷ after ≡ other = cc in
@@ -247,7 +256,8 @@ module _ (low high : ℕ) {possible : ℕ → Bool} {allowed : ℕ → ℕ → B
                   subst P (sym is) (stuck_at_digit text can digit)
               | inr alone ↦
                   let is : zero_ended low high possible allowed text ≡ run_ended low high possible allowed (length (48 ∷ text)) 0 text =
-                  ap (λ (b : Bool). cond b (cond (begins is_ascii_digit text) (wrong (length text)) (run_ended low high possible allowed (suc (length text)) 0 text)) (wrong (suc (length text)))) can
+                  ap (λ (b : Bool). cond b (cond (begins is_ascii_digit text) (wrong (length text))
+                  (run_ended low high possible allowed (suc (length text)) 0 text)) (wrong (suc (length text)))) can
                   ∙ ap (λ (b : Bool). cond b (wrong (length text)) (run_ended low high possible allowed (suc (length text)) 0 text)) alone in
                   subst P (sym is) (run_answer (48 ∷ text) 0 text (zero_text text) (past_from text alone) (λ impossible. absurd cc))
             ]
@@ -280,8 +290,10 @@ module _ (low high : ℕ) {possible : ℕ → Bool} {allowed : ℕ → ℕ → B
                   let range = digit_range c digit in
                   let differs = eqb-false c 48 nonzero in
                   let gives = run_gives (c - 48) text (omega arith) in
-                  let is : number_at low high possible allowed (c ∷ text) ≡ run_ended low high possible allowed (suc (length text)) ((read_run (c - 48) text).0) ((read_run (c - 48) text).1) = rw (digit, nonzero) refl in
-                  subst P (sym is) (run_answer (c ∷ text) ((read_run (c - 48) text).0) ((read_run (c - 48) text).1) (run_parts c text digit differs) gives.past (λ _. omega (arith, gives.least)))
+                  let is : number_at low high possible allowed (c ∷ text) ≡ run_ended low high possible allowed (suc (length text))
+                  ((read_run (c - 48) text).0) ((read_run (c - 48) text).1) = rw (digit, nonzero) refl in
+                  subst P (sym is) (run_answer (c ∷ text) ((read_run (c - 48) text).0) ((read_run (c - 48) text).1)
+                  (run_parts c text digit differs) gives.past (λ _. omega (arith, gives.least)))
             ]
         | inr other ↦
             let is : number_at low high possible allowed (c ∷ text) ≡ wrong (suc (length text)) = rw other refl in
@@ -302,16 +314,19 @@ module _ (low high : ℕ) {possible : ℕ → Bool} {allowed : ℕ → ℕ → B
       let P : List ℕ → Type 0 = λ ds. number_at low high possible allowed (ds ++ rest) ≡ run_ended low high possible allowed (length (ds ++ rest)) 0 rest in
       let none = past_begins rest past in
       subst P (sym (numeral_small 0 (omega arith)))
-      (ap (λ (b : Bool). cond b (cond (begins is_ascii_digit rest) (wrong (length rest)) (run_ended low high possible allowed (suc (length rest)) 0 rest)) (wrong (suc (length rest)))) can
+      (ap (λ (b : Bool). cond b (cond (begins is_ascii_digit rest) (wrong (length rest)) (run_ended low high possible allowed (suc (length rest)) 0 rest))
+      (wrong (suc (length rest)))) can
       ∙ ap (λ (b : Bool). cond b (wrong (length rest)) (run_ended low high possible allowed (suc (length rest)) 0 rest)) none)
   number_run (suc n) rest past can =
       let p = numeral_first (suc n) in
       let nonzero = p.4 (omega arith) in
       let range = digit_range p.0 p.3 in
       let run : read_run (p.0 - 48) (p.1 ++ rest) ≡ run_pair (suc n) rest =
-      same_run (p.0 - 48) (10 * 0 + (p.0 - 48)) (p.1 ++ rest) (omega arith) ∙ sym (run_digit 0 p.0 (p.1 ++ rest) p.3) ∙ ap (λ (ds : List ℕ). read_run 0 (ds ++ rest)) (sym p.2)
+      same_run (p.0 - 48) (10 * 0 + (p.0 - 48)) (p.1 ++ rest) (omega arith) ∙ sym (run_digit 0 p.0 (p.1 ++ rest) p.3)
+      ∙ ap (λ (ds : List ℕ). read_run 0 (ds ++ rest)) (sym p.2)
       ∙ run-numeral (suc n) rest ∙ run_stops (suc n) rest past in
-      let P : List ℕ → Type 0 = λ ds. number_at low high possible allowed (ds ++ rest) ≡ run_ended low high possible allowed (length (ds ++ rest)) (suc n) rest in
+      let P : List ℕ → Type 0 = λ ds. number_at low high possible allowed (ds ++ rest)
+      ≡ run_ended low high possible allowed (length (ds ++ rest)) (suc n) rest in
       subst P (sym p.2)
       (rw (p.3, ne_eqb p.0 48 nonzero) (ap (λ (r : ℕ × List ℕ). run_ended low high possible allowed (suc (length (p.1 ++ rest))) (r.0) (r.1)) run))
 
@@ -322,10 +337,12 @@ module _ (low high : ℕ) {possible : ℕ → Bool} {allowed : ℕ → ℕ → B
   number_again x rest ends within =
       let can = can_be x.0 x.1 ends in
       let inside : (leb low x.0 && leb x.0 high) ≡ true = and_from _ _ (le-leb _ _ within.0.0) (le-leb _ _ within.0.1) in
-      ap (number_at low high possible allowed) (spelled x.0 x.1 rest) ∙ number_run x.0 (x.1 ∷ rest) (rule.not_digit x.0 x.1 ends) can ∙ rw (can, inside, ends) refl
+      ap (number_at low high possible allowed) (spelled x.0 x.1 rest) ∙ number_run x.0 (x.1 ∷ rest) (rule.not_digit x.0 x.1 ends) can
+      ∙ rw (can, inside, ends) refl
 
   number_first_out : (text : List ℕ) (left : ℕ) → Outside IsEnded pieces text left → number_at low high possible allowed text ≡ outside left
-  number_first_out text left out = at_number text left out.value out.shaped out.before out.low out.high out.n out.after out.tail out.split out.beyond out.parts out.past out.count
+  number_first_out text left out = at_number text left out.value out.shaped out.before out.low out.high out.n out.after out.tail out.split out.beyond
+      out.parts out.past out.count
     where
       refused : (l h n : ℕ) → low ≡ l → high ≡ h → (IsWithin (number l h n) → ⊥) → (leb low n && leb n high) ≡ false
       refused l h n low-is high-is beyond =
@@ -334,8 +351,10 @@ module _ (low high : ℕ) {possible : ℕ → Bool} {allowed : ℕ → ℕ → B
             | inr beyond' ↦ beyond'
           ]
 
-      at_number : (text : List ℕ) (left : ℕ) (x : ℕ × ℕ) → IsEnded x → (before : List Piece) (l h n : ℕ) (after : List Piece) (tail : List ℕ) → pieces x ≡ before ++ number l h n ∷ after
-          → (IsWithin (number l h n) → ⊥) → text ≡ spell before ++ (numeral n ++ tail) → IsPastDigits tail → length (numeral n ++ tail) ≡ left → number_at low high possible allowed text ≡ outside left
+      at_number : (text : List ℕ) (left : ℕ) (x : ℕ × ℕ) → IsEnded x → (before : List Piece) (l h n : ℕ) (after : List Piece) (tail : List ℕ)
+          → pieces x ≡ before ++ number l h n ∷ after
+          → (IsWithin (number l h n) → ⊥) → text ≡ spell before ++ (numeral n ++ tail) → IsPastDigits tail → length (numeral n ++ tail) ≡ left
+          → number_at low high possible allowed text ≡ outside left
       at_number text left x ends [] l h n after tail split beyond parts past count =
           let low-is : low ≡ l = cc in
           let high-is : high ≡ h = cc in
@@ -349,7 +368,8 @@ module _ (low high : ℕ) {possible : ℕ → Bool} {allowed : ℕ → ℕ → B
 
   number_apart : (v w : ℕ × ℕ) (t u : List ℕ) → IsEnded v → IsEnded w → spell (pieces v) ++ t ≡ spell (pieces w) ++ u → (v ≡ w) × (t ≡ u)
   number_apart v w t u one two e =
-      let g = same_number v.0 w.0 (v.1 ∷ t) (w.1 ∷ u) (rule.not_digit v.0 v.1 one) (rule.not_digit w.0 w.1 two) (sym (spelled v.0 v.1 t) ∙ e ∙ spelled w.0 w.1 u) in
+      let g = same_number v.0 w.0 (v.1 ∷ t) (w.1 ∷ u) (rule.not_digit v.0 v.1 one) (rule.not_digit w.0 w.1 two)
+      (sym (spelled v.0 v.1 t) ∙ e ∙ spelled w.0 w.1 u) in
       let n-is = g.0 in
       let end-is : v.1 ≡ w.1 = cc in
       let rest-is : t ≡ u = cc in

@@ -18,7 +18,8 @@ within_more (suc k) zero n hk hj = within_small (suc k) n (omega arith) ∙ sym 
 within_more (suc k) (suc j) n hk hj =
     elim (cases_lt n 10) [
       | inl small ↦ within_small (suc k) n small ∙ sym (within_small (suc j) n small)
-      | inr large ↦ within_step k n large ∙ ap (λ (ds : List ℕ). ds ++ (48 + n % 10) ∷ []) (within_more k j (n / 10) (omega arith) (omega arith)) ∙ sym (within_step j n large)
+      | inr large ↦ within_step k n large ∙ ap (λ (ds : List ℕ). ds ++ (48 + n % 10) ∷ []) (within_more k j (n / 10) (omega arith) (omega arith))
+          ∙ sym (within_step j n large)
     ]
 
 pub numeral_small : (n : ℕ) → n < 10 → numeral n ≡ (48 + n) ∷ []

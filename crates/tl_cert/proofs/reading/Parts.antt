@@ -1,5 +1,6 @@
 -- Readings of words and numbers as a loop does them, byte by byte.
-use Rattle.std.proofs.Common.{◌≡◌, ℕ, suc, ◌+◌, ◌*◌, ◌-◌, ◌≤◌, ◌<◌, Bool, true, false, cond, eqb, leb, ◌&&◌, List, [], ◌∷◌, length, get_or, drop, inl, inr, refl, sym, ap, ◌∙◌, arith}
+use Rattle.std.proofs.Common.{◌≡◌, ℕ, suc, ◌+◌, ◌*◌, ◌-◌, ◌≤◌, ◌<◌, Bool, true, false, cond, eqb, leb}
+use Rattle.std.proofs.Common.{◌&&◌, List, [], ◌∷◌, length, get_or, drop, inl, inr, refl, sym, ap, ◌∙◌, arith}
 use Rattle.std.specs.Char.{is_ascii_digit}
 use Rattle.std.proofs.lemmas.Bool.{cases_Bool, eq-eqb, ne_eqb, le-leb}
 use Rattle.std.proofs.lemmas.List.{drop_more, drop_all}
@@ -17,15 +18,18 @@ run-le n (c ∷ text) =
     ]
 
 -- the order in which a number is tested makes no difference
-tested : (can within above : Bool) (x : Answer (ℕ × ℕ)) (start n : ℕ) (rest : List ℕ) (next : ℕ → Reading (ℕ × ℕ)) → (above ≡ true → next n rest ≡ cond within x (outside start))
-    → cond can (cond (within && above) x (outside start)) (wrong (length rest)) ≡ then_read (cond can (cond above (got n rest) (outside start)) (wrong (length rest))) next
+tested : (can within above : Bool) (x : Answer (ℕ × ℕ)) (start n : ℕ) (rest : List ℕ) (next : ℕ → Reading (ℕ × ℕ))
+    → (above ≡ true → next n rest ≡ cond within x (outside start))
+    → cond can (cond (within && above) x (outside start)) (wrong (length rest)) ≡ then_read
+    (cond can (cond above (got n rest) (outside start)) (wrong (length rest))) next
 tested true true true x start n rest next is = sym (is refl)
 tested true true false x start n rest next is = refl
 tested true false true x start n rest next is = sym (is refl)
 tested true false false x start n rest next is = refl
 tested false within above x start n rest next is = refl
 
-zero_tested : (can digit within above : Bool) (x : Answer (ℕ × ℕ)) (left : ℕ) (text : List ℕ) (next : ℕ → Reading (ℕ × ℕ)) → above ≡ true → next 0 text ≡ cond within x (outside (suc left))
+zero_tested : (can digit within above : Bool) (x : Answer (ℕ × ℕ)) (left : ℕ) (text : List ℕ) (next : ℕ → Reading (ℕ × ℕ)) → above ≡ true
+    → next 0 text ≡ cond within x (outside (suc left))
     → cond can (cond digit (wrong left) (cond can (cond (within && above) x (outside (suc left))) (wrong left))) (wrong (suc left))
     ≡ then_read (cond can (cond digit (wrong left) (got 0 text)) (wrong (suc left))) next
 zero_tested true true within above x left text next holds is = refl
@@ -44,20 +48,24 @@ number_by_parts low high possible allowed (c ∷ text) =
       | inl digit ↦
           elim (cases_Bool (eqb c 48)) [
             | inl is_zero ↦ rw (digit, is_zero)
-                (zero_tested (possible 0) (begins is_ascii_digit text) (leb low 0) (leb 0 high) (ended allowed 0 text) (length text) text (least_ended low allowed (suc (length text))) (le-leb 0 high (omega arith)) refl)
+                (zero_tested (possible 0) (begins is_ascii_digit text) (leb low 0) (leb 0 high) (ended allowed 0 text) (length text) text
+                (least_ended low allowed (suc (length text))) (le-leb 0 high (omega arith)) refl)
             | inr nonzero ↦ rw (digit, nonzero)
                 (let run = read_run (c - 48) text in
-                tested (possible run.0) (leb low run.0) (leb run.0 high) (ended allowed run.0 run.1) (suc (length text)) (run.0) (run.1) (least_ended low allowed (suc (length text))) (λ _. refl))
+                tested (possible run.0) (leb low run.0) (leb run.0 high) (ended allowed run.0 run.1) (suc (length text)) (run.0) (run.1)
+                (least_ended low allowed (suc (length text))) (λ _. refl))
           ]
       | inr other ↦ rw other refl
     ]
 
 -- a word that is read byte by byte
-pub word_more : (word text rest : List ℕ) (i b : ℕ) → i < length word → text ≡ b ∷ rest → b ≡ get_or word i 0 → word_at (drop i word) text ≡ word_at (drop (i + 1) word) rest
+pub word_more : (word text rest : List ℕ) (i b : ℕ) → i < length word → text ≡ b ∷ rest → b ≡ get_or word i 0
+    → word_at (drop i word) text ≡ word_at (drop (i + 1) word) rest
 unfolding word_at
 word_more word text rest i b there is same = rw (drop_more word i 0 there, is, eq-eqb b (get_or word i 0) same) refl
 
-pub word_stops : (word text rest : List ℕ) (i b : ℕ) → i < length word → text ≡ b ∷ rest → (b ≡ get_or word i 0 → ⊥) → word_at (drop i word) text ≡ wrong (length text)
+pub word_stops : (word text rest : List ℕ) (i b : ℕ) → i < length word → text ≡ b ∷ rest → (b ≡ get_or word i 0 → ⊥)
+    → word_at (drop i word) text ≡ wrong (length text)
 unfolding word_at
 word_stops word text rest i b there is differ = rw (drop_more word i 0 there, is, ne_eqb b (get_or word i 0) differ) refl
 

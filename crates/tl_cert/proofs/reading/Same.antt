@@ -5,7 +5,8 @@ use Rattle.tl_cert.specs.inner.reading.Readings.{got, Reading}
 use Rattle.tl_cert.proofs.reading.Exact.{Exact}
 
 pub exact_same : {C : Type 0} {read : Reading C} {IsShaped : C → Type 0} {pieces : C → List Piece} (IsAlso : C → Type 0) (others : C → List Piece)
-    → Exact read IsShaped pieces → ((v : C) → IsShaped v → IsAlso v) → ((v : C) → IsAlso v → IsShaped v) → ((v : C) → IsShaped v → pieces v ≡ others v) → Exact read IsAlso others
+    → Exact read IsShaped pieces → ((v : C) → IsShaped v → IsAlso v) → ((v : C) → IsAlso v → IsShaped v) → ((v : C) → IsShaped v → pieces v ≡ others v)
+    → Exact read IsAlso others
 exact_same {read = read} IsAlso others exact to from same = record {
   some = exact.some;
   some_shaped = to exact.some exact.some_shaped;
@@ -15,7 +16,12 @@ exact_same {read = read} IsAlso others exact to from same = record {
   takes = λ text v rest e.
       let p = exact.takes text v rest e in
       let P : List Piece → Type 0 = AllWithin in
-      record { shaped = to v p.shaped; within = subst P (same v p.shaped) p.within; parts = p.parts ∙ ap (λ (ps : List Piece). spell ps ++ rest) (same v p.shaped) };
+      record {
+        shaped = to v p.shaped;
+        within = subst P (same v p.shaped) p.within;
+        parts =
+            p.parts ∙ ap (λ (ps : List Piece). spell ps ++ rest) (same v p.shaped);
+      };
   again = λ v rest shaped within.
       let P : List Piece → Type 0 = AllWithin in
       let is = same v (from v shaped) in
@@ -32,7 +38,8 @@ exact_same {read = read} IsAlso others exact to from same = record {
         more = p.more;
         shaped = to p.value p.shaped;
         begins = ap spell (sym (same p.value p.shaped)) ∙ p.begins;
-        ends = λ v after other shaped start is. p.ends v after other (from v shaped) start (ap (λ (ps : List Piece). spell ps ++ after) (same v (from v shaped)) ∙ is);
+        ends = λ v after other shaped start is. p.ends v after other (from v shaped) start
+            (ap (λ (ps : List Piece). spell ps ++ after) (same v (from v shaped)) ∙ is);
       };
   outside_at = λ text left e.
       let p = exact.outside_at text left e in

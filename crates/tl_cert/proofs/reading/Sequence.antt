@@ -52,7 +52,8 @@ module _ {A C : Type 0} {IsFirst : A → Type 0} {first_pieces : A → List Piec
       let two = (second a one.shaped).takes mid v rest e in
       record {
         shaped = joined.shaped a v one.shaped two.shaped;
-        within = let P : List Piece → Type 0 = AllWithin in subst P (sym (joined.text a v one.shaped two.shaped)) (within-append (first_pieces a) (second_pieces a v) one.within two.within);
+        within = let P : List Piece → Type 0 = AllWithin in subst P (sym (joined.text a v one.shaped two.shaped))
+            (within-append (first_pieces a) (second_pieces a v) one.within two.within);
         parts = one.parts ∙ ap (λ (t : List ℕ). spell (first_pieces a) ++ t) two.parts ∙ sym (spelled a v rest one.shaped two.shaped);
       }
   then_takes text v rest (wrong left) is e = absurd cc
@@ -70,7 +71,8 @@ module _ {A C : Type 0} {IsFirst : A → Type 0} {first_pieces : A → List Piec
         value = stuck.value;
         more = stuck.more;
         shaped = joined.shaped a stuck.value one.shaped stuck.shaped;
-        begins = spelled_alone a stuck.value one.shaped stuck.shaped ∙ ap (λ (t : List ℕ). spell (first_pieces a) ++ t) stuck.begins ∙ sym (append_assoc (spell (first_pieces a)) stuck.front stuck.more);
+        begins = spelled_alone a stuck.value one.shaped stuck.shaped ∙ ap (λ (t : List ℕ). spell (first_pieces a) ++ t) stuck.begins
+            ∙ sym (append_assoc (spell (first_pieces a)) stuck.front stuck.more);
         ends = λ v after other shaped same goes_on.
             let g = same_first a v after (stuck.front ++ other) one.shaped shaped (goes_on ∙ append_assoc (spell (first_pieces a)) stuck.front other) in
             stuck.ends v after other g.0 same g.1;
@@ -87,7 +89,8 @@ module _ {A C : Type 0} {IsFirst : A → Type 0} {first_pieces : A → List Piec
         value = last.some;
         more = stuck.more ++ spell (second_pieces stuck.value last.some);
         shaped = joined.shaped stuck.value last.some stuck.shaped last.some_shaped;
-        begins = spelled_alone stuck.value last.some stuck.shaped last.some_shaped ∙ ap (λ (t : List ℕ). t ++ spell (second_pieces stuck.value last.some)) stuck.begins
+        begins = spelled_alone stuck.value last.some stuck.shaped last.some_shaped
+            ∙ ap (λ (t : List ℕ). t ++ spell (second_pieces stuck.value last.some)) stuck.begins
             ∙ append_assoc stuck.front stuck.more (spell (second_pieces stuck.value last.some));
         ends = λ v after other shaped same goes_on.
             let p = joined.parted v shaped in
@@ -112,7 +115,8 @@ module _ {A C : Type 0} {IsFirst : A → Type 0} {first_pieces : A → List Piec
             ∙ sym (append_assoc (first_pieces a) out.before (number out.low out.high out.n ∷ out.after));
         within = within-append (first_pieces a) out.before one.within out.within;
         beyond = out.beyond;
-        parts = one.parts ∙ ap (λ (t : List ℕ). spell (first_pieces a) ++ t) out.parts ∙ sym (spell_two (first_pieces a) out.before (numeral out.n ++ out.tail));
+        parts = one.parts ∙ ap (λ (t : List ℕ). spell (first_pieces a) ++ t) out.parts
+            ∙ sym (spell_two (first_pieces a) out.before (numeral out.n ++ out.tail));
         past = out.past;
         count = out.count;
       }
@@ -166,7 +170,8 @@ module _ {A C : Type 0} {IsFirst : A → Type 0} {first_pieces : A → List Piec
             let both = let P : List Piece → Type 0 = AllWithin in subst P there.front out.within in
             let mid : List ℕ = spell there.others ++ (numeral out.n ++ out.tail) in
             let text-is : text ≡ spell (first_pieces p.part) ++ mid =
-            out.parts ∙ ap (λ (ps : List Piece). spell ps ++ (numeral out.n ++ out.tail)) there.front ∙ spell_two (first_pieces p.part) there.others (numeral out.n ++ out.tail) in
+            out.parts ∙ ap (λ (ps : List Piece). spell ps ++ (numeral out.n ++ out.tail)) there.front
+            ∙ spell_two (first_pieces p.part) there.others (numeral out.n ++ out.tail) in
             let here : read text ≡ got p.part mid = ap read text-is ∙ first.again p.part mid p.first (within-first (first_pieces p.part) there.others both) in
             ap (λ (x : Answer A). then_read x next) here ∙ (second p.part p.first).first_out mid left (record {
               value = out.value;
@@ -190,8 +195,10 @@ module _ {A C : Type 0} {IsFirst : A → Type 0} {first_pieces : A → List Piec
   then_again v rest shaped within =
       let p = joined.parted v shaped in
       let both = let P : List Piece → Type 0 = AllWithin in subst P (joined.text p.part v p.first p.second) within in
-      let here = ap read (spelled p.part v rest p.first p.second) ∙ first.again p.part (spell (second_pieces p.part v) ++ rest) p.first (within-first (first_pieces p.part) (second_pieces p.part v) both) in
-      ap (λ (x : Answer A). then_read x next) here ∙ (second p.part p.first).again v rest p.second (within-second (first_pieces p.part) (second_pieces p.part v) both)
+      let here = ap read (spelled p.part v rest p.first p.second) ∙ first.again p.part (spell (second_pieces p.part v) ++ rest) p.first
+      (within-first (first_pieces p.part) (second_pieces p.part v) both) in
+      ap (λ (x : Answer A). then_read x next) here ∙ (second p.part p.first).again v rest p.second
+      (within-second (first_pieces p.part) (second_pieces p.part v) both)
 
   pub exact_then : Exact (read >>= next) IsShaped pieces
   unfolding followed

@@ -36,11 +36,14 @@ pub record InSecond (ps qs before : List Piece) (piece : Piece) (after : List Pi
 abbrev pub Lies : (ps qs before : List Piece) (piece : Piece) (after : List Piece) → Type 0
 Lies ps qs before piece after = InFirst ps qs before piece after ⊎ InSecond ps qs before piece after
 
-further : (p : Piece) (ps qs before : List Piece) (piece : Piece) (after : List Piece) → Lies ps qs before piece after → Lies (p ∷ ps) qs (p ∷ before) piece after
+further : (p : Piece) (ps qs before : List Piece) (piece : Piece) (after : List Piece) → Lies ps qs before piece after
+    → Lies (p ∷ ps) qs (p ∷ before) piece after
 further p ps qs before piece after (inl first) = inl (record { others = first.others; parts = ap (λ (rs : List Piece). p ∷ rs) first.parts; rest = first.rest })
-further p ps qs before piece after (inr second) = inr (record { others = second.others; front = ap (λ (rs : List Piece). p ∷ rs) second.front; parts = second.parts })
+further p ps qs before piece after (inr second) =
+    inr (record { others = second.others; front = ap (λ (rs : List Piece). p ∷ rs) second.front; parts = second.parts })
 
-same_head : (p q : Piece) (ps qs before : List Piece) (piece : Piece) (after : List Piece) → p ≡ q → Lies (p ∷ ps) qs (p ∷ before) piece after → Lies (p ∷ ps) qs (q ∷ before) piece after
+same_head : (p q : Piece) (ps qs before : List Piece) (piece : Piece) (after : List Piece) → p ≡ q → Lies (p ∷ ps) qs (p ∷ before) piece after
+    → Lies (p ∷ ps) qs (q ∷ before) piece after
 same_head p q ps qs before piece after same lies = let P : Piece → Type 0 = λ r. Lies (p ∷ ps) qs (r ∷ before) piece after in subst P same lies
 
 pub lies_in : (ps qs before : List Piece) (piece : Piece) (after : List Piece) → ps ++ qs ≡ before ++ piece ∷ after → Lies ps qs before piece after

@@ -33,7 +33,8 @@ module _ {S A V E : Type 0} (list : ListReading S A V E) (form : ListForm S A V 
   abbrev items : ℕ → S → Answer A → Answer (Listing V E)
   items k s x = then_read x (λ a. list_at list k (list.next s a) >>= λ y. give (listing (list.view a ∷ y.0) (y.1)))
 
-  same_turn : (turn : Turn) (text : List ℕ) (x y : Reading (Listing V E)) (stop : Reading (Listing V E)) → x text ≡ y text → by_turn turn x stop text ≡ by_turn turn y stop text
+  same_turn : (turn : Turn) (text : List ℕ) (x y : Reading (Listing V E)) (stop : Reading (Listing V E)) → x text ≡ y text
+      → by_turn turn x stop text ≡ by_turn turn y stop text
   unfolding either
   same_turn halt text x y stop same = refl
   same_turn go text x y stop same = same
@@ -47,7 +48,8 @@ module _ {S A V E : Type 0} (list : ListReading S A V E) (form : ListForm S A V 
   LessFuelSame (suc k) zero = Unit {0}
   LessFuelSame (suc k) (suc j) = FuelSame k j
 
-  items_same : (k j : ℕ) (less : LessFuelSame k j) (s : S) (text : List ℕ) (x : Answer A) → length text ≤ k → length text ≤ j → list.item k s text ≡ x → items k s x ≡ items j s x
+  items_same : (k j : ℕ) (less : LessFuelSame k j) (s : S) (text : List ℕ) (x : Answer A) → length text ≤ k → length text ≤ j → list.item k s text ≡ x
+      → items k s x ≡ items j s x
   unfolding followed
   items_same k j less s text (wrong left) hk hj is = refl
   items_same k j less s text (outside left) hk hj is = refl
@@ -92,7 +94,8 @@ module _ {S A V E : Type 0} (list : ListReading S A V E) (form : ListForm S A V 
   length_items : (vs : List V) (e : E) → length vs ≤ length (spell (list_pieces form vs e))
   length_items [] e = omega arith
   length_items (v ∷ vs) e =
-      let both = ap length (spell-append (form.item_pieces (form.lift v vs)) (list_pieces form vs e)) ∙ length-append (spell (form.item_pieces (form.lift v vs))) (spell (list_pieces form vs e)) in
+      let both = ap length (spell-append (form.item_pieces (form.lift v vs)) (list_pieces form vs e))
+      ∙ length-append (spell (form.item_pieces (form.lift v vs))) (spell (list_pieces form vs e)) in
       omega (arith, both, length_items vs e, unlimited.item_text (form.lift v vs))
 
   -- a list of any length
@@ -113,7 +116,8 @@ module _ {S A V E : Type 0} (list : ListReading S A V E) (form : ListForm S A V 
     part k = exact_list list form exact (suc k) s (ready k)
 
     all_apart : (v w : Listing V E) (t u : List ℕ) → IsListedAt s v → IsListedAt s w → spell (pieces v) ++ t ≡ spell (pieces w) ++ u → (v ≡ w) × (t ≡ u)
-    all_apart v w t u one two e = (part (one.0 + two.0)).apart v w t u (any_more s v (one.0 + two.0) one (omega arith)) (any_more s w (one.0 + two.0) two (omega arith)) e
+    all_apart v w t u one two e = (part (one.0 + two.0)).apart v w t u (any_more s v (one.0 + two.0) one (omega arith))
+        (any_more s w (one.0 + two.0) two (omega arith)) e
 
     all_wrong : (text : List ℕ) (left : ℕ) → list_at list (suc (length text)) s text ≡ wrong left → Stuck (IsListedAt s) pieces text left
     all_wrong text left e =
@@ -176,7 +180,8 @@ module _ {S A V E : Type 0} (list : ListReading S A V E) (form : ListForm S A V 
           count = p.count;
         })
 
-    all_again : (v : Listing V E) (rest : List ℕ) → IsListedAt s v → AllWithin (pieces v) → list_at list (suc (length (spell (pieces v) ++ rest))) s (spell (pieces v) ++ rest) ≡ got v rest
+    all_again : (v : Listing V E) (rest : List ℕ) → IsListedAt s v → AllWithin (pieces v)
+        → list_at list (suc (length (spell (pieces v) ++ rest))) s (spell (pieces v) ++ rest) ≡ got v rest
     all_again v rest shaped within =
         let k : ℕ = length (spell (pieces v) ++ rest) in
         (part k).again v rest (enough s v k (omega (arith, length-append (spell (pieces v)) rest)) shaped) within
@@ -187,7 +192,8 @@ module _ {S A V E : Type 0} (list : ListReading S A V E) (form : ListForm S A V 
       some = (part 0).some;
       some_shaped = (0, (part 0).some_shaped);
       apart = all_apart;
-      takes = λ text v rest e. let p = (part (length text)).takes text v rest e in record { shaped = (length text, p.shaped); within = p.within; parts = p.parts };
+      takes = λ text v rest e. let p = (part (length text)).takes text v rest e in
+          record { shaped = (length text, p.shaped); within = p.within; parts = p.parts };
       again = all_again;
       wrong_at = all_wrong;
       outside_at = all_outside;

@@ -84,7 +84,16 @@ word_answer (c ∷ w) (b ∷ text) =
       | inr miss ↦
           let Q : Answer (Unit {0}) → Type 0 = WordAnswer (c ∷ w) (b ∷ text) in
           subst Q (sym (word_ends b c w text (eqb-false b c miss)))
-          (record { front = []; rest = b ∷ text; more = c ∷ w; parts = refl; count = refl; begins = refl; ends = λ after other. at_other b c w text after other (eqb-false b c miss) })
+          (record {
+            front = [];
+            rest = b ∷ text;
+            more = c ∷ w;
+            parts = refl;
+            count = refl;
+            begins = refl;
+            ends =
+                λ after other. at_other b c w text after other (eqb-false b c miss);
+          })
     ]
 
 -- any value of a word's one value

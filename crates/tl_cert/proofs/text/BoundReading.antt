@@ -1,5 +1,6 @@
 -- Reading bounds, in order, is exact.
-use Rattle.std.proofs.Common.{◌≡◌, ℕ, zero, suc, ◌≤◌, Bool, true, false, eqb, ltb, ◌&&◌, ◌||◌, List, [], ◌∷◌, ◌++◌, ◌⊎◌, inl, inr, length, refl, sym, ap, subst, ◌∙◌, append_assoc, arith}
+use Rattle.std.proofs.Common.{◌≡◌, ℕ, zero, suc, ◌≤◌, Bool, true, false, eqb, ltb, ◌&&◌, ◌||◌, List}
+use Rattle.std.proofs.Common.{[], ◌∷◌, ◌++◌, ◌⊎◌, inl, inr, length, refl, sym, ap, subst, ◌∙◌, append_assoc, arith}
 use Rattle.std.specs.Prelude.{Option, Some, None}
 use Rattle.std.specs.Char.{is_ascii_digit}
 use Rattle.std.specs.List.{flat_map}
@@ -118,7 +119,8 @@ exact_bound : (before : Option Bound) → Exact (bound_at before) (λ b. follows
 unfolding bound_at
 exact_bound before =
     exact_part_then signed (λ b. follows before b ≡ true) bounded (λ x b. field 0 MAX_PAGE_WIDTH b.width space) (exact_number 0 MAX_SPAN (span_rule before))
-    (λ x sign. exact_part_then (λ (b : Bound). b.width) (λ b. (follows before b ≡ true) × (signed b ≡ x)) (λ b. field 0 MAX_PAGE_WIDTH b.width space) (λ w b. []) (exact_field 0 MAX_PAGE_WIDTH space refl)
+    (λ x sign. exact_part_then (λ (b : Bound). b.width) (λ b. (follows before b ≡ true) × (signed b ≡ x)) (λ b. field 0 MAX_PAGE_WIDTH b.width space)
+    (λ w b. []) (exact_field 0 MAX_PAGE_WIDTH space refl)
     (λ width any. exact_only (bound_of x width) (λ b. ((follows before b ≡ true) × (signed b ≡ x)) × (b.width ≡ width))
     ((sign_follows before x width sign, signed_again before x width sign), refl) (λ b is. bound_again b x width is.0.1 is.1))
     (λ b is. (tt, refl)))
@@ -149,7 +151,8 @@ digit_first : (n : ℕ) (t : List ℕ) → begins is_ascii_digit (numeral n ++ t
 digit_first n t = let p = numeral_first n in ap (λ (ds : List ℕ). begins is_ascii_digit (ds ++ t)) p.2 ∙ p.3
 
 bound_first : (b : Bound) (t : List ℕ) → begins is_ascii_digit (spell (bounded b) ++ t) ≡ true
-bound_first b t = ap (begins is_ascii_digit) (append_assoc (numeral b.span) (spell (character (side_sign b.side) ∷ number 0 MAX_PAGE_WIDTH b.width ∷ character space ∷ [])) t)
+bound_first b t = ap (begins is_ascii_digit)
+    (append_assoc (numeral b.span) (spell (character (side_sign b.side) ∷ number 0 MAX_PAGE_WIDTH b.width ∷ character space ∷ [])) t)
     ∙ digit_first b.span (spell (character (side_sign b.side) ∷ number 0 MAX_PAGE_WIDTH b.width ∷ character space ∷ []) ++ t)
 
 end_no_digit : (e : End) (t : List ℕ) → begins is_ascii_digit (spell (end_pieces e) ++ t) ≡ false
@@ -178,7 +181,8 @@ bounds_exact areas = record {
     at_end None ready = absurd ready
     at_end (Some before) ready = exact_fires areas
 
-    turns : (k : ℕ) (before : Option Bound) → IsBegun (suc k) before → Turns (bounds_reading areas) (bounds_form areas) ((bounds_reading areas).turn k before) k before
+    turns : (k : ℕ) (before : Option Bound) → IsBegun (suc k) before → Turns (bounds_reading areas) (bounds_form areas)
+        ((bounds_reading areas).turn k before) k before
     turns k None ready = record { item = exact_bound None; no_stop = λ x is. is }
     turns k (Some before) ready = record {
       item = exact_bound (Some before);
@@ -188,7 +192,8 @@ bounds_exact areas = record {
     }
 
 -- what was read after the first bound
-later_to : (areas : Areas) (k : ℕ) (before : Bound) (bs : List Bound) (x : Listing ℕ End) → IsListed (bounds_reading areas) (bounds_form areas) k (Some before) bs x
+later_to : (areas : Areas) (k : ℕ) (before : Bound) (bs : List Bound) (x : Listing ℕ End)
+    → IsListed (bounds_reading areas) (bounds_form areas) k (Some before) bs x
     → (length bs ≤ k) × (AreInOrder (before ∷ bs) × AreFires areas x)
 later_to areas zero before [] x is = (omega arith, (tt, is))
 later_to areas zero before (b ∷ bs) x is = absurd is
@@ -206,13 +211,15 @@ pub record AreBoundsAndFires (areas : Areas) (x : Listing Bound (Listing ℕ End
   pub bounds : AreBounds (x.0)
   pub fires : AreFires areas (x.1)
 
-bounds_to : (areas : Areas) (bs : List Bound) (x : Listing ℕ End) → IsListed (bounds_reading areas) (bounds_form areas) MAX_BOUNDS None bs x → AreBoundsAndFires areas (listing bs x)
+bounds_to : (areas : Areas) (bs : List Bound) (x : Listing ℕ End) → IsListed (bounds_reading areas) (bounds_form areas) MAX_BOUNDS None bs x
+    → AreBoundsAndFires areas (listing bs x)
 bounds_to areas [] x is = absurd is
 bounds_to areas (b ∷ bs) x is =
     let p = later_to areas 7 b bs x is.1.1 in
     record { bounds = record { some = omega arith; most = omega (arith, p.0); ordered = p.1.0 }; fires = p.1.1 }
 
-bounds_from : (areas : Areas) (bs : List Bound) (x : Listing ℕ End) → AreBoundsAndFires areas (listing bs x) → IsListed (bounds_reading areas) (bounds_form areas) MAX_BOUNDS None bs x
+bounds_from : (areas : Areas) (bs : List Bound) (x : Listing ℕ End) → AreBoundsAndFires areas (listing bs x)
+    → IsListed (bounds_reading areas) (bounds_form areas) MAX_BOUNDS None bs x
 bounds_from areas [] x is = absurd (omega (arith, is.bounds.some))
 bounds_from areas (b ∷ bs) x is = (refl, (refl, later_from areas 7 b bs x (omega (arith, is.bounds.most)) is.bounds.ordered is.fires))
 

@@ -33,25 +33,30 @@ abbrev AnyEntry : Entry → Type 0
 AnyEntry entry = Unit {0}
 
 chain_text : (entries : List Entry) (table : ℕ) → 1 ≤ length entries
-    → number 0 MAX_TABLE table ∷ (flat_map (λ entry. character space ∷ entry_pieces entry) entries ++ word (codes "\n")) ≡ field 0 MAX_TABLE table space ++ entries_read (listing entries tt)
+    → number 0 MAX_TABLE table ∷ (flat_map (λ entry. character space ∷ entry_pieces entry) entries ++ word (codes "\n"))
+    ≡ field 0 MAX_TABLE table space ++ entries_read (listing entries tt)
 chain_text [] table some = absurd (omega arith)
 chain_text (e ∷ entries) table some =
     ap (λ (ps : List Piece). number 0 MAX_TABLE table ∷ ps)
-    (items_text AnyEntry entry_pieces (λ k more. entry_at true) e entries tt [] ∙ ap (λ (ps : List Piece). character space ∷ ps) (append-nil (entries_read (listing (e ∷ entries) tt))))
+    (items_text AnyEntry entry_pieces (λ k more. entry_at true) e entries tt [] ∙ ap (λ (ps : List Piece). character space ∷ ps)
+    (append-nil (entries_read (listing (e ∷ entries) tt))))
 
 exact_chain : Exact chain_at IsChain chain_pieces
 unfolding chain_at
 exact_chain =
     exact_after (codes "chain ") after_word chain_pieces
     (exact_part_then (λ (chain : Chain). chain.table) IsChain after_word (λ table chain. entries_read (entries_of chain)) (exact_field 0 MAX_TABLE space refl)
-    (λ table any. exact_part_then entries_of (λ chain. IsChain chain × (chain.table ≡ table)) (λ chain. entries_read (entries_of chain)) (λ x chain. []) exact_entries
-    (λ x some. exact_only (record { table = table; entries = x.0 }) (λ chain. (IsChain chain × (chain.table ≡ table)) × (entries_of chain ≡ x)) ((some, refl), refl)
+    (λ table any. exact_part_then entries_of (λ chain. IsChain chain × (chain.table ≡ table)) (λ chain. entries_read (entries_of chain))
+    (λ x chain. []) exact_entries
+    (λ x some. exact_only (record { table = table; entries = x.0 }) (λ chain. (IsChain chain × (chain.table ≡ table)) × (entries_of chain ≡ x))
+    ((some, refl), refl)
     (λ chain is. chain_again chain table x is.0.1 is.1))
     (λ chain is. (is.0, sym (append-nil (entries_read (entries_of chain))))))
     (λ chain is. (tt, refl)))
     (λ chain some. ap (λ (ps : List Piece). word (codes "chain ") ++ ps) (chain_text chain.entries chain.table some))
   where
-    chain_again : (chain : Chain) (table : ℕ) (x : Listing Entry (Unit {0})) → chain.table ≡ table → entries_of chain ≡ x → chain ≡ record { table = table; entries = x.0 }
+    chain_again : (chain : Chain) (table : ℕ) (x : Listing Entry (Unit {0})) → chain.table ≡ table → entries_of chain ≡ x
+        → chain ≡ record { table = table; entries = x.0 }
     chain_again chain table x a b =
         let P : ℕ → Chain = λ k. record { table = k; entries = chain.entries } in
         let Q : Listing Entry (Unit {0}) → Chain = λ y. record { table = table; entries = y.0 } in
@@ -71,7 +76,14 @@ abbrev end_line : List Piece
 end_line = word (codes "end\n")
 
 abbrev pub chains_form : ListForm Bool Chain Chain (Unit {0})
-chains_form = record { IsItem = λ k first chain. IsChain chain; item_pieces = chain_pieces; IsStop = λ k first e. IsLater first; stop_pieces = λ e. end_line; lift = λ chain chains. chain; IsReady = IsReadyFor }
+chains_form = record {
+  IsItem = λ k first chain. IsChain chain;
+  item_pieces = chain_pieces;
+  IsStop = λ k first e. IsLater first;
+  stop_pieces = λ e. end_line;
+  lift = λ chain chains. chain;
+  IsReady = IsReadyFor;
+}
 
 exact_end_line : (IsEnd : Type 0) → IsEnd → Exact (word_at (codes "end\n")) (λ (e : Unit {0}). IsEnd) (λ e. end_line)
 exact_end_line IsEnd is = exact_same (λ (e : Unit {0}). IsEnd) (λ e. end_line) (exact_word (codes "end\n")) (λ e any. is) (λ e end. tt) (λ e any. refl)
@@ -111,7 +123,8 @@ pub record AreChains (x : Listing Chain (Unit {0})) : Type 0 where
   pub some : 1 ≤ length (x.0)
   pub each : AllByRecursion IsChain (x.0)
 
-chains_to : (k : ℕ) (first : Bool) (chains : List Chain) (e : Unit {0}) → IsListed chains_reading chains_form k first chains e → AllByRecursion IsChain chains × (first ≡ true → 1 ≤ length chains)
+chains_to : (k : ℕ) (first : Bool) (chains : List Chain) (e : Unit {0}) → IsListed chains_reading chains_form k first chains e
+    → AllByRecursion IsChain chains × (first ≡ true → 1 ≤ length chains)
 chains_to zero true [] e is = absurd is
 chains_to zero false [] e is = (tt, λ begun. absurd cc)
 chains_to zero first (chain ∷ chains) e is = absurd is
@@ -119,7 +132,8 @@ chains_to (suc k) true [] e is = absurd is
 chains_to (suc k) false [] e is = (tt, λ begun. absurd cc)
 chains_to (suc k) first (chain ∷ chains) e is = let p = chains_to k false chains e is.1.1 in ((is.1.0, p.0), λ begun. omega arith)
 
-chains_from : (k : ℕ) (first : Bool) (chains : List Chain) (e : Unit {0}) → length chains ≤ k → AllByRecursion IsChain chains → (first ≡ true → 1 ≤ length chains)
+chains_from : (k : ℕ) (first : Bool) (chains : List Chain) (e : Unit {0}) → length chains ≤ k → AllByRecursion IsChain chains
+    → (first ≡ true → 1 ≤ length chains)
     → IsListed chains_reading chains_form k first chains e
 chains_from zero true [] e most each some = absurd (omega (arith, some refl))
 chains_from zero false [] e most each some = tt

@@ -167,13 +167,15 @@ pub record AreFires (areas : Areas) (x : Listing ℕ End) : Type 0 where
 abbrev pub fires_pieces : Listing ℕ End → List Piece
 fires_pieces x = flat_map fired (x.0) ++ end_pieces (x.1)
 
-fires_to : (areas : Areas) (k : ℕ) (ns : List ℕ) (e : End) → IsListed (fires_reading areas) (fires_form areas) k tt ns e → (length ns ≤ k) × Suits areas (is_area e)
+fires_to : (areas : Areas) (k : ℕ) (ns : List ℕ) (e : End) → IsListed (fires_reading areas) (fires_form areas) k tt ns e
+    → (length ns ≤ k) × Suits areas (is_area e)
 fires_to areas zero [] e is = (omega arith, is)
 fires_to areas zero (n ∷ ns) e is = absurd is
 fires_to areas (suc k) [] e is = (omega arith, is)
 fires_to areas (suc k) (n ∷ ns) e is = let p = fires_to areas k ns e is.1.1 in (omega (arith, p.0), p.1)
 
-fires_from : (areas : Areas) (k : ℕ) (ns : List ℕ) (e : End) → length ns ≤ k → Suits areas (is_area e) → IsListed (fires_reading areas) (fires_form areas) k tt ns e
+fires_from : (areas : Areas) (k : ℕ) (ns : List ℕ) (e : End) → length ns ≤ k → Suits areas (is_area e)
+    → IsListed (fires_reading areas) (fires_form areas) k tt ns e
 fires_from areas zero [] e most is = is
 fires_from areas zero (n ∷ ns) e most is = absurd (omega arith)
 fires_from areas (suc k) [] e most is = is

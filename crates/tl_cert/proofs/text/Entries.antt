@@ -1,5 +1,6 @@
 -- Reading the entries of a chain is exact.
-use Rattle.std.proofs.Common.{◌≡◌, ℕ, suc, ◌+◌, ◌≤◌, ◌<◌, Bool, true, false, cond, eqb, ltb, ◌||◌, List, [], ◌∷◌, ◌++◌, inl, inr, length, refl, sym, ap, ◌∙◌, arith}
+use Rattle.std.proofs.Common.{◌≡◌, ℕ, suc, ◌+◌, ◌≤◌, ◌<◌, Bool, true, false, cond, eqb, ltb}
+use Rattle.std.proofs.Common.{◌||◌, List, [], ◌∷◌, ◌++◌, inl, inr, length, refl, sym, ap, ◌∙◌, arith}
 use Rattle.std.specs.Prelude.{Option, Some, None}
 use Rattle.std.specs.Char.{is_ascii_digit}
 use Rattle.std.specs.List.{AllByRecursion}
@@ -25,13 +26,15 @@ use Rattle.tl_cert.proofs.text.Items.{end_of, ends_by, end_is, item_rule, item_p
 use Rattle.tl_cert.proofs.text.SectionReading.{space_again}
 
 -- one reading or another, by a test
-exact_cond : {C : Type 0} (b : Bool) {one two : Reading C} (IsShaped : C → Type 0) (pieces : C → List Piece) → (b ≡ true → Exact one IsShaped pieces) → (b ≡ false → Exact two IsShaped pieces)
+exact_cond : {C : Type 0} (b : Bool) {one two : Reading C} (IsShaped : C → Type 0) (pieces : C → List Piece) → (b ≡ true → Exact one IsShaped pieces)
+    → (b ≡ false → Exact two IsShaped pieces)
     → Exact (cond b one two) IsShaped pieces
 exact_cond true IsShaped pieces first other = first refl
 exact_cond false IsShaped pieces first other = other refl
 
 -- what was read takes at least a character
-pub shorter_by : {C : Type 0} {read : Reading C} {IsShaped : C → Type 0} {pieces : C → List Piece} → Exact read IsShaped pieces → ((v : C) → 0 < length (spell (pieces v)))
+pub shorter_by : {C : Type 0} {read : Reading C} {IsShaped : C → Type 0} {pieces : C → List Piece} → Exact read IsShaped pieces
+    → ((v : C) → 0 < length (spell (pieces v)))
     → (text : List ℕ) (v : C) (rest : List ℕ) → read text ≡ got v rest → length rest < length text
 shorter_by {pieces = pieces} exact some text v rest is =
     let p = exact.takes text v rest is in
@@ -43,7 +46,8 @@ entry_rule more =
     record {
       some_end = λ n can. (58, refl);
       no_end = λ n e cannot ends. absurd cc;
-      not_digit = λ n e ends. elim (or_cases (eqb e 58) (ends_item more e) ends) [ inl colon ↦ ap is_ascii_digit (eqb-true e 58 colon) | inr end ↦ rule.not_digit n e end ];
+      not_digit = λ n e ends. elim (or_cases (eqb e 58) (ends_item more e) ends)
+          [ inl colon ↦ ap is_ascii_digit (eqb-true e 58 colon) | inr end ↦ rule.not_digit n e end ];
       longer = rule.longer;
     }
 
@@ -78,7 +82,8 @@ first_part a = pair (a.0.cell) (cell_end (a.0.inner) (a.1))
 abbrev entry_rest : Entry × Bool → List Piece
 entry_rest a = inner_rest (a.0.inner) (a.1)
 
-colon_or_end : (more : Bool) (inner : Option ℕ) (goes_on : Bool) → (goes_on ≡ true → more ≡ true) → (eqb (cell_end inner goes_on) 58 || ends_item more (cell_end inner goes_on)) ≡ true
+colon_or_end : (more : Bool) (inner : Option ℕ) (goes_on : Bool) → (goes_on ≡ true → more ≡ true)
+    → (eqb (cell_end inner goes_on) 58 || ends_item more (cell_end inner goes_on)) ≡ true
 colon_or_end more None goes_on may = or_right _ _ (ends_by more goes_on may)
 colon_or_end more (Some table) goes_on may = refl
 
@@ -103,7 +108,8 @@ module _ (more : Bool) (x : ℕ × ℕ) (allowed : (eqb (x.1) 58 || ends_item mo
   abbrev IsRest : Entry × Bool → Type 0
   IsRest a = IsFlagged more a × (first_part a ≡ x)
 
-  some_again : (a : Entry × Bool) (c-is : x.1 ≡ 58) → IsRest a → (ends_item more (end_of (a.1)) ≡ true) × (a ≡ flag (record { cell = x.0; inner = Some (table_of (a.0.inner)) }) (eqb (end_of (a.1)) space))
+  some_again : (a : Entry × Bool) (c-is : x.1 ≡ 58) → IsRest a → (ends_item more (end_of (a.1)) ≡ true)
+      × (a ≡ flag (record { cell = x.0; inner = Some (table_of (a.0.inner)) }) (eqb (end_of (a.1)) space))
   some_again a c-is is =
       let cell : a.0.cell ≡ x.0 = ap (λ (p : ℕ × ℕ). p.0) is.1 in
       let end : cell_end (a.0.inner) (a.1) ≡ x.1 = ap (λ (p : ℕ × ℕ). p.1) is.1 in
@@ -113,9 +119,11 @@ module _ (more : Bool) (x : ℕ × ℕ) (allowed : (eqb (x.1) 58 || ends_item mo
       let R : Bool → Entry × Bool = λ b. flag (record { cell = x.0; inner = Some (table_of (a.0.inner)) }) b in
       (ends_by more (a.1) is.0.1, ap P cell ∙ ap Q inner ∙ ap R (sym (space_again (a.1))))
 
-  exact_some : x.1 ≡ 58 → Exact (number_at 0 MAX_TABLE (λ n. true) (λ n d. ends_item more d) >>= λ y. give (flag (record { cell = x.0; inner = Some (y.0) }) (eqb (y.1) space))) IsRest entry_rest
+  exact_some : x.1 ≡ 58 → Exact (number_at 0 MAX_TABLE (λ n. true) (λ n d. ends_item more d) >>= λ y. give
+      (flag (record { cell = x.0; inner = Some (y.0) }) (eqb (y.1) space))) IsRest entry_rest
   exact_some c-is =
-      exact_made (λ (y : ℕ × ℕ). flag (record { cell = x.0; inner = Some (y.0) }) (eqb (y.1) space)) (λ (a : Entry × Bool). pair (table_of (a.0.inner)) (end_of (a.1))) IsRest entry_rest
+      exact_made (λ (y : ℕ × ℕ). flag (record { cell = x.0; inner = Some (y.0) }) (eqb (y.1) space))
+      (λ (a : Entry × Bool). pair (table_of (a.0.inner)) (end_of (a.1))) IsRest entry_rest
       (exact_number 0 MAX_TABLE (item_rule more))
       (λ a is. some_again a c-is is)
       (λ y is.
@@ -198,7 +206,8 @@ entries_unlimited = record {
     item_more k j true a le is = (tt, λ goes_on. lt-ltb 0 j (omega (arith, ltb-true 0 k (is.1 goes_on))))
     item_more k j false a le is = is
 
-    item_fits : (k : ℕ) (more : Bool) (v : Entry) (vs : List Entry) → entries_form.IsItem k more (entries_form.lift v vs) → entries_form.IsItem (length vs) more (entries_form.lift v vs)
+    item_fits : (k : ℕ) (more : Bool) (v : Entry) (vs : List Entry) → entries_form.IsItem k more (entries_form.lift v vs)
+        → entries_form.IsItem (length vs) more (entries_form.lift v vs)
     item_fits k true v [] is = (tt, λ goes_on. absurd cc)
     item_fits k true v (w ∷ vs) is = (tt, λ goes_on. lt-ltb 0 (length (w ∷ vs)) (omega arith))
     item_fits k false v vs is = is
@@ -212,7 +221,8 @@ entries_read x = list_pieces entries_form (x.0) (x.1)
 
 pub exact_entries : Exact entries_at (λ x. 1 ≤ length (x.0)) entries_read
 exact_entries =
-    exact_same (λ (x : Listing Entry (Unit {0})). 1 ≤ length (x.0)) entries_read (exact_all entries_reading entries_form entries_unlimited entries_exact true (λ k. tt))
+    exact_same (λ (x : Listing Entry (Unit {0})). 1 ≤ length (x.0)) entries_read
+    (exact_all entries_reading entries_form entries_unlimited entries_exact true (λ k. tt))
     (λ x is. let p = items_to AnyEntry entry_pieces entry_item (suc is.0) (x.0) (x.1) is.1 in p.0)
     (λ x some. (length (x.0), items_from AnyEntry entry_pieces entry_item (suc (length (x.0))) (x.0) (x.1) some (omega arith) (any_entries (x.0))))
     (λ x is. refl)

@@ -14,8 +14,10 @@ use Rattle.tl_cert.proofs.reading.Same.{exact_same}
 use Rattle.tl_cert.proofs.reading.NumberReading.{IsRule, exact_number}
 
 -- A value that a reading's value stands for.
-pub exact_made : {A C : Type 0} {read : Reading A} {IsFirst : A → Type 0} {first_pieces : A → List Piece} (make : A → C) (part : C → A) (IsShaped : C → Type 0) (pieces : C → List Piece)
-    → Exact read IsFirst first_pieces → ((v : C) → IsShaped v → IsFirst (part v) × (v ≡ make (part v))) → ((a : A) → IsFirst a → IsShaped (make a) × (pieces (make a) ≡ first_pieces a))
+pub exact_made : {A C : Type 0} {read : Reading A} {IsFirst : A → Type 0} {first_pieces : A → List Piece} (make : A → C) (part : C → A)
+    (IsShaped : C → Type 0) (pieces : C → List Piece)
+    → Exact read IsFirst first_pieces → ((v : C) → IsShaped v → IsFirst (part v) × (v ≡ make (part v)))
+    → ((a : A) → IsFirst a → IsShaped (make a) × (pieces (make a) ≡ first_pieces a))
     → Exact (read >>= λ a. give (make a)) IsShaped pieces
 exact_made {A} {C} {read} {IsFirst} {first_pieces} make part IsShaped pieces first parted made =
     let joined : Joined IsFirst first_pieces (λ (a : A) (v : C). v ≡ make a) (λ (a : A) (v : C). []) IsShaped pieces = record {
@@ -26,7 +28,8 @@ exact_made {A} {C} {read} {IsFirst} {first_pieces} make part IsShaped pieces fir
     exact_then first (λ a one. exact_give (make a)) joined
 
 -- A word and then what another reading reads.
-pub exact_after : {C : Type 0} (w : List ℕ) {next : Reading C} {IsShaped : C → Type 0} (rest pieces : C → List Piece) → Exact next IsShaped rest → ((v : C) → IsShaped v → pieces v ≡ word w ++ rest v)
+pub exact_after : {C : Type 0} (w : List ℕ) {next : Reading C} {IsShaped : C → Type 0} (rest pieces : C → List Piece) → Exact next IsShaped rest
+    → ((v : C) → IsShaped v → pieces v ≡ word w ++ rest v)
     → Exact (word_at w >>= λ _. next) IsShaped pieces
 exact_after {C} w {next} {IsShaped} rest pieces second text =
     let joined : Joined {A = Unit {0}} IsAny (λ _. word w) (λ (u : Unit {0}) (v : C). IsShaped v) (λ (u : Unit {0}) (v : C). rest v) IsShaped pieces = record {
@@ -37,7 +40,8 @@ exact_after {C} w {next} {IsShaped} rest pieces second text =
     exact_then (exact_word w) (λ a one. second) joined
 
 -- a word that stands for one value
-pub exact_sign : {C : Type 0} (w : List ℕ) (value : C) (pieces : C → List Piece) → pieces value ≡ word w → Exact (word_at w >>= λ _. give value) (λ v. v ≡ value) pieces
+pub exact_sign : {C : Type 0} (w : List ℕ) (value : C) (pieces : C → List Piece) → pieces value ≡ word w
+    → Exact (word_at w >>= λ _. give value) (λ v. v ≡ value) pieces
 exact_sign {C} w value pieces text = exact_after w (λ _. []) pieces (exact_give value) (λ v is. ap pieces is ∙ text ∙ sym (append-nil (word w)))
 
 -- the character is the only one that ends the number
@@ -57,8 +61,10 @@ exact_field low high end other =
     (λ x is. (tt, ap (λ (c : ℕ). number low high x.0 ∷ character c ∷ []) (sym (eqb-true x.1 end is))))
 
 -- Any part of a value, and then the others.
-pub exact_part_then : {A C : Type 0} {read : Reading A} {IsFirst : A → Type 0} {first_pieces : A → List Piece} (part : C → A) {next : A → Reading C} (IsShaped : C → Type 0)
-    (pieces : C → List Piece) (rest : A → C → List Piece) → Exact read IsFirst first_pieces → ((a : A) → IsFirst a → Exact (next a) (λ v. IsShaped v × (part v ≡ a)) (rest a))
+pub exact_part_then : {A C : Type 0} {read : Reading A} {IsFirst : A → Type 0} {first_pieces : A → List Piece} (part : C → A) {next : A → Reading C}
+    (IsShaped : C → Type 0)
+    (pieces : C → List Piece) (rest : A → C → List Piece) → Exact read IsFirst first_pieces
+    → ((a : A) → IsFirst a → Exact (next a) (λ v. IsShaped v × (part v ≡ a)) (rest a))
     → ((v : C) → IsShaped v → IsFirst (part v) × (pieces v ≡ first_pieces (part v) ++ rest (part v) v)) → Exact (read >>= next) IsShaped pieces
 exact_part_then {A} {C} {read} {IsFirst} {first_pieces} part {next} IsShaped pieces rest first second text =
     let joined : Joined IsFirst first_pieces (λ (a : A) (v : C). IsShaped v × (part v ≡ a)) rest IsShaped pieces = record {
@@ -79,4 +85,5 @@ shifted f sep [] t = refl
 shifted f sep (x ∷ xs) t =
     ap (λ (ps : List Piece). sep ∷ ps)
     (append_assoc (f x) (flat_map (λ y. sep ∷ f y) xs) (sep ∷ t) ∙ ap (λ (ps : List Piece). f x ++ ps) (shifted f sep xs t)
-    ∙ sym (append_assoc (f x ++ (sep ∷ [])) (flat_map (λ y. f y ++ (sep ∷ [])) xs) t ∙ append_assoc (f x) (sep ∷ []) (flat_map (λ y. f y ++ (sep ∷ [])) xs ++ t)))
+    ∙ sym (append_assoc (f x ++ (sep ∷ [])) (flat_map (λ y. f y ++ (sep ∷ [])) xs) t
+    ∙ append_assoc (f x) (sep ∷ []) (flat_map (λ y. f y ++ (sep ∷ [])) xs ++ t)))

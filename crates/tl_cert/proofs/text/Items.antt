@@ -1,5 +1,6 @@
 -- Lists whose items are separated by a space and ended by a line feed: widths, and the entries of a chain.
-use Rattle.std.proofs.Common.{◌≡◌, ℕ, zero, suc, ◌≤◌, Bool, true, false, eqb, ltb, ◌&&◌, List, [], ◌∷◌, ◌++◌, inl, inr, length, refl, sym, ap, ◌∙◌, append_assoc, arith}
+use Rattle.std.proofs.Common.{◌≡◌, ℕ, zero, suc, ◌≤◌, Bool, true, false, eqb, ltb, ◌&&◌, List}
+use Rattle.std.proofs.Common.{[], ◌∷◌, ◌++◌, inl, inr, length, refl, sym, ap, ◌∙◌, append_assoc, arith}
 use Rattle.std.specs.Char.{is_ascii_digit}
 use Rattle.std.specs.List.{flat_map, AllByRecursion}
 use Rattle.std.proofs.lemmas.Bool.{eqb-true, or_cases, and_parts, lt-ltb}
@@ -110,7 +111,8 @@ module _ {V : Type 0} (IsOne : V → Type 0) (one_pieces : V → List Piece) whe
         later zero false a ready is = absurd is
         later (suc k) more a ready is = tt
 
-        lifted : (k : ℕ) (more : Bool) (a : V × Bool) (vs : List V) (e : Unit {0}) → IsItemOf k more a → IsListed items_reading items_form k (a.1) vs e → flagged (a.0) (any_left vs) ≡ a
+        lifted : (k : ℕ) (more : Bool) (a : V × Bool) (vs : List V) (e : Unit {0}) → IsItemOf k more a → IsListed items_reading items_form k (a.1) vs e
+            → flagged (a.0) (any_left vs) ≡ a
         lifted k more a vs e is listed = ap (flagged (a.0)) (left k (a.1) vs e listed)
           where
             left : (k : ℕ) (more : Bool) (vs : List V) (e : Unit {0}) → IsListed items_reading items_form k more vs e → any_left vs ≡ more
@@ -156,4 +158,5 @@ module _ {V : Type 0} (IsOne : V → Type 0) (one_pieces : V → List Piece) whe
         ap (λ (ps : List Piece). character space ∷ ps)
         (append_assoc (one_pieces v) (flat_map (λ u. character space ∷ one_pieces u) (w ∷ vs)) (character line_feed ∷ t)
         ∙ ap (λ (ps : List Piece). one_pieces v ++ ps) (items_text w vs e t)
-        ∙ sym (append_assoc (one_pieces v ++ (character space ∷ [])) (list_pieces items_form (w ∷ vs) e) t ∙ append_assoc (one_pieces v) (character space ∷ []) (list_pieces items_form (w ∷ vs) e ++ t)))
+        ∙ sym (append_assoc (one_pieces v ++ (character space ∷ [])) (list_pieces items_form (w ∷ vs) e) t
+        ∙ append_assoc (one_pieces v) (character space ∷ []) (list_pieces items_form (w ∷ vs) e ++ t)))

@@ -49,10 +49,12 @@ place_is bytes left stuck = omega (arith, ap length stuck.parts ∙ length-appen
 no_more : (bytes : List ℕ) (left : ℕ) (stuck : StuckAt bytes left) → length stuck.front < length bytes → BeginsText (take (length stuck.front + 1) bytes) → ⊥
 no_more bytes left stuck less begun = at_rest stuck.rest stuck.parts stuck.goes_on
   where
-    at_rest : (rest : List ℕ) → bytes ≡ stuck.front ++ rest → ((other : List ℕ) (v : Certificate) → IsShaped v → SameStart rest other → cert_text v ≡ stuck.front ++ other → ⊥) → ⊥
+    at_rest : (rest : List ℕ) → bytes ≡ stuck.front ++ rest → ((other : List ℕ) (v : Certificate) → IsShaped v → SameStart rest other
+        → cert_text v ≡ stuck.front ++ other → ⊥) → ⊥
     at_rest [] parts goes_on = absurd (omega (arith, ap length parts ∙ length-append stuck.front []))
     at_rest (b ∷ rest) parts goes_on =
-        let front-is : take (length stuck.front + 1) bytes ≡ stuck.front ++ (b ∷ []) = ap (take (length stuck.front + 1)) parts ∙ take_one_more stuck.front b rest in
+        let front-is : take (length stuck.front + 1) bytes ≡ stuck.front ++ (b ∷ []) =
+        ap (take (length stuck.front + 1)) parts ∙ take_one_more stuck.front b rest in
         goes_on (b ∷ begun.more) begun.whole begun.shaped refl
         (begun.text ∙ ap (λ (t : List ℕ). t ++ begun.more) front-is ∙ append_assoc stuck.front (b ∷ []) begun.more)
 
@@ -145,7 +147,8 @@ whole_again bytes c writable is =
     let read : certificate_at bytes ≡ got c [] = ap certificate_at (is ∙ sym (append-nil (cert_text c))) ∙ exact_certificate.again c [] writable.0 writable.1 in
     ap (λ (x : Answer Certificate). then_read x ended_by) read
 
-pub whole_outside : (bytes : List ℕ) (place : ℕ) → IsRangeFault bytes place → (whole_at bytes ≡ outside (length bytes - place)) × (length bytes - (length bytes - place) ≡ place)
+pub whole_outside : (bytes : List ℕ) (place : ℕ) → IsRangeFault bytes place → (whole_at bytes ≡ outside (length bytes - place))
+    × (length bytes - (length bytes - place) ≡ place)
 unfolding whole_at
 whole_outside bytes place fault =
     let out = outside_from bytes place fault in (
@@ -176,7 +179,8 @@ shorter_begins bytes k n le begun =
       whole = begun.whole;
       more = drop k (take n bytes) ++ begun.more;
       shaped = begun.shaped;
-      text = begun.text ∙ ap (λ (t : List ℕ). t ++ begun.more) (sym (take-append-drop k (take n bytes))) ∙ append_assoc (take k (take n bytes)) (drop k (take n bytes)) begun.more
+      text = begun.text ∙ ap (λ (t : List ℕ). t ++ begun.more) (sym (take-append-drop k (take n bytes)))
+          ∙ append_assoc (take k (take n bytes)) (drop k (take n bytes)) begun.more
           ∙ ap (λ (t : List ℕ). t ++ (drop k (take n bytes) ++ begun.more)) shorter;
     }
 

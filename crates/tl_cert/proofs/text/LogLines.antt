@@ -60,7 +60,8 @@ zone_text : (nogood : Nogood) (line : LogLine) → IsZone nogood → line.nogood
 zone_text (nogoods.Zone z) line is same =
     let P : Nogood → List Piece = λ nogood. line_pieces (record { nogood = nogood; fires = line.fires; end = line.end }) in
     let Q : Nogood → List Piece = λ nogood. word (codes "z") ++ (field 0 MAX_ZONE (zone_of nogood) space ++ fires_pieces (fired_by line)) in
-    ap P same ∙ ap (λ (ps : List Piece). character 122 ∷ number 0 MAX_ZONE z ∷ ps) (shifted (λ (n : ℕ). character 64 ∷ number 0 MAX_LINE n ∷ []) (character space) line.fires (end_pieces line.end)) ∙ sym (ap Q same)
+    ap P same ∙ ap (λ (ps : List Piece). character 122 ∷ number 0 MAX_ZONE z ∷ ps)
+    (shifted (λ (n : ℕ). character 64 ∷ number 0 MAX_LINE n ∷ []) (character space) line.fires (end_pieces line.end)) ∙ sym (ap Q same)
 zone_text (nogoods.Bounds bounds) line is same = absurd is
 
 line_again : (line : LogLine) (zone : ℕ) (x : Listing ℕ End) → IsZone line.nogood → zone_of line.nogood ≡ zone → fired_by line ≡ x
@@ -73,9 +74,12 @@ line_again line zone x is same rest =
 exact_zone_line : (areas : Areas) → Exact (zone_line_at areas) (IsZoneLine areas) line_pieces
 exact_zone_line areas =
     exact_after (codes "z") after_zone line_pieces
-    (exact_part_then (λ (line : LogLine). zone_of line.nogood) (IsZoneLine areas) after_zone (λ zone line. fires_pieces (fired_by line)) (exact_field 0 MAX_ZONE space refl)
-    (λ zone any. exact_part_then fired_by (λ line. IsZoneLine areas line × (zone_of line.nogood ≡ zone)) (λ line. fires_pieces (fired_by line)) (λ x line. []) (exact_fires areas)
-    (λ x fires. exact_only (record { nogood = nogoods.Zone zone; fires = x.0; end = x.1 }) (λ line. (IsZoneLine areas line × (zone_of line.nogood ≡ zone)) × (fired_by line ≡ x))
+    (exact_part_then (λ (line : LogLine). zone_of line.nogood) (IsZoneLine areas) after_zone (λ zone line. fires_pieces (fired_by line))
+    (exact_field 0 MAX_ZONE space refl)
+    (λ zone any. exact_part_then fired_by (λ line. IsZoneLine areas line × (zone_of line.nogood ≡ zone)) (λ line. fires_pieces (fired_by line)) (λ x line. [])
+    (exact_fires areas)
+    (λ x fires. exact_only (record { nogood = nogoods.Zone zone; fires = x.0; end = x.1 })
+    (λ line. (IsZoneLine areas line × (zone_of line.nogood ≡ zone)) × (fired_by line ≡ x))
     ((record { zone = tt; fires = fires }, refl), refl) (λ line is. line_again line zone x is.0.0.zone is.0.1 is.1))
     (λ line is. (is.0.fires, sym (append-nil (fires_pieces (fired_by line))))))
     (λ line is. (tt, refl)))
@@ -109,7 +113,8 @@ bounds_line_text : (bounds : List Bound) (x : Listing ℕ End) → 1 ≤ length 
 bounds_line_text [] x some = absurd (omega arith)
 bounds_line_text (b ∷ bs) x some =
     append_assoc (bound_pieces b) (flat_map (λ m. character space ∷ bound_pieces m) bs) (flat_map fire_pieces (x.0) ++ (character space ∷ end_pieces (x.1)))
-    ∙ ap (λ (ps : List Piece). bound_pieces b ++ (flat_map (λ m. character space ∷ bound_pieces m) bs ++ ps)) (shifted (λ (n : ℕ). character 64 ∷ number 0 MAX_LINE n ∷ []) (character space) (x.0) (end_pieces (x.1)))
+    ∙ ap (λ (ps : List Piece). bound_pieces b ++ (flat_map (λ m. character space ∷ bound_pieces m) bs ++ ps))
+    (shifted (λ (n : ℕ). character 64 ∷ number 0 MAX_LINE n ∷ []) (character space) (x.0) (end_pieces (x.1)))
     ∙ ap (λ (ps : List Piece). bound_pieces b ++ ps) (shifted bound_pieces (character space) bs (fires_pieces x))
 
 exact_bounds_line : (areas : Areas) → Exact (bounds_line_at areas) (IsBoundsLine areas) line_pieces
@@ -138,7 +143,8 @@ bounds_shaped : (nogood : Nogood) → IsBounds nogood → IsNogoodShaped nogood
 bounds_shaped (nogoods.Zone zone) is = absurd is
 bounds_shaped (nogoods.Bounds bounds) is = is
 
-zone_begins : (nogood : Nogood) (line : LogLine) (t : List ℕ) → line.nogood ≡ nogood → IsZone nogood → begins (λ c. eqb c 122) (spell (line_pieces line) ++ t) ≡ true
+zone_begins : (nogood : Nogood) (line : LogLine) (t : List ℕ) → line.nogood ≡ nogood → IsZone nogood
+    → begins (λ c. eqb c 122) (spell (line_pieces line) ++ t) ≡ true
 zone_begins (nogoods.Zone zone) line t same is =
     let P : Nogood → Bool = λ nogood. begins (λ c. eqb c 122) (spell (line_pieces (record { nogood = nogood; fires = line.fires; end = line.end })) ++ t) in
     ap P same
@@ -152,13 +158,15 @@ digit_no_z n t =
     no_z : (c : ℕ) → is_ascii_digit c ≡ true → eqb c 122 ≡ false
     no_z c digit = let range = digit_range c digit in ne_eqb c 122 (λ same. omega arith)
 
-bounds_begin : (bounds : List Bound) (rest : List Piece) (t : List ℕ) → 1 ≤ length bounds → begins (λ c. eqb c 122) (spell (bounds_pieces bounds ++ rest) ++ t) ≡ false
+bounds_begin : (bounds : List Bound) (rest : List Piece) (t : List ℕ) → 1 ≤ length bounds
+    → begins (λ c. eqb c 122) (spell (bounds_pieces bounds ++ rest) ++ t) ≡ false
 bounds_begin [] rest t some = absurd (omega arith)
 bounds_begin (b ∷ bs) rest t some =
     let others : List Piece = character (side_sign b.side) ∷ number 0 MAX_PAGE_WIDTH b.width ∷ (flat_map (λ m. character space ∷ bound_pieces m) bs ++ rest) in
     ap (begins (λ c. eqb c 122)) (append_assoc (numeral b.span) (spell others) t) ∙ digit_no_z b.span (spell others ++ t)
 
-bounds_line_begins : (nogood : Nogood) (line : LogLine) (t : List ℕ) → line.nogood ≡ nogood → IsBounds nogood → begins (λ c. eqb c 122) (spell (line_pieces line) ++ t) ≡ false
+bounds_line_begins : (nogood : Nogood) (line : LogLine) (t : List ℕ) → line.nogood ≡ nogood → IsBounds nogood
+    → begins (λ c. eqb c 122) (spell (line_pieces line) ++ t) ≡ false
 bounds_line_begins (nogoods.Zone zone) line t same is = absurd is
 bounds_line_begins (nogoods.Bounds bounds) line t same is =
     let P : Nogood → Bool = λ nogood. begins (λ c. eqb c 122) (spell (line_pieces (record { nogood = nogood; fires = line.fires; end = line.end })) ++ t) in

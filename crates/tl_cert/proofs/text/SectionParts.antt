@@ -29,7 +29,8 @@ IsPaid Free = Unit {0}
 IsPaid Owed = ⊥
 
 -- what is asked of the whole is asked of the first part and of the others
-pub suits_parts : (areas : Areas) (k : ℕ) (first others : Bool) → Suits (for_part k areas) first → Suits (after areas first) others → Suits areas (first || others)
+pub suits_parts : (areas : Areas) (k : ℕ) (first others : Bool) → Suits (for_part k areas) first → Suits (after areas first) others
+    → Suits areas (first || others)
 suits_parts Never zero false others one two = two
 suits_parts Never (suc k) false others one two = two
 suits_parts Never zero true others one two = absurd cc
@@ -140,7 +141,8 @@ lines_from (suc k) areas (line ∷ lines) e is =
       refl,
       (
         record { shaped = is.shaped.0; end = first },
-        lines_from k (after areas (is_area line.end)) lines e (record { count_is = left; shaped = is.shaped.1; asked = suits_others areas (is_area line.end) (log_has_area lines) is.asked }),
+        lines_from k (after areas (is_area line.end)) lines e
+            (record { count_is = left; shaped = is.shaped.1; asked = suits_others areas (is_area line.end) (log_has_area lines) is.asked }),
       ),
     )
 
@@ -148,9 +150,11 @@ lines_text : (lines : List LogLine) (e : Unit {0}) → list_pieces lines_form li
 lines_text [] e = refl
 lines_text (line ∷ lines) e = ap (λ (ps : List Piece). line_pieces line ++ ps) (lines_text lines e)
 
-pub exact_lines : (count : ℕ) (areas : Areas) → IsReadyFor count areas → Exact (lines_at count areas) (λ x. AreLines count areas (x.0)) (λ x. flat_map line_pieces (x.0))
+pub exact_lines : (count : ℕ) (areas : Areas) → IsReadyFor count areas → Exact (lines_at count areas) (λ x. AreLines count areas (x.0))
+    (λ x. flat_map line_pieces (x.0))
 exact_lines count areas ready =
-    exact_same (λ (x : Listing LogLine (Unit {0})). AreLines count areas (x.0)) (λ x. flat_map line_pieces (x.0)) (exact_list lines_reading lines_form lines_exact count areas ready)
+    exact_same (λ (x : Listing LogLine (Unit {0})). AreLines count areas (x.0)) (λ x. flat_map line_pieces (x.0))
+    (exact_list lines_reading lines_form lines_exact count areas ready)
     (λ x is. lines_to count areas (x.0) (x.1) is) (λ x is. lines_from count areas (x.0) (x.1) is) (λ x is. lines_text (x.0) (x.1))
 
 -- ---- cuts
@@ -162,16 +166,20 @@ exact_cut =
     let after_word : CutAt → List Piece = λ cut. field 0 MAX_ZONE cut.zone space ++ after_zone cut in
     exact_after (codes "cut ") after_word cut_pieces
     (exact_part_then (λ (cut : CutAt). cut.zone) IsAny after_word (λ zone cut. after_zone cut) (exact_field 0 MAX_ZONE space refl)
-    (λ zone a. exact_part_then (λ (cut : CutAt). cut.span) (λ cut. IsAny cut × (cut.zone ≡ zone)) after_zone (λ span cut. field 0 MAX_CLASS cut.class line_feed) (exact_field 0 MAX_SPAN space refl)
-    (λ span b. exact_part_then (λ (cut : CutAt). cut.class) (λ cut. (IsAny cut × (cut.zone ≡ zone)) × (cut.span ≡ span)) (λ cut. field 0 MAX_CLASS cut.class line_feed) (λ class cut. []) (exact_field 0 MAX_CLASS line_feed refl)
-    (λ class d. exact_only (record { zone = zone; span = span; class = class }) (λ cut. ((IsAny cut × (cut.zone ≡ zone)) × (cut.span ≡ span)) × (cut.class ≡ class))
+    (λ zone a. exact_part_then (λ (cut : CutAt). cut.span) (λ cut. IsAny cut × (cut.zone ≡ zone)) after_zone
+    (λ span cut. field 0 MAX_CLASS cut.class line_feed) (exact_field 0 MAX_SPAN space refl)
+    (λ span b. exact_part_then (λ (cut : CutAt). cut.class) (λ cut. (IsAny cut × (cut.zone ≡ zone)) × (cut.span ≡ span))
+    (λ cut. field 0 MAX_CLASS cut.class line_feed) (λ class cut. []) (exact_field 0 MAX_CLASS line_feed refl)
+    (λ class d. exact_only (record { zone = zone; span = span; class = class }) (λ cut. ((IsAny cut × (cut.zone ≡ zone)) × (cut.span ≡ span))
+    × (cut.class ≡ class))
     (((tt, refl), refl), refl) (λ cut is. cut_again cut zone span class is.0.0.1 is.0.1 is.1))
     (λ cut is. (tt, refl)))
     (λ cut is. (tt, refl)))
     (λ cut is. (tt, refl)))
     (λ cut is. refl)
   where
-    cut_again : (cut : CutAt) (zone span class : ℕ) → cut.zone ≡ zone → cut.span ≡ span → cut.class ≡ class → cut ≡ record { zone = zone; span = span; class = class }
+    cut_again : (cut : CutAt) (zone span class : ℕ) → cut.zone ≡ zone → cut.span ≡ span → cut.class ≡ class
+        → cut ≡ record { zone = zone; span = span; class = class }
     cut_again cut zone span class a b d =
         let P : ℕ → CutAt = λ k. record { zone = k; span = cut.span; class = cut.class } in
         let Q : ℕ → CutAt = λ k. record { zone = zone; span = k; class = cut.class } in
@@ -183,7 +191,14 @@ IsDone zero = Unit {0}
 IsDone (suc k) = ⊥
 
 abbrev cuts_form : ListForm (Unit {0}) CutAt CutAt (Unit {0})
-cuts_form = record { IsItem = λ k s cut. IsAny cut; item_pieces = cut_pieces; IsStop = λ k s e. IsDone k; stop_pieces = λ e. []; lift = λ cut cuts. cut; IsReady = λ k s. Unit {0} }
+cuts_form = record {
+  IsItem = λ k s cut. IsAny cut;
+  item_pieces = cut_pieces;
+  IsStop = λ k s e. IsDone k;
+  stop_pieces = λ e. [];
+  lift = λ cut cuts. cut;
+  IsReady = λ k s. Unit {0};
+}
 
 cuts_exact : IsExactList cuts_reading cuts_form
 cuts_exact = record {
@@ -211,5 +226,6 @@ cuts_text (cut ∷ cuts) e = ap (λ (ps : List Piece). cut_pieces cut ++ ps) (cu
 
 pub exact_cuts : (count : ℕ) → Exact (cuts_at count) (λ x. length (x.0) ≡ count) (λ x. flat_map cut_pieces (x.0))
 exact_cuts count =
-    exact_same (λ (x : Listing CutAt (Unit {0})). length (x.0) ≡ count) (λ x. flat_map cut_pieces (x.0)) (exact_list cuts_reading cuts_form cuts_exact count tt tt)
+    exact_same (λ (x : Listing CutAt (Unit {0})). length (x.0) ≡ count) (λ x. flat_map cut_pieces (x.0))
+    (exact_list cuts_reading cuts_form cuts_exact count tt tt)
     (λ x is. cuts_to count (x.0) (x.1) is) (λ x is. cuts_from count (x.0) (x.1) is) (λ x is. cuts_text (x.0) (x.1))

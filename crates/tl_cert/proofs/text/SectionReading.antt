@@ -1,5 +1,6 @@
 -- Reading the widths, the number of log lines and a whole section is exact.
-use Rattle.std.proofs.Common.{◌≡◌, ℕ, zero, suc, ◌+◌, ◌*◌, ◌≤◌, ◌<◌, Bool, true, false, eqb, ltb, ◌&&◌, List, [], ◌∷◌, ◌++◌, ◌⊎◌, inl, inr, length, refl, sym, ap, subst, ◌∙◌, append_assoc, arith}
+use Rattle.std.proofs.Common.{◌≡◌, ℕ, zero, suc, ◌+◌, ◌*◌, ◌≤◌, ◌<◌, Bool, true, false, eqb, ltb, ◌&&◌}
+use Rattle.std.proofs.Common.{List, [], ◌∷◌, ◌++◌, ◌⊎◌, inl, inr, length, refl, sym, ap, subst, ◌∙◌, append_assoc, arith}
 use Rattle.std.specs.Prelude.{codes}
 use Rattle.std.specs.List.{flat_map, AllByRecursion}
 use Rattle.std.specs.Char.{is_ascii_digit}
@@ -61,7 +62,8 @@ widths_read x = list_pieces (items_form AnyWidth width_pieces) (x.0) (x.1)
 exact_some_widths : Exact some_widths_at AreSomeWidths widths_read
 exact_some_widths =
     exact_same AreSomeWidths widths_read
-    (exact_list widths_reading (items_form AnyWidth width_pieces) (items_exact AnyWidth width_pieces (λ k more. width_at (ltb 0 k)) (λ k. exact_width (ltb 0 k))) MAX_COLUMNS true tt)
+    (exact_list widths_reading (items_form AnyWidth width_pieces) (items_exact AnyWidth width_pieces (λ k more. width_at (ltb 0 k))
+    (λ k. exact_width (ltb 0 k))) MAX_COLUMNS true tt)
     (λ x is. let p = items_to AnyWidth width_pieces (λ k more. width_at (ltb 0 k)) MAX_COLUMNS (x.0) (x.1) is in record { some = p.0; most = p.1.0 })
     (λ x is. items_from AnyWidth width_pieces (λ k more. width_at (ltb 0 k)) MAX_COLUMNS (x.0) (x.1) is.some is.most (any_widths (x.0)))
     (λ x is. refl)
@@ -72,7 +74,8 @@ widths_tail x = flat_map (spaced MAX_PAGE_WIDTH) (x.0) ++ word (codes "\n")
 some_widths_text : (ws : List ℕ) (e : Unit {0}) → 1 ≤ length ws → widths_tail (listing ws e) ≡ word (codes " ") ++ widths_read (listing ws e)
 some_widths_text [] e some = absurd (omega arith)
 some_widths_text (w ∷ ws) e some =
-    items_text AnyWidth width_pieces (λ k more. width_at (ltb 0 k)) w ws e [] ∙ ap (λ (ps : List Piece). character space ∷ ps) (append-nil (widths_read (listing (w ∷ ws) e)))
+    items_text AnyWidth width_pieces (λ k more. width_at (ltb 0 k)) w ws e [] ∙ ap (λ (ps : List Piece). character space ∷ ps)
+    (append-nil (widths_read (listing (w ∷ ws) e)))
 
 abbrev pub AreWidths : Listing ℕ (Unit {0}) → Type 0
 AreWidths x = length (x.0) ≤ MAX_COLUMNS
@@ -99,7 +102,8 @@ exact_widths =
       no = λ x t is. ap (λ (y : Listing ℕ (Unit {0})). begins (λ c. eqb c space) (spell (widths_tail y) ++ t)) is;
     } in
     exact_after (codes "widths") widths_tail widths_pieces
-    (exact_either (exact_after (codes " ") widths_read widths_tail exact_some_widths (λ x is. some_widths_text (x.0) (x.1) is.some)) (exact_sign (codes "\n") (listing [] tt) widths_tail refl) chosen)
+    (exact_either (exact_after (codes " ") widths_read widths_tail exact_some_widths (λ x is. some_widths_text (x.0) (x.1) is.some))
+    (exact_sign (codes "\n") (listing [] tt) widths_tail refl) chosen)
     (λ x is. refl)
 
 -- ---- the number of log lines
@@ -120,7 +124,8 @@ count_rule areas = record {
 exact_count : (areas : Areas) (cuts : ℕ) → Exact (count_at areas cuts) (λ n. may_count areas n ≡ true) (λ n. field 1 (2 * cuts + 1) n line_feed)
 unfolding count_at
 exact_count areas cuts =
-    exact_made (λ (x : ℕ × ℕ). x.0) (λ n. (n, line_feed)) (λ n. may_count areas n ≡ true) (λ n. field 1 (2 * cuts + 1) n line_feed) (exact_number 1 (2 * cuts + 1) (count_rule areas))
+    exact_made (λ (x : ℕ × ℕ). x.0) (λ n. (n, line_feed)) (λ n. may_count areas n ≡ true) (λ n. field 1 (2 * cuts + 1) n line_feed)
+    (exact_number 1 (2 * cuts + 1) (count_rule areas))
     (λ n is. (is, refl))
     (λ x is.
     let p = and_parts (eqb x.1 line_feed) (may_count areas x.0) is in
@@ -210,9 +215,18 @@ module _ (areas : Areas) where
   Is9 table width height lower cuts lines widths trace log s = Is8 table width height lower cuts lines widths trace s × (log_of s ≡ log)
 
   abbrev made : ℕ → ℕ → ℕ → ℕ → List ℕ → List CutAt → List LogLine → Section
-  made table width height lower widths trace log = record { table = table; width = width; height = height; lower = lower; widths = widths; trace = trace; log = log }
+  made table width height lower widths trace log = record {
+    table = table;
+    width = width;
+    height = height;
+    lower = lower;
+    widths = widths;
+    trace = trace;
+    log = log;
+  }
 
-  section_again : (table width height lower cuts lines : ℕ) (widths : Listing ℕ (Unit {0})) (trace : Listing CutAt (Unit {0})) (log : Listing LogLine (Unit {0})) (s : Section)
+  section_again : (table width height lower cuts lines : ℕ) (widths : Listing ℕ (Unit {0})) (trace : Listing CutAt (Unit {0}))
+      (log : Listing LogLine (Unit {0})) (s : Section)
       → Is9 table width height lower cuts lines widths trace log s → s ≡ made table width height lower (widths.0) (trace.0) (log.0)
   section_again table width height lower cuts lines widths trace log s is =
       ap (λ (k : ℕ). made k s.width s.height s.lower s.widths s.trace s.log) is.0.0.0.0.0.0.0.0.1
@@ -224,9 +238,18 @@ module _ (areas : Areas) where
       ∙ ap (λ (x : Listing LogLine (Unit {0})). made table width height lower (widths.0) (trace.0) (x.0)) is.1
 
   section_made : (table width height lower cuts lines : ℕ) (widths : Listing ℕ (Unit {0})) (trace : Listing CutAt (Unit {0})) (log : Listing LogLine (Unit {0}))
-      → AreWidths widths → length (trace.0) ≡ cuts → AreLines lines areas (log.0) → Is9 table width height lower cuts lines widths trace log (made table width height lower (widths.0) (trace.0) (log.0))
-  section_made table width height lower cuts lines widths trace log most cut lined =
-      (((((((((record { shaped = record { widths = most; lines = lined.shaped }; asked = lined.asked }, refl), refl), refl), refl), cut), lined.count_is), refl), refl), refl)
+      → AreWidths widths → length (trace.0) ≡ cuts → AreLines lines areas (log.0)
+      → Is9 table width height lower cuts lines widths trace log (made table width height lower (widths.0) (trace.0) (log.0))
+  section_made table width height lower cuts lines widths trace log most cut lined = (
+    (
+      (
+        ((((((record { shaped = record { widths = most; lines = lined.shaped }; asked = lined.asked }, refl), refl), refl), refl), cut), lined.count_is),
+        refl,
+      ),
+      refl,
+    ),
+    refl,
+  )
 
   pub exact_section : Exact (section_at areas) (IsSection areas) section_pieces
   unfolding section_at
@@ -236,11 +259,14 @@ module _ (areas : Areas) where
       exact_part_then (λ (s : Section). s.width) (Is1 table) width_part (λ a s. height_part s) (exact_field 0 MAX_PAGE_WIDTH space refl) (λ width _.
       exact_part_then (λ (s : Section). s.height) (Is2 table width) height_part (λ a s. lower_part s) (exact_field 0 MAX_HEIGHT space refl) (λ height _.
       exact_part_then (λ (s : Section). s.lower) (Is3 table width height) lower_part (λ a s. cuts_part s) (exact_field 0 MAX_HEIGHT space refl) (λ lower _.
-      exact_part_then (λ (s : Section). length s.trace) (Is4 table width height lower) cuts_part (λ a s. count_part s) (exact_field 0 MAX_BUDGET space refl) (λ cuts _.
-      exact_part_then (λ (s : Section). length s.log) (Is5 table width height lower cuts) count_part (λ a s. widths_part s) (exact_count areas cuts) (λ lines can.
+      exact_part_then (λ (s : Section). length s.trace) (Is4 table width height lower) cuts_part (λ a s. count_part s) (exact_field 0 MAX_BUDGET space refl)
+      (λ cuts _.
+      exact_part_then (λ (s : Section). length s.log) (Is5 table width height lower cuts) count_part (λ a s. widths_part s) (exact_count areas cuts)
+      (λ lines can.
       exact_part_then widths_of (Is6 table width height lower cuts lines) widths_part (λ a s. trace_part s) exact_widths (λ widths most.
       exact_part_then trace_of (Is7 table width height lower cuts lines widths) trace_part (λ a s. log_part s) (exact_cuts cuts) (λ trace cut.
-      exact_part_then log_of (Is8 table width height lower cuts lines widths trace) log_part (λ a s. []) (exact_lines lines areas (ready_for areas lines can)) (λ log lined.
+      exact_part_then log_of (Is8 table width height lower cuts lines widths trace) log_part (λ a s. []) (exact_lines lines areas (ready_for areas lines can))
+      (λ log lined.
       exact_only (made table width height lower (widths.0) (trace.0) (log.0)) (Is9 table width height lower cuts lines widths trace log)
       (section_made table width height lower cuts lines widths trace log most cut lined) (section_again table width height lower cuts lines widths trace log))
       (λ s is. (record { count_is = is.0.0.1; shaped = is.0.0.0.0.0.0.0.0.shaped.lines; asked = is.0.0.0.0.0.0.0.0.asked }, sym (append-nil (log_part s)))))
@@ -248,7 +274,8 @@ module _ (areas : Areas) where
       (λ s is. (
         is.0.0.0.0.0.0.shaped.widths,
         sym (append_assoc (word (codes "widths") ++ flat_map (spaced MAX_PAGE_WIDTH) s.widths) (word (codes "\n")) (trace_part s)
-            ∙ append_assoc (word (codes "widths")) (flat_map (spaced MAX_PAGE_WIDTH) s.widths) (word (codes "\n") ++ trace_part s)) ∙ ap (λ (ps : List Piece). ps ++ trace_part s)
+            ∙ append_assoc (word (codes "widths")) (flat_map (spaced MAX_PAGE_WIDTH) s.widths) (word (codes "\n") ++ trace_part s))
+            ∙ ap (λ (ps : List Piece). ps ++ trace_part s)
             (append_assoc (word (codes "widths")) (flat_map (spaced MAX_PAGE_WIDTH) s.widths) (word (codes "\n"))),
       )))
       (λ s is. (counted areas s.log is.0.0.0.0.0.asked, ap (λ (k : ℕ). field 1 (2 * k + 1) (length s.log) line_feed ++ widths_part s) is.1)))

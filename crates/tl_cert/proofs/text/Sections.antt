@@ -60,11 +60,22 @@ sections_exact = record {
   where
     turns : (k : ℕ) (first : Bool) (areas : Areas) → Turns sections_reading sections_form (sections_turn first areas) k (state first areas)
     turns k true areas = record { item = exact_section (for_part k areas); no_stop = λ e is. is }
-    turns k false Never = record { item = exact_section (for_part k Never); stop = exact_end_line (Unit {0}) tt; item_begins = λ section t is. refl; stop_begins = λ e t is. refl }
-    turns k false Free = record { item = exact_section (for_part k Free); stop = exact_end_line (Unit {0}) tt; item_begins = λ section t is. refl; stop_begins = λ e t is. refl }
+    turns k false Never = record {
+      item = exact_section (for_part k Never);
+      stop = exact_end_line (Unit {0}) tt;
+      item_begins = λ section t is. refl;
+      stop_begins = λ e t is. refl;
+    }
+    turns k false Free = record {
+      item = exact_section (for_part k Free);
+      stop = exact_end_line (Unit {0}) tt;
+      item_begins = λ section t is. refl;
+      stop_begins = λ e t is. refl;
+    }
     turns k false Owed = record { item = exact_section (for_part k Owed); no_stop = λ e is. is }
 
-    later : (k : ℕ) (s : State) (section : Section) → IsReadyFor (suc k) s → IsSection (for_part k (s.1)) section → IsReadyFor k (state false (after (s.1) (log_has_area section.log)))
+    later : (k : ℕ) (s : State) (section : Section) → IsReadyFor (suc k) s → IsSection (for_part k (s.1)) section
+        → IsReadyFor k (state false (after (s.1) (log_has_area section.log)))
     later zero s section ready is = paid_at_last (s.1) (log_has_area section.log) is.asked
     later (suc k) s section ready is = tt
 
@@ -74,7 +85,8 @@ pub record AreSections (limit : ℕ) (areas : Areas) (sections : List Section) :
   pub shaped : AllByRecursion IsSectionShaped sections
   pub asked : Suits areas (has_area sections)
 
-sections_to : (k : ℕ) (first : Bool) (areas : Areas) (sections : List Section) (e : Unit {0}) → IsListed sections_reading sections_form k (state first areas) sections e
+sections_to : (k : ℕ) (first : Bool) (areas : Areas) (sections : List Section) (e : Unit {0})
+    → IsListed sections_reading sections_form k (state first areas) sections e
     → AreSections k areas sections × (first ≡ true → 1 ≤ length sections)
 sections_to zero true areas [] e is = absurd is
 sections_to zero false areas [] e is = (record { most = omega arith; shaped = tt; asked = none_owed areas is }, λ begun. absurd cc)
@@ -95,7 +107,8 @@ none_after : (sections : List Section) (k : ℕ) → length sections ≤ k → k
 none_after [] k most none = refl
 none_after (section ∷ sections) k most none = absurd (omega arith)
 
-sections_from : (k : ℕ) (first : Bool) (areas : Areas) (sections : List Section) (e : Unit {0}) → AreSections k areas sections → (first ≡ true → 1 ≤ length sections)
+sections_from : (k : ℕ) (first : Bool) (areas : Areas) (sections : List Section) (e : Unit {0}) → AreSections k areas sections
+    → (first ≡ true → 1 ≤ length sections)
     → IsListed sections_reading sections_form k (state first areas) sections e
 sections_from zero true areas [] e is some = absurd (omega (arith, some refl))
 sections_from zero false areas [] e is some = paid_if_none areas is.asked
@@ -108,7 +121,8 @@ sections_from (suc k) first areas (section ∷ sections) e is some =
       (
         record { shaped = is.shaped.0; asked = suits_first areas k (log_has_area section.log) (has_area sections) (none_after sections k left) is.asked },
         sections_from k false (after areas (log_has_area section.log)) sections e
-            (record { most = left; shaped = is.shaped.1; asked = suits_others areas (log_has_area section.log) (has_area sections) is.asked }) (λ begun. absurd cc),
+            (record { most = left; shaped = is.shaped.1; asked = suits_others areas (log_has_area section.log) (has_area sections) is.asked })
+            (λ begun. absurd cc),
       ),
     )
 
@@ -118,7 +132,8 @@ sections_pieces x = flat_map section_pieces (x.0) ++ end_line
 sections_text : (sections : List Section) (e : Unit {0}) → list_pieces sections_form sections e ≡ flat_map section_pieces sections ++ end_line
 sections_text [] e = refl
 sections_text (section ∷ sections) e =
-    ap (λ (ps : List Piece). section_pieces section ++ ps) (sections_text sections e) ∙ sym (append_assoc (section_pieces section) (flat_map section_pieces sections) end_line)
+    ap (λ (ps : List Piece). section_pieces section ++ ps) (sections_text sections e)
+    ∙ sym (append_assoc (section_pieces section) (flat_map section_pieces sections) end_line)
 
 -- at least one section, and at most so many
 pub record AreAllSections (areas : Areas) (x : Listing Section (Unit {0})) : Type 0 where

@@ -11,9 +11,11 @@ use Rattle.tl_cert.specs.declared.certificate.Claim.TheVariants.{Lowest, Bounded
 use Rattle.tl_cert.specs.declared.certificate.Certificate.{Certificate}
 use Rattle.tl_base.specs.declared.limits.TheConstants.{MAX_PAGE_WIDTH, MAX_BUDGET, MAX_HEIGHT}
 use Rattle.tl_cert.specs.Pieces.{Piece, field, word, spell}
-use Rattle.tl_cert.specs.Text.{space, line_feed, version_word, style_word, claim_pieces, chain_pieces, section_pieces, cert_pieces, has_area, HasChains, HasSections, HasProof, IsShaped}
+use Rattle.tl_cert.specs.Text.{space, line_feed, version_word, style_word, claim_pieces, chain_pieces}
+use Rattle.tl_cert.specs.Text.{section_pieces, cert_pieces, has_area, HasChains, HasSections, HasProof, IsShaped}
 use Rattle.tl_cert.specs.inner.Areas.{Suits}
-use Rattle.tl_cert.specs.inner.CertReading.{version_at, style_at, lowest_at, bounded_at, narrow_at, other_claim_at, claim_at, areas_of, sections_at, proof_at, certificate_at}
+use Rattle.tl_cert.specs.inner.CertReading.{version_at, style_at, lowest_at, bounded_at, narrow_at}
+use Rattle.tl_cert.specs.inner.CertReading.{other_claim_at, claim_at, areas_of, sections_at, proof_at, certificate_at}
 use Rattle.tl_cert.specs.inner.reading.Readings.{◌>>=◌, give, begins}
 use Rattle.tl_cert.specs.inner.reading.Lists.{Listing, listing}
 use Rattle.tl_cert.proofs.reading.Exact.{Exact}
@@ -276,24 +278,47 @@ module _ (has : Bool) (width : ℕ) (style : Style) (budget : ℕ) where
   exact_by_sections : (claim : Claim) → ((c : Certificate) → HasProof claim c → HasSections c) → ((c : Certificate) → HasSections c → HasProof claim c)
       → Exact (sections_at (areas_of has) >>= λ x. give (made width style budget claim [] (x.0))) (Is5 claim) proof_pieces
   exact_by_sections claim to from =
-      exact_made (λ (x : Listing Section (Unit {0})). made width style budget claim [] (x.0)) (λ (c : Certificate). listing c.sections tt) (Is5 claim) proof_pieces (exact_sections (areas_of has))
+      exact_made (λ (x : Listing Section (Unit {0})). made width style budget claim [] (x.0)) (λ (c : Certificate). listing c.sections tt)
+      (Is5 claim) proof_pieces (exact_sections (areas_of has))
       (λ c is.
       let p = to c (shaped_as claim c is.1 is.0.0.0.0.0) in (
         record { sections = record { most = p.most; shaped = p.sections; asked = asked_for (has_area c.sections) is.0.0.0.0.1 }; some = p.some },
         head_again claim c is ∙ ap (λ (chains : List Chain). made width style budget claim chains c.sections) p.no_chain,
       ))
       (λ x is.
-      let c : Certificate = made width style budget claim [] (x.0) in
-      ((((((from c (record { some = is.some; most = is.sections.most; sections = is.sections.shaped; no_chain = refl }), asked_back has (has_area (x.0)) is.sections.asked), refl), refl), refl), refl), refl))
+      let c : Certificate = made width style budget claim [] (x.0) in (
+        (
+          (
+            (
+              (
+                (
+                  from c (record { some = is.some; most = is.sections.most; sections = is.sections.shaped; no_chain = refl }),
+                  asked_back has
+                      (has_area (x.0)) is.sections.asked,
+                ),
+                refl,
+              ),
+              refl,
+            ),
+            refl,
+          ),
+          refl,
+        ),
+        refl,
+      ))
 
   exact_proof : (claim : Claim) → Claims has claim → Exact (proof_at has width style budget claim) (Is5 claim) proof_pieces
   exact_proof (Lowest height) may = exact_by_sections (Lowest height) (λ c is. is) (λ c is. is)
   exact_proof (Bounded height lower) may = exact_by_sections (Bounded height lower) (λ c is. is) (λ c is. is)
   exact_proof (Narrow least) may =
-      exact_made (λ (x : Listing Chain (Unit {0})). made width style budget (Narrow least) (x.0) []) (λ (c : Certificate). listing c.chains tt) (Is5 (Narrow least)) proof_pieces exact_chains
+      exact_made (λ (x : Listing Chain (Unit {0})). made width style budget (Narrow least) (x.0) []) (λ (c : Certificate). listing c.chains tt)
+      (Is5 (Narrow least)) proof_pieces exact_chains
       (λ c is.
-      let p = shaped_as (Narrow least) c is.1 is.0.0.0.0.0 in
-      (record { some = p.some; each = p.entries }, head_again (Narrow least) c is ∙ ap (λ (sections : List Section). made width style budget (Narrow least) c.chains sections) p.no_section))
+      let p = shaped_as (Narrow least) c is.1 is.0.0.0.0.0 in (
+        record { some = p.some; each = p.entries },
+        head_again (Narrow least) c is
+            ∙ ap (λ (sections : List Section). made width style budget (Narrow least) c.chains sections) p.no_section,
+      ))
       (λ x is. ((((((record { some = is.some; entries = is.each; no_section = refl }, no_area has may), refl), refl), refl), refl), refl))
     where
       no_area : (has : Bool) → Claims has (Narrow least) → false ≡ has
@@ -332,11 +357,15 @@ unfolding certificate_at
 exact_certificate =
     exact_after (codes "tablelayout ") after_name cert_pieces
     (exact_part_then (λ (c : Certificate). has_area c.sections) IsShaped after_name (λ has c. after_version c) exact_version (λ has _.
-    exact_part_then (λ (c : Certificate). c.width) (λ c. IsShaped c × (has_area c.sections ≡ has)) after_version (λ width c. after_width c) (exact_field 1 MAX_PAGE_WIDTH space refl) (λ width _.
-    exact_part_then (λ (c : Certificate). c.style) (λ c. (IsShaped c × (has_area c.sections ≡ has)) × (c.width ≡ width)) after_width (λ style c. after_style c) exact_style (λ style _.
-    exact_part_then (λ (c : Certificate). c.budget) (λ c. ((IsShaped c × (has_area c.sections ≡ has)) × (c.width ≡ width)) × (c.style ≡ style)) after_style (λ budget c. claim_pieces c.claim ++ proof_pieces c)
+    exact_part_then (λ (c : Certificate). c.width) (λ c. IsShaped c × (has_area c.sections ≡ has)) after_version (λ width c. after_width c)
+    (exact_field 1 MAX_PAGE_WIDTH space refl) (λ width _.
+    exact_part_then (λ (c : Certificate). c.style) (λ c. (IsShaped c × (has_area c.sections ≡ has)) × (c.width ≡ width)) after_width
+    (λ style c. after_style c) exact_style (λ style _.
+    exact_part_then (λ (c : Certificate). c.budget) (λ c. ((IsShaped c × (has_area c.sections ≡ has)) × (c.width ≡ width)) × (c.style ≡ style)) after_style
+    (λ budget c. claim_pieces c.claim ++ proof_pieces c)
     (exact_field 0 MAX_BUDGET line_feed refl) (λ budget _.
-    exact_part_then (λ (c : Certificate). c.claim) (Is4 has width style budget) (λ c. claim_pieces c.claim ++ proof_pieces c) (λ claim c. proof_pieces c) (exact_claim has)
+    exact_part_then (λ (c : Certificate). c.claim) (Is4 has width style budget) (λ c. claim_pieces c.claim ++ proof_pieces c) (λ claim c. proof_pieces c)
+    (exact_claim has)
     (λ claim may. exact_proof has width style budget claim may)
     (λ c is. (let P : Bool → Type 0 = λ has. Claims has c.claim in subst P is.0.0.0.1 (claims_of c c.claim refl is.0.0.0.0), refl)))
     (λ c is. (tt, refl)))

@@ -143,7 +143,14 @@ more_turn true = go
 more_turn false = halt
 
 abbrev pub widths_reading : ListReading Bool (ℕ × Bool) ℕ (Unit {0})
-widths_reading = record { turn = λ k more. more_turn more; item = λ k more. width_at (nat_lt 0 k); next = λ more a. a.1; view = λ a. a.0; stop = λ more. give tt }
+widths_reading = record {
+  turn = λ k more. more_turn more;
+  item = λ k more. width_at (nat_lt 0 k);
+  next = λ more a. a.1;
+  view = λ a. a.0;
+  stop =
+      λ more. give tt;
+}
 
 abbrev pub some_widths_at : Reading (Listing ℕ (Unit {0}))
 some_widths_at = list_at widths_reading MAX_COLUMNS true
@@ -210,7 +217,14 @@ unfoldable pub entry_at : Bool → Reading (Entry × Bool)
 entry_at more = number_at 0 MAX_CELLS (λ n. true) (λ n c. c == 58 || ends_item more c) >>= λ x. inner_at more (x.0) (x.1)
 
 abbrev pub entries_reading : ListReading Bool (Entry × Bool) Entry (Unit {0})
-entries_reading = record { turn = λ k more. more_turn more; item = λ k more. entry_at (nat_lt 0 k); next = λ more a. a.1; view = λ a. a.0; stop = λ more. give tt }
+entries_reading = record {
+  turn = λ k more. more_turn more;
+  item = λ k more. entry_at (nat_lt 0 k);
+  next = λ more a. a.1;
+  view = λ a. a.0;
+  stop =
+      λ more. give tt;
+}
 
 abbrev pub entries_at : Reading (Listing Entry (Unit {0}))
 entries_at = all_at entries_reading true
@@ -225,7 +239,14 @@ chains_turn false = look (λ c. c == 99)
 
 -- the state is whether no chain was read yet
 abbrev pub chains_reading : ListReading Bool Chain Chain (Unit {0})
-chains_reading = record { turn = λ k first. chains_turn first; item = λ k first. chain_at; next = λ first chain. false; view = λ chain. chain; stop = λ first. word_at (codes "end\n") }
+chains_reading = record {
+  turn = λ k first. chains_turn first;
+  item = λ k first. chain_at;
+  next = λ first chain. false;
+  view = λ chain. chain;
+  stop =
+      λ first. word_at (codes "end\n");
+}
 
 abbrev pub chains_at : Reading (Listing Chain (Unit {0}))
 chains_at = all_at chains_reading true
@@ -243,7 +264,8 @@ abbrev pub lowest_at : Reading Claim
 lowest_at = word_at (codes "lowest ") >>= λ _. (field_at 0 MAX_HEIGHT line_feed >>= λ height. give (Lowest height))
 
 abbrev pub bounded_at : Reading Claim
-bounded_at = word_at (codes "bounded ") >>= λ _. (field_at 0 MAX_HEIGHT space >>= λ height. (field_at 0 MAX_HEIGHT line_feed >>= λ lower. give (Bounded height lower)))
+bounded_at = word_at (codes "bounded ") >>= λ _. (field_at 0 MAX_HEIGHT space >>= λ height.
+    (field_at 0 MAX_HEIGHT line_feed >>= λ lower. give (Bounded height lower)))
 
 abbrev pub narrow_at : Reading Claim
 narrow_at = word_at (codes "narrow ") >>= λ _. (field_at 0 MAX_HEIGHT line_feed >>= λ least. give (Narrow least))
@@ -262,9 +284,11 @@ areas_of false = Never
 
 abbrev pub proof_at : Bool → ℕ → Style → ℕ → Claim → Reading Certificate
 proof_at has_area width style budget (Lowest height) =
-    sections_at (areas_of has_area) >>= λ sections. give (record { width = width; style = style; budget = budget; claim = Lowest height; chains = []; sections = sections.0 })
+    sections_at (areas_of has_area) >>= λ sections. give
+    (record { width = width; style = style; budget = budget; claim = Lowest height; chains = []; sections = sections.0 })
 proof_at has_area width style budget (Bounded height lower) =
-    sections_at (areas_of has_area) >>= λ sections. give (record { width = width; style = style; budget = budget; claim = Bounded height lower; chains = []; sections = sections.0 })
+    sections_at (areas_of has_area) >>= λ sections. give
+    (record { width = width; style = style; budget = budget; claim = Bounded height lower; chains = []; sections = sections.0 })
 proof_at has_area width style budget (Narrow least) =
     chains_at >>= λ chains. give (record { width = width; style = style; budget = budget; claim = Narrow least; chains = chains.0; sections = [] })
 

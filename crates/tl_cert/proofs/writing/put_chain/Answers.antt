@@ -13,7 +13,8 @@ returns c =
     let chain = c.args.chain.now in
     let entries : List ℕ = spell (flat_map (λ (entry : Entry). character space ∷ entry_pieces entry) chain.entries) in
     let put : c.put_entries.new.out ≡ c.put_number.new.out ++ entries =
-    c.in_ok-put_entries.ensures ∙ ap (λ (list : List Entry). c.put_number.new.out ++ spell (flat_map (λ (entry : Entry). character space ∷ entry_pieces entry) list)) c.as_slice-entries.ensures in
+    c.in_ok-put_entries.ensures ∙ ap (λ (list : List Entry). c.put_number.new.out
+    ++ spell (flat_map (λ (entry : Entry). character space ∷ entry_pieces entry) list)) c.as_slice-entries.ensures in
     let number : c.put_number.new.out ≡ c.extend_from_slice.new.self ++ numeral chain.table =
     c.in_ok-put_number.ensures ∙ ap (λ (n : ℕ). c.extend_from_slice.new.self ++ numeral n) c.from.ensures in
     twice out c.extend_from_slice.new.self c.push.new.self (codes "chain ") (numeral chain.table ++ (entries ++ (10 ∷ []))) c.in_ok-extend_from_slice.ensures.ok

@@ -21,7 +21,8 @@ returns c =
     let put_s : c.put_sections.new.out ≡ c.put_chains.new.out ++ sections =
     c.in_ok-put_sections.ensures ∙ ap (λ (list : List Section). c.put_chains.new.out ++ spell (flat_map section_pieces list)) c.as_slice-sections.ensures in
     let end = c.extend_from_slice.new.self in
-    twice [] c.put_head.new.out end head (claim ++ (chains ++ (sections ++ codes "end\n"))) (c.in_ok-put_head.ensures ∙ ap (λ (t : List ℕ). t ++ head) c.new-out.ensures)
+    twice [] c.put_head.new.out end head (claim ++ (chains ++ (sections ++ codes "end\n")))
+    (c.in_ok-put_head.ensures ∙ ap (λ (t : List ℕ). t ++ head) c.new-out.ensures)
     (twice c.put_head.new.out c.put_claim.new.out end claim (chains ++ (sections ++ codes "end\n")) c.in_ok-put_claim.ensures
     (twice c.put_claim.new.out c.put_chains.new.out end chains (sections ++ codes "end\n") put_c
     (twice c.put_chains.new.out c.put_sections.new.out end sections (codes "end\n") put_s c.in_ok-extend_from_slice.ensures.ok)))

@@ -24,8 +24,10 @@ bounds-init c =
     let new-is : c.push.new.self ≡ [] ++ bound ∷ [] = c.in_ok-push.ensures.ok ∙ ap (λ (bounds : List Bound). bounds ++ bound ∷ []) c.new-bounds.ensures in
     let grown : length c.push.new.self ≡ 1 = ap length new-is in
     record {
-      whole = pushed_on reading [] c.push.new.self MAX_BOUNDS (MAX_BOUNDS - length c.push.new.self) None (Some bound) c.args.self.now.rest.now bound bound c.bound.new.self.rest.now
-          (bounds_at c.args.areas c.args.self.now.rest.now) new-is refl refl (omega (arith, grown)) refl c.in_ok-before.ensures.gives (starts reading MAX_BOUNDS None c.args.self.now.rest.now);
+      whole = pushed_on reading [] c.push.new.self MAX_BOUNDS (MAX_BOUNDS - length c.push.new.self) None
+          (Some bound) c.args.self.now.rest.now bound bound c.bound.new.self.rest.now
+          (bounds_at c.args.areas c.args.self.now.rest.now) new-is refl refl (omega (arith, grown)) refl c.in_ok-before.ensures.gives
+          (starts reading MAX_BOUNDS None c.args.self.now.rest.now);
       room = omega (arith, grown);
       last = c.in_ok-before.ensures.most;
     }
@@ -34,7 +36,8 @@ pub returns-in_err-bound : goal.returns-in_err-bound
 returns-in_err-bound c =
     let p = err_from_is_err_and c.from_residual-in_err-bound.result c.from_residual-in_err-bound.ensures.1 in
     let front = c.bounds.bounds in
-    rw (p.1, p.2) (fails_on (bounds_reading c.args.areas) c.in_err-bound.field-0.0 front (MAX_BOUNDS - length front) (MAX_BOUNDS - 1 - length front) (Some c.bounds.before) c.bounds.self.rest.now
+    rw (p.1, p.2) (fails_on (bounds_reading c.args.areas) c.in_err-bound.field-0.0 front (MAX_BOUNDS - length front) (MAX_BOUNDS - 1 - length front)
+    (Some c.bounds.before) c.bounds.self.rest.now
     (bounds_at c.args.areas c.args.self.now.rest.now) (omega arith) (cc) c.in_err-bound.ensures.gives c.bounds.invariant.whole)
 
 pub bounds-preserved : goal.bounds-preserved
@@ -44,8 +47,10 @@ bounds-preserved c =
     let new = c.push-in-bounds.new.self in
     let grown : length new ≡ length front + 1 = ap length c.in_ok-push-2.ensures.ok ∙ length_push front bound in
     record {
-      whole = pushed_on (bounds_reading c.args.areas) front new (MAX_BOUNDS - length front) (MAX_BOUNDS - length new) (Some c.bounds.before) (Some bound) c.bounds.self.rest.now bound bound
-          c.bound-in-bounds.new.self.rest.now (bounds_at c.args.areas c.args.self.now.rest.now) c.in_ok-push-2.ensures.ok refl refl (omega (arith, grown)) (cc) c.in_ok-bound.ensures.gives c.bounds.invariant.whole;
+      whole = pushed_on (bounds_reading c.args.areas) front new (MAX_BOUNDS - length front) (MAX_BOUNDS - length new) (Some c.bounds.before)
+          (Some bound) c.bounds.self.rest.now bound bound
+          c.bound-in-bounds.new.self.rest.now (bounds_at c.args.areas c.args.self.now.rest.now) c.in_ok-push-2.ensures.ok refl refl (omega (arith, grown))
+          (cc) c.in_ok-bound.ensures.gives c.bounds.invariant.whole;
       room = omega (arith, grown);
       last = c.in_ok-bound.ensures.most;
     }

@@ -36,11 +36,13 @@ returns-in_err-word c =
     let text = c.chains.self.rest.now in
     let room = suc (length text) in
     let stop : Stops chains_reading room c.chains.first text = stops_by chains_reading room c.chains.first text (λ j is. cc) in
-    rw (p.1, p.2) (fails_at chains_reading c.in_err-word.field-0.0 c.chains.chains room c.chains.first text (chains_at c.args.self.now.rest.now) stop c.in_err-word.ensures c.chains.invariant)
+    rw (p.1, p.2) (fails_at chains_reading c.in_err-word.field-0.0 c.chains.chains room c.chains.first text
+    (chains_at c.args.self.now.rest.now) stop c.in_err-word.ensures c.chains.invariant)
 
 pub returns : goal.returns
 returns c =
     let text = c.chains.self.rest.now in
     let room = suc (length text) in
     let stop : Stops chains_reading room c.chains.first text = stops_by chains_reading room c.chains.first text (λ j is. cc) in
-    stops_at chains_reading c.chains.chains room c.chains.first text tt c.word.new.self.rest.now (chains_at c.args.self.now.rest.now) stop c.in_ok-word.ensures c.chains.invariant
+    stops_at chains_reading c.chains.chains room c.chains.first text tt c.word.new.self.rest.now
+    (chains_at c.args.self.now.rest.now) stop c.in_ok-word.ensures c.chains.invariant

@@ -22,7 +22,8 @@ returns-in_err-entry c =
     let text = c.entries.self.rest.now in
     let come : comes (more_turn c.entries.more) text ≡ true = ap (λ more. comes (more_turn more) text) c.entries-test.true in
     let P : Answer (Entry × Bool) → Type 0 = Fails c.in_err-entry.field-0.0 in
-    let failed : Fails c.in_err-entry.field-0.0 (entry_at (ltb 0 (length text)) text) = subst P (sym (entry_same (length text) text (omega arith))) c.in_err-entry.ensures in
+    let failed : Fails c.in_err-entry.field-0.0 (entry_at (ltb 0 (length text)) text) =
+    subst P (sym (entry_same (length text) text (omega arith))) c.in_err-entry.ensures in
     rw (p.1, p.2) (fails_on entries_reading c.in_err-entry.field-0.0 c.entries.entries (suc (length text)) (length text) c.entries.more text
     (entries_at c.args.self.now.rest.now) refl come failed c.entries.invariant)
 
@@ -42,12 +43,14 @@ pub entries-smaller : goal.entries-smaller
 entries-smaller c =
     let text = c.entries.self.rest.now in
     let a : Entry × Bool = pair c.in_ok-entry.entry c.in_ok-entry.follows in
-    entries_unlimited.shorter (length text) c.entries.more text a c.entry.new.self.rest.now (entry_same (length text) text (omega arith) ∙ c.in_ok-entry.ensures)
+    entries_unlimited.shorter (length text) c.entries.more text a c.entry.new.self.rest.now
+    (entry_same (length text) text (omega arith) ∙ c.in_ok-entry.ensures)
 
 pub returns : goal.returns
 unfolding give
 returns c =
     let text = c.entries.self.rest.now in
     let room = suc (length text) in
-    let stop : Stops entries_reading room c.entries.more text = stops_by entries_reading room c.entries.more text (λ j is. ap (λ more. comes (more_turn more) text) c.entries-test.false) in
+    let stop : Stops entries_reading room c.entries.more text = stops_by entries_reading room c.entries.more text
+    (λ j is. ap (λ more. comes (more_turn more) text) c.entries-test.false) in
     stops_at entries_reading c.entries.entries room c.entries.more text tt text (entries_at c.args.self.now.rest.now) stop refl c.entries.invariant

@@ -24,11 +24,14 @@ lines-preserved c =
     let asked : for_part k c.lines.asked ≡ c.for_part.result = ap (λ (j : ℕ). for_part j c.lines.asked) (omega arith) ∙ sym c.for_part.ensures in
     pushed_on lines_reading c.lines.lines c.push.new.self (c.args.count - c.lines.number) k c.lines.asked c.after-asked.result c.lines.self.rest.now
     line line c.line.new.self.rest.now (lines_at c.args.count c.args.areas c.args.self.now.rest.now) c.in_ok-push.ensures.ok refl
-    (sym (c.after-asked.ensures ∙ ap (after c.lines.asked) c.is_area.ensures)) (omega arith) refl (ap (λ (areas : Areas). line_at areas c.lines.self.rest.now) asked ∙ c.in_ok-line.ensures) c.lines.invariant
+    (sym (c.after-asked.ensures ∙ ap (after c.lines.asked) c.is_area.ensures)) (omega arith) refl
+    (ap (λ (areas : Areas). line_at areas c.lines.self.rest.now) asked ∙ c.in_ok-line.ensures) c.lines.invariant
 
 pub returns : goal.returns
 unfolding give
 returns c =
     let room = c.args.count - c.lines.number in
-    let stop : Stops lines_reading room c.lines.asked c.lines.self.rest.now = stops_by lines_reading room c.lines.asked c.lines.self.rest.now (λ j is. absurd (omega arith)) in
-    stops_at lines_reading c.lines.lines room c.lines.asked c.lines.self.rest.now tt c.lines.self.rest.now (lines_at c.args.count c.args.areas c.args.self.now.rest.now) stop refl c.lines.invariant
+    let stop : Stops lines_reading room c.lines.asked c.lines.self.rest.now = stops_by lines_reading room c.lines.asked c.lines.self.rest.now
+    (λ j is. absurd (omega arith)) in
+    stops_at lines_reading c.lines.lines room c.lines.asked c.lines.self.rest.now tt c.lines.self.rest.now
+    (lines_at c.args.count c.args.areas c.args.self.now.rest.now) stop refl c.lines.invariant

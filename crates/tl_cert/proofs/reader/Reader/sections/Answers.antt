@@ -21,7 +21,8 @@ returns-in_err-section c =
     let k = MAX_SECTIONS - 1 - c.len-in-sections.result in
     let asked : for_part k c.sections.asked ≡ c.for_part.result = sym c.for_part.ensures in
     let failed : Fails c.in_err-section.field-0.0 (section_at (for_part k c.sections.asked) c.sections.self.rest.now) = rw asked c.in_err-section.ensures in
-    rw (p.1, p.2) (fails_on sections_reading c.in_err-section.field-0.0 front (MAX_SECTIONS - length front) k (state c.sections.first c.sections.asked) c.sections.self.rest.now
+    rw (p.1, p.2) (fails_on sections_reading c.in_err-section.field-0.0 front (MAX_SECTIONS - length front) k
+    (state c.sections.first c.sections.asked) c.sections.self.rest.now
     (sections_at c.args.areas c.args.self.now.rest.now) (omega arith) (cc) failed c.sections.invariant.whole)
 
 pub sections-preserved : goal.sections-preserved
@@ -33,9 +34,11 @@ sections-preserved c =
     let asked : for_part k c.sections.asked ≡ c.for_part.result = ap (λ (j : ℕ). for_part j c.sections.asked) (omega (arith, grown)) ∙ sym c.for_part.ensures in
     let next : state false (after c.sections.asked c.has_area.result) ≡ state false c.after-asked.result = ap (state false) (sym c.after-asked.ensures) in
     record {
-      whole = pushed_on sections_reading front c.push.new.self (MAX_SECTIONS - length front) k (state c.sections.first c.sections.asked) (state false c.after-asked.result) c.sections.self.rest.now
+      whole = pushed_on sections_reading front c.push.new.self (MAX_SECTIONS - length front) k (state c.sections.first c.sections.asked)
+          (state false c.after-asked.result) c.sections.self.rest.now
           section section c.section.new.self.rest.now (sections_at c.args.areas c.args.self.now.rest.now) c.in_ok-push.ensures.ok refl
-          (ap (λ (has : Bool). state false (after c.sections.asked has)) (ap log_has_area (sym c.as_slice.ensures) ∙ sym c.has_area.ensures) ∙ next) (omega (arith, grown)) (cc)
+          (ap (λ (has : Bool). state false (after c.sections.asked has)) (ap log_has_area (sym c.as_slice.ensures) ∙ sym c.has_area.ensures) ∙ next)
+          (omega (arith, grown)) (cc)
           (ap (λ (areas : Areas). section_at areas c.sections.self.rest.now) asked ∙ c.in_ok-section.ensures) c.sections.invariant.whole;
       room = omega (arith, grown);
     }

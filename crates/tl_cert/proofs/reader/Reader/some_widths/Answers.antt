@@ -14,7 +14,8 @@ returns-in_err-width c =
     let p = err_from_is_err_and c.from_residual.result c.from_residual.ensures.1 in
     let front = c.widths.widths in
     let come : comes (more_turn c.widths.more) c.widths.self.rest.now ≡ true = ap (λ more. comes (more_turn more) c.widths.self.rest.now) c.widths-test.true in
-    rw (p.1, p.2) (fails_on widths_reading c.in_err-width.field-0.0 front (MAX_COLUMNS - length front) (MAX_COLUMNS - 1 - c.len-in-widths.result) c.widths.more c.widths.self.rest.now
+    rw (p.1, p.2) (fails_on widths_reading c.in_err-width.field-0.0 front (MAX_COLUMNS - length front)
+    (MAX_COLUMNS - 1 - c.len-in-widths.result) c.widths.more c.widths.self.rest.now
     (some_widths_at c.args.self.now.rest.now) (omega arith) come c.in_err-width.ensures c.widths.invariant.whole)
 
 pub widths-preserved : goal.widths-preserved
@@ -24,8 +25,10 @@ widths-preserved c =
     let come : comes (more_turn c.widths.more) c.widths.self.rest.now ≡ true = ap (λ more. comes (more_turn more) c.widths.self.rest.now) c.widths-test.true in
     let k : MAX_COLUMNS - length c.push.new.self ≡ MAX_COLUMNS - 1 - c.len-in-widths.result = omega (arith, grown) in
     record {
-      whole = pushed_on widths_reading front c.push.new.self (MAX_COLUMNS - length front) (MAX_COLUMNS - length c.push.new.self) c.widths.more c.in_ok-width.follows c.widths.self.rest.now
-          (c.in_ok-width.width, c.in_ok-width.follows) c.in_ok-width.width c.width.new.self.rest.now (some_widths_at c.args.self.now.rest.now) c.in_ok-push.ensures.ok refl refl (omega (arith, grown)) come
+      whole = pushed_on widths_reading front c.push.new.self (MAX_COLUMNS - length front)
+          (MAX_COLUMNS - length c.push.new.self) c.widths.more c.in_ok-width.follows c.widths.self.rest.now
+          (c.in_ok-width.width, c.in_ok-width.follows) c.in_ok-width.width c.width.new.self.rest.now
+          (some_widths_at c.args.self.now.rest.now) c.in_ok-push.ensures.ok refl refl (omega (arith, grown)) come
           (ap (λ (j : ℕ). width_at (nat_lt 0 j) c.widths.self.rest.now) k ∙ c.in_ok-width.ensures) c.widths.invariant.whole;
       room = omega (arith, grown);
     }
@@ -40,4 +43,5 @@ returns c =
       | then-widths-test+else-len-lt-MAX_COLUMNS w ↦ absurd (omega arith)
       | else-widths-test w ↦ ap (λ more. comes (more_turn more) c.widths.self.rest.now) w.widths-test.false
     ]) in
-    stops_at widths_reading front room c.widths.more c.widths.self.rest.now tt c.widths.self.rest.now (some_widths_at c.args.self.now.rest.now) stop refl c.widths.invariant.whole
+    stops_at widths_reading front room c.widths.more c.widths.self.rest.now tt c.widths.self.rest.now
+    (some_widths_at c.args.self.now.rest.now) stop refl c.widths.invariant.whole
