@@ -3,7 +3,7 @@ use Rattle.std.proofs.Common.{◌≡◌, ◌∙◌, ℕ, zero, suc, ◌<◌, Opt
 use Rattle.std.specs.List.{AllByRecursion, AllZip, flat_map}
 use Rattle.std.proofs.Math.Seq.{drop-cons}
 use Rattle.std.proofs.lemmas.Grind.{flat_map-append}
-use Rattle.std.proofs.lemmas.List.{take-append-drop}
+use Rattle.std.proofs.lemmas.List.{append-nil, take-append-drop}
 use Rattle.std.proofs.lemmas.List.Concat.{flat_map-cons}
 use Rattle.tl_base.specs.Returned.{IsMemoryOr, ReturnsError}
 use Rattle.tl_base.specs.declared.breaking.Breaking.{Breaking}
@@ -183,13 +183,9 @@ refused_cells node grid breaking cols caption memory error has captioned refused
     let gridded = caption_gridded (Becomes breaking) (becomes_gridded breaking) breaking cols (out-TableNode node).caption caption captioned in
     refused_or (AreRefused below) (IsRefused node) memory error
     (λ e one. subst (λ tables. AreRefused tables e)
-    (ap (λ tables. own ∷ (above ++ tables)) (append_nil below) ∙ sym (tables_of-out node))
+    (ap (λ tables. own ∷ (above ++ tables)) (append-nil below) ∙ sym (tables_of-out node))
     (refused_among (own ∷ above) below [] e ((grid, has), gridded) one))
     refused
-  where
-    append_nil : {X : Type 0} (xs : List X) → xs ++ [] ≡ xs
-    append_nil [] = refl
-    append_nil (x ∷ xs) = ap (λ rest. x ∷ rest) (append_nil xs)
 
 -- ---- each error comes where its cause is so
 

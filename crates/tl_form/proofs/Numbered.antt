@@ -2,6 +2,7 @@
 use Rattle.std.proofs.Common.{◌≡◌, ◌∙◌, ℕ, zero, suc, ◌+◌, ◌<◌, ◌≤◌, Option, Some, None, List, [], ◌∷◌, ◌++◌, ◌⊎◌, inl, inr, length, Contains, refl, sym, ap, subst, append_assoc, arith, length-append}
 use Rattle.std.specs.List.{All, AllByRecursion, flat_map}
 use Rattle.std.proofs.lemmas.Grind.{flat_map-append}
+use Rattle.std.proofs.lemmas.List.{append-nil}
 use Rattle.tl_base.proofs.Members.{Contains-cases}
 use Rattle.tl_grid.specs.declared.error.GridError.{GridError}
 use Rattle.tl_tree.specs.Outline.{Entry, Entries, table, caption, columns, group, row, cell, paragraph, table_end, block_outline, outline}
@@ -119,11 +120,7 @@ numbered (suc n) node k rest few is =
 tables_numbered : (node : TableNode) → IsSoundTree node → AreNumbered 0 (tables_of node)
 tables_numbered node sound =
     (numbered (table_count (outline node)) node 0 [] (omega arith)
-    (subst (IsNumberedFrom 0) (sym (append_nothing (tables_alone (outline node)))) (alone-numbered 0 (outline node) sound.numbered))).0
-  where
-    append_nothing : (es : Entries) → es ++ [] ≡ es
-    append_nothing [] = refl
-    append_nothing (e ∷ es) = ap (λ (rest : Entries). e ∷ rest) (append_nothing es)
+    (subst (IsNumberedFrom 0) (sym (append-nil (tables_alone (outline node)))) (alone-numbered 0 (outline node) sound.numbered))).0
 
 -- of tables in the order of their numbers, those before one have lesser numbers
 before_by_number : (k : ℕ) (before : List NumberedShape) (one : NumberedShape) (after : List NumberedShape) → AreNumbered k (before ++ one ∷ after) →

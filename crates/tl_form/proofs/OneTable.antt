@@ -40,6 +40,7 @@ use Rattle.tl_form.specs.Same.{AreSameContent, AreSameCell, AreSameBy, AreSameWi
 use Rattle.tl_form.specs.Sound.{ComesBefore, place_of}
 use Rattle.tl_form.proofs.Gridless.{becomes_gridded, not_among}
 use Rattle.tl_form.proofs.SoundParts.{each_joined}
+use Rattle.tl_form.proofs.Writing.{joined_zip, zip_length}
 
 -- ---- items that belong together, in another order of each list
 
@@ -49,12 +50,6 @@ zip_of R [] [] long each = tt
 zip_of R [] (y ∷ ys) long each = absurd (omega arith)
 zip_of R (x ∷ xs) [] long each = absurd (omega arith)
 zip_of R (x ∷ xs) (y ∷ ys) long each = (each 0 x y (omega arith), zip_of R xs ys (omega arith) (λ i d e within. each (suc i) d e (omega arith)))
-
-zip_long : {A B : Type 0} (R : A → B → Type 0) (xs : List A) (ys : List B) → AllZip R xs ys → length xs ≡ length ys
-zip_long R [] [] all = refl
-zip_long R [] (y ∷ ys) all = absurd all
-zip_long R (x ∷ xs) [] all = absurd all
-zip_long R (x ∷ xs) (y ∷ ys) all = let rest = zip_long R xs ys all.1 in omega arith
 
 before_once : (p q : Place) → ComesBefore p q → ComesBefore q p → ⊥
 before_once p q (inl one) (inl other) = omega arith
@@ -103,7 +98,7 @@ module _ (R : TableCell → TableCell → Type 0) (placed : (x y : TableCell) �
           let k = found.0 in
           let y = get_or ys k e in
           let one : R u y = subst (λ x. R x y) found.2 (AllZip-get_or R xs ys k u e all found.1) in
-          let many = zip_long R xs ys all in
+          let many = zip_length R xs ys all in
           let has = Contains-permutation ys vs y second (k, omega (arith, found.1), get_same ys k y e (omega (arith, found.1))) in
           let j = has.0 in
           let at : get_or (map place_of vs) j (place_of e) ≡ get_or (map place_of vs) i (place_of e) =
@@ -202,12 +197,6 @@ module _ (same : TableNode → TableNode → Type 0) (some other : TableNode →
         (subst (λ (none : List TableCell). AllZip (λ a b. AreSameCell twins (out-TableCell a) (out-TableCell b)) [] none) (sym second.1) tt),
   )
 
-zip_joined : {A B : Type 0} (R : A → B → Type 0) (xs zs : List A) (ys ws : List B) → AllZip R xs ys → AllZip R zs ws → AllZip R (xs ++ zs) (ys ++ ws)
-zip_joined R [] zs [] ws first second = second
-zip_joined R [] zs (y ∷ ys) ws first second = absurd first
-zip_joined R (x ∷ xs) zs [] ws first second = absurd first
-zip_joined R (x ∷ xs) zs (y ∷ ys) ws first second = (first.0, zip_joined R xs zs ys ws first.1 second)
-
 -- ---- the shapes and cells of the same trees
 
 module _ (same : TableNode → TableNode → Type 0) where
@@ -248,7 +237,7 @@ module _ (same : TableNode → TableNode → Type 0) where
   row_cells_same [] (y ∷ ys) is = absurd is
   row_cells_same (x ∷ xs) [] is = absurd is
   row_cells_same (x ∷ xs) (y ∷ ys) is =
-      zip_joined (λ c d. AreSameNode same (out-CellNode c) (out-CellNode d)) x (flat_map (λ (row : List CellNode). row) xs) y
+      joined_zip (λ c d. AreSameNode same (out-CellNode c) (out-CellNode d)) x (flat_map (λ (row : List CellNode). row) xs) y
       (flat_map (λ (row : List CellNode). row) ys) is.0 (row_cells_same xs ys is.1)
 
   group_cells_same : (xs ys : List GroupNode) → AllZip (λ g h. AreSameGroup same (out-GroupNode g) (out-GroupNode h)) xs ys →
@@ -257,7 +246,7 @@ module _ (same : TableNode → TableNode → Type 0) where
   group_cells_same [] (y ∷ ys) is = absurd is
   group_cells_same (x ∷ xs) [] is = absurd is
   group_cells_same (x ∷ xs) (y ∷ ys) is =
-      zip_joined (λ c d. AreSameNode same (out-CellNode c) (out-CellNode d)) (cells_of_group (out-GroupNode x))
+      joined_zip (λ c d. AreSameNode same (out-CellNode c) (out-CellNode d)) (cells_of_group (out-GroupNode x))
       (flat_map (λ g. cells_of_group (out-GroupNode g)) xs) (cells_of_group (out-GroupNode y)) (flat_map (λ g. cells_of_group (out-GroupNode g)) ys)
       (row_cells_same (out-GroupNode x).rows (out-GroupNode y).rows is.0.rows) (group_cells_same xs ys is.1)
 
@@ -284,7 +273,7 @@ module _ (same : TableNode → TableNode → Type 0) (some other : TableNode →
     rows = first.rows ∙ ap (λ n. n + caption_rows a.caption) (ap (λ (g : Grid). g.rows) grids) ∙ ap (λ n. second.grid.rows + n) downs ∙ sym second.rows;
     cells = zip_sorted (λ c d. AreSameCell twins (out-TableCell c) (out-TableCell d)) (λ c d one. one.place) (first.caption ++ first.written)
         (second.caption ++ second.written) s.cells t.cells
-        (zip_joined (λ c d. AreSameCell twins (out-TableCell c) (out-TableCell d)) first.caption first.written second.caption second.written
+        (joined_zip (λ c d. AreSameCell twins (out-TableCell c) (out-TableCell d)) first.caption first.written second.caption second.written
         (caption_twins same some other twins each breaking s.cols t.cols a.caption b.caption first.caption second.caption cols is.caption first.captioned
         second.captioned)
         (cells_twins same some other twins each breaking (cells_written a) (cells_written b) first.written second.written

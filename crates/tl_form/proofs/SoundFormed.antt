@@ -3,6 +3,7 @@ use Rattle.std.proofs.Common.{◌≡◌, ◌∙◌, ℕ, zero, suc, ◌+◌, ◌
 use Rattle.std.specs.List.{All, AllByRecursion, AllZip, Any, flat_map}
 use Rattle.std.specs.List.Sorted.{IsPermutation}
 use Rattle.std.proofs.lemmas.Grind.{flat_map-append}
+use Rattle.std.proofs.lemmas.List.{append-nil}
 use Rattle.std.proofs.lemmas.List.Concat.{flat_map-cons}
 use Rattle.std.proofs.lemmas.List.Elements.{All-from_recursion, recursion_from_All}
 use Rattle.std.proofs.lemmas.List.Sorted.{All-permutation, Contains-permutation, sum_by-IsPermutation, IsPermutation-map}
@@ -37,6 +38,7 @@ use Rattle.tl_form.proofs.SoundParts.{each_joined, append_each}
 use Rattle.tl_form.proofs.Laid.{AreLaid, cells_laid}
 use Rattle.tl_form.proofs.Orders.{apart_moved}
 use Rattle.tl_form.proofs.UnitSizes.{broken_size}
+use Rattle.tl_form.proofs.Writing.{joined_zip}
 
 -- ---- entries without those that begin and end no table
 
@@ -173,12 +175,6 @@ tables_of_cells (one ∷ cells) =
 
 -- ---- blocks and contents that belong together, over all cells
 
-zip_append : {A B : Type 0} (R : A → B → Type 0) (xs zs : List A) (ys ws : List B) → AllZip R xs ys → AllZip R zs ws → AllZip R (xs ++ zs) (ys ++ ws)
-zip_append R [] zs [] ws first second = second
-zip_append R [] zs (y ∷ ys) ws first second = absurd first
-zip_append R (x ∷ xs) zs [] ws first second = absurd first
-zip_append R (x ∷ xs) zs (y ∷ ys) ws first second = (first.0, zip_append R xs zs ys ws first.1 second)
-
 module _ (forms : TableNode → Table → Type 0) (breaking : Breaking) where
   abbrev one_becomes : Block → Content → Type 0
   one_becomes block content = BecomesContent forms breaking (out-Block block) (out-Content content)
@@ -189,7 +185,7 @@ module _ (forms : TableNode → Table → Type 0) (breaking : Breaking) where
   zip_cells [] (one ∷ cells) become = absurd become
   zip_cells (node ∷ nodes) [] become = absurd become
   zip_cells (node ∷ nodes) (one ∷ cells) become =
-      zip_append one_becomes (flow_of node) (flat_map flow_of nodes) (out-TableCell one).blocks (contents_of cells) become.0.blocks
+      joined_zip one_becomes (flow_of node) (flat_map flow_of nodes) (out-TableCell one).blocks (contents_of cells) become.0.blocks
       (zip_cells nodes cells become.1)
 
   zip_caption : (cols : ℕ) (flow : Option (List Block)) (cells : List TableCell) → BecomeCaption forms breaking cols flow cells →
@@ -198,18 +194,14 @@ module _ (forms : TableNode → Table → Type 0) (breaking : Breaking) where
   zip_caption cols (Some flow) [] become = absurd become
   zip_caption cols (Some flow) (one ∷ cells) become =
       subst (λ (none : List TableCell). BecomeContents forms breaking flow ((out-TableCell one).blocks ++ contents_of none)) (sym become.1)
-      (subst (λ (blocks : List Content). BecomeContents forms breaking flow blocks) (sym (append_none (out-TableCell one).blocks)) become.0.blocks)
-    where
-      append_none : (blocks : List Content) → blocks ++ [] ≡ blocks
-      append_none [] = refl
-      append_none (block ∷ blocks) = ap (λ (rest : List Content). block ∷ rest) (append_none blocks)
+      (subst (λ (blocks : List Content). BecomeContents forms breaking flow blocks) (sym (append-nil (out-TableCell one).blocks)) become.0.blocks)
 
   -- all blocks of a table
   zip_table : (node : OpenNode) (made : OpenTable) (becomes : BecomesBy forms breaking node made) →
       BecomeContents forms breaking (blocks_of node) (contents_of (becomes.caption ++ becomes.written))
   zip_table node made becomes =
       subst (BecomeContents forms breaking (blocks_of node)) (sym (flat_map-append (λ one. (out-TableCell one).blocks) becomes.caption becomes.written))
-      (zip_append one_becomes (captured node.caption) (flat_map flow_of (cells_written node)) (contents_of becomes.caption) (contents_of becomes.written)
+      (joined_zip one_becomes (captured node.caption) (flat_map flow_of (cells_written node)) (contents_of becomes.caption) (contents_of becomes.written)
       (zip_caption made.cols node.caption becomes.caption becomes.captioned) (zip_cells (cells_written node) becomes.written becomes.cells))
 
 -- ---- depth
@@ -236,22 +228,18 @@ narrow_caption forms breaking cols (Some flow) [] become = absurd become
 narrow_caption forms breaking cols (Some flow) (one ∷ cells) become =
     (omega (arith, become.0.least), subst (AllByRecursion (λ each. (out-TableCell each).least ≤ MAX_PAGE_WIDTH)) (sym become.1) tt)
 
-append_all : {X : Type 0} (P : X → Type 0) (xs ys : List X) → AllByRecursion P xs → AllByRecursion P ys → AllByRecursion P (xs ++ ys)
-append_all P [] ys first second = second
-append_all P (x ∷ xs) ys first second = (first.0, append_all P xs ys first.1 second)
-
 -- the outline of a table's cells is sound where the table's is
 flat_rows : (rows : List (List CellNode)) → AllByRecursion (λ cells. AreSound (cells_outline cells)) rows →
     AllByRecursion (λ node. AreSound (cell_outline node)) (flat_map (λ (cells : List CellNode). cells) rows)
 flat_rows [] sound = tt
 flat_rows (cells ∷ rows) sound =
-    append_all (λ node. AreSound (cell_outline node)) cells (flat_map (λ (each : List CellNode). each) rows) (sound_each cell_outline cells sound.0) (flat_rows rows sound.1)
+    append_each (λ node. AreSound (cell_outline node)) cells (flat_map (λ (each : List CellNode). each) rows) (sound_each cell_outline cells sound.0) (flat_rows rows sound.1)
 
 flat_groups : (groups : List GroupNode) → AllByRecursion (λ g. AreSound (group_outline g)) groups →
     AllByRecursion (λ node. AreSound (cell_outline node)) (flat_map (λ g. cells_of_group (out-GroupNode g)) groups)
 flat_groups [] sound = tt
 flat_groups (g ∷ groups) sound =
-    append_all (λ node. AreSound (cell_outline node)) (cells_of_group (out-GroupNode g)) (flat_map (λ each. cells_of_group (out-GroupNode each)) groups)
+    append_each (λ node. AreSound (cell_outline node)) (cells_of_group (out-GroupNode g)) (flat_map (λ each. cells_of_group (out-GroupNode each)) groups)
     (flat_rows (out-GroupNode g).rows (group_rows g sound.0)) (flat_groups groups sound.1)
 
 narrow_cells : (forms : TableNode → Table → Type 0) (breaking : Breaking) (nodes : List CellNode) (cells : List TableCell) →
@@ -268,12 +256,12 @@ flat_cells : (nodes : List CellNode) → AllByRecursion (λ node. AreSound (cell
     AllByRecursion (λ block. AreSound (block_outline block)) (flat_map flow_of nodes)
 flat_cells [] sound = tt
 flat_cells (node ∷ nodes) sound =
-    append_all (λ block. AreSound (block_outline block)) (flow_of node) (flat_map flow_of nodes)
+    append_each (λ block. AreSound (block_outline block)) (flow_of node) (flat_map flow_of nodes)
     (sound_each block_outline (flow_of node) (cell_flow node sound.0)) (flat_cells nodes sound.1)
 
 sound_blocks_of : (node : TableNode) → AreSound (outline node) → AllByRecursion (λ block. AreSound (block_outline block)) (blocks_of (out-TableNode node))
 sound_blocks_of node sound =
-    append_all (λ block. AreSound (block_outline block)) (captured (out-TableNode node).caption) (flat_map flow_of (cells_written (out-TableNode node)))
+    append_each (λ block. AreSound (block_outline block)) (captured (out-TableNode node).caption) (flat_map flow_of (cells_written (out-TableNode node)))
     (by_caption (out-TableNode node).caption refl) (flat_cells (cells_written (out-TableNode node)) (flat_groups (out-TableNode node).groups (table_groups node sound)))
   where
     by_caption : (flow : Option (List Block)) → (out-TableNode node).caption ≡ flow → AllByRecursion (λ block. AreSound (block_outline block)) (captured flow)
@@ -300,7 +288,7 @@ level_sound forms breaking node made sound is becomes inner = record {
       (has.0, found.0, has.1, has.2, found.2);
   narrow = All-permutation (λ one. (out-TableCell one).least ≤ MAX_PAGE_WIDTH) all made.cells becomes.same
       (All-from_recursion (λ one. (out-TableCell one).least ≤ MAX_PAGE_WIDTH) all
-      (append_all (λ one. (out-TableCell one).least ≤ MAX_PAGE_WIDTH) becomes.caption becomes.written
+      (append_each (λ one. (out-TableCell one).least ≤ MAX_PAGE_WIDTH) becomes.caption becomes.written
       (narrow_caption forms breaking made.cols (out-TableNode node).caption becomes.caption becomes.captioned)
       (narrow_cells forms breaking (cells_written (out-TableNode node)) becomes.written
       (flat_groups (out-TableNode node).groups (table_groups node is)) becomes.cells)));
@@ -574,10 +562,7 @@ becomes_sound breaking node made tree becomes = record {
   depth = MAX_DEPTH;
   shallow = omega arith;
   sound = (within_deep becomes.0 breaking node made becomes.1 tree.sound 0 MAX_DEPTH []
-      (subst (IsNestedBelow MAX_DEPTH 0) (sym (append_nothing (tables_alone (outline node)))) (alone-nested MAX_DEPTH 0 (outline node) tree.shallow))).0;
+      (subst (IsNestedBelow MAX_DEPTH 0) (sym (append-nil (tables_alone (outline node)))) (alone-nested MAX_DEPTH 0 (outline node) tree.shallow))).0;
   few_tables = omega (arith, within_counts becomes.0 breaking node made becomes.1, tree.few_tables);
   size = omega (arith, within_small becomes.0 breaking node made becomes.1, tree.sound.size);
-} where
-  append_nothing : (es : Entries) → es ++ [] ≡ es
-  append_nothing [] = refl
-  append_nothing (e ∷ es) = ap (λ (rest : Entries). e ∷ rest) (append_nothing es)
+}

@@ -2,7 +2,7 @@
 use Rattle.std.proofs.Common.{◌≡◌, ◌∙◌, ℕ, zero, suc, ◌+◌, ◌<◌, ◌≤◌, List, [], ◌∷◌, ◌++◌, length, map, get_or, take, drop, refl, sym, ap, subst, append_assoc, length-append, arith}
 use Rattle.std.specs.List.{AllZip, flat_map}
 use Rattle.std.proofs.lemmas.Grind.{flat_map-append}
-use Rattle.std.proofs.lemmas.List.{append-nil, take_more, take-append-drop}
+use Rattle.std.proofs.lemmas.List.{append-nil, map-append, take_more, take-append-drop}
 use Rattle.std.proofs.Math.Seq.{drop-cons}
 use Rattle.tl_base.specs.declared.breaking.Breaking.{Breaking}
 use Rattle.tl_base.proofs.Zips.{AllZip-push}
@@ -13,11 +13,8 @@ use Rattle.tl_form.specs.Formed.{Becomes, BecomesCell, BecomeCells}
 use Rattle.tl_form.specs.Sound.{place_of}
 use Rattle.tl_form.specs.inner.Forming.{Writes}
 
-map_append : {X Y : Type 0} (f : X → Y) (xs ys : List X) → map f (xs ++ ys) ≡ map f xs ++ map f ys
-map_append f [] ys = refl
-map_append f (x ∷ xs) ys = ap (λ rest. f x ∷ rest) (map_append f xs ys)
-
-joined_zip : {A B : Type 0} (R : A → B → Type 0) (xs zs : List A) (ys ws : List B) → AllZip R xs ys → AllZip R zs ws → AllZip R (xs ++ zs) (ys ++ ws)
+-- two pairs of lists whose items belong together, joined
+pub joined_zip : {A B : Type 0} (R : A → B → Type 0) (xs zs : List A) (ys ws : List B) → AllZip R xs ys → AllZip R zs ws → AllZip R (xs ++ zs) (ys ++ ws)
 joined_zip R [] zs [] ws first second = second
 joined_zip R [] zs (y ∷ ys) ws first second = absurd first
 joined_zip R (x ∷ xs) zs [] ws first second = absurd first
@@ -27,8 +24,8 @@ pub Writes-none : (breaking : Breaking) (places : List Place) (before : List Tab
     Writes breaking [] places before before
 Writes-none breaking places before placed = record { more = []; joined = sym (append-nil before); cells = tt; placed = placed }
 
--- two lists of as many items
-zip_length : {A B : Type 0} (R : A → B → Type 0) (xs : List A) (ys : List B) → AllZip R xs ys → length xs ≡ length ys
+-- they have as many items
+pub zip_length : {A B : Type 0} (R : A → B → Type 0) (xs : List A) (ys : List B) → AllZip R xs ys → length xs ≡ length ys
 zip_length R [] [] all = refl
 zip_length R [] (y ∷ ys) all = absurd all
 zip_length R (x ∷ xs) [] all = absurd all
@@ -50,7 +47,7 @@ Writes-cell breaking nodes node places before mid after cell n d writes becomes 
   cells = AllZip-push (λ one made. BecomesCell (Becomes breaking) breaking (out-CellNode one) (out-TableCell made)) nodes writes.more node cell writes.cells becomes;
   placed =
       ap (map place_of) pushed
-      ∙ map_append place_of mid (cell ∷ [])
+      ∙ map-append place_of mid (cell ∷ [])
       ∙ ap (λ (rest : List Place). rest ++ place_of cell ∷ []) writes.placed
       ∙ ap (λ (p : Place). take (length mid) places ++ p ∷ []) (at ∙ ap (λ k. get_or places k d) long)
       ∙ sym (take_more places (length mid) d (omega arith))

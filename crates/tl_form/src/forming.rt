@@ -118,7 +118,8 @@ fn kind_of(head: bool) -> Kind
 #[cycle(forming)]
 fn content(alloc: Global, block: &Block, breaking: Breaking) -> Result<Content, FormError>
     requires { AreSound (block_outline block.now) }
-    ensures ok { IfOk result (λ content. BecomesContent (Becomes breaking) breaking (out-Block block.now) (out-Content content)) }
+    ensures ok { IfOk result (λ content.
+        BecomesContent (Becomes breaking) breaking (out-Block block.now) (out-Content content)) }
     ensures err { IfErr result (IsMemoryOr (Memory alloc_error) (AreRefused (tables_in_block block.now))) }
 {
     match block {
@@ -158,7 +159,8 @@ fn cell(
     breaking: Breaking,
 ) -> Result<TableCell, FormError>
     requires { AreSound (cell_outline node.now) }
-    ensures ok { IfOk result (λ cell. BecomesCell (Becomes breaking) breaking (out-CellNode node.now) (out-TableCell cell)) }
+    ensures ok { IfOk result (λ cell.
+        BecomesCell (Becomes breaking) breaking (out-CellNode node.now) (out-TableCell cell)) }
     ensures place { IfOk result (λ cell. place_of cell ≡ place) }
     ensures err { IfErr result (IsMemoryOr (Memory alloc_error) (AreRefused (part_of_cell node.now).inner)) }
 {
@@ -180,8 +182,10 @@ fn caption_cells(
     breaking: Breaking,
 ) -> Result<Vec<TableCell>, FormError>
     requires { AreSound (outline node.now) }
-    ensures ok { IfOk result (λ cells. BecomeCaption (Becomes breaking) breaking cols (out-TableNode node.now).caption cells.items) }
-    ensures err { IfErr result (IsMemoryOr (Memory alloc_error) (AreRefused (tables_in_caption (out-TableNode node.now).caption))) }
+    ensures ok { IfOk result (λ cells.
+        BecomeCaption (Becomes breaking) breaking cols (out-TableNode node.now).caption cells.items) }
+    ensures err { IfErr result (IsMemoryOr (Memory alloc_error)
+        (AreRefused (tables_in_caption (out-TableNode node.now).caption))) }
 {
     let mut cells = Vec::new(alloc);
     match &node.caption {
@@ -238,7 +242,8 @@ fn group_cells(
 ) -> Result<Vec<TableCell>, FormError>
     requires sound { AreSound (group_outline group.now) }
     requires placed { map place_of written.items ≡ take (length written.items) places.now }
-    requires room { length written.items + length (cells_of_group (out-GroupNode group.now)) ≤ length places.now }
+    requires room { length written.items + length (cells_of_group (out-GroupNode group.now))
+        ≤ length places.now }
     ensures ok { IfOk result (λ after.
         Writes breaking (cells_of_group (out-GroupNode group.now)) places.now written.items after.items) }
     ensures err { IfErr result (IsMemoryOr (Memory alloc_error) (AreRefused (part_of_group group.now).inner)) }
@@ -259,8 +264,10 @@ fn written_cells(
 ) -> Result<Vec<TableCell>, FormError>
     requires sound { AreSound (outline node.now) }
     requires room { length (cells_written (out-TableNode node.now)) ≡ length places.now }
-    ensures ok { IfOk result (λ cells. Writes breaking (cells_written (out-TableNode node.now)) places.now [] cells.items) }
-    ensures err { IfErr result (IsMemoryOr (Memory alloc_error) (AreRefused (tables_in_groups (out-TableNode node.now).groups))) }
+    ensures ok { IfOk result (λ cells.
+        Writes breaking (cells_written (out-TableNode node.now)) places.now [] cells.items) }
+    ensures err { IfErr result (IsMemoryOr (Memory alloc_error)
+        (AreRefused (tables_in_groups (out-TableNode node.now).groups))) }
 {
     let mut written = Vec::new(alloc);
     for group in node.groups.as_slice() {
@@ -316,7 +323,8 @@ pub fn table(alloc: Global, node: &TableNode, breaking: Breaking) -> Result<Tabl
     ensures sound { IfOk result IsSoundTable }
     // Each error comes exactly where its cause is so.
     ensures err { IfErr result (IsMemoryOr (Memory alloc_error) (IsRefused node.now)) }
-    ensures each_err { (error : FormError) → IsRefused node.now error → ReturnsError (Memory alloc_error) error result }
+    ensures each_err { (error : FormError) → IsRefused node.now error
+        → ReturnsError (Memory alloc_error) error result }
 {
     formed(alloc, node, breaking)
 }
