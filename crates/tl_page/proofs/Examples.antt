@@ -11,7 +11,8 @@ use Rattle.std.proofs.Common.{◌≡◌, ℕ, [], ◌∷◌, codes, refl}
 use Rattle.tl_base.specs.declared.style.Style.{Style}
 use Rattle.tl_base.specs.declared.style.Style.TheVariants.{Plain, Frame}
 use Rattle.tl_grid.specs.declared.shape.Place.{Place}
-use Rattle.tl_page.specs.Pictures.{Line, Picture, lines_of}
+use Rattle.tl_page.specs.declared.line.Line.{Line}
+use Rattle.tl_page.specs.Pictures.{Picture, picture, lines_of}
 
 abbrev place : ℕ → ℕ → ℕ → ℕ → Place
 place left right top bottom = record { left = left; right = right; top = top; bottom = bottom }
@@ -25,14 +26,8 @@ abbrev below : Place
 below = place 0 1 1 2
 
 abbrev spanned : Style → Picture
-spanned style = record {
-  style = style;
-  widths = 2 ∷ 3 ∷ [];
-  heights = 1 ∷ 1 ∷ [];
-  grid = record { cols = 2; rows = 2; places = over_both ∷ below ∷ [] };
-  cells = record { place = over_both; lines = record { text = codes "aaaa"; width = 4 } ∷ [] }
-      ∷ record { place = below; lines = record { text = codes "bb"; width = 2 } ∷ [] } ∷ [];
-}
+spanned style = picture style (record { cols = 2; rows = 2; places = over_both ∷ below ∷ [] }) (2 ∷ 3 ∷ []) (1 ∷ 1 ∷ [])
+    ((record { text = codes "aaaa"; width = 4 } ∷ []) ∷ (record { text = codes "bb"; width = 2 } ∷ []) ∷ [])
 
 spanned_plain : lines_of (spanned Plain) ≡ codes "aaaa   " ∷ codes "bb     " ∷ []
 spanned_plain = refl
@@ -60,15 +55,8 @@ abbrev one : ℕ → Line
 one letter = record { text = letter ∷ []; width = 1 }
 
 abbrev tall : Picture
-tall = record {
-  style = Frame;
-  widths = 1 ∷ 1 ∷ [];
-  heights = 1 ∷ 1 ∷ [];
-  grid = record { cols = 2; rows = 2; places = beside ∷ upper ∷ lower ∷ [] };
-  cells = record { place = beside; lines = one 0x61 ∷ one 0x20 ∷ one 0x61 ∷ [] }
-      ∷ record { place = upper; lines = one 0x62 ∷ [] }
-      ∷ record { place = lower; lines = one 0x63 ∷ [] } ∷ [];
-}
+tall = picture Frame (record { cols = 2; rows = 2; places = beside ∷ upper ∷ lower ∷ [] }) (1 ∷ 1 ∷ []) (1 ∷ 1 ∷ [])
+    ((one 0x61 ∷ one 0x20 ∷ one 0x61 ∷ []) ∷ (one 0x62 ∷ []) ∷ (one 0x63 ∷ []) ∷ [])
 
 -- the content of the cell over both rows goes on through the rule between them
 tall_frame : lines_of tall ≡
@@ -80,5 +68,10 @@ tall_frame : lines_of tall ≡
 tall_frame = refl
 
 -- a table without columns has no line
-none_frame : lines_of (record { style = Frame; widths = []; heights = []; grid = record { cols = 0; rows = 0; places = [] }; cells = [] }) ≡ []
+none_frame : lines_of (picture Frame (record { cols = 0; rows = 0; places = [] }) [] [] []) ≡ []
 none_frame = refl
+
+-- a table with a column and a row without content is two lines of corners
+empty_frame : lines_of (picture Frame (record { cols = 1; rows = 1; places = place 0 1 0 1 ∷ [] }) (0 ∷ []) (0 ∷ []) ([] ∷ [])) ≡
+    codes "++" ∷ codes "++" ∷ []
+empty_frame = refl

@@ -3,5 +3,7 @@
 //! search and no certificate. Its one contract: the bytes are exactly those of the drawn page.
 #![tactic(auto)]
 
+mod corner;
+mod line;
 mod owner;
 mod strip;
