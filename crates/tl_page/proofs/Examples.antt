@@ -1,13 +1,16 @@
--- Two tables, drawn by hand in both styles. The first has a cell over both columns, one below on the left, and a slot
--- that no cell covers; its columns are 2 and 3 wide. The second has a cell over two rows beside two others.
+-- Tables, drawn by hand. The first has a cell over both columns, one below on the left, and a slot
+-- that no cell covers; its columns are 2 and 3 wide. The second has a cell over two rows beside two others. The third has a nested
+-- table in a cell beside an uncovered slot.
 --
---   plain      frame          frame
---   aaaa       +------+       +-+-+
---   bb         |aaaa  |       |a|b|
---              +--+---+       | +-+
---              |bb|   |       |a|c|
---              +--+---+       +-+-+
-use Rattle.std.proofs.Common.{◌≡◌, ℕ, [], ◌∷◌, codes, refl}
+--   plain      frame          frame      frame
+--   aaaa       +------+       +-+-+      +---+-+
+--   bb         |aaaa  |       |a|b|      |a  |b|
+--              +--+---+       | +-+      +---+-+
+--              |bb|   |       |a|c|      |+-+| |
+--              +--+---+       +-+-+      ||x|| |
+--                                        |+-+| |
+--                                        +---+-+
+use Rattle.std.proofs.Common.{◌≡◌, ℕ, List, [], ◌∷◌, codes, map, refl}
 use Rattle.tl_base.specs.declared.style.Style.{Style}
 use Rattle.tl_base.specs.declared.style.Style.TheVariants.{Plain, Frame}
 use Rattle.tl_grid.specs.declared.shape.Place.{Place}
@@ -75,3 +78,30 @@ none_frame = refl
 empty_frame : lines_of (picture Frame (record { cols = 1; rows = 1; places = place 0 1 0 1 ∷ [] }) (0 ∷ []) (0 ∷ []) ([] ∷ [])) ≡
     codes "++" ∷ codes "++" ∷ []
 empty_frame = refl
+
+-- ---- a nested table beside a slot that no cell covers
+
+abbrev nested : Picture
+nested = picture Frame (record { cols = 1; rows = 1; places = place 0 1 0 1 ∷ [] }) (1 ∷ []) (1 ∷ []) ((one 0x78 ∷ []) ∷ [])
+
+abbrev around : Style → List Line → Picture
+around style page = picture style (record { cols = 2; rows = 2; places = place 0 1 0 1 ∷ place 1 2 0 1 ∷ place 0 1 1 2 ∷ [] }) (3 ∷ 1 ∷ []) (1 ∷ 3 ∷ [])
+    ((one 0x61 ∷ []) ∷ (one 0x62 ∷ []) ∷ page ∷ [])
+
+abbrev nested_page : List Line
+nested_page = map (λ text. record { text = text; width = 3 }) (lines_of nested)
+
+nested_frame : lines_of (around Frame nested_page) ≡
+    codes "+---+-+"
+    ∷ codes "|a  |b|"
+    ∷ codes "+---+-+"
+    ∷ codes "|+-+| |"
+    ∷ codes "||x|| |"
+    ∷ codes "|+-+| |"
+    ∷ codes "+---+-+" ∷ []
+nested_frame = refl
+
+-- in style plain the slot is blank, and so is the gap
+nested_plain : lines_of (around Plain nested_page) ≡
+    codes "a    b" ∷ codes "+-+   " ∷ codes "|x|   " ∷ codes "+-+   " ∷ []
+nested_plain = refl
