@@ -1,17 +1,21 @@
--- Two tables, drawn by hand in both styles. The first has a cell over both columns, one below on the left, and a slot
--- that no cell covers; its columns are 2 and 3 wide. The second has a cell over two rows beside two others.
+-- Tables, drawn by hand. The first has a cell over both columns, one below on the left, and a slot
+-- that no cell covers; its columns are 2 and 3 wide. The second has a cell over two rows beside two others. The third has a nested
+-- table in a cell beside an uncovered slot.
 --
---   plain      frame          frame
---   aaaa       +------+       +-+-+
---   bb         |aaaa  |       |a|b|
---              +--+---+       | +-+
---              |bb|   |       |a|c|
---              +--+---+       +-+-+
-use Rattle.std.proofs.Common.{◌≡◌, ℕ, [], ◌∷◌, codes, refl}
+--   plain      frame          frame      frame
+--   aaaa       +------+       +-+-+      +---+-+
+--   bb         |aaaa  |       |a|b|      |a  |b|
+--              +--+---+       | +-+      +---+-+
+--              |bb|   |       |a|c|      |+-+| |
+--              +--+---+       +-+-+      ||x|| |
+--                                        |+-+| |
+--                                        +---+-+
+use Rattle.std.proofs.Common.{◌≡◌, ℕ, List, [], ◌∷◌, codes, map, refl}
 use Rattle.tl_base.specs.declared.style.Style.{Style}
 use Rattle.tl_base.specs.declared.style.Style.TheVariants.{Plain, Frame}
 use Rattle.tl_grid.specs.declared.shape.Place.{Place}
-use Rattle.tl_page.specs.Pictures.{Line, Picture, lines_of}
+use Rattle.tl_page.specs.declared.line.Line.{Line}
+use Rattle.tl_page.specs.Pictures.{Picture, picture, lines_of}
 
 abbrev place : ℕ → ℕ → ℕ → ℕ → Place
 place left right top bottom = record { left = left; right = right; top = top; bottom = bottom }
@@ -25,14 +29,8 @@ abbrev below : Place
 below = place 0 1 1 2
 
 abbrev spanned : Style → Picture
-spanned style = record {
-  style = style;
-  widths = 2 ∷ 3 ∷ [];
-  heights = 1 ∷ 1 ∷ [];
-  grid = record { cols = 2; rows = 2; places = over_both ∷ below ∷ [] };
-  cells = record { place = over_both; lines = record { text = codes "aaaa"; width = 4 } ∷ [] }
-      ∷ record { place = below; lines = record { text = codes "bb"; width = 2 } ∷ [] } ∷ [];
-}
+spanned style = picture style (record { cols = 2; rows = 2; places = over_both ∷ below ∷ [] }) (2 ∷ 3 ∷ []) (1 ∷ 1 ∷ [])
+    ((record { text = codes "aaaa"; width = 4 } ∷ []) ∷ (record { text = codes "bb"; width = 2 } ∷ []) ∷ [])
 
 spanned_plain : lines_of (spanned Plain) ≡ codes "aaaa   " ∷ codes "bb     " ∷ []
 spanned_plain = refl
@@ -60,15 +58,8 @@ abbrev one : ℕ → Line
 one letter = record { text = letter ∷ []; width = 1 }
 
 abbrev tall : Picture
-tall = record {
-  style = Frame;
-  widths = 1 ∷ 1 ∷ [];
-  heights = 1 ∷ 1 ∷ [];
-  grid = record { cols = 2; rows = 2; places = beside ∷ upper ∷ lower ∷ [] };
-  cells = record { place = beside; lines = one 0x61 ∷ one 0x20 ∷ one 0x61 ∷ [] }
-      ∷ record { place = upper; lines = one 0x62 ∷ [] }
-      ∷ record { place = lower; lines = one 0x63 ∷ [] } ∷ [];
-}
+tall = picture Frame (record { cols = 2; rows = 2; places = beside ∷ upper ∷ lower ∷ [] }) (1 ∷ 1 ∷ []) (1 ∷ 1 ∷ [])
+    ((one 0x61 ∷ one 0x20 ∷ one 0x61 ∷ []) ∷ (one 0x62 ∷ []) ∷ (one 0x63 ∷ []) ∷ [])
 
 -- the content of the cell over both rows goes on through the rule between them
 tall_frame : lines_of tall ≡
@@ -80,5 +71,37 @@ tall_frame : lines_of tall ≡
 tall_frame = refl
 
 -- a table without columns has no line
-none_frame : lines_of (record { style = Frame; widths = []; heights = []; grid = record { cols = 0; rows = 0; places = [] }; cells = [] }) ≡ []
+none_frame : lines_of (picture Frame (record { cols = 0; rows = 0; places = [] }) [] [] []) ≡ []
 none_frame = refl
+
+-- a table with a column and a row without content is two lines of corners
+empty_frame : lines_of (picture Frame (record { cols = 1; rows = 1; places = place 0 1 0 1 ∷ [] }) (0 ∷ []) (0 ∷ []) ([] ∷ [])) ≡
+    codes "++" ∷ codes "++" ∷ []
+empty_frame = refl
+
+-- ---- a nested table beside a slot that no cell covers
+
+abbrev nested : Picture
+nested = picture Frame (record { cols = 1; rows = 1; places = place 0 1 0 1 ∷ [] }) (1 ∷ []) (1 ∷ []) ((one 0x78 ∷ []) ∷ [])
+
+abbrev around : Style → List Line → Picture
+around style page = picture style (record { cols = 2; rows = 2; places = place 0 1 0 1 ∷ place 1 2 0 1 ∷ place 0 1 1 2 ∷ [] }) (3 ∷ 1 ∷ []) (1 ∷ 3 ∷ [])
+    ((one 0x61 ∷ []) ∷ (one 0x62 ∷ []) ∷ page ∷ [])
+
+abbrev nested_page : List Line
+nested_page = map (λ text. record { text = text; width = 3 }) (lines_of nested)
+
+nested_frame : lines_of (around Frame nested_page) ≡
+    codes "+---+-+"
+    ∷ codes "|a  |b|"
+    ∷ codes "+---+-+"
+    ∷ codes "|+-+| |"
+    ∷ codes "||x|| |"
+    ∷ codes "|+-+| |"
+    ∷ codes "+---+-+" ∷ []
+nested_frame = refl
+
+-- in style plain the slot is blank, and so is the gap
+nested_plain : lines_of (around Plain nested_page) ≡
+    codes "a    b" ∷ codes "+-+   " ∷ codes "|x|   " ∷ codes "+-+   " ∷ []
+nested_plain = refl

@@ -4,6 +4,7 @@ use Rattle.std.specs.Prelude.{ℕ, ◌+◌, ◌&&◌, Bool, true, false, not, na
 use Rattle.tl_base.specs.declared.style.Style.{Style}
 use Rattle.tl_base.specs.declared.style.Style.TheVariants.{Plain, Frame}
 use Rattle.tl_grid.specs.declared.shape.Place.{Place}
+use Rattle.tl_page.specs.declared.corner.Corner.{Corner}
 use Rattle.tl_page.specs.declared.owner.Owner.{Owner}
 use Rattle.tl_page.specs.declared.owner.Owner.TheVariants.{Outside, Bare, Cell}
 use Rattle.tl_page.specs.declared.strip.Strip.{Strip}
@@ -12,12 +13,14 @@ use Rattle.tl_page.specs.declared.strip.Strip.{Strip}
 
 -- the place has the slot of this column and row, both counted from 1
 abbrev pub covers_slot : ℕ → ℕ → Place → Bool
-covers_slot column row place = (nat_lt place.left column && nat_le column place.right) && (nat_lt place.top row && nat_le row place.bottom)
+covers_slot column row place =
+    (nat_lt place.left column && nat_le column place.right) && (nat_lt place.top row && nat_le row place.bottom)
 
 -- the number of the first place that has the slot, where the first one is `number`
 abbrev pub number_over : ℕ → List Place → ℕ → ℕ → Option ℕ
 number_over number [] column row = None
-number_over number (place ∷ places) column row = if covers_slot column row place then Some number else number_over (number + 1) places column row
+number_over number (place ∷ places) column row =
+    if covers_slot column row place then Some number else number_over (number + 1) places column row
 
 -- a slot of the grid belongs to the cell over it, or to itself
 abbrev pub owned : ℕ → ℕ → Option ℕ → Owner
@@ -37,7 +40,9 @@ is_inside count slot = nat_lt 0 slot && nat_le slot count
 -- who owns the slot of this column and row
 abbrev pub owner_of : Grid → ℕ → ℕ → Owner
 owner_of grid column row =
-    if is_inside grid.cols column && is_inside grid.rows row then owned column row (number_over 0 grid.places column row) else Outside
+    if is_inside grid.cols column && is_inside grid.rows row
+    then owned column row (number_over 0 grid.places column row)
+    else Outside
 
 -- both slots have one owner
 abbrev pub is_same : Owner → Owner → Bool
@@ -48,25 +53,20 @@ is_same _ _ = false
 
 -- ---- corners
 
--- the owners of the four slots around a place of the page
-pub record Corner : Type 0 where
-  pub up_left : Owner
-  pub up_right : Owner
-  pub down_left : Owner
-  pub down_right : Owner
-
--- where a strip of columns crosses a strip of rows
-abbrev pub corner_of : Grid → Strip → Strip → Corner
-corner_of grid across down = record {
-  up_left = owner_of grid across.before down.before;
-  up_right = owner_of grid across.after down.before;
-  down_left = owner_of grid across.before down.after;
-  down_right = owner_of grid across.after down.after;
+-- the owners of the four slots where a strip of columns crosses a strip of rows
+abbrev pub corner_of : (ℕ → ℕ → Owner) → Strip → Strip → Corner
+corner_of owner across down = record {
+  up_left = owner across.before down.before;
+  up_right = owner across.after down.before;
+  down_left = owner across.before down.after;
+  down_right = owner across.after down.after;
 }
 
 -- all four slots belong to one cell, or are one slot
 abbrev pub is_one : Corner → Bool
-is_one corner = (is_same corner.up_left corner.up_right && is_same corner.up_left corner.down_left) && is_same corner.up_left corner.down_right
+is_one corner =
+    (is_same corner.up_left corner.up_right && is_same corner.up_left corner.down_left)
+    && is_same corner.up_left corner.down_right
 
 -- the character of a corner, by whether its sides up, down, left and right are drawn; in style plain all are spaces
 abbrev pub sign : Style → Bool → Bool → Bool → Bool → ℕ
@@ -77,5 +77,9 @@ sign Frame up down left right = 0x2B
 
 -- a side is drawn where the two slots on both its sides differ
 abbrev pub corner_sign : Style → Corner → ℕ
-corner_sign style corner = sign style (not (is_same corner.up_left corner.up_right)) (not (is_same corner.down_left corner.down_right))
-    (not (is_same corner.up_left corner.down_left)) (not (is_same corner.up_right corner.down_right))
+corner_sign style corner =
+    sign style
+    (not (is_same corner.up_left corner.up_right))
+    (not (is_same corner.down_left corner.down_right))
+    (not (is_same corner.up_left corner.down_left))
+    (not (is_same corner.up_right corner.down_right))

@@ -2,3 +2,4 @@ pub mod Strips
 pub mod Corners
 pub mod Pictures
 pub mod Pages
+pub mod inner

@@ -3,5 +3,15 @@
 //! search and no certificate. Its one contract: the bytes are exactly those of the drawn page.
 #![tactic(auto)]
 
+mod cells;
+mod corner;
+mod line;
 mod owner;
+mod owners;
+mod pages;
+mod paragraph;
+mod picture;
 mod strip;
+mod strips;
+
+pub use pages::page;

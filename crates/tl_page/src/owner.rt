@@ -9,5 +9,5 @@ pub enum Owner {
     /// No cell covers the slot of this column and row: it is a cell of its own.
     Bare(u32, u32),
     /// The cell of this number, counted from 0, covers the slot.
-    Cell(u32),
+    Cell(usize),
 }

@@ -1,0 +1,110 @@
+-- A block that fits: a paragraph has a cutting, and a nested table the next layout.
+use Rattle.std.proofs.Common.{◌≡◌, ℕ, ◌+◌, ◌*◌, ◌^◌, ◌<◌, ◌≤◌, List, [], ◌∷◌, ◌++◌, length, drop, get_or, sum, refl, sym, ◌∙◌, ap, subst, suc, arith}
+use Rattle.std.proofs.lemmas.List.{get_or-drop, drop_more, length-drop}
+use Rattle.std.specs.declared.alloc.Global.{Global}
+use Rattle.std.specs.declared.boxed.Box.{Box}
+use Rattle.tl_base.specs.declared.limits.TheConstants.{MAX_HEIGHT, MAX_PAGE_WIDTH}
+use Rattle.tl_base.specs.declared.style.Style.{Style}
+use Rattle.tl_base.specs.declared.style.Style.TheVariants.{Plain, Frame}
+use Rattle.tl_base.specs.Style.{gap_of, row_gap_of, edge_of}
+use Rattle.tl_text.specs.declared.paragraph.Atom.{Atom}
+use Rattle.tl_text.specs.Cuttings.{HasCutting}
+use Rattle.tl_form.specs.declared.cell.Content.TheOpen as open_content
+use Rattle.tl_form.specs.declared.cell.Table.{Table, out-Table}
+use Rattle.tl_form.specs.declared.layout.Layout.{Layout, out-Layout}
+use Rattle.tl_form.specs.Layouts.{FitsWithin}
+use Rattle.tl_form.specs.Tables.{OpenContent}
+use Rattle.tl_page.specs.declared.line.Drawn.{Drawn}
+use Rattle.tl_page.specs.declared.line.Line.{Line}
+use Rattle.tl_page.specs.Pages.{AreParagraphLines, ShowsWithin, IsPage, nested_lines}
+use Rattle.tl_page.specs.Pictures.{lines_of}
+use Rattle.tl_page.specs.inner.Contents.{FitsPage, FitsBlockRoom, ShowsPart, ShowsCells, picture_with}
+
+-- ---- styles
+
+pub gap-small : (style : Style) → gap_of style ≤ 2
+gap-small Plain = omega arith
+gap-small Frame = omega arith
+
+pub row_gap-small : (style : Style) → row_gap_of style ≤ 2
+row_gap-small Plain = omega arith
+row_gap-small Frame = omega arith
+
+pub edge-small : (style : Style) → edge_of style ≤ 1
+edge-small Plain = omega arith
+edge-small Frame = omega arith
+
+-- ---- paragraphs
+
+pub paragraph_fits : (style : Style) (w : ℕ) (paragraph : List Atom) (inner : List Layout) (next : ℕ) →
+    FitsBlockRoom style w (open_content.Para paragraph) inner next → HasCutting w paragraph
+paragraph_fits style w paragraph inner next fit = (fit.fits.0.0, fit.fits.0.1, fit.fits.0.2)
+
+pub paragraph_shown : (style : Style) (w : ℕ) (paragraph : List Atom) (inner : List Layout) (next : ℕ) (before lines more : List Line) →
+    AreParagraphLines w paragraph more → lines ≡ before ++ more → ShowsPart style w (open_content.Para paragraph) inner next next before lines
+paragraph_shown style w paragraph inner next before lines more are written = record {
+  depth = 0;
+  content = record { lines = more; inner = [] };
+  shows = (are, refl);
+  written = written;
+  rest = refl;
+}
+
+-- ---- nested tables
+
+module _ (style : Style) (w : ℕ) (table : Table) (inner : List Layout) (next : ℕ) where
+  -- what is said of a block that is a table
+  pub record FitsNested : Type 0 where
+    pub layout : Layout
+    pub more : List Layout
+    pub here : drop next inner ≡ layout ∷ more
+    pub fits : FitsPage style table layout
+
+  pub nested_within : FitsNested → next < length inner
+  nested_within fit = omega (arith, length-drop next inner, ap length fit.here)
+
+  pub nested_fits : (layout : Layout) → FitsNested → layout ≡ get_or inner next layout → FitsPage style table layout
+  nested_fits layout fit is =
+      let place : next + 0 ≡ next = omega arith in
+      let same : get_or inner (next + 0) layout ≡ fit.layout = sym (get_or-drop next inner 0 layout) ∙ ap (λ rest. get_or rest 0 layout) fit.here in
+      let at : get_or inner next layout ≡ fit.layout = rw place at same in
+      subst (FitsPage style table) (sym (is ∙ at)) fit.fits
+
+-- the lines of a page with cells that show their content
+pub page_shown : (style : Style) (table : Table) (layout : Layout) (cells : List Drawn) (page : List (List ℕ)) → (shows : ShowsCells style table layout cells) →
+    page ≡ lines_of (picture_with style (out-Table table) (out-Layout layout) cells) → ShowsWithin (suc shows.depth) style table layout page
+page_shown style table layout cells page shows drawn = record {
+  contents = shows.contents;
+  cells = shows.shows;
+  inner = shows.inner;
+  drawn = drawn ∙ ap (λ cells. lines_of (picture_with style (out-Table table) (out-Layout layout) cells)) shows.drawn;
+}
+
+-- a nested table is given the next layout
+pub nested_given : (style : Style) (w : ℕ) (box : Box Table Global) (inner : List Layout) (next : ℕ) →
+    FitsBlockRoom style w (open_content.Table box) inner next → FitsNested style w box.value inner next
+nested_given style w box inner next fit = record {
+  layout = fit.fits.layout;
+  more = fit.more;
+  here = sym fit.rest ∙ ap (λ given. given ++ fit.more) fit.fits.given;
+  fits = (w, fit.fits.height, fit.narrow, omega (arith, fit.fits.within, fit.low), (fit.depth, fit.fits.laid));
+}
+
+-- and stands as its page
+pub nested_shown : (style : Style) (w : ℕ) (box : Box Table Global) (inner : List Layout) (next : ℕ) (layout : Layout) (cells : List Drawn) (page : List (List ℕ))
+    (before lines : List Line) → layout ≡ get_or inner next layout → next < length inner → ShowsCells style box.value layout cells →
+    page ≡ lines_of (picture_with style (out-Table box.value) (out-Layout layout) cells) → lines ≡ before ++ nested_lines style layout page →
+    ShowsPart style w (open_content.Table box) inner next (next + 1) before lines
+nested_shown style w box inner next layout cells page before lines is within shows drawn written = record {
+  depth = suc shows.depth;
+  content = record { lines = nested_lines style layout page; inner = layout ∷ [] };
+  shows = record {
+    layout = layout;
+    page = page;
+    shown = page_shown style box.value layout cells page shows drawn;
+    lines = refl;
+    inner = refl;
+  };
+  written = written;
+  rest = ap (λ first. first ∷ drop (next + 1) inner) is ∙ sym (drop_more inner next layout within);
+}

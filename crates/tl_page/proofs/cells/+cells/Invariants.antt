@@ -1,0 +1,20 @@
+-- The cells, or the blocks, so far stand in the lines, and the others are left to fit.
+use Rattle.tl_form.specs.declared.cell.Table.{out-Table}
+use Rattle.tl_form.specs.declared.layout.Layout.{out-Layout}
+use Rattle.tl_page.proofs.Progress.{BlocksSoFar, CellsSoFar}
+use Rattle.tl_page.proofs.cells.+cells.Given as goal
+
+abbrev pub decreases-put_block : goal.decreases-put_block
+decreases-put_block l = goal.size-put_block l
+
+abbrev pub decreases-cell_part : goal.decreases-cell_part
+decreases-cell_part l = goal.size-cell_part l
+
+abbrev pub decreases-drawn_cells : goal.decreases-drawn_cells
+decreases-drawn_cells l = goal.size-drawn_cells l
+
+abbrev pub invariant-cell_part-loop-block : goal.invariant-cell_part-loop-block
+invariant-cell_part-loop-block l = BlocksSoFar l.style l.width l.cell.blocks l.inner l.fn.next l.block-index l.next l.lines
+
+abbrev pub invariant-drawn_cells-loop-cell : goal.invariant-drawn_cells-loop-cell
+invariant-drawn_cells-loop-cell l = CellsSoFar l.style (out-Table l.table) (out-Layout l.layout) l.cell-index l.next l.cells

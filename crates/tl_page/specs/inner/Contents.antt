@@ -1,0 +1,89 @@
+-- What the code that fills cells is given and gives: which layouts of nested tables are left, and which lines stand in
+-- a cell so far. No public clause cites this file.
+use Rattle.std.specs.Prelude.{◌≡◌, ℕ, ◌+◌, ◌*◌, ◌<◌, ◌≤◌, ◌^◌, List, [], ◌∷◌, ◌++◌, length, drop, map, sum_by}
+use Rattle.std.specs.List.{AllZip, flat_map}
+use Rattle.tl_base.specs.declared.limits.TheConstants.{MAX_HEIGHT, MAX_PAGE_WIDTH}
+use Rattle.tl_base.specs.declared.style.Style.{Style}
+use Rattle.tl_base.specs.Style.{gap_of, row_gap_of, edge_of}
+use Rattle.tl_form.specs.declared.cell.Content.{out-Content}
+use Rattle.tl_form.specs.declared.cell.Table.{Table, out-Table}
+use Rattle.tl_form.specs.declared.cell.TableCell.{TableCell, out-TableCell}
+use Rattle.tl_form.specs.declared.layout.Layout.{Layout, out-Layout}
+use Rattle.tl_form.specs.Tables.{OpenTable, OpenCell, OpenContent}
+use Rattle.tl_form.specs.Layouts.{OpenLayout, Share, Fits, FitsWithin, FitsShare, FitsRoom, width_for}
+use Rattle.tl_form.specs.Sound.{places_of}
+use Rattle.tl_page.specs.declared.line.Drawn.{Drawn}
+use Rattle.tl_page.specs.declared.line.Line.{Line}
+use Rattle.tl_page.specs.Corners.{owner_of}
+use Rattle.tl_page.specs.Pages.{Content, ShowsBlock, ShowsCell, ShowsWithin, grid_of}
+use Rattle.tl_page.specs.Pictures.{Picture, drawn_cells}
+use Rattle.tl_page.specs.Strips.{strips}
+
+-- ---- what is given
+
+-- the layout fits some page
+abbrev pub FitsPage : Style → Table → Layout → Type 0
+FitsPage style table layout =
+    (width height : ℕ) × (width ≤ MAX_PAGE_WIDTH) × (height ≤ MAX_HEIGHT) × Fits table style width height layout
+
+-- the block fits in `w` columns by a share whose layouts come next
+pub record FitsBlockRoom (style : Style) (w : ℕ) (block : OpenContent) (inner : List Layout) (next : ℕ) : Type 0 where
+  pub narrow : w ≤ MAX_PAGE_WIDTH
+  pub depth : ℕ
+  pub share : Share
+  pub low : share.height ≤ MAX_HEIGHT
+  pub fits : FitsShare (FitsWithin depth style) w block share
+  pub more : List Layout
+  pub rest : share.inner ++ more ≡ drop next inner
+
+-- the cell fits in `w` columns by layouts that come next
+pub record FitsCellRoom (style : Style) (w : ℕ) (cell : OpenCell) (inner : List Layout) (next : ℕ) : Type 0 where
+  pub narrow : w ≤ MAX_PAGE_WIDTH
+  pub depth : ℕ
+  pub height : ℕ
+  pub low : height ≤ MAX_HEIGHT
+  pub given : List Layout
+  pub fits : FitsRoom (FitsWithin depth style) w height cell given
+  pub more : List Layout
+  pub rest : given ++ more ≡ drop next inner
+
+-- ---- what is given back
+
+-- the block's lines come after `before`, and its layouts stand from `next` on and before `after`
+pub record ShowsPart (style : Style) (w : ℕ) (block : OpenContent) (inner : List Layout) (next after : ℕ)
+    (before lines : List Line) : Type 0 where
+  pub depth : ℕ
+  pub content : Content
+  pub shows : ShowsBlock (ShowsWithin depth style) style w block content
+  pub written : lines ≡ before ++ content.lines
+  pub rest : content.inner ++ drop after inner ≡ drop next inner
+
+-- the cell's lines, and its layouts
+pub record ShowsParts (style : Style) (w : ℕ) (cell : OpenCell) (inner : List Layout) (next after : ℕ)
+    (lines : List Line) : Type 0 where
+  pub depth : ℕ
+  pub content : Content
+  pub shows : ShowsCell (ShowsWithin depth style) style w cell content
+  pub written : lines ≡ content.lines
+  pub rest : content.inner ++ drop after inner ≡ drop next inner
+
+-- the cells of a table with their lines
+pub record ShowsCells (style : Style) (table : Table) (layout : Layout) (cells : List Drawn) : Type 0 where
+  pub depth : ℕ
+  pub contents : List Content
+  pub shows : AllZip (λ cell content. ShowsCell (ShowsWithin depth style) style
+      (width_for style (out-Layout layout) (out-TableCell cell).place) (out-TableCell cell) content)
+      (out-Table table).cells contents
+  pub inner : flat_map (λ content. content.inner) contents ≡ (out-Layout layout).inner
+  pub drawn : cells ≡ drawn_cells style (out-Layout layout).widths (out-Layout layout).heights
+      (places_of (out-Table table)) (map (λ content. content.lines) contents)
+
+-- the picture of a table with these cells
+abbrev pub picture_with : Style → OpenTable → OpenLayout → List Drawn → Picture
+picture_with style table layout cells = record {
+  style = style;
+  across = strips (gap_of style) (edge_of style) layout.widths;
+  down = strips (row_gap_of style) (edge_of style) layout.heights;
+  owner = owner_of (grid_of table);
+  cells = cells;
+}

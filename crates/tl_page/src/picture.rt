@@ -1,0 +1,155 @@
+//! Writes the lines of a picture, each from left to right.
+
+ghost use Rattle.std.specs.Prelude.{◌≡◌, ◌+◌, ◌++◌, replicate, slice_get, OnOk, IfOk, if◌then◌else◌, ◌&&◌, ◌==◌};
+ghost use Rattle.tl_page.specs.Corners.{corner_of};
+ghost use Rattle.tl_page.specs.Pictures.{filled, inside, inside_cell, piece, line_of, strip_lines, lines_of};
+ghost use Rattle.tl_page.specs.inner.Drawing.{owner_in, shown};
+
+use crate::corner::Corner;
+use crate::line::{Drawn, Line};
+use crate::owner::Owner;
+use crate::owners::Owners;
+use crate::strip::Strip;
+use std::alloc::{AllocError, Global};
+use tl_base::{List, Style};
+
+/// A table that is to be drawn.
+#[derive(Debug, Drop)]
+pub struct Drawing {
+    pub style: Style,
+    /// The strips of columns, from left to right.
+    pub across: List<Strip>,
+    /// The strips of rows, from top to bottom.
+    pub down: List<Strip>,
+    /// Who owns each slot.
+    pub owners: Owners,
+    /// The cells by their numbers.
+    pub cells: List<Drawn>,
+}
+
+/// The corner where a strip of columns crosses a strip of rows.
+fn corner_at(owners: &Owners, across: &Strip, down: &Strip) -> Corner
+    ensures { result ≡ corner_of (owner_in owners.now) across.now down.now }
+{
+    Corner {
+        up_left: owners.at(across.before, down.before),
+        up_right: owners.at(across.after, down.before),
+        down_left: owners.at(across.before, down.after),
+        down_right: owners.at(across.after, down.after),
+    }
+}
+
+/// Writes a character so many times.
+fn write_times(line: &mut List<u8>, character: u8, count: u64) -> Result<(), AllocError>
+    ensures { OnOk result (line.new ≡ line.old ++ replicate count character) }
+{
+    for _ in 0..count {
+        line.push(character)?;
+    }
+    Ok(())
+}
+
+/// Writes a line of content, filled with spaces to so many columns; spaces where there is none.
+fn write_filled(line: &mut List<u8>, columns: u32, lines: &[Line], place: u64) -> Result<(), AllocError>
+    ensures { OnOk result (line.new ≡ line.old ++ filled columns (slice_get lines.now place)) }
+{
+    let columns = u64::from(columns);
+    if place >= lines.len() as u64 {
+        return write_times(line, b' ', columns);
+    }
+    let content = &lines[place as usize];
+    line.extend_from_slice(content.text.as_slice())?;
+    write_times(line, b' ', columns.saturating_sub(content.width))
+}
+
+/// Writes what stands inside a cell at a strip of columns: its line, at its first column.
+fn write_cell(line: &mut List<u8>, cell: &Drawn, across: &Strip, y: u64) -> Result<(), AllocError>
+    ensures { OnOk result (line.new ≡ line.old ++ inside_cell (Some cell.now) across.now y) }
+{
+    let column = u64::from(cell.left) + 1;
+    if u64::from(across.before) == column && u64::from(across.after) == column {
+        return write_filled(
+            line,
+            cell.columns,
+            cell.lines.as_slice(),
+            y.saturating_sub(u64::from(cell.first)),
+        );
+    }
+    Ok(())
+}
+
+/// Writes what stands inside an owner's slots at a strip of columns.
+fn write_inside(
+    line: &mut List<u8>,
+    cells: &[Drawn],
+    owner: Owner,
+    across: &Strip,
+    y: u64,
+) -> Result<(), AllocError>
+    ensures { OnOk result (line.new ≡ line.old ++ inside cells.now owner across.now y) }
+{
+    let Owner::Cell(number) = owner else {
+        return write_times(line, b' ', u64::from(across.size));
+    };
+    if number >= cells.len() {
+        return Ok(());
+    }
+    write_cell(line, &cells[number], across, y)
+}
+
+/// Writes what stands on a line of the page where a strip of columns crosses a strip of rows.
+fn write_piece(
+    line: &mut List<u8>,
+    drawing: &Drawing,
+    down: &Strip,
+    y: u64,
+    across: &Strip,
+) -> Result<(), AllocError>
+    ensures { OnOk result (line.new ≡ line.old ++ piece (shown drawing.now) down.now y across.now) }
+{
+    let corner = corner_at(&drawing.owners, across, down);
+    if corner.is_one() {
+        write_inside(line, drawing.cells.as_slice(), corner.up_left, across, y)
+    } else {
+        write_times(line, corner.sign(drawing.style), u64::from(across.size))
+    }
+}
+
+/// A line of the page, which lies in a strip of rows.
+fn page_line(alloc: Global, drawing: &Drawing, down: &Strip, y: u64) -> Result<List<u8>, AllocError>
+    ensures { IfOk result (λ line. line ≡ line_of (shown drawing.now) down.now y) }
+{
+    let mut line = List::new(alloc);
+    for across in drawing.across.as_slice() {
+        write_piece(&mut line, drawing, down, y, across)?;
+    }
+    Ok(line)
+}
+
+/// Puts the lines of a strip of rows after others.
+fn put_lines(
+    alloc: Global,
+    page: &mut List<List<u8>>,
+    drawing: &Drawing,
+    down: &Strip,
+) -> Result<(), AllocError>
+    ensures { OnOk result (page.new ≡ page.old ++ strip_lines (shown drawing.now) down.now) }
+{
+    let from = u64::from(down.from);
+    for k in 0..down.size {
+        let line = page_line(alloc, drawing, down, from + u64::from(k))?;
+        page.push(line)?;
+    }
+    Ok(())
+}
+
+/// The lines of the page.
+pub fn draw(alloc: Global, drawing: &Drawing) -> Result<List<List<u8>>, AllocError>
+    ensures { IfOk result (λ page. page ≡ lines_of (shown drawing.now)) }
+{
+    let mut page = List::new(alloc);
+    for down in drawing.down.as_slice() {
+        put_lines(alloc, &mut page, drawing, down)?;
+    }
+    Ok(page)
+}
