@@ -1,6 +1,6 @@
 -- What a tree becomes with tables nested to some depth, it becomes to any greater one; and a depth that is enough for
 -- all parts of a table.
-use Rattle.std.proofs.Common.{◌≡◌, ℕ, zero, suc, ◌+◌, ◌≤◌, max, Option, Some, None, List, [], ◌∷◌, arith}
+use Rattle.std.proofs.Common.{ℕ, zero, suc, ◌≤◌, max, Option, Some, None, List, [], ◌∷◌, arith}
 use Rattle.std.specs.List.{AllZip}
 use Rattle.tl_base.specs.declared.breaking.Breaking.{Breaking}
 use Rattle.tl_tree.specs.declared.node.Block.{Block, out-Block}
@@ -12,7 +12,7 @@ use Rattle.tl_form.specs.declared.cell.Content.TheOpen as open_content
 use Rattle.tl_form.specs.declared.cell.Table.{Table, out-Table}
 use Rattle.tl_form.specs.declared.cell.TableCell.{TableCell, out-TableCell}
 use Rattle.tl_form.specs.Tables.{OpenTable, OpenCell, OpenContent}
-use Rattle.tl_form.specs.Formed.{OpenNode, OpenCellNode, OpenBlock, BecomesContent, BecomeContents, BecomesCell, BecomeCells, BecomesCaption, BecomeCaption}
+use Rattle.tl_form.specs.Formed.{OpenNode, OpenCellNode, OpenBlock, BecomesContent, BecomeContents, BecomesCell, BecomeCells, BecomeCaption}
 use Rattle.tl_form.specs.Formed.{BecomesBy, BecomesWithin, Becomes}
 use Rattle.tl_form.proofs.Deeper.{AllZip-weaker}
 

@@ -1,6 +1,6 @@
 -- A table made of its grid, its caption and its cells is what the tree becomes.
-use Rattle.std.proofs.Common.{◌≡◌, ◌∙◌, ℕ, ◌+◌, ◌<◌, ◌≤◌, max, List, [], ◌∷◌, ◌++◌, length, map, take, sum_by, refl, sym, ap, subst, append_assoc, length-append, arith}
-use Rattle.std.specs.List.{All, AllPairs, flat_map}
+use Rattle.std.proofs.Common.{◌≡◌, ◌∙◌, ℕ, ◌+◌, max, List, [], ◌∷◌, ◌++◌, length, map, sum_by, refl, sym, ap, subst, length-append, arith}
+use Rattle.std.specs.List.{flat_map}
 use Rattle.std.specs.List.Sorted.{IsPermutation, IsNonDecreasingBy}
 use Rattle.std.proofs.lemmas.List.{take_all, length-map}
 use Rattle.std.proofs.lemmas.List.Sorted.{IsPermutation-map, All-permutation}
@@ -10,7 +10,7 @@ use Rattle.tl_grid.specs.declared.shape.Grid.{Grid}
 use Rattle.tl_grid.specs.declared.shape.Place.{Place}
 use Rattle.tl_grid.specs.Dropping.{IsPlaced}
 use Rattle.tl_grid.specs.Form.{HasGrid}
-use Rattle.tl_grid.specs.Forming.{cells_in, cell_count}
+use Rattle.tl_grid.specs.Forming.{cells_in}
 use Rattle.tl_tree.specs.Outline.{outline}
 use Rattle.tl_tree.specs.Sound.{AreSound}
 use Rattle.tl_tree.specs.declared.node.CellNode.{CellNode}
@@ -19,7 +19,7 @@ use Rattle.tl_tree.specs.declared.node.TableNode.{TableNode, out-TableNode}
 use Rattle.tl_form.specs.declared.cell.Table.{Table, out-Table}
 use Rattle.tl_form.specs.declared.cell.TableCell.{TableCell}
 use Rattle.tl_form.specs.Formed.{OpenNode, Becomes, BecomesBy, BecomeCaption, caption_rows, cells_of_group, cells_written, group_shape, lowered, shape_of, span_of}
-use Rattle.tl_form.specs.Sound.{ComesBefore, place_of}
+use Rattle.tl_form.specs.Sound.{place_of}
 use Rattle.tl_form.specs.inner.Forming.{Writes, slot_number}
 use Rattle.tl_form.proofs.Becoming.{becomes_by}
 use Rattle.tl_form.proofs.Laid.{AreLaid, cells_laid}

@@ -1,6 +1,6 @@
 -- Which tables have a grid where a tree becomes a table, and which is the first of many that has none.
-use Rattle.std.proofs.Common.{◌≡◌, ◌∙◌, ℕ, zero, suc, ◌<◌, Option, Some, None, List, [], ◌∷◌, ◌++◌, ◌⊎◌, inl, inr, length, get_or, take, drop, refl, sym, ap, subst, append_assoc, arith, Result, Ok, Err, IfOk, IfErr, alloc_error}
-use Rattle.std.specs.List.{AllByRecursion, AllZip, flat_map}
+use Rattle.std.proofs.Common.{◌≡◌, ◌∙◌, ℕ, zero, suc, ◌<◌, Option, Some, None, List, [], ◌∷◌, ◌++◌, ◌⊎◌, inl, inr, length, get_or, take, drop, refl, sym, ap, subst, append_assoc, Result, Ok, Err, IfOk, IfErr, alloc_error}
+use Rattle.std.specs.List.{AllByRecursion, flat_map}
 use Rattle.std.proofs.Math.Seq.{drop-cons}
 use Rattle.std.proofs.lemmas.Grind.{flat_map-append}
 use Rattle.std.proofs.lemmas.List.{append-nil, take-append-drop}
@@ -26,9 +26,9 @@ use Rattle.tl_form.specs.declared.cell.TableCell.{TableCell, out-TableCell}
 use Rattle.tl_form.specs.declared.error.FormError.{FormError}
 use Rattle.tl_form.specs.declared.error.FormError.TheVariants as errors
 use Rattle.tl_form.specs.Tables.{OpenTable, OpenContent}
-use Rattle.tl_form.specs.Formed.{OpenNode, OpenBlock, BecomesContent, BecomeContents, BecomesCell, BecomeCells, BecomeCaption, BecomesBy, BecomesWithin, Becomes}
+use Rattle.tl_form.specs.Formed.{OpenBlock, BecomesContent, BecomeContents, BecomeCells, BecomeCaption, BecomesBy, BecomesWithin, Becomes}
 use Rattle.tl_form.specs.Formed.{cells_of_group, cells_written, shape_of}
-use Rattle.tl_form.specs.Refused.{NumberedShape, HasSomeGrid, IsFirstWithoutGrid, AreRefused, IsRefused, tables_in_block, part_of_cell, part_of_group, tables_of}
+use Rattle.tl_form.specs.Refused.{NumberedShape, HasSomeGrid, AreRefused, IsRefused, tables_in_block, part_of_cell, tables_of}
 use Rattle.tl_form.specs.inner.Forming.{IsOwnError, tables_in_flow, tables_in_caption, tables_in_cells, tables_in_groups}
 use Rattle.tl_form.proofs.TreeParts.{itself, tables_in_open, tables_in_block-out, part_of_cell-out, part_of_group-out, tables_of-out}
 use Rattle.tl_form.proofs.SoundParts.{append_each}

@@ -1,7 +1,6 @@
 -- Where the cells of a table lie: its caption on top, and below it the cells at the places of its grid.
-use Rattle.std.proofs.Common.{◌≡◌, ◌∙◌, ℕ, zero, suc, ◌+◌, ◌-◌, ◌<◌, ◌≤◌, max, Option, Some, None, List, [], ◌∷◌, ◌++◌, ◌⊎◌, inl, inr, length, map, get_or, Contains, refl, sym, ap, subst, arith}
+use Rattle.std.proofs.Common.{◌≡◌, ◌∙◌, ℕ, zero, suc, ◌+◌, ◌-◌, ◌<◌, ◌≤◌, max, Option, Some, None, List, [], ◌∷◌, ◌++◌, ◌⊎◌, inl, inr, map, Contains, refl, sym, ap, subst, arith}
 use Rattle.std.specs.List.{All, AllPairs, Any}
-use Rattle.std.proofs.lemmas.List.{length-map, get_or-map}
 use Rattle.std.proofs.lemmas.List.Elements.{All-cons, All-contains}
 use Rattle.tl_base.specs.declared.limits.TheConstants.{MAX_COLUMNS, MAX_ROWS}
 use Rattle.tl_base.specs.declared.breaking.Breaking.{Breaking}
@@ -10,14 +9,14 @@ use Rattle.tl_grid.specs.declared.shape.Grid.{Grid}
 use Rattle.tl_grid.specs.declared.shape.Place.{Place}
 use Rattle.tl_grid.specs.Dropping.{IsPlaced}
 use Rattle.tl_grid.specs.Form.{HasGrid}
-use Rattle.tl_grid.specs.Slots.{AreApart, HasAnchorInColumn, HasAnchorInRow}
+use Rattle.tl_grid.specs.Slots.{AreApart}
 use Rattle.tl_grid.proofs.Laws.{all_within, all_apart, all_columns, all_rows}
 use Rattle.tl_tree.specs.Outline.{outline}
 use Rattle.tl_tree.specs.Sound.{AreSound}
 use Rattle.tl_tree.specs.declared.node.Block.{Block}
 use Rattle.tl_tree.specs.declared.node.TableNode.{TableNode, out-TableNode}
 use Rattle.tl_form.specs.declared.cell.Table.{Table}
-use Rattle.tl_form.specs.declared.cell.TableCell.{TableCell, out-TableCell}
+use Rattle.tl_form.specs.declared.cell.TableCell.{TableCell}
 use Rattle.tl_form.specs.Formed.{BecomeCaption, lowered, caption_rows, shape_of}
 use Rattle.tl_form.specs.Sound.{place_of}
 use Rattle.tl_form.proofs.SoundNodes.{shape_spans}

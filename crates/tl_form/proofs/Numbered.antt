@@ -1,19 +1,18 @@
 -- The tables of a sound tree begin in the order of their numbers, so the first without a grid is the first by number.
-use Rattle.std.proofs.Common.{◌≡◌, ◌∙◌, ℕ, zero, suc, ◌+◌, ◌<◌, ◌≤◌, Option, Some, None, List, [], ◌∷◌, ◌++◌, ◌⊎◌, inl, inr, length, Contains, refl, sym, ap, subst, append_assoc, arith, length-append}
-use Rattle.std.specs.List.{All, AllByRecursion, flat_map}
+use Rattle.std.proofs.Common.{◌≡◌, ◌∙◌, ℕ, zero, suc, ◌+◌, ◌<◌, ◌≤◌, Option, Some, None, List, [], ◌∷◌, ◌++◌, length, refl, sym, ap, subst, append_assoc, arith, length-append}
+use Rattle.std.specs.List.{AllByRecursion, flat_map}
 use Rattle.std.proofs.lemmas.Grind.{flat_map-append}
 use Rattle.std.proofs.lemmas.List.{append-nil}
-use Rattle.tl_base.proofs.Members.{Contains-cases}
 use Rattle.tl_grid.specs.declared.error.GridError.{GridError}
-use Rattle.tl_tree.specs.Outline.{Entry, Entries, table, caption, columns, group, row, cell, paragraph, table_end, block_outline, outline}
+use Rattle.tl_tree.specs.Outline.{Entries, table, caption, columns, group, row, cell, paragraph, table_end, block_outline, outline}
 use Rattle.tl_tree.specs.Sound.{IsNumberedFrom, table_count}
 use Rattle.tl_tree.specs.Sound.{IsSound as IsSoundTree}
 use Rattle.tl_tree.specs.declared.node.Block.{Block, out-Block}
 use Rattle.tl_tree.specs.declared.node.Block.TheOpen as open_block
-use Rattle.tl_tree.specs.declared.node.CellNode.{CellNode, out-CellNode}
+use Rattle.tl_tree.specs.declared.node.CellNode.{CellNode}
 use Rattle.tl_tree.specs.declared.node.TableNode.{TableNode, out-TableNode}
-use Rattle.tl_form.specs.Formed.{OpenBlock, OpenNode, cells_written}
-use Rattle.tl_form.specs.Refused.{NumberedShape, HasSomeGrid, IsFirstWithoutGrid, tables_in_block, part_of_cell, tables_of}
+use Rattle.tl_form.specs.Formed.{OpenBlock, cells_written}
+use Rattle.tl_form.specs.Refused.{NumberedShape, HasSomeGrid, IsFirstWithoutGrid, tables_in_block, tables_of}
 use Rattle.tl_form.specs.inner.Forming.{flow_outline, tables_in_flow, tables_in_caption, tables_in_cells, tables_in_groups}
 use Rattle.tl_form.proofs.TreeParts.{itself, tables_in_open, tables_in_block-out, part_of_cell-out, tables_of-out}
 use Rattle.tl_form.proofs.Gridless.{tables_written}

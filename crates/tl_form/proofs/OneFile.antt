@@ -1,11 +1,9 @@
 -- A file spells at most one table for each breaking.
-use Rattle.std.proofs.Common.{◌≡◌, ℕ, List, Ok, subst}
-use Rattle.tl_base.specs.declared.breaking.Breaking.{Breaking}
+use Rattle.std.proofs.Common.{◌≡◌, List, Ok, subst}
 use Rattle.tl_token.specs.declared.token.Token.{Token}
 use Rattle.tl_token.proofs.SpellingLemmas.{only_tokens}
 use Rattle.tl_tree.specs.Laws.{TokensSpellOneTree}
 use Rattle.tl_tree.specs.Spelling.{SpellsTree}
-use Rattle.tl_form.specs.declared.cell.Table.{Table}
 use Rattle.tl_form.specs.Laws.{FileSpellsOneTable}
 use Rattle.tl_form.proofs.OneTable.{same_tables}
 

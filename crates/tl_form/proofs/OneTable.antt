@@ -1,11 +1,10 @@
 -- The same trees become the same table, wherever in memory nested tables lie.
-use Rattle.std.proofs.Common.{◌≡◌, ◌∙◌, ℕ, zero, suc, ◌+◌, ◌<◌, ◌≤◌, max, Option, Some, None, List, [], ◌∷◌, ◌++◌, ◌⊎◌, inl, inr, length, map, get_or, Contains, Result, Ok, Err, IfOk, IfErr, refl, sym, ap, subst, ⊎_elim, arith, alloc_error}
-use Rattle.std.specs.List.{All, AllPairs, AllZip, AllByRecursion, flat_map}
-use Rattle.std.proofs.lemmas.List.Concat.{flat_map-cons}
+use Rattle.std.proofs.Common.{◌≡◌, ◌∙◌, ℕ, zero, suc, ◌+◌, ◌<◌, ◌≤◌, max, Option, Some, None, List, [], ◌∷◌, ◌++◌, inl, inr, length, map, get_or, Contains, Result, Ok, Err, IfOk, IfErr, refl, sym, ap, subst, ⊎_elim, arith, alloc_error}
+use Rattle.std.specs.List.{AllPairs, AllZip, AllByRecursion, flat_map}
 use Rattle.std.specs.List.Sorted.{IsPermutation}
 use Rattle.std.proofs.lemmas.Bool.{cases_lt}
 use Rattle.std.proofs.lemmas.List.{length-map, get_or-map}
-use Rattle.std.proofs.lemmas.List.Sorted.{Contains-permutation, IsPermutation-map, IsPermutation-sym, length_permutation}
+use Rattle.std.proofs.lemmas.List.Sorted.{Contains-permutation, IsPermutation-map, IsPermutation-sym}
 use Rattle.tl_base.specs.Returned.{IsMemoryOr}
 use Rattle.tl_base.specs.declared.breaking.Breaking.{Breaking}
 use Rattle.tl_base.proofs.Members.{same-ordered}
@@ -33,7 +32,7 @@ use Rattle.tl_form.specs.declared.cell.TableCell.{TableCell, out-TableCell}
 use Rattle.tl_form.specs.declared.error.FormError.{FormError}
 use Rattle.tl_form.specs.declared.error.FormError.TheVariants as errors
 use Rattle.tl_form.specs.Tables.{OpenTable, OpenContent}
-use Rattle.tl_form.specs.Formed.{OpenNode, OpenBlock, BecomesContent, BecomeContents, BecomesCell, BecomeCells, BecomeCaption, BecomesBy, BecomesWithin, Becomes}
+use Rattle.tl_form.specs.Formed.{OpenNode, OpenBlock, BecomesContent, BecomeContents, BecomeCells, BecomeCaption, BecomesBy, BecomesWithin, Becomes}
 use Rattle.tl_form.specs.Formed.{broken, caption_rows, cells_of_group, cells_written, group_shape, is_foot, kind_of, lowered, shape_of, span_of}
 use Rattle.tl_form.specs.Refused.{IsRefused, tables_of}
 use Rattle.tl_form.specs.Same.{AreSameContent, AreSameCell, AreSameBy, AreSameWithin, AreSame, ReturnsTable}

@@ -1,12 +1,12 @@
 -- The parts of a sound tree are sound, and the shape of each table is one that a grid is formed of.
-use Rattle.std.proofs.Common.{◌≡◌, ◌∙◌, ℕ, ◌+◌, ◌^◌, ◌<◌, ◌≤◌, Option, Some, None, List, [], ◌∷◌, ◌++◌, length, map, sum_by, refl, sym, ap, subst, arith}
+use Rattle.std.proofs.Common.{◌≡◌, ◌∙◌, ℕ, ◌+◌, ◌<◌, ◌≤◌, Some, List, [], ◌∷◌, ◌++◌, length, map, sum_by, refl, sym, ap, subst, arith}
 use Rattle.std.specs.List.{AllByRecursion, flat_map}
 use Rattle.std.proofs.lemmas.List.Concat.{flat_map-cons}
 use Rattle.std.proofs.lemmas.List.Sums.{sum_by-cons, sum_by-append}
 use Rattle.tl_base.specs.declared.limits.TheConstants.{MAX_FILE_BYTES}
 use Rattle.tl_grid.specs.Shapes.{IsSpan, AllSpans}
 use Rattle.tl_grid.specs.Forming.{cells_in, row_count, cell_count}
-use Rattle.tl_tree.specs.Outline.{Entry, Entries, table, caption, columns, group, row, cell, paragraph, table_end, block_outline, cell_outline, group_outline, outline}
+use Rattle.tl_tree.specs.Outline.{Entry, Entries, table, columns, group, row, cell, paragraph, table_end, block_outline, cell_outline, group_outline, outline}
 use Rattle.tl_tree.specs.Sound.{AreSound, IsInRange, entry_size}
 use Rattle.tl_tree.specs.inner.Reading.{caption_outline}
 use Rattle.tl_tree.specs.declared.node.Block.{Block, out-Block, roll-Block, roll-out-Block}

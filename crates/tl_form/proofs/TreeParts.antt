@@ -10,7 +10,7 @@ use Rattle.tl_tree.specs.declared.node.CellNode.{CellNode, out-CellNode, fold_ou
 use Rattle.tl_tree.specs.declared.node.GroupNode.{GroupNode, out-GroupNode, fold_out-GroupNode}
 use Rattle.tl_tree.specs.declared.node.TableNode.{TableNode, out-TableNode, map-TableNode, fold_out-TableNode}
 use Rattle.tl_form.specs.Formed.{OpenBlock, OpenNode, span_of, group_shape, shape_of, cells_of_group}
-use Rattle.tl_form.specs.Refused.{NumberedShape, CellPart, GroupPart, block_part, cell_part, group_part, caption_part, table_part}
+use Rattle.tl_form.specs.Refused.{NumberedShape, CellPart, GroupPart, block_part, cell_part, group_part, table_part}
 use Rattle.tl_form.specs.Refused.{tables_in_block, part_of_cell, part_of_group, tables_of}
 use Rattle.tl_form.specs.inner.Forming.{tables_in_flow, tables_in_caption, tables_in_cells, tables_in_groups}
 

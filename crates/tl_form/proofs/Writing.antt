@@ -1,15 +1,14 @@
 -- Cells that are written one after another, each at the place of its number.
-use Rattle.std.proofs.Common.{◌≡◌, ◌∙◌, ℕ, zero, suc, ◌+◌, ◌<◌, ◌≤◌, List, [], ◌∷◌, ◌++◌, length, map, get_or, take, drop, refl, sym, ap, subst, append_assoc, length-append, arith}
+use Rattle.std.proofs.Common.{◌≡◌, ◌∙◌, ℕ, ◌+◌, ◌<◌, ◌≤◌, List, [], ◌∷◌, ◌++◌, length, map, get_or, take, drop, refl, sym, ap, subst, append_assoc, length-append, arith}
 use Rattle.std.specs.List.{AllZip, flat_map}
 use Rattle.std.proofs.lemmas.Grind.{flat_map-append}
 use Rattle.std.proofs.lemmas.List.{append-nil, map-append, take_more, take-append-drop}
-use Rattle.std.proofs.Math.Seq.{drop-cons}
 use Rattle.tl_base.specs.declared.breaking.Breaking.{Breaking}
 use Rattle.tl_base.proofs.Zips.{AllZip-push}
 use Rattle.tl_grid.specs.declared.shape.Place.{Place}
 use Rattle.tl_tree.specs.declared.node.CellNode.{CellNode, out-CellNode}
 use Rattle.tl_form.specs.declared.cell.TableCell.{TableCell, out-TableCell}
-use Rattle.tl_form.specs.Formed.{Becomes, BecomesCell, BecomeCells}
+use Rattle.tl_form.specs.Formed.{Becomes, BecomesCell}
 use Rattle.tl_form.specs.Sound.{place_of}
 use Rattle.tl_form.specs.inner.Forming.{Writes}
 

@@ -1,16 +1,15 @@
-use Rattle.std.proofs.Common.{◌≡◌, ◌∙◌, ◌+◌, ◌<◌, ◌≤◌, ◌++◌, [], ◌∷◌, List, length, map, take, get_or, refl, sym, ap, subst, rules, arith, alloc_error}
+use Rattle.std.proofs.Common.{◌≡◌, ◌∙◌, ◌+◌, ◌<◌, ◌≤◌, [], List, length, map, take, get_or, sym, ap, subst, rules, arith, alloc_error}
 use Rattle.std.specs.List.{All, AllByRecursion, flat_map}
 use Rattle.std.specs.List.Sorted.{IsPermutation, IsNonDecreasingBy}
 use Rattle.std.proofs.lemmas.List.{take_all, length-map, length-take}
 use Rattle.tl_base.specs.Returned.{IsMemoryOr}
 use Rattle.tl_base.specs.declared.limits.TheConstants.{MAX_ROWS}
 use Rattle.tl_grid.specs.declared.shape.Place.{Place}
-use Rattle.tl_grid.specs.Dropping.{IsPlaced}
 use Rattle.tl_grid.proofs.Laws.{all_within}
-use Rattle.tl_tree.specs.Outline.{block_outline, cell_outline, group_outline, outline}
+use Rattle.tl_tree.specs.Outline.{block_outline, cell_outline, group_outline}
 use Rattle.tl_tree.specs.Sound.{AreSound}
 use Rattle.tl_tree.specs.declared.node.Block.{the_lemmas, out-Block}
-use Rattle.tl_tree.specs.declared.node.CellNode.{CellNode, out-CellNode}
+use Rattle.tl_tree.specs.declared.node.CellNode.{CellNode}
 use Rattle.tl_tree.specs.declared.node.GroupNode.{GroupNode, out-GroupNode}
 use Rattle.tl_tree.specs.declared.node.TableNode.{out-TableNode}
 use Rattle.tl_form.specs.declared.cell.Content.{out-Content}

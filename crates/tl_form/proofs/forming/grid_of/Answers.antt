@@ -1,8 +1,7 @@
-use Rattle.std.proofs.Common.{◌≡◌, ◌^◌, ◌<◌, sym, ap, subst, arith}
+use Rattle.std.proofs.Common.{sym, ap, subst, arith}
 use Rattle.tl_grid.specs.declared.shape.Shape.{Shape}
 use Rattle.tl_grid.specs.Shapes.{AllSpans}
 use Rattle.tl_grid.specs.Forming.{row_count, cell_count}
-use Rattle.tl_base.specs.declared.limits.TheConstants.{MAX_FILE_BYTES, MAX_DECLARED_COLUMNS}
 use Rattle.tl_form.proofs.SoundNodes.{shape_spans, shape_columns, shape_size}
 use Rattle.tl_form.proofs.forming.grid_of.Goals as goal
 
