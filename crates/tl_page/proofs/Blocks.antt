@@ -1,9 +1,8 @@
 -- A block that fits: a paragraph has a cutting, and a nested table the next layout.
-use Rattle.std.proofs.Common.{◌≡◌, ℕ, ◌+◌, ◌*◌, ◌^◌, ◌<◌, ◌≤◌, List, [], ◌∷◌, ◌++◌, length, drop, get_or, sum, refl, sym, ◌∙◌, ap, subst, suc, arith}
+use Rattle.std.proofs.Common.{◌≡◌, ℕ, ◌+◌, ◌<◌, ◌≤◌, List, [], ◌∷◌, ◌++◌, length, drop, get_or, refl, sym, ◌∙◌, ap, subst, suc, arith}
 use Rattle.std.proofs.lemmas.List.{get_or-drop, drop_more, length-drop}
 use Rattle.std.specs.declared.alloc.Global.{Global}
 use Rattle.std.specs.declared.boxed.Box.{Box}
-use Rattle.tl_base.specs.declared.limits.TheConstants.{MAX_HEIGHT, MAX_PAGE_WIDTH}
 use Rattle.tl_base.specs.declared.style.Style.{Style}
 use Rattle.tl_base.specs.declared.style.Style.TheVariants.{Plain, Frame}
 use Rattle.tl_base.specs.Style.{gap_of, row_gap_of, edge_of}
@@ -12,11 +11,9 @@ use Rattle.tl_text.specs.Cuttings.{HasCutting}
 use Rattle.tl_form.specs.declared.cell.Content.TheOpen as open_content
 use Rattle.tl_form.specs.declared.cell.Table.{Table, out-Table}
 use Rattle.tl_form.specs.declared.layout.Layout.{Layout, out-Layout}
-use Rattle.tl_form.specs.Layouts.{FitsWithin}
-use Rattle.tl_form.specs.Tables.{OpenContent}
 use Rattle.tl_page.specs.declared.line.Drawn.{Drawn}
 use Rattle.tl_page.specs.declared.line.Line.{Line}
-use Rattle.tl_page.specs.Pages.{AreParagraphLines, ShowsWithin, IsPage, nested_lines}
+use Rattle.tl_page.specs.Pages.{AreParagraphLines, ShowsWithin, nested_lines}
 use Rattle.tl_page.specs.Pictures.{lines_of}
 use Rattle.tl_page.specs.inner.Contents.{FitsPage, FitsBlockRoom, ShowsPart, ShowsCells, picture_with}
 

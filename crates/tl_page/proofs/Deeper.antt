@@ -1,5 +1,5 @@
 -- What is a page by tables of some depth is one by those of any greater depth.
-use Rattle.std.proofs.Common.{◌≡◌, ℕ, zero, suc, ◌+◌, List, sym, subst, arith}
+use Rattle.std.proofs.Common.{◌≡◌, ℕ, zero, suc, ◌+◌, List, subst, arith}
 use Rattle.tl_base.specs.declared.style.Style.{Style}
 use Rattle.tl_form.specs.declared.cell.Content.{out-Content}
 use Rattle.tl_form.specs.declared.cell.Content.TheOpen as open_content

@@ -1,19 +1,18 @@
 -- What follows where a layout fits: sizes that are small, rooms within the page, and layouts of nested tables one after
 -- the other.
-use Rattle.std.proofs.Common.{◌≡◌, ℕ, zero, suc, ◌+◌, ◌*◌, ◌^◌, ◌<◌, ◌≤◌, List, [], ◌∷◌, ◌++◌, length, drop, sum, refl, sym, ◌∙◌, ap, subst, arith}
+use Rattle.std.proofs.Common.{◌≡◌, ℕ, zero, suc, ◌+◌, ◌*◌, ◌^◌, ◌<◌, ◌≤◌, List, [], ◌∷◌, ◌++◌, length, drop, sum, refl, sym, ◌∙◌, ap, arith}
 use Rattle.std.specs.List.{All, AllZip, flat_map}
 use Rattle.std.proofs.lemmas.List.{drop_at, length-append}
 use Rattle.std.proofs.lemmas.List.Sums.{sum_by-cons}
 use Rattle.tl_base.specs.declared.limits.TheConstants.{MAX_COLUMNS, MAX_HEIGHT, MAX_PAGE_WIDTH, MAX_ROWS}
 use Rattle.tl_base.specs.declared.style.Style.{Style}
 use Rattle.tl_base.specs.Style.{gap_of, row_gap_of, edge_of}
-use Rattle.tl_problem.specs.Sizes.{position, room, total}
+use Rattle.tl_problem.specs.Sizes.{room, total}
 use Rattle.tl_problem.proofs.SizeLaws.{total-position, room-position, position-mono}
 use Rattle.tl_grid.specs.Dropping.{IsPlaced}
 use Rattle.tl_form.specs.declared.cell.Content.{Content as Block, out-Content}
 use Rattle.tl_form.specs.declared.cell.Content.TheOpen as open_content
 use Rattle.tl_form.specs.declared.cell.Table.{Table, out-Table}
-use Rattle.tl_form.specs.declared.cell.TableCell.{out-TableCell}
 use Rattle.tl_form.specs.declared.layout.Layout.{Layout, out-Layout}
 use Rattle.tl_form.specs.Tables.{OpenTable, OpenCell, OpenContent}
 use Rattle.tl_form.specs.Layouts.{OpenLayout, Share, FitsShare, FitsRoom, FitsBy, FitsWithin}
@@ -99,8 +98,13 @@ module _ (fits : Table → ℕ → ℕ → Layout → Type 0) (shows : Table →
   as_many_in_blocks (block ∷ blocks) [] parts fit shown = absurd fit
   as_many_in_blocks (block ∷ blocks) (share ∷ shares) [] fit shown = absurd shown
   as_many_in_blocks (block ∷ blocks) (share ∷ shares) (part ∷ parts) fit shown =
-      omega (arith, length-append share.inner (flat_map (λ share. share.inner) shares), length-append part.inner (flat_map (λ part. part.inner) parts),
-      as_many_in_block (out-Content block) share part fit.0 shown.0, as_many_in_blocks blocks shares parts fit.1 shown.1)
+      omega (
+        arith,
+        length-append share.inner (flat_map (λ share. share.inner) shares),
+        length-append part.inner (flat_map (λ part. part.inner) parts),
+        as_many_in_block (out-Content block) share part fit.0 shown.0,
+        as_many_in_blocks blocks shares parts fit.1 shown.1,
+      )
 
   -- and so does a cell
   pub as_many_in_cell : (h : ℕ) (cell : OpenCell) (given : List Layout) (content : Content) → FitsRoom fits w h cell given → ShowsCell shows style w cell content →

@@ -1,7 +1,7 @@
 -- The lines of a paragraph, as the ranges of its atoms show them.
-use Rattle.std.proofs.Common.{◌≡◌, ℕ, zero, suc, ◌+◌, ◌-◌, ◌<◌, ◌≤◌, List, [], ◌∷◌, ◌++◌, length, take, drop, get_or, map, IsSomeAnd, slice_get, refl, sym, ◌∙◌, ap, ap₂, arith, inl, inr}
+use Rattle.std.proofs.Common.{◌≡◌, ℕ, zero, suc, ◌-◌, ◌<◌, ◌≤◌, List, [], ◌∷◌, length, drop, get_or, map, IsSomeAnd, slice_get, refl, ◌∙◌, ap, ap₂, arith, inl, inr}
 use Rattle.std.specs.List.{All, AllZip, AllByRecursion}
-use Rattle.std.proofs.lemmas.List.{take_all, length-take, length-drop}
+use Rattle.std.proofs.lemmas.List.{length-take, length-drop}
 use Rattle.std.proofs.lemmas.List.Elements.{All-from_recursion, All-take, All-drop}
 use Rattle.tl_text.specs.declared.ranges.Line.{Line as Range}
 use Rattle.tl_text.specs.declared.paragraph.Atom.{Atom}

@@ -1,5 +1,5 @@
 -- Numbers in a row, one more at the end.
-use Rattle.std.proofs.Common.{◌≡◌, ℕ, ◌+◌, zero, suc, List, [], ◌∷◌, ◌++◌, map, refl, sym, ◌∙◌, ap, arith}
+use Rattle.std.proofs.Common.{◌≡◌, ℕ, ◌+◌, zero, suc, [], ◌∷◌, ◌++◌, map, ◌∙◌, ap, arith}
 use Rattle.std.specs.List.{range_with_len}
 
 pub map-range_more : {X : Type 0} (f : ℕ → X) (a k : ℕ) →

@@ -1,10 +1,9 @@
 -- The slots of a grid, row by row in one list, and the cells over them.
-use Rattle.std.proofs.Common.{◌≡◌, ℕ, ◌+◌, ◌-◌, ◌*◌, ◌<◌, ◌≤◌, ◌⊎◌, inl, inr, Bool, true, false, ◌&&◌, Option, Some, None, replicate, length, get_or, refl, sym, ◌∙◌, ap, arith, tests, if◌then◌else◌}
+use Rattle.std.proofs.Common.{◌≡◌, ℕ, ◌+◌, ◌*◌, ◌<◌, ◌≤◌, ◌⊎◌, inl, inr, true, false, ◌&&◌, Option, Some, replicate, get_or, refl, ◌∙◌, ap, arith, tests, if◌then◌else◌}
 use Rattle.std.proofs.Math.Nat.{mul-le-mul}
-use Rattle.std.proofs.lemmas.Bool.{cases_Bool, cases_lt, false≢true}
+use Rattle.std.proofs.lemmas.Bool.{cases_Bool, cases_lt}
 use Rattle.std.proofs.lemmas.List.{get_or-replicate, get_or_past, length-replicate}
 use Rattle.tl_grid.specs.declared.shape.Place.{Place}
-use Rattle.tl_page.specs.declared.owner.Owner.{Owner}
 use Rattle.tl_page.specs.declared.owner.Owner.TheVariants.{Outside}
 use Rattle.tl_page.specs.Corners.{covers_slot, is_inside, owned}
 

@@ -43,7 +43,12 @@ pub fn drawn_cells(
     ensures { IfOk result (ShowsCells style table.now layout.now) }
 {
     let across = strips(alloc, style.gap(), style.edge(), layout.widths.as_slice())?;
-    let down = strips(alloc, style.row_gap(), style.edge(), layout.heights.as_slice())?;
+    let down = strips(
+        alloc,
+        style.row_gap(),
+        style.edge(),
+        layout.heights.as_slice(),
+    )?;
     let mut cells = List::new(alloc);
     let mut next = 0;
     for cell in table.cells.as_slice() {
@@ -129,7 +134,12 @@ pub fn page_with(
     let drawing = Drawing {
         style,
         across: strips(alloc, style.gap(), style.edge(), layout.widths.as_slice())?,
-        down: strips(alloc, style.row_gap(), style.edge(), layout.heights.as_slice())?,
+        down: strips(
+            alloc,
+            style.row_gap(),
+            style.edge(),
+            layout.heights.as_slice(),
+        )?,
         owners: Owners::new(alloc, table)?,
         cells,
     };

@@ -98,7 +98,12 @@ fn put_cell(slots: &mut [Option<usize>], cols: u32, place: Place, number: usize)
 {
     for row in place.top..place.bottom {
         let begin = row as usize * cols as usize;
-        put_row(slots, begin + place.left as usize, begin + place.right as usize, number);
+        put_row(
+            slots,
+            begin + place.left as usize,
+            begin + place.right as usize,
+            number,
+        );
     }
 }
 

@@ -14,7 +14,12 @@ use tl_form::{Layout, Table};
 /// filled to the width of the layout and ended by a line feed, in UTF-8. A paragraph is cut greedily
 /// in the room of its cell, and a nested table stands in its cell as its own page (docs/MODEL.md,
 /// "A page").
-pub fn page(alloc: Global, table: &Table, style: Style, layout: &Layout) -> Result<List<u8>, AllocError>
+pub fn page(
+    alloc: Global,
+    table: &Table,
+    style: Style,
+    layout: &Layout,
+) -> Result<List<u8>, AllocError>
     requires sound { IsSound table.now }
     requires fit { (width height : ℕ) × (width ≤ MAX_PAGE_WIDTH) × (height ≤ MAX_HEIGHT) × Fits table.now style width height layout.now }
     ensures { IfOk result (λ bytes. (lines : List (List ℕ)) × IsPage style table.now layout.now lines × (bytes ≡ bytes_of lines)) }

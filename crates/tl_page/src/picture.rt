@@ -50,7 +50,12 @@ fn write_times(line: &mut List<u8>, character: u8, count: u64) -> Result<(), All
 }
 
 /// Writes a line of content, filled with spaces to so many columns; spaces where there is none.
-fn write_filled(line: &mut List<u8>, columns: u32, lines: &[Line], place: u64) -> Result<(), AllocError>
+fn write_filled(
+    line: &mut List<u8>,
+    columns: u32,
+    lines: &[Line],
+    place: u64,
+) -> Result<(), AllocError>
     ensures { OnOk result (line.new ≡ line.old ++ filled columns (slice_get lines.now place)) }
 {
     let columns = u64::from(columns);

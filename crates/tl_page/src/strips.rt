@@ -28,7 +28,11 @@ pub fn strips(alloc: Global, gap: u32, edge: u32, sizes: &[u32]) -> Result<List<
     let mut from = edge;
     let mut slot = 1;
     for size in sizes {
-        let after = if slot as usize == sizes.len() { edge } else { gap };
+        let after = if slot as usize == sizes.len() {
+            edge
+        } else {
+            gap
+        };
         push_both(&mut list, slot, from, *size, after)?;
         from = from + *size + gap;
         slot += 1;
@@ -37,7 +41,13 @@ pub fn strips(alloc: Global, gap: u32, edge: u32, sizes: &[u32]) -> Result<List<
 }
 
 /// Puts the strip of a slot and the one after it at the end.
-fn push_both(list: &mut List<Strip>, slot: u32, from: u32, size: u32, after: u32) -> Result<(), AllocError>
+fn push_both(
+    list: &mut List<Strip>,
+    slot: u32,
+    from: u32,
+    size: u32,
+    after: u32,
+) -> Result<(), AllocError>
     requires slot { slot < 2 ^ 31 }
     requires from { from + size < 2 ^ 32 }
     ensures { OnOk result (list.new ≡ list.old

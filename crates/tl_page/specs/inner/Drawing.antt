@@ -1,5 +1,5 @@
 -- How the drawing code keeps a picture. No public clause cites this file.
-use Rattle.std.specs.Prelude.{ℕ, ◌+◌, ◌*◌, ◌-◌, ◌&&◌, List, get_or, None, if◌then◌else◌}
+use Rattle.std.specs.Prelude.{ℕ, ◌+◌, ◌*◌, ◌-◌, ◌&&◌, get_or, None, if◌then◌else◌}
 use Rattle.tl_page.specs.declared.owner.Owner.{Owner}
 use Rattle.tl_page.specs.declared.owner.Owner.TheVariants.{Outside}
 use Rattle.tl_page.specs.declared.owners.Owners.{Owners}

@@ -1,10 +1,9 @@
 -- One more block, and one more cell, stand in the lines; a nested table stands as its page.
 use Rattle.std.proofs.Common.{◌≡◌, ◌∙◌, ◌+◌, ◌*◌, ◌^◌, ◌<◌, ◌≤◌, [], ◌∷◌, ◌++◌, ℕ, List, get_or, length, sum, sym, ap, ap₂, subst, rules, arith}
 use Rattle.std.proofs.lemmas.List.{take_all}
-use Rattle.tl_base.specs.Style.{gap_of, row_gap_of, edge_of}
+use Rattle.tl_base.specs.Style.{row_gap_of, edge_of}
 use Rattle.tl_problem.specs.Sizes.{position, room}
 use Rattle.tl_form.specs.declared.cell.Content.{out-Content, the_lemmas}
-use Rattle.tl_form.specs.declared.cell.Content.TheOpen as open_content
 use Rattle.tl_form.specs.declared.cell.Content.TheVariants.{outs-Para, outs-Table}
 use Rattle.tl_form.specs.declared.cell.Table.{out-Table}
 use Rattle.tl_form.specs.declared.cell.TableCell.{out-TableCell}
@@ -13,8 +12,7 @@ use Rattle.tl_form.specs.inner.LeastRooms.{IsSoundBlock, IsSoundCell}
 use Rattle.tl_form.specs.Layouts.{width_for}
 use Rattle.tl_form.specs.Sound.{place_of}
 use Rattle.tl_form.proofs.SoundParts.{sound_cells, sound_blocks, at_item}
-use Rattle.tl_page.specs.Pages.{nested_lines}
-use Rattle.tl_page.specs.Pictures.{drawn, lines_of}
+use Rattle.tl_page.specs.Pictures.{lines_of}
 use Rattle.tl_page.specs.inner.Contents.{FitsBlockRoom, FitsCellRoom, ShowsPart, ShowsParts, ShowsCells, picture_with}
 use Rattle.tl_page.proofs.Blocks.{paragraph_shown, nested_given, nested_within, nested_fits, nested_shown}
 use Rattle.tl_page.proofs.Fitting.{fitting, sound_table, small_widths, small_heights}
@@ -35,8 +33,7 @@ cell_part-put_block-requires t c =
     let within : c.loop-block.block-index < length blocks =
     subst (λ items. c.loop-block.block-index < length items) c.as_slice-block-items.ensures c.loop-block-test.true in
     let is : c.block-item.result ≡ get_or blocks c.loop-block.block-index c.block-item.result =
-    subst (λ items. c.block-item.result ≡ get_or items c.loop-block.block-index c.block-item.result) c.as_slice-block-items.ensures c.block-item.is in
-    (
+    subst (λ items. c.block-item.result ≡ get_or items c.loop-block.block-index c.block-item.result) c.as_slice-block-items.ensures c.block-item.is in (
       search (rules, the_lemmas),
       (
         at_item (λ block. IsSoundBlock (out-Content block)) blocks c.loop-block.block-index c.block-item.result (sound_blocks c.args.cell.now c.requires.sound) within is,
@@ -77,8 +74,11 @@ put_block-overflow_add-result t c =
     let box = c.in-Table.table in
     let open_block = ap out-Content c.in-Table.is ∙ outs-Table box in
     let fit = subst (λ block. FitsBlockRoom c.args.style c.args.width block c.args.inner.now c.args.next) open_block c.requires.fit in
-    omega (arith, nested_within c.args.style c.args.width box.value c.args.inner.now c.args.next
-    (nested_given c.args.style c.args.width box c.args.inner.now c.args.next fit))
+    omega (
+      arith,
+      nested_within c.args.style c.args.width box.value c.args.inner.now c.args.next
+          (nested_given c.args.style c.args.width box c.args.inner.now c.args.next fit),
+    )
 
 pub put_block-returns-in_ok-put_paragraph-in-Para : goal.put_block-returns-in_ok-put_paragraph-in-Para
 put_block-returns-in_ok-put_paragraph-in-Para t c =
@@ -131,8 +131,7 @@ drawn_cells-cell_part-requires t c =
     let many : place.right ≤ length c.as_slice.result.now = omega (arith, ap length c.as_slice.ensures, fit.fits.columns, placed.1) in
     let columns : c.room_in-columns.result ≡ width_for c.args.style layout place =
     c.room_in-columns.ensures c.gap.result c.edge.result c.as_slice.result.now (c.as_slice-in-loop-cell.ensures ∙ c.in_ok-across.ensures) placed.0 many
-    ∙ ap₂ (λ (gap : ℕ) (sizes : List ℕ). room gap sizes place.left place.right) c.gap.ensures c.as_slice.ensures in
-    (
+    ∙ ap₂ (λ (gap : ℕ) (sizes : List ℕ). room gap sizes place.left place.right) c.gap.ensures c.as_slice.ensures in (
       search (rules, the_lemmas),
       (
         at_item (λ cell. IsSoundCell (out-TableCell cell)) table.cells c.loop-cell.cell-index cell (sound_cells c.args.table.now c.requires.sound) within is,

@@ -1,5 +1,5 @@
 -- One more row of the place: its slots have the number, and no others change.
-use Rattle.std.proofs.Common.{◌≡◌, ◌+◌, ◌*◌, ◌<◌, ◌≤◌, ◌⊎◌, inl, inr, ◌∙◌, arith}
+use Rattle.std.proofs.Common.{◌≡◌, ◌+◌, ◌*◌, ◌≤◌, inl, inr, ◌∙◌, arith}
 use Rattle.std.proofs.lemmas.Bool.{cases_lt}
 use Rattle.tl_page.proofs.SlotLemmas.{row_before, row_after}
 use Rattle.tl_page.proofs.owners.put_cell.Goals as goal

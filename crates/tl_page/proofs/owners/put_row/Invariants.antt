@@ -1,5 +1,5 @@
 -- The slots so far have the number, and all others are as before.
-use Rattle.std.proofs.Common.{◌≡◌, ℕ, ◌<◌, ◌≤◌, length, get_or, Some, None}
+use Rattle.std.proofs.Common.{◌≡◌, ℕ, ◌<◌, ◌≤◌, get_or, Some, None}
 use Rattle.tl_page.proofs.owners.put_row.Given as goal
 
 abbrev pub invariant-loop-k : goal.invariant-loop-k

@@ -1,12 +1,12 @@
 -- The ranges lie within the paragraph, and show its lines.
-use Rattle.std.proofs.Common.{◌≡◌, ◌≤◌, ◌+◌, ◌++◌, ◌∙◌, ◌∷◌, [], length, get_or, subst, map, take, ap, sym, append_assoc, arith}
+use Rattle.std.proofs.Common.{◌≡◌, ◌≤◌, ◌++◌, ◌∙◌, ◌∷◌, [], length, get_or, subst, map, take, ap, sym, append_assoc, arith}
 use Rattle.std.proofs.lemmas.List.{map_more, take_all}
 use Rattle.tl_base.specs.declared.limits.TheConstants.{MAX_FILE_BYTES}
 use Rattle.std.specs.List.{All}
 use Rattle.tl_text.specs.Paragraph.{atom_size}
 use Rattle.tl_text.specs.declared.ranges.Line.{Line as Range}
 use Rattle.tl_text.specs.Ranges.{ShowsGreedyCutting}
-use Rattle.tl_page.specs.Pages.{AreParagraphLines, line_from}
+use Rattle.tl_page.specs.Pages.{line_from}
 use Rattle.tl_page.specs.inner.Lines.{ranged}
 use Rattle.tl_page.proofs.ParagraphLines.{range_within, range_is_small, range_is_short, none_too_wide, are_lines}
 use Rattle.tl_page.proofs.paragraph.put_paragraph.Goals as goal
@@ -49,8 +49,7 @@ pub returns : goal.returns
 returns c =
     let ranges = c.as_slice-range-items.result.now in
     let shown : ShowsGreedyCutting c.args.width c.args.paragraph.now ranges =
-    subst (ShowsGreedyCutting c.args.width c.args.paragraph.now) (sym c.as_slice-range-items.ensures) c.in-Ok.ensures.greedy in
-    (
+    subst (ShowsGreedyCutting c.args.width c.args.paragraph.now) (sym c.as_slice-range-items.ensures) c.in-Ok.ensures.greedy in (
       map (λ range. line_from (ranged c.args.paragraph.now range)) ranges,
       are_lines c.args.width c.args.paragraph.now ranges shown,
       subst (λ atoms. c.loop-range.lines ≡ c.args.lines.now ++ map (λ range. line_from (ranged atoms range)) ranges) c.atoms-atoms.ensures.atoms

@@ -1,5 +1,5 @@
 -- One more unit is written after those so far.
-use Rattle.std.proofs.Common.{◌≡◌, ◌<◌, ◌∙◌, ◌+◌, ◌++◌, length, take, ap, sym, append_assoc, arith}
+use Rattle.std.proofs.Common.{◌<◌, ◌∙◌, ◌++◌, length, take, ap, sym, append_assoc, arith}
 use Rattle.tl_page.specs.Pages.{line_text, text_of}
 use Rattle.tl_page.specs.Pictures.{spaces}
 use Rattle.tl_page.specs.inner.Lines.{gap_in_line}

@@ -23,9 +23,9 @@ loop-size-preserved c =
     record {
       so_far = ap (λ list. list ++ rest) c.in_ok-push_both.ensures
           ∙ append_assoc c.loop-size.list (record { before = slot; after = slot; from = from; size = size }
-              ∷ record { before = slot; after = slot + 1; from = from + size; size = c.if-slot-sizes.after } ∷ []) rest
+          ∷ record { before = slot; after = slot + 1; from = from + size; size = c.if-slot-sizes.after } ∷ []) rest
           ∙ ap (λ after. c.loop-size.list ++ (record { before = slot; after = slot; from = from; size = size }
-              ∷ record { before = slot; after = slot + 1; from = from + size; size = after } ∷ rest)) after
+          ∷ record { before = slot; after = slot + 1; from = from + size; size = after } ∷ rest)) after
           ∙ ap (λ all. c.loop-size.list ++ all) (sym (at_drop_more (strips_from c.args.gap c.args.edge slot from) sizes n 0 within))
           ∙ c.loop-size.invariant.so_far;
       slot = omega arith;

@@ -1,5 +1,5 @@
 -- What is put so far and the strips that are left are all strips.
-use Rattle.std.proofs.Common.{◌≡◌, ◌++◌, ◌∷◌, ◌+◌, ◌*◌, ◌<◌, ◌≤◌, ◌-◌, ◌^◌, length, drop, sum}
+use Rattle.std.proofs.Common.{◌≡◌, ◌++◌, ◌+◌, ◌*◌, ◌<◌, ◌-◌, ◌^◌, length, drop, sum}
 use Rattle.tl_page.specs.Strips.{strips_from, strips}
 use Rattle.tl_page.proofs.strips.strips.Given as goal
 

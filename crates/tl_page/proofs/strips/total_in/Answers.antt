@@ -1,5 +1,5 @@
 -- The last strip is an edge.
-use Rattle.std.proofs.Common.{◌≡◌, ℕ, ◌+◌, ◌-◌, ◌<◌, get_or, length, ap, ap₂, ◌∙◌, subst, arith, tests}
+use Rattle.std.proofs.Common.{ℕ, ◌+◌, ◌-◌, ◌<◌, get_or, length, ap, ap₂, ◌∙◌, subst, arith, tests}
 use Rattle.tl_page.specs.declared.strip.Strip.{Strip}
 use Rattle.tl_page.specs.Strips.{strips}
 use Rattle.tl_page.proofs.StripLemmas.{total-last}
