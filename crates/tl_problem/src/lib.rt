@@ -16,6 +16,8 @@ mod placing;
 mod problem;
 mod sound;
 mod spans;
+#[cfg(test)]
+mod tests;
 mod work;
 mod zone;
 
