@@ -91,7 +91,8 @@ module _ (forms : TableNode → Table → Type 0) (each : (node : TableNode) (ta
         (becomes.grid, becomes.has_grid),
         append_each HasSomeGrid (tables_in_caption (out-TableNode node).caption) (tables_in_groups (out-TableNode node).groups)
             (caption_gridded table.cols (out-TableNode node).caption becomes.caption becomes.captioned)
-            (subst Gridded (sym (tables_written (out-TableNode node).groups)) (cells_gridded (cells_written (out-TableNode node)) becomes.written becomes.cells)),
+            (subst Gridded (sym (tables_written (out-TableNode node).groups))
+            (cells_gridded (cells_written (out-TableNode node)) becomes.written becomes.cells)),
       )
 
 within_gridded : (depth : ℕ) (breaking : Breaking) (node : TableNode) (table : Table) → BecomesWithin depth breaking node table → Gridded (tables_of node)

@@ -463,7 +463,8 @@ module _ (box : Box Table Global) (is : box.value ≡ roll-Table spanned) where
                   sum_by (λ share. share.height) given ≤ height_for Plain now left → least ≤ h
               shares [] blocks within = absurd blocks
               shares (share ∷ given) blocks within =
-                  let own = subst (λ block. FitsShare (FitsWithin depth Plain) (width_for Plain now left) block share) (out-roll-Content (open_content.Table box))
+                  let own = subst (λ block. FitsShare (FitsWithin depth Plain) (width_for Plain now left) block share)
+                  (out-roll-Content (open_content.Table box))
                   blocks.0 in
                   omega (
                     arith,

@@ -96,7 +96,13 @@ flow_numbered n each (block ∷ flow) k rest few numbered =
 
 numbered : (n : ℕ) → Numbered n
 numbered zero node k rest few is =
-    absurd (omega (arith, alone-count (outline node), ap table_count (alone-table node), count-append (alone (blocks_of (out-TableNode node))) (table_end ∷ [])))
+    absurd (omega (
+      arith,
+      alone-count (outline node),
+      ap table_count (alone-table node),
+      count-append (alone (blocks_of (out-TableNode node)))
+          (table_end ∷ []),
+    ))
 numbered (suc n) node k rest few is =
     let blocks = blocks_of (out-TableNode node) in
     let opened : tables_alone (outline node) ++ rest ≡ table (out-TableNode node).number ∷ (alone blocks ++ table_end ∷ rest) =

@@ -103,7 +103,8 @@ module _ (R : TableCell → TableCell → Type 0) (placed : (x y : TableCell) �
           let at : get_or (map place_of vs) j (place_of e) ≡ get_or (map place_of vs) i (place_of e) =
           get_or-map place_of vs j y (place_of e) has.1 ∙ ap place_of has.2 ∙ sym (placed u y one)
           ∙ sym (get_or-map place_of us i d (place_of e) within) ∙ ap (λ (ps : List Place). get_or ps i (place_of e)) ordered in
-          let here : j ≡ i = one_place j i (place_of e) (omega (arith, has.1, length-map vs place_of)) (omega (arith, within, long, length-map vs place_of)) at in
+          let here : j ≡ i = one_place j i (place_of e) (omega (arith, has.1, length-map vs place_of))
+          (omega (arith, within, long, length-map vs place_of)) at in
           subst (R u) (sym has.2 ∙ get_same vs j y e has.1 ∙ ap (λ n. get_or vs n e) here) one
         where
           get_same : (zs : List TableCell) (n : ℕ) (a b : TableCell) → n < length zs → get_or zs n a ≡ get_or zs n b
@@ -376,7 +377,8 @@ within_itself : (depth : ℕ) (breaking : Breaking) (node : TableNode) (table : 
     AreSameNodesWithin depth node node
 within_itself zero breaking node table becomes = absurd becomes
 within_itself (suc depth) breaking node table becomes =
-    table_itself (AreSameNodesWithin depth) (BecomesWithin depth breaking) (within_itself depth breaking) breaking (out-TableNode node) (out-Table table) becomes
+    table_itself (AreSameNodesWithin depth) (BecomesWithin depth breaking) (within_itself depth breaking) breaking (out-TableNode node)
+    (out-Table table) becomes
 
 -- whatever table a tree becomes, that table is returned
 pub each_table : (breaking : Breaking) (node : TableNode) (result : Result Table FormError) → IfOk result (Becomes breaking node) →

@@ -232,7 +232,8 @@ flat_rows : (rows : List (List CellNode)) → AllByRecursion (λ cells. AreSound
     AllByRecursion (λ node. AreSound (cell_outline node)) (flat_map (λ (cells : List CellNode). cells) rows)
 flat_rows [] sound = tt
 flat_rows (cells ∷ rows) sound =
-    append_each (λ node. AreSound (cell_outline node)) cells (flat_map (λ (each : List CellNode). each) rows) (sound_each cell_outline cells sound.0) (flat_rows rows sound.1)
+    append_each (λ node. AreSound (cell_outline node)) cells (flat_map (λ (each : List CellNode). each) rows) (sound_each cell_outline cells sound.0)
+    (flat_rows rows sound.1)
 
 flat_groups : (groups : List GroupNode) → AllByRecursion (λ g. AreSound (group_outline g)) groups →
     AllByRecursion (λ node. AreSound (cell_outline node)) (flat_map (λ g. cells_of_group (out-GroupNode g)) groups)
@@ -261,7 +262,8 @@ flat_cells (node ∷ nodes) sound =
 sound_blocks_of : (node : TableNode) → AreSound (outline node) → AllByRecursion (λ block. AreSound (block_outline block)) (blocks_of (out-TableNode node))
 sound_blocks_of node sound =
     append_each (λ block. AreSound (block_outline block)) (captured (out-TableNode node).caption) (flat_map flow_of (cells_written (out-TableNode node)))
-    (by_caption (out-TableNode node).caption refl) (flat_cells (cells_written (out-TableNode node)) (flat_groups (out-TableNode node).groups (table_groups node sound)))
+    (by_caption (out-TableNode node).caption refl)
+    (flat_cells (cells_written (out-TableNode node)) (flat_groups (out-TableNode node).groups (table_groups node sound)))
   where
     by_caption : (flow : Option (List Block)) → (out-TableNode node).caption ≡ flow → AllByRecursion (λ block. AreSound (block_outline block)) (captured flow)
     by_caption None is = tt

@@ -86,7 +86,8 @@ cell_flow node sound = sound_tail _ _ (subst AreSound (cell_outline-out node) so
 rows_each : (rows : List (List CellNode)) → AreSound (rows_outline rows) → AllByRecursion (λ cells. AreSound (cells_outline cells)) rows
 rows_each [] sound = tt
 rows_each (cells ∷ rows) sound =
-    let both = sound_split (row ∷ cells_outline cells) (rows_outline rows) (subst AreSound (flat_map-cons (λ cells. row ∷ cells_outline cells) cells rows) sound) in
+    let both = sound_split (row ∷ cells_outline cells) (rows_outline rows)
+    (subst AreSound (flat_map-cons (λ cells. row ∷ cells_outline cells) cells rows) sound) in
     (sound_tail row (cells_outline cells) both.0, rows_each rows both.1)
 
 pub group_rows : (node : GroupNode) → AreSound (group_outline node) → AllByRecursion (λ cells. AreSound (cells_outline cells)) (out-GroupNode node).rows
@@ -170,7 +171,8 @@ groups_size (g ∷ groups) n m is are =
     )
 
 -- a table's rows and cells are fewer than the bytes of a file
-pub shape_size : (node : TableNode) → AreSound (outline node) → row_count (shape_of (out-TableNode node)) + cell_count (shape_of (out-TableNode node)) < MAX_FILE_BYTES
+pub shape_size : (node : TableNode) → AreSound (outline node) →
+    row_count (shape_of (out-TableNode node)) + cell_count (shape_of (out-TableNode node)) < MAX_FILE_BYTES
 shape_size node sound =
     let o = out-TableNode node in
     let rest : Entries = columns o.columns ∷ (groups_outline o.groups ++ table_end ∷ []) in

@@ -43,7 +43,8 @@ joined_map f (x ∷ xs) = ap (λ tables. f x ++ tables) (joined_map f xs)
 pub part_of_cell-out : (cell : CellNode) → part_of_cell cell ≡ record { span = span_of cell; inner = tables_in_flow (out-CellNode cell).flow }
 part_of_cell-out cell =
     fold_out-CellNode Shapes CellPart GroupPart Shapes block_part cell_part group_part table_part cell
-    ∙ ap (λ (tables : Shapes). let part : CellPart = record { span = span_of cell; inner = tables } in part) (joined_map tables_in_block (out-CellNode cell).flow)
+    ∙ ap (λ (tables : Shapes). let part : CellPart = record { span = span_of cell; inner = tables } in part)
+    (joined_map tables_in_block (out-CellNode cell).flow)
 
 -- ---- groups
 

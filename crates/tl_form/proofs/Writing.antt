@@ -43,7 +43,8 @@ pub Writes-cell : (breaking : Breaking) (nodes : List CellNode) (node : CellNode
 Writes-cell breaking nodes node places before mid after cell n d writes becomes long at within pushed = record {
   more = writes.more ++ cell ∷ [];
   joined = pushed ∙ ap (λ (cells : List TableCell). cells ++ cell ∷ []) writes.joined ∙ append_assoc before writes.more (cell ∷ []);
-  cells = AllZip-push (λ one made. BecomesCell (Becomes breaking) breaking (out-CellNode one) (out-TableCell made)) nodes writes.more node cell writes.cells becomes;
+  cells = AllZip-push (λ one made. BecomesCell (Becomes breaking) breaking (out-CellNode one) (out-TableCell made)) nodes writes.more node cell
+      writes.cells becomes;
   placed =
       ap (map place_of) pushed
       ∙ map-append place_of mid (cell ∷ [])

@@ -88,7 +88,8 @@ nested_given style w box inner next fit = record {
 }
 
 -- and stands as its page
-pub nested_shown : (style : Style) (w : ℕ) (box : Box Table Global) (inner : List Layout) (next : ℕ) (layout : Layout) (cells : List Drawn) (page : List (List ℕ))
+pub nested_shown : (style : Style) (w : ℕ) (box : Box Table Global) (inner : List Layout) (next : ℕ) (layout : Layout) (cells : List Drawn)
+    (page : List (List ℕ))
     (before lines : List Line) → layout ≡ get_or inner next layout → next < length inner → ShowsCells style box.value layout cells →
     page ≡ lines_of (picture_with style (out-Table box.value) (out-Layout layout) cells) → lines ≡ before ++ nested_lines style layout page →
     ShowsPart style w (open_content.Table box) inner next (next + 1) before lines

@@ -49,7 +49,8 @@ ShowsWithin-next : (depth : ℕ) (style : Style) (table : Table) (layout : Layou
     ShowsWithin (suc depth) style table layout page
 ShowsWithin-next zero style table layout page shows = absurd shows
 ShowsWithin-next (suc depth) style table layout page shows =
-    ShowsBy-weaker (ShowsWithin depth style) (ShowsWithin (suc depth) style) (ShowsWithin-next depth style) style (out-Table table) (out-Layout layout) page shows
+    ShowsBy-weaker (ShowsWithin depth style) (ShowsWithin (suc depth) style) (ShowsWithin-next depth style) style (out-Table table)
+    (out-Layout layout) page shows
 
 pub ShowsWithin-deeper : (more depth : ℕ) (style : Style) (table : Table) (layout : Layout) (page : List (List ℕ)) →
     ShowsWithin depth style table layout page → ShowsWithin (more + depth) style table layout page

@@ -107,7 +107,8 @@ module _ (fits : Table → ℕ → ℕ → Layout → Type 0) (shows : Table →
       )
 
   -- and so does a cell
-  pub as_many_in_cell : (h : ℕ) (cell : OpenCell) (given : List Layout) (content : Content) → FitsRoom fits w h cell given → ShowsCell shows style w cell content →
+  pub as_many_in_cell : (h : ℕ) (cell : OpenCell) (given : List Layout) (content : Content) → FitsRoom fits w h cell given →
+      ShowsCell shows style w cell content →
       length given ≡ length content.inner
   as_many_in_cell h cell given content fit shown =
       ap length (sym fit.given) ∙ as_many_in_blocks cell.blocks fit.shares shown.parts fit.blocks shown.blocks ∙ ap length shown.inner

@@ -46,7 +46,8 @@ range_within past ranges place none order within =
     All-from_recursion (IsWithin past) ranges (ranges_within 0 past ranges order) place none within
 
 -- the atoms of a range are small where all are
-pub range_is_small : (n : ℕ) (atoms : List Atom) (range : Range) → All (λ atom. atom_size atom ≤ n) atoms → All (λ atom. atom_size atom ≤ n) (ranged atoms range)
+pub range_is_small : (n : ℕ) (atoms : List Atom) (range : Range) → All (λ atom. atom_size atom ≤ n) atoms →
+    All (λ atom. atom_size atom ≤ n) (ranged atoms range)
 range_is_small n atoms range small =
     All-take (λ atom. atom_size atom ≤ n) (range.past - range.first) (drop range.first atoms) (All-drop (λ atom. atom_size atom ≤ n) range.first atoms small)
 

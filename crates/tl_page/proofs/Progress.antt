@@ -94,7 +94,8 @@ pub block-next : (style : Style) (w : ℕ) (blocks : List Block) (inner : List L
     w ≤ MAX_PAGE_WIDTH → i < length blocks → block ≡ get_or blocks i block → BlocksSoFar style w blocks inner start i next lines →
     FitsBlockRoom style w (out-Content block) inner next
 block-next style w blocks inner start i next lines block narrow within is sofar =
-    let first = left_first (λ block share. FitsShare (FitsWithin sofar.level style) w (out-Content block) share) blocks i block sofar.shares within is sofar.fits in
+    let first = left_first (λ block share. FitsShare (FitsWithin sofar.level style) w (out-Content block) share) blocks i block sofar.shares within is
+    sofar.fits in
     let sum = sum_by-cons (λ (share : Share). share.height) first.0 first.1 in
     let whole = ap (sum_by (λ (share : Share). share.height)) first.2 in
     record {
@@ -113,7 +114,8 @@ pub blocks-more : (style : Style) (w : ℕ) (blocks : List Block) (inner : List 
     i < length blocks → block ≡ get_or blocks i block → BlocksSoFar style w blocks inner start i next lines →
     ShowsPart style w (out-Content block) inner next after lines new → BlocksSoFar style w blocks inner start (i + 1) after new
 blocks-more style w blocks inner start i next after lines new block within is sofar part =
-    let first = left_first (λ block share. FitsShare (FitsWithin sofar.level style) w (out-Content block) share) blocks i block sofar.shares within is sofar.fits in
+    let first = left_first (λ block share. FitsShare (FitsWithin sofar.level style) w (out-Content block) share) blocks i block sofar.shares within is
+    sofar.fits in
     let sum = sum_by-cons (λ (share : Share). share.height) first.0 first.1 in
     let whole = ap (sum_by (λ (share : Share). share.height)) first.2 in
     let deep = part.depth + sofar.depth in
@@ -136,7 +138,8 @@ blocks-more style w blocks inner start i next after lines new block within is so
       written = part.written ∙ ap (λ before. before ++ part.content.lines) sofar.written
           ∙ sym (flat_map-push (λ (part : Content). part.lines) sofar.parts part.content);
       rest = ap (λ used. used ++ drop after inner) (flat_map-push (λ (part : Content). part.inner) sofar.parts part.content)
-          ∙ one_further (flat_map (λ part. part.inner) sofar.parts) part.content.inner (drop after inner) (drop next inner) (drop start inner) part.rest sofar.rest;
+          ∙ one_further (flat_map (λ part. part.inner) sofar.parts) part.content.inner (drop after inner) (drop next inner)
+          (drop start inner) part.rest sofar.rest;
       level = sofar.level;
       shares = first.1;
       fits = first.4;
@@ -154,7 +157,8 @@ blocks-all style w cell inner start i next lines all sofar = record {
   content = record { lines = flat_map (λ part. part.lines) sofar.parts; inner = flat_map (λ part. part.inner) sofar.parts };
   shows = record {
     parts = sofar.parts;
-    blocks = subst (λ some. AllZip (λ block part. ShowsBlock (ShowsWithin sofar.depth style) style w (out-Content block) part) some sofar.parts) all sofar.shows;
+    blocks = subst (λ some. AllZip (λ block part. ShowsBlock (ShowsWithin sofar.depth style) style w (out-Content block) part) some sofar.parts) all
+        sofar.shows;
     lines = refl;
     inner = refl;
   };
@@ -182,7 +186,8 @@ AllZip-none R (y ∷ ys) all = absurd all
 pub record CellsSoFar (style : Style) (table : OpenTable) (layout : OpenLayout) (i next : ℕ) (cells : List Drawn) : Type 0 where
   pub depth : ℕ
   pub contents : List Content
-  pub shows : AllZip (λ cell content. ShowsCell (ShowsWithin depth style) style (width_for style layout (out-TableCell cell).place) (out-TableCell cell) content)
+  pub shows : AllZip (λ cell content. ShowsCell (ShowsWithin depth style) style (width_for style layout (out-TableCell cell).place)
+      (out-TableCell cell) content)
       (take i table.cells) contents
   pub written : cells ≡ drawn_cells style layout.widths layout.heights (map place_of (take i table.cells)) (map (λ content. content.lines) contents)
   pub rest : flat_map (λ content. content.inner) contents ++ drop next layout.inner ≡ layout.inner
@@ -222,7 +227,8 @@ pub placed_cell : (table : OpenTable) (i : ℕ) (cell : TableCell) → All (IsPl
     cell ≡ get_or table.cells i cell → IsPlaced table.cols table.rows (place_of cell)
 placed_cell table i cell placed within is =
     let many : i < length (places_of table) = omega (arith, length-map table.cells place_of) in
-    let same : get_or (places_of table) i (place_of cell) ≡ place_of cell = get_or-map place_of table.cells i cell (place_of cell) within ∙ ap place_of (sym is) in
+    let same : get_or (places_of table) i (place_of cell) ≡ place_of cell = get_or-map place_of table.cells i cell (place_of cell) within
+    ∙ ap place_of (sym is) in
     subst (IsPlaced table.cols table.rows) same (placed i (place_of cell) many)
 
 -- the next cell fits by the next layouts
@@ -231,7 +237,8 @@ pub cell-next : (style : Style) (table : OpenTable) (layout : OpenLayout) (i nex
     CellsSoFar style table layout i next cells →
     FitsCellRoom style (width_for style layout (place_of cell)) (out-TableCell cell) layout.inner next
 cell-next style table layout i next cells cell fit placed within is sofar =
-    let first = left_first (λ cell given. FitsCell (FitsWithin sofar.level style) style layout (out-TableCell cell) given) table.cells i cell sofar.parts within is sofar.fits in
+    let first = left_first (λ cell given. FitsCell (FitsWithin sofar.level style) style layout (out-TableCell cell) given) table.cells i cell
+    sofar.parts within is sofar.fits in
     record {
       narrow = narrow_room style table layout (place_of cell) fit placed;
       depth = sofar.level;
@@ -249,12 +256,14 @@ pub cells-more : (style : Style) (table : OpenTable) (layout : OpenLayout) (i ne
     ShowsParts style (width_for style layout (place_of cell)) (out-TableCell cell) layout.inner next after lines →
     CellsSoFar style table layout (i + 1) after (cells ++ drawn style layout.widths layout.heights (place_of cell) lines ∷ [])
 cells-more style table layout i next after cells lines cell within is sofar part =
-    let first = left_first (λ cell given. FitsCell (FitsWithin sofar.level style) style layout (out-TableCell cell) given) table.cells i cell sofar.parts within is sofar.fits in
+    let first = left_first (λ cell given. FitsCell (FitsWithin sofar.level style) style layout (out-TableCell cell) given) table.cells i cell
+    sofar.parts within is sofar.fits in
     let deep = part.depth + sofar.depth in
     let room = λ (cell : TableCell). width_for style layout (out-TableCell cell).place in
     let shown = λ (cell : TableCell) (content : Content). ShowsCell (ShowsWithin deep style) style (room cell) (out-TableCell cell) content in
     let others : AllZip shown (take i table.cells) sofar.contents =
-    AllZip-weaker (λ cell content. ShowsCell (ShowsWithin sofar.depth style) style (room cell) (out-TableCell cell) content) shown (take i table.cells) sofar.contents
+    AllZip-weaker (λ cell content. ShowsCell (ShowsWithin sofar.depth style) style (room cell) (out-TableCell cell) content) shown
+    (take i table.cells) sofar.contents
     (λ cell content one. ShowsCell-weaker (ShowsWithin sofar.depth style) (ShowsWithin deep style) (ShowsWithin-deeper part.depth sofar.depth style)
     style (room cell) (out-TableCell cell) content one) sofar.shows in
     let this : shown cell part.content =
@@ -271,16 +280,20 @@ cells-more style table layout i next after cells lines cell within is sofar part
       contents = sofar.contents ++ part.content ∷ [];
       shows = subst (λ some. AllZip shown some (sofar.contents ++ part.content ∷ [])) (sym taken)
           (AllZip-push shown (take i table.cells) sofar.contents cell part.content others this);
-      written = ap₂ (λ (before : List Drawn) (last : List Line). before ++ drawn style layout.widths layout.heights (place_of cell) last ∷ []) sofar.written part.written
-          ∙ sym (drawn_cells-push style layout.widths layout.heights (map place_of (take i table.cells)) (map lines_of sofar.contents) (place_of cell) part.content.lines many)
+      written = ap₂ (λ (before : List Drawn) (last : List Line). before ++ drawn style layout.widths layout.heights (place_of cell) last ∷ [])
+          sofar.written part.written
+          ∙ sym (drawn_cells-push style layout.widths layout.heights (map place_of (take i table.cells)) (map lines_of sofar.contents)
+          (place_of cell) part.content.lines many)
           ∙ ap₂ (drawn_cells style layout.widths layout.heights) (sym places) (sym (map_push lines_of sofar.contents part.content));
       rest = ap (λ used. used ++ drop after layout.inner) (flat_map-push (λ (content : Content). content.inner) sofar.contents part.content)
-          ∙ one_further (flat_map (λ content. content.inner) sofar.contents) part.content.inner (drop after layout.inner) (drop next layout.inner) layout.inner part.rest sofar.rest;
+          ∙ one_further (flat_map (λ content. content.inner) sofar.contents) part.content.inner (drop after layout.inner)
+          (drop next layout.inner) layout.inner part.rest sofar.rest;
       level = sofar.level;
       parts = first.1;
       fits = first.4;
       left = same_rest first.0 part.content.inner (flat_map (λ given. given) first.1) (drop after layout.inner) (drop next layout.inner)
-          (as_many_in_cell (FitsWithin sofar.level style) (ShowsWithin part.depth style) style (room cell) (height_for style layout (place_of cell)) (out-TableCell cell)
+          (as_many_in_cell (FitsWithin sofar.level style) (ShowsWithin part.depth style) style (room cell) (height_for style layout (place_of cell))
+          (out-TableCell cell)
           first.0 part.content first.3 part.shows)
           (ap (flat_map (λ given. given)) (sym first.2) ∙ sofar.left) part.rest;
     }
@@ -290,13 +303,16 @@ pub cells-all : (style : Style) (table : Table) (layout : Layout) (i next : ℕ)
 cells-all style table layout i next cells all sofar =
     let every = (out-Table table).cells in
     let taken : take i every ≡ every = take_all i every all in
-    let none : sofar.parts ≡ [] = AllZip-none (λ cell given. FitsCell (FitsWithin sofar.level style) style (out-Layout layout) (out-TableCell cell) given) sofar.parts
-    (subst (λ some. AllZip (λ cell given. FitsCell (FitsWithin sofar.level style) style (out-Layout layout) (out-TableCell cell) given) some sofar.parts) (drop_all i every all) sofar.fits) in
+    let none : sofar.parts ≡ [] = AllZip-none
+    (λ cell given. FitsCell (FitsWithin sofar.level style) style (out-Layout layout) (out-TableCell cell) given) sofar.parts
+    (subst (λ some. AllZip (λ cell given. FitsCell (FitsWithin sofar.level style) style (out-Layout layout) (out-TableCell cell) given) some
+    sofar.parts) (drop_all i every all) sofar.fits) in
     let left : drop next (out-Layout layout).inner ≡ [] = sym sofar.left ∙ ap (flat_map (λ given. given)) none in
     record {
       depth = sofar.depth;
       contents = sofar.contents;
-      shows = subst (λ some. AllZip (λ cell content. ShowsCell (ShowsWithin sofar.depth style) style (width_for style (out-Layout layout) (out-TableCell cell).place)
+      shows = subst (λ some. AllZip (λ cell content. ShowsCell (ShowsWithin sofar.depth style) style
+          (width_for style (out-Layout layout) (out-TableCell cell).place)
           (out-TableCell cell) content) some sofar.contents) taken sofar.shows;
       inner = sym (append-nil (flat_map (λ content. content.inner) sofar.contents))
           ∙ ap (λ rest. flat_map (λ content. content.inner) sofar.contents ++ rest) (sym left) ∙ sofar.rest;

@@ -103,7 +103,13 @@ module _ (cols : ℕ) (gap : ℕ) (cells : List Cell) (inside : All (IsInGrid co
       rooms = λ k cell up.
           let ahead = (inside k none cell).0 in
           elim (cases_lt (cell_at cells k).right (column + 1)) [
-            | inl before ↦ omega (arith, old (cell_at cells k).left (omega (arith, ahead)), old (cell_at cells k).right (omega (arith, before)), are.rooms k cell (omega (arith, before)))
+            | inl before ↦ omega (
+              arith,
+              old (cell_at cells k).left (omega (arith, ahead)),
+              old (cell_at cells k).right
+                  (omega (arith, before)),
+              are.rooms k cell (omega (arith, before)),
+            )
             | inr ends ↦
                 let e : (cell_at cells k).right ≡ column + 1 = omega arith in
                 let at = ap (λ p. get_or (set places (column + 1) place) p 0) e in
@@ -239,6 +245,13 @@ module _ (cols : ℕ) (style : Style) (width : ℕ) (cells : List Cell) (inside 
             let cell = cell_at cells k in
             let in_grid = inside k none within in
             let wide = are.rooms k within in_grid.1 in
-            omega (arith, room-position gap widths cell.left cell.right in_grid.0, at-place cell.left (omega (arith, in_grid.0, in_grid.1)), at-place cell.right in_grid.1, wide));
+            omega (
+              arith,
+              room-position gap widths cell.left cell.right in_grid.0,
+              at-place cell.left (omega (arith, in_grid.0, in_grid.1)),
+              at-place
+                  cell.right in_grid.1,
+              wide,
+            ));
       },
     )

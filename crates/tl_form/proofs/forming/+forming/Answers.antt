@@ -116,7 +116,8 @@ group_cells-row_cells-requires t c =
     let within : c.loop-row.row-index < length rows =
     subst (λ (items : List (List CellNode)). c.loop-row.row-index < length items) c.as_slice-row-items.ensures c.loop-row-test.true in
     let is : c.row-item.result ≡ get_or rows c.loop-row.row-index c.row-item.result =
-    subst (λ (items : List (List CellNode)). c.row-item.result ≡ get_or items c.loop-row.row-index c.row-item.result) c.as_slice-row-items.ensures c.row-item.is in (
+    subst (λ (items : List (List CellNode)). c.row-item.result ≡ get_or items c.loop-row.row-index c.row-item.result) c.as_slice-row-items.ensures
+    c.row-item.is in (
       search (rules, the_lemmas),
       (
         subst (λ (cells : List CellNode). AreSound (cells_outline cells)) (sym c.as_slice.ensures)

@@ -36,8 +36,10 @@ cell_part-put_block-requires t c =
     subst (λ items. c.block-item.result ≡ get_or items c.loop-block.block-index c.block-item.result) c.as_slice-block-items.ensures c.block-item.is in (
       search (rules, the_lemmas),
       (
-        at_item (λ block. IsSoundBlock (out-Content block)) blocks c.loop-block.block-index c.block-item.result (sound_blocks c.args.cell.now c.requires.sound) within is,
-        block-next c.args.style c.args.width blocks c.args.inner.now c.args.next c.loop-block.block-index c.loop-block.next c.loop-block.lines c.block-item.result
+        at_item (λ block. IsSoundBlock (out-Content block)) blocks c.loop-block.block-index c.block-item.result
+            (sound_blocks c.args.cell.now c.requires.sound) within is,
+        block-next c.args.style c.args.width blocks c.args.inner.now c.args.next c.loop-block.block-index c.loop-block.next c.loop-block.lines
+            c.block-item.result
             c.requires.fit.narrow within is c.loop-block.invariant,
       ),
     )
@@ -53,7 +55,8 @@ cell_part-loop-block-preserved t c =
 
 pub cell_part-returns : goal.cell_part-returns
 cell_part-returns t c =
-    blocks-all c.args.style c.args.width (out-TableCell c.args.cell.now) c.args.inner.now c.args.next c.loop-block.block-index c.loop-block.next c.loop-block.lines
+    blocks-all c.args.style c.args.width (out-TableCell c.args.cell.now) c.args.inner.now c.args.next c.loop-block.block-index c.loop-block.next
+    c.loop-block.lines
     (take_all c.loop-block.block-index (out-TableCell c.args.cell.now).blocks
     (subst (λ items. length items ≤ c.loop-block.block-index) c.as_slice-block-items.ensures c.loop-block-test.false))
     c.loop-block.invariant
@@ -95,11 +98,14 @@ put_block-returns-in_ok-put_page-in-Table t c =
     let layout = c.index-inner-next.result in
     let cells = c.in_ok-cells-in-Table.cells in
     let page = c.in_ok-page-in-Table.page in
-    subst (λ block. ShowsPart c.args.style c.args.width block c.args.inner.now c.args.next (c.args.next + 1) c.args.lines.now c.put_page.new.lines) (sym open_block)
+    subst (λ block. ShowsPart c.args.style c.args.width block c.args.inner.now c.args.next (c.args.next + 1) c.args.lines.now c.put_page.new.lines)
+    (sym open_block)
     (nested_shown c.args.style c.args.width box c.args.inner.now c.args.next layout cells page c.args.lines.now c.put_page.new.lines c.index-inner-next.is
-    (nested_within c.args.style c.args.width box.value c.args.inner.now c.args.next (nested_given c.args.style c.args.width box c.args.inner.now c.args.next fit))
+    (nested_within c.args.style c.args.width box.value c.args.inner.now c.args.next
+    (nested_given c.args.style c.args.width box c.args.inner.now c.args.next fit))
     (subst (λ table. ShowsCells c.args.style table layout cells) c.deref.ensures c.in_ok-cells-in-Table.ensures)
-    (subst (λ table. page ≡ lines_of (picture_with c.args.style (out-Table table) (out-Layout layout) cells)) c.deref-in-Table.ensures c.in_ok-page-in-Table.ensures)
+    (subst (λ table. page ≡ lines_of (picture_with c.args.style (out-Table table) (out-Layout layout) cells)) c.deref-in-Table.ensures
+    c.in_ok-page-in-Table.ensures)
     c.in_ok-put_page-in-Table.ensures)
 
 -- ---- cells
@@ -113,7 +119,8 @@ drawn_cells-strips-requires-2-clause-room t c =
 pub drawn_cells-loop-cell-init : goal.drawn_cells-loop-cell-init
 drawn_cells-loop-cell-init t c =
     subst (CellsSoFar c.args.style (out-Table c.args.table.now) (out-Layout c.args.layout.now) 0 0) (sym c.new-cells.ensures)
-    (cells-none c.args.style (out-Table c.args.table.now) (out-Layout c.args.layout.now) (fitting c.args.style c.args.table.now c.args.layout.now c.requires.fit))
+    (cells-none c.args.style (out-Table c.args.table.now) (out-Layout c.args.layout.now)
+    (fitting c.args.style c.args.table.now c.args.layout.now c.requires.fit))
 
 pub drawn_cells-cell_part-requires : goal.drawn_cells-cell_part-requires
 drawn_cells-cell_part-requires t c =
@@ -136,7 +143,8 @@ drawn_cells-cell_part-requires t c =
       (
         at_item (λ cell. IsSoundCell (out-TableCell cell)) table.cells c.loop-cell.cell-index cell (sound_cells c.args.table.now c.requires.sound) within is,
         subst (λ w. FitsCellRoom c.args.style w (out-TableCell cell) c.as_slice-in-loop-cell-2.result.now c.loop-cell.next) (sym columns)
-            (subst (λ inner. FitsCellRoom c.args.style (width_for c.args.style layout place) (out-TableCell cell) inner c.loop-cell.next) (sym c.as_slice-in-loop-cell-2.ensures)
+            (subst (λ inner. FitsCellRoom c.args.style (width_for c.args.style layout place) (out-TableCell cell) inner c.loop-cell.next)
+            (sym c.as_slice-in-loop-cell-2.ensures)
             (cell-next c.args.style table layout c.loop-cell.cell-index c.loop-cell.next c.loop-cell.cells cell fit placed within is c.loop-cell.invariant)),
       ),
     )
@@ -166,8 +174,10 @@ drawn_cells-loop-cell-preserved t c =
     ∙ ap (λ (edge : ℕ). edge + position c.row_gap.result c.as_slice-2.result.now place.top) c.edge-2.ensures
     ∙ ap₂ (λ (gap : ℕ) (sizes : List ℕ). edge_of style + position gap sizes place.top) c.row_gap.ensures c.as_slice-2.ensures in
     let shown : ShowsParts style (width_for style layout place) (out-TableCell cell) layout.inner c.loop-cell.next part.next part.lines =
-    subst (λ inner. ShowsParts style (width_for style layout place) (out-TableCell cell) inner c.loop-cell.next part.next part.lines) c.as_slice-in-loop-cell-2.ensures
-    (subst (λ w. ShowsParts style w (out-TableCell cell) c.as_slice-in-loop-cell-2.result.now c.loop-cell.next part.next part.lines) columns c.in_ok-part.ensures) in
+    subst (λ inner. ShowsParts style (width_for style layout place) (out-TableCell cell) inner c.loop-cell.next part.next part.lines)
+    c.as_slice-in-loop-cell-2.ensures
+    (subst (λ w. ShowsParts style w (out-TableCell cell) c.as_slice-in-loop-cell-2.result.now c.loop-cell.next part.next part.lines) columns
+    c.in_ok-part.ensures) in
     subst (CellsSoFar style table layout (c.loop-cell.cell-index + 1) part.next)
     (sym (c.in_ok-push.ensures.ok ∙ ap (λ one. c.loop-cell.cells ++ one ∷ [])
     (same_drawn style layout.widths layout.heights place c.room_in-columns.result c.begin_of.result part.lines columns first)))

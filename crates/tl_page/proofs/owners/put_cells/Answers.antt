@@ -34,6 +34,7 @@ loop-number-preserved c =
           (get_or c.loop-number.slots (row * c.args.cols + column) _) (number_over (n + 1) (drop (n + 1) places) (column + 1) (row + 1))
           (c.put_cell.ensures.covered column row) (c.put_cell.ensures.other column row inside)
           (c.loop-number.invariant.numbers column row inside none ∙ ap (λ k. number_over k (drop k places) (column + 1) (row + 1)) next)
-          ∙ ap (λ place. if covers_slot (column + 1) (row + 1) place then Some n else number_over (n + 1) (drop (n + 1) places) (column + 1) (row + 1)) (sym same)
+          ∙ ap (λ place. if covers_slot (column + 1) (row + 1) place then Some n else number_over (n + 1) (drop (n + 1) places) (column + 1)
+          (row + 1)) (sym same)
           ∙ sym (at_drop_more (λ rest. number_over n rest (column + 1) (row + 1)) places n (place_of cell) many);
     }

@@ -8,6 +8,10 @@ use Rattle.tl_page.proofs.pages.page.Goals as goal
 pub returns : goal.returns
 returns c = (
   c.in_ok-lines.lines,
-  (suc c.in_ok-cells.ensures.depth, page_shown c.args.style c.args.table.now c.args.layout.now c.in_ok-cells.cells c.in_ok-lines.lines c.in_ok-cells.ensures c.in_ok-lines.ensures),
+  (
+    suc c.in_ok-cells.ensures.depth,
+    page_shown c.args.style c.args.table.now c.args.layout.now c.in_ok-cells.cells c.in_ok-lines.lines
+        c.in_ok-cells.ensures c.in_ok-lines.ensures,
+  ),
   c.loop-line.invariant ∙ ap bytes_of (take_all c.loop-line.line-index c.as_slice-line-items.result.now c.loop-line-test.false ∙ c.as_slice-line-items.ensures),
 )

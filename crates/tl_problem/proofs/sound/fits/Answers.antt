@@ -20,9 +20,11 @@ pub returns-then-place-from : goal.returns-then-place-from
 returns-then-place-from c = (
   λ yes. cc,
   λ fits.
-      let next : IsNextPlace (gap_of c.args.style) c.args.cells.now (length c.args.cells.now) c.loop-column.places c.loop-column.column c.next_place-place.result =
+      let next : IsNextPlace (gap_of c.args.style) c.args.cells.now (length c.args.cells.now) c.loop-column.places c.loop-column.column
+      c.next_place-place.result =
       rw c.gap-in-loop-column.ensures at c.next_place-place.ensures in
-      absurd (not-past c.args.cols c.args.style c.args.width c.args.cells.now c.requires.grid c.loop-column.column c.next_place-place.result c.loop-column.places
+      absurd (not-past c.args.cols c.args.style c.args.width c.args.cells.now c.requires.grid c.loop-column.column c.next_place-place.result
+      c.loop-column.places
       (omega (arith, c.loop-column-test.true)) c.loop-column.invariant.1.0 next (omega (arith, c.if-place-from.true, c.from.ensures, c.gap.ensures)) fits),
 )
 
@@ -39,7 +41,8 @@ loop-column-preserved c =
         least_places-more c.args.cols (gap_of c.args.style) c.args.cells.now c.requires.grid column place places c.loop-column.invariant.1.0 next room,
         λ k up. elim (cases_lt k (column + 1)) [
           | inl before ↦ omega (arith, get_or-set_other places (column + 1) k place 0 (omega arith), c.loop-column.invariant.1.1 k (omega arith))
-          | inr last ↦ let e : k ≡ column + 1 = omega arith in rw e (omega (arith, get_or-set_same places (column + 1) place 0 room, c.if-place-from.false, c.from.ensures))
+          | inr last ↦ let e : k ≡ column + 1 = omega arith in
+              rw e (omega (arith, get_or-set_same places (column + 1) place 0 room, c.if-place-from.false, c.from.ensures))
         ],
       ),
     )

@@ -27,5 +27,6 @@ returns-else-low-high c =
     let low = first_width-at cell.low c.configs-low.ensures.sound.has_step in
     let high = first_width-at cell.high c.configs-high.ensures.sound.has_step in (
       λ yes. absurd (grind (arith, tests, nat_tests, yes, c.if-low-high.false)),
-      λ sound. absurd ((rw (c.configs-low.ensures.configs, c.configs-high.ensures.configs) at c.if-low-high.false) (omega (arith, low, high, sound.same_least))),
+      λ sound. absurd ((rw (c.configs-low.ensures.configs, c.configs-high.ensures.configs) at c.if-low-high.false)
+          (omega (arith, low, high, sound.same_least))),
     )
