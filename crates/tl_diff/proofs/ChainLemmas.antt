@@ -92,7 +92,7 @@ module _ (n : ℕ) (arcs : List Arc) (out : List ℕ) (forward : LeadForward n a
     done j from within ends (inl e) =
         let here : (arc_at arcs i).to ≤ place = rw e ends in
         let less : get_or out (arc_at arcs i).from 0 + (arc_at arcs i).weight < get_or out place 0 =
-            omega (arith, arc-le i place there here h.up, apart here) in
+        omega (arith, arc-le i place there here h.up, apart here) in
         rw e at less
     done j from within ends (inr other) = h.done j (omega arith) within ends
 
@@ -109,5 +109,9 @@ module _ (n : ℕ) (arcs : List Arc) (out : List ℕ) (forward : LeadForward n a
       nothing [] path weighs = sym weighs
       nothing (i ∷ is) path weighs =
           let e = IsPath-last arcs 0 i is place path in
-          absurd (omega (arith, h.done e.last (omega arith) e.there e.ends, e.weighs,
-              (heaviest (arc_at arcs e.last).from (omega (arith, forward e.last e.there, h.up, e.ends))).greatest e.way e.leads))
+          absurd (omega (
+            arith,
+            h.done e.last (omega arith) e.there e.ends,
+            e.weighs,
+            (heaviest (arc_at arcs e.last).from (omega (arith, forward e.last e.there, h.up, e.ends))).greatest e.way e.leads,
+          ))

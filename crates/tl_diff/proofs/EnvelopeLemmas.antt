@@ -67,8 +67,13 @@ module _ (bounds : Bounds) (top : ℕ → ℤ) where
   pub Satisfies-under : IsClosed bounds → Satisfies bounds (λ p. under bounds top p bounds.n)
   Satisfies-under closed = Satisfies-from bounds (λ p. under bounds top p bounds.n) (λ p q t from to h.
       let held = under_held closed p bounds.n from (omega arith) in
-      omega (arith, ints, held.reached, under_le q held.source bounds.n (held.by +ℤ t) held.there
-          (closed.through held.source p q held.by t held.there from to held.bound h)))
+      omega (
+        arith,
+        ints,
+        held.reached,
+        under_le q held.source bounds.n (held.by +ℤ t) held.there
+            (closed.through held.source p q held.by t held.there from to held.bound h),
+      ))
 
 -- a number that brings z up to 0, and reaches it
 past : (z : ℤ) → (k : ℕ) × ((pos 0 ≤ℤ (pos k +ℤ z)) × (z ≤ℤ pos k))

@@ -77,8 +77,12 @@ module _ (x : ℕ → ℤ) where
       (λ g. inl (g.0, (omega arith, g.1.1)))
       (λ more. ⊎_elim
       (λ gap. inl (k, (omega arith, gap)))
-      (λ f. inr (omega (arith, more, count_more (x l +ℤ pos (MAX_BOUND * k)) (x l +ℤ pos (MAX_BOUND * suc k)) n f.0
-          (omega (arith, ints)) f.1.0 f.1.1.0 (omega (arith, ints, f.1.1.1)))))
+      (λ f. inr (omega (
+        arith,
+        more,
+        count_more (x l +ℤ pos (MAX_BOUND * k)) (x l +ℤ pos (MAX_BOUND * suc k)) n f.0
+            (omega (arith, ints)) f.1.0 f.1.1.0 (omega (arith, ints, f.1.1.1)),
+      )))
       (find_gap (x l +ℤ pos (MAX_BOUND * k)) n))
       (gap_among n l there k)
 
@@ -148,9 +152,11 @@ module _ (bounds : Bounds) (closed : IsClosed bounds) (loose : IsLoose bounds) w
         omega (arith, ints, r.1.1, y.1.0 a b first second c is, y.1.1.0, y.1.1.1)
 
   pub AreSmall-closed : AreSmall bounds
-  AreSmall-closed a b c first second is =
-      (by_order c (neg_ℤ (pos (MAX_BOUND * bounds.n))) (not_below a b first second c is), by_order (pos (MAX_BOUND * bounds.n)) c
-          (not_above a b first second c is))
+  AreSmall-closed a b c first second is = (
+    by_order c (neg_ℤ (pos (MAX_BOUND * bounds.n))) (not_below a b first second c is),
+    by_order (pos (MAX_BOUND * bounds.n)) c
+        (not_above a b first second c is),
+  )
     where
       by_order : (i j : ℤ) → ((i <ℤ j) → ⊥) → j ≤ℤ i
       by_order i j h = by_lt_z i j (λ less. absurd (h less)) (λ le. le)

@@ -12,7 +12,7 @@ module _ (old new : Bounds) (u v : ℕ) (w : ℤ) (first : u < old.n) (second : 
   improved-cases p q t from to k =
       ⊎_elim (λ e. inl e) (λ e. inr (via-AtMost (bound_at old p u) (bound_at old v q) w t e))
       (lesser-AtMost (bound_at old p q) (via (bound_at old p u) w (bound_at old v q)) t
-          (rw (h.done p q (omega (arith, h.variables)) (omega (arith, h.variables)) (omega (arith, h.variables))) at k))
+      (rw (h.done p q (omega (arith, h.variables)) (omega (arith, h.variables)) (omega (arith, h.variables))) at k))
 
   improved_keeps : (p q : ℕ) (t : ℤ) → p < new.n → q < new.n → AtMost (bound_at old p q) t → AtMost (bound_at new p q) t
   improved_keeps p q t from to k =
@@ -23,7 +23,7 @@ module _ (old new : Bounds) (u v : ℕ) (w : ℤ) (first : u < old.n) (second : 
   improved_over p q s r t from to k l le =
       rw (h.done p q (omega (arith, h.variables)) (omega (arith, h.variables)) (omega (arith, h.variables)))
       (AtMost-more (lesser (bound_at old p q) (via (bound_at old p u) w (bound_at old v q))) _ t
-          (AtMost-lesser_right (bound_at old p q) _ _ (AtMost-via (bound_at old p u) (bound_at old v q) s w r k l)) le)
+      (AtMost-lesser_right (bound_at old p q) _ _ (AtMost-via (bound_at old p u) (bound_at old v q) s w r k l)) le)
 
   module _ (closed : IsClosed old) where
     pub AddsBound-improved : AddsBound old new u v w
@@ -39,11 +39,18 @@ module _ (old new : Bounds) (u v : ℕ) (w : ℤ) (first : u < old.n) (second : 
     } where
       both : (x : ℕ → ℤ) → Satisfies old x → IsWithin x u v w → (p q : ℕ) (t : ℤ) → p < new.n → q < new.n
           → AtMost (bound_at old p q) t ⊎
-              ((s : ℤ) × ((r : ℤ) × (AtMost (bound_at old p u) s × (AtMost (bound_at old v q) r × (((s +ℤ w) +ℤ r) ≤ℤ t))))) → IsWithin x p q t
+          ((s : ℤ) × ((r : ℤ) × (AtMost (bound_at old p u) s × (AtMost (bound_at old v q) r × (((s +ℤ w) +ℤ r) ≤ℤ t))))) → IsWithin x p q t
       both x meets within p q t from to (inl k) = Satisfies-at old x p q t meets (omega (arith, h.variables)) (omega (arith, h.variables)) k
       both x meets within p q t from to (inr e) =
-          omega (arith, ints, Satisfies-at old x p u e.0 meets (omega (arith, h.variables)) first e.1.1.0, Satisfies-at old x v q e.1.0 meets second
-              (omega (arith, h.variables)) e.1.1.1.0, within, e.1.1.1.1)
+          omega (
+            arith,
+            ints,
+            Satisfies-at old x p u e.0 meets (omega (arith, h.variables)) first e.1.1.0,
+            Satisfies-at old x v q e.1.0 meets second
+                (omega (arith, h.variables)) e.1.1.1.0,
+            within,
+            e.1.1.1.1,
+          )
 
     -- no cycle over the added constraint is below 0
     module _ (no_cycle : (t : ℤ) → AtMost (bound_at old v u) t → pos 0 ≤ℤ (t +ℤ w)) where
@@ -67,14 +74,14 @@ module _ (old new : Bounds) (u v : ℕ) (w : ℤ) (first : u < old.n) (second : 
             → AtMost (bound_at new p r) (s +ℤ t)
         through p q r s t from mid to (inl k) (inl l) =
             improved_keeps p r (s +ℤ t) from to
-                (closed.through p q r s t (omega (arith, h.variables)) (omega (arith, h.variables)) (omega (arith, h.variables)) k l)
+            (closed.through p q r s t (omega (arith, h.variables)) (omega (arith, h.variables)) (omega (arith, h.variables)) k l)
         through p q r s t from mid to (inl k) (inr e) =
             improved_over p r (s +ℤ e.0) e.1.0 (s +ℤ t) from to
-                (closed.through p q u s e.0 (omega (arith, h.variables)) (omega (arith, h.variables)) first k e.1.1.0) e.1.1.1.0
-                (omega (arith, ints, e.1.1.1.1))
+            (closed.through p q u s e.0 (omega (arith, h.variables)) (omega (arith, h.variables)) first k e.1.1.0) e.1.1.1.0
+            (omega (arith, ints, e.1.1.1.1))
         through p q r s t from mid to (inr e) (inl l) =
             improved_over p r e.0 (e.1.0 +ℤ t) (s +ℤ t) from to e.1.1.0
-                (closed.through v q r e.1.0 t second (omega (arith, h.variables)) (omega (arith, h.variables)) e.1.1.1.0 l) (omega (arith, ints, e.1.1.1.1))
+            (closed.through v q r e.1.0 t second (omega (arith, h.variables)) (omega (arith, h.variables)) e.1.1.1.0 l) (omega (arith, ints, e.1.1.1.1))
         through p q r s t from mid to (inr e) (inr f) =
             improved_over p r e.0 f.1.0 (s +ℤ t) from to e.1.1.0 f.1.1.1.0
             (omega (arith, ints, e.1.1.1.1, f.1.1.1.1, round q e.1.0 f.0 (omega (arith, h.variables)) e.1.1.1.0 f.1.1.0))

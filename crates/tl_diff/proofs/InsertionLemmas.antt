@@ -136,7 +136,7 @@ module _ (n : ℕ) (rows : List (Option ℤ)) (a b : ℕ) (most : ℤ) (first : 
         cases : (a ≡ b) ⊎ (a ≢ b) → ⊥
         cases (inl e) =
             let low = exact.closed.own_least a (negsuc 0 -ℤ most) first
-                (subst (λ j. AtMost (bound_at (bounds_of n rows) j a) (negsuc 0 -ℤ most)) (sym e) back) in
+            (subst (λ j. AtMost (bound_at (bounds_of n rows) j a) (negsuc 0 -ℤ most)) (sym e) back) in
             omega (arith, ints, low, there, ap x e)
         cases (inr apart) =
             let still = bound_at-set_row n rows a b (Some most) b a second first (λ e. apart (sym e)) in

@@ -21,8 +21,13 @@ IsHeaviest-further arcs k m v w g h far =
 pub IsHeaviest-along : (arcs : List Arc) (i v w : ℕ) → i < length arcs → IsHeaviest arcs (arc_at arcs i).from v → IsHeaviest arcs (arc_at arcs i).to w
     → v + (arc_at arcs i).weight ≤ w
 IsHeaviest-along arcs i v w there g h =
-    omega (arith, g.reached.1.1, path_weight-push arcs g.reached.0 i, h.greatest (g.reached.0 ++ i ∷ [])
-        (IsPath-push arcs 0 g.reached.0 (arc_at arcs i).from i (arc_at arcs i).to g.reached.1.0 there (omega arith) (omega arith)))
+    omega (
+      arith,
+      g.reached.1.1,
+      path_weight-push arcs g.reached.0 i,
+      h.greatest (g.reached.0 ++ i ∷ [])
+          (IsPath-push arcs 0 g.reached.0 (arc_at arcs i).from i (arc_at arcs i).to g.reached.1.0 there (omega arith) (omega arith)),
+    )
 
 -- ---- arcs put one after another
 
@@ -52,7 +57,7 @@ module _ (arcs : List Arc) (e : Arc) where
       ⊎_elim
       (λ last. rw (arc_at-before i before, arc_at-last j last) (later i before))
       (λ other. let behind : j < length arcs = omega (arith, length_push arcs e) in
-          rw (arc_at-before i before, arc_at-before j behind) (in_order i j less behind))
+      rw (arc_at-before i before, arc_at-before j behind) (in_order i j less behind))
       (cases_eq j (length arcs))
 
   pub total_weight-push : total_weight (arcs ++ e ∷ []) ≡ total_weight arcs + e.weight

@@ -66,15 +66,25 @@ module _ (n : ℕ) (arcs : List Arc) (place next : ℕ) (out : List ℕ) (forwar
       where
         go : (get_or out k 0 < along) ⊎ (along ≤ get_or out k 0) → (is : List ℕ) × (IsPath arcs 0 is k × (path_weight arcs is ≡ get_or after k 0))
         go (inl less) =
-            let r = h.reached place (omega (arith, forward next there)) in
-            (r.0 ++ next ∷ [], (IsPath-push arcs 0 r.0 place next k r.1.0 there (omega arith) (omega arith), path_weight-push arcs r.0 next
-                ∙ omega (arith, r.1.1, raised_same out _ along in_room k same, ap (λ j. get_or out j 0) same)))
+            let r = h.reached place (omega (arith, forward next there)) in (
+              r.0 ++ next ∷ [],
+              (
+                IsPath-push arcs 0 r.0 place next k r.1.0 there (omega arith) (omega arith),
+                path_weight-push arcs r.0 next
+                    ∙ omega (arith, r.1.1, raised_same out _ along in_room k same, ap (λ j. get_or out j 0) same),
+              ),
+            )
         go (inr more) = let r = h.reached k up in (r.0, (r.1.0, omega (arith, r.1.1, raised_same out _ along in_room k same, ap (λ j. get_or out j 0) same)))
 
     arc-taken-here : get_or after (arc_at arcs next).from 0 + (arc_at arcs next).weight ≤ get_or after (arc_at arcs next).to 0
     arc-taken-here =
-        omega (arith, raised_other out _ along in_room (arc_at arcs next).from (omega (arith, forward next there)), raised_at out _ along in_room, ap
-            (λ j. get_or out j 0) from)
+        omega (
+          arith,
+          raised_other out _ along in_room (arc_at arcs next).from (omega (arith, forward next there)),
+          raised_at out _ along in_room,
+          ap
+              (λ j. get_or out j 0) from,
+        )
 
     arc-taken : (i : ℕ) → i < next + 1 → (i ≡ next) ⊎ (i ≢ next) →
         get_or after (arc_at arcs i).from 0 + (arc_at arcs i).weight ≤ get_or after (arc_at arcs i).to 0
@@ -82,8 +92,13 @@ module _ (n : ℕ) (arcs : List Arc) (place next : ℕ) (out : List ℕ) (forwar
         rw same arc-taken-here
     arc-taken i below (inr apart) =
         let low : i < next = omega arith in
-        omega (arith, raised_other out _ along in_room (arc_at arcs i).from (omega (arith, h.before i low, forward next there)), raised_le out _ along
-            in_room (arc_at arcs i).to, h.taken i low)
+        omega (
+          arith,
+          raised_other out _ along in_room (arc_at arcs i).from (omega (arith, h.before i low, forward next there)),
+          raised_le out _ along
+              in_room (arc_at arcs i).to,
+          h.taken i low,
+        )
 
     arc-before : (i : ℕ) → i < next + 1 → (i ≡ next) ⊎ (i ≢ next) → (arc_at arcs i).from < place + 1
     arc-before i below (inl same) = rw same (omega arith)
@@ -130,9 +145,14 @@ module _ (n : ℕ) (arcs : List Arc) (place next : ℕ) (out : List ℕ) (forwar
         go : (get_or out k 0 < get_or out place 0) ⊎ (get_or out place 0 ≤ get_or out k 0) →
             (is : List ℕ) × (IsPath arcs 0 is k × (path_weight arcs is ≡ get_or on k 0))
         go (inl less) =
-            let r = h.reached place (omega arith) in
-            (r.0, (IsPath-further arcs 0 r.0 place k r.1.0 (omega arith), omega
-                (arith, r.1.1, raised_same out _ (get_or out place 0) on-room k same, ap (λ j. get_or out j 0) same)))
+            let r = h.reached place (omega arith) in (
+              r.0,
+              (
+                IsPath-further arcs 0 r.0 place k r.1.0 (omega arith),
+                omega
+                    (arith, r.1.1, raised_same out _ (get_or out place 0) on-room k same, ap (λ j. get_or out j 0) same),
+              ),
+            )
         go (inr more) = let r = h.reached k up in
             (r.0, (r.1.0, omega (arith, r.1.1, raised_same out _ (get_or out place 0) on-room k same, ap (λ j. get_or out j 0) same)))
 
@@ -140,8 +160,13 @@ module _ (n : ℕ) (arcs : List Arc) (place next : ℕ) (out : List ℕ) (forwar
     on-rising k below (inl same) =
         rw same (omega (arith, raised_other out _ (get_or out place 0) on-room place (omega arith), raised_at out _ (get_or out place 0) on-room))
     on-rising k below (inr apart) =
-        omega (arith, raised_other out _ (get_or out place 0) on-room k (omega arith), raised_other out _ (get_or out place 0) on-room (k + 1)
-            (omega arith), h.rising k (omega arith))
+        omega (
+          arith,
+          raised_other out _ (get_or out place 0) on-room k (omega arith),
+          raised_other out _ (get_or out place 0) on-room (k + 1)
+              (omega arith),
+          h.rising k (omega arith),
+        )
 
     on-later : (i : ℕ) → next ≤ i → i < length arcs → (i ≡ next) ⊎ (i ≢ next) → place + 1 ≤ (arc_at arcs i).from
     on-later i from within (inl same) =
@@ -168,8 +193,13 @@ module _ (n : ℕ) (arcs : List Arc) (place next : ℕ) (out : List ℕ) (forwar
       reached = λ k up. on-reached k up (cases_eq k (place + 1));
       rising = λ k below. on-rising k below (cases_eq k place);
       taken = λ i below.
-          omega (arith, raised_other out _ (get_or out place 0) on-room (arc_at arcs i).from (omega (arith, h.before i below)), raised_le out _
-              (get_or out place 0) on-room (arc_at arcs i).to, h.taken i below);
+          omega (
+            arith,
+            raised_other out _ (get_or out place 0) on-room (arc_at arcs i).from (omega (arith, h.before i below)),
+            raised_le out _
+                (get_or out place 0) on-room (arc_at arcs i).to,
+            h.taken i below,
+          );
       before = h.before;
       later = λ i from within. on-later i from within (cases_eq i next);
       small = λ k up. on-small k up (cases_eq k (place + 1));
@@ -193,8 +223,14 @@ module _ (n : ℕ) (arcs : List Arc) (next : ℕ) (out : List ℕ) (forward : Le
   path_weight-le p [] k path up = omega (arith, rising_to p k path up)
   path_weight-le p (i ∷ is) k path up =
       let past : i < next = ⊎_elim (λ l. l) (λ g. absurd (omega (arith, h.later i g path.0, forward i path.0))) (cases_lt i next) in
-      omega (arith, path_weight-le (arc_at arcs i).to is k path.2 up, h.taken i past, rising_to p (arc_at arcs i).from path.1
-          (omega (arith, forward i path.0)), sum_by-cons (λ j. (arc_at arcs j).weight) i is)
+      omega (
+        arith,
+        path_weight-le (arc_at arcs i).to is k path.2 up,
+        h.taken i past,
+        rising_to p (arc_at arcs i).from path.1
+            (omega (arith, forward i path.0)),
+        sum_by-cons (λ j. (arc_at arcs j).weight) i is,
+      )
 
   pub IsHeaviest-relaxed : (k : ℕ) → k ≤ n → IsHeaviest arcs k (get_or out k 0)
   IsHeaviest-relaxed k up = record {

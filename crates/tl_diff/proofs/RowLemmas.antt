@@ -47,16 +47,16 @@ module _ (n : ℕ) (old cur : List (Option ℤ)) (variable to : ℕ) (way : ℤ)
   skip_here none =
       let at_old : bound_at (bounds_of n old) to end ≡ None = sym read_old ∙ none in
       h.rest end there (omega arith) ∙ (sym (lesser-none (bound_at (bounds_of n old) variable end))
-          ∙ ap (λ m. lesser (bound_at (bounds_of n old) variable end) (beyond way m)) (sym at_old))
+      ∙ ap (λ m. lesser (bound_at (bounds_of n old) variable end) (beyond way m)) (sym at_old))
 
   write_here : (t : ℤ) (o : Option ℤ) → bound_at (bounds_of n cur) to end ≡ Some t → o ≡ lesser (bound_at (bounds_of n cur) variable end) (Some (way +ℤ t))
       → bound_at (bounds_of n (set cur (variable * n + end) o)) variable end ≡ lesser (bound_at (bounds_of n old) variable end)
-          (beyond way (bound_at (bounds_of n old) to end))
+      (beyond way (bound_at (bounds_of n old) to end))
   write_here t o some is =
       let at_old : bound_at (bounds_of n old) to end ≡ Some t = sym read_old ∙ some in
       bound_at-set_same n cur variable end o h.pairs begins there
-          ∙ (is ∙ (ap (λ m. lesser m (Some (way +ℤ t))) (h.rest end there (omega arith))
-          ∙ ap (λ m. lesser (bound_at (bounds_of n old) variable end) (beyond way m)) (sym at_old)))
+      ∙ (is ∙ (ap (λ m. lesser m (Some (way +ℤ t))) (h.rest end there (omega arith))
+      ∙ ap (λ m. lesser (bound_at (bounds_of n old) variable end) (beyond way m)) (sym at_old)))
 
   pub IsRowImproved-skip : bound_at (bounds_of n cur) to end ≡ None → IsRowImproved (bounds_of n old) (bounds_of n cur) variable to way (end + 1)
   IsRowImproved-skip none = record {
@@ -85,7 +85,7 @@ module _ (n : ℕ) (old cur : List (Option ℤ)) (variable to : ℕ) (way : ℤ)
   } where
     done : (q : ℕ) → q < n → q < end + 1 → (q ≡ end) ⊎ (q ≢ end)
         → bound_at (bounds_of n (set cur (variable * n + end) o)) variable q ≡ lesser (bound_at (bounds_of n old) variable q)
-            (beyond way (bound_at (bounds_of n old) to q))
+        (beyond way (bound_at (bounds_of n old) to q))
     done q within below (inl e) = subst
         (λ j. bound_at (bounds_of n (set cur (variable * n + end) o)) variable j ≡ lesser (bound_at (bounds_of n old) variable j)
         (beyond way (bound_at (bounds_of n old) to j))) (sym e) (write_here t o some is)
@@ -100,7 +100,7 @@ round_same (Some s) (Some c) w h = let up = h s (omega (arith, ints)) in ap Some
 
 module _ (n : ℕ) (old cur : List (Option ℤ)) (u v : ℕ) (w : ℤ) (variable : ℕ) (begins : u < n) (goes : v < n) (there : variable < n)
     (no_cycle : (t : ℤ) → AtMost (bound_at (bounds_of n old) v u) t → pos 0 ≤ℤ (t +ℤ w))
-        (h : IsImproved (bounds_of n old) (bounds_of n cur) u v w variable) where
+    (h : IsImproved (bounds_of n old) (bounds_of n cur) u v w variable) where
   -- the row of the added constraint's end never changes
   pub row_same : (q : ℕ) → q < n → bound_at (bounds_of n cur) v q ≡ bound_at (bounds_of n old) v q
   row_same q within =
@@ -124,8 +124,8 @@ module _ (n : ℕ) (old cur : List (Option ℤ)) (u v : ℕ) (w : ℤ) (variable
     here q within =
         let at_old : bound_at (bounds_of n old) variable u ≡ None = sym (h.rest variable u there begins (omega arith)) ∙ none in
         h.rest variable q there within (omega arith)
-            ∙ (sym (lesser-none (bound_at (bounds_of n old) variable q))
-            ∙ ap (λ m. lesser (bound_at (bounds_of n old) variable q) (via m w (bound_at (bounds_of n old) v q))) (sym at_old))
+        ∙ (sym (lesser-none (bound_at (bounds_of n old) variable q))
+        ∙ ap (λ m. lesser (bound_at (bounds_of n old) variable q) (via m w (bound_at (bounds_of n old) v q))) (sym at_old))
 
     done : (p q : ℕ) → p < n → q < n → p < variable + 1 → (p ≡ variable) ⊎ (p ≢ variable) → Improved cur p q
     done p q from to below (inl e) = subst (λ j. Improved cur j q) (sym e) (here q to)

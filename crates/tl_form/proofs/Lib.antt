@@ -4,6 +4,7 @@ pub mod ChainLaws
 pub mod Deeper
 pub mod Duality
 mod Examples
+mod Lowest
 pub mod Found
 pub mod LeastRoomLemmas
 pub mod LeastWidths
@@ -15,3 +16,16 @@ pub mod SizesOpen
 pub mod Sorted
 pub mod SoundParts
 pub mod Widths
+pub mod TreeParts
+pub mod SoundNodes
+pub mod Becoming
+pub mod Gridless
+pub mod Writing
+pub mod Formed
+pub mod SoundFormed
+pub mod OneTable
+pub mod Numbered
+pub mod OneFile
+pub mod Orders
+pub mod Laid
+pub mod UnitSizes

@@ -34,7 +34,7 @@ both_each : {X : Type 0} (P Q : X → Type 0) (xs : List X) → AllByRecursion P
 both_each P Q [] one other = tt
 both_each P Q (x ∷ xs) one other = ((one.0, other.0), both_each P Q xs one.1 other.1)
 
-append_each : {X : Type 0} (P : X → Type 0) (xs ys : List X) → AllByRecursion P xs → AllByRecursion P ys → AllByRecursion P (xs ++ ys)
+pub append_each : {X : Type 0} (P : X → Type 0) (xs ys : List X) → AllByRecursion P xs → AllByRecursion P ys → AllByRecursion P (xs ++ ys)
 append_each P [] ys one other = other
 append_each P (x ∷ xs) ys one other = (one.0, append_each P xs ys one.1 other)
 

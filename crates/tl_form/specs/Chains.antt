@@ -1,6 +1,5 @@
 -- Chains of columns: cells of a table side by side, whose widths no page can do without. What a chain weighs is a
--- lower
--- bound on the width of every page that the table fits.
+-- lower bound on the width of every page that the table fits.
 use Rattle.std.specs.Prelude.{◌≡◌, ℕ, zero, suc, ◌+◌, ◌-◌, ◌*◌, ◌<◌, ◌≤◌, max, List, [], ◌∷◌, length, sum_by, Option, Some, None, Contains, slice_get}
 use Rattle.std.specs.List.{AllZip, flat_map}
 use Rattle.tl_base.specs.declared.style.Style.{Style}
@@ -50,8 +49,8 @@ HasWidth weighs cell (Some number) link = (nested : Table) × Contains (tables_i
     × weighs nested link.inner link.width
 
 -- the entry names a cell of the table, and stands for this
-pub record IsLink (weighs : Table → List Chain → ℕ → Type 0) (table : OpenTable) (entry : Entry) (link : Link) : Type
-    0 where
+pub record IsLink (weighs : Table → List Chain → ℕ → Type 0) (table : OpenTable) (entry : Entry)
+    (link : Link) : Type 0 where
   pub cell : TableCell
   pub named : slice_get table.cells entry.cell ≡ Some cell
   pub placed : link.place ≡ (out-TableCell cell).place

@@ -1,6 +1,5 @@
 -- Layouts of a table: a width for each column, a height for each row, and a layout of each table nested directly in
--- it,
--- each whatever it may be; and when one fits a page.
+-- it, each whatever it may be; and when one fits a page.
 use Rattle.std.specs.Prelude.{◌≡◌, ℕ, zero, suc, ◌≤◌, List, [], ◌∷◌, length, sum_by}
 use Rattle.std.specs.List.{AllZip, flat_map}
 use Rattle.tl_base.specs.declared.style.Style.{Style}
@@ -44,8 +43,8 @@ abbrev pub FitsParagraph : ℕ → List Atom → ℕ → Type 0
 FitsParagraph w paragraph h = (cut : List (List (List Atom))) × IsCutting paragraph cut × HoldsIn w cut ×
     (length (joined cut) ≤ h)
 
--- a nested table fits a page of `w` columns by the layout of its share, with a total height of at most the share's
--- lines
+-- a nested table fits a page of `w` columns by the layout of its share, with a total height of at most the lines of
+-- the share
 pub record FitsInside (fits : ℕ → ℕ → Layout → Type 0) (w : ℕ) (share : Share) : Type 0 where
   pub layout : Layout
   pub height : ℕ
@@ -59,10 +58,9 @@ FitsShare fits w (open_content.Para paragraph) share = FitsParagraph w paragraph
 FitsShare fits w (open_content.Table box) share = FitsInside (fits box.value) w share
 
 -- a cell fits in a room of `w` columns and `h` lines: the room is as wide as the cell's floor, and its blocks stand
--- one
--- under the other, its nested tables by these layouts
-pub record FitsRoom (fits : Table → ℕ → ℕ → Layout → Type 0) (w h : ℕ) (cell : OpenCell) (inner : List Layout) : Type
-    0 where
+-- one under the other, its nested tables by these layouts
+pub record FitsRoom (fits : Table → ℕ → ℕ → Layout → Type 0) (w h : ℕ) (cell : OpenCell)
+    (inner : List Layout) : Type 0 where
   pub floor : cell.least ≤ w
   pub shares : List Share
   pub blocks : AllZip (λ block share. FitsShare fits w (out-Content block) share) cell.blocks shares

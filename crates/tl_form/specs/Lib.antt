@@ -3,4 +3,9 @@ pub mod Layouts
 pub mod Least
 pub mod Chains
 pub mod Sound
+pub mod Formed
+pub mod Refused
+pub mod Same
+pub mod Spells
+pub mod Laws
 pub mod inner

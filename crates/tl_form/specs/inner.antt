@@ -2,3 +2,4 @@
 pub mod Demands
 pub mod LeastRooms
 pub mod Links
+pub mod Forming

@@ -15,6 +15,7 @@ pub mod OneClass
 pub mod Rectangles
 pub mod SetLaws
 pub mod SizeLaws
+pub mod Soundness
 pub mod SpanLaws
 pub mod SpanningLemmas
 pub mod TightLaws

@@ -14,6 +14,7 @@ mod laws;
 mod placed;
 mod placing;
 mod problem;
+mod sound;
 mod spans;
 mod work;
 mod zone;

@@ -1,6 +1,6 @@
 //! A problem: a grid of cells to be laid out on a page of some width.
 
-ghost use Rattle.std.specs.Prelude.{◌≡◌, ◌<◌, ◌≤◌, ◌^◌, length, IfOk};
+ghost use Rattle.std.specs.Prelude.{◌≡◌, ◌-◌, ◌*◌, ◌<◌, ◌≤◌, ◌^◌, length, min, IfOk};
 ghost use Rattle.tl_problem.specs.Sound.{IsSound};
 ghost use Rattle.tl_problem.specs.Spans.{count_of, spans_of};
 ghost use Rattle.tl_problem.specs.inner.Axes.{IsOrder};
@@ -157,7 +157,7 @@ impl Problem {
     {
         let mut count: u64 = 1;
         for classes in &self.classes {
-            count = count.saturating_mul(classes.len() as u64);
+            count = capped_product(count, classes.len());
         }
         count
     }
@@ -175,4 +175,11 @@ impl Problem {
         }
         Ok(Zone::from_ranges(self.alloc, ranges))
     }
+}
+
+/// The product, at most `2^64 - 1`.
+fn capped_product(count: u64, classes: usize) -> u64
+    ensures { result ≡ min (count * classes) (2 ^ 64 - 1) }
+{
+    count.saturating_mul(classes as u64)
 }

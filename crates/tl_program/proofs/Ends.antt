@@ -133,7 +133,7 @@ module _ (arguments : List (List ℕ)) (change : Change) where
 -- the content of which the bytes are the first, or all
 pub content_of : (files : Option Files) (name bytes : List ℕ) → length bytes ≤ MAX_FILE_BYTES + 1 →
     IfSome files (λ held. IsReadFrom held name MAX_FILE_BYTES bytes) → (content : List ℕ) × Holds files name content
-        × (take (MAX_FILE_BYTES + 1) content ≡ bytes)
+    × (take (MAX_FILE_BYTES + 1) content ≡ bytes)
 content_of None name bytes short read = (bytes, tt, take_all (MAX_FILE_BYTES + 1) bytes short)
 content_of (Some held) name bytes short read = found (held name) read where
   found : (there : Option (List ℕ)) → option_map (take (MAX_FILE_BYTES + 1)) there ≡ Some bytes →

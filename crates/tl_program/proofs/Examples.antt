@@ -51,11 +51,21 @@ the_page = refl
 -- a paragraph on one line fits where the line does
 one_line_fits : (w height : ℕ) (unit : Atom) (units : List Atom) → lined_pieces (unit ∷ units) ≡ (unit ∷ units) ∷ [] →
     line_width (unit ∷ units) ≤ w → 1 ≤ height → FitBlocks w height ((unit ∷ units) ∷ [])
-one_line_fits w height unit units one wide high =
-    (1 ∷ [], ((cut, subst (λ pieces. AllZip IsPieceCut pieces cut) (sym one) (((λ none. cc, tt), ap (λ more. unit ∷ more) (append-nil units)), tt),
-        (wide, tt), omega arith), tt), omega (arith, high)) where
-      cut : List (List (List Atom))
-      cut = ((unit ∷ units) ∷ []) ∷ []
+one_line_fits w height unit units one wide high = (
+  1 ∷ [],
+  (
+    (
+      cut,
+      subst (λ pieces. AllZip IsPieceCut pieces cut) (sym one) (((λ none. cc, tt), ap (λ more. unit ∷ more) (append-nil units)), tt),
+      (wide, tt),
+      omega arith,
+    ),
+    tt,
+  ),
+  omega (arith, high),
+) where
+  cut : List (List (List Atom))
+  cut = ((unit ∷ units) ∷ []) ∷ []
 
 fits : Fits table Plain 5 2 layout
 unfolding unicode_width

@@ -69,7 +69,7 @@ pub line_more : (old page new : List ℕ) (w : ℕ) (atoms : List Atom) (ranges 
 line_more old page new w atoms ranges n none within before now =
     written_more old page new (lines_text w (map (ranged atoms) (take n ranges))) (filled w (ranged atoms (get_or ranges n none)) ++ 10 ∷ []) before now
     ∙ ap (λ text. old ++ encode_utf8_all text)
-        (flat_map_more (λ line. filled w line ++ 10 ∷ []) [] (map (ranged atoms) (take n ranges)) (ranged atoms (get_or ranges n none))
+    (flat_map_more (λ line. filled w line ++ 10 ∷ []) [] (map (ranged atoms) (take n ranges)) (ranged atoms (get_or ranges n none))
     ∙ ap (lines_text w) (sym (map_more (ranged atoms) ranges n none within)))
 
 -- no unit of a paragraph with a cutting in the width is wider

@@ -134,11 +134,14 @@ module _ (problem : ProblemModel) (sound : IsSound problem) (zone : List Range) 
         | inl same ↦
             let first = (range_at zone s).first in
             let here : Contains (range_bounds problem s (range first class)) other =
-            subst (λ r. Contains (range_bounds problem s r) other) lower_at (subst (λ n. Contains (range_bounds problem n (range_at part n)) other) same found.2) in
+            subst (λ r. Contains (range_bounds problem s r) other) lower_at
+            (subst (λ n. Contains (range_bounds problem n (range_at part n)) other) same found.2) in
             elim (Contains-append_cases (if nat_lt (class + 1) (length (classes_at problem s)) then at_most s (last_in_class problem s class) ∷ [] else [])
             (if nat_lt 0 first then at_least s (first_in_class problem s first) ∷ [] else []) other here) [
-              | inl most ↦ absurd (apart (sym (given-only (nat_lt (class + 1) (length (classes_at problem s))) (at_most s (last_in_class problem s class)) other most)))
-              | inr least ↦ subst (Meets problem widths) (given-only (nat_lt 0 first) (at_least s (first_in_class problem s first)) other least) (inside.ranges s there).0
+              | inl most ↦ absurd (apart (sym
+                  (given-only (nat_lt (class + 1) (length (classes_at problem s))) (at_most s (last_in_class problem s class)) other most)))
+              | inr least ↦ subst (Meets problem widths) (given-only (nat_lt 0 first) (at_least s (first_in_class problem s first)) other least)
+                  (inside.ranges s there).0
             ]
         | inr differ ↦
             let same : range_at part t ≡ range_at zone t = get_or-set_other zone s t (range (range_at zone s).first class) (range 0 0) differ in
@@ -174,9 +177,11 @@ whole-bounds problem = nothing-in (zone_bounds problem (whole_zone problem)) nev
       let s = found.0 in
       let count = length (classes_at problem s) in
       let within : s < length (spans_of problem) = omega (arith, (range-Contains 0 (length whole) s found.1).1, (whole-is_zone problem).spans) in
-      let here : Contains (range_bounds problem s (range 0 (count - 1))) bound = subst (λ r. Contains (range_bounds problem s r) bound) (whole-range problem s within) found.2 in
+      let here : Contains (range_bounds problem s (range 0 (count - 1))) bound = subst (λ r. Contains (range_bounds problem s r) bound)
+      (whole-range problem s within) found.2 in
       elim (Contains-append_cases (if nat_lt (count - 1 + 1) count then at_most s (last_in_class problem s (count - 1)) ∷ [] else [])
       (if nat_lt 0 0 then at_least s (first_in_class problem s 0) ∷ [] else []) bound here) [
-        | inl most ↦ given-none (nat_lt (count - 1 + 1) count) (at_most s (last_in_class problem s (count - 1))) bound (not_lt_test (count - 1 + 1) count (omega arith)) most
+        | inl most ↦ given-none (nat_lt (count - 1 + 1) count) (at_most s (last_in_class problem s (count - 1))) bound
+            (not_lt_test (count - 1 + 1) count (omega arith)) most
         | inr least ↦ given-none (nat_lt 0 0) (at_least s (first_in_class problem s 0)) bound (not_lt_test 0 0 (omega arith)) least
       ]

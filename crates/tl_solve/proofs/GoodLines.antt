@@ -23,7 +23,8 @@ use Rattle.tl_cert.specs.Implied.{IsLeft, Implied, OneLeft}
 use Rattle.tl_cert.specs.Lines.{nogood_at, EndsBy, IsGoodLine, IsGoodLog}
 use Rattle.tl_cert.proofs.TraceLaws.{zones-are}
 use Rattle.tl_solve.specs.Logs.{Proves}
-use Rattle.tl_solve.specs.inner.Found.{IsBoundFound, AreBoundsOf, IsCutFound, AreCutsOf}
+use Rattle.tl_solve.specs.Arenas.{IsBoundFound, AreBoundsOf}
+use Rattle.tl_solve.specs.inner.Found.{IsCutFound, AreCutsOf}
 use Rattle.tl_solve.specs.inner.Shapes.{closing_end, closing_line_of, firing_line_of, line_of, AreLinesOf}
 use Rattle.tl_solve.proofs.Parts.{HasParts, cut-parts, first-whole}
 use Rattle.tl_solve.proofs.Firing.{left-inside, inside-left, lower-implied, upper-implied, lower-but_one, whole-bounds}

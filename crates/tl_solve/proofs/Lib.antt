@@ -1,6 +1,14 @@
+mod Examples
 mod Parts
 mod Firing
 mod GoodLines
 mod Writable
 mod Cuts
 mod ZoneLists
+mod FewSpans
+mod Opening
+mod OrderLaws
+mod ArenaLaws
+mod Agreeing
+mod EndLaws
+mod WalkLaws

@@ -11,7 +11,7 @@ use Rattle.tl_cert.specs.Pieces.{character, number, word, IsWithin, AllWithin}
 use Rattle.tl_cert.specs.Text.{space, fire_pieces, end_word, line_pieces, IsLineShaped, IsLogWritable}
 use Rattle.tl_solve.specs.inner.Shapes.{parts_fired, line_of, AreLinesOf}
 
-all-append : {X : Type 0} (P : X → Type 0) (xs ys : List X) → AllByRecursion P xs → AllByRecursion P ys → AllByRecursion P (xs ++ ys)
+pub all-append : {X : Type 0} (P : X → Type 0) (xs ys : List X) → AllByRecursion P xs → AllByRecursion P ys → AllByRecursion P (xs ++ ys)
 all-append P [] ys first second = second
 all-append P (x ∷ xs) ys first second = (first.0, all-append P xs ys first.1 second)
 
@@ -19,12 +19,12 @@ all-by_recursion : {X : Type 0} (P : X → Type 0) (xs : List X) → All P xs �
 all-by_recursion P [] all = tt
 all-by_recursion P (x ∷ xs) all = (all 0 x (omega arith), all-by_recursion P xs (λ i d within. all (suc i) d (omega arith)))
 
-all-flat_map : {X Y : Type 0} (P : Y → Type 0) (f : X → List Y) (xs : List X) → All (λ x. AllByRecursion P (f x)) xs → AllByRecursion P (flat_map f xs)
+pub all-flat_map : {X Y : Type 0} (P : Y → Type 0) (f : X → List Y) (xs : List X) → All (λ x. AllByRecursion P (f x)) xs → AllByRecursion P (flat_map f xs)
 all-flat_map P f [] all = tt
 all-flat_map P f (x ∷ xs) all = subst (AllByRecursion P) (sym (flat_map-cons f x xs))
     (all-append P (f x) (flat_map f xs) (all 0 x (omega arith)) (all-flat_map P f xs (λ i d within. all (suc i) d (omega arith))))
 
-word-within : (cs : List ℕ) → AllWithin (word cs)
+pub word-within : (cs : List ℕ) → AllWithin (word cs)
 word-within [] = tt
 word-within (c ∷ cs) = (tt, word-within cs)
 

@@ -8,9 +8,9 @@ use Rattle.tl_problem.specs.Problem.{ProblemModel}
 use Rattle.tl_problem.specs.Zones.{whole_zone, lower_part, upper_part}
 use Rattle.tl_cert.specs.declared.trace.CutAt.{CutAt}
 use Rattle.tl_cert.specs.Traces.{with_parts, zones_after, zones_of, zone_of}
-use Rattle.tl_solve.specs.inner.Found.{IsBoundFound}
+use Rattle.tl_solve.specs.Arenas.{IsBoundFound}
 
-zones-push : (zones : List (List Range)) (cuts : List CutAt) (cut : CutAt) → zones_after zones (cuts ++ cut ∷ []) ≡ with_parts (zones_after zones cuts) cut
+pub zones-push : (zones : List (List Range)) (cuts : List CutAt) (cut : CutAt) → zones_after zones (cuts ++ cut ∷ []) ≡ with_parts (zones_after zones cuts) cut
 zones-push zones [] cut = refl
 zones-push zones (first ∷ cuts) cut = zones-push (with_parts zones first) cuts cut
 
@@ -53,7 +53,8 @@ pub found-more : (problem : ProblemModel) (trace : List CutAt) (items : List (Op
     (z : ℕ) (d : Option ℕ) → z < n + 1 → IsBoundFound problem (zone_of problem trace z) (get_or (items ++ bound ∷ []) z d)
 found-more problem trace items n bound count old new z d within =
     elim (cases_lt z n) [
-      | inl less ↦ subst (IsBoundFound problem (zone_of problem trace z)) (sym (get_or_append_left items (bound ∷ []) d z (omega (arith, less, count)))) (old z d less)
+      | inl less ↦ subst (IsBoundFound problem (zone_of problem trace z))
+          (sym (get_or_append_left items (bound ∷ []) d z (omega (arith, less, count)))) (old z d less)
       | inr last ↦
           let here : z ≡ length items + 0 = omega (arith, last, within, count) in
           let number : n ≡ z = omega (arith, last, within) in

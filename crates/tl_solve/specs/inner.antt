@@ -1,2 +1,4 @@
+-- What the private functions promise one another. No public clause cites it.
 pub mod Found
 pub mod Shapes
+pub mod Walk

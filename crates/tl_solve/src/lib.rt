@@ -3,12 +3,20 @@
 //! placement, with a log that is good for its lower bound and a trace worked for its budget.
 #![tactic(auto)]
 
+mod arena;
+mod ending;
 mod lines;
 mod log;
+mod looks;
 mod outcome;
+mod plain;
 mod solver;
+#[cfg(test)]
+mod tests;
 mod zones;
 
+pub use arena::Arena;
 pub use log::trace_log;
 pub use outcome::Outcome;
+pub use plain::Plain;
 pub use solver::Solver;

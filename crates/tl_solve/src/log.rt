@@ -6,7 +6,8 @@ ghost use Rattle.tl_cert.specs.Lines.{IsGoodLog};
 ghost use Rattle.tl_cert.specs.Text.{IsLogWritable, IsTraceWritable};
 ghost use Rattle.tl_cert.specs.Traces.{IsTraceOf, Stands, zone_of};
 ghost use Rattle.tl_solve.specs.Logs.{Proves};
-ghost use Rattle.tl_solve.specs.inner.Found.{AreBoundsOf, ArePartsThere};
+ghost use Rattle.tl_solve.specs.Arenas.{AreBoundsOf};
+ghost use Rattle.tl_solve.specs.inner.Found.{ArePartsThere};
 ghost use Rattle.tl_solve.specs.inner.Shapes.{AreLinesOf};
 
 use crate::lines::{closing_line, cuts_of_zones, firing_line};

@@ -4,7 +4,7 @@ ghost use Rattle.std.specs.Prelude.{◌≡◌, IfOk};
 ghost use Rattle.tl_problem.specs.Sound.{IsSound};
 ghost use Rattle.tl_problem.specs.Zones.{whole_zone};
 ghost use Rattle.tl_cert.specs.Traces.{IsTraceOf, zones_of};
-ghost use Rattle.tl_solve.specs.inner.Found.{AreBoundsOf};
+ghost use Rattle.tl_solve.specs.Arenas.{AreBoundsOf};
 
 use std::alloc::{AllocError, Global};
 use tl_cert::Trace;

@@ -37,7 +37,8 @@ cell_ends c flow blocks cells node blocks_are cells_are node_is = record {
       let e = entries_of k later in
       let x = cell c.head c.spans.colspan c.spans.rowspan c.spans.least in
       ap (λ cs. (g ++ row_outline cs) ++ e) cells_are
-      ∙ ap (λ es. (g ++ (row ∷ es)) ++ e) (flat_map-push cell_outline c.row.cells node ∙ ap (λ es. flat_map cell_outline c.row.cells ++ es) (node_is ∙ ap (λ es. x ∷ es) blocks_are))
+      ∙ ap (λ es. (g ++ (row ∷ es)) ++ e)
+      (flat_map-push cell_outline c.row.cells node ∙ ap (λ es. flat_map cell_outline c.row.cells ++ es) (node_is ∙ ap (λ es. x ∷ es) blocks_are))
       ∙ regroup g (flat_map cell_outline c.row.cells) row x (blocks_outline flow.blocks) (paragraph_of (line_atoms flow.line [])) e;
 }
 
@@ -78,8 +79,10 @@ paragraph_ended old new entries blocks atoms word = record {
   same = λ k later.
       let e = entries_after k later in
       ap (λ bs. (entries ++ bs) ++ (paragraph_of (line_atoms new.line (leading later)) ++ e)) blocks
-      ∙ ap (λ list. (entries ++ (blocks_outline old.blocks ++ paragraph_of (line_atoms old.line []))) ++ (paragraph_of (atoms_from list (open_word new.line) (leading later)) ++ e)) atoms
-      ∙ ap (λ w. (entries ++ (blocks_outline old.blocks ++ paragraph_of (line_atoms old.line []))) ++ (paragraph_of (atoms_from [] w (leading later)) ++ e)) word
+      ∙ ap (λ list. (entries ++ (blocks_outline old.blocks ++ paragraph_of (line_atoms old.line []))) ++
+      (paragraph_of (atoms_from list (open_word new.line) (leading later)) ++ e)) atoms
+      ∙ ap (λ w. (entries ++ (blocks_outline old.blocks ++ paragraph_of (line_atoms old.line []))) ++
+      (paragraph_of (atoms_from [] w (leading later)) ++ e)) word
       ∙ ap (λ list. (entries ++ (blocks_outline old.blocks ++ paragraph_of (line_atoms old.line []))) ++ (paragraph_of list ++ e)) (read_none (leading later))
       ∙ regroup_line entries (blocks_outline old.blocks) (paragraph_of (line_atoms old.line [])) (entries_of k later);
 }
@@ -103,7 +106,8 @@ text_read old new entries cs blocks line = record {
       ap (λ bs. (entries ++ blocks_outline bs) ++ (paragraph_of (line_atoms new.line (leading later)) ++ entries_after k later)) blocks
       ∙ ap (λ list. (entries ++ blocks_outline old.blocks) ++ (paragraph_of list ++ entries_after k later))
       (line.same (leading later) ∙ ap (λ x. line_atoms old.line x) (sym (leading-text cs later)))
-      ∙ ap (λ es. (entries ++ blocks_outline old.blocks) ++ (paragraph_of (line_atoms old.line (leading (map character cs ++ later))) ++ es)) (sym (after-text k cs later));
+      ∙ ap (λ es. (entries ++ blocks_outline old.blocks) ++ (paragraph_of (line_atoms old.line (leading (map character cs ++ later))) ++ es))
+      (sym (after-text k cs later));
 }
 
 pub break_read : (old new : Flow) (entries : Entries) → new.blocks ≡ old.blocks → ReadsMarks old.line new.line (line_break ∷ [])

@@ -13,7 +13,7 @@ use Rattle.tl_tree.specs.inner.Machine.{start_cell, Move, to, enter, leave, neve
 use Rattle.tl_tree.specs.inner.Verdict.{is_failed, depth}
 
 -- only table tags enter or leave a table
-abbrev DepthFits : Kind → Move → Type 0
+abbrev pub DepthFits : Kind → Move → Type 0
 DepthFits k (to q ms) = (is_table_start k ≡ false) × ((n : ℕ) → depth_with n k ≡ n)
 DepthFits k (enter holder) = k ≡ table_start
 DepthFits k (leave ms) = k ≡ table_end
@@ -100,7 +100,7 @@ cell_end_fits head between = tt
 cell_end_fits head (in_group part) = tt
 cell_end_fits head (in_row part) = tt
 
-depth_fits : (p : Place) (k : Kind) → DepthFits k (move p k)
+pub depth_fits : (p : Place) (k : Kind) → DepthFits k (move p k)
 depth_fits p (text cs) = text_fits cs p
 depth_fits p table_start = table_fits p
 depth_fits p table_end = refl

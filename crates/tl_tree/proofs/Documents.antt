@@ -32,8 +32,9 @@ use Rattle.tl_tree.specs.inner.Lines.{line_atoms, blocks_outline}
 use Rattle.tl_tree.specs.inner.Reading.{place_of, place_columns, open_size, holder_so_far, outcome}
 use Rattle.tl_tree.specs.inner.Documents.{around, state_of, IsModestReading, IsFresh, Reads, IsStop, stop_error, HasRead}
 use Rattle.tl_tree.proofs.MachineSound.{document_sound}
-use Rattle.tl_tree.proofs.Verdicts.{reached-append, depth-reached, passes, refused_first, first_refused, document_clean, same_marks, no_table, wrong_at}
+use Rattle.tl_tree.proofs.Verdicts.{reached-append, depth-reached, passes, refused_first, first_refused, document_clean, no_table, wrong_at}
 use Rattle.tl_tree.proofs.Verdicts.{misfit_fault, table_fault, deep_fault, many_fault}
+use Rattle.tl_tree.proofs.SameTrees.{one_tree}
 use Rattle.tl_tree.proofs.FineMoves.{state_columns, few_columns, small_marks}
 use Rattle.tl_tree.proofs.EntrySizes.{entries_size, paragraph_size, open_line_size}
 
@@ -42,7 +43,8 @@ all_told-push : (s : State) (front : Kinds) (k : Kind) → all_told s (front ++ 
 all_told-push s [] k = append-nil (told s k)
 all_told-push s (j ∷ front) k = ap (λ x. told s j ++ x) (all_told-push (next s j) front k) ∙ sym (append_assoc (told s j) _ _)
 
-fit_more : (d t : ℕ) (front : Kinds) (k : Kind) → FitLimits d t front → FitsLimits (depth_after d front) (tables_after t front) k → FitLimits d t (front ++ k ∷ [])
+fit_more : (d t : ℕ) (front : Kinds) (k : Kind) → FitLimits d t front → FitsLimits (depth_after d front) (tables_after t front) k →
+    FitLimits d t (front ++ k ∷ [])
 fit_more d t [] k fits more = (more, tt)
 fit_more d t (j ∷ front) k fits more = (fits.0, fit_more (depth_with d j) (tables_with t j) front k fits.1 more)
 
@@ -90,9 +92,11 @@ stopped ks front rest k tables reading stops.TooManyTables split h (table, goes,
     (table_fault _ _ _ k table alive ∙ many_fault _ _ _ _ d m (zero-add (length front))))
 
 -- the end of the tokens
-pub ended_refused : (ks : Kinds) (tables : ℕ) (reading : Reading) (e : TreeError) → HasRead ks tables reading → end_fault (state_of reading) ≡ Some e → IsRefused ks e
+pub ended_refused : (ks : Kinds) (tables : ℕ) (reading : Reading) (e : TreeError) → HasRead ks tables reading → end_fault (state_of reading) ≡ Some e
+    → IsRefused ks e
 ended_refused ks tables reading e h f =
-    first_refused ks e (ap (λ x. verdict 0 0 before x) (sym (append-nil ks)) ∙ passes 0 0 before ks [] (ap is_failed h.goes ∙ h.alive) h.within ∙ ap end_fault h.goes ∙ f)
+    first_refused ks e (ap (λ x. verdict 0 0 before x) (sym (append-nil ks)) ∙ passes 0 0 before ks [] (ap is_failed h.goes ∙ h.alive) h.within
+    ∙ ap end_fault h.goes ∙ f)
 
 pub ended_tree : (tokens : List Token) (tables : ℕ) (node : TableNode) → HasRead (kinds tokens) tables (After node) → SpellsTree tokens node
 ended_tree tokens tables node h = record {
@@ -104,11 +108,11 @@ ended_tree tokens tables node h = record {
 -- the answer decides all others
 pub each_ok : (tokens : List Token) (r : Result TableNode TreeError) → IfOk r (SpellsTree tokens) → IfErr r (IsMemoryOr (Memory alloc_error) (Refused tokens))
     → (node : TableNode) → SpellsTree tokens node → IsWithinLimits (kinds tokens) → ReturnsTree node r
-each_ok tokens (Ok returned) ok err node spelt within =
-    ok.same ∙ ap (λ ms. entries_of 0 ms) (same_marks (kinds tokens) ok.marks spelt.marks ok.document spelt.document) ∙ sym spelt.same
+each_ok tokens (Ok returned) ok err node spelt within = one_tree tokens returned node ok spelt
 each_ok tokens (Err error) ok (inl memory) node spelt within = memory
 each_ok tokens (Err error) ok (inr refused) node spelt within =
-    absurd (let c : Some error ≡ None = sym (refused_first (kinds tokens) error refused) ∙ document_clean (kinds tokens) spelt.marks spelt.document within in cc)
+    absurd (let c : Some error ≡ None = sym (refused_first (kinds tokens) error refused)
+    ∙ document_clean (kinds tokens) spelt.marks spelt.document within in cc)
 
 pub each_err : (tokens : List Token) (r : Result TableNode TreeError) → IfOk r (SpellsTree tokens) → OnOk r (IsWithinLimits (kinds tokens))
     → IfErr r (IsMemoryOr (Memory alloc_error) (Refused tokens)) → (error : TreeError) → Refused tokens error → ReturnsError (Memory alloc_error) error r
@@ -197,7 +201,8 @@ pub all_front : (front rest : Kinds) → AllByRecursion IsReadable (front ++ res
 all_front [] rest h = (tt, h)
 all_front (k ∷ front) rest h = let (a, b) = all_front front rest h.1 in ((h.0, a), b)
 
-pub readable_parts : (ks front rest : Kinds) → ks ≡ front ++ rest → AllByRecursion IsReadable ks → AllByRecursion IsReadable front × AllByRecursion IsReadable rest
+pub readable_parts : (ks front rest : Kinds) → ks ≡ front ++ rest → AllByRecursion IsReadable ks → AllByRecursion IsReadable front
+    × AllByRecursion IsReadable rest
 readable_parts ks front rest split h = all_front front rest (subst (λ (x : Kinds). AllByRecursion IsReadable x) split h)
 
 pub small_front : (ks front rest : Kinds) → ks ≡ front ++ rest → sum_by kind_size ks ≤ MAX_FILE_BYTES → sum_by kind_size front ≤ MAX_FILE_BYTES

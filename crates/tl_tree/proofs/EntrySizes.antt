@@ -69,10 +69,11 @@ pub paragraph_size : (atoms : List Atom) → sum_by entry_size (paragraph_of ato
 paragraph_size [] = refl
 paragraph_size (atom ∷ atoms) = omega (arith, sum_by-cons entry_size (paragraph (atom ∷ atoms)) [])
 
-leading_atoms_size : (ms : Marks) → sum_by atom_size (atoms_of ms) ≤ sum_by mark_size ms
-leading_atoms_size ms = let h = atoms_size [] ms in let P : List Atom → Type 0 = λ atoms. sum_by atom_size atoms ≤ sum_by mark_size ms in subst P (read_none ms) (omega arith)
+pub leading_atoms_size : (ms : Marks) → sum_by atom_size (atoms_of ms) ≤ sum_by mark_size ms
+leading_atoms_size ms = let h = atoms_size [] ms in let P : List Atom → Type 0 = λ atoms. sum_by atom_size atoms ≤ sum_by mark_size ms in
+    subst P (read_none ms) (omega arith)
 
-later_size : (k : ℕ) (ms : Marks) → sum_by entry_size (entries_after k ms) + sum_by mark_size (leading ms) ≤ sum_by mark_size ms
+pub later_size : (k : ℕ) (ms : Marks) → sum_by entry_size (entries_after k ms) + sum_by mark_size (leading ms) ≤ sum_by mark_size ms
 later_size k [] = omega arith
 later_size k (character c ∷ ms) =
     let h = later_size k ms in
@@ -102,7 +103,8 @@ entries_size k ms =
 
 -- the paragraph that is open counts what its atoms do
 whole_open : (word : List ℕ) → byte_count word ≤ sum_by atom_size (open_atoms word)
-whole_open word = subst (λ (ws : List (List ℕ)). byte_count word ≤ sum_by atom_size (map Word ws)) (sym (words_from-end word)) (by_test (has_character word) refl)
+whole_open word = subst (λ (ws : List (List ℕ)). byte_count word ≤ sum_by atom_size (map Word ws)) (sym (words_from-end word))
+    (by_test (has_character word) refl)
   where
     by_test : (b : Bool) → has_character word ≡ b → byte_count word ≤ sum_by atom_size (map Word (cond b (word ∷ []) []))
     by_test true h = omega (arith, sum_by-cons atom_size (Word word) [])
@@ -110,7 +112,8 @@ whole_open word = subst (λ (ws : List (List ℕ)). byte_count word ≤ sum_by a
 
 pub open_line_size : (line : Line) → line_size line ≤ sum_by atom_size (line_atoms line [])
 open_line_size line =
-    let e : sum_by atom_size (line_atoms line []) ≡ sum_by atom_size (line.atoms ++ open_atoms (open_word line)) = ap (λ atoms. sum_by atom_size atoms) (read_end line.atoms (open_word line)) in
+    let e : sum_by atom_size (line_atoms line []) ≡ sum_by atom_size (line.atoms ++ open_atoms (open_word line)) =
+    ap (λ atoms. sum_by atom_size atoms) (read_end line.atoms (open_word line)) in
     let s = sum_by-append atom_size line.atoms (open_atoms (open_word line)) in
     let w = whole_open (open_word line) in
     omega arith

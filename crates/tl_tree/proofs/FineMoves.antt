@@ -1,7 +1,7 @@
 -- What a token that is readable leads to: few more columns, marks that count no more than the token, and
 -- numbers in their ranges.
-use Rattle.std.proofs.Common.{◌≡◌, ◌≤◌, ℕ, ◌+◌, ◌*◌, Bool, true, false, ◌||◌, List, [], ◌∷◌, ◌++◌, length, map, sum_by, refl, sym, ap, ◌∙◌, cond, arith}
-use Rattle.std.proofs.Common.{length-append}
+use Rattle.std.proofs.Common.{◌≡◌, ◌≤◌, ℕ, ◌+◌, ◌*◌, Bool, true, false, ◌||◌, List, [], ◌∷◌, ◌++◌, length, map, sum_by, refl, sym, ap, ◌∙◌}
+use Rattle.std.proofs.Common.{subst, cond, arith, length-append}
 use Rattle.std.proofs.lemmas.Bool.{false≢true}
 use Rattle.std.proofs.lemmas.List.Sums.{sum_by-cons, sum_by-append}
 use Rattle.std.specs.List.{AllByRecursion, list_any}
@@ -12,14 +12,18 @@ use Rattle.tl_base.specs.Text.{byte_count}
 use Rattle.tl_token.specs.Characters.{is_control}
 use Rattle.tl_token.specs.declared.token.Spans.{Spans}
 use Rattle.tl_tree.specs.Tags.{Section, part_of, Kind, Kinds, text, table_start, table_end, caption_start, caption_end, colgroup_start, colgroup_end, col}
-use Rattle.tl_tree.specs.Tags.{group_start, group_end, row_start, row_end, cell_start, cell_end, br, p_or_div, inline_tag, outer_tag, lone_end, is_white}
+use Rattle.tl_tree.specs.Tags.{group_start, group_end, row_start, row_end, cell_start, cell_end, br, p_or_div, inline_tag, outer_tag}
+use Rattle.tl_tree.specs.Tags.{lone_end, is_white, is_table_start}
 use Rattle.tl_tree.specs.Grammar.{Mark, Marks, table_begins, columns, group_begins, row_begins, cell_begins, character, line_break, paragraph_ends, table_ends}
 use Rattle.tl_tree.specs.Sound.{IsCellInRange}
 use Rattle.tl_tree.specs.Readable.{IsReadable, kind_size}
+use Rattle.tl_tree.specs.Spelling.{depth_with}
 use Rattle.tl_tree.specs.inner.Machine.{Holder, of_caption, of_cell, Place, opened, in_columns, in_colgroup, between, in_group, in_row, in_flow, due, closes}
 use Rattle.tl_tree.specs.inner.Machine.{same_head, Move, to, enter, leave, never, move, State, before, inside, after, failed, left, moved, marks_of, next}
 use Rattle.tl_tree.specs.inner.Machine.{told, reached, all_told}
 use Rattle.tl_tree.specs.inner.Reading.{place_columns}
+use Rattle.tl_tree.specs.inner.Verdict.{is_failed}
+use Rattle.tl_tree.proofs.Depths.{DepthFits, depth_fits}
 
 -- how much a mark counts
 abbrev pub mark_size : Mark → ℕ
@@ -30,17 +34,20 @@ mark_size row_begins = 1
 mark_size (cell_begins head spans) = 1
 mark_size _ = 0
 
--- a mark in the ranges, where no more columns have come
+-- a mark inside a table, in the ranges, where no more columns have come
 abbrev pub IsFineMark : ℕ → Mark → Type 0
+IsFineMark n table_begins = ⊥
+IsFineMark n table_ends = ⊥
 IsFineMark n (columns m) = m ≤ n
 IsFineMark n (cell_begins head spans) = IsCellInRange spans.colspan spans.rowspan spans.least
 IsFineMark n (character c) = is_control c ≡ false
 IsFineMark n _ = Unit {0}
 
 abbrev FineMove : Place → Kind → Move → Type 0
-FineMove p k (to q ms) = (place_columns q ≤ place_columns p + MAX_COLSPAN) × (sum_by mark_size ms ≤ kind_size k) × AllByRecursion (IsFineMark (place_columns p)) ms
-FineMove p k (enter holder) = 1 ≤ kind_size k
-FineMove p k (leave ms) = (sum_by mark_size ms ≤ kind_size k) × AllByRecursion (IsFineMark (place_columns p)) ms
+FineMove p k (to q ms) = (place_columns q ≤ place_columns p + MAX_COLSPAN) × (sum_by mark_size ms ≤ kind_size k)
+    × AllByRecursion (IsFineMark (place_columns p)) ms
+FineMove p k (enter holder) = k ≡ table_start
+FineMove p k (leave ms) = (k ≡ table_end) × (ms ≡ due p ++ table_ends ∷ [])
 FineMove p k never = Unit {0}
 
 bytes-cons : (c : ℕ) (cs : List ℕ) → byte_count (c ∷ cs) ≡ length (encode_utf8 c) + byte_count cs
@@ -70,14 +77,18 @@ plain p q k h = (h, omega arith, tt)
 text_moves : (cs : List ℕ) → IsReadable (text cs) → (p : Place) → FineMove p (text cs) (move p (text cs))
 text_moves cs h (in_flow holder) = (omega arith, let e = text_size cs in omega arith, text_fine 0 cs h.1)
 text_moves cs h opened = fine_if (is_white (text cs)) opened opened (text cs) [] (plain opened opened (text cs) (omega arith))
-text_moves cs h (in_columns n) = fine_if (is_white (text cs)) (in_columns n) (in_columns n) (text cs) [] (plain (in_columns n) (in_columns n) (text cs) (omega arith))
-text_moves cs h (in_colgroup n pending) = fine_if (is_white (text cs)) (in_colgroup n pending) (in_colgroup n pending) (text cs) [] (plain (in_colgroup n pending) (in_colgroup n pending) (text cs) (omega arith))
+text_moves cs h (in_columns n) = fine_if (is_white (text cs)) (in_columns n) (in_columns n) (text cs) []
+    (plain (in_columns n) (in_columns n) (text cs) (omega arith))
+text_moves cs h (in_colgroup n pending) = fine_if (is_white (text cs)) (in_colgroup n pending) (in_colgroup n pending) (text cs) []
+    (plain (in_colgroup n pending) (in_colgroup n pending) (text cs) (omega arith))
 text_moves cs h between = fine_if (is_white (text cs)) between between (text cs) [] (plain between between (text cs) (omega arith))
-text_moves cs h (in_group part) = fine_if (is_white (text cs)) (in_group part) (in_group part) (text cs) [] (plain (in_group part) (in_group part) (text cs) (omega arith))
-text_moves cs h (in_row part) = fine_if (is_white (text cs)) (in_row part) (in_row part) (text cs) [] (plain (in_row part) (in_row part) (text cs) (omega arith))
+text_moves cs h (in_group part) = fine_if (is_white (text cs)) (in_group part) (in_group part) (text cs) []
+    (plain (in_group part) (in_group part) (text cs) (omega arith))
+text_moves cs h (in_row part) = fine_if (is_white (text cs)) (in_row part) (in_row part) (text cs) []
+    (plain (in_row part) (in_row part) (text cs) (omega arith))
 
 table_moves : (p : Place) → FineMove p table_start (move p table_start)
-table_moves (in_flow holder) = omega arith
+table_moves (in_flow holder) = refl
 table_moves _ = tt
 
 due_fine : (p : Place) → (sum_by mark_size (due p) ≡ 0) × AllByRecursion (IsFineMark (place_columns p)) (due p)
@@ -129,7 +140,8 @@ col_moves span h _ = tt
 group_end_moves : (section : Section) (p : Place) → FineMove p (group_end section) (move p (group_end section))
 group_end_moves section (in_group part) = fine_if (closes section part) (in_group part) between (group_end section) [] (omega arith, omega arith, tt)
 group_end_moves section (in_row part) = fine_if (closes section part) (in_row part) between (group_end section) [] (omega arith, omega arith, tt)
-group_end_moves section (in_flow (of_cell part head)) = fine_if (closes section part) (in_flow (of_cell part head)) between (group_end section) (paragraph_ends ∷ []) (omega arith, omega arith, (tt, tt))
+group_end_moves section (in_flow (of_cell part head)) = fine_if (closes section part) (in_flow (of_cell part head)) between (group_end section)
+    (paragraph_ends ∷ []) (omega arith, omega arith, (tt, tt))
 group_end_moves section _ = tt
 
 row_moves : (p : Place) → FineMove p row_start (move p row_start)
@@ -147,13 +159,15 @@ row_end_moves (in_row part) = (omega arith, omega arith, tt)
 row_end_moves (in_flow (of_cell part head)) = (omega arith, omega arith, (tt, tt))
 row_end_moves _ = tt
 
-cell_moves : (head : Bool) (spans : Spans) → IsCellInRange spans.colspan spans.rowspan spans.least → (p : Place) → FineMove p (cell_start head spans) (move p (cell_start head spans))
+cell_moves : (head : Bool) (spans : Spans) → IsCellInRange spans.colspan spans.rowspan spans.least → (p : Place) →
+    FineMove p (cell_start head spans) (move p (cell_start head spans))
 cell_moves head spans h (in_row part) = (omega arith, omega arith, (h, tt))
 cell_moves head spans h (in_flow (of_cell part other)) = (omega arith, omega arith, (tt, (h, tt)))
 cell_moves head spans h _ = tt
 
 cell_end_moves : (head : Bool) (p : Place) → FineMove p (cell_end head) (move p (cell_end head))
-cell_end_moves head (in_flow (of_cell part other)) = fine_if (same_head other head) (in_flow (of_cell part other)) (in_row part) (cell_end head) (paragraph_ends ∷ []) (omega arith, omega arith, (tt, tt))
+cell_end_moves head (in_flow (of_cell part other)) = fine_if (same_head other head) (in_flow (of_cell part other)) (in_row part) (cell_end head)
+    (paragraph_ends ∷ []) (omega arith, omega arith, (tt, tt))
 cell_end_moves head _ = tt
 
 br_moves : (p : Place) → FineMove p br (move p br)
@@ -171,7 +185,7 @@ inline_moves _ = tt
 fine_moves : (p : Place) (k : Kind) → IsReadable k → FineMove p k (move p k)
 fine_moves p (text cs) h = text_moves cs h p
 fine_moves p table_start h = table_moves p
-fine_moves p table_end h = after_due p (table_ends ∷ []) 1 (omega arith) (tt, tt)
+fine_moves p table_end h = (refl, refl)
 fine_moves p caption_start h = caption_moves p
 fine_moves p caption_end h = caption_end_moves p
 fine_moves p (colgroup_start span) h = colgroup_moves span h p
@@ -196,37 +210,61 @@ abbrev pub state_columns : State → ℕ
 state_columns (inside p hs) = place_columns p
 state_columns _ = 0
 
+-- the marks of a token: a table begins, or it ends after the marks that are due, or all stand inside it
+abbrev pub AreMarksOf : ℕ → Kind → Marks → Type 0
+AreMarksOf n table_start ms = ms ≡ table_begins ∷ []
+AreMarksOf n table_end ms = (due : Marks) × (ms ≡ due ++ table_ends ∷ []) × AllByRecursion (IsFineMark n) due
+AreMarksOf n _ ms = AllByRecursion (IsFineMark n) ms
+
+marks_inside : (n : ℕ) (k : Kind) (ms : Marks) → is_table_start k ≡ false → ((d : ℕ) → depth_with d k ≡ d) → AllByRecursion (IsFineMark n) ms →
+    AreMarksOf n k ms
+marks_inside n table_start ms start same h = absurd (false≢true (sym start))
+marks_inside n table_end ms start same h = absurd (let e : 0 ≡ 1 = same 1 in omega arith)
+marks_inside n _ ms start same h = h
+
 -- the same of a whole step
 pub record FineStep (s : State) (k : Kind) : Type 0 where
   pub few : state_columns (next s k) ≤ state_columns s + MAX_COLSPAN
   pub small : sum_by mark_size (told s k) ≤ kind_size k
-  pub fine : AllByRecursion (IsFineMark (state_columns s)) (told s k)
+  pub fine : is_failed (next s k) ≡ false → AreMarksOf (state_columns s) k (told s k)
 
 left_columns : (hs : List Holder) → state_columns (left hs) ≡ 0
 left_columns [] = refl
 left_columns (holder ∷ hs) = refl
 
-moved_step : (p : Place) (hs : List Holder) (k : Kind) (m : Move) → FineMove p k m
-    → (state_columns (moved hs m) ≤ place_columns p + MAX_COLSPAN) × (sum_by mark_size (marks_of m) ≤ kind_size k) × AllByRecursion (IsFineMark (place_columns p)) (marks_of m)
-moved_step p hs k (to q ms) h = h
-moved_step p hs k (enter holder) h = (omega arith, h, (tt, tt))
-moved_step p hs k (leave ms) h = (let e = left_columns hs in omega arith, h.0, h.1)
-moved_step p hs k never h = (omega arith, omega arith, tt)
+moved_step : (p : Place) (hs : List Holder) (k : Kind) (m : Move) → FineMove p k m → DepthFits k m
+    → (state_columns (moved hs m) ≤ place_columns p + MAX_COLSPAN) × (sum_by mark_size (marks_of m) ≤ kind_size k)
+    × (is_failed (moved hs m) ≡ false → AreMarksOf (place_columns p) k (marks_of m))
+moved_step p hs k (to q ms) h d = (h.0, h.1, λ alive. marks_inside (place_columns p) k ms d.0 d.1 h.2)
+moved_step p hs k (enter holder) h d =
+    let P : Kind → Type 0 = λ x. (0 ≤ place_columns p + MAX_COLSPAN) × (1 ≤ kind_size x)
+    × (false ≡ false → AreMarksOf (place_columns p) x (table_begins ∷ [])) in
+    subst P (sym h) (omega arith, omega arith, λ alive. refl)
+moved_step p hs k (leave ms) h d =
+    let due_marks = due_fine p in
+    let size : sum_by mark_size ms ≤ 1 = (let e : sum_by mark_size ms ≡ sum_by mark_size (due p ++ table_ends ∷ []) = ap (λ x. sum_by mark_size x) h.1 in
+    let s = sum_by-append mark_size (due p) (table_ends ∷ []) in let z = due_marks.0 in omega arith) in
+    let P : Kind → Type 0 = λ x. (state_columns (left hs) ≤ place_columns p + MAX_COLSPAN) × (sum_by mark_size ms ≤ kind_size x)
+    × (is_failed (left hs) ≡ false → AreMarksOf (place_columns p) x ms) in
+    subst P (sym h.0) (let e = left_columns hs in omega arith, size, λ alive. (due p, h.1, due_marks.1))
+moved_step p hs k never h d = (omega arith, omega arith, λ alive. absurd (false≢true (sym alive)))
 
 no_columns_if : (b : Bool) (s : State) → state_columns s ≡ 0 → state_columns (cond b s failed) ≤ MAX_COLSPAN
 no_columns_if true s h = omega arith
 no_columns_if false s h = omega arith
 
 pub fine_step : (s : State) (k : Kind) → IsReadable k → FineStep s k
-fine_step before (text cs) h = record { few = no_columns_if (is_white (text cs)) before refl; small = omega arith; fine = tt }
-fine_step before table_start h = record { few = omega arith; small = omega arith; fine = (tt, tt) }
-fine_step before _ h = record { few = omega arith; small = omega arith; fine = tt }
+fine_step before (text cs) h = record { few = no_columns_if (is_white (text cs)) before refl; small = omega arith; fine = λ alive. tt }
+fine_step before table_start h = record { few = omega arith; small = omega arith; fine = λ alive. refl }
+fine_step before outer_tag h = record { few = omega arith; small = omega arith; fine = λ alive. tt }
+fine_step before _ h = record { few = omega arith; small = omega arith; fine = λ alive. absurd (false≢true (sym alive)) }
 fine_step (inside p hs) k h =
-    let m = moved_step p hs k (move p k) (fine_moves p k h) in
+    let m = moved_step p hs k (move p k) (fine_moves p k h) (depth_fits p k) in
     record { few = m.0; small = m.1; fine = m.2 }
-fine_step after (text cs) h = record { few = no_columns_if (is_white (text cs)) after refl; small = omega arith; fine = tt }
-fine_step after _ h = record { few = omega arith; small = omega arith; fine = tt }
-fine_step failed k h = record { few = omega arith; small = omega arith; fine = tt }
+fine_step after (text cs) h = record { few = no_columns_if (is_white (text cs)) after refl; small = omega arith; fine = λ alive. tt }
+fine_step after outer_tag h = record { few = omega arith; small = omega arith; fine = λ alive. tt }
+fine_step after _ h = record { few = omega arith; small = omega arith; fine = λ alive. absurd (false≢true (sym alive)) }
+fine_step failed k h = record { few = omega arith; small = omega arith; fine = λ alive. absurd (false≢true (sym alive)) }
 
 -- and of steps one after another
 pub few_columns : (s : State) (ks : Kinds) → AllByRecursion IsReadable ks → state_columns (reached s ks) ≤ state_columns s + MAX_COLSPAN * length ks

@@ -8,6 +8,10 @@ pub mod Outlines
 mod Adds
 mod Readings
 mod FineMoves
+mod FineMarks
 mod EntrySizes
+pub mod SameTrees
 mod Documents
+mod Soundness
 pub mod ReadableTokens
+mod Examples

@@ -51,7 +51,8 @@ read_white atoms word c ms white =
     let e : map Word (words_from word (c ∷ first_text ms)) ≡ open_atoms word ++ map Word rest =
     ap (λ ws. map Word ws) (words_from-white word (first_text ms) c white) ∙ map-if (has_character word) word rest
     ∙ ap (λ ws. map Word ws ++ map Word rest) (sym (words_from-end word)) in
-    append_assoc atoms (open_atoms word) _ ∙ ap (λ x. atoms ++ x) (sym (append_assoc (open_atoms word) (map Word rest) (after_breaks ms)) ∙ ap (λ x. x ++ after_breaks ms) (sym e))
+    append_assoc atoms (open_atoms word) _
+    ∙ ap (λ x. atoms ++ x) (sym (append_assoc (open_atoms word) (map Word rest) (after_breaks ms)) ∙ ap (λ x. x ++ after_breaks ms) (sym e))
 
 -- a break ends the word and stands after it
 pub read_line_break : (atoms : List Atom) (word : List ℕ) (ms : Marks)
@@ -69,15 +70,15 @@ pub read_none : (ms : Marks) → atoms_from [] [] ms ≡ atoms_of ms
 read_none ms = ap (λ ws. map Word ws ++ after_breaks ms) (words_from-start (first_text ms))
 
 -- the word that is open is whole
-both : (a b : Bool) → a ≡ true → b ≡ true → (a && b) ≡ true
+pub both : (a b : Bool) → a ≡ true → b ≡ true → (a && b) ≡ true
 both true b h k = k
 both false b h k = absurd (false≢true h)
 
-part_left : (a b : Bool) → (a && b) ≡ true → a ≡ true
+pub part_left : (a b : Bool) → (a && b) ≡ true → a ≡ true
 part_left true b h = refl
 part_left false b h = absurd (false≢true h)
 
-part_right : (a b : Bool) → (a && b) ≡ true → b ≡ true
+pub part_right : (a b : Bool) → (a && b) ≡ true → b ≡ true
 part_right true b h = h
 part_right false b h = absurd (false≢true h)
 
@@ -92,14 +93,13 @@ pub whole_append : (xs ys : List Atom) → list_all is_whole xs ≡ true → lis
 whole_append [] ys h k = k
 whole_append (x ∷ xs) ys h k = both (is_whole x) _ (part_left (is_whole x) _ h) (whole_append xs ys (part_right (is_whole x) _ h) k)
 
-pub solid_push : (word : List ℕ) (c : ℕ) → list_any is_ascii_whitespace word ≡ false → is_ascii_whitespace c ≡ false
-    → list_any is_ascii_whitespace (word ++ c ∷ []) ≡ false
-solid_push [] c h k = rw k refl
-solid_push (d ∷ word) c h k = by_first (λ g. solid_push word c g k) (is_ascii_whitespace d) refl h
+-- no character passes the test after one more that does not
+pub none_push : (test : ℕ → Bool) (word : List ℕ) (c : ℕ) → list_any test word ≡ false → test c ≡ false → list_any test (word ++ c ∷ []) ≡ false
+none_push test [] c h k = rw k refl
+none_push test (d ∷ word) c h k = by_first (λ g. none_push test word c g k) (test d) refl h
   where
-    by_first : (list_any is_ascii_whitespace word ≡ false → list_any is_ascii_whitespace (word ++ c ∷ []) ≡ false)
-        → (b : Bool) → is_ascii_whitespace d ≡ b → (b || list_any is_ascii_whitespace word) ≡ false
-        → (is_ascii_whitespace d || list_any is_ascii_whitespace (word ++ c ∷ [])) ≡ false
+    by_first : (list_any test word ≡ false → list_any test (word ++ c ∷ []) ≡ false)
+        → (b : Bool) → test d ≡ b → (b || list_any test word) ≡ false → (test d || list_any test (word ++ c ∷ [])) ≡ false
     by_first go false e g = rw e (go g)
     by_first go true e g = absurd (false≢true (sym g))
 
@@ -186,7 +186,7 @@ none_open bytes h = rw (no_text bytes h, chars-nil) refl
 -- the word after a push of a character
 pub solid_after : (b : Bool) (old new : List ℕ) (c : ℕ) → IsUtf8 old → IsUtf8 new → new ≡ cond b (old ++ encode_utf8 c) old
     → is_ascii_whitespace c ≡ false → list_any is_ascii_whitespace (chars old) ≡ false → list_any is_ascii_whitespace (chars new) ≡ false
-solid_after true old new c utf8 valid is letter h = rw (chars-push old new c utf8 valid is) (solid_push (chars old) c h letter)
+solid_after true old new c utf8 valid is letter h = rw (chars-push old new c utf8 valid is) (none_push is_ascii_whitespace (chars old) c h letter)
 solid_after false old new c utf8 valid is letter h = rw is h
 
 map_same : (cs : List ℕ) → map (λ c. c) cs ≡ cs

@@ -359,7 +359,8 @@ steps p caption_end = caption_end_steps p
 steps p (colgroup_start span) = colgroup_start_steps span p
 steps p colgroup_end = colgroup_end_steps p
 steps p (col span) = col_steps span p
-steps p (group_start section) = λ ks rest ms more h. after_due p (group_start section) (group_begins (part_of section)) refl refl refl (group_start_step section h)
+steps p (group_start section) = λ ks rest ms more h. after_due p (group_start section) (group_begins (part_of section)) refl refl refl
+    (group_start_step section h)
 steps p (group_end section) = group_end_steps section p
 steps p row_start = row_start_steps p
 steps p row_end = row_end_steps p
@@ -400,7 +401,8 @@ before_step : (k : Kind) {ks : Kinds} {ms : Marks} → Completes (next before k)
 before_step (text cs) {ks} {ms} h = by_white (is_white (text cs)) refl h
   where
     by_white : (b : Bool) → is_white (text cs) ≡ b → Completes (cond b before failed) ks ms → Completes before (text cs ∷ ks) ms
-    by_white true white (from_before d) = from_before (record { before = d.before; after = d.after; led = outer_space white d.led; whole = d.whole; followed = d.followed })
+    by_white true white (from_before d) =
+        from_before (record { before = d.before; after = d.after; led = outer_space white d.led; whole = d.whole; followed = d.followed })
     by_white false white c = elim c [ ]
 before_step table_start (from_inside rest (around outside)) =
     from_before (record { before = _; after = _; led = no_outer; whole = whole_table rest; followed = outside })

@@ -101,7 +101,8 @@ cols_whole : (hs : List Holder) (n pending : ℕ) {spans : List ℕ} {ks k1 k2 :
 cols_whole hs n pending (no_col none_left) ended a =
     ended_whole colgroup_end (in_colgroup n pending) (in_columns (n + pending)) hs [] is_col refl refl (colgroup_as_columns n pending) none_left ended a
 cols_whole hs n pending (col_space {cs = cs} white later) ended a =
-    by_move (in_colgroup n pending) (in_colgroup n pending) hs (text cs) [] (white_stays (in_colgroup n pending) cs refl white) (cols_whole hs n pending later ended a)
+    by_move (in_colgroup n pending) (in_colgroup n pending) hs (text cs) [] (white_stays (in_colgroup n pending) cs refl white)
+    (cols_whole hs n pending later ended a)
 cols_whole hs n pending {ms = ms} (next_col {span = span} {spans = spans} later) ended a =
     by_move (in_colgroup n pending) (in_colgroup (n + span) 0) hs (col span) [] refl
     (cols_whole hs (n + span) 0 later ended (same_columns a))
@@ -113,14 +114,16 @@ cols_whole hs n pending {ms = ms} (next_col {span = span} {spans = spans} later)
     same_number : n + sum (span ∷ spans) ≡ n + span + colgroup_columns 0 spans
     same_number = ap (λ x. n + x) (sum_by-cons (λ s. s) span spans ∙ ap (λ x. span + x) (sym (sums span spans))) ∙ sym (add_assoc n span _)
 
-    same_columns : {k2 : Kinds} → Accepts (inside (in_columns (n + sum (span ∷ spans))) hs) k2 ms → Accepts (inside (in_columns (n + span + colgroup_columns 0 spans)) hs) k2 ms
+    same_columns : {k2 : Kinds} → Accepts (inside (in_columns (n + sum (span ∷ spans))) hs) k2 ms →
+        Accepts (inside (in_columns (n + span + colgroup_columns 0 spans)) hs) k2 ms
     same_columns {k2} b = let P : ℕ → Type 0 = λ x. Accepts (inside (in_columns x) hs) k2 ms in subst P same_number b
 
 columns_whole : (hs : List Holder) (n : ℕ) {m : ℕ} {ks rest : Kinds} {ms : Marks} → begins_with is_white rest ≡ false
     → Columns ks m rest → Accepts (inside between hs) rest ms → Accepts (inside (in_columns n) hs) ks (columns (n + m) ∷ ms)
 columns_whole hs n {rest = rest} {ms = ms} solid no_columns a =
     let P : ℕ → Type 0 = λ x. Accepts (inside (in_columns n) hs) rest (columns x ∷ ms) in
-    subst P (sym (add-zero n)) (as_alike_all (in_columns n) between hs (columns n ∷ []) none (λ k w o. columns_as_between n k w) rest solid (none_begins rest) a)
+    subst P (sym (add-zero n)) (as_alike_all (in_columns n) between hs (columns n ∷ []) none (λ k w o. columns_as_between n k w) rest solid
+    (none_begins rest) a)
 columns_whole hs n {ms = ms} solid (colgroup {span = span} {n = m} {spans = spans} {ks = ks} cols ended later) a =
     let b = columns_whole hs (n + colgroup_columns span spans) solid later a in
     let c = by_move (in_columns n) (in_colgroup n span) hs (colgroup_start span) [] refl (cols_whole hs n span cols ended b) in
@@ -158,22 +161,26 @@ mutual
       → Accepts (inside (in_columns 0) hs) rest more → Accepts (inside opened hs) ks ms
   caption_whole hs {ks} solid no_caption a = as_alike_all opened (in_columns 0) hs [] none (λ k w o. opened_as_columns k w) ks solid (none_begins ks) a
   caption_whole hs solid (caption {k1 = k1} flow ended) a =
-      let b = ended_whole caption_end (in_flow of_caption) (in_columns 0) hs (paragraph_ends ∷ []) none refl refl (λ k w o. caption_as_columns k w) (none_begins k1) ended a in
+      let b = ended_whole caption_end (in_flow of_caption) (in_columns 0) hs (paragraph_ends ∷ []) none refl refl (λ k w o. caption_as_columns k w)
+      (none_begins k1) ended a in
       by_move opened (in_flow of_caption) hs caption_start (caption_begins ∷ []) refl (flow_whole of_caption hs flow b)
 
   cells_whole : (part : Part) (hs : List Holder) {ks rest : Kinds} {ms more : Marks} → Cells ks ms rest more
       → Accepts (inside (in_row part) hs) rest more → Accepts (inside (in_row part) hs) ks ms
   cells_whole part hs no_cell a = a
   cells_whole part hs (cell {head = head} {spans = spans} {k1 = k1} flow ended later) a =
-      let b = ended_whole (cell_end head) (in_flow (of_cell part head)) (in_row part) hs (paragraph_ends ∷ []) none (when (same_head head head) _ _ (same_head-refl head)) refl
+      let b = ended_whole (cell_end head) (in_flow (of_cell part head)) (in_row part) hs (paragraph_ends ∷ []) none
+      (when (same_head head head) _ _ (same_head-refl head)) refl
       (λ k w o. cell_as_row part head k w) (none_begins k1) ended (cells_whole part hs later a) in
-      by_move (in_row part) (in_flow (of_cell part head)) hs (cell_start head spans) (cell_begins head spans ∷ []) refl (flow_whole (of_cell part head) hs flow b)
+      by_move (in_row part) (in_flow (of_cell part head)) hs (cell_start head spans) (cell_begins head spans ∷ []) refl
+      (flow_whole (of_cell part head) hs flow b)
 
   rows_whole : (part : Part) (hs : List Holder) {ks rest : Kinds} {ms more : Marks} → Rows ks ms rest more
       → Accepts (inside (in_group part) hs) rest more → Accepts (inside (in_group part) hs) ks ms
   rows_whole part hs (no_row h) a = a
   rows_whole part hs (row {k2 = k2} spaces cells ended later) a =
-      let b = ended_whole row_end (in_row part) (in_group part) hs [] none refl refl (λ k w o. row_as_group part k w) (none_begins k2) ended (rows_whole part hs later a) in
+      let b = ended_whole row_end (in_row part) (in_group part) hs [] none refl refl (λ k w o. row_as_group part k w) (none_begins k2) ended
+      (rows_whole part hs later a) in
       by_move (in_group part) (in_row part) hs row_start (row_begins ∷ []) refl (spaces_whole (in_row part) hs refl spaces (cells_whole part hs cells b))
 
   parts_whole : (hs : List Holder) {ks rest : Kinds} {ms more : Marks} → begins_with is_white rest ≡ false → Parts ks ms rest more
@@ -183,9 +190,11 @@ mutual
       let part = part_of section in
       let b = ended_whole (group_end section) (in_group part) between hs [] is_row_start (when (closes section part) _ _ (closes-own section)) refl
       (λ k w o. group_as_between part k w o) (rows_end rows) ended (parts_whole hs solid later a) in
-      by_move between (in_group part) hs (group_start section) (group_begins part ∷ []) refl (spaces_whole (in_group part) hs refl spaces (rows_whole part hs rows b))
+      by_move between (in_group part) hs (group_start section) (group_begins part ∷ []) refl
+      (spaces_whole (in_group part) hs refl spaces (rows_whole part hs rows b))
   parts_whole hs solid (loose_rows {k1 = k1} rows later) a =
-      let b = as_alike_all (in_group Loose) between hs [] is_row_start (λ k w o. group_as_between Loose k w o) k1 (parts_solid solid later) (rows_end rows) (parts_whole hs solid later a) in
+      let b = as_alike_all (in_group Loose) between hs [] is_row_start (λ k w o. group_as_between Loose k w o) k1 (parts_solid solid later)
+      (rows_end rows) (parts_whole hs solid later a) in
       let c = rows_whole Loose hs rows b in
       record { ends = c.ends; tells = ap (λ x. group_begins Loose ∷ x) c.tells }
 

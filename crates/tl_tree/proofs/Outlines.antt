@@ -20,7 +20,8 @@ joined-map : {A : Type 0} (f : A → Entries) (xs : List A) → joined (list_map
 joined-map f [] = refl
 joined-map f (x ∷ xs) = ap (λ es. f x ++ es) (joined-map f xs)
 
-rows-map : (f : CellNode → Entries) (rows : List (List CellNode)) → flat_map row_entries (list_map (list_map f) rows) ≡ flat_map (λ cells. row ∷ flat_map f cells) rows
+rows-map : (f : CellNode → Entries) (rows : List (List CellNode)) →
+    flat_map row_entries (list_map (list_map f) rows) ≡ flat_map (λ cells. row ∷ flat_map f cells) rows
 rows-map f [] = refl
 rows-map f (cells ∷ rows) =
     ap (λ es. row ∷ (es ++ flat_map row_entries (list_map (list_map f) rows))) (joined-map f cells)

@@ -1,21 +1,18 @@
 -- What `tokens` returns is what `tree` reads.
-use Rattle.std.proofs.Common.{◌≡◌, ◌<◌, ◌≤◌, ℕ, ◌+◌, Bool, true, false, not, ◌&&◌, ◌||◌, List, [], ◌∷◌, Option, Some, None, length, map, sum_by, refl, sym}
+use Rattle.std.proofs.Common.{◌≡◌, ◌<◌, ◌≤◌, ℕ, Bool, true, false, not, ◌&&◌, ◌||◌, List, [], ◌∷◌, Option, Some, None, length, sum_by, refl, sym}
 use Rattle.std.proofs.Common.{ap, ◌∙◌, subst, inl, inr, cond, arith, drop}
-use Rattle.std.specs.Prelude.{max, min}
 use Rattle.std.specs.List.{AllByRecursion, list_any}
-use Rattle.std.specs.Char.{is_ascii_hexdigit, is_ascii_digit, is_ascii_alphanumeric}
 use Rattle.std.proofs.lemmas.Bool.{false≢true}
 use Rattle.std.proofs.lemmas.Int.{clamps}
 use Rattle.std.proofs.lemmas.List.Sums.{sum_by-cons}
 use lib.Utf8.{scalar}
 use Rattle.tl_base.specs.declared.limits.TheConstants.{MAX_FILE_BYTES, MAX_COLSPAN, MAX_ROWSPAN, MAX_PAGE_WIDTH}
-use Rattle.tl_base.specs.Text.{byte_count}
 use Rattle.tl_token.specs.Characters.{◌∈◌, is_control, begins}
 use Rattle.tl_token.specs.Numbers.{number, columns_of, rows_of, floor_of}
 use Rattle.tl_token.specs.Elements.{Attribute, Tag, kind_of, spans_of}
-use Rattle.tl_token.specs.Grammar.{named_character, numbered_character, ended_run, referred, numeric_reference, reference, Piece, hidden, tag}
-use Rattle.tl_token.specs.Grammar.{character, Stands, comment, doctype, markup, by_reference, plain}
-use Rattle.tl_token.specs.Spelling.{Part, place_of, Leads, here, next, token, join_before, character_before, piece_before, tokens_of, token_size, size_of}
+use Rattle.tl_token.specs.Grammar.{named_character, numbered_character, referred, numeric_reference, reference, Piece}
+use Rattle.tl_token.specs.Grammar.{Stands, comment, doctype, markup, by_reference, plain}
+use Rattle.tl_token.specs.Spelling.{Part, place_of, Leads, here, next, join_before, character_before, piece_before, tokens_of, token_size, size_of}
 use Rattle.tl_token.specs.Spelling.{SpellsTokens}
 use Rattle.tl_token.specs.declared.token.Element.{Element}
 use Rattle.tl_token.specs.declared.token.Element.TheVariants.{Table, Caption, Colgroup, Col, Thead, Tbody, Tfoot, Tr, Td, Th, Br, P, Div, Inline, Outer}
@@ -156,7 +153,8 @@ piece_readable cs rest _ first past later (doctype k) fine = fine
 piece_readable cs rest _ first past later (markup e t k known kind) fine =
     let Q : TokenKind → Type 0 = λ x. IsReadable (class_of x) in
     (subst Q (sym kind) (tag_readable e t), fine)
-piece_readable _ rest _ first past later (by_reference {c = c} {d = d} {cs = cs} a h) fine = character_readable d first past later (reference_plain cs d rest h) fine
+piece_readable _ rest _ first past later (by_reference {c = c} {d = d} {cs = cs} a h) fine =
+    character_readable d first past later (reference_plain cs d rest h) fine
 piece_readable _ rest _ first past later (plain {c = c} k) fine = character_readable c first past later (not_true (is_control c) (k.0)) fine
 
 -- the tokens of pieces that lead somewhere

@@ -72,7 +72,8 @@ reads_inside outer t new tables k tag m = record {
   goes = ap (λ x. moved (holders outer.items) x) m.goes;
   alive = refl;
   fits = fits_tag (length (holders outer.items) + 1) tables k tag;
-  same = λ later. ap (λ x. around outer.items ++ outcome new x later) (tables_tag tables k tag) ∙ ap (λ es. around outer.items ++ es) (m.adds.same tables later);
+  same = λ later. ap (λ x. around outer.items ++ outcome new x later) (tables_tag tables k tag)
+      ∙ ap (λ es. around outer.items ++ es) (m.adds.same tables later);
 }
 
 length-holders : (outer : List Outer) → length (holders outer) ≡ length outer
@@ -86,7 +87,9 @@ reads_nested outer holder flow tables new n = record {
   alive = ap is_failed n.goes;
   fits = (let e = length-holders outer.items in let h = n.shallow in omega arith, n.few);
   same = λ later. n.same (tables + 1) later
-      ∙ ap (λ es. around outer.items ++ es) (regroup (holder_so_far holder ++ blocks_outline flow.blocks) (paragraph_of (line_atoms flow.line [])) (table tables) (entries_of (tables + 1) later));
+      ∙ ap (λ es. around outer.items ++ es)
+      (regroup (holder_so_far holder ++ blocks_outline flow.blocks) (paragraph_of (line_atoms flow.line [])) (table tables)
+      (entries_of (tables + 1) later));
 }
   where
     regroup : (a p : Entries) (x : Entry) (e : Entries) → ((a ++ p) ++ x ∷ []) ++ e ≡ a ++ (p ++ (x ∷ e))
@@ -116,12 +119,14 @@ leaves_flow outer rest o t parts node flow new split adds whole blocks atoms wor
       let b = blocks_outline o.blocks in
       let due_marks = due (place_of t) in
       same k later
-      ∙ ap (λ list. around rest ++ ((h ++ blocks_outline flow.blocks) ++ (paragraph_of (atoms_from list (open_word flow.line) (leading later)) ++ entries_after k later))) atoms
+      ∙ ap (λ list. around rest ++ ((h ++ blocks_outline flow.blocks) ++
+      (paragraph_of (atoms_from list (open_word flow.line) (leading later)) ++ entries_after k later))) atoms
       ∙ ap (λ w. around rest ++ ((h ++ blocks_outline flow.blocks) ++ (paragraph_of (atoms_from [] w (leading later)) ++ entries_after k later))) word
       ∙ ap (λ list. around rest ++ ((h ++ blocks_outline flow.blocks) ++ (paragraph_of list ++ entries_after k later))) (read_none (leading later))
       ∙ ap (λ es. around rest ++ ((h ++ es) ++ e)) (blocks ∙ ap (λ es. b ++ es) whole)
       ∙ regroup (around rest) h b (parts_so_far parts) table_end e
-      ∙ ap (λ es. es ++ (parts_so_far parts ++ (table_end ∷ e))) (sym (ap around split ∙ flat_map-push (λ o'. holder_so_far o'.holder ++ blocks_outline o'.blocks) rest o))
+      ∙ ap (λ es. es ++ (parts_so_far parts ++ (table_end ∷ e)))
+      (sym (ap around split ∙ flat_map-push (λ o'. holder_so_far o'.holder ++ blocks_outline o'.blocks) rest o))
       ∙ ap (λ es. around outer ++ es) (adds.same k (table_ends ∷ later) ∙ ap (λ ms. outcome t k ms) (sym (append_assoc due_marks (table_ends ∷ []) later)));
 }
   where

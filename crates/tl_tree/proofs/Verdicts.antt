@@ -107,7 +107,8 @@ no_fault : (n tables : ℕ) (s : State) (k : Kind) → is_failed (next s k) ≡ 
 no_fault n tables s table_start alive (shallow, few) = rw alive (limits (depth s) shallow)
   where
     limits : (d : ℕ) → d < MAX_DEPTH → limit_fault n tables d ≡ None
-    limits d h = let a : nat_le MAX_DEPTH d ≡ false = grind (arith, nat_tests) in let b : nat_le MAX_TABLES tables ≡ false = grind (arith, nat_tests) in rw (a, b) refl
+    limits d h = let a : nat_le MAX_DEPTH d ≡ false = grind (arith, nat_tests) in
+        let b : nat_le MAX_TABLES tables ≡ false = grind (arith, nat_tests) in rw (a, b) refl
 no_fault n tables s k alive fits = rw alive refl
 
 -- tokens without a fault lead on
@@ -163,7 +164,8 @@ find : (n tables : ℕ) (s : State) (ks : Kinds) (e : TreeError) → is_failed s
 find n tables s [] e alive h = at_end alive tt h
 find n tables s (k ∷ ks) e alive h = by_fault (λ still later. find (n + 1) (tables_with tables k) (next s k) ks e still later) (fault n tables s k) refl
   where
-    by_fault : (is_failed (next s k) ≡ false → verdict (n + 1) (tables_with tables k) (next s k) ks ≡ Some e → Finds (n + 1) (tables_with tables k) (next s k) ks e)
+    by_fault : (is_failed (next s k) ≡ false → verdict (n + 1) (tables_with tables k) (next s k) ks ≡ Some e →
+        Finds (n + 1) (tables_with tables k) (next s k) ks e)
         → (o : Option TreeError) → fault n tables s k ≡ o → Finds n tables s (k ∷ ks) e
     by_fault go None none =
         let clean = fault_none n tables s k none in
@@ -336,7 +338,8 @@ which_limit : (n tables d : ℕ) (e : TreeError) → limit_fault n tables d ≡ 
     → ((TooDeep n ≡ e) × (MAX_DEPTH ≤ d)) ⊎ ((TooManyTables n ≡ e) × (d < MAX_DEPTH) × (MAX_TABLES ≤ tables))
 which_limit n tables d e h = by_depth (nat_le MAX_DEPTH d) refl
   where
-    by_tables : (b : Bool) → nat_le MAX_TABLES tables ≡ b → nat_le MAX_DEPTH d ≡ false → ((TooDeep n ≡ e) × (MAX_DEPTH ≤ d)) ⊎ ((TooManyTables n ≡ e) × (d < MAX_DEPTH) × (MAX_TABLES ≤ tables))
+    by_tables : (b : Bool) → nat_le MAX_TABLES tables ≡ b → nat_le MAX_DEPTH d ≡ false → ((TooDeep n ≡ e) × (MAX_DEPTH ≤ d))
+        ⊎ ((TooManyTables n ≡ e) × (d < MAX_DEPTH) × (MAX_TABLES ≤ tables))
     by_tables true many shallow =
         inr (let c : Some (TooManyTables n) ≡ Some e = sym (rw (shallow, many) refl) ∙ h in cc, grind (arith, nat_tests), grind (arith, nat_tests))
     by_tables false few shallow = absurd (let c : None ≡ Some e = sym (rw (shallow, few) refl) ∙ h in cc)
@@ -351,7 +354,17 @@ pub wrong_at : (ks front : Kinds) (k : Kind) (rest : Kinds) (e : TreeError) → 
 wrong_at ks front k rest e split alive within h = by_test (is_failed (next (reached before front) k)) refl
   where
     at : {IsWrong : Kinds → Kind → Type 0} → IsWrong front k → IsWrongAt ks (0 + length front) IsWrong
-    at wrong = record { front = front; token = k; rest = rest; split = split; place = omega arith; begun = alive_prefix front alive; within = within; wrong = wrong }
+    at wrong = record {
+      front = front;
+      token = k;
+      rest = rest;
+      split = split;
+      place = omega arith;
+      begun = alive_prefix front alive;
+      within =
+          within;
+      wrong = wrong;
+    }
 
     as_found : (found : TreeError) → fault (0 + length front) (tables_after 0 front) (reached before front) k ≡ Some found → IsRefused ks found → IsRefused ks e
     as_found found f r = let same : found ≡ e = (let c : Some found ≡ Some e = sym f ∙ h in cc) in subst (IsRefused ks) same r

@@ -3,6 +3,8 @@ pub mod Tags
 pub mod Grammar
 pub mod Paragraphs
 pub mod Outline
+pub mod Same
 pub mod Spelling
 pub mod Readable
 pub mod Sound
+pub mod Laws

@@ -1,8 +1,9 @@
 -- When a tree is sound: what `tree` gives, and what every call that takes a tree may count on.
 -- The ranges of the spans are those of the HTML Standard, 4.9.11.
-use Rattle.std.specs.Prelude.{◌≡◌, ◌<◌, ◌≤◌, ◌^◌, ℕ, ◌+◌, ◌-◌, false, List, [], ◌∷◌, sum_by}
+use Rattle.std.specs.Prelude.{◌≡◌, ◌<◌, ◌≤◌, ℕ, ◌+◌, ◌-◌, false, List, [], ◌∷◌, sum_by}
 use Rattle.std.specs.List.{AllByRecursion, list_any}
 use Rattle.tl_base.specs.declared.limits.TheConstants.{MAX_FILE_BYTES, MAX_COLSPAN, MAX_ROWSPAN, MAX_PAGE_WIDTH, MAX_DEPTH, MAX_TABLES}
+use Rattle.tl_base.specs.declared.limits.TheConstants.{MAX_DECLARED_COLUMNS}
 use Rattle.tl_token.specs.Characters.{is_control}
 use Rattle.tl_text.specs.declared.paragraph.Atom.{Atom}
 use Rattle.tl_text.specs.declared.paragraph.Atom.TheVariants as atoms
@@ -48,7 +49,7 @@ pub record IsPlainParagraph (p : List Atom) : Type 0 where
 -- the numbers of an entry are in their ranges, and a paragraph has whole words without control characters
 abbrev pub IsInRange : Entry → Type 0
 IsInRange (cell head colspan rowspan least) = IsCellInRange colspan rowspan least
-IsInRange (columns n) = n < 2 ^ 30
+IsInRange (columns n) = n ≤ MAX_DECLARED_COLUMNS
 IsInRange (paragraph p) = IsPlainParagraph p
 IsInRange _ = Unit {0}
 

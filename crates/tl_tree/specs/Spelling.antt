@@ -6,6 +6,7 @@ use Rattle.tl_tree.specs.Tags.{Kind, Kinds, table_start, table_end, kinds, is_te
 use Rattle.tl_tree.specs.Grammar.{Marks, Document}
 use Rattle.tl_tree.specs.Paragraphs.{entries_of}
 use Rattle.tl_tree.specs.Outline.{outline}
+use Rattle.tl_tree.specs.Same.{AreSame}
 use Rattle.tl_tree.specs.declared.node.TableNode.{TableNode}
 use Rattle.tl_tree.specs.declared.error.TreeError.{TreeError}
 use Rattle.tl_tree.specs.declared.error.TreeError.TheVariants.{Memory, NoTable, StrayText, Misplaced, Unclosed, TooDeep, TooManyTables}
@@ -95,7 +96,7 @@ IsRefused ks (TooManyTables n) = IsWrongAt ks n IsOneTooMany
 abbrev pub Refused : Tokens → TreeError → Type 0
 Refused tokens error = IsRefused (kinds tokens) error
 
--- a tree with the outline of this one is returned, unless memory ran out
+-- a tree that is the same as this one is returned, unless memory ran out
 abbrev pub ReturnsTree : TableNode → Result TableNode TreeError → Type 0
-ReturnsTree node (Ok returned) = outline returned ≡ outline node
+ReturnsTree node (Ok returned) = AreSame returned node
 ReturnsTree node (Err error) = error ≡ Memory alloc_error

@@ -1,3 +1,4 @@
+-- What the private functions promise one another. No public clause cites it.
 pub mod Lines
 pub mod Machine
 pub mod Verdict

@@ -7,6 +7,7 @@
 mod document;
 mod error;
 mod flow;
+mod laws;
 mod node;
 mod open;
 mod reading;
@@ -15,6 +16,7 @@ mod tags;
 
 pub use document::tree;
 pub use error::TreeError;
+pub use laws::tokens_spell_one_tree;
 pub use node::{Block, CellNode, GroupNode, Part, TableNode};
 
 #[cfg(test)]

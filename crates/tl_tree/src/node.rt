@@ -57,7 +57,7 @@ pub struct TableNode {
     pub number: u32,
     /// The flow of its `caption`, if it has one.
     pub caption: Option<List<Block>>,
-    /// How many columns its `col` and `colgroup` tags stand for, below 2^30.
+    /// How many columns its `col` and `colgroup` tags stand for, up to `MAX_DECLARED_COLUMNS`.
     pub columns: u32,
     /// Its groups of rows, in order.
     pub groups: List<GroupNode>,

@@ -149,6 +149,43 @@ const TABLES: &str = "
 <table><tr><th colspan=2000 rowspan=70000 data-min=600></table> => [T0 Loose{| hc1000r65534m500}]
 ";
 
+/// The files of a page's first examples: words that break, breaks, references, a nested table and a caption.
+const EXAMPLES: &str = "
+<table></table> => [T0]
+<table><tr><td>aa bb cc</table> => [T0 Loose{| d(aa bb cc)}]
+<table><tr><td>abcdef</table> => [T0 Loose{| d(abcdef)}]
+<table><tr><td>a<br><br>b<br></table> => [T0 Loose{| d(a / / b /)}]
+<table><tr><td>a<br><br><p>b<br></table> => [T0 Loose{| d(a / /)(b /)}]
+<table><tr><td>R & D &amp; x&nbsp;y</table> => [T0 Loose{| d(R & D & x\u{a0}y)}]
+<table><tr><td>&foo;</table> => bad reference at 15
+<table><tr><td>&#0;</table> => bad reference at 15
+<table><tr><td><img></table> => unknown element at 15
+<table><tr><td><table><tr><td>aaa bbb<td>cc dd ee</table></table> => [T0 Loose{| d[T1 Loose{| d(aaa bbb) d(cc dd ee)}]}]
+<table><caption>Totals</caption><tr><td>a<td>b</table> => [T0 caption(Totals) Loose{| d(a) d(b)}]
+<table><tr><td>a => unclosed table
+<table><td> => misplaced tag at token 1
+x<table></table> => stray text at token 0
+";
+
+/// A file as a data tool writes it.
+const DATAFRAME: &str = "<table border=\"1\" class=\"dataframe\">
+  <thead>
+    <tr style=\"text-align: right;\">
+      <th></th>
+      <th>name</th>
+      <th>qty</th>
+    </tr>
+  </thead>
+  <tbody>
+    <tr>
+      <th>0</th>
+      <td>red pepper</td>
+      <td>12</td>
+    </tr>
+  </tbody>
+</table>
+";
+
 const FLOWS: &str = "
  => 
  a  b => (a b)
@@ -172,6 +209,7 @@ const REFUSALS: &str = "
 <html><body></body></html> => no table
 x => stray text at token 0
 <table></table>x => stray text at token 2
+<table><tr><td>a</td></tr></table></body></html>x => stray text at token 9
 <table>x</table> => stray text at token 1
 <table>&nbsp; => stray text at token 1
 <table><tr>x => stray text at token 2
@@ -189,6 +227,7 @@ x => stray text at token 0
 <html><table></html> => misplaced tag at token 2
 <table></table><table> => misplaced tag at token 2
 <table></table></table> => misplaced tag at token 2
+<table><tr><td>a</td></tr></table></body></html><p> => misplaced tag at token 9
 <table><table> => misplaced tag at token 1
 <table><td>x<tr> => misplaced tag at token 1
 <table><tbody><td> => misplaced tag at token 2
@@ -228,6 +267,7 @@ x => stray text at token 0
 <table><caption>A => unclosed table
 <table><tr><td>a => unclosed table
 <table><tr><td><table></table> => unclosed table
+<table><tr><td>a</td></tr> => unclosed table
 ";
 
 /// Compares the tree of each line's file, with those around it, with what stands after its arrow.
@@ -260,6 +300,49 @@ fn repeated(alloc: Global, text: &str, times: usize) -> Result<String, AllocErro
 #[test]
 fn tables_are_read_with_and_without_end_tags(rt: HostRuntime) -> Result<(), Fail> {
     compare(&rt, rt.alloc(), TABLES, ("", ""), ("", ""))?;
+    Ok(())
+}
+
+#[test]
+fn the_first_examples_are_read(rt: HostRuntime) -> Result<(), Fail> {
+    compare(&rt, rt.alloc(), EXAMPLES, ("", ""), ("", ""))?;
+    Ok(())
+}
+
+#[test]
+fn line_feeds_and_indents_between_tags_are_nothing(rt: HostRuntime) -> Result<(), Fail> {
+    let wanted = "[T0 Head{| h h(name) h(qty)} Body{| h(0) d(red pepper) d(12)}]";
+    assert_eq!(rt; shown(rt.alloc(), DATAFRAME.as_bytes())?.as_str(), wanted);
+    Ok(())
+}
+
+#[test]
+fn a_limit_is_passed_at_the_first_token_at_which_it_can_be_and_at_later_ones(
+    rt: HostRuntime,
+) -> Result<(), Fail> {
+    let alloc = rt.alloc();
+    // Eight tables, each in a caption, and a ninth.
+    let file = repeated(alloc, "<table><caption>", 9)?;
+    let wanted = "tables too deep at token 16";
+    assert_eq!(rt; shown(alloc, file.as_bytes())?.as_str(), wanted);
+    // The table after 200 others, inside eight of them: its depth comes before its number.
+    let starts = repeated(alloc, "<table><tr><td>", 7)?;
+    let nested = repeated(alloc, "<table></table>", 192)?;
+    let file = format!(in alloc;
+        "{}{}<table><tr><td><table>",
+        starts.as_str(),
+        nested.as_str()
+    )?;
+    let wanted = "tables too deep at token 408";
+    assert_eq!(rt; shown(alloc, file.as_bytes())?.as_str(), wanted);
+    // The table after 200 others, with no token besides those that they need, and with a text before it.
+    let nested = repeated(alloc, "<table></table>", 199)?;
+    let file = format!(in alloc; "<table><caption>{}<table>", nested.as_str())?;
+    let wanted = "too many tables at token 400";
+    assert_eq!(rt; shown(alloc, file.as_bytes())?.as_str(), wanted);
+    let file = format!(in alloc; "<table><caption>{}a<table>", nested.as_str())?;
+    let wanted = "too many tables at token 401";
+    assert_eq!(rt; shown(alloc, file.as_bytes())?.as_str(), wanted);
     Ok(())
 }
 
@@ -306,6 +389,74 @@ fn two_hundred_tables_are_in_a_document(rt: HostRuntime) -> Result<(), Fail> {
     let file = format!(in alloc; "<table><tr><td>{}</td><table>", nested.as_str())?;
     let wanted = "misplaced tag at token 402";
     assert_eq!(rt; shown(alloc, file.as_bytes())?.as_str(), wanted);
+    Ok(())
+}
+
+/// A table of a whole file, with the same text so many times, and its tree.
+fn compare_large(
+    rt: &impl Abort,
+    alloc: Global,
+    times: usize,
+    file: (&str, &str, &str),
+    wanted: (&str, &str, &str),
+) -> Result<(), AllocError> {
+    let inner = repeated(alloc, file.1, times)?;
+    let whole = format!(in alloc; "{}{}{}", file.0, inner.as_str(), file.2)?;
+    let inner = repeated(alloc, wanted.1, times)?;
+    let line = format!(in alloc; "{}{}{}", wanted.0, inner.as_str(), wanted.2)?;
+    assert_eq!(rt; shown(alloc, whole.as_bytes())?.as_str(), line.as_str());
+    Ok(())
+}
+
+#[test]
+fn rows_that_fill_a_file(rt: HostRuntime) -> Result<(), Fail> {
+    let file = ("<table>", "<tr>", "</table>");
+    compare_large(&rt, rt.alloc(), 262_140, file, ("[T0 Loose{", "|", "}]"))?;
+    Ok(())
+}
+
+#[test]
+fn empty_cells_that_fill_a_file(rt: HostRuntime) -> Result<(), Fail> {
+    let file = ("<table><tr>", "<td></td>", "</table>");
+    compare_large(&rt, rt.alloc(), 116_506, file, ("[T0 Loose{|", " d", "}]"))?;
+    Ok(())
+}
+
+#[test]
+fn breaks_that_fill_a_file(rt: HostRuntime) -> Result<(), Fail> {
+    let file = ("<table><tr><td><br>", "<br>", "</table>");
+    let wanted = ("[T0 Loose{| d(/", " /", ")}]");
+    compare_large(&rt, rt.alloc(), 262_136, file, wanted)?;
+    Ok(())
+}
+
+#[test]
+fn words_that_fill_a_file(rt: HostRuntime) -> Result<(), Fail> {
+    let file = ("<table><tr><td>a", " b", "</table>");
+    let wanted = ("[T0 Loose{| d(a", " b", ")}]");
+    compare_large(&rt, rt.alloc(), 524_276, file, wanted)?;
+    Ok(())
+}
+
+#[test]
+fn two_hundred_tables_that_fill_a_file(rt: HostRuntime) -> Result<(), Fail> {
+    let alloc = rt.alloc();
+    let cells = repeated(alloc, "<td>", 1_305)?;
+    let shown_cells = repeated(alloc, " d", 1_305)?;
+    let mut file = String::from_str(alloc, "<table><tr><td>")?;
+    let mut wanted = String::from_str(alloc, "[T0 Loose{| d")?;
+    for number in 1..200 {
+        file.push_str("<table><tr>")?;
+        file.push_str(cells.as_str())?;
+        file.push_str("</table>")?;
+        let begun = format!(in alloc; "[T{number} Loose{{|")?;
+        wanted.push_str(begun.as_str())?;
+        wanted.push_str(shown_cells.as_str())?;
+        wanted.push_str("}]")?;
+    }
+    file.push_str("</table>")?;
+    wanted.push_str("}]")?;
+    assert_eq!(rt; shown(alloc, file.as_bytes())?.as_str(), wanted.as_str());
     Ok(())
 }
 

@@ -30,7 +30,7 @@ improve_row-requires-clause-to_small c = λ q e within is.
     let most : ℤ = to_z w32 (of_z w32 c.args.most) in
     let same : most ≡ c.args.most = omega (arith, ints) in
     let row = row_same c.args.variables c.args.rows.now c.loop-variable.rows c.args.a c.args.b most c.loop-variable.variable c.requires.begins
-        c.requires.ends c.loop-variable-test.true
+    c.requires.ends c.loop-variable-test.true
     (λ t h. omega (arith, ints, same, c.requires.no_cycle t h)) c.loop-variable.invariant q within in
     c.requires.small c.args.b c.requires.ends q e within (sym row ∙ is)
 
@@ -43,16 +43,16 @@ loop-variable-preserved c =
     elim c.match-rows-variable.branch [
       | in-Some w ↦
           let old = sym (c.loop-variable.invariant.rest c.loop-variable.variable c.args.a c.loop-variable-test.true c.requires.begins (omega arith))
-              ∙ w.in-Some.is in
+          ∙ w.in-Some.is in
           let small = c.requires.small c.loop-variable.variable c.loop-variable-test.true c.args.a w.in-Some.way c.requires.begins old in
           let sum : to_z w32 (of_z w32 (to_z w32 (of_z w32 w.in-Some.way) +ℤ most)) ≡ w.in-Some.way +ℤ most = omega (arith, ints, small) in
           rw w.rows-is
           (IsImproved-row c.args.variables c.args.rows.now c.loop-variable.rows c.args.a c.args.b most c.loop-variable.variable c.requires.begins
-              c.requires.ends c.loop-variable-test.true no_cycle c.loop-variable.invariant
+          c.requires.ends c.loop-variable-test.true no_cycle c.loop-variable.invariant
           w.in-Some.way w.improve_row.new.rows w.in-Some.is (rw sum at w.improve_row.ensures))
       | in_default w ↦
           rw w.rows-is
           (IsImproved-skip c.args.variables c.args.rows.now c.loop-variable.rows c.args.a c.args.b most c.loop-variable.variable c.requires.begins
-              c.requires.ends c.loop-variable-test.true no_cycle c.loop-variable.invariant
+          c.requires.ends c.loop-variable-test.true no_cycle c.loop-variable.invariant
           (none_from _ w.in_default.not-Some))
     ]

@@ -14,10 +14,10 @@ overflow_add-out c =
 pub loop-next-preserved : goal.loop-next-preserved
 loop-next-preserved c =
     rw c.max.ensures (IsRelaxed-arc c.args.n c.args.arcs.now c.args.place c.loop-next.next c.loop-next.out c.requires.forward c.requires.in_order
-        c.loop-next.invariant c.loop-next-test.true c.if-arcs-next.true)
+    c.loop-next.invariant c.loop-next-test.true c.if-arcs-next.true)
 
 pub returns : goal.returns
 returns c =
     rw c.max-2.ensures (IsRelaxed-on c.args.n c.args.arcs.now c.args.place c.loop-next.next c.loop-next.out c.requires.forward c.requires.in_order
-        c.loop-next.invariant c.requires.there
+    c.loop-next.invariant c.requires.there
     (λ within. elim c.loop-next-test.branch [ then-loop-next-test+else-arcs-next w ↦ w.if-arcs-next.false | else-loop-next-test w ↦ absurd (omega arith) ]))

@@ -9,6 +9,6 @@ returns c = record {
   line = line_written c.args.page.now c.write_units.new.page c.write_spaces.new.page c.push.new.self c.args.width c.in_ok-columns.columns
       c.args.units.now c.in_ok-columns.ensures.text c.in_ok-columns.ensures.width
       (c.in_ok-write_spaces.ensures.spaces
-          ∙ ap (λ n. c.write_units.new.page ++ spaces n) (c.saturating_sub.ensures ∙ ap (λ n. n - c.in_ok-columns.columns) c.from.ensures))
+      ∙ ap (λ n. c.write_units.new.page ++ spaces n) (c.saturating_sub.ensures ∙ ap (λ n. n - c.in_ok-columns.columns) c.from.ensures))
       c.in_ok-push.ensures.ok;
 }

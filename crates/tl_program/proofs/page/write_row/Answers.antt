@@ -48,6 +48,6 @@ returns c =
       lines = row_written c.args.page.now c.loop-range.page c.args.width c.args.paragraph.now c.as_slice-range-items.result.now c.loop-range.range-index
           (omega arith) shown least
           (subst (λ atoms. c.loop-range.page ≡ c.args.page.now ++ encode_utf8_all
-              (lines_text c.args.width (map (ranged atoms) (take c.loop-range.range-index c.as_slice-range-items.result.now))))
+          (lines_text c.args.width (map (ranged atoms) (take c.loop-range.range-index c.as_slice-range-items.result.now))))
           c.atoms-atoms.ensures.atoms c.loop-range.invariant);
     }

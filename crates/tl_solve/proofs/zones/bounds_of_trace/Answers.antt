@@ -2,7 +2,7 @@ use Rattle.std.proofs.Common.{◌≡◌, ◌+◌, ◌<◌, ◌++◌, ◌∷◌, 
 use Rattle.tl_problem.specs.Zones.{whole_zone, IsZone}
 use Rattle.tl_cert.specs.Traces.{zone_of}
 use Rattle.tl_cert.proofs.TraceLaws.{zones-are}
-use Rattle.tl_solve.specs.inner.Found.{IsBoundFound}
+use Rattle.tl_solve.specs.Arenas.{IsBoundFound}
 use Rattle.tl_solve.proofs.ZoneLists.{zones-count, zone-item, found-more}
 use Rattle.tl_solve.proofs.zones.bounds_of_trace.Goals as goal
 

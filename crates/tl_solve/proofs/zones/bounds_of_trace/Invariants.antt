@@ -1,7 +1,7 @@
 use Rattle.std.proofs.Common.{◌≡◌, ℕ, ◌<◌, [], length, get_or, Option}
 use Rattle.tl_problem.specs.Works.{HasPage}
 use Rattle.tl_cert.specs.Traces.{zone_of}
-use Rattle.tl_solve.specs.inner.Found.{IsBoundFound}
+use Rattle.tl_solve.specs.Arenas.{IsBoundFound}
 use Rattle.tl_solve.proofs.zones.bounds_of_trace.Given as goal
 
 abbrev pub invariant-loop-number : goal.invariant-loop-number

@@ -35,5 +35,10 @@ returns-clause-least c = λ w has.
     c.loop-atom.invariant.1 w (subst (λ first. AllFit w first) (sym (take_all c.loop-atom.atom-index atoms (omega arith))) each)
 
 pub returns-clause-bytes : goal.returns-clause-bytes
-returns-clause-bytes c = omega (arith, c.loop-atom.invariant.2, sum_by-take-le atom_size c.atoms-atoms.result.now c.loop-atom.atom-index, ap
-    (sum_by atom_size) c.atoms-atoms.ensures.atoms)
+returns-clause-bytes c = omega (
+  arith,
+  c.loop-atom.invariant.2,
+  sum_by-take-le atom_size c.atoms-atoms.result.now c.loop-atom.atom-index,
+  ap
+      (sum_by atom_size) c.atoms-atoms.ensures.atoms,
+)

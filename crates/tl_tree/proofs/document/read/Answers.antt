@@ -65,7 +65,8 @@ returns-in-Err-clause-err c =
     let P : ℕ → Type 0 = λ n. IsMemoryOr (Memory alloc_error) (IsRefused (kinds tokens)) (stop_error n k c.in-Err.stop) in
     let Q : TreeError → Type 0 = λ e. IsMemoryOr (Memory alloc_error) (IsRefused (kinds tokens)) e in
     subst Q (sym c.at.ensures)
-    (subst P place (stopped (kinds tokens) front (kinds (drop (i + 1) tokens)) k c.loop-index.tables c.loop-index.reading c.in-Err.stop split c.loop-index.invariant c.in-Err.ensures.err))
+    (subst P place (stopped (kinds tokens) front (kinds (drop (i + 1) tokens)) k c.loop-index.tables c.loop-index.reading c.in-Err.stop split
+    c.loop-index.invariant c.in-Err.ensures.err))
 
 pub loop-index-preserved : goal.loop-index-preserved
 loop-index-preserved c =

@@ -16,12 +16,12 @@ add-self-inside-requires-clause-sound c =
 pub returns-clause-adds : goal.returns-clause-adds
 returns-clause-adds c =
     let items = with_items_is c.self.inside.rows c.add-self-inside.new.rows
-        (omega (arith, c.add-self-inside.ensures.sound.pairs, c.self.invariant.pairs, c.self.inside.rows.ok.0)) in
+    (omega (arith, c.add-self-inside.ensures.sound.pairs, c.self.invariant.pairs, c.self.inside.rows.ok.0)) in
     let same = to_z-of_z w32 c.args.most c.ranges.most in
     rw (sym c.self.view_is, items) (rw (c.deref_mut.ensures.value, same) at c.add-self-inside.ensures.adds)
 
 pub returns-clause-holds : goal.returns-clause-holds
 returns-clause-holds c =
     let items = with_items_is c.self.inside.rows c.add-self-inside.new.rows
-        (omega (arith, c.add-self-inside.ensures.sound.pairs, c.self.invariant.pairs, c.self.inside.rows.ok.0)) in
+    (omega (arith, c.add-self-inside.ensures.sound.pairs, c.self.invariant.pairs, c.self.inside.rows.ok.0)) in
     rw items (IsSatisfiable-sound _ c.add-self-inside.result c.add-self-inside.ensures.sound)

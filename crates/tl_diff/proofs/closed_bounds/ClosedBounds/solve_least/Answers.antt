@@ -23,8 +23,14 @@ loop-variable-preserved c = λ k below.
     ⊎_elim
     (λ e.
     let same : c.unwrap.result ≡ neg_ℤ (assignment_of (set c.loop-variable.out c.loop-variable.variable turned) k) =
-    omega (arith, ints, small, get_or-set_same c.loop-variable.out c.loop-variable.variable turned (pos 0) (omega (arith, c.requires.room)), ap
-        (assignment_of (set c.loop-variable.out c.loop-variable.variable turned)) e) in
+    omega (
+      arith,
+      ints,
+      small,
+      get_or-set_same c.loop-variable.out c.loop-variable.variable turned (pos 0) (omega (arith, c.requires.room)),
+      ap
+          (assignment_of (set c.loop-variable.out c.loop-variable.variable turned)) e,
+    ) in
     subst (λ m. IsGreatest c.args.self.now k 0 m) same (subst (λ j. IsGreatest c.args.self.now j 0 c.unwrap.result) (sym e) here))
     (λ apart.
     let same : neg_ℤ (assignment_of c.loop-variable.out k) ≡ neg_ℤ (assignment_of (set c.loop-variable.out c.loop-variable.variable turned) k) =
@@ -36,4 +42,4 @@ pub returns : goal.returns
 returns c =
     let n : c.args.self.now.n ≡ c.self.inside.variables = ap (λ b. b.n) (sym c.self.view_is) in
     IsLeast-greatest c.args.self.now (assignment_of c.loop-variable.out) (omega (arith, c.self.invariant.some))
-        (λ k there. c.loop-variable.invariant k (omega arith))
+    (λ k there. c.loop-variable.invariant k (omega arith))

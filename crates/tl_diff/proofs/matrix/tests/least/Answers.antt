@@ -10,6 +10,6 @@ loop-variable-preserved g c = λ k below none.
     let here = HasGreatest-some c.args.matrix.now.bounds c.loop-variable.variable 0 c.upper.result c.upper.ensures.exact (search rules) in
     ⊎_elim
     (λ e. let free : HasNoGreatest c.args.matrix.now.bounds c.loop-variable.variable 0 = rw e at none in
-        IsGreatest-bounded c.args.matrix.now.bounds c.loop-variable.variable 0 here.0 here.1 free)
+    IsGreatest-bounded c.args.matrix.now.bounds c.loop-variable.variable 0 here.0 here.1 free)
     (λ apart. c.loop-variable.invariant k (omega arith) none)
     (cases_eq k c.loop-variable.variable)

@@ -14,8 +14,8 @@ loop-classes-preserved c =
     let more = map_more (λ (firsts : List ℕ). length firsts) items k c.classes-item.result c.loop-classes-test.true in
     let pushed = product-push (map (λ (firsts : List ℕ). length firsts) (take k items)) (length c.classes-item.result) in
     let cut = min-product (product (map (λ (firsts : List ℕ). length firsts) (take k items))) (length c.classes-item.result) (2 ^ 64 - 1) in
-    let wanted : c.saturating_mul-count.result ≡ min (product (map (λ (firsts : List ℕ). length firsts) (take (k + 1) items))) (2 ^ 64 - 1) =
-    rw (more, ← c.classes-item.is, pushed, c.saturating_mul-count.ensures, c.len.ensures, c.loop-classes.invariant) cut in
+    let wanted : c.capped_product-count.result ≡ min (product (map (λ (firsts : List ℕ). length firsts) (take (k + 1) items))) (2 ^ 64 - 1) =
+    rw (more, ← c.classes-item.is, pushed, c.capped_product-count.ensures, c.len.ensures, c.loop-classes.invariant) cut in
     wanted
 
 pub returns : goal.returns

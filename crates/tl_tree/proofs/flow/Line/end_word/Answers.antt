@@ -15,7 +15,8 @@ invariant_of-self c =
     let same : c.from_string.result ≡ chars bytes = c.from_string.ensures ∙ ap (λ w. chars (string_bytes w)) c.replace-word.ensures.value in
     let whole = whole_text bytes (IsUtf8-string_bytes c.args.self.now.word) some c.args.self.now.solid in
     record {
-      whole = whole_push c.push.result c.args.self.now.atoms c.push.new.self (Word c.from_string.result) c.push.ensures.ok c.push.ensures.err (rw same whole) c.args.self.now.whole;
+      whole = whole_push c.push.result c.args.self.now.atoms c.push.new.self (Word c.from_string.result) c.push.ensures.ok c.push.ensures.err
+          (rw same whole) c.args.self.now.whole;
       solid = rw (c.replace-word.ensures.after, c.new.ensures.bytes, chars-nil) refl;
     }
 

@@ -18,7 +18,8 @@ invariant_of-self c =
 pub returns-else-is_ascii_whitespace : goal.returns-else-is_ascii_whitespace
 returns-else-is_ascii_whitespace c =
     let letter : is_ascii_whitespace c.args.c ≡ false = grind (arith, tests) in
-    reads_letter c.push.result c.args.self.now _ c.args.c refl (IsUtf8-string_bytes c.args.self.now.word) (IsUtf8-string_bytes c.push.new.self) c.push.ensures.bytes letter
+    reads_letter c.push.result c.args.self.now _ c.args.c refl (IsUtf8-string_bytes c.args.self.now.word)
+    (IsUtf8-string_bytes c.push.new.self) c.push.ensures.bytes letter
 
 pub returns-then-is_ascii_whitespace : goal.returns-then-is_ascii_whitespace
 returns-then-is_ascii_whitespace c =

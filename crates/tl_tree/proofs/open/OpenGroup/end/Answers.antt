@@ -9,5 +9,6 @@ pub returns : goal.returns
 returns c =
     let t = c.args.self.table in
     ap (λ gs. head_so_far t.head ++ (columns t.head.columns ∷ flat_map group_outline gs)) c.in_ok-push.ensures.ok
-    ∙ ap (λ es. head_so_far t.head ++ (columns t.head.columns ∷ es)) (flat_map-push group_outline t.groups _ ∙ ap (λ es. flat_map group_outline t.groups ++ es) (group_made _))
+    ∙ ap (λ es. head_so_far t.head ++ (columns t.head.columns ∷ es))
+    (flat_map-push group_outline t.groups _ ∙ ap (λ es. flat_map group_outline t.groups ++ es) (group_made _))
     ∙ sym (append_assoc (head_so_far t.head) (columns t.head.columns ∷ flat_map group_outline t.groups) _)

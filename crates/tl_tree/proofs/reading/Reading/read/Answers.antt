@@ -12,4 +12,5 @@ returns-in-Text-clause-ok c =
 
 pub returns-in-End-clause-ok : goal.returns-in-End-clause-ok
 returns-in-End-clause-ok c =
-    if_ok c.end.result (λ new h. let P : Kind → Type 0 = λ k. Reads c.args.self c.args.tables k new in subst P (sym (ap class_of c.in-End.is)) (h c.args.tables)) c.end.ensures.ok
+    if_ok c.end.result (λ new h. let P : Kind → Type 0 = λ k. Reads c.args.self c.args.tables k new in
+    subst P (sym (ap class_of c.in-End.is)) (h c.args.tables)) c.end.ensures.ok

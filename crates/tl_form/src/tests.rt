@@ -1,0 +1,479 @@
+//! Files whose tables, least widths and chains are counted by hand, refusals, and tables at the limits.
+
+ghost use Rattle.std.specs.Prelude.{IfOk};
+ghost use Rattle.tl_form.specs.Sound.{IsSound};
+
+use crate::{
+    Content, FormError, Kind, Layout, Table, TableCell, least_width, narrow_chain, nested, table,
+};
+use std::alloc::{AllocError, Global};
+use std::process::Abort;
+use std::test::Fail;
+use tl_base::{Breaking, List, MAX_FILE_BYTES, Style};
+use tl_problem::{Chain, Entry};
+use tl_text::{Atom, Para};
+use tl_token::tokens;
+use tl_tree::tree;
+
+/// The table of a file, or why it has none.
+fn table_of(
+    alloc: Global,
+    file: &str,
+    breaking: Breaking,
+) -> Result<Result<Table, String>, AllocError>
+    ensures { IfOk result (λ found. IfOk found IsSound) }
+{
+    let bytes = file.as_bytes();
+    if bytes.len() > MAX_FILE_BYTES {
+        let text = String::from_str(alloc, "too long")?;
+        return Ok(Err(text));
+    }
+    let list = match tokens(alloc, bytes) {
+        Ok(list) => list,
+        Err(error) => {
+            let text = format!(in alloc; "{error}")?;
+            return Ok(Err(text));
+        }
+    };
+    let node = match tree(alloc, list.as_slice()) {
+        Ok(node) => node,
+        Err(error) => {
+            let text = format!(in alloc; "{error}")?;
+            return Ok(Err(text));
+        }
+    };
+    match table(alloc, &node, breaking) {
+        Ok(formed) => Ok(Ok(formed)),
+        Err(error) => {
+            let text = format!(in alloc; "{error}")?;
+            Ok(Err(text))
+        }
+    }
+}
+
+/// The units of a paragraph, `~` before one that goes on with a word, and `/` for each break: `(a~b / c)`.
+fn push_para(line: &mut String, para: &Para) -> Result<(), AllocError> {
+    let mut before = "(";
+    for atom in para.atoms() {
+        match atom {
+            Atom::Word(text) => {
+                line.push_str(before)?;
+                line.push_str(text.as_str())?;
+            }
+            Atom::Glue(text) => {
+                line.push('~')?;
+                line.push_str(text.as_str())?;
+            }
+            Atom::Break => {
+                line.push_str(before)?;
+                line.push('/')?;
+            }
+        }
+        before = " ";
+    }
+    line.push(')')
+}
+
+#[cycle(shown)]
+fn push_block(alloc: Global, line: &mut String, block: &Content) -> Result<(), AllocError> {
+    match block {
+        Content::Para(para) => push_para(line, para),
+        Content::Table(inner) => push_table(alloc, line, inner),
+    }
+}
+
+/// What a cell is, its columns, its rows, and its floor if it has one: `d0-2,1-2m4(a)`.
+#[cycle(shown)]
+fn push_cell(alloc: Global, line: &mut String, cell: &TableCell) -> Result<(), AllocError> {
+    line.push_str(match cell.kind {
+        Kind::Caption => " c",
+        Kind::Head => " h",
+        Kind::Plain => " d",
+    })?;
+    let (left, right, top, bottom) = (
+        cell.place.left,
+        cell.place.right,
+        cell.place.top,
+        cell.place.bottom,
+    );
+    line.push_str(format!(in alloc; "{left}-{right},{top}-{bottom}")?.as_str())?;
+    let least = cell.least;
+    if least > 0 {
+        line.push_str(format!(in alloc; "m{least}")?.as_str())?;
+    }
+    for block in cell.blocks.as_slice() {
+        push_block(alloc, line, block)?;
+    }
+    Ok(())
+}
+
+/// A table, with its number, its columns and its rows: `[T0 2x1 d0-1,0-1(a) d1-2,0-1(b)]`.
+#[cycle(shown)]
+fn push_table(alloc: Global, line: &mut String, table: &Table) -> Result<(), AllocError> {
+    let (number, cols, rows) = (table.number, table.cols, table.rows);
+    line.push_str(format!(in alloc; "[T{number} {cols}x{rows}")?.as_str())?;
+    for cell in table.cells.as_slice() {
+        push_cell(alloc, line, cell)?;
+    }
+    line.push(']')
+}
+
+/// The table of a file as a text, or why it has none.
+fn shown(alloc: Global, file: &str, breaking: Breaking) -> Result<String, AllocError> {
+    match table_of(alloc, file, breaking)? {
+        Ok(formed) => {
+            let mut line = String::new(alloc);
+            push_table(alloc, &mut line, &formed)?;
+            Ok(line)
+        }
+        Err(text) => Ok(text),
+    }
+}
+
+/// An entry, with the number of the nested table whose chain gives its width: ` 0:1`.
+fn push_entry(alloc: Global, line: &mut String, entry: &Entry) -> Result<(), AllocError> {
+    let cell = entry.cell;
+    let text = match entry.inner {
+        Some(number) => format!(in alloc; " {cell}:{number}")?,
+        None => format!(in alloc; " {cell}")?,
+    };
+    line.push_str(text.as_str())
+}
+
+fn push_chain(alloc: Global, line: &mut String, chain: &Chain) -> Result<(), AllocError> {
+    let number = chain.table;
+    line.push_str(format!(in alloc; ", chain {number}")?.as_str())?;
+    for entry in chain.entries.as_slice() {
+        push_entry(alloc, line, entry)?;
+    }
+    Ok(())
+}
+
+/// The least width of a file's table, and a heaviest chain with those that it rests on:
+/// `7, chain 0 0:1, chain 1 0 1`.
+fn narrowest(alloc: Global, file: &str, style: Style) -> Result<String, AllocError> {
+    match table_of(alloc, file, Breaking::Words)? {
+        Ok(formed) => {
+            let least = least_width(alloc, &formed, style)?;
+            let mut line = format!(in alloc; "{least}")?;
+            if formed.cols > 0 {
+                let chains = narrow_chain(alloc, &formed, style)?;
+                for chain in chains.as_slice() {
+                    push_chain(alloc, &mut line, chain)?;
+                }
+            }
+            Ok(line)
+        }
+        Err(text) => Ok(text),
+    }
+}
+
+/// The least width of a file's table.
+fn least_of(alloc: Global, file: &str, style: Style) -> Result<Option<u32>, AllocError> {
+    match table_of(alloc, file, Breaking::Words)? {
+        Ok(formed) => {
+            let least = least_width(alloc, &formed, style)?;
+            Ok(Some(least))
+        }
+        Err(_) => Ok(None),
+    }
+}
+
+/// How many tables are inside a file's table.
+fn nested_of(alloc: Global, file: &str) -> Result<Option<u32>, AllocError> {
+    match table_of(alloc, file, Breaking::Words)? {
+        Ok(formed) => Ok(Some(nested(&formed))),
+        Err(_) => Ok(None),
+    }
+}
+
+/// So many copies of the text.
+fn repeated(alloc: Global, text: &str, times: usize) -> Result<String, AllocError> {
+    let mut whole = String::new(alloc);
+    for _ in 0..times {
+        whole.push_str(text)?;
+    }
+    Ok(whole)
+}
+
+/// Spans, dropped rows and columns, footers, captions, floors and nested tables.
+const TABLES: &str = "
+<table></table> => [T0 0x0]
+<table><tr></table> => [T0 0x0]
+<table><tr><td>a</table> => [T0 1x1 d0-1,0-1(a)]
+<table><tr><td><th></table> => [T0 2x1 d0-1,0-1 h1-2,0-1]
+<table><tr><td colspan=2>aaaa bbbb cc<tr><td>x<td>yy</table> => [T0 2x2 d0-2,0-1(aaaa bbbb cc) d0-1,1-2(x) d1-2,1-2(yy)]
+<table><tr><td rowspan=2>aa bb cc<td>x<tr><td>y</table> => [T0 2x2 d0-1,0-2(aa bb cc) d1-2,0-1(x) d1-2,1-2(y)]
+<table><tr><td colspan=1000>a b<tr><td>c<td rowspan=65534>d</table> => [T0 2x2 d0-2,0-1(a b) d0-1,1-2(c) d1-2,1-2(d)]
+<table><tr><td colspan=2>a b<tr><td>c<td>d</table> => [T0 2x2 d0-2,0-1(a b) d0-1,1-2(c) d1-2,1-2(d)]
+<table><tfoot><tr><td>f</tfoot><tr><td>a<tr><td>b</table> => [T0 1x3 d0-1,0-1(a) d0-1,1-2(b) d0-1,2-3(f)]
+<table><tfoot><tr><td>f</tfoot><tr><td rowspan=3>a</table> => [T0 1x2 d0-1,0-1(a) d0-1,1-2(f)]
+<table><col span=9><tr><td>a</table> => [T0 1x1 d0-1,0-1(a)]
+<table><tr><td>a<td rowspan=2>b<tr><td>c</table> => [T0 2x2 d0-1,0-1(a) d1-2,0-2(b) d0-1,1-2(c)]
+<table><caption>Totals</caption><tr><td>a<td>b</table> => [T0 2x2 c0-2,0-1(Totals) d0-1,1-2(a) d1-2,1-2(b)]
+<table><caption>Totals</table> => [T0 1x1 c0-1,0-1(Totals)]
+<table><caption></caption></table> => [T0 1x1 c0-1,0-1]
+<table><tr><td data-min=4>a<td>b</table> => [T0 2x1 d0-1,0-1m4(a) d1-2,0-1(b)]
+<table><tr><td>a<br><br>b<br><p>c</table> => [T0 1x1 d0-1,0-1(a / / b /)(c)]
+<table><tr><td>a<table><tr><td>b</table>c</table> => [T0 1x1 d0-1,0-1(a)[T1 1x1 d0-1,0-1(b)](c)]
+<table><caption><table></table></caption><tr><td><table></table></table> => [T0 1x2 c0-1,0-1[T1 0x0] d0-1,1-2[T2 0x0]]
+<table><tfoot><tr><td><table></table><tbody><tr><td><table></table></table> => [T0 1x2 d0-1,0-1[T2 0x0] d0-1,1-2[T1 0x0]]
+";
+
+/// The first of the tables without a grid is named, whatever comes after it.
+const REFUSALS: &str = "
+<table><tr><td>A<td rowspan=2>B<tr><td colspan=2>C</table> => table 0: cells 1 and 2 overlap at row 1 column 1
+<table><tr><td><table></table><td><table>OVER</table></table> => table 2: cells 1 and 2 overlap at row 1 column 1
+<table><caption><table>OVER</table></caption><tr><td><table>OVER</table></table> => table 1: cells 1 and 2 overlap at row 1 column 1
+<table><tr><td><table>OVER</table><td><table>OVER</table></table> => table 1: cells 1 and 2 overlap at row 1 column 1
+<table><tr><td><table><tr><td><table>OVER</table></table><td><table>OVER</table></table> => table 2: cells 1 and 2 overlap at row 1 column 1
+<table><tr><td>A<td rowspan=2><table>OVER</table><tr><td colspan=2>C</table> => table 0: cells 1 and 2 overlap at row 1 column 1
+<table><tfoot><tr><td><table>OVER</table><tbody><tr><td><table>OVER</table></table> => table 1: cells 1 and 2 overlap at row 1 column 1
+";
+
+/// Rows in which two cells overlap.
+const OVERLAP: &str = "<tr><td>A<td rowspan=2>B<tr><td colspan=2>C";
+
+/// The least width of each file in style plain, and a heaviest chain.
+const NARROWEST: &str = "
+<table></table> => 0
+<table><tr><td>abcdef</table> => 6, chain 0 0
+<table><tr><td>abcdef<td>ghij</table> => 12, chain 0 0 1
+<table><tr><td colspan=2>aaaa bbbb cc<tr><td>x<td>yy</table> => 5, chain 0 1 2
+<table><tr><td colspan=2>abcdef<tr><td>x<td>y</table> => 6, chain 0 0
+<table><tr><td data-min=4>a<td>b</table> => 7, chain 0 0 1
+<table><tr><td><table><tr><td>aaa bbb<td>cc dd ee</table></table> => 7, chain 0 0:1, chain 1 0 1
+<table><tr><td>abcdefgh<table><tr><td>aaa bbb<td>cc dd ee</table></table> => 8, chain 0 0
+<table><caption>Totals</table> => 6, chain 0 0
+";
+
+/// A file as a data tool writes it.
+const DATAFRAME: &str = "<table border=\"1\" class=\"dataframe\">
+  <thead>
+    <tr style=\"text-align: right;\">
+      <th></th>
+      <th>name</th>
+      <th>qty</th>
+    </tr>
+  </thead>
+  <tbody>
+    <tr>
+      <th>0</th>
+      <td>red pepper</td>
+      <td>12</td>
+    </tr>
+  </tbody>
+</table>
+";
+
+/// Compares the table of each line's file with what stands after its arrow.
+fn compare(
+    rt: &impl Abort,
+    alloc: Global,
+    table: &str,
+    breaking: Breaking,
+) -> Result<(), AllocError> {
+    for line in table.lines() {
+        if let Some((input, wanted)) = line.split_once(" => ") {
+            let file = input.replace(alloc, "OVER", OVERLAP)?;
+            assert_eq!(rt; shown(alloc, file.as_str(), breaking)?.as_str(), wanted);
+        }
+    }
+    Ok(())
+}
+
+#[test]
+fn cells_lie_at_their_places_by_row_and_column(rt: HostRuntime) -> Result<(), Fail> {
+    compare(&rt, rt.alloc(), TABLES, Breaking::Words)?;
+    Ok(())
+}
+
+#[test]
+fn the_first_table_without_a_grid_is_named(rt: HostRuntime) -> Result<(), Fail> {
+    compare(&rt, rt.alloc(), REFUSALS, Breaking::Words)?;
+    Ok(())
+}
+
+#[test]
+fn faulty_spans_are_1_and_rowspan_0_reaches_the_end_of_its_group(
+    rt: HostRuntime,
+) -> Result<(), Fail> {
+    let file =
+        "<table><tbody><tr><td colspan=\" 2px\">a b c<td colspan=-1>d<td colspan=0>e<td colspan=+3 colspan=2>f\
+        <td rowspan=0>g<tr><td>h<td>i<td>j<td>k<td>l<td>m<td>n</table>";
+    let wanted =
+        "[T0 8x2 d0-2,0-1(a b c) d2-3,0-1(d) d3-4,0-1(e) d4-7,0-1(f) d7-8,0-2(g) d0-1,1-2(h) d1-2,1-2(i) \
+        d2-3,1-2(j) d3-4,1-2(k) d4-5,1-2(l) d5-6,1-2(m) d6-7,1-2(n)]";
+    assert_eq!(&rt; shown(rt.alloc(), file, Breaking::Words)?.as_str(), wanted);
+    Ok(())
+}
+
+#[test]
+fn a_file_as_a_data_tool_writes_it_is_formed(rt: HostRuntime) -> Result<(), Fail> {
+    let wanted =
+        "[T0 3x2 h0-1,0-1 h1-2,0-1(name) h2-3,0-1(qty) h0-1,1-2(0) d1-2,1-2(red pepper) d2-3,1-2(12)]";
+    assert_eq!(&rt;
+        shown(rt.alloc(), DATAFRAME, Breaking::Words)?.as_str(),
+        wanted
+    );
+    assert_eq!(&rt; least_of(rt.alloc(), DATAFRAME, Style::Plain)?, Some(14));
+    Ok(())
+}
+
+#[test]
+fn words_are_separated_into_units_at_all_depths(rt: HostRuntime) -> Result<(), Fail> {
+    let file = "<table><caption>T u</caption><tr><td>ab c<br>d<table><tr><td>ef</table></table>";
+    let wanted = "[T0 1x2 c0-1,0-1(T u) d0-1,1-2(a~b c / d)[T1 1x1 d0-1,0-1(e~f)]]";
+    assert_eq!(&rt; shown(rt.alloc(), file, Breaking::Any)?.as_str(), wanted);
+    Ok(())
+}
+
+#[test]
+fn least_widths_and_heaviest_chains_are_those_counted_by_hand(rt: HostRuntime) -> Result<(), Fail> {
+    let alloc = rt.alloc();
+    for line in NARROWEST.lines() {
+        if let Some((file, wanted)) = line.split_once(" => ") {
+            assert_eq!(&rt; narrowest(alloc, file, Style::Plain)?.as_str(), wanted);
+        }
+    }
+    Ok(())
+}
+
+#[test]
+fn a_frame_adds_one_column_between_two_and_one_at_each_side(rt: HostRuntime) -> Result<(), Fail> {
+    let alloc = rt.alloc();
+    let spanned = "<table><tr><td colspan=2>abc<tr><td>x<td>y</table>";
+    assert_eq!(&rt; least_of(alloc, spanned, Style::Frame)?, Some(5));
+    let inner = "<table><tr><td><table><tr><td>aaa bbb<td>cc dd ee</table></table>";
+    let wanted = "10, chain 0 0:1, chain 1 0 1";
+    assert_eq!(&rt; narrowest(alloc, inner, Style::Frame)?.as_str(), wanted);
+    Ok(())
+}
+
+#[test]
+fn eight_tables_stand_inside_one_another(rt: HostRuntime) -> Result<(), Fail> {
+    let alloc = rt.alloc();
+    let starts = repeated(alloc, "<table><tr><td>", 8)?;
+    let ends = repeated(alloc, "</table>", 8)?;
+    let file = format!(in alloc; "{starts}a{ends}")?;
+    assert_eq!(&rt; nested_of(alloc, file.as_str())?, Some(7));
+    assert_eq!(&rt; least_of(alloc, file.as_str(), Style::Frame)?, Some(17));
+    let wanted =
+        "1, chain 0 0:1, chain 1 0:2, chain 2 0:3, chain 3 0:4, chain 4 0:5, chain 5 0:6, chain 6 0:7, chain 7 0";
+    assert_eq!(&rt;
+        narrowest(alloc, file.as_str(), Style::Plain)?.as_str(),
+        wanted
+    );
+    Ok(())
+}
+
+#[test]
+fn two_hundred_tables_are_counted(rt: HostRuntime) -> Result<(), Fail> {
+    let alloc = rt.alloc();
+    let inner = repeated(alloc, "<table></table>", 199)?;
+    let file = format!(in alloc; "<table><tr><td>{inner}</table>")?;
+    assert_eq!(&rt; nested_of(alloc, file.as_str())?, Some(199));
+    Ok(())
+}
+
+/// A table inside another, with these rows.
+fn inside(alloc: Global, rows: &str) -> Result<String, AllocError> {
+    format!(in alloc; "<table><tr><td><table>{rows}</table></table>")
+}
+
+#[test]
+fn a_nested_table_may_have_20000_cells(rt: HostRuntime) -> Result<(), Fail> {
+    let alloc = rt.alloc();
+    let rows = repeated(alloc, "<tr><td><td><td><td><td><td><td><td><td><td>", 2000)?;
+    let file = inside(alloc, rows.as_str())?;
+    assert_eq!(&rt; least_of(alloc, file.as_str(), Style::Plain)?, Some(18));
+    let more = format!(in alloc; "{rows}<td>")?;
+    let file = inside(alloc, more.as_str())?;
+    assert_eq!(&rt;
+        shown(alloc, file.as_str(), Breaking::Words)?.as_str(),
+        "table 1: 20001 cells in a table"
+    );
+    Ok(())
+}
+
+#[test]
+fn a_nested_table_may_have_60_columns(rt: HostRuntime) -> Result<(), Fail> {
+    let alloc = rt.alloc();
+    let cells = repeated(alloc, "<td>", 60)?;
+    let row = format!(in alloc; "<tr>{cells}")?;
+    let file = inside(alloc, row.as_str())?;
+    assert_eq!(&rt; least_of(alloc, file.as_str(), Style::Plain)?, Some(118));
+    let more = format!(in alloc; "{row}<td>")?;
+    let file = inside(alloc, more.as_str())?;
+    assert_eq!(&rt;
+        shown(alloc, file.as_str(), Breaking::Words)?.as_str(),
+        "table 1: 61 columns in a table"
+    );
+    Ok(())
+}
+
+#[test]
+fn a_nested_table_may_have_2000_rows_below_its_caption(rt: HostRuntime) -> Result<(), Fail> {
+    let alloc = rt.alloc();
+    let rows = repeated(alloc, "<tr><td>", 2000)?;
+    let captioned = format!(in alloc; "<caption>abc</caption>{rows}")?;
+    let file = inside(alloc, captioned.as_str())?;
+    assert_eq!(&rt; least_of(alloc, file.as_str(), Style::Plain)?, Some(3));
+    let more = format!(in alloc; "{captioned}<tr><td>")?;
+    let file = inside(alloc, more.as_str())?;
+    assert_eq!(&rt;
+        shown(alloc, file.as_str(), Breaking::Words)?.as_str(),
+        "table 1: 2001 rows in a table"
+    );
+    Ok(())
+}
+
+#[test]
+fn two_thousand_rows_of_ten_cells(rt: HostRuntime) -> Result<(), Fail> {
+    let alloc = rt.alloc();
+    let cells = repeated(alloc, "<td>aa b", 10)?;
+    let row = format!(in alloc; "<tr>{cells}")?;
+    let rows = repeated(alloc, row.as_str(), 2000)?;
+    let file = format!(in alloc; "<table>{rows}</table>")?;
+    assert_eq!(&rt;
+        narrowest(alloc, file.as_str(), Style::Frame)?.starts_with("31, chain 0 "),
+        true
+    );
+    Ok(())
+}
+
+#[test]
+fn sixty_columns_of_333_rows(rt: HostRuntime) -> Result<(), Fail> {
+    let alloc = rt.alloc();
+    let cells = repeated(alloc, "<td>aa b", 60)?;
+    let row = format!(in alloc; "<tr>{cells}")?;
+    let rows = repeated(alloc, row.as_str(), 333)?;
+    let file = format!(in alloc; "<table>{rows}</table>")?;
+    assert_eq!(&rt;
+        narrowest(alloc, file.as_str(), Style::Frame)?.starts_with("181, chain 0 "),
+        true
+    );
+    Ok(())
+}
+
+#[test]
+fn errors_say_which_table(rt: HostRuntime) -> Result<(), Fail> {
+    let alloc = rt.alloc();
+    let error = FormError::Memory(AllocError);
+    assert_eq!(&rt; format!(in alloc; "{error}")?.as_str(), "out of memory");
+    Ok(())
+}
+
+/// Takes what may be sent to other threads and shared between them.
+fn share<T: Send + Sync + Drop>(_value: Option<T>) {}
+
+#[test]
+fn tables_and_layouts_may_go_to_other_threads() {
+    share::<Table>(None);
+    share::<TableCell>(None);
+    share::<Content>(None);
+    share::<Kind>(None);
+    share::<Layout>(None);
+    share::<FormError>(None);
+    share::<List<Chain>>(None);
+}

@@ -1,0 +1,13 @@
+//! Writes the HTML page of a table in a layout, with the widths of its columns. It knows no search and
+//! no certificate. Its one contract: the bytes are exactly those of the page's definition.
+#![tactic(auto)]
+
+mod builder;
+mod filled;
+mod paragraph;
+mod row;
+mod table;
+#[cfg(test)]
+mod tests;
+
+pub use table::html;

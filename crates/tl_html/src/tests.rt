@@ -1,0 +1,220 @@
+//! Pages of small tables, written out by hand.
+
+use crate::html;
+use std::alloc::Global;
+use std::test::Fail;
+use tl_base::{List, Text};
+use tl_form::{Content, Kind, Layout, Table, TableCell};
+use tl_grid::Place;
+use tl_text::{Atom, Para, words};
+
+/// A paragraph of words; `/` is a break, and `+` begins a unit that goes on with a word.
+fn paragraph(alloc: Global, spelt: &str) -> Result<Para, Fail> {
+    let units = words(alloc, spelt)?;
+    let mut atoms = List::new(alloc);
+    for unit in units.as_slice() {
+        let unit = unit.as_str();
+        if unit == "/" {
+            atoms.push(Atom::Break)?;
+        } else if let Some(rest) = unit.strip_prefix('+') {
+            atoms.push(Atom::Glue(Text::from_str(alloc, rest)?))?;
+        } else {
+            atoms.push(Atom::Word(Text::from_str(alloc, unit)?))?;
+        }
+    }
+    Ok(Para::new(atoms).ok_or("no paragraph")?)
+}
+
+/// The blocks of a cell with one paragraph.
+fn text(alloc: Global, spelt: &str) -> Result<List<Content>, Fail> {
+    let mut blocks = List::new(alloc);
+    blocks.push(Content::Para(paragraph(alloc, spelt)?))?;
+    Ok(blocks)
+}
+
+/// A cell over the columns `left` to `right` and the rows `top` to `bottom`.
+fn cell(
+    kind: Kind,
+    (left, right, top, bottom): (u32, u32, u32, u32),
+    least: u32,
+    blocks: List<Content>,
+) -> TableCell {
+    TableCell {
+        kind,
+        place: Place {
+            left,
+            right,
+            top,
+            bottom,
+        },
+        least,
+        blocks,
+    }
+}
+
+/// A table of these cells.
+fn table(cols: u32, rows: u32, cells: List<TableCell>) -> Table {
+    Table {
+        number: 0,
+        cols,
+        rows,
+        cells,
+    }
+}
+
+/// A layout with these columns and rows, and layouts of nested tables.
+fn layout(
+    alloc: Global,
+    widths: &[u32],
+    heights: &[u32],
+    inner: List<Layout>,
+) -> Result<Layout, Fail> {
+    let mut layout = Layout {
+        widths: List::new(alloc),
+        heights: List::new(alloc),
+        inner,
+    };
+    for width in widths {
+        layout.widths.push(*width)?;
+    }
+    for height in heights {
+        layout.heights.push(*height)?;
+    }
+    Ok(layout)
+}
+
+/// The page as a text.
+fn written(alloc: Global, table: &Table, layout: &Layout) -> Result<String, Fail> {
+    let page = html(alloc, table, layout)?;
+    Ok(String::from_str(alloc, str::from_utf8(page.as_slice())?)?)
+}
+
+#[test]
+fn one_cell_is_a_column_and_a_row(rt: HostRuntime) -> Result<(), Fail> {
+    let alloc = rt.alloc();
+    let mut cells = List::new(alloc);
+    cells.push(cell(Kind::Plain, (0, 1, 0, 1), 0, text(alloc, "aa bb cc")?))?;
+    let layout = layout(alloc, &[8], &[1], List::new(alloc))?;
+    let want = "<table>\n\
+        <colgroup><col style=\"width:8ch\"></colgroup>\n\
+        <tr><td><p>aa bb cc</p></td></tr>\n\
+        </table>\n";
+    assert_eq!(rt;
+        written(alloc, &table(1, 1, cells), &layout)?.as_str(),
+        want
+    );
+    Ok(())
+}
+
+#[test]
+fn a_span_is_an_attribute_above_one(rt: HostRuntime) -> Result<(), Fail> {
+    let alloc = rt.alloc();
+    let mut cells = List::new(alloc);
+    cells.push(cell(Kind::Plain, (0, 2, 0, 1), 0, text(alloc, "aaaa bbbb cc")?))?;
+    cells.push(cell(Kind::Plain, (0, 1, 1, 2), 0, text(alloc, "x")?))?;
+    cells.push(cell(Kind::Plain, (1, 2, 1, 2), 0, text(alloc, "yy")?))?;
+    let layout = layout(alloc, &[1, 4], &[2, 1], List::new(alloc))?;
+    let want = "<table>\n\
+        <colgroup><col style=\"width:1ch\"><col style=\"width:4ch\"></colgroup>\n\
+        <tr><td colspan=\"2\"><p>aaaa bbbb cc</p></td></tr>\n\
+        <tr><td><p>x</p></td><td><p>yy</p></td></tr>\n\
+        </table>\n";
+    assert_eq!(rt;
+        written(alloc, &table(2, 2, cells), &layout)?.as_str(),
+        want
+    );
+    Ok(())
+}
+
+#[test]
+fn a_caption_has_a_line_above_the_columns_and_no_row(rt: HostRuntime) -> Result<(), Fail> {
+    let alloc = rt.alloc();
+    let mut cells = List::new(alloc);
+    cells.push(cell(Kind::Caption, (0, 2, 0, 1), 0, text(alloc, "A")?))?;
+    cells.push(cell(Kind::Head, (0, 1, 1, 3), 4, text(alloc, "b")?))?;
+    cells.push(cell(Kind::Plain, (1, 2, 1, 2), 0, text(alloc, "c")?))?;
+    cells.push(cell(Kind::Plain, (1, 2, 2, 3), 0, List::new(alloc)))?;
+    let layout = layout(alloc, &[4, 1], &[1, 1, 0], List::new(alloc))?;
+    let want = "<table>\n\
+        <caption><p>A</p></caption>\n\
+        <colgroup><col style=\"width:4ch\"><col style=\"width:1ch\"></colgroup>\n\
+        <tr><th rowspan=\"2\" data-min=\"4\"><p>b</p></th><td><p>c</p></td></tr>\n\
+        <tr><td></td></tr>\n\
+        </table>\n";
+    assert_eq!(rt;
+        written(alloc, &table(2, 3, cells), &layout)?.as_str(),
+        want
+    );
+    Ok(())
+}
+
+#[test]
+fn each_nested_table_takes_the_next_layout(rt: HostRuntime) -> Result<(), Fail> {
+    let alloc = rt.alloc();
+    let mut inner = List::new(alloc);
+    let mut blocks = text(alloc, "x")?;
+    for (number, width) in [("1", 3), ("2", 5)] {
+        let mut cells = List::new(alloc);
+        cells.push(cell(Kind::Plain, (0, 1, 0, 1), 0, text(alloc, number)?))?;
+        blocks.push(Content::Table(Box::new(alloc, table(1, 1, cells))?))?;
+        inner.push(layout(alloc, &[width], &[1], List::new(alloc))?)?;
+    }
+    let mut cells = List::new(alloc);
+    cells.push(cell(Kind::Plain, (0, 1, 0, 1), 0, blocks))?;
+    let layout = layout(alloc, &[5], &[3], inner)?;
+    let want = "<table>\n\
+        <colgroup><col style=\"width:5ch\"></colgroup>\n\
+        <tr><td><p>x</p><table>\n\
+        <colgroup><col style=\"width:3ch\"></colgroup>\n\
+        <tr><td><p>1</p></td></tr>\n\
+        </table>\n\
+        <table>\n\
+        <colgroup><col style=\"width:5ch\"></colgroup>\n\
+        <tr><td><p>2</p></td></tr>\n\
+        </table>\n\
+        </td></tr>\n\
+        </table>\n";
+    assert_eq!(rt;
+        written(alloc, &table(1, 1, cells), &layout)?.as_str(),
+        want
+    );
+    Ok(())
+}
+
+#[test]
+fn a_table_without_columns_has_no_line_between_its_tags(rt: HostRuntime) -> Result<(), Fail> {
+    let alloc = rt.alloc();
+    let layout = layout(alloc, &[], &[], List::new(alloc))?;
+    let empty = table(0, 0, List::new(alloc));
+    assert_eq!(rt;
+        written(alloc, &empty, &layout)?.as_str(),
+        "<table>\n</table>\n"
+    );
+    Ok(())
+}
+
+#[test]
+fn words_are_escaped_and_keep_their_breaks(rt: HostRuntime) -> Result<(), Fail> {
+    let alloc = rt.alloc();
+    for (spelt, want) in [
+        ("a&b <c>", "<p>a&amp;b &lt;c&gt;</p>"),
+        ("a\u{a0}b", "<p>a&nbsp;b</p>"),
+        ("a +b c", "<p>ab c</p>"),
+        ("a / b", "<p>a<br>b</p>"),
+        ("/ a / /", "<p><br>a<br><br></p>"),
+        ("\"'\u{e9}\u{4e2d}", "<p>\"'\u{e9}\u{4e2d}</p>"),
+    ] {
+        let mut cells = List::new(alloc);
+        cells.push(cell(Kind::Plain, (0, 1, 0, 1), 0, text(alloc, spelt)?))?;
+        let layout = layout(alloc, &[9], &[3], List::new(alloc))?;
+        let page = written(alloc, &table(1, 1, cells), &layout)?;
+        let mut line = String::from_str(
+            alloc,
+            "<table>\n<colgroup><col style=\"width:9ch\"></colgroup>\n<tr><td>",
+        )?;
+        line.push_str(want)?;
+        line.push_str("</td></tr>\n</table>\n")?;
+        assert_eq!(rt; page.as_str(), line.as_str());
+    }
+    Ok(())
+}

@@ -1,0 +1,4 @@
+pub mod Strips
+pub mod Corners
+pub mod Pictures
+pub mod Pages

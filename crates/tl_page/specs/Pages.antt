@@ -1,0 +1,108 @@
+-- The text page of a table in a layout. Each cell's content is its blocks one under the other: a paragraph's greedy
+-- lines in the cell's room, and a nested table's own page.
+use Rattle.std.specs.Prelude.{◌≡◌, ℕ, zero, suc, List, [], ◌∷◌, ◌++◌, map}
+use Rattle.std.specs.List.{AllZip, flat_map}
+use Rattle.std.specs.Str.{encode_utf8_all}
+use Rattle.tl_base.specs.declared.style.Style.{Style}
+use Rattle.tl_grid.specs.declared.shape.Place.{Place}
+use Rattle.tl_text.specs.declared.paragraph.Atom.{Atom}
+use Rattle.tl_text.specs.declared.paragraph.Atom.TheVariants.{Word, Glue, Break}
+use Rattle.tl_text.specs.Paragraph.{gap_before}
+use Rattle.tl_text.specs.Cuttings.{joined, line_width, IsGreedyCutting}
+use Rattle.tl_form.specs.declared.cell.Content.{out-Content}
+use Rattle.tl_form.specs.declared.cell.Content.TheOpen as open_content
+use Rattle.tl_form.specs.declared.cell.Table.{Table, out-Table}
+use Rattle.tl_form.specs.declared.cell.TableCell.{out-TableCell}
+use Rattle.tl_form.specs.declared.layout.Layout.{Layout, out-Layout}
+use Rattle.tl_form.specs.Tables.{OpenTable, OpenCell, OpenContent}
+use Rattle.tl_form.specs.Layouts.{OpenLayout, total_width, width_for}
+use Rattle.tl_form.specs.Sound.{places_of}
+use Rattle.tl_page.specs.Pictures.{Line, Drawn, Picture, spaces, lines_of}
+
+-- ---- paragraphs
+
+-- the characters of a unit
+abbrev pub text_of : Atom → List ℕ
+text_of (Word text) = text
+text_of (Glue text) = text
+text_of Break = []
+
+-- the units of a line, with the gap before each but the first
+abbrev pub line_text : List Atom → List ℕ
+line_text [] = []
+line_text (unit ∷ units) = text_of unit ++ flat_map (λ next. spaces (gap_before next) ++ text_of next) units
+
+abbrev pub line_from : List Atom → Line
+line_from units = record { text = line_text units; width = line_width units }
+
+-- the lines of the paragraph's greedy cutting in `w` columns
+abbrev pub AreParagraphLines : ℕ → List Atom → List Line → Type 0
+AreParagraphLines w paragraph lines =
+    (cut : List (List (List Atom))) × IsGreedyCutting w paragraph cut × (lines ≡ map line_from (joined cut))
+
+-- ---- blocks and cells
+
+-- what a part of a cell gives: its lines, and the layouts of the nested tables in it that were used
+pub record Content : Type 0 where
+  pub lines : List Line
+  pub inner : List Layout
+
+-- a nested table in this layout: each line of its page is as wide as the layout
+pub record ShowsTable (shows : Layout → List (List ℕ) → Type 0) (style : Style) (content : Content) : Type 0 where
+  pub layout : Layout
+  pub page : List (List ℕ)
+  pub shown : shows layout page
+  pub lines : content.lines ≡ map (λ text. record { text = text; width = total_width style (out-Layout layout) }) page
+  pub inner : content.inner ≡ layout ∷ []
+
+-- a block in a room of `w` columns; `shows` says which lines are the page of a nested table
+abbrev pub ShowsBlock : (Table → Layout → List (List ℕ) → Type 0) → Style → ℕ → OpenContent → Content → Type 0
+ShowsBlock shows style w (open_content.Para paragraph) content = AreParagraphLines w paragraph content.lines × (content.inner ≡ [])
+ShowsBlock shows style w (open_content.Table box) content = ShowsTable (shows box.value) style content
+
+-- a cell in a room of `w` columns: its blocks one under the other
+pub record ShowsCell (shows : Table → Layout → List (List ℕ) → Type 0) (style : Style) (w : ℕ) (cell : OpenCell) (content : Content) : Type 0 where
+  pub parts : List Content
+  pub blocks : AllZip (λ block part. ShowsBlock shows style w (out-Content block) part) cell.blocks parts
+  pub lines : flat_map (λ part. part.lines) parts ≡ content.lines
+  pub inner : flat_map (λ part. part.inner) parts ≡ content.inner
+
+-- ---- pages
+
+-- each cell's place with its lines
+abbrev pub drawn_cells : List Place → List Content → List Drawn
+drawn_cells [] contents = []
+drawn_cells (place ∷ places) [] = []
+drawn_cells (place ∷ places) (content ∷ contents) = record { place = place; lines = content.lines } ∷ drawn_cells places contents
+
+-- the picture of a table whose cells have these contents
+abbrev pub picture_of : Style → OpenTable → OpenLayout → List Content → Picture
+picture_of style table layout contents = record {
+  style = style;
+  widths = layout.widths;
+  heights = layout.heights;
+  grid = record { cols = table.cols; rows = table.rows; places = places_of table };
+  cells = drawn_cells (places_of table) contents;
+}
+
+-- these are the lines of a table's page; `shows` says the same of the tables nested in its cells
+pub record ShowsBy (shows : Table → Layout → List (List ℕ) → Type 0) (style : Style) (table : OpenTable) (layout : OpenLayout)
+    (page : List (List ℕ)) : Type 0 where
+  pub contents : List Content
+  pub cells : AllZip (λ cell content. ShowsCell shows style (width_for style layout (out-TableCell cell).place) (out-TableCell cell) content)
+      table.cells contents
+  pub inner : flat_map (λ content. content.inner) contents ≡ layout.inner
+  pub drawn : lines_of (picture_of style table layout contents) ≡ page
+
+-- the same of a table with fewer than `depth` tables inside one another
+abbrev pub ShowsWithin : ℕ → Style → Table → Layout → List (List ℕ) → Type 0
+ShowsWithin zero style table layout page = ⊥
+ShowsWithin (suc depth) style table layout page = ShowsBy (ShowsWithin depth style) style (out-Table table) (out-Layout layout) page
+
+-- these are the lines of the table's page in the layout
+abbrev pub IsPage : Style → Table → Layout → List (List ℕ) → Type 0
+IsPage style table layout page = (depth : ℕ) × ShowsWithin depth style table layout page
+
+-- the bytes of a page: each line ends with a line feed
+abbrev pub bytes_of : List (List ℕ) → List ℕ
+bytes_of page = encode_utf8_all (flat_map (λ line. line ++ 0x0A ∷ []) page)

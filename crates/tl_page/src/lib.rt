@@ -1,0 +1,7 @@
+//! Writes the text page of a table in a layout: the lines of its cells, filled to their rooms, with
+//! gaps or a drawn frame between them, and nested tables as pages inside their cells. It knows no
+//! search and no certificate. Its one contract: the bytes are exactly those of the drawn page.
+#![tactic(auto)]
+
+mod owner;
+mod strip;

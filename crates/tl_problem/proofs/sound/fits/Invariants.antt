@@ -1,0 +1,8 @@
+use Rattle.std.proofs.Common.{◌≡◌, ◌≤◌, ℕ, length, get_or}
+use Rattle.tl_base.specs.Style.{gap_of}
+use Rattle.tl_problem.specs.inner.Soundness.{AreLeastPlaces}
+use Rattle.tl_problem.proofs.sound.fits.Given as goal
+
+abbrev pub invariant-loop-column : goal.invariant-loop-column
+invariant-loop-column l = (length l.places ≡ 61) × (AreLeastPlaces (gap_of l.style) l.cells l.column l.places
+    × ((k : ℕ) → k ≤ l.column → get_or l.places k 0 ≤ l.end))

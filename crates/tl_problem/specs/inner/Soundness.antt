@@ -1,0 +1,63 @@
+-- What the parts of the test for a sound problem find; no public clause cites this file.
+use Rattle.std.specs.Prelude.{◌≡◌, ℕ, ◌+◌, ◌<◌, ◌≤◌, ◌⊎◌, List, [], length, get_or}
+use Rattle.std.specs.List.{AllPairs, Any}
+use Rattle.tl_base.specs.declared.style.Style.{Style}
+use Rattle.tl_base.specs.declared.style.Style.TheVariants.{Plain}
+use Rattle.tl_base.specs.declared.steps.Config.{Config}
+use Rattle.tl_base.specs.Steps.{first_width, IsLowAt}
+use Rattle.tl_problem.specs.declared.axis.Axis.{Axis}
+use Rattle.tl_problem.specs.declared.cell.Cell.{Cell}
+use Rattle.tl_problem.specs.Sizes.{position}
+use Rattle.tl_problem.specs.Problem.{ProblemModel}
+use Rattle.tl_problem.specs.Layouts.{WithinPage}
+use Rattle.tl_problem.specs.Sound.{ShareSlot}
+use Rattle.tl_problem.specs.inner.Axes.{start_of}
+use Rattle.tl_problem.specs.inner.Demands.{cell_at}
+
+-- so many columns and rows, with no cells and no page: what a cell alone is tested against
+abbrev pub grid : ℕ → ℕ → ProblemModel
+grid cols rows = record { cols = cols; rows = rows; style = Plain; width = 0; cells = [] }
+
+-- where no more than `h` lines are needed by `high`, no more are needed by `low`
+abbrev pub IsNowhereAbove : List Config → List Config → Type 0
+IsNowhereAbove low high = (h w : ℕ) → IsLowAt high h w → IsLowAt low h w
+
+-- no two cells cover one slot
+abbrev pub AreSeparate : List Cell → Type 0
+AreSeparate cells = AllPairs (λ a b. ShareSlot a b → ⊥) cells
+
+-- the cell with this number covers no slot that a later one covers
+abbrev pub IsSeparate : List Cell → ℕ → Type 0
+IsSeparate cells number = (later : ℕ) → number < later → later < length cells →
+    ShareSlot (cell_at cells number) (cell_at cells later) → ⊥
+
+-- in each column, or row, a cell begins
+abbrev pub EachBegins : Axis → ℕ → List Cell → Type 0
+EachBegins axis count cells = (place : ℕ) → place < count → Any (λ cell. start_of axis cell ≡ place) cells
+
+-- some widths of so many columns are within a page of this style and width
+abbrev pub Fits : ℕ → Style → ℕ → List Cell → Type 0
+Fits cols style width cells = (widths : List ℕ)
+    × WithinPage (record { cols = cols; rows = 0; style = style; width = width; cells = cells }) widths
+
+-- the column begins at or past this place: past the gap of the column before it, and past each cell that ends there
+abbrev pub IsPastRoom : ℕ → List ℕ → Cell → ℕ → Type 0
+IsPastRoom gap places cell place = get_or places cell.left 0 + first_width cell.low + gap ≤ place
+
+-- the least place for the column after this one, by the places before it and the first cells, up to a number
+pub record IsNextPlace (gap : ℕ) (cells : List Cell) (upto : ℕ) (places : List ℕ) (column place : ℕ) : Type 0 where
+  pub gaps : get_or places column 0 + gap ≤ place
+  pub rooms : (k : ℕ) → k < upto → (cell_at cells k).right ≡ column + 1 → IsPastRoom gap places (cell_at cells k) place
+  pub attained : (get_or places column 0 + gap ≡ place)
+      ⊎ ((k : ℕ) × ((k < upto) × (((cell_at cells k).right ≡ column + 1)
+      × (get_or places (cell_at cells k).left 0 + first_width (cell_at cells k).low + gap ≡ place))))
+
+-- each place up to a column is the least: widths that give each cell its least width begin no column before it
+pub record AreLeastPlaces (gap : ℕ) (cells : List Cell) (upto : ℕ) (places : List ℕ) : Type 0 where
+  pub first : get_or places 0 0 ≡ 0
+  pub gaps : (k : ℕ) → k < upto → get_or places k 0 + gap ≤ get_or places (k + 1) 0
+  pub rooms : (k : ℕ) → k < length cells → (cell_at cells k).right ≤ upto →
+      IsPastRoom gap places (cell_at cells k) (get_or places (cell_at cells k).right 0)
+  pub least : (widths : List ℕ) → ((k : ℕ) → k < length cells →
+      position gap widths (cell_at cells k).left + first_width (cell_at cells k).low + gap ≤ position gap widths (cell_at cells k).right) →
+      (place : ℕ) → place ≤ upto → get_or places place 0 ≤ position gap widths place

@@ -1,0 +1,203 @@
+//! The test for a sound problem.
+
+ghost use Rattle.std.specs.Prelude.{◌≡◌, ◌+◌, ◌<◌, ◌≤◌, ◌↔◌, length, sum_by, IsTrue};
+ghost use Rattle.std.specs.List.{All, Any};
+ghost use Rattle.tl_base.specs.Steps.{AreSteps, IsLowAt};
+ghost use Rattle.tl_problem.specs.Layouts.{WithinPage};
+ghost use Rattle.tl_problem.specs.Sound.{IsSound, IsSoundCell, ShareSlot, greatest_height};
+ghost use Rattle.tl_problem.specs.inner.Axes.{start_of};
+ghost use Rattle.tl_problem.specs.inner.Soundness.{AreSeparate, EachBegins, Fits, IsNextPlace, IsNowhereAbove, IsSeparate, grid};
+ghost use Rattle.tl_problem.specs.inner.Spanning.{IsInGrid};
+
+use crate::axis::Axis;
+use crate::{Cell, Problem};
+use tl_base::{Config, MAX_COLUMNS, MAX_HEIGHT, MAX_PAGE_WIDTH, MAX_ROWS, Steps, Style};
+
+/// The places of columns: where each begins, and where the last one ends.
+const PLACES: usize = MAX_COLUMNS + 1;
+
+impl Problem {
+    /// Whether these are a sound problem's columns, rows, style, width and cells, so that
+    /// `Problem::new` may be called with them: in the limits, no two cells over one slot, a cell that
+    /// begins in each column and row, and a layout within the page. No memory is taken. Each cell is
+    /// compared with each later one, so the time grows with the square of their number.
+    pub fn is_sound(cols: u32, rows: u32, style: Style, width: u32, cells: &[Cell]) -> bool
+        ensures { IsTrue result ↔ IsSound (record { cols = cols; rows = rows; style = style; width = width; cells = cells.now }) }
+    {
+        if cols as usize > MAX_COLUMNS || rows as usize > MAX_ROWS + 1 || width > MAX_PAGE_WIDTH {
+            return false;
+        }
+        if !are_sound_cells(cols, rows, cells) || !are_separate(cells) || !are_low_enough(cells) {
+            return false;
+        }
+        if !each_begins(cells, Axis::Columns, cols) || !each_begins(cells, Axis::Rows, rows) {
+            return false;
+        }
+        fits(cols, style, width, cells)
+    }
+}
+
+/// Whether each cell lies in the grid and is sound.
+fn are_sound_cells(cols: u32, rows: u32, cells: &[Cell]) -> bool
+    ensures { IsTrue result ↔ All (IsSoundCell (grid cols rows)) cells.now }
+{
+    for number in 0..cells.len() {
+        if !is_sound_cell(cols, rows, &cells[number]) {
+            return false;
+        }
+    }
+    true
+}
+
+/// Whether the cell lies in the grid, `low` and `high` begin at one width, and `low` is nowhere above
+/// `high`.
+fn is_sound_cell(cols: u32, rows: u32, cell: &Cell) -> bool
+    ensures { IsTrue result ↔ IsSoundCell (grid cols rows) cell.now }
+{
+    if cell.left >= cell.right || cell.right > cols {
+        return false;
+    }
+    if cell.top >= cell.bottom || cell.bottom > rows {
+        return false;
+    }
+    let low = cell.low.configs();
+    let high = cell.high.configs();
+    low[0].width == high[0].width && is_nowhere_above(&cell.low, high)
+}
+
+/// Whether `low` is nowhere above `high`: at each width from which `high` has a height it has one that
+/// is no greater. It is enough to ask where the steps of `high` begin.
+fn is_nowhere_above(low: &Steps, high: &[Config]) -> bool
+    requires low { AreSteps low.now }
+    requires high { AreSteps high.now }
+    ensures { IsTrue result ↔ IsNowhereAbove low.now high.now }
+{
+    for number in 0..high.len() {
+        if !is_low_at(low, high[number]) {
+            return false;
+        }
+    }
+    true
+}
+
+/// Whether at the width of the step no more than its height is needed.
+fn is_low_at(low: &Steps, step: Config) -> bool
+    ensures { IsTrue result ↔ IsLowAt low.now step.height step.width }
+{
+    match low.height_at(step.width) {
+        None => false,
+        Some(height) => height <= step.height,
+    }
+}
+
+/// Whether no two cells cover one slot.
+fn are_separate(cells: &[Cell]) -> bool
+    ensures { IsTrue result ↔ AreSeparate cells.now }
+{
+    for number in 0..cells.len() {
+        if !is_separate(cells, number) {
+            return false;
+        }
+    }
+    true
+}
+
+/// Whether the cell with this number covers no slot that a later one covers.
+fn is_separate(cells: &[Cell], number: usize) -> bool
+    requires { number < length cells.now }
+    ensures { IsTrue result ↔ IsSeparate cells.now number }
+{
+    for later in number + 1..cells.len() {
+        if share_slot(&cells[number], &cells[later]) {
+            return false;
+        }
+    }
+    true
+}
+
+/// Whether both cells cover some slot.
+fn share_slot(a: &Cell, b: &Cell) -> bool
+    ensures { IsTrue result ↔ ShareSlot a.now b.now }
+{
+    a.left < b.right && b.left < a.right && a.top < b.bottom && b.top < a.bottom
+}
+
+/// Whether in each of so many columns, or rows, a cell begins.
+fn each_begins(cells: &[Cell], axis: Axis, count: u32) -> bool
+    ensures { IsTrue result ↔ EachBegins axis count cells.now }
+{
+    for place in 0..count {
+        if !begins_at(cells, axis, place) {
+            return false;
+        }
+    }
+    true
+}
+
+/// Whether a cell begins in this column, or row.
+fn begins_at(cells: &[Cell], axis: Axis, place: u32) -> bool
+    ensures { IsTrue result ↔ Any (λ cell. start_of axis cell ≡ place) cells.now }
+{
+    for number in 0..cells.len() {
+        if axis.start(&cells[number]) == place {
+            return true;
+        }
+    }
+    false
+}
+
+/// Whether the greatest heights of the cells sum to a height in the limits.
+fn are_low_enough(cells: &[Cell]) -> bool
+    ensures { IsTrue result ↔ (sum_by (λ cell. greatest_height cell.high) cells.now ≤ MAX_HEIGHT) }
+{
+    let mut height: u64 = 0;
+    for cell in cells {
+        height += u64::from(cell.high.max_height());
+        if height > u64::from(MAX_HEIGHT) {
+            return false;
+        }
+    }
+    true
+}
+
+/// Whether some widths are within the page: whether the columns can end there, if each begins at the
+/// least place that the least widths of the cells leave.
+fn fits(cols: u32, style: Style, width: u32, cells: &[Cell]) -> bool
+    requires few { cols ≤ MAX_COLUMNS }
+    requires narrow { width ≤ MAX_PAGE_WIDTH }
+    requires grid { All (IsInGrid cols) cells.now }
+    ensures { IsTrue result ↔ Fits cols style width cells.now }
+{
+    let end = width + style.gap();
+    let mut places = [0; PLACES];
+    for column in 0..cols as usize {
+        let place = next_place(cells, style.gap(), &places, column);
+        if place > u64::from(end) {
+            return false;
+        }
+        places[column + 1] = place as u32;
+    }
+    if cols == 0 {
+        return true;
+    }
+    places[cols as usize] + 2 * style.edge() <= end
+}
+
+/// The least place for the column after this one: a gap past this column's place, and past each cell
+/// that ends there.
+fn next_place(cells: &[Cell], gap: u32, places: &[u32], column: usize) -> u64
+    requires inside { column < length places.now }
+    requires grid { All (λ cell. cell.left < length places.now) cells.now }
+    requires small { gap ≤ 2 }
+    ensures { IsNextPlace gap cells.now (length cells.now) places.now column result }
+{
+    let mut place = u64::from(places[column]) + u64::from(gap);
+    for number in 0..cells.len() {
+        let cell = &cells[number];
+        if cell.right as usize == column + 1 {
+            let begins = u64::from(places[cell.left as usize]);
+            place = place.max(begins + u64::from(cell.low.least()) + u64::from(gap));
+        }
+    }
+    place
+}

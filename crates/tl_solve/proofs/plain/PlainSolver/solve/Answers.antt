@@ -1,0 +1,94 @@
+-- The stack and the order of the cuts go on by what the arena ensures.
+use Rattle.std.proofs.Common.{◌≡◌, ◌+◌, ◌*◌, ◌++◌, ◌∷◌, [], length, Option, Some, None, inl, inr, refl, sym, ap, ◌∙◌, subst, arith, length-append}
+use Rattle.std.specs.Option.{MatchOption}
+use Rattle.std.proofs.lemmas.Bool.{cases_lt}
+use Rattle.tl_cert.specs.Traces.{zone_of}
+use Rattle.tl_cert.specs.Worked.{IsClosed}
+use Rattle.tl_solve.specs.inner.Walk.{IsStack, KeepsOrder}
+use Rattle.tl_solve.proofs.ArenaLaws.{arena-keen, arena-zone, lowered-le}
+use Rattle.tl_solve.proofs.WalkLaws.{top-stands, stack-closed, stack-cut, order-cut, stack-end, first-is_cut, plain-ends, plain-outcome}
+use Rattle.tl_solve.proofs.plain.PlainSolver.solve.Goals as goal
+
+match-none : {A : Type 0} (o : Option A) (P : Type 0) (Q : A → Type 0) → MatchOption o P Q → ((x : A) → o ≡ Some x → ⊥) → P
+match-none None P Q holds not = holds
+match-none (Some x) P Q holds not = absurd (not x refl)
+
+pub cut-requires-clause-cut : goal.cut-requires-clause-cut
+cut-requires-clause-cut c =
+    let p = c.args.problem.now in
+    let arena = c.loop-zone.arena in
+    let z = c.in-Some.zone in
+    let on = subst (IsStack p arena.trace arena.best.height) c.in-Some.ensures.items c.loop-zone.invariant.on_stack in
+    let stands = top-stands p arena.trace arena.best.height c.pop.new.self.items z on in
+    first-is_cut p arena.trace z c.in-Some-first_cut.cut stands (arena-zone p arena c.loop-zone.invariant.arena z stands.there)
+    c.in-Some-first_cut.ensures.first c.in-Some-first_cut.ensures.zone
+
+-- the zone on top was closed
+pub loop-zone-preserved : goal.loop-zone-preserved
+loop-zone-preserved c =
+    let p = c.args.problem.now in
+    let arena = c.loop-zone.arena in
+    let z = c.in-Some.zone in
+    let on = subst (IsStack p arena.trace arena.best.height) c.in-Some.ensures.items c.loop-zone.invariant.on_stack in
+    let closed = match-none c.first_cut.result (IsClosed p (zone_of p arena.trace z) arena.best.height) (λ _. Unit {0}) c.first_cut.ensures.closed
+    c.in_default-first_cut.not-Some in
+    record {
+      arena = c.loop-zone.invariant.arena;
+      within = c.loop-zone.invariant.within;
+      on_stack = stack-closed p arena.trace arena.best.height c.pop.new.self.items z on closed;
+      order = c.loop-zone.invariant.order;
+    }
+
+-- its parts take its place
+pub loop-zone-preserved-in-Continue-branch-5 : goal.loop-zone-preserved-in-Continue-branch-5
+loop-zone-preserved-in-Continue-branch-5 c =
+    let p = c.args.problem.now in
+    let arena = c.loop-zone.arena in
+    let is = c.loop-zone.invariant.arena in
+    let trace = arena.trace in
+    let height = arena.best.height in
+    let best = c.cut.new.self.best.height in
+    let stack = c.pop.new.self.items in
+    let made = c.cuts-made.result in
+    let z = c.in-Some.zone in
+    let cut = c.in-Some-first_cut.cut in
+    let top = c.in-Some-first_cut.ensures.zone in
+    let first = c.in-Some-first_cut.ensures.first in
+    let on = subst (IsStack p trace height) c.in-Some.ensures.items c.loop-zone.invariant.on_stack in
+    let stands = top-stands p trace height stack z on in
+    let now = first-is_cut p trace z cut stands (arena-zone p arena is z stands.there) first top in
+    let longer : c.cut.new.self.trace ≡ trace ++ cut ∷ [] = c.in_ok-cut.ensures.trace in
+    let items : c.push-in-Some-first_cut-2.new.self.items ≡ (stack ++ (2 * made + 2) ∷ []) ++ (2 * made + 1) ∷ [] =
+    c.in_ok-push-3.ensures.items ∙ ap (λ s. s ++ (2 * made + 1) ∷ []) c.in_ok-push-2.ensures.items in
+    let numbered : c.push-in-Some-first_cut-2.new.self.items ≡ (stack ++ (2 * length trace + 2) ∷ []) ++ (2 * length trace + 1) ∷ [] =
+    items ∙ ap (λ n. (stack ++ (2 * n + 2) ∷ []) ++ (2 * n + 1) ∷ []) c.cuts-made.ensures in
+    let parts = stack-cut p trace height stack z on cut top is.trace_of now best (lowered-le arena.best c.cut.new.self.best c.in_ok-cut.ensures.lowered) in
+    let kept = order-cut p trace height stack z on cut top is.trace_of now c.loop-zone.invariant.order first c.in-Some-first_cut.ensures.below
+    (arena-keen p is.work.work_of.sound arena is) in
+    let count = ap length longer ∙ length-append trace (cut ∷ []) in
+    record {
+      arena = c.in_ok-cut.ensures.arena;
+      within = elim (cases_lt made c.args.budget) [
+        | inl less ↦ omega (arith, less, count, c.cuts-made.ensures)
+        | inr more ↦ absurd (c.if-made-budget.false (omega (arith, more, c.cuts-made.ensures, c.loop-zone.invariant.within)))
+      ];
+      on_stack = subst (λ t. IsStack p t best c.push-in-Some-first_cut-2.new.self.items) (sym longer)
+          (subst (IsStack p (trace ++ cut ∷ []) best) (sym numbered) parts);
+      order = subst (KeepsOrder p) (sym longer) kept;
+    }
+
+pub finish-requires-2-clause-ended : goal.finish-requires-2-clause-ended
+finish-requires-2-clause-ended c =
+    let empty = match-none c.pop.result _ _ c.pop.ensures.cases c.in_default.not-Some in
+    let none : length c.loop-zone.stack.items ≡ 0 = omega (arith, empty.0, c.loop-zone.stack.ok) in
+    inr (stack-end c.args.problem.now c.loop-zone.arena.trace c.loop-zone.arena.best.height c.loop-zone.stack.items none c.loop-zone.invariant.on_stack)
+
+pub returns-then-made-budget-clause-besides : goal.returns-then-made-budget-clause-besides
+returns-then-made-budget-clause-besides c =
+    plain-ends c.args.problem.now c.loop-zone.arena c.loop-zone.invariant.arena c.loop-zone.invariant.order c.finish.result c.finish.ensures.best
+    c.finish.ensures.trace
+
+pub returns-clause-besides : goal.returns-clause-besides
+returns-clause-besides c =
+    plain-outcome c.args.problem.now c.loop-zone.arena c.loop-zone.invariant.arena c.loop-zone.invariant.order c.in_ok-found.found
+    c.in_ok-found.ensures.best c.in_ok-found.ensures.trace

@@ -1,0 +1,65 @@
+-- In which order a search cuts the zones of a problem, and where it cuts them.
+use Rattle.std.specs.Prelude.{◌≡◌, ◌≢◌, ℕ, ◌+◌, ◌*◌, ◌<◌, ◌⊎◌, List, length, get_or, take}
+use Rattle.std.specs.List.{AllPairs}
+use Rattle.tl_problem.specs.declared.placed.Placed.{Placed}
+use Rattle.tl_problem.specs.declared.zone.Range.{Range}
+use Rattle.tl_problem.specs.Problem.{ProblemModel}
+use Rattle.tl_problem.specs.Zones.{range_at, InZone}
+use Rattle.tl_problem.specs.Placements.{IsPlacementIn}
+use Rattle.tl_cert.specs.declared.trace.CutAt.{CutAt}
+use Rattle.tl_cert.specs.Traces.{IsZoneOf, zone_of}
+use Rattle.tl_cert.specs.Worked.{IsBoundOf}
+
+-- at each cut of the trace this holds of the cuts before it and of the cut
+abbrev pub AtEachCut : (List CutAt → CutAt → Type 0) → List CutAt → Type 0
+AtEachCut Holds trace = (i : ℕ) (d : CutAt) → i < length trace → Holds (take i trace) (get_or trace i d)
+
+-- ---- where a zone is cut
+
+-- the range with this number is the first of more than one class
+pub record IsFirstOpen (zone : List Range) (s : ℕ) : Type 0 where
+  pub there : s < length zone
+  pub more : (range_at zone s).first ≢ (range_at zone s).last
+  pub before : (t : ℕ) → t < s → (range_at zone t).first ≡ (range_at zone t).last
+
+-- the cut is of the first span of more than one class, after the first of its classes
+pub record IsFirstCut (zone : List Range) (cut : CutAt) : Type 0 where
+  pub span : IsFirstOpen zone cut.span
+  pub class : cut.class ≡ (range_at zone cut.span).first
+
+-- each zone was cut there
+abbrev pub CutsFirstSpans : ProblemModel → List CutAt → Type 0
+CutsFirstSpans problem trace = AtEachCut (λ cuts cut. IsFirstCut (zone_of problem cuts cut.zone) cut) trace
+
+-- ---- which zones are cut
+
+-- the height is below that of the placement in each zone of the trace that has one
+abbrev pub IsBelowPlacements : ProblemModel → List CutAt → ℕ → Type 0
+IsBelowPlacements problem trace height = (z : ℕ) (placed : Placed) → IsZoneOf trace z →
+    IsPlacementIn problem (InZone problem (zone_of problem trace z)) placed → height < placed.height
+
+-- each zone that was cut had a bound below the height of the placement in every zone that the trace had made by then
+abbrev pub CutsBelowPlacements : ProblemModel → List CutAt → Type 0
+CutsBelowPlacements problem trace =
+    AtEachCut (λ cuts cut. (bound : ℕ) × IsBoundOf problem cuts cut.zone bound × IsBelowPlacements problem cuts bound) trace
+
+-- ---- in which order
+
+-- the zone `z` comes from the zone `from`: it is that zone, or a part of one that comes from it
+pub data ComesFrom (trace : List CutAt) (from : ℕ) : ℕ → Type 0 where
+  itself : ComesFrom trace from from
+  lower : (i : ℕ) (d : CutAt) → i < length trace → ComesFrom trace from (get_or trace i d).zone → ComesFrom trace from (2 * i + 1)
+  upper : (i : ℕ) (d : CutAt) → i < length trace → ComesFrom trace from (get_or trace i d).zone → ComesFrom trace from (2 * i + 2)
+
+-- zone `a` comes before zone `b`: of the two parts of some cut it comes from the lower one, and `b` from the upper one
+abbrev pub ComesBefore : List CutAt → ℕ → ℕ → Type 0
+ComesBefore trace a b = (i : ℕ) × (i < length trace) × ComesFrom trace (2 * i + 1) a × ComesFrom trace (2 * i + 2) b
+
+-- zone `b` follows zone `a` in the order of classes: it comes from it, or `a` comes before it
+abbrev pub Follows : List CutAt → ℕ → ℕ → Type 0
+Follows trace a b = ComesFrom trace a b ⊎ ComesBefore trace a b
+
+-- each zone that was cut follows those that were cut before it: the lower part of a cut is cut, with all that comes from it,
+-- before the upper part
+abbrev pub IsInClassOrder : List CutAt → Type 0
+IsInClassOrder trace = AllPairs (λ first second. Follows trace first.zone second.zone) trace

@@ -1,0 +1,124 @@
+//! The end of a search as an outcome.
+
+ghost use Rattle.std.specs.Prelude.{◌≡◌, ℕ, ◌+◌, ◌*◌, ◌<◌, ◌≤◌, length, IfOk};
+ghost use Rattle.tl_problem.specs.Agreement.{LowIsHigh};
+ghost use Rattle.tl_problem.specs.Spans.{count_of};
+ghost use Rattle.tl_problem.specs.Tight.{IsTight};
+ghost use Rattle.tl_problem.specs.Zones.{whole_zone};
+ghost use Rattle.tl_cert.specs.Lines.{IsGoodLog};
+ghost use Rattle.tl_cert.specs.Text.{IsLogWritable, IsTraceWritable};
+ghost use Rattle.tl_cert.specs.Traces.{IsKeen, Stands, zone_of};
+ghost use Rattle.tl_cert.specs.Worked.{IsWorked};
+ghost use Rattle.tl_solve.specs.Arenas.{IsArenaOf};
+ghost use Rattle.tl_solve.specs.Ends.{HasBoundUpTo, IsLeastStanding, MayEnd};
+ghost use Rattle.tl_solve.specs.Logs.{Proves};
+ghost use Rattle.tl_solve.specs.inner.Found.{IsLeastUpto, least_with};
+
+use crate::lines::cuts_of_zones;
+use crate::log::log_of_bounds;
+use crate::{Arena, Outcome};
+use std::alloc::AllocError;
+use tl_base::MAX_BUDGET;
+use tl_problem::Problem;
+
+impl Arena {
+    /// The least of the best height and of the bounds of the zones that stand and have widths, in lines.
+    pub fn lower(&self, problem: &Problem) -> Result<u32, AllocError>
+        requires { IsArenaOf problem.now self.now }
+        ensures { IfOk result (IsLeastStanding problem.now self.now.trace self.now.best.height) }
+    {
+        let cuts = cuts_of_zones(self.alloc, &self.trace)?;
+        Ok(least_standing(&cuts, &self.bounds, self.best.height))
+    }
+
+    /// The outcome of a search that made all cuts of its budget, or has each zone closed. Its lower
+    /// bound is the least of the best height and of the bounds that stand.
+    pub fn finish(self, problem: &Problem, budget: u32) -> Result<Outcome, AllocError>
+        requires arena { IsArenaOf problem.now self }
+        requires within { length self.trace ≤ budget }
+        requires budget { budget ≤ MAX_BUDGET }
+        requires ended { MayEnd problem.now self.trace self.best.height budget }
+        ensures best { IfOk result (λ outcome. outcome.best ≡ self.best) }
+        ensures trace { IfOk result (λ outcome. outcome.trace ≡ self.trace) }
+        ensures least { IfOk result (λ outcome. IsLeastStanding problem.now self.trace self.best.height outcome.lower) }
+
+        // What every search promises.
+        ensures tight { IfOk result (λ outcome. IsTight problem.now outcome.best) }
+        ensures good { IfOk result (λ outcome. IsGoodLog problem.now outcome.trace outcome.log outcome.lower) }
+        ensures ordered { IfOk result (λ outcome. outcome.lower ≤ outcome.best.height) }
+        ensures closed { LowIsHigh problem.now → count_of problem.now ≤ budget →
+            IfOk result (λ outcome. outcome.lower ≡ outcome.best.height) }
+        ensures worked { IfOk result (λ outcome. IsWorked problem.now outcome.trace outcome.best.height outcome.lower budget) }
+        ensures keen { IfOk result (λ outcome. IsKeen problem.now (whole_zone problem.now) outcome.trace outcome.best.height) }
+        ensures trace_writable { IfOk result (λ outcome. IsTraceWritable outcome.trace) }
+        ensures log_writable { IfOk result (λ outcome. IsLogWritable outcome.log) }
+        ensures short { IfOk result (λ outcome. length outcome.log ≤ 2 * length outcome.trace + 1) }
+    {
+        let lower = self.lower(problem)?;
+        self.finish_at(problem, budget, lower)
+    }
+
+    /// The same with a lower bound that was found: each zone that stands proves it, and some zone that
+    /// stands has a bound that is no greater, where it is below the best height.
+    pub fn finish_at(
+        self,
+        problem: &Problem,
+        budget: u32,
+        lower: u32,
+    ) -> Result<Outcome, AllocError>
+        requires arena { IsArenaOf problem.now self }
+        requires within { length self.trace ≤ budget }
+        requires budget { budget ≤ MAX_BUDGET }
+        requires ended { MayEnd problem.now self.trace self.best.height budget }
+        requires ordered { lower ≤ self.best.height }
+        requires standing { (z : ℕ) → Stands self.trace z → Proves problem.now (zone_of problem.now self.trace z) lower }
+        requires enough { lower < self.best.height → HasBoundUpTo problem.now self.trace lower }
+        ensures best { IfOk result (λ outcome. outcome.best ≡ self.best) }
+        ensures trace { IfOk result (λ outcome. outcome.trace ≡ self.trace) }
+        ensures lower { IfOk result (λ outcome. outcome.lower ≡ lower) }
+
+        // What every search promises.
+        ensures tight { IfOk result (λ outcome. IsTight problem.now outcome.best) }
+        ensures good { IfOk result (λ outcome. IsGoodLog problem.now outcome.trace outcome.log outcome.lower) }
+        ensures closed { LowIsHigh problem.now → count_of problem.now ≤ budget →
+            IfOk result (λ outcome. outcome.lower ≡ outcome.best.height) }
+        ensures worked { IfOk result (λ outcome. IsWorked problem.now outcome.trace outcome.best.height outcome.lower budget) }
+        ensures keen { IfOk result (λ outcome. IsKeen problem.now (whole_zone problem.now) outcome.trace outcome.best.height) }
+        ensures trace_writable { IfOk result (λ outcome. IsTraceWritable outcome.trace) }
+        ensures log_writable { IfOk result (λ outcome. IsLogWritable outcome.log) }
+        ensures short { IfOk result (λ outcome. length outcome.log ≤ 2 * length outcome.trace + 1) }
+    {
+        let log = log_of_bounds(self.alloc, problem, &self.trace, &self.bounds, lower)?;
+        Ok(Outcome {
+            best: self.best,
+            lower,
+            trace: self.trace,
+            log,
+        })
+    }
+}
+
+/// The least of a height and of the bounds of the zones that no cut has.
+fn least_standing(cuts: &[Option<u32>], bounds: &[Option<u32>], height: u32) -> u32
+    requires { length cuts.now ≡ length bounds.now }
+    ensures { IsLeastUpto cuts.now bounds.now height (length bounds.now) result }
+{
+    let mut least = height;
+    for zone in 0..bounds.len() {
+        least = least_of(least, cuts[zone], bounds[zone]);
+    }
+    least
+}
+
+/// The number, or the bound of a zone that no cut has, where that is less.
+fn least_of(least: u32, cut: Option<u32>, bound: Option<u32>) -> u32
+    ensures { result ≡ least_with least cut bound }
+{
+    match cut {
+        Some(_) => least,
+        None => match bound {
+            None => least,
+            Some(bound) => least.min(bound),
+        },
+    }
+}
