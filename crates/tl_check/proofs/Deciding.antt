@@ -1,5 +1,6 @@
 -- What a line leads to, and what decides its end.
-use Rattle.std.proofs.Common.{◌≡◌, ◌≢◌, ℕ, zero, suc, ◌+◌, ◌-◌, ◌<◌, ◌≤◌, Bool, true, false, not, List, [], ◌∷◌, ◌++◌, inl, inr, length, get_or, take, drop, map, Option, Some, None, refl, sym, ap, ◌∙◌, subst, arith}
+use Rattle.std.proofs.Common.{◌≡◌, ◌≢◌, ℕ, zero, suc, ◌+◌, ◌-◌, ◌<◌, ◌≤◌, Bool, true, false, not, List, [], ◌∷◌}
+use Rattle.std.proofs.Common.{◌++◌, inl, inr, length, get_or, take, drop, map, Option, Some, None, refl, sym, ap, ◌∙◌, subst, arith}
 use Rattle.std.specs.Prelude.{MatchOption, IsSomeAnd, IsTrue, ◌↔◌}
 use Rattle.std.specs.List.{All, last_or}
 use Rattle.std.proofs.lemmas.List.{take_more, take_all, get_or_default}
@@ -67,7 +68,8 @@ chain-decided problem Among lower (Some bound) is = (
   λ found. let same = bound-unique problem Among bound found.0 is found.1 in omega (arith, same, found.2),
 )
 
-pub area-decided : (problem : ProblemModel) (Among : List ℕ → Type 0) (lower : ℕ) (o : Option ℕ) → MatchOption o (HasNoWidths Among) (IsAreaBound problem Among) →
+pub area-decided : (problem : ProblemModel) (Among : List ℕ → Type 0) (lower : ℕ) (o : Option ℕ)
+    → MatchOption o (HasNoWidths Among) (IsAreaBound problem Among) →
     (IsSomeAnd o (λ bound. lower ≤ bound) ↔ ((bound : ℕ) × IsAreaBound problem Among bound × (lower ≤ bound)))
 area-decided problem Among lower None none = (λ never. absurd never, λ found. absurd (none found.1.some.0 found.1.some.1))
 area-decided problem Among lower (Some bound) is = (
@@ -132,7 +134,8 @@ module _ (problem : ProblemModel) (trace : List CutAt) (log : List LogLine) (lin
   pub never-longer : (given : List Bound) (nogoods more : List (List Bound)) → NeverFires problem given nogoods → NeverFires problem given (nogoods ++ more)
   never-longer given nogoods more never last fires = let split = fires-split problem given [] nogoods more last fires in never split.0 split.1
 
-  pub never-all : (given : List Bound) (n : ℕ) → NeverFires problem given (map bounds_at (take n line.fires)) → NeverFires problem given (fired problem trace log line)
+  pub never-all : (given : List Bound) (n : ℕ) → NeverFires problem given (map bounds_at (take n line.fires))
+      → NeverFires problem given (fired problem trace log line)
   never-all given n never last fires = never-longer given (map bounds_at (take n line.fires)) (map bounds_at (drop n line.fires)) never last
       (subst (λ l. Fires problem given [] l last) (parts n line.fires) fires)
     where

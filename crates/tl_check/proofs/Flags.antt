@@ -1,5 +1,6 @@
 -- A trace with one cut more, and the flags of its zones.
-use Rattle.std.proofs.Common.{◌≡◌, ◌≢◌, ℕ, ◌+◌, ◌*◌, ◌<◌, ◌≤◌, Bool, true, false, List, [], ◌∷◌, ◌++◌, inl, inr, length, get_or, set, take, refl, sym, ap, ◌∙◌, subst, arith, length-append}
+use Rattle.std.proofs.Common.{◌≡◌, ◌≢◌, ℕ, ◌+◌, ◌*◌, ◌<◌, ◌≤◌, Bool, true, false, List, [], ◌∷◌}
+use Rattle.std.proofs.Common.{◌++◌, inl, inr, length, get_or, set, take, refl, sym, ap, ◌∙◌, subst, arith, length-append}
 use Rattle.std.specs.List.{All}
 use Rattle.std.proofs.lemmas.Bool.{cases_lt}
 use Rattle.std.proofs.lemmas.List.{get_or_append_left, get_or-append-add, get_or-set_same, get_or-set_other, length-set, take-append-le, take_all}
@@ -44,15 +45,18 @@ flags-push cuts cut flags room there h = record { room = omega (arith, room, cou
   is_cut z d within is all =
       elim (cases_eq z cut.zone) [
         | inl same ↦ All-last (λ c. c.zone ≢ z) cuts cut all (sym same)
-        | inr apart ↦ h.cut z d (omega (arith, within, count)) (sym (get_or-set_other flags cut.zone z true d apart) ∙ is) (All-front (λ c. c.zone ≢ z) cuts cut all)
+        | inr apart ↦ h.cut z d (omega (arith, within, count)) (sym (get_or-set_other flags cut.zone z true d apart) ∙ is)
+            (All-front (λ c. c.zone ≢ z) cuts cut all)
       ]
 
   is_not : (z : ℕ) (d : Bool) → z < length (set flags cut.zone true) → get_or (set flags cut.zone true) z d ≡ false → All (λ c. c.zone ≢ z) (cuts ++ cut ∷ [])
   is_not z d within is =
       elim (cases_eq z cut.zone) [
         | inl same ↦
-            let at : get_or (set flags cut.zone true) z d ≡ true = ap (λ n. get_or (set flags cut.zone true) n d) same ∙ get_or-set_same flags cut.zone true d there in
+            let at : get_or (set flags cut.zone true) z d ≡ true = ap (λ n. get_or (set flags cut.zone true) n d) same
+            ∙ get_or-set_same flags cut.zone true d there in
             absurd cc
-        | inr apart ↦ All-push (λ c. c.zone ≢ z) cuts cut (h.not_cut z d (omega (arith, within, count)) (sym (get_or-set_other flags cut.zone z true d apart) ∙ is))
+        | inr apart ↦ All-push (λ c. c.zone ≢ z) cuts cut (h.not_cut z d (omega (arith, within, count))
+            (sym (get_or-set_other flags cut.zone z true d apart) ∙ is))
             (λ same. apart (sym same))
       ]

@@ -121,6 +121,7 @@ module _ (problem : ProblemModel) (given joined : List Bound) (old new : MarkedB
     to = λ widths left.
         let before = h.to widths (r.before widths left) in
         record { page = before.page; meets = before.meets; breaks = All-push (Breaks problem widths) joined bound before.breaks (r.fact widths left) };
-    from = λ widths left. r.all widths (h.from widths (record { page = left.page; meets = left.meets; breaks = All-front (Breaks problem widths) joined bound left.breaks }))
+    from = λ widths left. r.all widths
+        (h.from widths (record { page = left.page; meets = left.meets; breaks = All-front (Breaks problem widths) joined bound left.breaks }))
         (All-last (Breaks problem widths) joined bound left.breaks);
   }

@@ -50,7 +50,8 @@ module _ (problem : ProblemModel) (Among : List ℕ → Type 0) (nogood : List B
   one-implied b h implied = record {
     among = has-old b h.among;
     not_implied = h.not_implied;
-    others = λ other has apart. new-cases (Implied problem Among) other has (λ before. h.others other before apart) (λ same. subst (Implied problem Among) same implied);
+    others = λ other has apart. new-cases (Implied problem Among) other has (λ before. h.others other before apart)
+        (λ same. subst (Implied problem Among) same implied);
   }
 
   -- a bound that is implied leaves no more

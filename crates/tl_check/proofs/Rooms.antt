@@ -32,13 +32,21 @@ module _ (room gap w cut : ℕ) (few : room ≤ 500) (same : w ≤ 500 → cut �
   near-from is h = elim (cases_lt 500 w) [ inl above ↦ omega (arith, ints, is, few, past above) | inr within ↦ omega (arith, ints, is, h, same within) ]
 
   pub apart-to : m ≡ pos (cut + gap) → m ≤ℤ pos (room + gap) → w ≤ room
-  apart-to is h = elim (cases_lt 500 w) [ inl above ↦ absurd (omega (arith, ints, is, h, few, past above)) | inr within ↦ omega (arith, ints, is, h, same within) ]
+  apart-to is h = elim (cases_lt 500 w) [
+    | inl above ↦ absurd (omega (arith, ints, is, h, few, past above))
+    | inr within ↦ omega
+        (arith, ints, is, h, same within)
+  ]
 
   pub apart-from : m ≡ pos (cut + gap) → w ≤ room → m ≤ℤ pos (room + gap)
   apart-from is h = elim (cases_lt 500 w) [ inl above ↦ absurd (omega (arith, few, above, h)) | inr within ↦ omega (arith, ints, is, h, same within) ]
 
   pub past-to : m ≡ pos (cut + gap + 1) → m ≤ℤ pos (room + gap) → w + 1 ≤ room
-  past-to is h = elim (cases_lt 500 w) [ inl above ↦ absurd (omega (arith, ints, is, h, few, past above)) | inr within ↦ omega (arith, ints, is, h, same within) ]
+  past-to is h = elim (cases_lt 500 w) [
+    | inl above ↦ absurd (omega (arith, ints, is, h, few, past above))
+    | inr within ↦ omega
+        (arith, ints, is, h, same within)
+  ]
 
   pub past-from : m ≡ pos (cut + gap + 1) → w + 1 ≤ room → m ≤ℤ pos (room + gap)
   past-from is h = elim (cases_lt 500 w) [ inl above ↦ absurd (omega (arith, few, above, h)) | inr within ↦ omega (arith, ints, is, h, same within) ]

@@ -77,12 +77,14 @@ module _ (problem : ProblemModel) (bound : Bound) (inside : bound.span < length 
         (λ widths left fact. on_side Most side widths (near-to (room_of widths) gap bound.width cut (few_left widths left) same past m is fact))
         (λ widths left meets. near-from (room_of widths) gap bound.width cut (few_left widths left) same past m is (side_on Most side widths meets)) h
 
-    pub met-least : bound.side ≡ Least → m ≡ pos (cut + gap) → Restricts problem old new AtLeast → Restricts problem old new (λ widths. Meets problem widths bound)
+    pub met-least : bound.side ≡ Least → m ≡ pos (cut + gap) → Restricts problem old new AtLeast
+        → Restricts problem old new (λ widths. Meets problem widths bound)
     met-least side is h = Restricts-same problem old new AtLeast (λ widths. Meets problem widths bound)
         (λ widths left fact. on_side Least side widths (apart-to (room_of widths) gap bound.width cut (few_left widths left) same past m is fact))
         (λ widths left meets. apart-from (room_of widths) gap bound.width cut (few_left widths left) same past m is (side_on Least side widths meets)) h
 
-    pub broken-most : bound.side ≡ Most → m ≡ pos (cut + gap + 1) → Restricts problem old new AtLeast → Restricts problem old new (λ widths. Breaks problem widths bound)
+    pub broken-most : bound.side ≡ Most → m ≡ pos (cut + gap + 1) → Restricts problem old new AtLeast
+        → Restricts problem old new (λ widths. Breaks problem widths bound)
     broken-most side is h = Restricts-same problem old new AtLeast (λ widths. Breaks problem widths bound)
         (λ widths left fact. past_side Most side widths (past-to (room_of widths) gap bound.width cut (few_left widths left) same past m is fact))
         (λ widths left breaks. past-from (room_of widths) gap bound.width cut (few_left widths left) same past m is (side_past Most side widths breaks)) h

@@ -1,5 +1,6 @@
 -- How many spans there are, and the bounds of a zone span by span.
-use Rattle.std.proofs.Common.{◌≡◌, ◌≢◌, ℕ, ◌+◌, ◌-◌, ◌*◌, ◌<◌, ◌≤◌, zero, suc, Bool, true, false, not, List, [], ◌∷◌, ◌++◌, inl, inr, length, map, filter, get_or, Option, Some, None, refl, sym, ap, ◌∙◌, subst, arith, append_assoc, length-append}
+use Rattle.std.proofs.Common.{◌≡◌, ◌≢◌, ℕ, ◌+◌, ◌-◌, ◌*◌, ◌<◌, ◌≤◌, zero, suc, Bool, true, false, not, List, [], ◌∷◌}
+use Rattle.std.proofs.Common.{◌++◌, inl, inr, length, map, filter, get_or, Option, Some, None, refl, sym, ap, ◌∙◌, subst, arith, append_assoc, length-append}
 use Rattle.std.specs.Prelude.{nat_lt, if◌then◌else◌, ◌↔◌}
 use Rattle.std.specs.List.{Contains, flat_map, range_with_len, list_any}
 use Rattle.std.proofs.lemmas.Bool.{cases_lt}
@@ -54,7 +55,8 @@ range-next : (a n j : ℕ) → a + n ≡ j → range_with_len a (suc n) ≡ rang
 range-next a zero j e = let same : a ≡ j = omega arith in ap (λ k. k ∷ []) same
 range-next a (suc n) j e = ap (λ l. a ∷ l) (range-next (a + 1) n j (omega arith))
 
-pub upto-next : (problem : ProblemModel) (zone : List Range) (s : ℕ) → bounds_upto problem zone (s + 1) ≡ bounds_upto problem zone s ++ range_bounds problem s (range_at zone s)
+pub upto-next : (problem : ProblemModel) (zone : List Range) (s : ℕ) → bounds_upto problem zone (s + 1)
+    ≡ bounds_upto problem zone s ++ range_bounds problem s (range_at zone s)
 upto-next problem zone s =
     let f : ℕ → List Bound = λ t. range_bounds problem t (range_at zone t) in
     let next : s + 1 ≡ suc s = omega arith in
@@ -110,10 +112,12 @@ pub bare-next : (problem : ProblemModel) (zone : List Range) (s : ℕ) → bound
 bare-next problem zone s before first last =
     let r = range_at zone s in
     let upper : (if nat_lt (r.last + 1) (length (classes_at problem s)) then at_most s (last_in_class problem s r.last) ∷ [] else []) ≡ [] =
-    none_if (nat_lt (r.last + 1) (length (classes_at problem s))) (at_most s (last_in_class problem s r.last)) (not_lt_test (r.last + 1) (length (classes_at problem s)) (omega (arith, last))) in
+    none_if (nat_lt (r.last + 1) (length (classes_at problem s))) (at_most s (last_in_class problem s r.last))
+    (not_lt_test (r.last + 1) (length (classes_at problem s)) (omega (arith, last))) in
     let lower : (if nat_lt 0 r.first then at_least s (first_in_class problem s r.first) ∷ [] else []) ≡ [] =
     none_if (nat_lt 0 r.first) (at_least s (first_in_class problem s r.first)) (not_lt_test 0 r.first (omega (arith, first))) in
-    sym (upto-bounds problem zone s r refl None None (sym upper) (sym lower)) ∙ append-nil (bounds_upto problem zone s ++ []) ∙ append-nil (bounds_upto problem zone s) ∙ before
+    sym (upto-bounds problem zone s r refl None None (sym upper) (sym lower)) ∙ append-nil (bounds_upto problem zone s ++ [])
+    ∙ append-nil (bounds_upto problem zone s) ∙ before
   where
     none_if : (b : Bool) (x : Bound) → b ≡ false → (if b then x ∷ [] else []) ≡ []
     none_if true x is = absurd cc

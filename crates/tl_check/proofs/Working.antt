@@ -1,5 +1,6 @@
 -- When a trace was worked, zone by zone.
-use Rattle.std.proofs.Common.{◌≡◌, ◌≢◌, ℕ, zero, suc, ◌+◌, ◌*◌, ◌<◌, ◌≤◌, Bool, true, false, List, [], ◌∷◌, inl, inr, ◌⊎◌, length, get_or, Option, Some, None, refl, sym, ap, ◌∙◌, subst, arith}
+use Rattle.std.proofs.Common.{◌≡◌, ◌≢◌, ℕ, zero, suc, ◌+◌, ◌*◌, ◌<◌, ◌≤◌, Bool, true, false, List, []}
+use Rattle.std.proofs.Common.{◌∷◌, inl, inr, ◌⊎◌, length, get_or, Option, Some, None, refl, sym, ap, ◌∙◌, subst, arith}
 use Rattle.std.specs.Prelude.{MatchOption, IsSomeAnd, IsTrue, ◌↔◌}
 use Rattle.std.specs.List.{All}
 use Rattle.std.proofs.lemmas.Bool.{cases_lt}
@@ -55,11 +56,13 @@ zone-bound problem sound zone is bounds d o found = bound-same problem (works.Is
 -- ---- a bound that was found decides
 
 module _ (problem : ProblemModel) (Among : List ℕ → Type 0) (P : ℕ → Type 0) where
-  pub found-to : (o : Option ℕ) → MatchOption o (HasNoWidths Among) (IsBound problem Among) → IsSomeAnd o P → (bound : ℕ) × IsBound problem Among bound × P bound
+  pub found-to : (o : Option ℕ) → MatchOption o (HasNoWidths Among) (IsBound problem Among) → IsSomeAnd o P
+      → (bound : ℕ) × IsBound problem Among bound × P bound
   found-to None none h = absurd h
   found-to (Some bound) is h = (bound, is, h)
 
-  pub found-from : (o : Option ℕ) → MatchOption o (HasNoWidths Among) (IsBound problem Among) → (bound : ℕ) → IsBound problem Among bound → P bound → IsSomeAnd o P
+  pub found-from : (o : Option ℕ) → MatchOption o (HasNoWidths Among) (IsBound problem Among) → (bound : ℕ) → IsBound problem Among bound → P bound
+      → IsSomeAnd o P
   found-from None none bound is h = absurd (none is.some.0 is.some.1)
   found-from (Some found) is bound other h = subst P (bound-unique problem Among bound found other is) h
 
@@ -136,7 +139,8 @@ differ-next problem zone s r is before here d less =
       | inl old ↦ before d old
       | inr last ↦
           let same : d.s ≡ s = omega (arith, less, last) in
-          let P : ℕ → Type 0 = λ t. SpanDiffers problem t (first_in_class problem t (range_at zone t).first) (last_in_class problem t (range_at zone t).last) (length problem.cells) in
+          let P : ℕ → Type 0 = λ t. SpanDiffers problem t (first_in_class problem t (range_at zone t).first) (last_in_class problem t (range_at zone t).last)
+          (length problem.cells) in
           let found : P d.s = (d.inside.0, d.cell, d.inside.1, d.inside.1, d.inside.2, d.has, (d.w, d.width.0, d.width.1, d.differ)) in
           here (subst (λ (q : Range). SpanDiffers problem s (first_in_class problem s q.first) (last_in_class problem s q.last) (length problem.cells)) (sym is)
           (subst P same found))

@@ -1,5 +1,6 @@
 -- A zone of a trace from the zone that it was cut from, span by span.
-use Rattle.std.proofs.Common.{◌≡◌, ◌≢◌, ℕ, ◌+◌, ◌-◌, ◌*◌, ◌/◌, ◌%◌, ◌<◌, ◌≤◌, min, max, List, [], ◌∷◌, ◌++◌, inl, inr, length, get_or, refl, sym, ap, ◌∙◌, subst, arith, length-append}
+use Rattle.std.proofs.Common.{◌≡◌, ◌≢◌, ℕ, ◌+◌, ◌-◌, ◌*◌, ◌/◌, ◌%◌, ◌<◌, ◌≤◌, min, max, List}
+use Rattle.std.proofs.Common.{[], ◌∷◌, ◌++◌, inl, inr, length, get_or, refl, sym, ap, ◌∙◌, subst, arith, length-append}
 use Rattle.std.proofs.lemmas.Bool.{cases_lt}
 use Rattle.std.proofs.lemmas.List.{get_or_append_left, get_or-append-add, get_or-set_same, get_or-set_other, get_or_default}
 use Rattle.tl_problem.specs.declared.zone.Range.{Range}
@@ -53,7 +54,8 @@ module _ (whole : List Range) (trace : List CutAt) (cut : CutAt) where
         high_is = rw from (zone-upper whole trace cut);
       }
 
-pub parted : (whole : List Range) (trace : List CutAt) → IsTrace whole trace → (i : ℕ) (d : CutAt) → i < length trace → IsParted whole trace i (get_or trace i d)
+pub parted : (whole : List Range) (trace : List CutAt) → IsTrace whole trace → (i : ℕ) (d : CutAt) → i < length trace
+    → IsParted whole trace i (get_or trace i d)
 parted whole trace is = trace-by whole (AllParted whole) (λ i d within. absurd (omega arith)) more trace is where
   more : (cuts : List CutAt) (cut : CutAt) → IsTrace whole cuts → IsCut whole cuts cut → AllParted whole cuts → AllParted whole (cuts ++ cut ∷ [])
   more cuts cut before now all i d within =
@@ -81,7 +83,8 @@ cut-there z n some there = omega (arith, some, there)
 
 -- ---- span by span
 
-module _ (problem : ProblemModel) (sound : IsSound problem) (trace : List CutAt) (is_trace : IsTraceOf problem trace) (s : ℕ) (inside : s < length (spans_of problem)) where
+module _ (problem : ProblemModel) (sound : IsSound problem) (trace : List CutAt) (is_trace : IsTraceOf problem trace) (s : ℕ)
+    (inside : s < length (spans_of problem)) where
   abbrev range_of : ℕ → Range
   range_of z = range_at (zone_of problem trace z) s
 
@@ -168,9 +171,11 @@ module _ (problem : ProblemModel) (sound : IsSound problem) (trace : List CutAt)
         record { from = within.from ∙ ap (λ r. max first r.first) at; upto = within.upto ∙ ap (λ r. min last r.last) at }
 
   -- a class of a cut is one of its span's
-  pub class-small : (i : ℕ) (cut : CutAt) → i < length trace → IsParted (whole_zone problem) trace i cut → cut.span ≡ s → cut.class < length (classes_at problem s)
+  pub class-small : (i : ℕ) (cut : CutAt) → i < length trace → IsParted (whole_zone problem) trace i cut → cut.span ≡ s
+      → cut.class < length (classes_at problem s)
   class-small i cut within h here =
-      let ranges = (zones-are problem sound trace is_trace cut.zone (omega (arith, h.before, within))).ranges s (long cut.zone (omega (arith, h.before, within))) in
+      let ranges = (zones-are problem sound trace is_trace cut.zone (omega (arith, h.before, within))).ranges s
+      (long cut.zone (omega (arith, h.before, within))) in
       let upper = subst (λ t. cut.class < (range_at (zone_of problem trace cut.zone) t).last) here h.upper in
       omega (arith, ranges.1, upper)
 

@@ -1,5 +1,6 @@
 -- By the side of the bound.
-use Rattle.std.proofs.Common.{◌≡◌, ◌≢◌, ℕ, ◌+◌, ◌-◌, ◌*◌, ◌<◌, ◌≤◌, ℤ, pos, neg_ℤ, ◌+ℤ◌, ◌-ℤ◌, ◌≤ℤ◌, Bool, true, false, List, [], ◌∷◌, ◌++◌, inl, inr, length, get_or, take, map, Option, Some, None, refl, sym, ap, ◌∙◌, subst, arith}
+use Rattle.std.proofs.Common.{◌≡◌, ◌≢◌, ℕ, ◌+◌, ◌-◌, ◌*◌, ◌<◌, ◌≤◌, ℤ, pos, neg_ℤ, ◌+ℤ◌, ◌-ℤ◌, ◌≤ℤ◌, Bool, true, false, List}
+use Rattle.std.proofs.Common.{[], ◌∷◌, ◌++◌, inl, inr, length, get_or, take, map, Option, Some, None, refl, sym, ap, ◌∙◌, subst, arith}
 use Rattle.std.specs.Int.{w32}
 use mir.Val.{to_z, of_z}
 use Rattle.std.proofs.lemmas.Int.{ints}
@@ -13,7 +14,8 @@ returns-in-Most c =
     let p = c.args.problem.now in
     let cut = c.width_of.result in
     let gap : c.gap.result ≡ gap_of p.style = c.gap.ensures ∙ ap gap_of c.style.ensures in
-    let m : to_z w32 (of_z w32 (to_z w32 (cut + c.gap.result) +ℤ pos 1)) ≡ pos (cut + gap_of p.style + 1) = omega (arith, ints, gap, c.width_of.ensures.small, gap-few p.style) in
+    let m : to_z w32 (of_z w32 (to_z w32 (cut + c.gap.result) +ℤ pos 1)) ≡ pos (cut + gap_of p.style + 1) =
+    omega (arith, ints, gap, c.width_of.ensures.small, gap-few p.style) in
     broken-most p c.args.bound c.requires.span cut c.width_of.ensures.same c.width_of.ensures.past c.args.matrix.now c.keep_at_least.new.matrix c.requires.keeps
     (to_z w32 (of_z w32 (to_z w32 (cut + c.gap.result) +ℤ pos 1))) c.in-Most.is m c.keep_at_least.ensures
 
@@ -22,6 +24,7 @@ returns-in-Least c =
     let p = c.args.problem.now in
     let cut = c.width_of.result in
     let gap : c.gap.result ≡ gap_of p.style = c.gap.ensures ∙ ap gap_of c.style.ensures in
-    let m : to_z w32 (of_z w32 (to_z w32 (cut + c.gap.result) -ℤ pos 1)) ≡ pos (cut + gap_of p.style) -ℤ pos 1 = omega (arith, ints, gap, c.width_of.ensures.small, gap-few p.style) in
+    let m : to_z w32 (of_z w32 (to_z w32 (cut + c.gap.result) -ℤ pos 1)) ≡ pos (cut + gap_of p.style) -ℤ pos 1 =
+    omega (arith, ints, gap, c.width_of.ensures.small, gap-few p.style) in
     broken-least p c.args.bound c.requires.span cut c.width_of.ensures.same c.width_of.ensures.past c.args.matrix.now c.keep_at_most.new.matrix c.requires.keeps
     (to_z w32 (of_z w32 (to_z w32 (cut + c.gap.result) -ℤ pos 1))) c.in-Least.is m c.keep_at_most.ensures

@@ -1,5 +1,6 @@
 -- Span by span.
-use Rattle.std.proofs.Common.{◌≡◌, ◌≢◌, ℕ, ◌+◌, ◌-◌, ◌*◌, ◌<◌, ◌≤◌, ℤ, pos, neg_ℤ, ◌+ℤ◌, ◌-ℤ◌, ◌≤ℤ◌, Bool, true, false, List, [], ◌∷◌, ◌++◌, inl, inr, length, get_or, take, map, Option, Some, None, refl, sym, ap, ◌∙◌, subst, arith}
+use Rattle.std.proofs.Common.{◌≡◌, ◌≢◌, ℕ, ◌+◌, ◌-◌, ◌*◌, ◌<◌, ◌≤◌, ℤ, pos, neg_ℤ, ◌+ℤ◌, ◌-ℤ◌, ◌≤ℤ◌, Bool, true, false, List}
+use Rattle.std.proofs.Common.{[], ◌∷◌, ◌++◌, inl, inr, length, get_or, take, map, Option, Some, None, refl, sym, ap, ◌∙◌, subst, arith}
 use Rattle.tl_problem.specs.Spans.{spans_of}
 use Rattle.tl_problem.proofs.ZoneLaws.{whole-is_zone}
 use Rattle.tl_cert.specs.Traces.{zone_of}
@@ -15,14 +16,16 @@ pub upper_bound-requires-clause-last : goal.upper_bound-requires-clause-last
 upper_bound-requires-clause-last c =
     let p = c.args.problem.now in
     let inside : c.loop-s.s < length (spans_of p) = omega (arith, c.loop-s-test.true, c.span_count-count.ensures) in
-    let small = range-small p c.requires.page.keeps.sound c.args.trace.now c.requires.trace c.loop-s.s inside c.args.z c.requires.zone c.zone_range-range.result c.zone_range-range.ensures in
+    let small = range-small p c.requires.page.keeps.sound c.args.trace.now c.requires.trace c.loop-s.s inside c.args.z c.requires.zone
+    c.zone_range-range.result c.zone_range-range.ensures in
     small.1
 
 pub lower_bound-requires-clause-first : goal.lower_bound-requires-clause-first
 lower_bound-requires-clause-first c =
     let p = c.args.problem.now in
     let inside : c.loop-s.s < length (spans_of p) = omega (arith, c.loop-s-test.true, c.span_count-count.ensures) in
-    let small = range-small p c.requires.page.keeps.sound c.args.trace.now c.requires.trace c.loop-s.s inside c.args.z c.requires.zone c.zone_range-range.result c.zone_range-range.ensures in
+    let small = range-small p c.requires.page.keeps.sound c.args.trace.now c.requires.trace c.loop-s.s inside c.args.z c.requires.zone
+    c.zone_range-range.result c.zone_range-range.ensures in
     small.0
 
 pub loop-s-preserved : goal.loop-s-preserved

@@ -1,5 +1,6 @@
 -- Part by part.
-use Rattle.std.proofs.Common.{◌≡◌, ◌≢◌, ℕ, ◌+◌, ◌-◌, ◌*◌, ◌<◌, ◌≤◌, Bool, true, false, List, [], ◌∷◌, ◌++◌, inl, inr, length, get_or, take, map, Option, Some, None, refl, sym, ap, ◌∙◌, subst, arith}
+use Rattle.std.proofs.Common.{◌≡◌, ◌≢◌, ℕ, ◌+◌, ◌-◌, ◌*◌, ◌<◌, ◌≤◌, Bool, true, false, List, [], ◌∷◌, ◌++◌}
+use Rattle.std.proofs.Common.{inl, inr, length, get_or, take, map, Option, Some, None, refl, sym, ap, ◌∙◌, subst, arith}
 use Rattle.tl_check.proofs.Working.{below-from, below-needed, below-enough, below-closed}
 use Rattle.tl_check.proofs.worked.is_worked.Goals as goal
 
@@ -25,7 +26,8 @@ returns-then-trace-budget-clause-worked c =
     let s = c.args.section.now in
     let needed = rw c.as_slice-trace.ensures at c.cuts_are_needed.ensures.needed in
     let enough = rw c.as_slice-trace.ensures at c.is_enough.ensures.enough in (
-      λ yes. below-from c.args.problem.now s.trace s.height s.lower c.args.budget c.args.opening c.requires.opening (needed.0 c.if-not-cuts_are_needed.false) (enough.0 c.if-not-is_enough.false)
+      λ yes. below-from c.args.problem.now s.trace s.height s.lower c.args.budget c.args.opening c.requires.opening (needed.0 c.if-not-cuts_are_needed.false)
+          (enough.0 c.if-not-is_enough.false)
           (inl (sym (ap length c.as_slice-trace.ensures) ∙ c.if-trace-budget.true)),
       λ below. refl,
     )
@@ -36,6 +38,8 @@ returns-clause-worked c =
     let needed = rw c.as_slice-trace.ensures at c.cuts_are_needed.ensures.needed in
     let enough = rw c.as_slice-trace.ensures at c.is_enough.ensures.enough in
     let closed = rw c.as_slice-trace.ensures at c.are_closed.ensures.closed in (
-      λ yes. below-from c.args.problem.now s.trace s.height s.lower c.args.budget c.args.opening c.requires.opening (needed.0 c.if-not-cuts_are_needed.false) (enough.0 c.if-not-is_enough.false) (inr (closed.0 yes)),
-      λ below. closed.1 (below-closed c.args.problem.now s.trace s.height s.lower c.args.budget c.args.opening c.requires.opening (λ same. c.if-trace-budget.false (ap length c.as_slice-trace.ensures ∙ same)) below),
+      λ yes. below-from c.args.problem.now s.trace s.height s.lower c.args.budget c.args.opening c.requires.opening (needed.0 c.if-not-cuts_are_needed.false)
+          (enough.0 c.if-not-is_enough.false) (inr (closed.0 yes)),
+      λ below. closed.1 (below-closed c.args.problem.now s.trace s.height s.lower c.args.budget c.args.opening c.requires.opening
+          (λ same. c.if-trace-budget.false (ap length c.as_slice-trace.ensures ∙ same)) below),
     )

@@ -1,5 +1,6 @@
 -- Line by line.
-use Rattle.std.proofs.Common.{◌≡◌, ◌≢◌, ℕ, ◌+◌, ◌-◌, ◌*◌, ◌<◌, ◌≤◌, Bool, true, false, List, [], ◌∷◌, ◌++◌, inl, inr, length, get_or, take, map, Option, Some, None, refl, sym, ap, ◌∙◌, subst, arith}
+use Rattle.std.proofs.Common.{◌≡◌, ◌≢◌, ℕ, ◌+◌, ◌-◌, ◌*◌, ◌<◌, ◌≤◌, Bool, true, false, List, [], ◌∷◌, ◌++◌}
+use Rattle.std.proofs.Common.{inl, inr, length, get_or, take, map, Option, Some, None, refl, sym, ap, ◌∙◌, subst, arith}
 use Rattle.tl_check.proofs.Working.{good-next}
 use Rattle.tl_check.proofs.checker.Checker.log.Goals as goal
 
@@ -21,6 +22,7 @@ returns-then-not-line-clause-stays c = λ cuts is. c.line.ensures.stays cuts (c.
 pub loop-k-preserved : goal.loop-k-preserved
 loop-k-preserved c =
     record {
-      good = good-next c.args.problem.now c.args.trace.now c.args.log.now c.args.lower c.loop-k.k c.loop-k.invariant.good (c.line.ensures.good.0 c.if-not-line.false);
+      good = good-next c.args.problem.now c.args.trace.now c.args.log.now c.args.lower c.loop-k.k c.loop-k.invariant.good
+          (c.line.ensures.good.0 c.if-not-line.false);
       stays = λ cuts is. c.line.ensures.stays cuts (c.loop-k.invariant.stays cuts is);
     }
