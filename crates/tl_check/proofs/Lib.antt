@@ -1,0 +1,9 @@
+pub mod Rooms
+pub mod Leaving
+pub mod ZoneWalks
+pub mod LeftLaws
+pub mod Sides
+pub mod Spans
+pub mod Deciding
+pub mod Working
+pub mod Flags

@@ -1,0 +1,146 @@
+-- How many spans there are, and the bounds of a zone span by span.
+use Rattle.std.proofs.Common.{◌≡◌, ◌≢◌, ℕ, ◌+◌, ◌-◌, ◌*◌, ◌<◌, ◌≤◌, zero, suc, Bool, true, false, not, List, [], ◌∷◌}
+use Rattle.std.proofs.Common.{◌++◌, inl, inr, length, map, filter, get_or, Option, Some, None, refl, sym, ap, ◌∙◌, subst, arith, append_assoc, length-append}
+use Rattle.std.specs.Prelude.{nat_lt, if◌then◌else◌, ◌↔◌}
+use Rattle.std.specs.List.{Contains, flat_map, range_with_len, list_any}
+use Rattle.std.proofs.lemmas.Bool.{cases_lt}
+use Rattle.std.proofs.lemmas.Grind.{flat_map-append}
+use Rattle.std.proofs.lemmas.List.{append-nil}
+use Rattle.std.proofs.lemmas.List.Elements.{Contains-append_left, Contains-append_right, Contains-append_cases, All-contains}
+use Rattle.std.proofs.lemmas.List.Filters.{length-filter_both}
+use Rattle.std.proofs.lemmas.List.FromFn.{length-range_with_len, length-map-range_with_len}
+use Rattle.tl_base.proofs.Members.{Contains-first, Contains-none, Contains-flat_map, Contains-range, flat_map-Contains, range-Contains}
+use Rattle.tl_problem.specs.declared.cell.Span.{Span}
+use Rattle.tl_problem.specs.declared.zone.Range.{Range}
+use Rattle.tl_problem.specs.Problem.{ProblemModel}
+use Rattle.tl_problem.specs.Sound.{IsSound}
+use Rattle.tl_problem.specs.Spans.{span, spans_of, all_spans, has_span}
+use Rattle.tl_problem.specs.Zones.{classes_at, first_in_class, last_in_class, range_at, IsZone}
+use Rattle.tl_cert.specs.declared.log.Bound.{Bound}
+use Rattle.tl_cert.specs.declared.log.Nogood.{Nogood}
+use Rattle.tl_cert.specs.declared.log.Nogood.TheVariants.{Zone, Bounds}
+use Rattle.tl_cert.specs.declared.trace.CutAt.{CutAt}
+use Rattle.tl_cert.specs.Traces.{IsTraceOf, zone_of}
+use Rattle.tl_cert.specs.Nogoods.{at_most, at_least, range_bounds, zone_bounds, nogood_bounds, NamesAreThere}
+use Rattle.tl_cert.proofs.TraceLaws.{zones-are}
+use Rattle.tl_cert.proofs.ZoneBounds.{lt_test, not_lt_test, given-Contains, Contains-given}
+use Rattle.tl_check.specs.inner.Matrices.{some_list}
+use Rattle.tl_check.specs.inner.Zones.{bounds_upto}
+
+-- ---- few spans
+
+flat_map-short : {X Y : Type 0} (f : X → List Y) (most : ℕ) → ((x : X) → length (f x) ≤ most) → (xs : List X) → length (flat_map f xs) ≤ length xs * most
+flat_map-short f most short [] = omega arith
+flat_map-short f most short (x ∷ xs) =
+    let product : suc (length xs) * most ≡ most + length xs * most = grind arith in
+    omega (arith, length-append (f x) (flat_map f xs), short x, flat_map-short f most short xs, product)
+
+filter-short : {X : Type 0} (p : X → Bool) (xs : List X) → length (filter p xs) ≤ length xs
+filter-short p xs = omega (arith, length-filter_both p (λ x. not (p x)) (λ x. refl) xs)
+
+pub spans-few : (problem : ProblemModel) → IsSound problem → length (spans_of problem) ≤ 3600
+unfolding spans_of
+spans-few problem sound =
+    let f : ℕ → List Span = λ left. map (span left) (range_with_len (left + 1) (problem.cols - left)) in
+    let all = flat_map-short f problem.cols (λ left. omega (arith, length-map-range_with_len (span left) (left + 1) (problem.cols - left)))
+    (range_with_len 0 problem.cols) in
+    let count = length-range_with_len 0 problem.cols in
+    let some = filter-short (λ columns. list_any (has_span columns) problem.cells) (all_spans problem.cols) in
+    let square : length (range_with_len 0 problem.cols) * problem.cols ≤ 3600 = grind (arith, sound.few_columns, count) in
+    omega (arith, some, all, square)
+
+-- ---- one span more
+
+range-next : (a n j : ℕ) → a + n ≡ j → range_with_len a (suc n) ≡ range_with_len a n ++ j ∷ []
+range-next a zero j e = let same : a ≡ j = omega arith in ap (λ k. k ∷ []) same
+range-next a (suc n) j e = ap (λ l. a ∷ l) (range-next (a + 1) n j (omega arith))
+
+pub upto-next : (problem : ProblemModel) (zone : List Range) (s : ℕ) → bounds_upto problem zone (s + 1)
+    ≡ bounds_upto problem zone s ++ range_bounds problem s (range_at zone s)
+upto-next problem zone s =
+    let f : ℕ → List Bound = λ t. range_bounds problem t (range_at zone t) in
+    let next : s + 1 ≡ suc s = omega arith in
+    let numbers = ap (range_with_len 0) next ∙ range-next 0 s s (omega arith) in
+    ap (flat_map f) numbers ∙ flat_map-append f (range_with_len 0 s) (s ∷ []) ∙ ap (λ l. flat_map f (range_with_len 0 s) ++ l) (append-nil (f s))
+
+-- by the bound from above and the one from below
+pub upto-bounds : (problem : ProblemModel) (zone : List Range) (s : ℕ) (r : Range) → r ≡ range_at zone s → (upper lower : Option Bound) →
+    some_list upper ≡ (if nat_lt (r.last + 1) (length (classes_at problem s)) then at_most s (last_in_class problem s r.last) ∷ [] else []) →
+    some_list lower ≡ (if nat_lt 0 r.first then at_least s (first_in_class problem s r.first) ∷ [] else []) →
+    (bounds_upto problem zone s ++ some_list upper) ++ some_list lower ≡ bounds_upto problem zone (s + 1)
+upto-bounds problem zone s r is upper lower above below =
+    let both : some_list upper ++ some_list lower ≡ range_bounds problem s r = ap (λ l. l ++ some_list lower) above ∙ ap (λ l.
+    (if nat_lt (r.last + 1) (length (classes_at problem s)) then at_most s (last_in_class problem s r.last) ∷ [] else []) ++ l) below in
+    append_assoc (bounds_upto problem zone s) (some_list upper) (some_list lower)
+    ∙ ap (λ l. bounds_upto problem zone s ++ l) (both ∙ ap (range_bounds problem s) is) ∙ sym (upto-next problem zone s)
+
+-- ---- no bounds
+
+module _ (problem : ProblemModel) (zone : List Range) (is : IsZone problem zone) where
+  none-in : zone_bounds problem zone ≡ [] → (s : ℕ) → s < length zone → (bound : Bound) → Contains (range_bounds problem s (range_at zone s)) bound → ⊥
+  none-in none s within bound has =
+      let there = Contains-flat_map (λ t. range_bounds problem t (range_at zone t)) (range_with_len 0 (length zone)) s bound
+      (Contains-range 0 (length zone) s (omega arith) (omega (arith, within))) has in
+      Contains-none bound (subst (λ bounds. Contains bounds bound) none there)
+
+  -- where a zone has no bounds each span has all its classes
+  pub bare-first : zone_bounds problem zone ≡ [] → (s : ℕ) → s < length zone → (range_at zone s).first ≡ 0
+  bare-first none s within =
+      let r = range_at zone s in
+      let upper = if nat_lt (r.last + 1) (length (classes_at problem s)) then at_most s (last_in_class problem s r.last) ∷ [] else [] in
+      let least = at_least s (first_in_class problem s r.first) in
+      elim (cases_lt 0 r.first) [
+        | inr same ↦ omega (arith, same)
+        | inl some ↦ absurd (none-in none s within least (Contains-append_right upper (if nat_lt 0 r.first then least ∷ [] else []) least
+            (given-Contains (nat_lt 0 r.first) least (lt_test 0 r.first some))))
+      ]
+
+  pub bare-last : zone_bounds problem zone ≡ [] → (s : ℕ) → s < length zone → (range_at zone s).last + 1 ≡ length (classes_at problem s)
+  bare-last none s within =
+      let r = range_at zone s in
+      let most = at_most s (last_in_class problem s r.last) in
+      let lower = if nat_lt 0 r.first then at_least s (first_in_class problem s r.first) ∷ [] else [] in
+      elim (cases_lt (r.last + 1) (length (classes_at problem s))) [
+        | inr past ↦ omega (arith, past, (is.ranges s within).1)
+        | inl some ↦ absurd (none-in none s within most (Contains-append_left (if nat_lt (r.last + 1) (length (classes_at problem s)) then most ∷ [] else [])
+            lower most (given-Contains (nat_lt (r.last + 1) (length (classes_at problem s))) most (lt_test (r.last + 1) (length (classes_at problem s)) some))))
+      ]
+
+-- and the bounds of a span with all its classes are none
+pub bare-next : (problem : ProblemModel) (zone : List Range) (s : ℕ) → bounds_upto problem zone s ≡ [] → (range_at zone s).first ≡ 0 →
+    (range_at zone s).last + 1 ≡ length (classes_at problem s) → bounds_upto problem zone (s + 1) ≡ []
+bare-next problem zone s before first last =
+    let r = range_at zone s in
+    let upper : (if nat_lt (r.last + 1) (length (classes_at problem s)) then at_most s (last_in_class problem s r.last) ∷ [] else []) ≡ [] =
+    none_if (nat_lt (r.last + 1) (length (classes_at problem s))) (at_most s (last_in_class problem s r.last))
+    (not_lt_test (r.last + 1) (length (classes_at problem s)) (omega (arith, last))) in
+    let lower : (if nat_lt 0 r.first then at_least s (first_in_class problem s r.first) ∷ [] else []) ≡ [] =
+    none_if (nat_lt 0 r.first) (at_least s (first_in_class problem s r.first)) (not_lt_test 0 r.first (omega (arith, first))) in
+    sym (upto-bounds problem zone s r refl None None (sym upper) (sym lower)) ∙ append-nil (bounds_upto problem zone s ++ [])
+    ∙ append-nil (bounds_upto problem zone s) ∙ before
+  where
+    none_if : (b : Bool) (x : Bound) → b ≡ false → (if b then x ∷ [] else []) ≡ []
+    none_if true x is = absurd cc
+    none_if false x is = refl
+
+-- ---- the bounds of a nogood are on spans that are there
+
+range_bounds-span : (problem : ProblemModel) (s : ℕ) (r : Range) (bound : Bound) → Contains (range_bounds problem s r) bound → bound.span ≡ s
+range_bounds-span problem s r bound has =
+    let upper = nat_lt (r.last + 1) (length (classes_at problem s)) in
+    let lower = nat_lt 0 r.first in
+    elim (Contains-append_cases (if upper then at_most s (last_in_class problem s r.last) ∷ [] else [])
+    (if lower then at_least s (first_in_class problem s r.first) ∷ [] else []) bound has) [
+      | inl most ↦ sym (ap (λ (b : Bound). b.span) (Contains-given upper (at_most s (last_in_class problem s r.last)) bound most))
+      | inr least ↦ sym (ap (λ (b : Bound). b.span) (Contains-given lower (at_least s (first_in_class problem s r.first)) bound least))
+    ]
+
+pub nogood-span : (problem : ProblemModel) → IsSound problem → (trace : List CutAt) → IsTraceOf problem trace → (nogood : Nogood) →
+    NamesAreThere problem trace nogood → (bound : Bound) → Contains (nogood_bounds problem trace nogood) bound → bound.span < length (spans_of problem)
+nogood-span problem sound trace is (Zone z) names bound has =
+    let zone = zone_of problem trace z in
+    let found = flat_map-Contains (λ s. range_bounds problem s (range_at zone s)) (range_with_len 0 (length zone)) bound has in
+    let number = range-Contains 0 (length zone) found.0 found.1 in
+    let span = range_bounds-span problem found.0 (range_at zone found.0) bound found.2 in
+    omega (arith, number.1, span, (zones-are problem sound trace is z names).spans)
+nogood-span problem sound trace is (Bounds bounds) names bound has = All-contains (λ b. b.span < length (spans_of problem)) bounds bound names has

@@ -1,0 +1,59 @@
+-- The distance of the edges of the span decides, by the side of the bound.
+use Rattle.std.proofs.Common.{◌≡◌, ◌≢◌, ℕ, ◌+◌, ◌-◌, ◌*◌, ◌<◌, ◌≤◌, ℤ, pos, neg_ℤ, ◌+ℤ◌, ◌-ℤ◌, ◌≤ℤ◌, Bool, true, false, List}
+use Rattle.std.proofs.Common.{[], ◌∷◌, ◌++◌, inl, inr, length, get_or, take, map, Option, Some, None, refl, sym, ap, ◌∙◌, subst, arith}
+use Rattle.std.specs.Int.{w32}
+use mir.Val.{to_z, of_z}
+use Rattle.std.proofs.lemmas.Int.{ints}
+use Rattle.tl_base.specs.Style.{gap_of}
+use Rattle.tl_problem.specs.Works.{places}
+use Rattle.tl_problem.proofs.ConstraintLemmas.{gap-few}
+use Rattle.tl_problem.proofs.ZoneLaws.{span-within}
+use Rattle.tl_check.proofs.Sides.{decided-most, decided-least}
+use Rattle.tl_check.proofs.bounds.is_implied.Goals as goal
+
+pub returns-then-not-holds : goal.returns-then-not-holds
+returns-then-not-holds c = (
+  λ yes widths left. let some = c.holds.ensures.1 (places c.args.problem.now widths, left.satisfies) in absurd cc,
+  λ all. refl,
+)
+
+pub is_near-requires-clause-begins : goal.is_near-requires-clause-begins
+is_near-requires-clause-begins c =
+    let span = span-within c.args.problem.now c.requires.keeps.sound c.args.bound.span c.requires.span in
+    rw c.span_of-span.ensures (omega (arith, span.0, span.1, c.requires.keeps.page.variables))
+
+pub is_near-requires-clause-ends : goal.is_near-requires-clause-ends
+is_near-requires-clause-ends c =
+    let span = span-within c.args.problem.now c.requires.keeps.sound c.args.bound.span c.requires.span in
+    rw c.span_of-span.ensures (omega (arith, span.0, span.1, c.requires.keeps.page.variables))
+
+pub is_near-requires-in-Least-clause-begins : goal.is_near-requires-in-Least-clause-begins
+is_near-requires-in-Least-clause-begins c =
+    let span = span-within c.args.problem.now c.requires.keeps.sound c.args.bound.span c.requires.span in
+    rw c.span_of-span.ensures (omega (arith, span.0, span.1, c.requires.keeps.page.variables))
+
+pub is_near-requires-in-Least-clause-ends : goal.is_near-requires-in-Least-clause-ends
+is_near-requires-in-Least-clause-ends c =
+    let span = span-within c.args.problem.now c.requires.keeps.sound c.args.bound.span c.requires.span in
+    rw c.span_of-span.ensures (omega (arith, span.0, span.1, c.requires.keeps.page.variables))
+
+pub returns-in-Most : goal.returns-in-Most
+returns-in-Most c =
+    let p = c.args.problem.now in
+    let cut = c.width_of.result in
+    let gap : c.gap.result ≡ gap_of p.style = c.gap.ensures ∙ ap gap_of c.style.ensures in
+    let m : to_z w32 (cut + c.gap.result) ≡ pos (cut + gap_of p.style) = omega (arith, ints, gap, c.width_of.ensures.small, gap-few p.style) in
+    decided-most p c.args.bound c.requires.span cut c.width_of.ensures.same c.width_of.ensures.past c.args.matrix.now.bounds c.requires.keeps c.in-Most.is
+    (to_z w32 (cut + c.gap.result)) m c.is_near.result (rw c.span_of-span.ensures at c.is_near.ensures)
+
+pub returns-in-Least : goal.returns-in-Least
+returns-in-Least c =
+    let p = c.args.problem.now in
+    let cut = c.width_of.result in
+    let gap : c.gap.result ≡ gap_of p.style = c.gap.ensures ∙ ap gap_of c.style.ensures in
+    let m : to_z w32 (cut + c.gap.result) ≡ pos (cut + gap_of p.style) = omega (arith, ints, gap, c.width_of.ensures.small, gap-few p.style) in
+    let n : to_z w32 (of_z w32 (pos 0 -ℤ to_z w32 (cut + c.gap.result))) ≡ neg_ℤ (to_z w32 (cut + c.gap.result)) =
+    omega (arith, ints, m, gap, c.width_of.ensures.small, gap-few p.style) in
+    decided-least p c.args.bound c.requires.span cut c.width_of.ensures.same c.width_of.ensures.past c.args.matrix.now.bounds c.requires.keeps c.in-Least.is
+    (to_z w32 (cut + c.gap.result)) (to_z w32 (of_z w32 (pos 0 -ℤ to_z w32 (cut + c.gap.result)))) m n c.is_near-in-Least.result
+    (rw c.span_of-span.ensures at c.is_near-in-Least.ensures)

@@ -1,0 +1,33 @@
+-- The line by its number.
+use Rattle.std.proofs.Common.{◌≡◌, ◌≢◌, ℕ, ◌+◌, ◌-◌, ◌*◌, ◌<◌, ◌≤◌, Bool, true, false, List, [], ◌∷◌, ◌++◌}
+use Rattle.std.proofs.Common.{inl, inr, length, get_or, take, map, Option, Some, None, refl, sym, ap, ◌∙◌, subst, arith}
+use Rattle.std.proofs.lemmas.List.{get_or_default}
+use Rattle.tl_diff.specs.Marks.{MarkedBounds}
+use Rattle.tl_cert.specs.Lines.{IsGoodLine}
+use Rattle.tl_check.proofs.checker.Checker.line.Goals as goal
+
+pub is_good_line-requires-clause-mark : goal.is_good_line-requires-clause-mark
+is_good_line-requires-clause-mark c = omega (arith, ap length c.requires.reserved.none_held, c.requires.reserved.marks)
+
+pub returns-clause-good : goal.returns-clause-good
+returns-clause-good c =
+    let trace = c.args.trace.now in
+    let log = c.args.log.now in
+    let item = c.index-lines-number.result in
+    let is = rw c.as_slice-lines.ensures at c.index-lines-number.is in
+    let good = rw (c.as_slice.ensures, c.as_slice-lines.ensures) at c.is_good_line.ensures.good in (
+      λ yes d. subst (IsGoodLine c.args.problem.now trace log c.args.lower c.args.k) (is ∙ get_or_default log c.args.k item d c.requires.number) (good.0 yes),
+      λ all. good.1 (subst (IsGoodLine c.args.problem.now trace log c.args.lower c.args.k) (sym is) (all item)),
+    )
+
+pub returns-clause-stays : goal.returns-clause-stays
+returns-clause-stays c = λ cuts is.
+    let same = c.is_good_line.ensures.matrix in
+    record {
+      few = is.few;
+      page = c.is_good_line.ensures.page;
+      none_held = ap (λ (m : MarkedBounds). m.held) same ∙ is.none_held;
+      marks = subst (λ (m : MarkedBounds). 1 ≤ m.marks) (sym same) is.marks;
+      opening = is.opening;
+      flags = is.flags;
+    }

@@ -1,0 +1,17 @@
+-- One bound more.
+use Rattle.std.proofs.Common.{◌≡◌, ◌≢◌, ℕ, ◌+◌, ◌-◌, ◌*◌, ◌<◌, ◌≤◌, ℤ, pos, neg_ℤ, ◌+ℤ◌, ◌-ℤ◌, ◌≤ℤ◌, Bool, true, false, List}
+use Rattle.std.proofs.Common.{[], ◌∷◌, ◌++◌, inl, inr, length, get_or, take, map, Option, Some, None, refl, sym, ap, ◌∙◌, subst, arith}
+use Rattle.std.proofs.lemmas.List.{take_more}
+use Rattle.tl_problem.specs.Works.{IsLeft}
+use Rattle.tl_cert.specs.declared.log.Bound.{Bound}
+use Rattle.tl_cert.specs.declared.log.Side.TheVariants.{Most}
+use Rattle.tl_check.specs.inner.Firing.{HasLeft}
+use Rattle.tl_check.proofs.left.left_of_bounds.Goals as goal
+
+pub bounds-preserved : goal.bounds-preserved
+bounds-preserved c =
+    let bounds = c.args.bounds.now in
+    let i = c.bounds.bound-index in
+    let more = take_more bounds i (record { span = 0; side = Most; width = 0 }) c.bounds-test.true in
+    subst (λ (l : List Bound). HasLeft c.args.problem.now (IsLeft c.args.problem.now c.args.matrix.now.bounds) l c.left_with-left.result) (sym more)
+    (c.left_with-left.ensures (take i bounds) c.bounds.invariant)

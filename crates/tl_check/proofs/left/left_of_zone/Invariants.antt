@@ -1,0 +1,9 @@
+use Rattle.tl_problem.specs.Works.{IsLeft}
+use Rattle.tl_cert.specs.Traces.{zone_of}
+use Rattle.tl_check.specs.inner.Firing.{HasLeft}
+use Rattle.tl_check.specs.inner.Zones.{bounds_upto}
+use Rattle.tl_check.proofs.left.left_of_zone.Given as goal
+
+abbrev pub invariant-loop-s : goal.invariant-loop-s
+invariant-loop-s l =
+    HasLeft l.problem (IsLeft l.problem l.matrix.bounds) (bounds_upto l.problem (zone_of l.problem l.trace l.z) l.s) l.left

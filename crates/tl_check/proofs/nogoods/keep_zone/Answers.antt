@@ -1,0 +1,52 @@
+-- Span by span.
+use Rattle.std.proofs.Common.{◌≡◌, ◌≢◌, ℕ, ◌+◌, ◌-◌, ◌*◌, ◌<◌, ◌≤◌, ℤ, pos, neg_ℤ, ◌+ℤ◌, ◌-ℤ◌, ◌≤ℤ◌, Bool, true, false, List}
+use Rattle.std.proofs.Common.{[], ◌∷◌, ◌++◌, inl, inr, length, get_or, take, map, Option, Some, None, refl, sym, ap, ◌∙◌, subst, arith}
+use Rattle.tl_problem.specs.Spans.{spans_of}
+use Rattle.tl_problem.proofs.ZoneLaws.{whole-is_zone}
+use Rattle.tl_cert.specs.Traces.{zone_of}
+use Rattle.tl_cert.proofs.TraceLaws.{zones-are}
+use Rattle.tl_check.specs.inner.Zones.{bounds_upto}
+use Rattle.tl_check.proofs.ZoneWalks.{range-small}
+use Rattle.tl_check.proofs.Spans.{upto-bounds}
+use Rattle.tl_cert.specs.declared.log.Bound.{Bound}
+use Rattle.tl_check.specs.inner.Matrices.{Describes}
+use Rattle.tl_check.proofs.nogoods.keep_zone.Goals as goal
+
+pub upper_bound-requires-clause-last : goal.upper_bound-requires-clause-last
+upper_bound-requires-clause-last c =
+    let p = c.args.problem.now in
+    let inside : c.loop-s.s < length (spans_of p) = omega (arith, c.loop-s-test.true, c.span_count-count.ensures) in
+    let small = range-small p c.requires.page.keeps.sound c.args.trace.now c.requires.trace c.loop-s.s inside c.args.z c.requires.zone
+    c.zone_range-range.result c.zone_range-range.ensures in
+    small.1
+
+pub lower_bound-requires-clause-first : goal.lower_bound-requires-clause-first
+lower_bound-requires-clause-first c =
+    let p = c.args.problem.now in
+    let inside : c.loop-s.s < length (spans_of p) = omega (arith, c.loop-s-test.true, c.span_count-count.ensures) in
+    let small = range-small p c.requires.page.keeps.sound c.args.trace.now c.requires.trace c.loop-s.s inside c.args.z c.requires.zone
+    c.zone_range-range.result c.zone_range-range.ensures in
+    small.0
+
+pub loop-s-preserved : goal.loop-s-preserved
+loop-s-preserved c =
+    let p = c.args.problem.now in
+    let zone = zone_of p c.args.trace.now c.args.z in
+    let next = upto-bounds p zone c.loop-s.s c.zone_range-range.result c.zone_range-range.ensures c.upper_bound.result c.lower_bound.result
+    c.upper_bound.ensures.bound c.lower_bound.ensures.bound in
+    record {
+      describes = subst (λ (l : List Bound). Describes p l [] c.keep_some-in-loop-s.new.matrix.bounds) next
+          (c.keep_some-in-loop-s.ensures.describes _ (c.keep_some.ensures.describes _ c.loop-s.invariant.describes));
+      marks = record {
+        marks = c.keep_some-in-loop-s.ensures.marks.marks ∙ c.keep_some.ensures.marks.marks ∙ c.loop-s.invariant.marks.marks;
+        held = c.keep_some-in-loop-s.ensures.marks.held ∙ c.keep_some.ensures.marks.held ∙ c.loop-s.invariant.marks.held;
+      };
+    }
+
+pub returns-clause-describes : goal.returns-clause-describes
+returns-clause-describes c =
+    let p = c.args.problem.now in
+    let zone = zone_of p c.args.trace.now c.args.z in
+    let is = zones-are p c.requires.page.keeps.sound c.args.trace.now c.requires.trace c.args.z c.requires.zone in
+    let all : c.loop-s.s ≡ length zone = omega (arith, c.loop-s-test.false, c.loop-s.auto.s-end, c.span_count-count.ensures, is.spans) in
+    subst (λ n. Describes p (bounds_upto p zone n) [] c.loop-s.matrix.bounds) all c.loop-s.invariant.describes

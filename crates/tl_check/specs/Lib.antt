@@ -1,0 +1,3 @@
+pub mod Checkers
+pub mod Verdicts
+pub mod inner

@@ -1,0 +1,120 @@
+//! What is left of a nogood once the bounds that are implied are taken away.
+
+ghost use Rattle.std.specs.Prelude.{◌≡◌, ℕ, ◌<◌, List, [], ◌∷◌, ◌++◌, length, IsTrue, ◌↔◌};
+ghost use Rattle.std.specs.List.{All};
+ghost use Rattle.std.specs.Option.{ForSome};
+ghost use Rattle.tl_problem.specs.Spans.{spans_of};
+ghost use Rattle.tl_problem.specs.Works.{IsLeft};
+ghost use Rattle.tl_problem.specs.Zones.{range_at};
+ghost use Rattle.tl_cert.specs.Nogoods.{NamesAreThere, nogood_bounds, zone_bounds};
+ghost use Rattle.tl_cert.specs.Traces.{IsTraceOf, IsZoneOf, zone_of};
+ghost use Rattle.tl_cert.specs.declared.log.Bound.{Bound as B};
+ghost use Rattle.tl_check.specs.inner.Firing.{HasLeft};
+ghost use Rattle.tl_check.specs.inner.Matrices.{IsMatrixOf, some_list};
+
+use crate::bounds::is_implied;
+use crate::zones::{lower_bound, span_count, upper_bound, zone_range};
+use tl_cert::{Bound, CutAt, Nogood};
+use tl_diff::Matrix;
+use tl_problem::Problem;
+
+/// What is left of a nogood.
+#[derive(Clone, Copy)]
+pub enum Left {
+    /// All its bounds are implied.
+    Nothing,
+    /// All but this one are.
+    One(Bound),
+    /// Two bounds or more are not.
+    More,
+}
+
+/// What is left with one bound more.
+fn left_with(problem: &Problem, matrix: &Matrix, left: Left, bound: Bound) -> Left
+    requires span { bound.span < length (spans_of problem.now) }
+    requires keeps { IsMatrixOf problem.now matrix.now.bounds }
+    ensures { (nogood : List B) → HasLeft problem.now (IsLeft problem.now matrix.now.bounds) nogood left →
+        HasLeft problem.now (IsLeft problem.now matrix.now.bounds) (nogood ++ bound ∷ []) result }
+{
+    if is_implied(problem, matrix, bound) {
+        return left;
+    }
+    match left {
+        Left::Nothing => Left::One(bound),
+        Left::One(other) if is_same(other, bound) => left,
+        Left::One(_) => Left::More,
+        Left::More => Left::More,
+    }
+}
+
+/// Whether nothing is left.
+pub fn is_nothing(left: Left) -> bool
+    ensures { IsTrue result ↔ (left ≡ Left.Nothing) }
+{
+    matches!(left, Left::Nothing)
+}
+
+/// Whether the bounds are one.
+fn is_same(one: Bound, other: Bound) -> bool
+    ensures { IsTrue result ↔ (one ≡ other) }
+{
+    one == other
+}
+
+/// What is left with one bound more, where there is one.
+fn left_with_some(problem: &Problem, matrix: &Matrix, left: Left, bound: Option<Bound>) -> Left
+    requires span { ForSome bound (λ bound. bound.span < length (spans_of problem.now)) }
+    requires keeps { IsMatrixOf problem.now matrix.now.bounds }
+    ensures { (nogood : List B) → HasLeft problem.now (IsLeft problem.now matrix.now.bounds) nogood left →
+        HasLeft problem.now (IsLeft problem.now matrix.now.bounds) (nogood ++ some_list bound) result }
+{
+    match bound {
+        Some(bound) => left_with(problem, matrix, left, bound),
+        None => left,
+    }
+}
+
+/// What is left of the bounds.
+fn left_of_bounds(problem: &Problem, matrix: &Matrix, bounds: &[Bound]) -> Left
+    requires spans { All (λ bound. bound.span < length (spans_of problem.now)) bounds.now }
+    requires keeps { IsMatrixOf problem.now matrix.now.bounds }
+    ensures { HasLeft problem.now (IsLeft problem.now matrix.now.bounds) bounds.now result }
+{
+    let mut left = Left::Nothing;
+    'bounds: for bound in bounds {
+        left = left_with(problem, matrix, left, *bound);
+    }
+    left
+}
+
+/// What is left of the bounds of a zone.
+fn left_of_zone(problem: &Problem, trace: &[CutAt], z: u32, matrix: &Matrix) -> Left
+    requires trace { IsTraceOf problem.now trace.now }
+    requires zone { IsZoneOf trace.now z }
+    requires keeps { IsMatrixOf problem.now matrix.now.bounds }
+    ensures { HasLeft problem.now (IsLeft problem.now matrix.now.bounds)
+        (zone_bounds problem.now (zone_of problem.now trace.now z)) result }
+{
+    let mut left = Left::Nothing;
+    let count = span_count(problem);
+    for s in 0..count {
+        let range = zone_range(problem, trace, z, s);
+        left = left_with_some(problem, matrix, left, upper_bound(problem, s, range));
+        left = left_with_some(problem, matrix, left, lower_bound(problem, s, range));
+    }
+    left
+}
+
+/// What is left of the nogood in all that the matrix leaves.
+pub fn left_of(problem: &Problem, trace: &[CutAt], nogood: &Nogood, matrix: &Matrix) -> Left
+    requires trace { IsTraceOf problem.now trace.now }
+    requires names { NamesAreThere problem.now trace.now nogood.now }
+    requires keeps { IsMatrixOf problem.now matrix.now.bounds }
+    ensures { HasLeft problem.now (IsLeft problem.now matrix.now.bounds)
+        (nogood_bounds problem.now trace.now nogood.now) result }
+{
+    match nogood {
+        Nogood::Zone(zone) => left_of_zone(problem, trace, *zone, matrix),
+        Nogood::Bounds(bounds) => left_of_bounds(problem, matrix, bounds.as_slice()),
+    }
+}

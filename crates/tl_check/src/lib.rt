@@ -1,0 +1,17 @@
+//! Checks the lines that prove a lower bound: traces of cuts, lines of logs, and whether a search was
+//! worked to its end. Whoever has a certificate trusts no search: none stands below this crate. Its one
+//! contract: each call says yes exactly where the definitions of certificates do, and once a checker is
+//! reserved no call takes memory.
+#![tactic(auto)]
+
+mod bounds;
+mod checker;
+mod firing;
+mod left;
+mod line;
+mod nogoods;
+mod traces;
+mod worked;
+mod zones;
+
+pub use checker::Checker;
