@@ -1,5 +1,5 @@
 -- How many lines a page has.
-use Rattle.std.proofs.Common.{◌≡◌, ℕ, zero, suc, ◌+◌, ◌*◌, List, [], ◌∷◌, ◌++◌, length, sum, refl, ◌∙◌, ap, arith}
+use Rattle.std.proofs.Common.{◌≡◌, ℕ, zero, suc, ◌+◌, ◌*◌, List, [], ◌∷◌, ◌++◌, length, map, sum, refl, ◌∙◌, ap, arith}
 use Rattle.std.specs.List.{flat_map}
 use Rattle.std.proofs.lemmas.List.{length-append}
 use Rattle.std.proofs.lemmas.List.FromFn.{length-map-range_with_len}
@@ -7,12 +7,12 @@ use Rattle.std.proofs.lemmas.List.Sums.{sum_by-cons}
 use Rattle.tl_base.specs.declared.style.Style.{Style}
 use Rattle.tl_base.specs.Style.{row_gap_of, edge_of}
 use Rattle.tl_problem.specs.Sizes.{total}
-use Rattle.tl_form.specs.declared.cell.Table.{Table}
+use Rattle.tl_form.specs.declared.cell.Table.{Table, out-Table}
 use Rattle.tl_form.specs.declared.layout.Layout.{Layout, out-Layout}
 use Rattle.tl_form.specs.Layouts.{total_height}
 use Rattle.tl_page.specs.declared.strip.Strip.{Strip}
-use Rattle.tl_page.specs.Pages.{IsPage}
-use Rattle.tl_page.specs.Pictures.{Picture, line_of, strip_lines, lines_of}
+use Rattle.tl_page.specs.Pages.{IsPage, grid_of}
+use Rattle.tl_page.specs.Pictures.{Picture, picture, line_of, strip_lines, lines_of}
 use Rattle.tl_page.specs.Strips.{following, strips_from, strips}
 
 -- a strip has as many lines as its size
@@ -61,4 +61,5 @@ pub as_high : (style : Style) (table : Table) (layout : Layout) (page : List (Li
     length page ≡ total_height style (out-Layout layout)
 as_high style table layout page (zero, shows) = absurd shows
 as_high style table layout page (suc depth, shows) =
-    ap length shows.drawn ∙ high _ (row_gap_of style) (edge_of style) (out-Layout layout).heights
+    ap length shows.drawn ∙ high (picture style (grid_of (out-Table table)) (out-Layout layout).widths (out-Layout layout).heights (map (λ content. content.lines) shows.contents))
+    (row_gap_of style) (edge_of style) (out-Layout layout).heights
