@@ -9,3 +9,4 @@ pub mod Fitting
 pub mod Progress
 pub mod Blocks
 pub mod PictureLemmas
+pub mod PageLaws

@@ -5,6 +5,7 @@
 
 mod cells;
 mod corner;
+mod laws;
 mod line;
 mod owner;
 mod owners;
@@ -13,5 +14,8 @@ mod paragraph;
 mod picture;
 mod strip;
 mod strips;
+#[cfg(test)]
+mod tests;
 
+pub use laws::{pages_are_as_high, paragraphs_are_whole};
 pub use pages::page;

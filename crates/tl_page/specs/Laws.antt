@@ -1,0 +1,20 @@
+-- What follows of every page.
+use Rattle.std.specs.Prelude.{◌≡◌, ℕ, List, length, map}
+use Rattle.tl_base.specs.declared.style.Style.{Style}
+use Rattle.tl_text.specs.declared.paragraph.Atom.{Atom}
+use Rattle.tl_text.specs.Cuttings.{joined, IsCutting}
+use Rattle.tl_form.specs.declared.cell.Table.{Table}
+use Rattle.tl_form.specs.declared.layout.Layout.{Layout, out-Layout}
+use Rattle.tl_form.specs.Layouts.{total_height}
+use Rattle.tl_page.specs.declared.line.Line.{Line}
+use Rattle.tl_page.specs.Pages.{AreParagraphLines, IsPage, line_from}
+
+-- a page has as many lines as its layout is high
+abbrev pub PagesAreAsHigh : Type 0
+PagesAreAsHigh = (style : Style) (table : Table) (layout : Layout) (page : List (List ℕ)) → IsPage style table layout page →
+    length page ≡ total_height style (out-Layout layout)
+
+-- the lines of a paragraph have all its units, whole and in order
+abbrev pub ParagraphsAreWhole : Type 0
+ParagraphsAreWhole = (w : ℕ) (paragraph : List Atom) (lines : List Line) → AreParagraphLines w paragraph lines →
+    (cut : List (List (List Atom))) × IsCutting paragraph cut × (lines ≡ map line_from (joined cut))
