@@ -1,9 +1,9 @@
 -- What a line leads to, and what decides its end.
-use Rattle.std.proofs.Common.{◌≡◌, ◌≢◌, ℕ, zero, suc, ◌+◌, ◌-◌, ◌<◌, ◌≤◌, Bool, true, false, not, List, [], ◌∷◌}
-use Rattle.std.proofs.Common.{◌++◌, inl, inr, length, get_or, take, drop, map, Option, Some, None, refl, sym, ap, ◌∙◌, subst, arith}
+use Rattle.std.proofs.Common.{◌≡◌, ℕ, zero, suc, ◌+◌, ◌-◌, ◌<◌, ◌≤◌, Bool, true, false, not, List, [], ◌∷◌}
+use Rattle.std.proofs.Common.{◌++◌, length, get_or, take, drop, map, Option, Some, None, refl, sym, ap, ◌∙◌, subst, arith}
 use Rattle.std.specs.Prelude.{MatchOption, IsSomeAnd, IsTrue, ◌↔◌}
 use Rattle.std.specs.List.{All, last_or}
-use Rattle.std.proofs.lemmas.List.{take_more, take_all, get_or_default}
+use Rattle.std.proofs.lemmas.List.{take_more, get_or_default}
 use Rattle.std.proofs.lemmas.List.{map_push}
 use Rattle.tl_diff.specs.Bounds.{Bounds, IsSatisfiable}
 use Rattle.tl_problem.specs.Problem.{ProblemModel}
@@ -26,7 +26,7 @@ use Rattle.tl_cert.specs.Nogoods.{NamesAreThere, nogood_bounds}
 use Rattle.tl_cert.specs.Implied.{IsLeft, Implied}
 use Rattle.tl_cert.specs.Lines.{Fires, EndsBy, IsGoodLine, fired, nogood_at}
 use Rattle.tl_cert.proofs.FireLaws.{fires-unique, fires-split}
-use Rattle.tl_check.specs.inner.Matrices.{IsMatrixOf, Describes}
+use Rattle.tl_check.specs.inner.Matrices.{IsMatrixOf}
 use Rattle.std.proofs.lemmas.List.Elements.{All-contains}
 use Rattle.tl_check.specs.declared.left.Left.{Left}
 use Rattle.tl_check.specs.declared.left.Left.TheVariants.{Nothing, One, More}

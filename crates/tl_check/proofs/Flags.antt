@@ -1,19 +1,12 @@
 -- A trace with one cut more, and the flags of its zones.
 use Rattle.std.proofs.Common.{◌≡◌, ◌≢◌, ℕ, ◌+◌, ◌*◌, ◌<◌, ◌≤◌, Bool, true, false, List, [], ◌∷◌}
-use Rattle.std.proofs.Common.{◌++◌, inl, inr, length, get_or, set, take, refl, sym, ap, ◌∙◌, subst, arith, length-append}
+use Rattle.std.proofs.Common.{◌++◌, inl, inr, length, get_or, set, take, sym, ap, ◌∙◌, subst, arith, length-append}
 use Rattle.std.specs.List.{All}
 use Rattle.std.proofs.lemmas.Bool.{cases_lt}
 use Rattle.std.proofs.lemmas.List.{get_or_append_left, get_or-append-add, get_or-set_same, get_or-set_other, length-set, take-append-le, take_all}
 use Rattle.std.proofs.lemmas.List.Elements.{All-push}
 use Rattle.tl_problem.specs.declared.zone.Range.{Range}
-use Rattle.tl_problem.specs.declared.cell.Cell.{Cell}
-use Rattle.tl_problem.specs.Problem.{ProblemModel}
-use Rattle.tl_problem.specs.Spans.{spans_of}
-use Rattle.tl_problem.specs.Zones.{range, range_at}
 use Rattle.tl_problem.proofs.ZoneLaws.{cases_eq}
-use Rattle.tl_cert.specs.declared.log.Bound.{Bound}
-use Rattle.tl_cert.specs.declared.log.Nogood.{Nogood}
-use Rattle.tl_cert.specs.declared.log.Nogood.TheVariants.{Zone, Bounds}
 use Rattle.tl_cert.specs.declared.trace.CutAt.{CutAt}
 use Rattle.tl_cert.specs.Traces.{IsTrace, IsCut}
 use Rattle.tl_check.specs.inner.Traces.{AreFlags}

@@ -1,11 +1,11 @@
 -- What constraints leave, as one more joins them.
-use Rattle.std.proofs.Common.{◌≡◌, ℕ, ◌+◌, ◌<◌, ℤ, pos, neg_ℤ, ◌+ℤ◌, ◌-ℤ◌, ◌≤ℤ◌, List, [], ◌∷◌, ◌++◌, length, refl, sym, ap, ◌∙◌, subst, arith, length-append}
+use Rattle.std.proofs.Common.{◌≡◌, ℕ, ◌+◌, ◌<◌, ℤ, pos, neg_ℤ, ◌≤ℤ◌, List, [], ◌∷◌, ◌++◌, length, refl, ap, subst, arith, length-append}
 use Rattle.std.specs.List.{All}
 use Rattle.std.proofs.lemmas.Int.{ints}
 use Rattle.std.proofs.lemmas.List.{get_or_append_left, get_or-append-add}
 use Rattle.std.proofs.lemmas.List.Elements.{All-push}
 use Rattle.tl_base.specs.Style.{gap_of}
-use Rattle.tl_diff.specs.Bounds.{Bounds, Satisfies, IsSatisfiable, AddsBound}
+use Rattle.tl_diff.specs.Bounds.{Bounds, IsSatisfiable, AddsBound}
 use Rattle.tl_diff.specs.Marks.{MarkedBounds}
 use Rattle.tl_problem.specs.Problem.{ProblemModel}
 use Rattle.tl_problem.specs.Spans.{spans_of}
@@ -17,8 +17,8 @@ use Rattle.tl_problem.proofs.ZoneLaws.{span-within}
 use Rattle.tl_problem.proofs.ConstraintLemmas.{KeepsPage-adds}
 use Rattle.tl_cert.specs.declared.log.Bound.{Bound}
 use Rattle.tl_cert.specs.Nogoods.{Meets, Breaks}
-use Rattle.tl_cert.specs.Implied.{IsLeft, Implied}
-use Rattle.tl_check.specs.inner.Matrices.{IsMatrixOf, Restricts, Describes, KeepsMarks}
+use Rattle.tl_cert.specs.Implied.{IsLeft}
+use Rattle.tl_check.specs.inner.Matrices.{IsMatrixOf, Restricts, Describes}
 
 -- what is so of all is so of the front, and of the last
 pub All-front : {X : Type 0} (P : X → Type 0) (xs : List X) (x : X) → All P (xs ++ x ∷ []) → All P xs

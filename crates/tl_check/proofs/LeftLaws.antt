@@ -1,16 +1,14 @@
 -- What is left of a nogood with one bound more, and what firing it does.
-use Rattle.std.proofs.Common.{◌≡◌, ◌≢◌, ℕ, List, [], ◌∷◌, ◌++◌, inl, inr, refl, sym, ap, ◌∙◌, subst, arith}
+use Rattle.std.proofs.Common.{◌≡◌, ◌≢◌, ℕ, List, [], ◌∷◌, ◌++◌, inl, inr, refl, sym, ◌∙◌, subst}
 use Rattle.std.specs.List.{All, Contains}
-use Rattle.std.proofs.lemmas.List.Elements.{All-push, Contains-append_left, Contains-append_right, Contains-append_cases, Contains-get_or, All-contains}
-use Rattle.tl_base.proofs.Members.{Contains-first, Contains-cases, Contains-none, All-from_Contains}
-use Rattle.tl_diff.specs.Bounds.{Bounds}
+use Rattle.std.proofs.lemmas.List.Elements.{All-push, Contains-append_left, Contains-append_right, Contains-append_cases, All-contains}
+use Rattle.tl_base.proofs.Members.{Contains-first, Contains-cases, Contains-none}
 use Rattle.tl_diff.specs.Marks.{MarkedBounds}
 use Rattle.tl_problem.specs.Problem.{ProblemModel}
 use Rattle.tl_problem.specs.Works as works
 use Rattle.tl_cert.specs.declared.log.Bound.{Bound}
 use Rattle.tl_cert.specs.Nogoods.{Breaks}
 use Rattle.tl_cert.specs.Implied.{IsLeft, Implied, OneLeft}
-use Rattle.tl_cert.specs.Lines.{Fires}
 use Rattle.tl_cert.proofs.FireLaws.{fires-append, fires-stuck}
 use Rattle.tl_check.specs.declared.left.Left.{Left}
 use Rattle.tl_check.specs.declared.left.Left.TheVariants.{Nothing, One, More}

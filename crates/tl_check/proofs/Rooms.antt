@@ -1,10 +1,10 @@
 -- Rooms of spans against the differences of places: what a bound says of a matrix.
-use Rattle.std.proofs.Common.{◌≡◌, ℕ, ◌+◌, ◌<◌, ◌≤◌, ℤ, pos, neg_ℤ, ◌+ℤ◌, ◌-ℤ◌, ◌≤ℤ◌, List, inl, inr, length, arith}
+use Rattle.std.proofs.Common.{◌≡◌, ℕ, ◌+◌, ◌<◌, ◌≤◌, ℤ, pos, neg_ℤ, ◌-ℤ◌, ◌≤ℤ◌, List, inl, inr, length, arith}
 use Rattle.std.proofs.lemmas.Int.{ints}
 use Rattle.std.proofs.lemmas.Bool.{cases_lt}
 use Rattle.tl_base.specs.Style.{gap_of}
 use Rattle.std.specs.Prelude.{Option, Some, None, MatchOption, IsSomeAnd}
-use Rattle.tl_diff.specs.Bounds.{Bounds, Satisfies, Implied, IsGreatest, HasNoGreatest}
+use Rattle.tl_diff.specs.Bounds.{Bounds, Implied, IsGreatest, HasNoGreatest}
 use Rattle.tl_diff.proofs.BoundLaws.{Implied-from, Implied-le, Implied-none}
 use Rattle.tl_problem.specs.Problem.{ProblemModel}
 use Rattle.tl_problem.specs.Spans.{spans_of}

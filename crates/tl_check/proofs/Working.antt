@@ -1,8 +1,7 @@
 -- When a trace was worked, zone by zone.
-use Rattle.std.proofs.Common.{◌≡◌, ◌≢◌, ℕ, zero, suc, ◌+◌, ◌*◌, ◌<◌, ◌≤◌, Bool, true, false, List, []}
-use Rattle.std.proofs.Common.{◌∷◌, inl, inr, ◌⊎◌, length, get_or, Option, Some, None, refl, sym, ap, ◌∙◌, subst, arith}
-use Rattle.std.specs.Prelude.{MatchOption, IsSomeAnd, IsTrue, ◌↔◌}
-use Rattle.std.specs.List.{All}
+use Rattle.std.proofs.Common.{◌≡◌, ◌≢◌, ℕ, ◌+◌, ◌*◌, ◌<◌, ◌≤◌, List, []}
+use Rattle.std.proofs.Common.{inl, inr, ◌⊎◌, length, get_or, Option, Some, None, sym, ap, ◌∙◌, subst, arith}
+use Rattle.std.specs.Prelude.{MatchOption, IsSomeAnd}
 use Rattle.std.proofs.lemmas.Bool.{cases_lt}
 use Rattle.std.proofs.lemmas.List.{get_or_default}
 use Rattle.std.proofs.lemmas.List.Elements.{All-nil}
@@ -22,16 +21,15 @@ use Rattle.tl_problem.specs.Zones.{IsZone, InZone, range_at, first_in_class, las
 use Rattle.tl_problem.proofs.TightLaws.{least-unique, placement-unique}
 use Rattle.tl_base.specs.Style.{gap_of}
 use Rattle.tl_problem.proofs.BoundLaws.{bound-unique}
-use Rattle.tl_problem.proofs.ZoneLaws.{cases_eq}
 use Rattle.tl_problem.proofs.ConstraintLemmas.{bound-same}
 use Rattle.tl_cert.specs.declared.trace.CutAt.{CutAt}
 use Rattle.tl_cert.specs.Nogoods.{Meets, Breaks, zone_bounds}
-use Rattle.tl_cert.specs.Traces.{Stands, IsZoneOf, zone_of}
+use Rattle.tl_cert.specs.Traces.{Stands, zone_of}
 use Rattle.tl_cert.specs.Worked.{IsBoundOf, IsClosed, IsWorkedBelow}
 use Rattle.tl_cert.specs.declared.log.LogLine.{LogLine}
 use Rattle.tl_check.specs.Verdicts.{IsGoodAt}
 use Rattle.tl_cert.proofs.ZoneBounds.{zone-meets, zone-from_meets}
-use Rattle.tl_check.specs.inner.Matrices.{IsMatrixOf, Describes}
+use Rattle.tl_check.specs.inner.Matrices.{Describes}
 use Rattle.tl_check.specs.inner.Traces.{CutsAreNeeded, IsEnough, AllClosed, SpanDiffers, HasOpening}
 
 -- a work of a page leaves what no bound restricts

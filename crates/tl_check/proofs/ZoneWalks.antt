@@ -2,13 +2,13 @@
 use Rattle.std.proofs.Common.{◌≡◌, ◌≢◌, ℕ, ◌+◌, ◌-◌, ◌*◌, ◌/◌, ◌%◌, ◌<◌, ◌≤◌, min, max, List}
 use Rattle.std.proofs.Common.{[], ◌∷◌, ◌++◌, inl, inr, length, get_or, refl, sym, ap, ◌∙◌, subst, arith, length-append}
 use Rattle.std.proofs.lemmas.Bool.{cases_lt}
-use Rattle.std.proofs.lemmas.List.{get_or_append_left, get_or-append-add, get_or-set_same, get_or-set_other, get_or_default}
+use Rattle.std.proofs.lemmas.List.{get_or_append_left, get_or-append-add, get_or-set_same, get_or-set_other}
 use Rattle.tl_problem.specs.declared.zone.Range.{Range}
 use Rattle.tl_problem.specs.Problem.{ProblemModel}
 use Rattle.tl_problem.specs.Sound.{IsSound}
 use Rattle.tl_problem.specs.Spans.{spans_of}
-use Rattle.tl_problem.specs.Zones.{classes_at, range, range_at, whole_zone, lower_part, upper_part, IsZone}
-use Rattle.tl_problem.proofs.ZoneLaws.{cases_eq, whole-range, whole-is_zone}
+use Rattle.tl_problem.specs.Zones.{classes_at, range, range_at, whole_zone, lower_part, upper_part}
+use Rattle.tl_problem.proofs.ZoneLaws.{cases_eq, whole-range}
 use Rattle.tl_cert.specs.declared.trace.CutAt.{CutAt}
 use Rattle.tl_cert.specs.Traces.{IsTrace, IsTraceOf, IsCut, IsZoneOf, zone_at, zone_of}
 use Rattle.tl_cert.proofs.TraceLaws.{zone-old, zone-lower, zone-upper, trace-by, zones-are}

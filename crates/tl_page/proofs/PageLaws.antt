@@ -12,8 +12,8 @@ use Rattle.tl_form.specs.declared.layout.Layout.{Layout, out-Layout}
 use Rattle.tl_form.specs.Layouts.{total_height}
 use Rattle.tl_page.specs.declared.strip.Strip.{Strip}
 use Rattle.tl_page.specs.Pages.{IsPage, grid_of}
-use Rattle.tl_page.specs.Pictures.{Picture, picture, line_of, strip_lines, lines_of}
-use Rattle.tl_page.specs.Strips.{following, strips_from, strips}
+use Rattle.tl_page.specs.Pictures.{Picture, picture, line_of, strip_lines}
+use Rattle.tl_page.specs.Strips.{strips_from, strips}
 
 -- a strip has as many lines as its size
 strip_high : (picture : Picture) (strip : Strip) → length (strip_lines picture strip) ≡ strip.size
@@ -61,5 +61,6 @@ pub as_high : (style : Style) (table : Table) (layout : Layout) (page : List (Li
     length page ≡ total_height style (out-Layout layout)
 as_high style table layout page (zero, shows) = absurd shows
 as_high style table layout page (suc depth, shows) =
-    ap length shows.drawn ∙ high (picture style (grid_of (out-Table table)) (out-Layout layout).widths (out-Layout layout).heights (map (λ content. content.lines) shows.contents))
+    ap length shows.drawn ∙ high (picture style (grid_of (out-Table table)) (out-Layout layout).widths (out-Layout layout).heights
+    (map (λ content. content.lines) shows.contents))
     (row_gap_of style) (edge_of style) (out-Layout layout).heights

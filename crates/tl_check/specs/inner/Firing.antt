@@ -1,5 +1,5 @@
 -- No public clause cites this file. What is left of a nogood once the implied bounds are taken away, and what firing does.
-use Rattle.std.specs.Prelude.{◌≢◌, ℕ, ◌++◌, ◌∷◌, List, []}
+use Rattle.std.specs.Prelude.{◌≢◌, ℕ, List, []}
 use Rattle.std.specs.List.{All, Contains}
 use Rattle.tl_diff.specs.Bounds.{Bounds}
 use Rattle.tl_problem.specs.Problem.{ProblemModel}

@@ -1,5 +1,5 @@
 -- No public clause cites this file. The bounds of a zone, span by span.
-use Rattle.std.specs.Prelude.{◌≡◌, ℕ, ◌≤◌, min, max, List}
+use Rattle.std.specs.Prelude.{◌≡◌, ℕ, min, max, List}
 use Rattle.std.specs.List.{flat_map, range_with_len}
 use Rattle.tl_problem.specs.declared.zone.Range.{Range}
 use Rattle.tl_problem.specs.Problem.{ProblemModel}

@@ -1,12 +1,10 @@
 -- One constraint more, or none where nothing is left.
-use Rattle.std.proofs.Common.{◌≡◌, ◌≢◌, ℕ, ◌+◌, ◌-◌, ◌*◌, ◌<◌, ◌≤◌, ℤ, pos, neg_ℤ, ◌+ℤ◌, ◌-ℤ◌, ◌≤ℤ◌, Bool, true, false, List}
-use Rattle.std.proofs.Common.{[], ◌∷◌, ◌++◌, inl, inr, length, get_or, take, map, Option, Some, None, refl, sym, ap, ◌∙◌, subst, arith}
+use Rattle.std.proofs.Common.{◌≡◌, pos, neg_ℤ, ◌-ℤ◌}
+use Rattle.std.proofs.Common.{arith}
 use Rattle.std.specs.Int.{w32}
 use mir.Val.{to_z, of_z}
 use Rattle.std.proofs.lemmas.Int.{ints}
 use Rattle.tl_problem.proofs.ZoneLaws.{span-within}
-use Rattle.tl_base.specs.Style.{gap_of}
-use Rattle.tl_problem.specs.Zones.{span_width}
 use Rattle.tl_check.proofs.Leaving.{Restricts-none, Restricts-least}
 use Rattle.tl_check.proofs.bounds.keep_at_least.Goals as goal
 

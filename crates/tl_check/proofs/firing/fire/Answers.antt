@@ -1,6 +1,4 @@
 -- By what is left of the nogood.
-use Rattle.std.proofs.Common.{◌≡◌, ◌≢◌, ℕ, ◌+◌, ◌-◌, ◌*◌, ◌<◌, ◌≤◌, ℤ, pos, neg_ℤ, ◌+ℤ◌, ◌-ℤ◌, ◌≤ℤ◌, Bool, true, false, List}
-use Rattle.std.proofs.Common.{[], ◌∷◌, ◌++◌, inl, inr, length, get_or, take, map, Option, Some, None, refl, sym, ap, ◌∙◌, subst, arith}
 use Rattle.tl_cert.specs.Nogoods.{nogood_bounds}
 use Rattle.tl_check.proofs.Spans.{nogood-span}
 use Rattle.tl_check.proofs.LeftLaws.{fires-nothing, fires-one, fires-never}

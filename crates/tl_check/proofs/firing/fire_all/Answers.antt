@@ -1,9 +1,8 @@
 -- Fire by fire.
-use Rattle.std.proofs.Common.{◌≡◌, ◌≢◌, ℕ, ◌+◌, ◌-◌, ◌*◌, ◌<◌, ◌≤◌, Bool, true, false, List, [], ◌∷◌, ◌++◌}
-use Rattle.std.proofs.Common.{inl, inr, length, get_or, take, map, Option, Some, None, refl, sym, ap, ◌∙◌, subst, arith}
+use Rattle.std.proofs.Common.{ℕ, ◌+◌, ◌<◌, List, []}
+use Rattle.std.proofs.Common.{length, take, map, ap, ◌∙◌, subst, arith}
 use Rattle.std.proofs.lemmas.List.{take_all}
 use Rattle.tl_cert.specs.declared.log.Bound.{Bound}
-use Rattle.tl_cert.specs.Lines.{nogood_at}
 use Rattle.tl_cert.specs.Nogoods.{nogood_bounds}
 use Rattle.tl_check.specs.inner.Firing.{LeadsTo, NeverFires}
 use Rattle.tl_check.proofs.Deciding.{bounds_at, fired-next, never-all}

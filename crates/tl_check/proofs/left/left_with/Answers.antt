@@ -1,6 +1,4 @@
 -- One bound more is implied, is the one that is left, or is left too.
-use Rattle.std.proofs.Common.{◌≡◌, ◌≢◌, ℕ, ◌+◌, ◌-◌, ◌*◌, ◌<◌, ◌≤◌, ℤ, pos, neg_ℤ, ◌+ℤ◌, ◌-ℤ◌, ◌≤ℤ◌, Bool, true, false, List}
-use Rattle.std.proofs.Common.{[], ◌∷◌, ◌++◌, inl, inr, length, get_or, take, map, Option, Some, None, refl, sym, ap, ◌∙◌, subst, arith}
 use Rattle.tl_problem.specs.Works.{IsLeft}
 use Rattle.tl_check.proofs.LeftLaws.{left-implied, left-first, left-again, left-second, left-more}
 use Rattle.tl_check.proofs.left.left_with.Goals as goal

@@ -1,6 +1,4 @@
 -- A bound more, where there is one.
-use Rattle.std.proofs.Common.{◌≡◌, ◌≢◌, ℕ, ◌+◌, ◌-◌, ◌*◌, ◌<◌, ◌≤◌, ℤ, pos, neg_ℤ, ◌+ℤ◌, ◌-ℤ◌, ◌≤ℤ◌, Bool, true, false, List}
-use Rattle.std.proofs.Common.{[], ◌∷◌, ◌++◌, inl, inr, length, get_or, take, map, Option, Some, None, refl, sym, ap, ◌∙◌, subst, arith}
 use Rattle.tl_check.proofs.left.left_with_some.Goals as goal
 
 pub returns-in-Some : goal.returns-in-Some

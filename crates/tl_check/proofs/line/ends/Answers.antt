@@ -1,6 +1,4 @@
 -- By the end.
-use Rattle.std.proofs.Common.{◌≡◌, ◌≢◌, ℕ, ◌+◌, ◌-◌, ◌*◌, ◌<◌, ◌≤◌, Bool, true, false, List, [], ◌∷◌, ◌++◌}
-use Rattle.std.proofs.Common.{inl, inr, length, get_or, take, map, Option, Some, None, refl, sym, ap, ◌∙◌, subst, arith}
 use Rattle.tl_problem.specs.Works.{IsLeft}
 use Rattle.tl_check.proofs.Deciding.{cycle-decided, area-decided}
 use Rattle.tl_check.proofs.line.ends.Goals as goal

@@ -1,6 +1,4 @@
 -- The names are there, and where the fires lead decides.
-use Rattle.std.proofs.Common.{◌≡◌, ◌≢◌, ℕ, ◌+◌, ◌-◌, ◌*◌, ◌<◌, ◌≤◌, Bool, true, false, List, [], ◌∷◌, ◌++◌}
-use Rattle.std.proofs.Common.{inl, inr, length, get_or, take, map, Option, Some, None, refl, sym, ap, ◌∙◌, subst, arith}
 use Rattle.tl_check.proofs.Deciding.{good-decided}
 use Rattle.tl_check.proofs.line.is_good_line.Goals as goal
 

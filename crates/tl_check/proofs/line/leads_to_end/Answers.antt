@@ -1,6 +1,4 @@
 -- Where the fires lead.
-use Rattle.std.proofs.Common.{◌≡◌, ◌≢◌, ℕ, ◌+◌, ◌-◌, ◌*◌, ◌<◌, ◌≤◌, Bool, true, false, List, [], ◌∷◌, ◌++◌}
-use Rattle.std.proofs.Common.{inl, inr, length, get_or, take, map, Option, Some, None, refl, sym, ap, ◌∙◌, subst, arith}
 use Rattle.tl_check.proofs.Deciding.{leads-decided}
 use Rattle.tl_check.proofs.line.leads_to_end.Goals as goal
 

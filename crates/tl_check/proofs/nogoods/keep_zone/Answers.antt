@@ -1,8 +1,7 @@
 -- Span by span.
-use Rattle.std.proofs.Common.{◌≡◌, ◌≢◌, ℕ, ◌+◌, ◌-◌, ◌*◌, ◌<◌, ◌≤◌, ℤ, pos, neg_ℤ, ◌+ℤ◌, ◌-ℤ◌, ◌≤ℤ◌, Bool, true, false, List}
-use Rattle.std.proofs.Common.{[], ◌∷◌, ◌++◌, inl, inr, length, get_or, take, map, Option, Some, None, refl, sym, ap, ◌∙◌, subst, arith}
+use Rattle.std.proofs.Common.{◌≡◌, ◌<◌, List}
+use Rattle.std.proofs.Common.{[], length, ◌∙◌, subst, arith}
 use Rattle.tl_problem.specs.Spans.{spans_of}
-use Rattle.tl_problem.proofs.ZoneLaws.{whole-is_zone}
 use Rattle.tl_cert.specs.Traces.{zone_of}
 use Rattle.tl_cert.proofs.TraceLaws.{zones-are}
 use Rattle.tl_check.specs.inner.Zones.{bounds_upto}

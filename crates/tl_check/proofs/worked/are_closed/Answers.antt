@@ -1,6 +1,5 @@
 -- Zone by zone.
-use Rattle.std.proofs.Common.{◌≡◌, ◌≢◌, ℕ, ◌+◌, ◌-◌, ◌*◌, ◌<◌, ◌≤◌, Bool, true, false, List, [], ◌∷◌, ◌++◌}
-use Rattle.std.proofs.Common.{inl, inr, length, get_or, take, map, Option, Some, None, refl, sym, ap, ◌∙◌, subst, arith}
+use Rattle.std.proofs.Common.{◌∙◌}
 use Rattle.tl_check.proofs.Working.{closed-next}
 use Rattle.tl_check.proofs.worked.are_closed.Goals as goal
 

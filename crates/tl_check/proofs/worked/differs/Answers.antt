@@ -1,6 +1,6 @@
 -- Span by span.
-use Rattle.std.proofs.Common.{◌≡◌, ◌≢◌, ℕ, ◌+◌, ◌-◌, ◌*◌, ◌<◌, ◌≤◌, Bool, true, false, List, [], ◌∷◌, ◌++◌}
-use Rattle.std.proofs.Common.{inl, inr, length, get_or, take, map, Option, Some, None, refl, sym, ap, ◌∙◌, subst, arith}
+use Rattle.std.proofs.Common.{◌<◌}
+use Rattle.std.proofs.Common.{length, refl, arith}
 use Rattle.tl_problem.specs.Spans.{spans_of}
 use Rattle.tl_cert.specs.Traces.{zone_of}
 use Rattle.tl_cert.proofs.TraceLaws.{zones-are}

@@ -1,6 +1,5 @@
 -- By what is left to close it.
-use Rattle.std.proofs.Common.{◌≡◌, ◌≢◌, ℕ, ◌+◌, ◌-◌, ◌*◌, ◌<◌, ◌≤◌, Bool, true, false, List, [], ◌∷◌, ◌++◌}
-use Rattle.std.proofs.Common.{inl, inr, length, get_or, take, map, Option, Some, None, refl, sym, ap, ◌∙◌, subst, arith}
+use Rattle.std.proofs.Common.{inr}
 use Rattle.tl_cert.specs.Traces.{zone_of}
 use Rattle.tl_check.proofs.Working.{closed-some}
 use Rattle.tl_check.proofs.worked.is_closed.Goals as goal

@@ -1,6 +1,5 @@
 -- Part by part.
-use Rattle.std.proofs.Common.{◌≡◌, ◌≢◌, ℕ, ◌+◌, ◌-◌, ◌*◌, ◌<◌, ◌≤◌, Bool, true, false, List, [], ◌∷◌, ◌++◌}
-use Rattle.std.proofs.Common.{inl, inr, length, get_or, take, map, Option, Some, None, refl, sym, ap, ◌∙◌, subst, arith}
+use Rattle.std.proofs.Common.{inl, inr, length, refl, sym, ap, ◌∙◌}
 use Rattle.tl_check.proofs.Working.{below-from, below-needed, below-enough, below-closed}
 use Rattle.tl_check.proofs.worked.is_worked.Goals as goal
 

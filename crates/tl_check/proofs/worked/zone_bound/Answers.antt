@@ -1,6 +1,4 @@
 -- What is left under the bounds of the zone is the zone.
-use Rattle.std.proofs.Common.{◌≡◌, ◌≢◌, ℕ, ◌+◌, ◌-◌, ◌*◌, ◌<◌, ◌≤◌, ℤ, pos, neg_ℤ, ◌+ℤ◌, ◌-ℤ◌, ◌≤ℤ◌, Bool, true, false, List}
-use Rattle.std.proofs.Common.{[], ◌∷◌, ◌++◌, inl, inr, length, get_or, take, map, Option, Some, None, refl, sym, ap, ◌∙◌, subst, arith}
 use Rattle.tl_cert.specs.Traces.{zone_of}
 use Rattle.tl_cert.proofs.TraceLaws.{zones-are}
 use Rattle.tl_check.proofs.Working.{zone-bound}

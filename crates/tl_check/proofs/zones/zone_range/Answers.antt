@@ -1,10 +1,8 @@
 -- Cut by cut, up to the whole.
-use Rattle.std.proofs.Common.{◌≡◌, ◌≢◌, ℕ, ◌+◌, ◌-◌, ◌*◌, ◌<◌, ◌≤◌, ℤ, pos, neg_ℤ, ◌+ℤ◌, ◌-ℤ◌, ◌≤ℤ◌, Bool, true, false, List}
-use Rattle.std.proofs.Common.{[], ◌∷◌, ◌++◌, inl, inr, length, get_or, take, map, Option, Some, None, refl, sym, ap, ◌∙◌, subst, arith}
-use Rattle.tl_problem.specs.declared.zone.Range.{Range}
+use Rattle.std.proofs.Common.{◌≡◌}
+use Rattle.std.proofs.Common.{subst, arith}
 use Rattle.tl_problem.specs.Zones.{range_at}
 use Rattle.tl_problem.proofs.SpanningLemmas.{classes-few}
-use Rattle.tl_cert.specs.declared.trace.CutAt.{CutAt}
 use Rattle.tl_cert.specs.Traces.{zone_of}
 use Rattle.tl_check.specs.inner.Zones.{IsWithinClasses}
 use Rattle.tl_check.proofs.ZoneWalks.{walk-start, walk-end, walk-low, walk-high, walk-other, parent-there, cut-class}

@@ -1,6 +1,5 @@
 -- Line by line.
-use Rattle.std.proofs.Common.{◌≡◌, ◌≢◌, ℕ, ◌+◌, ◌-◌, ◌*◌, ◌<◌, ◌≤◌, Bool, true, false, List, [], ◌∷◌, ◌++◌}
-use Rattle.std.proofs.Common.{inl, inr, length, get_or, take, map, Option, Some, None, refl, sym, ap, ◌∙◌, subst, arith}
+use Rattle.std.proofs.Common.{arith}
 use Rattle.tl_check.proofs.Working.{good-next}
 use Rattle.tl_check.proofs.checker.Checker.log.Goals as goal
 

@@ -1,6 +1,5 @@
 -- Step by step.
-use Rattle.std.proofs.Common.{◌≡◌, ◌≢◌, ℕ, ◌+◌, ◌-◌, ◌*◌, ◌<◌, ◌≤◌, Bool, true, false, List, [], ◌∷◌, ◌++◌}
-use Rattle.std.proofs.Common.{inl, inr, length, get_or, take, map, Option, Some, None, refl, sym, ap, ◌∙◌, subst, arith}
+use Rattle.std.proofs.Common.{length, ap, arith}
 use Rattle.tl_check.proofs.checker.Checker.worked.Goals as goal
 
 pub returns-then-not-is_trace-clause-worked : goal.returns-then-not-is_trace-clause-worked
