@@ -10,6 +10,8 @@ mod firing;
 mod left;
 mod line;
 mod nogoods;
+#[cfg(test)]
+mod tests;
 mod traces;
 mod worked;
 mod zones;

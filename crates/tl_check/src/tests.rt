@@ -1,0 +1,402 @@
+//! Logs, traces and sections of four small tables, worked by hand.
+
+ghost use Rattle.std.specs.Prelude.{◌<◌};
+
+use crate::Checker;
+use std::alloc::Global;
+use std::test::Fail;
+use tl_base::{Config, List, Steps, Style};
+use tl_cert::{Bound, CutAt, End, Log, LogLine, Nogood, Section, Side, Trace};
+use tl_problem::{Cell, Problem};
+
+/// The steps with these configurations.
+fn steps(alloc: Global, configs: &[(u32, u32)]) -> Result<Steps, Fail> {
+    let mut list = List::new(alloc);
+    for &(width, height) in configs {
+        list.push(Config { width, height })?;
+    }
+    let Some(steps) = Steps::new(list) else {
+        return Err("the configurations are no steps".into());
+    };
+    Ok(steps)
+}
+
+/// A cell of one column and one row that needs these heights.
+fn cell(alloc: Global, left: u32, top: u32, configs: &[(u32, u32)]) -> Result<Cell, Fail>
+    requires left { left < 60 }
+    requires top { top < 60 }
+{
+    Ok(Cell {
+        left,
+        right: left + 1,
+        top,
+        bottom: top + 1,
+        low: steps(alloc, configs)?,
+        high: steps(alloc, configs)?,
+    })
+}
+
+/// A problem in plain style.
+fn problem(
+    alloc: Global,
+    cols: u32,
+    rows: u32,
+    width: u32,
+    cells: List<Cell>,
+) -> Result<Problem, Fail> {
+    if !Problem::is_sound(cols, rows, Style::Plain, width, cells.as_slice()) {
+        return Err("the cells make no sound problem".into());
+    }
+    Ok(Problem::new(alloc, cols, rows, Style::Plain, width, cells)?)
+}
+
+/// `aaa bbb` beside `cc dd ee` on 12 columns: two lines at 3 and 5 columns, and never one.
+fn two_columns(alloc: Global) -> Result<Problem, Fail> {
+    let mut cells = List::new(alloc);
+    cells.push(cell(alloc, 0, 0, &[(3, 2), (7, 1)])?)?;
+    cells.push(cell(alloc, 1, 0, &[(2, 3), (5, 2), (8, 1)])?)?;
+    problem(alloc, 2, 1, 12, cells)
+}
+
+/// `a a`, `b b` and `c`, `c` above `p`, `q`, `cccc cccc` and `dddd dddd` on 25 columns.
+fn four_columns(alloc: Global) -> Result<Problem, Fail> {
+    let mut cells = List::new(alloc);
+    cells.push(cell(alloc, 0, 0, &[(1, 2), (3, 1)])?)?;
+    cells.push(cell(alloc, 1, 0, &[(1, 2), (3, 1)])?)?;
+    cells.push(cell(alloc, 2, 0, &[(1, 2)])?)?;
+    cells.push(cell(alloc, 0, 1, &[(1, 1)])?)?;
+    cells.push(cell(alloc, 1, 1, &[(1, 1)])?)?;
+    cells.push(cell(alloc, 2, 1, &[(4, 2), (9, 1)])?)?;
+    cells.push(cell(alloc, 3, 1, &[(4, 2), (9, 1)])?)?;
+    problem(alloc, 4, 2, 25, cells)
+}
+
+/// `a a` beside `b b` on 7 columns: by their areas they need two lines.
+fn narrow_columns(alloc: Global) -> Result<Problem, Fail> {
+    let mut cells = List::new(alloc);
+    cells.push(cell(alloc, 0, 0, &[(1, 2), (3, 1)])?)?;
+    cells.push(cell(alloc, 1, 0, &[(1, 2), (3, 1)])?)?;
+    problem(alloc, 2, 1, 7, cells)
+}
+
+/// One cell of one column that needs these heights at least, and for which those are enough.
+fn one_cell(alloc: Global, low: u32, high: u32) -> Result<Problem, Fail> {
+    let mut cells = List::new(alloc);
+    cells.push(Cell {
+        left: 0,
+        right: 1,
+        top: 0,
+        bottom: 1,
+        low: steps(alloc, &[(1, low)])?,
+        high: steps(alloc, &[(1, high)])?,
+    })?;
+    problem(alloc, 1, 1, 1, cells)
+}
+
+/// The trace with these cuts of a zone at a span after a class.
+fn trace(alloc: Global, cuts: &[(u32, u32, u32)]) -> Result<Trace, Fail> {
+    let mut trace = List::new(alloc);
+    for &(zone, span, class) in cuts {
+        trace.push(CutAt { zone, span, class })?;
+    }
+    Ok(trace)
+}
+
+/// The line with the bounds of a zone.
+fn zone_line(alloc: Global, zone: u32, fires: &[u32], end: End) -> Result<LogLine, Fail> {
+    Ok(LogLine {
+        nogood: Nogood::Zone(zone),
+        fires: List::from_slice(alloc, fires)?,
+        end,
+    })
+}
+
+/// The line with one bound that ends by its chain.
+fn bound_line(alloc: Global, span: u32, side: Side, width: u32) -> Result<LogLine, Fail> {
+    Ok(LogLine {
+        nogood: Nogood::Bounds(List::from_slice(alloc, &[Bound { span, side, width }])?),
+        fires: List::new(alloc),
+        end: End::Chain,
+    })
+}
+
+/// The log with one line of the whole.
+fn one_line(alloc: Global, fires: &[u32], end: End) -> Result<Log, Fail> {
+    let mut log = List::new(alloc);
+    log.push(zone_line(alloc, 0, fires, end)?)?;
+    Ok(log)
+}
+
+/// Whether the cuts are a trace.
+fn is_trace(alloc: Global, problem: &Problem, trace: &Trace) -> Result<bool, Fail> {
+    if trace.len() > 10 {
+        return Err("too many cuts".into());
+    }
+    let mut checker = Checker::reserve(alloc, problem, trace.len() as u32)?;
+    Ok(checker.trace(problem, trace))
+}
+
+/// What is found of the log.
+fn verdict(
+    alloc: Global,
+    problem: &Problem,
+    trace: &Trace,
+    log: &Log,
+    lower: u32,
+) -> Result<Result<(), u32>, Fail> {
+    if trace.len() > 10 || log.len() > 10 {
+        return Err("too many cuts or lines".into());
+    }
+    let mut checker = Checker::reserve(alloc, problem, trace.len() as u32)?;
+    if !checker.trace(problem, trace) {
+        return Err("no trace".into());
+    }
+    Ok(checker.log(problem, trace, log, lower))
+}
+
+/// Whether the first line of the log is good.
+fn first_is_good(
+    alloc: Global,
+    problem: &Problem,
+    trace: &Trace,
+    log: &Log,
+    lower: u32,
+) -> Result<bool, Fail> {
+    if trace.len() > 10 || log.is_empty() {
+        return Err("too many cuts, or no line".into());
+    }
+    let mut checker = Checker::reserve(alloc, problem, trace.len() as u32)?;
+    if !checker.trace(problem, trace) {
+        return Err("no trace".into());
+    }
+    Ok(checker.line(problem, trace, log, 0, lower))
+}
+
+/// Whether the line would be good at the end of the log.
+fn tries(
+    alloc: Global,
+    problem: &Problem,
+    trace: &Trace,
+    log: &Log,
+    line: &LogLine,
+) -> Result<bool, Fail> {
+    if trace.len() > 10 {
+        return Err("too many cuts".into());
+    }
+    let mut checker = Checker::reserve(alloc, problem, trace.len() as u32)?;
+    if !checker.trace(problem, trace) {
+        return Err("no trace".into());
+    }
+    Ok(checker.tries(problem, trace, log, line, 4))
+}
+
+/// Whether the section was worked for the budget.
+fn is_worked(
+    alloc: Global,
+    problem: &Problem,
+    section: &Section,
+    budget: u32,
+) -> Result<bool, Fail> {
+    if section.trace.len() > 10 {
+        return Err("too many cuts".into());
+    }
+    let mut checker = Checker::reserve(alloc, problem, section.trace.len() as u32)?;
+    Ok(checker.worked(problem, section, budget))
+}
+
+#[test]
+fn the_whole_ends_by_its_chain(rt: HostRuntime) -> Result<(), Fail> {
+    let problem = two_columns(rt.alloc())?;
+    let none = List::new(rt.alloc());
+    for (fires, end, lower, want) in [
+        ([].as_slice(), End::Chain, 2, Ok(())),
+        // At the greatest rooms, 8 and 7, the cells need one line and two. At the least they need
+        // two and three, which is no bound.
+        ([].as_slice(), End::Chain, 3, Err(0)),
+        ([].as_slice(), End::Area, 2, Ok(())),
+        ([].as_slice(), End::Area, 3, Err(0)),
+        ([].as_slice(), End::Cycle, 2, Err(0)),
+        ([].as_slice(), End::Fired, 2, Err(0)),
+        // A line fires no line that is not before it.
+        ([0].as_slice(), End::Fired, 2, Err(0)),
+        ([1].as_slice(), End::Fired, 2, Err(0)),
+    ] {
+        let log = one_line(rt.alloc(), fires, end)?;
+        assert_eq!(rt;
+            verdict(rt.alloc(), &problem, &none, &log, lower)?,
+            want,
+            "{lower}"
+        );
+        assert_eq!(rt;
+            first_is_good(rt.alloc(), &problem, &none, &log, lower)?,
+            want.is_ok(),
+            "{lower}"
+        );
+    }
+    Ok(())
+}
+
+#[test]
+fn an_area_ends_what_no_chain_does(rt: HostRuntime) -> Result<(), Fail> {
+    let problem = narrow_columns(rt.alloc())?;
+    let none = List::new(rt.alloc());
+    for (end, lower, want) in [
+        (End::Area, 2, Ok(())),
+        (End::Area, 3, Err(0)),
+        (End::Chain, 2, Err(0)),
+        (End::Chain, 1, Ok(())),
+    ] {
+        let log = one_line(rt.alloc(), &[], end)?;
+        assert_eq!(rt;
+            verdict(rt.alloc(), &problem, &none, &log, lower)?,
+            want,
+            "{lower}"
+        );
+    }
+    Ok(())
+}
+
+// Each cut is of a zone that stands, and leaves both parts some classes.
+#[test]
+fn a_cut_parts_a_zone_that_stands(rt: HostRuntime) -> Result<(), Fail> {
+    let problem = two_columns(rt.alloc())?;
+    for (cuts, want) in [
+        ([].as_slice(), true),
+        ([(0, 0, 0)].as_slice(), true),
+        ([(0, 0, 1)].as_slice(), false),
+        ([(0, 2, 0)].as_slice(), false),
+        ([(1, 0, 0)].as_slice(), false),
+        ([(0, 0, 0), (0, 1, 0)].as_slice(), false),
+        ([(0, 0, 0), (1, 0, 0)].as_slice(), false),
+        ([(0, 1, 0), (2, 1, 1), (3, 0, 0)].as_slice(), true),
+        ([(0, 1, 0), (2, 1, 0)].as_slice(), false),
+        ([(0, 1, 1), (1, 1, 0), (1, 0, 0)].as_slice(), false),
+        ([(0, 1, 1), (1, 1, 0), (2, 0, 0)].as_slice(), true),
+    ] {
+        let trace = trace(rt.alloc(), cuts)?;
+        assert_eq!(rt;
+            is_trace(rt.alloc(), &problem, &trace)?,
+            want,
+            "{}",
+            cuts.len()
+        );
+    }
+    Ok(())
+}
+
+/// The log of four columns: two lines on the third one, and a last line that fires these.
+fn four_columns_log(alloc: Global, last: &[u32]) -> Result<Log, Fail> {
+    let mut log = List::new(alloc);
+    log.push(bound_line(alloc, 2, Side::Most, 8)?)?;
+    log.push(bound_line(alloc, 2, Side::Least, 9)?)?;
+    log.push(zone_line(alloc, 0, last, End::Fired)?)?;
+    Ok(log)
+}
+
+#[test]
+fn a_line_fires_lines_before_it(rt: HostRuntime) -> Result<(), Fail> {
+    let problem = four_columns(rt.alloc())?;
+    let cuts = trace(rt.alloc(), &[(0, 0, 0), (1, 1, 0), (3, 2, 0)])?;
+    for (fires, lower, want) in [
+        ([0, 1].as_slice(), 4, Ok(())),
+        ([1, 0].as_slice(), 4, Ok(())),
+        ([0, 2].as_slice(), 4, Err(2)),
+        ([0].as_slice(), 4, Err(2)),
+        ([0, 1].as_slice(), 5, Err(0)),
+    ] {
+        let log = four_columns_log(rt.alloc(), fires)?;
+        assert_eq!(rt;
+            verdict(rt.alloc(), &problem, &cuts, &log, lower)?,
+            want,
+            "{lower}"
+        );
+    }
+    Ok(())
+}
+
+// All its lines are good, but the last one has a bound, so that the number of lines is given.
+#[test]
+fn a_log_ends_with_a_nogood_without_bounds(rt: HostRuntime) -> Result<(), Fail> {
+    let problem = four_columns(rt.alloc())?;
+    let none = List::new(rt.alloc());
+    let mut log = List::new(rt.alloc());
+    assert_eq!(rt; verdict(rt.alloc(), &problem, &none, &log, 0)?, Err(0));
+    log.push(bound_line(rt.alloc(), 2, Side::Most, 8)?)?;
+    assert_eq!(rt; verdict(rt.alloc(), &problem, &none, &log, 4)?, Err(1));
+    log.push(bound_line(rt.alloc(), 2, Side::Least, 9)?)?;
+    assert_eq!(rt; verdict(rt.alloc(), &problem, &none, &log, 4)?, Err(2));
+    let last = zone_line(rt.alloc(), 0, &[0, 1], End::Fired)?;
+    assert!(rt; tries(rt.alloc(), &problem, &none, &log, &last)?);
+    let itself = zone_line(rt.alloc(), 0, &[0, 2], End::Fired)?;
+    assert!(rt; !tries(rt.alloc(), &problem, &none, &log, &itself)?);
+    let other = zone_line(rt.alloc(), 1, &[0, 1], End::Fired)?;
+    assert!(rt; !tries(rt.alloc(), &problem, &none, &log, &other)?);
+    log.push(last)?;
+    assert_eq!(rt; verdict(rt.alloc(), &problem, &none, &log, 4)?, Ok(()));
+    Ok(())
+}
+
+/// A section of the first table with this height and lower bound, and these cuts.
+fn section(
+    alloc: Global,
+    height: u32,
+    lower: u32,
+    cuts: &[(u32, u32, u32)],
+) -> Result<Section, Fail> {
+    Ok(Section {
+        table: 0,
+        width: 12,
+        height,
+        lower,
+        widths: List::new(alloc),
+        trace: trace(alloc, cuts)?,
+        log: List::new(alloc),
+    })
+}
+
+// The opening of the two columns has 3 lines, and the whole has a bound of 2.
+#[test]
+fn a_search_ends_at_its_budget_or_with_each_zone_closed(rt: HostRuntime) -> Result<(), Fail> {
+    let problem = two_columns(rt.alloc())?;
+    for (height, lower, cuts, budget, want) in [
+        (2, 2, [].as_slice(), 6, true),
+        (2, 3, [].as_slice(), 6, false),
+        (3, 2, [].as_slice(), 0, true),
+        (3, 2, [].as_slice(), 6, false),
+        (2, 1, [].as_slice(), 6, false),
+        (3, 1, [].as_slice(), 0, false),
+        (2, 2, [(0, 0, 1)].as_slice(), 6, false),
+        (2, 2, [(0, 0, 0)].as_slice(), 0, false),
+        (3, 2, [(0, 0, 0)].as_slice(), 1, true),
+        (3, 2, [(0, 0, 0)].as_slice(), 2, false),
+        // Where the second column has 2 to 4 columns its cell needs 3 lines.
+        (3, 2, [(0, 1, 0)].as_slice(), 1, true),
+        (3, 3, [(0, 1, 0), (1, 0, 0)].as_slice(), 2, true),
+        (4, 3, [(0, 1, 0), (1, 0, 0)].as_slice(), 2, false),
+    ] {
+        let section = section(rt.alloc(), height, lower, cuts)?;
+        let worked = is_worked(rt.alloc(), &problem, &section, budget)?;
+        assert_eq!(rt; worked, want, "{height} {lower} {budget}");
+    }
+    Ok(())
+}
+
+// One class is closed only where what the cell needs and what is enough for it differ.
+#[test]
+fn one_class_is_closed_where_low_and_high_differ(rt: HostRuntime) -> Result<(), Fail> {
+    for (low, high, height, lower, want) in [
+        (1, 2, 2, 1, true),
+        (1, 2, 3, 1, true),
+        (2, 2, 3, 2, false),
+        (1, 1, 2, 1, false),
+    ] {
+        let problem = one_cell(rt.alloc(), low, high)?;
+        let section = section(rt.alloc(), height, lower, &[])?;
+        assert_eq!(rt;
+            is_worked(rt.alloc(), &problem, &section, 5)?,
+            want,
+            "{low} {high}"
+        );
+    }
+    Ok(())
+}
