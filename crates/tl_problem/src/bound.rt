@@ -1,6 +1,7 @@
 //! The bound of a zone, and that of whatever constraints a work holds.
 
-ghost use Rattle.std.specs.Prelude.{◌≡◌, ℕ, ◌+◌, ◌<◌, ◌≤◌, pos, ◌+ℤ◌, ◌≤ℤ◌, List, length, Contains, Some, IfOk, MatchOption};
+ghost use Rattle.std.specs.Prelude.{◌≡◌, ℕ, ◌+◌, ◌<◌, ◌≤◌, pos, ◌+ℤ◌, ◌≤ℤ◌, List, length, Contains};
+ghost use Rattle.std.specs.Prelude.{Some, IfOk, MatchOption};
 ghost use Rattle.tl_base.specs.Style.{gap_of};
 ghost use Rattle.tl_base.specs.Steps.{height_at};
 ghost use Rattle.tl_diff.specs.Bounds.{IsSatisfiable, assignment_of};
