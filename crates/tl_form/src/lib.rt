@@ -13,6 +13,7 @@ mod laws;
 mod layout;
 mod narrow;
 mod paragraph;
+mod problem;
 mod shape;
 mod widest;
 mod width;
@@ -27,6 +28,7 @@ pub use laws::{
 };
 pub use layout::Layout;
 pub use narrow::narrow_chain;
+pub use problem::InnerSteps;
 pub use width::least_width;
 
 #[cfg(test)]
