@@ -29,3 +29,5 @@ pub mod OneFile
 pub mod Orders
 pub mod Laid
 pub mod UnitSizes
+pub mod NeedSteps
+pub mod ParagraphSteps

@@ -15,7 +15,7 @@ use Rattle.tl_form.specs.declared.cell.Content.{out-Content}
 use Rattle.tl_form.specs.declared.cell.Content.TheOpen as open_content
 use Rattle.tl_form.specs.declared.cell.Table.{Table, out-Table}
 use Rattle.tl_form.specs.declared.cell.TableCell.{out-TableCell}
-use Rattle.tl_form.specs.declared.problem.InnerSteps.{InnerSteps}
+use Rattle.tl_form.specs.declared.heights.InnerSteps.{InnerSteps}
 use Rattle.tl_form.specs.Tables.{OpenTable, OpenCell, OpenContent, inner_tables}
 use Rattle.tl_form.specs.Least.{IsLeastHeight}
 

@@ -6,14 +6,16 @@
 #![tactic(auto)]
 
 mod cell;
+mod cell_steps;
 mod count;
 mod error;
 mod forming;
+mod heights;
 mod laws;
 mod layout;
 mod narrow;
 mod paragraph;
-mod problem;
+mod problems;
 mod shape;
 mod widest;
 mod width;
@@ -22,13 +24,14 @@ pub use cell::{Content, Kind, Table, TableCell};
 pub use count::nested;
 pub use error::FormError;
 pub use forming::table;
+pub use heights::InnerSteps;
 pub use laws::{
     file_spells_one_table, no_page_is_narrower_than_a_chain,
     the_first_without_a_grid_has_the_least_number,
 };
 pub use layout::Layout;
 pub use narrow::narrow_chain;
-pub use problem::InnerSteps;
+pub use problems::{has_sound_problem, problem};
 pub use width::least_width;
 
 #[cfg(test)]
