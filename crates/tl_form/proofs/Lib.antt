@@ -31,3 +31,7 @@ pub mod Laid
 pub mod UnitSizes
 pub mod NeedSteps
 pub mod ParagraphSteps
+pub mod CellNeedLemmas
+pub mod ProblemLayouts
+pub mod ProblemTruth
+pub mod ProblemCells

@@ -15,6 +15,7 @@ mod laws;
 mod layout;
 mod narrow;
 mod paragraph;
+mod problem_laws;
 mod problems;
 mod shape;
 mod widest;
@@ -31,6 +32,10 @@ pub use laws::{
 };
 pub use layout::Layout;
 pub use narrow::narrow_chain;
+pub use problem_laws::{
+    layouts_are_by_low, layouts_by_high_fit, problem_is_determined, true_steps_lie_between,
+    true_where_bounds_meet,
+};
 pub use problems::{has_sound_problem, problem};
 pub use width::least_width;
 

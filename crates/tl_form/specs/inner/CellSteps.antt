@@ -39,10 +39,10 @@ abbrev pub BlocksNeed : (Table → ℕ → ℕ → Type 0) → List Content → 
 BlocksNeed needs blocks w h = (heights : List ℕ)
     × AllZip (λ block height. BlockNeeds needs (out-Content block) w height) blocks heights × (sum heights ≡ h)
 
--- the cell has a height on a page of so many columns, and none up to there is above the limit
+-- the cell has a height on a page of so many columns, and its greatest, at its least width, is within the limit
 pub record IsLowCell (needs : Table → ℕ → ℕ → Type 0) (page : ℕ) (cell : OpenCell) : Type 0 where
   pub some : (h : ℕ) × CellNeeds needs cell page h
-  pub low : (w h : ℕ) → w ≤ page → CellNeeds needs cell w h → h ≤ MAX_HEIGHT
+  pub low : (start h : ℕ) → IsStart (CellNeeds needs cell) start → CellNeeds needs cell start h → h ≤ MAX_HEIGHT
 
 -- each cell is so by both bounds
 abbrev pub AreLowCells : List InnerSteps → ℕ → List TableCell → Type 0
