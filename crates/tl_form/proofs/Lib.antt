@@ -29,3 +29,9 @@ pub mod OneFile
 pub mod Orders
 pub mod Laid
 pub mod UnitSizes
+pub mod NeedSteps
+pub mod ParagraphSteps
+pub mod CellNeedLemmas
+pub mod ProblemLayouts
+pub mod ProblemTruth
+pub mod ProblemCells

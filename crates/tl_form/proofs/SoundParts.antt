@@ -26,11 +26,11 @@ each_joined P f (x ∷ xs) all = let both = each_split P (f x) (flat_map f xs) (
     each_split P [] zs all = (tt, all)
     each_split P (y ∷ ys) zs all = let rest = each_split P ys zs all.1 in ((all.0, rest.0), rest.1)
 
-weaker_each : {X : Type 0} (P Q : X → Type 0) (xs : List X) → ((x : X) → P x → Q x) → AllByRecursion P xs → AllByRecursion Q xs
+pub weaker_each : {X : Type 0} (P Q : X → Type 0) (xs : List X) → ((x : X) → P x → Q x) → AllByRecursion P xs → AllByRecursion Q xs
 weaker_each P Q [] weaker all = tt
 weaker_each P Q (x ∷ xs) weaker all = (weaker x all.0, weaker_each P Q xs weaker all.1)
 
-both_each : {X : Type 0} (P Q : X → Type 0) (xs : List X) → AllByRecursion P xs → AllByRecursion Q xs → AllByRecursion (λ x. P x × Q x) xs
+pub both_each : {X : Type 0} (P Q : X → Type 0) (xs : List X) → AllByRecursion P xs → AllByRecursion Q xs → AllByRecursion (λ x. P x × Q x) xs
 both_each P Q [] one other = tt
 both_each P Q (x ∷ xs) one other = ((one.0, other.0), both_each P Q xs one.1 other.1)
 

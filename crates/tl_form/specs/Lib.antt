@@ -6,6 +6,8 @@ pub mod Sound
 pub mod Formed
 pub mod Refused
 pub mod Same
+pub mod Problems
+pub mod ProblemLaws
 pub mod Spells
 pub mod Laws
 pub mod inner

@@ -3,3 +3,4 @@ pub mod Demands
 pub mod LeastRooms
 pub mod Links
 pub mod Forming
+pub mod CellSteps
