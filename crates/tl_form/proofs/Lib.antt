@@ -29,3 +29,6 @@ pub mod OneFile
 pub mod Orders
 pub mod Laid
 pub mod UnitSizes
+pub mod Blocks
+pub mod NumbersOpen
+pub mod SoundCounts
