@@ -35,3 +35,4 @@ pub mod CellNeedLemmas
 pub mod ProblemLayouts
 pub mod ProblemTruth
 pub mod ProblemCells
+pub mod StepsExist
