@@ -32,3 +32,10 @@ pub mod UnitSizes
 pub mod Blocks
 pub mod NumbersOpen
 pub mod SoundCounts
+pub mod NeedSteps
+pub mod ParagraphSteps
+pub mod CellNeedLemmas
+pub mod ProblemLayouts
+pub mod ProblemTruth
+pub mod ProblemCells
+pub mod StepsExist

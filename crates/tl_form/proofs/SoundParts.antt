@@ -26,11 +26,11 @@ each_joined P f (x ∷ xs) all = let both = each_split P (f x) (flat_map f xs) (
     each_split P [] zs all = (tt, all)
     each_split P (y ∷ ys) zs all = let rest = each_split P ys zs all.1 in ((all.0, rest.0), rest.1)
 
-weaker_each : {X : Type 0} (P Q : X → Type 0) (xs : List X) → ((x : X) → P x → Q x) → AllByRecursion P xs → AllByRecursion Q xs
+pub weaker_each : {X : Type 0} (P Q : X → Type 0) (xs : List X) → ((x : X) → P x → Q x) → AllByRecursion P xs → AllByRecursion Q xs
 weaker_each P Q [] weaker all = tt
 weaker_each P Q (x ∷ xs) weaker all = (weaker x all.0, weaker_each P Q xs weaker all.1)
 
-both_each : {X : Type 0} (P Q : X → Type 0) (xs : List X) → AllByRecursion P xs → AllByRecursion Q xs → AllByRecursion (λ x. P x × Q x) xs
+pub both_each : {X : Type 0} (P Q : X → Type 0) (xs : List X) → AllByRecursion P xs → AllByRecursion Q xs → AllByRecursion (λ x. P x × Q x) xs
 both_each P Q [] one other = tt
 both_each P Q (x ∷ xs) one other = ((one.0, other.0), both_each P Q xs one.1 other.1)
 
@@ -84,7 +84,7 @@ few_in_table table = subst (λ n. AllByRecursion (λ inner. nested_in_table inne
     (sym (nested_in_table-out table))
     (small_joined nested_in_table (λ cell. tables_in (out-TableCell cell)) nested_in_cell (out-Table table).cells few_in_cell)
 
-sound_inner : (table : Table) (depth : ℕ) → depth ≤ MAX_DEPTH → IsSoundWithin depth table → nested_in_table table < MAX_TABLES →
+pub sound_inner : (table : Table) (depth : ℕ) → depth ≤ MAX_DEPTH → IsSoundWithin depth table → nested_in_table table < MAX_TABLES →
     table_size table ≤ MAX_FILE_BYTES → AllByRecursion IsSound (inner_tables (out-Table table))
 sound_inner table zero shallow sound few size = absurd sound
 sound_inner table (suc depth) shallow sound few size =
