@@ -39,3 +39,13 @@ pub mod ProblemLayouts
 pub mod ProblemTruth
 pub mod ProblemCells
 pub mod StepsExist
+pub mod TableNumbers
+pub mod DueLaws
+pub mod Truth
+pub mod ValidLaws
+pub mod OneFault
+pub mod OneProblem
+pub mod BestOf
+pub mod StepsBelow
+pub mod SectionHeights
+mod CertificateExamples

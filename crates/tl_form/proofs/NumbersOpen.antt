@@ -52,6 +52,12 @@ is_number n m = cond (eqb m n) 1 0
 abbrev pub times : ℕ → List ℕ → ℕ
 times n numbers = sum_by (is_number n) numbers
 
+pub is_same : (n m : ℕ) → m ≡ n → is_number n m ≡ 1
+is_same n m same = ap (λ b. cond b 1 0) (eq-eqb m n same)
+
+pub is_other : (n m : ℕ) → (m ≡ n → ⊥) → is_number n m ≡ 0
+is_other n m other = ap (λ b. cond b 1 0) (ne_eqb m n other)
+
 is_itself : (n : ℕ) → is_number n n ≡ 1
 is_itself n = ap (λ b. cond b 1 0) (eq-eqb n n refl)
 
