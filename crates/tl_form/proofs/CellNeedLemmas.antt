@@ -17,7 +17,7 @@ use Rattle.tl_form.specs.declared.heights.InnerSteps.{InnerSteps}
 use Rattle.tl_form.specs.Tables.{OpenCell, OpenContent}
 use Rattle.tl_form.specs.Problems.{AreStepsOf, BlockNeeds, CellNeeds, InnerNeeds, steps_for}
 use Rattle.tl_form.specs.inner.CellSteps.{From, BlocksNeed, IsLowCell, IsStart}
-use Rattle.tl_form.proofs.LeastRoomLemmas.{AllZip-push, AllZip-pushed}
+use Rattle.tl_form.proofs.LeastRoomLemmas.{AllZip-push}
 use Rattle.tl_form.proofs.NeedSteps.{AreStepsOf-same, AreStepsOf-stacked, BothNeed, height-first, first-least}
 
 -- ---- what is needed is one height
@@ -89,10 +89,18 @@ module _ (needs : Table → ℕ → ℕ → Type 0) where
 
   pub one-less : (blocks : List Content) (block : Content) (w h : ℕ) → BlocksNeed needs (blocks ++ block ∷ []) w h →
       (m n : ℕ) × BlocksNeed needs blocks w m × BlockNeeds needs (out-Content block) w n × (m + n ≡ h)
-  one-less blocks block w h all =
-      let both = AllZip-pushed (λ one height. BlockNeeds needs (out-Content one) w height) blocks all.0 block all.1 in
-      let sums : sum both.0 + both.1 ≡ h = cc in
-      (sum both.0, both.1, (both.0, both.2, refl), both.3, sums)
+  one-less [] block w h ([], those, all) = absurd those
+  one-less [] block w h (n ∷ [], those, all) = (0, n, none-needed w, those.0, omega (arith, sum-one n, all))
+  one-less [] block w h (n ∷ k ∷ ns, those, all) = absurd those.1
+  one-less (one ∷ blocks) block w h ([], those, all) = absurd those
+  one-less (one ∷ blocks) block w h (n ∷ ns, those, all) =
+      let rest = one-less blocks block w (sum ns) (ns, those.1, refl) in (
+        n + rest.0,
+        rest.1,
+        (n ∷ rest.2.0, (those.0, rest.2.1), sum-cons n rest.2.0 ∙ ap (λ k. n + k) rest.2.2),
+        rest.3,
+        omega (arith, rest.4, sum-cons n ns, all),
+      )
 
   -- the first blocks need no more than all
   pub first-blocks : (k : ℕ) (blocks : List Content) (w h : ℕ) → BlocksNeed needs blocks w h → (m : ℕ) × BlocksNeed needs (take k blocks) w m × (m ≤ h)

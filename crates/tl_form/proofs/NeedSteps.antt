@@ -1,5 +1,5 @@
 -- Steps of what is needed: they are determined by it, and they come from lists of steps whose each step is needed.
-use Rattle.std.proofs.Common.{◌≡◌, ℕ, suc, ◌+◌, ◌<◌, ◌≤◌, ◌⊎◌, ◌↔◌, inl, inr, List, [], ◌∷◌, length, get_or, filter, nat_le, Option, Some, None, Contains, refl, sym, ap, subst, ◌∙◌, arith}
+use Rattle.std.proofs.Common.{◌≡◌, ℕ, zero, suc, ◌+◌, ◌<◌, ◌≤◌, ◌⊎◌, ◌↔◌, inl, inr, List, [], ◌∷◌, length, get_or, filter, nat_le, Option, Some, None, Contains, refl, sym, ap, subst, ◌∙◌, arith}
 use Rattle.std.specs.List.{All, last_or}
 use Rattle.std.specs.Option.{option_map}
 use Rattle.std.proofs.lemmas.Bool.{cases_lt}
@@ -37,7 +37,7 @@ step_of o (step ∷ steps) w h is =
 -- a height is that of a step which is narrow enough
 pub step-at : (steps : List Config) (w h : ℕ) → height_at steps w ≡ Some h →
     (step : Config) × Contains steps step × (step.width ≤ w) × (step.height ≡ h)
-step-at steps w h is = elim (step_of None steps w h is) [ | inl none ↦ absurd cc | inr found ↦ found ]
+step-at steps w h is = elim (step_of None steps w h is) [ inl none ↦ absurd cc | inr found ↦ found ]
 
 module _ (steps : List Config) (are : AreSteps steps) where
   -- at its own width a step has its height
@@ -76,7 +76,7 @@ module _ (steps : List Config) (are : AreSteps steps) where
       let heights : Some one.height ≡ Some other.height =
       sym (height-own one first) ∙ ap (λ w. height_at steps w) same ∙ height-own other second in
       let high : one.height ≡ other.height = cc in
-      λ i. record { width = same i; height = high i; }
+      λ i. record { width = same i; height = high i }
 
   -- wider is no higher
   pub height-falls : (v w m n : ℕ) → v ≤ w → height_at steps v ≡ Some m → height_at steps w ≡ Some n → n ≤ m
@@ -157,7 +157,7 @@ same-steps page one other first second within_one within_other same =
           | inr at ↦
               let width : there.0.width ≡ step.width = omega (arith, at, there.2) in
               let height = there.3 in
-              let equal : there.0 ≡ step = λ i. record { width = width i; height = height i; } in
+              let equal : there.0 ≡ step = λ i. record { width = width i; height = height i } in
               subst (λ (one : Config). Contains those one) equal there.1
         ]
 

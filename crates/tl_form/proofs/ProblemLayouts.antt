@@ -6,7 +6,7 @@ use Rattle.std.proofs.lemmas.List.Elements.{recursion_from_All, All-from_recursi
 use Rattle.std.proofs.lemmas.List.Sums.{sum_by-cons}
 use Rattle.tl_base.specs.declared.style.Style.{Style}
 use Rattle.tl_base.specs.Style.{gap_of, row_gap_of, edge_of}
-use Rattle.tl_base.specs.Steps.{IsLowAt, first_width, height_at}
+use Rattle.tl_base.specs.Steps.{AreSteps, IsLowAt, first_width, height_at}
 use Rattle.tl_base.proofs.Sums.{sum-cons}
 use Rattle.tl_problem.specs.declared.cell.Cell.{Cell}
 use Rattle.tl_problem.specs.Sizes.{position, room, total}
@@ -261,20 +261,34 @@ module _ (lows highs : Table → ℕ → ℕ → Type 0) (style : Style) (page :
       at-width (table ∷ tables) w within all = (all.0 w within, at-width tables w within all.1)
 
   -- each cell lies in the grid
-  placed-in : (problem : ProblemModel) (widths : List ℕ) → IsSound problem → length widths ≡ problem.cols →
-      AllByRecursion (λ one. (one.left < one.right) × (one.right ≤ length widths)) problem.cells
-  placed-in problem widths sound columns =
-      weaker_each (IsSoundCell problem) (λ one. (one.left < one.right) × (one.right ≤ length widths)) problem.cells
-      (λ one is. (is.columns.0, omega (arith, is.columns.1, columns)))
+  abbrev pub AreInGrid : ProblemModel → Type 0
+  AreInGrid problem = AllByRecursion (λ one. (one.left < one.right) × (one.right ≤ problem.cols)) problem.cells
+
+  pub sound-in_grid : (problem : ProblemModel) → IsSound problem → AreInGrid problem
+  sound-in_grid problem sound =
+      weaker_each (IsSoundCell problem) (λ one. (one.left < one.right) × (one.right ≤ problem.cols)) problem.cells (λ one is. is.columns)
       (recursion_from_All (IsSoundCell problem) problem.cells sound.cells)
 
+  placed-in : (problem : ProblemModel) (widths : List ℕ) → AreInGrid problem → length widths ≡ problem.cols →
+      AllByRecursion (λ one. (one.left < one.right) × (one.right ≤ length widths)) problem.cells
+  placed-in problem widths placed columns =
+      weaker_each (λ one. (one.left < one.right) × (one.right ≤ problem.cols)) (λ one. (one.left < one.right) × (one.right ≤ length widths)) problem.cells
+      (λ one is. (is.0, omega (arith, is.1, columns))) placed
+
+  -- each cell's `low` is steps
+  low-steps : (cells : List TableCell) (made : List Cell) → AllZip CellOf cells made → AllByRecursion (λ one. AreSteps one.low) made
+  low-steps [] [] of = tt
+  low-steps [] (one ∷ made) of = absurd of
+  low-steps (cell ∷ cells) [] of = absurd of
+  low-steps (cell ∷ cells) (one ∷ made) of = (of.0.low.falling, low-steps cells made of.1)
+
   -- a layout of the table is one of the problem by `low`
-  pub layout-low : (table : OpenTable) (problem : ProblemModel) → IsProblemBy lows highs style page table problem → IsSound problem →
+  pub layout-low : (table : OpenTable) (problem : ProblemModel) → IsProblemBy lows highs style page table problem → AreInGrid problem →
       (fits : Table → ℕ → ℕ → Layout → Type 0) →
       AllByRecursion (λ nested. (w : ℕ) → w ≤ page → IsBelowAt fits lows w nested) (inner_tables table) →
       (height : ℕ) (layout : OpenLayout) → FitsBy fits style table page height layout →
       IsLayoutByLow problem layout.widths layout.heights × (total_height problem layout.heights ≡ height)
-  layout-low table problem of sound fits below height layout held = (
+  layout-low table problem of placed fits below height layout held = (
     record {
       page = record {
         columns = held.columns ∙ sym of.columns;
@@ -282,9 +296,9 @@ module _ (lows highs : Table → ℕ → ℕ → Type 0) (style : Style) (page :
             (subst (λ w. total (gap_of style) (edge_of style) layout.widths ≤ w) (sym of.wide) held.within);
         cells = subst (λ s. All (λ one. first_width one.low ≤ room (gap_of s) layout.widths one.left one.right) problem.cells) (sym of.drawn)
             (All-from_recursion (λ one. first_width one.low ≤ room (gap_of style) layout.widths one.left one.right) problem.cells
-            (weaker_each (λ one. IsSoundCell problem one × HasRoom layout.widths layout.heights one)
+            (weaker_each (λ one. AreSteps one.low × HasRoom layout.widths layout.heights one)
             (λ one. first_width one.low ≤ room (gap_of style) layout.widths one.left one.right) problem.cells
-            (λ one both. first-least one.low both.0.steps.0 (room (gap_of style) layout.widths one.left one.right) both.1.0 both.1.1) both));
+            (λ one both. first-least one.low both.0 (room (gap_of style) layout.widths one.left one.right) both.1.0 both.1.1) both));
       };
       enough = record {
         rows = held.rows ∙ sym of.lines;
@@ -304,13 +318,12 @@ module _ (lows highs : Table → ℕ → ℕ → Type 0) (style : Style) (page :
   ) where
     rooms : AllByRecursion (HasRoom layout.widths layout.heights) problem.cells
     rooms = cells-low fits layout table.cells problem.cells held.parts of.made
-        (placed-in problem layout.widths sound (held.columns ∙ sym of.columns)) held.within
+        (placed-in problem layout.widths placed (held.columns ∙ sym of.columns)) held.within
         (each_joined (λ nested. (w : ℕ) → w ≤ page → IsBelowAt fits lows w nested) (λ cell. tables_in (out-TableCell cell)) table.cells below)
         held.cells
 
-    both : AllByRecursion (λ one. IsSoundCell problem one × HasRoom layout.widths layout.heights one) problem.cells
-    both = both_each (IsSoundCell problem) (HasRoom layout.widths layout.heights) problem.cells
-        (recursion_from_All (IsSoundCell problem) problem.cells sound.cells) rooms
+    both : AllByRecursion (λ one. AreSteps one.low × HasRoom layout.widths layout.heights one) problem.cells
+    both = both_each (λ one. AreSteps one.low) (HasRoom layout.widths layout.heights) problem.cells (low-steps table.cells problem.cells of.made) rooms
 
   -- ---- layouts of the problem by bounds above are those of layouts of the table
 
@@ -350,13 +363,13 @@ module _ (lows highs : Table → ℕ → ℕ → Type 0) (style : Style) (page :
       at-width (table ∷ tables) w within all = (all.0 w within, at-width tables w within all.1)
 
   -- the widths and heights of a layout of the problem by `high` are those of a layout of the table
-  pub layout-high : (table : OpenTable) (problem : ProblemModel) → IsProblemBy lows highs style page table problem → IsSound problem →
+  pub layout-high : (table : OpenTable) (problem : ProblemModel) → IsProblemBy lows highs style page table problem → AreInGrid problem →
       (fits : Table → ℕ → ℕ → Layout → Type 0) →
       AllByRecursion (λ nested. (w : ℕ) → w ≤ page → IsAboveAt fits highs w nested) (inner_tables table) →
       (widths heights : List ℕ) → IsLayoutByHigh problem widths heights →
       (inner : List Layout) × FitsBy fits style table (total_width problem widths) (total_height problem heights)
       (record { widths = widths; heights = heights; inner = inner })
-  layout-high table problem of sound fits above widths heights laid = (
+  layout-high table problem of placed fits above widths heights laid = (
     flat_map (λ inner. inner) found.0,
     record {
       columns = laid.page.columns ∙ of.columns;
@@ -387,7 +400,7 @@ module _ (lows highs : Table → ℕ → ℕ → Type 0) (style : Style) (page :
         (λ one both. (omega (arith, room-total (gap_of style) (edge_of style) widths one.left one.right both.0.0 both.0.1, narrow), both.1))
         (both_each (λ one. (one.left < one.right) × (one.right ≤ length widths))
         (λ one. IsLowAt one.high (room (row_gap_of style) heights one.top one.bottom) (room (gap_of style) widths one.left one.right)) problem.cells
-        (placed-in problem widths sound laid.page.columns) low)
+        (placed-in problem widths placed laid.page.columns) low)
 
     found : (parts : List (List Layout)) × AllZip (λ cell inner. FitsRoom fits
         (room (gap_of style) widths (out-TableCell cell).place.left (out-TableCell cell).place.right)

@@ -27,7 +27,7 @@ use Rattle.tl_form.specs.ProblemLaws.{IsBelowLayouts, IsAboveLayouts, LowIsBelow
 use Rattle.tl_form.proofs.CellNeedLemmas.{IsFunctional, cell-functional, inner-functional}
 use Rattle.tl_form.proofs.Deeper.{FitsWithin-wider}
 use Rattle.tl_form.proofs.NeedSteps.{AreStepsOf-same, AreStepsOf-unique}
-use Rattle.tl_form.proofs.ProblemLayouts.{IsBelowAt, IsAboveAt, cell-below, cell-above, fits-from_any, layout-low, layout-high}
+use Rattle.tl_form.proofs.ProblemLayouts.{IsBelowAt, IsAboveAt, cell-below, cell-above, fits-from_any, layout-low, layout-high, sound-in_grid}
 use Rattle.tl_form.proofs.SoundParts.{append_each, both_each, each_joined, weaker_each}
 
 -- ---- the problem is determined
@@ -41,7 +41,7 @@ module _ (lows highs : Table → ℕ → ℕ → Type 0) (style : Style) (page :
       let bottom : one.bottom ≡ other.bottom = first.bottom ∙ sym second.bottom in
       let low : one.low ≡ other.low = AreStepsOf-unique (CellNeeds lows cell) page one.low other.low first.low second.low in
       let high : one.high ≡ other.high = AreStepsOf-unique (CellNeeds highs cell) page one.high other.high first.high second.high in
-      λ i. record { left = left i; right = right i; top = top i; bottom = bottom i; low = low i; high = high i; }
+      λ i. record { left = left i; right = right i; top = top i; bottom = bottom i; low = low i; high = high i }
 
   pub same-cells : (cells : List TableCell) (one other : List Cell) → AllZip (λ cell made. IsCellBy lows highs page (out-TableCell cell) made) cells one →
       AllZip (λ cell made. IsCellBy lows highs page (out-TableCell cell) made) cells other → one ≡ other
@@ -63,7 +63,7 @@ module _ (lows highs : Table → ℕ → ℕ → Type 0) (style : Style) (page :
       let drawn : one.style ≡ other.style = first.drawn ∙ sym second.drawn in
       let width : one.width ≡ other.width = first.wide ∙ sym second.wide in
       let cells : one.cells ≡ other.cells = same-cells table.cells one.cells other.cells first.made second.made in
-      λ i. record { cols = cols i; rows = rows i; style = drawn i; width = width i; cells = cells i; }
+      λ i. record { cols = cols i; rows = rows i; style = drawn i; width = width i; cells = cells i }
 
 -- ---- layouts by their fields, and rolled up
 
@@ -89,7 +89,7 @@ module _ (lows highs : Table → ℕ → ℕ → Type 0) (table : Table) (style 
       IsLayoutByLow problem (out-Layout layout).widths (out-Layout layout).heights × (total_height problem (out-Layout layout).heights ≡ height)
   fits-low below height layout (zero, held) = absurd held
   fits-low below height layout (suc depth, held) =
-      layout-low lows highs style page (out-Table table) problem of sound (FitsWithin depth style)
+      layout-low lows highs style page (out-Table table) problem of (sound-in_grid lows highs style page problem sound) (FitsWithin depth style)
       (weaker_each (IsBelowLayouts lows style page) (λ nested. (w : ℕ) → w ≤ page → IsBelowAt (FitsWithin depth style) lows w nested)
       (inner_tables (out-Table table)) (λ nested is w within k inner one. is w k inner within (depth, one)) below) height (out-Layout layout) held
 
@@ -98,7 +98,7 @@ module _ (lows highs : Table → ℕ → ℕ → Type 0) (table : Table) (style 
       (layout : Layout) × Fits table style (total_width problem widths) (total_height problem heights) layout
       × ((out-Layout layout).widths ≡ widths) × ((out-Layout layout).heights ≡ heights)
   high-fits above widths heights laid =
-      let made = layout-high lows highs style page (out-Table table) problem of sound (λ nested w h inner. Fits nested style w h inner)
+      let made = layout-high lows highs style page (out-Table table) problem of (sound-in_grid lows highs style page problem sound) (λ nested w h inner. Fits nested style w h inner)
       (weaker_each (IsAboveLayouts highs style page)
       (λ nested. (w : ℕ) → w ≤ page → IsAboveAt (λ one v h inner. Fits one style v h inner) highs w nested) (inner_tables (out-Table table))
       (λ nested is w within h need. is w h within need) above) widths heights laid in

@@ -1,7 +1,7 @@
 -- The problem of a table: what a search sees of it. Each cell needs at a width as many lines as its blocks need there, one
 -- under the other; it begins at its floor, or where each of its blocks has a height. What a nested table needs is given
 -- from outside: as a lower bound and an upper one of each, or as it is, which gives the true problem.
-use Rattle.std.specs.Prelude.{◌≡◌, ℕ, zero, suc, ◌≤◌, ◌⊎◌, ◌↔◌, Bool, true, false, ◌==◌, if_then_else_, List, [], ◌∷◌, Option, None, Some, IsSomeAnd, Contains, sum}
+use Rattle.std.specs.Prelude.{◌≡◌, ℕ, zero, suc, ◌≤◌, ◌⊎◌, ◌↔◌, ◌==◌, if◌then◌else◌, List, [], ◌∷◌, Option, None, Some, IsSomeAnd, Contains, sum}
 use Rattle.std.specs.List.{All, AllZip, AllByRecursion}
 use Rattle.tl_base.specs.declared.style.Style.{Style}
 use Rattle.tl_base.specs.declared.steps.Config.{Config}

@@ -46,7 +46,9 @@ fn block_height(block: &Content, width: u32, inner: &[InnerSteps], bound: Bound)
 {
     match block {
         Content::Para(paragraph) => count_lines(paragraph, width).unwrap(),
-        Content::Table(table) => bound_for(inner, table.number, bound).height_at(width).unwrap(),
+        Content::Table(table) => bound_for(inner, table.number, bound)
+            .height_at(width)
+            .unwrap(),
     }
 }
 
