@@ -49,3 +49,4 @@ pub mod BestOf
 pub mod StepsBelow
 pub mod SectionHeights
 mod CertificateExamples
+pub mod NumberLemmas

@@ -7,6 +7,7 @@ pub mod Formed
 pub mod Refused
 pub mod Same
 pub mod Problems
+pub mod Numbered
 pub mod ProblemLaws
 pub mod Expected
 pub mod Nested
