@@ -32,22 +32,22 @@ module _ {X : Type 0} (Counts : X → Type 0) (measure : X → ℕ) where
   here : (P : X → Type 0) (xs : List X) (x : X) → P x → Any P (xs ++ x ∷ [])
   here P xs x is = (length xs, x, omega (arith, length-append xs (x ∷ [])), get_or-append_seam xs x [] x, is)
 
-  none_skips : (xs : List X) (x : X) → NoneCounts xs → (Counts x → ⊥) → NoneCounts (xs ++ x ∷ [])
+  pub none_skips : (xs : List X) (x : X) → NoneCounts xs → (Counts x → ⊥) → NoneCounts (xs ++ x ∷ [])
   none_skips xs x none other = All-push (λ y. Counts y → ⊥) xs x none other
 
-  most_skips : (xs : List X) (x : X) (most : ℕ) → IsMost xs most → (Counts x → ⊥) → IsMost (xs ++ x ∷ []) most
+  pub most_skips : (xs : List X) (x : X) (most : ℕ) → IsMost xs most → (Counts x → ⊥) → IsMost (xs ++ x ∷ []) most
   most_skips xs x most is other = record {
     attained = earlier (λ y. Counts y × (measure y ≡ most)) xs x is.attained;
     never_more = All-push (λ y. Counts y → measure y ≤ most) xs x is.never_more (λ counts. absurd (other counts));
   }
 
-  most_begins : (xs : List X) (x : X) → NoneCounts xs → Counts x → IsMost (xs ++ x ∷ []) (measure x)
+  pub most_begins : (xs : List X) (x : X) → NoneCounts xs → Counts x → IsMost (xs ++ x ∷ []) (measure x)
   most_begins xs x none counts = record {
     attained = here (λ y. Counts y × (measure y ≡ measure x)) xs x (counts, refl);
     never_more = All-push (λ y. Counts y → measure y ≤ measure x) xs x (λ k d within is. absurd (none k d within is)) (λ is. omega arith);
   }
 
-  most_grows : (xs : List X) (x : X) (most : ℕ) → IsMost xs most → Counts x → IsMost (xs ++ x ∷ []) (max most (measure x))
+  pub most_grows : (xs : List X) (x : X) (most : ℕ) → IsMost xs most → Counts x → IsMost (xs ++ x ∷ []) (max most (measure x))
   most_grows xs x most is counts = record {
     attained = by_case (cases_lt most (measure x));
     never_more = All-push (λ y. Counts y → measure y ≤ max most (measure x)) xs x
@@ -60,19 +60,19 @@ module _ {X : Type 0} (Counts : X → Type 0) (measure : X → ℕ) where
         subst (λ n. Any (λ y. Counts y × (measure y ≡ n)) (xs ++ x ∷ [])) (sym same)
         (earlier (λ y. Counts y × (measure y ≡ most)) xs x is.attained)
 
-  fewest_skips : (xs : List X) (x : X) (fewest : ℕ) → IsFewest xs fewest → (Counts x → ⊥) → IsFewest (xs ++ x ∷ []) fewest
+  pub fewest_skips : (xs : List X) (x : X) (fewest : ℕ) → IsFewest xs fewest → (Counts x → ⊥) → IsFewest (xs ++ x ∷ []) fewest
   fewest_skips xs x fewest is other = record {
     attained = earlier (λ y. Counts y × (measure y ≡ fewest)) xs x is.attained;
     never_less = All-push (λ y. Counts y → fewest ≤ measure y) xs x is.never_less (λ counts. absurd (other counts));
   }
 
-  fewest_begins : (xs : List X) (x : X) → NoneCounts xs → Counts x → IsFewest (xs ++ x ∷ []) (measure x)
+  pub fewest_begins : (xs : List X) (x : X) → NoneCounts xs → Counts x → IsFewest (xs ++ x ∷ []) (measure x)
   fewest_begins xs x none counts = record {
     attained = here (λ y. Counts y × (measure y ≡ measure x)) xs x (counts, refl);
     never_less = All-push (λ y. Counts y → measure x ≤ measure y) xs x (λ k d within is. absurd (none k d within is)) (λ is. omega arith);
   }
 
-  fewest_falls : (xs : List X) (x : X) (fewest : ℕ) → IsFewest xs fewest → Counts x → IsFewest (xs ++ x ∷ []) (min fewest (measure x))
+  pub fewest_falls : (xs : List X) (x : X) (fewest : ℕ) → IsFewest xs fewest → Counts x → IsFewest (xs ++ x ∷ []) (min fewest (measure x))
   fewest_falls xs x fewest is counts = record {
     attained = by_case (cases_lt (measure x) fewest);
     never_less = All-push (λ y. Counts y → min fewest (measure x) ≤ measure y) xs x

@@ -50,3 +50,6 @@ pub mod StepsBelow
 pub mod SectionHeights
 mod CertificateExamples
 pub mod NumberLemmas
+pub mod Coverage
+pub mod CoveredSteps
+pub mod DueProblems
