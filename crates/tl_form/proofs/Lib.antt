@@ -49,3 +49,5 @@ pub mod BestOf
 pub mod StepsBelow
 pub mod SectionHeights
 mod CertificateExamples
+pub mod ToldSteps
+pub mod Collected
