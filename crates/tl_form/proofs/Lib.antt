@@ -36,3 +36,4 @@ pub mod ProblemLayouts
 pub mod ProblemTruth
 pub mod ProblemCells
 pub mod StepsExist
+pub mod BetweenSteps
