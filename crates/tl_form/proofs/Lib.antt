@@ -29,6 +29,9 @@ pub mod OneFile
 pub mod Orders
 pub mod Laid
 pub mod UnitSizes
+pub mod Blocks
+pub mod NumbersOpen
+pub mod SoundCounts
 pub mod NeedSteps
 pub mod ParagraphSteps
 pub mod CellNeedLemmas
@@ -37,3 +40,13 @@ pub mod ProblemTruth
 pub mod ProblemCells
 pub mod StepsExist
 pub mod BetweenSteps
+pub mod TableNumbers
+pub mod DueLaws
+pub mod Truth
+pub mod ValidLaws
+pub mod OneFault
+pub mod OneProblem
+pub mod BestOf
+pub mod StepsBelow
+pub mod SectionHeights
+mod CertificateExamples

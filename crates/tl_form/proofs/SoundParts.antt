@@ -84,7 +84,7 @@ few_in_table table = subst (λ n. AllByRecursion (λ inner. nested_in_table inne
     (sym (nested_in_table-out table))
     (small_joined nested_in_table (λ cell. tables_in (out-TableCell cell)) nested_in_cell (out-Table table).cells few_in_cell)
 
-sound_inner : (table : Table) (depth : ℕ) → depth ≤ MAX_DEPTH → IsSoundWithin depth table → nested_in_table table < MAX_TABLES →
+pub sound_inner : (table : Table) (depth : ℕ) → depth ≤ MAX_DEPTH → IsSoundWithin depth table → nested_in_table table < MAX_TABLES →
     table_size table ≤ MAX_FILE_BYTES → AllByRecursion IsSound (inner_tables (out-Table table))
 sound_inner table zero shallow sound few size = absurd sound
 sound_inner table (suc depth) shallow sound few size =

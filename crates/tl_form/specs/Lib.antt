@@ -8,6 +8,12 @@ pub mod Refused
 pub mod Same
 pub mod Problems
 pub mod ProblemLaws
+pub mod Expected
+pub mod Nested
+pub mod Valid
+pub mod Refusals
+pub mod Named
+pub mod ValidLaws
 pub mod Spells
 pub mod Laws
 pub mod inner

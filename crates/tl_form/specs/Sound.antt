@@ -1,7 +1,8 @@
 -- When a table is sound: what `table` gives, and what every call that takes a table may count on. Its grid is one of
 -- the HTML Standard's, "Forming a table", in which no two cells share a slot.
-use Rattle.std.specs.Prelude.{◌≡◌, ℕ, zero, suc, ◌+◌, ◌<◌, ◌≤◌, ◌⊎◌, List, map, sum_by}
-use Rattle.std.specs.List.{All, AllPairs, AllByRecursion}
+use Rattle.std.specs.Prelude.{◌≡◌, ℕ, zero, suc, ◌+◌, ◌<◌, ◌≤◌, ◌⊎◌, List, [], ◌∷◌, map, sum_by}
+use Rattle.std.specs.List.{All, AllPairs, AllByRecursion, flat_map, range_with_len}
+use Rattle.std.specs.List.Sorted.{IsPermutation}
 use Rattle.tl_base.specs.declared.limits.TheConstants.{MAX_COLUMNS, MAX_DEPTH, MAX_FILE_BYTES, MAX_PAGE_WIDTH, MAX_ROWS, MAX_TABLES}
 use Rattle.tl_grid.specs.declared.shape.Place.{Place}
 use Rattle.tl_grid.specs.Dropping.{IsPlaced}
@@ -61,6 +62,37 @@ nested_in_cell = fold-TableCell ℕ ℕ ℕ content_tables table_tables cell_tab
 abbrev pub nested_in_content : Content → ℕ
 nested_in_content = fold-Content ℕ ℕ ℕ content_tables table_tables cell_tables
 
+-- ---- the numbers of the tables that a table has inside, by a fold over it
+
+-- a nested table has its own number and those of the tables inside it
+abbrev pub content_numbers : open_content.Content-F (List ℕ) (List ℕ) (List ℕ) → List ℕ
+content_numbers (open_content.Para paragraph) = []
+content_numbers (open_content.Table box) = box.value
+
+abbrev pub cell_numbers : open_content.TableCell-F (List ℕ) (List ℕ) (List ℕ) → List ℕ
+cell_numbers cell = flat_map (λ block. block) cell.blocks
+
+abbrev pub table_numbers : open_content.Table-F (List ℕ) (List ℕ) (List ℕ) → List ℕ
+table_numbers table = table.number ∷ flat_map (λ cell. cell) table.cells
+
+-- the number of a table and of those inside it, and of those inside a cell and a block, at all depths
+abbrev pub numbers_of_table : Table → List ℕ
+numbers_of_table = fold-Table (List ℕ) (List ℕ) (List ℕ) content_numbers table_numbers cell_numbers
+
+abbrev pub numbers_in_cell : TableCell → List ℕ
+numbers_in_cell = fold-TableCell (List ℕ) (List ℕ) (List ℕ) content_numbers table_numbers cell_numbers
+
+abbrev pub numbers_in_content : Content → List ℕ
+numbers_in_content = fold-Content (List ℕ) (List ℕ) (List ℕ) content_numbers table_numbers cell_numbers
+
+-- the numbers of the tables inside a table, in the order of its cells and their blocks
+abbrev pub numbers_inside : OpenTable → List ℕ
+numbers_inside table = flat_map numbers_in_cell table.cells
+
+-- how many tables are inside
+abbrev pub count_inside : OpenTable → ℕ
+count_inside table = sum_by nested_in_cell table.cells
+
 -- ---- soundness
 
 -- where the cell lies
@@ -86,6 +118,8 @@ pub record IsSoundBy (sound : Table → Type 0) (table : OpenTable) : Type 0 whe
   pub columns : (column : ℕ) → column < table.cols → HasAnchorInColumn (places_of table) column
   pub rows : (row : ℕ) → row < table.rows → HasAnchorInRow (places_of table) row
   pub narrow : All (λ cell. (out-TableCell cell).least ≤ MAX_PAGE_WIDTH) table.cells
+  -- the tables inside have the numbers that follow the table's own, in some order, as footers move
+  pub numbered : IsPermutation (numbers_inside table) (range_with_len (table.number + 1) (count_inside table))
   pub inner : AllByRecursion sound (inner_tables table)
 
 -- the same of a table with fewer than `depth` tables inside one another

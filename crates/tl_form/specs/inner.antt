@@ -4,3 +4,4 @@ pub mod LeastRooms
 pub mod Links
 pub mod Forming
 pub mod CellSteps
+pub mod Collecting

@@ -18,6 +18,7 @@ mod paragraph;
 mod problem_laws;
 mod problems;
 mod shape;
+mod valid_laws;
 mod widest;
 mod width;
 
@@ -37,6 +38,10 @@ pub use problem_laws::{
     true_where_bounds_meet,
 };
 pub use problems::{has_sound_problem, problem};
+pub use valid_laws::{
+    bounded_is_between, each_number_is_of_one_table, lowest_is_least, narrow_is_too_wide,
+    refused_for_one_reason, valid_is_not_refused,
+};
 pub use width::least_width;
 
 #[cfg(test)]

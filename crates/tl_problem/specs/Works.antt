@@ -3,6 +3,7 @@
 use Rattle.std.specs.Prelude.{◌≡◌, ℕ, ◌+◌, ◌<◌, ℤ, pos, ◌+ℤ◌, ◌≤ℤ◌, List, length}
 use Rattle.tl_base.specs.Style.{gap_of}
 use Rattle.tl_diff.specs.Bounds.{Bounds, Satisfies}
+use Rattle.tl_diff.specs.Marks.{MarkedBounds}
 use Rattle.tl_problem.specs.declared.work.Work.{Work}
 use Rattle.tl_problem.specs.Sizes.{position}
 use Rattle.tl_problem.specs.Problem.{ProblemModel}
@@ -24,10 +25,18 @@ pub record KeepsPage (problem : ProblemModel) (bounds : Bounds) : Type 0 where
   pub gaps : (x : ℕ → ℤ) → Satisfies bounds x → (k : ℕ) → k < problem.cols → (x k +ℤ pos (gap_of problem.style)) ≤ℤ x (k + 1)
   pub page : (widths : List ℕ) → IsLeft problem bounds widths → WithinPage problem widths
 
--- the work is for this problem: its constraints keep the page, and its buffers have room for the cells and rows
+-- the matrix has the constraints of the problem's page and no others: it leaves all widths within the page
+pub record IsPageOf (problem : ProblemModel) (matrix : MarkedBounds) : Type 0 where
+  pub keeps : KeepsPage problem matrix.bounds
+  pub whole : (widths : List ℕ) → WithinPage problem widths → IsLeft problem matrix.bounds widths
+
+-- the work is for this problem: its constraints keep the page, its start has those of the page and a mark that is free, and
+-- its buffers have room for the cells and rows
 pub record IsWorkOf (problem : ProblemModel) (work : Work) : Type 0 where
   pub sound : IsSound problem
   pub keeps : KeepsPage problem work.matrix.bounds
+  pub start : IsPageOf problem work.start
+  pub free : length work.start.held < work.start.marks
   pub demands : length work.demands.items ≡ length problem.cells
   pub arcs : length work.arcs.items ≡ length problem.cells
   pub ends : length work.ends.items ≡ problem.rows + 1

@@ -5,7 +5,7 @@ ghost use Rattle.tl_diff.specs.Bounds.{IsSatisfiable};
 ghost use Rattle.tl_problem.specs.Areas.{IsAreaBound, IsGreatestEnd, IsLeastArea};
 ghost use Rattle.tl_problem.specs.Bounds.{HasNoWidths};
 ghost use Rattle.tl_problem.specs.Sound.{IsSound, IsSoundCell};
-ghost use Rattle.tl_problem.specs.Works.{HasPage, IsLeft, IsWorkOf, KeepsPage};
+ghost use Rattle.tl_problem.specs.Works.{IsLeft, IsWorkOf, KeepsPage};
 ghost use Rattle.tl_problem.specs.Zones.{InZone, IsZone};
 ghost use Rattle.tl_problem.specs.inner.Least.{HaveAreas, IsLeastStep, area_with};
 
@@ -26,9 +26,6 @@ impl Problem {
         if !work.matrix.holds() {
             return None;
         }
-        if self.cols() == 0 {
-            return Some(0);
-        }
         Some(area_bound(self, &work.matrix))
     }
 
@@ -36,32 +33,33 @@ impl Problem {
     /// widths lie in the zone. The work is as for `bound_of`, and no memory is taken.
     pub fn area_of(&self, zone: &Zone, work: &mut Work) -> Option<u32>
         requires zone { IsZone self.now zone.now }
-        requires page { HasPage self.now work.old }
-        requires mark { length work.old.matrix.held < work.old.matrix.marks }
+        requires work { IsWorkOf self.now work.old }
         ensures bound { MatchOption result (HasNoWidths (InZone self.now zone.now))
             (IsAreaBound self.now (InZone self.now zone.now)) }
-        ensures page { HasPage self.now work.new }
+        ensures work_of { IsWorkOf self.now work.new }
         ensures matrix { work.new.matrix ≡ work.old.matrix }
     {
-        work.matrix.mark();
-        let bound = if add_ranges(self, zone, &mut work.matrix) {
-            self.held_area(work)
+        work.start.mark();
+        let bound = if add_ranges(self, zone, &mut work.start) {
+            Some(area_bound(self, &work.start))
         } else {
             None
         };
-        work.matrix.undo();
+        work.start.undo();
         bound
     }
 }
 
-/// The area bound where there is a column and some widths are left.
+/// The area bound where some widths are left.
 fn area_bound(problem: &Problem, matrix: &Matrix) -> u32
     requires sound { IsSound problem.now }
     requires keeps { KeepsPage problem.now matrix.now.bounds }
     requires some { IsSatisfiable matrix.now.bounds }
-    requires columns { 0 < problem.now.cols }
     ensures { IsAreaBound problem.now (IsLeft problem.now matrix.now.bounds) result }
 {
+    if problem.cols() == 0 {
+        return 0;
+    }
     let style = problem.style();
     let end = greatest_end(problem, matrix);
     let lines = sum_of_areas(problem, matrix, end).div_ceil(u64::from(end)) as u32;

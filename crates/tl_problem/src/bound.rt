@@ -1,6 +1,7 @@
 //! The bound of a zone, and that of whatever constraints a work holds.
 
-ghost use Rattle.std.specs.Prelude.{◌≡◌, ℕ, ◌+◌, ◌<◌, ◌≤◌, pos, ◌+ℤ◌, ◌≤ℤ◌, List, length, Contains, Some, IfOk, MatchOption};
+ghost use Rattle.std.specs.Prelude.{◌≡◌, ℕ, ◌+◌, ◌<◌, ◌≤◌, pos, ◌+ℤ◌, ◌≤ℤ◌, List, length, Contains};
+ghost use Rattle.std.specs.Prelude.{Some, IfOk, MatchOption};
 ghost use Rattle.tl_base.specs.Style.{gap_of};
 ghost use Rattle.tl_base.specs.Steps.{height_at};
 ghost use Rattle.tl_diff.specs.Bounds.{IsSatisfiable, assignment_of};
@@ -8,7 +9,7 @@ ghost use Rattle.tl_problem.specs.Bounds.{HasNoWidths, IsBound, IsGreatestRoom};
 ghost use Rattle.tl_problem.specs.Layouts.{WithinPage};
 ghost use Rattle.tl_problem.specs.Placements.{AreLeast, IsPlacementIn};
 ghost use Rattle.tl_problem.specs.Sound.{IsSound, IsSoundCell};
-ghost use Rattle.tl_problem.specs.Works.{HasPage, IsLeft, IsWorkOf, KeepsPage};
+ghost use Rattle.tl_problem.specs.Works.{IsLeft, IsWorkOf, KeepsPage};
 ghost use Rattle.tl_problem.specs.Zones.{InZone, IsZone};
 ghost use Rattle.tl_problem.specs.inner.Constraints.{widths_of};
 ghost use Rattle.tl_problem.specs.inner.Needs.{IsLeastRoom, NeedLow};
@@ -46,24 +47,28 @@ impl Problem {
 
     /// The bound of the zone: the least total height of rows that give each cell its `low` at the
     /// greatest room which its span has in the zone. `None` exactly where no widths lie in the zone.
-    /// The work is of this problem and has only the constraints of its page, as it has again after the
-    /// call. No memory is taken.
+    /// Constraints that a caller added to the work do not matter, and stay. No memory is taken.
     pub fn bound_of(&self, zone: &Zone, work: &mut Work) -> Option<u32>
         requires zone { IsZone self.now zone.now }
-        requires page { HasPage self.now work.old }
-        requires mark { length work.old.matrix.held < work.old.matrix.marks }
+        requires work { IsWorkOf self.now work.old }
         ensures bound { MatchOption result (HasNoWidths (InZone self.now zone.now))
             (IsBound self.now (InZone self.now zone.now)) }
-        ensures page { HasPage self.now work.new }
+        ensures work_of { IsWorkOf self.now work.new }
         ensures matrix { work.new.matrix ≡ work.old.matrix }
     {
-        work.matrix.mark();
-        let bound = if add_ranges(self, zone, &mut work.matrix) {
-            self.held_bound(work)
+        work.start.mark();
+        let bound = if add_ranges(self, zone, &mut work.start) {
+            Some(bound_in(
+                self,
+                &work.start,
+                &mut work.demands,
+                &mut work.arcs,
+                &mut work.ends,
+            ))
         } else {
             None
         };
-        work.matrix.undo();
+        work.start.undo();
         bound
     }
 
@@ -71,16 +76,15 @@ impl Problem {
     /// zone. The work is as for `bound_of`.
     pub fn place_in(&self, zone: &Zone, work: &mut Work) -> Result<Option<Placed>, AllocError>
         requires zone { IsZone self.now zone.now }
-        requires page { HasPage self.now work.old }
-        requires mark { length work.old.matrix.held < work.old.matrix.marks }
+        requires work { IsWorkOf self.now work.old }
         ensures placed { IfOk result (λ found. MatchOption found (HasNoWidths (InZone self.now zone.now))
             (IsPlacementIn self.now (InZone self.now zone.now))) }
-        ensures page { HasPage self.now work.new }
+        ensures work_of { IsWorkOf self.now work.new }
         ensures matrix { work.new.matrix ≡ work.old.matrix }
     {
-        work.matrix.mark();
-        let attempt = zone_widths(self, zone, &mut work.matrix);
-        work.matrix.undo();
+        work.start.mark();
+        let attempt = zone_widths(self, zone, &mut work.start);
+        work.start.undo();
         let found = attempt?;
         let Some(widths) = found else {
             return Ok(None);

@@ -13,7 +13,7 @@ use crate::axis::Axis;
 use crate::{Cell, Problem};
 use std::alloc::{AllocError, Global};
 use tl_base::{List, MAX_HEIGHT, MAX_ROWS};
-use tl_diff::{Arc, heaviest};
+use tl_diff::{Arc, MAX_PATH_WEIGHT, heaviest};
 
 /// An arc that stands in a buffer until another is written over it.
 pub const NO_ARC: Arc = Arc {
@@ -25,7 +25,7 @@ pub const NO_ARC: Arc = Arc {
 /// The least sizes that give each cell what it demands.
 pub fn least_sizes(problem: &Problem, axis: Axis, demands: &[u32]) -> Result<List<u32>, AllocError>
     requires count { length demands.now ≡ length problem.now.cells }
-    requires fits { sum demands.now ≤ 2 ^ 31 }
+    requires fits { sum demands.now ≤ MAX_PATH_WEIGHT }
     ensures least { IfOk result (AreLeast (gap_on axis problem.now)
         (GiveDemands problem.now axis demands.now)) }
     ensures small { IfOk result (λ sizes. sum sizes ≤ sum demands.now) }
@@ -45,7 +45,7 @@ fn sizes_in(
     ends: &mut [u32],
 ) -> Result<List<u32>, AllocError>
     requires count { length demands.now ≡ length problem.now.cells }
-    requires fits { sum demands.now ≤ 2 ^ 31 }
+    requires fits { sum demands.now ≤ MAX_PATH_WEIGHT }
     requires arc_room { length arcs.old ≡ length problem.now.cells }
     requires end_room { length ends.old ≡ count_on axis problem.now + 1 }
     ensures least { IfOk result (AreLeast (gap_on axis problem.now)
@@ -84,7 +84,7 @@ fn find_ends(
     ends: &mut [u32],
 ) -> u32
     requires count { length demands.now ≡ length problem.now.cells }
-    requires fits { sum demands.now ≤ 2 ^ 31 }
+    requires fits { sum demands.now ≤ MAX_PATH_WEIGHT }
     requires arc_room { length arcs.old ≡ length problem.now.cells }
     requires end_room { length ends.old ≡ count_on axis problem.now + 1 }
     ensures ends { HaveEnds problem.now axis demands.now ends.new }

@@ -19,8 +19,8 @@ const TWO_CELLS: &str = "0-1 0-1 = 3:2 7:1; 1-2 0-1 = 2:3 5:2 8:1";
 const A_COLSPAN: &str = "0-2 0-1 = 4:3 7:2 12:1; 0-1 1-2 = 1:1; 1-2 1-2 = 2:1";
 
 /// `a a`, `b b` and `c` above `c`, over `p`, `q`, `cccc cccc` and `dddd dddd`.
-const FOUR_COLUMNS: &str =
-    "0-1 0-1 = 1:2 3:1; 1-2 0-1 = 1:2 3:1; 2-3 0-1 = 1:2; 0-1 1-2 = 1:1; 1-2 1-2 = 1:1; 2-3 1-2 = 4:2 9:1; 3-4 1-2 = 4:2 9:1";
+const FOUR_COLUMNS: &str = "0-1 0-1 = 1:2 3:1; 1-2 0-1 = 1:2 3:1; 2-3 0-1 = 1:2; \
+    0-1 1-2 = 1:1; 1-2 1-2 = 1:1; 2-3 1-2 = 4:2 9:1; 3-4 1-2 = 4:2 9:1";
 
 // The spans with their classes, and the count: two cells side by side, a colspan, a rowspan over three
 // rows, four columns, one cell on three pages, and no cell.
@@ -28,7 +28,8 @@ const CLASSES: &str = "\
 plain 2x1 12 | 0-1 0-1 = 3:2 7:1; 1-2 0-1 = 2:3 5:2 8:1 | 0-1 [3, 7], 1-2 [2, 5, 8], 6
 plain 2x2 9 | 0-2 0-1 = 4:3 7:2 12:1; 0-1 1-2 = 1:1; 1-2 1-2 = 2:1 | 0-1 [1], 0-2 [4, 7], 1-2 [2], 2
 plain 2x3 6 | 0-1 0-3 = 1:6 3:3 5:2 11:1; 1-2 0-1 = 1:1; 1-2 1-2 = 1:2 3:1; 1-2 2-3 = 1:1 | 0-1 [1, 3, 5], 1-2 [1, 3], 6
-plain 4x2 25 | 0-1 0-1 = 1:2 3:1; 1-2 0-1 = 1:2 3:1; 2-3 0-1 = 1:2; 0-1 1-2 = 1:1; 1-2 1-2 = 1:1; 2-3 1-2 = 4:2 9:1; 3-4 1-2 = 4:2 9:1 | 0-1 [1, 3], 1-2 [1, 3], 2-3 [4, 9], 3-4 [4, 9], 16
+plain 4x2 25 | 0-1 0-1 = 1:2 3:1; 1-2 0-1 = 1:2 3:1; 2-3 0-1 = 1:2; \
+    0-1 1-2 = 1:1; 1-2 1-2 = 1:1; 2-3 1-2 = 4:2 9:1; 3-4 1-2 = 4:2 9:1 | 0-1 [1, 3], 1-2 [1, 3], 2-3 [4, 9], 3-4 [4, 9], 16
 plain 1x1 8 | 0-1 0-1 = 2:3 5:2 8:1 | 0-1 [2, 5, 8], 3
 plain 1x1 7 | 0-1 0-1 = 2:3 5:2 8:1 | 0-1 [2, 5], 2
 plain 1x1 2 | 0-1 0-1 = 2:3 5:2 8:1 | 0-1 [2], 1
@@ -44,7 +45,8 @@ frame 2x1 12 | 0-1 0-1 = 3:2 7:1; 1-2 0-1 = 2:3 5:2 8:1 | Some(4) Some(4) [3, 2]
 plain 2x1 7 | 0-1 0-1 = 1:2 3:1; 1-2 0-1 = 1:2 3:1 | Some(1) Some(2) [1, 1] [2] 4x2
 plain 2x2 7 | 0-1 0-2 = 2:3 5:2 8:1; 1-2 0-1 = 1:1; 1-2 1-2 = 1:1 | Some(3) Some(2) [2, 1] [1, 2] 5x3
 frame 2x2 10 | 0-2 0-1 = 3:1; 0-1 1-2 = 1:1; 1-2 1-2 = 1:1 | Some(5) Some(3) [1, 1] [1, 1] 5x5
-plain 4x2 25 | 0-1 0-1 = 1:2 3:1; 1-2 0-1 = 1:2 3:1; 2-3 0-1 = 1:2; 0-1 1-2 = 1:1; 1-2 1-2 = 1:1; 2-3 1-2 = 4:2 9:1; 3-4 1-2 = 4:2 9:1 | Some(3) Some(2) [1, 1, 4, 4] [2, 2] 16x4
+plain 4x2 25 | 0-1 0-1 = 1:2 3:1; 1-2 0-1 = 1:2 3:1; 2-3 0-1 = 1:2; \
+    0-1 1-2 = 1:1; 1-2 1-2 = 1:1; 2-3 1-2 = 4:2 9:1; 3-4 1-2 = 4:2 9:1 | Some(3) Some(2) [1, 1, 4, 4] [2, 2] 16x4
 plain 1x1 8 | 0-1 0-1 = 2:3 5:2 8:1 | Some(1) Some(1) [2] [3] 2x3
 plain 1x1 2 | 0-1 0-1 = 2:3 5:2 8:1 | Some(3) Some(3) [2] [3] 2x3
 plain 1x1 3 | 0-1 0-1 = 1:2 3:1 / 1:4 3:2 | Some(1) Some(1) [1] [4] 1x4
@@ -426,5 +428,18 @@ fn counts_of_sixty_columns_stop_at_the_last_number_of_64_bits(rt: HostRuntime) -
         assert_eq!(rt; found.as_str(), wanted);
     }
     assert!(rt; a_row(rt.alloc(), 61, 0, "1:1")?.is_none());
+    Ok(())
+}
+
+// The page has 22 columns more than 60 cells of one column and 59 gaps take, so each cell alone may have
+// its one line. The areas are 5 each, 300 in all, on 202 columns.
+#[test]
+fn sixty_columns_have_a_bound_below_their_area_bound(rt: HostRuntime) -> Result<(), Fail> {
+    let problem = a_row(rt.alloc(), 60, 0, "1:1")?.ok_or("no sound problem")?;
+    let whole = whole(&problem)?;
+    let mut work = Work::new(&problem)?;
+    assert_eq!(rt; problem.bound_of(&whole, &mut work), Some(1));
+    assert_eq!(rt; problem.area_of(&whole, &mut work), Some(2));
+    assert_eq!(rt; problem.bound_of(&whole, &mut work), Some(1));
     Ok(())
 }

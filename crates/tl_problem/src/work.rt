@@ -15,8 +15,10 @@ use tl_diff::{Arc, Matrix};
 /// variables less a gap.
 #[derive(Debug, Drop)]
 pub struct Work {
-    /// The constraints: at first those of the page and of the least widths.
+    /// The constraints: at first those of the page and of the least widths. A caller may add others.
     pub matrix: Matrix,
+    // those of the page and of the least widths, to which a zone adds its own while its bound is found
+    pub(crate) start: Matrix,
     pub(crate) demands: Vec<u32>,
     pub(crate) arcs: Vec<Arc>,
     pub(crate) ends: Vec<u32>,
@@ -32,8 +34,10 @@ impl Work {
         let alloc = problem.alloc();
         let cells = problem.cells().len();
         let matrix = page_matrix(problem)?;
+        let start = page_matrix(problem)?;
         Ok(Work {
             matrix,
+            start,
             demands: vec![in alloc; 0; cells]?,
             arcs: vec![in alloc; NO_ARC; cells]?,
             ends: vec![in alloc; 0; problem.rows() as usize + 1]?,

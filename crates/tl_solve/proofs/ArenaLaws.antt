@@ -11,7 +11,7 @@ use Rattle.tl_problem.specs.Zones.{whole_zone, IsZone, InZone, lower_part, upper
 use Rattle.tl_problem.specs.Bounds.{IsBound}
 use Rattle.tl_problem.specs.Placements.{IsOpening}
 use Rattle.tl_problem.specs.Tight.{IsTightFrom, IsTight}
-use Rattle.tl_problem.specs.Works.{HasPage}
+use Rattle.tl_problem.specs.Works.{IsWorkOf}
 use Rattle.tl_problem.proofs.BoundLaws.{bound-below_placement}
 use Rattle.tl_problem.proofs.SetLaws.{opening-in_whole}
 use Rattle.tl_problem.proofs.ZoneLaws.{whole-is_zone}
@@ -65,14 +65,13 @@ module _ (problem : ProblemModel) (sound : IsSound problem) where
   }
 
   pub arena-opened : (arena : Arena) (opening : Placed) (found : Option ℕ) → IsOpening problem opening → IsTightFrom problem opening.widths arena.best →
-      HasPage problem arena.work → length arena.work.matrix.held < arena.work.matrix.marks → arena.trace ≡ [] →
+      IsWorkOf problem arena.work → arena.trace ≡ [] →
       arena.zones.items ≡ whole_zone problem ∷ [] → arena.bounds.items ≡ found ∷ [] → IsBoundFound problem (whole_zone problem) found →
       arena.opening ≡ opening.height → IsArenaOf problem arena
-  arena-opened arena opening found is made work mark none zones bounds bound height =
+  arena-opened arena opening found is made work none zones bounds bound height =
       let same = tight-opening problem opening arena.best is made in
       record {
         work = work;
-        mark = mark;
         trace_of = subst (IsTraceOf problem) (sym none) (λ i d within. absurd (omega (arith, within)));
         few = omega (arith, ap length none);
         zones = zones ∙ ap (zones_of (whole_zone problem)) (sym none);
@@ -172,8 +171,7 @@ pub record IsCutInto (problem : ProblemModel) (old new : Arena) (cut : CutAt) (l
   pub lowered : IsLowered old.best new.best
   pub tight : IsTight problem new.best
   pub opening : new.opening ≡ old.opening
-  pub work : HasPage problem new.work
-  pub mark : length new.work.matrix.held < new.work.matrix.marks
+  pub work : IsWorkOf problem new.work
 
 pub arena-more : (problem : ProblemModel) (old new : Arena) (cut : CutAt) (low high : List Range) (first second : Option ℕ) → IsArenaOf problem old →
     IsCut (whole_zone problem) old.trace cut → HasBoundBelow problem old.trace cut.zone old.opening → length old.trace < MAX_BUDGET →
@@ -185,7 +183,6 @@ arena-more problem old new cut low high first second is now below few into =
     let best = is.opening in
     record {
       work = into.work;
-      mark = into.mark;
       trace_of = subst (IsTraceOf problem) back (trace-push (whole_zone problem) old.trace cut is.trace_of now);
       few = omega (arith, few, ap length into.trace, length-append old.trace (cut ∷ []));
       zones = into.zones ∙ zones-two problem old.trace is.trace_of cut now low high into.low_is into.high_is old.zones.items is.zones
@@ -229,7 +226,7 @@ arena-item problem arena is z item there at =
 
 pub arena-zone : (problem : ProblemModel) (arena : Arena) → IsArenaOf problem arena → (z : ℕ) → IsZoneOf arena.trace z →
     IsZone problem (zone_of problem arena.trace z)
-arena-zone problem arena is z there = zones-are problem is.work.work_of.sound arena.trace is.trace_of z there
+arena-zone problem arena is z there = zones-are problem is.work.sound arena.trace is.trace_of z there
 
 -- the span of a cut is one of the zone that is cut
 pub cut-span : (problem : ProblemModel) (arena : Arena) → IsArenaOf problem arena → (cut : CutAt) → IsCut (whole_zone problem) arena.trace cut →
@@ -242,7 +239,6 @@ pub arena-better : (problem : ProblemModel) (arena : Arena) (best : Placed) → 
     IsArenaOf problem (record arena { best = best })
 arena-better problem arena best is tight lowered = record {
   work = is.work;
-  mark = is.mark;
   trace_of = is.trace_of;
   few = is.few;
   zones = is.zones;

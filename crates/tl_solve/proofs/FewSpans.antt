@@ -49,7 +49,7 @@ square-le n few =
     let one = mul-le-mul_left n few in
     omega (arith, one)
 
-pub spans-few : (problem : ProblemModel) → IsSound problem → length (spans_of problem) ≤ 1830
+pub spans-few : (problem : ProblemModel) → IsSound problem → length (spans_of problem) ≤ MAX_SPAN + 1
 unfolding spans_of
 spans-few problem sound =
     let all = rows-length problem.cols 0 problem.cols (omega arith) in

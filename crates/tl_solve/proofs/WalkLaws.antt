@@ -1,5 +1,5 @@
 -- The way of the plain search: how its stack and the order of its cuts go on.
-use Rattle.std.proofs.Common.{◌≡◌, ◌≢◌, ℕ, ◌+◌, ◌*◌, ◌<◌, ◌≤◌, List, [], ◌∷◌, ◌++◌, ◌⊎◌, inl, inr, length, get_or, Result, Ok, Err, sym, ap, ◌∙◌, subst, arith, length-append}
+use Rattle.std.proofs.Common.{◌≡◌, ◌≢◌, ℕ, ◌+◌, ◌*◌, ◌<◌, ◌≤◌, zero, suc, List, [], ◌∷◌, ◌++◌, ◌⊎◌, inl, inr, length, get_or, Result, Ok, Err, sym, ap, ◌∙◌, subst, arith, length-append}
 use Rattle.std.specs.List.{All, AllPairs, Contains}
 use Rattle.std.specs.Result.{IfOk}
 use Rattle.std.proofs.lemmas.Bool.{cases_lt}
@@ -57,6 +57,28 @@ closed-lower problem zone height best less (inr (inl high)) = inr (inl (high.0, 
 closed-lower problem zone height best less (inr (inr single)) = inr (inr single)
 
 -- ---- the stack
+
+-- before any cut the one zone is on it
+start-standing : All (Stands []) (0 ∷ [])
+start-standing zero d within = record { there = omega arith; not_cut = λ j e more. absurd (omega (arith, more)) }
+start-standing (suc i) d within = absurd (omega (arith, within))
+
+pub stack-start : (problem : ProblemModel) (height : ℕ) (trace : List CutAt) (stack : List ℕ) → trace ≡ [] → stack ≡ 0 ∷ [] →
+    IsStack problem trace height stack
+stack-start problem height trace stack none one =
+    subst (λ t. IsStack problem t height stack) (sym none) (subst (IsStack problem [] height) (sym one) (record {
+      standing = start-standing;
+      apart = λ i j d less within. absurd (omega (arith, less, within));
+      follow = λ i d within j e more. absurd (omega (arith, more));
+      closed = λ z stands. inl (subst (Contains (0 ∷ [])) (omega (arith, stands.there)) (Contains-first 0 []));
+    }))
+
+pub order-start : (problem : ProblemModel) (trace : List CutAt) → trace ≡ [] → KeepsOrder problem trace
+order-start problem trace none = subst (KeepsOrder problem) (sym none) (record {
+  spans = λ i d within. absurd (omega (arith, within));
+  below = λ i d within. absurd (omega (arith, within));
+  order = λ i j d less within. absurd (omega (arith, within));
+})
 
 module _ (problem : ProblemModel) where
   -- before any cut the whole is on it

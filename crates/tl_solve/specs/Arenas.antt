@@ -9,7 +9,7 @@ use Rattle.tl_problem.specs.Zones.{whole_zone, InZone}
 use Rattle.tl_problem.specs.Bounds.{HasNoWidths, IsBound}
 use Rattle.tl_problem.specs.Placements.{IsPlacementIn, IsOpening}
 use Rattle.tl_problem.specs.Tight.{IsTight}
-use Rattle.tl_problem.specs.Works.{HasPage}
+use Rattle.tl_problem.specs.Works.{IsWorkOf}
 use Rattle.tl_cert.specs.declared.trace.CutAt.{CutAt}
 use Rattle.tl_cert.specs.Traces.{zones_of, zone_of, IsZoneOf, IsTraceOf}
 use Rattle.tl_cert.specs.Worked.{IsBoundOf}
@@ -47,8 +47,7 @@ IsOpeningOrLower problem height best = (opening : Placed) × IsOpening problem o
 -- the arena is one of this problem: its zones and bounds are those of its trace, each cut zone had a bound below the
 -- height of the opening, and the best placement is tight, and each zone was looked at for a lower one
 pub record IsArenaOf (problem : ProblemModel) (arena : Arena) : Type 0 where
-  pub work : HasPage problem arena.work
-  pub mark : length arena.work.matrix.held < arena.work.matrix.marks
+  pub work : IsWorkOf problem arena.work
   pub trace_of : IsTraceOf problem arena.trace
   pub few : length arena.trace ≤ MAX_BUDGET
   pub zones : arena.zones.items ≡ zones_of (whole_zone problem) arena.trace

@@ -14,7 +14,7 @@ ghost use Rattle.tl_solve.specs.Orders.{IsFirstCut, IsFirstOpen};
 use crate::looks::{look, take_lower};
 use std::alloc::{AllocError, Global};
 use tl_base::MAX_BUDGET;
-use tl_cert::{CutAt, Trace};
+use tl_cert::{CutAt, MAX_SPAN, Trace};
 use tl_problem::{Placed, Problem, Range, Work, Zone};
 
 /// The zones that a search has made of one problem. Zone 0 is the whole; cut `i`, counted from 0, makes
@@ -152,7 +152,7 @@ impl Arena {
 
 /// The number of the first range of more than one class.
 fn first_open(ranges: &[Range]) -> Option<u32>
-    requires { length ranges.now ≤ 1830 }
+    requires { length ranges.now ≤ MAX_SPAN + 1 }
     ensures none { IfNone result (HasOneClass ranges.now) }
     ensures first { IfSome result (IsFirstOpen ranges.now) }
 {

@@ -3,7 +3,7 @@
 ghost use Rattle.std.specs.Prelude.{◌≡◌, ◌<◌, ◌≤◌, length, IfOk, OnOk};
 ghost use Rattle.tl_problem.specs.Placements.{IsPlacement};
 ghost use Rattle.tl_problem.specs.Tight.{IsTight};
-ghost use Rattle.tl_problem.specs.Works.{HasPage};
+ghost use Rattle.tl_problem.specs.Works.{IsWorkOf};
 ghost use Rattle.tl_problem.specs.Zones.{IsZone};
 ghost use Rattle.tl_solve.specs.Arenas.{IsBoundFound, IsLowered, IsLookedAt};
 
@@ -19,12 +19,10 @@ pub(crate) fn look(
     best: &mut Placed,
 ) -> Result<Option<u32>, AllocError>
     requires zone { IsZone problem.now zone.now }
-    requires page { HasPage problem.now work.old }
-    requires mark { length work.old.matrix.held < work.old.matrix.marks }
+    requires work { IsWorkOf problem.now work.old }
     requires tight { IsTight problem.now best.old }
     ensures bound { IfOk result (IsBoundFound problem.now zone.now) }
-    ensures page { HasPage problem.now work.new }
-    ensures matrix { work.new.matrix ≡ work.old.matrix }
+    ensures work { IsWorkOf problem.now work.new }
     ensures tight { IsTight problem.now best.new }
     ensures lowered { IsLowered best.old best.new }
     ensures looked { OnOk result (IsLookedAt problem.now zone.now best.new.height) }
@@ -47,11 +45,9 @@ fn place_zone(
     best: &mut Placed,
 ) -> Result<(), AllocError>
     requires zone { IsZone problem.now zone.now }
-    requires page { HasPage problem.now work.old }
-    requires mark { length work.old.matrix.held < work.old.matrix.marks }
+    requires work { IsWorkOf problem.now work.old }
     requires tight { IsTight problem.now best.old }
-    ensures page { HasPage problem.now work.new }
-    ensures matrix { work.new.matrix ≡ work.old.matrix }
+    ensures work { IsWorkOf problem.now work.new }
     ensures tight { IsTight problem.now best.new }
     ensures lowered { IsLowered best.old best.new }
     ensures looked { OnOk result (IsLookedAt problem.now zone.now best.new.height) }

@@ -10,4 +10,12 @@ returns-then-fire_all-clause-good c =
 pub returns-else-fire_all-clause-work_of : goal.returns-else-fire_all-clause-work_of
 returns-else-fire_all-clause-work_of c =
     let before = c.requires.page.work_of in
-    record { sound = before.sound; keeps = c.fire_all.ensures.keeps.page; demands = before.demands; arcs = before.arcs; ends = before.ends }
+    record {
+      sound = before.sound;
+      keeps = c.fire_all.ensures.keeps.page;
+      start = before.start;
+      free = before.free;
+      demands = before.demands;
+      arcs = before.arcs;
+      ends = before.ends;
+    }

@@ -1,11 +1,21 @@
--- The areas are small against the end, so that few lines hold them.
-use Rattle.std.proofs.Common.{◌≡◌, ◌+◌, length, arith, ap}
+-- The areas are small against the end, so that few lines hold them; where there is no column the area bound is 0.
+use Rattle.std.proofs.Common.{◌≡◌, ◌+◌, ◌<◌, length, refl, arith, ap}
 use Rattle.std.specs.Int.{div_ceil}
 use Rattle.tl_base.specs.Style.{edge_of}
 use Rattle.tl_problem.specs.Works.{IsLeft}
 use Rattle.tl_problem.proofs.DemandLemmas.{few-cells}
+use Rattle.tl_problem.proofs.WorkLemmas.{left-some}
 use Rattle.tl_problem.proofs.AreaFound.{areas-small, rounded-up, IsAreaBound-found, edge-few}
 use Rattle.tl_problem.proofs.area.area_bound.Goals as goal
+
+pub returns-then-cols-eq0 : goal.returns-then-cols-eq0
+returns-then-cols-eq0 c =
+    let none : c.args.problem.now.cols ≡ 0 = omega (arith, c.cols.ensures, c.if-cols-eq0.true) in
+    record {
+      some = left-some c.args.problem.now c.args.matrix.now.bounds c.requires.keeps c.requires.some;
+      no_column = λ columns. refl;
+      columns = λ some. absurd (omega (arith, none));
+    }
 
 pub overflow_cast-lines : goal.overflow_cast-lines
 overflow_cast-lines c =
@@ -38,6 +48,7 @@ returns c =
     let end = c.greatest_end-end.result in
     let total = c.sum_of_areas.result in
     let lines : c.div_ceil-lines.result ≡ div_ceil total end = rw c.from.ensures at c.div_ceil-lines.ensures in
+    let some : 0 < p.cols = omega (arith, c.cols.ensures, c.if-cols-eq0.false) in
     rw (c.saturating_sub.ensures, c.edge.ensures, c.row_gap.ensures, c.style-style.ensures, lines)
-    (IsAreaBound-found p c.requires.sound Among c.requires.keeps.page end c.greatest_end-end.ensures.end total c.requires.columns
+    (IsAreaBound-found p c.requires.sound Among c.requires.keeps.page end c.greatest_end-end.ensures.end total some
     c.greatest_end-end.ensures.some c.sum_of_areas.ensures)

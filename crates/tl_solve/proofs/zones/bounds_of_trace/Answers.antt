@@ -1,4 +1,4 @@
-use Rattle.std.proofs.Common.{◌≡◌, ◌+◌, ◌<◌, ◌++◌, ◌∷◌, [], ℕ, List, Option, length, get_or, sym, ap, ◌∙◌, subst, arith, length-append}
+use Rattle.std.proofs.Common.{◌≡◌, ◌+◌, ◌<◌, ◌++◌, ◌∷◌, [], ℕ, List, Option, length, get_or, sym, ap, subst, arith, length-append}
 use Rattle.tl_problem.specs.Zones.{whole_zone, IsZone}
 use Rattle.tl_cert.specs.Traces.{zone_of}
 use Rattle.tl_cert.proofs.TraceLaws.{zones-are}
@@ -27,9 +27,7 @@ loop-number-preserved c =
     let found : IsBoundFound p (zone_of p trace n) bound = subst (λ zone. IsBoundFound p zone bound) same c.bound_of-bound.ensures.bound in
     let all = found-more p trace items n bound c.loop-number.invariant.count c.loop-number.invariant.each found in
     record {
-      page = c.bound_of-bound.ensures.page;
-      held = ap (λ m. m.held) c.bound_of-bound.ensures.matrix ∙ c.loop-number.invariant.held;
-      marks = ap (λ m. m.marks) c.bound_of-bound.ensures.matrix ∙ c.loop-number.invariant.marks;
+      work = c.bound_of-bound.ensures.work_of;
       count = omega (arith, ap length pushed, length-append items (bound ∷ []), c.loop-number.invariant.count);
       each = subst (λ (list : List (Option ℕ)). (z : ℕ) (d : Option ℕ) → z < n + 1 → IsBoundFound p (zone_of p trace z) (get_or list z d)) (sym pushed) all;
     }

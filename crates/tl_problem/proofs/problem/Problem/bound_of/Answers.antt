@@ -1,4 +1,5 @@
 -- The zone's ranges leave exactly the widths in the zone.
+use Rattle.std.proofs.Common.{Some}
 use Rattle.tl_problem.specs.Zones.{InZone}
 use Rattle.tl_problem.specs.Works.{IsLeft, places}
 use Rattle.tl_problem.proofs.ConstraintLemmas.{KeepsPage-adds, bound-same, ranges-left, ranges-zone, ranges-none}
@@ -6,40 +7,34 @@ use Rattle.tl_problem.proofs.problem.Problem.bound_of.Goals as goal
 use Rattle.tl_problem.proofs.problem.Problem.bound_of.Goals.{then-add_ranges, else-add_ranges}
 
 pub add_ranges-requires-clause-sound : goal.add_ranges-requires-clause-sound
-add_ranges-requires-clause-sound c = c.requires.page.work_of.sound
+add_ranges-requires-clause-sound c = c.requires.work.sound
 
 pub add_ranges-requires-clause-holds : goal.add_ranges-requires-clause-holds
 add_ranges-requires-clause-holds c =
-    let fits = c.requires.page.work_of.sound.fits in
-    rw c.mark.ensures (places c.args.self.now fits.0, (c.requires.page.whole fits.0 fits.1).satisfies)
+    let fits = c.requires.work.sound.fits in
+    rw c.mark.ensures (places c.args.self.now fits.0, (c.requires.work.start.whole fits.0 fits.1).satisfies)
 
-pub held_bound-bound-requires : goal.held_bound-bound-requires
-held_bound-bound-requires c =
+pub bound_in-requires-clause-keeps : goal.bound_in-requires-clause-keeps
+bound_in-requires-clause-keeps c =
     let adds = rw c.mark.ensures at c.add_ranges.ensures.adds in
-    record {
-      sound = c.requires.page.work_of.sound;
-      keeps = KeepsPage-adds c.args.self.now c.args.work.now.matrix.bounds c.add_ranges.new.matrix.bounds adds.variables adds.keeps
-          c.requires.page.work_of.keeps;
-      demands = c.requires.page.work_of.demands;
-      arcs = c.requires.page.work_of.arcs;
-      ends = c.requires.page.work_of.ends;
-    }
+    KeepsPage-adds c.args.self.now c.args.work.now.start.bounds c.add_ranges.new.matrix.bounds adds.variables adds.keeps
+    c.requires.work.start.keeps
 
 pub returns-clause-bound : goal.returns-clause-bound
 returns-clause-bound c =
     let p = c.args.self.now in
     let zone = c.args.zone.now in
-    let base = c.args.work.now.matrix in
+    let base = c.args.work.now.start in
     let adds = rw c.mark.ensures at c.add_ranges.ensures.adds in
     elim c.if-add_ranges.branch [
       | then-add_ranges w ↦
           rw w.bound-is
           (bound-same p (IsLeft p c.add_ranges.new.matrix.bounds) (InZone p zone)
-          (ranges-zone p zone _ _ base.bounds c.add_ranges.new.matrix c.add_ranges.result adds w.if-add_ranges.true c.requires.page.work_of.keeps)
-          (ranges-left p zone _ _ base.bounds c.add_ranges.new.matrix c.add_ranges.result adds c.requires.page.whole)
-          w.held_bound-bound.result w.held_bound-bound.ensures.bound)
+          (ranges-zone p zone _ _ base.bounds c.add_ranges.new.matrix c.add_ranges.result adds w.if-add_ranges.true c.requires.work.start.keeps)
+          (ranges-left p zone _ _ base.bounds c.add_ranges.new.matrix c.add_ranges.result adds c.requires.work.start.whole)
+          (Some w.bound_in.result) w.bound_in.ensures)
       | else-add_ranges w ↦
           rw w.bound-is
-          (ranges-none p zone _ _ base.bounds c.add_ranges.new.matrix c.add_ranges.result adds w.if-add_ranges.false c.requires.page.whole
+          (ranges-none p zone _ _ base.bounds c.add_ranges.new.matrix c.add_ranges.result adds w.if-add_ranges.false c.requires.work.start.whole
           c.add_ranges.ensures.holds.1)
     ]

@@ -17,6 +17,8 @@ returns-clause-work_of c =
     record {
       sound = c.requires.sound;
       keeps = c.requires.keeps;
+      start = c.requires.start;
+      free = c.requires.free;
       demands = ap length demands ∙ c.bound_in.auto.demands ∙ ap length c.deref_mut.ensures.value ∙ c.requires.demands;
       arcs = ap length arcs ∙ c.bound_in.auto.arcs ∙ ap length c.deref_mut-2.ensures.value ∙ c.requires.arcs;
       ends = ap length ends ∙ c.bound_in.auto.ends ∙ ap length c.deref_mut-3.ensures.value ∙ c.requires.ends;

@@ -5,13 +5,13 @@ use Rattle.tl_problem.specs.Zones.{InZone}
 use Rattle.tl_problem.proofs.problem.Problem.place_in.Goals as goal
 
 pub zone_widths-attempt-requires-clause-sound : goal.zone_widths-attempt-requires-clause-sound
-zone_widths-attempt-requires-clause-sound c = c.requires.page.work_of.sound
+zone_widths-attempt-requires-clause-sound c = c.requires.work.sound
 
 pub zone_widths-attempt-requires-clause-keeps : goal.zone_widths-attempt-requires-clause-keeps
-zone_widths-attempt-requires-clause-keeps c = rw c.mark.ensures c.requires.page.work_of.keeps
+zone_widths-attempt-requires-clause-keeps c = rw c.mark.ensures c.requires.work.start.keeps
 
 pub zone_widths-attempt-requires-clause-whole : goal.zone_widths-attempt-requires-clause-whole
-zone_widths-attempt-requires-clause-whole c = rw c.mark.ensures c.requires.page.whole
+zone_widths-attempt-requires-clause-whole c = rw c.mark.ensures c.requires.work.start.whole
 
 pub returns-in_default-clause-placed : goal.returns-in_default-clause-placed
 returns-in_default-clause-placed c = rw (c.in_ok-found.was, c.in_default.is) at c.zone_widths-attempt.ensures.widths

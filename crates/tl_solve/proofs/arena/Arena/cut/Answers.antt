@@ -1,4 +1,4 @@
-use Rattle.std.proofs.Common.{◌≡◌, ◌<◌, ◌≤◌, ◌++◌, ◌∷◌, [], length, refl, sym, ap, ◌∙◌, subst, arith}
+use Rattle.std.proofs.Common.{◌≡◌, ◌<◌, ◌≤◌, ◌++◌, ◌∷◌, [], length, refl, sym, ap, ◌∙◌, subst}
 use Rattle.tl_problem.specs.Zones.{range_at, IsZone, lower_part, upper_part}
 use Rattle.tl_problem.proofs.ZoneLaws.{lower-is_zone, upper-is_zone}
 use Rattle.tl_cert.specs.Traces.{zone_of}
@@ -29,7 +29,7 @@ look-requires-clause-zone c =
     let zone = zone_of p old.trace cut.zone in
     let same = arena-item p old c.requires.arena cut.zone c.index.result.now c.requires.cut.stands.there c.index.ensures in
     let low : c.in_ok-lower.lower ≡ lower_part zone cut.span cut.class = c.in_ok-lower.ensures.lower ∙ ap (λ z. lower_part z cut.span cut.class) same in
-    subst (IsZone p) (sym low) (lower-is_zone p c.requires.arena.work.work_of.sound zone
+    subst (IsZone p) (sym low) (lower-is_zone p c.requires.arena.work.sound zone
     (arena-zone p old c.requires.arena cut.zone c.requires.cut.stands.there) cut.span cut.class
     (cut-span p old c.requires.arena cut c.requires.cut) c.requires.cut.lower c.requires.cut.upper)
 
@@ -41,7 +41,7 @@ look-requires-2-clause-zone c =
     let zone = zone_of p old.trace cut.zone in
     let same = arena-item p old c.requires.arena cut.zone c.index.result.now c.requires.cut.stands.there c.index.ensures in
     let high : c.in_ok-lower.upper ≡ upper_part zone cut.span cut.class = c.in_ok-lower.ensures.upper ∙ ap (λ z. upper_part z cut.span cut.class) same in
-    subst (IsZone p) (sym high) (upper-is_zone p c.requires.arena.work.work_of.sound zone
+    subst (IsZone p) (sym high) (upper-is_zone p c.requires.arena.work.sound zone
     (arena-zone p old c.requires.arena cut.zone c.requires.cut.stands.there) cut.span cut.class
     (cut-span p old c.requires.arena cut c.requires.cut) c.requires.cut.lower c.requires.cut.upper)
 
@@ -50,11 +50,7 @@ returns-clause-arena c =
     let p = c.args.problem.now in
     let old = c.args.self.now in
     let cut = c.args.cut in
-    let work = c.look-2.new.work in
     let same = arena-item p old c.requires.arena cut.zone c.index.result.now c.requires.cut.stands.there c.index.ensures in
-    let matrix = c.look-2.ensures.matrix ∙ c.look.ensures.matrix in
-    let mark : length work.matrix.held < work.matrix.marks =
-    omega (arith, ap (λ m. length m.held) matrix, ap (λ m. m.marks) matrix, c.requires.arena.mark) in
     arena-more p old _ cut c.in_ok-lower.lower c.in_ok-lower.upper c.in_ok-lower_bound.lower_bound c.in_ok-upper_bound.upper_bound
     c.requires.arena c.requires.cut c.requires.below c.requires.few (record {
       low_is = c.in_ok-lower.ensures.lower ∙ ap (λ z. lower_part z cut.span cut.class) same;
@@ -70,6 +66,5 @@ returns-clause-arena c =
       lowered = lowered-next old.best c.look.new.best c.look-2.new.best c.look.ensures.lowered c.look-2.ensures.lowered;
       tight = c.look-2.ensures.tight;
       opening = refl;
-      work = c.look-2.ensures.page;
-      mark = mark;
+      work = c.look-2.ensures.work;
     })

@@ -15,12 +15,12 @@ returns-clause-closed c =
     let worked = arena-worked c.args.problem.now c.args.self c.requires.arena c.args.lower c.args.budget c.requires.within c.requires.ordered
     c.requires.enough c.requires.ended in
     let small : c.args.budget < 2 ^ 64 - 1 = omega (arith, c.requires.budget) in
-    λ same enough. worked-lower c.args.problem.now c.requires.arena.work.work_of.sound c.args.self.trace c.args.self.best.height c.args.lower
+    λ same enough. worked-lower c.args.problem.now c.requires.arena.work.sound c.args.self.trace c.args.self.best.height c.args.lower
     c.args.budget same enough small worked
 
 pub returns-clause-keen : goal.returns-clause-keen
-returns-clause-keen c = arena-keen c.args.problem.now c.requires.arena.work.work_of.sound c.args.self c.requires.arena
+returns-clause-keen c = arena-keen c.args.problem.now c.requires.arena.work.sound c.args.self c.requires.arena
 
 pub returns-clause-trace_writable : goal.returns-clause-trace_writable
 returns-clause-trace_writable c =
-    trace-writable c.args.problem.now c.requires.arena.work.work_of.sound c.args.self.trace c.requires.arena.trace_of c.requires.arena.few
+    trace-writable c.args.problem.now c.requires.arena.work.sound c.args.self.trace c.requires.arena.trace_of c.requires.arena.few

@@ -21,7 +21,7 @@ first_open-requires c =
     let p = c.args.problem.now in
     let arena = c.args.self.now in
     let same = arena-item p arena c.requires.arena c.args.zone c.index-2.result.now c.requires.there c.index-2.ensures in
-    let few = spans-few p c.requires.arena.work.work_of.sound in
+    let few = spans-few p c.requires.arena.work.sound in
     let spans = (arena-zone p arena c.requires.arena c.args.zone c.requires.there).spans in
     omega (arith, ap length (c.ranges-ranges.ensures ∙ same), few, spans)
 
@@ -40,7 +40,7 @@ returns-in_err-span-clause-closed c =
     let at = sym c.index.ensures ∙ c.in_ok-bound.was in
     let bound = subst (IsBoundFound p zone) at
     (c.requires.arena.bounds.each z c.index.result.now (omega (arith, c.requires.there, c.requires.arena.bounds.count))) in
-    let differ = one_class-differ p zone c.requires.arena.work.work_of.sound (arena-zone p arena c.requires.arena z c.requires.there) one
+    let differ = one_class-differ p zone c.requires.arena.work.sound (arena-zone p arena c.requires.arena z c.requires.there) one
     c.in_ok-bound.bound arena.best.height bound c.if-bound-self.false (c.requires.arena.looked z c.requires.there) in
     if_none c.from_residual-in_err-span.result _ (inr (inr (one, differ)))
 

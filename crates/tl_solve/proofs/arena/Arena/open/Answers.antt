@@ -1,4 +1,4 @@
-use Rattle.std.proofs.Common.{◌<◌, ◌++◌, ◌∷◌, [], length, refl, sym, ap, ◌∙◌, subst, arith}
+use Rattle.std.proofs.Common.{◌++◌, ◌∷◌, [], refl, sym, ap, ◌∙◌, subst}
 use Rattle.tl_problem.specs.Placements.{IsOpening}
 use Rattle.tl_problem.specs.Zones.{IsZone}
 use Rattle.tl_problem.proofs.ZoneLaws.{whole-is_zone}
@@ -13,12 +13,8 @@ bound_of-bound-requires-clause-zone c = subst (IsZone c.args.problem.now) (sym c
 pub returns-clause-arena : goal.returns-clause-arena
 returns-clause-arena c =
     let p = c.args.problem.now in
-    let work = c.bound_of-bound.new.work in
-    let held = ap (λ m. m.held) c.bound_of-bound.ensures.matrix ∙ c.in_ok-work.ensures.none_held in
-    let marks = ap (λ m. m.marks) c.bound_of-bound.ensures.matrix ∙ c.in_ok-work.ensures.marks in
-    let mark : length work.matrix.held < work.matrix.marks = omega (arith, ap length held, marks) in
-    arena-opened p c.bound_of-bound.ensures.page.work_of.sound _ c.in_ok-opening.opening c.bound_of-bound.result c.in_ok-opening.ensures
-    c.in_ok-best.ensures.tight c.bound_of-bound.ensures.page mark c.new-2.ensures
+    arena-opened p c.bound_of-bound.ensures.work_of.sound _ c.in_ok-opening.opening c.bound_of-bound.result c.in_ok-opening.ensures
+    c.in_ok-best.ensures.tight c.bound_of-bound.ensures.work_of c.new-2.ensures
     (c.in_ok-push.ensures.items ∙ ap (λ zs. zs ++ c.in_ok-whole.whole ∷ []) c.new-zones.ensures.items ∙ ap (λ z. z ∷ []) c.in_ok-whole.ensures)
     (c.in_ok-push-2.ensures.items ∙ ap (λ bs. bs ++ c.bound_of-bound.result ∷ []) c.new-bounds.ensures.items)
     (subst (λ zone. IsBoundFound p zone c.bound_of-bound.result) c.in_ok-whole.ensures c.bound_of-bound.ensures.bound) refl

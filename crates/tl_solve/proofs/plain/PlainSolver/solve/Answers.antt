@@ -6,12 +6,30 @@ use Rattle.tl_cert.specs.Traces.{zone_of}
 use Rattle.tl_cert.specs.Worked.{IsClosed}
 use Rattle.tl_solve.specs.inner.Walk.{IsStack, KeepsOrder}
 use Rattle.tl_solve.proofs.ArenaLaws.{arena-keen, arena-zone, lowered-le}
-use Rattle.tl_solve.proofs.WalkLaws.{top-stands, stack-closed, stack-cut, order-cut, stack-end, first-is_cut, plain-ends, plain-outcome}
+use Rattle.tl_solve.proofs.WalkLaws.{top-stands, stack-start, order-start, stack-closed, stack-cut, order-cut, stack-end, first-is_cut, plain-ends, plain-outcome}
 use Rattle.tl_solve.proofs.plain.PlainSolver.solve.Goals as goal
 
 match-none : {A : Type 0} (o : Option A) (P : Type 0) (Q : A → Type 0) → MatchOption o P Q → ((x : A) → o ≡ Some x → ⊥) → P
 match-none None P Q holds not = holds
 match-none (Some x) P Q holds not = absurd (not x refl)
+
+pub loop-zone-init : goal.loop-zone-init
+loop-zone-init c =
+    let none = c.in_ok-arena.ensures.no_cut in
+    record {
+      arena = c.in_ok-arena.ensures.arena;
+      within = omega (arith, ap length none);
+      on_stack = stack-start c.args.problem.now c.in_ok-arena.arena.best.height c.in_ok-arena.arena.trace c.push.new.self.items none
+          (c.in_ok-push.ensures.items ∙ ap (λ zs. zs ++ 0 ∷ []) c.new-stack.ensures.items);
+      order = order-start c.args.problem.now c.in_ok-arena.arena.trace none;
+    }
+
+pub first_cut-requires-clause-there : goal.first_cut-requires-clause-there
+first_cut-requires-clause-there c =
+    let p = c.args.problem.now in
+    let arena = c.loop-zone.arena in
+    let on = subst (IsStack p arena.trace arena.best.height) c.in-Some.ensures.items c.loop-zone.invariant.on_stack in
+    (top-stands p arena.trace arena.best.height c.pop.new.self.items c.in-Some.zone on).there
 
 pub cut-requires-clause-cut : goal.cut-requires-clause-cut
 cut-requires-clause-cut c =
@@ -64,7 +82,7 @@ loop-zone-preserved-in-Continue-branch-5 c =
     items ∙ ap (λ n. (stack ++ (2 * n + 2) ∷ []) ++ (2 * n + 1) ∷ []) c.cuts-made.ensures in
     let parts = stack-cut p trace height stack z on cut top is.trace_of now best (lowered-le arena.best c.cut.new.self.best c.in_ok-cut.ensures.lowered) in
     let kept = order-cut p trace height stack z on cut top is.trace_of now c.loop-zone.invariant.order first c.in-Some-first_cut.ensures.below
-    (arena-keen p is.work.work_of.sound arena is) in
+    (arena-keen p is.work.sound arena is) in
     let count = ap length longer ∙ length-append trace (cut ∷ []) in
     record {
       arena = c.in_ok-cut.ensures.arena;
