@@ -30,7 +30,7 @@ use Rattle.std.proofs.lemmas.List.{take_more}
 -- ---- the steps of a cell
 
 -- the first step is within the page
-first-within : (page : ℕ) (steps : List Config) → AreSteps steps → All (λ step. step.width ≤ page) steps → first_width steps ≤ page
+pub first-within : (page : ℕ) (steps : List Config) → AreSteps steps → All (λ step. step.width ≤ page) steps → first_width steps ≤ page
 first-within page [] are within = absurd (omega (arith, are.has_step))
 first-within page (step ∷ steps) are within = within 0 step (omega arith)
 
