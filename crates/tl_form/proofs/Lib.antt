@@ -22,6 +22,7 @@ pub mod Becoming
 pub mod Gridless
 pub mod Writing
 pub mod Formed
+pub mod SpeltBlocks
 pub mod SoundFormed
 pub mod OneTable
 pub mod Numbered
@@ -39,6 +40,10 @@ pub mod ProblemLayouts
 pub mod ProblemTruth
 pub mod ProblemCells
 pub mod StepsExist
+pub mod LineCounts
+pub mod CellHeights
+pub mod SoundCells
+pub mod BetweenSteps
 pub mod TableNumbers
 pub mod DueLaws
 pub mod Truth

@@ -8,6 +8,7 @@ pub mod Refused
 pub mod Same
 pub mod Problems
 pub mod ProblemLaws
+pub mod SoundProblems
 pub mod Expected
 pub mod Nested
 pub mod Valid
