@@ -1,5 +1,5 @@
 -- Steps of nested tables that are collected one table and one cell after another.
-use Rattle.std.proofs.Common.{◌≡◌, ◌∙◌, ℕ, zero, suc, ◌+◌, ◌<◌, ◌≤◌, List, [], ◌∷◌, ◌++◌, ◌⊎◌, inl, inr, length, get_or, take, refl, sym, ap, subst, append_assoc, append-nil, arith}
+use Rattle.std.proofs.Common.{◌≡◌, ◌∙◌, ℕ, zero, suc, ◌+◌, ◌<◌, ◌≤◌, List, [], ◌∷◌, ◌++◌, ◌⊎◌, inl, inr, length, get_or, take, refl, sym, ap, subst, append_assoc, append-nil, arith, IsSome}
 use Rattle.std.specs.List.{AllZip, Contains, flat_map}
 use Rattle.std.proofs.lemmas.Grind.{flat_map-append}
 use Rattle.std.proofs.lemmas.List.{take_more}
@@ -7,15 +7,19 @@ use Rattle.std.proofs.lemmas.List.Concat.{flat_map-cons}
 use Rattle.std.specs.declared.alloc.Global.{Global}
 use Rattle.std.specs.declared.boxed.Box.{Box}
 use Rattle.tl_base.specs.declared.style.Style.{Style}
-use Rattle.tl_base.proofs.Members.{Contains-cases, Contains-none, Contains-flat_map}
+use Rattle.std.proofs.lemmas.List.Elements.{recursion_from_All}
+use Rattle.tl_base.proofs.Members.{All-from_Contains, Contains-cases, Contains-none, Contains-flat_map}
 use Rattle.tl_cert.specs.declared.section.Section.{Section}
 use Rattle.tl_form.specs.declared.cell.Content.{Content, out-Content}
 use Rattle.tl_form.specs.declared.cell.Content.TheOpen as open_content
-use Rattle.tl_form.specs.declared.cell.Table.{Table}
+use Rattle.tl_form.specs.declared.cell.Table.{Table, out-Table}
 use Rattle.tl_form.specs.declared.heights.InnerSteps.{InnerSteps}
 use Rattle.tl_form.specs.Nested.{AreStepsBy}
 use Rattle.tl_form.specs.Tables.{OpenCell, OpenContent, tables_of, tables_in}
+use Rattle.tl_form.specs.Problems.{steps_for}
+use Rattle.tl_form.specs.inner.CellSteps.{HaveSteps}
 use Rattle.tl_form.specs.inner.Collecting.{Collects, LackSteps}
+use Rattle.tl_form.proofs.Truth.{steps_found}
 use Rattle.tl_form.proofs.Writing.{joined_zip}
 
 -- what belongs to one of some items
@@ -100,3 +104,13 @@ module _ (style : Style) (page : ℕ) (sections : List Section) where
   table_lacks f xs items i x same within is lacks inner all =
       let part = zip_part (AreStepsBy style page sections) f xs inner x all (subst (λ ys. Contains ys x) same (i, within, sym is)) in
       lacks part.0 part.1
+
+-- ---- all tables have their steps among those collected
+
+pub have_steps : (style : Style) (page : ℕ) (sections : List Section) (tables : List Table) (inner : List InnerSteps) →
+    AllZip (AreStepsBy style page sections) tables inner → HaveSteps inner tables
+have_steps style page sections tables inner all =
+    recursion_from_All (λ nested. IsSome (steps_for inner (out-Table nested).number)) tables
+    (All-from_Contains (λ nested. IsSome (steps_for inner (out-Table nested).number)) tables
+    (λ nested has. let found = steps_found style page sections tables inner nested all has in
+    subst IsSome (sym found.found) refl))
