@@ -2,12 +2,17 @@
 use Rattle.std.proofs.Common.{◌≡◌, ℕ, zero, suc, ◌+◌, ◌<◌, ◌≤◌, ◌↔◌, max, List, [], ◌∷◌, ◌++◌, length, take, get_or, Option, Some, None, IsTrue, refl, sym, ap, subst, ◌∙◌, arith, sum, append-nil}
 use Rattle.std.specs.List.{All, AllZip, AllByRecursion}
 use Rattle.std.specs.Option.{IsSome, IsSomeAnd}
-use Rattle.std.proofs.lemmas.List.{take_more}
+use Rattle.std.specs.declared.alloc.Global.{Global}
+use Rattle.std.specs.declared.boxed.Box.{Box}
+use Rattle.std.proofs.lemmas.List.{take_all, take_more}
 use Rattle.tl_base.specs.declared.limits.TheConstants.{MAX_HEIGHT}
 use Rattle.tl_base.specs.declared.steps.Config.{Config}
 use Rattle.tl_base.specs.Steps.{AreSteps, first_height, first_width, height_at, stacked_height}
 use Rattle.tl_base.proofs.Sums.{sum-cons, sum-one}
-use Rattle.tl_text.specs.Cuttings.{LeastLines}
+use Rattle.tl_problem.proofs.Heights.{height-from_first}
+use Rattle.tl_text.specs.declared.paragraph.Atom.{Atom}
+use Rattle.tl_text.specs.Cuttings.{HasCutting, LeastLines}
+use Rattle.tl_text.proofs.Minimals.{AllFit-from_cutting}
 use Rattle.tl_text.proofs.Paragraphs.{LeastLines-falls}
 use Rattle.tl_form.specs.declared.cell.Content.{Content, out-Content}
 use Rattle.tl_form.specs.declared.cell.Content.TheOpen as open_content
@@ -19,6 +24,7 @@ use Rattle.tl_form.specs.Problems.{AreStepsOf, BlockNeeds, CellNeeds, InnerNeeds
 use Rattle.tl_form.specs.inner.CellSteps.{From, BlocksNeed, IsLowCell, IsStart}
 use Rattle.tl_form.proofs.LeastRoomLemmas.{AllZip-push}
 use Rattle.tl_form.proofs.NeedSteps.{AreStepsOf-same, AreStepsOf-stacked, BothNeed, height-first, first-least}
+use Rattle.tl_form.proofs.ParagraphSteps.{lines-from_fit}
 
 -- ---- what is needed is one height
 
@@ -190,6 +196,47 @@ module _ (needs : Table → ℕ → ℕ → Type 0) where
       (λ w h within need. blocks-cell cell w h (let some = begins.has w need.0 in some.1.floor) need.1)
       (λ w h within need. (begins.from w h need, cell-blocks cell w h need)) of
 
+-- ---- the blocks so far are low
+
+pub record LowSoFar (needs : Table → ℕ → ℕ → Type 0) (width : ℕ) (blocks : List Content) (height : ℕ) : Type 0 where
+  pub needed : BlocksNeed needs blocks width height
+  pub low : height ≤ MAX_HEIGHT
+
+-- the first blocks and one more
+pub taken : (blocks : List Content) (k : ℕ) (block : Content) → k < length blocks → block ≡ get_or blocks k block →
+    take (k + 1) blocks ≡ take k blocks ++ block ∷ []
+taken blocks k block inside is = take_more blocks k block inside ∙ ap (λ last. take k blocks ++ last ∷ []) (sym is)
+
+module _ (needs : Table → ℕ → ℕ → Type 0) (functional : IsFunctional needs) (cell : OpenCell) (width : ℕ) where
+  pub low-more : (k height more : ℕ) (block : Content) → LowSoFar needs width (take k cell.blocks) height → k < length cell.blocks →
+      block ≡ get_or cell.blocks k block → BlockNeeds needs (out-Content block) width more → height + more ≤ MAX_HEIGHT →
+      LowSoFar needs width (take (k + 1) cell.blocks) (height + more)
+  low-more k height more block so_far inside is here low = record {
+    needed = subst (λ (blocks : List Content). BlocksNeed needs blocks width (height + more)) (sym (taken cell.blocks k block inside is))
+        (one-more needs (take k cell.blocks) block width height more so_far.needed here);
+    low = low;
+  }
+
+  -- where the first blocks are too high the cell is
+  pub high-so-far : (k height more h : ℕ) (block : Content) → BlocksNeed needs (take k cell.blocks) width height → k < length cell.blocks →
+      block ≡ get_or cell.blocks k block → BlockNeeds needs (out-Content block) width more → MAX_HEIGHT < height + more →
+      CellNeeds needs cell width h → h ≤ MAX_HEIGHT → ⊥
+  high-so-far k height more h block so_far inside is here high need low =
+      let first = first-blocks needs (k + 1) cell.blocks width h (cell-blocks needs cell width h need) in
+      let sum = subst (λ (blocks : List Content). BlocksNeed needs blocks width (height + more)) (sym (taken cell.blocks k block inside is))
+      (one-more needs (take k cell.blocks) block width height more so_far here) in
+      let same = blocks-functional needs functional (take (k + 1) cell.blocks) width first.0 (height + more) first.1 sum in
+      omega (arith, same, first.2, high, low)
+
+  pub low-all : (k height : ℕ) → LowSoFar needs width (take k cell.blocks) height → length cell.blocks ≤ k → cell.least ≤ width →
+      (h : ℕ) × CellNeeds needs cell width h × (h ≤ MAX_HEIGHT)
+  low-all k height so_far whole floor = (
+    height,
+    blocks-cell needs cell width height floor
+        (subst (λ (blocks : List Content). BlocksNeed needs blocks width height) (take_all k cell.blocks whole) so_far.needed),
+    so_far.low,
+  )
+
 -- ---- where steps begin
 
 -- steps of what is needed from a width on begin there
@@ -212,7 +259,7 @@ low-together needs functional cell page start k block before here low begins ins
     let whole = begins.has start (omega arith) in
     let small = low.low start whole.0 begins whole.1 in
     let all = cell-blocks needs cell start whole.0 whole.1 in
-    let first = first-blocks needs (suc k) cell.blocks start whole.0 all in
+    let first = first-blocks needs (k + 1) cell.blocks start whole.0 all in
     let less = one-less needs (take k cell.blocks) block start first.0
     (subst (λ (blocks : List Content). BlocksNeed needs blocks start first.0) (taken cell.blocks k block inside is) first.1) in
     let one = from-first (BlocksNeed needs (take k cell.blocks)) start page less.0 before within of_before less.2 in
@@ -220,9 +267,82 @@ low-together needs functional cell page start k block before here low begins ins
     let same_one = blocks-functional needs functional (take k cell.blocks) start (first_height before) less.0 one.1 less.2 in
     let same_other = block-functional needs functional (out-Content block) start (first_height here) less.1 other.1 less.3 in
     omega (arith, same_one, same_other, less.4, first.2, small)
-  where
-    taken : (blocks : List Content) (k : ℕ) (block : Content) → k < length blocks → block ≡ get_or blocks k block →
-        take (suc k) blocks ≡ take k blocks ++ block ∷ []
-    taken [] k block inside is = absurd (omega (arith, inside))
-    taken (one ∷ blocks) zero block inside is = ap (λ b. b ∷ []) (sym is)
-    taken (one ∷ blocks) (suc k) block inside is = ap (λ rest. one ∷ rest) (taken blocks k block (omega arith) is)
+
+-- steps begin at their first width
+pub steps-begin : (steps : List Config) → AreSteps steps → IsStart (λ w h. height_at steps w ≡ Some h) (first_width steps)
+steps-begin steps are = record {
+  from = λ w h is. first-least steps are w h is;
+  has = λ w wide. height-from_first steps are.has_step w wide;
+}
+
+-- ---- a block by its kind
+
+pub paragraph-begins : (needs : Table → ℕ → ℕ → Type 0) (block : OpenContent) (paragraph : List Atom) (start : ℕ) →
+    block ≡ open_content.Para paragraph → ((w : ℕ) → start ≤ w → HasCutting w paragraph) → ((w : ℕ) → HasCutting w paragraph → start ≤ w) →
+    IsStart (BlockNeeds needs block) start
+paragraph-begins needs block paragraph start is holds least =
+    subst (λ (any : OpenContent). IsStart (BlockNeeds needs any) start) (sym is) (record {
+      from = λ w h lines. let cut = lines.attained in least w (cut.0, cut.1, cut.2);
+      has = λ w wide. lines-from_fit w paragraph (AllFit-from_cutting w paragraph (holds w wide));
+    })
+
+-- a nested table has the steps that are found for it
+module _ (bound : InnerSteps → List Config) (inner : List InnerSteps) (nested : Table) (steps : List Config) where
+  pub needs-from_steps : IsSomeAnd (steps_for inner (out-Table nested).number) (λ one. steps ≡ bound one) → (w h : ℕ) → height_at steps w ≡ Some h →
+      InnerNeeds bound inner nested w h
+  needs-from_steps found w h is = by_steps (steps_for inner (out-Table nested).number) found
+    where
+      by_steps : (o : Option InnerSteps) → IsSomeAnd o (λ one. steps ≡ bound one) → IsSomeAnd o (λ one. height_at (bound one) w ≡ Some h)
+      by_steps None found = absurd found
+      by_steps (Some one) found = subst (λ any. height_at any w ≡ Some h) found is
+
+  pub steps-from_needs : IsSomeAnd (steps_for inner (out-Table nested).number) (λ one. steps ≡ bound one) → (w h : ℕ) →
+      InnerNeeds bound inner nested w h → height_at steps w ≡ Some h
+  steps-from_needs found w h is = by_steps (steps_for inner (out-Table nested).number) found is
+    where
+      by_steps : (o : Option InnerSteps) → IsSomeAnd o (λ one. steps ≡ bound one) → IsSomeAnd o (λ one. height_at (bound one) w ≡ Some h) →
+          height_at steps w ≡ Some h
+      by_steps None found is = absurd found
+      by_steps (Some one) found is = subst (λ any. height_at any w ≡ Some h) (sym found) is
+
+pub table-begins : (bound : InnerSteps → List Config) (inner : List InnerSteps) (block : OpenContent) (box : Box Table Global) (nested : Table)
+    (steps : List Config) (start : ℕ) → block ≡ open_content.Table box → nested ≡ box.value →
+    IsSomeAnd (steps_for inner (out-Table nested).number) (λ one. steps ≡ bound one) → IsStart (λ w h. height_at steps w ≡ Some h) start →
+    IsStart (BlockNeeds (InnerNeeds bound inner) block) start
+table-begins bound inner block box nested steps start is same found begins =
+    subst (λ (any : OpenContent). IsStart (BlockNeeds (InnerNeeds bound inner) any) start) (sym is)
+    (subst (λ (any : Table). IsStart (InnerNeeds bound inner any) start) same (record {
+      from = λ w h need. begins.from w h (steps-from_needs bound inner nested steps found w h need);
+      has = λ w wide. let some = begins.has w wide in (some.0, needs-from_steps bound inner nested steps found w some.0 some.1);
+    }))
+
+-- a block's height and steps, by its kind
+pub paragraph-height : (needs : Table → ℕ → ℕ → Type 0) (block : OpenContent) (paragraph : List Atom) (w h : ℕ) → block ≡ open_content.Para paragraph →
+    LeastLines w paragraph h → BlockNeeds needs block w h
+paragraph-height needs block paragraph w h is least = subst (λ (any : OpenContent). BlockNeeds needs any w h) (sym is) least
+
+pub height-paragraph : (needs : Table → ℕ → ℕ → Type 0) (block : OpenContent) (paragraph : List Atom) (w h : ℕ) → block ≡ open_content.Para paragraph →
+    BlockNeeds needs block w h → LeastLines w paragraph h
+height-paragraph needs block paragraph w h is need = subst (λ (any : OpenContent). BlockNeeds needs any w h) is need
+
+module _ (bound : InnerSteps → List Config) (inner : List InnerSteps) (block : OpenContent) (box : Box Table Global) (nested : Table)
+    (steps : List Config) (is : block ≡ open_content.Table box) (same : nested ≡ box.value)
+    (found : IsSomeAnd (steps_for inner (out-Table nested).number) (λ one. steps ≡ bound one)) where
+  pub table-height : (w h : ℕ) → height_at steps w ≡ Some h → BlockNeeds (InnerNeeds bound inner) block w h
+  table-height w h at =
+      subst (λ (any : OpenContent). BlockNeeds (InnerNeeds bound inner) any w h) (sym is)
+      (subst (λ (any : Table). InnerNeeds bound inner any w h) same (needs-from_steps bound inner nested steps found w h at))
+
+  pub height-table : (w h : ℕ) → BlockNeeds (InnerNeeds bound inner) block w h → height_at steps w ≡ Some h
+  height-table w h need =
+      steps-from_needs bound inner nested steps found w h
+      (subst (λ (any : Table). InnerNeeds bound inner any w h) (sym same) (subst (λ (any : OpenContent). BlockNeeds (InnerNeeds bound inner) any w h) is need))
+
+-- the steps between two widths of a block's steps are those of the block
+pub block-between : (needs : Table → ℕ → ℕ → Type 0) (block : OpenContent) (from page : ℕ) (steps cut : List Config) →
+    ((w h : ℕ) → w ≤ page → height_at steps w ≡ Some h → BlockNeeds needs block w h) →
+    ((w h : ℕ) → w ≤ page → BlockNeeds needs block w h → height_at steps w ≡ Some h) →
+    AreStepsOf (From from (λ w h. height_at steps w ≡ Some h)) page cut → AreStepsOf (From from (BlockNeeds needs block)) page cut
+block-between needs block from page steps cut there back of =
+    AreStepsOf-same (From from (λ w h. height_at steps w ≡ Some h)) (From from (BlockNeeds needs block)) page cut
+    (λ w h within both. (both.0, there w h within both.1)) (λ w h within both. (both.0, back w h within both.1)) of

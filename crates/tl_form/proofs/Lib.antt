@@ -22,6 +22,7 @@ pub mod Becoming
 pub mod Gridless
 pub mod Writing
 pub mod Formed
+pub mod SpeltBlocks
 pub mod SoundFormed
 pub mod OneTable
 pub mod Numbered
@@ -39,6 +40,10 @@ pub mod ProblemLayouts
 pub mod ProblemTruth
 pub mod ProblemCells
 pub mod StepsExist
+pub mod LineCounts
+pub mod CellHeights
+pub mod SoundCells
+pub mod BetweenSteps
 pub mod TableNumbers
 pub mod DueLaws
 pub mod Truth
@@ -49,6 +54,8 @@ pub mod BestOf
 pub mod StepsBelow
 pub mod SectionHeights
 mod CertificateExamples
+pub mod ToldSteps
+pub mod Collected
 pub mod NumberLemmas
 pub mod Coverage
 pub mod CoveredSteps

@@ -19,17 +19,18 @@ use Rattle.tl_form.specs.declared.heights.Bound.TheVariants.{Low, High}
 use Rattle.tl_form.specs.declared.heights.InnerSteps.{InnerSteps}
 use Rattle.tl_form.specs.Tables.{OpenCell, inner_tables, tables_in, tables_of}
 use Rattle.tl_form.specs.Problems.{AreStepsOf, CellNeeds, InnerNeeds, IsCellBy, IsProblemOf, HasSoundProblem, steps_for}
-use Rattle.tl_form.specs.inner.CellSteps.{AreLowCells, HaveSteps, IsLowCell, IsStart, NeedsBy}
+use Rattle.tl_form.specs.inner.CellSteps.{AreLowCells, HaveSteps, IsLowByBoth, IsLowCell, IsStart, NeedsBy}
 use Rattle.tl_form.proofs.CellNeedLemmas.{IsFunctional, cell-functional, inner-functional}
 use Rattle.tl_form.proofs.LeastRoomLemmas.{AllZip-push}
 use Rattle.tl_form.proofs.NeedSteps.{first-least, height-first}
 use Rattle.tl_form.proofs.ProblemTruth.{cell-inside, joined-each, same-problem}
-use Rattle.tl_form.proofs.SoundParts.{each_joined, weaker_each}
+use Rattle.tl_form.proofs.SoundParts.{append_each, each_joined, weaker_each}
+use Rattle.std.proofs.lemmas.List.{take_more}
 
 -- ---- the steps of a cell
 
 -- the first step is within the page
-first-within : (page : ℕ) (steps : List Config) → AreSteps steps → All (λ step. step.width ≤ page) steps → first_width steps ≤ page
+pub first-within : (page : ℕ) (steps : List Config) → AreSteps steps → All (λ step. step.width ≤ page) steps → first_width steps ≤ page
 first-within page [] are within = absurd (omega (arith, are.has_step))
 first-within page (step ∷ steps) are within = within 0 step (omega arith)
 
@@ -82,22 +83,22 @@ module _ (inner : List InnerSteps) (page : ℕ) where
       let all = sum_by-cons (λ (any : Cell). greatest_height any.high) one made in
       let high = greatest-first one.high in
       let low = low-first problem one sound.0 in (
-        (
-          low-from_steps (NeedsBy Low inner) (inner-functional (λ any. any.low) inner) page (out-TableCell cell) one.low of.0.low
-              (omega (arith, all, high, low, small)),
-          low-from_steps (NeedsBy High inner) (inner-functional (λ any. any.high) inner) page (out-TableCell cell) one.high of.0.high
-              (omega (arith, all, high, small)),
-        ),
+        record {
+          by_low = low-from_steps (NeedsBy Low inner) (inner-functional (λ any. any.low) inner) page (out-TableCell cell) one.low of.0.low
+              (omega (arith, all, high, low, small));
+          by_high = low-from_steps (NeedsBy High inner) (inner-functional (λ any. any.high) inner) page (out-TableCell cell) one.high of.0.high
+              (omega (arith, all, high, small));
+        },
         low-cells problem cells made of.1 sound.1 (omega (arith, all, small)),
       )
 
   some-steps : (tables : List Table) (w : ℕ) → AllByRecursion (λ nested. (m : ℕ) × NeedsBy Low inner nested w m) tables → HaveSteps inner tables
   some-steps [] w each = tt
-  some-steps (nested ∷ tables) w each = (is-some (steps_for inner (out-Table nested).number) each.0.1, some-steps tables w each.1)
+  some-steps (nested ∷ tables) w each = (is-some w each.0.0 (steps_for inner (out-Table nested).number) each.0.1, some-steps tables w each.1)
     where
-      is-some : {P : InnerSteps → Type 0} (o : Option InnerSteps) → IsSomeAnd o P → IsSome o
-      is-some None is = absurd is
-      is-some (Some one) is = tt
+      is-some : (w h : ℕ) (o : Option InnerSteps) → IsSomeAnd o (λ one. height_at one.low w ≡ Some h) → IsSome o
+      is-some w h None is = absurd is
+      is-some w h (Some one) is = refl
 
   have-cells : (cells : List TableCell) (made : List Cell) → AllZip MadeBy cells made →
       AllByRecursion (λ cell. HaveSteps inner (tables_in (out-TableCell cell))) cells
@@ -174,3 +175,20 @@ pub have-each : (inner : List InnerSteps) (table : Table) → HaveSteps inner (i
     AllByRecursion (λ cell. HaveSteps inner (tables_in (out-TableCell cell))) (out-Table table).cells
 have-each inner table have =
     each_joined (λ nested. IsSome (steps_for inner (out-Table nested).number)) (λ cell. tables_in (out-TableCell cell)) (out-Table table).cells have
+
+pub cells-more : (inner : List InnerSteps) (page : ℕ) (cells : List TableCell) (k : ℕ) (cell : TableCell) (made : List Cell) (one : Cell) →
+    k < length cells → cell ≡ get_or cells k cell →
+    AllZip (λ any other. IsCellBy (NeedsBy Low inner) (NeedsBy High inner) page (out-TableCell any) other) (take k cells) made →
+    IsCellBy (NeedsBy Low inner) (NeedsBy High inner) page (out-TableCell cell) one →
+    AllZip (λ any other. IsCellBy (NeedsBy Low inner) (NeedsBy High inner) page (out-TableCell any) other) (take (k + 1) cells) (made ++ one ∷ [])
+cells-more inner page cells k cell made one inside is before here =
+    subst (λ (some : List TableCell). AllZip (λ any other. IsCellBy (NeedsBy Low inner) (NeedsBy High inner) page (out-TableCell any) other) some
+    (made ++ one ∷ [])) (sym (take_more cells k cell inside ∙ ap (λ last. take k cells ++ last ∷ []) (sym is)))
+    (AllZip-push (λ any other. IsCellBy (NeedsBy Low inner) (NeedsBy High inner) page (out-TableCell any) other) (take k cells) made cell one before here)
+
+pub low-more-cells : (inner : List InnerSteps) (page : ℕ) (cells : List TableCell) (k : ℕ) (cell : TableCell) → k < length cells →
+    cell ≡ get_or cells k cell → AreLowCells inner page (take k cells) → IsLowByBoth inner page (out-TableCell cell) →
+    AreLowCells inner page (take (k + 1) cells)
+low-more-cells inner page cells k cell inside is before here =
+    subst (AreLowCells inner page) (sym (take_more cells k cell inside ∙ ap (λ last. take k cells ++ last ∷ []) (sym is)))
+    (append_each (λ any. IsLowByBoth inner page (out-TableCell any)) (take k cells) (cell ∷ []) before (here, tt))

@@ -42,10 +42,11 @@ use Rattle.tl_form.proofs.Blocks.{tables_alone, alone-append, alone-nested, alon
 use Rattle.std.proofs.Common.{length}
 use Rattle.std.specs.List.{range_with_len}
 use Rattle.tl_form.specs.Refused.{tables_in_block, tables_of as shapes_of}
-use Rattle.tl_form.specs.Sound.{numbers_inside, count_inside}
+use Rattle.tl_form.specs.Sound.{IsSpelt, numbers_inside, count_inside}
 use Rattle.tl_form.specs.inner.Forming.{tables_in_flow}
 use Rattle.tl_form.proofs.Numbered.{AreNumbered, tables_of_blocks, numbered_split, tables_numbered}
 use Rattle.tl_form.proofs.TreeParts.{tables_in_open, tables_in_block-out}
+use Rattle.tl_form.proofs.SpeltBlocks.{spelt-caption, spelt-cells}
 use Rattle.tl_form.proofs.SoundCounts.{Counts, Numbers, within_counts, within_numbers, level_numbered}
 
 -- ---- depth
@@ -138,6 +139,12 @@ level_sound forms breaking node made sound is becomes inner numbers = record {
       (append_each (λ one. (out-TableCell one).least ≤ MAX_PAGE_WIDTH) becomes.caption becomes.written
       (narrow_caption forms breaking made.cols (out-TableNode node).caption becomes.caption becomes.captioned)
       (narrow_cells forms breaking (cells_written (out-TableNode node)) becomes.written
+      (flat_groups (out-TableNode node).groups (table_groups node is)) becomes.cells)));
+  spelt = All-permutation (λ one. AllByRecursion (λ block. IsSpelt (out-Content block)) (out-TableCell one).blocks) all made.cells becomes.same
+      (All-from_recursion (λ one. AllByRecursion (λ block. IsSpelt (out-Content block)) (out-TableCell one).blocks) all
+      (append_each (λ one. AllByRecursion (λ block. IsSpelt (out-Content block)) (out-TableCell one).blocks) becomes.caption becomes.written
+      (spelt-caption forms breaking node made.cols (out-TableNode node).caption becomes.caption refl is becomes.captioned)
+      (spelt-cells forms breaking (cells_written (out-TableNode node)) becomes.written
       (flat_groups (out-TableNode node).groups (table_groups node is)) becomes.cells)));
   numbered = numbers;
   inner = tables_moved sound all made.cells becomes.same inner;

@@ -10,6 +10,7 @@ pub mod Problems
 pub mod Numbered
 pub mod SoundProblems
 pub mod ProblemLaws
+pub mod SoundProblems
 pub mod Expected
 pub mod Nested
 pub mod Valid

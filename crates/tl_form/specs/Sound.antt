@@ -7,12 +7,12 @@ use Rattle.tl_base.specs.declared.limits.TheConstants.{MAX_COLUMNS, MAX_DEPTH, M
 use Rattle.tl_grid.specs.declared.shape.Place.{Place}
 use Rattle.tl_grid.specs.Dropping.{IsPlaced}
 use Rattle.tl_grid.specs.Slots.{AreApart, HasAnchorInColumn, HasAnchorInRow}
-use Rattle.tl_text.specs.Paragraph.{atom_size}
+use Rattle.tl_text.specs.Paragraph.{IsParagraph, atom_size}
 use Rattle.tl_form.specs.declared.cell.Content.TheOpen as open_content
 use Rattle.tl_form.specs.declared.cell.Table.{Table, out-Table, fold-Table}
 use Rattle.tl_form.specs.declared.cell.TableCell.{TableCell, out-TableCell, fold-TableCell}
-use Rattle.tl_form.specs.declared.cell.Content.{Content, fold-Content}
-use Rattle.tl_form.specs.Tables.{OpenTable, inner_tables}
+use Rattle.tl_form.specs.declared.cell.Content.{Content, fold-Content, out-Content}
+use Rattle.tl_form.specs.Tables.{OpenContent, OpenTable, inner_tables}
 
 -- ---- how much a table holds, by a fold over it
 
@@ -107,6 +107,11 @@ places_of table = map place_of table.cells
 abbrev pub ComesBefore : Place → Place → Type 0
 ComesBefore first second = (first.top < second.top) ⊎ ((first.top ≡ second.top) × (first.left < second.left))
 
+-- a block that is a paragraph has units or breaks, each unit with its text
+abbrev pub IsSpelt : OpenContent → Type 0
+IsSpelt (open_content.Para paragraph) = IsParagraph paragraph
+IsSpelt (open_content.Table box) = Unit {0}
+
 -- a table whose grid is sound; `sound` says the same of the tables nested directly in it
 pub record IsSoundBy (sound : Table → Type 0) (table : OpenTable) : Type 0 where
   pub few_columns : table.cols ≤ MAX_COLUMNS
@@ -118,6 +123,7 @@ pub record IsSoundBy (sound : Table → Type 0) (table : OpenTable) : Type 0 whe
   pub columns : (column : ℕ) → column < table.cols → HasAnchorInColumn (places_of table) column
   pub rows : (row : ℕ) → row < table.rows → HasAnchorInRow (places_of table) row
   pub narrow : All (λ cell. (out-TableCell cell).least ≤ MAX_PAGE_WIDTH) table.cells
+  pub spelt : All (λ cell. AllByRecursion (λ block. IsSpelt (out-Content block)) (out-TableCell cell).blocks) table.cells
   -- the tables inside have the numbers that follow the table's own, in some order, as footers move
   pub numbered : IsPermutation (numbers_inside table) (range_with_len (table.number + 1) (count_inside table))
   pub inner : AllByRecursion sound (inner_tables table)

@@ -1,8 +1,8 @@
 //! The heights that a cell needs at each width, as steps: its blocks one under the other, all from the
 //! least width of the cell on.
 
-ghost use Rattle.std.specs.Prelude.{◌≡◌, ◌≤◌, ◌↔◌, ℕ, Some, IfOk, IsTrue};
-ghost use Rattle.tl_base.specs.Steps.{height_at};
+ghost use Rattle.std.specs.Prelude.{◌≡◌, ◌+◌, ◌≤◌, ◌↔◌, ℕ, Some, IfOk, IsTrue};
+ghost use Rattle.tl_base.specs.Steps.{AreSteps, first_height, height_at, stacked_height};
 ghost use Rattle.tl_form.specs.declared.cell.Content.{out-Content};
 ghost use Rattle.tl_form.specs.declared.cell.TableCell.{out-TableCell};
 ghost use Rattle.tl_form.specs.Problems.{AreStepsOf, BlockNeeds, CellNeeds};
@@ -10,7 +10,7 @@ ghost use Rattle.tl_form.specs.Tables.{tables_of, tables_in};
 ghost use Rattle.tl_form.specs.inner.CellSteps.{From, HaveSteps, IsLowCell, IsStart, NeedsBy};
 
 use crate::cell::{Content, TableCell};
-use crate::heights::{Bound, InnerSteps, bound_for};
+use crate::heights::{Bound, InnerSteps, bound_for, start_of};
 use std::alloc::{AllocError, Global};
 use tl_base::{Config, List, MAX_HEIGHT, MAX_PAGE_WIDTH, Steps};
 use tl_text::{configs, count_lines, least_width};
@@ -22,7 +22,7 @@ fn block_start(block: &Content, inner: &[InnerSteps], bound: Bound) -> u32
 {
     match block {
         Content::Para(paragraph) => least_width(paragraph),
-        Content::Table(table) => bound_for(inner, table.number, bound).least(),
+        Content::Table(table) => start_of(bound_for(inner, table.number, bound)),
     }
 }
 
@@ -127,6 +127,16 @@ fn flat(alloc: Global, from: u32, page: u32) -> Result<Steps, AllocError>
     Ok(Steps::from_list(list))
 }
 
+/// The steps of two things one above the other.
+fn stacked(alloc: Global, above: &Steps, below: &Steps) -> Result<Steps, AllocError>
+    requires { first_height above.now + first_height below.now ≤ MAX_HEIGHT }
+    ensures falling { IfOk result AreSteps }
+    ensures heights { IfOk result (λ steps. (w : ℕ) → height_at steps w ≡ stacked_height above.now below.now w) }
+{
+    let steps = Steps::stack(alloc, above, below)?;
+    Ok(steps)
+}
+
 /// The steps of the cell on a page of `page` columns.
 pub fn cell_steps(
     alloc: Global,
@@ -144,7 +154,7 @@ pub fn cell_steps(
     let mut steps = flat(alloc, start, page)?;
     for block in cell.blocks.as_slice() {
         let below = block_steps(alloc, block, start, page, inner, bound)?;
-        steps = Steps::stack(alloc, &steps, &below)?;
+        steps = stacked(alloc, &steps, &below)?;
     }
     Ok(steps)
 }

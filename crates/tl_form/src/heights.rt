@@ -1,8 +1,9 @@
 //! The heights that nested tables need, as bounds of them.
 
 ghost use Rattle.std.specs.Prelude.{◌≡◌, Some, IsSome, IsSomeAnd};
+ghost use Rattle.tl_base.specs.Steps.{height_at};
 ghost use Rattle.tl_form.specs.Problems.{steps_for};
-ghost use Rattle.tl_form.specs.inner.CellSteps.{bound_of};
+ghost use Rattle.tl_form.specs.inner.CellSteps.{IsStart, bound_of};
 
 use tl_base::Steps;
 
@@ -48,6 +49,13 @@ fn steps_for(inner: &[InnerSteps], number: u32) -> &InnerSteps
         }
     }
     unreachable!()
+}
+
+/// The least width at which the steps have a height.
+pub fn start_of(steps: &Steps) -> u32
+    ensures { IsStart (λ w h. height_at steps.now w ≡ Some h) result }
+{
+    steps.configs()[0].width
 }
 
 /// A bound of the table with this number.

@@ -14,6 +14,7 @@ mod heights;
 mod laws;
 mod layout;
 mod narrow;
+mod nested_steps;
 mod numbers;
 mod paragraph;
 mod problem_laws;
@@ -34,6 +35,7 @@ pub use laws::{
 };
 pub use layout::Layout;
 pub use narrow::narrow_chain;
+pub use nested_steps::inner_steps;
 pub use numbers::with_number;
 pub use problem_laws::{
     layouts_are_by_low, layouts_by_high_fit, problem_is_determined, true_steps_lie_between,

@@ -6,7 +6,7 @@ ghost use Rattle.tl_form.specs.declared.cell.Table.{out-Table};
 ghost use Rattle.tl_form.specs.declared.cell.TableCell.{out-TableCell};
 ghost use Rattle.tl_form.specs.Problems.{HasSoundProblem, IsCellBy, IsProblemOf};
 ghost use Rattle.tl_form.specs.Tables.{inner_tables, tables_in};
-ghost use Rattle.tl_form.specs.inner.CellSteps.{AreLowCells, HaveSteps, IsLowCell, NeedsBy};
+ghost use Rattle.tl_form.specs.inner.CellSteps.{AreLowCells, HaveSteps, IsLowByBoth, IsLowCell, NeedsBy};
 ghost use Rattle.tl_form.specs.declared.heights.Bound.TheVariants.{Low, High};
 
 use crate::cell::{Table, TableCell};
@@ -24,8 +24,7 @@ fn problem_cell(
     inner: &[InnerSteps],
 ) -> Result<Cell, AllocError>
     requires steps { HaveSteps inner.now (tables_in (out-TableCell cell.now)) }
-    requires low { IsLowCell (NeedsBy Low inner.now) page (out-TableCell cell.now) }
-    requires high { IsLowCell (NeedsBy High inner.now) page (out-TableCell cell.now) }
+    requires low { IsLowByBoth inner.now page (out-TableCell cell.now) }
     requires narrow { page ≤ MAX_PAGE_WIDTH }
     ensures { IfOk result (IsCellBy (NeedsBy Low inner.now) (NeedsBy High inner.now) page (out-TableCell cell.now)) }
 {
@@ -71,13 +70,21 @@ fn is_low_by(cell: &TableCell, page: u32, inner: &[InnerSteps], bound: Bound) ->
     start <= page && is_low(cell, start, inner, bound)
 }
 
-/// Whether each cell is so by both bounds.
+/// Whether the cell is so by both bounds.
+fn is_low_cell(cell: &TableCell, page: u32, inner: &[InnerSteps]) -> bool
+    requires { HaveSteps inner.now (tables_in (out-TableCell cell.now)) }
+    ensures { IsTrue result ↔ IsLowByBoth inner.now page (out-TableCell cell.now) }
+{
+    is_low_by(cell, page, inner, Bound::Low) && is_low_by(cell, page, inner, Bound::High)
+}
+
+/// Whether each cell is so.
 fn are_low_cells(table: &Table, page: u32, inner: &[InnerSteps]) -> bool
     requires { HaveSteps inner.now (inner_tables (out-Table table.now)) }
     ensures { IsTrue result ↔ AreLowCells inner.now page (out-Table table.now).cells }
 {
     for cell in table.cells.as_slice() {
-        if !is_low_by(cell, page, inner, Bound::Low) || !is_low_by(cell, page, inner, Bound::High) {
+        if !is_low_cell(cell, page, inner) {
             return false;
         }
     }

@@ -1,0 +1,33 @@
+use Rattle.std.proofs.Common.{◌≡◌, ◌+◌, ◌<◌, ◌≤◌, List, ap, length, get_or, refl, subst, sym, take, ◌∙◌, arith}
+use Rattle.std.specs.List.{AllZip}
+use Rattle.tl_form.specs.declared.cell.Table.{out-Table}
+use Rattle.tl_form.specs.declared.cell.TableCell.{out-TableCell}
+use Rattle.tl_form.specs.declared.heights.Bound.TheVariants.{Low, High}
+use Rattle.tl_form.specs.Problems.{CellNeeds, IsCellBy, IsProblemOf, HasSoundProblem}
+use Rattle.tl_form.specs.Tables.{inner_tables, tables_in}
+use Rattle.tl_form.specs.inner.CellSteps.{AreLowCells, HaveSteps, IsLowCell, NeedsBy, bound_of}
+use Rattle.tl_problem.specs.Sound.{IsSound}
+use Rattle.tl_form.proofs.ProblemCells.{are-low, made-problem, made-sound}
+use Rattle.tl_form.proofs.problems.has_sound_problem.Goals as goal
+
+pub returns-then-not-are_low_cells : goal.returns-then-not-are_low_cells
+returns-then-not-are_low_cells c = (
+  λ yes. absurd cc,
+  λ has. sym c.if-not-are_low_cells.true ∙ c.are_low_cells.ensures.1 (are-low c.args.table.now c.args.style c.args.width c.args.inner.now has),
+)
+
+pub returns : goal.returns
+returns c =
+    let table = out-Table c.args.table.now in
+    let cells = c.in_ok-cells.cells in (
+      λ yes. (
+        record { cols = table.cols; rows = table.rows; style = c.args.style; width = c.args.width; cells = cells },
+        made-problem c.args.table.now c.args.style c.args.width c.args.inner.now cells c.in_ok-cells.ensures,
+        subst (λ made. IsSound (record { cols = table.cols; rows = table.rows; style = c.args.style; width = c.args.width; cells = made }))
+            c.as_slice.ensures (c.is_sound.ensures.0 yes),
+      ),
+      λ has. c.is_sound.ensures.1
+          (subst (λ made. IsSound (record { cols = table.cols; rows = table.rows; style = c.args.style; width = c.args.width; cells = made }))
+          (sym c.as_slice.ensures)
+          (made-sound c.args.table.now c.args.style c.args.width c.args.inner.now cells c.in_ok-cells.ensures has)),
+    )
