@@ -3,22 +3,21 @@ use Rattle.std.proofs.Common.{◌≡◌, ◌∙◌, ℕ, zero, suc, ◌+◌, ◌
 use Rattle.std.specs.List.{All, AllZip, AllByRecursion}
 use Rattle.std.proofs.lemmas.Bool.{cases_eq, cases_lt}
 use Rattle.std.proofs.lemmas.List.{take_all, take_more}
-use Rattle.std.proofs.lemmas.List.Elements.{All-contains, All-nil}
+use Rattle.std.proofs.lemmas.List.Elements.{All-contains, All-get_or, All-nil}
 use Rattle.tl_base.specs.declared.style.Style.{Style}
 use Rattle.tl_base.specs.declared.steps.Config.{Config}
 use Rattle.tl_base.specs.Steps.{first_width, height_at}
 use Rattle.tl_cert.specs.declared.section.Section.{Section}
 use Rattle.tl_form.specs.declared.cell.Table.{Table, out-Table}
-use Rattle.tl_form.specs.declared.heights.Bound.TheVariants.{Low, High}
 use Rattle.tl_form.specs.declared.heights.InnerSteps.{InnerSteps}
 use Rattle.tl_form.specs.Expected.{placed_width}
 use Rattle.tl_form.specs.Least.{IsLeastWidth}
 use Rattle.tl_form.specs.Nested.{IsAsWide, IsWithin, IsGreatestLower, IsLeastFound, AreStepsBy}
 use Rattle.tl_form.specs.Problems.{AreStepsOf}
+use Rattle.tl_form.specs.inner.Collecting.{IsMost, IsFewest}
 use Rattle.tl_form.proofs.BestOf as best
 use Rattle.tl_form.proofs.Coverage.{AreTold}
 use Rattle.tl_form.proofs.NeedSteps.{AreStepsOf-same, first-least, height-first}
-use Rattle.tl_form.proofs.SectionHeights.{height_falls}
 use Rattle.tl_form.proofs.StepsExist.{steps-exist}
 
 -- ---- the best of some items, item by item
@@ -37,11 +36,11 @@ module _ {X : Type 0} (No : List X → Type 0) (Best : List X → ℕ → Type 0
   best_of xs d = subst (λ all. No all ⊎ ((m : ℕ) × Best all m)) (take_all (length xs) xs (omega arith)) (best_upto xs (length xs) d (omega arith))
 
 module _ {X : Type 0} (Counts : X → Type 0) (measure : X → ℕ) (decide : (x : X) → Counts x ⊎ (Counts x → ⊥)) (d : X) where
-  most_of : (xs : List X) → best.NoneCounts Counts measure xs ⊎ ((most : ℕ) × best.IsMost Counts measure xs most)
-  most_of xs = best_of (best.NoneCounts Counts measure) (best.IsMost Counts measure) (All-nil (λ x. Counts x → ⊥)) more xs d
+  most_of : (xs : List X) → best.NoneCounts Counts measure xs ⊎ ((most : ℕ) × IsMost Counts measure xs most)
+  most_of xs = best_of (best.NoneCounts Counts measure) (IsMost Counts measure) (All-nil (λ x. Counts x → ⊥)) more xs d
     where
-      more : (xs : List X) (x : X) → best.NoneCounts Counts measure xs ⊎ ((m : ℕ) × best.IsMost Counts measure xs m) →
-          best.NoneCounts Counts measure (xs ++ x ∷ []) ⊎ ((m : ℕ) × best.IsMost Counts measure (xs ++ x ∷ []) m)
+      more : (xs : List X) (x : X) → best.NoneCounts Counts measure xs ⊎ ((m : ℕ) × IsMost Counts measure xs m) →
+          best.NoneCounts Counts measure (xs ++ x ∷ []) ⊎ ((m : ℕ) × IsMost Counts measure (xs ++ x ∷ []) m)
       more xs x (inl none) = elim (decide x) [
         | inl counts ↦ inr (measure x, best.most_begins Counts measure xs x none counts)
         | inr other ↦ inl (best.none_skips Counts measure xs x none other)
@@ -51,11 +50,11 @@ module _ {X : Type 0} (Counts : X → Type 0) (measure : X → ℕ) (decide : (x
         | inr other ↦ inr (m, best.most_skips Counts measure xs x m is other)
       ]
 
-  fewest_of : (xs : List X) → best.NoneCounts Counts measure xs ⊎ ((fewest : ℕ) × best.IsFewest Counts measure xs fewest)
-  fewest_of xs = best_of (best.NoneCounts Counts measure) (best.IsFewest Counts measure) (All-nil (λ x. Counts x → ⊥)) more xs d
+  fewest_of : (xs : List X) → best.NoneCounts Counts measure xs ⊎ ((fewest : ℕ) × IsFewest Counts measure xs fewest)
+  fewest_of xs = best_of (best.NoneCounts Counts measure) (IsFewest Counts measure) (All-nil (λ x. Counts x → ⊥)) more xs d
     where
-      more : (xs : List X) (x : X) → best.NoneCounts Counts measure xs ⊎ ((m : ℕ) × best.IsFewest Counts measure xs m) →
-          best.NoneCounts Counts measure (xs ++ x ∷ []) ⊎ ((m : ℕ) × best.IsFewest Counts measure (xs ++ x ∷ []) m)
+      more : (xs : List X) (x : X) → best.NoneCounts Counts measure xs ⊎ ((m : ℕ) × IsFewest Counts measure xs m) →
+          best.NoneCounts Counts measure (xs ++ x ∷ []) ⊎ ((m : ℕ) × IsFewest Counts measure (xs ++ x ∷ []) m)
       more xs x (inl none) = elim (decide x) [
         | inl counts ↦ inr (measure x, best.fewest_begins Counts measure xs x none counts)
         | inr other ↦ inl (best.none_skips Counts measure xs x none other)
@@ -101,6 +100,21 @@ height_told style sections number w (section, has, tells) =
       | inr found ↦ (found.0, record { attained = found.1.attained; never_less = found.1.never_less })
     ]
 
+lower_falls : (sections : List Section) (number v w a b : ℕ) → v ≤ w → IsGreatestLower sections number v a → IsGreatestLower sections number w b → b ≤ a
+lower_falls sections number v w a b wider first second =
+    let at = second.attained in
+    let most = subst (λ section. IsAsWide number v section → section.lower ≤ a) at.3
+    (All-get_or (λ section. IsAsWide number v section → section.lower ≤ a) sections at.0 at.1 at.2 first.never_more) in
+    omega (arith, at.4.1, most (record { of = at.4.0.of; wide = omega (arith, at.4.0.wide, wider) }))
+
+found_falls : (style : Style) (sections : List Section) (number v w a b : ℕ) → v ≤ w → IsLeastFound style sections number v a →
+    IsLeastFound style sections number w b → b ≤ a
+found_falls style sections number v w a b wider first second =
+    let at = first.attained in
+    let least = subst (λ section. IsWithin style number w section → b ≤ section.height) at.3
+    (All-get_or (λ section. IsWithin style number w section → b ≤ section.height) sections at.0 at.1 at.2 second.never_less) in
+    omega (arith, at.4.1, least (record { of = at.4.0.of; narrow = omega (arith, at.4.0.narrow, wider) }))
+
 -- ---- steps of what is there at each width from the least one up to the page, and falls
 
 module _ (Needs : ℕ → ℕ → Type 0) (falls : (v w m n : ℕ) → v ≤ w → Needs v m → Needs w n → n ≤ m) (least page : ℕ) (narrow : least ≤ page)
@@ -130,17 +144,17 @@ pub steps_by : (style : Style) (sections : List Section) (nested : Table) (least
     ((w : ℕ) → least ≤ w → w ≤ page → AreTold style sections (out-Table nested).number w) → (steps : InnerSteps) × AreStepsBy style page sections nested steps
 steps_by style sections nested least page is_least narrow told =
     let number = (out-Table nested).number in
-    let lows = steps_upto (IsGreatestLower sections number) (height_falls Low style sections number) least page narrow
+    let lows = steps_upto (IsGreatestLower sections number) (lower_falls sections number) least page narrow
     (λ w wide upto. lower_told style sections number w (told w wide upto)) in
-    let highs = steps_upto (IsLeastFound style sections number) (height_falls High style sections number) least page narrow
+    let highs = steps_upto (IsLeastFound style sections number) (found_falls style sections number) least page narrow
     (λ w wide upto. height_told style sections number w (told w wide upto)) in
     (record { table = number; low = lows.0; high = highs.0 }, record {
       named = refl;
       least = least;
       is_least = is_least;
-      begins = (steps_begin (IsGreatestLower sections number) (height_falls Low style sections number) least page narrow
+      begins = (steps_begin (IsGreatestLower sections number) (lower_falls sections number) least page narrow
           (λ w wide upto. lower_told style sections number w (told w wide upto)) lows.0 lows.1,
-      steps_begin (IsLeastFound style sections number) (height_falls High style sections number) least page narrow
+      steps_begin (IsLeastFound style sections number) (found_falls style sections number) least page narrow
           (λ w wide upto. height_told style sections number w (told w wide upto)) highs.0 highs.1);
       low = lows.1;
       high = highs.1;

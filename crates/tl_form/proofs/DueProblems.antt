@@ -27,7 +27,7 @@ use Rattle.tl_form.specs.Nested.{AreStepsBy, AreInnerSteps, IsLeastFound}
 use Rattle.tl_form.specs.ProblemLaws.{LayoutsAreByLow, LayoutsByHighFit}
 use Rattle.tl_form.specs.Problems.{IsAmong, IsInsideWithin, HasSoundProblem, steps_for}
 use Rattle.tl_form.specs.Sound.{IsSound, IsSoundWithin, nested_in_table, place_of, places_of, table_size}
-use Rattle.tl_form.specs.SoundProblems.{AreSoundSteps, HaveSoundSteps, SoundProblemsAlone, PlacementsAreLow}
+use Rattle.tl_form.specs.SoundProblems.{AreSoundSteps, AreSoundPremises, SoundProblemsAlone, PlacementsAreLow}
 use Rattle.tl_form.specs.Tables.{OpenTable, inner_tables, tables_in}
 use Rattle.tl_form.specs.Valid.{IsGood, AreGoodBelow}
 use Rattle.tl_form.proofs.Coverage.{Stands, Follows, stands}
@@ -173,7 +173,9 @@ module _ (document : Document) (on : IsOnPage document) (before : List Section) 
         omega (arith, found.3, found.5 nested (named found.0 found.1))
 
   pub have_sound_steps : (one : Table) → IsAmong document.table one → (page : ℕ) (inner : List InnerSteps) →
-      AreInnerSteps one document.style page before inner → HaveSoundSteps one document.style page inner
+      AreInnerSteps one document.style page before inner →
+      AllByRecursion (λ nested. IsSomeAnd (steps_for inner (out-Table nested).number) (AreSoundSteps document.style page nested))
+      (inner_tables (out-Table one))
   have_sound_steps one among page inner steps =
       recursion_from_All (λ nested. IsSomeAnd (steps_for inner (out-Table nested).number) (AreSoundSteps document.style page nested))
       (inner_tables (out-Table one))
@@ -207,10 +209,14 @@ module _ (by_low : LayoutsAreByLow) (by_high : LayoutsByHighFit) (sound_alone : 
       let own = good.laid.own in
       let same = one_of_number document.table own.one one on.sound own.named.among named.among (own.named.numbered ∙ sym named.numbered) in
       let least = subst (IsLeastWidth own.one document.style) (ap (least_of document) own.named.numbered) (on.least own.one own.named.among) in
-      let low = are_low own.one document.style section.width (least_of document section.table) own.inner good.problem good.laid.placed
-      (sound_among document.table own.one on.sound own.named.among) (omega (arith, own.sound.narrow, own.made.wide)) least from
-      (have_sound_steps document on before true_before small_before own.one own.named.among section.width own.inner own.steps)
-      own.made good.laid.placement.tight.placement in
+      let low = are_low own.one document.style section.width own.inner good.problem good.laid.placed (record {
+        sound = sound_among document.table own.one on.sound own.named.among;
+        narrow = omega (arith, own.sound.narrow, own.made.wide);
+        least = least_of document section.table;
+        is_least = least;
+        wide = from;
+        each = have_sound_steps document on before true_before small_before own.one own.named.among section.width own.inner own.steps;
+      }) own.made good.laid.placement.tight.placement in
       subst (λ t. section.height ≤ 2 * table_size t) same (omega (arith, low, good.laid.placement.high))
 
   module _ (sections : List Section) (good : AreGoodBelow document budget sections (length sections)) where
@@ -277,9 +283,14 @@ module _ (by_low : LayoutsAreByLow) (by_high : LayoutsByHighFit) (sound_alone : 
 
       pub due_sound : (inner : List InnerSteps) → AreInnerSteps one document.style now.width sections inner →
           HasSoundProblem one document.style now.width inner
-      due_sound inner steps = sound_alone one document.style now.width (least_of document now.table) inner own_sound
-          (omega (arith, stood.covered.upto, on.narrow)) own_least stood.covered.from
-          (have_sound_steps document on sections told_true told_small one named.among now.width inner steps)
+      due_sound inner steps = sound_alone one document.style now.width inner (record {
+        sound = own_sound;
+        narrow = omega (arith, stood.covered.upto, on.narrow);
+        least = least_of document now.table;
+        is_least = own_least;
+        wide = stood.covered.from;
+        each = have_sound_steps document on sections told_true told_small one named.among now.width inner steps;
+      })
 
       pub due_range : (least_of document now.table ≤ now.width) × (now.width ≤ document.page)
       due_range = (stood.covered.from, stood.covered.upto)

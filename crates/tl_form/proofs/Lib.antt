@@ -61,3 +61,4 @@ pub mod NumberLemmas
 pub mod Coverage
 pub mod CoveredSteps
 pub mod DueProblems
+pub mod SubjectLemmas

@@ -8,10 +8,10 @@ pub mod Refused
 pub mod Same
 pub mod Problems
 pub mod Numbered
-pub mod SoundProblems
 pub mod ProblemLaws
 pub mod SoundProblems
 pub mod Expected
+pub mod Subjects
 pub mod Nested
 pub mod Valid
 pub mod Refusals

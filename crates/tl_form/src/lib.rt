@@ -20,6 +20,7 @@ mod paragraph;
 mod problem_laws;
 mod problems;
 mod shape;
+mod subject;
 mod valid_laws;
 mod widest;
 mod width;
@@ -46,6 +47,7 @@ pub use valid_laws::{
     bounded_is_between, each_number_is_of_one_table, lowest_is_least, narrow_is_too_wide,
     refused_for_one_reason, valid_is_not_refused,
 };
+pub use subject::{Due, Subject};
 pub use width::least_width;
 
 #[cfg(test)]
