@@ -56,3 +56,4 @@ pub mod SectionHeights
 mod CertificateExamples
 pub mod ToldSteps
 pub mod Collected
+pub mod InnerNumbers
