@@ -181,7 +181,7 @@ row_stands k next ms es stand = record {
 
 -- ---- a cell
 
-cell_of-out : (c : TableCell) → let o = out-TableCell c in
+pub cell_of-out : (c : TableCell) → let o = out-TableCell c in
     cell_of c ≡ (let made : Cell = record { kind = o.kind; place = o.place; least = o.least; flow = blocks_html (map flow_of o.blocks) } in made)
 cell_of-out c = fold_out-TableCell html.Block (Layout → List ℕ) Cell block_page table_page cell_page c
 

@@ -107,7 +107,7 @@ placed size cs rest _ (step {mid = mid} {pieces = pieces} piece stands more) =
 
 -- ---- tokens
 
-abbrev kind_of : Token → TokenKind
+abbrev pub kind_of : Token → TokenKind
 kind_of token = token.kind
 
 -- a character before tokens joins a text

@@ -9,3 +9,6 @@ pub mod GridKept
 pub mod Blocks
 pub mod Cells
 pub mod TableRows
+pub mod TableParts
+pub mod TableAgain
+pub mod ReadsBack

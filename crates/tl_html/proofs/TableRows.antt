@@ -167,10 +167,10 @@ rise_from y (c ∷ cells) pairs low = (
 
 module _ (breaking : Breaking) (forms : TableNode → Table → Type 0) (node : TableNode) (table : OpenTable) (sound : AreSound (outline node))
     (becomes : BecomesBy forms breaking (out-TableNode node) table) where
-  abbrev down : ℕ
+  abbrev pub down : ℕ
   down = caption_rows (out-TableNode node).caption
 
-  abbrev grid : Grid
+  abbrev pub grid : Grid
   grid = becomes.grid
 
   never_before : (p : Place) → ComesBefore p p → ⊥
@@ -241,7 +241,7 @@ module _ (breaking : Breaking) (forms : TableNode → Table → Type 0) (node : 
   append_right (y ∷ xs) ys x has = Contains-later y (xs ++ ys) x (append_right xs ys x has)
 
   -- the cells below the caption are those written
-  below_written : (c : TableCell) → Contains below c → Contains becomes.written c
+  pub below_written : (c : TableCell) → Contains below c → Contains becomes.written c
   below_written c has =
       let all : Contains table.cells c = subst (λ (cs : List TableCell). Contains cs c) (sym cells_split) (append_right becomes.caption below c has) in
       let moved = Contains-permutation table.cells (becomes.caption ++ becomes.written) c (IsPermutation-sym _ _ becomes.same) all in
@@ -291,11 +291,11 @@ module _ (breaking : Breaking) (forms : TableNode → Table → Type 0) (node : 
             (Contains-map (raised down) (map place_of below) (place_of at.0) (Contains-map place_of below at.0 under))
       ]
 
-  lies_in : All (IsPlaced grid.cols grid.rows) grid.places
+  pub lies_in : All (IsPlaced grid.cols grid.rows) grid.places
   lies_in = all_within (shape_of (out-TableNode node)) grid (shape_spans node sound) becomes.has_grid
 
   -- each cell below the caption lies below its row
-  under_caption : (c : TableCell) → Contains below c → (down ≤ (place_of c).top) × IsPlaced grid.cols grid.rows (raised down (place_of c))
+  pub under_caption : (c : TableCell) → Contains below c → (down ≤ (place_of c).top) × IsPlaced grid.cols grid.rows (raised down (place_of c))
   under_caption c has =
       let found = place_in_grid c (below_written c has) in
       let lies : IsPlaced grid.cols grid.rows found.0 = All-contains (IsPlaced grid.cols grid.rows) grid.places found.0 lies_in found.1 in
@@ -308,10 +308,10 @@ module _ (breaking : Breaking) (forms : TableNode → Table → Type 0) (node : 
       let at = map-Contains place_of below p has in
       subst (λ (q : Place). down ≤ q.top) at.2 (under_caption at.0 at.1).0)
 
-  places_split : places_of table ≡ map place_of becomes.caption ++ map place_of below
+  pub places_split : places_of table ≡ map place_of becomes.caption ++ map place_of below
   places_split = ap (map place_of) cells_split ∙ map-append place_of becomes.caption below
 
-  below_in_order : AllPairs ComesBefore (map place_of below)
+  pub below_in_order : AllPairs ComesBefore (map place_of below)
   below_in_order = pairs_suffix ComesBefore (map place_of becomes.caption) (map place_of below) (subst (AllPairs ComesBefore) places_split becomes.in_order)
 
   laid : AreLaid (max grid.cols down) (grid.rows + down) (map place_of (becomes.caption ++ becomes.written))
