@@ -57,3 +57,4 @@ mod CertificateExamples
 pub mod ToldSteps
 pub mod Collected
 pub mod InnerNumbers
+pub mod NamedLaws
