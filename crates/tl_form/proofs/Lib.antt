@@ -43,6 +43,9 @@ pub mod StepsExist
 pub mod LineCounts
 pub mod CellHeights
 pub mod SoundCells
+pub mod SafeProblems
+pub mod LowPlacements
+pub mod PlacementSizes
 pub mod BetweenSteps
 pub mod TableNumbers
 pub mod DueLaws

@@ -56,7 +56,7 @@ module _ (needs : Table → ℕ → ℕ → Type 0) (functional : IsFunctional n
 
 -- ---- a sound cell is low by both bounds
 
-greatest-first : (steps : List Config) → greatest_height steps ≡ first_height steps
+pub greatest-first : (steps : List Config) → greatest_height steps ≡ first_height steps
 greatest-first [] = refl
 greatest-first (step ∷ steps) = refl
 
