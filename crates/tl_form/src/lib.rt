@@ -47,4 +47,6 @@ pub use valid_laws::{
 pub use width::least_width;
 
 #[cfg(test)]
+mod problem_tests;
+#[cfg(test)]
 mod tests;
