@@ -1,21 +1,18 @@
 -- Steps of nested tables that are collected one table and one cell after another.
-use Rattle.std.proofs.Common.{◌≡◌, ◌∙◌, ℕ, zero, suc, ◌+◌, ◌<◌, ◌≤◌, List, [], ◌∷◌, ◌++◌, ◌⊎◌, inl, inr, length, get_or, take, refl, sym, ap, subst, append_assoc, append-nil, arith, IsSome}
+use Rattle.std.proofs.Common.{◌≡◌, ◌∙◌, ℕ, ◌+◌, ◌<◌, List, [], ◌∷◌, ◌++◌, ◌⊎◌, inl, inr, length, get_or, take, refl, sym, ap, subst, append_assoc, append-nil, arith, IsSome}
 use Rattle.std.specs.List.{AllZip, Contains, flat_map}
 use Rattle.std.proofs.lemmas.Grind.{flat_map-append}
 use Rattle.std.proofs.lemmas.List.{take_more}
 use Rattle.std.proofs.lemmas.List.Concat.{flat_map-cons}
-use Rattle.std.specs.declared.alloc.Global.{Global}
-use Rattle.std.specs.declared.boxed.Box.{Box}
 use Rattle.tl_base.specs.declared.style.Style.{Style}
 use Rattle.std.proofs.lemmas.List.Elements.{recursion_from_All}
 use Rattle.tl_base.proofs.Members.{All-from_Contains, Contains-cases, Contains-none, Contains-flat_map}
 use Rattle.tl_cert.specs.declared.section.Section.{Section}
 use Rattle.tl_form.specs.declared.cell.Content.{Content, out-Content}
-use Rattle.tl_form.specs.declared.cell.Content.TheOpen as open_content
 use Rattle.tl_form.specs.declared.cell.Table.{Table, out-Table}
 use Rattle.tl_form.specs.declared.heights.InnerSteps.{InnerSteps}
 use Rattle.tl_form.specs.Nested.{AreStepsBy}
-use Rattle.tl_form.specs.Tables.{OpenCell, OpenContent, tables_of, tables_in}
+use Rattle.tl_form.specs.Tables.{OpenCell, tables_of, tables_in}
 use Rattle.tl_form.specs.Problems.{steps_for}
 use Rattle.tl_form.specs.inner.CellSteps.{HaveSteps}
 use Rattle.tl_form.specs.inner.Collecting.{Collects, LackSteps}

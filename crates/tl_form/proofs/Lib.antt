@@ -44,6 +44,8 @@ pub mod LineCounts
 pub mod CellHeights
 pub mod SoundCells
 pub mod SafeProblems
+pub mod LowPlacements
+pub mod PlacementSizes
 pub mod BetweenSteps
 pub mod TableNumbers
 pub mod DueLaws
@@ -57,6 +59,8 @@ pub mod SectionHeights
 mod CertificateExamples
 pub mod ToldSteps
 pub mod Collected
+pub mod InnerNumbers
+pub mod NamedLaws
 pub mod NumberLemmas
 pub mod Coverage
 pub mod CoveredSteps

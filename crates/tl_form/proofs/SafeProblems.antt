@@ -64,7 +64,7 @@ module _ (inner : List InnerSteps) (style : Style) (page : ℕ) where
 
   -- ---- they lie where the table's do
 
-  places-same : (cells : List TableCell) (made : List Cell) → AllZip Made cells made → map made_place made ≡ map place_of cells
+  pub places-same : (cells : List TableCell) (made : List Cell) → AllZip Made cells made → map made_place made ≡ map place_of cells
   places-same [] [] of = refl
   places-same [] (one ∷ made) of = absurd of
   places-same (cell ∷ cells) [] of = absurd of
@@ -127,7 +127,7 @@ module _ (inner : List InnerSteps) (style : Style) (page : ℕ) where
 
   -- ---- they are low
 
-  cells-small : (cells : List TableCell) (made : List Cell) → AllZip Made cells made →
+  pub cells-small : (cells : List TableCell) (made : List Cell) → AllZip Made cells made →
       AllByRecursion (λ cell. AllByRecursion (HasSound inner style page) (tables_in (out-TableCell cell))) cells →
       AllByRecursion (λ cell. AllByRecursion (λ block. IsSpelt (out-Content block)) (out-TableCell cell).blocks) cells →
       sum_by (λ one. greatest_height one.high) made + 2 * length cells ≤ 2 * sum_by cell_size cells
@@ -199,10 +199,10 @@ module _ (inner : List InnerSteps) (style : Style) (page : ℕ) where
 -- ---- the problem
 
 module _ (table : Table) (style : Style) (page : ℕ) (inner : List InnerSteps) (given : AreSoundPremises table style page inner) where
-  have : AllByRecursion (λ cell. AllByRecursion (HasSound inner style page) (tables_in (out-TableCell cell))) (out-Table table).cells
+  pub have : AllByRecursion (λ cell. AllByRecursion (HasSound inner style page) (tables_in (out-TableCell cell))) (out-Table table).cells
   have = each_joined (HasSound inner style page) (λ cell. tables_in (out-TableCell cell)) (out-Table table).cells given.each
 
-  placed-cells : {sound : Table → Type 0} (by : IsSoundBy sound (out-Table table)) →
+  pub placed-cells : {sound : Table → Type 0} (by : IsSoundBy sound (out-Table table)) →
       AllByRecursion (λ cell. IsPlaced (out-Table table).cols (out-Table table).rows (place_of cell)) (out-Table table).cells
   placed-cells by =
       recursion_from_All (λ cell. IsPlaced (out-Table table).cols (out-Table table).rows (place_of cell)) (out-Table table).cells

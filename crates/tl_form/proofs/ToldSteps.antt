@@ -1,9 +1,9 @@
 -- The steps that the sections of a table tell: what is collected width by width, and what is said of sections.
-use Rattle.std.proofs.Common.{◌≡◌, ◌∙◌, ℕ, ◌+◌, ◌-◌, ◌^◌, ◌<◌, ◌≤◌, List, [], ◌∷◌, length, get_or, Some, refl, sym, ap, subst, arith}
+use Rattle.std.proofs.Common.{◌≡◌, ◌∙◌, ℕ, ◌+◌, ◌-◌, ◌^◌, ◌<◌, ◌≤◌, List, [], ◌∷◌, subst, arith}
 use Rattle.std.specs.List.{All}
 use Rattle.tl_base.specs.declared.steps.Config.{Config}
 use Rattle.tl_base.specs.declared.style.Style.{Style}
-use Rattle.tl_base.specs.Steps.{AreSteps, first_width, height_at}
+use Rattle.tl_base.specs.Steps.{AreSteps, first_width}
 use Rattle.tl_cert.specs.declared.section.Section.{Section}
 use Rattle.tl_form.specs.declared.cell.Table.{Table, out-Table}
 use Rattle.tl_form.specs.declared.heights.Bound.{Bound}
@@ -12,7 +12,6 @@ use Rattle.tl_form.specs.declared.heights.InnerSteps.{InnerSteps}
 use Rattle.tl_form.specs.declared.nested_steps.Told.{Told}
 use Rattle.tl_form.specs.Least.{IsLeastWidth}
 use Rattle.tl_form.specs.Nested.{IsGreatestLower, IsLeastFound, AreStepsBy}
-use Rattle.tl_form.specs.Problems.{AreStepsOf}
 use Rattle.tl_form.specs.inner.Collecting.{AreStepsBelow, AreToldSteps, TellsHeight, told_by, with_step}
 use Rattle.tl_form.proofs.LinkLemmas.{IsLeastWidth-unique}
 use Rattle.tl_form.proofs.NeedSteps.{AreStepsOf-same}
@@ -86,10 +85,14 @@ module _ (style : Style) (page : ℕ) (sections : List Section) (nested : Table)
         begins = is.begins.1 ∙ same;
         are = AreStepsOf-same (λ w h. (is.least ≤ w) × IsLeastFound style sections (out-Table nested).number w h)
             (λ w h. (least ≤ w) × TellsHeight High told w h) page steps.high
-            (λ w h within both. (omega (arith, same, both.0),
-            found_told style (out-Table nested).number sections w h (omega (arith, within, small)) both.1))
-            (λ w h within both. (omega (arith, same, both.0),
-            told_found style (out-Table nested).number sections w h (omega (arith, within, small)) both.1)) is.high;
+            (λ w h within both. (
+              omega (arith, same, both.0),
+              found_told style (out-Table nested).number sections w h (omega (arith, within, small)) both.1,
+            ))
+            (λ w h within both. (
+              omega (arith, same, both.0),
+              told_found style (out-Table nested).number sections w h (omega (arith, within, small)) both.1,
+            )) is.high;
       }
 
   pub from_told : (steps : InnerSteps) → steps.table ≡ (out-Table nested).number → AreToldSteps Low told least page steps.low →

@@ -44,11 +44,13 @@ pub use problem_laws::{
 };
 pub use problems::{has_sound_problem, problem};
 pub use valid_laws::{
-    bounded_is_between, each_number_is_of_one_table, lowest_is_least, narrow_is_too_wide,
-    refused_for_one_reason, valid_is_not_refused,
+    bounded_is_between, each_number_is_of_one_table, lowest_is_least, named_layout_fits,
+    narrow_is_too_wide, refused_for_one_reason, valid_is_not_refused,
 };
 pub use subject::{Due, Subject};
 pub use width::least_width;
 
+#[cfg(test)]
+mod problem_tests;
 #[cfg(test)]
 mod tests;

@@ -149,11 +149,7 @@ fn is_below(last: Option<&Config>, height: u32) -> bool
 }
 
 /// The steps with one more at the width, where it is lower.
-fn with_step(
-    mut configs: List<Config>,
-    width: u32,
-    height: u32,
-) -> Result<List<Config>, AllocError>
+fn with_step(mut configs: List<Config>, width: u32, height: u32) -> Result<List<Config>, AllocError>
     ensures { IfOk result (λ after. after ≡ with_step configs width height) }
 {
     if is_below(configs.as_slice().last(), height) {
@@ -289,9 +285,9 @@ pub fn inner_steps(
     requires wide { (least : ℕ) → IsLeastWidth table.now style least → least ≤ width }
     ensures { IfOk result (λ found. MatchOption found
         ((inner : List InnerSteps) → AreInnerSteps table.now style width sections.now inner
-            → HasSoundProblem table.now style width inner → ⊥)
+        → HasSoundProblem table.now style width inner → ⊥)
         (λ inner. AreInnerSteps table.now style width sections.now inner
-            × HasSoundProblem table.now style width inner)) }
+        × HasSoundProblem table.now style width inner)) }
 {
     let Some(inner) = collected_steps(alloc, table, style, width, sections)? else {
         return Ok(None);

@@ -1,4 +1,4 @@
-use Rattle.std.proofs.Common.{◌≡◌, ◌+◌, ◌≤◌, subst, sym, arith}
+use Rattle.std.proofs.Common.{◌+◌, subst, sym, arith}
 use Rattle.tl_form.specs.inner.Collecting.{AreStepsBelow, AreToldSteps, TellsHeight}
 use Rattle.tl_form.proofs.ToldSteps.{never_wide, height_missing, told_more, told_done}
 use Rattle.tl_form.proofs.nested_steps.bound_steps.Goals as goal

@@ -1,8 +1,7 @@
-use Rattle.std.proofs.Common.{◌≡◌, ◌∙◌, ◌+◌, ◌<◌, [], ◌∷◌, get_or, length, refl, sym, ap, subst}
+use Rattle.std.proofs.Common.{◌≡◌, ◌∙◌, ◌<◌, [], ◌∷◌, get_or, length, sym, ap, subst}
 use Rattle.tl_form.specs.declared.cell.Content.{out-Content}
 use Rattle.tl_form.specs.declared.cell.Content.TheVariants.{outs-Para, outs-Table}
 use Rattle.tl_form.specs.declared.cell.TableCell.{out-TableCell}
-use Rattle.tl_form.specs.Nested.{AreStepsBy}
 use Rattle.tl_form.specs.Tables.{tables_of}
 use Rattle.tl_form.specs.inner.LeastRooms.{IsSoundBlock}
 use Rattle.tl_form.proofs.Collected.{collects_none, collects_one, cell_lacks}

@@ -17,9 +17,11 @@ has_sound_problem-requires-clause-steps c =
 
 pub returns-then-branch : goal.returns-then-branch
 returns-then-branch c =
-    let are : AreInnerSteps c.args.table.now c.args.style c.args.width c.args.sections.now c.in-Some.inner = rw c.in-Some.is at c.in_ok-inner.ensures in
-    (are, subst (HasSoundProblem c.args.table.now c.args.style c.args.width) c.as_slice.ensures
-    (c.in_ok-has_sound_problem.ensures.0 c.if-branch.true))
+    let are : AreInnerSteps c.args.table.now c.args.style c.args.width c.args.sections.now c.in-Some.inner = rw c.in-Some.is at c.in_ok-inner.ensures in (
+      are,
+      subst (HasSoundProblem c.args.table.now c.args.style c.args.width) c.as_slice.ensures
+          (c.in_ok-has_sound_problem.ensures.0 c.if-branch.true),
+    )
 
 pub returns-else-branch : goal.returns-else-branch
 returns-else-branch c = λ inner are sound.

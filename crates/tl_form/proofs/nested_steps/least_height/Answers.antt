@@ -1,4 +1,4 @@
-use Rattle.std.proofs.Common.{◌≡◌, ◌∙◌, ◌+◌, ◌≤◌, ℕ, Some, get_or, take, sym, ap, subst, arith}
+use Rattle.std.proofs.Common.{◌∙◌, ◌+◌, Some, get_or, take, sym, ap, subst, arith}
 use Rattle.std.proofs.lemmas.List.{get_or_default}
 use Rattle.tl_form.specs.declared.nested_steps.Told.{Told}
 use Rattle.tl_form.specs.inner.Collecting.{IsPlacedIn}

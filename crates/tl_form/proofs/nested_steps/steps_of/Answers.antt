@@ -1,5 +1,4 @@
-use Rattle.std.proofs.Common.{◌≡◌, ◌∙◌, ℕ, ◌+◌, ◌≤◌, List, refl, subst, sym, arith}
-use Rattle.tl_form.specs.declared.cell.Table.{out-Table}
+use Rattle.std.proofs.Common.{◌∙◌, List, refl, subst, sym, arith}
 use Rattle.tl_form.specs.declared.heights.Bound.TheVariants.{Low, High}
 use Rattle.tl_form.specs.declared.nested_steps.Told.{Told}
 use Rattle.tl_form.specs.inner.Collecting.{AreToldSteps}
