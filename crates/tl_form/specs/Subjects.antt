@@ -1,12 +1,11 @@
 -- What a subject stands for: the document of a table on a page.
-use Rattle.std.specs.Prelude.{◌≡◌, ℕ, ◌+◌, ◌<◌, ◌≤◌}
-use Rattle.tl_base.specs.declared.limits.TheConstants.{MAX_PAGE_WIDTH, MAX_TABLES}
-use Rattle.tl_form.specs.declared.cell.Table.{out-Table}
+use Rattle.std.specs.Prelude.{◌≤◌}
+use Rattle.tl_base.specs.declared.limits.TheConstants.{MAX_PAGE_WIDTH}
 use Rattle.tl_form.specs.declared.subject.Due.{Due}
 use Rattle.tl_form.specs.declared.subject.Subject.{Subject}
 use Rattle.tl_form.specs.Expected.{Document, IsDocumentOf}
 use Rattle.tl_form.specs.Expected as expected
-use Rattle.tl_form.specs.Sound.{IsSound, nested_in_table}
+use Rattle.tl_form.specs.Sound.{IsSound}
 
 -- the document that the subject is
 abbrev pub meant : Subject → Document
@@ -25,6 +24,5 @@ due_of due = record { table = due.table; width = due.width }
 -- a subject of a sound table on a page
 pub record IsSubject (subject : Subject) : Type 0 where
   pub sound : IsSound subject.table.now
-  pub numbers : (out-Table subject.table.now).number + nested_in_table subject.table.now < MAX_TABLES
   pub narrow : subject.page ≤ MAX_PAGE_WIDTH
   pub document : IsDocumentOf subject.table.now subject.style subject.page (meant subject)

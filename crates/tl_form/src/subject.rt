@@ -1,7 +1,6 @@
 //! A document: a table on a page, and which of its sections is due when.
 
 ghost use Rattle.std.specs.Prelude.{◌≡◌, ◌+◌, ◌<◌, ◌≤◌, IfOk, length, option_map};
-ghost use Rattle.tl_base.specs.declared.limits.TheConstants.{MAX_TABLES};
 ghost use Rattle.tl_form.specs.declared.cell.Table.{Table, out-Table};
 ghost use Rattle.tl_form.specs.Expected.{IsDocumentOf, IsTableOf, first_due, next_due, own_number};
 ghost use Rattle.tl_form.specs.Least.{IsLeastWidth};
@@ -57,7 +56,6 @@ impl<'a> Subject<'a> {
         page: u32,
     ) -> Result<Subject<'a>, AllocError>
         requires sound { IsSound table.now }
-        requires numbers { (out-Table table.now).number + nested_in_table table.now < MAX_TABLES }
         ensures { IfOk result (λ subject. IsDocumentOf table.now style page (meant subject)) }
     {
         let count = nested(table) + 1;
