@@ -9,6 +9,7 @@ pub mod Same
 pub mod Problems
 pub mod ProblemLaws
 pub mod SoundProblems
+pub mod CountLaws
 pub mod Expected
 pub mod Nested
 pub mod Valid
