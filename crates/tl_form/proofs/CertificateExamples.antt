@@ -8,17 +8,16 @@
 --   section 1 12 2 2    the nested table on 12 columns: its placement of 10 has 2 lines, the lowest
 --   section 1 9 3 3     on 9, one less than 10: its placement of 7, its least width, has 3 lines
 --   section 0 12 2 2    the table itself: its placement of 10 has 2 lines
-use Rattle.std.proofs.Common.{◌≡◌, ◌∙◌, ℕ, zero, suc, ◌+◌, ◌<◌, ◌≤◌, List, [], ◌∷◌, length, get_or, take, Option, None, Some, refl, sym, ap, subst, arith}
-use Rattle.std.specs.List.{All, Any}
+use Rattle.std.proofs.Common.{◌≡◌, ◌∙◌, ℕ, zero, suc, ◌-◌, ◌==◌, if◌then◌else◌, ◌<◌, ◌≤◌, List, [], ◌∷◌, length, get_or, take, Option, None, Some, refl, sym, ap, subst, arith}
 use Rattle.std.proofs.lemmas.List.Elements.{All-from_recursion}
 use Rattle.tl_base.specs.declared.style.Style.TheVariants.{Plain, Frame}
 use Rattle.tl_cert.specs.declared.certificate.Claim.TheVariants.{Lowest, Bounded}
 use Rattle.tl_cert.specs.declared.section.Section.{Section}
 use Rattle.tl_form.specs.declared.cell.Table.{Table, out-Table}
-use Rattle.tl_form.specs.Expected.{Document, Due, next_width, placed_width, next_due, due_after, IsDue, AreExpected}
+use Rattle.tl_form.specs.Expected.{Document, Due, next_width, placed_width, due_in, next_due, due_from, due_after, IsDue, AreExpected}
 use Rattle.tl_form.specs.Named.{IsChosen}
 use Rattle.tl_form.specs.Nested.{IsAsWide, IsWithin, IsGreatestLower, IsLeastFound}
-use Rattle.tl_form.specs.Valid.{HasNumbers, EndsWith}
+use Rattle.tl_form.specs.Valid.{EndsWith}
 
 -- a section by its table, page, height, lower bound and widths
 abbrev section : ℕ → ℕ → ℕ → ℕ → List ℕ → Section
@@ -67,6 +66,13 @@ none_after_no_column = refl
 
 -- ---- which sections are due
 
+abbrev a_due : ℕ → ℕ → Option Due
+a_due table width = Some (record { table = table; width = width })
+
+abbrev table_of : Option Due → ℕ
+table_of None = 0
+table_of (Some due) = due.table
+
 module _ (table : Table) (numbered : (out-Table table).number ≡ 0) where
   abbrev document : Document
   document = record { table = table; style = Plain; page = 12; last = 1; least = 7 ∷ 7 ∷ [] }
@@ -74,14 +80,23 @@ module _ (table : Table) (numbered : (out-Table table).number ≡ 0) where
   first_due_is : due_after document [] ≡ Some (record { table = 1; width = 12 })
   first_due_is = refl
 
+  -- after a section of a table, where the document's own has number 0
+  next_of : (number placed : ℕ) → next_due document number placed ≡ if number == 0 then None
+      else Some (due_in document number (next_width (get_or (7 ∷ 7 ∷ []) (number - 0) 0) placed))
+  next_of number placed = subst (λ own. next_due document number placed ≡ if number == own then None
+      else Some (due_in document number (next_width (get_or (7 ∷ 7 ∷ []) (number - own) 0) placed))) numbered refl
+
   second_due_is : due_after document (wide ∷ []) ≡ Some (record { table = 1; width = 9 })
-  second_due_is = rw numbered refl
+  second_due_is = next_of 1 10
 
   own_due_is : due_after document nested ≡ Some (record { table = 0; width = 12 })
-  own_due_is = rw numbered refl
+  own_due_is = ap (λ due. due_from document due (narrow ∷ [])) second_due_is ∙ next_of 1 7
 
   none_due : due_after document all ≡ None
-  none_due = rw numbered refl
+  none_due =
+      ap (λ due. due_from document due (narrow ∷ own ∷ [])) second_due_is
+      ∙ ap (λ due. due_from document due (own ∷ [])) (next_of 1 7)
+      ∙ next_of 0 10
 
   expected : AreExpected document all
   expected = record { due = due; whole = none_due }
@@ -96,12 +111,8 @@ module _ (table : Table) (numbered : (out-Table table).number ≡ 0) where
   not_without_second : IsDue document (wide ∷ []) own → ⊥
   not_without_second is = different (sym second_due_is ∙ is)
     where
-      different : Some (record { table = 1; width = 9 }) ≡ Some (record { table = 0; width = 12 }) → ⊥
+      different : a_due 1 9 ≡ a_due 0 12 → ⊥
       different same = absurd (omega (arith, ap (λ (o : Option Due). table_of o) same))
-
-      table_of : Option Due → ℕ
-      table_of None = 0
-      table_of (Some due) = due.table
 
 -- ---- what the sections tell of the nested table
 

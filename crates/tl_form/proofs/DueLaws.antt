@@ -1,12 +1,10 @@
 -- Which section is due after some, one at a time; and that the last of all is one of the document's own table on the whole
 -- page.
 use Rattle.std.proofs.Common.{◌≡◌, ◌∙◌, ℕ, zero, suc, ◌+◌, ◌-◌, ◌<◌, ◌≤◌, Bool, true, false, if◌then◌else◌, ◌==◌, List, [], ◌∷◌, ◌++◌, ◌⊎◌, inl, inr, length, get_or, take, Option, None, Some, refl, sym, ap, subst, arith}
-use Rattle.std.specs.List.{last_or}
-use Rattle.std.specs.Option.{IsSomeAnd}
 use Rattle.std.proofs.lemmas.Bool.{cases_eq, eq-eqb, ne_eqb}
-use Rattle.std.proofs.lemmas.List.{take_more, take_all}
+use Rattle.std.proofs.lemmas.List.{take_more}
 use Rattle.tl_cert.specs.declared.section.Section.{Section}
-use Rattle.tl_form.specs.Expected.{Document, Due, own_number, least_of, first_due, next_width, due_in, next_due, placed_width, due_from, due_after, IsDue}
+use Rattle.tl_form.specs.Expected.{Document, Due, own_number, least_of, first_due, next_width, due_in, next_due, placed_width, due_from, due_after}
 
 -- what is due after one more section
 abbrev pub due_next : Document → Option Due → Section → Option Due
@@ -36,10 +34,10 @@ pub record MayBeDue (document : Document) (now : Due) : Type 0 where
   pub upto : now.table ≤ document.last
   pub whole : now.table ≡ own_number document → now.width ≡ document.page
 
-first_may : (document : Document) → own_number document ≤ document.last → MayBeDue document (first_due document document.last)
+pub first_may : (document : Document) → own_number document ≤ document.last → MayBeDue document (first_due document document.last)
 first_may document some = record { from = some; upto = omega arith; whole = λ own. refl }
 
-next_may : (document : Document) (number placed : ℕ) (next_one : Due) → own_number document ≤ number → number ≤ document.last →
+pub next_may : (document : Document) (number placed : ℕ) (next_one : Due) → own_number document ≤ number → number ≤ document.last →
     next_due document number placed ≡ Some next_one → MayBeDue document next_one
 next_may document number placed next_one from upto is = by_test (number == own_number document) refl is
   where

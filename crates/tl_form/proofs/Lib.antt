@@ -62,3 +62,12 @@ pub mod BestOf
 pub mod StepsBelow
 pub mod SectionHeights
 mod CertificateExamples
+pub mod ToldSteps
+pub mod Collected
+pub mod InnerNumbers
+pub mod NamedLaws
+pub mod NumberLemmas
+pub mod Coverage
+pub mod CoveredSteps
+pub mod DueProblems
+pub mod SubjectLemmas

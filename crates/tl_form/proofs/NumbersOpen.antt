@@ -1,6 +1,6 @@
 -- The numbers of the tables inside a table, one level at a time, and when two lists of numbers are one another's
 -- permutation: where each number stands in both as often.
-use Rattle.std.proofs.Common.{◌≡◌, ◌∙◌, ℕ, zero, suc, ◌+◌, ◌<◌, ◌≤◌, cond, List, [], ◌∷◌, ◌++◌, ◌⊎◌, inl, inr, length, map, get_or, sum_by, refl, sym, ap, subst, eqb, arith}
+use Rattle.std.proofs.Common.{◌≡◌, ◌∙◌, ℕ, suc, ◌<◌, cond, List, [], ◌∷◌, ◌⊎◌, inl, inr, length, map, get_or, sum_by, refl, sym, ap, eqb, arith}
 use Rattle.std.specs.List.{flat_map, remove}
 use Rattle.std.specs.List.Sorted.{IsPermutation}
 use Rattle.std.proofs.lemmas.Bool.{cases_eq, eq-eqb, ne_eqb}

@@ -1,5 +1,5 @@
 -- A certificate is valid, or refused for one reason: never both, and never for two.
-use Rattle.std.proofs.Common.{◌≡◌, ◌∙◌, ℕ, ◌+◌, ◌<◌, ◌≤◌, List, [], ◌⊎◌, inl, inr, length, get_or, take, Option, None, Some, refl, sym, ap, subst, arith}
+use Rattle.std.proofs.Common.{◌≡◌, ◌∙◌, ℕ, ◌<◌, List, [], ◌⊎◌, inl, inr, length, get_or, take, None, Some, refl, sym, ap, subst, arith}
 use Rattle.std.proofs.lemmas.Bool.{cases_lt}
 use Rattle.std.proofs.lemmas.List.{take_all, get_or_default}
 use Rattle.tl_problem.specs.Problem.{ProblemModel}
@@ -9,8 +9,8 @@ use Rattle.tl_cert.specs.declared.certificate.Claim.TheVariants.{Lowest, Bounded
 use Rattle.tl_cert.specs.declared.section.Section.{Section}
 use Rattle.tl_form.specs.Expected.{Document, Due, due_after, IsDue}
 use Rattle.tl_form.specs.Refusals.{Fault, wrong_claim, wrong_chain, missing, extra, wrong_layout, wrong_trace, wrong_log}
-use Rattle.tl_form.specs.Refusals.{IsGoodUpTo, HasOtherNumbers, HasWrongChain, IsMissing, IsExtra, ComesTo, HasWrongLayout, HasWrongTrace, HasSomeWrongLog, IsRefusedFor}
-use Rattle.tl_form.specs.Valid.{IsNarrow, IsClaimFor, AreTooWide, IsProblemAt, IsLaid, HasTrace, HasLog, IsGood, AreGoodBelow, AreWhole, IsShown, IsValidFor, EndsWith}
+use Rattle.tl_form.specs.Refusals.{IsGoodUpTo, HasWrongChain, ComesTo, IsRefusedFor}
+use Rattle.tl_form.specs.Valid.{IsNarrow, IsClaimFor, AreTooWide, IsProblemAt, IsLaid, HasTrace, HasLog, IsGood, AreWhole, IsShown, IsValidFor, EndsWith}
 
 none_some : {X : Type 0} {x : X} → None ≡ Some x → ⊥
 none_some equal = cc

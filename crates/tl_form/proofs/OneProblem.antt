@@ -3,7 +3,6 @@ use Rattle.std.proofs.Common.{◌≡◌, ◌∙◌, ℕ, suc, ◌+◌, ◌-◌, 
 use Rattle.std.specs.List.{AllZip}
 use Rattle.std.proofs.lemmas.List.{get_or_default}
 use Rattle.tl_base.specs.declared.style.Style.{Style}
-use Rattle.tl_problem.specs.Problem.{ProblemModel}
 use Rattle.tl_cert.specs.declared.section.Section.{Section}
 use Rattle.tl_form.specs.declared.cell.Table.{Table, out-Table}
 use Rattle.tl_form.specs.declared.heights.InnerSteps.{InnerSteps}
@@ -14,7 +13,6 @@ use Rattle.tl_form.specs.ProblemLaws.{ProblemIsDetermined}
 use Rattle.tl_form.specs.Problems.{IsProblemOf, IsAmong, AreStepsOf}
 use Rattle.tl_form.specs.Sound.{IsSound, nested_in_table}
 use Rattle.tl_form.specs.Refusals.{IsRefusedFor}
-use Rattle.tl_form.specs.Valid.{IsProblemAt}
 use Rattle.tl_form.specs.ValidLaws.{RefusedForOneReason, ValidIsNotRefused}
 use Rattle.tl_form.proofs.LinkLemmas.{IsLeastWidth-unique}
 use Rattle.tl_form.proofs.NeedSteps.{AreStepsOf-unique}

@@ -1,44 +1,27 @@
 -- What a tree becomes has as many tables as the tree, with the same numbers.
-use Rattle.std.proofs.Common.{◌≡◌, ◌∙◌, ℕ, zero, suc, ◌+◌, ◌-◌, ◌≤◌, max, Option, Some, None, List, [], ◌∷◌, ◌++◌, map, sum_by, refl, sym, ap, subst, append_assoc, arith}
-use Rattle.std.specs.List.{All, AllByRecursion, flat_map}
+use Rattle.std.proofs.Common.{◌≡◌, ◌∙◌, ℕ, zero, suc, ◌+◌, List, [], ◌∷◌, ◌++◌, sum_by, refl, sym, ap, subst, arith}
+use Rattle.std.specs.List.{flat_map}
 use Rattle.std.specs.List.Sorted.{IsPermutation}
-use Rattle.std.proofs.lemmas.Grind.{flat_map-append}
-use Rattle.std.proofs.lemmas.List.{append-nil}
 use Rattle.std.proofs.lemmas.List.Concat.{flat_map-cons}
-use Rattle.std.proofs.lemmas.List.Elements.{All-from_recursion, recursion_from_All}
-use Rattle.std.proofs.lemmas.List.Sorted.{All-permutation, Contains-permutation, sum_by-IsPermutation, IsPermutation-map}
+use Rattle.std.proofs.lemmas.List.Sorted.{sum_by-IsPermutation}
 use Rattle.std.proofs.lemmas.List.Sums.{sum_by-cons, sum_by-append}
 use Rattle.tl_base.specs.declared.breaking.Breaking.{Breaking}
-use Rattle.tl_base.specs.declared.limits.TheConstants.{MAX_DEPTH, MAX_PAGE_WIDTH}
-use Rattle.tl_grid.specs.Dropping.{IsPlaced}
-use Rattle.tl_text.specs.Paragraph.{atom_size}
-use Rattle.tl_tree.specs.Outline.{Entries, table, caption, columns, group, row, cell, paragraph, table_end, block_outline, cell_outline, group_outline, outline}
-use Rattle.tl_tree.specs.Sound.{AreSound, IsNestedBelow, table_count, entry_size}
-use Rattle.tl_tree.specs.Sound.{IsSound as IsSoundTree}
-use Rattle.tl_tree.specs.inner.Reading.{caption_outline}
+use Rattle.tl_tree.specs.Outline.{table_end, block_outline, outline}
+use Rattle.tl_tree.specs.Sound.{table_count}
 use Rattle.tl_tree.specs.declared.node.Block.{Block, out-Block}
 use Rattle.tl_tree.specs.declared.node.Block.TheOpen as open_block
-use Rattle.tl_tree.specs.declared.node.CellNode.{CellNode, out-CellNode}
-use Rattle.tl_tree.specs.declared.node.GroupNode.{GroupNode, out-GroupNode}
 use Rattle.tl_tree.specs.declared.node.TableNode.{TableNode, out-TableNode}
 use Rattle.tl_form.specs.declared.cell.Content.{Content, out-Content}
 use Rattle.tl_form.specs.declared.cell.Content.TheOpen as open_content
 use Rattle.tl_form.specs.declared.cell.Table.{Table, out-Table}
 use Rattle.tl_form.specs.declared.cell.TableCell.{TableCell, out-TableCell}
-use Rattle.tl_form.specs.Tables.{OpenTable, OpenContent, tables_of, tables_in}
-use Rattle.tl_form.specs.Formed.{OpenNode, OpenBlock, BecomesContent, BecomeContents, BecomeCells, BecomeCaption, BecomesBy, BecomesWithin, Becomes}
-use Rattle.tl_form.specs.Formed.{cells_of_group, cells_written, caption_rows}
-use Rattle.tl_form.specs.Sound.{IsSoundBy, IsSoundWithin, IsSound, place_of, table_size, cell_size, content_size, nested_in_table, nested_in_cell, nested_in_content}
-use Rattle.tl_form.specs.inner.Forming.{flow_outline, cells_outline}
-use Rattle.tl_form.proofs.SizesOpen.{table_size-out, cell_size-out, content_size-out, open_size, nested_in_table-out, nested_in_cell-out, nested_in_content-out, open_tables}
-use Rattle.tl_form.proofs.SoundNodes.{open_outline, rows_outline, groups_outline, block_outline-out, cell_outline-out, group_outline-out, outline-out}
-use Rattle.tl_form.proofs.SoundNodes.{sound_each, cell_flow, group_rows, table_groups, table_caption}
-use Rattle.tl_form.proofs.SoundParts.{each_joined, append_each}
-use Rattle.tl_form.proofs.Laid.{AreLaid, cells_laid}
-use Rattle.tl_form.proofs.Orders.{apart_moved}
-use Rattle.tl_form.proofs.UnitSizes.{broken_size}
-use Rattle.tl_form.proofs.Writing.{joined_zip}
-use Rattle.tl_form.proofs.Blocks.{tables_alone, alone-append, alone-nested, alone-count, count-append, flow_of, captured, blocks_of, alone, alone-flows, alone-cells, alone-rows, alone-groups, alone-caption, alone-table, contents_of, tables_among, tables_of_cells, one_becomes, zip_cells, zip_caption, zip_table}
+use Rattle.tl_form.specs.Tables.{OpenTable, OpenContent}
+use Rattle.tl_form.specs.Formed.{OpenBlock, BecomesContent, BecomeContents, BecomesBy, BecomesWithin}
+use Rattle.tl_form.specs.Sound.{nested_in_table, nested_in_cell, nested_in_content}
+use Rattle.tl_form.specs.inner.Forming.{flow_outline}
+use Rattle.tl_form.proofs.SizesOpen.{nested_in_table-out, nested_in_cell-out, nested_in_content-out, open_tables}
+use Rattle.tl_form.proofs.SoundNodes.{open_outline, block_outline-out}
+use Rattle.tl_form.proofs.Blocks.{alone-count, count-append, blocks_of, alone, alone-table, contents_of, zip_table}
 use Rattle.std.proofs.Common.{length}
 use Rattle.std.specs.List.{range_with_len}
 use Rattle.tl_form.specs.Refused.{NumberedShape, tables_in_block, tables_of as shapes_of}

@@ -4,7 +4,6 @@ use Rattle.std.specs.List.{All, AllByRecursion, flat_map}
 use Rattle.std.specs.List.Sorted.{IsPermutation}
 use Rattle.std.proofs.lemmas.Grind.{flat_map-append}
 use Rattle.std.proofs.lemmas.List.{append-nil}
-use Rattle.std.proofs.lemmas.List.Concat.{flat_map-cons}
 use Rattle.std.proofs.lemmas.List.Elements.{All-from_recursion, recursion_from_All}
 use Rattle.std.proofs.lemmas.List.Sorted.{All-permutation, Contains-permutation, sum_by-IsPermutation, IsPermutation-map}
 use Rattle.std.proofs.lemmas.List.Sums.{sum_by-cons, sum_by-append}
@@ -13,7 +12,7 @@ use Rattle.tl_base.specs.declared.limits.TheConstants.{MAX_DEPTH, MAX_PAGE_WIDTH
 use Rattle.tl_grid.specs.Dropping.{IsPlaced}
 use Rattle.tl_text.specs.Paragraph.{atom_size}
 use Rattle.tl_tree.specs.Outline.{Entries, table, caption, columns, group, row, cell, paragraph, table_end, block_outline, cell_outline, group_outline, outline}
-use Rattle.tl_tree.specs.Sound.{AreSound, IsNestedBelow, table_count, entry_size}
+use Rattle.tl_tree.specs.Sound.{AreSound, IsNestedBelow, entry_size}
 use Rattle.tl_tree.specs.Sound.{IsSound as IsSoundTree}
 use Rattle.tl_tree.specs.inner.Reading.{caption_outline}
 use Rattle.tl_tree.specs.declared.node.Block.{Block, out-Block}
@@ -26,19 +25,18 @@ use Rattle.tl_form.specs.declared.cell.Content.TheOpen as open_content
 use Rattle.tl_form.specs.declared.cell.Table.{Table, out-Table}
 use Rattle.tl_form.specs.declared.cell.TableCell.{TableCell, out-TableCell}
 use Rattle.tl_form.specs.Tables.{OpenTable, OpenContent, tables_of, tables_in}
-use Rattle.tl_form.specs.Formed.{OpenNode, OpenBlock, BecomesContent, BecomeContents, BecomeCells, BecomeCaption, BecomesBy, BecomesWithin, Becomes}
+use Rattle.tl_form.specs.Formed.{OpenBlock, BecomesContent, BecomeContents, BecomeCells, BecomeCaption, BecomesBy, BecomesWithin, Becomes}
 use Rattle.tl_form.specs.Formed.{cells_of_group, cells_written, caption_rows}
-use Rattle.tl_form.specs.Sound.{IsSoundBy, IsSoundWithin, IsSound, place_of, table_size, cell_size, content_size, nested_in_table, nested_in_cell, nested_in_content}
+use Rattle.tl_form.specs.Sound.{IsSoundBy, IsSoundWithin, IsSound, place_of, table_size, cell_size, content_size}
 use Rattle.tl_form.specs.inner.Forming.{flow_outline, cells_outline}
-use Rattle.tl_form.proofs.SizesOpen.{table_size-out, cell_size-out, content_size-out, open_size, nested_in_table-out, nested_in_cell-out, nested_in_content-out, open_tables}
+use Rattle.tl_form.proofs.SizesOpen.{table_size-out, cell_size-out, content_size-out, open_size}
 use Rattle.tl_form.proofs.SoundNodes.{open_outline, rows_outline, groups_outline, block_outline-out, cell_outline-out, group_outline-out, outline-out}
 use Rattle.tl_form.proofs.SoundNodes.{sound_each, cell_flow, group_rows, table_groups, table_caption}
 use Rattle.tl_form.proofs.SoundParts.{each_joined, append_each}
 use Rattle.tl_form.proofs.Laid.{AreLaid, cells_laid}
 use Rattle.tl_form.proofs.Orders.{apart_moved}
 use Rattle.tl_form.proofs.UnitSizes.{broken_size}
-use Rattle.tl_form.proofs.Writing.{joined_zip}
-use Rattle.tl_form.proofs.Blocks.{tables_alone, alone-append, alone-nested, alone-count, count-append, flow_of, captured, blocks_of, alone, alone-flows, alone-cells, alone-rows, alone-groups, alone-caption, alone-table, contents_of, tables_among, tables_of_cells, one_becomes, zip_cells, zip_caption, zip_table}
+use Rattle.tl_form.proofs.Blocks.{tables_alone, alone-append, alone-nested, flow_of, captured, blocks_of, alone, alone-table, contents_of, tables_among, tables_of_cells, zip_table}
 use Rattle.std.proofs.Common.{length}
 use Rattle.std.specs.List.{range_with_len}
 use Rattle.tl_form.specs.Refused.{tables_in_block, tables_of as shapes_of}
@@ -353,12 +351,23 @@ within_small (suc depth) breaking node made becomes =
 
 -- ---- the whole
 
+within_number : (depth : ℕ) (breaking : Breaking) (node : TableNode) (made : Table) → BecomesWithin depth breaking node made →
+    (out-Table made).number ≡ (out-TableNode node).number
+within_number zero breaking node made becomes = absurd becomes
+within_number (suc depth) breaking node made becomes = becomes.number
+
 pub becomes_sound : (breaking : Breaking) (node : TableNode) (made : Table) → IsSoundTree node → Becomes breaking node made → IsSound made
 becomes_sound breaking node made tree becomes = record {
   depth = MAX_DEPTH;
   shallow = omega arith;
   sound = (within_deep becomes.0 breaking node made becomes.1 tree.sound 0 (tables_numbered node tree) 0 MAX_DEPTH []
       (subst (IsNestedBelow MAX_DEPTH 0) (sym (append-nil (tables_alone (outline node)))) (alone-nested MAX_DEPTH 0 (outline node) tree.shallow))).0;
-  few_tables = omega (arith, within_counts becomes.0 breaking node made becomes.1, tree.few_tables);
+  few_tables = omega (
+    arith,
+    within_counts becomes.0 breaking node made becomes.1,
+    tree.few_tables,
+    within_number becomes.0 breaking node made becomes.1,
+    (subst (AreNumbered 0) (tables_of_blocks node) (tables_numbered node tree)).0,
+  );
   size = omega (arith, within_small becomes.0 breaking node made becomes.1, tree.sound.size);
 }

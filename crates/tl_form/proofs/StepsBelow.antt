@@ -1,17 +1,23 @@
 -- Steps that are found width by width: at each width one more, where the height is lower.
 use Rattle.std.proofs.Common.{◌≡◌, ◌∙◌, ℕ, zero, suc, ◌+◌, ◌-◌, ◌<◌, ◌≤◌, nat_le, nat_lt, Bool, true, false, cond, if◌then◌else◌, List, [], ◌∷◌, ◌++◌, ◌⊎◌, inl, inr, length, get_or, filter, slice_get, option_map, Option, None, Some, refl, sym, ap, subst, arith, length-append}
-use Rattle.std.specs.List.{All, AllPairs, last_or}
+use Rattle.std.specs.List.{All, last_or}
 use Rattle.std.proofs.lemmas.Bool.{cases_lt}
+use Rattle.std.proofs.lemmas.Bool.Decides.{nat_tests}
 use Rattle.std.proofs.lemmas.Option.{slice_get-get_or}
-use Rattle.std.proofs.lemmas.List.{get_or_append_left}
 use Rattle.std.proofs.lemmas.List.Elements.{All-nil, All-push, filter-append}
 use Rattle.std.proofs.lemmas.List.Quantifiers.{all_pairs_push}
 use Rattle.tl_base.specs.declared.steps.Config.{Config}
 use Rattle.tl_base.specs.Steps.{AreSteps, first_width, height_at}
-use Rattle.tl_base.proofs.Falling.{no_step, test_le, test_le_false, test_lt, test_lt_false}
+use Rattle.tl_base.proofs.Falling.{no_step, test_le, test_le_false}
 use Rattle.tl_form.specs.Problems.{AreStepsOf}
 use Rattle.tl_form.specs.inner.Collecting.{is_below, with_step, AreStepsBelow}
 use Rattle.tl_form.proofs.NeedSteps.{first-least}
+
+test_lt : {a b : ℕ} → a < b → nat_lt a b ≡ true
+test_lt less = grind (arith, nat_tests)
+
+test_lt_false : {a b : ℕ} → b ≤ a → nat_lt a b ≡ false
+test_lt_false more = grind (arith, nat_tests)
 
 -- ---- heights with one step more
 

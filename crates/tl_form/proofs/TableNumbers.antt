@@ -1,56 +1,21 @@
 -- Among a sound table and the tables inside it each number from its own on is that of exactly one.
-use Rattle.std.proofs.Common.{◌≡◌, ◌∙◌, ℕ, zero, suc, ◌+◌, ◌<◌, ◌≤◌, cond, List, [], ◌∷◌, ◌++◌, ◌⊎◌, inl, inr, length, get_or, take, sum_by, refl, sym, ap, subst, arith, append-nil, length-take}
-use Rattle.std.specs.List.{AllByRecursion, Contains, flat_map, range_with_len}
-use Rattle.std.proofs.lemmas.Bool.{cases_eq, cases_lt, eq-eqb, ne_eqb}
-use Rattle.std.proofs.lemmas.Grind.{flat_map-append}
+use Rattle.std.proofs.Common.{◌≡◌, ◌∙◌, ℕ, zero, suc, ◌+◌, ◌<◌, ◌≤◌, List, ◌∷◌, ◌⊎◌, inl, inr, length, get_or, take, refl, sym, ap, subst, arith, length-take}
+use Rattle.std.specs.List.{Contains, flat_map, range_with_len}
+use Rattle.std.proofs.lemmas.Bool.{cases_eq, cases_lt}
 use Rattle.std.proofs.lemmas.List.{get_or_default, get_or-take}
-use Rattle.std.proofs.lemmas.List.Concat.{flat_map-cons}
 use Rattle.std.proofs.lemmas.List.Elements.{All-from_recursion, All-contains}
-use Rattle.std.proofs.lemmas.List.Sorted.{Contains-permutation, IsPermutation-sym, sum_by-IsPermutation}
+use Rattle.std.proofs.lemmas.List.Sorted.{sum_by-IsPermutation}
 use Rattle.std.proofs.lemmas.List.Sums.{sum_by-cons, sum_by_more_le, get_or-le-sum_by}
-use Rattle.tl_base.proofs.Members.{Contains-first, Contains-later, Contains-cases, Contains-flat_map, flat_map-Contains, Contains-range, range-Contains}
-use Rattle.tl_form.specs.declared.cell.Content.{Content, out-Content}
-use Rattle.tl_form.specs.declared.cell.Content.TheOpen as open_content
+use Rattle.tl_base.proofs.Members.{Contains-first, Contains-later, Contains-cases, Contains-flat_map, flat_map-Contains}
 use Rattle.tl_form.specs.declared.cell.Table.{Table, out-Table}
-use Rattle.tl_form.specs.declared.cell.TableCell.{TableCell, out-TableCell}
 use Rattle.tl_form.specs.Problems.{IsInsideWithin, IsAmong}
-use Rattle.tl_form.specs.Sound.{IsSoundWithin, IsSound, numbers_of_table, numbers_in_cell, numbers_in_content, numbers_inside, count_inside, nested_in_table}
-use Rattle.tl_form.specs.Tables.{OpenContent, tables_of, tables_in, inner_tables}
-use Rattle.tl_form.proofs.NumbersOpen.{numbers_of_table-out, numbers_in_cell-out, numbers_in_content-out, open_numbers, is_number, is_same, is_other, times}
+use Rattle.tl_form.specs.Sound.{IsSoundWithin, IsSound, numbers_of_table, numbers_inside, count_inside, nested_in_table}
+use Rattle.tl_form.specs.Tables.{inner_tables}
+use Rattle.tl_form.proofs.InnerNumbers.{inner_numbers, inside_range, range_inside}
+use Rattle.tl_form.proofs.NumbersOpen.{numbers_of_table-out, is_number, is_same, is_other, times}
 use Rattle.tl_form.proofs.SizesOpen.{nested_in_table-out}
 use Rattle.tl_form.proofs.SoundCounts.{sum_flat}
 use Rattle.tl_form.proofs.SoundParts.{sound_inner}
-
--- ---- the numbers inside are those of the tables nested directly, one after the other
-
-flat_flat : {X Y Z : Type 0} (f : Y → List Z) (g : X → List Y) (xs : List X) → flat_map f (flat_map g xs) ≡ flat_map (λ x. flat_map f (g x)) xs
-flat_flat f g [] = refl
-flat_flat {Z = Z} f g (x ∷ xs) =
-    ap (flat_map f) (flat_map-cons g x xs) ∙ flat_map-append f (g x) (flat_map g xs)
-    ∙ ap (λ (more : List Z). flat_map f (g x) ++ more) (flat_flat f g xs)
-    ∙ sym (flat_map-cons (λ y. flat_map f (g y)) x xs)
-
-flat_same : {X Z : Type 0} (f g : X → List Z) → ((x : X) → f x ≡ g x) → (xs : List X) → flat_map f xs ≡ flat_map g xs
-flat_same f g same [] = refl
-flat_same {Z = Z} f g same (x ∷ xs) =
-    flat_map-cons f x xs ∙ ap (λ (one : List Z). one ++ flat_map f xs) (same x) ∙ ap (λ (more : List Z). g x ++ more) (flat_same f g same xs)
-    ∙ sym (flat_map-cons g x xs)
-
-block_numbers : (block : OpenContent) → open_numbers block ≡ flat_map numbers_of_table (tables_of block)
-block_numbers (open_content.Para paragraph) = refl
-block_numbers (open_content.Table box) = sym (append-nil (numbers_of_table box.value))
-
-cell_numbers : (cell : TableCell) → numbers_in_cell cell ≡ flat_map numbers_of_table (tables_in (out-TableCell cell))
-cell_numbers cell =
-    numbers_in_cell-out cell
-    ∙ flat_same numbers_in_content (λ block. flat_map numbers_of_table (tables_of (out-Content block)))
-    (λ block. numbers_in_content-out block ∙ block_numbers (out-Content block)) (out-TableCell cell).blocks
-    ∙ sym (flat_flat numbers_of_table (λ block. tables_of (out-Content block)) (out-TableCell cell).blocks)
-
-inner_numbers : (table : Table) → numbers_inside (out-Table table) ≡ flat_map numbers_of_table (inner_tables (out-Table table))
-inner_numbers table =
-    flat_same numbers_in_cell (λ cell. flat_map numbers_of_table (tables_in (out-TableCell cell))) cell_numbers (out-Table table).cells
-    ∙ sym (flat_flat numbers_of_table (λ cell. tables_in (out-TableCell cell)) (out-Table table).cells)
 
 -- ---- each number of a range once
 
@@ -140,22 +105,6 @@ inside_numbers (suc depth) table one inside =
         (Contains-later (out-Table inside.0).number (numbers_inside (out-Table inside.0)) (out-Table one).number (rest further))
 
 module _ (depth : ℕ) (table : Table) (sound : IsSoundWithin (suc depth) table) where
-  inside_range : (n : ℕ) → Contains (numbers_inside (out-Table table)) n →
-      ((out-Table table).number < n) × (n ≤ (out-Table table).number + count_inside (out-Table table))
-  inside_range n has =
-      let within = range-Contains ((out-Table table).number + 1) (count_inside (out-Table table)) n
-      (Contains-permutation (numbers_inside (out-Table table)) (range_with_len ((out-Table table).number + 1) (count_inside (out-Table table))) n
-      sound.numbered has) in
-      (omega (arith, within.0), omega (arith, within.1))
-
-  range_inside : (n : ℕ) → (out-Table table).number < n → n ≤ (out-Table table).number + count_inside (out-Table table) →
-      Contains (numbers_inside (out-Table table)) n
-  range_inside n past within =
-      Contains-permutation (range_with_len ((out-Table table).number + 1) (count_inside (out-Table table))) (numbers_inside (out-Table table)) n
-      (IsPermutation-sym (numbers_inside (out-Table table)) (range_with_len ((out-Table table).number + 1) (count_inside (out-Table table)))
-      sound.numbered)
-      (Contains-range ((out-Table table).number + 1) (count_inside (out-Table table)) n (omega arith) (omega arith))
-
   once : (n : ℕ) → times n (flat_map numbers_of_table (inner_tables (out-Table table))) ≤ 1
   once n = omega (
     arith,

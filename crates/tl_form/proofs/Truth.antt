@@ -1,11 +1,10 @@
 -- What good sections prove: no layout of the table on the section's page is below its lower bound, and one has its height
 -- in the columns of its placement. By induction on the number of the section: those before it tell the truth of the tables
 -- nested in its own.
-use Rattle.std.proofs.Common.{◌≡◌, ◌∙◌, ℕ, zero, suc, ◌+◌, ◌<◌, ◌≤◌, Bool, true, false, if◌then◌else◌, cond, nat_le, filter, option_map, ◌==◌, List, [], ◌∷◌, ◌⊎◌, inl, inr, length, get_or, take, Option, None, Some, refl, sym, ap, subst, arith}
+use Rattle.std.proofs.Common.{◌≡◌, ◌∙◌, ℕ, zero, suc, ◌+◌, ◌≤◌, Bool, true, if◌then◌else◌, cond, nat_le, filter, option_map, List, [], ◌∷◌, ◌⊎◌, inl, inr, length, get_or, take, None, Some, refl, sym, ap, subst, arith}
 use Rattle.std.specs.List.{All, AllZip, Contains, last_or}
 use Rattle.std.specs.Option.{IsSomeAnd}
-use Rattle.std.proofs.lemmas.Bool.{cases_eq, cases_lt, eq-eqb, ne_eqb}
-use Rattle.std.proofs.lemmas.List.{get_or_default}
+use Rattle.std.proofs.lemmas.Bool.{cases_eq, eq-eqb, ne_eqb}
 use Rattle.std.proofs.lemmas.List.Elements.{All-nil, All-more, All-get_or, recursion_from_All}
 use Rattle.tl_base.specs.declared.style.Style.{Style}
 use Rattle.tl_base.specs.declared.steps.Config.{Config}
@@ -21,13 +20,13 @@ use Rattle.tl_form.specs.declared.cell.Table.{Table, out-Table}
 use Rattle.tl_form.specs.declared.heights.InnerSteps.{InnerSteps}
 use Rattle.tl_form.specs.declared.layout.Layout.{Layout, out-Layout}
 use Rattle.tl_form.specs.Expected.{Document, IsTableOf, placed_width}
-use Rattle.tl_form.specs.Layouts.{Fits, FitsWithin}
-use Rattle.tl_form.specs.Nested.{IsAsWide, IsWithin, IsGreatestLower, IsLeastFound, AreStepsBy, AreInnerSteps}
+use Rattle.tl_form.specs.Layouts.{Fits}
+use Rattle.tl_form.specs.Nested.{IsGreatestLower, AreStepsBy, AreInnerSteps}
 use Rattle.tl_form.specs.ProblemLaws.{IsBelowLayouts, IsAboveLayouts, LowIsBelow, HighIsAbove, LayoutsAreByLow, LayoutsByHighFit}
 use Rattle.tl_form.specs.Problems.{IsInsideWithin, IsAmong, InnerNeeds, steps_for}
 use Rattle.tl_form.specs.Sound.{IsSound}
 use Rattle.tl_form.specs.Tables.{inner_tables}
-use Rattle.tl_form.specs.Valid.{IsProblemAt, IsGood, AreGoodBelow}
+use Rattle.tl_form.specs.Valid.{IsGood, AreGoodBelow}
 use Rattle.tl_form.proofs.Deeper.{FitsWithin-wider}
 use Rattle.tl_form.proofs.TableNumbers.{one_of_number}
 

@@ -1,8 +1,8 @@
 -- What a valid certificate proves of the table.
-use Rattle.std.proofs.Common.{◌≡◌, ◌∙◌, ℕ, zero, suc, ◌+◌, ◌-◌, ◌<◌, ◌≤◌, inl, List, [], ◌∷◌, length, get_or, take, Option, None, Some, refl, sym, ap, subst, arith}
-use Rattle.std.specs.List.{All, last_or}
+use Rattle.std.proofs.Common.{◌≡◌, ◌∙◌, ℕ, zero, suc, ◌+◌, ◌<◌, ◌≤◌, inl, List, [], ◌∷◌, length, get_or, take, Option, None, Some, refl, sym, ap, subst, arith}
+use Rattle.std.specs.List.{last_or}
 use Rattle.std.specs.Option.{IsSomeAnd}
-use Rattle.std.proofs.lemmas.List.{take_all, get_or-take, length-take}
+use Rattle.std.proofs.lemmas.List.{take_all, length-take}
 use Rattle.std.proofs.lemmas.List.Elements.{All-get_or}
 use Rattle.tl_base.specs.declared.style.Style.{Style}
 use Rattle.tl_cert.specs.declared.certificate.Certificate.{Certificate}
@@ -10,15 +10,13 @@ use Rattle.tl_cert.specs.declared.certificate.Claim.{Claim}
 use Rattle.tl_cert.specs.declared.certificate.Claim.TheVariants.{Lowest, Bounded, Narrow}
 use Rattle.tl_cert.specs.declared.section.Section.{Section}
 use Rattle.tl_form.specs.declared.cell.Table.{Table, out-Table}
-use Rattle.tl_form.specs.declared.layout.Layout.{Layout}
 use Rattle.tl_form.specs.Chains.{IsChain}
 use Rattle.tl_form.specs.Expected.{Document, IsDocumentOf, IsTableOf, own_number, next_due, placed_width, due_after}
 use Rattle.tl_form.specs.Layouts.{Fits}
-use Rattle.tl_form.specs.Least.{IsLeastHeight}
 use Rattle.tl_form.specs.Laws.{NoPageIsNarrowerThanAChain}
 use Rattle.tl_form.specs.ProblemLaws.{LayoutsAreByLow, LayoutsByHighFit}
 use Rattle.tl_form.specs.Sound.{IsSound}
-use Rattle.tl_form.specs.Valid.{IsNarrow, AreWhole, AreTooWide, IsShown, IsValidFor, IsValid, HasNumbers, EndsWith}
+use Rattle.tl_form.specs.Valid.{IsNarrow, AreWhole, AreTooWide, IsShown, HasNumbers, EndsWith}
 use Rattle.tl_form.specs.ValidLaws.{IsBetween, LowestIsLeast, BoundedIsBetween, NarrowIsTooWide}
 use Rattle.tl_form.proofs.DueLaws.{due_after-more, due_next, last_is_own, may_be_due}
 use Rattle.tl_form.proofs.Truth.{Fits-wider, IsTrue, all_true}
@@ -63,7 +61,7 @@ own_last document budget (first ∷ sections) some whole = record {
       ∙ whole.none
 
 -- the numbers of the last section
-ends : (claim : Claim) (sections : List Section) (n : ℕ) (d : Section) → n + 1 ≡ length sections → EndsWith claim sections →
+pub ends : (claim : Claim) (sections : List Section) (n : ℕ) (d : Section) → n + 1 ≡ length sections → EndsWith claim sections →
     HasNumbers claim (get_or sections n d)
 ends claim sections n d last with_numbers =
     subst (λ o. IsSomeAnd o (HasNumbers claim))
@@ -105,13 +103,13 @@ module _ (below : LayoutsAreByLow) (above : LayoutsByHighFit) (table : Table) (s
 
 -- ---- for a certificate
 
-shown_by_sections : (document : Document) (budget : ℕ) (certificate : Certificate) (claim : Claim) → IsShown document budget certificate claim →
+pub shown_by_sections : (document : Document) (budget : ℕ) (certificate : Certificate) (claim : Claim) → IsShown document budget certificate claim →
     (IsNarrow claim → ⊥) → AreWhole document budget certificate.sections × EndsWith claim certificate.sections
 shown_by_sections document budget certificate (Lowest height) shown other = shown
 shown_by_sections document budget certificate (Bounded height lower) shown other = shown
 shown_by_sections document budget certificate (Narrow least) shown other = absurd (other tt)
 
-no_section : Section
+pub no_section : Section
 no_section = record { table = 0; width = 0; height = 0; lower = 0; widths = []; trace = []; log = [] }
 
 pub lowest_is_least : LayoutsAreByLow → LayoutsByHighFit → LowestIsLeast

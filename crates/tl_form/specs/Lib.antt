@@ -7,10 +7,12 @@ pub mod Formed
 pub mod Refused
 pub mod Same
 pub mod Problems
+pub mod Numbered
 pub mod ProblemLaws
 pub mod SoundProblems
 pub mod CountLaws
 pub mod Expected
+pub mod Subjects
 pub mod Nested
 pub mod Valid
 pub mod Refusals

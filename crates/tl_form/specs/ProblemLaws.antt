@@ -1,5 +1,5 @@
 -- Laws of the problem of a table. Each is the contract of a function of `problem_laws`.
-use Rattle.std.specs.Prelude.{◌≡◌, ℕ, ◌≤◌, List, Some, length}
+use Rattle.std.specs.Prelude.{◌≡◌, ℕ, ◌≤◌, List, Some}
 use Rattle.std.specs.List.{AllZip, AllByRecursion}
 use Rattle.tl_base.specs.declared.style.Style.{Style}
 use Rattle.tl_base.specs.Steps.{IsLowAt, height_at}

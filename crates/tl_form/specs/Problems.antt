@@ -2,7 +2,7 @@
 -- under the other; it begins at its floor, or where each of its blocks has a height. What a nested table needs is given
 -- from outside: as a lower bound and an upper one of each, or as it is, which gives the true problem.
 use Rattle.std.specs.Prelude.{◌≡◌, ℕ, zero, suc, ◌≤◌, ◌⊎◌, ◌↔◌, ◌==◌, if◌then◌else◌, List, [], ◌∷◌, Option, None, Some, IsSomeAnd, Contains, sum}
-use Rattle.std.specs.List.{All, AllZip, AllByRecursion}
+use Rattle.std.specs.List.{All, AllZip}
 use Rattle.tl_base.specs.declared.style.Style.{Style}
 use Rattle.tl_base.specs.declared.steps.Config.{Config}
 use Rattle.tl_base.specs.Steps.{AreSteps, height_at}

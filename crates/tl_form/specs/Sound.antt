@@ -138,5 +138,6 @@ pub record IsSound (table : Table) : Type 0 where
   pub depth : ℕ
   pub shallow : depth ≤ MAX_DEPTH
   pub sound : IsSoundWithin depth table
-  pub few_tables : nested_in_table table < MAX_TABLES
+  -- the greatest number inside
+  pub few_tables : (out-Table table).number + nested_in_table table < MAX_TABLES
   pub size : table_size table ≤ MAX_FILE_BYTES

@@ -2,7 +2,7 @@
 -- claim is for this document; a claim that the page is too narrow has a chain, and is then valid; each section that is
 -- due, on what the sections before it tell of nested tables, has a placement, a trace and a log; no section is left; the
 -- claim has the numbers of the last section.
-use Rattle.std.specs.Prelude.{◌≡◌, ℕ, ◌<◌, ◌≤◌, ◌⊎◌, ◌↔◌, List, length, get_or, take, Option, None, Some, IsSomeAnd}
+use Rattle.std.specs.Prelude.{◌≡◌, ℕ, ◌<◌, ◌↔◌, List, length, get_or, take, None, IsSomeAnd}
 use Rattle.std.specs.List.{last_or}
 use Rattle.tl_base.specs.declared.style.Style.{Style}
 use Rattle.tl_problem.specs.declared.chain.Chain.{Chain}

@@ -1,5 +1,5 @@
 -- What the calls that find the steps of a cell promise each other. No public clause cites this file.
-use Rattle.std.specs.Prelude.{◌≡◌, ℕ, ◌≤◌, List, IsSome, IsTrue, sum}
+use Rattle.std.specs.Prelude.{◌≡◌, ℕ, ◌≤◌, List, IsSome, sum}
 use Rattle.std.specs.List.{AllZip, AllByRecursion}
 use Rattle.tl_base.specs.declared.limits.TheConstants.{MAX_HEIGHT}
 use Rattle.tl_base.specs.declared.steps.Config.{Config}

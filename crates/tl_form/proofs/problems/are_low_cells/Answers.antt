@@ -1,10 +1,7 @@
-use Rattle.std.proofs.Common.{◌≡◌, ◌+◌, ◌<◌, ◌≤◌, List, ap, length, get_or, refl, subst, sym, take, ◌∙◌, arith}
-use Rattle.std.specs.List.{AllZip}
+use Rattle.std.proofs.Common.{◌≡◌, ◌<◌, ◌≤◌, length, get_or, refl, subst, sym, ◌∙◌}
 use Rattle.tl_form.specs.declared.cell.Table.{out-Table}
 use Rattle.tl_form.specs.declared.cell.TableCell.{out-TableCell}
-use Rattle.tl_form.specs.declared.heights.Bound.TheVariants.{Low, High}
-use Rattle.tl_form.specs.Problems.{CellNeeds, IsCellBy, IsProblemOf, HasSoundProblem}
-use Rattle.tl_form.specs.Tables.{inner_tables, tables_in}
+use Rattle.tl_form.specs.Tables.{tables_in}
 use Rattle.tl_form.specs.inner.CellSteps.{AreLowCells, HaveSteps, IsLowByBoth}
 use Rattle.std.proofs.lemmas.List.{take_all}
 use Rattle.tl_form.proofs.ProblemCells.{have-each, low-more-cells}

@@ -1,11 +1,6 @@
-use Rattle.std.proofs.Common.{◌≡◌, ◌+◌, ◌<◌, ◌≤◌, List, ap, length, get_or, refl, subst, sym, take, ◌∙◌, arith}
-use Rattle.std.specs.List.{AllZip}
-use Rattle.tl_form.specs.declared.cell.Table.{out-Table}
+use Rattle.std.proofs.Common.{arith}
 use Rattle.tl_form.specs.declared.cell.TableCell.{out-TableCell}
-use Rattle.tl_form.specs.declared.heights.Bound.TheVariants.{Low, High}
-use Rattle.tl_form.specs.Problems.{CellNeeds, IsCellBy, IsProblemOf, HasSoundProblem}
-use Rattle.tl_form.specs.Tables.{inner_tables, tables_in}
-use Rattle.tl_form.specs.inner.CellSteps.{AreLowCells, HaveSteps, IsLowCell, NeedsBy, bound_of}
+use Rattle.tl_form.specs.inner.CellSteps.{NeedsBy, bound_of}
 use Rattle.tl_problem.proofs.Heights.{test_le_false}
 use Rattle.tl_form.proofs.CellNeedLemmas.{inner-functional}
 use Rattle.tl_form.proofs.ProblemCells.{low-at_start, start-low}

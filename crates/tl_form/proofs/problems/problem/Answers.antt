@@ -1,11 +1,6 @@
-use Rattle.std.proofs.Common.{◌≡◌, ◌+◌, ◌<◌, ◌≤◌, List, ap, length, get_or, refl, subst, sym, take, ◌∙◌, arith}
-use Rattle.std.specs.List.{AllZip}
+use Rattle.std.proofs.Common.{◌≡◌, subst, sym, arith}
 use Rattle.tl_form.specs.declared.cell.Table.{out-Table}
-use Rattle.tl_form.specs.declared.cell.TableCell.{out-TableCell}
-use Rattle.tl_form.specs.declared.heights.Bound.TheVariants.{Low, High}
-use Rattle.tl_form.specs.Problems.{CellNeeds, IsCellBy, IsProblemOf, HasSoundProblem}
-use Rattle.tl_form.specs.Tables.{inner_tables, tables_in}
-use Rattle.tl_form.specs.inner.CellSteps.{AreLowCells, HaveSteps, IsLowCell, NeedsBy, bound_of}
+use Rattle.tl_form.specs.Problems.{IsProblemOf}
 use Rattle.std.proofs.lemmas.Result.{IfOk-weaker}
 use Rattle.tl_problem.specs.Problem.{ProblemModel}
 use Rattle.tl_form.proofs.ProblemCells.{are-low, have-steps, made-problem, made-sound}

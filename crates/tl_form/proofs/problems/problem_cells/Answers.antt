@@ -1,11 +1,11 @@
-use Rattle.std.proofs.Common.{◌≡◌, ◌+◌, ◌<◌, ◌≤◌, List, ap, length, get_or, refl, subst, sym, take, ◌∙◌, arith}
+use Rattle.std.proofs.Common.{◌≡◌, ◌+◌, ◌<◌, ◌≤◌, length, get_or, subst, sym, take}
 use Rattle.std.specs.List.{AllZip}
 use Rattle.tl_form.specs.declared.cell.Table.{out-Table}
 use Rattle.tl_form.specs.declared.cell.TableCell.{out-TableCell}
 use Rattle.tl_form.specs.declared.heights.Bound.TheVariants.{Low, High}
-use Rattle.tl_form.specs.Problems.{CellNeeds, IsCellBy, IsProblemOf, HasSoundProblem}
-use Rattle.tl_form.specs.Tables.{inner_tables, tables_in}
-use Rattle.tl_form.specs.inner.CellSteps.{AreLowCells, HaveSteps, IsLowByBoth, NeedsBy}
+use Rattle.tl_form.specs.Problems.{IsCellBy}
+use Rattle.tl_form.specs.Tables.{tables_in}
+use Rattle.tl_form.specs.inner.CellSteps.{HaveSteps, IsLowByBoth, NeedsBy}
 use Rattle.std.proofs.lemmas.List.{take_all}
 use Rattle.tl_form.proofs.ProblemCells.{cells-more, have-each}
 use Rattle.tl_form.proofs.SoundParts.{at_item}

@@ -1,0 +1,13 @@
+//! The best-first search: of the zones that may still hold a lower layout it cuts one of least bound, where
+//! that helps most. It knows no table and no text. Its one contract: the promises of every search, and the
+//! order in which it cuts zones.
+#![tactic(auto)]
+
+mod agreement;
+mod best;
+mod choosing;
+mod lower;
+mod opens;
+mod search;
+
+pub use best::Best;
