@@ -46,6 +46,7 @@ pub mod SoundCells
 pub mod SafeProblems
 pub mod LowPlacements
 pub mod PlacementSizes
+pub mod CountsRise
 pub mod BetweenSteps
 pub mod TableNumbers
 pub mod DueLaws

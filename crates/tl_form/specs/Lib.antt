@@ -10,6 +10,7 @@ pub mod Problems
 pub mod Numbered
 pub mod ProblemLaws
 pub mod SoundProblems
+pub mod CountLaws
 pub mod Expected
 pub mod Subjects
 pub mod Nested

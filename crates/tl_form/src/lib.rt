@@ -39,8 +39,8 @@ pub use narrow::narrow_chain;
 pub use nested_steps::inner_steps;
 pub use numbers::with_number;
 pub use problem_laws::{
-    layouts_are_by_low, layouts_by_high_fit, placements_are_low, problem_is_determined,
-    sound_problems_alone, true_steps_lie_between, true_where_bounds_meet,
+    counts_rise, layouts_are_by_low, layouts_by_high_fit, placements_are_low,
+    problem_is_determined, sound_problems_alone, true_steps_lie_between, true_where_bounds_meet,
 };
 pub use problems::{has_sound_problem, problem};
 pub use valid_laws::{

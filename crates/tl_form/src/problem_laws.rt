@@ -1,5 +1,6 @@
 //! Laws of the problem of a table. Each is the contract of a function that does nothing.
 
+ghost use Rattle.tl_form.specs.CountLaws.{CountsRise};
 ghost use Rattle.tl_form.specs.ProblemLaws.{LayoutsAreByLow, LayoutsByHighFit, ProblemIsDetermined, TrueStepsLieBetween, TrueWhereBoundsMeet};
 ghost use Rattle.tl_form.specs.SoundProblems.{PlacementsAreLow, SoundProblemsAlone};
 
@@ -39,4 +40,9 @@ pub fn sound_problems_alone()
 /// Then no placement of it needs more than two lines for all that the table holds.
 pub fn placements_are_low()
     ensures { PlacementsAreLow }
+{}
+
+/// On a wider page a table has at least as many ways to give each span a class.
+pub fn counts_rise()
+    ensures { CountsRise }
 {}
