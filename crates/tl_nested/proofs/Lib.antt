@@ -1,1 +1,4 @@
-
+mod Ready
+mod Made
+mod Counted
+mod Written

@@ -1,13 +1,17 @@
 //! The sections of a document, one after the other, by a search that is given as a closure.
 
-ghost use Rattle.std.specs.Prelude.{◌≡◌, ℕ, ◌≤◌, IfOk, Some};
+ghost use Rattle.std.specs.Prelude.{◌≡◌, ℕ, ◌≤◌, IfOk, Some, length};
 ghost use Rattle.tl_base.specs.declared.limits.TheConstants.{MAX_BUDGET, MAX_PAGE_WIDTH};
+ghost use Rattle.tl_cert.specs.declared.section.Section.{Section};
+ghost use Rattle.tl_cert.specs.Text.{IsSectionWritable};
 ghost use Rattle.tl_form.specs.Expected.{due_after, placed_width};
 ghost use Rattle.tl_form.specs.Least.{IsLeastWidth};
 ghost use Rattle.tl_form.specs.Sound.{IsSound};
 ghost use Rattle.tl_form.specs.Subjects.{IsSubject, due_of, meant};
-ghost use Rattle.tl_nested.specs.Searched.{AreSectionsOf, AreWritable, EachIsSearched, IsSearched};
+ghost use Rattle.tl_form.specs.Valid.{AreGoodBelow, IsProblemAt};
+ghost use Rattle.tl_nested.specs.Searched.{AreSectionsOf, AreWritable, IsSearched};
 ghost use Rattle.tl_nested.specs.Solved.{Gives, SearchesEach, SolvesEach};
+ghost use Rattle.tl_nested.specs.inner.SoFar.{FitsPage};
 
 use std::alloc::{AllocError, Global};
 use tl_base::{List, Style};
@@ -30,6 +34,12 @@ fn problem_at(
     due: Due,
     before: &[Section],
 ) -> Result<Problem, AllocError>
+    requires subject { IsSubject subject.now }
+    requires wide { FitsPage subject.now }
+    requires good { (budget : ℕ) × AreGoodBelow (meant subject.now) budget before.now (length before.now) }
+    requires due { due_after (meant subject.now) before.now ≡ Some (due_of due) }
+    ensures { IfOk result (λ problem. (section : Section) → section.table ≡ due.table → section.width ≡ due.width →
+        IsProblemAt (meant subject.now) before.now section problem) }
 {
     let table = subject.table_of(due.table);
     let inner = inner_steps(alloc, table, subject.style, due.width, before)?.unwrap();
@@ -45,6 +55,17 @@ fn search<F: Fn(&Problem, u32) -> Result<Outcome, AllocError>>(
     solve: &F,
     before: &[Section],
 ) -> Result<Found, AllocError>
+    requires subject { IsSubject subject.now }
+    requires wide { FitsPage subject.now }
+    requires cuts { budget ≤ MAX_BUDGET }
+    requires good { AreGoodBelow (meant subject.now) budget before.now (length before.now) }
+    requires due { due_after (meant subject.now) before.now ≡ Some (due_of due) }
+    requires callable { SearchesEach F.Fn solve.now budget }
+    requires solves { SolvesEach F.Fn solve.now budget }
+    ensures searched { IfOk result (λ found. IsSearched (Gives F.Fn solve.now budget) (meant subject.now) budget before.now
+        found.section) }
+    ensures placed { IfOk result (λ found. found.placed ≡ placed_width subject.now.style found.section) }
+    ensures writable { IfOk result (λ found. IsSectionWritable found.section) }
 {
     let problem = problem_at(alloc, subject, due, before)?;
     let outcome = solve(&problem, budget)?;
