@@ -47,6 +47,9 @@ pub mod SafeProblems
 pub mod LowPlacements
 pub mod PlacementSizes
 pub mod CountsRise
+pub mod Searches
+pub mod LeastExists
+mod ProblemExamples
 pub mod BetweenSteps
 pub mod TableNumbers
 pub mod DueLaws

@@ -1,4 +1,4 @@
-use Rattle.std.proofs.Common.{subst, sym, ◌∙◌}
+use Rattle.std.proofs.Common.{subst, sym, ◌∙◌, arith}
 use Rattle.tl_form.specs.declared.cell.Table.{out-Table}
 use Rattle.tl_problem.specs.Sound.{IsSound}
 use Rattle.tl_form.proofs.ProblemCells.{are-low, have-steps, made-problem, made-sound}
