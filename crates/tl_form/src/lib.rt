@@ -52,6 +52,8 @@ pub use valid_laws::{
 pub use width::least_width;
 
 #[cfg(test)]
+mod nested_tests;
+#[cfg(test)]
 mod problem_tests;
 #[cfg(test)]
 mod tests;
