@@ -70,3 +70,4 @@ pub mod Coverage
 pub mod CoveredSteps
 pub mod DueProblems
 pub mod SubjectLemmas
+pub mod ClosedLaws
