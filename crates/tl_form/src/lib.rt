@@ -7,6 +7,7 @@
 
 mod cell;
 mod cell_steps;
+mod closed_laws;
 mod count;
 mod error;
 mod forming;
@@ -26,6 +27,7 @@ mod widest;
 mod width;
 
 pub use cell::{Content, Kind, Table, TableCell};
+pub use closed_laws::{budget_closes, closed_tell_least};
 pub use count::nested;
 pub use error::FormError;
 pub use forming::table;
