@@ -1,5 +1,5 @@
 -- The cells of a row and the rows of a table on a page, and the same read back.
-use Rattle.std.proofs.Common.{◌≡◌, ℕ, ◌+◌, ◌-◌, ◌<◌, ◌≤◌, Bool, true, false, List, [], ◌∷◌, ◌++◌, map, refl, sym, ap, ◌∙◌, subst, append_assoc, append-nil, codes, arith}
+use Rattle.std.proofs.Common.{◌≡◌, ℕ, ◌-◌, ◌<◌, ◌≤◌, Bool, true, false, List, [], ◌∷◌, ◌++◌, map, refl, sym, ap, ◌∙◌, subst, append_assoc, append-nil, codes, arith}
 use Rattle.std.specs.List.{AllZip, AllByRecursion, flat_map}
 use Rattle.std.proofs.lemmas.List.{map-append}
 use Rattle.std.proofs.lemmas.List.Concat.{flat_map-append}
@@ -15,13 +15,11 @@ use Rattle.tl_tree.specs.Grammar as grammar
 use Rattle.tl_tree.specs.Outline.{Entries, cell, row, cell_outline, block_outline, outline}
 use Rattle.tl_tree.specs.Paragraphs.{leading, atoms_of, paragraph_of, entries_after}
 use Rattle.tl_tree.specs.Sound.{AreSound}
-use Rattle.tl_tree.specs.Tags.{Kinds, class_of, cell_start, cell_end, row_start, row_end, text, begins_with, is_row_start}
+use Rattle.tl_tree.specs.Tags.{Kinds, cell_start, cell_end, row_start, row_end, text}
 use Rattle.tl_tree.specs.declared.node.CellNode.{CellNode, out-CellNode, roll-CellNode, out-roll-CellNode}
 use Rattle.tl_tree.specs.declared.node.TableNode.{TableNode}
 use Rattle.tl_tree.proofs.Outlines.{cell_made}
-use Rattle.tl_form.specs.declared.cell.Content.{Content, out-Content}
 use Rattle.tl_form.specs.declared.cell.Kind.{Kind}
-use Rattle.tl_form.specs.declared.cell.Kind.TheVariants as kinds
 use Rattle.tl_form.specs.declared.cell.Table.{Table}
 use Rattle.tl_form.specs.declared.cell.TableCell.{TableCell, out-TableCell, roll-TableCell, out-roll-TableCell, fold_out-TableCell}
 use Rattle.tl_form.specs.declared.layout.Layout.{Layout}
@@ -35,12 +33,12 @@ use Rattle.tl_form.proofs.SoundNodes.{cell_outline-out, cell_flow, sound_each, r
 use Rattle.tl_html.specs.declared.filled.Filled.{Filled}
 use Rattle.tl_html.specs.Html.{Cell, fill, blocks_html, block_page, table_page, cell_page, flow_of, cell_of, html_of, cell_html, is_caption, line}
 use Rattle.tl_html.specs.Html as html
-use Rattle.tl_html.proofs.Items.{Item, item_text, items_text, IsItem, IsTagText}
+use Rattle.tl_html.proofs.Items.{Item, item_text, items_text, IsItem}
 use Rattle.tl_html.proofs.PageTags.{numbers, attributes_text, plain_start, head_start, plain_end, head_end}
 use Rattle.tl_html.proofs.PageTags as page_tags
-use Rattle.tl_html.proofs.PageWords.{grammar_kinds, kinds_append, IsSharp, StandFor, GoesOn, ends_sharp}
+use Rattle.tl_html.proofs.PageWords.{grammar_kinds, kinds_append, StandFor, GoesOn, ends_sharp}
 use Rattle.tl_html.proofs.GridAgain.{span_at}
-use Rattle.tl_html.proofs.Blocks.{TableBack, FlowBack, flow_back, stand_append, tables_among}
+use Rattle.tl_html.proofs.Blocks.{TableBack, flow_back, stand_append}
 
 -- ---- the items of a cell
 
@@ -164,9 +162,9 @@ cell_stands k next head colspan rowspan least ms es stand = record {
   sharp = λ later sharp. refl;
   same = λ later sharp.
       ap (λ (m : Marks). cell head colspan rowspan least ∷ (paragraph_of (atoms_of (leading m)) ++ entries_after k m))
-          (append_assoc ms (grammar.paragraph_ends ∷ []) later)
+      (append_assoc ms (grammar.paragraph_ends ∷ []) later)
       ∙ ap (λ (m : Marks). cell head colspan rowspan least ∷ (paragraph_of (atoms_of m) ++ entries_after k (ms ++ grammar.paragraph_ends ∷ later)))
-          (stand.sharp (grammar.paragraph_ends ∷ later) refl)
+      (stand.sharp (grammar.paragraph_ends ∷ later) refl)
       ∙ ap (λ (rest : Entries). cell head colspan rowspan least ∷ rest) (stand.same (grammar.paragraph_ends ∷ later) refl
       ∙ ap (λ (rest : Entries). es ++ rest) (ends_sharp next later sharp));
 }
@@ -187,7 +185,7 @@ cell_of-out c = fold_out-TableCell html.Block (Layout → List ℕ) Cell block_p
 
 module _ (breaking : Breaking) (forms : TableNode → Table → Type 0) (alike : Table → Table → Type 0) (has : Table → Layout → Type 0)
     (inside : (node : TableNode) (table : Table) (layout : Layout) (k : ℕ) → forms node table → AreSound (outline node) → has table layout →
-        TableBack forms alike table layout k) where
+    TableBack forms alike table layout k) where
   -- a cell below the caption: what cell of a tree it comes from, and how large it is
   pub record IsBelow (c : TableCell) : Type 0 where
     pub node : CellNode
@@ -269,11 +267,10 @@ module _ (breaking : Breaking) (forms : TableNode → Table → Type 0) (alike :
       let rest = cells_back cells found.rest others flow.next below.1 flow.left in
       record {
         items = items ++ rest.items;
-        are = append_each IsItem items rest.items
-            (
-              start_is n.head colspan rowspan o.least (omega (arith, is.wide)) is.few_columns (omega (arith, is.high)) is.few_rows (omega (arith, is.becomes.least, range.narrow)),
-              append_each IsItem flow.items (end_item n.head ∷ []) flow.are (end_is n.head, tt),
-            )
+        are = append_each IsItem items rest.items (
+          start_is n.head colspan rowspan o.least (omega (arith, is.wide)) is.few_columns (omega (arith, is.high)) is.few_rows (omega (arith, is.becomes.least, range.narrow)),
+          append_each IsItem flow.items (end_item n.head ∷ []) flow.are (end_is n.head, tt),
+        )
             rest.are;
         filled = one ∷ rest.filled;
         layouts = rest.layouts;

@@ -1,17 +1,15 @@
 -- The tags that a page has, as tokens: tags without attributes, a column with its width, and a cell with its numbers.
-use Rattle.std.proofs.Common.{◌≡◌, ◌≢◌, ℕ, ◌+◌, ◌*◌, ◌-◌, ◌/◌, ◌%◌, ◌^◌, ◌<◌, ◌≤◌, zero, suc, min, max, Bool, true, false, not, ◌||◌, ◌&&◌, cond, ltb, eqb, List, [], ◌∷◌, ◌++◌, Option, Some, None, refl, sym, ap, ◌∙◌, subst, append_assoc, arith, decimal}
-use Rattle.std.specs.Prelude.{codes, IsTrue, option_and_then}
+use Rattle.std.proofs.Common.{◌≡◌, ◌≢◌, ℕ, ◌+◌, ◌*◌, ◌/◌, ◌%◌, ◌^◌, ◌<◌, ◌≤◌, min, max, Bool, true, false, not, ◌||◌, cond, ltb, eqb, List, [], ◌∷◌, ◌++◌, Option, Some, None, refl, sym, ap, ◌∙◌, subst, append_assoc, arith, decimal}
+use Rattle.std.specs.Prelude.{codes, option_and_then}
 use Rattle.tl_token.specs.declared.token.TokenKind.TheVariants.{Start}
 use Rattle.std.specs.Char.{is_ascii_digit, digit_value}
-use Rattle.std.specs.List.{AllByRecursion}
-use Rattle.std.proofs.lemmas.Bool.{false≢true, eqb-true, eqb-false, cases_Bool, ltb-true, ltb-false, le-ltb, ne_eqb, not_from_false}
+use Rattle.std.proofs.lemmas.Bool.{false≢true, ltb-false}
 use Rattle.std.proofs.lemmas.Bool.Decides.{nat_tests}
-use Rattle.std.proofs.lemmas.Int.{clamps}
 use Rattle.std.proofs.lemmas.Fmt.{decimal_by_steps}
 use Rattle.tl_base.specs.declared.limits.TheConstants.{MAX_COLSPAN, MAX_ROWSPAN, MAX_PAGE_WIDTH}
 use Rattle.tl_token.specs.Characters.{◌∈◌, is_space, is_name_character, is_gap, begins, run, past}
 use Rattle.tl_token.specs.Numbers.{number, number_from, unsigned, signed_number, number_of, columns_of, rows_of, floor_of}
-use Rattle.tl_token.specs.Elements.{Attribute, Tag, value_of, attribute_number, element_of, spans_of, cell_spans, no_spans}
+use Rattle.tl_token.specs.Elements.{Attribute, value_of, attribute_number, element_of, spans_of, cell_spans, no_spans}
 use Rattle.tl_token.specs.Grammar.{Each, Value, quoted, Attributes, IsTagName, opening, IsTag, markup}
 use Rattle.tl_token.specs.Grammar as grammar
 use Rattle.tl_token.specs.declared.token.Element.{Element}
@@ -182,7 +180,7 @@ column_tag width small rest =
     (record {
       following = 0x20 ∷ (codes "style" ++ (codes "=\"" ++ (value ++ (34 ∷ (0x3E ∷ rest)))));
       spelled = ap (λ (cs : List ℕ). codes "<col style=\"width:" ++ cs) (
-        append_assoc (decimal width) (codes "ch\">") rest ∙ sym (append_assoc (decimal width) (codes "ch") (34 ∷ (0x3E ∷ rest))));
+          append_assoc (decimal width) (codes "ch\">") rest ∙ sym (append_assoc (decimal width) (codes "ch") (34 ∷ (0x3E ∷ rest))));
       named = (refl, (refl, (refl, tt)));
       separated = refl;
       attributes = in_quotes (codes "style") value (0x3E ∷ rest) [] rest (λ e. cc) (refl, (refl, (refl, (refl, (refl, tt))))) plain (grammar.end refl);

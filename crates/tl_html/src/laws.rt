@@ -2,8 +2,7 @@
 
 ghost use Rattle.tl_html.specs.Laws.{PageReadsBack};
 
-/// The page of a table that a sound tree becomes, in a layout with a width for each column, spells that
-/// table again, but for the numbers of tables.
+/// The page of a table reads back: it spells the table again, but for the numbers of tables.
 pub fn page_reads_back()
     ensures { PageReadsBack }
 {}
