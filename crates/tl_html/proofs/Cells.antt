@@ -28,6 +28,7 @@ use Rattle.tl_form.specs.Formed.{OpenCellNode, BecomesCell, BecomeCells, kind_of
 use Rattle.tl_form.specs.Same.{AreSameCell}
 use Rattle.tl_form.specs.Sound.{place_of}
 use Rattle.tl_form.specs.inner.Forming.{flow_outline, cells_outline}
+use Rattle.tl_form.proofs.Writing.{joined_zip}
 use Rattle.tl_form.proofs.SoundParts.{append_each}
 use Rattle.tl_form.proofs.SoundNodes.{cell_outline-out, cell_flow, sound_each, rows_outline}
 use Rattle.tl_html.specs.declared.filled.Filled.{Filled}
@@ -354,12 +355,6 @@ module _ (breaking : Breaking) (forms : TableNode → Table → Type 0) (alike :
     pub places : map place_of back ≡ map place_of (joined rows)
     pub spans : map (map span_of) nodes ≡ map (map (λ c. span_at (place_of c))) rows
 
-  zip_append : {A B : Type 0} (R : A → B → Type 0) (xs us : List A) (ys vs : List B) → AllZip R xs ys → AllZip R us vs → AllZip R (xs ++ us) (ys ++ vs)
-  zip_append R [] us [] vs one two = two
-  zip_append R [] us (y ∷ ys) vs one two = absurd one
-  zip_append R (x ∷ xs) us [] vs one two = absurd one
-  zip_append R (x ∷ xs) us (y ∷ ys) vs one two = (one.0, zip_append R xs us ys vs one.1 two)
-
   pub rows_back : (rows : List (List TableCell)) (inner : List Layout) (others : List Table) (k : ℕ) → AllByRecursion (AllByRecursion IsBelow) rows →
       AllZip has (tables_below (joined rows) ++ others) inner → RowsBack rows inner others k
   rows_back [] inner others k below fits = record {
@@ -418,9 +413,9 @@ module _ (breaking : Breaking) (forms : TableNode → Table → Type 0) (alike :
         stand = stand_append k one.next rest.next marks rest.ms (row ∷ cells_outline one.nodes) (rows_outline rest.nodes)
             (row_stands k one.next one.ms (cells_outline one.nodes) one.stand) rest.stand;
         back = one.back ++ rest.back;
-        become = zip_append (λ node made. BecomesCell forms breaking (out-CellNode node) (out-TableCell made)) one.nodes (joined rest.nodes) one.back rest.back
+        become = joined_zip (λ node made. BecomesCell forms breaking (out-CellNode node) (out-TableCell made)) one.nodes (joined rest.nodes) one.back rest.back
             one.become rest.become;
-        same = zip_append (λ c twin. AreSameCell alike (out-TableCell c) (out-TableCell twin)) cells (joined rows) one.back rest.back one.same rest.same;
+        same = joined_zip (λ c twin. AreSameCell alike (out-TableCell c) (out-TableCell twin)) cells (joined rows) one.back rest.back one.same rest.same;
         places = map-append place_of one.back rest.back ∙ ap (λ (ps : List Place). ps ++ map place_of rest.back) one.places
             ∙ ap (λ (ps : List Place). map place_of cells ++ ps) rest.places ∙ sym (map-append place_of cells (joined rows));
         spans = ap (λ (ss : List SpanOf). ss ∷ map (map span_of) rest.nodes) one.spans ∙ ap (λ (sss : List (List SpanOf)). map (λ c. span_at (place_of c)) cells ∷ sss) rest.spans;

@@ -40,6 +40,7 @@ use Rattle.tl_form.specs.Formed.{OpenNode, OpenGroup, BecomesCell, BecomeCells, 
 use Rattle.tl_form.specs.Same.{AreSameCell}
 use Rattle.tl_form.specs.Sound.{ComesBefore, place_of, places_of}
 use Rattle.tl_form.specs.inner.Forming.{cells_outline}
+use Rattle.tl_form.proofs.Writing.{joined_zip}
 use Rattle.tl_form.proofs.SoundParts.{append_each, each_joined}
 use Rattle.tl_form.proofs.SoundNodes.{sound_each, group_rows, table_groups, table_caption, groups_outline}
 use Rattle.tl_html.specs.declared.filled.Filled.{Filled}
@@ -498,12 +499,6 @@ module _ (breaking : Breaking) (forms : TableNode → Table → Type 0) (alike :
       in_order = subst (AllPairs ComesBefore) (sym places_back) becomes.in_order;
     }
 
-    zip_append : {A B : Type 0} (R : A → B → Type 0) (xs us : List A) (ys vs : List B) → AllZip R xs ys → AllZip R us vs → AllZip R (xs ++ us) (ys ++ vs)
-    zip_append R [] us [] vs one two = two
-    zip_append R [] us (y ∷ ys) vs one two = absurd one
-    zip_append R (x ∷ xs) us [] vs one two = absurd one
-    zip_append R (x ∷ xs) us (y ∷ ys) vs one two = (one.0, zip_append R xs us ys vs one.1 two)
-
     abbrev SameCells : TableCell → TableCell → Type 0
     SameCells one twin = AreSameCell alike (out-TableCell one) (out-TableCell twin)
 
@@ -513,7 +508,7 @@ module _ (breaking : Breaking) (forms : TableNode → Table → Type 0) (alike :
       rows = refl;
       cells = subst (λ (cs : List TableCell). AllZip SameCells cs (cap.back ++ rest.back))
           (ap (λ (cs : List TableCell). becomes.caption ++ cs) by_rows.1 ∙ sym (table_rows.cells_split breaking forms node T sound becomes))
-          (zip_append SameCells becomes.caption (joined rows) cap.back rest.back cap.same rest.same);
+          (joined_zip SameCells becomes.caption (joined rows) cap.back rest.back cap.same rest.same);
     }
 
     -- the table is read back
@@ -523,7 +518,7 @@ module _ (breaking : Breaking) (forms : TableNode → Table → Type 0) (alike :
       are = (
         (page_tags.table_start, (refl, tt)),
         append_each IsItem cap.items (columns_items L.widths ++ rest.items) cap.are
-            (append_each IsItem (columns_items L.widths) rest.items (columns_are L.widths fits.widths) rest.are),
+            (append_each IsItem (columns_items L.widths) rest.items (columns_are L.widths) rest.are),
       );
       written = page_is;
       ms = marks;

@@ -132,15 +132,15 @@ abbrev pub columns_items : List ℕ → List Item
 columns_items [] = []
 columns_items (width ∷ widths) = colgroup_start_item ∷ (map col_item (width ∷ widths) ++ colgroup_end_item ∷ [])
 
-cols_are : (widths : List ℕ) → AllByRecursion (λ width. width < 2 ^ 32) widths → AllByRecursion IsItem (map col_item widths)
-cols_are [] small = tt
-cols_are (width ∷ widths) small = ((column_tag width (omega (arith, small.0)), tt), cols_are widths small.1)
+cols_are : (widths : List ℕ) → AllByRecursion IsItem (map col_item widths)
+cols_are [] = tt
+cols_are (width ∷ widths) = ((column_tag width, tt), cols_are widths)
 
-pub columns_are : (widths : List ℕ) → AllByRecursion (λ width. width < 2 ^ 32) widths → AllByRecursion IsItem (columns_items widths)
-columns_are [] small = tt
-columns_are (width ∷ widths) small = (
+pub columns_are : (widths : List ℕ) → AllByRecursion IsItem (columns_items widths)
+columns_are [] = tt
+columns_are (width ∷ widths) = (
   (page_tags.colgroup_start, tt),
-  append_each IsItem (map col_item (width ∷ widths)) (colgroup_end_item ∷ []) (cols_are (width ∷ widths) small) ((page_tags.colgroup_end, (refl, tt)), tt),
+  append_each IsItem (map col_item (width ∷ widths)) (colgroup_end_item ∷ []) (cols_are (width ∷ widths)) ((page_tags.colgroup_end, (refl, tt)), tt),
 )
 
 cols_written : (widths : List ℕ) → flat_map column_html widths ≡ items_text (map col_item widths)

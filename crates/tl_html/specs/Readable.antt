@@ -16,7 +16,6 @@ use Rattle.tl_html.specs.Html.{html_of}
 -- a width for each column, and a layout for each table nested directly, of which `has` says the same
 pub record HasColumnsBy (has : Table → Layout → Type 0) (table : OpenTable) (layout : OpenLayout) : Type 0 where
   pub columns : length layout.widths ≡ table.cols
-  pub widths : AllByRecursion (λ width. width < 2 ^ 32) layout.widths
   pub inner : AllZip has (inner_tables table) layout.inner
 
 -- the same of a table with fewer than `depth` tables inside one another
