@@ -1,7 +1,7 @@
 //! A text that grows at its end.
 
 ghost use Rattle.std.specs.Prelude.{◌≡◌, ◌++◌, [], ◌∷◌, OnOk, true, decimal};
-ghost use Rattle.std.specs.Str.{chars, encode_utf8_all};
+ghost use Rattle.std.specs.Str.{chars, encode_utf8_all, IsUtf8};
 ghost use Rattle.tl_html.specs.inner.Ascii.{is_ascii};
 
 use std::alloc::{AllocError, Global};
@@ -77,7 +77,9 @@ impl TextBuilder {
 
     /// The text in UTF-8, in its memory.
     pub(crate) fn into_bytes(self) -> List<u8>
-        ensures { result ≡ encode_utf8_all self }
+        ensures bytes { result ≡ encode_utf8_all self }
+        ensures utf8 { IsUtf8 result }
+        ensures characters { chars result ≡ self }
     {
         List::from_vec(self.string.into_bytes())
     }

@@ -1,13 +1,16 @@
 //! Writes the HTML page of a table in a layout, with the widths of its columns. It knows no search and
-//! no certificate. Its one contract: the bytes are exactly those of the page's definition.
+//! no certificate. Its one contract: the bytes are exactly those of the page's definition, which spell
+//! the same table again, but for the numbers of tables.
 #![tactic(auto)]
 
 mod builder;
 mod filled;
+mod laws;
 mod paragraph;
 mod row;
 mod table;
 #[cfg(test)]
 mod tests;
 
+pub use laws::page_reads_back;
 pub use table::html;

@@ -4,6 +4,7 @@ ghost use Rattle.std.specs.Prelude.{◌≡◌, ◌++◌, ◌≤◌, [], OnOk, If
 ghost use Rattle.std.specs.List.{flat_map, list_any};
 ghost use Rattle.tl_html.specs.Html.{blocks_html, bytes_of, caption_html, caption_line, caption_rows, cell_of, column_html};
 ghost use Rattle.tl_html.specs.Html.{columns_html, fill, flow_of, html_of, is_caption, rows_html};
+ghost use Rattle.tl_html.specs.Readable.{IsPage};
 ghost use Rattle.tl_html.specs.inner.Flows.{Flowed, IsFilled};
 
 use crate::builder::TextBuilder;
@@ -207,7 +208,8 @@ fn write_table(
 /// column with its width in `ch` (CSS Values and Units, 6.1.2), and a line for each row. A nested
 /// table takes the next layout of `layout.inner`, in the order of the cells and their blocks.
 pub fn html(alloc: Global, table: &Table, layout: &Layout) -> Result<List<u8>, AllocError>
-    ensures { IfOk result (λ bytes. bytes ≡ bytes_of table.now layout.now) }
+    ensures bytes { IfOk result (λ bytes. bytes ≡ bytes_of table.now layout.now) }
+    ensures page { IfOk result (IsPage table.now layout.now) }
 {
     let mut out = TextBuilder::new(alloc);
     write_table(alloc, &mut out, table, layout)?;

@@ -1,0 +1,6 @@
+mod CoverLaws
+mod FrontierLaws
+mod Lists
+mod LowerLaws
+mod OrderLaws
+mod SearchLaws

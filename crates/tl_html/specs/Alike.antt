@@ -1,0 +1,22 @@
+-- When two tables are the same but for the numbers of tables, which say where each begins in its file.
+use Rattle.std.specs.Prelude.{◌≡◌, ℕ, zero, suc}
+use Rattle.std.specs.List.{AllZip}
+use Rattle.tl_form.specs.declared.cell.Table.{Table, out-Table}
+use Rattle.tl_form.specs.declared.cell.TableCell.{out-TableCell}
+use Rattle.tl_form.specs.Same.{AreSameCell}
+use Rattle.tl_form.specs.Tables.{OpenTable}
+
+-- two tables have the same columns, rows and cells, where `alike` says so of nested tables
+pub record AreAlikeBy (alike : Table → Table → Type 0) (one other : OpenTable) : Type 0 where
+  pub cols : one.cols ≡ other.cols
+  pub rows : one.rows ≡ other.rows
+  pub cells : AllZip (λ cell twin. AreSameCell alike (out-TableCell cell) (out-TableCell twin)) one.cells other.cells
+
+-- the same of tables with fewer than `depth` tables inside one another
+abbrev pub AreAlikeWithin : ℕ → Table → Table → Type 0
+AreAlikeWithin zero one other = ⊥
+AreAlikeWithin (suc depth) one other = AreAlikeBy (AreAlikeWithin depth) (out-Table one) (out-Table other)
+
+-- two tables are the same but for the numbers of tables
+abbrev pub AreAlike : Table → Table → Type 0
+AreAlike one other = (depth : ℕ) × AreAlikeWithin depth one other

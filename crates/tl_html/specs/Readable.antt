@@ -1,0 +1,34 @@
+-- Which layouts a page can be written in, which bytes are the page, and what it is for them to read back.
+use Rattle.std.specs.Prelude.{◌≡◌, ℕ, zero, suc, ◌<◌, ◌^◌, List, length, IsUtf8, chars}
+use Rattle.std.specs.List.{AllZip, AllByRecursion}
+use Rattle.tl_base.specs.declared.breaking.Breaking.{Breaking}
+use Rattle.tl_form.specs.declared.cell.Table.{Table, out-Table}
+use Rattle.tl_form.specs.declared.layout.Layout.{Layout, out-Layout}
+use Rattle.tl_form.specs.Layouts.{OpenLayout}
+use Rattle.tl_form.specs.Spells.{Spells}
+use Rattle.tl_form.specs.Tables.{OpenTable, inner_tables}
+use Rattle.tl_html.specs.Alike.{AreAlike}
+use Rattle.tl_html.specs.Html.{html_of}
+
+-- a width for each column, and a layout for each table nested directly, of which `has` says the same
+pub record HasColumnsBy (has : Table → Layout → Type 0) (table : OpenTable) (layout : OpenLayout) : Type 0 where
+  pub columns : length layout.widths ≡ table.cols
+  pub widths : AllByRecursion (λ width. width < 2 ^ 32) layout.widths
+  pub inner : AllZip has (inner_tables table) layout.inner
+
+-- the same of a table with fewer than `depth` tables inside one another
+abbrev pub HasColumnsWithin : ℕ → Table → Layout → Type 0
+HasColumnsWithin zero table layout = ⊥
+HasColumnsWithin (suc depth) table layout = HasColumnsBy (HasColumnsWithin depth) (out-Table table) (out-Layout layout)
+
+-- the layout has a width for each column of the table and of the tables nested in it
+abbrev pub HasColumns : Table → Layout → Type 0
+HasColumns table layout = (depth : ℕ) × HasColumnsWithin depth table layout
+
+-- the bytes are the HTML page: UTF-8, of its characters
+abbrev pub IsPage : Table → Layout → List ℕ → Type 0
+IsPage table layout bytes = IsUtf8 bytes × (chars bytes ≡ html_of table layout)
+
+-- the bytes spell the same table, but for the numbers of tables
+abbrev pub SpellsAlike : List ℕ → Breaking → Table → Type 0
+SpellsAlike bytes breaking table = (other : Table) × Spells bytes breaking other × AreAlike table other
