@@ -17,9 +17,23 @@ struct Step {
     won: u32,
 }
 
+/// The cheapest step that a span offers, and the room from which it was found.
+#[derive(Clone, Copy)]
+struct Offer {
+    room: u32,
+    step: Option<Step>,
+}
+
+/// What a span offers before it was asked.
+const NO_OFFER: Offer = Offer {
+    room: u32::MAX,
+    step: None,
+};
+
 /// The places of columns within the page. It begins with the rooms that are wanted. While the page does not
 /// hold them, a span on a longest path takes the room of a lower class: that which makes the rows grow
-/// least for each column won. Then the rows are higher, and no span wants more than they leave.
+/// least for each column won, as far as they had grown when the span took its room. Then the rows are higher,
+/// and no span wants more than they leave.
 pub(crate) fn greedy_places(
     alloc: Global,
     shape: &Shape,
@@ -29,12 +43,19 @@ pub(crate) fn greedy_places(
     let mut rooms = Vec::from_slice(alloc, &sight.wanted)?;
     let mut heights = Vec::from_slice(alloc, &sight.heights)?;
     let mut places = column_places(alloc, shape, &rooms)?;
+    let mut offers = vec![in alloc; NO_OFFER; shape.spans.len()]?;
     for _ in 0..step_count(shape) {
         if is_on_page(shape, &places) {
             return Ok(places);
         }
         let path = longest_path(alloc, shape, &rooms, &places)?;
-        let Some(step) = best_step(alloc, shape, cells, sight, &path, &rooms, &heights)? else {
+        let ends = row_places(alloc, shape, &heights)?;
+        for &span in &path {
+            let room = number_at(&rooms, span);
+            let least = number_at(&sight.least, span);
+            renew(alloc, shape, cells, (span, least, room), &ends, &mut offers)?;
+        }
+        let Some(step) = cheapest(&path, &offers) else {
             return Ok(places);
         };
         raise_heights(shape, cells, step.span, step.room, &mut heights);
@@ -53,34 +74,63 @@ fn step_count(shape: &Shape) -> usize {
     count
 }
 
-/// Of all steps of the spans on the path the one with the least growth for each column won.
-fn best_step(
+/// Finds the cheapest step of a span anew, where its room is another than when it was found. The span is
+/// given with its least room and its room.
+fn renew(
     alloc: Global,
     shape: &Shape,
     cells: &[Cell],
-    sight: &Sight,
-    path: &[usize],
-    rooms: &[u32],
-    heights: &[u32],
-) -> Result<Option<Step>, AllocError> {
-    let places = row_places(alloc, shape, heights)?;
+    asked: (usize, u32, u32),
+    ends: &[u32],
+    offers: &mut [Offer],
+) -> Result<(), AllocError> {
+    let (span, _, room) = asked;
+    if let Some(offer) = offers.get_mut(span) {
+        if offer.room != room {
+            let step = step_of(alloc, shape, cells, asked, ends)?;
+            *offer = Offer { room, step };
+        }
+    }
+    Ok(())
+}
+
+/// The cheapest step on the path.
+fn cheapest(path: &[usize], offers: &[Offer]) -> Option<Step> {
     let mut best: Option<Step> = None;
     for &span in path {
-        let classes = shape.classes_of(span);
-        let room = number_at(rooms, span);
-        let least = number_at(&sight.least, span);
-        let growths = growths_of(alloc, shape, cells, span, &places)?;
-        for class in class_of(classes, least)..class_of(classes, room) {
-            let narrow = number_at(classes, class).max(least);
-            let step = Step {
-                span,
-                room: narrow,
-                growth: number_at(&growths, class),
-                won: room.saturating_sub(narrow),
-            };
-            if is_cheaper(&step, &best) {
-                best = Some(step);
+        if let Some(offer) = offers.get(span) {
+            if let Some(step) = offer.step {
+                if is_cheaper(&step, &best) {
+                    best = Some(step);
+                }
             }
+        }
+    }
+    best
+}
+
+/// The step of the span from this room with the least growth for each column won, where rows end there.
+fn step_of(
+    alloc: Global,
+    shape: &Shape,
+    cells: &[Cell],
+    asked: (usize, u32, u32),
+    ends: &[u32],
+) -> Result<Option<Step>, AllocError> {
+    let (span, least, room) = asked;
+    let classes = shape.classes_of(span);
+    let growths = growths_of(alloc, shape, cells, span, ends)?;
+    let mut best: Option<Step> = None;
+    for class in class_of(classes, least)..class_of(classes, room) {
+        let narrow = number_at(classes, class).max(least);
+        let step = Step {
+            span,
+            room: narrow,
+            growth: number_at(&growths, class),
+            won: room.saturating_sub(narrow),
+        };
+        if is_cheaper(&step, &best) {
+            best = Some(step);
         }
     }
     Ok(best)

@@ -105,7 +105,7 @@ fn part_bound(
     for (number, span) in shape.spans.iter().enumerate() {
         let apart = sight.spread.limited(a, b, most, span.left, span.right);
         let room = unsigned(apart.saturating_sub(gap));
-        if room < number_at(&sight.most, number) {
+        if room < number_at(&sight.last, number) {
             raise_heights(shape, cells, number, room, &mut heights);
         }
     }

@@ -13,6 +13,8 @@ pub(crate) struct Sight {
     pub(crate) least: Vec<u32>,
     /// The greatest room of each span.
     pub(crate) most: Vec<u32>,
+    /// The first width of the class of each span's greatest room.
+    pub(crate) last: Vec<u32>,
     /// The height of each strip by `low` at the greatest rooms.
     pub(crate) heights: Vec<u32>,
     /// The least room of each span at which no cell of it is higher than its rows at the greatest rooms.
@@ -38,16 +40,18 @@ impl Sight {
             least.push(unsigned(back.saturating_sub(gap)))?;
             most.push(unsigned(on.saturating_sub(gap)))?;
         }
+        let last = last_classes(alloc, shape, &most)?;
         let heights = heights_at(alloc, shape, cells, &most)?;
         let wanted = if low_is_high {
             rooms_for(alloc, shape, cells, &least, &heights)?
         } else {
-            last_classes(alloc, shape, &least, &most)?
+            greater_rooms(alloc, &least, &last)?
         };
         Ok(Sight {
             spread,
             least,
             most,
+            last,
             heights,
             wanted,
         })
@@ -188,18 +192,22 @@ fn width_between(cell: &Cell, places: &[u32], gap: u32) -> u32 {
     cell.low.width_for(height).unwrap_or(0)
 }
 
-/// For each span the first width of the class of its greatest room, or its least room where that is more.
-fn last_classes(
-    alloc: Global,
-    shape: &Shape,
-    least: &[u32],
-    most: &[u32],
-) -> Result<Vec<u32>, AllocError> {
-    let mut rooms = Vec::from_slice(alloc, least)?;
+/// For each span the first width of the class of its greatest room.
+fn last_classes(alloc: Global, shape: &Shape, most: &[u32]) -> Result<Vec<u32>, AllocError> {
+    let mut rooms = Vec::new(alloc);
     for span in 0..shape.spans.len() {
         let classes = shape.classes_of(span);
         let last = class_of(classes, number_at(most, span));
-        raise(&mut rooms, span, number_at(classes, last));
+        rooms.push(number_at(classes, last))?;
+    }
+    Ok(rooms)
+}
+
+/// For each span the greater of two rooms.
+fn greater_rooms(alloc: Global, first: &[u32], second: &[u32]) -> Result<Vec<u32>, AllocError> {
+    let mut rooms = Vec::from_slice(alloc, first)?;
+    for (span, &room) in second.iter().enumerate() {
+        raise(&mut rooms, span, room);
     }
     Ok(rooms)
 }

@@ -1,6 +1,6 @@
 //! Searches of problems that were counted by hand, and of tables that were drawn at random.
 
-ghost use Rattle.std.specs.Prelude.{◌<◌, ◌^◌};
+ghost use Rattle.std.specs.Prelude.{◌+◌, ◌<◌, ◌^◌};
 
 use crate::Best;
 use std::alloc::Global;
@@ -74,15 +74,22 @@ fn two_rows(alloc: Global) -> Result<Problem, Fail> {
     problem(alloc, 4, 2, 25, cells)
 }
 
-// The opening has four lines. Three would need both long cells in one line, which does not fit.
+// The opening has four lines. Three would need both long cells in one line, which does not fit: the third
+// column is cut after its first class, and both parts show it.
 #[test]
-fn two_rows_close_with_sixteen_cuts(rt: HostRuntime) -> Result<(), Fail> {
+fn two_rows_close_with_one_cut(rt: HostRuntime) -> Result<(), Fail> {
     let alloc = rt.alloc();
     let problem = two_rows(alloc)?;
     assert_eq!(rt; problem.count(), 16);
-    let outcome = Best::new(alloc).solve(&problem, 16)?;
-    assert_eq!(rt; (outcome.best.height, outcome.lower), (4, 4));
-    assert_eq!(rt; outcome.best.width, 16);
+    let mut best = Best::new(alloc);
+    for budget in [1u32, 16] {
+        let outcome = best.solve(&problem, budget)?;
+        assert_eq!(rt; (outcome.best.height, outcome.lower), (4, 4));
+        assert_eq!(rt; outcome.best.width, 16);
+        let cuts = outcome.trace.as_slice();
+        assert_eq!(rt; cuts.len(), 1);
+        assert_eq!(rt; (cuts[0].zone, cuts[0].span, cuts[0].class), (0, 2, 0));
+    }
     Ok(())
 }
 
@@ -268,9 +275,19 @@ fn text_steps(alloc: Global, words: &[u32]) -> Result<Steps, Fail> {
     steps(alloc, configs.as_slice())
 }
 
-/// The widths of a cell's words: one to six words of one to eight columns.
-fn drawn_words(alloc: Global, draws: &mut Draws) -> Result<Vec<u32>, Fail> {
-    let count = 1 + draws.draw(6);
+/// How much is drawn: so many rows and columns, cells of `least` words and up to `more` besides.
+#[derive(Clone, Copy)]
+struct Size {
+    rows: u32,
+    cols: u32,
+    least: u32,
+    more: u64,
+    ghost small: { (rows < 1000) × (cols < 100) × (least < 100) × (more < 9) },
+}
+
+/// The widths of a cell's words, of one to eight columns each.
+fn drawn_words(alloc: Global, draws: &mut Draws, size: Size) -> Result<Vec<u32>, Fail> {
+    let count = size.least + draws.draw(size.more + 1);
     let mut words = Vec::new(alloc);
     for _ in 0..count {
         words.push(1 + draws.draw(8))?;
@@ -278,15 +295,22 @@ fn drawn_words(alloc: Global, draws: &mut Draws) -> Result<Vec<u32>, Fail> {
     Ok(words)
 }
 
-/// A row of cells over six columns, each over one or two.
-fn drawn_row(alloc: Global, draws: &mut Draws, row: u32, cells: &mut List<Cell>) -> Result<(), Fail>
+/// A row of cells, each over one column or two.
+fn drawn_row(
+    alloc: Global,
+    draws: &mut Draws,
+    row: u32,
+    size: Size,
+    cells: &mut List<Cell>,
+) -> Result<(), Fail>
     requires { row < 1000 }
 {
+    let cols = size.cols;
     let mut column = 0u32;
-    while column < 6 {
-        let wide = draws.draw(5) == 0 && column < 5;
+    while column < cols {
+        let wide = draws.draw(5) == 0 && column + 1 < cols;
         let span = if wide { 2 } else { 1 };
-        let words = drawn_words(alloc, draws)?;
+        let words = drawn_words(alloc, draws, size)?;
         cells.push(Cell {
             left: column,
             right: column + span,
@@ -300,18 +324,18 @@ fn drawn_row(alloc: Global, draws: &mut Draws, row: u32, cells: &mut List<Cell>)
     Ok(())
 }
 
-/// 30 rows over six columns on a page of this width, drawn from this number.
-fn drawn_table(alloc: Global, number: u32, width: u32) -> Result<Problem, Fail>
+/// A table on a page of this width, drawn from this number.
+fn drawn_table(alloc: Global, number: u32, size: Size, width: u32) -> Result<Problem, Fail>
     requires { number < 2 ^ 31 }
 {
     let mut draws = Draws {
         state: u64::from(number),
     };
     let mut cells = List::new(alloc);
-    for row in 0..30u32 {
-        drawn_row(alloc, &mut draws, row, &mut cells)?;
+    for row in 0..size.rows {
+        drawn_row(alloc, &mut draws, row, size, &mut cells)?;
     }
-    problem(alloc, 6, 30, width, cells)
+    problem(alloc, size.cols, size.rows, width, cells)
 }
 
 // Each closes with few cuts, where the plain search does not come to an end.
@@ -319,12 +343,37 @@ fn drawn_table(alloc: Global, number: u32, width: u32) -> Result<Problem, Fail>
 fn twenty_drawn_tables_close(rt: HostRuntime) -> Result<(), Fail> {
     let alloc = rt.alloc();
     let mut best = Best::new(alloc);
+    let size = Size {
+        rows: 30,
+        cols: 6,
+        least: 1,
+        more: 5,
+    };
     for number in 0..20u32 {
-        let problem = drawn_table(alloc, number, 60)?;
+        let problem = drawn_table(alloc, number, size, 60)?;
         let outcome = best.solve(&problem, 2_000)?;
         assert_eq!(rt; outcome.lower, outcome.best.height);
         assert!(rt; outcome.best.width <= 60);
         assert_eq!(rt; outcome.log.len(), 2 * outcome.trace.len() + 1);
     }
+    Ok(())
+}
+
+// Four rows of nine words and more in eight columns, which are lowest only at some rooms.
+#[test]
+fn prose_in_eight_columns_closes_after_some_cuts(rt: HostRuntime) -> Result<(), Fail> {
+    let alloc = rt.alloc();
+    let size = Size {
+        rows: 4,
+        cols: 8,
+        least: 9,
+        more: 8,
+    };
+    let problem = drawn_table(alloc, 1, size, 110)?;
+    let outcome = Best::new(alloc).solve(&problem, 2_000)?;
+    assert_eq!(rt; outcome.lower, outcome.best.height);
+    assert!(rt; outcome.best.width <= 110);
+    let cuts = outcome.trace.len();
+    assert!(rt; 0 < cuts && cuts < 2_000);
     Ok(())
 }

@@ -49,6 +49,7 @@ pub mod PlacementSizes
 pub mod CountsRise
 pub mod Searches
 pub mod LeastExists
+pub mod CountsExist
 mod ProblemExamples
 pub mod BetweenSteps
 pub mod TableNumbers
@@ -70,3 +71,4 @@ pub mod Coverage
 pub mod CoveredSteps
 pub mod DueProblems
 pub mod SubjectLemmas
+pub mod ClosedLaws
