@@ -71,3 +71,4 @@ pub mod CoveredSteps
 pub mod DueProblems
 pub mod SubjectLemmas
 pub mod ClosedLaws
+pub mod OpenLaws
