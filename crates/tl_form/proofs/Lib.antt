@@ -49,6 +49,7 @@ pub mod PlacementSizes
 pub mod CountsRise
 pub mod Searches
 pub mod LeastExists
+pub mod CountsExist
 mod ProblemExamples
 pub mod BetweenSteps
 pub mod TableNumbers

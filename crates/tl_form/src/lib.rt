@@ -43,8 +43,9 @@ pub use nested_steps::inner_steps;
 pub use numbers::with_number;
 pub use open_laws::open_spends;
 pub use problem_laws::{
-    counts_rise, layouts_are_by_low, layouts_by_high_fit, least_heights_exist, placements_are_low,
-    problem_is_determined, sound_problems_alone, true_steps_lie_between, true_where_bounds_meet,
+    counts_exist, counts_rise, layouts_are_by_low, layouts_by_high_fit, least_heights_exist,
+    placements_are_low, problem_is_determined, sound_problems_alone, true_problems_exist,
+    true_steps_lie_between, true_where_bounds_meet,
 };
 pub use problems::{has_sound_problem, problem};
 pub use subject::{Due, Subject};
