@@ -72,3 +72,4 @@ pub mod CoveredSteps
 pub mod DueProblems
 pub mod SubjectLemmas
 pub mod ClosedLaws
+pub mod OpenLaws

@@ -19,6 +19,7 @@ pub mod Refusals
 pub mod Named
 pub mod ValidLaws
 pub mod ClosedLaws
+pub mod OpenLaws
 pub mod Spells
 pub mod Laws
 pub mod inner

@@ -17,6 +17,7 @@ mod layout;
 mod narrow;
 mod nested_steps;
 mod numbers;
+mod open_laws;
 mod paragraph;
 mod problem_laws;
 mod problems;
@@ -40,6 +41,7 @@ pub use layout::Layout;
 pub use narrow::narrow_chain;
 pub use nested_steps::inner_steps;
 pub use numbers::with_number;
+pub use open_laws::open_spends;
 pub use problem_laws::{
     counts_exist, counts_rise, layouts_are_by_low, layouts_by_high_fit, least_heights_exist,
     placements_are_low, problem_is_determined, sound_problems_alone, true_problems_exist,
