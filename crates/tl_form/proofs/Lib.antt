@@ -47,6 +47,7 @@ pub mod SafeProblems
 pub mod LowPlacements
 pub mod PlacementSizes
 pub mod CountsRise
+pub mod ChainRanges
 pub mod Searches
 pub mod LeastExists
 pub mod CountsExist

@@ -11,6 +11,7 @@ pub mod Numbered
 pub mod ProblemLaws
 pub mod SoundProblems
 pub mod CountLaws
+pub mod ChainRanges
 pub mod Expected
 pub mod Subjects
 pub mod Nested

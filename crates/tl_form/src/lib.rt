@@ -7,6 +7,7 @@
 
 mod cell;
 mod cell_steps;
+mod chain_laws;
 mod closed_laws;
 mod count;
 mod error;
@@ -28,6 +29,7 @@ mod widest;
 mod width;
 
 pub use cell::{Content, Kind, Table, TableCell};
+pub use chain_laws::{chains_are_writable, formed_has_few_cells};
 pub use closed_laws::{budget_closes, closed_tell_least};
 pub use count::nested;
 pub use error::FormError;
