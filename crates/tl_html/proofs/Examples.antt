@@ -87,7 +87,8 @@ numbers_aside = (
 columns_count : (depth : ℕ) → AreAlikeWithin depth (table_of 0 1) (table_of 0 2) → ⊥
 columns_count zero alike = alike
 columns_count (suc depth) alike =
-    let same : 1 ≡ 2 = sym (ap (λ (t : OpenTable). t.cols) (out-roll-Table (open_table 0 1))) ∙ alike.cols ∙ ap (λ (t : OpenTable). t.cols) (out-roll-Table (open_table 0 2)) in
+    let same : 1 ≡ 2 = sym (ap (λ (t : OpenTable). t.cols) (out-roll-Table (open_table 0 1))) ∙ alike.cols
+    ∙ ap (λ (t : OpenTable). t.cols) (out-roll-Table (open_table 0 2)) in
     omega (arith, same)
 
 -- a layout has a width for each column, or the page says too little
