@@ -10,3 +10,11 @@ pub mod Progress
 pub mod Blocks
 pub mod PictureLemmas
 pub mod PageLaws
+pub mod WidthLemmas
+pub mod Sweeping
+pub mod Meeting
+pub mod LineWidths
+pub mod PageLines
+pub mod GreedyLines
+pub mod Whole
+pub mod Taking

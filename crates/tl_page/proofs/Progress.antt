@@ -35,13 +35,13 @@ AllZip-first R x xs [] all = absurd all
 AllZip-first R x xs (y ∷ ys) all = (y, ys, refl, all.0, all.1)
 
 -- the first of those that are left
-left_first : {A B : Type 0} (R : A → B → Type 0) (xs : List A) (i : ℕ) (x : A) (ys : List B) → i < length xs → x ≡ get_or xs i x →
+pub left_first : {A B : Type 0} (R : A → B → Type 0) (xs : List A) (i : ℕ) (x : A) (ys : List B) → i < length xs → x ≡ get_or xs i x →
     AllZip R (drop i xs) ys → (y : B) × (rest : List B) × (ys ≡ y ∷ rest) × R x y × AllZip R (drop (i + 1) xs) rest
 left_first R xs i x ys within is all =
     AllZip-first R x (drop (i + 1) xs) ys
     (subst (λ some. AllZip R some ys) (drop_more xs i x within ∙ ap (λ first. first ∷ drop (i + 1) xs) (sym is)) all)
 
-taken_more : {A : Type 0} (xs : List A) (i : ℕ) (x : A) → i < length xs → x ≡ get_or xs i x → take (i + 1) xs ≡ take i xs ++ x ∷ []
+pub taken_more : {A : Type 0} (xs : List A) (i : ℕ) (x : A) → i < length xs → x ≡ get_or xs i x → take (i + 1) xs ≡ take i xs ++ x ∷ []
 taken_more xs i x within is = take_more xs i x within ∙ ap (λ last. take i xs ++ last ∷ []) (sym is)
 
 AllZip-length : {A B : Type 0} (R : A → B → Type 0) (xs : List A) (ys : List B) → AllZip R xs ys → length xs ≡ length ys
@@ -50,11 +50,11 @@ AllZip-length R [] (y ∷ ys) all = absurd all
 AllZip-length R (x ∷ xs) [] all = absurd all
 AllZip-length R (x ∷ xs) (y ∷ ys) all = ap suc (AllZip-length R xs ys all.1)
 
-flat_map-push : {X A : Type 0} (f : X → List A) (xs : List X) (x : X) → flat_map f (xs ++ x ∷ []) ≡ flat_map f xs ++ f x
+pub flat_map-push : {X A : Type 0} (f : X → List A) (xs : List X) (x : X) → flat_map f (xs ++ x ∷ []) ≡ flat_map f xs ++ f x
 flat_map-push f xs x = flat_map-append f xs (x ∷ []) ∙ ap (λ last. flat_map f xs ++ last) (append-nil (f x))
 
 -- what was before, one more, and what is left
-one_further : {X : Type 0} (before one left now all : List X) → one ++ left ≡ now → before ++ now ≡ all → (before ++ one) ++ left ≡ all
+pub one_further : {X : Type 0} (before one left now all : List X) → one ++ left ≡ now → before ++ now ≡ all → (before ++ one) ++ left ≡ all
 one_further before one left now all step sofar = append_assoc before one left ∙ ap (λ rest. before ++ rest) step ∙ sofar
 
 -- ---- the blocks of a cell

@@ -1,13 +1,17 @@
 -- What follows of every page.
 use Rattle.std.specs.Prelude.{◌≡◌, ℕ, List, length, map}
+use Rattle.std.specs.List.{AllByRecursion}
 use Rattle.tl_base.specs.declared.style.Style.{Style}
 use Rattle.tl_text.specs.declared.paragraph.Atom.{Atom}
 use Rattle.tl_text.specs.Cuttings.{joined, IsCutting}
 use Rattle.tl_form.specs.declared.cell.Table.{Table}
 use Rattle.tl_form.specs.declared.layout.Layout.{Layout, out-Layout}
-use Rattle.tl_form.specs.Layouts.{total_height}
+use Rattle.tl_form.specs.Layouts.{Fits, total_width, total_height}
+use Rattle.tl_form.specs.Sound.{IsSound}
 use Rattle.tl_page.specs.declared.line.Line.{Line}
 use Rattle.tl_page.specs.Pages.{AreParagraphLines, IsPage, line_from}
+use Rattle.tl_page.specs.Standing.{HoldsAllText}
+use Rattle.tl_page.specs.Widths.{HasWidth}
 
 -- a page has as many lines as its layout is high
 abbrev pub PagesAreAsHigh : Type 0
@@ -18,3 +22,14 @@ PagesAreAsHigh = (style : Style) (table : Table) (layout : Layout) (page : List 
 abbrev pub ParagraphsAreWhole : Type 0
 ParagraphsAreWhole = (w : ℕ) (paragraph : List Atom) (lines : List Line) → AreParagraphLines w paragraph lines →
     (cut : List (List (List Atom))) × IsCutting paragraph cut × (lines ≡ map line_from (joined cut))
+
+-- each line of a page in a layout that fits is as wide as the layout
+abbrev pub LinesAreAsWide : Type 0
+LinesAreAsWide = (style : Style) (table : Table) (layout : Layout) (page : List (List ℕ)) (width height : ℕ) → IsSound table →
+    Fits table style width height layout → IsPage style table layout page →
+    AllByRecursion (λ line. HasWidth line (total_width style (out-Layout layout))) page
+
+-- a page in a layout that fits has all text of the table and of the tables nested in it, whole and in order
+abbrev pub PagesHoldAllText : Type 0
+PagesHoldAllText = (style : Style) (table : Table) (layout : Layout) (page : List (List ℕ)) (width height : ℕ) → IsSound table →
+    Fits table style width height layout → IsPage style table layout page → HoldsAllText style table layout page

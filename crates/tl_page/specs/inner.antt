@@ -2,3 +2,4 @@
 pub mod Contents
 pub mod Drawing
 pub mod Lines
+pub mod Taking

@@ -7,6 +7,7 @@ mod cells;
 mod corner;
 mod laws;
 mod line;
+mod measure;
 mod owner;
 mod owners;
 mod pages;
@@ -16,6 +17,9 @@ mod strip;
 mod strips;
 #[cfg(test)]
 mod tests;
+#[cfg(test)]
+mod worked;
 
-pub use laws::{pages_are_as_high, paragraphs_are_whole};
+pub use laws::{lines_are_as_wide, pages_are_as_high, pages_hold_all_text, paragraphs_are_whole};
+pub use measure::fits;
 pub use pages::page;

@@ -118,7 +118,7 @@ least-proves problem trace bounds height lower found least z stands =
 -- the trace of the arena is worked
 pub arena-worked : (problem : ProblemModel) (arena : Arena) → IsArenaOf problem arena → (lower budget : ℕ) → length arena.trace ≤ budget →
     lower ≤ arena.best.height → (lower < arena.best.height → HasBoundUpTo problem arena.trace lower) →
-    MayEnd problem arena.trace arena.best.height budget → IsWorked problem arena.trace arena.best.height lower budget
+    (lower < arena.best.height → MayEnd problem arena.trace arena.best.height budget) → IsWorked problem arena.trace arena.best.height lower budget
 arena-worked problem arena is lower budget within ordered enough ended = record {
   trace_of = is.trace_of;
   within = within;
@@ -130,6 +130,6 @@ arena-worked problem arena is lower budget within ordered enough ended = record 
         let has = is.cut_zones i d inside in
         (has.0, has.1, omega (arith, has.2, is.opening.2));
     enough = enough less;
-    ended = ended;
+    ended = ended less;
   };
 }

@@ -7,8 +7,8 @@ mod Cuts
 mod ZoneLists
 mod FewSpans
 mod Opening
-mod OrderLaws
-mod ArenaLaws
+pub mod OrderLaws
+pub mod ArenaLaws
 mod Agreeing
 mod EndLaws
-mod WalkLaws
+pub mod WalkLaws

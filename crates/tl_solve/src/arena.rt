@@ -89,6 +89,13 @@ impl Arena {
         &self.zones
     }
 
+    /// Lends the cuts that were made.
+    pub fn trace(&self) -> &Trace
+        ensures { result.now ≡ self.now.trace }
+    {
+        &self.trace
+    }
+
     /// The cut of the zone's first span of more than one class, after the first of them. `None` where
     /// the zone is closed: it has no widths, or a bound of at least the best height, or one class for
     /// each span, and then the best placement is no higher than that of the zone.

@@ -58,8 +58,9 @@ impl Arena {
         self.finish_at(problem, budget, lower)
     }
 
-    /// The same with a lower bound that was found: each zone that stands proves it, and some zone that
-    /// stands has a bound that is no greater, where it is below the best height.
+    /// The same with a lower bound that was found: each zone that stands proves it. Where it is below the
+    /// best height, some zone that stands has a bound that is no greater, and the search made all cuts of
+    /// its budget or has each zone closed.
     pub fn finish_at(
         self,
         problem: &Problem,
@@ -69,7 +70,7 @@ impl Arena {
         requires arena { IsArenaOf problem.now self }
         requires within { length self.trace ≤ budget }
         requires budget { budget ≤ MAX_BUDGET }
-        requires ended { MayEnd problem.now self.trace self.best.height budget }
+        requires ended { lower < self.best.height → MayEnd problem.now self.trace self.best.height budget }
         requires ordered { lower ≤ self.best.height }
         requires standing { (z : ℕ) → Stands self.trace z → Proves problem.now (zone_of problem.now self.trace z) lower }
         requires enough { lower < self.best.height → HasBoundUpTo problem.now self.trace lower }

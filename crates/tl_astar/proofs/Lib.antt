@@ -1,0 +1,7 @@
+mod CoverLaws
+mod Examples
+mod FrontierLaws
+mod Lists
+mod LowerLaws
+mod OrderLaws
+mod SearchLaws

@@ -1,0 +1,30 @@
+use Rattle.std.proofs.Common.{Option, None, Some, inl, inr, sym, subst, rules}
+use Rattle.std.specs.Option.{IfNone}
+use Rattle.tl_astar.specs.inner.Searches.{IsSearchOf}
+use Rattle.tl_astar.proofs.search.Search.first_cut.Goals.{else-self-via-then-self+else-is_area_enough, else-self-via-else-self}
+use Rattle.tl_astar.proofs.search.Search.first_cut.Goals as goal
+
+if_none : {A : Type 0} (o : Option A) (P : Type 0) → P → IfNone o P
+if_none None P holds = holds
+if_none (Some x) P holds = tt
+
+pub returns-in_err-cut-clause-shut : goal.returns-in_err-cut-clause-shut
+returns-in_err-cut-clause-shut c = if_none c.from_residual.result _ (inl c.in_err-cut.ensures.closed)
+
+pub returns-then-is_area_enough-clause-shut : goal.returns-then-is_area_enough-clause-shut
+returns-then-is_area_enough-clause-shut c =
+    inr (c.requires.search.agree (search rules), c.if-is_area_enough.ensures.area (search rules))
+
+pub returns-clause-search : goal.returns-clause-search
+returns-clause-search c =
+    let is = c.requires.search in
+    elim c.else-self.branch [
+      | else-self-via-then-self+else-is_area_enough w ↦ subst (IsSearchOf c.args.problem.now) (sym w.self-is) (record {
+        arena = is.arena;
+        work = w.is_area_enough.ensures.work;
+        bounds = is.bounds;
+        agree = is.agree;
+        order = is.order;
+      })
+      | else-self-via-else-self w ↦ subst (IsSearchOf c.args.problem.now) (sym w.self-is) is
+    ]

@@ -1,0 +1,89 @@
+use Rattle.std.proofs.Common.{◌≡◌, ◌∷◌, false, true, map, Option, None, Some, refl, sym, ◌∙◌, subst, ap, arith, length}
+use Rattle.std.specs.BinaryHeap.{heap_items, heap_len}
+use Rattle.std.specs.Option.{IfNone, is_some}
+use Rattle.std.proofs.lemmas.List.Elements.{All-head}
+use Rattle.tl_cert.specs.Traces.{Stands}
+use Rattle.tl_solve.specs.declared.arena.Arena.{Arena}
+use Rattle.tl_astar.specs.declared.opens.OpenZones.{OpenZones}
+use Rattle.tl_astar.specs.inner.Entries.{zone_in}
+use Rattle.tl_astar.specs.inner.Frontier.{IsFrontier}
+use Rattle.tl_astar.proofs.FrontierLaws.{frontier-shut, frontier-end}
+use Rattle.tl_astar.proofs.SearchLaws.{taken-bounds, taken-frontier, taken-least, search-popped, left-kept, least-kept}
+use Rattle.tl_astar.proofs.search.Search.next.Goals as goal
+
+none-holds : {A : Type 0} (o : Option A) (P : Type 0) → is_some o ≡ false → IfNone o P → P
+none-holds None P none holds = holds
+none-holds (Some x) P some holds = absurd (not some) where
+  not : true ≡ false → ⊥
+  not same = cc
+
+not-some : {A : Type 0} (o : Option A) (P : Type 0) → IfNone o P → ((x : A) → o ≡ Some x → ⊥) → P
+not-some None P holds not = holds
+not-some (Some x) P holds not = absurd (not x refl)
+
+pub first_cut-requires-clause-search : goal.first_cut-requires-clause-search
+first_cut-requires-clause-search c =
+    let p = c.args.problem.now in
+    let s = c.loop-zone.self in
+    let is = c.loop-zone.invariant.search in
+    search-popped p s c.pop.new.self is
+    (taken-bounds p s.arena.trace (heap_items s.opens.heap) c.in-Some.zone (heap_items c.pop.new.self.heap) c.in-Some.ensures.taken is.bounds)
+
+pub first_cut-requires-clause-there : goal.first_cut-requires-clause-there
+first_cut-requires-clause-there c =
+    let p = c.args.problem.now in
+    let s = c.loop-zone.self in
+    let zones = map zone_in (heap_items c.pop.new.self.heap) in
+    let left = taken-frontier p s.arena.trace (heap_items s.opens.heap) c.in-Some.zone (heap_items c.pop.new.self.heap) c.in-Some.ensures.taken
+    s.arena.best.height c.loop-zone.invariant.left in
+    (All-head (Stands s.arena.trace) c.in-Some.zone zones left.standing).there
+
+pub returns-then-is_some-clause-left : goal.returns-then-is_some-clause-left
+returns-then-is_some-clause-left c =
+    let p = c.args.problem.now in
+    let s = c.loop-zone.self in
+    let same = c.first_cut.ensures.arena in
+    let left = taken-frontier p s.arena.trace (heap_items s.opens.heap) c.in-Some.zone (heap_items c.pop.new.self.heap) c.in-Some.ensures.taken
+    s.arena.best.height c.loop-zone.invariant.left in
+    left-kept p (record s { opens = c.pop.new.self }) c.first_cut.new.self c.first_cut.ensures.opens (ap (λ (a : Arena). a.trace) same)
+    (λ zones. c.in-Some.zone ∷ zones) (omega (arith, ap (λ (a : Arena). a.best.height) same)) left
+
+pub returns-then-is_some-clause-least : goal.returns-then-is_some-clause-least
+returns-then-is_some-clause-least c =
+    let p = c.args.problem.now in
+    let s = c.loop-zone.self in
+    least-kept p (record s { opens = c.pop.new.self }) c.first_cut.new.self c.first_cut.ensures.opens (ap (λ (a : Arena). a.trace) c.first_cut.ensures.arena)
+    c.in-Some.zone (taken-least p s.arena.trace (heap_items s.opens.heap) c.in-Some.zone (heap_items c.pop.new.self.heap) c.in-Some.ensures.taken
+    c.loop-zone.invariant.search.bounds)
+
+pub loop-zone-preserved : goal.loop-zone-preserved
+loop-zone-preserved c =
+    let p = c.args.problem.now in
+    let s = c.loop-zone.self in
+    let same = c.first_cut.ensures.arena in
+    let zones = map zone_in (heap_items c.pop.new.self.heap) in
+    let left = taken-frontier p s.arena.trace (heap_items s.opens.heap) c.in-Some.zone (heap_items c.pop.new.self.heap) c.in-Some.ensures.taken
+    s.arena.best.height c.loop-zone.invariant.left in
+    let shut = none-holds c.first_cut.result _ (sym c.is_some.ensures ∙ c.if-is_some.false) c.first_cut.ensures.shut in
+    record {
+      arena = same ∙ c.loop-zone.invariant.arena;
+      search = c.first_cut.ensures.search;
+      left = left-kept p (record s { opens = c.pop.new.self }) c.first_cut.new.self c.first_cut.ensures.opens (ap (λ (a : Arena). a.trace) same)
+          (λ zs. zs) (omega (arith, ap (λ (a : Arena). a.best.height) same))
+          (frontier-shut p s.arena.trace s.arena.best.height c.in-Some.zone zones left shut);
+      len = omega (arith, ap (λ (o : OpenZones). heap_len o.heap) c.first_cut.ensures.opens, c.in-Some.ensures.len, c.loop-zone.invariant.len);
+    }
+
+pub returns-clause-search : goal.returns-clause-search
+returns-clause-search c =
+    let none = not-some c.pop.result _ c.pop.ensures.still_none c.in_default.not-Some in
+    search-popped c.args.problem.now c.loop-zone.self c.pop.new.self c.loop-zone.invariant.search
+    (λ k d within. absurd (omega (arith, within, ap length none)))
+
+pub returns-clause-shut : goal.returns-clause-shut
+returns-clause-shut c =
+    let p = c.args.problem.now in
+    let s = c.loop-zone.self in
+    let none = not-some c.pop.result _ c.pop.ensures.none c.in_default.not-Some in
+    frontier-end p s.arena.trace s.arena.best.height
+    (subst (λ es. IsFrontier p s.arena.trace s.arena.best.height (map zone_in es)) none c.loop-zone.invariant.left)

@@ -1,0 +1,62 @@
+-- What the best-first search promises besides what every search does: which zones it cuts, and its lower bound.
+use Rattle.std.specs.Prelude.{◌≡◌, ℕ, ◌<◌, ◌≤◌, max, ◌⊎◌, List}
+use Rattle.std.specs.List.{All}
+use Rattle.tl_problem.specs.declared.placed.Placed.{Placed}
+use Rattle.tl_problem.specs.declared.zone.Range.{Range}
+use Rattle.tl_problem.specs.Problem.{ProblemModel}
+use Rattle.tl_problem.specs.Agreement.{HasOneClass, LowIsHigh}
+use Rattle.tl_problem.specs.Areas.{IsAreaBound}
+use Rattle.tl_problem.specs.Placements.{IsOpening}
+use Rattle.tl_problem.specs.Zones.{InZone}
+use Rattle.tl_cert.specs.declared.trace.CutAt.{CutAt}
+use Rattle.tl_cert.specs.Traces.{Stands, zone_of}
+use Rattle.tl_cert.specs.Worked.{IsBoundOf}
+use Rattle.tl_solve.specs.declared.outcome.Outcome.{Outcome}
+use Rattle.tl_solve.specs.Arenas.{IsLowered}
+use Rattle.tl_solve.specs.Orders.{AtEachCut, CutsBelowPlacements}
+
+-- ---- which zone is cut
+
+-- the zone may still hold a layout that is lower: some span has more than one class and, where `low` is `high`, the area
+-- bound is below the height
+pub record MayBeLower (problem : ProblemModel) (zone : List Range) (height : ℕ) : Type 0 where
+  pub classes : HasOneClass zone → ⊥
+  pub area : LowIsHigh problem → (bound : ℕ) × IsAreaBound problem (InZone problem zone) bound × (bound < height)
+
+-- the zone that is cut has a bound that is at most that of each zone that stands then, has widths and may hold a layout
+-- below the height
+abbrev pub IsOfLeastBound : ProblemModel → ℕ → List CutAt → CutAt → Type 0
+IsOfLeastBound problem height cuts cut = (bound : ℕ) × IsBoundOf problem cuts cut.zone bound
+    × ((z other : ℕ) → Stands cuts z → IsBoundOf problem cuts z other → MayBeLower problem (zone_of problem cuts z) height → bound ≤ other)
+
+-- each zone that was cut has a bound of at most `lower`
+abbrev pub CutsUpTo : ProblemModel → List CutAt → ℕ → Type 0
+CutsUpTo problem trace lower = All (λ cut. (bound : ℕ) × IsBoundOf problem trace cut.zone bound × (bound ≤ lower)) trace
+
+-- ---- the lower bound
+
+-- the area bound of the zone with this number
+abbrev pub IsAreaOf : ProblemModel → List CutAt → ℕ → ℕ → Type 0
+IsAreaOf problem trace z area = IsAreaBound problem (InZone problem (zone_of problem trace z)) area
+
+-- `lower` is the least of the height and, over the zones that stand and have widths, of the greater of bound and area bound
+pub record IsLeastProved (problem : ProblemModel) (trace : List CutAt) (height lower : ℕ) : Type 0 where
+  pub at_most : lower ≤ height
+  pub never_more : (z bound area : ℕ) → Stands trace z → IsBoundOf problem trace z bound → IsAreaOf problem trace z area →
+      lower ≤ max bound area
+  pub attained : (lower ≡ height) ⊎ ((z bound area : ℕ) × Stands trace z × IsBoundOf problem trace z bound
+      × IsAreaOf problem trace z area × (lower ≡ max bound area))
+
+-- ---- both
+
+-- The search began with the opening, replaced it only by lower placements, and not at all for a budget of no cuts. Each
+-- zone that it cut had the least bound of those that may hold a layout below the best, and a bound below the height of
+-- the placement in every zone that was made by then. Its lower bound is the least that the zones prove; where `low` is
+-- `high`, no zone was cut whose bound is above it.
+pub record IsBestOutcome (problem : ProblemModel) (budget : ℕ) (outcome : Outcome) : Type 0 where
+  pub opening : (placed : Placed) × IsOpening problem placed × IsLowered placed outcome.best
+  pub shown : budget ≡ 0 → IsOpening problem outcome.best
+  pub order : AtEachCut (IsOfLeastBound problem outcome.best.height) outcome.trace
+  pub below : CutsBelowPlacements problem outcome.trace
+  pub lower : IsLeastProved problem outcome.trace outcome.best.height outcome.lower
+  pub up_to : LowIsHigh problem → CutsUpTo problem outcome.trace outcome.lower

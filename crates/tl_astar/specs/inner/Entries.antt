@@ -1,0 +1,34 @@
+-- Open zones as a heap keeps them, each with its bound. No public clause cites this file.
+use Rattle.std.specs.Prelude.{◌≡◌, ◌≤◌, ◌∷◌, ℕ, List, IsPermutation, Option, Some, None}
+use Rattle.std.specs.List.{All}
+use Rattle.std.specs.declared.cmp.Ordering.{Ordering}
+use Rattle.std.specs.declared.cmp.Reverse.{Reverse}
+use Rattle.std.specs.Ordering.{nat_cmp, ordering_then}
+
+-- a zone with its bound
+abbrev pub Entry : Type 0
+Entry = Reverse ℕ × ℕ
+
+abbrev pub entry : ℕ → ℕ → Entry
+entry bound zone = (record { 0 = bound }, zone)
+
+abbrev pub bound_in : Entry → ℕ
+bound_in e = e.0.0
+
+abbrev pub zone_in : Entry → ℕ
+zone_in e = e.1
+
+-- less: of a greater bound, or of the same bound and older
+abbrev pub compare_entries : Entry → Entry → Ordering
+compare_entries a b = ordering_then (nat_cmp (bound_in b) (bound_in a)) (nat_cmp (zone_in a) (zone_in b))
+
+-- the zone was taken out of the old entries, and no entry that is left has a lower bound
+pub record IsTakenOut (old : List Entry) (zone : ℕ) (left : List Entry) : Type 0 where
+  pub bound : ℕ
+  pub taken : IsPermutation old (entry bound zone ∷ left)
+  pub least : All (λ other. bound ≤ bound_in other) left
+
+-- the zone joined the old entries where it has a bound, and nothing changed where it has none
+abbrev pub IsAdded : ℕ → Option ℕ → List Entry → List Entry → Type 0
+IsAdded zone None old new = new ≡ old
+IsAdded zone (Some bound) old new = IsPermutation (entry bound zone ∷ old) new

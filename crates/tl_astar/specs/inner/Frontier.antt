@@ -1,0 +1,48 @@
+-- What the best-first search keeps on its way. No public clause cites this file.
+use Rattle.std.specs.Prelude.{◌≢◌, ℕ, ◌<◌, ◌≤◌, ◌⊎◌, List, length}
+use Rattle.std.specs.List.{All, AllPairs, Contains}
+use Rattle.tl_problem.specs.declared.zone.Range.{Range}
+use Rattle.tl_problem.specs.Problem.{ProblemModel}
+use Rattle.tl_problem.specs.Zones.{range_at}
+use Rattle.tl_problem.specs.Agreement.{LowIsHigh}
+use Rattle.tl_cert.specs.declared.trace.CutAt.{CutAt}
+use Rattle.tl_cert.specs.Traces.{Stands, zone_of}
+use Rattle.tl_cert.specs.Worked.{IsClosed, IsBoundOf}
+use Rattle.tl_solve.specs.Logs.{HasAreaFrom, Proves}
+use Rattle.tl_solve.specs.Orders.{AtEachCut, CutsBelowPlacements}
+use Rattle.tl_astar.specs.Best.{IsOfLeastBound}
+
+-- the zone needs no cut: it is closed for the height or, where `low` is `high`, its area bound is at least the height
+abbrev pub IsShut : ProblemModel → List Range → ℕ → Type 0
+IsShut problem zone height = IsClosed problem zone height ⊎ (LowIsHigh problem × HasAreaFrom problem zone height)
+
+-- each zone that stands is shut
+abbrev pub AreShut : ProblemModel → List CutAt → ℕ → Type 0
+AreShut problem trace height = (z : ℕ) → Stands trace z → IsShut problem (zone_of problem trace z) height
+
+-- the number is at most the bound of each of these zones that has one
+abbrev pub IsUnderBounds : ProblemModel → List CutAt → ℕ → List ℕ → Type 0
+IsUnderBounds problem trace bound zones = All (λ z. (other : ℕ) → IsBoundOf problem trace z other → bound ≤ other) zones
+
+-- the zones that may still be cut: they stand, each is there once, and all other zones that stand are shut. The zones
+-- that were cut had lower bounds, or the same
+pub record IsFrontier (problem : ProblemModel) (trace : List CutAt) (height : ℕ) (zones : List ℕ) : Type 0 where
+  pub standing : All (Stands trace) zones
+  pub once : AllPairs (λ a b. a ≢ b) zones
+  pub others : (z : ℕ) → Stands trace z → Contains zones z ⊎ IsShut problem (zone_of problem trace z) height
+  pub rising : All (λ cut. (bound : ℕ) → IsBoundOf problem trace cut.zone bound → IsUnderBounds problem trace bound zones) trace
+
+-- each zone that stands proves the bound that the cut zone has
+abbrev pub IsCutProved : ProblemModel → List CutAt → CutAt → Type 0
+IsCutProved problem trace cut = (bound : ℕ) × IsBoundOf problem trace cut.zone bound
+    × ((z : ℕ) → Stands trace z → Proves problem (zone_of problem trace z) bound)
+
+-- the cuts so far keep the order of the best-first search, for a best placement of this height
+pub record KeepsOrder (problem : ProblemModel) (trace : List CutAt) (height : ℕ) : Type 0 where
+  pub order : AtEachCut (IsOfLeastBound problem height) trace
+  pub below : CutsBelowPlacements problem trace
+  pub proved : LowIsHigh problem → All (IsCutProved problem trace) trace
+
+-- the cut parts the range of a span of the zone in two that have classes
+abbrev pub PartsRange : List Range → CutAt → Type 0
+PartsRange zone cut = (cut.span < length zone) × ((range_at zone cut.span).first ≤ cut.class) × (cut.class < (range_at zone cut.span).last)

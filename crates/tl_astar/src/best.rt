@@ -1,0 +1,46 @@
+//! The best-first search.
+
+ghost use Rattle.std.specs.Prelude.{◌≡◌};
+ghost use Rattle.tl_astar.specs.Best.{IsBestOutcome};
+
+use crate::search::Search;
+use std::alloc::{AllocError, Global};
+use tl_problem::Problem;
+use tl_solve::{Outcome, Solver};
+
+/// Cuts of the zones that may hold a lower layout one of least bound, the newest of equals, until none is
+/// left or the budget is spent. Where `low` is `high` for every cell, a zone whose area bound reaches the
+/// best height is left uncut.
+#[derive(Debug, Drop)]
+pub struct Best {
+    alloc: Global,
+}
+
+impl Best {
+    /// A best-first search, which may be called again and again.
+    pub fn new(alloc: Global) -> Best
+        ensures { result.alloc ≡ alloc }
+    {
+        Best { alloc }
+    }
+}
+
+impl Solver for Best {
+    ghost can_solve = { λ _. Unit {0} };
+
+    ghost besides = { λ _ problem budget outcome. IsBestOutcome problem budget outcome };
+
+    fn solve(&mut self, problem: &Problem, budget: u32) -> Result<Outcome, AllocError> {
+        let mut search = Search::begin(self.alloc, problem)?;
+        while let Some(zone) = search.next(problem) {
+            if search.arena.cuts() == budget {
+                return search.finish(problem, budget);
+            }
+            if let Some(cut) = search.choose(problem, zone)? {
+                search.cut(problem, cut)?;
+            }
+        }
+        let found = search.finish(problem, budget)?;
+        Ok(found)
+    }
+}

@@ -1,0 +1,21 @@
+//! The best-first search: of the zones that may still hold a lower layout it cuts one of least bound, where
+//! that helps most. It knows no table and no text. Its one contract: the promises of every search, and the
+//! order in which it cuts zones.
+#![tactic(auto)]
+
+mod agreement;
+mod best;
+mod choosing;
+mod columns;
+mod greedy;
+mod lower;
+mod opens;
+mod parts;
+mod search;
+mod shape;
+mod sight;
+mod spread;
+#[cfg(test)]
+mod tests;
+
+pub use best::Best;

@@ -1,0 +1,105 @@
+//! The lower bound of a search, and its outcome.
+
+ghost use Rattle.std.specs.Prelude.{◌≡◌, ◌⊎◌, ℕ, ◌+◌, ◌*◌, ◌<◌, ◌≤◌, length, get_or, IfOk};
+ghost use Rattle.tl_problem.specs.Agreement.{LowIsHigh};
+ghost use Rattle.tl_problem.specs.Placements.{IsOpening};
+ghost use Rattle.tl_problem.specs.Spans.{count_of};
+ghost use Rattle.tl_problem.specs.Tight.{IsTight};
+ghost use Rattle.tl_problem.specs.Works.{IsWorkOf};
+ghost use Rattle.tl_problem.specs.Zones.{whole_zone};
+ghost use Rattle.tl_cert.specs.declared.trace.CutAt.{CutAt};
+ghost use Rattle.tl_cert.specs.Lines.{IsGoodLog};
+ghost use Rattle.tl_cert.specs.Text.{IsLogWritable, IsTraceWritable};
+ghost use Rattle.tl_cert.specs.Traces.{IsKeen, IsZoneOf};
+ghost use Rattle.tl_cert.specs.Worked.{IsWorked};
+ghost use Rattle.tl_solve.specs.Arenas.{IsArenaOf};
+ghost use Rattle.tl_astar.specs.Best.{IsBestOutcome};
+ghost use Rattle.tl_astar.specs.inner.Frontier.{AreShut};
+ghost use Rattle.tl_astar.specs.inner.Lower.{AreUncut, IsLessened, IsProvedUpto};
+ghost use Rattle.tl_astar.specs.inner.Searches.{IsSearchOf};
+
+use crate::search::Search;
+use std::alloc::{AllocError, Global};
+use tl_base::MAX_BUDGET;
+use tl_cert::Trace;
+use tl_problem::{Problem, Work};
+use tl_solve::{Arena, Outcome};
+
+impl Search {
+    /// The outcome of a search that made all cuts of its budget, or has no zone that needs one.
+    pub(crate) fn finish(mut self, problem: &Problem, budget: u32) -> Result<Outcome, AllocError>
+        requires search { IsSearchOf problem.now self }
+        requires within { length self.arena.trace ≤ budget }
+        requires budget { budget ≤ MAX_BUDGET }
+        requires ended { (length self.arena.trace ≡ budget) ⊎ AreShut problem.now self.arena.trace self.arena.best.height }
+        requires shown { budget ≡ 0 → IsOpening problem.now self.arena.best }
+        ensures besides { IfOk result (IsBestOutcome problem.now budget) }
+
+        // What every search promises.
+        ensures tight { IfOk result (λ outcome. IsTight problem.now outcome.best) }
+        ensures good { IfOk result (λ outcome. IsGoodLog problem.now outcome.trace outcome.log outcome.lower) }
+        ensures ordered { IfOk result (λ outcome. outcome.lower ≤ outcome.best.height) }
+        ensures closed { LowIsHigh problem.now → count_of problem.now ≤ budget →
+            IfOk result (λ outcome. outcome.lower ≡ outcome.best.height) }
+        ensures worked { IfOk result (λ outcome. IsWorked problem.now outcome.trace outcome.best.height outcome.lower budget) }
+        ensures keen { IfOk result (λ outcome. IsKeen problem.now (whole_zone problem.now) outcome.trace outcome.best.height) }
+        ensures trace_writable { IfOk result (λ outcome. IsTraceWritable outcome.trace) }
+        ensures log_writable { IfOk result (λ outcome. IsLogWritable outcome.log) }
+        ensures short { IfOk result (λ outcome. length outcome.log ≤ 2 * length outcome.trace + 1) }
+    {
+        let stands = uncut_zones(self.alloc, self.arena.trace())?;
+        let lower = least_proved(problem, &self.arena, &mut self.work, &stands);
+        let found = self.arena.finish_at(problem, budget, lower)?;
+        Ok(found)
+    }
+}
+
+/// For each zone of the trace whether no cut is of it.
+fn uncut_zones(alloc: Global, trace: &Trace) -> Result<Vec<bool>, AllocError>
+    requires few { length trace.now ≤ MAX_BUDGET }
+    requires there { (i : ℕ) (d : CutAt) → i < length trace.now → (get_or trace.now i d).zone < 2 * length trace.now + 1 }
+    ensures { IfOk result (λ stands. AreUncut trace.now (length trace.now) stands.items) }
+{
+    let cuts = trace.as_slice();
+    let mut stands: Vec<bool> = vec![in alloc; true; 2 * cuts.len() + 1]?;
+    for number in 0..cuts.len() {
+        stands[cuts[number].zone as usize] = false;
+    }
+    Ok(stands)
+}
+
+/// The least of the best height and of what the zones that stand prove.
+fn least_proved(problem: &Problem, arena: &Arena, work: &mut Work, stands: &[bool]) -> u32
+    requires arena { IsArenaOf problem.now arena.now }
+    requires work { IsWorkOf problem.now work.old }
+    requires stands { AreUncut arena.now.trace (length arena.now.trace) stands.now }
+    ensures { IsProvedUpto problem.now arena.now.trace arena.now.best.height (length stands.now) result }
+{
+    let mut least = arena.best().height;
+    for zone in 0..stands.len() {
+        if stands[zone] {
+            least = lessened(problem, arena, work, zone, least);
+        }
+    }
+    least
+}
+
+/// The number, or the greater of the zone's bound and area bound where that is less.
+fn lessened(problem: &Problem, arena: &Arena, work: &mut Work, zone: usize, least: u32) -> u32
+    requires arena { IsArenaOf problem.now arena.now }
+    requires work { IsWorkOf problem.now work.old }
+    requires there { IsZoneOf arena.now.trace zone }
+    ensures work { IsWorkOf problem.now work.new }
+    ensures lessened { IsLessened problem.now arena.now.trace zone least result }
+{
+    let Some(bound) = arena.bounds()[zone] else {
+        return least;
+    };
+    if bound >= least {
+        return least;
+    }
+    match problem.area_of(&arena.zones()[zone], work) {
+        None => least,
+        Some(area) => least.min(bound.max(area)),
+    }
+}

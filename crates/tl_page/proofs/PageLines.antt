@@ -1,0 +1,160 @@
+-- Which strip a line of a page lies in, and what holds of all lines of a page.
+use Rattle.std.proofs.Common.{◌≡◌, ℕ, zero, suc, ◌+◌, ◌-◌, ◌*◌, ◌<◌, ◌≤◌, inl, inr, List, [], ◌∷◌, ◌++◌, Some, length, take, map, slice_get, refl, ◌∙◌, ap, arith}
+use Rattle.std.specs.List.{AllByRecursion, flat_map, range_with_len}
+use Rattle.std.proofs.lemmas.Bool.{cases_lt}
+use Rattle.std.proofs.lemmas.List.FromFn.{length-map-range_with_len}
+use Rattle.std.proofs.lemmas.List.Sums.{sum_by-cons}
+use Rattle.tl_problem.specs.Sizes.{position}
+use Rattle.tl_page.specs.declared.strip.Strip.{Strip}
+use Rattle.tl_page.specs.Pictures.{Picture, line_of, strip_lines}
+use Rattle.tl_page.specs.Strips.{following, strips_from, strips}
+
+-- ---- items of joined lists
+
+pub get-left : {X : Type 0} (xs ys : List X) (k : ℕ) → k < length xs → slice_get (xs ++ ys) k ≡ slice_get xs k
+get-left [] ys k within = absurd (omega (arith, within))
+get-left (x ∷ xs) ys zero within = refl
+get-left (x ∷ xs) ys (suc k) within = get-left xs ys k (omega (arith, within))
+
+pub get-right : {X : Type 0} (xs ys : List X) (k j : ℕ) → j ≡ length xs + k → slice_get (xs ++ ys) j ≡ slice_get ys k
+get-right [] ys k j same = let here : j ≡ k = omega (arith, same) in ap (slice_get ys) here
+get-right (x ∷ xs) ys k zero same = absurd (omega (arith, same))
+get-right (x ∷ xs) ys k (suc j) same = get-right xs ys k j (omega (arith, same))
+
+get-range : {X : Type 0} (f : ℕ → X) (from size i : ℕ) → i < size → slice_get (map f (range_with_len from size)) i ≡ Some (f (from + i))
+get-range f from zero i within = absurd (omega (arith, within))
+get-range f from (suc size) zero within = let same : from ≡ from + 0 = omega arith in ap (λ (n : ℕ). Some (f n)) same
+get-range f from (suc size) (suc i) within =
+    let same : from + 1 + i ≡ from + suc i = omega arith in
+    get-range f (from + 1) size i (omega (arith, within)) ∙ ap (λ (n : ℕ). Some (f n)) same
+
+-- ---- the strip of a line
+
+position-cons : (gap size : ℕ) (sizes : List ℕ) (k : ℕ) → position gap (size ∷ sizes) (suc k) ≡ size + gap + position gap sizes k
+position-cons gap size sizes k =
+    let head = sum_by-cons (λ x. x) size (take k sizes) in
+    let product : gap * suc k ≡ gap * k + gap = grind arith in
+    omega (arith, head, product)
+
+module _ (picture : Picture) (gap edge : ℕ) where
+  -- a line within the slots from `top` on and before `past`, where the first slot is `slot`
+  pub record LiesIn (slot from top past i : ℕ) (sizes : List ℕ) : Type 0 where
+    pub down : Strip
+    pub begins : slot + top ≤ down.before
+    pub ordered : down.before ≤ down.after
+    pub ends : down.after < slot + past
+    pub here : slice_get (flat_map (strip_lines picture) (strips_from gap edge slot from sizes)) i ≡ Some (line_of picture down (from + i))
+
+  high : (strip : Strip) → length (strip_lines picture strip) ≡ strip.size
+  high strip = length-map-range_with_len (line_of picture strip) strip.from strip.size
+
+  behind : (slot from top past i : ℕ) (size : ℕ) (sizes : List ℕ) (top' past' : ℕ) → top ≤ suc top' → past ≡ suc past' →
+      size + gap ≤ i → following gap edge sizes ≡ gap → LiesIn (slot + 1) (from + size + gap) top' past' (i - size - gap) sizes →
+      LiesIn slot from top past i (size ∷ sizes)
+  behind slot from top past i size sizes top' past' begin end far gapped rest =
+      let inner : Strip = record { before = slot; after = slot; from = from; size = size } in
+      let outer : Strip = record { before = slot; after = slot + 1; from = from + size; size = following gap edge sizes } in
+      let others = flat_map (strip_lines picture) (strips_from gap edge (slot + 1) (from + size + gap) sizes) in
+      let line : from + size + gap + (i - size - gap) ≡ from + i = omega (arith, far) in
+      record {
+        down = rest.down;
+        begins = omega (arith, rest.begins, begin);
+        ordered = rest.ordered;
+        ends = omega (arith, rest.ends, end);
+        here = get-right (strip_lines picture inner) (strip_lines picture outer ++ others) (i - size) i (omega (arith, high inner, far))
+            ∙ get-right (strip_lines picture outer) others (i - size - gap) (i - size) (omega (arith, high outer, gapped, far))
+            ∙ rest.here ∙ ap (λ (y : ℕ). Some (line_of picture rest.down y)) line;
+      }
+
+  in_slot : (slot from past i size : ℕ) (sizes : List ℕ) → i < size → LiesIn slot from zero (suc past) i (size ∷ sizes)
+  in_slot slot from past i size sizes within =
+      let inner : Strip = record { before = slot; after = slot; from = from; size = size } in
+      let outer : Strip = record { before = slot; after = slot + 1; from = from + size; size = following gap edge sizes } in
+      record {
+        down = inner;
+        begins = omega arith;
+        ordered = omega arith;
+        ends = omega arith;
+        here = get-left (strip_lines picture inner) (flat_map (strip_lines picture)
+            (outer ∷ strips_from gap edge (slot + 1) (from + size + gap) sizes)) i (omega (arith, high inner, within))
+            ∙ get-range (line_of picture inner) from size i within;
+      }
+
+  in_gap : (slot from past i size next : ℕ) (sizes : List ℕ) → size ≤ i → i < size + gap →
+      LiesIn slot from zero (suc (suc past)) i (size ∷ next ∷ sizes)
+  in_gap slot from past i size next sizes behind_it between =
+      let inner : Strip = record { before = slot; after = slot; from = from; size = size } in
+      let outer : Strip = record { before = slot; after = slot + 1; from = from + size; size = gap } in
+      let others = flat_map (strip_lines picture) (strips_from gap edge (slot + 1) (from + size + gap) (next ∷ sizes)) in
+      let line : from + size + (i - size) ≡ from + i = omega (arith, behind_it) in
+      record {
+        down = outer;
+        begins = omega arith;
+        ordered = omega arith;
+        ends = omega arith;
+        here = get-right (strip_lines picture inner) (strip_lines picture outer ++ others) (i - size) i (omega (arith, high inner, behind_it))
+            ∙ get-left (strip_lines picture outer) others (i - size) (omega (arith, high outer, between, behind_it))
+            ∙ get-range (line_of picture outer) (from + size) gap (i - size) (omega (arith, between, behind_it))
+            ∙ ap (λ (y : ℕ). Some (line_of picture outer y)) line;
+      }
+
+  lies_in : (slot from top past i : ℕ) (sizes : List ℕ) → top < past → past ≤ length sizes → position gap sizes top ≤ i →
+      i + gap < position gap sizes past → LiesIn slot from top past i sizes
+  lies_in slot from top past i [] ahead within first last = absurd (omega (arith, ahead, within))
+  lies_in slot from top zero i (size ∷ sizes) ahead within first last = absurd (omega (arith, ahead))
+  lies_in slot from (suc top) (suc past) i (size ∷ []) ahead within first last = absurd (omega (arith, ahead, within))
+  lies_in slot from (suc top) (suc past) i (size ∷ next ∷ sizes) ahead within first last =
+      let start = position-cons gap size (next ∷ sizes) top in
+      let end = position-cons gap size (next ∷ sizes) past in
+      behind slot from (suc top) (suc past) i size (next ∷ sizes) top past (omega arith) refl (omega (arith, first, start)) refl
+      (lies_in (slot + 1) (from + size + gap) top past (i - size - gap) (next ∷ sizes) (omega (arith, ahead)) (omega (arith, within))
+      (omega (arith, first, start)) (omega (arith, last, end, first, start)))
+  lies_in slot from zero (suc zero) i (size ∷ sizes) ahead within first last =
+      in_slot slot from zero i size sizes (omega (arith, last, position-cons gap size sizes zero))
+  lies_in slot from zero (suc (suc past)) i (size ∷ []) ahead within first last = absurd (omega (arith, within))
+  lies_in slot from zero (suc (suc past)) i (size ∷ next ∷ sizes) ahead within first last = elim (cases_lt i size) [
+    | inl before ↦ in_slot slot from (suc past) i size (next ∷ sizes) before
+    | inr behind_it ↦ elim (cases_lt i (size + gap)) [
+      | inl between ↦ in_gap slot from past i size next sizes behind_it between
+      | inr far ↦
+          let end = position-cons gap size (next ∷ sizes) (suc past) in
+          behind slot from zero (suc (suc past)) i size (next ∷ sizes) zero (suc past) (omega arith) refl far refl
+          (lies_in (slot + 1) (from + size + gap) zero (suc past) (i - size - gap) (next ∷ sizes) (omega arith) (omega (arith, within))
+          (omega arith) (omega (arith, last, end, far)))
+    ]
+  ]
+
+  -- a line of the page within the rows from `top` on and before `past`
+  pub page_line : (heights : List ℕ) (top past i : ℕ) → top < past → past ≤ length heights → position gap heights top ≤ i →
+      i + gap < position gap heights past →
+      (down : Strip) × (top < down.before) × (down.before ≤ past) × (top < down.after) × (down.after ≤ past)
+      × (slice_get (flat_map (strip_lines picture) (strips gap edge heights)) (edge + i) ≡ Some (line_of picture down (edge + i)))
+  page_line [] top past i ahead within first last = absurd (omega (arith, ahead, within))
+  page_line (size ∷ sizes) top past i ahead within first last =
+      let rest = lies_in 1 edge top past i (size ∷ sizes) ahead within first last in
+      let border : Strip = record { before = 0; after = 1; from = 0; size = edge } in (
+        rest.down,
+        omega (arith, rest.begins),
+        omega (arith, rest.ordered, rest.ends),
+        omega (arith, rest.begins, rest.ordered),
+        omega (arith, rest.ends),
+        get-right (strip_lines picture border) (flat_map (strip_lines picture) (strips_from gap edge 1 edge (size ∷ sizes))) i (edge + i)
+            (omega (arith, high border)) ∙ rest.here,
+      )
+
+-- ---- what holds of each line
+
+joined_all : {X : Type 0} (P : X → Type 0) (xs ys : List X) → AllByRecursion P xs → AllByRecursion P ys → AllByRecursion P (xs ++ ys)
+joined_all P [] ys one other = other
+joined_all P (x ∷ xs) ys one other = (one.0, joined_all P xs ys one.1 other)
+
+mapped_all : {X Y : Type 0} (P : Y → Type 0) (f : X → Y) (xs : List X) → ((x : X) → P (f x)) → AllByRecursion P (map f xs)
+mapped_all P f [] each = tt
+mapped_all P f (x ∷ xs) each = (each x, mapped_all P f xs each)
+
+pub all_lines : (P : List ℕ → Type 0) (picture : Picture) (downs : List Strip) → ((down : Strip) (y : ℕ) → P (line_of picture down y)) →
+    AllByRecursion P (flat_map (strip_lines picture) downs)
+all_lines P picture [] each = tt
+all_lines P picture (down ∷ downs) each =
+    joined_all P (strip_lines picture down) (flat_map (strip_lines picture) downs)
+    (mapped_all P (line_of picture down) (range_with_len down.from down.size) (each down)) (all_lines P picture downs each)

@@ -1,0 +1,80 @@
+-- Texts side by side take the columns of all of them.
+use Rattle.std.proofs.Common.{◌≡◌, inl, inr, ℕ, zero, suc, ◌+◌, List, [], ◌∷◌, ◌++◌, replicate, sum_by, refl, ◌∙◌, ap, ap₂, append-nil, arith}
+use Rattle.std.specs.List.{AllByRecursion, flat_map}
+use Rattle.std.proofs.lemmas.List.Concat.{flat_map-append}
+use Rattle.std.proofs.lemmas.List.Sums.{sum_by-cons, sum_by-append}
+use Rattle.tl_page.specs.declared.line.Line.{Line}
+use Rattle.tl_text.specs.declared.paragraph.Atom.{Atom}
+use Rattle.tl_text.specs.Paragraph.{unit_width, gap_before}
+use Rattle.tl_text.specs.Cuttings.{line_width}
+use Rattle.tl_page.specs.Pages.{text_of, line_text}
+use Rattle.tl_page.specs.Pictures.{spaces}
+use Rattle.tl_page.specs.Widths.{IsSign, IsPiece, HasWidth}
+
+both : (P : Line → Type 0) (xs ys : List Line) → AllByRecursion P xs → AllByRecursion P ys → AllByRecursion P (xs ++ ys)
+both P [] ys one other = other
+both P (x ∷ xs) ys one other = (one.0, both P xs ys one.1 other)
+
+pub HasWidth-none : HasWidth [] 0
+HasWidth-none = record { pieces = []; each = tt; bytes = refl; columns = refl }
+
+pub HasWidth-append : (text more : List ℕ) (width columns all : ℕ) → HasWidth text width → HasWidth more columns → width + columns ≡ all →
+    HasWidth (text ++ more) all
+HasWidth-append text more width columns all one other sum = record {
+  pieces = one.pieces ++ other.pieces;
+  each = both IsPiece one.pieces other.pieces one.each other.each;
+  bytes = flat_map-append (λ (piece : Line). piece.text) one.pieces other.pieces ∙ ap₂ (λ (left right : List ℕ). left ++ right) one.bytes other.bytes;
+  columns = omega (arith, sum_by-append (λ (piece : Line). piece.width) one.pieces other.pieces, one.columns, other.columns, sum);
+}
+
+-- so many of a sign
+pub HasWidth-signs : (sign count : ℕ) → IsSign sign → HasWidth (replicate count sign) count
+HasWidth-signs sign zero is = HasWidth-none
+HasWidth-signs sign (suc count) is =
+    let rest = HasWidth-signs sign count is in
+    let piece : Line = record { text = sign ∷ []; width = 1 } in
+    record {
+      pieces = piece ∷ rest.pieces;
+      each = (inr (sign, is, refl), rest.each);
+      bytes = ap (λ more. sign ∷ more) rest.bytes;
+      columns = omega (arith, sum_by-cons (λ (piece : Line). piece.width) piece rest.pieces, rest.columns);
+    }
+
+pub HasWidth-is : (text : List ℕ) (width columns : ℕ) → HasWidth text width → width ≡ columns → HasWidth text columns
+HasWidth-is text width columns one same = record { pieces = one.pieces; each = one.each; bytes = one.bytes; columns = one.columns ∙ same }
+
+pub HasWidth-same : (text other : List ℕ) (width : ℕ) → HasWidth text width → text ≡ other → HasWidth other width
+HasWidth-same text other width one same = record { pieces = one.pieces; each = one.each; bytes = one.bytes ∙ same; columns = one.columns }
+
+-- ---- lines of units
+
+-- a unit takes the columns of its text
+pub HasWidth-unit : (unit : Atom) → HasWidth (text_of unit) (unit_width unit)
+HasWidth-unit unit =
+    let piece : Line = record { text = text_of unit; width = unit_width unit } in
+    record {
+      pieces = piece ∷ [];
+      each = (inl (unit, refl), tt);
+      bytes = append-nil (text_of unit);
+      columns = omega (arith, sum_by-cons (λ (piece : Line). piece.width) piece []);
+    }
+
+-- units each with the gap before it
+HasWidth-units : (units : List Atom) → HasWidth (flat_map (λ next. spaces (gap_before next) ++ text_of next) units)
+    (sum_by unit_width units + sum_by gap_before units)
+HasWidth-units [] = HasWidth-none
+HasWidth-units (unit ∷ units) =
+    HasWidth-append (spaces (gap_before unit) ++ text_of unit) (flat_map (λ next. spaces (gap_before next) ++ text_of next) units)
+    (gap_before unit + unit_width unit) (sum_by unit_width units + sum_by gap_before units)
+    (sum_by unit_width (unit ∷ units) + sum_by gap_before (unit ∷ units))
+    (HasWidth-append (spaces (gap_before unit)) (text_of unit) (gap_before unit) (unit_width unit) (gap_before unit + unit_width unit)
+    (HasWidth-signs 0x20 (gap_before unit) (0, omega arith, refl)) (HasWidth-unit unit) refl)
+    (HasWidth-units units) (omega (arith, sum_by-cons unit_width unit units, sum_by-cons gap_before unit units))
+
+-- a line takes the columns of its units and of the gaps between them
+pub HasWidth-line : (line : List Atom) → HasWidth (line_text line) (line_width line)
+HasWidth-line [] = HasWidth-none
+HasWidth-line (unit ∷ units) =
+    HasWidth-append (text_of unit) (flat_map (λ next. spaces (gap_before next) ++ text_of next) units) (unit_width unit)
+    (sum_by unit_width units + sum_by gap_before units) (line_width (unit ∷ units)) (HasWidth-unit unit) (HasWidth-units units)
+    (omega (arith, sum_by-cons unit_width unit units))

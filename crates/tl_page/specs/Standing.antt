@@ -1,0 +1,66 @@
+-- Where the text of a table stands on its page: each line of a cell whole, under the one before it, after the columns
+-- to the left of the cell; and the text of a nested table likewise on the table's own page.
+--
+--   +---+-----+      the lines of the second cell, `cc dd` and `ee`, stand on lines 1 and 2, each after 5 columns:
+--   |aaa|cc dd|      the edge, the first column and the gap
+--   |bbb|ee   |
+--   +---+-----+
+use Rattle.std.specs.Prelude.{◌≡◌, ℕ, zero, suc, ◌+◌, List, ◌++◌, Some, map, slice_get}
+use Rattle.std.specs.List.{All, AllZip}
+use Rattle.tl_base.specs.declared.style.Style.{Style}
+use Rattle.tl_base.specs.Style.{gap_of, row_gap_of, edge_of}
+use Rattle.tl_problem.specs.Sizes.{position}
+use Rattle.tl_text.specs.declared.paragraph.Atom.{Atom}
+use Rattle.tl_text.specs.Cuttings.{joined, IsCutting}
+use Rattle.tl_form.specs.declared.cell.Content.{out-Content}
+use Rattle.tl_form.specs.declared.cell.Content.TheOpen as open_content
+use Rattle.tl_form.specs.declared.cell.Table.{Table, out-Table}
+use Rattle.tl_form.specs.declared.cell.TableCell.{out-TableCell}
+use Rattle.tl_form.specs.declared.layout.Layout.{Layout, out-Layout}
+use Rattle.tl_form.specs.Tables.{OpenTable, OpenCell, OpenContent}
+use Rattle.tl_form.specs.Layouts.{OpenLayout}
+use Rattle.tl_page.specs.Pages.{IsPage, line_text}
+use Rattle.tl_page.specs.Widths.{HasWidth}
+
+-- the text stands whole on line `y` of the page, after `x` columns
+pub record StandsAt (page : List (List ℕ)) (x y : ℕ) (text : List ℕ) : Type 0 where
+  pub before : List ℕ
+  pub after : List ℕ
+  pub columns : HasWidth before x
+  pub line : slice_get page y ≡ Some (before ++ (text ++ after))
+
+-- the texts stand one under the other, the first on line `y`, each after `x` columns
+abbrev pub AreStanding : List (List ℕ) → ℕ → ℕ → List (List ℕ) → Type 0
+AreStanding page x y texts = (k : ℕ) (text : List ℕ) → slice_get texts k ≡ Some text → StandsAt page x (y + k) text
+
+-- the texts of a block: the lines of a cutting of a paragraph, which are all its units, whole and in order; or the
+-- lines of a page of a nested table, of which `holds` says that it has all of the table's text
+abbrev pub AreTextsOf : Style → (Table → Layout → List (List ℕ) → Type 0) → OpenContent → List (List ℕ) → Type 0
+AreTextsOf style holds (open_content.Para paragraph) texts =
+    (cut : List (List (List Atom))) × IsCutting paragraph cut × (texts ≡ map line_text (joined cut))
+AreTextsOf style holds (open_content.Table box) texts =
+    (layout : Layout) × IsPage style box.value layout texts × holds box.value layout texts
+
+-- the blocks of a cell stand one under the other, the first on line `y`, after `x` columns
+pub record StandsWhole (style : Style) (holds : Table → Layout → List (List ℕ) → Type 0) (page : List (List ℕ)) (x y : ℕ)
+    (cell : OpenCell) : Type 0 where
+  pub texts : List (List (List ℕ))
+  pub blocks : AllZip (λ block text. AreTextsOf style holds (out-Content block) text) cell.blocks texts
+  pub standing : AreStanding page x y (joined texts)
+
+-- each cell of a table stands whole on the page, where its first column and its first row begin
+abbrev pub HoldsBy : (Table → Layout → List (List ℕ) → Type 0) → Style → OpenTable → OpenLayout → List (List ℕ) → Type 0
+HoldsBy holds style table layout page = All (λ cell. StandsWhole style holds page
+    (edge_of style + position (gap_of style) layout.widths (out-TableCell cell).place.left)
+    (edge_of style + position (row_gap_of style) layout.heights (out-TableCell cell).place.top)
+    (out-TableCell cell)) table.cells
+
+-- the same of a table with fewer than `depth` tables inside one another
+abbrev pub HoldsWithin : ℕ → Style → Table → Layout → List (List ℕ) → Type 0
+HoldsWithin zero style table layout page = ⊥
+HoldsWithin (suc depth) style table layout page =
+    HoldsBy (HoldsWithin depth style) style (out-Table table) (out-Layout layout) page
+
+-- all text of a table, that of nested tables included, stands whole and in order on its page
+abbrev pub HoldsAllText : Style → Table → Layout → List (List ℕ) → Type 0
+HoldsAllText style table layout page = (depth : ℕ) × HoldsWithin depth style table layout page
