@@ -255,7 +255,8 @@ module _ (breaking : Breaking) (forms : TableNode → Table → Type 0) (alike :
     abbrev marks : Marks
     marks = grammar.table_begins ∷ (body ++ grammar.table_ends ∷ [])
 
-    marks_are : (more : Marks) → (body ++ grammar.table_ends ∷ []) ++ more ≡ cap.ms ++ (grammar.columns T.cols ∷ (part_marks rows rest.ms ++ (grammar.table_ends ∷ more)))
+    marks_are : (more : Marks) → (body ++ grammar.table_ends ∷ []) ++ more ≡
+        cap.ms ++ (grammar.columns T.cols ∷ (part_marks rows rest.ms ++ (grammar.table_ends ∷ more)))
     marks_are more = append_assoc body (grammar.table_ends ∷ []) more
         ∙ append_assoc cap.ms (grammar.columns T.cols ∷ part_marks rows rest.ms) (grammar.table_ends ∷ more)
 
