@@ -1,5 +1,6 @@
 -- Tables that trees become have few cells, and the numbers of chains are within their ranges.
-use Rattle.std.proofs.Common.{◌≡◌, ℕ, zero, suc, ◌+◌, ◌<◌, ◌≤◌, ◌⊎◌, inl, inr, List, [], ◌∷◌, ◌++◌, length, map, Option, Some, None, Contains, slice_get, codes, refl, sym, ap, subst, ◌∙◌, length-append, arith}
+use Rattle.std.proofs.Common.{◌≡◌, ℕ, zero, suc, ◌+◌, ◌<◌, ◌≤◌, ◌⊎◌, inl, inr, List, [], ◌∷◌, ◌++◌, length, map, Option, Some, None, Contains}
+use Rattle.std.proofs.Common.{slice_get, codes, refl, sym, ap, subst, ◌∙◌, length-append, arith}
 use Rattle.std.specs.List.{AllZip, AllByRecursion, flat_map}
 use Rattle.std.specs.List.Sorted.{IsPermutation}
 use Rattle.std.proofs.lemmas.List.{length-map}
@@ -27,7 +28,8 @@ use Rattle.tl_form.specs.declared.cell.TableCell.{TableCell, out-TableCell}
 use Rattle.tl_form.specs.Tables.{OpenTable, OpenCell, OpenContent, inner_tables, tables_in, tables_of}
 use Rattle.tl_form.specs.Chains.{HasWidth, IsChainBy, IsChainWithin, IsLink, Link}
 use Rattle.tl_form.specs.ChainRanges.{HasFewCells}
-use Rattle.tl_form.specs.Formed.{OpenBlock, OpenNode, BecomesContent, BecomeContents, BecomeCells, BecomeCaption, BecomesBy, BecomesWithin, caption_rows, cells_written, lowered}
+use Rattle.tl_form.specs.Formed.{OpenBlock, OpenNode, BecomesContent, BecomeContents, BecomeCells, BecomeCaption, BecomesBy, BecomesWithin}
+use Rattle.tl_form.specs.Formed.{caption_rows, cells_written, lowered}
 use Rattle.tl_form.specs.Problems.{IsAmong}
 use Rattle.tl_form.specs.Sound.{IsSound, place_of}
 use Rattle.tl_form.proofs.ProblemTruth.{joined-each}
