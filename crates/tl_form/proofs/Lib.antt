@@ -47,6 +47,10 @@ pub mod SafeProblems
 pub mod LowPlacements
 pub mod PlacementSizes
 pub mod CountsRise
+pub mod Searches
+pub mod LeastExists
+pub mod CountsExist
+mod ProblemExamples
 pub mod BetweenSteps
 pub mod TableNumbers
 pub mod DueLaws
@@ -67,3 +71,4 @@ pub mod Coverage
 pub mod CoveredSteps
 pub mod DueProblems
 pub mod SubjectLemmas
+pub mod ClosedLaws

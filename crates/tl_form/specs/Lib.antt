@@ -18,6 +18,7 @@ pub mod Valid
 pub mod Refusals
 pub mod Named
 pub mod ValidLaws
+pub mod ClosedLaws
 pub mod Spells
 pub mod Laws
 pub mod inner
