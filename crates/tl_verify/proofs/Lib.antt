@@ -5,3 +5,4 @@ pub mod AllJudged
 pub mod OneChain
 pub mod Walking
 pub mod OneVerdict
+pub mod NamedSteps

@@ -1,15 +1,16 @@
 -- The sections of a certificate that has a text: few, and with small numbers.
-use Rattle.std.proofs.Common.{ℕ, zero, suc, ◌<◌, ◌≤◌, List, [], ◌∷◌, ◌++◌, length, get_or, codes, subst, arith}
+use Rattle.std.proofs.Common.{◌≡◌, ap, ℕ, zero, suc, ◌<◌, ◌≤◌, List, [], ◌∷◌, ◌++◌, length, get_or, codes, subst, arith}
 use Rattle.std.specs.List.{flat_map}
+use Rattle.std.proofs.lemmas.List.Elements.{All-from_recursion, All-get_or}
 use Rattle.std.proofs.lemmas.List.Concat.{flat_map-cons}
-use Rattle.tl_base.specs.declared.limits.TheConstants.{MAX_PAGE_WIDTH, MAX_BUDGET}
+use Rattle.tl_base.specs.declared.limits.TheConstants.{MAX_COLUMNS, MAX_PAGE_WIDTH, MAX_BUDGET}
 use Rattle.tl_cert.specs.declared.certificate.Certificate.{Certificate}
 use Rattle.tl_cert.specs.declared.certificate.Claim.{Claim}
 use Rattle.tl_cert.specs.declared.certificate.Claim.TheVariants.{Lowest, Bounded, Narrow}
 use Rattle.tl_cert.specs.declared.limits.TheConstants.{MAX_SECTIONS}
 use Rattle.tl_cert.specs.declared.section.Section.{Section}
 use Rattle.tl_cert.specs.Pieces.{Piece, AllWithin, field, word}
-use Rattle.tl_cert.specs.Text.{IsWritable, HasProof, space, line_feed, spaced, cut_pieces, line_pieces, section_pieces, section_head, chain_pieces, claim_pieces, version_word, style_word, has_area}
+use Rattle.tl_cert.specs.Text.{IsWritable, IsSectionShaped, HasProof, space, line_feed, spaced, cut_pieces, line_pieces, section_pieces, section_head, chain_pieces, claim_pieces, version_word, style_word, has_area}
 use Rattle.tl_form.specs.Valid.{IsNarrow}
 use Rattle.tl_verify.specs.inner.Sections.{IsSmall}
 
@@ -34,22 +35,28 @@ within_each (section ∷ sections) (suc i) d within all =
 
 -- ---- the numbers of a section
 
-small_section : (section : Section) → AllWithin (section_pieces section) → IsSmall section
-small_section section all =
+small_section : (section : Section) → length section.widths ≤ MAX_COLUMNS → AllWithin (section_pieces section) → IsSmall section
+small_section section few all =
     let head = within_left (section_head section) (word (codes "widths") ++ (flat_map (spaced MAX_PAGE_WIDTH) section.widths ++ (word (codes "\n")
     ++ (flat_map cut_pieces section.trace ++ flat_map line_pieces section.log)))) all in
     -- after `section ` come the table, the width, the height, the lower bound, the cuts and the lines, each with a character
     let width = head.1.1.1.1.1.1.1.1.1.1 in
     let cuts = width.1.1.1.1.1.1 in
     let lines = cuts.1.1 in
-    record { narrow = width.0.1; cuts = cuts.0.1; lines = omega (arith, lines.0.1, cuts.0.1) }
+    record { narrow = width.0.1; cuts = cuts.0.1; lines = omega (arith, lines.0.1, cuts.0.1); few = few }
 
 -- ---- the sections of a certificate
 
 pub small_sections : (certificate : Certificate) → IsWritable certificate → (i : ℕ) (d : Section) → i < length certificate.sections →
     IsSmall (get_or certificate.sections i d)
-small_sections c written i d within = small_section (get_or c.sections i d) (within_each c.sections i d within sections)
+small_sections c written i d within = small_section (get_or c.sections i d) (few_columns c.claim written.0) (within_each c.sections i d within sections)
   where
+    few_columns : (claim : Claim) → HasProof claim c → length (get_or c.sections i d).widths ≤ MAX_COLUMNS
+    few_columns (Lowest height) proof = (All-get_or IsSectionShaped c.sections i d within (All-from_recursion IsSectionShaped c.sections proof.sections)).widths
+    few_columns (Bounded height lower) proof =
+        (All-get_or IsSectionShaped c.sections i d within (All-from_recursion IsSectionShaped c.sections proof.sections)).widths
+    few_columns (Narrow least) proof = absurd (let none : length c.sections ≡ 0 = ap length proof.no_section in omega (arith, none, within))
+
     width : AllWithin (word (version_word (has_area c.sections)) ++ (field 1 MAX_PAGE_WIDTH c.width space ++ (word (style_word c.style)
         ++ (field 0 MAX_BUDGET c.budget line_feed ++ (claim_pieces c.claim ++ (flat_map chain_pieces c.chains ++ (flat_map section_pieces c.sections
         ++ word (codes "end\n"))))))))

@@ -6,9 +6,12 @@
 mod chains;
 mod claim;
 mod laid;
+mod named;
 mod reject;
+mod rooms;
 mod sections;
 mod verdict;
 
+pub use named::layout;
 pub use reject::Reject;
 pub use verdict::{Verdict, verify};

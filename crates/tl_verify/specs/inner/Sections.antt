@@ -1,6 +1,6 @@
 -- What the functions that judge one section promise each other. No public clause cites this file.
 use Rattle.std.specs.Prelude.{◌≡◌, ℕ, ◌<◌, ◌≤◌, ◌^◌, List, length}
-use Rattle.tl_base.specs.declared.limits.TheConstants.{MAX_BUDGET, MAX_PAGE_WIDTH}
+use Rattle.tl_base.specs.declared.limits.TheConstants.{MAX_BUDGET, MAX_COLUMNS, MAX_PAGE_WIDTH}
 use Rattle.tl_base.specs.declared.style.Style.{Style}
 use Rattle.tl_problem.specs.Problem.{ProblemModel}
 use Rattle.tl_problem.specs.Sound.{IsSound}
@@ -26,6 +26,7 @@ pub record IsSmall (section : Section) : Type 0 where
   pub narrow : section.width ≤ MAX_PAGE_WIDTH
   pub cuts : length section.trace ≤ MAX_BUDGET
   pub lines : length section.log < 2 ^ 32
+  pub few : length section.widths ≤ MAX_COLUMNS
 
 -- the error names what the section with this number lacks: a trace that was worked, or a log that is good
 abbrev pub IsUnshown : ProblemModel → Section → ℕ → ℕ → Reject → Type 0
