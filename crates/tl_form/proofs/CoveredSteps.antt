@@ -1,5 +1,6 @@
 -- Where sections tell of a table at each width from its least one up to the page, it has steps by them.
-use Rattle.std.proofs.Common.{◌≡◌, ◌∙◌, ℕ, zero, suc, ◌+◌, ◌-◌, ◌<◌, ◌≤◌, min, max, List, [], ◌∷◌, ◌++◌, ◌⊎◌, inl, inr, length, get_or, take, Some, Contains, refl, sym, ap, subst, arith}
+use Rattle.std.proofs.Common.{◌≡◌, ◌∙◌, ℕ, zero, suc, ◌+◌, ◌-◌, ◌<◌, ◌≤◌, min, max, List, [], ◌∷◌, ◌++◌, ◌⊎◌, inl, inr, length, get_or, take, Some}
+use Rattle.std.proofs.Common.{Contains, refl, sym, ap, subst, arith}
 use Rattle.std.specs.List.{All, AllZip, AllByRecursion}
 use Rattle.std.proofs.lemmas.Bool.{cases_eq, cases_lt}
 use Rattle.std.proofs.lemmas.List.{take_all, take_more}
@@ -126,10 +127,12 @@ module _ (Needs : ℕ → ℕ → Type 0) (falls : (v w m n : ℕ) → v ≤ w �
         from = λ w h need. need.0;
         has = λ w wide. let one = there (min w page) (omega (arith, wide, narrow)) (omega arith) in (one.0, (wide, one.1));
       })
-      (λ v w m n wider first second. falls (min v page) (min w page) m n (omega (arith, wider)) first.1 second.1) page narrow in
-      (made.0, AreStepsOf-same (λ w h. (least ≤ w) × Needs (min w page) h) (λ w h. (least ≤ w) × Needs w h) page made.0
-      (λ w h upto need. let same : min w page ≡ w = omega (arith, upto) in (need.0, subst (λ v. Needs v h) same need.1))
-      (λ w h upto need. let same : min w page ≡ w = omega (arith, upto) in (need.0, subst (λ v. Needs v h) (sym same) need.1)) made.1)
+      (λ v w m n wider first second. falls (min v page) (min w page) m n (omega (arith, wider)) first.1 second.1) page narrow in (
+        made.0,
+        AreStepsOf-same (λ w h. (least ≤ w) × Needs (min w page) h) (λ w h. (least ≤ w) × Needs w h) page made.0
+            (λ w h upto need. let same : min w page ≡ w = omega (arith, upto) in (need.0, subst (λ v. Needs v h) same need.1))
+            (λ w h upto need. let same : min w page ≡ w = omega (arith, upto) in (need.0, subst (λ v. Needs v h) (sym same) need.1)) made.1,
+      )
 
   pub steps_begin : (steps : List Config) → AreStepsOf (λ w h. (least ≤ w) × Needs w h) page steps → first_width steps ≡ least
   steps_begin steps of =
@@ -147,18 +150,22 @@ steps_by style sections nested least page is_least narrow told =
     let lows = steps_upto (IsGreatestLower sections number) (lower_falls sections number) least page narrow
     (λ w wide upto. lower_told style sections number w (told w wide upto)) in
     let highs = steps_upto (IsLeastFound style sections number) (found_falls style sections number) least page narrow
-    (λ w wide upto. height_told style sections number w (told w wide upto)) in
-    (record { table = number; low = lows.0; high = highs.0 }, record {
-      named = refl;
-      least = least;
-      is_least = is_least;
-      begins = (steps_begin (IsGreatestLower sections number) (lower_falls sections number) least page narrow
-          (λ w wide upto. lower_told style sections number w (told w wide upto)) lows.0 lows.1,
-      steps_begin (IsLeastFound style sections number) (found_falls style sections number) least page narrow
-          (λ w wide upto. height_told style sections number w (told w wide upto)) highs.0 highs.1);
-      low = lows.1;
-      high = highs.1;
-    })
+    (λ w wide upto. height_told style sections number w (told w wide upto)) in (
+      record { table = number; low = lows.0; high = highs.0 },
+      record {
+        named = refl;
+        least = least;
+        is_least = is_least;
+        begins = (
+          steps_begin (IsGreatestLower sections number) (lower_falls sections number) least page narrow
+              (λ w wide upto. lower_told style sections number w (told w wide upto)) lows.0 lows.1,
+          steps_begin (IsLeastFound style sections number) (found_falls style sections number) least page narrow
+              (λ w wide upto. height_told style sections number w (told w wide upto)) highs.0 highs.1,
+        );
+        low = lows.1;
+        high = highs.1;
+      },
+    )
 
 pub inner_by : (style : Style) (page : ℕ) (sections : List Section) (tables : List Table) →
     AllByRecursion (λ nested. (steps : InnerSteps) × AreStepsBy style page sections nested steps) tables →

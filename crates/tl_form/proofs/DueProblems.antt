@@ -1,6 +1,7 @@
 -- Where the sections so far are good, the next one that is due has a problem: the tables nested in its own have steps by the
 -- sections, and the problem with them is sound.
-use Rattle.std.proofs.Common.{◌≡◌, ◌∙◌, ℕ, zero, suc, ◌+◌, ◌-◌, ◌*◌, ◌<◌, ◌≤◌, List, [], ◌∷◌, ◌⊎◌, inl, inr, length, get_or, take, Option, None, Some, Contains, refl, sym, ap, subst, arith}
+use Rattle.std.proofs.Common.{◌≡◌, ◌∙◌, ℕ, zero, suc, ◌+◌, ◌-◌, ◌*◌, ◌<◌, ◌≤◌, List, [], ◌∷◌, ◌⊎◌, inl, inr, length, get_or, take, Option, None}
+use Rattle.std.proofs.Common.{Some, Contains, refl, sym, ap, subst, arith}
 use Rattle.std.specs.List.{All, AllZip, AllByRecursion}
 use Rattle.std.specs.Option.{IsSomeAnd}
 use Rattle.std.proofs.lemmas.List.{take_all, length-take}
@@ -146,9 +147,14 @@ module _ (document : Document) (on : IsOnPage document) (before : List Section) 
         (section : Section) × (section.table ≡ (out-Table nested).number) × (placed_width document.style section ≤ w) × (section.height ≡ h)
         × IsTrue document section × IsSmall document section
     found_at w h least =
-        let at = least.attained in
-        (at.1, at.4.0.of, at.4.0.narrow, at.4.1, subst (IsTrue document) at.3 (All-get_or (IsTrue document) before at.0 at.1 at.2 true_before),
-        subst (IsSmall document) at.3 (All-get_or (IsSmall document) before at.0 at.1 at.2 small_before))
+        let at = least.attained in (
+          at.1,
+          at.4.0.of,
+          at.4.0.narrow,
+          at.4.1,
+          subst (IsTrue document) at.3 (All-get_or (IsTrue document) before at.0 at.1 at.2 true_before),
+          subst (IsSmall document) at.3 (All-get_or (IsSmall document) before at.0 at.1 at.2 small_before),
+        )
 
     below : (w h : ℕ) → w ≤ page → IsLowAt steps.high h w → IsLowAt steps.low h w
     below w h upto is =

@@ -47,8 +47,10 @@ pub mod SafeProblems
 pub mod LowPlacements
 pub mod PlacementSizes
 pub mod CountsRise
+pub mod ChainRanges
 pub mod Searches
 pub mod LeastExists
+pub mod CountsExist
 mod ProblemExamples
 pub mod BetweenSteps
 pub mod TableNumbers
@@ -70,3 +72,5 @@ pub mod Coverage
 pub mod CoveredSteps
 pub mod DueProblems
 pub mod SubjectLemmas
+pub mod ClosedLaws
+pub mod OpenLaws

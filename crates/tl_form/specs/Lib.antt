@@ -11,6 +11,7 @@ pub mod Numbered
 pub mod ProblemLaws
 pub mod SoundProblems
 pub mod CountLaws
+pub mod ChainRanges
 pub mod Expected
 pub mod Subjects
 pub mod Nested
@@ -18,6 +19,8 @@ pub mod Valid
 pub mod Refusals
 pub mod Named
 pub mod ValidLaws
+pub mod ClosedLaws
+pub mod OpenLaws
 pub mod Spells
 pub mod Laws
 pub mod inner

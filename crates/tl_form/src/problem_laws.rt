@@ -1,6 +1,6 @@
 //! Laws of the problem of a table. Each is the contract of a function that does nothing.
 
-ghost use Rattle.tl_form.specs.CountLaws.{CountsRise, LeastHeightsExist};
+ghost use Rattle.tl_form.specs.CountLaws.{CountsExist, CountsRise, LeastHeightsExist, TrueProblemsExist};
 ghost use Rattle.tl_form.specs.ProblemLaws.{LayoutsAreByLow, LayoutsByHighFit, ProblemIsDetermined, TrueStepsLieBetween, TrueWhereBoundsMeet};
 ghost use Rattle.tl_form.specs.SoundProblems.{PlacementsAreLow, SoundProblemsAlone};
 
@@ -50,4 +50,14 @@ pub fn counts_rise()
 /// A sound table that fits a page has a least height there.
 pub fn least_heights_exist()
     ensures { LeastHeightsExist }
+{}
+
+/// And it has a true problem there.
+pub fn true_problems_exist()
+    ensures { TrueProblemsExist }
+{}
+
+/// And there is a greatest count of it and of all tables nested in it.
+pub fn counts_exist()
+    ensures { CountsExist }
 {}

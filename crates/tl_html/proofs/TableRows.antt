@@ -1,37 +1,32 @@
 -- The rows of a table: its cells below the caption, row by row, and the grid that they are.
-use Rattle.std.proofs.Common.{◌≡◌, ◌∙◌, ◌⊎◌, ℕ, zero, suc, ◌+◌, ◌-◌, ◌<◌, ◌≤◌, max, Option, Some, None, List, [], ◌∷◌, ◌++◌, map, length, get_or, Contains, All, refl, sym, ap, subst, inl, inr, arith, append_assoc}
-use Rattle.std.specs.List.{AllByRecursion, AllPairs, AllZip, Any, flat_map}
+use Rattle.std.proofs.Common.{◌≡◌, ◌∙◌, ◌⊎◌, ℕ, zero, suc, ◌+◌, ◌-◌, ◌<◌, ◌≤◌, max, Option, Some, None, List, [], ◌∷◌, ◌++◌, map, length, get_or}
+use Rattle.std.proofs.Common.{Contains, All, refl, sym, ap, subst, inl, inr, arith}
+use Rattle.std.specs.List.{AllByRecursion, AllPairs, Any}
 use Rattle.std.specs.List.Sorted.{IsPermutation}
-use Rattle.std.proofs.lemmas.Bool.{cases_lt, cases_eq}
+use Rattle.std.proofs.lemmas.Bool.{cases_lt}
 use Rattle.std.proofs.lemmas.List.{length-map, get_or-map, map-append}
-use Rattle.std.proofs.lemmas.List.Elements.{All-from_recursion, recursion_from_All, All-contains}
+use Rattle.std.proofs.lemmas.List.Elements.{recursion_from_All, All-contains}
 use Rattle.std.proofs.lemmas.List.Sorted.{Contains-permutation, IsPermutation-map, IsPermutation-sym}
 use Rattle.tl_base.specs.declared.breaking.Breaking.{Breaking}
-use Rattle.tl_base.specs.declared.limits.TheConstants.{MAX_COLSPAN, MAX_ROWSPAN, MAX_COLUMNS, MAX_ROWS}
 use Rattle.tl_base.proofs.Members.{All-from_Contains, map-Contains, Contains-map, Contains-first, Contains-later, Contains-cases, Contains-none}
 use Rattle.tl_grid.specs.declared.shape.Grid.{Grid}
 use Rattle.tl_grid.specs.declared.shape.Place.{Place}
 use Rattle.tl_grid.specs.Dropping.{IsPlaced}
-use Rattle.tl_grid.specs.Form.{HasGrid}
 use Rattle.tl_grid.specs.Slots.{HasSlot, AreApart, IsFilledToLeft, HasAnchorInColumn, HasAnchorInRow}
 use Rattle.tl_grid.proofs.Laws.{all_within, all_columns, all_rows, all_filled}
-use Rattle.tl_tree.specs.Outline.{outline, cell_outline}
+use Rattle.tl_tree.specs.Outline.{outline}
 use Rattle.tl_tree.specs.Sound.{AreSound}
 use Rattle.tl_tree.specs.declared.node.Block.{Block}
-use Rattle.tl_tree.specs.declared.node.CellNode.{CellNode, out-CellNode}
-use Rattle.tl_tree.specs.declared.node.GroupNode.{GroupNode, out-GroupNode}
 use Rattle.tl_tree.specs.declared.node.TableNode.{TableNode, out-TableNode}
-use Rattle.tl_form.specs.declared.cell.Table.{Table, out-Table}
-use Rattle.tl_form.specs.declared.cell.TableCell.{TableCell, out-TableCell}
-use Rattle.tl_form.specs.declared.layout.Layout.{Layout}
+use Rattle.tl_form.specs.declared.cell.Table.{Table}
+use Rattle.tl_form.specs.declared.cell.TableCell.{TableCell}
 use Rattle.tl_form.specs.Tables.{OpenTable}
-use Rattle.tl_form.specs.Formed.{BecomesCell, BecomeCells, BecomeCaption, BecomesCaption, BecomesBy, caption_rows, cells_of_group, cells_written, lowered, shape_of}
+use Rattle.tl_form.specs.Formed.{BecomeCaption, BecomesBy, caption_rows, lowered, shape_of}
 use Rattle.tl_form.specs.Sound.{ComesBefore, place_of, places_of}
 use Rattle.tl_form.proofs.Laid.{AreLaid, cells_laid}
 use Rattle.tl_form.proofs.Orders.{apart_moved}
-use Rattle.tl_form.proofs.SoundParts.{append_each}
-use Rattle.tl_form.proofs.SoundNodes.{sound_each, group_rows, table_groups, shape_spans}
-use Rattle.tl_html.proofs.GridAgain.{Precedes, IsGrid, AreInRow, AreRows}
+use Rattle.tl_form.proofs.SoundNodes.{shape_spans}
+use Rattle.tl_html.proofs.GridAgain.{Precedes, IsGrid}
 use Rattle.tl_html.proofs.Cells.{joined}
 
 -- ---- places so many rows up
@@ -77,8 +72,10 @@ module _ (down : ℕ) where
       let long : length (ups places) ≡ length places = length-map places (raised down) in
       let e = lowered down d in
       let back : raised down e ≡ d = raised_lowered down d in
-      let at_i : get_or (ups places) i d ≡ raised down (get_or places i e) = ap (get_or (ups places) i) (sym back) ∙ get_or-map (raised down) places i e (raised down e) (omega arith) in
-      let at_j : get_or (ups places) j d ≡ raised down (get_or places j e) = ap (get_or (ups places) j) (sym back) ∙ get_or-map (raised down) places j e (raised down e) (omega arith) in
+      let at_i : get_or (ups places) i d ≡ raised down (get_or places i e) = ap (get_or (ups places) i) (sym back)
+      ∙ get_or-map (raised down) places i e (raised down e) (omega arith) in
+      let at_j : get_or (ups places) j d ≡ raised down (get_or places j e) = ap (get_or (ups places) j) (sym back)
+      ∙ get_or-map (raised down) places j e (raised down e) (omega arith) in
       let low_i = low i e (omega arith) in
       let low_j = low j e (omega arith) in
       subst (λ p. Precedes p (get_or (ups places) j d)) (sym at_i) (subst (Precedes (raised down (get_or places i e))) (sym at_j)
@@ -92,8 +89,10 @@ module _ (down : ℕ) where
       let long : length (ups places) ≡ length places = length-map places (raised down) in
       let e = lowered down d in
       let back : raised down e ≡ d = raised_lowered down d in
-      let at_i : get_or (ups places) i d ≡ raised down (get_or places i e) = ap (get_or (ups places) i) (sym back) ∙ get_or-map (raised down) places i e (raised down e) (omega arith) in
-      let at_j : get_or (ups places) j d ≡ raised down (get_or places j e) = ap (get_or (ups places) j) (sym back) ∙ get_or-map (raised down) places j e (raised down e) (omega arith) in
+      let at_i : get_or (ups places) i d ≡ raised down (get_or places i e) = ap (get_or (ups places) i) (sym back)
+      ∙ get_or-map (raised down) places i e (raised down e) (omega arith) in
+      let at_j : get_or (ups places) j d ≡ raised down (get_or places j e) = ap (get_or (ups places) j) (sym back)
+      ∙ get_or-map (raised down) places j e (raised down e) (omega arith) in
       let low_i = low i e (omega arith) in
       let low_j = low j e (omega arith) in
       let first : HasSlot x y (raised down (get_or places i e)) = subst (HasSlot x y) at_i one in
@@ -121,7 +120,8 @@ rise_less y z [] le rise = tt
 rise_less y z (c ∷ cells) le rise = (omega (arith, rise.0), rise.1)
 
 -- the first row, and the cells after it
-first_row : (y : ℕ) (cells : List TableCell) → Rise y cells → (row : List TableCell) × (rest : List TableCell) × (row ++ rest ≡ cells) × InRow y row × Rise (y + 1) rest
+first_row : (y : ℕ) (cells : List TableCell) → Rise y cells →
+    (row : List TableCell) × (rest : List TableCell) × (row ++ rest ≡ cells) × InRow y row × Rise (y + 1) rest
 first_row y [] rise = ([], [], refl, tt, tt)
 first_row y (c ∷ cells) rise =
     elim (cases_lt y (place_of c).top) [
@@ -138,7 +138,8 @@ by_rows zero y [] rise within = ([], refl, refl, tt)
 by_rows zero y (c ∷ cells) rise within = absurd (omega (arith, rise.0, within.0))
 by_rows (suc n) y cells rise within =
     let one = first_row y cells rise in
-    let later : AllByRecursion (λ c. (place_of c).top < y + suc n) one.1 = suffix_each (λ c. (place_of c).top < y + suc n) one.0 one.1 (subst (AllByRecursion (λ c. (place_of c).top < y + suc n)) (sym one.2) within) in
+    let later : AllByRecursion (λ c. (place_of c).top < y + suc n) one.1 = suffix_each (λ c. (place_of c).top < y + suc n) one.0 one.1
+    (subst (AllByRecursion (λ c. (place_of c).top < y + suc n)) (sym one.2) within) in
     let same : y + suc n ≡ y + 1 + n = omega arith in
     let rest = by_rows n (y + 1) one.1 one.4 (subst (λ m. AllByRecursion (λ c. (place_of c).top < m) one.1) same later) in (
       one.0 ∷ rest.0,
@@ -151,7 +152,8 @@ by_rows (suc n) y cells rise within =
     suffix_each P [] ys all = all
     suffix_each P (x ∷ xs) ys all = suffix_each P xs ys all.1
 
-rise_from : (y : ℕ) (cells : List TableCell) → AllPairs ComesBefore (map place_of cells) → ((i : ℕ) (d : Place) → i < length cells → y ≤ (get_or (map place_of cells) i d).top) → Rise y cells
+rise_from : (y : ℕ) (cells : List TableCell) → AllPairs ComesBefore (map place_of cells) →
+    ((i : ℕ) (d : Place) → i < length cells → y ≤ (get_or (map place_of cells) i d).top) → Rise y cells
 rise_from y [] pairs low = tt
 rise_from y (c ∷ cells) pairs low = (
   low 0 (place_of c) (omega arith),
@@ -208,16 +210,19 @@ module _ (breaking : Breaking) (forms : TableNode → Table → Type 0) (node : 
               let there : get_or (map place_of cells) k (place_of d) ≡ place_of d = get_or-map place_of cells k d (place_of d) inside ∙ ap place_of at in
               never_before (place_of d) (subst (λ p. ComesBefore p (place_of d)) (ap place_of (is ∙ same)) (subst (ComesBefore (place_of c)) there order))
       first (c ∷ cells) pairs (suc k, within, is) = absurd (
-        let long = length-map cells place_of in
-        let order = pairs 0 (suc k) (place_of cap) (omega arith) (omega arith) in
-        let there : get_or (map place_of cells) k (place_of cap) ≡ place_of cap = get_or-map place_of cells k cap (place_of cap) (omega arith) ∙ ap place_of is in
-        let order' : ComesBefore (place_of c) (record { left = 0; right = table.cols; top = 0; bottom = 1 }) = subst (ComesBefore (place_of c)) (there ∙ place) order in
-        elim order' [
-          | inl lower ↦ omega arith
-          | inr beside ↦ omega (arith, beside.1)
-        ])
+          let long = length-map cells place_of in
+          let order = pairs 0 (suc k) (place_of cap) (omega arith) (omega arith) in
+          let there : get_or (map place_of cells) k (place_of cap) ≡ place_of cap = get_or-map place_of cells k cap (place_of cap) (omega arith)
+          ∙ ap place_of is in
+          let order' : ComesBefore (place_of c) (record { left = 0; right = table.cols; top = 0; bottom = 1 }) = subst (ComesBefore (place_of c))
+          (there ∙ place) order in
+          elim order' [
+            | inl lower ↦ omega arith
+            | inr beside ↦ omega (arith, beside.1)
+          ])
 
-  abbrev pub below_and : (below : List TableCell) × (table.cells ≡ becomes.caption ++ below) × ((c : TableCell) → Contains becomes.caption c → Contains below c → ⊥)
+  abbrev pub below_and : (below : List TableCell) × (table.cells ≡ becomes.caption ++ below) ×
+      ((c : TableCell) → Contains becomes.caption c → Contains below c → ⊥)
   below_and = split_at (out-TableNode node).caption becomes.caption becomes.captioned becomes.same
 
   abbrev pub below : List TableCell
@@ -279,7 +284,8 @@ module _ (breaking : Breaking) (forms : TableNode → Table → Type 0) (node : 
   from_grid q has =
       let low = subst (λ (ps : List Place). Contains ps (lowered down q)) (sym becomes.places) (Contains-map (lowered down) grid.places q has) in
       let at = map-Contains place_of becomes.written (lowered down q) low in
-      let all = Contains-permutation (becomes.caption ++ becomes.written) table.cells at.0 becomes.same (append_right becomes.caption becomes.written at.0 at.1) in
+      let all = Contains-permutation (becomes.caption ++ becomes.written) table.cells at.0 becomes.same
+      (append_right becomes.caption becomes.written at.0 at.1) in
       let cells = subst (λ (cs : List TableCell). Contains cs at.0) cells_split all in
       elim (append_cases becomes.caption below at.0 cells) [
         | inl above ↦ absurd (
