@@ -1,5 +1,6 @@
 -- How the entries of a best-first search go on: a zone that is taken out, and parts that are added.
-use Rattle.std.proofs.Common.{◌≡◌, ℕ, ◌+◌, ◌*◌, ◌<◌, ◌≤◌, List, [], ◌∷◌, ◌++◌, inl, inr, length, get_or, map, Option, Some, None, sym, ◌∙◌, subst, ap, arith, length-append}
+use Rattle.std.proofs.Common.{◌≡◌, ℕ, ◌+◌, ◌*◌, ◌<◌, ◌≤◌, List, [], ◌∷◌, ◌++◌, inl, inr, length, get_or, map, Option, Some, None, sym, ◌∙◌, subst}
+use Rattle.std.proofs.Common.{ap, arith, length-append}
 use Rattle.std.specs.BinaryHeap.{heap_items}
 use Rattle.std.specs.List.{All}
 use Rattle.std.proofs.lemmas.Bool.{cases_lt}
@@ -58,7 +59,8 @@ module _ (problem : ProblemModel) (trace : List CutAt) where
 
   -- ---- a zone is added
 
-  pub added-bounds : (zone : ℕ) (found : Option ℕ) (old new : List Entry) → IsAdded zone found old new → IsBoundFound problem (zone_of problem trace zone) found →
+  pub added-bounds : (zone : ℕ) (found : Option ℕ) (old new : List Entry) → IsAdded zone found old new → IsBoundFound problem
+      (zone_of problem trace zone) found →
       HaveBounds problem trace old → HaveBounds problem trace new
   added-bounds zone None old new same none have = subst (HaveBounds problem trace) (sym same) have
   added-bounds zone (Some bound) old new added is have =

@@ -5,7 +5,8 @@ use Rattle.std.specs.List.{flat_map}
 use Rattle.std.proofs.lemmas.Grind.{flat_map-append}
 use Rattle.std.proofs.lemmas.List.{append-nil}
 use Rattle.tl_base.specs.declared.breaking.Breaking.{Breaking}
-use Rattle.tl_tree.specs.Outline.{Entries, table, caption, columns, group, row, cell, paragraph, table_end, block_outline, cell_outline, group_outline, outline}
+use Rattle.tl_tree.specs.Outline.{Entries, table, caption, columns, group, row, cell, paragraph, table_end, block_outline, cell_outline}
+use Rattle.tl_tree.specs.Outline.{group_outline, outline}
 use Rattle.tl_tree.specs.Sound.{IsNestedBelow, table_count}
 use Rattle.tl_tree.specs.inner.Reading.{caption_outline}
 use Rattle.tl_tree.specs.declared.node.Block.{Block, out-Block}
@@ -100,7 +101,8 @@ alone-cells (node ∷ nodes) =
     ∙ ap (λ (es : Entries). alone (flow_of node) ++ es) (alone-cells nodes)
     ∙ sym (alone-flows (flow_of node) (flat_map flow_of nodes))
 
-pub alone-rows : (rows : List (List CellNode)) → tables_alone (rows_outline rows) ≡ tables_alone (cells_outline (flat_map (λ (cells : List CellNode). cells) rows))
+pub alone-rows : (rows : List (List CellNode)) → tables_alone (rows_outline rows) ≡ tables_alone
+    (cells_outline (flat_map (λ (cells : List CellNode). cells) rows))
 alone-rows [] = refl
 alone-rows (cells ∷ rows) =
     alone-append (row ∷ cells_outline cells) (rows_outline rows)

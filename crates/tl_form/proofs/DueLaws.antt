@@ -1,6 +1,7 @@
 -- Which section is due after some, one at a time; and that the last of all is one of the document's own table on the whole
 -- page.
-use Rattle.std.proofs.Common.{◌≡◌, ◌∙◌, ℕ, zero, suc, ◌+◌, ◌-◌, ◌<◌, ◌≤◌, Bool, true, false, if◌then◌else◌, ◌==◌, List, [], ◌∷◌, ◌++◌, ◌⊎◌, inl, inr, length, get_or, take, Option, None, Some, refl, sym, ap, subst, arith}
+use Rattle.std.proofs.Common.{◌≡◌, ◌∙◌, ℕ, zero, suc, ◌+◌, ◌-◌, ◌<◌, ◌≤◌, Bool, true, false, if◌then◌else◌, ◌==◌, List, [], ◌∷◌, ◌++◌, ◌⊎◌, inl, inr}
+use Rattle.std.proofs.Common.{length, get_or, take, Option, None, Some, refl, sym, ap, subst, arith}
 use Rattle.std.proofs.lemmas.Bool.{cases_eq, eq-eqb, ne_eqb}
 use Rattle.std.proofs.lemmas.List.{take_more}
 use Rattle.tl_cert.specs.declared.section.Section.{Section}
@@ -59,12 +60,14 @@ next_may document number placed next_one from upto is = by_test (number == own_n
     by_test : (test : Bool) → (number == own_number document) ≡ test →
         (if number == own_number document then None else Some (due_in document number (next_width (least_of document number) placed))) ≡ Some next_one →
         MayBeDue document next_one
-    by_test true same found = absurd (none_is (subst (λ (b : Bool). (if b then None else Some (due_in document number (next_width (least_of document number) placed))) ≡ Some next_one) same found))
+    by_test true same found = absurd (none_is (subst (λ (b : Bool). (if b then None else Some
+        (due_in document number (next_width (least_of document number) placed))) ≡ Some next_one) same found))
       where
         none_is : {X : Type 0} {x : X} → None ≡ Some x → ⊥
         none_is equal = cc
     by_test false same found =
-        subst (MayBeDue document) (some_is (subst (λ (b : Bool). (if b then None else Some (due_in document number (next_width (least_of document number) placed))) ≡ Some next_one) same found))
+        subst (MayBeDue document) (some_is (subst (λ (b : Bool). (if b then None else Some
+        (due_in document number (next_width (least_of document number) placed))) ≡ Some next_one) same found))
         (after (next_width (least_of document number) placed) (λ equal. apart equal same))
       where
         some_is : {X : Type 0} {x y : X} → Some x ≡ Some y → x ≡ y

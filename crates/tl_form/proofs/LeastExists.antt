@@ -1,5 +1,6 @@
 -- A sound table that fits a page has a least height on it, and it can be found.
-use Rattle.std.proofs.Common.{◌≡◌, ℕ, zero, suc, ◌+◌, ◌<◌, ◌≤◌, ◌⊎◌, inl, inr, List, [], ◌∷◌, length, replicate, sum, sum_by, refl, sym, ap, subst, ◌∙◌, arith}
+use Rattle.std.proofs.Common.{◌≡◌, ℕ, zero, suc, ◌+◌, ◌<◌, ◌≤◌, ◌⊎◌, inl, inr, List, [], ◌∷◌, length, replicate, sum, sum_by, refl, sym, ap, subst}
+use Rattle.std.proofs.Common.{◌∙◌, arith}
 use Rattle.std.specs.List.{All, AllZip, AllByRecursion, flat_map}
 use Rattle.std.proofs.lemmas.Bool.{cases_lt}
 use Rattle.std.proofs.lemmas.List.{get_or-map, length-map, length-replicate}
@@ -158,7 +159,8 @@ module _ (style : Style) where
       pub held : AllHeld widths heights table.cells
 
     parts-of : (widths heights : List ℕ) (cells : List TableCell) → AllHeld widths heights cells →
-        (parts : List (List Layout)) × AllZip (λ cell inner. FitsRoom Any (room_for widths cell) (lines_for heights cell) (out-TableCell cell) inner) cells parts
+        (parts : List (List Layout)) × AllZip (λ cell inner. FitsRoom Any (room_for widths cell) (lines_for heights cell) (out-TableCell cell) inner)
+        cells parts
     parts-of widths heights [] held = ([], tt)
     parts-of widths heights (cell ∷ cells) held =
         let first = cell-fits (room_for widths cell) held.0.0 (lines_for heights cell) (out-TableCell cell) held.0.1 held.0.2 in

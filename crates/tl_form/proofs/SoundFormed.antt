@@ -1,5 +1,6 @@
 -- What a sound tree becomes is a sound table: no deeper, with as many tables and no greater size than the tree.
-use Rattle.std.proofs.Common.{◌≡◌, ◌∙◌, ℕ, zero, suc, ◌+◌, ◌-◌, ◌≤◌, max, Option, Some, None, List, [], ◌∷◌, ◌++◌, map, sum_by, refl, sym, ap, subst, append_assoc, arith}
+use Rattle.std.proofs.Common.{◌≡◌, ◌∙◌, ℕ, zero, suc, ◌+◌, ◌-◌, ◌≤◌, max, Option, Some, None, List, [], ◌∷◌, ◌++◌, map, sum_by, refl, sym, ap, subst}
+use Rattle.std.proofs.Common.{append_assoc, arith}
 use Rattle.std.specs.List.{All, AllByRecursion, flat_map}
 use Rattle.std.specs.List.Sorted.{IsPermutation}
 use Rattle.std.proofs.lemmas.Grind.{flat_map-append}
@@ -11,7 +12,8 @@ use Rattle.tl_base.specs.declared.breaking.Breaking.{Breaking}
 use Rattle.tl_base.specs.declared.limits.TheConstants.{MAX_DEPTH, MAX_PAGE_WIDTH}
 use Rattle.tl_grid.specs.Dropping.{IsPlaced}
 use Rattle.tl_text.specs.Paragraph.{atom_size}
-use Rattle.tl_tree.specs.Outline.{Entries, table, caption, columns, group, row, cell, paragraph, table_end, block_outline, cell_outline, group_outline, outline}
+use Rattle.tl_tree.specs.Outline.{Entries, table, caption, columns, group, row, cell, paragraph, table_end, block_outline, cell_outline}
+use Rattle.tl_tree.specs.Outline.{group_outline, outline}
 use Rattle.tl_tree.specs.Sound.{AreSound, IsNestedBelow, entry_size}
 use Rattle.tl_tree.specs.Sound.{IsSound as IsSoundTree}
 use Rattle.tl_tree.specs.inner.Reading.{caption_outline}
@@ -36,7 +38,8 @@ use Rattle.tl_form.proofs.SoundParts.{each_joined, append_each}
 use Rattle.tl_form.proofs.Laid.{AreLaid, cells_laid}
 use Rattle.tl_form.proofs.Orders.{apart_moved}
 use Rattle.tl_form.proofs.UnitSizes.{broken_size}
-use Rattle.tl_form.proofs.Blocks.{tables_alone, alone-append, alone-nested, flow_of, captured, blocks_of, alone, alone-table, contents_of, tables_among, tables_of_cells, zip_table}
+use Rattle.tl_form.proofs.Blocks.{tables_alone, alone-append, alone-nested, flow_of, captured, blocks_of, alone, alone-table, contents_of}
+use Rattle.tl_form.proofs.Blocks.{tables_among, tables_of_cells, zip_table}
 use Rattle.std.proofs.Common.{length}
 use Rattle.std.specs.List.{range_with_len}
 use Rattle.tl_form.specs.Refused.{tables_in_block, tables_of as shapes_of}
@@ -192,7 +195,8 @@ contents_deep forms deep breaking (block ∷ flow) (content ∷ contents) become
     ∙ append_assoc (tables_alone (open_outline (out-Block block))) (alone flow) rest in
     let split_numbers = numbered_split k (tables_in_block block) (tables_in_flow flow) are in
     let first = content_deep forms deep breaking (out-Block block) (out-Content content) become.0
-    (subst AreSound (block_outline-out block) sound.0) k (subst (AreNumbered k) (tables_in_block-out block) split_numbers.0) depth more (alone flow ++ rest) (subst (IsNestedBelow (depth + more) depth) split nested) in
+    (subst AreSound (block_outline-out block) sound.0) k (subst (AreNumbered k) (tables_in_block-out block) split_numbers.0) depth more
+    (alone flow ++ rest) (subst (IsNestedBelow (depth + more) depth) split nested) in
     let later = contents_deep forms deep breaking flow contents become.1 sound.1 (k + length (tables_in_block block)) split_numbers.1
     depth more rest first.1 in
     (append_each (IsSoundWithin more) (tables_of (out-Content content)) (tables_among contents) first.0 later.0, later.1)
