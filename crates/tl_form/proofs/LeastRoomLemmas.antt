@@ -67,7 +67,7 @@ AllZip-push R (z ∷ xs) [] x y all one = absurd all
 AllZip-push R (z ∷ xs) (u ∷ ys) x y all one = (all.0, AllZip-push R xs ys x y all.1 one)
 
 -- the shares of the blocks up to the last, and of the last
-AllZip-pushed : {A B : Type 0} (R : A → B → Type 0) (xs : List A) (zs : List B) (x : A) → AllZip R (xs ++ x ∷ []) zs →
+pub AllZip-pushed : {A B : Type 0} (R : A → B → Type 0) (xs : List A) (zs : List B) (x : A) → AllZip R (xs ++ x ∷ []) zs →
     (ys : List B) × (y : B) × AllZip R xs ys × R x y
 AllZip-pushed R [] [] x all = absurd all
 AllZip-pushed R [] (z ∷ []) x all = ([], z, tt, all.0)

@@ -1,6 +1,7 @@
 -- The tables of a sound tree begin in the order of their numbers, so the first without a grid is the first by number.
-use Rattle.std.proofs.Common.{◌≡◌, ◌∙◌, ℕ, zero, suc, ◌+◌, ◌<◌, ◌≤◌, Option, Some, None, List, [], ◌∷◌, ◌++◌, length, refl, sym, ap, subst, append_assoc, arith, length-append}
-use Rattle.std.specs.List.{AllByRecursion, flat_map}
+use Rattle.std.proofs.Common.{◌≡◌, ◌∙◌, ℕ, zero, suc, ◌+◌, ◌<◌, ◌≤◌, Option, Some, None, List, [], ◌∷◌, ◌++◌, length, refl, sym, ap, subst, append_assoc, arith, length-append, sum_by}
+use Rattle.std.proofs.lemmas.List.Sums.{sum_by-cons}
+use Rattle.std.specs.List.{AllByRecursion, flat_map, range_with_len}
 use Rattle.std.proofs.lemmas.Grind.{flat_map-append}
 use Rattle.std.proofs.lemmas.List.{append-nil}
 use Rattle.tl_grid.specs.declared.error.GridError.{GridError}
@@ -16,8 +17,9 @@ use Rattle.tl_form.specs.Refused.{NumberedShape, HasSomeGrid, IsFirstWithoutGrid
 use Rattle.tl_form.specs.inner.Forming.{flow_outline, tables_in_flow, tables_in_caption, tables_in_cells, tables_in_groups}
 use Rattle.tl_form.proofs.TreeParts.{itself, tables_in_open, tables_in_block-out, part_of_cell-out, tables_of-out}
 use Rattle.tl_form.proofs.Gridless.{tables_written}
+use Rattle.tl_form.proofs.NumbersOpen.{is_number, times}
 use Rattle.tl_form.proofs.SoundNodes.{open_outline, block_outline-out}
-use Rattle.tl_form.proofs.SoundFormed.{tables_alone, alone, alone-append, alone-table, alone-count, blocks_of, captured, count-append, flow_of}
+use Rattle.tl_form.proofs.Blocks.{tables_alone, alone, alone-append, alone-table, alone-count, blocks_of, captured, count-append, flow_of}
 
 -- ---- the tables of a tree are those in its blocks, after itself
 
@@ -32,7 +34,7 @@ caption_flow : (flow : Option (List Block)) → tables_in_caption flow ≡ table
 caption_flow None = refl
 caption_flow (Some flow) = refl
 
-tables_of_blocks : (node : TableNode) → tables_of node ≡ itself (out-TableNode node) ∷ tables_in_flow (blocks_of (out-TableNode node))
+pub tables_of_blocks : (node : TableNode) → tables_of node ≡ itself (out-TableNode node) ∷ tables_in_flow (blocks_of (out-TableNode node))
 tables_of_blocks node =
     let o = out-TableNode node in
     tables_of-out node
@@ -43,7 +45,7 @@ tables_of_blocks node =
 -- ---- numbers
 
 -- the tables have the numbers from `k` on
-abbrev AreNumbered : ℕ → List NumberedShape → Type 0
+abbrev pub AreNumbered : ℕ → List NumberedShape → Type 0
 AreNumbered k [] = Unit {0}
 AreNumbered k (one ∷ tables) = (one.number ≡ k) × AreNumbered (k + 1) tables
 
@@ -51,6 +53,74 @@ numbered_append : (k : ℕ) (xs ys : List NumberedShape) → AreNumbered k xs �
 numbered_append k [] ys first second = subst (λ n. AreNumbered n ys) (omega arith) second
 numbered_append k (x ∷ xs) ys first second =
     (first.0, numbered_append (k + 1) xs ys first.1 (subst (λ n. AreNumbered n ys) (omega arith) second))
+
+pub numbered_split : (k : ℕ) (xs ys : List NumberedShape) → AreNumbered k (xs ++ ys) → AreNumbered k xs × AreNumbered (k + length xs) ys
+numbered_split k [] ys are = (tt, subst (λ n. AreNumbered n ys) (omega arith) are)
+numbered_split k (x ∷ xs) ys are =
+    let rest = numbered_split (k + 1) xs ys are.1 in
+    ((are.0, rest.0), subst (λ n. AreNumbered n ys) (omega arith) rest.1)
+
+-- how often a number is that of one of the tables
+abbrev pub times_among : ℕ → List NumberedShape → ℕ
+times_among n tables = sum_by (λ one. is_number n one.number) tables
+
+-- in tables with the numbers from `k` on each of these stands once
+pub times_numbered : (n k : ℕ) (tables : List NumberedShape) → AreNumbered k tables → times_among n tables ≡ times n (range_with_len k (length tables))
+times_numbered n k [] are = refl
+times_numbered n k (one ∷ tables) are = omega (
+  arith,
+  sum_by-cons (λ each. is_number n each.number) one tables,
+  ap (is_number n) are.0,
+  times_numbered n (k + 1) tables are.1,
+  sum_by-cons (is_number n) k (range_with_len (k + 1) (length tables)),
+)
+
+-- ---- there are as many tables as begin
+
+abbrev Long : ℕ → Type 0
+Long n = (node : TableNode) → table_count (outline node) ≤ n → length (tables_of node) ≡ table_count (outline node)
+
+block_long : (n : ℕ) → Long n → (o : OpenBlock) → table_count (open_outline o) ≤ n → length (tables_in_open o) ≡ table_count (open_outline o)
+block_long n each (open_block.Para atoms) few = refl
+block_long n each (open_block.Table node) few = each node.value few
+
+flow_long : (n : ℕ) → Long n → (flow : List Block) → table_count (flow_outline flow) ≤ n → length (tables_in_flow flow) ≡ table_count (flow_outline flow)
+flow_long n each [] few = refl
+flow_long n each (block ∷ flow) few =
+    let counts = count-append (block_outline block) (flow_outline flow) in
+    let own = ap table_count (block_outline-out block) in
+    omega (
+      arith,
+      counts,
+      own,
+      block_long n each (out-Block block) (omega (arith, counts, own)),
+      ap length (tables_in_block-out block),
+      length-append (tables_in_block block) (tables_in_flow flow),
+      flow_long n each flow (omega (arith, counts)),
+    )
+
+counted : (node : TableNode) → table_count (outline node) ≡ table_count (flow_outline (blocks_of (out-TableNode node))) + 1
+counted node = omega (
+  arith,
+  alone-count (outline node),
+  ap table_count (alone-table node),
+  count-append (alone (blocks_of (out-TableNode node))) (table_end ∷ []),
+  alone-count (flow_outline (blocks_of (out-TableNode node))),
+)
+
+long : (n : ℕ) → Long n
+long zero node few = absurd (omega (arith, few, counted node))
+long (suc n) node few = omega (
+  arith,
+  ap length (tables_of_blocks node),
+  counted node,
+  flow_long n (long n) (blocks_of (out-TableNode node)) (omega (arith, few, counted node)),
+)
+
+pub tables_long : (node : TableNode) → length (tables_of node) ≡ table_count (outline node)
+tables_long node = long (table_count (outline node)) node (omega arith)
+
+-- ---- the entries of a sound tree give the numbers
 
 alone-numbered : (k : ℕ) (es : Entries) → IsNumberedFrom k es → IsNumberedFrom k (tables_alone es)
 alone-numbered k [] numbered = tt
@@ -122,7 +192,7 @@ numbered (suc n) node k rest few is =
       subst (λ m. IsNumberedFrom m rest) (omega (arith, ap length same)) inside.1,
     )
 
-tables_numbered : (node : TableNode) → IsSoundTree node → AreNumbered 0 (tables_of node)
+pub tables_numbered : (node : TableNode) → IsSoundTree node → AreNumbered 0 (tables_of node)
 tables_numbered node sound =
     (numbered (table_count (outline node)) node 0 [] (omega arith)
     (subst (IsNumberedFrom 0) (sym (append-nil (tables_alone (outline node)))) (alone-numbered 0 (outline node) sound.numbered))).0

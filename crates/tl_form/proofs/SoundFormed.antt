@@ -4,7 +4,6 @@ use Rattle.std.specs.List.{All, AllByRecursion, flat_map}
 use Rattle.std.specs.List.Sorted.{IsPermutation}
 use Rattle.std.proofs.lemmas.Grind.{flat_map-append}
 use Rattle.std.proofs.lemmas.List.{append-nil}
-use Rattle.std.proofs.lemmas.List.Concat.{flat_map-cons}
 use Rattle.std.proofs.lemmas.List.Elements.{All-from_recursion, recursion_from_All}
 use Rattle.std.proofs.lemmas.List.Sorted.{All-permutation, Contains-permutation, sum_by-IsPermutation, IsPermutation-map}
 use Rattle.std.proofs.lemmas.List.Sums.{sum_by-cons, sum_by-append}
@@ -13,7 +12,7 @@ use Rattle.tl_base.specs.declared.limits.TheConstants.{MAX_DEPTH, MAX_PAGE_WIDTH
 use Rattle.tl_grid.specs.Dropping.{IsPlaced}
 use Rattle.tl_text.specs.Paragraph.{atom_size}
 use Rattle.tl_tree.specs.Outline.{Entries, table, caption, columns, group, row, cell, paragraph, table_end, block_outline, cell_outline, group_outline, outline}
-use Rattle.tl_tree.specs.Sound.{AreSound, IsNestedBelow, table_count, entry_size}
+use Rattle.tl_tree.specs.Sound.{AreSound, IsNestedBelow, entry_size}
 use Rattle.tl_tree.specs.Sound.{IsSound as IsSoundTree}
 use Rattle.tl_tree.specs.inner.Reading.{caption_outline}
 use Rattle.tl_tree.specs.declared.node.Block.{Block, out-Block}
@@ -26,182 +25,27 @@ use Rattle.tl_form.specs.declared.cell.Content.TheOpen as open_content
 use Rattle.tl_form.specs.declared.cell.Table.{Table, out-Table}
 use Rattle.tl_form.specs.declared.cell.TableCell.{TableCell, out-TableCell}
 use Rattle.tl_form.specs.Tables.{OpenTable, OpenContent, tables_of, tables_in}
-use Rattle.tl_form.specs.Formed.{OpenNode, OpenBlock, BecomesContent, BecomeContents, BecomeCells, BecomeCaption, BecomesBy, BecomesWithin, Becomes}
+use Rattle.tl_form.specs.Formed.{OpenBlock, BecomesContent, BecomeContents, BecomeCells, BecomeCaption, BecomesBy, BecomesWithin, Becomes}
 use Rattle.tl_form.specs.Formed.{cells_of_group, cells_written, caption_rows}
-use Rattle.tl_form.specs.Sound.{IsSoundBy, IsSoundWithin, IsSound, place_of, table_size, cell_size, content_size, nested_in_table, nested_in_cell, nested_in_content}
+use Rattle.tl_form.specs.Sound.{IsSoundBy, IsSoundWithin, IsSound, place_of, table_size, cell_size, content_size}
 use Rattle.tl_form.specs.inner.Forming.{flow_outline, cells_outline}
-use Rattle.tl_form.proofs.SizesOpen.{table_size-out, cell_size-out, content_size-out, open_size, nested_in_table-out, nested_in_cell-out, nested_in_content-out, open_tables}
+use Rattle.tl_form.proofs.SizesOpen.{table_size-out, cell_size-out, content_size-out, open_size}
 use Rattle.tl_form.proofs.SoundNodes.{open_outline, rows_outline, groups_outline, block_outline-out, cell_outline-out, group_outline-out, outline-out}
 use Rattle.tl_form.proofs.SoundNodes.{sound_each, cell_flow, group_rows, table_groups, table_caption}
 use Rattle.tl_form.proofs.SoundParts.{each_joined, append_each}
 use Rattle.tl_form.proofs.Laid.{AreLaid, cells_laid}
 use Rattle.tl_form.proofs.Orders.{apart_moved}
 use Rattle.tl_form.proofs.UnitSizes.{broken_size}
-use Rattle.tl_form.proofs.Writing.{joined_zip}
-
--- ---- entries without those that begin and end no table
-
-abbrev pub tables_alone : Entries → Entries
-tables_alone [] = []
-tables_alone (table number ∷ es) = table number ∷ tables_alone es
-tables_alone (table_end ∷ es) = table_end ∷ tables_alone es
-tables_alone (_ ∷ es) = tables_alone es
-
-pub alone-append : (xs ys : Entries) → tables_alone (xs ++ ys) ≡ tables_alone xs ++ tables_alone ys
-alone-append [] ys = refl
-alone-append (table number ∷ xs) ys = ap (λ (es : Entries). table number ∷ es) (alone-append xs ys)
-alone-append (table_end ∷ xs) ys = ap (λ (es : Entries). table_end ∷ es) (alone-append xs ys)
-alone-append (caption ∷ xs) ys = alone-append xs ys
-alone-append (columns n ∷ xs) ys = alone-append xs ys
-alone-append (group part ∷ xs) ys = alone-append xs ys
-alone-append (row ∷ xs) ys = alone-append xs ys
-alone-append (cell head colspan rowspan least ∷ xs) ys = alone-append xs ys
-alone-append (paragraph atoms ∷ xs) ys = alone-append xs ys
-
-alone-nested : (most depth : ℕ) (es : Entries) → IsNestedBelow most depth es → IsNestedBelow most depth (tables_alone es)
-alone-nested most depth [] nested = tt
-alone-nested most depth (table number ∷ es) nested = (nested.0, alone-nested most (depth + 1) es nested.1)
-alone-nested most depth (table_end ∷ es) nested = alone-nested most (depth - 1) es nested
-alone-nested most depth (caption ∷ es) nested = alone-nested most depth es nested
-alone-nested most depth (columns n ∷ es) nested = alone-nested most depth es nested
-alone-nested most depth (group part ∷ es) nested = alone-nested most depth es nested
-alone-nested most depth (row ∷ es) nested = alone-nested most depth es nested
-alone-nested most depth (cell head colspan rowspan least ∷ es) nested = alone-nested most depth es nested
-alone-nested most depth (paragraph atoms ∷ es) nested = alone-nested most depth es nested
-
-pub alone-count : (es : Entries) → table_count (tables_alone es) ≡ table_count es
-alone-count [] = refl
-alone-count (table number ∷ es) = ap (λ n. n + 1) (alone-count es)
-alone-count (table_end ∷ es) = alone-count es
-alone-count (caption ∷ es) = alone-count es
-alone-count (columns n ∷ es) = alone-count es
-alone-count (group part ∷ es) = alone-count es
-alone-count (row ∷ es) = alone-count es
-alone-count (cell head colspan rowspan least ∷ es) = alone-count es
-alone-count (paragraph atoms ∷ es) = alone-count es
-
-pub count-append : (xs ys : Entries) → table_count (xs ++ ys) ≡ table_count xs + table_count ys
-count-append [] ys = omega arith
-count-append (table number ∷ xs) ys = omega (arith, count-append xs ys)
-count-append (table_end ∷ xs) ys = count-append xs ys
-count-append (caption ∷ xs) ys = count-append xs ys
-count-append (columns n ∷ xs) ys = count-append xs ys
-count-append (group part ∷ xs) ys = count-append xs ys
-count-append (row ∷ xs) ys = count-append xs ys
-count-append (cell head colspan rowspan least ∷ xs) ys = count-append xs ys
-count-append (paragraph atoms ∷ xs) ys = count-append xs ys
-
--- ---- the blocks of a table, and those of a tree, in one list
-
-abbrev pub flow_of : CellNode → List Block
-flow_of node = (out-CellNode node).flow
-
-abbrev pub captured : Option (List Block) → List Block
-captured None = []
-captured (Some flow) = flow
-
-abbrev pub blocks_of : OpenNode → List Block
-blocks_of node = captured node.caption ++ flat_map flow_of (cells_written node)
-
-abbrev pub alone : List Block → Entries
-alone flow = tables_alone (flow_outline flow)
-
-alone-flows : (xs ys : List Block) → alone (xs ++ ys) ≡ alone xs ++ alone ys
-alone-flows xs ys = ap tables_alone (flat_map-append block_outline xs ys) ∙ alone-append (flow_outline xs) (flow_outline ys)
-
-alone-cells : (nodes : List CellNode) → tables_alone (cells_outline nodes) ≡ alone (flat_map flow_of nodes)
-alone-cells [] = refl
-alone-cells (node ∷ nodes) =
-    alone-append (cell_outline node) (cells_outline nodes)
-    ∙ ap (λ (es : Entries). es ++ tables_alone (cells_outline nodes)) (ap tables_alone (cell_outline-out node))
-    ∙ ap (λ (es : Entries). alone (flow_of node) ++ es) (alone-cells nodes)
-    ∙ sym (alone-flows (flow_of node) (flat_map flow_of nodes))
-
-alone-rows : (rows : List (List CellNode)) → tables_alone (rows_outline rows) ≡ tables_alone (cells_outline (flat_map (λ (cells : List CellNode). cells) rows))
-alone-rows [] = refl
-alone-rows (cells ∷ rows) =
-    alone-append (row ∷ cells_outline cells) (rows_outline rows)
-    ∙ ap (λ (es : Entries). tables_alone (cells_outline cells) ++ es) (alone-rows rows)
-    ∙ sym (alone-append (cells_outline cells) (cells_outline (flat_map (λ (each : List CellNode). each) rows)))
-    ∙ ap tables_alone (sym (flat_map-append cell_outline cells (flat_map (λ (each : List CellNode). each) rows)))
-
-alone-groups : (groups : List GroupNode) → tables_alone (groups_outline groups) ≡
-    tables_alone (cells_outline (flat_map (λ each. cells_of_group (out-GroupNode each)) groups))
-alone-groups [] = refl
-alone-groups (g ∷ groups) =
-    let own = cells_of_group (out-GroupNode g) in
-    let others = flat_map (λ each. cells_of_group (out-GroupNode each)) groups in
-    alone-append (group_outline g) (groups_outline groups)
-    ∙ ap (λ (es : Entries). es ++ tables_alone (groups_outline groups)) (ap tables_alone (group_outline-out g) ∙ alone-rows (out-GroupNode g).rows)
-    ∙ ap (λ (es : Entries). tables_alone (cells_outline own) ++ es) (alone-groups groups)
-    ∙ sym (alone-append (cells_outline own) (cells_outline others))
-    ∙ ap tables_alone (sym (flat_map-append cell_outline own others))
-
-alone-caption : (caption : Option (List Block)) → tables_alone (caption_outline caption) ≡ alone (captured caption)
-alone-caption None = refl
-alone-caption (Some flow) = refl
-
--- a table begins, then come its blocks, and then it ends
-pub alone-table : (node : TableNode) → tables_alone (outline node) ≡
-    table (out-TableNode node).number ∷ (alone (blocks_of (out-TableNode node)) ++ table_end ∷ [])
-alone-table node =
-    let o = out-TableNode node in
-    let above = caption_outline o.caption in
-    let below = groups_outline o.groups in
-    ap tables_alone (outline-out node)
-    ∙ ap (λ (es : Entries). table o.number ∷ es) (
-    alone-append above (columns o.columns ∷ (below ++ table_end ∷ []))
-    ∙ ap (λ (es : Entries). tables_alone above ++ es) (alone-append below (table_end ∷ []))
-    ∙ ap (λ (es : Entries). es ++ (tables_alone below ++ table_end ∷ [])) (alone-caption o.caption)
-    ∙ ap (λ (es : Entries). alone (captured o.caption) ++ (es ++ table_end ∷ [])) (alone-groups o.groups ∙ alone-cells (cells_written o))
-    ∙ sym (append_assoc (alone (captured o.caption)) (alone (flat_map flow_of (cells_written o))) (table_end ∷ []))
-    ∙ ap (λ (es : Entries). es ++ table_end ∷ []) (sym (alone-flows (captured o.caption) (flat_map flow_of (cells_written o))))
-    )
-
--- ---- the contents of a table, in one list
-
-abbrev contents_of : List TableCell → List Content
-contents_of cells = flat_map (λ one. (out-TableCell one).blocks) cells
-
-abbrev tables_among : List Content → List Table
-tables_among contents = flat_map (λ block. tables_of (out-Content block)) contents
-
-tables_of_cells : (cells : List TableCell) → flat_map (λ one. tables_in (out-TableCell one)) cells ≡ tables_among (contents_of cells)
-tables_of_cells [] = refl
-tables_of_cells (one ∷ cells) =
-    ap (λ (tables : List Table). tables_in (out-TableCell one) ++ tables) (tables_of_cells cells)
-    ∙ sym (flat_map-append (λ block. tables_of (out-Content block)) (out-TableCell one).blocks (contents_of cells))
-
--- ---- blocks and contents that belong together, over all cells
-
-module _ (forms : TableNode → Table → Type 0) (breaking : Breaking) where
-  abbrev one_becomes : Block → Content → Type 0
-  one_becomes block content = BecomesContent forms breaking (out-Block block) (out-Content content)
-
-  zip_cells : (nodes : List CellNode) (cells : List TableCell) → BecomeCells forms breaking nodes cells →
-      BecomeContents forms breaking (flat_map flow_of nodes) (contents_of cells)
-  zip_cells [] [] become = tt
-  zip_cells [] (one ∷ cells) become = absurd become
-  zip_cells (node ∷ nodes) [] become = absurd become
-  zip_cells (node ∷ nodes) (one ∷ cells) become =
-      joined_zip one_becomes (flow_of node) (flat_map flow_of nodes) (out-TableCell one).blocks (contents_of cells) become.0.blocks
-      (zip_cells nodes cells become.1)
-
-  zip_caption : (cols : ℕ) (flow : Option (List Block)) (cells : List TableCell) → BecomeCaption forms breaking cols flow cells →
-      BecomeContents forms breaking (captured flow) (contents_of cells)
-  zip_caption cols None cells become = subst (λ (none : List TableCell). BecomeContents forms breaking [] (contents_of none)) (sym become) tt
-  zip_caption cols (Some flow) [] become = absurd become
-  zip_caption cols (Some flow) (one ∷ cells) become =
-      subst (λ (none : List TableCell). BecomeContents forms breaking flow ((out-TableCell one).blocks ++ contents_of none)) (sym become.1)
-      (subst (λ (blocks : List Content). BecomeContents forms breaking flow blocks) (sym (append-nil (out-TableCell one).blocks)) become.0.blocks)
-
-  -- all blocks of a table
-  zip_table : (node : OpenNode) (made : OpenTable) (becomes : BecomesBy forms breaking node made) →
-      BecomeContents forms breaking (blocks_of node) (contents_of (becomes.caption ++ becomes.written))
-  zip_table node made becomes =
-      subst (BecomeContents forms breaking (blocks_of node)) (sym (flat_map-append (λ one. (out-TableCell one).blocks) becomes.caption becomes.written))
-      (joined_zip one_becomes (captured node.caption) (flat_map flow_of (cells_written node)) (contents_of becomes.caption) (contents_of becomes.written)
-      (zip_caption made.cols node.caption becomes.caption becomes.captioned) (zip_cells (cells_written node) becomes.written becomes.cells))
+use Rattle.tl_form.proofs.Blocks.{tables_alone, alone-append, alone-nested, flow_of, captured, blocks_of, alone, alone-table, contents_of, tables_among, tables_of_cells, zip_table}
+use Rattle.std.proofs.Common.{length}
+use Rattle.std.specs.List.{range_with_len}
+use Rattle.tl_form.specs.Refused.{tables_in_block, tables_of as shapes_of}
+use Rattle.tl_form.specs.Sound.{IsSpelt, numbers_inside, count_inside}
+use Rattle.tl_form.specs.inner.Forming.{tables_in_flow}
+use Rattle.tl_form.proofs.Numbered.{AreNumbered, tables_of_blocks, numbered_split, tables_numbered}
+use Rattle.tl_form.proofs.TreeParts.{tables_in_open, tables_in_block-out}
+use Rattle.tl_form.proofs.SpeltBlocks.{spelt-caption, spelt-cells}
+use Rattle.tl_form.proofs.SoundCounts.{Counts, Numbers, within_counts, within_numbers, level_numbered}
 
 -- ---- depth
 
@@ -272,8 +116,9 @@ sound_blocks_of node sound =
 -- one table, where the tables nested in it are sound
 level_sound : (forms : TableNode → Table → Type 0) (breaking : Breaking) (node : TableNode) (made : OpenTable) (sound : Table → Type 0) →
     AreSound (outline node) → (becomes : BecomesBy forms breaking (out-TableNode node) made) →
-    AllByRecursion sound (tables_among (contents_of (becomes.caption ++ becomes.written))) → IsSoundBy sound made
-level_sound forms breaking node made sound is becomes inner = record {
+    AllByRecursion sound (tables_among (contents_of (becomes.caption ++ becomes.written))) →
+    IsPermutation (numbers_inside made) (range_with_len (made.number + 1) (count_inside made)) → IsSoundBy sound made
+level_sound forms breaking node made sound is becomes inner numbers = record {
   few_columns = omega (arith, laid.few_columns, becomes.cols);
   few_rows = omega (arith, laid.few_rows, becomes.rows);
   placed = subst (λ n. All (IsPlaced n made.rows) (map place_of made.cells)) (sym becomes.cols)
@@ -293,6 +138,13 @@ level_sound forms breaking node made sound is becomes inner = record {
       (narrow_caption forms breaking made.cols (out-TableNode node).caption becomes.caption becomes.captioned)
       (narrow_cells forms breaking (cells_written (out-TableNode node)) becomes.written
       (flat_groups (out-TableNode node).groups (table_groups node is)) becomes.cells)));
+  spelt = All-permutation (λ one. AllByRecursion (λ block. IsSpelt (out-Content block)) (out-TableCell one).blocks) all made.cells becomes.same
+      (All-from_recursion (λ one. AllByRecursion (λ block. IsSpelt (out-Content block)) (out-TableCell one).blocks) all
+      (append_each (λ one. AllByRecursion (λ block. IsSpelt (out-Content block)) (out-TableCell one).blocks) becomes.caption becomes.written
+      (spelt-caption forms breaking node made.cols (out-TableNode node).caption becomes.caption refl is becomes.captioned)
+      (spelt-cells forms breaking (cells_written (out-TableNode node)) becomes.written
+      (flat_groups (out-TableNode node).groups (table_groups node is)) becomes.cells)));
+  numbered = numbers;
   inner = tables_moved sound all made.cells becomes.same inner;
 } where
   all : List TableCell
@@ -312,42 +164,45 @@ level_sound forms breaking node made sound is becomes inner = record {
 
 -- `more` tables may still be open in `depth` of them
 abbrev Deep : (TableNode → Table → Type 0) → Type 0
-Deep forms = (node : TableNode) (made : Table) → forms node made → AreSound (outline node) → (depth more : ℕ) (rest : Entries) →
-    IsNestedBelow (depth + more) depth (tables_alone (outline node) ++ rest) →
+Deep forms = (node : TableNode) (made : Table) → forms node made → AreSound (outline node) → (k : ℕ) → AreNumbered k (shapes_of node) →
+    (depth more : ℕ) (rest : Entries) → IsNestedBelow (depth + more) depth (tables_alone (outline node) ++ rest) →
     IsSoundWithin more made × IsNestedBelow (depth + more) depth rest
 
 content_deep : (forms : TableNode → Table → Type 0) → Deep forms → (breaking : Breaking) (o : OpenBlock) (content : OpenContent) →
-    BecomesContent forms breaking o content → AreSound (open_outline o) → (depth more : ℕ) (rest : Entries) →
+    BecomesContent forms breaking o content → AreSound (open_outline o) → (k : ℕ) → AreNumbered k (tables_in_open o) → (depth more : ℕ) (rest : Entries) →
     IsNestedBelow (depth + more) depth (tables_alone (open_outline o) ++ rest) →
     AllByRecursion (IsSoundWithin more) (tables_of content) × IsNestedBelow (depth + more) depth rest
-content_deep forms deep breaking (open_block.Para atoms) (open_content.Para units) becomes sound depth more rest nested = (tt, nested)
-content_deep forms deep breaking (open_block.Para atoms) (open_content.Table box) becomes sound depth more rest nested = absurd becomes
-content_deep forms deep breaking (open_block.Table node) (open_content.Para units) becomes sound depth more rest nested = absurd becomes
-content_deep forms deep breaking (open_block.Table node) (open_content.Table box) becomes sound depth more rest nested =
-    let found = deep node.value box.value becomes sound depth more rest nested in ((found.0, tt), found.1)
+content_deep forms deep breaking (open_block.Para atoms) (open_content.Para units) becomes sound k are depth more rest nested = (tt, nested)
+content_deep forms deep breaking (open_block.Para atoms) (open_content.Table box) becomes sound k are depth more rest nested = absurd becomes
+content_deep forms deep breaking (open_block.Table node) (open_content.Para units) becomes sound k are depth more rest nested = absurd becomes
+content_deep forms deep breaking (open_block.Table node) (open_content.Table box) becomes sound k are depth more rest nested =
+    let found = deep node.value box.value becomes sound k are depth more rest nested in ((found.0, tt), found.1)
 
 contents_deep : (forms : TableNode → Table → Type 0) → Deep forms → (breaking : Breaking) (flow : List Block) (contents : List Content) →
-    BecomeContents forms breaking flow contents → AllByRecursion (λ block. AreSound (block_outline block)) flow → (depth more : ℕ) (rest : Entries) →
-    IsNestedBelow (depth + more) depth (alone flow ++ rest) →
+    BecomeContents forms breaking flow contents → AllByRecursion (λ block. AreSound (block_outline block)) flow →
+    (k : ℕ) → AreNumbered k (tables_in_flow flow) → (depth more : ℕ) (rest : Entries) → IsNestedBelow (depth + more) depth (alone flow ++ rest) →
     AllByRecursion (IsSoundWithin more) (tables_among contents) × IsNestedBelow (depth + more) depth rest
-contents_deep forms deep breaking [] [] become sound depth more rest nested = (tt, nested)
-contents_deep forms deep breaking [] (content ∷ contents) become sound depth more rest nested = absurd become
-contents_deep forms deep breaking (block ∷ flow) [] become sound depth more rest nested = absurd become
-contents_deep forms deep breaking (block ∷ flow) (content ∷ contents) become sound depth more rest nested =
+contents_deep forms deep breaking [] [] become sound k are depth more rest nested = (tt, nested)
+contents_deep forms deep breaking [] (content ∷ contents) become sound k are depth more rest nested = absurd become
+contents_deep forms deep breaking (block ∷ flow) [] become sound k are depth more rest nested = absurd become
+contents_deep forms deep breaking (block ∷ flow) (content ∷ contents) become sound k are depth more rest nested =
     let split : alone (block ∷ flow) ++ rest ≡ tables_alone (open_outline (out-Block block)) ++ (alone flow ++ rest) =
     ap (λ (es : Entries). es ++ rest) (alone-append (block_outline block) (flow_outline flow)
     ∙ ap (λ (es : Entries). tables_alone es ++ alone flow) (block_outline-out block))
     ∙ append_assoc (tables_alone (open_outline (out-Block block))) (alone flow) rest in
+    let split_numbers = numbered_split k (tables_in_block block) (tables_in_flow flow) are in
     let first = content_deep forms deep breaking (out-Block block) (out-Content content) become.0
-    (subst AreSound (block_outline-out block) sound.0) depth more (alone flow ++ rest) (subst (IsNestedBelow (depth + more) depth) split nested) in
-    let later = contents_deep forms deep breaking flow contents become.1 sound.1 depth more rest first.1 in
+    (subst AreSound (block_outline-out block) sound.0) k (subst (AreNumbered k) (tables_in_block-out block) split_numbers.0) depth more (alone flow ++ rest) (subst (IsNestedBelow (depth + more) depth) split nested) in
+    let later = contents_deep forms deep breaking flow contents become.1 sound.1 (k + length (tables_in_block block)) split_numbers.1
+    depth more rest first.1 in
     (append_each (IsSoundWithin more) (tables_of (out-Content content)) (tables_among contents) first.0 later.0, later.1)
 
-table_deep : (forms : TableNode → Table → Type 0) → Deep forms → (breaking : Breaking) (node : TableNode) (made : Table) →
-    BecomesBy forms breaking (out-TableNode node) (out-Table made) → AreSound (outline node) → (depth more : ℕ) (rest : Entries) →
-    IsNestedBelow (depth + more) depth (tables_alone (outline node) ++ rest) →
+table_deep : (forms : TableNode → Table → Type 0) → Counts forms → Numbers forms → Deep forms → (breaking : Breaking) (node : TableNode) (made : Table) →
+    BecomesBy forms breaking (out-TableNode node) (out-Table made) → AreSound (outline node) →
+    (k : ℕ) → AreNumbered k (shapes_of node) → (depth more : ℕ) (rest : Entries) → IsNestedBelow (depth + more) depth (tables_alone (outline node) ++ rest) →
     IsSoundWithin more made × IsNestedBelow (depth + more) depth rest
-table_deep forms deep breaking node made becomes sound depth more rest nested = by_more more (subst (IsNestedBelow (depth + more) depth) opened nested)
+table_deep forms counts numbers deep breaking node made becomes sound k are depth more rest nested =
+    by_more more (subst (IsNestedBelow (depth + more) depth) opened nested)
   where
     blocks : List Block
     blocks = blocks_of (out-TableNode node)
@@ -362,81 +217,19 @@ table_deep forms deep breaking node made becomes sound depth more rest nested = 
     by_more (suc more) opened =
         let same : depth + suc more ≡ (depth + 1) + more = omega arith in
         let inside = contents_deep forms deep breaking blocks (contents_of (becomes.caption ++ becomes.written))
-        (zip_table forms breaking (out-TableNode node) (out-Table made) becomes) (sound_blocks_of node sound) (depth + 1) more (table_end ∷ rest)
+        (zip_table forms breaking (out-TableNode node) (out-Table made) becomes) (sound_blocks_of node sound)
+        (k + 1) (subst (AreNumbered k) (tables_of_blocks node) are).1 (depth + 1) more (table_end ∷ rest)
         (subst (λ most. IsNestedBelow most (depth + 1) (alone blocks ++ table_end ∷ rest)) same opened.1) in
         let back : depth + 1 - 1 ≡ depth = omega arith in (
-          level_sound forms breaking node (out-Table made) (IsSoundWithin more) sound becomes inside.0,
+          level_sound forms breaking node (out-Table made) (IsSoundWithin more) sound becomes inside.0
+              (level_numbered forms counts numbers breaking node made becomes k are),
           subst (λ most. IsNestedBelow most depth rest) (sym same) (subst (λ at. IsNestedBelow ((depth + 1) + more) at rest) back inside.1),
         )
 
 within_deep : (most : ℕ) (breaking : Breaking) → Deep (BecomesWithin most breaking)
 within_deep zero breaking node made becomes = absurd becomes
 within_deep (suc most) breaking node made becomes =
-    table_deep (BecomesWithin most breaking) (within_deep most breaking) breaking node made becomes
-
--- ---- how many tables
-
-abbrev Counts : (TableNode → Table → Type 0) → Type 0
-Counts forms = (node : TableNode) (made : Table) → forms node made → nested_in_table made + 1 ≡ table_count (outline node)
-
-sum_flat : {X Y : Type 0} (f : Y → ℕ) (g : X → List Y) (xs : List X) → sum_by f (flat_map g xs) ≡ sum_by (λ x. sum_by f (g x)) xs
-sum_flat f g [] = refl
-sum_flat f g (x ∷ xs) = omega (
-  arith,
-  ap (sum_by f) (flat_map-cons g x xs),
-  sum_by-append f (g x) (flat_map g xs),
-  sum_by-cons (λ y. sum_by f (g y)) x xs,
-  sum_flat f g xs,
-)
-
-sum_same : {X : Type 0} (f g : X → ℕ) → ((x : X) → f x ≡ g x) → (xs : List X) → sum_by f xs ≡ sum_by g xs
-sum_same f g same [] = refl
-sum_same f g same (x ∷ xs) = omega (arith, sum_by-cons f x xs, sum_by-cons g x xs, same x, sum_same f g same xs)
-
-content_counts : (forms : TableNode → Table → Type 0) → Counts forms → (breaking : Breaking) (o : OpenBlock) (content : OpenContent) →
-    BecomesContent forms breaking o content → open_tables content ≡ table_count (open_outline o)
-content_counts forms counts breaking (open_block.Para atoms) (open_content.Para units) becomes = refl
-content_counts forms counts breaking (open_block.Para atoms) (open_content.Table box) becomes = absurd becomes
-content_counts forms counts breaking (open_block.Table node) (open_content.Para units) becomes = absurd becomes
-content_counts forms counts breaking (open_block.Table node) (open_content.Table box) becomes = omega (arith, counts node.value box.value becomes)
-
-contents_count : (forms : TableNode → Table → Type 0) → Counts forms → (breaking : Breaking) (flow : List Block) (contents : List Content) →
-    BecomeContents forms breaking flow contents → sum_by nested_in_content contents ≡ table_count (flow_outline flow)
-contents_count forms counts breaking [] [] become = refl
-contents_count forms counts breaking [] (content ∷ contents) become = absurd become
-contents_count forms counts breaking (block ∷ flow) [] become = absurd become
-contents_count forms counts breaking (block ∷ flow) (content ∷ contents) become = omega (
-  arith,
-  sum_by-cons nested_in_content content contents,
-  nested_in_content-out content,
-  content_counts forms counts breaking (out-Block block) (out-Content content) become.0,
-  ap table_count (block_outline-out block),
-  count-append (block_outline block) (flow_outline flow),
-  contents_count forms counts breaking flow contents become.1,
-)
-
-table_counts : (forms : TableNode → Table → Type 0) → Counts forms → (breaking : Breaking) (node : TableNode) (made : Table) →
-    BecomesBy forms breaking (out-TableNode node) (out-Table made) → nested_in_table made + 1 ≡ table_count (outline node)
-table_counts forms counts breaking node made becomes =
-    let all = becomes.caption ++ becomes.written in
-    let blocks = blocks_of (out-TableNode node) in
-    omega (
-      arith,
-      nested_in_table-out made,
-      sum_by-IsPermutation nested_in_cell all (out-Table made).cells becomes.same,
-      sum_same nested_in_cell (λ one. sum_by nested_in_content (out-TableCell one).blocks) nested_in_cell-out all,
-      sum_flat nested_in_content (λ one. (out-TableCell one).blocks) all,
-      contents_count forms counts breaking blocks (contents_of all) (zip_table forms breaking (out-TableNode node) (out-Table made) becomes),
-      alone-count (flow_outline blocks),
-      alone-count (outline node),
-      ap table_count (alone-table node),
-      count-append (alone blocks) (table_end ∷ []),
-    )
-
-within_counts : (depth : ℕ) (breaking : Breaking) → Counts (BecomesWithin depth breaking)
-within_counts zero breaking node made becomes = absurd becomes
-within_counts (suc depth) breaking node made becomes =
-    table_counts (BecomesWithin depth breaking) (within_counts depth breaking) breaking node made becomes
+    table_deep (BecomesWithin most breaking) (within_counts most breaking) (within_numbers most breaking) (within_deep most breaking) breaking node made becomes
 
 -- ---- how much
 
@@ -558,12 +351,23 @@ within_small (suc depth) breaking node made becomes =
 
 -- ---- the whole
 
+within_number : (depth : ℕ) (breaking : Breaking) (node : TableNode) (made : Table) → BecomesWithin depth breaking node made →
+    (out-Table made).number ≡ (out-TableNode node).number
+within_number zero breaking node made becomes = absurd becomes
+within_number (suc depth) breaking node made becomes = becomes.number
+
 pub becomes_sound : (breaking : Breaking) (node : TableNode) (made : Table) → IsSoundTree node → Becomes breaking node made → IsSound made
 becomes_sound breaking node made tree becomes = record {
   depth = MAX_DEPTH;
   shallow = omega arith;
-  sound = (within_deep becomes.0 breaking node made becomes.1 tree.sound 0 MAX_DEPTH []
+  sound = (within_deep becomes.0 breaking node made becomes.1 tree.sound 0 (tables_numbered node tree) 0 MAX_DEPTH []
       (subst (IsNestedBelow MAX_DEPTH 0) (sym (append-nil (tables_alone (outline node)))) (alone-nested MAX_DEPTH 0 (outline node) tree.shallow))).0;
-  few_tables = omega (arith, within_counts becomes.0 breaking node made becomes.1, tree.few_tables);
+  few_tables = omega (
+    arith,
+    within_counts becomes.0 breaking node made becomes.1,
+    tree.few_tables,
+    within_number becomes.0 breaking node made becomes.1,
+    (subst (AreNumbered 0) (tables_of_blocks node) (tables_numbered node tree)).0,
+  );
   size = omega (arith, within_small becomes.0 breaking node made becomes.1, tree.sound.size);
 }

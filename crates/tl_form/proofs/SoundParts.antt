@@ -1,5 +1,5 @@
 -- The tables nested in a sound table are sound.
-use Rattle.std.proofs.Common.{◌≡◌, ℕ, zero, suc, ◌<◌, ◌≤◌, List, [], ◌∷◌, ◌++◌, length, get_or, sum_by, sym, subst, arith}
+use Rattle.std.proofs.Common.{◌≡◌, ℕ, zero, suc, ◌+◌, ◌<◌, ◌≤◌, List, [], ◌∷◌, ◌++◌, length, get_or, sum_by, sym, subst, arith}
 use Rattle.std.specs.List.{AllByRecursion, All, flat_map}
 use Rattle.std.proofs.lemmas.List.Concat.{flat_map-cons}
 use Rattle.std.proofs.lemmas.List.Sums.{sum_by-cons}
@@ -10,9 +10,10 @@ use Rattle.tl_form.specs.declared.cell.Content.TheOpen as open_content
 use Rattle.tl_form.specs.declared.cell.Table.{Table, out-Table}
 use Rattle.tl_form.specs.declared.cell.TableCell.{TableCell, out-TableCell}
 use Rattle.tl_form.specs.Tables.{OpenContent, tables_of, tables_in, inner_tables}
-use Rattle.tl_form.specs.Sound.{IsSoundWithin, IsSound, table_size, cell_size, content_size, nested_in_table, nested_in_cell, nested_in_content}
+use Rattle.tl_form.specs.Sound.{IsSoundWithin, IsSound, table_size, cell_size, content_size, nested_in_table}
 use Rattle.tl_form.specs.inner.LeastRooms.{IsSoundBlock, IsSoundCell}
-use Rattle.tl_form.proofs.SizesOpen.{table_size-out, cell_size-out, content_size-out, open_size, nested_in_table-out, nested_in_cell-out, nested_in_content-out, open_tables}
+use Rattle.tl_form.proofs.InnerNumbers.{last_inner}
+use Rattle.tl_form.proofs.SizesOpen.{table_size-out, cell_size-out, content_size-out, open_size}
 
 -- ---- what holds of each of some lists joined
 
@@ -26,11 +27,11 @@ each_joined P f (x ∷ xs) all = let both = each_split P (f x) (flat_map f xs) (
     each_split P [] zs all = (tt, all)
     each_split P (y ∷ ys) zs all = let rest = each_split P ys zs all.1 in ((all.0, rest.0), rest.1)
 
-weaker_each : {X : Type 0} (P Q : X → Type 0) (xs : List X) → ((x : X) → P x → Q x) → AllByRecursion P xs → AllByRecursion Q xs
+pub weaker_each : {X : Type 0} (P Q : X → Type 0) (xs : List X) → ((x : X) → P x → Q x) → AllByRecursion P xs → AllByRecursion Q xs
 weaker_each P Q [] weaker all = tt
 weaker_each P Q (x ∷ xs) weaker all = (weaker x all.0, weaker_each P Q xs weaker all.1)
 
-both_each : {X : Type 0} (P Q : X → Type 0) (xs : List X) → AllByRecursion P xs → AllByRecursion Q xs → AllByRecursion (λ x. P x × Q x) xs
+pub both_each : {X : Type 0} (P Q : X → Type 0) (xs : List X) → AllByRecursion P xs → AllByRecursion Q xs → AllByRecursion (λ x. P x × Q x) xs
 both_each P Q [] one other = tt
 both_each P Q (x ∷ xs) one other = ((one.0, other.0), both_each P Q xs one.1 other.1)
 
@@ -51,7 +52,7 @@ small_joined measure f size (x ∷ xs) each =
     (weaker_each (λ table. measure table ≤ sum_by size xs) (λ table. measure table ≤ sum_by size (x ∷ xs)) (flat_map f xs)
     (λ table small. omega arith) (small_joined measure f size xs each)))
 
--- ---- a nested table holds no more than the table, and has no more tables inside
+-- ---- a nested table holds no more than the table
 
 small_in_block : (block : OpenContent) → AllByRecursion (λ table. table_size table ≤ open_size block) (tables_of block)
 small_in_block (open_content.Para paragraph) = tt
@@ -69,32 +70,19 @@ small_in_table : (table : Table) → AllByRecursion (λ inner. table_size inner 
 small_in_table table = subst (λ n. AllByRecursion (λ inner. table_size inner ≤ n) (inner_tables (out-Table table))) (sym (table_size-out table))
     (small_joined table_size (λ cell. tables_in (out-TableCell cell)) cell_size (out-Table table).cells small_in_cell)
 
-few_in_block : (block : OpenContent) → AllByRecursion (λ table. nested_in_table table ≤ open_tables block) (tables_of block)
-few_in_block (open_content.Para paragraph) = tt
-few_in_block (open_content.Table box) = (omega arith, tt)
-
-few_in_cell : (cell : TableCell) → AllByRecursion (λ table. nested_in_table table ≤ nested_in_cell cell) (tables_in (out-TableCell cell))
-few_in_cell cell = subst (λ n. AllByRecursion (λ table. nested_in_table table ≤ n) (tables_in (out-TableCell cell))) (sym (nested_in_cell-out cell))
-    (small_joined nested_in_table (λ block. tables_of (out-Content block)) nested_in_content (out-TableCell cell).blocks
-    (λ block. subst (λ n. AllByRecursion (λ table. nested_in_table table ≤ n) (tables_of (out-Content block)))
-    (sym (nested_in_content-out block)) (few_in_block (out-Content block))))
-
-few_in_table : (table : Table) → AllByRecursion (λ inner. nested_in_table inner ≤ nested_in_table table) (inner_tables (out-Table table))
-few_in_table table = subst (λ n. AllByRecursion (λ inner. nested_in_table inner ≤ n) (inner_tables (out-Table table)))
-    (sym (nested_in_table-out table))
-    (small_joined nested_in_table (λ cell. tables_in (out-TableCell cell)) nested_in_cell (out-Table table).cells few_in_cell)
-
-sound_inner : (table : Table) (depth : ℕ) → depth ≤ MAX_DEPTH → IsSoundWithin depth table → nested_in_table table < MAX_TABLES →
+pub sound_inner : (table : Table) (depth : ℕ) → depth ≤ MAX_DEPTH → IsSoundWithin depth table →
+    (out-Table table).number + nested_in_table table < MAX_TABLES →
     table_size table ≤ MAX_FILE_BYTES → AllByRecursion IsSound (inner_tables (out-Table table))
 sound_inner table zero shallow sound few size = absurd sound
 sound_inner table (suc depth) shallow sound few size =
-    weaker_each (λ inner. IsSoundWithin depth inner × ((table_size inner ≤ table_size table) × (nested_in_table inner ≤ nested_in_table table)))
+    weaker_each (λ inner. IsSoundWithin depth inner × ((table_size inner ≤ table_size table) × ((out-Table inner).number + nested_in_table inner ≤ (out-Table table).number + nested_in_table table)))
     IsSound (inner_tables (out-Table table))
     (λ inner all. record { depth = depth; shallow = omega arith; sound = all.0; few_tables = omega (arith, all.1.1); size = omega (arith, all.1.0) })
-    (both_each (IsSoundWithin depth) (λ inner. (table_size inner ≤ table_size table) × (nested_in_table inner ≤ nested_in_table table))
+    (both_each (IsSoundWithin depth) (λ inner. (table_size inner ≤ table_size table) × ((out-Table inner).number + nested_in_table inner ≤ (out-Table table).number + nested_in_table table))
     (inner_tables (out-Table table)) sound.inner
-    (both_each (λ inner. table_size inner ≤ table_size table) (λ inner. nested_in_table inner ≤ nested_in_table table)
-    (inner_tables (out-Table table)) (small_in_table table) (few_in_table table)))
+    (both_each (λ inner. table_size inner ≤ table_size table)
+    (λ inner. (out-Table inner).number + nested_in_table inner ≤ (out-Table table).number + nested_in_table table)
+    (inner_tables (out-Table table)) (small_in_table table) (last_inner depth table sound)))
 
 narrow_of : (table : Table) (depth : ℕ) → IsSoundWithin depth table →
     All (λ cell. (out-TableCell cell).least ≤ MAX_PAGE_WIDTH) (out-Table table).cells

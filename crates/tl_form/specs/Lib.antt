@@ -6,6 +6,15 @@ pub mod Sound
 pub mod Formed
 pub mod Refused
 pub mod Same
+pub mod Problems
+pub mod ProblemLaws
+pub mod SoundProblems
+pub mod Expected
+pub mod Nested
+pub mod Valid
+pub mod Refusals
+pub mod Named
+pub mod ValidLaws
 pub mod Spells
 pub mod Laws
 pub mod inner

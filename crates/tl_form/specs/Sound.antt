@@ -1,17 +1,18 @@
 -- When a table is sound: what `table` gives, and what every call that takes a table may count on. Its grid is one of
 -- the HTML Standard's, "Forming a table", in which no two cells share a slot.
-use Rattle.std.specs.Prelude.{◌≡◌, ℕ, zero, suc, ◌+◌, ◌<◌, ◌≤◌, ◌⊎◌, List, map, sum_by}
-use Rattle.std.specs.List.{All, AllPairs, AllByRecursion}
+use Rattle.std.specs.Prelude.{◌≡◌, ℕ, zero, suc, ◌+◌, ◌<◌, ◌≤◌, ◌⊎◌, List, [], ◌∷◌, map, sum_by}
+use Rattle.std.specs.List.{All, AllPairs, AllByRecursion, flat_map, range_with_len}
+use Rattle.std.specs.List.Sorted.{IsPermutation}
 use Rattle.tl_base.specs.declared.limits.TheConstants.{MAX_COLUMNS, MAX_DEPTH, MAX_FILE_BYTES, MAX_PAGE_WIDTH, MAX_ROWS, MAX_TABLES}
 use Rattle.tl_grid.specs.declared.shape.Place.{Place}
 use Rattle.tl_grid.specs.Dropping.{IsPlaced}
 use Rattle.tl_grid.specs.Slots.{AreApart, HasAnchorInColumn, HasAnchorInRow}
-use Rattle.tl_text.specs.Paragraph.{atom_size}
+use Rattle.tl_text.specs.Paragraph.{IsParagraph, atom_size}
 use Rattle.tl_form.specs.declared.cell.Content.TheOpen as open_content
 use Rattle.tl_form.specs.declared.cell.Table.{Table, out-Table, fold-Table}
 use Rattle.tl_form.specs.declared.cell.TableCell.{TableCell, out-TableCell, fold-TableCell}
-use Rattle.tl_form.specs.declared.cell.Content.{Content, fold-Content}
-use Rattle.tl_form.specs.Tables.{OpenTable, inner_tables}
+use Rattle.tl_form.specs.declared.cell.Content.{Content, fold-Content, out-Content}
+use Rattle.tl_form.specs.Tables.{OpenContent, OpenTable, inner_tables}
 
 -- ---- how much a table holds, by a fold over it
 
@@ -61,6 +62,37 @@ nested_in_cell = fold-TableCell ℕ ℕ ℕ content_tables table_tables cell_tab
 abbrev pub nested_in_content : Content → ℕ
 nested_in_content = fold-Content ℕ ℕ ℕ content_tables table_tables cell_tables
 
+-- ---- the numbers of the tables that a table has inside, by a fold over it
+
+-- a nested table has its own number and those of the tables inside it
+abbrev pub content_numbers : open_content.Content-F (List ℕ) (List ℕ) (List ℕ) → List ℕ
+content_numbers (open_content.Para paragraph) = []
+content_numbers (open_content.Table box) = box.value
+
+abbrev pub cell_numbers : open_content.TableCell-F (List ℕ) (List ℕ) (List ℕ) → List ℕ
+cell_numbers cell = flat_map (λ block. block) cell.blocks
+
+abbrev pub table_numbers : open_content.Table-F (List ℕ) (List ℕ) (List ℕ) → List ℕ
+table_numbers table = table.number ∷ flat_map (λ cell. cell) table.cells
+
+-- the number of a table and of those inside it, and of those inside a cell and a block, at all depths
+abbrev pub numbers_of_table : Table → List ℕ
+numbers_of_table = fold-Table (List ℕ) (List ℕ) (List ℕ) content_numbers table_numbers cell_numbers
+
+abbrev pub numbers_in_cell : TableCell → List ℕ
+numbers_in_cell = fold-TableCell (List ℕ) (List ℕ) (List ℕ) content_numbers table_numbers cell_numbers
+
+abbrev pub numbers_in_content : Content → List ℕ
+numbers_in_content = fold-Content (List ℕ) (List ℕ) (List ℕ) content_numbers table_numbers cell_numbers
+
+-- the numbers of the tables inside a table, in the order of its cells and their blocks
+abbrev pub numbers_inside : OpenTable → List ℕ
+numbers_inside table = flat_map numbers_in_cell table.cells
+
+-- how many tables are inside
+abbrev pub count_inside : OpenTable → ℕ
+count_inside table = sum_by nested_in_cell table.cells
+
 -- ---- soundness
 
 -- where the cell lies
@@ -75,6 +107,11 @@ places_of table = map place_of table.cells
 abbrev pub ComesBefore : Place → Place → Type 0
 ComesBefore first second = (first.top < second.top) ⊎ ((first.top ≡ second.top) × (first.left < second.left))
 
+-- a block that is a paragraph has units or breaks, each unit with its text
+abbrev pub IsSpelt : OpenContent → Type 0
+IsSpelt (open_content.Para paragraph) = IsParagraph paragraph
+IsSpelt (open_content.Table box) = Unit {0}
+
 -- a table whose grid is sound; `sound` says the same of the tables nested directly in it
 pub record IsSoundBy (sound : Table → Type 0) (table : OpenTable) : Type 0 where
   pub few_columns : table.cols ≤ MAX_COLUMNS
@@ -86,6 +123,9 @@ pub record IsSoundBy (sound : Table → Type 0) (table : OpenTable) : Type 0 whe
   pub columns : (column : ℕ) → column < table.cols → HasAnchorInColumn (places_of table) column
   pub rows : (row : ℕ) → row < table.rows → HasAnchorInRow (places_of table) row
   pub narrow : All (λ cell. (out-TableCell cell).least ≤ MAX_PAGE_WIDTH) table.cells
+  pub spelt : All (λ cell. AllByRecursion (λ block. IsSpelt (out-Content block)) (out-TableCell cell).blocks) table.cells
+  -- the tables inside have the numbers that follow the table's own, in some order, as footers move
+  pub numbered : IsPermutation (numbers_inside table) (range_with_len (table.number + 1) (count_inside table))
   pub inner : AllByRecursion sound (inner_tables table)
 
 -- the same of a table with fewer than `depth` tables inside one another
@@ -98,5 +138,6 @@ pub record IsSound (table : Table) : Type 0 where
   pub depth : ℕ
   pub shallow : depth ≤ MAX_DEPTH
   pub sound : IsSoundWithin depth table
-  pub few_tables : nested_in_table table < MAX_TABLES
+  -- the greatest number inside
+  pub few_tables : (out-Table table).number + nested_in_table table < MAX_TABLES
   pub size : table_size table ≤ MAX_FILE_BYTES

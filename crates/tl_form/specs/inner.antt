@@ -3,3 +3,5 @@ pub mod Demands
 pub mod LeastRooms
 pub mod Links
 pub mod Forming
+pub mod CellSteps
+pub mod Collecting

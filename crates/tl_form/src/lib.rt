@@ -6,14 +6,20 @@
 #![tactic(auto)]
 
 mod cell;
+mod cell_steps;
 mod count;
 mod error;
 mod forming;
+mod heights;
 mod laws;
 mod layout;
 mod narrow;
+mod nested_steps;
 mod paragraph;
+mod problem_laws;
+mod problems;
 mod shape;
+mod valid_laws;
 mod widest;
 mod width;
 
@@ -21,12 +27,23 @@ pub use cell::{Content, Kind, Table, TableCell};
 pub use count::nested;
 pub use error::FormError;
 pub use forming::table;
+pub use heights::InnerSteps;
 pub use laws::{
     file_spells_one_table, no_page_is_narrower_than_a_chain,
     the_first_without_a_grid_has_the_least_number,
 };
 pub use layout::Layout;
 pub use narrow::narrow_chain;
+pub use nested_steps::inner_steps;
+pub use problem_laws::{
+    layouts_are_by_low, layouts_by_high_fit, problem_is_determined, true_steps_lie_between,
+    true_where_bounds_meet,
+};
+pub use problems::{has_sound_problem, problem};
+pub use valid_laws::{
+    bounded_is_between, each_number_is_of_one_table, lowest_is_least, narrow_is_too_wide,
+    refused_for_one_reason, valid_is_not_refused,
+};
 pub use width::least_width;
 
 #[cfg(test)]

@@ -10,7 +10,7 @@ ghost use Rattle.tl_diff.specs.Paths.{IsHeaviest, IsPath, InOrder, LeadForward, 
 
 use std::alloc::{AllocError, Global};
 use tl_base::{List, MAX_COLUMNS, Style};
-use tl_diff::{Arc, chain, heaviest};
+use tl_diff::{Arc, MAX_PATH_WEIGHT, chain, heaviest};
 
 /// What a cell asks of the columns that it covers: a room of at least `width`, their gaps counted.
 #[derive(Clone, Copy)]
@@ -55,7 +55,7 @@ fn numbered_arcs(
     gap: u32,
 ) -> Result<Vec<NumberedArc>, AllocError>
     requires placed { All (IsPlacedDemand MAX_COLUMNS) demands.now }
-    requires few { length demands.now < 2 ^ 31 }
+    requires few { length demands.now < 2 ^ 32 }
     requires gap { gap ≤ 2 }
     ensures arcs { IfOk result (λ arcs. HaveArcs gap demands.now (length demands.now) arcs.items) }
     ensures total { IfOk result (λ arcs.
@@ -107,7 +107,7 @@ fn numbers_along(alloc: Global, path: &[u32], arcs: &[NumberedArc]) -> Result<Li
 
 /// The number of the first demand that begins in the last column.
 fn in_last_column(demands: &[Demand], cols: u32) -> u32
-    requires few { length demands.now < 2 ^ 31 }
+    requires few { length demands.now < 2 ^ 32 }
     requires placed { All (IsPlacedDemand MAX_COLUMNS) demands.now }
     requires there { Any (λ demand. demand.left + 1 ≡ cols) demands.now }
     ensures { IsSomeAnd (slice_get demands.now result) (λ demand. demand.left + 1 ≡ cols) }
@@ -129,8 +129,8 @@ fn heaviest_path(
 ) -> Result<(List<u32>, u32), AllocError>
     requires forward { LeadForward cols arcs.now }
     requires in_order { InOrder arcs.now }
-    requires light { total_weight arcs.now ≤ 2 ^ 30 }
-    requires few { length arcs.now < 2 ^ 31 }
+    requires light { total_weight arcs.now ≤ MAX_PATH_WEIGHT }
+    requires few { length arcs.now < 2 ^ 32 }
     requires room { length out.old ≡ cols + 1 }
     ensures each { (k : ℕ) → k ≤ cols → IsHeaviest arcs.now k (slice_index out.new k) }
     ensures path { IfOk result (λ found. IsPath arcs.now 0 found.0 cols) }
@@ -150,7 +150,7 @@ fn arcs_in_order(
     gap: u32,
 ) -> Result<Vec<NumberedArc>, AllocError>
     requires placed { All (IsPlacedDemand MAX_COLUMNS) demands.now }
-    requires few { length demands.now < 2 ^ 31 }
+    requires few { length demands.now < 2 ^ 32 }
     requires gap { gap ≤ 2 }
     ensures arcs { IfOk result (λ arcs. HaveArcs gap demands.now (length demands.now) arcs.items) }
     ensures sorted { IfOk result (λ arcs. IsNonDecreasingBy (λ one. one.arc.from) arcs.items) }
@@ -177,7 +177,7 @@ fn chain_by_arcs(
     requires arcs { HaveArcs (gap_of style) demands.now (length demands.now) arcs.now }
     requires sorted { IsNonDecreasingBy (λ one. one.arc.from) arcs.now }
     requires light { sum_by (λ one. one.arc.weight) arcs.now ≤ sum_by (λ demand. demand.width) demands.now }
-    requires few { length arcs.now < 2 ^ 31 }
+    requires few { length arcs.now < 2 ^ 32 }
     requires plain { plain.now ≡ map (λ one. one.arc) arcs.now }
     ensures least { IfOk result (λ chain. IsLeastFor style cols demands.now chain.weight) }
     ensures chain { IfOk result (λ chain. IsRowOf style cols demands.now chain.numbers chain.weight) }

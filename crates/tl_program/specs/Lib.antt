@@ -1,11 +1,3 @@
-pub mod Column
 pub mod Command
-pub mod Layout
-pub mod Least
-pub mod OneColumn
-pub mod Outcome
-pub mod Run
-pub mod Table
-pub mod TextPage
-pub mod Tight
+pub mod Options
 pub mod inner

@@ -1,61 +1,8 @@
-//! Lays out a table on a page of fixed-width text, as low as any layout can be. The command, the
-//! reading of its file, the layout and the page are modules of their own; `run` is all of it over a
-//! desk. Its one contract: the statuses of `run`, what is stored and printed after each, and that
-//! the page stored is of the least height.
+//! Lays out a table on a page of fixed-width text.
 #![tactic(auto)]
 
-ghost use Rattle.std.specs.Prelude.{◌≡◌, ◌≢◌};
-ghost use Rattle.std.specs.IoError.{error_kind};
-
-mod column;
 mod command;
-mod form;
-mod outcome;
-mod page;
-mod rows;
-mod run;
-mod status;
-#[cfg(test)]
-mod tests;
+mod options;
 
-use run::run;
-use status::Status;
-use std::env;
-use std::io::{self, ErrorKind};
-use std::process::ExitCode;
-use tl_base::{NoGate, RealDesk};
-
-/// Carries out the arguments of the command line. Where they cannot be had, nothing is printed.
-fn main(rt: HostRuntime) -> ExitCode {
-    let alloc = rt.alloc();
-    let status = match arguments(&rt) {
-        Ok(arguments) => run(
-            alloc,
-            arguments.as_slice(),
-            &mut RealDesk::new(&rt),
-            &NoGate,
-        ),
-        Err(error) => status_without_arguments(&error).number(),
-    };
-    ExitCode::from(status)
-}
-
-/// The status where the arguments cannot be had: memory ran out, or there is another cause, such as
-/// an argument that is not UTF-8.
-fn status_without_arguments(error: &io::Error) -> Status
-    ensures memory { error_kind error.now ≡ ErrorKind.OutOfMemory → result ≡ Status.Memory }
-    ensures other { error_kind error.now ≢ ErrorKind.OutOfMemory → result ≡ Status.Usage }
-{
-    match error.kind() {
-        ErrorKind::OutOfMemory => Status::Memory,
-        _ => Status::Usage,
-    }
-}
-
-/// The arguments after the program's name.
-fn arguments(rt: &(impl std::rt::Env + AllocGlobal)) -> io::Result<Vec<String>> {
-    env::args(rt)?
-        .skip(1)
-        .collect(rt.alloc())
-        .map_err(io::Error::from)
+fn main(rt: HostRuntime) {
 }

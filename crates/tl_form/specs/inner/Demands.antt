@@ -5,6 +5,7 @@ use Rattle.tl_base.specs.declared.style.Style.{Style}
 use Rattle.tl_base.specs.declared.limits.TheConstants.{MAX_COLUMNS}
 use Rattle.tl_base.specs.Style.{gap_of, edge_of}
 use Rattle.tl_diff.specs.declared.paths.Arc.{Arc}
+use Rattle.tl_diff.specs.declared.paths.TheConstants.{MAX_PATH_WEIGHT}
 use Rattle.tl_problem.specs.Sizes.{room}
 use Rattle.tl_problem.specs.Bounds.{IsLeastTotal}
 use Rattle.tl_form.specs.declared.widest.Demand.{Demand}
@@ -18,10 +19,10 @@ IsPlacedDemand cols demand = (demand.left < demand.right) × (demand.right ≤ c
 -- widths are small
 pub record AreDemands (cols : ℕ) (demands : List Demand) : Type 0 where
   pub few_columns : cols ≤ MAX_COLUMNS
-  pub few : length demands < 2 ^ 31
+  pub few : length demands < 2 ^ 32
   pub placed : All (IsPlacedDemand cols) demands
   pub anchored : 0 < cols → Any (λ demand. demand.left + 1 ≡ cols) demands
-  pub small : sum_by (λ demand. demand.width) demands ≤ 2 ^ 30
+  pub small : sum_by (λ demand. demand.width) demands ≤ MAX_PATH_WEIGHT
 
 -- the widths, one for each column, give each demand its room
 pub record GiveRooms (gap cols : ℕ) (demands : List Demand) (widths : List ℕ) : Type 0 where

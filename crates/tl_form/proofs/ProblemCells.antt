@@ -1,0 +1,194 @@
+-- What a sound problem of a table tells of its cells, and what its cells tell of it.
+use Rattle.std.proofs.Common.{◌≡◌, ℕ, zero, suc, ◌+◌, ◌<◌, ◌≤◌, ◌↔◌, List, [], ◌∷◌, ◌++◌, length, take, get_or, Option, Some, None, sum_by, refl, sym, ap, subst, ◌∙◌, arith}
+use Rattle.std.specs.List.{All, AllZip, AllByRecursion}
+use Rattle.std.specs.Option.{IsSome, IsSomeAnd}
+use Rattle.std.proofs.lemmas.List.Elements.{recursion_from_All, All-from_recursion, All-get_or}
+use Rattle.std.proofs.lemmas.List.Sums.{sum_by-cons}
+use Rattle.tl_base.specs.declared.limits.TheConstants.{MAX_HEIGHT}
+use Rattle.tl_base.specs.declared.steps.Config.{Config}
+use Rattle.tl_base.specs.declared.style.Style.{Style}
+use Rattle.tl_base.specs.Steps.{AreSteps, IsLowAt, first_height, first_width, height_at}
+use Rattle.tl_problem.specs.declared.cell.Cell.{Cell}
+use Rattle.tl_problem.specs.Problem.{ProblemModel}
+use Rattle.tl_problem.specs.Sound.{IsSound, IsSoundCell, greatest_height}
+use Rattle.tl_problem.proofs.Heights.{IsLowAt-from, height-from_first, height-from_low}
+use Rattle.tl_form.specs.declared.cell.Content.{out-Content}
+use Rattle.tl_form.specs.declared.cell.Table.{Table, out-Table}
+use Rattle.tl_form.specs.declared.cell.TableCell.{TableCell, out-TableCell}
+use Rattle.tl_form.specs.declared.heights.Bound.TheVariants.{Low, High}
+use Rattle.tl_form.specs.declared.heights.InnerSteps.{InnerSteps}
+use Rattle.tl_form.specs.Tables.{OpenCell, inner_tables, tables_in, tables_of}
+use Rattle.tl_form.specs.Problems.{AreStepsOf, CellNeeds, InnerNeeds, IsCellBy, IsProblemOf, HasSoundProblem, steps_for}
+use Rattle.tl_form.specs.inner.CellSteps.{AreLowCells, HaveSteps, IsLowByBoth, IsLowCell, IsStart, NeedsBy}
+use Rattle.tl_form.proofs.CellNeedLemmas.{IsFunctional, cell-functional, inner-functional}
+use Rattle.tl_form.proofs.LeastRoomLemmas.{AllZip-push}
+use Rattle.tl_form.proofs.NeedSteps.{first-least, height-first}
+use Rattle.tl_form.proofs.ProblemTruth.{cell-inside, joined-each, same-problem}
+use Rattle.tl_form.proofs.SoundParts.{append_each, each_joined, weaker_each}
+use Rattle.std.proofs.lemmas.List.{take_more}
+
+-- ---- the steps of a cell
+
+-- the first step is within the page
+pub first-within : (page : ℕ) (steps : List Config) → AreSteps steps → All (λ step. step.width ≤ page) steps → first_width steps ≤ page
+first-within page [] are within = absurd (omega (arith, are.has_step))
+first-within page (step ∷ steps) are within = within 0 step (omega arith)
+
+module _ (needs : Table → ℕ → ℕ → Type 0) (functional : IsFunctional needs) (page : ℕ) (cell : OpenCell) (steps : List Config)
+    (of : AreStepsOf (CellNeeds needs cell) page steps) where
+  -- the cell has a height where they begin
+  pub first-need : CellNeeds needs cell (first_width steps) (first_height steps)
+  first-need = (of.each (first_width steps) (first_height steps) (first-within page steps of.falling of.within)).0 (height-first steps of.falling)
+
+  pub low-from_steps : first_height steps ≤ MAX_HEIGHT → IsLowCell needs page cell
+  low-from_steps small = record {
+    some = let some = height-from_first steps of.falling.has_step page (first-within page steps of.falling of.within) in
+        (some.0, (of.each page some.0 (omega arith)).0 some.1);
+    low = λ start h begins need.
+        let inside = first-within page steps of.falling of.within in
+        let before = begins.from (first_width steps) (first_height steps) first-need in
+        let after = first-least steps of.falling start h ((of.each start h (omega (arith, before, inside))).1 need) in
+        let same : first_width steps ≡ start = omega (arith, before, after) in
+        let one = cell-functional needs functional cell start h (first_height steps) need
+        (subst (λ w. CellNeeds needs cell w (first_height steps)) same first-need) in
+        omega (arith, one, small);
+  }
+
+-- ---- a sound cell is low by both bounds
+
+greatest-first : (steps : List Config) → greatest_height steps ≡ first_height steps
+greatest-first [] = refl
+greatest-first (step ∷ steps) = refl
+
+low-first : (problem : ProblemModel) (made : Cell) → IsSoundCell problem made → first_height made.low ≤ first_height made.high
+low-first problem made sound =
+    let below = sound.low_below (first_height made.high) (first_width made.high)
+    (IsLowAt-from made.high (first_height made.high) (first_width made.high) (height-first made.high sound.steps.1)) in
+    let low = height-from_low made.low (first_height made.high) (first_width made.high) below in
+    let first : height_at made.low (first_width made.high) ≡ Some (first_height made.low) =
+    ap (height_at made.low) (sym sound.same_least) ∙ height-first made.low sound.steps.0 in
+    let same : Some low.0 ≡ Some (first_height made.low) = sym low.1 ∙ first in
+    let equal : low.0 ≡ first_height made.low = cc in
+    omega (arith, equal, low.2)
+
+module _ (inner : List InnerSteps) (page : ℕ) where
+  abbrev MadeBy : TableCell → Cell → Type 0
+  MadeBy cell made = IsCellBy (NeedsBy Low inner) (NeedsBy High inner) page (out-TableCell cell) made
+
+  low-cells : (problem : ProblemModel) (cells : List TableCell) (made : List Cell) → AllZip MadeBy cells made →
+      AllByRecursion (IsSoundCell problem) made → sum_by (λ one. greatest_height one.high) made ≤ MAX_HEIGHT → AreLowCells inner page cells
+  low-cells problem [] made of sound small = tt
+  low-cells problem (cell ∷ cells) [] of sound small = absurd of
+  low-cells problem (cell ∷ cells) (one ∷ made) of sound small =
+      let all = sum_by-cons (λ (any : Cell). greatest_height any.high) one made in
+      let high = greatest-first one.high in
+      let low = low-first problem one sound.0 in (
+        record {
+          by_low = low-from_steps (NeedsBy Low inner) (inner-functional (λ any. any.low) inner) page (out-TableCell cell) one.low of.0.low
+              (omega (arith, all, high, low, small));
+          by_high = low-from_steps (NeedsBy High inner) (inner-functional (λ any. any.high) inner) page (out-TableCell cell) one.high of.0.high
+              (omega (arith, all, high, small));
+        },
+        low-cells problem cells made of.1 sound.1 (omega (arith, all, small)),
+      )
+
+  some-steps : (tables : List Table) (w : ℕ) → AllByRecursion (λ nested. (m : ℕ) × NeedsBy Low inner nested w m) tables → HaveSteps inner tables
+  some-steps [] w each = tt
+  some-steps (nested ∷ tables) w each = (is-some w each.0.0 (steps_for inner (out-Table nested).number) each.0.1, some-steps tables w each.1)
+    where
+      is-some : (w h : ℕ) (o : Option InnerSteps) → IsSomeAnd o (λ one. height_at one.low w ≡ Some h) → IsSome o
+      is-some w h None is = absurd is
+      is-some w h (Some one) is = refl
+
+  have-cells : (cells : List TableCell) (made : List Cell) → AllZip MadeBy cells made →
+      AllByRecursion (λ cell. HaveSteps inner (tables_in (out-TableCell cell))) cells
+  have-cells [] made of = tt
+  have-cells (cell ∷ cells) [] of = absurd of
+  have-cells (cell ∷ cells) (one ∷ made) of = (
+    some-steps (tables_in (out-TableCell cell)) (first_width one.low)
+        (cell-inside (NeedsBy Low inner) (first_width one.low) (out-TableCell cell) (first_height one.low)
+        (first-need (NeedsBy Low inner) (inner-functional (λ any. any.low) inner) page (out-TableCell cell) one.low of.0.low)),
+    have-cells cells made of.1,
+  )
+
+-- a sound problem has steps for each nested table, and its cells are low
+pub have-steps : (table : Table) (style : Style) (page : ℕ) (inner : List InnerSteps) → HasSoundProblem table style page inner →
+    HaveSteps inner (inner_tables (out-Table table))
+have-steps table style page inner (problem, of, sound) =
+    joined-each (λ nested. IsSome (steps_for inner (out-Table nested).number)) (λ cell. tables_in (out-TableCell cell))
+    (out-Table table).cells (have-cells inner page (out-Table table).cells problem.cells of.made)
+
+pub are-low : (table : Table) (style : Style) (page : ℕ) (inner : List InnerSteps) → HasSoundProblem table style page inner →
+    AreLowCells inner page (out-Table table).cells
+are-low table style page inner (problem, of, sound) =
+    low-cells inner page problem (out-Table table).cells problem.cells of.made
+    (recursion_from_All (IsSoundCell problem) problem.cells sound.cells) sound.low_enough
+
+-- ---- the cells that are made are those of the problem
+
+pub made-problem : (table : Table) (style : Style) (page : ℕ) (inner : List InnerSteps) (made : List Cell) →
+    AllZip (λ cell one. IsCellBy (NeedsBy Low inner) (NeedsBy High inner) page (out-TableCell cell) one) (out-Table table).cells made →
+    IsProblemOf table style page inner
+    (record { cols = (out-Table table).cols; rows = (out-Table table).rows; style = style; width = page; cells = made })
+made-problem table style page inner made of = record { columns = refl; lines = refl; drawn = refl; wide = refl; made = of }
+
+pub made-sound : (table : Table) (style : Style) (page : ℕ) (inner : List InnerSteps) (made : List Cell) →
+    AllZip (λ cell one. IsCellBy (NeedsBy Low inner) (NeedsBy High inner) page (out-TableCell cell) one) (out-Table table).cells made →
+    HasSoundProblem table style page inner →
+    IsSound (record { cols = (out-Table table).cols; rows = (out-Table table).rows; style = style; width = page; cells = made })
+made-sound table style page inner made of (problem, is, sound) =
+    subst IsSound
+    (same-problem (InnerNeeds (λ one. one.low) inner) (InnerNeeds (λ one. one.high) inner) style page (out-Table table) problem
+    (record { cols = (out-Table table).cols; rows = (out-Table table).rows; style = style; width = page; cells = made }) is
+    (made-problem table style page inner made of)) sound
+
+-- ---- a cell that begins within the page and is low there
+
+pub low-at_start : (needs : Table → ℕ → ℕ → Type 0) → IsFunctional needs → (page : ℕ) (cell : OpenCell) (start : ℕ) →
+    IsStart (CellNeeds needs cell) start → start ≤ page → (h : ℕ) × CellNeeds needs cell start h × (h ≤ MAX_HEIGHT) → IsLowCell needs page cell
+low-at_start needs functional page cell start begins within low = record {
+  some = begins.has page within;
+  low = λ other h first need.
+      let before = first.from start low.0 low.1 in
+      let after = begins.from other h need in
+      let same : other ≡ start = omega (arith, before, after) in
+      let one = cell-functional needs functional cell start h low.0 (subst (λ w. CellNeeds needs cell w h) same need) low.1 in
+      omega (arith, one, low.2);
+}
+
+pub start-low : (needs : Table → ℕ → ℕ → Type 0) (page : ℕ) (cell : OpenCell) (start : ℕ) → IsStart (CellNeeds needs cell) start →
+    IsLowCell needs page cell → (start ≤ page) × ((h : ℕ) × CellNeeds needs cell start h × (h ≤ MAX_HEIGHT))
+start-low needs page cell start begins low =
+    let first = begins.has start (omega arith) in (
+      begins.from page low.some.0 low.some.1,
+      (first.0, first.1, low.low start first.0 begins first.1),
+    )
+
+-- ---- loops over the blocks of a cell and the cells of a table
+
+pub have-blocks : (inner : List InnerSteps) (cell : OpenCell) → HaveSteps inner (tables_in cell) →
+    AllByRecursion (λ block. HaveSteps inner (tables_of (out-Content block))) cell.blocks
+have-blocks inner cell have =
+    each_joined (λ nested. IsSome (steps_for inner (out-Table nested).number)) (λ block. tables_of (out-Content block)) cell.blocks have
+
+pub have-each : (inner : List InnerSteps) (table : Table) → HaveSteps inner (inner_tables (out-Table table)) →
+    AllByRecursion (λ cell. HaveSteps inner (tables_in (out-TableCell cell))) (out-Table table).cells
+have-each inner table have =
+    each_joined (λ nested. IsSome (steps_for inner (out-Table nested).number)) (λ cell. tables_in (out-TableCell cell)) (out-Table table).cells have
+
+pub cells-more : (inner : List InnerSteps) (page : ℕ) (cells : List TableCell) (k : ℕ) (cell : TableCell) (made : List Cell) (one : Cell) →
+    k < length cells → cell ≡ get_or cells k cell →
+    AllZip (λ any other. IsCellBy (NeedsBy Low inner) (NeedsBy High inner) page (out-TableCell any) other) (take k cells) made →
+    IsCellBy (NeedsBy Low inner) (NeedsBy High inner) page (out-TableCell cell) one →
+    AllZip (λ any other. IsCellBy (NeedsBy Low inner) (NeedsBy High inner) page (out-TableCell any) other) (take (k + 1) cells) (made ++ one ∷ [])
+cells-more inner page cells k cell made one inside is before here =
+    subst (λ (some : List TableCell). AllZip (λ any other. IsCellBy (NeedsBy Low inner) (NeedsBy High inner) page (out-TableCell any) other) some
+    (made ++ one ∷ [])) (sym (take_more cells k cell inside ∙ ap (λ last. take k cells ++ last ∷ []) (sym is)))
+    (AllZip-push (λ any other. IsCellBy (NeedsBy Low inner) (NeedsBy High inner) page (out-TableCell any) other) (take k cells) made cell one before here)
+
+pub low-more-cells : (inner : List InnerSteps) (page : ℕ) (cells : List TableCell) (k : ℕ) (cell : TableCell) → k < length cells →
+    cell ≡ get_or cells k cell → AreLowCells inner page (take k cells) → IsLowByBoth inner page (out-TableCell cell) →
+    AreLowCells inner page (take (k + 1) cells)
+low-more-cells inner page cells k cell inside is before here =
+    subst (AreLowCells inner page) (sym (take_more cells k cell inside ∙ ap (λ last. take k cells ++ last ∷ []) (sym is)))
+    (append_each (λ any. IsLowByBoth inner page (out-TableCell any)) (take k cells) (cell ∷ []) before (here, tt))

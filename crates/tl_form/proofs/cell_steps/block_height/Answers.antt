@@ -1,0 +1,15 @@
+use Rattle.std.proofs.Common.{◌≡◌, List, Option, Some, ap, length, get_or, subst, sym, ◌∙◌, arith}
+use Rattle.tl_form.specs.declared.cell.Content.{out-Content}
+use Rattle.tl_form.specs.declared.cell.Content.TheVariants.{outs-Para, outs-Table}
+use Rattle.tl_form.specs.declared.cell.TableCell.{out-TableCell}
+use Rattle.tl_form.specs.Problems.{AreStepsOf, BlockNeeds, CellNeeds}
+use Rattle.tl_form.specs.inner.CellSteps.{From, HaveSteps, IsStart, NeedsBy, bound_of}
+use Rattle.tl_form.proofs.CellNeedLemmas.{height-paragraph, height-table, paragraph-height, table-height}
+use Rattle.tl_form.proofs.ParagraphSteps.{some-lines}
+use Rattle.tl_form.proofs.cell_steps.block_height.Goals as goal
+
+pub unwrap-requires : goal.unwrap-requires
+unwrap-requires c =
+    some-lines c.in-Para.paragraph c.args.width c.requires.some.0 c.count_lines.result c.count_lines.ensures.too_wide.0
+    (height-paragraph (NeedsBy c.args.bound c.args.inner.now) (out-Content c.args.block.now) c.in-Para.paragraph c.args.width c.requires.some.0
+    (ap out-Content c.in-Para.is ∙ outs-Para c.in-Para.paragraph) c.requires.some.1)

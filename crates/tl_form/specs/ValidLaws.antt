@@ -1,0 +1,56 @@
+-- What a valid certificate proves of its table. Each is the contract of a function of `valid_laws`.
+use Rattle.std.specs.Prelude.{◌≡◌, ℕ, ◌+◌, ◌<◌, ◌≤◌}
+use Rattle.tl_base.specs.declared.style.Style.{Style}
+use Rattle.tl_cert.specs.declared.certificate.Certificate.{Certificate}
+use Rattle.tl_cert.specs.declared.certificate.Claim.TheVariants.{Lowest, Bounded, Narrow}
+use Rattle.tl_form.specs.declared.cell.Table.{Table, out-Table}
+use Rattle.tl_form.specs.declared.layout.Layout.{Layout}
+use Rattle.tl_form.specs.Layouts.{Fits}
+use Rattle.tl_form.specs.Least.{IsLeastHeight}
+use Rattle.tl_form.specs.Problems.{IsAmong}
+use Rattle.tl_form.specs.Refusals.{Fault, IsRefused}
+use Rattle.tl_form.specs.Sound.{IsSound, nested_in_table}
+use Rattle.tl_form.specs.Valid.{IsValid}
+
+-- a layout that fits the page has this height, and none is below `lower`
+pub record IsBetween (table : Table) (style : Style) (page height lower : ℕ) : Type 0 where
+  pub attained : (layout : Layout) × Fits table style page height layout
+  pub never_less : (other : ℕ) (layout : Layout) → Fits table style page other layout → lower ≤ other
+
+-- the height that is claimed to be the lowest is the least
+abbrev pub LowestIsLeast : Type 0
+LowestIsLeast = (table : Table) (style : Style) (page budget : ℕ) (certificate : Certificate) (height : ℕ) →
+    IsSound table → IsValid table style page budget certificate → certificate.claim ≡ Lowest height →
+    IsLeastHeight table style page height
+
+-- a layout has the height that is claimed, and none is below the bound, which is less
+abbrev pub BoundedIsBetween : Type 0
+BoundedIsBetween = (table : Table) (style : Style) (page budget : ℕ) (certificate : Certificate) (height lower : ℕ) →
+    IsSound table → IsValid table style page budget certificate → certificate.claim ≡ Bounded height lower →
+    (lower < height) × IsBetween table style page height lower
+
+-- the page is narrower than the width that is claimed, and no page below that fits a layout
+abbrev pub NarrowIsTooWide : Type 0
+NarrowIsTooWide = (table : Table) (style : Style) (page budget : ℕ) (certificate : Certificate) (least : ℕ) →
+    IsSound table → IsValid table style page budget certificate → certificate.claim ≡ Narrow least →
+    (page < least) × ((width height : ℕ) (layout : Layout) → Fits table style width height layout → least ≤ width)
+
+-- a certificate is refused for one reason at most
+abbrev pub RefusedForOneReason : Type 0
+RefusedForOneReason = (table : Table) (style : Style) (page budget : ℕ) (certificate : Certificate) → IsSound table →
+    (one other : Fault) → IsRefused table style page budget certificate one →
+    IsRefused table style page budget certificate other → one ≡ other
+
+-- a valid certificate is refused for none
+abbrev pub ValidIsNotRefused : Type 0
+ValidIsNotRefused = (table : Table) (style : Style) (page budget : ℕ) (certificate : Certificate) → IsSound table →
+    IsValid table style page budget certificate → (fault : Fault) →
+    IsRefused table style page budget certificate fault → ⊥
+
+-- each number from the table's own on, up to that of the last table inside, is that of one table
+abbrev pub EachNumberIsOfOneTable : Type 0
+EachNumberIsOfOneTable = (table : Table) → IsSound table →
+    ((n : ℕ) → (out-Table table).number ≤ n → n ≤ (out-Table table).number + nested_in_table table →
+    (one : Table) × IsAmong table one × ((out-Table one).number ≡ n))
+    × ((one other : Table) → IsAmong table one → IsAmong table other →
+    (out-Table one).number ≡ (out-Table other).number → one ≡ other)

@@ -1,0 +1,54 @@
+-- What the calls that find the steps of a cell promise each other. No public clause cites this file.
+use Rattle.std.specs.Prelude.{◌≡◌, ℕ, ◌≤◌, List, IsSome, sum}
+use Rattle.std.specs.List.{AllZip, AllByRecursion}
+use Rattle.tl_base.specs.declared.limits.TheConstants.{MAX_HEIGHT}
+use Rattle.tl_base.specs.declared.steps.Config.{Config}
+use Rattle.tl_form.specs.declared.cell.Content.{Content, out-Content}
+use Rattle.tl_form.specs.declared.cell.Table.{Table, out-Table}
+use Rattle.tl_form.specs.declared.cell.TableCell.{TableCell, out-TableCell}
+use Rattle.tl_form.specs.declared.heights.Bound.{Bound}
+use Rattle.tl_form.specs.declared.heights.Bound.TheVariants.{Low, High}
+use Rattle.tl_form.specs.declared.heights.InnerSteps.{InnerSteps}
+use Rattle.tl_form.specs.Tables.{OpenCell}
+use Rattle.tl_form.specs.Problems.{BlockNeeds, CellNeeds, InnerNeeds, steps_for}
+
+-- the steps of a nested table that are this bound
+abbrev pub bound_of : Bound → InnerSteps → List Config
+bound_of Low one = one.low
+bound_of High one = one.high
+
+-- what nested tables need by this bound of them
+abbrev pub NeedsBy : Bound → List InnerSteps → Table → ℕ → ℕ → Type 0
+NeedsBy bound inner = InnerNeeds (bound_of bound) inner
+
+-- each of the tables has its steps among these
+abbrev pub HaveSteps : List InnerSteps → List Table → Type 0
+HaveSteps inner tables = AllByRecursion (λ nested. IsSome (steps_for inner (out-Table nested).number)) tables
+
+-- from `least` columns on there is a height, and none before
+pub record IsStart (needs : ℕ → ℕ → Type 0) (least : ℕ) : Type 0 where
+  pub from : (w h : ℕ) → needs w h → least ≤ w
+  pub has : (w : ℕ) → least ≤ w → (h : ℕ) × needs w h
+
+-- what is needed, from a width on
+abbrev pub From : ℕ → (ℕ → ℕ → Type 0) → ℕ → ℕ → Type 0
+From from needs w h = (from ≤ w) × needs w h
+
+-- blocks one under the other need `h` lines in `w` columns
+abbrev pub BlocksNeed : (Table → ℕ → ℕ → Type 0) → List Content → ℕ → ℕ → Type 0
+BlocksNeed needs blocks w h = (heights : List ℕ)
+    × AllZip (λ block height. BlockNeeds needs (out-Content block) w height) blocks heights × (sum heights ≡ h)
+
+-- the cell has a height on a page of so many columns, and its greatest, at its least width, is within the limit
+pub record IsLowCell (needs : Table → ℕ → ℕ → Type 0) (page : ℕ) (cell : OpenCell) : Type 0 where
+  pub some : (h : ℕ) × CellNeeds needs cell page h
+  pub low : (start h : ℕ) → IsStart (CellNeeds needs cell) start → CellNeeds needs cell start h → h ≤ MAX_HEIGHT
+
+-- it is so by both bounds
+pub record IsLowByBoth (inner : List InnerSteps) (page : ℕ) (cell : OpenCell) : Type 0 where
+  pub by_low : IsLowCell (NeedsBy Low inner) page cell
+  pub by_high : IsLowCell (NeedsBy High inner) page cell
+
+-- each cell is so
+abbrev pub AreLowCells : List InnerSteps → ℕ → List TableCell → Type 0
+AreLowCells inner page cells = AllByRecursion (λ cell. IsLowByBoth inner page (out-TableCell cell)) cells

@@ -1,0 +1,131 @@
+//! The problem of a table: its grid, and the heights that its cells need at each width.
+
+ghost use Rattle.std.specs.Prelude.{◌≡◌, ◌≤◌, ◌↔◌, IfOk, IsTrue};
+ghost use Rattle.std.specs.List.{AllZip};
+ghost use Rattle.tl_form.specs.declared.cell.Table.{out-Table};
+ghost use Rattle.tl_form.specs.declared.cell.TableCell.{out-TableCell};
+ghost use Rattle.tl_form.specs.Problems.{HasSoundProblem, IsCellBy, IsProblemOf};
+ghost use Rattle.tl_form.specs.Tables.{inner_tables, tables_in};
+ghost use Rattle.tl_form.specs.inner.CellSteps.{AreLowCells, HaveSteps, IsLowByBoth, IsLowCell, NeedsBy};
+ghost use Rattle.tl_form.specs.declared.heights.Bound.TheVariants.{Low, High};
+
+use crate::cell::{Table, TableCell};
+use crate::cell_steps::{cell_start, cell_steps, is_low};
+use crate::heights::{Bound, InnerSteps};
+use std::alloc::{AllocError, Global};
+use tl_base::{List, MAX_PAGE_WIDTH, Style};
+use tl_problem::{Cell, Problem};
+
+/// The cell of the problem: the place of this one, and what it needs by both bounds.
+fn problem_cell(
+    alloc: Global,
+    cell: &TableCell,
+    page: u32,
+    inner: &[InnerSteps],
+) -> Result<Cell, AllocError>
+    requires steps { HaveSteps inner.now (tables_in (out-TableCell cell.now)) }
+    requires low { IsLowByBoth inner.now page (out-TableCell cell.now) }
+    requires narrow { page ≤ MAX_PAGE_WIDTH }
+    ensures { IfOk result (IsCellBy (NeedsBy Low inner.now) (NeedsBy High inner.now) page (out-TableCell cell.now)) }
+{
+    let low = cell_steps(alloc, cell, page, inner, Bound::Low)?;
+    let high = cell_steps(alloc, cell, page, inner, Bound::High)?;
+    let place = cell.place;
+    Ok(Cell {
+        left: place.left,
+        right: place.right,
+        top: place.top,
+        bottom: place.bottom,
+        low,
+        high,
+    })
+}
+
+/// The cells of the problem, in the order of the table's.
+fn problem_cells(
+    alloc: Global,
+    table: &Table,
+    page: u32,
+    inner: &[InnerSteps],
+) -> Result<List<Cell>, AllocError>
+    requires steps { HaveSteps inner.now (inner_tables (out-Table table.now)) }
+    requires low { AreLowCells inner.now page (out-Table table.now).cells }
+    requires narrow { page ≤ MAX_PAGE_WIDTH }
+    ensures { IfOk result (AllZip (λ cell made. IsCellBy (NeedsBy Low inner.now) (NeedsBy High inner.now) page
+        (out-TableCell cell) made) (out-Table table.now).cells) }
+{
+    let mut cells = List::new(alloc);
+    for cell in table.cells.as_slice() {
+        cells.push(problem_cell(alloc, cell, page, inner)?)?;
+    }
+    Ok(cells)
+}
+
+/// Whether the cell has a height by this bound on a page of `page` columns, and none above the limit.
+fn is_low_by(cell: &TableCell, page: u32, inner: &[InnerSteps], bound: Bound) -> bool
+    requires { HaveSteps inner.now (tables_in (out-TableCell cell.now)) }
+    ensures { IsTrue result ↔ IsLowCell (NeedsBy bound inner.now) page (out-TableCell cell.now) }
+{
+    let start = cell_start(cell, inner, bound);
+    start <= page && is_low(cell, start, inner, bound)
+}
+
+/// Whether the cell is so by both bounds.
+fn is_low_cell(cell: &TableCell, page: u32, inner: &[InnerSteps]) -> bool
+    requires { HaveSteps inner.now (tables_in (out-TableCell cell.now)) }
+    ensures { IsTrue result ↔ IsLowByBoth inner.now page (out-TableCell cell.now) }
+{
+    is_low_by(cell, page, inner, Bound::Low) && is_low_by(cell, page, inner, Bound::High)
+}
+
+/// Whether each cell is so.
+fn are_low_cells(table: &Table, page: u32, inner: &[InnerSteps]) -> bool
+    requires { HaveSteps inner.now (inner_tables (out-Table table.now)) }
+    ensures { IsTrue result ↔ AreLowCells inner.now page (out-Table table.now).cells }
+{
+    for cell in table.cells.as_slice() {
+        if !is_low_cell(cell, page, inner) {
+            return false;
+        }
+    }
+    true
+}
+
+/// The problem of the table on a page of `width` columns, with these heights for the tables nested
+/// directly in it. A cell needs at a width as many lines as its blocks need there, one under the
+/// other: a paragraph the least number of lines of its cuttings, a nested table what its steps say. It
+/// begins at its floor, or at the least width at which each of its blocks has a height.
+pub fn problem(
+    alloc: Global,
+    table: &Table,
+    style: Style,
+    width: u32,
+    inner: &[InnerSteps],
+) -> Result<Problem, AllocError>
+    requires { HasSoundProblem table.now style width inner.now }
+    ensures { IfOk result (IsProblemOf table.now style width inner.now) }
+{
+    let cells = problem_cells(alloc, table, width, inner)?;
+    Problem::new(alloc, table.cols, table.rows, style, width, cells)
+}
+
+/// Whether the table has a sound problem on a page of `width` columns, with these heights for the
+/// tables nested directly in it, so that `problem` may be called with them. Each cell is compared
+/// with each later one, so the time grows with the square of their number.
+pub fn has_sound_problem(
+    alloc: Global,
+    table: &Table,
+    style: Style,
+    width: u32,
+    inner: &[InnerSteps],
+) -> Result<bool, AllocError>
+    requires steps { HaveSteps inner.now (inner_tables (out-Table table.now)) }
+    requires narrow { width ≤ MAX_PAGE_WIDTH }
+    ensures { IfOk result (λ sound. IsTrue sound ↔ HasSoundProblem table.now style width inner.now) }
+{
+    if !are_low_cells(table, width, inner) {
+        return Ok(false);
+    }
+    let cells = problem_cells(alloc, table, width, inner)?;
+    Ok(Problem::is_sound(table.cols, table.rows, style, width, cells.as_slice()))
+}
