@@ -1,2 +1,4 @@
 pub mod CommandLemmas
 pub mod OptionLemmas
+pub mod Readings
+pub mod SameShapes

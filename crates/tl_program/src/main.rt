@@ -3,6 +3,11 @@
 
 mod command;
 mod options;
+mod reading;
+mod messages;
+mod refusal;
+mod report;
+mod status;
 
 fn main(rt: HostRuntime) {
 }
