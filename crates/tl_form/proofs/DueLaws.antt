@@ -34,10 +34,10 @@ pub record MayBeDue (document : Document) (now : Due) : Type 0 where
   pub upto : now.table ≤ document.last
   pub whole : now.table ≡ own_number document → now.width ≡ document.page
 
-first_may : (document : Document) → own_number document ≤ document.last → MayBeDue document (first_due document document.last)
+pub first_may : (document : Document) → own_number document ≤ document.last → MayBeDue document (first_due document document.last)
 first_may document some = record { from = some; upto = omega arith; whole = λ own. refl }
 
-next_may : (document : Document) (number placed : ℕ) (next_one : Due) → own_number document ≤ number → number ≤ document.last →
+pub next_may : (document : Document) (number placed : ℕ) (next_one : Due) → own_number document ≤ number → number ≤ document.last →
     next_due document number placed ≡ Some next_one → MayBeDue document next_one
 next_may document number placed next_one from upto is = by_test (number == own_number document) refl is
   where

@@ -36,7 +36,7 @@ ahead-equal (suc n) height (suc k) within =
       ahead-equal n height k (omega arith),
     )
 
-room-equal : (gap n height top bottom : ℕ) → top < bottom → bottom ≤ n → height ≤ room gap (replicate n height) top bottom
+pub room-equal : (gap n height top bottom : ℕ) → top < bottom → bottom ≤ n → height ≤ room gap (replicate n height) top bottom
 room-equal gap n height top bottom some within =
     let next = room-ends 0 (replicate n height) (suc top) bottom (omega arith) in
     omega (arith, room-ends gap (replicate n height) top bottom (omega arith), next, ahead-equal n height top (omega arith))

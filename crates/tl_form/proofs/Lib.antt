@@ -43,6 +43,14 @@ pub mod StepsExist
 pub mod LineCounts
 pub mod CellHeights
 pub mod SoundCells
+pub mod SafeProblems
+pub mod LowPlacements
+pub mod PlacementSizes
+pub mod CountsRise
+pub mod Searches
+pub mod LeastExists
+pub mod CountsExist
+mod ProblemExamples
 pub mod BetweenSteps
 pub mod TableNumbers
 pub mod DueLaws
@@ -57,3 +65,10 @@ mod CertificateExamples
 pub mod ToldSteps
 pub mod Collected
 pub mod InnerNumbers
+pub mod NamedLaws
+pub mod NumberLemmas
+pub mod Coverage
+pub mod CoveredSteps
+pub mod DueProblems
+pub mod SubjectLemmas
+pub mod ClosedLaws

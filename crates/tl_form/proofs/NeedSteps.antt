@@ -130,36 +130,37 @@ module _ (steps : List Config) (are : AreSteps steps) where
 -- ---- they are determined
 
 -- two values, none or some, that are the same number where either is one
-same-option : (o p : Option ℕ) → ((n : ℕ) → o ≡ Some n → p ≡ Some n) → ((n : ℕ) → p ≡ Some n → o ≡ Some n) → o ≡ p
+pub same-option : (o p : Option ℕ) → ((n : ℕ) → o ≡ Some n → p ≡ Some n) → ((n : ℕ) → p ≡ Some n → o ≡ Some n) → o ≡ p
 same-option None None there back = refl
 same-option None (Some n) there back = back n refl
 same-option (Some m) p there back = sym (there m refl)
+
+-- a step up to the page is one of other steps that have the same heights up to it
+pub step-there : (page : ℕ) (these those : List Config) → AreSteps these → AreSteps those →
+    ((w : ℕ) → w ≤ page → height_at these w ≡ height_at those w) → (step : Config) → Contains these step → step.width ≤ page → Contains those step
+step-there page these those are others same step has narrow =
+    let there = step-at those step.width step.height (sym (same step.width narrow) ∙ height-own these are step has) in
+    elim (cases_lt there.0.width step.width) [
+      | inl before ↦
+          let here = step-at these there.0.width there.0.height
+          (same there.0.width (omega (arith, there.2, narrow)) ∙ height-own those others there.0 there.1) in
+          let fall = wider-lower these are here.0 step here.1 has (omega (arith, here.2, before)) in
+          absurd (omega (arith, fall, here.3, there.3))
+      | inr at ↦
+          let width : there.0.width ≡ step.width = omega (arith, at, there.2) in
+          let height = there.3 in
+          let equal : there.0 ≡ step = λ i. record { width = width i; height = height i } in
+          subst (λ (one : Config). Contains those one) equal there.1
+    ]
 
 -- steps that none begin past the page, and have the same height at each width up to it, are the same
 pub same-steps : (page : ℕ) (one other : List Config) → AreSteps one → AreSteps other → All (λ step. step.width ≤ page) one →
     All (λ step. step.width ≤ page) other → ((w : ℕ) → w ≤ page → height_at one w ≡ height_at other w) → one ≡ other
 same-steps page one other first second within_one within_other same =
     same-ordered Falls (λ x y before after. omega (arith, before.0, after.0)) one other first.falling second.falling
-    (has-step one other first second within_one same)
-    (has-step other one second first within_other (λ w within. sym (same w within)))
-  where
-    has-step : (these those : List Config) → AreSteps these → AreSteps those → All (λ step. step.width ≤ page) these →
-        ((w : ℕ) → w ≤ page → height_at these w ≡ height_at those w) → (step : Config) → Contains these step → Contains those step
-    has-step these those are others within same step has =
-        let narrow = All-contains (λ (one : Config). one.width ≤ page) these step within has in
-        let there = step-at those step.width step.height (sym (same step.width narrow) ∙ height-own these are step has) in
-        elim (cases_lt there.0.width step.width) [
-          | inl before ↦
-              let here = step-at these there.0.width there.0.height (same there.0.width (omega (arith, there.2, narrow)) ∙ height-own those others there.0
-              there.1) in
-              let fall = wider-lower these are here.0 step here.1 has (omega (arith, here.2, before)) in
-              absurd (omega (arith, fall, here.3, there.3))
-          | inr at ↦
-              let width : there.0.width ≡ step.width = omega (arith, at, there.2) in
-              let height = there.3 in
-              let equal : there.0 ≡ step = λ i. record { width = width i; height = height i } in
-              subst (λ (one : Config). Contains those one) equal there.1
-        ]
+    (λ step has. step-there page one other first second same step has (All-contains (λ (any : Config). any.width ≤ page) one step within_one has))
+    (λ step has. step-there page other one second first (λ w within. sym (same w within)) step has
+    (All-contains (λ (any : Config). any.width ≤ page) other step within_other has))
 
 -- the steps of what is needed are determined
 pub AreStepsOf-unique : (needs : ℕ → ℕ → Type 0) (page : ℕ) (one other : List Config) → AreStepsOf needs page one → AreStepsOf needs page other →

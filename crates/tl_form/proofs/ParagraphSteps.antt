@@ -15,7 +15,7 @@ use Rattle.tl_form.specs.Problems.{AreStepsOf}
 use Rattle.tl_form.proofs.NeedSteps.{IsFalling, AreStepsOf-from}
 
 -- a paragraph fits a width or does not
-fits-or-not : (w : ℕ) (atoms : List Atom) → AllFit w atoms ⊎ (AllFit w atoms → ⊥)
+pub fits-or-not : (w : ℕ) (atoms : List Atom) → AllFit w atoms ⊎ (AllFit w atoms → ⊥)
 fits-or-not w [] = inl tt
 fits-or-not w (atom ∷ atoms) =
     elim (cases_lt w (unit_width atom)) [

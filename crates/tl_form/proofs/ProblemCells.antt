@@ -56,7 +56,7 @@ module _ (needs : Table → ℕ → ℕ → Type 0) (functional : IsFunctional n
 
 -- ---- a sound cell is low by both bounds
 
-greatest-first : (steps : List Config) → greatest_height steps ≡ first_height steps
+pub greatest-first : (steps : List Config) → greatest_height steps ≡ first_height steps
 greatest-first [] = refl
 greatest-first (step ∷ steps) = refl
 
@@ -192,3 +192,20 @@ pub low-more-cells : (inner : List InnerSteps) (page : ℕ) (cells : List TableC
 low-more-cells inner page cells k cell inside is before here =
     subst (AreLowCells inner page) (sym (take_more cells k cell inside ∙ ap (λ last. take k cells ++ last ∷ []) (sym is)))
     (append_each (λ any. IsLowByBoth inner page (out-TableCell any)) (take k cells) (cell ∷ []) before (here, tt))
+
+-- the same from each block, from each cell, and one more of them
+pub blocks-have : (inner : List InnerSteps) (cell : OpenCell) → AllByRecursion (λ block. HaveSteps inner (tables_of (out-Content block))) cell.blocks →
+    HaveSteps inner (tables_in cell)
+blocks-have inner cell have =
+    joined-each (λ nested. IsSome (steps_for inner (out-Table nested).number)) (λ block. tables_of (out-Content block)) cell.blocks have
+
+pub each-have : (inner : List InnerSteps) (table : Table) → AllByRecursion (λ cell. HaveSteps inner (tables_in (out-TableCell cell))) (out-Table table).cells →
+    HaveSteps inner (inner_tables (out-Table table))
+each-have inner table have =
+    joined-each (λ nested. IsSome (steps_for inner (out-Table nested).number)) (λ cell. tables_in (out-TableCell cell)) (out-Table table).cells have
+
+pub have-more : {X : Type 0} (P : X → Type 0) (xs : List X) (k : ℕ) (x : X) → k < length xs → x ≡ get_or xs k x → AllByRecursion P (take k xs) → P x →
+    AllByRecursion P (take (k + 1) xs)
+have-more P xs k x inside is before here =
+    subst (AllByRecursion P) (sym (take_more xs k x inside ∙ ap (λ last. take k xs ++ last ∷ []) (sym is)))
+    (append_each P (take k xs) (x ∷ []) before (here, tt))

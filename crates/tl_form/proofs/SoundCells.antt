@@ -141,6 +141,12 @@ module _ (inner : List InnerSteps) (style : Style) (page : ℕ) where
         (λ nested has m low. (low.0.0, low.0.1, tt)) have) flat.1 in
         (by.0, by.1)
 
+    -- and one on the page
+    pub cell-wider : (w k : ℕ) → w ≤ page → CellNeeds lows cell w k → (h : ℕ) × CellNeeds lows cell page h
+    cell-wider w k within need =
+        let begins = (cell-begins lows cell have-low).1 in
+        begins.has page (omega (arith, begins.from w k need, within))
+
     -- ---- its steps
 
     -- where it has a height on the page it has steps

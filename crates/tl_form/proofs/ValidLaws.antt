@@ -61,7 +61,7 @@ own_last document budget (first ∷ sections) some whole = record {
       ∙ whole.none
 
 -- the numbers of the last section
-ends : (claim : Claim) (sections : List Section) (n : ℕ) (d : Section) → n + 1 ≡ length sections → EndsWith claim sections →
+pub ends : (claim : Claim) (sections : List Section) (n : ℕ) (d : Section) → n + 1 ≡ length sections → EndsWith claim sections →
     HasNumbers claim (get_or sections n d)
 ends claim sections n d last with_numbers =
     subst (λ o. IsSomeAnd o (HasNumbers claim))
@@ -103,13 +103,13 @@ module _ (below : LayoutsAreByLow) (above : LayoutsByHighFit) (table : Table) (s
 
 -- ---- for a certificate
 
-shown_by_sections : (document : Document) (budget : ℕ) (certificate : Certificate) (claim : Claim) → IsShown document budget certificate claim →
+pub shown_by_sections : (document : Document) (budget : ℕ) (certificate : Certificate) (claim : Claim) → IsShown document budget certificate claim →
     (IsNarrow claim → ⊥) → AreWhole document budget certificate.sections × EndsWith claim certificate.sections
 shown_by_sections document budget certificate (Lowest height) shown other = shown
 shown_by_sections document budget certificate (Bounded height lower) shown other = shown
 shown_by_sections document budget certificate (Narrow least) shown other = absurd (other tt)
 
-no_section : Section
+pub no_section : Section
 no_section = record { table = 0; width = 0; height = 0; lower = 0; widths = []; trace = []; log = [] }
 
 pub lowest_is_least : LayoutsAreByLow → LayoutsByHighFit → LowestIsLeast

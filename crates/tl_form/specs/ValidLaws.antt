@@ -2,11 +2,13 @@
 use Rattle.std.specs.Prelude.{◌≡◌, ℕ, ◌+◌, ◌<◌, ◌≤◌}
 use Rattle.tl_base.specs.declared.style.Style.{Style}
 use Rattle.tl_cert.specs.declared.certificate.Certificate.{Certificate}
+use Rattle.tl_cert.specs.declared.certificate.Claim.{Claim}
 use Rattle.tl_cert.specs.declared.certificate.Claim.TheVariants.{Lowest, Bounded, Narrow}
 use Rattle.tl_form.specs.declared.cell.Table.{Table, out-Table}
 use Rattle.tl_form.specs.declared.layout.Layout.{Layout}
 use Rattle.tl_form.specs.Layouts.{Fits}
 use Rattle.tl_form.specs.Least.{IsLeastHeight}
+use Rattle.tl_form.specs.Named.{IsNamed}
 use Rattle.tl_form.specs.Problems.{IsAmong}
 use Rattle.tl_form.specs.Refusals.{Fault, IsRefused}
 use Rattle.tl_form.specs.Sound.{IsSound, nested_in_table}
@@ -54,3 +56,15 @@ EachNumberIsOfOneTable = (table : Table) → IsSound table →
     (one : Table) × IsAmong table one × ((out-Table one).number ≡ n))
     × ((one other : Table) → IsAmong table one → IsAmong table other →
     (out-Table one).number ≡ (out-Table other).number → one ≡ other)
+
+-- the height that a claim has
+abbrev pub HasHeight : Claim → ℕ → Type 0
+HasHeight (Lowest most) height = most ≡ height
+HasHeight (Bounded most lower) height = most ≡ height
+HasHeight (Narrow least) height = ⊥
+
+-- the layout that a valid certificate names fits the page, with the height that is claimed
+abbrev pub NamedLayoutFits : Type 0
+NamedLayoutFits = (table : Table) (style : Style) (page budget : ℕ) (certificate : Certificate) (height : ℕ) (layout : Layout) →
+    IsSound table → IsValid table style page budget certificate → HasHeight certificate.claim height →
+    IsNamed table style certificate layout → Fits table style page height layout

@@ -5,3 +5,4 @@ pub mod Links
 pub mod Forming
 pub mod CellSteps
 pub mod Collecting
+pub mod Numbers

@@ -7,6 +7,7 @@
 
 mod cell;
 mod cell_steps;
+mod closed_laws;
 mod count;
 mod error;
 mod forming;
@@ -15,15 +16,18 @@ mod laws;
 mod layout;
 mod narrow;
 mod nested_steps;
+mod numbers;
 mod paragraph;
 mod problem_laws;
 mod problems;
 mod shape;
+mod subject;
 mod valid_laws;
 mod widest;
 mod width;
 
 pub use cell::{Content, Kind, Table, TableCell};
+pub use closed_laws::{budget_closes, closed_tell_least};
 pub use count::nested;
 pub use error::FormError;
 pub use forming::table;
@@ -35,16 +39,23 @@ pub use laws::{
 pub use layout::Layout;
 pub use narrow::narrow_chain;
 pub use nested_steps::inner_steps;
+pub use numbers::with_number;
 pub use problem_laws::{
-    layouts_are_by_low, layouts_by_high_fit, problem_is_determined, true_steps_lie_between,
-    true_where_bounds_meet,
+    counts_exist, counts_rise, layouts_are_by_low, layouts_by_high_fit, least_heights_exist,
+    placements_are_low, problem_is_determined, sound_problems_alone, true_problems_exist,
+    true_steps_lie_between, true_where_bounds_meet,
 };
 pub use problems::{has_sound_problem, problem};
+pub use subject::{Due, Subject};
 pub use valid_laws::{
-    bounded_is_between, each_number_is_of_one_table, lowest_is_least, narrow_is_too_wide,
-    refused_for_one_reason, valid_is_not_refused,
+    bounded_is_between, each_number_is_of_one_table, lowest_is_least, named_layout_fits,
+    narrow_is_too_wide, refused_for_one_reason, valid_is_not_refused,
 };
 pub use width::least_width;
 
+#[cfg(test)]
+mod nested_tests;
+#[cfg(test)]
+mod problem_tests;
 #[cfg(test)]
 mod tests;

@@ -1,6 +1,8 @@
 //! Laws of the problem of a table. Each is the contract of a function that does nothing.
 
+ghost use Rattle.tl_form.specs.CountLaws.{CountsExist, CountsRise, LeastHeightsExist, TrueProblemsExist};
 ghost use Rattle.tl_form.specs.ProblemLaws.{LayoutsAreByLow, LayoutsByHighFit, ProblemIsDetermined, TrueStepsLieBetween, TrueWhereBoundsMeet};
+ghost use Rattle.tl_form.specs.SoundProblems.{PlacementsAreLow, SoundProblemsAlone};
 
 /// A table has one problem with the same steps for its nested tables.
 pub fn problem_is_determined()
@@ -28,4 +30,34 @@ pub fn true_steps_lie_between()
 /// that of the table.
 pub fn true_where_bounds_meet()
     ensures { TrueWhereBoundsMeet }
+{}
+
+/// The problem of a sound table that fits the page is sound, where the steps of its nested tables are.
+pub fn sound_problems_alone()
+    ensures { SoundProblemsAlone }
+{}
+
+/// Then no placement of it needs more than two lines for all that the table holds.
+pub fn placements_are_low()
+    ensures { PlacementsAreLow }
+{}
+
+/// On a wider page a table has at least as many ways to give each span a class.
+pub fn counts_rise()
+    ensures { CountsRise }
+{}
+
+/// A sound table that fits a page has a least height there.
+pub fn least_heights_exist()
+    ensures { LeastHeightsExist }
+{}
+
+/// And it has a true problem there.
+pub fn true_problems_exist()
+    ensures { TrueProblemsExist }
+{}
+
+/// And there is a greatest count of it and of all tables nested in it.
+pub fn counts_exist()
+    ensures { CountsExist }
 {}

@@ -11,7 +11,7 @@ ghost use Rattle.tl_form.specs.declared.heights.Bound.TheVariants.{Low, High};
 
 use crate::cell::{Table, TableCell};
 use crate::cell_steps::{cell_start, cell_steps, is_low};
-use crate::heights::{Bound, InnerSteps};
+use crate::heights::{Bound, InnerSteps, have_steps};
 use std::alloc::{AllocError, Global};
 use tl_base::{List, MAX_PAGE_WIDTH, Style};
 use tl_problem::{Cell, Problem};
@@ -119,10 +119,14 @@ pub fn has_sound_problem(
     width: u32,
     inner: &[InnerSteps],
 ) -> Result<bool, AllocError>
-    requires steps { HaveSteps inner.now (inner_tables (out-Table table.now)) }
-    requires narrow { width ≤ MAX_PAGE_WIDTH }
     ensures { IfOk result (λ sound. IsTrue sound ↔ HasSoundProblem table.now style width inner.now) }
 {
+    if width > MAX_PAGE_WIDTH {
+        return Ok(false);
+    }
+    if !have_steps(table, inner) {
+        return Ok(false);
+    }
     if !are_low_cells(table, width, inner) {
         return Ok(false);
     }

@@ -16,7 +16,7 @@ use tl_token::tokens;
 use tl_tree::tree;
 
 /// The table of a file, or why it has none.
-fn table_of(
+pub fn table_of(
     alloc: Global,
     file: &str,
     breaking: Breaking,

@@ -1,7 +1,7 @@
 //! What a valid certificate proves, and laws of validity. Each is the contract of a function that does
 //! nothing.
 
-ghost use Rattle.tl_form.specs.ValidLaws.{BoundedIsBetween, EachNumberIsOfOneTable, LowestIsLeast, NarrowIsTooWide};
+ghost use Rattle.tl_form.specs.ValidLaws.{BoundedIsBetween, EachNumberIsOfOneTable, LowestIsLeast, NamedLayoutFits, NarrowIsTooWide};
 ghost use Rattle.tl_form.specs.ValidLaws.{RefusedForOneReason, ValidIsNotRefused};
 
 use crate::laws::no_page_is_narrower_than_a_chain;
@@ -49,3 +49,11 @@ pub fn valid_is_not_refused()
 pub fn each_number_is_of_one_table()
     ensures { EachNumberIsOfOneTable }
 {}
+
+/// The layout that a valid certificate names fits the page, with the height that it claims.
+pub fn named_layout_fits()
+    ensures { NamedLayoutFits }
+{
+    layouts_are_by_low();
+    layouts_by_high_fit();
+}

@@ -9,12 +9,6 @@ use Rattle.tl_form.proofs.Collected.{have_steps}
 use Rattle.tl_form.proofs.OneProblem.{one_inner}
 use Rattle.tl_form.proofs.nested_steps.inner_steps.Goals as goal
 
-pub has_sound_problem-requires-clause-steps : goal.has_sound_problem-requires-clause-steps
-has_sound_problem-requires-clause-steps c =
-    let are : AreInnerSteps c.args.table.now c.args.style c.args.width c.args.sections.now c.in-Some.inner = rw c.in-Some.is at c.in_ok-inner.ensures in
-    subst (λ (inner : List InnerSteps). HaveSteps inner (inner_tables (out-Table c.args.table.now))) (sym c.as_slice.ensures)
-    (have_steps c.args.style c.args.width c.args.sections.now (inner_tables (out-Table c.args.table.now)) c.in-Some.inner are)
-
 pub returns-then-branch : goal.returns-then-branch
 returns-then-branch c =
     let are : AreInnerSteps c.args.table.now c.args.style c.args.width c.args.sections.now c.in-Some.inner = rw c.in-Some.is at c.in_ok-inner.ensures in (

@@ -1,0 +1,31 @@
+-- Laws of least heights, true problems and counts: where a layout fits there are all of these, and counts rise with the
+-- page. Each is the contract of a function of `problem_laws`.
+use Rattle.std.specs.Prelude.{ℕ, ◌≤◌}
+use Rattle.tl_base.specs.declared.style.Style.{Style}
+use Rattle.tl_problem.specs.Problem.{ProblemModel}
+use Rattle.tl_form.specs.declared.cell.Table.{Table}
+use Rattle.tl_form.specs.declared.layout.Layout.{Layout}
+use Rattle.tl_form.specs.Layouts.{Fits}
+use Rattle.tl_form.specs.Least.{IsLeastHeight}
+use Rattle.tl_form.specs.Sound.{IsSound}
+use Rattle.tl_form.specs.Problems.{IsCount, IsCountAll, IsTrueProblem}
+
+-- on a wider page a table has at least as many ways
+abbrev pub CountsRise : Type 0
+CountsRise = (table : Table) (style : Style) (narrow wide few many : ℕ) → narrow ≤ wide → IsCount table style narrow few →
+    IsCount table style wide many → few ≤ many
+
+-- a sound table that fits a page has a least height there
+abbrev pub LeastHeightsExist : Type 0
+LeastHeightsExist = (table : Table) (style : Style) (page height : ℕ) (layout : Layout) → IsSound table →
+    Fits table style page height layout → (least : ℕ) × IsLeastHeight table style page least
+
+-- and a true problem
+abbrev pub TrueProblemsExist : Type 0
+TrueProblemsExist = (table : Table) (style : Style) (page height : ℕ) (layout : Layout) → IsSound table →
+    Fits table style page height layout → (problem : ProblemModel) × IsTrueProblem table style page problem
+
+-- and the greatest count of it and of all tables nested in it
+abbrev pub CountsExist : Type 0
+CountsExist = (table : Table) (style : Style) (page height : ℕ) (layout : Layout) → IsSound table →
+    Fits table style page height layout → (most : ℕ) × IsCountAll table style page most
