@@ -1,4 +1,5 @@
 mod CoverLaws
+mod Examples
 mod FrontierLaws
 mod Lists
 mod LowerLaws

@@ -2,25 +2,28 @@
 use Rattle.std.proofs.Common.{◌≡◌, ℕ, ◌+◌, ◌*◌, ◌<◌, ◌≤◌, List, [], ◌∷◌, ◌++◌, inl, inr, length, get_or, map, Option, Some, None, sym, ◌∙◌, subst, ap, arith, length-append}
 use Rattle.std.specs.BinaryHeap.{heap_items}
 use Rattle.std.specs.List.{All}
+use Rattle.std.proofs.lemmas.Bool.{cases_lt}
 use Rattle.std.proofs.lemmas.List.{get_or-map, length-map}
 use Rattle.std.proofs.lemmas.List.Elements.{All-cons, All-head, All-tail, All-map}
 use Rattle.std.proofs.lemmas.List.Sorted.{All-permutation, IsPermutation-map, IsPermutation-cons, IsPermutation-middle, IsPermutation-trans}
 use Rattle.tl_problem.specs.declared.zone.Range.{Range}
 use Rattle.tl_problem.specs.Problem.{ProblemModel}
 use Rattle.tl_problem.specs.Sound.{IsSound}
-use Rattle.tl_problem.specs.Zones.{whole_zone, InZone}
+use Rattle.tl_problem.specs.Zones.{range_at, IsZone, whole_zone, InZone}
 use Rattle.tl_problem.proofs.BoundLaws.{bound-unique}
+use Rattle.tl_problem.proofs.ZoneLaws.{whole-is_zone}
 use Rattle.tl_cert.specs.declared.trace.CutAt.{CutAt}
 use Rattle.tl_cert.specs.Traces.{zone_of, IsZoneOf, Stands, IsCut, IsTraceOf}
 use Rattle.tl_cert.specs.Worked.{IsBoundOf}
 use Rattle.tl_solve.specs.declared.arena.Arena.{Arena}
 use Rattle.tl_solve.specs.Arenas.{IsBoundFound, HasBoundBelow, IsArenaOf}
 use Rattle.tl_cert.proofs.TraceLaws.{zones-length}
+use Rattle.tl_solve.specs.Orders.{IsFirstCut}
 use Rattle.tl_solve.proofs.ArenaLaws.{arena-item, arena-keen, lowered-le}
 use Rattle.tl_astar.specs.inner.Entries.{Entry, entry, bound_in, zone_in, IsTakenOut, IsAdded}
 use Rattle.tl_astar.specs.declared.opens.OpenZones.{OpenZones}
 use Rattle.tl_astar.specs.declared.search.Search.{Search}
-use Rattle.tl_astar.specs.inner.Frontier.{IsUnderBounds, IsFrontier, KeepsOrder}
+use Rattle.tl_astar.specs.inner.Frontier.{IsUnderBounds, IsFrontier, KeepsOrder, PartsRange}
 use Rattle.tl_astar.specs.inner.Searches.{HaveBounds, AreLeft, IsSearchOf, open_zones}
 use Rattle.tl_astar.proofs.FrontierLaws.{frontier-lower, frontier-permuted, frontier-shut, frontier-cut, bound-kept}
 use Rattle.tl_astar.proofs.OrderLaws.{HasBoundOrNone, order-lower, order-cut}
@@ -204,3 +207,41 @@ module _ (problem : ProblemModel) (A B : Arena) (is : IsArenaOf problem A) (also
       (order-cut problem is.work.sound A.trace is.trace_of cut now A.best.height (map zone_in old) left below least keeps
       (arena-keen problem is.work.sound A is) (found-or_none problem A is)
       (subst (λ t. (z : ℕ) → IsZoneOf t z → HasBoundOrNone problem t z) longer (found-or_none problem B also))))
+
+-- the search once a placement was offered to its arena
+pub search-offered : (problem : ProblemModel) (search : Search) (arena : Arena) → IsSearchOf problem search → IsArenaOf problem arena →
+    arena.trace ≡ search.arena.trace → arena.best.height ≤ search.arena.best.height → IsSearchOf problem (record search { arena = arena })
+search-offered problem search arena is offered trace less = record {
+  arena = offered;
+  work = is.work;
+  bounds = subst (λ t. HaveBounds problem t (heap_items search.opens.heap)) (sym trace) is.bounds;
+  agree = is.agree;
+  order = subst (λ t. KeepsOrder problem t arena.best.height) (sym trace)
+      (order-lower problem search.arena.trace search.arena.best.height arena.best.height less is.order);
+}
+
+-- ---- where a zone is cut
+
+-- the first cut of a zone parts a range of it
+pub first-parts : (problem : ProblemModel) (zone : List Range) → IsZone problem zone → (cut : CutAt) → IsFirstCut zone cut → PartsRange zone cut
+first-parts problem zone is cut first =
+    let range = is.ranges cut.span first.span.there in (
+      first.span.there,
+      omega (arith, first.class),
+      elim (cases_lt (range_at zone cut.span).first (range_at zone cut.span).last) [
+        | inl below ↦ omega (arith, below, first.class)
+        | inr above ↦ absurd (first.span.more (omega (arith, above, range.0)))
+      ],
+    )
+
+-- a cut that parts a range of a zone that stands is one
+pub parts-cut : (problem : ProblemModel) (trace : List CutAt) (z : ℕ) (cut : CutAt) → Stands trace z → IsZone problem (zone_of problem trace z) →
+    cut.zone ≡ z → PartsRange (zone_of problem trace z) cut → IsCut (whole_zone problem) trace cut
+parts-cut problem trace z cut stands is top parts =
+    let same = sym top in
+    record {
+      stands = subst (Stands trace) same stands;
+      span = omega (arith, parts.0, is.spans, (whole-is_zone problem).spans);
+      lower = subst (λ y. (range_at (zone_of problem trace y) cut.span).first ≤ cut.class) same parts.1;
+      upper = subst (λ y. cut.class < (range_at (zone_of problem trace y) cut.span).last) same parts.2;
+    }

@@ -4,13 +4,17 @@ ghost use Rattle.std.specs.Prelude.{◌≡◌, ◌≤◌, IfOk, IfSome, MatchOpt
 ghost use Rattle.tl_problem.specs.Zones.{whole_zone};
 ghost use Rattle.tl_cert.specs.Traces.{IsCut, Stands, zone_of};
 ghost use Rattle.tl_solve.specs.Arenas.{HasBoundBelow};
-ghost use Rattle.tl_astar.specs.inner.Frontier.{IsShut};
+ghost use Rattle.tl_astar.specs.inner.Frontier.{IsShut, PartsRange};
 ghost use Rattle.tl_astar.specs.inner.Searches.{IsSearchOf};
 
+use crate::columns::{column_places, widths_between};
+use crate::greedy::greedy_places;
+use crate::parts::{Place, best_place};
 use crate::search::Search;
+use crate::sight::Sight;
 use std::alloc::AllocError;
 use tl_cert::CutAt;
-use tl_problem::Problem;
+use tl_problem::{Problem, Range};
 
 impl Search {
     /// The cut of an open zone. `None` where the zone needs no cut.
@@ -32,6 +36,85 @@ impl Search {
         ensures below { IfOk result (λ found. IfSome found (λ cut.
             HasBoundBelow problem.now self.old.arena.trace zone self.new.arena.best.height)) }
     {
-        Ok(self.first_cut(problem, zone))
+        let cells = problem.cells();
+        let ranges = self.arena.zones()[zone as usize].ranges();
+        let sight = Sight::of_zone(self.alloc, &self.shape, cells, ranges, self.low_is_high)?;
+        self.offer_fit(problem, &sight)?;
+        self.offer_greedy(problem, &sight)?;
+        let Some(first) = self.first_cut(problem, zone) else {
+            return Ok(None);
+        };
+        let height = self.arena.best().height;
+        let place = best_place(self.alloc, &self.shape, cells, &sight, height)?;
+        let ranges = self.arena.zones()[zone as usize].ranges();
+        Ok(Some(cut_at(ranges, place, first)))
     }
+
+    /// Offers the placement in which each span has the room that it wants, where the page holds it.
+    fn offer_fit(&mut self, problem: &Problem, sight: &Sight) -> Result<(), AllocError>
+        requires search { IsSearchOf problem.now self.old }
+        ensures opens { self.new.opens ≡ self.old.opens }
+        ensures trace { self.new.arena.trace ≡ self.old.arena.trace }
+        ensures search { IsSearchOf problem.now self.new }
+        ensures lowered { self.new.arena.best.height ≤ self.old.arena.best.height }
+    {
+        let places = column_places(self.alloc, &self.shape, &sight.wanted)?;
+        self.offer(problem, &places)
+    }
+
+    /// Offers a placement that was found by giving up columns where that costs least: before the first cut,
+    /// and each time that the cuts have become four times as many.
+    fn offer_greedy(&mut self, problem: &Problem, sight: &Sight) -> Result<(), AllocError>
+        requires search { IsSearchOf problem.now self.old }
+        ensures opens { self.new.opens ≡ self.old.opens }
+        ensures trace { self.new.arena.trace ≡ self.old.arena.trace }
+        ensures search { IsSearchOf problem.now self.new }
+        ensures lowered { self.new.arena.best.height ≤ self.old.arena.best.height }
+    {
+        if self.arena.cuts() < self.next_greedy {
+            return Ok(());
+        }
+        self.next_greedy = self.next_greedy.saturating_mul(4).max(1);
+        let places = greedy_places(self.alloc, &self.shape, problem.cells(), sight)?;
+        self.offer(problem, &places)
+    }
+
+    /// Offers the placement of columns at these places, where they are within the page.
+    fn offer(&mut self, problem: &Problem, places: &[u32]) -> Result<(), AllocError>
+        requires search { IsSearchOf problem.now self.old }
+        ensures opens { self.new.opens ≡ self.old.opens }
+        ensures trace { self.new.arena.trace ≡ self.old.arena.trace }
+        ensures search { IsSearchOf problem.now self.new }
+        ensures lowered { self.new.arena.best.height ≤ self.old.arena.best.height }
+    {
+        let widths = widths_between(self.alloc, &self.shape, places)?;
+        let found = problem.place(&widths)?;
+        let Some(placed) = found else {
+            return Ok(());
+        };
+        self.arena.offer(problem, &placed)
+    }
+}
+
+/// The cut of the zone at this place, where it parts the range there; otherwise the first cut.
+fn cut_at(ranges: &[Range], place: Option<Place>, first: CutAt) -> CutAt
+    requires { PartsRange ranges.now first }
+    ensures zone { result.zone ≡ first.zone }
+    ensures parts { PartsRange ranges.now result }
+{
+    if let Some(place) = place {
+        let span = u32::try_from(place.span).unwrap_or(0);
+        let class = u32::try_from(place.class).unwrap_or(0);
+        if (span as usize) < ranges.len() {
+            let range = ranges[span as usize];
+            if range.first <= class && class < range.last {
+                return CutAt {
+                    zone: first.zone,
+                    span,
+                    class,
+                };
+            }
+        }
+    }
+    first
 }

@@ -6,8 +6,16 @@
 mod agreement;
 mod best;
 mod choosing;
+mod columns;
+mod greedy;
 mod lower;
 mod opens;
+mod parts;
 mod search;
+mod shape;
+mod sight;
+mod spread;
+#[cfg(test)]
+mod tests;
 
 pub use best::Best;

@@ -17,6 +17,7 @@ ghost use Rattle.tl_astar.specs.inner.Searches.{AreLeft, IsSearchOf, open_zones}
 
 use crate::agreement::is_low_high;
 use crate::opens::OpenZones;
+use crate::shape::Shape;
 use std::alloc::{AllocError, Global};
 use tl_base::MAX_BUDGET;
 use tl_cert::CutAt;
@@ -32,6 +33,9 @@ pub(crate) struct Search {
     pub(crate) opens: OpenZones,
     /// Whether `low` is `high` for every cell: only then a zone is closed by its area bound.
     pub(crate) low_is_high: bool,
+    pub(crate) shape: Shape,
+    /// At how many cuts a low placement is looked for again.
+    pub(crate) next_greedy: u32,
 }
 
 impl Search {
@@ -44,12 +48,16 @@ impl Search {
     {
         let arena = Arena::open(alloc, problem)?;
         let work = Work::new(problem)?;
+        let shape = Shape::new(alloc, problem)?;
+        let opens = OpenZones::new(alloc);
         let mut search = Search {
             alloc,
             arena,
             work,
-            opens: OpenZones::new(alloc),
+            opens,
             low_is_high: is_low_high(problem),
+            shape,
+            next_greedy: 0,
         };
         search.add(0)?;
         Ok(search)

@@ -1,7 +1,6 @@
 -- The blocks of a cell on a page, and the same blocks read back: a paragraph, or a table that was read back before.
-use Rattle.std.proofs.Common.{◌≡◌, ℕ, ◌+◌, ◌<◌, true, false, List, [], ◌∷◌, ◌++◌, map, length, refl, sym, ap, ◌∙◌, subst, append_assoc, codes}
+use Rattle.std.proofs.Common.{◌≡◌, ℕ, true, List, [], ◌∷◌, ◌++◌, map, refl, sym, ap, ◌∙◌, subst, append_assoc, codes}
 use Rattle.std.specs.List.{AllZip, AllByRecursion, flat_map}
-use Rattle.std.proofs.lemmas.List.{map-append}
 use Rattle.std.proofs.lemmas.List.Concat.{flat_map-append}
 use Rattle.std.proofs.lemmas.List.Elements.{recursion_from_All}
 use Rattle.std.specs.declared.boxed.Box.{Box}
@@ -15,9 +14,9 @@ use Rattle.tl_text.specs.Paragraph.{IsSpelt}
 use Rattle.tl_tree.specs.Grammar.{Marks, character, nested, words}
 use Rattle.tl_tree.specs.Grammar as grammar
 use Rattle.tl_tree.specs.Outline.{Entries, paragraph, block_outline, outline}
-use Rattle.tl_tree.specs.Paragraphs.{leading, atoms_of, paragraph_of, entries_after, entries_of}
+use Rattle.tl_tree.specs.Paragraphs.{atoms_of, paragraph_of, entries_after, entries_of}
 use Rattle.tl_tree.specs.Sound.{AreSound, IsPlainAtom}
-use Rattle.tl_tree.specs.Tags.{Kinds, class_of, table_end, text}
+use Rattle.tl_tree.specs.Tags.{Kinds, table_end, text}
 use Rattle.tl_tree.specs.declared.node.Block.{Block, out-Block, roll-Block, out-roll-Block}
 use Rattle.tl_tree.specs.declared.node.Block.TheOpen as open_block
 use Rattle.tl_tree.specs.declared.node.TableNode.{TableNode}
@@ -35,7 +34,7 @@ use Rattle.tl_form.proofs.SoundParts.{append_each}
 use Rattle.tl_form.proofs.SoundNodes.{open_outline, block_outline-out}
 use Rattle.tl_html.specs.Html.{paragraph_html, Flow, Cell, blocks_html, block_page, table_page, cell_page, flow_of, cell_of, html_of}
 use Rattle.tl_html.specs.Html as html
-use Rattle.tl_html.proofs.Items.{Item, item_text, items_text, item_kinds, IsItem}
+use Rattle.tl_html.proofs.Items.{Item, item_text, items_text, IsItem}
 use Rattle.tl_html.proofs.PageTags as page_tags
 use Rattle.tl_html.proofs.PageWords.{paragraph_items, paragraph_written, parted_items, paragraph_is_items, paragraph_marks, paragraph_goes, paragraph_stands}
 use Rattle.tl_html.proofs.PageWords.{GoesOn, goes_append, grammar_kinds, kinds_append, IsSharp, StandFor, NoGlue}
@@ -91,7 +90,7 @@ pub record TableBack (forms : TableNode → Table → Type 0) (alike : Table →
 
 module _ (breaking : Breaking) (forms : TableNode → Table → Type 0) (alike : Table → Table → Type 0) (has : Table → Layout → Type 0)
     (inside : (node : TableNode) (table : Table) (layout : Layout) (k : ℕ) → forms node table → AreSound (outline node) → has table layout →
-        TableBack forms alike table layout k) where
+    TableBack forms alike table layout k) where
   -- a block
   record BlockBack (block : Content) (inner : List Layout) (others : List Table) (k : ℕ) : Type 0 where
     items : List Item

@@ -1,5 +1,5 @@
 -- The cells of a row and the rows of a table on a page, and the same read back.
-use Rattle.std.proofs.Common.{◌≡◌, ℕ, ◌+◌, ◌-◌, ◌<◌, ◌≤◌, Bool, true, false, List, [], ◌∷◌, ◌++◌, map, refl, sym, ap, ◌∙◌, subst, append_assoc, append-nil, codes, arith}
+use Rattle.std.proofs.Common.{◌≡◌, ℕ, ◌-◌, ◌<◌, ◌≤◌, Bool, true, false, List, [], ◌∷◌, ◌++◌, map, refl, sym, ap, ◌∙◌, subst, append_assoc, append-nil, codes, arith}
 use Rattle.std.specs.List.{AllZip, AllByRecursion, flat_map}
 use Rattle.std.proofs.lemmas.List.{map-append}
 use Rattle.std.proofs.lemmas.List.Concat.{flat_map-append}
@@ -15,13 +15,11 @@ use Rattle.tl_tree.specs.Grammar as grammar
 use Rattle.tl_tree.specs.Outline.{Entries, cell, row, cell_outline, block_outline, outline}
 use Rattle.tl_tree.specs.Paragraphs.{leading, atoms_of, paragraph_of, entries_after}
 use Rattle.tl_tree.specs.Sound.{AreSound}
-use Rattle.tl_tree.specs.Tags.{Kinds, class_of, cell_start, cell_end, row_start, row_end, text, begins_with, is_row_start}
+use Rattle.tl_tree.specs.Tags.{Kinds, cell_start, cell_end, row_start, row_end, text}
 use Rattle.tl_tree.specs.declared.node.CellNode.{CellNode, out-CellNode, roll-CellNode, out-roll-CellNode}
 use Rattle.tl_tree.specs.declared.node.TableNode.{TableNode}
 use Rattle.tl_tree.proofs.Outlines.{cell_made}
-use Rattle.tl_form.specs.declared.cell.Content.{Content, out-Content}
 use Rattle.tl_form.specs.declared.cell.Kind.{Kind}
-use Rattle.tl_form.specs.declared.cell.Kind.TheVariants as kinds
 use Rattle.tl_form.specs.declared.cell.Table.{Table}
 use Rattle.tl_form.specs.declared.cell.TableCell.{TableCell, out-TableCell, roll-TableCell, out-roll-TableCell, fold_out-TableCell}
 use Rattle.tl_form.specs.declared.layout.Layout.{Layout}
@@ -30,17 +28,18 @@ use Rattle.tl_form.specs.Formed.{OpenCellNode, BecomesCell, BecomeCells, kind_of
 use Rattle.tl_form.specs.Same.{AreSameCell}
 use Rattle.tl_form.specs.Sound.{place_of}
 use Rattle.tl_form.specs.inner.Forming.{flow_outline, cells_outline}
+use Rattle.tl_form.proofs.Writing.{joined_zip}
 use Rattle.tl_form.proofs.SoundParts.{append_each}
 use Rattle.tl_form.proofs.SoundNodes.{cell_outline-out, cell_flow, sound_each, rows_outline}
 use Rattle.tl_html.specs.declared.filled.Filled.{Filled}
 use Rattle.tl_html.specs.Html.{Cell, fill, blocks_html, block_page, table_page, cell_page, flow_of, cell_of, html_of, cell_html, is_caption, line}
 use Rattle.tl_html.specs.Html as html
-use Rattle.tl_html.proofs.Items.{Item, item_text, items_text, IsItem, IsTagText}
+use Rattle.tl_html.proofs.Items.{Item, item_text, items_text, IsItem}
 use Rattle.tl_html.proofs.PageTags.{numbers, attributes_text, plain_start, head_start, plain_end, head_end}
 use Rattle.tl_html.proofs.PageTags as page_tags
-use Rattle.tl_html.proofs.PageWords.{grammar_kinds, kinds_append, IsSharp, StandFor, GoesOn, ends_sharp}
+use Rattle.tl_html.proofs.PageWords.{grammar_kinds, kinds_append, StandFor, GoesOn, ends_sharp}
 use Rattle.tl_html.proofs.GridAgain.{span_at}
-use Rattle.tl_html.proofs.Blocks.{TableBack, FlowBack, flow_back, stand_append, tables_among}
+use Rattle.tl_html.proofs.Blocks.{TableBack, flow_back, stand_append}
 
 -- ---- the items of a cell
 
@@ -164,9 +163,9 @@ cell_stands k next head colspan rowspan least ms es stand = record {
   sharp = λ later sharp. refl;
   same = λ later sharp.
       ap (λ (m : Marks). cell head colspan rowspan least ∷ (paragraph_of (atoms_of (leading m)) ++ entries_after k m))
-          (append_assoc ms (grammar.paragraph_ends ∷ []) later)
+      (append_assoc ms (grammar.paragraph_ends ∷ []) later)
       ∙ ap (λ (m : Marks). cell head colspan rowspan least ∷ (paragraph_of (atoms_of m) ++ entries_after k (ms ++ grammar.paragraph_ends ∷ later)))
-          (stand.sharp (grammar.paragraph_ends ∷ later) refl)
+      (stand.sharp (grammar.paragraph_ends ∷ later) refl)
       ∙ ap (λ (rest : Entries). cell head colspan rowspan least ∷ rest) (stand.same (grammar.paragraph_ends ∷ later) refl
       ∙ ap (λ (rest : Entries). es ++ rest) (ends_sharp next later sharp));
 }
@@ -187,7 +186,7 @@ cell_of-out c = fold_out-TableCell html.Block (Layout → List ℕ) Cell block_p
 
 module _ (breaking : Breaking) (forms : TableNode → Table → Type 0) (alike : Table → Table → Type 0) (has : Table → Layout → Type 0)
     (inside : (node : TableNode) (table : Table) (layout : Layout) (k : ℕ) → forms node table → AreSound (outline node) → has table layout →
-        TableBack forms alike table layout k) where
+    TableBack forms alike table layout k) where
   -- a cell below the caption: what cell of a tree it comes from, and how large it is
   pub record IsBelow (c : TableCell) : Type 0 where
     pub node : CellNode
@@ -269,11 +268,10 @@ module _ (breaking : Breaking) (forms : TableNode → Table → Type 0) (alike :
       let rest = cells_back cells found.rest others flow.next below.1 flow.left in
       record {
         items = items ++ rest.items;
-        are = append_each IsItem items rest.items
-            (
-              start_is n.head colspan rowspan o.least (omega (arith, is.wide)) is.few_columns (omega (arith, is.high)) is.few_rows (omega (arith, is.becomes.least, range.narrow)),
-              append_each IsItem flow.items (end_item n.head ∷ []) flow.are (end_is n.head, tt),
-            )
+        are = append_each IsItem items rest.items (
+          start_is n.head colspan rowspan o.least (omega (arith, is.wide)) is.few_columns (omega (arith, is.high)) is.few_rows (omega (arith, is.becomes.least, range.narrow)),
+          append_each IsItem flow.items (end_item n.head ∷ []) flow.are (end_is n.head, tt),
+        )
             rest.are;
         filled = one ∷ rest.filled;
         layouts = rest.layouts;
@@ -357,12 +355,6 @@ module _ (breaking : Breaking) (forms : TableNode → Table → Type 0) (alike :
     pub places : map place_of back ≡ map place_of (joined rows)
     pub spans : map (map span_of) nodes ≡ map (map (λ c. span_at (place_of c))) rows
 
-  zip_append : {A B : Type 0} (R : A → B → Type 0) (xs us : List A) (ys vs : List B) → AllZip R xs ys → AllZip R us vs → AllZip R (xs ++ us) (ys ++ vs)
-  zip_append R [] us [] vs one two = two
-  zip_append R [] us (y ∷ ys) vs one two = absurd one
-  zip_append R (x ∷ xs) us [] vs one two = absurd one
-  zip_append R (x ∷ xs) us (y ∷ ys) vs one two = (one.0, zip_append R xs us ys vs one.1 two)
-
   pub rows_back : (rows : List (List TableCell)) (inner : List Layout) (others : List Table) (k : ℕ) → AllByRecursion (AllByRecursion IsBelow) rows →
       AllZip has (tables_below (joined rows) ++ others) inner → RowsBack rows inner others k
   rows_back [] inner others k below fits = record {
@@ -421,9 +413,9 @@ module _ (breaking : Breaking) (forms : TableNode → Table → Type 0) (alike :
         stand = stand_append k one.next rest.next marks rest.ms (row ∷ cells_outline one.nodes) (rows_outline rest.nodes)
             (row_stands k one.next one.ms (cells_outline one.nodes) one.stand) rest.stand;
         back = one.back ++ rest.back;
-        become = zip_append (λ node made. BecomesCell forms breaking (out-CellNode node) (out-TableCell made)) one.nodes (joined rest.nodes) one.back rest.back
+        become = joined_zip (λ node made. BecomesCell forms breaking (out-CellNode node) (out-TableCell made)) one.nodes (joined rest.nodes) one.back rest.back
             one.become rest.become;
-        same = zip_append (λ c twin. AreSameCell alike (out-TableCell c) (out-TableCell twin)) cells (joined rows) one.back rest.back one.same rest.same;
+        same = joined_zip (λ c twin. AreSameCell alike (out-TableCell c) (out-TableCell twin)) cells (joined rows) one.back rest.back one.same rest.same;
         places = map-append place_of one.back rest.back ∙ ap (λ (ps : List Place). ps ++ map place_of rest.back) one.places
             ∙ ap (λ (ps : List Place). map place_of cells ++ ps) rest.places ∙ sym (map-append place_of cells (joined rows));
         spans = ap (λ (ss : List SpanOf). ss ∷ map (map span_of) rest.nodes) one.spans ∙ ap (λ (sss : List (List SpanOf)). map (λ c. span_at (place_of c)) cells ∷ sss) rest.spans;

@@ -1,16 +1,15 @@
 -- A grid that is written out row by row is formed again: each cell comes to its place, and no column and no row is
 -- dropped.
-use Rattle.std.proofs.Common.{◌≡◌, ℕ, ◌+◌, ◌-◌, ◌<◌, ◌≤◌, max, min, zero, suc, Bool, true, false, ◌&&◌, ◌||◌, not, cond, ltb, leb, eqb, List, [], ◌∷◌, ◌++◌, map, length, get_or, Some}
+use Rattle.std.proofs.Common.{◌≡◌, ℕ, ◌+◌, ◌-◌, ◌<◌, ◌≤◌, max, zero, suc, Bool, true, false, ◌&&◌, ◌||◌, cond, ltb, leb, eqb, List, [], ◌∷◌, ◌++◌, map, length, get_or}
 use Rattle.std.proofs.Common.{◌⊎◌, refl, sym, ap, ◌∙◌, subst, inl, inr, arith, append_assoc, append-nil, All}
-use Rattle.std.specs.List.{AllByRecursion, AllPairs, Any, filter, list_any, slice_get, flat_map}
-use Rattle.std.proofs.lemmas.Bool.{lt-ltb, le-leb, eqb-true, ltb-true, leb-true, eq-eqb, and_parts, and_from, or_left, or_right, cases_Bool, cases_lt, cond-true, cond-false, both_ways, false_from_ne_true, le-ltb, lt-leb}
+use Rattle.std.specs.List.{AllByRecursion, AllPairs, flat_map}
+use Rattle.std.proofs.lemmas.Bool.{lt-ltb, le-leb, eqb-true, ltb-true, leb-true, and_parts, and_from, or_left, or_right, cases_lt, cond-false, false_from_ne_true}
 use Rattle.std.proofs.lemmas.List.{length-append}
-use Rattle.std.proofs.lemmas.List.Folds.{list_any-append}
 use Rattle.tl_grid.specs.declared.shape.SpanOf.{SpanOf}
 use Rattle.tl_grid.specs.declared.shape.Shape.{Shape}
 use Rattle.tl_grid.specs.declared.shape.Place.{Place}
 use Rattle.tl_grid.specs.Forming.{Cell, Forming, covers, has_cell, first_free, initial_rowspan, cell_at, with_cell, form_cells, grown_into, begin_row}
-use Rattle.tl_grid.specs.Forming.{form_row, form_rows, at_group_end, end_group, form_group, no_cells, formed}
+use Rattle.tl_grid.specs.Forming.{form_row, form_rows, at_group_end, no_cells, formed}
 use Rattle.tl_grid.specs.Dropping.{IsPlaced}
 use Rattle.tl_grid.specs.Slots.{HasSlot, AreApart, IsFilledToLeft}
 use Rattle.tl_grid.proofs.Cells.{first_free_is}

@@ -1,20 +1,18 @@
 -- Where a cell is anchored in each column and each row, none is dropped: the grid that is formed again is the grid.
-use Rattle.std.proofs.Common.{◌≡◌, ℕ, ◌+◌, ◌-◌, ◌<◌, ◌≤◌, zero, suc, Bool, true, false, ◌&&◌, ◌||◌, cond, ltb, leb, eqb, List, [], ◌∷◌, ◌++◌, map, length, get_or, sum_by, Some}
-use Rattle.std.proofs.Common.{refl, sym, ap, ◌∙◌, subst, inl, inr, arith, append_assoc, All}
-use Rattle.std.specs.List.{AllByRecursion, AllPairs, Any, filter, list_any, slice_get, flat_map}
-use Rattle.std.proofs.lemmas.Bool.{lt-ltb, le-leb, le-ltb, lt-leb, eq-eqb, or_left, or_right, cases_Bool, cases_lt, cond-true, cond-false, false_from_ne_true, both_ways}
+use Rattle.std.proofs.Common.{◌≡◌, ℕ, ◌+◌, ◌-◌, ◌<◌, ◌≤◌, zero, suc, Bool, true, false, ◌&&◌, cond, ltb, leb, eqb, List, [], ◌∷◌, ◌++◌, map, length, get_or, Some}
+use Rattle.std.proofs.Common.{refl, sym, ap, ◌∙◌, subst, inl, inr, arith, append_assoc}
+use Rattle.std.specs.List.{AllByRecursion, AllPairs, filter, list_any, slice_get, flat_map}
+use Rattle.std.proofs.lemmas.Bool.{lt-ltb, le-leb, le-ltb, lt-leb, eq-eqb, or_left, or_right, cases_Bool, cases_lt, cond-true, cond-false, false_from_ne_true}
 use Rattle.std.proofs.lemmas.List.{length-append, length-map}
 use Rattle.std.proofs.lemmas.List.Sums.{sum_by-cons}
 use Rattle.tl_base.specs.declared.limits.TheConstants.{MAX_CELLS, MAX_COLUMNS, MAX_ROWS}
-use Rattle.tl_grid.specs.declared.shape.Grid.{Grid}
-use Rattle.tl_grid.specs.declared.shape.Shape.{Shape}
 use Rattle.tl_grid.specs.declared.shape.Place.{Place}
 use Rattle.tl_grid.specs.Forming.{Cell, Forming, covers, formed, cell_count, cells_in}
-use Rattle.tl_grid.specs.Dropping.{count_below, keeps_column, keeps_row, new_column, new_row, covered_columns, covered_rows, place_of, IsPlaced, StandsAtNumber, ArePlaces}
-use Rattle.tl_grid.specs.Overlap.{numbers_over, HasNoOverlap}
+use Rattle.tl_grid.specs.Dropping.{count_below, keeps_column, keeps_row, new_column, new_row, covered_columns, covered_rows, place_of, IsPlaced, StandsAtNumber}
+use Rattle.tl_grid.specs.Overlap.{numbers_over}
 use Rattle.tl_grid.specs.Form.{HasGrid}
 use Rattle.tl_grid.specs.Slots.{HasSlot, AreApart, HasAnchorInColumn, HasAnchorInRow}
-use Rattle.tl_html.proofs.GridAgain.{span_at, cell_on, cells_on, IsGrid, IsFormedAgain, formed_again, shape_on, AreRows, concat, spans_on, length_spans, slot_of}
+use Rattle.tl_html.proofs.GridAgain.{span_at, cell_on, cells_on, IsGrid, formed_again, shape_on, AreRows, slot_of}
 
 -- 1 if the test passes
 abbrev one_if : Bool → ℕ
@@ -168,17 +166,17 @@ module _ (W H : ℕ) (places : List Place) (grid : IsGrid W H places) (columns :
     stand before [] split lie = tt
     stand before (p ∷ later) split lie = (
       subst (λ (l : List Place). slice_get l (length before) ≡ Some (place_of state (cell_on (length before) p))) split
-      (at_prefix before p later ∙ ap Some (sym (place_again (length before) p lie.0))),
+          (at_prefix before p later ∙ ap Some (sym (place_again (length before) p lie.0))),
       subst (λ n. AllByRecursion (StandsAtNumber state places) (cells_on n later)) (length-append before (p ∷ []))
-      (stand (before ++ p ∷ []) later (append_assoc before (p ∷ []) later ∙ split) lie.1),
+          (stand (before ++ p ∷ []) later (append_assoc before (p ∷ []) later ∙ split) lie.1),
     )
 
   all_lie : (ps before : List Place) → before ++ ps ≡ places → AllByRecursion (IsPlaced W H) ps
   all_lie [] before split = tt
   all_lie (p ∷ ps) before split = (
     subst (IsPlaced W H) (ap (λ (l : List Place). get_or l (length before) p) (sym split) ∙ middle before p ps)
-    (grid.placed (length before) p (let long : length (before ++ p ∷ ps) ≡ length places = ap length split in
-    let sum : length (before ++ p ∷ ps) ≡ length before + length (p ∷ ps) = length-append before (p ∷ ps) in omega arith)),
+        (grid.placed (length before) p (let long : length (before ++ p ∷ ps) ≡ length places = ap length split in
+        let sum : length (before ++ p ∷ ps) ≡ length before + length (p ∷ ps) = length-append before (p ∷ ps) in omega arith)),
     all_lie ps (before ++ p ∷ []) (append_assoc before (p ∷ []) ps ∙ split),
   )
     where

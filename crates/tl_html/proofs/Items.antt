@@ -1,9 +1,8 @@
 -- A page as a list of tags, each with the text up to the next tag: the tokens that its characters spell.
-use Rattle.std.proofs.Common.{◌≡◌, ◌≢◌, ℕ, Bool, true, false, not, cond, eqb, List, [], ◌∷◌, ◌++◌, map, refl, sym, ap, ◌∙◌, subst, append_assoc}
+use Rattle.std.proofs.Common.{◌≡◌, ℕ, Bool, true, false, cond, eqb, List, [], ◌∷◌, ◌++◌, map, refl, sym, ap, ◌∙◌, subst, append_assoc}
 use Rattle.std.specs.Prelude.{codes, IsUtf8, chars, length}
 use Rattle.std.specs.List.{AllByRecursion, flat_map}
-use Rattle.std.proofs.lemmas.Bool.{eqb-true, cases_Bool, both_ways, not_from_false}
-use Rattle.std.proofs.lemmas.List.Concat.{flat_map-append}
+use Rattle.std.proofs.lemmas.Bool.{eqb-true, both_ways, not_from_false}
 use Rattle.tl_token.specs.Characters.{is_control}
 use Rattle.tl_token.specs.Grammar.{Piece, hidden, tag, character, Stands, by_reference, plain}
 use Rattle.tl_token.specs.Spelling.{Part, part, place_of, Leads, here, next, join_before, character_before, piece_before, tokens_of, characters, without_mark, SpellsTokens}

@@ -12,3 +12,4 @@ pub mod TableRows
 pub mod TableParts
 pub mod TableAgain
 pub mod ReadsBack
+pub mod Fitting

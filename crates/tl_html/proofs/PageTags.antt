@@ -1,17 +1,16 @@
 -- The tags that a page has, as tokens: tags without attributes, a column with its width, and a cell with its numbers.
-use Rattle.std.proofs.Common.{◌≡◌, ◌≢◌, ℕ, ◌+◌, ◌*◌, ◌-◌, ◌/◌, ◌%◌, ◌^◌, ◌<◌, ◌≤◌, zero, suc, min, max, Bool, true, false, not, ◌||◌, ◌&&◌, cond, ltb, eqb, List, [], ◌∷◌, ◌++◌, Option, Some, None, refl, sym, ap, ◌∙◌, subst, append_assoc, arith, decimal}
-use Rattle.std.specs.Prelude.{codes, IsTrue, option_and_then}
+use Rattle.std.proofs.Common.{◌≡◌, ◌≢◌, ℕ, ◌+◌, ◌*◌, ◌/◌, ◌%◌, ◌^◌, ◌<◌, ◌≤◌, min, max, Bool, true, false, not, ◌||◌, cond, ltb, eqb, List, [], ◌∷◌, ◌++◌, Option, Some, None, refl, sym, ap, ◌∙◌, subst, append_assoc, arith, decimal, zero, suc}
+use Rattle.std.specs.Prelude.{codes, option_and_then}
 use Rattle.tl_token.specs.declared.token.TokenKind.TheVariants.{Start}
 use Rattle.std.specs.Char.{is_ascii_digit, digit_value}
-use Rattle.std.specs.List.{AllByRecursion}
-use Rattle.std.proofs.lemmas.Bool.{false≢true, eqb-true, eqb-false, cases_Bool, ltb-true, ltb-false, le-ltb, ne_eqb, not_from_false}
+use Rattle.std.specs.Fmt.{digits, digits_onto, digit_glyph}
+use Rattle.std.proofs.lemmas.Bool.{false≢true, ltb-false}
 use Rattle.std.proofs.lemmas.Bool.Decides.{nat_tests}
-use Rattle.std.proofs.lemmas.Int.{clamps}
 use Rattle.std.proofs.lemmas.Fmt.{decimal_by_steps}
 use Rattle.tl_base.specs.declared.limits.TheConstants.{MAX_COLSPAN, MAX_ROWSPAN, MAX_PAGE_WIDTH}
 use Rattle.tl_token.specs.Characters.{◌∈◌, is_space, is_name_character, is_gap, begins, run, past}
 use Rattle.tl_token.specs.Numbers.{number, number_from, unsigned, signed_number, number_of, columns_of, rows_of, floor_of}
-use Rattle.tl_token.specs.Elements.{Attribute, Tag, value_of, attribute_number, element_of, spans_of, cell_spans, no_spans}
+use Rattle.tl_token.specs.Elements.{Attribute, value_of, attribute_number, element_of, spans_of, cell_spans, no_spans}
 use Rattle.tl_token.specs.Grammar.{Each, Value, quoted, Attributes, IsTagName, opening, IsTag, markup}
 use Rattle.tl_token.specs.Grammar as grammar
 use Rattle.tl_token.specs.declared.token.Element.{Element}
@@ -148,6 +147,24 @@ digits_number n ds is =
 decimal_number : (n : ℕ) → n < 2 ^ 64 → number_of (decimal n) ≡ Some n
 decimal_number n lt = digits_number n (decimal n) (decimal_digits n lt)
 
+-- the glyph of a digit
+glyph_is : (n : ℕ) → n < 10 → is_ascii_digit (digit_glyph false n) ≡ true
+glyph_is n lt = grind (arith, nat_tests, lt)
+
+digits_on : (k n : ℕ) (later : List ℕ) → Each is_ascii_digit later → Each is_ascii_digit (digits_onto k 10 false n later)
+digits_on zero n later each = each
+digits_on (suc k) n later each = by_test (eqb (n / 10) 0) (digits_on k (n / 10) (digit_glyph false (n % 10) ∷ later) (glyph_is (n % 10) (omega arith), each))
+  where
+    by_test : (b : Bool) → Each is_ascii_digit (digits_onto k 10 false (n / 10) (digit_glyph false (n % 10) ∷ later)) →
+        Each is_ascii_digit (cond b (digit_glyph false (n % 10) ∷ later) (digits_onto k 10 false (n / 10) (digit_glyph false (n % 10) ∷ later)))
+    by_test true more = (glyph_is (n % 10) (omega arith), each)
+    by_test false more = more
+
+-- whatever the number, a decimal is digits
+decimal_each : (n : ℕ) → Each is_ascii_digit (decimal n)
+unfolding digits
+decimal_each n = digits_on 64 n [] tt
+
 -- ---- values in quotes
 
 abbrev no_quote : ℕ → Bool
@@ -173,16 +190,16 @@ in_quotes name value later others rest some named plain more =
 
 -- ---- columns
 
-pub column_tag : (width : ℕ) → width < 2 ^ 64 → IsTagText (codes "<col style=\"width:" ++ decimal width ++ codes "ch\">") false Col no_spans
-column_tag width small rest =
+pub column_tag : (width : ℕ) → IsTagText (codes "<col style=\"width:" ++ decimal width ++ codes "ch\">") false Col no_spans
+column_tag width rest =
     let value : List ℕ = codes "width:" ++ (decimal width ++ codes "ch") in
     let plain : Each no_quote value = each_append no_quote (codes "width:") (decimal width ++ codes "ch") (refl, (refl, (refl, (refl, (refl, (refl, tt))))))
-    (each_append no_quote (decimal width) (codes "ch") (digits_no_quote (decimal width) (decimal_digits width small).digits) (refl, (refl, tt))) in
+    (each_append no_quote (decimal width) (codes "ch") (digits_no_quote (decimal width) (decimal_each width)) (refl, (refl, tt))) in
     markup Col (record { is_end = false; name = codes "col"; attributes = record { name = codes "style"; value = value } ∷ [] })
     (record {
       following = 0x20 ∷ (codes "style" ++ (codes "=\"" ++ (value ++ (34 ∷ (0x3E ∷ rest)))));
       spelled = ap (λ (cs : List ℕ). codes "<col style=\"width:" ++ cs) (
-        append_assoc (decimal width) (codes "ch\">") rest ∙ sym (append_assoc (decimal width) (codes "ch") (34 ∷ (0x3E ∷ rest))));
+          append_assoc (decimal width) (codes "ch\">") rest ∙ sym (append_assoc (decimal width) (codes "ch") (34 ∷ (0x3E ∷ rest))));
       named = (refl, (refl, (refl, tt)));
       separated = refl;
       attributes = in_quotes (codes "style") value (0x3E ∷ rest) [] rest (λ e. cc) (refl, (refl, (refl, (refl, (refl, tt))))) plain (grammar.end refl);

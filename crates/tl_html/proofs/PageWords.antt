@@ -1,20 +1,18 @@
 -- Paragraphs on a page: the tags and texts that they are, and the same words read back.
-use Rattle.std.proofs.Common.{◌≡◌, ℕ, zero, suc, ◌<◌, Bool, true, false, cond, List, [], ◌∷◌, ◌++◌, map, length, refl, sym, ap, ◌∙◌, subst, append_assoc, append-nil, arith, codes}
+use Rattle.std.proofs.Common.{◌≡◌, ℕ, ◌<◌, Bool, true, false, cond, List, [], ◌∷◌, ◌++◌, map, length, refl, sym, ap, ◌∙◌, subst, append_assoc, append-nil, arith, codes}
 use Rattle.std.specs.List.{AllByRecursion, flat_map, list_any}
 use Rattle.std.specs.Char.{is_ascii_whitespace}
 use Rattle.std.proofs.lemmas.Bool.{true≢false, lt-ltb, or_parts, cond-true}
 use Rattle.std.proofs.lemmas.List.{map-append}
 use Rattle.std.proofs.lemmas.List.Concat.{flat_map-append}
-use Rattle.tl_base.specs.declared.breaking.Breaking.{Breaking}
 use Rattle.tl_token.specs.Characters.{is_control}
 use Rattle.tl_token.specs.Elements.{no_spans}
 use Rattle.tl_token.specs.declared.token.Element.TheVariants as elements
-use Rattle.tl_token.specs.declared.token.TokenKind.{TokenKind}
 use Rattle.tl_text.specs.declared.paragraph.Atom.{Atom}
 use Rattle.tl_text.specs.declared.paragraph.Atom.TheVariants.{Word, Glue, Break}
 use Rattle.tl_text.specs.Words.{has_character}
 use Rattle.tl_text.specs.Paragraph.{IsSolid, IsSpelt}
-use Rattle.tl_text.specs.Clusters.{clusters_of, word_of, units_of, by_clusters}
+use Rattle.tl_text.specs.Clusters.{clusters_of, word_of, by_clusters}
 use Rattle.tl_text.specs.Cuttings.{joined}
 use Rattle.tl_text.proofs.ClusterLemmas.{joined-clusters}
 use Rattle.tl_text.proofs.WordLemmas.{words_from, words_from-start, words_from-letter, words_from-white, words_from-end}
@@ -23,8 +21,8 @@ use Rattle.tl_tree.specs.Grammar as marks
 use Rattle.tl_tree.specs.Grammar.{Mark, Marks, Flow, character, line_break, words, break, edge}
 use Rattle.tl_tree.specs.Outline.{Entries, paragraph}
 use Rattle.tl_tree.specs.Paragraphs.{leading, first_text, after_breaks, atoms_of, paragraph_of, entries_after}
-use Rattle.tl_tree.specs.Tags.{Kind, Kinds, class_of, text, p_or_div, br}
-use Rattle.tl_html.specs.Html.{escaped, atom_html, atoms_html, paragraph_html, space_before}
+use Rattle.tl_tree.specs.Tags.{Kind, Kinds, class_of, p_or_div, br}
+use Rattle.tl_html.specs.Html.{escaped, atoms_html, paragraph_html}
 use Rattle.tl_html.proofs.Items.{Item, item_text, items_text, item_kinds, text_kinds, IsItem, AreFine}
 use Rattle.tl_html.proofs.PageTags.{paragraph_start, paragraph_end}
 use Rattle.tl_html.proofs.PageTags as page_tags
@@ -56,7 +54,6 @@ end_item = record { mark = codes "</p>"; is_end = true; element = elements.P; sp
 
 abbrev pub paragraph_items : List Atom → List Item
 paragraph_items atoms = start_item (lead false atoms) ∷ (break_items atoms ++ end_item ∷ [])
-
 
 atoms_written : (follows : Bool) (atoms : List Atom) → atoms_html follows atoms ≡ flat_map escaped (lead follows atoms) ++ items_text (break_items atoms)
 atoms_written follows [] = refl

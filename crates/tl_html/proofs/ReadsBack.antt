@@ -1,16 +1,14 @@
 -- The page of a table spells the table again, with tables nested to any depth.
 use Rattle.std.proofs.Common.{◌≡◌, ◌∙◌, ℕ, zero, suc, List, [], ◌∷◌, ◌++◌, map, refl, sym, ap, subst, append-nil}
-use Rattle.std.specs.Str.{chars}
 use Rattle.std.specs.List.{AllByRecursion}
 use Rattle.tl_base.specs.declared.breaking.Breaking.{Breaking}
 use Rattle.tl_token.specs.Spelling.{without_mark}
 use Rattle.tl_token.specs.declared.token.Token.{Token}
 use Rattle.tl_tree.specs.Grammar.{Marks, no_outer, outer_space}
 use Rattle.tl_tree.specs.Grammar as grammar
-use Rattle.tl_tree.specs.Outline.{Entries, outline}
+use Rattle.tl_tree.specs.Outline.{outline}
 use Rattle.tl_tree.specs.Paragraphs.{leading, atoms_of, paragraph_of, entries_after, entries_of}
 use Rattle.tl_tree.specs.Sound.{AreSound}
-use Rattle.tl_tree.specs.Spelling.{SpellsTree}
 use Rattle.tl_tree.specs.Tags.{Kinds, class_of, kinds, table_end, text}
 use Rattle.tl_tree.specs.declared.node.TableNode.{TableNode}
 use Rattle.tl_form.specs.declared.cell.Table.{Table, fold_out-Table}
@@ -46,7 +44,7 @@ kinds_are [] = refl
 kinds_are (t ∷ tokens) = ap (λ (ks : Kinds). class_of t.kind ∷ ks) (kinds_are tokens)
 
 pub reads_back : PageReadsBack
-reads_back breaking node table layout bytes tree becomes columns page =
+reads_back table layout bytes page breaking node tree becomes columns =
     let t = within_back becomes.0 columns.0 breaking node table layout 0 becomes.1 tree.sound columns.1 in
     let items : List Item = t.front ++ last_item ∷ [] in
     let all : AllByRecursion IsItem items = append_each IsItem t.front (last_item ∷ []) t.are ((page_tags.table_end, (refl, tt)), tt) in

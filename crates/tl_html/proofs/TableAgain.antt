@@ -1,13 +1,12 @@
 -- A table on a page, and the same table read back, where the tables nested in it are read back.
-use Rattle.std.proofs.Common.{◌≡◌, ◌∙◌, ℕ, zero, suc, ◌+◌, ◌-◌, ◌<◌, ◌≤◌, ◌⊎◌, max, true, false, Option, Some, None, List, [], ◌∷◌, ◌++◌, map, length, Contains, All, refl, sym, ap, subst, inl, inr, arith, append_assoc, append-nil, codes}
+use Rattle.std.proofs.Common.{◌≡◌, ◌∙◌, ℕ, zero, suc, ◌+◌, ◌-◌, ◌<◌, ◌≤◌, max, false, Option, Some, None, List, [], ◌∷◌, ◌++◌, map, length, Contains, refl, sym, ap, subst, inl, inr, arith, append_assoc, append-nil, codes}
 use Rattle.std.specs.List.{AllByRecursion, AllPairs, AllZip, flat_map, range_with_len}
-use Rattle.std.specs.List.Sorted.{IsPermutation}
 use Rattle.std.proofs.lemmas.List.{map-append, length-map, length-append}
 use Rattle.std.proofs.lemmas.List.Concat.{flat_map-append}
-use Rattle.std.proofs.lemmas.List.Elements.{recursion_from_All, All-from_recursion}
+use Rattle.std.proofs.lemmas.List.Elements.{recursion_from_All}
 use Rattle.std.proofs.lemmas.List.Sorted.{IsPermutation-refl, length_permutation}
 use Rattle.tl_base.specs.declared.breaking.Breaking.{Breaking}
-use Rattle.tl_base.specs.declared.limits.TheConstants.{MAX_COLSPAN, MAX_ROWSPAN, MAX_COLUMNS, MAX_ROWS, MAX_CELLS}
+use Rattle.tl_base.specs.declared.limits.TheConstants.{MAX_COLUMNS, MAX_ROWS, MAX_CELLS}
 use Rattle.tl_base.proofs.Members.{All-from_Contains, Contains-cases, Contains-none}
 use Rattle.tl_grid.specs.declared.shape.Grid.{Grid}
 use Rattle.tl_grid.specs.declared.shape.Place.{Place}
@@ -32,16 +31,16 @@ use Rattle.tl_tree.specs.declared.node.GroupNode.{GroupNode, out-GroupNode, out-
 use Rattle.tl_tree.specs.declared.node.Part.TheVariants as parts
 use Rattle.tl_tree.specs.declared.node.TableNode.{TableNode, out-TableNode, roll-TableNode, out-roll-TableNode}
 use Rattle.tl_tree.proofs.Outlines.{table_made}
-use Rattle.tl_form.specs.declared.cell.Content.{Content}
 use Rattle.tl_form.specs.declared.cell.Table.{Table, out-Table, roll-Table, out-roll-Table, fold_out-Table}
 use Rattle.tl_form.specs.declared.cell.TableCell.{TableCell, out-TableCell}
 use Rattle.tl_form.specs.declared.layout.Layout.{Layout, out-Layout}
 use Rattle.tl_form.specs.Layouts.{OpenLayout}
 use Rattle.tl_form.specs.Tables.{OpenTable, tables_in}
-use Rattle.tl_form.specs.Formed.{OpenNode, OpenGroup, BecomesCell, BecomeCells, BecomeCaption, BecomesBy, caption_rows, cells_of_group, cells_written, group_shape, is_foot, lowered, shape_of, span_of}
+use Rattle.tl_form.specs.Formed.{OpenNode, OpenGroup, BecomesCell, BecomeCells, BecomesBy, caption_rows, cells_of_group, cells_written, group_shape, is_foot, lowered, span_of}
 use Rattle.tl_form.specs.Same.{AreSameCell}
 use Rattle.tl_form.specs.Sound.{ComesBefore, place_of, places_of}
-use Rattle.tl_form.specs.inner.Forming.{cells_outline, flow_outline}
+use Rattle.tl_form.specs.inner.Forming.{cells_outline}
+use Rattle.tl_form.proofs.Writing.{joined_zip}
 use Rattle.tl_form.proofs.SoundParts.{append_each, each_joined}
 use Rattle.tl_form.proofs.SoundNodes.{sound_each, group_rows, table_groups, table_caption, groups_outline}
 use Rattle.tl_html.specs.declared.filled.Filled.{Filled}
@@ -51,11 +50,11 @@ use Rattle.tl_html.specs.Html as html
 use Rattle.tl_html.specs.Readable.{HasColumnsBy}
 use Rattle.tl_html.proofs.Items.{Item, item_text, items_text, IsItem}
 use Rattle.tl_html.proofs.PageTags as page_tags
-use Rattle.tl_html.proofs.PageWords.{grammar_kinds, kinds_append, IsSharp, StandFor}
-use Rattle.tl_html.proofs.GridAgain.{span_at, shape_on, AreRows, AreInRow}
+use Rattle.tl_html.proofs.PageWords.{grammar_kinds, kinds_append, StandFor}
+use Rattle.tl_html.proofs.GridAgain.{span_at, shape_on, AreRows}
 use Rattle.tl_html.proofs.GridKept.{grid_again}
 use Rattle.tl_html.proofs.Blocks.{TableBack, last_item, stand_append}
-use Rattle.tl_html.proofs.Cells.{HasRows, IsBelow, RowsBack, rows_back, row_line, joined, tables_below}
+use Rattle.tl_html.proofs.Cells.{HasRows, IsBelow, RowsBack, rows_back, joined}
 use Rattle.tl_html.proofs.TableRows.{raised, lowered_raised, InRow, InRows}
 use Rattle.tl_html.proofs.TableRows as table_rows
 use Rattle.tl_html.proofs.TableParts.{BeginInRows, rows_written, no_captions, columns_items, columns_are, columns_written, columns_read}
@@ -126,7 +125,7 @@ regroup_kinds c w r l = simp append_assoc
 
 module _ (breaking : Breaking) (forms : TableNode → Table → Type 0) (alike : Table → Table → Type 0) (has : Table → Layout → Type 0)
     (inside : (node : TableNode) (table : Table) (layout : Layout) (k : ℕ) → forms node table → AreSound (outline node) → has table layout →
-        TableBack forms alike table layout k) where
+    TableBack forms alike table layout k) where
   module _ (node : TableNode) (table : Table) (layout : Layout) (k : ℕ) (becomes : BecomesBy forms breaking (out-TableNode node) (out-Table table))
       (sound : AreSound (outline node)) (fits : HasColumnsBy has (out-Table table) (out-Layout layout)) where
     abbrev T : OpenTable
@@ -417,9 +416,9 @@ module _ (breaking : Breaking) (forms : TableNode → Table → Type 0) (alike :
         by_columns : (n : ℕ) → grid.cols ≡ n → places ≡ [] → grid.cols ≡ 0
         by_columns zero is' none = is'
         by_columns (suc n) is' none = absurd (
-          let any = table_rows.places_columns breaking forms node T sound becomes 0 (omega arith) in
-          let long : length places ≡ 0 = ap length none in
-          omega (arith, any.2))
+            let any = table_rows.places_columns breaking forms node T sound becomes 0 (omega arith) in
+            let long : length places ≡ 0 = ap length none in
+            omega (arith, any.2))
     grid_of (cells ∷ rs) nodes is spans =
         let many : grid.rows ≡ suc (length rs) = sym by_rows.2 ∙ ap length is in
         let any = table_rows.places_rows breaking forms node T sound becomes 0 (omega arith) in
@@ -500,12 +499,6 @@ module _ (breaking : Breaking) (forms : TableNode → Table → Type 0) (alike :
       in_order = subst (AllPairs ComesBefore) (sym places_back) becomes.in_order;
     }
 
-    zip_append : {A B : Type 0} (R : A → B → Type 0) (xs us : List A) (ys vs : List B) → AllZip R xs ys → AllZip R us vs → AllZip R (xs ++ us) (ys ++ vs)
-    zip_append R [] us [] vs one two = two
-    zip_append R [] us (y ∷ ys) vs one two = absurd one
-    zip_append R (x ∷ xs) us [] vs one two = absurd one
-    zip_append R (x ∷ xs) us (y ∷ ys) vs one two = (one.0, zip_append R xs us ys vs one.1 two)
-
     abbrev SameCells : TableCell → TableCell → Type 0
     SameCells one twin = AreSameCell alike (out-TableCell one) (out-TableCell twin)
 
@@ -515,7 +508,7 @@ module _ (breaking : Breaking) (forms : TableNode → Table → Type 0) (alike :
       rows = refl;
       cells = subst (λ (cs : List TableCell). AllZip SameCells cs (cap.back ++ rest.back))
           (ap (λ (cs : List TableCell). becomes.caption ++ cs) by_rows.1 ∙ sym (table_rows.cells_split breaking forms node T sound becomes))
-          (zip_append SameCells becomes.caption (joined rows) cap.back rest.back cap.same rest.same);
+          (joined_zip SameCells becomes.caption (joined rows) cap.back rest.back cap.same rest.same);
     }
 
     -- the table is read back
@@ -525,7 +518,7 @@ module _ (breaking : Breaking) (forms : TableNode → Table → Type 0) (alike :
       are = (
         (page_tags.table_start, (refl, tt)),
         append_each IsItem cap.items (columns_items L.widths ++ rest.items) cap.are
-            (append_each IsItem (columns_items L.widths) rest.items (columns_are L.widths fits.widths) rest.are),
+            (append_each IsItem (columns_items L.widths) rest.items (columns_are L.widths) rest.are),
       );
       written = page_is;
       ms = marks;

@@ -1,8 +1,7 @@
 -- The caption, the columns and the rows of a table on a page, and the same read back.
-use Rattle.std.proofs.Common.{◌≡◌, ◌∙◌, ℕ, zero, suc, ◌+◌, ◌-◌, ◌<◌, ◌≤◌, ◌^◌, Bool, true, false, ◌||◌, cond, eqb, Option, Some, None, List, [], ◌∷◌, ◌++◌, map, length, sum, refl, sym, ap, subst, inl, inr, arith, append_assoc, append-nil, codes, decimal}
+use Rattle.std.proofs.Common.{◌≡◌, ◌∙◌, ℕ, ◌+◌, ◌<◌, ◌^◌, true, false, ◌||◌, cond, eqb, Option, Some, None, List, [], ◌∷◌, ◌++◌, map, length, sum, refl, sym, ap, subst, arith, append_assoc, append-nil, codes, decimal}
 use Rattle.std.specs.List.{AllByRecursion, AllZip, flat_map, range_with_len, list_any}
 use Rattle.std.proofs.lemmas.Bool.{eq-eqb, ne_eqb, cond-true, cond-false}
-use Rattle.std.proofs.lemmas.List.{map-append}
 use Rattle.std.proofs.lemmas.List.Concat.{flat_map-append}
 use Rattle.std.proofs.lemmas.List.Sums.{sum_by-cons}
 use Rattle.tl_base.specs.declared.breaking.Breaking.{Breaking}
@@ -11,10 +10,10 @@ use Rattle.tl_token.specs.Elements.{no_spans}
 use Rattle.tl_token.specs.declared.token.Element.TheVariants as elements
 use Rattle.tl_tree.specs.Grammar.{Marks, Caption, Cols, Columns, Parts, no_flow, no_caption, no_space, space, by_tag, no_col, next_col, colgroup_columns, no_columns, colgroup, no_part, no_row, loose_rows}
 use Rattle.tl_tree.specs.Grammar as grammar
-use Rattle.tl_tree.specs.Outline.{Entries, caption, columns, group, block_outline, group_outline, outline}
+use Rattle.tl_tree.specs.Outline.{Entries, caption, group, block_outline, group_outline, outline}
 use Rattle.tl_tree.specs.Paragraphs.{leading, atoms_of, paragraph_of, entries_after}
 use Rattle.tl_tree.specs.Sound.{AreSound}
-use Rattle.tl_tree.specs.Tags.{Kinds, table_end, caption_start, caption_end, colgroup_start, colgroup_end, col, row_start, text, begins_with, is_col, is_row_start}
+use Rattle.tl_tree.specs.Tags.{Kinds, table_end, caption_start, caption_end, colgroup_start, colgroup_end, row_start, text, begins_with, is_col}
 use Rattle.tl_tree.specs.inner.Reading.{caption_outline}
 use Rattle.tl_tree.specs.declared.node.Block.{Block}
 use Rattle.tl_tree.specs.declared.node.CellNode.{CellNode}
@@ -22,9 +21,6 @@ use Rattle.tl_tree.specs.declared.node.GroupNode.{GroupNode, roll-GroupNode}
 use Rattle.tl_tree.specs.declared.node.Part.TheVariants as parts
 use Rattle.tl_tree.specs.declared.node.TableNode.{TableNode}
 use Rattle.tl_tree.proofs.Outlines.{group_made}
-use Rattle.tl_form.specs.declared.cell.Content.{Content}
-use Rattle.tl_form.specs.declared.cell.Kind.{Kind}
-use Rattle.tl_form.specs.declared.cell.Kind.TheVariants as kinds
 use Rattle.tl_form.specs.declared.cell.Table.{Table}
 use Rattle.tl_form.specs.declared.cell.TableCell.{TableCell, out-TableCell, roll-TableCell, out-roll-TableCell}
 use Rattle.tl_form.specs.declared.layout.Layout.{Layout}
@@ -41,7 +37,7 @@ use Rattle.tl_html.specs.Html as html
 use Rattle.tl_html.proofs.Items.{Item, item_text, items_text, IsItem}
 use Rattle.tl_html.proofs.PageTags.{column_tag}
 use Rattle.tl_html.proofs.PageTags as page_tags
-use Rattle.tl_html.proofs.PageWords.{grammar_kinds, kinds_append, IsSharp, StandFor, GoesOn, ends_sharp}
+use Rattle.tl_html.proofs.PageWords.{grammar_kinds, kinds_append, StandFor, ends_sharp}
 use Rattle.tl_html.proofs.Blocks.{TableBack, flow_back}
 use Rattle.tl_html.proofs.Cells.{cell_of-out, row_line, joined, HasRows, RowsGo}
 
@@ -136,15 +132,15 @@ abbrev pub columns_items : List ℕ → List Item
 columns_items [] = []
 columns_items (width ∷ widths) = colgroup_start_item ∷ (map col_item (width ∷ widths) ++ colgroup_end_item ∷ [])
 
-cols_are : (widths : List ℕ) → AllByRecursion (λ width. width < 2 ^ 32) widths → AllByRecursion IsItem (map col_item widths)
-cols_are [] small = tt
-cols_are (width ∷ widths) small = ((column_tag width (omega (arith, small.0)), tt), cols_are widths small.1)
+cols_are : (widths : List ℕ) → AllByRecursion IsItem (map col_item widths)
+cols_are [] = tt
+cols_are (width ∷ widths) = ((column_tag width, tt), cols_are widths)
 
-pub columns_are : (widths : List ℕ) → AllByRecursion (λ width. width < 2 ^ 32) widths → AllByRecursion IsItem (columns_items widths)
-columns_are [] small = tt
-columns_are (width ∷ widths) small = (
+pub columns_are : (widths : List ℕ) → AllByRecursion IsItem (columns_items widths)
+columns_are [] = tt
+columns_are (width ∷ widths) = (
   (page_tags.colgroup_start, tt),
-  append_each IsItem (map col_item (width ∷ widths)) (colgroup_end_item ∷ []) (cols_are (width ∷ widths) small) ((page_tags.colgroup_end, (refl, tt)), tt),
+  append_each IsItem (map col_item (width ∷ widths)) (colgroup_end_item ∷ []) (cols_are (width ∷ widths)) ((page_tags.colgroup_end, (refl, tt)), tt),
 )
 
 cols_written : (widths : List ℕ) → flat_map column_html widths ≡ items_text (map col_item widths)
@@ -225,7 +221,7 @@ parts_stand (cells ∷ rows) items ms nodes k next begun stand =
 
 module _ (breaking : Breaking) (forms : TableNode → Table → Type 0) (alike : Table → Table → Type 0) (has : Table → Layout → Type 0)
     (inside : (node : TableNode) (table : Table) (layout : Layout) (k : ℕ) → forms node table → AreSound (outline node) → has table layout →
-        TableBack forms alike table layout k) where
+    TableBack forms alike table layout k) where
   -- the caption's line, and the caption that is read back
   pub record CaptionBack (cols : ℕ) (down : ℕ) (cells : List TableCell) (inner : List Layout) (others : List Table) (k : ℕ) : Type 0 where
     pub items : List Item
@@ -327,7 +323,7 @@ module _ (breaking : Breaking) (forms : TableNode → Table → Type 0) (alike :
           same = λ later sharp.
               ap (λ (m : Marks). caption ∷ (paragraph_of (atoms_of (leading m)) ++ entries_after k m)) (append_assoc f.ms (grammar.paragraph_ends ∷ []) later)
               ∙ ap (λ (m : Marks). caption ∷ (paragraph_of (atoms_of m) ++ entries_after k (f.ms ++ grammar.paragraph_ends ∷ later)))
-                  (f.stand.sharp (grammar.paragraph_ends ∷ later) refl)
+              (f.stand.sharp (grammar.paragraph_ends ∷ later) refl)
               ∙ ap (λ (rest : Entries). caption ∷ rest) (f.stand.same (grammar.paragraph_ends ∷ later) refl
               ∙ ap (λ (rest : Entries). flow_outline f.flow ++ rest) (ends_sharp f.next later sharp));
         };

@@ -1,37 +1,31 @@
 -- The rows of a table: its cells below the caption, row by row, and the grid that they are.
-use Rattle.std.proofs.Common.{◌≡◌, ◌∙◌, ◌⊎◌, ℕ, zero, suc, ◌+◌, ◌-◌, ◌<◌, ◌≤◌, max, Option, Some, None, List, [], ◌∷◌, ◌++◌, map, length, get_or, Contains, All, refl, sym, ap, subst, inl, inr, arith, append_assoc}
-use Rattle.std.specs.List.{AllByRecursion, AllPairs, AllZip, Any, flat_map}
+use Rattle.std.proofs.Common.{◌≡◌, ◌∙◌, ◌⊎◌, ℕ, zero, suc, ◌+◌, ◌-◌, ◌<◌, ◌≤◌, max, Option, Some, None, List, [], ◌∷◌, ◌++◌, map, length, get_or, Contains, All, refl, sym, ap, subst, inl, inr, arith}
+use Rattle.std.specs.List.{AllByRecursion, AllPairs, Any}
 use Rattle.std.specs.List.Sorted.{IsPermutation}
-use Rattle.std.proofs.lemmas.Bool.{cases_lt, cases_eq}
+use Rattle.std.proofs.lemmas.Bool.{cases_lt}
 use Rattle.std.proofs.lemmas.List.{length-map, get_or-map, map-append}
-use Rattle.std.proofs.lemmas.List.Elements.{All-from_recursion, recursion_from_All, All-contains}
+use Rattle.std.proofs.lemmas.List.Elements.{recursion_from_All, All-contains}
 use Rattle.std.proofs.lemmas.List.Sorted.{Contains-permutation, IsPermutation-map, IsPermutation-sym}
 use Rattle.tl_base.specs.declared.breaking.Breaking.{Breaking}
-use Rattle.tl_base.specs.declared.limits.TheConstants.{MAX_COLSPAN, MAX_ROWSPAN, MAX_COLUMNS, MAX_ROWS}
 use Rattle.tl_base.proofs.Members.{All-from_Contains, map-Contains, Contains-map, Contains-first, Contains-later, Contains-cases, Contains-none}
 use Rattle.tl_grid.specs.declared.shape.Grid.{Grid}
 use Rattle.tl_grid.specs.declared.shape.Place.{Place}
 use Rattle.tl_grid.specs.Dropping.{IsPlaced}
-use Rattle.tl_grid.specs.Form.{HasGrid}
 use Rattle.tl_grid.specs.Slots.{HasSlot, AreApart, IsFilledToLeft, HasAnchorInColumn, HasAnchorInRow}
 use Rattle.tl_grid.proofs.Laws.{all_within, all_columns, all_rows, all_filled}
-use Rattle.tl_tree.specs.Outline.{outline, cell_outline}
+use Rattle.tl_tree.specs.Outline.{outline}
 use Rattle.tl_tree.specs.Sound.{AreSound}
 use Rattle.tl_tree.specs.declared.node.Block.{Block}
-use Rattle.tl_tree.specs.declared.node.CellNode.{CellNode, out-CellNode}
-use Rattle.tl_tree.specs.declared.node.GroupNode.{GroupNode, out-GroupNode}
 use Rattle.tl_tree.specs.declared.node.TableNode.{TableNode, out-TableNode}
-use Rattle.tl_form.specs.declared.cell.Table.{Table, out-Table}
-use Rattle.tl_form.specs.declared.cell.TableCell.{TableCell, out-TableCell}
-use Rattle.tl_form.specs.declared.layout.Layout.{Layout}
+use Rattle.tl_form.specs.declared.cell.Table.{Table}
+use Rattle.tl_form.specs.declared.cell.TableCell.{TableCell}
 use Rattle.tl_form.specs.Tables.{OpenTable}
-use Rattle.tl_form.specs.Formed.{BecomesCell, BecomeCells, BecomeCaption, BecomesCaption, BecomesBy, caption_rows, cells_of_group, cells_written, lowered, shape_of}
+use Rattle.tl_form.specs.Formed.{BecomeCaption, BecomesBy, caption_rows, lowered, shape_of}
 use Rattle.tl_form.specs.Sound.{ComesBefore, place_of, places_of}
 use Rattle.tl_form.proofs.Laid.{AreLaid, cells_laid}
 use Rattle.tl_form.proofs.Orders.{apart_moved}
-use Rattle.tl_form.proofs.SoundParts.{append_each}
-use Rattle.tl_form.proofs.SoundNodes.{sound_each, group_rows, table_groups, shape_spans}
-use Rattle.tl_html.proofs.GridAgain.{Precedes, IsGrid, AreInRow, AreRows}
+use Rattle.tl_form.proofs.SoundNodes.{shape_spans}
+use Rattle.tl_html.proofs.GridAgain.{Precedes, IsGrid}
 use Rattle.tl_html.proofs.Cells.{joined}
 
 -- ---- places so many rows up
@@ -208,14 +202,14 @@ module _ (breaking : Breaking) (forms : TableNode → Table → Type 0) (node : 
               let there : get_or (map place_of cells) k (place_of d) ≡ place_of d = get_or-map place_of cells k d (place_of d) inside ∙ ap place_of at in
               never_before (place_of d) (subst (λ p. ComesBefore p (place_of d)) (ap place_of (is ∙ same)) (subst (ComesBefore (place_of c)) there order))
       first (c ∷ cells) pairs (suc k, within, is) = absurd (
-        let long = length-map cells place_of in
-        let order = pairs 0 (suc k) (place_of cap) (omega arith) (omega arith) in
-        let there : get_or (map place_of cells) k (place_of cap) ≡ place_of cap = get_or-map place_of cells k cap (place_of cap) (omega arith) ∙ ap place_of is in
-        let order' : ComesBefore (place_of c) (record { left = 0; right = table.cols; top = 0; bottom = 1 }) = subst (ComesBefore (place_of c)) (there ∙ place) order in
-        elim order' [
-          | inl lower ↦ omega arith
-          | inr beside ↦ omega (arith, beside.1)
-        ])
+          let long = length-map cells place_of in
+          let order = pairs 0 (suc k) (place_of cap) (omega arith) (omega arith) in
+          let there : get_or (map place_of cells) k (place_of cap) ≡ place_of cap = get_or-map place_of cells k cap (place_of cap) (omega arith) ∙ ap place_of is in
+          let order' : ComesBefore (place_of c) (record { left = 0; right = table.cols; top = 0; bottom = 1 }) = subst (ComesBefore (place_of c)) (there ∙ place) order in
+          elim order' [
+            | inl lower ↦ omega arith
+            | inr beside ↦ omega (arith, beside.1)
+          ])
 
   abbrev pub below_and : (below : List TableCell) × (table.cells ≡ becomes.caption ++ below) × ((c : TableCell) → Contains becomes.caption c → Contains below c → ⊥)
   below_and = split_at (out-TableNode node).caption becomes.caption becomes.captioned becomes.same

@@ -2,8 +2,11 @@
 use Rattle.std.specs.Prelude.{◌≡◌, ℕ, zero, suc, ◌<◌, ◌^◌, List, length, IsUtf8, chars}
 use Rattle.std.specs.List.{AllZip, AllByRecursion}
 use Rattle.tl_base.specs.declared.breaking.Breaking.{Breaking}
+use Rattle.tl_tree.specs.Sound.{IsSound}
+use Rattle.tl_tree.specs.declared.node.TableNode.{TableNode}
 use Rattle.tl_form.specs.declared.cell.Table.{Table, out-Table}
 use Rattle.tl_form.specs.declared.layout.Layout.{Layout, out-Layout}
+use Rattle.tl_form.specs.Formed.{Becomes}
 use Rattle.tl_form.specs.Layouts.{OpenLayout}
 use Rattle.tl_form.specs.Spells.{Spells}
 use Rattle.tl_form.specs.Tables.{OpenTable, inner_tables}
@@ -13,7 +16,6 @@ use Rattle.tl_html.specs.Html.{html_of}
 -- a width for each column, and a layout for each table nested directly, of which `has` says the same
 pub record HasColumnsBy (has : Table → Layout → Type 0) (table : OpenTable) (layout : OpenLayout) : Type 0 where
   pub columns : length layout.widths ≡ table.cols
-  pub widths : AllByRecursion (λ width. width < 2 ^ 32) layout.widths
   pub inner : AllZip has (inner_tables table) layout.inner
 
 -- the same of a table with fewer than `depth` tables inside one another
@@ -32,3 +34,9 @@ IsPage table layout bytes = IsUtf8 bytes × (chars bytes ≡ html_of table layou
 -- the bytes spell the same table, but for the numbers of tables
 abbrev pub SpellsAlike : List ℕ → Breaking → Table → Type 0
 SpellsAlike bytes breaking table = (other : Table) × Spells bytes breaking other × AreAlike table other
+
+-- whatever sound tree becomes the table, and by whatever breaking, the bytes spell the table again by that breaking, if
+-- the layout has a width for each column
+abbrev pub ReadsBack : Table → Layout → List ℕ → Type 0
+ReadsBack table layout bytes = (breaking : Breaking) (node : TableNode) → IsSound node → Becomes breaking node table →
+    HasColumns table layout → SpellsAlike bytes breaking table

@@ -1,9 +1,13 @@
-//! The law of the definitions in this crate's specs. It is the contract of a function that does nothing.
+//! Laws of the definitions in this crate's specs. Each is the contract of a function that does nothing.
 
-ghost use Rattle.tl_html.specs.Laws.{PageReadsBack};
+ghost use Rattle.tl_html.specs.Laws.{AFittingLayoutHasColumns, PageReadsBack};
 
-/// The page of a table that a sound tree becomes, in a layout with a width for each column, spells that
-/// table again, but for the numbers of tables.
+/// The page of a table reads back: it spells the table again, but for the numbers of tables.
 pub fn page_reads_back()
     ensures { PageReadsBack }
+{}
+
+/// A layout that fits some page has a width for each column, so the page of it reads back.
+pub fn a_fitting_layout_has_columns()
+    ensures { AFittingLayoutHasColumns }
 {}

@@ -12,5 +12,5 @@ mod table;
 #[cfg(test)]
 mod tests;
 
-pub use laws::page_reads_back;
+pub use laws::{a_fitting_layout_has_columns, page_reads_back};
 pub use table::html;

@@ -4,11 +4,12 @@ ghost use Rattle.std.specs.Prelude.{◌≡◌, ◌++◌, ◌≤◌, [], OnOk, If
 ghost use Rattle.std.specs.List.{flat_map, list_any};
 ghost use Rattle.tl_html.specs.Html.{blocks_html, bytes_of, caption_html, caption_line, caption_rows, cell_of, column_html};
 ghost use Rattle.tl_html.specs.Html.{columns_html, fill, flow_of, html_of, is_caption, rows_html};
-ghost use Rattle.tl_html.specs.Readable.{IsPage};
+ghost use Rattle.tl_html.specs.Readable.{IsPage, ReadsBack};
 ghost use Rattle.tl_html.specs.inner.Flows.{Flowed, IsFilled};
 
 use crate::builder::TextBuilder;
 use crate::filled::Filled;
+use crate::laws::page_reads_back;
 use crate::paragraph::write_paragraph;
 use crate::row::write_row;
 use std::alloc::{AllocError, Global};
@@ -210,7 +211,9 @@ fn write_table(
 pub fn html(alloc: Global, table: &Table, layout: &Layout) -> Result<List<u8>, AllocError>
     ensures bytes { IfOk result (λ bytes. bytes ≡ bytes_of table.now layout.now) }
     ensures page { IfOk result (IsPage table.now layout.now) }
+    ensures reads_back { IfOk result (ReadsBack table.now layout.now) }
 {
+    page_reads_back();
     let mut out = TextBuilder::new(alloc);
     write_table(alloc, &mut out, table, layout)?;
     Ok(out.into_bytes())

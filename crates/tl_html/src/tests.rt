@@ -1,12 +1,14 @@
-//! Pages of small tables, written out by hand.
+//! Pages of small tables, written out by hand, each read back.
 
 use crate::html;
 use std::alloc::Global;
 use std::test::Fail;
-use tl_base::{List, Text};
+use tl_base::{Breaking, List, MAX_FILE_BYTES, Text};
 use tl_form::{Content, Kind, Layout, Table, TableCell};
 use tl_grid::Place;
 use tl_text::{Atom, Para, words};
+use tl_token::tokens;
+use tl_tree::tree;
 
 /// A paragraph of words; `/` is a break, and `+` begins a unit that goes on with a word.
 fn paragraph(alloc: Global, spelt: &str) -> Result<Para, Fail> {
@@ -89,6 +91,91 @@ fn written(alloc: Global, table: &Table, layout: &Layout) -> Result<String, Fail
     Ok(String::from_str(alloc, str::from_utf8(page.as_slice())?)?)
 }
 
+/// The table that a page spells.
+fn table_of(alloc: Global, page: &str, breaking: Breaking) -> Result<Table, Fail> {
+    let bytes = page.as_bytes();
+    if bytes.len() > MAX_FILE_BYTES {
+        return Err("the page is too long".into());
+    }
+    let list = tokens(alloc, bytes)?;
+    let node = tree(alloc, list.as_slice())?;
+    Ok(tl_form::table(alloc, &node, breaking)?)
+}
+
+/// Whether two paragraphs have the same units and breaks.
+fn same_paragraph(one: &Para, other: &Para) -> bool {
+    let atoms = one.atoms();
+    let twins = other.atoms();
+    if atoms.len() != twins.len() {
+        return false;
+    }
+    for (atom, twin) in atoms.iter().zip(twins.iter()) {
+        let same = match (atom, twin) {
+            (Atom::Word(word), Atom::Word(other)) => word.as_str() == other.as_str(),
+            (Atom::Glue(unit), Atom::Glue(other)) => unit.as_str() == other.as_str(),
+            (Atom::Break, Atom::Break) => true,
+            _ => false,
+        };
+        if !same {
+            return false;
+        }
+    }
+    true
+}
+
+/// Whether two places have the same edges.
+fn same_place(one: Place, other: Place) -> bool {
+    one.left == other.left
+        && one.right == other.right
+        && one.top == other.top
+        && one.bottom == other.bottom
+}
+
+/// Whether two blocks are the same, but for the numbers of tables.
+#[cycle(same)]
+fn same_block(one: &Content, other: &Content) -> bool {
+    match (one, other) {
+        (Content::Para(paragraph), Content::Para(other)) => same_paragraph(paragraph, other),
+        (Content::Table(table), Content::Table(other)) => same(table, other),
+        _ => false,
+    }
+}
+
+/// Whether two cells are the same, but for the numbers of tables.
+#[cycle(same)]
+fn same_cell(one: &TableCell, other: &TableCell) -> bool {
+    let blocks = one.blocks.as_slice();
+    let twins = other.blocks.as_slice();
+    if one.kind != other.kind || !same_place(one.place, other.place) {
+        return false;
+    }
+    if one.least != other.least || blocks.len() != twins.len() {
+        return false;
+    }
+    for (block, twin) in blocks.iter().zip(twins.iter()) {
+        if !same_block(block, twin) {
+            return false;
+        }
+    }
+    true
+}
+
+/// Whether two tables are the same, but for the numbers of tables.
+#[cycle(same)]
+fn same(one: &Table, other: &Table) -> bool {
+    let cells = one.cells.as_slice();
+    let twins = other.cells.as_slice();
+    if one.cols != other.cols || one.rows != other.rows || cells.len() != twins.len() {
+        return false;
+    }
+    for (cell, twin) in cells.iter().zip(twins.iter()) {
+        if !same_cell(cell, twin) {
+            return false;
+        }
+    }
+    true
+}
+
 #[test]
 fn one_cell_is_a_column_and_a_row(rt: HostRuntime) -> Result<(), Fail> {
     let alloc = rt.alloc();
@@ -99,10 +186,9 @@ fn one_cell_is_a_column_and_a_row(rt: HostRuntime) -> Result<(), Fail> {
         <colgroup><col style=\"width:8ch\"></colgroup>\n\
         <tr><td><p>aa bb cc</p></td></tr>\n\
         </table>\n";
-    assert_eq!(rt;
-        written(alloc, &table(1, 1, cells), &layout)?.as_str(),
-        want
-    );
+    let table = table(1, 1, cells);
+    assert_eq!(rt; written(alloc, &table, &layout)?.as_str(), want);
+    assert!(rt; same(&table, &table_of(alloc, want, Breaking::Words)?));
     Ok(())
 }
 
@@ -119,10 +205,9 @@ fn a_span_is_an_attribute_above_one(rt: HostRuntime) -> Result<(), Fail> {
         <tr><td colspan=\"2\"><p>aaaa bbbb cc</p></td></tr>\n\
         <tr><td><p>x</p></td><td><p>yy</p></td></tr>\n\
         </table>\n";
-    assert_eq!(rt;
-        written(alloc, &table(2, 2, cells), &layout)?.as_str(),
-        want
-    );
+    let table = table(2, 2, cells);
+    assert_eq!(rt; written(alloc, &table, &layout)?.as_str(), want);
+    assert!(rt; same(&table, &table_of(alloc, want, Breaking::Words)?));
     Ok(())
 }
 
@@ -141,10 +226,9 @@ fn a_caption_has_a_line_above_the_columns_and_no_row(rt: HostRuntime) -> Result<
         <tr><th rowspan=\"2\" data-min=\"4\"><p>b</p></th><td><p>c</p></td></tr>\n\
         <tr><td></td></tr>\n\
         </table>\n";
-    assert_eq!(rt;
-        written(alloc, &table(2, 3, cells), &layout)?.as_str(),
-        want
-    );
+    let table = table(2, 3, cells);
+    assert_eq!(rt; written(alloc, &table, &layout)?.as_str(), want);
+    assert!(rt; same(&table, &table_of(alloc, want, Breaking::Words)?));
     Ok(())
 }
 
@@ -174,10 +258,9 @@ fn each_nested_table_takes_the_next_layout(rt: HostRuntime) -> Result<(), Fail> 
         </table>\n\
         </td></tr>\n\
         </table>\n";
-    assert_eq!(rt;
-        written(alloc, &table(1, 1, cells), &layout)?.as_str(),
-        want
-    );
+    let table = table(1, 1, cells);
+    assert_eq!(rt; written(alloc, &table, &layout)?.as_str(), want);
+    assert!(rt; same(&table, &table_of(alloc, want, Breaking::Words)?));
     Ok(())
 }
 
@@ -186,10 +269,9 @@ fn a_table_without_columns_has_no_line_between_its_tags(rt: HostRuntime) -> Resu
     let alloc = rt.alloc();
     let layout = layout(alloc, &[], &[], List::new(alloc))?;
     let empty = table(0, 0, List::new(alloc));
-    assert_eq!(rt;
-        written(alloc, &empty, &layout)?.as_str(),
-        "<table>\n</table>\n"
-    );
+    let want = "<table>\n</table>\n";
+    assert_eq!(rt; written(alloc, &empty, &layout)?.as_str(), want);
+    assert!(rt; same(&empty, &table_of(alloc, want, Breaking::Words)?));
     Ok(())
 }
 
@@ -207,7 +289,8 @@ fn words_are_escaped_and_keep_their_breaks(rt: HostRuntime) -> Result<(), Fail> 
         let mut cells = List::new(alloc);
         cells.push(cell(Kind::Plain, (0, 1, 0, 1), 0, text(alloc, spelt)?))?;
         let layout = layout(alloc, &[9], &[3], List::new(alloc))?;
-        let page = written(alloc, &table(1, 1, cells), &layout)?;
+        let table = table(1, 1, cells);
+        let page = written(alloc, &table, &layout)?;
         let mut line = String::from_str(
             alloc,
             "<table>\n<colgroup><col style=\"width:9ch\"></colgroup>\n<tr><td>",
@@ -215,6 +298,29 @@ fn words_are_escaped_and_keep_their_breaks(rt: HostRuntime) -> Result<(), Fail> 
         line.push_str(want)?;
         line.push_str("</td></tr>\n</table>\n")?;
         assert_eq!(rt; page.as_str(), line.as_str());
+        // A unit that goes on with a word is read back where words may be broken.
+        let breaking = if spelt.contains('+') {
+            Breaking::Any
+        } else {
+            Breaking::Words
+        };
+        assert!(rt; same(&table, &table_of(alloc, page.as_str(), breaking)?));
     }
+    Ok(())
+}
+
+#[test]
+fn a_caption_alone_makes_one_column(rt: HostRuntime) -> Result<(), Fail> {
+    let alloc = rt.alloc();
+    let mut cells = List::new(alloc);
+    cells.push(cell(Kind::Caption, (0, 1, 0, 1), 0, text(alloc, "A b")?))?;
+    let layout = layout(alloc, &[3], &[1], List::new(alloc))?;
+    let want = "<table>\n\
+        <caption><p>A b</p></caption>\n\
+        <colgroup><col style=\"width:3ch\"></colgroup>\n\
+        </table>\n";
+    let table = table(1, 1, cells);
+    assert_eq!(rt; written(alloc, &table, &layout)?.as_str(), want);
+    assert!(rt; same(&table, &table_of(alloc, want, Breaking::Words)?));
     Ok(())
 }

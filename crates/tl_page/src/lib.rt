@@ -17,6 +17,8 @@ mod strip;
 mod strips;
 #[cfg(test)]
 mod tests;
+#[cfg(test)]
+mod worked;
 
 pub use laws::{lines_are_as_wide, pages_are_as_high, pages_hold_all_text, paragraphs_are_whole};
 pub use measure::fits;

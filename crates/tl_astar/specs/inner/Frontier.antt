@@ -1,8 +1,9 @@
 -- What the best-first search keeps on its way. No public clause cites this file.
-use Rattle.std.specs.Prelude.{◌≢◌, ℕ, ◌≤◌, ◌⊎◌, List}
+use Rattle.std.specs.Prelude.{◌≢◌, ℕ, ◌<◌, ◌≤◌, ◌⊎◌, List, length}
 use Rattle.std.specs.List.{All, AllPairs, Contains}
 use Rattle.tl_problem.specs.declared.zone.Range.{Range}
 use Rattle.tl_problem.specs.Problem.{ProblemModel}
+use Rattle.tl_problem.specs.Zones.{range_at}
 use Rattle.tl_problem.specs.Agreement.{LowIsHigh}
 use Rattle.tl_cert.specs.declared.trace.CutAt.{CutAt}
 use Rattle.tl_cert.specs.Traces.{Stands, zone_of}
@@ -41,3 +42,7 @@ pub record KeepsOrder (problem : ProblemModel) (trace : List CutAt) (height : �
   pub order : AtEachCut (IsOfLeastBound problem height) trace
   pub below : CutsBelowPlacements problem trace
   pub proved : LowIsHigh problem → All (IsCutProved problem trace) trace
+
+-- the cut parts the range of a span of the zone in two that have classes
+abbrev pub PartsRange : List Range → CutAt → Type 0
+PartsRange zone cut = (cut.span < length zone) × ((range_at zone cut.span).first ≤ cut.class) × (cut.class < (range_at zone cut.span).last)

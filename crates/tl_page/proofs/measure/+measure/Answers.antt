@@ -185,9 +185,11 @@ height_in-returns-in-None-clause-takes t c =
     (subst (λ items. c.loop-cell.cell-index < length items) c.as_slice-cell-items.ensures c.loop-cell-test.true)
     (subst (λ items. c.cell-item.result ≡ get_or items c.loop-cell.cell-index c.cell-item.result) c.as_slice-cell-items.ensures c.cell-item.is)
     c.loop-cell.invariant
-    (subst (λ (w : ℕ). TakesCell c.args.style w (height_for c.args.style layout place) (out-TableCell c.cell-item.result) layout.inner c.loop-cell.next None) columns
+    (subst
+    (λ (w : ℕ). TakesCell c.args.style w (height_for c.args.style layout place) (out-TableCell c.cell-item.result) layout.inner c.loop-cell.next None) columns
     (subst (λ (h : ℕ). TakesCell c.args.style c.room_of-columns.result h (out-TableCell c.cell-item.result) layout.inner c.loop-cell.next None) lines
-    (subst (λ inner. TakesCell c.args.style c.room_of-columns.result c.room_of-lines.result (out-TableCell c.cell-item.result) inner c.loop-cell.next None)
+    (subst
+    (λ inner. TakesCell c.args.style c.room_of-columns.result c.room_of-lines.result (out-TableCell c.cell-item.result) inner c.loop-cell.next None)
     c.as_slice-inner.ensures c.in-None.ensures)))
 
 pub height_in-loop-cell-preserved : goal.height_in-loop-cell-preserved
@@ -204,9 +206,11 @@ height_in-loop-cell-preserved t c =
     (subst (λ items. c.loop-cell.cell-index < length items) c.as_slice-cell-items.ensures c.loop-cell-test.true)
     (subst (λ items. c.cell-item.result ≡ get_or items c.loop-cell.cell-index c.cell-item.result) c.as_slice-cell-items.ensures c.cell-item.is)
     c.loop-cell.invariant
-    (subst (λ (w : ℕ). TakesCell c.args.style w (height_for c.args.style layout place) (out-TableCell c.cell-item.result) layout.inner c.loop-cell.next (Some past)) columns
+    (subst
+    (λ (w : ℕ). TakesCell c.args.style w (height_for c.args.style layout place) (out-TableCell c.cell-item.result) layout.inner c.loop-cell.next (Some past)) columns
     (subst (λ (h : ℕ). TakesCell c.args.style c.room_of-columns.result h (out-TableCell c.cell-item.result) layout.inner c.loop-cell.next (Some past)) lines
-    (subst (λ inner. TakesCell c.args.style c.room_of-columns.result c.room_of-lines.result (out-TableCell c.cell-item.result) inner c.loop-cell.next (Some past))
+    (subst
+    (λ inner. TakesCell c.args.style c.room_of-columns.result c.room_of-lines.result (out-TableCell c.cell-item.result) inner c.loop-cell.next (Some past))
     c.as_slice-inner.ensures c.in-Some.ensures)))
 
 pub height_in-returns-then-next-len-clause-takes : goal.height_in-returns-then-next-len-clause-takes

@@ -1,0 +1,127 @@
+-- The order of cuts and the lower bound on a drawn trace. One cut of the whole:
+--
+--       0            zone 1: bound 3, area bound 6
+--      / \           zone 2: bound 4, area bound 2
+--     1   2
+use Rattle.std.proofs.Common.{◌≡◌, ℕ, ◌<◌, ◌≤◌, max, List, [], ◌∷◌, ◌⊎◌, inl, inr, get_or, refl, sym, subst, arith}
+use Rattle.std.proofs.lemmas.Bool.{cases_lt}
+use Rattle.tl_problem.specs.Problem.{ProblemModel}
+use Rattle.tl_problem.specs.Zones.{InZone}
+use Rattle.tl_problem.specs.Agreement.{HasOneClass, LowIsHigh}
+use Rattle.tl_problem.proofs.AreaLaws.{area-unique}
+use Rattle.tl_problem.proofs.BoundLaws.{bound-unique}
+use Rattle.tl_cert.specs.declared.trace.CutAt.{CutAt}
+use Rattle.tl_cert.specs.Traces.{Stands, zone_of}
+use Rattle.tl_cert.specs.Worked.{IsBoundOf}
+use Rattle.tl_astar.specs.Best.{MayBeLower, IsOfLeastBound, IsAreaOf, IsLeastProved}
+
+abbrev cut_of : ℕ → CutAt
+cut_of z = record { zone = z; span = 0; class = 0 }
+
+abbrev one_cut : List CutAt
+one_cut = cut_of 0 ∷ []
+
+-- zones 1 and 2 stand, and no other
+stand : (z : ℕ) → Stands one_cut z → (z ≡ 1) ⊎ (z ≡ 2)
+stand z stands =
+    let not = stands.not_cut 0 (cut_of 0) (omega arith) in
+    elim (cases_lt z 1) [
+      | inl first ↦ absurd (not (omega (arith, first)))
+      | inr more ↦ elim (cases_lt z 2) [ inl one ↦ inl (omega (arith, one, more)) | inr two ↦ inr (omega (arith, two, stands.there)) ]
+    ]
+
+first_stands : Stands one_cut 1
+first_stands = record {
+  there = omega arith;
+  not_cut = λ i d within same. let first : i ≡ 0 = omega (arith, within) in not i d first same;
+} where
+  not : (i : ℕ) (d : CutAt) → i ≡ 0 → (get_or one_cut i d).zone ≡ 1 → ⊥
+  not i d first same = omega (arith, subst (λ n. (get_or one_cut n d).zone ≡ 1) first same)
+
+second_stands : Stands one_cut 2
+second_stands = record {
+  there = omega arith;
+  not_cut = λ i d within same. let first : i ≡ 0 = omega (arith, within) in not i d first same;
+} where
+  not : (i : ℕ) (d : CutAt) → i ≡ 0 → (get_or one_cut i d).zone ≡ 2 → ⊥
+  not i d first same = omega (arith, subst (λ n. (get_or one_cut n d).zone ≡ 2) first same)
+
+module _ (problem : ProblemModel) (first : IsBoundOf problem one_cut 1 3) (second : IsBoundOf problem one_cut 2 4)
+    (first_area : IsAreaOf problem one_cut 1 6) (second_area : IsAreaOf problem one_cut 2 2)
+    (several : HasOneClass (zone_of problem one_cut 1) → ⊥) where
+  bound_at : (z other : ℕ) → Stands one_cut z → IsBoundOf problem one_cut z other → ((z ≡ 1) × (other ≡ 3)) ⊎ ((z ≡ 2) × (other ≡ 4))
+  bound_at z other stands has = elim (stand z stands) [
+    | inl one ↦ inl (
+      one,
+      bound-unique problem (InZone problem (zone_of problem one_cut 1)) other 3
+          (subst (λ n. IsBoundOf problem one_cut n other) one has) first,
+    )
+    | inr two ↦ inr (
+      two,
+      bound-unique problem (InZone problem (zone_of problem one_cut 2)) other 4
+          (subst (λ n. IsBoundOf problem one_cut n other) two has) second,
+    )
+  ]
+
+  -- zone 1 may be cut, whatever the height of the best
+  one_first : (height : ℕ) → IsOfLeastBound problem height one_cut (cut_of 1)
+  one_first height = (
+    3,
+    first,
+    λ z other stands has may. elim (bound_at z other stands has) [
+      | inl one ↦ omega (arith, one.1)
+      | inr two ↦ omega (arith, two.1)
+    ],
+  )
+
+  -- where the best has nine lines, zone 2 may not be cut before it
+  two_not_first : IsOfLeastBound problem 9 one_cut (cut_of 2) → ⊥
+  two_not_first is =
+      let four = bound-unique problem (InZone problem (zone_of problem one_cut 2)) is.0 4 is.1 second in
+      let may : MayBeLower problem (zone_of problem one_cut 1) 9 =
+      record { classes = several; area = λ low. (6, first_area, omega arith) } in
+      let below = is.2 1 3 first_stands first may in
+      omega (arith, four, below)
+
+  -- but where it has five, and `low` is `high`, zone 1 holds nothing lower, and zone 2 may
+  two_alone : LowIsHigh problem → IsOfLeastBound problem 5 one_cut (cut_of 2)
+  two_alone low = (
+    4,
+    second,
+    λ z other stands has may. elim (bound_at z other stands has) [
+      | inr two ↦ omega (arith, two.1)
+      | inl one ↦
+          let area = (subst (λ n. MayBeLower problem (zone_of problem one_cut n) 5) one.0 may).area low in
+          let six = area-unique problem (InZone problem (zone_of problem one_cut 1)) area.0 6 area.1 first_area in
+          absurd (omega (arith, six, area.2))
+    ],
+  )
+
+  -- zone 1 proves six lines and zone 2 four: where the best has five, four is the lower bound
+  four_proved : IsLeastProved problem one_cut 5 4
+  four_proved = record {
+    at_most = omega arith;
+    never_more = λ z bound area stands has_bound has_area. elim (bound_at z bound stands has_bound) [
+      | inr two ↦ omega (arith, two.1)
+      | inl one ↦
+          let here = subst (λ n. IsAreaOf problem one_cut n area) one.0 has_area in
+          let six = area-unique problem (InZone problem (zone_of problem one_cut 1)) area 6 here first_area in
+          omega (arith, six)
+    ];
+    attained = inr (2, 4, 2, second_stands, second, second_area, refl);
+  }
+
+  -- and three, the least of the bounds, is not
+  three_not_proved : IsLeastProved problem one_cut 5 3 → ⊥
+  three_not_proved is =
+      let more = is.never_more 1 3 6 first_stands first first_area in
+      elim is.attained [
+        | inl same ↦ omega (arith, same)
+        | inr some ↦ elim (bound_at some.0 some.1 some.3 some.4) [
+          | inr two ↦ omega (arith, two.1, some.6)
+          | inl one ↦
+              let here = subst (λ n. IsAreaOf problem one_cut n some.2) one.0 some.5 in
+              let six = area-unique problem (InZone problem (zone_of problem one_cut 1)) some.2 6 here first_area in
+              omega (arith, six, some.6)
+        ]
+      ]

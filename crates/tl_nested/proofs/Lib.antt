@@ -1,0 +1,4 @@
+mod Ready
+mod Made
+mod Counted
+mod Written

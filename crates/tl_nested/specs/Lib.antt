@@ -1,0 +1,3 @@
+pub mod Solved
+pub mod Searched
+pub mod inner

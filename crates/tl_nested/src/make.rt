@@ -1,0 +1,53 @@
+//! The sections of a document by solvers that are made.
+
+ghost use Rattle.std.specs.Prelude.{◌≡◌, ℕ, ◌≤◌, ◌↔◌, IfOk};
+ghost use Rattle.tl_base.specs.declared.limits.TheConstants.{MAX_BUDGET, MAX_PAGE_WIDTH};
+ghost use Rattle.tl_form.specs.Least.{IsLeastWidth};
+ghost use Rattle.tl_form.specs.Sound.{IsSound};
+ghost use Rattle.tl_nested.specs.Searched.{AreSectionsOf, AreWritable};
+ghost use Rattle.tl_problem.specs.Problem.{ProblemModel};
+ghost use Rattle.tl_solve.specs.declared.outcome.Outcome.{Outcome};
+
+use crate::sections::sections_by;
+use std::alloc::{AllocError, Global};
+use tl_base::{List, Style};
+use tl_cert::Section;
+use tl_form::Table;
+use tl_problem::Problem;
+use tl_solve::{Outcome, Solver};
+
+/// Makes solvers. What each outcome of a solver that it makes has besides is a meaning of the maker.
+pub trait Make: Sync {
+    /// The solvers that are made.
+    type Made: Solver;
+
+    ghost besides: { Self → ProblemModel → ℕ → Outcome → Type 0 };
+
+    /// Makes a solver that can be called.
+    fn make(&self, alloc: Global) -> Result<Self::Made, AllocError>
+        ensures callable { IfOk result (λ made. Self::Made.can_solve made) }
+        ensures besides { IfOk result (λ made. (problem : ProblemModel) (budget : ℕ) (outcome : Outcome) →
+            Self::Made.besides made problem budget outcome → besides self.now problem budget outcome) };
+}
+
+/// All sections of a certificate of the table on a page of `width` columns, each by a solver of its own.
+pub fn sections<M: Make>(
+    alloc: Global,
+    table: &Table,
+    style: Style,
+    width: u32,
+    budget: u32,
+    maker: &M,
+) -> Result<List<Section>, AllocError>
+    requires sound { IsSound table.now }
+    requires narrow { width ≤ MAX_PAGE_WIDTH }
+    requires wide { (least : ℕ) → IsLeastWidth table.now style least → least ≤ width }
+    requires cuts { budget ≤ MAX_BUDGET }
+    ensures expected { IfOk result (AreSectionsOf (λ problem outcome. M.besides maker.now problem budget outcome) table.now
+        style width budget) }
+    ensures writable { IfOk result AreWritable }
+{
+    sections_by(alloc, table, style, width, budget, &|problem: &Problem, budget: u32| -> Result<Outcome, AllocError> {
+        maker.make(alloc)?.solve(problem, budget)
+    })
+}

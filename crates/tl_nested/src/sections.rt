@@ -1,0 +1,116 @@
+//! The sections of a document, one after the other, by a search that is given as a closure.
+
+ghost use Rattle.std.specs.Prelude.{◌≡◌, ℕ, ◌≤◌, IfOk, Some, length};
+ghost use Rattle.tl_base.specs.declared.limits.TheConstants.{MAX_BUDGET, MAX_PAGE_WIDTH};
+ghost use Rattle.tl_cert.specs.declared.section.Section.{Section};
+ghost use Rattle.tl_cert.specs.Text.{IsSectionWritable};
+ghost use Rattle.tl_form.specs.Expected.{due_after, placed_width};
+ghost use Rattle.tl_form.specs.Least.{IsLeastWidth};
+ghost use Rattle.tl_form.specs.Sound.{IsSound};
+ghost use Rattle.tl_form.specs.Subjects.{IsSubject, due_of, meant};
+ghost use Rattle.tl_form.specs.Valid.{AreGoodBelow, IsProblemAt};
+ghost use Rattle.tl_nested.specs.Searched.{AreSectionsOf, AreWritable, IsSearched};
+ghost use Rattle.tl_nested.specs.Solved.{Gives, SearchesEach, SolvesEach};
+ghost use Rattle.tl_nested.specs.inner.SoFar.{FitsPage};
+
+use std::alloc::{AllocError, Global};
+use tl_base::{List, Style};
+use tl_cert::Section;
+use tl_form::{Due, Subject, Table, inner_steps, problem};
+use tl_problem::Problem;
+use tl_solve::Outcome;
+
+/// What one search gave.
+struct Found {
+    section: Section,
+    /// The columns that the placement takes.
+    placed: u32,
+}
+
+/// The problem of the section that is due, on the sections before it.
+fn problem_at(
+    alloc: Global,
+    subject: &Subject,
+    due: Due,
+    before: &[Section],
+) -> Result<Problem, AllocError>
+    requires subject { IsSubject subject.now }
+    requires wide { FitsPage subject.now }
+    requires good { (budget : ℕ) × AreGoodBelow (meant subject.now) budget before.now (length before.now) }
+    requires due { due_after (meant subject.now) before.now ≡ Some (due_of due) }
+    ensures { IfOk result (λ problem. (section : Section) → section.table ≡ due.table → section.width ≡ due.width →
+        IsProblemAt (meant subject.now) before.now section problem) }
+{
+    let table = subject.table_of(due.table);
+    let inner = inner_steps(alloc, table, subject.style, due.width, before)?.unwrap();
+    problem(alloc, table, subject.style, due.width, inner.as_slice())
+}
+
+/// Searches the section that is due, on the sections before it.
+fn search<F: Fn(&Problem, u32) -> Result<Outcome, AllocError>>(
+    alloc: Global,
+    subject: &Subject,
+    due: Due,
+    budget: u32,
+    solve: &F,
+    before: &[Section],
+) -> Result<Found, AllocError>
+    requires subject { IsSubject subject.now }
+    requires wide { FitsPage subject.now }
+    requires cuts { budget ≤ MAX_BUDGET }
+    requires good { AreGoodBelow (meant subject.now) budget before.now (length before.now) }
+    requires due { due_after (meant subject.now) before.now ≡ Some (due_of due) }
+    requires callable { SearchesEach F.Fn solve.now budget }
+    requires solves { SolvesEach F.Fn solve.now budget }
+    ensures searched { IfOk result (λ found. IsSearched (Gives F.Fn solve.now budget) (meant subject.now) budget before.now
+        found.section) }
+    ensures placed { IfOk result (λ found. found.placed ≡ placed_width subject.now.style found.section) }
+    ensures writable { IfOk result (λ found. IsSectionWritable found.section) }
+{
+    let problem = problem_at(alloc, subject, due, before)?;
+    let outcome = solve(&problem, budget)?;
+    Ok(Found {
+        placed: outcome.best.width,
+        section: Section {
+            table: due.table,
+            width: due.width,
+            height: outcome.best.height,
+            lower: outcome.lower,
+            widths: outcome.best.widths,
+            trace: outcome.trace,
+            log: outcome.log,
+        },
+    })
+}
+
+/// All sections of a certificate of the table on a page of `width` columns, each by a call of `solve` with
+/// its own problem and the budget: of each nested table, from the greatest number down, one on the whole
+/// page, and then one a column narrower than the placement before, as long as the table has a layout there;
+/// last one of the table itself. The steps of nested tables come from the sections before.
+pub fn sections_by<F: Fn(&Problem, u32) -> Result<Outcome, AllocError>>(
+    alloc: Global,
+    table: &Table,
+    style: Style,
+    width: u32,
+    budget: u32,
+    solve: &F,
+) -> Result<List<Section>, AllocError>
+    requires sound { IsSound table.now }
+    requires narrow { width ≤ MAX_PAGE_WIDTH }
+    requires wide { (least : ℕ) → IsLeastWidth table.now style least → least ≤ width }
+    requires cuts { budget ≤ MAX_BUDGET }
+    requires callable { SearchesEach F.Fn solve.now budget }
+    requires solves { SolvesEach F.Fn solve.now budget }
+    ensures expected { IfOk result (AreSectionsOf (Gives F.Fn solve.now budget) table.now style width budget) }
+    ensures writable { IfOk result AreWritable }
+{
+    let subject = Subject::of(alloc, table, style, width)?;
+    let mut sections = List::new(alloc);
+    let mut due = Some(subject.first_due());
+    while let Some(now) = due {
+        let found = search(alloc, &subject, now, budget, solve, sections.as_slice())?;
+        sections.push(found.section)?;
+        due = subject.next_due(now.table, found.placed);
+    }
+    Ok(sections)
+}
