@@ -1,6 +1,12 @@
+pub mod Answers
+pub mod ChainRanges
+pub mod Change
 pub mod Command
+pub mod Headline
 pub mod Messages
 pub mod Options
+pub mod Outcomes
 pub mod Reading
 pub mod Refusals
+pub mod Tasks
 pub mod inner

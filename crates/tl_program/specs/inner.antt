@@ -1,3 +1,4 @@
 -- What private functions promise each other. No public clause cites these files.
+pub mod Claims
 pub mod OptionsRead
 pub mod Readings
