@@ -1,5 +1,6 @@
 -- How the entries of a best-first search go on: a zone that is taken out, and parts that are added.
-use Rattle.std.proofs.Common.{◌≡◌, ℕ, ◌+◌, ◌*◌, ◌<◌, ◌≤◌, List, [], ◌∷◌, ◌++◌, inl, inr, length, get_or, map, Option, Some, None, sym, ◌∙◌, subst, ap, arith, length-append}
+use Rattle.std.proofs.Common.{◌≡◌, ℕ, ◌+◌, ◌*◌, ◌<◌, ◌≤◌, List, [], ◌∷◌, ◌++◌, inl, inr, length, get_or, map, Option, Some, None, sym, ◌∙◌, subst}
+use Rattle.std.proofs.Common.{ap, arith, length-append}
 use Rattle.std.specs.BinaryHeap.{heap_items}
 use Rattle.std.specs.List.{All}
 use Rattle.std.proofs.lemmas.Bool.{cases_lt}

@@ -5,7 +5,8 @@ use Rattle.std.specs.List.{flat_map}
 use Rattle.std.proofs.lemmas.Grind.{flat_map-append}
 use Rattle.std.proofs.lemmas.List.{append-nil}
 use Rattle.tl_base.specs.declared.breaking.Breaking.{Breaking}
-use Rattle.tl_tree.specs.Outline.{Entries, table, caption, columns, group, row, cell, paragraph, table_end, block_outline, cell_outline, group_outline, outline}
+use Rattle.tl_tree.specs.Outline.{Entries, table, caption, columns, group, row, cell, paragraph, table_end, block_outline, cell_outline}
+use Rattle.tl_tree.specs.Outline.{group_outline, outline}
 use Rattle.tl_tree.specs.Sound.{IsNestedBelow, table_count}
 use Rattle.tl_tree.specs.inner.Reading.{caption_outline}
 use Rattle.tl_tree.specs.declared.node.Block.{Block, out-Block}

@@ -8,7 +8,8 @@
 --   section 1 12 2 2    the nested table on 12 columns: its placement of 10 has 2 lines, the lowest
 --   section 1 9 3 3     on 9, one less than 10: its placement of 7, its least width, has 3 lines
 --   section 0 12 2 2    the table itself: its placement of 10 has 2 lines
-use Rattle.std.proofs.Common.{◌≡◌, ◌∙◌, ℕ, zero, suc, ◌-◌, ◌==◌, if◌then◌else◌, ◌<◌, ◌≤◌, List, [], ◌∷◌, length, get_or, take, Option, None, Some, refl, sym, ap, subst, arith}
+use Rattle.std.proofs.Common.{◌≡◌, ◌∙◌, ℕ, zero, suc, ◌-◌, ◌==◌, if◌then◌else◌, ◌<◌, ◌≤◌, List, [], ◌∷◌, length, get_or, take, Option, None, Some}
+use Rattle.std.proofs.Common.{refl, sym, ap, subst, arith}
 use Rattle.std.proofs.lemmas.List.Elements.{All-from_recursion}
 use Rattle.tl_base.specs.declared.style.Style.TheVariants.{Plain, Frame}
 use Rattle.tl_cert.specs.declared.certificate.Claim.TheVariants.{Lowest, Bounded}

@@ -1,5 +1,6 @@
 -- The heaviest chain of demands weighs as much as the narrowest columns that give each demand its room take in all.
-use Rattle.std.proofs.Common.{◌≡◌, ℕ, zero, suc, ◌+◌, ◌-◌, ◌*◌, ◌<◌, ◌≤◌, ◌∙◌, List, [], ◌∷◌, ◌++◌, length, take, get_or, sum_by, map, Option, Some, None, Contains, IsSomeAnd, slice_get, refl, sym, ap, subst, ⊎_elim, option_map, length-append, arith}
+use Rattle.std.proofs.Common.{◌≡◌, ℕ, zero, suc, ◌+◌, ◌-◌, ◌*◌, ◌<◌, ◌≤◌, ◌∙◌, List, [], ◌∷◌, ◌++◌, length, take, get_or, sum_by, map, Option, Some}
+use Rattle.std.proofs.Common.{None, Contains, IsSomeAnd, slice_get, refl, sym, ap, subst, ⊎_elim, option_map, length-append, arith}
 use Rattle.std.specs.List.{All}
 use Rattle.std.proofs.lemmas.List.{take_all, take-append-le, length-map}
 use Rattle.std.proofs.lemmas.List.Elements.{All-get_or}

@@ -1,6 +1,7 @@
 -- Where the sections so far are good, the next one that is due has a problem: the tables nested in its own have steps by the
 -- sections, and the problem with them is sound.
-use Rattle.std.proofs.Common.{◌≡◌, ◌∙◌, ℕ, zero, suc, ◌+◌, ◌-◌, ◌*◌, ◌<◌, ◌≤◌, List, [], ◌∷◌, ◌⊎◌, inl, inr, length, get_or, take, Option, None, Some, Contains, refl, sym, ap, subst, arith}
+use Rattle.std.proofs.Common.{◌≡◌, ◌∙◌, ℕ, zero, suc, ◌+◌, ◌-◌, ◌*◌, ◌<◌, ◌≤◌, List, [], ◌∷◌, ◌⊎◌, inl, inr, length, get_or, take, Option, None}
+use Rattle.std.proofs.Common.{Some, Contains, refl, sym, ap, subst, arith}
 use Rattle.std.specs.List.{All, AllZip, AllByRecursion}
 use Rattle.std.specs.Option.{IsSomeAnd}
 use Rattle.std.proofs.lemmas.List.{take_all, length-take}

@@ -18,7 +18,8 @@ use Rattle.tl_tree.specs.declared.node.GroupNode.{GroupNode, out-GroupNode}
 use Rattle.tl_tree.specs.declared.node.TableNode.{TableNode, out-TableNode}
 use Rattle.tl_form.specs.declared.cell.Table.{Table, out-Table}
 use Rattle.tl_form.specs.declared.cell.TableCell.{TableCell}
-use Rattle.tl_form.specs.Formed.{OpenNode, Becomes, BecomesBy, BecomeCaption, caption_rows, cells_of_group, cells_written, group_shape, lowered, shape_of, span_of}
+use Rattle.tl_form.specs.Formed.{OpenNode, Becomes, BecomesBy, BecomeCaption, caption_rows, cells_of_group, cells_written, group_shape, lowered}
+use Rattle.tl_form.specs.Formed.{shape_of, span_of}
 use Rattle.tl_form.specs.Sound.{place_of}
 use Rattle.tl_form.specs.inner.Forming.{Writes, slot_number}
 use Rattle.tl_form.proofs.Becoming.{becomes_by}

@@ -1,5 +1,6 @@
 -- Which tables have a grid where a tree becomes a table, and which is the first of many that has none.
-use Rattle.std.proofs.Common.{◌≡◌, ◌∙◌, ℕ, zero, suc, ◌<◌, Option, Some, None, List, [], ◌∷◌, ◌++◌, ◌⊎◌, inl, inr, length, get_or, take, drop, refl, sym, ap, subst, append_assoc, Result, Ok, Err, IfOk, IfErr, alloc_error}
+use Rattle.std.proofs.Common.{◌≡◌, ◌∙◌, ℕ, zero, suc, ◌<◌, Option, Some, None, List, [], ◌∷◌, ◌++◌, ◌⊎◌, inl, inr, length, get_or, take, drop, refl}
+use Rattle.std.proofs.Common.{sym, ap, subst, append_assoc, Result, Ok, Err, IfOk, IfErr, alloc_error}
 use Rattle.std.specs.List.{AllByRecursion, flat_map}
 use Rattle.std.proofs.Math.Seq.{drop-cons}
 use Rattle.std.proofs.lemmas.Grind.{flat_map-append}

@@ -47,6 +47,7 @@ pub mod SafeProblems
 pub mod LowPlacements
 pub mod PlacementSizes
 pub mod CountsRise
+pub mod ChainRanges
 pub mod Searches
 pub mod LeastExists
 pub mod CountsExist
@@ -72,3 +73,4 @@ pub mod CoveredSteps
 pub mod DueProblems
 pub mod SubjectLemmas
 pub mod ClosedLaws
+pub mod OpenLaws

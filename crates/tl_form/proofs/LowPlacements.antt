@@ -1,6 +1,7 @@
 -- No placement needs more than two lines for all that the table holds: rows that are as high as all cells that begin in
 -- them, one under the other, are enough.
-use Rattle.std.proofs.Common.{◌≡◌, ℕ, zero, suc, ◌+◌, ◌-◌, ◌*◌, ◌<◌, ◌≤◌, Bool, true, false, ◌==◌, cond, ◌⊎◌, inl, inr, List, [], ◌∷◌, length, get_or, map, take, Some, sum, sum_by, refl, sym, ap, subst, ◌∙◌, arith}
+use Rattle.std.proofs.Common.{◌≡◌, ℕ, zero, suc, ◌+◌, ◌-◌, ◌*◌, ◌<◌, ◌≤◌, Bool, true, false, ◌==◌, cond, ◌⊎◌, inl, inr, List, [], ◌∷◌, length}
+use Rattle.std.proofs.Common.{get_or, map, take, Some, sum, sum_by, refl, sym, ap, subst, ◌∙◌, arith}
 use Rattle.std.specs.List.{All, AllZip, AllByRecursion, Any, range_with_len}
 use Rattle.std.proofs.lemmas.Bool.{eq-eqb, ne_eqb, cases_eq}
 use Rattle.std.proofs.lemmas.List.{length-map}

@@ -1,5 +1,6 @@
 -- The same trees become the same table, wherever in memory nested tables lie.
-use Rattle.std.proofs.Common.{◌≡◌, ◌∙◌, ℕ, zero, suc, ◌+◌, ◌<◌, ◌≤◌, max, Option, Some, None, List, [], ◌∷◌, ◌++◌, inl, inr, length, map, get_or, Contains, Result, Ok, Err, IfOk, IfErr, refl, sym, ap, subst, ⊎_elim, arith, alloc_error}
+use Rattle.std.proofs.Common.{◌≡◌, ◌∙◌, ℕ, zero, suc, ◌+◌, ◌<◌, ◌≤◌, max, Option, Some, None, List, [], ◌∷◌, ◌++◌, inl, inr, length, map, get_or}
+use Rattle.std.proofs.Common.{Contains, Result, Ok, Err, IfOk, IfErr, refl, sym, ap, subst, ⊎_elim, arith, alloc_error}
 use Rattle.std.specs.List.{AllPairs, AllZip, AllByRecursion, flat_map}
 use Rattle.std.specs.List.Sorted.{IsPermutation}
 use Rattle.std.proofs.lemmas.Bool.{cases_lt}

@@ -1,6 +1,7 @@
 -- Cells in another order: what is so of each two of them stays so, and cells that share no slot stand by top, then left
 -- where the numbers of their first slots do not fall.
-use Rattle.std.proofs.Common.{◌≡◌, ◌∙◌, ℕ, suc, ◌+◌, ◌*◌, ◌<◌, ◌≤◌, Bool, true, false, ◌&&◌, cond, List, [], ◌∷◌, inl, inr, length, map, get_or, take, sum_by, leb, ltb, refl, ap, arith}
+use Rattle.std.proofs.Common.{◌≡◌, ◌∙◌, ℕ, suc, ◌+◌, ◌*◌, ◌<◌, ◌≤◌, Bool, true, false, ◌&&◌, cond, List, [], ◌∷◌, inl, inr, length, map, get_or}
+use Rattle.std.proofs.Common.{take, sum_by, leb, ltb, refl, ap, arith}
 use Rattle.std.specs.List.{All, AllPairs}
 use Rattle.std.specs.List.Sorted.{IsPermutation, IsNonDecreasingBy}
 use Rattle.std.proofs.lemmas.Bool.{cases_lt, lt-ltb, le-leb, and_from}

@@ -7,7 +7,8 @@ use Rattle.tl_form.specs.declared.cell.Table.{Table, out-Table, fold_out-Table}
 use Rattle.tl_form.specs.declared.cell.TableCell.{TableCell, out-TableCell, fold_out-TableCell}
 use Rattle.tl_form.specs.declared.cell.Content.{Content, out-Content, fold_out-Content, map-Content}
 use Rattle.tl_form.specs.Tables.{OpenContent}
-use Rattle.tl_form.specs.Sound.{content_count, cell_count, table_count, table_size, cell_size, content_size, content_tables, cell_tables, table_tables, nested_in_table, nested_in_cell, nested_in_content}
+use Rattle.tl_form.specs.Sound.{content_count, cell_count, table_count, table_size, cell_size, content_size, content_tables, cell_tables}
+use Rattle.tl_form.specs.Sound.{table_tables, nested_in_table, nested_in_cell, nested_in_content}
 
 mapped_sum : {X : Type 0} (f : X → ℕ) (xs : List X) → sum_by (λ n. n) (map f xs) ≡ sum_by f xs
 mapped_sum f [] = refl

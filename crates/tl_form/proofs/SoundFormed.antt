@@ -1,5 +1,6 @@
 -- What a sound tree becomes is a sound table: no deeper, with as many tables and no greater size than the tree.
-use Rattle.std.proofs.Common.{◌≡◌, ◌∙◌, ℕ, zero, suc, ◌+◌, ◌-◌, ◌≤◌, max, Option, Some, None, List, [], ◌∷◌, ◌++◌, map, sum_by, refl, sym, ap, subst, append_assoc, arith}
+use Rattle.std.proofs.Common.{◌≡◌, ◌∙◌, ℕ, zero, suc, ◌+◌, ◌-◌, ◌≤◌, max, Option, Some, None, List, [], ◌∷◌, ◌++◌, map, sum_by, refl, sym, ap, subst}
+use Rattle.std.proofs.Common.{append_assoc, arith}
 use Rattle.std.specs.List.{All, AllByRecursion, flat_map}
 use Rattle.std.specs.List.Sorted.{IsPermutation}
 use Rattle.std.proofs.lemmas.Grind.{flat_map-append}
@@ -11,7 +12,8 @@ use Rattle.tl_base.specs.declared.breaking.Breaking.{Breaking}
 use Rattle.tl_base.specs.declared.limits.TheConstants.{MAX_DEPTH, MAX_PAGE_WIDTH}
 use Rattle.tl_grid.specs.Dropping.{IsPlaced}
 use Rattle.tl_text.specs.Paragraph.{atom_size}
-use Rattle.tl_tree.specs.Outline.{Entries, table, caption, columns, group, row, cell, paragraph, table_end, block_outline, cell_outline, group_outline, outline}
+use Rattle.tl_tree.specs.Outline.{Entries, table, caption, columns, group, row, cell, paragraph, table_end, block_outline, cell_outline}
+use Rattle.tl_tree.specs.Outline.{group_outline, outline}
 use Rattle.tl_tree.specs.Sound.{AreSound, IsNestedBelow, entry_size}
 use Rattle.tl_tree.specs.Sound.{IsSound as IsSoundTree}
 use Rattle.tl_tree.specs.inner.Reading.{caption_outline}
@@ -36,7 +38,8 @@ use Rattle.tl_form.proofs.SoundParts.{each_joined, append_each}
 use Rattle.tl_form.proofs.Laid.{AreLaid, cells_laid}
 use Rattle.tl_form.proofs.Orders.{apart_moved}
 use Rattle.tl_form.proofs.UnitSizes.{broken_size}
-use Rattle.tl_form.proofs.Blocks.{tables_alone, alone-append, alone-nested, flow_of, captured, blocks_of, alone, alone-table, contents_of, tables_among, tables_of_cells, zip_table}
+use Rattle.tl_form.proofs.Blocks.{tables_alone, alone-append, alone-nested, flow_of, captured, blocks_of, alone, alone-table, contents_of}
+use Rattle.tl_form.proofs.Blocks.{tables_among, tables_of_cells, zip_table}
 use Rattle.std.proofs.Common.{length}
 use Rattle.std.specs.List.{range_with_len}
 use Rattle.tl_form.specs.Refused.{tables_in_block, tables_of as shapes_of}

@@ -1,7 +1,8 @@
 -- What good sections prove: no layout of the table on the section's page is below its lower bound, and one has its height
 -- in the columns of its placement. By induction on the number of the section: those before it tell the truth of the tables
 -- nested in its own.
-use Rattle.std.proofs.Common.{◌≡◌, ◌∙◌, ℕ, zero, suc, ◌+◌, ◌≤◌, Bool, true, if◌then◌else◌, cond, nat_le, filter, option_map, List, [], ◌∷◌, ◌⊎◌, inl, inr, length, get_or, take, None, Some, refl, sym, ap, subst, arith}
+use Rattle.std.proofs.Common.{◌≡◌, ◌∙◌, ℕ, zero, suc, ◌+◌, ◌≤◌, Bool, true, if◌then◌else◌, cond, nat_le, filter, option_map, List, [], ◌∷◌, ◌⊎◌, inl}
+use Rattle.std.proofs.Common.{inr, length, get_or, take, None, Some, refl, sym, ap, subst, arith}
 use Rattle.std.specs.List.{All, AllZip, Contains, last_or}
 use Rattle.std.specs.Option.{IsSomeAnd}
 use Rattle.std.proofs.lemmas.Bool.{cases_eq, eq-eqb, ne_eqb}

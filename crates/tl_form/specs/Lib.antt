@@ -11,6 +11,7 @@ pub mod Numbered
 pub mod ProblemLaws
 pub mod SoundProblems
 pub mod CountLaws
+pub mod ChainRanges
 pub mod Expected
 pub mod Subjects
 pub mod Nested
@@ -19,6 +20,7 @@ pub mod Refusals
 pub mod Named
 pub mod ValidLaws
 pub mod ClosedLaws
+pub mod OpenLaws
 pub mod Spells
 pub mod Laws
 pub mod inner

@@ -7,6 +7,7 @@
 
 mod cell;
 mod cell_steps;
+mod chain_laws;
 mod closed_laws;
 mod count;
 mod error;
@@ -17,6 +18,7 @@ mod layout;
 mod narrow;
 mod nested_steps;
 mod numbers;
+mod open_laws;
 mod paragraph;
 mod problem_laws;
 mod problems;
@@ -27,6 +29,7 @@ mod widest;
 mod width;
 
 pub use cell::{Content, Kind, Table, TableCell};
+pub use chain_laws::{chains_are_writable, formed_has_few_cells};
 pub use closed_laws::{budget_closes, closed_tell_least};
 pub use count::nested;
 pub use error::FormError;
@@ -40,6 +43,7 @@ pub use layout::Layout;
 pub use narrow::narrow_chain;
 pub use nested_steps::inner_steps;
 pub use numbers::with_number;
+pub use open_laws::open_spends;
 pub use problem_laws::{
     counts_exist, counts_rise, layouts_are_by_low, layouts_by_high_fit, least_heights_exist,
     placements_are_low, problem_is_determined, sound_problems_alone, true_problems_exist,

@@ -137,7 +137,8 @@ module _ (breaking : Breaking) (forms : TableNode → Table → Type 0) (alike :
   para_back block inner others k units atoms opened is sound left =
       let range = sound.in_range.0 in
       let spelt : AllByRecursion IsSpelt atoms = recursion_from_All IsSpelt atoms range.is_paragraph.spelt in
-      let flow : flow_of block inner ≡ open_flow (open_content.Para units) inner = flow_of-out block inner ∙ ap (λ (c : OpenContent). open_flow c inner) opened in
+      let flow : flow_of block inner ≡ open_flow (open_content.Para units) inner = flow_of-out block inner
+      ∙ ap (λ (c : OpenContent). open_flow c inner) opened in
       let made : Block = roll-Block (open_block.Para atoms) in
       let open_made : out-Block made ≡ open_block.Para atoms = out-roll-Block (open_block.Para atoms) in
       record {
@@ -166,7 +167,8 @@ module _ (breaking : Breaking) (forms : TableNode → Table → Type 0) (alike :
       ap (λ (ms : Marks). paragraph_of (atoms_of (character 0x0A ∷ ms)) ++ entries_after k later) sharp
       ∙ ap (λ (atoms : List Atom). paragraph_of atoms ++ entries_after k later) nothing_there
 
-  nested_back : (block : Content) (layout : Layout) (inner : List Layout) (others : List Table) (k : ℕ) (nbox : Box TableNode Global) (box : Box Table Global) →
+  nested_back : (block : Content) (layout : Layout) (inner : List Layout) (others : List Table) (k : ℕ) (nbox : Box TableNode Global)
+      (box : Box Table Global) →
       out-Content block ≡ open_content.Table box → forms nbox.value box.value → AreSound (outline nbox.value) → has box.value layout →
       AllZip has others inner → BlockBack block (layout ∷ inner) others k
   nested_back block layout inner others k nbox box opened becomes sound fits left =
@@ -202,7 +204,8 @@ module _ (breaking : Breaking) (forms : TableNode → Table → Type 0) (alike :
         };
         back = back;
         becomes = subst (λ (o : OpenBlock). BecomesContent forms breaking o (out-Content back)) (sym (out-roll-Block (open_block.Table nbox')))
-            (subst (λ (c : OpenContent). BecomesContent forms breaking (open_block.Table nbox') c) (sym (out-roll-Content (open_content.Table box'))) t.become);
+            (subst (λ (c : OpenContent). BecomesContent forms breaking (open_block.Table nbox') c)
+            (sym (out-roll-Content (open_content.Table box'))) t.become);
         same = subst (λ (c : OpenContent). AreSameContent alike c (out-Content back)) (sym opened)
             (subst (λ (c : OpenContent). AreSameContent alike (open_content.Table box) c) (sym (out-roll-Content (open_content.Table box'))) t.same);
       }
@@ -220,7 +223,8 @@ module _ (breaking : Breaking) (forms : TableNode → Table → Type 0) (alike :
   abbrev pub tables_among : List Content → List Table
   tables_among blocks = flat_map (λ block. tables_of (out-Content block)) blocks
 
-  pub flow_back : (flow : List Block) (blocks : List Content) (inner : List Layout) (others : List Table) (k : ℕ) → BecomeContents forms breaking flow blocks →
+  pub flow_back : (flow : List Block) (blocks : List Content) (inner : List Layout) (others : List Table) (k : ℕ) →
+      BecomeContents forms breaking flow blocks →
       AllByRecursion (λ block. AreSound (block_outline block)) flow → AllZip has (tables_among blocks ++ others) inner → FlowBack blocks inner others k
   flow_back [] [] inner others k become sound fits = record {
     items = [];

@@ -1,5 +1,6 @@
 -- The cells of a row and the rows of a table on a page, and the same read back.
-use Rattle.std.proofs.Common.{◌≡◌, ℕ, ◌-◌, ◌<◌, ◌≤◌, Bool, true, false, List, [], ◌∷◌, ◌++◌, map, refl, sym, ap, ◌∙◌, subst, append_assoc, append-nil, codes, arith}
+use Rattle.std.proofs.Common.{◌≡◌, ℕ, ◌-◌, ◌<◌, ◌≤◌, Bool, true, false, List, [], ◌∷◌, ◌++◌, map, refl, sym, ap, ◌∙◌, subst, append_assoc, append-nil}
+use Rattle.std.proofs.Common.{codes, arith}
 use Rattle.std.specs.List.{AllZip, AllByRecursion, flat_map}
 use Rattle.std.proofs.lemmas.List.{map-append}
 use Rattle.std.proofs.lemmas.List.Concat.{flat_map-append}
@@ -150,12 +151,14 @@ cell_goes head colspan rowspan least items ms goes k1 rest m1 more cells =
     let split : grammar_kinds (start_item head colspan rowspan least ∷ (items ++ end_item head ∷ [])) ++ k1
     ≡ cell_start head spans ∷ (grammar_kinds items ++ (cell_end head ∷ k1)) =
     ap (λ (ks : Kinds). ks ++ k1) (start_kind head colspan rowspan least (items ++ end_item head ∷ []))
-    ∙ ap (λ (ks : Kinds). cell_start head spans ∷ (ks ++ k1)) (kinds_append items (end_item head ∷ []) ∙ ap (λ (ks : Kinds). grammar_kinds items ++ ks) (end_kind head))
+    ∙ ap (λ (ks : Kinds). cell_start head spans ∷ (ks ++ k1))
+    (kinds_append items (end_item head ∷ []) ∙ ap (λ (ks : Kinds). grammar_kinds items ++ ks) (end_kind head))
     ∙ ap (λ (ks : Kinds). cell_start head spans ∷ ks) (append_assoc (grammar_kinds items) (cell_end head ∷ []) k1) in
     subst (λ (ks : Kinds). Cells ks (cell_marks head colspan rowspan least ms ++ m1) rest more) (sym split)
     (subst (λ (m : Marks). Cells (cell_start head spans ∷ (grammar_kinds items ++ (cell_end head ∷ k1))) (grammar.cell_begins head spans ∷ m) rest more)
     (sym (append_assoc ms (grammar.paragraph_ends ∷ []) m1))
-    (grammar.cell (goes (cell_end head ∷ k1) (cell_end head ∷ k1) (grammar.paragraph_ends ∷ m1) (grammar.paragraph_ends ∷ m1) no_flow) (by_tag no_space) cells))
+    (grammar.cell (goes (cell_end head ∷ k1) (cell_end head ∷ k1) (grammar.paragraph_ends ∷ m1) (grammar.paragraph_ends ∷ m1) no_flow)
+    (by_tag no_space) cells))
 
 cell_stands : (k next : ℕ) (head : Bool) (colspan rowspan least : ℕ) (ms : Marks) (es : Entries) → StandFor k ms es next →
     StandFor k (cell_marks head colspan rowspan least ms) (cell head colspan rowspan least ∷ es) next
@@ -269,7 +272,8 @@ module _ (breaking : Breaking) (forms : TableNode → Table → Type 0) (alike :
       record {
         items = items ++ rest.items;
         are = append_each IsItem items rest.items (
-          start_is n.head colspan rowspan o.least (omega (arith, is.wide)) is.few_columns (omega (arith, is.high)) is.few_rows (omega (arith, is.becomes.least, range.narrow)),
+          start_is n.head colspan rowspan o.least (omega (arith, is.wide)) is.few_columns (omega (arith, is.high)) is.few_rows
+              (omega (arith, is.becomes.least, range.narrow)),
           append_each IsItem flow.items (end_item n.head ∷ []) flow.are (end_is n.head, tt),
         )
             rest.are;
@@ -281,22 +285,31 @@ module _ (breaking : Breaking) (forms : TableNode → Table → Type 0) (alike :
         left = rest.left;
         at = ap (λ (ps : List Place). place ∷ ps) rest.at;
         plain = (ap html.is_caption_kind is.becomes.kind ∙ no_caption_kind n.head, rest.plain);
-        written = ap (λ (kind : Kind). cell_html (record { kind = kind; place = place; least = o.least; text = found.text }) ++ flat_map cell_html rest.filled) is.becomes.kind
+        written = ap (λ (kind : Kind). cell_html (record {
+          kind = kind;
+          place = place;
+          least = o.least;
+          text =
+              found.text;
+        }) ++ flat_map cell_html rest.filled) is.becomes.kind
             ∙ ap (λ (cs : List ℕ). cs ++ flat_map cell_html rest.filled) (cell_written n.head place o.least found.text flow.items flow.written)
             ∙ ap (λ (cs : List ℕ). items_text items ++ cs) rest.written
             ∙ sym (flat_map-append item_text items rest.items);
         ms = marks ++ rest.ms;
         goes = subst (λ (ks : Kinds). CellsGo ks (marks ++ rest.ms)) (sym (kinds_append items rest.items))
-            (cells_append (grammar_kinds items) (grammar_kinds rest.items) marks rest.ms (cell_goes n.head colspan rowspan o.least flow.items flow.ms flow.goes) rest.goes);
+            (cells_append (grammar_kinds items) (grammar_kinds rest.items) marks rest.ms
+            (cell_goes n.head colspan rowspan o.least flow.items flow.ms flow.goes) rest.goes);
         next = rest.next;
         nodes = made ∷ rest.nodes;
         stand = stand_append k flow.next rest.next marks rest.ms (cell_outline made) (cells_outline rest.nodes)
-            (subst (λ (es : Entries). StandFor k marks es flow.next) (sym (cell_made node')) (cell_stands k flow.next n.head colspan rowspan o.least flow.ms (flow_outline flow.flow) flow.stand))
+            (subst (λ (es : Entries). StandFor k marks es flow.next) (sym (cell_made node'))
+            (cell_stands k flow.next n.head colspan rowspan o.least flow.ms (flow_outline flow.flow) flow.stand))
             rest.stand;
         back = twin ∷ rest.back;
         become = (
           subst (λ (d : OpenCellNode). BecomesCell forms breaking d (out-TableCell twin)) (sym open_node)
-              (subst (λ (d : OpenCell). BecomesCell forms breaking node' d) (sym open_twin) (record { kind = is.becomes.kind; least = refl; blocks = flow.become })),
+              (subst (λ (d : OpenCell). BecomesCell forms breaking node' d) (sym open_twin)
+              (record { kind = is.becomes.kind; least = refl; blocks = flow.become })),
           rest.become,
         );
         same = (
@@ -399,7 +412,8 @@ module _ (breaking : Breaking) (forms : TableNode → Table → Type 0) (alike :
             ∙ ap (λ (fs : List Filled). one.filled ++ fs) (rest.fills more)
             ∙ sym (append_assoc one.filled (joined rest.filled) (fill (map cell_of more) rest.layouts));
         left = rest.left;
-        at = ap (λ (ps : List Place). ps ∷ map (map (λ (f : Filled). f.place)) rest.filled) one.at ∙ ap (λ (pss : List (List Place)). map place_of cells ∷ pss) rest.at;
+        at = ap (λ (ps : List Place). ps ∷ map (map (λ (f : Filled). f.place)) rest.filled) one.at
+            ∙ ap (λ (pss : List (List Place)). map place_of cells ∷ pss) rest.at;
         plain = (one.plain, rest.plain);
         written = ap (λ (cs : List ℕ). cs ++ flat_map row_line rest.filled) (row_written one.filled one.items one.written)
             ∙ ap (λ (cs : List ℕ). items_text items ++ cs) rest.written
@@ -413,10 +427,12 @@ module _ (breaking : Breaking) (forms : TableNode → Table → Type 0) (alike :
         stand = stand_append k one.next rest.next marks rest.ms (row ∷ cells_outline one.nodes) (rows_outline rest.nodes)
             (row_stands k one.next one.ms (cells_outline one.nodes) one.stand) rest.stand;
         back = one.back ++ rest.back;
-        become = joined_zip (λ node made. BecomesCell forms breaking (out-CellNode node) (out-TableCell made)) one.nodes (joined rest.nodes) one.back rest.back
+        become = joined_zip (λ node made. BecomesCell forms breaking (out-CellNode node) (out-TableCell made)) one.nodes
+            (joined rest.nodes) one.back rest.back
             one.become rest.become;
         same = joined_zip (λ c twin. AreSameCell alike (out-TableCell c) (out-TableCell twin)) cells (joined rows) one.back rest.back one.same rest.same;
         places = map-append place_of one.back rest.back ∙ ap (λ (ps : List Place). ps ++ map place_of rest.back) one.places
             ∙ ap (λ (ps : List Place). map place_of cells ++ ps) rest.places ∙ sym (map-append place_of cells (joined rows));
-        spans = ap (λ (ss : List SpanOf). ss ∷ map (map span_of) rest.nodes) one.spans ∙ ap (λ (sss : List (List SpanOf)). map (λ c. span_at (place_of c)) cells ∷ sss) rest.spans;
+        spans = ap (λ (ss : List SpanOf). ss ∷ map (map span_of) rest.nodes) one.spans
+            ∙ ap (λ (sss : List (List SpanOf)). map (λ c. span_at (place_of c)) cells ∷ sss) rest.spans;
       }

@@ -73,21 +73,22 @@ numbers_aside = (
   1,
   subst (λ (t : OpenTable). AreAlikeBy (AreAlikeWithin 0) t (out-Table (table_of 5 1))) (sym (out-roll-Table (open_table 0 1)))
       (subst (λ (t : OpenTable). AreAlikeBy (AreAlikeWithin 0) (open_table 0 1) t) (sym (out-roll-Table (open_table 5 1))) (record {
-    cols = refl;
-    rows = refl;
-    cells = (
-      subst (λ (c : OpenCell). AreSameCell (AreAlikeWithin 0) c c) (sym (out-roll-TableCell (empty_cell 1)))
-          (record { kind = refl; place = refl; least = refl; blocks = tt }),
-      tt,
-    );
-  })),
+        cols = refl;
+        rows = refl;
+        cells = (
+          subst (λ (c : OpenCell). AreSameCell (AreAlikeWithin 0) c c) (sym (out-roll-TableCell (empty_cell 1)))
+              (record { kind = refl; place = refl; least = refl; blocks = tt }),
+          tt,
+        );
+      })),
 )
 
 -- numbers of columns do
 columns_count : (depth : ℕ) → AreAlikeWithin depth (table_of 0 1) (table_of 0 2) → ⊥
 columns_count zero alike = alike
 columns_count (suc depth) alike =
-    let same : 1 ≡ 2 = sym (ap (λ (t : OpenTable). t.cols) (out-roll-Table (open_table 0 1))) ∙ alike.cols ∙ ap (λ (t : OpenTable). t.cols) (out-roll-Table (open_table 0 2)) in
+    let same : 1 ≡ 2 = sym (ap (λ (t : OpenTable). t.cols) (out-roll-Table (open_table 0 1))) ∙ alike.cols
+    ∙ ap (λ (t : OpenTable). t.cols) (out-roll-Table (open_table 0 2)) in
     omega (arith, same)
 
 -- a layout has a width for each column, or the page says too little
@@ -96,9 +97,9 @@ one_width = (
   1,
   subst (λ (t : OpenTable). HasColumnsBy (HasColumnsWithin 0) t (out-Layout (roll-Layout (open_layout (3 ∷ []))))) (sym (out-roll-Table (open_table 0 1)))
       (subst (λ (l : OpenLayout). HasColumnsBy (HasColumnsWithin 0) (open_table 0 1) l) (sym (out-roll-Layout (open_layout (3 ∷ [])))) (record {
-    columns = refl;
-    inner = subst (λ (c : OpenCell). AllZip (HasColumnsWithin 0) (tables_in c ++ []) []) (sym (out-roll-TableCell (empty_cell 1))) tt;
-  })),
+        columns = refl;
+        inner = subst (λ (c : OpenCell). AllZip (HasColumnsWithin 0) (tables_in c ++ []) []) (sym (out-roll-TableCell (empty_cell 1))) tt;
+      })),
 )
 
 no_width : (depth : ℕ) → HasColumnsWithin depth (table_of 0 1) (roll-Layout (open_layout [])) → ⊥

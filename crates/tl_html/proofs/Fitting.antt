@@ -1,5 +1,5 @@
 -- A layout that fits a page has a width for each column.
-use Rattle.std.proofs.Common.{ℕ, zero, suc, List, [], ◌∷◌, ◌++◌, sym, subst}
+use Rattle.std.proofs.Common.{ℕ, zero, suc, List, [], ◌∷◌, sym, subst}
 use Rattle.std.specs.List.{AllZip, flat_map}
 use Rattle.tl_base.specs.declared.style.Style.{Style}
 use Rattle.tl_form.specs.declared.cell.Content.{Content, out-Content}

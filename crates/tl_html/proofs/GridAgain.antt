@@ -1,9 +1,11 @@
 -- A grid that is written out row by row is formed again: each cell comes to its place, and no column and no row is
 -- dropped.
-use Rattle.std.proofs.Common.{◌≡◌, ℕ, ◌+◌, ◌-◌, ◌<◌, ◌≤◌, max, zero, suc, Bool, true, false, ◌&&◌, ◌||◌, cond, ltb, leb, eqb, List, [], ◌∷◌, ◌++◌, map, length, get_or}
+use Rattle.std.proofs.Common.{◌≡◌, ℕ, ◌+◌, ◌-◌, ◌<◌, ◌≤◌, max, zero, suc, Bool, true, false, ◌&&◌, ◌||◌, cond, ltb, leb, eqb, List, [], ◌∷◌, ◌++◌}
+use Rattle.std.proofs.Common.{map, length, get_or}
 use Rattle.std.proofs.Common.{◌⊎◌, refl, sym, ap, ◌∙◌, subst, inl, inr, arith, append_assoc, append-nil, All}
 use Rattle.std.specs.List.{AllByRecursion, AllPairs, flat_map}
-use Rattle.std.proofs.lemmas.Bool.{lt-ltb, le-leb, eqb-true, ltb-true, leb-true, and_parts, and_from, or_left, or_right, cases_lt, cond-false, false_from_ne_true}
+use Rattle.std.proofs.lemmas.Bool.{lt-ltb, le-leb, eqb-true, ltb-true, leb-true, and_parts, and_from, or_left, or_right, cases_lt, cond-false}
+use Rattle.std.proofs.lemmas.Bool.{false_from_ne_true}
 use Rattle.std.proofs.lemmas.List.{length-append}
 use Rattle.tl_grid.specs.declared.shape.SpanOf.{SpanOf}
 use Rattle.tl_grid.specs.declared.shape.Shape.{Shape}
@@ -124,14 +126,16 @@ module _ (W H : ℕ) (places : List Place) (grid : IsGrid W H places) where
               absurd (elim (cases_lt (length done) k) [
                 | inl after ↦ (
                     let first : get_or places (length done) q ≡ p = ap (λ (l : List Place). get_or l (length done) q) (sym split) ∙ middle done p later q in
-                    let order : Precedes p q = subst (λ (r : Place). Precedes r q) first (subst (Precedes (get_or places (length done) q)) is (grid.in_order (length done) k q after inside)) in
+                    let order : Precedes p q = subst (λ (r : Place). Precedes r q) first
+                    (subst (Precedes (get_or places (length done) q)) is (grid.in_order (length done) k q after inside)) in
                     elim order [
                       | inl lower ↦ omega (arith, has.2)
                       | inr beside ↦ omega (arith, has.0, beside.1)
                     ])
                 | inr upto ↦ (
                     let at : k ≡ length done = omega arith in
-                    let same : q ≡ p = sym is ∙ ap (λ n. get_or places n q) at ∙ ap (λ (l : List Place). get_or l (length done) q) (sym split) ∙ middle done p later q in
+                    let same : q ≡ p = sym is ∙ ap (λ n. get_or places n q) at ∙ ap (λ (l : List Place). get_or l (length done) q) (sym split)
+                    ∙ middle done p later q in
                     let bound : p.left ≤ x = subst (λ (r : Place). r.left ≤ x) same has.0 in
                     omega arith)
               ])
@@ -222,7 +226,8 @@ module _ (W H : ℕ) (places : List Place) (grid : IsGrid W H places) where
       let same : (column : ℕ) → taken column ≡ has_cell column p.top (cells_on 0 done) =
       λ column. ap (λ row. has_cell column row s.cells) (state.row ∙ sym level.0) ∙ ap (has_cell column p.top) state.cells in
       let lies_p : IsPlaced W H p = lies done p (ps ++ more) split in
-      let found : first_free taken x (s.width - x) ≡ p.left = first_free_is taken (s.width - x) x p.left starts (omega (arith, state.width, lies_p.0, lies_p.1))
+      let found : first_free taken x (s.width - x) ≡ p.left = first_free_is taken (s.width - x) x p.left starts
+      (omega (arith, state.width, lies_p.0, lies_p.1))
       (λ column from lt. same column ∙ left_covered done p (ps ++ more) split column lt)
       (same p.left ∙ first_is_free done p (ps ++ more) split) in
       let span = span_at p in
@@ -243,8 +248,11 @@ module _ (W H : ℕ) (places : List Place) (grid : IsGrid W H places) where
       (let long : length (done ++ p ∷ []) ≡ length done + 1 = length-append done (p ∷ []) in omega arith) state' low in
       let Q : Forming → Type 0 = λ made. IsAt y (done ++ p ∷ ps) made × (s.height ≤ made.height) in
       subst (λ column. Q (form_cells (number + 1) (column + span.colspan) (map span_at ps) (with_cell number column span s))) (sym found)
-      (subst (λ column. Q (form_cells (number + 1) column (map span_at ps) next)) (sym right)
-      (subst (λ (l : List Place). IsAt y l (form_cells (number + 1) p.right (map span_at ps) next)) (append_assoc done (p ∷ []) ps) rest.0, omega (arith, rest.1)))
+      (subst (λ column. Q (form_cells (number + 1) column (map span_at ps) next)) (sym right) (
+        subst (λ (l : List Place). IsAt y l (form_cells (number + 1) p.right (map span_at ps) next)) (append_assoc done (p ∷ []) ps) rest.0,
+        omega
+            (arith, rest.1),
+      ))
 
   -- ---- rows are formed
 
@@ -330,7 +338,8 @@ module _ (W H : ℕ) (places : List Place) (grid : IsGrid W H places) where
         low = made.0.low;
         cells = made.0.cells;
       } in
-      let rest = rows_again rows (done ++ ps) (y + 1) (number + length (map span_at ps)) next (append_assoc done ps (concat rows) ∙ split) level.1 (omega arith)
+      let rest = rows_again rows (done ++ ps) (y + 1) (number + length (map span_at ps)) next (append_assoc done ps (concat rows) ∙ split) level.1
+      (omega arith)
       (omega (arith, length_spans ps, length-append done ps)) after (omega (arith, low, made.1)) in
       let end : y + 1 + length rows ≡ y + suc (length rows) = omega arith in
       subst (λ n. IsAt n places (form_rows number (spans_on (ps ∷ rows)) s) × (n ≤ (form_rows number (spans_on (ps ∷ rows)) s).height)) end rest

@@ -1,5 +1,6 @@
 -- Where a cell is anchored in each column and each row, none is dropped: the grid that is formed again is the grid.
-use Rattle.std.proofs.Common.{◌≡◌, ℕ, ◌+◌, ◌-◌, ◌<◌, ◌≤◌, zero, suc, Bool, true, false, ◌&&◌, cond, ltb, leb, eqb, List, [], ◌∷◌, ◌++◌, map, length, get_or, Some}
+use Rattle.std.proofs.Common.{◌≡◌, ℕ, ◌+◌, ◌-◌, ◌<◌, ◌≤◌, zero, suc, Bool, true, false, ◌&&◌, cond, ltb, leb, eqb, List, [], ◌∷◌, ◌++◌, map, length}
+use Rattle.std.proofs.Common.{get_or, Some}
 use Rattle.std.proofs.Common.{refl, sym, ap, ◌∙◌, subst, inl, inr, arith, append_assoc}
 use Rattle.std.specs.List.{AllByRecursion, AllPairs, filter, list_any, slice_get, flat_map}
 use Rattle.std.proofs.lemmas.Bool.{lt-ltb, le-leb, le-ltb, lt-leb, eq-eqb, or_left, or_right, cases_Bool, cases_lt, cond-true, cond-false, false_from_ne_true}
@@ -8,7 +9,8 @@ use Rattle.std.proofs.lemmas.List.Sums.{sum_by-cons}
 use Rattle.tl_base.specs.declared.limits.TheConstants.{MAX_CELLS, MAX_COLUMNS, MAX_ROWS}
 use Rattle.tl_grid.specs.declared.shape.Place.{Place}
 use Rattle.tl_grid.specs.Forming.{Cell, Forming, covers, formed, cell_count, cells_in}
-use Rattle.tl_grid.specs.Dropping.{count_below, keeps_column, keeps_row, new_column, new_row, covered_columns, covered_rows, place_of, IsPlaced, StandsAtNumber}
+use Rattle.tl_grid.specs.Dropping.{count_below, keeps_column, keeps_row, new_column, new_row, covered_columns, covered_rows, place_of, IsPlaced}
+use Rattle.tl_grid.specs.Dropping.{StandsAtNumber}
 use Rattle.tl_grid.specs.Overlap.{numbers_over}
 use Rattle.tl_grid.specs.Form.{HasGrid}
 use Rattle.tl_grid.specs.Slots.{HasSlot, AreApart, HasAnchorInColumn, HasAnchorInRow}
@@ -113,7 +115,8 @@ cells_counted [] = refl
 cells_counted (ps ∷ rows) =
     let rest : cells_in (map (map span_at) rows) ≡ length (flat_map (λ (qs : List Place). qs) rows) = cells_counted rows in
     let here : length (map span_at ps) ≡ length ps = length-map ps span_at in
-    let sum : cells_in (map (map span_at) (ps ∷ rows)) ≡ length (map span_at ps) + cells_in (map (map span_at) rows) = sum_by-cons length (map span_at ps) (map (map span_at) rows) in
+    let sum : cells_in (map (map span_at) (ps ∷ rows)) ≡ length (map span_at ps) + cells_in (map (map span_at) rows) = sum_by-cons length
+    (map span_at ps) (map (map span_at) rows) in
     let long : length (ps ++ flat_map (λ (qs : List Place). qs) rows) ≡ length ps + length (flat_map (λ (qs : List Place). qs) rows) = length-append ps _ in
     omega arith
 
@@ -141,18 +144,23 @@ module _ (W H : ℕ) (places : List Place) (grid : IsGrid W H places) (columns :
 
     place_again : (number : ℕ) (p : Place) → IsPlaced W H p → place_of state (cell_on number p) ≡ p
     place_again number p lies =
-        let left : new_column state.cells p.left ≡ p.left = count_all (keeps_column state.cells) p.left (λ x lt. kept_column 0 x (omega (arith, lies.0, lies.1))) in
+        let left : new_column state.cells p.left ≡ p.left = count_all (keeps_column state.cells) p.left
+        (λ x lt. kept_column 0 x (omega (arith, lies.0, lies.1))) in
         let top : new_row state.cells p.top ≡ p.top = count_all (keeps_row state.cells) p.top (λ y lt. kept_row 0 y (omega (arith, lies.2, lies.3))) in
         let across : covered_columns state (cell_on number p) ≡ p.right - p.left = count_between
         (λ x. keeps_column state.cells x && (leb p.left x && ltb x p.right)) p.left p.right W (omega (arith, lies.0)) lies.1
         (λ x lt below. ap (λ b. keeps_column state.cells x && (b && ltb x p.right)) (lt-leb p.left x below) ∙ and_none (keeps_column state.cells x))
-        (λ x lt from to. ap (λ b. b && (leb p.left x && ltb x p.right)) (kept_column 0 x lt) ∙ ap (λ b. b && ltb x p.right) (le-leb p.left x from) ∙ lt-ltb x p.right to)
-        (λ x lt past. ap (λ b. keeps_column state.cells x && (leb p.left x && b)) (le-ltb x p.right past) ∙ ap (λ b. keeps_column state.cells x && b) (and_none (leb p.left x)) ∙ and_none (keeps_column state.cells x)) in
+        (λ x lt from to. ap (λ b. b && (leb p.left x && ltb x p.right)) (kept_column 0 x lt) ∙ ap (λ b. b && ltb x p.right) (le-leb p.left x from)
+        ∙ lt-ltb x p.right to)
+        (λ x lt past. ap (λ b. keeps_column state.cells x && (leb p.left x && b)) (le-ltb x p.right past)
+        ∙ ap (λ b. keeps_column state.cells x && b) (and_none (leb p.left x)) ∙ and_none (keeps_column state.cells x)) in
         let down : covered_rows state (cell_on number p) ≡ p.bottom - p.top = count_between
         (λ y. keeps_row state.cells y && (leb p.top y && ltb y p.bottom)) p.top p.bottom H (omega (arith, lies.2)) lies.3
         (λ y lt below. ap (λ b. keeps_row state.cells y && (b && ltb y p.bottom)) (lt-leb p.top y below) ∙ and_none (keeps_row state.cells y))
-        (λ y lt from to. ap (λ b. b && (leb p.top y && ltb y p.bottom)) (kept_row 0 y lt) ∙ ap (λ b. b && ltb y p.bottom) (le-leb p.top y from) ∙ lt-ltb y p.bottom to)
-        (λ y lt past. ap (λ b. keeps_row state.cells y && (leb p.top y && b)) (le-ltb y p.bottom past) ∙ ap (λ b. keeps_row state.cells y && b) (and_none (leb p.top y)) ∙ and_none (keeps_row state.cells y)) in
+        (λ y lt from to. ap (λ b. b && (leb p.top y && ltb y p.bottom)) (kept_row 0 y lt) ∙ ap (λ b. b && ltb y p.bottom) (le-leb p.top y from)
+        ∙ lt-ltb y p.bottom to)
+        (λ y lt past. ap (λ b. keeps_row state.cells y && (leb p.top y && b)) (le-ltb y p.bottom past)
+        ∙ ap (λ b. keeps_row state.cells y && b) (and_none (leb p.top y)) ∙ and_none (keeps_row state.cells y)) in
         let right : new_column state.cells p.left + covered_columns state (cell_on number p) ≡ p.right = omega (arith, lies.0) in
         let bottom : new_row state.cells p.top + covered_rows state (cell_on number p) ≡ p.bottom = omega (arith, lies.2) in
         λ i. record { left = left i; right = right i; top = top i; bottom = bottom i }

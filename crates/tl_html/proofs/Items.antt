@@ -5,7 +5,8 @@ use Rattle.std.specs.List.{AllByRecursion, flat_map}
 use Rattle.std.proofs.lemmas.Bool.{eqb-true, both_ways, not_from_false}
 use Rattle.tl_token.specs.Characters.{is_control}
 use Rattle.tl_token.specs.Grammar.{Piece, hidden, tag, character, Stands, by_reference, plain}
-use Rattle.tl_token.specs.Spelling.{Part, part, place_of, Leads, here, next, join_before, character_before, piece_before, tokens_of, characters, without_mark, SpellsTokens}
+use Rattle.tl_token.specs.Spelling.{Part, part, place_of, Leads, here, next, join_before, character_before, piece_before, tokens_of, characters}
+use Rattle.tl_token.specs.Spelling.{without_mark, SpellsTokens}
 use Rattle.tl_token.specs.declared.token.Element.{Element}
 use Rattle.tl_token.specs.declared.token.Spans.{Spans}
 use Rattle.tl_token.specs.declared.token.Token.{Token}
@@ -96,7 +97,8 @@ abbrev piece_of : Part → Piece
 piece_of part = part.piece
 
 -- pieces at their places in a file
-placed : (size : ℕ) (cs rest : List ℕ) (pieces : List Piece) → Reads cs pieces rest → (parts : List Part) × (Leads size cs parts rest × (map piece_of parts ≡ pieces))
+placed : (size : ℕ) (cs rest : List ℕ) (pieces : List Piece) → Reads cs pieces rest →
+    (parts : List Part) × (Leads size cs parts rest × (map piece_of parts ≡ pieces))
 placed size cs rest _ done = ([], (here, refl))
 placed size cs rest _ (step {mid = mid} {pieces = pieces} piece stands more) =
     let (parts, later) = placed size mid rest pieces more in (

@@ -1,5 +1,6 @@
 -- The tags that a page has, as tokens: tags without attributes, a column with its width, and a cell with its numbers.
-use Rattle.std.proofs.Common.{◌≡◌, ◌≢◌, ℕ, ◌+◌, ◌*◌, ◌/◌, ◌%◌, ◌^◌, ◌<◌, ◌≤◌, min, max, Bool, true, false, not, ◌||◌, cond, ltb, eqb, List, [], ◌∷◌, ◌++◌, Option, Some, None, refl, sym, ap, ◌∙◌, subst, append_assoc, arith, decimal, zero, suc}
+use Rattle.std.proofs.Common.{◌≡◌, ◌≢◌, ℕ, ◌+◌, ◌*◌, ◌/◌, ◌%◌, ◌^◌, ◌<◌, ◌≤◌, min, max, Bool, true, false, not, ◌||◌, cond, ltb, eqb, List, [], ◌∷◌}
+use Rattle.std.proofs.Common.{◌++◌, Option, Some, None, refl, sym, ap, ◌∙◌, subst, append_assoc, arith, decimal, zero, suc}
 use Rattle.std.specs.Prelude.{codes, option_and_then}
 use Rattle.tl_token.specs.declared.token.TokenKind.TheVariants.{Start}
 use Rattle.std.specs.Char.{is_ascii_digit, digit_value}
@@ -292,7 +293,8 @@ module _ (colspan rowspan least : ℕ) (columns : 0 < colspan) (few_columns : co
     least = least_is (ltb 1 colspan) (ltb 1 rowspan) (ltb 0 least) refl i;
   }
 
-  all_attributes : (rest : List ℕ) → Attributes ((attributes_text colspan rowspan least) ++ (0x3E ∷ rest)) (listed (ltb 1 colspan) (ltb 1 rowspan) (ltb 0 least)) rest
+  all_attributes : (rest : List ℕ) → Attributes ((attributes_text colspan rowspan least) ++ (0x3E ∷ rest))
+      (listed (ltb 1 colspan) (ltb 1 rowspan) (ltb 0 least)) rest
   all_attributes rest =
       let a = attribute (codes "colspan") 1 colspan in
       let b = attribute (codes "rowspan") 1 rowspan in

@@ -1,5 +1,6 @@
 -- Paragraphs on a page: the tags and texts that they are, and the same words read back.
-use Rattle.std.proofs.Common.{◌≡◌, ℕ, ◌<◌, Bool, true, false, cond, List, [], ◌∷◌, ◌++◌, map, length, refl, sym, ap, ◌∙◌, subst, append_assoc, append-nil, arith, codes}
+use Rattle.std.proofs.Common.{◌≡◌, ℕ, ◌<◌, Bool, true, false, cond, List, [], ◌∷◌, ◌++◌, map, length, refl, sym, ap, ◌∙◌, subst, append_assoc}
+use Rattle.std.proofs.Common.{append-nil, arith, codes}
 use Rattle.std.specs.List.{AllByRecursion, flat_map, list_any}
 use Rattle.std.specs.Char.{is_ascii_whitespace}
 use Rattle.std.proofs.lemmas.Bool.{true≢false, lt-ltb, or_parts, cond-true}
@@ -109,7 +110,8 @@ word_lead follows word rest solid =
     let whole : first ++ joined others ≡ word = ap joined (sym split) ∙ joined-clusters word in
     ap (λ (units : List (List ℕ)). lead follows (word_of units ++ rest)) split
     ∙ ap (λ (cs : List ℕ). cond follows (0x20 ∷ []) [] ++ (first ++ cs)) (glues_lead others rest)
-    ∙ ap (λ (cs : List ℕ). cond follows (0x20 ∷ []) [] ++ cs) (sym (append_assoc first (joined others) (lead true rest)) ∙ ap (λ (cs : List ℕ). cs ++ lead true rest) whole)
+    ∙ ap (λ (cs : List ℕ). cond follows (0x20 ∷ []) [] ++ cs)
+    (sym (append_assoc first (joined others) (lead true rest)) ∙ ap (λ (cs : List ℕ). cs ++ lead true rest) whole)
 
 word_break : (word : List ℕ) (rest : List Atom) → break_items (word_of (clusters_of word) ++ rest) ≡ break_items rest
 word_break word rest = by_units (clusters_of word)
@@ -246,7 +248,8 @@ words_back [] follows list word none fine = read_end list word ∙ sym (append-n
 words_back (Word next ∷ atoms) true list word none fine =
     let ms = map character (lead true atoms) ++ break_marks atoms in
     let split : map character (next ++ lead true atoms) ++ break_marks atoms ≡ map character next ++ ms =
-    ap (λ (m : Marks). m ++ break_marks atoms) (map-append character next (lead true atoms)) ∙ append_assoc (map character next) (map character (lead true atoms)) (break_marks atoms) in
+    ap (λ (m : Marks). m ++ break_marks atoms) (map-append character next (lead true atoms))
+    ∙ append_assoc (map character next) (map character (lead true atoms)) (break_marks atoms) in
     sym (read_white list word 0x20 (map character (next ++ lead true atoms) ++ break_marks atoms) refl)
     ∙ ap (atoms_from (list ++ open_atoms word) []) split
     ∙ letters (list ++ open_atoms word) [] next ms fine.0.0.1
@@ -256,7 +259,8 @@ words_back (Word next ∷ atoms) true list word none fine =
 words_back (Word next ∷ atoms) false list word none fine =
     let ms = map character (lead true atoms) ++ break_marks atoms in
     let split : map character (next ++ lead true atoms) ++ break_marks atoms ≡ map character next ++ ms =
-    ap (λ (m : Marks). m ++ break_marks atoms) (map-append character next (lead true atoms)) ∙ append_assoc (map character next) (map character (lead true atoms)) (break_marks atoms) in
+    ap (λ (m : Marks). m ++ break_marks atoms) (map-append character next (lead true atoms))
+    ∙ append_assoc (map character next) (map character (lead true atoms)) (break_marks atoms) in
     let empty : word ≡ [] = none refl in
     ap (λ (w : List ℕ). atoms_from list w (map character (next ++ lead true atoms) ++ break_marks atoms)) empty
     ∙ ap (atoms_from list []) split
@@ -315,7 +319,8 @@ breaks_go (Glue unit ∷ atoms) = breaks_go atoms
 breaks_go (Break ∷ atoms) =
     subst (λ (ks : Kinds). GoesOn ks (line_break ∷ (map character (lead false atoms) ++ break_marks atoms) ++ marks.paragraph_ends ∷ []))
     (sym (kinds_cons (break_item (lead false atoms)) (break_items atoms ++ end_item ∷ [])))
-    (subst (λ (ms : Marks). GoesOn (map class_of (item_kinds (break_item (lead false atoms))) ++ grammar_kinds (break_items atoms ++ end_item ∷ [])) (line_break ∷ ms))
+    (subst (λ (ms : Marks). GoesOn (map class_of (item_kinds (break_item (lead false atoms))) ++ grammar_kinds (break_items atoms ++ end_item ∷ []))
+    (line_break ∷ ms))
     (sym (append_assoc (map character (lead false atoms)) (break_marks atoms) (marks.paragraph_ends ∷ [])))
     (goes_append (map class_of (item_kinds (break_item (lead false atoms)))) (grammar_kinds (break_items atoms ++ end_item ∷ []))
     (line_break ∷ map character (lead false atoms)) (break_marks atoms ++ marks.paragraph_ends ∷ [])
@@ -328,7 +333,8 @@ paragraph_marks atoms = marks.paragraph_ends ∷ (line_marks atoms ++ marks.para
 pub paragraph_goes : (atoms : List Atom) → GoesOn (grammar_kinds (paragraph_items atoms)) (paragraph_marks atoms)
 paragraph_goes atoms =
     subst (λ (ks : Kinds). GoesOn ks (paragraph_marks atoms)) (sym (kinds_cons (start_item (lead false atoms)) (break_items atoms ++ end_item ∷ [])))
-    (subst (λ (ms : Marks). GoesOn (map class_of (item_kinds (start_item (lead false atoms))) ++ grammar_kinds (break_items atoms ++ end_item ∷ [])) (marks.paragraph_ends ∷ ms))
+    (subst (λ (ms : Marks). GoesOn (map class_of (item_kinds (start_item (lead false atoms))) ++ grammar_kinds (break_items atoms ++ end_item ∷ []))
+    (marks.paragraph_ends ∷ ms))
     (sym (append_assoc (map character (lead false atoms)) (break_marks atoms) (marks.paragraph_ends ∷ [])))
     (goes_append (map class_of (item_kinds (start_item (lead false atoms)))) (grammar_kinds (break_items atoms ++ end_item ∷ []))
     (marks.paragraph_ends ∷ map character (lead false atoms)) (break_marks atoms ++ marks.paragraph_ends ∷ [])
@@ -386,7 +392,8 @@ paragraph_stands k (atom ∷ atoms) some fine =
       sharp = λ later sharp. refl;
       same = λ later sharp.
           ap (λ (ms : Marks). paragraph_of (atoms_of (leading ms)) ++ entries_after k ms) (append_assoc (line_marks all) (marks.paragraph_ends ∷ []) later)
-          ∙ ap (λ (ms : Marks). paragraph_of (atoms_of ms) ++ entries_after k (line_marks all ++ marks.paragraph_ends ∷ later)) (line_leads (line_marks all) (marks.paragraph_ends ∷ later) line refl)
+          ∙ ap (λ (ms : Marks). paragraph_of (atoms_of ms) ++ entries_after k (line_marks all ++ marks.paragraph_ends ∷ later))
+          (line_leads (line_marks all) (marks.paragraph_ends ∷ later) line refl)
           ∙ ap (λ (l : List Atom). paragraph_of l ++ entries_after k (line_marks all ++ marks.paragraph_ends ∷ later)) (atoms_back all fine)
           ∙ ap (λ (es : Entries). paragraph all ∷ es) (line_passed k (line_marks all) (marks.paragraph_ends ∷ later) line ∙ ends_sharp k later sharp);
     }

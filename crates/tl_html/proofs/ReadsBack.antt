@@ -52,7 +52,8 @@ reads_back table layout bytes page breaking node tree becomes columns =
     let first = page.1 ∙ begun.1 in
     let (tokens, spelt) = items_spelt bytes items page.0 (page.1 ∙ t.written) (ap without_mark first ∙ sym first) all in
     let feed : Kinds = text (0x0A ∷ []) ∷ [] in
-    let read : kinds tokens ≡ grammar_kinds t.front ++ (table_end ∷ feed) = kinds_are tokens ∙ ap (map class_of) spelt.1 ∙ kinds_append t.front (last_item ∷ []) in
+    let read : kinds tokens ≡ grammar_kinds t.front ++ (table_end ∷ feed) = kinds_are tokens ∙ ap (map class_of) spelt.1
+    ∙ kinds_append t.front (last_item ∷ []) in
     let whole : grammar.Table (kinds tokens) t.ms feed [] =
     subst (λ (ks : Kinds). grammar.Table ks t.ms feed []) (sym read)
     (subst (λ (ms : Marks). grammar.Table (grammar_kinds t.front ++ (table_end ∷ feed)) ms feed []) (append-nil t.ms) (t.reads feed [])) in

@@ -1,5 +1,6 @@
 -- A table on a page, and the same table read back, where the tables nested in it are read back.
-use Rattle.std.proofs.Common.{◌≡◌, ◌∙◌, ℕ, zero, suc, ◌+◌, ◌-◌, ◌<◌, ◌≤◌, max, false, Option, Some, None, List, [], ◌∷◌, ◌++◌, map, length, Contains, refl, sym, ap, subst, inl, inr, arith, append_assoc, append-nil, codes}
+use Rattle.std.proofs.Common.{◌≡◌, ◌∙◌, ℕ, zero, suc, ◌+◌, ◌-◌, ◌<◌, ◌≤◌, max, false, Option, Some, None, List, [], ◌∷◌, ◌++◌, map, length, Contains}
+use Rattle.std.proofs.Common.{refl, sym, ap, subst, inl, inr, arith, append_assoc, append-nil, codes}
 use Rattle.std.specs.List.{AllByRecursion, AllPairs, AllZip, flat_map, range_with_len}
 use Rattle.std.proofs.lemmas.List.{map-append, length-map, length-append}
 use Rattle.std.proofs.lemmas.List.Concat.{flat_map-append}
@@ -36,7 +37,8 @@ use Rattle.tl_form.specs.declared.cell.TableCell.{TableCell, out-TableCell}
 use Rattle.tl_form.specs.declared.layout.Layout.{Layout, out-Layout}
 use Rattle.tl_form.specs.Layouts.{OpenLayout}
 use Rattle.tl_form.specs.Tables.{OpenTable, tables_in}
-use Rattle.tl_form.specs.Formed.{OpenNode, OpenGroup, BecomesCell, BecomeCells, BecomesBy, caption_rows, cells_of_group, cells_written, group_shape, is_foot, lowered, span_of}
+use Rattle.tl_form.specs.Formed.{OpenNode, OpenGroup, BecomesCell, BecomeCells, BecomesBy, caption_rows, cells_of_group, cells_written, group_shape}
+use Rattle.tl_form.specs.Formed.{is_foot, lowered, span_of}
 use Rattle.tl_form.specs.Same.{AreSameCell}
 use Rattle.tl_form.specs.Sound.{ComesBefore, place_of, places_of}
 use Rattle.tl_form.specs.inner.Forming.{cells_outline}
@@ -45,7 +47,8 @@ use Rattle.tl_form.proofs.SoundParts.{append_each, each_joined}
 use Rattle.tl_form.proofs.SoundNodes.{sound_each, group_rows, table_groups, table_caption, groups_outline}
 use Rattle.tl_html.specs.declared.filled.Filled.{Filled}
 use Rattle.tl_html.specs.Alike.{AreAlikeBy}
-use Rattle.tl_html.specs.Html.{Cell, fill, block_page, table_page, cell_page, cell_of, html_of, caption_line, caption_html, columns_html, row_html, rows_html, line}
+use Rattle.tl_html.specs.Html.{Cell, fill, block_page, table_page, cell_page, cell_of, html_of, caption_line, caption_html, columns_html, row_html}
+use Rattle.tl_html.specs.Html.{rows_html, line}
 use Rattle.tl_html.specs.Html as html
 use Rattle.tl_html.specs.Readable.{HasColumnsBy}
 use Rattle.tl_html.proofs.Items.{Item, item_text, items_text, IsItem}
@@ -75,7 +78,8 @@ begin_in_rows r (fs ∷ filled) (cells ∷ rows) same level =
     let rest : map (map (λ (f : Filled). f.place)) filled ≡ map (map place_of) rows = cc in
     (one fs cells first level.0, begin_in_rows (r + 1) filled rows rest level.1)
   where
-    one : (gs : List Filled) (cs : List TableCell) → map (λ (f : Filled). f.place) gs ≡ map place_of cs → InRow r cs → AllByRecursion (λ (f : Filled). f.place.top ≡ r) gs
+    one : (gs : List Filled) (cs : List TableCell) → map (λ (f : Filled). f.place) gs ≡ map place_of cs → InRow r cs →
+        AllByRecursion (λ (f : Filled). f.place.top ≡ r) gs
     one [] cs e all = tt
     one (g ∷ gs) [] e all = absurd (cc)
     one (g ∷ gs) (c ∷ cs) e all =
@@ -83,7 +87,8 @@ begin_in_rows r (fs ∷ filled) (cells ∷ rows) same level =
         let later : map (λ (f : Filled). f.place) gs ≡ map place_of cs = cc in
         (ap (λ (p : Place). p.top) here ∙ all.0, one gs cs later all.1)
 
-length_rows : (filled : List (List Filled)) (rows : List (List TableCell)) → map (map (λ (f : Filled). f.place)) filled ≡ map (map place_of) rows → length filled ≡ length rows
+length_rows : (filled : List (List Filled)) (rows : List (List TableCell)) → map (map (λ (f : Filled). f.place)) filled ≡ map (map place_of) rows →
+    length filled ≡ length rows
 length_rows filled rows same = sym (length-map filled (map (λ (f : Filled). f.place))) ∙ ap length same ∙ length-map rows (map place_of)
 
 one_row : (caption : Option (List Block)) → caption_rows caption ≤ 1
@@ -107,7 +112,8 @@ flat_groups (g ∷ groups) sound =
     (flat_rows (out-GroupNode g).rows (group_rows g sound.0)) (flat_groups groups sound.1)
 
 -- the cell of a tree that a cell comes from
-comes_from : (forms : TableNode → Table → Type 0) (breaking : Breaking) (nodes : List CellNode) (cells : List TableCell) → BecomeCells forms breaking nodes cells →
+comes_from : (forms : TableNode → Table → Type 0) (breaking : Breaking) (nodes : List CellNode) (cells : List TableCell) →
+    BecomeCells forms breaking nodes cells →
     AllByRecursion (λ node. AreSound (cell_outline node)) nodes → (c : TableCell) → Contains cells c →
     (node : CellNode) × BecomesCell forms breaking (out-CellNode node) (out-TableCell c) × AreSound (cell_outline node)
 comes_from forms breaking nodes [] become sound c has = absurd (Contains-none c has)
@@ -184,7 +190,8 @@ module _ (breaking : Breaking) (forms : TableNode → Table → Type 0) (alike :
         ∙ ap (λ (ts : List Table). flat_map (λ c. tables_in (out-TableCell c)) becomes.caption ++ ts)
         (ap (flat_map (λ c. tables_in (out-TableCell c))) (sym by_rows.1) ∙ sym (append-nil (flat_map (λ c. tables_in (out-TableCell c)) (joined rows))))
 
-    cap : CaptionBack breaking forms alike has inside T.cols down becomes.caption L.inner (flat_map (λ c. tables_in (out-TableCell c)) (joined rows) ++ []) (k + 1)
+    cap : CaptionBack breaking forms alike has inside T.cols down becomes.caption L.inner
+        (flat_map (λ c. tables_in (out-TableCell c)) (joined rows) ++ []) (k + 1)
     cap = caption_back breaking forms alike has inside T.cols (out-TableNode node).caption becomes.caption L.inner
         (flat_map (λ c. tables_in (out-TableCell c)) (joined rows) ++ []) (k + 1) becomes.captioned
         (λ flow is. table_caption node flow is sound) (subst (λ (ts : List Table). AllZip has ts L.inner) tables_are fits.inner)
@@ -248,7 +255,8 @@ module _ (breaking : Breaking) (forms : TableNode → Table → Type 0) (alike :
     abbrev marks : Marks
     marks = grammar.table_begins ∷ (body ++ grammar.table_ends ∷ [])
 
-    marks_are : (more : Marks) → (body ++ grammar.table_ends ∷ []) ++ more ≡ cap.ms ++ (grammar.columns T.cols ∷ (part_marks rows rest.ms ++ (grammar.table_ends ∷ more)))
+    marks_are : (more : Marks) → (body ++ grammar.table_ends ∷ []) ++ more ≡
+        cap.ms ++ (grammar.columns T.cols ∷ (part_marks rows rest.ms ++ (grammar.table_ends ∷ more)))
     marks_are more = append_assoc body (grammar.table_ends ∷ []) more
         ∙ append_assoc cap.ms (grammar.columns T.cols ∷ part_marks rows rest.ms) (grammar.table_ends ∷ more)
 
@@ -260,13 +268,17 @@ module _ (breaking : Breaking) (forms : TableNode → Table → Type 0) (alike :
         ap (λ (ks : Kinds). table_start ∷ text (0x0A ∷ []) ∷ (ks ++ (table_end ∷ after))) (
         kinds_append cap.items (columns_items L.widths ++ rest.items)
         ∙ ap (λ (ks : Kinds). grammar_kinds cap.items ++ ks) (kinds_append (columns_items L.widths) rest.items))
-        ∙ ap (λ (ks : Kinds). table_start ∷ text (0x0A ∷ []) ∷ ks) (regroup_kinds (grammar_kinds cap.items) wide (grammar_kinds rest.items) (table_end ∷ after)) in
+        ∙ ap (λ (ks : Kinds). table_start ∷ text (0x0A ∷ []) ∷ ks)
+        (regroup_kinds (grammar_kinds cap.items) wide (grammar_kinds rest.items) (table_end ∷ after)) in
         subst (λ (ks : Kinds). grammar.Table ks (marks ++ more) after more) (sym split)
-        (subst (λ (ms : Marks). grammar.Table (table_start ∷ text (0x0A ∷ []) ∷ (grammar_kinds cap.items ++ (wide ++ (grammar_kinds rest.items ++ (table_end ∷ after)))))
+        (subst (λ (ms : Marks). grammar.Table (table_start ∷ text
+        (0x0A ∷ []) ∷ (grammar_kinds cap.items ++ (wide ++ (grammar_kinds rest.items ++ (table_end ∷ after)))))
         (grammar.table_begins ∷ ms) after more) (sym (marks_are more))
         (grammar.table (space refl no_space)
-        (cap.reads (wide ++ (grammar_kinds rest.items ++ (table_end ∷ after))) (grammar.columns T.cols ∷ (part_marks rows rest.ms ++ (grammar.table_ends ∷ more))))
-        (subst (λ n. grammar.Columns (wide ++ (grammar_kinds rest.items ++ (table_end ∷ after))) n (grammar_kinds rest.items ++ (table_end ∷ after))) fits.columns
+        (cap.reads (wide ++ (grammar_kinds rest.items ++ (table_end ∷ after)))
+        (grammar.columns T.cols ∷ (part_marks rows rest.ms ++ (grammar.table_ends ∷ more))))
+        (subst (λ n. grammar.Columns (wide ++ (grammar_kinds rest.items ++ (table_end ∷ after))) n
+        (grammar_kinds rest.items ++ (table_end ∷ after))) fits.columns
         (columns_read L.widths (grammar_kinds rest.items ++ (table_end ∷ after))))
         (parts_read rows rest.items rest.ms rest.nodes after (grammar.table_ends ∷ more) rest.begun rest.goes)))
 
@@ -291,7 +303,8 @@ module _ (breaking : Breaking) (forms : TableNode → Table → Type 0) (alike :
     outline_is : outline made ≡ entries.table k ∷ (inner_entries ++ entries.table_end ∷ [])
     unfolding made
     outline_is = table_made k cap.flow T.cols groups
-        ∙ ap (λ (es : Entries). entries.table k ∷ es) (sym (append_assoc (caption_outline cap.flow) (columns T.cols ∷ groups_outline groups) (entries.table_end ∷ [])))
+        ∙ ap (λ (es : Entries). entries.table k ∷ es) (sym (append_assoc (caption_outline cap.flow) (columns T.cols ∷ groups_outline groups)
+        (entries.table_end ∷ [])))
 
     columns_stand : (l : ℕ) → StandFor l (grammar.columns T.cols ∷ []) (columns T.cols ∷ []) l
     columns_stand l = record {
@@ -307,7 +320,8 @@ module _ (breaking : Breaking) (forms : TableNode → Table → Type 0) (alike :
 
     stands : (later : Marks) → entries_after k (marks ++ later) ≡ outline made ++ entries_of rest.next later
     stands later =
-        ap (λ (ms : Marks). entries.table k ∷ (paragraph_of (atoms_of (leading ms)) ++ entries_after (k + 1) ms)) (append_assoc body (grammar.table_ends ∷ []) later)
+        ap (λ (ms : Marks). entries.table k ∷ (paragraph_of (atoms_of (leading ms)) ++ entries_after (k + 1) ms))
+        (append_assoc body (grammar.table_ends ∷ []) later)
         ∙ ap (λ (ms : Marks). entries.table k ∷ (paragraph_of (atoms_of ms) ++ entries_after (k + 1) (body ++ (grammar.table_ends ∷ later))))
         (body_stands.sharp (grammar.table_ends ∷ later) refl)
         ∙ ap (λ (es : Entries). entries.table k ∷ es) (body_stands.same (grammar.table_ends ∷ later) refl
@@ -382,7 +396,8 @@ module _ (breaking : Breaking) (forms : TableNode → Table → Type 0) (alike :
         let c : length T.cells ≡ length (becomes.caption ++ below) = ap length (table_rows.cells_split breaking forms node T sound becomes) in
         let d : length (becomes.caption ++ below) ≡ length becomes.caption + length below = length-append becomes.caption below in
         let e : length T.cells ≡ length (becomes.caption ++ becomes.written) = length_permutation (becomes.caption ++ becomes.written) T.cells becomes.same in
-        let f : length (becomes.caption ++ becomes.written) ≡ length becomes.caption + length becomes.written = length-append becomes.caption becomes.written in
+        let f : length (becomes.caption ++ becomes.written) ≡ length becomes.caption + length becomes.written =
+        length-append becomes.caption becomes.written in
         let g : length (map place_of becomes.written) ≡ length becomes.written = length-map becomes.written place_of in
         let h : length (map place_of becomes.written) ≡ length (map (lowered down) grid.places) = ap length becomes.places in
         let i : length (map (lowered down) grid.places) ≡ length grid.places = length-map grid.places (lowered down) in
@@ -433,7 +448,8 @@ module _ (breaking : Breaking) (forms : TableNode → Table → Type 0) (alike :
         (rows_up 0 (cells ∷ rs) (subst (λ n. InRows n (cells ∷ rs)) (let same : down ≡ 0 + down = omega arith in same)
         (subst (InRows down) is by_rows.3)))
         (length-map (cells ∷ rs) (map up) ∙ sym many)
-        (omega (arith, becomes.has_grid.columns, becomes.has_grid.few_columns)) (omega (arith, becomes.has_grid.rows, becomes.has_grid.few_rows)) few_places in
+        (omega (arith, becomes.has_grid.columns, becomes.has_grid.few_columns))
+        (omega (arith, becomes.has_grid.rows, becomes.has_grid.few_rows)) few_places in
         let open_group : OpenGroup = record { part = parts.Loose; rows = nodes } in
         let shapes : map (map span_of) nodes ≡ map (map span_at) placed = spans ∙ spans_up (cells ∷ rs)
         (subst (AllByRecursion (AllByRecursion (λ c. (down ≤ (place_of c).top) × ((place_of c).top < (place_of c).bottom)))) is
@@ -441,10 +457,22 @@ module _ (breaking : Breaking) (forms : TableNode → Table → Type 0) (alike :
         let group : group_shape (group_of nodes) ≡ (let s : ShapeGroup = record { foot = false; rows = map (map span_of) nodes } in s) =
         ap (λ (g : OpenGroup). let s : ShapeGroup = record { foot = is_foot g.part; rows = map (map span_of) g.rows } in s) (out-roll-GroupNode open_group) in
         let shape : (let s : Shape = record { columns = T.cols; groups = group_shape (group_of nodes) ∷ [] } in s) ≡
-        (let s : Shape = record { columns = grid.cols; groups = (let g : ShapeGroup = record { foot = false; rows = map (map span_at) placed } in g) ∷ [] } in s) =
+        (let s : Shape = record {
+          columns = grid.cols;
+          groups =
+              (let g : ShapeGroup = record { foot = false; rows = map (map span_at) placed } in g) ∷ [];
+        } in s) =
         ap (λ (g : ShapeGroup). let s : Shape = record { columns = T.cols; groups = g ∷ [] } in s) group
-        ∙ ap (λ (ss : List (List SpanOf)). let s : Shape = record { columns = T.cols; groups = (let g : ShapeGroup = record { foot = false; rows = ss } in g) ∷ [] } in s) shapes
-        ∙ ap (λ n. let s : Shape = record { columns = n; groups = (let g : ShapeGroup = record { foot = false; rows = map (map span_at) placed } in g) ∷ [] } in s) (sym wide) in
+        ∙ ap (λ (ss : List (List SpanOf)). let s : Shape = record {
+          columns = T.cols;
+          groups =
+              (let g : ShapeGroup = record { foot = false; rows = ss } in g) ∷ [];
+        } in s) shapes
+        ∙ ap (λ n. let s : Shape = record {
+          columns = n;
+          groups =
+              (let g : ShapeGroup = record { foot = false; rows = map (map span_at) placed } in g) ∷ [];
+        } in s) (sym wide) in
         subst (λ (s : Shape). HasGrid s new_grid) (sym shape) again
 
     -- ---- the table
@@ -512,7 +540,8 @@ module _ (breaking : Breaking) (forms : TableNode → Table → Type 0) (alike :
     }
 
     -- the table is read back
-    pub table_again : TableBack (λ n t. BecomesBy forms breaking (out-TableNode n) (out-Table t)) (λ a b. AreAlikeBy alike (out-Table a) (out-Table b)) table layout k
+    pub table_again : TableBack (λ n t. BecomesBy forms breaking (out-TableNode n) (out-Table t))
+        (λ a b. AreAlikeBy alike (out-Table a) (out-Table b)) table layout k
     table_again = record {
       front = front;
       are = (

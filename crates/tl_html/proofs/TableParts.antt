@@ -1,5 +1,6 @@
 -- The caption, the columns and the rows of a table on a page, and the same read back.
-use Rattle.std.proofs.Common.{◌≡◌, ◌∙◌, ℕ, ◌+◌, ◌<◌, ◌^◌, true, false, ◌||◌, cond, eqb, Option, Some, None, List, [], ◌∷◌, ◌++◌, map, length, sum, refl, sym, ap, subst, arith, append_assoc, append-nil, codes, decimal}
+use Rattle.std.proofs.Common.{◌≡◌, ◌∙◌, ℕ, ◌+◌, ◌<◌, true, false, ◌||◌, cond, eqb, Option, Some, None, List, [], ◌∷◌, ◌++◌, map, length, sum, refl}
+use Rattle.std.proofs.Common.{sym, ap, subst, arith, append_assoc, append-nil, codes, decimal}
 use Rattle.std.specs.List.{AllByRecursion, AllZip, flat_map, range_with_len, list_any}
 use Rattle.std.proofs.lemmas.Bool.{eq-eqb, ne_eqb, cond-true, cond-false}
 use Rattle.std.proofs.lemmas.List.Concat.{flat_map-append}
@@ -8,7 +9,8 @@ use Rattle.tl_base.specs.declared.breaking.Breaking.{Breaking}
 use Rattle.tl_grid.specs.declared.shape.Place.{Place}
 use Rattle.tl_token.specs.Elements.{no_spans}
 use Rattle.tl_token.specs.declared.token.Element.TheVariants as elements
-use Rattle.tl_tree.specs.Grammar.{Marks, Caption, Cols, Columns, Parts, no_flow, no_caption, no_space, space, by_tag, no_col, next_col, colgroup_columns, no_columns, colgroup, no_part, no_row, loose_rows}
+use Rattle.tl_tree.specs.Grammar.{Marks, Caption, Cols, Columns, Parts, no_flow, no_caption, no_space, space, by_tag, no_col, next_col}
+use Rattle.tl_tree.specs.Grammar.{colgroup_columns, no_columns, colgroup, no_part, no_row, loose_rows}
 use Rattle.tl_tree.specs.Grammar as grammar
 use Rattle.tl_tree.specs.Outline.{Entries, caption, group, block_outline, group_outline, outline}
 use Rattle.tl_tree.specs.Paragraphs.{leading, atoms_of, paragraph_of, entries_after}
@@ -32,7 +34,8 @@ use Rattle.tl_form.specs.inner.Forming.{flow_outline}
 use Rattle.tl_form.proofs.SoundParts.{append_each}
 use Rattle.tl_form.proofs.SoundNodes.{sound_each, rows_outline, groups_outline}
 use Rattle.tl_html.specs.declared.filled.Filled.{Filled}
-use Rattle.tl_html.specs.Html.{Cell, fill, blocks_html, flow_of, cell_of, cell_html, cell_in_row, is_caption, caption_line, caption_html, column_html, columns_html, row_html, line}
+use Rattle.tl_html.specs.Html.{Cell, fill, blocks_html, flow_of, cell_of, cell_html, cell_in_row, is_caption, caption_line, caption_html, column_html}
+use Rattle.tl_html.specs.Html.{columns_html, row_html, line}
 use Rattle.tl_html.specs.Html as html
 use Rattle.tl_html.proofs.Items.{Item, item_text, items_text, IsItem}
 use Rattle.tl_html.proofs.PageTags.{column_tag}
@@ -57,7 +60,8 @@ here r (f ∷ fs) all =
 before : (r : ℕ) (fs : List Filled) → AllByRecursion (λ (f : Filled). f.place.top < r) fs → flat_map (cell_in_row r) fs ≡ []
 before r [] all = refl
 before r (f ∷ fs) all =
-    ap (λ (cs : List ℕ). cs ++ flat_map (cell_in_row r) fs) (cond-false (eqb f.place.top r) (cell_html f) [] (ne_eqb f.place.top r (λ e. omega (arith, all.0))))
+    ap (λ (cs : List ℕ). cs ++ flat_map (cell_in_row r) fs) (cond-false (eqb f.place.top r) (cell_html f) []
+    (ne_eqb f.place.top r (λ e. omega (arith, all.0))))
     ∙ before r fs all.1
 
 after : (r s : ℕ) (rows : List (List Filled)) → r < s → BeginInRows s rows → flat_map (cell_in_row r) (joined rows) ≡ []
@@ -70,7 +74,8 @@ after r s (fs ∷ rows) lt all =
     past : (gs : List Filled) → AllByRecursion (λ (f : Filled). f.place.top ≡ s) gs → flat_map (cell_in_row r) gs ≡ []
     past [] each = refl
     past (g ∷ gs) each =
-        ap (λ (cs : List ℕ). cs ++ flat_map (cell_in_row r) gs) (cond-false (eqb g.place.top r) (cell_html g) [] (ne_eqb g.place.top r (λ e. omega (arith, each.0))))
+        ap (λ (cs : List ℕ). cs ++ flat_map (cell_in_row r) gs)
+        (cond-false (eqb g.place.top r) (cell_html g) [] (ne_eqb g.place.top r (λ e. omega (arith, each.0))))
         ∙ past gs each.1
 
 -- each row's line has its own cells
@@ -86,8 +91,10 @@ rows_written above (fs ∷ rows) r low all =
     ∙ append-nil (flat_map (cell_in_row r) fs) ∙ here r fs all.0 in
     let low' : AllByRecursion (λ (f : Filled). f.place.top < r + 1) (above ++ fs) = append_each (λ (f : Filled). f.place.top < r + 1) above fs
     (more above low) (level fs all.0) in
-    ap (λ (cs : List ℕ). line (codes "<tr>" ++ cs ++ codes "</tr>") ++ flat_map (row_html (above ++ (fs ++ joined rows))) (range_with_len (r + 1) (length rows))) own
-    ∙ ap (λ (cs : List ℕ). row_line fs ++ cs) (ap (λ (all : List Filled). flat_map (row_html all) (range_with_len (r + 1) (length rows))) (sym (append_assoc above fs (joined rows)))
+    ap (λ (cs : List ℕ). line (codes "<tr>" ++ cs ++ codes "</tr>") ++ flat_map (row_html (above ++ (fs ++ joined rows)))
+    (range_with_len (r + 1) (length rows))) own
+    ∙ ap (λ (cs : List ℕ). row_line fs ++ cs) (ap (λ (all : List Filled). flat_map (row_html all) (range_with_len (r + 1) (length rows)))
+    (sym (append_assoc above fs (joined rows)))
     ∙ rows_written (above ++ fs) rows (r + 1) low' all.1)
   where
     more : (gs : List Filled) → AllByRecursion (λ (f : Filled). f.place.top < r) gs → AllByRecursion (λ (f : Filled). f.place.top < r + 1) gs
@@ -101,7 +108,8 @@ rows_written above (fs ∷ rows) r low all =
 pub no_captions : (rows : List (List Filled)) → AllByRecursion (AllByRecursion (λ f. is_caption f ≡ false)) rows → flat_map caption_line (joined rows) ≡ []
 no_captions [] plain = refl
 no_captions (fs ∷ rows) plain =
-    flat_map-append caption_line fs (joined rows) ∙ ap (λ (cs : List ℕ). cs ++ flat_map caption_line (joined rows)) (none fs plain.0) ∙ no_captions rows plain.1
+    flat_map-append caption_line fs (joined rows) ∙ ap (λ (cs : List ℕ). cs ++ flat_map caption_line (joined rows)) (none fs plain.0)
+    ∙ no_captions rows plain.1
   where
     none : (gs : List Filled) → AllByRecursion (λ f. is_caption f ≡ false) gs → flat_map caption_line gs ≡ []
     none [] each = refl
@@ -113,14 +121,22 @@ no_caption_among : (rows : List (List Filled)) → AllByRecursion (AllByRecursio
 no_caption_among [] plain = refl
 no_caption_among (fs ∷ rows) plain = passed fs plain.0 (no_caption_among rows plain.1)
   where
-    passed : (gs : List Filled) → AllByRecursion (λ f. is_caption f ≡ false) gs → list_any is_caption (joined rows) ≡ false → list_any is_caption (gs ++ joined rows) ≡ false
+    passed : (gs : List Filled) → AllByRecursion (λ f. is_caption f ≡ false) gs → list_any is_caption (joined rows) ≡ false →
+        list_any is_caption (gs ++ joined rows) ≡ false
     passed [] each rest = rest
     passed (g ∷ gs) each rest = ap (λ b. b || list_any is_caption (gs ++ joined rows)) each.0 ∙ passed gs each.1 rest
 
 -- ---- columns
 
 abbrev col_item : ℕ → Item
-col_item width = record { mark = codes "<col style=\"width:" ++ decimal width ++ codes "ch\">"; is_end = false; element = elements.Col; spans = no_spans; text = [] }
+col_item width = record {
+  mark = codes "<col style=\"width:" ++ decimal width ++ codes "ch\">";
+  is_end = false;
+  element = elements.Col;
+  spans =
+      no_spans;
+  text = [];
+}
 
 abbrev colgroup_start_item : Item
 colgroup_start_item = record { mark = codes "<colgroup>"; is_end = false; element = elements.Colgroup; spans = no_spans; text = [] }
@@ -193,12 +209,14 @@ abbrev pub groups_of : List (List TableCell) → List (List CellNode) → List G
 groups_of [] nodes = []
 groups_of (cells ∷ rows) nodes = group_of nodes ∷ []
 
-pub parts_read : (rows : List (List TableCell)) (items : List Item) (ms : Marks) (nodes : List (List CellNode)) (rest : Kinds) (m1 : Marks) → HasRows rows items ms nodes →
+pub parts_read : (rows : List (List TableCell)) (items : List Item) (ms : Marks) (nodes : List (List CellNode)) (rest : Kinds) (m1 : Marks) →
+    HasRows rows items ms nodes →
     RowsGo (grammar_kinds items) ms → Parts (grammar_kinds items ++ (table_end ∷ rest)) (part_marks rows ms ++ m1) (table_end ∷ rest) m1
 parts_read [] items ms nodes rest m1 begun goes =
     subst (λ (xs : List Item). Parts (grammar_kinds xs ++ (table_end ∷ rest)) m1 (table_end ∷ rest) m1) (sym begun.0) no_part
 parts_read (cells ∷ rows) items ms nodes rest m1 begun goes =
-    let split : grammar_kinds items ++ (table_end ∷ rest) ≡ row_start ∷ (begun.0 ++ (table_end ∷ rest)) = ap (λ (ks : Kinds). ks ++ (table_end ∷ rest)) begun.1 in
+    let split : grammar_kinds items ++ (table_end ∷ rest) ≡ row_start ∷ (begun.0 ++ (table_end ∷ rest)) = ap
+    (λ (ks : Kinds). ks ++ (table_end ∷ rest)) begun.1 in
     subst (λ (ks : Kinds). Parts ks (grammar.group_begins parts.Loose ∷ (ms ++ m1)) (table_end ∷ rest) m1) (sym split)
     (loose_rows (subst (λ (ks : Kinds). grammar.Rows ks (ms ++ m1) (table_end ∷ rest) m1) split
     (goes (table_end ∷ rest) (table_end ∷ rest) m1 m1 (no_row refl))) no_part)
@@ -232,7 +250,8 @@ module _ (breaking : Breaking) (forms : TableNode → Table → Type 0) (alike :
     pub left : AllZip has others layouts
     pub tops : AllByRecursion (λ (f : Filled). f.place.top < down) filled
     pub written : flat_map caption_line filled ≡ items_text items
-    pub counted : (rows : List (List Filled)) → AllByRecursion (AllByRecursion (λ f. is_caption f ≡ false)) rows → html.caption_rows (filled ++ joined rows) ≡ down
+    pub counted : (rows : List (List Filled)) → AllByRecursion (AllByRecursion (λ f. is_caption f ≡ false)) rows →
+        html.caption_rows (filled ++ joined rows) ≡ down
     pub ms : Marks
     pub reads : (k1 : Kinds) (m1 : Marks) → Caption (grammar_kinds items ++ k1) (ms ++ m1) k1 m1
     pub next : ℕ
@@ -274,7 +293,8 @@ module _ (breaking : Breaking) (forms : TableNode → Table → Type 0) (alike :
   }
 
   some_caption_back : (cols : ℕ) (flow : List Block) (cap : TableCell) (inner : List Layout) (others : List Table) (k : ℕ) →
-      BecomesCaption forms breaking cols flow (out-TableCell cap) → AreSound (flow_outline flow) → AllZip has (tables_in (out-TableCell cap) ++ others) inner →
+      BecomesCaption forms breaking cols flow (out-TableCell cap) → AreSound (flow_outline flow) →
+      AllZip has (tables_in (out-TableCell cap) ++ others) inner →
       CaptionBack cols 1 (cap ∷ []) inner others k
   some_caption_back cols flow cap inner others k becomes sound fits =
       let o = out-TableCell cap in
@@ -312,9 +332,11 @@ module _ (breaking : Breaking) (forms : TableNode → Table → Type 0) (alike :
             ap (λ (ks : Kinds). caption_start ∷ (ks ++ k1)) (kinds_append f.items (caption_end_item ∷ []))
             ∙ ap (λ (ks : Kinds). caption_start ∷ ks) (append_assoc (grammar_kinds f.items) (caption_end ∷ text (0x0A ∷ []) ∷ []) k1) in
             subst (λ (ks : Kinds). Caption ks (marks ++ m1) k1 m1) (sym split)
-            (subst (λ (m : Marks). Caption (caption_start ∷ (grammar_kinds f.items ++ (caption_end ∷ text (0x0A ∷ []) ∷ k1))) (grammar.caption_begins ∷ m) k1 m1)
+            (subst (λ (m : Marks). Caption (caption_start ∷ (grammar_kinds f.items ++ (caption_end ∷ text (0x0A ∷ []) ∷ k1)))
+            (grammar.caption_begins ∷ m) k1 m1)
             (sym (append_assoc f.ms (grammar.paragraph_ends ∷ []) m1))
-            (grammar.caption (f.goes (caption_end ∷ text (0x0A ∷ []) ∷ k1) (caption_end ∷ text (0x0A ∷ []) ∷ k1) (grammar.paragraph_ends ∷ m1) (grammar.paragraph_ends ∷ m1) no_flow)
+            (grammar.caption (f.goes (caption_end ∷ text (0x0A ∷ []) ∷ k1) (caption_end ∷ text (0x0A ∷ []) ∷ k1) (grammar.paragraph_ends ∷ m1)
+            (grammar.paragraph_ends ∷ m1) no_flow)
             (by_tag (space refl no_space))));
         next = f.next;
         flow = Some f.flow;
@@ -346,10 +368,12 @@ module _ (breaking : Breaking) (forms : TableNode → Table → Type 0) (alike :
       AllZip has (flat_map (λ c. tables_in (out-TableCell c)) cells ++ others) inner → CaptionBack cols (caption_rows flow) cells inner others k
   caption_back cols None cells inner others k becomes sound fits =
       subst (λ (cs : List TableCell). CaptionBack cols 0 cs inner others k) (sym becomes)
-      (no_caption_back cols inner others k (subst (λ (cs : List TableCell). AllZip has (flat_map (λ c. tables_in (out-TableCell c)) cs ++ others) inner) becomes fits))
+      (no_caption_back cols inner others k (subst (λ (cs : List TableCell). AllZip has
+      (flat_map (λ c. tables_in (out-TableCell c)) cs ++ others) inner) becomes fits))
   caption_back cols (Some flow) [] inner others k becomes sound fits = absurd becomes
   caption_back cols (Some flow) (cap ∷ above) inner others k becomes sound fits =
       subst (λ (cs : List TableCell). CaptionBack cols 1 (cap ∷ cs) inner others k) (sym becomes.1)
       (some_caption_back cols flow cap inner others k becomes.0 (sound flow refl)
       (subst (λ (ts : List Table). AllZip has (ts ++ others) inner) (append-nil (tables_in (out-TableCell cap)))
-      (subst (λ (cs : List TableCell). AllZip has ((tables_in (out-TableCell cap) ++ flat_map (λ c. tables_in (out-TableCell c)) cs) ++ others) inner) becomes.1 fits)))
+      (subst (λ (cs : List TableCell). AllZip has ((tables_in (out-TableCell cap) ++ flat_map
+      (λ c. tables_in (out-TableCell c)) cs) ++ others) inner) becomes.1 fits)))

@@ -1,5 +1,6 @@
 -- The rows of a table: its cells below the caption, row by row, and the grid that they are.
-use Rattle.std.proofs.Common.{◌≡◌, ◌∙◌, ◌⊎◌, ℕ, zero, suc, ◌+◌, ◌-◌, ◌<◌, ◌≤◌, max, Option, Some, None, List, [], ◌∷◌, ◌++◌, map, length, get_or, Contains, All, refl, sym, ap, subst, inl, inr, arith}
+use Rattle.std.proofs.Common.{◌≡◌, ◌∙◌, ◌⊎◌, ℕ, zero, suc, ◌+◌, ◌-◌, ◌<◌, ◌≤◌, max, Option, Some, None, List, [], ◌∷◌, ◌++◌, map, length, get_or}
+use Rattle.std.proofs.Common.{Contains, All, refl, sym, ap, subst, inl, inr, arith}
 use Rattle.std.specs.List.{AllByRecursion, AllPairs, Any}
 use Rattle.std.specs.List.Sorted.{IsPermutation}
 use Rattle.std.proofs.lemmas.Bool.{cases_lt}
@@ -71,8 +72,10 @@ module _ (down : ℕ) where
       let long : length (ups places) ≡ length places = length-map places (raised down) in
       let e = lowered down d in
       let back : raised down e ≡ d = raised_lowered down d in
-      let at_i : get_or (ups places) i d ≡ raised down (get_or places i e) = ap (get_or (ups places) i) (sym back) ∙ get_or-map (raised down) places i e (raised down e) (omega arith) in
-      let at_j : get_or (ups places) j d ≡ raised down (get_or places j e) = ap (get_or (ups places) j) (sym back) ∙ get_or-map (raised down) places j e (raised down e) (omega arith) in
+      let at_i : get_or (ups places) i d ≡ raised down (get_or places i e) = ap (get_or (ups places) i) (sym back)
+      ∙ get_or-map (raised down) places i e (raised down e) (omega arith) in
+      let at_j : get_or (ups places) j d ≡ raised down (get_or places j e) = ap (get_or (ups places) j) (sym back)
+      ∙ get_or-map (raised down) places j e (raised down e) (omega arith) in
       let low_i = low i e (omega arith) in
       let low_j = low j e (omega arith) in
       subst (λ p. Precedes p (get_or (ups places) j d)) (sym at_i) (subst (Precedes (raised down (get_or places i e))) (sym at_j)
@@ -86,8 +89,10 @@ module _ (down : ℕ) where
       let long : length (ups places) ≡ length places = length-map places (raised down) in
       let e = lowered down d in
       let back : raised down e ≡ d = raised_lowered down d in
-      let at_i : get_or (ups places) i d ≡ raised down (get_or places i e) = ap (get_or (ups places) i) (sym back) ∙ get_or-map (raised down) places i e (raised down e) (omega arith) in
-      let at_j : get_or (ups places) j d ≡ raised down (get_or places j e) = ap (get_or (ups places) j) (sym back) ∙ get_or-map (raised down) places j e (raised down e) (omega arith) in
+      let at_i : get_or (ups places) i d ≡ raised down (get_or places i e) = ap (get_or (ups places) i) (sym back)
+      ∙ get_or-map (raised down) places i e (raised down e) (omega arith) in
+      let at_j : get_or (ups places) j d ≡ raised down (get_or places j e) = ap (get_or (ups places) j) (sym back)
+      ∙ get_or-map (raised down) places j e (raised down e) (omega arith) in
       let low_i = low i e (omega arith) in
       let low_j = low j e (omega arith) in
       let first : HasSlot x y (raised down (get_or places i e)) = subst (HasSlot x y) at_i one in
@@ -115,7 +120,8 @@ rise_less y z [] le rise = tt
 rise_less y z (c ∷ cells) le rise = (omega (arith, rise.0), rise.1)
 
 -- the first row, and the cells after it
-first_row : (y : ℕ) (cells : List TableCell) → Rise y cells → (row : List TableCell) × (rest : List TableCell) × (row ++ rest ≡ cells) × InRow y row × Rise (y + 1) rest
+first_row : (y : ℕ) (cells : List TableCell) → Rise y cells →
+    (row : List TableCell) × (rest : List TableCell) × (row ++ rest ≡ cells) × InRow y row × Rise (y + 1) rest
 first_row y [] rise = ([], [], refl, tt, tt)
 first_row y (c ∷ cells) rise =
     elim (cases_lt y (place_of c).top) [
@@ -132,7 +138,8 @@ by_rows zero y [] rise within = ([], refl, refl, tt)
 by_rows zero y (c ∷ cells) rise within = absurd (omega (arith, rise.0, within.0))
 by_rows (suc n) y cells rise within =
     let one = first_row y cells rise in
-    let later : AllByRecursion (λ c. (place_of c).top < y + suc n) one.1 = suffix_each (λ c. (place_of c).top < y + suc n) one.0 one.1 (subst (AllByRecursion (λ c. (place_of c).top < y + suc n)) (sym one.2) within) in
+    let later : AllByRecursion (λ c. (place_of c).top < y + suc n) one.1 = suffix_each (λ c. (place_of c).top < y + suc n) one.0 one.1
+    (subst (AllByRecursion (λ c. (place_of c).top < y + suc n)) (sym one.2) within) in
     let same : y + suc n ≡ y + 1 + n = omega arith in
     let rest = by_rows n (y + 1) one.1 one.4 (subst (λ m. AllByRecursion (λ c. (place_of c).top < m) one.1) same later) in (
       one.0 ∷ rest.0,
@@ -145,7 +152,8 @@ by_rows (suc n) y cells rise within =
     suffix_each P [] ys all = all
     suffix_each P (x ∷ xs) ys all = suffix_each P xs ys all.1
 
-rise_from : (y : ℕ) (cells : List TableCell) → AllPairs ComesBefore (map place_of cells) → ((i : ℕ) (d : Place) → i < length cells → y ≤ (get_or (map place_of cells) i d).top) → Rise y cells
+rise_from : (y : ℕ) (cells : List TableCell) → AllPairs ComesBefore (map place_of cells) →
+    ((i : ℕ) (d : Place) → i < length cells → y ≤ (get_or (map place_of cells) i d).top) → Rise y cells
 rise_from y [] pairs low = tt
 rise_from y (c ∷ cells) pairs low = (
   low 0 (place_of c) (omega arith),
@@ -204,14 +212,17 @@ module _ (breaking : Breaking) (forms : TableNode → Table → Type 0) (node : 
       first (c ∷ cells) pairs (suc k, within, is) = absurd (
           let long = length-map cells place_of in
           let order = pairs 0 (suc k) (place_of cap) (omega arith) (omega arith) in
-          let there : get_or (map place_of cells) k (place_of cap) ≡ place_of cap = get_or-map place_of cells k cap (place_of cap) (omega arith) ∙ ap place_of is in
-          let order' : ComesBefore (place_of c) (record { left = 0; right = table.cols; top = 0; bottom = 1 }) = subst (ComesBefore (place_of c)) (there ∙ place) order in
+          let there : get_or (map place_of cells) k (place_of cap) ≡ place_of cap = get_or-map place_of cells k cap (place_of cap) (omega arith)
+          ∙ ap place_of is in
+          let order' : ComesBefore (place_of c) (record { left = 0; right = table.cols; top = 0; bottom = 1 }) = subst (ComesBefore (place_of c))
+          (there ∙ place) order in
           elim order' [
             | inl lower ↦ omega arith
             | inr beside ↦ omega (arith, beside.1)
           ])
 
-  abbrev pub below_and : (below : List TableCell) × (table.cells ≡ becomes.caption ++ below) × ((c : TableCell) → Contains becomes.caption c → Contains below c → ⊥)
+  abbrev pub below_and : (below : List TableCell) × (table.cells ≡ becomes.caption ++ below) ×
+      ((c : TableCell) → Contains becomes.caption c → Contains below c → ⊥)
   below_and = split_at (out-TableNode node).caption becomes.caption becomes.captioned becomes.same
 
   abbrev pub below : List TableCell
@@ -273,7 +284,8 @@ module _ (breaking : Breaking) (forms : TableNode → Table → Type 0) (node : 
   from_grid q has =
       let low = subst (λ (ps : List Place). Contains ps (lowered down q)) (sym becomes.places) (Contains-map (lowered down) grid.places q has) in
       let at = map-Contains place_of becomes.written (lowered down q) low in
-      let all = Contains-permutation (becomes.caption ++ becomes.written) table.cells at.0 becomes.same (append_right becomes.caption becomes.written at.0 at.1) in
+      let all = Contains-permutation (becomes.caption ++ becomes.written) table.cells at.0 becomes.same
+      (append_right becomes.caption becomes.written at.0 at.1) in
       let cells = subst (λ (cs : List TableCell). Contains cs at.0) cells_split all in
       elim (append_cases becomes.caption below at.0 cells) [
         | inl above ↦ absurd (

@@ -1,6 +1,6 @@
 -- Which layouts a page can be written in, which bytes are the page, and what it is for them to read back.
-use Rattle.std.specs.Prelude.{◌≡◌, ℕ, zero, suc, ◌<◌, ◌^◌, List, length, IsUtf8, chars}
-use Rattle.std.specs.List.{AllZip, AllByRecursion}
+use Rattle.std.specs.Prelude.{◌≡◌, ℕ, zero, suc, List, length, IsUtf8, chars}
+use Rattle.std.specs.List.{AllZip}
 use Rattle.tl_base.specs.declared.breaking.Breaking.{Breaking}
 use Rattle.tl_tree.specs.Sound.{IsSound}
 use Rattle.tl_tree.specs.declared.node.TableNode.{TableNode}

@@ -1,5 +1,6 @@
 -- The lines of a paragraph, as the ranges of its atoms show them.
-use Rattle.std.proofs.Common.{◌≡◌, ℕ, zero, suc, ◌-◌, ◌<◌, ◌≤◌, List, [], ◌∷◌, length, drop, get_or, map, IsSomeAnd, slice_get, refl, ◌∙◌, ap, ap₂, arith, inl, inr}
+use Rattle.std.proofs.Common.{◌≡◌, ℕ, zero, suc, ◌-◌, ◌<◌, ◌≤◌, List, [], ◌∷◌, length, drop, get_or, map, IsSomeAnd, slice_get, refl, ◌∙◌, ap, ap₂}
+use Rattle.std.proofs.Common.{arith, inl, inr}
 use Rattle.std.specs.List.{All, AllZip, AllByRecursion}
 use Rattle.std.proofs.lemmas.List.{length-take, length-drop}
 use Rattle.std.proofs.lemmas.List.Elements.{All-from_recursion, All-take, All-drop}

@@ -1,5 +1,6 @@
 -- Blocks and cells one after the other: what those so far take, and what each layout that fits leaves to the others.
-use Rattle.std.proofs.Common.{◌≡◌, ℕ, zero, suc, ◌+◌, ◌<◌, ◌≤◌, List, [], ◌∷◌, ◌++◌, Some, None, length, take, drop, get_or, sum_by, refl, sym, ◌∙◌, ap, subst, append_assoc, append-nil, arith}
+use Rattle.std.proofs.Common.{◌≡◌, ℕ, zero, suc, ◌+◌, ◌<◌, ◌≤◌, List, [], ◌∷◌, ◌++◌, Some, None, length, take, drop, get_or, sum_by, refl, sym, ◌∙◌}
+use Rattle.std.proofs.Common.{ap, subst, append_assoc, append-nil, arith}
 use Rattle.std.specs.List.{AllZip, Any, flat_map}
 use Rattle.std.proofs.lemmas.List.Elements.{All-from_recursion}
 use Rattle.std.proofs.lemmas.List.{drop_all, take_all, drop_more, length-drop}

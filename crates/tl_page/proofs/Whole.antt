@@ -1,6 +1,7 @@
 -- Each line of a page is as wide as the layout, and all text of a table stands on its page: blocks, cells and tables, by
 -- the tables nested in them.
-use Rattle.std.proofs.Common.{◌≡◌, ℕ, zero, suc, ◌+◌, ◌-◌, ◌≤◌, List, [], ◌∷◌, ◌++◌, Some, length, take, map, get_or, slice_get, sum_by, refl, sym, ◌∙◌, ap, ap₂, subst, append_assoc, arith}
+use Rattle.std.proofs.Common.{◌≡◌, ℕ, zero, suc, ◌+◌, ◌-◌, ◌≤◌, List, [], ◌∷◌, ◌++◌, Some, length, take, map, get_or, slice_get, sum_by, refl, sym}
+use Rattle.std.proofs.Common.{◌∙◌, ap, ap₂, subst, append_assoc, arith}
 use Rattle.std.specs.List.{All, AllByRecursion, AllPairs, AllZip, flat_map}
 use Rattle.std.proofs.lemmas.List.{length-append, length-map, get_or-map, map-append, take_at}
 use Rattle.std.proofs.lemmas.List.Sums.{sum_by-cons}
@@ -21,7 +22,8 @@ use Rattle.tl_form.specs.declared.cell.Table.{Table, out-Table}
 use Rattle.tl_form.specs.declared.cell.TableCell.{TableCell, out-TableCell}
 use Rattle.tl_form.specs.declared.layout.Layout.{Layout, out-Layout}
 use Rattle.tl_form.specs.Tables.{OpenTable, OpenContent}
-use Rattle.tl_form.specs.Layouts.{OpenLayout, Share, Fits, FitsShare, FitsRoom, FitsCell, FitsBy, FitsWithin, total_width, total_height, width_for, height_for}
+use Rattle.tl_form.specs.Layouts.{OpenLayout, Share, Fits, FitsShare, FitsRoom, FitsCell, FitsBy, FitsWithin, total_width, total_height, width_for}
+use Rattle.tl_form.specs.Layouts.{height_for}
 use Rattle.tl_form.specs.Sound.{IsSound, IsSoundWithin, place_of, places_of}
 use Rattle.tl_form.specs.inner.LeastRooms.{IsSoundBlock, IsSoundCell}
 use Rattle.tl_form.proofs.SoundParts.{append_each, sound_cells, sound_blocks}

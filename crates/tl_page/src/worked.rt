@@ -272,8 +272,10 @@ fn a_caption_stands_over_all_columns(rt: HostRuntime) -> Result<(), Fail> {
 #[test]
 fn a_table_with_a_header_as_a_data_tool_writes_it(rt: HostRuntime) -> Result<(), Fail> {
     let alloc = rt.alloc();
-    let file =
-        "<table border=\"1\" class=\"dataframe\">\n  <thead>\n    <tr style=\"text-align: right;\">\n      <th></th>\n      <th>name</th>\n      <th>qty</th>\n    </tr>\n  </thead>\n  <tbody>\n    <tr>\n      <th>0</th>\n      <td>red pepper</td>\n      <td>12</td>\n    </tr>\n  </tbody>\n</table>\n";
+    let file = "<table border=\"1\" class=\"dataframe\">\n  <thead>\n    \
+                <tr style=\"text-align: right;\">\n      <th></th>\n      <th>name</th>\n      \
+                <th>qty</th>\n    </tr>\n  </thead>\n  <tbody>\n    <tr>\n      <th>0</th>\n      \
+                <td>red pepper</td>\n      <td>12</td>\n    </tr>\n  </tbody>\n</table>\n";
     let bytes = flat(alloc, file, Style::Plain, 20, &[1, 10, 3], &[1, 1])?;
     let want = "   name        qty\n0  red pepper  12 \n";
     assert_eq!(rt; bytes.as_slice(), want.as_bytes());

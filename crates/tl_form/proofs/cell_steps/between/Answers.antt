@@ -6,7 +6,8 @@ use Rattle.tl_base.specs.Steps.{height_at}
 use Rattle.tl_form.specs.Problems.{AreStepsOf}
 use Rattle.tl_form.specs.inner.CellSteps.{From}
 use Rattle.tl_form.proofs.BetweenSteps.{BetweenSoFar, between-all, between-kept, between-left}
-use Rattle.tl_form.proofs.cell_steps.between.Goals.{then-from-step+then-step-page+in_ok-push-2, else-from-step, else-from-step-via-then-from-step+else-step-page, else-from-step-via-else-from-step}
+use Rattle.tl_form.proofs.cell_steps.between.Goals.{then-from-step+then-step-page+in_ok-push-2, else-from-step}
+use Rattle.tl_form.proofs.cell_steps.between.Goals.{else-from-step-via-then-from-step+else-step-page, else-from-step-via-else-from-step}
 use Rattle.tl_form.proofs.cell_steps.between.Goals as goal
 
 pub loop-step-preserved : goal.loop-step-preserved

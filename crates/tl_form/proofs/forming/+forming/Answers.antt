@@ -21,7 +21,8 @@ use Rattle.tl_form.specs.inner.Forming.{Writes, cells_outline, flow_outline, slo
 use Rattle.tl_form.proofs.SoundNodes.{sound_each, cell_flow, group_rows, table_groups, table_caption, shape_spans}
 use Rattle.tl_form.proofs.SoundParts.{at_item}
 use Rattle.tl_form.proofs.TreeParts.{part_of_cell-out, part_of_group-out}
-use Rattle.tl_form.proofs.Gridless.{becomes_gridded, contents_gridded, cells_gridded, refused_item, refused_own, refused_caption, refused_cells, rows_tables, tables_written}
+use Rattle.tl_form.proofs.Gridless.{becomes_gridded, contents_gridded, cells_gridded, refused_item, refused_own, refused_caption, refused_cells}
+use Rattle.tl_form.proofs.Gridless.{rows_tables, tables_written}
 use Rattle.tl_form.proofs.Writing.{zip_more, Writes-length, Writes-next, Writes-item, Writes-room}
 use Rattle.tl_form.proofs.Formed.{as_many_cells, made_table}
 use Rattle.tl_form.proofs.forming.+forming.Goals as goal

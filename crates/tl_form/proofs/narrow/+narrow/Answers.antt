@@ -9,7 +9,8 @@ use Rattle.tl_form.specs.declared.cell.Table.{out-Table}
 use Rattle.tl_form.specs.declared.cell.TableCell.{out-TableCell}
 use Rattle.tl_form.specs.Least.{IsLeastWidth}
 use Rattle.tl_form.specs.inner.LeastRooms.{IsSoundBlock, IsSoundCell, AreDemandsOf}
-use Rattle.tl_form.proofs.LinkLemmas.{boxed_sound, linked_by_box, others_more, unlinked_by, linked_in, chain_made, as_many, number_within, room_at, links_next, made_of, all_links}
+use Rattle.tl_form.proofs.LinkLemmas.{boxed_sound, linked_by_box, others_more, unlinked_by, linked_in, chain_made, as_many, number_within, room_at}
+use Rattle.tl_form.proofs.LinkLemmas.{links_next, made_of, all_links}
 use Rattle.tl_form.proofs.OwnWidths.{own_or_inner, own_below, column_of_width}
 use Rattle.tl_form.proofs.SoundParts.{sound_cells, sound_blocks, at_item}
 use Rattle.tl_form.proofs.narrow.+narrow.Goals as goal

@@ -17,7 +17,8 @@ use Rattle.tl_page.specs.inner.Contents.{FitsBlockRoom, FitsCellRoom, ShowsPart,
 use Rattle.tl_page.proofs.Blocks.{paragraph_shown, nested_given, nested_within, nested_fits, nested_shown}
 use Rattle.tl_page.proofs.Fitting.{fitting, sound_table, small_widths, small_heights}
 use Rattle.tl_page.proofs.PictureLemmas.{same_drawn}
-use Rattle.tl_page.proofs.Progress.{BlocksSoFar, CellsSoFar, blocks-none, block-next, blocks-more, blocks-all, cells-none, cell-next, cells-more, cells-all, placed_cell}
+use Rattle.tl_page.proofs.Progress.{BlocksSoFar, CellsSoFar, blocks-none, block-next, blocks-more, blocks-all, cells-none, cell-next, cells-more}
+use Rattle.tl_page.proofs.Progress.{cells-all, placed_cell}
 use Rattle.tl_page.proofs.cells.+cells.Goals as goal
 
 -- ---- blocks

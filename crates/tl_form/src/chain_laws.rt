@@ -1,0 +1,13 @@
+//! Laws of the ranges of chains. Each is the contract of a function that does nothing.
+
+ghost use Rattle.tl_form.specs.ChainRanges.{ChainsAreWritable, FormedHasFewCells};
+
+/// A table that a tree becomes has no more cells, at all depths, than a grid may have and a caption.
+pub fn formed_has_few_cells()
+    ensures { FormedHasFewCells }
+{}
+
+/// Then the chains of a sound table are within the ranges of a certificate's text.
+pub fn chains_are_writable()
+    ensures { ChainsAreWritable }
+{}
