@@ -1,4 +1,5 @@
 pub mod CommandLemmas
+pub mod Ends
 pub mod Laying
 pub mod OptionLemmas
 pub mod Readings

@@ -1,5 +1,4 @@
 pub mod Answers
-pub mod ChainRanges
 pub mod Change
 pub mod Command
 pub mod Headline

@@ -1,4 +1,5 @@
 -- What private functions promise each other. No public clause cites these files.
 pub mod Claims
 pub mod OptionsRead
+pub mod Printing
 pub mod Readings

@@ -8,8 +8,10 @@ ghost use Rattle.tl_cert.specs.declared.section.Section.{Section as S};
 ghost use Rattle.tl_cert.specs.Text.{IsWritable};
 ghost use Rattle.tl_form.specs.Layouts.{Fits};
 ghost use Rattle.tl_form.specs.Least.{IsLeastWidth};
+ghost use Rattle.tl_form.specs.Expected.{IsDocumentOf};
 ghost use Rattle.tl_form.specs.Sound.{IsSound, nested_in_table};
-ghost use Rattle.tl_program.specs.ChainRanges.{HasFewCells};
+ghost use Rattle.tl_form.specs.Subjects.{meant};
+ghost use Rattle.tl_form.specs.ChainRanges.{HasFewCells};
 ghost use Rattle.tl_nested.specs.Searched.{AreSectionsOf, AreWritable};
 ghost use Rattle.tl_program.specs.Answers.{budget_of, budget_in, searches, reach, IsPageFile, certificate_file, IsOutcomeOf, IsAnswerTo, IsNarrow, IsAnswerBy, StoresNothing};
 ghost use Rattle.tl_program.specs.declared.refusal.Refusal.{Refusal};
@@ -25,8 +27,8 @@ use std::alloc::{AllocError, Global};
 use tl_base::{List, MAX_REACH, Style};
 use tl_cert::{Certificate, Claim, Section, write};
 use tl_form::{
-    Layout, Table, bounded_is_between, budget_closes, least_width, lowest_is_least, narrow_chain,
-    nested,
+    Layout, Subject, Table, bounded_is_between, budget_closes, chains_are_writable,
+    lowest_is_least, narrow_chain, nested, open_spends,
 };
 use tl_html::html;
 use tl_page::page;
@@ -77,7 +79,7 @@ fn budget_of(budget: Option<u32>, count: u64) -> u32
 }
 
 /// Answers what is asked of the table.
-pub fn answer(alloc: Global, task: &Task, table: &Table) -> Result<Answer, AllocError>
+pub fn answer_to(alloc: Global, task: &Task, table: &Table) -> Result<Answer, AllocError>
     requires sound { IsSound table.now }
     requires cells { HasFewCells table.now }
     requires narrow { (1 ≤ task.now.width) × (task.now.width ≤ MAX_PAGE_WIDTH) }
@@ -90,9 +92,10 @@ pub fn answer(alloc: Global, task: &Task, table: &Table) -> Result<Answer, Alloc
     if reach > MAX_REACH {
         return Ok(Answer::refused(Refusal::Limit(Limit::Reach, reach)));
     }
-    let least = least_width(alloc, table, task.style)?;
+    let subject = Subject::of(alloc, table, task.style, task.width)?;
+    let least = subject.least[0];
     if least > task.width {
-        return too_narrow(alloc, task, table, budget, least);
+        return too_narrow(alloc, task, &subject, budget, least);
     }
     lowest(alloc, task, table, budget)
 }
@@ -101,26 +104,28 @@ pub fn answer(alloc: Global, task: &Task, table: &Table) -> Result<Answer, Alloc
 fn too_narrow(
     alloc: Global,
     task: &Task,
-    table: &Table,
+    subject: &Subject<'_>,
     budget: u32,
     least: u32,
 ) -> Result<Answer, AllocError>
-    requires sound { IsSound table.now }
-    requires cells { HasFewCells table.now }
+    requires subject { IsDocumentOf subject.now.table.now task.now.style task.now.width (meant subject.now) }
+    requires sound { IsSound subject.now.table.now }
+    requires cells { HasFewCells subject.now.table.now }
     requires page { (1 ≤ task.now.width) × (task.now.width ≤ MAX_PAGE_WIDTH) }
-    requires budget { budget ≡ budget_in task.now table.now }
+    requires budget { budget ≡ budget_in task.now subject.now.table.now }
     requires cuts { budget ≤ MAX_BUDGET }
-    requires least { IsLeastWidth table.now task.now.style least }
+    requires least { IsLeastWidth subject.now.table.now task.now.style least }
     requires narrow { task.now.width < least }
     ensures report { IfOk result (λ answer. answer.report ≡ reports.Narrow least task.now.width) }
-    ensures is { IfOk result (IsNarrow task.now table.now least) }
+    ensures is { IfOk result (IsNarrow task.now subject.now.table.now least) }
 {
+    chains_are_writable();
     let certificate = Certificate {
         width: task.width,
         style: task.style,
         budget,
         claim: Claim::Narrow(least),
-        chains: narrow_chain(alloc, table, task.style)?,
+        chains: narrow_chain(alloc, subject.table, task.style)?,
         sections: List::new(alloc),
     };
     Ok(Answer {
@@ -169,7 +174,7 @@ fn lowest(alloc: Global, task: &Task, table: &Table, budget: u32) -> Result<Answ
     requires budget { budget ≡ budget_in task.now table.now }
     requires cuts { budget ≤ MAX_BUDGET }
     requires wide { (least : ℕ) → IsLeastWidth table.now task.now.style least → least ≤ task.now.width }
-    ensures { IfOk result (λ answer. IsAnswerBy answer.report task.now table.now answer) }
+    ensures answered { IfOk result (λ answer. IsAnswerBy answer.report task.now table.now answer) }
     ensures not_refused { IfOk result (λ answer. (refusal : Refusal) → answer.report ≡ reports.Refused refusal → ⊥) }
 {
     let sections = searched(alloc, task, table, budget)?;
@@ -186,6 +191,7 @@ fn lowest(alloc: Global, task: &Task, table: &Table, budget: u32) -> Result<Answ
     lowest_is_least();
     bounded_is_between();
     budget_closes();
+    open_spends();
     Ok(Answer {
         report: report_of(certificate.claim, width),
         page: Some(page_file(alloc, task, table, &layout)?),
