@@ -59,7 +59,8 @@ module _ (problem : ProblemModel) (trace : List CutAt) where
 
   -- ---- a zone is added
 
-  pub added-bounds : (zone : ℕ) (found : Option ℕ) (old new : List Entry) → IsAdded zone found old new → IsBoundFound problem (zone_of problem trace zone) found →
+  pub added-bounds : (zone : ℕ) (found : Option ℕ) (old new : List Entry) → IsAdded zone found old new → IsBoundFound problem
+      (zone_of problem trace zone) found →
       HaveBounds problem trace old → HaveBounds problem trace new
   added-bounds zone None old new same none have = subst (HaveBounds problem trace) (sym same) have
   added-bounds zone (Some bound) old new added is have =

@@ -65,7 +65,8 @@ module _ {X : Type 0} (Counts : X → Type 0) (measure : X → ℕ) where
     never_less = All-push (λ y. Counts y → measure x ≤ measure y) xs x (λ k d within is. absurd (none k d within is)) (λ is. omega arith);
   }
 
-  pub fewest_falls : (xs : List X) (x : X) (fewest : ℕ) → IsFewest Counts measure xs fewest → Counts x → IsFewest Counts measure (xs ++ x ∷ []) (min fewest (measure x))
+  pub fewest_falls : (xs : List X) (x : X) (fewest : ℕ) → IsFewest Counts measure xs fewest → Counts x → IsFewest Counts measure (xs ++ x ∷ [])
+      (min fewest (measure x))
   fewest_falls xs x fewest is counts = record {
     attained = by_case (cases_lt (measure x) fewest);
     never_less = All-push (λ y. Counts y → min fewest (measure x) ≤ measure y) xs x

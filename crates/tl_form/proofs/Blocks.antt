@@ -101,7 +101,8 @@ alone-cells (node ∷ nodes) =
     ∙ ap (λ (es : Entries). alone (flow_of node) ++ es) (alone-cells nodes)
     ∙ sym (alone-flows (flow_of node) (flat_map flow_of nodes))
 
-pub alone-rows : (rows : List (List CellNode)) → tables_alone (rows_outline rows) ≡ tables_alone (cells_outline (flat_map (λ (cells : List CellNode). cells) rows))
+pub alone-rows : (rows : List (List CellNode)) → tables_alone (rows_outline rows) ≡ tables_alone
+    (cells_outline (flat_map (λ (cells : List CellNode). cells) rows))
 alone-rows [] = refl
 alone-rows (cells ∷ rows) =
     alone-append (row ∷ cells_outline cells) (rows_outline rows)

@@ -33,7 +33,8 @@ module _ (Rel : ℕ → ℕ → Type 0) (adds : Adds Rel) (needs others : Table 
   abbrev pub IsSo : Table → Type 0
   IsSo nested = (h : ℕ) → needs nested w h → (k : ℕ) × others nested w k × Rel h k
 
-  block-by : (block : OpenContent) (h : ℕ) → AllByRecursion IsSo (tables_of block) → BlockNeeds needs block w h → (k : ℕ) × BlockNeeds others block w k × Rel h k
+  block-by : (block : OpenContent) (h : ℕ) → AllByRecursion IsSo (tables_of block) → BlockNeeds needs block w h → (k : ℕ) × BlockNeeds others block w
+      k × Rel h k
   block-by (open_content.Para paragraph) h so need = (h, need, adds.same h)
   block-by (open_content.Table box) h so need = so.0 h need
 

@@ -154,7 +154,8 @@ module _ (style : Style) where
 
       needs : AllByRecursion (λ cell. NeedsWithin page (out-TableCell cell)) (out-Table table).cells
       needs =
-          let fits = FitsBy-weaker (FitsWithin depth style) Any (λ nested w h one is. (depth, is)) style (out-Table table) page height (out-Layout layout) held in
+          let fits = FitsBy-weaker (FitsWithin depth style) Any (λ nested w h one is. (depth, is)) style (out-Table table) page height
+          (out-Layout layout) held in
           cells-need page (out-Table table) (out-Layout layout) fits.columns fits.within (out-Table table).cells fits.parts each
           (recursion_from_All (λ cell. IsPlaced (out-Table table).cols (out-Table table).rows (place_of cell)) (out-Table table).cells
           (λ k d within. subst (IsPlaced (out-Table table).cols (out-Table table).rows)

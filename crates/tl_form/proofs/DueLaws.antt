@@ -60,12 +60,14 @@ next_may document number placed next_one from upto is = by_test (number == own_n
     by_test : (test : Bool) → (number == own_number document) ≡ test →
         (if number == own_number document then None else Some (due_in document number (next_width (least_of document number) placed))) ≡ Some next_one →
         MayBeDue document next_one
-    by_test true same found = absurd (none_is (subst (λ (b : Bool). (if b then None else Some (due_in document number (next_width (least_of document number) placed))) ≡ Some next_one) same found))
+    by_test true same found = absurd (none_is (subst (λ (b : Bool). (if b then None else Some
+        (due_in document number (next_width (least_of document number) placed))) ≡ Some next_one) same found))
       where
         none_is : {X : Type 0} {x : X} → None ≡ Some x → ⊥
         none_is equal = cc
     by_test false same found =
-        subst (MayBeDue document) (some_is (subst (λ (b : Bool). (if b then None else Some (due_in document number (next_width (least_of document number) placed))) ≡ Some next_one) same found))
+        subst (MayBeDue document) (some_is (subst (λ (b : Bool). (if b then None else Some
+        (due_in document number (next_width (least_of document number) placed))) ≡ Some next_one) same found))
         (after (next_width (least_of document number) placed) (λ equal. apart equal same))
       where
         some_is : {X : Type 0} {x y : X} → Some x ≡ Some y → x ≡ y

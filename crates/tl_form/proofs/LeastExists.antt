@@ -159,7 +159,8 @@ module _ (style : Style) where
       pub held : AllHeld widths heights table.cells
 
     parts-of : (widths heights : List ℕ) (cells : List TableCell) → AllHeld widths heights cells →
-        (parts : List (List Layout)) × AllZip (λ cell inner. FitsRoom Any (room_for widths cell) (lines_for heights cell) (out-TableCell cell) inner) cells parts
+        (parts : List (List Layout)) × AllZip (λ cell inner. FitsRoom Any (room_for widths cell) (lines_for heights cell) (out-TableCell cell) inner)
+        cells parts
     parts-of widths heights [] held = ([], tt)
     parts-of widths heights (cell ∷ cells) held =
         let first = cell-fits (room_for widths cell) held.0.0 (lines_for heights cell) (out-TableCell cell) held.0.1 held.0.2 in

@@ -211,7 +211,8 @@ module _ (table : Table) (style : Style) (page : ℕ) (inner : List InnerSteps) 
           by_case : (each ≡ cell) ⊎ Contains cells cell →
               (Contains cells cell → room (gap_of style) placed.widths (out-TableCell cell).place.left (out-TableCell cell).place.right ≤ page) →
               room (gap_of style) placed.widths (out-TableCell cell).place.left (out-TableCell cell).place.right ≤ page
-          by_case (inl same) again = subst (λ it. room (gap_of style) placed.widths (out-TableCell it).place.left (out-TableCell it).place.right ≤ page) same here
+          by_case (inl same) again = subst (λ it. room (gap_of style) placed.widths (out-TableCell it).place.left (out-TableCell it).place.right ≤
+              page) same here
           by_case (inr later) again = again later
 
   -- the placement with given layouts of the nested tables is a layout that fits

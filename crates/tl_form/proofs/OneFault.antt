@@ -228,7 +228,8 @@ module _ (document : Document) (budget : ℕ) (certificate : Certificate) (one_p
           whole_stops (Bounded height lower) same both.0 both.1 found is (λ narrow. narrow)
       by_claim (Narrow least) same shown (inl wrong) is = wrong.1 valid.claim
       by_claim (Narrow least) same shown (inr (inl wrong)) is =
-          wrong.1.wrong (subst (AreTooWide document certificate.chains) (narrow_same (sym same ∙ wrong.1.narrow)) (subst (IsShown document budget certificate) same shown))
+          wrong.1.wrong (subst (AreTooWide document certificate.chains) (narrow_same (sym same ∙ wrong.1.narrow))
+          (subst (IsShown document budget certificate) same shown))
         where
           narrow_same : {a b : ℕ} → Narrow a ≡ Narrow b → a ≡ b
           narrow_same equal = cc

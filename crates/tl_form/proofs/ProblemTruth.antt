@@ -98,7 +98,8 @@ module _ (lows highs : Table → ℕ → ℕ → Type 0) (table : Table) (style 
       (layout : Layout) × Fits table style (total_width problem widths) (total_height problem heights) layout
       × ((out-Layout layout).widths ≡ widths) × ((out-Layout layout).heights ≡ heights)
   high-fits above widths heights laid =
-      let made = layout-high lows highs style page (out-Table table) problem of (sound-in_grid lows highs style page problem sound) (λ nested w h inner. Fits nested style w h inner)
+      let made = layout-high lows highs style page (out-Table table) problem of (sound-in_grid lows highs style page problem sound)
+      (λ nested w h inner. Fits nested style w h inner)
       (weaker_each (IsAboveLayouts highs style page)
       (λ nested. (w : ℕ) → w ≤ page → IsAboveAt (λ one v h inner. Fits one style v h inner) highs w nested) (inner_tables (out-Table table))
       (λ nested is w within h need. is w h within need) above) widths heights laid in

@@ -92,7 +92,8 @@ module _ (inner : List InnerSteps) (style : Style) (page : ℕ) where
   apart-cells made placed apart i j d before within share =
       let long : length (map made_place made) ≡ length made = length-map made made_place in
       let one = apart i j (made_place d) before (omega (arith, within, long)) in
-      let other = subst (λ (place : Place). AreApart place (get_or (map made_place made) j (made_place d))) (at-place made i d (omega (arith, before, within))) one in
+      let other = subst (λ (place : Place). AreApart place (get_or (map made_place made) j (made_place d)))
+      (at-place made i d (omega (arith, before, within))) one in
       let both = subst (λ (place : Place). AreApart (made_place (get_or made i d)) place) (at-place made j d within) other in
       share-slot (get_or made i d) (get_or made j d) both share (placed i d (omega (arith, before, within))) (placed j d within)
 

@@ -195,7 +195,8 @@ contents_deep forms deep breaking (block ∷ flow) (content ∷ contents) become
     ∙ append_assoc (tables_alone (open_outline (out-Block block))) (alone flow) rest in
     let split_numbers = numbered_split k (tables_in_block block) (tables_in_flow flow) are in
     let first = content_deep forms deep breaking (out-Block block) (out-Content content) become.0
-    (subst AreSound (block_outline-out block) sound.0) k (subst (AreNumbered k) (tables_in_block-out block) split_numbers.0) depth more (alone flow ++ rest) (subst (IsNestedBelow (depth + more) depth) split nested) in
+    (subst AreSound (block_outline-out block) sound.0) k (subst (AreNumbered k) (tables_in_block-out block) split_numbers.0) depth more
+    (alone flow ++ rest) (subst (IsNestedBelow (depth + more) depth) split nested) in
     let later = contents_deep forms deep breaking flow contents become.1 sound.1 (k + length (tables_in_block block)) split_numbers.1
     depth more rest first.1 in
     (append_each (IsSoundWithin more) (tables_of (out-Content content)) (tables_among contents) first.0 later.0, later.1)

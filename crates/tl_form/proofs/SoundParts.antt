@@ -75,10 +75,12 @@ pub sound_inner : (table : Table) (depth : ℕ) → depth ≤ MAX_DEPTH → IsSo
     table_size table ≤ MAX_FILE_BYTES → AllByRecursion IsSound (inner_tables (out-Table table))
 sound_inner table zero shallow sound few size = absurd sound
 sound_inner table (suc depth) shallow sound few size =
-    weaker_each (λ inner. IsSoundWithin depth inner × ((table_size inner ≤ table_size table) × ((out-Table inner).number + nested_in_table inner ≤ (out-Table table).number + nested_in_table table)))
+    weaker_each (λ inner. IsSoundWithin depth inner × ((table_size inner ≤ table_size table) ×
+    ((out-Table inner).number + nested_in_table inner ≤ (out-Table table).number + nested_in_table table)))
     IsSound (inner_tables (out-Table table))
     (λ inner all. record { depth = depth; shallow = omega arith; sound = all.0; few_tables = omega (arith, all.1.1); size = omega (arith, all.1.0) })
-    (both_each (IsSoundWithin depth) (λ inner. (table_size inner ≤ table_size table) × ((out-Table inner).number + nested_in_table inner ≤ (out-Table table).number + nested_in_table table))
+    (both_each (IsSoundWithin depth) (λ inner. (table_size inner ≤ table_size table) ×
+    ((out-Table inner).number + nested_in_table inner ≤ (out-Table table).number + nested_in_table table))
     (inner_tables (out-Table table)) sound.inner
     (both_each (λ inner. table_size inner ≤ table_size table)
     (λ inner. (out-Table inner).number + nested_in_table inner ≤ (out-Table table).number + nested_in_table table)

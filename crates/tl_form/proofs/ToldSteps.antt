@@ -39,7 +39,8 @@ height_missing bound told least page w steps is from within none =
 
 pub told_none : (bound : Bound) (told : List Told) (least : ℕ) (steps : List Config) → steps ≡ [] → AreStepsBelow (TellsHeight bound told) least least steps
 told_none bound told least steps is =
-    below_none (TellsHeight bound told) (height_one bound told) (λ v w a b wider first second. height_falls bound told v w a b wider first second) least steps is
+    below_none (TellsHeight bound told) (height_one bound told) (λ v w a b wider first second. height_falls bound told v w a b wider first second)
+    least steps is
 
 pub told_more : (bound : Bound) (told : List Told) (least w h : ℕ) (steps : List Config) → least ≤ w →
     AreStepsBelow (TellsHeight bound told) least w steps → TellsHeight bound told w h →

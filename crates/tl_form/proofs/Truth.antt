@@ -147,7 +147,12 @@ module _ (document : Document) (sound : IsSound document.table) (before : List S
   -- no layout is below `low`
   pub nested_lower : (w height : ℕ) (layout : Layout) → w ≤ page → Fits nested document.style w height layout →
       (h : ℕ) × InnerNeeds (λ each. each.low) inner nested w h × (h ≤ height)
-  nested_lower w height layout within fits = (here.0, subst (λ o. IsSomeAnd o (λ each. height_at each.low w ≡ Some here.0)) (sym found_steps.found) here.1, below)
+  nested_lower w height layout within fits = (
+    here.0,
+    subst (λ o. IsSomeAnd o (λ each. height_at each.low w ≡ Some here.0)) (sym found_steps.found)
+        here.1,
+    below,
+  )
     where
       wide : own_steps.least ≤ w
       wide = own_steps.is_least.least w height layout fits

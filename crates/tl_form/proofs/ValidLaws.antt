@@ -85,7 +85,11 @@ module _ (below : LayoutsAreByLow) (above : LayoutsByHighFit) (table : Table) (s
       let told : IsTrue document section = subst (IsTrue document)
       (ap (λ xs. get_or xs own.n d) (take_all (length sections) sections (omega arith)))
       (All-get_or (IsTrue document) (take (length sections) sections) own.n d (omega (arith, own.last, length-take (length sections) sections)) all) in
-      let named : IsTableOf document section.table table = record { among = inl of.same; numbered = ap (λ t. (out-Table t).number) (sym of.same) ∙ sym (own.of d) } in
+      let named : IsTableOf document section.table table = record {
+        among = inl of.same;
+        numbered = ap (λ t. (out-Table t).number) (sym of.same) ∙ sym
+            (own.of d);
+      } in
       let found = told.found table named in (
         section,
         ends claim sections own.n d own.last with_numbers,

@@ -1,4 +1,4 @@
 mod Ready
-mod Made
-mod Counted
 mod Written
+mod Counted
+mod Made

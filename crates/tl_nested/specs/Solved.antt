@@ -1,6 +1,7 @@
 -- What a search of one problem owes, whoever makes it.
-use Rattle.std.specs.Prelude.{◌≡◌, ℕ, ◌+◌, ◌*◌, ◌≤◌, Unit, tt, length, Result, Ok, AllocError}
-use Rattle.core.specs.Fn.{Shared}
+use Rattle.std.specs.Prelude.{◌≡◌, ℕ, ◌+◌, ◌*◌, ◌≤◌, length, Result, Ok}
+use Rattle.std.specs.declared.alloc.AllocError.{AllocError}
+use denote.Param.Members.{Shared}
 use denote.Ref.{Bor}
 use Rattle.tl_problem.specs.Agreement.{LowIsHigh}
 use Rattle.tl_problem.specs.Problem.{ProblemModel}

@@ -5,7 +5,9 @@
 #![tactic(auto)]
 
 mod make;
-mod sections;
+mod searching;
+#[cfg(test)]
+mod tests;
 
 pub use make::{Make, sections};
-pub use sections::sections_by;
+pub use searching::sections_by;

@@ -5,10 +5,11 @@ ghost use Rattle.tl_base.specs.declared.limits.TheConstants.{MAX_BUDGET, MAX_PAG
 ghost use Rattle.tl_form.specs.Least.{IsLeastWidth};
 ghost use Rattle.tl_form.specs.Sound.{IsSound};
 ghost use Rattle.tl_nested.specs.Searched.{AreSectionsOf, AreWritable};
+ghost use Rattle.tl_nested.specs.Solved.{IsSolved};
 ghost use Rattle.tl_problem.specs.Problem.{ProblemModel};
 ghost use Rattle.tl_solve.specs.declared.outcome.Outcome.{Outcome};
 
-use crate::sections::sections_by;
+use crate::searching::sections_by;
 use std::alloc::{AllocError, Global};
 use tl_base::{List, Style};
 use tl_cert::Section;
@@ -25,9 +26,9 @@ pub trait Make: Sync {
 
     /// Makes a solver that can be called.
     fn make(&self, alloc: Global) -> Result<Self::Made, AllocError>
-        ensures callable { IfOk result (λ made. Self::Made.can_solve made) }
+        ensures callable { IfOk result (λ made. Self.Made.can_solve made) }
         ensures besides { IfOk result (λ made. (problem : ProblemModel) (budget : ℕ) (outcome : Outcome) →
-            Self::Made.besides made problem budget outcome → besides self.now problem budget outcome) };
+            Self.Made.besides made problem budget outcome → besides self.now problem budget outcome) };
 }
 
 /// All sections of a certificate of the table on a page of `width` columns, each by a solver of its own.
@@ -47,7 +48,10 @@ pub fn sections<M: Make>(
         style width budget) }
     ensures writable { IfOk result AreWritable }
 {
-    sections_by(alloc, table, style, width, budget, &|problem: &Problem, budget: u32| -> Result<Outcome, AllocError> {
-        maker.make(alloc)?.solve(problem, budget)
-    })
+    let solve = |problem: &Problem, budget: u32| -> Result<Outcome, AllocError>
+        requires { budget ≤ MAX_BUDGET }
+        ensures solved { IfOk result (IsSolved problem.now budget) }
+        ensures besides { IfOk result (λ outcome. M.besides maker.entry.now problem.now budget outcome) }
+    { maker.make(alloc)?.solve(problem, budget) };
+    sections_by(alloc, table, style, width, budget, &solve)
 }

@@ -1,5 +1,5 @@
 -- What the sections are so far. No public clause cites this file.
-use Rattle.std.specs.Prelude.{◌≡◌, ℕ, ◌+◌, ◌-◌, ◌*◌, ◌<◌, ◌≤◌, List, length, get_or, take, Option, None, Some}
+use Rattle.std.specs.Prelude.{◌≡◌, ℕ, ◌+◌, ◌-◌, ◌*◌, ◌≤◌, List, length, Option, None, Some}
 use Rattle.std.specs.List.{AllByRecursion}
 use Rattle.tl_problem.specs.Problem.{ProblemModel}
 use Rattle.tl_cert.specs.declared.section.Section.{Section}
@@ -8,15 +8,15 @@ use Rattle.tl_form.specs.declared.subject.Subject.{Subject}
 use Rattle.tl_form.specs.Expected.{Document, Due, own_number, least_of, due_after}
 use Rattle.tl_form.specs.Subjects.{meant}
 use Rattle.tl_solve.specs.declared.outcome.Outcome.{Outcome}
-use Rattle.tl_nested.specs.Searched.{EachIsSearched, IsSearched}
+use Rattle.tl_nested.specs.Searched.{EachIsSearched}
 
 -- the page is at least as wide as the least width of the document's own table
 abbrev pub FitsPage : Subject → Type 0
 FitsPage subject = least_of (meant subject) (own_number (meant subject)) ≤ subject.page
 
--- how many sections may still follow, the one that is due counted
+-- how many sections may still follow, the one that is due counted, and as many more as the page has columns
 abbrev pub left : Document → Option Due → ℕ
-left document None = 0
+left document None = document.page
 left document (Some now) = (now.table - own_number document) * (document.page + 1) + now.width + 1
 
 -- the sections so far, and what is due after them

@@ -43,7 +43,8 @@ stacked-requires c =
     c.args.page c.cell_start-start.result c.loop-block.block-index c.block-item.result c.loop-block.steps c.in_ok-below.below c.requires.low
     c.cell_start-start.ensures
     (subst (λ items. c.loop-block.block-index < length items) c.as_slice-block-items.ensures c.loop-block-test.true)
-    (subst (λ items. c.block-item.result ≡ get_or items c.loop-block.block-index c.block-item.result) c.as_slice-block-items.ensures c.block-item.is) c.loop-block.invariant c.in_ok-below.ensures
+    (subst (λ items. c.block-item.result ≡ get_or items c.loop-block.block-index c.block-item.result) c.as_slice-block-items.ensures c.block-item.is)
+    c.loop-block.invariant c.in_ok-below.ensures
 
 pub loop-block-preserved : goal.loop-block-preserved
 loop-block-preserved c =

@@ -33,7 +33,8 @@ returns-then-height-from c = (
       (out-TableCell c.args.cell.now) c.args.width c.loop-block.block-index c.loop-block.height c.block_height.result low.0 c.block-item.result
       c.loop-block.invariant.needed
       (subst (λ items. c.loop-block.block-index < length items) c.as_slice-block-items.ensures c.loop-block-test.true)
-      (subst (λ items. c.block-item.result ≡ get_or items c.loop-block.block-index c.block-item.result) c.as_slice-block-items.ensures c.block-item.is) c.block_height.ensures
+      (subst (λ items. c.block-item.result ≡ get_or items c.loop-block.block-index c.block-item.result) c.as_slice-block-items.ensures
+      c.block-item.is) c.block_height.ensures
       (omega (arith, c.if-height-from.true, c.from.ensures, c.from-height.ensures)) low.1 low.2),
 )
 
@@ -45,7 +46,8 @@ loop-block-preserved c =
     (low-more needs (inner-functional (bound_of c.args.bound) c.args.inner.now) cell c.args.width c.loop-block.block-index c.loop-block.height
     c.block_height.result c.block-item.result c.loop-block.invariant
     (subst (λ items. c.loop-block.block-index < length items) c.as_slice-block-items.ensures c.loop-block-test.true)
-    (subst (λ items. c.block-item.result ≡ get_or items c.loop-block.block-index c.block-item.result) c.as_slice-block-items.ensures c.block-item.is) c.block_height.ensures (omega (arith, c.if-height-from.false, c.from.ensures, c.from-height.ensures)))
+    (subst (λ items. c.block-item.result ≡ get_or items c.loop-block.block-index c.block-item.result) c.as_slice-block-items.ensures c.block-item.is)
+    c.block_height.ensures (omega (arith, c.if-height-from.false, c.from.ensures, c.from-height.ensures)))
 
 pub returns : goal.returns
 returns c = (

@@ -27,7 +27,8 @@ loop-block-preserved c =
     have-more (λ block. HaveSteps c.args.inner.now (tables_of (out-Content block))) (out-TableCell c.args.cell.now).blocks c.loop-block.block-index
     c.block-item.result
     (subst (λ items. c.loop-block.block-index < length items) c.as_slice-block-items.ensures c.loop-block-test.true)
-    (subst (λ items. c.block-item.result ≡ get_or items c.loop-block.block-index c.block-item.result) c.as_slice-block-items.ensures c.block-item.is) c.loop-block.invariant (c.block_has_steps.ensures.0 c.if-not-block_has_steps.false)
+    (subst (λ items. c.block-item.result ≡ get_or items c.loop-block.block-index c.block-item.result) c.as_slice-block-items.ensures c.block-item.is)
+    c.loop-block.invariant (c.block_has_steps.ensures.0 c.if-not-block_has_steps.false)
 
 pub returns : goal.returns
 returns c = (

@@ -27,7 +27,8 @@ loop-cell-preserved c =
     have-more (λ cell. HaveSteps c.args.inner.now (tables_in (out-TableCell cell))) (out-Table c.args.table.now).cells c.loop-cell.cell-index
     c.cell-item.result
     (subst (λ items. c.loop-cell.cell-index < length items) c.as_slice-cell-items.ensures c.loop-cell-test.true)
-    (subst (λ items. c.cell-item.result ≡ get_or items c.loop-cell.cell-index c.cell-item.result) c.as_slice-cell-items.ensures c.cell-item.is) c.loop-cell.invariant (c.cell_has_steps.ensures.0 c.if-not-cell_has_steps.false)
+    (subst (λ items. c.cell-item.result ≡ get_or items c.loop-cell.cell-index c.cell-item.result) c.as_slice-cell-items.ensures c.cell-item.is)
+    c.loop-cell.invariant (c.cell_has_steps.ensures.0 c.if-not-cell_has_steps.false)
 
 pub returns : goal.returns
 returns c = (

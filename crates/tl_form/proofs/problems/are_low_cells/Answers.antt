@@ -30,7 +30,8 @@ pub loop-cell-preserved : goal.loop-cell-preserved
 loop-cell-preserved c =
     low-more-cells c.args.inner.now c.args.page (out-Table c.args.table.now).cells c.loop-cell.cell-index c.cell-item.result
     (subst (λ items. c.loop-cell.cell-index < length items) c.as_slice-cell-items.ensures c.loop-cell-test.true)
-    (subst (λ items. c.cell-item.result ≡ get_or items c.loop-cell.cell-index c.cell-item.result) c.as_slice-cell-items.ensures c.cell-item.is) c.loop-cell.invariant (c.is_low_cell.ensures.0 c.if-not-is_low_cell.false)
+    (subst (λ items. c.cell-item.result ≡ get_or items c.loop-cell.cell-index c.cell-item.result) c.as_slice-cell-items.ensures c.cell-item.is)
+    c.loop-cell.invariant (c.is_low_cell.ensures.0 c.if-not-is_low_cell.false)
 
 pub returns : goal.returns
 returns c = (

@@ -33,7 +33,8 @@ loop-cell-preserved c =
     (take (i + 1) cells) made) (sym c.in_ok-push.ensures.ok)
     (cells-more c.args.inner.now c.args.page cells i c.cell-item.result c.loop-cell.cells c.in_ok-problem_cell.field-0
     (subst (λ items. c.loop-cell.cell-index < length items) c.as_slice-cell-items.ensures c.loop-cell-test.true)
-    (subst (λ items. c.cell-item.result ≡ get_or items c.loop-cell.cell-index c.cell-item.result) c.as_slice-cell-items.ensures c.cell-item.is) c.loop-cell.invariant c.in_ok-problem_cell.ensures)
+    (subst (λ items. c.cell-item.result ≡ get_or items c.loop-cell.cell-index c.cell-item.result) c.as_slice-cell-items.ensures c.cell-item.is)
+    c.loop-cell.invariant c.in_ok-problem_cell.ensures)
 
 pub returns : goal.returns
 returns c =

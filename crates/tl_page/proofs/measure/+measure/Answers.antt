@@ -207,7 +207,8 @@ height_in-loop-cell-preserved t c =
     (subst (λ items. c.cell-item.result ≡ get_or items c.loop-cell.cell-index c.cell-item.result) c.as_slice-cell-items.ensures c.cell-item.is)
     c.loop-cell.invariant
     (subst
-    (λ (w : ℕ). TakesCell c.args.style w (height_for c.args.style layout place) (out-TableCell c.cell-item.result) layout.inner c.loop-cell.next (Some past)) columns
+    (λ (w : ℕ). TakesCell c.args.style w (height_for c.args.style layout place) (out-TableCell c.cell-item.result) layout.inner c.loop-cell.next
+    (Some past)) columns
     (subst (λ (h : ℕ). TakesCell c.args.style c.room_of-columns.result h (out-TableCell c.cell-item.result) layout.inner c.loop-cell.next (Some past)) lines
     (subst
     (λ inner. TakesCell c.args.style c.room_of-columns.result c.room_of-lines.result (out-TableCell c.cell-item.result) inner c.loop-cell.next (Some past))

@@ -17,10 +17,11 @@ use std::alloc::{AllocError, Global};
 use tl_base::{List, Style};
 use tl_cert::Section;
 use tl_form::{Due, Subject, Table, inner_steps, problem};
-use tl_problem::Problem;
+use tl_problem::{Placed, Problem};
 use tl_solve::Outcome;
 
 /// What one search gave.
+#[derive(Drop)]
 struct Found {
     section: Section,
     /// The columns that the placement takes.
@@ -37,7 +38,7 @@ fn problem_at(
     requires subject { IsSubject subject.now }
     requires wide { FitsPage subject.now }
     requires good { (budget : ℕ) × AreGoodBelow (meant subject.now) budget before.now (length before.now) }
-    requires due { due_after (meant subject.now) before.now ≡ Some (due_of due) }
+    requires next { due_after (meant subject.now) before.now ≡ Some (due_of due) }
     ensures { IfOk result (λ problem. (section : Section) → section.table ≡ due.table → section.width ≡ due.width →
         IsProblemAt (meant subject.now) before.now section problem) }
 {
@@ -59,7 +60,7 @@ fn search<F: Fn(&Problem, u32) -> Result<Outcome, AllocError>>(
     requires wide { FitsPage subject.now }
     requires cuts { budget ≤ MAX_BUDGET }
     requires good { AreGoodBelow (meant subject.now) budget before.now (length before.now) }
-    requires due { due_after (meant subject.now) before.now ≡ Some (due_of due) }
+    requires next { due_after (meant subject.now) before.now ≡ Some (due_of due) }
     requires callable { SearchesEach F.Fn solve.now budget }
     requires solves { SolvesEach F.Fn solve.now budget }
     ensures searched { IfOk result (λ found. IsSearched (Gives F.Fn solve.now budget) (meant subject.now) budget before.now
@@ -68,19 +69,28 @@ fn search<F: Fn(&Problem, u32) -> Result<Outcome, AllocError>>(
     ensures writable { IfOk result (λ found. IsSectionWritable found.section) }
 {
     let problem = problem_at(alloc, subject, due, before)?;
-    let outcome = solve(&problem, budget)?;
-    Ok(Found {
-        placed: outcome.best.width,
-        section: Section {
-            table: due.table,
-            width: due.width,
-            height: outcome.best.height,
-            lower: outcome.lower,
-            widths: outcome.best.widths,
-            trace: outcome.trace,
-            log: outcome.log,
-        },
-    })
+    let Outcome {
+        best,
+        lower,
+        trace,
+        log,
+    } = solve(&problem, budget)?;
+    let Placed {
+        widths,
+        heights: _,
+        width: placed,
+        height,
+    } = best;
+    let section = Section {
+        table: due.table,
+        width: due.width,
+        height,
+        lower,
+        widths,
+        trace,
+        log,
+    };
+    Ok(Found { section, placed })
 }
 
 /// All sections of a certificate of the table on a page of `width` columns, each by a call of `solve` with
@@ -108,9 +118,16 @@ pub fn sections_by<F: Fn(&Problem, u32) -> Result<Outcome, AllocError>>(
     let mut sections = List::new(alloc);
     let mut due = Some(subject.first_due());
     while let Some(now) = due {
-        let found = search(alloc, &subject, now, budget, solve, sections.as_slice())?;
-        sections.push(found.section)?;
-        due = subject.next_due(now.table, found.placed);
+        let Found { section, placed } = search(
+            alloc,
+            &subject,
+            now,
+            budget,
+            solve,
+            sections.as_slice(),
+        )?;
+        sections.push(section)?;
+        due = subject.next_due(now.table, placed);
     }
     Ok(sections)
 }

@@ -1,0 +1,140 @@
+-- A certificate is accepted, or refused by one error.
+use Rattle.std.proofs.Common.{◌≡◌, ◌∙◌, ℕ, List, take, refl, sym, ap, subst, inl, inr, arith}
+use Rattle.std.proofs.lemmas.Bool.{cases_lt}
+use Rattle.std.proofs.lemmas.List.{get_or_default}
+use Rattle.tl_problem.specs.Problem.{ProblemModel}
+use Rattle.tl_cert.specs.declared.certificate.Certificate.{Certificate}
+use Rattle.tl_cert.specs.declared.log.LogLine.{LogLine}
+use Rattle.tl_cert.specs.declared.trace.CutAt.{CutAt}
+use Rattle.tl_check.specs.Verdicts.{IsFirstBad}
+use Rattle.tl_form.specs.Expected.{Document}
+use Rattle.tl_form.specs.ProblemLaws.{ProblemIsDetermined}
+use Rattle.tl_form.specs.Refusals.{Fault, wrong_claim, wrong_chain, missing, extra, wrong_layout, wrong_trace, wrong_log, IsRefusedFor}
+use Rattle.tl_form.specs.Sound.{IsSound}
+use Rattle.tl_form.specs.Valid.{IsProblemAt, IsValidFor}
+use Rattle.tl_form.proofs.OneFault.{HasOneProblem, one_fault, no_fault}
+use Rattle.tl_form.proofs.OneProblem.{one_problem}
+use Rattle.tl_verify.specs.declared.reject.Reject.{Reject}
+use Rattle.tl_verify.specs.declared.reject.Reject.TheVariants as rejects
+use Rattle.tl_verify.specs.Verdicts.{HasBadLine, IsReason}
+use Rattle.tl_verify.proofs.Placing.{one_problem_of}
+
+-- ---- the first bad line is one
+
+pub first_bad_one : (problem : ProblemModel) (trace : List CutAt) (log : List LogLine) (lower k other : ℕ) → IsFirstBad problem trace log lower k →
+    IsFirstBad problem trace log lower other → k ≡ other
+first_bad_one problem trace log lower k other is are = elim (cases_lt k other) [
+  | inl less ↦ absurd (is.bad (omega (arith, less, are.there)) (are.before k less))
+  | inr more ↦ elim (cases_lt other k) [
+    | inl less ↦ absurd (are.bad (omega (arith, less, is.there)) (is.before other less))
+    | inr same ↦ omega (arith, more, same)
+  ]
+]
+
+-- ---- errors as faults
+
+-- the fault that an error names, and the error that names a fault
+abbrev to_fault : Reject → Fault
+to_fault (rejects.Memory error) = wrong_claim
+to_fault rejects.Claim = wrong_claim
+to_fault rejects.Chain = wrong_chain
+to_fault (rejects.Missing table) = missing table
+to_fault (rejects.Extra number) = extra number
+to_fault (rejects.Layout number) = wrong_layout number
+to_fault (rejects.Trace number) = wrong_trace number
+to_fault (rejects.Line number line) = wrong_log number
+
+abbrev of_fault : Fault → ℕ → Reject
+of_fault wrong_claim line = rejects.Claim
+of_fault wrong_chain line = rejects.Chain
+of_fault (missing table) line = rejects.Missing table
+of_fault (extra number) line = rejects.Extra number
+of_fault (wrong_layout number) line = rejects.Layout number
+of_fault (wrong_trace number) line = rejects.Trace number
+of_fault (wrong_log number) line = rejects.Line number line
+
+abbrev line_of : Reject → ℕ
+line_of (rejects.Memory error) = 0
+line_of rejects.Claim = 0
+line_of rejects.Chain = 0
+line_of (rejects.Missing table) = 0
+line_of (rejects.Extra number) = 0
+line_of (rejects.Layout number) = 0
+line_of (rejects.Trace number) = 0
+line_of (rejects.Line number line) = line
+
+determined : ProblemIsDetermined
+determined = λ table style page inner one other is are. one_problem_of table style page inner one other is are
+
+module _ (document : Document) (sound : IsSound document.table) (budget : ℕ) (certificate : Certificate) where
+  problems : HasOneProblem document
+  problems = one_problem determined document sound
+
+  named : (reject : Reject) → IsReason document budget certificate reject → reject ≡ of_fault (to_fault reject) (line_of reject)
+  named (rejects.Memory error) why = absurd why
+  named rejects.Claim why = refl
+  named rejects.Chain why = refl
+  named (rejects.Missing table) why = refl
+  named (rejects.Extra number) why = refl
+  named (rejects.Layout number) why = refl
+  named (rejects.Trace number) why = refl
+  named (rejects.Line number line) why = refl
+
+  to_refused : (reject : Reject) → IsReason document budget certificate reject → IsRefusedFor document budget certificate (to_fault reject)
+  to_refused (rejects.Memory error) why = absurd why
+  to_refused rejects.Claim why = why
+  to_refused rejects.Chain why = why
+  to_refused (rejects.Missing table) why = why
+  to_refused (rejects.Extra number) why = why
+  to_refused (rejects.Layout number) why = why
+  to_refused (rejects.Trace number) why = why
+  to_refused (rejects.Line number line) why = (why.section, why.problem, why.log)
+
+  same_line : (number line other : ℕ) → HasBadLine document budget certificate number line → HasBadLine document budget certificate number other →
+      line ≡ other
+  same_line number line other one two =
+      let section : two.section ≡ one.section =
+      sym two.log.comes.is ∙ get_or_default certificate.sections number two.section one.section one.log.comes.there ∙ one.log.comes.is in
+      let problem : two.problem ≡ one.problem =
+      problems (take number certificate.sections) one.section two.problem one.problem
+      (subst (λ s. IsProblemAt document (take number certificate.sections) s two.problem) section two.log.laid.own) one.log.laid.own in
+      first_bad_one one.problem one.section.trace one.section.log one.section.lower line other one.first
+      (subst (λ p. IsFirstBad p one.section.trace one.section.log one.section.lower other) problem
+      (subst (λ s. IsFirstBad two.problem s.trace s.log s.lower other) section two.first))
+
+  -- an error that names no line is the one that names the same fault
+  other_one : (fault : Fault) (line : ℕ) (other : Reject) → IsReason document budget certificate other → fault ≡ to_fault other →
+      of_fault fault line ≡ of_fault fault (line_of other) → of_fault fault line ≡ other
+  other_one fault line other also same any = any ∙ ap (λ f. of_fault f (line_of other)) same ∙ sym (named other also)
+
+  by_line : (number line : ℕ) (other : Reject) → HasBadLine document budget certificate number line → IsReason document budget certificate other →
+      wrong_log number ≡ to_fault other → rejects.Line number line ≡ other
+  by_line number line (rejects.Memory error) why also same = absurd also
+  by_line number line rejects.Claim why also same = absurd cc
+  by_line number line rejects.Chain why also same = absurd cc
+  by_line number line (rejects.Missing table) why also same = absurd cc
+  by_line number line (rejects.Extra other) why also same = absurd cc
+  by_line number line (rejects.Layout other) why also same = absurd cc
+  by_line number line (rejects.Trace other) why also same = absurd cc
+  by_line number line (rejects.Line other last) why also same =
+      let numbers : number ≡ other = cc in
+      let lines : line ≡ last = same_line number line last why (subst (λ n. HasBadLine document budget certificate n last) (sym numbers) also) in
+      λ i. rejects.Line (numbers i) (lines i)
+
+  pub one_reason : (one other : Reject) → IsReason document budget certificate one → IsReason document budget certificate other → one ≡ other
+  one_reason one other why also = by_case one other why also
+      (one_fault document budget certificate problems (to_fault one) (to_fault other) (to_refused one why) (to_refused other also))
+    where
+      by_case : (one other : Reject) → IsReason document budget certificate one → IsReason document budget certificate other →
+          to_fault one ≡ to_fault other → one ≡ other
+      by_case (rejects.Memory error) other why also same = absurd why
+      by_case rejects.Claim other why also same = other_one wrong_claim 0 other also same refl
+      by_case rejects.Chain other why also same = other_one wrong_chain 0 other also same refl
+      by_case (rejects.Missing table) other why also same = other_one (missing table) 0 other also same refl
+      by_case (rejects.Extra number) other why also same = other_one (extra number) 0 other also same refl
+      by_case (rejects.Layout number) other why also same = other_one (wrong_layout number) 0 other also same refl
+      by_case (rejects.Trace number) other why also same = other_one (wrong_trace number) 0 other also same refl
+      by_case (rejects.Line number line) other why also same = by_line number line other why also same
+
+  pub not_both : (reject : Reject) → IsValidFor document budget certificate → IsReason document budget certificate reject → ⊥
+  not_both reject valid why = no_fault document budget certificate problems (to_fault reject) valid (to_refused reject why)

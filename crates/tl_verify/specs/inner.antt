@@ -1,0 +1,4 @@
+-- What private functions promise each other. No public clause cites this file.
+pub mod Naming
+pub mod Sections
+pub mod Walks

@@ -1,0 +1,17 @@
+//! Judges a whole certificate against its table, and gives the layout that it names. Whoever reads a
+//! certificate trusts no search: none stands below this crate. Its one contract: `verify` accepts
+//! exactly the valid certificates, and otherwise names the first step that fails.
+#![tactic(auto)]
+
+mod chains;
+mod claim;
+mod laid;
+mod named;
+mod reject;
+mod rooms;
+mod sections;
+mod verdict;
+
+pub use named::layout;
+pub use reject::Reject;
+pub use verdict::{Verdict, verify};
