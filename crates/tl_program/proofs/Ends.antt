@@ -235,9 +235,9 @@ went words change status command bytes ends is told quiet =
   by_outcome : (outcome : Outcome) × Becomes words change outcome × (status ≡ number_of (status_of outcome.report))
       × (change.files_after ≡ after change.files outcome.stores) × (change.said_after ≡ longer change.said (text_of outcome.report)) →
       Went words change command bytes status
-  by_outcome (outcome, inl usage, rest) = absurd (usage.0 command is)
-  by_outcome (outcome, inr (command', is', inl fault), rest) = absurd (quiet.load fault.0)
-  by_outcome (outcome, inr (command', is', inr answered), ends_so, rest) =
+  by_outcome (outcome, inl usage, ends_so, files, said) = absurd (usage.0 command is)
+  by_outcome (outcome, inr (command', is', inl fault), ends_so, files, said) = absurd (quiet.load fault.0)
+  by_outcome (outcome, inr (command', is', inr answered), ends_so, files, said) =
       by_answer command' (command_once words command' command is' is) outcome ends_so answered
 
 -- a file that is read as a table within the reach

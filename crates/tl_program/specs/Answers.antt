@@ -1,5 +1,6 @@
 -- What a table on a page is answered by: the report, with the page and the certificate that are stored for it.
 use Rattle.std.specs.Prelude.{◌≡◌, ◌≢◌, ℕ, ◌+◌, ◌*◌, ◌/◌, ◌<◌, ◌≤◌, min, Bool, true, false, List, Option, Some, None, option_map}
+use Rattle.std.specs.List.{Any}
 use Rattle.tl_base.specs.declared.breaking.Breaking.{Breaking}
 use Rattle.tl_base.specs.declared.breaking.Breaking.TheVariants.{Words}
 use Rattle.tl_base.specs.declared.limits.TheConstants.{MAX_REACH}
@@ -18,6 +19,7 @@ use Rattle.tl_form.specs.declared.layout.Layout.{Layout, out-Layout}
 use Rattle.tl_form.specs.Layouts.{Fits, total_width}
 use Rattle.tl_form.specs.Least.{IsLeastHeight, IsLeastWidth}
 use Rattle.tl_form.specs.Named.{IsNamed}
+use Rattle.tl_form.specs.OpenLaws.{IsSpent}
 use Rattle.tl_form.specs.Problems.{IsCountAll}
 use Rattle.tl_form.specs.Sound.{nested_in_table}
 use Rattle.tl_form.specs.Valid.{IsValid}
@@ -113,6 +115,11 @@ pub record StoresNothing (answer : Answer) : Type 0 where
   pub no_page : answer.page ≡ None
   pub no_certificate : answer.certificate ≡ None
 
+-- so it is stored, and some section made as many cuts as the budget allows
+pub record IsSpentOn (task : Task) (table : Table) (claim : Claim) (height taken : ℕ) (answer : Answer) : Type 0 where
+  pub laid : IsLaid task table claim height taken answer
+  pub spent : Any (IsSpent (budget_in task table)) laid.certificate.sections
+
 -- the budget is below the greatest count of the table and those nested in it
 abbrev pub IsBelowCounts : Task → Table → Type 0
 IsBelowCounts task table = (most : ℕ) → IsCountAll table task.style task.width most → budget_in task table < most
@@ -122,7 +129,7 @@ abbrev pub IsAnswerBy : Report → Task → Table → Answer → Type 0
 IsAnswerBy (reports.Lowest height width) task table answer = IsLaid task table (claims.Lowest height) height width answer
     × IsLeastHeight table task.style task.width height
 IsAnswerBy (reports.Bounded height lower width) task table answer = (lower < height)
-    × IsLaid task table (claims.Bounded height lower) height width answer × IsBetween table task.style task.width height lower
+    × IsSpentOn task table (claims.Bounded height lower) height width answer × IsBetween table task.style task.width height lower
     × IsBelowCounts task table
 IsAnswerBy (reports.Narrow least width) task table answer = IsNarrow task table least answer × (width ≡ task.width)
 IsAnswerBy (reports.Refused refusal) task table answer = IsTooFar task table refusal × StoresNothing answer

@@ -23,8 +23,9 @@ use crate::makers::searched;
 use crate::refusal::{Limit, Refusal};
 use crate::report::Report;
 use crate::task::Task;
+use crate::widths::total_width;
 use std::alloc::{AllocError, Global};
-use tl_base::{List, MAX_REACH, Style};
+use tl_base::{List, MAX_HEIGHT, MAX_REACH};
 use tl_cert::{Certificate, Claim, Section, write};
 use tl_form::{
     Layout, Subject, Table, bounded_is_between, budget_closes, chains_are_writable,
@@ -119,6 +120,10 @@ fn too_narrow(
     ensures report { IfOk result (λ answer. answer.report ≡ reports.Narrow least task.now.width) }
     ensures is { IfOk result (IsNarrow task.now subject.now.table.now least) }
 {
+    // No table of a file within its limit is so wide, and no certificate has a number for it.
+    if least > MAX_HEIGHT {
+        return Err(AllocError);
+    }
     chains_are_writable();
     let certificate = Certificate {
         width: task.width,
@@ -231,17 +236,4 @@ fn certificate_file(
         return Ok(None);
     }
     Ok(Some(write(alloc, certificate)?))
-}
-
-/// The columns that columns of these widths take on the page.
-fn total_width(style: Style, widths: &[u32]) -> u64
-    requires { length widths.now ≤ MAX_COLUMNS }
-    ensures { result ≡ total (gap_of style) (edge_of style) widths.now }
-{
-    if widths.is_empty() {
-        return 0;
-    }
-    let sizes: u64 = widths.iter().map(|&width| u64::from(width)).sum();
-    let gaps = u64::from(style.gap()) * (widths.len() as u64 - 1);
-    sizes + gaps + 2 * u64::from(style.edge())
 }

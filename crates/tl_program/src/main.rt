@@ -19,6 +19,9 @@ mod report;
 mod run;
 mod status;
 mod task;
+#[cfg(test)]
+mod tests;
+mod widths;
 
 use run::run;
 use status::Status;

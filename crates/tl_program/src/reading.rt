@@ -15,7 +15,7 @@ ghost use Rattle.tl_program.specs.inner.Readings.{IsSoundReading};
 use crate::refusal::{Limit, Refusal, form_refusal, token_refusal, tree_refusal};
 use std::alloc::{AllocError, Global};
 use tl_base::{Breaking, MAX_FILE_BYTES};
-use tl_form::{Table, table};
+use tl_form::{Table, formed_has_few_cells, table};
 use tl_token::{Token, tokens};
 use tl_tree::{TableNode, tree};
 
@@ -44,6 +44,7 @@ fn read_tree(alloc: Global, node: &TableNode, breaking: Breaking) -> Result<Read
         → IsReadTree breaking other reading → IfOk result (λ found. AreAlike found reading) }
     ensures sound { IfOk result IsSoundReading }
 {
+    formed_has_few_cells();
     match table(alloc, node, breaking) {
         Ok(table) => Ok(Reading::Table(table)),
         Err(error) => refused(form_refusal(error)),

@@ -150,7 +150,7 @@ fn store<D: Desk>(desk: &mut D, name: Option<&str>, bytes: &Option<List<u8>>) ->
       load_faults_after = D.load_faults desk.new;
       write_faults = D.write_faults desk.old;
       write_faults_after = D.write_faults desk.new;
-    }) (stored_as (option_map (λ name. name.now) name) bytes.now) }
+    }) (stored_as (option_map (λ name. name.now) name.entry) bytes.now) }
     ensures loads_stay { D.load_faults desk.new ≡ D.load_faults desk.old }
     ensures said_stays { D.said desk.new ≡ D.said desk.old }
 {
