@@ -1,9 +1,11 @@
 -- How a run ends, from what was stored and printed; and that it is complete.
 use Rattle.std.proofs.Common.{◌≡◌, ◌≢◌, ◌⊎◌, inl, inr, ℕ, ◌+◌, ◌<◌, ◌≤◌, List, [], ◌∷◌, ◌++◌, length, take, Option, Some, None, refl, sym, ◌∙◌, ap, subst, append_assoc, arith}
-use Rattle.std.specs.Prelude.{IfSome, option_map}
+use Rattle.std.specs.Prelude.{IfSome, IfOk, is_some, Result, Ok, Err, option_map}
+use Rattle.std.specs.declared.alloc.AllocError.{AllocError}
+use Rattle.std.proofs.lemmas.List.Elements.{All-contains}
 use Rattle.std.proofs.lemmas.Bool.Decides.{eqb_tells}
 use Rattle.std.proofs.lemmas.List.{take_all, length-take, append-nil}
-use Rattle.tl_base.specs.declared.limits.TheConstants.{MAX_FILE_BYTES, MAX_REACH}
+use Rattle.tl_base.specs.declared.limits.TheConstants.{MAX_BUDGET, MAX_FILE_BYTES, MAX_REACH}
 use Rattle.tl_base.specs.Desk.{Files, IsReadFrom, Rose, StoresPrefix, SaysPrefix, longer, stored}
 use Rattle.tl_form.specs.declared.cell.Table.{Table}
 use Rattle.tl_program.specs.declared.answer.Answer.{Answer}
@@ -15,12 +17,16 @@ use Rattle.tl_program.specs.declared.report.Report.{Report}
 use Rattle.tl_program.specs.declared.report.Report.TheVariants as reports
 use Rattle.tl_program.specs.declared.status.Status.{Status}
 use Rattle.tl_program.specs.declared.status.Status.TheVariants as statuses
-use Rattle.tl_program.specs.Answers.{reach, IsAnswerBy, IsAnswerTo, IsTooFar}
+use Rattle.tl_program.specs.declared.options.Choice.TheVariants as choices
+use Rattle.tl_program.specs.declared.options.Options.{Options}
+use Rattle.tl_program.specs.declared.task.Task.{Task}
+use Rattle.tl_program.specs.Options.{AreOptions, IsInRange}
+use Rattle.tl_program.specs.Answers.{reach, IsAnswerBy, IsAnswerTo, IsTooFar, StoresNothing}
 use Rattle.tl_program.specs.Change.{Change, Holds, Stored, StoresSome, FailsToStore, DoesNotFail, after}
 use Rattle.tl_program.specs.Command.{Command, IsLay, IsUsage}
 use Rattle.tl_program.specs.Headline.{Becomes, Ends, IsComplete, IsRefusedSo}
 use Rattle.tl_program.specs.Messages.{number_of, status_of, refusal_status, text_of}
-use Rattle.tl_program.specs.Outcomes.{Outcome, asked, IsAnswered, IsAnswerOf, IsAnswerFor, outcome_of}
+use Rattle.tl_program.specs.Outcomes.{Outcome, asked, IsAnswered, IsAnswerOf, IsAnswerFor, outcome_of, stored_as}
 use Rattle.tl_program.specs.Reading.{IsReading, AreAlike}
 use Rattle.tl_program.specs.inner.Printing.{IsPrinted, IsStored, IsDelivered}
 use Rattle.tl_program.proofs.CommandLemmas.{command_once}
@@ -285,3 +291,97 @@ refused_so words change status ends = λ command bytes refusal is told quiet rea
       let alike : found ≡ refusal = subst (λ (r : Reading). AreAlike r (readings.Refused refusal)) is (so.answers.only (readings.Refused refusal) read) in
       let answered = subst (λ (r : Reading). IsAnswerFor (asked command) r so.answer) is so.answers.answered in
       ap (λ (report : Report). number_of (status_of report)) (answered.0 ∙ ap reports.Refused alike)
+
+-- ---- storing and printing, step by step
+
+-- a file that could not be stored
+pub fails_stored : {X : Type 0} (now : X → List ℕ) (names : Option X) (one : Option (List ℕ)) (name : X) (bytes : List ℕ) (files files_after : Option Files) →
+    names ≡ Some name → one ≡ Some bytes → StoresPrefix files files_after (now name) bytes →
+    FailsToStore files files_after (stored_as (option_map now names) one)
+fails_stored {X = X} now names one name bytes files files_after named held prefix =
+    subst (λ (o : Option X). FailsToStore files files_after (stored_as (option_map now o) one)) (sym named)
+    (subst (λ (o : Option (List ℕ)). FailsToStore files files_after (stored_as (Some (now name)) o)) (sym held)
+    (record { done = []; next = record { name = now name; bytes = bytes }; rest = []; split = refl; stand = prefix }))
+
+-- the first of two files could not be stored
+pub stopped_first : (result : Status) (change : Change) (outcome : Outcome) (xs ys : List Stored) → outcome.stores ≡ xs ++ ys →
+    change.said_after ≡ change.said → IsStored (Some result) change xs → IsDelivered result change outcome
+stopped_first result change outcome xs ys all said (inl is) = inr (inl (is.0, is.1, inl (
+    subst (FailsToStore change.files change.files_after) (sym all) (fails_of_more change.files change.files_after xs ys is.2), said)))
+stopped_first result change outcome xs ys all said (inr is) = inr (inr (is.0, said,
+    subst (StoresSome change.files change.files_after) (sym all) (some_of_more change.files change.files_after xs ys is.1)))
+
+-- the second could not be
+pub stopped_second : (result : Status) (change second : Change) (outcome : Outcome) (xs ys : List Stored) → outcome.stores ≡ xs ++ ys →
+    second.files ≡ after change.files xs → second.files_after ≡ change.files_after → second.write_faults ≡ change.write_faults →
+    second.write_faults_after ≡ change.write_faults_after → change.said_after ≡ change.said → IsStored (Some result) second ys →
+    IsDelivered result change outcome
+stopped_second result change second outcome xs ys all first stay few count said (inl is) = inr (inl (is.0,
+    subst (λ (n : ℕ). Rose n change.write_faults_after) few (subst (Rose second.write_faults) count is.1), inl (
+    subst (FailsToStore change.files change.files_after) (sym all) (fails_after change.files second.files change.files_after xs ys first
+    (subst (λ (f : Option Files). FailsToStore second.files f ys) stay is.2)), said)))
+stopped_second result change second outcome xs ys all first stay few count said (inr is) = inr (inr (is.0, said,
+    subst (StoresSome change.files change.files_after) (sym all) (some_after change.files second.files change.files_after xs ys first
+    (subst (λ (f : Option Files). StoresSome second.files f ys) stay is.1))))
+
+-- all is stored, and the message is printed or not
+pub printed_last : (result : Status) (change third : Change) (outcome : Outcome) → change.files_after ≡ after change.files outcome.stores →
+    third.write_faults ≡ change.write_faults → third.write_faults_after ≡ change.write_faults_after → third.said ≡ change.said →
+    third.said_after ≡ change.said_after → IsPrinted (status_of outcome.report) result third (text_of outcome.report) → IsDelivered result change outcome
+printed_last result change third outcome stored few count said said_after (inl is) = inl (is.0, stored,
+    sym said_after ∙ is.1 ∙ ap (λ (s : Option (List ℕ)). longer s (text_of outcome.report)) said)
+printed_last result change third outcome stored few count said said_after (inr (inl is)) = inr (inl (is.0,
+    subst (λ (n : ℕ). Rose n change.write_faults_after) few (subst (Rose third.write_faults) count is.1), inr (stored,
+    subst (λ (s : Option (List ℕ)). SaysPrefix s change.said_after (text_of outcome.report)) said
+    (subst (λ (s : Option (List ℕ)). SaysPrefix third.said s (text_of outcome.report)) said_after is.2))))
+printed_last result change third outcome stored few count said said_after (inr (inr is)) = inr (inr (is.0,
+    sym said_after ∙ is.1 ∙ said, some_all change.files change.files_after outcome.stores stored))
+
+-- what is delivered after a load is delivered by the whole
+pub delivered_from : (result : Status) (change other : Change) (outcome : Outcome) → other.files ≡ change.files → other.files_after ≡ change.files_after →
+    other.said ≡ change.said → other.said_after ≡ change.said_after → other.write_faults ≡ change.write_faults →
+    other.write_faults_after ≡ change.write_faults_after → IsDelivered result other outcome → IsDelivered result change outcome
+delivered_from result change other outcome files files_after said said_after few count is =
+    subst (λ (c : Change). IsDelivered result c outcome) same is where
+  same : other ≡ record { files = change.files; files_after = change.files_after; said = change.said; said_after = change.said_after;
+      load_faults = other.load_faults; load_faults_after = other.load_faults_after; write_faults = change.write_faults; write_faults_after = change.write_faults_after }
+  same = λ i. record { files = files i; files_after = files_after i; said = said i; said_after = said_after i;
+      load_faults = other.load_faults; load_faults_after = other.load_faults_after; write_faults = few i; write_faults_after = count i }
+
+-- ---- answers
+
+pub table_answer : (task other : Task) (bytes : List ℕ) (reading : Reading) (table : Table) (result : Result Answer AllocError) → other ≡ task →
+    reading ≡ readings.Table table → IsReading other.breaking bytes reading → ((each : Reading) → IsReading other.breaking bytes each → AreAlike reading each) →
+    IfOk result (IsAnswerTo other table) → IfOk result (IsAnswerOf task bytes)
+table_answer task other bytes reading table (Ok answer) same is read only answered =
+    subst (λ (t : Task). IsAnswerOf t bytes answer) same (record {
+      reading = reading;
+      read = read;
+      only = only;
+      answered = subst (λ (r : Reading). IsAnswerFor other r answer) (sym is) answered;
+    })
+table_answer task other bytes reading table (Err error) same is read only answered = tt
+
+pub refused_answer : (task other : Task) (bytes : List ℕ) (reading : Reading) (refusal : Refusal) (answer : Answer) → other ≡ task →
+    reading ≡ readings.Refused refusal → IsReading other.breaking bytes reading → ((each : Reading) → IsReading other.breaking bytes each → AreAlike reading each) →
+    answer.report ≡ reports.Refused refusal → StoresNothing answer → IsAnswerOf task bytes answer
+refused_answer task other bytes reading refusal answer same is read only told nothing =
+    subst (λ (t : Task). IsAnswerOf t bytes answer) same (record {
+      reading = reading;
+      read = read;
+      only = only;
+      answered = subst (λ (r : Reading). IsAnswerFor other r answer) (sym is) (told, nothing);
+    })
+
+-- what is there is there by another name
+pub some_mapped : {X Y : Type 0} (f : X → Y) (o : Option X) → is_some (option_map f o) ≡ is_some o
+some_mapped f None = refl
+some_mapped f (Some x) = refl
+
+-- ---- the command's budget
+
+pub budget_small : (words : List (List ℕ)) (options : Options) → AreOptions words options → IfSome options.budget (λ budget. budget ≤ MAX_BUDGET)
+budget_small words options are = by_budget options.budget refl where
+  by_budget : (budget : Option ℕ) → options.budget ≡ budget → IfSome budget (λ budget. budget ≤ MAX_BUDGET)
+  by_budget None is = tt
+  by_budget (Some budget) is = All-contains IsInRange are.choices (choices.Budget budget) are.in_range ((are.given (choices.Budget budget)).0 is)

@@ -32,6 +32,8 @@ use Rattle.tl_form.specs.Sound.{IsSound, IsSoundWithin}
 use Rattle.tl_form.specs.ValidLaws.{LowestIsLeast, BoundedIsBetween}
 use Rattle.tl_form.specs.Expected.{Document, IsDocumentOf, own_number, least_of}
 use Rattle.tl_form.specs.Least.{IsLeastWidth}
+use Rattle.tl_form.specs.Subjects.{meant}
+use Rattle.tl_form.specs.declared.subject.Subject.{Subject}
 use Rattle.tl_form.specs.Valid.{IsNarrow, IsClaimFor, AreGoodBelow, AreWhole, HasNumbers, EndsWith, IsShown, IsValid}
 use Rattle.tl_form.specs.ValidLaws.{HasHeight}
 use Rattle.tl_form.proofs.ValidLaws.{last_or-take}
@@ -389,6 +391,19 @@ module _ (task : Task) (table : Table) (sections : List Section) (are : sections
     by_report (claims.Narrow least) e = absurd cc
 
 -- ---- a page that is too narrow
+
+first_any : {X : Type 0} (xs : List X) (a b : X) → 0 < length xs → get_or xs 0 a ≡ get_or xs 0 b
+first_any [] a b some = absurd (omega (arith, some))
+first_any (x ∷ xs) a b some = refl
+
+-- the first of a subject's least widths is that of its own table
+pub own_first : (table : Table) (style : Style) (page : ℕ) (subject : Subject) (n : ℕ) → IsDocumentOf table style page (meant subject) →
+    n ≡ get_or subject.least.items 0 n → IsLeastWidth table style n
+own_first table style page subject n of is =
+    let k = own_number (meant subject) in
+    let none : k - k ≡ 0 = omega arith in
+    subst (IsLeastWidth table style) (ap (λ (j : ℕ). get_or subject.least.items j 0) none
+    ∙ first_any subject.least.items 0 n (omega (arith, of.each)) ∙ sym is) (own_least table style page (meant subject) of)
 
 module _ (table : Table) (style : Style) (page budget least weight : ℕ) (chains : List Chain) (document : Document) (of : IsDocumentOf table style page document)
     (sound : IsSound table) (is_least : IsLeastWidth table style least) (narrow : page < least)

@@ -55,9 +55,25 @@ pub fn run<D: Desk, G: Gate>(alloc: Global, words: &[String], desk: &mut D, _gat
       write_faults_after = D.write_faults desk.new;
     }) result }
 {
+    carry_out(alloc, words, desk).number()
+}
+
+/// Carries out the command that the words are.
+fn carry_out<D: Desk>(alloc: Global, words: &[String], desk: &mut D) -> Status
+    ensures ends { Ends (map string_bytes words.now) (record {
+      files = D.files desk.old;
+      files_after = D.files desk.new;
+      said = D.said desk.old;
+      said_after = D.said desk.new;
+      load_faults = D.load_faults desk.old;
+      load_faults_after = D.load_faults desk.new;
+      write_faults = D.write_faults desk.old;
+      write_faults_after = D.write_faults desk.new;
+    }) (number_of result) }
+{
     match Lay::parse(words) {
-        None => print(desk, Status::Usage, b"usage\n").number(),
-        Some(lay) => lay_file(alloc, &lay, desk).number(),
+        None => print(desk, Status::Usage, b"usage\n"),
+        Some(lay) => lay_file(alloc, &lay, desk),
     }
 }
 

@@ -12,3 +12,6 @@ returns-in-Err-clause-each c = λ other reading same is.
     found_alike c.refused.result c.form_refusal.result reading c.refused.ensures (λ found cause.
     refused_alike c.args.breaking c.args.node.now other c.in-Err.error found reading same c.in-Err.ensures.err
     (λ error refused. c.in-Err.ensures.each_err error refused) (sym c.form_refusal.ensures ∙ cause) is)
+
+pub returns-in-Ok-clause-sound : goal.returns-in-Ok-clause-sound
+returns-in-Ok-clause-sound c = (c.in-Ok.ensures.sound, c.formed_has_few_cells.ensures c.args.breaking c.args.node.now c.in-Ok.table c.in-Ok.ensures.ok)
