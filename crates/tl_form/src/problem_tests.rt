@@ -73,28 +73,61 @@ fn problem_of(
     }
 }
 
-fn steps(alloc: Global, pairs: &[(u32, u32)]) -> Result<Option<Steps>, AllocError> {
+fn number(text: &str) -> Result<u32, Fail> {
+    Ok(text.parse::<u32>().ok().ok_or("no number")?)
+}
+
+/// The steps that are written so: `7:3 10:2`. A text without any is no step function.
+fn steps(alloc: Global, text: &str) -> Result<Option<Steps>, Fail> {
     let mut list = List::new(alloc);
-    for &(width, height) in pairs {
+    if text.is_empty() {
+        return Ok(None);
+    }
+    for step in text.split(' ') {
+        let (width, height) = step.split_once(':').ok_or("no pair")?;
+        let (width, height) = (number(width)?, number(height)?);
         list.push(Config { width, height })?;
     }
     Ok(Steps::new(list))
 }
 
-/// The steps of the tables from number 1 on, as pairs of `low` and `high`.
-fn bounds(
+/// The steps of the table with this number, where both texts are steps.
+fn push_bounds(
     alloc: Global,
-    pairs: &[(&[(u32, u32)], &[(u32, u32)])],
-) -> Result<Vec<InnerSteps>, AllocError> {
-    let mut inner = Vec::new(alloc);
-    let mut table = 1;
-    for &(low, high) in pairs {
-        if let (Some(low), Some(high)) = (steps(alloc, low)?, steps(alloc, high)?) {
-            inner.push(InnerSteps { table, low, high })?;
-        }
-        table = 2;
+    inner: &mut Vec<InnerSteps>,
+    table: u32,
+    low: &str,
+    high: &str,
+) -> Result<(), Fail> {
+    if let (Some(low), Some(high)) = (steps(alloc, low)?, steps(alloc, high)?) {
+        inner.push(InnerSteps { table, low, high })?;
     }
-    Ok(inner)
+    Ok(())
+}
+
+/// The problem of a table with another inside, of which the texts are the bounds.
+fn around(alloc: Global, width: u32, low: &str, high: &str) -> Result<String, Fail> {
+    let mut inner = Vec::new(alloc);
+    push_bounds(alloc, &mut inner, 1, low, high)?;
+    let (words, style) = (Breaking::Words, Style::Plain);
+    let found = problem_of(alloc, TWO_WORDS_INSIDE, words, style, width, &inner)?;
+    Ok(found)
+}
+
+/// The problem of a table with two others inside, of which the texts are both bounds.
+fn around_two(alloc: Global, first: &str, second: &str) -> Result<String, Fail> {
+    let mut inner = Vec::new(alloc);
+    push_bounds(alloc, &mut inner, 1, first, first)?;
+    push_bounds(alloc, &mut inner, 2, second, second)?;
+    let (words, style) = (Breaking::Words, Style::Plain);
+    let found = problem_of(alloc, TWO_TABLES_INSIDE, words, style, 9, &inner)?;
+    Ok(found)
+}
+
+/// The problem of a file's table without nested tables.
+fn flat(alloc: Global, file: &str, width: u32) -> Result<String, Fail> {
+    let found = problem_of(alloc, file, Breaking::Words, Style::Plain, width, &[])?;
+    Ok(found)
 }
 
 const TWO_WORDS: &str = "<table><tr><td>aaa bbb<td>cc dd ee</table>";
@@ -106,38 +139,48 @@ const TWO_TABLES_INSIDE: &str =
 
 #[test]
 fn each_cell_has_the_least_lines_of_its_paragraphs(rt: HostRuntime) -> Result<(), Fail> {
-    for (file, width, want) in [
-        (
-            TWO_WORDS,
-            12,
-            "2x1 at 12, count 6: 0-1,0-1(3:2 7:1) 1-2,0-1(2:3 5:2 8:1)",
-        ),
-        (
-            "<table><tr><td colspan=2>aaaa bbbb cc<tr><td>x<td>yy</table>",
-            9,
-            "2x2 at 9, count 2: 0-2,0-1(4:3 7:2) 0-1,1-2(1:1) 1-2,1-2(2:1)",
-        ),
-        (
-            "<table><tr><td rowspan=2>aa bb cc<td>x<tr><td>y</table>",
-            7,
-            "2x2 at 7, count 2: 0-1,0-2(2:3 5:2) 1-2,0-1(1:1) 1-2,1-2(1:1)",
-        ),
-        (
-            "<table><tr><td>a<br><br><p>b<br></table>",
-            5,
-            "1x1 at 5, count 1: 0-1,0-1(1:3)",
-        ),
-        (
-            "<table><tr><td data-min=4>a<td><td data-min=3></table>",
-            20,
-            "3x1 at 20, count 1: 0-1,0-1(4:1) 1-2,0-1(0:0) 2-3,0-1(3:0)",
-        ),
-        (TWO_WORDS, 6, "unsound"),
-        (TWO_WORDS, 501, "unsound"),
-    ] {
-        let found = problem_of(rt.alloc(), file, Breaking::Words, Style::Plain, width, &[])?;
-        assert_eq!(rt; found.as_str(), want, "{file}");
-    }
+    let alloc = rt.alloc();
+    let found = flat(alloc, TWO_WORDS, 12)?;
+    assert_eq!(rt;
+        found.as_str(),
+        "2x1 at 12, count 6: 0-1,0-1(3:2 7:1) 1-2,0-1(2:3 5:2 8:1)"
+    );
+    let file = "<table><tr><td>a<br><br><p>b<br></table>";
+    let found = flat(alloc, file, 5)?;
+    assert_eq!(rt; found.as_str(), "1x1 at 5, count 1: 0-1,0-1(1:3)");
+    let file = "<table><tr><td data-min=4>a<td><td data-min=3></table>";
+    let found = flat(alloc, file, 20)?;
+    assert_eq!(rt;
+        found.as_str(),
+        "3x1 at 20, count 1: 0-1,0-1(4:1) 1-2,0-1(0:0) 2-3,0-1(3:0)"
+    );
+    Ok(())
+}
+
+#[test]
+fn spans_have_steps_of_their_own(rt: HostRuntime) -> Result<(), Fail> {
+    let alloc = rt.alloc();
+    let file = "<table><tr><td colspan=2>aaaa bbbb cc<tr><td>x<td>yy</table>";
+    let found = flat(alloc, file, 9)?;
+    assert_eq!(rt;
+        found.as_str(),
+        "2x2 at 9, count 2: 0-2,0-1(4:3 7:2) 0-1,1-2(1:1) 1-2,1-2(2:1)"
+    );
+    let file = "<table><tr><td rowspan=2>aa bb cc<td>x<tr><td>y</table>";
+    let found = flat(alloc, file, 7)?;
+    assert_eq!(rt;
+        found.as_str(),
+        "2x2 at 7, count 2: 0-1,0-2(2:3 5:2) 1-2,0-1(1:1) 1-2,1-2(1:1)"
+    );
+    Ok(())
+}
+
+#[test]
+fn a_page_too_narrow_or_too_wide_has_no_sound_problem(rt: HostRuntime) -> Result<(), Fail> {
+    let found = flat(rt.alloc(), TWO_WORDS, 6)?;
+    assert_eq!(rt; found.as_str(), "unsound");
+    let found = flat(rt.alloc(), TWO_WORDS, 501)?;
+    assert_eq!(rt; found.as_str(), "unsound");
     Ok(())
 }
 
@@ -167,31 +210,27 @@ fn a_word_between_units_has_a_step_at_each_width_that_pays(rt: HostRuntime) -> R
 // The table of two words fits 7 columns in 3 lines, 10 in 2 and 17 in one.
 #[test]
 fn a_nested_table_needs_what_its_steps_say(rt: HostRuntime) -> Result<(), Fail> {
-    let whole = [(7, 3), (10, 2), (17, 1)].as_slice();
-    for (low, high, width, want) in [
-        (whole, whole, 12, "1x1 at 12, count 2: 0-1,0-1(7:3 10:2)"),
-        (
-            [(7, 2)].as_slice(),
-            [(7, 3)].as_slice(),
-            12,
-            "1x1 at 12, count 1: 0-1,0-1(7:2|7:3)",
-        ),
-        ([(7, 3)].as_slice(), [(7, 2)].as_slice(), 12, "unsound"),
-        ([(6, 3)].as_slice(), [(7, 3)].as_slice(), 12, "unsound"),
-        ([].as_slice(), whole, 12, "unsound"),
-        (whole, whole, 6, "unsound"),
-    ] {
-        let inner = bounds(rt.alloc(), &[(low, high)])?;
-        let found = problem_of(
-            rt.alloc(),
-            TWO_WORDS_INSIDE,
-            Breaking::Words,
-            Style::Plain,
-            width,
-            &inner,
-        )?;
-        assert_eq!(rt; found.as_str(), want, "{low:?} {high:?} at {width}");
-    }
+    let whole = "7:3 10:2 17:1";
+    let found = around(rt.alloc(), 12, whole, whole)?;
+    assert_eq!(rt; found.as_str(), "1x1 at 12, count 2: 0-1,0-1(7:3 10:2)");
+    let found = around(rt.alloc(), 12, "7:2", "7:3")?;
+    assert_eq!(rt; found.as_str(), "1x1 at 12, count 1: 0-1,0-1(7:2|7:3)");
+    Ok(())
+}
+
+#[test]
+fn bounds_that_cross_or_begin_apart_or_are_not_there_are_unsound(
+    rt: HostRuntime,
+) -> Result<(), Fail> {
+    let whole = "7:3 10:2 17:1";
+    let found = around(rt.alloc(), 12, "7:3", "7:2")?;
+    assert_eq!(rt; found.as_str(), "unsound");
+    let found = around(rt.alloc(), 12, "6:3", "7:3")?;
+    assert_eq!(rt; found.as_str(), "unsound");
+    let found = around(rt.alloc(), 12, "", whole)?;
+    assert_eq!(rt; found.as_str(), "unsound");
+    let found = around(rt.alloc(), 6, whole, whole)?;
+    assert_eq!(rt; found.as_str(), "unsound");
     Ok(())
 }
 
@@ -200,33 +239,11 @@ fn a_nested_table_needs_what_its_steps_say(rt: HostRuntime) -> Result<(), Fail> 
 fn tables_one_under_the_other_are_added_from_the_greater_least_width_on(
     rt: HostRuntime,
 ) -> Result<(), Fail> {
-    for (first, second, want) in [
-        (
-            [(2, 5), (4, 1)].as_slice(),
-            [(3, 2)].as_slice(),
-            "1x1 at 9, count 2: 0-1,0-1(3:7 4:3)",
-        ),
-        (
-            [(1, 1_073_741_824), (5, 1)].as_slice(),
-            [(5, 1_073_741_823)].as_slice(),
-            "1x1 at 9, count 1: 0-1,0-1(5:1073741824)",
-        ),
-        (
-            [(1, 1_073_741_824), (5, 1)].as_slice(),
-            [(5, 1_073_741_824)].as_slice(),
-            "unsound",
-        ),
-    ] {
-        let inner = bounds(rt.alloc(), &[(first, first), (second, second)])?;
-        let found = problem_of(
-            rt.alloc(),
-            TWO_TABLES_INSIDE,
-            Breaking::Words,
-            Style::Plain,
-            9,
-            &inner,
-        )?;
-        assert_eq!(rt; found.as_str(), want, "{first:?} {second:?}");
-    }
+    let found = around_two(rt.alloc(), "2:5 4:1", "3:2")?;
+    assert_eq!(rt; found.as_str(), "1x1 at 9, count 2: 0-1,0-1(3:7 4:3)");
+    let found = around_two(rt.alloc(), "1:1073741824 5:1", "5:1073741823")?;
+    assert_eq!(rt; found.as_str(), "1x1 at 9, count 1: 0-1,0-1(5:1073741824)");
+    let found = around_two(rt.alloc(), "1:1073741824 5:1", "5:1073741824")?;
+    assert_eq!(rt; found.as_str(), "unsound");
     Ok(())
 }

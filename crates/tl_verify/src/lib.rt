@@ -10,6 +10,8 @@ mod named;
 mod reject;
 mod rooms;
 mod sections;
+#[cfg(test)]
+mod tests;
 mod verdict;
 
 pub use named::layout;

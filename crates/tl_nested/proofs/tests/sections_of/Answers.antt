@@ -3,7 +3,7 @@ use Rattle.tl_base.specs.declared.style.Style.TheVariants.{Plain}
 use Rattle.tl_form.proofs.LinkLemmas.{IsLeastWidth-unique}
 use Rattle.tl_nested.proofs.tests.sections_of.Goals as goal
 
-pub sections-found-requires-clause-wide : goal.sections-found-requires-clause-wide
-sections-found-requires-clause-wide c = λ least is.
+pub sections-requires-clause-wide : goal.sections-requires-clause-wide
+sections-requires-clause-wide c = λ least is.
     let same = IsLeastWidth-unique c.in_ok-table.table Plain least c.in_ok-least.least is c.in_ok-least.ensures in
     omega (arith, same, c.if-width-least.false)
