@@ -1,14 +1,13 @@
 -- Which command words are: at most one.
-use Rattle.std.proofs.Common.{◌≡◌, ◌≢◌, ℕ, ◌<◌, ◌≤◌, ◌^◌, List, [], ◌∷◌, ◌++◌, Option, Some, None, refl, sym, ap, subst, ◌∙◌, decimal, codes, arith}
+use Rattle.std.proofs.Common.{◌≡◌, ℕ, List, [], ◌∷◌, ◌++◌, Option, Some, None, refl, sym, ap, subst, ◌∙◌, decimal, codes, arith}
 use Rattle.std.specs.Prelude.{IfSome, IfNone, option_to_list}
 use Rattle.std.specs.List.{flat_map}
 use Rattle.std.proofs.lemmas.List.Concat.{flat_map-cons}
 use Rattle.std.proofs.lemmas.Fmt.{decimal_injective}
-use Rattle.tl_base.specs.declared.limits.TheConstants.{MAX_PAGE_WIDTH}
 use Rattle.tl_program.specs.declared.options.Choice.{Choice}
 use Rattle.tl_program.specs.declared.options.Choice.TheVariants as choices
 use Rattle.tl_program.specs.declared.options.Options.{Options}
-use Rattle.tl_program.specs.Options.{name_of, values_of, words_of, AreOptions}
+use Rattle.tl_program.specs.Options.{name_of, words_of, AreOptions}
 use Rattle.tl_program.specs.Command.{Command, IsDashed, IsDashedAtFirst, AreNames, IsLay, IsUsage}
 use Rattle.tl_program.proofs.OptionLemmas.{first_same, rest_same, options_once}
 

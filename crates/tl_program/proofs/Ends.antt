@@ -1,5 +1,6 @@
 -- How a run ends, from what was stored and printed; and that it is complete.
-use Rattle.std.proofs.Common.{◌≡◌, ◌≢◌, ◌⊎◌, inl, inr, ℕ, ◌+◌, ◌<◌, ◌≤◌, List, [], ◌∷◌, ◌++◌, length, take, Option, Some, None, refl, sym, ◌∙◌, ap, subst, append_assoc, arith}
+use Rattle.std.proofs.Common.{◌≡◌, ◌⊎◌, inl, inr, ℕ, ◌+◌, ◌<◌, ◌≤◌, List, [], ◌∷◌, ◌++◌, length, take}
+use Rattle.std.proofs.Common.{Option, Some, None, refl, sym, ◌∙◌, ap, subst, append_assoc, arith}
 use Rattle.std.specs.Prelude.{IfSome, IfOk, is_some, Result, Ok, Err, option_map}
 use Rattle.std.specs.declared.alloc.AllocError.{AllocError}
 use Rattle.std.proofs.lemmas.List.Elements.{All-contains}
@@ -16,17 +17,16 @@ use Rattle.tl_program.specs.declared.refusal.Refusal.TheVariants as refusals
 use Rattle.tl_program.specs.declared.report.Report.{Report}
 use Rattle.tl_program.specs.declared.report.Report.TheVariants as reports
 use Rattle.tl_program.specs.declared.status.Status.{Status}
-use Rattle.tl_program.specs.declared.status.Status.TheVariants as statuses
 use Rattle.tl_program.specs.declared.options.Choice.TheVariants as choices
 use Rattle.tl_program.specs.declared.options.Options.{Options}
 use Rattle.tl_program.specs.declared.task.Task.{Task}
 use Rattle.tl_program.specs.Options.{AreOptions, IsInRange}
-use Rattle.tl_program.specs.Answers.{reach, IsAnswerBy, IsAnswerTo, IsTooFar, StoresNothing}
+use Rattle.tl_program.specs.Answers.{reach, IsAnswerBy, IsAnswerTo, StoresNothing}
 use Rattle.tl_program.specs.Change.{Change, Holds, Stored, StoresSome, FailsToStore, DoesNotFail, after}
-use Rattle.tl_program.specs.Command.{Command, IsLay, IsUsage}
+use Rattle.tl_program.specs.Command.{Command, IsLay}
 use Rattle.tl_program.specs.Headline.{Becomes, Ends, IsComplete, IsRefusedSo}
 use Rattle.tl_program.specs.Messages.{number_of, status_of, refusal_status, text_of}
-use Rattle.tl_program.specs.Outcomes.{Outcome, asked, IsAnswered, IsAnswerOf, IsAnswerFor, outcome_of, stored_as}
+use Rattle.tl_program.specs.Outcomes.{Outcome, asked, IsAnswered, IsAnswerOf, IsAnswerFor, stored_as}
 use Rattle.tl_program.specs.Reading.{IsReading, AreAlike}
 use Rattle.tl_program.specs.inner.Printing.{IsPrinted, IsStored, IsDelivered}
 use Rattle.tl_program.proofs.CommandLemmas.{command_once}
@@ -100,9 +100,11 @@ long_same : (content bytes : List ℕ) → take (MAX_FILE_BYTES + 1) content ≡
     × (MAX_FILE_BYTES < length bytes → MAX_FILE_BYTES < length content) × (MAX_FILE_BYTES < length content → MAX_FILE_BYTES < length bytes)
 long_same content bytes is =
     let long = length-take (MAX_FILE_BYTES + 1) content in
-    let same = ap length is in
-    (λ short. sym is ∙ take_all (MAX_FILE_BYTES + 1) content (omega (arith, long, same, short)),
-    λ more. omega (arith, long, same, more), λ more. omega (arith, long, same, more))
+    let same = ap length is in (
+      λ short. sym is ∙ take_all (MAX_FILE_BYTES + 1) content (omega (arith, long, same, short)),
+      λ more. omega (arith, long, same, more),
+      λ more. omega (arith, long, same, more),
+    )
 
 pub reading_of_content : (breaking : _) (content bytes : List ℕ) (reading : Reading) → take (MAX_FILE_BYTES + 1) content ≡ bytes →
     IsReading breaking bytes reading → IsReading breaking content reading
@@ -180,7 +182,8 @@ module _ (words : List (List ℕ)) (change : Change) where
   report_memory reports.ReadFault e = omega (arith, e)
 
   -- what is delivered ends the program
-  pub delivered_ends : (result : Status) (outcome : Outcome) → Becomes words change outcome → IsDelivered result change outcome → Ends words change (number_of result)
+  pub delivered_ends : (result : Status) (outcome : Outcome) → Becomes words change outcome → IsDelivered result change outcome →
+      Ends words change (number_of result)
   delivered_ends result outcome becomes (inl is) =
       ends_done result outcome becomes is.0 is.1 is.2
       (λ e. report_fault outcome.report (sym (ap number_of is.0) ∙ e)) (λ e. report_memory outcome.report (sym (ap number_of is.0) ∙ e))
@@ -214,37 +217,37 @@ went words change status command bytes ends is told quiet =
     elim (eqb_tells status 9) [
       | inl nine ↦ inr nine.1
       | inr other ↦ elim (eqb_tells status 8) [
-          | inl eight ↦ absurd (quiet.write (ends.write_fault eight.1).0)
-          | inr another ↦ inl (by_outcome (ends.done another.1 other.1))
-        ]
+        | inl eight ↦ absurd (quiet.write (ends.write_fault eight.1).0)
+        | inr another ↦ inl (by_outcome (ends.done another.1 other.1))
+      ]
     ] where
-  same_bytes : (files : Option Files) (held : Files) (name one : List ℕ) → files ≡ Some held → held name ≡ Some bytes → Holds files name one → one ≡ bytes
-  same_bytes files held name one are has holds =
-      let is_held : held name ≡ Some one = subst (λ (f : Option Files). Holds f name one) are holds in
-      some_same one bytes (sym is_held ∙ has) where
-        some_same : (a b : List ℕ) → Some a ≡ Some b → a ≡ b
-        some_same a b e = cc
+      same_bytes : (files : Option Files) (held : Files) (name one : List ℕ) → files ≡ Some held → held name ≡ Some bytes → Holds files name one → one ≡ bytes
+      same_bytes files held name one are has holds =
+          let is_held : held name ≡ Some one = subst (λ (f : Option Files). Holds f name one) are holds in
+          some_same one bytes (sym is_held ∙ has) where
+            some_same : (a b : List ℕ) → Some a ≡ Some b → a ≡ b
+            some_same a b e = cc
 
-  by_answer : (command' : Command) → command' ≡ command → (outcome : Outcome) → status ≡ number_of (status_of outcome.report) →
-      IsAnswered command' change outcome → Went words change command bytes status
-  by_answer command' equal outcome ends_so answered =
-      let input : command'.input ≡ command.input = ap (λ (c : Command). c.input) equal in
-      let bytes_are : answered.bytes ≡ bytes = same_bytes change.files told.0 command.input answered.bytes told.1 told.2
+      by_answer : (command' : Command) → command' ≡ command → (outcome : Outcome) → status ≡ number_of (status_of outcome.report) →
+          IsAnswered command' change outcome → Went words change command bytes status
+      by_answer command' equal outcome ends_so answered =
+          let input : command'.input ≡ command.input = ap (λ (c : Command). c.input) equal in
+          let bytes_are : answered.bytes ≡ bytes = same_bytes change.files told.0 command.input answered.bytes told.1 told.2
           (subst (λ (name : List ℕ). Holds change.files name answered.bytes) input answered.held) in
-      record {
-        answer = answered.answer;
-        answers = subst (λ (c : Command). IsAnswerOf (asked c) bytes answered.answer) equal
-            (subst (λ (bs : List ℕ). IsAnswerOf (asked command') bs answered.answer) bytes_are answered.answers);
-        same = ends_so ∙ ap (λ (o : Outcome). number_of (status_of o.report)) answered.so;
-      }
+          record {
+            answer = answered.answer;
+            answers = subst (λ (c : Command). IsAnswerOf (asked c) bytes answered.answer) equal
+                (subst (λ (bs : List ℕ). IsAnswerOf (asked command') bs answered.answer) bytes_are answered.answers);
+            same = ends_so ∙ ap (λ (o : Outcome). number_of (status_of o.report)) answered.so;
+          }
 
-  by_outcome : (outcome : Outcome) × Becomes words change outcome × (status ≡ number_of (status_of outcome.report))
-      × (change.files_after ≡ after change.files outcome.stores) × (change.said_after ≡ longer change.said (text_of outcome.report)) →
-      Went words change command bytes status
-  by_outcome (outcome, inl usage, ends_so, files, said) = absurd (usage.0 command is)
-  by_outcome (outcome, inr (command', is', inl fault), ends_so, files, said) = absurd (quiet.load fault.0)
-  by_outcome (outcome, inr (command', is', inr answered), ends_so, files, said) =
-      by_answer command' (command_once words command' command is' is) outcome ends_so answered
+      by_outcome : (outcome : Outcome) × Becomes words change outcome × (status ≡ number_of (status_of outcome.report))
+          × (change.files_after ≡ after change.files outcome.stores) × (change.said_after ≡ longer change.said (text_of outcome.report)) →
+          Went words change command bytes status
+      by_outcome (outcome, inl usage, ends_so, files, said) = absurd (usage.0 command is)
+      by_outcome (outcome, inr (command', is', inl fault), ends_so, files, said) = absurd (quiet.load fault.0)
+      by_outcome (outcome, inr (command', is', inr answered), ends_so, files, said) =
+          by_answer command' (command_once words command' command is' is) outcome ends_so answered
 
 -- a file that is read as a table within the reach
 table_answered : (task : _) (table : Table) (answer : Answer) (report : Report) → answer.report ≡ report → IsAnswerBy report task table answer →
@@ -263,18 +266,19 @@ complete words change status ends = λ command bytes table is told quiet read wi
       | inl so ↦ by_reading command bytes table within read so so.answers.reading refl
       | inr nine ↦ inr (inr (inr nine))
     ] where
-  by_reading : (command : Command) (bytes : List ℕ) (table : Table) →
-      ((each : Table) → IsReading (asked command).breaking bytes (readings.Table each) → reach (asked command) each ≤ MAX_REACH) →
-      IsReading (asked command).breaking bytes (readings.Table table) → (so : Went words change command bytes status) →
-      (reading : Reading) → so.answers.reading ≡ reading → (status ≡ 0) ⊎ ((status ≡ 3) ⊎ ((status ≡ 4) ⊎ (status ≡ 9)))
-  by_reading command bytes table within read so (readings.Refused refusal) is =
-      absurd (subst (λ (r : Reading). AreAlike r (readings.Table table)) is (so.answers.only (readings.Table table) read))
-  by_reading command bytes table within read so (readings.Table found) is =
-      let answered : IsAnswerTo (asked command) found so.answer = subst (λ (r : Reading). IsAnswerFor (asked command) r so.answer) is so.answers.answered in
-      let near : reach (asked command) found ≤ MAX_REACH =
+      by_reading : (command : Command) (bytes : List ℕ) (table : Table) →
+          ((each : Table) → IsReading (asked command).breaking bytes (readings.Table each) → reach (asked command) each ≤ MAX_REACH) →
+          IsReading (asked command).breaking bytes (readings.Table table) → (so : Went words change command bytes status) →
+          (reading : Reading) → so.answers.reading ≡ reading → (status ≡ 0) ⊎ ((status ≡ 3) ⊎ ((status ≡ 4) ⊎ (status ≡ 9)))
+      by_reading command bytes table within read so (readings.Refused refusal) is =
+          absurd (subst (λ (r : Reading). AreAlike r (readings.Table table)) is (so.answers.only (readings.Table table) read))
+      by_reading command bytes table within read so (readings.Table found) is =
+          let answered : IsAnswerTo (asked command) found so.answer = subst (λ (r : Reading). IsAnswerFor
+          (asked command) r so.answer) is so.answers.answered in
+          let near : reach (asked command) found ≤ MAX_REACH =
           within found (subst (λ (r : Reading). IsReading (asked command).breaking bytes r) is so.answers.read) in
-      table_answered (asked command) found so.answer so.answer.report refl answered.answered
-      (λ refusal refused. omega (arith, near, answered.within refusal refused)) status so.same
+          table_answered (asked command) found so.answer so.answer.report refl answered.answered
+          (λ refusal refused. omega (arith, near, answered.within refusal refused)) status so.same
 
 pub refused_so : (words : List (List ℕ)) (change : Change) (status : ℕ) → Ends words change status → IsRefusedSo words change status
 refused_so words change status ends = λ command bytes refusal is told quiet read.
@@ -282,15 +286,15 @@ refused_so words change status ends = λ command bytes refusal is told quiet rea
       | inl so ↦ inl (so.same ∙ by_reading command bytes refusal read so so.answers.reading refl)
       | inr nine ↦ inr nine
     ] where
-  by_reading : (command : Command) (bytes : List ℕ) (refusal : Refusal) → IsReading (asked command).breaking bytes (readings.Refused refusal) →
-      (so : Went words change command bytes status) → (reading : Reading) → so.answers.reading ≡ reading →
-      number_of (status_of so.answer.report) ≡ number_of (refusal_status refusal)
-  by_reading command bytes refusal read so (readings.Table table) is =
-      absurd (subst (λ (r : Reading). AreAlike r (readings.Refused refusal)) is (so.answers.only (readings.Refused refusal) read))
-  by_reading command bytes refusal read so (readings.Refused found) is =
-      let alike : found ≡ refusal = subst (λ (r : Reading). AreAlike r (readings.Refused refusal)) is (so.answers.only (readings.Refused refusal) read) in
-      let answered = subst (λ (r : Reading). IsAnswerFor (asked command) r so.answer) is so.answers.answered in
-      ap (λ (report : Report). number_of (status_of report)) (answered.0 ∙ ap reports.Refused alike)
+      by_reading : (command : Command) (bytes : List ℕ) (refusal : Refusal) → IsReading (asked command).breaking bytes (readings.Refused refusal) →
+          (so : Went words change command bytes status) → (reading : Reading) → so.answers.reading ≡ reading →
+          number_of (status_of so.answer.report) ≡ number_of (refusal_status refusal)
+      by_reading command bytes refusal read so (readings.Table table) is =
+          absurd (subst (λ (r : Reading). AreAlike r (readings.Refused refusal)) is (so.answers.only (readings.Refused refusal) read))
+      by_reading command bytes refusal read so (readings.Refused found) is =
+          let alike : found ≡ refusal = subst (λ (r : Reading). AreAlike r (readings.Refused refusal)) is (so.answers.only (readings.Refused refusal) read) in
+          let answered = subst (λ (r : Reading). IsAnswerFor (asked command) r so.answer) is so.answers.answered in
+          ap (λ (report : Report). number_of (status_of report)) (answered.0 ∙ ap reports.Refused alike)
 
 -- ---- storing and printing, step by step
 
@@ -306,36 +310,64 @@ fails_stored {X = X} now names one name bytes files files_after named held prefi
 -- the first of two files could not be stored
 pub stopped_first : (result : Status) (change : Change) (outcome : Outcome) (xs ys : List Stored) → outcome.stores ≡ xs ++ ys →
     change.said_after ≡ change.said → IsStored (Some result) change xs → IsDelivered result change outcome
-stopped_first result change outcome xs ys all said (inl is) = inr (inl (is.0, is.1, inl (
-    subst (FailsToStore change.files change.files_after) (sym all) (fails_of_more change.files change.files_after xs ys is.2), said)))
-stopped_first result change outcome xs ys all said (inr is) = inr (inr (is.0, said,
-    subst (StoresSome change.files change.files_after) (sym all) (some_of_more change.files change.files_after xs ys is.1)))
+stopped_first result change outcome xs ys all said (inl is) = inr (inl (
+  is.0,
+  is.1,
+  inl (
+    subst (FailsToStore change.files change.files_after) (sym all) (fails_of_more change.files change.files_after xs ys is.2),
+    said,
+  ),
+))
+stopped_first result change outcome xs ys all said (inr is) = inr (inr (
+  is.0,
+  said,
+  subst (StoresSome change.files change.files_after) (sym all) (some_of_more change.files change.files_after xs ys is.1),
+))
 
 -- the second could not be
 pub stopped_second : (result : Status) (change second : Change) (outcome : Outcome) (xs ys : List Stored) → outcome.stores ≡ xs ++ ys →
     second.files ≡ after change.files xs → second.files_after ≡ change.files_after → second.write_faults ≡ change.write_faults →
     second.write_faults_after ≡ change.write_faults_after → change.said_after ≡ change.said → IsStored (Some result) second ys →
     IsDelivered result change outcome
-stopped_second result change second outcome xs ys all first stay few count said (inl is) = inr (inl (is.0,
-    subst (λ (n : ℕ). Rose n change.write_faults_after) few (subst (Rose second.write_faults) count is.1), inl (
+stopped_second result change second outcome xs ys all first stay few count said (inl is) = inr (inl (
+  is.0,
+  subst (λ (n : ℕ). Rose n change.write_faults_after) few (subst (Rose second.write_faults) count is.1),
+  inl (
     subst (FailsToStore change.files change.files_after) (sym all) (fails_after change.files second.files change.files_after xs ys first
-    (subst (λ (f : Option Files). FailsToStore second.files f ys) stay is.2)), said)))
-stopped_second result change second outcome xs ys all first stay few count said (inr is) = inr (inr (is.0, said,
-    subst (StoresSome change.files change.files_after) (sym all) (some_after change.files second.files change.files_after xs ys first
-    (subst (λ (f : Option Files). StoresSome second.files f ys) stay is.1))))
+        (subst (λ (f : Option Files). FailsToStore second.files f ys) stay is.2)),
+    said,
+  ),
+))
+stopped_second result change second outcome xs ys all first stay few count said (inr is) = inr (inr (
+  is.0,
+  said,
+  subst (StoresSome change.files change.files_after) (sym all) (some_after change.files second.files change.files_after xs ys first
+      (subst (λ (f : Option Files). StoresSome second.files f ys) stay is.1)),
+))
 
 -- all is stored, and the message is printed or not
 pub printed_last : (result : Status) (change third : Change) (outcome : Outcome) → change.files_after ≡ after change.files outcome.stores →
     third.write_faults ≡ change.write_faults → third.write_faults_after ≡ change.write_faults_after → third.said ≡ change.said →
     third.said_after ≡ change.said_after → IsPrinted (status_of outcome.report) result third (text_of outcome.report) → IsDelivered result change outcome
-printed_last result change third outcome stored few count said said_after (inl is) = inl (is.0, stored,
-    sym said_after ∙ is.1 ∙ ap (λ (s : Option (List ℕ)). longer s (text_of outcome.report)) said)
-printed_last result change third outcome stored few count said said_after (inr (inl is)) = inr (inl (is.0,
-    subst (λ (n : ℕ). Rose n change.write_faults_after) few (subst (Rose third.write_faults) count is.1), inr (stored,
+printed_last result change third outcome stored few count said said_after (inl is) = inl (
+  is.0,
+  stored,
+  sym said_after ∙ is.1 ∙ ap (λ (s : Option (List ℕ)). longer s (text_of outcome.report)) said,
+)
+printed_last result change third outcome stored few count said said_after (inr (inl is)) = inr (inl (
+  is.0,
+  subst (λ (n : ℕ). Rose n change.write_faults_after) few (subst (Rose third.write_faults) count is.1),
+  inr (
+    stored,
     subst (λ (s : Option (List ℕ)). SaysPrefix s change.said_after (text_of outcome.report)) said
-    (subst (λ (s : Option (List ℕ)). SaysPrefix third.said s (text_of outcome.report)) said_after is.2))))
-printed_last result change third outcome stored few count said said_after (inr (inr is)) = inr (inr (is.0,
-    sym said_after ∙ is.1 ∙ said, some_all change.files change.files_after outcome.stores stored))
+        (subst (λ (s : Option (List ℕ)). SaysPrefix third.said s (text_of outcome.report)) said_after is.2),
+  ),
+))
+printed_last result change third outcome stored few count said said_after (inr (inr is)) = inr (inr (
+  is.0,
+  sym said_after ∙ is.1 ∙ said,
+  some_all change.files change.files_after outcome.stores stored,
+))
 
 -- what is delivered after a load is delivered by the whole
 pub delivered_from : (result : Status) (change other : Change) (outcome : Outcome) → other.files ≡ change.files → other.files_after ≡ change.files_after →
@@ -343,15 +375,32 @@ pub delivered_from : (result : Status) (change other : Change) (outcome : Outcom
     other.write_faults_after ≡ change.write_faults_after → IsDelivered result other outcome → IsDelivered result change outcome
 delivered_from result change other outcome files files_after said said_after few count is =
     subst (λ (c : Change). IsDelivered result c outcome) same is where
-  same : other ≡ record { files = change.files; files_after = change.files_after; said = change.said; said_after = change.said_after;
-      load_faults = other.load_faults; load_faults_after = other.load_faults_after; write_faults = change.write_faults; write_faults_after = change.write_faults_after }
-  same = λ i. record { files = files i; files_after = files_after i; said = said i; said_after = said_after i;
-      load_faults = other.load_faults; load_faults_after = other.load_faults_after; write_faults = few i; write_faults_after = count i }
+      same : other ≡ record {
+        files = change.files;
+        files_after = change.files_after;
+        said = change.said;
+        said_after = change.said_after;
+        load_faults = other.load_faults;
+        load_faults_after = other.load_faults_after;
+        write_faults = change.write_faults;
+        write_faults_after = change.write_faults_after;
+      }
+      same = λ i. record {
+        files = files i;
+        files_after = files_after i;
+        said = said i;
+        said_after = said_after i;
+        load_faults = other.load_faults;
+        load_faults_after = other.load_faults_after;
+        write_faults = few i;
+        write_faults_after = count i;
+      }
 
 -- ---- answers
 
 pub table_answer : (task other : Task) (bytes : List ℕ) (reading : Reading) (table : Table) (result : Result Answer AllocError) → other ≡ task →
-    reading ≡ readings.Table table → IsReading other.breaking bytes reading → ((each : Reading) → IsReading other.breaking bytes each → AreAlike reading each) →
+    reading ≡ readings.Table table → IsReading other.breaking bytes reading → ((each : Reading) → IsReading other.breaking bytes each →
+    AreAlike reading each) →
     IfOk result (IsAnswerTo other table) → IfOk result (IsAnswerOf task bytes)
 table_answer task other bytes reading table (Ok answer) same is read only answered =
     subst (λ (t : Task). IsAnswerOf t bytes answer) same (record {
@@ -363,7 +412,8 @@ table_answer task other bytes reading table (Ok answer) same is read only answer
 table_answer task other bytes reading table (Err error) same is read only answered = tt
 
 pub refused_answer : (task other : Task) (bytes : List ℕ) (reading : Reading) (refusal : Refusal) (answer : Answer) → other ≡ task →
-    reading ≡ readings.Refused refusal → IsReading other.breaking bytes reading → ((each : Reading) → IsReading other.breaking bytes each → AreAlike reading each) →
+    reading ≡ readings.Refused refusal → IsReading other.breaking bytes reading → ((each : Reading) → IsReading other.breaking bytes each →
+    AreAlike reading each) →
     answer.report ≡ reports.Refused refusal → StoresNothing answer → IsAnswerOf task bytes answer
 refused_answer task other bytes reading refusal answer same is read only told nothing =
     subst (λ (t : Task). IsAnswerOf t bytes answer) same (record {

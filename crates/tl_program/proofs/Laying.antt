@@ -1,5 +1,7 @@
 -- That the sections of a table, with the claim of the last, are a valid certificate, and what is answered by it.
-use Rattle.std.proofs.Common.{◌≡◌, ◌≢◌, ◌⊎◌, inl, inr, ◌↔◌, ℕ, zero, suc, ◌+◌, ◌-◌, ◌*◌, ◌^◌, ◌<◌, ◌≤◌, Bool, true, false, List, [], ◌∷◌, ◌++◌, length, get_or, take, codes, Option, Some, None, refl, sym, ap, subst, ◌∙◌, arith}
+use Rattle.std.proofs.Common.{◌≡◌, ◌≢◌, inl, inr, ℕ, zero, suc, ◌-◌, ◌<◌, ◌≤◌, Bool}
+use Rattle.std.proofs.Common.{true, false, List, [], ◌∷◌, ◌++◌, length, get_or, take, codes, Option, Some}
+use Rattle.std.proofs.Common.{None, refl, sym, ap, subst, ◌∙◌, arith}
 use Rattle.std.specs.Prelude.{IsSomeAnd, ◌==◌, if◌then◌else◌}
 use Rattle.std.specs.List.{AllByRecursion, All, Any, last_or, flat_map}
 use Rattle.std.proofs.lemmas.List.{take_all}
@@ -14,7 +16,9 @@ use Rattle.tl_cert.specs.declared.certificate.Claim.{Claim}
 use Rattle.tl_cert.specs.declared.certificate.Claim.TheVariants as claims
 use Rattle.tl_cert.specs.declared.section.Section.{Section}
 use Rattle.tl_cert.specs.Pieces.{Piece, AllWithin, word, field}
-use Rattle.tl_cert.specs.Text.{IsWritable, HasProof, HasSections, IsSectionShaped, IsSectionWritable, IsChainWritable, cert_pieces, claim_pieces, section_pieces, section_head, chain_pieces}
+use Rattle.tl_cert.specs.Text.{IsWritable, HasProof, HasSections, IsSectionShaped, IsSectionWritable}
+use Rattle.tl_cert.specs.Text.{IsChainWritable, cert_pieces, claim_pieces, section_pieces, section_head}
+use Rattle.tl_cert.specs.Text.{chain_pieces}
 use Rattle.tl_cert.specs.Text.{style_word, version_word, has_area, space, line_feed, spaced, cut_pieces, line_pieces}
 use Rattle.tl_cert.proofs.reading.Spellings.{within-first}
 use Rattle.tl_form.specs.declared.cell.Table.{Table}
@@ -34,7 +38,7 @@ use Rattle.tl_form.specs.Expected.{Document, IsDocumentOf, own_number, least_of}
 use Rattle.tl_form.specs.Least.{IsLeastWidth}
 use Rattle.tl_form.specs.Subjects.{meant}
 use Rattle.tl_form.specs.declared.subject.Subject.{Subject}
-use Rattle.tl_form.specs.Valid.{IsNarrow, IsClaimFor, AreGoodBelow, AreWhole, HasNumbers, EndsWith, IsShown, IsValid}
+use Rattle.tl_form.specs.Valid.{IsNarrow, AreGoodBelow, AreWhole, HasNumbers, EndsWith, IsShown, IsValid}
 use Rattle.tl_form.specs.ValidLaws.{HasHeight}
 use Rattle.tl_form.proofs.ValidLaws.{last_or-take}
 use Rattle.tl_nested.specs.Searched.{AreSectionsOf, AreWritable}
@@ -42,7 +46,7 @@ use Rattle.tl_program.specs.declared.answer.Answer.{Answer}
 use Rattle.tl_program.specs.declared.refusal.Refusal.{Refusal}
 use Rattle.tl_program.specs.declared.report.Report.TheVariants as reports
 use Rattle.tl_program.specs.declared.task.Task.{Task}
-use Rattle.tl_program.specs.Answers.{budget_in, certificate_file, IsPageFile, IsOutcomeOf, IsLaid, IsSpentOn, IsAnswerBy}
+use Rattle.tl_program.specs.Answers.{budget_in, certificate_file, IsPageFile, IsOutcomeOf, IsLaid, IsAnswerBy}
 use Rattle.tl_program.specs.inner.Claims.{section_claim, claim_of_last, claim_of, report_of}
 
 -- ---- the last section
@@ -65,10 +69,14 @@ by_wide section false narrow = narrow
 by_numbers : (section : Section) (same : Bool) → (section.lower == section.height) ≡ same → section.lower ≤ section.height →
     HasNumbers (claim_by section same) section
 by_numbers section true is ordered = (refl, eqb-true section.lower section.height is)
-by_numbers section false is ordered = (refl, refl, elim (eqb_tells section.lower section.height) [
-      | inl same ↦ absurd (differ (sym is ∙ same.0))
-      | inr apart ↦ less section.lower section.height ordered apart.1
-    ]) where
+by_numbers section false is ordered = (
+  refl,
+  refl,
+  elim (eqb_tells section.lower section.height) [
+    | inl same ↦ absurd (differ (sym is ∙ same.0))
+    | inr apart ↦ less section.lower section.height ordered apart.1
+  ],
+) where
   differ : false ≡ true → ⊥
   differ e = absurd cc
 
@@ -168,7 +176,8 @@ section_numbers section can =
     let table = head.1.1.1.1.1.1.1.1 in
     (table.1.1.1.1.0.1, table.1.1.1.1.1.1.0.1)
 
-section_claims : (section : Section) (same : Bool) → (section.height ≤ MAX_HEIGHT) × (section.lower ≤ MAX_HEIGHT) → AllWithin (claim_pieces (claim_by section same))
+section_claims : (section : Section) (same : Bool) → (section.height ≤ MAX_HEIGHT) × (section.lower ≤ MAX_HEIGHT) →
+    AllWithin (claim_pieces (claim_by section same))
 section_claims section true numbers =
     joined (word (codes "lowest ")) (field 0 MAX_HEIGHT section.height line_feed) (words (codes "lowest ")) ((omega arith, numbers.0), (tt, tt))
 section_claims section false numbers =
@@ -240,45 +249,53 @@ module _ (given : ProblemModel → Outcome → Type 0) (table : Table) (style : 
   claimed_height = (last_section.height, numbers.0, high)
 
   pub valid : IsValid table style page budget (certificate_of page style budget sections)
-  valid = (are.document, are.of, record {
-    claim = record {
-      wide = sym are.of.wide;
-      drawn = sym are.of.drawn;
-      cuts = refl;
-      kind = (λ narrow. absurd (claim_is_wide sections narrow), λ less.
-          absurd (too_wide are.document.page (least_of are.document (own_number are.document)) less
-          (subst (λ (w : ℕ). least_of are.document (own_number are.document) ≤ w) (sym are.of.wide)
-          (wide (least_of are.document (own_number are.document)) (own_least table style page are.document are.of)))));
-    };
-    shown = shown_by are.document budget (certificate_of page style budget sections) (claim_of sections) (claim_is_wide sections) whole ends;
-  }) where
+  valid = (
+    are.document,
+    are.of,
+    record {
+      claim = record {
+        wide = sym are.of.wide;
+        drawn = sym are.of.drawn;
+        cuts = refl;
+        kind = (
+          λ narrow. absurd (claim_is_wide sections narrow),
+          λ less.
+              absurd (too_wide are.document.page (least_of are.document (own_number are.document)) less
+              (subst (λ (w : ℕ). least_of are.document (own_number are.document) ≤ w) (sym are.of.wide)
+              (wide (least_of are.document (own_number are.document)) (own_least table style page are.document are.of)))),
+        );
+      };
+      shown = shown_by are.document budget (certificate_of page style budget sections) (claim_of sections) (claim_is_wide sections) whole ends;
+    },
+  ) where
     too_wide : (a b : ℕ) → a < b → b ≤ a → ⊥
     too_wide a b less more = omega (arith, less, more)
 
   pub writable : 1 ≤ page → page ≤ MAX_PAGE_WIDTH → budget ≤ MAX_BUDGET → IsWritable (certificate_of page style budget sections)
-  writable more less cuts =
-      (shaped_wide (claim_of sections) (certificate_of page style budget sections) (claim_is_wide sections) (record {
-        some = can.some;
-        most = can.most;
-        sections = map_all IsSectionWritable IsSectionShaped (λ section is. is.0) sections can.each;
-        no_chain = refl;
-      }),
-      pieces_within (certificate_of page style budget sections) more less cuts
-      (subst (λ (claim : Claim). AllWithin (claim_pieces claim)) (sym claim_same)
-      (section_claims last_section (last_section.lower == last_section.height) numbers))
-      tt (map_all IsSectionWritable (λ section. AllWithin (section_pieces section)) (λ section is. is.1) sections can.each))
+  writable more less cuts = (
+    shaped_wide (claim_of sections) (certificate_of page style budget sections) (claim_is_wide sections) (record {
+      some = can.some;
+      most = can.most;
+      sections = map_all IsSectionWritable IsSectionShaped (λ section is. is.0) sections can.each;
+      no_chain = refl;
+    }),
+    pieces_within (certificate_of page style budget sections) more less cuts
+        (subst (λ (claim : Claim). AllWithin (claim_pieces claim)) (sym claim_same)
+        (section_claims last_section (last_section.lower == last_section.height) numbers))
+        tt (map_all IsSectionWritable (λ section. AllWithin (section_pieces section)) (λ section is. is.1) sections can.each),
+  )
 
   -- an open last section is not closed
   pub open_last : (height lower : ℕ) → claim_of sections ≡ claims.Bounded height lower → (d : Section) →
       (get_or sections (length sections - 1) d).lower < (get_or sections (length sections - 1) d).height
   open_last height lower is d = subst (λ (s : Section). s.lower < s.height) (sym (last.at d))
       (by_test (last_section.lower == last_section.height) refl (sym claim_same ∙ is)) where
-    by_test : (same : Bool) → (last_section.lower == last_section.height) ≡ same → claim_by last_section same ≡ claims.Bounded height lower →
-        last_section.lower < last_section.height
-    by_test true e bounded = absurd (apart bounded) where
-      apart : claims.Lowest last_section.height ≡ claims.Bounded height lower → ⊥
-      apart e = absurd cc
-    by_test false e bounded = (by_numbers last_section false e ordered).2
+        by_test : (same : Bool) → (last_section.lower == last_section.height) ≡ same → claim_by last_section same ≡ claims.Bounded height lower →
+            last_section.lower < last_section.height
+        by_test true e bounded = absurd (apart bounded) where
+          apart : claims.Lowest last_section.height ≡ claims.Bounded height lower → ⊥
+          apart e = absurd cc
+        by_test false e bounded = (by_numbers last_section false e ordered).2
 
 -- ---- the claim of a section, by its test
 
@@ -290,9 +307,9 @@ lowest_claim sections section found same =
 pub bounded_claim : (sections : List Section) (section : Section) → last_or None sections ≡ Some section → section.lower ≢ section.height →
     claims.Bounded section.height section.lower ≡ claim_of sections
 bounded_claim sections section found apart = elim (eqb_tells section.lower section.height) [
-      | inl same ↦ absurd (apart same.1)
-      | inr other ↦ sym (ap (claim_by section) other.0) ∙ sym (ap claim_of_last found)
-    ]
+  | inl same ↦ absurd (apart same.1)
+  | inr other ↦ sym (ap (claim_by section) other.0) ∙ sym (ap claim_of_last found)
+]
 
 -- ---- the fit
 
@@ -350,35 +367,39 @@ module _ (task : Task) (table : Table) (sections : List Section) (are : sections
   good = λ i d within. (are.each i d within).good
 
   by_claim : (claim : Claim) → claim_of sections ≡ claim → IsAnswerBy (report_of claim taken) task table answer
-  by_claim (claims.Lowest height) is = (laid (claims.Lowest height) height is refl,
-      lowest_law table task.style task.width (budget_in task table) cert height sound is_valid is)
+  by_claim (claims.Lowest height) is = (
+    laid (claims.Lowest height) height is refl,
+    lowest_law table task.style task.width (budget_in task table) cert height sound is_valid is,
+  )
   by_claim (claims.Narrow least) is = absurd (claim_is_wide sections (subst IsNarrow (sym is) tt))
   by_claim (claims.Bounded height lower) is =
       let between = bounded_law table task.style task.width (budget_in task table) cert height lower sound is_valid is in
       (between.0, record { laid = laid (claims.Bounded height lower) height is refl; spent = spent }, between.1, below) where
-    last : ℕ
-    last = length sections - 1
+        last : ℕ
+        last = length sections - 1
 
-    opened : (d : Section) → (get_or sections (length sections - 1) d).lower < (get_or sections (length sections - 1) d).height
-    opened = open_last (IsOutcomeOf task.search (budget_in task table)) table task.style task.width (budget_in task table) sections are can wide height lower is
+        opened : (d : Section) → (get_or sections (length sections - 1) d).lower < (get_or sections (length sections - 1) d).height
+        opened = open_last (IsOutcomeOf task.search (budget_in task table)) table task.style task.width
+            (budget_in task table) sections are can wide height lower is
 
-    spent : Any (IsSpent (budget_in task table)) sections
-    spent = subst (Any (IsSpent (budget_in task table))) (take_all (length sections) sections (omega arith))
-        (spends_law table task.style task.width (budget_in task table) (length sections) are.document sections wide_document (omega arith) good
-        (length sections - 1) (first_of sections can.some) (omega (arith, can.some)) (opened (first_of sections can.some)))
+        spent : Any (IsSpent (budget_in task table)) sections
+        spent = subst (Any (IsSpent (budget_in task table))) (take_all (length sections) sections (omega arith))
+            (spends_law table task.style task.width (budget_in task table) (length sections) are.document sections wide_document (omega arith) good
+            (length sections - 1) (first_of sections can.some) (omega (arith, can.some)) (opened (first_of sections can.some)))
 
-    below : (most : ℕ) → IsCountAll table task.style task.width most → budget_in task table < most
-    below most counted = elim (cases_lt (budget_in task table) most) [
-      | inl less ↦ less
-      | inr more ↦ absurd (closed (closes_law table task.style task.width (budget_in task table) most (length sections) are.document sections wide_document
-          counted more (omega (arith, cuts)) (omega arith) good))
-    ] where
-      closed : All IsClosed (take (length sections) sections) → ⊥
-      closed all =
-          let d = first_of sections can.some in
-          let same : (get_or sections (length sections - 1) d).lower ≡ (get_or sections (length sections - 1) d).height =
+        below : (most : ℕ) → IsCountAll table task.style task.width most → budget_in task table < most
+        below most counted = elim (cases_lt (budget_in task table) most) [
+          | inl less ↦ less
+          | inr more ↦ absurd (closed (closes_law table task.style task.width (budget_in task table) most
+              (length sections) are.document sections wide_document
+              counted more (omega (arith, cuts)) (omega arith) good))
+        ] where
+          closed : All IsClosed (take (length sections) sections) → ⊥
+          closed all =
+              let d = first_of sections can.some in
+              let same : (get_or sections (length sections - 1) d).lower ≡ (get_or sections (length sections - 1) d).height =
               (subst (All IsClosed) (take_all (length sections) sections (omega arith)) all) (length sections - 1) d (omega (arith, can.some)) in
-          omega (arith, same, opened d)
+              omega (arith, same, opened d)
 
   pub answered : IsAnswerBy (report_of (claim_of sections) taken) task table answer
   answered = by_claim (claim_of sections) refl
@@ -405,34 +426,41 @@ own_first table style page subject n of is =
     subst (IsLeastWidth table style) (ap (λ (j : ℕ). get_or subject.least.items j 0) none
     ∙ first_any subject.least.items 0 n (omega (arith, of.each)) ∙ sym is) (own_least table style page (meant subject) of)
 
-module _ (table : Table) (style : Style) (page budget least weight : ℕ) (chains : List Chain) (document : Document) (of : IsDocumentOf table style page document)
+module _ (table : Table) (style : Style) (page budget least weight : ℕ) (chains : List Chain) (document : Document)
+    (of : IsDocumentOf table style page document)
     (sound : IsSound table) (is_least : IsLeastWidth table style least) (narrow : page < least)
     (weighs : IsLeastWidth table style weight) (heaviest : IsHeaviestChain table style chains weight) where
   abbrev pub narrow_certificate : Certificate
   narrow_certificate = record { width = page; style = style; budget = budget; claim = claims.Narrow least; chains = chains; sections = [] }
 
   pub valid_narrow : IsValid table style page budget narrow_certificate
-  valid_narrow = (document, of, record {
-    claim = record {
-      wide = sym of.wide;
-      drawn = sym of.drawn;
-      cuts = refl;
-      kind = (λ is. subst (λ (w : ℕ). w < least_of document (own_number document)) (sym of.wide) (subst (λ (w : ℕ). page < w) own narrow), λ less. tt);
-    };
-    shown = record {
-      weighed = subst (λ (t : Table). IsChain t document.style chains least) (sym of.same) (subst (λ (s : Style). IsChain table s chains least) (sym of.drawn)
-          (subst (λ (w : ℕ). IsChain table style chains w) (IsLeastWidth-unique table style weight least weighs is_least) heaviest.chain));
-      wider = subst (λ (w : ℕ). w < least) (sym of.wide) narrow;
-    };
-  }) where
+  valid_narrow = (
+    document,
+    of,
+    record {
+      claim = record {
+        wide = sym of.wide;
+        drawn = sym of.drawn;
+        cuts = refl;
+        kind = (λ is. subst (λ (w : ℕ). w < least_of document (own_number document)) (sym of.wide) (subst (λ (w : ℕ). page < w) own narrow), λ less. tt);
+      };
+      shown = record {
+        weighed = subst (λ (t : Table). IsChain t document.style chains least) (sym of.same) (subst (λ
+            (s : Style). IsChain table s chains least) (sym of.drawn)
+            (subst (λ (w : ℕ). IsChain table style chains w) (IsLeastWidth-unique table style weight least weighs is_least) heaviest.chain));
+        wider = subst (λ (w : ℕ). w < least) (sym of.wide) narrow;
+      };
+    },
+  ) where
     own : least ≡ least_of document (own_number document)
     own = IsLeastWidth-unique table style least (least_of document (own_number document)) is_least (own_least table style page document of)
 
   pub writable_narrow : 1 ≤ page → page ≤ MAX_PAGE_WIDTH → budget ≤ MAX_BUDGET → least ≤ MAX_HEIGHT → HasFewCells table → ChainsAreWritable →
       IsWritable narrow_certificate
   writable_narrow more less cuts small cells law =
-      let can = law table style chains weight sound cells heaviest.chain in
-      (record { some = can.0; entries = map_all IsChainWritable (λ chain. 1 ≤ length chain.entries) (λ chain is. is.0) chains can.1; no_section = refl },
-      pieces_within narrow_certificate more less cuts
-      (joined (word (codes "narrow ")) (field 0 MAX_HEIGHT least line_feed) (words (codes "narrow ")) ((omega arith, small), (tt, tt)))
-      (map_all IsChainWritable (λ chain. AllWithin (chain_pieces chain)) (λ chain is. is.1) chains can.1) tt)
+      let can = law table style chains weight sound cells heaviest.chain in (
+        record { some = can.0; entries = map_all IsChainWritable (λ chain. 1 ≤ length chain.entries) (λ chain is. is.0) chains can.1; no_section = refl },
+        pieces_within narrow_certificate more less cuts
+            (joined (word (codes "narrow ")) (field 0 MAX_HEIGHT least line_feed) (words (codes "narrow ")) ((omega arith, small), (tt, tt)))
+            (map_all IsChainWritable (λ chain. AllWithin (chain_pieces chain)) (λ chain is. is.1) chains can.1) tt,
+      )

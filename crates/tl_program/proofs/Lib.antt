@@ -1,5 +1,6 @@
 pub mod CommandLemmas
 pub mod Ends
+mod Examples
 pub mod Laying
 pub mod OptionLemmas
 pub mod Readings

@@ -1,13 +1,18 @@
 -- What has been read of options, and that words spell at most one list of them.
-use Rattle.std.proofs.Common.{◌≡◌, ◌≢◌, ◌⊎◌, inl, inr, ◌↔◌, ℕ, ◌<◌, ◌≤◌, ◌^◌, Bool, true, false, List, [], ◌∷◌, ◌++◌, Option, Some, None, refl, sym, ap, subst, ◌∙◌, decimal, get_or, append_assoc, arith}
+use Rattle.std.proofs.Common.{◌≡◌, ◌≢◌, ◌⊎◌, inl, inr, ◌↔◌, ℕ, Bool, true, false, List, []}
+use Rattle.std.proofs.Common.{◌∷◌, ◌++◌, Option, Some, None, refl, sym, ap, subst, ◌∙◌, decimal, get_or}
+use Rattle.std.proofs.Common.{arith}
 use Rattle.std.specs.Prelude.{Contains}
 use Rattle.std.specs.List.{All, AllPairs, flat_map}
 use Rattle.std.proofs.lemmas.Fmt.{decimal_injective}
 use Rattle.std.proofs.lemmas.List.{append-nil}
 use Rattle.std.proofs.lemmas.List.Concat.{flat_map-cons}
-use Rattle.std.proofs.lemmas.Grind.{common_steps, flat_map-append}
-use Rattle.std.proofs.lemmas.List.Elements.{All-append, All-cons, All-nil, All-head, All-tail, All-contains, Contains-append_left, Contains-append_right, Contains-push, Contains-push_cases}
-use Rattle.tl_base.proofs.Members.{AllPairs-none, AllPairs-cons, AllPairs-head, AllPairs-tail, AllPairs-append, Contains-first, Contains-cases, Contains-none}
+use Rattle.std.proofs.lemmas.Grind.{common_steps}
+use Rattle.std.proofs.lemmas.List.Elements.{All-append, All-cons, All-nil, All-head, All-tail, All-contains}
+use Rattle.std.proofs.lemmas.List.Elements.{Contains-append_left, Contains-append_right, Contains-push}
+use Rattle.std.proofs.lemmas.List.Elements.{Contains-push_cases}
+use Rattle.tl_base.proofs.Members.{AllPairs-none, AllPairs-cons, AllPairs-head, AllPairs-tail}
+use Rattle.tl_base.proofs.Members.{AllPairs-append, Contains-first, Contains-cases, Contains-none}
 use Rattle.tl_base.specs.declared.breaking.Breaking.{Breaking}
 use Rattle.tl_base.specs.declared.breaking.Breaking.TheVariants.{Words, Any}
 use Rattle.tl_base.specs.declared.style.Style.{Style}
@@ -17,7 +22,7 @@ use Rattle.tl_program.specs.declared.options.Choice.TheVariants as choices
 use Rattle.tl_program.specs.declared.options.Options.{Options}
 use Rattle.tl_program.specs.declared.options.Search.{Search}
 use Rattle.tl_program.specs.declared.options.Search.TheVariants as searches
-use Rattle.tl_program.specs.Options.{name_of, values_of, words_of, style_word, break_word, search_word, IsInRange, IsGiven, AreOptions}
+use Rattle.tl_program.specs.Options.{name_of, words_of, style_word, break_word, search_word, IsInRange, IsGiven, AreOptions}
 use Rattle.tl_program.specs.inner.OptionsRead.{HasRead}
 
 -- a word stands for at most one style, break and search
@@ -45,41 +50,48 @@ first_same x y xs ys e = cc
 pub rest_same : {X : Type 0} (x y : X) (xs ys : List X) → x ∷ xs ≡ y ∷ ys → xs ≡ ys
 rest_same x y xs ys e = cc
 
+-- the letter by which the names of options differ
+abbrev letter : List (List ℕ) → ℕ
+letter words = get_or (get_or words 0 []) 4 0
+
 -- the words of one option are not the beginning of another's
 pub prefix_free : (one other : Choice) (xs ys : List (List ℕ)) → IsInRange one → IsInRange other → words_of one ++ xs ≡ words_of other ++ ys →
     (one ≡ other) × (xs ≡ ys)
 prefix_free (choices.Style style) (choices.Style style2) xs ys small tiny e =
     let after : style_word style ∷ xs ≡ style_word style2 ∷ ys = cc in
     (ap choices.Style (style_once style style2 (first_same _ _ xs ys after)), rest_same (style_word style) (style_word style2) xs ys after)
-prefix_free (choices.Style style) (choices.Breaking breaking2) xs ys small tiny e = absurd (omega (arith, ap (λ (words : List (List ℕ)). get_or (get_or words 0 []) 4 0) e))
-prefix_free (choices.Style style) (choices.Budget budget2) xs ys small tiny e = absurd (omega (arith, ap (λ (words : List (List ℕ)). get_or (get_or words 0 []) 4 0) e))
-prefix_free (choices.Style style) (choices.Search solver2) xs ys small tiny e = absurd (omega (arith, ap (λ (words : List (List ℕ)). get_or (get_or words 0 []) 4 0) e))
-prefix_free (choices.Style style) choices.Html xs ys small tiny e = absurd (omega (arith, ap (λ (words : List (List ℕ)). get_or (get_or words 0 []) 4 0) e))
-prefix_free (choices.Breaking breaking) (choices.Style style2) xs ys small tiny e = absurd (omega (arith, ap (λ (words : List (List ℕ)). get_or (get_or words 0 []) 4 0) e))
+prefix_free (choices.Style style) (choices.Breaking breaking2) xs ys small tiny e = absurd (omega (arith, ap letter e))
+prefix_free (choices.Style style) (choices.Budget budget2) xs ys small tiny e = absurd (omega (arith, ap letter e))
+prefix_free (choices.Style style) (choices.Search solver2) xs ys small tiny e = absurd (omega (arith, ap letter e))
+prefix_free (choices.Style style) choices.Html xs ys small tiny e = absurd (omega (arith, ap letter e))
+prefix_free (choices.Breaking breaking) (choices.Style style2) xs ys small tiny e = absurd (omega (arith, ap letter e))
 prefix_free (choices.Breaking breaking) (choices.Breaking breaking2) xs ys small tiny e =
     let after : break_word breaking ∷ xs ≡ break_word breaking2 ∷ ys = cc in
     (ap choices.Breaking (break_once breaking breaking2 (first_same _ _ xs ys after)), rest_same (break_word breaking) (break_word breaking2) xs ys after)
-prefix_free (choices.Breaking breaking) (choices.Budget budget2) xs ys small tiny e = absurd (omega (arith, ap (λ (words : List (List ℕ)). get_or (get_or words 0 []) 4 0) e))
-prefix_free (choices.Breaking breaking) (choices.Search solver2) xs ys small tiny e = absurd (omega (arith, ap (λ (words : List (List ℕ)). get_or (get_or words 0 []) 4 0) e))
-prefix_free (choices.Breaking breaking) choices.Html xs ys small tiny e = absurd (omega (arith, ap (λ (words : List (List ℕ)). get_or (get_or words 0 []) 4 0) e))
-prefix_free (choices.Budget budget) (choices.Style style2) xs ys small tiny e = absurd (omega (arith, ap (λ (words : List (List ℕ)). get_or (get_or words 0 []) 4 0) e))
-prefix_free (choices.Budget budget) (choices.Breaking breaking2) xs ys small tiny e = absurd (omega (arith, ap (λ (words : List (List ℕ)). get_or (get_or words 0 []) 4 0) e))
+prefix_free (choices.Breaking breaking) (choices.Budget budget2) xs ys small tiny e = absurd (omega (arith, ap letter e))
+prefix_free (choices.Breaking breaking) (choices.Search solver2) xs ys small tiny e = absurd (omega (arith, ap letter e))
+prefix_free (choices.Breaking breaking) choices.Html xs ys small tiny e = absurd (omega (arith, ap letter e))
+prefix_free (choices.Budget budget) (choices.Style style2) xs ys small tiny e = absurd (omega (arith, ap letter e))
+prefix_free (choices.Budget budget) (choices.Breaking breaking2) xs ys small tiny e = absurd (omega (arith, ap letter e))
 prefix_free (choices.Budget budget) (choices.Budget budget2) xs ys small tiny e =
-    let after : decimal budget ∷ xs ≡ decimal budget2 ∷ ys = cc in
-    (ap choices.Budget (decimal_injective budget budget2 (omega (arith, small)) (omega (arith, tiny)) (first_same _ _ xs ys after)), rest_same (decimal budget) (decimal budget2) xs ys after)
-prefix_free (choices.Budget budget) (choices.Search solver2) xs ys small tiny e = absurd (omega (arith, ap (λ (words : List (List ℕ)). get_or (get_or words 0 []) 4 0) e))
-prefix_free (choices.Budget budget) choices.Html xs ys small tiny e = absurd (omega (arith, ap (λ (words : List (List ℕ)). get_or (get_or words 0 []) 4 0) e))
-prefix_free (choices.Search solver) (choices.Style style2) xs ys small tiny e = absurd (omega (arith, ap (λ (words : List (List ℕ)). get_or (get_or words 0 []) 4 0) e))
-prefix_free (choices.Search solver) (choices.Breaking breaking2) xs ys small tiny e = absurd (omega (arith, ap (λ (words : List (List ℕ)). get_or (get_or words 0 []) 4 0) e))
-prefix_free (choices.Search solver) (choices.Budget budget2) xs ys small tiny e = absurd (omega (arith, ap (λ (words : List (List ℕ)). get_or (get_or words 0 []) 4 0) e))
+    let after : decimal budget ∷ xs ≡ decimal budget2 ∷ ys = cc in (
+      ap choices.Budget (decimal_injective budget budget2 (omega (arith, small)) (omega (arith, tiny))
+          (first_same _ _ xs ys after)),
+      rest_same (decimal budget) (decimal budget2) xs ys after,
+    )
+prefix_free (choices.Budget budget) (choices.Search solver2) xs ys small tiny e = absurd (omega (arith, ap letter e))
+prefix_free (choices.Budget budget) choices.Html xs ys small tiny e = absurd (omega (arith, ap letter e))
+prefix_free (choices.Search solver) (choices.Style style2) xs ys small tiny e = absurd (omega (arith, ap letter e))
+prefix_free (choices.Search solver) (choices.Breaking breaking2) xs ys small tiny e = absurd (omega (arith, ap letter e))
+prefix_free (choices.Search solver) (choices.Budget budget2) xs ys small tiny e = absurd (omega (arith, ap letter e))
 prefix_free (choices.Search solver) (choices.Search solver2) xs ys small tiny e =
     let after : search_word solver ∷ xs ≡ search_word solver2 ∷ ys = cc in
     (ap choices.Search (search_once solver solver2 (first_same _ _ xs ys after)), rest_same (search_word solver) (search_word solver2) xs ys after)
-prefix_free (choices.Search solver) choices.Html xs ys small tiny e = absurd (omega (arith, ap (λ (words : List (List ℕ)). get_or (get_or words 0 []) 4 0) e))
-prefix_free choices.Html (choices.Style style2) xs ys small tiny e = absurd (omega (arith, ap (λ (words : List (List ℕ)). get_or (get_or words 0 []) 4 0) e))
-prefix_free choices.Html (choices.Breaking breaking2) xs ys small tiny e = absurd (omega (arith, ap (λ (words : List (List ℕ)). get_or (get_or words 0 []) 4 0) e))
-prefix_free choices.Html (choices.Budget budget2) xs ys small tiny e = absurd (omega (arith, ap (λ (words : List (List ℕ)). get_or (get_or words 0 []) 4 0) e))
-prefix_free choices.Html (choices.Search solver2) xs ys small tiny e = absurd (omega (arith, ap (λ (words : List (List ℕ)). get_or (get_or words 0 []) 4 0) e))
+prefix_free (choices.Search solver) choices.Html xs ys small tiny e = absurd (omega (arith, ap letter e))
+prefix_free choices.Html (choices.Style style2) xs ys small tiny e = absurd (omega (arith, ap letter e))
+prefix_free choices.Html (choices.Breaking breaking2) xs ys small tiny e = absurd (omega (arith, ap letter e))
+prefix_free choices.Html (choices.Budget budget2) xs ys small tiny e = absurd (omega (arith, ap letter e))
+prefix_free choices.Html (choices.Search solver2) xs ys small tiny e = absurd (omega (arith, ap letter e))
 prefix_free choices.Html choices.Html xs ys small tiny e = (refl, cc)
 
 -- options that spell words which begin with those of others begin with these

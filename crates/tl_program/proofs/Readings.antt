@@ -1,13 +1,10 @@
 -- A file has at most one reading, but for where in memory its tables lie.
-use Rattle.std.proofs.Common.{◌≡◌, ◌⊎◌, inl, inr, ℕ, ◌≤◌, List, length, arith, ◌∷◌, ◌++◌, Option, Some, None, refl, sym, subst, ◌∙◌, Result, Ok, Err, IfOk, alloc_error}
+use Rattle.std.proofs.Common.{◌≡◌, ◌⊎◌, inl, inr, ℕ, ◌≤◌, List, length, arith, Option, Some, None}
+use Rattle.std.proofs.Common.{sym, subst, ◌∙◌, Result, Ok, Err, IfOk, alloc_error}
 use Rattle.std.specs.declared.alloc.AllocError.{AllocError}
 use Rattle.std.specs.List.{AllByRecursion}
 use Rattle.tl_base.specs.declared.breaking.Breaking.{Breaking}
-use Rattle.tl_base.specs.Returned.{ReturnsError, IsMemoryOr}
-use Rattle.tl_grid.specs.declared.error.GridError.{GridError}
-use Rattle.tl_grid.specs.Form.{HasGrid}
-use Rattle.tl_grid.specs.Form.{IsRefused as HasCause}
-use Rattle.tl_grid.proofs.Results.{each_err}
+use Rattle.tl_base.specs.Returned.{IsMemoryOr}
 use Rattle.tl_base.specs.declared.limits.TheConstants.{MAX_FILE_BYTES}
 use Rattle.tl_token.specs.declared.token.Token.{Token}
 use Rattle.tl_token.specs.declared.token.TokenError.{TokenError}
@@ -26,7 +23,6 @@ use Rattle.tl_form.specs.declared.error.FormError.{FormError}
 use Rattle.tl_form.specs.declared.error.FormError.TheVariants as errors
 use Rattle.tl_form.specs.Formed.{Becomes}
 use Rattle.tl_form.specs.Refused.{NumberedShape, HasSomeGrid, AreRefused, IsRefused, tables_of}
-use Rattle.tl_form.specs.Same.{AreSame}
 use Rattle.tl_form.proofs.Gridless.{becomes_gridded, not_among}
 use Rattle.tl_form.proofs.OneTable.{same_tables}
 use Rattle.tl_program.specs.declared.reading.Reading.{Reading}
@@ -67,7 +63,8 @@ pub refused_alike : (breaking : Breaking) (node other : TableNode) (error : Form
 refused_alike breaking node other error found (readings.Table table) same (inl memory) each is read = absurd (memory_refused found error memory is)
 refused_alike breaking node other error found (readings.Table table) same (inr refused) each is read =
     absurd (not_among (tables_of node) error
-    (subst (λ (tables : List NumberedShape). AllByRecursion HasSomeGrid tables) (sym (same_shapes node other same)) (becomes_gridded breaking other table read))
+    (subst (λ (tables : List NumberedShape). AllByRecursion HasSomeGrid tables) (sym (same_shapes node other same))
+    (becomes_gridded breaking other table read))
     refused)
 refused_alike breaking node other error found (readings.Refused refusal) same err each is read =
     elim (each read.0 (refused_elsewhere node other read.0 same read.1)) [

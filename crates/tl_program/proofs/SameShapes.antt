@@ -2,16 +2,15 @@
 use Rattle.std.proofs.Common.{◌≡◌, ◌∙◌, ℕ, zero, suc, Option, Some, None, List, [], ◌∷◌, ◌++◌, map, refl, sym, ap}
 use Rattle.std.specs.List.{AllZip, flat_map}
 use Rattle.std.proofs.lemmas.Grind.{flat_map-append}
-use Rattle.tl_grid.specs.declared.shape.Shape.{Shape}
-use Rattle.tl_grid.specs.declared.shape.ShapeGroup.{ShapeGroup}
 use Rattle.tl_tree.specs.declared.node.Block.{Block, out-Block}
 use Rattle.tl_tree.specs.declared.node.Block.TheOpen as parts
 use Rattle.tl_tree.specs.declared.node.CellNode.{CellNode, out-CellNode}
 use Rattle.tl_tree.specs.declared.node.GroupNode.{GroupNode, out-GroupNode}
 use Rattle.tl_tree.specs.declared.node.TableNode.{TableNode, out-TableNode}
-use Rattle.tl_tree.specs.Same.{OpenBlock, OpenTable, AreSame, AreSameWithin, AreSameTable, AreSameGroup, AreSameRow, AreSameCell, AreSameFlow, AreSameBlock, AreSameCaption}
-use Rattle.tl_form.specs.Formed.{span_of, group_shape, shape_of, cells_of_group, is_foot}
-use Rattle.tl_form.specs.Refused.{NumberedShape, tables_in_block, part_of_cell, part_of_group, tables_of}
+use Rattle.tl_tree.specs.Same.{OpenBlock, OpenTable, AreSame, AreSameWithin, AreSameTable, AreSameGroup}
+use Rattle.tl_tree.specs.Same.{AreSameRow, AreSameFlow, AreSameBlock, AreSameCaption}
+use Rattle.tl_form.specs.Formed.{span_of, group_shape, is_foot}
+use Rattle.tl_form.specs.Refused.{tables_in_block, part_of_cell, part_of_group, tables_of}
 use Rattle.tl_form.specs.inner.Forming.{tables_in_flow, tables_in_caption, tables_in_cells, tables_in_groups}
 use Rattle.tl_form.proofs.TreeParts.{itself, tables_in_open, tables_in_block-out, part_of_cell-out, part_of_group-out, tables_of-out}
 

@@ -1,11 +1,9 @@
 -- What a table on a page is answered by: the report, with the page and the certificate that are stored for it.
-use Rattle.std.specs.Prelude.{◌≡◌, ◌≢◌, ℕ, ◌+◌, ◌*◌, ◌/◌, ◌<◌, ◌≤◌, min, Bool, true, false, List, Option, Some, None, option_map}
+use Rattle.std.specs.Prelude.{◌≡◌, ℕ, ◌+◌, ◌*◌, ◌/◌, ◌<◌, min, Bool, true, false, List, Option}
+use Rattle.std.specs.Prelude.{Some, None}
 use Rattle.std.specs.List.{Any}
-use Rattle.tl_base.specs.declared.breaking.Breaking.{Breaking}
-use Rattle.tl_base.specs.declared.breaking.Breaking.TheVariants.{Words}
 use Rattle.tl_base.specs.declared.limits.TheConstants.{MAX_REACH}
 use Rattle.tl_base.specs.declared.style.Style.{Style}
-use Rattle.tl_base.specs.declared.style.Style.TheVariants as styles
 use Rattle.tl_astar.specs.Best.{IsBestOutcome}
 use Rattle.tl_solve.specs.Plain.{IsPlainOutcome}
 use Rattle.tl_solve.specs.declared.outcome.Outcome.{Outcome}

@@ -1,5 +1,6 @@
 -- The words of the command line: `lay WIDTH IN PAGE [CERT]` and options.
-use Rattle.std.specs.Prelude.{◌≡◌, ◌≢◌, ℕ, ◌≤◌, List, [], ◌∷◌, ◌++◌, codes, decimal, Option, IfSome, IfNone, option_to_list}
+use Rattle.std.specs.Prelude.{◌≡◌, ◌≢◌, ℕ, ◌≤◌, List, [], ◌∷◌, ◌++◌, codes, decimal, Option, IfSome}
+use Rattle.std.specs.Prelude.{option_to_list}
 use Rattle.tl_base.specs.declared.limits.TheConstants.{MAX_PAGE_WIDTH}
 use Rattle.tl_program.specs.declared.options.Options.{Options}
 use Rattle.tl_program.specs.Options.{AreOptions}

@@ -1,6 +1,6 @@
 -- What the program answers, stores and prints. A file that spells a table is answered by the lowest page, by a page with a
 -- lower bound, or by a chain of columns that is wider than the page; docs/MODEL.md, "The command", has the messages.
-use Rattle.std.specs.Prelude.{◌≡◌, ◌≢◌, ◌⊎◌, ℕ, ◌<◌, ◌≤◌, List, [], Option, Some}
+use Rattle.std.specs.Prelude.{◌≡◌, ◌≢◌, ◌⊎◌, ℕ, ◌≤◌, List, [], Some}
 use Rattle.tl_base.specs.declared.limits.TheConstants.{MAX_REACH}
 use Rattle.tl_base.specs.Desk.{longer, SaysPrefix, Rose}
 use Rattle.tl_form.specs.declared.cell.Table.{Table}
@@ -8,7 +8,7 @@ use Rattle.tl_program.specs.declared.reading.Reading.TheVariants as readings
 use Rattle.tl_program.specs.declared.refusal.Refusal.{Refusal}
 use Rattle.tl_program.specs.declared.report.Report.TheVariants as reports
 use Rattle.tl_program.specs.Answers.{reach}
-use Rattle.tl_program.specs.Change.{Change, Holds, StoresSome, FailsToStore, DoesNotFail, after}
+use Rattle.tl_program.specs.Change.{Change, StoresSome, FailsToStore, DoesNotFail, after}
 use Rattle.tl_program.specs.Command.{Command, IsLay, IsUsage}
 use Rattle.tl_program.specs.Messages.{number_of, status_of, refusal_status, text_of}
 use Rattle.tl_program.specs.Outcomes.{Outcome, asked, IsAnswered}

@@ -1,6 +1,5 @@
 -- What becomes of a command's file: what is reported, and what is stored for it, in order.
-use Rattle.std.specs.Prelude.{◌≡◌, ◌⊎◌, ℕ, List, [], ◌∷◌, ◌++◌, Option, Some, None, is_some}
-use Rattle.tl_form.specs.declared.cell.Table.{Table}
+use Rattle.std.specs.Prelude.{◌≡◌, ℕ, List, [], ◌∷◌, ◌++◌, Option, Some, None, is_some}
 use Rattle.tl_program.specs.declared.answer.Answer.{Answer}
 use Rattle.tl_program.specs.declared.reading.Reading.{Reading}
 use Rattle.tl_program.specs.declared.reading.Reading.TheVariants as readings

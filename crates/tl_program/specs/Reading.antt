@@ -11,7 +11,6 @@ use Rattle.tl_tree.specs.declared.node.TableNode.{TableNode}
 use Rattle.tl_tree.specs.Spelling.{SpellsTree, IsWithinLimits}
 use Rattle.tl_tree.specs.Spelling.{Refused as HasNoTree}
 use Rattle.tl_tree.specs.Tags.{kinds}
-use Rattle.tl_form.specs.declared.cell.Table.{Table}
 use Rattle.tl_form.specs.declared.error.FormError.{FormError}
 use Rattle.tl_form.specs.Formed.{Becomes}
 use Rattle.tl_form.specs.Refused.{IsRefused as HasNoGrid}

@@ -1,6 +1,6 @@
 -- What a command asks of a table: its options, each as it is given, or else plain style, breaks between words, the
 -- best-first search and a text page.
-use Rattle.std.specs.Prelude.{ℕ, Bool, Option, Some, None, is_some}
+use Rattle.std.specs.Prelude.{ℕ, Bool, Option, Some, None}
 use Rattle.tl_base.specs.declared.breaking.Breaking.TheVariants.{Words}
 use Rattle.tl_base.specs.declared.style.Style.TheVariants as styles
 use Rattle.tl_program.specs.declared.options.Options.{Options}

@@ -1,7 +1,8 @@
 //! What becomes of a table on a page: its lowest page and a certificate, or why there is none.
 
 ghost use Rattle.std.specs.Prelude.{◌≡◌, ◌<◌, ◌≤◌, ◌*◌, ◌+◌, ◌-◌, ◌^◌, ℕ, true, false, IfOk, IfSome, length};
-ghost use Rattle.tl_base.specs.declared.limits.TheConstants.{MAX_TABLES, MAX_PAGE_WIDTH, MAX_BUDGET, MAX_HEIGHT, MAX_COLUMNS, MAX_REACH};
+ghost use Rattle.tl_base.specs.declared.limits.TheConstants.{MAX_TABLES, MAX_PAGE_WIDTH, MAX_BUDGET};
+ghost use Rattle.tl_base.specs.declared.limits.TheConstants.{MAX_HEIGHT, MAX_COLUMNS, MAX_REACH};
 ghost use Rattle.tl_base.specs.Style.{gap_of, edge_of};
 ghost use Rattle.tl_problem.specs.Sizes.{total};
 ghost use Rattle.tl_cert.specs.declared.section.Section.{Section as S};
@@ -13,7 +14,9 @@ ghost use Rattle.tl_form.specs.Sound.{IsSound, nested_in_table};
 ghost use Rattle.tl_form.specs.Subjects.{meant};
 ghost use Rattle.tl_form.specs.ChainRanges.{HasFewCells};
 ghost use Rattle.tl_nested.specs.Searched.{AreSectionsOf, AreWritable};
-ghost use Rattle.tl_program.specs.Answers.{budget_of, budget_in, searches, reach, IsPageFile, certificate_file, IsOutcomeOf, IsAnswerTo, IsNarrow, IsAnswerBy, StoresNothing};
+ghost use Rattle.tl_program.specs.Answers.{budget_of, budget_in, searches, reach, IsPageFile};
+ghost use Rattle.tl_program.specs.Answers.{certificate_file, IsOutcomeOf, IsAnswerTo, IsNarrow, IsAnswerBy};
+ghost use Rattle.tl_program.specs.Answers.{StoresNothing};
 ghost use Rattle.tl_program.specs.declared.refusal.Refusal.{Refusal};
 ghost use Rattle.tl_program.specs.declared.report.Report.TheVariants as reports;
 ghost use Rattle.tl_program.specs.inner.Claims.{claim_of, report_of};

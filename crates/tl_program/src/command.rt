@@ -1,6 +1,7 @@
 //! Reads the command from the words of the command line.
 
-ghost use Rattle.std.specs.Prelude.{◌≡◌, ◌≢◌, ◌↔◌, ◌++◌, ◌∷◌, ℕ, [], List, map, string_bytes, ◌≤◌, decimal, codes, IfSome, IfNone, IsTrue, option_map, option_to_list};
+ghost use Rattle.std.specs.Prelude.{◌≡◌, ◌≢◌, ◌↔◌, ◌++◌, ◌∷◌, ℕ, [], List, map, string_bytes, ◌≤◌, decimal};
+ghost use Rattle.std.specs.Prelude.{codes, IfSome, IfNone, IsTrue, option_map, option_to_list};
 ghost use Rattle.tl_program.specs.Command.{IsDashed, IsDashedAtFirst, AreNames, IsLay, IsUsage};
 
 use crate::options::{Options, number_up_to};

@@ -1,7 +1,8 @@
 //! Why a file is refused.
 
 ghost use Rattle.std.specs.Prelude.{◌≡◌};
-ghost use Rattle.tl_program.specs.Refusals.{token_refusal, tree_refusal, grid_refusal, form_refusal, place_in};
+ghost use Rattle.tl_program.specs.Refusals.{token_refusal, tree_refusal, grid_refusal, form_refusal};
+ghost use Rattle.tl_program.specs.Refusals.{place_in};
 
 use tl_base::{MAX_DEPTH, MAX_TABLES};
 use tl_form::FormError;

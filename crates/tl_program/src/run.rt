@@ -1,7 +1,8 @@
 //! Carries out a command over a desk: reads the file, stores the page and the certificate, and
 //! prints the message.
 
-ghost use Rattle.std.specs.Prelude.{◌≡◌, ◌⊎◌, ◌≤◌, ℕ, List, [], Some, IfOk, IfSome, map, string_bytes, is_some, option_map};
+ghost use Rattle.std.specs.Prelude.{◌≡◌, ◌⊎◌, ◌≤◌, ℕ, List, [], Some, IfOk, IfSome, map, string_bytes};
+ghost use Rattle.std.specs.Prelude.{is_some, option_map};
 ghost use Rattle.tl_base.specs.declared.limits.TheConstants.{MAX_PAGE_WIDTH, MAX_BUDGET};
 ghost use Rattle.tl_base.specs.Desk.{Rose};
 ghost use Rattle.tl_program.specs.Change.{Change};

@@ -1,5 +1,5 @@
 -- No public clause cites this file: it says what has been read of options.
-use Rattle.std.specs.Prelude.{◌≡◌, ◌≢◌, ◌↔◌, ℕ, List, [], ◌∷◌, ◌++◌, Contains}
+use Rattle.std.specs.Prelude.{◌≡◌, ◌≢◌, ◌↔◌, ℕ, List, ◌++◌, Contains}
 use Rattle.std.specs.List.{All, AllPairs, flat_map}
 use Rattle.tl_program.specs.declared.options.Choice.{Choice}
 use Rattle.tl_program.specs.declared.options.Options.{Options}

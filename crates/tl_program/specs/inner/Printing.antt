@@ -1,7 +1,6 @@
 -- No public clause cites this file: it says what storing some files leaves, and printing a message.
 use Rattle.std.specs.Prelude.{◌≡◌, ◌⊎◌, ℕ, List, Option, Some, None}
 use Rattle.tl_base.specs.Desk.{longer, SaysPrefix, Rose}
-use Rattle.tl_program.specs.declared.report.Report.{Report}
 use Rattle.tl_program.specs.declared.status.Status.{Status}
 use Rattle.tl_program.specs.declared.status.Status.TheVariants.{WriteFault, Memory}
 use Rattle.tl_program.specs.Change.{Change, Stored, StoresSome, FailsToStore, after}

@@ -1,5 +1,5 @@
 -- The least width is that of the document's own table.
-use Rattle.std.proofs.Common.{◌≡◌, ℕ, ◌<◌, ◌≤◌, sym, subst, arith}
+use Rattle.std.proofs.Common.{◌≡◌, sym, subst, arith}
 use Rattle.tl_form.specs.declared.cell.Table.{Table}
 use Rattle.tl_form.specs.Least.{IsLeastWidth}
 use Rattle.tl_form.proofs.LinkLemmas.{IsLeastWidth-unique}
@@ -16,5 +16,5 @@ pub lowest-requires-clause-wide : goal.lowest-requires-clause-wide
 lowest-requires-clause-wide c = λ least is.
     let task = c.args.task.now in
     let same : least ≡ c.index-least.result.now = IsLeastWidth-unique c.args.table.now task.style least c.index-least.result.now is
-        (own_first c.args.table.now task.style task.width c.in_ok-subject.subject c.index-least.result.now c.in_ok-subject.ensures c.index-least.ensures) in
+    (own_first c.args.table.now task.style task.width c.in_ok-subject.subject c.index-least.result.now c.in_ok-subject.ensures c.index-least.ensures) in
     omega (arith, same, c.if-least-task.false)

@@ -1,5 +1,5 @@
 -- The claim is that of the last section.
-use Rattle.std.proofs.Common.{◌≡◌, ap, sym, ◌∙◌, Some}
+use Rattle.std.proofs.Common.{ap, sym, ◌∙◌, Some}
 use Rattle.tl_program.proofs.Laying.{last_found, lowest_claim, bounded_claim}
 use Rattle.tl_program.proofs.answer.claim_of.Goals as goal
 

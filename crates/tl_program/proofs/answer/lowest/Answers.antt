@@ -1,14 +1,12 @@
 -- The sections with the claim of the last are a valid certificate, and the page is that of its layout.
-use Rattle.std.proofs.Common.{◌≡◌, ℕ, ◌≤◌, List, [], length, Some, refl, sym, ap, subst, ◌∙◌, arith}
-use Rattle.tl_base.specs.declared.limits.TheConstants.{MAX_HEIGHT, MAX_COLUMNS}
+use Rattle.std.proofs.Common.{◌≡◌, ℕ, ◌≤◌, List, [], length, Some, refl, sym, ap, subst, ◌∙◌}
+use Rattle.tl_base.specs.declared.limits.TheConstants.{MAX_COLUMNS}
 use Rattle.tl_base.specs.Style.{gap_of, edge_of}
 use Rattle.tl_problem.specs.Sizes.{total}
 use Rattle.tl_cert.specs.declared.certificate.Certificate.{Certificate}
 use Rattle.tl_cert.specs.declared.certificate.Claim.{Claim}
 use Rattle.tl_cert.specs.declared.section.Section.{Section}
 use Rattle.tl_cert.specs.Text.{IsWritable}
-use Rattle.tl_form.specs.declared.layout.Layout.{Layout, out-Layout}
-use Rattle.tl_form.specs.Layouts.{Fits}
 use Rattle.tl_form.specs.Named.{IsNamed}
 use Rattle.tl_form.specs.Valid.{IsValid}
 use Rattle.tl_form.specs.ValidLaws.{HasHeight}
@@ -31,7 +29,8 @@ pub layout-requires-clause-written : goal.layout-requires-clause-written
 layout-requires-clause-written c =
     let is : c.claim_of.result ≡ claim_of c.in_ok-sections.sections = c.claim_of.ensures ∙ ap claim_of c.as_slice.ensures in
     let task = c.args.task.now in
-    subst IsWritable (sym (same_certificate task.width task.style c.args.budget c.args.budget c.claim_of.result c.new.result c.in_ok-sections.sections refl is c.new.ensures))
+    subst IsWritable (sym (same_certificate task.width task.style c.args.budget c.args.budget c.claim_of.result c.new.result
+    c.in_ok-sections.sections refl is c.new.ensures))
     (writable (IsOutcomeOf task.search c.args.budget) c.args.table.now task.style task.width c.args.budget c.in_ok-sections.sections
     c.in_ok-sections.ensures.expected c.in_ok-sections.ensures.writable c.requires.wide c.requires.page.0 c.requires.page.1 c.requires.cuts)
 
@@ -40,7 +39,8 @@ layout-requires-clause-valid c =
     let is : c.claim_of.result ≡ claim_of c.in_ok-sections.sections = c.claim_of.ensures ∙ ap claim_of c.as_slice.ensures in
     let task = c.args.task.now in
     subst (λ (made : Certificate). IsValid c.args.table.now task.style task.width c.args.budget made)
-    (sym (same_certificate task.width task.style c.args.budget c.args.budget c.claim_of.result c.new.result c.in_ok-sections.sections refl is c.new.ensures))
+    (sym (same_certificate task.width task.style c.args.budget c.args.budget c.claim_of.result c.new.result
+    c.in_ok-sections.sections refl is c.new.ensures))
     (valid (IsOutcomeOf task.search c.args.budget) c.args.table.now task.style task.width c.args.budget c.in_ok-sections.sections
     c.in_ok-sections.ensures.expected c.in_ok-sections.ensures.writable c.requires.wide)
 
@@ -49,7 +49,7 @@ total_width-width-requires c =
     let is : c.claim_of.result ≡ claim_of c.in_ok-sections.sections = c.claim_of.ensures ∙ ap claim_of c.as_slice.ensures in
     let task = c.args.task.now in
     let high = claimed_height (IsOutcomeOf task.search c.args.budget) c.args.table.now task.style task.width c.args.budget c.in_ok-sections.sections
-        c.in_ok-sections.ensures.expected c.in_ok-sections.ensures.writable c.requires.wide in
+    c.in_ok-sections.ensures.expected c.in_ok-sections.ensures.writable c.requires.wide in
     subst (λ (widths : List ℕ). length widths ≤ MAX_COLUMNS) (sym c.as_slice-2.ensures)
     (few_columns c.args.table.now task.style task.width high.0 c.in_ok-layout.layout c.requires.sound
     (c.in_ok-layout.ensures.fits high.0 (subst (λ (claim : Claim). HasHeight claim high.0) (sym is) high.2)))
@@ -59,14 +59,15 @@ page_file-requires-clause-fits c =
     let is : c.claim_of.result ≡ claim_of c.in_ok-sections.sections = c.claim_of.ensures ∙ ap claim_of c.as_slice.ensures in
     let task = c.args.task.now in
     let high = claimed_height (IsOutcomeOf task.search c.args.budget) c.args.table.now task.style task.width c.args.budget c.in_ok-sections.sections
-        c.in_ok-sections.ensures.expected c.in_ok-sections.ensures.writable c.requires.wide in
+    c.in_ok-sections.ensures.expected c.in_ok-sections.ensures.writable c.requires.wide in
     (high.0, high.1, c.in_ok-layout.ensures.fits high.0 (subst (λ (claim : Claim). HasHeight claim high.0) (sym is) high.2))
 
 pub certificate_file-requires : goal.certificate_file-requires
 certificate_file-requires c =
     let is : c.claim_of.result ≡ claim_of c.in_ok-sections.sections = c.claim_of.ensures ∙ ap claim_of c.as_slice.ensures in
     let task = c.args.task.now in
-    subst IsWritable (sym (same_certificate task.width task.style c.args.budget c.args.budget c.claim_of.result c.new.result c.in_ok-sections.sections refl is c.new.ensures))
+    subst IsWritable (sym (same_certificate task.width task.style c.args.budget c.args.budget c.claim_of.result c.new.result
+    c.in_ok-sections.sections refl is c.new.ensures))
     (writable (IsOutcomeOf task.search c.args.budget) c.args.table.now task.style task.width c.args.budget c.in_ok-sections.sections
     c.in_ok-sections.ensures.expected c.in_ok-sections.ensures.writable c.requires.wide c.requires.page.0 c.requires.page.1 c.requires.cuts)
 
@@ -76,8 +77,10 @@ returns-clause-answered c =
     let task = c.args.task.now in
     let table = c.args.table.now in
     let sections = c.in_ok-sections.sections in
-    let made = same_certificate task.width task.style c.args.budget (budget_in task table) c.claim_of.result c.new.result sections c.requires.budget is c.new.ensures in
-    subst (λ (report : Report). IsAnswerBy report task table (record { report = c.report_of.result; page = Some c.in_ok-page_file.field-0; certificate = c.in_ok-certificate_file.field-0 }))
+    let made = same_certificate task.width task.style c.args.budget
+    (budget_in task table) c.claim_of.result c.new.result sections c.requires.budget is c.new.ensures in
+    subst (λ (report : Report). IsAnswerBy report task table
+    (record { report = c.report_of.result; page = Some c.in_ok-page_file.field-0; certificate = c.in_ok-certificate_file.field-0 }))
     (sym (c.report_of.ensures ∙ ap (λ (claim : Claim). report_of claim c.total_width-width.result) is))
     (answered task table sections
     (subst (λ (b : ℕ). AreSectionsOf (IsOutcomeOf task.search b) table task.style task.width b sections) c.requires.budget c.in_ok-sections.ensures.expected)

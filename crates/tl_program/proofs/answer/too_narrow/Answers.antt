@@ -1,5 +1,5 @@
 -- A chain that is wider than the page is a valid certificate.
-use Rattle.std.proofs.Common.{◌≡◌, ℕ, ◌<◌, ◌≤◌, List, [], refl, sym, ap, subst, ◌∙◌, arith}
+use Rattle.std.proofs.Common.{◌≡◌, ℕ, List, [], refl, sym, subst, arith}
 use Rattle.tl_cert.specs.declared.certificate.Certificate.{Certificate}
 use Rattle.tl_cert.specs.declared.certificate.Claim.TheVariants as claims
 use Rattle.tl_cert.specs.declared.section.Section.{Section}
@@ -26,7 +26,8 @@ pub certificate_file-requires : goal.certificate_file-requires
 certificate_file-requires c =
     let task = c.args.task.now in
     let chain = c.in_ok-narrow_chain.ensures in
-    subst IsWritable (sym (no_sections task.width task.style c.args.budget c.args.budget (claims.Narrow c.args.least) c.in_ok-narrow_chain.field-0 c.new.result refl c.new.ensures))
+    subst IsWritable (sym (no_sections task.width task.style c.args.budget c.args.budget
+    (claims.Narrow c.args.least) c.in_ok-narrow_chain.field-0 c.new.result refl c.new.ensures))
     (writable_narrow c.args.subject.now.table.now task.style task.width c.args.budget c.args.least chain.0 c.in_ok-narrow_chain.field-0
     (meant c.args.subject.now) c.requires.subject c.requires.sound c.requires.least c.requires.narrow chain.1 chain.2
     c.requires.page.0 c.requires.page.1 c.requires.cuts c.if-least-gt-MAX_HEIGHT.false c.requires.cells c.chains_are_writable.ensures)
@@ -36,8 +37,14 @@ returns-clause-is c =
     let task = c.args.task.now in
     let table = c.args.subject.now.table.now in
     let chain = c.in_ok-narrow_chain.ensures in
-    let made : Certificate = record { width = task.width; style = task.style; budget = c.args.budget; claim = claims.Narrow c.args.least;
-        chains = c.in_ok-narrow_chain.field-0; sections = c.new.result } in
+    let made : Certificate = record {
+      width = task.width;
+      style = task.style;
+      budget = c.args.budget;
+      claim = claims.Narrow c.args.least;
+      chains = c.in_ok-narrow_chain.field-0;
+      sections = c.new.result;
+    } in
     record {
       is_least = c.requires.least;
       narrow = c.requires.narrow;

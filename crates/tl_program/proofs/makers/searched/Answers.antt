@@ -1,5 +1,5 @@
 -- The search that is named made the sections.
-use Rattle.std.proofs.Common.{◌≡◌, sym, subst}
+use Rattle.std.proofs.Common.{sym, subst}
 use Rattle.std.specs.Prelude.{IfOk}
 use Rattle.tl_nested.specs.Searched.{AreSectionsOf}
 use Rattle.tl_program.specs.Answers.{IsOutcomeOf}

@@ -1,6 +1,5 @@
 -- Whatever the bytes are read as, is found.
-use Rattle.std.proofs.Common.{◌≡◌, ◌∙◌, ◌≤◌, List, ℕ, length, sym, ap, subst, arith}
-use Rattle.std.proofs.lemmas.Bool.Decides.{nat_tests}
+use Rattle.std.proofs.Common.{◌∙◌, List, length, sym, subst}
 use Rattle.tl_token.specs.declared.token.Token.{Token}
 use Rattle.tl_tree.specs.Readable.{AreReadable}
 use Rattle.tl_tree.proofs.ReadableTokens.{tokens_readable}

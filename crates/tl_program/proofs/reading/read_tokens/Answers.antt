@@ -1,5 +1,5 @@
 -- Whatever the tokens are read as, is found.
-use Rattle.std.proofs.Common.{◌≡◌, ◌∙◌, sym}
+use Rattle.std.proofs.Common.{◌∙◌, sym}
 use Rattle.tl_program.proofs.Readings.{found_alike, tokens_refused_alike}
 use Rattle.tl_program.proofs.reading.read_tokens.Goals as goal
 

@@ -1,11 +1,12 @@
 -- Whatever a tree that is the same is read as, is found.
-use Rattle.std.proofs.Common.{◌≡◌, ◌∙◌, Ok, Err, refl, sym, subst}
+use Rattle.std.proofs.Common.{◌∙◌, sym}
 use Rattle.tl_program.proofs.Readings.{table_alike, refused_alike, found_alike}
 use Rattle.tl_program.proofs.reading.read_tree.Goals as goal
 
 pub returns-in-Ok-clause-each : goal.returns-in-Ok-clause-each
 returns-in-Ok-clause-each c = λ other reading same is.
-    table_alike c.args.breaking c.args.node.now other c.in-Ok.table reading same c.in-Ok.ensures.ok (λ error refused. c.in-Ok.ensures.each_err error refused) is
+    table_alike c.args.breaking c.args.node.now other c.in-Ok.table reading same c.in-Ok.ensures.ok
+    (λ error refused. c.in-Ok.ensures.each_err error refused) is
 
 pub returns-in-Err-clause-each : goal.returns-in-Err-clause-each
 returns-in-Err-clause-each c = λ other reading same is.

@@ -1,5 +1,5 @@
 -- The file is read in one way alone, and answered so.
-use Rattle.std.proofs.Common.{◌≡◌, refl, sym, ap, subst, ◌∙◌}
+use Rattle.std.proofs.Common.{ap, ◌∙◌}
 use Rattle.tl_program.specs.Tasks.{task_of}
 use Rattle.tl_program.proofs.Ends.{table_answer, refused_answer}
 use Rattle.tl_program.proofs.run.answer_file.Goals as goal

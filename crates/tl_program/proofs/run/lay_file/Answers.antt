@@ -1,5 +1,5 @@
 -- What becomes of the command's file.
-use Rattle.std.proofs.Common.{◌≡◌, inl, inr, [], Err, Bool, refl, sym, ap, subst, ◌∙◌, List, ℕ}
+use Rattle.std.proofs.Common.{inl, inr, [], Err, Bool, refl, sym, ap, subst, ◌∙◌, List, ℕ}
 use Rattle.std.specs.Prelude.{option_map}
 use Rattle.tl_base.specs.Desk.{Rose}
 use Rattle.tl_program.specs.declared.report.Report.TheVariants as reports
@@ -12,18 +12,41 @@ use Rattle.tl_program.proofs.Ends.{content_of, some_mapped, answer_of_content, d
 use Rattle.tl_program.proofs.run.lay_file.Goals as goal
 
 pub returns-in-Ok-answer_file : goal.returns-in-Ok-answer_file
-returns-in-Ok-answer_file g c = record { ends = λ words is.
-    let command : Command = record { width = c.args.lay.now.width; input = c.args.lay.now.input.now; page = c.args.lay.now.page.now;
-        certificate = option_map (λ name. name.now) c.args.lay.now.certificate; options = c.args.lay.now.options } in
-    let change : Change = record { files = g.D.Desk.files c.args.desk.now; files_after = g.D.Desk.files c.deliver.new.desk; said = g.D.Desk.said c.args.desk.now; said_after = g.D.Desk.said c.deliver.new.desk;
-        load_faults = g.D.Desk.load_faults c.args.desk.now; load_faults_after = g.D.Desk.load_faults c.deliver.new.desk;
-        write_faults = g.D.Desk.write_faults c.args.desk.now; write_faults_after = g.D.Desk.write_faults c.deliver.new.desk } in
-    let other : Change = record { files = g.D.Desk.files c.load.new.self; files_after = g.D.Desk.files c.deliver.new.desk; said = g.D.Desk.said c.load.new.self; said_after = g.D.Desk.said c.deliver.new.desk;
-        load_faults = g.D.Desk.load_faults c.load.new.self; load_faults_after = g.D.Desk.load_faults c.deliver.new.desk;
-        write_faults = g.D.Desk.write_faults c.load.new.self; write_faults_after = g.D.Desk.write_faults c.deliver.new.desk } in
-    let answer = c.in-Ok-answer_file.answer in
-    let content = content_of (g.D.Desk.files c.args.desk.now) command.input c.in-Ok.bytes c.in-Ok.ensures.short c.in-Ok.ensures.read in
-    let becomes : Becomes words change (outcome_of command answer) = inr (command, is, inr (record {
+returns-in-Ok-answer_file g c = record {
+  ends = λ words is.
+      let command : Command = record {
+        width = c.args.lay.now.width;
+        input = c.args.lay.now.input.now;
+        page = c.args.lay.now.page.now;
+        certificate = option_map (λ name. name.now) c.args.lay.now.certificate;
+        options = c.args.lay.now.options;
+      } in
+      let change : Change = record {
+        files = g.D.Desk.files c.args.desk.now;
+        files_after = g.D.Desk.files c.deliver.new.desk;
+        said = g.D.Desk.said c.args.desk.now;
+        said_after = g.D.Desk.said c.deliver.new.desk;
+        load_faults = g.D.Desk.load_faults c.args.desk.now;
+        load_faults_after = g.D.Desk.load_faults c.deliver.new.desk;
+        write_faults = g.D.Desk.write_faults c.args.desk.now;
+        write_faults_after = g.D.Desk.write_faults c.deliver.new.desk;
+      } in
+      let other : Change = record {
+        files = g.D.Desk.files c.load.new.self;
+        files_after = g.D.Desk.files c.deliver.new.desk;
+        said = g.D.Desk.said c.load.new.self;
+        said_after = g.D.Desk.said c.deliver.new.desk;
+        load_faults = g.D.Desk.load_faults c.load.new.self;
+        load_faults_after = g.D.Desk.load_faults c.deliver.new.desk;
+        write_faults = g.D.Desk.write_faults c.load.new.self;
+        write_faults_after = g.D.Desk.write_faults c.deliver.new.desk;
+      } in
+      let answer = c.in-Ok-answer_file.answer in
+      let content = content_of (g.D.Desk.files c.args.desk.now) command.input c.in-Ok.bytes c.in-Ok.ensures.short c.in-Ok.ensures.read in
+      let becomes : Becomes words change (outcome_of command answer) = inr (
+        command,
+        is,
+        inr (record {
           bytes = content.0;
           held = content.1;
           answer = answer;
@@ -32,25 +55,49 @@ returns-in-Ok-answer_file g c = record { ends = λ words is.
               (subst (λ (certified : Bool). IsAnswerOf (task_of command.width command.options certified) c.as_slice.result.now answer)
               (sym (some_mapped (λ name. name.now) c.args.lay.now.certificate)) c.in-Ok-answer_file.ensures));
           so = refl;
-        })) in
-    delivered_ends words change c.deliver.result (outcome_of command answer) becomes
-    (delivered_from c.deliver.result change other (outcome_of command answer) c.load.ensures.files_stay refl c.load.ensures.said_stays refl
-    c.load.ensures.write_count refl c.deliver.ensures.delivered) }
+        }),
+      ) in
+      delivered_ends words change c.deliver.result (outcome_of command answer) becomes
+      (delivered_from c.deliver.result change other (outcome_of command answer) c.load.ensures.files_stay refl c.load.ensures.said_stays refl
+      c.load.ensures.write_count refl c.deliver.ensures.delivered);
+}
 
 pub returns-in-Err-Failed : goal.returns-in-Err-Failed
-returns-in-Err-Failed g c = record { ends = λ words is.
-    let command : Command = record { width = c.args.lay.now.width; input = c.args.lay.now.input.now; page = c.args.lay.now.page.now;
-        certificate = option_map (λ name. name.now) c.args.lay.now.certificate; options = c.args.lay.now.options } in
-    let change : Change = record { files = g.D.Desk.files c.args.desk.now; files_after = g.D.Desk.files c.print.new.desk; said = g.D.Desk.said c.args.desk.now; said_after = g.D.Desk.said c.print.new.desk;
-        load_faults = g.D.Desk.load_faults c.args.desk.now; load_faults_after = g.D.Desk.load_faults c.print.new.desk;
-        write_faults = g.D.Desk.write_faults c.args.desk.now; write_faults_after = g.D.Desk.write_faults c.print.new.desk } in
-    let third : Change = record { files = g.D.Desk.files c.load.new.self; files_after = g.D.Desk.files c.print.new.desk; said = g.D.Desk.said c.load.new.self; said_after = g.D.Desk.said c.print.new.desk;
-        load_faults = g.D.Desk.load_faults c.load.new.self; load_faults_after = g.D.Desk.load_faults c.print.new.desk;
-        write_faults = g.D.Desk.write_faults c.load.new.self; write_faults_after = g.D.Desk.write_faults c.print.new.desk } in
-    let outcome : Outcome = record { report = reports.ReadFault; stores = [] } in
-    let rose : Rose change.load_faults change.load_faults_after =
-        subst (Rose (g.D.Desk.load_faults c.args.desk.now)) (sym c.print.ensures.loads_stay) (c.in-Err-Failed.ensures.failed (ap Err c.in-Err-Failed.field-0-is)) in
-    let becomes : Becomes words change outcome = inr (command, is, inl (rose, refl)) in
-    delivered_ends words change c.print.result outcome becomes
-    (printed_last c.print.result change third outcome (c.print.ensures.files_stay ∙ c.load.ensures.files_stay) c.load.ensures.write_count refl
-    c.load.ensures.said_stays refl c.print.ensures.printed) }
+returns-in-Err-Failed g c = record {
+  ends = λ words is.
+      let command : Command = record {
+        width = c.args.lay.now.width;
+        input = c.args.lay.now.input.now;
+        page = c.args.lay.now.page.now;
+        certificate = option_map (λ name. name.now) c.args.lay.now.certificate;
+        options = c.args.lay.now.options;
+      } in
+      let change : Change = record {
+        files = g.D.Desk.files c.args.desk.now;
+        files_after = g.D.Desk.files c.print.new.desk;
+        said = g.D.Desk.said c.args.desk.now;
+        said_after = g.D.Desk.said c.print.new.desk;
+        load_faults = g.D.Desk.load_faults c.args.desk.now;
+        load_faults_after = g.D.Desk.load_faults c.print.new.desk;
+        write_faults = g.D.Desk.write_faults c.args.desk.now;
+        write_faults_after = g.D.Desk.write_faults c.print.new.desk;
+      } in
+      let third : Change = record {
+        files = g.D.Desk.files c.load.new.self;
+        files_after = g.D.Desk.files c.print.new.desk;
+        said = g.D.Desk.said c.load.new.self;
+        said_after = g.D.Desk.said c.print.new.desk;
+        load_faults = g.D.Desk.load_faults c.load.new.self;
+        load_faults_after = g.D.Desk.load_faults c.print.new.desk;
+        write_faults = g.D.Desk.write_faults c.load.new.self;
+        write_faults_after = g.D.Desk.write_faults c.print.new.desk;
+      } in
+      let outcome : Outcome = record { report = reports.ReadFault; stores = [] } in
+      let rose : Rose change.load_faults change.load_faults_after =
+      subst (Rose (g.D.Desk.load_faults c.args.desk.now)) (sym c.print.ensures.loads_stay) (c.in-Err-Failed.ensures.failed
+      (ap Err c.in-Err-Failed.field-0-is)) in
+      let becomes : Becomes words change outcome = inr (command, is, inl (rose, refl)) in
+      delivered_ends words change c.print.result outcome becomes
+      (printed_last c.print.result change third outcome (c.print.ensures.files_stay ∙ c.load.ensures.files_stay) c.load.ensures.write_count refl
+      c.load.ensures.said_stays refl c.print.ensures.printed);
+}

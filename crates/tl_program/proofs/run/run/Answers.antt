@@ -1,5 +1,5 @@
 -- A run is complete by how it ends.
-use Rattle.std.proofs.Common.{◌≡◌, sym, subst, ℕ, map, string_bytes}
+use Rattle.std.proofs.Common.{sym, subst, ℕ, map, string_bytes}
 use Rattle.tl_program.specs.Change.{Change}
 use Rattle.tl_program.specs.Messages.{number_of}
 use Rattle.tl_program.specs.Headline.{IsComplete, IsRefusedSo}
@@ -8,16 +8,30 @@ use Rattle.tl_program.proofs.run.run.Goals as goal
 
 pub returns-clause-complete : goal.returns-clause-complete
 returns-clause-complete g c =
-    let change : Change = record { files = g.D.Desk.files c.args.desk.now; files_after = g.D.Desk.files c.carry_out.new.desk; said = g.D.Desk.said c.args.desk.now; said_after = g.D.Desk.said c.carry_out.new.desk;
-        load_faults = g.D.Desk.load_faults c.args.desk.now; load_faults_after = g.D.Desk.load_faults c.carry_out.new.desk;
-        write_faults = g.D.Desk.write_faults c.args.desk.now; write_faults_after = g.D.Desk.write_faults c.carry_out.new.desk } in
+    let change : Change = record {
+      files = g.D.Desk.files c.args.desk.now;
+      files_after = g.D.Desk.files c.carry_out.new.desk;
+      said = g.D.Desk.said c.args.desk.now;
+      said_after = g.D.Desk.said c.carry_out.new.desk;
+      load_faults = g.D.Desk.load_faults c.args.desk.now;
+      load_faults_after = g.D.Desk.load_faults c.carry_out.new.desk;
+      write_faults = g.D.Desk.write_faults c.args.desk.now;
+      write_faults_after = g.D.Desk.write_faults c.carry_out.new.desk;
+    } in
     subst (λ (n : ℕ). IsComplete (map string_bytes c.args.words.now) change n) (sym c.number.ensures)
     (complete (map string_bytes c.args.words.now) change (number_of c.carry_out.result) c.carry_out.ensures.ends)
 
 pub returns-clause-refused : goal.returns-clause-refused
 returns-clause-refused g c =
-    let change : Change = record { files = g.D.Desk.files c.args.desk.now; files_after = g.D.Desk.files c.carry_out.new.desk; said = g.D.Desk.said c.args.desk.now; said_after = g.D.Desk.said c.carry_out.new.desk;
-        load_faults = g.D.Desk.load_faults c.args.desk.now; load_faults_after = g.D.Desk.load_faults c.carry_out.new.desk;
-        write_faults = g.D.Desk.write_faults c.args.desk.now; write_faults_after = g.D.Desk.write_faults c.carry_out.new.desk } in
+    let change : Change = record {
+      files = g.D.Desk.files c.args.desk.now;
+      files_after = g.D.Desk.files c.carry_out.new.desk;
+      said = g.D.Desk.said c.args.desk.now;
+      said_after = g.D.Desk.said c.carry_out.new.desk;
+      load_faults = g.D.Desk.load_faults c.args.desk.now;
+      load_faults_after = g.D.Desk.load_faults c.carry_out.new.desk;
+      write_faults = g.D.Desk.write_faults c.args.desk.now;
+      write_faults_after = g.D.Desk.write_faults c.carry_out.new.desk;
+    } in
     subst (λ (n : ℕ). IsRefusedSo (map string_bytes c.args.words.now) change n) (sym c.number.ensures)
     (refused_so (map string_bytes c.args.words.now) change (number_of c.carry_out.result) c.carry_out.ensures.ends)

@@ -1,7 +1,7 @@
 -- Words whose parts are no options, or no names, are no command.
-use Rattle.std.proofs.Common.{◌≡◌, false, ℕ, List, ◌∷◌, ◌++◌, map, string_bytes, codes, Option, Some, None, ap, sym, subst, ◌∙◌, arith}
+use Rattle.std.proofs.Common.{◌≡◌, false, ℕ, List, ◌∷◌, ◌++◌, map, string_bytes, codes, Option, Some, None, ap, ◌∙◌}
 use Rattle.std.specs.Prelude.{option_map, option_to_list, IfSome, IfNone, IsTrue}
-use Rattle.tl_program.specs.Command.{IsDashed, IsDashedAtFirst, AreNames}
+use Rattle.tl_program.specs.Command.{IsDashed, IsDashedAtFirst}
 use Rattle.tl_program.proofs.CommandLemmas.{AreParts, no_options, no_names}
 use Rattle.tl_program.proofs.command.Lay.parse.Goals as goal
 
