@@ -1,84 +1,47 @@
--- The definitions, run on a tiny table: two cells side by side, and one below that spans both columns. A letter takes
--- one column.
---
---   |aa  b|
---   |aa bb|
-use Rattle.std.proofs.Common.{◌≡◌, ℕ, ◌≤◌, List, [], ◌∷◌, codes, refl, sym, ap, subst, append-nil, arith}
-use Rattle.std.specs.List.{AllZip}
-use Rattle.unicode_width.proofs.Computing.{unicode_width}
-use Rattle.tl_base.specs.declared.style.Style.TheVariants.{Plain}
-use Rattle.tl_text.specs.declared.paragraph.Atom.{Atom}
-use Rattle.tl_text.specs.declared.paragraph.Atom.TheVariants.{Word}
-use Rattle.tl_text.specs.Paragraph.{lined_pieces}
-use Rattle.tl_text.specs.Cuttings.{line_width, IsPieceCut}
-use Rattle.tl_program.specs.Table.{Layout}
-use Rattle.tl_program.specs.Table.{Table}
-use Rattle.tl_program.specs.Layout.{FitBlocks, Fits}
-use Rattle.tl_program.specs.TextPage.{Shown, page_text}
+-- The definitions on small cases.
+use Rattle.std.proofs.Common.{◌≡◌, [], ◌∷◌, ◌++◌, codes, Some, None, refl}
+use Rattle.std.specs.List.{flat_map}
+use Rattle.tl_base.specs.declared.breaking.Breaking.TheVariants.{Any}
+use Rattle.tl_base.specs.declared.style.Style.TheVariants as styles
+use Rattle.tl_program.specs.declared.options.Choice.TheVariants as choices
+use Rattle.tl_program.specs.declared.refusal.Fault.TheVariants as faults
+use Rattle.tl_program.specs.declared.refusal.Refusal.TheVariants as refusals
+use Rattle.tl_program.specs.declared.report.Report.TheVariants as reports
+use Rattle.tl_program.specs.Answers.{budget_of}
+use Rattle.tl_program.specs.Messages.{number_of, status_of, text_of}
+use Rattle.tl_program.specs.Options.{words_of}
+use Rattle.tl_program.specs.Outcomes.{stored_as}
 
-abbrev aa : Atom
-aa = Word (codes "aa")
+-- the words of options, in their order
+spelled : flat_map words_of (choices.Html ∷ choices.Style styles.Frame ∷ choices.Breaking Any ∷ [])
+    ≡ codes "--html" ∷ codes "--style" ∷ codes "frame" ∷ codes "--break" ∷ codes "any" ∷ []
+spelled = refl
 
-abbrev bb : Atom
-bb = Word (codes "bb")
+-- an outer table alone is searched once; with one nested table on a page of 80 columns there are 81 searches; with 100 of
+-- them 8,001
+alone : budget_of None 1 ≡ 5000
+alone = refl
 
-abbrev b : Atom
-b = Word (codes "b")
+one_nested : budget_of None 81 ≡ 5000
+one_nested = refl
 
--- ---- the page: the lines of the cells of a slot side by side, each filled to its cell's room
+many_nested : budget_of None 8001 ≡ 249
+many_nested = refl
 
-abbrev layout : Layout
-layout = record { widths = 2 ∷ 1 ∷ []; heights = 1 ∷ 1 ∷ [] }
+given : budget_of (Some 100000) 81 ≡ 100000
+given = refl
 
-abbrev left : Shown
-left = record { cell = record { left = 0; right = 1; top = 0; bottom = 1; paragraphs = (aa ∷ []) ∷ [] }; lines = (aa ∷ []) ∷ [] }
+-- statuses
+bounded : number_of (status_of (reports.Bounded 3 2 7)) ≡ 3
+bounded = refl
 
-abbrev right : Shown
-right = record { cell = record { left = 1; right = 2; top = 0; bottom = 1; paragraphs = (b ∷ []) ∷ [] }; lines = (b ∷ []) ∷ [] }
+refused : number_of (status_of (reports.Refused (refusals.BadInput faults.NoTable 0))) ≡ 5
+refused = refl
 
-abbrev below : Shown
-below = record { cell = record { left = 0; right = 2; top = 1; bottom = 2; paragraphs = (aa ∷ bb ∷ []) ∷ [] }; lines = (aa ∷ bb ∷ []) ∷ [] }
+-- the message where words are no command
+usage : text_of reports.Usage ≡ codes "usage" ++ 10 ∷ []
+usage = refl
 
-abbrev table : Table
-table = record { columns = 2; rows = 2; cells = left.cell ∷ right.cell ∷ below.cell ∷ [] }
-
-the_page : page_text table layout (left ∷ right ∷ below ∷ []) ≡ codes "aa  b\naa bb\n"
-unfolding unicode_width
-the_page = refl
-
--- ---- the layout fits a page of five columns, in two lines
-
--- a paragraph on one line fits where the line does
-one_line_fits : (w height : ℕ) (unit : Atom) (units : List Atom) → lined_pieces (unit ∷ units) ≡ (unit ∷ units) ∷ [] →
-    line_width (unit ∷ units) ≤ w → 1 ≤ height → FitBlocks w height ((unit ∷ units) ∷ [])
-one_line_fits w height unit units one wide high = (
-  1 ∷ [],
-  (
-    (
-      cut,
-      subst (λ pieces. AllZip IsPieceCut pieces cut) (sym one) (((λ none. cc, tt), ap (λ more. unit ∷ more) (append-nil units)), tt),
-      (wide, tt),
-      omega arith,
-    ),
-    tt,
-  ),
-  omega (arith, high),
-) where
-  cut : List (List (List Atom))
-  cut = ((unit ∷ units) ∷ []) ∷ []
-
-fits : Fits table Plain 5 2 layout
-unfolding unicode_width
-fits = record {
-  columns = refl;
-  rows = refl;
-  within = omega arith;
-  high = refl;
-  cells = (
-    one_line_fits 2 1 aa [] refl (omega arith) (omega arith),
-    (
-      one_line_fits 1 1 b [] refl (omega arith) (omega arith),
-      (one_line_fits 5 1 aa (bb ∷ []) refl (omega arith) (omega arith), tt),
-    ),
-  );
-}
+-- a certificate without a name is not stored
+unnamed : stored_as None (Some (1 ∷ [])) ≡ []
+unnamed = refl

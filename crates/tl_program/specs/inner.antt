@@ -1,5 +1,5 @@
 -- What private functions promise each other. No public clause cites these files.
-pub mod ColumnPages
-pub mod ColumnSizes
-pub mod Messages
-pub mod Outcomes
+pub mod Claims
+pub mod OptionsRead
+pub mod Printing
+pub mod Readings

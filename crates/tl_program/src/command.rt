@@ -1,11 +1,13 @@
-//! Reads the command from the arguments.
+//! Reads the command from the words of the command line.
 
-ghost use Rattle.std.specs.Prelude.{◌≡◌, ◌≢◌, ◌↔◌, ℕ, [], map, codes, string_bytes, IfSome, IfNone, IsTrue};
-ghost use Rattle.tl_program.specs.Command.{IsLay, IsUsage, IsWidth};
+ghost use Rattle.std.specs.Prelude.{◌≡◌, ◌≢◌, ◌↔◌, ◌++◌, ◌∷◌, ℕ, [], List, map, string_bytes, ◌≤◌, decimal};
+ghost use Rattle.std.specs.Prelude.{codes, IfSome, IfNone, IsTrue, option_map, option_to_list};
+ghost use Rattle.tl_program.specs.Command.{IsDashed, IsDashedAtFirst, AreNames, IsLay, IsUsage};
 
-use tl_base::{MAX_PAGE_WIDTH, read_number};
+use crate::options::{Options, number_up_to};
+use tl_base::MAX_PAGE_WIDTH;
 
-/// The command to lay a table out: `lay WIDTH IN PAGE`.
+/// The command to lay a table out.
 #[derive(Clone, Copy, Debug)]
 pub struct Lay<'a> {
     /// The page width in columns, from 1 to [`MAX_PAGE_WIDTH`].
@@ -14,47 +16,143 @@ pub struct Lay<'a> {
     pub input: &'a str,
     /// The name of the file that takes the page.
     pub page: &'a str,
+    /// The name of the file that takes the certificate, if one is to be stored.
+    pub certificate: Option<&'a str>,
+    pub options: Options,
 }
 
-impl<'a> Lay<'a> {
-    /// The command that the arguments give, or `None` where they are invalid: WIDTH is a canonical
-    /// decimal from 1 to [`MAX_PAGE_WIDTH`], and the names are not empty and differ.
-    pub fn parse(arguments: &'a [String]) -> Option<Lay<'a>>
-        ensures command { IfSome result (λ lay.
-            IsLay (map string_bytes arguments.now) lay.width lay.input.now lay.page.now) }
-        ensures usage { IfNone result (IsUsage (map string_bytes arguments.now)) }
+/// The words `lay WIDTH IN PAGE`, and those after them.
+#[derive(Clone, Copy)]
+struct Positions<'a> {
+    width: &'a str,
+    input: &'a str,
+    page: &'a str,
+    more: &'a [String],
+}
+
+impl<'a> Positions<'a> {
+    fn read(words: &'a [String]) -> Option<Positions<'a>>
+        ensures spelled { IfSome result (λ is. map string_bytes words.now ≡ codes "lay" ∷ is.width.now ∷ is.input.now
+            ∷ is.page.now ∷ map string_bytes is.more.now) }
+        ensures none { IfNone result ((width input page : List ℕ) (more : List (List ℕ))
+            → map string_bytes words.now ≡ codes "lay" ∷ width ∷ input ∷ page ∷ more → ⊥) }
     {
-        let [name, width, input, page] = arguments else {
+        let [name, width, input, page, more @ ..] = words else {
             return None;
         };
-        if !is_lay(name.as_str(), input.as_str(), page.as_str()) {
+        if !is_lay(name.as_str()) {
             return None;
         }
-        let width = page_width(width.as_str())?;
-        Some(Lay {
-            width,
+        Some(Positions {
+            width: width.as_str(),
             input: input.as_str(),
             page: page.as_str(),
+            more,
         })
     }
 }
 
-/// Whether the command's name is `lay`, and its two files are named, and differ.
-fn is_lay(name: &str, input: &str, page: &str) -> bool
-    ensures { IsTrue result ↔ ((name.now ≡ codes "lay")
-        × (input.now ≢ []) × (page.now ≢ []) × (input.now ≢ page.now)) }
+fn is_lay(name: &str) -> bool
+    ensures { IsTrue result ↔ (name.now ≡ codes "lay") }
 {
-    name == "lay" && !input.is_empty() && !page.is_empty() && input != page
+    name == "lay"
 }
 
-/// The page width whose canonical decimal the argument is.
-fn page_width(argument: &str) -> Option<u32>
-    ensures width { IfSome result (IsWidth argument.now) }
-    ensures none { IfNone result ((width : ℕ) → ¬ (IsWidth argument.now width)) }
+impl<'a> Lay<'a> {
+    /// The command that the words are, or `None` where they are none: docs/MODEL.md, "The command".
+    pub fn parse(words: &'a [String]) -> Option<Lay<'a>>
+        ensures command { IfSome result (λ lay. IsLay (map string_bytes words.now) (record {
+          width = lay.width;
+          input = lay.input.now;
+          page = lay.page.now;
+          certificate = option_map (λ name. name.now) lay.certificate;
+          options = lay.options;
+        })) }
+        ensures usage { IfNone result (IsUsage (map string_bytes words.now)) }
+    {
+        let positions = Positions::read(words)?;
+        let width = page_width(positions.width)?;
+        let (certificate, options) = certificate_of(positions.more);
+        let options = Options::parse(options)?;
+        if !are_names(positions.input, positions.page, certificate) {
+            return None;
+        }
+        Some(Lay {
+            width,
+            input: positions.input,
+            page: positions.page,
+            certificate,
+            options,
+        })
+    }
+}
+
+/// The page width whose canonical decimal the word is.
+fn page_width(word: &str) -> Option<u32>
+    ensures width { IfSome result (λ width. (word.now ≡ decimal width) × (1 ≤ width) × (width ≤ MAX_PAGE_WIDTH)) }
+    ensures none { IfNone result ((width : ℕ) → 1 ≤ width → width ≤ MAX_PAGE_WIDTH → word.now ≢ decimal width) }
 {
-    let (width, past) = read_number(argument.as_bytes(), 0)?;
-    if past != argument.len() || width < 1 || width > u64::from(MAX_PAGE_WIDTH) {
+    let width = number_up_to(word, MAX_PAGE_WIDTH)?;
+    if width < 1 {
         return None;
     }
-    Some(width as u32)
+    Some(width)
+}
+
+/// The name of the certificate, if the first word is one, and the words after it.
+fn certificate_of(words: &[String]) -> (Option<&str>, &[String])
+    ensures words { map string_bytes words.now ≡ option_to_list (option_map (λ name. name.now) result.0)
+        ++ map string_bytes result.1.now }
+    ensures plain { IfSome result.0 (λ name. IsDashed name.now → ⊥) }
+    ensures dashed { IfNone result.0 (IsDashedAtFirst (map string_bytes result.1.now)) }
+{
+    match words {
+        [name, rest @ ..] => {
+            if name.as_str().as_bytes().starts_with(b"--") {
+                (None, words)
+            } else {
+                (Some(name.as_str()), rest)
+            }
+        }
+        [] => (None, words),
+    }
+}
+
+/// Whether no name is empty, and no two of them are the same.
+fn are_names(input: &str, page: &str, certificate: Option<&str>) -> bool
+    ensures { IsTrue result ↔ AreNames input.now page.now (option_map (λ name. name.now) certificate.entry) }
+{
+    are_two(input, page) && is_third_or_none(certificate, input, page)
+}
+
+/// Whether the name is not empty and not one of the others.
+fn is_third(name: &str, input: &str, page: &str) -> bool
+    ensures { IsTrue result ↔ ((name.now ≢ []) × (name.now ≢ input.now) × (name.now ≢ page.now)) }
+{
+    !name.is_empty() && is_other(name, input) && is_other(name, page)
+}
+
+/// Whether the names are not empty, and not the same.
+fn are_two(input: &str, page: &str) -> bool
+    ensures { IsTrue result ↔ ((input.now ≢ []) × (page.now ≢ []) × (input.now ≢ page.now)) }
+{
+    !input.is_empty() && !page.is_empty() && input != page
+}
+
+/// Whether the name, if there is one, is not empty and not one of the others.
+fn is_third_or_none(name: Option<&str>, input: &str, page: &str) -> bool
+    ensures { IsTrue result ↔ IfSome (option_map (λ name. name.now) name.entry)
+        (λ name. (name ≢ []) × (name ≢ input.now) × (name ≢ page.now)) }
+{
+    match name {
+        None => true,
+        Some(name) => is_third(name, input, page),
+    }
+}
+
+/// Whether the names differ.
+fn is_other(one: &str, other: &str) -> bool
+    ensures { IsTrue result ↔ (one.now ≢ other.now) }
+{
+    one != other
 }

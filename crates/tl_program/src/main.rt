@@ -1,22 +1,27 @@
-//! Lays out a table on a page of fixed-width text, as low as any layout can be. The command, the
-//! reading of its file, the layout and the page are modules of their own; `run` is all of it over a
-//! desk. Its one contract: the statuses of `run`, what is stored and printed after each, and that
-//! the page stored is of the least height.
+//! Lays out a table on a page of fixed-width text, as low as any layout can be, with a certificate
+//! that no page is lower. It stands on the crates that read, search, judge and draw; here are the
+//! command, its messages and the order of the steps. Its one contract: the statuses of `run`, what
+//! is stored and printed after each, and what the page and the certificate are.
 #![tactic(auto)]
 
 ghost use Rattle.std.specs.Prelude.{◌≡◌, ◌≢◌};
 ghost use Rattle.std.specs.IoError.{error_kind};
 
-mod column;
+mod answer;
 mod command;
-mod form;
-mod outcome;
-mod page;
-mod rows;
+mod limits;
+mod makers;
+mod messages;
+mod options;
+mod reading;
+mod refusal;
+mod report;
 mod run;
 mod status;
+mod task;
 #[cfg(test)]
 mod tests;
+mod widths;
 
 use run::run;
 use status::Status;

@@ -1,21 +1,22 @@
-//! Runs the program over files in memory: each status with its page and its message.
+//! Runs the program over files in memory: each status with its page, certificate and message.
 
 use crate::run::run;
 use std::alloc::{AllocError, Global};
 use std::collections::BTreeMap;
+use std::process::Abort;
 use std::test::Fail as Failure;
 use tl_base::{Fail, List, MemoryDesk, NoGate};
 
-/// The arguments of a command line, separated by spaces.
-fn arguments(alloc: Global, line: &str) -> Result<Vec<String>, AllocError> {
-    let mut arguments = Vec::new(alloc);
+/// The words of a command line, separated by spaces.
+fn words(alloc: Global, line: &str) -> Result<Vec<String>, AllocError> {
+    let mut words = Vec::new(alloc);
     if line.is_empty() {
-        return Ok(arguments);
+        return Ok(words);
     }
     for word in line.split(' ') {
-        arguments.push(String::from_str(alloc, word)?)?;
+        words.push(String::from_str(alloc, word)?)?;
     }
-    Ok(arguments)
+    Ok(words)
 }
 
 /// A desk whose file `t.html` holds these bytes.
@@ -33,110 +34,353 @@ fn held<'a>(desk: &'a MemoryDesk, name: &str) -> Option<&'a [u8]> {
     desk.files().get(name).map(|file| file.as_slice())
 }
 
-const ONE_CELL: &str = "<table><tr><td>aa bb cc</td></tr></table>";
-
-/// The status that `lay WIDTH t.html p.txt` ends with over the desk.
-fn lay(alloc: Global, width: &str, desk: &mut MemoryDesk) -> Result<u8, AllocError> {
-    let mut arguments = arguments(alloc, "lay")?;
-    for word in [width, "t.html", "p.txt"] {
-        arguments.push(String::from_str(alloc, word)?)?;
-    }
-    Ok(run(alloc, arguments.as_slice(), desk, &NoGate))
+/// The status of a command line over the desk.
+fn lay(alloc: Global, line: &str, desk: &mut MemoryDesk) -> Result<u8, AllocError> {
+    let words = words(alloc, line)?;
+    Ok(run(alloc, words.as_slice(), desk, &NoGate))
 }
 
-#[test]
-fn the_lowest_page_of_one_column_is_stored(rt: HostRuntime) -> Result<(), Failure> {
+/// What a command line gives over a file, status, page and message: none where no page is stored.
+fn check(
+    rt: &(impl Abort + AllocGlobal),
+    line: &str,
+    file: &str,
+    status: u8,
+    page: Option<&str>,
+    said: &str,
+) -> Result<(), Failure> {
     let alloc = rt.alloc();
-    let two_rows = "<table><tr><td>a b</td></tr><tr><td>ccc</td></tr></table>";
-    let spaced = "\n <table>\t<tr> <td>abcdef\n</td>\r</tr>\n</table>\n";
-    for (file, width, page, height, column) in [
-        (ONE_CELL, "8", "aa bb cc\n", 1, 8),
-        (ONE_CELL, "7", "aa bb\ncc   \n", 2, 5),
-        (ONE_CELL, "5", "aa bb\ncc   \n", 2, 5),
-        (ONE_CELL, "4", "aa\nbb\ncc\n", 3, 2),
-        (ONE_CELL, "2", "aa\nbb\ncc\n", 3, 2),
-        (two_rows, "3", "a b\nccc\n", 2, 3),
-        ("<table><tr><td> </td></tr></table>", "5", "", 0, 0),
-        ("<table></table>", "10", "", 0, 0),
-        (spaced, "6", "abcdef\n", 1, 6),
-    ] {
-        let mut desk = desk(alloc, file.as_bytes(), &[])?;
-        let said = format!(in alloc; "lowest height {height} width {column}\n")?;
-        assert_eq!(rt; lay(alloc, width, &mut desk)?, 0, "{file} {width}");
-        assert_eq!(rt;
-            held(&desk, "p.txt"),
-            Some(page.as_bytes()),
-            "{file} {width}"
-        );
-        assert_eq!(rt; desk.said(), said.as_str().as_bytes(), "{file} {width}");
-    }
+    let mut desk = desk(alloc, file.as_bytes(), &[])?;
+    assert_eq!(rt; lay(alloc, line, &mut desk)?, status, "{line}: {file}");
+    assert_eq!(rt; desk.said(), said.as_bytes(), "{line}: {file}");
+    let page = page.map(|page| page.as_bytes());
+    assert_eq!(rt; held(&desk, "p.txt"), page, "{line}: {file}");
+    Ok(())
+}
+
+const TWO: &str = "<table><tr><td>aaa bbb<td>cc dd ee</table>";
+
+#[test]
+fn the_lowest_page_is_stored(rt: HostRuntime) -> Result<(), Failure> {
+    check(
+        &rt,
+        "lay 10 t.html p.txt",
+        "<table></table>",
+        0,
+        Some(""),
+        "lowest height 0 width 0\n",
+    )?;
+    let one = "<table><tr><td>aa bb cc</table>";
+    check(
+        &rt,
+        "lay 8 t.html p.txt",
+        one,
+        0,
+        Some("aa bb cc\n"),
+        "lowest height 1 width 8\n",
+    )?;
+    check(
+        &rt,
+        "lay 7 t.html p.txt",
+        one,
+        0,
+        Some("aa bb\ncc   \n"),
+        "lowest height 2 width 5\n",
+    )?;
+    check(
+        &rt,
+        "lay 12 t.html p.txt",
+        TWO,
+        0,
+        Some("aaa  cc dd\nbbb  ee   \n"),
+        "lowest height 2 width 10\n",
+    )?;
+    let spanned = "<table><tr><td colspan=2>aaaa bbbb cc<tr><td>x<td>yy</table>";
+    check(
+        &rt,
+        "lay 9 t.html p.txt",
+        spanned,
+        0,
+        Some("aaaa   \nbbbb cc\nx  yy  \n"),
+        "lowest height 3 width 7\n",
+    )?;
+    check(
+        &rt,
+        "lay 4 t.html p.txt",
+        spanned,
+        4,
+        None,
+        "narrow least 5 width 4\n",
+    )?;
     Ok(())
 }
 
 #[test]
-fn a_page_narrower_than_a_word_prints_the_least_width(rt: HostRuntime) -> Result<(), Failure> {
-    let alloc = rt.alloc();
-    let wide = "<table><tr><td>abcdef</td></tr><tr><td></td></tr></table>";
-    for (file, width, said) in [
-        (ONE_CELL, "1", "narrow least 2 width 1\n"),
-        (wide, "5", "narrow least 6 width 5\n"),
-    ] {
-        let mut desk = desk(alloc, file.as_bytes(), &[])?;
-        assert_eq!(rt; lay(alloc, width, &mut desk)?, 4, "{file} {width}");
-        assert_eq!(rt; held(&desk, "p.txt"), None, "{file} {width}");
-        assert_eq!(rt; desk.said(), said.as_bytes(), "{file} {width}");
-    }
+fn a_frame_is_drawn(rt: HostRuntime) -> Result<(), Failure> {
+    let page = "+---+-----+\n|aaa|cc dd|\n|bbb|ee   |\n+---+-----+\n";
+    check(
+        &rt,
+        "lay 12 t.html p.txt --style frame",
+        TWO,
+        0,
+        Some(page),
+        "lowest height 4 width 11\n",
+    )?;
+    let spanned = "<table><tr><td colspan=2>abc<tr><td>x<td>y</table>";
+    let page = "+---+\n|abc|\n+-+-+\n|x|y|\n+-+-+\n";
+    check(
+        &rt,
+        "lay 10 t.html p.txt --style frame",
+        spanned,
+        0,
+        Some(page),
+        "lowest height 5 width 5\n",
+    )?;
     Ok(())
 }
 
 #[test]
-fn a_file_of_another_form_is_not_built(rt: HostRuntime) -> Result<(), Failure> {
-    let alloc = rt.alloc();
-    for file in [
-        "",
-        "<table><tr><td>a</td><td>b</td></tr></table>",
-        "<table><tr><td>a</td></tr></table>x",
-        "<TABLE></TABLE>",
-        "<table><tr><td>a &amp; b</td></tr></table>",
-        "<table><tr><td>a<b</td></tr></table>",
-        "<table><tr><td>\u{e9}</td></tr></table>",
-    ] {
-        let mut desk = desk(alloc, file.as_bytes(), &[])?;
-        assert_eq!(rt; lay(alloc, "10", &mut desk)?, 11, "{file}");
-        assert_eq!(rt; held(&desk, "p.txt"), None, "{file}");
-        assert_eq!(rt; desk.said(), b"not built\n".as_slice(), "{file}");
-    }
+fn nested_tables_are_laid_out(rt: HostRuntime) -> Result<(), Failure> {
+    let nested = "<table><tr><td><table><tr><td>aaa bbb<td>cc dd ee</table></table>";
+    check(
+        &rt,
+        "lay 12 t.html p.txt",
+        nested,
+        0,
+        Some("aaa  cc dd\nbbb  ee   \n"),
+        "lowest height 2 width 10\n",
+    )?;
+    check(
+        &rt,
+        "lay 9 t.html p.txt",
+        nested,
+        0,
+        Some("aaa  cc\nbbb  dd\n     ee\n"),
+        "lowest height 3 width 7\n",
+    )?;
+    check(
+        &rt,
+        "lay 6 t.html p.txt",
+        nested,
+        4,
+        None,
+        "narrow least 7 width 6\n",
+    )?;
+    check(
+        &rt,
+        "lay 80 t.html p.txt --budget 100000",
+        nested,
+        6,
+        None,
+        "limit: reach 8100000\n",
+    )?;
     Ok(())
 }
 
 #[test]
-fn invalid_arguments_print_the_usage(rt: HostRuntime) -> Result<(), Failure> {
+fn words_break_inside_where_that_is_asked(rt: HostRuntime) -> Result<(), Failure> {
+    let word = "<table><tr><td>abcdef</table>";
+    check(
+        &rt,
+        "lay 4 t.html p.txt --break any",
+        word,
+        0,
+        Some("abc\ndef\n"),
+        "lowest height 2 width 3\n",
+    )?;
+    check(
+        &rt,
+        "lay 1 t.html p.txt --break any",
+        word,
+        0,
+        Some("a\nb\nc\nd\ne\nf\n"),
+        "lowest height 6 width 1\n",
+    )?;
+    check(
+        &rt,
+        "lay 5 t.html p.txt",
+        word,
+        4,
+        None,
+        "narrow least 6 width 5\n",
+    )?;
+    let words = "<table><tr><td>aa bb</table>";
+    check(
+        &rt,
+        "lay 4 t.html p.txt --break any",
+        words,
+        0,
+        Some("aa\nbb\n"),
+        "lowest height 2 width 2\n",
+    )?;
+    check(
+        &rt,
+        "lay 5 t.html p.txt --break any",
+        words,
+        0,
+        Some("aa bb\n"),
+        "lowest height 1 width 5\n",
+    )?;
+    check(
+        &rt,
+        "lay 1 t.html p.txt --break any",
+        "<table><tr><td>\u{4e2d}</table>",
+        4,
+        None,
+        "narrow least 2 width 1\n",
+    )?;
+    Ok(())
+}
+
+#[test]
+fn a_spent_budget_gives_a_bound(rt: HostRuntime) -> Result<(), Failure> {
+    let said = "bounded height 3 lower 2 width 7\n";
+    check(
+        &rt,
+        "lay 12 t.html p.txt --budget 0",
+        TWO,
+        3,
+        Some("aaa  cc\nbbb  dd\n     ee\n"),
+        said,
+    )?;
+    Ok(())
+}
+
+#[test]
+fn an_html_page_is_stored(rt: HostRuntime) -> Result<(), Failure> {
+    let page =
+        "<table>\n<colgroup><col style=\"width:8ch\"></colgroup>\n<tr><td><p>aa bb cc</p></td></tr>\n</table>\n";
+    check(
+        &rt,
+        "lay 8 t.html p.txt --html",
+        "<table><tr><td>aa bb cc</table>",
+        0,
+        Some(page),
+        "lowest height 1 width 8\n",
+    )?;
+    Ok(())
+}
+
+#[test]
+fn certificates_are_stored(rt: HostRuntime) -> Result<(), Failure> {
     let alloc = rt.alloc();
+    let bounded =
+        "tablelayout 1 12 plain 0\nbounded 3 2\nsection 0 12 3 2 0 1\nwidths 3 2\nz0 chain\nend\n";
+    let mut first = desk(alloc, TWO.as_bytes(), &[])?;
+    assert_eq!(rt;
+        lay(alloc, "lay 12 t.html p.txt c.txt --budget 0", &mut first)?,
+        3
+    );
+    assert_eq!(rt; held(&first, "c.txt"), Some(bounded.as_bytes()));
+    let narrow = "tablelayout 1 11 plain 5000\nnarrow 12\nchain 0 0 1\nend\n";
+    let wide = "<table><tr><td>abcdef<td>ghij</table>";
+    let mut second = desk(alloc, wide.as_bytes(), &[])?;
+    assert_eq!(rt; lay(alloc, "lay 11 t.html p.txt c.txt", &mut second)?, 4);
+    assert_eq!(rt; held(&second, "c.txt"), Some(narrow.as_bytes()));
+    assert_eq!(rt; held(&second, "p.txt"), None);
+    Ok(())
+}
+
+#[test]
+fn a_file_that_is_no_document_is_refused(rt: HostRuntime) -> Result<(), Failure> {
+    let line = "lay 10 t.html p.txt";
+    check(
+        &rt,
+        line,
+        "<table><tr><td>a",
+        5,
+        None,
+        "bad input: unclosed table at 16\n",
+    )?;
+    check(
+        &rt,
+        line,
+        "x<table></table>",
+        5,
+        None,
+        "bad input: stray text at 0\n",
+    )?;
+    check(
+        &rt,
+        line,
+        "<table><tr><td><img></table>",
+        5,
+        None,
+        "bad input: unknown element at 15\n",
+    )?;
+    check(&rt, line, "", 5, None, "bad input: no table at 0\n")?;
+    check(
+        &rt,
+        line,
+        "<table><td>",
+        5,
+        None,
+        "bad input: misplaced tag at 7\n",
+    )?;
+    check(
+        &rt,
+        line,
+        "<table><tr><td>&#0;</table>",
+        5,
+        None,
+        "bad input: bad reference at 15\n",
+    )?;
+    check(
+        &rt,
+        line,
+        "<table><tr><td>&foo;</table>",
+        5,
+        None,
+        "bad input: bad reference at 15\n",
+    )?;
+    let overlap = "<table><tr><td>A<td rowspan=2>B<tr><td colspan=2>C</table>";
+    check(
+        &rt,
+        line,
+        overlap,
+        5,
+        None,
+        "bad input: overlap in table 0 at row 1 column 1\n",
+    )?;
+    Ok(())
+}
+
+#[test]
+fn invalid_words_print_the_usage(rt: HostRuntime) -> Result<(), Failure> {
     for line in [
         "",
         "lay",
         "lay 7 t.html",
-        "lay 7 t.html p.txt more",
         "lie 7 t.html p.txt",
         "lay 0 t.html p.txt",
         "lay 501 t.html p.txt",
         "lay 07 t.html p.txt",
-        "lay +7 t.html p.txt",
-        "lay 7x t.html p.txt",
-        "lay  t.html p.txt",
-        "lay 7  p.txt",
-        "lay 7 t.html ",
         "lay 7 t.html t.html",
+        "lay 7 t.html p.txt p.txt",
+        "lay 7 t.html p.txt c.txt d.txt",
+        "lay --html 7 t.html p.txt",
+        "lay 7 t.html p.txt --html --html",
+        "lay 7 t.html p.txt --style",
+        "lay 7 t.html p.txt --style none",
+        "lay 7 t.html p.txt --budget 100001",
+        "lay 7 t.html p.txt --budget 01",
+        "lay 7 t.html p.txt --solver learn",
+        "lay 7 t.html p.txt --break all",
     ] {
-        let mut desk = desk(alloc, ONE_CELL.as_bytes(), &[])?;
-        let arguments = arguments(alloc, line)?;
-        assert_eq!(rt;
-            run(alloc, arguments.as_slice(), &mut desk, &NoGate),
-            2,
-            "{line:?}"
-        );
-        assert_eq!(rt; desk.said(), b"usage\n".as_slice(), "{line:?}");
-        assert_eq!(rt; held(&desk, "p.txt"), None, "{line:?}");
+        check(&rt, line, TWO, 2, None, "usage\n")?;
+    }
+    Ok(())
+}
+
+#[test]
+fn options_come_in_any_order(rt: HostRuntime) -> Result<(), Failure> {
+    let said = "lowest height 2 width 10\n";
+    let page = Some("aaa  cc dd\nbbb  ee   \n");
+    for line in [
+        "lay 12 t.html p.txt c.txt --solver plain --budget 6",
+        "lay 12 t.html p.txt --budget 100000 --break words --solver best --style plain",
+    ] {
+        check(&rt, line, TWO, 0, page, said)?;
     }
     Ok(())
 }
@@ -144,88 +388,28 @@ fn invalid_arguments_print_the_usage(rt: HostRuntime) -> Result<(), Failure> {
 #[test]
 fn a_call_of_the_desk_that_fails_leaves_a_prefix(rt: HostRuntime) -> Result<(), Failure> {
     let alloc = rt.alloc();
+    let whole = Some("aaa  cc dd\nbbb  ee   \n");
     let fail = |call, bytes| Fail { call, bytes };
-    let whole = Some("aa bb\ncc   \n");
-    for (width, first, second, status, page, said) in [
-        ("7", fail(0, 0), None, 7, None, "read fault\n"),
-        ("7", fail(0, 0), Some(fail(1, 4)), 8, None, "read"),
-        ("7", fail(1, 3), None, 8, Some("aa "), ""),
-        ("7", fail(2, 6), None, 8, whole, "lowest"),
-        ("1", fail(1, 0), None, 8, None, ""),
-        ("0", fail(0, 5), None, 8, None, "usage"),
+    for (fail, status, page, certificate, said) in [
+        (fail(0, 0), 7, None, None, "read fault\n"),
+        (fail(1, 4), 8, Some("aaa "), None, ""),
+        (fail(2, 0), 8, whole, Some(0), ""),
+        (fail(3, 6), 8, whole, Some(79), "lowest"),
     ] {
-        let mut fails = List::from_slice(alloc, &[first])?;
-        fails.extend_from_slice(second.as_slice())?;
-        let mut desk = desk(alloc, ONE_CELL.as_bytes(), fails.as_slice())?;
-        assert_eq!(rt; lay(alloc, width, &mut desk)?, status, "{width} {status}");
-        let page = page.map(|page| page.as_bytes());
-        assert_eq!(rt; held(&desk, "p.txt"), page, "{width} {status}");
-        assert_eq!(rt; desk.said(), said.as_bytes(), "{width} {status}");
-        let file = Some(ONE_CELL.as_bytes());
-        assert_eq!(rt; held(&desk, "t.html"), file, "{width} {status}");
-    }
-    Ok(())
-}
-
-#[test]
-fn a_file_that_is_missing_is_a_read_fault(rt: HostRuntime) -> Result<(), Failure> {
-    let alloc = rt.alloc();
-    let mut desk = MemoryDesk::new(alloc, BTreeMap::new(alloc), List::new(alloc));
-    assert_eq!(rt; lay(alloc, "7", &mut desk)?, 7);
-    assert_eq!(rt; desk.said(), b"read fault\n".as_slice());
-    assert_eq!(rt; held(&desk, "p.txt"), None);
-    Ok(())
-}
-
-/// A file of so many rows, filled with spaces after its end to at least `size` bytes.
-fn rows_file(alloc: Global, rows: usize, size: usize) -> Result<List<u8>, AllocError> {
-    let mut file = List::from_slice(alloc, b"<table>")?;
-    for _ in 0..rows {
-        file.extend_from_slice(b"<tr><td>a</td></tr>")?;
-    }
-    file.extend_from_slice(b"</table>")?;
-    for _ in file.len()..size {
-        file.extend_from_slice(b" ")?;
-    }
-    Ok(file)
-}
-
-#[test]
-fn rows_and_bytes_up_to_their_limits_are_laid_out(rt: HostRuntime) -> Result<(), Failure> {
-    let alloc = rt.alloc();
-    for (rows, size, status, said) in [
-        (2000, 0, 0, "lowest height 2000 width 1\n"),
-        (2001, 0, 11, "not built\n"),
-        (1, 1_048_576, 0, "lowest height 1 width 1\n"),
-        (1, 1_048_577, 11, "not built\n"),
-    ] {
-        let file = rows_file(alloc, rows, size)?;
-        let mut desk = desk(alloc, file.as_slice(), &[])?;
-        assert_eq!(rt; lay(alloc, "9", &mut desk)?, status, "{rows} rows");
-        assert_eq!(rt; desk.said(), said.as_bytes(), "{rows} rows");
-    }
-    Ok(())
-}
-
-// Words of two columns with one column between two: 167 take 3 * 167 - 1 = 500 columns, 168 take
-// two lines, of 84 words and 3 * 84 - 1 = 251 columns each. Each line has a line feed more.
-#[test]
-fn a_page_of_500_columns_is_filled(rt: HostRuntime) -> Result<(), Failure> {
-    let alloc = rt.alloc();
-    for (words, bytes, said) in [
-        (167, 501, "lowest height 1 width 500\n"),
-        (168, 504, "lowest height 2 width 251\n"),
-    ] {
-        let mut file = List::from_slice(alloc, b"<table><tr><td>")?;
-        for _ in 0..words {
-            file.extend_from_slice(b" aa")?;
-        }
-        file.extend_from_slice(b"</td></tr></table>")?;
-        let mut desk = desk(alloc, file.as_slice(), &[])?;
-        assert_eq!(rt; lay(alloc, "500", &mut desk)?, 0, "{words} words");
-        assert_eq!(rt; desk.said(), said.as_bytes(), "{words} words");
-        let page = held(&desk, "p.txt").map(|page| page.len());
-        assert_eq!(rt; page, Some(bytes), "{words} words");
+        let mut desk = desk(alloc, TWO.as_bytes(), &[fail])?;
+        assert_eq!(rt;
+            lay(alloc, "lay 12 t.html p.txt c.txt --budget 6", &mut desk)?,
+            status,
+            "{said}"
+        );
+        assert_eq!(rt;
+            held(&desk, "p.txt"),
+            page.map(|page| page.as_bytes()),
+            "{status} {said}"
+        );
+        let size = held(&desk, "c.txt").map(|file| file.len());
+        assert_eq!(rt; size.is_some(), certificate.is_some(), "{status} {said}");
+        assert_eq!(rt; desk.said(), said.as_bytes(), "{status} {said}");
     }
     Ok(())
 }

@@ -1,27 +1,10 @@
--- The number with which the argument begins is the only one that it can be.
-use Rattle.std.proofs.Common.{◌≡◌, ℕ, List, length, decimal, ap, sym, subst, ◌∙◌, arith}
-use Rattle.tl_base.specs.Number.{StandsAt}
-use Rattle.tl_base.proofs.Decimals.{decimal_stands, stands_once}
-use Rattle.tl_program.specs.Command.{IsWidth}
+-- The word is that of 0, and of no other number.
+use Rattle.std.proofs.Common.{◌≡◌, sym, ◌∙◌, arith}
+use Rattle.std.proofs.lemmas.Fmt.{decimal_injective}
 use Rattle.tl_program.proofs.command.page_width.Goals as goal
-use Rattle.tl_program.proofs.command.page_width.Goals.{then-past-argument-via-then-past-argument, then-past-argument-via-else-past-argument+then-width-lt1, then-past-argument-via-else-past-argument+else-width-lt1+then-width-from}
 
--- an argument begins with its width
-width_stands : (argument bytes : List ℕ) (width : ℕ) → bytes ≡ argument → IsWidth argument width → StandsAt bytes 0 width
-width_stands argument bytes width same is =
-    subst (λ (bs : List ℕ). StandsAt bs 0 width) (sym (same ∙ is.spelled)) (decimal_stands width (omega (arith, is.most)))
-
-pub returns-in_err-width-clause-none : goal.returns-in_err-width-clause-none
-returns-in_err-width-clause-none c = rw c.from_residual.ensures (λ width is.
-    c.in_err-width.ensures.refused width (width_stands c.args.argument.now c.as_bytes.result.now width c.as_bytes.ensures.value is))
-
-pub returns-then-past-argument-clause-none : goal.returns-then-past-argument-clause-none
-returns-then-past-argument-clause-none c = λ width is.
-    let same : width ≡ c.in_ok-width.width = stands_once c.as_bytes.result.now 0 width c.in_ok-width.width
-    (width_stands c.args.argument.now c.as_bytes.result.now width c.as_bytes.ensures.value is) c.in_ok-width.ensures.read in
-    let long : length c.args.argument.now ≡ length (decimal c.in_ok-width.width) = ap length is.spelled ∙ ap (λ n. length (decimal n)) same in
-    elim c.then-past-argument.branch [
-      | then-past-argument-via-then-past-argument w ↦ omega (arith, long, c.in_ok-width.ensures.past)
-      | then-past-argument-via-else-past-argument+then-width-lt1 w ↦ omega (arith, same, is.least)
-      | then-past-argument-via-else-past-argument+else-width-lt1+then-width-from w ↦ omega (arith, same, is.most)
-    ]
+pub returns-then-width-lt1-clause-none : goal.returns-then-width-lt1-clause-none
+returns-then-width-lt1-clause-none c = λ width least most spelled.
+    let same : width ≡ c.in_ok-width.width = decimal_injective width c.in_ok-width.width (omega (arith, most))
+    (omega (arith, c.in_ok-width.ensures.number.1)) (sym spelled ∙ c.in_ok-width.ensures.number.0) in
+    omega (arith, same, least, c.if-width-lt1.true)

@@ -1,82 +1,103 @@
--- What was loaded is the file, or its first bytes; what holds of these bytes holds of the whole file.
-use Rattle.std.proofs.Common.{inl, inr, refl, ◌∙◌}
-use Rattle.std.specs.Prelude.{string_bytes}
-use Rattle.tl_program.specs.declared.status.Status.TheVariants.{Narrow, NotBuilt}
-use Rattle.tl_program.specs.Outcome.{not_built_text}
-use Rattle.tl_program.specs.Run.{RefusesNarrow, RefusesForm}
-use Rattle.tl_program.proofs.Ends.{ends_memory, ends_narrow, ends_not_built, printed_ends, delivered_ends, content_of, lowest_of_content, narrow_of_content, other_of_content}
+-- What becomes of the command's file.
+use Rattle.std.proofs.Common.{inl, inr, [], Err, Bool, refl, sym, ap, subst, ◌∙◌, List, ℕ}
+use Rattle.std.specs.Prelude.{option_map}
+use Rattle.tl_base.specs.Desk.{Rose}
+use Rattle.tl_program.specs.declared.report.Report.TheVariants as reports
+use Rattle.tl_program.specs.Change.{Change}
+use Rattle.tl_program.specs.Command.{Command}
+use Rattle.tl_program.specs.Headline.{Becomes}
+use Rattle.tl_program.specs.Outcomes.{Outcome, asked, IsAnswerOf, outcome_of}
+use Rattle.tl_program.specs.Tasks.{task_of}
+use Rattle.tl_program.proofs.Ends.{content_of, some_mapped, answer_of_content, delivered_from, delivered_ends, printed_last}
 use Rattle.tl_program.proofs.run.lay_file.Goals as goal
 
-pub returns-in-Err-Memory : goal.returns-in-Err-Memory
-returns-in-Err-Memory g c = record {
-  ends = λ arguments command. ends_memory arguments _ (c.in-Err-Memory.ensures.said_stays, inl c.in-Err-Memory.ensures.files_stay);
-}
-
-pub returns : goal.returns
-returns g c = record {
-  ends = λ arguments command. ends_memory arguments _ (c.in-Ok.ensures.said_stays, inl c.in-Ok.ensures.files_stay);
-}
-
-pub returns-in-Ok-Page : goal.returns-in-Ok-Page
-returns-in-Ok-Page g c = record {
-  ends = λ arguments command.
-      let content = content_of (g.D.Desk.files c.args.desk.now) c.args.lay.input.now c.in-Ok.bytes c.in-Ok.ensures.short c.in-Ok.ensures.read in
-      let lowest = rw (c.in-Ok-Page.field-0-is, c.as_slice.ensures) at c.in-Ok-Page.ensures in
-      let delivered = rw (
-        c.in-Ok.ensures.files_stay,
-        c.in-Ok.ensures.said_stays,
-        c.in-Ok.ensures.write_count,
-        c.as_slice-in-Ok-Page.ensures,
-        c.as_bytes.ensures.value,
-        c.as_str.ensures.value,
-      ) at c.deliver.ensures.delivered in
-      delivered_ends arguments _ c.deliver.result c.args.lay.page.now c.in-Ok-Page.page (string_bytes c.in-Ok-Page.summary) delivered
-      (record {
-        width = c.args.lay.width;
-        content = content.0;
-        read = record { input = c.args.lay.input.now; command = command; read = content.1 };
-        lowest = lowest_of_content c.args.lay.width content.0 c.in-Ok.bytes c.in-Ok-Page.page (string_bytes c.in-Ok-Page.summary) content.2 lowest;
-      });
-}
-
-pub returns-in-Ok-Narrow : goal.returns-in-Ok-Narrow
-returns-in-Ok-Narrow g c = record {
-  ends = λ arguments command.
-      let content = content_of (g.D.Desk.files c.args.desk.now) c.args.lay.input.now c.in-Ok.bytes c.in-Ok.ensures.short c.in-Ok.ensures.read in
-      let narrow = rw (c.in-Ok-Narrow.field-0-is, c.as_slice.ensures) at c.in-Ok-Narrow.ensures in
-      let printed = rw (
-        c.in-Ok.ensures.said_stays,
-        c.in-Ok.ensures.write_count,
-        c.as_bytes-in-Ok-Narrow.ensures.value,
-        c.as_str-in-Ok-Narrow.ensures.value,
-      ) at c.print_message-in-Ok-Narrow.ensures.printed in
-      let refuses : RefusesNarrow arguments (g.D.Desk.files c.args.desk.now) (string_bytes c.in-Ok-Narrow.summary) = (
-        c.args.lay.width,
-        c.args.lay.page.now,
-        content.0,
-        record { input = c.args.lay.input.now; command = command; read = content.1 },
-        narrow_of_content c.args.lay.width content.0 c.in-Ok.bytes (string_bytes c.in-Ok-Narrow.summary) content.2 narrow,
+pub returns-in-Ok-answer_file : goal.returns-in-Ok-answer_file
+returns-in-Ok-answer_file g c = record {
+  ends = λ words is.
+      let command : Command = record {
+        width = c.args.lay.now.width;
+        input = c.args.lay.now.input.now;
+        page = c.args.lay.now.page.now;
+        certificate = option_map (λ name. name.now) c.args.lay.now.certificate;
+        options = c.args.lay.now.options;
+      } in
+      let change : Change = record {
+        files = g.D.Desk.files c.args.desk.now;
+        files_after = g.D.Desk.files c.deliver.new.desk;
+        said = g.D.Desk.said c.args.desk.now;
+        said_after = g.D.Desk.said c.deliver.new.desk;
+        load_faults = g.D.Desk.load_faults c.args.desk.now;
+        load_faults_after = g.D.Desk.load_faults c.deliver.new.desk;
+        write_faults = g.D.Desk.write_faults c.args.desk.now;
+        write_faults_after = g.D.Desk.write_faults c.deliver.new.desk;
+      } in
+      let other : Change = record {
+        files = g.D.Desk.files c.load.new.self;
+        files_after = g.D.Desk.files c.deliver.new.desk;
+        said = g.D.Desk.said c.load.new.self;
+        said_after = g.D.Desk.said c.deliver.new.desk;
+        load_faults = g.D.Desk.load_faults c.load.new.self;
+        load_faults_after = g.D.Desk.load_faults c.deliver.new.desk;
+        write_faults = g.D.Desk.write_faults c.load.new.self;
+        write_faults_after = g.D.Desk.write_faults c.deliver.new.desk;
+      } in
+      let answer = c.in-Ok-answer_file.answer in
+      let content = content_of (g.D.Desk.files c.args.desk.now) command.input c.in-Ok.bytes c.in-Ok.ensures.short c.in-Ok.ensures.read in
+      let becomes : Becomes words change (outcome_of command answer) = inr (
+        command,
+        is,
+        inr (record {
+          bytes = content.0;
+          held = content.1;
+          answer = answer;
+          answers = answer_of_content (asked command) content.0 c.in-Ok.bytes answer content.2
+              (subst (λ (bytes : List ℕ). IsAnswerOf (asked command) bytes answer) c.as_slice.ensures
+              (subst (λ (certified : Bool). IsAnswerOf (task_of command.width command.options certified) c.as_slice.result.now answer)
+              (sym (some_mapped (λ name. name.now) c.args.lay.now.certificate)) c.in-Ok-answer_file.ensures));
+          so = refl;
+        }),
       ) in
-      printed_ends arguments _ Narrow c.print_message-in-Ok-Narrow.result (string_bytes c.in-Ok-Narrow.summary) printed
-      (c.print_message-in-Ok-Narrow.ensures.files_stay ∙ c.in-Ok.ensures.files_stay) (inr (inr (inl refuses)))
-      (ends_narrow arguments _ (string_bytes c.in-Ok-Narrow.summary) refuses);
+      delivered_ends words change c.deliver.result (outcome_of command answer) becomes
+      (delivered_from c.deliver.result change other (outcome_of command answer) c.load.ensures.files_stay refl c.load.ensures.said_stays refl
+      c.load.ensures.write_count refl c.deliver.ensures.delivered);
 }
 
-pub returns-in-Ok-OtherForm : goal.returns-in-Ok-OtherForm
-returns-in-Ok-OtherForm g c = record {
-  ends = λ arguments command.
-      let content = content_of (g.D.Desk.files c.args.desk.now) c.args.lay.input.now c.in-Ok.bytes c.in-Ok.ensures.short c.in-Ok.ensures.read in
-      let other = rw (c.in-Ok-OtherForm.field-0-is, c.as_slice.ensures) at c.in-Ok-OtherForm.ensures in
-      let printed = rw (c.in-Ok.ensures.said_stays, c.in-Ok.ensures.write_count) at c.print_message-in-Ok-OtherForm.ensures.printed in
-      let refuses : RefusesForm arguments (g.D.Desk.files c.args.desk.now) not_built_text = (
-        c.args.lay.width,
-        c.args.lay.page.now,
-        content.0,
-        record { input = c.args.lay.input.now; command = command; read = content.1 },
-        other_of_content content.0 c.in-Ok.bytes content.2 other,
-        refl,
-      ) in
-      printed_ends arguments _ NotBuilt c.print_message-in-Ok-OtherForm.result not_built_text printed
-      (c.print_message-in-Ok-OtherForm.ensures.files_stay ∙ c.in-Ok.ensures.files_stay) (inr (inr (inr refuses)))
-      (ends_not_built arguments _ not_built_text refuses);
+pub returns-in-Err-Failed : goal.returns-in-Err-Failed
+returns-in-Err-Failed g c = record {
+  ends = λ words is.
+      let command : Command = record {
+        width = c.args.lay.now.width;
+        input = c.args.lay.now.input.now;
+        page = c.args.lay.now.page.now;
+        certificate = option_map (λ name. name.now) c.args.lay.now.certificate;
+        options = c.args.lay.now.options;
+      } in
+      let change : Change = record {
+        files = g.D.Desk.files c.args.desk.now;
+        files_after = g.D.Desk.files c.print.new.desk;
+        said = g.D.Desk.said c.args.desk.now;
+        said_after = g.D.Desk.said c.print.new.desk;
+        load_faults = g.D.Desk.load_faults c.args.desk.now;
+        load_faults_after = g.D.Desk.load_faults c.print.new.desk;
+        write_faults = g.D.Desk.write_faults c.args.desk.now;
+        write_faults_after = g.D.Desk.write_faults c.print.new.desk;
+      } in
+      let third : Change = record {
+        files = g.D.Desk.files c.load.new.self;
+        files_after = g.D.Desk.files c.print.new.desk;
+        said = g.D.Desk.said c.load.new.self;
+        said_after = g.D.Desk.said c.print.new.desk;
+        load_faults = g.D.Desk.load_faults c.load.new.self;
+        load_faults_after = g.D.Desk.load_faults c.print.new.desk;
+        write_faults = g.D.Desk.write_faults c.load.new.self;
+        write_faults_after = g.D.Desk.write_faults c.print.new.desk;
+      } in
+      let outcome : Outcome = record { report = reports.ReadFault; stores = [] } in
+      let rose : Rose change.load_faults change.load_faults_after =
+      subst (Rose (g.D.Desk.load_faults c.args.desk.now)) (sym c.print.ensures.loads_stay) (c.in-Err-Failed.ensures.failed
+      (ap Err c.in-Err-Failed.field-0-is)) in
+      let becomes : Becomes words change outcome = inr (command, is, inl (rose, refl)) in
+      delivered_ends words change c.print.result outcome becomes
+      (printed_last c.print.result change third outcome (c.print.ensures.files_stay ∙ c.load.ensures.files_stay) c.load.ensures.write_count refl
+      c.load.ensures.said_stays refl c.print.ensures.printed);
 }

@@ -1,23 +1,37 @@
--- The arguments are the command, or they are invalid.
-use Rattle.std.proofs.Common.{inl, refl, List, ℕ, map}
-use Rattle.std.specs.Prelude.{string_bytes}
-use Rattle.tl_program.specs.declared.status.Status.TheVariants.{Usage}
-use Rattle.tl_program.specs.Outcome.{usage_text}
-use Rattle.tl_program.specs.Run.{RefusesUsage}
-use Rattle.tl_program.proofs.Ends.{ends_usage, printed_ends}
+-- A run is complete by how it ends.
+use Rattle.std.proofs.Common.{sym, subst, ℕ, map, string_bytes}
+use Rattle.tl_program.specs.Change.{Change}
+use Rattle.tl_program.specs.Messages.{number_of}
+use Rattle.tl_program.specs.Headline.{IsComplete, IsRefusedSo}
+use Rattle.tl_program.proofs.Ends.{complete, refused_so}
 use Rattle.tl_program.proofs.run.run.Goals as goal
 
-pub returns-in-None : goal.returns-in-None
-returns-in-None g c =
-    let arguments : List (List ℕ) = map string_bytes c.args.arguments.now in
-    let refuses : RefusesUsage arguments usage_text = (c.in-None.ensures.usage, refl) in
-    record {
-      ends = rw c.number.ensures (printed_ends arguments _ Usage c.print_message.result usage_text c.print_message.ensures.printed
-          c.print_message.ensures.files_stay
-          (inl refuses) (ends_usage arguments _ usage_text refuses));
-    }
+pub returns-clause-complete : goal.returns-clause-complete
+returns-clause-complete g c =
+    let change : Change = record {
+      files = g.D.Desk.files c.args.desk.now;
+      files_after = g.D.Desk.files c.carry_out.new.desk;
+      said = g.D.Desk.said c.args.desk.now;
+      said_after = g.D.Desk.said c.carry_out.new.desk;
+      load_faults = g.D.Desk.load_faults c.args.desk.now;
+      load_faults_after = g.D.Desk.load_faults c.carry_out.new.desk;
+      write_faults = g.D.Desk.write_faults c.args.desk.now;
+      write_faults_after = g.D.Desk.write_faults c.carry_out.new.desk;
+    } in
+    subst (λ (n : ℕ). IsComplete (map string_bytes c.args.words.now) change n) (sym c.number.ensures)
+    (complete (map string_bytes c.args.words.now) change (number_of c.carry_out.result) c.carry_out.ensures.ends)
 
-pub returns-in-Some : goal.returns-in-Some
-returns-in-Some g c = record {
-  ends = rw c.number-in-Some.ensures (c.lay_file.ensures.ends (map string_bytes c.args.arguments.now) c.in-Some.ensures.command);
-}
+pub returns-clause-refused : goal.returns-clause-refused
+returns-clause-refused g c =
+    let change : Change = record {
+      files = g.D.Desk.files c.args.desk.now;
+      files_after = g.D.Desk.files c.carry_out.new.desk;
+      said = g.D.Desk.said c.args.desk.now;
+      said_after = g.D.Desk.said c.carry_out.new.desk;
+      load_faults = g.D.Desk.load_faults c.args.desk.now;
+      load_faults_after = g.D.Desk.load_faults c.carry_out.new.desk;
+      write_faults = g.D.Desk.write_faults c.args.desk.now;
+      write_faults_after = g.D.Desk.write_faults c.carry_out.new.desk;
+    } in
+    subst (λ (n : ℕ). IsRefusedSo (map string_bytes c.args.words.now) change n) (sym c.number.ensures)
+    (refused_so (map string_bytes c.args.words.now) change (number_of c.carry_out.result) c.carry_out.ensures.ends)

@@ -1,0 +1,466 @@
+-- That the sections of a table, with the claim of the last, are a valid certificate, and what is answered by it.
+use Rattle.std.proofs.Common.{◌≡◌, ◌≢◌, inl, inr, ℕ, zero, suc, ◌-◌, ◌<◌, ◌≤◌, Bool}
+use Rattle.std.proofs.Common.{true, false, List, [], ◌∷◌, ◌++◌, length, get_or, take, codes, Option, Some}
+use Rattle.std.proofs.Common.{None, refl, sym, ap, subst, ◌∙◌, arith}
+use Rattle.std.specs.Prelude.{IsSomeAnd, ◌==◌, if◌then◌else◌}
+use Rattle.std.specs.List.{AllByRecursion, All, Any, last_or, flat_map}
+use Rattle.std.proofs.lemmas.List.{take_all}
+use Rattle.std.proofs.lemmas.Bool.{cases_lt, eqb-true, eq-eqb}
+use Rattle.std.proofs.lemmas.Bool.Decides.{eqb_tells}
+use Rattle.tl_base.specs.declared.limits.TheConstants.{MAX_PAGE_WIDTH, MAX_BUDGET, MAX_COLUMNS, MAX_HEIGHT}
+use Rattle.tl_base.specs.declared.style.Style.{Style}
+use Rattle.tl_problem.specs.Problem.{ProblemModel}
+use Rattle.tl_solve.specs.declared.outcome.Outcome.{Outcome}
+use Rattle.tl_cert.specs.declared.certificate.Certificate.{Certificate}
+use Rattle.tl_cert.specs.declared.certificate.Claim.{Claim}
+use Rattle.tl_cert.specs.declared.certificate.Claim.TheVariants as claims
+use Rattle.tl_cert.specs.declared.section.Section.{Section}
+use Rattle.tl_cert.specs.Pieces.{Piece, AllWithin, word, field}
+use Rattle.tl_cert.specs.Text.{IsWritable, HasProof, HasSections, IsSectionShaped, IsSectionWritable}
+use Rattle.tl_cert.specs.Text.{IsChainWritable, cert_pieces, claim_pieces, section_pieces, section_head}
+use Rattle.tl_cert.specs.Text.{chain_pieces}
+use Rattle.tl_cert.specs.Text.{style_word, version_word, has_area, space, line_feed, spaced, cut_pieces, line_pieces}
+use Rattle.tl_cert.proofs.reading.Spellings.{within-first}
+use Rattle.tl_form.specs.declared.cell.Table.{Table}
+use Rattle.tl_form.specs.declared.layout.Layout.{Layout, out-Layout}
+use Rattle.tl_form.specs.ClosedLaws.{IsClosed, IsWideDocument, BudgetCloses}
+use Rattle.tl_form.specs.OpenLaws.{IsSpent, OpenSpends}
+use Rattle.tl_problem.specs.declared.chain.Chain.{Chain}
+use Rattle.tl_form.specs.ChainRanges.{HasFewCells, ChainsAreWritable}
+use Rattle.tl_form.specs.Chains.{IsChain, IsHeaviestChain}
+use Rattle.tl_form.proofs.LinkLemmas.{IsLeastWidth-unique}
+use Rattle.tl_form.specs.Layouts.{Fits, FitsWithin, total_width}
+use Rattle.tl_form.specs.Named.{IsNamed}
+use Rattle.tl_form.specs.Problems.{IsCountAll}
+use Rattle.tl_form.specs.Sound.{IsSound, IsSoundWithin}
+use Rattle.tl_form.specs.ValidLaws.{LowestIsLeast, BoundedIsBetween}
+use Rattle.tl_form.specs.Expected.{Document, IsDocumentOf, own_number, least_of}
+use Rattle.tl_form.specs.Least.{IsLeastWidth}
+use Rattle.tl_form.specs.Subjects.{meant}
+use Rattle.tl_form.specs.declared.subject.Subject.{Subject}
+use Rattle.tl_form.specs.Valid.{IsNarrow, AreGoodBelow, AreWhole, HasNumbers, EndsWith, IsShown, IsValid}
+use Rattle.tl_form.specs.ValidLaws.{HasHeight}
+use Rattle.tl_form.proofs.ValidLaws.{last_or-take}
+use Rattle.tl_nested.specs.Searched.{AreSectionsOf, AreWritable}
+use Rattle.tl_program.specs.declared.answer.Answer.{Answer}
+use Rattle.tl_program.specs.declared.refusal.Refusal.{Refusal}
+use Rattle.tl_program.specs.declared.report.Report.TheVariants as reports
+use Rattle.tl_program.specs.declared.task.Task.{Task}
+use Rattle.tl_program.specs.Answers.{budget_in, certificate_file, IsPageFile, IsOutcomeOf, IsLaid, IsAnswerBy}
+use Rattle.tl_program.specs.inner.Claims.{section_claim, claim_of_last, claim_of, report_of}
+
+-- ---- the last section
+
+-- a list that is not empty has a last item
+pub last_found : {X : Type 0} (xs : List X) (d : X) → 0 < length xs → last_or None xs ≡ Some (get_or xs (length xs - 1) d)
+last_found xs d some =
+    let all : take (suc (length xs - 1)) xs ≡ xs = take_all (suc (length xs - 1)) xs (omega (arith, some)) in
+    sym (ap (last_or None) all) ∙ last_or-take None xs (length xs - 1) d (omega (arith, some))
+
+-- what a test of a section's numbers claims
+abbrev claim_by : Section → Bool → Claim
+claim_by section same = if same then claims.Lowest section.height else claims.Bounded section.height section.lower
+
+-- a section's claim is not that the page is too narrow, and has its numbers
+by_wide : (section : Section) (same : Bool) → IsNarrow (claim_by section same) → ⊥
+by_wide section true narrow = narrow
+by_wide section false narrow = narrow
+
+by_numbers : (section : Section) (same : Bool) → (section.lower == section.height) ≡ same → section.lower ≤ section.height →
+    HasNumbers (claim_by section same) section
+by_numbers section true is ordered = (refl, eqb-true section.lower section.height is)
+by_numbers section false is ordered = (
+  refl,
+  refl,
+  elim (eqb_tells section.lower section.height) [
+    | inl same ↦ absurd (differ (sym is ∙ same.0))
+    | inr apart ↦ less section.lower section.height ordered apart.1
+  ],
+) where
+  differ : false ≡ true → ⊥
+  differ e = absurd cc
+
+  less : (a b : ℕ) → a ≤ b → a ≢ b → a < b
+  less a b le ne = omega (arith, le, ne)
+
+pub claim_is_wide : (sections : List Section) → IsNarrow (claim_of sections) → ⊥
+claim_is_wide sections = by_last (last_or None sections) where
+  by_last : (last : Option Section) → IsNarrow (claim_of_last last) → ⊥
+  by_last None narrow = narrow
+  by_last (Some section) narrow = by_wide section (section.lower == section.height) narrow
+
+-- ---- validity
+
+-- what shows a claim that the page is wide enough
+shown_by : (document : Document) (budget : ℕ) (certificate : Certificate) (claim : Claim) → (IsNarrow claim → ⊥) →
+    AreWhole document budget certificate.sections → EndsWith claim certificate.sections → IsShown document budget certificate claim
+shown_by document budget certificate (claims.Lowest height) wide whole ends = (whole, ends)
+shown_by document budget certificate (claims.Bounded height lower) wide whole ends = (whole, ends)
+shown_by document budget certificate (claims.Narrow least) wide whole ends = absurd (wide tt)
+
+-- the certificate of sections
+abbrev pub certificate_of : ℕ → Style → ℕ → List Section → Certificate
+certificate_of page style budget sections =
+    record { width = page; style = style; budget = budget; claim = claim_of sections; chains = []; sections = sections }
+
+-- the document's own least width
+pub own_least : (table : Table) (style : Style) (page : ℕ) (document : Document) → IsDocumentOf table style page document →
+    IsLeastWidth table style (least_of document (own_number document))
+own_least table style page document of =
+    subst (λ (t : Table). IsLeastWidth t style (least_of document (own_number document))) of.same
+    (subst (λ (s : Style). IsLeastWidth document.table s (least_of document (own_number document))) of.drawn (of.least document.table (inl refl)))
+
+-- the first item of a list that is not empty
+pub first_of : {X : Type 0} (xs : List X) → 0 < length xs → X
+first_of [] some = absurd (omega (arith, some))
+first_of (x ∷ xs) some = x
+
+-- what a certificate claims of a page that is wide enough is the height of its last section
+claim_height : (section : Section) (same : Bool) → HasHeight (claim_by section same) section.height
+claim_height section true = refl
+claim_height section false = refl
+
+-- ---- writing
+
+joined : (ps qs : List Piece) → AllWithin ps → AllWithin qs → AllWithin (ps ++ qs)
+joined [] qs first second = second
+joined (p ∷ ps) qs first second = (first.0, joined ps qs first.1 second)
+
+words : (cs : List ℕ) → AllWithin (word cs)
+words [] = tt
+words (c ∷ cs) = (tt, words cs)
+
+each_within : {X : Type 0} (f : X → List Piece) (xs : List X) → AllByRecursion (λ x. AllWithin (f x)) xs → AllWithin (flat_map f xs)
+each_within f [] all = tt
+each_within f (x ∷ xs) all = joined (f x) (flat_map f xs) all.0 (each_within f xs all.1)
+
+claim_within : (claim : Claim) → ((height : ℕ) → claim ≡ claims.Lowest height → height ≤ MAX_HEIGHT) →
+    ((height lower : ℕ) → claim ≡ claims.Bounded height lower → (height ≤ MAX_HEIGHT) × (lower ≤ MAX_HEIGHT)) →
+    ((least : ℕ) → claim ≡ claims.Narrow least → least ≤ MAX_HEIGHT) → AllWithin (claim_pieces claim)
+claim_within (claims.Lowest height) lowest bounded narrow =
+    joined (word (codes "lowest ")) (field 0 MAX_HEIGHT height line_feed) (words (codes "lowest ")) ((omega arith, lowest height refl), (tt, tt))
+claim_within (claims.Bounded height lower) lowest bounded narrow =
+    joined (word (codes "bounded ")) (field 0 MAX_HEIGHT height space ++ field 0 MAX_HEIGHT lower line_feed) (words (codes "bounded "))
+    ((omega arith, (bounded height lower refl).0), (tt, ((omega arith, (bounded height lower refl).1), (tt, tt))))
+claim_within (claims.Narrow least) lowest bounded narrow =
+    joined (word (codes "narrow ")) (field 0 MAX_HEIGHT least line_feed) (words (codes "narrow ")) ((omega arith, narrow least refl), (tt, tt))
+
+-- the pieces of a certificate are within their ranges where its parts are
+pub pieces_within : (c : Certificate) → 1 ≤ c.width → c.width ≤ MAX_PAGE_WIDTH → c.budget ≤ MAX_BUDGET → AllWithin (claim_pieces c.claim) →
+    AllByRecursion (λ chain. AllWithin (chain_pieces chain)) c.chains → AllByRecursion (λ section. AllWithin (section_pieces section)) c.sections →
+    AllWithin (cert_pieces c)
+pieces_within c more less cuts claim chains sections =
+    let tail = joined (flat_map section_pieces c.sections) (word (codes "end\n")) (each_within section_pieces c.sections sections) (words (codes "end\n")) in
+    let body = joined (flat_map chain_pieces c.chains) _ (each_within chain_pieces c.chains chains) tail in
+    let claimed = joined (claim_pieces c.claim) _ claim body in
+    let budgeted = joined (field 0 MAX_BUDGET c.budget line_feed) _ ((omega arith, cuts), (tt, tt)) claimed in
+    let styled = joined (word (style_word c.style)) _ (words (style_word c.style)) budgeted in
+    let wide = joined (field 1 MAX_PAGE_WIDTH c.width space) _ ((more, less), (tt, tt)) styled in
+    let versioned = joined (word (version_word (has_area c.sections))) _ (words (version_word (has_area c.sections))) wide in
+    joined (word (codes "tablelayout ")) _ (words (codes "tablelayout ")) versioned
+
+shaped_wide : (claim : Claim) (c : Certificate) → (IsNarrow claim → ⊥) → HasSections c → HasProof claim c
+shaped_wide (claims.Lowest height) c wide has = has
+shaped_wide (claims.Bounded height lower) c wide has = has
+shaped_wide (claims.Narrow least) c wide has = absurd (wide tt)
+
+-- what follows the head of a section
+abbrev rest_of : Section → List Piece
+rest_of section = word (codes "widths") ++ (flat_map (spaced MAX_PAGE_WIDTH) section.widths ++ (word (codes "\n")
+    ++ (flat_map cut_pieces section.trace ++ flat_map line_pieces section.log)))
+
+-- a section that can be written has a height and a lower bound in their range
+section_numbers : (section : Section) → IsSectionWritable section → (section.height ≤ MAX_HEIGHT) × (section.lower ≤ MAX_HEIGHT)
+section_numbers section can =
+    let head : AllWithin (section_head section) = within-first (section_head section) (rest_of section) can.1 in
+    let table = head.1.1.1.1.1.1.1.1 in
+    (table.1.1.1.1.0.1, table.1.1.1.1.1.1.0.1)
+
+section_claims : (section : Section) (same : Bool) → (section.height ≤ MAX_HEIGHT) × (section.lower ≤ MAX_HEIGHT) →
+    AllWithin (claim_pieces (claim_by section same))
+section_claims section true numbers =
+    joined (word (codes "lowest ")) (field 0 MAX_HEIGHT section.height line_feed) (words (codes "lowest ")) ((omega arith, numbers.0), (tt, tt))
+section_claims section false numbers =
+    joined (word (codes "bounded ")) (field 0 MAX_HEIGHT section.height space ++ field 0 MAX_HEIGHT section.lower line_feed) (words (codes "bounded "))
+    ((omega arith, numbers.0), (tt, ((omega arith, numbers.1), (tt, tt))))
+
+all_at : {X : Type 0} (P : X → Type 0) (xs : List X) → AllByRecursion P xs → (i : ℕ) (d : X) → i < length xs → P (get_or xs i d)
+all_at P [] all i d within = absurd (omega (arith, within))
+all_at P (x ∷ xs) all zero d within = all.0
+all_at P (x ∷ xs) all (suc i) d within = all_at P xs all.1 i d (omega (arith, within))
+
+map_all : {X : Type 0} (P Q : X → Type 0) → ((x : X) → P x → Q x) → (xs : List X) → AllByRecursion P xs → AllByRecursion Q xs
+map_all P Q f [] all = tt
+map_all P Q f (x ∷ xs) all = (f x all.0, map_all P Q f xs all.1)
+
+-- ---- the sections of a page
+
+some_same : {X : Type 0} (x y : X) → Some x ≡ Some y → x ≡ y
+some_same x y e = cc
+
+-- the last section, as the claim sees it
+pub record IsLast (sections : List Section) (section : Section) : Type 0 where
+  pub found : last_or None sections ≡ Some section
+  pub at : (d : Section) → get_or sections (length sections - 1) d ≡ section
+
+abbrev pub last_of : (sections : List Section) → 0 < length sections → Section
+last_of sections some = get_or sections (length sections - 1) (first_of sections some)
+
+pub last_is : (sections : List Section) (some : 0 < length sections) → IsLast sections (last_of sections some)
+last_is sections some =
+    let found : last_or None sections ≡ Some (last_of sections some) = last_found sections (first_of sections some) some in
+    record { found = found; at = λ d. some_same _ _ (sym (last_found sections d some) ∙ found) }
+
+module _ (given : ProblemModel → Outcome → Type 0) (table : Table) (style : Style) (page budget : ℕ) (sections : List Section)
+    (are : AreSectionsOf given table style page budget sections) (can : AreWritable sections)
+    (wide : (least : ℕ) → IsLeastWidth table style least → least ≤ page) where
+  abbrev pub some : 0 < length sections
+  some = can.some
+
+  pub whole : AreWhole are.document budget sections
+  whole = record { good = λ i d within. (are.each i d within).good; none = are.none }
+
+  abbrev pub last_section : Section
+  last_section = last_of sections can.some
+
+  last : IsLast sections last_section
+  last = last_is sections can.some
+
+  claim_same : claim_of sections ≡ section_claim last_section
+  claim_same = ap claim_of_last last.found
+
+  ordered : last_section.lower ≤ last_section.height
+  ordered = subst (λ (s : Section). s.lower ≤ s.height) (last.at last_section)
+      ((are.each (length sections - 1) last_section (omega (arith, some))).good.traced.ordered)
+
+  ends : EndsWith (claim_of sections) sections
+  ends = subst (λ (found : Option Section). IsSomeAnd found (HasNumbers (claim_of_last found))) (sym last.found)
+      (by_numbers last_section (last_section.lower == last_section.height) refl ordered)
+
+  pub high : HasHeight (claim_of sections) last_section.height
+  high = subst (λ (claim : Claim). HasHeight claim last_section.height) (sym claim_same)
+      (claim_height last_section (last_section.lower == last_section.height))
+
+  numbers : (last_section.height ≤ MAX_HEIGHT) × (last_section.lower ≤ MAX_HEIGHT)
+  numbers = section_numbers last_section (subst IsSectionWritable (last.at last_section)
+      (all_at IsSectionWritable sections can.each (length sections - 1) last_section (omega (arith, some))))
+
+  pub claimed_height : (height : ℕ) × (height ≤ MAX_HEIGHT) × HasHeight (claim_of sections) height
+  claimed_height = (last_section.height, numbers.0, high)
+
+  pub valid : IsValid table style page budget (certificate_of page style budget sections)
+  valid = (
+    are.document,
+    are.of,
+    record {
+      claim = record {
+        wide = sym are.of.wide;
+        drawn = sym are.of.drawn;
+        cuts = refl;
+        kind = (
+          λ narrow. absurd (claim_is_wide sections narrow),
+          λ less.
+              absurd (too_wide are.document.page (least_of are.document (own_number are.document)) less
+              (subst (λ (w : ℕ). least_of are.document (own_number are.document) ≤ w) (sym are.of.wide)
+              (wide (least_of are.document (own_number are.document)) (own_least table style page are.document are.of)))),
+        );
+      };
+      shown = shown_by are.document budget (certificate_of page style budget sections) (claim_of sections) (claim_is_wide sections) whole ends;
+    },
+  ) where
+    too_wide : (a b : ℕ) → a < b → b ≤ a → ⊥
+    too_wide a b less more = omega (arith, less, more)
+
+  pub writable : 1 ≤ page → page ≤ MAX_PAGE_WIDTH → budget ≤ MAX_BUDGET → IsWritable (certificate_of page style budget sections)
+  writable more less cuts = (
+    shaped_wide (claim_of sections) (certificate_of page style budget sections) (claim_is_wide sections) (record {
+      some = can.some;
+      most = can.most;
+      sections = map_all IsSectionWritable IsSectionShaped (λ section is. is.0) sections can.each;
+      no_chain = refl;
+    }),
+    pieces_within (certificate_of page style budget sections) more less cuts
+        (subst (λ (claim : Claim). AllWithin (claim_pieces claim)) (sym claim_same)
+        (section_claims last_section (last_section.lower == last_section.height) numbers))
+        tt (map_all IsSectionWritable (λ section. AllWithin (section_pieces section)) (λ section is. is.1) sections can.each),
+  )
+
+  -- an open last section is not closed
+  pub open_last : (height lower : ℕ) → claim_of sections ≡ claims.Bounded height lower → (d : Section) →
+      (get_or sections (length sections - 1) d).lower < (get_or sections (length sections - 1) d).height
+  open_last height lower is d = subst (λ (s : Section). s.lower < s.height) (sym (last.at d))
+      (by_test (last_section.lower == last_section.height) refl (sym claim_same ∙ is)) where
+        by_test : (same : Bool) → (last_section.lower == last_section.height) ≡ same → claim_by last_section same ≡ claims.Bounded height lower →
+            last_section.lower < last_section.height
+        by_test true e bounded = absurd (apart bounded) where
+          apart : claims.Lowest last_section.height ≡ claims.Bounded height lower → ⊥
+          apart e = absurd cc
+        by_test false e bounded = (by_numbers last_section false e ordered).2
+
+-- ---- the claim of a section, by its test
+
+pub lowest_claim : (sections : List Section) (section : Section) → last_or None sections ≡ Some section → section.lower ≡ section.height →
+    claims.Lowest section.height ≡ claim_of sections
+lowest_claim sections section found same =
+    sym (ap (claim_by section) (eq-eqb section.lower section.height same)) ∙ sym (ap claim_of_last found)
+
+pub bounded_claim : (sections : List Section) (section : Section) → last_or None sections ≡ Some section → section.lower ≢ section.height →
+    claims.Bounded section.height section.lower ≡ claim_of sections
+bounded_claim sections section found apart = elim (eqb_tells section.lower section.height) [
+  | inl same ↦ absurd (apart same.1)
+  | inr other ↦ sym (ap (claim_by section) other.0) ∙ sym (ap claim_of_last found)
+]
+
+-- ---- the fit
+
+-- a layout that fits has few columns
+pub few_columns : (table : Table) (style : Style) (page height : ℕ) (layout : Layout) → IsSound table → Fits table style page height layout →
+    length (out-Layout layout).widths ≤ MAX_COLUMNS
+few_columns table style page height layout sound fits = by_depth sound.depth fits.0 sound.sound fits.1 where
+  by_depth : (deep fit : ℕ) → IsSoundWithin deep table → FitsWithin fit style table page height layout → length (out-Layout layout).widths ≤ MAX_COLUMNS
+  by_depth zero fit is laid = absurd is
+  by_depth (suc deep) zero is laid = absurd laid
+  by_depth (suc deep) (suc fit) is laid = omega (arith, laid.columns, is.few_columns)
+
+-- ---- what is answered
+
+abbrev pub sections_of : Task → Table → List Section → Type 0
+sections_of task table sections = AreSectionsOf (IsOutcomeOf task.search (budget_in task table)) table task.style task.width (budget_in task table) sections
+
+module _ (task : Task) (table : Table) (sections : List Section) (are : sections_of task table sections) (can : AreWritable sections)
+    (wide : (least : ℕ) → IsLeastWidth table task.style least → least ≤ task.width)
+    (sound : IsSound table) (narrow : task.width ≤ MAX_PAGE_WIDTH) (cuts : budget_in task table ≤ MAX_BUDGET)
+    (layout : Layout) (taken : ℕ) (page : List ℕ) (answer : Answer)
+    (named : IsNamed table task.style (certificate_of task.width task.style (budget_in task table) sections) layout)
+    (fits : (height : ℕ) → HasHeight (claim_of sections) height → Fits table task.style task.width height layout)
+    (takes : taken ≡ total_width task.style (out-Layout layout))
+    (is_page : IsPageFile task.html task.style table layout page)
+    (page_stored : answer.page ≡ Some page)
+    (certificate_stored : answer.certificate ≡ certificate_file task.certified (certificate_of task.width task.style (budget_in task table) sections))
+    (lowest_law : LowestIsLeast) (bounded_law : BoundedIsBetween) (closes_law : BudgetCloses) (spends_law : OpenSpends) where
+  abbrev cert : Certificate
+  cert = certificate_of task.width task.style (budget_in task table) sections
+
+  is_valid : IsValid table task.style task.width (budget_in task table) cert
+  is_valid = valid (IsOutcomeOf task.search (budget_in task table)) table task.style task.width (budget_in task table) sections are can wide
+
+  abbrev laid : (claim : Claim) (height : ℕ) → claim_of sections ≡ claim → HasHeight claim height → IsLaid task table claim height taken answer
+  laid claim height is high = record {
+    certificate = cert;
+    claimed = is;
+    valid = is_valid;
+    searched = are;
+    layout = layout;
+    named = named;
+    fits = fits height (subst (λ (c : Claim). HasHeight c height) (sym is) high);
+    wide = takes;
+    page = page;
+    is_page = is_page;
+    page_stored = page_stored;
+    certificate_stored = certificate_stored;
+  }
+
+  wide_document : IsWideDocument table task.style task.width are.document
+  wide_document = record { sound = sound; of = are.of; narrow = narrow; wide = wide }
+
+  good : AreGoodBelow are.document (budget_in task table) sections (length sections)
+  good = λ i d within. (are.each i d within).good
+
+  by_claim : (claim : Claim) → claim_of sections ≡ claim → IsAnswerBy (report_of claim taken) task table answer
+  by_claim (claims.Lowest height) is = (
+    laid (claims.Lowest height) height is refl,
+    lowest_law table task.style task.width (budget_in task table) cert height sound is_valid is,
+  )
+  by_claim (claims.Narrow least) is = absurd (claim_is_wide sections (subst IsNarrow (sym is) tt))
+  by_claim (claims.Bounded height lower) is =
+      let between = bounded_law table task.style task.width (budget_in task table) cert height lower sound is_valid is in
+      (between.0, record { laid = laid (claims.Bounded height lower) height is refl; spent = spent }, between.1, below) where
+        last : ℕ
+        last = length sections - 1
+
+        opened : (d : Section) → (get_or sections (length sections - 1) d).lower < (get_or sections (length sections - 1) d).height
+        opened = open_last (IsOutcomeOf task.search (budget_in task table)) table task.style task.width
+            (budget_in task table) sections are can wide height lower is
+
+        spent : Any (IsSpent (budget_in task table)) sections
+        spent = subst (Any (IsSpent (budget_in task table))) (take_all (length sections) sections (omega arith))
+            (spends_law table task.style task.width (budget_in task table) (length sections) are.document sections wide_document (omega arith) good
+            (length sections - 1) (first_of sections can.some) (omega (arith, can.some)) (opened (first_of sections can.some)))
+
+        below : (most : ℕ) → IsCountAll table task.style task.width most → budget_in task table < most
+        below most counted = elim (cases_lt (budget_in task table) most) [
+          | inl less ↦ less
+          | inr more ↦ absurd (closed (closes_law table task.style task.width (budget_in task table) most
+              (length sections) are.document sections wide_document
+              counted more (omega (arith, cuts)) (omega arith) good))
+        ] where
+          closed : All IsClosed (take (length sections) sections) → ⊥
+          closed all =
+              let d = first_of sections can.some in
+              let same : (get_or sections (length sections - 1) d).lower ≡ (get_or sections (length sections - 1) d).height =
+              (subst (All IsClosed) (take_all (length sections) sections (omega arith)) all) (length sections - 1) d (omega (arith, can.some)) in
+              omega (arith, same, opened d)
+
+  pub answered : IsAnswerBy (report_of (claim_of sections) taken) task table answer
+  answered = by_claim (claim_of sections) refl
+
+  pub not_refused : (refusal : Refusal) → report_of (claim_of sections) taken ≡ reports.Refused refusal → ⊥
+  not_refused refusal = by_report (claim_of sections) where
+    by_report : (claim : Claim) → report_of claim taken ≡ reports.Refused refusal → ⊥
+    by_report (claims.Lowest height) e = absurd cc
+    by_report (claims.Bounded height lower) e = absurd cc
+    by_report (claims.Narrow least) e = absurd cc
+
+-- ---- a page that is too narrow
+
+first_any : {X : Type 0} (xs : List X) (a b : X) → 0 < length xs → get_or xs 0 a ≡ get_or xs 0 b
+first_any [] a b some = absurd (omega (arith, some))
+first_any (x ∷ xs) a b some = refl
+
+-- the first of a subject's least widths is that of its own table
+pub own_first : (table : Table) (style : Style) (page : ℕ) (subject : Subject) (n : ℕ) → IsDocumentOf table style page (meant subject) →
+    n ≡ get_or subject.least.items 0 n → IsLeastWidth table style n
+own_first table style page subject n of is =
+    let k = own_number (meant subject) in
+    let none : k - k ≡ 0 = omega arith in
+    subst (IsLeastWidth table style) (ap (λ (j : ℕ). get_or subject.least.items j 0) none
+    ∙ first_any subject.least.items 0 n (omega (arith, of.each)) ∙ sym is) (own_least table style page (meant subject) of)
+
+module _ (table : Table) (style : Style) (page budget least weight : ℕ) (chains : List Chain) (document : Document)
+    (of : IsDocumentOf table style page document)
+    (sound : IsSound table) (is_least : IsLeastWidth table style least) (narrow : page < least)
+    (weighs : IsLeastWidth table style weight) (heaviest : IsHeaviestChain table style chains weight) where
+  abbrev pub narrow_certificate : Certificate
+  narrow_certificate = record { width = page; style = style; budget = budget; claim = claims.Narrow least; chains = chains; sections = [] }
+
+  pub valid_narrow : IsValid table style page budget narrow_certificate
+  valid_narrow = (
+    document,
+    of,
+    record {
+      claim = record {
+        wide = sym of.wide;
+        drawn = sym of.drawn;
+        cuts = refl;
+        kind = (λ is. subst (λ (w : ℕ). w < least_of document (own_number document)) (sym of.wide) (subst (λ (w : ℕ). page < w) own narrow), λ less. tt);
+      };
+      shown = record {
+        weighed = subst (λ (t : Table). IsChain t document.style chains least) (sym of.same) (subst (λ
+            (s : Style). IsChain table s chains least) (sym of.drawn)
+            (subst (λ (w : ℕ). IsChain table style chains w) (IsLeastWidth-unique table style weight least weighs is_least) heaviest.chain));
+        wider = subst (λ (w : ℕ). w < least) (sym of.wide) narrow;
+      };
+    },
+  ) where
+    own : least ≡ least_of document (own_number document)
+    own = IsLeastWidth-unique table style least (least_of document (own_number document)) is_least (own_least table style page document of)
+
+  pub writable_narrow : 1 ≤ page → page ≤ MAX_PAGE_WIDTH → budget ≤ MAX_BUDGET → least ≤ MAX_HEIGHT → HasFewCells table → ChainsAreWritable →
+      IsWritable narrow_certificate
+  writable_narrow more less cuts small cells law =
+      let can = law table style chains weight sound cells heaviest.chain in (
+        record { some = can.0; entries = map_all IsChainWritable (λ chain. 1 ≤ length chain.entries) (λ chain is. is.0) chains can.1; no_section = refl },
+        pieces_within narrow_certificate more less cuts
+            (joined (word (codes "narrow ")) (field 0 MAX_HEIGHT least line_feed) (words (codes "narrow ")) ((omega arith, small), (tt, tt)))
+            (map_all IsChainWritable (λ chain. AllWithin (chain_pieces chain)) (λ chain is. is.1) chains can.1) tt,
+      )

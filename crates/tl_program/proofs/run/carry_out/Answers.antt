@@ -1,0 +1,26 @@
+-- The words are a command, or none.
+use Rattle.std.proofs.Common.{inl, refl, map, string_bytes}
+use Rattle.tl_program.specs.declared.report.Report.TheVariants as reports
+use Rattle.tl_program.specs.Change.{Change}
+use Rattle.tl_program.proofs.Ends.{budget_small, printed_ends}
+use Rattle.tl_program.proofs.run.carry_out.Goals as goal
+
+pub lay_file-requires-clause-budget : goal.lay_file-requires-clause-budget
+lay_file-requires-clause-budget g c = budget_small c.in-Some.ensures.command.more c.in-Some.lay.options c.in-Some.ensures.command.options
+
+pub returns-in-None : goal.returns-in-None
+returns-in-None g c = record {
+  ends =
+      let change : Change = record {
+        files = g.D.Desk.files c.args.desk.now;
+        files_after = g.D.Desk.files c.print.new.desk;
+        said = g.D.Desk.said c.args.desk.now;
+        said_after = g.D.Desk.said c.print.new.desk;
+        load_faults = g.D.Desk.load_faults c.args.desk.now;
+        load_faults_after = g.D.Desk.load_faults c.print.new.desk;
+        write_faults = g.D.Desk.write_faults c.args.desk.now;
+        write_faults_after = g.D.Desk.write_faults c.print.new.desk;
+      } in
+      printed_ends (map string_bytes c.args.words.now) change c.print.result reports.Usage (inl (c.in-None.ensures.usage, refl)) c.print.ensures.files_stay
+      c.print.ensures.printed;
+}

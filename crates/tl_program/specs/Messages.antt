@@ -1,0 +1,85 @@
+-- The exit status of each answer, and the message about it, which ends with a line feed.
+use Rattle.std.specs.Prelude.{ℕ, List, [], ◌∷◌, ◌++◌, codes, decimal}
+use Rattle.tl_program.specs.declared.refusal.Fault.{Fault}
+use Rattle.tl_program.specs.declared.refusal.Fault.TheVariants as faults
+use Rattle.tl_program.specs.declared.refusal.Limit.{Limit}
+use Rattle.tl_program.specs.declared.refusal.Limit.TheVariants as limits
+use Rattle.tl_program.specs.declared.refusal.Refusal.{Refusal}
+use Rattle.tl_program.specs.declared.refusal.Refusal.TheVariants as refusals
+use Rattle.tl_program.specs.declared.report.Report.{Report}
+use Rattle.tl_program.specs.declared.report.Report.TheVariants as reports
+use Rattle.tl_program.specs.declared.status.Status.{Status}
+use Rattle.tl_program.specs.declared.status.Status.TheVariants as statuses
+
+-- the number of a status
+abbrev pub number_of : Status → ℕ
+number_of statuses.Lowest = 0
+number_of statuses.Usage = 2
+number_of statuses.Bounded = 3
+number_of statuses.Narrow = 4
+number_of statuses.BadInput = 5
+number_of statuses.Limit = 6
+number_of statuses.ReadFault = 7
+number_of statuses.WriteFault = 8
+number_of statuses.Memory = 9
+
+-- the status of a refusal, and of what is reported
+abbrev pub refusal_status : Refusal → Status
+refusal_status (refusals.BadInput fault place) = statuses.BadInput
+refusal_status (refusals.Overlap table row column) = statuses.BadInput
+refusal_status (refusals.Limit limit number) = statuses.Limit
+
+abbrev pub status_of : Report → Status
+status_of (reports.Lowest height width) = statuses.Lowest
+status_of (reports.Bounded height lower width) = statuses.Bounded
+status_of (reports.Narrow least width) = statuses.Narrow
+status_of (reports.Refused refusal) = refusal_status refusal
+status_of reports.Usage = statuses.Usage
+status_of reports.ReadFault = statuses.ReadFault
+
+-- what is wrong with a file that is no document
+abbrev pub fault_words : Fault → List ℕ
+fault_words faults.NotUtf8 = codes "not utf-8"
+fault_words faults.UnendedTag = codes "unended tag"
+fault_words faults.UnendedComment = codes "unended comment"
+fault_words faults.BadTag = codes "bad tag"
+fault_words faults.UnknownElement = codes "unknown element"
+fault_words faults.BadReference = codes "bad reference"
+fault_words faults.BadCharacter = codes "bad character"
+fault_words faults.NoTable = codes "no table"
+fault_words faults.StrayText = codes "stray text"
+fault_words faults.MisplacedTag = codes "misplaced tag"
+fault_words faults.UnclosedTable = codes "unclosed table"
+
+-- what is limited
+abbrev pub limit_word : Limit → List ℕ
+limit_word limits.File = codes "file"
+limit_word limits.Depth = codes "depth"
+limit_word limits.Tables = codes "tables"
+limit_word limits.Cells = codes "cells"
+limit_word limits.Columns = codes "columns"
+limit_word limits.Rows = codes "rows"
+limit_word limits.Reach = codes "reach"
+
+-- the message of a refusal
+abbrev pub refusal_text : Refusal → List ℕ
+refusal_text (refusals.BadInput fault place) =
+    codes "bad input: " ++ (fault_words fault ++ (codes " at " ++ (decimal place ++ 10 ∷ [])))
+refusal_text (refusals.Overlap table row column) =
+    codes "bad input: overlap in table " ++ (decimal table ++ (codes " at row " ++ (decimal row ++ (codes " column "
+    ++ (decimal column ++ 10 ∷ [])))))
+refusal_text (refusals.Limit limit number) =
+    codes "limit: " ++ (limit_word limit ++ (codes " " ++ (decimal number ++ 10 ∷ [])))
+
+-- the message about an answer
+abbrev pub text_of : Report → List ℕ
+text_of (reports.Lowest height width) =
+    codes "lowest height " ++ (decimal height ++ (codes " width " ++ (decimal width ++ 10 ∷ [])))
+text_of (reports.Bounded height lower width) =
+    codes "bounded height " ++ (decimal height ++ (codes " lower " ++ (decimal lower ++ (codes " width "
+    ++ (decimal width ++ 10 ∷ [])))))
+text_of (reports.Narrow least width) =
+    codes "narrow least " ++ (decimal least ++ (codes " width " ++ (decimal width ++ 10 ∷ [])))
+text_of (reports.Refused refusal) = refusal_text refusal
+text_of reports.Usage = codes "usage\n"
+text_of reports.ReadFault = codes "read fault\n"

@@ -1,0 +1,242 @@
+//! What becomes of a table on a page: its lowest page and a certificate, or why there is none.
+
+ghost use Rattle.std.specs.Prelude.{◌≡◌, ◌<◌, ◌≤◌, ◌*◌, ◌+◌, ◌-◌, ◌^◌, ℕ, true, false, IfOk, IfSome, length};
+ghost use Rattle.tl_base.specs.declared.limits.TheConstants.{MAX_TABLES, MAX_PAGE_WIDTH, MAX_BUDGET};
+ghost use Rattle.tl_base.specs.declared.limits.TheConstants.{MAX_HEIGHT, MAX_COLUMNS, MAX_REACH};
+ghost use Rattle.tl_base.specs.Style.{gap_of, edge_of};
+ghost use Rattle.tl_problem.specs.Sizes.{total};
+ghost use Rattle.tl_cert.specs.declared.section.Section.{Section as S};
+ghost use Rattle.tl_cert.specs.Text.{IsWritable};
+ghost use Rattle.tl_form.specs.Layouts.{Fits};
+ghost use Rattle.tl_form.specs.Least.{IsLeastWidth};
+ghost use Rattle.tl_form.specs.Expected.{IsDocumentOf};
+ghost use Rattle.tl_form.specs.Sound.{IsSound, nested_in_table};
+ghost use Rattle.tl_form.specs.Subjects.{meant};
+ghost use Rattle.tl_form.specs.ChainRanges.{HasFewCells};
+ghost use Rattle.tl_nested.specs.Searched.{AreSectionsOf, AreWritable};
+ghost use Rattle.tl_program.specs.Answers.{budget_of, budget_in, searches, reach, IsPageFile};
+ghost use Rattle.tl_program.specs.Answers.{certificate_file, IsOutcomeOf, IsAnswerTo, IsNarrow, IsAnswerBy};
+ghost use Rattle.tl_program.specs.Answers.{StoresNothing};
+ghost use Rattle.tl_program.specs.declared.refusal.Refusal.{Refusal};
+ghost use Rattle.tl_program.specs.declared.report.Report.TheVariants as reports;
+ghost use Rattle.tl_program.specs.inner.Claims.{claim_of, report_of};
+
+use crate::limits::DEFAULT_BUDGET;
+use crate::makers::searched;
+use crate::refusal::{Limit, Refusal};
+use crate::report::Report;
+use crate::task::Task;
+use crate::widths::total_width;
+use std::alloc::{AllocError, Global};
+use tl_base::{List, MAX_HEIGHT, MAX_REACH};
+use tl_cert::{Certificate, Claim, Section, write};
+use tl_form::{
+    Layout, Subject, Table, bounded_is_between, budget_closes, chains_are_writable,
+    lowest_is_least, narrow_chain, nested, open_spends,
+};
+use tl_html::html;
+use tl_page::page;
+use tl_verify::layout;
+
+/// What is reported of a table, and what is stored for it.
+#[derive(Debug, Drop)]
+pub struct Answer {
+    pub report: Report,
+    pub page: Option<List<u8>>,
+    pub certificate: Option<List<u8>>,
+}
+
+impl Answer {
+    /// Nothing is stored.
+    pub fn refused(refusal: Refusal) -> Answer
+        ensures report { result.report ≡ reports.Refused refusal }
+        ensures nothing { StoresNothing result }
+    {
+        Answer {
+            report: Report::Refused(refusal),
+            page: None,
+            certificate: None,
+        }
+    }
+}
+
+/// How many searches there may be: one of the table, and one of each nested table at each width.
+fn searches(table: &Table, width: u32) -> u64
+    requires sound { IsSound table.now }
+    requires narrow { width ≤ MAX_PAGE_WIDTH }
+    ensures count { result ≡ searches table.now width }
+    ensures some { 0 < result }
+    ensures few { result ≤ 1 + MAX_TABLES * MAX_PAGE_WIDTH }
+{
+    1 + u64::from(nested(table)) * u64::from(width)
+}
+
+/// The budget of each of so many searches.
+fn budget_of(budget: Option<u32>, count: u64) -> u32
+    requires { 0 < count }
+    ensures budget { result ≡ budget_of budget count }
+{
+    match budget {
+        Some(budget) => budget,
+        None => (MAX_REACH / count).min(u64::from(DEFAULT_BUDGET)) as u32,
+    }
+}
+
+/// Answers what is asked of the table.
+pub fn answer_to(alloc: Global, task: &Task, table: &Table) -> Result<Answer, AllocError>
+    requires sound { IsSound table.now }
+    requires cells { HasFewCells table.now }
+    requires narrow { (1 ≤ task.now.width) × (task.now.width ≤ MAX_PAGE_WIDTH) }
+    requires cuts { IfSome task.now.budget (λ budget. budget ≤ MAX_BUDGET) }
+    ensures { IfOk result (IsAnswerTo task.now table.now) }
+{
+    let count = searches(table, task.width);
+    let budget = budget_of(task.budget, count);
+    let reach = count * u64::from(budget);
+    if reach > MAX_REACH {
+        return Ok(Answer::refused(Refusal::Limit(Limit::Reach, reach)));
+    }
+    let subject = Subject::of(alloc, table, task.style, task.width)?;
+    let least = subject.least[0];
+    if least > task.width {
+        return too_narrow(alloc, task, &subject, budget, least);
+    }
+    lowest(alloc, task, table, budget)
+}
+
+/// The chains that show that the page is too narrow.
+fn too_narrow(
+    alloc: Global,
+    task: &Task,
+    subject: &Subject<'_>,
+    budget: u32,
+    least: u32,
+) -> Result<Answer, AllocError>
+    requires subject { IsDocumentOf subject.now.table.now task.now.style task.now.width (meant subject.now) }
+    requires sound { IsSound subject.now.table.now }
+    requires cells { HasFewCells subject.now.table.now }
+    requires page { (1 ≤ task.now.width) × (task.now.width ≤ MAX_PAGE_WIDTH) }
+    requires budget { budget ≡ budget_in task.now subject.now.table.now }
+    requires cuts { budget ≤ MAX_BUDGET }
+    requires least { IsLeastWidth subject.now.table.now task.now.style least }
+    requires narrow { task.now.width < least }
+    ensures report { IfOk result (λ answer. answer.report ≡ reports.Narrow least task.now.width) }
+    ensures is { IfOk result (IsNarrow task.now subject.now.table.now least) }
+{
+    // No table of a file within its limit is so wide, and no certificate has a number for it.
+    if least > MAX_HEIGHT {
+        return Err(AllocError);
+    }
+    chains_are_writable();
+    let certificate = Certificate {
+        width: task.width,
+        style: task.style,
+        budget,
+        claim: Claim::Narrow(least),
+        chains: narrow_chain(alloc, subject.table, task.style)?,
+        sections: List::new(alloc),
+    };
+    Ok(Answer {
+        report: Report::Narrow {
+            least,
+            width: task.width,
+        },
+        page: None,
+        certificate: certificate_file(alloc, task, &certificate)?,
+    })
+}
+
+/// What the last section claims of the page.
+fn claim_of(sections: &[Section]) -> Claim
+    requires { 0 < length sections.now }
+    ensures { result ≡ claim_of sections.now }
+{
+    let last = &sections[sections.len() - 1];
+    if last.lower == last.height {
+        Claim::Lowest(last.height)
+    } else {
+        Claim::Bounded(last.height, last.lower)
+    }
+}
+
+/// The report of what is claimed of a page that takes `width` columns, whose least width is `least`
+/// where it is too narrow.
+fn report_of(claim: Claim, width: u64) -> Report
+    ensures { result ≡ report_of claim width }
+{
+    match claim {
+        Claim::Lowest(height) => Report::Lowest { height, width },
+        Claim::Bounded(height, lower) => Report::Bounded {
+            height,
+            lower,
+            width,
+        },
+        Claim::Narrow(least) => Report::Narrow { least, width: 0 },
+    }
+}
+
+/// The lowest page that the search finds, with its certificate.
+fn lowest(alloc: Global, task: &Task, table: &Table, budget: u32) -> Result<Answer, AllocError>
+    requires sound { IsSound table.now }
+    requires page { (1 ≤ task.now.width) × (task.now.width ≤ MAX_PAGE_WIDTH) }
+    requires budget { budget ≡ budget_in task.now table.now }
+    requires cuts { budget ≤ MAX_BUDGET }
+    requires wide { (least : ℕ) → IsLeastWidth table.now task.now.style least → least ≤ task.now.width }
+    ensures answered { IfOk result (λ answer. IsAnswerBy answer.report task.now table.now answer) }
+    ensures not_refused { IfOk result (λ answer. (refusal : Refusal) → answer.report ≡ reports.Refused refusal → ⊥) }
+{
+    let sections = searched(alloc, task, table, budget)?;
+    let certificate = Certificate {
+        width: task.width,
+        style: task.style,
+        budget,
+        claim: claim_of(sections.as_slice()),
+        chains: List::new(alloc),
+        sections,
+    };
+    let layout = layout(alloc, table, task.style, &certificate)?;
+    let width = total_width(task.style, layout.widths.as_slice());
+    lowest_is_least();
+    bounded_is_between();
+    budget_closes();
+    open_spends();
+    Ok(Answer {
+        report: report_of(certificate.claim, width),
+        page: Some(page_file(alloc, task, table, &layout)?),
+        certificate: certificate_file(alloc, task, &certificate)?,
+    })
+}
+
+/// The page of the table in the layout: in text, or as HTML.
+fn page_file(
+    alloc: Global,
+    task: &Task,
+    table: &Table,
+    layout: &Layout,
+) -> Result<List<u8>, AllocError>
+    requires sound { IsSound table.now }
+    requires narrow { task.now.width ≤ MAX_PAGE_WIDTH }
+    requires fits { (height : ℕ) × (height ≤ MAX_HEIGHT) × Fits table.now task.now.style task.now.width height layout.now }
+    ensures { IfOk result (IsPageFile task.now.html task.now.style table.now layout.now) }
+{
+    if task.html {
+        html(alloc, table, layout)
+    } else {
+        page(alloc, table, task.style, layout)
+    }
+}
+
+/// The text of the certificate, where it is asked for.
+fn certificate_file(
+    alloc: Global,
+    task: &Task,
+    certificate: &Certificate,
+) -> Result<Option<List<u8>>, AllocError>
+    requires { IsWritable certificate.now }
+    ensures { IfOk result (λ file. file ≡ certificate_file task.now.certified certificate.now) }
+{
+    if !task.certified {
+        return Ok(None);
+    }
+    Ok(Some(write(alloc, certificate)?))
+}

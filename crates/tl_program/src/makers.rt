@@ -1,0 +1,68 @@
+//! The searches that are named, as makers of solvers.
+
+ghost use Rattle.std.specs.Prelude.{◌≤◌, ℕ, IfOk};
+ghost use Rattle.tl_base.specs.declared.limits.TheConstants.{MAX_BUDGET, MAX_PAGE_WIDTH};
+ghost use Rattle.tl_astar.specs.Best.{IsBestOutcome};
+ghost use Rattle.tl_solve.specs.Plain.{IsPlainOutcome};
+ghost use Rattle.tl_form.specs.Least.{IsLeastWidth};
+ghost use Rattle.tl_form.specs.Sound.{IsSound};
+ghost use Rattle.tl_nested.specs.Searched.{AreSectionsOf, AreWritable};
+ghost use Rattle.tl_program.specs.Answers.{IsOutcomeOf};
+
+use crate::options::Search;
+use crate::task::Task;
+use std::alloc::{AllocError, Global};
+use tl_astar::Best;
+use tl_base::List;
+use tl_cert::Section;
+use tl_form::Table;
+use tl_nested::{Make, sections};
+use tl_solve::Plain;
+
+/// Makes plain searches.
+#[derive(Clone, Copy, Debug)]
+struct MakePlain;
+
+impl Make for MakePlain {
+    type Made = Plain;
+
+    ghost besides = { λ _ problem _ outcome. IsPlainOutcome problem outcome };
+
+    fn make(&self, alloc: Global) -> Result<Plain, AllocError> {
+        Ok(Plain::new(alloc))
+    }
+}
+
+/// Makes best-first searches.
+#[derive(Clone, Copy, Debug)]
+struct MakeBest;
+
+impl Make for MakeBest {
+    type Made = Best;
+
+    ghost besides = { λ _ problem budget outcome. IsBestOutcome problem budget outcome };
+
+    fn make(&self, alloc: Global) -> Result<Best, AllocError> {
+        Ok(Best::new(alloc))
+    }
+}
+
+/// All sections of a certificate of the table, by the search that is named.
+pub fn searched(
+    alloc: Global,
+    task: &Task,
+    table: &Table,
+    budget: u32,
+) -> Result<List<Section>, AllocError>
+    requires sound { IsSound table.now }
+    requires narrow { task.now.width ≤ MAX_PAGE_WIDTH }
+    requires wide { (least : ℕ) → IsLeastWidth table.now task.now.style least → least ≤ task.now.width }
+    requires cuts { budget ≤ MAX_BUDGET }
+    ensures expected { IfOk result (AreSectionsOf (IsOutcomeOf task.now.search budget) table.now task.now.style task.now.width budget) }
+    ensures writable { IfOk result AreWritable }
+{
+    match task.search {
+        Search::Plain => sections(alloc, table, task.style, task.width, budget, &MakePlain),
+        Search::Best => sections(alloc, table, task.style, task.width, budget, &MakeBest),
+    }
+}

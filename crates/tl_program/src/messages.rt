@@ -1,0 +1,83 @@
+//! The messages that are printed. Each ends with a line feed.
+
+ghost use Rattle.std.specs.Prelude.{◌≡◌, IfOk, string_bytes};
+ghost use Rattle.tl_program.specs.Messages.{fault_words, limit_word, refusal_text, text_of};
+
+use crate::refusal::{Fault, Limit, Refusal};
+use crate::report::Report;
+use std::alloc::{AllocError, Global};
+
+/// What is wrong with a file that is no document.
+fn fault_words(fault: Fault) -> &'static str
+    ensures { result.now ≡ fault_words fault }
+{
+    match fault {
+        Fault::NotUtf8 => "not utf-8",
+        Fault::UnendedTag => "unended tag",
+        Fault::UnendedComment => "unended comment",
+        Fault::BadTag => "bad tag",
+        Fault::UnknownElement => "unknown element",
+        Fault::BadReference => "bad reference",
+        Fault::BadCharacter => "bad character",
+        Fault::NoTable => "no table",
+        Fault::StrayText => "stray text",
+        Fault::MisplacedTag => "misplaced tag",
+        Fault::UnclosedTable => "unclosed table",
+    }
+}
+
+/// What is limited.
+fn limit_word(limit: Limit) -> &'static str
+    ensures { result.now ≡ limit_word limit }
+{
+    match limit {
+        Limit::File => "file",
+        Limit::Depth => "depth",
+        Limit::Tables => "tables",
+        Limit::Cells => "cells",
+        Limit::Columns => "columns",
+        Limit::Rows => "rows",
+        Limit::Reach => "reach",
+    }
+}
+
+/// The message of a refusal.
+fn refusal_text(alloc: Global, refusal: Refusal) -> Result<String, AllocError>
+    ensures { IfOk result (λ text. string_bytes text ≡ refusal_text refusal) }
+{
+    match refusal {
+        Refusal::BadInput(fault, place) => {
+            let words = fault_words(fault);
+            format!(in alloc; "bad input: {words} at {place}\n")
+        }
+        Refusal::Overlap { table, row, column } => {
+            format!(in alloc; "bad input: overlap in table {table} at row {row} column {column}\n")
+        }
+        Refusal::Limit(limit, number) => {
+            let word = limit_word(limit);
+            format!(in alloc; "limit: {word} {number}\n")
+        }
+    }
+}
+
+/// The message about an answer.
+pub fn text(alloc: Global, report: Report) -> Result<String, AllocError>
+    ensures { IfOk result (λ text. string_bytes text ≡ text_of report) }
+{
+    match report {
+        Report::Lowest { height, width } => {
+            format!(in alloc; "lowest height {height} width {width}\n")
+        }
+        Report::Bounded {
+            height,
+            lower,
+            width,
+        } => format!(in alloc; "bounded height {height} lower {lower} width {width}\n"),
+        Report::Narrow { least, width } => {
+            format!(in alloc; "narrow least {least} width {width}\n")
+        }
+        Report::Refused(refusal) => refusal_text(alloc, refusal),
+        Report::Usage => format!(in alloc; "usage\n"),
+        Report::ReadFault => format!(in alloc; "read fault\n"),
+    }
+}
