@@ -8,8 +8,8 @@
 #   rows        2,000 rows of 10 cells of two words, 120 columns
 #   columns     333 rows of 60 cells, 300 columns
 #   nested      200 tables, each after the first in a cell of the first, 80 columns
-#   mebibyte    one table of a file of 1,048,576 bytes, 80 columns
-#   refused     a file of the same size with a bad tag at its end, 80 columns
+#   mebibyte    2,000 rows of two long cells, a file of 1,048,576 bytes, 80 columns
+#   refused     the same rows with an element at the end that is not read, 80 columns
 set -euo pipefail
 here=$(dirname "$(readlink -f "${BASH_SOURCE[0]}")")
 "$here/../tablelayout" lay 7 "$here/../examples/first.html" /dev/stdout >/dev/null
@@ -41,8 +41,15 @@ awk 'BEGIN { printf "<table>"; for (r = 0; r < 2000; r++) { printf "<tr><td>"; f
 awk 'BEGIN { printf "<table>"; for (r = 0; r < 2000; r++) { printf "<tr>"; for (c = 0; c < 10; c++) printf "<td>cell %d", (r * 31 + c * 17) % 10000 } printf "</table>" }' >"$files/rows.html"
 awk 'BEGIN { printf "<table>"; for (r = 0; r < 333; r++) { printf "<tr>"; for (c = 0; c < 60; c++) printf "<td>%d b", (r + c) % 10 } printf "</table>" }' >"$files/columns.html"
 awk 'BEGIN { printf "<table>"; for (t = 1; t < 200; t++) printf "<tr><td>%d<td><table><tr><td>aa bb %d<td>cc dd</table>", t, t; printf "</table>" }' >"$files/nested.html"
-awk 'BEGIN { printf "<table>"; for (n = 7; n < 1048568 - 64; n += 64) printf "<tr><td>aaaaaaaaaa bbbbbbbbbb cccccccccc<td>dddddddd eeeeeeee ffffff" ; printf "</table>" }' | head -c 1048576 >"$files/mebibyte.html"
-{ head -c 1048500 "$files/mebibyte.html"; printf '<td><img></table>'; } >"$files/refused.html"
+# Rows of 518 bytes, and white space after the table up to the limit of a file.
+awk 'BEGIN {
+        for (i = 0; i < 24; i++) left = left "aaaaaaaaaa "
+        for (i = 0; i < 22; i++) right = right "bbbbbbbbbb "
+        printf "<table>"
+        for (row = 0; row < 2000; row++) printf "<tr><td>%s<td>%s", left, right
+        printf "</table>%12561s", ""
+    }' >"$files/mebibyte.html"
+sed 's/<.table> *$/<tr><td><img><\/table>/' "$files/mebibyte.html" >"$files/refused.html"
 
 # Prints how long a command takes and how much memory, after its status and the lines that it wrote.
 measure() {
