@@ -1,5 +1,6 @@
 -- Two step functions one above the other: where their sum changes, and that the steps found are its steps.
-use Rattle.std.proofs.Common.{◌≡◌, ℕ, ◌-◌, ◌<◌, ◌≤◌, max, Bool, nat_le, true, false, List, [], ◌∷◌, ◌++◌, ◌⊎◌, inl, inr, length, get_or, filter, cond, Option, Some, None, refl, sym, ap, ◌∙◌, subst, arith}
+use Rattle.std.proofs.Common.{◌≡◌, ℕ, ◌-◌, ◌<◌, ◌≤◌, max, Bool, nat_le, true, false, List, [], ◌∷◌, ◌++◌, ◌⊎◌, inl, inr, length, get_or, filter, cond}
+use Rattle.std.proofs.Common.{Option, Some, None, refl, sym, ap, ◌∙◌, subst, arith}
 use Rattle.std.specs.List.{AllPairs, last_or}
 use Rattle.std.specs.Option.{option_map, IsSomeAnd, IsSome}
 use Rattle.std.proofs.lemmas.Bool.{cases_lt}
@@ -10,7 +11,8 @@ use Rattle.std.proofs.lemmas.List.Quantifiers.{all_pairs_push}
 use Rattle.tl_base.specs.declared.steps.Config.{Config}
 use Rattle.tl_base.specs.Steps.{AreSteps, first_width, first_height, height_at, both_heights, stacked_height}
 use Rattle.tl_base.specs.inner.Stacking.{IsPastNarrow, IsNextWidth}
-use Rattle.tl_base.proofs.Falling.{no_step, Falls, falls, le_test, first_height-is, height_at-below, height_at-last, height_at-step, test_le, test_le_false, test_le_below}
+use Rattle.tl_base.proofs.Falling.{no_step, Falls, falls, le_test, first_height-is, height_at-below, height_at-last, height_at-step, test_le}
+use Rattle.tl_base.proofs.Falling.{test_le_false, test_le_below}
 
 -- ---- one step function
 

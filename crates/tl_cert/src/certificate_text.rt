@@ -18,7 +18,8 @@ use tl_base::{List, MAX_BUDGET, MAX_CERTIFICATE_BYTES, MAX_HEIGHT, MAX_PAGE_WIDT
 
 impl<'a> Reader<'a> {
     /// Whether the text is of version 2.
-    #[tactic(auto, unfolding(crate::specs::inner::CertReading::version_at, crate::specs::inner::reading::Readings::followed, crate::specs::inner::reading::Readings::either, crate::specs::inner::reading::Readings::give))]
+    #[tactic(auto, unfolding(crate::specs::inner::CertReading::version_at, // and how readings follow one another
+    crate::specs::inner::reading::Readings::followed, crate::specs::inner::reading::Readings::either, crate::specs::inner::reading::Readings::give))]
     fn version(&mut self) -> Result<bool, Fault>
         ensures { Gives (λ x. x) result self.new.rest.now (read.version_at self.old.rest.now) }
     {
@@ -30,7 +31,8 @@ impl<'a> Reader<'a> {
         Ok(false)
     }
 
-    #[tactic(auto, unfolding(crate::specs::inner::CertReading::style_at, crate::specs::inner::reading::Readings::followed, crate::specs::inner::reading::Readings::either, crate::specs::inner::reading::Readings::give))]
+    #[tactic(auto, unfolding(crate::specs::inner::CertReading::style_at, // and how readings follow one another
+    crate::specs::inner::reading::Readings::followed, crate::specs::inner::reading::Readings::either, crate::specs::inner::reading::Readings::give))]
     fn style(&mut self) -> Result<Style, Fault>
         ensures { Gives (λ x. x) result self.new.rest.now (read.style_at self.old.rest.now) }
     {
@@ -53,7 +55,8 @@ impl<'a> Reader<'a> {
     }
 
     /// The claim. In version 2 a log line ends by `area`, so there are sections.
-    #[tactic(auto, unfolding(crate::specs::inner::CertReading::claim_at, crate::specs::inner::reading::Readings::followed, crate::specs::inner::reading::Readings::either, crate::specs::inner::reading::Readings::give))]
+    #[tactic(auto, unfolding(crate::specs::inner::CertReading::claim_at, // and how readings follow one another
+    crate::specs::inner::reading::Readings::followed, crate::specs::inner::reading::Readings::either, crate::specs::inner::reading::Readings::give))]
     fn claim(&mut self, has_area: bool) -> Result<Claim, Fault>
         ensures { Gives (λ x. x) result self.new.rest.now (read.claim_at has_area self.old.rest.now) }
     {
@@ -71,7 +74,8 @@ impl<'a> Reader<'a> {
     }
 
     /// A certificate, up to the end of its last line.
-    #[tactic(auto, unfolding(crate::specs::inner::CertReading::certificate_at, crate::specs::inner::reading::Readings::followed, crate::specs::inner::reading::Readings::give))]
+    #[tactic(auto, unfolding(crate::specs::inner::CertReading::certificate_at, // and how readings follow one another
+    crate::specs::inner::reading::Readings::followed, crate::specs::inner::reading::Readings::give))]
     pub(crate) fn certificate(&mut self, alloc: Global) -> Result<Certificate, Fault>
         ensures { Gives (λ x. x) result self.new.rest.now (read.certificate_at self.old.rest.now) }
     {

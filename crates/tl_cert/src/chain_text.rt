@@ -14,7 +14,8 @@ use tl_problem::{Chain, Entry};
 
 impl<'a> Reader<'a> {
     /// An entry, and whether another follows.
-    #[tactic(auto, unfolding(crate::specs::inner::CertReading::entry_at, crate::specs::inner::reading::Readings::followed, crate::specs::inner::reading::Readings::give))]
+    #[tactic(auto, unfolding(crate::specs::inner::CertReading::entry_at, // and how readings follow one another
+    crate::specs::inner::reading::Readings::followed, crate::specs::inner::reading::Readings::give))]
     fn entry(&mut self) -> Result<(Entry, bool), Fault>
         ensures { Gives (λ x. (x.0, x.1)) result self.new.rest.now (read.entry_at true self.old.rest.now) }
     {
@@ -42,7 +43,8 @@ impl<'a> Reader<'a> {
     }
 
     /// One chain.
-    #[tactic(auto, unfolding(crate::specs::inner::CertReading::chain_at, crate::specs::inner::reading::Readings::followed, crate::specs::inner::reading::Readings::give))]
+    #[tactic(auto, unfolding(crate::specs::inner::CertReading::chain_at, // and how readings follow one another
+    crate::specs::inner::reading::Readings::followed, crate::specs::inner::reading::Readings::give))]
     fn chain(&mut self, alloc: Global) -> Result<Chain, Fault>
         ensures { Gives (λ x. x) result self.new.rest.now (read.chain_at self.old.rest.now) }
     {

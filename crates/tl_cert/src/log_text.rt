@@ -17,7 +17,8 @@ use tl_base::{List, MAX_PAGE_WIDTH};
 
 impl<'a> Reader<'a> {
     /// How a log line ends, its line feed with it.
-    #[tactic(auto, unfolding(crate::specs::inner::CertReading::end_at, crate::specs::inner::reading::Readings::followed, crate::specs::inner::reading::Readings::either, crate::specs::inner::reading::Readings::give))]
+    #[tactic(auto, unfolding(crate::specs::inner::CertReading::end_at, // and how readings follow one another
+    crate::specs::inner::reading::Readings::followed, crate::specs::inner::reading::Readings::either, crate::specs::inner::reading::Readings::give))]
     fn end(&mut self, areas: Areas) -> Result<End, Fault>
         ensures { Gives (λ x. x) result self.new.rest.now (read.end_at areas self.old.rest.now) }
     {
@@ -31,7 +32,8 @@ impl<'a> Reader<'a> {
         }
     }
 
-    #[tactic(auto, unfolding(crate::specs::inner::reading::Readings::followed, crate::specs::inner::reading::Readings::either, crate::specs::inner::reading::Readings::give))]
+    #[tactic(auto, unfolding(crate::specs::inner::reading::Readings::followed, // and how readings follow one another
+    crate::specs::inner::reading::Readings::either, crate::specs::inner::reading::Readings::give))]
     fn end_without_area(&mut self) -> Result<End, Fault>
         ensures { Gives (λ x. x) result self.new.rest.now (read.plain_end_at self.old.rest.now) }
     {
@@ -71,7 +73,8 @@ impl<'a> Reader<'a> {
     }
 
     /// A bound that may follow the one before it, and the space after it.
-    #[tactic(auto, unfolding(crate::specs::inner::CertReading::bound_at, crate::specs::inner::reading::Readings::followed, crate::specs::inner::reading::Readings::give))]
+    #[tactic(auto, unfolding(crate::specs::inner::CertReading::bound_at, // and how readings follow one another
+    crate::specs::inner::reading::Readings::followed, crate::specs::inner::reading::Readings::give))]
     fn bound(&mut self, before: Option<Bound>) -> Result<Bound, Fault>
         requires { IfSome before (λ bound. bound.span ≤ MAX_SPAN) }
         ensures gives { Gives (λ x. x) result self.new.rest.now (read.bound_at before self.old.rest.now) }
@@ -163,7 +166,8 @@ impl<'a> Reader<'a> {
     }
 
     /// One cut.
-    #[tactic(auto, unfolding(crate::specs::inner::CertReading::cut_at, crate::specs::inner::reading::Readings::followed, crate::specs::inner::reading::Readings::give))]
+    #[tactic(auto, unfolding(crate::specs::inner::CertReading::cut_at, // and how readings follow one another
+    crate::specs::inner::reading::Readings::followed, crate::specs::inner::reading::Readings::give))]
     fn cut(&mut self) -> Result<CutAt, Fault>
         ensures { Gives (λ x. x) result self.new.rest.now (read.cut_at self.old.rest.now) }
     {

@@ -166,7 +166,8 @@ impl<'a> Reader<'a> {
     }
 
     /// A number within its range that this byte ends.
-    #[tactic(auto, unfolding(crate::specs::inner::reading::Numbers::field_at, crate::specs::inner::reading::Readings::followed, crate::specs::inner::reading::Readings::give))]
+    #[tactic(auto, unfolding(crate::specs::inner::reading::Numbers::field_at, // and how readings follow one another
+    crate::specs::inner::reading::Readings::followed, crate::specs::inner::reading::Readings::give))]
     pub(crate) fn field(&mut self, low: u32, high: u32, end: u8) -> Result<u32, Fault>
         ensures gives { Gives (λ x. x) result self.new.rest.now (field_at low high end self.old.rest.now) }
         ensures most { IfOk result (λ n. n ≤ high) }

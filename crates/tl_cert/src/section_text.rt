@@ -18,7 +18,8 @@ use tl_base::{List, MAX_BUDGET, MAX_COLUMNS, MAX_HEIGHT, MAX_PAGE_WIDTH};
 
 impl<'a> Reader<'a> {
     /// A width, and whether another follows.
-    #[tactic(auto, unfolding(crate::specs::inner::CertReading::width_at, crate::specs::inner::reading::Readings::followed, crate::specs::inner::reading::Readings::give))]
+    #[tactic(auto, unfolding(crate::specs::inner::CertReading::width_at, // and how readings follow one another
+    crate::specs::inner::reading::Readings::followed, crate::specs::inner::reading::Readings::give))]
     fn width(&mut self, more: bool) -> Result<(u32, bool), Fault>
         ensures { Gives (λ x. (x.0, x.1)) result self.new.rest.now (read.width_at more self.old.rest.now) }
     {
@@ -42,7 +43,8 @@ impl<'a> Reader<'a> {
     }
 
     /// The line of the widths.
-    #[tactic(auto, unfolding(crate::specs::inner::CertReading::widths_at, crate::specs::inner::reading::Readings::followed, crate::specs::inner::reading::Readings::either, crate::specs::inner::reading::Readings::give))]
+    #[tactic(auto, unfolding(crate::specs::inner::CertReading::widths_at, // and how readings follow one another
+    crate::specs::inner::reading::Readings::followed, crate::specs::inner::reading::Readings::either, crate::specs::inner::reading::Readings::give))]
     fn widths(&mut self, alloc: Global) -> Result<List<u32>, Fault>
         ensures { Gives (λ x. listing x tt) result self.new.rest.now (read.widths_at self.old.rest.now) }
     {
@@ -56,7 +58,8 @@ impl<'a> Reader<'a> {
     }
 
     /// How many log lines there are, for so many cuts.
-    #[tactic(auto, unfolding(crate::specs::inner::CertReading::count_at, crate::specs::inner::reading::Readings::followed, crate::specs::inner::reading::Readings::give))]
+    #[tactic(auto, unfolding(crate::specs::inner::CertReading::count_at, // and how readings follow one another
+    crate::specs::inner::reading::Readings::followed, crate::specs::inner::reading::Readings::give))]
     fn count(&mut self, areas: Areas, cuts: u32) -> Result<u32, Fault>
         requires { cuts ≤ MAX_BUDGET }
         ensures { Gives (λ x. x) result self.new.rest.now (read.count_at areas cuts self.old.rest.now) }
@@ -66,7 +69,8 @@ impl<'a> Reader<'a> {
     }
 
     /// One section.
-    #[tactic(auto, unfolding(crate::specs::inner::CertReading::section_at, crate::specs::inner::reading::Readings::followed, crate::specs::inner::reading::Readings::give))]
+    #[tactic(auto, unfolding(crate::specs::inner::CertReading::section_at, // and how readings follow one another
+    crate::specs::inner::reading::Readings::followed, crate::specs::inner::reading::Readings::give))]
     fn section(&mut self, alloc: Global, areas: Areas) -> Result<Section, Fault>
         ensures { Gives (λ x. x) result self.new.rest.now (read.section_at areas self.old.rest.now) }
     {

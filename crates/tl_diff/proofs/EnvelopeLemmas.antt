@@ -1,5 +1,6 @@
 -- Tightest bounds are reached: assignments that stay under given heights and are otherwise as great as possible.
-use Rattle.std.proofs.Common.{◌≡◌, ◌≢◌, ℕ, zero, suc, ◌+◌, ◌<◌, ◌≤◌, ℤ, pos, negsuc, ◌+ℤ◌, ◌≤ℤ◌, Option, Some, None, cond, eqb, refl, arith, inl, inr, ◌⊎◌, ⊎_elim, sym, subst}
+use Rattle.std.proofs.Common.{◌≡◌, ◌≢◌, ℕ, zero, suc, ◌+◌, ◌<◌, ◌≤◌, ℤ, pos, negsuc, ◌+ℤ◌, ◌≤ℤ◌, Option, Some, None, cond, eqb, refl, arith, inl, inr}
+use Rattle.std.proofs.Common.{◌⊎◌, ⊎_elim, sym, subst}
 use Rattle.std.specs.Int.{int_min}
 use Rattle.std.proofs.lemmas.Int.{ints, clamps}
 use Rattle.std.proofs.lemmas.Bool.{cases_eq}

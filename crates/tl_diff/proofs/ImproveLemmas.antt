@@ -3,7 +3,8 @@ use Rattle.std.proofs.Common.{ℕ, ◌<◌, ℤ, pos, ◌+ℤ◌, ◌≤ℤ◌, 
 use Rattle.std.proofs.lemmas.Int.{ints}
 use Rattle.tl_diff.specs.Bounds.{Bounds, bound_at, Satisfies, IsWithin, AddsBound}
 use Rattle.tl_diff.specs.inner.Closed.{AtMost, IsClosed, IsImproved, lesser, via}
-use Rattle.tl_diff.proofs.AtMostLemmas.{AtMost-more, AtMost-lesser_left, AtMost-lesser_right, lesser-AtMost, AtMost-via, via-AtMost, Satisfies-at, Satisfies-from}
+use Rattle.tl_diff.proofs.AtMostLemmas.{AtMost-more, AtMost-lesser_left, AtMost-lesser_right, lesser-AtMost, AtMost-via, via-AtMost, Satisfies-at}
+use Rattle.tl_diff.proofs.AtMostLemmas.{Satisfies-from}
 
 module _ (old new : Bounds) (u v : ℕ) (w : ℤ) (first : u < old.n) (second : v < old.n) (h : IsImproved old new u v w old.n) where
   -- a new bound of t is an old one of t, or one that the added constraint implies

@@ -1,5 +1,6 @@
 -- What a closed difference bound matrix says of all assignments, and that it stays so: made, refused and tightened.
-use Rattle.std.proofs.Common.{◌≡◌, ◌≢◌, ℕ, ◌+◌, ◌*◌, ◌<◌, ◌≤◌, ℤ, pos, negsuc, ◌+ℤ◌, ◌-ℤ◌, ◌≤ℤ◌, neg_ℤ, List, length, set, Option, Some, None, Bool, true, false, refl, ap, arith, inl, inr, ◌⊎◌, sym, subst, ◌∙◌, ◌↔◌, IsTrue, MatchOption, IfSome}
+use Rattle.std.proofs.Common.{◌≡◌, ◌≢◌, ℕ, ◌+◌, ◌*◌, ◌<◌, ◌≤◌, ℤ, pos, negsuc, ◌+ℤ◌, ◌-ℤ◌, ◌≤ℤ◌, neg_ℤ, List, length, set, Option, Some, None, Bool}
+use Rattle.std.proofs.Common.{true, false, refl, ap, arith, inl, inr, ◌⊎◌, sym, subst, ◌∙◌, ◌↔◌, IsTrue, MatchOption, IfSome}
 use Rattle.std.proofs.lemmas.Int.{ints, by_lt_z}
 use Rattle.std.proofs.lemmas.Bool.{cases_eq}
 use Rattle.std.proofs.lemmas.List.{length-set}

@@ -1,5 +1,6 @@
 -- One write to the rows of a matrix, and the steps of the pass over all pairs.
-use Rattle.std.proofs.Common.{get_or, ◌≡◌, ◌≢◌, ℕ, ◌+◌, ◌*◌, ◌<◌, ℤ, pos, ◌+ℤ◌, ◌≤ℤ◌, List, length, set, Option, Some, None, refl, ap, arith, inl, inr, ◌⊎◌, ⊎_elim, sym, subst, ◌∙◌}
+use Rattle.std.proofs.Common.{get_or, ◌≡◌, ◌≢◌, ℕ, ◌+◌, ◌*◌, ◌<◌, ℤ, pos, ◌+ℤ◌, ◌≤ℤ◌, List, length, set, Option, Some, None, refl, ap, arith, inl}
+use Rattle.std.proofs.Common.{inr, ◌⊎◌, ⊎_elim, sym, subst, ◌∙◌}
 use Rattle.std.proofs.lemmas.Int.{ints, clamps}
 use Rattle.std.proofs.lemmas.Bool.{cases_eq, cases_lt}
 use Rattle.std.proofs.lemmas.Nat.{same_from_place, mul-add-lt}

@@ -1,5 +1,6 @@
 -- A section that is due, made of an outcome for its problem, and one more section of a list.
-use Rattle.std.proofs.Common.{◌≡◌, ◌∙◌, ℕ, ◌+◌, ◌-◌, ◌*◌, ◌≤◌, List, [], ◌∷◌, ◌++◌, inl, inr, length, get_or, take, Option, None, Some, Result, Ok, refl, sym, ap, subst, arith}
+use Rattle.std.proofs.Common.{◌≡◌, ◌∙◌, ℕ, ◌+◌, ◌-◌, ◌*◌, ◌≤◌, List, [], ◌∷◌, ◌++◌, inl, inr, length, get_or, take, Option, None, Some, Result, Ok}
+use Rattle.std.proofs.Common.{refl, sym, ap, subst, arith}
 use Rattle.std.specs.declared.alloc.AllocError.{AllocError}
 use denote.Param.Members.{Shared}
 use denote.Ref.{Bor}
@@ -110,7 +111,8 @@ push_each : (given : ProblemModel → Outcome → Type 0) (document : Document) 
     EachIsSearched given document budget (before ++ section ∷ [])
 push_each given document budget before section each next = λ i d within. elim (cases_lt i (length before)) [
   | inl old ↦
-      subst (λ all. IsSearched given document budget all (get_or (before ++ section ∷ []) i d)) (sym (take-append-le i before (section ∷ []) (omega (arith, old))))
+      subst (λ all. IsSearched given document budget all (get_or (before ++ section ∷ []) i d))
+      (sym (take-append-le i before (section ∷ []) (omega (arith, old))))
       (subst (IsSearched given document budget (take i before)) (sym (get_or_append_left before (section ∷ []) d i old)) (each i d old))
   | inr new ↦
       let same : i ≡ length before = omega (arith, new, within, length_push before section) in
@@ -176,7 +178,8 @@ all_so_far given subject budget sections next is none so_far = record {
   some = nonempty sections (so_far.due ∙ none);
   most = few_enough (length sections) (subject.last - own_number (meant subject)) subject.page
       (omega (arith, is.document.numbers, is.sound.few_tables)) is.narrow
-      (subst (λ o. length sections + left (meant subject) o ≤ (subject.last - own_number (meant subject)) * (subject.page + 1) + subject.page + 1) none so_far.few);
+      (subst (λ o. length sections + left (meant subject) o ≤ (subject.last - own_number (meant subject)) * (subject.page + 1) + subject.page + 1)
+      none so_far.few);
   each = so_far.writable;
 } where
   nonempty : (all : List Section) → due_after (meant subject) all ≡ None → 1 ≤ length all
@@ -185,7 +188,8 @@ all_so_far given subject budget sections next is none so_far = record {
 
 -- ---- given in other words
 
-given_more : (given other : ProblemModel → Outcome → Type 0) → ((problem : ProblemModel) (outcome : Outcome) → given problem outcome → other problem outcome) →
+given_more : (given other : ProblemModel → Outcome → Type 0) →
+    ((problem : ProblemModel) (outcome : Outcome) → given problem outcome → other problem outcome) →
     (document : Document) (budget : ℕ) (before : List Section) (section : Section) → IsSearched given document budget before section →
     IsSearched other document budget before section
 given_more given other more document budget before section is = record {
@@ -196,7 +200,8 @@ given_more given other more document budget before section is = record {
   same = is.same;
 }
 
-pub sections_more : (given other : ProblemModel → Outcome → Type 0) → ((problem : ProblemModel) (outcome : Outcome) → given problem outcome → other problem outcome) →
+pub sections_more : (given other : ProblemModel → Outcome → Type 0) →
+    ((problem : ProblemModel) (outcome : Outcome) → given problem outcome → other problem outcome) →
     (table : Table) (style : Style) (page budget : ℕ) (sections : List Section) → AreSectionsOf given table style page budget sections →
     AreSectionsOf other table style page budget sections
 sections_more given other more table style page budget sections are = record {

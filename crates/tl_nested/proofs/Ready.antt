@@ -1,5 +1,6 @@
 -- The section that is due has a problem.
-use Rattle.std.proofs.Common.{◌≡◌, ◌∙◌, ℕ, ◌≤◌, List, inl, length, take, Some, ◌*◌, IsSome, Option, None, MatchOption, Result, Ok, Err, IfOk, refl, sym, ap, subst, arith}
+use Rattle.std.proofs.Common.{◌≡◌, ◌∙◌, ℕ, ◌≤◌, List, inl, length, take, Some, ◌*◌, IsSome, Option, None, MatchOption, Result, Ok, Err, IfOk, refl}
+use Rattle.std.proofs.Common.{sym, ap, subst, arith}
 use Rattle.std.specs.List.{All}
 use Rattle.std.proofs.lemmas.List.{take_all}
 use Rattle.tl_base.specs.declared.limits.TheConstants.{MAX_PAGE_WIDTH}
@@ -135,8 +136,10 @@ module _ (subject : Subject) (is : IsSubject subject) (fits : FitsPage subject) 
           is_least = least_one;
           wide = range.0;
           each = have_sound_steps (meant subject) on before
-              (subst (All (IsTrue (meant subject))) whole (all_are_true by_low by_high alone low (meant subject) on budget before good (length before) (omega arith)))
-              (subst (All (IsSmall (meant subject))) whole (all_small by_low by_high alone low (meant subject) on budget before good (length before) (omega arith)))
+              (subst (All (IsTrue (meant subject))) whole
+              (all_are_true by_low by_high alone low (meant subject) on budget before good (length before) (omega arith)))
+              (subst (All (IsSmall (meant subject))) whole
+              (all_small by_low by_high alone low (meant subject) on budget before good (length before) (omega arith)))
               one named.among now.width inner steps;
         }) made placement
 

@@ -1,5 +1,6 @@
 -- Falling step functions: wider is no higher, a height stands from the first width on, and changes where a step begins.
-use Rattle.std.proofs.Common.{cond, ◌≡◌, ℕ, ◌<◌, ◌≤◌, suc, Bool, true, false, nat_le, List, [], ◌∷◌, length, get_or, filter, Option, Some, None, refl, sym, ap, ◌∙◌, subst, inl, inr, arith}
+use Rattle.std.proofs.Common.{cond, ◌≡◌, ℕ, ◌<◌, ◌≤◌, suc, Bool, true, false, nat_le, List, [], ◌∷◌, length, get_or, filter, Option, Some, None, refl}
+use Rattle.std.proofs.Common.{sym, ap, ◌∙◌, subst, inl, inr, arith}
 use Rattle.std.specs.Option.{option_map, IsSomeAnd}
 use Rattle.std.specs.List.{All, AllPairs, last_or}
 use Rattle.std.proofs.lemmas.Bool.{cases_lt}

@@ -1,5 +1,6 @@
 -- The spans of a problem in their order, and the classes of a span: where they begin, and that no height changes within.
-use Rattle.std.proofs.Common.{◌≡◌, ℕ, ◌+◌, ◌-◌, ◌<◌, ◌≤◌, true, nat_eq, List, [], ◌∷◌, ◌++◌, ◌⊎◌, inl, inr, length, map, get_or, filter, refl, sym, ap, ◌∙◌, subst, arith}
+use Rattle.std.proofs.Common.{◌≡◌, ℕ, ◌+◌, ◌-◌, ◌<◌, ◌≤◌, true, nat_eq, List, [], ◌∷◌, ◌++◌, ◌⊎◌, inl, inr, length, map, get_or, filter, refl, sym}
+use Rattle.std.proofs.Common.{ap, ◌∙◌, subst, arith}
 use Rattle.std.specs.List.{AllPairs, Contains, list_any, range_with_len}
 use Rattle.std.proofs.lemmas.Bool.{cases_lt, eqb-true, eq-eqb, and_parts, and_from}
 use Rattle.std.proofs.lemmas.List.{get_or_default, get_or_past}
@@ -8,7 +9,9 @@ use Rattle.std.proofs.lemmas.List.Folds.{Any-from_list_any, list_any_at}
 use Rattle.tl_base.specs.Style.{gap_of, edge_of}
 use Rattle.tl_base.specs.declared.steps.Config.{Config}
 use Rattle.tl_base.specs.Steps.{first_width, height_at}
-use Rattle.tl_base.proofs.Members.{All-from_Contains, Contains-first, Contains-later, Contains-cases, Contains-filter, filter-Contains, Contains-map, map-Contains, Contains-flat_map, Contains-range, range-Contains, AllPairs-cons, AllPairs-filter, AllPairs-map, AllPairs-flat_map, AllPairs-range, same-ordered}
+use Rattle.tl_base.proofs.Members.{All-from_Contains, Contains-first, Contains-later, Contains-cases, Contains-filter, filter-Contains, Contains-map}
+use Rattle.tl_base.proofs.Members.{map-Contains, Contains-flat_map, Contains-range, range-Contains, AllPairs-cons, AllPairs-filter, AllPairs-map}
+use Rattle.tl_base.proofs.Members.{AllPairs-flat_map, AllPairs-range, same-ordered}
 use Rattle.tl_problem.specs.declared.cell.Cell.{Cell}
 use Rattle.tl_problem.specs.declared.cell.Span.{Span}
 use Rattle.tl_problem.specs.Sizes.{room}

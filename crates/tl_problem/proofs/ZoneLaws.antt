@@ -8,7 +8,8 @@ use Rattle.tl_problem.specs.Problem.{ProblemModel}
 use Rattle.tl_problem.specs.Layouts.{WithinPage}
 use Rattle.tl_problem.specs.Sound.{IsSound, IsSoundCell}
 use Rattle.tl_problem.specs.Spans.{span, spans_of, classes_of, page_room}
-use Rattle.tl_problem.specs.Zones.{span_at, classes_at, first_in_class, last_in_class, range, range_at, IsZone, whole_zone, lower_part, upper_part, span_width, InZone}
+use Rattle.tl_problem.specs.Zones.{span_at, classes_at, first_in_class, last_in_class, range, range_at, IsZone, whole_zone, lower_part, upper_part}
+use Rattle.tl_problem.specs.Zones.{span_width, InZone}
 use Rattle.tl_problem.proofs.SpanLaws.{has_span-parts, spans-cell, least_width-within, classes-rising, classes-first, classes-some, class-in_page, room-in_page}
 
 -- the room of a span is a width of its range's classes

@@ -1,5 +1,6 @@
 -- The cuts of a trace are within the ranges of a certificate's text: a problem has few spans, and a span few classes.
-use Rattle.std.proofs.Common.{◌≡◌, ℕ, ◌+◌, ◌-◌, ◌*◌, ◌<◌, ◌≤◌, zero, suc, Bool, true, false, cond, List, [], ◌∷◌, ◌++◌, inl, inr, length, get_or, map, filter, codes, ap, ◌∙◌, arith, length-append}
+use Rattle.std.proofs.Common.{◌≡◌, ℕ, ◌+◌, ◌-◌, ◌*◌, ◌<◌, ◌≤◌, zero, suc, Bool, true, false, cond, List, [], ◌∷◌, ◌++◌, inl, inr, length, get_or, map}
+use Rattle.std.proofs.Common.{filter, codes, ap, ◌∙◌, arith, length-append}
 use Rattle.std.specs.List.{All, AllPairs, AllByRecursion, flat_map, range_with_len, list_any}
 use Rattle.std.proofs.Math.Nat.{mul-le-mul_left}
 use Rattle.std.proofs.lemmas.List.Concat.{flat_map-cons}

@@ -1,6 +1,7 @@
 -- A zone that is cut follows from its parts: what is left of it lies in the lower part, or in the upper one once the bound
 -- that the cut made is broken.
-use Rattle.std.proofs.Common.{◌≡◌, ◌≢◌, ℕ, ◌+◌, ◌-◌, ◌<◌, ◌≤◌, Bool, true, false, nat_lt, if◌then◌else◌, List, [], ◌∷◌, inl, inr, length, refl, sym, ap, subst, arith}
+use Rattle.std.proofs.Common.{◌≡◌, ◌≢◌, ℕ, ◌+◌, ◌-◌, ◌<◌, ◌≤◌, Bool, true, false, nat_lt, if◌then◌else◌, List, [], ◌∷◌, inl, inr, length, refl, sym}
+use Rattle.std.proofs.Common.{ap, subst, arith}
 use Rattle.std.specs.List.{All, Contains, range_with_len}
 use Rattle.std.proofs.lemmas.Bool.Decides.{nat_tests}
 use Rattle.std.proofs.lemmas.List.{get_or-set_same, get_or-set_other, length-set, get_or_default}
@@ -10,7 +11,8 @@ use Rattle.tl_problem.specs.declared.zone.Range.{Range}
 use Rattle.tl_problem.specs.Problem.{ProblemModel}
 use Rattle.tl_problem.specs.Sound.{IsSound}
 use Rattle.tl_problem.specs.Spans.{spans_of, page_room}
-use Rattle.tl_problem.specs.Zones.{span_at, classes_at, first_in_class, last_in_class, range, range_at, IsZone, whole_zone, lower_part, upper_part, span_width, InZone}
+use Rattle.tl_problem.specs.Zones.{span_at, classes_at, first_in_class, last_in_class, range, range_at, IsZone, whole_zone, lower_part, upper_part}
+use Rattle.tl_problem.specs.Zones.{span_width, InZone}
 use Rattle.tl_problem.specs.Bounds.{HasNoWidths}
 use Rattle.tl_problem.proofs.SpanLaws.{classes-rising}
 use Rattle.tl_problem.proofs.ZoneLaws.{cases_eq, cut-cases, upper-inside, lower-is_zone, upper-is_zone, whole-range, whole-is_zone}

@@ -1,5 +1,6 @@
 -- The zones of a trace, cut by cut, and what is found of each.
-use Rattle.std.proofs.Common.{◌≡◌, ℕ, ◌+◌, ◌*◌, ◌<◌, suc, List, [], ◌∷◌, ◌++◌, inl, inr, length, get_or, take, Option, refl, sym, ap, ◌∙◌, subst, arith, append_assoc, length-append}
+use Rattle.std.proofs.Common.{◌≡◌, ℕ, ◌+◌, ◌*◌, ◌<◌, suc, List, [], ◌∷◌, ◌++◌, inl, inr, length, get_or, take, Option, refl, sym, ap, ◌∙◌, subst}
+use Rattle.std.proofs.Common.{arith, append_assoc, length-append}
 use Rattle.std.proofs.lemmas.Bool.{cases_lt}
 use Rattle.std.proofs.lemmas.List.{get_or_default, get_or_append_left, get_or-append-add}
 use Rattle.std.proofs.Math.Seq.{take-suc}

@@ -1,5 +1,6 @@
 -- The layout that a certificate names, cell by cell.
-use Rattle.std.proofs.Common.{◌≡◌, ◌∙◌, ℕ, zero, suc, ◌+◌, ◌-◌, ◌<◌, ◌≤◌, inl, Result, Ok, Err, IfOk, List, [], ◌∷◌, ◌++◌, length, get_or, take, sum, Option, None, Some, Contains, MatchOption, sym, ap, subst, refl, append_assoc, append-nil, arith}
+use Rattle.std.proofs.Common.{◌≡◌, ◌∙◌, ℕ, zero, suc, ◌+◌, ◌-◌, ◌<◌, ◌≤◌, inl, Result, Ok, Err, IfOk, List, [], ◌∷◌, ◌++◌, length, get_or, take, sum}
+use Rattle.std.proofs.Common.{Option, None, Some, Contains, MatchOption, sym, ap, subst, refl, append_assoc, append-nil, arith}
 use Rattle.std.proofs.lemmas.Grind.{flat_map-append}
 use Rattle.std.proofs.lemmas.List.Concat.{flat_map-cons}
 use Rattle.std.specs.List.{AllZip, AllByRecursion, flat_map}
@@ -91,7 +92,8 @@ module _ (document : Document) (budget : ℕ) (style : Style) (sections : List S
   pub wide_part : (least : ℕ) → IsLeastWidth table style least → least ≤ section.width
   wide_part least least_is =
       let all = all_true by_low by_high document part.sound budget sections (length sections) (omega arith) part.good in
-      let told : IsTrue document section = subst (IsTrue document) (ap (λ xs. get_or xs at section) (take_all (length sections) sections (omega arith)) ∙ sym is)
+      let told : IsTrue document section = subst (IsTrue document) (
+      ap (λ xs. get_or xs at section) (take_all (length sections) sections (omega arith)) ∙ sym is)
       (All-get_or (IsTrue document) (take (length sections) sections) at section (omega (arith, there, length-take (length sections) sections)) all) in
       let found = told.found table named in
       omega (
@@ -269,7 +271,8 @@ cells_laid style sections widths cells i cell inner after within is far next =
     subst (λ some. CellsLaid style sections widths some after) (sym (take_more cells i cell within ∙ ap (λ one. take i cells ++ one ∷ []) (sym is)))
     (record {
       parts = far.parts ++ next.part ∷ [];
-      each = AllZip-push (λ one part. AllZip (IsLaidIn style sections (room_for style widths one)) (tables_in (out-TableCell one)) part) (take i cells) far.parts
+      each = AllZip-push (λ one part. AllZip (IsLaidIn style sections (room_for style widths one)) (tables_in (out-TableCell one)) part)
+          (take i cells) far.parts
           cell next.part far.each next.each;
       given = flat_map-append (λ (part : List Layout). part) far.parts (next.part ∷ [])
           ∙ ap (λ xs. xs ++ flat_map (λ (part : List Layout). part) (next.part ∷ [])) far.given
@@ -325,8 +328,9 @@ module _ (document : Document) (budget : ℕ) (style : Style) (sections : List S
       ((cell : TableCell) → Contains cells cell → Contains (out-Table table).cells cell) →
       AllByRecursion (IsSoundWithin depth) (inner_tables (out-Table table)) →
       AllZip (λ cell one. AllZip (IsLaidIn style sections (room_for style widths cell)) (tables_in (out-TableCell cell)) one) cells parts →
-      AllZip (λ cell one. AllZip (λ nested layout. Laid nested (room (gap_of document.style) widths (out-TableCell cell).place.left (out-TableCell cell).place.right)
-      layout) (tables_in (out-TableCell cell)) one) cells parts
+      AllZip (λ cell one. AllZip (λ nested layout.
+      Laid nested (room (gap_of document.style) widths (out-TableCell cell).place.left (out-TableCell cell).place.right) layout)
+      (tables_in (out-TableCell cell)) one) cells parts
   cells_laid_in widths [] [] all sound laid = tt
   cells_laid_in widths [] (one ∷ parts) all sound laid = absurd laid
   cells_laid_in widths (cell ∷ cells) [] all sound laid = absurd laid
@@ -334,7 +338,8 @@ module _ (document : Document) (budget : ℕ) (style : Style) (sections : List S
     subst (λ s. AllZip (λ nested layout. Laid nested (room (gap_of s) widths (out-TableCell cell).place.left (out-TableCell cell).place.right) layout)
         (tables_in (out-TableCell cell)) one) (sym part.drawn)
         (tables_laid (room_for style widths cell) (tables_in (out-TableCell cell)) one (λ nested has.
-        let inside = Contains-flat_map (λ each. tables_in (out-TableCell each)) (out-Table table).cells cell nested (all cell (Contains-first cell cells)) has in (
+        let inside = Contains-flat_map (λ each. tables_in (out-TableCell each)) (out-Table table).cells cell nested
+        (all cell (Contains-first cell cells)) has in (
           inside,
           All-contains (IsSoundWithin depth) (inner_tables (out-Table table)) nested
               (All-from_recursion (IsSoundWithin depth) (inner_tables (out-Table table)) sound) inside,

@@ -1,5 +1,6 @@
 -- At one place at most one chain of a table stands, with those that it rests on.
-use Rattle.std.proofs.Common.{◌≡◌, ◌∙◌, ℕ, zero, suc, List, [], ◌∷◌, ◌++◌, Option, Some, None, Contains, slice_get, append_assoc, refl, sym, ap, subst, inl, arith}
+use Rattle.std.proofs.Common.{◌≡◌, ◌∙◌, ℕ, zero, suc, List, [], ◌∷◌, ◌++◌, Option, Some, None, Contains, slice_get, append_assoc, refl, sym, ap}
+use Rattle.std.proofs.Common.{subst, inl, arith}
 use Rattle.std.specs.List.{AllZip, flat_map}
 use Rattle.std.proofs.lemmas.List.Concat.{flat_map-cons}
 use Rattle.tl_base.specs.declared.style.Style.{Style}
@@ -99,7 +100,8 @@ module _ (style : Style) where
       let two = also.0 in
       let cell : two.cell ≡ one.cell = some_same two.named one.named in
       let apart : link.inner ++ (flat_map (λ each. each.inner) links ++ rest) ≡ other.inner ++ (flat_map (λ each. each.inner) others ++ left) =
-      sym (append_assoc link.inner (flat_map (λ each. each.inner) links) rest) ∙ ap (λ xs. xs ++ rest) (sym (flat_map-cons (λ (each : Link). each.inner) link links))
+      sym (append_assoc link.inner (flat_map (λ each. each.inner) links) rest)
+      ∙ ap (λ xs. xs ++ rest) (sym (flat_map-cons (λ (each : Link). each.inner) link links))
       ∙ split ∙ ap (λ xs. xs ++ left) (flat_map-cons (λ (each : Link). each.inner) other others)
       ∙ append_assoc other.inner (flat_map (λ each. each.inner) others) left in
       let here = step_one depth at so table one.cell sound (record { number = entry.cell; named = one.named }) entry.inner link other

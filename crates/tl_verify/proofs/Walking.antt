@@ -1,5 +1,7 @@
 -- Walks of chains: what stands at a place, entry by entry.
-use Rattle.std.proofs.Common.{◌≡◌, ◌∙◌, ℕ, zero, suc, ◌+◌, ◌-◌, ◌*◌, ◌<◌, ◌≤◌, List, [], ◌∷◌, ◌++◌, length, drop, take, get_or, Option, Some, None, slice_get, append_assoc, append-nil, length-drop, ◌↔◌, refl, sym, ap, subst, Bool, true, false, ◌==◌, Contains, MatchOption, ◌⊎◌, inl, inr, arith}
+use Rattle.std.proofs.Common.{◌≡◌, ◌∙◌, ℕ, zero, suc, ◌+◌, ◌-◌, ◌*◌, ◌<◌, ◌≤◌, List, [], ◌∷◌, ◌++◌, length, drop, take, get_or, Option, Some, None}
+use Rattle.std.proofs.Common.{slice_get, append_assoc, append-nil, length-drop, ◌↔◌, refl, sym, ap, subst, Bool, true, false, ◌==◌, Contains}
+use Rattle.std.proofs.Common.{MatchOption, ◌⊎◌, inl, inr, arith}
 use Rattle.std.specs.List.{AllZip, flat_map}
 use Rattle.std.proofs.lemmas.Bool.{cases_eq, eq-eqb, ne_eqb}
 use Rattle.std.proofs.Math.Seq.{drop-cons, drop-nil}

@@ -10,7 +10,8 @@ use Rattle.tl_cert.specs.declared.certificate.Claim.TheVariants.{Lowest, Bounded
 use Rattle.tl_cert.specs.declared.limits.TheConstants.{MAX_SECTIONS}
 use Rattle.tl_cert.specs.declared.section.Section.{Section}
 use Rattle.tl_cert.specs.Pieces.{Piece, AllWithin, field, word}
-use Rattle.tl_cert.specs.Text.{IsWritable, IsSectionShaped, HasProof, space, line_feed, spaced, cut_pieces, line_pieces, section_pieces, section_head, chain_pieces, claim_pieces, version_word, style_word, has_area}
+use Rattle.tl_cert.specs.Text.{IsWritable, IsSectionShaped, HasProof, space, line_feed, spaced, cut_pieces, line_pieces, section_pieces, section_head}
+use Rattle.tl_cert.specs.Text.{chain_pieces, claim_pieces, version_word, style_word, has_area}
 use Rattle.tl_form.specs.Valid.{IsNarrow}
 use Rattle.tl_verify.specs.inner.Sections.{IsSmall}
 

@@ -1,6 +1,7 @@
 -- What a closed difference bound matrix keeps true; no public clause cites this file. Each bound is the tightest, and none
 -- is large.
-use Rattle.std.specs.Prelude.{◌≡◌, ℕ, ◌*◌, ◌<◌, ◌≤◌, ℤ, pos, negsuc, ◌+ℤ◌, neg_ℤ, ◌≤ℤ◌, ◌<ℤ◌, int_le, Option, Some, None, length, Bool, IsTrue, IsFalse, ◌≢◌, if◌then◌else◌, ◌⊎◌}
+use Rattle.std.specs.Prelude.{◌≡◌, ℕ, ◌*◌, ◌<◌, ◌≤◌, ℤ, pos, negsuc, ◌+ℤ◌, neg_ℤ, ◌≤ℤ◌, ◌<ℤ◌, int_le, Option, Some, None, length, Bool, IsTrue}
+use Rattle.std.specs.Prelude.{IsFalse, ◌≢◌, if◌then◌else◌, ◌⊎◌}
 use Rattle.std.specs.Int.{int_min}
 use Rattle.tl_diff.specs.declared.matrix.TheConstants.{MAX_BOUND, MAX_VARIABLES}
 use Rattle.tl_diff.specs.Bounds.{Bounds, bound_at, IsSmall, Satisfies}

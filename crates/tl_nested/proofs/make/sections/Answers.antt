@@ -7,5 +7,6 @@ use Rattle.tl_nested.proofs.make.sections.Goals as goal
 pub returns-clause-expected : goal.returns-clause-expected
 returns-clause-expected g c = weaker c.sections_by.result _ (AreSectionsOf (λ problem outcome. g.M.Make.besides c.args.maker.now problem c.args.budget outcome)
     c.args.table.now c.args.style c.args.width c.args.budget)
-    (sections_more _ (λ problem outcome. g.M.Make.besides c.args.maker.now problem c.args.budget outcome) (λ problem outcome is. subst (λ p. g.M.Make.besides c.args.maker.now p c.args.budget outcome) is.argument_is is.call.1) c.args.table.now c.args.style c.args.width
-    c.args.budget) c.sections_by.ensures.expected
+    (sections_more _ (λ problem outcome. g.M.Make.besides c.args.maker.now problem c.args.budget outcome) (λ problem outcome is.
+    subst (λ p. g.M.Make.besides c.args.maker.now p c.args.budget outcome) is.argument_is is.call.1)
+    c.args.table.now c.args.style c.args.width c.args.budget) c.sections_by.ensures.expected

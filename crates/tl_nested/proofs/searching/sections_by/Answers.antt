@@ -30,9 +30,10 @@ loop-due-smaller g c =
     let may_be = may subject (subject_of c.args.table.now c.args.style c.args.width subject c.requires.sound c.requires.narrow c.in_ok-subject.ensures)
     (fits_of c.args.table.now c.args.style c.args.width subject c.in_ok-subject.ensures c.requires.wide) c.loop-due.sections c.args.budget
     (good_so_far given (meant subject) c.args.budget c.loop-due.sections so_far.each) now so_far.due in
-    let one = subst (λ all. IsSearched given (meant subject) c.args.budget all c.in_ok-section.field-0.section) c.as_slice.ensures c.in_ok-section.ensures.searched in
-    let within = within_due (meant subject) c.args.budget c.loop-due.sections c.in_ok-section.field-0.section now c.in_ok-section.field-0.placed one.good so_far.due
-    c.in_ok-section.ensures.placed in
+    let one = subst (λ all. IsSearched given (meant subject) c.args.budget all c.in_ok-section.field-0.section)
+    c.as_slice.ensures c.in_ok-section.ensures.searched in
+    let within = within_due (meant subject) c.args.budget c.loop-due.sections c.in_ok-section.field-0.section now c.in_ok-section.field-0.placed
+    one.good so_far.due c.in_ok-section.ensures.placed in
     subst (λ o. left (meant subject) (option_map due_of c.next_due-due.result) < left (meant subject) (option_map due_of o)) (sym c.in-Some.is)
     (subst (λ next. left (meant subject) next < left (meant subject) (Some now)) (sym c.next_due-due.ensures)
     (left_falls (meant subject) now may_be c.in_ok-section.field-0.placed within))
@@ -46,9 +47,10 @@ loop-due-preserved g c =
     let may_be = may subject (subject_of c.args.table.now c.args.style c.args.width subject c.requires.sound c.requires.narrow c.in_ok-subject.ensures)
     (fits_of c.args.table.now c.args.style c.args.width subject c.in_ok-subject.ensures c.requires.wide) c.loop-due.sections c.args.budget
     (good_so_far given (meant subject) c.args.budget c.loop-due.sections so_far.each) now so_far.due in
-    let one = subst (λ all. IsSearched given (meant subject) c.args.budget all c.in_ok-section.field-0.section) c.as_slice.ensures c.in_ok-section.ensures.searched in
-    let within = within_due (meant subject) c.args.budget c.loop-due.sections c.in_ok-section.field-0.section now c.in_ok-section.field-0.placed one.good so_far.due
-    c.in_ok-section.ensures.placed in
+    let one = subst (λ all. IsSearched given (meant subject) c.args.budget all c.in_ok-section.field-0.section)
+    c.as_slice.ensures c.in_ok-section.ensures.searched in
+    let within = within_due (meant subject) c.args.budget c.loop-due.sections c.in_ok-section.field-0.section now c.in_ok-section.field-0.placed
+    one.good so_far.due c.in_ok-section.ensures.placed in
     more_so_far given (meant subject) c.args.budget c.loop-due.sections c.push.new.self now c.in_ok-section.field-0.section c.in_ok-section.field-0.placed
     (option_map due_of c.next_due-due.result) may_be so_far one c.in_ok-section.ensures.writable c.in_ok-section.ensures.placed within
     c.in_ok-push.ensures.ok c.next_due-due.ensures

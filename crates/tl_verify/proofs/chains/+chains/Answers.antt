@@ -12,7 +12,9 @@ use Rattle.tl_form.specs.inner.LeastRooms.{IsSoundBlock, IsSoundCell}
 use Rattle.tl_form.specs.Tables.{tables_of}
 use Rattle.tl_form.proofs.SoundParts.{sound_blocks, sound_cells, at_item}
 use Rattle.tl_verify.specs.inner.Walks.{HasNoRow, HasNoWalkIn, IsRow}
-use Rattle.tl_verify.proofs.Walking.{blocks_more, cell_placed, in_block, is_none, is_some, none_at, no_cell, no_order, no_step, no_walk_by, no_walk_heavy, no_walk_row, none_past, row_done, row_more, row_none, step_inner, too_wide, walk_boxed, walk_other, walked}
+use Rattle.tl_verify.proofs.Walking.{blocks_more, cell_placed, in_block, is_none, is_some, none_at, no_cell, no_order, no_step, no_walk_by}
+use Rattle.tl_verify.proofs.Walking.{no_walk_heavy, no_walk_row, none_past, row_done, row_more, row_none, step_inner, too_wide, walk_boxed}
+use Rattle.tl_verify.proofs.Walking.{walk_other, walked}
 use Rattle.tl_verify.proofs.chains.+chains.Goals as goal
 use Rattle.tl_verify.proofs.chains.+chains.Goals.{walk-then-chain-table-via-then-chain-table, walk-then-chain-table-via-else-chain-table+then-is_empty}
 

@@ -15,24 +15,24 @@ lay-requires-clause-sound c =
     let section = c.index-sections-at.result in
     let own : (out-Table c.args.table.now).number ≡ section.table =
     sym (c.requires.own section) ∙ sym (ap (λ (s : Section). s.table) c.index-sections-at.is) in
-    sound_part c.requires.part.0 c.requires.part.1 c.args.style c.args.sections.now c.args.table.now c.requires.part.2 c.args.at c.requires.there section
-    c.index-sections-at.is own
+    sound_part c.requires.part.0 c.requires.part.1 c.args.style c.args.sections.now c.args.table.now c.requires.part.2
+    c.args.at c.requires.there section c.index-sections-at.is own
 
 pub lay-requires-clause-wide : goal.lay-requires-clause-wide
 lay-requires-clause-wide c =
     let section = c.index-sections-at.result in
     let own : (out-Table c.args.table.now).number ≡ section.table =
     sym (c.requires.own section) ∙ sym (ap (λ (s : Section). s.table) c.index-sections-at.is) in
-    wide_part c.requires.part.0 c.requires.part.1 c.args.style c.args.sections.now c.args.table.now c.requires.part.2 c.args.at c.requires.there section
-    c.index-sections-at.is own
+    wide_part c.requires.part.0 c.requires.part.1 c.args.style c.args.sections.now c.args.table.now c.requires.part.2
+    c.args.at c.requires.there section c.index-sections-at.is own
 
 pub unwrap-laid-requires : goal.unwrap-laid-requires
 unwrap-laid-requires c =
     let section = c.index-sections-at.result in
     let own : (out-Table c.args.table.now).number ≡ section.table =
     sym (c.requires.own section) ∙ sym (ap (λ (s : Section). s.table) c.index-sections-at.is) in
-    let has = has_place c.requires.part.0 c.requires.part.1 c.args.style c.args.sections.now c.args.table.now c.requires.part.2 c.args.at c.requires.there section
-    c.index-sections-at.is own in
+    let has = has_place c.requires.part.0 c.requires.part.1 c.args.style c.args.sections.now c.args.table.now c.requires.part.2
+    c.args.at c.requires.there section c.index-sections-at.is own in
     let found = is_some_by c.in_ok-lay.field-0
     ((problem : ProblemModel) (placed : Placed) → IsProblemFor c.args.table.now c.args.style section.width (take c.args.at c.args.sections.now) problem →
     HasPlacement section problem placed → ⊥)
@@ -63,7 +63,8 @@ returns-clause-rooms c =
     HasPlacement section problem placed → ⊥)
     (λ laid. IsProblemFor c.args.table.now c.args.style section.width (take c.args.at c.args.sections.now) laid.problem
     × HasPlacement section laid.problem laid.placed) c.unwrap-laid.ensures c.in_ok-lay.ensures in
-    rooms_part c.requires.part.0 c.requires.part.1 c.args.style c.args.sections.now c.args.table.now c.requires.part.2 c.args.at c.requires.there section
-    c.index-sections-at.is own c.unwrap-laid.result.problem both.0 c.unwrap-laid.result.placed.widths both.1.tight.placement.page
+    rooms_part c.requires.part.0 c.requires.part.1 c.args.style c.args.sections.now c.args.table.now c.requires.part.2
+    c.args.at c.requires.there section c.index-sections-at.is own
+    c.unwrap-laid.result.problem both.0 c.unwrap-laid.result.placed.widths both.1.tight.placement.page
     (subst (λ (s : Section). s.width ≤ MAX_PAGE_WIDTH) (sym c.index-sections-at.is) (c.requires.part.2.small c.args.at section c.requires.there).narrow)
     c.unwrap-laid.result.placed refl

@@ -6,7 +6,8 @@ use Rattle.tl_cert.specs.Traces.{zone_of}
 use Rattle.tl_cert.specs.Worked.{IsClosed}
 use Rattle.tl_solve.specs.inner.Walk.{IsStack, KeepsOrder}
 use Rattle.tl_solve.proofs.ArenaLaws.{arena-keen, arena-zone, lowered-le}
-use Rattle.tl_solve.proofs.WalkLaws.{top-stands, stack-start, order-start, stack-closed, stack-cut, order-cut, stack-end, first-is_cut, plain-ends, plain-outcome}
+use Rattle.tl_solve.proofs.WalkLaws.{top-stands, stack-start, order-start, stack-closed, stack-cut, order-cut, stack-end, first-is_cut, plain-ends}
+use Rattle.tl_solve.proofs.WalkLaws.{plain-outcome}
 use Rattle.tl_solve.proofs.plain.PlainSolver.solve.Goals as goal
 
 match-none : {A : Type 0} (o : Option A) (P : Type 0) (Q : A → Type 0) → MatchOption o P Q → ((x : A) → o ≡ Some x → ⊥) → P
