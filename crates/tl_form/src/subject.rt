@@ -1,6 +1,8 @@
 //! A document: a table on a page, and which of its sections is due when.
 
 ghost use Rattle.std.specs.Prelude.{◌≡◌, ◌+◌, ◌<◌, ◌≤◌, IfOk, length, option_map};
+ghost use Rattle.std.specs.List.{All};
+ghost use Rattle.tl_base.specs.declared.limits.TheConstants.{MAX_HEIGHT};
 ghost use Rattle.tl_form.specs.declared.cell.Table.{Table, out-Table};
 ghost use Rattle.tl_form.specs.Expected.{IsDocumentOf, IsTableOf, first_due, next_due, own_number};
 ghost use Rattle.tl_form.specs.Least.{IsLeastWidth};
@@ -40,8 +42,9 @@ fn least_of(alloc: Global, table: &Table, style: Style, number: u32) -> Result<u
     requires sound { IsSound table.now }
     requires from { (out-Table table.now).number ≤ number }
     requires upto { number ≤ (out-Table table.now).number + nested_in_table table.now }
-    ensures { IfOk result (λ least. (one : Table) → IsAmong table.now one → (out-Table one).number ≡ number →
+    ensures least { IfOk result (λ least. (one : Table) → IsAmong table.now one → (out-Table one).number ≡ number →
         IsLeastWidth one style least) }
+    ensures small { IfOk result (λ least. least ≤ MAX_HEIGHT) }
 {
     let one = with_number(table, number).unwrap();
     least_width(alloc, one, style)
@@ -56,7 +59,8 @@ impl<'a> Subject<'a> {
         page: u32,
     ) -> Result<Subject<'a>, AllocError>
         requires sound { IsSound table.now }
-        ensures { IfOk result (λ subject. IsDocumentOf table.now style page (meant subject)) }
+        ensures is { IfOk result (λ subject. IsDocumentOf table.now style page (meant subject)) }
+        ensures small { IfOk result (λ subject. All (λ least. least ≤ MAX_HEIGHT) subject.least.items) }
     {
         let count = nested(table) + 1;
         let mut least = Vec::new(alloc);

@@ -2,6 +2,7 @@
 
 ghost use Rattle.std.specs.Prelude.{◌≡◌, ◌+◌, ◌*◌, ◌<◌, ◌≤◌, ◌^◌, ℕ, length, sum_by, IfOk, vec_len};
 ghost use Rattle.std.specs.List.{All};
+ghost use Rattle.tl_base.specs.declared.limits.TheConstants.{MAX_HEIGHT};
 ghost use Rattle.tl_form.specs.declared.cell.Content.{out-Content};
 ghost use Rattle.tl_form.specs.declared.cell.Table.{out-Table};
 ghost use Rattle.tl_form.specs.declared.cell.TableCell.{out-TableCell};
@@ -103,11 +104,12 @@ fn block_width(alloc: Global, block: &Content, style: Style) -> Result<u32, Allo
 }
 
 /// The least width of a page that any layout of the table fits, over all layouts of the tables
-/// nested in it too. It costs what the cells, at all depths, and their demands do, and no width is
+/// nested in it too, in columns of text: no more than a certificate can name. It costs what the cells, at all depths, and their demands do, and no width is
 /// tried.
 pub fn least_width(alloc: Global, table: &Table, style: Style) -> Result<u32, AllocError>
     requires { IsSound table.now }
-    ensures { IfOk result (IsLeastWidth table.now style) }
+    ensures least { IfOk result (IsLeastWidth table.now style) }
+    ensures small { IfOk result (λ width. width ≤ MAX_HEIGHT) }
 {
     let demands = demands_of(alloc, table, style)?;
     width_by(alloc, table, &demands, style)

@@ -28,7 +28,7 @@ use crate::report::Report;
 use crate::task::Task;
 use crate::widths::total_width;
 use std::alloc::{AllocError, Global};
-use tl_base::{List, MAX_HEIGHT, MAX_REACH};
+use tl_base::{List, MAX_REACH};
 use tl_cert::{Certificate, Claim, Section, write};
 use tl_form::{
     Layout, Subject, Table, bounded_is_between, budget_closes, chains_are_writable,
@@ -120,13 +120,10 @@ fn too_narrow(
     requires cuts { budget ≤ MAX_BUDGET }
     requires least { IsLeastWidth subject.now.table.now task.now.style least }
     requires narrow { task.now.width < least }
+    requires small { least ≤ MAX_HEIGHT }
     ensures report { IfOk result (λ answer. answer.report ≡ reports.Narrow least task.now.width) }
     ensures is { IfOk result (IsNarrow task.now subject.now.table.now least) }
 {
-    // No table of a file within its limit is so wide, and no certificate has a number for it.
-    if least > MAX_HEIGHT {
-        return Err(AllocError);
-    }
     chains_are_writable();
     let certificate = Certificate {
         width: task.width,

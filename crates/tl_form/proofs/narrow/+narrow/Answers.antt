@@ -22,7 +22,7 @@ link_by-narrow_chain-requires t c =
     let same : c.in_ok-least-in-Table.least ≡ c.args.width = omega arith in
     let least : IsLeastWidth c.deref-in-Table.result.now c.args.style c.in_ok-least-in-Table.least =
     subst (λ table. IsLeastWidth table c.args.style c.in_ok-least-in-Table.least) (c.deref.ensures ∙ sym c.deref-in-Table.ensures)
-    c.in_ok-least-in-Table.ensures in (
+    c.in_ok-least-in-Table.ensures.least in (
       search (rules, the_lemmas),
       (sound, column_of_width c.deref-in-Table.result.now c.args.style c.in_ok-least-in-Table.least least (omega (arith, c.requires.wide))),
     )
@@ -33,7 +33,7 @@ link_by-returns-in_ok-chains-in-Table t c =
     linked_by_box c.args.style (out-Content c.args.block.now) c.in-Table.table c.deref-in-Table.result.now c.deref-in-Table-2.result.now
     c.in_ok-chains-in-Table.chains c.in_ok-least-in-Table.least c.args.width c.in_ok-chains-in-Table.ensures.0
     (ap out-Content c.in-Table.is ∙ outs-Table c.in-Table.table) c.deref-in-Table.ensures c.deref-in-Table-2.ensures
-    (subst (λ table. IsLeastWidth table c.args.style c.in_ok-least-in-Table.least) c.deref.ensures c.in_ok-least-in-Table.ensures) same
+    (subst (λ table. IsLeastWidth table c.args.style c.in_ok-least-in-Table.least) c.deref.ensures c.in_ok-least-in-Table.ensures.least) same
     c.in_ok-chains-in-Table.ensures.1 c.in_ok-chains-in-Table.ensures.2
 
 pub link_of-link_by-requires : goal.link_of-link_by-requires

@@ -16,9 +16,9 @@ least_width-requires c = sound_among c.args.table.now c.unwrap-one.result.now c.
     (it_is (LacksNumber c.args.table.now c.args.number) c.with_number.result c.unwrap-one.result
     (λ one. HasNumber c.args.table.now c.args.number one.now) c.unwrap-one.ensures c.with_number.ensures).among
 
-pub returns : goal.returns
-returns c = ok_weaker c.least_width.result (IsLeastWidth c.unwrap-one.result.now c.args.style)
+pub returns-clause-least : goal.returns-clause-least
+returns-clause-least c = ok_weaker c.least_width.result (IsLeastWidth c.unwrap-one.result.now c.args.style)
     (λ least. (one : Table) → IsAmong c.args.table.now one → (out-Table one).number ≡ c.args.number → IsLeastWidth one c.args.style least)
     (λ least is. of_each (λ one. IsLeastWidth one c.args.style least) c.args.table.now c.args.number c.unwrap-one.result.now c.requires.sound
     (it_is (LacksNumber c.args.table.now c.args.number) c.with_number.result c.unwrap-one.result
-    (λ one. HasNumber c.args.table.now c.args.number one.now) c.unwrap-one.ensures c.with_number.ensures) is) c.least_width.ensures
+    (λ one. HasNumber c.args.table.now c.args.number one.now) c.unwrap-one.ensures c.with_number.ensures) is) c.least_width.ensures.least

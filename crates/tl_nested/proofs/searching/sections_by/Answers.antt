@@ -9,7 +9,7 @@ use Rattle.tl_nested.proofs.Ready.{fits_of, may, subject_of}
 use Rattle.tl_nested.proofs.searching.sections_by.Goals as goal
 
 pub search-requires-clause-wide : goal.search-requires-clause-wide
-search-requires-clause-wide g c = fits_of c.args.table.now c.args.style c.args.width c.in_ok-subject.subject c.in_ok-subject.ensures c.requires.wide
+search-requires-clause-wide g c = fits_of c.args.table.now c.args.style c.args.width c.in_ok-subject.subject c.in_ok-subject.ensures.is c.requires.wide
 
 pub next_due-due-requires-clause-from : goal.next_due-due-requires-clause-from
 next_due-due-requires-clause-from g c =
@@ -17,8 +17,8 @@ next_due-due-requires-clause-from g c =
     let given = Gives g.F.Fn c.args.solve.now c.args.budget in
     let now = due_of c.in-Some.now in
     let so_far = subst (λ o. AreSoFar given (meant subject) c.args.budget c.loop-due.sections (option_map due_of o)) c.in-Some.is c.loop-due.invariant in
-    (may subject (subject_of c.args.table.now c.args.style c.args.width subject c.requires.sound c.requires.narrow c.in_ok-subject.ensures)
-    (fits_of c.args.table.now c.args.style c.args.width subject c.in_ok-subject.ensures c.requires.wide) c.loop-due.sections c.args.budget
+    (may subject (subject_of c.args.table.now c.args.style c.args.width subject c.requires.sound c.requires.narrow c.in_ok-subject.ensures.is)
+    (fits_of c.args.table.now c.args.style c.args.width subject c.in_ok-subject.ensures.is c.requires.wide) c.loop-due.sections c.args.budget
     (good_so_far given (meant subject) c.args.budget c.loop-due.sections so_far.each) now so_far.due).from
 
 pub loop-due-smaller : goal.loop-due-smaller
@@ -27,8 +27,8 @@ loop-due-smaller g c =
     let given = Gives g.F.Fn c.args.solve.now c.args.budget in
     let now = due_of c.in-Some.now in
     let so_far = subst (λ o. AreSoFar given (meant subject) c.args.budget c.loop-due.sections (option_map due_of o)) c.in-Some.is c.loop-due.invariant in
-    let may_be = may subject (subject_of c.args.table.now c.args.style c.args.width subject c.requires.sound c.requires.narrow c.in_ok-subject.ensures)
-    (fits_of c.args.table.now c.args.style c.args.width subject c.in_ok-subject.ensures c.requires.wide) c.loop-due.sections c.args.budget
+    let may_be = may subject (subject_of c.args.table.now c.args.style c.args.width subject c.requires.sound c.requires.narrow c.in_ok-subject.ensures.is)
+    (fits_of c.args.table.now c.args.style c.args.width subject c.in_ok-subject.ensures.is c.requires.wide) c.loop-due.sections c.args.budget
     (good_so_far given (meant subject) c.args.budget c.loop-due.sections so_far.each) now so_far.due in
     let one = subst (λ all. IsSearched given (meant subject) c.args.budget all c.in_ok-section.field-0.section)
     c.as_slice.ensures c.in_ok-section.ensures.searched in
@@ -44,8 +44,8 @@ loop-due-preserved g c =
     let given = Gives g.F.Fn c.args.solve.now c.args.budget in
     let now = due_of c.in-Some.now in
     let so_far = subst (λ o. AreSoFar given (meant subject) c.args.budget c.loop-due.sections (option_map due_of o)) c.in-Some.is c.loop-due.invariant in
-    let may_be = may subject (subject_of c.args.table.now c.args.style c.args.width subject c.requires.sound c.requires.narrow c.in_ok-subject.ensures)
-    (fits_of c.args.table.now c.args.style c.args.width subject c.in_ok-subject.ensures c.requires.wide) c.loop-due.sections c.args.budget
+    let may_be = may subject (subject_of c.args.table.now c.args.style c.args.width subject c.requires.sound c.requires.narrow c.in_ok-subject.ensures.is)
+    (fits_of c.args.table.now c.args.style c.args.width subject c.in_ok-subject.ensures.is c.requires.wide) c.loop-due.sections c.args.budget
     (good_so_far given (meant subject) c.args.budget c.loop-due.sections so_far.each) now so_far.due in
     let one = subst (λ all. IsSearched given (meant subject) c.args.budget all c.in_ok-section.field-0.section)
     c.as_slice.ensures c.in_ok-section.ensures.searched in
@@ -58,7 +58,7 @@ loop-due-preserved g c =
 pub returns-clause-expected : goal.returns-clause-expected
 returns-clause-expected g c = record {
   document = meant c.in_ok-subject.subject;
-  of = c.in_ok-subject.ensures;
+  of = c.in_ok-subject.ensures.is;
   each = c.loop-due.invariant.each;
   none = c.loop-due.invariant.due ∙ ap (option_map due_of) c.in_default.is;
 }
@@ -66,5 +66,5 @@ returns-clause-expected g c = record {
 pub returns-clause-writable : goal.returns-clause-writable
 returns-clause-writable g c = all_so_far (Gives g.F.Fn c.args.solve.now c.args.budget) c.in_ok-subject.subject c.args.budget c.loop-due.sections
     (option_map due_of c.loop-due.due)
-    (subject_of c.args.table.now c.args.style c.args.width c.in_ok-subject.subject c.requires.sound c.requires.narrow c.in_ok-subject.ensures)
+    (subject_of c.args.table.now c.args.style c.args.width c.in_ok-subject.subject c.requires.sound c.requires.narrow c.in_ok-subject.ensures.is)
     (ap (option_map due_of) c.in_default.is) c.loop-due.invariant

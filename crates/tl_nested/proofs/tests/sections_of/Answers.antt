@@ -5,5 +5,5 @@ use Rattle.tl_nested.proofs.tests.sections_of.Goals as goal
 
 pub sections-requires-clause-wide : goal.sections-requires-clause-wide
 sections-requires-clause-wide c = λ lifetimes least is.
-    let same = IsLeastWidth-unique c.in_ok-table.table Plain least c.in_ok-least.least is c.in_ok-least.ensures in
+    let same = IsLeastWidth-unique c.in_ok-table.table Plain least c.in_ok-least.least is c.in_ok-least.ensures.least in
     omega (arith, same, c.if-width-least.false)

@@ -9,12 +9,12 @@ use Rattle.tl_program.proofs.answer.answer_to.Goals as goal
 pub too_narrow-requires-clause-least : goal.too_narrow-requires-clause-least
 too_narrow-requires-clause-least c =
     let task = c.args.task.now in
-    subst (λ (table : Table). IsLeastWidth table task.style c.index-least.result.now) (sym c.in_ok-subject.ensures.same)
-    (own_first c.args.table.now task.style task.width c.in_ok-subject.subject c.index-least.result.now c.in_ok-subject.ensures c.index-least.ensures)
+    subst (λ (table : Table). IsLeastWidth table task.style c.index-least.result.now) (sym c.in_ok-subject.ensures.is.same)
+    (own_first c.args.table.now task.style task.width c.in_ok-subject.subject c.index-least.result.now c.in_ok-subject.ensures.is c.index-least.ensures)
 
 pub lowest-requires-clause-wide : goal.lowest-requires-clause-wide
 lowest-requires-clause-wide c = λ least is.
     let task = c.args.task.now in
     let same : least ≡ c.index-least.result.now = IsLeastWidth-unique c.args.table.now task.style least c.index-least.result.now is
-    (own_first c.args.table.now task.style task.width c.in_ok-subject.subject c.index-least.result.now c.in_ok-subject.ensures c.index-least.ensures) in
+    (own_first c.args.table.now task.style task.width c.in_ok-subject.subject c.index-least.result.now c.in_ok-subject.ensures.is c.index-least.ensures) in
     omega (arith, same, c.if-least-task.false)
