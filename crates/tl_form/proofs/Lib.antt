@@ -74,3 +74,9 @@ pub mod DueProblems
 pub mod SubjectLemmas
 pub mod ClosedLaws
 pub mod OpenLaws
+mod SameExamples
+pub mod SameTables
+pub mod SameFits
+pub mod SameChains
+pub mod SameProblems
+pub mod SameDocuments

@@ -22,5 +22,6 @@ pub mod ValidLaws
 pub mod ClosedLaws
 pub mod OpenLaws
 pub mod Spells
+pub mod SameLaws
 pub mod Laws
 pub mod inner

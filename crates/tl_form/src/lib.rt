@@ -22,6 +22,7 @@ mod open_laws;
 mod paragraph;
 mod problem_laws;
 mod problems;
+mod same_laws;
 mod shape;
 mod subject;
 mod valid_laws;
@@ -50,6 +51,9 @@ pub use problem_laws::{
     true_steps_lie_between, true_where_bounds_meet,
 };
 pub use problems::{has_sound_problem, problem};
+pub use same_laws::{
+    same_tables_nest_as_many, same_tables_share_certificates, same_tables_share_least_widths,
+};
 pub use subject::{Due, Subject};
 pub use valid_laws::{
     bounded_is_between, each_number_is_of_one_table, lowest_is_least, named_layout_fits,

@@ -9,7 +9,8 @@ pub returns-in_default : goal.returns-in_default
 returns-in_default c = λ steps is.
     (rw (c.in_ok-low.was, c.in_default.is) at c.bound_steps.ensures) steps.low
     (subst (λ (told : List Told). AreToldSteps Low told c.in_ok-least.least c.args.page steps.low) (sym (c.deref.ensures.value ∙ c.in_ok-told.ensures))
-    (to_low c.args.style c.args.page c.args.sections.now c.args.nested.now c.in_ok-least.least (omega (arith, c.requires.page)) c.in_ok-least.ensures.least steps is))
+    (to_low c.args.style c.args.page c.args.sections.now c.args.nested.now c.in_ok-least.least (omega (arith, c.requires.page))
+    c.in_ok-least.ensures.least steps is))
 
 pub returns-in_default-2 : goal.returns-in_default-2
 returns-in_default-2 c = λ steps is.

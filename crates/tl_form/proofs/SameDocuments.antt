@@ -1,0 +1,148 @@
+-- A certificate that is valid for a table is valid for each table that is the same.
+use Rattle.std.proofs.Common.{◌≡◌, ◌∙◌, ℕ, ◌+◌, ◌-◌, ◌<◌, ◌==◌, if◌then◌else◌, List, [], ◌∷◌, get_or, take, Option, None, Some, ◌↔◌}
+use Rattle.std.proofs.Common.{refl, sym, ap, subst}
+use Rattle.tl_base.specs.declared.style.Style.{Style}
+use Rattle.tl_problem.specs.Problem.{ProblemModel}
+use Rattle.tl_cert.specs.declared.certificate.Certificate.{Certificate}
+use Rattle.tl_cert.specs.declared.certificate.Claim.{Claim}
+use Rattle.tl_cert.specs.declared.certificate.Claim.TheVariants.{Lowest, Bounded, Narrow}
+use Rattle.tl_cert.specs.declared.section.Section.{Section}
+use Rattle.tl_form.specs.declared.cell.Table.{Table, out-Table}
+use Rattle.tl_form.specs.Expected.{Document, Due, IsDocumentOf, own_number, least_of, due_in, next_due, next_width, first_due, placed_width}
+use Rattle.tl_form.specs.Expected.{due_from, due_after}
+use Rattle.tl_form.specs.Least.{IsLeastWidth}
+use Rattle.tl_form.specs.Same.{AreSame}
+use Rattle.tl_form.specs.Sound.{nested_in_table}
+use Rattle.tl_form.specs.Valid.{IsNarrow, IsClaimFor, IsProblemAt, IsGood, AreWhole, IsShown, IsValid}
+use Rattle.tl_form.proofs.SameChains.{same_chain}
+use Rattle.tl_form.proofs.SameFits.{same_least}
+use Rattle.tl_form.proofs.SameProblems.{same_inner, same_problem}
+use Rattle.tl_form.proofs.SameTables.{among_twin, same_nests, same_number, same_turned}
+
+-- the document with another table in place of its own
+abbrev put : Document → Table → Document
+put document table = record {
+  table = table;
+  style = document.style;
+  page = document.page;
+  last = document.last;
+  least = document.least;
+}
+
+module _ (document : Document) (other : Table) (same : AreSame document.table other) where
+  abbrev twin : Document
+  twin = put document other
+
+  own : own_number document ≡ own_number twin
+  own = same_number document.table other same
+
+  least_same : (number : ℕ) → least_of document number ≡ least_of twin number
+  least_same number = ap (λ n. get_or document.least (number - n) 0) own
+
+  -- ---- it is the document of the other table
+
+  document_same : (table : Table) (style : Style) (page : ℕ) → IsDocumentOf table style page document → IsDocumentOf other style page twin
+  document_same table style page of = record {
+    same = refl;
+    drawn = of.drawn;
+    wide = of.wide;
+    numbers = of.numbers ∙ ap (λ n. n + nested_in_table document.table) own ∙ ap (λ n. own_number twin + n) nests;
+    each = of.each ∙ ap (λ n. n + 1) nests;
+    least = λ one among.
+        let found = among_twin other document.table one (same_turned document.table other same) among in
+        subst (IsLeastWidth one document.style)
+        (ap (least_of document) (sym (same_number one found.0 found.2)) ∙ least_same (out-Table one).number)
+        (same_least found.0 one document.style (least_of document (out-Table found.0).number) (same_turned one found.0 found.2)
+        (of.least found.0 found.1));
+  } where
+    nests : nested_in_table document.table ≡ nested_in_table other
+    nests = same_nests document.table other same
+
+  -- ---- what is due
+
+  next_same : (number placed : ℕ) → next_due document number placed ≡ next_due twin number placed
+  next_same number placed =
+      ap (λ n. if number == n then None else Some (due_in document number (next_width (least_of document number) placed))) own
+      ∙ ap (λ n. if number == own_number twin then None else Some (due_in document number (next_width n placed))) (least_same number)
+      ∙ ap (λ due. if number == own_number twin then None else Some due) (in_same (next_width (least_of twin number) placed))
+    where
+      in_same : (width : Option ℕ) → due_in document number width ≡ due_in twin number width
+      in_same None = refl
+      in_same (Some width) = refl
+
+  from_same : (due : Option Due) (sections : List Section) → due_from document due sections ≡ due_from twin due sections
+  from_same None [] = refl
+  from_same (Some now) [] = refl
+  from_same None (section ∷ sections) = refl
+  from_same (Some now) (section ∷ sections) =
+      ap (λ due. due_from document due sections) (next_same now.table (placed_width document.style section))
+      ∙ from_same (next_due twin now.table (placed_width document.style section)) sections
+
+  after_same : (sections : List Section) → due_after document sections ≡ due_after twin sections
+  after_same sections = from_same (Some (first_due document document.last)) sections
+
+  -- ---- sections
+
+  problem_at : (before : List Section) (section : Section) (problem : ProblemModel) → IsProblemAt document before section problem →
+      IsProblemAt twin before section problem
+  problem_at before section problem at =
+      let found = among_twin document.table other at.one same at.named.among in
+      record {
+        one = found.0;
+        named = record { among = found.1; numbered = sym (same_number at.one found.0 found.2) ∙ at.named.numbered };
+        inner = at.inner;
+        steps = same_inner at.one found.0 document.style section.width before at.inner found.2 at.steps;
+        made = same_problem at.one found.0 document.style section.width at.inner problem found.2 at.made;
+        sound = at.sound;
+      }
+
+  good_same : (budget : ℕ) (before : List Section) (section : Section) → IsGood document budget before section → IsGood twin budget before section
+  good_same budget before section good = record {
+    due = sym (after_same before) ∙ good.due;
+    problem = good.problem;
+    laid = record {
+      own = problem_at before section good.problem good.laid.own;
+      placed = good.laid.placed;
+      placement = good.laid.placement;
+    };
+    traced = good.traced;
+    logged = good.logged;
+  }
+
+  whole_same : (budget : ℕ) (sections : List Section) → AreWhole document budget sections → AreWhole twin budget sections
+  whole_same budget sections whole = record {
+    good = λ i d within. good_same budget (take i sections) (get_or sections i d) (whole.good i d within);
+    none = sym (after_same sections) ∙ whole.none;
+  }
+
+  -- ---- the claim
+
+  claim_same : (budget : ℕ) (certificate : Certificate) → IsClaimFor document budget certificate → IsClaimFor twin budget certificate
+  claim_same budget certificate claim = record {
+    wide = claim.wide;
+    drawn = claim.drawn;
+    cuts = claim.cuts;
+    kind = subst (λ n. IsNarrow certificate.claim ↔ (document.page < n)) (ap (least_of document) own ∙ least_same (own_number twin)) claim.kind;
+  }
+
+  shown_same : (budget : ℕ) (certificate : Certificate) (claim : Claim) → IsShown document budget certificate claim → IsShown twin budget certificate claim
+  shown_same budget certificate (Narrow least) shown = record {
+    weighed = same_chain document.table other document.style certificate.chains least same shown.weighed;
+    wider = shown.wider;
+  }
+  shown_same budget certificate (Lowest height) shown = (whole_same budget certificate.sections shown.0, shown.1)
+  shown_same budget certificate (Bounded height lower) shown = (whole_same budget certificate.sections shown.0, shown.1)
+
+-- a certificate that is valid for one is valid for the other
+pub same_valid : (one other : Table) (style : Style) (page budget : ℕ) (certificate : Certificate) → AreSame one other →
+    IsValid one style page budget certificate → IsValid other style page budget certificate
+same_valid one other style page budget certificate same valid =
+    let document = valid.0 in
+    let twins : AreSame document.table other = subst (λ t. AreSame t other) (sym valid.1.same) same in (
+      put document other,
+      document_same document other twins one style page valid.1,
+      record {
+        claim = claim_same document other twins budget certificate valid.2.claim;
+        shown = shown_same document other twins budget certificate certificate.claim valid.2.shown;
+      },
+    )
