@@ -1,0 +1,10 @@
+pub mod Examples
+pub mod Writing
+pub mod DrawnRows
+pub mod TableItems
+pub mod TableTree
+pub mod TableSound
+pub mod TableGrid
+pub mod TableFormed
+pub mod TableFits
+pub mod DemoLaws

@@ -1,0 +1,25 @@
+-- The text of each number is a table that fits sixty columns. Six columns of at most eight letters,
+-- with two columns between each two, take 58.
+use Rattle.std.specs.Prelude.{ℕ, ◌^◌, ◌<◌, ◌≤◌, length}
+use Rattle.tl_base.specs.declared.breaking.Breaking.TheVariants.{Words}
+use Rattle.tl_base.specs.declared.limits.TheConstants.{MAX_FILE_BYTES}
+use Rattle.tl_base.specs.declared.style.Style.TheVariants.{Plain}
+use Rattle.tl_tree.specs.Spelling.{IsWithinLimits}
+use Rattle.tl_tree.specs.Tags.{kinds}
+use Rattle.tl_form.specs.declared.cell.Table.{Table}
+use Rattle.tl_form.specs.Least.{IsLeastWidth}
+use Rattle.tl_form.specs.Spells.{Spells}
+use Rattle.tl_demo.specs.Demo.{demo_text_of}
+
+-- a number's text is a table file within all limits, and spells this table, whose least width in
+-- style plain is `least`
+pub record IsDemo (number : ℕ) (table : Table) (least : ℕ) : Type 0 where
+  pub short : length (demo_text_of number) ≤ MAX_FILE_BYTES
+  pub spelt : Spells (demo_text_of number) Words table
+  pub within : IsWithinLimits (kinds spelt.tokens)
+  pub is_least : IsLeastWidth table Plain least
+
+-- the table of each number fits a page of sixty columns
+abbrev pub DemoFits : Type 0
+DemoFits = (number : ℕ) → number < 2 ^ 32 →
+    (table : Table) × (least : ℕ) × IsDemo number table least × (least ≤ 60)
