@@ -19,7 +19,7 @@ use Rattle.tl_solve.specs.Arenas.{IsArenaOf, IsLowered}
 use Rattle.tl_solve.specs.Ends.{HasBoundUpTo}
 use Rattle.tl_solve.specs.Logs.{Proves}
 use Rattle.tl_solve.specs.Orders.{AtEachCut, CutsBelowPlacements}
-use Rattle.tl_astar.specs.Best.{IsOfLeastBound, CutsUpTo, IsAreaOf, IsLeastProved, IsBestOutcome}
+use Rattle.tl_astar.specs.Best.{IsOfLeastBound, CutsBelowByArea, CutsUpTo, IsAreaOf, IsLeastProved, IsBestOutcome}
 use Rattle.tl_astar.specs.inner.Frontier.{AreShut, KeepsOrder}
 use Rattle.tl_astar.specs.inner.Lower.{IsProvedUpto, IsLessened}
 use Rattle.tl_astar.proofs.CoverLaws.{proved-below_placement}
@@ -155,6 +155,7 @@ best-outcome problem sound budget arena is least proved keeps shown outcome best
       order = subst (λ p. AtEachCut (IsOfLeastBound problem p.height) outcome.trace) (sym best)
           (subst (AtEachCut (IsOfLeastBound problem height)) (sym trace) keeps.order);
       below = subst (CutsBelowPlacements problem) (sym trace) keeps.below;
+      below_by_area = λ same. subst (CutsBelowByArea problem) (sym trace) (keeps.below_by_area same);
       lower = subst (λ p. IsLeastProved problem outcome.trace p.height outcome.lower) (sym best)
           (subst (λ t. IsLeastProved problem t height outcome.lower) (sym trace)
           (subst (IsLeastProved problem arena.trace height) (sym lower) (least-proved problem arena.trace height least proved)));

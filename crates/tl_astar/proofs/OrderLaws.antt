@@ -19,8 +19,8 @@ use Rattle.tl_solve.specs.Arenas.{HasBoundBelow}
 use Rattle.tl_solve.specs.Logs.{Proves}
 use Rattle.tl_solve.specs.Orders.{IsBelowPlacements}
 use Rattle.tl_solve.proofs.OrderLaws.{at-each-push}
-use Rattle.tl_astar.specs.Best.{MayBeLower, IsOfLeastBound}
-use Rattle.tl_astar.specs.inner.Frontier.{IsUnderBounds, IsFrontier, IsCutProved, KeepsOrder}
+use Rattle.tl_astar.specs.Best.{HaveSameSteps, IsAreaOf, MayBeLower, IsOfLeastBound}
+use Rattle.tl_astar.specs.inner.Frontier.{HasAreaBelow, IsUnderBounds, IsFrontier, IsCutProved, KeepsOrder}
 use Rattle.tl_astar.proofs.FrontierLaws.{bound-kept, lower_bound-more, upper_bound-more}
 
 -- a zone has a bound or no widths
@@ -32,6 +32,7 @@ pub order-none : (problem : ProblemModel) (height : ℕ) → KeepsOrder problem 
 order-none problem height = record {
   order = λ i d within. absurd (omega (arith, within));
   below = λ i d within. absurd (omega (arith, within));
+  below_by_area = λ same i d within. absurd (omega (arith, within));
   proved = λ low i d within. absurd (omega (arith, within));
 }
 
@@ -49,6 +50,7 @@ order-lower problem trace height best less keeps = record {
         }),
       );
   below = keeps.below;
+  below_by_area = keeps.below_by_area;
   proved = keeps.proved;
 }
 
@@ -130,17 +132,23 @@ module _ (problem : ProblemModel) (sound : IsSound problem) (trace : List CutAt)
         ]
       ]
 
-  pub order-cut : KeepsOrder problem trace height → IsKeen problem (whole_zone problem) trace height →
+  pub order-cut : KeepsOrder problem trace height → (HaveSameSteps problem → HasAreaBelow problem trace cut.zone height) →
+      IsKeen problem (whole_zone problem) trace height →
       ((z : ℕ) → IsZoneOf trace z → HasBoundOrNone problem trace z) →
       ((z : ℕ) → IsZoneOf (trace ++ cut ∷ []) z → HasBoundOrNone problem (trace ++ cut ∷ []) z) →
       KeepsOrder problem (trace ++ cut ∷ []) height
-  order-cut keeps keen found found_more =
+  order-cut keeps small keen found found_more =
       let low : IsBelowPlacements problem trace has.0 = λ y placed there placement.
       let above = keen y placed there placement in omega (arith, above, has.2) in
       record {
         order = at-each-push (IsOfLeastBound problem height) trace cut keeps.order (has.0, has.1, is_least);
         below = at-each-push (λ cuts c. (bound : ℕ) × IsBoundOf problem cuts c.zone bound × IsBelowPlacements problem cuts bound) trace cut
             keeps.below (has.0, has.1, low);
+        below_by_area = λ same.
+            let area = small same in
+            at-each-push (λ cuts c. (a : ℕ) × IsAreaOf problem cuts c.zone a × IsBelowPlacements problem cuts a) trace cut
+            (keeps.below_by_area same)
+            (area.0, area.1, λ y placed there placement. let above = keen y placed there placement in omega (arith, above, area.2));
         proved = λ agree. All-push (IsCutProved problem (trace ++ cut ∷ [])) trace cut
             (λ i d within.
             let old = keeps.proved agree i d within in

@@ -24,7 +24,8 @@ use Rattle.tl_solve.proofs.ArenaLaws.{arena-item, arena-keen, lowered-le}
 use Rattle.tl_astar.specs.inner.Entries.{Entry, entry, bound_in, zone_in, IsTakenOut, IsAdded}
 use Rattle.tl_astar.specs.declared.opens.OpenZones.{OpenZones}
 use Rattle.tl_astar.specs.declared.search.Search.{Search}
-use Rattle.tl_astar.specs.inner.Frontier.{IsUnderBounds, IsFrontier, KeepsOrder, PartsRange}
+use Rattle.tl_astar.specs.Best.{HaveSameSteps}
+use Rattle.tl_astar.specs.inner.Frontier.{HasAreaBelow, IsUnderBounds, IsFrontier, KeepsOrder, PartsRange}
 use Rattle.tl_astar.specs.inner.Searches.{HaveBounds, AreLeft, IsSearchOf, open_zones}
 use Rattle.tl_astar.proofs.FrontierLaws.{frontier-lower, frontier-permuted, frontier-shut, frontier-cut, bound-kept}
 use Rattle.tl_astar.proofs.OrderLaws.{HasBoundOrNone, order-lower, order-cut}
@@ -142,6 +143,7 @@ search-popped problem search opens is bounds = record {
   work = is.work;
   bounds = bounds;
   agree = is.agree;
+  same_steps = is.same_steps;
   order = is.order;
 }
 
@@ -201,12 +203,13 @@ module _ (problem : ProblemModel) (A B : Arena) (is : IsArenaOf problem A) (also
       (added-frontier problem more B.best.height high (get_or B.bounds.items high None) mid new second (found_at high (omega arith))
       (added-first problem more B.best.height low high (get_or B.bounds.items low None) old mid first (found_at low (omega arith)) both))
 
-  pub cut-order : KeepsOrder problem A.trace A.best.height → KeepsOrder problem B.trace B.best.height
-  cut-order keeps =
+  pub cut-order : (HaveSameSteps problem → HasAreaBelow problem A.trace cut.zone A.best.height) → KeepsOrder problem A.trace A.best.height →
+      KeepsOrder problem B.trace B.best.height
+  cut-order small keeps =
       let more = A.trace ++ cut ∷ [] in
       subst (λ t. KeepsOrder problem t B.best.height) (sym longer)
       (order-lower problem more A.best.height B.best.height lowered
-      (order-cut problem is.work.sound A.trace is.trace_of cut now A.best.height (map zone_in old) left below least keeps
+      (order-cut problem is.work.sound A.trace is.trace_of cut now A.best.height (map zone_in old) left below least keeps small
       (arena-keen problem is.work.sound A is) (found-or_none problem A is)
       (subst (λ t. (z : ℕ) → IsZoneOf t z → HasBoundOrNone problem t z) longer (found-or_none problem B also))))
 
@@ -218,6 +221,7 @@ search-offered problem search arena is offered trace less = record {
   work = is.work;
   bounds = subst (λ t. HaveBounds problem t (heap_items search.opens.heap)) (sym trace) is.bounds;
   agree = is.agree;
+  same_steps = is.same_steps;
   order = subst (λ t. KeepsOrder problem t arena.best.height) (sym trace)
       (order-lower problem search.arena.trace search.arena.best.height arena.best.height less is.order);
 }

@@ -13,7 +13,7 @@ use Rattle.tl_cert.specs.Traces.{Stands, zone_of}
 use Rattle.tl_cert.specs.Worked.{IsBoundOf}
 use Rattle.tl_solve.specs.declared.outcome.Outcome.{Outcome}
 use Rattle.tl_solve.specs.Arenas.{IsLowered}
-use Rattle.tl_solve.specs.Orders.{AtEachCut, CutsBelowPlacements}
+use Rattle.tl_solve.specs.Orders.{AtEachCut, CutsBelowPlacements, IsBelowPlacements}
 
 -- ---- which zone is cut
 
@@ -33,11 +33,20 @@ IsOfLeastBound problem height cuts cut = (bound : ℕ) × IsBoundOf problem cuts
 abbrev pub CutsUpTo : ProblemModel → List CutAt → ℕ → Type 0
 CutsUpTo problem trace lower = All (λ cut. (bound : ℕ) × IsBoundOf problem trace cut.zone bound × (bound ≤ lower)) trace
 
--- ---- the lower bound
-
 -- the area bound of the zone with this number
 abbrev pub IsAreaOf : ProblemModel → List CutAt → ℕ → ℕ → Type 0
 IsAreaOf problem trace z area = IsAreaBound problem (InZone problem (zone_of problem trace z)) area
+
+-- each zone that was cut had an area bound below the height of the placement in every zone that the trace had made by then
+abbrev pub CutsBelowByArea : ProblemModel → List CutAt → Type 0
+CutsBelowByArea problem trace =
+    AtEachCut (λ cuts cut. (area : ℕ) × IsAreaOf problem cuts cut.zone area × IsBelowPlacements problem cuts area) trace
+
+-- each cell has the same steps by `low` and by `high`
+abbrev pub HaveSameSteps : ProblemModel → Type 0
+HaveSameSteps problem = All (λ cell. cell.low ≡ cell.high) problem.cells
+
+-- ---- the lower bound
 
 -- `lower` is the least of the height and, over the zones that stand and have widths, of the greater of bound and area bound
 pub record IsLeastProved (problem : ProblemModel) (trace : List CutAt) (height lower : ℕ) : Type 0 where
@@ -51,12 +60,14 @@ pub record IsLeastProved (problem : ProblemModel) (trace : List CutAt) (height l
 
 -- The search began with the opening, replaced it only by lower placements, and not at all for a budget of no cuts. Each
 -- zone that it cut had the least bound of those that may hold a layout below the best, and a bound below the height of
--- the placement in every zone that was made by then. Its lower bound is the least that the zones prove; where `low` is
--- `high`, no zone was cut whose bound is above it.
+-- the placement in every zone that was made by then; so was its area bound, where each cell has the same steps by `low`
+-- and by `high`. Its lower bound is the least that the zones prove; where `low` is `high`, no zone was cut whose bound is
+-- above it.
 pub record IsBestOutcome (problem : ProblemModel) (budget : ℕ) (outcome : Outcome) : Type 0 where
   pub opening : (placed : Placed) × IsOpening problem placed × IsLowered placed outcome.best
   pub shown : budget ≡ 0 → IsOpening problem outcome.best
   pub order : AtEachCut (IsOfLeastBound problem outcome.best.height) outcome.trace
   pub below : CutsBelowPlacements problem outcome.trace
+  pub below_by_area : HaveSameSteps problem → CutsBelowByArea problem outcome.trace
   pub lower : IsLeastProved problem outcome.trace outcome.best.height outcome.lower
   pub up_to : LowIsHigh problem → CutsUpTo problem outcome.trace outcome.lower

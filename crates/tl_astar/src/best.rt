@@ -9,8 +9,8 @@ use tl_problem::Problem;
 use tl_solve::{Outcome, Solver};
 
 /// Cuts of the zones that may hold a lower layout one of least bound, the newest of equals, until none is
-/// left or the budget is spent. Where `low` is `high` for every cell, a zone whose area bound reaches the
-/// best height is left uncut.
+/// left or the budget is spent. Where each cell has the same steps by `low` and by `high`, a zone whose
+/// area bound reaches the best height is left uncut.
 #[derive(Debug, Drop)]
 pub struct Best {
     alloc: Global,

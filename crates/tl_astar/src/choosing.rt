@@ -4,7 +4,8 @@ ghost use Rattle.std.specs.Prelude.{◌≡◌, ◌≤◌, IfOk, IfSome, MatchOpt
 ghost use Rattle.tl_problem.specs.Zones.{whole_zone};
 ghost use Rattle.tl_cert.specs.Traces.{IsCut, Stands, zone_of};
 ghost use Rattle.tl_solve.specs.Arenas.{HasBoundBelow};
-ghost use Rattle.tl_astar.specs.inner.Frontier.{IsShut, PartsRange};
+ghost use Rattle.tl_astar.specs.Best.{HaveSameSteps};
+ghost use Rattle.tl_astar.specs.inner.Frontier.{HasAreaBelow, IsShut, PartsRange};
 ghost use Rattle.tl_astar.specs.inner.Searches.{IsSearchOf};
 
 use crate::columns::{column_places, widths_between};
@@ -35,6 +36,8 @@ impl Search {
         ensures cut { IfOk result (λ found. IfSome found (IsCut (whole_zone problem.now) self.old.arena.trace)) }
         ensures below { IfOk result (λ found. IfSome found (λ cut.
             HasBoundBelow problem.now self.old.arena.trace zone self.new.arena.best.height)) }
+        ensures below_by_area { IfOk result (λ found. IfSome found (λ cut. HaveSameSteps problem.now →
+            HasAreaBelow problem.now self.old.arena.trace zone self.new.arena.best.height)) }
     {
         let cells = problem.cells();
         let ranges = self.arena.zones()[zone as usize].ranges();

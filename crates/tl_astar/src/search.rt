@@ -1,18 +1,20 @@
 //! A best-first search on its way: its arena, and the zones that may still be cut.
 
-ghost use Rattle.std.specs.Prelude.{◌≡◌, ◌+◌, ◌<◌, ◌≤◌, ◌++◌, [], ◌∷◌, ℕ, IsTrue, length, get_or, IfNone, IfOk, IfSome, None, OnOk, OnSome};
+ghost use Rattle.std.specs.Prelude.{◌≡◌, ◌⊎◌, ◌+◌, ◌<◌, ◌≤◌, ◌++◌, [], ◌∷◌, ℕ, IsTrue, length, get_or, false, IfNone, IfOk, IfSome, None, OnOk, OnSome};
 ghost use Rattle.std.specs.BinaryHeap.{heap_items, heap_len};
 ghost use Rattle.tl_base.specs.declared.limits.TheConstants.{MAX_BUDGET};
+ghost use Rattle.tl_problem.specs.Bounds.{HasNoWidths};
 ghost use Rattle.tl_problem.specs.Placements.{IsOpening};
 ghost use Rattle.tl_problem.specs.Works.{IsWorkOf};
-ghost use Rattle.tl_problem.specs.Zones.{whole_zone};
+ghost use Rattle.tl_problem.specs.Zones.{whole_zone, InZone};
 ghost use Rattle.tl_cert.specs.Traces.{IsCut, IsZoneOf, zone_of};
 ghost use Rattle.tl_cert.specs.Worked.{IsBoundOf};
 ghost use Rattle.tl_solve.specs.Arenas.{HasBoundBelow, IsArenaOf};
 ghost use Rattle.tl_solve.specs.Logs.{HasAreaFrom};
 ghost use Rattle.tl_solve.specs.Orders.{IsFirstCut};
+ghost use Rattle.tl_astar.specs.Best.{HaveSameSteps};
 ghost use Rattle.tl_astar.specs.inner.Entries.{IsAdded};
-ghost use Rattle.tl_astar.specs.inner.Frontier.{AreShut, IsShut, IsUnderBounds};
+ghost use Rattle.tl_astar.specs.inner.Frontier.{AreShut, HasAreaBelow, IsShut, IsUnderBounds};
 ghost use Rattle.tl_astar.specs.inner.Searches.{AreLeft, IsSearchOf, open_zones};
 
 use crate::agreement::is_low_high;
@@ -112,6 +114,8 @@ impl Search {
         ensures zone { IfSome result (λ cut. cut.zone ≡ zone) }
         ensures first { IfSome result (IsFirstCut (zone_of problem.now self.old.arena.trace zone)) }
         ensures below { IfSome result (λ cut. HasBoundBelow problem.now self.old.arena.trace zone self.old.arena.best.height) }
+        ensures below_by_area { IfSome result (λ cut. HaveSameSteps problem.now →
+            HasAreaBelow problem.now self.old.arena.trace zone self.old.arena.best.height) }
     {
         let cut = self.arena.first_cut(problem, zone)?;
         if self.low_is_high && is_area_enough(problem, &self.arena, &mut self.work, zone) {
@@ -128,6 +132,8 @@ impl Search {
             IsUnderBounds problem.now self.old.arena.trace bound (open_zones self.old) }
         requires cut { IsCut (whole_zone problem.now) self.old.arena.trace cut }
         requires below { HasBoundBelow problem.now self.old.arena.trace cut.zone self.old.arena.best.height }
+        requires below_by_area { HaveSameSteps problem.now →
+            HasAreaBelow problem.now self.old.arena.trace cut.zone self.old.arena.best.height }
         requires few { length self.old.arena.trace < MAX_BUDGET }
         ensures trace { OnOk result (self.new.arena.trace ≡ self.old.arena.trace ++ cut ∷ []) }
         ensures search { OnOk result (IsSearchOf problem.now self.new) }
@@ -149,6 +155,8 @@ fn is_area_enough(problem: &Problem, arena: &Arena, work: &mut Work, zone: u32) 
     requires there { IsZoneOf arena.now.trace zone }
     ensures work { IsWorkOf problem.now work.new }
     ensures area { IsTrue result → HasAreaFrom problem.now (zone_of problem.now arena.now.trace zone) arena.now.best.height }
+    ensures below { result ≡ false → HasNoWidths (InZone problem.now (zone_of problem.now arena.now.trace zone))
+        ⊎ HasAreaBelow problem.now arena.now.trace zone arena.now.best.height }
 {
     match problem.area_of(&arena.zones()[zone as usize], work) {
         Some(area) => area >= arena.best().height,

@@ -10,7 +10,7 @@ use Rattle.tl_cert.specs.Traces.{Stands, zone_of}
 use Rattle.tl_cert.specs.Worked.{IsClosed, IsBoundOf}
 use Rattle.tl_solve.specs.Logs.{HasAreaFrom, Proves}
 use Rattle.tl_solve.specs.Orders.{AtEachCut, CutsBelowPlacements}
-use Rattle.tl_astar.specs.Best.{IsOfLeastBound}
+use Rattle.tl_astar.specs.Best.{CutsBelowByArea, HaveSameSteps, IsAreaOf, IsOfLeastBound}
 
 -- the zone needs no cut: it is closed for the height or, where `low` is `high`, its area bound is at least the height
 abbrev pub IsShut : ProblemModel → List Range → ℕ → Type 0
@@ -32,6 +32,10 @@ pub record IsFrontier (problem : ProblemModel) (trace : List CutAt) (height : �
   pub others : (z : ℕ) → Stands trace z → Contains zones z ⊎ IsShut problem (zone_of problem trace z) height
   pub rising : All (λ cut. (bound : ℕ) → IsBoundOf problem trace cut.zone bound → IsUnderBounds problem trace bound zones) trace
 
+-- the zone with this number has an area bound below the height
+abbrev pub HasAreaBelow : ProblemModel → List CutAt → ℕ → ℕ → Type 0
+HasAreaBelow problem trace z height = (area : ℕ) × IsAreaOf problem trace z area × (area < height)
+
 -- each zone that stands proves the bound that the cut zone has
 abbrev pub IsCutProved : ProblemModel → List CutAt → CutAt → Type 0
 IsCutProved problem trace cut = (bound : ℕ) × IsBoundOf problem trace cut.zone bound
@@ -41,6 +45,7 @@ IsCutProved problem trace cut = (bound : ℕ) × IsBoundOf problem trace cut.zon
 pub record KeepsOrder (problem : ProblemModel) (trace : List CutAt) (height : ℕ) : Type 0 where
   pub order : AtEachCut (IsOfLeastBound problem height) trace
   pub below : CutsBelowPlacements problem trace
+  pub below_by_area : HaveSameSteps problem → CutsBelowByArea problem trace
   pub proved : LowIsHigh problem → All (IsCutProved problem trace) trace
 
 -- the cut parts the range of a span of the zone in two that have classes

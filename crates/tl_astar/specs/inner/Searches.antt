@@ -9,6 +9,7 @@ use Rattle.tl_cert.specs.declared.trace.CutAt.{CutAt}
 use Rattle.tl_cert.specs.Worked.{IsBoundOf}
 use Rattle.tl_solve.specs.Arenas.{IsArenaOf}
 use Rattle.tl_astar.specs.declared.search.Search.{Search}
+use Rattle.tl_astar.specs.Best.{HaveSameSteps}
 use Rattle.tl_astar.specs.inner.Entries.{Entry, bound_in, zone_in}
 use Rattle.tl_astar.specs.inner.Frontier.{IsFrontier, KeepsOrder}
 
@@ -27,6 +28,7 @@ pub record IsSearchOf (problem : ProblemModel) (search : Search) : Type 0 where
   pub work : IsWorkOf problem search.work
   pub bounds : HaveBounds problem search.arena.trace (heap_items search.opens.heap)
   pub agree : IsTrue search.low_is_high → LowIsHigh problem
+  pub same_steps : HaveSameSteps problem → IsTrue search.low_is_high
   pub order : KeepsOrder problem search.arena.trace search.arena.best.height
 
 -- the zones are those that the search may still cut

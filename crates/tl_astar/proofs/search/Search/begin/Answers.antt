@@ -25,7 +25,8 @@ returns-clause-search c =
           (added-bounds p arena.trace 0 (get_or arena.bounds.items 0 None) (heap_items c.new-opens.result.heap) new c.in_ok-add.ensures.added
           (found.each 0 None (omega (arith, found.count)))
           (λ k d within. absurd (omega (arith, within, ap length c.new-opens.ensures))));
-      agree = λ yes. c.is_low_high.ensures (subst IsTrue c.in_ok-add.ensures.agree yes);
+      agree = λ yes. c.is_low_high.ensures.low (subst IsTrue c.in_ok-add.ensures.agree yes);
+      same_steps = λ same. subst IsTrue (sym c.in_ok-add.ensures.agree) (c.is_low_high.ensures.same same);
       order = subst (λ (a : Arena). KeepsOrder p a.trace a.best.height) (sym same)
           (subst (λ t. KeepsOrder p t arena.best.height) (sym c.in_ok-arena.ensures.no_cut) (order-none p arena.best.height));
     }

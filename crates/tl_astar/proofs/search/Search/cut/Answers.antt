@@ -39,9 +39,10 @@ returns-clause-search c =
           (cut-bounds p A B is.arena c.in_ok-cut.ensures.arena c.args.cut c.requires.cut c.in_ok-cut.ensures.trace less old mid new first second
           c.requires.left below least is.bounds);
       agree = λ yes. is.agree (subst IsTrue agree yes);
+      same_steps = λ same. subst IsTrue (sym agree) (is.same_steps same);
       order = subst (λ (a : Arena). KeepsOrder p a.trace a.best.height) (sym same)
           (cut-order p A B is.arena c.in_ok-cut.ensures.arena c.args.cut c.requires.cut c.in_ok-cut.ensures.trace less old mid new first second
-          c.requires.left below least is.order);
+          c.requires.left below least c.requires.below_by_area is.order);
     }
 
 pub returns-clause-left : goal.returns-clause-left

@@ -1,4 +1,4 @@
-use Rattle.std.proofs.Common.{Option, None, Some, inl, inr, sym, subst, rules}
+use Rattle.std.proofs.Common.{Option, None, Some, IsTrue, false, inl, inr, sym, subst, rules}
 use Rattle.std.specs.Option.{IfNone}
 use Rattle.tl_astar.specs.inner.Searches.{IsSearchOf}
 use Rattle.tl_astar.proofs.search.Search.first_cut.Goals.{else-self-via-then-self+else-is_area_enough, else-self-via-else-self}
@@ -7,6 +7,9 @@ use Rattle.tl_astar.proofs.search.Search.first_cut.Goals as goal
 if_none : {A : Type 0} (o : Option A) (P : Type 0) → P → IfNone o P
 if_none None P holds = holds
 if_none (Some x) P holds = tt
+
+not-true : IsTrue false → ⊥
+not-true is = cc
 
 pub returns-in_err-cut-clause-shut : goal.returns-in_err-cut-clause-shut
 returns-in_err-cut-clause-shut c = if_none c.from_residual.result _ (inl c.in_err-cut.ensures.closed)
@@ -24,7 +27,19 @@ returns-clause-search c =
         work = w.is_area_enough.ensures.work;
         bounds = is.bounds;
         agree = is.agree;
+        same_steps = is.same_steps;
         order = is.order;
       })
       | else-self-via-else-self w ↦ subst (IsSearchOf c.args.problem.now) (sym w.self-is) is
+    ]
+
+pub returns-clause-below_by_area : goal.returns-clause-below_by_area
+returns-clause-below_by_area c = λ same.
+    let bound = c.in_ok-cut.ensures.below in
+    elim c.else-self.branch [
+      | else-self-via-then-self+else-is_area_enough w ↦ elim (w.is_area_enough.ensures.below w.if-is_area_enough.false) [
+        | inl none ↦ absurd (none bound.1.some.0 bound.1.some.1)
+        | inr area ↦ area
+      ]
+      | else-self-via-else-self w ↦ absurd (not-true (subst IsTrue w.if-self.false (c.requires.search.same_steps same)))
     ]
