@@ -11,14 +11,14 @@ pub fn paragraphs_are_whole()
     ensures { ParagraphsAreWhole }
 {}
 
-/// Each line of a page is as wide as its layout: the units on it and the gaps, rules and corners
-/// between them take as many columns in all.
+/// Each line of a page in a layout that fits is as wide as the layout: the units on it and the gaps,
+/// rules and corners between them take as many columns in all.
 pub fn lines_are_as_wide()
     ensures { LinesAreAsWide }
 {}
 
-/// A page has all text of its table, that of nested tables included: each line of a cell stands whole
-/// on the page, under the one before it, after all columns to the left of the cell.
+/// A page in a layout that fits has all text of its table, that of nested tables included: each line of
+/// a cell stands whole on the page, under the one before it, after all columns to the left of the cell.
 pub fn pages_hold_all_text()
     ensures { PagesHoldAllText }
 {}

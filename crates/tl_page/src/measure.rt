@@ -166,7 +166,7 @@ fn taken_by(
 }
 
 /// Whether the layout fits a page of `width` columns and at most [`MAX_HEIGHT`] lines. A layout that
-/// does may be drawn by [`crate::page`].
+/// does, on a page of at most [`tl_base::MAX_PAGE_WIDTH`] columns, may be drawn by [`crate::page`].
 pub fn fits(table: &Table, style: Style, width: u32, layout: &Layout) -> bool
     requires { IsSound table.now }
     ensures { IsTrue result ↔ ((height : ℕ) × (height ≤ MAX_HEIGHT) × Fits table.now style width height layout.now) }

@@ -21,7 +21,6 @@ verdict_on (claims.Lowest height) = verdicts.Lowest
 verdict_on (claims.Bounded height lower) = verdicts.Bounded
 verdict_on (claims.Narrow least) = verdicts.Narrow
 
--- the height of the layout that is claimed; there is none where the page is too narrow
 -- the section with this number has a placement and a trace, and `line` is the first line of its log that is not good, or
 -- the number of lines, where all are and the log is not
 pub record HasBadLine (document : Document) (budget : ℕ) (certificate : Certificate) (number line : ℕ) : Type 0 where

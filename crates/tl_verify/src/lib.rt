@@ -1,6 +1,6 @@
 //! Judges a whole certificate against its table, and gives the layout that it names. Whoever reads a
-//! certificate trusts no search: none stands below this crate. Its one contract: `verify` accepts
-//! exactly the valid certificates, and otherwise names the first step that fails.
+//! certificate trusts no search: none stands below this crate. Its one contract: unless memory runs out,
+//! `verify` accepts exactly the valid certificates, and otherwise names the first step that fails.
 #![tactic(auto)]
 
 mod chains;
