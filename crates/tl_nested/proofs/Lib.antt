@@ -1,4 +1,4 @@
-mod Ready
+pub mod Ready
 mod Written
 mod Counted
 mod Made

@@ -25,9 +25,9 @@ use Rattle.tl_form.specs.Valid.{AreGoodBelow, IsGood, IsProblemAt}
 use Rattle.tl_form.proofs.DueLaws.{MayBeDue, due_next, due_from-push}
 use Rattle.tl_form.proofs.DueProblems.{good_follows}
 use Rattle.tl_solve.specs.declared.outcome.Outcome.{Outcome}
-use Rattle.tl_nested.specs.Searched.{AreSectionsOf, AreWritable, EachIsSearched, IsSearched}
+use Rattle.tl_nested.specs.Searched.{FitsPage, AreSectionsOf, AreWritable, EachIsSearched, IsSearched}
 use Rattle.tl_nested.specs.Solved.{Gives, IsSolved, SolvesEach}
-use Rattle.tl_nested.specs.inner.SoFar.{AreSoFar, FitsPage, left}
+use Rattle.tl_nested.specs.inner.SoFar.{AreSoFar, left}
 use Rattle.tl_nested.proofs.Counted.{few_enough, left_falls}
 use Rattle.tl_nested.proofs.Ready.{may, narrow, small, sound_one}
 use Rattle.tl_nested.proofs.Written.{total_within, written}

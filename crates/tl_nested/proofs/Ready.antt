@@ -30,7 +30,7 @@ use Rattle.tl_form.proofs.ProblemTruth.{fits-low, high-fits, same-problem}
 use Rattle.tl_form.proofs.SafeProblems.{sound-problem}
 use Rattle.tl_form.proofs.TableNumbers.{sound_among}
 use Rattle.tl_form.proofs.Truth.{IsTrue}
-use Rattle.tl_nested.specs.inner.SoFar.{FitsPage}
+use Rattle.tl_nested.specs.Searched.{FitsPage}
 
 -- ---- the laws of tl_form
 

@@ -8,10 +8,16 @@ use Rattle.tl_cert.specs.declared.limits.TheConstants.{MAX_SECTIONS}
 use Rattle.tl_cert.specs.declared.section.Section.{Section}
 use Rattle.tl_cert.specs.Text.{IsSectionWritable}
 use Rattle.tl_form.specs.declared.cell.Table.{Table}
-use Rattle.tl_form.specs.Expected.{Document, IsDocumentOf, due_after}
+use Rattle.tl_form.specs.declared.subject.Subject.{Subject}
+use Rattle.tl_form.specs.Expected.{Document, IsDocumentOf, own_number, least_of, due_after}
+use Rattle.tl_form.specs.Subjects.{meant}
 use Rattle.tl_form.specs.Valid.{IsGood}
 use Rattle.tl_solve.specs.declared.outcome.Outcome.{Outcome}
 use Rattle.tl_nested.specs.Solved.{IsSolved}
+
+-- the page is at least as wide as the least width of the document's own table
+abbrev pub FitsPage : Subject → Type 0
+FitsPage subject = least_of (meant subject) (own_number (meant subject)) ≤ subject.page
 
 -- the section has the height, the lower bound, the widths, the trace and the log of the outcome
 pub record IsSectionOf (outcome : Outcome) (section : Section) : Type 0 where

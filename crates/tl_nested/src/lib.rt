@@ -10,4 +10,4 @@ mod searching;
 mod tests;
 
 pub use make::{Make, sections};
-pub use searching::sections_by;
+pub use searching::{problem_at, sections_by};

@@ -9,9 +9,8 @@ ghost use Rattle.tl_form.specs.Least.{IsLeastWidth};
 ghost use Rattle.tl_form.specs.Sound.{IsSound};
 ghost use Rattle.tl_form.specs.Subjects.{IsSubject, due_of, meant};
 ghost use Rattle.tl_form.specs.Valid.{AreGoodBelow, IsProblemAt};
-ghost use Rattle.tl_nested.specs.Searched.{AreSectionsOf, AreWritable, IsSearched};
+ghost use Rattle.tl_nested.specs.Searched.{AreSectionsOf, AreWritable, FitsPage, IsSearched};
 ghost use Rattle.tl_nested.specs.Solved.{Gives, SearchesEach, SolvesEach};
-ghost use Rattle.tl_nested.specs.inner.SoFar.{FitsPage};
 
 use std::alloc::{AllocError, Global};
 use tl_base::{List, Style};
@@ -28,8 +27,9 @@ struct Found {
     placed: u32,
 }
 
-/// The problem of the section that is due, on the sections before it.
-fn problem_at(
+/// The problem of the section that is due, on the sections before it: that of its table at its width, in
+/// columns, with the steps that they give the tables nested directly in it.
+pub fn problem_at(
     alloc: Global,
     subject: &Subject,
     due: Due,

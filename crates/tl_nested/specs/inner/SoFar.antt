@@ -4,15 +4,9 @@ use Rattle.std.specs.List.{AllByRecursion}
 use Rattle.tl_problem.specs.Problem.{ProblemModel}
 use Rattle.tl_cert.specs.declared.section.Section.{Section}
 use Rattle.tl_cert.specs.Text.{IsSectionWritable}
-use Rattle.tl_form.specs.declared.subject.Subject.{Subject}
-use Rattle.tl_form.specs.Expected.{Document, Due, own_number, least_of, due_after}
-use Rattle.tl_form.specs.Subjects.{meant}
+use Rattle.tl_form.specs.Expected.{Document, Due, own_number, due_after}
 use Rattle.tl_solve.specs.declared.outcome.Outcome.{Outcome}
 use Rattle.tl_nested.specs.Searched.{EachIsSearched}
-
--- the page is at least as wide as the least width of the document's own table
-abbrev pub FitsPage : Subject → Type 0
-FitsPage subject = least_of (meant subject) (own_number (meant subject)) ≤ subject.page
 
 -- how many sections may still follow, the one that is due counted, and as many more as the page has columns
 abbrev pub left : Document → Option Due → ℕ
