@@ -1,5 +1,5 @@
 -- Which command words are: at most one.
-use Rattle.std.proofs.Common.{◌≡◌, ℕ, List, [], ◌∷◌, ◌++◌, Option, Some, None, refl, sym, ap, subst, ◌∙◌, decimal, codes, arith}
+use Rattle.std.proofs.Common.{◌≡◌, ◌≢◌, ℕ, List, [], ◌∷◌, ◌++◌, get_or, false, Option, Some, None, refl, sym, ap, subst, ◌∙◌, decimal, codes, arith}
 use Rattle.std.specs.Prelude.{IfSome, IfNone, option_to_list}
 use Rattle.std.specs.List.{flat_map}
 use Rattle.std.proofs.lemmas.List.Concat.{flat_map-cons}
@@ -8,7 +8,8 @@ use Rattle.tl_program.specs.declared.options.Choice.{Choice}
 use Rattle.tl_program.specs.declared.options.Choice.TheVariants as choices
 use Rattle.tl_program.specs.declared.options.Options.{Options}
 use Rattle.tl_program.specs.Options.{name_of, words_of, AreOptions}
-use Rattle.tl_program.specs.Command.{Command, IsDashed, IsDashedAtFirst, AreNames, IsLay, IsUsage}
+use Rattle.tl_program.specs.Command.{Laying, IsDashed, IsDashedAtFirst, AreNames, IsLay, AskForNoLayout, AskForNoCheck}
+use Rattle.tl_program.specs.Command.{Checking, IsCheck, IsDemo}
 use Rattle.tl_program.proofs.OptionLemmas.{first_same, rest_same, options_once}
 
 -- the name of an option begins as options do
@@ -43,7 +44,7 @@ pub record AreParts (words : List (List ℕ)) (width input page : List ℕ) (cer
   pub dashed : IfNone certificate (IsDashedAtFirst options)
 
 -- a command has these parts
-pub parts_of : (words : List (List ℕ)) (command : Command) (is : IsLay words command) →
+pub parts_of : (words : List (List ℕ)) (command : Laying) (is : IsLay words command) →
     AreParts words (decimal command.width) command.input command.page command.certificate is.more
 parts_of words command is = record {
   spelled = is.spelled;
@@ -84,14 +85,14 @@ parts_once words width input page certificate options width2 input2 page2 certif
 
 -- where the parts are no options, or no names, the words are no command
 pub no_options : (words : List (List ℕ)) (width input page : List ℕ) (certificate : Option (List ℕ)) (options : List (List ℕ)) →
-    AreParts words width input page certificate options → ((given : Options) → AreOptions options given → ⊥) → IsUsage words
+    AreParts words width input page certificate options → ((given : Options) → AreOptions options given → ⊥) → AskForNoLayout words
 no_options words width input page certificate options parts none = λ command is.
     let same = parts_once words (decimal command.width) command.input command.page command.certificate is.more width input page certificate options
     (parts_of words command is) parts in
     none command.options (subst (λ (ws : List (List ℕ)). AreOptions ws command.options) same.options is.options)
 
 pub no_names : (words : List (List ℕ)) (width input page : List ℕ) (certificate : Option (List ℕ)) (options : List (List ℕ)) →
-    AreParts words width input page certificate options → (AreNames input page certificate → ⊥) → IsUsage words
+    AreParts words width input page certificate options → (AreNames input page certificate → ⊥) → AskForNoLayout words
 no_names words width input page certificate options parts none = λ command is.
     let same = parts_once words (decimal command.width) command.input command.page command.certificate is.more width input page certificate options
     (parts_of words command is) parts in
@@ -103,11 +104,55 @@ no_names words width input page certificate options parts none = λ command is.
           (subst (λ (name : List ℕ). AreNames input2 name certificate1) pages (subst (λ (name : List ℕ). AreNames name page1 certificate1) inputs are))
 
 -- words are at most one command
-pub command_once : (words : List (List ℕ)) (one other : Command) → IsLay words one → IsLay words other → one ≡ other
-command_once words one other first second =
+pub laying_once : (words : List (List ℕ)) (one other : Laying) → IsLay words one → IsLay words other → one ≡ other
+laying_once words one other first second =
     let same = parts_once words (decimal one.width) one.input one.page one.certificate first.more
     (decimal other.width) other.input other.page other.certificate second.more (parts_of words one first) (parts_of words other second) in
     let width : one.width ≡ other.width = decimal_injective one.width other.width (omega (arith, first.most)) (omega (arith, second.most)) same.width in
     let options : one.options ≡ other.options = options_once second.more one.options other.options
     (subst (λ (ws : List (List ℕ)). AreOptions ws one.options) same.options first.options) second.options in
     λ i. record { width = width i; input = same.input i; page = same.page i; certificate = same.certificate i; options = options i }
+
+-- words ask for one check at most
+pub checking_once : (words : List (List ℕ)) (one other : Checking) → IsCheck words one → IsCheck words other → one ≡ other
+checking_once words one other first second =
+    let all = sym first.spelled ∙ second.spelled in
+    let widths = rest_same _ _ _ _ all in
+    let inputs = rest_same _ _ _ _ widths in
+    let names = rest_same _ _ _ _ inputs in
+    let width : one.width ≡ other.width = decimal_injective one.width other.width (omega (arith, first.most)) (omega (arith, second.most))
+    (first_same _ _ _ _ widths) in
+    let input : one.input ≡ other.input = first_same _ _ _ _ inputs in
+    let certificate : one.certificate ≡ other.certificate = first_same _ _ _ _ names in
+    let options : one.options ≡ other.options = options_once second.more one.options other.options
+    (subst (λ (ws : List (List ℕ)). AreOptions ws one.options) (rest_same _ _ _ _ names) first.options) second.options in
+    λ i. record { width = width i; input = input i; certificate = certificate i; options = options i }
+
+-- words whose parts have no options, or options that a check does not take, ask for no check
+module _ (words : List (List ℕ)) (width input other : List ℕ) (more : List (List ℕ))
+    (spelled : words ≡ codes "check" ∷ width ∷ input ∷ other ∷ more) where
+  same_rest : (command : Checking) (is : IsCheck words command) → is.more ≡ more
+  same_rest command is = rest_same _ _ _ _ (rest_same _ _ _ _ (rest_same _ _ _ _ (rest_same _ _ _ _ (sym is.spelled ∙ spelled))))
+
+  pub no_check_options : ((options : Options) → AreOptions more options → ⊥) → AskForNoCheck words
+  no_check_options none = λ command is. none command.options (subst (λ (ws : List (List ℕ)). AreOptions ws command.options) (same_rest command is) is.options)
+
+  pub no_check_search : (options : Options) → AreOptions more options → ((options.search ≡ None) × (options.html ≡ false) → ⊥) → AskForNoCheck words
+  no_check_search options are never = λ command is.
+      let same : command.options ≡ options = options_once more command.options options
+      (subst (λ (ws : List (List ℕ)). AreOptions ws command.options) (same_rest command is) is.options) are in
+      never (sym (ap (λ (o : Options). o.search) same) ∙ is.no_search, sym (ap (λ (o : Options). o.html) same) ∙ is.no_html)
+
+-- words that begin with other letters are not the same
+begins : (word other : List ℕ) (xs ys : List (List ℕ)) → word ∷ xs ≡ other ∷ ys → get_or word 0 0 ≢ get_or other 0 0 → ⊥
+begins word other xs ys same apart = apart (ap (λ (w : List ℕ). get_or w 0 0) (first_same word other xs ys same))
+
+pub lay_is_no_check : (words : List (List ℕ)) (one : Laying) (other : Checking) → IsLay words one → IsCheck words other → ⊥
+lay_is_no_check words one other first second = begins (codes "lay") (codes "check") _ _ (sym first.spelled ∙ second.spelled) (λ e. omega (arith, e))
+
+pub lay_is_no_demo : (words : List (List ℕ)) (one : Laying) (number : ℕ) → IsLay words one → IsDemo words number → ⊥
+lay_is_no_demo words one number first second = begins (codes "lay") (codes "demo") _ _ (sym first.spelled ∙ second.spelled) (λ e. omega (arith, e))
+
+pub check_is_no_demo : (words : List (List ℕ)) (one : Checking) (number : ℕ) → IsCheck words one → IsDemo words number → ⊥
+check_is_no_demo words one number first second =
+    begins (codes "check") (codes "demo") _ _ (sym first.spelled ∙ second.spelled) (λ e. omega (arith, e))

@@ -1,7 +1,7 @@
 -- How a run ends, from what was stored and printed; and that it is complete.
-use Rattle.std.proofs.Common.{◌≡◌, ◌⊎◌, inl, inr, ℕ, ◌+◌, ◌<◌, ◌≤◌, List, [], ◌∷◌, ◌++◌, length, take}
+use Rattle.std.proofs.Common.{◌≡◌, ◌⊎◌, inl, inr, ℕ, ◌+◌, ◌*◌, ◌<◌, ◌≤◌, List, [], ◌∷◌, ◌++◌, length, take}
 use Rattle.std.proofs.Common.{Option, Some, None, refl, sym, ◌∙◌, ap, subst, append_assoc, arith}
-use Rattle.std.specs.Prelude.{IfSome, IfOk, is_some, Result, Ok, Err, option_map}
+use Rattle.std.specs.Prelude.{IfSome, IfOk, is_some, Result, Ok, Err, option_map, Bool, true, false, ◌==◌, if◌then◌else◌}
 use Rattle.std.specs.declared.alloc.AllocError.{AllocError}
 use Rattle.std.proofs.lemmas.List.Elements.{All-contains}
 use Rattle.std.proofs.lemmas.Bool.Decides.{eqb_tells}
@@ -9,6 +9,8 @@ use Rattle.std.proofs.lemmas.List.{take_all, length-take, append-nil}
 use Rattle.tl_base.specs.declared.limits.TheConstants.{MAX_BUDGET, MAX_FILE_BYTES, MAX_REACH}
 use Rattle.tl_base.specs.Desk.{Files, IsReadFrom, Rose, StoresPrefix, SaysPrefix, longer, stored}
 use Rattle.tl_form.specs.declared.cell.Table.{Table}
+use Rattle.tl_form.specs.Same.{AreSame}
+use Rattle.tl_form.proofs.SameTables.{same_nests}
 use Rattle.tl_program.specs.declared.answer.Answer.{Answer}
 use Rattle.tl_program.specs.declared.reading.Reading.{Reading}
 use Rattle.tl_program.specs.declared.reading.Reading.TheVariants as readings
@@ -17,19 +19,21 @@ use Rattle.tl_program.specs.declared.refusal.Refusal.TheVariants as refusals
 use Rattle.tl_program.specs.declared.report.Report.{Report}
 use Rattle.tl_program.specs.declared.report.Report.TheVariants as reports
 use Rattle.tl_program.specs.declared.status.Status.{Status}
+use Rattle.tl_program.specs.declared.status.Status.TheVariants as statuses
 use Rattle.tl_program.specs.declared.options.Choice.TheVariants as choices
 use Rattle.tl_program.specs.declared.options.Options.{Options}
 use Rattle.tl_program.specs.declared.task.Task.{Task}
 use Rattle.tl_program.specs.Options.{AreOptions, IsInRange}
-use Rattle.tl_program.specs.Answers.{reach, IsAnswerBy, IsAnswerTo, StoresNothing}
+use Rattle.tl_program.specs.Answers.{budget_in, budget_of, reach, IsAnswerBy, IsAnswerTo, StoresNothing}
 use Rattle.tl_program.specs.Change.{Change, Holds, Stored, StoresSome, FailsToStore, DoesNotFail, after}
-use Rattle.tl_program.specs.Command.{Command, IsLay}
-use Rattle.tl_program.specs.Headline.{Becomes, Ends, IsComplete, IsRefusedSo}
+use Rattle.tl_program.specs.Command.{Laying, IsLay}
+use Rattle.tl_program.specs.Complete.{IsComplete, IsRefusedSo, Shows}
+use Rattle.tl_program.specs.Headline.{Becomes, Ends}
 use Rattle.tl_program.specs.Messages.{number_of, status_of, refusal_status, text_of}
 use Rattle.tl_program.specs.Outcomes.{Outcome, asked, IsAnswered, IsAnswerOf, IsAnswerFor, stored_as}
 use Rattle.tl_program.specs.Reading.{IsReading, AreAlike}
 use Rattle.tl_program.specs.inner.Printing.{IsPrinted, IsStored, IsDelivered}
-use Rattle.tl_program.proofs.CommandLemmas.{command_once}
+use Rattle.tl_program.proofs.CommandLemmas.{laying_once, lay_is_no_check, lay_is_no_demo}
 
 -- ---- files stored one after the other
 
@@ -85,36 +89,36 @@ some_all files files_after all same = record { done = all; rest = []; split = sy
 -- ---- the content of a file
 
 -- the content of which the bytes are the first, or all
-pub content_of : (files : Option Files) (name bytes : List ℕ) → length bytes ≤ MAX_FILE_BYTES + 1 →
-    IfSome files (λ held. IsReadFrom held name MAX_FILE_BYTES bytes) → (content : List ℕ) × Holds files name content
-    × (take (MAX_FILE_BYTES + 1) content ≡ bytes)
-content_of None name bytes short read = (bytes, tt, take_all (MAX_FILE_BYTES + 1) bytes short)
-content_of (Some held) name bytes short read = found (held name) read where
-  found : (there : Option (List ℕ)) → option_map (take (MAX_FILE_BYTES + 1)) there ≡ Some bytes →
-      (content : List ℕ) × (there ≡ Some content) × (take (MAX_FILE_BYTES + 1) content ≡ bytes)
+pub content_of : (most : ℕ) (files : Option Files) (name bytes : List ℕ) → length bytes ≤ most + 1 →
+    IfSome files (λ held. IsReadFrom held name most bytes) → (content : List ℕ) × Holds files name content
+    × (take (most + 1) content ≡ bytes)
+content_of most None name bytes short read = (bytes, tt, take_all (most + 1) bytes short)
+content_of most (Some held) name bytes short read = found (held name) read where
+  found : (there : Option (List ℕ)) → option_map (take (most + 1)) there ≡ Some bytes →
+      (content : List ℕ) × (there ≡ Some content) × (take (most + 1) content ≡ bytes)
   found None is = absurd cc
   found (Some content) is = (content, refl, cc)
 
 -- a file is read as its first bytes are
-long_same : (content bytes : List ℕ) → take (MAX_FILE_BYTES + 1) content ≡ bytes → (length bytes ≤ MAX_FILE_BYTES → bytes ≡ content)
-    × (MAX_FILE_BYTES < length bytes → MAX_FILE_BYTES < length content) × (MAX_FILE_BYTES < length content → MAX_FILE_BYTES < length bytes)
-long_same content bytes is =
-    let long = length-take (MAX_FILE_BYTES + 1) content in
+pub long_same : (most : ℕ) (content bytes : List ℕ) → take (most + 1) content ≡ bytes → (length bytes ≤ most → bytes ≡ content)
+    × (most < length bytes → most < length content) × (most < length content → most < length bytes)
+long_same most content bytes is =
+    let long = length-take (most + 1) content in
     let same = ap length is in (
-      λ short. sym is ∙ take_all (MAX_FILE_BYTES + 1) content (omega (arith, long, same, short)),
+      λ short. sym is ∙ take_all (most + 1) content (omega (arith, long, same, short)),
       λ more. omega (arith, long, same, more),
       λ more. omega (arith, long, same, more),
     )
 
 pub reading_of_content : (breaking : _) (content bytes : List ℕ) (reading : Reading) → take (MAX_FILE_BYTES + 1) content ≡ bytes →
     IsReading breaking bytes reading → IsReading breaking content reading
-reading_of_content breaking content bytes reading is (inl long) = inl ((long_same content bytes is).1 long.0, long.1)
+reading_of_content breaking content bytes reading is (inl long) = inl ((long_same MAX_FILE_BYTES content bytes is).1 long.0, long.1)
 reading_of_content breaking content bytes reading is (inr short) =
-    subst (λ (bs : List ℕ). IsReading breaking bs reading) ((long_same content bytes is).0 short.0) (inr short)
+    subst (λ (bs : List ℕ). IsReading breaking bs reading) ((long_same MAX_FILE_BYTES content bytes is).0 short.0) (inr short)
 
 pub reading_from_content : (breaking : _) (content bytes : List ℕ) (reading : Reading) → take (MAX_FILE_BYTES + 1) content ≡ bytes →
     IsReading breaking content reading → IsReading breaking bytes reading
-reading_from_content breaking content bytes reading is (inl long) = inl ((long_same content bytes is).2 long.0, long.1)
+reading_from_content breaking content bytes reading is (inl long) = inl ((long_same MAX_FILE_BYTES content bytes is).2 long.0, long.1)
 reading_from_content breaking content bytes reading is (inr short) =
     let few : length content ≤ MAX_FILE_BYTES + 1 = omega (arith, short.0) in
     subst (λ (bs : List ℕ). IsReading breaking bs reading) (sym (take_all (MAX_FILE_BYTES + 1) content few) ∙ is) (inr short)
@@ -168,6 +172,11 @@ module _ (words : List (List ℕ)) (change : Change) where
   report_fault (reports.Refused (refusals.BadInput fault place)) e = omega (arith, e)
   report_fault (reports.Refused (refusals.Overlap table row column)) e = omega (arith, e)
   report_fault (reports.Refused (refusals.Limit limit number)) e = omega (arith, e)
+  report_fault (reports.Rejected rejection) e = omega (arith, e)
+  report_fault (reports.Summary summary) e = by_test (summary.lower == summary.height) e where
+    by_test : (closed : Bool) → number_of (if closed then statuses.Lowest else statuses.Bounded) ≡ 8 → ⊥
+    by_test true e = omega (arith, e)
+    by_test false e = omega (arith, e)
   report_fault reports.Usage e = omega (arith, e)
   report_fault reports.ReadFault e = omega (arith, e)
 
@@ -178,6 +187,11 @@ module _ (words : List (List ℕ)) (change : Change) where
   report_memory (reports.Refused (refusals.BadInput fault place)) e = omega (arith, e)
   report_memory (reports.Refused (refusals.Overlap table row column)) e = omega (arith, e)
   report_memory (reports.Refused (refusals.Limit limit number)) e = omega (arith, e)
+  report_memory (reports.Rejected rejection) e = omega (arith, e)
+  report_memory (reports.Summary summary) e = by_test (summary.lower == summary.height) e where
+    by_test : (closed : Bool) → number_of (if closed then statuses.Lowest else statuses.Bounded) ≡ 9 → ⊥
+    by_test true e = omega (arith, e)
+    by_test false e = omega (arith, e)
   report_memory reports.Usage e = omega (arith, e)
   report_memory reports.ReadFault e = omega (arith, e)
 
@@ -204,14 +218,23 @@ module _ (words : List (List ℕ)) (change : Change) where
 
 -- ---- completeness
 
+-- a name has one content
+pub same_bytes : (files : Option Files) (held : Files) (name one bytes : List ℕ) → files ≡ Some held → held name ≡ Some bytes →
+    Holds files name one → one ≡ bytes
+same_bytes files held name one bytes are has holds =
+    let is_held : held name ≡ Some one = subst (λ (f : Option Files). Holds f name one) are holds in
+    some_same one bytes (sym is_held ∙ has) where
+      some_same : (a b : List ℕ) → Some a ≡ Some b → a ≡ b
+      some_same a b e = cc
+
 -- the command, the bytes and the answer that a run which did not fail went by
-record Went (words : List (List ℕ)) (change : Change) (command : Command) (bytes : List ℕ) (status : ℕ) : Type 0 where
+record Went (words : List (List ℕ)) (change : Change) (command : Laying) (bytes : List ℕ) (status : ℕ) : Type 0 where
   answer : Answer
   answers : IsAnswerOf (asked command) bytes answer
   same : status ≡ number_of (status_of answer.report)
 
-went : (words : List (List ℕ)) (change : Change) (status : ℕ) (command : Command) (bytes : List ℕ) → Ends words change status → IsLay words command →
-    (files : Files) × (change.files ≡ Some files) × (files command.input ≡ Some bytes) → DoesNotFail change →
+went : (words : List (List ℕ)) (change : Change) (status : ℕ) (command : Laying) (bytes : List ℕ) → Ends words change status → IsLay words command →
+    Shows change command.input bytes → DoesNotFail change →
     Went words change command bytes status ⊎ (status ≡ 9)
 went words change status command bytes ends is told quiet =
     elim (eqb_tells status 9) [
@@ -221,22 +244,15 @@ went words change status command bytes ends is told quiet =
         | inr another ↦ inl (by_outcome (ends.done another.1 other.1))
       ]
     ] where
-      same_bytes : (files : Option Files) (held : Files) (name one : List ℕ) → files ≡ Some held → held name ≡ Some bytes → Holds files name one → one ≡ bytes
-      same_bytes files held name one are has holds =
-          let is_held : held name ≡ Some one = subst (λ (f : Option Files). Holds f name one) are holds in
-          some_same one bytes (sym is_held ∙ has) where
-            some_same : (a b : List ℕ) → Some a ≡ Some b → a ≡ b
-            some_same a b e = cc
-
-      by_answer : (command' : Command) → command' ≡ command → (outcome : Outcome) → status ≡ number_of (status_of outcome.report) →
+      by_answer : (command' : Laying) → command' ≡ command → (outcome : Outcome) → status ≡ number_of (status_of outcome.report) →
           IsAnswered command' change outcome → Went words change command bytes status
       by_answer command' equal outcome ends_so answered =
-          let input : command'.input ≡ command.input = ap (λ (c : Command). c.input) equal in
-          let bytes_are : answered.bytes ≡ bytes = same_bytes change.files told.0 command.input answered.bytes told.1 told.2
+          let input : command'.input ≡ command.input = ap (λ (c : Laying). c.input) equal in
+          let bytes_are : answered.bytes ≡ bytes = same_bytes change.files told.0 command.input answered.bytes bytes told.1 told.2
           (subst (λ (name : List ℕ). Holds change.files name answered.bytes) input answered.held) in
           record {
             answer = answered.answer;
-            answers = subst (λ (c : Command). IsAnswerOf (asked c) bytes answered.answer) equal
+            answers = subst (λ (c : Laying). IsAnswerOf (asked c) bytes answered.answer) equal
                 (subst (λ (bs : List ℕ). IsAnswerOf (asked command') bs answered.answer) bytes_are answered.answers);
             same = ends_so ∙ ap (λ (o : Outcome). number_of (status_of o.report)) answered.so;
           }
@@ -244,10 +260,20 @@ went words change status command bytes ends is told quiet =
       by_outcome : (outcome : Outcome) × Becomes words change outcome × (status ≡ number_of (status_of outcome.report))
           × (change.files_after ≡ after change.files outcome.stores) × (change.said_after ≡ longer change.said (text_of outcome.report)) →
           Went words change command bytes status
-      by_outcome (outcome, inl usage, ends_so, files, said) = absurd (usage.0 command is)
-      by_outcome (outcome, inr (command', is', inl fault), ends_so, files, said) = absurd (quiet.load fault.0)
-      by_outcome (outcome, inr (command', is', inr answered), ends_so, files, said) =
-          by_answer command' (command_once words command' command is' is) outcome ends_so answered
+      by_outcome (outcome, inl usage, ends_so, files, said) = absurd (usage.0.no_layout command is)
+      by_outcome (outcome, inr (inl (command', is', inl unread)), ends_so, files, said) = absurd (quiet.load unread.rose)
+      by_outcome (outcome, inr (inl (command', is', inr answered)), ends_so, files, said) =
+          by_answer command' (laying_once words command' command is' is) outcome ends_so answered
+      by_outcome (outcome, inr (inr (inl (command', is', checked))), ends_so, files, said) = absurd (lay_is_no_check words command command' is is')
+      by_outcome (outcome, inr (inr (inr (number, is', demonstrated))), ends_so, files, said) = absurd (lay_is_no_demo words command number is is')
+
+-- tables that are the same have the same reach, and the same budget
+pub same_reach : (task : Task) (one other : Table) → AreSame one other → reach task one ≡ reach task other
+same_reach task one other same =
+    ap (λ (n : ℕ). (1 + n * task.width) * budget_of task.budget (1 + n * task.width)) (same_nests one other same)
+
+pub same_budget : (task : Task) (one other : Table) → AreSame one other → budget_in task one ≡ budget_in task other
+same_budget task one other same = ap (λ (n : ℕ). budget_of task.budget (1 + n * task.width)) (same_nests one other same)
 
 -- a file that is read as a table within the reach
 table_answered : (task : _) (table : Table) (answer : Answer) (report : Report) → answer.report ≡ report → IsAnswerBy report task table answer →
@@ -257,17 +283,18 @@ table_answered task table answer (reports.Lowest height width) is by never statu
 table_answered task table answer (reports.Bounded height lower width) is by never status same = inr (inl same)
 table_answered task table answer (reports.Narrow least width) is by never status same = inr (inr (inl same))
 table_answered task table answer (reports.Refused refusal) is by never status same = absurd (never refusal refl)
+table_answered task table answer (reports.Rejected rejection) is by never status same = absurd by
+table_answered task table answer (reports.Summary summary) is by never status same = absurd by
 table_answered task table answer reports.Usage is by never status same = absurd by
 table_answered task table answer reports.ReadFault is by never status same = absurd by
 
 pub complete : (words : List (List ℕ)) (change : Change) (status : ℕ) → Ends words change status → IsComplete words change status
-complete words change status ends = λ command bytes table is told quiet read within.
+complete words change status ends = λ command bytes table is told quiet spells.
     elim (went words change status command bytes ends is told quiet) [
-      | inl so ↦ by_reading command bytes table within read so so.answers.reading refl
+      | inl so ↦ by_reading command bytes table spells.within spells.read so so.answers.reading refl
       | inr nine ↦ inr (inr (inr nine))
     ] where
-      by_reading : (command : Command) (bytes : List ℕ) (table : Table) →
-          ((each : Table) → IsReading (asked command).breaking bytes (readings.Table each) → reach (asked command) each ≤ MAX_REACH) →
+      by_reading : (command : Laying) (bytes : List ℕ) (table : Table) → reach (asked command) table ≤ MAX_REACH →
           IsReading (asked command).breaking bytes (readings.Table table) → (so : Went words change command bytes status) →
           (reading : Reading) → so.answers.reading ≡ reading → (status ≡ 0) ⊎ ((status ≡ 3) ⊎ ((status ≡ 4) ⊎ (status ≡ 9)))
       by_reading command bytes table within read so (readings.Refused refusal) is =
@@ -275,8 +302,9 @@ complete words change status ends = λ command bytes table is told quiet read wi
       by_reading command bytes table within read so (readings.Table found) is =
           let answered : IsAnswerTo (asked command) found so.answer = subst (λ (r : Reading). IsAnswerFor
           (asked command) r so.answer) is so.answers.answered in
+          let alike : AreSame found table = subst (λ (r : Reading). AreAlike r (readings.Table table)) is (so.answers.only (readings.Table table) read) in
           let near : reach (asked command) found ≤ MAX_REACH =
-          within found (subst (λ (r : Reading). IsReading (asked command).breaking bytes r) is so.answers.read) in
+          subst (λ (n : ℕ). n ≤ MAX_REACH) (sym (same_reach (asked command) found table alike)) within in
           table_answered (asked command) found so.answer so.answer.report refl answered.answered
           (λ refusal refused. omega (arith, near, answered.within refusal refused)) status so.same
 
@@ -286,7 +314,7 @@ refused_so words change status ends = λ command bytes refusal is told quiet rea
       | inl so ↦ inl (so.same ∙ by_reading command bytes refusal read so so.answers.reading refl)
       | inr nine ↦ inr nine
     ] where
-      by_reading : (command : Command) (bytes : List ℕ) (refusal : Refusal) → IsReading (asked command).breaking bytes (readings.Refused refusal) →
+      by_reading : (command : Laying) (bytes : List ℕ) (refusal : Refusal) → IsReading (asked command).breaking bytes (readings.Refused refusal) →
           (so : Went words change command bytes status) → (reading : Reading) → so.answers.reading ≡ reading →
           number_of (status_of so.answer.report) ≡ number_of (refusal_status refusal)
       by_reading command bytes refusal read so (readings.Table table) is =

@@ -46,8 +46,8 @@ use Rattle.tl_program.specs.declared.answer.Answer.{Answer}
 use Rattle.tl_program.specs.declared.refusal.Refusal.{Refusal}
 use Rattle.tl_program.specs.declared.report.Report.TheVariants as reports
 use Rattle.tl_program.specs.declared.task.Task.{Task}
-use Rattle.tl_program.specs.Answers.{budget_in, certificate_file, IsPageFile, IsOutcomeOf, IsLaid, IsAnswerBy}
-use Rattle.tl_program.specs.inner.Claims.{section_claim, claim_of_last, claim_of, report_of}
+use Rattle.tl_program.specs.Answers.{budget_in, certificate_file, IsPageFile, IsOutcomeOf, IsLaid, IsAnswerBy, IsReadable}
+use Rattle.tl_program.specs.inner.Claims.{section_claim, claim_of_last, claim_of, certificate_of, report_of}
 
 -- ---- the last section
 
@@ -97,11 +97,6 @@ shown_by : (document : Document) (budget : ℕ) (certificate : Certificate) (cla
 shown_by document budget certificate (claims.Lowest height) wide whole ends = (whole, ends)
 shown_by document budget certificate (claims.Bounded height lower) wide whole ends = (whole, ends)
 shown_by document budget certificate (claims.Narrow least) wide whole ends = absurd (wide tt)
-
--- the certificate of sections
-abbrev pub certificate_of : ℕ → Style → ℕ → List Section → Certificate
-certificate_of page style budget sections =
-    record { width = page; style = style; budget = budget; claim = claim_of sections; chains = []; sections = sections }
 
 -- the document's own least width
 pub own_least : (table : Table) (style : Style) (page : ℕ) (document : Document) → IsDocumentOf table style page document →
@@ -337,6 +332,7 @@ module _ (task : Task) (table : Table) (sections : List Section) (are : sections
     (is_page : IsPageFile task.html task.style table layout page)
     (page_stored : answer.page ≡ Some page)
     (certificate_stored : answer.certificate ≡ certificate_file task.certified (certificate_of task.width task.style (budget_in task table) sections))
+    (readable : IsReadable task.certified (certificate_of task.width task.style (budget_in task table) sections))
     (lowest_law : LowestIsLeast) (bounded_law : BoundedIsBetween) (closes_law : BudgetCloses) (spends_law : OpenSpends) where
   abbrev cert : Certificate
   cert = certificate_of task.width task.style (budget_in task table) sections
@@ -358,6 +354,7 @@ module _ (task : Task) (table : Table) (sections : List Section) (are : sections
     is_page = is_page;
     page_stored = page_stored;
     certificate_stored = certificate_stored;
+    readable = readable;
   }
 
   wide_document : IsWideDocument table task.style task.width are.document

@@ -11,6 +11,7 @@ use Rattle.tl_problem.specs.Problem.{ProblemModel}
 use Rattle.tl_cert.specs.declared.certificate.Certificate.{Certificate}
 use Rattle.tl_cert.specs.declared.certificate.Claim.{Claim}
 use Rattle.tl_cert.specs.declared.certificate.Claim.TheVariants as claims
+use Rattle.tl_cert.specs.Faults.{IsTextOf}
 use Rattle.tl_cert.specs.Text.{cert_text}
 use Rattle.tl_form.specs.declared.cell.Table.{Table}
 use Rattle.tl_form.specs.declared.layout.Layout.{Layout, out-Layout}
@@ -68,6 +69,11 @@ abbrev pub certificate_file : Bool → Certificate → Option (List ℕ)
 certificate_file true certificate = Some (cert_text certificate)
 certificate_file false certificate = None
 
+-- where it is asked for, its text is read back as it is
+abbrev pub IsReadable : Bool → Certificate → Type 0
+IsReadable true certificate = IsTextOf (cert_text certificate) certificate
+IsReadable false certificate = Unit {0}
+
 -- ---- the answers
 
 -- what the search that is named promises besides of each outcome
@@ -92,6 +98,7 @@ pub record IsLaid (task : Task) (table : Table) (claim : Claim) (height taken : 
   pub is_page : IsPageFile task.html task.style table layout page
   pub page_stored : answer.page ≡ Some page
   pub certificate_stored : answer.certificate ≡ certificate_file task.certified certificate
+  pub readable : IsReadable task.certified certificate
 
 -- no page is stored, and the certificate that claims this: it is valid
 pub record IsNarrow (task : Task) (table : Table) (least : ℕ) (answer : Answer) : Type 0 where
@@ -102,6 +109,7 @@ pub record IsNarrow (task : Task) (table : Table) (least : ℕ) (answer : Answer
   pub valid : IsValid table task.style task.width (budget_in task table) certificate
   pub no_page : answer.page ≡ None
   pub certificate_stored : answer.certificate ≡ certificate_file task.certified certificate
+  pub readable : IsReadable task.certified certificate
 
 -- the table is refused, for a reach past its limit
 pub record IsTooFar (task : Task) (table : Table) (refusal : Refusal) : Type 0 where
@@ -131,6 +139,8 @@ IsAnswerBy (reports.Bounded height lower width) task table answer = (lower < hei
     × IsBelowCounts task table
 IsAnswerBy (reports.Narrow least width) task table answer = IsNarrow task table least answer × (width ≡ task.width)
 IsAnswerBy (reports.Refused refusal) task table answer = IsTooFar task table refusal × StoresNothing answer
+IsAnswerBy (reports.Rejected rejection) task table answer = ⊥
+IsAnswerBy (reports.Summary summary) task table answer = ⊥
 IsAnswerBy reports.Usage task table answer = ⊥
 IsAnswerBy reports.ReadFault task table answer = ⊥
 

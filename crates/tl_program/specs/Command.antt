@@ -1,12 +1,12 @@
--- The words of the command line: `lay WIDTH IN PAGE [CERT]` and options.
-use Rattle.std.specs.Prelude.{◌≡◌, ◌≢◌, ℕ, ◌≤◌, List, [], ◌∷◌, ◌++◌, codes, decimal, Option, IfSome}
+-- The words of the command line: `lay WIDTH IN PAGE [CERT]` and `check WIDTH IN CERT`, each with options, and `demo NUMBER`.
+use Rattle.std.specs.Prelude.{◌≡◌, ◌≢◌, ℕ, ◌<◌, ◌≤◌, ◌^◌, false, List, [], ◌∷◌, ◌++◌, codes, decimal, Option, None, IfSome}
 use Rattle.std.specs.Prelude.{option_to_list}
 use Rattle.tl_base.specs.declared.limits.TheConstants.{MAX_PAGE_WIDTH}
 use Rattle.tl_program.specs.declared.options.Options.{Options}
 use Rattle.tl_program.specs.Options.{AreOptions}
 
--- a command: the page width, the file to read, the files to write, and the options
-pub record Command : Type 0 where
+-- what is asked by `lay`: the page width, the file to read, the files to write, and the options
+pub record Laying : Type 0 where
   pub width : ℕ
   pub input : List ℕ
   pub page : List ℕ
@@ -29,8 +29,8 @@ abbrev pub IsDashedAtFirst : List (List ℕ) → Type 0
 IsDashedAtFirst [] = Unit {0}
 IsDashedAtFirst (word ∷ words) = IsDashed word
 
--- the words are the command: that of the certificate does not begin as an option does
-pub record IsLay (words : List (List ℕ)) (command : Command) : Type 0 where
+-- the words ask for this layout: that of the certificate does not begin as an option does
+pub record IsLay (words : List (List ℕ)) (command : Laying) : Type 0 where
   pub more : List (List ℕ)
   pub spelled : words ≡ codes "lay" ∷ decimal command.width ∷ command.input ∷ command.page
       ∷ (option_to_list command.certificate ++ more)
@@ -40,6 +40,41 @@ pub record IsLay (words : List (List ℕ)) (command : Command) : Type 0 where
   pub plain : IfSome command.certificate (λ name. IsDashed name → ⊥)
   pub options : AreOptions more command.options
 
+-- what is asked by `check`: the page width, the file that was laid out, its certificate, and the options
+pub record Checking : Type 0 where
+  pub width : ℕ
+  pub input : List ℕ
+  pub certificate : List ℕ
+  pub options : Options
+
+-- the words ask for this check: of the options, none names a search or the form of a page
+pub record IsCheck (words : List (List ℕ)) (command : Checking) : Type 0 where
+  pub more : List (List ℕ)
+  pub spelled : words ≡ codes "check" ∷ decimal command.width ∷ command.input ∷ command.certificate ∷ more
+  pub least : 1 ≤ command.width
+  pub most : command.width ≤ MAX_PAGE_WIDTH
+  pub names : AreNames command.input command.certificate None
+  pub options : AreOptions more command.options
+  pub no_search : command.options.search ≡ None
+  pub no_html : command.options.html ≡ false
+
+-- the words ask for the demonstration with this number
+pub record IsDemo (words : List (List ℕ)) (number : ℕ) : Type 0 where
+  pub spelled : words ≡ codes "demo" ∷ decimal number ∷ []
+  pub most : number < 2 ^ 32
+
+-- the words ask for no layout, no check and no demonstration
+abbrev pub AskForNoLayout : List (List ℕ) → Type 0
+AskForNoLayout words = (command : Laying) → IsLay words command → ⊥
+
+abbrev pub AskForNoCheck : List (List ℕ) → Type 0
+AskForNoCheck words = (command : Checking) → IsCheck words command → ⊥
+
+abbrev pub AskForNoDemo : List (List ℕ) → Type 0
+AskForNoDemo words = (number : ℕ) → IsDemo words number → ⊥
+
 -- the words are no command
-abbrev pub IsUsage : List (List ℕ) → Type 0
-IsUsage words = (command : Command) → IsLay words command → ⊥
+pub record IsUsage (words : List (List ℕ)) : Type 0 where
+  pub no_layout : AskForNoLayout words
+  pub no_check : AskForNoCheck words
+  pub no_demo : AskForNoDemo words

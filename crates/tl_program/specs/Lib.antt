@@ -1,11 +1,15 @@
 pub mod Answers
 pub mod Change
+pub mod Checks
 pub mod Command
+pub mod Complete
+pub mod Demonstration
 pub mod Headline
 pub mod Messages
 pub mod Options
 pub mod Outcomes
 pub mod Reading
 pub mod Refusals
+pub mod Rejections
 pub mod Tasks
 pub mod inner

@@ -1,13 +1,16 @@
 -- The exit status of each answer, and the message about it, which ends with a line feed.
-use Rattle.std.specs.Prelude.{ℕ, List, [], ◌∷◌, ◌++◌, codes, decimal}
+use Rattle.std.specs.Prelude.{ℕ, ◌==◌, if◌then◌else◌, List, [], ◌∷◌, ◌++◌, codes, decimal}
 use Rattle.tl_program.specs.declared.refusal.Fault.{Fault}
 use Rattle.tl_program.specs.declared.refusal.Fault.TheVariants as faults
 use Rattle.tl_program.specs.declared.refusal.Limit.{Limit}
 use Rattle.tl_program.specs.declared.refusal.Limit.TheVariants as limits
 use Rattle.tl_program.specs.declared.refusal.Refusal.{Refusal}
 use Rattle.tl_program.specs.declared.refusal.Refusal.TheVariants as refusals
+use Rattle.tl_program.specs.declared.rejection.Rejection.{Rejection}
+use Rattle.tl_program.specs.declared.rejection.Rejection.TheVariants as rejections
 use Rattle.tl_program.specs.declared.report.Report.{Report}
 use Rattle.tl_program.specs.declared.report.Report.TheVariants as reports
+use Rattle.tl_program.specs.declared.report.Summary.{Summary}
 use Rattle.tl_program.specs.declared.status.Status.{Status}
 use Rattle.tl_program.specs.declared.status.Status.TheVariants as statuses
 
@@ -22,6 +25,7 @@ number_of statuses.Limit = 6
 number_of statuses.ReadFault = 7
 number_of statuses.WriteFault = 8
 number_of statuses.Memory = 9
+number_of statuses.Rejected = 10
 
 -- the status of a refusal, and of what is reported
 abbrev pub refusal_status : Refusal → Status
@@ -34,6 +38,9 @@ status_of (reports.Lowest height width) = statuses.Lowest
 status_of (reports.Bounded height lower width) = statuses.Bounded
 status_of (reports.Narrow least width) = statuses.Narrow
 status_of (reports.Refused refusal) = refusal_status refusal
+status_of (reports.Rejected rejection) = statuses.Rejected
+status_of (reports.Summary summary) =
+    if summary.lower == summary.height then statuses.Lowest else statuses.Bounded
 status_of reports.Usage = statuses.Usage
 status_of reports.ReadFault = statuses.ReadFault
 
@@ -71,6 +78,27 @@ refusal_text (refusals.Overlap table row column) =
 refusal_text (refusals.Limit limit number) =
     codes "limit: " ++ (limit_word limit ++ (codes " " ++ (decimal number ++ 10 ∷ [])))
 
+-- why a certificate is rejected
+abbrev pub rejection_text : Rejection → List ℕ
+rejection_text (rejections.Syntax place) = codes "syntax at " ++ decimal place
+rejection_text (rejections.Range place) = codes "range at " ++ decimal place
+rejection_text rejections.TooLong = codes "too long"
+rejection_text rejections.Claim = codes "claim"
+rejection_text rejections.Chain = codes "chain"
+rejection_text (rejections.Missing table) = codes "missing section of table " ++ decimal table
+rejection_text (rejections.Extra section) = codes "extra section " ++ decimal section
+rejection_text (rejections.Layout section) = codes "layout of section " ++ decimal section
+rejection_text (rejections.Trace section) = codes "trace of section " ++ decimal section
+rejection_text (rejections.Line section line) =
+    codes "line " ++ (decimal line ++ (codes " of section " ++ decimal section))
+
+-- the numbers of a demonstration: cells, ways to give each span a class, lines, lower bound, cuts
+abbrev pub summary_text : Summary → List ℕ
+summary_text summary =
+    codes "cells " ++ (decimal summary.cells ++ (codes " count " ++ (decimal summary.count ++ (codes " height "
+    ++ (decimal summary.height ++ (codes " lower " ++ (decimal summary.lower ++ (codes " cuts "
+    ++ (decimal summary.cuts ++ 10 ∷ [])))))))))
+
 -- the message about an answer
 abbrev pub text_of : Report → List ℕ
 text_of (reports.Lowest height width) =
@@ -81,5 +109,7 @@ text_of (reports.Bounded height lower width) =
 text_of (reports.Narrow least width) =
     codes "narrow least " ++ (decimal least ++ (codes " width " ++ (decimal width ++ 10 ∷ [])))
 text_of (reports.Refused refusal) = refusal_text refusal
+text_of (reports.Rejected rejection) = codes "rejected: " ++ (rejection_text rejection ++ 10 ∷ [])
+text_of (reports.Summary summary) = summary_text summary
 text_of reports.Usage = codes "usage\n"
 text_of reports.ReadFault = codes "read fault\n"

@@ -1,5 +1,6 @@
--- What becomes of a command's file: what is reported, and what is stored for it, in order.
+-- What becomes of a command: what is reported, and what is stored for it, in order.
 use Rattle.std.specs.Prelude.{◌≡◌, ℕ, List, [], ◌∷◌, ◌++◌, Option, Some, None, is_some}
+use Rattle.tl_base.specs.Desk.{Rose}
 use Rattle.tl_program.specs.declared.answer.Answer.{Answer}
 use Rattle.tl_program.specs.declared.reading.Reading.{Reading}
 use Rattle.tl_program.specs.declared.reading.Reading.TheVariants as readings
@@ -8,7 +9,7 @@ use Rattle.tl_program.specs.declared.report.Report.TheVariants as reports
 use Rattle.tl_program.specs.declared.task.Task.{Task}
 use Rattle.tl_program.specs.Answers.{IsAnswerTo, StoresNothing}
 use Rattle.tl_program.specs.Change.{Change, Holds, Stored}
-use Rattle.tl_program.specs.Command.{Command}
+use Rattle.tl_program.specs.Command.{Laying}
 use Rattle.tl_program.specs.Reading.{IsReading, AreAlike}
 use Rattle.tl_program.specs.Tasks.{task_of}
 
@@ -17,8 +18,8 @@ pub record Outcome : Type 0 where
   pub report : Report
   pub stores : List Stored
 
--- what a command asks of its table
-abbrev pub asked : Command → Task
+-- what is asked of the table that is laid out
+abbrev pub asked : Laying → Task
 asked command = task_of command.width command.options (is_some command.certificate)
 
 -- a file under a name, where there are both
@@ -28,7 +29,7 @@ stored_as (Some name) None = []
 stored_as (Some name) (Some bytes) = record { name = name; bytes = bytes } ∷ []
 
 -- the page and then the certificate, those that there are
-abbrev pub outcome_of : Command → Answer → Outcome
+abbrev pub outcome_of : Laying → Answer → Outcome
 outcome_of command answer = record {
   report = answer.report;
   stores = stored_as (Some command.page) answer.page ++ stored_as command.certificate answer.certificate;
@@ -46,10 +47,15 @@ pub record IsAnswerOf (task : Task) (bytes : List ℕ) (answer : Answer) : Type 
   pub only : (other : Reading) → IsReading task.breaking bytes other → AreAlike reading other
   pub answered : IsAnswerFor task reading answer
 
--- the command's file holds some bytes, and the outcome is that of an answer to them
-pub record IsAnswered (command : Command) (change : Change) (outcome : Outcome) : Type 0 where
+-- the file holds some bytes, and the outcome is that of an answer to them
+pub record IsAnswered (command : Laying) (change : Change) (outcome : Outcome) : Type 0 where
   pub bytes : List ℕ
   pub held : Holds change.files command.input bytes
   pub answer : Answer
   pub answers : IsAnswerOf (asked command) bytes answer
   pub so : outcome ≡ outcome_of command answer
+
+-- a file could not be read: nothing is stored
+pub record IsUnread (change : Change) (outcome : Outcome) : Type 0 where
+  pub rose : Rose change.load_faults change.load_faults_after
+  pub so : outcome ≡ record { report = reports.ReadFault; stores = [] }

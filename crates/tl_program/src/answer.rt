@@ -14,25 +14,25 @@ ghost use Rattle.tl_form.specs.Sound.{IsSound, nested_in_table};
 ghost use Rattle.tl_form.specs.Subjects.{meant};
 ghost use Rattle.tl_form.specs.ChainRanges.{HasFewCells};
 ghost use Rattle.tl_nested.specs.Searched.{AreSectionsOf, AreWritable};
-ghost use Rattle.tl_program.specs.Answers.{budget_of, budget_in, searches, reach, IsPageFile};
+ghost use Rattle.tl_program.specs.Answers.{budget_in, reach, IsPageFile};
 ghost use Rattle.tl_program.specs.Answers.{certificate_file, IsOutcomeOf, IsAnswerTo, IsNarrow, IsAnswerBy};
-ghost use Rattle.tl_program.specs.Answers.{StoresNothing};
+ghost use Rattle.tl_program.specs.Answers.{IsReadable, StoresNothing};
 ghost use Rattle.tl_program.specs.declared.refusal.Refusal.{Refusal};
 ghost use Rattle.tl_program.specs.declared.report.Report.TheVariants as reports;
-ghost use Rattle.tl_program.specs.inner.Claims.{claim_of, report_of};
+ghost use Rattle.tl_program.specs.inner.Claims.{certificate_of, claim_of, report_of};
 
-use crate::limits::DEFAULT_BUDGET;
+use crate::budget::budget_within;
 use crate::makers::searched;
-use crate::refusal::{Limit, Refusal};
+use crate::refusal::Refusal;
 use crate::report::Report;
 use crate::task::Task;
 use crate::widths::total_width;
 use std::alloc::{AllocError, Global};
-use tl_base::{List, MAX_REACH};
+use tl_base::{List, MAX_CERTIFICATE_BYTES};
 use tl_cert::{Certificate, Claim, Section, write};
 use tl_form::{
     Layout, Subject, Table, bounded_is_between, budget_closes, chains_are_writable,
-    lowest_is_least, narrow_chain, nested, open_spends,
+    lowest_is_least, narrow_chain, open_spends,
 };
 use tl_html::html;
 use tl_page::page;
@@ -60,28 +60,6 @@ impl Answer {
     }
 }
 
-/// How many searches there may be: one of the table, and one of each nested table at each width.
-fn searches(table: &Table, width: u32) -> u64
-    requires sound { IsSound table.now }
-    requires narrow { width ≤ MAX_PAGE_WIDTH }
-    ensures count { result ≡ searches table.now width }
-    ensures some { 0 < result }
-    ensures few { result ≤ 1 + MAX_TABLES * MAX_PAGE_WIDTH }
-{
-    1 + u64::from(nested(table)) * u64::from(width)
-}
-
-/// The budget of each of so many searches.
-fn budget_of(budget: Option<u32>, count: u64) -> u32
-    requires { 0 < count }
-    ensures budget { result ≡ budget_of budget count }
-{
-    match budget {
-        Some(budget) => budget,
-        None => (MAX_REACH / count).min(u64::from(DEFAULT_BUDGET)) as u32,
-    }
-}
-
 /// Answers what is asked of the table.
 pub fn answer_to(alloc: Global, task: &Task, table: &Table) -> Result<Answer, AllocError>
     requires sound { IsSound table.now }
@@ -90,12 +68,10 @@ pub fn answer_to(alloc: Global, task: &Task, table: &Table) -> Result<Answer, Al
     requires cuts { IfSome task.now.budget (λ budget. budget ≤ MAX_BUDGET) }
     ensures { IfOk result (IsAnswerTo task.now table.now) }
 {
-    let count = searches(table, task.width);
-    let budget = budget_of(task.budget, count);
-    let reach = count * u64::from(budget);
-    if reach > MAX_REACH {
-        return Ok(Answer::refused(Refusal::Limit(Limit::Reach, reach)));
-    }
+    let budget = match budget_within(task, table) {
+        Ok(budget) => budget,
+        Err(refusal) => return Ok(Answer::refused(refusal)),
+    };
     let subject = Subject::of(alloc, table, task.style, task.width)?;
     let least = subject.least[0];
     if least > task.width {
@@ -156,6 +132,26 @@ fn claim_of(sections: &[Section]) -> Claim
     }
 }
 
+/// The certificate of these sections, which claims what the last of them does.
+pub fn certificate_of(
+    alloc: Global,
+    task: &Task,
+    budget: u32,
+    sections: List<Section>,
+) -> Certificate
+    requires { 0 < length sections }
+    ensures { result ≡ certificate_of task.now.width task.now.style budget sections }
+{
+    Certificate {
+        width: task.width,
+        style: task.style,
+        budget,
+        claim: claim_of(sections.as_slice()),
+        chains: List::new(alloc),
+        sections,
+    }
+}
+
 /// The report of what is claimed of a page that takes `width` columns, whose least width is `least`
 /// where it is too narrow.
 fn report_of(claim: Claim, width: u64) -> Report
@@ -183,14 +179,7 @@ fn lowest(alloc: Global, task: &Task, table: &Table, budget: u32) -> Result<Answ
     ensures not_refused { IfOk result (λ answer. (refusal : Refusal) → answer.report ≡ reports.Refused refusal → ⊥) }
 {
     let sections = searched(alloc, task, table, budget)?;
-    let certificate = Certificate {
-        width: task.width,
-        style: task.style,
-        budget,
-        claim: claim_of(sections.as_slice()),
-        chains: List::new(alloc),
-        sections,
-    };
+    let certificate = certificate_of(alloc, task, budget, sections);
     let layout = layout(alloc, table, task.style, &certificate)?;
     let width = total_width(task.style, layout.widths.as_slice());
     lowest_is_least();
@@ -230,10 +219,16 @@ fn certificate_file(
     certificate: &Certificate,
 ) -> Result<Option<List<u8>>, AllocError>
     requires { IsWritable certificate.now }
-    ensures { IfOk result (λ file. file ≡ certificate_file task.now.certified certificate.now) }
+    ensures file { IfOk result (λ file. file ≡ certificate_file task.now.certified certificate.now) }
+    ensures readable { IfOk result (λ _. IsReadable task.now.certified certificate.now) }
 {
     if !task.certified {
         return Ok(None);
     }
-    Ok(Some(write(alloc, certificate)?))
+    let text = write(alloc, certificate)?;
+    // The reach leaves no certificate so long, and one that is could not be read back.
+    if text.len() > MAX_CERTIFICATE_BYTES {
+        return Err(AllocError);
+    }
+    Ok(Some(text))
 }

@@ -1,8 +1,9 @@
-//! Reads the command from the words of the command line.
+//! Reads commands from the words of the command line.
 
-ghost use Rattle.std.specs.Prelude.{◌≡◌, ◌≢◌, ◌↔◌, ◌++◌, ◌∷◌, ℕ, [], List, map, string_bytes, ◌≤◌, decimal};
-ghost use Rattle.std.specs.Prelude.{codes, IfSome, IfNone, IsTrue, option_map, option_to_list};
-ghost use Rattle.tl_program.specs.Command.{IsDashed, IsDashedAtFirst, AreNames, IsLay, IsUsage};
+ghost use Rattle.std.specs.Prelude.{◌≡◌, ◌≢◌, ◌↔◌, ◌++◌, ◌∷◌, ◌<◌, ◌≤◌, ◌^◌, ℕ, [], List, map, string_bytes, decimal};
+ghost use Rattle.std.specs.Prelude.{codes, false, None, IfSome, IfNone, IsTrue, option_map, option_to_list};
+ghost use Rattle.tl_program.specs.Command.{IsDashed, IsDashedAtFirst, AreNames, IsLay, IsCheck, IsDemo};
+ghost use Rattle.tl_program.specs.Command.{AskForNoLayout, AskForNoCheck, AskForNoDemo};
 
 use crate::options::{Options, number_up_to};
 use tl_base::MAX_PAGE_WIDTH;
@@ -21,45 +22,59 @@ pub struct Lay<'a> {
     pub options: Options,
 }
 
-/// The words `lay WIDTH IN PAGE`, and those after them.
+/// The command to check a certificate.
+#[derive(Clone, Copy, Debug)]
+pub struct Check<'a> {
+    /// The page width in columns, from 1 to [`MAX_PAGE_WIDTH`].
+    pub width: u32,
+    /// The name of the file that was laid out.
+    pub input: &'a str,
+    /// The name of the file with the certificate.
+    pub certificate: &'a str,
+    /// Of these, none names a search or the form of a page.
+    pub options: Options,
+}
+
+/// The word of a command, `WIDTH IN` and the name of another file, and the words after them.
 #[derive(Clone, Copy)]
 struct Positions<'a> {
     width: &'a str,
     input: &'a str,
-    page: &'a str,
+    other: &'a str,
     more: &'a [String],
 }
 
 impl<'a> Positions<'a> {
-    fn read(words: &'a [String]) -> Option<Positions<'a>>
-        ensures spelled { IfSome result (λ is. map string_bytes words.now ≡ codes "lay" ∷ is.width.now ∷ is.input.now
-            ∷ is.page.now ∷ map string_bytes is.more.now) }
-        ensures none { IfNone result ((width input page : List ℕ) (more : List (List ℕ))
-            → map string_bytes words.now ≡ codes "lay" ∷ width ∷ input ∷ page ∷ more → ⊥) }
+    fn read(command: &str, words: &'a [String]) -> Option<Positions<'a>>
+        ensures spelled { IfSome result (λ is. map string_bytes words.now ≡ command.now ∷ is.width.now ∷ is.input.now
+            ∷ is.other.now ∷ map string_bytes is.more.now) }
+        ensures none { IfNone result ((width input other : List ℕ) (more : List (List ℕ))
+            → map string_bytes words.now ≡ command.now ∷ width ∷ input ∷ other ∷ more → ⊥) }
     {
-        let [name, width, input, page, more @ ..] = words else {
+        let [name, width, input, other, more @ ..] = words else {
             return None;
         };
-        if !is_lay(name.as_str()) {
+        if !is_same(name.as_str(), command) {
             return None;
         }
         Some(Positions {
             width: width.as_str(),
             input: input.as_str(),
-            page: page.as_str(),
+            other: other.as_str(),
             more,
         })
     }
 }
 
-fn is_lay(name: &str) -> bool
-    ensures { IsTrue result ↔ (name.now ≡ codes "lay") }
+/// Whether the words are the same.
+fn is_same(one: &str, other: &str) -> bool
+    ensures { IsTrue result ↔ (one.now ≡ other.now) }
 {
-    name == "lay"
+    one == other
 }
 
 impl<'a> Lay<'a> {
-    /// The command that the words are, or `None` where they are none: docs/MODEL.md, "The command".
+    /// The layout that the words ask for, or `None` where they ask for none: docs/MODEL.md, "The command".
     pub fn parse(words: &'a [String]) -> Option<Lay<'a>>
         ensures command { IfSome result (λ lay. IsLay (map string_bytes words.now) (record {
           width = lay.width;
@@ -68,23 +83,73 @@ impl<'a> Lay<'a> {
           certificate = option_map (λ name. name.now) lay.certificate;
           options = lay.options;
         })) }
-        ensures usage { IfNone result (IsUsage (map string_bytes words.now)) }
+        ensures none { IfNone result (AskForNoLayout (map string_bytes words.now)) }
     {
-        let positions = Positions::read(words)?;
+        let positions = Positions::read("lay", words)?;
         let width = page_width(positions.width)?;
         let (certificate, options) = certificate_of(positions.more);
         let options = Options::parse(options)?;
-        if !are_names(positions.input, positions.page, certificate) {
+        if !are_names(positions.input, positions.other, certificate) {
             return None;
         }
         Some(Lay {
             width,
             input: positions.input,
-            page: positions.page,
+            page: positions.other,
             certificate,
             options,
         })
     }
+}
+
+impl<'a> Check<'a> {
+    /// The check that the words ask for, or `None` where they ask for none: docs/MODEL.md, "The command".
+    pub fn parse(words: &'a [String]) -> Option<Check<'a>>
+        ensures command { IfSome result (λ check. IsCheck (map string_bytes words.now) (record {
+          width = check.width;
+          input = check.input.now;
+          certificate = check.certificate.now;
+          options = check.options;
+        })) }
+        ensures none { IfNone result (AskForNoCheck (map string_bytes words.now)) }
+    {
+        let positions = Positions::read("check", words)?;
+        let width = page_width(positions.width)?;
+        let options = Options::parse(positions.more)?;
+        if !is_for_check(&options) {
+            return None;
+        }
+        if !are_names(positions.input, positions.other, None) {
+            return None;
+        }
+        Some(Check {
+            width,
+            input: positions.input,
+            certificate: positions.other,
+            options,
+        })
+    }
+}
+
+/// Whether the options name no search and no form of the page: a certificate tells neither.
+fn is_for_check(options: &Options) -> bool
+    ensures { IsTrue result ↔ ((options.now.search ≡ None) × (options.now.html ≡ false)) }
+{
+    options.search.is_none() && !options.html
+}
+
+/// The number of the demonstration that the words ask for, or `None` where they ask for none.
+pub fn demo_number(words: &[String]) -> Option<u32>
+    ensures number { IfSome result (IsDemo (map string_bytes words.now)) }
+    ensures none { IfNone result (AskForNoDemo (map string_bytes words.now)) }
+{
+    let [name, number] = words else {
+        return None;
+    };
+    if !is_same(name.as_str(), "demo") {
+        return None;
+    }
+    number_up_to(number.as_str(), u32::MAX)
 }
 
 /// The page width whose canonical decimal the word is.

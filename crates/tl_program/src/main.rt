@@ -8,6 +8,8 @@ ghost use Rattle.std.specs.Prelude.{◌≡◌, ◌≢◌};
 ghost use Rattle.std.specs.IoError.{error_kind};
 
 mod answer;
+mod budget;
+mod check;
 mod command;
 mod limits;
 mod makers;
@@ -15,9 +17,11 @@ mod messages;
 mod options;
 mod reading;
 mod refusal;
+mod rejection;
 mod report;
 mod run;
 mod status;
+mod summary;
 mod task;
 #[cfg(test)]
 mod tests;

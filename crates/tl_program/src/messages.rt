@@ -1,10 +1,12 @@
 //! The messages that are printed. Each ends with a line feed.
 
 ghost use Rattle.std.specs.Prelude.{◌≡◌, IfOk, string_bytes};
-ghost use Rattle.tl_program.specs.Messages.{fault_words, limit_word, refusal_text, text_of};
+ghost use Rattle.tl_program.specs.Messages.{fault_words, limit_word, refusal_text, rejection_text};
+ghost use Rattle.tl_program.specs.Messages.{summary_text, text_of};
 
 use crate::refusal::{Fault, Limit, Refusal};
-use crate::report::Report;
+use crate::rejection::Rejection;
+use crate::report::{Report, Summary};
 use std::alloc::{AllocError, Global};
 
 /// What is wrong with a file that is no document.
@@ -60,6 +62,38 @@ fn refusal_text(alloc: Global, refusal: Refusal) -> Result<String, AllocError>
     }
 }
 
+/// Why a certificate is rejected.
+fn rejection_text(alloc: Global, rejection: Rejection) -> Result<String, AllocError>
+    ensures { IfOk result (λ text. string_bytes text ≡ rejection_text rejection) }
+{
+    match rejection {
+        Rejection::Syntax(place) => format!(in alloc; "syntax at {place}"),
+        Rejection::Range(place) => format!(in alloc; "range at {place}"),
+        Rejection::TooLong => format!(in alloc; "too long"),
+        Rejection::Claim => format!(in alloc; "claim"),
+        Rejection::Chain => format!(in alloc; "chain"),
+        Rejection::Missing(table) => format!(in alloc; "missing section of table {table}"),
+        Rejection::Extra(section) => format!(in alloc; "extra section {section}"),
+        Rejection::Layout(section) => format!(in alloc; "layout of section {section}"),
+        Rejection::Trace(section) => format!(in alloc; "trace of section {section}"),
+        Rejection::Line(section, line) => format!(in alloc; "line {line} of section {section}"),
+    }
+}
+
+/// The numbers of a demonstration.
+fn summary_text(alloc: Global, summary: Summary) -> Result<String, AllocError>
+    ensures { IfOk result (λ text. string_bytes text ≡ summary_text summary) }
+{
+    let Summary {
+        cells,
+        count,
+        height,
+        lower,
+        cuts,
+    } = summary;
+    format!(in alloc; "cells {cells} count {count} height {height} lower {lower} cuts {cuts}\n")
+}
+
 /// The message about an answer.
 pub fn text(alloc: Global, report: Report) -> Result<String, AllocError>
     ensures { IfOk result (λ text. string_bytes text ≡ text_of report) }
@@ -77,6 +111,11 @@ pub fn text(alloc: Global, report: Report) -> Result<String, AllocError>
             format!(in alloc; "narrow least {least} width {width}\n")
         }
         Report::Refused(refusal) => refusal_text(alloc, refusal),
+        Report::Rejected(rejection) => {
+            let reason = rejection_text(alloc, rejection)?;
+            format!(in alloc; "rejected: {reason}\n")
+        }
+        Report::Summary(summary) => summary_text(alloc, summary),
         Report::Usage => format!(in alloc; "usage\n"),
         Report::ReadFault => format!(in alloc; "read fault\n"),
     }

@@ -10,7 +10,7 @@ ghost use Rattle.tl_program.specs.declared.reading.Reading.{Reading};
 ghost use Rattle.tl_program.specs.declared.reading.Reading.TheVariants as readings;
 ghost use Rattle.tl_program.specs.declared.refusal.Refusal.{Refusal as R};
 ghost use Rattle.tl_program.specs.Reading.{IsReadTree, IsReadFrom, IsReading, AreAlike};
-ghost use Rattle.tl_program.specs.inner.Readings.{IsSoundReading};
+ghost use Rattle.tl_program.specs.inner.Readings.{IsSoundReading, table_in};
 
 use crate::refusal::{Limit, Refusal, form_refusal, token_refusal, tree_refusal};
 use std::alloc::{AllocError, Global};
@@ -24,6 +24,18 @@ use tl_tree::{TableNode, tree};
 pub enum Reading {
     Table(Table),
     Refused(Refusal),
+}
+
+impl Reading {
+    /// The table, where the bytes are one.
+    pub fn table(self) -> Option<Table>
+        ensures { result ≡ table_in self }
+    {
+        match self {
+            Reading::Table(table) => Some(table),
+            Reading::Refused(_) => None,
+        }
+    }
 }
 
 /// What is refused, or out of memory.

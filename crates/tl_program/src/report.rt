@@ -4,19 +4,40 @@ ghost use Rattle.std.specs.Prelude.{◌≡◌};
 ghost use Rattle.tl_program.specs.Messages.{refusal_status, status_of};
 
 use crate::refusal::Refusal;
+use crate::rejection::Rejection;
 use crate::status::Status;
+
+/// The numbers of a demonstration.
+#[derive(Clone, Copy, Debug, PartialEq, Eq)]
+pub struct Summary {
+    /// The cells of the table.
+    pub cells: u32,
+    /// The ways in which each span of columns can have one of its classes of widths.
+    pub count: u64,
+    /// The lines of the layout that was found.
+    pub height: u32,
+    /// No layout has fewer lines.
+    pub lower: u32,
+    /// The cuts that the search made.
+    pub cuts: u32,
+}
 
 /// What is reported. Heights are in lines, widths in columns.
 #[derive(Clone, Copy, Debug, PartialEq, Eq)]
 pub enum Report {
-    /// A page of this height is stored, and no layout is lower.
+    /// A page of this height is stored, or its certificate is valid, and no layout is lower.
     Lowest { height: u32, width: u64 },
-    /// A page of this height is stored, and no layout is below the lower bound.
+    /// A page of this height is stored, or its certificate is valid, and no layout is below the lower
+    /// bound.
     Bounded { height: u32, lower: u32, width: u64 },
     /// No page below the least width holds the table, and this one is narrower.
     Narrow { least: u32, width: u32 },
     /// The file is refused.
     Refused(Refusal),
+    /// The certificate is rejected.
+    Rejected(Rejection),
+    /// A table was laid out, and its certificate checked.
+    Summary(Summary),
     /// The words of the command line are no command.
     Usage,
     /// The file could not be read.
@@ -33,6 +54,9 @@ impl Report {
             Report::Bounded { .. } => Status::Bounded,
             Report::Narrow { .. } => Status::Narrow,
             Report::Refused(refusal) => refusal_status(refusal),
+            Report::Rejected(_) => Status::Rejected,
+            Report::Summary(summary) if summary.lower == summary.height => Status::Lowest,
+            Report::Summary(_) => Status::Bounded,
             Report::Usage => Status::Usage,
             Report::ReadFault => Status::ReadFault,
         }

@@ -1,26 +1,35 @@
 //! Carries out a command over a desk: reads the file, stores the page and the certificate, and
 //! prints the message.
 
-ghost use Rattle.std.specs.Prelude.{◌≡◌, ◌⊎◌, ◌≤◌, ℕ, List, [], Some, IfOk, IfSome, map, string_bytes};
+ghost use Rattle.std.specs.Prelude.{◌≡◌, ◌⊎◌, ◌+◌, ◌≤◌, ℕ, List, [], Some, IfNone, IfOk, IfSome, length, map, string_bytes};
 ghost use Rattle.std.specs.Prelude.{is_some, option_map};
 ghost use Rattle.tl_base.specs.declared.limits.TheConstants.{MAX_PAGE_WIDTH, MAX_BUDGET};
-ghost use Rattle.tl_base.specs.Desk.{Rose};
+ghost use Rattle.tl_base.specs.Desk.{IsReadFrom, Rose};
+ghost use Rattle.tl_form.specs.Sound.{IsSound};
+ghost use Rattle.tl_program.specs.declared.report.Report.TheVariants as reports;
 ghost use Rattle.tl_program.specs.Change.{Change};
-ghost use Rattle.tl_program.specs.Command.{IsLay};
-ghost use Rattle.tl_program.specs.Headline.{Becomes, Ends, IsComplete, IsRefusedSo};
+ghost use Rattle.tl_program.specs.Checks.{IsCheckIn, IsCheckOf};
+ghost use Rattle.tl_program.specs.Command.{IsCheck, IsDemo, IsLay};
+ghost use Rattle.tl_program.specs.Complete.{AcceptsLaid, IsAcceptedSo, IsComplete, IsRefusedSo, IsRejectedSo};
+ghost use Rattle.tl_program.specs.Headline.{Becomes, Ends};
 ghost use Rattle.tl_program.specs.Messages.{number_of};
 ghost use Rattle.tl_program.specs.Outcomes.{IsAnswerOf, outcome_of, stored_as};
 ghost use Rattle.tl_program.specs.Tasks.{task_of};
 ghost use Rattle.tl_program.specs.inner.Printing.{IsPrinted, IsStored, IsDelivered};
 
 use crate::answer::{Answer, answer_to};
-use crate::command::Lay;
+use crate::budget::budget_within;
+use crate::check::judge;
+use crate::command::{Check, Lay, demo_number};
 use crate::messages::text;
 use crate::reading::{Reading, read};
+use crate::report::Report;
 use crate::status::Status;
+use crate::summary::demonstration;
 use crate::task::Task;
 use std::alloc::{AllocError, Global};
-use tl_base::{Desk, DeskFault, Gate, List, MAX_FILE_BYTES};
+use tl_base::{Desk, DeskFault, Gate, List, MAX_CERTIFICATE_BYTES, MAX_FILE_BYTES};
+use tl_form::Table;
 
 /// Carries out the words of the command line over the desk, and returns the exit status. The gate is
 /// for parallel work, of which there is none yet.
@@ -55,6 +64,36 @@ pub fn run<D: Desk, G: Gate>(alloc: Global, words: &[String], desk: &mut D, _gat
       write_faults = D.write_faults desk.old;
       write_faults_after = D.write_faults desk.new;
     }) result }
+    ensures accepted { IsAcceptedSo (map string_bytes words.now) (record {
+      files = D.files desk.old;
+      files_after = D.files desk.new;
+      said = D.said desk.old;
+      said_after = D.said desk.new;
+      load_faults = D.load_faults desk.old;
+      load_faults_after = D.load_faults desk.new;
+      write_faults = D.write_faults desk.old;
+      write_faults_after = D.write_faults desk.new;
+    }) result }
+    ensures rejected { IsRejectedSo (map string_bytes words.now) (record {
+      files = D.files desk.old;
+      files_after = D.files desk.new;
+      said = D.said desk.old;
+      said_after = D.said desk.new;
+      load_faults = D.load_faults desk.old;
+      load_faults_after = D.load_faults desk.new;
+      write_faults = D.write_faults desk.old;
+      write_faults_after = D.write_faults desk.new;
+    }) result }
+    ensures accepts_laid { AcceptsLaid (map string_bytes words.now) (record {
+      files = D.files desk.old;
+      files_after = D.files desk.new;
+      said = D.said desk.old;
+      said_after = D.said desk.new;
+      load_faults = D.load_faults desk.old;
+      load_faults_after = D.load_faults desk.new;
+      write_faults = D.write_faults desk.old;
+      write_faults_after = D.write_faults desk.new;
+    }) result }
 {
     carry_out(alloc, words, desk).number()
 }
@@ -72,10 +111,16 @@ fn carry_out<D: Desk>(alloc: Global, words: &[String], desk: &mut D) -> Status
       write_faults_after = D.write_faults desk.new;
     }) (number_of result) }
 {
-    match Lay::parse(words) {
-        None => print(desk, Status::Usage, b"usage\n"),
-        Some(lay) => lay_file(alloc, &lay, desk),
+    if let Some(lay) = Lay::parse(words) {
+        return lay_file(alloc, &lay, desk);
     }
+    if let Some(check) = Check::parse(words) {
+        return check_file(alloc, &check, desk);
+    }
+    if let Some(number) = demo_number(words) {
+        return demonstrate(alloc, number, desk);
+    }
+    print(desk, Status::Usage, b"usage\n")
 }
 
 /// Reads the file, and stores and prints what becomes of it.
@@ -119,6 +164,147 @@ fn answer_file(alloc: Global, lay: &Lay<'_>, bytes: &[u8]) -> Result<Answer, All
     match read(alloc, bytes, task.breaking)? {
         Reading::Table(table) => answer_to(alloc, &task, &table),
         Reading::Refused(refusal) => Ok(Answer::refused(refusal)),
+    }
+}
+
+/// Judges the certificate, and prints what it shows or why it is rejected.
+fn check_file<D: Desk>(alloc: Global, check: &Check<'_>, desk: &mut D) -> Status
+    requires width { (1 ≤ check.now.width) × (check.now.width ≤ MAX_PAGE_WIDTH) }
+    requires budget { IfSome check.now.options.budget (λ budget. budget ≤ MAX_BUDGET) }
+    ensures ends { (words : List (List ℕ)) → IsCheck words (record {
+      width = check.now.width;
+      input = check.now.input.now;
+      certificate = check.now.certificate.now;
+      options = check.now.options;
+    }) → Ends words (record {
+      files = D.files desk.old;
+      files_after = D.files desk.new;
+      said = D.said desk.old;
+      said_after = D.said desk.new;
+      load_faults = D.load_faults desk.old;
+      load_faults_after = D.load_faults desk.new;
+      write_faults = D.write_faults desk.old;
+      write_faults_after = D.write_faults desk.new;
+    }) (number_of result) }
+{
+    match check_report(alloc, check, desk) {
+        Ok(report) => tell(alloc, desk, report),
+        Err(_) => Status::Memory,
+    }
+}
+
+/// What the certificate comes to, or what is wrong with the file that was laid out.
+fn check_report<D: Desk>(
+    alloc: Global,
+    check: &Check<'_>,
+    desk: &mut D,
+) -> Result<Report, AllocError>
+    requires width { (1 ≤ check.now.width) × (check.now.width ≤ MAX_PAGE_WIDTH) }
+    requires budget { IfSome check.now.options.budget (λ budget. budget ≤ MAX_BUDGET) }
+    ensures report { IfOk result (λ report.
+        ((report ≡ reports.ReadFault) × Rose (D.load_faults desk.old) (D.load_faults desk.new))
+        ⊎ IsCheckIn (record {
+          width = check.now.width;
+          input = check.now.input.now;
+          certificate = check.now.certificate.now;
+          options = check.now.options;
+        }) (D.files desk.old) report) }
+    ensures files_stay { D.files desk.new ≡ D.files desk.old }
+    ensures said_stays { D.said desk.new ≡ D.said desk.old }
+    ensures writes_stay { D.write_faults desk.new ≡ D.write_faults desk.old }
+{
+    let Some(bytes) = load(desk, check.input, MAX_FILE_BYTES as u32)? else {
+        return Ok(Report::ReadFault);
+    };
+    let task = Task::of(check.width, &check.options, false);
+    match read(alloc, bytes.as_slice(), task.breaking)? {
+        Reading::Table(table) => check_table(alloc, check.certificate, &task, &table, desk),
+        Reading::Refused(refusal) => Ok(Report::Refused(refusal)),
+    }
+}
+
+/// What the certificate in the file `name` comes to, for what is asked of the table.
+fn check_table<D: Desk>(
+    alloc: Global,
+    name: &str,
+    task: &Task,
+    table: &Table,
+    desk: &mut D,
+) -> Result<Report, AllocError>
+    requires sound { IsSound table.now }
+    requires page { (1 ≤ task.now.width) × (task.now.width ≤ MAX_PAGE_WIDTH) }
+    requires cuts { IfSome task.now.budget (λ budget. budget ≤ MAX_BUDGET) }
+    ensures report { IfOk result (λ report.
+        ((report ≡ reports.ReadFault) × Rose (D.load_faults desk.old) (D.load_faults desk.new))
+        ⊎ IsCheckOf task.now table.now (D.files desk.old) name.now report) }
+    ensures files_stay { D.files desk.new ≡ D.files desk.old }
+    ensures said_stays { D.said desk.new ≡ D.said desk.old }
+    ensures writes_stay { D.write_faults desk.new ≡ D.write_faults desk.old }
+{
+    let budget = match budget_within(task, table) {
+        Ok(budget) => budget,
+        Err(refusal) => return Ok(Report::Refused(refusal)),
+    };
+    let Some(text) = load(desk, name, MAX_CERTIFICATE_BYTES as u32)? else {
+        return Ok(Report::ReadFault);
+    };
+    judge(alloc, task, table, budget, text.as_slice())
+}
+
+/// Lays out the table of this number, checks its certificate, and prints its numbers.
+fn demonstrate<D: Desk>(alloc: Global, number: u32, desk: &mut D) -> Status
+    ensures ends { (words : List (List ℕ)) → IsDemo words number → Ends words (record {
+      files = D.files desk.old;
+      files_after = D.files desk.new;
+      said = D.said desk.old;
+      said_after = D.said desk.new;
+      load_faults = D.load_faults desk.old;
+      load_faults_after = D.load_faults desk.new;
+      write_faults = D.write_faults desk.old;
+      write_faults_after = D.write_faults desk.new;
+    }) (number_of result) }
+{
+    match demonstration(alloc, number) {
+        Ok(summary) => tell(alloc, desk, Report::Summary(summary)),
+        Err(_) => Status::Memory,
+    }
+}
+
+/// The first `most + 1` bytes of a file, or all where it has fewer; none where it could not be read.
+fn load<D: Desk>(desk: &mut D, name: &str, most: u32) -> Result<Option<List<u8>>, AllocError>
+    ensures short { IfOk result (λ found. IfSome found (λ bytes. length bytes ≤ most + 1)) }
+    ensures read { IfOk result (λ found. IfSome found (λ bytes.
+        IfSome (D.files desk.old) (λ held. IsReadFrom held name.now most bytes))) }
+    ensures counts { IfOk result (λ found. IfSome found (λ _. D.load_faults desk.new ≡ D.load_faults desk.old)) }
+    ensures none { IfOk result (λ found. IfNone found (Rose (D.load_faults desk.old) (D.load_faults desk.new))) }
+    ensures files_stay { D.files desk.new ≡ D.files desk.old }
+    ensures said_stays { D.said desk.new ≡ D.said desk.old }
+    ensures writes_stay { D.write_faults desk.new ≡ D.write_faults desk.old }
+{
+    match desk.load(name, most) {
+        Ok(bytes) => Ok(Some(bytes)),
+        Err(DeskFault::Failed) => Ok(None),
+        Err(DeskFault::Memory(error)) => Err(error),
+    }
+}
+
+/// Prints what is reported, where nothing is stored.
+fn tell<D: Desk>(alloc: Global, desk: &mut D, report: Report) -> Status
+    ensures told { IsDelivered result (record {
+      files = D.files desk.old;
+      files_after = D.files desk.new;
+      said = D.said desk.old;
+      said_after = D.said desk.new;
+      load_faults = D.load_faults desk.old;
+      load_faults_after = D.load_faults desk.new;
+      write_faults = D.write_faults desk.old;
+      write_faults_after = D.write_faults desk.new;
+    }) (record { report = report; stores = [] }) }
+    ensures loads_stay { D.load_faults desk.new ≡ D.load_faults desk.old }
+{
+    match text(alloc, report) {
+        Ok(message) => print(desk, report.status(), message.as_str().as_bytes()),
+        Err(_) => Status::Memory,
     }
 }
 

@@ -5,11 +5,11 @@ ghost use Rattle.std.specs.Prelude.{◌≡◌};
 /// How the program ends. The numbers are its exit statuses; a number that is missing is not used.
 #[derive(Clone, Copy, Debug, PartialEq, Eq)]
 pub enum Status {
-    /// The page is stored, and no layout is lower.
+    /// The page is stored, or the certificate is valid, and no layout is lower.
     Lowest = 0,
     /// The words of the command line are no command.
     Usage = 2,
-    /// The page is stored, and a layout may be lower.
+    /// The page is stored, or the certificate is valid, and a layout may be lower.
     Bounded = 3,
     /// No layout fits the page.
     Narrow = 4,
@@ -23,6 +23,8 @@ pub enum Status {
     WriteFault = 8,
     /// Out of memory.
     Memory = 9,
+    /// The certificate is not valid.
+    Rejected = 10,
 }
 
 impl Status {

@@ -1,6 +1,9 @@
--- No public clause cites this file: it says what is claimed by the last of the sections, and how that is reported.
-use Rattle.std.specs.Prelude.{ℕ, ◌==◌, if◌then◌else◌, List, Option, Some, None}
+-- No public clause cites this file: it says what is claimed by the last of the sections, and how claims are reported.
+use Rattle.std.specs.Prelude.{ℕ, ◌≤◌, ◌==◌, if◌then◌else◌, List, [], length, Option, Some, None}
 use Rattle.std.specs.List.{last_or}
+use Rattle.tl_base.specs.declared.limits.TheConstants.{MAX_COLUMNS}
+use Rattle.tl_base.specs.declared.style.Style.{Style}
+use Rattle.tl_cert.specs.declared.certificate.Certificate.{Certificate}
 use Rattle.tl_cert.specs.declared.certificate.Claim.{Claim}
 use Rattle.tl_cert.specs.declared.certificate.Claim.TheVariants as claims
 use Rattle.tl_cert.specs.declared.section.Section.{Section}
@@ -19,8 +22,24 @@ claim_of_last (Some section) = section_claim section
 abbrev pub claim_of : List Section → Claim
 claim_of sections = claim_of_last (last_or None sections)
 
+-- the certificate of sections, which claims what the last of them does
+abbrev pub certificate_of : ℕ → Style → ℕ → List Section → Certificate
+certificate_of page style budget sections =
+    record { width = page; style = style; budget = budget; claim = claim_of sections; chains = []; sections = sections }
+
 -- the report of a claim, with the columns that the page takes
 abbrev pub report_of : Claim → ℕ → Report
 report_of (claims.Lowest height) width = reports.Lowest height width
 report_of (claims.Bounded height lower) width = reports.Bounded height lower width
 report_of (claims.Narrow least) width = reports.Narrow least 0
+
+-- the report of a claim that is shown, on a page of `page` columns, of which the layout takes `width`
+abbrev pub shown_by : ℕ → Claim → ℕ → Report
+shown_by page (claims.Lowest height) width = reports.Lowest height width
+shown_by page (claims.Bounded height lower) width = reports.Bounded height lower width
+shown_by page (claims.Narrow least) width = reports.Narrow least page
+
+-- the section, if there is one, has no more columns than a table may have
+abbrev pub HasFewColumns : Option Section → Type 0
+HasFewColumns None = Unit {0}
+HasFewColumns (Some section) = length section.widths ≤ MAX_COLUMNS

@@ -30,7 +30,7 @@ certificate_file-requires c =
     (claims.Narrow c.args.least) c.in_ok-narrow_chain.field-0 c.new.result refl c.new.ensures))
     (writable_narrow c.args.subject.now.table.now task.style task.width c.args.budget c.args.least chain.0 c.in_ok-narrow_chain.field-0
     (meant c.args.subject.now) c.requires.subject c.requires.sound c.requires.least c.requires.narrow chain.1 chain.2
-    c.requires.page.0 c.requires.page.1 c.requires.cuts c.if-least-gt-MAX_HEIGHT.false c.requires.cells c.chains_are_writable.ensures)
+    c.requires.page.0 c.requires.page.1 c.requires.cuts c.requires.small c.requires.cells c.chains_are_writable.ensures)
 
 pub returns-clause-is : goal.returns-clause-is
 returns-clause-is c =
@@ -56,5 +56,6 @@ returns-clause-is c =
           (valid_narrow table task.style task.width (budget_in task table) c.args.least chain.0 c.in_ok-narrow_chain.field-0
           (meant c.args.subject.now) c.requires.subject c.requires.sound c.requires.least c.requires.narrow chain.1 chain.2);
       no_page = refl;
-      certificate_stored = c.in_ok-certificate_file.ensures;
+      certificate_stored = c.in_ok-certificate_file.ensures.file;
+      readable = c.in_ok-certificate_file.ensures.readable;
     }

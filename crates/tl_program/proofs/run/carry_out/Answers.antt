@@ -2,14 +2,18 @@
 use Rattle.std.proofs.Common.{inl, refl, map, string_bytes}
 use Rattle.tl_program.specs.declared.report.Report.TheVariants as reports
 use Rattle.tl_program.specs.Change.{Change}
+use Rattle.tl_program.specs.Command.{IsUsage}
 use Rattle.tl_program.proofs.Ends.{budget_small, printed_ends}
 use Rattle.tl_program.proofs.run.carry_out.Goals as goal
 
 pub lay_file-requires-clause-budget : goal.lay_file-requires-clause-budget
 lay_file-requires-clause-budget g c = budget_small c.in-Some.ensures.command.more c.in-Some.lay.options c.in-Some.ensures.command.options
 
-pub returns-in-None : goal.returns-in-None
-returns-in-None g c = record {
+pub check_file-requires-clause-budget : goal.check_file-requires-clause-budget
+check_file-requires-clause-budget g c = budget_small c.in-Some-parse.ensures.command.more c.in-Some-parse.check.options c.in-Some-parse.ensures.command.options
+
+pub returns : goal.returns
+returns g c = record {
   ends =
       let change : Change = record {
         files = g.D.Desk.files c.args.desk.now;
@@ -21,6 +25,11 @@ returns-in-None g c = record {
         write_faults = g.D.Desk.write_faults c.args.desk.now;
         write_faults_after = g.D.Desk.write_faults c.print.new.desk;
       } in
-      printed_ends (map string_bytes c.args.words.now) change c.print.result reports.Usage (inl (c.in-None.ensures.usage, refl)) c.print.ensures.files_stay
+      let usage : IsUsage (map string_bytes c.args.words.now) = record {
+        no_layout = c.in_default.ensures.none;
+        no_check = c.in_default-parse.ensures.none;
+        no_demo = c.in_default-demo_number.ensures.none;
+      } in
+      printed_ends (map string_bytes c.args.words.now) change c.print.result reports.Usage (inl (usage, refl)) c.print.ensures.files_stay
       c.print.ensures.printed;
 }

@@ -28,20 +28,20 @@ parts now words more options width input page certificate spelled split plain da
   dashed = mapped_none now (IsDashedAtFirst options) certificate dashed;
 }
 
-pub returns-in_err-options-clause-usage : goal.returns-in_err-options-clause-usage
-returns-in_err-options-clause-usage c = rw c.from_residual-in_err-options.ensures
+pub returns-in_err-options-clause-none : goal.returns-in_err-options-clause-none
+returns-in_err-options-clause-none c = rw c.from_residual-in_err-options.ensures
     (no_options (map string_bytes c.args.words.now) c.in_ok-positions.positions.width.now c.in_ok-positions.positions.input.now
-    c.in_ok-positions.positions.page.now (option_map (λ name. name.now) c.certificate_of.result.0) (map string_bytes c.certificate_of.result.1.now)
+    c.in_ok-positions.positions.other.now (option_map (λ name. name.now) c.certificate_of.result.0) (map string_bytes c.certificate_of.result.1.now)
     (parts (λ name. name.now) (map string_bytes c.args.words.now) (map string_bytes c.in_ok-positions.positions.more.now)
     (map string_bytes c.certificate_of.result.1.now) c.in_ok-positions.positions.width.now c.in_ok-positions.positions.input.now
-    c.in_ok-positions.positions.page.now c.certificate_of.result.0 c.in_ok-positions.ensures.spelled c.certificate_of.ensures.words
+    c.in_ok-positions.positions.other.now c.certificate_of.result.0 c.in_ok-positions.ensures.spelled c.certificate_of.ensures.words
     c.certificate_of.ensures.plain c.certificate_of.ensures.dashed) c.in_err-options.ensures.none)
 
-pub returns-then-not-are_names-clause-usage : goal.returns-then-not-are_names-clause-usage
-returns-then-not-are_names-clause-usage c =
+pub returns-then-not-are_names-clause-none : goal.returns-then-not-are_names-clause-none
+returns-then-not-are_names-clause-none c =
     no_names (map string_bytes c.args.words.now) c.in_ok-positions.positions.width.now c.in_ok-positions.positions.input.now
-    c.in_ok-positions.positions.page.now (option_map (λ name. name.now) c.certificate_of.result.0) (map string_bytes c.certificate_of.result.1.now)
+    c.in_ok-positions.positions.other.now (option_map (λ name. name.now) c.certificate_of.result.0) (map string_bytes c.certificate_of.result.1.now)
     (parts (λ name. name.now) (map string_bytes c.args.words.now) (map string_bytes c.in_ok-positions.positions.more.now)
     (map string_bytes c.certificate_of.result.1.now) c.in_ok-positions.positions.width.now c.in_ok-positions.positions.input.now
-    c.in_ok-positions.positions.page.now c.certificate_of.result.0 c.in_ok-positions.ensures.spelled c.certificate_of.ensures.words
+    c.in_ok-positions.positions.other.now c.certificate_of.result.0 c.in_ok-positions.ensures.spelled c.certificate_of.ensures.words
     c.certificate_of.ensures.plain c.certificate_of.ensures.dashed) (λ are. absurd (falsity (c.if-not-are_names.ensures.1 are)))

@@ -1,0 +1,224 @@
+-- What the text of a certificate is found to be: what a valid one shows, and why another is rejected.
+use Rattle.std.proofs.Common.{◌≡◌, ◌⊎◌, inl, inr, ℕ, ◌-◌, ◌<◌, ◌≤◌, List, [], ◌∷◌, length, get_or, take, Option, None, Some}
+use Rattle.std.proofs.Common.{refl, sym, ap, subst, ◌∙◌, append-nil, arith}
+use Rattle.std.specs.Prelude.{IfOk, IsSomeAnd, Result, Ok, Err, alloc_error}
+use Rattle.std.specs.declared.alloc.AllocError.{AllocError}
+use Rattle.std.specs.List.{All, AllByRecursion, Any, last_or, slice_get}
+use Rattle.std.proofs.lemmas.Option.{get_or_from_slice_get}
+use Rattle.std.proofs.lemmas.Bool.{cases_lt}
+use Rattle.std.proofs.lemmas.List.{take_all}
+use Rattle.tl_base.specs.Returned.{IsMemoryOr}
+use Rattle.tl_base.specs.declared.limits.TheConstants.{MAX_PAGE_WIDTH, MAX_BUDGET, MAX_COLUMNS}
+use Rattle.tl_cert.specs.declared.certificate.Certificate.{Certificate}
+use Rattle.tl_cert.specs.declared.certificate.Claim.{Claim}
+use Rattle.tl_cert.specs.declared.certificate.Claim.TheVariants as claims
+use Rattle.tl_cert.specs.declared.error.CertError.{CertError}
+use Rattle.tl_cert.specs.declared.error.CertError.TheVariants as texts
+use Rattle.tl_cert.specs.declared.section.Section.{Section}
+use Rattle.tl_cert.specs.Faults.{IsTextOf, Refused}
+use Rattle.tl_cert.specs.Text.{IsWritable, HasProof, IsSectionShaped}
+use Rattle.tl_cert.proofs.text.Laws.{texts_apart}
+use Rattle.tl_form.specs.declared.cell.Table.{Table}
+use Rattle.tl_form.specs.ClosedLaws.{IsClosed, IsWideDocument, BudgetCloses}
+use Rattle.tl_form.specs.Expected.{Document, own_number, least_of}
+use Rattle.tl_form.specs.Least.{IsLeastWidth}
+use Rattle.tl_form.specs.OpenLaws.{IsSpent, OpenSpends}
+use Rattle.tl_form.specs.Problems.{IsCountAll}
+use Rattle.tl_form.specs.Sound.{IsSound}
+use Rattle.tl_form.specs.Valid.{IsNarrow, IsShown, HasNumbers, EndsWith}
+use Rattle.tl_form.specs.ValidLaws.{LowestIsLeast, BoundedIsBetween, NarrowIsTooWide}
+use Rattle.tl_form.proofs.LinkLemmas.{IsLeastWidth-unique}
+use Rattle.tl_verify.specs.declared.reject.Reject.{Reject}
+use Rattle.tl_verify.specs.declared.reject.Reject.TheVariants as steps
+use Rattle.tl_verify.specs.Verdicts.{IsRefusedAs}
+use Rattle.tl_program.specs.declared.rejection.Rejection.{Rejection}
+use Rattle.tl_program.specs.declared.report.Report.{Report}
+use Rattle.tl_program.specs.declared.report.Report.TheVariants as reports
+use Rattle.tl_program.specs.declared.task.Task.{Task}
+use Rattle.tl_program.specs.Answers.{budget_in, IsBelowCounts}
+use Rattle.tl_program.specs.Checks.{IsValidIn, columns_of, Shows, IsAccepted, IsReason, IsRejected, IsJudged}
+use Rattle.tl_program.specs.Rejections.{text_rejection, step_rejection}
+use Rattle.tl_program.specs.inner.Claims.{HasFewColumns, shown_by}
+use Rattle.tl_program.proofs.Laying.{own_least, last_found, last_of, last_is}
+
+-- two certificates of one text are the same
+pub one_certificate : (text : List ℕ) (one other : Certificate) → IsTextOf text one → IsTextOf text other → one ≡ other
+one_certificate text one other first second =
+    (texts_apart one other [] [] first.writable.0 second.writable.0
+    (append-nil _ ∙ sym first.text ∙ second.text ∙ sym (append-nil _))).0
+
+-- ---- few columns
+
+-- the last of some sections is one of them
+last_all : (P : Section → Type 0) (sections : List Section) → AllByRecursion P sections → (section : Section) →
+    last_or None sections ≡ Some section → P section
+last_all P [] all section is = absurd (none is) where
+  none : None ≡ Some section → ⊥
+  none e = absurd cc
+last_all P (x ∷ []) all section is = subst P (some_same x section is) all.0 where
+  some_same : (a b : Section) → Some a ≡ Some b → a ≡ b
+  some_same a b e = cc
+last_all P (x ∷ (y ∷ xs)) all section is = last_all P (y ∷ xs) all.1 section is
+
+-- the item at the last place is the last
+pub last_got : (sections : List Section) (section : Section) → slice_get sections (length sections - 1) ≡ Some section →
+    last_or None sections ≡ Some section
+last_got [] section is = absurd (none is) where
+  none : None ≡ Some section → ⊥
+  none e = absurd cc
+last_got (x ∷ xs) section is =
+    last_found (x ∷ xs) section (omega arith) ∙ ap Some (get_or_from_slice_get (x ∷ xs) (length (x ∷ xs) - 1) section section is)
+
+-- the last section of a certificate that has a text has few columns
+pub few_of_last : (certificate : Certificate) → IsWritable certificate → HasFewColumns (last_or None certificate.sections)
+few_of_last certificate can = by_last (last_or None certificate.sections) refl where
+  shaped : (claim : Claim) → HasProof claim certificate → AllByRecursion IsSectionShaped certificate.sections
+  shaped (claims.Lowest height) has = has.sections
+  shaped (claims.Bounded height lower) has = has.sections
+  shaped (claims.Narrow least) has = subst (AllByRecursion IsSectionShaped) (sym has.no_section) tt
+
+  by_last : (last : Option Section) → last_or None certificate.sections ≡ last → HasFewColumns last
+  by_last None is = tt
+  by_last (Some section) is = (last_all IsSectionShaped certificate.sections (shaped certificate.claim can.0) section is).widths
+
+-- ---- what a valid certificate shows
+
+module _ (task : Task) (table : Table) (certificate : Certificate) (sound : IsSound table) (narrow : task.width ≤ MAX_PAGE_WIDTH)
+    (cuts : budget_in task table ≤ MAX_BUDGET) (valid : IsValidIn task table certificate)
+    (lowest_law : LowestIsLeast) (bounded_law : BoundedIsBetween) (narrow_law : NarrowIsTooWide) (closes_law : BudgetCloses)
+    (spends_law : OpenSpends) where
+  abbrev document : Document
+  document = valid.0
+
+  abbrev sections : List Section
+  sections = certificate.sections
+
+  -- the page is wide enough where that is claimed
+  wide_page : (IsNarrow certificate.claim → ⊥) → (least : ℕ) → IsLeastWidth table task.style least → least ≤ task.width
+  wide_page wide least is = elim (cases_lt task.width least) [
+    | inl less ↦ absurd (wide (valid.2.claim.kind.1 (narrower less)))
+    | inr more ↦ more
+  ] where
+    same : least ≡ least_of document (own_number document)
+    same = IsLeastWidth-unique table task.style least (least_of document (own_number document)) is
+        (own_least table task.style task.width document valid.1)
+
+    narrower : task.width < least → document.page < least_of document (own_number document)
+    narrower less = omega (arith, less, same, valid.1.wide)
+
+  by_bounds : (height lower : ℕ) → certificate.claim ≡ claims.Bounded height lower → 0 < length sections →
+      Any (IsSpent (budget_in task table)) sections × IsBelowCounts task table
+  by_bounds height lower is some = (spent, below) where
+    shown : IsShown document (budget_in task table) certificate (claims.Bounded height lower)
+    shown = subst (IsShown document (budget_in task table) certificate) is valid.2.shown
+
+    last : Section
+    last = last_of sections some
+
+    numbers : HasNumbers (claims.Bounded height lower) last
+    numbers = subst (λ (found : Option Section). IsSomeAnd found (HasNumbers (claims.Bounded height lower))) (last_is sections some).found shown.1
+
+    wide_document : IsWideDocument table task.style task.width document
+    wide_document = record {
+      sound = sound;
+      of = valid.1;
+      narrow = narrow;
+      wide = wide_page (λ is_narrow. subst IsNarrow is is_narrow);
+    }
+
+    opened : (get_or sections (length sections - 1) last).lower < (get_or sections (length sections - 1) last).height
+    opened = subst (λ (s : Section). s.lower < s.height) (sym ((last_is sections some).at last))
+        (omega (arith, numbers.0, numbers.1, numbers.2))
+
+    spent : Any (IsSpent (budget_in task table)) sections
+    spent = subst (Any (IsSpent (budget_in task table))) (take_all (length sections) sections (omega arith))
+        (spends_law table task.style task.width (budget_in task table) (length sections) document sections wide_document (omega arith)
+        shown.0.good (length sections - 1) last (omega (arith, some)) opened)
+
+    below : (most : ℕ) → IsCountAll table task.style task.width most → budget_in task table < most
+    below most counted = elim (cases_lt (budget_in task table) most) [
+      | inl less ↦ less
+      | inr more ↦ absurd (closed (closes_law table task.style task.width (budget_in task table) most
+          (length sections) document sections wide_document counted more (omega (arith, cuts)) (omega arith) shown.0.good))
+    ] where
+      closed : All IsClosed (take (length sections) sections) → ⊥
+      closed all =
+          let same : (get_or sections (length sections - 1) last).lower ≡ (get_or sections (length sections - 1) last).height =
+          (subst (All IsClosed) (take_all (length sections) sections (omega arith)) all) (length sections - 1) last (omega (arith, some)) in
+          omega (arith, same, opened)
+
+  -- a claim of a bound rests on a section
+  some_section : (height lower : ℕ) → certificate.claim ≡ claims.Bounded height lower → 0 < length sections
+  some_section height lower is = by_sections sections (subst (IsShown document (budget_in task table) certificate) is valid.2.shown).1 where
+    by_sections : (all : List Section) → EndsWith (claims.Bounded height lower) all → 0 < length all
+    by_sections [] ends = absurd ends
+    by_sections (section ∷ all) ends = omega arith
+
+  by_claim : (claim : Claim) → certificate.claim ≡ claim →
+      Shows (shown_by task.width claim (columns_of task certificate)) task table certificate
+  by_claim (claims.Lowest height) is =
+      (is, lowest_law table task.style task.width (budget_in task table) certificate height sound valid is, refl)
+  by_claim (claims.Bounded height lower) is =
+      let between = bounded_law table task.style task.width (budget_in task table) certificate height lower sound valid is in
+      let both = by_bounds height lower is (some_section height lower is) in
+      (is, between.0, between.1, both.0, both.1, refl)
+  by_claim (claims.Narrow least) is =
+      let too = narrow_law table task.style task.width (budget_in task table) certificate least sound valid is in
+      (is, too.0, too.1, refl)
+
+  pub accepted : (text : List ℕ) (report : Report) → IsTextOf text certificate →
+      report ≡ shown_by task.width certificate.claim (columns_of task certificate) → IsJudged task table text report
+  accepted text report text_is told = inl (record {
+    certificate = certificate;
+    text_is = text_is;
+    valid = valid;
+    shows = subst (λ (r : Report). Shows r task table certificate) (sym told) (by_claim certificate.claim refl);
+  })
+
+-- ---- what is rejected
+
+-- a result that tells why, where there is a reason
+abbrev pub Tells : Option Rejection → Result Report AllocError → Type 0
+Tells rejection result = IfOk result (λ report. (found : Rejection) × (rejection ≡ Some found) × (report ≡ reports.Rejected found))
+
+none_some : (found : Rejection) → None ≡ Some found → ⊥
+none_some found e = absurd cc
+
+-- bytes that are no certificate's
+pub text_rejected : (task : Task) (table : Table) (text : List ℕ) (error : CertError) (result : Result Report AllocError) (rejection : Option Rejection) →
+    rejection ≡ text_rejection error → Tells rejection result → IsMemoryOr (texts.Memory alloc_error) (Refused text) error →
+    ((certificate : Certificate) → IsTextOf text certificate → error ≡ texts.Memory alloc_error) → IfOk result (IsJudged task table text)
+text_rejected task table text error (Err failed) rejection is tells why never = tt
+text_rejected task table text error (Ok report) rejection is tells why never = inr (record {
+  rejection = tells.0;
+  told = tells.2;
+  reason = inl (error, refused why, sym is ∙ tells.1);
+  never = λ certificate text_is valid. no_memory (never certificate text_is);
+}) where
+  no_memory : error ≡ texts.Memory alloc_error → ⊥
+  no_memory same = none_some tells.0 (sym (is ∙ ap text_rejection same) ∙ tells.1)
+
+  refused : IsMemoryOr (texts.Memory alloc_error) (Refused text) error → Refused text error
+  refused (inl same) = absurd (no_memory same)
+  refused (inr cause) = cause
+
+-- a certificate that is not valid
+pub step_rejected : (task : Task) (table : Table) (text : List ℕ) (certificate : Certificate) (reject : Reject) (result : Result Report AllocError)
+    (rejection : Option Rejection) → rejection ≡ step_rejection reject → Tells rejection result → IsTextOf text certificate →
+    IsMemoryOr (steps.Memory alloc_error) (IsRefusedAs table task.style task.width (budget_in task table) certificate) reject →
+    (IsValidIn task table certificate → reject ≡ steps.Memory alloc_error) → IfOk result (IsJudged task table text)
+step_rejected task table text certificate reject (Err failed) rejection is tells text_is why never = tt
+step_rejected task table text certificate reject (Ok report) rejection is tells text_is why never = inr (record {
+  rejection = tells.0;
+  told = tells.2;
+  reason = inr (certificate, reject, text_is, refused why, sym is ∙ tells.1);
+  never = λ other other_is valid.
+      no_memory (never (subst (IsValidIn task table) (one_certificate text other certificate other_is text_is) valid));
+}) where
+  no_memory : reject ≡ steps.Memory alloc_error → ⊥
+  no_memory same = none_some tells.0 (sym (is ∙ ap step_rejection same) ∙ tells.1)
+
+  refused : IsMemoryOr (steps.Memory alloc_error) (IsRefusedAs table task.style task.width (budget_in task table) certificate) reject →
+      IsRefusedAs table task.style task.width (budget_in task table) certificate reject
+  refused (inl same) = absurd (no_memory same)
+  refused (inr cause) = cause

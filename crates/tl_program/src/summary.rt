@@ -1,0 +1,106 @@
+//! A demonstration: a large table from a number, laid out, its certificate checked.
+
+ghost use Rattle.std.specs.Prelude.{◌≡◌, ◌≤◌, ℕ, IfOk};
+ghost use Rattle.tl_base.specs.declared.breaking.Breaking.TheVariants as breaks;
+ghost use Rattle.tl_base.specs.declared.style.Style.TheVariants as styles;
+ghost use Rattle.tl_demo.specs.Demo.{demo_text_of};
+ghost use Rattle.tl_form.specs.declared.cell.Table.{Table as T};
+ghost use Rattle.tl_form.specs.ChainRanges.{HasFewCells};
+ghost use Rattle.tl_form.specs.Least.{IsLeastWidth};
+ghost use Rattle.tl_form.specs.Sound.{IsSound};
+ghost use Rattle.tl_program.specs.declared.reading.Reading.TheVariants as readings;
+ghost use Rattle.tl_program.specs.Demonstration.{IsSummaryOf};
+ghost use Rattle.tl_program.specs.Reading.{IsReading};
+ghost use Rattle.tl_program.specs.inner.Numbers.{demo_task, HasOwnNext, IsCountAfter};
+
+use crate::answer::certificate_of;
+use crate::limits::{DEMO_BUDGET, DEMO_WIDTH};
+use crate::makers::searched;
+use crate::options::Search;
+use crate::reading::read;
+use crate::report::Summary;
+use crate::task::Task;
+use std::alloc::{AllocError, Global};
+use tl_base::{Breaking, Style};
+use tl_cert::Section;
+use tl_demo::{demo_fits, demo_text};
+use tl_form::{Due, Subject, Table};
+use tl_nested::problem_at;
+use tl_verify::verify;
+
+/// What is asked of the table of a demonstration.
+fn task() -> Task
+    ensures { result ≡ demo_task }
+{
+    Task {
+        width: DEMO_WIDTH,
+        style: Style::Plain,
+        breaking: Breaking::Words,
+        budget: Some(DEMO_BUDGET),
+        search: Search::Best,
+        html: false,
+        certified: true,
+    }
+}
+
+/// The ways in which each span of the table's problem can have a class, on the sections before its own.
+fn count_after(alloc: Global, table: &Table, before: &[Section]) -> Result<u64, AllocError>
+    requires sound { IsSound table.now }
+    requires wide { (least : ℕ) → IsLeastWidth table.now styles.Plain least → least ≤ DEMO_WIDTH }
+    requires good { HasOwnNext table.now before.now }
+    ensures { IfOk result (IsCountAfter table.now before.now) }
+{
+    let subject = Subject::of(alloc, table, Style::Plain, DEMO_WIDTH)?;
+    let due = Due {
+        table: table.number,
+        width: DEMO_WIDTH,
+    };
+    Ok(problem_at(alloc, &subject, due, before)?.count())
+}
+
+/// The numbers of a table that is laid out on the page of a demonstration.
+fn summary_of(alloc: Global, table: &Table) -> Result<Summary, AllocError>
+    requires sound { IsSound table.now }
+    requires cells { HasFewCells table.now }
+    requires wide { (least : ℕ) → IsLeastWidth table.now styles.Plain least → least ≤ DEMO_WIDTH }
+    ensures { IfOk result (IsSummaryOf table.now) }
+{
+    let task = task();
+    let sections = searched(alloc, &task, table, DEMO_BUDGET)?;
+    let certificate = certificate_of(alloc, &task, DEMO_BUDGET, sections);
+    // The certificate is valid, so it is refused only where memory runs out.
+    if verify(
+        alloc,
+        table,
+        Style::Plain,
+        DEMO_WIDTH,
+        DEMO_BUDGET,
+        &certificate,
+    )
+    .is_err()
+    {
+        return Err(AllocError);
+    }
+    let sections = certificate.sections.as_slice();
+    let own = sections.len() - 1;
+    let last = &sections[own];
+    Ok(Summary {
+        cells: table.cells.len() as u32,
+        count: count_after(alloc, table, &sections[..own])?,
+        height: last.height,
+        lower: last.lower,
+        cuts: last.trace.len() as u32,
+    })
+}
+
+/// Lays out the table of this number, checks its certificate, and gives its numbers.
+pub fn demonstration(alloc: Global, number: u32) -> Result<Summary, AllocError>
+    ensures { IfOk result (λ summary. (table : T) × IsReading breaks.Words (demo_text_of number) (readings.Table table)
+        × IsSummaryOf table summary) }
+{
+    let text = demo_text(alloc, number)?;
+    demo_fits();
+    let reading = read(alloc, text.as_slice(), Breaking::Words)?;
+    let table = reading.table().unwrap();
+    summary_of(alloc, &table)
+}

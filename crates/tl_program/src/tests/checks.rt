@@ -1,0 +1,487 @@
+//! Checks certificates over files in memory, and demonstrates tables.
+
+use super::{NESTED, ONE, SPANNED, TWO, desk_with, held, status_of};
+use std::process::Abort;
+use std::test::Fail as Failure;
+use tl_base::{Fail, List};
+
+/// Runs a command line over a file and a certificate, and compares status and message. The files are
+/// as before.
+fn check(
+    rt: &(impl Abort + AllocGlobal),
+    line: &str,
+    file: &str,
+    certificate: Option<&str>,
+    status: u8,
+    said: &str,
+) -> Result<(), Failure> {
+    let alloc = rt.alloc();
+    let mut desk = desk_with(alloc, file.as_bytes(), certificate, &[])?;
+    assert_eq!(rt;
+        status_of(alloc, line, &mut desk)?,
+        status,
+        "{line}: {certificate:?}"
+    );
+    assert_eq!(rt; desk.said(), said.as_bytes(), "{line}: {certificate:?}");
+    let before = certificate.map(|text| text.as_bytes());
+    assert_eq!(rt; held(&desk, "c.txt"), before, "{line}: {certificate:?}");
+    assert_eq!(rt;
+        held(&desk, "t.html"),
+        Some(file.as_bytes()),
+        "{line}: {certificate:?}"
+    );
+    Ok(())
+}
+
+/// A certificate, and what is printed where it is checked.
+type Case = (&'static str, u8, &'static str);
+
+/// Checks each certificate for one command line and file.
+fn check_all(
+    rt: &(impl Abort + AllocGlobal),
+    line: &str,
+    file: &str,
+    cases: &[Case],
+) -> Result<(), Failure> {
+    for &(certificate, status, said) in cases {
+        check(rt, line, file, Some(certificate), status, said)?;
+    }
+    Ok(())
+}
+
+/// No cut is needed: in 12 columns not both cells have one line.
+const CLOSED: &str =
+    "tablelayout 1 12 plain 6\nlowest 2\nsection 0 12 2 2 0 1\nwidths 3 5\nz0 chain\nend\n";
+
+#[test]
+fn a_valid_certificate_is_accepted_and_a_changed_one_rejected(
+    rt: HostRuntime,
+) -> Result<(), Failure> {
+    let cases: &[Case] = &[
+        (CLOSED, 0, "lowest height 2 width 10\n"),
+        (
+            "tablelayout 1 12 plain 6\nlowest 02\nsection 0 12 2 2 0 1\nwidths 3 5\nz0 chain\nend\n",
+            10,
+            "rejected: syntax at 33\n",
+        ),
+        (
+            "tablelayout 1 12 plain 6\nlowest 2\nsection 0 12 2 2 0 1\nwidths 3 5\nz0 chain\nend\n ",
+            10,
+            "rejected: syntax at 79\n",
+        ),
+        (
+            "tablelayout 1 12 plain 7\nlowest 2\nsection 0 12 2 2 0 1\nwidths 3 5\nz0 chain\nend\n",
+            10,
+            "rejected: claim\n",
+        ),
+        (
+            "tablelayout 1 12 plain 6\nlowest 1\nsection 0 12 2 2 0 1\nwidths 3 5\nz0 chain\nend\n",
+            10,
+            "rejected: claim\n",
+        ),
+        (
+            "tablelayout 1 12 plain 6\nlowest 2\nsection 1 12 2 2 0 1\nwidths 3 5\nz0 chain\nend\n",
+            10,
+            "rejected: missing section of table 0\n",
+        ),
+        (
+            "tablelayout 1 12 plain 6\nlowest 2\nsection 0 12 2 2 0 1\nwidths 3 5\nz0 chain\nsection 0 12 2 2 0 1\nwidths 3 5\nz0 chain\nend\n",
+            10,
+            "rejected: extra section 1\n",
+        ),
+        (
+            "tablelayout 1 12 plain 6\nlowest 2\nsection 0 12 2 2 0 1\nwidths 3 4\nz0 chain\nend\n",
+            10,
+            "rejected: layout of section 0\n",
+        ),
+        (
+            "tablelayout 1 12 plain 6\nlowest 2\nsection 0 12 2 2 0 1\nwidths 3 6\nz0 chain\nend\n",
+            10,
+            "rejected: layout of section 0\n",
+        ),
+        (
+            "tablelayout 1 12 plain 6\nlowest 2\nsection 0 12 2 2 1 1\nwidths 3 5\ncut 0 0 1\nz0 chain\nend\n",
+            10,
+            "rejected: trace of section 0\n",
+        ),
+        (
+            "tablelayout 1 12 plain 6\nlowest 2\nsection 0 12 2 1 0 1\nwidths 3 5\nz0 chain\nend\n",
+            10,
+            "rejected: trace of section 0\n",
+        ),
+        (
+            "tablelayout 1 12 plain 6\nlowest 2\nsection 0 12 2 2 0 1\nwidths 3 5\nz0 cycle\nend\n",
+            10,
+            "rejected: line 0 of section 0\n",
+        ),
+        (
+            "tablelayout 1 12 plain 6\nlowest 2\nsection 0 12 2 2 0 1\nwidths 3 5\nz0 @0 fired\nend\n",
+            10,
+            "rejected: line 0 of section 0\n",
+        ),
+        (
+            "tablelayout 1 12 plain 6\nbounded 3 2\nsection 0 12 3 2 0 1\nwidths 3 2\nz0 chain\nend\n",
+            10,
+            "rejected: trace of section 0\n",
+        ),
+        (
+            "tablelayout 2 12 plain 6\nlowest 2\nsection 0 12 2 2 0 1\nwidths 3 5\nz0 chain\nend\n",
+            10,
+            "rejected: syntax at 75\n",
+        ),
+        (
+            "tablelayout 1 501 plain 6\nlowest 2\nsection 0 12 2 2 0 1\nwidths 3 5\nz0 chain\nend\n",
+            10,
+            "rejected: range at 14\n",
+        ),
+    ];
+    check_all(&rt, "check 12 t.html c.txt --budget 6", TWO, cases)
+}
+
+#[test]
+fn each_prefix_of_a_certificate_is_rejected_where_it_ends(rt: HostRuntime) -> Result<(), Failure> {
+    let alloc = rt.alloc();
+    for length in 1..CLOSED.len() {
+        let said = format!(in alloc; "rejected: syntax at {length}\n")?;
+        let Some(prefix) = CLOSED.get(..length) else {
+            return Ok(());
+        };
+        check(
+            &rt,
+            "check 12 t.html c.txt --budget 6",
+            TWO,
+            Some(prefix),
+            10,
+            said.as_str(),
+        )?;
+    }
+    Ok(())
+}
+
+#[test]
+fn a_bound_is_accepted_where_the_budget_is_spent(rt: HostRuntime) -> Result<(), Failure> {
+    let open =
+        "tablelayout 1 12 plain 0\nbounded 3 2\nsection 0 12 3 2 0 1\nwidths 3 2\nz0 chain\nend\n";
+    check(
+        &rt,
+        "check 12 t.html c.txt --budget 0",
+        TWO,
+        Some(open),
+        3,
+        "bounded height 3 lower 2 width 7\n",
+    )
+}
+
+#[test]
+fn a_chain_shows_that_the_page_is_too_narrow(rt: HostRuntime) -> Result<(), Failure> {
+    let file = "<table><tr><td>abcdef<td>ghij</table>";
+    let cases: &[Case] = &[
+        (
+            "tablelayout 1 11 plain 5000\nnarrow 12\nchain 0 0 1\nend\n",
+            4,
+            "narrow least 12 width 11\n",
+        ),
+        (
+            "tablelayout 1 11 plain 5000\nnarrow 12\nchain 0 0\nend\n",
+            10,
+            "rejected: chain\n",
+        ),
+        (
+            "tablelayout 1 11 plain 5000\nnarrow 12\nchain 1 0 1\nend\n",
+            10,
+            "rejected: chain\n",
+        ),
+        (
+            "tablelayout 1 11 plain 5000\nnarrow 13\nchain 0 0 1\nend\n",
+            10,
+            "rejected: chain\n",
+        ),
+    ];
+    check_all(&rt, "check 11 t.html c.txt", file, cases)?;
+    let cases: &[Case] = &[
+        (
+            "tablelayout 1 6 plain 5000\nnarrow 7\nchain 0 0:1\nchain 1 0 1\nend\n",
+            4,
+            "narrow least 7 width 6\n",
+        ),
+        (
+            "tablelayout 1 6 plain 5000\nnarrow 7\nchain 1 0 1\nchain 0 0:1\nend\n",
+            10,
+            "rejected: chain\n",
+        ),
+    ];
+    check_all(&rt, "check 6 t.html c.txt", NESTED, cases)
+}
+
+#[test]
+fn every_section_of_a_nested_table_is_asked_for(rt: HostRuntime) -> Result<(), Failure> {
+    let cases: &[Case] = &[
+        (
+            "tablelayout 1 12 plain 5000\nlowest 2\nsection 1 12 2 2 0 1\nwidths 3 5\nz0 chain\n\
+             section 1 9 3 3 0 1\nwidths 3 2\nz0 chain\nsection 0 12 2 2 0 1\nwidths 10\nz0 chain\nend\n",
+            0,
+            "lowest height 2 width 10\n",
+        ),
+        (
+            "tablelayout 1 12 plain 5000\nlowest 2\nsection 1 12 2 2 0 1\nwidths 3 5\nz0 chain\nsection 0 12 2 2 0 1\nwidths 10\nz0 chain\nend\n",
+            10,
+            "rejected: missing section of table 1\n",
+        ),
+        (
+            "tablelayout 1 12 plain 5000\nlowest 2\nsection 1 9 3 3 0 1\nwidths 3 2\nz0 chain\n\
+             section 1 12 2 2 0 1\nwidths 3 5\nz0 chain\nsection 0 12 2 2 0 1\nwidths 10\nz0 chain\nend\n",
+            10,
+            "rejected: missing section of table 1\n",
+        ),
+        (
+            "tablelayout 1 12 plain 5000\nlowest 2\nsection 1 12 2 2 0 1\nwidths 3 5\nz0 chain\n\
+             section 1 9 3 3 0 1\nwidths 3 2\nz0 chain\nsection 0 12 2 2 0 1\nwidths 11\nz0 chain\nend\n",
+            10,
+            "rejected: layout of section 2\n",
+        ),
+    ];
+    check_all(&rt, "check 12 t.html c.txt", NESTED, cases)
+}
+
+#[test]
+fn learned_bounds_and_areas_are_judged(rt: HostRuntime) -> Result<(), Failure> {
+    let four =
+        "<table><tr><td>a a<td>b b<td>c<br>c<tr><td>p<td>q<td>cccc cccc<td>dddd dddd</table>";
+    let cases: &[Case] = &[
+        (
+            "tablelayout 1 25 plain 3\nlowest 4\nsection 0 25 4 4 3 3\nwidths 1 1 4 4\ncut 0 0 0\ncut 1 1 0\n\
+             cut 3 2 0\n2-8 chain\n2+9 chain\nz0 @0 @1 fired\nend\n",
+            0,
+            "lowest height 4 width 16\n",
+        ),
+        (
+            "tablelayout 1 25 plain 3\nlowest 4\nsection 0 25 4 4 3 3\nwidths 1 1 4 4\ncut 0 0 0\ncut 1 1 0\n\
+             cut 3 2 0\n2-8 chain\n2+9 chain\nz0 @0 @2 fired\nend\n",
+            10,
+            "rejected: line 2 of section 0\n",
+        ),
+    ];
+    check_all(&rt, "check 25 t.html c.txt --budget 3", four, cases)?;
+    let area = "<table><tr><td>a a<td>b b</table>";
+    let cases: &[Case] = &[
+        (
+            "tablelayout 2 7 plain 0\nlowest 2\nsection 0 7 2 2 0 1\nwidths 1 1\nz0 area\nend\n",
+            0,
+            "lowest height 2 width 4\n",
+        ),
+        (
+            "tablelayout 1 7 plain 0\nlowest 2\nsection 0 7 2 2 0 1\nwidths 1 1\nz0 area\nend\n",
+            10,
+            "rejected: syntax at 67\n",
+        ),
+    ];
+    check_all(&rt, "check 7 t.html c.txt --budget 0", area, cases)
+}
+
+#[test]
+fn a_certificate_for_something_else_is_rejected(rt: HostRuntime) -> Result<(), Failure> {
+    let lines: &[(&str, &str, &str)] = &[
+        ("check 13 t.html c.txt --budget 6", TWO, "rejected: claim\n"),
+        ("check 12 t.html c.txt --budget 5", TWO, "rejected: claim\n"),
+        ("check 12 t.html c.txt", TWO, "rejected: claim\n"),
+        (
+            "check 12 t.html c.txt --budget 6 --style frame",
+            TWO,
+            "rejected: claim\n",
+        ),
+        (
+            "check 12 t.html c.txt --break any --budget 6",
+            TWO,
+            "rejected: layout of section 0\n",
+        ),
+        (
+            "check 12 t.html c.txt --budget 6",
+            ONE,
+            "rejected: layout of section 0\n",
+        ),
+        (
+            "check 12 t.html c.txt --budget 6",
+            "<table><tr><td>abcdef<td>ghijk</table>",
+            "rejected: claim\n",
+        ),
+    ];
+    for &(line, file, said) in lines {
+        check(&rt, line, file, Some(CLOSED), 10, said)?;
+    }
+    Ok(())
+}
+
+#[test]
+fn a_file_is_refused_before_its_certificate_is_read(rt: HostRuntime) -> Result<(), Failure> {
+    let line = "check 12 t.html c.txt";
+    check(
+        &rt,
+        line,
+        "x<table></table>",
+        None,
+        5,
+        "bad input: stray text at 0\n",
+    )?;
+    let nested = "<table><tr><td><table><tr><td>a</table></table>";
+    check(
+        &rt,
+        "check 80 t.html c.txt --budget 100000",
+        nested,
+        Some(CLOSED),
+        6,
+        "limit: reach 8100000\n",
+    )?;
+    check(&rt, line, TWO, None, 7, "read fault\n")?;
+    check(
+        &rt,
+        "check 12 u.html c.txt",
+        TWO,
+        Some(CLOSED),
+        7,
+        "read fault\n",
+    )
+}
+
+#[test]
+fn words_that_ask_for_no_check_are_invalid(rt: HostRuntime) -> Result<(), Failure> {
+    let lines = [
+        "check",
+        "check 12 t.html",
+        "check 0 t.html c.txt",
+        "check 501 t.html c.txt",
+        "check 012 t.html c.txt",
+        "check 12 t.html t.html",
+        "check 12 t.html c.txt p.txt",
+        "check 12 t.html c.txt --html",
+        "check 12 t.html c.txt --solver best",
+        "check 12 t.html c.txt --budget 6 --budget 6",
+        "check 12 t.html c.txt --budget 100001",
+        "check --budget 6 12 t.html c.txt",
+        "demo",
+        "demo 07",
+        "demo -1",
+        "demo 4294967296",
+        "demo 0 0",
+        "demo 0 --budget 6",
+    ];
+    for line in lines {
+        check(&rt, line, TWO, Some(CLOSED), 2, "usage\n")?;
+    }
+    Ok(())
+}
+
+#[test]
+fn a_call_of_the_desk_that_fails_ends_a_check(rt: HostRuntime) -> Result<(), Failure> {
+    let alloc = rt.alloc();
+    let said = "lowest height 2 width 10\n";
+    let cases = [
+        (0, 0, 7, "read fault\n"),
+        (1, 0, 7, "read fault\n"),
+        (2, 6, 8, "lowest"),
+    ];
+    for (call, bytes, status, printed) in cases {
+        let mut desk = desk_with(alloc, TWO.as_bytes(), Some(CLOSED), &[Fail { call, bytes }])?;
+        let line = "check 12 t.html c.txt --budget 6";
+        assert_eq!(rt; status_of(alloc, line, &mut desk)?, status, "{call}");
+        assert_eq!(rt; desk.said(), printed.as_bytes(), "{call}");
+    }
+    let mut desk = desk_with(
+        alloc,
+        TWO.as_bytes(),
+        Some(CLOSED),
+        &[Fail { call: 3, bytes: 0 }],
+    )?;
+    assert_eq!(rt;
+        status_of(alloc, "check 12 t.html c.txt --budget 6", &mut desk)?,
+        0
+    );
+    assert_eq!(rt; desk.said(), said.as_bytes());
+    Ok(())
+}
+
+/// Lays a file out, and checks the certificate with the same width and options.
+fn laid_and_checked(
+    rt: &(impl Abort + AllocGlobal),
+    width: &str,
+    file: &str,
+    options: &str,
+    search: &str,
+) -> Result<(), Failure> {
+    let alloc = rt.alloc();
+    let mut desk = desk_with(alloc, file.as_bytes(), None, &[])?;
+    let lay = format!(in alloc; "lay {width} t.html p.txt c.txt{options}{search}")?;
+    let laid = status_of(alloc, lay.as_str(), &mut desk)?;
+    let said = List::from_slice(alloc, desk.said())?;
+    let check = format!(in alloc; "check {width} t.html c.txt{options}")?;
+    assert_eq!(rt;
+        status_of(alloc, check.as_str(), &mut desk)?,
+        laid,
+        "{lay}: {file}"
+    );
+    let twice = desk.said();
+    assert_eq!(rt; twice.len(), 2 * said.len(), "{lay}: {file}");
+    assert!(rt; twice.starts_with(said.as_slice()), "{lay}: {file}");
+    assert!(rt; twice.ends_with(said.as_slice()), "{lay}: {file}");
+    Ok(())
+}
+
+#[test]
+fn what_was_laid_out_is_accepted_with_the_same_message(rt: HostRuntime) -> Result<(), Failure> {
+    let four =
+        "<table><tr><td>a a<td>b b<td>c<br>c<tr><td>p<td>q<td>cccc cccc<td>dddd dddd</table>";
+    let cases: &[(&str, &str, &str)] = &[
+        ("10", "<table></table>", ""),
+        ("8", ONE, ""),
+        ("5", "<table><tr><td>abcdef</table>", ""),
+        ("4", "<table><tr><td>abcdef</table>", " --break any"),
+        ("12", TWO, ""),
+        ("12", TWO, " --budget 0"),
+        ("12", TWO, " --style frame"),
+        ("9", SPANNED, ""),
+        ("4", SPANNED, ""),
+        ("10", SPANNED, " --style frame --break any"),
+        (
+            "7",
+            "<table><tr><td rowspan=2>aa bb cc<td>x<tr><td>y</table>",
+            "",
+        ),
+        ("12", NESTED, ""),
+        ("9", NESTED, ""),
+        ("6", NESTED, ""),
+        ("12", NESTED, " --budget 0"),
+        ("25", four, " --budget 3"),
+        ("25", four, " --budget 7"),
+        ("7", "<table><tr><td>a a<td>b b</table>", " --budget 0"),
+        (
+            "10",
+            "<table><caption>Totals</caption><tr><td>a<td>b</table>",
+            "",
+        ),
+    ];
+    for &(width, file, options) in cases {
+        laid_and_checked(&rt, width, file, options, "")?;
+        laid_and_checked(&rt, width, file, options, " --solver plain")?;
+    }
+    Ok(())
+}
+
+#[test]
+fn a_demonstration_is_the_same_each_time(rt: HostRuntime) -> Result<(), Failure> {
+    let alloc = rt.alloc();
+    // The cells and the ways to give each span a class were counted by another program.
+    let cases = [
+        ("demo 0", "cells 159 count 185118922800 height "),
+        ("demo 1", "cells 157 count 369733496832 height "),
+        ("demo 2", "cells 152 count 434928130560 height "),
+    ];
+    for (line, begin) in cases {
+        let mut one = desk_with(alloc, TWO.as_bytes(), None, &[])?;
+        let mut other = desk_with(alloc, &[], None, &[])?;
+        let status = status_of(alloc, line, &mut one)?;
+        assert_eq!(rt; status, 0, "{line}");
+        assert_eq!(rt; status_of(alloc, line, &mut other)?, status, "{line}");
+        assert_eq!(rt; one.said(), other.said(), "{line}");
+        assert!(rt; one.said().starts_with(begin.as_bytes()), "{line}");
+    }
+    Ok(())
+}

@@ -1,0 +1,187 @@
+//! Pages in a frame, broken inside words, and as HTML, each worked by hand.
+
+use crate::tests::{Case, ONE, SPANNED, TWO, check};
+use std::test::Fail;
+
+const BOX: &str = "<table><tr><td colspan=2>abc<tr><td>x<td>y</table>";
+
+/// A frame takes a column or a line at each side and between two cells.
+const FRAMES: &[Case<'static>] = &[
+    Case {
+        line: "lay 12 t.html p.txt --style frame",
+        file: TWO,
+        status: 0,
+        page: Some("+---+-----+\n|aaa|cc dd|\n|bbb|ee   |\n+---+-----+\n"),
+        certificate: None,
+        said: "lowest height 4 width 11\n",
+    },
+    Case {
+        line: "lay 10 t.html p.txt --style frame",
+        file: BOX,
+        status: 0,
+        page: Some("+---+\n|abc|\n+-+-+\n|x|y|\n+-+-+\n"),
+        certificate: None,
+        said: "lowest height 5 width 5\n",
+    },
+    Case {
+        line: "lay 5 t.html p.txt --style frame",
+        file: BOX,
+        status: 0,
+        page: Some("+---+\n|abc|\n+-+-+\n|x|y|\n+-+-+\n"),
+        certificate: None,
+        said: "lowest height 5 width 5\n",
+    },
+    Case {
+        line: "lay 4 t.html p.txt --style frame",
+        file: BOX,
+        status: 4,
+        page: None,
+        certificate: None,
+        said: "narrow least 5 width 4\n",
+    },
+    Case {
+        line: "lay 10 t.html p.txt --style frame",
+        file: "<table></table>",
+        status: 0,
+        page: Some(""),
+        certificate: None,
+        said: "lowest height 0 width 0\n",
+    },
+];
+
+#[test]
+fn a_frame_is_drawn(rt: HostRuntime) -> Result<(), Fail> {
+    for case in FRAMES {
+        check(&rt, case)?;
+    }
+    Ok(())
+}
+
+/// With breaks inside words a line ends between two clusters of characters.
+const INSIDE: &[Case<'static>] = &[
+    Case {
+        line: "lay 4 t.html p.txt --break any",
+        file: "<table><tr><td>abcdef</table>",
+        status: 0,
+        page: Some("abc\ndef\n"),
+        certificate: None,
+        said: "lowest height 2 width 3\n",
+    },
+    Case {
+        line: "lay 1 t.html p.txt --break any",
+        file: "<table><tr><td>abcdef</table>",
+        status: 0,
+        page: Some("a\nb\nc\nd\ne\nf\n"),
+        certificate: None,
+        said: "lowest height 6 width 1\n",
+    },
+    Case {
+        line: "lay 4 t.html p.txt --break words",
+        file: "<table><tr><td>abcdef</table>",
+        status: 4,
+        page: None,
+        certificate: None,
+        said: "narrow least 6 width 4\n",
+    },
+    Case {
+        line: "lay 4 t.html p.txt --break any",
+        file: "<table><tr><td>aa bb</table>",
+        status: 0,
+        page: Some("aa\nbb\n"),
+        certificate: None,
+        said: "lowest height 2 width 2\n",
+    },
+    Case {
+        line: "lay 5 t.html p.txt --break any",
+        file: "<table><tr><td>aa bb</table>",
+        status: 0,
+        page: Some("aa bb\n"),
+        certificate: None,
+        said: "lowest height 1 width 5\n",
+    },
+    Case {
+        line: "lay 1 t.html p.txt --break any",
+        file: "<table><tr><td>e\u{301}e\u{301}</table>",
+        status: 0,
+        page: Some("e\u{301}\ne\u{301}\n"),
+        certificate: None,
+        said: "lowest height 2 width 1\n",
+    },
+    Case {
+        line: "lay 1 t.html p.txt --break any",
+        file: "<table><tr><td>\u{4e2d}</table>",
+        status: 4,
+        page: None,
+        certificate: None,
+        said: "narrow least 2 width 1\n",
+    },
+];
+
+#[test]
+fn words_break_inside_where_that_is_asked(rt: HostRuntime) -> Result<(), Fail> {
+    for case in INSIDE {
+        check(&rt, case)?;
+    }
+    Ok(())
+}
+
+/// As HTML a page names the width of each column, and a cell once with its spans.
+const MARKUP: &[Case<'static>] = &[
+    Case {
+        line: "lay 8 t.html p.txt --html",
+        file: ONE,
+        status: 0,
+        page: Some(
+            "<table>\n<colgroup><col style=\"width:8ch\"></colgroup>\n<tr><td><p>aa bb cc</p></td></tr>\n</table>\n",
+        ),
+        certificate: None,
+        said: "lowest height 1 width 8\n",
+    },
+    Case {
+        line: "lay 9 t.html p.txt --html",
+        file: SPANNED,
+        status: 0,
+        page: Some(
+            "<table>\n<colgroup><col style=\"width:1ch\"><col style=\"width:4ch\"></colgroup>\n\
+             <tr><td colspan=\"2\"><p>aaaa bbbb cc</p></td></tr>\n\
+             <tr><td><p>x</p></td><td><p>yy</p></td></tr>\n</table>\n",
+        ),
+        certificate: None,
+        said: "lowest height 3 width 7\n",
+    },
+    Case {
+        line: "lay 12 t.html p.txt --html --style frame",
+        file: TWO,
+        status: 0,
+        page: Some(
+            "<table>\n<colgroup><col style=\"width:3ch\"><col style=\"width:5ch\"></colgroup>\n\
+             <tr><td><p>aaa bbb</p></td><td><p>cc dd ee</p></td></tr>\n</table>\n",
+        ),
+        certificate: None,
+        said: "lowest height 4 width 11\n",
+    },
+    Case {
+        line: "lay 10 t.html p.txt --html",
+        file: "<table></table>",
+        status: 0,
+        page: Some("<table>\n</table>\n"),
+        certificate: None,
+        said: "lowest height 0 width 0\n",
+    },
+    Case {
+        line: "lay 5 t.html p.txt --html",
+        file: "<table><tr><td>abcdef</table>",
+        status: 4,
+        page: None,
+        certificate: None,
+        said: "narrow least 6 width 5\n",
+    },
+];
+
+#[test]
+fn an_html_page_is_stored(rt: HostRuntime) -> Result<(), Fail> {
+    for case in MARKUP {
+        check(&rt, case)?;
+    }
+    Ok(())
+}
