@@ -2,14 +2,8 @@
 # How long `lay` takes with the start of the process, and how much memory, beside w3m's (Debian package
 # `w3m`) in the same run. w3m estimates column widths; it proves nothing. Builds the program where it is
 # missing. Prints for each file its status, lines, milliseconds and megabytes, then those of w3m.
-#   first       the first example, 7 columns
-#   demo        30 rows over 6 columns of words of one to eight letters, 60 columns
-#   column      2,000 rows of 10 words each in one column, 80 columns
-#   rows        2,000 rows of 10 cells of two words, 120 columns
-#   columns     333 rows of 60 cells, 300 columns
-#   nested      200 tables, each after the first in a cell of the first, 80 columns
-#   mebibyte    2,000 rows of two long cells, a file of 1,048,576 bytes, 80 columns
-#   refused     the same rows with an element at the end that is not read, 80 columns
+# The files are those of files.sh, at these widths in columns: first 7, demo 60, column 80, rows 120,
+# columns 300, nested 80, mebibyte 80, refused 80.
 set -euo pipefail
 here=$(dirname "$(readlink -f "${BASH_SOURCE[0]}")")
 "$here/../tablelayout" lay 7 "$here/../examples/first.html" /dev/stdout >/dev/null
@@ -17,39 +11,7 @@ program=$here/../crates/tl_program/out/tl_program
 files=$(mktemp -d)
 trap 'rm -rf "$files"' EXIT
 
-cp "$here/../examples/first.html" "$files/first.html"
-awk 'function draw(k) { s = (s * 16838 % m * 65536 % m + s * 20077 + 12345) % m; return int(s / 65536) % k }
-    BEGIN {
-        s = 0; m = 2147483648
-        printf "<table>"
-        for (row = 0; row < 30; row++) {
-            printf "<tr>"
-            for (x = 0; x < 6; x += span) {
-                span = (draw(5) == 0 && x < 5) ? 2 : 1
-                printf span == 2 ? "<td colspan=2>" : "<td>"
-                words = 1 + draw(6)
-                for (word = 0; word < words; word++) {
-                    letters = 1 + draw(8)
-                    if (word) printf " "
-                    for (i = 0; i < letters; i++) printf "a"
-                }
-            }
-        }
-        printf "</table>"
-    }' >"$files/demo.html"
-awk 'BEGIN { printf "<table>"; for (r = 0; r < 2000; r++) { printf "<tr><td>"; for (w = 0; w < 10; w++) printf "word%d ", (r * 7 + w * 13) % 1000 } printf "</table>" }' >"$files/column.html"
-awk 'BEGIN { printf "<table>"; for (r = 0; r < 2000; r++) { printf "<tr>"; for (c = 0; c < 10; c++) printf "<td>cell %d", (r * 31 + c * 17) % 10000 } printf "</table>" }' >"$files/rows.html"
-awk 'BEGIN { printf "<table>"; for (r = 0; r < 333; r++) { printf "<tr>"; for (c = 0; c < 60; c++) printf "<td>%d b", (r + c) % 10 } printf "</table>" }' >"$files/columns.html"
-awk 'BEGIN { printf "<table>"; for (t = 1; t < 200; t++) printf "<tr><td>%d<td><table><tr><td>aa bb %d<td>cc dd</table>", t, t; printf "</table>" }' >"$files/nested.html"
-# Rows of 518 bytes, and white space after the table up to the limit of a file.
-awk 'BEGIN {
-        for (i = 0; i < 24; i++) left = left "aaaaaaaaaa "
-        for (i = 0; i < 22; i++) right = right "bbbbbbbbbb "
-        printf "<table>"
-        for (row = 0; row < 2000; row++) printf "<tr><td>%s<td>%s", left, right
-        printf "</table>%12561s", ""
-    }' >"$files/mebibyte.html"
-sed 's/<.table> *$/<tr><td><img><\/table>/' "$files/mebibyte.html" >"$files/refused.html"
+"$here/files.sh" "$files"
 
 # Prints how long a command takes and how much memory, after its status and the lines that it wrote.
 measure() {
