@@ -5,7 +5,9 @@
 --     1   2
 use Rattle.std.proofs.Common.{◌≡◌, ℕ, ◌<◌, ◌≤◌, max, List, [], ◌∷◌, ◌⊎◌, inl, inr, get_or, refl, sym, subst, arith}
 use Rattle.std.proofs.lemmas.Bool.{cases_lt}
+use Rattle.tl_problem.specs.declared.placed.Placed.{Placed}
 use Rattle.tl_problem.specs.Problem.{ProblemModel}
+use Rattle.tl_problem.specs.Placements.{IsPlacementIn}
 use Rattle.tl_problem.specs.Zones.{InZone}
 use Rattle.tl_problem.specs.Agreement.{HasOneClass, LowIsHigh}
 use Rattle.tl_problem.proofs.AreaLaws.{area-unique}
@@ -13,7 +15,7 @@ use Rattle.tl_problem.proofs.BoundLaws.{bound-unique}
 use Rattle.tl_cert.specs.declared.trace.CutAt.{CutAt}
 use Rattle.tl_cert.specs.Traces.{Stands, zone_of}
 use Rattle.tl_cert.specs.Worked.{IsBoundOf}
-use Rattle.tl_astar.specs.Best.{MayBeLower, IsOfLeastBound, IsAreaOf, IsLeastProved}
+use Rattle.tl_astar.specs.Best.{CutsBelowByArea, MayBeLower, IsOfLeastBound, IsAreaOf, IsLeastProved}
 
 abbrev cut_of : ℕ → CutAt
 cut_of z = record { zone = z; span = 0; class = 0 }
@@ -96,6 +98,15 @@ module _ (problem : ProblemModel) (first : IsBoundOf problem one_cut 1 3) (secon
           absurd (omega (arith, six, area.2))
     ],
   )
+
+  -- where the placement in zone 2 has five lines, zone 1, whose area bound is six, may not be cut
+  one_not_by_area : (placed : Placed) → IsPlacementIn problem (InZone problem (zone_of problem one_cut 2)) placed → placed.height ≡ 5 →
+      CutsBelowByArea problem (cut_of 0 ∷ cut_of 1 ∷ []) → ⊥
+  one_not_by_area placed placement five is =
+      let at = is 1 (cut_of 0) (omega arith) in
+      let six = area-unique problem (InZone problem (zone_of problem one_cut 1)) at.0 6 at.1 first_area in
+      let below = at.2 2 placed (omega arith) placement in
+      omega (arith, six, below, five)
 
   -- zone 1 proves six lines and zone 2 four: where the best has five, four is the lower bound
   four_proved : IsLeastProved problem one_cut 5 4
