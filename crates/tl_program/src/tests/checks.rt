@@ -245,8 +245,6 @@ fn every_section_of_a_nested_table_is_asked_for(rt: HostRuntime) -> Result<(), F
 
 #[test]
 fn learned_bounds_and_areas_are_judged(rt: HostRuntime) -> Result<(), Failure> {
-    let four =
-        "<table><tr><td>a a<td>b b<td>c<br>c<tr><td>p<td>q<td>cccc cccc<td>dddd dddd</table>";
     let cases: &[Case] = &[
         (
             "tablelayout 1 25 plain 3\nlowest 4\nsection 0 25 4 4 3 3\nwidths 1 1 4 4\ncut 0 0 0\ncut 1 1 0\n\
@@ -261,7 +259,7 @@ fn learned_bounds_and_areas_are_judged(rt: HostRuntime) -> Result<(), Failure> {
             "rejected: line 2 of section 0\n",
         ),
     ];
-    check_all(&rt, "check 25 t.html c.txt --budget 3", four, cases)?;
+    check_all(&rt, "check 25 t.html c.txt --budget 3", FOUR, cases)?;
     let area = "<table><tr><td>a a<td>b b</table>";
     let cases: &[Case] = &[
         (
@@ -425,40 +423,102 @@ fn laid_and_checked(
     Ok(())
 }
 
+/// Four columns that need cuts.
+const FOUR: &str =
+    "<table><tr><td>a a<td>b b<td>c<br>c<tr><td>p<td>q<td>cccc cccc<td>dddd dddd</table>";
+
+/// Spans that are declared in odd ways, and a cell that grows downward.
+const DECLARED: &str = "<table><tbody>\
+    <tr><td colspan=\" 2px\">a b c<td colspan=-1>d<td colspan=0>e<td colspan=+3 colspan=2>f<td rowspan=0>g\
+    <tr><td>h<td>i<td>j<td>k<td>l<td>m<td>n</table>";
+
+/// A table as a data tool writes it.
+const DATA: &str =
+    "<table border=\"1\" class=\"dataframe\">\n  <thead>\n    <tr style=\"text-align: right;\">\n\
+    <th></th>\n<th>name</th>\n<th>qty</th>\n</tr>\n</thead>\n  <tbody>\n    <tr>\n<th>0</th>\n\
+    <td>red pepper</td>\n<td>12</td>\n</tr>\n</tbody>\n</table>\n";
+
+/// Widths, files and options that are laid out and checked.
+const LAID_OUT: &[(&str, &str, &str)] = &[
+    ("10", "<table></table>", ""),
+    ("8", ONE, ""),
+    ("7", ONE, ""),
+    ("6", "<table><tr><td>abcdef</table>", ""),
+    ("5", "<table><tr><td>abcdef</table>", ""),
+    ("4", "<table><tr><td>abcdef</table>", " --break any"),
+    ("1", "<table><tr><td>abcdef</table>", " --break any"),
+    ("4", "<table><tr><td>aa bb</table>", " --break any"),
+    ("5", "<table><tr><td>aa bb</table>", " --break any"),
+    (
+        "1",
+        "<table><tr><td>e\u{301}e\u{301}</table>",
+        " --break any",
+    ),
+    ("1", "<table><tr><td>\u{4E2D}</table>", " --break any"),
+    ("12", "<table><tr><td>abcdef<td>ghij</table>", ""),
+    ("11", "<table><tr><td>abcdef<td>ghij</table>", ""),
+    ("12", TWO, ""),
+    ("12", TWO, " --budget 0"),
+    ("12", TWO, " --budget 6"),
+    ("12", TWO, " --style frame"),
+    ("9", SPANNED, ""),
+    ("4", SPANNED, ""),
+    ("10", SPANNED, " --style frame --break any"),
+    (
+        "10",
+        "<table><tr><td colspan=2>abc<tr><td>x<td>y</table>",
+        " --style frame",
+    ),
+    (
+        "7",
+        "<table><tr><td rowspan=2>aa bb cc<td>x<tr><td>y</table>",
+        "",
+    ),
+    (
+        "8",
+        "<table><tr><td rowspan=2>aa bb cc<td>x<tr><td>y</table>",
+        "",
+    ),
+    (
+        "10",
+        "<table><tr><td colspan=1000>a b<tr><td>c<td rowspan=65534>d</table>",
+        "",
+    ),
+    ("40", DECLARED, ""),
+    (
+        "3",
+        "<table><tfoot><tr><td>f</tfoot><tr><td>a<tr><td>b</table>",
+        "",
+    ),
+    (
+        "3",
+        "<table><tfoot><tr><td>f</tfoot><tr><td rowspan=3>a</table>",
+        "",
+    ),
+    ("5", "<table><tr><td>a<br><br>b<br></table>", ""),
+    ("5", "<table><tr><td>a<br><br><p>b<br></table>", ""),
+    ("11", "<table><tr><td>R & D &amp; x&nbsp;y</table>", ""),
+    ("12", NESTED, ""),
+    ("9", NESTED, ""),
+    ("6", NESTED, ""),
+    ("12", NESTED, " --budget 0"),
+    ("12", NESTED, " --style frame"),
+    ("25", FOUR, " --budget 3"),
+    ("25", FOUR, " --budget 7"),
+    ("25", FOUR, " --budget 16"),
+    ("7", "<table><tr><td>a a<td>b b</table>", " --budget 0"),
+    (
+        "10",
+        "<table><caption>Totals</caption><tr><td>a<td>b</table>",
+        "",
+    ),
+    ("20", DATA, ""),
+    ("16", DATA, ""),
+];
+
 #[test]
 fn what_was_laid_out_is_accepted_with_the_same_message(rt: HostRuntime) -> Result<(), Failure> {
-    let four =
-        "<table><tr><td>a a<td>b b<td>c<br>c<tr><td>p<td>q<td>cccc cccc<td>dddd dddd</table>";
-    let cases: &[(&str, &str, &str)] = &[
-        ("10", "<table></table>", ""),
-        ("8", ONE, ""),
-        ("5", "<table><tr><td>abcdef</table>", ""),
-        ("4", "<table><tr><td>abcdef</table>", " --break any"),
-        ("12", TWO, ""),
-        ("12", TWO, " --budget 0"),
-        ("12", TWO, " --style frame"),
-        ("9", SPANNED, ""),
-        ("4", SPANNED, ""),
-        ("10", SPANNED, " --style frame --break any"),
-        (
-            "7",
-            "<table><tr><td rowspan=2>aa bb cc<td>x<tr><td>y</table>",
-            "",
-        ),
-        ("12", NESTED, ""),
-        ("9", NESTED, ""),
-        ("6", NESTED, ""),
-        ("12", NESTED, " --budget 0"),
-        ("25", four, " --budget 3"),
-        ("25", four, " --budget 7"),
-        ("7", "<table><tr><td>a a<td>b b</table>", " --budget 0"),
-        (
-            "10",
-            "<table><caption>Totals</caption><tr><td>a<td>b</table>",
-            "",
-        ),
-    ];
-    for &(width, file, options) in cases {
+    for &(width, file, options) in LAID_OUT {
         laid_and_checked(&rt, width, file, options, "")?;
         laid_and_checked(&rt, width, file, options, " --solver plain")?;
     }
