@@ -14,6 +14,20 @@ pub record Change : Type 0 where
   pub write_faults : ℕ
   pub write_faults_after : ℕ
 
+-- the change from one desk to another, by what desks of their kind show
+abbrev pub between : {Desk : Type 0}
+    → (Desk → Option Files) → (Desk → Option (List ℕ)) → (Desk → ℕ) → (Desk → ℕ) → Desk → Desk → Change
+between files said load_faults write_faults old new = record {
+  files = files old;
+  files_after = files new;
+  said = said old;
+  said_after = said new;
+  load_faults = load_faults old;
+  load_faults_after = load_faults new;
+  write_faults = write_faults old;
+  write_faults_after = write_faults new;
+}
+
 -- the file of this name holds these bytes, where the desk shows its files
 abbrev pub Holds : Option Files → List ℕ → List ℕ → Type 0
 Holds files name bytes = IfSome files (λ held. held name ≡ Some bytes)

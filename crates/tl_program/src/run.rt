@@ -7,7 +7,7 @@ ghost use Rattle.tl_base.specs.declared.limits.TheConstants.{MAX_PAGE_WIDTH, MAX
 ghost use Rattle.tl_base.specs.Desk.{IsReadFrom, Rose};
 ghost use Rattle.tl_form.specs.Sound.{IsSound};
 ghost use Rattle.tl_program.specs.declared.report.Report.TheVariants as reports;
-ghost use Rattle.tl_program.specs.Change.{Change};
+ghost use Rattle.tl_program.specs.Change.{between};
 ghost use Rattle.tl_program.specs.Checks.{IsCheckIn, IsCheckOf};
 ghost use Rattle.tl_program.specs.Command.{IsCheck, IsDemo, IsLay};
 ghost use Rattle.tl_program.specs.Complete.{AcceptsLaid, IsAcceptedSo, IsComplete, IsRefusedSo, IsRejectedSo};
@@ -34,82 +34,26 @@ use tl_form::Table;
 /// Carries out the words of the command line over the desk, and returns the exit status. The gate is
 /// for parallel work, of which there is none yet.
 pub fn run<D: Desk, G: Gate>(alloc: Global, words: &[String], desk: &mut D, _gate: &G) -> u8
-    ensures ends { Ends (map string_bytes words.now) (record {
-      files = D.files desk.old;
-      files_after = D.files desk.new;
-      said = D.said desk.old;
-      said_after = D.said desk.new;
-      load_faults = D.load_faults desk.old;
-      load_faults_after = D.load_faults desk.new;
-      write_faults = D.write_faults desk.old;
-      write_faults_after = D.write_faults desk.new;
-    }) result }
-    ensures complete { IsComplete (map string_bytes words.now) (record {
-      files = D.files desk.old;
-      files_after = D.files desk.new;
-      said = D.said desk.old;
-      said_after = D.said desk.new;
-      load_faults = D.load_faults desk.old;
-      load_faults_after = D.load_faults desk.new;
-      write_faults = D.write_faults desk.old;
-      write_faults_after = D.write_faults desk.new;
-    }) result }
-    ensures refused { IsRefusedSo (map string_bytes words.now) (record {
-      files = D.files desk.old;
-      files_after = D.files desk.new;
-      said = D.said desk.old;
-      said_after = D.said desk.new;
-      load_faults = D.load_faults desk.old;
-      load_faults_after = D.load_faults desk.new;
-      write_faults = D.write_faults desk.old;
-      write_faults_after = D.write_faults desk.new;
-    }) result }
-    ensures accepted { IsAcceptedSo (map string_bytes words.now) (record {
-      files = D.files desk.old;
-      files_after = D.files desk.new;
-      said = D.said desk.old;
-      said_after = D.said desk.new;
-      load_faults = D.load_faults desk.old;
-      load_faults_after = D.load_faults desk.new;
-      write_faults = D.write_faults desk.old;
-      write_faults_after = D.write_faults desk.new;
-    }) result }
-    ensures rejected { IsRejectedSo (map string_bytes words.now) (record {
-      files = D.files desk.old;
-      files_after = D.files desk.new;
-      said = D.said desk.old;
-      said_after = D.said desk.new;
-      load_faults = D.load_faults desk.old;
-      load_faults_after = D.load_faults desk.new;
-      write_faults = D.write_faults desk.old;
-      write_faults_after = D.write_faults desk.new;
-    }) result }
-    ensures accepts_laid { AcceptsLaid (map string_bytes words.now) (record {
-      files = D.files desk.old;
-      files_after = D.files desk.new;
-      said = D.said desk.old;
-      said_after = D.said desk.new;
-      load_faults = D.load_faults desk.old;
-      load_faults_after = D.load_faults desk.new;
-      write_faults = D.write_faults desk.old;
-      write_faults_after = D.write_faults desk.new;
-    }) result }
+    ensures ends { Ends (map string_bytes words.now)
+        (between D.files D.said D.load_faults D.write_faults desk.old desk.new) result }
+    ensures complete { IsComplete (map string_bytes words.now)
+        (between D.files D.said D.load_faults D.write_faults desk.old desk.new) result }
+    ensures refused { IsRefusedSo (map string_bytes words.now)
+        (between D.files D.said D.load_faults D.write_faults desk.old desk.new) result }
+    ensures accepted { IsAcceptedSo (map string_bytes words.now)
+        (between D.files D.said D.load_faults D.write_faults desk.old desk.new) result }
+    ensures rejected { IsRejectedSo (map string_bytes words.now)
+        (between D.files D.said D.load_faults D.write_faults desk.old desk.new) result }
+    ensures accepts_laid { AcceptsLaid (map string_bytes words.now)
+        (between D.files D.said D.load_faults D.write_faults desk.old desk.new) result }
 {
     carry_out(alloc, words, desk).number()
 }
 
 /// Carries out the command that the words are.
 fn carry_out<D: Desk>(alloc: Global, words: &[String], desk: &mut D) -> Status
-    ensures ends { Ends (map string_bytes words.now) (record {
-      files = D.files desk.old;
-      files_after = D.files desk.new;
-      said = D.said desk.old;
-      said_after = D.said desk.new;
-      load_faults = D.load_faults desk.old;
-      load_faults_after = D.load_faults desk.new;
-      write_faults = D.write_faults desk.old;
-      write_faults_after = D.write_faults desk.new;
-    }) (number_of result) }
+    ensures ends { Ends (map string_bytes words.now)
+        (between D.files D.said D.load_faults D.write_faults desk.old desk.new) (number_of result) }
 {
     if let Some(lay) = Lay::parse(words) {
         return lay_file(alloc, &lay, desk);
@@ -133,16 +77,7 @@ fn lay_file<D: Desk>(alloc: Global, lay: &Lay<'_>, desk: &mut D) -> Status
       page = lay.now.page.now;
       certificate = option_map (λ name. name.now) lay.now.certificate;
       options = lay.now.options;
-    }) → Ends words (record {
-      files = D.files desk.old;
-      files_after = D.files desk.new;
-      said = D.said desk.old;
-      said_after = D.said desk.new;
-      load_faults = D.load_faults desk.old;
-      load_faults_after = D.load_faults desk.new;
-      write_faults = D.write_faults desk.old;
-      write_faults_after = D.write_faults desk.new;
-    }) (number_of result) }
+    }) → Ends words (between D.files D.said D.load_faults D.write_faults desk.old desk.new) (number_of result) }
 {
     match desk.load(lay.input, MAX_FILE_BYTES as u32) {
         Ok(bytes) => match answer_file(alloc, lay, bytes.as_slice()) {
@@ -176,16 +111,7 @@ fn check_file<D: Desk>(alloc: Global, check: &Check<'_>, desk: &mut D) -> Status
       input = check.now.input.now;
       certificate = check.now.certificate.now;
       options = check.now.options;
-    }) → Ends words (record {
-      files = D.files desk.old;
-      files_after = D.files desk.new;
-      said = D.said desk.old;
-      said_after = D.said desk.new;
-      load_faults = D.load_faults desk.old;
-      load_faults_after = D.load_faults desk.new;
-      write_faults = D.write_faults desk.old;
-      write_faults_after = D.write_faults desk.new;
-    }) (number_of result) }
+    }) → Ends words (between D.files D.said D.load_faults D.write_faults desk.old desk.new) (number_of result) }
 {
     match check_report(alloc, check, desk) {
         Ok(report) => tell(alloc, desk, report),
@@ -253,16 +179,8 @@ fn check_table<D: Desk>(
 
 /// Lays out the table of this number, checks its certificate, and prints its numbers.
 fn demonstrate<D: Desk>(alloc: Global, number: u32, desk: &mut D) -> Status
-    ensures ends { (words : List (List ℕ)) → IsDemo words number → Ends words (record {
-      files = D.files desk.old;
-      files_after = D.files desk.new;
-      said = D.said desk.old;
-      said_after = D.said desk.new;
-      load_faults = D.load_faults desk.old;
-      load_faults_after = D.load_faults desk.new;
-      write_faults = D.write_faults desk.old;
-      write_faults_after = D.write_faults desk.new;
-    }) (number_of result) }
+    ensures ends { (words : List (List ℕ)) → IsDemo words number → Ends words
+        (between D.files D.said D.load_faults D.write_faults desk.old desk.new) (number_of result) }
 {
     match demonstration(alloc, number) {
         Ok(summary) => tell(alloc, desk, Report::Summary(summary)),
@@ -290,16 +208,8 @@ fn load<D: Desk>(desk: &mut D, name: &str, most: u32) -> Result<Option<List<u8>>
 
 /// Prints what is reported, where nothing is stored.
 fn tell<D: Desk>(alloc: Global, desk: &mut D, report: Report) -> Status
-    ensures told { IsDelivered result (record {
-      files = D.files desk.old;
-      files_after = D.files desk.new;
-      said = D.said desk.old;
-      said_after = D.said desk.new;
-      load_faults = D.load_faults desk.old;
-      load_faults_after = D.load_faults desk.new;
-      write_faults = D.write_faults desk.old;
-      write_faults_after = D.write_faults desk.new;
-    }) (record { report = report; stores = [] }) }
+    ensures told { IsDelivered result
+        (between D.files D.said D.load_faults D.write_faults desk.old desk.new) (record { report = report; stores = [] }) }
     ensures loads_stay { D.load_faults desk.new ≡ D.load_faults desk.old }
 {
     match text(alloc, report) {
@@ -310,22 +220,14 @@ fn tell<D: Desk>(alloc: Global, desk: &mut D, report: Report) -> Status
 
 /// Stores the page and the certificate, those that there are, and prints the message.
 fn deliver<D: Desk>(alloc: Global, lay: &Lay<'_>, desk: &mut D, answer: &Answer) -> Status
-    ensures delivered { IsDelivered result (record {
-      files = D.files desk.old;
-      files_after = D.files desk.new;
-      said = D.said desk.old;
-      said_after = D.said desk.new;
-      load_faults = D.load_faults desk.old;
-      load_faults_after = D.load_faults desk.new;
-      write_faults = D.write_faults desk.old;
-      write_faults_after = D.write_faults desk.new;
-    }) (outcome_of (record {
-      width = lay.now.width;
-      input = lay.now.input.now;
-      page = lay.now.page.now;
-      certificate = option_map (λ name. name.now) lay.now.certificate;
-      options = lay.now.options;
-    }) answer.now) }
+    ensures delivered { IsDelivered result
+        (between D.files D.said D.load_faults D.write_faults desk.old desk.new) (outcome_of (record {
+          width = lay.now.width;
+          input = lay.now.input.now;
+          page = lay.now.page.now;
+          certificate = option_map (λ name. name.now) lay.now.certificate;
+          options = lay.now.options;
+        }) answer.now) }
     ensures loads_stay { D.load_faults desk.new ≡ D.load_faults desk.old }
 {
     let message = match text(alloc, answer.report) {
@@ -344,16 +246,8 @@ fn deliver<D: Desk>(alloc: Global, lay: &Lay<'_>, desk: &mut D, answer: &Answer)
 /// Stores a file under a name, where there are both. The status with which the program ends where
 /// that fails, and none otherwise.
 fn store<D: Desk>(desk: &mut D, name: Option<&str>, bytes: &Option<List<u8>>) -> Option<Status>
-    ensures stored { IsStored result (record {
-      files = D.files desk.old;
-      files_after = D.files desk.new;
-      said = D.said desk.old;
-      said_after = D.said desk.new;
-      load_faults = D.load_faults desk.old;
-      load_faults_after = D.load_faults desk.new;
-      write_faults = D.write_faults desk.old;
-      write_faults_after = D.write_faults desk.new;
-    }) (stored_as (option_map (λ name. name.now) name.entry) bytes.now) }
+    ensures stored { IsStored result
+        (between D.files D.said D.load_faults D.write_faults desk.old desk.new) (stored_as (option_map (λ name. name.now) name.entry) bytes.now) }
     ensures loads_stay { D.load_faults desk.new ≡ D.load_faults desk.old }
     ensures said_stays { D.said desk.new ≡ D.said desk.old }
 {
@@ -369,16 +263,8 @@ fn store<D: Desk>(desk: &mut D, name: Option<&str>, bytes: &Option<List<u8>>) ->
 
 /// Prints the message of this status. Where that fails, the program ends with another status.
 fn print<D: Desk>(desk: &mut D, status: Status, text: &[u8]) -> Status
-    ensures printed { IsPrinted status result (record {
-      files = D.files desk.old;
-      files_after = D.files desk.new;
-      said = D.said desk.old;
-      said_after = D.said desk.new;
-      load_faults = D.load_faults desk.old;
-      load_faults_after = D.load_faults desk.new;
-      write_faults = D.write_faults desk.old;
-      write_faults_after = D.write_faults desk.new;
-    }) text.now }
+    ensures printed { IsPrinted status result
+        (between D.files D.said D.load_faults D.write_faults desk.old desk.new) text.now }
     ensures files_stay { D.files desk.new ≡ D.files desk.old }
     ensures loads_stay { D.load_faults desk.new ≡ D.load_faults desk.old }
     ensures writes_rise { D.write_faults desk.old ≤ D.write_faults desk.new }

@@ -1,7 +1,7 @@
 -- The words are a command, or none.
 use Rattle.std.proofs.Common.{inl, refl, map, string_bytes}
 use Rattle.tl_program.specs.declared.report.Report.TheVariants as reports
-use Rattle.tl_program.specs.Change.{Change}
+use Rattle.tl_program.specs.Change.{between}
 use Rattle.tl_program.specs.Command.{IsUsage}
 use Rattle.tl_program.proofs.Ends.{budget_small, printed_ends}
 use Rattle.tl_program.proofs.run.carry_out.Goals as goal
@@ -15,16 +15,7 @@ check_file-requires-clause-budget g c = budget_small c.in-Some-parse.ensures.com
 pub returns : goal.returns
 returns g c = record {
   ends =
-      let change : Change = record {
-        files = g.D.Desk.files c.args.desk.now;
-        files_after = g.D.Desk.files c.print.new.desk;
-        said = g.D.Desk.said c.args.desk.now;
-        said_after = g.D.Desk.said c.print.new.desk;
-        load_faults = g.D.Desk.load_faults c.args.desk.now;
-        load_faults_after = g.D.Desk.load_faults c.print.new.desk;
-        write_faults = g.D.Desk.write_faults c.args.desk.now;
-        write_faults_after = g.D.Desk.write_faults c.print.new.desk;
-      } in
+      let change = between g.D.Desk.files g.D.Desk.said g.D.Desk.load_faults g.D.Desk.write_faults c.args.desk.now c.print.new.desk in
       let usage : IsUsage (map string_bytes c.args.words.now) = record {
         no_layout = c.in_default.ensures.none;
         no_check = c.in_default-parse.ensures.none;

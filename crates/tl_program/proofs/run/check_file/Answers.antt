@@ -1,6 +1,6 @@
 -- What a check comes to is printed.
 use Rattle.std.proofs.Common.{inl, inr, [], refl}
-use Rattle.tl_program.specs.Change.{Change}
+use Rattle.tl_program.specs.Change.{between}
 use Rattle.tl_program.specs.Command.{Checking}
 use Rattle.tl_program.specs.Headline.{Becomes}
 use Rattle.tl_program.specs.Outcomes.{Outcome}
@@ -17,26 +17,8 @@ returns-in-Ok g c = record {
         certificate = c.args.check.now.certificate.now;
         options = c.args.check.now.options;
       } in
-      let change : Change = record {
-        files = g.D.Desk.files c.args.desk.now;
-        files_after = g.D.Desk.files c.tell.new.desk;
-        said = g.D.Desk.said c.args.desk.now;
-        said_after = g.D.Desk.said c.tell.new.desk;
-        load_faults = g.D.Desk.load_faults c.args.desk.now;
-        load_faults_after = g.D.Desk.load_faults c.tell.new.desk;
-        write_faults = g.D.Desk.write_faults c.args.desk.now;
-        write_faults_after = g.D.Desk.write_faults c.tell.new.desk;
-      } in
-      let other : Change = record {
-        files = g.D.Desk.files c.check_report.new.desk;
-        files_after = g.D.Desk.files c.tell.new.desk;
-        said = g.D.Desk.said c.check_report.new.desk;
-        said_after = g.D.Desk.said c.tell.new.desk;
-        load_faults = g.D.Desk.load_faults c.check_report.new.desk;
-        load_faults_after = g.D.Desk.load_faults c.tell.new.desk;
-        write_faults = g.D.Desk.write_faults c.check_report.new.desk;
-        write_faults_after = g.D.Desk.write_faults c.tell.new.desk;
-      } in
+      let change = between g.D.Desk.files g.D.Desk.said g.D.Desk.load_faults g.D.Desk.write_faults c.args.desk.now c.tell.new.desk in
+      let other = between g.D.Desk.files g.D.Desk.said g.D.Desk.load_faults g.D.Desk.write_faults c.check_report.new.desk c.tell.new.desk in
       let outcome : Outcome = record { report = c.in-Ok.report; stores = [] } in
       let becomes : Becomes words change outcome = inr (inr (inl (
         command,

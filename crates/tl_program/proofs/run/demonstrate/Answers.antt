@@ -1,7 +1,7 @@
 -- The numbers of a demonstration are printed.
 use Rattle.std.proofs.Common.{inr, [], refl}
 use Rattle.tl_program.specs.declared.report.Report.TheVariants as reports
-use Rattle.tl_program.specs.Change.{Change}
+use Rattle.tl_program.specs.Change.{between}
 use Rattle.tl_program.specs.Headline.{Becomes}
 use Rattle.tl_program.specs.Outcomes.{Outcome}
 use Rattle.tl_program.proofs.Ends.{delivered_ends}
@@ -10,16 +10,7 @@ use Rattle.tl_program.proofs.run.demonstrate.Goals as goal
 pub returns-in-Ok : goal.returns-in-Ok
 returns-in-Ok g c = record {
   ends = λ words is.
-      let change : Change = record {
-        files = g.D.Desk.files c.args.desk.now;
-        files_after = g.D.Desk.files c.tell.new.desk;
-        said = g.D.Desk.said c.args.desk.now;
-        said_after = g.D.Desk.said c.tell.new.desk;
-        load_faults = g.D.Desk.load_faults c.args.desk.now;
-        load_faults_after = g.D.Desk.load_faults c.tell.new.desk;
-        write_faults = g.D.Desk.write_faults c.args.desk.now;
-        write_faults_after = g.D.Desk.write_faults c.tell.new.desk;
-      } in
+      let change = between g.D.Desk.files g.D.Desk.said g.D.Desk.load_faults g.D.Desk.write_faults c.args.desk.now c.tell.new.desk in
       let outcome : Outcome = record { report = reports.Summary c.in-Ok.summary; stores = [] } in
       let becomes : Becomes words change outcome = inr (inr (inr (
         c.args.number,

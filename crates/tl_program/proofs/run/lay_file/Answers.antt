@@ -4,7 +4,7 @@ use Rattle.std.specs.Prelude.{option_map}
 use Rattle.tl_base.specs.declared.limits.TheConstants.{MAX_FILE_BYTES}
 use Rattle.tl_base.specs.Desk.{Rose}
 use Rattle.tl_program.specs.declared.report.Report.TheVariants as reports
-use Rattle.tl_program.specs.Change.{Change}
+use Rattle.tl_program.specs.Change.{between}
 use Rattle.tl_program.specs.Command.{Laying}
 use Rattle.tl_program.specs.Headline.{Becomes}
 use Rattle.tl_program.specs.Outcomes.{Outcome, asked, IsAnswerOf, outcome_of}
@@ -22,26 +22,8 @@ returns-in-Ok-answer_file g c = record {
         certificate = option_map (λ name. name.now) c.args.lay.now.certificate;
         options = c.args.lay.now.options;
       } in
-      let change : Change = record {
-        files = g.D.Desk.files c.args.desk.now;
-        files_after = g.D.Desk.files c.deliver.new.desk;
-        said = g.D.Desk.said c.args.desk.now;
-        said_after = g.D.Desk.said c.deliver.new.desk;
-        load_faults = g.D.Desk.load_faults c.args.desk.now;
-        load_faults_after = g.D.Desk.load_faults c.deliver.new.desk;
-        write_faults = g.D.Desk.write_faults c.args.desk.now;
-        write_faults_after = g.D.Desk.write_faults c.deliver.new.desk;
-      } in
-      let other : Change = record {
-        files = g.D.Desk.files c.load.new.self;
-        files_after = g.D.Desk.files c.deliver.new.desk;
-        said = g.D.Desk.said c.load.new.self;
-        said_after = g.D.Desk.said c.deliver.new.desk;
-        load_faults = g.D.Desk.load_faults c.load.new.self;
-        load_faults_after = g.D.Desk.load_faults c.deliver.new.desk;
-        write_faults = g.D.Desk.write_faults c.load.new.self;
-        write_faults_after = g.D.Desk.write_faults c.deliver.new.desk;
-      } in
+      let change = between g.D.Desk.files g.D.Desk.said g.D.Desk.load_faults g.D.Desk.write_faults c.args.desk.now c.deliver.new.desk in
+      let other = between g.D.Desk.files g.D.Desk.said g.D.Desk.load_faults g.D.Desk.write_faults c.load.new.self c.deliver.new.desk in
       let answer = c.in-Ok-answer_file.answer in
       let content = content_of MAX_FILE_BYTES (g.D.Desk.files c.args.desk.now) command.input c.in-Ok.bytes c.in-Ok.ensures.short c.in-Ok.ensures.read in
       let becomes : Becomes words change (outcome_of command answer) = inr (inl (
@@ -73,26 +55,8 @@ returns-in-Err-Failed g c = record {
         certificate = option_map (λ name. name.now) c.args.lay.now.certificate;
         options = c.args.lay.now.options;
       } in
-      let change : Change = record {
-        files = g.D.Desk.files c.args.desk.now;
-        files_after = g.D.Desk.files c.print.new.desk;
-        said = g.D.Desk.said c.args.desk.now;
-        said_after = g.D.Desk.said c.print.new.desk;
-        load_faults = g.D.Desk.load_faults c.args.desk.now;
-        load_faults_after = g.D.Desk.load_faults c.print.new.desk;
-        write_faults = g.D.Desk.write_faults c.args.desk.now;
-        write_faults_after = g.D.Desk.write_faults c.print.new.desk;
-      } in
-      let third : Change = record {
-        files = g.D.Desk.files c.load.new.self;
-        files_after = g.D.Desk.files c.print.new.desk;
-        said = g.D.Desk.said c.load.new.self;
-        said_after = g.D.Desk.said c.print.new.desk;
-        load_faults = g.D.Desk.load_faults c.load.new.self;
-        load_faults_after = g.D.Desk.load_faults c.print.new.desk;
-        write_faults = g.D.Desk.write_faults c.load.new.self;
-        write_faults_after = g.D.Desk.write_faults c.print.new.desk;
-      } in
+      let change = between g.D.Desk.files g.D.Desk.said g.D.Desk.load_faults g.D.Desk.write_faults c.args.desk.now c.print.new.desk in
+      let third = between g.D.Desk.files g.D.Desk.said g.D.Desk.load_faults g.D.Desk.write_faults c.load.new.self c.print.new.desk in
       let outcome : Outcome = record { report = reports.ReadFault; stores = [] } in
       let rose : Rose change.load_faults change.load_faults_after =
       subst (Rose (g.D.Desk.load_faults c.args.desk.now)) (sym c.print.ensures.loads_stay) (c.in-Err-Failed.ensures.failed
