@@ -37,25 +37,26 @@ pub Contains-given : {X : Type 0} (b : Bool) (x y : X) → Contains (if b then x
 Contains-given true x y has = elim (Contains-cases x [] y has) [ inl here ↦ here | inr later ↦ absurd (Contains-none y later) ]
 Contains-given false x y has = absurd (Contains-none y has)
 
-module _ (problem : ProblemModel) (sound : IsSound problem) (zone : List Range) (is : IsZone problem zone) (widths : List ℕ) where
+module _ (problem : ProblemModel) (zone : List Range) where
   -- a bound of a zone is one of a span's range
-  bound-of_range : (bound : Bound) → Contains (zone_bounds problem zone) bound →
+  pub bound-of_range : (bound : Bound) → Contains (zone_bounds problem zone) bound →
       (s : ℕ) × (s < length zone) × Contains (range_bounds problem s (range_at zone s)) bound
   bound-of_range bound has =
       let found = flat_map-Contains (λ s. range_bounds problem s (range_at zone s)) (range_with_len 0 (length zone)) bound has in
       let number = range-Contains 0 (length zone) found.0 found.1 in
       (found.0, omega (arith, number.1), found.2)
 
-  range-bound_of : (s : ℕ) → s < length zone → (bound : Bound) → Contains (range_bounds problem s (range_at zone s)) bound →
+  pub range-bound_of : (s : ℕ) → s < length zone → (bound : Bound) → Contains (range_bounds problem s (range_at zone s)) bound →
       Contains (zone_bounds problem zone) bound
   range-bound_of s within bound has = Contains-flat_map (λ t. range_bounds problem t (range_at zone t)) (range_with_len 0 (length zone)) s bound
       (Contains-range 0 (length zone) s (omega arith) (omega arith)) has
 
+module _ (problem : ProblemModel) (sound : IsSound problem) (zone : List Range) (is : IsZone problem zone) (widths : List ℕ) where
   pub zone-meets : InZone problem zone widths → All (Meets problem widths) (zone_bounds problem zone)
   zone-meets inside = All-from_Contains (Meets problem widths) (zone_bounds problem zone) meets where
     meets : (bound : Bound) → Contains (zone_bounds problem zone) bound → Meets problem widths bound
     meets bound has =
-        let found = bound-of_range bound has in
+        let found = bound-of_range problem zone bound has in
         let s = found.0 in
         let r = range_at zone s in
         let here = inside.ranges s found.1 in
@@ -84,7 +85,7 @@ module _ (problem : ProblemModel) (sound : IsSound problem) (zone : List Range) 
       from =
           elim (cases_lt 0 r.first) [
             | inl past ↦ All-contains (Meets problem widths) (zone_bounds problem zone) (at_least s (first_in_class problem s r.first)) meets
-                (range-bound_of s within (at_least s (first_in_class problem s r.first))
+                (range-bound_of problem zone s within (at_least s (first_in_class problem s r.first))
                 (Contains-append_right (if upper then at_most s (last_in_class problem s r.last) ∷ [] else [])
                 (if lower then at_least s (first_in_class problem s r.first) ∷ [] else []) (at_least s (first_in_class problem s r.first))
                 (given-Contains lower (at_least s (first_in_class problem s r.first)) (lt_test 0 r.first past))))
@@ -98,7 +99,7 @@ module _ (problem : ProblemModel) (sound : IsSound problem) (zone : List Range) 
       upto =
           elim (cases_lt (r.last + 1) (length (classes_at problem s))) [
             | inl before ↦ All-contains (Meets problem widths) (zone_bounds problem zone) (at_most s (last_in_class problem s r.last)) meets
-                (range-bound_of s within (at_most s (last_in_class problem s r.last))
+                (range-bound_of problem zone s within (at_most s (last_in_class problem s r.last))
                 (Contains-append_left (if upper then at_most s (last_in_class problem s r.last) ∷ [] else [])
                 (if lower then at_least s (first_in_class problem s r.first) ∷ [] else []) (at_most s (last_in_class problem s r.last))
                 (given-Contains upper (at_most s (last_in_class problem s r.last)) (lt_test (r.last + 1) (length (classes_at problem s)) before))))

@@ -1,8 +1,8 @@
 -- What is left of a nogood with one bound more, and what firing it does.
-use Rattle.std.proofs.Common.{◌≡◌, ◌≢◌, ℕ, List, [], ◌∷◌, ◌++◌, inl, inr, refl, sym, ◌∙◌, subst}
+use Rattle.std.proofs.Common.{◌≡◌, ◌≢◌, ◌⊎◌, ℕ, List, [], ◌∷◌, ◌++◌, inl, inr, refl, sym, ◌∙◌, subst}
 use Rattle.std.specs.List.{All, Contains}
 use Rattle.std.proofs.lemmas.List.Elements.{All-push, Contains-append_left, Contains-append_right, Contains-append_cases, All-contains}
-use Rattle.tl_base.proofs.Members.{Contains-first, Contains-cases, Contains-none}
+use Rattle.tl_base.proofs.Members.{All-from_Contains, Contains-first, Contains-cases, Contains-none}
 use Rattle.tl_diff.specs.Marks.{MarkedBounds}
 use Rattle.tl_problem.specs.Problem.{ProblemModel}
 use Rattle.tl_problem.specs.Works as works
@@ -13,7 +13,7 @@ use Rattle.tl_cert.proofs.FireLaws.{fires-append, fires-stuck}
 use Rattle.tl_check.specs.declared.left.Left.{Left}
 use Rattle.tl_check.specs.declared.left.Left.TheVariants.{Nothing, One, More}
 use Rattle.tl_check.specs.inner.Matrices.{Restricts, Describes}
-use Rattle.tl_check.specs.inner.Firing.{TwoLeft, HasLeft, LeadsTo, NeverFires}
+use Rattle.tl_check.specs.inner.Firing.{TwoLeft, HasLeft, HasLeftBut, LeadsTo, NeverFires}
 use Rattle.tl_check.proofs.Leaving.{Describes-broken}
 
 module _ (problem : ProblemModel) (Among : List ℕ → Type 0) (nogood : List Bound) (bound : Bound) where
@@ -87,6 +87,81 @@ module _ (problem : ProblemModel) (Among : List ℕ → Type 0) (nogood : List B
 
   pub left-more : TwoLeft problem Among nogood → TwoLeft problem Among longer
   left-more h = two-longer h
+
+-- ---- what is left of a nogood, bound by bound of another list
+
+module _ (problem : ProblemModel) (Among : List ℕ → Type 0) (nogood : List Bound) where
+  -- two that are left of some bounds are left of all
+  two-wider : (seen : List Bound) → ((b : Bound) → Contains seen b → Contains nogood b) → TwoLeft problem Among seen → TwoLeft problem Among nogood
+  two-wider seen among h = record {
+    one = h.one;
+    other = h.other;
+    among = among h.one h.among;
+    among_too = among h.other h.among_too;
+    differ = h.differ;
+    not_implied = h.not_implied;
+    not_implied_too = h.not_implied_too;
+  }
+
+  pub but-found : (rest : List Bound) (left : Left) → left ≡ More → HasLeftBut problem Among nogood rest left → HasLeft problem Among nogood left
+  but-found rest left is h = subst (HasLeft problem Among nogood) (sym is)
+      (two-wider h.seen h.among (subst (HasLeft problem Among h.seen) is h.has_left))
+
+  -- where there is no rest, what is left was found
+  pub but-none : (rest : List Bound) (left : Left) → ((b : Bound) → Contains rest b → ⊥) → HasLeftBut problem Among nogood rest left →
+      HasLeft problem Among nogood left
+  but-none rest left none h = by_left left h.has_left where
+    looked_at : (b : Bound) → Contains nogood b → (Contains h.seen b → Implied problem Among b) → Implied problem Among b
+    looked_at b has found = elim (h.others b has) [
+      | inl implied ↦ implied
+      | inr (inl seen) ↦ found seen
+      | inr (inr later) ↦ absurd (none b later)
+    ]
+
+    by_left : (found : Left) → HasLeft problem Among h.seen found → HasLeft problem Among nogood found
+    by_left Nothing all = All-from_Contains (Implied problem Among) nogood
+        (λ b has. looked_at b has (λ seen. All-contains (Implied problem Among) h.seen b all seen))
+    by_left (One bound) one = record {
+      among = h.among bound one.among;
+      not_implied = one.not_implied;
+      others = λ other has apart. looked_at other has (λ seen. one.others other seen apart);
+    }
+    by_left More two = two-wider h.seen h.among two
+
+  -- the rest is fewer by one bound, which is implied, or is looked at with others of the nogood
+  module _ (rest fewer : List Bound) (bound : Bound) (next : (b : Bound) → Contains rest b → (b ≡ bound) ⊎ Contains fewer b) where
+    pub but-implied : (left : Left) → Implied problem Among bound → HasLeftBut problem Among nogood rest left → HasLeftBut problem Among nogood fewer left
+    but-implied left implied h = record {
+      seen = h.seen;
+      has_left = h.has_left;
+      among = h.among;
+      others = λ b has. elim (h.others b has) [
+        | inl known ↦ inl known
+        | inr (inl seen) ↦ inr (inl seen)
+        | inr (inr later) ↦ elim (next b later) [
+          | inl same ↦ inl (subst (Implied problem Among) (sym same) implied)
+          | inr kept ↦ inr (inr kept)
+        ]
+      ];
+    }
+
+    pub but-looked_at : (left found : Left) (more : List Bound) → ((b : Bound) → Contains more b → Contains nogood b) →
+        ((b : Bound) → b ≡ bound → Contains nogood b → Contains more b) →
+        ((seen : List Bound) → HasLeft problem Among seen left → HasLeft problem Among (seen ++ more) found) →
+        HasLeftBut problem Among nogood rest left → HasLeftBut problem Among nogood fewer found
+    but-looked_at left found more among there finds h = record {
+      seen = h.seen ++ more;
+      has_left = finds h.seen h.has_left;
+      among = λ b has. elim (Contains-append_cases h.seen more b has) [ inl old ↦ h.among b old | inr new ↦ among b new ];
+      others = λ b has. elim (h.others b has) [
+        | inl known ↦ inl known
+        | inr (inl seen) ↦ inr (inl (Contains-append_left h.seen more b seen))
+        | inr (inr later) ↦ elim (next b later) [
+          | inl same ↦ inr (inl (Contains-append_right h.seen more b (there b same has)))
+          | inr kept ↦ inr (inr kept)
+        ]
+      ];
+    }
 
 -- ---- firing a nogood of which this is left
 

@@ -7,3 +7,4 @@ pub mod Spans
 pub mod Deciding
 pub mod Working
 pub mod Flags
+pub mod PartBounds

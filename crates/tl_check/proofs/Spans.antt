@@ -1,6 +1,6 @@
 -- How many spans there are, and the bounds of a zone span by span.
 use Rattle.std.proofs.Common.{◌≡◌, ℕ, ◌+◌, ◌-◌, ◌*◌, ◌<◌, ◌≤◌, zero, suc, Bool, true, false, not, List, [], ◌∷◌}
-use Rattle.std.proofs.Common.{◌++◌, inl, inr, length, map, filter, Option, None, refl, sym, ap, ◌∙◌, subst, arith, append_assoc, length-append}
+use Rattle.std.proofs.Common.{◌++◌, inl, inr, length, map, filter, Option, None, refl, sym, ap, ◌∙◌, subst, arith, length-append}
 use Rattle.std.specs.Prelude.{nat_lt, if◌then◌else◌}
 use Rattle.std.specs.List.{Contains, flat_map, range_with_len, list_any}
 use Rattle.std.proofs.lemmas.Bool.{cases_lt}
@@ -9,7 +9,7 @@ use Rattle.std.proofs.lemmas.List.{append-nil}
 use Rattle.std.proofs.lemmas.List.Elements.{Contains-append_left, Contains-append_right, Contains-append_cases, All-contains}
 use Rattle.std.proofs.lemmas.List.Filters.{length-filter_both}
 use Rattle.std.proofs.lemmas.List.FromFn.{length-range_with_len, length-map-range_with_len}
-use Rattle.tl_base.proofs.Members.{Contains-none, Contains-flat_map, Contains-range, flat_map-Contains, range-Contains}
+use Rattle.tl_base.proofs.Members.{Contains-none}
 use Rattle.tl_problem.specs.declared.cell.Span.{Span}
 use Rattle.tl_problem.specs.declared.zone.Range.{Range}
 use Rattle.tl_problem.specs.Problem.{ProblemModel}
@@ -23,7 +23,7 @@ use Rattle.tl_cert.specs.declared.trace.CutAt.{CutAt}
 use Rattle.tl_cert.specs.Traces.{IsTraceOf, zone_of}
 use Rattle.tl_cert.specs.Nogoods.{at_most, at_least, range_bounds, zone_bounds, nogood_bounds, NamesAreThere}
 use Rattle.tl_cert.proofs.TraceLaws.{zones-are}
-use Rattle.tl_cert.proofs.ZoneBounds.{lt_test, not_lt_test, given-Contains, Contains-given}
+use Rattle.tl_cert.proofs.ZoneBounds.{lt_test, not_lt_test, given-Contains, Contains-given, bound-of_range, range-bound_of}
 use Rattle.tl_check.specs.inner.Matrices.{some_list}
 use Rattle.tl_check.specs.inner.Zones.{bounds_upto}
 
@@ -64,23 +64,19 @@ upto-next problem zone s =
     ap (flat_map f) numbers ∙ flat_map-append f (range_with_len 0 s) (s ∷ []) ∙ ap (λ l. flat_map f (range_with_len 0 s) ++ l) (append-nil (f s))
 
 -- by the bound from above and the one from below
-pub upto-bounds : (problem : ProblemModel) (zone : List Range) (s : ℕ) (r : Range) → r ≡ range_at zone s → (upper lower : Option Bound) →
+pub range-bounds : (problem : ProblemModel) (s : ℕ) (r : Range) (upper lower : Option Bound) →
     some_list upper ≡ (if nat_lt (r.last + 1) (length (classes_at problem s)) then at_most s (last_in_class problem s r.last) ∷ [] else []) →
     some_list lower ≡ (if nat_lt 0 r.first then at_least s (first_in_class problem s r.first) ∷ [] else []) →
-    (bounds_upto problem zone s ++ some_list upper) ++ some_list lower ≡ bounds_upto problem zone (s + 1)
-upto-bounds problem zone s r is upper lower above below =
-    let both : some_list upper ++ some_list lower ≡ range_bounds problem s r = ap (λ l. l ++ some_list lower) above ∙ ap (λ l.
-    (if nat_lt (r.last + 1) (length (classes_at problem s)) then at_most s (last_in_class problem s r.last) ∷ [] else []) ++ l) below in
-    append_assoc (bounds_upto problem zone s) (some_list upper) (some_list lower)
-    ∙ ap (λ l. bounds_upto problem zone s ++ l) (both ∙ ap (range_bounds problem s) is) ∙ sym (upto-next problem zone s)
+    some_list upper ++ some_list lower ≡ range_bounds problem s r
+range-bounds problem s r upper lower above below = ap (λ l. l ++ some_list lower) above ∙ ap (λ l.
+    (if nat_lt (r.last + 1) (length (classes_at problem s)) then at_most s (last_in_class problem s r.last) ∷ [] else []) ++ l) below
 
 -- ---- no bounds
 
 module _ (problem : ProblemModel) (zone : List Range) (is : IsZone problem zone) where
   none-in : zone_bounds problem zone ≡ [] → (s : ℕ) → s < length zone → (bound : Bound) → Contains (range_bounds problem s (range_at zone s)) bound → ⊥
   none-in none s within bound has =
-      let there = Contains-flat_map (λ t. range_bounds problem t (range_at zone t)) (range_with_len 0 (length zone)) s bound
-      (Contains-range 0 (length zone) s (omega arith) (omega (arith, within))) has in
+      let there = range-bound_of problem zone s within bound has in
       Contains-none bound (subst (λ bounds. Contains bounds bound) none there)
 
   -- where a zone has no bounds each span has all its classes
@@ -116,7 +112,7 @@ bare-next problem zone s before first last =
     (not_lt_test (r.last + 1) (length (classes_at problem s)) (omega (arith, last))) in
     let lower : (if nat_lt 0 r.first then at_least s (first_in_class problem s r.first) ∷ [] else []) ≡ [] =
     none_if (nat_lt 0 r.first) (at_least s (first_in_class problem s r.first)) (not_lt_test 0 r.first (omega (arith, first))) in
-    sym (upto-bounds problem zone s r refl None None (sym upper) (sym lower)) ∙ append-nil (bounds_upto problem zone s ++ [])
+    upto-next problem zone s ∙ ap (λ l. bounds_upto problem zone s ++ l) (sym (range-bounds problem s r None None (sym upper) (sym lower)))
     ∙ append-nil (bounds_upto problem zone s) ∙ before
   where
     none_if : (b : Bool) (x : Bound) → b ≡ false → (if b then x ∷ [] else []) ≡ []
@@ -125,7 +121,7 @@ bare-next problem zone s before first last =
 
 -- ---- the bounds of a nogood are on spans that are there
 
-range_bounds-span : (problem : ProblemModel) (s : ℕ) (r : Range) (bound : Bound) → Contains (range_bounds problem s r) bound → bound.span ≡ s
+pub range_bounds-span : (problem : ProblemModel) (s : ℕ) (r : Range) (bound : Bound) → Contains (range_bounds problem s r) bound → bound.span ≡ s
 range_bounds-span problem s r bound has =
     let upper = nat_lt (r.last + 1) (length (classes_at problem s)) in
     let lower = nat_lt 0 r.first in
@@ -135,12 +131,19 @@ range_bounds-span problem s r bound has =
       | inr least ↦ sym (ap (λ (b : Bound). b.span) (Contains-given lower (at_least s (first_in_class problem s r.first)) bound least))
     ]
 
+-- a bound of a zone that is on a span is one of that span's range
+pub on-span : (problem : ProblemModel) (zone : List Range) (s : ℕ) (bound : Bound) → bound.span ≡ s → Contains (zone_bounds problem zone) bound →
+    Contains (range_bounds problem s (range_at zone s)) bound
+on-span problem zone s bound is has =
+    let found = bound-of_range problem zone bound has in
+    subst (λ t. Contains (range_bounds problem t (range_at zone t)) bound)
+    (sym (range_bounds-span problem found.0 (range_at zone found.0) bound found.2) ∙ is) found.2
+
 pub nogood-span : (problem : ProblemModel) → IsSound problem → (trace : List CutAt) → IsTraceOf problem trace → (nogood : Nogood) →
     NamesAreThere problem trace nogood → (bound : Bound) → Contains (nogood_bounds problem trace nogood) bound → bound.span < length (spans_of problem)
 nogood-span problem sound trace is (Zone z) names bound has =
     let zone = zone_of problem trace z in
-    let found = flat_map-Contains (λ s. range_bounds problem s (range_at zone s)) (range_with_len 0 (length zone)) bound has in
-    let number = range-Contains 0 (length zone) found.0 found.1 in
+    let found = bound-of_range problem zone bound has in
     let span = range_bounds-span problem found.0 (range_at zone found.0) bound found.2 in
-    omega (arith, number.1, span, (zones-are problem sound trace is z names).spans)
+    omega (arith, found.1, span, (zones-are problem sound trace is z names).spans)
 nogood-span problem sound trace is (Bounds bounds) names bound has = All-contains (λ b. b.span < length (spans_of problem)) bounds bound names has

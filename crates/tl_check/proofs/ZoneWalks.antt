@@ -81,6 +81,33 @@ halves-even z some even = omega (arith, some, even)
 pub cut-there : (z n : ℕ) → 0 < z → z < 2 * n + 1 → (z - 1) / 2 < n
 cut-there z n some there = omega (arith, some, there)
 
+-- what stands where a trace has no cut
+abbrev pub no_cut : CutAt
+no_cut = record { zone = 0; span = 0; class = 0 }
+
+-- the cut by which a zone came to be
+abbrev pub cut_to : List CutAt → ℕ → CutAt → CutAt
+cut_to trace zone d = get_or trace ((zone - 1) / 2) d
+
+module _ (problem : ProblemModel) (trace : List CutAt) (is_trace : IsTraceOf problem trace) (zone : ℕ) (some : 0 < zone) (there : IsZoneOf trace zone)
+    (d : CutAt) where
+  pub cut-known : IsParted (whole_zone problem) trace ((zone - 1) / 2) (cut_to trace zone d)
+  cut-known = parted (whole_zone problem) trace is_trace ((zone - 1) / 2) d (cut-there zone (length trace) some there)
+
+  pub parent-there : IsZoneOf trace (cut_to trace zone d).zone
+  parent-there = omega (arith, cut-known.before, cut-there zone (length trace) some there)
+
+  pub parent-less : (cut_to trace zone d).zone < zone
+  parent-less = elim (cases_eq (zone % 2) 1) [
+    | inl odd ↦ omega (arith, cut-known.before, halves-odd zone some odd)
+    | inr even ↦ omega (arith, cut-known.before, halves-even zone some even)
+  ]
+
+-- zone 0 is the whole
+pub zone-first : (problem : ProblemModel) (trace : List CutAt) → IsTraceOf problem trace → zone_of problem trace 0 ≡ whole_zone problem
+zone-first problem trace is_trace = trace-by (whole_zone problem) (λ cuts. zone_of problem cuts 0 ≡ whole_zone problem) refl
+    (λ cuts cut before now same. zone-old (whole_zone problem) cuts cut 0 (omega arith) ∙ same) trace is_trace
+
 -- ---- span by span
 
 module _ (problem : ProblemModel) (sound : IsSound problem) (trace : List CutAt) (is_trace : IsTraceOf problem trace) (s : ℕ)
@@ -122,24 +149,15 @@ module _ (problem : ProblemModel) (sound : IsSound problem) (trace : List CutAt)
   module _ (top zone first last : ℕ) (some : 0 < zone) (there : IsZoneOf trace zone) (d : CutAt)
       (within : IsWithinClasses (range_of top) (range_of zone) first last) where
     abbrev cut_of : CutAt
-    cut_of = get_or trace ((zone - 1) / 2) d
+    cut_of = cut_to trace zone d
 
     known : IsParted (whole_zone problem) trace ((zone - 1) / 2) cut_of
-    known = parted (whole_zone problem) trace is_trace ((zone - 1) / 2) d (cut-there zone (length trace) some there)
-
-    pub parent-there : IsZoneOf trace cut_of.zone
-    parent-there = omega (arith, known.before, cut-there zone (length trace) some there)
-
-    pub parent-less : cut_of.zone < zone
-    parent-less = elim (cases_eq (zone % 2) 1) [
-      | inl odd ↦ omega (arith, known.before, halves-odd zone some odd)
-      | inr even ↦ omega (arith, known.before, halves-even zone some even)
-    ]
+    known = cut-known problem trace is_trace zone some there d
 
     -- the class of the cut, and the one after it, are classes of the span
     pub cut-class : cut_of.span ≡ s → cut_of.class + 1 < length (classes_at problem s)
     cut-class here =
-        let before : IsZoneOf trace cut_of.zone = parent-there in
+        let before : IsZoneOf trace cut_of.zone = parent-there problem trace is_trace zone some there d in
         let ranges = (zones-are problem sound trace is_trace cut_of.zone before).ranges s (long cut_of.zone before) in
         let upper = subst (λ t. cut_of.class < (range_at (zone_of problem trace cut_of.zone) t).last) here known.upper in
         omega (arith, ranges.1, upper)
@@ -188,14 +206,10 @@ module _ (problem : ProblemModel) (sound : IsSound problem) (trace : List CutAt)
   pub walk-end : (top first last : ℕ) → last < length (classes_at problem s) → IsWithinClasses (range_of top) (range_of 0) first last →
       range first last ≡ range_of top
   walk-end top first last small within =
-      let whole : range_of 0 ≡ range 0 (length (classes_at problem s) - 1) = ap (λ z. range_at z s) zone-first ∙ whole-range problem s inside in
+      let whole : range_of 0 ≡ range 0 (length (classes_at problem s) - 1) = ap (λ z. range_at z s) (zone-first problem trace is_trace) ∙ whole-range problem s inside in
       let one : first ≡ (range_of top).first = omega (arith, within.from, ap (λ r. r.first) whole) in
       let other : last ≡ (range_of top).last = omega (arith, within.upto, ap (λ r. r.last) whole, small) in
       ap (λ f. range f last) one ∙ ap (range (range_of top).first) other
-    where
-      zone-first : zone_of problem trace 0 ≡ whole_zone problem
-      zone-first = trace-by (whole_zone problem) (λ cuts. zone_of problem cuts 0 ≡ whole_zone problem) refl
-          (λ cuts cut before now same. zone-old (whole_zone problem) cuts cut 0 (omega arith) ∙ same) trace is_trace
 
   -- the range of a zone is among the span's classes
   pub range-small : (z : ℕ) → IsZoneOf trace z → (r : Range) → r ≡ range_of z →

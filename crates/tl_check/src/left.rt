@@ -6,14 +6,14 @@ ghost use Rattle.std.specs.Option.{ForSome};
 ghost use Rattle.tl_problem.specs.Spans.{spans_of};
 ghost use Rattle.tl_problem.specs.Works.{IsLeft};
 ghost use Rattle.tl_problem.specs.Zones.{range_at};
-ghost use Rattle.tl_cert.specs.Nogoods.{NamesAreThere, nogood_bounds, zone_bounds};
+ghost use Rattle.tl_cert.specs.Nogoods.{NamesAreThere, nogood_bounds, range_bounds, zone_bounds};
 ghost use Rattle.tl_cert.specs.Traces.{IsTraceOf, IsZoneOf, zone_of};
 ghost use Rattle.tl_cert.specs.declared.log.Bound.{Bound as B};
 ghost use Rattle.tl_check.specs.inner.Firing.{HasLeft};
 ghost use Rattle.tl_check.specs.inner.Matrices.{IsMatrixOf, some_list};
 
 use crate::bounds::is_implied;
-use crate::zones::{lower_bound, span_count, upper_bound, zone_range};
+use crate::zones::{lower_bound, part_bound, upper_bound, zone_range};
 use tl_cert::{Bound, CutAt, Nogood};
 use tl_diff::Matrix;
 use tl_problem::Problem;
@@ -54,6 +54,13 @@ pub fn is_nothing(left: Left) -> bool
     matches!(left, Left::Nothing)
 }
 
+/// Whether two bounds or more are left.
+fn is_more(left: Left) -> bool
+    ensures { IsTrue result ↔ (left ≡ Left.More) }
+{
+    matches!(left, Left::More)
+}
+
 /// Whether the bounds are one.
 fn is_same(one: Bound, other: Bound) -> bool
     ensures { IsTrue result ↔ (one ≡ other) }
@@ -87,7 +94,30 @@ fn left_of_bounds(problem: &Problem, matrix: &Matrix, bounds: &[Bound]) -> Left
     left
 }
 
-/// What is left of the bounds of a zone.
+/// What is left with the bounds of a span in a zone.
+fn left_with_span(
+    problem: &Problem,
+    trace: &[CutAt],
+    z: u32,
+    s: u32,
+    matrix: &Matrix,
+    left: Left,
+) -> Left
+    requires trace { IsTraceOf problem.now trace.now }
+    requires zone { IsZoneOf trace.now z }
+    requires span { s < length (spans_of problem.now) }
+    requires keeps { IsMatrixOf problem.now matrix.now.bounds }
+    ensures { (nogood : List B) → HasLeft problem.now (IsLeft problem.now matrix.now.bounds) nogood left →
+        HasLeft problem.now (IsLeft problem.now matrix.now.bounds)
+        (nogood ++ range_bounds problem.now s (range_at (zone_of problem.now trace.now z) s)) result }
+{
+    let range = zone_range(problem, trace, z, s);
+    let with_upper = left_with_some(problem, matrix, left, upper_bound(problem, s, range));
+    left_with_some(problem, matrix, with_upper, lower_bound(problem, s, range))
+}
+
+/// What is left of the bounds of a zone. Each of them is that of a cut by which the zone came to be, so
+/// the classes of a span are asked for only at a cut whose bound is not implied.
 fn left_of_zone(problem: &Problem, trace: &[CutAt], z: u32, matrix: &Matrix) -> Left
     requires trace { IsTraceOf problem.now trace.now }
     requires zone { IsZoneOf trace.now z }
@@ -96,11 +126,16 @@ fn left_of_zone(problem: &Problem, trace: &[CutAt], z: u32, matrix: &Matrix) -> 
         (zone_bounds problem.now (zone_of problem.now trace.now z)) result }
 {
     let mut left = Left::Nothing;
-    let count = span_count(problem);
-    for s in 0..count {
-        let range = zone_range(problem, trace, z, s);
-        left = left_with_some(problem, matrix, left, upper_bound(problem, s, range));
-        left = left_with_some(problem, matrix, left, lower_bound(problem, s, range));
+    let mut zone = z;
+    'cuts: while zone > 0 {
+        let cut = trace[(zone as usize - 1) / 2];
+        if !is_implied(problem, matrix, part_bound(problem, cut, zone)) {
+            left = left_with_span(problem, trace, z, cut.span, matrix, left);
+            if is_more(left) {
+                return left;
+            }
+        }
+        zone = cut.zone;
     }
     left
 }

@@ -1,19 +1,15 @@
 //! Nogoods: whether what they name is there, and the widths that meet all their bounds.
 
-ghost use Rattle.std.specs.Prelude.{◌≡◌, ℕ, ◌<◌, List, [], ◌∷◌, ◌++◌, length, IsTrue, ◌↔◌};
+ghost use Rattle.std.specs.Prelude.{◌≡◌, ◌<◌, [], length, IsTrue, ◌↔◌};
 ghost use Rattle.std.specs.List.{All};
-ghost use Rattle.std.specs.Option.{ForSome};
 ghost use Rattle.tl_problem.specs.Sound.{IsSound};
 ghost use Rattle.tl_problem.specs.Spans.{spans_of};
-ghost use Rattle.tl_problem.specs.Works.{IsLeft};
-ghost use Rattle.tl_problem.specs.Zones.{range_at};
-ghost use Rattle.tl_cert.specs.declared.log.Bound.{Bound as B};
 ghost use Rattle.tl_cert.specs.Nogoods.{NamesAreThere, nogood_bounds, zone_bounds};
 ghost use Rattle.tl_cert.specs.Traces.{IsTraceOf, IsZoneOf, zone_of};
-ghost use Rattle.tl_check.specs.inner.Matrices.{Describes, IsMatrixOf, KeepsMarks, some_list};
+ghost use Rattle.tl_check.specs.inner.Matrices.{Describes, KeepsMarks};
 
 use crate::bounds::keep_met;
-use crate::zones::{last_class, lower_bound, span_count, upper_bound, zone_range};
+use crate::zones::{last_class, part_bound, span_count, zone_range};
 use tl_cert::{Bound, CutAt, Nogood};
 use tl_diff::Matrix;
 use tl_problem::Problem;
@@ -42,20 +38,6 @@ fn have_spans(spans: usize, bounds: &[Bound]) -> bool
     bounds.iter().all(|bound| (bound.span as usize) < spans)
 }
 
-/// Leaves the widths that meet the bound, where there is one.
-fn keep_some(problem: &Problem, bound: Option<Bound>, matrix: &mut Matrix)
-    requires span { ForSome bound (λ bound. bound.span < length (spans_of problem.now)) }
-    requires keeps { IsMatrixOf problem.now matrix.old.bounds }
-    ensures marks { KeepsMarks matrix.old matrix.new }
-    ensures keeps { IsMatrixOf problem.now matrix.new.bounds }
-    ensures describes { (given : List B) → Describes problem.now given [] matrix.old.bounds →
-        Describes problem.now (given ++ some_list bound) [] matrix.new.bounds }
-{
-    if let Some(bound) = bound {
-        keep_met(problem, bound, matrix);
-    }
-}
-
 /// Leaves the widths that meet the bounds.
 fn keep_bounds(problem: &Problem, bounds: &[Bound], matrix: &mut Matrix)
     requires spans { All (λ bound. bound.span < length (spans_of problem.now)) bounds.now }
@@ -68,7 +50,8 @@ fn keep_bounds(problem: &Problem, bounds: &[Bound], matrix: &mut Matrix)
     }
 }
 
-/// Leaves the widths of a zone of the trace.
+/// Leaves the widths of a zone of the trace: those that meet the bound of each cut by which it came to
+/// be, from the last of them, whose bounds are the tightest.
 pub fn keep_zone(problem: &Problem, trace: &[CutAt], z: u32, matrix: &mut Matrix)
     requires trace { IsTraceOf problem.now trace.now }
     requires zone { IsZoneOf trace.now z }
@@ -76,11 +59,11 @@ pub fn keep_zone(problem: &Problem, trace: &[CutAt], z: u32, matrix: &mut Matrix
     ensures marks { KeepsMarks matrix.old matrix.new }
     ensures describes { Describes problem.now (zone_bounds problem.now (zone_of problem.now trace.now z)) [] matrix.new.bounds }
 {
-    let count = span_count(problem);
-    for s in 0..count {
-        let range = zone_range(problem, trace, z, s);
-        keep_some(problem, upper_bound(problem, s, range), matrix);
-        keep_some(problem, lower_bound(problem, s, range), matrix);
+    let mut zone = z;
+    'cuts: while zone > 0 {
+        let cut = trace[(zone as usize - 1) / 2];
+        keep_met(problem, part_bound(problem, cut, zone), matrix);
+        zone = cut.zone;
     }
 }
 

@@ -7,6 +7,7 @@ ghost use Rattle.tl_problem.specs.Zones.{classes_at, first_in_class, last_in_cla
 ghost use Rattle.tl_cert.specs.Nogoods.{at_least, at_most};
 ghost use Rattle.tl_cert.specs.Traces.{IsTraceOf, IsZoneOf, zone_of};
 ghost use Rattle.tl_check.specs.inner.Matrices.{some_list};
+ghost use Rattle.tl_check.specs.inner.Zones.{IsPartBound};
 
 use tl_cert::{Bound, CutAt, Side};
 use tl_problem::{Problem, Range};
@@ -93,4 +94,28 @@ pub fn lower_bound(problem: &Problem, s: u32, range: Range) -> Option<Bound>
         side: Side::Least,
         width: problem.classes(s)[range.first as usize],
     })
+}
+
+/// The bound that the cut made of the part of its zone with this number: an odd part has the classes up
+/// to the cut's, an even one those after it.
+pub fn part_bound(problem: &Problem, cut: CutAt, part: u32) -> Bound
+    requires span { cut.span < length (spans_of problem.now) }
+    requires class { cut.class + 1 < length (classes_at problem.now cut.span) }
+    ensures bound { IsPartBound problem.now cut part result }
+    ensures span { result.span ≡ cut.span }
+{
+    let next = problem.classes(cut.span)[cut.class as usize + 1];
+    if part % 2 == 1 {
+        Bound {
+            span: cut.span,
+            side: Side::Most,
+            width: next.saturating_sub(1),
+        }
+    } else {
+        Bound {
+            span: cut.span,
+            side: Side::Least,
+            width: next,
+        }
+    }
 }

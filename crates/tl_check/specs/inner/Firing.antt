@@ -1,5 +1,5 @@
 -- No public clause cites this file. What is left of a nogood once the implied bounds are taken away, and what firing does.
-use Rattle.std.specs.Prelude.{◌≢◌, ℕ, List, []}
+use Rattle.std.specs.Prelude.{◌≢◌, ◌⊎◌, ℕ, List, []}
 use Rattle.std.specs.List.{All, Contains}
 use Rattle.tl_diff.specs.Bounds.{Bounds}
 use Rattle.tl_problem.specs.Problem.{ProblemModel}
@@ -28,6 +28,13 @@ abbrev pub HasLeft : ProblemModel → (List ℕ → Type 0) → List Bound → L
 HasLeft problem Among nogood Nothing = All (Implied problem Among) nogood
 HasLeft problem Among nogood (One bound) = OneLeft problem Among nogood bound
 HasLeft problem Among nogood More = TwoLeft problem Among nogood
+
+-- what is left of a nogood as far as it was looked at: each of its bounds is implied, was looked at, or is one of the rest
+pub record HasLeftBut (problem : ProblemModel) (Among : List ℕ → Type 0) (nogood rest : List Bound) (left : Left) : Type 0 where
+  pub seen : List Bound
+  pub has_left : HasLeft problem Among seen left
+  pub among : (bound : Bound) → Contains seen bound → Contains nogood bound
+  pub others : (bound : Bound) → Contains nogood bound → Implied problem Among bound ⊎ (Contains seen bound ⊎ Contains rest bound)
 
 -- the nogoods were fired, and the constraints leave what is left then
 pub record LeadsTo (problem : ProblemModel) (given : List Bound) (nogoods : List (List Bound)) (bounds : Bounds) : Type 0 where

@@ -2,9 +2,11 @@
 use Rattle.std.specs.Prelude.{◌≡◌, ℕ, List, [], ◌∷◌, Option, Some, None}
 use Rattle.tl_diff.specs.Bounds.{Bounds}
 use Rattle.tl_diff.specs.Marks.{MarkedBounds}
+use Rattle.tl_problem.specs.declared.zone.Range.{Range}
 use Rattle.tl_problem.specs.Problem.{ProblemModel}
 use Rattle.tl_problem.specs.Sound.{IsSound}
 use Rattle.tl_problem.specs.Works as works
+use Rattle.tl_problem.specs.Zones.{InZone}
 use Rattle.tl_cert.specs.declared.log.Bound.{Bound}
 use Rattle.tl_cert.specs.Implied as implied
 
@@ -27,6 +29,12 @@ pub record Describes (problem : ProblemModel) (given joined : List Bound) (bound
   pub keeps : IsMatrixOf problem bounds
   pub to : (widths : List ℕ) → works.IsLeft problem bounds widths → implied.IsLeft problem given joined widths
   pub from : (widths : List ℕ) → implied.IsLeft problem given joined widths → works.IsLeft problem bounds widths
+
+-- of the widths in a zone the constraints leave those in its part
+pub record LeavesPart (problem : ProblemModel) (zone part : List Range) (bounds : Bounds) : Type 0 where
+  pub keeps : IsMatrixOf problem bounds
+  pub to : (widths : List ℕ) → works.IsLeft problem bounds widths → InZone problem zone widths → InZone problem part widths
+  pub from : (widths : List ℕ) → InZone problem part widths → works.IsLeft problem bounds widths × InZone problem zone widths
 
 -- the marks of a matrix stay as they are
 pub record KeepsMarks (old new : MarkedBounds) : Type 0 where

@@ -1,9 +1,15 @@
 use Rattle.tl_problem.specs.Works.{IsLeft}
-use Rattle.tl_cert.specs.Traces.{zone_of}
-use Rattle.tl_check.specs.inner.Firing.{HasLeft}
-use Rattle.tl_check.specs.inner.Zones.{bounds_upto}
+use Rattle.tl_cert.specs.Nogoods.{zone_bounds}
+use Rattle.tl_cert.specs.Traces.{IsZoneOf, zone_of}
+use Rattle.tl_check.specs.inner.Firing.{HasLeftBut}
 use Rattle.tl_check.proofs.left.left_of_zone.Given as goal
 
-abbrev pub invariant-loop-s : goal.invariant-loop-s
-invariant-loop-s l =
-    HasLeft l.problem (IsLeft l.problem l.matrix.bounds) (bounds_upto l.problem (zone_of l.problem l.trace l.z) l.s) l.left
+abbrev pub invariant-cuts : goal.invariant-cuts
+invariant-cuts l = record {
+  there : IsZoneOf l.trace l.zone;
+  found : HasLeftBut l.problem (IsLeft l.problem l.matrix.bounds) (zone_bounds l.problem (zone_of l.problem l.trace l.z))
+      (zone_bounds l.problem (zone_of l.problem l.trace l.zone)) l.left;
+}
+
+abbrev pub decreases-cuts : goal.decreases-cuts
+decreases-cuts l = l.zone

@@ -5,7 +5,7 @@ use Rattle.tl_problem.specs.Zones.{range_at}
 use Rattle.tl_problem.proofs.SpanningLemmas.{classes-few}
 use Rattle.tl_cert.specs.Traces.{zone_of}
 use Rattle.tl_check.specs.inner.Zones.{IsWithinClasses}
-use Rattle.tl_check.proofs.ZoneWalks.{walk-start, walk-end, walk-low, walk-high, walk-other, parent-there, cut-class}
+use Rattle.tl_check.proofs.ZoneWalks.{no_cut, walk-start, walk-end, walk-low, walk-high, walk-other, parent-there, cut-class}
 use Rattle.tl_check.proofs.zones.zone_range.Goals as goal
 
 pub zones-init : goal.zones-init
@@ -20,39 +20,39 @@ zones-init c =
 pub zones-preserved-then-zone-eq1 : goal.zones-preserved-then-zone-eq1
 zones-preserved-then-zone-eq1 c =
     record {
-      there = parent-there c.args.problem.now c.requires.sound c.args.trace.now c.requires.trace c.args.s c.requires.span c.args.z c.zones.zone c.zones.first
-          c.zones.last c.zones-test.true c.zones.invariant.there (record { zone = 0; span = 0; class = 0 }) c.zones.invariant.classes;
+      there = parent-there c.args.problem.now c.args.trace.now c.requires.trace c.zones.zone c.zones-test.true c.zones.invariant.there
+          no_cut;
       top = omega (arith, c.min-last.ensures, c.zones.invariant.top);
       classes = rw c.min-last.ensures
           (walk-low c.args.problem.now c.requires.sound c.args.trace.now c.requires.trace c.args.s c.requires.span c.args.z c.zones.zone c.zones.first
-          c.zones.last c.zones-test.true c.zones.invariant.there (record { zone = 0; span = 0; class = 0 }) c.zones.invariant.classes c.if-zone-eq1.true
+          c.zones.last c.zones-test.true c.zones.invariant.there no_cut c.zones.invariant.classes c.if-zone-eq1.true
           c.if-cut-s.true);
     }
 
 pub zones-preserved-else-zone-eq1 : goal.zones-preserved-else-zone-eq1
 zones-preserved-else-zone-eq1 c =
     let class = cut-class c.args.problem.now c.requires.sound c.args.trace.now c.requires.trace c.args.s c.requires.span c.args.z c.zones.zone c.zones.first
-    c.zones.last c.zones-test.true c.zones.invariant.there (record { zone = 0; span = 0; class = 0 }) c.zones.invariant.classes c.if-cut-s.true in
+    c.zones.last c.zones-test.true c.zones.invariant.there no_cut c.zones.invariant.classes c.if-cut-s.true in
     let few = classes-few c.args.problem.now c.requires.sound c.args.s c.requires.span in
     let next = c.next_class.ensures (omega (arith, class, few.1)) in
     record {
-      there = parent-there c.args.problem.now c.requires.sound c.args.trace.now c.requires.trace c.args.s c.requires.span c.args.z c.zones.zone c.zones.first
-          c.zones.last c.zones-test.true c.zones.invariant.there (record { zone = 0; span = 0; class = 0 }) c.zones.invariant.classes;
+      there = parent-there c.args.problem.now c.args.trace.now c.requires.trace c.zones.zone c.zones-test.true c.zones.invariant.there
+          no_cut;
       top = c.zones.invariant.top;
       classes = rw (c.max-first.ensures, next)
           (walk-high c.args.problem.now c.requires.sound c.args.trace.now c.requires.trace c.args.s c.requires.span c.args.z c.zones.zone c.zones.first
-          c.zones.last c.zones-test.true c.zones.invariant.there (record { zone = 0; span = 0; class = 0 }) c.zones.invariant.classes c.if-zone-eq1.false
+          c.zones.last c.zones-test.true c.zones.invariant.there no_cut c.zones.invariant.classes c.if-zone-eq1.false
           c.if-cut-s.true);
     }
 
 pub zones-preserved : goal.zones-preserved
 zones-preserved c =
     record {
-      there = parent-there c.args.problem.now c.requires.sound c.args.trace.now c.requires.trace c.args.s c.requires.span c.args.z c.zones.zone c.zones.first
-          c.zones.last c.zones-test.true c.zones.invariant.there (record { zone = 0; span = 0; class = 0 }) c.zones.invariant.classes;
+      there = parent-there c.args.problem.now c.args.trace.now c.requires.trace c.zones.zone c.zones-test.true c.zones.invariant.there
+          no_cut;
       top = c.zones.invariant.top;
       classes = walk-other c.args.problem.now c.requires.sound c.args.trace.now c.requires.trace c.args.s c.requires.span c.args.z c.zones.zone c.zones.first
-          c.zones.last c.zones-test.true c.zones.invariant.there (record { zone = 0; span = 0; class = 0 }) c.zones.invariant.classes c.if-cut-s.false;
+          c.zones.last c.zones-test.true c.zones.invariant.there no_cut c.zones.invariant.classes c.if-cut-s.false;
     }
 
 pub returns : goal.returns

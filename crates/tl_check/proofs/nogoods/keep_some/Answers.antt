@@ -1,8 +1,0 @@
--- A bound more is given.
-use Rattle.std.proofs.Common.{[]}
-use Rattle.tl_check.proofs.Leaving.{Describes-met}
-use Rattle.tl_check.proofs.nogoods.keep_some.Goals as goal
-
-pub returns-in-Some-clause-describes : goal.returns-in-Some-clause-describes
-returns-in-Some-clause-describes c = rw c.in-Some.is (λ given h.
-    Describes-met c.args.problem.now given [] c.args.matrix.now c.keep_met.new.matrix c.in-Some.bound h c.keep_met.ensures)
