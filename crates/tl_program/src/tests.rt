@@ -135,6 +135,27 @@ fn check(rt: &(impl Abort + AllocGlobal), case: &Case<'_>) -> Result<(), Failure
     check_with(rt, &[], case)
 }
 
+/// The command line over the file stores nothing, with this status and this message.
+fn check_refused(
+    rt: &(impl Abort + AllocGlobal),
+    line: &str,
+    file: &[u8],
+    status: u8,
+    said: &str,
+) -> Result<(), Failure> {
+    let alloc = rt.alloc();
+    let mut desk = desk(alloc, file, &[])?;
+    assert_eq!(rt;
+        status_of(alloc, line, &mut desk)?,
+        status,
+        "{line}: {said}"
+    );
+    assert_eq!(rt; desk.said(), said.as_bytes(), "{line}: {said}");
+    assert_eq!(rt; desk.files().len(), 1, "{line}: {said}");
+    assert_eq!(rt; held(&desk, "t.html"), Some(file), "{line}: {said}");
+    Ok(())
+}
+
 /// A text so many times, one after the other.
 fn repeated(alloc: Global, text: &str, times: usize) -> Result<String, AllocError> {
     let mut whole = String::new(alloc);

@@ -5,8 +5,8 @@ use std::process::Abort;
 use std::test::Fail as Failure;
 use tl_base::{Fail, List};
 
-/// Runs a command line over a file and a certificate, and compares status and message. The files are
-/// as before.
+/// Runs a command line over a file and a certificate, and compares status and message. The files
+/// are as before.
 fn check(
     rt: &(impl Abort + AllocGlobal),
     line: &str,
@@ -53,108 +53,124 @@ fn check_all(
 const CLOSED: &str =
     "tablelayout 1 12 plain 6\nlowest 2\nsection 0 12 2 2 0 1\nwidths 3 5\nz0 chain\nend\n";
 
+/// The command line that `CLOSED` is valid for, over `TWO`.
+const LINE: &str = "check 12 t.html c.txt --budget 6";
+
+/// Checks that each certificate is rejected with its message, for `LINE` over `TWO`.
+fn check_rejected(rt: &(impl Abort + AllocGlobal), cases: &[(&str, &str)]) -> Result<(), Failure> {
+    for &(certificate, said) in cases {
+        check(rt, LINE, TWO, Some(certificate), 10, said)?;
+    }
+    Ok(())
+}
+
 #[test]
-fn a_valid_certificate_is_accepted_and_a_changed_one_rejected(
-    rt: HostRuntime,
-) -> Result<(), Failure> {
-    let cases: &[Case] = &[
-        (CLOSED, 0, "lowest height 2 width 10\n"),
-        (
-            "tablelayout 1 12 plain 6\nlowest 02\nsection 0 12 2 2 0 1\nwidths 3 5\nz0 chain\nend\n",
-            10,
-            "rejected: syntax at 33\n",
-        ),
-        (
-            "tablelayout 1 12 plain 6\nlowest 2\nsection 0 12 2 2 0 1\nwidths 3 5\nz0 chain\nend\n ",
-            10,
-            "rejected: syntax at 79\n",
-        ),
-        (
-            "tablelayout 1 12 plain 7\nlowest 2\nsection 0 12 2 2 0 1\nwidths 3 5\nz0 chain\nend\n",
-            10,
-            "rejected: claim\n",
-        ),
-        (
-            "tablelayout 1 12 plain 6\nlowest 1\nsection 0 12 2 2 0 1\nwidths 3 5\nz0 chain\nend\n",
-            10,
-            "rejected: claim\n",
-        ),
-        (
-            "tablelayout 1 12 plain 6\nlowest 2\nsection 1 12 2 2 0 1\nwidths 3 5\nz0 chain\nend\n",
-            10,
-            "rejected: missing section of table 0\n",
-        ),
-        (
-            "tablelayout 1 12 plain 6\nlowest 2\nsection 0 12 2 2 0 1\nwidths 3 5\nz0 chain\nsection 0 12 2 2 0 1\nwidths 3 5\nz0 chain\nend\n",
-            10,
-            "rejected: extra section 1\n",
-        ),
-        (
-            "tablelayout 1 12 plain 6\nlowest 2\nsection 0 12 2 2 0 1\nwidths 3 4\nz0 chain\nend\n",
-            10,
-            "rejected: layout of section 0\n",
-        ),
-        (
-            "tablelayout 1 12 plain 6\nlowest 2\nsection 0 12 2 2 0 1\nwidths 3 6\nz0 chain\nend\n",
-            10,
-            "rejected: layout of section 0\n",
-        ),
-        (
-            "tablelayout 1 12 plain 6\nlowest 2\nsection 0 12 2 2 1 1\nwidths 3 5\ncut 0 0 1\nz0 chain\nend\n",
-            10,
-            "rejected: trace of section 0\n",
-        ),
-        (
-            "tablelayout 1 12 plain 6\nlowest 2\nsection 0 12 2 1 0 1\nwidths 3 5\nz0 chain\nend\n",
-            10,
-            "rejected: trace of section 0\n",
-        ),
-        (
-            "tablelayout 1 12 plain 6\nlowest 2\nsection 0 12 2 2 0 1\nwidths 3 5\nz0 cycle\nend\n",
-            10,
-            "rejected: line 0 of section 0\n",
-        ),
-        (
-            "tablelayout 1 12 plain 6\nlowest 2\nsection 0 12 2 2 0 1\nwidths 3 5\nz0 @0 fired\nend\n",
-            10,
-            "rejected: line 0 of section 0\n",
-        ),
-        (
-            "tablelayout 1 12 plain 6\nbounded 3 2\nsection 0 12 3 2 0 1\nwidths 3 2\nz0 chain\nend\n",
-            10,
-            "rejected: trace of section 0\n",
-        ),
-        (
-            "tablelayout 2 12 plain 6\nlowest 2\nsection 0 12 2 2 0 1\nwidths 3 5\nz0 chain\nend\n",
-            10,
-            "rejected: syntax at 75\n",
-        ),
-        (
-            "tablelayout 1 501 plain 6\nlowest 2\nsection 0 12 2 2 0 1\nwidths 3 5\nz0 chain\nend\n",
-            10,
-            "rejected: range at 14\n",
-        ),
-    ];
-    check_all(&rt, "check 12 t.html c.txt --budget 6", TWO, cases)
+fn a_valid_certificate_is_accepted(rt: HostRuntime) -> Result<(), Failure> {
+    let said = "lowest height 2 width 10\n";
+    check(&rt, LINE, TWO, Some(CLOSED), 0, said)
+}
+
+/// Texts that are no certificate, each with the place.
+const TEXTS: &[(&str, &str)] = &[
+    (
+        "tablelayout 1 12 plain 6\nlowest 02\nsection 0 12 2 2 0 1\nwidths 3 5\nz0 chain\nend\n",
+        "rejected: syntax at 33\n",
+    ),
+    (
+        "tablelayout 1 12 plain 6\nlowest 2\nsection 0 12 2 2 0 1\nwidths 3 5\nz0 chain\nend\n ",
+        "rejected: syntax at 79\n",
+    ),
+    (
+        "tablelayout 2 12 plain 6\nlowest 2\nsection 0 12 2 2 0 1\nwidths 3 5\nz0 chain\nend\n",
+        "rejected: syntax at 75\n",
+    ),
+    (
+        "tablelayout 1 501 plain 6\nlowest 2\nsection 0 12 2 2 0 1\nwidths 3 5\nz0 chain\nend\n",
+        "rejected: range at 14\n",
+    ),
+];
+
+#[test]
+fn a_text_that_is_no_certificate_is_rejected_at_its_place(rt: HostRuntime) -> Result<(), Failure> {
+    check_rejected(&rt, TEXTS)
+}
+
+/// `CLOSED` with another budget, height or section, and with a section too many.
+const CLAIMS: &[(&str, &str)] = &[
+    (
+        "tablelayout 1 12 plain 7\nlowest 2\nsection 0 12 2 2 0 1\nwidths 3 5\nz0 chain\nend\n",
+        "rejected: claim\n",
+    ),
+    (
+        "tablelayout 1 12 plain 6\nlowest 1\nsection 0 12 2 2 0 1\nwidths 3 5\nz0 chain\nend\n",
+        "rejected: claim\n",
+    ),
+    (
+        "tablelayout 1 12 plain 6\nlowest 2\nsection 1 12 2 2 0 1\nwidths 3 5\nz0 chain\nend\n",
+        "rejected: missing section of table 0\n",
+    ),
+    (
+        "tablelayout 1 12 plain 6\nlowest 2\nsection 0 12 2 2 0 1\nwidths 3 5\nz0 chain\n\
+         section 0 12 2 2 0 1\nwidths 3 5\nz0 chain\nend\n",
+        "rejected: extra section 1\n",
+    ),
+];
+
+#[test]
+fn another_claim_and_other_sections_are_rejected(rt: HostRuntime) -> Result<(), Failure> {
+    check_rejected(&rt, CLAIMS)
+}
+
+/// `CLOSED` with other widths, with other cuts or bounds, and with another line.
+const SEARCHES: &[(&str, &str)] = &[
+    (
+        "tablelayout 1 12 plain 6\nlowest 2\nsection 0 12 2 2 0 1\nwidths 3 4\nz0 chain\nend\n",
+        "rejected: layout of section 0\n",
+    ),
+    (
+        "tablelayout 1 12 plain 6\nlowest 2\nsection 0 12 2 2 0 1\nwidths 3 6\nz0 chain\nend\n",
+        "rejected: layout of section 0\n",
+    ),
+    (
+        "tablelayout 1 12 plain 6\nlowest 2\nsection 0 12 2 2 1 1\nwidths 3 5\ncut 0 0 1\n\
+         z0 chain\nend\n",
+        "rejected: trace of section 0\n",
+    ),
+    (
+        "tablelayout 1 12 plain 6\nlowest 2\nsection 0 12 2 1 0 1\nwidths 3 5\nz0 chain\nend\n",
+        "rejected: trace of section 0\n",
+    ),
+    (
+        "tablelayout 1 12 plain 6\nlowest 2\nsection 0 12 2 2 0 1\nwidths 3 5\nz0 cycle\nend\n",
+        "rejected: line 0 of section 0\n",
+    ),
+    (
+        "tablelayout 1 12 plain 6\nlowest 2\nsection 0 12 2 2 0 1\nwidths 3 5\nz0 @0 fired\nend\n",
+        "rejected: line 0 of section 0\n",
+    ),
+    (
+        "tablelayout 1 12 plain 6\nbounded 3 2\nsection 0 12 3 2 0 1\nwidths 3 2\nz0 chain\nend\n",
+        "rejected: trace of section 0\n",
+    ),
+];
+
+#[test]
+fn another_layout_trace_or_line_is_rejected(rt: HostRuntime) -> Result<(), Failure> {
+    check_rejected(&rt, SEARCHES)
 }
 
 #[test]
 fn each_prefix_of_a_certificate_is_rejected_where_it_ends(rt: HostRuntime) -> Result<(), Failure> {
     let alloc = rt.alloc();
-    for length in 1..CLOSED.len() {
-        let said = format!(in alloc; "rejected: syntax at {length}\n")?;
-        let Some(prefix) = CLOSED.get(..length) else {
-            return Ok(());
-        };
-        check(
-            &rt,
-            "check 12 t.html c.txt --budget 6",
-            TWO,
-            Some(prefix),
-            10,
-            said.as_str(),
-        )?;
+    let mut tried: usize = 0;
+    for length in 0..CLOSED.len() {
+        if let Some(prefix) = CLOSED.get(..length) {
+            let said = format!(in alloc; "rejected: syntax at {length}\n")?;
+            check(&rt, LINE, TWO, Some(prefix), 10, said.as_str())?;
+            tried = tried.saturating_add(1);
+        }
     }
+    assert_eq!(rt; tried, CLOSED.len());
     Ok(())
 }
 
@@ -218,24 +234,29 @@ fn every_section_of_a_nested_table_is_asked_for(rt: HostRuntime) -> Result<(), F
     let cases: &[Case] = &[
         (
             "tablelayout 1 12 plain 5000\nlowest 2\nsection 1 12 2 2 0 1\nwidths 3 5\nz0 chain\n\
-             section 1 9 3 3 0 1\nwidths 3 2\nz0 chain\nsection 0 12 2 2 0 1\nwidths 10\nz0 chain\nend\n",
+             section 1 9 3 3 0 1\nwidths 3 2\nz0 chain\n\
+             section 0 12 2 2 0 1\nwidths 10\nz0 chain\nend\n",
             0,
             "lowest height 2 width 10\n",
         ),
         (
-            "tablelayout 1 12 plain 5000\nlowest 2\nsection 1 12 2 2 0 1\nwidths 3 5\nz0 chain\nsection 0 12 2 2 0 1\nwidths 10\nz0 chain\nend\n",
+            "tablelayout 1 12 plain 5000\nlowest 2\n\
+             section 1 12 2 2 0 1\nwidths 3 5\nz0 chain\n\
+             section 0 12 2 2 0 1\nwidths 10\nz0 chain\nend\n",
             10,
             "rejected: missing section of table 1\n",
         ),
         (
             "tablelayout 1 12 plain 5000\nlowest 2\nsection 1 9 3 3 0 1\nwidths 3 2\nz0 chain\n\
-             section 1 12 2 2 0 1\nwidths 3 5\nz0 chain\nsection 0 12 2 2 0 1\nwidths 10\nz0 chain\nend\n",
+             section 1 12 2 2 0 1\nwidths 3 5\nz0 chain\n\
+             section 0 12 2 2 0 1\nwidths 10\nz0 chain\nend\n",
             10,
             "rejected: missing section of table 1\n",
         ),
         (
             "tablelayout 1 12 plain 5000\nlowest 2\nsection 1 12 2 2 0 1\nwidths 3 5\nz0 chain\n\
-             section 1 9 3 3 0 1\nwidths 3 2\nz0 chain\nsection 0 12 2 2 0 1\nwidths 11\nz0 chain\nend\n",
+             section 1 9 3 3 0 1\nwidths 3 2\nz0 chain\n\
+             section 0 12 2 2 0 1\nwidths 11\nz0 chain\nend\n",
             10,
             "rejected: layout of section 2\n",
         ),
@@ -247,14 +268,16 @@ fn every_section_of_a_nested_table_is_asked_for(rt: HostRuntime) -> Result<(), F
 fn learned_bounds_and_areas_are_judged(rt: HostRuntime) -> Result<(), Failure> {
     let cases: &[Case] = &[
         (
-            "tablelayout 1 25 plain 3\nlowest 4\nsection 0 25 4 4 3 3\nwidths 1 1 4 4\ncut 0 0 0\ncut 1 1 0\n\
-             cut 3 2 0\n2-8 chain\n2+9 chain\nz0 @0 @1 fired\nend\n",
+            "tablelayout 1 25 plain 3\nlowest 4\nsection 0 25 4 4 3 3\nwidths 1 1 4 4\n\
+             cut 0 0 0\ncut 1 1 0\ncut 3 2 0\n\
+             2-8 chain\n2+9 chain\nz0 @0 @1 fired\nend\n",
             0,
             "lowest height 4 width 16\n",
         ),
         (
-            "tablelayout 1 25 plain 3\nlowest 4\nsection 0 25 4 4 3 3\nwidths 1 1 4 4\ncut 0 0 0\ncut 1 1 0\n\
-             cut 3 2 0\n2-8 chain\n2+9 chain\nz0 @0 @2 fired\nend\n",
+            "tablelayout 1 25 plain 3\nlowest 4\nsection 0 25 4 4 3 3\nwidths 1 1 4 4\n\
+             cut 0 0 0\ncut 1 1 0\ncut 3 2 0\n\
+             2-8 chain\n2+9 chain\nz0 @0 @2 fired\nend\n",
             10,
             "rejected: line 2 of section 0\n",
         ),
@@ -292,13 +315,9 @@ fn a_certificate_for_something_else_is_rejected(rt: HostRuntime) -> Result<(), F
             TWO,
             "rejected: layout of section 0\n",
         ),
+        (LINE, ONE, "rejected: layout of section 0\n"),
         (
-            "check 12 t.html c.txt --budget 6",
-            ONE,
-            "rejected: layout of section 0\n",
-        ),
-        (
-            "check 12 t.html c.txt --budget 6",
+            LINE,
             "<table><tr><td>abcdef<td>ghijk</table>",
             "rejected: claim\n",
         ),
@@ -371,33 +390,22 @@ fn words_that_ask_for_no_check_are_invalid(rt: HostRuntime) -> Result<(), Failur
 #[test]
 fn a_call_of_the_desk_that_fails_ends_a_check(rt: HostRuntime) -> Result<(), Failure> {
     let alloc = rt.alloc();
-    let said = "lowest height 2 width 10\n";
+    // There are three calls, so that a failure of a fourth changes nothing.
     let cases = [
         (0, 0, 7, "read fault\n"),
         (1, 0, 7, "read fault\n"),
         (2, 6, 8, "lowest"),
+        (3, 0, 0, "lowest height 2 width 10\n"),
     ];
-    for (call, bytes, status, printed) in cases {
+    for (call, bytes, status, said) in cases {
         let mut desk = desk_with(alloc, TWO.as_bytes(), Some(CLOSED), &[Fail { call, bytes }])?;
-        let line = "check 12 t.html c.txt --budget 6";
-        assert_eq!(rt; status_of(alloc, line, &mut desk)?, status, "{call}");
-        assert_eq!(rt; desk.said(), printed.as_bytes(), "{call}");
+        assert_eq!(rt; status_of(alloc, LINE, &mut desk)?, status, "{call}");
+        assert_eq!(rt; desk.said(), said.as_bytes(), "{call}");
     }
-    let mut desk = desk_with(
-        alloc,
-        TWO.as_bytes(),
-        Some(CLOSED),
-        &[Fail { call: 3, bytes: 0 }],
-    )?;
-    assert_eq!(rt;
-        status_of(alloc, "check 12 t.html c.txt --budget 6", &mut desk)?,
-        0
-    );
-    assert_eq!(rt; desk.said(), said.as_bytes());
     Ok(())
 }
 
-/// Lays a file out, and checks the certificate with the same width and options.
+/// Lays a file out, and checks the certificate with the same width and options. No file is refused.
 fn laid_and_checked(
     rt: &(impl Abort + AllocGlobal),
     width: &str,
@@ -409,6 +417,7 @@ fn laid_and_checked(
     let mut desk = desk_with(alloc, file.as_bytes(), None, &[])?;
     let lay = format!(in alloc; "lay {width} t.html p.txt c.txt{options}{search}")?;
     let laid = status_of(alloc, lay.as_str(), &mut desk)?;
+    assert!(rt; matches!(laid, 0 | 3 | 4), "{lay}: {file}: {laid}");
     let said = List::from_slice(alloc, desk.said())?;
     let check = format!(in alloc; "check {width} t.html c.txt{options}")?;
     assert_eq!(rt;
@@ -429,7 +438,8 @@ const FOUR: &str =
 
 /// Spans that are declared in odd ways, and a cell that grows downward.
 const DECLARED: &str = "<table><tbody>\
-    <tr><td colspan=\" 2px\">a b c<td colspan=-1>d<td colspan=0>e<td colspan=+3 colspan=2>f<td rowspan=0>g\
+    <tr><td colspan=\" 2px\">a b c<td colspan=-1>d<td colspan=0>e\
+    <td colspan=+3 colspan=2>f<td rowspan=0>g\
     <tr><td>h<td>i<td>j<td>k<td>l<td>m<td>n</table>";
 
 /// A table as a data tool writes it.
