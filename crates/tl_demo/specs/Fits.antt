@@ -1,4 +1,4 @@
--- The text of each number is a table that fits sixty columns. Six columns of at most eight letters,
+-- The text of each number is a table that fits a page of `DEMO_WIDTH` columns. Six columns of at most eight letters,
 -- with two columns between each two, take 58.
 use Rattle.std.specs.Prelude.{ℕ, ◌^◌, ◌<◌, ◌≤◌, length}
 use Rattle.tl_base.specs.declared.breaking.Breaking.TheVariants.{Words}
@@ -9,6 +9,7 @@ use Rattle.tl_tree.specs.Tags.{kinds}
 use Rattle.tl_form.specs.declared.cell.Table.{Table}
 use Rattle.tl_form.specs.Least.{IsLeastWidth}
 use Rattle.tl_form.specs.Spells.{Spells}
+use Rattle.tl_demo.specs.declared.laws.TheConstants.{DEMO_WIDTH}
 use Rattle.tl_demo.specs.Demo.{demo_text_of}
 
 -- a number's text is a table file within all limits, and spells this table, whose least width in
@@ -19,7 +20,7 @@ pub record IsDemo (number : ℕ) (table : Table) (least : ℕ) : Type 0 where
   pub within : IsWithinLimits (kinds spelt.tokens)
   pub is_least : IsLeastWidth table Plain least
 
--- the table of each number fits a page of sixty columns
+-- the table of each number fits the page of a demonstration
 abbrev pub DemoFits : Type 0
 DemoFits = (number : ℕ) → number < 2 ^ 32 →
-    (table : Table) × (least : ℕ) × IsDemo number table least × (least ≤ 60)
+    (table : Table) × (least : ℕ) × IsDemo number table least × (least ≤ DEMO_WIDTH)

@@ -2,7 +2,10 @@
 
 ghost use Rattle.tl_demo.specs.Fits.{DemoFits};
 
-/// The text of each number spells a table, within all limits, that fits a page of sixty columns.
+/// A page that holds the table of each number, in columns.
+pub const DEMO_WIDTH: u32 = 60;
+
+/// The text of each number spells a table, within all limits, that fits a page of `DEMO_WIDTH` columns.
 pub fn demo_fits()
     ensures { DemoFits }
 {}

@@ -8,5 +8,5 @@ mod laws;
 mod tests;
 mod text;
 
-pub use laws::demo_fits;
+pub use laws::{DEMO_WIDTH, demo_fits};
 pub use text::demo_text;

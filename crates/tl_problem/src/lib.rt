@@ -28,6 +28,7 @@ pub use laws::{
     cuts_are_partitions, one_class_is_exact, tight_once, tight_raises_nothing, whole_has_all,
 };
 pub use placed::Placed;
+pub use placing::total_size;
 pub use problem::Problem;
 pub use work::Work;
 pub use zone::{Range, Zone};

@@ -169,7 +169,8 @@ fn width_at(gap: u32, widths: &[u32], cell: &Cell) -> u32
     cell.high.width_for(height).unwrap()
 }
 
-/// The total of sizes, with the gaps between them and an edge at each side.
+/// The columns, or the lines, that columns or rows of these sizes take: the sizes, the gap between each two,
+/// and an edge at each side; 0 where there are none.
 pub fn total_size(gap: u32, edge: u32, sizes: &[u32]) -> u64
     requires gap { gap ≤ 2 }
     requires edge { edge ≤ 2 }

@@ -12,6 +12,7 @@ use Rattle.tl_cert.specs.declared.certificate.Certificate.{Certificate}
 use Rattle.tl_cert.specs.declared.section.Section.{Section}
 use Rattle.tl_demo.specs.Demo.{demo_text_of}
 use Rattle.tl_demo.specs.Fits.{DemoFits, IsDemo}
+use Rattle.tl_demo.specs.declared.laws.TheConstants.{DEMO_WIDTH}
 use Rattle.tl_form.specs.declared.cell.Table.{Table, out-Table}
 use Rattle.tl_form.specs.ChainRanges.{HasFewCells}
 use Rattle.tl_form.specs.Expected.{IsDocumentOf, due_after, own_number}
@@ -23,7 +24,7 @@ use Rattle.tl_form.proofs.LinkLemmas.{IsLeastWidth-unique}
 use Rattle.tl_form.proofs.SameFits.{same_least}
 use Rattle.tl_form.proofs.ValidLaws.{IsOwnLast, own_last}
 use Rattle.tl_nested.specs.Searched.{AreSectionsOf, AreWritable}
-use Rattle.tl_program.specs.declared.limits.TheConstants.{DEMO_BUDGET, DEMO_WIDTH}
+use Rattle.tl_program.specs.declared.limits.TheConstants.{DEMO_BUDGET}
 use Rattle.tl_program.specs.declared.options.Search.TheVariants.{Best}
 use Rattle.tl_program.specs.declared.reading.Reading.{Reading}
 use Rattle.tl_program.specs.declared.reading.Reading.TheVariants as readings
@@ -49,7 +50,7 @@ pub demo_read : DemoFits → (number : ℕ) (bytes : List ℕ) (reading : Readin
     IsSomeAnd (table_in reading) (IsDemoTable number)
 demo_read law number bytes reading small same is only = by_reading reading (subst (λ (bs : List ℕ). IsReading Words bs reading) same is)
     (only (readings.Table demo.0) (subst (λ (bs : List ℕ). IsReading Words bs (readings.Table demo.0)) (sym same) spelled)) where
-      demo : (table : Table) × (least : ℕ) × IsDemo number table least × (least ≤ 60)
+      demo : (table : Table) × (least : ℕ) × IsDemo number table least × (least ≤ DEMO_WIDTH)
       demo = law number small
 
       spelled : IsReading Words (demo_text_of number) (readings.Table demo.0)

@@ -1,4 +1,4 @@
--- What a demonstration of a number reports: of its table, laid out on a page of 60 columns by the best-first search, and of a
+-- What a demonstration of a number reports: of its table, laid out on its page by the best-first search, and of a
 -- certificate of it that is valid.
 use Rattle.std.specs.Prelude.{◌≡◌, ℕ, ◌-◌, List, [], length, take, None, Some}
 use Rattle.std.specs.List.{last_or}
@@ -7,12 +7,13 @@ use Rattle.tl_base.specs.declared.style.Style.TheVariants.{Plain}
 use Rattle.tl_cert.specs.declared.certificate.Certificate.{Certificate}
 use Rattle.tl_cert.specs.declared.section.Section.{Section}
 use Rattle.tl_demo.specs.Demo.{demo_text_of}
+use Rattle.tl_demo.specs.declared.laws.TheConstants.{DEMO_WIDTH}
 use Rattle.tl_form.specs.declared.cell.Table.{Table, out-Table}
 use Rattle.tl_form.specs.Valid.{IsValid, IsProblemAt}
 use Rattle.tl_nested.specs.Searched.{AreSectionsOf}
 use Rattle.tl_problem.specs.Problem.{ProblemModel}
 use Rattle.tl_problem.specs.Spans.{count_of}
-use Rattle.tl_program.specs.declared.limits.TheConstants.{DEMO_BUDGET, DEMO_WIDTH}
+use Rattle.tl_program.specs.declared.limits.TheConstants.{DEMO_BUDGET}
 use Rattle.tl_program.specs.declared.options.Search.TheVariants.{Best}
 use Rattle.tl_program.specs.declared.reading.Reading.TheVariants as readings
 use Rattle.tl_program.specs.declared.report.Report.TheVariants as reports

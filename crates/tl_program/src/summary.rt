@@ -14,7 +14,7 @@ ghost use Rattle.tl_program.specs.Reading.{IsReading};
 ghost use Rattle.tl_program.specs.inner.Numbers.{demo_task, HasOwnNext, IsCountAfter};
 
 use crate::answer::certificate_of;
-use crate::limits::{DEMO_BUDGET, DEMO_WIDTH};
+use crate::limits::DEMO_BUDGET;
 use crate::makers::searched;
 use crate::options::Search;
 use crate::reading::read;
@@ -23,7 +23,7 @@ use crate::task::Task;
 use std::alloc::{AllocError, Global};
 use tl_base::{Breaking, Style};
 use tl_cert::Section;
-use tl_demo::{demo_fits, demo_text};
+use tl_demo::{DEMO_WIDTH, demo_fits, demo_text};
 use tl_form::{Due, Subject, Table};
 use tl_nested::problem_at;
 use tl_verify::verify;

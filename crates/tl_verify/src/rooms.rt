@@ -2,39 +2,19 @@
 
 ghost use Rattle.std.specs.Prelude.{◌≡◌, ◌+◌, ◌<◌, ◌≤◌, length, sum};
 ghost use Rattle.tl_base.specs.declared.limits.TheConstants.{MAX_COLUMNS, MAX_PAGE_WIDTH};
-ghost use Rattle.tl_problem.specs.Sizes.{room, total};
+ghost use Rattle.tl_problem.specs.Sizes.{room};
 ghost use Rattle.tl_form.specs.Expected.{placed_width};
 
 use tl_base::Style;
 use tl_cert::Section;
-
-/// The sum of a few widths.
-fn sum_of(widths: &[u32]) -> u64
-    requires { length widths.now ≤ MAX_COLUMNS }
-    ensures { result ≡ sum widths.now }
-{
-    widths.iter().map(|&width| u64::from(width)).sum()
-}
-
-/// The total of a few widths, with the gaps between them and an edge at each side.
-fn total_of(gap: u32, edge: u32, widths: &[u32]) -> u64
-    requires gap { gap ≤ 2 }
-    requires edge { edge ≤ 2 }
-    requires few { length widths.now ≤ MAX_COLUMNS }
-    ensures { result ≡ total gap edge widths.now }
-{
-    if widths.is_empty() {
-        return 0;
-    }
-    sum_of(widths) + u64::from(gap) * (widths.len() as u64 - 1) + 2 * u64::from(edge)
-}
+use tl_problem::total_size;
 
 /// The columns that the placement of the section takes.
 pub fn placed_width(style: Style, section: &Section) -> u64
     requires { length section.now.widths ≤ MAX_COLUMNS }
     ensures { result ≡ placed_width style section.now }
 {
-    total_of(style.gap(), style.edge(), section.widths.as_slice())
+    total_size(style.gap(), style.edge(), section.widths.as_slice())
 }
 
 /// The sum of widths that fit a page.

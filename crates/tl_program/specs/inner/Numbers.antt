@@ -3,12 +3,13 @@ use Rattle.std.specs.Prelude.{◌≡◌, ℕ, true, false, List, length, Some}
 use Rattle.tl_base.specs.declared.breaking.Breaking.TheVariants.{Words}
 use Rattle.tl_base.specs.declared.style.Style.TheVariants.{Plain}
 use Rattle.tl_cert.specs.declared.section.Section.{Section}
+use Rattle.tl_demo.specs.declared.laws.TheConstants.{DEMO_WIDTH}
 use Rattle.tl_form.specs.declared.cell.Table.{Table, out-Table}
 use Rattle.tl_form.specs.Expected.{Document, IsDocumentOf, due_after}
 use Rattle.tl_form.specs.Valid.{AreGoodBelow, IsProblemAt}
 use Rattle.tl_problem.specs.Problem.{ProblemModel}
 use Rattle.tl_problem.specs.Spans.{count_of}
-use Rattle.tl_program.specs.declared.limits.TheConstants.{DEMO_BUDGET, DEMO_WIDTH}
+use Rattle.tl_program.specs.declared.limits.TheConstants.{DEMO_BUDGET}
 use Rattle.tl_program.specs.declared.options.Search.TheVariants.{Best}
 use Rattle.tl_program.specs.declared.task.Task.{Task}
 

@@ -1,13 +1,14 @@
 -- The sections before the table's own, on any document of it.
 use Rattle.std.proofs.Common.{◌≡◌, ℕ, List, length, Some, sym, subst}
 use Rattle.tl_base.specs.declared.style.Style.TheVariants.{Plain}
+use Rattle.tl_demo.specs.declared.laws.TheConstants.{DEMO_WIDTH}
 use Rattle.tl_form.specs.declared.cell.Table.{out-Table}
 use Rattle.tl_form.specs.Expected.{Document, due_after}
 use Rattle.tl_form.specs.Subjects.{meant}
 use Rattle.tl_form.specs.Valid.{AreGoodBelow, IsProblemAt}
 use Rattle.tl_form.proofs.OneProblem.{one_document}
 use Rattle.tl_nested.proofs.Ready.{fits_of}
-use Rattle.tl_program.specs.declared.limits.TheConstants.{DEMO_BUDGET, DEMO_WIDTH}
+use Rattle.tl_program.specs.declared.limits.TheConstants.{DEMO_BUDGET}
 use Rattle.tl_program.proofs.summary.count_after.Goals as goal
 
 pub problem_at-requires-clause-wide : goal.problem_at-requires-clause-wide

@@ -4,9 +4,10 @@ use Rattle.tl_base.specs.declared.style.Style.TheVariants.{Plain}
 use Rattle.tl_cert.specs.declared.certificate.Certificate.{Certificate}
 use Rattle.tl_cert.specs.declared.section.Section.{Section}
 use Rattle.tl_cert.specs.Text.{IsWritable}
+use Rattle.tl_demo.specs.declared.laws.TheConstants.{DEMO_WIDTH}
 use Rattle.tl_form.specs.Least.{IsLeastWidth}
 use Rattle.tl_nested.specs.Searched.{AreSectionsOf}
-use Rattle.tl_program.specs.declared.limits.TheConstants.{DEMO_BUDGET, DEMO_WIDTH}
+use Rattle.tl_program.specs.declared.limits.TheConstants.{DEMO_BUDGET}
 use Rattle.tl_program.specs.declared.options.Search.TheVariants.{Best}
 use Rattle.tl_program.specs.declared.task.Task.{Task}
 use Rattle.tl_program.specs.Answers.{IsOutcomeOf}
