@@ -104,8 +104,8 @@ fn block_width(alloc: Global, block: &Content, style: Style) -> Result<u32, Allo
 }
 
 /// The least width of a page that any layout of the table fits, over all layouts of the tables
-/// nested in it too, in columns of text: no more than a certificate can name. It costs what the cells, at all depths, and their demands do, and no width is
-/// tried.
+/// nested in it too, in columns of text: no more than a certificate can name. It costs what the cells,
+/// at all depths, and their demands do, and no width is tried. The error is out of memory.
 pub fn least_width(alloc: Global, table: &Table, style: Style) -> Result<u32, AllocError>
     requires { IsSound table.now }
     ensures least { IfOk result (IsLeastWidth table.now style) }

@@ -27,7 +27,7 @@ use Rattle.tl_program.specs.Answers.{budget_in, budget_of, reach, certificate_fi
 use Rattle.tl_program.specs.Change.{Change, Stored, Holds, DoesNotFail, after}
 use Rattle.tl_program.specs.Checks.{asked_of, IsValidIn}
 use Rattle.tl_program.specs.Command.{Laying, IsLay, Checking, IsCheck, AreNames}
-use Rattle.tl_program.specs.Complete.{Shows, SpellsTable, claim_status, AsksForSame, IsLaidOut, AcceptsLaid}
+use Rattle.tl_program.specs.Complete.{ShowsFile, SpellsTable, claim_status, AsksForSame, IsLaidOut, AcceptsLaid}
 use Rattle.tl_program.specs.Headline.{Becomes, Ends}
 use Rattle.tl_program.specs.Messages.{number_of, status_of, refusal_status, text_of}
 use Rattle.tl_program.specs.Outcomes.{Outcome, asked, stored_as, outcome_of, IsAnswered, IsAnswerFor}
@@ -154,50 +154,32 @@ module _ (files : Option Files) (held : Files) (page certificate input : List �
 
 -- ---- the check
 
--- what is asked is the same
+-- what was laid out, on a page of another width and with another budget
+abbrev asked_with : Laying → ℕ → Option ℕ → Task
+asked_with laying page budget = record {
+  width = page;
+  style = (asked laying).style;
+  breaking = (asked laying).breaking;
+  budget = budget;
+  search = (asked laying).search;
+  html = laying.options.html;
+  certified = (asked laying).certified;
+}
+
+-- a number of what is asked is the same where width and budget decide it
+same_number : (number : Task → ℕ) (laying : Laying) (command : Checking) → AsksForSame laying command →
+    number (asked laying) ≡ number (asked_with laying command.width (asked_of command).budget)
+same_number number laying command same =
+    ap (λ (w : ℕ). number (asked_with laying w laying.options.budget)) same.width
+    ∙ ap (λ (b : Option ℕ). number (asked_with laying command.width b)) same.budget
+
 same_reach_asked : (laying : Laying) (command : Checking) (table : Table) → AsksForSame laying command →
     reach (asked laying) table ≡ reach (asked_of command) table
-same_reach_asked laying command table same =
-    ap (λ (w : ℕ). reach (record {
-      width = w;
-      style = (asked laying).style;
-      breaking = (asked laying).breaking;
-      budget = laying.options.budget;
-      search = (asked laying).search;
-      html = laying.options.html;
-      certified = (asked laying).certified;
-    }) table) same.width
-    ∙ ap (λ (b : Option ℕ). reach (record {
-      width = command.width;
-      style = (asked laying).style;
-      breaking = (asked laying).breaking;
-      budget = b;
-      search = (asked laying).search;
-      html = laying.options.html;
-      certified = (asked laying).certified;
-    }) table) same.budget
+same_reach_asked laying command table = same_number (λ task. reach task table) laying command
 
 same_budget_asked : (laying : Laying) (command : Checking) (table : Table) → AsksForSame laying command →
     budget_in (asked laying) table ≡ budget_in (asked_of command) table
-same_budget_asked laying command table same =
-    ap (λ (w : ℕ). budget_in (record {
-      width = w;
-      style = (asked laying).style;
-      breaking = (asked laying).breaking;
-      budget = laying.options.budget;
-      search = (asked laying).search;
-      html = laying.options.html;
-      certified = (asked laying).certified;
-    }) table) same.width
-    ∙ ap (λ (b : Option ℕ). budget_in (record {
-      width = command.width;
-      style = (asked laying).style;
-      breaking = (asked laying).breaking;
-      budget = b;
-      search = (asked laying).search;
-      html = laying.options.html;
-      certified = (asked laying).certified;
-    }) table) same.budget
+same_budget_asked laying command table = same_number (λ task. budget_in task table) laying command
 
 same_valid_asked : (laying : Laying) (command : Checking) (table : Table) (certificate : Certificate) → AsksForSame laying command →
     IsValidIn (asked laying) table certificate → IsValidIn (asked_of command) table certificate

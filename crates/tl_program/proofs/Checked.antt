@@ -22,7 +22,7 @@ use Rattle.tl_program.specs.Change.{Change, Holds, DoesNotFail, after}
 use Rattle.tl_program.specs.Checks as checks
 use Rattle.tl_program.specs.Checks.{asked_of, IsValidIn, IsAccepted, IsRejected, IsJudged, IsCheckOf, IsCheckFor, IsCheckIn, IsChecked}
 use Rattle.tl_program.specs.Command.{Checking, IsCheck}
-use Rattle.tl_program.specs.Complete.{Shows, SpellsTable, claim_status, IsAcceptedSo, IsRejectedSo}
+use Rattle.tl_program.specs.Complete.{ShowsFile, SpellsTable, claim_status, IsAcceptedSo, IsRejectedSo}
 use Rattle.tl_program.specs.Headline.{Becomes, Ends}
 use Rattle.tl_program.specs.Messages.{number_of, status_of, text_of}
 use Rattle.tl_program.specs.Outcomes.{Outcome}
@@ -40,7 +40,7 @@ record WentBy (task : Task) (table : Table) (text : List ℕ) (status : ℕ) : T
   same : status ≡ number_of (status_of report)
 
 module _ (words : List (List ℕ)) (change : Change) (status : ℕ) (ends : Ends words change status) (command : Checking) (bytes text : List ℕ)
-    (table : Table) (is : IsCheck words command) (input : Shows change command.input bytes) (certificate : Shows change command.certificate text)
+    (table : Table) (is : IsCheck words command) (input : ShowsFile change command.input bytes) (certificate : ShowsFile change command.certificate text)
     (quiet : DoesNotFail change) (spells : SpellsTable (asked_of command) bytes table) where
   by_table : (found : Table) (report : Report) → AreSame found table →
       IsCheckOf (asked_of command) found change.files command.certificate report → status ≡ number_of (status_of report) →

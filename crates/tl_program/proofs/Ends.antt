@@ -27,7 +27,7 @@ use Rattle.tl_program.specs.Options.{AreOptions, IsInRange}
 use Rattle.tl_program.specs.Answers.{budget_in, budget_of, reach, IsAnswerBy, IsAnswerTo, StoresNothing}
 use Rattle.tl_program.specs.Change.{Change, Holds, Stored, StoresSome, FailsToStore, DoesNotFail, after}
 use Rattle.tl_program.specs.Command.{Laying, IsLay}
-use Rattle.tl_program.specs.Complete.{IsComplete, IsRefusedSo, Shows}
+use Rattle.tl_program.specs.Complete.{IsComplete, IsRefusedSo, ShowsFile}
 use Rattle.tl_program.specs.Headline.{Becomes, Ends}
 use Rattle.tl_program.specs.Messages.{number_of, status_of, refusal_status, text_of}
 use Rattle.tl_program.specs.Outcomes.{Outcome, asked, IsAnswered, IsAnswerOf, IsAnswerFor, stored_as}
@@ -234,7 +234,7 @@ record Went (words : List (List ℕ)) (change : Change) (command : Laying) (byte
   same : status ≡ number_of (status_of answer.report)
 
 went : (words : List (List ℕ)) (change : Change) (status : ℕ) (command : Laying) (bytes : List ℕ) → Ends words change status → IsLay words command →
-    Shows change command.input bytes → DoesNotFail change →
+    ShowsFile change command.input bytes → DoesNotFail change →
     Went words change command bytes status ⊎ (status ≡ 9)
 went words change status command bytes ends is told quiet =
     elim (eqb_tells status 9) [

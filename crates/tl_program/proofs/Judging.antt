@@ -38,7 +38,7 @@ use Rattle.tl_program.specs.declared.task.Task.{Task}
 use Rattle.tl_program.specs.Answers.{budget_in, IsBelowCounts}
 use Rattle.tl_program.specs.Checks.{IsValidIn, columns_of, Shows, IsAccepted, IsReason, IsRejected, IsJudged}
 use Rattle.tl_program.specs.Rejections.{text_rejection, step_rejection}
-use Rattle.tl_program.specs.inner.Claims.{HasFewColumns, shown_by}
+use Rattle.tl_program.specs.inner.Claims.{HasFewColumns, report_of}
 use Rattle.tl_program.proofs.Laying.{own_least, last_found, last_of, last_is}
 
 -- two certificates of one text are the same
@@ -155,7 +155,7 @@ module _ (task : Task) (table : Table) (certificate : Certificate) (sound : IsSo
     by_sections (section ∷ all) ends = omega arith
 
   by_claim : (claim : Claim) → certificate.claim ≡ claim →
-      Shows (shown_by task.width claim (columns_of task certificate)) task table certificate
+      Shows (report_of task.width claim (columns_of task certificate)) task table certificate
   by_claim (claims.Lowest height) is =
       (is, lowest_law table task.style task.width (budget_in task table) certificate height sound valid is, refl)
   by_claim (claims.Bounded height lower) is =
@@ -167,7 +167,7 @@ module _ (task : Task) (table : Table) (certificate : Certificate) (sound : IsSo
       (is, too.0, too.1, refl)
 
   pub accepted : (text : List ℕ) (report : Report) → IsTextOf text certificate →
-      report ≡ shown_by task.width certificate.claim (columns_of task certificate) → IsJudged task table text report
+      report ≡ report_of task.width certificate.claim (columns_of task certificate) → IsJudged task table text report
   accepted text report text_is told = inl (record {
     certificate = certificate;
     text_is = text_is;

@@ -363,7 +363,7 @@ module _ (task : Task) (table : Table) (sections : List Section) (are : sections
   good : AreGoodBelow are.document (budget_in task table) sections (length sections)
   good = λ i d within. (are.each i d within).good
 
-  by_claim : (claim : Claim) → claim_of sections ≡ claim → IsAnswerBy (report_of claim taken) task table answer
+  by_claim : (claim : Claim) → claim_of sections ≡ claim → IsAnswerBy (report_of task.width claim taken) task table answer
   by_claim (claims.Lowest height) is = (
     laid (claims.Lowest height) height is refl,
     lowest_law table task.style task.width (budget_in task table) cert height sound is_valid is,
@@ -398,12 +398,12 @@ module _ (task : Task) (table : Table) (sections : List Section) (are : sections
               (subst (All IsClosed) (take_all (length sections) sections (omega arith)) all) (length sections - 1) d (omega (arith, can.some)) in
               omega (arith, same, opened d)
 
-  pub answered : IsAnswerBy (report_of (claim_of sections) taken) task table answer
+  pub answered : IsAnswerBy (report_of task.width (claim_of sections) taken) task table answer
   answered = by_claim (claim_of sections) refl
 
-  pub not_refused : (refusal : Refusal) → report_of (claim_of sections) taken ≡ reports.Refused refusal → ⊥
+  pub not_refused : (refusal : Refusal) → report_of task.width (claim_of sections) taken ≡ reports.Refused refusal → ⊥
   not_refused refusal = by_report (claim_of sections) where
-    by_report : (claim : Claim) → report_of claim taken ≡ reports.Refused refusal → ⊥
+    by_report : (claim : Claim) → report_of task.width claim taken ≡ reports.Refused refusal → ⊥
     by_report (claims.Lowest height) e = absurd cc
     by_report (claims.Bounded height lower) e = absurd cc
     by_report (claims.Narrow least) e = absurd cc

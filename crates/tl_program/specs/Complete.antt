@@ -22,8 +22,8 @@ use Rattle.tl_program.specs.Outcomes.{asked}
 use Rattle.tl_program.specs.Reading.{IsReading}
 
 -- the desk shows a file of this name with these bytes
-abbrev pub Shows : Change → List ℕ → List ℕ → Type 0
-Shows change name bytes = (files : Files) × (change.files ≡ Some files) × (files name ≡ Some bytes)
+abbrev pub ShowsFile : Change → List ℕ → List ℕ → Type 0
+ShowsFile change name bytes = (files : Files) × (change.files ≡ Some files) × (files name ≡ Some bytes)
 
 -- the bytes spell a table, whose reach is within its limit
 pub record SpellsTable (task : Task) (bytes : List ℕ) (table : Table) : Type 0 where
@@ -33,13 +33,13 @@ pub record SpellsTable (task : Task) (bytes : List ℕ) (table : Table) : Type 0
 -- a file that spells a table within all limits is answered by 0, 3 or 4
 abbrev pub IsComplete : List (List ℕ) → Change → ℕ → Type 0
 IsComplete words change status = (command : Laying) (bytes : List ℕ) (table : Table) → IsLay words command →
-    Shows change command.input bytes → DoesNotFail change → SpellsTable (asked command) bytes table →
+    ShowsFile change command.input bytes → DoesNotFail change → SpellsTable (asked command) bytes table →
     (status ≡ 0) ⊎ ((status ≡ 3) ⊎ ((status ≡ 4) ⊎ (status ≡ 9)))
 
 -- a file that is refused is answered so
 abbrev pub IsRefusedSo : List (List ℕ) → Change → ℕ → Type 0
 IsRefusedSo words change status = (command : Laying) (bytes : List ℕ) (refusal : Refusal) → IsLay words command →
-    Shows change command.input bytes → DoesNotFail change →
+    ShowsFile change command.input bytes → DoesNotFail change →
     IsReading (asked command).breaking bytes (readings.Refused refusal) →
     (status ≡ number_of (refusal_status refusal)) ⊎ (status ≡ 9)
 
@@ -52,14 +52,14 @@ claim_status (claims.Narrow least) = statuses.Narrow
 -- the text of a certificate that is valid for the table that a file spells is accepted, by its claim
 abbrev pub IsAcceptedSo : List (List ℕ) → Change → ℕ → Type 0
 IsAcceptedSo words change status = (command : Checking) (bytes text : List ℕ) (table : Table) (certificate : Certificate) →
-    IsCheck words command → Shows change command.input bytes → Shows change command.certificate text → DoesNotFail change →
+    IsCheck words command → ShowsFile change command.input bytes → ShowsFile change command.certificate text → DoesNotFail change →
     SpellsTable (asked_of command) bytes table → IsTextOf text certificate → IsValidIn (asked_of command) table certificate →
     (status ≡ number_of (claim_status certificate.claim)) ⊎ (status ≡ 9)
 
 -- a text that is that of no certificate valid for the table is rejected
 abbrev pub IsRejectedSo : List (List ℕ) → Change → ℕ → Type 0
 IsRejectedSo words change status = (command : Checking) (bytes text : List ℕ) (table : Table) →
-    IsCheck words command → Shows change command.input bytes → Shows change command.certificate text → DoesNotFail change →
+    IsCheck words command → ShowsFile change command.input bytes → ShowsFile change command.certificate text → DoesNotFail change →
     SpellsTable (asked_of command) bytes table →
     ((certificate : Certificate) → IsTextOf text certificate → IsValidIn (asked_of command) table certificate → ⊥) →
     (status ≡ 10) ⊎ (status ≡ 9)

@@ -19,12 +19,12 @@ ghost use Rattle.tl_program.specs.Answers.{certificate_file, IsOutcomeOf, IsAnsw
 ghost use Rattle.tl_program.specs.Answers.{IsReadable, StoresNothing};
 ghost use Rattle.tl_program.specs.declared.refusal.Refusal.{Refusal};
 ghost use Rattle.tl_program.specs.declared.report.Report.TheVariants as reports;
-ghost use Rattle.tl_program.specs.inner.Claims.{certificate_of, claim_of, report_of};
+ghost use Rattle.tl_program.specs.inner.Claims.{certificate_of, claim_of};
 
 use crate::budget::budget_within;
 use crate::makers::searched;
 use crate::refusal::Refusal;
-use crate::report::Report;
+use crate::report::{Report, report_of};
 use crate::task::Task;
 use crate::widths::total_width;
 use std::alloc::{AllocError, Global};
@@ -152,22 +152,6 @@ pub fn certificate_of(
     }
 }
 
-/// The report of what is claimed of a page that takes `width` columns, whose least width is `least`
-/// where it is too narrow.
-fn report_of(claim: Claim, width: u64) -> Report
-    ensures { result ≡ report_of claim width }
-{
-    match claim {
-        Claim::Lowest(height) => Report::Lowest { height, width },
-        Claim::Bounded(height, lower) => Report::Bounded {
-            height,
-            lower,
-            width,
-        },
-        Claim::Narrow(least) => Report::Narrow { least, width: 0 },
-    }
-}
-
 /// The lowest page that the search finds, with its certificate.
 fn lowest(alloc: Global, task: &Task, table: &Table, budget: u32) -> Result<Answer, AllocError>
     requires sound { IsSound table.now }
@@ -187,7 +171,7 @@ fn lowest(alloc: Global, task: &Task, table: &Table, budget: u32) -> Result<Answ
     budget_closes();
     open_spends();
     Ok(Answer {
-        report: report_of(certificate.claim, width),
+        report: report_of(task.width, certificate.claim, width),
         page: Some(page_file(alloc, task, table, &layout)?),
         certificate: certificate_file(alloc, task, &certificate)?,
     })

@@ -9,15 +9,15 @@ ghost use Rattle.tl_program.specs.declared.rejection.Rejection.{Rejection as R};
 ghost use Rattle.tl_program.specs.declared.report.Report.TheVariants as reports;
 ghost use Rattle.tl_program.specs.Answers.{budget_in};
 ghost use Rattle.tl_program.specs.Checks.{IsJudged, page_columns};
-ghost use Rattle.tl_program.specs.inner.Claims.{HasFewColumns, shown_by};
+ghost use Rattle.tl_program.specs.inner.Claims.{HasFewColumns, report_of};
 
 use crate::rejection::{Rejection, step_rejection, text_rejection};
-use crate::report::Report;
+use crate::report::{Report, report_of};
 use crate::task::Task;
 use crate::widths::total_width;
 use std::alloc::{AllocError, Global};
 use tl_base::Style;
-use tl_cert::{Certificate, Claim, Section, read};
+use tl_cert::{Certificate, Section, read};
 use tl_form::{
     Table, bounded_is_between, budget_closes, lowest_is_least, narrow_is_too_wide, open_spends,
 };
@@ -47,22 +47,11 @@ fn page_columns(style: Style, sections: &[Section]) -> u64
 /// The report of a certificate that is valid for what is asked.
 fn shown(task: &Task, certificate: &Certificate) -> Report
     requires { HasFewColumns (last_or None certificate.now.sections) }
-    ensures { result ≡ shown_by task.now.width certificate.now.claim
+    ensures { result ≡ report_of task.now.width certificate.now.claim
         (page_columns task.now.style (last_or None certificate.now.sections)) }
 {
     let width = page_columns(task.style, certificate.sections.as_slice());
-    match certificate.claim {
-        Claim::Lowest(height) => Report::Lowest { height, width },
-        Claim::Bounded(height, lower) => Report::Bounded {
-            height,
-            lower,
-            width,
-        },
-        Claim::Narrow(least) => Report::Narrow {
-            least,
-            width: task.width,
-        },
-    }
+    report_of(task.width, certificate.claim, width)
 }
 
 /// Judges the text of a certificate for what is asked of the table.

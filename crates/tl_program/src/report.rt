@@ -2,10 +2,12 @@
 
 ghost use Rattle.std.specs.Prelude.{◌≡◌};
 ghost use Rattle.tl_program.specs.Messages.{refusal_status, status_of};
+ghost use Rattle.tl_program.specs.inner.Claims.{report_of};
 
 use crate::refusal::Refusal;
 use crate::rejection::Rejection;
 use crate::status::Status;
+use tl_cert::Claim;
 
 /// The numbers of a demonstration.
 #[derive(Clone, Copy, Debug, PartialEq, Eq)]
@@ -69,5 +71,20 @@ fn refusal_status(refusal: Refusal) -> Status
     match refusal {
         Refusal::BadInput(_, _) | Refusal::Overlap { .. } => Status::BadInput,
         Refusal::Limit(_, _) => Status::Limit,
+    }
+}
+
+/// The report of what is claimed, for a page of `page` columns, of which the layout takes `width`.
+pub fn report_of(page: u32, claim: Claim, width: u64) -> Report
+    ensures { result ≡ report_of page claim width }
+{
+    match claim {
+        Claim::Lowest(height) => Report::Lowest { height, width },
+        Claim::Bounded(height, lower) => Report::Bounded {
+            height,
+            lower,
+            width,
+        },
+        Claim::Narrow(least) => Report::Narrow { least, width: page },
     }
 }

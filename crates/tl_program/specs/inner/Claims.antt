@@ -27,17 +27,11 @@ abbrev pub certificate_of : ℕ → Style → ℕ → List Section → Certifica
 certificate_of page style budget sections =
     record { width = page; style = style; budget = budget; claim = claim_of sections; chains = []; sections = sections }
 
--- the report of a claim, with the columns that the page takes
-abbrev pub report_of : Claim → ℕ → Report
-report_of (claims.Lowest height) width = reports.Lowest height width
-report_of (claims.Bounded height lower) width = reports.Bounded height lower width
-report_of (claims.Narrow least) width = reports.Narrow least 0
-
--- the report of a claim that is shown, on a page of `page` columns, of which the layout takes `width`
-abbrev pub shown_by : ℕ → Claim → ℕ → Report
-shown_by page (claims.Lowest height) width = reports.Lowest height width
-shown_by page (claims.Bounded height lower) width = reports.Bounded height lower width
-shown_by page (claims.Narrow least) width = reports.Narrow least page
+-- the report of a claim, for a page of `page` columns, of which the layout takes `width`
+abbrev pub report_of : ℕ → Claim → ℕ → Report
+report_of page (claims.Lowest height) width = reports.Lowest height width
+report_of page (claims.Bounded height lower) width = reports.Bounded height lower width
+report_of page (claims.Narrow least) width = reports.Narrow least page
 
 -- the section, if there is one, has no more columns than a table may have
 abbrev pub HasFewColumns : Option Section → Type 0

@@ -82,7 +82,7 @@ returns-clause-answered c =
     c.certificate_of-certificate.ensures ∙ ap (λ (b : ℕ). certificate_of task.width task.style b sections) c.requires.budget in
     subst (λ (report : Report). IsAnswerBy report task table
     (record { report = c.report_of.result; page = Some c.in_ok-page_file.field-0; certificate = c.in_ok-certificate_file.field-0 }))
-    (sym (c.report_of.ensures ∙ ap (λ (claim : Claim). report_of claim c.total_width-width.result) is))
+    (sym (c.report_of.ensures ∙ ap (λ (claim : Claim). report_of task.width claim c.total_width-width.result) is))
     (answered task table sections
     (subst (λ (b : ℕ). AreSectionsOf (IsOutcomeOf task.search b) table task.style task.width b sections) c.requires.budget c.in_ok-sections.ensures.expected)
     c.in_ok-sections.ensures.writable c.requires.wide c.requires.sound c.requires.page.1
