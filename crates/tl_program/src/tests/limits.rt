@@ -1,6 +1,6 @@
 //! Each limit at its end and one past it.
 
-use crate::tests::{Case, TWO, check, check_refused, repeated};
+use crate::tests::{TWO, check_refused, desk, held, repeated, status_of};
 use std::alloc::{AllocError, Global};
 use std::process::Abort;
 use std::test::Fail;
@@ -52,17 +52,15 @@ fn check_page(
     page: &Built,
     said: &str,
 ) -> Result<(), Fail> {
-    let file = built.whole(rt.alloc())?;
-    let page = page.whole(rt.alloc())?;
-    let case = Case {
-        line,
-        file: file.as_str(),
-        status: 0,
-        page: Some(page.as_str()),
-        certificate: None,
-        said,
-    };
-    check(rt, &case)
+    let alloc = rt.alloc();
+    let file = built.whole(alloc)?;
+    let page = page.whole(alloc)?;
+    let mut desk = desk(alloc, file.as_bytes(), &[])?;
+    assert_eq!(rt; status_of(alloc, line, &mut desk)?, 0, "{line}");
+    assert_eq!(rt; held(&desk, "p.txt"), Some(page.as_bytes()), "{line}");
+    assert_eq!(rt; desk.files().len(), 2, "{line}");
+    assert_eq!(rt; desk.said(), said.as_bytes(), "{line}");
+    Ok(())
 }
 
 /// The file passes with this page, and with its text once more it is refused as `past` says.
