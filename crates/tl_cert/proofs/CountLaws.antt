@@ -321,7 +321,7 @@ wide r = r.last + 1 - r.first
 size : List Range → ℕ
 size zone = product (map wide zone)
 
--- a range parted in two parts the vectors
+-- a range cut in two separates the vectors
 size-parts : (zone : List Range) (s : ℕ) (a b : Range) → s < length zone → wide a + wide b ≡ wide (range_at zone s) →
     size (set zone s a) + size (set zone s b) ≡ size zone
 unfolding size

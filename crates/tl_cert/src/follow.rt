@@ -20,7 +20,7 @@ pub(crate) enum Follow {
     Entry(bool),
     /// `-` or `+`, in order after the bound before.
     Sign(Option<Bound>),
-    /// A line feed, behind the number of log lines.
+    /// A line feed, after the number of log lines.
     Count(Areas),
 }
 

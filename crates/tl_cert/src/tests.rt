@@ -323,7 +323,7 @@ fn there_are_at_most_60_widths(rt: HostRuntime) -> Result<(), Fail> {
     Ok(())
 }
 
-// The front has 33 bytes and each section 36. The last line has to begin where one too many does.
+// The start has 33 bytes and each section 36. The last line has to begin where one too many does.
 #[test]
 fn there_are_at_most_100001_sections(rt: HostRuntime) -> Result<(), Fail> {
     for (count, want) in [(100_001, "read"), (100_002, "syntax at 3600069")] {
@@ -374,7 +374,7 @@ fn there_are_at_most_1073741824_bytes(rt: HostRuntime) -> Result<(), Fail> {
     Ok(())
 }
 
-// A front of the text is no text, and it goes wrong where it ends.
+// A prefix of the text is no text, and it goes wrong where it ends.
 #[test]
 fn a_front_goes_wrong_where_it_ends(rt: HostRuntime) {
     let bytes = LOWEST.as_bytes();

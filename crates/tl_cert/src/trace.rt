@@ -8,7 +8,7 @@ use tl_base::List;
 pub struct CutAt {
     /// The number of the zone that is cut and stands no longer.
     pub zone: u32,
-    /// The number of the column span whose classes are parted.
+    /// The number of the column span whose classes are separated.
     pub span: u32,
     /// The last class of the span, counted from 0, in the lower part.
     pub class: u32,

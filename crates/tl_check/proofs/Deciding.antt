@@ -130,7 +130,7 @@ module _ (problem : ProblemModel) (trace : List CutAt) (log : List LogLine) (lin
       ap (λ nogood. map bounds_at (take i line.fires) ++ nogood_bounds problem trace nogood ∷ []) (sym (nogood-at f item there is))
       ∙ sym (ap (map bounds_at) (take_more line.fires i 0 within) ∙ map_push bounds_at (take i line.fires) f)
 
-  -- what can never be fired can never be fired with more behind it
+  -- what can never be fired can never be fired with more after it
   pub never-longer : (given : List Bound) (nogoods more : List (List Bound)) → NeverFires problem given nogoods → NeverFires problem given (nogoods ++ more)
   never-longer given nogoods more never last fires = let split = fires-split problem given [] nogoods more last fires in never split.0 split.1
 

@@ -20,7 +20,7 @@ use Rattle.tl_cert.specs.Nogoods.{Meets, Breaks}
 use Rattle.tl_cert.specs.Implied.{IsLeft}
 use Rattle.tl_check.specs.inner.Matrices.{IsMatrixOf, Restricts, Describes}
 
--- what is so of all is so of the front, and of the last
+-- what is so of all is so of the prefix, and of the last
 pub All-front : {X : Type 0} (P : X → Type 0) (xs : List X) (x : X) → All P (xs ++ x ∷ []) → All P xs
 All-front P xs x all = λ k d within. subst P (get_or_append_left xs (x ∷ []) d k within) (all k d (omega (arith, within, length-append xs (x ∷ []))))
 

@@ -9,7 +9,8 @@ use Rattle.tl_problem.specs.declared.zone.Range.{Range}
 use Rattle.tl_problem.specs.Problem.{ProblemModel}
 use Rattle.tl_problem.specs.Sound.{IsSound}
 use Rattle.tl_problem.specs.Spans.{spans_of}
-use Rattle.tl_problem.specs.Zones.{classes_at, first_in_class, last_in_class, range, range_at, whole_zone, lower_part, upper_part, span_width, InZone, IsWidthOf}
+use Rattle.tl_problem.specs.Zones.{classes_at, first_in_class, last_in_class, range, range_at, whole_zone, lower_part, upper_part}
+use Rattle.tl_problem.specs.Zones.{span_width, InZone, IsWidthOf}
 use Rattle.tl_problem.proofs.ZoneLaws.{cases_eq, whole-range, whole-is_zone, lower-inside, upper-inside}
 use Rattle.tl_cert.specs.declared.log.Bound.{Bound}
 use Rattle.tl_cert.specs.declared.trace.CutAt.{CutAt}

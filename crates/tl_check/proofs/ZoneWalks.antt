@@ -118,7 +118,7 @@ module _ (problem : ProblemModel) (sound : IsSound problem) (trace : List CutAt)
   long : (z : ℕ) → IsZoneOf trace z → s < length (zone_of problem trace z)
   long z there = omega (arith, inside, (zones-are problem sound trace is_trace z there).spans)
 
-  -- the lower part of a cut ends at the cut's class, the upper part begins behind it, and other spans keep their classes
+  -- the lower part of a cut ends at the cut's class, the upper part begins after it, and other spans keep their classes
   pub low-here : (i : ℕ) (cut : CutAt) → i < length trace → IsParted (whole_zone problem) trace i cut → cut.span ≡ s →
       range_of (2 * i + 1) ≡ range (range_of cut.zone).first cut.class
   low-here i cut within h here =
@@ -206,7 +206,8 @@ module _ (problem : ProblemModel) (sound : IsSound problem) (trace : List CutAt)
   pub walk-end : (top first last : ℕ) → last < length (classes_at problem s) → IsWithinClasses (range_of top) (range_of 0) first last →
       range first last ≡ range_of top
   walk-end top first last small within =
-      let whole : range_of 0 ≡ range 0 (length (classes_at problem s) - 1) = ap (λ z. range_at z s) (zone-first problem trace is_trace) ∙ whole-range problem s inside in
+      let whole : range_of 0 ≡ range 0 (length (classes_at problem s) - 1) =
+      ap (λ z. range_at z s) (zone-first problem trace is_trace) ∙ whole-range problem s inside in
       let one : first ≡ (range_of top).first = omega (arith, within.from, ap (λ r. r.first) whole) in
       let other : last ≡ (range_of top).last = omega (arith, within.upto, ap (λ r. r.last) whole, small) in
       ap (λ f. range f last) one ∙ ap (range (range_of top).first) other

@@ -51,7 +51,7 @@ fn keep_bounds(problem: &Problem, bounds: &[Bound], matrix: &mut Matrix)
 }
 
 /// Leaves the widths of a zone of the trace: those that meet the bound of each cut by which it came to
-/// be, from the last of them, whose bounds are the tightest.
+/// be. The walk begins at the last cut, whose bound is the tightest of its span and side.
 pub fn keep_zone(problem: &Problem, trace: &[CutAt], z: u32, matrix: &mut Matrix)
     requires trace { IsTraceOf problem.now trace.now }
     requires zone { IsZoneOf trace.now z }

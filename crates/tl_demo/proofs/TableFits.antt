@@ -242,7 +242,7 @@ module _ (table : Table) (settle : Settles Plain table) where
           no_less other (inl below) laid = absurd (none other below laid)
           no_less other (inr from) laid = from
 
--- the same of a sound table
+-- a sound table that fits some width has a least width, at most that one
 pub least_exists : (table : Table) (w height : ℕ) (layout : Layout) → IsSound table → Fits table Plain w height layout →
     (least : ℕ) × (IsLeastWidth table Plain least × (least ≤ w))
 unfolding FitsAt

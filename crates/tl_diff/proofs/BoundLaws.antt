@@ -4,7 +4,7 @@ use Rattle.std.proofs.lemmas.Int.{ints}
 use Rattle.tl_diff.specs.Marks.{MarkedBounds}
 use Rattle.tl_diff.specs.Bounds.{Bounds, Satisfies, IsSatisfiable, Implied, AddsBound, IsGreatest, HasGreatest, HasNoGreatest, IsLeast}
 
--- there is one greatest difference of two variables
+-- there is one tightest bound on two variables
 pub IsGreatest-unique : (bounds : Bounds) (a b : ℕ) (s t : ℤ) → IsGreatest bounds a b s → IsGreatest bounds a b t → s ≡ t
 IsGreatest-unique bounds a b s t h k =
     omega (arith, ints, h.reached.1.1, k.reached.1.1, h.implied k.reached.0 k.reached.1.0, k.implied h.reached.0 h.reached.1.0)
@@ -15,13 +15,13 @@ IsGreatest-bounded bounds a b most h none =
     let more = none most in
     omega (arith, ints, more.1.1, h.implied more.0 more.1.0)
 
--- a returned bound is a number where there is a greatest difference
+-- a returned bound is a number where there is a tightest bound
 pub IsSome-greatest : (bounds : Bounds) (a b : ℕ) (o : Option ℤ) → MatchOption o (HasNoGreatest bounds a b) (IsGreatest bounds a b) →
     (HasNoGreatest bounds a b → ⊥) → IsSome o
 IsSome-greatest bounds a b None none has = absurd (has none)
 IsSome-greatest bounds a b (Some c) h has = refl
 
--- a returned bound that is a number is a greatest difference, so that not every number is passed
+-- a returned bound that is a number is the tightest, so that not every number is passed
 pub HasGreatest-some : (bounds : Bounds) (a b : ℕ) (o : Option ℤ) → MatchOption o (HasNoGreatest bounds a b) (IsGreatest bounds a b) → IsSome o →
     HasGreatest bounds a b
 HasGreatest-some bounds a b None h some = cc
@@ -45,7 +45,7 @@ IsLeast-greatest bounds x some h = record {
 pub AddsBound-shrinks : (old new : Bounds) (a b : ℕ) (most : ℤ) → AddsBound old new a b most → IsSatisfiable new → IsSatisfiable old
 AddsBound-shrinks old new a b most h some = (some.0, h.keeps some.0 some.1)
 
--- a greatest difference does not rise by one constraint more
+-- a tightest bound does not rise by one constraint more
 pub IsGreatest-falls : (old new : Bounds) (a b : ℕ) (most : ℤ) → AddsBound old new a b most → (p q : ℕ) (s t : ℤ) → IsGreatest old p q s →
     IsGreatest new p q t → t ≤ℤ s
 IsGreatest-falls old new a b most h p q s t before after =
@@ -58,7 +58,7 @@ Implied-from bounds a b s most h le x meets = omega (arith, ints, h.implied x me
 pub Implied-le : (bounds : Bounds) (a b : ℕ) (s most : ℤ) → IsGreatest bounds a b s → Implied bounds a b most → s ≤ℤ most
 Implied-le bounds a b s most h implied = omega (arith, ints, h.reached.1.1, implied h.reached.0 h.reached.1.0)
 
--- where there is no greatest difference, nothing is implied
+-- where there is no tightest bound, nothing is implied
 pub Implied-none : (bounds : Bounds) (a b : ℕ) (most : ℤ) → HasNoGreatest bounds a b → Implied bounds a b most → ⊥
 Implied-none bounds a b most none implied =
     let more = none most in

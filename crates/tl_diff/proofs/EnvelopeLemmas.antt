@@ -131,14 +131,14 @@ module _ (bounds : Bounds) (closed : IsClosed bounds) (a b : ℕ) (first : a < b
       (λ q c there h. omega (arith, ints, i.1.0, under_le bounds (λ q. pos 0) a q bounds.n c there h))
       (λ q c there h. omega (arith, ints, j.1.0, l.1.1, under_le bounds (λ q. pos 0) b q bounds.n c there h))
 
-  -- a bound of a closed matrix is the greatest difference
+  -- a bound of a closed matrix is the tightest
   pub IsGreatest-closed : (c : ℤ) → bound_at bounds a b ≡ Some c → IsGreatest bounds a b c
   IsGreatest-closed c is =
       let most = λ (x : ℕ → ℤ) (meets : Satisfies bounds x). meets a b first second c is in
       let r = reaches c (λ t h. rw is at h) in
       record { implied = most; reached = (r.0, (r.1.0, omega (arith, ints, most r.0 r.1.0, r.1.1))) }
 
-  -- where a closed matrix has no bound there is no greatest difference
+  -- where a closed matrix has no bound there is no tightest one
   pub HasNoGreatest-closed : bound_at bounds a b ≡ None → HasNoGreatest bounds a b
   HasNoGreatest-closed is d =
       let r = reaches (d +ℤ pos 1) (λ c h. absurd (rw is at h)) in

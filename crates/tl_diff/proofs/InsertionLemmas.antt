@@ -20,7 +20,7 @@ pub IsSatisfiable-sound : (bounds : Bounds) (holds : Bool) → IsSound bounds ho
 IsSatisfiable-sound bounds true h = (λ _. ((λ p. under bounds (λ _. pos 0) p bounds.n), Satisfies-under bounds (λ _. pos 0) (h.exact refl).closed), λ _. refl)
 IsSatisfiable-sound bounds false h = (λ e. cc, λ some. absurd (h.none refl some.0 some.1))
 
--- one look-up gives the greatest difference
+-- one look-up gives the tightest bound
 pub upper_sound : (bounds : Bounds) (holds : Bool) (a b : ℕ) (o : Option ℤ) → IsSound bounds holds → IsSatisfiable bounds → a < bounds.n →
     b < bounds.n → o ≡ bound_at bounds a b
     → MatchOption o (HasNoGreatest bounds a b) (IsGreatest bounds a b)

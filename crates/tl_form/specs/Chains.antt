@@ -85,7 +85,7 @@ pub record IsChainBy (weighs : Table → List Chain → ℕ → Type 0) (style :
   pub followed : chains ≡ chain ∷ flat_map (λ link. link.inner) links
   pub weighed : weight ≡ links_weight style table.cols links
 
--- the same of a table with fewer than `depth` tables inside one another
+-- a chain of a table with fewer than `depth` tables inside one another, with those that it rests on
 abbrev pub IsChainWithin : ℕ → Style → Table → List Chain → ℕ → Type 0
 IsChainWithin zero style table chains weight = ⊥
 IsChainWithin (suc depth) style table chains weight =

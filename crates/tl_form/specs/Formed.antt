@@ -150,7 +150,7 @@ pub record BecomesBy (forms : TableNode → Table → Type 0) (breaking : Breaki
   pub same : IsPermutation (caption ++ written) table.cells
   pub in_order : AllPairs ComesBefore (places_of table)
 
--- the same of a table with fewer than `depth` tables inside one another
+-- a table of the tree with fewer than `depth` tables inside one another becomes this table
 abbrev pub BecomesWithin : ℕ → Breaking → TableNode → Table → Type 0
 BecomesWithin zero breaking node table = ⊥
 BecomesWithin (suc depth) breaking node table =

@@ -84,7 +84,7 @@ pub record FitsBy (fits : Table → ℕ → ℕ → Layout → Type 0) (style : 
   pub cells : AllZip (λ cell inner. FitsCell fits style layout (out-TableCell cell) inner) table.cells parts
   pub given : flat_map (λ inner. inner) parts ≡ layout.inner
 
--- the same of a table with fewer than `depth` tables inside one another
+-- the layout fits, of a table with fewer than `depth` tables inside one another
 abbrev pub FitsWithin : ℕ → Style → Table → ℕ → ℕ → Layout → Type 0
 FitsWithin zero style table width height layout = ⊥
 FitsWithin (suc depth) style table width height layout =

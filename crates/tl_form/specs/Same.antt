@@ -28,7 +28,7 @@ pub record AreSameBy (same : Table → Table → Type 0) (one other : OpenTable)
   pub rows : one.rows ≡ other.rows
   pub cells : AllZip (λ cell twin. AreSameCell same (out-TableCell cell) (out-TableCell twin)) one.cells other.cells
 
--- the same of tables with fewer than `depth` tables inside one another
+-- two tables with fewer than `depth` tables inside one another are the same
 abbrev pub AreSameWithin : ℕ → Table → Table → Type 0
 AreSameWithin zero one other = ⊥
 AreSameWithin (suc depth) one other = AreSameBy (AreSameWithin depth) (out-Table one) (out-Table other)

@@ -128,7 +128,7 @@ pub record IsSoundBy (sound : Table → Type 0) (table : OpenTable) : Type 0 whe
   pub numbered : IsPermutation (numbers_inside table) (range_with_len (table.number + 1) (count_inside table))
   pub inner : AllByRecursion sound (inner_tables table)
 
--- the same of a table with fewer than `depth` tables inside one another
+-- a table with fewer than `depth` tables inside one another, each with a sound grid
 abbrev pub IsSoundWithin : ℕ → Table → Type 0
 IsSoundWithin zero table = ⊥
 IsSoundWithin (suc depth) table = IsSoundBy (IsSoundWithin depth) (out-Table table)

@@ -84,7 +84,7 @@ paragraph_written atoms =
     ∙ ap (λ (cs : List ℕ). codes "<p>" ++ cs) (append_assoc (flat_map escaped (lead false atoms)) (items_text (break_items atoms)) (codes "</p>")
     ∙ ap (λ (cs : List ℕ). flat_map escaped (lead false atoms) ++ cs) (sym (flat_map-append item_text (break_items atoms) (end_item ∷ []))))
 
--- ---- units that are parted are written as their word
+-- ---- units that are separated are written as their word
 
 glues_lead : (units : List (List ℕ)) (rest : List Atom) → lead true (map Glue units ++ rest) ≡ joined units ++ lead true rest
 glues_lead [] rest = refl

@@ -12,7 +12,7 @@ pub record AreAlikeBy (alike : Table → Table → Type 0) (one other : OpenTabl
   pub rows : one.rows ≡ other.rows
   pub cells : AllZip (λ cell twin. AreSameCell alike (out-TableCell cell) (out-TableCell twin)) one.cells other.cells
 
--- the same of tables with fewer than `depth` tables inside one another
+-- two tables with fewer than `depth` tables inside one another are the same but for the numbers of tables
 abbrev pub AreAlikeWithin : ℕ → Table → Table → Type 0
 AreAlikeWithin zero one other = ⊥
 AreAlikeWithin (suc depth) one other = AreAlikeBy (AreAlikeWithin depth) (out-Table one) (out-Table other)

@@ -13,12 +13,12 @@ use Rattle.tl_form.specs.Tables.{OpenTable, inner_tables}
 use Rattle.tl_html.specs.Alike.{AreAlike}
 use Rattle.tl_html.specs.Html.{html_of}
 
--- a width for each column, and a layout for each table nested directly, of which `has` says the same
+-- a width for each column, and a layout for each table nested directly, where `has` says so of each
 pub record HasColumnsBy (has : Table → Layout → Type 0) (table : OpenTable) (layout : OpenLayout) : Type 0 where
   pub columns : length layout.widths ≡ table.cols
   pub inner : AllZip has (inner_tables table) layout.inner
 
--- the same of a table with fewer than `depth` tables inside one another
+-- a width for each column of a table with fewer than `depth` tables inside one another, and of each table nested in it
 abbrev pub HasColumnsWithin : ℕ → Table → Layout → Type 0
 HasColumnsWithin zero table layout = ⊥
 HasColumnsWithin (suc depth) table layout = HasColumnsBy (HasColumnsWithin depth) (out-Table table) (out-Layout layout)

@@ -35,7 +35,7 @@ more-along w used (unit ∷ units) rest within =
     (λ fits. more-along w (used + gap_before unit + unit_width unit) units rest (omega (arith, same, within)) ∙ ap (λ (n : ℕ). more w n rest) same)
     (λ over. absurd (omega (arith, over, widths, gaps, within)))
 
--- a filled line is followed by as many lines as the units behind it need
+-- a filled line is followed by as many lines as the units after it need
 lines-more : (w : ℕ) (first : Atom) (line : List Atom) (lines : List (List Atom)) → AllByRecursion (λ line. line ≢ []) lines →
     AllByRecursion (Holds w) lines → FillsLines w ((first ∷ line) ∷ lines) → length lines ≡ more w (line_width (first ∷ line)) (joined lines)
 lines-more w first line [] some holds filled = refl

@@ -70,7 +70,7 @@ module _ (kind : ℕ → Option ℕ) (places : List Place) (gap edge : ℕ) (wid
     pub begun : place.left < slot
     pub all : width + gap ≡ edge + position gap widths place.right
 
-  -- what is written before the slot after this one, in front of all that is left
+  -- what is written before the slot after this one, ahead of all that is left
   pub record Before (text : List ℕ) (slot : ℕ) : Type 0 where
     pub from : ℕ
     pub written : List ℕ
@@ -79,7 +79,7 @@ module _ (kind : ℕ → Option ℕ) (places : List Place) (gap edge : ℕ) (wid
     pub wide : HasWidth written width
     pub state : IsFresh slot width ⊎ GoesOn slot width
 
-  -- what is written up to the end of the slot, in front of the gap or edge behind it
+  -- what is written up to the end of the slot, ahead of the gap or edge after it
   pub record After (text : List ℕ) (slot : ℕ) : Type 0 where
     pub from : ℕ
     pub written : List ℕ

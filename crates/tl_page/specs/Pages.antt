@@ -90,7 +90,7 @@ pub record ShowsBy (shows : Table → Layout → List (List ℕ) → Type 0) (st
   pub drawn : page ≡ lines_of
       (picture style (grid_of table) layout.widths layout.heights (map (λ content. content.lines) contents))
 
--- the same of a table with fewer than `depth` tables inside one another
+-- these are the lines of the page of a table with fewer than `depth` tables inside one another
 abbrev pub ShowsWithin : ℕ → Style → Table → Layout → List (List ℕ) → Type 0
 ShowsWithin zero style table layout page = ⊥
 ShowsWithin (suc depth) style table layout page =

@@ -55,7 +55,7 @@ HoldsBy holds style table layout page = All (λ cell. StandsWhole style holds pa
     (edge_of style + position (row_gap_of style) layout.heights (out-TableCell cell).place.top)
     (out-TableCell cell)) table.cells
 
--- the same of a table with fewer than `depth` tables inside one another
+-- each cell of a table with fewer than `depth` tables inside one another stands whole on the page, nested tables included
 abbrev pub HoldsWithin : ℕ → Style → Table → Layout → List (List ℕ) → Type 0
 HoldsWithin zero style table layout page = ⊥
 HoldsWithin (suc depth) style table layout page =

@@ -1,5 +1,5 @@
 -- Heaviest paths over the cells give the least sizes that meet what the cells demand: such sizes are the rises between
--- the weights of heaviest paths, and no sizes that meet all demands are behind a path.
+-- the weights of heaviest paths, and no sizes that meet all demands are less than a path's weight.
 use Rattle.std.proofs.Common.{◌≡◌, ℕ, ◌+◌, ◌-◌, ◌*◌, ◌<◌, ◌≤◌, zero, suc, List, [], ◌∷◌, inl, inr, length, get_or, map, take, sum, refl, sym, ap, ◌∙◌}
 use Rattle.std.proofs.Common.{subst, arith}
 use Rattle.std.specs.List.{All, sum_by}
@@ -168,7 +168,7 @@ module _ (problem : ProblemModel) (axis : Axis) (demands : List ℕ) (arcs : Lis
       let less = weights-le arc_of (λ t. get_or demands t.cell 0) are.order (λ t. omega arith) in
       omega (arith, ap total_weight are.are, less, order-sum axis problem.cells are.order are.ordered demands same)
 
-  -- ---- no sizes that meet all demands are behind a path
+  -- ---- no sizes that meet all demands are less than a path's weight
 
   module _ (sizes : List ℕ) (give : GiveDemands problem axis demands sizes) where
     arc-below : (i : ℕ) → i < length arcs → sum (take (arc_at arcs i).from sizes) + (arc_at arcs i).weight ≤ sum (take (arc_at arcs i).to sizes)

@@ -1,4 +1,4 @@
--- Falling step functions: wider is no higher, a height stands from the first width on, and changes where a step begins.
+-- Decreasing step functions: wider is no higher, a height stands from the first width on, and changes where a step begins.
 use Rattle.std.proofs.Common.{cond, ◌≡◌, ℕ, ◌<◌, ◌≤◌, suc, Bool, true, false, nat_le, List, [], ◌∷◌, length, get_or, filter, Option, Some, None, refl}
 use Rattle.std.proofs.Common.{sym, ap, ◌∙◌, subst, inl, inr, arith}
 use Rattle.std.specs.Option.{option_map, IsSomeAnd}

@@ -85,7 +85,7 @@ module _ (problem : ProblemModel) (bounds : Bounds) (keeps : KeepsPage problem b
         let other = left-position x meets right within in
         omega (arith, ints, places, one, other)
 
-    -- the greatest difference of two places is the greatest room of the span between, and a gap
+    -- the tightest bound on two places is the greatest room of the span between, and a gap
     pub greatest-room : (most : ℤ) → IsGreatest bounds left right most →
         (w : ℕ) × ((most ≡ pos (w + gap_of problem.style)) × IsGreatestRoom problem (IsLeft problem bounds) left right w)
     greatest-room most is =
@@ -106,7 +106,7 @@ module _ (problem : ProblemModel) (bounds : Bounds) (keeps : KeepsPage problem b
           ),
         )
 
-    -- the greatest difference the other way round is that of the least room
+    -- the tightest bound the other way round is that of the least room
     pub least-room : (most : ℤ) → IsGreatest bounds right left most →
         (w : ℕ) × ((most ≡ neg_ℤ (pos (w + gap_of problem.style))) × IsLeastRoom problem (IsLeft problem bounds) left right w)
     least-room most is =

@@ -9,7 +9,7 @@ use Rattle.tl_problem.specs.declared.cell.Cell.{Cell}
 use Rattle.tl_problem.specs.Problem.{ProblemModel}
 use Rattle.tl_problem.specs.Layouts.{WithinPage}
 
--- the greatest height of falling steps, that of the first
+-- the greatest height of a decreasing step function, that of its first step
 abbrev pub greatest_height : List Config → ℕ
 greatest_height [] = 0
 greatest_height (step ∷ steps) = step.height

@@ -40,7 +40,7 @@ pub enum Report {
     Rejected(Rejection),
     /// A table was laid out, and its certificate checked.
     Summary(Summary),
-    /// The words of the command line are no command.
+    /// The arguments are invalid: docs/MODEL.md, "The command".
     Usage,
     /// The file could not be read.
     ReadFault,

@@ -29,7 +29,7 @@ module _ {A C : Type 0} {IsFirst : A → Type 0} {first_pieces : A → List Piec
   spelled_alone : (a : A) (v : C) → IsFirst a → IsSecond a v → spell (pieces v) ≡ spell (first_pieces a) ++ spell (second_pieces a v)
   spelled_alone a v one two = ap spell (joined.text a v one two) ∙ spell-append (first_pieces a) (second_pieces a v)
 
-  -- a value whose text goes on as this front does has this first part
+  -- a value whose text goes on as this prefix does has this first part
   abbrev SecondGoesOn : A → C → List ℕ → List ℕ → Type 0
   SecondGoesOn a v t u = IsSecond a v × (spell (second_pieces a v) ++ t ≡ u)
 

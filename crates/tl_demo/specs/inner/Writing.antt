@@ -1,4 +1,4 @@
--- Text appended while it is drawn. No public clause cites it.
+-- No public clause cites this file. Text appended while it is drawn.
 use Rattle.std.specs.Prelude.{◌≡◌, ℕ, ◌&&◌, ◌==◌, nat_le, List, ◌++◌, codes, if◌then◌else◌}
 use Rattle.std.specs.List.{flat_map}
 use Rattle.tl_demo.specs.Demo.{Cell, Drawn, cell_text, word_text}

@@ -16,7 +16,7 @@ pub record IsLeastForBlock (style : Style) (block : OpenContent) (w : ℕ) : Typ
   pub fits : (v : ℕ) → w ≤ v → (depth : ℕ) × (share : Share) × FitsShare (FitsWithin depth style) v block share
   pub least : (depth v : ℕ) (share : Share) → FitsShare (FitsWithin depth style) v block share → w ≤ v
 
--- the same of blocks one under the other, where `w` is at least a floor
+-- from `w` columns on the blocks fit one under the other by some shares, and in no fewer that are at least `floor`
 pub record IsLeastForBlocks (style : Style) (floor : ℕ) (blocks : List Content) (w : ℕ) : Type 0 where
   pub floored : floor ≤ w
   pub fits : (v : ℕ) → w ≤ v → (depth : ℕ) × (shares : List Share) ×

@@ -23,7 +23,7 @@ place_by columns rows block = record {
   bottom = count_below rows block.bottom;
 }
 
--- the same, where they are listed
+-- the place of a block, where the kept columns and rows are listed
 abbrev pub place_in : List ℕ → List ℕ → Block → Place
 place_in columns rows block = place_by (is_among columns) (is_among rows) block
 

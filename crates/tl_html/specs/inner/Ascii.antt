@@ -1,4 +1,4 @@
--- Texts of ASCII characters alone. No public clause cites it.
+-- No public clause cites this file. Texts of ASCII characters alone.
 use Rattle.std.specs.Prelude.{ℕ, Bool, true, ◌&&◌, nat_lt, List, [], ◌∷◌}
 
 -- each byte is an ASCII character

@@ -1,4 +1,4 @@
--- Flows written one after the other, with the layouts of nested tables that they take. No public clause cites it.
+-- No public clause cites this file. Flows written one after the other, with the layouts of nested tables that they take.
 use Rattle.std.specs.Prelude.{◌≡◌, ℕ, ◌≤◌, List, ◌++◌, drop, length}
 use Rattle.tl_form.specs.declared.layout.Layout.{Layout}
 use Rattle.tl_html.specs.declared.filled.Filled.{Filled}

@@ -31,7 +31,7 @@ abbrev pub HasNoWalk : Style → Table → List Chain → ℕ → ℕ → Type 0
 HasNoWalk style table chains at most = (own rest : List Chain) (weight : ℕ) → drop at chains ≡ own ++ rest →
     IsChain table style own weight → weight ≤ most → ⊥
 
--- the same of one of these tables, with this number
+-- a walk of one of these tables, the one with this number
 abbrev pub IsWalkIn : Style → List Table → ℕ → List Chain → ℕ → ℕ → Walked → Type 0
 IsWalkIn style tables number chains at most walked = (nested : Table) × Contains tables nested × ((out-Table nested).number ≡ number)
     × IsWalk style nested chains at most walked

@@ -8,11 +8,11 @@ pub data Answer (A : Type 0) : Type 0 where
   wrong : ℕ → Answer A
   outside : ℕ → Answer A
 
--- what is read from the front of a text
+-- what is read from the start of a text
 abbrev pub Reading : Type 0 → Type 0
 Reading A = List ℕ → Answer A
 
--- going on behind what was read
+-- going on after what was read
 abbrev pub then_read : {A B : Type 0} → Answer A → (A → Reading B) → Answer B
 then_read (got value rest) next = next value rest
 then_read (wrong left) next = wrong left

@@ -1,4 +1,4 @@
--- A returned bound that is a number is a greatest difference, so that not every number is passed.
+-- A returned bound that is a number is the tightest, so that not every number is passed.
 use Rattle.std.proofs.Common.{⊎_elim, arith, rules}
 use Rattle.std.proofs.lemmas.Bool.{cases_eq}
 use Rattle.tl_diff.specs.Bounds.{HasNoGreatest}
