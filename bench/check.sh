@@ -67,6 +67,7 @@ awk '!changed && /^z[0-9]+ (chain|area)$/ { print $1, "cycle"; changed = 1; next
 difference 3 3 "$lay --solver plain --budget 50000" "$lay --solver plain --budget 0"
 search=$milliseconds
 check="$program check 120 $files/demo.html"
+[ "$($check "$files/changed" --budget 50000 || true)" = "rejected: line 0 of section 0" ] || failed=1
 difference 3 10 "$check $files/cert --budget 50000" "$check $files/changed --budget 50000"
 printf 'a log of %d lines: search %d ms, check of the log %d ms\n' \
     "$(awk '/(chain|cycle|fired|area)$/ && !/^chain/' "$files/cert" | wc -l)" "$search" "$milliseconds"
