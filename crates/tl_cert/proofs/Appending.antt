@@ -28,7 +28,7 @@ written_more f xs i x old out new there is so_far more =
     more ∙ ap (λ (t : List ℕ). t ++ spell (f x)) so_far ∙ append_assoc old (spell (flat_map f (take i xs))) (spell (f x))
     ∙ ap (λ (t : List ℕ). old ++ t) (sym (ap spell whole ∙ spell-append (flat_map f (take i xs)) (f x)))
 
--- the same, for an item that is read at any default
+-- one item more is written after those before it, where it is read at any default
 pub written_at : {X : Type 0} (f : X → List Piece) (xs : List X) (i : ℕ) (d : X) (old out new : List ℕ) → i < length xs
     → out ≡ old ++ spell (flat_map f (take i xs))
     → new ≡ out ++ spell (f (get_or xs i d)) → new ≡ old ++ spell (flat_map f (take (i + 1) xs))

@@ -70,7 +70,7 @@ module _ {S A V E : Type 0} (list : ListReading S A V E) where
       let whole : Whole front (suc k) s text total = let P : ℕ → Type 0 = λ j. Whole front j s text total in subst P room-is all in
       sym (pushed front (list.view a) (list_at list k (list.next s a) rest)) ∙ ap (prepend front) (sym (item_so k s text come ∙ ap (items k s) is)) ∙ whole
 
-  -- the same, in the words of a loop: the list with the item, and the next state
+  -- one item more keeps a whole reading whole, as a loop has it: the list with the item, and the next state
   pub pushed_on : (front new : List V) (room k : ℕ) (s t : S) (text : List ℕ) (a : A) (v : V) (rest : List ℕ) (total : Answer (Listing V E))
       → new ≡ front ++ v ∷ [] → list.view a ≡ v
       → list.next s a ≡ t → room ≡ suc k → comes (list.turn k s) text ≡ true → list.item k s text ≡ got a rest → Whole front room s text total

@@ -86,7 +86,7 @@ HaveArcsSoFar-push gap demands n arcs demand here heavy before = record {
   one : NumberedArc
   one = record { number = n; arc = arc_of gap demand }
 
--- the same, as a loop meets the next demand
+-- the arcs so far stay as they are where a loop meets a demand of no weight
 pub HaveArcsSoFar-skipped : (gap : ℕ) (demands : List Demand) (n : ℕ) (arcs : List NumberedArc) (d : Demand) (arc : Arc) →
     arc ≡ arc_of gap (get_or demands n d) →
     n < length demands → arc.weight ≤ 0 → HaveArcsSoFar gap demands n arcs → HaveArcsSoFar gap demands (n + 1) arcs

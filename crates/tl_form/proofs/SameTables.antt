@@ -86,7 +86,7 @@ zip_sum R f g each (x ∷ xs) [] all = absurd all
 zip_sum R f g each (x ∷ xs) (y ∷ ys) all =
     omega (arith, sum_by-cons f x xs, sum_by-cons g y ys, each x y all.0, zip_sum R f g each xs ys all.1)
 
--- ---- the same, in a weaker sense and turned round
+-- ---- what is the same in one sense is so in a weaker one, and the other way round
 
 module _ (some more : Table → Table → Type 0) (weaker : (a b : Table) → some a b → more a b) where
   content_weaker : (a b : OpenContent) → AreSameContent some a b → AreSameContent more a b

@@ -148,7 +148,7 @@ or_again true b c e = refl
 or_again false true c e = absurd (both_ways true (sym e) refl)
 or_again false false c e = refl
 
--- the same, after a first number
+-- a number is among those without repeats exactly where it was among all, after a first number
 among_from : (x k : ℕ) (ks : List ℕ) → is_among (dedup_from eqb k ks) x ≡ (eqb k x || is_among ks x)
 among_from x k [] = is_among-cons k [] x
 among_from x k (j ∷ ks) =

@@ -222,7 +222,7 @@ marks_inside n table_start ms start same h = absurd (false≢true (sym start))
 marks_inside n table_end ms start same h = absurd (let e : 0 ≡ 1 = same 1 in omega arith)
 marks_inside n _ ms start same h = h
 
--- the same of a whole step
+-- a whole step keeps columns few and its marks small, and its marks sound where it does not fail
 pub record FineStep (s : State) (k : Kind) : Type 0 where
   pub few : state_columns (next s k) ≤ state_columns s + MAX_COLSPAN
   pub small : sum_by mark_size (told s k) ≤ kind_size k
