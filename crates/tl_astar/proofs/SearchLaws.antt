@@ -149,12 +149,12 @@ search-popped problem search opens is bounds = record {
 
 module _ (problem : ProblemModel) (old new : Search) (opens : new.opens ≡ old.opens) (trace : new.arena.trace ≡ old.arena.trace) where
   -- a lower placement leaves the zones that may be cut
-  pub left-kept : (front : List ℕ → List ℕ) → new.arena.best.height ≤ old.arena.best.height → AreLeft problem old (front (open_zones old)) →
-      AreLeft problem new (front (open_zones new))
-  left-kept front less left =
-      let lower = frontier-lower problem old.arena.trace old.arena.best.height new.arena.best.height (front (open_zones old)) less left in
-      subst (λ (o : OpenZones). IsFrontier problem new.arena.trace new.arena.best.height (front (map zone_in (heap_items o.heap)))) (sym opens)
-      (subst (λ t. IsFrontier problem t new.arena.best.height (front (open_zones old))) (sym trace) lower)
+  pub left-kept : (extended : List ℕ → List ℕ) → new.arena.best.height ≤ old.arena.best.height → AreLeft problem old (extended (open_zones old)) →
+      AreLeft problem new (extended (open_zones new))
+  left-kept extended less left =
+      let lower = frontier-lower problem old.arena.trace old.arena.best.height new.arena.best.height (extended (open_zones old)) less left in
+      subst (λ (o : OpenZones). IsFrontier problem new.arena.trace new.arena.best.height (extended (map zone_in (heap_items o.heap)))) (sym opens)
+      (subst (λ t. IsFrontier problem t new.arena.best.height (extended (open_zones old))) (sym trace) lower)
 
   -- and the bounds among which one is least
   pub least-kept : (z : ℕ) → ((bound : ℕ) → IsBoundOf problem old.arena.trace z bound → IsUnderBounds problem old.arena.trace bound (open_zones old)) →

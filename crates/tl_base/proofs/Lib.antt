@@ -1,6 +1,6 @@
 mod Examples
 pub mod Decimals
-pub mod Falling
+pub mod Decreasing
 pub mod Members
 pub mod MemoryDesks
 pub mod Stacking

@@ -11,8 +11,8 @@ use Rattle.std.proofs.lemmas.List.Quantifiers.{all_pairs_push}
 use Rattle.tl_base.specs.declared.steps.Config.{Config}
 use Rattle.tl_base.specs.Steps.{AreSteps, first_width, first_height, height_at, both_heights, stacked_height}
 use Rattle.tl_base.specs.inner.Stacking.{IsPastNarrow, IsNextWidth}
-use Rattle.tl_base.proofs.Falling.{no_step, Falls, falls, le_test, first_height-is, height_at-below, height_at-last, height_at-step, test_le}
-use Rattle.tl_base.proofs.Falling.{test_le_false, test_le_below}
+use Rattle.tl_base.proofs.Decreasing.{no_step, Falls, falls, le_test, first_height-is, height_at-below, height_at-last, height_at-step, test_le}
+use Rattle.tl_base.proofs.Decreasing.{test_le_false, test_le_below}
 
 -- ---- one step function
 
@@ -25,7 +25,7 @@ module _ (steps : List Config) (are : AreSteps steps) (w n : ℕ) (some : 0 < n)
   ) where
     wide : (k : ℕ) (d : Config) → n ≤ k → k < length steps → (n < k) ⊎ (k ≤ n) → nat_le (get_or steps k d).width v ≡ false
     wide k d low high (inl later) =
-        let fall = are.falling n k d later high in
+        let fall = are.decreasing n k d later high in
         test_le_false (omega (arith, fall.0, below (omega arith), ap (λ a. a.width) (get_or_default steps n d no_step (omega arith))))
     wide k d low high (inr here) =
         let same : k ≡ n = omega arith in
@@ -113,7 +113,7 @@ pub record AreStepsBelow (least : ℕ) (height : ℕ → Option ℕ) (steps : Li
   pub from : least ≤ width
   pub begins : (length steps ≡ 0) → width ≡ least
   pub first : 0 < length steps → first_width steps ≡ least
-  pub falling : AllPairs Falls steps
+  pub decreasing : AllPairs Falls steps
   pub before : (k : ℕ) (d : Config) → k < length steps → ((get_or steps k d).width < width) × IsSomeAnd (height width) (λ here. here <
       (get_or steps k d).height)
   pub heights : (v : ℕ) → v < width → height_at steps v ≡ height v
@@ -125,7 +125,7 @@ none_found least height steps is none = subst (λ list. AreStepsBelow least heig
   from = omega arith;
   begins = λ _. refl;
   first = λ some. absurd (omega arith);
-  falling = λ i j d low high. absurd (omega arith);
+  decreasing = λ i j d low high. absurd (omega arith);
   before = λ k d within. absurd (omega arith);
   heights = λ v below. sym (none v below);
 })
@@ -138,7 +138,7 @@ module _ (least : ℕ) (height : ℕ → Option ℕ) (steps : List Config) (widt
 
   -- it is wider and lower than those before
   falls_to : AllPairs Falls (steps ++ step ∷ [])
-  falls_to = all_pairs_push Falls steps step found.falling (λ k d within. falls_here k d (found.before k d within)) where
+  falls_to = all_pairs_push Falls steps step found.decreasing (λ k d within. falls_here k d (found.before k d within)) where
     falls_here : (k : ℕ) (d : Config) → ((get_or steps k d).width < width) × IsSomeAnd (height width) (λ low. low < (get_or steps k
         d).height) → Falls (get_or steps k d) step
     falls_here k d before = (before.0, rw here at before.1)
@@ -161,7 +161,7 @@ module _ (least : ℕ) (height : ℕ → Option ℕ) (steps : List Config) (widt
     from = omega (arith, found.from, changes.above);
     begins = λ none. absurd (omega (arith, length_push steps step));
     first = λ some. begins_with steps refl;
-    falling = falls_to;
+    decreasing = falls_to;
     before = λ k d within. all_before k d within (cases_lt k (length steps));
     heights = λ v below. heights_to v (λ past. changes.same v past below);
   }) where
@@ -193,7 +193,7 @@ module _ (least : ℕ) (height : ℕ → Option ℕ) (steps : List Config) (widt
 
   -- no width is next: these are all
   pub all_found : (list : List Config) → list ≡ steps ++ step ∷ [] → AreSteps list
-  all_found list is = subst (λ all. AreSteps all) (sym is) (record { has_step = omega (arith, length_push steps step); falling = falls_to })
+  all_found list is = subst (λ all. AreSteps all) (sym is) (record { has_step = omega (arith, length_push steps step); decreasing = falls_to })
 
   pub all_first : (list : List Config) → list ≡ steps ++ step ∷ [] → first_width list ≡ least
   all_first list is = ap first_width is ∙ begins_with steps refl

@@ -30,7 +30,7 @@ has_character bytes utf8 some = some_of (chars bytes) (byte_count-chars bytes ut
 pub chars-push : (bytes more : List ℕ) (c : ℕ) → IsUtf8 bytes → IsUtf8 more → more ≡ bytes ++ encode_utf8 c → chars more ≡ chars bytes ++ c ∷ []
 chars-push bytes more c utf8 valid is =
     sym (chars_from_encodes (chars bytes ++ c ∷ []) more valid (
-    encodes-append (chars bytes) (c ∷ []) ∙ ap (λ front. front ++ encode_utf8_all (c ∷ [])) (encodes-chars bytes utf8)
+    encodes-append (chars bytes) (c ∷ []) ∙ ap (λ prefix. prefix ++ encode_utf8_all (c ∷ [])) (encodes-chars bytes utf8)
     ∙ ap (λ last. bytes ++ last) (append-nil (encode_utf8 c)) ∙ sym is))
 
 -- two tests that hold together are the same

@@ -8,7 +8,7 @@ use Rattle.tl_base.specs.declared.steps.Config.{Config}
 -- a list of steps: there is one, and of any two the later is wider and lower
 pub record AreSteps (steps : List Config) : Type 0 where
   pub has_step : 0 < length steps
-  pub falling : AllPairs (λ a b. (a.width < b.width) × (b.height < a.height)) steps
+  pub decreasing : AllPairs (λ a b. (a.width < b.width) × (b.height < a.height)) steps
 
 -- the width of the first step, the least at which there is a height
 abbrev pub first_width : List Config → ℕ

@@ -4,7 +4,7 @@ pub mod CountLaws
 pub mod FireLaws
 pub mod LogLaws
 pub mod Loops
-pub mod ReadAnswers
+pub mod ReadResults
 pub mod TextExamples
 pub mod TraceLaws
 pub mod WorkedLaws

@@ -84,8 +84,8 @@ module _ (whole : List Range) (trace : List CutAt) (cut : CutAt) where
 
 module _ (whole : List Range) (P : List CutAt → Type 0) (none : P []) (more : (trace : List CutAt) (cut : CutAt) → IsTrace whole trace →
     IsCut whole trace cut → P trace → P (trace ++ cut ∷ [])) where
-  trace-front : (trace : List CutAt) → IsTrace whole trace → (n : ℕ) → IsTrace whole (take n trace)
-  trace-front trace is n = λ i d within.
+  trace-prefix : (trace : List CutAt) → IsTrace whole trace → (n : ℕ) → IsTrace whole (take n trace)
+  trace-prefix trace is n = λ i d within.
       let short = length-take n trace in
       let same = get_or-take n trace i d (omega (arith, within, short)) in
       let twice = take-take i n trace (omega (arith, within, short)) in
@@ -98,7 +98,7 @@ module _ (whole : List Range) (P : List CutAt → Type 0) (none : P []) (more : 
   upto [] is (suc n) within = absurd (omega arith)
   upto (first ∷ trace) is (suc n) within =
       subst P (sym (take-suc (first ∷ trace) n first (omega arith)))
-      (more (take n (first ∷ trace)) (get_or (first ∷ trace) n first) (trace-front (first ∷ trace) is n) (is n first (omega arith))
+      (more (take n (first ∷ trace)) (get_or (first ∷ trace) n first) (trace-prefix (first ∷ trace) is n) (is n first (omega arith))
       (upto (first ∷ trace) is n (omega arith)))
 
   pub trace-by : (trace : List CutAt) → IsTrace whole trace → P trace

@@ -6,7 +6,7 @@ ghost use Rattle.tl_cert.specs.declared.certificate.Certificate.{Certificate};
 ghost use Rattle.tl_cert.specs.declared.error.CertError.{CertError};
 ghost use Rattle.tl_cert.specs.declared.error.CertError.TheVariants.{Memory};
 ghost use Rattle.tl_cert.specs.Faults.{IsTextOf, Refused};
-ghost use Rattle.tl_cert.specs.inner.Gives.{Gives, AnswersAs};
+ghost use Rattle.tl_cert.specs.inner.Gives.{Gives, ReturnsAs};
 ghost use Rattle.tl_cert.specs.inner.CertReading as read;
 
 use crate::areas::Areas;
@@ -124,10 +124,10 @@ fn whole(alloc: Global, bytes: &[u8]) -> Result<Certificate, Fault>
     }
 }
 
-/// As `whole`, with the fault at its place from the front.
+/// As `whole`, with the fault at its place from the beginning.
 fn read_short(alloc: Global, bytes: &[u8]) -> Result<Certificate, CertError>
     requires { length bytes.now ≤ MAX_CERTIFICATE_BYTES }
-    ensures { AnswersAs result (length bytes.now) (read.whole_at bytes.now) }
+    ensures { ReturnsAs result (length bytes.now) (read.whole_at bytes.now) }
 {
     match whole(alloc, bytes) {
         Ok(certificate) => Ok(certificate),
@@ -137,7 +137,7 @@ fn read_short(alloc: Global, bytes: &[u8]) -> Result<Certificate, CertError>
     }
 }
 
-/// Reads the text of a certificate. It is read once, from front to back, and no further than to its
+/// Reads the text of a certificate. It is read once, from its beginning to its end, and no further than to its
 /// first fault.
 pub fn read(alloc: Global, bytes: &[u8]) -> Result<Certificate, CertError>
     ensures ok { IfOk result (IsTextOf bytes.now) }

@@ -1,4 +1,4 @@
-//! A text from front to back, as the bytes that are still to read. Each byte is read once.
+//! A text from its beginning to its end, as the bytes that are still to read. Each byte is read once.
 
 ghost use Rattle.std.specs.Prelude.{◌≡◌, ◌<◌, ◌≤◌, ℕ, true, ◌==◌, ◌^◌, [], ◌∷◌, length, IfOk, IfSome, IfNone, alloc_error};
 ghost use Rattle.std.specs.Char.{is_ascii_digit};

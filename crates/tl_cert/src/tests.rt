@@ -1,4 +1,4 @@
-//! Texts of certificates, written by hand, and what is said of each.
+//! Texts of certificates, written by hand, and what reading each of them gives.
 
 use crate::{
     Bound, CertError, Certificate, Claim, CutAt, End, LogLine, Nogood, Section, Side, read, write,
@@ -17,8 +17,8 @@ const LEARNT: &str = concat!(
     "cut 0 0 0\ncut 1 1 0\ncut 3 2 0\n2-8 chain\n2+9 chain\nz0 @0 @1 fired\nend\n"
 );
 
-/// What is said of the text: its fault, or that it is read and written again as it is.
-fn answer(alloc: Global, text: &str) -> Result<String, AllocError> {
+/// What reading the text gives: its fault, or that it is written again as it is.
+fn outcome(alloc: Global, text: &str) -> Result<String, AllocError> {
     match read(alloc, text.as_bytes()) {
         Err(error) => format!(in alloc; "{error}"),
         Ok(certificate) => {
@@ -43,7 +43,7 @@ fn texts_are_read_and_written_again(rt: HostRuntime) -> Result<(), Fail> {
         "tablelayout 2 7 plain 0\nlowest 2\nsection 0 7 2 2 0 1\nwidths 1 1\nz0 area\nend\n",
         "tablelayout 1 1 frame 0\nlowest 0\nsection 0 1 0 0 0 1\nwidths\n0-3 0+4 cycle\nend\n",
     ] {
-        assert_eq!(rt; answer(rt.alloc(), text)?.as_str(), "read", "{text}");
+        assert_eq!(rt; outcome(rt.alloc(), text)?.as_str(), "read", "{text}");
     }
     Ok(())
 }
@@ -97,13 +97,13 @@ fn a_fault_stands_at_its_place(rt: HostRuntime) -> Result<(), Fail> {
             "syntax at 42",
         ),
     ] {
-        assert_eq!(rt; answer(rt.alloc(), text)?.as_str(), want, "{text}");
+        assert_eq!(rt; outcome(rt.alloc(), text)?.as_str(), want, "{text}");
     }
     Ok(())
 }
 
-/// The answer to the text with one section of this line, these widths and this log line.
-fn section_answer(
+/// What reading gives of the text with one section of this line, these widths and this log line.
+fn section_outcome(
     alloc: Global,
     version: &str,
     head: &str,
@@ -113,7 +113,7 @@ fn section_answer(
     let text = format!(in alloc;
         "tablelayout {version} 12 plain 6\nlowest 2\n{head}\n{widths}\n{line}\nend\n"
     )?;
-    answer(alloc, text.as_str())
+    outcome(alloc, text.as_str())
 }
 
 #[test]
@@ -139,8 +139,8 @@ fn a_fault_in_a_log_line_stands_at_its_place(rt: HostRuntime) -> Result<(), Fail
         ("12-3 02-4 cycle", "syntax at 71"),
         ("07-3 cycle", "syntax at 67"),
     ] {
-        let said = section_answer(rt.alloc(), "1", "section 0 12 2 2 0 1", "widths 3 5", line)?;
-        assert_eq!(rt; said.as_str(), want, "{line}");
+        let found = section_outcome(rt.alloc(), "1", "section 0 12 2 2 0 1", "widths 3 5", line)?;
+        assert_eq!(rt; found.as_str(), want, "{line}");
     }
     Ok(())
 }
@@ -161,8 +161,8 @@ fn a_fault_in_a_section_stands_at_its_place(rt: HostRuntime) -> Result<(), Fail>
         ("section 0 12 2 2 1 3", "widths\ncut 0 0 0", "syntax at 81"),
         ("section 0 12 2 2 1 4", "widths\ncut 0 0 0", "range at 53"),
     ] {
-        let said = section_answer(rt.alloc(), "1", head, widths, "z0 chain")?;
-        assert_eq!(rt; said.as_str(), want, "{head} {widths}");
+        let found = section_outcome(rt.alloc(), "1", head, widths, "z0 chain")?;
+        assert_eq!(rt; found.as_str(), want, "{head} {widths}");
     }
     Ok(())
 }
@@ -177,37 +177,37 @@ fn an_area_line_stands_in_version_2_alone(rt: HostRuntime) -> Result<(), Fail> {
         ("2", "z0 area", "read"),
     ] {
         let head = "section 0 12 2 2 0 1";
-        let said = section_answer(rt.alloc(), version, head, "widths 3 5", line)?;
-        assert_eq!(rt; said.as_str(), want, "{version} {line}");
+        let found = section_outcome(rt.alloc(), version, head, "widths 3 5", line)?;
+        assert_eq!(rt; found.as_str(), want, "{version} {line}");
     }
     Ok(())
 }
 
 const SECTION: &str = "section 0 12 2 2 0 1\nwidths 3 5\nz0 chain\nend\n";
 
-/// What is said of the text with a number at its limit, and of that with one past it.
-fn limit_answers(
+/// What reading gives of the text with a number at its limit, and of that with one past it.
+fn at_limit_and_past(
     alloc: Global,
-    front: &str,
+    prefix: &str,
     numbers: [u32; 2],
     rest: &str,
 ) -> Result<String, AllocError> {
     let [limit, past] = numbers;
-    let within = format!(in alloc; "{front}{limit}{rest}")?;
-    let beyond = format!(in alloc; "{front}{past}{rest}")?;
-    let said = answer(alloc, within.as_str())?;
-    let refused = answer(alloc, beyond.as_str())?;
-    format!(in alloc; "{said}, {refused}")
+    let within = format!(in alloc; "{prefix}{limit}{rest}")?;
+    let beyond = format!(in alloc; "{prefix}{past}{rest}")?;
+    let found = outcome(alloc, within.as_str())?;
+    let refused = outcome(alloc, beyond.as_str())?;
+    format!(in alloc; "{found}, {refused}")
 }
 
 /// That the first of them is read, and that the other goes out of range where the number begins.
-fn within_and_beyond(alloc: Global, front: &str) -> Result<String, AllocError> {
-    format!(in alloc; "read, range at {}", front.len())
+fn within_and_beyond(alloc: Global, prefix: &str) -> Result<String, AllocError> {
+    format!(in alloc; "read, range at {}", prefix.len())
 }
 
 #[test]
 fn numbers_of_the_head_go_up_to_their_limits(rt: HostRuntime) -> Result<(), Fail> {
-    for (front, limit, past, middle) in [
+    for (prefix, limit, past, middle) in [
         ("tablelayout 1 ", 1, 0, " plain 6\nlowest 2\n"),
         ("tablelayout 1 ", 500, 501, " plain 6\nlowest 2\n"),
         ("tablelayout 1 12 plain ", 100_000, 100_001, "\nlowest 2\n"),
@@ -231,16 +231,16 @@ fn numbers_of_the_head_go_up_to_their_limits(rt: HostRuntime) -> Result<(), Fail
         ),
     ] {
         let rest = format!(in rt.alloc(); "{middle}{SECTION}")?;
-        let said = limit_answers(rt.alloc(), front, [limit, past], rest.as_str())?;
-        let want = within_and_beyond(rt.alloc(), front)?;
-        assert_eq!(rt; said.as_str(), want.as_str());
+        let found = at_limit_and_past(rt.alloc(), prefix, [limit, past], rest.as_str())?;
+        let want = within_and_beyond(rt.alloc(), prefix)?;
+        assert_eq!(rt; found.as_str(), want.as_str());
     }
     Ok(())
 }
 
 #[test]
 fn numbers_of_chains_go_up_to_their_limits(rt: HostRuntime) -> Result<(), Fail> {
-    for (front, limit, past, rest) in [
+    for (prefix, limit, past, rest) in [
         (
             "narrow ",
             1_073_741_824,
@@ -251,10 +251,10 @@ fn numbers_of_chains_go_up_to_their_limits(rt: HostRuntime) -> Result<(), Fail> 
         ("narrow 2\nchain 0 ", 20_000, 20_001, "\nend\n"),
         ("narrow 2\nchain 0 0:", 199, 200, "\nend\n"),
     ] {
-        let front = format!(in rt.alloc(); "tablelayout 1 12 plain 6\n{front}")?;
-        let said = limit_answers(rt.alloc(), front.as_str(), [limit, past], rest)?;
-        let want = within_and_beyond(rt.alloc(), front.as_str())?;
-        assert_eq!(rt; said.as_str(), want.as_str());
+        let prefix = format!(in rt.alloc(); "tablelayout 1 12 plain 6\n{prefix}")?;
+        let found = at_limit_and_past(rt.alloc(), prefix.as_str(), [limit, past], rest)?;
+        let want = within_and_beyond(rt.alloc(), prefix.as_str())?;
+        assert_eq!(rt; found.as_str(), want.as_str());
     }
     Ok(())
 }
@@ -263,7 +263,7 @@ fn numbers_of_chains_go_up_to_their_limits(rt: HostRuntime) -> Result<(), Fail> 
 fn numbers_of_sections_go_up_to_their_limits(rt: HostRuntime) -> Result<(), Fail> {
     let cut = "section 0 12 2 2 1 1\nwidths\ncut ";
     let line = "section 0 12 2 2 0 1\nwidths\n";
-    for (head, front, limit, past, rest) in [
+    for (head, prefix, limit, past, rest) in [
         ("section ", "", 199, 200, " 12 2 2 0 1\nwidths\nz0 chain\n"),
         ("section ", "0 ", 500, 501, " 2 2 0 1\nwidths\nz0 chain\n"),
         (
@@ -295,11 +295,11 @@ fn numbers_of_sections_go_up_to_their_limits(rt: HostRuntime) -> Result<(), Fail
         (line, "", 1_829, 1_830, "-3 chain\n"),
         (line, "0+", 500, 501, " chain\n"),
     ] {
-        let front = format!(in rt.alloc(); "tablelayout 1 12 plain 6\nlowest 2\n{head}{front}")?;
+        let prefix = format!(in rt.alloc(); "tablelayout 1 12 plain 6\nlowest 2\n{head}{prefix}")?;
         let rest = format!(in rt.alloc(); "{rest}end\n")?;
-        let said = limit_answers(rt.alloc(), front.as_str(), [limit, past], rest.as_str())?;
-        let want = within_and_beyond(rt.alloc(), front.as_str())?;
-        assert_eq!(rt; said.as_str(), want.as_str());
+        let found = at_limit_and_past(rt.alloc(), prefix.as_str(), [limit, past], rest.as_str())?;
+        let want = within_and_beyond(rt.alloc(), prefix.as_str())?;
+        assert_eq!(rt; found.as_str(), want.as_str());
     }
     Ok(())
 }
@@ -311,14 +311,14 @@ fn there_are_at_most_60_widths(rt: HostRuntime) -> Result<(), Fail> {
         for _ in 0..count {
             widths.push_str(" 3")?;
         }
-        let said = section_answer(
+        let found = section_outcome(
             rt.alloc(),
             "1",
             "section 0 12 2 2 0 1",
             widths.as_str(),
             "z0 chain",
         )?;
-        assert_eq!(rt; said.as_str(), want);
+        assert_eq!(rt; found.as_str(), want);
     }
     Ok(())
 }
@@ -332,7 +332,7 @@ fn there_are_at_most_100001_sections(rt: HostRuntime) -> Result<(), Fail> {
             text.push_str("section 0 1 0 0 0 1\nwidths\nz0 cycle\n")?;
         }
         text.push_str("end\n")?;
-        assert_eq!(rt; answer(rt.alloc(), text.as_str())?.as_str(), want);
+        assert_eq!(rt; outcome(rt.alloc(), text.as_str())?.as_str(), want);
     }
     Ok(())
 }
@@ -355,7 +355,7 @@ fn there_are_at_most_100000_cuts(rt: HostRuntime) -> Result<(), Fail> {
             text.push_str("z0 cycle\n")?;
         }
         text.push_str("end\n")?;
-        assert_eq!(rt; answer(rt.alloc(), text.as_str())?.as_str(), want);
+        assert_eq!(rt; outcome(rt.alloc(), text.as_str())?.as_str(), want);
     }
     Ok(())
 }
@@ -376,7 +376,7 @@ fn there_are_at_most_1073741824_bytes(rt: HostRuntime) -> Result<(), Fail> {
 
 // A prefix of the text is no text, and it goes wrong where it ends.
 #[test]
-fn a_front_goes_wrong_where_it_ends(rt: HostRuntime) {
+fn a_prefix_goes_wrong_where_it_ends(rt: HostRuntime) {
     let bytes = LOWEST.as_bytes();
     for length in 0..bytes.len() {
         assert!(rt;

@@ -21,8 +21,8 @@ use Rattle.tl_cert.specs.Implied.{IsLeft}
 use Rattle.tl_check.specs.inner.Matrices.{IsMatrixOf, Restricts, Describes}
 
 -- what is so of all is so of the prefix, and of the last
-pub All-front : {X : Type 0} (P : X → Type 0) (xs : List X) (x : X) → All P (xs ++ x ∷ []) → All P xs
-All-front P xs x all = λ k d within. subst P (get_or_append_left xs (x ∷ []) d k within) (all k d (omega (arith, within, length-append xs (x ∷ []))))
+pub All-prefix : {X : Type 0} (P : X → Type 0) (xs : List X) (x : X) → All P (xs ++ x ∷ []) → All P xs
+All-prefix P xs x all = λ k d within. subst P (get_or_append_left xs (x ∷ []) d k within) (all k d (omega (arith, within, length-append xs (x ∷ []))))
 
 pub All-last : {X : Type 0} (P : X → Type 0) (xs : List X) (x : X) → All P (xs ++ x ∷ []) → P x
 All-last P xs x all = subst P (get_or-append-add xs (x ∷ []) 0 x) (all (length xs + 0) x (omega (arith, length-append xs (x ∷ []))))
@@ -110,7 +110,7 @@ module _ (problem : ProblemModel) (given joined : List Bound) (old new : MarkedB
         let before = h.to widths (r.before widths left) in
         record { page = before.page; meets = All-push (Meets problem widths) given bound before.meets (r.fact widths left); breaks = before.breaks };
     from = λ widths left. r.all widths
-        (h.from widths (record { page = left.page; meets = All-front (Meets problem widths) given bound left.meets; breaks = left.breaks }))
+        (h.from widths (record { page = left.page; meets = All-prefix (Meets problem widths) given bound left.meets; breaks = left.breaks }))
         (All-last (Meets problem widths) given bound left.meets);
   }
 
@@ -122,6 +122,6 @@ module _ (problem : ProblemModel) (given joined : List Bound) (old new : MarkedB
         let before = h.to widths (r.before widths left) in
         record { page = before.page; meets = before.meets; breaks = All-push (Breaks problem widths) joined bound before.breaks (r.fact widths left) };
     from = λ widths left. r.all widths
-        (h.from widths (record { page = left.page; meets = left.meets; breaks = All-front (Breaks problem widths) joined bound left.breaks }))
+        (h.from widths (record { page = left.page; meets = left.meets; breaks = All-prefix (Breaks problem widths) joined bound left.breaks }))
         (All-last (Breaks problem widths) joined bound left.breaks);
   }

@@ -4,6 +4,7 @@ use Rattle.std.proofs.lemmas.Int.{ints}
 use Rattle.std.proofs.lemmas.Bool.{cases_lt}
 use Rattle.tl_base.specs.Style.{gap_of}
 use Rattle.std.specs.Prelude.{Option, Some, None, MatchOption, IsSomeAnd}
+use Rattle.tl_base.specs.declared.limits.TheConstants.{MAX_PAGE_WIDTH}
 use Rattle.tl_diff.specs.Bounds.{Bounds, Implied, IsGreatest, HasNoGreatest}
 use Rattle.tl_diff.proofs.BoundLaws.{Implied-from, Implied-le, Implied-none}
 use Rattle.tl_problem.specs.Problem.{ProblemModel}
@@ -24,38 +25,38 @@ near-decided bounds a b most None is = (λ never. absurd never, λ implied. absu
 near-decided bounds a b most (Some m) is = (λ less. Implied-from bounds a b m most is less, λ implied. Implied-le bounds a b m most is implied)
 
 -- a width that is cut off past the page bounds the same rooms as the whole one
-module _ (room gap w cut : ℕ) (few : room ≤ 500) (same : w ≤ 500 → cut ≡ w) (past : 500 < w → cut ≡ 501) (m : ℤ) where
+module _ (room gap w cut : ℕ) (few : room ≤ MAX_PAGE_WIDTH) (same : w ≤ MAX_PAGE_WIDTH → cut ≡ w) (past : MAX_PAGE_WIDTH < w → cut ≡ MAX_PAGE_WIDTH + 1) (m : ℤ) where
   pub near-to : m ≡ pos (cut + gap) → pos (room + gap) ≤ℤ m → room ≤ w
-  near-to is h = elim (cases_lt 500 w) [ inl above ↦ omega (arith, few, above) | inr within ↦ omega (arith, ints, is, h, same within) ]
+  near-to is h = elim (cases_lt MAX_PAGE_WIDTH w) [ inl above ↦ omega (arith, few, above) | inr within ↦ omega (arith, ints, is, h, same within) ]
 
   pub near-from : m ≡ pos (cut + gap) → room ≤ w → pos (room + gap) ≤ℤ m
-  near-from is h = elim (cases_lt 500 w) [ inl above ↦ omega (arith, ints, is, few, past above) | inr within ↦ omega (arith, ints, is, h, same within) ]
+  near-from is h = elim (cases_lt MAX_PAGE_WIDTH w) [ inl above ↦ omega (arith, ints, is, few, past above) | inr within ↦ omega (arith, ints, is, h, same within) ]
 
   pub apart-to : m ≡ pos (cut + gap) → m ≤ℤ pos (room + gap) → w ≤ room
-  apart-to is h = elim (cases_lt 500 w) [
+  apart-to is h = elim (cases_lt MAX_PAGE_WIDTH w) [
     | inl above ↦ absurd (omega (arith, ints, is, h, few, past above))
     | inr within ↦ omega
         (arith, ints, is, h, same within)
   ]
 
   pub apart-from : m ≡ pos (cut + gap) → w ≤ room → m ≤ℤ pos (room + gap)
-  apart-from is h = elim (cases_lt 500 w) [ inl above ↦ absurd (omega (arith, few, above, h)) | inr within ↦ omega (arith, ints, is, h, same within) ]
+  apart-from is h = elim (cases_lt MAX_PAGE_WIDTH w) [ inl above ↦ absurd (omega (arith, few, above, h)) | inr within ↦ omega (arith, ints, is, h, same within) ]
 
   pub past-to : m ≡ pos (cut + gap + 1) → m ≤ℤ pos (room + gap) → w + 1 ≤ room
-  past-to is h = elim (cases_lt 500 w) [
+  past-to is h = elim (cases_lt MAX_PAGE_WIDTH w) [
     | inl above ↦ absurd (omega (arith, ints, is, h, few, past above))
     | inr within ↦ omega
         (arith, ints, is, h, same within)
   ]
 
   pub past-from : m ≡ pos (cut + gap + 1) → w + 1 ≤ room → m ≤ℤ pos (room + gap)
-  past-from is h = elim (cases_lt 500 w) [ inl above ↦ absurd (omega (arith, few, above, h)) | inr within ↦ omega (arith, ints, is, h, same within) ]
+  past-from is h = elim (cases_lt MAX_PAGE_WIDTH w) [ inl above ↦ absurd (omega (arith, few, above, h)) | inr within ↦ omega (arith, ints, is, h, same within) ]
 
   pub below-to : m ≡ pos (cut + gap) -ℤ pos 1 → pos (room + gap) ≤ℤ m → room + 1 ≤ w
-  below-to is h = elim (cases_lt 500 w) [ inl above ↦ omega (arith, few, above) | inr within ↦ omega (arith, ints, is, h, same within) ]
+  below-to is h = elim (cases_lt MAX_PAGE_WIDTH w) [ inl above ↦ omega (arith, few, above) | inr within ↦ omega (arith, ints, is, h, same within) ]
 
   pub below-from : m ≡ pos (cut + gap) -ℤ pos 1 → room + 1 ≤ w → pos (room + gap) ≤ℤ m
-  below-from is h = elim (cases_lt 500 w) [ inl above ↦ omega (arith, ints, is, few, past above) | inr within ↦ omega (arith, ints, is, h, same within) ]
+  below-from is h = elim (cases_lt MAX_PAGE_WIDTH w) [ inl above ↦ omega (arith, ints, is, few, past above) | inr within ↦ omega (arith, ints, is, h, same within) ]
 
 module _ (problem : ProblemModel) (bounds : Bounds) (keeps : IsMatrixOf problem bounds) (s : ℕ) (inside : s < length (spans_of problem)) where
   abbrev left_of : ℕ
@@ -65,7 +66,7 @@ module _ (problem : ProblemModel) (bounds : Bounds) (keeps : IsMatrixOf problem 
   right_of = (span_at problem s).right
 
   -- no room is greater than the page
-  pub room-few : (widths : List ℕ) → IsLeft problem bounds widths → span_width problem widths s ≤ 500
+  pub room-few : (widths : List ℕ) → IsLeft problem bounds widths → span_width problem widths s ≤ MAX_PAGE_WIDTH
   room-few widths left =
       let span = span-within problem keeps.sound s inside in
       room-small problem keeps.sound widths (keeps.page.page widths left) left_of right_of span.0 span.1

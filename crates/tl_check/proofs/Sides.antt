@@ -1,5 +1,6 @@
 -- What a bound says, by its side.
 use Rattle.std.proofs.Common.{◌≡◌, ℕ, ◌+◌, ◌<◌, ◌≤◌, ℤ, pos, neg_ℤ, ◌-ℤ◌, ◌≤ℤ◌, Bool, IsTrue, ◌↔◌, List, length, sym, subst}
+use Rattle.tl_base.specs.declared.limits.TheConstants.{MAX_PAGE_WIDTH}
 use Rattle.tl_base.specs.Style.{gap_of}
 use Rattle.tl_diff.specs.Bounds.{Bounds}
 use Rattle.tl_diff.specs.Bounds as follows
@@ -18,8 +19,8 @@ use Rattle.tl_check.proofs.Rooms.{near-to, near-from, apart-to, apart-from, past
 use Rattle.tl_check.proofs.Rooms.{room-few, most-implied, implied-most, least-implied, implied-least}
 use Rattle.tl_check.proofs.Leaving.{Restricts-same}
 
-module _ (problem : ProblemModel) (bound : Bound) (inside : bound.span < length (spans_of problem)) (cut : ℕ) (same : bound.width ≤ 500 → cut ≡ bound.width)
-    (past : 500 < bound.width → cut ≡ 501) where
+module _ (problem : ProblemModel) (bound : Bound) (inside : bound.span < length (spans_of problem)) (cut : ℕ) (same : bound.width ≤ MAX_PAGE_WIDTH → cut ≡ bound.width)
+    (past : MAX_PAGE_WIDTH < bound.width → cut ≡ MAX_PAGE_WIDTH + 1) where
   abbrev gap : ℕ
   gap = gap_of problem.style
 
@@ -39,7 +40,7 @@ module _ (problem : ProblemModel) (bound : Bound) (inside : bound.span < length 
   side_past side is widths on = subst (λ t. IsPast t bound.width (room_of widths)) is on
 
   module _ (bounds : Bounds) (keeps : IsMatrixOf problem bounds) where
-    few : (widths : List ℕ) → IsLeft problem bounds widths → room_of widths ≤ 500
+    few : (widths : List ℕ) → IsLeft problem bounds widths → room_of widths ≤ MAX_PAGE_WIDTH
     few widths left = room-few problem bounds keeps bound.span inside widths left
 
     pub decided-most : bound.side ≡ Most → (m : ℤ) → m ≡ pos (cut + gap) → (r : Bool) →
@@ -63,7 +64,7 @@ module _ (problem : ProblemModel) (bound : Bound) (inside : bound.span < length 
     )
 
   module _ (old new : MarkedBounds) (keeps : IsMatrixOf problem old.bounds) (m : ℤ) where
-    few_left : (widths : List ℕ) → IsLeft problem old.bounds widths → room_of widths ≤ 500
+    few_left : (widths : List ℕ) → IsLeft problem old.bounds widths → room_of widths ≤ MAX_PAGE_WIDTH
     few_left widths left = room-few problem old.bounds keeps bound.span inside widths left
 
     abbrev AtMost : List ℕ → Type 0

@@ -15,7 +15,7 @@ use Rattle.tl_cert.proofs.TraceLaws.{zone-old, zone-lower, zone-upper, trace-by,
 use Rattle.tl_check.specs.inner.Zones.{IsWithinClasses}
 
 -- cut `i` of the trace: the zone that it cuts comes before, and its two parts are zones `2i + 1` and `2i + 2`
-pub record IsParted (whole : List Range) (trace : List CutAt) (i : ℕ) (cut : CutAt) : Type 0 where
+pub record HasParts (whole : List Range) (trace : List CutAt) (i : ℕ) (cut : CutAt) : Type 0 where
   pub before : cut.zone < 2 * i + 1
   pub span : cut.span < length whole
   pub lower : (range_at (zone_at whole trace cut.zone) cut.span).first ≤ cut.class
@@ -23,13 +23,13 @@ pub record IsParted (whole : List Range) (trace : List CutAt) (i : ℕ) (cut : C
   pub low_is : zone_at whole trace (2 * i + 1) ≡ lower_part (zone_at whole trace cut.zone) cut.span cut.class
   pub high_is : zone_at whole trace (2 * i + 2) ≡ upper_part (zone_at whole trace cut.zone) cut.span cut.class
 
-abbrev AllParted : List Range → List CutAt → Type 0
-AllParted whole trace = (i : ℕ) (d : CutAt) → i < length trace → IsParted whole trace i (get_or trace i d)
+abbrev AllHaveParts : List Range → List CutAt → Type 0
+AllHaveParts whole trace = (i : ℕ) (d : CutAt) → i < length trace → HasParts whole trace i (get_or trace i d)
 
 module _ (whole : List Range) (trace : List CutAt) (cut : CutAt) where
   -- what is so of a cut stays so
-  parted-stays : (i : ℕ) (c : CutAt) → i < length trace → IsParted whole trace i c → IsParted whole (trace ++ cut ∷ []) i c
-  parted-stays i c within h =
+  parts-stay : (i : ℕ) (c : CutAt) → i < length trace → HasParts whole trace i c → HasParts whole (trace ++ cut ∷ []) i c
+  parts-stay i c within h =
       let from = zone-old whole trace cut c.zone (omega (arith, h.before, within)) in
       let low = zone-old whole trace cut (2 * i + 1) (omega (arith, within)) in
       let high = zone-old whole trace cut (2 * i + 2) (omega (arith, within)) in
@@ -42,8 +42,8 @@ module _ (whole : List Range) (trace : List CutAt) (cut : CutAt) where
         high_is = rw (from, high) h.high_is;
       }
 
-  parted-last : IsCut whole trace cut → IsParted whole (trace ++ cut ∷ []) (length trace) cut
-  parted-last now =
+  parts-last : IsCut whole trace cut → HasParts whole (trace ++ cut ∷ []) (length trace) cut
+  parts-last now =
       let from = zone-old whole trace cut cut.zone now.stands.there in
       record {
         before = now.stands.there;
@@ -54,20 +54,20 @@ module _ (whole : List Range) (trace : List CutAt) (cut : CutAt) where
         high_is = rw from (zone-upper whole trace cut);
       }
 
-pub parted : (whole : List Range) (trace : List CutAt) → IsTrace whole trace → (i : ℕ) (d : CutAt) → i < length trace
-    → IsParted whole trace i (get_or trace i d)
-parted whole trace is = trace-by whole (AllParted whole) (λ i d within. absurd (omega arith)) more trace is where
-  more : (cuts : List CutAt) (cut : CutAt) → IsTrace whole cuts → IsCut whole cuts cut → AllParted whole cuts → AllParted whole (cuts ++ cut ∷ [])
+pub has-parts : (whole : List Range) (trace : List CutAt) → IsTrace whole trace → (i : ℕ) (d : CutAt) → i < length trace
+    → HasParts whole trace i (get_or trace i d)
+has-parts whole trace is = trace-by whole (AllHaveParts whole) (λ i d within. absurd (omega arith)) more trace is where
+  more : (cuts : List CutAt) (cut : CutAt) → IsTrace whole cuts → IsCut whole cuts cut → AllHaveParts whole cuts → AllHaveParts whole (cuts ++ cut ∷ [])
   more cuts cut before now all i d within =
       elim (cases_lt i (length cuts)) [
-        | inl old ↦ subst (IsParted whole (cuts ++ cut ∷ []) i) (sym (get_or_append_left cuts (cut ∷ []) d i old))
-            (parted-stays whole cuts cut i (get_or cuts i d) old (all i d old))
+        | inl old ↦ subst (HasParts whole (cuts ++ cut ∷ []) i) (sym (get_or_append_left cuts (cut ∷ []) d i old))
+            (parts-stay whole cuts cut i (get_or cuts i d) old (all i d old))
         | inr last ↦
             let here : i ≡ length cuts = omega (arith, last, within, length-append cuts (cut ∷ [])) in
             let number : i ≡ length cuts + 0 = omega (arith, here) in
             let at : get_or (cuts ++ cut ∷ []) i d ≡ cut = ap (λ n. get_or (cuts ++ cut ∷ []) n d) number ∙ get_or-append-add cuts (cut ∷ []) 0 d in
-            subst (λ n. IsParted whole (cuts ++ cut ∷ []) n (get_or (cuts ++ cut ∷ []) i d)) (sym here)
-            (subst (IsParted whole (cuts ++ cut ∷ []) (length cuts)) (sym at) (parted-last whole cuts cut now))
+            subst (λ n. HasParts whole (cuts ++ cut ∷ []) n (get_or (cuts ++ cut ∷ []) i d)) (sym here)
+            (subst (HasParts whole (cuts ++ cut ∷ []) (length cuts)) (sym at) (parts-last whole cuts cut now))
       ]
 
 -- ---- the number of the cut by which a zone came to be
@@ -91,8 +91,8 @@ cut_to trace zone d = get_or trace ((zone - 1) / 2) d
 
 module _ (problem : ProblemModel) (trace : List CutAt) (is_trace : IsTraceOf problem trace) (zone : ℕ) (some : 0 < zone) (there : IsZoneOf trace zone)
     (d : CutAt) where
-  pub cut-known : IsParted (whole_zone problem) trace ((zone - 1) / 2) (cut_to trace zone d)
-  cut-known = parted (whole_zone problem) trace is_trace ((zone - 1) / 2) d (cut-there zone (length trace) some there)
+  pub cut-known : HasParts (whole_zone problem) trace ((zone - 1) / 2) (cut_to trace zone d)
+  cut-known = has-parts (whole_zone problem) trace is_trace ((zone - 1) / 2) d (cut-there zone (length trace) some there)
 
   pub parent-there : IsZoneOf trace (cut_to trace zone d).zone
   parent-there = omega (arith, cut-known.before, cut-there zone (length trace) some there)
@@ -119,27 +119,27 @@ module _ (problem : ProblemModel) (sound : IsSound problem) (trace : List CutAt)
   long z there = omega (arith, inside, (zones-are problem sound trace is_trace z there).spans)
 
   -- the lower part of a cut ends at the cut's class, the upper part begins after it, and other spans keep their classes
-  pub low-here : (i : ℕ) (cut : CutAt) → i < length trace → IsParted (whole_zone problem) trace i cut → cut.span ≡ s →
+  pub low-here : (i : ℕ) (cut : CutAt) → i < length trace → HasParts (whole_zone problem) trace i cut → cut.span ≡ s →
       range_of (2 * i + 1) ≡ range (range_of cut.zone).first cut.class
   low-here i cut within h here =
       let zone = zone_of problem trace cut.zone in
       ap (λ z. range_at z s) h.low_is ∙ ap (λ t. range_at (lower_part zone t cut.class) s) here
       ∙ get_or-set_same zone s (range (range_at zone s).first cut.class) (range 0 0) (long cut.zone (omega (arith, h.before, within)))
 
-  pub high-here : (i : ℕ) (cut : CutAt) → i < length trace → IsParted (whole_zone problem) trace i cut → cut.span ≡ s →
+  pub high-here : (i : ℕ) (cut : CutAt) → i < length trace → HasParts (whole_zone problem) trace i cut → cut.span ≡ s →
       range_of (2 * i + 2) ≡ range (cut.class + 1) (range_of cut.zone).last
   high-here i cut within h here =
       let zone = zone_of problem trace cut.zone in
       ap (λ z. range_at z s) h.high_is ∙ ap (λ t. range_at (upper_part zone t cut.class) s) here
       ∙ get_or-set_same zone s (range (cut.class + 1) (range_at zone s).last) (range 0 0) (long cut.zone (omega (arith, h.before, within)))
 
-  pub low-other : (i : ℕ) (cut : CutAt) → IsParted (whole_zone problem) trace i cut → cut.span ≢ s → range_of (2 * i + 1) ≡ range_of cut.zone
+  pub low-other : (i : ℕ) (cut : CutAt) → HasParts (whole_zone problem) trace i cut → cut.span ≢ s → range_of (2 * i + 1) ≡ range_of cut.zone
   low-other i cut h apart =
       let zone = zone_of problem trace cut.zone in
       ap (λ z. range_at z s) h.low_is
       ∙ get_or-set_other zone cut.span s (range (range_at zone cut.span).first cut.class) (range 0 0) (λ same. apart (sym same))
 
-  pub high-other : (i : ℕ) (cut : CutAt) → IsParted (whole_zone problem) trace i cut → cut.span ≢ s → range_of (2 * i + 2) ≡ range_of cut.zone
+  pub high-other : (i : ℕ) (cut : CutAt) → HasParts (whole_zone problem) trace i cut → cut.span ≢ s → range_of (2 * i + 2) ≡ range_of cut.zone
   high-other i cut h apart =
       let zone = zone_of problem trace cut.zone in
       ap (λ z. range_at z s) h.high_is
@@ -151,7 +151,7 @@ module _ (problem : ProblemModel) (sound : IsSound problem) (trace : List CutAt)
     abbrev cut_of : CutAt
     cut_of = cut_to trace zone d
 
-    known : IsParted (whole_zone problem) trace ((zone - 1) / 2) cut_of
+    known : HasParts (whole_zone problem) trace ((zone - 1) / 2) cut_of
     known = cut-known problem trace is_trace zone some there d
 
     -- the class of the cut, and the one after it, are classes of the span
@@ -189,7 +189,7 @@ module _ (problem : ProblemModel) (sound : IsSound problem) (trace : List CutAt)
         record { from = within.from ∙ ap (λ r. max first r.first) at; upto = within.upto ∙ ap (λ r. min last r.last) at }
 
   -- a class of a cut is one of its span's
-  pub class-small : (i : ℕ) (cut : CutAt) → i < length trace → IsParted (whole_zone problem) trace i cut → cut.span ≡ s
+  pub class-small : (i : ℕ) (cut : CutAt) → i < length trace → HasParts (whole_zone problem) trace i cut → cut.span ≡ s
       → cut.class < length (classes_at problem s)
   class-small i cut within h here =
       let ranges = (zones-are problem sound trace is_trace cut.zone (omega (arith, h.before, within))).ranges s

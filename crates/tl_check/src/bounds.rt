@@ -14,7 +14,7 @@ ghost use Rattle.tl_check.specs.inner.Matrices.{IsMatrixOf, Restricts};
 
 use tl_base::MAX_PAGE_WIDTH;
 use tl_cert::{Bound, Side};
-use tl_diff::Matrix;
+use tl_diff::{MAX_BOUND, Matrix};
 use tl_problem::{Problem, Span};
 
 /// The width of the bound, cut off just past the page: no room is greater than the page.
@@ -55,8 +55,8 @@ pub fn is_implied(problem: &Problem, matrix: &Matrix, bound: Bound) -> bool
 fn is_near(matrix: &Matrix, a: u32, b: u32, most: i32) -> bool
     requires begins { a < matrix.now.bounds.n }
     requires ends { b < matrix.now.bounds.n }
-    requires low { neg_ℤ (pos 1000) ≤ℤ most }
-    requires high { most ≤ℤ pos 1000 }
+    requires low { neg_ℤ (pos MAX_BOUND) ≤ℤ most }
+    requires high { most ≤ℤ pos MAX_BOUND }
     requires holds { IsSatisfiable matrix.now.bounds }
     ensures { IsTrue result ↔ follows.Implied matrix.now.bounds a b most }
 {
@@ -103,8 +103,8 @@ pub fn keep_broken(problem: &Problem, bound: Bound, matrix: &mut Matrix)
 fn keep_at_most(problem: &Problem, s: u32, apart: i32, matrix: &mut Matrix)
     requires span { s < length (spans_of problem.now) }
     requires keeps { IsMatrixOf problem.now matrix.old.bounds }
-    requires low { neg_ℤ (pos 1000) ≤ℤ apart }
-    requires high { apart ≤ℤ pos 1000 }
+    requires low { neg_ℤ (pos MAX_BOUND) ≤ℤ apart }
+    requires high { apart ≤ℤ pos MAX_BOUND }
     ensures { Restricts problem.now matrix.old matrix.new (λ widths. pos (span_width problem.now widths s + gap_of problem.now.style) ≤ℤ apart) }
 {
     if matrix.holds() {
@@ -117,8 +117,8 @@ fn keep_at_most(problem: &Problem, s: u32, apart: i32, matrix: &mut Matrix)
 fn keep_at_least(problem: &Problem, s: u32, apart: i32, matrix: &mut Matrix)
     requires span { s < length (spans_of problem.now) }
     requires keeps { IsMatrixOf problem.now matrix.old.bounds }
-    requires low { neg_ℤ (pos 1000) ≤ℤ apart }
-    requires high { apart ≤ℤ pos 1000 }
+    requires low { neg_ℤ (pos MAX_BOUND) ≤ℤ apart }
+    requires high { apart ≤ℤ pos MAX_BOUND }
     ensures { Restricts problem.now matrix.old matrix.new (λ widths. apart ≤ℤ pos (span_width problem.now widths s + gap_of problem.now.style)) }
 {
     if matrix.holds() {

@@ -8,6 +8,7 @@ use Rattle.std.proofs.lemmas.List.{map-append, length-map, take_all}
 use Rattle.std.proofs.lemmas.List.Elements.{All-from_recursion}
 use Rattle.std.proofs.lemmas.List.Sorted.{IsPermutation-refl, IsPermutation-trans, IsPermutation-cons, IsPermutation-insert, All-permutation}
 use Rattle.std.proofs.lemmas.List.Sorted.{IsNonDecreasingBy-short, IsNonDecreasingBy-insert, IsNonDecreasingBy-drop}
+use Rattle.tl_base.specs.declared.limits.TheConstants.{MAX_ROWS}
 use Rattle.tl_base.specs.declared.breaking.Breaking.TheVariants.{Words}
 use Rattle.tl_grid.specs.declared.shape.Grid.{Grid}
 use Rattle.tl_grid.specs.declared.shape.Place.{Place}
@@ -212,7 +213,7 @@ pub record IsFormedTable (rows : List (List Cell)) (table : Table) : Type 0 wher
   pub narrow : (out-Table table).cols ≤ 6
   pub cells : All IsDrawnTableCell (out-Table table).cells
 
-module _ (rows : List (List Cell)) (all : AllByRecursion IsDrawnRow rows) (few : length rows ≤ 2000) (sound : AreSound (outline (table_node rows))) where
+module _ (rows : List (List Cell)) (all : AllByRecursion IsDrawnRow rows) (few : length rows ≤ MAX_ROWS) (sound : AreSound (outline (table_node rows))) where
   node : OpenNode
   node = out-TableNode (table_node rows)
 

@@ -6,7 +6,7 @@ use Rattle.std.specs.List.{AllByRecursion}
 use Rattle.std.proofs.lemmas.Bool.{cases_Bool, and_parts, and_right, leb-true, ltb-true, false_from_ne_true}
 use Rattle.std.proofs.lemmas.List.{length-append}
 use Rattle.std.proofs.lemmas.List.Sums.{sum_by-cons}
-use Rattle.tl_base.specs.declared.limits.TheConstants.{MAX_COLSPAN}
+use Rattle.tl_base.specs.declared.limits.TheConstants.{MAX_COLSPAN, MAX_ROWS}
 use Rattle.tl_grid.specs.declared.error.GridError.{GridError}
 use Rattle.tl_grid.specs.declared.error.GridError.TheVariants.{Memory, TooManyCells, Overlap, TooManyColumns, TooManyRows}
 use Rattle.tl_grid.specs.declared.shape.Grid.{Grid}
@@ -285,7 +285,7 @@ all_spans [] all = tt
 all_spans (cells ∷ rows) all = (row_spans cells (all.0).each, all_spans rows all.1)
 
 -- so no grid is refused
-not_refused : (rows : List (List Cell)) → AllByRecursion IsDrawnRow rows → length rows ≤ 2000 → (error : GridError) → IsRefused (shape_in rows) error → ⊥
+not_refused : (rows : List (List Cell)) → AllByRecursion IsDrawnRow rows → length rows ≤ MAX_ROWS → (error : GridError) → IsRefused (shape_in rows) error → ⊥
 not_refused rows all few (Memory error) refused = refused
 not_refused rows all few (TooManyCells count) refused =
     let one = sum_by-cons (λ (group : ShapeGroup). cells_in group.rows) (record { foot = false; rows = map (map span_in) rows }) [] in
@@ -303,7 +303,7 @@ not_refused rows all few (TooManyRows count) refused =
     omega (arith, refused.counted, refused.many, made.height, few, count_below-le (keeps_row (formed (shape_in rows)).cells) (formed (shape_in rows)).height)
 
 -- the rows have a grid, of at most six columns
-pub has_grid : (rows : List (List Cell)) → AllByRecursion IsDrawnRow rows → length rows ≤ 2000 →
+pub has_grid : (rows : List (List Cell)) → AllByRecursion IsDrawnRow rows → length rows ≤ MAX_ROWS →
     (grid : Grid) × (HasGrid (shape_in rows) grid × (grid.cols ≤ 6))
 has_grid rows all few = from (decided (shape_in rows) (all_spans rows all, tt))
   where

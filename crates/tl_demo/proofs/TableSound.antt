@@ -7,7 +7,7 @@ use Rattle.std.proofs.lemmas.List.Elements.{All-from_recursion}
 use Rattle.std.proofs.lemmas.List.Sums.{sum_by-cons}
 use Rattle.std.proofs.lemmas.Str.{chars-IsAscii, IsUtf8-from_ascii}
 use Rattle.std.proofs.lemmas.Str.Ascii.{IsAscii-from_all}
-use Rattle.tl_base.specs.declared.limits.TheConstants.{MAX_COLSPAN}
+use Rattle.tl_base.specs.declared.limits.TheConstants.{MAX_COLSPAN, MAX_ROWS}
 use Rattle.tl_base.specs.Text.{byte_count}
 use Rattle.tl_base.proofs.Texts.{byte_count-chars}
 use Rattle.tl_token.specs.Characters.{is_control}
@@ -141,7 +141,7 @@ rows_size (cells ∷ rows) later all =
     )
 
 -- the tree of the rows is sound
-pub table_sound : (rows : List (List Cell)) → AllByRecursion IsDrawnRow rows → length rows ≤ 2000 → IsSound (table_node rows)
+pub table_sound : (rows : List (List Cell)) → AllByRecursion IsDrawnRow rows → length rows ≤ MAX_ROWS → IsSound (table_node rows)
 table_sound rows all few =
     let listed = table_listed rows in
     let last : Entries = entries.table_end ∷ [] in

@@ -56,8 +56,8 @@ module _ (arcs : List Arc) (e : Arc) where
       let before : i < length arcs = omega (arith, length_push arcs e) in
       ⊎_elim
       (λ last. rw (arc_at-before i before, arc_at-last j last) (later i before))
-      (λ other. let behind : j < length arcs = omega (arith, length_push arcs e) in
-      rw (arc_at-before i before, arc_at-before j behind) (in_order i j less behind))
+      (λ other. let earlier : j < length arcs = omega (arith, length_push arcs e) in
+      rw (arc_at-before i before, arc_at-before j earlier) (in_order i j less earlier))
       (cases_eq j (length arcs))
 
   pub total_weight-push : total_weight (arcs ++ e ∷ []) ≡ total_weight arcs + e.weight

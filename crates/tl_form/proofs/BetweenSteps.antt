@@ -6,7 +6,7 @@ use Rattle.std.proofs.lemmas.List.{get_or_default, length_push}
 use Rattle.std.proofs.lemmas.List.Elements.{Contains-get_or, Contains-push, Contains-push_cases, Contains-append_left}
 use Rattle.tl_base.specs.declared.steps.Config.{Config}
 use Rattle.tl_base.specs.Steps.{AreSteps, height_at}
-use Rattle.tl_base.proofs.Falling.{Falls, no_step}
+use Rattle.tl_base.proofs.Decreasing.{Falls, no_step}
 use Rattle.tl_base.proofs.Members.{AllPairs-append, AllPairs-cons, AllPairs-none, Contains-none}
 use Rattle.tl_form.specs.Problems.{AreStepsOf}
 use Rattle.tl_form.specs.inner.CellSteps.{From}
@@ -23,7 +23,7 @@ pub record BetweenSoFar (steps : List Config) (from page i : ℕ) (list : List C
 
 -- steps of one
 pub are-one : (step : Config) → AreSteps (step ∷ [])
-are-one step = record { has_step = omega arith; falling = λ i j d before within. absurd (omega arith) }
+are-one step = record { has_step = omega arith; decreasing = λ i j d before within. absurd (omega arith) }
 
 pub between-first : (steps : List Config) (from page h : ℕ) (list : List Config) → from ≤ page → height_at steps from ≡ Some h →
     list ≡ record { width = from; height = h } ∷ [] → BetweenSoFar steps from page 0 list
@@ -58,7 +58,7 @@ module _ (steps : List Config) (are : AreSteps steps) (from page : ℕ) where
       subst (BetweenSoFar steps from page (i + 1)) (sym push) (record {
         are = record {
           has_step = omega (arith, length_push list step);
-          falling = AllPairs-append Falls list (step ∷ []) so_far.are.falling
+          decreasing = AllPairs-append Falls list (step ∷ []) so_far.are.decreasing
               (AllPairs-cons Falls step [] (λ k d none. absurd (omega (arith, none))) (AllPairs-none Falls))
               (λ one other first second. elim (Contains-push_cases [] step other second) [
                 | inl none ↦ absurd (Contains-none other none)
@@ -102,7 +102,7 @@ module _ (steps : List Config) (are : AreSteps steps) (from page : ℕ) where
             let fall = wider-lower steps are found.0 step found.1 there (omega (arith, found.2, at, wide)) in
             (omega (arith, at, wide), omega (arith, fall, found.3))
         | inr earlier ↦
-            let fall = are.falling earlier.0 i no_step earlier.1 inside in (
+            let fall = are.decreasing earlier.0 i no_step earlier.1 inside in (
               omega (arith, fall.0, ap (λ (any : Config). any.width) earlier.3, ap (λ (any : Config). any.width) at_index),
               omega (arith, fall.1, ap (λ (any : Config). any.height) earlier.3, ap (λ (any : Config). any.height) at_index),
             )

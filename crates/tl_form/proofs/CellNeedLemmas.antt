@@ -245,8 +245,8 @@ pub from-first : (needs : ℕ → ℕ → Type 0) (start page h : ℕ) (steps : 
     needs start h → (first_width steps ≡ start) × needs start (first_height steps)
 from-first needs start page h steps within of need =
     let here = (of.each start h within).1 (omega arith, need) in
-    let least = first-least steps of.falling start h here in
-    let first = (of.each (first_width steps) (first_height steps) (omega (arith, least, within))).0 (height-first steps of.falling) in
+    let least = first-least steps of.decreasing start h here in
+    let first = (of.each (first_width steps) (first_height steps) (omega (arith, least, within))).0 (height-first steps of.decreasing) in
     let same : first_width steps ≡ start = omega (arith, least, first.0) in
     (same, subst (λ w. needs w (first_height steps)) same first.1)
 

@@ -32,16 +32,16 @@ module _ (needs : ℕ → ℕ → Type 0) (narrow wide : ℕ) (within : narrow �
 
   pub step-stays : (step : Config) → Contains short step → Contains long step
   step-stays step has =
-      step-there narrow short long of_short.falling of_long.falling same-heights step has
+      step-there narrow short long of_short.decreasing of_long.decreasing same-heights step has
       (All-contains (λ (one : Config). one.width ≤ narrow) short step of_short.within has)
 
   pub first-stays : first_width short ≡ first_width long
   first-stays =
-      let inside = first-within narrow short of_short.falling of_short.within in
-      let here = sym (same-heights (first_width short) inside) ∙ height-first short of_short.falling in
-      let more = first-least long of_long.falling (first_width short) (first_height short) here in
-      let there = same-heights (first_width long) (omega (arith, more, inside)) ∙ height-first long of_long.falling in
-      let less = first-least short of_short.falling (first_width long) (first_height long) there in
+      let inside = first-within narrow short of_short.decreasing of_short.within in
+      let here = sym (same-heights (first_width short) inside) ∙ height-first short of_short.decreasing in
+      let more = first-least long of_long.decreasing (first_width short) (first_height short) here in
+      let there = same-heights (first_width long) (omega (arith, more, inside)) ∙ height-first long of_long.decreasing in
+      let less = first-least short of_short.decreasing (first_width long) (first_height long) there in
       omega (arith, more, less)
 
 -- ---- cells that stand so to one another

@@ -137,8 +137,8 @@ module _ (Needs : ℕ → ℕ → Type 0) (falls : (v w m n : ℕ) → v ≤ w �
   pub steps_begin : (steps : List Config) → AreStepsOf (λ w h. (least ≤ w) × Needs w h) page steps → first_width steps ≡ least
   steps_begin steps of =
       let one = there least (omega arith) narrow in
-      let below = first-least steps of.falling least one.0 ((of.each least one.0 narrow).1 (omega arith, one.1)) in
-      let above = ((of.each (first_width steps) _ (omega (arith, below, narrow))).0 (height-first steps of.falling)).0 in
+      let below = first-least steps of.decreasing least one.0 ((of.each least one.0 narrow).1 (omega arith, one.1)) in
+      let above = ((of.each (first_width steps) _ (omega (arith, below, narrow))).0 (height-first steps of.decreasing)).0 in
       omega (arith, below, above)
 
 -- ---- the steps of a nested table

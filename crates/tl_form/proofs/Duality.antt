@@ -122,18 +122,18 @@ ahead-sizes_between : (f : ℕ → ℕ) (n k : ℕ) → ((j : ℕ) → j < n →
 ahead-sizes_between f zero k rises within = let at : k ≡ 0 =
     omega arith in subst (λ j. ahead (sizes_between f 0) j + f 0 ≡ f j) (sym at) (omega arith)
 ahead-sizes_between f (suc n) k rises within = ⊎_elim
-    (λ (inner : k < suc n). ap (λ front. sum_by (λ size. size) front + f 0)
+    (λ (inner : k < suc n). ap (λ prefix. sum_by (λ size. size) prefix + f 0)
     (take-append-le k (sizes_between f n) ((f (suc n) - f n) ∷ []) (omega (arith, length-sizes_between f n)))
     ∙ ahead-sizes_between f n k (λ j below. rises j (omega arith)) (omega arith))
     (λ (last : suc n ≤ k).
     let at : k ≡ suc n = omega arith in
     let all : take k (sizes_between f (suc n)) ≡ sizes_between f (suc n) =
     take_all k (sizes_between f (suc n)) (omega (arith, length-sizes_between f (suc n))) in
-    let front : take n (sizes_between f n) ≡ sizes_between f n = take_all n (sizes_between f n) (omega (arith, length-sizes_between f n)) in
+    let prefix : take n (sizes_between f n) ≡ sizes_between f n = take_all n (sizes_between f n) (omega (arith, length-sizes_between f n)) in
     omega (
       arith,
       ap (sum_by (λ (size : ℕ). size)) all,
-      ap (sum_by (λ (size : ℕ). size)) front,
+      ap (sum_by (λ (size : ℕ). size)) prefix,
       sum_by-append (λ (size : ℕ). size)
           (sizes_between f n) ((f (suc n) - f n) ∷ []),
       sum_by-cons (λ (size : ℕ). size) (f (suc n) - f n) [],

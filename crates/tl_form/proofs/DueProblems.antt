@@ -134,7 +134,7 @@ module _ (document : Document) (on : IsOnPage document) (before : List Section) 
   sound_steps : (nested : Table) → IsAmong document.table nested → (page : ℕ) (steps : InnerSteps) →
       AreStepsBy document.style page before nested steps → AreSoundSteps document.style page nested steps
   sound_steps nested among page steps by = record {
-    falling = (by.low.falling, by.high.falling);
+    decreasing = (by.low.decreasing, by.high.decreasing);
     least = subst (IsLeastWidth nested document.style) (sym by.begins.0) by.is_least;
     same = by.begins.1 ∙ sym by.begins.0;
     below = below;
@@ -162,7 +162,7 @@ module _ (document : Document) (on : IsOnPage document) (before : List Section) 
         let least = (by.high.each w high.0 upto).0 high.1 in
         let found = found_at w high.0 least.1 in
         let layout = found.4.found nested (named found.0 found.1) in
-        let low = height_from steps.low w by.low.falling (omega (arith, by.begins.0, least.0)) in
+        let low = height_from steps.low w by.low.decreasing (omega (arith, by.begins.0, least.0)) in
         let greatest = ((by.low.each w low.0 upto).0 low.1).1.attained in
         let lower = subst (IsTrue document) greatest.3 (All-get_or (IsTrue document) before greatest.0 greatest.1 greatest.2 true_before) in
         let less = lower.lower nested (named greatest.1 greatest.4.0.of) found.0.height layout.0
@@ -173,8 +173,8 @@ module _ (document : Document) (on : IsOnPage document) (before : List Section) 
 
     small : first_height steps.high ≤ 2 * table_size nested
     small =
-        let upto = first_within page steps.high by.high.falling by.high.within in
-        let least = (by.high.each (first_width steps.high) (first_height steps.high) upto).0 (height-first steps.high by.high.falling) in
+        let upto = first_within page steps.high by.high.decreasing by.high.within in
+        let least = (by.high.each (first_width steps.high) (first_height steps.high) upto).0 (height-first steps.high by.high.decreasing) in
         let found = found_at (first_width steps.high) (first_height steps.high) least.1 in
         omega (arith, found.3, found.5 nested (named found.0 found.1))
 

@@ -11,7 +11,7 @@ use Rattle.tl_diff.specs.declared.paths.Arc.{Arc}
 use Rattle.tl_diff.specs.Paths.{IsPath, IsHeaviest, path_weight}
 use Rattle.tl_form.specs.declared.widest.Demand.{Demand}
 use Rattle.tl_form.specs.declared.widest.NumberedArc.{NumberedArc}
-use Rattle.tl_form.specs.inner.Demands.{HaveArcs, IsPlacedDemand, AreDemands, IsLeastFor, IsRowOf, number_at}
+use Rattle.tl_form.specs.inner.Demands.{HaveArcs, IsPlacedDemand, AreDemands, IsLeastFor, IsRowOf, most_gaps, number_at}
 use Rattle.tl_form.proofs.Duality.{plain, least_for}
 use Rattle.tl_form.proofs.Rows.{row_of_path, row_of_last}
 
@@ -84,7 +84,7 @@ pub last_found : (style : Style) (cols : ℕ) (demands : List Demand) (arcs : Li
     gap ≡ gap_of style → edge ≡ edge_of style → IsRowOf style cols demands numbers (w + gap * (cols - 1) + 2 * edge)
 last_found style cols demands arcs alone out path before numbers w gap edge number found same weighs named none pushed last is also =
     let empty : w ≡ 0 = sym weighs ∙ no_weight alone path (omega (arith, ap length named, length-map path (number_at arcs))) in
-    let lone : numbers ≡ number ∷ [] = pushed ∙ ap (λ front. front ++ number ∷ []) (nil_of_short before none) in
+    let lone : numbers ≡ number ∷ [] = pushed ∙ ap (λ prefix. prefix ++ number ∷ []) (nil_of_short before none) in
     subst (λ those. IsRowOf style cols demands those (w + gap * (cols - 1) + 2 * edge)) (sym lone)
     (subst (IsRowOf style cols demands (number ∷ []))
     (ap (λ v. v + gap_of style * (cols - 1) + 2 * edge_of style) (sym empty) ∙ in_all style cols w gap edge is also)
@@ -100,6 +100,6 @@ some_of_not_nil (x ∷ xs) not_nil = omega arith
 
 -- a chain is little wider than all demands together
 pub small_found : (style : Style) (cols w sum gap edge : ℕ) → cols ≤ MAX_COLUMNS → w ≤ sum → gap ≡ gap_of style → edge ≡ edge_of style →
-    w + gap * (cols - 1) + 2 * edge ≤ sum + 118
+    w + gap * (cols - 1) + 2 * edge ≤ sum + most_gaps
 small_found Plain cols w sum gap edge few light is also = let g : gap * (cols - 1) ≡ 2 * (cols - 1) = ap (λ k. k * (cols - 1)) is in omega arith
 small_found Frame cols w sum gap edge few light is also = let g : gap * (cols - 1) ≡ 1 * (cols - 1) = ap (λ k. k * (cols - 1)) is in omega arith

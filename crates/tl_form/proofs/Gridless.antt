@@ -107,18 +107,18 @@ becomes_gridded breaking node table becomes = within_gridded becomes.0 breaking 
 -- ---- the first of many
 
 -- what is refused among some tables is refused among more, where those before them have a grid
-pub refused_among : (front tables rest : List NumberedShape) (error : FormError) → Gridded front → AreRefused tables error →
-    AreRefused (front ++ (tables ++ rest)) error
-refused_among front tables rest (errors.Memory memory) gridded refused = absurd refused
-refused_among front tables rest (errors.Grid number cause) gridded refused = record {
-  before = front ++ refused.before;
+pub refused_among : (prefix tables rest : List NumberedShape) (error : FormError) → Gridded prefix → AreRefused tables error →
+    AreRefused (prefix ++ (tables ++ rest)) error
+refused_among prefix tables rest (errors.Memory memory) gridded refused = absurd refused
+refused_among prefix tables rest (errors.Grid number cause) gridded refused = record {
+  before = prefix ++ refused.before;
   table = refused.table;
   after = refused.after ++ rest;
   split =
-      ap (λ (more : List NumberedShape). front ++ (more ++ rest)) refused.split
-      ∙ ap (λ (more : List NumberedShape). front ++ more) (append_assoc refused.before (refused.table ∷ refused.after) rest)
-      ∙ sym (append_assoc front refused.before (refused.table ∷ (refused.after ++ rest)));
-  formed = append_each HasSomeGrid front refused.before gridded refused.formed;
+      ap (λ (more : List NumberedShape). prefix ++ (more ++ rest)) refused.split
+      ∙ ap (λ (more : List NumberedShape). prefix ++ more) (append_assoc refused.before (refused.table ∷ refused.after) rest)
+      ∙ sym (append_assoc prefix refused.before (refused.table ∷ (refused.after ++ rest)));
+  formed = append_each HasSomeGrid prefix refused.before gridded refused.formed;
   numbered = refused.numbered;
   refused = refused.refused;
 }

@@ -82,14 +82,14 @@ pub least_for_more : (style : Style) (floor : ℕ) (blocks : List Content) (bloc
 least_for_more style floor blocks block w more before here = record {
   floored = omega (arith, before.floored);
   fits = λ v wider.
-      let front = before.fits v (omega arith) in
+      let prefix = before.fits v (omega arith) in
       let last = here.fits v (omega arith) in
-      let same : front.0 + last.0 ≡ last.0 + front.0 = omega arith in (
-        last.0 + front.0,
-        front.1 ++ last.1 ∷ [],
-        AllZip-push (λ block share. FitsShare (FitsWithin (last.0 + front.0) style) v (out-Content block) share) blocks front.1 block last.1
-            (deeper_shares style last.0 front.0 v blocks front.1 front.2)
-            (FitsShare-weaker (FitsWithin last.0 style) (FitsWithin (last.0 + front.0) style) (FitsWithin-deeper' front.0 last.0 style) v
+      let same : prefix.0 + last.0 ≡ last.0 + prefix.0 = omega arith in (
+        last.0 + prefix.0,
+        prefix.1 ++ last.1 ∷ [],
+        AllZip-push (λ block share. FitsShare (FitsWithin (last.0 + prefix.0) style) v (out-Content block) share) blocks prefix.1 block last.1
+            (deeper_shares style last.0 prefix.0 v blocks prefix.1 prefix.2)
+            (FitsShare-weaker (FitsWithin last.0 style) (FitsWithin (last.0 + prefix.0) style) (FitsWithin-deeper' prefix.0 last.0 style) v
             (out-Content block) last.1 last.2),
       );
   least = λ depth v shares wide fits.

@@ -65,10 +65,10 @@ LinksSoFar-more style table demands numbers n entries inner d cell demand linked
   stand = AllZip-push (λ entry one. IsLink (Weighs style) table entry one) entries before.links
       (record { cell = get_or numbers n d; inner = linked.inner }) link before.stand
       (record { cell = cell; named = named; placed = refl; wide = linked_so });
-  like = subst (λ front. AllZip (HasDemand demands) front (before.links ++ link ∷ [])) (sym (take_more numbers n d within))
+  like = subst (λ prefix. AllZip (HasDemand demands) prefix (before.links ++ link ∷ [])) (sym (take_more numbers n d within))
       (AllZip-push (HasDemand demands) (take n numbers) before.links (get_or numbers n d) link before.like
       (record { demand = demand; named = wanted; left = sym of.left; right = sym of.right; wide = refl }));
-  follow = ap (λ front. front ++ linked.chains) before.follow ∙
+  follow = ap (λ prefix. prefix ++ linked.chains) before.follow ∙
       ap (λ back. flat_map (λ one. one.inner) before.links ++ back)
       (sym (flat_map-cons (λ (one : Link). one.inner) link [] ∙ append-nil linked.chains)) ∙
       sym (flat_map-append (λ (one : Link). one.inner) before.links (link ∷ []));
@@ -165,7 +165,7 @@ chain_made style table demands numbers weight entries inner chains sound row far
   deep = links_depth style (out-Table table) entries far.links far.stand
 
   alike : AreLike 0 row.picked far.links
-  alike = are_like demands 0 numbers row.picked far.links row.named (subst (λ front. AllZip (HasDemand demands) front far.links) whole far.like)
+  alike = are_like demands 0 numbers row.picked far.links row.named (subst (λ prefix. AllZip (HasDemand demands) prefix far.links) whole far.like)
 
 -- ---- demands by their numbers
 
@@ -255,9 +255,9 @@ others_more style w items n item within is before here =
     subst (AllByRecursion (AreOthers style w)) (sym (take_more items n item within ∙ ap (λ last. take n items ++ last ∷ []) (sym is)))
     (append_others (take n items) before)
   where
-    append_others : (front : List Content) → AllByRecursion (AreOthers style w) front → AllByRecursion (AreOthers style w) (front ++ item ∷ [])
+    append_others : (prefix : List Content) → AllByRecursion (AreOthers style w) prefix → AllByRecursion (AreOthers style w) (prefix ++ item ∷ [])
     append_others [] all = (here, tt)
-    append_others (one ∷ front) all = (all.0, append_others front all.1)
+    append_others (one ∷ prefix) all = (all.0, append_others prefix all.1)
 
 -- the reason is the cell's own width
 pub unlinked_by : (style : Style) (cell : OpenCell) (width : ℕ) (linked : Linked) → linked.inner ≡ None → linked.chains ≡ [] →
@@ -290,7 +290,7 @@ pub links_next : (style : Style) (table : OpenTable) (demands : List Demand) (nu
     LinksSoFar style table demands numbers (n + 1) after more
 links_next style table demands numbers n entries after inner more item d linked those inside within is reason before pushed joined =
     let k = get_or numbers n 0 in
-    subst (λ front. LinksSoFar style table demands numbers (n + 1) front more) (sym pushed)
+    subst (λ prefix. LinksSoFar style table demands numbers (n + 1) prefix more) (sym pushed)
     (subst (LinksSoFar style table demands numbers (n + 1) (entries ++ record { cell = get_or numbers n 0; inner = linked.inner } ∷ [])) (sym joined)
     (LinksSoFar-more style table demands numbers n entries inner 0 item (get_or demands k d) linked inside
     (slice_get_read table.cells (length table.cells) k item refl (omega (arith, as_many style table.cells demands those, within)) is)
@@ -299,7 +299,7 @@ links_next style table demands numbers n entries after inner more item d linked 
 
 pub made_of : (new first chains inner : List Chain) (chain : Chain) → new ≡ [] → first ≡ new ++ chain ∷ [] → chains ≡ first ++ inner →
     chains ≡ chain ∷ inner
-made_of new first chains inner chain none pushed joined = joined ∙ ap (λ front. front ++ inner) (pushed ∙ ap (λ front. front ++ chain ∷ []) none)
+made_of new first chains inner chain none pushed joined = joined ∙ ap (λ prefix. prefix ++ inner) (pushed ∙ ap (λ prefix. prefix ++ chain ∷ []) none)
 
 pub all_links : (style : Style) (table : OpenTable) (demands : List Demand) (numbers items : List ℕ) (n : ℕ) (entries : List Entry)
     (inner : List Chain) → items ≡ numbers → n ≤ length items → length items ≤ n →

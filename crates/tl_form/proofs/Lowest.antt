@@ -85,9 +85,9 @@ whole_width : line_width three ≡ 12
 unfolding unicode_width
 whole_width = refl
 
-front_width : line_width (aaaa ∷ bbbb ∷ []) ≡ 9
+prefix_width : line_width (aaaa ∷ bbbb ∷ []) ≡ 9
 unfolding unicode_width
-front_width = refl
+prefix_width = refl
 
 back_width : line_width (bbbb ∷ end ∷ []) ≡ 7
 unfolding unicode_width
@@ -121,7 +121,7 @@ three_lines w h less fits = by_lines found.lines found.some found.whole found.na
     by_two (u ∷ v ∷ []) next some other whole first second =
         let one : u ≡ aaaa = cc in
         let two : v ≡ bbbb = cc in
-        let same : u ∷ v ∷ [] ≡ aaaa ∷ bbbb ∷ [] = cc in omega (arith, ap line_width same, front_width)
+        let same : u ∷ v ∷ [] ≡ aaaa ∷ bbbb ∷ [] = cc in omega (arith, ap line_width same, prefix_width)
     by_two (u ∷ v ∷ t ∷ []) next some other whole first second = let none : next ≡ [] = cc in other none
     by_two (u ∷ v ∷ t ∷ s ∷ line) next some other whole first second = cc
 

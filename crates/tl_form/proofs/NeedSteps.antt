@@ -8,7 +8,7 @@ use Rattle.std.proofs.lemmas.List.{get_or_default}
 use Rattle.std.proofs.lemmas.List.Elements.{All-contains}
 use Rattle.tl_base.specs.declared.steps.Config.{Config}
 use Rattle.tl_base.specs.Steps.{AreSteps, IsLowAt, both_heights, first_height, first_width, height_at, stacked_height}
-use Rattle.tl_base.proofs.Falling.{Falls, no_step, height_at-step}
+use Rattle.tl_base.proofs.Decreasing.{Falls, no_step, height_at-step}
 use Rattle.tl_base.proofs.Members.{Contains-first, Contains-later, All-from_Contains, same-ordered}
 use Rattle.tl_problem.proofs.Heights.{test_le, test_le_false, IsLowAt-from, IsLowAt-wider, height-from_first, height-from_low, height-same}
 use Rattle.tl_form.specs.Problems.{AreStepsOf}
@@ -61,10 +61,10 @@ module _ (steps : List Config) (are : AreSteps steps) where
       let high = ap (λ (step : Config). step.width) at_second in
       elim (cases_lt first.0 second.0) [
         | inl before ↦
-            let fall = are.falling first.0 second.0 no_step before second.1 in
+            let fall = are.decreasing first.0 second.0 no_step before second.1 in
             omega (arith, fall.1, ap (λ (step : Config). step.height) at_first, ap (λ (step : Config). step.height) at_second)
         | inr other ↦ elim (cases_lt second.0 first.0) [
-          | inl after ↦ let fall = are.falling second.0 first.0 no_step after first.1 in absurd (omega (arith, fall.0, low, high, wider))
+          | inl after ↦ let fall = are.decreasing second.0 first.0 no_step after first.1 in absurd (omega (arith, fall.0, low, high, wider))
           | inr same ↦
               let end : first.0 ≡ second.0 = omega (arith, other, same) in
               absurd (omega (arith, ap (λ k. (get_or steps k no_step).width) end, low, high, wider))
@@ -113,12 +113,12 @@ module _ (steps : List Config) (are : AreSteps steps) where
         where
           by_list : (all : List Config) → AreSteps all → Contains all step → first_width all ≤ step.width
           by_list [] none has = absurd (omega (arith, has.1))
-          by_list (first ∷ rest) falling has = by_place has.0 has.1 has.2
+          by_list (first ∷ rest) decreasing has = by_place has.0 has.1 has.2
             where
               by_place : (k : ℕ) → k < length (first ∷ rest) → get_or (first ∷ rest) k step ≡ step → first.width ≤ step.width
               by_place zero within is = omega (arith, ap (λ (one : Config). one.width) is)
               by_place (suc k) within is =
-                  let fall = falling.falling 0 (suc k) step (omega arith) within in
+                  let fall = decreasing.decreasing 0 (suc k) step (omega arith) within in
                   omega (arith, fall.0, ap (λ (one : Config). one.width) is)
 
   pub height-first : height_at steps (first_width steps) ≡ Some (first_height steps)
@@ -126,7 +126,7 @@ module _ (steps : List Config) (are : AreSteps steps) where
     where
       by_list : (all : List Config) → AreSteps all → height_at all (first_width all) ≡ Some (first_height all)
       by_list [] none = absurd (omega (arith, none.has_step))
-      by_list (first ∷ rest) falling = height_at-step (first ∷ rest) falling 0 (omega arith)
+      by_list (first ∷ rest) decreasing = height_at-step (first ∷ rest) decreasing 0 (omega arith)
 
 -- ---- they are determined
 
@@ -158,7 +158,7 @@ step-there page these those are others same step has narrow =
 pub same-steps : (page : ℕ) (one other : List Config) → AreSteps one → AreSteps other → All (λ step. step.width ≤ page) one →
     All (λ step. step.width ≤ page) other → ((w : ℕ) → w ≤ page → height_at one w ≡ height_at other w) → one ≡ other
 same-steps page one other first second within_one within_other same =
-    same-ordered Falls (λ x y before after. omega (arith, before.0, after.0)) one other first.falling second.falling
+    same-ordered Falls (λ x y before after. omega (arith, before.0, after.0)) one other first.decreasing second.decreasing
     (λ step has. step-there page one other first second same step has (All-contains (λ (any : Config). any.width ≤ page) one step within_one has))
     (λ step has. step-there page other one second first (λ w within. sym (same w within)) step has
     (All-contains (λ (any : Config). any.width ≤ page) other step within_other has))
@@ -167,7 +167,7 @@ same-steps page one other first second within_one within_other same =
 pub AreStepsOf-unique : (needs : ℕ → ℕ → Type 0) (page : ℕ) (one other : List Config) → AreStepsOf needs page one → AreStepsOf needs page other →
     one ≡ other
 AreStepsOf-unique needs page one other first second =
-    same-steps page one other first.falling second.falling first.within second.within
+    same-steps page one other first.decreasing second.decreasing first.within second.within
     (λ w within. same-option (height_at one w) (height_at other w)
     (λ n is. (second.each w n within).1 ((first.each w n within).0 is))
     (λ n is. (first.each w n within).1 ((second.each w n within).0 is)))
@@ -176,7 +176,7 @@ AreStepsOf-unique needs page one other first second =
 pub AreStepsOf-same : (needs others : ℕ → ℕ → Type 0) (page : ℕ) (steps : List Config) → ((w h : ℕ) → w ≤ page → needs w h → others w h) →
     ((w h : ℕ) → w ≤ page → others w h → needs w h) → AreStepsOf needs page steps → AreStepsOf others page steps
 AreStepsOf-same needs others page steps there back of = record {
-  falling = of.falling;
+  decreasing = of.decreasing;
   within = of.within;
   each = λ w h within. (λ is. there w h within ((of.each w h within).0 is), λ other. (of.each w h within).1 (back w h within other));
 }
@@ -184,17 +184,17 @@ AreStepsOf-same needs others page steps there back of = record {
 -- ---- where they come from
 
 -- what falls with the width, from some width on
-pub record IsFalling (needs : ℕ → ℕ → Type 0) (page : ℕ) : Type 0 where
+pub record IsDecreasing (needs : ℕ → ℕ → Type 0) (page : ℕ) : Type 0 where
   pub falls : (v w m n : ℕ) → v ≤ w → w ≤ page → needs v m → needs w n → n ≤ m
   pub wider : (v w m : ℕ) → v ≤ w → w ≤ page → needs v m → (n : ℕ) × needs w n
 
 -- steps are those of what is needed where each of them is needed, and each height that is needed begins with one of them
-pub AreStepsOf-from : (needs : ℕ → ℕ → Type 0) (page : ℕ) (steps : List Config) → AreSteps steps → IsFalling needs page →
+pub AreStepsOf-from : (needs : ℕ → ℕ → Type 0) (page : ℕ) (steps : List Config) → AreSteps steps → IsDecreasing needs page →
     ((step : Config) → Contains steps step → (step.width ≤ page) × needs step.width step.height) →
     ((w n : ℕ) → w ≤ page → needs w n → (step : Config) × Contains steps step × (step.width ≤ w) × (step.height ≡ n)) →
     AreStepsOf needs page steps
-AreStepsOf-from needs page steps are falling needed begun = record {
-  falling = are;
+AreStepsOf-from needs page steps are decreasing needed begun = record {
+  decreasing = are;
   within = All-from_Contains (λ step. step.width ≤ page) steps (λ step has. (needed step has).0);
   each = λ w h within. (there w h within, back w h within);
 } where
@@ -202,12 +202,12 @@ AreStepsOf-from needs page steps are falling needed begun = record {
   there w h within is =
       let at = step-at steps w h is in
       let own = (needed at.0 at.1).1 in
-      let more = falling.wider at.0.width w at.0.height at.2 within own in
+      let more = decreasing.wider at.0.width w at.0.height at.2 within own in
       let less = begun w more.0 within more.1 in
       let low = height-from_low steps less.0.height w (low-from_step steps are less.0 w less.1 less.2) in
       let same : Some h ≡ Some low.0 = sym is ∙ low.1 in
       let equal : h ≡ low.0 = cc in
-      let fall = falling.falls at.0.width w at.0.height more.0 at.2 within own more.1 in
+      let fall = decreasing.falls at.0.width w at.0.height more.0 at.2 within own more.1 in
       subst (λ n. needs w n) (let n : more.0 ≡ h = omega (arith, fall, at.3, equal, low.2, less.3) in n) more.1
 
   back : (w h : ℕ) → w ≤ page → needs w h → height_at steps w ≡ Some h
@@ -216,17 +216,17 @@ AreStepsOf-from needs page steps are falling needed begun = record {
       let low = height-from_low steps less.0.height w (low-from_step steps are less.0 w less.1 less.2) in
       let at = step-at steps w low.0 low.1 in
       let own = (needed at.0 at.1).1 in
-      let fall = falling.falls at.0.width w at.0.height h at.2 within own need in
+      let fall = decreasing.falls at.0.width w at.0.height h at.2 within own need in
       let same : low.0 ≡ h = omega (arith, low.2, less.3, at.3, fall) in
       low.1 ∙ ap Some same
 
 -- what they are of falls with the width
-pub AreStepsOf-falls : (needs : ℕ → ℕ → Type 0) (page : ℕ) (steps : List Config) → AreStepsOf needs page steps → IsFalling needs page
+pub AreStepsOf-falls : (needs : ℕ → ℕ → Type 0) (page : ℕ) (steps : List Config) → AreStepsOf needs page steps → IsDecreasing needs page
 AreStepsOf-falls needs page steps of = record {
-  falls = λ v w m n wider within first second. height-falls steps of.falling v w m n wider ((of.each v m (omega arith)).1 first)
+  falls = λ v w m n wider within first second. height-falls steps of.decreasing v w m n wider ((of.each v m (omega arith)).1 first)
       ((of.each w n within).1 second);
   wider = λ v w m wider within first.
-      let more = height-wider steps of.falling v w m wider ((of.each v m (omega arith)).1 first) in
+      let more = height-wider steps of.decreasing v w m wider ((of.each v m (omega arith)).1 first) in
       (more.0, (of.each w more.0 within).0 more.1);
 }
 
@@ -249,7 +249,7 @@ BothNeed first second w h = (m n : ℕ) × first w m × second w n × (m + n ≡
 pub AreStepsOf-stacked : (first second : ℕ → ℕ → Type 0) (page : ℕ) (a b steps : List Config) → AreStepsOf first page a → AreStepsOf second page b →
     AreSteps steps → ((w : ℕ) → height_at steps w ≡ stacked_height a b w) → AreStepsOf (BothNeed first second) page steps
 AreStepsOf-stacked first second page a b steps of_a of_b are heights = record {
-  falling = are;
+  decreasing = are;
   within = All-from_Contains (λ step. step.width ≤ page) steps within;
   each = λ w h narrow. (there w h narrow, back w h narrow);
 } where

@@ -221,5 +221,5 @@ pub widest_among-next : (least : ℕ) (items : List Content) (n : ℕ) (item : C
     item ≡ get_or items n item → width ≡ max least (widest_among (take n items)) →
     more ≡ widest_in (out-Content item) → new ≡ max width more → new ≡ max least (widest_among (take (n + 1) items))
 widest_among-next least items n item width more new within is before here max_is =
-    let front : take (n + 1) items ≡ take n items ++ item ∷ [] = take_more items n item within ∙ ap (λ last. take n items ++ last ∷ []) (sym is) in
-    omega (arith, before, here, max_is, ap widest_among front, widest_among-more (take n items) item)
+    let prefix : take (n + 1) items ≡ take n items ++ item ∷ [] = take_more items n item within ∙ ap (λ last. take n items ++ last ∷ []) (sym is) in
+    omega (arith, before, here, max_is, ap widest_among prefix, widest_among-more (take n items) item)

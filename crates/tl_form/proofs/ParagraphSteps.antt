@@ -13,7 +13,7 @@ use Rattle.tl_text.specs.Paragraph.{unit_width}
 use Rattle.tl_text.proofs.Minimals.{AllFit-from_cutting}
 use Rattle.tl_text.proofs.Paragraphs.{AllFit, AllFit-wider, LeastLines-falls, greedy_cut, greedy_cut-least}
 use Rattle.tl_form.specs.Problems.{AreStepsOf}
-use Rattle.tl_form.proofs.NeedSteps.{IsFalling, AreStepsOf-from}
+use Rattle.tl_form.proofs.NeedSteps.{IsDecreasing, AreStepsOf-from}
 
 -- a paragraph fits a width or does not
 pub fits-or-not : (w : ℕ) (atoms : List Atom) → AllFit w atoms ⊎ (AllFit w atoms → ⊥)
@@ -34,8 +34,8 @@ fit-from_lines w atoms n least = let cut = least.attained in AllFit-from_cutting
 pub lines-from_fit : (w : ℕ) (atoms : List Atom) → AllFit w atoms → (n : ℕ) × LeastLines w atoms n
 lines-from_fit w atoms fit = (length (joined (greedy_cut w atoms)), greedy_cut-least w atoms fit)
 
-pub lines-falling : (atoms : List Atom) (page : ℕ) → IsFalling (λ w h. LeastLines w atoms h) page
-lines-falling atoms page = record {
+pub lines-decreasing : (atoms : List Atom) (page : ℕ) → IsDecreasing (λ w h. LeastLines w atoms h) page
+lines-decreasing atoms page = record {
   falls = λ v w m n wider within first second. LeastLines-falls v w atoms m n wider first second;
   wider = λ v w m wider within least. lines-from_fit w atoms (AllFit-wider v w atoms wider (fit-from_lines v atoms m least));
 }
@@ -87,7 +87,7 @@ begins atoms (suc w) n least =
 pub paragraph-steps : (atoms : List Atom) (page : ℕ) (steps : List Config) → AreSteps steps → AreMinimal atoms page steps →
     AreStepsOf (λ w h. LeastLines w atoms h) page steps
 paragraph-steps atoms page steps are minimal =
-    AreStepsOf-from (λ w h. LeastLines w atoms h) page steps are (lines-falling atoms page)
+    AreStepsOf-from (λ w h. LeastLines w atoms h) page steps are (lines-decreasing atoms page)
     (λ step has. let is = (minimal step).0 has in (is.1, is.0.lines))
     (λ w n within least.
     let found = begins atoms w n least in

@@ -43,7 +43,7 @@ in-rows lows highs page cols n [] [] of placed = tt
 in-rows lows highs page cols n [] (one ∷ made) of placed = absurd of
 in-rows lows highs page cols n (cell ∷ cells) [] of placed = absurd of
 in-rows lows highs page cols n (cell ∷ cells) (one ∷ made) of placed = (
-  (of.0.high.falling, omega (arith, of.0.top, of.0.bottom, placed.0.2), omega (arith, of.0.bottom, placed.0.3)),
+  (of.0.high.decreasing, omega (arith, of.0.top, of.0.bottom, placed.0.2), omega (arith, of.0.bottom, placed.0.3)),
   in-rows lows highs page cols n cells made of.1 placed.1,
 )
 

@@ -39,16 +39,16 @@ module _ (needs : Table → ℕ → ℕ → Type 0) (functional : IsFunctional n
     (of : AreStepsOf (CellNeeds needs cell) page steps) where
   -- the cell has a height where they begin
   pub first-need : CellNeeds needs cell (first_width steps) (first_height steps)
-  first-need = (of.each (first_width steps) (first_height steps) (first-within page steps of.falling of.within)).0 (height-first steps of.falling)
+  first-need = (of.each (first_width steps) (first_height steps) (first-within page steps of.decreasing of.within)).0 (height-first steps of.decreasing)
 
   pub low-from_steps : first_height steps ≤ MAX_HEIGHT → IsLowCell needs page cell
   low-from_steps small = record {
-    some = let some = height-from_first steps of.falling.has_step page (first-within page steps of.falling of.within) in
+    some = let some = height-from_first steps of.decreasing.has_step page (first-within page steps of.decreasing of.within) in
         (some.0, (of.each page some.0 (omega arith)).0 some.1);
     low = λ start h begins need.
-        let inside = first-within page steps of.falling of.within in
+        let inside = first-within page steps of.decreasing of.within in
         let before = begins.from (first_width steps) (first_height steps) first-need in
-        let after = first-least steps of.falling start h ((of.each start h (omega (arith, before, inside))).1 need) in
+        let after = first-least steps of.decreasing start h ((of.each start h (omega (arith, before, inside))).1 need) in
         let same : first_width steps ≡ start = omega (arith, before, after) in
         let one = cell-functional needs functional cell start h (first_height steps) need
         (subst (λ w. CellNeeds needs cell w (first_height steps)) same first-need) in

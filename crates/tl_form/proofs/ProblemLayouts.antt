@@ -280,7 +280,7 @@ module _ (lows highs : Table → ℕ → ℕ → Type 0) (style : Style) (page :
   low-steps [] [] of = tt
   low-steps [] (one ∷ made) of = absurd of
   low-steps (cell ∷ cells) [] of = absurd of
-  low-steps (cell ∷ cells) (one ∷ made) of = (of.0.low.falling, low-steps cells made of.1)
+  low-steps (cell ∷ cells) (one ∷ made) of = (of.0.low.decreasing, low-steps cells made of.1)
 
   -- a layout of the table is one of the problem by `low`
   pub layout-low : (table : OpenTable) (problem : ProblemModel) → IsProblemBy lows highs style page table problem → AreInGrid problem →

@@ -119,7 +119,7 @@ module _ (inner : List InnerSteps) (style : Style) (page : ℕ) where
     record {
       columns = (omega (arith, of.0.left, of.0.right, placed.0.0), omega (arith, of.0.right, placed.0.1));
       rows = (omega (arith, of.0.top, of.0.bottom, placed.0.2), omega (arith, of.0.bottom, placed.0.3));
-      steps = (of.0.low.falling, of.0.high.falling);
+      steps = (of.0.low.decreasing, of.0.high.decreasing);
       same_least = same-first inner style page (out-TableCell cell) have.0 one of.0;
       low_below = below-all inner style page (out-TableCell cell) have.0 one of.0;
     },
@@ -194,7 +194,7 @@ module _ (inner : List InnerSteps) (style : Style) (page : ℕ) where
   cells-within widths (cell ∷ cells) (one ∷ made) of fit =
       let same : room (gap_of style) widths one.left one.right ≡ room (gap_of style) widths (place_of cell).left (place_of cell).right =
       ap (λ left. room (gap_of style) widths left one.right) of.0.left ∙ ap (λ right. room (gap_of style) widths (place_of cell).left right) of.0.right in
-      let least = first-least one.low of.0.low.falling fit.0.0 fit.0.1 ((of.0.low.each fit.0.0 fit.0.1 fit.0.3).1 fit.0.4) in
+      let least = first-least one.low of.0.low.decreasing fit.0.0 fit.0.1 ((of.0.low.each fit.0.0 fit.0.1 fit.0.3).1 fit.0.4) in
       (omega (arith, least, fit.0.2, same), cells-within widths cells made of.1 fit.1)
 
 -- ---- the problem

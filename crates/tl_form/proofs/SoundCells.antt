@@ -63,19 +63,19 @@ module _ (inner : List InnerSteps) (style : Style) (page : ℕ) where
   pub low-start : (nested : Table) → HasSound nested → HasStart lows nested
   low-start nested has =
       let at = opened {P = AreSoundSteps style page nested} (steps_for inner (out-Table nested).number) has in
-      start-of (λ one. one.low) nested at.0 at.1 at.2.falling.0
+      start-of (λ one. one.low) nested at.0 at.1 at.2.decreasing.0
 
   pub high-start : (nested : Table) → HasSound nested → HasStart highs nested
   high-start nested has =
       let at = opened {P = AreSoundSteps style page nested} (steps_for inner (out-Table nested).number) has in
-      start-of (λ one. one.high) nested at.0 at.1 at.2.falling.1
+      start-of (λ one. one.high) nested at.0 at.1 at.2.decreasing.1
 
   -- where there is a lower bound there is an upper one
   low-high : (nested : Table) (w h : ℕ) → HasSound nested → lows nested w h → (k : ℕ) × highs nested w k
   low-high nested w h has need =
       let at = opened {P = AreSoundSteps style page nested} (steps_for inner (out-Table nested).number) has in
-      let least = first-least at.0.low at.2.falling.0 w h (needs-to (λ one. one.low) nested at.0 at.1 w h need) in
-      let some = height-from_first at.0.high at.2.falling.1.has_step w (omega (arith, least, at.2.same)) in
+      let least = first-least at.0.low at.2.decreasing.0 w h (needs-to (λ one. one.low) nested at.0 at.1 w h need) in
+      let some = height-from_first at.0.high at.2.decreasing.1.has_step w (omega (arith, least, at.2.same)) in
       (some.0, needs-of (λ one. one.high) nested at.0 at.1 w some.0 some.1)
 
   -- the lower bound is no higher than the upper one
@@ -91,7 +91,7 @@ module _ (inner : List InnerSteps) (style : Style) (page : ℕ) where
   fits-low nested w height layout has fits =
       let at = opened {P = AreSoundSteps style page nested} (steps_for inner (out-Table nested).number) has in
       let least = at.2.least.least w height layout fits in
-      let some = height-from_first at.0.low at.2.falling.0.has_step w least in
+      let some = height-from_first at.0.low at.2.decreasing.0.has_step w least in
       (some.0, needs-of (λ one. one.low) nested at.0 at.1 w some.0 some.1)
 
   -- the upper bound is small
@@ -99,8 +99,8 @@ module _ (inner : List InnerSteps) (style : Style) (page : ℕ) where
   high-small nested w h has need =
       let at = opened {P = AreSoundSteps style page nested} (steps_for inner (out-Table nested).number) has in
       let high = needs-to (λ one. one.high) nested at.0 at.1 w h need in
-      let least = first-least at.0.high at.2.falling.1 w h high in
-      let fall = height-falls at.0.high at.2.falling.1 (first_width at.0.high) w (first_height at.0.high) h least (height-first at.0.high at.2.falling.1)
+      let least = first-least at.0.high at.2.decreasing.1 w h high in
+      let fall = height-falls at.0.high at.2.decreasing.1 (first_width at.0.high) w (first_height at.0.high) h least (height-first at.0.high at.2.decreasing.1)
       high in
       omega (arith, fall, at.2.small)
 
@@ -171,10 +171,10 @@ module _ (inner : List InnerSteps) (style : Style) (page : ℕ) where
 
     module _ (made : Cell) (of : IsCellBy lows highs page cell made) where
       inside-low : first_width made.low ≤ page
-      inside-low = first-within page made.low of.low.falling of.low.within
+      inside-low = first-within page made.low of.low.decreasing of.low.within
 
       inside-high : first_width made.high ≤ page
-      inside-high = first-within page made.high of.high.falling of.high.within
+      inside-high = first-within page made.high of.high.decreasing of.high.within
 
       pub same-first : first_width made.low ≡ first_width made.high
       same-first =
@@ -182,9 +182,9 @@ module _ (inner : List InnerSteps) (style : Style) (page : ℕ) where
           let high = first-need highs (inner-functional (λ one. one.high) inner) page cell made.high of.high in
           let there = cell-low-high (first_width made.low) (first_height made.low) low in
           let back = cell-high-low (first_width made.high) (first_height made.high) inside-high high in
-          let one = first-least made.high of.high.falling (first_width made.low) there.0
+          let one = first-least made.high of.high.decreasing (first_width made.low) there.0
           ((of.high.each (first_width made.low) there.0 inside-low).1 there.1) in
-          let other = first-least made.low of.low.falling (first_width made.high) back.0
+          let other = first-least made.low of.low.decreasing (first_width made.high) back.0
           ((of.low.each (first_width made.high) back.0 inside-high).1 back.1) in
           omega (arith, one, other)
 

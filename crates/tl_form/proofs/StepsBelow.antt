@@ -10,7 +10,7 @@ use Rattle.std.proofs.lemmas.List.Elements.{All-nil, All-push, filter-append}
 use Rattle.std.proofs.lemmas.List.Quantifiers.{all_pairs_push}
 use Rattle.tl_base.specs.declared.steps.Config.{Config}
 use Rattle.tl_base.specs.Steps.{AreSteps, first_width, height_at}
-use Rattle.tl_base.proofs.Falling.{no_step, test_le, test_le_false}
+use Rattle.tl_base.proofs.Decreasing.{no_step, test_le, test_le_false}
 use Rattle.tl_form.specs.Problems.{AreStepsOf}
 use Rattle.tl_form.specs.inner.Collecting.{is_below, with_step, AreStepsBelow}
 use Rattle.tl_form.proofs.NeedSteps.{first-least}
@@ -80,7 +80,7 @@ module _ (needs : ℕ → ℕ → Type 0) (functional : (w a b : ℕ) → needs 
     (falls : (v w a b : ℕ) → v ≤ w → needs v a → needs w b → b ≤ a) (least : ℕ) where
   pub below_none : (steps : List Config) → steps ≡ [] → AreStepsBelow needs least least steps
   below_none steps is = subst (AreStepsBelow needs least least) (sym is) (record {
-    falling = λ i j d before within. absurd (omega (arith, within));
+    decreasing = λ i j d before within. absurd (omega (arith, within));
     before = All-nil (λ (step : Config). step.width < least);
     some = λ less. absurd (omega (arith, less));
     first = λ some. absurd (omega (arith, some));
@@ -97,7 +97,7 @@ module _ (needs : ℕ → ℕ → Type 0) (functional : (w a b : ℕ) → needs 
 
     pushed : 0 < length steps → h < last.height → AreStepsBelow needs least (w + 1) (steps ++ step ∷ [])
     pushed some lower = record {
-      falling = all_pairs_push (λ a b. (a.width < b.width) × (b.height < a.height)) steps step below.falling
+      decreasing = all_pairs_push (λ a b. (a.width < b.width) × (b.height < a.height)) steps step below.decreasing
           (λ k d within. (below.before k d within, above k d within));
       before = All-push (λ each. each.width < w + 1) steps step (λ k d within. omega (arith, below.before k d within)) (omega arith);
       some = λ less. omega (arith, length-append steps (step ∷ []));
@@ -106,7 +106,7 @@ module _ (needs : ℕ → ℕ → Type 0) (functional : (w a b : ℕ) → needs 
     } where
       above : (k : ℕ) (d : Config) → k < length steps → h < (get_or steps k d).height
       above k d within = elim (cases_lt k (length steps - 1)) [
-        | inl before ↦ omega (arith, lower, (below.falling k (length steps - 1) d before (omega arith)).1, same_last d)
+        | inl before ↦ omega (arith, lower, (below.decreasing k (length steps - 1) d before (omega arith)).1, same_last d)
         | inr end ↦ let at_end : k ≡ length steps - 1 = omega (arith, end, within) in
             omega (arith, lower, ap (λ i. (get_or steps i d).height) at_end, same_last d)
       ]
@@ -131,7 +131,7 @@ module _ (needs : ℕ → ℕ → Type 0) (functional : (w a b : ℕ) → needs 
 
     alone : steps ≡ [] → AreStepsBelow needs least (w + 1) (steps ++ step ∷ [])
     alone is = subst (λ xs. AreStepsBelow needs least (w + 1) (xs ++ step ∷ [])) (sym is) (record {
-      falling = λ i j d before within. absurd (omega (arith, before, within));
+      decreasing = λ i j d before within. absurd (omega (arith, before, within));
       before = All-push (λ each. each.width < w + 1) [] step (All-nil (λ (each : Config). each.width < w + 1)) (omega arith);
       some = λ less. omega arith;
       first = λ some. sym at_least;
@@ -147,7 +147,7 @@ module _ (needs : ℕ → ℕ → Type 0) (functional : (w a b : ℕ) → needs 
 
     kept : 0 < length steps → last.height ≤ h → AreStepsBelow needs least (w + 1) steps
     kept some higher = record {
-      falling = below.falling;
+      decreasing = below.decreasing;
       before = λ k d within. omega (arith, below.before k d within);
       some = λ less. some;
       first = below.first;
@@ -202,7 +202,7 @@ module _ (needs : ℕ → ℕ → Type 0) (functional : (w a b : ℕ) → needs 
   pub below_steps : (page : ℕ) (steps : List Config) → least ≤ page → AreStepsBelow needs least (page + 1) steps →
       AreStepsOf (λ w h. (least ≤ w) × needs w h) page steps
   below_steps page steps wide below = record {
-    falling = are;
+    decreasing = are;
     within = λ k d within. omega (arith, below.before k d within);
     each = λ w h within. (
       (λ is. forth w h within is),
@@ -210,7 +210,7 @@ module _ (needs : ℕ → ℕ → Type 0) (functional : (w a b : ℕ) → needs 
     );
   } where
     are : AreSteps steps
-    are = record { has_step = below.some (omega (arith, wide)); falling = below.falling }
+    are = record { has_step = below.some (omega (arith, wide)); decreasing = below.decreasing }
 
     forth : (w h : ℕ) → w ≤ page → height_at steps w ≡ Some h → (least ≤ w) × needs w h
     forth w h within is =

@@ -7,7 +7,7 @@ use Rattle.std.proofs.lemmas.List.{length_push}
 use Rattle.std.proofs.lemmas.List.Elements.{All-contains, Contains-push, Contains-push_cases, Contains-append_left}
 use Rattle.tl_base.specs.declared.steps.Config.{Config}
 use Rattle.tl_base.specs.Steps.{AreSteps, height_at}
-use Rattle.tl_base.proofs.Falling.{Falls}
+use Rattle.tl_base.proofs.Decreasing.{Falls}
 use Rattle.tl_base.proofs.Members.{All-from_Contains, AllPairs-append, AllPairs-cons, AllPairs-none, Contains-none}
 use Rattle.tl_base.proofs.Sums.{sum-cons}
 use Rattle.tl_text.specs.declared.paragraph.Atom.{Atom}
@@ -22,7 +22,7 @@ use Rattle.tl_form.specs.Tables.{OpenCell, OpenContent, tables_in, tables_of}
 use Rattle.tl_form.specs.Problems.{AreStepsOf, BlockNeeds, CellNeeds}
 use Rattle.tl_form.specs.inner.CellSteps.{BlocksNeed, IsStart}
 use Rattle.tl_form.proofs.CellNeedLemmas.{blocks-cell, cell-blocks}
-use Rattle.tl_form.proofs.NeedSteps.{IsFalling, AreStepsOf-from, height-own, step-at}
+use Rattle.tl_form.proofs.NeedSteps.{IsDecreasing, AreStepsOf-from, height-own, step-at}
 use Rattle.tl_form.proofs.ParagraphSteps.{fit-from_lines, lines-from_fit}
 use Rattle.tl_form.proofs.SoundParts.{each_joined}
 
@@ -30,8 +30,8 @@ use Rattle.tl_form.proofs.SoundParts.{each_joined}
 
 module _ (needs : ℕ → ℕ → Type 0) (start : ℕ) (begins : IsStart needs start)
     (falls : (v w m n : ℕ) → v ≤ w → needs v m → needs w n → n ≤ m) where
-  falling : (page : ℕ) → IsFalling needs page
-  falling page = record {
+  decreasing : (page : ℕ) → IsDecreasing needs page
+  decreasing page = record {
     falls = λ v w m n wider within first second. falls v w m n wider first second;
     wider = λ v w m wider within first. begins.has w (omega (arith, begins.from v m first, wider));
   }
@@ -42,7 +42,7 @@ module _ (needs : ℕ → ℕ → Type 0) (start : ℕ) (begins : IsStart needs 
       let first : Config = record { width = start; height = here.0 } in (
         first ∷ [],
         AreStepsOf-from needs start (first ∷ [])
-            (record { has_step = omega arith; falling = λ i j d before within. absurd (omega arith) }) (falling start)
+            (record { has_step = omega arith; decreasing = λ i j d before within. absurd (omega arith) }) (decreasing start)
             (λ step has. elim (Contains-push_cases [] first step has) [
               | inl none ↦ absurd (Contains-none step none)
               | inr is ↦ subst (λ (one : Config). (one.width ≤ start) × needs one.width one.height) is (omega arith, here.1)
@@ -68,7 +68,7 @@ module _ (needs : ℕ → ℕ → Type 0) (start : ℕ) (begins : IsStart needs 
               AreStepsOf-from needs (suc page) (steps ++ last ∷ [])
                   (record {
                     has_step = omega (arith, length_push steps last);
-                    falling = AllPairs-append Falls steps (last ∷ []) of.falling.falling
+                    decreasing = AllPairs-append Falls steps (last ∷ []) of.decreasing.decreasing
                         (AllPairs-cons Falls last [] (λ k d none. absurd (omega (arith, none))) (AllPairs-none Falls))
                         (λ one other first second. elim (Contains-push_cases [] last other second) [
                           | inl none ↦ absurd (Contains-none other none)
@@ -77,7 +77,7 @@ module _ (needs : ℕ → ℕ → Type 0) (start : ℕ) (begins : IsStart needs 
                               subst (λ (step : Config). Falls one step) is (omega (arith, before.0), omega (arith, before.1, lower))
                         ]);
                   })
-                  (falling (suc page))
+                  (decreasing (suc page))
                   (λ step has. elim (Contains-push_cases steps last step has) [
                     | inl old ↦ let before = step-before step old in (omega (arith, before.0), before.2)
                     | inr is ↦ subst (λ (one : Config). (one.width ≤ suc page) × needs one.width one.height) is (omega arith, next.1)
@@ -96,7 +96,7 @@ module _ (needs : ℕ → ℕ → Type 0) (start : ℕ) (begins : IsStart needs 
             )
         | inr flat ↦ (
           steps,
-          AreStepsOf-from needs (suc page) steps of.falling (falling (suc page))
+          AreStepsOf-from needs (suc page) steps of.decreasing (decreasing (suc page))
               (λ step has. let before = step-before step has in (omega (arith, before.0), before.2))
               (λ w n narrow need. elim (cases_lt w (suc page)) [
                 | inl old ↦ step-at steps w n ((of.each w n (omega (arith, old))).1 need)
@@ -115,7 +115,7 @@ module _ (needs : ℕ → ℕ → Type 0) (start : ℕ) (begins : IsStart needs 
       step-before : (step : Config) → Contains steps step → (step.width ≤ page) × ((begins.has page within).0 ≤ step.height) × needs step.width step.height
       step-before step has =
           let narrow = All-contains (λ (one : Config). one.width ≤ page) steps step of.within has in
-          let need = (of.each step.width step.height narrow).0 (height-own steps of.falling step has) in
+          let need = (of.each step.width step.height narrow).0 (height-own steps of.decreasing step has) in
           (narrow, falls step.width page step.height (begins.has page within).0 narrow need (begins.has page within).1, need)
 
   steps-after : (n : ℕ) → (steps : List Config) × AreStepsOf needs (start + n) steps

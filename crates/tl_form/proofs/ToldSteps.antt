@@ -29,12 +29,12 @@ begins_within page (step ∷ steps) are within = within 0 step (omega arith)
 pub never_wide : (bound : Bound) (told : List Told) (least page : ℕ) (steps : List Config) → AreToldSteps bound told least page steps →
     page < least → ⊥
 never_wide bound told least page steps is wide =
-    omega (arith, wide, is.begins, begins_within page steps is.are.falling is.are.within)
+    omega (arith, wide, is.begins, begins_within page steps is.are.decreasing is.are.within)
 
 pub height_missing : (bound : Bound) (told : List Told) (least page w : ℕ) (steps : List Config) → AreToldSteps bound told least page steps →
     least ≤ w → w ≤ page → ((h : ℕ) → TellsHeight bound told w h → ⊥) → ⊥
 height_missing bound told least page w steps is from within none =
-    let here = height_from steps w is.are.falling (omega (arith, is.begins, from)) in
+    let here = height_from steps w is.are.decreasing (omega (arith, is.begins, from)) in
     none here.0 ((is.are.each w here.0 within).0 here.1).1
 
 pub told_none : (bound : Bound) (told : List Told) (least : ℕ) (steps : List Config) → steps ≡ [] → AreStepsBelow (TellsHeight bound told) least least steps

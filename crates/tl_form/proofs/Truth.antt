@@ -10,7 +10,7 @@ use Rattle.std.proofs.lemmas.List.Elements.{All-nil, All-more, All-get_or, recur
 use Rattle.tl_base.specs.declared.style.Style.{Style}
 use Rattle.tl_base.specs.declared.steps.Config.{Config}
 use Rattle.tl_base.specs.Steps.{AreSteps, first_width, height_at}
-use Rattle.tl_base.proofs.Falling.{test_le}
+use Rattle.tl_base.proofs.Decreasing.{test_le}
 use Rattle.tl_base.proofs.Members.{Contains-cases, Contains-none, All-from_Contains}
 use Rattle.tl_base.specs.Style.{gap_of, edge_of}
 use Rattle.tl_problem.specs.Sizes.{total}
@@ -158,7 +158,7 @@ module _ (document : Document) (sound : IsSound document.table) (before : List S
       wide = own_steps.is_least.least w height layout fits
 
       here : (h : ℕ) × (height_at found_steps.steps.low w ≡ Some h)
-      here = height_from found_steps.steps.low w own_steps.low.falling (omega (arith, own_steps.begins.0, wide))
+      here = height_from found_steps.steps.low w own_steps.low.decreasing (omega (arith, own_steps.begins.0, wide))
 
       greatest : IsGreatestLower before (out-Table nested).number w here.0
       greatest = ((own_steps.low.each w here.0 within).0 here.1).1

@@ -20,7 +20,7 @@ use Rattle.tl_form.specs.declared.widest.Demand.{Demand}
 use Rattle.tl_form.specs.Tables.{OpenTable}
 use Rattle.tl_form.specs.Least.{IsLeastWidth}
 use Rattle.tl_form.specs.Sound.{IsSoundWithin, IsSound, place_of, places_of, table_size, cell_size, content_size}
-use Rattle.tl_form.specs.inner.Demands.{AreDemands, IsPlacedDemand, IsLeastFor}
+use Rattle.tl_form.specs.inner.Demands.{AreDemands, AreSmall, IsPlacedDemand, IsLeastFor, most_gaps, most_width}
 use Rattle.tl_form.specs.inner.LeastRooms.{IsDemandOf, AreDemandsOf, IsLeastForBlock, IsLeastForBlocks, IsLeastRoom}
 use Rattle.tl_form.proofs.LeastRoomLemmas.{AllZip-push, least_for_none, least_for_more, least_for_cell}
 use Rattle.tl_form.proofs.LeastWidths.{least_width_for}
@@ -97,7 +97,7 @@ placed_cells cols rows [] placed = tt
 placed_cells cols rows (cell ∷ cells) placed = (placed.0, placed_cells cols rows cells placed.1)
 
 pub are_demands : (style : Style) (table : Table) (demands : List Demand) → IsSound table → AreDemandsOf style (out-Table table).cells demands →
-    sum_by (λ demand. demand.width) demands + 200 * length demands ≤ 700 * table_size table → AreDemands (out-Table table).cols demands
+    AreSmall demands (table_size table) → AreDemands (out-Table table).cols demands
 are_demands style table demands sound those small = record {
   few_columns = grid.few;
   few = omega (arith, sound.size);
@@ -132,16 +132,16 @@ least_of_demands style table demands width sound those least =
 
 pub record BlocksSoFar (style : Style) (floor : ℕ) (blocks : List Content) (n width : ℕ) : Type 0 where
   pub least : IsLeastForBlocks style floor (take n blocks) width
-  pub small : width ≤ MAX_PAGE_WIDTH + 700 * sum_by content_size (take n blocks)
+  pub small : width ≤ MAX_PAGE_WIDTH + most_width (sum_by content_size (take n blocks))
 
 pub BlocksSoFar-none : (style : Style) (floor : ℕ) (blocks : List Content) → floor ≤ MAX_PAGE_WIDTH → BlocksSoFar style floor blocks 0 floor
 BlocksSoFar-none style floor blocks narrow = record { least = least_for_none style floor; small = omega arith }
 
 pub BlocksSoFar-more : (style : Style) (floor : ℕ) (blocks : List Content) (n width more : ℕ) (block : Content) → n < length blocks →
     block ≡ get_or blocks n block → BlocksSoFar style floor blocks n width →
-    IsLeastForBlock style (out-Content block) more → more ≤ 700 * content_size block → BlocksSoFar style floor blocks (n + 1) (max width more)
+    IsLeastForBlock style (out-Content block) more → more ≤ most_width (content_size block) → BlocksSoFar style floor blocks (n + 1) (max width more)
 BlocksSoFar-more style floor blocks n width more block within is before least small = record {
-  least = subst (λ front. IsLeastForBlocks style floor front (max width more))
+  least = subst (λ prefix. IsLeastForBlocks style floor prefix (max width more))
       (sym (take_more blocks n block within ∙ ap (λ last. take n blocks ++ last ∷ []) (sym is)))
       (least_for_more style floor (take n blocks) block width more before.least least);
   small = omega (arith, before.small, sum_by_more content_size blocks n block within, ap content_size is);
@@ -149,15 +149,15 @@ BlocksSoFar-more style floor blocks n width more block within is before least sm
 
 pub BlocksSoFar-all : (style : Style) (cell : TableCell) (n width : ℕ) → take n (out-TableCell cell).blocks ≡ (out-TableCell cell).blocks →
     BlocksSoFar style (out-TableCell cell).least (out-TableCell cell).blocks n width →
-    IsLeastRoom style (out-TableCell cell) width × (width + 200 ≤ 700 * cell_size cell)
+    IsLeastRoom style (out-TableCell cell) width × (width + most_gaps ≤ most_width (cell_size cell))
 BlocksSoFar-all style cell n width whole far = (
-  least_for_cell style (out-TableCell cell) width (subst (λ front. IsLeastForBlocks style (out-TableCell cell).least front width) whole far.least),
+  least_for_cell style (out-TableCell cell) width (subst (λ prefix. IsLeastForBlocks style (out-TableCell cell).least prefix width) whole far.least),
   omega (arith, far.small, cell_size-out cell, ap (sum_by content_size) whole),
 )
 
 pub record CellsSoFar (style : Style) (cells : List TableCell) (n : ℕ) (demands : List Demand) : Type 0 where
   pub each : AreDemandsOf style (take n cells) demands
-  pub small : sum_by (λ demand. demand.width) demands + 200 * length demands ≤ 700 * sum_by cell_size (take n cells)
+  pub small : AreSmall demands (sum_by cell_size (take n cells))
 
 pub CellsSoFar-none : (style : Style) (cells : List TableCell) → CellsSoFar style cells 0 []
 CellsSoFar-none style cells = record { each = tt; small = omega arith }
@@ -165,9 +165,9 @@ CellsSoFar-none style cells = record { each = tt; small = omega arith }
 pub CellsSoFar-more : (style : Style) (cells : List TableCell) (n : ℕ) (demands : List Demand) (cell : TableCell) (demand : Demand) →
     n < length cells → cell ≡ get_or cells n cell → CellsSoFar style cells n demands →
     demand.left ≡ (place_of cell).left → demand.right ≡ (place_of cell).right → IsLeastRoom style (out-TableCell cell) demand.width →
-    demand.width + 200 ≤ 700 * cell_size cell → CellsSoFar style cells (n + 1) (demands ++ demand ∷ [])
+    demand.width + most_gaps ≤ most_width (cell_size cell) → CellsSoFar style cells (n + 1) (demands ++ demand ∷ [])
 CellsSoFar-more style cells n demands cell demand within is before left right least small = record {
-  each = subst (λ front. AreDemandsOf style front (demands ++ demand ∷ []))
+  each = subst (λ prefix. AreDemandsOf style prefix (demands ++ demand ∷ []))
       (sym (take_more cells n cell within ∙ ap (λ last. take n cells ++ last ∷ []) (sym is)))
       (AllZip-push (λ one wants. IsDemandOf style (out-TableCell one) wants) (take n cells) demands cell demand before.each
       (record { left = left; right = right; room = least }));
@@ -185,22 +185,22 @@ CellsSoFar-more style cells n demands cell demand within is before left right le
 
 pub CellsSoFar-all : (style : Style) (table : Table) (n : ℕ) (demands : List Demand) → take n (out-Table table).cells ≡ (out-Table table).cells →
     CellsSoFar style (out-Table table).cells n demands →
-    AreDemandsOf style (out-Table table).cells demands × (sum_by (λ demand. demand.width) demands + 200 * length demands ≤ 700 * table_size table)
+    AreDemandsOf style (out-Table table).cells demands × (AreSmall demands (table_size table))
 CellsSoFar-all style table n demands whole far = (
-  subst (λ front. AreDemandsOf style front demands) whole far.each,
+  subst (λ prefix. AreDemandsOf style prefix demands) whole far.each,
   omega (arith, far.small, table_size-out table, ap (sum_by cell_size) whole),
 )
 
 -- a table with a column has a cell, and is no wider than so many columns for each cell and byte
 pub small_width : (style : Style) (table : Table) (demands : List Demand) (width : ℕ) → IsSound table →
     AreDemandsOf style (out-Table table).cells demands →
-    sum_by (λ demand. demand.width) demands + 200 * length demands ≤ 700 * table_size table → width ≤ sum_by (λ demand. demand.width) demands + 118 →
-    ((out-Table table).cols ≡ 0 → width ≡ 0) → width ≤ 700 * table_size table
+    AreSmall demands (table_size table) → width ≤ sum_by (λ demand. demand.width) demands + most_gaps →
+    ((out-Table table).cols ≡ 0 → width ≡ 0) → width ≤ most_width (table_size table)
 small_width style table demands width sound those small near none = go (out-Table table).cols refl
   where
     those_demands : AreDemands (out-Table table).cols demands
     those_demands = are_demands style table demands sound those small
 
-    go : (cols : ℕ) → (out-Table table).cols ≡ cols → width ≤ 700 * table_size table
+    go : (cols : ℕ) → (out-Table table).cols ≡ cols → width ≤ most_width (table_size table)
     go zero is = omega (arith, none is)
     go (suc cols) is = let there = those_demands.anchored (omega (arith, is)) in omega (arith, there.2)

@@ -39,7 +39,7 @@ pub record CellNeeds (needs : Table → ℕ → ℕ → Type 0) (cell : OpenCell
 -- these are the steps of what is needed on a page of so many columns: none begins past the page, and at each width up to
 -- it they have the height that is needed there, and none where none is
 pub record AreStepsOf (needs : ℕ → ℕ → Type 0) (page : ℕ) (steps : List Config) : Type 0 where
-  pub falling : AreSteps steps
+  pub decreasing : AreSteps steps
   pub within : All (λ step. step.width ≤ page) steps
   pub each : (w h : ℕ) → w ≤ page → (height_at steps w ≡ Some h) ↔ needs w h
 

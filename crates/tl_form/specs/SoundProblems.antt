@@ -18,7 +18,7 @@ use Rattle.tl_form.specs.Problems.{HasSoundProblem, IsProblemOf, steps_for}
 -- steps of a nested table that leave a problem sound: both begin at its least width, `low` is nowhere above `high`, and
 -- they need no more than two lines for all that the table holds
 pub record AreSoundSteps (style : Style) (page : ℕ) (nested : Table) (one : InnerSteps) : Type 0 where
-  pub falling : AreSteps one.low × AreSteps one.high
+  pub decreasing : AreSteps one.low × AreSteps one.high
   pub least : IsLeastWidth nested style (first_width one.low)
   pub same : first_width one.high ≡ first_width one.low
   pub below : (w h : ℕ) → w ≤ page → IsLowAt one.high h w → IsLowAt one.low h w

@@ -130,7 +130,7 @@ fn flat(alloc: Global, from: u32, page: u32) -> Result<Steps, AllocError>
 /// The steps of two things one above the other.
 fn stacked(alloc: Global, above: &Steps, below: &Steps) -> Result<Steps, AllocError>
     requires { first_height above.now + first_height below.now ≤ MAX_HEIGHT }
-    ensures falling { IfOk result AreSteps }
+    ensures decreasing { IfOk result AreSteps }
     ensures heights { IfOk result (λ steps. (w : ℕ) → height_at steps w ≡ stacked_height above.now below.now w) }
 {
     let steps = Steps::stack(alloc, above, below)?;

@@ -7,7 +7,7 @@ ghost use Rattle.tl_form.specs.declared.cell.TableCell.{out-TableCell};
 ghost use Rattle.tl_form.specs.Chains.{IsHeaviestChain, own_width, widest_in};
 ghost use Rattle.tl_form.specs.Least.{IsLeastWidth};
 ghost use Rattle.tl_form.specs.Sound.{IsSound, table_size};
-ghost use Rattle.tl_form.specs.inner.Demands.{IsRowOf};
+ghost use Rattle.tl_form.specs.inner.Demands.{AreSmall, IsRowOf};
 ghost use Rattle.tl_form.specs.inner.LeastRooms.{AreDemandsOf, IsLeastRoom, IsSoundBlock, IsSoundCell};
 ghost use Rattle.tl_form.specs.inner.Links.{AreOthers, IsLinked, IsLinkedBy};
 
@@ -78,7 +78,7 @@ fn heaviest_of(
     requires sound { IsSound table.now }
     requires column { 0 < (out-Table table.now).cols }
     requires each { AreDemandsOf style (out-Table table.now).cells demands.now }
-    requires small { sum_by (λ demand. demand.width) demands.now + 200 * length demands.now ≤ 700 * table_size table.now }
+    requires small { AreSmall demands.now (table_size table.now) }
     ensures least { IfOk result (λ chain. IsLeastWidth table.now style chain.weight) }
     ensures chain { IfOk result (λ chain. IsRowOf style (out-Table table.now).cols demands.now chain.numbers chain.weight) }
 {

@@ -5,7 +5,7 @@ ghost use Rattle.std.specs.List.{All, Any};
 ghost use Rattle.std.specs.List.Sorted.{IsPermutation, IsNonDecreasingBy};
 ghost use Rattle.tl_base.specs.Style.{gap_of};
 ghost use Rattle.tl_form.specs.inner.Demands.{AreDemands, IsPlacedDemand, IsLeastFor, IsRowOf, HaveArcs, arc_of};
-ghost use Rattle.tl_form.specs.inner.Demands.{number_at};
+ghost use Rattle.tl_form.specs.inner.Demands.{most_gaps, number_at};
 ghost use Rattle.tl_diff.specs.Paths.{IsHeaviest, IsPath, InOrder, LeadForward, path_weight, total_weight};
 
 use std::alloc::{AllocError, Global};
@@ -181,7 +181,7 @@ fn chain_by_arcs(
     requires plain { plain.now ≡ map (λ one. one.arc) arcs.now }
     ensures least { IfOk result (λ chain. IsLeastFor style cols demands.now chain.weight) }
     ensures chain { IfOk result (λ chain. IsRowOf style cols demands.now chain.numbers chain.weight) }
-    ensures small { IfOk result (λ chain. chain.weight ≤ sum_by (λ demand. demand.width) demands.now + 118) }
+    ensures small { IfOk result (λ chain. chain.weight ≤ sum_by (λ demand. demand.width) demands.now + most_gaps) }
 {
     let mut out = vec![in alloc; 0u32; cols as usize + 1]?;
     let (path, heaviest) = heaviest_path(alloc, cols, plain, &mut out)?;
@@ -205,7 +205,7 @@ pub fn heaviest_chain(
     requires demands { AreDemands cols demands.now }
     ensures least { IfOk result (λ chain. IsLeastFor style cols demands.now chain.weight) }
     ensures chain { IfOk result (λ chain. IsRowOf style cols demands.now chain.numbers chain.weight) }
-    ensures small { IfOk result (λ chain. chain.weight ≤ sum_by (λ demand. demand.width) demands.now + 118) }
+    ensures small { IfOk result (λ chain. chain.weight ≤ sum_by (λ demand. demand.width) demands.now + most_gaps) }
 {
     let arcs = arcs_in_order(alloc, demands, style.gap())?;
     let plain = plain_arcs(alloc, &arcs)?;

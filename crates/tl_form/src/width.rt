@@ -8,7 +8,7 @@ ghost use Rattle.tl_form.specs.declared.cell.Table.{out-Table};
 ghost use Rattle.tl_form.specs.declared.cell.TableCell.{out-TableCell};
 ghost use Rattle.tl_form.specs.Least.{IsLeastWidth};
 ghost use Rattle.tl_form.specs.Sound.{IsSound, table_size, cell_size, content_size};
-ghost use Rattle.tl_form.specs.inner.Demands.{AreDemands, IsLeastFor};
+ghost use Rattle.tl_form.specs.inner.Demands.{AreDemands, AreSmall, IsLeastFor, most_gaps, most_width};
 ghost use Rattle.tl_form.specs.inner.LeastRooms.{AreDemandsOf, IsLeastForBlock, IsLeastRoom, IsSoundBlock, IsSoundCell};
 
 use crate::cell::{Content, Table, TableCell};
@@ -25,7 +25,7 @@ pub fn least_total(
 ) -> Result<u32, AllocError>
     requires { AreDemands cols demands.now }
     ensures least { IfOk result (IsLeastFor style cols demands.now) }
-    ensures small { IfOk result (λ width. width ≤ sum_by (λ demand. demand.width) demands.now + 118) }
+    ensures small { IfOk result (λ width. width ≤ sum_by (λ demand. demand.width) demands.now + most_gaps) }
     ensures none { IfOk result (λ width. cols ≡ 0 → width ≡ 0) }
 {
     if cols == 0 {
@@ -44,9 +44,9 @@ fn width_by(
 ) -> Result<u32, AllocError>
     requires sound { IsSound table.now }
     requires each { AreDemandsOf style (out-Table table.now).cells demands.now }
-    requires small { sum_by (λ demand. demand.width) demands.now + 200 * length demands.now ≤ 700 * table_size table.now }
+    requires small { AreSmall demands.now (table_size table.now) }
     ensures least { IfOk result (IsLeastWidth table.now style) }
-    ensures small { IfOk result (λ width. width ≤ 700 * table_size table.now) }
+    ensures small { IfOk result (λ width. width ≤ most_width (table_size table.now)) }
 {
     let width = least_total(alloc, table.cols, demands, style)?;
     Ok(width)
@@ -57,8 +57,7 @@ fn width_by(
 pub fn demands_of(alloc: Global, table: &Table, style: Style) -> Result<Vec<Demand>, AllocError>
     requires { IsSound table.now }
     ensures each { IfOk result (λ demands. AreDemandsOf style (out-Table table.now).cells demands.items) }
-    ensures small { IfOk result (λ demands.
-        sum_by (λ demand. demand.width) demands.items + 200 * length demands.items ≤ 700 * table_size table.now) }
+    ensures small { IfOk result (λ demands. AreSmall demands.items (table_size table.now)) }
 {
     let mut demands = Vec::new(alloc);
     for cell in table.cells.as_slice() {
@@ -77,7 +76,7 @@ pub fn demands_of(alloc: Global, table: &Table, style: Style) -> Result<Vec<Dema
 fn cell_width(alloc: Global, cell: &TableCell, style: Style) -> Result<u32, AllocError>
     requires { IsSoundCell (out-TableCell cell.now) }
     ensures least { IfOk result (IsLeastRoom style (out-TableCell cell.now)) }
-    ensures small { IfOk result (λ width. width + 200 ≤ 700 * cell_size cell.now) }
+    ensures small { IfOk result (λ width. width + most_gaps ≤ most_width (cell_size cell.now)) }
 {
     let mut width = cell.least;
     for block in cell.blocks.as_slice() {
@@ -91,7 +90,7 @@ fn cell_width(alloc: Global, cell: &TableCell, style: Style) -> Result<u32, Allo
 fn block_width(alloc: Global, block: &Content, style: Style) -> Result<u32, AllocError>
     requires { IsSoundBlock (out-Content block.now) }
     ensures least { IfOk result (IsLeastForBlock style (out-Content block.now)) }
-    ensures small { IfOk result (λ width. width ≤ 700 * content_size block.now) }
+    ensures small { IfOk result (λ width. width ≤ most_width (content_size block.now)) }
 {
     match block {
         Content::Para(paragraph) => Ok(tl_text::least_width(paragraph)),

@@ -72,7 +72,7 @@ row_gives_step more (Some b) span spans done y number s r quiet wide m found res
     let t : Forming = with_cell number w.column span s in
     let at_row : s.row ≡ y = m.at_row in
     let f : IsFoundIn t.cells b.number number b.left y = row_overlap done y number span s r b quiet wide m found in
-    let (ahead, is) = hit_block y w.column (w.column + span.colspan) w.ahead b (passes y r.ahead r.column r.passed m.front m.rest).begins found in
+    let (ahead, is) = hit_block y w.column (w.column + span.colspan) w.ahead b (passes y r.ahead r.column r.passed m.prefix m.rest).begins found in
     let left : b.left < w.column + span.colspan = is.3 in
     let P : List ℕ → Type 0 = λ l. length l ≤ 1 in (
       record {
@@ -140,7 +140,7 @@ row_begins done s g m =
           (sound_on s.width s.width g.height (max g.height (g.row + 1)) (omega arith) (omega arith)) g.blocks m.sound;
       low = omega arith;
       same = m.same;
-      front = omega arith;
+      prefix = omega arith;
       rest = m.chain;
       past = λ x' y' lt.
           let P : List ℕ → Type 0 = λ l. length l ≤ 1 in
@@ -161,7 +161,7 @@ row_ends done y s r quiet m =
     let Q : List Block → Type 0 = λ l. Chain 0 l in
     let all_open : Chain 0 (filter (reaches y) (r.passed ++ r.ahead)) =
     subst Q (sym (filter-append (reaches y) r.passed r.ahead))
-    (chain_append 0 r.column (filter (reaches y) r.passed) (filter (reaches y) r.ahead) m.front m.rest) in
+    (chain_append 0 r.column (filter (reaches y) r.passed) (filter (reaches y) r.ahead) m.prefix m.rest) in
     record {
       cells = m.cells;
       at_row = ap (λ row. row + 1) at_row;

@@ -32,7 +32,7 @@ EndsWithin width b = b.right ≤ width
 
 -- what passing the open blocks leaves of a row
 pub record Passes (y x : ℕ) (passed ahead : List Block) (w : Walk) : Type 0 where
-  pub front : ChainTo 0 (filter (reaches y) w.passed) w.column
+  pub prefix : ChainTo 0 (filter (reaches y) w.passed) w.column
   pub rest : Chain w.column (filter (reaches y) w.ahead)
   pub begins : BeginsAfter y w.column w.ahead
   pub same : (x' y' : ℕ) → y ≤ y' → filter (spot x' y') (w.passed ++ w.ahead) ≡ filter (spot x' y') (passed ++ ahead)
@@ -69,7 +69,7 @@ passes_on : (y x : ℕ) (ps : List Block) (b : Block) (bs : List Block) (w : Wal
     b.left ≤ x → b.left < b.right → x ≤ b.left → Passes y b.right (ps ++ b ∷ []) bs w →
     Passes y x ps (b ∷ bs) w
 passes_on y x ps b bs w e le lt ge p = record {
-  front = p.front;
+  prefix = p.prefix;
   rest = p.rest;
   begins = p.begins;
   same = λ x' y' h. p.same x' y' h ∙ ap (filter (spot x' y')) (append_assoc ps (b ∷ []) bs);
@@ -102,7 +102,7 @@ all_drop P (x ∷ xs) b ys all = (all.0, all_drop P xs b ys all.1)
 -- one block dropped
 passes_ended : (y x : ℕ) (ps : List Block) (b : Block) (bs : List Block) (w : Walk) → reaches y b ≡ false → Passes y x ps bs w → Passes y x ps (b ∷ bs) w
 passes_ended y x ps b bs w e p = record {
-  front = p.front;
+  prefix = p.prefix;
   rest = p.rest;
   begins = p.begins;
   same = λ x' y' h. p.same x' y' h ∙ filter_drop (spot x' y') ps b bs (spot_ended x' y' b (not_below y y' b h e));
@@ -116,8 +116,8 @@ passes_ended y x ps b bs w e p = record {
 passes_stop : (y x : ℕ) (ps : List Block) (qs : List Block) → ChainTo 0 (filter (reaches y) ps) x →
     Chain x (filter (reaches y) qs) → BeginsAfter y x qs →
     Passes y x ps qs record { column = x; passed = ps; ahead = qs }
-passes_stop y x ps qs front rest begins = record {
-  front = front;
+passes_stop y x ps qs prefix rest begins = record {
+  prefix = prefix;
   rest = rest;
   begins = begins;
   same = λ x' y' le. refl;
@@ -128,19 +128,19 @@ passes_stop y x ps qs front rest begins = record {
 }
 
 -- a chain to a column, and one more block
-pub push_front : (y x : ℕ) (ps : List Block) (b : Block) → reaches y b ≡ true →
+pub push_prefix : (y x : ℕ) (ps : List Block) (b : Block) → reaches y b ≡ true →
     ChainTo 0 (filter (reaches y) ps) x → x ≤ b.left → b.left < b.right →
     ChainTo 0 (filter (reaches y) (ps ++ b ∷ [])) b.right
-push_front y x ps b e front le lt =
+push_prefix y x ps b e prefix le lt =
     let P : List Block → Type 0 = λ l. ChainTo 0 l b.right in
     subst P (sym (filter-append (reaches y) ps (b ∷ []) ∙ ap (λ l. filter (reaches y) ps ++ l) (filter_yes (reaches y) b [] e)))
-    (chain_push 0 x (filter (reaches y) ps) b front le lt)
+    (chain_push 0 x (filter (reaches y) ps) b prefix le lt)
 
 -- all blocks that take the columns are passed
 pub passes : (y : ℕ) (qs : List Block) (x : ℕ) (ps : List Block) → ChainTo 0 (filter (reaches y) ps) x →
     Chain x (filter (reaches y) qs) → Passes y x ps qs (pass_taken y x ps qs)
-passes y [] x ps front rest = passes_stop y x ps [] front rest tt
-passes y (b ∷ bs) x ps front rest =
+passes y [] x ps prefix rest = passes_stop y x ps [] prefix rest tt
+passes y (b ∷ bs) x ps prefix rest =
     let P : Walk → Type 0 = λ w. Passes y x ps (b ∷ bs) w in
     elim (cases_Bool (reaches y b)) [
       | inl e ↦
@@ -150,12 +150,12 @@ passes y (b ∷ bs) x ps front rest =
                 let le : b.left ≤ x = leb-true b.left x f in
                 subst P (sym (pass_on y x ps b bs e f))
                 (passes_on y x ps b bs (pass_taken y b.right (ps ++ b ∷ []) bs) e le d.1 d.0
-                (passes y bs b.right (ps ++ b ∷ []) (push_front y x ps b e front d.0 d.1) d.2))
+                (passes y bs b.right (ps ++ b ∷ []) (push_prefix y x ps b e prefix d.0 d.1) d.2))
             | inr f ↦
                 subst P (sym (pass_stop y x ps b bs e f))
-                (passes_stop y x ps (b ∷ bs) front rest (e, leb-false b.left x f))
+                (passes_stop y x ps (b ∷ bs) prefix rest (e, leb-false b.left x f))
           ]
       | inr e ↦
           subst P (sym (pass_ended y x ps b bs e))
-          (passes_ended y x ps b bs (pass_taken y x ps bs) e (passes y bs x ps front (chain_no x y b bs e rest)))
+          (passes_ended y x ps b bs (pass_taken y x ps bs) e (passes y bs x ps prefix (chain_no x y b bs e rest)))
     ]

@@ -13,7 +13,7 @@ use Rattle.tl_grid.specs.inner.OpenBlocks.{reaches, Walk, hit}
 use Rattle.tl_grid.specs.inner.Walk.{block_at, Row, placed, walk_of}
 use Rattle.tl_grid.proofs.Chains.{spot, Chain, ChainTo, spot_in, spot_before, spot_from, filter_yes, filter_no, none_left, none_right, at_most_one}
 use Rattle.tl_grid.proofs.Chains.{chain_append, chain_yes}
-use Rattle.tl_grid.proofs.Passing.{some, BeginsAfter, EndsWithin, Passes, passes, push_front}
+use Rattle.tl_grid.proofs.Passing.{some, BeginsAfter, EndsWithin, Passes, passes, push_prefix}
 use Rattle.tl_grid.proofs.Cells.{cell_of, AllQuiet, block_number, BeginsBy, numbers_here, has_cell_here, first_free_is, formed_cell}
 use Rattle.tl_grid.proofs.Later.{with_cell_before}
 
@@ -63,7 +63,7 @@ pub record RowMatches (done : List Cell) (y : ℕ) (s : Forming) (r : Row) : Typ
   pub sound : AllByRecursion (IsSound s.width r.height) r.blocks
   pub low : y < r.height
   pub same : (x' y' : ℕ) → y ≤ y' → filter (spot x' y') r.blocks ≡ filter (spot x' y') (r.passed ++ r.ahead)
-  pub front : ChainTo 0 (filter (reaches y) r.passed) r.column
+  pub prefix : ChainTo 0 (filter (reaches y) r.passed) r.column
   pub rest : Chain r.column (filter (reaches y) r.ahead)
   pub past : (x' y' : ℕ) → y' < y → length (numbers_over x' y' s.cells) ≤ 1
 
@@ -100,7 +100,7 @@ none_between : (y x : ℕ) (r : Row) (w : Walk) (right y' : ℕ) → Passes y r.
     filter (spot x y') (w.passed ++ w.ahead) ≡ []
 none_between y x r w right y' p begins ge lt le =
     filter-append (spot x y') w.passed w.ahead
-    ∙ ap (λ l. l ++ filter (spot x y') w.ahead) (none_right 0 w.column x y y' ge le w.passed p.front)
+    ∙ ap (λ l. l ++ filter (spot x y') w.ahead) (none_right 0 w.column x y y' ge le w.passed p.prefix)
     ∙ none_left right x y y' lt le w.ahead (chain_later y w.column right w.ahead begins p.rest)
 
 -- the walk comes to the column that the standard's steps come to
@@ -109,7 +109,7 @@ pub column_found : (done : List Cell) (y : ℕ) (s : Forming) (r : Row) → AllQ
     first_free (λ column. has_cell column s.row s.cells) r.column (s.width - r.column) ≡ (walk_of y r).column
 column_found done y s r quiet m =
     let w : Walk = walk_of y r in
-    let p : Passes y r.column r.passed r.ahead w = passes y r.ahead r.column r.passed m.front m.rest in
+    let p : Passes y r.column r.passed r.ahead w = passes y r.ahead r.column r.passed m.prefix m.rest in
     let wide : r.column ≤ s.width = m.wide in
     let on : r.column ≤ w.column = p.on in
     let within : w.column ≤ s.width = p.within s.width wide (all_right (EndsWithin s.width) r.passed r.ahead m.within) in
@@ -193,7 +193,7 @@ pub row_step : (done : List Cell) (y number : ℕ) (span : SpanOf) (s : Forming)
     RowMatches done y (with_cell number (walk_of y r).column span s) (placed y number span r (walk_of y r))
 row_step done y number span s r quiet wide m none =
     let w : Walk = walk_of y r in
-    let p : Passes y r.column r.passed r.ahead w = passes y r.ahead r.column r.passed m.front m.rest in
+    let p : Passes y r.column r.passed r.ahead w = passes y r.ahead r.column r.passed m.prefix m.rest in
     let b : Block = block_at number w.column y span in
     let right : ℕ = w.column + span.colspan in
     let begins : BeginsFrom y right w.ahead = no_hit y w.column right w.ahead p.begins none in
@@ -216,7 +216,7 @@ row_step done y number span s r quiet wide m none =
       low = (let h : y < r.height = m.low in omega arith);
       same = λ x' y' le. filter_insert (spot x' y') w.passed b w.ahead r.blocks (m.same x' y' le ∙ sym (p.same x' y' le))
           (λ e. none_between y x' r w right y' p begins (spot_from x' y' b e) (spot_before x' y' b e) le);
-      front = push_front y w.column w.passed b (begins_here y span.rowspan) p.front (omega arith) (omega arith);
+      prefix = push_prefix y w.column w.passed b (begins_here y span.rowspan) p.prefix (omega arith) (omega arith);
       rest = chain_later y w.column right w.ahead begins p.rest;
       past = λ x' y' lt.
           let P : List ℕ → Type 0 = λ l. length l ≤ 1 in
@@ -250,7 +250,7 @@ one_at_most_here done y s r x m =
     subst P (sym (m.same x y (omega arith)))
     (at_most_one 0 x y y (omega arith) (r.passed ++ r.ahead)
     (subst Q (sym (filter-append (reaches y) r.passed r.ahead))
-    (chain_append 0 r.column (filter (reaches y) r.passed) (filter (reaches y) r.ahead) m.front m.rest)))
+    (chain_append 0 r.column (filter (reaches y) r.passed) (filter (reaches y) r.ahead) m.prefix m.rest)))
 
 -- the blocks of the row's slots after one more cell
 numbers_placed : (done : List Cell) (y number : ℕ) (span : SpanOf) (s : Forming) (r : Row) (x x' : ℕ) →
@@ -274,7 +274,7 @@ before_overlap done y number span s r right quiet m begins x' y' (inl above) =
 before_overlap done y number span s r right quiet m begins x' y' (inr (same, left)) =
     let w : Walk = walk_of y r in
     let c : Block = block_at number w.column y span in
-    let p : Passes y r.column r.passed r.ahead w = passes y r.ahead r.column r.passed m.front m.rest in
+    let p : Passes y r.column r.passed r.ahead w = passes y r.ahead r.column r.passed m.prefix m.rest in
     let cells : List Cell = (with_cell number w.column span s).cells in
     let P : List ℕ → Type 0 = λ l. length l ≤ 1 in
     let Q : List Block → Type 0 = λ l. length (map block_number l) ≤ 1 in
@@ -298,7 +298,7 @@ pub row_overlap : (done : List Cell) (y number : ℕ) (span : SpanOf) (s : Formi
     IsFoundIn (with_cell number (walk_of y r).column span s).cells b.number number b.left y
 row_overlap done y number span s r b quiet wide m found =
     let w : Walk = walk_of y r in
-    let p : Passes y r.column r.passed r.ahead w = passes y r.ahead r.column r.passed m.front m.rest in
+    let p : Passes y r.column r.passed r.ahead w = passes y r.ahead r.column r.passed m.prefix m.rest in
     let c : Block = block_at number w.column y span in
     let at_row : s.row ≡ y = m.at_row in
     let (rest, is) = hit_block y w.column (w.column + span.colspan) w.ahead b p.begins found in
@@ -311,7 +311,7 @@ row_overlap done y number span s r b quiet wide m found =
     let alone : filter (spot b.left y) r.blocks ≡ b ∷ [] =
     m.same b.left y (omega arith) ∙ sym (p.same b.left y (omega arith))
     ∙ filter-append (spot b.left y) w.passed w.ahead
-    ∙ ap (λ l. l ++ filter (spot b.left y) w.ahead) (none_right 0 w.column b.left y y (omega arith) (omega arith) w.passed p.front)
+    ∙ ap (λ l. l ++ filter (spot b.left y) w.ahead) (none_right 0 w.column b.left y y (omega arith) (omega arith) w.passed p.prefix)
     ∙ ap (filter (spot b.left y)) is.0
     ∙ filter_yes (spot b.left y) b rest (spot_in b.left y b (omega arith) chain.1 is.1)
     ∙ ap (λ l. b ∷ l) (none_left b.right b.left y y chain.1 (omega arith) rest chain.2) in

@@ -36,7 +36,7 @@ use Rattle.tl_html.specs.Html.{paragraph_html, Flow, Cell, blocks_html, block_pa
 use Rattle.tl_html.specs.Html as html
 use Rattle.tl_html.proofs.Items.{Item, item_text, items_text, IsItem}
 use Rattle.tl_html.proofs.PageTags as page_tags
-use Rattle.tl_html.proofs.PageWords.{paragraph_items, paragraph_written, parted_items, paragraph_is_items, paragraph_marks, paragraph_goes, paragraph_stands}
+use Rattle.tl_html.proofs.PageWords.{paragraph_items, paragraph_written, clusters_items, paragraph_is_items, paragraph_marks, paragraph_goes, paragraph_stands}
 use Rattle.tl_html.proofs.PageWords.{GoesOn, goes_append, grammar_kinds, kinds_append, IsSharp, StandFor, NoGlue}
 
 -- ---- a block's text, by what the block is
@@ -75,11 +75,11 @@ last_item = record { mark = codes "</table>"; is_end = true; element = elements.
 -- A table on a page, and the table that is read back: the tokens up to its last tag are a table of the grammar, whose
 -- marks are the outline of a tree that becomes it.
 pub record TableBack (forms : TableNode → Table → Type 0) (alike : Table → Table → Type 0) (table : Table) (layout : Layout) (k : ℕ) : Type 0 where
-  pub front : List Item
-  pub are : AllByRecursion IsItem front
-  pub written : html_of table layout ≡ items_text (front ++ last_item ∷ [])
+  pub prefix : List Item
+  pub are : AllByRecursion IsItem prefix
+  pub written : html_of table layout ≡ items_text (prefix ++ last_item ∷ [])
   pub ms : Marks
-  pub reads : (rest : Kinds) (more : Marks) → grammar.Table (grammar_kinds front ++ table_end ∷ rest) (ms ++ more) rest more
+  pub reads : (rest : Kinds) (more : Marks) → grammar.Table (grammar_kinds prefix ++ table_end ∷ rest) (ms ++ more) rest more
   pub next : ℕ
   pub node : TableNode
   pub sharp : (later : Marks) → IsSharp (ms ++ later)
@@ -130,7 +130,7 @@ module _ (breaking : Breaking) (forms : TableNode → Table → Type 0) (alike :
       paragraph_html units ≡ items_text (paragraph_items atoms)
   units_written Words units atoms spelt is = ap paragraph_html is ∙ paragraph_written atoms
   units_written Any units atoms spelt is =
-      ap paragraph_html is ∙ paragraph_written (broken Any atoms) ∙ ap items_text (parted_items atoms spelt)
+      ap paragraph_html is ∙ paragraph_written (broken Any atoms) ∙ ap items_text (clusters_items atoms spelt)
 
   para_back : (block : Content) (inner : List Layout) (others : List Table) (k : ℕ) (units atoms : List Atom) → out-Content block ≡ open_content.Para units →
       units ≡ broken breaking atoms → AreSound (paragraph atoms ∷ []) → AllZip has others inner → BlockBack block inner others k
@@ -181,16 +181,16 @@ module _ (breaking : Breaking) (forms : TableNode → Table → Type 0) (alike :
       let back : Content = roll-Content (open_content.Table box') in
       let feed : Marks = character 0x0A ∷ [] in
       record {
-        items = t.front ++ last_item ∷ [];
-        are = append_each IsItem t.front (last_item ∷ []) t.are ((page_tags.table_end, (refl, tt)), tt);
+        items = t.prefix ++ last_item ∷ [];
+        are = append_each IsItem t.prefix (last_item ∷ []) t.are ((page_tags.table_end, (refl, tt)), tt);
         written = ap (λ (f : Flow). f.text) flow ∙ t.written;
         left = subst (λ (f : Flow). AllZip has others f.rest) (sym flow) left;
         ms = t.ms ++ feed;
         goes = λ k1 rest m1 more flows.
-            subst (λ (ks : Kinds). grammar.Flow (ks ++ k1) ((t.ms ++ feed) ++ m1) rest more) (sym (kinds_append t.front (last_item ∷ [])))
+            subst (λ (ks : Kinds). grammar.Flow (ks ++ k1) ((t.ms ++ feed) ++ m1) rest more) (sym (kinds_append t.prefix (last_item ∷ [])))
             (subst (λ (ks : Kinds). grammar.Flow ks ((t.ms ++ feed) ++ m1) rest more)
-            (sym (append_assoc (grammar_kinds t.front) (table_end ∷ text (0x0A ∷ []) ∷ []) k1))
-            (subst (λ (ms : Marks). grammar.Flow (grammar_kinds t.front ++ (table_end ∷ text (0x0A ∷ []) ∷ k1)) ms rest more)
+            (sym (append_assoc (grammar_kinds t.prefix) (table_end ∷ text (0x0A ∷ []) ∷ []) k1))
+            (subst (λ (ms : Marks). grammar.Flow (grammar_kinds t.prefix ++ (table_end ∷ text (0x0A ∷ []) ∷ k1)) ms rest more)
             (sym (append_assoc t.ms feed m1))
             (nested (t.reads (text (0x0A ∷ []) ∷ k1) (character 0x0A ∷ m1)) (words flows))));
         next = t.next;

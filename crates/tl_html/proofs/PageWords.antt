@@ -120,26 +120,26 @@ word_break word rest = by_units (clusters_of word)
     by_units [] = refl
     by_units (first ∷ others) = glues_break others rest
 
-parted_lead : (follows : Bool) (atoms : List Atom) → AllByRecursion IsSpelt atoms → lead follows (by_clusters atoms) ≡ lead follows atoms
-parted_lead follows [] spelt = refl
-parted_lead follows (Word word ∷ atoms) spelt =
+clusters_lead : (follows : Bool) (atoms : List Atom) → AllByRecursion IsSpelt atoms → lead follows (by_clusters atoms) ≡ lead follows atoms
+clusters_lead follows [] spelt = refl
+clusters_lead follows (Word word ∷ atoms) spelt =
     word_lead follows word (by_clusters atoms) spelt.0
-    ∙ ap (λ (cs : List ℕ). cond follows (0x20 ∷ []) [] ++ (word ++ cs)) (parted_lead true atoms spelt.1)
-parted_lead follows (Glue unit ∷ atoms) spelt = ap (λ (cs : List ℕ). unit ++ cs) (parted_lead true atoms spelt.1)
-parted_lead follows (Break ∷ atoms) spelt = refl
+    ∙ ap (λ (cs : List ℕ). cond follows (0x20 ∷ []) [] ++ (word ++ cs)) (clusters_lead true atoms spelt.1)
+clusters_lead follows (Glue unit ∷ atoms) spelt = ap (λ (cs : List ℕ). unit ++ cs) (clusters_lead true atoms spelt.1)
+clusters_lead follows (Break ∷ atoms) spelt = refl
 
-parted_break : (atoms : List Atom) → AllByRecursion IsSpelt atoms → break_items (by_clusters atoms) ≡ break_items atoms
-parted_break [] spelt = refl
-parted_break (Word word ∷ atoms) spelt = word_break word (by_clusters atoms) ∙ parted_break atoms spelt.1
-parted_break (Glue unit ∷ atoms) spelt = parted_break atoms spelt.1
-parted_break (Break ∷ atoms) spelt =
-    ap (λ (cs : List ℕ). break_item cs ∷ break_items (by_clusters atoms)) (parted_lead false atoms spelt.1)
-    ∙ ap (λ (items : List Item). break_item (lead false atoms) ∷ items) (parted_break atoms spelt.1)
+clusters_break : (atoms : List Atom) → AllByRecursion IsSpelt atoms → break_items (by_clusters atoms) ≡ break_items atoms
+clusters_break [] spelt = refl
+clusters_break (Word word ∷ atoms) spelt = word_break word (by_clusters atoms) ∙ clusters_break atoms spelt.1
+clusters_break (Glue unit ∷ atoms) spelt = clusters_break atoms spelt.1
+clusters_break (Break ∷ atoms) spelt =
+    ap (λ (cs : List ℕ). break_item cs ∷ break_items (by_clusters atoms)) (clusters_lead false atoms spelt.1)
+    ∙ ap (λ (items : List Item). break_item (lead false atoms) ∷ items) (clusters_break atoms spelt.1)
 
-pub parted_items : (atoms : List Atom) → AllByRecursion IsSpelt atoms → paragraph_items (by_clusters atoms) ≡ paragraph_items atoms
-parted_items atoms spelt =
-    ap (λ (cs : List ℕ). start_item cs ∷ (break_items (by_clusters atoms) ++ end_item ∷ [])) (parted_lead false atoms spelt)
-    ∙ ap (λ (items : List Item). start_item (lead false atoms) ∷ (items ++ end_item ∷ [])) (parted_break atoms spelt)
+pub clusters_items : (atoms : List Atom) → AllByRecursion IsSpelt atoms → paragraph_items (by_clusters atoms) ≡ paragraph_items atoms
+clusters_items atoms spelt =
+    ap (λ (cs : List ℕ). start_item cs ∷ (break_items (by_clusters atoms) ++ end_item ∷ [])) (clusters_lead false atoms spelt)
+    ∙ ap (λ (items : List Item). start_item (lead false atoms) ∷ (items ++ end_item ∷ [])) (clusters_break atoms spelt)
 
 -- ---- the items are tags and texts
 

@@ -46,17 +46,17 @@ kinds_are (t ∷ tokens) = ap (λ (ks : Kinds). class_of t.kind ∷ ks) (kinds_a
 pub reads_back : PageReadsBack
 reads_back table layout bytes page breaking node tree becomes columns =
     let t = within_back becomes.0 columns.0 breaking node table layout 0 becomes.1 tree.sound columns.1 in
-    let items : List Item = t.front ++ last_item ∷ [] in
-    let all : AllByRecursion IsItem items = append_each IsItem t.front (last_item ∷ []) t.are ((page_tags.table_end, (refl, tt)), tt) in
+    let items : List Item = t.prefix ++ last_item ∷ [] in
+    let all : AllByRecursion IsItem items = append_each IsItem t.prefix (last_item ∷ []) t.are ((page_tags.table_end, (refl, tt)), tt) in
     let begun = begins table layout in
     let first = page.1 ∙ begun.1 in
     let (tokens, spelt) = items_spelt bytes items page.0 (page.1 ∙ t.written) (ap without_mark first ∙ sym first) all in
     let feed : Kinds = text (0x0A ∷ []) ∷ [] in
-    let read : kinds tokens ≡ grammar_kinds t.front ++ (table_end ∷ feed) = kinds_are tokens ∙ ap (map class_of) spelt.1
-    ∙ kinds_append t.front (last_item ∷ []) in
+    let read : kinds tokens ≡ grammar_kinds t.prefix ++ (table_end ∷ feed) = kinds_are tokens ∙ ap (map class_of) spelt.1
+    ∙ kinds_append t.prefix (last_item ∷ []) in
     let whole : grammar.Table (kinds tokens) t.ms feed [] =
     subst (λ (ks : Kinds). grammar.Table ks t.ms feed []) (sym read)
-    (subst (λ (ms : Marks). grammar.Table (grammar_kinds t.front ++ (table_end ∷ feed)) ms feed []) (append-nil t.ms) (t.reads feed [])) in
+    (subst (λ (ms : Marks). grammar.Table (grammar_kinds t.prefix ++ (table_end ∷ feed)) ms feed []) (append-nil t.ms) (t.reads feed [])) in
     let sharp : leading t.ms ≡ [] = subst (λ (ms : Marks). leading ms ≡ []) (append-nil t.ms) (t.sharp []) in
     let same : entries_of 0 t.ms ≡ outline t.node =
     ap (λ (ms : Marks). paragraph_of (atoms_of ms) ++ entries_after 0 t.ms) sharp

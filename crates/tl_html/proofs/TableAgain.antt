@@ -229,10 +229,10 @@ module _ (breaking : Breaking) (forms : TableNode → Table → Type 0) (alike :
     abbrev first_item : Item
     first_item = record { mark = codes "<table>"; is_end = false; element = elements.Table; spans = no_spans; text = 0x0A ∷ [] }
 
-    abbrev front : List Item
-    front = first_item ∷ (cap.items ++ (columns_items L.widths ++ rest.items))
+    abbrev prefix : List Item
+    prefix = first_item ∷ (cap.items ++ (columns_items L.widths ++ rest.items))
 
-    page_is : html_of table layout ≡ items_text (front ++ last_item ∷ [])
+    page_is : html_of table layout ≡ items_text (prefix ++ last_item ∷ [])
     page_is =
         let start : List ℕ = line (codes "<table>") in
         let end : List ℕ = line (codes "</table>") in
@@ -260,10 +260,10 @@ module _ (breaking : Breaking) (forms : TableNode → Table → Type 0) (alike :
     marks_are more = append_assoc body (grammar.table_ends ∷ []) more
         ∙ append_assoc cap.ms (grammar.columns T.cols ∷ part_marks rows rest.ms) (grammar.table_ends ∷ more)
 
-    reads : (after : Kinds) (more : Marks) → grammar.Table (grammar_kinds front ++ table_end ∷ after) (marks ++ more) after more
+    reads : (after : Kinds) (more : Marks) → grammar.Table (grammar_kinds prefix ++ table_end ∷ after) (marks ++ more) after more
     reads after more =
         let wide = grammar_kinds (columns_items L.widths) in
-        let split : grammar_kinds front ++ table_end ∷ after ≡
+        let split : grammar_kinds prefix ++ table_end ∷ after ≡
         table_start ∷ text (0x0A ∷ []) ∷ (grammar_kinds cap.items ++ (wide ++ (grammar_kinds rest.items ++ (table_end ∷ after)))) =
         ap (λ (ks : Kinds). table_start ∷ text (0x0A ∷ []) ∷ (ks ++ (table_end ∷ after))) (
         kinds_append cap.items (columns_items L.widths ++ rest.items)
@@ -543,7 +543,7 @@ module _ (breaking : Breaking) (forms : TableNode → Table → Type 0) (alike :
     pub table_again : TableBack (λ n t. BecomesBy forms breaking (out-TableNode n) (out-Table t))
         (λ a b. AreAlikeBy alike (out-Table a) (out-Table b)) table layout k
     table_again = record {
-      front = front;
+      prefix = prefix;
       are = (
         (page_tags.table_start, (refl, tt)),
         append_each IsItem cap.items (columns_items L.widths ++ rest.items) cap.are

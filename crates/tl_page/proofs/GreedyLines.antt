@@ -57,13 +57,13 @@ piece-same w (unit ∷ units) [] cut holds filled = absurd (omega (arith, ap len
 piece-same w (unit ∷ units) ([] ∷ lines) cut holds filled = absurd (cut.0.0 refl)
 piece-same w (unit ∷ units) ((first ∷ line) ∷ lines) cut holds filled =
     let sum = sum_by-cons unit_width first line in
-    let behind = lines-more w first line lines cut.0.1 holds.1 filled in
+    let beyond = lines-more w first line lines cut.0.1 holds.1 filled in
     let along = more-along w (unit_width first) line (joined lines) (omega (arith, holds.0, sum)) in
     let same : unit_width first + sum_by unit_width line + sum_by gap_before line ≡ line_width (first ∷ line) = omega (arith, sum) in
     let all = fill-length w first [] (line ++ joined lines) in
     omega (
       arith,
-      behind,
+      beyond,
       along,
       ap (λ (n : ℕ). more w n (joined lines)) same,
       all,

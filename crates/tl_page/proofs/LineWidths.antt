@@ -49,9 +49,9 @@ begun_cell cell slot from size y begins =
     ap (λ t. if t && t then filled cell.columns (slice_get cell.lines (y - cell.first)) else []) (eq-eqb slot (cell.left + 1) begins)
 
 later_cell : (cell : Drawn) (slot from size y : ℕ) → cell.left + 1 < slot → inside_cell (Some cell) (strip_with slot slot from size) y ≡ []
-later_cell cell slot from size y behind =
+later_cell cell slot from size y beyond =
     ap (λ t. if t && t then filled cell.columns (slice_get cell.lines (y - cell.first)) else [])
-    (ne_eqb slot (cell.left + 1) (λ same. absurd (omega (arith, same, behind))))
+    (ne_eqb slot (cell.left + 1) (λ same. absurd (omega (arith, same, beyond))))
 
 module _ (style : Style) (grid : Grid) (widths heights : List ℕ) (contents : List (List Line)) where
   -- the lines of a cell are within the room of its columns
@@ -138,11 +138,11 @@ module _ (style : Style) (grid : Grid) (widths heights : List ℕ) (contents : L
           ∙ ap (λ some. inside_cell some (strip_with slot slot from size) y) cell.3
           ∙ begun_cell (drawn style widths heights place cell.0) slot from size y begins
           ∙ ap (λ some. content_at some y) (sym cell.3);
-      later = λ slot from size n place some at behind. let cell = drawn_at n place at in
+      later = λ slot from size n place some at beyond. let cell = drawn_at n place at in
           cell_slot style (drawn_cells style widths heights grid.places contents) (owner_of grid slot down.before)
           (owner_of grid slot down.after) (strip_with slot slot from size) y n some
           ∙ ap (λ some. inside_cell some (strip_with slot slot from size) y) cell.3
-          ∙ later_cell (drawn style widths heights place cell.0) slot from size y behind;
+          ∙ later_cell (drawn style widths heights place cell.0) slot from size y beyond;
       between = λ slot from size. gap_between style (drawn_cells style widths heights grid.places contents) (owner_of grid slot down.before)
           (owner_of grid (slot + 1) down.before) (owner_of grid slot down.after) (owner_of grid (slot + 1) down.after) slot from size y;
     }

@@ -24,27 +24,27 @@ high-from : (picture : Picture) (gap edge slot from size : ℕ) (sizes : List �
     length (flat_map (strip_lines picture) (strips_from gap edge slot from (size ∷ sizes))) ≡ size + sum sizes + gap * length sizes + edge
 high-from picture gap edge slot from size [] =
     let inside : Strip = record { before = slot; after = slot; from = from; size = size } in
-    let behind : Strip = record { before = slot; after = slot + 1; from = from + size; size = edge } in
+    let beyond : Strip = record { before = slot; after = slot + 1; from = from + size; size = edge } in
     omega (
       arith,
-      length-append (strip_lines picture inside) (strip_lines picture behind ++ []),
-      length-append (strip_lines picture behind) [],
+      length-append (strip_lines picture inside) (strip_lines picture beyond ++ []),
+      length-append (strip_lines picture beyond) [],
       strip_high picture inside,
-      strip_high picture behind,
+      strip_high picture beyond,
     )
 high-from picture gap edge slot from size (next ∷ sizes) =
     let inside : Strip = record { before = slot; after = slot; from = from; size = size } in
-    let behind : Strip = record { before = slot; after = slot + 1; from = from + size; size = gap } in
+    let beyond : Strip = record { before = slot; after = slot + 1; from = from + size; size = gap } in
     let rest = flat_map (strip_lines picture) (strips_from gap edge (slot + 1) (from + size + gap) (next ∷ sizes)) in
     let others = high-from picture gap edge (slot + 1) (from + size + gap) next sizes in
     let head = sum_by-cons (λ x. x) next sizes in
     let product : gap * length (next ∷ sizes) ≡ gap * length sizes + gap = grind arith in
     omega (
       arith,
-      length-append (strip_lines picture inside) (strip_lines picture behind ++ rest),
-      length-append (strip_lines picture behind) rest,
+      length-append (strip_lines picture inside) (strip_lines picture beyond ++ rest),
+      length-append (strip_lines picture beyond) rest,
       strip_high picture inside,
-      strip_high picture behind,
+      strip_high picture beyond,
       others,
       head,
       product,

@@ -49,10 +49,10 @@ module _ (picture : Picture) (gap edge : ℕ) where
   high : (strip : Strip) → length (strip_lines picture strip) ≡ strip.size
   high strip = length-map-range_with_len (line_of picture strip) strip.from strip.size
 
-  behind : (slot from top past i : ℕ) (size : ℕ) (sizes : List ℕ) (top' past' : ℕ) → top ≤ suc top' → past ≡ suc past' →
+  beyond : (slot from top past i : ℕ) (size : ℕ) (sizes : List ℕ) (top' past' : ℕ) → top ≤ suc top' → past ≡ suc past' →
       size + gap ≤ i → following gap edge sizes ≡ gap → LiesIn (slot + 1) (from + size + gap) top' past' (i - size - gap) sizes →
       LiesIn slot from top past i (size ∷ sizes)
-  behind slot from top past i size sizes top' past' begin end far gapped rest =
+  beyond slot from top past i size sizes top' past' begin end far gapped rest =
       let inner : Strip = record { before = slot; after = slot; from = from; size = size } in
       let outer : Strip = record { before = slot; after = slot + 1; from = from + size; size = following gap edge sizes } in
       let others = flat_map (strip_lines picture) (strips_from gap edge (slot + 1) (from + size + gap) sizes) in
@@ -83,19 +83,19 @@ module _ (picture : Picture) (gap edge : ℕ) where
 
   in_gap : (slot from past i size next : ℕ) (sizes : List ℕ) → size ≤ i → i < size + gap →
       LiesIn slot from zero (suc (suc past)) i (size ∷ next ∷ sizes)
-  in_gap slot from past i size next sizes behind_it between =
+  in_gap slot from past i size next sizes beyond_it between =
       let inner : Strip = record { before = slot; after = slot; from = from; size = size } in
       let outer : Strip = record { before = slot; after = slot + 1; from = from + size; size = gap } in
       let others = flat_map (strip_lines picture) (strips_from gap edge (slot + 1) (from + size + gap) (next ∷ sizes)) in
-      let line : from + size + (i - size) ≡ from + i = omega (arith, behind_it) in
+      let line : from + size + (i - size) ≡ from + i = omega (arith, beyond_it) in
       record {
         down = outer;
         begins = omega arith;
         ordered = omega arith;
         ends = omega arith;
-        here = get-right (strip_lines picture inner) (strip_lines picture outer ++ others) (i - size) i (omega (arith, high inner, behind_it))
-            ∙ get-left (strip_lines picture outer) others (i - size) (omega (arith, high outer, between, behind_it))
-            ∙ get-range (line_of picture outer) (from + size) gap (i - size) (omega (arith, between, behind_it))
+        here = get-right (strip_lines picture inner) (strip_lines picture outer ++ others) (i - size) i (omega (arith, high inner, beyond_it))
+            ∙ get-left (strip_lines picture outer) others (i - size) (omega (arith, high outer, between, beyond_it))
+            ∙ get-range (line_of picture outer) (from + size) gap (i - size) (omega (arith, between, beyond_it))
             ∙ ap (λ (y : ℕ). Some (line_of picture outer y)) line;
       }
 
@@ -107,7 +107,7 @@ module _ (picture : Picture) (gap edge : ℕ) where
   lies_in slot from (suc top) (suc past) i (size ∷ next ∷ sizes) ahead within first last =
       let start = position-cons gap size (next ∷ sizes) top in
       let end = position-cons gap size (next ∷ sizes) past in
-      behind slot from (suc top) (suc past) i size (next ∷ sizes) top past (omega arith) refl (omega (arith, first, start)) refl
+      beyond slot from (suc top) (suc past) i size (next ∷ sizes) top past (omega arith) refl (omega (arith, first, start)) refl
       (lies_in (slot + 1) (from + size + gap) top past (i - size - gap) (next ∷ sizes) (omega (arith, ahead)) (omega (arith, within))
       (omega (arith, first, start)) (omega (arith, last, end, first, start)))
   lies_in slot from zero (suc zero) i (size ∷ sizes) ahead within first last =
@@ -115,11 +115,11 @@ module _ (picture : Picture) (gap edge : ℕ) where
   lies_in slot from zero (suc (suc past)) i (size ∷ []) ahead within first last = absurd (omega (arith, within))
   lies_in slot from zero (suc (suc past)) i (size ∷ next ∷ sizes) ahead within first last = elim (cases_lt i size) [
     | inl before ↦ in_slot slot from (suc past) i size (next ∷ sizes) before
-    | inr behind_it ↦ elim (cases_lt i (size + gap)) [
-      | inl between ↦ in_gap slot from past i size next sizes behind_it between
+    | inr beyond_it ↦ elim (cases_lt i (size + gap)) [
+      | inl between ↦ in_gap slot from past i size next sizes beyond_it between
       | inr far ↦
           let end = position-cons gap size (next ∷ sizes) (suc past) in
-          behind slot from zero (suc (suc past)) i size (next ∷ sizes) zero (suc past) (omega arith) refl far refl
+          beyond slot from zero (suc (suc past)) i size (next ∷ sizes) zero (suc past) (omega arith) refl far refl
           (lies_in (slot + 1) (from + size + gap) zero (suc past) (i - size - gap) (next ∷ sizes) (omega arith) (omega (arith, within))
           (omega arith) (omega (arith, last, end, far)))
     ]

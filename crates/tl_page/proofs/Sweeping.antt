@@ -210,7 +210,7 @@ module _ (kind : ℕ → Option ℕ) (places : List Place) (gap edge : ℕ) (wid
         | inl (none, past) ↦ past
         | inr (n, place, here, at, past) ↦ elim (cases_lt (slot + 1) place.right) [
           | inl before ↦ absurd (apart n here (is.whole (slot + 1) (slot + 1 + 1) n place here at (omega (arith, reaches n place here at)) (omega arith)))
-          | inr behind ↦ omega (arith, past, inside n place here at)
+          | inr beyond ↦ omega (arith, past, inside n place here at)
         ]
       ] where
         reaches : (n : ℕ) (place : Place) → kind (slot + 1) ≡ Some n → slice_get places n ≡ Some place → place.left < slot + 1
@@ -331,13 +331,13 @@ module _ (kind : ℕ → Option ℕ) (places : List Place) (gap edge : ℕ) (wid
         HasWidth (flat_map piece (strips gap edge widths)) (total gap edge widths)
     last_line slot end after =
         let none : drop (slot + 1) widths ≡ [] = drop_all (slot + 1) widths (omega (arith, end)) in
-        let behind = λ (sizes : List ℕ). piece (strip_with (slot + 1) (slot + 1 + 1) after.from (following gap edge sizes))
+        let beyond = λ (sizes : List ℕ). piece (strip_with (slot + 1) (slot + 1 + 1) after.from (following gap edge sizes))
         ++ flat_map piece (strips_from gap edge (slot + 1 + 1) (after.from + gap) sizes) in
         let text = piece (strip_with (slot + 1) (slot + 1 + 1) after.from edge) in
         HasWidth-same (after.written ++ text) (flat_map piece (strips gap edge widths)) (total gap edge widths)
         (HasWidth-append after.written text after.width edge (total gap edge widths) after.wide (drawn_width edge text drawn)
         (omega (arith, after.all, ap (position gap widths) (past ∙ end), total-position gap edge widths (omega (arith, end)))))
-        (sym (after.left ∙ ap (λ sizes. after.written ++ behind sizes) none ∙ ap (λ more. after.written ++ more) (append-nil text))) where
+        (sym (after.left ∙ ap (λ sizes. after.written ++ beyond sizes) none ∙ ap (λ more. after.written ++ more) (append-nil text))) where
           nothing : (n : ℕ) → kind (slot + 1 + 1) ≡ Some n → ⊥
           nothing n here = let lies = is.placed (slot + 1 + 1) n here in omega (arith, lies.3, lies.4, end)
 
@@ -349,11 +349,11 @@ module _ (kind : ℕ → Option ℕ) (places : List Place) (gap edge : ℕ) (wid
 
           past : after.past ≡ slot + 1
           past = elim after.ends [
-            | inl (bare, behind) ↦ behind
-            | inr (n, place, here, at, behind) ↦
+            | inl (bare, beyond) ↦ beyond
+            | inr (n, place, here, at, beyond) ↦
                 let lies = is.placed (slot + 1) n here in
                 let same = ap (λ (place : Place). place.right) (same_Some lies.0 place (sym lies.1 ∙ at)) in
-                omega (arith, behind, same, lies.3, lies.4, end)
+                omega (arith, beyond, same, lies.3, lies.4, end)
           ]
 
     pub whole_line : HasWidth (flat_map piece (strips gap edge widths)) (total gap edge widths)

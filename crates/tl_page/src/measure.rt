@@ -1,16 +1,16 @@
 //! Decides whether a layout fits a page, by what each cell takes of its room.
 
-ghost use Rattle.std.specs.Prelude.{◌≡◌, ◌↔◌, ◌+◌, ◌*◌, ◌<◌, ◌≤◌, ◌^◌, ℕ, length, sum, IfSome, IsTrue};
+ghost use Rattle.std.specs.Prelude.{◌↔◌, ◌<◌, ◌≤◌, ◌^◌, ℕ, IfSome, IsTrue};
 ghost use Rattle.tl_form.specs.Layouts.{Fits};
 ghost use Rattle.tl_form.specs.Sound.{IsSound};
 ghost use Rattle.tl_form.specs.declared.cell.Content.{out-Content};
 ghost use Rattle.tl_form.specs.declared.cell.TableCell.{out-TableCell};
 ghost use Rattle.tl_form.specs.inner.LeastRooms.{IsSoundBlock, IsSoundCell};
-ghost use Rattle.tl_problem.specs.Sizes.{room, total};
 ghost use Rattle.tl_page.specs.inner.Taking.{TakesBlock, TakesCell, TakesTable};
 
 use tl_base::{MAX_HEIGHT, Style};
 use tl_form::{Content, Layout, Table, TableCell};
+use tl_problem::{room_size, total_size};
 use tl_text::count_lines;
 
 /// What a block takes of its cell.
@@ -20,47 +20,6 @@ pub struct Taken {
     pub lines: u64,
     /// The number of the layout that the next nested table has.
     pub next: usize,
-}
-
-/// The sizes in all.
-fn sum_of(sizes: &[u32]) -> u64
-    requires { length sizes.now < 2 ^ 31 }
-    ensures sum { result ≡ sum sizes.now }
-    ensures small { result ≤ length sizes.now * 2 ^ 32 }
-{
-    let mut all: u64 = 0;
-    for size in sizes {
-        all += u64::from(*size);
-    }
-    all
-}
-
-/// The room of a span of columns or rows, with the gaps inside it.
-fn room_of(gap: u32, sizes: &[u32], from: u32, past: u32) -> u64
-    requires gap { gap ≤ 2 }
-    requires ahead { from < past }
-    requires within { past ≤ length sizes.now }
-    requires few { length sizes.now < 2 ^ 12 }
-    ensures room { result ≡ room gap sizes.now from past }
-    ensures small { result < 2 ^ 45 }
-{
-    let inside = &sizes[from as usize..past as usize];
-    sum_of(inside) + u64::from(gap) * u64::from(past - from - 1)
-}
-
-/// The total of columns or rows, with the gaps between them and an edge at each side.
-fn total_of(gap: u32, edge: u32, sizes: &[u32]) -> u64
-    requires gap { gap ≤ 2 }
-    requires edge { edge ≤ 1 }
-    requires few { length sizes.now < 2 ^ 12 }
-    ensures total { result ≡ total gap edge sizes.now }
-    ensures small { result < 2 ^ 45 }
-{
-    if sizes.is_empty() {
-        return 0;
-    }
-    let gaps = sizes.len() as u64 - 1;
-    sum_of(sizes) + u64::from(gap) * gaps + 2 * u64::from(edge)
 }
 
 /// The height of a page of `width` columns that the layout fits; `None` where it fits none.
@@ -75,14 +34,14 @@ fn height_in(table: &Table, style: Style, width: u32, layout: &Layout) -> Option
     if widths.len() != table.cols as usize || heights.len() != table.rows as usize {
         return None;
     }
-    if total_of(style.gap(), style.edge(), widths) > u64::from(width) {
+    if total_size(style.gap(), style.edge(), widths) > u64::from(width) {
         return None;
     }
     let mut next = 0;
     for cell in table.cells.as_slice() {
         let place = cell.place;
-        let columns = room_of(style.gap(), widths, place.left, place.right);
-        let lines = room_of(style.row_gap(), heights, place.top, place.bottom);
+        let columns = room_size(style.gap(), widths, place.left, place.right);
+        let lines = room_size(style.row_gap(), heights, place.top, place.bottom);
         let inner = layout.inner.as_slice();
         next = match past_cell(cell, style, columns as u32, lines, inner, next) {
             Some(past) => past,
@@ -92,7 +51,7 @@ fn height_in(table: &Table, style: Style, width: u32, layout: &Layout) -> Option
     if next < layout.inner.len() {
         return None;
     }
-    Some(total_of(style.row_gap(), style.edge(), heights))
+    Some(total_size(style.row_gap(), style.edge(), heights))
 }
 
 /// The number of the layout after those of a cell in a room of `width` columns and `height` lines, of

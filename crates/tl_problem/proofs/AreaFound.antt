@@ -9,6 +9,7 @@ use Rattle.std.proofs.lemmas.Nat.{div-add-mod', mod_below}
 use Rattle.std.proofs.lemmas.List.{length_push}
 use Rattle.std.proofs.lemmas.List.Sums.{sum_by-cons, sum_by_push, get_or-le-sum_by}
 use Rattle.std.proofs.Math.Nat.{mul-le-mul, mul-le-mul_right}
+use Rattle.tl_base.specs.declared.limits.TheConstants.{MAX_HEIGHT}
 use Rattle.tl_base.specs.Style.{gap_of, row_gap_of, edge_of}
 use Rattle.tl_base.specs.declared.style.Style.{Style}
 use Rattle.tl_base.specs.declared.style.Style.TheVariants.{Plain, Frame}
@@ -204,13 +205,13 @@ module _ (problem : ProblemModel) (sound : IsSound problem) (Among : List ℕ �
         spread e g s n = grind arith
 
   -- so few lines hold them
-  pub areas-small : (total : ℕ) → HaveAreas problem Among (length problem.cells) total → total ≤ (1073741824 + length problem.cells) * end
+  pub areas-small : (total : ℕ) → HaveAreas problem Among (length problem.cells) total → total ≤ (MAX_HEIGHT + length problem.cells) * end
   areas-small total h =
       let each = sum-le (λ c. end * (greatest_height c.high + 1)) problem.cells h.areas h.count
       (λ k within. area-small k (get_or h.areas k 0) within (h.each k within)) in
       let most = mul-le-mul (upto end end (omega arith)) (upto (sum_by (λ c. greatest_height c.high) problem.cells + length problem.cells)
-      (1073741824 + length problem.cells) (omega (arith, sound.low_enough))) in
-      let turned : end * (1073741824 + length problem.cells) ≡ (1073741824 + length problem.cells) * end = grind arith in
+      (MAX_HEIGHT + length problem.cells) (omega (arith, sound.low_enough))) in
+      let turned : end * (MAX_HEIGHT + length problem.cells) ≡ (MAX_HEIGHT + length problem.cells) * end = grind arith in
       omega (arith, each, scaled problem.cells, most, turned, h.sums)
 
   pub area-few : (k least : ℕ) → k < length problem.cells → end ≤ 502 → IsLeastArea problem Among (cell_at problem.cells k) least → least ≤ 1099511627776

@@ -24,12 +24,12 @@ abbrev Falls : Config → Config → Type 0
 Falls a b = (a.width < b.width) × (b.height < a.height)
 
 tail : (step : Config) (steps : List Config) → AllPairs Falls (step ∷ steps) → AllPairs Falls steps
-tail step steps falling i j d before within = falling (suc i) (suc j) d (omega arith) (omega arith)
+tail step steps decreasing i j d before within = decreasing (suc i) (suc j) d (omega arith) (omega arith)
 
 -- steps wider than a width are none that begin up to it
 wider-none : (w : ℕ) (step : Config) (steps : List Config) → AllPairs Falls (step ∷ steps) → w ≤ step.width → filter (λ s. nat_le s.width w) steps ≡ []
-wider-none w step steps falling wide = filter-none (λ s. nat_le s.width w) steps
-    (λ k d within. let more = falling 0 (suc k) d (omega arith) (omega arith) in test_le_false (get_or steps k d).width w (omega (arith, more.0)))
+wider-none w step steps decreasing wide = filter-none (λ s. nat_le s.width w) steps
+    (λ k d within. let more = decreasing 0 (suc k) d (omega arith) (omega arith) in test_le_false (get_or steps k d).width w (omega (arith, more.0)))
 
 -- the last of those that pass is the first or one of them
 last-from : (p : Config → Bool) (x : Config) (steps : List Config) (s : Config) → last_or (Some x) (filter p steps) ≡ Some s →
@@ -51,18 +51,18 @@ last-from p x (step ∷ steps) s is =
 -- where a step begins, its height is the height
 at-step : (o : Option Config) (steps : List Config) → AllPairs Falls steps → (k : ℕ) → k < length steps →
     last_or o (filter (λ s. nat_le s.width (step_at steps k).width) steps) ≡ Some (step_at steps k)
-at-step o [] falling k within = absurd (omega arith)
-at-step o (step ∷ steps) falling zero within =
+at-step o [] decreasing k within = absurd (omega arith)
+at-step o (step ∷ steps) decreasing zero within =
     let keep = test_le step.width step.width (omega arith) in
-    rw (keep, wider-none step.width step steps falling (omega arith)) refl
-at-step o (step ∷ steps) falling (suc k) within =
-    let wide = falling 0 (suc k) (record { width = 0; height = 0 }) (omega arith) within in
+    rw (keep, wider-none step.width step steps decreasing (omega arith)) refl
+at-step o (step ∷ steps) decreasing (suc k) within =
+    let wide = decreasing 0 (suc k) (record { width = 0; height = 0 }) (omega arith) within in
     let keep = test_le step.width (step_at steps k).width (omega (arith, wide.0)) in
-    rw keep (at-step (Some step) steps (tail step steps falling) k (omega arith))
+    rw keep (at-step (Some step) steps (tail step steps decreasing) k (omega arith))
 
 pub height-at-step : (steps : List Config) → AreSteps steps → (k : ℕ) → k < length steps →
     height_at steps (step_at steps k).width ≡ Some (step_at steps k).height
-height-at-step steps are k within = ap (option_map (λ s. s.height)) (at-step None steps are.falling k within)
+height-at-step steps are k within = ap (option_map (λ s. s.height)) (at-step None steps are.decreasing k within)
 
 -- what is so of a step is so with one step before it
 shift : (o : Option Config) (step : Config) (steps : List Config) (low w : ℕ) (s : Config) →
@@ -78,26 +78,26 @@ between : (o : Option Config) (steps : List Config) → AllPairs Falls steps →
     last_or o (filter (λ x. nat_le x.width w) steps) ≡ Some s →
     (last_or o (filter (λ x. nat_le x.width low) steps) ≡ Some s) ⊎
     ((k : ℕ) × ((k < length steps) × ((step_at steps k ≡ s) × ((low < s.width) × (s.width ≤ w)))))
-between o [] falling low w more s is = inl is
-between o (step ∷ steps) falling low w more s is =
+between o [] decreasing low w more s is = inl is
+between o (step ∷ steps) decreasing low w more s is =
     elim (cases_lt low step.width) [
       | inr early ↦
           let one = test_le step.width low early in
           let other = test_le step.width w (omega arith) in
-          rw one (shift (Some step) step steps low w s (between (Some step) steps (tail step steps falling) low w more s (rw other at is)))
+          rw one (shift (Some step) step steps low w s (between (Some step) steps (tail step steps decreasing) low w more s (rw other at is)))
       | inl late ↦
           let out = test_le_false step.width low late in
-          let rest = wider-none low step steps falling (omega arith) in
+          let rest = wider-none low step steps decreasing (omega arith) in
           elim (cases_lt w step.width) [
             | inl past ↦
                 let also = test_le_false step.width w past in
-                rw out (shift o step steps low w s (between o steps (tail step steps falling) low w more s (rw also at is)))
+                rw out (shift o step steps low w s (between o steps (tail step steps decreasing) low w more s (rw also at is)))
             | inr within ↦
                 let keep = test_le step.width w within in
                 elim (last-from (λ x. nat_le x.width w) step steps s (rw keep at is)) [
                   | inl same ↦ inr (0, (omega arith, (same, (omega (arith, ap (λ x. x.width) same), omega (arith, ap (λ x. x.width) same)))))
                   | inr later ↦
-                      let wide = falling 0 (suc later.0) (record { width = 0; height = 0 }) (omega arith) (omega (arith, later.1.0)) in
+                      let wide = decreasing 0 (suc later.0) (record { width = 0; height = 0 }) (omega arith) (omega (arith, later.1.0)) in
                       inr (
                         suc later.0,
                         (
@@ -119,7 +119,7 @@ height-between steps are low w h more is = at (last_or None (filter (λ x. nat_l
   at None same none = cc
   at (Some s) same some =
       let e : s.height ≡ h = cc in
-      elim (between None steps are.falling low w more s same) [
+      elim (between None steps are.decreasing low w more s same) [
         | inl here ↦ inl (ap (option_map (λ x. x.height)) here ∙ ap Some e)
         | inr later ↦
             let width = ap (λ x. x.width) later.1.1.0 in

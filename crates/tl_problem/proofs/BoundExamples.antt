@@ -16,10 +16,10 @@ use Rattle.tl_problem.specs.Bounds.{IsGreatestRoom, IsBound}
 use Rattle.tl_problem.proofs.Heights.{test_le, IsLowAt-wider}
 use Rattle.tl_problem.proofs.Examples.{step, cell, wide, problem, within}
 
-pub falling : AreSteps wide.low
-falling = record {
+pub decreasing : AreSteps wide.low
+decreasing = record {
   has_step = omega arith;
-  falling = AllPairs-cons Falls (step 4 3) (step 7 2 ∷ step 12 1 ∷ [])
+  decreasing = AllPairs-cons Falls (step 4 3) (step 7 2 ∷ step 12 1 ∷ [])
       (All-from_recursion (Falls (step 4 3)) (step 7 2 ∷ step 12 1 ∷ []) ((omega arith, omega arith), ((omega arith, omega arith), tt)))
       (AllPairs-cons Falls (step 7 2) (step 12 1 ∷ []) (All-from_recursion (Falls (step 7 2)) (step 12 1 ∷ []) ((omega arith, omega arith), tt))
       (AllPairs-cons Falls (step 12 1) [] (All-from_recursion (Falls (step 12 1)) [] tt) (AllPairs-none Falls)));
@@ -28,7 +28,7 @@ falling = record {
   Falls a b = (a.width < b.width) × (b.height < a.height)
 
 one_step : (width height : ℕ) → AreSteps (step width height ∷ [])
-one_step width height = record { has_step = omega arith; falling = λ i j d before inside. absurd (omega arith) }
+one_step width height = record { has_step = omega arith; decreasing = λ i j d before inside. absurd (omega arith) }
 
 -- ---- bounds
 
@@ -86,7 +86,7 @@ module _ (zone : List Range) (most need : ℕ) (some : 5 ≤ most) (is : height_
     tall : Given wide
     tall w greatest =
         let more = greatest.never_more (1 ∷ (most - 3) ∷ []) (fill 1 (most - 3) (omega arith) (omega arith) (omega arith)) in
-        IsLowAt-wider wide.low falling (cell_height problem (need ∷ 1 ∷ []) wide) most w (omega (arith, more))
+        IsLowAt-wider wide.low decreasing (cell_height problem (need ∷ 1 ∷ []) wide) most w (omega (arith, more))
         (subst (λ o. IsSomeAnd o (λ height. height ≤ cell_height problem (need ∷ 1 ∷ []) wide)) (sym is) (omega arith))
 
     short_first : Given (cell 0 1 1 2 (step 1 1 ∷ []))

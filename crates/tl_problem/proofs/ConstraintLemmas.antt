@@ -5,6 +5,7 @@ use Rattle.std.proofs.lemmas.Int.{ints}
 use Rattle.std.proofs.lemmas.Bool.{cases_eq, cases_lt}
 use Rattle.std.proofs.lemmas.List.{get_or_past}
 use Rattle.std.proofs.lemmas.List.Elements.{Contains-get_or}
+use Rattle.tl_base.specs.declared.limits.TheConstants.{MAX_PAGE_WIDTH}
 use Rattle.tl_base.specs.Style.{gap_of, edge_of, row_gap_of}
 use Rattle.tl_base.specs.declared.style.Style.{Style}
 use Rattle.tl_base.specs.declared.style.Style.TheVariants.{Plain, Frame}
@@ -330,7 +331,7 @@ same-matrix a b marks bounds held = made (λ m n h. record { marks = m; bounds =
 -- ---- rooms within a page are small, and there is a greatest
 
 pub room-small : (problem : ProblemModel) → IsSound problem → (widths : List ℕ) → WithinPage problem widths → (left right : ℕ) → left < right →
-    right ≤ problem.cols → room (gap_of problem.style) widths left right ≤ 500
+    right ≤ problem.cols → room (gap_of problem.style) widths left right ≤ MAX_PAGE_WIDTH
 room-small problem sound widths page left right ahead within = omega (arith, room-in_page problem widths page left right ahead within, sound.narrow)
 
 pub gap-few : (style : Style) → gap_of style ≤ 2
@@ -339,7 +340,7 @@ gap-few Frame = omega arith
 
 module _ (problem : ProblemModel) (sound : IsSound problem) (bounds : Bounds) (keeps : KeepsPage problem bounds) (left right : ℕ)
     (ahead : left < right) (within : right ≤ problem.cols) where
-  pub greatest-small : (w : ℕ) → IsGreatestRoom problem (IsLeft problem bounds) left right w → w ≤ 500
+  pub greatest-small : (w : ℕ) → IsGreatestRoom problem (IsLeft problem bounds) left right w → w ≤ MAX_PAGE_WIDTH
   greatest-small w is =
       let small = room-small problem sound is.attained.0 (keeps.page is.attained.0 is.attained.1) left right ahead within in
       omega (arith, small, is.attained.2)
@@ -352,7 +353,7 @@ module _ (problem : ProblemModel) (sound : IsSound problem) (bounds : Bounds) (k
       let small = room-small problem sound (widths_of more.0 (gap_of problem.style) problem.cols) page left right ahead within in
       omega (arith, ints, more.1.1, at, small, gap-few problem.style)
 
-  pub least-small : (w : ℕ) → IsLeastRoom problem (IsLeft problem bounds) left right w → w ≤ 500
+  pub least-small : (w : ℕ) → IsLeastRoom problem (IsLeft problem bounds) left right w → w ≤ MAX_PAGE_WIDTH
   least-small w is =
       let small = room-small problem sound is.attained.0 (keeps.page is.attained.0 is.attained.1) left right ahead within in
       omega (arith, small, is.attained.2)
@@ -365,7 +366,7 @@ module _ (problem : ProblemModel) (sound : IsSound problem) (bounds : Bounds) (k
 
 -- a class begins within the page
 pub class-small : (problem : ProblemModel) → IsSound problem → (s class : ℕ) → s < length (spans_of problem) → class < length (classes_at problem s) →
-    first_in_class problem s class ≤ 500
+    first_in_class problem s class ≤ MAX_PAGE_WIDTH
 class-small problem sound s class inside within =
     let page = sound.fits in
     let span = span-within problem sound s inside in
@@ -378,7 +379,7 @@ class-small problem sound s class inside within =
     ]
 
 -- a cell's least width is within the page
-pub first-small : (problem : ProblemModel) → IsSound problem → (k : ℕ) → k < length problem.cells → first_width (cell_at problem.cells k).low ≤ 500
+pub first-small : (problem : ProblemModel) → IsSound problem → (k : ℕ) → k < length problem.cells → first_width (cell_at problem.cells k).low ≤ MAX_PAGE_WIDTH
 first-small problem sound k within =
     let page = sound.fits in
     let cell = cell_at problem.cells k in

@@ -7,6 +7,7 @@ use Rattle.std.proofs.lemmas.Bool.{cases_lt}
 use Rattle.std.proofs.lemmas.List.{length-append, take_all, take-append-le, length-map, get_or-map, get_or_default}
 use Rattle.std.proofs.lemmas.List.Sums.{sum_by-append, sum_by-cons}
 use Rattle.std.proofs.Math.Nat.{mul-le-mul}
+use Rattle.tl_base.specs.declared.limits.TheConstants.{MAX_ROWS}
 use Rattle.tl_base.specs.Style.{row_gap_of, edge_of}
 use Rattle.tl_diff.specs.declared.paths.Arc.{Arc}
 use Rattle.tl_diff.specs.Paths.{arc_at, IsPath, path_weight, total_weight, LeadForward, InOrder}
@@ -33,7 +34,7 @@ sound-axis problem Columns cell is = is.columns
 sound-axis problem Rows cell is = is.rows
 
 -- columns and rows are few
-pub count-few : (problem : ProblemModel) (axis : Axis) → IsSound problem → count_on axis problem ≤ 2001
+pub count-few : (problem : ProblemModel) (axis : Axis) → IsSound problem → count_on axis problem ≤ MAX_ROWS + 1
 count-few problem Columns sound = omega (arith, sound.few_columns)
 count-few problem Rows sound = sound.few_rows
 
@@ -90,7 +91,7 @@ rises-sum f (suc n) rising k up =
           rw (all, whole) (omega (arith, split, before, full, step, next, one))
     ]
 
--- ---- sums of fronts
+-- ---- sums of prefixes
 
 pub sum_take-mono : (sizes : List ℕ) (from past : ℕ) → from ≤ past → sum (take from sizes) ≤ sum (take past sizes)
 sum_take-mono sizes from past more =

@@ -61,11 +61,11 @@ head_pairs R x xs all = λ k d within. all 0 (suc k) d (omega arith) (omega arit
 wider_low : (h w v : ℕ) → w ≤ v → (o : Option Config) (steps : List Config) → AllPairs (λ a b. (a.width < b.width) × (b.height < a.height)) steps →
     All (NoHigher o) steps →
     Low h (last_or o (filter (λ step. nat_le step.width w) steps)) → Low h (last_or o (filter (λ step. nat_le step.width v) steps))
-wider_low h w v more o [] falling no_higher low = low
-wider_low h w v more o (step ∷ steps) falling no_higher low =
-    let later = tail_pairs (λ a b. (a.width < b.width) × (b.height < a.height)) step steps falling in
+wider_low h w v more o [] decreasing no_higher low = low
+wider_low h w v more o (step ∷ steps) decreasing no_higher low =
+    let later = tail_pairs (λ a b. (a.width < b.width) × (b.height < a.height)) step steps decreasing in
     let lower : All (NoHigher (Some step)) steps = λ k d within. λ bound here. let fall =
-    head_pairs (λ a b. (a.width < b.width) × (b.height < a.height)) step steps falling k d within in omega (arith, fall.1, here) in
+    head_pairs (λ a b. (a.width < b.width) × (b.height < a.height)) step steps decreasing k d within in omega (arith, fall.1, here) in
     let rest : All (NoHigher o) steps = λ k d within. no_higher (suc k) d (omega arith) in
     elim (cases_lt w step.width) [
       | inr narrow ↦
@@ -86,7 +86,7 @@ wider_low h w v more o (step ∷ steps) falling no_higher low =
 
 -- what is low enough at a width is so at each greater width
 pub IsLowAt-wider : (steps : List Config) → AreSteps steps → (h w v : ℕ) → w ≤ v → IsLowAt steps h w → IsLowAt steps h v
-IsLowAt-wider steps are h w v more low = wider_low h w v more None steps are.falling (λ k d within bound none. absurd none) low
+IsLowAt-wider steps are h w v more low = wider_low h w v more None steps are.decreasing (λ k d within bound none. absurd none) low
 
 -- ---- from the first width on there is a height
 

@@ -8,6 +8,7 @@ use Rattle.std.proofs.lemmas.Bool.{cases_eq, cases_lt}
 use Rattle.std.proofs.lemmas.Bool.Decides.{nat_tests}
 use Rattle.std.proofs.lemmas.List.{get_or_default, get_or_push, get_or_append_left, get_or-set_same, get_or-set_other}
 use Rattle.std.proofs.lemmas.List.Sums.{sum_by-cons, sum_by-take-le, sum_by-take-drop, sum_by-le}
+use Rattle.tl_base.specs.declared.limits.TheConstants.{MAX_HEIGHT, MAX_PAGE_WIDTH, MAX_ROWS}
 use Rattle.tl_base.specs.Style.{gap_of, row_gap_of, edge_of}
 use Rattle.tl_base.specs.declared.style.Style.{Style}
 use Rattle.tl_base.specs.declared.style.Style.TheVariants.{Plain, Frame}
@@ -64,7 +65,7 @@ low-first (step ∷ steps) are h w low =
     ] where
       all : w < step.width → All (λ s. nat_le s.width w ≡ false) (step ∷ steps)
       all narrow zero d within = test_le_false step.width w narrow
-      all narrow (suc k) d within = let wider = are.falling 0 (suc k) d (omega arith) within in test_le_false (get_or steps k d).width w
+      all narrow (suc k) d within = let wider = are.decreasing 0 (suc k) d (omega arith) within in test_le_false (get_or steps k d).width w
           (omega (arith, wider.0, narrow))
 
 -- ---- least sizes of kinds that hold each other
@@ -234,7 +235,7 @@ last-le most p o (step ∷ steps) start all =
 heights-le : (steps : List Config) → AreSteps steps → All (λ s. s.height ≤ greatest_height steps) steps
 heights-le [] are k d within = absurd (omega arith)
 heights-le (step ∷ steps) are zero d within = omega arith
-heights-le (step ∷ steps) are (suc k) d within = let fall = are.falling 0 (suc k) d (omega arith) within in omega (arith, fall.1)
+heights-le (step ∷ steps) are (suc k) d within = let fall = are.decreasing 0 (suc k) d (omega arith) within in omega (arith, fall.1)
 
 pub height-le : (steps : List Config) → AreSteps steps → (w h : ℕ) → height_at steps w ≡ Some h → h ≤ greatest_height steps
 height-le steps are w h is = le (last_or None (filter (λ s. nat_le s.width w) steps))
@@ -244,7 +245,7 @@ height-le steps are w h is = le (last_or None (filter (λ s. nat_le s.width w) s
       le (Some s) small is = let e : s.height ≡ h = cc in omega (arith, small, e)
 
 module _ (problem : ProblemModel) (sound : IsSound problem) where
-  pub high-sum : (widths demands : List ℕ) → NeedHigh problem widths demands → sum demands ≤ 1073741824
+  pub high-sum : (widths demands : List ℕ) → NeedHigh problem widths demands → sum demands ≤ MAX_HEIGHT
   high-sum widths demands need =
       let less = sum-le (λ cell. greatest_height cell.high) problem.cells demands need.count (λ k within.
       let cell = cell_at problem.cells k in
@@ -252,7 +253,7 @@ module _ (problem : ProblemModel) (sound : IsSound problem) where
       omega (arith, less, sound.low_enough)
 
   pub low-sum : (Among : List ℕ → Type 0) (demands : List ℕ) → ((widths : List ℕ) → Among widths → WithinPage problem widths) →
-      NeedLow problem Among demands → sum demands ≤ 1073741824
+      NeedLow problem Among demands → sum demands ≤ MAX_HEIGHT
   low-sum Among demands page need =
       let less = sum-le (λ cell. greatest_height cell.high) problem.cells demands need.count (λ k within.
       let cell = cell_at problem.cells k in
@@ -267,7 +268,7 @@ module _ (problem : ProblemModel) (sound : IsSound problem) where
       omega (arith, less, sound.low_enough)
 
 -- the sum of the sizes within a page
-pub sum-page : (problem : ProblemModel) → IsSound problem → (widths : List ℕ) → WithinPage problem widths → sum widths ≤ 500
+pub sum-page : (problem : ProblemModel) → IsSound problem → (widths : List ℕ) → WithinPage problem widths → sum widths ≤ MAX_PAGE_WIDTH
 sum-page problem sound widths page = omega (arith, sum-total (gap_of problem.style) (edge_of problem.style) widths, page.page, sound.narrow) where
   sum-total : (gap edge : ℕ) (sizes : List ℕ) → sum sizes ≤ total gap edge sizes
   sum-total gap edge [] = omega arith
@@ -284,15 +285,15 @@ total-sum gap edge (size ∷ sizes) some = let rest : length (size ∷ sizes) - 
 last-under : (p : Config → Bool) (o : Option Config) (steps : List Config) → AllPairs (λ a b. (a.width < b.width) × (b.height < a.height)) steps →
     All (λ s. IfSome o (λ x. s.height ≤ x.height)) steps →
     (s : Config) → last_or o (filter p steps) ≡ Some s → IfSome (last_or o steps) (λ l. l.height ≤ s.height)
-last-under p o [] falling under s is = rw is (omega arith)
-last-under p o (step ∷ []) falling under s is = one (p step) is where
+last-under p o [] decreasing under s is = rw is (omega arith)
+last-under p o (step ∷ []) decreasing under s is = one (p step) is where
   one : (b : Bool) → last_or o (cond b (step ∷ []) []) ≡ Some s → step.height ≤ s.height
   one true is = let e : step ≡ s = cc in omega (arith, ap (λ x. x.height) e)
   one false is = let first = under 0 step (omega arith) in rw is at first
-last-under p o (step ∷ next ∷ steps) falling under s is =
-    let rest : AllPairs (λ a b. (a.width < b.width) × (b.height < a.height)) (next ∷ steps) = λ i j d before within. falling (suc i) (suc j) d
+last-under p o (step ∷ next ∷ steps) decreasing under s is =
+    let rest : AllPairs (λ a b. (a.width < b.width) × (b.height < a.height)) (next ∷ steps) = λ i j d before within. decreasing (suc i) (suc j) d
     (omega arith) (omega arith) in
-    let below : All (λ x. IfSome (Some step) (λ y. x.height ≤ y.height)) (next ∷ steps) = λ k d within. let fall = falling 0 (suc k) d (omega arith)
+    let below : All (λ x. IfSome (Some step) (λ y. x.height ≤ y.height)) (next ∷ steps) = λ k d within. let fall = decreasing 0 (suc k) d (omega arith)
     (omega arith) in omega (arith, fall.1) in
     let later : All (λ x. IfSome o (λ y. x.height ≤ y.height)) (next ∷ steps) = λ k d within. under (suc k) d (omega arith) in
     (elim (p step) as (λ b. last_or o (cond b (step ∷ filter p (next ∷ steps)) (filter p (next ∷ steps))) ≡ Some s →
@@ -309,7 +310,7 @@ last-lowest steps are w h is = at (last_or None (filter (λ s. nat_le s.width w)
   at None same is = cc
   at (Some s) same is =
       let e : s.height ≡ h = cc in
-      let under = last-under (λ x. nat_le x.width w) None steps are.falling (λ k d within. tt) s same in
+      let under = last-under (λ x. nat_le x.width w) None steps are.decreasing (λ k d within. tt) s same in
       subst (λ n. IfSome (last_or None steps) (λ last. last.height ≤ n)) e under
 
 last-there : (x : Config) (steps : List Config) → (l : Config) × (last_or (Some x) steps ≡ Some l)
@@ -359,7 +360,7 @@ pub sum-bound : (sizes : List ℕ) → ((k : ℕ) → get_or sizes k 0 < 4294967
 sum-bound sizes fit = sum_by-le (λ x. x) 4294967295 sizes (λ k d within. omega (arith, get_or_default sizes k d 0 within, fit k))
 
 -- the total height of few rows is little more than the sum
-pub total-few : (style : Style) (heights : List ℕ) → length heights ≤ 2001 → total (row_gap_of style) (edge_of style) heights ≤ sum heights + 2003
+pub total-few : (style : Style) (heights : List ℕ) → length heights ≤ MAX_ROWS + 1 → total (row_gap_of style) (edge_of style) heights ≤ sum heights + (MAX_ROWS + 3)
 total-few Plain [] few = omega arith
 total-few Frame [] few = omega arith
 total-few Plain (h ∷ heights) few = omega (arith, sum_by-cons (λ x. x) h heights)
@@ -371,7 +372,7 @@ pub all-most : (f : ℕ → ℕ) (most : ℕ) (ns : List ℕ) → ((k : ℕ) →
 all-most f most ns each = sum_by-le (λ x. x) most ns (λ k d within. omega (arith, get_or_default ns k d 0 within, each k within))
 
 module _ (problem : ProblemModel) (sound : IsSound problem) where
-  room-most : (widths : List ℕ) → WithinPage problem widths → (k : ℕ) → k < length problem.cells → cell_width problem widths (cell_at problem.cells k) ≤ 500
+  room-most : (widths : List ℕ) → WithinPage problem widths → (k : ℕ) → k < length problem.cells → cell_width problem widths (cell_at problem.cells k) ≤ MAX_PAGE_WIDTH
   room-most widths page k within =
       let cell = cell_at problem.cells k in
       let is = sound.cells k none within in
@@ -380,7 +381,7 @@ module _ (problem : ProblemModel) (sound : IsSound problem) where
   pub least-sum : (demands : List ℕ) → NeedLeast problem demands → sum demands ≤ 60030000
   least-sum demands need =
       let page = sound.fits in
-      let all = all-most (λ x. x) 500 demands
+      let all = all-most (λ x. x) MAX_PAGE_WIDTH demands
       (λ k within. omega (
         arith,
         need.each k (omega (arith, need.count)),
@@ -392,7 +393,7 @@ module _ (problem : ProblemModel) (sound : IsSound problem) where
 
   pub width-sum : (widths demands : List ℕ) → WithinPage problem widths → NeedWidths problem widths demands → sum demands ≤ 60030000
   width-sum widths demands page need =
-      let all = all-most (λ x. x) 500 demands (λ k within.
+      let all = all-most (λ x. x) MAX_PAGE_WIDTH demands (λ k within.
       let inside : k < length problem.cells = omega (arith, need.count) in
       let found = need.each k inside in
       let cell = cell_at problem.cells k in

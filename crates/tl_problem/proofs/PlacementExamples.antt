@@ -14,7 +14,7 @@ use Rattle.tl_problem.specs.Placements.{AreLeast, IsOpening}
 use Rattle.tl_problem.specs.Tight.{KeepHigh, IsTightFrom}
 use Rattle.tl_problem.proofs.Heights.{test_le, test_le_false, IsLowAt-wider}
 use Rattle.tl_problem.proofs.Examples.{step, cell, wide, problem, within}
-use Rattle.tl_problem.proofs.BoundExamples.{falling}
+use Rattle.tl_problem.proofs.BoundExamples.{decreasing}
 
 abbrev placed : List ℕ → List ℕ → ℕ → ℕ → Placed
 placed widths heights width height = record { widths = widths; heights = heights; width = width; height = height }
@@ -83,7 +83,7 @@ opening = record {
 wide-needs : (w : ℕ) → IsLowAt wide.high 2 w → 7 ≤ w
 wide-needs w low =
     elim (cases_lt w 7) [
-      | inl narrow ↦ let three = IsLowAt-wider wide.high falling 2 w 6 (omega arith) low in absurd (omega (arith, three))
+      | inl narrow ↦ let three = IsLowAt-wider wide.high decreasing 2 w 6 (omega arith) low in absurd (omega (arith, three))
       | inr enough ↦ enough
     ]
 

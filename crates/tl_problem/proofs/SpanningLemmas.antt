@@ -218,8 +218,8 @@ earlier side a b some less =
     elim (cases_lt (a / side) (b / side)) [
       | inl before ↦ inl before
       | inr after ↦ elim (cases_lt (b / side) (a / side)) [
-        | inl behind ↦
-            let more = mul-le-mul_right side (upto (b / side + 1) (a / side) (omega (arith, behind))) in
+        | inl lower ↦
+            let more = mul-le-mul_right side (upto (b / side + 1) (a / side) (omega (arith, lower))) in
             let one : (b / side + 1) * side ≡ b / side * side + side = grind arith in
             absurd (omega (arith, first, second, more, one, mod_below b side some))
         | inr within ↦

@@ -44,7 +44,7 @@ WholeHasAll = (problem : ProblemModel) → IsSound problem →
     IsZone problem (whole_zone problem) × ((widths : List ℕ) → WithinPage problem widths ↔ InZone problem (whole_zone problem) widths)
 
 -- the parts of a cut are zones that have between them the widths of the cut zone, and none in common
-pub record CutIsParted (problem : ProblemModel) (zone low high : List Range) : Type 0 where
+pub record IsPartition (problem : ProblemModel) (zone low high : List Range) : Type 0 where
   pub lower : IsZone problem low
   pub upper : IsZone problem high
   pub either : (widths : List ℕ) → InZone problem zone widths ↔ (InZone problem low widths ⊎ InZone problem high widths)
@@ -53,7 +53,7 @@ pub record CutIsParted (problem : ProblemModel) (zone low high : List Range) : T
 abbrev pub CutsArePartitions : Type 0
 CutsArePartitions = (problem : ProblemModel) → IsSound problem → (zone : List Range) → IsZone problem zone →
     (s class : ℕ) → s < length zone → (range_at zone s).first ≤ class → class < (range_at zone s).last →
-    CutIsParted problem zone (lower_part zone s class) (upper_part zone s class)
+    IsPartition problem zone (lower_part zone s class) (upper_part zone s class)
 
 -- making a placement tight makes it neither wider nor higher
 abbrev pub TightRaisesNothing : Type 0

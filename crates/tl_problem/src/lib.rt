@@ -14,6 +14,7 @@ mod laws;
 mod placed;
 mod placing;
 mod problem;
+mod sizes;
 mod sound;
 mod spans;
 #[cfg(test)]
@@ -28,7 +29,7 @@ pub use laws::{
     cuts_are_partitions, one_class_is_exact, tight_once, tight_raises_nothing, whole_has_all,
 };
 pub use placed::Placed;
-pub use placing::total_size;
 pub use problem::Problem;
+pub use sizes::{room_on_page, room_size, total_size};
 pub use work::Work;
 pub use zone::{Range, Zone};

@@ -4,16 +4,17 @@ ghost use Rattle.std.specs.Prelude.{◌≡◌, ℕ, ◌+◌, ◌<◌, ◌≤◌,
 ghost use Rattle.tl_base.specs.Steps.{AreSteps, IsLeastWidthFor, first_width, height_at};
 ghost use Rattle.tl_problem.specs.Layouts.{WithinPage};
 ghost use Rattle.tl_problem.specs.Placements.{IsOpening, IsPlacement};
-ghost use Rattle.tl_problem.specs.Sizes.{room, total};
+ghost use Rattle.tl_problem.specs.Sizes.{room};
 ghost use Rattle.tl_problem.specs.Sound.{IsSound};
 ghost use Rattle.tl_problem.specs.Tight.{IsTightFrom};
 ghost use Rattle.tl_problem.specs.inner.Needs.{NeedHigh, NeedLeast, NeedWidths};
 
 use crate::axis::Axis;
 use crate::demands::least_sizes;
+use crate::sizes::{room_on_page, total_size};
 use crate::{Cell, Placed, Problem};
 use std::alloc::AllocError;
-use tl_base::{List, MAX_COLUMNS, MAX_PAGE_WIDTH, MAX_ROWS};
+use tl_base::{List, MAX_COLUMNS, MAX_PAGE_WIDTH};
 
 impl Problem {
     /// The least heights of the rows under these widths, by the `high` steps of the cells. `None`
@@ -71,7 +72,7 @@ fn is_within_page(problem: &Problem, widths: &[u32]) -> bool
     }
     for number in 0..cells.len() {
         let cell = &cells[number];
-        if room_size(style.gap(), widths, cell.left, cell.right) < cell.low.least() {
+        if room_on_page(style.gap(), widths, cell.left, cell.right) < cell.low.least() {
             return false;
         }
     }
@@ -149,7 +150,7 @@ fn high_at(gap: u32, widths: &[u32], cell: &Cell) -> u32
     requires wide { first_width cell.now.high ≤ room gap widths.now cell.now.left cell.now.right }
     ensures { height_at cell.now.high (room gap widths.now cell.now.left cell.now.right) ≡ Some result }
 {
-    let room = room_size(gap, widths, cell.left, cell.right);
+    let room = room_on_page(gap, widths, cell.left, cell.right);
     cell.high.height_at(room).unwrap()
 }
 
@@ -167,46 +168,4 @@ fn width_at(gap: u32, widths: &[u32], cell: &Cell) -> u32
 {
     let height = high_at(gap, widths, cell);
     cell.high.width_for(height).unwrap()
-}
-
-/// The columns, or the lines, that columns or rows of these sizes take: the sizes, the gap between each two,
-/// and an edge at each side; 0 where there are none.
-pub fn total_size(gap: u32, edge: u32, sizes: &[u32]) -> u64
-    requires gap { gap ≤ 2 }
-    requires edge { edge ≤ 2 }
-    requires few { length sizes.now ≤ MAX_ROWS + 1 }
-    ensures { result ≡ total gap edge sizes.now }
-{
-    if sizes.is_empty() {
-        return 0;
-    }
-    sum_of(sizes) + u64::from(gap) * (sizes.len() as u64 - 1) + 2 * u64::from(edge)
-}
-
-/// The sum of sizes.
-fn sum_of(sizes: &[u32]) -> u64
-    requires { length sizes.now ≤ MAX_ROWS + 1 }
-    ensures { result ≡ sum sizes.now }
-{
-    sizes.iter().map(|&size| u64::from(size)).sum()
-}
-
-/// The room of a span of sizes, with the gaps between them.
-pub fn room_size(gap: u32, sizes: &[u32], from: u32, past: u32) -> u32
-    requires gap { gap ≤ 2 }
-    requires sum { sum sizes.now ≤ MAX_PAGE_WIDTH }
-    requires ahead { from < past }
-    requires within { past ≤ length sizes.now }
-    requires few { length sizes.now ≤ MAX_COLUMNS }
-    ensures { result ≡ room gap sizes.now from past }
-{
-    small_sum(&sizes[from as usize..past as usize]) + gap * (past - from - 1)
-}
-
-/// The sum of sizes that fit a page.
-fn small_sum(sizes: &[u32]) -> u32
-    requires { sum sizes.now ≤ MAX_PAGE_WIDTH }
-    ensures { result ≡ sum sizes.now }
-{
-    sizes.iter().sum()
 }

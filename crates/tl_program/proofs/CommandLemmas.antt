@@ -83,7 +83,7 @@ parts_once words width input page certificate options width2 input2 page2 certif
       options = split.1;
     }
 
--- where the parts are no options, or no names, the words are no command
+-- where the parts are no options, or no names, the words ask for no layout
 pub no_options : (words : List (List ℕ)) (width input page : List ℕ) (certificate : Option (List ℕ)) (options : List (List ℕ)) →
     AreParts words width input page certificate options → ((given : Options) → AreOptions options given → ⊥) → AskForNoLayout words
 no_options words width input page certificate options parts none = λ command is.

@@ -38,7 +38,7 @@ bounded = refl
 refused : number_of (status_of (reports.Refused (refusals.BadInput faults.NoTable 0))) ≡ 5
 refused = refl
 
--- the message where words are no command
+-- the message where the arguments are invalid
 usage : text_of reports.Usage ≡ codes "usage" ++ 10 ∷ []
 usage = refl
 

@@ -73,7 +73,7 @@ AskForNoCheck words = (command : Checking) → IsCheck words command → ⊥
 abbrev pub AskForNoDemo : List (List ℕ) → Type 0
 AskForNoDemo words = (number : ℕ) → IsDemo words number → ⊥
 
--- the words are no command
+-- the arguments are invalid
 pub record IsUsage (words : List (List ℕ)) : Type 0 where
   pub no_layout : AskForNoLayout words
   pub no_check : AskForNoCheck words

@@ -1,5 +1,5 @@
--- What the program answers, stores and prints. A file that spells a table is answered by the lowest page, by a page with a
--- lower bound, or by a chain of columns that is wider than the page; a certificate is accepted exactly where it is valid.
+-- What the program returns, stores and prints. A file that spells a table gives the lowest page, a page with a lower
+-- bound, or a chain of columns that is wider than the page; a certificate is accepted exactly where it is valid.
 -- docs/MODEL.md, "The command", has the messages.
 use Rattle.std.specs.Prelude.{◌≡◌, ◌≢◌, ◌⊎◌, ℕ, List, []}
 use Rattle.tl_base.specs.Desk.{longer, SaysPrefix, Rose}
@@ -11,7 +11,7 @@ use Rattle.tl_program.specs.Demonstration.{IsDemonstrated}
 use Rattle.tl_program.specs.Messages.{number_of, status_of, text_of}
 use Rattle.tl_program.specs.Outcomes.{Outcome, IsUnread, IsAnswered}
 
--- What becomes of the words: they are no command. Or they ask for a layout, and the file could not be read, or was, and is
+-- What becomes of the words: as arguments they are invalid. Or they ask for a layout, and the file could not be read, or was, and is
 -- answered (specs/Answers: lowest, bounded, too narrow, or refused). Or they ask for a check, and a file could not be read, or
 -- the certificate is judged (specs/Checks: what it shows, or why it is rejected). Or they ask for a demonstration
 abbrev pub Becomes : List (List ℕ) → Change → Outcome → Type 0

@@ -1,5 +1,5 @@
 //! Lays out a table on a page of fixed-width text, as low as any layout can be, with a certificate
-//! that no page is lower. It stands on the crates that read, search, judge and draw; here are the
+//! that no page is lower. It depends on the crates that read, search, judge and draw; here are the
 //! command, its messages and the order of the steps. Its one contract: the statuses of `run`, what
 //! is stored and printed after each, and what the page and the certificate are.
 #![tactic(auto)]

@@ -103,7 +103,7 @@ IsSearchedBelow-first atoms w past h some flat least = record {
           (same_config config (at_beginning atoms w past h flat config is.0 (least config.width (has_cutting config is.0)) is.1))
           (Contains-push [] (record { width = w; height = h })),
     );
-    are = record { has_step = omega arith; falling = λ i j d before within. absurd (omega arith) };
+    are = record { has_step = omega arith; decreasing = λ i j d before within. absurd (omega arith) };
   };
 }
 
@@ -121,7 +121,7 @@ IsSearchedBelow-fewer atoms past next h lower steps searched some flat fewer = r
     );
     are = record {
       has_step = omega (arith, length_push steps (record { width = past; height = lower }));
-      falling = falls-push steps (record { width = past; height = lower }) searched.found.are.falling before;
+      decreasing = falls-push steps (record { width = past; height = lower }) searched.found.are.decreasing before;
     };
   };
 }

@@ -183,16 +183,16 @@ columns_of-measure_of (Glue text) = refl
 columns_of-measure_of Break = refl
 
 module _ (w : ℕ) (atoms : List Atom) (n : ℕ) (atom : Atom) (within : n < length atoms) (is : atom ≡ get_or atoms n atom) where
-  front : take (n + 1) atoms ≡ take n atoms ++ atom ∷ []
-  front = take_more atoms n atom within ∙ ap (λ last. take n atoms ++ last ∷ []) (sym is)
+  prefix : take (n + 1) atoms ≡ take n atoms ++ atom ∷ []
+  prefix = take_more atoms n atom within ∙ ap (λ last. take n atoms ++ last ∷ []) (sym is)
 
   -- the atoms up to it fit where it and those before it do
   pub AllFit-more : AllFit w (take n atoms) → unit_width atom ≤ w → AllFit w (take (n + 1) atoms)
-  AllFit-more before here = subst (λ first. AllFit w first) (sym front) (all-append (λ a. unit_width a ≤ w) (take n atoms) (atom ∷ []) before (here, tt))
+  AllFit-more before here = subst (λ first. AllFit w first) (sym prefix) (all-append (λ a. unit_width a ≤ w) (take n atoms) (atom ∷ []) before (here, tt))
 
   pub AllFit-less : AllFit w (take (n + 1) atoms) → AllFit w (take n atoms) × (unit_width atom ≤ w)
   AllFit-less each =
-      let both : AllFit w (take n atoms ++ atom ∷ []) = subst (λ first. AllFit w first) front each in
+      let both : AllFit w (take n atoms ++ atom ∷ []) = subst (λ first. AllFit w first) prefix each in
       (all-prefix (λ a. unit_width a ≤ w) (take n atoms) (atom ∷ []) both, (all-suffix (λ a. unit_width a ≤ w) (take n atoms) (atom ∷ []) both).0)
 
 -- ---- the least width

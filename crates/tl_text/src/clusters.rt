@@ -14,7 +14,7 @@ use unicode_segmentation::UnicodeSegmentation;
 ///
 /// The time grows with the number of bytes alone.
 pub fn part(alloc: Global, p: &Para) -> Result<Para, AllocError>
-    ensures { IfOk result (λ parted. parted ≡ by_clusters p.now) }
+    ensures { IfOk result (λ units. units ≡ by_clusters p.now) }
 {
     let atoms = p.atoms();
     let mut units = List::new(alloc);

@@ -30,8 +30,8 @@ pub more_bytes : (c : ℕ) (cs : List ℕ) → byte_count cs < byte_count (c ∷
 more_bytes c cs = omega (arith, byte_count-cons c cs, (len_utf8_bounds c).0)
 
 -- what follows some text has no more bytes than all
-pub behind_le : (cs xs rest : List ℕ) → cs ≡ xs ++ rest → byte_count rest ≤ byte_count cs
-behind_le cs xs rest e = omega (arith, ap byte_count e, byte_count-append xs rest)
+pub after_le : (cs xs rest : List ℕ) → cs ≡ xs ++ rest → byte_count rest ≤ byte_count cs
+after_le cs xs rest e = omega (arith, ap byte_count e, byte_count-append xs rest)
 
 drop_le : (n : ℕ) (cs : List ℕ) → byte_count (drop n cs) ≤ byte_count cs
 drop_le zero cs = omega arith
@@ -95,7 +95,7 @@ attributes_le _ _ rest (end {c = c} h) = omega (arith, more_bytes c rest)
 attributes_le _ others rest (gap {c = c} {cs = cs} h later) = let k = attributes_le cs others rest later in omega (arith, k, more_bytes c cs)
 attributes_le cs _ rest (attribute {a = a} {others = others} {following = following} {later = later} some each e value attributes) =
     let k = attributes_le later others rest attributes in
-    omega (arith, k, value_le following (a.value) later value, behind_le cs (a.name) following e)
+    omega (arith, k, value_le following (a.value) later value, after_le cs (a.name) following e)
 
 tag_less : (cs : List ℕ) (t : Tag) (rest : List ℕ) → IsTag cs t rest → byte_count rest < byte_count cs
 tag_less cs t rest k = from (t.is_end) (k.spelled)

@@ -218,20 +218,20 @@ tag_name_ends e n (c ∷ cs) h = elim (or_cases (is_gap c) (c ∈ ">") h) [
 from_name : (e : Bool) (c : ℕ) (n following rest : List ℕ) (others : List Attribute) → Each is_ascii_alphanumeric n
     → begins (λ c. is_gap c || c ∈ ">") following ≡ true → Attributes following others rest
     → read (tag_name e (c ∷ [])) (n ++ following) ≡ reads (record { is_end = e; name = c ∷ n; attributes = others }) rest
-from_name e c n following rest others each parted attributes =
-    tag_name_run e (c ∷ []) n following each ∙ tag_name_ends e (c ∷ n) following parted ∙ attributes_read (empty_tag e (c ∷ n)) following rest others attributes
+from_name e c n following rest others each separated attributes =
+    tag_name_run e (c ∷ []) n following each ∙ tag_name_ends e (c ∷ n) following separated ∙ attributes_read (empty_tag e (c ∷ n)) following rest others attributes
 
 head_read : (e : Bool) (n cs following rest : List ℕ) (others : List Attribute) → IsTagName n → begins (λ c. is_gap c || c ∈ ">") following ≡ true
     → Attributes following others rest → codes "<" ++ cs ≡ opening e ++ (n ++ following)
     → read tag_open cs ≡ reads (record { is_end = e; name = n; attributes = others }) rest
-head_read e [] cs following rest others n parted attributes h = absurd n
-head_read true (c ∷ m) cs following rest others n parted attributes h =
+head_read e [] cs following rest others n separated attributes h = absurd n
+head_read true (c ∷ m) cs following rest others n separated attributes h =
     let cut : cs ≡ 47 ∷ ((c ∷ m) ++ following) = cc in
-    ap (read tag_open) cut ∙ took (is_ascii_alphabetic c) _ _ (m ++ following) (n.0) ∙ from_name true c m following rest others (n.1) parted attributes
-head_read false (c ∷ m) cs following rest others n parted attributes h =
+    ap (read tag_open) cut ∙ took (is_ascii_alphabetic c) _ _ (m ++ following) (n.0) ∙ from_name true c m following rest others (n.1) separated attributes
+head_read false (c ∷ m) cs following rest others n separated attributes h =
     let cut : cs ≡ (c ∷ m) ++ following = cc in
     ap (read tag_open) cut ∙ left (c ∈ "/") _ _ (m ++ following) (letter_no_slash c (n.0)) ∙ took (is_ascii_alphabetic c) _ _ (m ++ following) (n.0)
-    ∙ from_name false c m following rest others (n.1) parted attributes
+    ∙ from_name false c m following rest others (n.1) separated attributes
 
 -- each tag is read
 pub tag_whole : (cs : List ℕ) (t : Tag) (rest : List ℕ) → IsTag (codes "<" ++ cs) t rest → read tag_open cs ≡ reads t rest

@@ -39,57 +39,57 @@ use Rattle.tl_tree.proofs.FineMoves.{state_columns, few_columns, small_marks}
 use Rattle.tl_tree.proofs.EntrySizes.{entries_size, paragraph_size, open_line_size}
 
 -- one more token
-all_told-push : (s : State) (front : Kinds) (k : Kind) → all_told s (front ++ k ∷ []) ≡ all_told s front ++ told (reached s front) k
+all_told-push : (s : State) (prefix : Kinds) (k : Kind) → all_told s (prefix ++ k ∷ []) ≡ all_told s prefix ++ told (reached s prefix) k
 all_told-push s [] k = append-nil (told s k)
-all_told-push s (j ∷ front) k = ap (λ x. told s j ++ x) (all_told-push (next s j) front k) ∙ sym (append_assoc (told s j) _ _)
+all_told-push s (j ∷ prefix) k = ap (λ x. told s j ++ x) (all_told-push (next s j) prefix k) ∙ sym (append_assoc (told s j) _ _)
 
-fit_more : (d t : ℕ) (front : Kinds) (k : Kind) → FitLimits d t front → FitsLimits (depth_after d front) (tables_after t front) k →
-    FitLimits d t (front ++ k ∷ [])
+fit_more : (d t : ℕ) (prefix : Kinds) (k : Kind) → FitLimits d t prefix → FitsLimits (depth_after d prefix) (tables_after t prefix) k →
+    FitLimits d t (prefix ++ k ∷ [])
 fit_more d t [] k fits more = (more, tt)
-fit_more d t (j ∷ front) k fits more = (fits.0, fit_more (depth_with d j) (tables_with t j) front k fits.1 more)
+fit_more d t (j ∷ prefix) k fits more = (fits.0, fit_more (depth_with d j) (tables_with t j) prefix k fits.1 more)
 
-tables_after-push : (t : ℕ) (front : Kinds) (k : Kind) → tables_after t (front ++ k ∷ []) ≡ tables_with (tables_after t front) k
+tables_after-push : (t : ℕ) (prefix : Kinds) (k : Kind) → tables_after t (prefix ++ k ∷ []) ≡ tables_with (tables_after t prefix) k
 tables_after-push t [] k = refl
-tables_after-push t (j ∷ front) k = tables_after-push (tables_with t j) front k
+tables_after-push t (j ∷ prefix) k = tables_after-push (tables_with t j) prefix k
 
 pub nothing_read : HasRead [] 0 Before
 nothing_read = record { goes = refl; alive = refl; within = tt; counted = refl; same = λ later. refl }
 
-pub one_more_read : (front : Kinds) (tables : ℕ) (old new : Reading) (k : Kind) → HasRead front tables old → Reads old tables k new
-    → HasRead (front ++ k ∷ []) (tables_with tables k) new
-one_more_read front tables old new k h r = record {
-  goes = reached-append before front (k ∷ []) ∙ ap (λ s. next s k) h.goes ∙ r.goes;
+pub one_more_read : (prefix : Kinds) (tables : ℕ) (old new : Reading) (k : Kind) → HasRead prefix tables old → Reads old tables k new
+    → HasRead (prefix ++ k ∷ []) (tables_with tables k) new
+one_more_read prefix tables old new k h r = record {
+  goes = reached-append before prefix (k ∷ []) ∙ ap (λ s. next s k) h.goes ∙ r.goes;
   alive = r.alive;
   within =
-      let deep : depth (state_of old) ≡ depth_after 0 front = sym (ap depth h.goes) ∙ depth-reached before front (ap is_failed h.goes ∙ h.alive) in
-      let P : ℕ → Type 0 = λ d. FitsLimits d (tables_after 0 front) k in
+      let deep : depth (state_of old) ≡ depth_after 0 prefix = sym (ap depth h.goes) ∙ depth-reached before prefix (ap is_failed h.goes ∙ h.alive) in
+      let P : ℕ → Type 0 = λ d. FitsLimits d (tables_after 0 prefix) k in
       let Q : ℕ → Type 0 = λ t. FitsLimits (depth (state_of old)) t k in
-      fit_more 0 0 front k h.within (subst P deep (subst Q h.counted r.fits));
-  counted = ap (λ t. tables_with t k) h.counted ∙ sym (tables_after-push 0 front k);
+      fit_more 0 0 prefix k h.within (subst P deep (subst Q h.counted r.fits));
+  counted = ap (λ t. tables_with t k) h.counted ∙ sym (tables_after-push 0 prefix k);
   same = λ later. r.same later ∙ h.same (told (state_of old) k ++ later)
-      ∙ ap (λ ms. entries_of 0 ms) (sym (append_assoc (all_told before front) (told (state_of old) k) later)
-      ∙ ap (λ ms. ms ++ later) (ap (λ s. all_told before front ++ told s k) (sym h.goes) ∙ sym (all_told-push before front k)));
+      ∙ ap (λ ms. entries_of 0 ms) (sym (append_assoc (all_told before prefix) (told (state_of old) k) later)
+      ∙ ap (λ ms. ms ++ later) (ap (λ s. all_told before prefix ++ told s k) (sym h.goes) ∙ sym (all_told-push before prefix k)));
 }
 
 -- the token at which reading stops
-pub stopped : (ks front rest : Kinds) (k : Kind) (tables : ℕ) (reading : Reading) (stop : Stop) → ks ≡ front ++ (k ∷ rest) → HasRead front tables reading
-    → IsStop (state_of reading) tables k stop → IsMemoryOr (Memory alloc_error) (IsRefused ks) (stop_error (length front) k stop)
-stopped ks front rest k tables reading (stops.Memory error) split h stop = inl refl
-stopped ks front rest k tables reading stops.Misfit split h stop =
-    let dead : is_failed (next (reached before front) k) ≡ true = ap (λ s. is_failed (next s k)) h.goes ∙ stop in
-    inr (wrong_at ks front k rest (misfit (length front) k) split (ap is_failed h.goes ∙ h.alive) h.within
-    (misfit_fault _ _ _ k dead ∙ ap (λ n. Some (misfit n k)) (zero-add (length front))))
-stopped ks front rest k tables reading stops.TooDeep split h (table, goes, deep) =
-    let alive : is_failed (next (reached before front) k) ≡ false = ap (λ s. is_failed (next s k)) h.goes ∙ goes in
-    let d : MAX_DEPTH ≤ depth (reached before front) = (let P : ℕ → Type 0 = λ n. MAX_DEPTH ≤ n in subst P (sym (ap depth h.goes)) deep) in
-    inr (wrong_at ks front k rest (TooDeep (length front)) split (ap is_failed h.goes ∙ h.alive) h.within
-    (table_fault _ _ _ k table alive ∙ deep_fault _ _ _ _ d (zero-add (length front))))
-stopped ks front rest k tables reading stops.TooManyTables split h (table, goes, shallow, many) =
-    let alive : is_failed (next (reached before front) k) ≡ false = ap (λ s. is_failed (next s k)) h.goes ∙ goes in
-    let d : depth (reached before front) < MAX_DEPTH = (let P : ℕ → Type 0 = λ n. n < MAX_DEPTH in subst P (sym (ap depth h.goes)) shallow) in
-    let m : MAX_TABLES ≤ tables_after 0 front = (let P : ℕ → Type 0 = λ n. MAX_TABLES ≤ n in subst P h.counted many) in
-    inr (wrong_at ks front k rest (TooManyTables (length front)) split (ap is_failed h.goes ∙ h.alive) h.within
-    (table_fault _ _ _ k table alive ∙ many_fault _ _ _ _ d m (zero-add (length front))))
+pub stopped : (ks prefix rest : Kinds) (k : Kind) (tables : ℕ) (reading : Reading) (stop : Stop) → ks ≡ prefix ++ (k ∷ rest) → HasRead prefix tables reading
+    → IsStop (state_of reading) tables k stop → IsMemoryOr (Memory alloc_error) (IsRefused ks) (stop_error (length prefix) k stop)
+stopped ks prefix rest k tables reading (stops.Memory error) split h stop = inl refl
+stopped ks prefix rest k tables reading stops.Misfit split h stop =
+    let dead : is_failed (next (reached before prefix) k) ≡ true = ap (λ s. is_failed (next s k)) h.goes ∙ stop in
+    inr (wrong_at ks prefix k rest (misfit (length prefix) k) split (ap is_failed h.goes ∙ h.alive) h.within
+    (misfit_fault _ _ _ k dead ∙ ap (λ n. Some (misfit n k)) (zero-add (length prefix))))
+stopped ks prefix rest k tables reading stops.TooDeep split h (table, goes, deep) =
+    let alive : is_failed (next (reached before prefix) k) ≡ false = ap (λ s. is_failed (next s k)) h.goes ∙ goes in
+    let d : MAX_DEPTH ≤ depth (reached before prefix) = (let P : ℕ → Type 0 = λ n. MAX_DEPTH ≤ n in subst P (sym (ap depth h.goes)) deep) in
+    inr (wrong_at ks prefix k rest (TooDeep (length prefix)) split (ap is_failed h.goes ∙ h.alive) h.within
+    (table_fault _ _ _ k table alive ∙ deep_fault _ _ _ _ d (zero-add (length prefix))))
+stopped ks prefix rest k tables reading stops.TooManyTables split h (table, goes, shallow, many) =
+    let alive : is_failed (next (reached before prefix) k) ≡ false = ap (λ s. is_failed (next s k)) h.goes ∙ goes in
+    let d : depth (reached before prefix) < MAX_DEPTH = (let P : ℕ → Type 0 = λ n. n < MAX_DEPTH in subst P (sym (ap depth h.goes)) shallow) in
+    let m : MAX_TABLES ≤ tables_after 0 prefix = (let P : ℕ → Type 0 = λ n. MAX_TABLES ≤ n in subst P h.counted many) in
+    inr (wrong_at ks prefix k rest (TooManyTables (length prefix)) split (ap is_failed h.goes ∙ h.alive) h.within
+    (table_fault _ _ _ k table alive ∙ many_fault _ _ _ _ d m (zero-add (length prefix))))
 
 -- the end of the tokens
 pub ended_refused : (ks : Kinds) (tables : ℕ) (reading : Reading) (e : TreeError) → HasRead ks tables reading → end_fault (state_of reading) ≡ Some e
@@ -145,27 +145,27 @@ flow_size (stages.Between parts) k = omega arith
 flow_size (stages.Group g) k = omega arith
 flow_size (stages.Row r) k = omega arith
 flow_size (stages.Flow holder flow) k =
-    let front = holder_so_far holder ++ blocks_outline flow.blocks in
+    let prefix = holder_so_far holder ++ blocks_outline flow.blocks in
     let p = paragraph_of (line_atoms flow.line []) in
-    let a = sum_by-append entry_size front (p ++ []) in
+    let a = sum_by-append entry_size prefix (p ++ []) in
     let b = sum_by-append entry_size p [] in
     let c = paragraph_size (line_atoms flow.line []) in
     let d = open_line_size flow.line in
     omega arith
 
-pub modest : (front : Kinds) (tables : ℕ) (reading : Reading) → HasRead front tables reading → AllByRecursion IsReadable front
-    → sum_by kind_size front ≤ MAX_FILE_BYTES → IsModestReading reading
-modest front tables Before h readable small = tt
-modest front tables (After node) h readable small = tt
-modest front tables (Inside outer t) h readable small =
-    let few = few_columns before front readable in
-    let same : state_columns (reached before front) ≡ place_columns (place_of t) = ap state_columns h.goes in
-    let long = kinds_length front readable in
+pub modest : (prefix : Kinds) (tables : ℕ) (reading : Reading) → HasRead prefix tables reading → AllByRecursion IsReadable prefix
+    → sum_by kind_size prefix ≤ MAX_FILE_BYTES → IsModestReading reading
+modest prefix tables Before h readable small = tt
+modest prefix tables (After node) h readable small = tt
+modest prefix tables (Inside outer t) h readable small =
+    let few = few_columns before prefix readable in
+    let same : state_columns (reached before prefix) ≡ place_columns (place_of t) = ap state_columns h.goes in
+    let long = kinds_length prefix readable in
     let sizes = sum_by-append entry_size (around outer.items) (outcome t tables []) in
-    let all : sum_by entry_size (around outer.items ++ outcome t tables []) ≡ sum_by entry_size (entries_of 0 (all_told before front)) =
-    ap (λ es. sum_by entry_size es) (h.same [] ∙ ap (λ ms. entries_of 0 ms) (append-nil (all_told before front))) in
-    let bound = entries_size 0 (all_told before front) in
-    let told_small = small_marks before front readable in
+    let all : sum_by entry_size (around outer.items ++ outcome t tables []) ≡ sum_by entry_size (entries_of 0 (all_told before prefix)) =
+    ap (λ es. sum_by entry_size es) (h.same [] ∙ ap (λ ms. entries_of 0 ms) (append-nil (all_told before prefix))) in
+    let bound = entries_size 0 (all_told before prefix) in
+    let told_small = small_marks before prefix readable in
     let part = flow_size t tables in
     record { few_columns = omega arith; small = omega arith }
 
@@ -197,24 +197,24 @@ pub with_token : (tokens : List Token) (i : ℕ) (token : Token) → i < length 
     → kinds (take (i + 1) tokens) ≡ kinds (take i tokens) ++ kind_of token ∷ []
 with_token tokens i token h is = kinds_more tokens i token h ∙ ap (λ t. kinds (take i tokens) ++ kind_of t ∷ []) (sym is)
 
-pub all_front : (front rest : Kinds) → AllByRecursion IsReadable (front ++ rest) → AllByRecursion IsReadable front × AllByRecursion IsReadable rest
-all_front [] rest h = (tt, h)
-all_front (k ∷ front) rest h = let (a, b) = all_front front rest h.1 in ((h.0, a), b)
+pub all_prefix : (prefix rest : Kinds) → AllByRecursion IsReadable (prefix ++ rest) → AllByRecursion IsReadable prefix × AllByRecursion IsReadable rest
+all_prefix [] rest h = (tt, h)
+all_prefix (k ∷ prefix) rest h = let (a, b) = all_prefix prefix rest h.1 in ((h.0, a), b)
 
-pub readable_parts : (ks front rest : Kinds) → ks ≡ front ++ rest → AllByRecursion IsReadable ks → AllByRecursion IsReadable front
+pub readable_parts : (ks prefix rest : Kinds) → ks ≡ prefix ++ rest → AllByRecursion IsReadable ks → AllByRecursion IsReadable prefix
     × AllByRecursion IsReadable rest
-readable_parts ks front rest split h = all_front front rest (subst (λ (x : Kinds). AllByRecursion IsReadable x) split h)
+readable_parts ks prefix rest split h = all_prefix prefix rest (subst (λ (x : Kinds). AllByRecursion IsReadable x) split h)
 
-pub small_front : (ks front rest : Kinds) → ks ≡ front ++ rest → sum_by kind_size ks ≤ MAX_FILE_BYTES → sum_by kind_size front ≤ MAX_FILE_BYTES
-small_front ks front rest split h =
-    let e : sum_by kind_size ks ≡ sum_by kind_size (front ++ rest) = ap (λ x. sum_by kind_size x) split in
-    let s = sum_by-append kind_size front rest in
+pub small_prefix : (ks prefix rest : Kinds) → ks ≡ prefix ++ rest → sum_by kind_size ks ≤ MAX_FILE_BYTES → sum_by kind_size prefix ≤ MAX_FILE_BYTES
+small_prefix ks prefix rest split h =
+    let e : sum_by kind_size ks ≡ sum_by kind_size (prefix ++ rest) = ap (λ x. sum_by kind_size x) split in
+    let s = sum_by-append kind_size prefix rest in
     omega arith
 
-pub fresh : (front : Kinds) (tables : ℕ) (reading : Reading) → HasRead front tables reading → IsFresh reading tables
-fresh front tables Before h = h.counted ∙ no_table 0 front h.goes
-fresh front tables (Inside outer t) h = tt
-fresh front tables (After node) h = tt
+pub fresh : (prefix : Kinds) (tables : ℕ) (reading : Reading) → HasRead prefix tables reading → IsFresh reading tables
+fresh prefix tables Before h = h.counted ∙ no_table 0 prefix h.goes
+fresh prefix tables (Inside outer t) h = tt
+fresh prefix tables (After node) h = tt
 
 pub one_more_table : (t : ℕ) (k : Kind) → is_table_start k ≡ true → tables_with t k ≡ t + 1
 one_more_table t table_start h = refl

@@ -19,9 +19,9 @@ use Rattle.tl_tree.proofs.MachineWhole.{document_whole}
 use Rattle.tl_tree.proofs.MachineSound.{document_sound}
 use Rattle.tl_tree.proofs.Depths.{depth-next}
 
-pub reached-append : (s : State) (front rest : Kinds) → reached s (front ++ rest) ≡ reached (reached s front) rest
+pub reached-append : (s : State) (prefix rest : Kinds) → reached s (prefix ++ rest) ≡ reached (reached s prefix) rest
 reached-append s [] rest = refl
-reached-append s (k ∷ front) rest = reached-append (next s k) front rest
+reached-append s (k ∷ prefix) rest = reached-append (next s k) prefix rest
 
 failed_is : (s : State) → is_failed s ≡ true → s ≡ failed
 failed_is failed h = refl
@@ -78,22 +78,22 @@ alive_prefix ks alive = (
   document_sound (record { ends = reached-append before ks (closing (reached before ks)) ∙ closed (reached before ks) alive; tells = refl }),
 )
 
-pub no_prefix : (front : Kinds) (k : Kind) → ¬ (IsPrefix (front ++ k ∷ [])) → is_failed (next (reached before front) k) ≡ true
-no_prefix front k none = by_test (is_failed (next (reached before front) k)) refl
+pub no_prefix : (prefix : Kinds) (k : Kind) → ¬ (IsPrefix (prefix ++ k ∷ [])) → is_failed (next (reached before prefix) k) ≡ true
+no_prefix prefix k none = by_test (is_failed (next (reached before prefix) k)) refl
   where
-    by_test : (b : Bool) → is_failed (next (reached before front) k) ≡ b → is_failed (next (reached before front) k) ≡ true
+    by_test : (b : Bool) → is_failed (next (reached before prefix) k) ≡ b → is_failed (next (reached before prefix) k) ≡ true
     by_test true h = h
-    by_test false h = absurd (none (alive_prefix (front ++ k ∷ []) (ap is_failed (reached-append before front (k ∷ [])) ∙ h)))
+    by_test false h = absurd (none (alive_prefix (prefix ++ k ∷ []) (ap is_failed (reached-append before prefix (k ∷ [])) ∙ h)))
 
-pub is_no_prefix : (front : Kinds) (k : Kind) → is_failed (next (reached before front) k) ≡ true → ¬ (IsPrefix (front ++ k ∷ []))
-is_no_prefix front k h p =
-    false≢true (sym (prefix_alive (front ++ k ∷ []) p) ∙ ap is_failed (reached-append before front (k ∷ [])) ∙ h)
+pub is_no_prefix : (prefix : Kinds) (k : Kind) → is_failed (next (reached before prefix) k) ≡ true → ¬ (IsPrefix (prefix ++ k ∷ []))
+is_no_prefix prefix k h p =
+    false≢true (sym (prefix_alive (prefix ++ k ∷ []) p) ∙ ap is_failed (reached-append before prefix (k ∷ [])) ∙ h)
 
-pub alive_next : (front : Kinds) (k : Kind) → IsPrefix (front ++ k ∷ []) → is_failed (next (reached before front) k) ≡ false
-alive_next front k p = sym (ap is_failed (reached-append before front (k ∷ []))) ∙ prefix_alive (front ++ k ∷ []) p
+pub alive_next : (prefix : Kinds) (k : Kind) → IsPrefix (prefix ++ k ∷ []) → is_failed (next (reached before prefix) k) ≡ false
+alive_next prefix k p = sym (ap is_failed (reached-append before prefix (k ∷ []))) ∙ prefix_alive (prefix ++ k ∷ []) p
 
-prefix_next : (front : Kinds) (k : Kind) → is_failed (next (reached before front) k) ≡ false → IsPrefix (front ++ k ∷ [])
-prefix_next front k h = alive_prefix (front ++ k ∷ []) (ap is_failed (reached-append before front (k ∷ [])) ∙ h)
+prefix_next : (prefix : Kinds) (k : Kind) → is_failed (next (reached before prefix) k) ≡ false → IsPrefix (prefix ++ k ∷ [])
+prefix_next prefix k h = alive_prefix (prefix ++ k ∷ []) (ap is_failed (reached-append before prefix (k ∷ [])) ∙ h)
 
 -- the tables that are open are those that the tags count
 pub depth-reached : (s : State) (ks : Kinds) → is_failed (reached s ks) ≡ false → depth (reached s ks) ≡ depth_after (depth s) ks
@@ -112,15 +112,15 @@ no_fault n tables s table_start alive (shallow, few) = rw alive (limits (depth s
 no_fault n tables s k alive fits = rw alive refl
 
 -- tokens without a fault lead on
-pub passes : (n tables : ℕ) (s : State) (front rest : Kinds) → is_failed (reached s front) ≡ false → FitLimits (depth s) tables front
-    → verdict n tables s (front ++ rest) ≡ verdict (n + length front) (tables_after tables front) (reached s front) rest
+pub passes : (n tables : ℕ) (s : State) (prefix rest : Kinds) → is_failed (reached s prefix) ≡ false → FitLimits (depth s) tables prefix
+    → verdict n tables s (prefix ++ rest) ≡ verdict (n + length prefix) (tables_after tables prefix) (reached s prefix) rest
 passes n tables s [] rest alive fits = ap (λ x. verdict x tables s rest) (sym (add-zero n))
-passes n tables s (k ∷ front) rest alive (here, later) =
-    let still = alive_before (next s k) front alive in
-    let P : ℕ → Type 0 = λ x. FitLimits x (tables_with tables k) front in
-    let e = passes (n + 1) (tables_with tables k) (next s k) front rest alive (subst P (sym (depth-next s k still)) later) in
-    let c : n + 1 + length front ≡ n + length (k ∷ front) = omega arith in
-    rw (no_fault n tables s k still here) (e ∙ ap (λ x. verdict x (tables_after tables (k ∷ front)) (reached s (k ∷ front)) rest) c)
+passes n tables s (k ∷ prefix) rest alive (here, later) =
+    let still = alive_before (next s k) prefix alive in
+    let P : ℕ → Type 0 = λ x. FitLimits x (tables_with tables k) prefix in
+    let e = passes (n + 1) (tables_with tables k) (next s k) prefix rest alive (subst P (sym (depth-next s k still)) later) in
+    let c : n + 1 + length prefix ≡ n + length (k ∷ prefix) = omega arith in
+    rw (no_fault n tables s k still here) (e ∙ ap (λ x. verdict x (tables_after tables (k ∷ prefix)) (reached s (k ∷ prefix)) rest) c)
 
 -- what a token without a fault says
 fault_none : (n tables : ℕ) (s : State) (k : Kind) → fault n tables s k ≡ None → (is_failed (next s k) ≡ false) × FitsLimits (depth s) tables k
@@ -144,18 +144,18 @@ fault_none n tables s k h = by_test (is_failed (next s k)) refl
 
 -- where the first fault stands
 data Finds (n tables : ℕ) (s : State) (ks : Kinds) (e : TreeError) : Type 0 where
-  at_token : (front : Kinds) (k : Kind) (rest : Kinds) → ks ≡ front ++ (k ∷ rest) → is_failed (reached s front) ≡ false
-      → FitLimits (depth s) tables front → fault (n + length front) (tables_after tables front) (reached s front) k ≡ Some e
+  at_token : (prefix : Kinds) (k : Kind) (rest : Kinds) → ks ≡ prefix ++ (k ∷ rest) → is_failed (reached s prefix) ≡ false
+      → FitLimits (depth s) tables prefix → fault (n + length prefix) (tables_after tables prefix) (reached s prefix) k ≡ Some e
       → Finds n tables s ks e
   at_end : is_failed (reached s ks) ≡ false → FitLimits (depth s) tables ks → end_fault (reached s ks) ≡ Some e → Finds n tables s ks e
 
 found_later : (n tables : ℕ) (s : State) (k : Kind) (ks : Kinds) (e : TreeError) → (is_failed (next s k) ≡ false) × FitsLimits (depth s) tables k
     → Finds (n + 1) (tables_with tables k) (next s k) ks e → Finds n tables s (k ∷ ks) e
-found_later n tables s k ks e (still, here) (at_token front k' rest split goes fits found) =
-    let P : ℕ → Type 0 = λ x. FitLimits x (tables_with tables k) front in
-    let c : n + 1 + length front ≡ n + length (k ∷ front) = omega arith in
-    at_token (k ∷ front) k' rest (ap (λ x. k ∷ x) split) goes (here, subst P (depth-next s k still) fits)
-    (sym (ap (λ x. fault x (tables_after tables (k ∷ front)) (reached s (k ∷ front)) k') c) ∙ found)
+found_later n tables s k ks e (still, here) (at_token prefix k' rest split goes fits found) =
+    let P : ℕ → Type 0 = λ x. FitLimits x (tables_with tables k) prefix in
+    let c : n + 1 + length prefix ≡ n + length (k ∷ prefix) = omega arith in
+    at_token (k ∷ prefix) k' rest (ap (λ x. k ∷ x) split) goes (here, subst P (depth-next s k still) fits)
+    (sym (ap (λ x. fault x (tables_after tables (k ∷ prefix)) (reached s (k ∷ prefix)) k') c) ∙ found)
 found_later n tables s k ks e (still, here) (at_end goes fits found) =
     let P : ℕ → Type 0 = λ x. FitLimits x (tables_with tables k) ks in
     at_end goes (here, subst P (depth-next s k still) fits) found
@@ -265,10 +265,10 @@ still_before tables d (table_start ∷ ks) alive h = absurd (let r = tables_rise
 still_before tables d (_ ∷ ks) alive h = absurd (false≢true (sym alive ∙ fails ks))
 
 -- the error of a token, from the grammar to the machine
-at_place : (ks front rest : Kinds) (k : Kind) (e : TreeError) → ks ≡ front ++ (k ∷ rest) → IsPrefix front → IsWithinLimits front
-    → fault (0 + length front) (tables_after 0 front) (reached before front) k ≡ Some e → verdict 0 0 before ks ≡ Some e
-at_place ks front rest k e split prefix within h =
-    ap (λ x. verdict 0 0 before x) split ∙ passes 0 0 before front (k ∷ rest) (prefix_alive front prefix) within ∙ rw h refl
+at_place : (ks prefix rest : Kinds) (k : Kind) (e : TreeError) → ks ≡ prefix ++ (k ∷ rest) → IsPrefix prefix → IsWithinLimits prefix
+    → fault (0 + length prefix) (tables_after 0 prefix) (reached before prefix) k ≡ Some e → verdict 0 0 before ks ≡ Some e
+at_place ks prefix rest k e split begins within h =
+    ap (λ x. verdict 0 0 before x) split ∙ passes 0 0 before prefix (k ∷ rest) (prefix_alive prefix begins) within ∙ rw h refl
 
 pub misfit_fault : (n tables : ℕ) (s : State) (k : Kind) → is_failed (next s k) ≡ true → fault n tables s k ≡ Some (misfit n k)
 misfit_fault n tables s k h = rw h refl
@@ -294,11 +294,11 @@ table_fault n tables s k e alive = rw alive (ap (λ x. cond (is_table_start x) (
 -- Each error whose cause is so is the first fault.
 pub refused_first : (ks : Kinds) (e : TreeError) → IsRefused ks e → verdict 0 0 before ks ≡ Some e
 refused_first ks (Memory error) h = absurd h
-refused_first ks NoTable (prefix, none) =
-    let (stays, fits) = still_before 0 0 ks (prefix_alive ks prefix) none in
-    ap (λ x. verdict 0 0 before x) (sym (append-nil ks)) ∙ passes 0 0 before ks [] (prefix_alive ks prefix) fits ∙ ap end_fault stays
-refused_first ks Unclosed (prefix, within, deep) =
-    let alive = prefix_alive ks prefix in
+refused_first ks NoTable (begins, none) =
+    let (stays, fits) = still_before 0 0 ks (prefix_alive ks begins) none in
+    ap (λ x. verdict 0 0 before x) (sym (append-nil ks)) ∙ passes 0 0 before ks [] (prefix_alive ks begins) fits ∙ ap end_fault stays
+refused_first ks Unclosed (begins, within, deep) =
+    let alive = prefix_alive ks begins in
     ap (λ x. verdict 0 0 before x) (sym (append-nil ks)) ∙ passes 0 0 before ks [] alive within
     ∙ ended (reached before ks) alive (let P : ℕ → Type 0 = λ x. 0 < x in subst P (sym (depth-reached before ks alive)) deep)
   where
@@ -308,25 +308,25 @@ refused_first ks Unclosed (prefix, within, deep) =
     ended after alive h = absurd (omega arith)
     ended failed alive h = absurd (false≢true (sym alive))
 refused_first ks (StrayText n) w =
-    let place : 0 + length w.front ≡ n = let p = w.place in omega arith in
-    at_place ks w.front w.rest w.token (StrayText n) w.split w.begun w.within
-    (misfit_fault _ _ _ w.token (no_prefix w.front w.token w.wrong.1) ∙ ap (λ x. Some x) (text_misfit _ n w.token w.wrong.0 place))
+    let place : 0 + length w.prefix ≡ n = let p = w.place in omega arith in
+    at_place ks w.prefix w.rest w.token (StrayText n) w.split w.begun w.within
+    (misfit_fault _ _ _ w.token (no_prefix w.prefix w.token w.wrong.1) ∙ ap (λ x. Some x) (text_misfit _ n w.token w.wrong.0 place))
 refused_first ks (Misplaced n) w =
-    let place : 0 + length w.front ≡ n = let p = w.place in omega arith in
-    at_place ks w.front w.rest w.token (Misplaced n) w.split w.begun w.within
-    (misfit_fault _ _ _ w.token (no_prefix w.front w.token w.wrong.1) ∙ ap (λ x. Some x) (tag_misfit _ n w.token w.wrong.0 place))
+    let place : 0 + length w.prefix ≡ n = let p = w.place in omega arith in
+    at_place ks w.prefix w.rest w.token (Misplaced n) w.split w.begun w.within
+    (misfit_fault _ _ _ w.token (no_prefix w.prefix w.token w.wrong.1) ∙ ap (λ x. Some x) (tag_misfit _ n w.token w.wrong.0 place))
 refused_first ks (TooDeep n) w =
-    let place : 0 + length w.front ≡ n = let p = w.place in omega arith in
-    let same = depth-reached before w.front (prefix_alive w.front w.begun) in
-    let deep : MAX_DEPTH ≤ depth (reached before w.front) = let d = w.wrong.2 in omega arith in
-    at_place ks w.front w.rest w.token (TooDeep n) w.split w.begun w.within
-    (table_fault _ _ _ w.token w.wrong.0 (alive_next w.front w.token w.wrong.1) ∙ deep_fault _ n _ _ deep place)
+    let place : 0 + length w.prefix ≡ n = let p = w.place in omega arith in
+    let same = depth-reached before w.prefix (prefix_alive w.prefix w.begun) in
+    let deep : MAX_DEPTH ≤ depth (reached before w.prefix) = let d = w.wrong.2 in omega arith in
+    at_place ks w.prefix w.rest w.token (TooDeep n) w.split w.begun w.within
+    (table_fault _ _ _ w.token w.wrong.0 (alive_next w.prefix w.token w.wrong.1) ∙ deep_fault _ n _ _ deep place)
 refused_first ks (TooManyTables n) w =
-    let place : 0 + length w.front ≡ n = let p = w.place in omega arith in
-    let same = depth-reached before w.front (prefix_alive w.front w.begun) in
-    let shallow : depth (reached before w.front) < MAX_DEPTH = let d = w.wrong.2 in omega arith in
-    at_place ks w.front w.rest w.token (TooManyTables n) w.split w.begun w.within
-    (table_fault _ _ _ w.token w.wrong.0 (alive_next w.front w.token w.wrong.1) ∙ many_fault _ n _ _ shallow w.wrong.3 place)
+    let place : 0 + length w.prefix ≡ n = let p = w.place in omega arith in
+    let same = depth-reached before w.prefix (prefix_alive w.prefix w.begun) in
+    let shallow : depth (reached before w.prefix) < MAX_DEPTH = let d = w.wrong.2 in omega arith in
+    at_place ks w.prefix w.rest w.token (TooManyTables n) w.split w.begun w.within
+    (table_fault _ _ _ w.token w.wrong.0 (alive_next w.prefix w.token w.wrong.1) ∙ many_fault _ n _ _ shallow w.wrong.3 place)
 
 -- a fault of a token with which a document goes on is one of a table
 limited : (n tables : ℕ) (s : State) (k : Kind) (e : TreeError) → is_failed (next s k) ≡ false → fault n tables s k ≡ Some e
@@ -349,44 +349,44 @@ which_limit n tables d e h = by_depth (nat_le MAX_DEPTH d) refl
     by_depth false shallow = by_tables (nat_le MAX_TABLES tables) refl shallow
 
 -- The first fault is refused by the grammar.
-pub wrong_at : (ks front : Kinds) (k : Kind) (rest : Kinds) (e : TreeError) → ks ≡ front ++ (k ∷ rest) → is_failed (reached before front) ≡ false
-    → IsWithinLimits front → fault (0 + length front) (tables_after 0 front) (reached before front) k ≡ Some e → IsRefused ks e
-wrong_at ks front k rest e split alive within h = by_test (is_failed (next (reached before front) k)) refl
+pub wrong_at : (ks prefix : Kinds) (k : Kind) (rest : Kinds) (e : TreeError) → ks ≡ prefix ++ (k ∷ rest) → is_failed (reached before prefix) ≡ false
+    → IsWithinLimits prefix → fault (0 + length prefix) (tables_after 0 prefix) (reached before prefix) k ≡ Some e → IsRefused ks e
+wrong_at ks prefix k rest e split alive within h = by_test (is_failed (next (reached before prefix) k)) refl
   where
-    at : {IsWrong : Kinds → Kind → Type 0} → IsWrong front k → IsWrongAt ks (0 + length front) IsWrong
+    at : {IsWrong : Kinds → Kind → Type 0} → IsWrong prefix k → IsWrongAt ks (0 + length prefix) IsWrong
     at wrong = record {
-      front = front;
+      prefix = prefix;
       token = k;
       rest = rest;
       split = split;
       place = omega arith;
-      begun = alive_prefix front alive;
+      begun = alive_prefix prefix alive;
       within =
           within;
       wrong = wrong;
     }
 
-    as_found : (found : TreeError) → fault (0 + length front) (tables_after 0 front) (reached before front) k ≡ Some found → IsRefused ks found → IsRefused ks e
+    as_found : (found : TreeError) → fault (0 + length prefix) (tables_after 0 prefix) (reached before prefix) k ≡ Some found → IsRefused ks found → IsRefused ks e
     as_found found f r = let same : found ≡ e = (let c : Some found ≡ Some e = sym f ∙ h in cc) in subst (IsRefused ks) same r
 
-    by_kind : (b : Bool) → is_text k ≡ b → is_failed (next (reached before front) k) ≡ true → IsRefused ks e
+    by_kind : (b : Bool) → is_text k ≡ b → is_failed (next (reached before prefix) k) ≡ true → IsRefused ks e
     by_kind true is dead =
-        as_found (StrayText (0 + length front)) (misfit_fault _ _ _ k dead ∙ ap (λ x. Some x) (text_misfit _ _ k is refl)) (at (is, is_no_prefix front k dead))
+        as_found (StrayText (0 + length prefix)) (misfit_fault _ _ _ k dead ∙ ap (λ x. Some x) (text_misfit _ _ k is refl)) (at (is, is_no_prefix prefix k dead))
     by_kind false is dead =
-        as_found (Misplaced (0 + length front)) (misfit_fault _ _ _ k dead ∙ ap (λ x. Some x) (tag_misfit _ _ k is refl)) (at (is, is_no_prefix front k dead))
+        as_found (Misplaced (0 + length prefix)) (misfit_fault _ _ _ k dead ∙ ap (λ x. Some x) (tag_misfit _ _ k is refl)) (at (is, is_no_prefix prefix k dead))
 
-    by_limit : is_failed (next (reached before front) k) ≡ false → k ≡ table_start
-        → ((TooDeep (0 + length front) ≡ e) × (MAX_DEPTH ≤ depth (reached before front)))
-        ⊎ ((TooManyTables (0 + length front) ≡ e) × (depth (reached before front) < MAX_DEPTH) × (MAX_TABLES ≤ tables_after 0 front))
+    by_limit : is_failed (next (reached before prefix) k) ≡ false → k ≡ table_start
+        → ((TooDeep (0 + length prefix) ≡ e) × (MAX_DEPTH ≤ depth (reached before prefix)))
+        ⊎ ((TooManyTables (0 + length prefix) ≡ e) × (depth (reached before prefix) < MAX_DEPTH) × (MAX_TABLES ≤ tables_after 0 prefix))
         → IsRefused ks e
     by_limit goes table (inl (same, deep)) =
-        let d = depth-reached before front alive in
-        subst (IsRefused ks) same (at (table, prefix_next front k goes, omega arith))
+        let d = depth-reached before prefix alive in
+        subst (IsRefused ks) same (at (table, prefix_next prefix k goes, omega arith))
     by_limit goes table (inr (same, shallow, many)) =
-        let d = depth-reached before front alive in
-        subst (IsRefused ks) same (at (table, prefix_next front k goes, omega arith, many))
+        let d = depth-reached before prefix alive in
+        subst (IsRefused ks) same (at (table, prefix_next prefix k goes, omega arith, many))
 
-    by_test : (b : Bool) → is_failed (next (reached before front) k) ≡ b → IsRefused ks e
+    by_test : (b : Bool) → is_failed (next (reached before prefix) k) ≡ b → IsRefused ks e
     by_test true dead = by_kind (is_text k) refl dead
     by_test false goes =
         let (table, l) = limited _ _ _ k e goes h in
@@ -408,7 +408,7 @@ first_refused ks e h = by_place (find 0 0 before ks e refl h)
     at_the_end failed stands alive within f = absurd (false≢true (sym alive))
 
     by_place : Finds 0 0 before ks e → IsRefused ks e
-    by_place (at_token front k rest split alive within f) = wrong_at ks front k rest e split alive within f
+    by_place (at_token prefix k rest split alive within f) = wrong_at ks prefix k rest e split alive within f
     by_place (at_end alive within f) = at_the_end (reached before ks) refl alive within f
 
 -- Tokens without a first fault are a document within the limits, and the other way round.

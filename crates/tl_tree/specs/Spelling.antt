@@ -58,30 +58,30 @@ IsWithinLimits ks = FitLimits 0 0 ks
 
 -- The token of that number is wrong: the tokens before it are within the limits and begin a document.
 pub record IsWrongAt (ks : Kinds) (n : ℕ) (IsWrong : Kinds → Kind → Type 0) : Type 0 where
-  pub front : Kinds
+  pub prefix : Kinds
   pub token : Kind
   pub rest : Kinds
-  pub split : ks ≡ front ++ (token ∷ rest)
-  pub place : length front ≡ n
-  pub begun : IsPrefix front
-  pub within : IsWithinLimits front
-  pub wrong : IsWrong front token
+  pub split : ks ≡ prefix ++ (token ∷ rest)
+  pub place : length prefix ≡ n
+  pub begun : IsPrefix prefix
+  pub within : IsWithinLimits prefix
+  pub wrong : IsWrong prefix token
 
 -- a text, or a tag, with which the tokens before it begin no document
 abbrev pub IsStray : Kinds → Kind → Type 0
-IsStray front token = IsTrue (is_text token) × ¬ (IsPrefix (front ++ token ∷ []))
+IsStray prefix token = IsTrue (is_text token) × ¬ (IsPrefix (prefix ++ token ∷ []))
 
 abbrev pub IsMisplaced : Kinds → Kind → Type 0
-IsMisplaced front token = IsFalse (is_text token) × ¬ (IsPrefix (front ++ token ∷ []))
+IsMisplaced prefix token = IsFalse (is_text token) × ¬ (IsPrefix (prefix ++ token ∷ []))
 
 -- a table that begins inside `MAX_DEPTH` others
 abbrev pub IsTooDeep : Kinds → Kind → Type 0
-IsTooDeep front token = (token ≡ table_start) × IsPrefix (front ++ token ∷ []) × (MAX_DEPTH ≤ depth_after 0 front)
+IsTooDeep prefix token = (token ≡ table_start) × IsPrefix (prefix ++ token ∷ []) × (MAX_DEPTH ≤ depth_after 0 prefix)
 
 -- a table that begins after `MAX_TABLES` others, and not inside `MAX_DEPTH`
 abbrev pub IsOneTooMany : Kinds → Kind → Type 0
-IsOneTooMany front token =
-    (token ≡ table_start) × IsPrefix (front ++ token ∷ []) × (depth_after 0 front < MAX_DEPTH) × (MAX_TABLES ≤ tables_after 0 front)
+IsOneTooMany prefix token =
+    (token ≡ table_start) × IsPrefix (prefix ++ token ∷ []) × (depth_after 0 prefix < MAX_DEPTH) × (MAX_TABLES ≤ tables_after 0 prefix)
 
 -- The error that refuses the tokens; out of memory is none of them.
 abbrev pub IsRefused : Kinds → TreeError → Type 0

@@ -8,7 +8,6 @@ mod claim;
 mod laid;
 mod named;
 mod reject;
-mod rooms;
 mod sections;
 #[cfg(test)]
 mod tests;

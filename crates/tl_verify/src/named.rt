@@ -11,6 +11,7 @@ ghost use Rattle.tl_cert.specs.Text.{IsWritable};
 ghost use Rattle.tl_form.specs.declared.cell.Content.{out-Content};
 ghost use Rattle.tl_form.specs.declared.cell.Table.{out-Table};
 ghost use Rattle.tl_form.specs.declared.cell.TableCell.{out-TableCell};
+ghost use Rattle.tl_form.specs.Expected.{placed_width};
 ghost use Rattle.tl_form.specs.Layouts.{Fits};
 ghost use Rattle.tl_form.specs.Named.{IsChosen, IsNamed};
 ghost use Rattle.tl_form.specs.Nested.{IsWithin};
@@ -21,12 +22,19 @@ ghost use Rattle.tl_form.specs.ValidLaws.{HasHeight};
 ghost use Rattle.tl_verify.specs.inner.Naming.{CanLay, HasPart, HasRooms, HaveFewColumns, IsLaidOut, IsLower, IsPlacedBy, LaysOut, NoneWithin};
 
 use crate::laid::lay;
-use crate::rooms::{placed_width, room_of};
 use std::alloc::{AllocError, Global};
 use tl_base::{List, Style};
 use tl_cert::{Certificate, Section};
 use tl_form::{Content, Layout, Table, TableCell};
-use tl_problem::Placed;
+use tl_problem::{Placed, room_on_page, total_size};
+
+/// The columns that the placement of the section takes.
+fn placed_width(style: Style, section: &Section) -> u64
+    requires { length section.now.widths ≤ MAX_COLUMNS }
+    ensures { result ≡ placed_width style section.now }
+{
+    total_size(style.gap(), style.edge(), section.widths.as_slice())
+}
 
 /// Whether the section is one of the table with this number, and its placement takes at most `room`
 /// columns.
@@ -137,7 +145,7 @@ fn with_cell(
         (room (gap_of style) widths.now (out-TableCell cell.now).place.left (out-TableCell cell.now).place.right)
         (tables_in (out-TableCell cell.now)) inner) }
 {
-    let room = room_of(style.gap(), widths, cell.place.left, cell.place.right);
+    let room = room_on_page(style.gap(), widths, cell.place.left, cell.place.right);
     for block in cell.blocks.as_slice() {
         inner = with_block(alloc, block, style, sections, room, inner)?;
     }

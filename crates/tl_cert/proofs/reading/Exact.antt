@@ -13,15 +13,15 @@ SameStart (b ∷ rest) (c ∷ other) = b ≡ c
 
 -- Up to what is left a text begins, and none goes on as what is left does.
 pub record Stuck {A : Type 0} (IsShaped : A → Type 0) (pieces : A → List Piece) (text : List ℕ) (left : ℕ) : Type 0 where
-  pub front : List ℕ
+  pub prefix : List ℕ
   pub rest : List ℕ
-  pub parts : text ≡ front ++ rest
+  pub parts : text ≡ prefix ++ rest
   pub count : length rest ≡ left
   pub value : A
   pub more : List ℕ
   pub shaped : IsShaped value
-  pub begins : spell (pieces value) ≡ front ++ more
-  pub ends : (v : A) (after other : List ℕ) → IsShaped v → SameStart rest other → spell (pieces v) ++ after ≡ front ++ other → ⊥
+  pub begins : spell (pieces value) ≡ prefix ++ more
+  pub ends : (v : A) (after other : List ℕ) → IsShaped v → SameStart rest other → spell (pieces v) ++ after ≡ prefix ++ other → ⊥
 
 -- The first number that is outside its range begins where so many characters are left.
 pub record Outside {A : Type 0} (IsShaped : A → Type 0) (pieces : A → List Piece) (text : List ℕ) (left : ℕ) : Type 0 where

@@ -6,7 +6,7 @@ use Rattle.tl_cert.specs.inner.reading.Readings.{Reading, ◌>>=◌, give, begin
 use Rattle.tl_cert.specs.inner.reading.Lists.{Turn, halt, go, look, by_turn, ListReading, Listing, listing, stopping, list_at}
 use Rattle.tl_cert.proofs.reading.Spellings.{spell_two}
 use Rattle.tl_cert.proofs.reading.Exact.{Exact}
-use Rattle.tl_cert.proofs.reading.Sequence.{Parted, Joined, exact_then}
+use Rattle.tl_cert.proofs.reading.Sequence.{Separated, Joined, exact_then}
 use Rattle.tl_cert.proofs.reading.Words.{exact_give}
 use Rattle.tl_cert.proofs.reading.Choice.{Chosen, exact_either}
 use Rattle.tl_cert.proofs.reading.Same.{exact_same}
@@ -79,7 +79,7 @@ module _ {S A V E : Type 0} (list : ListReading S A V E) (form : ListForm S A V 
   exact_stopping k s stop =
       let joined : Joined (form.IsStop k s) form.stop_pieces (λ (e : E) (x : Listing V E). x ≡ listing [] e) (λ (e : E) (x : Listing V E). [])
       (IsStopped k s) pieces = record {
-        parted = λ x is. record { part = x.1; first = is.end; second = ap (λ (vs : List V). listing vs x.1) is.none };
+        separated = λ x is. record { part = x.1; first = is.end; second = ap (λ (vs : List V). listing vs x.1) is.none };
         shaped = λ e x first second. let P : Listing V E → Type 0 = IsStopped k s in subst P (sym second) (record { end = first; none = refl });
         text = λ e x first second. ap pieces second ∙ sym (append-nil (form.stop_pieces e));
       } in
@@ -104,14 +104,14 @@ module _ {S A V E : Type 0} (list : ListReading S A V E) (form : ListForm S A V 
   abbrev Later : ℕ → S → A → Listing V E → Type 0
   Later k s a x = GoesOn k s a (x.0) (x.1)
 
-  later_parted : (k : ℕ) (s : S) (a : A) (vs : List V) (e : E) → GoesOn k s a vs e
-      → Parted (Listed k (list.next s a)) (λ (y x : Listing V E). x ≡ listing (list.view a ∷ y.0) (y.1)) (listing vs e)
-  later_parted k s a [] e is = absurd is
-  later_parted k s a (v ∷ vs) e is = record { part = listing vs e; first = is.1; second = ap (λ (w : V). listing (w ∷ vs) e) (sym is.0) }
+  later_separated : (k : ℕ) (s : S) (a : A) (vs : List V) (e : E) → GoesOn k s a vs e
+      → Separated (Listed k (list.next s a)) (λ (y x : Listing V E). x ≡ listing (list.view a ∷ y.0) (y.1)) (listing vs e)
+  later_separated k s a [] e is = absurd is
+  later_separated k s a (v ∷ vs) e is = record { part = listing vs e; first = is.1; second = ap (λ (w : V). listing (w ∷ vs) e) (sym is.0) }
 
-  going_parted : (k : ℕ) (s : S) (vs : List V) (e : E) → IsGoing k s vs e → Parted (form.IsItem k s) (Later k s) (listing vs e)
-  going_parted k s [] e is = absurd is
-  going_parted k s (v ∷ vs) e is = record { part = form.lift v vs; first = is.1.0; second = (is.0, is.1.1) }
+  going_separated : (k : ℕ) (s : S) (vs : List V) (e : E) → IsGoing k s vs e → Separated (form.IsItem k s) (Later k s) (listing vs e)
+  going_separated k s [] e is = absurd is
+  going_separated k s (v ∷ vs) e is = record { part = form.lift v vs; first = is.1.0; second = (is.0, is.1.1) }
 
   module _ (exact : IsExactList list form) where
     item_is : (k : ℕ) (s : S) (a : A) (v : V) (vs : List V) (e : E) → form.IsItem k s a → list.view a ≡ v → IsListed list form k (list.next s a) vs e
@@ -137,12 +137,12 @@ module _ {S A V E : Type 0} (list : ListReading S A V E) (form : ListForm S A V 
         let inner : (a : A) → Joined (Listed k (list.next s a)) pieces (λ (y x : Listing V E). x ≡ listing (list.view a ∷ y.0) (y.1))
         (λ (y x : Listing V E). []) (Later k s a) (λ (x : Listing V E). later_pieces (x.0) (x.1)) =
         λ a. record {
-          parted = λ x is. later_parted k s a (x.0) (x.1) is;
+          separated = λ x is. later_separated k s a (x.0) (x.1) is;
           shaped = λ y x first second. let P : Listing V E → Type 0 = Later k s a in subst P (sym second) (refl, first);
           text = λ y x first second. ap (λ (z : Listing V E). later_pieces (z.0) (z.1)) second ∙ sym (append-nil (pieces y));
         } in
         let outer : Joined (form.IsItem k s) form.item_pieces (Later k s) (λ (a : A) (x : Listing V E). later_pieces (x.0) (x.1)) (Going k s) pieces = record {
-          parted = λ x is. going_parted k s (x.0) (x.1) is;
+          separated = λ x is. going_separated k s (x.0) (x.1) is;
           shaped = λ a x first second. going_shaped k s a (x.0) (x.1) first second;
           text = λ a x first second. going_text k s a (x.0) (x.1) first second;
         } in
@@ -185,7 +185,7 @@ module _ {S A V E : Type 0} (list : ListReading S A V E) (form : ListForm S A V 
         (λ x is. elim (either_is k s (x.0) (x.1) is) [ inl going ↦ going | inr stopped ↦ absurd (turns.no_stop x.1 stopped.end) ]) (λ x is. refl)
     exact_turn k s (look test) going turns goes =
         let chosen : Chosen test pieces (Going k s) (IsStopped (suc k) s) (Listed (suc k) s) = record {
-          parted = λ x is. either_is k s (x.0) (x.1) is;
+          separated = λ x is. either_is k s (x.0) (x.1) is;
           first = λ x is. listed_going k s (x.0) (x.1) is;
           other = listed_stopped k s;
           yes = λ x t is. going_begins k s test turns (x.0) (x.1) t is;

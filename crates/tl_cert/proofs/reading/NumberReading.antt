@@ -69,7 +69,7 @@ module _ (low high : ℕ) {possible : ℕ → Bool} {allowed : ℕ → ℕ → B
       let p = rule.longer 1 (omega arith) in
       let end = rule.some_end p.0 p.2 in
       record {
-        front = [];
+        prefix = [];
         rest = text;
         parts = refl;
         count = refl;
@@ -81,11 +81,11 @@ module _ (low high : ℕ) {possible : ℕ → Bool} {allowed : ℕ → ℕ → B
       }
 
   -- the number is read, and nothing goes on as the rest does
-  stuck_behind : (text : List ℕ) (n : ℕ) (rest : List ℕ) (m e : ℕ) (more : List ℕ) → text ≡ numeral n ++ rest → IsPastDigits rest → allowed m e ≡ true
+  stuck_after : (text : List ℕ) (n : ℕ) (rest : List ℕ) (m e : ℕ) (more : List ℕ) → text ≡ numeral n ++ rest → IsPastDigits rest → allowed m e ≡ true
       → numeral m ≡ numeral n ++ more
       → ((e : ℕ) (after other : List ℕ) → allowed n e ≡ true → SameStart rest other → e ∷ after ≡ other → ⊥) → Stuck IsEnded pieces text (length rest)
-  stuck_behind text n rest m e more parts past shaped longer ends = record {
-    front = numeral n;
+  stuck_after text n rest m e more parts past shaped longer ends = record {
+    prefix = numeral n;
     rest = rest;
     parts = parts;
     count = refl;
@@ -119,7 +119,7 @@ module _ (low high : ℕ) {possible : ℕ → Bool} {allowed : ℕ → ℕ → B
       → NumberAnswer text (ended allowed n rest)
   ended_answer text n [] parts past can least most =
       let end = rule.some_end n can in
-      stuck_behind text n [] n end.0 [] parts tt end.1 (sym (append-nil (numeral n))) (no_end_at_end n)
+      stuck_after text n [] n end.0 [] parts tt end.1 (sym (append-nil (numeral n))) (no_end_at_end n)
   ended_answer text n (c ∷ rest) parts past can least most =
       let end = rule.some_end n can in
       let P : Answer (ℕ × ℕ) → Type 0 = NumberAnswer text in
@@ -129,7 +129,7 @@ module _ (low high : ℕ) {possible : ℕ → Bool} {allowed : ℕ → ℕ → B
             subst P (sym is) (record { shaped = ends; within = ((least, most), (tt, tt)); parts = parts ∙ sym (spelled n c rest) })
         | inr refused ↦
             let is : ended allowed n (c ∷ rest) ≡ wrong (suc (length rest)) = rw refused refl in
-            subst P (sym is) (stuck_behind text n (c ∷ rest) n end.0 [] parts past end.1 (sym (append-nil (numeral n))) (no_such_end n c rest refused))
+            subst P (sym is) (stuck_after text n (c ∷ rest) n end.0 [] parts past end.1 (sym (append-nil (numeral n))) (no_such_end n c rest refused))
       ]
 
   in_range : (n : ℕ) → (leb low n && leb n high) ≡ true → (low ≤ n) × (n ≤ high)
@@ -173,7 +173,7 @@ module _ (low high : ℕ) {possible : ℕ → Bool} {allowed : ℕ → ℕ → B
             let is : run_ended low high possible allowed (length text) n rest ≡ wrong (length rest) = rw impossible refl in
             let longer = rule.longer n (positive impossible) in
             let end = rule.some_end longer.0 longer.2 in
-            subst P (sym is) (stuck_behind text n rest longer.0 end.0 longer.1 parts past end.1 longer.3 (no_end_follows n rest impossible))
+            subst P (sym is) (stuck_after text n rest longer.0 end.0 longer.1 parts past end.1 longer.3 (no_end_follows n rest impossible))
       ]
 
   not_a_digit : (c : ℕ) (text : List ℕ) → is_ascii_digit c ≡ false → (n e : ℕ) (after other : List ℕ) → allowed n e ≡ true → SameStart (c ∷ text) other
@@ -222,7 +222,7 @@ module _ (low high : ℕ) {possible : ℕ → Bool} {allowed : ℕ → ℕ → B
   stuck_at_digit (c ∷ text) can digit =
       let end = rule.some_end 0 can in
       record {
-        front = 48 ∷ [];
+        prefix = 48 ∷ [];
         rest = c ∷ text;
         parts = refl;
         count = refl;

@@ -36,10 +36,10 @@ run_gives n (c ∷ text) positive =
           let range = digit_range c digit in
           let step = run_digit n c text digit in
           let rest = run_gives (10 * n + (c - 48)) text (omega arith) in
-          let front : numeral n ++ (c ∷ text) ≡ numeral (10 * n + (c - 48)) ++ text =
+          let prefix : numeral n ++ (c ∷ text) ≡ numeral (10 * n + (c - 48)) ++ text =
           sym (append_assoc (numeral n) (c ∷ []) text) ∙ ap (λ (ds : List ℕ). ds ++ text)
           (ap (λ (k : ℕ). numeral n ++ (k ∷ [])) (omega arith) ∙ sym (numeral_push n (c - 48) positive (omega arith))) in
-          record { parts = rw step (front ∙ rest.parts); past = rw step rest.past; least = rw step (omega (arith, rest.least)) }
+          record { parts = rw step (prefix ∙ rest.parts); past = rw step rest.past; least = rw step (omega (arith, rest.least)) }
       | inr other ↦
           let stop = run_stops n (c ∷ text) other in
           record { parts = rw stop refl; past = rw stop other; least = rw stop (omega arith) }

@@ -30,7 +30,7 @@ exact_same {read = read} IsAlso others exact to from same = record {
   wrong_at = λ text left e.
       let p = exact.wrong_at text left e in
       record {
-        front = p.front;
+        prefix = p.prefix;
         rest = p.rest;
         parts = p.parts;
         count = p.count;

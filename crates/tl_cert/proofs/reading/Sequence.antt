@@ -6,7 +6,7 @@ use Rattle.tl_cert.proofs.reading.Spellings.{spell-append, spell_two, within-app
 use Rattle.tl_cert.proofs.reading.Exact.{Stuck, Outside, Takes, Exact}
 
 -- the part of a value that is read first
-pub record Parted {A C : Type 0} (IsFirst : A → Type 0) (IsSecond : A → C → Type 0) (v : C) : Type 0 where
+pub record Separated {A C : Type 0} (IsFirst : A → Type 0) (IsSecond : A → C → Type 0) (v : C) : Type 0 where
   pub part : A
   pub first : IsFirst part
   pub second : IsSecond part v
@@ -14,7 +14,7 @@ pub record Parted {A C : Type 0} (IsFirst : A → Type 0) (IsSecond : A → C �
 -- values whose texts are joined of a first part and a second
 pub record Joined {A C : Type 0} (IsFirst : A → Type 0) (first_pieces : A → List Piece) (IsSecond : A → C → Type 0) (second_pieces : A → C → List Piece)
     (IsShaped : C → Type 0) (pieces : C → List Piece) : Type 0 where
-  pub parted : (v : C) → IsShaped v → Parted IsFirst IsSecond v
+  pub separated : (v : C) → IsShaped v → Separated IsFirst IsSecond v
   pub shaped : (a : A) (v : C) → IsFirst a → IsSecond a v → IsShaped v
   pub text : (a : A) (v : C) → IsFirst a → IsSecond a v → pieces v ≡ first_pieces a ++ second_pieces a v
 
@@ -35,14 +35,14 @@ module _ {A C : Type 0} {IsFirst : A → Type 0} {first_pieces : A → List Piec
 
   same_first : (a : A) (v : C) (t u : List ℕ) → IsFirst a → IsShaped v → spell (pieces v) ++ t ≡ spell (first_pieces a) ++ u → SecondGoesOn a v t u
   same_first a v t u one shaped same =
-      let p = joined.parted v shaped in
+      let p = joined.separated v shaped in
       let q = first.apart p.part a (spell (second_pieces p.part v) ++ t) u p.first one (sym (spelled p.part v t p.first p.second) ∙ same) in
       let P : A → Type 0 = λ b. SecondGoesOn b v t u in
       subst P q.0 (p.second, q.1)
 
   then_apart : (v w : C) (t u : List ℕ) → IsShaped v → IsShaped w → spell (pieces v) ++ t ≡ spell (pieces w) ++ u → (v ≡ w) × (t ≡ u)
   then_apart v w t u one two same =
-      let p = joined.parted w two in
+      let p = joined.separated w two in
       let g = same_first p.part v t (spell (second_pieces p.part w) ++ u) p.first one (same ∙ spelled p.part w u p.first p.second) in
       (second p.part p.first).apart v w t u g.0 p.second g.1
 
@@ -64,25 +64,25 @@ module _ {A C : Type 0} {IsFirst : A → Type 0} {first_pieces : A → List Piec
       let one = first.takes text a mid is in
       let stuck = (second a one.shaped).wrong_at mid left e in
       record {
-        front = spell (first_pieces a) ++ stuck.front;
+        prefix = spell (first_pieces a) ++ stuck.prefix;
         rest = stuck.rest;
-        parts = one.parts ∙ ap (λ (t : List ℕ). spell (first_pieces a) ++ t) stuck.parts ∙ sym (append_assoc (spell (first_pieces a)) stuck.front stuck.rest);
+        parts = one.parts ∙ ap (λ (t : List ℕ). spell (first_pieces a) ++ t) stuck.parts ∙ sym (append_assoc (spell (first_pieces a)) stuck.prefix stuck.rest);
         count = stuck.count;
         value = stuck.value;
         more = stuck.more;
         shaped = joined.shaped a stuck.value one.shaped stuck.shaped;
         begins = spelled_alone a stuck.value one.shaped stuck.shaped ∙ ap (λ (t : List ℕ). spell (first_pieces a) ++ t) stuck.begins
-            ∙ sym (append_assoc (spell (first_pieces a)) stuck.front stuck.more);
+            ∙ sym (append_assoc (spell (first_pieces a)) stuck.prefix stuck.more);
         ends = λ v after other shaped same goes_on.
-            let g = same_first a v after (stuck.front ++ other) one.shaped shaped (goes_on ∙ append_assoc (spell (first_pieces a)) stuck.front other) in
+            let g = same_first a v after (stuck.prefix ++ other) one.shaped shaped (goes_on ∙ append_assoc (spell (first_pieces a)) stuck.prefix other) in
             stuck.ends v after other g.0 same g.1;
       }
-  then_wrong text left (wrong behind) is e =
-      let behind-is : behind ≡ left = cc in
-      let stuck = first.wrong_at text left (is ∙ ap (λ (k : ℕ). wrong k) behind-is) in
+  then_wrong text left (wrong remaining) is e =
+      let remaining-is : remaining ≡ left = cc in
+      let stuck = first.wrong_at text left (is ∙ ap (λ (k : ℕ). wrong k) remaining-is) in
       let last = second stuck.value stuck.shaped in
       record {
-        front = stuck.front;
+        prefix = stuck.prefix;
         rest = stuck.rest;
         parts = stuck.parts;
         count = stuck.count;
@@ -91,12 +91,12 @@ module _ {A C : Type 0} {IsFirst : A → Type 0} {first_pieces : A → List Piec
         shaped = joined.shaped stuck.value last.some stuck.shaped last.some_shaped;
         begins = spelled_alone stuck.value last.some stuck.shaped last.some_shaped
             ∙ ap (λ (t : List ℕ). t ++ spell (second_pieces stuck.value last.some)) stuck.begins
-            ∙ append_assoc stuck.front stuck.more (spell (second_pieces stuck.value last.some));
+            ∙ append_assoc stuck.prefix stuck.more (spell (second_pieces stuck.value last.some));
         ends = λ v after other shaped same goes_on.
-            let p = joined.parted v shaped in
+            let p = joined.separated v shaped in
             stuck.ends p.part (spell (second_pieces p.part v) ++ after) other p.first same (sym (spelled p.part v after p.first p.second) ∙ goes_on);
       }
-  then_wrong text left (outside behind) is e = absurd cc
+  then_wrong text left (outside remaining) is e = absurd cc
 
   then_outside : (text : List ℕ) (left : ℕ) (x : Answer A) → read text ≡ x → then_read x next ≡ outside left → Outside IsShaped pieces text left
   then_outside text left (got a mid) is e =
@@ -120,10 +120,10 @@ module _ {A C : Type 0} {IsFirst : A → Type 0} {first_pieces : A → List Piec
         past = out.past;
         count = out.count;
       }
-  then_outside text left (wrong behind) is e = absurd cc
-  then_outside text left (outside behind) is e =
-      let behind-is : behind ≡ left = cc in
-      let out = first.outside_at text left (is ∙ ap (λ (k : ℕ). outside k) behind-is) in
+  then_outside text left (wrong remaining) is e = absurd cc
+  then_outside text left (outside remaining) is e =
+      let remaining-is : remaining ≡ left = cc in
+      let out = first.outside_at text left (is ∙ ap (λ (k : ℕ). outside k) remaining-is) in
       let last = second out.value out.shaped in
       record {
         value = last.some;
@@ -145,7 +145,7 @@ module _ {A C : Type 0} {IsFirst : A → Type 0} {first_pieces : A → List Piec
 
   then_first_out : (text : List ℕ) (left : ℕ) → Outside IsShaped pieces text left → then_read (read text) next ≡ outside left
   then_first_out text left out =
-      let p = joined.parted out.value out.shaped in
+      let p = joined.separated out.value out.shaped in
       let split = sym (joined.text p.part out.value p.first p.second) ∙ out.split in
       elim (lies_in (first_pieces p.part) (second_pieces p.part out.value) out.before (number out.low out.high out.n) out.after split) [
         | inl there ↦
@@ -167,10 +167,10 @@ module _ {A C : Type 0} {IsFirst : A → Type 0} {first_pieces : A → List Piec
             }) in
             ap (λ (x : Answer A). then_read x next) here
         | inr there ↦
-            let both = let P : List Piece → Type 0 = AllWithin in subst P there.front out.within in
+            let both = let P : List Piece → Type 0 = AllWithin in subst P there.prefix out.within in
             let mid : List ℕ = spell there.others ++ (numeral out.n ++ out.tail) in
             let text-is : text ≡ spell (first_pieces p.part) ++ mid =
-            out.parts ∙ ap (λ (ps : List Piece). spell ps ++ (numeral out.n ++ out.tail)) there.front
+            out.parts ∙ ap (λ (ps : List Piece). spell ps ++ (numeral out.n ++ out.tail)) there.prefix
             ∙ spell_two (first_pieces p.part) there.others (numeral out.n ++ out.tail) in
             let here : read text ≡ got p.part mid = ap read text-is ∙ first.again p.part mid p.first (within-first (first_pieces p.part) there.others both) in
             ap (λ (x : Answer A). then_read x next) here ∙ (second p.part p.first).first_out mid left (record {
@@ -193,7 +193,7 @@ module _ {A C : Type 0} {IsFirst : A → Type 0} {first_pieces : A → List Piec
 
   then_again : (v : C) (rest : List ℕ) → IsShaped v → AllWithin (pieces v) → then_read (read (spell (pieces v) ++ rest)) next ≡ got v rest
   then_again v rest shaped within =
-      let p = joined.parted v shaped in
+      let p = joined.separated v shaped in
       let both = let P : List Piece → Type 0 = AllWithin in subst P (joined.text p.part v p.first p.second) within in
       let here = ap read (spelled p.part v rest p.first p.second) ∙ first.again p.part (spell (second_pieces p.part v) ++ rest) p.first
       (within-first (first_pieces p.part) (second_pieces p.part v) both) in

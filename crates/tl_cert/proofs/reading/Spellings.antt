@@ -30,7 +30,7 @@ pub record InFirst (ps qs before : List Piece) (piece : Piece) (after : List Pie
 
 pub record InSecond (ps qs before : List Piece) (piece : Piece) (after : List Piece) : Type 0 where
   pub others : List Piece
-  pub front : before ≡ ps ++ others
+  pub prefix : before ≡ ps ++ others
   pub parts : qs ≡ others ++ piece ∷ after
 
 abbrev pub Lies : (ps qs before : List Piece) (piece : Piece) (after : List Piece) → Type 0
@@ -40,14 +40,14 @@ further : (p : Piece) (ps qs before : List Piece) (piece : Piece) (after : List 
     → Lies (p ∷ ps) qs (p ∷ before) piece after
 further p ps qs before piece after (inl first) = inl (record { others = first.others; parts = ap (λ (rs : List Piece). p ∷ rs) first.parts; rest = first.rest })
 further p ps qs before piece after (inr second) =
-    inr (record { others = second.others; front = ap (λ (rs : List Piece). p ∷ rs) second.front; parts = second.parts })
+    inr (record { others = second.others; prefix = ap (λ (rs : List Piece). p ∷ rs) second.prefix; parts = second.parts })
 
 same_head : (p q : Piece) (ps qs before : List Piece) (piece : Piece) (after : List Piece) → p ≡ q → Lies (p ∷ ps) qs (p ∷ before) piece after
     → Lies (p ∷ ps) qs (q ∷ before) piece after
 same_head p q ps qs before piece after same lies = let P : Piece → Type 0 = λ r. Lies (p ∷ ps) qs (r ∷ before) piece after in subst P same lies
 
 pub lies_in : (ps qs before : List Piece) (piece : Piece) (after : List Piece) → ps ++ qs ≡ before ++ piece ∷ after → Lies ps qs before piece after
-lies_in [] qs before piece after parts = inr (record { others = before; front = refl; parts = parts })
+lies_in [] qs before piece after parts = inr (record { others = before; prefix = refl; parts = parts })
 lies_in (p ∷ ps) qs [] piece after parts =
     let head : p ≡ piece = cc in
     let tail : ps ++ qs ≡ after = cc in

@@ -8,15 +8,15 @@ use Rattle.tl_cert.proofs.reading.Spellings.{spell-append}
 use Rattle.tl_cert.proofs.reading.Exact.{SameStart, Stuck, Outside, Exact}
 use Rattle.tl_cert.proofs.reading.ListExact.{ListForm, IsListed, list_pieces, IsExactList, exact_list}
 
--- two fronts of a text that leave equally much are one
-pub same_front : (a b x y : List ℕ) → a ++ x ≡ b ++ y → length x ≡ length y → (a ≡ b) × (x ≡ y)
-same_front [] [] x y e same = (refl, e)
-same_front [] (c ∷ b) x y e same = absurd (omega (arith, ap length e, length-append (c ∷ b) y, same))
-same_front (c ∷ a) [] x y e same = absurd (omega (arith, ap length e, length-append (c ∷ a) x, same))
-same_front (c ∷ a) (d ∷ b) x y e same =
+-- two prefixes of a text that leave equally much are one
+pub same_prefix : (a b x y : List ℕ) → a ++ x ≡ b ++ y → length x ≡ length y → (a ≡ b) × (x ≡ y)
+same_prefix [] [] x y e same = (refl, e)
+same_prefix [] (c ∷ b) x y e same = absurd (omega (arith, ap length e, length-append (c ∷ b) y, same))
+same_prefix (c ∷ a) [] x y e same = absurd (omega (arith, ap length e, length-append (c ∷ a) x, same))
+same_prefix (c ∷ a) (d ∷ b) x y e same =
     let tail : a ++ x ≡ b ++ y = cc in
     let head : c ≡ d = cc in
-    let p = same_front a b x y tail same in
+    let p = same_prefix a b x y tail same in
     (ap (λ (k : ℕ). k ∷ a) head ∙ ap (λ (t : List ℕ). d ∷ t) p.0, p.1)
 
 -- what is asked of a list's items where their number has no limit
@@ -123,7 +123,7 @@ module _ {S A V E : Type 0} (list : ListReading S A V E) (form : ListForm S A V 
     all_wrong text left e =
         let p = (part (length text)).wrong_at text left e in
         record {
-          front = p.front;
+          prefix = p.prefix;
           rest = p.rest;
           parts = p.parts;
           count = p.count;
@@ -134,9 +134,9 @@ module _ {S A V E : Type 0} (list : ListReading S A V E) (form : ListForm S A V 
           ends = λ v after other shaped start is.
               let k : ℕ = length text + shaped.0 in
               let q = (part k).wrong_at text left (fuel_same k (length text) s text (omega arith) (omega arith) ∙ e) in
-              let same = same_front p.front q.front p.rest q.rest (sym p.parts ∙ q.parts) (p.count ∙ sym q.count) in
+              let same = same_prefix p.prefix q.prefix p.rest q.rest (sym p.parts ∙ q.parts) (p.count ∙ sym q.count) in
               let P : List ℕ → Type 0 = λ rest. SameStart rest other in
-              q.ends v after other (any_more s v k shaped (omega arith)) (subst P same.1 start) (is ∙ ap (λ (front : List ℕ). front ++ other) same.0);
+              q.ends v after other (any_more s v k shaped (omega arith)) (subst P same.1 start) (is ∙ ap (λ (prefix : List ℕ). prefix ++ other) same.0);
         }
 
     all_outside : (text : List ℕ) (left : ℕ) → list_at list (suc (length text)) s text ≡ outside left → Outside (IsListedAt s) pieces text left

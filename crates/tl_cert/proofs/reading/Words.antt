@@ -36,13 +36,13 @@ word_again (c ∷ w) rest = word_head c c w (w ++ rest) refl ∙ word_again w re
 
 -- where the word is not read, up to where it was
 record WordStuck (w text : List ℕ) (left : ℕ) : Type 0 where
-  front : List ℕ
+  prefix : List ℕ
   rest : List ℕ
   more : List ℕ
-  parts : text ≡ front ++ rest
+  parts : text ≡ prefix ++ rest
   count : length rest ≡ left
-  begins : w ≡ front ++ more
-  ends : (after other : List ℕ) → SameStart rest other → w ++ after ≡ front ++ other → ⊥
+  begins : w ≡ prefix ++ more
+  ends : (after other : List ℕ) → SameStart rest other → w ++ after ≡ prefix ++ other → ⊥
 
 abbrev WordAnswer : List ℕ → List ℕ → Answer (Unit {0}) → Type 0
 WordAnswer w text (got v rest) = text ≡ w ++ rest
@@ -52,13 +52,13 @@ WordAnswer w text (outside left) = ⊥
 further : (c : ℕ) (w text : List ℕ) (x : Answer (Unit {0})) → WordAnswer w text x → WordAnswer (c ∷ w) (c ∷ text) x
 further c w text (got v rest) a = ap (λ (t : List ℕ). c ∷ t) a
 further c w text (wrong left) a = record {
-  front = c ∷ a.front;
+  prefix = c ∷ a.prefix;
   rest = a.rest;
   more = a.more;
   parts = ap (λ (t : List ℕ). c ∷ t) a.parts;
   count = a.count;
   begins = ap (λ (t : List ℕ). c ∷ t) a.begins;
-  ends = λ after other same e. let tail : w ++ after ≡ a.front ++ other = cc in a.ends after other same tail;
+  ends = λ after other same e. let tail : w ++ after ≡ a.prefix ++ other = cc in a.ends after other same tail;
 }
 further c w text (outside left) a = a
 
@@ -73,7 +73,7 @@ at_other b c w text after (d ∷ other) differ same e = let head : c ≡ d = cc 
 word_answer : (w text : List ℕ) → WordAnswer w text (word_at w text)
 unfolding word_at
 word_answer [] text = refl
-word_answer (c ∷ w) [] = record { front = []; rest = []; more = c ∷ w; parts = refl; count = refl; begins = refl; ends = at_end c w }
+word_answer (c ∷ w) [] = record { prefix = []; rest = []; more = c ∷ w; parts = refl; count = refl; begins = refl; ends = at_end c w }
 word_answer (c ∷ w) (b ∷ text) =
     elim (cases_Bool (eqb b c)) [
       | inl hit ↦
@@ -85,7 +85,7 @@ word_answer (c ∷ w) (b ∷ text) =
           let Q : Answer (Unit {0}) → Type 0 = WordAnswer (c ∷ w) (b ∷ text) in
           subst Q (sym (word_ends b c w text (eqb-false b c miss)))
           (record {
-            front = [];
+            prefix = [];
             rest = b ∷ text;
             more = c ∷ w;
             parts = refl;
@@ -113,7 +113,7 @@ exact_word w = record {
       let P : Answer (Unit {0}) → Type 0 = WordAnswer w text in
       let stuck : WordStuck w text left = subst P e (word_answer w text) in
       record {
-        front = stuck.front;
+        prefix = stuck.prefix;
         rest = stuck.rest;
         parts = stuck.parts;
         count = stuck.count;

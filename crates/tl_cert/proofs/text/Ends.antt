@@ -35,16 +35,16 @@ IsCycleOrChain Chain = Unit {0}
 IsCycleOrChain Fired = ⊥
 IsCycleOrChain Area = ⊥
 
-tail_parted : (e : End) → IsCycleOrChain e → (e ≡ Cycle) ⊎ (e ≡ Chain)
-tail_parted Cycle is = inl refl
-tail_parted Chain is = inr refl
-tail_parted Fired is = absurd is
-tail_parted Area is = absurd is
+tail_separated : (e : End) → IsCycleOrChain e → (e ≡ Cycle) ⊎ (e ≡ Chain)
+tail_separated Cycle is = inl refl
+tail_separated Chain is = inr refl
+tail_separated Fired is = absurd is
+tail_separated Area is = absurd is
 
 exact_tail : Exact cycle_or_chain_at IsCycleOrChain tail_word
 exact_tail =
     let chosen : Chosen (λ c. eqb c 121) tail_word (λ e. e ≡ Cycle) (λ e. e ≡ Chain) IsCycleOrChain = record {
-      parted = tail_parted;
+      separated = tail_separated;
       first = λ e is. subst IsCycleOrChain (sym is) tt;
       other = λ e is. subst IsCycleOrChain (sym is) tt;
       yes = λ e t is. ap (λ (f : End). begins (λ c. eqb c 121) (spell (tail_word f) ++ t)) is;
@@ -61,11 +61,11 @@ tail_text Area is = absurd is
 abbrev NoArea : End → Type 0
 NoArea e = is_area e ≡ false
 
-plain_parted : (e : End) → NoArea e → (e ≡ Fired) ⊎ IsCycleOrChain e
-plain_parted Fired is = inl refl
-plain_parted Cycle is = inr tt
-plain_parted Chain is = inr tt
-plain_parted Area is = absurd cc
+plain_separated : (e : End) → NoArea e → (e ≡ Fired) ⊎ IsCycleOrChain e
+plain_separated Fired is = inl refl
+plain_separated Cycle is = inr tt
+plain_separated Chain is = inr tt
+plain_separated Area is = absurd cc
 
 plain_other : (e : End) → IsCycleOrChain e → NoArea e
 plain_other Cycle is = refl
@@ -82,7 +82,7 @@ plain_no Area t is = absurd is
 exact_plain : Exact plain_end_at NoArea end_pieces
 exact_plain =
     let chosen : Chosen (λ c. eqb c 102) end_pieces (λ e. e ≡ Fired) IsCycleOrChain NoArea = record {
-      parted = plain_parted;
+      separated = plain_separated;
       first = λ e is. ap is_area is;
       other = plain_other;
       yes = λ e t is. ap (λ (f : End). begins (λ c. eqb c 102) (spell (end_pieces f) ++ t)) is;
@@ -90,11 +90,11 @@ exact_plain =
     } in
     exact_either (exact_sign (codes "fired\n") Fired end_pieces refl) (exact_after (codes "c") tail_word end_pieces exact_tail tail_text) chosen
 
-any_parted : (e : End) → IsAny e → (e ≡ Area) ⊎ NoArea e
-any_parted Area is = inl refl
-any_parted Fired is = inr refl
-any_parted Cycle is = inr refl
-any_parted Chain is = inr refl
+any_separated : (e : End) → IsAny e → (e ≡ Area) ⊎ NoArea e
+any_separated Area is = inl refl
+any_separated Fired is = inr refl
+any_separated Cycle is = inr refl
+any_separated Chain is = inr refl
 
 any_no : (e : End) (t : List ℕ) → NoArea e → begins (λ c. eqb c 97) (spell (end_pieces e) ++ t) ≡ false
 any_no Area t is = absurd cc
@@ -116,7 +116,7 @@ unfolding end_at
 exact_end Never = exact_plain
 exact_end Free =
     let chosen : Chosen (λ c. eqb c 97) end_pieces (λ e. e ≡ Area) NoArea IsAny = record {
-      parted = any_parted;
+      separated = any_separated;
       first = λ e is. tt;
       other = λ e is. tt;
       yes = λ e t is. ap (λ (f : End). begins (λ c. eqb c 97) (spell (end_pieces f) ++ t)) is;

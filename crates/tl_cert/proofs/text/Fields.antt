@@ -19,9 +19,9 @@ pub exact_made : {A C : Type 0} {read : Reading A} {IsFirst : A → Type 0} {fir
     → Exact read IsFirst first_pieces → ((v : C) → IsShaped v → IsFirst (part v) × (v ≡ make (part v)))
     → ((a : A) → IsFirst a → IsShaped (make a) × (pieces (make a) ≡ first_pieces a))
     → Exact (read >>= λ a. give (make a)) IsShaped pieces
-exact_made {A} {C} {read} {IsFirst} {first_pieces} make part IsShaped pieces first parted made =
+exact_made {A} {C} {read} {IsFirst} {first_pieces} make part IsShaped pieces first separated made =
     let joined : Joined IsFirst first_pieces (λ (a : A) (v : C). v ≡ make a) (λ (a : A) (v : C). []) IsShaped pieces = record {
-      parted = λ v is. let p = parted v is in record { part = part v; first = p.0; second = p.1 };
+      separated = λ v is. let p = separated v is in record { part = part v; first = p.0; second = p.1 };
       shaped = λ a v one two. subst IsShaped (sym two) (made a one).0;
       text = λ a v one two. ap pieces two ∙ (made a one).1 ∙ sym (append-nil (first_pieces a));
     } in
@@ -33,7 +33,7 @@ pub exact_after : {C : Type 0} (w : List ℕ) {next : Reading C} {IsShaped : C �
     → Exact (word_at w >>= λ _. next) IsShaped pieces
 exact_after {C} w {next} {IsShaped} rest pieces second text =
     let joined : Joined {A = Unit {0}} IsAny (λ _. word w) (λ (u : Unit {0}) (v : C). IsShaped v) (λ (u : Unit {0}) (v : C). rest v) IsShaped pieces = record {
-      parted = λ v is. record { part = tt; first = tt; second = is };
+      separated = λ v is. record { part = tt; first = tt; second = is };
       shaped = λ a v one two. two;
       text = λ a v one two. text v two;
     } in
@@ -68,7 +68,7 @@ pub exact_part_then : {A C : Type 0} {read : Reading A} {IsFirst : A → Type 0}
     → ((v : C) → IsShaped v → IsFirst (part v) × (pieces v ≡ first_pieces (part v) ++ rest (part v) v)) → Exact (read >>= next) IsShaped pieces
 exact_part_then {A} {C} {read} {IsFirst} {first_pieces} part {next} IsShaped pieces rest first second text =
     let joined : Joined IsFirst first_pieces (λ (a : A) (v : C). IsShaped v × (part v ≡ a)) rest IsShaped pieces = record {
-      parted = λ v is. record { part = part v; first = (text v is).0; second = (is, refl) };
+      separated = λ v is. record { part = part v; first = (text v is).0; second = (is, refl) };
       shaped = λ a v one two. two.0;
       text = λ a v one two. (text v two.0).1 ∙ ap (λ (b : A). first_pieces b ++ rest b v) two.1;
     } in

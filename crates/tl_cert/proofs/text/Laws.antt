@@ -24,39 +24,39 @@ same_start [] = tt
 same_start (b ∷ rest) = refl
 
 -- what begins a text, and a byte with which none goes on
-take_front : (front rest : List ℕ) → take (length front) (front ++ rest) ≡ front
-take_front front rest = take_at front rest (length front) refl
+take_prefix : (prefix rest : List ℕ) → take (length prefix) (prefix ++ rest) ≡ prefix
+take_prefix prefix rest = take_at prefix rest (length prefix) refl
 
 -- the prefix that is one byte longer
-take_one_more : (front : List ℕ) (b : ℕ) (rest : List ℕ) → take (length front + 1) (front ++ (b ∷ rest)) ≡ front ++ (b ∷ [])
-take_one_more front b rest =
-    let whole : (front ++ (b ∷ [])) ++ rest ≡ front ++ (b ∷ rest) = append_assoc front (b ∷ []) rest in
-    let size : length (front ++ (b ∷ [])) ≡ length front + 1 = length-append front (b ∷ []) in
-    ap (take (length front + 1)) (sym whole) ∙ take_at (front ++ (b ∷ [])) rest (length front + 1) size
+take_one_more : (prefix : List ℕ) (b : ℕ) (rest : List ℕ) → take (length prefix + 1) (prefix ++ (b ∷ rest)) ≡ prefix ++ (b ∷ [])
+take_one_more prefix b rest =
+    let whole : (prefix ++ (b ∷ [])) ++ rest ≡ prefix ++ (b ∷ rest) = append_assoc prefix (b ∷ []) rest in
+    let size : length (prefix ++ (b ∷ [])) ≡ length prefix + 1 = length-append prefix (b ∷ []) in
+    ap (take (length prefix + 1)) (sym whole) ∙ take_at (prefix ++ (b ∷ [])) rest (length prefix + 1) size
 
 -- The place at which a text gets stuck, in the words of the certificate's faults.
 pub record StuckAt (bytes : List ℕ) (left : ℕ) : Type 0 where
-  pub front : List ℕ
+  pub prefix : List ℕ
   pub rest : List ℕ
-  pub parts : bytes ≡ front ++ rest
+  pub parts : bytes ≡ prefix ++ rest
   pub count : length rest ≡ left
-  pub begins : BeginsText front
-  pub goes_on : (other : List ℕ) (v : Certificate) → IsShaped v → SameStart rest other → cert_text v ≡ front ++ other → ⊥
+  pub begins : BeginsText prefix
+  pub goes_on : (other : List ℕ) (v : Certificate) → IsShaped v → SameStart rest other → cert_text v ≡ prefix ++ other → ⊥
 
-place_is : (bytes : List ℕ) (left : ℕ) (stuck : StuckAt bytes left) → length bytes - left ≡ length stuck.front
-place_is bytes left stuck = omega (arith, ap length stuck.parts ∙ length-append stuck.front stuck.rest, stuck.count)
+place_is : (bytes : List ℕ) (left : ℕ) (stuck : StuckAt bytes left) → length bytes - left ≡ length stuck.prefix
+place_is bytes left stuck = omega (arith, ap length stuck.parts ∙ length-append stuck.prefix stuck.rest, stuck.count)
 
-no_more : (bytes : List ℕ) (left : ℕ) (stuck : StuckAt bytes left) → length stuck.front < length bytes → BeginsText (take (length stuck.front + 1) bytes) → ⊥
+no_more : (bytes : List ℕ) (left : ℕ) (stuck : StuckAt bytes left) → length stuck.prefix < length bytes → BeginsText (take (length stuck.prefix + 1) bytes) → ⊥
 no_more bytes left stuck less begun = at_rest stuck.rest stuck.parts stuck.goes_on
   where
-    at_rest : (rest : List ℕ) → bytes ≡ stuck.front ++ rest → ((other : List ℕ) (v : Certificate) → IsShaped v → SameStart rest other
-        → cert_text v ≡ stuck.front ++ other → ⊥) → ⊥
-    at_rest [] parts goes_on = absurd (omega (arith, ap length parts ∙ length-append stuck.front []))
+    at_rest : (rest : List ℕ) → bytes ≡ stuck.prefix ++ rest → ((other : List ℕ) (v : Certificate) → IsShaped v → SameStart rest other
+        → cert_text v ≡ stuck.prefix ++ other → ⊥) → ⊥
+    at_rest [] parts goes_on = absurd (omega (arith, ap length parts ∙ length-append stuck.prefix []))
     at_rest (b ∷ rest) parts goes_on =
-        let front-is : take (length stuck.front + 1) bytes ≡ stuck.front ++ (b ∷ []) =
-        ap (take (length stuck.front + 1)) parts ∙ take_one_more stuck.front b rest in
+        let prefix-is : take (length stuck.prefix + 1) bytes ≡ stuck.prefix ++ (b ∷ []) =
+        ap (take (length stuck.prefix + 1)) parts ∙ take_one_more stuck.prefix b rest in
         goes_on (b ∷ begun.more) begun.whole begun.shaped refl
-        (begun.text ∙ ap (λ (t : List ℕ). t ++ begun.more) front-is ∙ append_assoc stuck.front (b ∷ []) begun.more)
+        (begun.text ∙ ap (λ (t : List ℕ). t ++ begun.more) prefix-is ∙ append_assoc stuck.prefix (b ∷ []) begun.more)
 
 no_whole : (bytes : List ℕ) (left : ℕ) (stuck : StuckAt bytes left) (c : Certificate) → IsShaped c → cert_text c ≡ bytes → ⊥
 no_whole bytes left stuck c shaped is = stuck.goes_on stuck.rest c shaped (same_start stuck.rest) (is ∙ stuck.parts)
@@ -106,7 +106,7 @@ WholeAnswer bytes (outside left) = Outside IsShaped cert_pieces bytes left
 at_end : (bytes : List ℕ) (c : Certificate) (rest : List ℕ) → Takes IsShaped cert_pieces bytes c rest → WholeAnswer bytes (ended_by c rest)
 at_end bytes c [] p = ((p.shaped, p.within), p.parts ∙ append-nil (cert_text c))
 at_end bytes c (b ∷ rest) p = record {
-  front = cert_text c;
+  prefix = cert_text c;
   rest = b ∷ rest;
   parts = p.parts;
   count = refl;
@@ -126,7 +126,7 @@ read_answer bytes (got c rest) is = at_end bytes c rest (exact_certificate.takes
 read_answer bytes (wrong left) is =
     let p = exact_certificate.wrong_at bytes left is in
     record {
-      front = p.front;
+      prefix = p.prefix;
       rest = p.rest;
       parts = p.parts;
       count = p.count;
@@ -162,10 +162,10 @@ syntax_from bytes left is =
     let P : Answer Certificate → Type 0 = WholeAnswer bytes in
     let stuck : StuckAt bytes left = subst P is (whole_answer bytes) in
     let place = place_is bytes left stuck in
-    let front : take (length stuck.front) bytes ≡ stuck.front = ap (take (length stuck.front)) stuck.parts ∙ take_front stuck.front stuck.rest in
+    let prefix : take (length stuck.prefix) bytes ≡ stuck.prefix = ap (take (length stuck.prefix)) stuck.parts ∙ take_prefix stuck.prefix stuck.rest in
     record {
       there = omega arith;
-      begins = rw (place, front) stuck.begins;
+      begins = rw (place, prefix) stuck.begins;
       ends = λ less begun. no_more bytes left stuck (omega (arith, place)) (let Q : ℕ → Type 0 = λ k. BeginsText (take (k + 1) bytes) in subst Q place begun);
       no_text = λ c shaped same. no_whole bytes left stuck c shaped same;
       no_range = λ other fault. let out = (whole_outside bytes other fault).0 in cc;

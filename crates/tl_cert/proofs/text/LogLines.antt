@@ -128,10 +128,10 @@ exact_bounds_line areas =
 
 -- ---- either
 
-line_parted : (areas : Areas) (nogood : Nogood) (line : LogLine) → line.nogood ≡ nogood → IsLine areas line → IsZoneLine areas line ⊎ IsBoundsLine areas line
-line_parted areas (nogoods.Zone zone) line same is =
+line_separated : (areas : Areas) (nogood : Nogood) (line : LogLine) → line.nogood ≡ nogood → IsLine areas line → IsZoneLine areas line ⊎ IsBoundsLine areas line
+line_separated areas (nogoods.Zone zone) line same is =
     inl (record { zone = subst IsZone (sym same) tt; fires = record { most = is.shaped.fires; end = is.end } })
-line_parted areas (nogoods.Bounds bounds) line same is =
+line_separated areas (nogoods.Bounds bounds) line same is =
     let P : Nogood → Type 0 = IsNogoodShaped in
     inr (record { bounds = subst IsBounds (sym same) (subst P same is.shaped.nogood); fires = record { most = is.shaped.fires; end = is.end } })
 
@@ -176,7 +176,7 @@ pub exact_line : (areas : Areas) → Exact (line_at areas) (IsLine areas) line_p
 unfolding line_at
 exact_line areas =
     let chosen : Chosen (λ c. eqb c 122) line_pieces (IsZoneLine areas) (IsBoundsLine areas) (IsLine areas) = record {
-      parted = λ line is. line_parted areas line.nogood line refl is;
+      separated = λ line is. line_separated areas line.nogood line refl is;
       first = λ line is. record { shaped = record { nogood = zone_shaped line.nogood is.zone; fires = is.fires.most }; end = is.fires.end };
       other = λ line is. record { shaped = record { nogood = bounds_shaped line.nogood is.bounds; fires = is.fires.most }; end = is.fires.end };
       yes = λ line t is. zone_begins line.nogood line t refl is.zone;

@@ -80,9 +80,9 @@ some_widths_text (w ∷ ws) e some =
 abbrev pub AreWidths : Listing ℕ (Unit {0}) → Type 0
 AreWidths x = length (x.0) ≤ MAX_COLUMNS
 
-widths_parted : (ws : List ℕ) (e : Unit {0}) → length ws ≤ MAX_COLUMNS → AreSomeWidths (listing ws e) ⊎ (listing ws e ≡ listing [] tt)
-widths_parted [] e most = inr refl
-widths_parted (w ∷ ws) e most = inl (record { some = omega arith; most = most })
+widths_separated : (ws : List ℕ) (e : Unit {0}) → length ws ≤ MAX_COLUMNS → AreSomeWidths (listing ws e) ⊎ (listing ws e ≡ listing [] tt)
+widths_separated [] e most = inr refl
+widths_separated (w ∷ ws) e most = inl (record { some = omega arith; most = most })
 
 widths_begin : (ws : List ℕ) (e : Unit {0}) (t : List ℕ) → 1 ≤ length ws → begins (λ c. eqb c space) (spell (widths_tail (listing ws e)) ++ t) ≡ true
 widths_begin [] e t some = absurd (omega arith)
@@ -95,7 +95,7 @@ pub exact_widths : Exact widths_at AreWidths widths_pieces
 unfolding widths_at
 exact_widths =
     let chosen : Chosen (λ c. eqb c space) widths_tail AreSomeWidths (λ (x : Listing ℕ (Unit {0})). x ≡ listing [] tt) AreWidths = record {
-      parted = λ x is. widths_parted (x.0) (x.1) is;
+      separated = λ x is. widths_separated (x.0) (x.1) is;
       first = λ x is. is.most;
       other = λ x is. subst AreWidths (sym is) (omega arith);
       yes = λ x t is. widths_begin (x.0) (x.1) t is.some;

@@ -27,9 +27,9 @@ use Rattle.tl_cert.proofs.text.Chains.{exact_chains}
 
 -- ---- version and style
 
-version_parted : (b : Bool) → (b ≡ true) ⊎ (b ≡ false)
-version_parted true = inl refl
-version_parted false = inr refl
+version_separated : (b : Bool) → (b ≡ true) ⊎ (b ≡ false)
+version_separated true = inl refl
+version_separated false = inr refl
 
 abbrev version_pieces : Bool → List Piece
 version_pieces b = word (version_word b)
@@ -38,7 +38,7 @@ exact_version : Exact version_at IsAny version_pieces
 unfolding version_at
 exact_version =
     let chosen : Chosen (λ c. eqb c 50) version_pieces (λ (b : Bool). b ≡ true) (λ (b : Bool). b ≡ false) IsAny = record {
-      parted = λ b is. version_parted b;
+      separated = λ b is. version_separated b;
       first = λ b is. tt;
       other = λ b is. tt;
       yes = λ b t is. ap (λ (a : Bool). begins (λ c. eqb c 50) (spell (version_pieces a) ++ t)) is;
@@ -46,9 +46,9 @@ exact_version =
     } in
     exact_either (exact_sign (codes "2 ") true version_pieces refl) (exact_sign (codes "1 ") false version_pieces refl) chosen
 
-style_parted : (s : Style) → (s ≡ Frame) ⊎ (s ≡ Plain)
-style_parted Frame = inl refl
-style_parted Plain = inr refl
+style_separated : (s : Style) → (s ≡ Frame) ⊎ (s ≡ Plain)
+style_separated Frame = inl refl
+style_separated Plain = inr refl
 
 abbrev style_pieces : Style → List Piece
 style_pieces s = word (style_word s)
@@ -57,7 +57,7 @@ exact_style : Exact style_at IsAny style_pieces
 unfolding style_at
 exact_style =
     let chosen : Chosen (λ c. eqb c 102) style_pieces (λ (s : Style). s ≡ Frame) (λ (s : Style). s ≡ Plain) IsAny = record {
-      parted = λ s is. style_parted s;
+      separated = λ s is. style_separated s;
       first = λ s is. tt;
       other = λ s is. tt;
       yes = λ s t is. ap (λ (a : Style). begins (λ c. eqb c 102) (spell (style_pieces a) ++ t)) is;
@@ -183,7 +183,7 @@ exact_other : (has : Bool) → Exact (other_claim_at has) (IsOther has) claim_pi
 exact_other true = exact_bounded
 exact_other false =
     let chosen : Chosen (λ c. eqb c 98) claim_pieces IsBounded IsNarrow (IsOther false) = record {
-      parted = λ claim is. is;
+      separated = λ claim is. is;
       first = λ claim is. inl is;
       other = λ claim is. inr is;
       yes = bounded_begins;
@@ -191,13 +191,13 @@ exact_other false =
     } in
     exact_either exact_bounded exact_narrow chosen
 
-claim_parted : (has : Bool) (claim : Claim) → Claims has claim → IsLowest claim ⊎ IsOther has claim
-claim_parted true (Lowest height) is = inl tt
-claim_parted true (Bounded height lower) is = inr tt
-claim_parted true (Narrow least) is = absurd is
-claim_parted false (Lowest height) is = inl tt
-claim_parted false (Bounded height lower) is = inr (inl tt)
-claim_parted false (Narrow least) is = inr (inr tt)
+claim_separated : (has : Bool) (claim : Claim) → Claims has claim → IsLowest claim ⊎ IsOther has claim
+claim_separated true (Lowest height) is = inl tt
+claim_separated true (Bounded height lower) is = inr tt
+claim_separated true (Narrow least) is = absurd is
+claim_separated false (Lowest height) is = inl tt
+claim_separated false (Bounded height lower) is = inr (inl tt)
+claim_separated false (Narrow least) is = inr (inr tt)
 
 claim_first : (has : Bool) (claim : Claim) → IsLowest claim → Claims has claim
 claim_first true (Lowest height) is = tt
@@ -230,7 +230,7 @@ exact_claim : (has : Bool) → Exact (claim_at has) (Claims has) claim_pieces
 unfolding claim_at
 exact_claim has =
     let chosen : Chosen (λ c. eqb c 108) claim_pieces IsLowest (IsOther has) (Claims has) = record {
-      parted = claim_parted has;
+      separated = claim_separated has;
       first = claim_first has;
       other = claim_other has;
       yes = lowest_begins;

@@ -1,4 +1,4 @@
--- No public clause cites this file. A function gives what a reading answers, unless memory runs out.
+-- No public clause cites this file. A function gives what a reading gives, unless memory runs out.
 use Rattle.std.specs.Prelude.{◌≡◌, ℕ, ◌-◌, List, [], Result, Ok, Err}
 use Rattle.tl_cert.specs.declared.error.CertError.{CertError}
 use Rattle.tl_cert.specs.declared.error.CertError.TheVariants as errors
@@ -17,9 +17,9 @@ Gives view (Ok x) rest answer = answer ≡ got (view x) rest
 Gives view (Err fault) rest answer = Fails fault answer
 
 -- the fault at its place in a text of this length
-abbrev pub AnswersAs : {A : Type 0} → Result A CertError → ℕ → Answer A → Type 0
-AnswersAs (Ok x) length answer = answer ≡ got x []
-AnswersAs (Err (errors.Memory e)) length answer = Unit {0}
-AnswersAs (Err (errors.Syntax place)) length answer = (left : ℕ) × (answer ≡ wrong left) × (place ≡ length - left)
-AnswersAs (Err (errors.Range place)) length answer = (left : ℕ) × (answer ≡ outside left) × (place ≡ length - left)
-AnswersAs (Err errors.TooLong) length answer = ⊥
+abbrev pub ReturnsAs : {A : Type 0} → Result A CertError → ℕ → Answer A → Type 0
+ReturnsAs (Ok x) length answer = answer ≡ got x []
+ReturnsAs (Err (errors.Memory e)) length answer = Unit {0}
+ReturnsAs (Err (errors.Syntax place)) length answer = (left : ℕ) × (answer ≡ wrong left) × (place ≡ length - left)
+ReturnsAs (Err (errors.Range place)) length answer = (left : ℕ) × (answer ≡ outside left) × (place ≡ length - left)
+ReturnsAs (Err errors.TooLong) length answer = ⊥

@@ -79,7 +79,7 @@ with_step steps w h = if is_below (slice_get steps (length steps - 1)) h then st
 
 -- steps that have the heights needed at the widths from `least` on and below `w`, and none at lesser ones
 pub record AreStepsBelow (needs : ℕ → ℕ → Type 0) (least w : ℕ) (steps : List Config) : Type 0 where
-  pub falling : AllPairs (λ a b. (a.width < b.width) × (b.height < a.height)) steps
+  pub decreasing : AllPairs (λ a b. (a.width < b.width) × (b.height < a.height)) steps
   pub before : All (λ step. step.width < w) steps
   pub some : least < w → 0 < length steps
   pub first : 0 < length steps → first_width steps ≡ least

@@ -2,7 +2,7 @@
 use Rattle.std.specs.Prelude.{◌≡◌, ℕ, ◌+◌, ◌-◌, ◌*◌, ◌^◌, ◌<◌, ◌≤◌, ◌⊎◌, List, [], ◌∷◌, length, sum_by, Some, IsSomeAnd, Contains, slice_get, get_or}
 use Rattle.std.specs.List.{All, AllZip, Any}
 use Rattle.tl_base.specs.declared.style.Style.{Style}
-use Rattle.tl_base.specs.declared.limits.TheConstants.{MAX_COLUMNS}
+use Rattle.tl_base.specs.declared.limits.TheConstants.{MAX_COLUMNS, MAX_PAGE_WIDTH}
 use Rattle.tl_base.specs.Style.{gap_of, edge_of}
 use Rattle.tl_diff.specs.declared.paths.Arc.{Arc}
 use Rattle.tl_diff.specs.declared.paths.TheConstants.{MAX_PATH_WEIGHT}
@@ -14,6 +14,18 @@ use Rattle.tl_form.specs.declared.widest.NumberedArc.{NumberedArc}
 -- a demand covers columns of a table of so many
 abbrev pub IsPlacedDemand : ℕ → Demand → Type 0
 IsPlacedDemand cols demand = (demand.left < demand.right) × (demand.right ≤ cols)
+
+-- no table has more columns of text in its gaps and edges
+abbrev pub most_gaps : ℕ
+most_gaps = 2 * MAX_COLUMNS
+
+-- how wide a table, a cell or a block of this size is at most: for each cell, unit and break of it a page and the gaps
+abbrev pub most_width : ℕ → ℕ
+most_width size = (MAX_PAGE_WIDTH + most_gaps) * size
+
+-- the demands, and the gaps of a table for each of them, are small beside a table of this size
+abbrev pub AreSmall : List Demand → ℕ → Type 0
+AreSmall demands size = sum_by (λ demand. demand.width) demands + most_gaps * length demands ≤ most_width size
 
 -- demands that a table of so many columns may have: each covers columns, one covers the last column alone, and their
 -- widths are small

@@ -360,7 +360,7 @@ fn a_file_is_refused_before_its_certificate_is_read(rt: HostRuntime) -> Result<(
 }
 
 #[test]
-fn words_that_ask_for_no_check_are_invalid(rt: HostRuntime) -> Result<(), Failure> {
+fn arguments_that_ask_for_no_check_are_invalid(rt: HostRuntime) -> Result<(), Failure> {
     let lines = [
         "check",
         "check 12 t.html",

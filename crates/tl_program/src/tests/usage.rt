@@ -111,7 +111,7 @@ const VALUES: &[&str] = &[
 ];
 
 #[test]
-fn words_that_are_no_command_print_the_usage(rt: HostRuntime) -> Result<(), Fail> {
+fn invalid_arguments_print_the_usage(rt: HostRuntime) -> Result<(), Fail> {
     for lines in [COMMANDS, POSITIONS, WIDTHS, NAMES, EARLY, TWICE, VALUES] {
         for line in lines {
             check(

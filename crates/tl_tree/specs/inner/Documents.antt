@@ -94,9 +94,9 @@ stop_error n k stops.TooDeep = errors.TooDeep n
 stop_error n k stops.TooManyTables = errors.TooManyTables n
 
 -- what has been read once those tokens were read
-pub record HasRead (front : Kinds) (tables : ℕ) (reading : Reading) : Type 0 where
-  pub goes : reached machine.before front ≡ state_of reading
+pub record HasRead (prefix : Kinds) (tables : ℕ) (reading : Reading) : Type 0 where
+  pub goes : reached machine.before prefix ≡ state_of reading
   pub alive : is_failed (state_of reading) ≡ false
-  pub within : FitLimits 0 0 front
-  pub counted : tables ≡ tables_after 0 front
-  pub same : (later : Marks) → outcome_of reading tables later ≡ entries_of 0 (all_told machine.before front ++ later)
+  pub within : FitLimits 0 0 prefix
+  pub counted : tables ≡ tables_after 0 prefix
+  pub same : (later : Marks) → outcome_of reading tables later ≡ entries_of 0 (all_told machine.before prefix ++ later)

@@ -1,6 +1,6 @@
 use Rattle.std.proofs.Common.{◌<◌, length, arith, tests}
 use Rattle.std.proofs.lemmas.Bool.Decides.{nat_tests}
-use Rattle.tl_base.proofs.Falling.{AreSteps-from, FallsBelow-more}
+use Rattle.tl_base.proofs.Decreasing.{AreSteps-from, FallsBelow-more}
 use Rattle.tl_base.proofs.steps.are_steps.Goals as goal
 
 pub loop-i-preserved : goal.loop-i-preserved

@@ -1,7 +1,7 @@
 -- Below the greater first width one of both has no height.
 use Rattle.std.proofs.Common.{◌≡◌, ◌∙◌, ap, sym, arith, get_or}
 use Rattle.tl_base.specs.Steps.{first_width}
-use Rattle.tl_base.proofs.Falling.{no_step, first_width-is}
+use Rattle.tl_base.proofs.Decreasing.{no_step, first_width-is}
 use Rattle.tl_base.proofs.Stacking.{none_below}
 use Rattle.tl_base.proofs.steps.least_of_both.Goals as goal
 

@@ -1,7 +1,7 @@
 use Rattle.std.proofs.Common.{◌≡◌, ◌+◌, ◌<◌, ◌≤◌, List, Some, length, get_or, sym, subst, ap, ◌∙◌, arith, refl}
 use Rattle.std.proofs.lemmas.List.{get_or_default}
 use Rattle.tl_base.specs.declared.steps.Config.{Config}
-use Rattle.tl_base.proofs.Falling.{no_step}
+use Rattle.tl_base.proofs.Decreasing.{no_step}
 use Rattle.tl_base.specs.Steps.{height_at}
 use Rattle.tl_form.specs.Problems.{AreStepsOf}
 use Rattle.tl_form.specs.inner.CellSteps.{From}

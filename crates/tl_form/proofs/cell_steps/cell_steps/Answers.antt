@@ -56,7 +56,7 @@ loop-block-preserved c =
     (subst (λ items. c.loop-block.block-index < length items) c.as_slice-block-items.ensures c.loop-block-test.true)
     (subst (λ items. c.block-item.result ≡ get_or items c.loop-block.block-index c.block-item.result) c.as_slice-block-items.ensures c.block-item.is)))
     (steps-more needs start c.args.page (take c.loop-block.block-index cell.blocks) c.block-item.result c.loop-block.steps c.in_ok-below.below
-    c.in_ok-steps-2.steps c.loop-block.invariant c.in_ok-below.ensures c.in_ok-steps-2.ensures.falling c.in_ok-steps-2.ensures.heights)
+    c.in_ok-steps-2.steps c.loop-block.invariant c.in_ok-below.ensures c.in_ok-steps-2.ensures.decreasing c.in_ok-steps-2.ensures.heights)
 
 pub returns : goal.returns
 returns c =

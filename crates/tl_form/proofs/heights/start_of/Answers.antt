@@ -1,7 +1,7 @@
 use Rattle.std.proofs.Common.{◌≡◌, List, Some, get_or, sym, subst}
 use Rattle.tl_base.specs.declared.steps.Config.{Config}
 use Rattle.tl_base.specs.Steps.{height_at}
-use Rattle.tl_base.proofs.Falling.{first_width-is, no_step}
+use Rattle.tl_base.proofs.Decreasing.{first_width-is, no_step}
 use Rattle.tl_form.specs.inner.CellSteps.{IsStart}
 use Rattle.tl_form.proofs.CellNeedLemmas.{steps-begin}
 use Rattle.tl_form.proofs.heights.start_of.Goals as goal

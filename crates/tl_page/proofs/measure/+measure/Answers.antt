@@ -109,34 +109,34 @@ past_cell-returns t c =
 
 -- ---- tables
 
-pub height_in-room_of-columns-requires-clause-ahead : goal.height_in-room_of-columns-requires-clause-ahead
-height_in-room_of-columns-requires-clause-ahead t c =
+pub height_in-room_size-columns-requires-clause-ahead : goal.height_in-room_size-columns-requires-clause-ahead
+height_in-room_size-columns-requires-clause-ahead t c =
     (placed_cell (out-Table c.args.table.now) c.loop-cell.cell-index c.cell-item.result (sound_table c.args.table.now c.requires.sound).placed
     (subst (λ items. c.loop-cell.cell-index < length items) c.as_slice-cell-items.ensures c.loop-cell-test.true)
     (subst (λ items. c.cell-item.result ≡ get_or items c.loop-cell.cell-index c.cell-item.result) c.as_slice-cell-items.ensures c.cell-item.is)).0
 
-pub height_in-room_of-columns-requires-clause-within : goal.height_in-room_of-columns-requires-clause-within
-height_in-room_of-columns-requires-clause-within t c =
+pub height_in-room_size-columns-requires-clause-within : goal.height_in-room_size-columns-requires-clause-within
+height_in-room_size-columns-requires-clause-within t c =
     let placed = placed_cell (out-Table c.args.table.now) c.loop-cell.cell-index c.cell-item.result (sound_table c.args.table.now c.requires.sound).placed
     (subst (λ items. c.loop-cell.cell-index < length items) c.as_slice-cell-items.ensures c.loop-cell-test.true)
     (subst (λ items. c.cell-item.result ≡ get_or items c.loop-cell.cell-index c.cell-item.result) c.as_slice-cell-items.ensures c.cell-item.is) in
     omega (arith, placed.1, c.if-widths-table.false)
 
-pub height_in-room_of-lines-requires-clause-ahead : goal.height_in-room_of-lines-requires-clause-ahead
-height_in-room_of-lines-requires-clause-ahead t c =
+pub height_in-room_size-lines-requires-clause-ahead : goal.height_in-room_size-lines-requires-clause-ahead
+height_in-room_size-lines-requires-clause-ahead t c =
     (placed_cell (out-Table c.args.table.now) c.loop-cell.cell-index c.cell-item.result (sound_table c.args.table.now c.requires.sound).placed
     (subst (λ items. c.loop-cell.cell-index < length items) c.as_slice-cell-items.ensures c.loop-cell-test.true)
     (subst (λ items. c.cell-item.result ≡ get_or items c.loop-cell.cell-index c.cell-item.result) c.as_slice-cell-items.ensures c.cell-item.is)).2
 
-pub height_in-room_of-lines-requires-clause-within : goal.height_in-room_of-lines-requires-clause-within
-height_in-room_of-lines-requires-clause-within t c =
+pub height_in-room_size-lines-requires-clause-within : goal.height_in-room_size-lines-requires-clause-within
+height_in-room_size-lines-requires-clause-within t c =
     let placed = placed_cell (out-Table c.args.table.now) c.loop-cell.cell-index c.cell-item.result (sound_table c.args.table.now c.requires.sound).placed
     (subst (λ items. c.loop-cell.cell-index < length items) c.as_slice-cell-items.ensures c.loop-cell-test.true)
     (subst (λ items. c.cell-item.result ≡ get_or items c.loop-cell.cell-index c.cell-item.result) c.as_slice-cell-items.ensures c.cell-item.is) in
     omega (arith, placed.3, c.if-heights-table.false)
 
-pub height_in-room_of-lines-requires-clause-few : goal.height_in-room_of-lines-requires-clause-few
-height_in-room_of-lines-requires-clause-few t c =
+pub height_in-room_size-lines-requires-clause-few : goal.height_in-room_size-lines-requires-clause-few
+height_in-room_size-lines-requires-clause-few t c =
     omega (arith, (sound_table c.args.table.now c.requires.sound).few_rows, c.if-heights-table.false)
 
 pub height_in-overflow_cast-columns : goal.height_in-overflow_cast-columns
@@ -152,10 +152,10 @@ height_in-overflow_cast-columns t c =
     omega (
       arith,
       all,
-      c.room_of-columns.ensures.room,
+      c.room_size-columns.ensures.room,
       ap (λ (gap : ℕ). room gap widths place.left place.right) gap,
-      c.total_of.ensures.total,
-      c.if-total_of-from.false,
+      c.total_size.ensures.total,
+      c.if-total_size-from.false,
       c.from.ensures,
       c.ranges.width.fits,
     )
@@ -168,7 +168,7 @@ height_in-past_cell-requires t c = (
         (sound_cells c.args.table.now c.requires.sound)
         (subst (λ items. c.loop-cell.cell-index < length items) c.as_slice-cell-items.ensures c.loop-cell-test.true)
         (subst (λ items. c.cell-item.result ≡ get_or items c.loop-cell.cell-index c.cell-item.result) c.as_slice-cell-items.ensures c.cell-item.is),
-    c.room_of-lines.ensures.small,
+    c.room_size-lines.ensures.small,
   ),
 )
 
@@ -176,20 +176,20 @@ pub height_in-returns-in-None-clause-takes : goal.height_in-returns-in-None-clau
 height_in-returns-in-None-clause-takes t c =
     let layout = out-Layout c.args.layout.now in
     let place = place_of c.cell-item.result in
-    let columns : c.room_of-columns.result ≡ width_for c.args.style layout place =
-    c.room_of-columns.ensures.room ∙ ap₂ (λ (gap : ℕ) (sizes : List ℕ). room gap sizes place.left place.right) c.gap-in-loop-cell.ensures
+    let columns : c.room_size-columns.result ≡ width_for c.args.style layout place =
+    c.room_size-columns.ensures.room ∙ ap₂ (λ (gap : ℕ) (sizes : List ℕ). room gap sizes place.left place.right) c.gap-in-loop-cell.ensures
     c.as_slice-widths.ensures in
-    let lines : c.room_of-lines.result ≡ height_for c.args.style layout place =
-    c.room_of-lines.ensures.room ∙ ap₂ (λ (gap : ℕ) (sizes : List ℕ). room gap sizes place.top place.bottom) c.row_gap.ensures c.as_slice-heights.ensures in
+    let lines : c.room_size-lines.result ≡ height_for c.args.style layout place =
+    c.room_size-lines.ensures.room ∙ ap₂ (λ (gap : ℕ) (sizes : List ℕ). room gap sizes place.top place.bottom) c.row_gap.ensures c.as_slice-heights.ensures in
     cells_taken-stuck c.args.style c.args.width c.args.table.now c.args.layout.now c.loop-cell.cell-index c.loop-cell.next c.cell-item.result
     (subst (λ items. c.loop-cell.cell-index < length items) c.as_slice-cell-items.ensures c.loop-cell-test.true)
     (subst (λ items. c.cell-item.result ≡ get_or items c.loop-cell.cell-index c.cell-item.result) c.as_slice-cell-items.ensures c.cell-item.is)
     c.loop-cell.invariant
     (subst
     (λ (w : ℕ). TakesCell c.args.style w (height_for c.args.style layout place) (out-TableCell c.cell-item.result) layout.inner c.loop-cell.next None) columns
-    (subst (λ (h : ℕ). TakesCell c.args.style c.room_of-columns.result h (out-TableCell c.cell-item.result) layout.inner c.loop-cell.next None) lines
+    (subst (λ (h : ℕ). TakesCell c.args.style c.room_size-columns.result h (out-TableCell c.cell-item.result) layout.inner c.loop-cell.next None) lines
     (subst
-    (λ inner. TakesCell c.args.style c.room_of-columns.result c.room_of-lines.result (out-TableCell c.cell-item.result) inner c.loop-cell.next None)
+    (λ inner. TakesCell c.args.style c.room_size-columns.result c.room_size-lines.result (out-TableCell c.cell-item.result) inner c.loop-cell.next None)
     c.as_slice-inner.ensures c.in-None.ensures)))
 
 pub height_in-loop-cell-preserved : goal.height_in-loop-cell-preserved
@@ -197,11 +197,11 @@ height_in-loop-cell-preserved t c =
     let layout = out-Layout c.args.layout.now in
     let place = place_of c.cell-item.result in
     let past = c.in-Some.past in
-    let columns : c.room_of-columns.result ≡ width_for c.args.style layout place =
-    c.room_of-columns.ensures.room ∙ ap₂ (λ (gap : ℕ) (sizes : List ℕ). room gap sizes place.left place.right) c.gap-in-loop-cell.ensures
+    let columns : c.room_size-columns.result ≡ width_for c.args.style layout place =
+    c.room_size-columns.ensures.room ∙ ap₂ (λ (gap : ℕ) (sizes : List ℕ). room gap sizes place.left place.right) c.gap-in-loop-cell.ensures
     c.as_slice-widths.ensures in
-    let lines : c.room_of-lines.result ≡ height_for c.args.style layout place =
-    c.room_of-lines.ensures.room ∙ ap₂ (λ (gap : ℕ) (sizes : List ℕ). room gap sizes place.top place.bottom) c.row_gap.ensures c.as_slice-heights.ensures in
+    let lines : c.room_size-lines.result ≡ height_for c.args.style layout place =
+    c.room_size-lines.ensures.room ∙ ap₂ (λ (gap : ℕ) (sizes : List ℕ). room gap sizes place.top place.bottom) c.row_gap.ensures c.as_slice-heights.ensures in
     cells_taken-more c.args.style layout (out-Table c.args.table.now).cells c.loop-cell.cell-index c.loop-cell.next past c.cell-item.result
     (subst (λ items. c.loop-cell.cell-index < length items) c.as_slice-cell-items.ensures c.loop-cell-test.true)
     (subst (λ items. c.cell-item.result ≡ get_or items c.loop-cell.cell-index c.cell-item.result) c.as_slice-cell-items.ensures c.cell-item.is)
@@ -209,9 +209,9 @@ height_in-loop-cell-preserved t c =
     (subst
     (λ (w : ℕ). TakesCell c.args.style w (height_for c.args.style layout place) (out-TableCell c.cell-item.result) layout.inner c.loop-cell.next
     (Some past)) columns
-    (subst (λ (h : ℕ). TakesCell c.args.style c.room_of-columns.result h (out-TableCell c.cell-item.result) layout.inner c.loop-cell.next (Some past)) lines
+    (subst (λ (h : ℕ). TakesCell c.args.style c.room_size-columns.result h (out-TableCell c.cell-item.result) layout.inner c.loop-cell.next (Some past)) lines
     (subst
-    (λ inner. TakesCell c.args.style c.room_of-columns.result c.room_of-lines.result (out-TableCell c.cell-item.result) inner c.loop-cell.next (Some past))
+    (λ inner. TakesCell c.args.style c.room_size-columns.result c.room_size-lines.result (out-TableCell c.cell-item.result) inner c.loop-cell.next (Some past))
     c.as_slice-inner.ensures c.in-Some.ensures)))
 
 pub height_in-returns-then-next-len-clause-takes : goal.height_in-returns-then-next-len-clause-takes
@@ -223,16 +223,16 @@ height_in-returns-then-next-len-clause-takes t c =
 pub height_in-returns-clause-takes : goal.height_in-returns-clause-takes
 height_in-returns-clause-takes t c =
     let layout = out-Layout c.args.layout.now in
-    let width : c.total_of.result ≡ total (gap_of c.args.style) (edge_of c.args.style) layout.widths =
-    c.total_of.ensures.total ∙ ap₂ (λ (gap edge : ℕ). total gap edge c.as_slice-widths.result.now) c.gap.ensures c.edge.ensures
+    let width : c.total_size.result ≡ total (gap_of c.args.style) (edge_of c.args.style) layout.widths =
+    c.total_size.ensures.total ∙ ap₂ (λ (gap edge : ℕ). total gap edge c.as_slice-widths.result.now) c.gap.ensures c.edge.ensures
     ∙ ap (total (gap_of c.args.style) (edge_of c.args.style)) c.as_slice-widths.ensures in
-    let height : c.total_of-2.result ≡ total (row_gap_of c.args.style) (edge_of c.args.style) layout.heights =
-    c.total_of-2.ensures.total ∙ ap₂ (λ (gap edge : ℕ). total gap edge c.as_slice-heights.result.now) c.row_gap-2.ensures c.edge-2.ensures
+    let height : c.total_size-2.result ≡ total (row_gap_of c.args.style) (edge_of c.args.style) layout.heights =
+    c.total_size-2.ensures.total ∙ ap₂ (λ (gap edge : ℕ). total gap edge c.as_slice-heights.result.now) c.row_gap-2.ensures c.edge-2.ensures
     ∙ ap (total (row_gap_of c.args.style) (edge_of c.args.style)) c.as_slice-heights.ensures in
     subst (λ (height : ℕ). TakesTable c.args.style c.args.width c.args.table.now c.args.layout.now (Some height)) (sym height)
     (cells_taken-all c.args.style c.args.width c.args.table.now c.args.layout.now c.loop-cell.cell-index c.loop-cell.next
     (omega (arith, ap length c.as_slice-widths.ensures, c.if-widths-table.false))
     (omega (arith, ap length c.as_slice-heights.ensures, c.if-heights-table.false))
-    (omega (arith, width, c.if-total_of-from.false, c.from.ensures))
+    (omega (arith, width, c.if-total_size-from.false, c.from.ensures))
     (subst (λ items. length items ≤ c.loop-cell.cell-index) c.as_slice-cell-items.ensures c.loop-cell-test.false)
     (omega (arith, c.if-next-len.false, c.len.ensures)) c.loop-cell.invariant)

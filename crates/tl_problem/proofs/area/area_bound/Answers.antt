@@ -1,6 +1,7 @@
 -- The areas are small against the end, so that few lines hold them; where there is no column the area bound is 0.
 use Rattle.std.proofs.Common.{◌≡◌, ◌+◌, ◌<◌, length, refl, arith, ap}
 use Rattle.std.specs.Int.{div_ceil}
+use Rattle.tl_base.specs.declared.limits.TheConstants.{MAX_HEIGHT}
 use Rattle.tl_base.specs.Style.{edge_of}
 use Rattle.tl_problem.specs.Works.{IsLeft}
 use Rattle.tl_problem.proofs.DemandLemmas.{few-cells}
@@ -26,7 +27,7 @@ overflow_cast-lines c =
     let lines : c.div_ceil-lines.result ≡ div_ceil total end = rw c.from.ensures at c.div_ceil-lines.ensures in
     let few = few-cells p c.requires.sound in
     let most = areas-small p c.requires.sound Among c.requires.keeps.page end c.greatest_end-end.ensures.end total c.sum_of_areas.ensures in
-    let least = (rounded-up total end c.greatest_end-end.ensures.some).least (1073741824 + length p.cells) most in
+    let least = (rounded-up total end c.greatest_end-end.ensures.some).least (MAX_HEIGHT + length p.cells) most in
     omega (arith, lines, few, least)
 
 pub overflow_add-edge : goal.overflow_add-edge
@@ -38,7 +39,7 @@ overflow_add-edge c =
     let lines : c.div_ceil-lines.result ≡ div_ceil total end = rw c.from.ensures at c.div_ceil-lines.ensures in
     let few = few-cells p c.requires.sound in
     let most = areas-small p c.requires.sound Among c.requires.keeps.page end c.greatest_end-end.ensures.end total c.sum_of_areas.ensures in
-    let least = (rounded-up total end c.greatest_end-end.ensures.some).least (1073741824 + length p.cells) most in
+    let least = (rounded-up total end c.greatest_end-end.ensures.some).least (MAX_HEIGHT + length p.cells) most in
     omega (arith, lines, few, least, c.edge.ensures, ap edge_of c.style-style.ensures, edge-few p.style)
 
 pub returns : goal.returns

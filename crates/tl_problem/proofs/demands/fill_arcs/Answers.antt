@@ -1,6 +1,7 @@
 -- Each turn is that of a cell, and the arc that is written is that cell's.
-use Rattle.std.proofs.Common.{◌≡◌, ◌<◌, ◌≤◌, length, get_or, map, arith, refl, sym, subst, ap, ◌∙◌}
+use Rattle.std.proofs.Common.{◌+◌, ◌≡◌, ◌<◌, ◌≤◌, length, get_or, map, arith, refl, sym, subst, ap, ◌∙◌}
 use Rattle.std.proofs.lemmas.List.{take_all, take_more_set, map_more, get_or_default}
+use Rattle.tl_base.specs.declared.limits.TheConstants.{MAX_ROWS}
 use Rattle.tl_problem.specs.declared.axis.Turn.{Turn}
 use Rattle.tl_problem.specs.inner.Axes.{start_of, end_of, turn}
 use Rattle.tl_problem.specs.inner.Demands.{cell_at, arc_for}
@@ -35,7 +36,7 @@ arc_of-requires-clause-near c =
     let is = rw c.cells-cells.ensures.cells at c.index-cells-cell.is in
     let sound = c.cells-cells.ensures.sound.cells _ c.index-cells-cell.result here.0 in
     let few = count-few c.args.problem.now c.args.axis c.cells-cells.ensures.sound in
-    subst (λ x. end_of c.args.axis x ≤ 2001) (sym is) (omega (arith, few, (sound-axis c.args.problem.now c.args.axis _ sound).1))
+    subst (λ x. end_of c.args.axis x ≤ MAX_ROWS + 1) (sym is) (omega (arith, few, (sound-axis c.args.problem.now c.args.axis _ sound).1))
 
 pub bounds-arcs-place : goal.bounds-arcs-place
 bounds-arcs-place c = omega (

@@ -24,7 +24,7 @@ total_size-width-requires-clause-few c = omega (arith, c.requires.columns, c.cel
 pub overflow_cast-width : goal.overflow_cast-width
 overflow_cast-width c =
     let is : c.total_size-width.result ≡ total_width c.args.problem.now c.args.widths.now = rw (c.gap.ensures, c.edge.ensures, c.style-style.ensures)
-    at c.total_size-width.ensures in
+    at c.total_size-width.ensures.total in
     omega (arith, is, c.requires.page, c.cells-cells.ensures.sound.narrow)
 
 pub total_size-height-requires-clause-few : goal.total_size-height-requires-clause-few
@@ -34,7 +34,7 @@ pub overflow_cast-height : goal.overflow_cast-height
 overflow_cast-height c =
     let p = c.args.problem.now in
     let is : c.total_size-height.result ≡ total_height p c.in_ok-heights.heights = rw
-    (c.as_slice.ensures, c.row_gap.ensures, c.edge-2.ensures, c.style-style.ensures) at c.total_size-height.ensures in
+    (c.as_slice.ensures, c.row_gap.ensures, c.edge-2.ensures, c.style-style.ensures) at c.total_size-height.ensures.total in
     let few = total-few p.style c.in_ok-heights.heights (omega (arith, c.in_ok-heights.ensures.least.kind.count, c.cells-cells.ensures.sound.few_rows)) in
     let sums = high-sum p c.cells-cells.ensures.sound c.args.widths.now c.in_ok-demands.demands.items c.in_ok-demands.ensures in
     let small = rw c.deref.ensures.value at c.in_ok-heights.ensures.small in
@@ -53,8 +53,8 @@ returns c =
         rows = AreLeast-same (row_gap_of p.style) (GiveDemands p Rows demands) (GiveHigh p c.args.widths.now) c.in_ok-heights.heights
             (λ hs. high-give p c.cells-cells.ensures.sound c.args.widths.now demands hs need)
             (λ hs. give-high p c.cells-cells.ensures.sound c.args.widths.now demands hs need) least;
-        width = rw (c.gap.ensures, c.edge.ensures, c.style-style.ensures) at c.total_size-width.ensures;
-        height = rw (c.as_slice.ensures, c.row_gap.ensures, c.edge-2.ensures, c.style-style.ensures) at c.total_size-height.ensures;
+        width = rw (c.gap.ensures, c.edge.ensures, c.style-style.ensures) at c.total_size-width.ensures.total;
+        height = rw (c.as_slice.ensures, c.row_gap.ensures, c.edge-2.ensures, c.style-style.ensures) at c.total_size-height.ensures.total;
       },
       refl,
     )

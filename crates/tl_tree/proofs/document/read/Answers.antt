@@ -12,7 +12,7 @@ use Rattle.tl_tree.specs.inner.Verdict.{end_fault}
 use Rattle.tl_tree.specs.inner.Documents.{state_of, HasRead, stop_error}
 use Rattle.tl_tree.proofs.Readings.{tables_tag}
 use Rattle.tl_tree.proofs.Documents.{one_more_read, stopped, ended_refused, ended_tree, kinds_length, modest, few_tables, at_token, with_token}
-use Rattle.tl_tree.proofs.Documents.{readable_parts, small_front, fresh, one_more_table, all_taken}
+use Rattle.tl_tree.proofs.Documents.{readable_parts, small_prefix, fresh, one_more_table, all_taken}
 use Rattle.tl_tree.proofs.document.read.Goals as goal
 use Rattle.tl_tree.proofs.document.read.Goals.{then-is_table_start, else-is_table_start}
 
@@ -21,11 +21,11 @@ read-requires-clause-modest c =
     let tokens = c.args.tokens.now in
     let i = c.loop-index.index in
     let token = c.index-tokens-index.result in
-    let front = kinds (take i tokens) in
+    let prefix = kinds (take i tokens) in
     let rest = kind_of token ∷ kinds (drop (i + 1) tokens) in
     let split = at_token tokens i token c.loop-index-test.true c.index-tokens-index.is in
-    modest front c.loop-index.tables c.loop-index.reading c.loop-index.invariant (readable_parts (kinds tokens) front rest split c.requires.readable).0
-    (small_front (kinds tokens) front rest split c.requires.size)
+    modest prefix c.loop-index.tables c.loop-index.reading c.loop-index.invariant (readable_parts (kinds tokens) prefix rest split c.requires.readable).0
+    (small_prefix (kinds tokens) prefix rest split c.requires.size)
 
 pub read-requires-clause-few : goal.read-requires-clause-few
 read-requires-clause-few c =
@@ -57,15 +57,15 @@ returns-in-Err-clause-err c =
     let tokens = c.args.tokens.now in
     let i = c.loop-index.index in
     let token = c.index-tokens-index.result in
-    let front = kinds (take i tokens) in
+    let prefix = kinds (take i tokens) in
     let k = kind_of token in
     let split = at_token tokens i token c.loop-index-test.true c.index-tokens-index.is in
     let inside : i ≤ length tokens = (let h : i < length tokens = c.loop-index-test.true in omega arith) in
-    let place : length front ≡ i = simp length-map (length-take-le i tokens inside) in
+    let place : length prefix ≡ i = simp length-map (length-take-le i tokens inside) in
     let P : ℕ → Type 0 = λ n. IsMemoryOr (Memory alloc_error) (IsRefused (kinds tokens)) (stop_error n k c.in-Err.stop) in
     let Q : TreeError → Type 0 = λ e. IsMemoryOr (Memory alloc_error) (IsRefused (kinds tokens)) e in
     subst Q (sym c.at.ensures)
-    (subst P place (stopped (kinds tokens) front (kinds (drop (i + 1) tokens)) k c.loop-index.tables c.loop-index.reading c.in-Err.stop split
+    (subst P place (stopped (kinds tokens) prefix (kinds (drop (i + 1) tokens)) k c.loop-index.tables c.loop-index.reading c.in-Err.stop split
     c.loop-index.invariant c.in-Err.ensures.err))
 
 pub loop-index-preserved : goal.loop-index-preserved
@@ -73,9 +73,9 @@ loop-index-preserved c =
     let tokens = c.args.tokens.now in
     let i = c.loop-index.index in
     let token = c.index-tokens-index.result in
-    let front = kinds (take i tokens) in
+    let prefix = kinds (take i tokens) in
     let k = kind_of token in
-    let one = one_more_read front c.loop-index.tables c.loop-index.reading c.in-Ok.next k c.loop-index.invariant c.in-Ok.ensures.ok in
+    let one = one_more_read prefix c.loop-index.tables c.loop-index.reading c.in-Ok.next k c.loop-index.invariant c.in-Ok.ensures.ok in
     let more = with_token tokens i token c.loop-index-test.true c.index-tokens-index.is in
     let P : Kinds → Type 0 = λ ks. HasRead ks (tables_with c.loop-index.tables k) c.in-Ok.next in
     let all = subst P (sym more) one in

@@ -72,10 +72,10 @@ with_block-returns-in_ok-push-in-Table t c =
 pub with_cell-with_block-requires : goal.with_cell-with_block-requires
 with_cell-with_block-requires t c =
     let place = (out-TableCell c.args.cell.now).place in
-    let w : c.room_of-room.result ≡ room (gap_of c.args.style) c.args.widths.now place.left place.right =
-    c.room_of-room.ensures ∙ ap (λ gap. room gap c.args.widths.now place.left place.right) c.gap.ensures in (
+    let w : c.room_on_page-room.result ≡ room (gap_of c.args.style) c.args.widths.now place.left place.right =
+    c.room_on_page-room.ensures ∙ ap (λ gap. room gap c.args.widths.now place.left place.right) c.gap.ensures in (
       search (rules, the_lemmas),
-      can_block c.args.style c.args.sections.now c.room_of-room.result c.args.cell.now c.loop-block.block-index c.block-item.result
+      can_block c.args.style c.args.sections.now c.room_on_page-room.result c.args.cell.now c.loop-block.block-index c.block-item.result
           (subst (λ items. c.loop-block.block-index < length items) c.as_slice-block-items.ensures c.loop-block-test.true)
           (subst (λ items. c.block-item.result ≡ get_or items c.loop-block.block-index c.block-item.result) c.as_slice-block-items.ensures
           c.block-item.is)
@@ -84,5 +84,5 @@ with_cell-with_block-requires t c =
 
 pub with_cell-loop-block-preserved : goal.with_cell-loop-block-preserved
 with_cell-loop-block-preserved t c =
-    blocks_laid c.args.style c.args.sections.now c.room_of-room.result c.as_slice-block-items.result.now c.loop-block.block-index c.block-item.result
+    blocks_laid c.args.style c.args.sections.now c.room_on_page-room.result c.as_slice-block-items.result.now c.loop-block.block-index c.block-item.result
     c.args.inner c.loop-block.inner c.in_ok-inner.inner c.loop-block-test.true c.block-item.is c.loop-block.invariant c.in_ok-inner.ensures

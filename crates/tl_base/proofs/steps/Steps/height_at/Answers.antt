@@ -2,7 +2,7 @@
 use Rattle.std.proofs.Common.{◌-◌, ◌∙◌, ap, sym, refl, subst, arith, Some, get_or}
 use Rattle.std.proofs.lemmas.Bool.{false≢true}
 use Rattle.tl_base.specs.inner.Stacking.{IsPastNarrow}
-use Rattle.tl_base.proofs.Falling.{no_step, height_at-below, below_first, height_at-last, from_first}
+use Rattle.tl_base.proofs.Decreasing.{no_step, height_at-below, below_first, height_at-last, from_first}
 use Rattle.tl_base.proofs.steps.Steps.height_at.Goals as goal
 
 pub returns-then-narrow-eq0-clause-height : goal.returns-then-narrow-eq0-clause-height

@@ -1,6 +1,6 @@
 -- A step is narrow enough, and its height is at most that of the first.
 use Rattle.std.proofs.Common.{◌-◌, ◌<◌, ◌∙◌, ap, sym, arith, Some, get_or}
-use Rattle.tl_base.proofs.Falling.{no_step, height_at-last, some_narrow}
+use Rattle.tl_base.proofs.Decreasing.{no_step, height_at-last, some_narrow}
 use Rattle.tl_base.proofs.Stacking.{height_le_first}
 use Rattle.tl_base.proofs.steps.Steps.height_within.Goals as goal
 

@@ -2,7 +2,7 @@
 use Rattle.std.proofs.Common.{◌<◌, ◌∙◌, ap, sym, subst, arith, length, get_or}
 use Rattle.tl_base.specs.Steps.{height_at}
 use Rattle.tl_base.specs.inner.Stacking.{IsNextWidth}
-use Rattle.tl_base.proofs.Falling.{no_step, some_narrow}
+use Rattle.tl_base.proofs.Decreasing.{no_step, some_narrow}
 use Rattle.tl_base.proofs.Stacking.{stays, next_is, has_height}
 use Rattle.tl_base.proofs.steps.Steps.next_width.Goals as goal
 

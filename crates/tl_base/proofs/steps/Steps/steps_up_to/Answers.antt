@@ -3,7 +3,7 @@ use Rattle.std.proofs.Common.{◌∙◌, nat_le, rules, subst, sym}
 use Rattle.std.proofs.lemmas.List.Sorted.{IsPartitionPoint-from_clause}
 use Rattle.tl_base.specs.Steps.{AreSteps}
 use Rattle.tl_base.specs.inner.Stacking.{IsPastNarrow}
-use Rattle.tl_base.proofs.Falling.{narrow_first}
+use Rattle.tl_base.proofs.Decreasing.{narrow_first}
 use Rattle.tl_base.proofs.steps.Steps.steps_up_to.Goals as goal
 
 pub returns-clause-point : goal.returns-clause-point

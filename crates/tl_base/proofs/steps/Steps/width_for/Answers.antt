@@ -4,7 +4,7 @@ use Rattle.std.specs.List.Sorted.{IsPartitionPoint}
 use Rattle.std.proofs.lemmas.Bool.{false≢true}
 use Rattle.std.proofs.lemmas.List.Sorted.{IsPartitionPoint-from_clause}
 use Rattle.tl_base.specs.Steps.{AreSteps, IsLeastWidthFor}
-use Rattle.tl_base.proofs.Falling.{no_step, high_first, last_high, last_low, low_here, IsLeastWidthFor-from, IfSome-weaker}
+use Rattle.tl_base.proofs.Decreasing.{no_step, high_first, last_high, last_low, low_here, IsLeastWidthFor-from, IfSome-weaker}
 use Rattle.tl_base.proofs.steps.Steps.width_for.Goals as goal
 
 -- the steps, as the fields and the caller see them

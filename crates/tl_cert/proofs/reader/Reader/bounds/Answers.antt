@@ -35,19 +35,19 @@ bounds-init c =
 pub returns-in_err-bound : goal.returns-in_err-bound
 returns-in_err-bound c =
     let p = err_from_is_err_and c.from_residual-in_err-bound.result c.from_residual-in_err-bound.ensures.1 in
-    let front = c.bounds.bounds in
-    rw (p.1, p.2) (fails_on (bounds_reading c.args.areas) c.in_err-bound.field-0.0 front (MAX_BOUNDS - length front) (MAX_BOUNDS - 1 - length front)
+    let prefix = c.bounds.bounds in
+    rw (p.1, p.2) (fails_on (bounds_reading c.args.areas) c.in_err-bound.field-0.0 prefix (MAX_BOUNDS - length prefix) (MAX_BOUNDS - 1 - length prefix)
     (Some c.bounds.before) c.bounds.self.rest.now
     (bounds_at c.args.areas c.args.self.now.rest.now) (omega arith) (cc) c.in_err-bound.ensures.gives c.bounds.invariant.whole)
 
 pub bounds-preserved : goal.bounds-preserved
 bounds-preserved c =
-    let front = c.bounds.bounds in
+    let prefix = c.bounds.bounds in
     let bound = c.in_ok-bound.bound in
     let new = c.push-in-bounds.new.self in
-    let grown : length new ≡ length front + 1 = ap length c.in_ok-push-2.ensures.ok ∙ length_push front bound in
+    let grown : length new ≡ length prefix + 1 = ap length c.in_ok-push-2.ensures.ok ∙ length_push prefix bound in
     record {
-      whole = pushed_on (bounds_reading c.args.areas) front new (MAX_BOUNDS - length front) (MAX_BOUNDS - length new) (Some c.bounds.before)
+      whole = pushed_on (bounds_reading c.args.areas) prefix new (MAX_BOUNDS - length prefix) (MAX_BOUNDS - length new) (Some c.bounds.before)
           (Some bound) c.bounds.self.rest.now bound bound
           c.bound-in-bounds.new.self.rest.now (bounds_at c.args.areas c.args.self.now.rest.now) c.in_ok-push-2.ensures.ok refl refl (omega (arith, grown))
           (cc) c.in_ok-bound.ensures.gives c.bounds.invariant.whole;
@@ -58,20 +58,20 @@ bounds-preserved c =
 pub returns-in_err-fires : goal.returns-in_err-fires
 returns-in_err-fires c =
     let p = err_from_is_err_and c.from_residual-in_err-fires.result c.from_residual-in_err-fires.ensures.1 in
-    let front = c.bounds.bounds in
+    let prefix = c.bounds.bounds in
     let reading = bounds_reading c.args.areas in
-    let room = MAX_BOUNDS - length front in
+    let room = MAX_BOUNDS - length prefix in
     let stop : Stops reading room (Some c.bounds.before) c.bounds.self.rest.now = stops_by reading room (Some c.bounds.before) c.bounds.self.rest.now
     (λ j is. elim c.bounds-test.branch [ then-bounds-test+else-next_is_digit w ↦ cc | else-bounds-test w ↦ absurd (omega arith) ]) in
-    rw (p.1, p.2) (fails_at reading c.in_err-fires.field-0.0 front room (Some c.bounds.before) c.bounds.self.rest.now
+    rw (p.1, p.2) (fails_at reading c.in_err-fires.field-0.0 prefix room (Some c.bounds.before) c.bounds.self.rest.now
     (bounds_at c.args.areas c.args.self.now.rest.now) stop c.in_err-fires.ensures c.bounds.invariant.whole)
 
 pub returns : goal.returns
 returns c =
-    let front = c.bounds.bounds in
+    let prefix = c.bounds.bounds in
     let reading = bounds_reading c.args.areas in
-    let room = MAX_BOUNDS - length front in
+    let room = MAX_BOUNDS - length prefix in
     let stop : Stops reading room (Some c.bounds.before) c.bounds.self.rest.now = stops_by reading room (Some c.bounds.before) c.bounds.self.rest.now
     (λ j is. elim c.bounds-test.branch [ then-bounds-test+else-next_is_digit w ↦ cc | else-bounds-test w ↦ absurd (omega arith) ]) in
-    stops_at reading front room (Some c.bounds.before) c.bounds.self.rest.now (listing c.in_ok-fires.fires c.in_ok-fires.end) c.fires.new.self.rest.now
+    stops_at reading prefix room (Some c.bounds.before) c.bounds.self.rest.now (listing c.in_ok-fires.fires c.in_ok-fires.end) c.fires.new.self.rest.now
     (bounds_at c.args.areas c.args.self.now.rest.now) stop c.in_ok-fires.ensures c.bounds.invariant.whole

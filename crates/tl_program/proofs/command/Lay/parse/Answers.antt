@@ -1,4 +1,4 @@
--- Words whose parts are no options, or no names, are no command.
+-- Words whose parts are no options, or no names, ask for no layout.
 use Rattle.std.proofs.Common.{◌≡◌, false, ℕ, List, ◌∷◌, ◌++◌, map, string_bytes, codes, Option, Some, None, ap, ◌∙◌}
 use Rattle.std.specs.Prelude.{option_map, option_to_list, IfSome, IfNone, IsTrue}
 use Rattle.tl_program.specs.Command.{IsDashed, IsDashedAtFirst}

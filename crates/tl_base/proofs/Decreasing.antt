@@ -96,7 +96,7 @@ FallsBelow-more steps n some below last = λ i j before within.
 pub AreSteps-from : (steps : List Config) → 0 < length steps → FallsBelow steps (length steps) → AreSteps steps
 AreSteps-from steps some below = record {
   has_step = some;
-  falling = λ i j d before within.
+  decreasing = λ i j d before within.
       let first = ap (λ a. a.width) (get_or_default steps i d no_step (omega arith)) in
       let second = ap (λ a. a.width) (get_or_default steps j d no_step within) in
       let upper = ap (λ a. a.height) (get_or_default steps i d no_step (omega arith)) in
@@ -107,13 +107,13 @@ AreSteps-from steps some below = record {
 
 module _ (steps : List Config) (are : AreSteps steps) where
   pub falls : (i j : ℕ) → i < j → j < length steps → Falls (get_or steps i no_step) (get_or steps j no_step)
-  falls i j before within = are.falling i j no_step before within
+  falls i j before within = are.decreasing i j no_step before within
 
   -- the steps that are narrow enough come first
   pub narrow_first : (w : ℕ) → IsPartitionedBy (λ step. nat_le step.width w) steps
   narrow_first w i j d before within narrow =
       elim (cases_lt i j) [
-        | inl less ↦ let fall = are.falling i j d less within in test_le (omega (arith, fall.0, le_test narrow))
+        | inl less ↦ let fall = are.decreasing i j d less within in test_le (omega (arith, fall.0, le_test narrow))
         | inr same ↦ let end : i ≡ j = omega arith in subst (λ k. nat_le (get_or steps k d).width w ≡ true) (sym end) narrow
       ]
 
@@ -121,7 +121,7 @@ module _ (steps : List Config) (are : AreSteps steps) where
   pub high_first : (h : ℕ) → IsPartitionedBy (λ step. nat_lt h step.height) steps
   high_first h i j d before within high =
       elim (cases_lt i j) [
-        | inl less ↦ let fall = are.falling i j d less within in test_lt (omega (arith, fall.1, lt_test high))
+        | inl less ↦ let fall = are.decreasing i j d less within in test_lt (omega (arith, fall.1, lt_test high))
         | inr same ↦ let end : i ≡ j = omega arith in subst (λ k. nat_lt h (get_or steps k d).height ≡ true) (sym end) high
       ]
 
@@ -171,7 +171,7 @@ height_at-step steps are n within =
         arith,
         ap (λ a. a.width) (get_or_default steps n d no_step within),
       )))),
-      (λ k d low high. let fall = are.falling n k d (omega arith) high in
+      (λ k d low high. let fall = are.decreasing n k d (omega arith) high in
           test_le_false (omega (arith, fall.0, ap (λ a. a.width) (get_or_default steps n d no_step within)))),
     )
 
@@ -181,13 +181,13 @@ IsFound p o xs x d = (o ≡ Some x) ⊎ ((k : ℕ) × (k < length xs) × (p (get
 
 found_later : {X : Type 0} (p : X → Bool) (o first : Option X) (y : X) (xs : List X) (x d : X) → IsFound p o xs x d → (o ≡ Some x →
     IsFound p first (y ∷ xs) x d) → IsFound p first (y ∷ xs) x d
-found_later p o first y xs x d found start = elim found [ inl front ↦ start front | inr at ↦ inr (suc at.0, omega (arith, at.1), at.2, at.3) ]
+found_later p o first y xs x d found start = elim found [ inl at_start ↦ start at_start | inr at ↦ inr (suc at.0, omega (arith, at.1), at.2, at.3) ]
 
 found_choice : {X : Type 0} (p : X → Bool) (o : Option X) (y : X) (xs : List X) (x d : X) (test : Bool) → p y ≡ test →
     (last_or (Some y) (filter p xs) ≡ Some x → IsFound p (Some y) xs x d) → (last_or o (filter p xs) ≡ Some x → IsFound p o xs x d) →
     last_or o (cond test (y ∷ filter p xs) (filter p xs)) ≡ Some x → IsFound p o (y ∷ xs) x d
-found_choice p o y xs x d true passes kept dropped is = found_later p (Some y) o y xs x d (kept is) (λ front. inr (0, omega arith, passes, cc))
-found_choice p o y xs x d false fails kept dropped is = found_later p o o y xs x d (dropped is) (λ front. inl front)
+found_choice p o y xs x d true passes kept dropped is = found_later p (Some y) o y xs x d (kept is) (λ at_start. inr (0, omega arith, passes, cc))
+found_choice p o y xs x d false fails kept dropped is = found_later p o o y xs x d (dropped is) (λ at_start. inl at_start)
 
 -- the last item that passes passes
 last_filter : {X : Type 0} (p : X → Bool) (o : Option X) (xs : List X) (x d : X) → last_or o (filter p xs) ≡ Some x → IsFound p o xs x d
@@ -206,7 +206,7 @@ height_of_step steps w h is = open_last (last_or None (filter (λ step. nat_le s
     open_last None found same = cc
     open_last (Some step) found same =
         elim (found step refl) [
-          | inl front ↦ cc
+          | inl at_start ↦ cc
           | inr at ↦ (at.0, at.1, le_test at.2, ap (λ s. s.height) at.3 ∙ (let high : step.height ≡ h = cc in high))
         ]
 
@@ -285,7 +285,7 @@ module _ (steps : List Config) (are : AreSteps steps) (w : ℕ) where
   ) where
     wide : {k : ℕ} → (0 < k) ⊎ (k ≤ 0) → (d : Config) → k < length steps → nat_le (get_or steps k d).width w ≡ false
     wide {k} (inl later) d high =
-        let fall = are.falling 0 k d later high in
+        let fall = are.decreasing 0 k d later high in
         test_le_false (omega (arith, fall.0, first_width-is steps d are.has_step, below))
     wide {k} (inr first) d high =
         let here : k ≡ 0 = omega (arith, first) in
