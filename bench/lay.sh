@@ -3,7 +3,8 @@
 # `w3m`) in the same run. w3m estimates column widths; it proves nothing. Builds the program where it is
 # missing. Prints for each file its status, lines, milliseconds and megabytes, then those of w3m.
 # The files are those of files.sh, at these widths in columns: first 7, demo 60, column 80, rows 120,
-# columns 300, nested 80, mebibyte 80, refused 80.
+# columns 300, nested 80, mebibyte 80, refused 80. At last the slowest of `demo 0` to `demo 19`; fails where
+# one of them does not close.
 set -euo pipefail
 here=$(dirname "$(readlink -f "${BASH_SOURCE[0]}")")
 "$here/../tablelayout" lay 7 "$here/../examples/first.html" /dev/stdout >/dev/null
@@ -33,3 +34,12 @@ for case in first:7 demo:60 column:80 rows:120 columns:300 nested:80 mebibyte:80
     fi
     echo
 done
+
+slowest=0
+for number in $(seq 0 19); do
+    begun=$(date +%s%N)
+    "$program" demo "$number" >/dev/null
+    milliseconds=$((($(date +%s%N) - begun) / 1000000))
+    [ "$milliseconds" -le "$slowest" ] || slowest=$milliseconds
+done
+echo "demo 0 to demo 19: $slowest ms at most"
