@@ -1,4 +1,4 @@
--- What the outside holds, as far as a desk tells it: files by name, and the bytes printed on standard output. And the
+-- What the outside holds, as far as a desk tells it: files by name, and the bytes printed on standard output; and the
 -- counts of faults, by which every fault returned is tied to one that was met.
 use Rattle.std.specs.Prelude.{◌≡◌, ◌⊎◌, ◌<◌, ◌+◌, ◌-◌, ◌^◌, ℕ, List, ◌++◌, take, min, Option, Some, option_map, bytes_eq}
 use Rattle.std.specs.Map.{update}

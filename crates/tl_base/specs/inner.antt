@@ -1,2 +1,2 @@
--- What the private functions promise one another. No public clause cites it.
+-- What the private functions promise one another. No public clause cites these files.
 pub mod Stacking

@@ -26,7 +26,7 @@ pub use items::List;
 pub use limits::{
     MAX_BUDGET, MAX_CELLS, MAX_CERTIFICATE_BYTES, MAX_COLSPAN, MAX_COLUMNS, MAX_DECLARED_COLUMNS,
     MAX_DEPTH, MAX_FILE_BYTES, MAX_HEIGHT, MAX_PAGE_WIDTH, MAX_REACH, MAX_ROWS, MAX_ROWSPAN,
-    MAX_TABLES, MAX_WORKERS,
+    MAX_TABLES,
 };
 pub use memory_desk::{Fail, MemoryDesk};
 pub use number::{read_number, write_number};

@@ -40,9 +40,6 @@ pub const MAX_DEPTH: usize = 8;
 /// How many cuts the search of one table at one width may be allowed.
 pub const MAX_BUDGET: u32 = 100_000;
 
-/// How many pieces of work may run at one time.
-pub const MAX_WORKERS: u32 = 16;
-
 /// How many bytes a certificate that is read may have.
 pub const MAX_CERTIFICATE_BYTES: usize = 1_073_741_824;
 

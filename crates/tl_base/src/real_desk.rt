@@ -132,7 +132,7 @@ fn write_opened<W: Write + Drop>(
     }
 }
 
-/// Writes all of the bytes and flushes.
+/// Writes all of the bytes and flushes, and counts a fault where that fails.
 fn write_whole<W: Write>(writer: &mut W, bytes: &[u8], faults: &mut u64) -> Result<(), DeskFault>
     ensures written { OnOk result (Appends (W.contents writer.old) (W.contents writer.new) bytes.now) }
     ensures failed { OnErr result (result ≡ Err Failed) }
@@ -163,7 +163,7 @@ mod tests {
     use std::io::{self, ErrorKind, Read, Write};
     use std::test::Fail;
 
-    /// `count` bytes, which no two neighbours share with the next chunk.
+    /// `count` bytes that repeat after 251, so that a chunk lost or written twice shows.
     fn many_bytes(alloc: Global, count: u32) -> Result<List<u8>, AllocError> {
         let mut bytes = List::new(alloc);
         for i in 0..count {

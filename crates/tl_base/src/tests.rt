@@ -1,3 +1,5 @@
+//! Numbers, lists, texts and the desk in memory, with values counted by hand.
+
 use crate::{
     Desk, DeskFault, Fail, Gate, List, MemoryDesk, NoGate, Text, read_number, write_number,
 };
@@ -58,7 +60,7 @@ fn a_list_and_a_text_hold_what_was_put_in(rt: HostRuntime) -> Result<(), Failure
 }
 
 #[test]
-fn a_list_is_gone_over_in_order(rt: HostRuntime) -> Result<(), Failure> {
+fn a_list_is_iterated_in_order(rt: HostRuntime) -> Result<(), Failure> {
     let list = List::from_slice(rt.alloc(), &[7u32, 1, 4])?;
     let mut seen = List::new(rt.alloc());
     for &item in &list {
