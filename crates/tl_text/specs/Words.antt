@@ -1,5 +1,5 @@
--- Words and how wide they are. White space is ASCII white space as the HTML Standard has it
--- ("Infra", ASCII whitespace); a width is that of the crate `unicode_width`, in columns.
+-- Words and how wide they are. White space is ASCII whitespace of the Infra Standard; a width is that
+-- of the crate `unicode_width`, in columns.
 use Rattle.std.specs.Prelude.{ℕ, Bool, false, List, length, filter, nat_lt}
 use Rattle.std.specs.List.{slice_split}
 use Rattle.std.specs.Char.{is_ascii_whitespace}

@@ -19,7 +19,7 @@ pub struct Filling {
 }
 
 impl Filling {
-    /// No lines yet. `next` is a width that nobody asks for.
+    /// No line, before any atom. `next` is above every width that is asked for.
     pub fn new(next: u64) -> Filling
         ensures ended { result.ended ≡ 0 }
         ensures line { result.line ≡ None }

@@ -1,6 +1,6 @@
 -- How characters spell tokens. What stands at a place is a comment, a doctype, a tag, a reference
 -- or a character of text, or else a fault. The forms are those of the HTML Standard's section 13.1,
--- narrowed to what a table file needs.
+-- narrowed and widened as docs/MODEL.md says.
 use Rattle.std.specs.Prelude.{◌≡◌, ◌≢◌, ℕ, ◌⊎◌, Bool, true, false, not, ◌&&◌, ◌||◌, ◌==◌, nat_eq, List, [], ◌∷◌, ◌++◌, length, drop, Option, Some}
 use Rattle.std.specs.Prelude.{None, option_map, if◌then◌else◌, codes, IsTrue}
 use Rattle.std.specs.List.{AllByRecursion}
