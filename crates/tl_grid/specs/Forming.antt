@@ -97,12 +97,15 @@ begin_row s = record {
   cells = map (grown_into s.row) s.cells;
 }
 
+-- the current row ends, and the one below it is the next
 abbrev pub next_row : Forming → Forming
 next_row s = record { width = s.width; height = s.height; row = s.row + 1; cells = s.cells }
 
+-- a row of these cells is formed; `number` is that of its first cell
 abbrev pub form_row : ℕ → List SpanOf → Forming → Forming
 form_row number spans s = next_row (form_cells number 0 spans (begin_row s))
 
+-- rows are formed, one after another; `number` is that of their first cell
 abbrev pub form_rows : ℕ → List (List SpanOf) → Forming → Forming
 form_rows number [] s = s
 form_rows number (spans ∷ rows) s =
@@ -121,6 +124,7 @@ at_group_end row height cell = record {
   grows = false;
 }
 
+-- a row group ends: its cells grow no more, and the next group begins below the table so far
 abbrev pub end_group : Forming → Forming
 end_group s = record {
   width = s.width;
@@ -129,6 +133,7 @@ end_group s = record {
   cells = map (at_group_end s.row s.height) s.cells;
 }
 
+-- a row group of these rows is formed; `number` is that of its first cell
 abbrev pub form_group : ℕ → List (List SpanOf) → Forming → Forming
 form_group number rows s = end_group (form_rows number rows s)
 
@@ -153,16 +158,18 @@ formed shape =
     form_groups (λ group. group.foot) 0 shape.groups
     (form_groups (λ group. not group.foot) 0 shape.groups (no_cells shape.columns))
 
--- how many cells and rows the groups have
+-- how many cells the groups have
 abbrev pub cells_of : List ShapeGroup → ℕ
 cells_of groups = sum_by (λ group. cells_in group.rows) groups
 
+-- how many rows the groups have
 abbrev pub rows_of : List ShapeGroup → ℕ
 rows_of groups = sum_by (λ group. length group.rows) groups
 
--- how many cells and rows the table has
+-- how many cells the table has
 abbrev pub cell_count : Shape → ℕ
 cell_count shape = cells_of shape.groups
 
+-- how many rows the table has
 abbrev pub row_count : Shape → ℕ
 row_count shape = rows_of shape.groups

@@ -7,7 +7,7 @@ use Rattle.tl_grid.specs.Forming.{Cell, covers}
 abbrev pub cells_over : ℕ → ℕ → List Cell → List Cell
 cells_over x y cells = filter (covers x y) cells
 
--- their numbers
+-- the numbers of the cells over the slot (x, y), in the order in which they were formed
 abbrev pub numbers_over : ℕ → ℕ → List Cell → List ℕ
 numbers_over x y cells = map (λ (cell : Cell). cell.number) (cells_over x y cells)
 

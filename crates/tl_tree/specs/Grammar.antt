@@ -26,6 +26,8 @@ use Rattle.tl_tree.specs.Tags.{Section, part_of, Kind, Kinds, text, table_start,
 use Rattle.tl_tree.specs.Tags.{group_start, group_end, row_start, row_end, cell_start, cell_end, br, p_or_div, inline_tag, outer_tag, is_white, is_row_start}
 use Rattle.tl_tree.specs.Tags.{is_col, begins_with}
 
+-- what a document tells at one place: that a thing begins, that a character or a line break stands in a flow, or
+-- that a paragraph or a table ends
 pub data Mark : Type 0 where
   table_begins : Mark
   caption_begins : Mark
@@ -40,6 +42,7 @@ pub data Mark : Type 0 where
   paragraph_ends : Mark
   table_ends : Mark
 
+-- marks in their order
 abbrev pub Marks : Type 0
 Marks = List Mark
 
@@ -75,6 +78,7 @@ pub data Columns : Kinds → ℕ → Kinds → Type 0 where
       → Columns (col span ∷ ks) (span + n) rest
 
 mutual
+  -- `flow`: texts, line breaks, tags of `p`, `div` and inline elements, and whole tables
   pub data Flow : Kinds → Marks → Kinds → Marks → Type 0 where
     no_flow : {ks : Kinds} {ms : Marks} → Flow ks ms ks ms
     words : {cs : List ℕ} {ks rest : Kinds} {ms more : Marks} → Flow ks ms rest more → Flow (text cs ∷ ks) (map character cs ++ ms) rest more
@@ -83,29 +87,34 @@ mutual
     inline : {ks rest : Kinds} {ms more : Marks} → Flow ks ms rest more → Flow (inline_tag ∷ ks) ms rest more
     nested : {ks k1 rest : Kinds} {ms m1 more : Marks} → Table ks ms k1 m1 → Flow k1 m1 rest more → Flow ks ms rest more
 
+  -- `table`: from its start tag to its end tag
   pub data Table : Kinds → Marks → Kinds → Marks → Type 0 where
     table : {n : ℕ} {ks k1 k2 k3 rest : Kinds} {ms m1 more : Marks}
         → Spaces ks k1 → Caption k1 ms k2 (columns n ∷ m1) → Columns k2 n k3 → Parts k3 m1 (table_end ∷ rest) (table_ends ∷ more)
         → Table (table_start ∷ ks) (table_begins ∷ ms) rest more
 
+  -- `caption?`: the caption of a table, or none
   pub data Caption : Kinds → Marks → Kinds → Marks → Type 0 where
     no_caption : {ks : Kinds} {ms : Marks} → Caption ks ms ks ms
     caption : {ks k1 rest : Kinds} {ms more : Marks}
         → Flow ks ms k1 (paragraph_ends ∷ more) → Ended caption_end k1 rest
         → Caption (caption_start ∷ ks) (caption_begins ∷ ms) rest more
 
+  -- `cell*`: the cells of a row
   pub data Cells : Kinds → Marks → Kinds → Marks → Type 0 where
     no_cell : {ks : Kinds} {ms : Marks} → Cells ks ms ks ms
     cell : {head : Bool} {spans : Spans} {ks k1 k2 rest : Kinds} {ms m1 more : Marks}
         → Flow ks ms k1 (paragraph_ends ∷ m1) → Ended (cell_end head) k1 k2 → Cells k2 m1 rest more
         → Cells (cell_start head spans ∷ ks) (cell_begins head spans ∷ ms) rest more
 
+  -- `row*`: rows that follow one another
   pub data Rows : Kinds → Marks → Kinds → Marks → Type 0 where
     no_row : {ks : Kinds} {ms : Marks} → begins_with is_row_start ks ≡ false → Rows ks ms ks ms
     row : {ks k1 k2 k3 rest : Kinds} {ms m1 more : Marks}
         → Spaces ks k1 → Cells k1 ms k2 m1 → Ended row_end k2 k3 → Rows k3 m1 rest more
         → Rows (row_start ∷ ks) (row_begins ∷ ms) rest more
 
+  -- `part*`: the groups of a table, and the runs of rows outside groups
   pub data Parts : Kinds → Marks → Kinds → Marks → Type 0 where
     no_part : {ks : Kinds} {ms : Marks} → Parts ks ms ks ms
     group : {section : Section} {ks k1 k2 k3 rest : Kinds} {ms m1 more : Marks}

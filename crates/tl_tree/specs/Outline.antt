@@ -25,6 +25,7 @@ pub data Entry : Type 0 where
   -- a table ends
   table_end : Entry
 
+-- entries in their order
 abbrev pub Entries : Type 0
 Entries = List Entry
 
@@ -32,36 +33,44 @@ Entries = List Entry
 abbrev pub joined : List Entries → Entries
 joined lists = flat_map (λ entries. entries) lists
 
+-- a row, and the entries of its cells
 abbrev pub row_entries : List Entries → Entries
 row_entries cells = row ∷ joined cells
 
+-- a caption and the entries of its flow, or nothing where the table has no caption
 abbrev pub caption_entries : Option (List Entries) → Entries
 caption_entries None = []
 caption_entries (Some flow) = caption ∷ joined flow
 
--- what each part of a tree adds, where its own parts have these entries
+-- a paragraph, or the entries of a nested table
 abbrev pub block_entries : parts.Block-F Entries Entries Entries Entries → Entries
 block_entries (parts.Para p) = paragraph p ∷ []
 block_entries (parts.Table box) = box.value
 
+-- a cell, and the entries of its flow
 abbrev pub cell_entries : parts.CellNode-F Entries Entries Entries Entries → Entries
 cell_entries c = cell c.head c.colspan c.rowspan c.least ∷ joined c.flow
 
+-- a group, and the entries of its rows
 abbrev pub group_entries : parts.GroupNode-F Entries Entries Entries Entries → Entries
 group_entries g = group g.part ∷ flat_map row_entries g.rows
 
+-- a table: its number, its caption, its columns, its groups, and its end
 abbrev pub table_entries : parts.TableNode-F Entries Entries Entries Entries → Entries
 table_entries t = table t.number ∷ (caption_entries t.caption ++ (columns t.columns ∷ (joined t.groups ++ table_end ∷ [])))
 
--- the outline of a block, a cell, a group and a table
+-- the outline of a block
 abbrev pub block_outline : Block → Entries
 block_outline = fold-Block Entries Entries Entries Entries block_entries cell_entries group_entries table_entries
 
+-- the outline of a cell
 abbrev pub cell_outline : CellNode → Entries
 cell_outline = fold-CellNode Entries Entries Entries Entries block_entries cell_entries group_entries table_entries
 
+-- the outline of a group
 abbrev pub group_outline : GroupNode → Entries
 group_outline = fold-GroupNode Entries Entries Entries Entries block_entries cell_entries group_entries table_entries
 
+-- the outline of a whole tree
 abbrev pub outline : TableNode → Entries
 outline = fold-TableNode Entries Entries Entries Entries block_entries cell_entries group_entries table_entries

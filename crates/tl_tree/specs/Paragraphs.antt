@@ -47,6 +47,7 @@ entry_of k (marks.cell_begins head spans) = cell head spans.colspan spans.rowspa
 entry_of k marks.table_ends = table_end ∷ []
 entry_of k _ = []
 
+-- the number of the next table after a mark, where it was `k` before the mark
 abbrev pub number_after : ℕ → Mark → ℕ
 number_after k marks.table_begins = k + 1
 number_after k _ = k
@@ -58,6 +59,7 @@ paragraph_after (character c) ms = []
 paragraph_after line_break ms = []
 paragraph_after _ ms = paragraph_of (atoms_of (leading ms))
 
+-- the entries of the marks, apart from a paragraph with which they begin; `k` is the number of the first table
 abbrev pub entries_after : ℕ → Marks → Entries
 entries_after k [] = []
 entries_after k (m ∷ ms) = entry_of k m ++ (paragraph_after m ms ++ entries_after (number_after k m) ms)

@@ -21,6 +21,7 @@ abbrev pub kind_size : Kind → ℕ
 kind_size (text characters) = byte_count characters
 kind_size _ = 1
 
+-- the tokens are readable, and their texts and tags are together no more than a file may have
 pub record AreReadable (tokens : List Token) : Type 0 where
   pub readable : AllByRecursion IsReadable (kinds tokens)
   pub size : sum_by kind_size (kinds tokens) ≤ MAX_FILE_BYTES

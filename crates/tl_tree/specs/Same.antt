@@ -7,16 +7,19 @@ use Rattle.tl_tree.specs.declared.node.CellNode.{CellNode, out-CellNode}
 use Rattle.tl_tree.specs.declared.node.GroupNode.{GroupNode, out-GroupNode}
 use Rattle.tl_tree.specs.declared.node.TableNode.{TableNode, out-TableNode}
 
--- the parts of a tree, by what they hold
+-- a block, by what it holds
 abbrev pub OpenBlock : Type 0
 OpenBlock = parts.Block-F Block CellNode GroupNode TableNode
 
+-- a cell, by what it holds
 abbrev pub OpenCell : Type 0
 OpenCell = parts.CellNode-F Block CellNode GroupNode TableNode
 
+-- a group of rows, by what it holds
 abbrev pub OpenGroup : Type 0
 OpenGroup = parts.GroupNode-F Block CellNode GroupNode TableNode
 
+-- a table, by what it holds
 abbrev pub OpenTable : Type 0
 OpenTable = parts.TableNode-F Block CellNode GroupNode TableNode
 
@@ -31,6 +34,7 @@ AreSameBlock same (parts.Table one) (parts.Table other) = same one.value other.v
 abbrev pub AreSameFlow : (TableNode → TableNode → Type 0) → List Block → List Block → Type 0
 AreSameFlow same one other = AllZip (λ block twin. AreSameBlock same (out-Block block) (out-Block twin)) one other
 
+-- two cells are of one kind, have the same numbers and hold the same flow
 pub record AreSameCell (same : TableNode → TableNode → Type 0) (one other : OpenCell) : Type 0 where
   pub head : one.head ≡ other.head
   pub colspan : one.colspan ≡ other.colspan
@@ -42,6 +46,7 @@ pub record AreSameCell (same : TableNode → TableNode → Type 0) (one other : 
 abbrev pub AreSameRow : (TableNode → TableNode → Type 0) → List CellNode → List CellNode → Type 0
 AreSameRow same one other = AllZip (λ cell twin. AreSameCell same (out-CellNode cell) (out-CellNode twin)) one other
 
+-- two groups are of one kind and hold the same rows in order
 pub record AreSameGroup (same : TableNode → TableNode → Type 0) (one other : OpenGroup) : Type 0 where
   pub part : one.part ≡ other.part
   pub rows : AllZip (AreSameRow same) one.rows other.rows
@@ -53,6 +58,7 @@ AreSameCaption same None (Some other) = ⊥
 AreSameCaption same (Some one) None = ⊥
 AreSameCaption same (Some one) (Some other) = AreSameFlow same one other
 
+-- two tables have the same number, caption, columns and groups
 pub record AreSameTable (same : TableNode → TableNode → Type 0) (one other : OpenTable) : Type 0 where
   pub number : one.number ≡ other.number
   pub caption : AreSameCaption same one.caption other.caption

@@ -36,12 +36,14 @@ IsPlainAtom (atoms.Word text) = list_any is_control text ≡ false
 IsPlainAtom (atoms.Glue text) = ⊥
 IsPlainAtom atoms.Break = Unit {0}
 
+-- the numbers of a cell are in their ranges: at least one column, and no number above its limit
 pub record IsCellInRange (colspan rowspan least : ℕ) : Type 0 where
   pub some_column : 0 < colspan
   pub few_columns : colspan ≤ MAX_COLSPAN
   pub few_rows : rowspan ≤ MAX_ROWSPAN
   pub narrow : least ≤ MAX_PAGE_WIDTH
 
+-- a paragraph of whole words without control characters
 pub record IsPlainParagraph (p : List Atom) : Type 0 where
   pub is_paragraph : IsParagraph p
   pub plain : AllByRecursion IsPlainAtom p

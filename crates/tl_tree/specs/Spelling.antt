@@ -11,6 +11,7 @@ use Rattle.tl_tree.specs.declared.node.TableNode.{TableNode}
 use Rattle.tl_tree.specs.declared.error.TreeError.{TreeError}
 use Rattle.tl_tree.specs.declared.error.TreeError.TheVariants.{Memory, NoTable, StrayText, Misplaced, Unclosed, TooDeep, TooManyTables}
 
+-- a list of tokens
 abbrev pub Tokens : Type 0
 Tokens = List Token
 
@@ -30,15 +31,17 @@ depth_with depth table_start = depth + 1
 depth_with depth table_end = depth - 1
 depth_with depth _ = depth
 
+-- how many tables are open after these tokens, where so many were open before them
 abbrev pub depth_after : ℕ → Kinds → ℕ
 depth_after depth [] = depth
 depth_after depth (k ∷ ks) = depth_after (depth_with depth k) ks
 
--- how many tables have begun, where so many had begun before
+-- how many tables have begun after a token, where so many had begun before it
 abbrev pub tables_with : ℕ → Kind → ℕ
 tables_with tables table_start = tables + 1
 tables_with tables _ = tables
 
+-- how many tables have begun by the end of these tokens, where so many had begun before them
 abbrev pub tables_after : ℕ → Kinds → ℕ
 tables_after tables [] = tables
 tables_after tables (k ∷ ks) = tables_after (tables_with tables k) ks
@@ -48,6 +51,8 @@ abbrev pub FitsLimits : ℕ → ℕ → Kind → Type 0
 FitsLimits depth tables table_start = (depth < MAX_DEPTH) × (tables < MAX_TABLES)
 FitsLimits depth tables _ = Unit {0}
 
+-- each of these tokens that begins a table does so within the limits, where so many tables are open and so many have
+-- begun before them
 abbrev pub FitLimits : ℕ → ℕ → Kinds → Type 0
 FitLimits depth tables [] = Unit {0}
 FitLimits depth tables (k ∷ ks) = FitsLimits depth tables k × FitLimits (depth_with depth k) (tables_with tables k) ks
@@ -67,10 +72,11 @@ pub record IsWrongAt (ks : Kinds) (n : ℕ) (IsWrong : Kinds → Kind → Type 0
   pub within : IsWithinLimits prefix
   pub wrong : IsWrong prefix token
 
--- a text, or a tag, with which the tokens before it begin no document
+-- a text with which the tokens before it begin no document
 abbrev pub IsStray : Kinds → Kind → Type 0
 IsStray prefix token = IsTrue (is_text token) × ¬ (IsPrefix (prefix ++ token ∷ []))
 
+-- a tag with which the tokens before it begin no document
 abbrev pub IsMisplaced : Kinds → Kind → Type 0
 IsMisplaced prefix token = IsFalse (is_text token) × ¬ (IsPrefix (prefix ++ token ∷ []))
 
@@ -93,6 +99,7 @@ IsRefused ks Unclosed = IsPrefix ks × IsWithinLimits ks × (0 < depth_after 0 k
 IsRefused ks (TooDeep n) = IsWrongAt ks n IsTooDeep
 IsRefused ks (TooManyTables n) = IsWrongAt ks n IsOneTooMany
 
+-- the error that refuses the tokens of a file
 abbrev pub Refused : Tokens → TreeError → Type 0
 Refused tokens error = IsRefused (kinds tokens) error
 

@@ -17,6 +17,7 @@ pub data Section : Type 0 where
   tbody : Section
   tfoot : Section
 
+-- which part of the table a group of that element is
 abbrev pub part_of : Section → Part
 part_of thead = Head
 part_of tbody = Body
@@ -49,9 +50,11 @@ pub data Kind : Type 0 where
   -- the end tags of `br` and `col`, which stand nowhere
   lone_end : Kind
 
+-- what tokens are to the grammar, in their order
 abbrev pub Kinds : Type 0
 Kinds = List Kind
 
+-- what a start tag of that element is, with those numbers
 abbrev pub start_of : Element → Spans → Kind
 start_of Table spans = table_start
 start_of Caption spans = caption_start
@@ -69,6 +72,7 @@ start_of Div spans = p_or_div
 start_of Inline spans = inline_tag
 start_of Outer spans = outer_tag
 
+-- what an end tag of that element is
 abbrev pub end_of : Element → Kind
 end_of Table = table_end
 end_of Caption = caption_end
@@ -86,14 +90,17 @@ end_of Div = p_or_div
 end_of Inline = inline_tag
 end_of Outer = outer_tag
 
+-- what a start tag, an end tag or a text is
 abbrev pub class_of : TokenKind → Kind
 class_of (Start element spans) = start_of element spans
 class_of (End element) = end_of element
 class_of (Text characters) = text characters
 
+-- what a token is, wherever in the file it stands
 abbrev pub kind_of : Token → Kind
 kind_of token = class_of token.kind
 
+-- what each of the tokens is
 abbrev pub kinds : List Token → Kinds
 kinds tokens = map kind_of tokens
 
@@ -102,18 +109,22 @@ abbrev pub is_white : Kind → Bool
 is_white (text characters) = list_all is_space characters
 is_white _ = false
 
+-- a text, of whatever characters
 abbrev pub is_text : Kind → Bool
 is_text (text characters) = true
 is_text _ = false
 
+-- the start tag of a table
 abbrev pub is_table_start : Kind → Bool
 is_table_start table_start = true
 is_table_start _ = false
 
+-- the start tag of a row
 abbrev pub is_row_start : Kind → Bool
 is_row_start row_start = true
 is_row_start _ = false
 
+-- a `col` tag
 abbrev pub is_col : Kind → Bool
 is_col (col span) = true
 is_col _ = false

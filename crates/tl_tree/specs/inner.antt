@@ -1,4 +1,4 @@
--- What the private functions promise one another. No public clause cites it.
+-- What the private functions promise one another. No public clause cites these files.
 pub mod Lines
 pub mod Machine
 pub mod Verdict

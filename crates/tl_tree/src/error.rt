@@ -7,7 +7,7 @@ use thiserror::Error;
 /// begin a document.
 #[derive(Debug, Drop, Error)]
 pub enum TreeError {
-    /// Number 0.
+    /// Number 0: out of memory.
     #[error("out of memory")]
     Memory(AllocError),
     /// Number 1. The tokens have no table.

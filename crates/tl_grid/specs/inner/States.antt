@@ -37,7 +37,7 @@ IsWalked view walked (Err error) = (error ≡ Memory alloc_error) ⊎ (walked �
 abbrev pub EndsBy : ℕ → Block → Type 0
 EndsBy width block = block.right ≤ width
 
--- so do the row's blocks and its column
+-- the row has come no further than column `width`, and none of its open blocks goes past it
 abbrev pub StaysWithin : ℕ → Row → Type 0
 StaysWithin width row =
     (row.column ≤ width) × AllByRecursion (EndsBy width) (row.passed ++ row.ahead)

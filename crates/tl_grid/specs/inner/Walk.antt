@@ -59,8 +59,8 @@ place_cells y number row (span ∷ spans) =
     unless_hit (hit walk.ahead (walk.column + span.colspan)) number y
     (place_cells y (number + 1) (placed y number span row walk) spans)
 
--- a row group between two rows: the next row, the table's height, the blocks of the group so far,
--- and the open ones
+-- a row group between two rows: the number of the next row, the table's height, all blocks of the
+-- group so far, and those of its blocks that are open
 pub record RowGroup : Type 0 where
   pub row : ℕ
   pub height : ℕ

@@ -27,6 +27,7 @@ use Rattle.tl_tree.specs.declared.stop.Stop.TheVariants as stops
 abbrev pub around : List Outer → Entries
 around outer = flat_map (λ o. holder_so_far o.holder ++ blocks_outline o.blocks) outer
 
+-- what the flows around the table that is open stand in, the innermost first
 abbrev pub holders : List Outer → List machine.Holder
 holders outer = map (λ o. holder_of o.holder) (reverse outer)
 
@@ -42,6 +43,7 @@ outcome_of Before = after_entries []
 outcome_of (Inside outer t) = λ k ms. around outer.items ++ outcome t k ms
 outcome_of (After node) = after_entries (outline node)
 
+-- where a table is open, few columns and few characters of it have come
 abbrev pub IsModestReading : Reading → Type 0
 IsModestReading (Inside outer t) = IsModest t
 IsModestReading _ = Unit {0}
@@ -58,7 +60,7 @@ pub record Reads (old : Reading) (tables : ℕ) (k : Kind) (new : Reading) : Typ
   pub fits : FitsLimits (depth (state_of old)) tables k
   pub same : (later : Marks) → outcome_of new (tables_with tables k) later ≡ outcome_of old tables (told (state_of old) k ++ later)
 
--- why it does not
+-- why reading stops at a token: memory ran out, no document goes on with it, or a table passes a limit
 abbrev pub IsStop : State → ℕ → Kind → Stop → Type 0
 IsStop s tables k (stops.Memory error) = Unit {0}
 IsStop s tables k stops.Misfit = is_failed (next s k) ≡ true

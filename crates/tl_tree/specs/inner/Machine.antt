@@ -43,14 +43,14 @@ row_of (in_flow (of_cell part head)) = Some (part, paragraph_ends ∷ [])
 row_of (in_row part) = Some (part, [])
 row_of _ = None
 
--- the same for the group
+-- the group that goes on after what stands in it has ended, and the marks of that end
 abbrev pub group_of : Place → Option (Part × Marks)
 group_of (in_flow (of_cell part head)) = Some (part, paragraph_ends ∷ [])
 group_of (in_row part) = Some (part, [])
 group_of (in_group part) = Some (part, [])
 group_of _ = None
 
--- the same for the columns, with how many there are so far
+-- where column tags may come once what is open has ended: how many columns there are, and the marks of that end
 abbrev pub columns_of : Place → Option (ℕ × Marks)
 columns_of opened = Some (0, [])
 columns_of (in_flow of_caption) = Some (0, paragraph_ends ∷ [])
@@ -76,68 +76,83 @@ closes tbody Body = true
 closes tfoot Foot = true
 closes _ _ = false
 
+-- both are header cells, or neither is
 abbrev pub same_head : Bool → Bool → Bool
 same_head true b = b
 same_head false true = false
 same_head false false = true
 
--- what each kind of token does
+-- a token that stands in flows alone, where it adds those marks
 abbrev pub in_flow_only : Marks → Place → Move
 in_flow_only ms (in_flow holder) = to (in_flow holder) ms
 in_flow_only ms _ = never
 
+-- a text adds its characters to a flow; elsewhere it has to be white space, and adds nothing
 abbrev pub read_text : List ℕ → Place → Move
 read_text cs (in_flow holder) = to (in_flow holder) (map character cs)
 read_text cs p = if is_white (text cs) then to p [] else never
 
+-- a start tag of a table stands in a flow
 abbrev pub start_table : Place → Move
 start_table (in_flow holder) = enter holder
 start_table _ = never
 
+-- a start tag of a caption stands right after that of the table
 abbrev pub start_caption : Place → Move
 start_caption opened = to (in_flow of_caption) (caption_begins ∷ [])
 start_caption _ = never
 
+-- an end tag of a caption ends the caption, after which columns may come
 abbrev pub end_caption : Place → Move
 end_caption (in_flow of_caption) = to (in_columns 0) (paragraph_ends ∷ [])
 end_caption _ = never
 
+-- a start tag of a `colgroup` stands where column tags may come
 abbrev pub start_colgroup : ℕ → Option (ℕ × Marks) → Move
 start_colgroup span None = never
 start_colgroup span (Some c) = to (in_colgroup c.0 span) c.1
 
+-- an end tag of a `colgroup` adds the columns that are due
 abbrev pub end_colgroup : Place → Move
 end_colgroup (in_colgroup n pending) = to (in_columns (n + pending)) []
 end_colgroup _ = never
 
+-- a `col` outside a `colgroup` stands where column tags may come, and adds its span
 abbrev pub lone_col : ℕ → Option (ℕ × Marks) → Move
 lone_col span None = never
 lone_col span (Some c) = to (in_columns (c.0 + span)) c.1
 
+-- a `col` in a `colgroup` adds its span in place of that of the `colgroup`
 abbrev pub read_col : ℕ → Place → Move
 read_col span (in_colgroup n pending) = to (in_colgroup (n + span) 0) []
 read_col span p = lone_col span (columns_of p)
 
+-- an end tag of a group ends the group, where it is of the same part
 abbrev pub end_group : Section → Option (Part × Marks) → Move
 end_group section None = never
 end_group section (Some g) = if closes section g.0 then to between g.1 else never
 
+-- a row begins in the group that is open; where none is, loose rows begin with it
 abbrev pub start_row : Marks → Option (Part × Marks) → Move
 start_row marks None = to (in_row Loose) (marks ++ (group_begins Loose ∷ row_begins ∷ []))
 start_row marks (Some g) = to (in_row g.0) (g.1 ++ row_begins ∷ [])
 
+-- an end tag of a row ends the row that is open
 abbrev pub end_row : Option (Part × Marks) → Move
 end_row None = never
 end_row (Some r) = to (in_group r.0) r.1
 
+-- a cell begins in the row that is open
 abbrev pub start_cell : Bool → Spans → Option (Part × Marks) → Move
 start_cell head spans None = never
 start_cell head spans (Some r) = to (in_flow (of_cell r.0 head)) (r.1 ++ cell_begins head spans ∷ [])
 
+-- an end tag of a cell ends the cell, where both are `th` or both `td`
 abbrev pub end_cell : Bool → Place → Move
 end_cell head (in_flow (of_cell part open_head)) = if same_head open_head head then to (in_row part) (paragraph_ends ∷ []) else never
 end_cell head _ = never
 
+-- what each kind of token does at each place of a table
 abbrev pub move : Place → Kind → Move
 move p (text cs) = read_text cs p
 move p table_start = start_table p
@@ -167,56 +182,63 @@ pub data State : Type 0 where
   after : State
   failed : State
 
+-- the state once a table has ended: in the innermost flow that holds it, or after the document's table
 abbrev pub left : List Holder → State
 left [] = after
 left (holder ∷ holders) = inside (in_flow holder) holders
 
+-- the state after a move in the table that is open
 abbrev pub moved : List Holder → Move → State
 moved holders (to p ms) = inside p holders
 moved holders (enter holder) = inside opened (holder ∷ holders)
 moved holders (leave ms) = left holders
 moved holders never = failed
 
+-- the marks that a move adds
 abbrev pub marks_of : Move → Marks
 marks_of (to p ms) = ms
 marks_of (enter holder) = table_begins ∷ []
 marks_of (leave ms) = ms
 marks_of never = []
 
--- around the table
+-- the state after a token that comes before the document's table
 abbrev pub next_before : Kind → State
 next_before (text cs) = if is_white (text cs) then before else failed
 next_before outer_tag = before
 next_before table_start = inside opened []
 next_before _ = failed
 
+-- the marks that a token adds before the document's table
 abbrev pub told_before : Kind → Marks
 told_before table_start = table_begins ∷ []
 told_before _ = []
 
+-- the state after a token that comes after the document's table
 abbrev pub next_after : Kind → State
 next_after (text cs) = if is_white (text cs) then after else failed
 next_after outer_tag = after
 next_after _ = failed
 
--- the state after a token, and the marks that it adds
+-- the state after a token
 abbrev pub next : State → Kind → State
 next before k = next_before k
 next (inside p holders) k = moved holders (move p k)
 next after k = next_after k
 next failed k = failed
 
+-- the marks that a token adds
 abbrev pub told : State → Kind → Marks
 told before k = told_before k
 told (inside p holders) k = marks_of (move p k)
 told after k = []
 told failed k = []
 
--- the same for tokens one after another
+-- the state after tokens, one after another
 abbrev pub reached : State → Kinds → State
 reached s [] = s
 reached s (k ∷ ks) = reached (next s k) ks
 
+-- the marks that tokens add, one after another
 abbrev pub all_told : State → Kinds → Marks
 all_told s [] = []
 all_told s (k ∷ ks) = told s k ++ all_told (next s k) ks

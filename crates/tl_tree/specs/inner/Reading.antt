@@ -1,5 +1,5 @@
--- What has been read of a document: its place in the machine, and the outline that comes once the marks
--- that are still to come have come. No public clause cites this file.
+-- No public clause cites this file. What has been read of a document: its place in the machine, and the
+-- outline that comes once the marks that are still to come have come.
 use Rattle.std.specs.Prelude.{◌≡◌, ℕ, ◌+◌, ◌≤◌, ◌<◌, ◌^◌, Bool, true, false, Option, Some, None, List, [], ◌∷◌, ◌++◌}
 use Rattle.std.specs.List.{flat_map}
 use Rattle.tl_base.specs.declared.limits.TheConstants.{MAX_FILE_BYTES}
@@ -24,47 +24,57 @@ use Rattle.tl_tree.specs.declared.open.Holder.TheVariants as holders
 use Rattle.tl_tree.specs.declared.open.OpenTable.{OpenTable}
 use Rattle.tl_tree.specs.declared.open.OpenTable.TheVariants as tables
 
--- the entries of what is whole in each part of a table that is open
+-- the entries of a caption that is whole, or nothing where the table has no caption
 abbrev pub caption_outline : Option (List Block) → Entries
 caption_outline None = []
 caption_outline (Some blocks) = caption ∷ blocks_outline blocks
 
+-- the entries of a row of cells that are whole
 abbrev pub row_outline : List CellNode → Entries
 row_outline cells = row ∷ flat_map cell_outline cells
 
+-- the entries of a table up to its caption
 abbrev pub head_so_far : Head → Entries
 head_so_far head = table head.number ∷ caption_outline head.caption
 
+-- the entries of a table up to its groups that are whole
 abbrev pub parts_so_far : Parts → Entries
 parts_so_far parts = head_so_far parts.head ++ (columns parts.head.columns ∷ flat_map group_outline parts.groups)
 
+-- the entries of a table up to the rows that are whole in the group that is open
 abbrev pub group_so_far : OpenGroup → Entries
 group_so_far g = parts_so_far g.table ++ (group g.part ∷ flat_map row_outline g.rows)
 
+-- the entries of a table up to the cells that are whole in the row that is open
 abbrev pub row_so_far : OpenRow → Entries
 row_so_far r = group_so_far r.group ++ row_outline r.cells
 
+-- the entries of a table up to the cell that is open, whose flow comes after them
 abbrev pub cell_so_far : OpenCell → Entries
 cell_so_far c = row_so_far c.row ++ (cell c.head c.spans.colspan c.spans.rowspan c.spans.least ∷ [])
 
+-- the entries of a table up to the caption or the cell that is open
 abbrev pub holder_so_far : Holder → Entries
 holder_so_far (holders.Caption number) = table number ∷ caption ∷ []
 holder_so_far (holders.Cell c) = cell_so_far c
 
--- The outline that comes, with `k` as the number of the next table and those marks still to come: after
--- these entries, and where a paragraph is open besides.
+-- the outline that comes, by the number of the next table and the marks that are still to come
 abbrev pub Outcome : Type 0
 Outcome = ℕ → Marks → Entries
 
+-- the outline that comes after these entries, where no paragraph is open
 abbrev pub after_entries : Entries → Outcome
 after_entries entries k ms = entries ++ entries_of k ms
 
+-- the outline that comes after these entries, where a paragraph is open
 abbrev pub in_paragraph : Entries → Line → Outcome
 in_paragraph entries line k ms = entries ++ (paragraph_of (line_atoms line (leading ms)) ++ entries_after k ms)
 
+-- the outline that comes after these entries and the blocks of a flow, where a paragraph is open in it
 abbrev pub in_flow : Entries → Flow → Outcome
 in_flow entries flow = in_paragraph (entries ++ blocks_outline flow.blocks) flow.line
 
+-- the outline that comes, where that table is open
 abbrev pub outcome : OpenTable → Outcome
 outcome (tables.Start number) = after_entries (table number ∷ [])
 outcome (tables.Columns head) = after_entries (head_so_far head)
@@ -78,11 +88,12 @@ outcome (tables.Flow holder flow) = in_flow (holder_so_far holder) flow
 pub record Adds (old new : Outcome) (ms : Marks) : Type 0 where
   pub same : (k : ℕ) (later : Marks) → new k later ≡ old k (ms ++ later)
 
--- where a table stands in the machine
+-- what the machine sees of the caption or the cell that a flow stands in
 abbrev pub holder_of : Holder → machine.Holder
 holder_of (holders.Caption number) = machine.of_caption
 holder_of (holders.Cell c) = machine.of_cell c.row.group.part c.head
 
+-- where a table that is open stands in the machine
 abbrev pub place_of : OpenTable → Place
 place_of (tables.Start number) = machine.opened
 place_of (tables.Columns head) = machine.in_columns head.columns
@@ -97,11 +108,12 @@ abbrev pub ending : Place → Marks
 ending (machine.in_flow holder) = paragraph_ends ∷ []
 ending _ = []
 
--- the flow of a caption, and that of a header cell or of one that is none
+-- the place is in the flow of a caption
 abbrev pub is_caption_flow : Place → Bool
 is_caption_flow (machine.in_flow machine.of_caption) = true
 is_caption_flow _ = false
 
+-- the place is in the flow of a header cell, if `head`, or of another cell
 abbrev pub is_cell_flow : Bool → Place → Bool
 is_cell_flow head (machine.in_flow (machine.of_cell part open_head)) = machine.same_head open_head head
 is_cell_flow head _ = false
@@ -122,15 +134,17 @@ pub record IsModest (t : OpenTable) : Type 0 where
   pub few_columns : place_columns (place_of t) < 2 ^ 31
   pub small : open_size t ≤ MAX_FILE_BYTES
 
--- what is left once all that is open in a row, a group or before the columns has ended
+-- a row goes on once what is open in it has ended, by the marks of that end
 pub record RowGoesOn (old : Outcome) (p : Place) (r : OpenRow) : Type 0 where
   pub found : row_of p ≡ Some (r.group.part, ending p)
   pub adds : Adds old (after_entries (row_so_far r)) (ending p)
 
+-- a group goes on once what is open in it has ended, by the marks of that end
 pub record GroupGoesOn (old : Outcome) (p : Place) (g : OpenGroup) : Type 0 where
   pub found : group_of p ≡ Some (g.part, ending p)
   pub adds : Adds old (after_entries (group_so_far g)) (ending p)
 
+-- columns may come once what is open before them has ended, by the marks of that end
 pub record ColumnsGoOn (old : Outcome) (p : Place) (head : Head) : Type 0 where
   pub found : columns_of p ≡ Some (head.columns, ending p)
   pub adds : Adds old (after_entries (head_so_far head)) (ending p)

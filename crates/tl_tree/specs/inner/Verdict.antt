@@ -7,6 +7,7 @@ use Rattle.tl_tree.specs.inner.Machine.{State, before, inside, after, failed, ne
 use Rattle.tl_tree.specs.declared.error.TreeError.{TreeError}
 use Rattle.tl_tree.specs.declared.error.TreeError.TheVariants.{NoTable, StrayText, Misplaced, Unclosed, TooDeep, TooManyTables}
 
+-- the state is that of tokens with which no document begins
 abbrev pub is_failed : State → Bool
 is_failed failed = true
 is_failed _ = false
@@ -37,6 +38,7 @@ end_fault before = Some NoTable
 end_fault after = None
 end_fault _ = Some Unclosed
 
+-- the first fault, or a later one where there is none
 abbrev pub or_later : Option TreeError → Option TreeError → Option TreeError
 or_later None later = later
 or_later (Some error) later = Some error
