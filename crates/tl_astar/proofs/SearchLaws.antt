@@ -228,7 +228,7 @@ search-offered problem search arena is offered trace less = record {
 
 -- ---- where a zone is cut
 
--- the first cut of a zone parts a range of it
+-- the first cut of a zone splits a range of it
 pub first-parts : (problem : ProblemModel) (zone : List Range) → IsZone problem zone → (cut : CutAt) → IsFirstCut zone cut → PartsRange zone cut
 first-parts problem zone is cut first =
     let range = is.ranges cut.span first.span.there in (
@@ -240,7 +240,7 @@ first-parts problem zone is cut first =
       ],
     )
 
--- a cut that parts a range of a zone that stands is one
+-- a cut that splits a range of a zone that stands is one
 pub parts-cut : (problem : ProblemModel) (trace : List CutAt) (z : ℕ) (cut : CutAt) → Stands trace z → IsZone problem (zone_of problem trace z) →
     cut.zone ≡ z → PartsRange (zone_of problem trace z) cut → IsCut (whole_zone problem) trace cut
 parts-cut problem trace z cut stands is top parts =

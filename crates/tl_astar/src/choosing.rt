@@ -99,7 +99,7 @@ impl Search {
     }
 }
 
-/// The cut of the zone at this place, where it parts the range there; otherwise the first cut.
+/// The cut of the zone at this place, where it splits the range there; otherwise the first cut.
 fn cut_at(ranges: &[Range], place: Option<Place>, first: CutAt) -> CutAt
     requires { PartsRange ranges.now first }
     ensures zone { result.zone ≡ first.zone }

@@ -1,4 +1,4 @@
--- The zones of a trace that stand are one more than its cuts, and part the class vectors of the problem.
+-- The zones of a trace that stand are one more than its cuts, and partition the class vectors of the problem.
 use Rattle.std.proofs.Common.{◌≡◌, ◌≢◌, ℕ, ◌+◌, ◌-◌, ◌*◌, ◌<◌, ◌≤◌, zero, suc, Bool, true, false, not, nat_eq, List, []}
 use Rattle.std.proofs.Common.{◌∷◌, ◌++◌, ◌⊎◌, inl, inr, length, map, filter, get_or, set, refl, sym, ap, ◌∙◌, subst, arith, length-append, length-set}
 use Rattle.std.specs.List.{All, AllPairs, Contains, sum_by}

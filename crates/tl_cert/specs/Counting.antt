@@ -1,4 +1,4 @@
--- How many zones of a trace stand, and what they part: the class vectors of the problem, which give each span a class.
+-- How many zones of a trace stand, and what they partition: the class vectors of the problem, which give each span a class.
 use Rattle.std.specs.Prelude.{◌≡◌, ℕ, ◌+◌, ◌-◌, ◌^◌, ◌<◌, ◌≤◌, ◌↔◌, List, length, get_or}
 use Rattle.std.specs.List.{AllPairs, Contains}
 use Rattle.tl_problem.specs.declared.zone.Range.{Range}
@@ -23,8 +23,8 @@ pub record AreStanding (trace : List CutAt) (zones : List ℕ) : Type 0 where
   pub rising : AllPairs (λ a b. a < b) zones
   pub each : (z : ℕ) → Contains zones z ↔ Stands trace z
 
--- the standing zones of a trace are one more than its cuts, and part the class vectors: each has one, and each vector is
--- in one of them. So there are fewer cuts than vectors
+-- the standing zones of a trace are one more than its cuts, and partition the class vectors: each zone has one, and each
+-- vector is in one of them. So there are fewer cuts than vectors
 pub record PartsVectors (problem : ProblemModel) (trace : List CutAt) : Type 0 where
   pub standing : List ℕ
   pub are : AreStanding trace standing

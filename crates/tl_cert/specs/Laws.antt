@@ -28,8 +28,8 @@ NogoodsAreTrue = (problem : ProblemModel) → IsSound problem →
     (trace : List CutAt) (log : List LogLine) (lower : ℕ) → IsGoodLog problem trace log lower →
     (k : ℕ) → k < length log → IsTrueFor problem lower (nogood_bounds problem trace (nogood_at log k))
 
--- the standing zones of a trace are one more than its cuts, and part the class vectors: so there are fewer cuts than the
--- problem counts
+-- the standing zones of a trace are one more than its cuts, and partition the class vectors: so there are fewer cuts than
+-- the problem counts
 abbrev pub TracesPartVectors : Type 0
 TracesPartVectors = (problem : ProblemModel) → IsSound problem →
     (trace : List CutAt) → IsTraceOf problem trace → PartsVectors problem trace

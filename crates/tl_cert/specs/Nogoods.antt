@@ -24,17 +24,19 @@ abbrev pub IsPast : Side → ℕ → ℕ → Type 0
 IsPast Most w room = w + 1 ≤ room
 IsPast Least w room = room + 1 ≤ w
 
--- the widths meet a bound; they break it, where they meet its negation
+-- the widths meet a bound: the room that they give its span is on its side of its width
 abbrev pub Meets : ProblemModel → List ℕ → Bound → Type 0
 Meets problem widths bound = IsOnSide bound.side bound.width (span_width problem widths bound.span)
 
+-- the widths break a bound: the room that they give its span is past its width, on the other side
 abbrev pub Breaks : ProblemModel → List ℕ → Bound → Type 0
 Breaks problem widths bound = IsPast bound.side bound.width (span_width problem widths bound.span)
 
--- the bounds that a span has at most, and at least, so many columns
+-- the bound that the room of a span is at most this width
 abbrev pub at_most : ℕ → ℕ → Bound
 at_most s w = record { span = s; side = Most; width = w }
 
+-- the bound that the room of a span is at least this width
 abbrev pub at_least : ℕ → ℕ → Bound
 at_least s w = record { span = s; side = Least; width = w }
 

@@ -24,9 +24,11 @@ use Rattle.tl_base.specs.declared.limits.TheConstants.{MAX_PAGE_WIDTH, MAX_HEIGH
 use Rattle.tl_cert.specs.declared.limits.TheConstants.{MAX_TABLE, MAX_SECTIONS, MAX_ZONE, MAX_LINE, MAX_SPAN, MAX_CLASS, MAX_BOUNDS, MAX_FIRES}
 use Rattle.tl_cert.specs.Pieces.{Piece, character, number, field, word, spell, AllWithin}
 
+-- the character between two numbers or words of a line
 abbrev pub space : ℕ
 space = 32
 
+-- the character that ends a line
 abbrev pub line_feed : ℕ
 line_feed = 10
 
@@ -36,15 +38,16 @@ spaced high value = character space ∷ number 0 high value ∷ []
 
 -- ---- chains
 
--- `c`, or `c:T` where the chain of the nested table T gives the width
+-- nothing, or `:T` where the chain of the nested table T gives the width
 abbrev pub inner_pieces : Option ℕ → List Piece
 inner_pieces None = []
 inner_pieces (Some table) = character 58 ∷ number 0 MAX_TABLE table ∷ []
 
+-- `C`, the number of a cell, or `C:T` where the chain of the table T that is nested in it gives the width
 abbrev pub entry_pieces : Entry → List Piece
 entry_pieces entry = number 0 MAX_CELLS entry.cell ∷ inner_pieces entry.inner
 
--- `chain T E E E`
+-- `chain T E E E`: a table and the entries of its chain
 abbrev pub chain_pieces : Chain → List Piece
 chain_pieces chain =
     word (codes "chain ")
@@ -53,7 +56,7 @@ chain_pieces chain =
 
 -- ---- the lines of a section
 
--- `cut Z S K`
+-- `cut Z S K`: the zone, the span, and the last class of the lower part
 abbrev pub cut_pieces : CutAt → List Piece
 cut_pieces cut = word (codes "cut ") ++ (field 0 MAX_ZONE cut.zone space ++ (field 0 MAX_SPAN cut.span space ++ field 0 MAX_CLASS cut.class line_feed))
 
@@ -62,7 +65,7 @@ abbrev pub side_sign : Side → ℕ
 side_sign Most = 45
 side_sign Least = 43
 
--- `S-V` or `S+V`
+-- `S-V` or `S+V`: the room of the span S is at most, or at least, V
 abbrev pub bound_pieces : Bound → List Piece
 bound_pieces bound = field 0 MAX_SPAN bound.span (side_sign bound.side) ++ (number 0 MAX_PAGE_WIDTH bound.width ∷ [])
 
@@ -71,15 +74,16 @@ abbrev pub bounds_pieces : List Bound → List Piece
 bounds_pieces [] = []
 bounds_pieces (bound ∷ bounds) = bound_pieces bound ++ flat_map (λ more. character space ∷ bound_pieces more) bounds
 
--- `zZ`, or bounds
+-- `zZ` for the bounds of the zone Z, or bounds that are written out
 abbrev pub nogood_pieces : Nogood → List Piece
 nogood_pieces (nogoods.Zone zone) = character 122 ∷ number 0 MAX_ZONE zone ∷ []
 nogood_pieces (nogoods.Bounds bounds) = bounds_pieces bounds
 
--- ` @k`
+-- ` @k`: the earlier log line k is fired
 abbrev pub fire_pieces : ℕ → List Piece
 fire_pieces line = word (codes " @") ++ (number 0 MAX_LINE line ∷ [])
 
+-- the word by which a log line ends: the fired lines prove it, or a cycle, a chain or the area bound does
 abbrev pub end_word : End → List ℕ
 end_word ends.Fired = codes "fired\n"
 end_word ends.Cycle = codes "cycle\n"
@@ -102,7 +106,7 @@ section_head section =
     ++ (field 0 MAX_BUDGET cuts space
     ++ field 1 (2 * cuts + 1) (length section.log) line_feed)))))
 
--- that line, the line of the widths, the cuts and the log lines
+-- a section: its first line, the line of the widths, the cuts and the log lines
 abbrev pub section_pieces : Section → List Piece
 section_pieces section =
     section_head section
@@ -114,6 +118,7 @@ section_pieces section =
 
 -- ---- the whole
 
+-- whether a log line with this end is proved by the area bound
 abbrev pub is_area : End → Bool
 is_area ends.Area = true
 is_area ends.Fired = false
@@ -124,14 +129,16 @@ is_area ends.Chain = false
 abbrev pub log_has_area : List LogLine → Bool
 log_has_area = list_any (λ line. is_area line.end)
 
+-- whether a log line of some section ends by `area`
 abbrev pub has_area : List Section → Bool
 has_area = list_any (λ section. log_has_area section.log)
 
--- `2` where a log line ends by `area`, and `1` where none does
+-- the version of the text: `2` where a log line ends by `area`, and `1` where none does
 abbrev pub version_word : Bool → List ℕ
 version_word true = codes "2 "
 version_word false = codes "1 "
 
+-- the style by its name
 abbrev pub style_word : Style → List ℕ
 style_word Plain = codes "plain "
 style_word Frame = codes "frame "
@@ -161,11 +168,12 @@ cert_text c = spell (cert_pieces c)
 
 -- ---- how many parts there may be
 
--- by span, "at most" before "at least", each at most once
+-- whether one bound may stand before the other: bounds come by span, "at most" before "at least", each at most once
 abbrev pub comes_before : Bound → Bound → Bool
 comes_before first second =
     nat_lt first.span second.span || (first.span == second.span && (side_sign first.side == 45 && side_sign second.side == 43))
 
+-- each bound may stand before the next one
 abbrev pub AreInOrder : List Bound → Type 0
 AreInOrder [] = Unit {0}
 AreInOrder (first ∷ []) = Unit {0}
@@ -177,23 +185,28 @@ pub record AreBounds (bounds : List Bound) : Type 0 where
   pub most : length bounds ≤ MAX_BOUNDS
   pub ordered : AreInOrder bounds
 
+-- a nogood that is a zone, or bounds that may be written out
 abbrev pub IsNogoodShaped : Nogood → Type 0
 IsNogoodShaped (nogoods.Zone zone) = Unit {0}
 IsNogoodShaped (nogoods.Bounds bounds) = AreBounds bounds
 
+-- a log line whose nogood may be written out, and which fires not too many lines
 pub record IsLineShaped (line : LogLine) : Type 0 where
   pub nogood : IsNogoodShaped line.nogood
   pub fires : length line.fires ≤ MAX_FIRES
 
+-- a section of not too many columns, whose log lines may be written out
 pub record IsSectionShaped (section : Section) : Type 0 where
   pub widths : length section.widths ≤ MAX_COLUMNS
   pub lines : AllByRecursion IsLineShaped section.log
 
+-- the certificate has chains, each with an entry, and no section
 pub record HasChains (c : Certificate) : Type 0 where
   pub some : 1 ≤ length c.chains
   pub entries : AllByRecursion (λ (chain : Chain). 1 ≤ length chain.entries) c.chains
   pub no_section : c.sections ≡ []
 
+-- the certificate has sections that may be written, not too many of them, and no chain
 pub record HasSections (c : Certificate) : Type 0 where
   pub some : 1 ≤ length c.sections
   pub most : length c.sections ≤ MAX_SECTIONS
@@ -212,15 +225,19 @@ IsShaped c = HasProof c.claim c
 
 -- ---- within the ranges
 
+-- cuts that have a text: not too many, and each number within its range
 abbrev pub IsTraceWritable : List CutAt → Type 0
 IsTraceWritable trace = (length trace ≤ MAX_BUDGET) × AllWithin (flat_map cut_pieces trace)
 
+-- log lines that have a text: each number and list is within its range
 abbrev pub IsLogWritable : List LogLine → Type 0
 IsLogWritable log = AllByRecursion IsLineShaped log × AllWithin (flat_map line_pieces log)
 
+-- a section that has a text: each number and list is within its range
 abbrev pub IsSectionWritable : Section → Type 0
 IsSectionWritable section = IsSectionShaped section × AllWithin (section_pieces section)
 
+-- a chain that has a text: it has an entry, and each number is within its range
 abbrev pub IsChainWritable : Chain → Type 0
 IsChainWritable chain = (1 ≤ length chain.entries) × AllWithin (chain_pieces chain)
 

@@ -20,10 +20,11 @@ abbrev pub zones_after : List (List Range) → List CutAt → List (List Range)
 zones_after zones [] = zones
 zones_after zones (cut ∷ cuts) = zones_after (with_parts zones cut) cuts
 
--- the zones of a trace, and the one with a number
+-- the zones of a trace, by their numbers: the whole, and the parts of each cut
 abbrev pub zones_of : List Range → List CutAt → List (List Range)
 zones_of whole trace = zones_after (whole ∷ []) trace
 
+-- the zone of a trace with this number
 abbrev pub zone_at : List Range → List CutAt → ℕ → List Range
 zone_at whole trace z = get_or (zones_of whole trace) z []
 
@@ -36,7 +37,7 @@ pub record Stands (trace : List CutAt) (z : ℕ) : Type 0 where
   pub there : IsZoneOf trace z
   pub not_cut : All (λ cut. cut.zone ≢ z) trace
 
--- after these cuts, the cut is of a zone that stands, and parts the range of a span in two that have classes
+-- after these cuts, the cut is of a zone that stands, and splits the range of a span in two that have classes
 pub record IsCut (whole : List Range) (cuts : List CutAt) (cut : CutAt) : Type 0 where
   pub stands : Stands cuts cut.zone
   pub span : cut.span < length whole
@@ -47,10 +48,11 @@ pub record IsCut (whole : List Range) (cuts : List CutAt) (cut : CutAt) : Type 0
 abbrev pub IsTrace : List Range → List CutAt → Type 0
 IsTrace whole trace = (i : ℕ) (d : CutAt) → i < length trace → IsCut whole (take i trace) (get_or trace i d)
 
--- a trace of the problem, from the whole of it, and its zone with a number
+-- a trace of the problem, from the whole of it
 abbrev pub IsTraceOf : ProblemModel → List CutAt → Type 0
 IsTraceOf problem trace = IsTrace (whole_zone problem) trace
 
+-- the zone with this number of a trace of the problem
 abbrev pub zone_of : ProblemModel → List CutAt → ℕ → List Range
 zone_of problem trace z = zone_at (whole_zone problem) trace z
 

@@ -124,7 +124,7 @@ fn whole(alloc: Global, bytes: &[u8]) -> Result<Certificate, Fault>
     }
 }
 
-/// As `whole`, with the fault at its place from the beginning.
+/// Reads a text that is not too long; a fault is named by its place from the beginning.
 fn read_short(alloc: Global, bytes: &[u8]) -> Result<Certificate, CertError>
     requires { length bytes.now ≤ MAX_CERTIFICATE_BYTES }
     ensures { ReturnsAs result (length bytes.now) (read.whole_at bytes.now) }

@@ -7,7 +7,7 @@ use thiserror::Error;
 /// other two faults the earlier one is given.
 #[derive(Debug, Drop, Error)]
 pub enum CertError {
-    /// Number 0.
+    /// Number 0: out of memory.
     #[error("out of memory")]
     Memory(AllocError),
     /// Number 1. The bytes before this place begin a certificate, and no certificate goes on with the
@@ -17,7 +17,7 @@ pub enum CertError {
     /// Number 2. The number that begins at this place is outside its range.
     #[error("range at {0}")]
     Range(u32),
-    /// Number 3. There are more than 1,073,741,824 bytes.
+    /// Number 3. There are more than [`tl_base::MAX_CERTIFICATE_BYTES`] bytes.
     #[error("too long")]
     TooLong,
 }

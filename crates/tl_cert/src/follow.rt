@@ -14,9 +14,9 @@ use crate::log::{Bound, Side};
 pub(crate) enum Follow {
     /// This byte.
     Byte(u8),
-    /// A line feed, or a space where another width may follow.
+    /// A line feed, or a space where another number may follow.
     Item(bool),
-    /// As `Item`, or a colon.
+    /// A line feed, a space where another number may follow, or a colon.
     Entry(bool),
     /// `-` or `+`, in order after the bound before.
     Sign(Option<Bound>),

@@ -13,8 +13,8 @@ pub fn nogoods_are_true()
     ensures { NogoodsAreTrue }
 {}
 
-/// A trace with so many cuts has one standing zone more. They part the class vectors of the problem,
-/// each having one, so that there are fewer cuts than the problem counts.
+/// A trace with so many cuts has one standing zone more. The standing zones partition the class vectors
+/// of the problem, each having one, so that there are fewer cuts than the problem counts.
 pub fn traces_part_vectors()
     ensures { TracesPartVectors }
 {}

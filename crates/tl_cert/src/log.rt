@@ -27,7 +27,7 @@ pub struct Bound {
 pub enum Nogood {
     /// The bounds of a zone of the trace, by its number; zone 0 has none.
     Zone(u32),
-    /// Bounds written out: 1 to 8, by span, "at most" before "at least", each at most once.
+    /// Bounds written out: at least one and at most [`crate::MAX_BOUNDS`], by span, "at most" before "at least", each at most once.
     Bounds(List<Bound>),
 }
 
@@ -36,7 +36,7 @@ pub enum Nogood {
 pub enum End {
     /// All bounds of the line that was fired last hold, so this line's bounds fail as that line's do.
     Fired,
-    /// No positions are left.
+    /// No widths are left.
     Cycle,
     /// The rows need at least the claimed lower bound, by their heaviest chain.
     Chain,

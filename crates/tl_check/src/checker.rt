@@ -44,7 +44,7 @@ impl Checker {
         })
     }
 
-    /// Whether each cut is of a zone that stands then, and parts its classes of a span in two that have
+    /// Whether each cut is of a zone that stands then, and splits its classes of a span in two that have
     /// some. The checker is reserved for this problem and at least so many cuts, as for each call.
     pub fn trace(&mut self, problem: &Problem, trace: &Trace) -> bool
         requires { IsReserved problem.now (length trace.now) self.old }

@@ -1,4 +1,4 @@
-//! Traces: whether each cut is of a zone that stands, and parts the classes of a span in two.
+//! Traces: whether each cut is of a zone that stands, and splits the classes of a span in two.
 
 ghost use Rattle.std.specs.Prelude.{◌≡◌, ℕ, ◌+◌, ◌*◌, ◌<◌, ◌≤◌, List, length, take, get_or, IsTrue, ◌↔◌, true};
 ghost use Rattle.tl_problem.specs.Zones.{whole_zone};

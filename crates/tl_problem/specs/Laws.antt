@@ -19,7 +19,7 @@ BoundIsBelowLayouts = (problem : ProblemModel) → IsSound problem → (zone : L
     IsBound problem (InZone problem zone) bound →
     InZone problem zone widths → IsLayoutByLow problem widths heights → bound ≤ total_height problem heights
 
--- nor lower than the zone's area bound
+-- no layout by `low` in a zone is lower than the zone's area bound
 abbrev pub AreaBoundIsBelowLayouts : Type 0
 AreaBoundIsBelowLayouts = (problem : ProblemModel) → IsSound problem → (zone : List Range) (bound : ℕ) (widths heights : List ℕ) →
     IsAreaBound problem (InZone problem zone) bound →
@@ -50,6 +50,7 @@ pub record IsPartition (problem : ProblemModel) (zone low high : List Range) : T
   pub either : (widths : List ℕ) → InZone problem zone widths ↔ (InZone problem low widths ⊎ InZone problem high widths)
   pub apart : (widths : List ℕ) → InZone problem low widths → InZone problem high widths → ⊥
 
+-- a zone that is cut between two classes of its range of a span has its two parts for a partition
 abbrev pub CutsArePartitions : Type 0
 CutsArePartitions = (problem : ProblemModel) → IsSound problem → (zone : List Range) → IsZone problem zone →
     (s class : ℕ) → s < length zone → (range_at zone s).first ≤ class → class < (range_at zone s).last →

@@ -28,9 +28,10 @@ pub record IsLayoutBy (steps_of : Cell → List Config) (problem : ProblemModel)
   pub page : WithinPage problem widths
   pub enough : GiveHeights problem steps_of widths heights
 
--- a layout by `low`, and one by `high`
+-- a layout by `low`: each cell has at least the height of its `low` at its room
 abbrev pub IsLayoutByLow : ProblemModel → List ℕ → List ℕ → Type 0
 IsLayoutByLow problem widths heights = IsLayoutBy (λ cell. cell.low) problem widths heights
 
+-- a layout by `high`: each cell has at least the height of its `high` at its room
 abbrev pub IsLayoutByHigh : ProblemModel → List ℕ → List ℕ → Type 0
 IsLayoutByHigh problem widths heights = IsLayoutBy (λ cell. cell.high) problem widths heights

@@ -14,16 +14,18 @@ pub record ProblemModel : Type 0 where
   pub width : ℕ
   pub cells : List Cell
 
--- the total width of columns of these widths, and the total height of rows of these heights
+-- the total width of columns of these widths: the widths, the gaps between columns and the edges of the style
 abbrev pub total_width : ProblemModel → List ℕ → ℕ
 total_width problem widths = total (gap_of problem.style) (edge_of problem.style) widths
 
+-- the total height of rows of these heights: the heights, the gaps between rows and the edges of the style
 abbrev pub total_height : ProblemModel → List ℕ → ℕ
 total_height problem heights = total (row_gap_of problem.style) (edge_of problem.style) heights
 
--- the room that columns of these widths give a cell, and the room that rows of these heights give it
+-- the room that columns of these widths give a cell: the widths of those that it covers, and the gaps between them
 abbrev pub cell_width : ProblemModel → List ℕ → Cell → ℕ
 cell_width problem widths cell = room (gap_of problem.style) widths cell.left cell.right
 
+-- the room that rows of these heights give a cell: the heights of those that it covers, and the gaps between them
 abbrev pub cell_height : ProblemModel → List ℕ → Cell → ℕ
 cell_height problem heights cell = room (row_gap_of problem.style) heights cell.top cell.bottom

@@ -9,24 +9,27 @@ use Rattle.tl_problem.specs.Problem.{ProblemModel}
 use Rattle.tl_problem.specs.Layouts.{WithinPage}
 use Rattle.tl_problem.specs.Spans.{span, spans_of, classes_of, page_room}
 
--- the span with this number, and its classes
+-- the span with this number
 abbrev pub span_at : ProblemModel → ℕ → Span
 span_at problem s = get_or (spans_of problem) s (span 0 0)
 
+-- the first widths of the classes of the span with this number
 abbrev pub classes_at : ProblemModel → ℕ → List ℕ
 classes_at problem s = classes_of problem (span_at problem s)
 
--- the first width of a class of a span, and the last: before the next class, or all the room of the page
+-- the first width of a class of a span
 abbrev pub first_in_class : ProblemModel → ℕ → ℕ → ℕ
 first_in_class problem s class = get_or (classes_at problem s) class 0
 
+-- the last width of a class of a span: one before the next class, or all the room of the page
 abbrev pub last_in_class : ProblemModel → ℕ → ℕ → ℕ
 last_in_class problem s class = get_or (classes_at problem s) (class + 1) (page_room problem + 1) - 1
 
--- the range of classes of a span
+-- the range of classes from `first` to `last`, both in it
 abbrev pub range : ℕ → ℕ → Range
 range first last = record { first = first; last = last }
 
+-- the range of classes that the zone gives the span with this number
 abbrev pub range_at : List Range → ℕ → Range
 range_at zone s = get_or zone s (range 0 0)
 
@@ -40,10 +43,11 @@ pub record IsZone (problem : ProblemModel) (zone : List Range) : Type 0 where
 abbrev pub whole_zone : ProblemModel → List Range
 whole_zone problem = map (λ columns. range 0 (length (classes_of problem columns) - 1)) (spans_of problem)
 
--- the two parts of a zone that is cut at a span after a class
+-- the lower part of a zone that is cut at a span after a class: the span has its classes up to that one
 abbrev pub lower_part : List Range → ℕ → ℕ → List Range
 lower_part zone s class = set zone s (range (range_at zone s).first class)
 
+-- the upper part of a zone that is cut at a span after a class: the span has its classes after that one
 abbrev pub upper_part : List Range → ℕ → ℕ → List Range
 upper_part zone s class = set zone s (range (class + 1) (range_at zone s).last)
 

@@ -30,7 +30,8 @@ impl Problem {
     }
 
     /// The area bound of the zone, which no layout in the zone is lower than. `None` exactly where no
-    /// widths lie in the zone. The work is as for `bound_of`, and no memory is taken.
+    /// widths lie in the zone. Constraints that a caller added to the work do not matter, and stay. No
+    /// memory is taken.
     pub fn area_of(&self, zone: &Zone, work: &mut Work) -> Option<u32>
         requires zone { IsZone self.now zone.now }
         requires work { IsWorkOf self.now work.old }

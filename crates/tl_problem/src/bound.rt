@@ -73,7 +73,7 @@ impl Problem {
     }
 
     /// The placement at the least positions of the zone. `None` exactly where no widths lie in the
-    /// zone. The work is as for `bound_of`.
+    /// zone. Constraints that a caller added to the work do not matter, and stay.
     pub fn place_in(&self, zone: &Zone, work: &mut Work) -> Result<Option<Placed>, AllocError>
         requires zone { IsZone self.now zone.now }
         requires work { IsWorkOf self.now work.old }

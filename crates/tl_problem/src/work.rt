@@ -17,7 +17,7 @@ use tl_diff::{Arc, Matrix};
 pub struct Work {
     /// The constraints: at first those of the page and of the least widths. A caller may add others.
     pub matrix: Matrix,
-    // those of the page and of the least widths, to which a zone adds its own while its bound is found
+    // The constraints of the page and of the least widths, to which a zone adds its own while its bound is found.
     pub(crate) start: Matrix,
     pub(crate) demands: Vec<u32>,
     pub(crate) arcs: Vec<Arc>,

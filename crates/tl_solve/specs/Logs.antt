@@ -6,10 +6,11 @@ use Rattle.tl_problem.specs.Zones.{InZone}
 use Rattle.tl_problem.specs.Bounds.{HasNoWidths, IsBound}
 use Rattle.tl_problem.specs.Areas.{IsAreaBound}
 
--- the bound of the zone, or its area bound, is at least `lower`
+-- the bound of the zone is at least `lower`
 abbrev pub HasBoundFrom : ProblemModel → List Range → ℕ → Type 0
 HasBoundFrom problem zone lower = (bound : ℕ) × IsBound problem (InZone problem zone) bound × (lower ≤ bound)
 
+-- the area bound of the zone is at least `lower`
 abbrev pub HasAreaFrom : ProblemModel → List Range → ℕ → Type 0
 HasAreaFrom problem zone lower = (bound : ℕ) × IsAreaBound problem (InZone problem zone) bound × (lower ≤ bound)
 

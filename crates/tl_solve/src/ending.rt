@@ -58,7 +58,7 @@ impl Arena {
         self.finish_at(problem, budget, lower)
     }
 
-    /// The same with a lower bound that was found: each zone that stands proves it. Where it is below the
+    /// The outcome of a search with this lower bound, which each zone that stands proves. Where it is below the
     /// best height, some zone that stands has a bound that is no greater, and the search made all cuts of
     /// its budget or has each zone closed.
     pub fn finish_at(

@@ -5,20 +5,23 @@ use Rattle.std.specs.declared.cmp.Ordering.{Ordering}
 use Rattle.std.specs.declared.cmp.Reverse.{Reverse}
 use Rattle.std.specs.Ordering.{nat_cmp, ordering_then}
 
--- a zone with its bound
+-- the type of an open zone with its bound: the lower of two bounds is the greater entry, so that a heap gives it first
 abbrev pub Entry : Type 0
 Entry = Reverse ℕ × ℕ
 
+-- the zone with this number and this bound
 abbrev pub entry : ℕ → ℕ → Entry
 entry bound zone = (record { 0 = bound }, zone)
 
+-- the bound that an entry keeps
 abbrev pub bound_in : Entry → ℕ
 bound_in e = e.0.0
 
+-- the number of the zone that an entry keeps
 abbrev pub zone_in : Entry → ℕ
 zone_in e = e.1
 
--- less: of a greater bound, or of the same bound and older
+-- how two entries compare: the less is that of the greater bound, or of the lower number where the bounds are the same
 abbrev pub compare_entries : Entry → Entry → Ordering
 compare_entries a b = ordering_then (nat_cmp (bound_in b) (bound_in a)) (nat_cmp (zone_in a) (zone_in b))
 

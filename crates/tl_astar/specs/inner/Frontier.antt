@@ -48,6 +48,6 @@ pub record KeepsOrder (problem : ProblemModel) (trace : List CutAt) (height : �
   pub below_by_area : HaveSameSteps problem → CutsBelowByArea problem trace
   pub proved : LowIsHigh problem → All (IsCutProved problem trace) trace
 
--- the cut parts the range of a span of the zone in two that have classes
+-- the cut splits the range of a span of the zone in two that have classes
 abbrev pub PartsRange : List Range → CutAt → Type 0
 PartsRange zone cut = (cut.span < length zone) × ((range_at zone cut.span).first ≤ cut.class) × (cut.class < (range_at zone cut.span).last)

@@ -5,7 +5,7 @@ use Rattle.tl_cert.specs.declared.follow.Follow.TheVariants.{Byte, Item, Entry, 
 use Rattle.tl_cert.specs.inner.CertReading.{may_follow, is_sign, ends_item, may_count}
 use Rattle.tl_cert.specs.Text.{line_feed}
 
--- the number may stand there
+-- whether the number may stand in this place
 abbrev pub may_be : Follow → ℕ → Bool
 may_be (Byte end) n = true
 may_be (Item more) n = true
@@ -13,7 +13,7 @@ may_be (Entry more) n = true
 may_be (Sign before) n = may_follow before n
 may_be (Count areas) n = may_count areas n
 
--- and this character may end it
+-- whether the character may end the number in this place
 abbrev pub may_end : Follow → ℕ → ℕ → Bool
 may_end (Byte end) n c = c == end
 may_end (Item more) n c = ends_item more c

@@ -6,17 +6,18 @@ use Rattle.tl_cert.specs.declared.reader.Fault.{Fault}
 use Rattle.tl_cert.specs.declared.reader.Fault.TheVariants.{Memory, Wrong, Outside}
 use Rattle.tl_cert.specs.inner.reading.Readings.{Answer, got, wrong, outside}
 
+-- a reading fails by this fault: it gives the same fault at the same place, and nothing is asked of it where memory ran out
 abbrev pub Fails : {A : Type 0} → Fault → Answer A → Type 0
 Fails Memory answer = Unit {0}
 Fails (Wrong left) answer = answer ≡ wrong left
 Fails (Outside left) answer = answer ≡ outside left
 
--- the value, seen by `view`, and what is left of the text
+-- the function gives what the reading does: the value, seen by `view`, with what is left of the text, or the fault
 abbrev pub Gives : {X A : Type 0} → (X → A) → Result X Fault → List ℕ → Answer A → Type 0
 Gives view (Ok x) rest answer = answer ≡ got (view x) rest
 Gives view (Err fault) rest answer = Fails fault answer
 
--- the fault at its place in a text of this length
+-- the call returns what the reading of a text of this length gives: the value, or the fault with its place
 abbrev pub ReturnsAs : {A : Type 0} → Result A CertError → ℕ → Answer A → Type 0
 ReturnsAs (Ok x) length answer = answer ≡ got x []
 ReturnsAs (Err (errors.Memory e)) length answer = Unit {0}

@@ -8,20 +8,22 @@ use Rattle.tl_problem.specs.declared.axis.Turn.{Turn}
 use Rattle.tl_problem.specs.declared.cell.Cell.{Cell}
 use Rattle.tl_problem.specs.Problem.{ProblemModel}
 
--- the first column, or row, of a cell, and the first past it
+-- the first column, or row, of a cell
 abbrev pub start_of : Axis → Cell → ℕ
 start_of Columns cell = cell.left
 start_of Rows cell = cell.top
 
+-- the first column, or row, past a cell
 abbrev pub end_of : Axis → Cell → ℕ
 end_of Columns cell = cell.right
 end_of Rows cell = cell.bottom
 
--- how many columns, or rows, a problem has, and the gap between two
+-- how many columns, or rows, a problem has
 abbrev pub count_on : Axis → ProblemModel → ℕ
 count_on Columns problem = problem.cols
 count_on Rows problem = problem.rows
 
+-- the gap between two columns, or rows, of a problem
 abbrev pub gap_on : Axis → ProblemModel → ℕ
 gap_on Columns problem = gap_of problem.style
 gap_on Rows problem = row_gap_of problem.style

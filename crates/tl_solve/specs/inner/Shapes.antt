@@ -5,19 +5,21 @@ use Rattle.tl_cert.specs.declared.log.End.TheVariants.{Fired, Cycle, Chain, Area
 use Rattle.tl_cert.specs.declared.log.LogLine.{LogLine}
 use Rattle.tl_cert.specs.declared.log.Nogood.TheVariants.{Zone}
 
--- a zone that stands: no widths, a bound of at least `lower`, or else the area bound
+-- how the line of a zone that stands ends: it has no widths, a bound of at least `lower`, or else the area bound
 abbrev pub closing_end : Option ℕ → ℕ → End
 closing_end None lower = Cycle
 closing_end (Some bound) lower = if nat_le lower bound then Chain else Area
 
+-- the line of a zone that stands
 abbrev pub closing_line_of : ℕ → Option ℕ → ℕ → LogLine
 closing_line_of zone bound lower = record { nogood = Zone zone; fires = []; end = closing_end bound lower }
 
--- a zone that is cut fires its lower part, and then the upper part where that has widths
+-- the lines that a zone that is cut fires: that of its lower part, and then of the upper part where that has widths
 abbrev pub parts_fired : ℕ → ℕ → Option ℕ → List ℕ
 parts_fired last cut None = (last - (2 * cut + 1)) ∷ []
 parts_fired last cut (Some bound) = (last - (2 * cut + 1)) ∷ (last - (2 * cut + 2)) ∷ []
 
+-- the line of a zone that is cut
 abbrev pub firing_line_of : ℕ → ℕ → ℕ → Option ℕ → LogLine
 firing_line_of last zone cut upper = record { nogood = Zone zone; fires = parts_fired last cut upper; end = Fired }
 

@@ -8,6 +8,7 @@ pub data Turn : Type 0 where
   go : Turn
   look : (ℕ → Bool) → Turn
 
+-- the reading of the item where one comes, and of what stops the list where none does
 abbrev pub by_turn : {C : Type 0} → Turn → Reading C → Reading C → Reading C
 by_turn halt item stop = stop
 by_turn go item stop = item
@@ -27,10 +28,11 @@ pub record ListReading (S A V E : Type 0) : Type 0 where
   pub view : A → V
   pub stop : S → Reading E
 
--- the items of a list and what stopped it
+-- the type of the items of a list with what stopped it
 abbrev pub Listing : Type 0 → Type 0 → Type 0
 Listing V E = List V × E
 
+-- these items, and what stopped them
 abbrev pub listing : {V E : Type 0} → List V → E → Listing V E
 listing items end = (items, end)
 

@@ -23,6 +23,7 @@ unfoldable pub followed : {A B : Type 0} → Reading A → (A → Reading B) →
 followed read next = λ text. then_read (read text) next
 
 infixl 10 ◌>>=◌
+-- one reading after the other, as a sign between them
 abbrev pub ◌>>=◌ : {A B : Type 0} → Reading A → (A → Reading B) → Reading B
 ◌>>=◌ = followed
 
