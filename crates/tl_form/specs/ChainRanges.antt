@@ -13,15 +13,15 @@ use Rattle.tl_form.specs.Formed.{Becomes}
 use Rattle.tl_form.specs.Problems.{IsAmong}
 use Rattle.tl_form.specs.Sound.{IsSound}
 
--- the table, and each table nested in it, has no more cells than a grid may have, and one more for a caption
+-- the table, and each table nested in it, has few cells: no more than a grid may have, and one for a caption
 abbrev pub HasFewCells : Table → Type 0
 HasFewCells table = (inside : Table) → IsAmong table inside → length (out-Table inside).cells ≤ MAX_CELLS + 1
 
--- so has a table that a tree becomes
+-- a table that a tree becomes has few cells, and so has each table nested in it
 abbrev pub FormedHasFewCells : Type 0
 FormedHasFewCells = (breaking : Breaking) (node : TableNode) (table : Table) → Becomes breaking node table → HasFewCells table
 
--- and then each chain of the table, with those that it rests on, can be written
+-- each chain of a sound table with few cells, with those that it rests on, can be written
 abbrev pub ChainsAreWritable : Type 0
 ChainsAreWritable = (table : Table) (style : Style) (chains : List Chain) (weight : ℕ) → IsSound table → HasFewCells table →
     IsChain table style chains weight → (1 ≤ length chains) × AllByRecursion IsChainWritable chains

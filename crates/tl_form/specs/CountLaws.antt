@@ -20,12 +20,12 @@ abbrev pub LeastHeightsExist : Type 0
 LeastHeightsExist = (table : Table) (style : Style) (page height : ℕ) (layout : Layout) → IsSound table →
     Fits table style page height layout → (least : ℕ) × IsLeastHeight table style page least
 
--- and a true problem
+-- a sound table that fits a page has a true problem there
 abbrev pub TrueProblemsExist : Type 0
 TrueProblemsExist = (table : Table) (style : Style) (page height : ℕ) (layout : Layout) → IsSound table →
     Fits table style page height layout → (problem : ProblemModel) × IsTrueProblem table style page problem
 
--- and the greatest count of it and of all tables nested in it
+-- for a sound table that fits a page there is a greatest count of it and of all tables nested in it
 abbrev pub CountsExist : Type 0
 CountsExist = (table : Table) (style : Style) (page height : ℕ) (layout : Layout) → IsSound table →
     Fits table style page height layout → (most : ℕ) × IsCountAll table style page most

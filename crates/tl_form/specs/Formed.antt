@@ -31,16 +31,19 @@ use Rattle.tl_form.specs.Sound.{ComesBefore, place_of, places_of}
 
 -- ---- a tree one level at a time
 
--- a table, a group, a cell and a block of a tree by their fields
+-- a table of a tree by its fields
 abbrev pub OpenNode : Type 0
 OpenNode = TableNode-F Block CellNode GroupNode TableNode
 
+-- a group of rows of a tree by its fields
 abbrev pub OpenGroup : Type 0
 OpenGroup = GroupNode-F Block CellNode GroupNode TableNode
 
+-- a cell of a tree by its fields
 abbrev pub OpenCellNode : Type 0
 OpenCellNode = CellNode-F Block CellNode GroupNode TableNode
 
+-- a block of a tree by its fields
 abbrev pub OpenBlock : Type 0
 OpenBlock = Block-F Block CellNode GroupNode TableNode
 
@@ -50,23 +53,25 @@ OpenBlock = Block-F Block CellNode GroupNode TableNode
 abbrev pub span_of : CellNode → SpanOf
 span_of cell = record { colspan = (out-CellNode cell).colspan; rowspan = (out-CellNode cell).rowspan }
 
--- the rows of a `tfoot` are formed last
+-- a group is a `tfoot`, whose rows are formed last
 abbrev pub is_foot : Part → Bool
 is_foot parts.Foot = true
 is_foot _ = false
 
--- a group of rows, and a table, as the grid sees them
+-- a group of rows as the grid sees it
 abbrev pub group_shape : GroupNode → ShapeGroup
 group_shape group = record
     { foot = is_foot (out-GroupNode group).part; rows = map (map span_of) (out-GroupNode group).rows }
 
+-- a table as the grid sees it
 abbrev pub shape_of : OpenNode → Shape
 shape_of node = record { columns = node.columns; groups = map group_shape node.groups }
 
--- the cells of a group and of a table as they are written, row by row
+-- the cells of a group as they are written, row by row
 abbrev pub cells_of_group : OpenGroup → List CellNode
 cells_of_group group = flat_map (λ row. row) group.rows
 
+-- the cells of a table as they are written, group by group
 abbrev pub cells_written : OpenNode → List CellNode
 cells_written node = flat_map (λ group. cells_of_group (out-GroupNode group)) node.groups
 
@@ -84,6 +89,7 @@ BecomesContent forms breaking (open_block.Para paragraph) (open_content.Table bo
 BecomesContent forms breaking (open_block.Table node) (open_content.Para units) = ⊥
 BecomesContent forms breaking (open_block.Table node) (open_content.Table box) = forms node.value box.value
 
+-- the blocks of a flow become these, in order; `forms` says the same of nested tables
 abbrev pub BecomeContents : (TableNode → Table → Type 0) → Breaking → List Block → List Content → Type 0
 BecomeContents forms breaking flow blocks = AllZip
     (λ block content. BecomesContent forms breaking (out-Block block) (out-Content content)) flow blocks

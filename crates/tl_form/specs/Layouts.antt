@@ -19,17 +19,19 @@ use Rattle.tl_form.specs.Tables.{OpenTable, OpenCell, OpenContent}
 abbrev pub OpenLayout : Type 0
 OpenLayout = Layout-F Layout
 
--- the total width and height of a layout
+-- the total width of a layout, in columns of the page
 abbrev pub total_width : Style → OpenLayout → ℕ
 total_width style layout = total (gap_of style) (edge_of style) layout.widths
 
+-- the total height of a layout, in lines
 abbrev pub total_height : Style → OpenLayout → ℕ
 total_height style layout = total (row_gap_of style) (edge_of style) layout.heights
 
--- the room that a layout gives a place, in columns and in lines
+-- the room that a layout gives a place, in columns of the page
 abbrev pub width_for : Style → OpenLayout → Place → ℕ
 width_for style layout place = room (gap_of style) layout.widths place.left place.right
 
+-- the room that a layout gives a place, in lines
 abbrev pub height_for : Style → OpenLayout → Place → ℕ
 height_for style layout place = room (row_gap_of style) layout.heights place.top place.bottom
 

@@ -27,11 +27,13 @@ abbrev pub IsAboveLayouts : (Table → ℕ → ℕ → Type 0) → Style → ℕ
 IsAboveLayouts needs style page nested = (w h : ℕ) → w ≤ page → needs nested w h →
     (height : ℕ) × (layout : Layout) × Fits nested style w height layout × (height ≤ h)
 
--- the `low` steps are so of each table nested directly in this one, and the `high` steps
+-- on up to `page` columns the `low` steps of a table nested directly in this one are no higher than any layout that fits
 abbrev pub LowIsBelow : Table → Style → ℕ → List InnerSteps → Type 0
 LowIsBelow table style page inner = AllByRecursion (IsBelowLayouts (InnerNeeds (λ one. one.low) inner) style page)
     (inner_tables (out-Table table))
 
+-- on up to `page` columns, where the `high` steps of a table nested directly in this one have a height, a layout that is
+-- no higher fits
 abbrev pub HighIsAbove : Table → Style → ℕ → List InnerSteps → Type 0
 HighIsAbove table style page inner = AllByRecursion (IsAboveLayouts (InnerNeeds (λ one. one.high) inner) style page)
     (inner_tables (out-Table table))
@@ -65,6 +67,7 @@ pub record IsBetween (page : ℕ) (cell real : Cell) : Type 0 where
   pub low : (w h : ℕ) → w ≤ page → height_at real.low w ≡ Some h → IsLowAt cell.low h w
   pub high : (w h k : ℕ) → w ≤ page → height_at real.high w ≡ Some h → height_at cell.high w ≡ Some k → h ≤ k
 
+-- with `low` below the layouts of nested tables and `high` above some, what each cell needs truly lies between its `low` and its `high`
 abbrev pub TrueStepsLieBetween : Type 0
 TrueStepsLieBetween = (table : Table) (style : Style) (page : ℕ) (inner : List InnerSteps) (problem real : ProblemModel) →
     IsProblemOf table style page inner problem → IsTrueProblem table style page real → LowIsBelow table style page inner →

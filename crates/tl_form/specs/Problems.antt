@@ -104,7 +104,7 @@ IsInsideWithin zero table inside = ⊥
 IsInsideWithin (suc depth) table inside = (nested : Table) × Contains (inner_tables (out-Table table)) nested
     × ((nested ≡ inside) ⊎ IsInsideWithin depth nested inside)
 
--- it is the table, or nested in it at any depth
+-- `inside` is the table, or nested in it at any depth
 abbrev pub IsAmong : Table → Table → Type 0
 IsAmong table inside = (table ≡ inside) ⊎ ((depth : ℕ) × IsInsideWithin depth table inside)
 

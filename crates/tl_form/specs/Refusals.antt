@@ -62,7 +62,7 @@ pub record HasWrongLayout (document : Document) (budget : ℕ) (certificate : Ce
   pub comes : ComesTo document budget certificate number section
   pub wrong : (problem : ProblemModel) → IsLaid document (take number certificate.sections) section problem → ⊥
 
--- it has a placement, but no trace that was worked
+-- the section with this number has a placement, but no trace that was worked
 pub record HasWrongTrace (document : Document) (budget : ℕ) (certificate : Certificate) (number : ℕ) : Type 0 where
   pub section : Section
   pub comes : ComesTo document budget certificate number section
@@ -70,7 +70,7 @@ pub record HasWrongTrace (document : Document) (budget : ℕ) (certificate : Cer
   pub laid : IsLaid document (take number certificate.sections) section problem
   pub wrong : HasTrace budget section problem → ⊥
 
--- it has a placement and a trace, but no log that is good, on this problem
+-- the section with this number has a placement and a trace on this problem, but no log that is good
 pub record HasWrongLog (document : Document) (budget : ℕ) (certificate : Certificate) (number : ℕ) (section : Section)
     (problem : ProblemModel) : Type 0 where
   pub comes : ComesTo document budget certificate number section

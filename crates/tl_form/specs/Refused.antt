@@ -24,52 +24,60 @@ pub record NumberedShape : Type 0 where
   pub number : ℕ
   pub shape : Shape
 
--- a cell and a group of a tree: what they add to their table's shape, and the tables inside them
+-- a cell of a tree: its span, which its table's grid depends on, and the tables inside it
 pub record CellPart : Type 0 where
   pub span : SpanOf
   pub inner : List NumberedShape
 
+-- a group of a tree: its rows as the grid sees them, and the tables inside it
 pub record GroupPart : Type 0 where
   pub group : ShapeGroup
   pub inner : List NumberedShape
 
+-- a block that is a table has its tables; a paragraph has none
 abbrev pub block_part : open_block.Block-F (List NumberedShape) CellPart GroupPart (List NumberedShape) → List NumberedShape
 block_part (open_block.Para paragraph) = []
 block_part (open_block.Table box) = box.value
 
+-- a cell has the tables of its blocks
 abbrev pub cell_part : open_block.CellNode-F (List NumberedShape) CellPart GroupPart (List NumberedShape) → CellPart
 cell_part cell = record {
   span = record { colspan = cell.colspan; rowspan = cell.rowspan };
   inner = flat_map (λ tables. tables) cell.flow;
 }
 
+-- a group has the spans and the tables of its cells, row by row
 abbrev pub group_part : open_block.GroupNode-F (List NumberedShape) CellPart GroupPart (List NumberedShape) → GroupPart
 group_part group = record {
   group = record { foot = is_foot group.part; rows = map (map (λ cell. cell.span)) group.rows };
   inner = flat_map (λ row. flat_map (λ cell. cell.inner) row) group.rows;
 }
 
+-- a caption has the tables of its blocks; no caption has none
 abbrev pub caption_part : Option (List (List NumberedShape)) → List NumberedShape
 caption_part None = []
 caption_part (Some flow) = flat_map (λ tables. tables) flow
 
+-- a table is the first of its own; those of its caption come next, then those of its groups
 abbrev pub table_part : open_block.TableNode-F (List NumberedShape) CellPart GroupPart (List NumberedShape) → List NumberedShape
 table_part table = record {
   number = table.number;
   shape = record { columns = table.columns; groups = map (λ group. group.group) table.groups };
 } ∷ (caption_part table.caption ++ flat_map (λ group. group.inner) table.groups)
 
--- the tables in a block, a cell, a group and a table, at all depths, in the order in which they begin; a table is the
--- first of its own
+-- the tables in a block, at all depths, in the order in which they begin
 abbrev pub tables_in_block : Block → List NumberedShape
 tables_in_block = fold-Block (List NumberedShape) CellPart GroupPart (List NumberedShape) block_part cell_part group_part table_part
 
+-- a cell's span, and the tables in it at all depths, in the order in which they begin
 abbrev pub part_of_cell : CellNode → CellPart
 part_of_cell = fold-CellNode (List NumberedShape) CellPart GroupPart (List NumberedShape) block_part cell_part group_part table_part
 
+-- a group's rows as the grid sees them, and the tables in it at all depths, in the order in which they begin
 abbrev pub part_of_group : GroupNode → GroupPart
 part_of_group = fold-GroupNode (List NumberedShape) CellPart GroupPart (List NumberedShape) block_part cell_part group_part table_part
 
+-- a table and those in it at all depths, in the order in which they begin
 abbrev pub tables_of : TableNode → List NumberedShape
 tables_of = fold-TableNode (List NumberedShape) CellPart GroupPart (List NumberedShape) block_part cell_part group_part table_part
 

@@ -16,12 +16,14 @@ AreSameContent same (open_content.Para one) (open_content.Table other) = ⊥
 AreSameContent same (open_content.Table one) (open_content.Para other) = ⊥
 AreSameContent same (open_content.Table one) (open_content.Table other) = same one.value other.value
 
+-- two cells are the same, where `same` says so of nested tables
 pub record AreSameCell (same : Table → Table → Type 0) (one other : OpenCell) : Type 0 where
   pub kind : one.kind ≡ other.kind
   pub place : one.place ≡ other.place
   pub least : one.least ≡ other.least
   pub blocks : AllZip (λ block content. AreSameContent same (out-Content block) (out-Content content)) one.blocks other.blocks
 
+-- two tables are the same, where `same` says so of the tables nested in their cells
 pub record AreSameBy (same : Table → Table → Type 0) (one other : OpenTable) : Type 0 where
   pub number : one.number ≡ other.number
   pub cols : one.cols ≡ other.cols

@@ -33,9 +33,11 @@ table_count table = sum_by (λ cell. cell) table.cells
 abbrev pub table_size : Table → ℕ
 table_size = fold-Table ℕ ℕ ℕ content_count table_count cell_count
 
+-- 1 for the cell, the bytes and breaks of its paragraphs, and the sizes of the tables nested in it
 abbrev pub cell_size : TableCell → ℕ
 cell_size = fold-TableCell ℕ ℕ ℕ content_count table_count cell_count
 
+-- the bytes and breaks of a block that is a paragraph, the size of one that is a nested table
 abbrev pub content_size : Content → ℕ
 content_size = fold-Content ℕ ℕ ℕ content_count table_count cell_count
 
@@ -46,42 +48,50 @@ abbrev pub content_tables : open_content.Content-F ℕ ℕ ℕ → ℕ
 content_tables (open_content.Para paragraph) = 0
 content_tables (open_content.Table box) = 1 + box.value
 
+-- a cell counts the tables of its blocks
 abbrev pub cell_tables : open_content.TableCell-F ℕ ℕ ℕ → ℕ
 cell_tables cell = sum_by (λ block. block) cell.blocks
 
+-- a table counts the tables of its cells
 abbrev pub table_tables : open_content.Table-F ℕ ℕ ℕ → ℕ
 table_tables table = sum_by (λ cell. cell) table.cells
 
--- the number of tables inside a table, a cell and a block, at all depths; a block that is a table is one of them
+-- the number of tables inside a table, at all depths
 abbrev pub nested_in_table : Table → ℕ
 nested_in_table = fold-Table ℕ ℕ ℕ content_tables table_tables cell_tables
 
+-- the number of tables inside a cell, at all depths
 abbrev pub nested_in_cell : TableCell → ℕ
 nested_in_cell = fold-TableCell ℕ ℕ ℕ content_tables table_tables cell_tables
 
+-- the number of tables in a block, at all depths; a block that is a table is one of them
 abbrev pub nested_in_content : Content → ℕ
 nested_in_content = fold-Content ℕ ℕ ℕ content_tables table_tables cell_tables
 
 -- ---- the numbers of the tables that a table has inside, by a fold over it
 
--- a nested table has its own number and those of the tables inside it
+-- a block has the numbers of the table that it is; a paragraph has none
 abbrev pub content_numbers : open_content.Content-F (List ℕ) (List ℕ) (List ℕ) → List ℕ
 content_numbers (open_content.Para paragraph) = []
 content_numbers (open_content.Table box) = box.value
 
+-- a cell has the numbers of its blocks
 abbrev pub cell_numbers : open_content.TableCell-F (List ℕ) (List ℕ) (List ℕ) → List ℕ
 cell_numbers cell = flat_map (λ block. block) cell.blocks
 
+-- a table has its own number and those of its cells
 abbrev pub table_numbers : open_content.Table-F (List ℕ) (List ℕ) (List ℕ) → List ℕ
 table_numbers table = table.number ∷ flat_map (λ cell. cell) table.cells
 
--- the number of a table and of those inside it, and of those inside a cell and a block, at all depths
+-- the number of a table and those of the tables inside it, at all depths
 abbrev pub numbers_of_table : Table → List ℕ
 numbers_of_table = fold-Table (List ℕ) (List ℕ) (List ℕ) content_numbers table_numbers cell_numbers
 
+-- the numbers of the tables inside a cell, at all depths
 abbrev pub numbers_in_cell : TableCell → List ℕ
 numbers_in_cell = fold-TableCell (List ℕ) (List ℕ) (List ℕ) content_numbers table_numbers cell_numbers
 
+-- the numbers of the tables in a block, at all depths; a block that is a table is one of them
 abbrev pub numbers_in_content : Content → List ℕ
 numbers_in_content = fold-Content (List ℕ) (List ℕ) (List ℕ) content_numbers table_numbers cell_numbers
 

@@ -34,12 +34,12 @@ pub record AreSoundPremises (table : Table) (style : Style) (page : ℕ) (inner 
   pub each : AllByRecursion (λ nested. IsSomeAnd (steps_for inner (out-Table nested).number) (AreSoundSteps style page nested))
       (inner_tables (out-Table table))
 
--- its problem is sound
+-- a sound table that fits the page has a sound problem, where the steps of its nested tables leave it sound
 abbrev pub SoundProblemsAlone : Type 0
 SoundProblemsAlone = (table : Table) (style : Style) (page : ℕ) (inner : List InnerSteps) → AreSoundPremises table style page inner →
     HasSoundProblem table style page inner
 
--- and no placement of it needs more than two lines for all that the table holds
+-- no placement of such a problem needs more than two lines for all that the table holds
 abbrev pub PlacementsAreLow : Type 0
 PlacementsAreLow = (table : Table) (style : Style) (page : ℕ) (inner : List InnerSteps) (problem : ProblemModel) (placed : Placed) →
     AreSoundPremises table style page inner → IsProblemOf table style page inner problem → IsPlacement problem placed →

@@ -113,6 +113,7 @@ IsShown document budget certificate (Lowest height) =
 IsShown document budget certificate (Bounded height lower) =
     AreWhole document budget certificate.sections × EndsWith (Bounded height lower) certificate.sections
 
+-- the certificate is valid for the document and for a budget: its claim is for them, and is shown
 pub record IsValidFor (document : Document) (budget : ℕ) (certificate : Certificate) : Type 0 where
   pub claim : IsClaimFor document budget certificate
   pub shown : IsShown document budget certificate certificate.claim

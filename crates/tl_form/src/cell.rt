@@ -33,7 +33,8 @@ pub struct TableCell {
     pub kind: Kind,
     /// The columns and rows that it covers.
     pub place: Place,
-    /// Its floor: how many columns of the page its room has at least, up to 500.
+    /// Its floor: how many columns of the page its room has at least, up to
+    /// [`tl_base::MAX_PAGE_WIDTH`].
     pub least: u32,
     /// Its blocks, from top to bottom.
     pub blocks: List<Content>,

@@ -7,7 +7,8 @@ pub fn formed_has_few_cells()
     ensures { FormedHasFewCells }
 {}
 
-/// Then the chains of a sound table are within the ranges of a certificate's text.
+/// The chains of a sound table that has, at all depths, no more cells than a grid may have and a
+/// caption are within the ranges of a certificate's text.
 pub fn chains_are_writable()
     ensures { ChainsAreWritable }
 {}

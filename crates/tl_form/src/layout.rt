@@ -2,8 +2,8 @@
 
 use tl_base::List;
 
-/// The sizes of a table's columns, in columns of the page, and of its rows, in lines; and the same of
-/// the tables nested in it.
+/// The widths of a table's columns, in columns of the page, the heights of its rows, in lines, and the
+/// layouts of the tables nested in it.
 #[derive(Debug, Drop)]
 pub struct Layout {
     /// The widths of the columns, from left to right.

@@ -94,7 +94,7 @@ fn steps_of(
 const NESTED: &str =
     "<table><tr><td><table><tr><td>aaa bbb</td><td>cc dd ee</td></tr></table></table>";
 
-/// Its sections on 12 columns and on 9, and one of the table around it.
+/// Sections of the table inside `NESTED` on 12 columns and on 9, and one of the table around it.
 fn sections(alloc: Global) -> Result<List<Section>, AllocError> {
     let mut list = List::new(alloc);
     list.push(section(alloc, 1, 12, 2, 2, &[3, 5])?)?;
@@ -107,8 +107,8 @@ fn sections(alloc: Global) -> Result<List<Section>, AllocError> {
 fn sections_tell_the_heights_of_a_nested_table(rt: HostRuntime) -> Result<(), Fail> {
     let alloc = rt.alloc();
     let list = sections(alloc)?;
-    let told = steps_of(alloc, NESTED, 12, list.as_slice())?;
-    assert_eq!(rt; told.as_str(), "1 low 7:3 10:2 high 7:3 10:2;");
+    let found = steps_of(alloc, NESTED, 12, list.as_slice())?;
+    assert_eq!(rt; found.as_str(), "1 low 7:3 10:2 high 7:3 10:2;");
     Ok(())
 }
 
@@ -116,8 +116,8 @@ fn sections_tell_the_heights_of_a_nested_table(rt: HostRuntime) -> Result<(), Fa
 fn no_step_begins_past_the_page(rt: HostRuntime) -> Result<(), Fail> {
     let alloc = rt.alloc();
     let list = sections(alloc)?;
-    let told = steps_of(alloc, NESTED, 9, list.as_slice())?;
-    assert_eq!(rt; told.as_str(), "1 low 7:3 high 7:3;");
+    let found = steps_of(alloc, NESTED, 9, list.as_slice())?;
+    assert_eq!(rt; found.as_str(), "1 low 7:3 high 7:3;");
     Ok(())
 }
 
@@ -126,8 +126,8 @@ fn without_a_placement_at_the_least_width_there_are_no_steps(rt: HostRuntime) ->
     let alloc = rt.alloc();
     let mut list = List::new(alloc);
     list.push(section(alloc, 1, 12, 2, 2, &[3, 5])?)?;
-    let told = steps_of(alloc, NESTED, 12, list.as_slice())?;
-    assert_eq!(rt; told.as_str(), "none");
+    let found = steps_of(alloc, NESTED, 12, list.as_slice())?;
+    assert_eq!(rt; found.as_str(), "none");
     Ok(())
 }
 
@@ -136,8 +136,8 @@ fn a_height_found_is_no_lower_bound(rt: HostRuntime) -> Result<(), Fail> {
     let alloc = rt.alloc();
     let mut list = List::new(alloc);
     list.push(section(alloc, 1, 12, 3, 2, &[3, 2])?)?;
-    let told = steps_of(alloc, NESTED, 12, list.as_slice())?;
-    assert_eq!(rt; told.as_str(), "1 low 7:2 high 7:3;");
+    let found = steps_of(alloc, NESTED, 12, list.as_slice())?;
+    assert_eq!(rt; found.as_str(), "1 low 7:2 high 7:3;");
     Ok(())
 }
 
@@ -146,24 +146,24 @@ fn a_lower_bound_above_a_height_leaves_no_sound_problem(rt: HostRuntime) -> Resu
     let alloc = rt.alloc();
     let mut list = List::new(alloc);
     list.push(section(alloc, 1, 12, 3, 4, &[3, 2])?)?;
-    let told = steps_of(alloc, NESTED, 12, list.as_slice())?;
-    assert_eq!(rt; told.as_str(), "none");
+    let found = steps_of(alloc, NESTED, 12, list.as_slice())?;
+    assert_eq!(rt; found.as_str(), "none");
     Ok(())
 }
 
 #[test]
-fn sections_of_other_tables_tell_nothing(rt: HostRuntime) -> Result<(), Fail> {
+fn sections_of_other_tables_change_nothing(rt: HostRuntime) -> Result<(), Fail> {
     let alloc = rt.alloc();
     let mut list = sections(alloc)?;
     list.push(section(alloc, 2, 12, 1, 1, &[7])?)?;
-    let told = steps_of(alloc, NESTED, 12, list.as_slice())?;
-    assert_eq!(rt; told.as_str(), "1 low 7:3 10:2 high 7:3 10:2;");
+    let found = steps_of(alloc, NESTED, 12, list.as_slice())?;
+    assert_eq!(rt; found.as_str(), "1 low 7:3 10:2 high 7:3 10:2;");
     Ok(())
 }
 
 #[test]
 fn a_table_without_nested_ones_needs_no_section(rt: HostRuntime) -> Result<(), Fail> {
-    let told = steps_of(rt.alloc(), "<table><tr><td>a</table>", 5, &[])?;
-    assert_eq!(rt; told.as_str(), "");
+    let found = steps_of(rt.alloc(), "<table><tr><td>a</table>", 5, &[])?;
+    assert_eq!(rt; found.as_str(), "");
     Ok(())
 }

@@ -32,12 +32,14 @@ pub fn true_where_bounds_meet()
     ensures { TrueWhereBoundsMeet }
 {}
 
-/// The problem of a sound table that fits the page is sound, where the steps of its nested tables are.
+/// The problem of a sound table that fits the page is sound, where the steps of its nested tables are
+/// sound.
 pub fn sound_problems_alone()
     ensures { SoundProblemsAlone }
 {}
 
-/// Then no placement of it needs more than two lines for all that the table holds.
+/// No placement of the problem of a sound table that fits the page needs more than two lines for all
+/// that the table holds, where the steps of its nested tables are sound.
 pub fn placements_are_low()
     ensures { PlacementsAreLow }
 {}
@@ -52,12 +54,12 @@ pub fn least_heights_exist()
     ensures { LeastHeightsExist }
 {}
 
-/// And it has a true problem there.
+/// A sound table that fits a page has a true problem there.
 pub fn true_problems_exist()
     ensures { TrueProblemsExist }
 {}
 
-/// And there is a greatest count of it and of all tables nested in it.
+/// For a sound table that fits a page there is a greatest count of it and of all tables nested in it.
 pub fn counts_exist()
     ensures { CountsExist }
 {}

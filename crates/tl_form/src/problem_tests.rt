@@ -77,21 +77,25 @@ fn number(text: &str) -> Result<u32, Fail> {
     Ok(text.parse::<u32>().ok().ok_or("no number")?)
 }
 
-/// The steps that are written so: `7:3 10:2`. A text without any is no step function.
+/// The steps that are written so: `7:3 10:2`. An empty text has none; any other that is no step
+/// function fails the test.
 fn steps(alloc: Global, text: &str) -> Result<Option<Steps>, Fail> {
-    let mut list = List::new(alloc);
     if text.is_empty() {
         return Ok(None);
     }
+    let mut list = List::new(alloc);
     for step in text.split(' ') {
         let (width, height) = step.split_once(':').ok_or("no pair")?;
         let (width, height) = (number(width)?, number(height)?);
         list.push(Config { width, height })?;
     }
-    Ok(Steps::new(list))
+    match Steps::new(list) {
+        Some(steps) => Ok(Some(steps)),
+        None => Err("no step function".into()),
+    }
 }
 
-/// The steps of the table with this number, where both texts are steps.
+/// The steps of the table with this number, unless a text is empty.
 fn push_bounds(
     alloc: Global,
     inner: &mut Vec<InnerSteps>,
@@ -219,9 +223,7 @@ fn a_nested_table_needs_what_its_steps_say(rt: HostRuntime) -> Result<(), Fail> 
 }
 
 #[test]
-fn bounds_that_cross_or_begin_apart_or_are_not_there_are_unsound(
-    rt: HostRuntime,
-) -> Result<(), Fail> {
+fn crossing_unequal_or_missing_bounds_make_no_sound_problem(rt: HostRuntime) -> Result<(), Fail> {
     let whole = "7:3 10:2 17:1";
     let found = around(rt.alloc(), 12, "7:3", "7:2")?;
     assert_eq!(rt; found.as_str(), "unsound");

@@ -70,7 +70,7 @@ fn is_low_by(cell: &TableCell, page: u32, inner: &[InnerSteps], bound: Bound) ->
     start <= page && is_low(cell, start, inner, bound)
 }
 
-/// Whether the cell is so by both bounds.
+/// Whether the cell has a height by both bounds on a page of `page` columns, and none above the limit.
 fn is_low_cell(cell: &TableCell, page: u32, inner: &[InnerSteps]) -> bool
     requires { HaveSteps inner.now (tables_in (out-TableCell cell.now)) }
     ensures { IsTrue result ↔ IsLowByBoth inner.now page (out-TableCell cell.now) }
@@ -78,7 +78,8 @@ fn is_low_cell(cell: &TableCell, page: u32, inner: &[InnerSteps]) -> bool
     is_low_by(cell, page, inner, Bound::Low) && is_low_by(cell, page, inner, Bound::High)
 }
 
-/// Whether each cell is so.
+/// Whether each cell has a height by both bounds on a page of `page` columns, and none above the
+/// limit.
 fn are_low_cells(table: &Table, page: u32, inner: &[InnerSteps]) -> bool
     requires { HaveSteps inner.now (inner_tables (out-Table table.now)) }
     ensures { IsTrue result ↔ AreLowCells inner.now page (out-Table table.now).cells }

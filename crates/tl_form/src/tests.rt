@@ -10,6 +10,7 @@ use std::alloc::{AllocError, Global};
 use std::process::Abort;
 use std::test::Fail;
 use tl_base::{Breaking, List, MAX_FILE_BYTES, Style};
+use tl_grid::GridError;
 use tl_problem::{Chain, Entry};
 use tl_text::{Atom, Para};
 use tl_token::tokens;
@@ -272,26 +273,25 @@ fn compare(
     alloc: Global,
     table: &str,
     breaking: Breaking,
-) -> Result<(), AllocError> {
-    for line in table.lines() {
-        if let Some((input, wanted)) = line.split_once(" => ") {
-            let file = input.replace(alloc, "OVER", OVERLAP)?;
-            assert_eq!(rt; shown(alloc, file.as_str(), breaking)?.as_str(), wanted);
-        }
+) -> Result<(), Fail> {
+    let cases = table.strip_prefix('\n').ok_or("a case on the first line")?;
+    for line in cases.lines() {
+        let (input, wanted) = line.split_once(" => ").ok_or("a line without an arrow")?;
+        let file = input.replace(alloc, "OVER", OVERLAP)?;
+        let found = shown(alloc, file.as_str(), breaking)?;
+        assert_eq!(rt; found.as_str(), wanted, "{input}");
     }
     Ok(())
 }
 
 #[test]
 fn cells_lie_at_their_places_by_row_and_column(rt: HostRuntime) -> Result<(), Fail> {
-    compare(&rt, rt.alloc(), TABLES, Breaking::Words)?;
-    Ok(())
+    compare(&rt, rt.alloc(), TABLES, Breaking::Words)
 }
 
 #[test]
 fn the_first_table_without_a_grid_is_named(rt: HostRuntime) -> Result<(), Fail> {
-    compare(&rt, rt.alloc(), REFUSALS, Breaking::Words)?;
-    Ok(())
+    compare(&rt, rt.alloc(), REFUSALS, Breaking::Words)
 }
 
 #[test]
@@ -331,10 +331,11 @@ fn words_are_separated_into_units_at_all_depths(rt: HostRuntime) -> Result<(), F
 #[test]
 fn least_widths_and_heaviest_chains_are_those_counted_by_hand(rt: HostRuntime) -> Result<(), Fail> {
     let alloc = rt.alloc();
-    for line in NARROWEST.lines() {
-        if let Some((file, wanted)) = line.split_once(" => ") {
-            assert_eq!(&rt; narrowest(alloc, file, Style::Plain)?.as_str(), wanted);
-        }
+    let cases = NARROWEST.strip_prefix('\n').ok_or("a case on the first line")?;
+    for line in cases.lines() {
+        let (file, wanted) = line.split_once(" => ").ok_or("a line without an arrow")?;
+        let found = narrowest(alloc, file, Style::Plain)?;
+        assert_eq!(&rt; found.as_str(), wanted, "{file}");
     }
     Ok(())
 }
@@ -429,7 +430,7 @@ fn a_nested_table_may_have_2000_rows_below_its_caption(rt: HostRuntime) -> Resul
 }
 
 #[test]
-fn two_thousand_rows_of_ten_cells(rt: HostRuntime) -> Result<(), Fail> {
+fn two_thousand_rows_of_ten_cells_have_a_least_width(rt: HostRuntime) -> Result<(), Fail> {
     let alloc = rt.alloc();
     let cells = repeated(alloc, "<td>aa b", 10)?;
     let row = format!(in alloc; "<tr>{cells}")?;
@@ -443,7 +444,7 @@ fn two_thousand_rows_of_ten_cells(rt: HostRuntime) -> Result<(), Fail> {
 }
 
 #[test]
-fn sixty_columns_of_333_rows(rt: HostRuntime) -> Result<(), Fail> {
+fn sixty_columns_of_333_rows_have_a_least_width(rt: HostRuntime) -> Result<(), Fail> {
     let alloc = rt.alloc();
     let cells = repeated(alloc, "<td>aa b", 60)?;
     let row = format!(in alloc; "<tr>{cells}")?;
@@ -457,10 +458,15 @@ fn sixty_columns_of_333_rows(rt: HostRuntime) -> Result<(), Fail> {
 }
 
 #[test]
-fn errors_say_which_table(rt: HostRuntime) -> Result<(), Fail> {
+fn each_error_has_its_message(rt: HostRuntime) -> Result<(), Fail> {
     let alloc = rt.alloc();
     let error = FormError::Memory(AllocError);
     assert_eq!(&rt; format!(in alloc; "{error}")?.as_str(), "out of memory");
+    let error = FormError::Grid(3, GridError::TooManyRows(2001));
+    assert_eq!(&rt;
+        format!(in alloc; "{error}")?.as_str(),
+        "table 3: 2001 rows in a table"
+    );
     Ok(())
 }
 

@@ -36,12 +36,12 @@ pub record IsSearched (given : ProblemModel → Outcome → Type 0) (document : 
   pub gives : given good.problem outcome
   pub same : IsSectionOf outcome section
 
--- each section is so on those before it
+-- each section is good on those before it, and that of an outcome which `given` says was given for its own problem
 abbrev pub EachIsSearched : (ProblemModel → Outcome → Type 0) → Document → ℕ → List Section → Type 0
 EachIsSearched given document budget sections = (i : ℕ) (d : Section) → i < length sections →
     IsSearched given document budget (take i sections) (get_or sections i d)
 
--- the sections are all that are due for the table on a page, and each is so
+-- the sections are all that are due for the table on a page, each good and that of an outcome which `given` says was given
 pub record AreSectionsOf (given : ProblemModel → Outcome → Type 0) (table : Table) (style : Style) (page budget : ℕ)
     (sections : List Section) : Type 0 where
   pub document : Document

@@ -39,7 +39,7 @@ module _ {F : Type 0} (g : Shared F (Bor ProblemModel × (ℕ × Unit {0})) (Res
   abbrev pub SearchesEach : ℕ → Type 0
   SearchesEach budget = (p : Bor ProblemModel) → IsSound p.now → g.pre f (p, (budget, tt))
 
-  -- and each outcome that it then gives is a search of that problem
+  -- each outcome that a call of `f` gives, with a sound problem and this budget, is a search of that problem
   abbrev pub SolvesEach : ℕ → Type 0
   SolvesEach budget = (p : Bor ProblemModel) (outcome : Outcome) → IsSound p.now →
       g.post f (p, (budget, tt)) (Ok outcome) → IsSolved p.now budget outcome

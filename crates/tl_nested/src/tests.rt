@@ -16,9 +16,9 @@ use tl_token::tokens;
 use tl_tree::tree;
 
 /// Makes plain searches.
-struct Plainly {}
+struct MakePlain {}
 
-impl Make for Plainly {
+impl Make for MakePlain {
     ghost besides = { λ _ problem _ outcome. IsPlainOutcome problem outcome };
 
     type Made = Plain;
@@ -63,7 +63,7 @@ fn sections_of(alloc: Global, file: &str, width: u32, budget: u32) -> Result<Str
     if width < least {
         return Err("no layout fits the page".into());
     }
-    let found = sections(alloc, &table, Style::Plain, width, budget, &Plainly {})?;
+    let found = sections(alloc, &table, Style::Plain, width, budget, &MakePlain {})?;
     let mut line = String::new(alloc);
     for section in found.as_slice() {
         push_section(alloc, &mut line, section)?;
@@ -74,7 +74,7 @@ fn sections_of(alloc: Global, file: &str, width: u32, budget: u32) -> Result<Str
 /// A table of two columns: it takes 10 columns and 2 lines, or 7 and 3.
 const PAIR: &str = "<table><tr><td>aaa bbb</td><td>cc dd ee</td></tr></table>";
 
-/// The same in a cell of its own.
+/// `PAIR` in a cell of its own.
 const NESTED: &str =
     "<table><tr><td><table><tr><td>aaa bbb</td><td>cc dd ee</td></tr></table></table>";
 
@@ -102,7 +102,7 @@ fn a_nested_table_has_a_section_for_each_narrower_placement(rt: HostRuntime) -> 
 }
 
 #[test]
-fn on_a_narrow_page_a_nested_table_has_fewer(rt: HostRuntime) -> Result<(), Fail> {
+fn on_a_narrow_page_a_nested_table_has_fewer_sections(rt: HostRuntime) -> Result<(), Fail> {
     let alloc = rt.alloc();
     let found = sections_of(alloc, NESTED, 9, 100)?;
     assert_eq!(rt; found.as_str(), "1 9 3 3: 3 2;0 9 3 3: 7;");
@@ -110,7 +110,7 @@ fn on_a_narrow_page_a_nested_table_has_fewer(rt: HostRuntime) -> Result<(), Fail
 }
 
 #[test]
-fn at_the_least_width_each_table_has_one(rt: HostRuntime) -> Result<(), Fail> {
+fn at_the_least_width_each_table_has_one_section(rt: HostRuntime) -> Result<(), Fail> {
     let alloc = rt.alloc();
     let found = sections_of(alloc, NESTED, 7, 100)?;
     assert_eq!(rt; found.as_str(), "1 7 3 3: 3 2;0 7 3 3: 7;");

@@ -15,13 +15,14 @@ use Rattle.tl_form.proofs.OneProblem.{one_inner}
 use Rattle.tl_form.proofs.ProblemTruth.{same-problem}
 use Rattle.tl_verify.specs.inner.Sections.{IsProblemFor}
 
--- what the section's widths are made, once tight, is its placement
+-- what the section's widths are made, once tight, is the section's placement
 pub same_placed : (problem : ProblemModel) (section : Section) (widths : List ℕ) (tight placed : Placed) → widths ≡ section.widths →
     IsTightFrom problem widths tight → HasPlacement section problem placed → tight ≡ placed
 same_placed problem section widths tight placed wide made has =
     tight-unique problem placed.widths tight placed (subst (λ ws. IsTightFrom problem ws tight) (wide ∙ sym has.wide) made) has.tight
 
--- and is the section's, where it has its widths and its height
+-- what the section's widths are made, once tight, is the section's placement, where it has those widths and the section's
+-- height
 pub is_placed : (problem : ProblemModel) (section : Section) (widths : List ℕ) (tight : Placed) → IsTightFrom problem widths tight →
     tight.widths ≡ section.widths → tight.height ≡ section.height → HasPlacement section problem tight
 is_placed problem section widths tight made wide high = record { wide = wide; high = high; tight = tight-is_tight problem widths tight made }

@@ -20,7 +20,7 @@ use tl_tree::tree;
 /// Two columns, of `aaa bbb` and of `cc dd ee`.
 const TWO_COLUMNS: &str = "<table><tr><td>aaa bbb<td>cc dd ee</table>";
 
-/// The same table nested in a table of one cell.
+/// `TWO_COLUMNS` nested in a table of one cell.
 const NESTED: &str = "<table><tr><td><table><tr><td>aaa bbb<td>cc dd ee</table></table>";
 
 /// Two words that need 12 columns.
@@ -129,7 +129,7 @@ tablelayout 1 12 plain 6;bounded 3 2;section 0 12 3 2 0 1;widths 3 2;z0 chain;en
 tablelayout 1 12 plain 6;narrow 13;chain 0 0 1;end; => claim
 ";
 
-/// The same with no cut allowed.
+/// Certificates of the two columns at 12 columns with a budget of 0, and what is found of each.
 const NO_CUT: &str = "
 tablelayout 1 12 plain 0;bounded 3 2;section 0 12 3 2 0 1;widths 3 2;z0 chain;end; => bounded [3 2 / 3]
 tablelayout 1 12 plain 0;lowest 3;section 0 12 3 2 0 1;widths 3 2;z0 chain;end; => claim
@@ -217,12 +217,12 @@ fn compare(
     requires narrow { width ≤ MAX_PAGE_WIDTH }
     requires cuts { budget ≤ MAX_BUDGET }
 {
-    for line in lines.lines() {
-        if let Some((input, wanted)) = line.split_once(" => ") {
-            let text = spelt(alloc, input)?;
-            let found = judged(alloc, file, width, budget, text.as_str())?;
-            assert_eq!(rt; found.as_str(), wanted, "{input}");
-        }
+    let cases = lines.strip_prefix('\n').ok_or("a case on the first line")?;
+    for line in cases.lines() {
+        let (input, wanted) = line.split_once(" => ").ok_or("a line without an arrow")?;
+        let text = spelt(alloc, input)?;
+        let found = judged(alloc, file, width, budget, text.as_str())?;
+        assert_eq!(rt; found.as_str(), wanted, "{input}");
     }
     Ok(())
 }

@@ -44,11 +44,11 @@ pub record IsLowCell (needs : Table → ℕ → ℕ → Type 0) (page : ℕ) (ce
   pub some : (h : ℕ) × CellNeeds needs cell page h
   pub low : (start h : ℕ) → IsStart (CellNeeds needs cell) start → CellNeeds needs cell start h → h ≤ MAX_HEIGHT
 
--- it is so by both bounds
+-- by both bounds the cell has a height on a page of so many columns, and none above the limit
 pub record IsLowByBoth (inner : List InnerSteps) (page : ℕ) (cell : OpenCell) : Type 0 where
   pub by_low : IsLowCell (NeedsBy Low inner) page cell
   pub by_high : IsLowCell (NeedsBy High inner) page cell
 
--- each cell is so
+-- by both bounds each cell has a height on a page of so many columns, and none above the limit
 abbrev pub AreLowCells : List InnerSteps → ℕ → List TableCell → Type 0
 AreLowCells inner page cells = AllByRecursion (λ cell. IsLowByBoth inner page (out-TableCell cell)) cells

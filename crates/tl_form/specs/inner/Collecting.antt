@@ -17,20 +17,22 @@ use Rattle.tl_form.specs.Problems.{AreStepsOf}
 
 -- ---- the best of some items
 
--- the greatest measure of the items that count, and the least
+-- the greatest measure of the items that count
 pub record IsMost {X : Type 0} (Counts : X → Type 0) (measure : X → ℕ) (xs : List X) (most : ℕ) : Type 0 where
   pub attained : Any (λ x. Counts x × (measure x ≡ most)) xs
   pub never_more : All (λ x. Counts x → measure x ≤ most) xs
 
+-- the least measure of the items that count
 pub record IsFewest {X : Type 0} (Counts : X → Type 0) (measure : X → ℕ) (xs : List X) (fewest : ℕ) : Type 0 where
   pub attained : Any (λ x. Counts x × (measure x ≡ fewest)) xs
   pub never_less : All (λ x. Counts x → fewest ≤ measure x) xs
 
--- the greater and the lesser of a number that may be known and another
+-- the greater of a number that may be known and another
 abbrev pub greater : Option ℕ → ℕ → ℕ
 greater None n = n
 greater (Some known) n = max known n
 
+-- the lesser of a number that may be known and another
 abbrev pub lesser : Option ℕ → ℕ → ℕ
 lesser None n = n
 lesser (Some known) n = min known n
@@ -54,10 +56,11 @@ told_of style section = record {
 abbrev pub told_by : Style → ℕ → List Section → List Told
 told_by style number sections = map (told_of style) (filter (λ section. section.table == number) sections)
 
--- on a page of at least `w` columns, and with a placement of at most `w`
+-- what is told is of a page of at least `w` columns
 abbrev pub IsAsWideAs : ℕ → Told → Type 0
 IsAsWideAs w one = w ≤ one.width
 
+-- what is told is of a placement of at most `w` columns
 abbrev pub IsPlacedIn : ℕ → Told → Type 0
 IsPlacedIn w one = one.placed ≤ w
 

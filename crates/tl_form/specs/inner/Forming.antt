@@ -18,24 +18,28 @@ use Rattle.tl_form.specs.Formed.{OpenNode, Becomes, BecomeCells, shape_of}
 use Rattle.tl_form.specs.Refused.{NumberedShape, tables_in_block, part_of_cell, part_of_group}
 use Rattle.tl_form.specs.Sound.{place_of}
 
--- the entries of a flow and of a row's cells
+-- the entries of a flow
 abbrev pub flow_outline : List Block → Entries
 flow_outline flow = flat_map block_outline flow
 
+-- the entries of a row's cells
 abbrev pub cells_outline : List CellNode → Entries
 cells_outline row = flat_map cell_outline row
 
--- the tables in a flow, in a caption, in cells and in groups, at all depths, in the order in which they begin
+-- the tables in a flow, at all depths, in the order in which they begin
 abbrev pub tables_in_flow : List Block → List NumberedShape
 tables_in_flow flow = flat_map tables_in_block flow
 
+-- the tables in a caption, at all depths, in the order in which they begin; no caption has none
 abbrev pub tables_in_caption : Option (List Block) → List NumberedShape
 tables_in_caption None = []
 tables_in_caption (Some flow) = tables_in_flow flow
 
+-- the tables in cells, at all depths, in the order in which they begin
 abbrev pub tables_in_cells : List CellNode → List NumberedShape
 tables_in_cells cells = flat_map (λ cell. (part_of_cell cell).inner) cells
 
+-- the tables in groups, at all depths, in the order in which they begin
 abbrev pub tables_in_groups : List GroupNode → List NumberedShape
 tables_in_groups groups = flat_map (λ group. (part_of_group group).inner) groups
 

@@ -41,10 +41,11 @@ pub record IsDemandOf (style : Style) (cell : OpenCell) (demand : Demand) : Type
 abbrev pub AreDemandsOf : Style → List TableCell → List Demand → Type 0
 AreDemandsOf style cells demands = AllZip (λ cell demand. IsDemandOf style (out-TableCell cell) demand) cells demands
 
--- the tables that a block is, or that are in a cell, are sound
+-- a block that is a table is sound
 abbrev pub IsSoundBlock : OpenContent → Type 0
 IsSoundBlock block = AllByRecursion IsSound (tables_of block)
 
+-- a cell's floor is no wider than the widest page, and the tables nested in it are sound
 pub record IsSoundCell (cell : OpenCell) : Type 0 where
   pub narrow : cell.least ≤ MAX_PAGE_WIDTH
   pub inner : AllByRecursion IsSound (tables_in cell)

@@ -1,5 +1,4 @@
--- Why a cell is as wide as it is: its own width, or the chain of a table nested in it. No public clause cites this
--- file.
+-- Why a cell is as wide as it is: its own width, or the chain of a table nested in it. No public clause cites this file.
 use Rattle.std.specs.Prelude.{◌≡◌, ℕ, Some, Contains}
 use Rattle.std.specs.List.{AllByRecursion}
 use Rattle.tl_base.specs.declared.style.Style.{Style}

@@ -27,6 +27,7 @@ pub record IsPart (document : Document) (budget : ℕ) (style : Style) (sections
   pub small : (i : ℕ) (d : Section) → i < length sections → IsSmall (get_or sections i d)
   pub among : IsAmong document.table table
 
+-- the table is one of a document whose sections are all good, for some budget
 abbrev pub HasPart : Style → List Section → Table → Type 0
 HasPart style sections table = (document : Document) × (budget : ℕ) × IsPart document budget style sections table
 
@@ -64,7 +65,7 @@ pub record CanLay (style : Style) (sections : List Section) (w : ℕ) (nested : 
   pub there : at < length sections
   pub within : (d : Section) → IsWithin style (out-Table nested).number w (get_or sections at d)
 
--- and is laid out so
+-- a nested table is laid out in a room of `w` columns, by the section that is chosen for it there
 pub record IsLaidIn (style : Style) (sections : List Section) (w : ℕ) (nested : Table) (layout : Layout) : Type 0 where
   pub at : ℕ
   pub chosen : IsChosen style sections (out-Table nested).number w at

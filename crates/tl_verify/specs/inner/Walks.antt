@@ -26,7 +26,7 @@ pub record IsWalk (style : Style) (table : Table) (chains : List Chain) (at most
   pub chain : IsChain table style own walked.weight
   pub light : walked.weight ≤ most
 
--- none stands there
+-- from place `at` on no chain of the table stands, with those that it rests on, of at most this weight
 abbrev pub HasNoWalk : Style → Table → List Chain → ℕ → ℕ → Type 0
 HasNoWalk style table chains at most = (own rest : List Chain) (weight : ℕ) → drop at chains ≡ own ++ rest →
     IsChain table style own weight → weight ≤ most → ⊥
@@ -36,6 +36,7 @@ abbrev pub IsWalkIn : Style → List Table → ℕ → List Chain → ℕ → �
 IsWalkIn style tables number chains at most walked = (nested : Table) × Contains tables nested × ((out-Table nested).number ≡ number)
     × IsWalk style nested chains at most walked
 
+-- there is no walk of the one of these tables that has this number
 abbrev pub HasNoWalkIn : Style → List Table → ℕ → List Chain → ℕ → ℕ → Type 0
 HasNoWalkIn style tables number chains at most = (nested : Table) → Contains tables nested → (out-Table nested).number ≡ number →
     HasNoWalk style nested chains at most
@@ -50,6 +51,7 @@ pub record IsStep (style : Style) (cell : OpenCell) (inner : Option ℕ) (chains
   pub begins : Begins chains at own walked.past
   pub wide : HasWidth (Weighs style) cell inner (link_of cell walked.weight own)
 
+-- from place `at` on no chains stand that give an entry on the cell its width, up to this one
 abbrev pub HasNoStep : Style → OpenCell → Option ℕ → List Chain → ℕ → ℕ → Type 0
 HasNoStep style cell inner chains at most = (own rest : List Chain) (width : ℕ) → drop at chains ≡ own ++ rest →
     HasWidth (Weighs style) cell inner (link_of cell width own) → width ≤ most → ⊥
@@ -76,6 +78,7 @@ pub record IsRow (style : Style) (table : OpenTable) (entries : List Entry) (cha
   pub inside : row.covered ≤ table.cols
   pub many : length entries ≤ table.cols
 
+-- no links of at most this width in all stand for the entries, with the chains that they rest on at the head of these
 abbrev pub HasNoRow : Style → OpenTable → List Entry → List Chain → ℕ → Type 0
 HasNoRow style table entries chains most = (links : List Link) (rest : List Chain) →
     AreLinked style table entries 0 chains links rest → widths_of links ≤ most → ⊥
