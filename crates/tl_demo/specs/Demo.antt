@@ -82,15 +82,19 @@ word_text length = replicate length 0x61
 abbrev pub words_text : List ℕ → List ℕ
 words_text lengths = join_by word_text (codes " ") lengths
 
+-- the tag of a cell over two columns, or over one
 abbrev pub tag_text : ℕ → List ℕ
 tag_text colspan = if colspan == 2 then codes "<td colspan=2>" else codes "<td>"
 
+-- a cell: its tag and its words
 abbrev pub cell_text : Cell → List ℕ
 cell_text cell = tag_text cell.colspan ++ words_text cell.words
 
+-- a row: its tag and its cells
 abbrev pub row_text : List Cell → List ℕ
 row_text cells = codes "<tr>" ++ flat_map cell_text cells
 
+-- a table of these rows
 abbrev pub rows_text : List (List Cell) → List ℕ
 rows_text rows = codes "<table>" ++ flat_map row_text rows ++ codes "</table>"
 

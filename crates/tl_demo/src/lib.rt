@@ -1,5 +1,6 @@
 //! Makes a large table from a number, as the text of a table file. Its code reads no table and lays
-//! none out; that the text spells one, and how narrow it is, stands in a law.
+//! none out. Its one contract: the bytes are exactly those of the text's definition, which spell a
+//! table, within all limits, that fits a page of 60 columns.
 #![tactic(auto)]
 
 mod draws;

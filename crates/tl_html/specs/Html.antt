@@ -33,6 +33,7 @@ abbrev pub space_before : Bool → Atom → List ℕ
 space_before true (Word text) = 0x20 ∷ []
 space_before _ _ = []
 
+-- a word or a glue stands on a line; a break ends one
 abbrev pub is_unit : Atom → Bool
 is_unit Break = false
 is_unit _ = true
@@ -42,6 +43,7 @@ abbrev pub atoms_html : Bool → List Atom → List ℕ
 atoms_html follows [] = []
 atoms_html follows (atom ∷ atoms) = space_before follows atom ++ atom_html atom ++ atoms_html (is_unit atom) atoms
 
+-- a paragraph with its tags
 abbrev pub paragraph_html : List Atom → List ℕ
 paragraph_html paragraph = codes "<p>" ++ atoms_html false paragraph ++ codes "</p>"
 
@@ -84,6 +86,7 @@ fill (cell ∷ cells) inner =
 abbrev pub attribute : List ℕ → ℕ → ℕ → List ℕ
 attribute name default number = if nat_lt default number then 0x20 ∷ name ++ codes "=\"" ++ decimal number ++ codes "\"" else []
 
+-- the spans of a cell, and the least width that it asks for
 abbrev pub attributes : Filled → List ℕ
 attributes cell =
     attribute (codes "colspan") 1 (cell.place.right - cell.place.left)
@@ -95,6 +98,7 @@ abbrev pub element : Kind → List ℕ
 element kinds.Head = codes "th"
 element _ = codes "td"
 
+-- a cell with its tags
 abbrev pub cell_html : Filled → List ℕ
 cell_html cell =
     0x3C ∷ element cell.kind ++ attributes cell ++ 0x3E ∷ cell.text ++ 0x3C ∷ 0x2F ∷ element cell.kind ++ 0x3E ∷ []
@@ -105,17 +109,20 @@ cell_html cell =
 abbrev pub line : List ℕ → List ℕ
 line text = text ++ 0x0A ∷ []
 
+-- a caption, and no cell of a row
 abbrev pub is_caption_kind : Kind → Bool
 is_caption_kind kinds.Caption = true
 is_caption_kind _ = false
 
+-- a cell that is a caption
 abbrev pub is_caption : Filled → Bool
 is_caption cell = is_caption_kind cell.kind
 
--- the caption's line, where there is one
+-- the line of a cell that is a caption, and nothing for another cell
 abbrev pub caption_line : Filled → List ℕ
 caption_line cell = if is_caption cell then line (codes "<caption>" ++ cell.text ++ codes "</caption>") else []
 
+-- the line of the caption, where the table has one
 abbrev pub caption_html : List Filled → List ℕ
 caption_html cells = flat_map caption_line cells
 
@@ -159,13 +166,15 @@ block_page (open_content.Para paragraph) inner = record { text = paragraph_html 
 block_page (open_content.Table box) [] = record { text = []; rest = [] }
 block_page (open_content.Table box) (layout ∷ inner) = record { text = box.value layout; rest = inner }
 
+-- a cell whose nested tables stand as their flows say
 abbrev pub cell_page : open_content.TableCell-F Block (Layout → List ℕ) Cell → Cell
 cell_page cell = record { kind = cell.kind; place = cell.place; least = cell.least; flow = blocks_html cell.blocks }
 
--- the flow of a block of a table, and a cell with its flow
+-- the flow of a block of a table
 abbrev pub flow_of : Content → Block
 flow_of = fold-Content Block (Layout → List ℕ) Cell block_page table_page cell_page
 
+-- a cell of a table, with its flow
 abbrev pub cell_of : TableCell → Cell
 cell_of = fold-TableCell Block (Layout → List ℕ) Cell block_page table_page cell_page
 
@@ -173,6 +182,6 @@ cell_of = fold-TableCell Block (Layout → List ℕ) Cell block_page table_page 
 abbrev pub html_of : Table → Layout → List ℕ
 html_of = fold-Table Block (Layout → List ℕ) Cell block_page table_page cell_page
 
--- and its bytes
+-- the bytes of the page
 abbrev pub bytes_of : Table → Layout → List ℕ
 bytes_of table layout = encode_utf8_all (html_of table layout)

@@ -44,7 +44,8 @@ fn write_block(
     }
 }
 
-/// Appends the blocks of a cell, as `write_block` appends one.
+/// Appends the blocks of a cell. Of the layouts of nested tables `taken` were taken before them;
+/// returns how many are taken after them.
 #[cycle(html)]
 fn write_blocks(
     alloc: Global,

@@ -1,4 +1,4 @@
--- What follows of every page.
+-- Laws of pages: their height and width, and that they hold all text. Each is the contract of a function of `laws`.
 use Rattle.std.specs.Prelude.{◌≡◌, ℕ, List, length, map}
 use Rattle.std.specs.List.{AllByRecursion}
 use Rattle.tl_base.specs.declared.style.Style.{Style}

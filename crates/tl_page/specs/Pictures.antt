@@ -71,7 +71,7 @@ inside_cell (Some cell) across y =
     then filled cell.columns (slice_get cell.lines (y - cell.first))
     else []
 
--- the same inside an owner's slots; an uncovered slot is blank
+-- what stands on a line inside an owner's slots; an uncovered slot is blank
 abbrev pub inside : List Drawn → Owner → Strip → ℕ → List ℕ
 inside cells Outside across y = spaces across.size
 inside cells (Bare column row) across y = spaces across.size

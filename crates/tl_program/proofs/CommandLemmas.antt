@@ -1,4 +1,4 @@
--- Which command words are: at most one.
+-- Which command arguments are: at most one.
 use Rattle.std.proofs.Common.{◌≡◌, ◌≢◌, ℕ, List, [], ◌∷◌, ◌++◌, get_or, false, Option, Some, None, refl, sym, ap, subst, ◌∙◌, decimal, codes, arith}
 use Rattle.std.specs.Prelude.{IfSome, IfNone, option_to_list}
 use Rattle.std.specs.List.{flat_map}
@@ -20,7 +20,7 @@ name_dashed (choices.Budget budget) = (codes "budget", refl)
 name_dashed (choices.Search solver) = (codes "solver", refl)
 name_dashed choices.Html = (codes "html", refl)
 
--- words that spell options begin so, if there are any
+-- arguments that spell options begin so, if there are any
 options_dashed : (words : List (List ℕ)) (options : Options) → AreOptions words options → IsDashedAtFirst words
 options_dashed words options is = subst IsDashedAtFirst (sym is.spelled) (dashed is.choices) where
   dashed : (all : List Choice) → IsDashedAtFirst (flat_map words_of all)
@@ -37,7 +37,7 @@ name_apart (Some name) None xs ys same plain dashed plain2 dashed2 = absurd (pla
 name_apart (Some name) (Some other) xs ys same plain dashed plain2 dashed2 =
     (ap Some (first_same name other xs ys same), rest_same name other xs ys same)
 
--- what words tell of a command: they are these, and the options follow its names
+-- what arguments tell of a command: they are these, and the options follow its names
 pub record AreParts (words : List (List ℕ)) (width input page : List ℕ) (certificate : Option (List ℕ)) (options : List (List ℕ)) : Type 0 where
   pub spelled : words ≡ codes "lay" ∷ width ∷ input ∷ page ∷ (option_to_list certificate ++ options)
   pub plain : IfSome certificate (λ name. IsDashed name → ⊥)
@@ -55,7 +55,7 @@ parts_of words command is = record {
   none None dashed = dashed
   none (Some name) dashed = tt
 
--- words have at most one list of parts
+-- arguments have at most one list of parts
 pub record AreSameParts (width1 input1 page1 : List ℕ) (certificate1 : Option (List ℕ)) (options1 : List (List ℕ))
     (width2 input2 page2 : List ℕ) (certificate2 : Option (List ℕ)) (options2 : List (List ℕ)) : Type 0 where
   pub width : width1 ≡ width2
@@ -83,7 +83,7 @@ parts_once words width input page certificate options width2 input2 page2 certif
       options = split.1;
     }
 
--- where the parts are no options, or no names, the words ask for no layout
+-- where the parts are no options, or no names, the arguments ask for no layout
 pub no_options : (words : List (List ℕ)) (width input page : List ℕ) (certificate : Option (List ℕ)) (options : List (List ℕ)) →
     AreParts words width input page certificate options → ((given : Options) → AreOptions options given → ⊥) → AskForNoLayout words
 no_options words width input page certificate options parts none = λ command is.
@@ -103,7 +103,7 @@ no_names words width input page certificate options parts none = λ command is.
           subst (λ (name : Option (List ℕ)). AreNames input2 page2 name) certificates
           (subst (λ (name : List ℕ). AreNames input2 name certificate1) pages (subst (λ (name : List ℕ). AreNames name page1 certificate1) inputs are))
 
--- words are at most one command
+-- arguments are at most one command
 pub laying_once : (words : List (List ℕ)) (one other : Laying) → IsLay words one → IsLay words other → one ≡ other
 laying_once words one other first second =
     let same = parts_once words (decimal one.width) one.input one.page one.certificate first.more
@@ -113,7 +113,7 @@ laying_once words one other first second =
     (subst (λ (ws : List (List ℕ)). AreOptions ws one.options) same.options first.options) second.options in
     λ i. record { width = width i; input = same.input i; page = same.page i; certificate = same.certificate i; options = options i }
 
--- words ask for one check at most
+-- arguments ask for one check at most
 pub checking_once : (words : List (List ℕ)) (one other : Checking) → IsCheck words one → IsCheck words other → one ≡ other
 checking_once words one other first second =
     let all = sym first.spelled ∙ second.spelled in
@@ -128,7 +128,7 @@ checking_once words one other first second =
     (subst (λ (ws : List (List ℕ)). AreOptions ws one.options) (rest_same _ _ _ _ names) first.options) second.options in
     λ i. record { width = width i; input = input i; certificate = certificate i; options = options i }
 
--- words whose parts have no options, or options that a check does not take, ask for no check
+-- arguments whose parts have no options, or options that a check does not take, ask for no check
 module _ (words : List (List ℕ)) (width input other : List ℕ) (more : List (List ℕ))
     (spelled : words ≡ codes "check" ∷ width ∷ input ∷ other ∷ more) where
   same_rest : (command : Checking) (is : IsCheck words command) → is.more ≡ more
@@ -143,7 +143,7 @@ module _ (words : List (List ℕ)) (width input other : List ℕ) (more : List (
       (subst (λ (ws : List (List ℕ)). AreOptions ws command.options) (same_rest command is) is.options) are in
       never (sym (ap (λ (o : Options). o.search) same) ∙ is.no_search, sym (ap (λ (o : Options). o.html) same) ∙ is.no_html)
 
--- words that begin with other letters are not the same
+-- arguments that begin with other letters are not the same
 begins : (word other : List ℕ) (xs ys : List (List ℕ)) → word ∷ xs ≡ other ∷ ys → get_or word 0 0 ≢ get_or other 0 0 → ⊥
 begins word other xs ys same apart = apart (ap (λ (w : List ℕ). get_or w 0 0) (first_same word other xs ys same))
 

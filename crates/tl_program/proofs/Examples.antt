@@ -12,7 +12,7 @@ use Rattle.tl_program.specs.Messages.{number_of, status_of, text_of}
 use Rattle.tl_program.specs.Options.{words_of}
 use Rattle.tl_program.specs.Outcomes.{stored_as}
 
--- the words of options, in their order
+-- the arguments of options, in their order
 spelled : flat_map words_of (choices.Html ∷ choices.Style styles.Frame ∷ choices.Breaking Any ∷ [])
     ≡ codes "--html" ∷ codes "--style" ∷ codes "frame" ∷ codes "--break" ∷ codes "any" ∷ []
 spelled = refl

@@ -1,4 +1,4 @@
--- What has been read of options, and that words spell at most one list of them.
+-- What has been read of options, and that arguments spell at most one list of them.
 use Rattle.std.proofs.Common.{◌≡◌, ◌≢◌, ◌⊎◌, inl, inr, ◌↔◌, ℕ, Bool, true, false, List, []}
 use Rattle.std.proofs.Common.{◌∷◌, ◌++◌, Option, Some, None, refl, sym, ap, subst, ◌∙◌, decimal, get_or}
 use Rattle.std.proofs.Common.{arith}
@@ -25,7 +25,7 @@ use Rattle.tl_program.specs.declared.options.Search.TheVariants as searches
 use Rattle.tl_program.specs.Options.{name_of, words_of, style_word, break_word, search_word, IsInRange, IsGiven, AreOptions}
 use Rattle.tl_program.specs.inner.OptionsRead.{HasRead}
 
--- a word stands for at most one style, break and search
+-- an argument stands for at most one style, break and search
 style_once : (one other : Style) → style_word one ≡ style_word other → one ≡ other
 style_once styles.Plain styles.Plain e = refl
 style_once styles.Plain styles.Frame e = absurd (omega (arith, ap (λ (word : List ℕ). get_or word 0 0) e))
@@ -54,7 +54,7 @@ rest_same x y xs ys e = cc
 abbrev letter : List (List ℕ) → ℕ
 letter words = get_or (get_or words 0 []) 4 0
 
--- the words of one option are not the beginning of another's
+-- the arguments of one option are not the beginning of another's
 pub prefix_free : (one other : Choice) (xs ys : List (List ℕ)) → IsInRange one → IsInRange other → words_of one ++ xs ≡ words_of other ++ ys →
     (one ≡ other) × (xs ≡ ys)
 prefix_free (choices.Style style) (choices.Style style2) xs ys small tiny e =
@@ -94,7 +94,7 @@ prefix_free choices.Html (choices.Budget budget2) xs ys small tiny e = absurd (o
 prefix_free choices.Html (choices.Search solver2) xs ys small tiny e = absurd (omega (arith, ap letter e))
 prefix_free choices.Html choices.Html xs ys small tiny e = (refl, cc)
 
--- options that spell words which begin with those of others begin with these
+-- options that spell arguments which begin with those of others begin with these
 pub follow : (read choices : List Choice) (rest : List (List ℕ)) → All IsInRange read → All IsInRange choices →
     flat_map words_of choices ≡ flat_map words_of read ++ rest →
     (later : List Choice) × (choices ≡ read ++ later) × (flat_map words_of later ≡ rest)
@@ -170,7 +170,7 @@ read_all words options so_far = record {
   given = so_far.given;
 }
 
--- the words spell no options where none begins what is left
+-- the arguments spell no options where none begins what is left
 pub read_stuck : (words rest : List (List ℕ)) (options other : Options) → HasRead words options rest → rest ≢ [] →
     ((choice : Choice) (after : List (List ℕ)) → IsInRange choice → rest ≡ words_of choice ++ after → ⊥) → AreOptions words other → ⊥
 read_stuck words rest options other so_far more none is =
@@ -227,7 +227,7 @@ options_same one other to from =
     let html : one.html ≡ other.html = flag_same one.html other.html (to choices.Html) (from choices.Html) in
     rebuilt one other style breaking budget solver html
 
--- the words spell at most one set of options
+-- the arguments spell at most one set of options
 pub options_once : (words : List (List ℕ)) (one other : Options) → AreOptions words one → AreOptions words other → one ≡ other
 options_once words one other first second =
     let next : (later : List Choice) × (second.choices ≡ first.choices ++ later) × (flat_map words_of later ≡ []) =

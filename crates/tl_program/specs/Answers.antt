@@ -1,4 +1,4 @@
--- What a table on a page is answered by: the report, with the page and the certificate that are stored for it.
+-- What is reported of a table on a page, and the page and the certificate that are stored for it.
 use Rattle.std.specs.Prelude.{◌≡◌, ℕ, ◌+◌, ◌*◌, ◌/◌, ◌<◌, min, Bool, true, false, List, Option}
 use Rattle.std.specs.Prelude.{Some, None}
 use Rattle.std.specs.List.{Any}
@@ -44,11 +44,12 @@ use Rattle.tl_program.specs.declared.report.Report.TheVariants as reports
 abbrev pub searches : Table → ℕ → ℕ
 searches table width = 1 + nested_in_table table * width
 
+-- the budget of each of so many searches: the one that is given, or as much as the reach allows, up to the default
 abbrev pub budget_of : Option ℕ → ℕ → ℕ
 budget_of None count = min DEFAULT_BUDGET (MAX_REACH / count)
 budget_of (Some budget) count = budget
 
--- the budget of each search: the one that is given, or as much as the reach allows, up to the default
+-- the budget of each search that a table on its page asks for
 abbrev pub budget_in : Task → Table → ℕ
 budget_in task table = budget_of task.budget (searches table task.width)
 
@@ -121,7 +122,7 @@ pub record StoresNothing (answer : Answer) : Type 0 where
   pub no_page : answer.page ≡ None
   pub no_certificate : answer.certificate ≡ None
 
--- so it is stored, and some section made as many cuts as the budget allows
+-- a page is stored as laid out, and some section made as many cuts as the budget allows
 pub record IsSpentOn (task : Task) (table : Table) (claim : Claim) (height taken : ℕ) (answer : Answer) : Type 0 where
   pub laid : IsLaid task table claim height taken answer
   pub spent : Any (IsSpent (budget_in task table)) laid.certificate.sections
@@ -130,7 +131,7 @@ pub record IsSpentOn (task : Task) (table : Table) (claim : Claim) (height taken
 abbrev pub IsBelowCounts : Task → Table → Type 0
 IsBelowCounts task table = (most : ℕ) → IsCountAll table task.style task.width most → budget_in task table < most
 
--- what a table is answered by, report by report
+-- what is stored for a table and what holds of it, report by report
 abbrev pub IsAnswerBy : Report → Task → Table → Answer → Type 0
 IsAnswerBy (reports.Lowest height width) task table answer = IsLaid task table (claims.Lowest height) height width answer
     × IsLeastHeight table task.style task.width height
@@ -144,7 +145,7 @@ IsAnswerBy (reports.Summary summary) task table answer = ⊥
 IsAnswerBy reports.Usage task table answer = ⊥
 IsAnswerBy reports.ReadFault task table answer = ⊥
 
--- what is answered of a table: where the reach is within its limit it is not refused
+-- what is reported of a table, and stored for it: it is refused exactly where the reach is past its limit
 pub record IsAnswerTo (task : Task) (table : Table) (answer : Answer) : Type 0 where
   pub answered : IsAnswerBy answer.report task table answer
   pub within : (refusal : Refusal) → answer.report ≡ reports.Refused refusal → MAX_REACH < reach task table

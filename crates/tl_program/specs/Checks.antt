@@ -48,6 +48,7 @@ abbrev pub page_columns : Style → Option Section → ℕ
 page_columns style None = 0
 page_columns style (Some section) = placed_width style section
 
+-- the columns that the page of a certificate takes
 abbrev pub columns_of : Task → Certificate → ℕ
 columns_of task certificate = page_columns task.style (last_or None certificate.sections)
 
@@ -101,7 +102,7 @@ IsCheckOf task table files name report =
     ((MAX_REACH < reach task table) × (report ≡ reports.Refused (refusals.Limit limits.Reach (reach task table))))
     ⊎ ((reach task table ≤ MAX_REACH) × (text : List ℕ) × Holds files name text × IsJudged task table text report)
 
--- what the file is read as is checked, and a refusal is told as it is
+-- what the file is read as is checked, and a refusal is reported as it is
 abbrev pub IsCheckFor : Task → Reading → Option Files → List ℕ → Report → Type 0
 IsCheckFor task (readings.Table table) files name report = IsCheckOf task table files name report
 IsCheckFor task (readings.Refused refusal) files name report = report ≡ reports.Refused refusal

@@ -1,4 +1,4 @@
--- The words of the command line: `lay WIDTH IN PAGE [CERT]` and `check WIDTH IN CERT`, each with options, and `demo NUMBER`.
+-- The arguments of the command line: `lay WIDTH IN PAGE [CERT]` and `check WIDTH IN CERT`, each with options, and `demo NUMBER`.
 use Rattle.std.specs.Prelude.{◌≡◌, ◌≢◌, ℕ, ◌<◌, ◌≤◌, ◌^◌, false, List, [], ◌∷◌, ◌++◌, codes, decimal, Option, None, IfSome}
 use Rattle.std.specs.Prelude.{option_to_list}
 use Rattle.tl_base.specs.declared.limits.TheConstants.{MAX_PAGE_WIDTH}
@@ -20,16 +20,16 @@ pub record AreNames (input page : List ℕ) (certificate : Option (List ℕ)) : 
   pub apart : input ≢ page
   pub third : IfSome certificate (λ name. (name ≢ []) × (name ≢ input) × (name ≢ page))
 
--- the word begins as an option does
+-- the argument begins as an option does
 abbrev pub IsDashed : List ℕ → Type 0
 IsDashed word = (rest : List ℕ) × (word ≡ codes "--" ++ rest)
 
--- there is no word, or the first begins as an option does
+-- there is no argument, or the first begins as an option does
 abbrev pub IsDashedAtFirst : List (List ℕ) → Type 0
 IsDashedAtFirst [] = Unit {0}
 IsDashedAtFirst (word ∷ words) = IsDashed word
 
--- the words ask for this layout: that of the certificate does not begin as an option does
+-- the arguments ask for this layout: the name of the certificate does not begin as an option does
 pub record IsLay (words : List (List ℕ)) (command : Laying) : Type 0 where
   pub more : List (List ℕ)
   pub spelled : words ≡ codes "lay" ∷ decimal command.width ∷ command.input ∷ command.page
@@ -47,7 +47,7 @@ pub record Checking : Type 0 where
   pub certificate : List ℕ
   pub options : Options
 
--- the words ask for this check: of the options, none names a search or the form of a page
+-- the arguments ask for this check: of the options, none names a search or the form of a page
 pub record IsCheck (words : List (List ℕ)) (command : Checking) : Type 0 where
   pub more : List (List ℕ)
   pub spelled : words ≡ codes "check" ∷ decimal command.width ∷ command.input ∷ command.certificate ∷ more
@@ -58,18 +58,20 @@ pub record IsCheck (words : List (List ℕ)) (command : Checking) : Type 0 where
   pub no_search : command.options.search ≡ None
   pub no_html : command.options.html ≡ false
 
--- the words ask for the demonstration with this number
+-- the arguments ask for the demonstration with this number
 pub record IsDemo (words : List (List ℕ)) (number : ℕ) : Type 0 where
   pub spelled : words ≡ codes "demo" ∷ decimal number ∷ []
   pub most : number < 2 ^ 32
 
--- the words ask for no layout, no check and no demonstration
+-- the arguments ask for no layout
 abbrev pub AskForNoLayout : List (List ℕ) → Type 0
 AskForNoLayout words = (command : Laying) → IsLay words command → ⊥
 
+-- the arguments ask for no check
 abbrev pub AskForNoCheck : List (List ℕ) → Type 0
 AskForNoCheck words = (command : Checking) → IsCheck words command → ⊥
 
+-- the arguments ask for no demonstration
 abbrev pub AskForNoDemo : List (List ℕ) → Type 0
 AskForNoDemo words = (number : ℕ) → IsDemo words number → ⊥
 

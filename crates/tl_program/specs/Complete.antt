@@ -1,4 +1,4 @@
--- Which status it must be, by what the files hold, unless the desk fails or memory runs out.
+-- With which status a run ends, by what the files hold, unless the desk fails or memory runs out.
 use Rattle.std.specs.Prelude.{◌≡◌, ◌⊎◌, ℕ, ◌≤◌, List, Some}
 use Rattle.tl_base.specs.declared.limits.TheConstants.{MAX_REACH}
 use Rattle.tl_base.specs.Desk.{Files}
@@ -30,13 +30,13 @@ pub record SpellsTable (task : Task) (bytes : List ℕ) (table : Table) : Type 0
   pub read : IsReading task.breaking bytes (readings.Table table)
   pub within : reach task table ≤ MAX_REACH
 
--- a file that spells a table within all limits is answered by 0, 3 or 4
+-- a file that spells a table within all limits gives 0, 3 or 4
 abbrev pub IsComplete : List (List ℕ) → Change → ℕ → Type 0
 IsComplete words change status = (command : Laying) (bytes : List ℕ) (table : Table) → IsLay words command →
     ShowsFile change command.input bytes → DoesNotFail change → SpellsTable (asked command) bytes table →
     (status ≡ 0) ⊎ ((status ≡ 3) ⊎ ((status ≡ 4) ⊎ (status ≡ 9)))
 
--- a file that is refused is answered so
+-- a file that is refused gives the status of its refusal
 abbrev pub IsRefusedSo : List (List ℕ) → Change → ℕ → Type 0
 IsRefusedSo words change status = (command : Laying) (bytes : List ℕ) (refusal : Refusal) → IsLay words command →
     ShowsFile change command.input bytes → DoesNotFail change →

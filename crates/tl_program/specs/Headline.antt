@@ -11,8 +11,8 @@ use Rattle.tl_program.specs.Demonstration.{IsDemonstrated}
 use Rattle.tl_program.specs.Messages.{number_of, status_of, text_of}
 use Rattle.tl_program.specs.Outcomes.{Outcome, IsUnread, IsAnswered}
 
--- What becomes of the words: as arguments they are invalid. Or they ask for a layout, and the file could not be read, or was, and is
--- answered (specs/Answers: lowest, bounded, too narrow, or refused). Or they ask for a check, and a file could not be read, or
+-- What becomes of the arguments: they are invalid. Or they ask for a layout, and the file could not be read, or was, and
+-- gives an outcome (specs/Answers: lowest, bounded, too narrow, or refused). Or they ask for a check, and a file could not be read, or
 -- the certificate is judged (specs/Checks: what it shows, or why it is rejected). Or they ask for a demonstration
 abbrev pub Becomes : List (List ℕ) → Change → Outcome → Type 0
 Becomes words change outcome =

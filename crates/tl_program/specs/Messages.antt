@@ -1,4 +1,4 @@
--- The exit status of each answer, and the message about it, which ends with a line feed.
+-- The exit status and the message of each report. A message ends with a line feed.
 use Rattle.std.specs.Prelude.{ℕ, ◌==◌, if◌then◌else◌, List, [], ◌∷◌, ◌++◌, codes, decimal}
 use Rattle.tl_program.specs.declared.refusal.Fault.{Fault}
 use Rattle.tl_program.specs.declared.refusal.Fault.TheVariants as faults
@@ -27,12 +27,13 @@ number_of statuses.WriteFault = 8
 number_of statuses.Memory = 9
 number_of statuses.Rejected = 10
 
--- the status of a refusal, and of what is reported
+-- the status of a refusal
 abbrev pub refusal_status : Refusal → Status
 refusal_status (refusals.BadInput fault place) = statuses.BadInput
 refusal_status (refusals.Overlap table row column) = statuses.BadInput
 refusal_status (refusals.Limit limit number) = statuses.Limit
 
+-- the status of a report
 abbrev pub status_of : Report → Status
 status_of (reports.Lowest height width) = statuses.Lowest
 status_of (reports.Bounded height lower width) = statuses.Bounded
@@ -99,7 +100,7 @@ summary_text summary =
     ++ (decimal summary.height ++ (codes " lower " ++ (decimal summary.lower ++ (codes " cuts "
     ++ (decimal summary.cuts ++ 10 ∷ [])))))))))
 
--- the message about an answer
+-- the message of a report
 abbrev pub text_of : Report → List ℕ
 text_of (reports.Lowest height width) =
     codes "lowest height " ++ (decimal height ++ (codes " width " ++ (decimal width ++ 10 ∷ [])))

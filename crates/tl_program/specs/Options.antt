@@ -1,5 +1,5 @@
 -- The options of a command: `--style plain|frame`, `--break words|any`, `--budget N`, `--solver plain|best` and `--html`,
--- in any order, each at most once, its value as the next word.
+-- in any order, each at most once, its value as the next argument.
 use Rattle.std.specs.Prelude.{◌≡◌, ◌≢◌, ◌↔◌, ℕ, ◌≤◌, true, List, [], ◌∷◌, Some, Contains, codes, decimal}
 use Rattle.std.specs.List.{All, AllPairs, flat_map}
 use Rattle.tl_base.specs.declared.breaking.Breaking.{Breaking}
@@ -13,20 +13,22 @@ use Rattle.tl_program.specs.declared.options.Options.{Options}
 use Rattle.tl_program.specs.declared.options.Search.{Search}
 use Rattle.tl_program.specs.declared.options.Search.TheVariants as searches
 
--- the words for styles, breaks and searches
+-- how a style is spelled
 abbrev pub style_word : Style → List ℕ
 style_word styles.Plain = codes "plain"
 style_word styles.Frame = codes "frame"
 
+-- how breaks between words alone, or between any two characters, are spelled
 abbrev pub break_word : Breaking → List ℕ
 break_word Words = codes "words"
 break_word Any = codes "any"
 
+-- how a search is spelled
 abbrev pub search_word : Search → List ℕ
 search_word searches.Plain = codes "plain"
 search_word searches.Best = codes "best"
 
--- the word that names an option
+-- the argument that names an option
 abbrev pub name_of : Choice → List ℕ
 name_of (choices.Style style) = codes "--style"
 name_of (choices.Breaking breaking) = codes "--break"
@@ -34,7 +36,7 @@ name_of (choices.Budget budget) = codes "--budget"
 name_of (choices.Search search) = codes "--solver"
 name_of choices.Html = codes "--html"
 
--- the word of its value, where it has one
+-- the argument of its value, where it has one
 abbrev pub values_of : Choice → List (List ℕ)
 values_of (choices.Style style) = style_word style ∷ []
 values_of (choices.Breaking breaking) = break_word breaking ∷ []
@@ -42,7 +44,7 @@ values_of (choices.Budget budget) = decimal budget ∷ []
 values_of (choices.Search search) = search_word search ∷ []
 values_of choices.Html = []
 
--- the words that spell an option
+-- the arguments that spell an option
 abbrev pub words_of : Choice → List (List ℕ)
 words_of choice = name_of choice ∷ values_of choice
 
@@ -62,7 +64,7 @@ IsGiven options (choices.Budget budget) = options.budget ≡ Some budget
 IsGiven options (choices.Search search) = options.search ≡ Some search
 IsGiven options choices.Html = options.html ≡ true
 
--- the words spell the options one after the other, no two of one name, and nothing else is given
+-- the arguments spell the options one after the other, no two of one name, and nothing else is given
 pub record AreOptions (words : List (List ℕ)) (options : Options) : Type 0 where
   pub choices : List Choice
   pub spelled : words ≡ flat_map words_of choices

@@ -35,7 +35,7 @@ outcome_of command answer = record {
   stores = stored_as (Some command.page) answer.page ++ stored_as command.certificate answer.certificate;
 }
 
--- what the file is read as is answered: a table by its page, or by a chain, and a refusal as it is
+-- what is reported of what the file is read as: of a table its page, or a chain, and of a refusal itself
 abbrev pub IsAnswerFor : Task → Reading → Answer → Type 0
 IsAnswerFor task (readings.Table table) answer = IsAnswerTo task table answer
 IsAnswerFor task (readings.Refused refusal) answer = (answer.report ≡ reports.Refused refusal) × StoresNothing answer

@@ -1,4 +1,4 @@
--- How what is wrong with a file is told: its kind and place, or the limit that it passes and the number counted.
+-- How what is wrong with a file is reported: its kind and place, or the limit that it passes and the number counted.
 use Rattle.std.specs.Prelude.{ℕ, ◌+◌, List, map, get_or, Option, Some, None}
 use Rattle.tl_base.specs.declared.limits.TheConstants.{MAX_DEPTH, MAX_TABLES}
 use Rattle.tl_token.specs.declared.token.Token.{Token}

@@ -7,10 +7,12 @@ use Rattle.tl_program.specs.declared.options.Options.{Options}
 use Rattle.tl_program.specs.declared.options.Search.TheVariants as searches
 use Rattle.tl_program.specs.declared.task.Task.{Task}
 
+-- what is given, or else the default
 abbrev pub given_or : {X : Type 0} → X → Option X → X
 given_or default None = default
 given_or default (Some given) = given
 
+-- what a command asks of a table on a page of `width` columns
 abbrev pub task_of : ℕ → Options → Bool → Task
 task_of width options certified = record {
   width = width;

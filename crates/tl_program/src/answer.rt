@@ -47,7 +47,7 @@ pub struct Answer {
 }
 
 impl Answer {
-    /// Nothing is stored.
+    /// The answer that reports this refusal and stores nothing.
     pub fn refused(refusal: Refusal) -> Answer
         ensures report { result.report ≡ reports.Refused refusal }
         ensures nothing { StoresNothing result }
@@ -60,7 +60,7 @@ impl Answer {
     }
 }
 
-/// Answers what is asked of the table.
+/// What is reported of the table, and what is stored for it, by the task.
 pub fn answer_to(alloc: Global, task: &Task, table: &Table) -> Result<Answer, AllocError>
     requires sound { IsSound table.now }
     requires cells { HasFewCells table.now }

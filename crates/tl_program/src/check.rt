@@ -1,4 +1,4 @@
-//! What the text of a certificate shows of a table, or why it is rejected. No search is asked.
+//! What the text of a certificate shows of a table, or why it is rejected. No search is called.
 
 ghost use Rattle.std.specs.Prelude.{◌≡◌, ◌≤◌, ◌<◌, IfOk, None, Some, length};
 ghost use Rattle.std.specs.List.{last_or};

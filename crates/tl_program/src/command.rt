@@ -1,4 +1,4 @@
-//! Reads commands from the words of the command line.
+//! Reads commands from the arguments of the command line.
 
 ghost use Rattle.std.specs.Prelude.{◌≡◌, ◌≢◌, ◌↔◌, ◌++◌, ◌∷◌, ◌<◌, ◌≤◌, ◌^◌, ℕ, [], List, map, string_bytes, decimal};
 ghost use Rattle.std.specs.Prelude.{codes, false, None, IfSome, IfNone, IsTrue, option_map, option_to_list};
@@ -35,7 +35,7 @@ pub struct Check<'a> {
     pub options: Options,
 }
 
-/// The word of a command, `WIDTH IN` and the name of another file, and the words after them.
+/// The name of a command, `WIDTH IN` and the name of another file, and the arguments after them.
 #[derive(Clone, Copy)]
 struct Positions<'a> {
     width: &'a str,
@@ -66,7 +66,7 @@ impl<'a> Positions<'a> {
     }
 }
 
-/// Whether the words are the same.
+/// Whether the texts are the same.
 fn is_same(one: &str, other: &str) -> bool
     ensures { IsTrue result ↔ (one.now ≡ other.now) }
 {
@@ -74,7 +74,7 @@ fn is_same(one: &str, other: &str) -> bool
 }
 
 impl<'a> Lay<'a> {
-    /// The layout that the words ask for, or `None` where they ask for none: docs/MODEL.md, "The command".
+    /// The layout that the arguments ask for, or `None` where they ask for none: docs/MODEL.md, "The command".
     pub fn parse(words: &'a [String]) -> Option<Lay<'a>>
         ensures command { IfSome result (λ lay. IsLay (map string_bytes words.now) (record {
           width = lay.width;
@@ -103,7 +103,7 @@ impl<'a> Lay<'a> {
 }
 
 impl<'a> Check<'a> {
-    /// The check that the words ask for, or `None` where they ask for none: docs/MODEL.md, "The command".
+    /// The check that the arguments ask for, or `None` where they ask for none: docs/MODEL.md, "The command".
     pub fn parse(words: &'a [String]) -> Option<Check<'a>>
         ensures command { IfSome result (λ check. IsCheck (map string_bytes words.now) (record {
           width = check.width;
@@ -138,7 +138,7 @@ fn is_for_check(options: &Options) -> bool
     options.search.is_none() && !options.html
 }
 
-/// The number of the demonstration that the words ask for, or `None` where they ask for none.
+/// The number of the demonstration that the arguments ask for, or `None` where they ask for none.
 pub fn demo_number(words: &[String]) -> Option<u32>
     ensures number { IfSome result (IsDemo (map string_bytes words.now)) }
     ensures none { IfNone result (AskForNoDemo (map string_bytes words.now)) }
@@ -152,7 +152,7 @@ pub fn demo_number(words: &[String]) -> Option<u32>
     number_up_to(number.as_str(), u32::MAX)
 }
 
-/// The page width whose canonical decimal the word is.
+/// The page width whose canonical decimal the argument is.
 fn page_width(word: &str) -> Option<u32>
     ensures width { IfSome result (λ width. (word.now ≡ decimal width) × (1 ≤ width) × (width ≤ MAX_PAGE_WIDTH)) }
     ensures none { IfNone result ((width : ℕ) → 1 ≤ width → width ≤ MAX_PAGE_WIDTH → word.now ≢ decimal width) }
@@ -164,7 +164,7 @@ fn page_width(word: &str) -> Option<u32>
     Some(width)
 }
 
-/// The name of the certificate, if the first word is one, and the words after it.
+/// The name of the certificate, if the first argument is one, and the arguments after it.
 fn certificate_of(words: &[String]) -> (Option<&str>, &[String])
     ensures words { map string_bytes words.now ≡ option_to_list (option_map (λ name. name.now) result.0)
         ++ map string_bytes result.1.now }

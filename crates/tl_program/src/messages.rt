@@ -94,7 +94,7 @@ fn summary_text(alloc: Global, summary: Summary) -> Result<String, AllocError>
     format!(in alloc; "cells {cells} count {count} height {height} lower {lower} cuts {cuts}\n")
 }
 
-/// The message about an answer.
+/// The message of a report.
 pub fn text(alloc: Global, report: Report) -> Result<String, AllocError>
     ensures { IfOk result (λ text. string_bytes text ≡ text_of report) }
 {

@@ -46,7 +46,7 @@ pub struct Options {
 }
 
 impl Choice {
-    /// The option with which the words begin, and the words after it.
+    /// The option with which the arguments begin, and the arguments after it.
     fn read(words: &[String]) -> Option<(Choice, &[String])>
         ensures range { IfSome result (λ r. IsInRange r.0) }
         ensures spelled { IfSome result (λ r. map string_bytes words.now
@@ -136,7 +136,7 @@ fn budget_named(value: &str) -> Option<Choice>
     Some(Choice::Budget(budget))
 }
 
-/// The number up to `most` whose canonical decimal the word is.
+/// The number up to `most` whose canonical decimal the argument is.
 pub(crate) fn number_up_to(word: &str, most: u32) -> Option<u32>
     ensures number { IfSome result (λ number. (word.now ≡ decimal number) × (number ≤ most)) }
     ensures none { IfNone result ((number : ℕ) → number ≤ most → word.now ≢ decimal number) }
@@ -149,7 +149,7 @@ pub(crate) fn number_up_to(word: &str, most: u32) -> Option<u32>
 }
 
 impl Options {
-    /// Nothing is given.
+    /// The options of a command that gives none.
     fn none() -> Options
         ensures { (choice : Choice) → IsGiven result choice → ⊥ }
     {
@@ -192,7 +192,7 @@ impl Options {
         options
     }
 
-    /// The options that the words spell, or `None` where they spell none.
+    /// The options that the arguments spell, or `None` where they spell none.
     pub fn parse(words: &[String]) -> Option<Options>
         ensures options { IfSome result (AreOptions (map string_bytes words.now)) }
         ensures none { IfNone result ((options : Options) → AreOptions (map string_bytes words.now) options → ⊥) }

@@ -31,8 +31,8 @@ use std::alloc::{AllocError, Global};
 use tl_base::{Desk, DeskFault, Gate, List, MAX_CERTIFICATE_BYTES, MAX_FILE_BYTES};
 use tl_form::Table;
 
-/// Carries out the words of the command line over the desk, and returns the exit status. The gate is
-/// for parallel work, of which there is none yet.
+/// Carries out the arguments of the command line over the desk, and returns the exit status. The gate
+/// is for pieces of work that run in parallel; `run` has none.
 pub fn run<D: Desk, G: Gate>(alloc: Global, words: &[String], desk: &mut D, _gate: &G) -> u8
     ensures ends { Ends (map string_bytes words.now)
         (between D.files D.said D.load_faults D.write_faults desk.old desk.new) result }
@@ -50,7 +50,7 @@ pub fn run<D: Desk, G: Gate>(alloc: Global, words: &[String], desk: &mut D, _gat
     carry_out(alloc, words, desk).number()
 }
 
-/// Carries out the command that the words are.
+/// Carries out the command that the arguments are.
 fn carry_out<D: Desk>(alloc: Global, words: &[String], desk: &mut D) -> Status
     ensures ends { Ends (map string_bytes words.now)
         (between D.files D.said D.load_faults D.write_faults desk.old desk.new) (number_of result) }

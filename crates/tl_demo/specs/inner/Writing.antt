@@ -13,9 +13,11 @@ pub record Appended (A : Type 0) (text_of : A → List ℕ) (piece : Drawn A) (o
 abbrev pub next_word_text : ℕ → List ℕ
 next_word_text length = codes " " ++ word_text length
 
+-- words of which none is a cell's first
 abbrev pub next_words_text : List ℕ → List ℕ
 next_words_text lengths = flat_map next_word_text lengths
 
+-- cells one after the other
 abbrev pub cells_text : List Cell → List ℕ
 cells_text cells = flat_map cell_text cells
 

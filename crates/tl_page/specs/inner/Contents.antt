@@ -1,5 +1,5 @@
--- What the code that fills cells is given and gives: which layouts of nested tables are left, and which lines stand in
--- a cell so far. No public clause cites this file.
+-- No public clause cites this file: it says what the code that fills cells is given and gives, which layouts of nested
+-- tables are left, and which lines stand in a cell so far.
 use Rattle.std.specs.Prelude.{◌≡◌, ℕ, ◌≤◌, List, ◌++◌, drop, map}
 use Rattle.std.specs.List.{AllZip, flat_map}
 use Rattle.tl_base.specs.declared.limits.TheConstants.{MAX_HEIGHT, MAX_PAGE_WIDTH}

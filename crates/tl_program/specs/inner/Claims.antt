@@ -15,10 +15,12 @@ abbrev pub section_claim : Section → Claim
 section_claim section =
     if section.lower == section.height then claims.Lowest section.height else claims.Bounded section.height section.lower
 
+-- what the last section claims, where there is one
 abbrev pub claim_of_last : Option Section → Claim
 claim_of_last None = claims.Lowest 0
 claim_of_last (Some section) = section_claim section
 
+-- what is claimed by the last of the sections
 abbrev pub claim_of : List Section → Claim
 claim_of sections = claim_of_last (last_or None sections)
 

@@ -5,7 +5,7 @@ use Rattle.tl_program.specs.declared.options.Choice.{Choice}
 use Rattle.tl_program.specs.declared.options.Options.{Options}
 use Rattle.tl_program.specs.Options.{name_of, words_of, IsInRange, IsGiven}
 
--- some options have been read from the words, these are given by them, and the rest follows
+-- some options have been read from the arguments, these are given by them, and the rest follows
 pub record HasRead (words : List (List ℕ)) (options : Options) (rest : List (List ℕ)) : Type 0 where
   pub read : List Choice
   pub spelled : words ≡ flat_map words_of read ++ rest

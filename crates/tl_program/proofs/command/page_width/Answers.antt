@@ -1,4 +1,4 @@
--- The word is that of 0, and of no other number.
+-- The argument is that of 0, and of no other number.
 use Rattle.std.proofs.Common.{◌≡◌, sym, ◌∙◌, arith}
 use Rattle.std.proofs.lemmas.Fmt.{decimal_injective}
 use Rattle.tl_program.proofs.command.page_width.Goals as goal

@@ -1,11 +1,11 @@
--- The number with which the word begins is the only one that it can be.
+-- The number with which the argument begins is the only one that it can be.
 use Rattle.std.proofs.Common.{◌≡◌, ℕ, ◌<◌, ◌^◌, List, length, decimal, ap, sym, subst, ◌∙◌, arith}
 use Rattle.tl_base.specs.Number.{StandsAt}
 use Rattle.tl_base.proofs.Decimals.{decimal_stands, stands_once}
 use Rattle.tl_program.proofs.options.number_up_to.Goals as goal
 use Rattle.tl_program.proofs.options.number_up_to.Goals.{then-past-word-via-then-past-word, then-past-word-via-else-past-word+then-number-from}
 
--- a word begins with its number
+-- an argument begins with its number
 number_stands : (word bytes : List ℕ) (number : ℕ) → bytes ≡ word → number < 2 ^ 64 → word ≡ decimal number → StandsAt bytes 0 number
 number_stands word bytes number same small is =
     subst (λ (bs : List ℕ). StandsAt bs 0 number) (sym (same ∙ is)) (decimal_stands number small)

@@ -1,4 +1,4 @@
--- The words are a command, or none.
+-- The arguments are a command, or none.
 use Rattle.std.proofs.Common.{inl, refl, map, string_bytes}
 use Rattle.tl_program.specs.declared.report.Report.TheVariants as reports
 use Rattle.tl_program.specs.Change.{between}
