@@ -58,7 +58,7 @@ atoms_in lengths = map Word (map word_text lengths)
 abbrev lines_in : List ℕ → List (List Atom)
 lines_in lengths = map (λ (unit : Atom). unit ∷ []) (atoms_in lengths)
 
--- it has no break, so it is one piece
+-- a paragraph of words has no break, so it is one piece
 one_piece : (lengths : List ℕ) → 1 ≤ length lengths → lined_pieces (atoms_in lengths) ≡ atoms_in lengths ∷ []
 one_piece [] some = absurd (omega (arith, some))
 one_piece (n ∷ []) some = refl
@@ -74,7 +74,7 @@ joined_lines : (lengths : List ℕ) → joined (lines_in lengths) ≡ atoms_in l
 joined_lines [] = refl
 joined_lines (n ∷ lengths) = ap (λ (units : List Atom). Word (word_text n) ∷ units) (joined_lines lengths)
 
--- so the lines are a cutting of the paragraph
+-- words on lines of their own are a cutting of the paragraph
 is_cutting : (lengths : List ℕ) → 1 ≤ length lengths → IsCutting (atoms_in lengths) (lines_in lengths ∷ [])
 is_cutting [] some = absurd (omega (arith, some))
 is_cutting (n ∷ lengths) some =
@@ -169,7 +169,7 @@ total_narrow (suc (suc (suc (suc (suc zero))))) few = omega arith
 total_narrow (suc (suc (suc (suc (suc (suc zero)))))) few = omega arith
 total_narrow (suc (suc (suc (suc (suc (suc (suc cols))))))) few = absurd (omega (arith, few))
 
--- so a table of at most six columns fits a page of 58
+-- a table of at most six columns fits a page of 58
 pub table_fits : (table : Table) → IsSound table → (out-Table table).cols ≤ 6 → All IsDrawnTableCell (out-Table table).cells →
     (height : ℕ) × (layout : Layout) × Fits table Plain 58 height layout
 table_fits table sound narrow drawn =

@@ -38,7 +38,7 @@ shape_in rows = record { columns = 0; groups = record { foot = false; rows = map
 
 -- ---- a cell one row high
 
--- what slots it covers
+-- which slots a cell of one row covers
 covers_only : (number x y colspan x' y' : ℕ) → covers x' y' (cell_at number x y (record { colspan = colspan; rowspan = 1 })) ≡ true →
     (x ≤ x') × (x' < x + colspan) × (y' ≡ y)
 covers_only number x y colspan x' y' is =
@@ -49,14 +49,14 @@ covers_only number x y colspan x' y' is =
     let to = ltb-true y' (y + 1) down.1 in
     (leb-true x x' across.0, ltb-true x' (x + colspan) across.1, omega (arith, from, to))
 
--- so it covers no other slot
+-- a cell of one row covers no slot beside its columns or outside its row
 covers_none : (number x y colspan x' y' : ℕ) → ((x ≤ x') × (x' < x + colspan) × (y' ≡ y) → ⊥) →
     covers x' y' (cell_at number x y (record { colspan = colspan; rowspan = 1 })) ≡ false
 covers_none number x y colspan x' y' not =
     false_from_ne_true (covers x' y' (cell_at number x y (record { colspan = colspan; rowspan = 1 })))
     (λ is. not (covers_only number x y colspan x' y' is))
 
--- it covers no row below its own
+-- a cell of one row covers no row below its own
 one_row_quiet : (number x y colspan : ℕ) → IsQuiet (y + 1) (cell_at number x y (record { colspan = colspan; rowspan = 1 }))
 one_row_quiet number x y colspan = record {
   still = refl;
@@ -284,7 +284,7 @@ all_spans : (rows : List (List Cell)) → AllByRecursion IsDrawnRow rows → All
 all_spans [] all = tt
 all_spans (cells ∷ rows) all = (row_spans cells (all.0).each, all_spans rows all.1)
 
--- so no grid is refused
+-- no grid of drawn rows is refused
 not_refused : (rows : List (List Cell)) → AllByRecursion IsDrawnRow rows → length rows ≤ MAX_ROWS → (error : GridError) → IsRefused (shape_in rows) error → ⊥
 not_refused rows all few (Memory error) refused = refused
 not_refused rows all few (TooManyCells count) refused =

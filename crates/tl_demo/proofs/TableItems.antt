@@ -48,7 +48,7 @@ words_letters [] = tt
 words_letters (n ∷ lengths) =
     append_each IsLetterOrSpace (word_text n) (flat_map (λ m. codes " " ++ word_text m) lengths) (letters n) (next_letters lengths)
 
--- such text is written as it is
+-- a text of letters and spaces is written as it is
 unescaped : (text : List ℕ) → AllByRecursion IsLetterOrSpace text → flat_map escaped text ≡ text
 unescaped [] all = refl
 unescaped (c ∷ text) all = ap (λ cs. cs ++ flat_map escaped text) (one c all.0) ∙ ap (λ (cs : List ℕ). c ∷ cs) (unescaped text all.1)
@@ -57,7 +57,7 @@ unescaped (c ∷ text) all = ap (λ cs. cs ++ flat_map escaped text) (one c all.
     one d (inl is) = subst (λ e. escaped e ≡ e ∷ []) (sym is) refl
     one d (inr is) = subst (λ e. escaped e ≡ e ∷ []) (sym is) refl
 
--- and has no control character
+-- letters and spaces are no control characters
 fine : (text : List ℕ) → AllByRecursion IsLetterOrSpace text → AreFine text
 fine [] all = tt
 fine (c ∷ text) all = (one c all.0, fine text all.1)
@@ -128,7 +128,7 @@ rows_are [] all = tt
 rows_are (cells ∷ rows) all =
     append_each IsItem (row_items cells) (flat_map row_items rows) ((row_start, tt), cells_are cells (all.0).each) (rows_are rows all.1)
 
--- they are tags with fine texts
+-- the items of a table are tags with fine texts
 items_are : (rows : List (List Cell)) → AllByRecursion IsDrawnRow rows → AllByRecursion IsItem (table_items rows)
 items_are rows all = ((table_start, tt), append_each IsItem (flat_map row_items rows) (last_item ∷ []) (rows_are rows all) ((table_end, tt), tt))
 
@@ -264,7 +264,7 @@ rows_length (cells ∷ rows) all =
       length-append (codes "<tr>") (flat_map cell_text cells),
     )
 
--- so a file with the text is within its limit
+-- a file with a number's text is within its limit
 pub demo_length : (number : ℕ) → length (demo_text_of number) ≤ MAX_FILE_BYTES
 unfolding demo_text_of
 demo_length number =

@@ -39,7 +39,7 @@ cells_count : (cells : List Cell) (later : Entries) → table_count (cells_liste
 cells_count [] later = refl
 cells_count (c ∷ cells) later = cells_count cells later
 
--- and so does their count
+-- no table is nested in a row, so their count stays as it is
 rows_count : (rows : List (List Cell)) (later : Entries) → table_count (rows_listed rows later) ≡ table_count later
 rows_count [] later = refl
 rows_count (cells ∷ rows) later = cells_count cells (rows_listed rows later) ∙ rows_count rows later
@@ -48,7 +48,7 @@ cells_nested : (most depth : ℕ) (cells : List Cell) (later : Entries) → IsNe
 cells_nested most depth [] later is = is
 cells_nested most depth (c ∷ cells) later is = cells_nested most depth cells later is
 
--- and how deep they stand
+-- no table is nested in a row, so tables stand as deep as before
 rows_nested : (most depth : ℕ) (rows : List (List Cell)) (later : Entries) → IsNestedBelow most depth later → IsNestedBelow most depth (rows_listed rows later)
 rows_nested most depth [] later is = is
 rows_nested most depth (cells ∷ rows) later is = cells_nested most depth cells (rows_listed rows later) (rows_nested most depth rows later is)

@@ -98,7 +98,7 @@ cells_read (c ∷ cells) later m tagged =
     let ms : Marks = grammar.paragraph_ends ∷ cells_marks cells m in
     grammar.cell (text_goes (words_text c.words) ks ks ms ms no_flow) (left_out (cells_tagged cells later tagged)) (cells_read cells later m tagged)
 
--- and the rows
+-- the grammar reads the rows of a table
 rows_read : (rows : List (List Cell)) (later : Kinds) (m : Marks) → begins_with is_white later ≡ false → begins_with is_row_start later ≡ false →
     Rows (rows_kinds rows later) (rows_marks rows m) later m
 rows_read [] later m tagged ended = no_row ended
@@ -106,7 +106,7 @@ rows_read (cells ∷ rows) later m tagged ended =
     let begun = rows_tagged rows later tagged in
     grammar.row no_space (cells_read cells (rows_kinds rows later) (rows_marks rows m) begun) (left_out begun) (rows_read rows later m tagged ended)
 
--- and the table, which is the whole document
+-- the grammar reads the table, which is the whole document
 table_read : (rows : List (List Cell)) → 0 < length rows → Document (table_kinds rows) (table_marks rows)
 table_read [] some = absurd (omega (arith, some))
 table_read (cells ∷ rows) some = record {
@@ -233,7 +233,7 @@ text_leads : (text : List ℕ) (later : Marks) → leading (map character text +
 text_leads [] later = refl
 text_leads (c ∷ text) later = ap (λ (ms : Marks). character c ∷ ms) (text_leads text later)
 
--- they add no entry of their own
+-- characters add no entry of their own
 text_passed : (k : ℕ) (text : List ℕ) (later : Marks) → entries_after k (map character text ++ later) ≡ entries_after k later
 text_passed k [] later = refl
 text_passed k (c ∷ text) later = text_passed k text later
@@ -274,7 +274,7 @@ cells_entries k (c ∷ cells) later sharp all =
 abbrev row_outline : List CellNode → Entries
 row_outline nodes = row ∷ flat_map cell_outline nodes
 
--- and those of the rows
+-- the marks of the rows become their outlines
 rows_entries : (k : ℕ) (rows : List (List Cell)) (later : Marks) → IsSharp later → AllByRecursion IsDrawnRow rows →
     entries_after k (rows_marks rows later) ≡ flat_map row_outline (map (map cell_node) rows) ++ entries_after k later
 rows_entries k [] later sharp all = refl

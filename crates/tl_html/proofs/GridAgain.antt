@@ -141,7 +141,7 @@ module _ (W H : ℕ) (places : List Place) (grid : IsGrid W H places) where
               ])
         ]
 
-    -- its first slot is free of them
+    -- no earlier cell covers the first slot of a cell
     first_is_free : has_cell p.left p.top (cells_on 0 done) ≡ false
     first_is_free = free_of p.left p.top 0 p done (λ i lt has.
         grid.apart i (length done) p lt within p.left p.top

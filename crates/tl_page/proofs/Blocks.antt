@@ -87,7 +87,7 @@ nested_given style w box inner next fit = record {
   fits = (w, fit.fits.height, fit.narrow, omega (arith, fit.fits.within, fit.low), (fit.depth, fit.fits.laid));
 }
 
--- and stands as its page
+-- a nested table stands as its page
 pub nested_shown : (style : Style) (w : ℕ) (box : Box Table Global) (inner : List Layout) (next : ℕ) (layout : Layout) (cells : List Drawn)
     (page : List (List ℕ))
     (before lines : List Line) → layout ≡ get_or inner next layout → next < length inner → ShowsCells style box.value layout cells →

@@ -106,7 +106,7 @@ module _ (fits : Table → ℕ → ℕ → Layout → Type 0) (shows : Table →
         as_many_in_blocks blocks shares parts fit.1 shown.1,
       )
 
-  -- and so does a cell
+  -- a cell is given as many layouts as it shows
   pub as_many_in_cell : (h : ℕ) (cell : OpenCell) (given : List Layout) (content : Content) → FitsRoom fits w h cell given →
       ShowsCell shows style w cell content →
       length given ≡ length content.inner

@@ -30,7 +30,7 @@ line_text-push (first ∷ line) unit =
       lead : Atom → List ℕ
       lead more = spaces (gap_before more) ++ text_of more
 
--- and its columns
+-- the columns of a line with one more unit
 pub line_width-more : (line : List Atom) (unit : Atom) →
     line_width (line ++ unit ∷ []) ≡ line_width line + (gap_in_line (length line) unit + unit_width unit)
 line_width-more [] unit = omega (arith, sum_by-cons unit_width unit [])

@@ -252,7 +252,7 @@ module _ (grid : Grid) where
         owner_of grid column row ≡ (if t then owned column row (number_over 0 grid.places column row) else Outside)
     picked same = ap (λ t. if t then owned column row (number_over 0 grid.places column row) else Outside) same
 
-  -- and a cell has each slot of its place
+  -- a cell has each slot of its place
   pub has_slots : (column row n : ℕ) (place : Place) → All (IsPlaced grid.cols grid.rows) grid.places → AllPairs AreApart grid.places →
       slice_get grid.places n ≡ Some place → place.left < column → column ≤ place.right → place.top < row → row ≤ place.bottom →
       owner_of grid column row ≡ Cell n

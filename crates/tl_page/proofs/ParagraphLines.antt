@@ -40,7 +40,7 @@ ranges_within from past [] order = tt
 ranges_within from past (range ∷ ranges) order =
     ((omega (arith, order.1), order_ends range.past past ranges order.2), ranges_within range.past past ranges order.2)
 
--- and so does each, at its place
+-- each range ends within the paragraph
 pub range_within : (past : ℕ) (ranges : List Range) (place : ℕ) (none : Range) → AreInOrder 0 ranges past → place < length ranges →
     IsWithin past (get_or ranges place none)
 range_within past ranges place none order within =
@@ -52,7 +52,7 @@ pub range_is_small : (n : ℕ) (atoms : List Atom) (range : Range) → All (λ a
 range_is_small n atoms range small =
     All-take (λ atom. atom_size atom ≤ n) (range.past - range.first) (drop range.first atoms) (All-drop (λ atom. atom_size atom ≤ n) range.first atoms small)
 
--- and they are no more than all
+-- the atoms of a range are no more than all
 pub range_is_short : (atoms : List Atom) (range : Range) → length (ranged atoms range) ≤ length atoms
 range_is_short atoms range =
     omega (arith, length-take (range.past - range.first) (drop range.first atoms), length-drop range.first atoms)

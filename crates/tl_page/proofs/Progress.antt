@@ -110,7 +110,7 @@ block-next style w blocks inner start i next lines block narrow within is sofar 
           ∙ ap (λ shares. flat_map (λ share. share.inner) shares ++ sofar.more) (sym first.2) ∙ sofar.left;
     }
 
--- and stands after those so far
+-- the next block stands after those so far
 pub blocks-more : (style : Style) (w : ℕ) (blocks : List Block) (inner : List Layout) (start i next after : ℕ) (lines new : List Line) (block : Block) →
     i < length blocks → block ≡ get_or blocks i block → BlocksSoFar style w blocks inner start i next lines →
     ShowsPart style w (out-Content block) inner next after lines new → BlocksSoFar style w blocks inner start (i + 1) after new
@@ -251,7 +251,7 @@ cell-next style table layout i next cells cell fit placed within is sofar =
       rest = ap (flat_map (λ given. given)) (sym first.2) ∙ sofar.left;
     }
 
--- and is drawn after those so far
+-- the next cell is drawn after those so far
 pub cells-more : (style : Style) (table : OpenTable) (layout : OpenLayout) (i next after : ℕ) (cells : List Drawn) (lines : List Line) (cell : TableCell) →
     i < length table.cells → cell ≡ get_or table.cells i cell → CellsSoFar style table layout i next cells →
     ShowsParts style (width_for style layout (place_of cell)) (out-TableCell cell) layout.inner next after lines →

@@ -15,7 +15,7 @@ use Rattle.tl_page.specs.Widths.{IsSign, HasWidth}
 use Rattle.tl_page.proofs.StripLemmas.{following-more}
 use Rattle.tl_page.proofs.WidthLemmas.{HasWidth-append, HasWidth-signs, HasWidth-same, HasWidth-none}
 
--- so many of one sign
+-- a run of one sign
 abbrev pub IsDrawn : ℕ → List ℕ → Type 0
 IsDrawn size text = (sign : ℕ) × IsSign sign × (text ≡ replicate size sign)
 
@@ -61,7 +61,7 @@ module _ (kind : ℕ → Option ℕ) (places : List Place) (gap edge : ℕ) (wid
     pub begins : width ≡ edge + position gap widths slot
     pub apart : (n : ℕ) → kind slot ≡ Some n → kind (slot + 1) ≡ Some n → ⊥
 
-  -- and before one that a cell goes on into: all columns of the cell
+  -- what is written before a slot that a cell goes on into: all columns of the cell
   pub record GoesOn (slot : ℕ) (width : ℕ) : Type 0 where
     pub number : ℕ
     pub place : Place

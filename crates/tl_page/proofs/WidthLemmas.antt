@@ -27,7 +27,7 @@ HasWidth-append text more width columns all one other sum = record {
   columns = omega (arith, sum_by-append (λ (piece : Line). piece.width) one.pieces other.pieces, one.columns, other.columns, sum);
 }
 
--- so many of a sign
+-- a run of one sign
 pub HasWidth-signs : (sign count : ℕ) → IsSign sign → HasWidth (replicate count sign) count
 HasWidth-signs sign zero is = HasWidth-none
 HasWidth-signs sign (suc count) is =

@@ -53,7 +53,7 @@ picture style grid widths heights contents = record {
 
 -- ---- its lines
 
--- so many spaces
+-- a run of spaces
 abbrev pub spaces : ℕ → List ℕ
 spaces count = replicate count 0x20
 
