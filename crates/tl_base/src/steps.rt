@@ -315,6 +315,28 @@ mod tests {
         Ok(())
     }
 
+    // Each has a step at every second width, one at the odd and one at the even ones: the stack falls
+    // by a line at each width from 2 to 500.
+    #[test]
+    fn a_stack_has_each_step_of_both(rt: HostRuntime) -> Result<(), Fail> {
+        let mut odd = List::new(rt.alloc());
+        let mut even = List::new(rt.alloc());
+        for i in 0..250u32 {
+            odd.push((2 * i + 1, 250 - i))?;
+            even.push((2 * i + 2, 250 - i))?;
+        }
+        let mut want = List::new(rt.alloc());
+        for k in 0..499u32 {
+            want.push(Config {
+                width: 2 + k,
+                height: 500 - k,
+            })?;
+        }
+        let stacked = stacked(rt.alloc(), odd.as_slice(), even.as_slice())?.ok_or("steps")?;
+        assert_eq!(rt; stacked.configs(), want.as_slice());
+        Ok(())
+    }
+
     #[test]
     fn a_frame_has_lines_where_plain_has_spaces(rt: HostRuntime) {
         for (style, gap, row_gap, edge) in [(Style::Plain, 2, 0, 0), (Style::Frame, 1, 1, 1)] {
