@@ -219,7 +219,8 @@ from_name : (e : Bool) (c : ℕ) (n following rest : List ℕ) (others : List At
     → begins (λ c. is_gap c || c ∈ ">") following ≡ true → Attributes following others rest
     → read (tag_name e (c ∷ [])) (n ++ following) ≡ reads (record { is_end = e; name = c ∷ n; attributes = others }) rest
 from_name e c n following rest others each separated attributes =
-    tag_name_run e (c ∷ []) n following each ∙ tag_name_ends e (c ∷ n) following separated ∙ attributes_read (empty_tag e (c ∷ n)) following rest others attributes
+    tag_name_run e (c ∷ []) n following each ∙ tag_name_ends e (c ∷ n) following separated
+    ∙ attributes_read (empty_tag e (c ∷ n)) following rest others attributes
 
 head_read : (e : Bool) (n cs following rest : List ℕ) (others : List Attribute) → IsTagName n → begins (λ c. is_gap c || c ∈ ">") following ≡ true
     → Attributes following others rest → codes "<" ++ cs ≡ opening e ++ (n ++ following)

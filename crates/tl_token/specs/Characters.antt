@@ -7,7 +7,6 @@ use Prim.Native.String.{String}
 use Rattle.tl_base.specs.Lists.{is_among}
 
 infix 60 ◌∈◌
-
 -- the character stands in the text
 abbrev pub ◌∈◌ : ℕ → String → Bool
 c ∈ s = is_among (codes s) c

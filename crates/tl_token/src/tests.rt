@@ -264,7 +264,7 @@ fn texts_are_read_or_refused(rt: HostRuntime) -> Result<(), Fail> {
 }
 
 #[test]
-fn comments_doctypes_and_ends_of_file(rt: HostRuntime) -> Result<(), Fail> {
+fn comments_and_doctypes_are_hidden_and_unended_ones_refused(rt: HostRuntime) -> Result<(), Fail> {
     compare(&rt, rt.alloc(), MARKUP)
 }
 
