@@ -360,7 +360,8 @@ pub sum-bound : (sizes : List ℕ) → ((k : ℕ) → get_or sizes k 0 < 4294967
 sum-bound sizes fit = sum_by-le (λ x. x) 4294967295 sizes (λ k d within. omega (arith, get_or_default sizes k d 0 within, fit k))
 
 -- the total height of few rows is little more than the sum
-pub total-few : (style : Style) (heights : List ℕ) → length heights ≤ MAX_ROWS + 1 → total (row_gap_of style) (edge_of style) heights ≤ sum heights + (MAX_ROWS + 3)
+pub total-few : (style : Style) (heights : List ℕ) → length heights ≤ MAX_ROWS + 1 →
+    total (row_gap_of style) (edge_of style) heights ≤ sum heights + (MAX_ROWS + 3)
 total-few Plain [] few = omega arith
 total-few Frame [] few = omega arith
 total-few Plain (h ∷ heights) few = omega (arith, sum_by-cons (λ x. x) h heights)
@@ -372,7 +373,8 @@ pub all-most : (f : ℕ → ℕ) (most : ℕ) (ns : List ℕ) → ((k : ℕ) →
 all-most f most ns each = sum_by-le (λ x. x) most ns (λ k d within. omega (arith, get_or_default ns k d 0 within, each k within))
 
 module _ (problem : ProblemModel) (sound : IsSound problem) where
-  room-most : (widths : List ℕ) → WithinPage problem widths → (k : ℕ) → k < length problem.cells → cell_width problem widths (cell_at problem.cells k) ≤ MAX_PAGE_WIDTH
+  room-most : (widths : List ℕ) → WithinPage problem widths → (k : ℕ) → k < length problem.cells →
+      cell_width problem widths (cell_at problem.cells k) ≤ MAX_PAGE_WIDTH
   room-most widths page k within =
       let cell = cell_at problem.cells k in
       let is = sound.cells k none within in
