@@ -12,15 +12,15 @@
 --   2-8 chain           where the third column has at most 8, the heights sum to 4
 --   2+9 chain           where it has at least 9, the fourth has at most 19 - 1 - 1 - 9, and they do as well
 --   z0 @0 @1 fired      the first line's bound fails, so the third column has 9: the second line's nogood holds
-use Rattle.std.proofs.Common.{◌≡◌, ◌≢◌, ℕ, ◌+◌, ◌-◌, ◌*◌, ◌<◌, ◌≤◌, zero, suc, List, []}
-use Rattle.std.proofs.Common.{◌∷◌, ◌++◌, inl, inr, length, get_or, take, refl, sym, ap, ◌∙◌, subst, arith}
-use Rattle.std.specs.List.{All, AllPairs, Contains}
+use Rattle.std.proofs.Common.{◌≡◌, ◌≢◌, ℕ, ◌+◌, ◌*◌, ◌<◌, ◌≤◌, zero, suc, List, []}
+use Rattle.std.proofs.Common.{◌∷◌, inl, inr, length, get_or, take, refl, sym, arith}
+use Rattle.std.specs.List.{All}
 use Rattle.std.proofs.lemmas.Bool.{cases_lt}
-use Rattle.std.proofs.lemmas.List.Elements.{All-nil, All-cons, All-from_recursion}
+use Rattle.std.proofs.lemmas.List.Elements.{All-nil, All-from_recursion}
 use Rattle.tl_base.specs.declared.style.Style.TheVariants.{Plain}
 use Rattle.tl_base.specs.declared.steps.Config.{Config}
-use Rattle.tl_base.specs.Steps.{AreSteps, first_width, IsLowAt}
-use Rattle.tl_base.proofs.Members.{Contains-first, Contains-cases, Contains-none, AllPairs-none, AllPairs-cons}
+use Rattle.tl_base.specs.Steps.{first_width, IsLowAt}
+use Rattle.tl_base.proofs.Members.{Contains-first, Contains-cases, Contains-none}
 use Rattle.tl_problem.specs.declared.cell.Cell.{Cell}
 use Rattle.tl_problem.specs.Sizes.{room, total}
 use Rattle.tl_problem.specs.Problem.{ProblemModel, cell_width, cell_height}
@@ -30,14 +30,13 @@ use Rattle.tl_problem.specs.Zones.{whole_zone}
 use Rattle.tl_problem.specs.Bounds.{IsGreatestRoom, GiveLow, IsBound}
 use Rattle.tl_problem.proofs.Heights.{test_le, test_le_false}
 use Rattle.tl_cert.specs.declared.log.Bound.{Bound}
-use Rattle.tl_cert.specs.declared.log.Side.TheVariants.{Most, Least}
-use Rattle.tl_cert.specs.declared.log.End.TheVariants.{Fired, Cycle, Chain}
+use Rattle.tl_cert.specs.declared.log.End.TheVariants.{Fired, Chain}
 use Rattle.tl_cert.specs.declared.log.LogLine.{LogLine}
 use Rattle.tl_cert.specs.declared.log.Nogood.TheVariants.{Zone, Bounds}
 use Rattle.tl_cert.specs.declared.trace.CutAt.{CutAt}
-use Rattle.tl_cert.specs.Traces.{IsCut, IsTraceOf}
+use Rattle.tl_cert.specs.Traces.{IsTraceOf}
 use Rattle.tl_cert.specs.Nogoods.{Meets, Breaks, at_most, at_least, zone_bounds, NamesAreThere}
-use Rattle.tl_cert.specs.Implied.{IsLeft, Implied, OneLeft}
+use Rattle.tl_cert.specs.Implied.{IsLeft, Implied}
 use Rattle.tl_cert.specs.Lines.{nogood_at, IsGoodLine, IsGoodLog}
 use Rattle.tl_cert.specs.Worked.{IsWorked}
 

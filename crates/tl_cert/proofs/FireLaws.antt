@@ -1,6 +1,6 @@
 -- Firing is a function: what joins is determined, part by part, and a nogood with two bounds that do not follow ends it.
-use Rattle.std.proofs.Common.{◌≡◌, ◌≢◌, ℕ, List, [], ◌∷◌, ◌++◌, ◌⊎◌, inl, inr, length, get_or, refl, sym, ap, ◌∙◌, subst, arith}
-use Rattle.std.specs.List.{All, Contains}
+use Rattle.std.proofs.Common.{◌≡◌, ◌≢◌, ℕ, List, [], ◌∷◌, ◌++◌, ◌⊎◌, inl, inr, refl, sym, ap, ◌∙◌, subst}
+use Rattle.std.specs.List.{Contains}
 use Rattle.std.proofs.lemmas.List.Elements.{All-contains}
 use Rattle.tl_problem.specs.Problem.{ProblemModel}
 use Rattle.tl_problem.proofs.ZoneLaws.{cases_eq}

@@ -55,7 +55,8 @@ module _ {S A V E : Type 0} (list : ListReading S A V E) where
   stop_so (suc k) s text e = stops_so (list.turn k s) text (list.item k s >>= λ a.
       (list_at list k (list.next s a) >>= λ y. give (listing (list.view a ∷ y.0) (y.1)))) (stopping list s) e
 
-  pushed : (prefix : List V) (v : V) (x : Answer (Listing V E)) → prepend prefix (then_read x (λ y. give (listing (v ∷ y.0) (y.1)))) ≡ prepend (prefix ++ v ∷ []) x
+  pushed : (prefix : List V) (v : V) (x : Answer (Listing V E)) →
+      prepend prefix (then_read x (λ y. give (listing (v ∷ y.0) (y.1)))) ≡ prepend (prefix ++ v ∷ []) x
   unfolding give
   pushed prefix v (got y rest) = ap (λ (vs : List V). got (listing vs y.1) rest) (sym (append_assoc prefix (v ∷ []) y.0))
   pushed prefix v (wrong left) = refl

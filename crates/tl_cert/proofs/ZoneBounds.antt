@@ -1,25 +1,22 @@
 -- The widths of a zone are those within the page that meet its bounds.
-use Rattle.std.proofs.Common.{◌≡◌, ◌≢◌, ℕ, ◌+◌, ◌-◌, ◌<◌, ◌≤◌, zero, suc, Bool, true, false, nat_lt, if◌then◌else◌}
-use Rattle.std.proofs.Common.{List, [], ◌∷◌, ◌++◌, ◌⊎◌, inl, inr, length, get_or, refl, sym, ap, ◌∙◌, subst, arith}
-use Rattle.std.specs.List.{All, Contains, flat_map, range_with_len}
+use Rattle.std.proofs.Common.{◌≡◌, ℕ, ◌+◌, ◌<◌, ◌≤◌, Bool, true, false, nat_lt, if◌then◌else◌}
+use Rattle.std.proofs.Common.{List, [], ◌∷◌, inl, inr, length, ap, subst, arith}
+use Rattle.std.specs.List.{All, Contains, range_with_len}
 use Rattle.std.proofs.lemmas.Bool.{cases_lt}
 use Rattle.std.proofs.lemmas.Bool.Decides.{nat_tests}
 use Rattle.std.proofs.lemmas.List.{get_or_past}
 use Rattle.std.proofs.lemmas.List.Elements.{All-contains, Contains-append_left, Contains-append_right, Contains-append_cases}
-use Rattle.tl_base.specs.Style.{gap_of}
 use Rattle.tl_base.proofs.Members.{All-from_Contains, Contains-first, Contains-cases, Contains-none}
 use Rattle.tl_base.proofs.Members.{Contains-flat_map, flat_map-Contains, Contains-range, range-Contains}
 use Rattle.tl_problem.specs.declared.zone.Range.{Range}
 use Rattle.tl_problem.specs.Problem.{ProblemModel}
 use Rattle.tl_problem.specs.Layouts.{WithinPage}
 use Rattle.tl_problem.specs.Sound.{IsSound}
-use Rattle.tl_problem.specs.Spans.{spans_of, page_room}
+use Rattle.tl_problem.specs.Spans.{page_room}
 use Rattle.tl_problem.specs.Zones.{span_at, classes_at, first_in_class, last_in_class, range_at, IsZone, span_width, IsWidthOf, InZone}
 use Rattle.tl_problem.proofs.SpanLaws.{least_width-within, classes-first, room-in_page}
 use Rattle.tl_problem.proofs.ZoneLaws.{span-within}
 use Rattle.tl_cert.specs.declared.log.Bound.{Bound}
-use Rattle.tl_cert.specs.declared.log.Side.{Side}
-use Rattle.tl_cert.specs.declared.log.Side.TheVariants.{Most, Least}
 use Rattle.tl_cert.specs.Nogoods.{Meets, at_most, at_least, range_bounds, zone_bounds}
 
 pub lt_test : (a b : ℕ) → a < b → nat_lt a b ≡ true

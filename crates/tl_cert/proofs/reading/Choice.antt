@@ -15,7 +15,8 @@ same_begins test [] (b ∷ rest) (c ∷ other) same = ap test same
 same_begins test (d ∷ prefix) rest other same = refl
 
 -- what follows a number's first digit makes no difference
-begins-numeral : (test : ℕ → Bool) (prefix : List ℕ) (n : ℕ) (x y : List ℕ) → begins test (prefix ++ (numeral n ++ x)) ≡ begins test (prefix ++ (numeral n ++ y))
+begins-numeral : (test : ℕ → Bool) (prefix : List ℕ) (n : ℕ) (x y : List ℕ) →
+    begins test (prefix ++ (numeral n ++ x)) ≡ begins test (prefix ++ (numeral n ++ y))
 begins-numeral test [] n x y = let p = numeral_first n in ap (λ (ds : List ℕ). begins test (ds ++ x)) p.2
     ∙ sym (ap (λ (ds : List ℕ). begins test (ds ++ y)) p.2)
 begins-numeral test (d ∷ prefix) n x y = refl
