@@ -1,7 +1,5 @@
-//! Problems counted by hand. A row of a table has the page, the cells and what is wanted. A page is its
-//! style, the columns and rows of the grid and its width. A cell is its columns, its rows and its steps:
-//! `0-2 0-1 = 4:3 7:2` covers two columns of the first row, and needs three lines from 4 columns on, two
-//! from 7. Where `high` differs from `low`, its steps follow ` / `.
+//! Problems counted by hand. A row of a table has the page, as `sound` reads it, the cells, as `cell`
+//! reads each of them, and what is wanted.
 
 ghost use Rattle.std.specs.Prelude.{IfOk, IfSome};
 ghost use Rattle.tl_problem.specs.Placements.{IsPlacement};
@@ -131,7 +129,9 @@ fn steps(alloc: Global, text: &str) -> Result<Steps, Fail> {
     Ok(Steps::new(list).ok_or("no steps")?)
 }
 
-/// The cell that is written so.
+/// The cell that is written as its columns, its rows and its steps: `0-2 0-1 = 4:3 7:2` covers two columns
+/// of the first row, and needs three lines from 4 columns on, two from 7. Where `high` differs from `low`,
+/// its steps follow ` / `.
 fn cell(alloc: Global, text: &str) -> Result<Cell, Fail> {
     let (place, both) = text.split_once(" = ").ok_or("no steps")?;
     let (columns, rows) = place.split_once(' ').ok_or("no rows")?;
@@ -150,7 +150,7 @@ fn cell(alloc: Global, text: &str) -> Result<Cell, Fail> {
     })
 }
 
-/// The cells that are written so, `; ` between two.
+/// The cells that are written with `; ` between two.
 fn cells(alloc: Global, text: &str) -> Result<List<Cell>, Fail> {
     let mut list = List::new(alloc);
     if text.is_empty() {
@@ -162,14 +162,17 @@ fn cells(alloc: Global, text: &str) -> Result<List<Cell>, Fail> {
     Ok(list)
 }
 
-/// The problem of these cells on this page, or `None` if it is not sound.
+/// The problem of these cells on this page, or `None` if it is not sound. A page is its style, the columns
+/// and rows of the grid, and its width: `plain 2x1 12`.
 fn sound(alloc: Global, page: &str, text: &str) -> Result<Option<Problem>, Fail> {
     let (style, page) = page.split_once(' ').ok_or("no grid")?;
     let (size, width) = page.split_once(' ').ok_or("no width")?;
     let style = if style == "frame" {
         Style::Frame
-    } else {
+    } else if style == "plain" {
         Style::Plain
+    } else {
+        return Err("no style".into());
     };
     let (cols, rows) = pair(size, 'x')?;
     let width = number(width)?;
@@ -250,21 +253,23 @@ fn spans_are_by_left_then_right_and_classes_begin_within_the_page(
         let (page, row) = halves(row)?;
         let (cells, wanted) = halves(row)?;
         let found = classes_of(rt.alloc(), &problem(rt.alloc(), page, cells)?)?;
-        assert_eq!(rt; found.as_str(), wanted);
+        assert_eq!(rt; found.as_str(), wanted, "{page} {cells}");
     }
     Ok(())
 }
 
 #[test]
-fn bounds_and_openings_of_whole_problems(rt: HostRuntime) -> Result<(), Fail> {
+fn whole_problems_have_the_bounds_and_openings_counted_by_hand(
+    rt: HostRuntime,
+) -> Result<(), Fail> {
     for row in WHOLES.lines() {
         let (page, row) = halves(row)?;
         let (cells, wanted) = halves(row)?;
         let problem = problem(rt.alloc(), page, cells)?;
         let found = found_in(rt.alloc(), &problem, &whole(&problem)?)?;
-        assert_eq!(rt; found.as_str(), wanted);
+        assert_eq!(rt; found.as_str(), wanted, "{page} {cells}");
         let opening = shown(rt.alloc(), &problem.opening()?)?;
-        assert!(rt; wanted.ends_with(opening.as_str()));
+        assert!(rt; wanted.ends_with(opening.as_str()), "{page} {cells}");
     }
     Ok(())
 }
@@ -281,15 +286,19 @@ fn placed(alloc: Global, problem: &Problem, widths: &str) -> Result<Option<Place
 }
 
 #[test]
-fn the_least_heights_stand_under_widths_within_the_page(rt: HostRuntime) -> Result<(), Fail> {
+fn a_placement_has_the_least_heights_under_its_widths(rt: HostRuntime) -> Result<(), Fail> {
     for row in PLACED.lines() {
         let (page, row) = halves(row)?;
         let (cells, row) = halves(row)?;
         let (widths, wanted) = halves(row)?;
         let problem = problem(rt.alloc(), page, cells)?;
         match placed(rt.alloc(), &problem, widths)? {
-            Some(placed) => assert_eq!(rt; shown(rt.alloc(), &placed)?.as_str(), wanted),
-            None => assert_eq!(rt; "None", wanted),
+            Some(placed) => assert_eq!(rt;
+                shown(rt.alloc(), &placed)?.as_str(),
+                wanted,
+                "{page} {cells} {widths}"
+            ),
+            None => assert_eq!(rt; "None", wanted, "{page} {cells} {widths}"),
         }
     }
     Ok(())
@@ -380,7 +389,7 @@ fn a_colspan_is_cut_at_its_own_classes(rt: HostRuntime) -> Result<(), Fail> {
 }
 
 #[test]
-fn what_a_work_holds_has_the_bounds_of_the_whole(rt: HostRuntime) -> Result<(), Fail> {
+fn a_new_work_has_the_bounds_of_the_whole(rt: HostRuntime) -> Result<(), Fail> {
     let problem = problem(rt.alloc(), "plain 2x1 12", TWO_CELLS)?;
     let mut work = Work::new(&problem)?;
     assert_eq!(rt; problem.held_bound(&mut work), Some(2));
@@ -393,8 +402,12 @@ fn a_sound_problem_keeps_the_grid_its_steps_and_the_page(rt: HostRuntime) -> Res
     for row in SOUND.lines() {
         let (page, row) = halves(row)?;
         let (cells, wanted) = halves(row)?;
-        let is = sound(rt.alloc(), page, cells)?.is_some();
-        assert_eq!(rt; is, wanted == "true");
+        let found = if sound(rt.alloc(), page, cells)?.is_some() {
+            "true"
+        } else {
+            "false"
+        };
+        assert_eq!(rt; found, wanted, "{page} {cells}");
     }
     Ok(())
 }
@@ -425,7 +438,7 @@ fn counts_of_sixty_columns_stop_at_the_last_number_of_64_bits(rt: HostRuntime) -
         let (one, wanted) = halves(row)?;
         let problem = a_row(rt.alloc(), 60, number(more)?, one)?.ok_or("no sound problem")?;
         let found = format!(in rt.alloc(); "{}", problem.count())?;
-        assert_eq!(rt; found.as_str(), wanted);
+        assert_eq!(rt; found.as_str(), wanted, "{more} {one}");
     }
     assert!(rt; a_row(rt.alloc(), 61, 0, "1:1")?.is_none());
     Ok(())
@@ -441,5 +454,23 @@ fn sixty_columns_have_a_bound_below_their_area_bound(rt: HostRuntime) -> Result<
     assert_eq!(rt; problem.bound_of(&whole, &mut work), Some(1));
     assert_eq!(rt; problem.area_of(&whole, &mut work), Some(2));
     assert_eq!(rt; problem.bound_of(&whole, &mut work), Some(1));
+    Ok(())
+}
+
+// 60 columns of one and 59 gaps of two take 178 columns, and each cell needs two lines. In the upper part
+// the last column has three.
+#[test]
+fn sixty_columns_are_placed_in_the_whole_and_in_a_part_of_it(rt: HostRuntime) -> Result<(), Fail> {
+    let problem = a_row(rt.alloc(), 60, 0, "1:1")?.ok_or("no sound problem")?;
+    let whole = whole(&problem)?;
+    let mut work = Work::new(&problem)?;
+    let placed = problem.place_in(&whole, &mut work)?.ok_or("no placement")?;
+    assert_eq!(rt; (placed.width, placed.height), (178, 2));
+    let (_, upper) = cut(&whole, &problem, 59)?;
+    let placed = problem.place_in(&upper, &mut work)?.ok_or("no placement")?;
+    assert_eq!(rt; (placed.width, placed.height), (180, 2));
+    let ones = vec![in rt.alloc(); 1u32; 60]?;
+    let placed = problem.place(&ones)?.ok_or("no placement")?;
+    assert_eq!(rt; (placed.width, placed.height), (178, 2));
     Ok(())
 }
