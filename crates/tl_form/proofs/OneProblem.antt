@@ -129,7 +129,7 @@ one_document table style page one other sound is are = λ i. record {
   widths : one.least ≡ other.least
   widths = same_items one.least other.least long each
 
--- ---- one answer
+-- ---- one reason
 
 pub refused_once : ProblemIsDetermined → RefusedForOneReason
 refused_once determined table style page budget certificate sound one other is are =
