@@ -25,12 +25,16 @@ near-decided bounds a b most None is = (λ never. absurd never, λ implied. absu
 near-decided bounds a b most (Some m) is = (λ less. Implied-from bounds a b m most is less, λ implied. Implied-le bounds a b m most is implied)
 
 -- a width that is cut off past the page bounds the same rooms as the whole one
-module _ (room gap w cut : ℕ) (few : room ≤ MAX_PAGE_WIDTH) (same : w ≤ MAX_PAGE_WIDTH → cut ≡ w) (past : MAX_PAGE_WIDTH < w → cut ≡ MAX_PAGE_WIDTH + 1) (m : ℤ) where
+module _ (room gap w cut : ℕ) (few : room ≤ MAX_PAGE_WIDTH) (same : w ≤ MAX_PAGE_WIDTH → cut ≡ w)
+    (past : MAX_PAGE_WIDTH < w → cut ≡ MAX_PAGE_WIDTH + 1) (m : ℤ) where
   pub near-to : m ≡ pos (cut + gap) → pos (room + gap) ≤ℤ m → room ≤ w
   near-to is h = elim (cases_lt MAX_PAGE_WIDTH w) [ inl above ↦ omega (arith, few, above) | inr within ↦ omega (arith, ints, is, h, same within) ]
 
   pub near-from : m ≡ pos (cut + gap) → room ≤ w → pos (room + gap) ≤ℤ m
-  near-from is h = elim (cases_lt MAX_PAGE_WIDTH w) [ inl above ↦ omega (arith, ints, is, few, past above) | inr within ↦ omega (arith, ints, is, h, same within) ]
+  near-from is h = elim (cases_lt MAX_PAGE_WIDTH w) [
+    | inl above ↦ omega (arith, ints, is, few, past above)
+    | inr within ↦ omega (arith, ints, is, h, same within)
+  ]
 
   pub apart-to : m ≡ pos (cut + gap) → m ≤ℤ pos (room + gap) → w ≤ room
   apart-to is h = elim (cases_lt MAX_PAGE_WIDTH w) [
@@ -40,7 +44,10 @@ module _ (room gap w cut : ℕ) (few : room ≤ MAX_PAGE_WIDTH) (same : w ≤ MA
   ]
 
   pub apart-from : m ≡ pos (cut + gap) → w ≤ room → m ≤ℤ pos (room + gap)
-  apart-from is h = elim (cases_lt MAX_PAGE_WIDTH w) [ inl above ↦ absurd (omega (arith, few, above, h)) | inr within ↦ omega (arith, ints, is, h, same within) ]
+  apart-from is h = elim (cases_lt MAX_PAGE_WIDTH w) [
+    | inl above ↦ absurd (omega (arith, few, above, h))
+    | inr within ↦ omega (arith, ints, is, h, same within)
+  ]
 
   pub past-to : m ≡ pos (cut + gap + 1) → m ≤ℤ pos (room + gap) → w + 1 ≤ room
   past-to is h = elim (cases_lt MAX_PAGE_WIDTH w) [
@@ -56,7 +63,10 @@ module _ (room gap w cut : ℕ) (few : room ≤ MAX_PAGE_WIDTH) (same : w ≤ MA
   below-to is h = elim (cases_lt MAX_PAGE_WIDTH w) [ inl above ↦ omega (arith, few, above) | inr within ↦ omega (arith, ints, is, h, same within) ]
 
   pub below-from : m ≡ pos (cut + gap) -ℤ pos 1 → room + 1 ≤ w → pos (room + gap) ≤ℤ m
-  below-from is h = elim (cases_lt MAX_PAGE_WIDTH w) [ inl above ↦ omega (arith, ints, is, few, past above) | inr within ↦ omega (arith, ints, is, h, same within) ]
+  below-from is h = elim (cases_lt MAX_PAGE_WIDTH w) [
+    | inl above ↦ omega (arith, ints, is, few, past above)
+    | inr within ↦ omega (arith, ints, is, h, same within)
+  ]
 
 module _ (problem : ProblemModel) (bounds : Bounds) (keeps : IsMatrixOf problem bounds) (s : ℕ) (inside : s < length (spans_of problem)) where
   abbrev left_of : ℕ

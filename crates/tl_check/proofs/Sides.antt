@@ -19,8 +19,8 @@ use Rattle.tl_check.proofs.Rooms.{near-to, near-from, apart-to, apart-from, past
 use Rattle.tl_check.proofs.Rooms.{room-few, most-implied, implied-most, least-implied, implied-least}
 use Rattle.tl_check.proofs.Leaving.{Restricts-same}
 
-module _ (problem : ProblemModel) (bound : Bound) (inside : bound.span < length (spans_of problem)) (cut : ℕ) (same : bound.width ≤ MAX_PAGE_WIDTH → cut ≡ bound.width)
-    (past : MAX_PAGE_WIDTH < bound.width → cut ≡ MAX_PAGE_WIDTH + 1) where
+module _ (problem : ProblemModel) (bound : Bound) (inside : bound.span < length (spans_of problem)) (cut : ℕ)
+    (same : bound.width ≤ MAX_PAGE_WIDTH → cut ≡ bound.width) (past : MAX_PAGE_WIDTH < bound.width → cut ≡ MAX_PAGE_WIDTH + 1) where
   abbrev gap : ℕ
   gap = gap_of problem.style
 

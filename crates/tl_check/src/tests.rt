@@ -5,7 +5,7 @@ ghost use Rattle.std.specs.Prelude.{◌<◌};
 use crate::Checker;
 use std::alloc::Global;
 use std::test::Fail;
-use tl_base::{Config, List, Steps, Style};
+use tl_base::{Config, List, MAX_BUDGET, Steps, Style};
 use tl_cert::{Bound, CutAt, End, Log, LogLine, Nogood, Section, Side, Trace};
 use tl_problem::{Cell, Problem};
 
@@ -129,7 +129,7 @@ fn one_line(alloc: Global, fires: &[u32], end: End) -> Result<Log, Fail> {
 
 /// Whether the cuts are a trace.
 fn is_trace(alloc: Global, problem: &Problem, trace: &Trace) -> Result<bool, Fail> {
-    if trace.len() > 10 {
+    if trace.len() > MAX_BUDGET as usize {
         return Err("too many cuts".into());
     }
     let mut checker = Checker::reserve(alloc, problem, trace.len() as u32)?;
@@ -258,7 +258,7 @@ fn an_area_ends_what_no_chain_does(rt: HostRuntime) -> Result<(), Fail> {
 
 // Each cut is of a zone that stands, and leaves both parts some classes.
 #[test]
-fn a_cut_parts_a_zone_that_stands(rt: HostRuntime) -> Result<(), Fail> {
+fn a_cut_separates_the_classes_of_a_standing_zone(rt: HostRuntime) -> Result<(), Fail> {
     let problem = two_columns(rt.alloc())?;
     for (cuts, want) in [
         ([].as_slice(), true),
@@ -281,6 +281,22 @@ fn a_cut_parts_a_zone_that_stands(rt: HostRuntime) -> Result<(), Fail> {
             cuts.len()
         );
     }
+    Ok(())
+}
+
+// There is room for as many cuts as a budget allows. After the first of these the whole stands no more.
+#[test]
+fn the_most_cuts_of_one_zone_are_no_trace(rt: HostRuntime) -> Result<(), Fail> {
+    let problem = two_columns(rt.alloc())?;
+    let mut cuts = List::new(rt.alloc());
+    for _ in 0..MAX_BUDGET {
+        cuts.push(CutAt {
+            zone: 0,
+            span: 0,
+            class: 0,
+        })?;
+    }
+    assert!(rt; !is_trace(rt.alloc(), &problem, &cuts)?);
     Ok(())
 }
 
