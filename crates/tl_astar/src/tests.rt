@@ -166,7 +166,7 @@ fn an_area_bound_closes_two_pairs_without_cuts(rt: HostRuntime) -> Result<(), Fa
     Ok(())
 }
 
-// With cuts left nothing is cut either.
+// The area bound closes the whole, so that nothing is cut though 100 cuts are allowed.
 #[test]
 fn a_zone_that_its_area_bound_closes_is_not_cut(rt: HostRuntime) -> Result<(), Fail> {
     let alloc = rt.alloc();
@@ -177,8 +177,8 @@ fn a_zone_that_its_area_bound_closes_is_not_cut(rt: HostRuntime) -> Result<(), F
     Ok(())
 }
 
-// In 3 columns the first cell needs one line by `low` and two by `high`. The area bound is as before, but
-// the whole is cut all the same.
+// In 3 columns the first cell needs one line by `low` and two by `high`. The area bound is two, the height
+// of the opening, but it closes no zone where `low` is not `high`.
 #[test]
 fn a_zone_is_cut_for_all_its_area_bound_where_low_is_not_high(rt: HostRuntime) -> Result<(), Fail> {
     let alloc = rt.alloc();
@@ -206,7 +206,7 @@ fn a_gap_between_low_and_high_stays_open(rt: HostRuntime) -> Result<(), Fail> {
 }
 
 #[test]
-fn no_columns_take_no_line(rt: HostRuntime) -> Result<(), Fail> {
+fn a_problem_without_columns_has_height_0(rt: HostRuntime) -> Result<(), Fail> {
     let alloc = rt.alloc();
     let problem = problem(alloc, 0, 0, 10, List::new(alloc))?;
     let outcome = Best::new(alloc).solve(&problem, 5)?;
@@ -338,7 +338,7 @@ fn drawn_table(alloc: Global, number: u32, size: Size, width: u32) -> Result<Pro
     problem(alloc, size.cols, size.rows, width, cells)
 }
 
-// Each closes with few cuts, where the plain search does not come to an end.
+// Each closes within 2,000 cuts.
 #[test]
 fn twenty_drawn_tables_close(rt: HostRuntime) -> Result<(), Fail> {
     let alloc = rt.alloc();
