@@ -268,12 +268,7 @@ const DATAFRAME: &str = "<table border=\"1\" class=\"dataframe\">
 ";
 
 /// Compares the table of each line's file with what stands after its arrow.
-fn compare(
-    rt: &impl Abort,
-    alloc: Global,
-    table: &str,
-    breaking: Breaking,
-) -> Result<(), Fail> {
+fn compare(rt: &impl Abort, alloc: Global, table: &str, breaking: Breaking) -> Result<(), Fail> {
     let cases = table.strip_prefix('\n').ok_or("a case on the first line")?;
     for line in cases.lines() {
         let (input, wanted) = line.split_once(" => ").ok_or("a line without an arrow")?;
@@ -331,7 +326,9 @@ fn words_are_separated_into_units_at_all_depths(rt: HostRuntime) -> Result<(), F
 #[test]
 fn least_widths_and_heaviest_chains_are_those_counted_by_hand(rt: HostRuntime) -> Result<(), Fail> {
     let alloc = rt.alloc();
-    let cases = NARROWEST.strip_prefix('\n').ok_or("a case on the first line")?;
+    let cases = NARROWEST
+        .strip_prefix('\n')
+        .ok_or("a case on the first line")?;
     for line in cases.lines() {
         let (file, wanted) = line.split_once(" => ").ok_or("a line without an arrow")?;
         let found = narrowest(alloc, file, Style::Plain)?;
