@@ -79,21 +79,18 @@ fn are_few(groups: &[ShapeGroup]) -> bool
     true
 }
 
-/// The digit, between `low` and 9.
-fn digit(byte: Option<&u8>, low: u32) -> u32
-    ensures { (result ≤ 9) × (low ≤ 9 → low ≤ result) }
-{
-    let value = match byte {
-        Some(&b @ b'0'..=b'9') => u32::from(b - b'0'),
-        _ => low,
-    };
-    value.max(low).min(9)
+/// The number of a digit.
+fn digit(byte: Option<&u8>) -> Result<u32, Fail> {
+    match byte {
+        Some(&b @ b'0'..=b'9') => Ok(u32::from(b - b'0')),
+        _ => Err("no digit".into()),
+    }
 }
 
 /// Reads a table: `|` stands between row groups, `/` between rows and a blank between cells; a
 /// group of which the text begins with `f` is a footer; a cell is the digits of its colspan and its
 /// rowspan.
-fn read(alloc: Global, text: &str) -> Result<Shape, AllocError> {
+fn read(alloc: Global, text: &str) -> Result<Shape, Fail> {
     let mut groups = List::new(alloc);
     for group in text.split('|') {
         let mut rows = List::new(alloc);
@@ -102,8 +99,8 @@ fn read(alloc: Global, text: &str) -> Result<Shape, AllocError> {
             for cell in row.split_whitespace() {
                 let digits = cell.as_bytes();
                 spans.push(SpanOf {
-                    colspan: digit(digits.get(0), 1),
-                    rowspan: digit(digits.get(1), 0),
+                    colspan: digit(digits.get(0))?,
+                    rowspan: digit(digits.get(1))?,
                 })?;
             }
             rows.push(spans)?;
@@ -361,7 +358,7 @@ fn out_of_memory_is_printed(rt: HostRuntime) -> Result<(), Fail> {
 }
 
 #[test]
-fn growing_cells_above_many_empty_rows(rt: HostRuntime) -> Result<(), Fail> {
+fn growing_cells_above_many_empty_rows_are_too_many_columns(rt: HostRuntime) -> Result<(), Fail> {
     let growing = SpanOf {
         colspan: 1,
         rowspan: 0,
@@ -372,7 +369,7 @@ fn growing_cells_above_many_empty_rows(rt: HostRuntime) -> Result<(), Fail> {
 }
 
 #[test]
-fn long_cells_one_under_the_other(rt: HostRuntime) -> Result<(), Fail> {
+fn long_cells_one_under_the_other_are_too_many_columns(rt: HostRuntime) -> Result<(), Fail> {
     let long = SpanOf {
         colspan: 1000,
         rowspan: 65534,
@@ -383,7 +380,7 @@ fn long_cells_one_under_the_other(rt: HostRuntime) -> Result<(), Fail> {
 }
 
 #[test]
-fn long_cells_in_a_square(rt: HostRuntime) -> Result<(), Fail> {
+fn long_cells_in_a_square_are_too_many_columns(rt: HostRuntime) -> Result<(), Fail> {
     let long = SpanOf {
         colspan: 1000,
         rowspan: 65534,
