@@ -366,12 +366,14 @@ wrong_at ks prefix k rest e split alive within h = by_test (is_failed (next (rea
       wrong = wrong;
     }
 
-    as_found : (found : TreeError) → fault (0 + length prefix) (tables_after 0 prefix) (reached before prefix) k ≡ Some found → IsRefused ks found → IsRefused ks e
+    as_found : (found : TreeError) → fault (0 + length prefix) (tables_after 0 prefix) (reached before prefix) k ≡ Some found
+        → IsRefused ks found → IsRefused ks e
     as_found found f r = let same : found ≡ e = (let c : Some found ≡ Some e = sym f ∙ h in cc) in subst (IsRefused ks) same r
 
     by_kind : (b : Bool) → is_text k ≡ b → is_failed (next (reached before prefix) k) ≡ true → IsRefused ks e
     by_kind true is dead =
-        as_found (StrayText (0 + length prefix)) (misfit_fault _ _ _ k dead ∙ ap (λ x. Some x) (text_misfit _ _ k is refl)) (at (is, is_no_prefix prefix k dead))
+        as_found (StrayText (0 + length prefix)) (misfit_fault _ _ _ k dead ∙ ap (λ x. Some x) (text_misfit _ _ k is refl))
+        (at (is, is_no_prefix prefix k dead))
     by_kind false is dead =
         as_found (Misplaced (0 + length prefix)) (misfit_fault _ _ _ k dead ∙ ap (λ x. Some x) (tag_misfit _ _ k is refl)) (at (is, is_no_prefix prefix k dead))
 
