@@ -1,3 +1,5 @@
+//! Files with their trees or their errors, counted by hand, and files at the limits.
+
 use crate::{Block, CellNode, GroupNode, TableNode, TreeError, tree};
 use std::alloc::{AllocError, Global};
 use std::process::Abort;
@@ -310,16 +312,14 @@ fn the_first_examples_are_read(rt: HostRuntime) -> Result<(), Fail> {
 }
 
 #[test]
-fn line_feeds_and_indents_between_tags_are_nothing(rt: HostRuntime) -> Result<(), Fail> {
+fn white_space_between_tags_is_ignored(rt: HostRuntime) -> Result<(), Fail> {
     let wanted = "[T0 Head{| h h(name) h(qty)} Body{| h(0) d(red pepper) d(12)}]";
     assert_eq!(rt; shown(rt.alloc(), DATAFRAME.as_bytes())?.as_str(), wanted);
     Ok(())
 }
 
 #[test]
-fn a_limit_is_passed_at_the_first_token_at_which_it_can_be_and_at_later_ones(
-    rt: HostRuntime,
-) -> Result<(), Fail> {
+fn the_token_that_passes_a_limit_is_named(rt: HostRuntime) -> Result<(), Fail> {
     let alloc = rt.alloc();
     // Eight tables, each in a caption, and a ninth.
     let file = repeated(alloc, "<table><caption>", 9)?;
@@ -360,7 +360,7 @@ fn what_is_no_document_is_refused_at_its_first_wrong_token(rt: HostRuntime) -> R
 }
 
 #[test]
-fn eight_tables_are_inside_one_another(rt: HostRuntime) -> Result<(), Fail> {
+fn at_most_eight_tables_are_inside_one_another(rt: HostRuntime) -> Result<(), Fail> {
     let alloc = rt.alloc();
     let starts = repeated(alloc, "<table><tr><td>", 7)?;
     let ends = repeated(alloc, "</table>", 7)?;
@@ -378,7 +378,7 @@ fn eight_tables_are_inside_one_another(rt: HostRuntime) -> Result<(), Fail> {
 }
 
 #[test]
-fn two_hundred_tables_are_in_a_document(rt: HostRuntime) -> Result<(), Fail> {
+fn a_document_has_at_most_200_tables(rt: HostRuntime) -> Result<(), Fail> {
     let alloc = rt.alloc();
     let nested = repeated(alloc, "<table></table>", 199)?;
     let file = format!(in alloc; "<table><tr><td>{}", nested.as_str())?;
@@ -409,21 +409,21 @@ fn compare_large(
 }
 
 #[test]
-fn rows_that_fill_a_file(rt: HostRuntime) -> Result<(), Fail> {
+fn rows_that_fill_a_file_are_read(rt: HostRuntime) -> Result<(), Fail> {
     let file = ("<table>", "<tr>", "</table>");
     compare_large(&rt, rt.alloc(), 262_140, file, ("[T0 Loose{", "|", "}]"))?;
     Ok(())
 }
 
 #[test]
-fn empty_cells_that_fill_a_file(rt: HostRuntime) -> Result<(), Fail> {
+fn empty_cells_that_fill_a_file_are_read(rt: HostRuntime) -> Result<(), Fail> {
     let file = ("<table><tr>", "<td></td>", "</table>");
     compare_large(&rt, rt.alloc(), 116_506, file, ("[T0 Loose{|", " d", "}]"))?;
     Ok(())
 }
 
 #[test]
-fn breaks_that_fill_a_file(rt: HostRuntime) -> Result<(), Fail> {
+fn breaks_that_fill_a_file_are_read(rt: HostRuntime) -> Result<(), Fail> {
     let file = ("<table><tr><td><br>", "<br>", "</table>");
     let wanted = ("[T0 Loose{| d(/", " /", ")}]");
     compare_large(&rt, rt.alloc(), 262_136, file, wanted)?;
@@ -431,7 +431,7 @@ fn breaks_that_fill_a_file(rt: HostRuntime) -> Result<(), Fail> {
 }
 
 #[test]
-fn words_that_fill_a_file(rt: HostRuntime) -> Result<(), Fail> {
+fn words_that_fill_a_file_are_read(rt: HostRuntime) -> Result<(), Fail> {
     let file = ("<table><tr><td>a", " b", "</table>");
     let wanted = ("[T0 Loose{| d(a", " b", ")}]");
     compare_large(&rt, rt.alloc(), 524_276, file, wanted)?;
@@ -439,7 +439,7 @@ fn words_that_fill_a_file(rt: HostRuntime) -> Result<(), Fail> {
 }
 
 #[test]
-fn two_hundred_tables_that_fill_a_file(rt: HostRuntime) -> Result<(), Fail> {
+fn two_hundred_tables_that_fill_a_file_are_read(rt: HostRuntime) -> Result<(), Fail> {
     let alloc = rt.alloc();
     let cells = repeated(alloc, "<td>", 1_305)?;
     let shown_cells = repeated(alloc, " d", 1_305)?;
