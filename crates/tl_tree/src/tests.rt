@@ -272,20 +272,22 @@ x => stray text at token 0
 <table><tr><td>a</td></tr> => unclosed table
 ";
 
-/// Compares the tree of each line's file, with those around it, with what stands after its arrow.
+/// Reads what stands before the arrow of each line after the first, which is empty, with those texts
+/// around it, and compares its tree or its error with what stands after the arrow.
 fn compare(
     rt: &impl Abort,
     alloc: Global,
     table: &str,
     around: (&str, &str),
     shown_around: (&str, &str),
-) -> Result<(), AllocError> {
-    for line in table.lines() {
-        if let Some((input, wanted)) = line.split_once(" => ") {
-            let file = format!(in alloc; "{}{input}{}", around.0, around.1)?;
-            let wanted = format!(in alloc; "{}{wanted}{}", shown_around.0, shown_around.1)?;
-            assert_eq!(rt; shown(alloc, file.as_bytes())?.as_str(), wanted.as_str());
-        }
+) -> Result<(), Fail> {
+    let cases = table.strip_prefix('\n').ok_or("a case on the first line")?;
+    for line in cases.lines() {
+        let (input, wanted) = line.split_once(" => ").ok_or("a line without an arrow")?;
+        let file = format!(in alloc; "{}{input}{}", around.0, around.1)?;
+        let wanted = format!(in alloc; "{}{wanted}{}", shown_around.0, shown_around.1)?;
+        let found = shown(alloc, file.as_bytes())?;
+        assert_eq!(rt; found.as_str(), wanted.as_str(), "{input:?}");
     }
     Ok(())
 }
@@ -301,14 +303,12 @@ fn repeated(alloc: Global, text: &str, times: usize) -> Result<String, AllocErro
 
 #[test]
 fn tables_are_read_with_and_without_end_tags(rt: HostRuntime) -> Result<(), Fail> {
-    compare(&rt, rt.alloc(), TABLES, ("", ""), ("", ""))?;
-    Ok(())
+    compare(&rt, rt.alloc(), TABLES, ("", ""), ("", ""))
 }
 
 #[test]
 fn the_first_examples_are_read(rt: HostRuntime) -> Result<(), Fail> {
-    compare(&rt, rt.alloc(), EXAMPLES, ("", ""), ("", ""))?;
-    Ok(())
+    compare(&rt, rt.alloc(), EXAMPLES, ("", ""), ("", ""))
 }
 
 #[test]
@@ -349,14 +349,12 @@ fn the_token_that_passes_a_limit_is_named(rt: HostRuntime) -> Result<(), Fail> {
 #[test]
 fn flows_are_paragraphs_and_tables(rt: HostRuntime) -> Result<(), Fail> {
     let around = ("<table><tr><td>", "</td></table>");
-    compare(&rt, rt.alloc(), FLOWS, around, ("[T0 Loose{| d", "}]"))?;
-    Ok(())
+    compare(&rt, rt.alloc(), FLOWS, around, ("[T0 Loose{| d", "}]"))
 }
 
 #[test]
 fn what_is_no_document_is_refused_at_its_first_wrong_token(rt: HostRuntime) -> Result<(), Fail> {
-    compare(&rt, rt.alloc(), REFUSALS, ("", ""), ("", ""))?;
-    Ok(())
+    compare(&rt, rt.alloc(), REFUSALS, ("", ""), ("", ""))
 }
 
 #[test]
@@ -460,6 +458,14 @@ fn two_hundred_tables_that_fill_a_file_are_read(rt: HostRuntime) -> Result<(), F
     Ok(())
 }
 
+#[test]
+fn out_of_memory_is_printed(rt: HostRuntime) -> Result<(), Fail> {
+    let printed = format!(in rt.alloc(); "{}", TreeError::Memory(AllocError))?;
+    assert_eq!(rt; printed.as_str(), "out of memory");
+    Ok(())
+}
+
+/// Takes what may be sent to other threads and shared between them.
 fn share<T: Send + Sync + Drop>(_value: Option<T>) {}
 
 #[test]
