@@ -9,7 +9,7 @@ log=$(mktemp)
 trap 'rm -f "$log"' EXIT
 rt test >"$log" 2>&1 || { cat "$log"; exit 1; }
 begun=$(date +%s%N)
-./out/tl_solve_tests tests::five_thousand_cuts_of_a_drawn_table >"$log"
+./out/tl_solve_tests tests::a_search_of_5000_cuts_spends_its_budget >"$log"
 milliseconds=$((($(date +%s%N) - begun) / 1000000))
-echo "five_thousand_cuts_of_a_drawn_table: $milliseconds ms"
+echo "a_search_of_5000_cuts_spends_its_budget: $milliseconds ms"
 [ "$milliseconds" -le 1000 ]

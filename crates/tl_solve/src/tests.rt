@@ -168,6 +168,40 @@ fn no_cuts_have_a_log_of_one_line(rt: HostRuntime) -> Result<(), Fail> {
     Ok(())
 }
 
+/// The lower bound once the whole is cut, and the log of the cut for it.
+fn log_of_one_cut(alloc: Global, problem: &Problem) -> Result<(u32, Log), Fail> {
+    let mut arena = Arena::open(alloc, problem)?;
+    let Some(cut) = arena.first_cut(problem, 0) else {
+        return Err("the whole is closed".into());
+    };
+    arena.cut(problem, cut)?;
+    let lower = arena.lower(problem)?;
+    let log = trace_log(alloc, problem, arena.trace(), lower)?;
+    Ok((lower, log))
+}
+
+// The left cell has less than 7 columns in the lower part, where both cells need two lines, and at least 7
+// in the upper one, which leaves the right cell three columns and so three lines.
+#[test]
+fn one_cut_has_a_log_of_three_lines(rt: HostRuntime) -> Result<(), Fail> {
+    let alloc = rt.alloc();
+    let problem = two_cells(alloc)?;
+    let (lower, log) = log_of_one_cut(alloc, &problem)?;
+    assert_eq!(rt; lower, 2);
+    let lines = log.as_slice();
+    assert_eq!(rt; lines.len(), 3);
+    assert!(rt; matches!(lines[0].nogood, Nogood::Zone(2)));
+    assert!(rt; lines[0].fires.is_empty());
+    assert_eq!(rt; lines[0].end, End::Chain);
+    assert!(rt; matches!(lines[1].nogood, Nogood::Zone(1)));
+    assert!(rt; lines[1].fires.is_empty());
+    assert_eq!(rt; lines[1].end, End::Chain);
+    assert!(rt; matches!(lines[2].nogood, Nogood::Zone(0)));
+    assert_eq!(rt; lines[2].fires.as_slice(), [1u32, 0].as_slice());
+    assert_eq!(rt; lines[2].end, End::Fired);
+    Ok(())
+}
+
 // What is offered and no lower leaves the opening.
 #[test]
 fn an_arena_keeps_the_opening(rt: HostRuntime) -> Result<(), Fail> {
@@ -183,7 +217,7 @@ fn an_arena_keeps_the_opening(rt: HostRuntime) -> Result<(), Fail> {
 }
 
 #[test]
-fn no_columns_take_no_line(rt: HostRuntime) -> Result<(), Fail> {
+fn a_problem_without_columns_has_height_0(rt: HostRuntime) -> Result<(), Fail> {
     let alloc = rt.alloc();
     let problem = problem(alloc, 0, 0, 10, List::new(alloc))?;
     let outcome = Plain::new(alloc).solve(&problem, 5)?;
@@ -314,20 +348,21 @@ fn drawn_table(alloc: Global, number: u32, width: u32) -> Result<Problem, Fail>
 
 // The least widths leave two columns of the page, and the search comes to its end. Each zone has its line.
 #[test]
-fn a_drawn_table_is_searched_to_the_end_or_the_budget(rt: HostRuntime) -> Result<(), Fail> {
+fn a_drawn_table_is_searched_to_the_end(rt: HostRuntime) -> Result<(), Fail> {
     let alloc = rt.alloc();
     let problem = drawn_table(alloc, 0, 60)?;
     let outcome = Plain::new(alloc).solve(&problem, 2_000)?;
     let cuts = outcome.trace.len();
-    assert!(rt; outcome.lower == outcome.best.height || cuts == 2_000);
+    assert_eq!(rt; outcome.lower, outcome.best.height);
+    assert!(rt; cuts < 2_000);
     assert!(rt; outcome.best.width <= 60);
     assert_eq!(rt; outcome.log.len(), 2 * cuts + 1);
     Ok(())
 }
 
-// On a page of 80 columns the same table is far from closed. The script of bench/ times this.
+// On a page of 80 columns the table drawn from 0 is far from closed. The script of bench/ times this.
 #[test]
-fn five_thousand_cuts_of_a_drawn_table(rt: HostRuntime) -> Result<(), Fail> {
+fn a_search_of_5000_cuts_spends_its_budget(rt: HostRuntime) -> Result<(), Fail> {
     let alloc = rt.alloc();
     let problem = drawn_table(alloc, 0, 80)?;
     let outcome = Plain::new(alloc).solve(&problem, 5_000)?;
