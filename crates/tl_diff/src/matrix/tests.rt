@@ -139,7 +139,7 @@ fn least(rt: &impl Abort, matrix: &Matrix, out: &mut [i32])
 
 // `x_0 <= x_1 - 2`, `x_1 <= x_2 - 3` and `x_2 <= x_0 + 9`.
 #[test]
-fn three_variables_counted_by_hand(rt: HostRuntime) -> Result<(), Fail> {
+fn three_variables_have_the_bounds_counted_by_hand(rt: HostRuntime) -> Result<(), Fail> {
     let mut matrix = Matrix::new(rt.alloc(), 3, 1)?;
     assert!(rt; matrix.holds());
     assert_eq!(rt; matrix.upper(0, 2), None);
