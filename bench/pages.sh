@@ -8,7 +8,7 @@ cd "$(dirname "$0")/../crates/tl_page"
 log=$(mktemp)
 trap 'rm -f "$log"' EXIT
 rt test >"$log" 2>&1 || { cat "$log"; exit 1; }
-test=two_thousand_rows_of_ten_cells
+test=two_thousand_rows_of_ten_cells_fill_a_page
 begun=$(date +%s%N)
 ./out/tl_page_tests "worked::$test" >/dev/null
 milliseconds=$((($(date +%s%N) - begun) / 1000000))

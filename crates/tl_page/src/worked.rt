@@ -195,7 +195,7 @@ fn spans_take_no_more_than_the_columns_that_are_kept(rt: HostRuntime) -> Result<
 }
 
 #[test]
-fn eight_columns_with_spans_of_many_kinds(rt: HostRuntime) -> Result<(), Fail> {
+fn eight_columns_with_spans_of_many_kinds_are_drawn(rt: HostRuntime) -> Result<(), Fail> {
     let alloc = rt.alloc();
     let file = "<table><tbody><tr><td colspan=\" 2px\">a b c<td colspan=-1>d<td colspan=0>e\
                 <td colspan=+3 colspan=2>f<td rowspan=0>g<tr><td>h<td>i<td>j<td>k<td>l<td>m<td>n</table>";
@@ -270,7 +270,7 @@ fn a_caption_stands_over_all_columns(rt: HostRuntime) -> Result<(), Fail> {
 }
 
 #[test]
-fn a_table_with_a_header_as_a_data_tool_writes_it(rt: HostRuntime) -> Result<(), Fail> {
+fn a_table_with_a_header_as_a_data_tool_writes_it_is_drawn(rt: HostRuntime) -> Result<(), Fail> {
     let alloc = rt.alloc();
     let file = "<table border=\"1\" class=\"dataframe\">\n  <thead>\n    \
                 <tr style=\"text-align: right;\">\n      <th></th>\n      <th>name</th>\n      \
@@ -286,7 +286,7 @@ fn a_table_with_a_header_as_a_data_tool_writes_it(rt: HostRuntime) -> Result<(),
 }
 
 #[test]
-fn corners_of_every_kind_among_sixteen_slots(rt: HostRuntime) -> Result<(), Fail> {
+fn corners_of_every_kind_among_sixteen_slots_are_drawn(rt: HostRuntime) -> Result<(), Fail> {
     let alloc = rt.alloc();
     let file = "<table><tr><td colspan=2 rowspan=2>a<td colspan=2>b<tr><td rowspan=2>c<td>d\
                 <tr><td>e<td>f<tr><td colspan=4>g</table>";
@@ -362,7 +362,7 @@ fn a_nested_table_stands_as_its_own_page(rt: HostRuntime) -> Result<(), Fail> {
 }
 
 #[test]
-fn three_tables_inside_one_another(rt: HostRuntime) -> Result<(), Fail> {
+fn three_tables_inside_one_another_are_drawn(rt: HostRuntime) -> Result<(), Fail> {
     let alloc = rt.alloc();
     let file =
         "<table><tr><td>o<td><table><tr><td>m<td><table><tr><td>i<td>j</table></table></table>";
@@ -403,7 +403,7 @@ fn two_nested_tables_have_layouts_of_their_own(rt: HostRuntime) -> Result<(), Fa
 }
 
 #[test]
-fn a_layout_that_does_not_fit_is_told(rt: HostRuntime) -> Result<(), Fail> {
+fn a_layout_that_does_not_fit_is_refused(rt: HostRuntime) -> Result<(), Fail> {
     let alloc = rt.alloc();
     let file = "<table><tr><td>aa bb<td data-min=4>c</table>";
     let bytes = flat(alloc, file, Style::Plain, 11, &[5, 4], &[1])?;
@@ -437,7 +437,7 @@ fn repeated(alloc: Global, text: &str, count: u32) -> Result<String, AllocError>
 }
 
 #[test]
-fn two_thousand_rows_of_ten_cells(rt: HostRuntime) -> Result<(), Fail> {
+fn two_thousand_rows_of_ten_cells_fill_a_page(rt: HostRuntime) -> Result<(), Fail> {
     let alloc = rt.alloc();
     let cells = repeated(alloc, "<td>aa b", 10)?;
     let row = format!(in alloc; "<tr>{cells}")?;
@@ -446,6 +446,13 @@ fn two_thousand_rows_of_ten_cells(rt: HostRuntime) -> Result<(), Fail> {
     let heights = vec![in alloc; 2; 2000]?;
     let bytes = flat(alloc, file.as_str(), Style::Frame, 31, &[2; 10], &heights)?;
     // A rule above each row and one below the last, and two lines in each row, of 32 bytes each.
+    let rule = repeated(alloc, "+--", 10)?;
+    let first = repeated(alloc, "|aa", 10)?;
+    let second = repeated(alloc, "|b ", 10)?;
+    let band = format!(in alloc; "{rule}+\n{first}|\n{second}|\n")?;
+    let bands = repeated(alloc, band.as_str(), 2000)?;
+    let want = format!(in alloc; "{bands}{rule}+\n")?;
     assert_eq!(rt; bytes.len(), 6001 * 32);
+    assert!(rt; bytes.as_slice() == want.as_bytes());
     Ok(())
 }
