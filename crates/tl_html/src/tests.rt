@@ -324,3 +324,24 @@ fn a_caption_alone_makes_one_column(rt: HostRuntime) -> Result<(), Fail> {
     assert!(rt; same(&table, &table_of(alloc, want, Breaking::Words)?));
     Ok(())
 }
+
+#[test]
+fn two_thousand_rows_have_a_line_each(rt: HostRuntime) -> Result<(), Fail> {
+    let alloc = rt.alloc();
+    let mut cells = List::new(alloc);
+    let mut lines = String::new(alloc);
+    for row in 0..2_000 {
+        cells.push(cell(Kind::Plain, (0, 1, row, row + 1), 0, text(alloc, "a")?))?;
+        lines.push_str("<tr><td><p>a</p></td></tr>\n")?;
+    }
+    let heights = vec![in alloc; 1; 2_000]?;
+    let layout = layout(alloc, &[1], &heights, List::new(alloc))?;
+    let want = format!(in alloc;
+        "<table>\n<colgroup><col style=\"width:1ch\"></colgroup>\n{}</table>\n",
+        lines.as_str()
+    )?;
+    let table = table(1, 2_000, cells);
+    assert!(rt; written(alloc, &table, &layout)?.as_str() == want.as_str());
+    assert!(rt; same(&table, &table_of(alloc, want.as_str(), Breaking::Words)?));
+    Ok(())
+}
