@@ -28,3 +28,17 @@ fn the_highest_bit_of_a_number_does_not_count(rt: HostRuntime) -> Result<(), Fai
     assert!(rt; low.as_slice() == high.as_slice());
     Ok(())
 }
+
+// The table of the greatest number is drawn from the state 2^31 - 1. The upper bits of the states after it are 15929,
+// 4409, 9862, 26718, 8713, 28226, 9080, 32063 and 8032: one column; six words, of 7, 7, 2, 3, 1 and 8 letters; one column.
+#[test]
+fn the_table_of_the_greatest_number_begins_with_six_words(rt: HostRuntime) -> Result<(), Fail> {
+    let greatest = demo_text(rt.alloc(), u32::MAX)?;
+    let half = demo_text(rt.alloc(), 2_147_483_647)?;
+    assert!(rt; greatest.as_slice() == half.as_slice());
+    let text = str::from_utf8(greatest.as_slice())?;
+    let begin = "<table><tr><td>aaaaaaa aaaaaaa aa aaa a aaaaaaaa<td>";
+    assert!(rt; text.starts_with(begin));
+    assert!(rt; text.ends_with("a</table>"));
+    Ok(())
+}
