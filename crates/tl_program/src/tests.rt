@@ -37,20 +37,20 @@ struct Case<'a> {
     status: u8,
     page: Option<&'a str>,
     certificate: Option<&'a str>,
-    said: &'a str,
+    message: &'a str,
 }
 
-/// The words of a command line, each separated by one space from the next: between two spaces is an
-/// empty word.
-fn words(alloc: Global, line: &str) -> Result<Vec<String>, AllocError> {
-    let mut words = Vec::new(alloc);
+/// The arguments of a command line, each separated by one space from the next: between two spaces is
+/// an empty argument.
+fn arguments(alloc: Global, line: &str) -> Result<Vec<String>, AllocError> {
+    let mut arguments = Vec::new(alloc);
     if line.is_empty() {
-        return Ok(words);
+        return Ok(arguments);
     }
-    for word in line.split(' ') {
-        words.push(String::from_str(alloc, word)?)?;
+    for argument in line.split(' ') {
+        arguments.push(String::from_str(alloc, argument)?)?;
     }
-    Ok(words)
+    Ok(arguments)
 }
 
 /// A desk whose file `t.html` holds these bytes, and `c.txt` this certificate, if there is one.
@@ -86,8 +86,8 @@ fn held<'a>(desk: &'a MemoryDesk, name: &str) -> Option<&'a [u8]> {
 
 /// The status of a command line over the desk.
 fn status_of(alloc: Global, line: &str, desk: &mut MemoryDesk) -> Result<u8, AllocError> {
-    let words = words(alloc, line)?;
-    Ok(run(alloc, words.as_slice(), desk, &NoGate))
+    let arguments = arguments(alloc, line)?;
+    Ok(run(alloc, arguments.as_slice(), desk, &NoGate))
 }
 
 /// Runs the case over a desk with these failures, and compares all that is wanted of it.
@@ -102,7 +102,7 @@ fn check_with(
     assert_eq!(rt; status, case.status, "{} {fails:?}", case.line);
     assert_eq!(rt;
         desk.said(),
-        case.said.as_bytes(),
+        case.message.as_bytes(),
         "{} {fails:?}",
         case.line
     );
@@ -141,18 +141,18 @@ fn check_refused(
     line: &str,
     file: &[u8],
     status: u8,
-    said: &str,
+    message: &str,
 ) -> Result<(), Failure> {
     let alloc = rt.alloc();
     let mut desk = desk(alloc, file, &[])?;
     assert_eq!(rt;
         status_of(alloc, line, &mut desk)?,
         status,
-        "{line}: {said}"
+        "{line}: {message}"
     );
-    assert_eq!(rt; desk.said(), said.as_bytes(), "{line}: {said}");
-    assert_eq!(rt; desk.files().len(), 1, "{line}: {said}");
-    assert_eq!(rt; held(&desk, "t.html"), Some(file), "{line}: {said}");
+    assert_eq!(rt; desk.said(), message.as_bytes(), "{line}: {message}");
+    assert_eq!(rt; desk.files().len(), 1, "{line}: {message}");
+    assert_eq!(rt; held(&desk, "t.html"), Some(file), "{line}: {message}");
     Ok(())
 }
 

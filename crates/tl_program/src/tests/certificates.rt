@@ -14,7 +14,7 @@ const CHAINS: &[Case<'static>] = &[
         status: 4,
         page: None,
         certificate: Some("tablelayout 1 11 plain 5000\nnarrow 12\nchain 0 0 1\nend\n"),
-        said: "narrow least 12 width 11\n",
+        message: "narrow least 12 width 11\n",
     },
     Case {
         line: "lay 11 t.html p.txt c.txt --budget 100000",
@@ -22,7 +22,7 @@ const CHAINS: &[Case<'static>] = &[
         status: 4,
         page: None,
         certificate: Some("tablelayout 1 11 plain 100000\nnarrow 12\nchain 0 0 1\nend\n"),
-        said: "narrow least 12 width 11\n",
+        message: "narrow least 12 width 11\n",
     },
     Case {
         line: "lay 12 t.html p.txt c.txt --style frame",
@@ -30,7 +30,7 @@ const CHAINS: &[Case<'static>] = &[
         status: 4,
         page: None,
         certificate: Some("tablelayout 1 12 frame 5000\nnarrow 13\nchain 0 0 1\nend\n"),
-        said: "narrow least 13 width 12\n",
+        message: "narrow least 13 width 12\n",
     },
     Case {
         line: "lay 4 t.html p.txt c.txt",
@@ -38,7 +38,7 @@ const CHAINS: &[Case<'static>] = &[
         status: 4,
         page: None,
         certificate: Some("tablelayout 1 4 plain 5000\nnarrow 5\nchain 0 1 2\nend\n"),
-        said: "narrow least 5 width 4\n",
+        message: "narrow least 5 width 4\n",
     },
     Case {
         line: "lay 6 t.html p.txt c.txt",
@@ -46,7 +46,7 @@ const CHAINS: &[Case<'static>] = &[
         status: 4,
         page: None,
         certificate: Some("tablelayout 1 6 plain 5000\nnarrow 7\nchain 0 0:1\nchain 1 0 1\nend\n"),
-        said: "narrow least 7 width 6\n",
+        message: "narrow least 7 width 6\n",
     },
     Case {
         line: "lay 6 t.html p.txt c.txt",
@@ -54,7 +54,7 @@ const CHAINS: &[Case<'static>] = &[
         status: 4,
         page: None,
         certificate: Some("tablelayout 1 6 plain 5000\nnarrow 7\nchain 0 0 1\nend\n"),
-        said: "narrow least 7 width 6\n",
+        message: "narrow least 7 width 6\n",
     },
     Case {
         line: "lay 1 t.html p.txt c.txt --break any",
@@ -62,7 +62,7 @@ const CHAINS: &[Case<'static>] = &[
         status: 4,
         page: None,
         certificate: Some("tablelayout 1 1 plain 5000\nnarrow 2\nchain 0 0\nend\n"),
-        said: "narrow least 2 width 1\n",
+        message: "narrow least 2 width 1\n",
     },
 ];
 
@@ -84,7 +84,7 @@ const UNCUT: &[Case<'static>] = &[
         certificate: Some(
             "tablelayout 1 10 plain 5000\nlowest 0\nsection 0 10 0 0 0 1\nwidths\nz0 chain\nend\n",
         ),
-        said: "lowest height 0 width 0\n",
+        message: "lowest height 0 width 0\n",
     },
     Case {
         line: "lay 12 t.html p.txt c.txt --budget 0",
@@ -94,7 +94,7 @@ const UNCUT: &[Case<'static>] = &[
         certificate: Some(
             "tablelayout 1 12 plain 0\nbounded 3 2\nsection 0 12 3 2 0 1\nwidths 3 2\nz0 chain\nend\n",
         ),
-        said: "bounded height 3 lower 2 width 7\n",
+        message: "bounded height 3 lower 2 width 7\n",
     },
     Case {
         line: "lay 12 t.html p.txt c.txt --budget 0 --html",
@@ -107,7 +107,7 @@ const UNCUT: &[Case<'static>] = &[
         certificate: Some(
             "tablelayout 1 12 plain 0\nbounded 3 2\nsection 0 12 3 2 0 1\nwidths 3 2\nz0 chain\nend\n",
         ),
-        said: "bounded height 3 lower 2 width 7\n",
+        message: "bounded height 3 lower 2 width 7\n",
     },
 ];
 
@@ -137,7 +137,7 @@ fn the_default_budget_is_within_the_reach(rt: HostRuntime) -> Result<(), Fail> {
         certificate: Some(
             "tablelayout 1 500 plain 3992\nnarrow 501\nchain 0 0:1\nchain 1 0\nend\n",
         ),
-        said: "narrow least 501 width 500\n",
+        message: "narrow least 501 width 500\n",
     };
     check(&rt, &case)
 }

@@ -1,6 +1,9 @@
 //! Checks certificates over files in memory, and demonstrates tables.
 
-use super::{NESTED, ONE, SPANNED, TWO, desk_with, held, status_of};
+use super::{NESTED, ONE, SPANNED, TWO, desk_with, held, repeated, status_of};
+use crate::messages::text;
+use crate::rejection::Rejection;
+use crate::report::Report;
 use std::process::Abort;
 use std::test::Fail as Failure;
 use tl_base::{Fail, List};
@@ -13,7 +16,7 @@ fn check(
     file: &str,
     certificate: Option<&str>,
     status: u8,
-    said: &str,
+    message: &str,
 ) -> Result<(), Failure> {
     let alloc = rt.alloc();
     let mut desk = desk_with(alloc, file.as_bytes(), certificate, &[])?;
@@ -22,7 +25,7 @@ fn check(
         status,
         "{line}: {certificate:?}"
     );
-    assert_eq!(rt; desk.said(), said.as_bytes(), "{line}: {certificate:?}");
+    assert_eq!(rt; desk.said(), message.as_bytes(), "{line}: {certificate:?}");
     let before = certificate.map(|text| text.as_bytes());
     assert_eq!(rt; held(&desk, "c.txt"), before, "{line}: {certificate:?}");
     assert_eq!(rt;
@@ -43,8 +46,8 @@ fn check_all(
     file: &str,
     cases: &[Case],
 ) -> Result<(), Failure> {
-    for &(certificate, status, said) in cases {
-        check(rt, line, file, Some(certificate), status, said)?;
+    for &(certificate, status, message) in cases {
+        check(rt, line, file, Some(certificate), status, message)?;
     }
     Ok(())
 }
@@ -58,16 +61,16 @@ const LINE: &str = "check 12 t.html c.txt --budget 6";
 
 /// Checks that each certificate is rejected with its message, for `LINE` over `TWO`.
 fn check_rejected(rt: &(impl Abort + AllocGlobal), cases: &[(&str, &str)]) -> Result<(), Failure> {
-    for &(certificate, said) in cases {
-        check(rt, LINE, TWO, Some(certificate), 10, said)?;
+    for &(certificate, message) in cases {
+        check(rt, LINE, TWO, Some(certificate), 10, message)?;
     }
     Ok(())
 }
 
 #[test]
 fn a_valid_certificate_is_accepted(rt: HostRuntime) -> Result<(), Failure> {
-    let said = "lowest height 2 width 10\n";
-    check(&rt, LINE, TWO, Some(CLOSED), 0, said)
+    let message = "lowest height 2 width 10\n";
+    check(&rt, LINE, TWO, Some(CLOSED), 0, message)
 }
 
 /// Texts that are no certificate, each with the place.
@@ -165,8 +168,8 @@ fn each_prefix_of_a_certificate_is_rejected_where_it_ends(rt: HostRuntime) -> Re
     let mut tried: usize = 0;
     for length in 0..CLOSED.len() {
         if let Some(prefix) = CLOSED.get(..length) {
-            let said = format!(in alloc; "rejected: syntax at {length}\n")?;
-            check(&rt, LINE, TWO, Some(prefix), 10, said.as_str())?;
+            let message = format!(in alloc; "rejected: syntax at {length}\n")?;
+            check(&rt, LINE, TWO, Some(prefix), 10, message.as_str())?;
             tried = tried.saturating_add(1);
         }
     }
@@ -230,7 +233,7 @@ fn a_chain_shows_that_the_page_is_too_narrow(rt: HostRuntime) -> Result<(), Fail
 }
 
 #[test]
-fn every_section_of_a_nested_table_is_asked_for(rt: HostRuntime) -> Result<(), Failure> {
+fn every_section_of_a_nested_table_is_required(rt: HostRuntime) -> Result<(), Failure> {
     let cases: &[Case] = &[
         (
             "tablelayout 1 12 plain 5000\nlowest 2\nsection 1 12 2 2 0 1\nwidths 3 5\nz0 chain\n\
@@ -322,8 +325,8 @@ fn a_certificate_for_something_else_is_rejected(rt: HostRuntime) -> Result<(), F
             "rejected: claim\n",
         ),
     ];
-    for &(line, file, said) in lines {
-        check(&rt, line, file, Some(CLOSED), 10, said)?;
+    for &(line, file, message) in lines {
+        check(&rt, line, file, Some(CLOSED), 10, message)?;
     }
     Ok(())
 }
@@ -397,10 +400,10 @@ fn a_call_of_the_desk_that_fails_ends_a_check(rt: HostRuntime) -> Result<(), Fai
         (2, 6, 8, "lowest"),
         (3, 0, 0, "lowest height 2 width 10\n"),
     ];
-    for (call, bytes, status, said) in cases {
+    for (call, bytes, status, message) in cases {
         let mut desk = desk_with(alloc, TWO.as_bytes(), Some(CLOSED), &[Fail { call, bytes }])?;
         assert_eq!(rt; status_of(alloc, LINE, &mut desk)?, status, "{call}");
-        assert_eq!(rt; desk.said(), said.as_bytes(), "{call}");
+        assert_eq!(rt; desk.said(), message.as_bytes(), "{call}");
     }
     Ok(())
 }
@@ -418,7 +421,7 @@ fn laid_and_checked(
     let lay = format!(in alloc; "lay {width} t.html p.txt c.txt{options}{search}")?;
     let laid = status_of(alloc, lay.as_str(), &mut desk)?;
     assert!(rt; matches!(laid, 0 | 3 | 4), "{lay}: {file}: {laid}");
-    let said = List::from_slice(alloc, desk.said())?;
+    let message = List::from_slice(alloc, desk.said())?;
     let check = format!(in alloc; "check {width} t.html c.txt{options}")?;
     assert_eq!(rt;
         status_of(alloc, check.as_str(), &mut desk)?,
@@ -426,9 +429,9 @@ fn laid_and_checked(
         "{lay}: {file}"
     );
     let twice = desk.said();
-    assert_eq!(rt; twice.len(), 2 * said.len(), "{lay}: {file}");
-    assert!(rt; twice.starts_with(said.as_slice()), "{lay}: {file}");
-    assert!(rt; twice.ends_with(said.as_slice()), "{lay}: {file}");
+    assert_eq!(rt; twice.len(), 2 * message.len(), "{lay}: {file}");
+    assert!(rt; twice.starts_with(message.as_slice()), "{lay}: {file}");
+    assert!(rt; twice.ends_with(message.as_slice()), "{lay}: {file}");
     Ok(())
 }
 
@@ -527,11 +530,36 @@ const LAID_OUT: &[(&str, &str, &str)] = &[
 ];
 
 #[test]
-fn what_was_laid_out_is_accepted_with_the_same_message(rt: HostRuntime) -> Result<(), Failure> {
+fn a_stored_certificate_is_accepted_with_the_same_message(rt: HostRuntime) -> Result<(), Failure> {
     for &(width, file, options) in LAID_OUT {
         laid_and_checked(&rt, width, file, options, "")?;
         laid_and_checked(&rt, width, file, options, " --solver plain")?;
     }
+    Ok(())
+}
+
+// Sixty columns, 2,000 rows and a caption, 200 tables, and the widest page.
+#[test]
+fn a_certificate_at_the_limits_is_accepted(rt: HostRuntime) -> Result<(), Failure> {
+    let alloc = rt.alloc();
+    for (width, start, inner, times, end) in [
+        ("178", "<table><tr>", "<td>a", 60, "</table>"),
+        ("10", "<table><caption>a", "<tr><td>a", 2_000, "</table>"),
+        ("10", "<table><tr><td>", "<table></table>", 199, "a</table>"),
+        ("500", "<table><tr><td>", "a", 500, "</table>"),
+    ] {
+        let inner = repeated(alloc, inner, times)?;
+        let file = format!(in alloc; "{start}{}{end}", inner.as_str())?;
+        laid_and_checked(&rt, width, file.as_str(), "", "")?;
+    }
+    Ok(())
+}
+
+// No file of these tests has more bytes than a certificate may have.
+#[test]
+fn a_certificate_that_is_too_long_has_a_message(rt: HostRuntime) -> Result<(), Failure> {
+    let message = text(rt.alloc(), Report::Rejected(Rejection::TooLong))?;
+    assert_eq!(rt; message.as_str(), "rejected: too long\n");
     Ok(())
 }
 

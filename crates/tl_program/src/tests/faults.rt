@@ -10,7 +10,7 @@ const PAGE: &str = "aaa  cc\nbbb  dd\n     ee\n";
 const CERTIFICATE: &str =
     "tablelayout 1 12 plain 0\nbounded 3 2\nsection 0 12 3 2 0 1\nwidths 3 2\nz0 chain\nend\n";
 
-const SAID: &str = "bounded height 3 lower 2 width 7\n";
+const MESSAGE: &str = "bounded height 3 lower 2 width 7\n";
 
 /// The first bytes of the text, or all where there are fewer.
 fn first(text: &str, count: u32) -> &str {
@@ -27,7 +27,7 @@ const CERTIFIED: Case<'static> = Case {
     status: 3,
     page: Some(PAGE),
     certificate: Some(CERTIFICATE),
-    said: SAID,
+    message: MESSAGE,
 };
 
 #[test]
@@ -37,7 +37,7 @@ fn a_failing_load_stores_nothing(rt: HostRuntime) -> Result<(), Failure> {
             status: 7,
             page: None,
             certificate: None,
-            said: "read fault\n",
+            message: "read fault\n",
             ..CERTIFIED
         };
         check_with(&rt, &[Fail { call: 0, bytes }], &wanted)?;
@@ -52,7 +52,7 @@ fn a_page_that_cannot_be_stored_ends_the_run(rt: HostRuntime) -> Result<(), Fail
             status: 8,
             page: Some(first(PAGE, bytes)),
             certificate: None,
-            said: "",
+            message: "",
             ..CERTIFIED
         };
         check_with(&rt, &[Fail { call: 1, bytes }], &wanted)?;
@@ -66,7 +66,7 @@ fn a_certificate_that_cannot_be_stored_leaves_the_page(rt: HostRuntime) -> Resul
         let wanted = Case {
             status: 8,
             certificate: Some(first(CERTIFICATE, bytes)),
-            said: "",
+            message: "",
             ..CERTIFIED
         };
         check_with(&rt, &[Fail { call: 2, bytes }], &wanted)?;
@@ -79,7 +79,7 @@ fn a_message_that_cannot_be_printed_leaves_both_files(rt: HostRuntime) -> Result
     for bytes in PASSED {
         let wanted = Case {
             status: 8,
-            said: first(SAID, bytes),
+            message: first(MESSAGE, bytes),
             ..CERTIFIED
         };
         check_with(&rt, &[Fail { call: 3, bytes }], &wanted)?;
@@ -94,11 +94,11 @@ fn without_a_certificate_a_run_has_three_calls(rt: HostRuntime) -> Result<(), Fa
         certificate: None,
         ..CERTIFIED
     };
-    for (call, page, said) in [(1, "aaa ", ""), (2, PAGE, "boun")] {
+    for (call, page, message) in [(1, "aaa ", ""), (2, PAGE, "boun")] {
         let wanted = Case {
             status: 8,
             page: Some(page),
-            said,
+            message,
             ..plain
         };
         check_with(&rt, &[Fail { call, bytes: 4 }], &wanted)?;
@@ -115,20 +115,20 @@ fn a_narrow_page_stores_its_chain_alone(rt: HostRuntime) -> Result<(), Failure> 
         status: 4,
         page: None,
         certificate: Some(chain),
-        said: "narrow least 7 width 6\n",
+        message: "narrow least 7 width 6\n",
     };
     check_with(&rt, &[], &narrow)?;
     for bytes in PASSED {
         let wanted = Case {
             status: 8,
             certificate: Some(first(chain, bytes)),
-            said: "",
+            message: "",
             ..narrow
         };
         check_with(&rt, &[Fail { call: 1, bytes }], &wanted)?;
         let wanted = Case {
             status: 8,
-            said: first("narrow least 7 width 6\n", bytes),
+            message: first("narrow least 7 width 6\n", bytes),
             ..narrow
         };
         check_with(&rt, &[Fail { call: 2, bytes }], &wanted)?;
@@ -139,7 +139,7 @@ fn a_narrow_page_stores_its_chain_alone(rt: HostRuntime) -> Result<(), Failure> 
 // A refusal is a fault of writing where its message cannot be printed.
 #[test]
 fn a_refusal_that_cannot_be_printed_is_a_write_fault(rt: HostRuntime) -> Result<(), Failure> {
-    for (line, file, call, said) in [
+    for (line, file, call, message) in [
         ("lay 0 t.html p.txt", TWO, 0, "usag"),
         ("lay 7 t.html p.txt", "<table><td>", 1, "bad "),
         (
@@ -156,7 +156,7 @@ fn a_refusal_that_cannot_be_printed_is_a_write_fault(rt: HostRuntime) -> Result<
             status: 8,
             page: None,
             certificate: None,
-            said,
+            message,
         };
         check_with(&rt, &[Fail { call, bytes: 4 }], &wanted)?;
     }
@@ -170,17 +170,17 @@ fn a_file_that_is_not_there_is_a_read_fault(rt: HostRuntime) -> Result<(), Failu
         status: 7,
         page: None,
         certificate: None,
-        said: "read fault\n",
+        message: "read fault\n",
         ..CERTIFIED
     };
     check_with(&rt, &[], &wanted)
 }
 
 #[test]
-fn a_lowest_page_stands_whole_or_in_part(rt: HostRuntime) -> Result<(), Failure> {
+fn a_lowest_page_is_stored_whole_or_in_part(rt: HostRuntime) -> Result<(), Failure> {
     let alloc = rt.alloc();
     let whole = Some(b"aaa  cc dd\nbbb  ee   \n".as_slice());
-    for (call, bytes, status, page, said) in [
+    for (call, bytes, status, page, message) in [
         (0, 0, 7, None, "read fault\n"),
         (1, 4, 8, Some(b"aaa ".as_slice()), ""),
         (2, 0, 8, whole, ""),
@@ -196,7 +196,7 @@ fn a_lowest_page_stands_whole_or_in_part(rt: HostRuntime) -> Result<(), Failure>
             call == 2,
             "call {call}"
         );
-        assert_eq!(rt; desk.said(), said.as_bytes(), "call {call}");
+        assert_eq!(rt; desk.said(), message.as_bytes(), "call {call}");
     }
     Ok(())
 }

@@ -38,10 +38,10 @@ fn check_built(
     line: &str,
     built: &Built,
     status: u8,
-    said: &str,
+    message: &str,
 ) -> Result<(), Fail> {
     let file = built.whole(rt.alloc())?;
-    check_refused(rt, line, file.as_bytes(), status, said)
+    check_refused(rt, line, file.as_bytes(), status, message)
 }
 
 /// The command line over the file stores this page, the lowest.
@@ -50,7 +50,7 @@ fn check_page(
     line: &str,
     built: &Built,
     page: &Built,
-    said: &str,
+    message: &str,
 ) -> Result<(), Fail> {
     let alloc = rt.alloc();
     let file = built.whole(alloc)?;
@@ -59,7 +59,7 @@ fn check_page(
     assert_eq!(rt; status_of(alloc, line, &mut desk)?, 0, "{line}");
     assert_eq!(rt; held(&desk, "p.txt"), Some(page.as_bytes()), "{line}");
     assert_eq!(rt; desk.files().len(), 2, "{line}");
-    assert_eq!(rt; desk.said(), said.as_bytes(), "{line}");
+    assert_eq!(rt; desk.said(), message.as_bytes(), "{line}");
     Ok(())
 }
 
@@ -69,26 +69,26 @@ fn check_last(
     line: &str,
     last: &Built,
     page: &Built,
-    said: &str,
+    message: &str,
     past: (u8, &str),
 ) -> Result<(), Fail> {
-    check_page(rt, line, last, page, said)?;
+    check_page(rt, line, last, page, message)?;
     let longer = Built {
         times: last.times.saturating_add(1),
         ..*last
     };
-    let (status, said) = past;
-    check_built(rt, line, &longer, status, said)
+    let (status, message) = past;
+    check_built(rt, line, &longer, status, message)
 }
 
 #[test]
 fn a_page_has_1_to_500_columns(rt: HostRuntime) -> Result<(), Fail> {
     let file = Built::just("<table><tr><td>a b</table>");
-    for (line, page, said) in [
+    for (line, page, message) in [
         ("lay 1 t.html p.txt", "a\nb\n", "lowest height 2 width 1\n"),
         ("lay 500 t.html p.txt", "a b\n", "lowest height 1 width 3\n"),
     ] {
-        check_page(&rt, line, &file, &Built::just(page), said)?;
+        check_page(&rt, line, &file, &Built::just(page), message)?;
     }
     for line in ["lay 0 t.html p.txt", "lay 501 t.html p.txt"] {
         check_built(&rt, line, &file, 2, "usage\n")?;
@@ -111,9 +111,9 @@ fn a_word_may_be_as_wide_as_the_widest_page(rt: HostRuntime) -> Result<(), Fail>
         end: "\n",
         ..last
     };
-    let said = "lowest height 1 width 500\n";
+    let message = "lowest height 1 width 500\n";
     let past = (4, "narrow least 501 width 500\n");
-    check_last(&rt, line, &last, &page, said, past)
+    check_last(&rt, line, &last, &page, message, past)
 }
 
 #[test]
@@ -126,9 +126,9 @@ fn a_file_has_1048576_bytes(rt: HostRuntime) -> Result<(), Fail> {
         end: "",
     };
     let page = Built::just("");
-    let said = "lowest height 0 width 0\n";
+    let message = "lowest height 0 width 0\n";
     let past = "limit: file 1048577\n";
-    check_last(&rt, line, &last, &page, said, (6, past))?;
+    check_last(&rt, line, &last, &page, message, (6, past))?;
     let spaces = Built {
         start: "",
         times: 2_000_000,
@@ -147,8 +147,8 @@ fn tables_are_8_deep(rt: HostRuntime) -> Result<(), Fail> {
         end: "a</table></table></table></table></table></table></table></table>",
     };
     let page = Built::just("a\n");
-    let said = "lowest height 1 width 1\n";
-    check_last(&rt, line, &last, &page, said, (6, "limit: depth 9\n"))
+    let message = "lowest height 1 width 1\n";
+    check_last(&rt, line, &last, &page, message, (6, "limit: depth 9\n"))
 }
 
 #[test]
@@ -161,8 +161,8 @@ fn a_document_has_200_tables(rt: HostRuntime) -> Result<(), Fail> {
         end: "a</table>",
     };
     let page = Built::just("a\n");
-    let said = "lowest height 1 width 1\n";
-    check_last(&rt, line, &last, &page, said, (6, "limit: tables 201\n"))
+    let message = "lowest height 1 width 1\n";
+    check_last(&rt, line, &last, &page, message, (6, "limit: tables 201\n"))
 }
 
 // Ten columns without text take the 18 columns of their gaps, so that no search is needed at 17.
@@ -198,8 +198,10 @@ fn a_table_has_60_columns(rt: HostRuntime) -> Result<(), Fail> {
         times: 59,
         end: "a\n",
     };
-    let said = "lowest height 1 width 178\n";
-    check_last(&rt, line, &last, &page, said, (6, "limit: columns 61\n"))
+    let message = "lowest height 1 width 178\n";
+    let plain = "lay 178 t.html p.txt --solver plain";
+    check_page(&rt, plain, &last, &page, message)?;
+    check_last(&rt, line, &last, &page, message, (6, "limit: columns 61\n"))
 }
 
 // The row of the caption is not counted.
@@ -218,8 +220,10 @@ fn a_table_has_2000_rows(rt: HostRuntime) -> Result<(), Fail> {
         times: 2_001,
         end: "",
     };
-    let said = "lowest height 2001 width 1\n";
-    check_last(&rt, line, &last, &page, said, (6, "limit: rows 2001\n"))
+    let message = "lowest height 2001 width 1\n";
+    let plain = "lay 10 t.html p.txt --solver plain";
+    check_page(&rt, plain, &last, &page, message)?;
+    check_last(&rt, line, &last, &page, message, (6, "limit: rows 2001\n"))
 }
 
 #[test]
@@ -227,7 +231,7 @@ fn the_searches_make_2000000_cuts(rt: HostRuntime) -> Result<(), Fail> {
     let file = Built::just("<table><tr><td><table><tr><td>a</table></table>");
     let page = Built::just("a\n");
     let lowest = "lowest height 1 width 1\n";
-    for (last, past, said) in [
+    for (last, past, message) in [
         (
             "lay 19 t.html p.txt --budget 100000",
             "lay 20 t.html p.txt --budget 100000",
@@ -245,7 +249,7 @@ fn the_searches_make_2000000_cuts(rt: HostRuntime) -> Result<(), Fail> {
         ),
     ] {
         check_page(&rt, last, &file, &page, lowest)?;
-        check_built(&rt, past, &file, 6, said)?;
+        check_built(&rt, past, &file, 6, message)?;
     }
     check_page(&rt, "lay 500 t.html p.txt", &file, &page, lowest)
 }
@@ -254,9 +258,25 @@ fn the_searches_make_2000000_cuts(rt: HostRuntime) -> Result<(), Fail> {
 fn a_search_makes_100000_cuts(rt: HostRuntime) -> Result<(), Fail> {
     let file = Built::just(TWO);
     let page = Built::just("aaa  cc dd\nbbb  ee   \n");
-    let said = "lowest height 2 width 10\n";
+    let message = "lowest height 2 width 10\n";
     let last = "lay 12 t.html p.txt --budget 100000";
-    check_page(&rt, last, &file, &page, said)?;
+    check_page(&rt, last, &file, &page, message)?;
     let past = "lay 12 t.html p.txt --budget 100001";
     check_built(&rt, past, &file, 2, "usage\n")
+}
+
+// A line of 500 columns has 100 words of four letters, which take 499 with the spaces between them.
+#[test]
+fn a_cell_of_70000_words_has_700_lines(rt: HostRuntime) -> Result<(), Fail> {
+    let alloc = rt.alloc();
+    let words = repeated(alloc, "word ", 70_000)?;
+    let file = format!(in alloc; "<table><tr><td>{}</table>", words.as_str())?;
+    let words = repeated(alloc, "word ", 99)?;
+    let line = format!(in alloc; "{}word\n", words.as_str())?;
+    let page = repeated(alloc, line.as_str(), 700)?;
+    let mut desk = desk(alloc, file.as_bytes(), &[])?;
+    assert_eq!(rt; status_of(alloc, "lay 500 t.html p.txt", &mut desk)?, 0);
+    assert!(rt; held(&desk, "p.txt") == Some(page.as_bytes()));
+    assert_eq!(rt; desk.said(), b"lowest height 700 width 499\n".as_slice());
+    Ok(())
 }

@@ -13,7 +13,7 @@ const PAGES: &[Case<'static>] = &[
         status: 0,
         page: Some(""),
         certificate: None,
-        said: "lowest height 0 width 0\n",
+        message: "lowest height 0 width 0\n",
     },
     Case {
         line: "lay 8 t.html p.txt",
@@ -21,7 +21,7 @@ const PAGES: &[Case<'static>] = &[
         status: 0,
         page: Some("aa bb cc\n"),
         certificate: None,
-        said: "lowest height 1 width 8\n",
+        message: "lowest height 1 width 8\n",
     },
     Case {
         line: "lay 7 t.html p.txt",
@@ -29,7 +29,7 @@ const PAGES: &[Case<'static>] = &[
         status: 0,
         page: Some("aa bb\ncc   \n"),
         certificate: None,
-        said: "lowest height 2 width 5\n",
+        message: "lowest height 2 width 5\n",
     },
     Case {
         line: "lay 6 t.html p.txt",
@@ -37,7 +37,7 @@ const PAGES: &[Case<'static>] = &[
         status: 0,
         page: Some("abcdef\n"),
         certificate: None,
-        said: "lowest height 1 width 6\n",
+        message: "lowest height 1 width 6\n",
     },
     Case {
         line: "lay 5 t.html p.txt",
@@ -45,7 +45,7 @@ const PAGES: &[Case<'static>] = &[
         status: 4,
         page: None,
         certificate: None,
-        said: "narrow least 6 width 5\n",
+        message: "narrow least 6 width 5\n",
     },
     Case {
         line: "lay 12 t.html p.txt",
@@ -53,7 +53,7 @@ const PAGES: &[Case<'static>] = &[
         status: 0,
         page: Some("aaa  cc dd\nbbb  ee   \n"),
         certificate: None,
-        said: "lowest height 2 width 10\n",
+        message: "lowest height 2 width 10\n",
     },
     Case {
         line: "lay 12 t.html p.txt",
@@ -61,7 +61,7 @@ const PAGES: &[Case<'static>] = &[
         status: 0,
         page: Some("abcdef  ghij\n"),
         certificate: None,
-        said: "lowest height 1 width 12\n",
+        message: "lowest height 1 width 12\n",
     },
     Case {
         line: "lay 11 t.html p.txt",
@@ -69,7 +69,7 @@ const PAGES: &[Case<'static>] = &[
         status: 4,
         page: None,
         certificate: None,
-        said: "narrow least 12 width 11\n",
+        message: "narrow least 12 width 11\n",
     },
     Case {
         line: "lay 9 t.html p.txt",
@@ -77,7 +77,7 @@ const PAGES: &[Case<'static>] = &[
         status: 0,
         page: Some("aaaa   \nbbbb cc\nx  yy  \n"),
         certificate: None,
-        said: "lowest height 3 width 7\n",
+        message: "lowest height 3 width 7\n",
     },
     Case {
         line: "lay 4 t.html p.txt",
@@ -85,7 +85,7 @@ const PAGES: &[Case<'static>] = &[
         status: 4,
         page: None,
         certificate: None,
-        said: "narrow least 5 width 4\n",
+        message: "narrow least 5 width 4\n",
     },
     Case {
         line: "lay 7 t.html p.txt",
@@ -93,7 +93,7 @@ const PAGES: &[Case<'static>] = &[
         status: 0,
         page: Some("aa  x\nbb  y\ncc   \n"),
         certificate: None,
-        said: "lowest height 3 width 5\n",
+        message: "lowest height 3 width 5\n",
     },
     Case {
         line: "lay 8 t.html p.txt",
@@ -101,7 +101,7 @@ const PAGES: &[Case<'static>] = &[
         status: 0,
         page: Some("aa bb  x\ncc     y\n"),
         certificate: None,
-        said: "lowest height 2 width 8\n",
+        message: "lowest height 2 width 8\n",
     },
 ];
 
@@ -121,7 +121,7 @@ const GRIDS: &[Case<'static>] = &[
         status: 0,
         page: Some("a b \nc  d\n"),
         certificate: None,
-        said: "lowest height 2 width 4\n",
+        message: "lowest height 2 width 4\n",
     },
     Case {
         line: "lay 10 t.html p.txt",
@@ -129,7 +129,7 @@ const GRIDS: &[Case<'static>] = &[
         status: 0,
         page: Some("a b \nc  d\n"),
         certificate: None,
-        said: "lowest height 2 width 4\n",
+        message: "lowest height 2 width 4\n",
     },
     Case {
         line: "lay 40 t.html p.txt",
@@ -139,7 +139,7 @@ const GRIDS: &[Case<'static>] = &[
         status: 0,
         page: Some("a b c  d  e  f        g\nh  i   j  k  l  m  n   \n"),
         certificate: None,
-        said: "lowest height 2 width 23\n",
+        message: "lowest height 2 width 23\n",
     },
     Case {
         line: "lay 3 t.html p.txt",
@@ -147,7 +147,7 @@ const GRIDS: &[Case<'static>] = &[
         status: 0,
         page: Some("a\nb\nf\n"),
         certificate: None,
-        said: "lowest height 3 width 1\n",
+        message: "lowest height 3 width 1\n",
     },
     Case {
         line: "lay 3 t.html p.txt",
@@ -155,7 +155,7 @@ const GRIDS: &[Case<'static>] = &[
         status: 0,
         page: Some("a\nf\n"),
         certificate: None,
-        said: "lowest height 2 width 1\n",
+        message: "lowest height 2 width 1\n",
     },
     Case {
         line: "lay 10 t.html p.txt",
@@ -163,7 +163,7 @@ const GRIDS: &[Case<'static>] = &[
         status: 0,
         page: Some("Totals\na  b  \n"),
         certificate: None,
-        said: "lowest height 2 width 6\n",
+        message: "lowest height 2 width 6\n",
     },
 ];
 
@@ -202,7 +202,7 @@ const TEXTS: &[Case<'static>] = &[
         status: 0,
         page: Some("a\n \nb\n"),
         certificate: None,
-        said: "lowest height 3 width 1\n",
+        message: "lowest height 3 width 1\n",
     },
     Case {
         line: "lay 5 t.html p.txt",
@@ -210,7 +210,7 @@ const TEXTS: &[Case<'static>] = &[
         status: 0,
         page: Some("a\n \nb\n"),
         certificate: None,
-        said: "lowest height 3 width 1\n",
+        message: "lowest height 3 width 1\n",
     },
     Case {
         line: "lay 11 t.html p.txt",
@@ -218,7 +218,7 @@ const TEXTS: &[Case<'static>] = &[
         status: 0,
         page: Some("R & D & x\u{a0}y\n"),
         certificate: None,
-        said: "lowest height 1 width 11\n",
+        message: "lowest height 1 width 11\n",
     },
     Case {
         line: "lay 7 t.html p.txt",
@@ -226,7 +226,7 @@ const TEXTS: &[Case<'static>] = &[
         status: 0,
         page: Some("a     b\n"),
         certificate: None,
-        said: "lowest height 1 width 7\n",
+        message: "lowest height 1 width 7\n",
     },
     Case {
         line: "lay 6 t.html p.txt",
@@ -234,7 +234,7 @@ const TEXTS: &[Case<'static>] = &[
         status: 4,
         page: None,
         certificate: None,
-        said: "narrow least 7 width 6\n",
+        message: "narrow least 7 width 6\n",
     },
     Case {
         line: "lay 20 t.html p.txt",
@@ -242,7 +242,7 @@ const TEXTS: &[Case<'static>] = &[
         status: 0,
         page: Some("   name        qty\n0  red pepper  12 \n"),
         certificate: None,
-        said: "lowest height 2 width 18\n",
+        message: "lowest height 2 width 18\n",
     },
     Case {
         line: "lay 16 t.html p.txt",
@@ -250,7 +250,7 @@ const TEXTS: &[Case<'static>] = &[
         status: 0,
         page: Some("   name    qty\n0  red     12 \n   pepper     \n"),
         certificate: None,
-        said: "lowest height 3 width 14\n",
+        message: "lowest height 3 width 14\n",
     },
 ];
 
@@ -270,7 +270,7 @@ const WITHIN: &[Case<'static>] = &[
         status: 0,
         page: Some("aaa  cc dd\nbbb  ee   \n"),
         certificate: None,
-        said: "lowest height 2 width 10\n",
+        message: "lowest height 2 width 10\n",
     },
     Case {
         line: "lay 9 t.html p.txt",
@@ -278,7 +278,7 @@ const WITHIN: &[Case<'static>] = &[
         status: 0,
         page: Some("aaa  cc\nbbb  dd\n     ee\n"),
         certificate: None,
-        said: "lowest height 3 width 7\n",
+        message: "lowest height 3 width 7\n",
     },
     Case {
         line: "lay 6 t.html p.txt",
@@ -286,7 +286,7 @@ const WITHIN: &[Case<'static>] = &[
         status: 4,
         page: None,
         certificate: None,
-        said: "narrow least 7 width 6\n",
+        message: "narrow least 7 width 6\n",
     },
     Case {
         line: "lay 12 t.html p.txt --budget 0",
@@ -294,7 +294,7 @@ const WITHIN: &[Case<'static>] = &[
         status: 3,
         page: Some("aaa  cc\nbbb  dd\n     ee\n"),
         certificate: None,
-        said: "bounded height 3 lower 2 width 7\n",
+        message: "bounded height 3 lower 2 width 7\n",
     },
     Case {
         line: "lay 80 t.html p.txt --budget 100000",
@@ -302,7 +302,7 @@ const WITHIN: &[Case<'static>] = &[
         status: 6,
         page: None,
         certificate: None,
-        said: "limit: reach 8100000\n",
+        message: "limit: reach 8100000\n",
     },
 ];
 
@@ -327,7 +327,7 @@ const SPENT: &[Case<'static>] = &[
         status: 3,
         page: Some("aaa  cc\nbbb  dd\n     ee\n"),
         certificate: None,
-        said: "bounded height 3 lower 2 width 7\n",
+        message: "bounded height 3 lower 2 width 7\n",
     },
     Case {
         line: "lay 12 t.html p.txt --budget 6",
@@ -335,7 +335,7 @@ const SPENT: &[Case<'static>] = &[
         status: 0,
         page: Some("aaa  cc dd\nbbb  ee   \n"),
         certificate: None,
-        said: "lowest height 2 width 10\n",
+        message: "lowest height 2 width 10\n",
     },
     Case {
         line: "lay 25 t.html p.txt --solver plain --budget 3",
@@ -343,7 +343,7 @@ const SPENT: &[Case<'static>] = &[
         status: 3,
         page: Some("a  b  c         \na  b  c         \np  q  cccc  dddd\n      cccc  dddd\n"),
         certificate: None,
-        said: "bounded height 4 lower 3 width 16\n",
+        message: "bounded height 4 lower 3 width 16\n",
     },
 ];
 

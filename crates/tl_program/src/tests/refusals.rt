@@ -40,9 +40,9 @@ const TOKENS: &[(&str, &str)] = &[
 ];
 
 #[test]
-fn a_file_without_tokens_is_refused(rt: HostRuntime) -> Result<(), Fail> {
-    for &(file, said) in TOKENS {
-        check_refused(&rt, LINE, file.as_bytes(), 5, said)?;
+fn a_file_that_spells_no_tokens_is_refused(rt: HostRuntime) -> Result<(), Fail> {
+    for &(file, message) in TOKENS {
+        check_refused(&rt, LINE, file.as_bytes(), 5, message)?;
     }
     Ok(())
 }
@@ -67,8 +67,8 @@ const DOCUMENTS: &[(&str, &str)] = &[
 
 #[test]
 fn a_file_that_is_no_document_is_refused(rt: HostRuntime) -> Result<(), Fail> {
-    for &(file, said) in DOCUMENTS {
-        check_refused(&rt, LINE, file.as_bytes(), 5, said)?;
+    for &(file, message) in DOCUMENTS {
+        check_refused(&rt, LINE, file.as_bytes(), 5, message)?;
     }
     Ok(())
 }
@@ -110,8 +110,8 @@ const OVERLAPS: &[(&str, &str, u8, &str)] = &[
 
 #[test]
 fn overlapping_cells_are_refused(rt: HostRuntime) -> Result<(), Fail> {
-    for &(line, file, status, said) in OVERLAPS {
-        check_refused(&rt, line, file.as_bytes(), status, said)?;
+    for &(line, file, status, message) in OVERLAPS {
+        check_refused(&rt, line, file.as_bytes(), status, message)?;
     }
     Ok(())
 }
@@ -141,8 +141,8 @@ const FIRST: &[(&str, &str, u8, &str)] = &[
 
 #[test]
 fn the_first_step_that_refuses_decides(rt: HostRuntime) -> Result<(), Fail> {
-    for &(line, file, status, said) in FIRST {
-        check_refused(&rt, line, file.as_bytes(), status, said)?;
+    for &(line, file, status, message) in FIRST {
+        check_refused(&rt, line, file.as_bytes(), status, message)?;
     }
     Ok(())
 }
@@ -154,8 +154,8 @@ fn bytes_that_are_no_text_are_refused(rt: HostRuntime) -> Result<(), Fail> {
         (b"<table></table>\xc3", "bad input: not utf-8 at 15\n"),
         (b"<img>\xe2\x82<table>", "bad input: not utf-8 at 5\n"),
     ];
-    for (file, said) in files {
-        check_refused(&rt, LINE, file, 5, said)?;
+    for (file, message) in files {
+        check_refused(&rt, LINE, file, 5, message)?;
     }
     Ok(())
 }

@@ -13,7 +13,7 @@ const FRAMES: &[Case<'static>] = &[
         status: 0,
         page: Some("+---+-----+\n|aaa|cc dd|\n|bbb|ee   |\n+---+-----+\n"),
         certificate: None,
-        said: "lowest height 4 width 11\n",
+        message: "lowest height 4 width 11\n",
     },
     Case {
         line: "lay 10 t.html p.txt --style frame",
@@ -21,7 +21,7 @@ const FRAMES: &[Case<'static>] = &[
         status: 0,
         page: Some("+---+\n|abc|\n+-+-+\n|x|y|\n+-+-+\n"),
         certificate: None,
-        said: "lowest height 5 width 5\n",
+        message: "lowest height 5 width 5\n",
     },
     Case {
         line: "lay 5 t.html p.txt --style frame",
@@ -29,7 +29,7 @@ const FRAMES: &[Case<'static>] = &[
         status: 0,
         page: Some("+---+\n|abc|\n+-+-+\n|x|y|\n+-+-+\n"),
         certificate: None,
-        said: "lowest height 5 width 5\n",
+        message: "lowest height 5 width 5\n",
     },
     Case {
         line: "lay 4 t.html p.txt --style frame",
@@ -37,7 +37,7 @@ const FRAMES: &[Case<'static>] = &[
         status: 4,
         page: None,
         certificate: None,
-        said: "narrow least 5 width 4\n",
+        message: "narrow least 5 width 4\n",
     },
     Case {
         line: "lay 10 t.html p.txt --style frame",
@@ -45,7 +45,7 @@ const FRAMES: &[Case<'static>] = &[
         status: 0,
         page: Some(""),
         certificate: None,
-        said: "lowest height 0 width 0\n",
+        message: "lowest height 0 width 0\n",
     },
 ];
 
@@ -57,7 +57,7 @@ fn a_frame_is_drawn(rt: HostRuntime) -> Result<(), Fail> {
     Ok(())
 }
 
-/// With breaks inside words a line ends between two clusters of characters.
+/// With `--break any` a line may end between two grapheme clusters of a word.
 const INSIDE: &[Case<'static>] = &[
     Case {
         line: "lay 4 t.html p.txt --break any",
@@ -65,7 +65,7 @@ const INSIDE: &[Case<'static>] = &[
         status: 0,
         page: Some("abc\ndef\n"),
         certificate: None,
-        said: "lowest height 2 width 3\n",
+        message: "lowest height 2 width 3\n",
     },
     Case {
         line: "lay 1 t.html p.txt --break any",
@@ -73,7 +73,7 @@ const INSIDE: &[Case<'static>] = &[
         status: 0,
         page: Some("a\nb\nc\nd\ne\nf\n"),
         certificate: None,
-        said: "lowest height 6 width 1\n",
+        message: "lowest height 6 width 1\n",
     },
     Case {
         line: "lay 4 t.html p.txt --break words",
@@ -81,7 +81,7 @@ const INSIDE: &[Case<'static>] = &[
         status: 4,
         page: None,
         certificate: None,
-        said: "narrow least 6 width 4\n",
+        message: "narrow least 6 width 4\n",
     },
     Case {
         line: "lay 4 t.html p.txt --break any",
@@ -89,7 +89,7 @@ const INSIDE: &[Case<'static>] = &[
         status: 0,
         page: Some("aa\nbb\n"),
         certificate: None,
-        said: "lowest height 2 width 2\n",
+        message: "lowest height 2 width 2\n",
     },
     Case {
         line: "lay 5 t.html p.txt --break any",
@@ -97,7 +97,7 @@ const INSIDE: &[Case<'static>] = &[
         status: 0,
         page: Some("aa bb\n"),
         certificate: None,
-        said: "lowest height 1 width 5\n",
+        message: "lowest height 1 width 5\n",
     },
     Case {
         line: "lay 1 t.html p.txt --break any",
@@ -105,7 +105,7 @@ const INSIDE: &[Case<'static>] = &[
         status: 0,
         page: Some("e\u{301}\ne\u{301}\n"),
         certificate: None,
-        said: "lowest height 2 width 1\n",
+        message: "lowest height 2 width 1\n",
     },
     Case {
         line: "lay 1 t.html p.txt --break any",
@@ -113,12 +113,12 @@ const INSIDE: &[Case<'static>] = &[
         status: 4,
         page: None,
         certificate: None,
-        said: "narrow least 2 width 1\n",
+        message: "narrow least 2 width 1\n",
     },
 ];
 
 #[test]
-fn words_break_inside_where_that_is_asked(rt: HostRuntime) -> Result<(), Fail> {
+fn with_break_any_lines_end_between_grapheme_clusters(rt: HostRuntime) -> Result<(), Fail> {
     for case in INSIDE {
         check(&rt, case)?;
     }
@@ -135,7 +135,7 @@ const MARKUP: &[Case<'static>] = &[
             "<table>\n<colgroup><col style=\"width:8ch\"></colgroup>\n<tr><td><p>aa bb cc</p></td></tr>\n</table>\n",
         ),
         certificate: None,
-        said: "lowest height 1 width 8\n",
+        message: "lowest height 1 width 8\n",
     },
     Case {
         line: "lay 9 t.html p.txt --html",
@@ -147,7 +147,7 @@ const MARKUP: &[Case<'static>] = &[
              <tr><td><p>x</p></td><td><p>yy</p></td></tr>\n</table>\n",
         ),
         certificate: None,
-        said: "lowest height 3 width 7\n",
+        message: "lowest height 3 width 7\n",
     },
     Case {
         line: "lay 12 t.html p.txt --html --style frame",
@@ -158,7 +158,7 @@ const MARKUP: &[Case<'static>] = &[
              <tr><td><p>aaa bbb</p></td><td><p>cc dd ee</p></td></tr>\n</table>\n",
         ),
         certificate: None,
-        said: "lowest height 4 width 11\n",
+        message: "lowest height 4 width 11\n",
     },
     Case {
         line: "lay 10 t.html p.txt --html",
@@ -166,7 +166,7 @@ const MARKUP: &[Case<'static>] = &[
         status: 0,
         page: Some("<table>\n</table>\n"),
         certificate: None,
-        said: "lowest height 0 width 0\n",
+        message: "lowest height 0 width 0\n",
     },
     Case {
         line: "lay 5 t.html p.txt --html",
@@ -174,7 +174,7 @@ const MARKUP: &[Case<'static>] = &[
         status: 4,
         page: None,
         certificate: None,
-        said: "narrow least 6 width 5\n",
+        message: "narrow least 6 width 5\n",
     },
 ];
 

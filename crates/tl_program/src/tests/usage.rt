@@ -16,7 +16,7 @@ const COMMANDS: &[&str] = &[
     "tablelayout lay 7 t.html p.txt",
 ];
 
-/// Words that are missing, or one too many.
+/// Arguments that are missing, or one too many.
 const POSITIONS: &[&str] = &[
     "lay 7",
     "lay 7 t.html",
@@ -122,7 +122,7 @@ fn invalid_arguments_print_the_usage(rt: HostRuntime) -> Result<(), Fail> {
                     status: 2,
                     page: None,
                     certificate: None,
-                    said: "usage\n",
+                    message: "usage\n",
                 },
             )?;
         }
@@ -148,14 +148,14 @@ fn options_come_in_any_order(rt: HostRuntime) -> Result<(), Fail> {
                 status: 0,
                 page: Some("aaa  cc dd\nbbb  ee   \n"),
                 certificate: None,
-                said: "lowest height 2 width 10\n",
+                message: "lowest height 2 width 10\n",
             },
         )?;
     }
     Ok(())
 }
 
-// The positions come first, so a word in their place is a name, however it begins.
+// The positions come first, so an argument in their place is a name, however it begins.
 #[test]
 fn a_position_may_look_like_an_option(rt: HostRuntime) -> Result<(), Fail> {
     let alloc = rt.alloc();
@@ -163,8 +163,8 @@ fn a_position_may_look_like_an_option(rt: HostRuntime) -> Result<(), Fail> {
     assert_eq!(rt; status_of(alloc, "lay 8 t.html --html", &mut desk)?, 0);
     assert_eq!(rt; held(&desk, "--html"), Some(b"aa bb cc\n".as_slice()));
     assert_eq!(rt; status_of(alloc, "lay 7 --html p.txt", &mut desk)?, 5);
-    let said = "lowest height 1 width 8\nbad input: stray text at 0\n";
-    assert_eq!(rt; desk.said(), said.as_bytes());
+    let message = "lowest height 1 width 8\nbad input: stray text at 0\n";
+    assert_eq!(rt; desk.said(), message.as_bytes());
     assert_eq!(rt; held(&desk, "p.txt"), None);
     Ok(())
 }
