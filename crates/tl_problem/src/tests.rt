@@ -457,20 +457,30 @@ fn sixty_columns_have_a_bound_below_their_area_bound(rt: HostRuntime) -> Result<
     Ok(())
 }
 
-// 60 columns of one and 59 gaps of two take 178 columns, and each cell needs two lines. In the upper part
-// the last column has three.
+/// The width and the height of the placement in the zone.
+fn size_in(problem: &Problem, zone: &Zone) -> Result<(u32, u32), Fail>
+    requires { IsZone problem.now zone.now }
+{
+    let mut work = Work::new(problem)?;
+    let placed = problem.place_in(zone, &mut work)?.ok_or("no placement")?;
+    Ok((placed.width, placed.height))
+}
+
+// 60 columns of one and 59 gaps of two take 178 columns, and each cell needs two lines.
 #[test]
-fn sixty_columns_are_placed_in_the_whole_and_in_a_part_of_it(rt: HostRuntime) -> Result<(), Fail> {
+fn sixty_columns_are_placed(rt: HostRuntime) -> Result<(), Fail> {
     let problem = a_row(rt.alloc(), 60, 0, "1:1")?.ok_or("no sound problem")?;
     let whole = whole(&problem)?;
-    let mut work = Work::new(&problem)?;
-    let placed = problem.place_in(&whole, &mut work)?.ok_or("no placement")?;
-    assert_eq!(rt; (placed.width, placed.height), (178, 2));
+    assert_eq!(rt; size_in(&problem, &whole)?, (178, 2));
+    Ok(())
+}
+
+// In the upper part the last of 60 columns has three columns of the page, in which its cell has one line.
+#[test]
+fn a_part_of_sixty_columns_is_placed(rt: HostRuntime) -> Result<(), Fail> {
+    let problem = a_row(rt.alloc(), 60, 0, "1:1")?.ok_or("no sound problem")?;
+    let whole = whole(&problem)?;
     let (_, upper) = cut(&whole, &problem, 59)?;
-    let placed = problem.place_in(&upper, &mut work)?.ok_or("no placement")?;
-    assert_eq!(rt; (placed.width, placed.height), (180, 2));
-    let ones = vec![in rt.alloc(); 1u32; 60]?;
-    let placed = problem.place(&ones)?.ok_or("no placement")?;
-    assert_eq!(rt; (placed.width, placed.height), (178, 2));
+    assert_eq!(rt; size_in(&problem, &upper)?, (180, 2));
     Ok(())
 }
