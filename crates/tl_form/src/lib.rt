@@ -41,7 +41,7 @@ pub use laws::{
     the_first_without_a_grid_has_the_least_number,
 };
 pub use layout::Layout;
-pub use narrow::narrow_chain;
+pub use narrow::{narrow_chain, own_width};
 pub use nested_steps::inner_steps;
 pub use numbers::with_number;
 pub use open_laws::open_spends;

@@ -1,6 +1,6 @@
 //! Chains of columns: why no page narrower than a table's least width holds it.
 
-ghost use Rattle.std.specs.Prelude.{◌≡◌, ◌+◌, ◌*◌, ◌<◌, ◌≤◌, ◌++◌, ℕ, length, sum_by, None, [], IfOk, MatchOption};
+ghost use Rattle.std.specs.Prelude.{◌≡◌, ◌+◌, ◌*◌, ◌<◌, ◌++◌, ℕ, None, [], IfOk, MatchOption};
 ghost use Rattle.tl_form.specs.declared.cell.Content.{out-Content};
 ghost use Rattle.tl_form.specs.declared.cell.Table.{out-Table};
 ghost use Rattle.tl_form.specs.declared.cell.TableCell.{out-TableCell};
@@ -36,8 +36,9 @@ fn widest_of_block(block: &Content) -> u32
     }
 }
 
-/// The greater of the cell's floor and its widest unit.
-fn own_width(cell: &TableCell) -> u32
+/// The width of the cell by itself, in columns: the greater of its floor and its widest unit. It leaves
+/// out the tables nested in the cell.
+pub fn own_width(cell: &TableCell) -> u32
     ensures { result ≡ own_width (out-TableCell cell.now) }
 {
     let mut width = cell.least;

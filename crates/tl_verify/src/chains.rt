@@ -6,7 +6,6 @@ ghost use Rattle.tl_base.specs.Style.{edge_of, gap_of};
 ghost use Rattle.tl_form.specs.declared.cell.Content.{out-Content};
 ghost use Rattle.tl_form.specs.declared.cell.Table.{out-Table};
 ghost use Rattle.tl_form.specs.declared.cell.TableCell.{out-TableCell};
-ghost use Rattle.tl_form.specs.Chains.{own_width, widest_in};
 ghost use Rattle.tl_form.specs.Sound.{IsSound};
 ghost use Rattle.tl_form.specs.Tables.{tables_in, tables_of};
 ghost use Rattle.tl_form.specs.Valid.{AreTooWide};
@@ -15,7 +14,7 @@ ghost use Rattle.tl_form.specs.Subjects.{IsSubject, meant};
 ghost use Rattle.tl_verify.specs.inner.Walks.{HasNoRow, HasNoStep, HasNoWalk, HasNoWalkIn, IsRow, IsStep, IsWalk, IsWalkIn};
 
 use tl_base::Style;
-use tl_form::{Content, Subject, Table, TableCell};
+use tl_form::{Content, Subject, Table, TableCell, own_width};
 use tl_problem::{Chain, Entry};
 
 /// What a walk came to: what the walked chain weighs, in columns of text, and the first chain past it
@@ -34,27 +33,6 @@ pub struct Row {
     pub covered: u32,
     pub width: u32,
     pub past: usize,
-}
-
-/// The width of the block's widest unit; a nested table has none of its own.
-fn widest_of_block(block: &Content) -> u32
-    ensures { result ≡ widest_in (out-Content block.now) }
-{
-    match block {
-        Content::Para(paragraph) => tl_text::least_width(paragraph),
-        Content::Table(_) => 0,
-    }
-}
-
-/// The width of the cell by itself: the greater of its floor and its widest unit.
-fn own_width(cell: &TableCell) -> u32
-    ensures { result ≡ own_width (out-TableCell cell.now) }
-{
-    let mut width = cell.least;
-    for block in cell.blocks.as_slice() {
-        width = width.max(widest_of_block(block));
-    }
-    width
 }
 
 /// What the entries weigh in a table of so many columns.
