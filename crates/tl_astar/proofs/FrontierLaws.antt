@@ -5,7 +5,7 @@ use Rattle.std.specs.List.Sorted.{IsPermutation}
 use Rattle.std.proofs.lemmas.List.Elements.{All-nil, All-cons, All-head, All-tail, All-push}
 use Rattle.std.proofs.lemmas.List.Kept.{AllPairs-cons}
 use Rattle.std.proofs.lemmas.List.Sorted.{All-permutation, Contains-permutation}
-use Rattle.tl_base.proofs.Members.{Contains-first, Contains-later, Contains-cases, Contains-none}
+use Rattle.tl_base.proofs.Members.{Contains-first, Contains-later, Contains-cases, Contains-none, AllPairs-head, AllPairs-tail}
 use Rattle.tl_problem.specs.declared.zone.Range.{Range}
 use Rattle.tl_problem.specs.Problem.{ProblemModel}
 use Rattle.tl_problem.specs.Sound.{IsSound}
@@ -20,7 +20,7 @@ use Rattle.tl_cert.specs.Worked.{IsBoundOf}
 use Rattle.tl_cert.proofs.TraceLaws.{zone-old, zone-lower, zone-upper, zone-cases, stands-old, stood-before, stands-new, cuts-there, zones-are}
 use Rattle.tl_solve.proofs.WalkLaws.{closed-lower}
 use Rattle.tl_astar.specs.inner.Frontier.{IsShut, AreShut, IsUnderBounds, IsFrontier}
-use Rattle.tl_astar.proofs.Lists.{pairs-head, pairs-tail, apart-permuted}
+use Rattle.tl_astar.proofs.Lists.{apart-permuted}
 
 -- a zone that is shut for a height is shut for a lower one
 pub shut-lower : (problem : ProblemModel) (zone : List Range) (height best : ℕ) → best ≤ height → IsShut problem zone height → IsShut problem zone best
@@ -71,7 +71,7 @@ module _ (problem : ProblemModel) (trace : List CutAt) where
         IsFrontier problem trace height zones
     frontier-shut z zones is shut = record {
       standing = All-tail (Stands trace) z zones is.standing;
-      once = pairs-tail (λ a b. a ≢ b) z zones is.once;
+      once = AllPairs-tail (λ a b. a ≢ b) z zones is.once;
       others = λ y stands. elim (is.others y stands) [
         | inr other ↦ inr other
         | inl has ↦ elim (Contains-cases z zones y has) [
@@ -153,7 +153,7 @@ module _ (problem : ProblemModel) (sound : IsSound problem) (trace : List CutAt)
         let low = 2 * length trace + 1 in
         let high = 2 * length trace + 2 in
         let standing = All-tail (Stands trace) cut.zone zones before.standing in
-        let apart = pairs-head (λ (a b : ℕ). a ≢ b) cut.zone zones before.once in
+        let apart = AllPairs-head (λ (a b : ℕ). a ≢ b) cut.zone zones before.once in
         let Old = λ (z : ℕ). (other : ℕ) → IsBoundOf problem trace z other → found.0 ≤ other in
         record {
           standing = All-cons (Stands (trace ++ cut ∷ [])) low (high ∷ zones)
@@ -166,7 +166,7 @@ module _ (problem : ProblemModel) (sound : IsSound problem) (trace : List CutAt)
               (λ k d within same. omega (arith, same, (standing k d within).there)))
               (AllPairs-cons (λ (a b : ℕ). a ≢ b) high zones
               (λ k d within same. omega (arith, same, (standing k d within).there))
-              (pairs-tail (λ (a b : ℕ). a ≢ b) cut.zone zones before.once));
+              (AllPairs-tail (λ (a b : ℕ). a ≢ b) cut.zone zones before.once));
           others = λ z stands. elim (zone-cases (whole_zone problem) trace cut z stands.there) [
             | inr (inl first) ↦ inl (subst (Contains (low ∷ high ∷ zones)) (sym first) (Contains-first low (high ∷ zones)))
             | inr (inr second) ↦ inl (subst (Contains (low ∷ high ∷ zones)) (sym second)

@@ -1,6 +1,6 @@
 //! The zones that may still be cut, by number, the one of least bound first.
 
-ghost use Rattle.std.specs.Prelude.{◌≡◌, ◌+◌, ◌≤◌, [], ◌∷◌, IfNone, IfSome, OnOk, OnSome, IsPermutation};
+ghost use Rattle.std.specs.Prelude.{◌≡◌, ◌+◌, [], ◌∷◌, IfNone, IfSome, OnOk, OnSome, IsPermutation};
 ghost use Rattle.std.specs.BinaryHeap.{IsHeap, heap_items, heap_len};
 ghost use Rattle.std.proofs.Props.{props};
 ghost use Rattle.tl_astar.specs.inner.Entries.{IsTakenOut, compare_entries, entry};

@@ -59,7 +59,7 @@ test_le_false gt = grind (arith, nat_tests)
 pub le_test : {a b : ℕ} → nat_le a b ≡ true → a ≤ b
 le_test test = grind (arith, nat_tests)
 
-test_lt : {a b : ℕ} → a < b → nat_lt a b ≡ true
+pub test_lt : {a b : ℕ} → a < b → nat_lt a b ≡ true
 test_lt lt = grind (arith, nat_tests)
 
 pub lt_test : {a b : ℕ} → nat_lt a b ≡ true → a < b
@@ -143,7 +143,7 @@ filter-take p (x ∷ xs) (suc n) at =
       (λ k d low high. at.1 (suc k) d (omega arith) (omega arith)),
     )))
 
-last_or-take : {X : Type 0} (o : Option X) (xs : List X) (n : ℕ) (d : X) → n < length xs → last_or o (take (suc n) xs) ≡ Some (get_or xs n d)
+pub last_or-take : {X : Type 0} (o : Option X) (xs : List X) (n : ℕ) (d : X) → n < length xs → last_or o (take (suc n) xs) ≡ Some (get_or xs n d)
 last_or-take o [] n d within = absurd (omega arith)
 last_or-take o (x ∷ xs) zero d within = refl
 last_or-take o (x ∷ xs) (suc n) d within = last_or-take (Some x) xs n d (omega arith)

@@ -3,6 +3,7 @@ pub mod Decimals
 pub mod Decreasing
 pub mod Members
 pub mod MemoryDesks
+pub mod Options
 pub mod Stacking
 pub mod Sums
 pub mod Texts

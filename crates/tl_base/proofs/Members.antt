@@ -1,9 +1,10 @@
 -- What filters, maps and joined lists contain, and lists in a strict order: two with the same elements are the same.
 use Rattle.std.proofs.Common.{◌≡◌, ℕ, ◌+◌, ◌-◌, ◌<◌, ◌≤◌, zero, suc, Bool, true, false, List, [], ◌∷◌, ◌++◌, ◌⊎◌, inl, inr, length, map, get_or}
 use Rattle.std.proofs.Common.{filter, refl, sym, ap, ◌∙◌, subst, arith}
-use Rattle.std.proofs.Common.{eqb, ◌||◌}
-use Rattle.std.specs.List.{All, AllPairs, Contains, flat_map, list_any, range_with_len}
+use Rattle.std.proofs.Common.{eqb, ◌||◌, length-append}
+use Rattle.std.specs.List.{All, AllByRecursion, AllPairs, Contains, flat_map, list_any, range_with_len}
 use Rattle.std.proofs.lemmas.Bool.{cases_Bool, cases_eq, eq-eqb, ne_eqb}
+use Rattle.std.proofs.lemmas.List.{get_or_append_left, get_or-append-add}
 use Rattle.std.proofs.lemmas.List.Elements.{All-filter, All-contains, Contains-get_or, Contains-append_left, Contains-append_right, Contains-append_cases}
 use Rattle.tl_base.specs.Lists.{is_among}
 use Rattle.std.proofs.lemmas.List.FromFn.{length-range_with_len, get_or-range_with_len}
@@ -206,3 +207,32 @@ module _ {X : Type 0} (R : X → X → Type 0) (strict : (x y : X) → R x y →
         | inr later ↦ later
       ]) in
       cc
+
+-- ---- what is so of each item
+
+-- what is so of each item of two lists is so of each of both together
+pub AllByRecursion-append : {X : Type 0} (P : X → Type 0) (xs ys : List X) → AllByRecursion P xs → AllByRecursion P ys → AllByRecursion P (xs ++ ys)
+AllByRecursion-append P [] ys one other = other
+AllByRecursion-append P (x ∷ xs) ys one other = (one.0, AllByRecursion-append P xs ys one.1 other)
+
+-- what is so of each item, weakened
+pub AllByRecursion-weaker : {X : Type 0} (P Q : X → Type 0) (xs : List X) → ((x : X) → P x → Q x) → AllByRecursion P xs → AllByRecursion Q xs
+AllByRecursion-weaker P Q [] weaker all = tt
+AllByRecursion-weaker P Q (x ∷ xs) weaker all = (weaker x all.0, AllByRecursion-weaker P Q xs weaker all.1)
+
+-- what is so of each item is so of the last ones
+pub AllByRecursion-suffix : {X : Type 0} (P : X → Type 0) (xs ys : List X) → AllByRecursion P (xs ++ ys) → AllByRecursion P ys
+AllByRecursion-suffix P [] ys all = all
+AllByRecursion-suffix P (x ∷ xs) ys all = AllByRecursion-suffix P xs ys all.1
+
+-- what is so of all is so of all before the last
+pub All-prefix : {X : Type 0} (P : X → Type 0) (xs : List X) (x : X) → All P (xs ++ x ∷ []) → All P xs
+All-prefix P xs x all = λ k d within. subst P (get_or_append_left xs (x ∷ []) d k within) (all k d (omega (arith, within, length-append xs (x ∷ []))))
+
+-- and of the last one
+pub All-last : {X : Type 0} (P : X → Type 0) (xs : List X) (x : X) → All P (xs ++ x ∷ []) → P x
+All-last P xs x all = subst P (get_or-append-add xs (x ∷ []) 0 x) (all (length xs + 0) x (omega (arith, length-append xs (x ∷ []))))
+
+-- an item at the end is in the list
+pub Contains-push : {X : Type 0} (xs : List X) (x : X) → Contains (xs ++ x ∷ []) x
+Contains-push xs x = Contains-append_right xs (x ∷ []) x (Contains-first x [])

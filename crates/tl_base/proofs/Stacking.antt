@@ -1,7 +1,7 @@
 -- Two step functions one above the other: where their sum changes, and that the steps found are its steps.
 use Rattle.std.proofs.Common.{◌≡◌, ℕ, ◌-◌, ◌<◌, ◌≤◌, max, Bool, nat_le, true, false, List, [], ◌∷◌, ◌++◌, ◌⊎◌, inl, inr, length, get_or, filter, cond}
 use Rattle.std.proofs.Common.{Option, Some, None, refl, sym, ap, ◌∙◌, subst, arith}
-use Rattle.std.specs.List.{AllPairs, last_or}
+use Rattle.std.specs.List.{All, AllPairs, last_or}
 use Rattle.std.specs.Option.{option_map, IsSomeAnd, IsSome}
 use Rattle.std.proofs.lemmas.Bool.{cases_lt}
 use Rattle.std.proofs.Math.Seq.{get_or-append_seam}
@@ -89,7 +89,7 @@ none_below a b are_a are_b v below = none (cases_lt v (first_width a)) where
 -- ---- the steps found so far
 
 -- the height with one step more
-height_at-push : (steps : List Config) (step : Config) (w : ℕ) →
+pub height_at-push : (steps : List Config) (step : Config) (w : ℕ) →
     height_at (steps ++ step ∷ []) w ≡ cond (nat_le step.width w) (Some step.height) (height_at steps w)
 height_at-push steps step w =
     ap (λ narrow. option_map (λ s. s.height) (last_or None narrow)) (filter-append (λ s. nat_le s.width w) steps (step ∷ []))
@@ -200,3 +200,8 @@ module _ (least : ℕ) (height : ℕ → Option ℕ) (steps : List Config) (widt
 
   pub all_heights : (list : List Config) → list ≡ steps ++ step ∷ [] → ((v : ℕ) → width ≤ v → height v ≡ height width) → (v : ℕ) → height_at list v ≡ height v
   all_heights list is stays v = ap (λ all. height_at all v) is ∙ heights_to v (stays v)
+
+-- where each step begins within a page, so does the first
+pub first_width-within : (page : ℕ) (steps : List Config) → AreSteps steps → All (λ step. step.width ≤ page) steps → first_width steps ≤ page
+first_width-within page [] are within = absurd (omega (arith, are.has_step))
+first_width-within page (step ∷ steps) are within = within 0 step (omega arith)

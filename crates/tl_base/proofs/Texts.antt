@@ -1,6 +1,6 @@
 -- A text's bytes and its characters.
-use Rattle.std.proofs.Common.{◌≡◌, ℕ, Bool, true, false, ◌==◌, IsTrue, ◌↔◌, ◌<◌, ◌≤◌, List, [], ◌∷◌, ◌++◌, length, ap, arith, refl, sym, ◌∙◌}
-use Rattle.std.proofs.Common.{◌⊎◌, inl, inr, eq-eqb}
+use Rattle.std.proofs.Common.{◌≡◌, ℕ, Bool, true, false, ◌==◌, IsTrue, ◌↔◌, ◌+◌, ◌<◌, ◌≤◌, List, [], ◌∷◌, ◌++◌, length, ap, arith, refl, sym, ◌∙◌}
+use Rattle.std.proofs.Common.{◌⊎◌, inl, inr, eq-eqb, length-append}
 use Rattle.std.proofs.lemmas.Bool.{cases_lt, eqb-true}
 use Rattle.std.specs.Prelude.{bytes_eq}
 use Rattle.std.specs.Char.{encode_utf8}
@@ -34,7 +34,7 @@ chars-push bytes more c utf8 valid is =
     ∙ ap (λ last. bytes ++ last) (append-nil (encode_utf8 c)) ∙ sym is))
 
 -- two tests that hold together are the same
-same_test : (p q : Bool) → (p ≡ true → q ≡ true) → (q ≡ true → p ≡ true) → p ≡ q
+pub same_test : (p q : Bool) → (p ≡ true → q ≡ true) → (q ≡ true → p ≡ true) → p ≡ q
 same_test true q to from = sym (to refl)
 same_test false true to from = from refl
 same_test false false to from = refl
@@ -64,3 +64,11 @@ tells_no_character bytes text told utf8 is same =
       λ yes. both.0 (eqb-true (length bytes) 0 (sym is ∙ yes)),
       λ none. is ∙ eq-eqb (length bytes) 0 (both.1 none),
     )
+
+-- two texts together have as many bytes as both
+pub byte_count-append : (xs ys : List ℕ) → byte_count (xs ++ ys) ≡ byte_count xs + byte_count ys
+byte_count-append xs ys = ap length (encodes-append xs ys) ∙ length-append (encode_utf8_all xs) (encode_utf8_all ys)
+
+-- the bytes of a character and of the text after it
+pub byte_count-cons : (c : ℕ) (text : List ℕ) → byte_count (c ∷ text) ≡ length (encode_utf8 c) + byte_count text
+byte_count-cons c text = length-append (encode_utf8 c) (encode_utf8_all text)

@@ -1,6 +1,7 @@
 mod Examples
 pub mod Appending
 pub mod CountLaws
+pub mod CutParts
 pub mod FireLaws
 pub mod LogLaws
 pub mod Loops

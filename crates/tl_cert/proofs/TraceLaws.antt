@@ -3,7 +3,7 @@ use Rattle.std.proofs.Common.{◌≡◌, ◌≢◌, ℕ, ◌+◌, ◌*◌, ◌<�
 use Rattle.std.proofs.Common.{◌⊎◌, inl, inr, length, get_or, take, refl, sym, ap, ◌∙◌, subst, arith, length-append, length-take}
 use Rattle.std.specs.List.{All}
 use Rattle.std.proofs.lemmas.Bool.{cases_lt}
-use Rattle.std.proofs.lemmas.List.{take_all, get_or-take, take-take, get_or_append_left, get_or-append-add}
+use Rattle.std.proofs.lemmas.List.{take_all, get_or-take, take-take, get_or_append_left, get_or-append-add, take-append-le}
 use Rattle.std.proofs.lemmas.List.Elements.{All-push}
 use Rattle.std.proofs.Math.Seq.{take-suc}
 use Rattle.tl_problem.specs.declared.zone.Range.{Range}
@@ -141,3 +141,19 @@ zones-are problem sound trace is = trace-by (whole_zone problem) AllZones none m
             (subst (IsZone problem) (sym (zone-upper (whole_zone problem) cuts cut))
             (upper-is_zone problem sound (zone_at (whole_zone problem) cuts cut.zone) parent cut.span cut.class span now.lower now.upper))
       ]
+
+-- a trace with one cut more is a trace
+pub trace-push : (whole : List Range) (cuts : List CutAt) (cut : CutAt) → IsTrace whole cuts → IsCut whole cuts cut → IsTrace whole (cuts ++ cut ∷ [])
+trace-push whole cuts cut is now i d within =
+    elim (cases_lt i (length cuts)) [
+      | inl old ↦
+          let prefix = take-append-le i cuts (cut ∷ []) (omega (arith, old)) in
+          let at = get_or_append_left cuts (cut ∷ []) d i old in
+          subst (λ cs. IsCut whole cs (get_or (cuts ++ cut ∷ []) i d)) (sym prefix) (subst (IsCut whole (take i cuts)) (sym at) (is i d old))
+      | inr last ↦
+          let here : i ≡ length cuts = omega (arith, last, within, length-append cuts (cut ∷ [])) in
+          let number : i ≡ length cuts + 0 = omega (arith, here) in
+          let at : get_or (cuts ++ cut ∷ []) i d ≡ cut = ap (λ n. get_or (cuts ++ cut ∷ []) n d) number ∙ get_or-append-add cuts (cut ∷ []) 0 d in
+          let prefix : take i (cuts ++ cut ∷ []) ≡ cuts = take-append-le i cuts (cut ∷ []) (omega (arith, here)) ∙ take_all i cuts (omega (arith, here)) in
+          subst (λ cs. IsCut whole cs (get_or (cuts ++ cut ∷ []) i d)) (sym prefix) (subst (IsCut whole cuts) (sym at) now)
+    ]

@@ -213,6 +213,12 @@ pub record HasSections (c : Certificate) : Type 0 where
   pub sections : AllByRecursion IsSectionShaped c.sections
   pub no_chain : c.chains ≡ []
 
+-- the claim says that the page is too narrow
+abbrev pub IsNarrow : Claim → Type 0
+IsNarrow (Lowest height) = ⊥
+IsNarrow (Bounded height lower) = ⊥
+IsNarrow (Narrow least) = Unit {0}
+
 -- chains with `narrow` and sections with the other claims
 abbrev pub HasProof : Claim → Certificate → Type 0
 HasProof (Lowest height) = HasSections

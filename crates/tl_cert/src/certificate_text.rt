@@ -1,6 +1,6 @@
 //! Reads a whole certificate.
 
-ghost use Rattle.std.specs.Prelude.{◌≡◌, ◌≤◌, ℕ, [], length, IfOk, IfErr, alloc_error};
+ghost use Rattle.std.specs.Prelude.{◌≡◌, ◌≤◌, [], length, IfOk, IfErr, alloc_error};
 ghost use Rattle.tl_base.specs.Returned.{ReturnsOk, ReturnsError, IsMemoryOr};
 ghost use Rattle.tl_cert.specs.declared.certificate.Certificate.{Certificate};
 ghost use Rattle.tl_cert.specs.declared.error.CertError.{CertError};

@@ -1,6 +1,6 @@
 //! Reads the chains of a certificate.
 
-ghost use Rattle.std.specs.Prelude.{◌≡◌, ℕ, true};
+ghost use Rattle.std.specs.Prelude.{◌≡◌, true};
 ghost use Rattle.tl_cert.specs.inner.Gives.{Gives};
 ghost use Rattle.tl_cert.specs.inner.CertReading as read;
 ghost use Rattle.tl_cert.specs.inner.reading.Lists.{listing, comes};

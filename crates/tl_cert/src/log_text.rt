@@ -1,6 +1,6 @@
 //! Reads the lines of a log and the cuts of a trace.
 
-ghost use Rattle.std.specs.Prelude.{◌≡◌, ◌≤◌, ℕ, length, IfSome, IfOk};
+ghost use Rattle.std.specs.Prelude.{◌≡◌, ◌≤◌, IfSome, IfOk};
 ghost use Rattle.tl_cert.specs.inner.Gives.{Gives};
 ghost use Rattle.tl_cert.specs.inner.CertReading as read;
 ghost use Rattle.tl_cert.specs.Text as text;

@@ -1,9 +1,9 @@
 //! A text from its beginning to its end, as the bytes that are still to read. Each byte is read once.
 
-ghost use Rattle.std.specs.Prelude.{◌≡◌, ◌<◌, ◌≤◌, ℕ, true, ◌==◌, ◌^◌, [], ◌∷◌, length, IfOk, IfSome, IfNone, alloc_error};
+ghost use Rattle.std.specs.Prelude.{◌≡◌, ◌<◌, ◌≤◌, ℕ, true, ◌==◌, [], ◌∷◌, length, IfOk, IfSome, IfNone};
 ghost use Rattle.std.specs.Char.{is_ascii_digit};
 ghost use Rattle.tl_cert.specs.declared.reader.Fault.TheVariants.{Memory};
-ghost use Rattle.tl_cert.specs.inner.Gives.{Gives, Fails};
+ghost use Rattle.tl_cert.specs.inner.Gives.{Gives};
 ghost use Rattle.tl_cert.specs.inner.Follows as follows;
 ghost use Rattle.tl_cert.specs.inner.reading.Readings.{begins, word_at, wrong};
 ghost use Rattle.tl_cert.specs.inner.reading.Numbers.{read_run, run_at, number_at, field_at};

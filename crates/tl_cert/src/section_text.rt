@@ -1,6 +1,6 @@
 //! Reads the sections of a certificate.
 
-ghost use Rattle.std.specs.Prelude.{◌≡◌, ◌≤◌, ℕ, length, IfOk};
+ghost use Rattle.std.specs.Prelude.{◌≡◌, ◌≤◌};
 ghost use Rattle.tl_cert.specs.inner.Gives.{Gives};
 ghost use Rattle.tl_cert.specs.inner.CertReading as read;
 ghost use Rattle.tl_cert.specs.Text as text;

@@ -13,8 +13,7 @@ use Rattle.tl_problem.specs.Works as works
 use Rattle.tl_problem.specs.Works.{places}
 use Rattle.tl_problem.proofs.BoundLaws.{bound-unique}
 use Rattle.tl_problem.proofs.AreaLaws.{area-unique}
-use Rattle.tl_problem.proofs.AreaFound.{area-same}
-use Rattle.tl_problem.proofs.ConstraintLemmas.{bound-same}
+use Rattle.tl_problem.proofs.SetLaws.{found_bound-same, found_area-same}
 use Rattle.tl_problem.proofs.WorkLemmas.{left-some}
 use Rattle.tl_cert.specs.declared.log.Bound.{Bound}
 use Rattle.tl_cert.specs.declared.log.End.{End}
@@ -41,8 +40,8 @@ some-same P Q to (Some x) h = to x h
 pub ends-same : (problem : ProblemModel) (A B : List ℕ → Type 0) → ((widths : List ℕ) → A widths → B widths) → ((widths : List ℕ) → B widths → A widths) →
     (nogoods : List (List Bound)) (lower : ℕ) (end : End) → EndsBy problem A nogoods lower end → EndsBy problem B nogoods lower end
 ends-same problem A B to from nogoods lower Cycle none = λ widths left. none widths (from widths left)
-ends-same problem A B to from nogoods lower Chain (bound, is, enough) = (bound, bound-same problem A B to from (Some bound) is, enough)
-ends-same problem A B to from nogoods lower Area (bound, is, enough) = (bound, area-same problem A B to from (Some bound) is, enough)
+ends-same problem A B to from nogoods lower Chain (bound, is, enough) = (bound, found_bound-same problem A B to from (Some bound) is, enough)
+ends-same problem A B to from nogoods lower Area (bound, is, enough) = (bound, found_area-same problem A B to from (Some bound) is, enough)
 ends-same problem A B to from nogoods lower Fired last =
     some-same (All (Implied problem A)) (All (Implied problem B)) (λ nogood all k d within widths left. all k d within widths (from widths left))
     (last_or None nogoods) last

@@ -1,17 +1,16 @@
 -- What constraints leave, as one more joins them.
-use Rattle.std.proofs.Common.{◌≡◌, ℕ, ◌+◌, ◌<◌, ℤ, pos, neg_ℤ, ◌≤ℤ◌, List, [], ◌∷◌, ◌++◌, length, refl, ap, subst, arith, length-append}
-use Rattle.std.specs.List.{All}
+use Rattle.std.proofs.Common.{◌≡◌, ℕ, ◌+◌, ◌<◌, ℤ, pos, neg_ℤ, ◌≤ℤ◌, List, [], ◌∷◌, ◌++◌, length, refl, ap, arith}
 use Rattle.std.proofs.lemmas.Int.{ints}
-use Rattle.std.proofs.lemmas.List.{get_or_append_left, get_or-append-add}
 use Rattle.std.proofs.lemmas.List.Elements.{All-push}
 use Rattle.tl_base.specs.Style.{gap_of}
+use Rattle.tl_base.proofs.Members.{All-prefix, All-last}
 use Rattle.tl_diff.specs.Bounds.{Bounds, IsSatisfiable, AddsBound}
 use Rattle.tl_diff.specs.Marks.{MarkedBounds}
 use Rattle.tl_problem.specs.Problem.{ProblemModel}
 use Rattle.tl_problem.specs.Spans.{spans_of}
 use Rattle.tl_problem.specs.Zones.{span_at, span_width}
 use Rattle.tl_problem.specs.Works as works
-use Rattle.tl_problem.specs.Works.{places, HasPage}
+use Rattle.tl_problem.specs.Works.{places}
 use Rattle.tl_problem.proofs.SizeLaws.{room-position}
 use Rattle.tl_problem.proofs.ZoneLaws.{span-within}
 use Rattle.tl_problem.proofs.ConstraintLemmas.{KeepsPage-adds}
@@ -19,13 +18,6 @@ use Rattle.tl_cert.specs.declared.log.Bound.{Bound}
 use Rattle.tl_cert.specs.Nogoods.{Meets, Breaks}
 use Rattle.tl_cert.specs.Implied.{IsLeft}
 use Rattle.tl_check.specs.inner.Matrices.{IsMatrixOf, Restricts, Describes}
-
--- what is so of all is so of the prefix, and of the last
-pub All-prefix : {X : Type 0} (P : X → Type 0) (xs : List X) (x : X) → All P (xs ++ x ∷ []) → All P xs
-All-prefix P xs x all = λ k d within. subst P (get_or_append_left xs (x ∷ []) d k within) (all k d (omega (arith, within, length-append xs (x ∷ []))))
-
-pub All-last : {X : Type 0} (P : X → Type 0) (xs : List X) (x : X) → All P (xs ++ x ∷ []) → P x
-All-last P xs x all = subst P (get_or-append-add xs (x ∷ []) 0 x) (all (length xs + 0) x (omega (arith, length-append xs (x ∷ []))))
 
 -- the fact in other words
 pub Restricts-same : (problem : ProblemModel) (old new : MarkedBounds) (F G : List ℕ → Type 0) →

@@ -1,20 +1,17 @@
--- How many spans there are, and the bounds of a zone span by span.
-use Rattle.std.proofs.Common.{◌≡◌, ℕ, ◌+◌, ◌-◌, ◌*◌, ◌<◌, ◌≤◌, zero, suc, Bool, true, false, not, List, [], ◌∷◌}
-use Rattle.std.proofs.Common.{◌++◌, inl, inr, length, map, filter, Option, None, refl, sym, ap, ◌∙◌, subst, arith, length-append}
+-- The bounds of a zone, span by span.
+use Rattle.std.proofs.Common.{◌≡◌, ℕ, ◌+◌, ◌-◌, ◌<◌, zero, suc, Bool, true, false, List, [], ◌∷◌}
+use Rattle.std.proofs.Common.{◌++◌, inl, inr, length, Option, None, refl, sym, ap, ◌∙◌, subst, arith}
 use Rattle.std.specs.Prelude.{nat_lt, if◌then◌else◌}
-use Rattle.std.specs.List.{Contains, flat_map, range_with_len, list_any}
+use Rattle.std.specs.List.{Contains, flat_map, range_with_len}
 use Rattle.std.proofs.lemmas.Bool.{cases_lt}
 use Rattle.std.proofs.lemmas.Grind.{flat_map-append}
 use Rattle.std.proofs.lemmas.List.{append-nil}
 use Rattle.std.proofs.lemmas.List.Elements.{Contains-append_left, Contains-append_right, Contains-append_cases, All-contains}
-use Rattle.std.proofs.lemmas.List.Filters.{length-filter_both}
-use Rattle.std.proofs.lemmas.List.FromFn.{length-range_with_len, length-map-range_with_len}
 use Rattle.tl_base.proofs.Members.{Contains-none}
-use Rattle.tl_problem.specs.declared.cell.Span.{Span}
 use Rattle.tl_problem.specs.declared.zone.Range.{Range}
 use Rattle.tl_problem.specs.Problem.{ProblemModel}
 use Rattle.tl_problem.specs.Sound.{IsSound}
-use Rattle.tl_problem.specs.Spans.{span, spans_of, all_spans, has_span}
+use Rattle.tl_problem.specs.Spans.{span, spans_of}
 use Rattle.tl_problem.specs.Zones.{classes_at, first_in_class, last_in_class, range_at, IsZone}
 use Rattle.tl_cert.specs.declared.log.Bound.{Bound}
 use Rattle.tl_cert.specs.declared.log.Nogood.{Nogood}
@@ -26,28 +23,6 @@ use Rattle.tl_cert.proofs.TraceLaws.{zones-are}
 use Rattle.tl_cert.proofs.ZoneBounds.{lt_test, not_lt_test, given-Contains, Contains-given, bound-of_range, range-bound_of}
 use Rattle.tl_check.specs.inner.Matrices.{some_list}
 use Rattle.tl_check.specs.inner.Zones.{bounds_upto}
-
--- ---- few spans
-
-flat_map-short : {X Y : Type 0} (f : X → List Y) (most : ℕ) → ((x : X) → length (f x) ≤ most) → (xs : List X) → length (flat_map f xs) ≤ length xs * most
-flat_map-short f most short [] = omega arith
-flat_map-short f most short (x ∷ xs) =
-    let product : suc (length xs) * most ≡ most + length xs * most = grind arith in
-    omega (arith, length-append (f x) (flat_map f xs), short x, flat_map-short f most short xs, product)
-
-filter-short : {X : Type 0} (p : X → Bool) (xs : List X) → length (filter p xs) ≤ length xs
-filter-short p xs = omega (arith, length-filter_both p (λ x. not (p x)) (λ x. refl) xs)
-
-pub spans-few : (problem : ProblemModel) → IsSound problem → length (spans_of problem) ≤ 3600
-unfolding spans_of
-spans-few problem sound =
-    let f : ℕ → List Span = λ left. map (span left) (range_with_len (left + 1) (problem.cols - left)) in
-    let all = flat_map-short f problem.cols (λ left. omega (arith, length-map-range_with_len (span left) (left + 1) (problem.cols - left)))
-    (range_with_len 0 problem.cols) in
-    let count = length-range_with_len 0 problem.cols in
-    let some = filter-short (λ columns. list_any (has_span columns) problem.cells) (all_spans problem.cols) in
-    let square : length (range_with_len 0 problem.cols) * problem.cols ≤ 3600 = grind (arith, sound.few_columns, count) in
-    omega (arith, some, all, square)
 
 -- ---- one span more
 

@@ -21,7 +21,7 @@ use Rattle.tl_problem.specs.Zones.{IsZone, InZone, range_at, first_in_class, las
 use Rattle.tl_problem.proofs.TightLaws.{least-unique, placement-unique}
 use Rattle.tl_base.specs.Style.{gap_of}
 use Rattle.tl_problem.proofs.BoundLaws.{bound-unique}
-use Rattle.tl_problem.proofs.ConstraintLemmas.{bound-same}
+use Rattle.tl_problem.proofs.SetLaws.{found_bound-same}
 use Rattle.tl_cert.specs.declared.trace.CutAt.{CutAt}
 use Rattle.tl_cert.specs.Nogoods.{Meets, Breaks, zone_bounds}
 use Rattle.tl_cert.specs.Traces.{Stands, zone_of}
@@ -45,7 +45,7 @@ pub zone-bound : (problem : ProblemModel) → IsSound problem → (zone : List R
     Describes problem (zone_bounds problem zone) [] bounds → (o : Option ℕ) →
     MatchOption o (HasNoWidths (works.IsLeft problem bounds)) (IsBound problem (works.IsLeft problem bounds)) →
     MatchOption o (HasNoWidths (InZone problem zone)) (IsBound problem (InZone problem zone))
-zone-bound problem sound zone is bounds d o found = bound-same problem (works.IsLeft problem bounds) (InZone problem zone)
+zone-bound problem sound zone is bounds d o found = found_bound-same problem (works.IsLeft problem bounds) (InZone problem zone)
     (λ widths left. let h = d.to widths left in zone-from_meets problem sound zone is widths h.page h.meets)
     (λ widths inside. d.from widths
     (record { page = inside.page; meets = zone-meets problem sound zone is widths inside; breaks = All-nil (Breaks problem widths) }))

@@ -1,8 +1,7 @@
 -- A zone of a trace from the zone that it was cut from, span by span.
 use Rattle.std.proofs.Common.{◌≡◌, ◌≢◌, ℕ, ◌+◌, ◌-◌, ◌*◌, ◌/◌, ◌%◌, ◌<◌, ◌≤◌, min, max, List}
-use Rattle.std.proofs.Common.{[], ◌∷◌, ◌++◌, inl, inr, length, get_or, refl, sym, ap, ◌∙◌, subst, arith, length-append}
-use Rattle.std.proofs.lemmas.Bool.{cases_lt}
-use Rattle.std.proofs.lemmas.List.{get_or_append_left, get_or-append-add, get_or-set_same, get_or-set_other}
+use Rattle.std.proofs.Common.{inl, inr, length, get_or, refl, sym, ap, ◌∙◌, subst, arith}
+use Rattle.std.proofs.lemmas.List.{get_or-set_same, get_or-set_other}
 use Rattle.tl_problem.specs.declared.zone.Range.{Range}
 use Rattle.tl_problem.specs.Problem.{ProblemModel}
 use Rattle.tl_problem.specs.Sound.{IsSound}
@@ -10,65 +9,10 @@ use Rattle.tl_problem.specs.Spans.{spans_of}
 use Rattle.tl_problem.specs.Zones.{classes_at, range, range_at, whole_zone, lower_part, upper_part}
 use Rattle.tl_problem.proofs.ZoneLaws.{cases_eq, whole-range}
 use Rattle.tl_cert.specs.declared.trace.CutAt.{CutAt}
-use Rattle.tl_cert.specs.Traces.{IsTrace, IsTraceOf, IsCut, IsZoneOf, zone_at, zone_of}
-use Rattle.tl_cert.proofs.TraceLaws.{zone-old, zone-lower, zone-upper, trace-by, zones-are}
+use Rattle.tl_cert.specs.Traces.{IsTraceOf, IsZoneOf, zone_of}
+use Rattle.tl_cert.proofs.TraceLaws.{zone-old, trace-by, zones-are}
+use Rattle.tl_cert.proofs.CutParts.{HasParts, has-parts}
 use Rattle.tl_check.specs.inner.Zones.{IsWithinClasses}
-
--- cut `i` of the trace: the zone that it cuts comes before, and its two parts are zones `2i + 1` and `2i + 2`
-pub record HasParts (whole : List Range) (trace : List CutAt) (i : ℕ) (cut : CutAt) : Type 0 where
-  pub before : cut.zone < 2 * i + 1
-  pub span : cut.span < length whole
-  pub lower : (range_at (zone_at whole trace cut.zone) cut.span).first ≤ cut.class
-  pub upper : cut.class < (range_at (zone_at whole trace cut.zone) cut.span).last
-  pub low_is : zone_at whole trace (2 * i + 1) ≡ lower_part (zone_at whole trace cut.zone) cut.span cut.class
-  pub high_is : zone_at whole trace (2 * i + 2) ≡ upper_part (zone_at whole trace cut.zone) cut.span cut.class
-
-abbrev AllHaveParts : List Range → List CutAt → Type 0
-AllHaveParts whole trace = (i : ℕ) (d : CutAt) → i < length trace → HasParts whole trace i (get_or trace i d)
-
-module _ (whole : List Range) (trace : List CutAt) (cut : CutAt) where
-  -- what is so of a cut stays so
-  parts-stay : (i : ℕ) (c : CutAt) → i < length trace → HasParts whole trace i c → HasParts whole (trace ++ cut ∷ []) i c
-  parts-stay i c within h =
-      let from = zone-old whole trace cut c.zone (omega (arith, h.before, within)) in
-      let low = zone-old whole trace cut (2 * i + 1) (omega (arith, within)) in
-      let high = zone-old whole trace cut (2 * i + 2) (omega (arith, within)) in
-      record {
-        before = h.before;
-        span = h.span;
-        lower = rw from h.lower;
-        upper = rw from h.upper;
-        low_is = rw (from, low) h.low_is;
-        high_is = rw (from, high) h.high_is;
-      }
-
-  parts-last : IsCut whole trace cut → HasParts whole (trace ++ cut ∷ []) (length trace) cut
-  parts-last now =
-      let from = zone-old whole trace cut cut.zone now.stands.there in
-      record {
-        before = now.stands.there;
-        span = now.span;
-        lower = rw from now.lower;
-        upper = rw from now.upper;
-        low_is = rw from (zone-lower whole trace cut);
-        high_is = rw from (zone-upper whole trace cut);
-      }
-
-pub has-parts : (whole : List Range) (trace : List CutAt) → IsTrace whole trace → (i : ℕ) (d : CutAt) → i < length trace
-    → HasParts whole trace i (get_or trace i d)
-has-parts whole trace is = trace-by whole (AllHaveParts whole) (λ i d within. absurd (omega arith)) more trace is where
-  more : (cuts : List CutAt) (cut : CutAt) → IsTrace whole cuts → IsCut whole cuts cut → AllHaveParts whole cuts → AllHaveParts whole (cuts ++ cut ∷ [])
-  more cuts cut before now all i d within =
-      elim (cases_lt i (length cuts)) [
-        | inl old ↦ subst (HasParts whole (cuts ++ cut ∷ []) i) (sym (get_or_append_left cuts (cut ∷ []) d i old))
-            (parts-stay whole cuts cut i (get_or cuts i d) old (all i d old))
-        | inr last ↦
-            let here : i ≡ length cuts = omega (arith, last, within, length-append cuts (cut ∷ [])) in
-            let number : i ≡ length cuts + 0 = omega (arith, here) in
-            let at : get_or (cuts ++ cut ∷ []) i d ≡ cut = ap (λ n. get_or (cuts ++ cut ∷ []) n d) number ∙ get_or-append-add cuts (cut ∷ []) 0 d in
-            subst (λ n. HasParts whole (cuts ++ cut ∷ []) n (get_or (cuts ++ cut ∷ []) i d)) (sym here)
-            (subst (HasParts whole (cuts ++ cut ∷ []) (length cuts)) (sym at) (parts-last whole cuts cut now))
-      ]
 
 -- ---- the number of the cut by which a zone came to be
 
@@ -80,10 +24,6 @@ halves-even z some even = omega (arith, some, even)
 
 pub cut-there : (z n : ℕ) → 0 < z → z < 2 * n + 1 → (z - 1) / 2 < n
 cut-there z n some there = omega (arith, some, there)
-
--- what stands where a trace has no cut
-abbrev pub no_cut : CutAt
-no_cut = record { zone = 0; span = 0; class = 0 }
 
 -- the cut by which a zone came to be
 abbrev pub cut_to : List CutAt → ℕ → CutAt → CutAt

@@ -1,7 +1,7 @@
 //! Bounds on the rooms of spans, against a matrix of constraints: whether one is implied, and what it
 //! leaves where it is met or broken.
 
-ghost use Rattle.std.specs.Prelude.{◌≡◌, ℕ, ◌+◌, ◌<◌, ◌≤◌, List, length, pos, neg_ℤ, ◌≤ℤ◌, IsTrue, IsSomeAnd, ◌↔◌};
+ghost use Rattle.std.specs.Prelude.{◌≡◌, ◌+◌, ◌<◌, ◌≤◌, length, pos, neg_ℤ, ◌≤ℤ◌, IsTrue, IsSomeAnd, ◌↔◌};
 ghost use Rattle.tl_base.specs.Style.{gap_of};
 ghost use Rattle.tl_diff.specs.Bounds as follows;
 ghost use Rattle.tl_diff.specs.Bounds.{IsSatisfiable};

@@ -1,6 +1,6 @@
 //! The checker of one problem: room for its traces and logs, made once.
 
-ghost use Rattle.std.specs.Prelude.{◌≡◌, ℕ, ◌+◌, ◌*◌, ◌<◌, ◌≤◌, ◌^◌, List, length, IfOk, IfErr, IsOk, IsTrue, ◌↔◌};
+ghost use Rattle.std.specs.Prelude.{◌+◌, ◌*◌, ◌<◌, ◌≤◌, ◌^◌, length, IfOk, IfErr, IsOk, IsTrue, ◌↔◌};
 ghost use Rattle.tl_cert.specs.Lines.{IsGoodLine, IsGoodLog};
 ghost use Rattle.tl_cert.specs.Traces.{IsTraceOf};
 ghost use Rattle.tl_cert.specs.Worked.{IsWorked};

@@ -1,6 +1,6 @@
 //! Fires nogoods: the bound that is left of each is broken by all that remains.
 
-ghost use Rattle.std.specs.Prelude.{◌≡◌, ℕ, ◌<◌, List, [], ◌∷◌, ◌++◌, length, map, IsTrue, ◌↔◌, true, false, get_or};
+ghost use Rattle.std.specs.Prelude.{◌≡◌, ◌<◌, List, [], ◌∷◌, ◌++◌, length, true, false};
 ghost use Rattle.std.specs.List.{All};
 ghost use Rattle.tl_cert.specs.declared.log.Bound.{Bound as B};
 ghost use Rattle.tl_cert.specs.Lines.{fired, nogood_at};

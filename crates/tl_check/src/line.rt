@@ -1,10 +1,10 @@
 //! One line of a log: its bounds are given, its fires are fired, and its end is looked at.
 
-ghost use Rattle.std.specs.Prelude.{◌≡◌, ℕ, ◌<◌, ◌≤◌, List, [], ◌∷◌, ◌++◌, length, map, IsTrue, IsSomeAnd, ◌↔◌, true, false, get_or};
+ghost use Rattle.std.specs.Prelude.{◌≡◌, ◌<◌, ◌≤◌, length, IsTrue, IsSomeAnd, ◌↔◌, true, false};
 ghost use Rattle.std.specs.List.{All};
 ghost use Rattle.tl_problem.specs.Works.{HasPage, IsLeft, IsWorkOf};
 ghost use Rattle.tl_cert.specs.Lines.{EndsBy, IsGoodLine, fired, nogood_at};
-ghost use Rattle.tl_cert.specs.Nogoods.{NamesAreThere, nogood_bounds};
+ghost use Rattle.tl_cert.specs.Nogoods.{NamesAreThere};
 ghost use Rattle.tl_cert.specs.Traces.{IsTraceOf};
 ghost use Rattle.tl_cert.specs.declared.log.End.TheVariants.{Fired};
 ghost use Rattle.tl_check.specs.inner.Firing.{LeadsToEnd};

@@ -1,6 +1,6 @@
 //! Traces: whether each cut is of a zone that stands, and splits the classes of a span in two.
 
-ghost use Rattle.std.specs.Prelude.{◌≡◌, ℕ, ◌+◌, ◌*◌, ◌<◌, ◌≤◌, List, length, take, get_or, IsTrue, ◌↔◌, true};
+ghost use Rattle.std.specs.Prelude.{◌≡◌, ◌+◌, ◌*◌, ◌<◌, ◌≤◌, length, IsTrue, ◌↔◌, true};
 ghost use Rattle.tl_problem.specs.Zones.{whole_zone};
 ghost use Rattle.tl_cert.specs.Traces.{IsCut, IsTraceOf, Stands};
 ghost use Rattle.tl_check.specs.inner.Traces.{AreFlags};

@@ -1,12 +1,11 @@
 //! Whether a search was worked to its end: at its budget, or with each zone that stands closed.
 
-ghost use Rattle.std.specs.Prelude.{◌≡◌, ◌≢◌, ℕ, ◌+◌, ◌*◌, ◌<◌, ◌≤◌, List, length, IsTrue, ◌↔◌, MatchOption, IsSomeAnd, Contains};
-ghost use Rattle.std.specs.List.{All};
+ghost use Rattle.std.specs.Prelude.{◌≡◌, ◌+◌, ◌*◌, ◌<◌, ◌≤◌, length, IsTrue, ◌↔◌, MatchOption, IsSomeAnd};
 ghost use Rattle.tl_base.specs.Steps.{height_at};
 ghost use Rattle.tl_problem.specs.Agreement.{DifferIn, HasOneClass};
 ghost use Rattle.tl_problem.specs.Bounds.{HasNoWidths, IsBound};
 ghost use Rattle.tl_problem.specs.Sound.{IsSound};
-ghost use Rattle.tl_problem.specs.Spans.{has_span, spans_of};
+ghost use Rattle.tl_problem.specs.Spans.{spans_of};
 ghost use Rattle.tl_problem.specs.Works.{HasPage};
 ghost use Rattle.tl_problem.specs.Zones.{InZone, classes_at, first_in_class, last_in_class};
 ghost use Rattle.tl_cert.specs.Traces.{IsTraceOf, IsZoneOf, zone_of};

@@ -1,6 +1,6 @@
 //! Zones of a trace, by their numbers: which classes a zone gives a span, and the bounds that cuts made.
 
-ghost use Rattle.std.specs.Prelude.{◌≡◌, ℕ, ◌+◌, ◌*◌, ◌<◌, ◌≤◌, nat_lt, if◌then◌else◌, List, [], ◌∷◌, ◌++◌, length, IfSome};
+ghost use Rattle.std.specs.Prelude.{◌≡◌, ◌+◌, ◌*◌, ◌<◌, nat_lt, if◌then◌else◌, [], ◌∷◌, length, IfSome};
 ghost use Rattle.tl_problem.specs.Sound.{IsSound};
 ghost use Rattle.tl_problem.specs.Spans.{spans_of};
 ghost use Rattle.tl_problem.specs.Zones.{classes_at, first_in_class, last_in_class, range_at};

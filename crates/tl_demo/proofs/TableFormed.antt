@@ -10,6 +10,7 @@ use Rattle.std.proofs.lemmas.List.Sorted.{IsPermutation-refl, IsPermutation-tran
 use Rattle.std.proofs.lemmas.List.Sorted.{IsNonDecreasingBy-short, IsNonDecreasingBy-insert, IsNonDecreasingBy-drop}
 use Rattle.tl_base.specs.declared.limits.TheConstants.{MAX_ROWS}
 use Rattle.tl_base.specs.declared.breaking.Breaking.TheVariants.{Words}
+use Rattle.tl_base.proofs.Members.{AllByRecursion-append}
 use Rattle.tl_grid.specs.declared.shape.Grid.{Grid}
 use Rattle.tl_grid.specs.declared.shape.Place.{Place}
 use Rattle.tl_grid.specs.declared.shape.Shape.{Shape}
@@ -34,7 +35,6 @@ use Rattle.tl_form.specs.Formed.{cells_of_group, cells_written, is_foot, lowered
 use Rattle.tl_form.specs.Sound.{place_of}
 use Rattle.tl_form.specs.inner.Forming.{Writes, slot_number}
 use Rattle.tl_form.proofs.Formed.{made_table, as_many_cells}
-use Rattle.tl_form.proofs.SoundParts.{append_each}
 use Rattle.tl_demo.specs.Demo.{Cell}
 use Rattle.tl_demo.proofs.DrawnRows.{IsDrawnCell, IsDrawnRow}
 use Rattle.tl_demo.proofs.TableTree.{paragraph_in, cell_node, open_cell_node, open_group_node, open_table_node, table_node}
@@ -175,7 +175,7 @@ nodes_in_order (cells ∷ rows) =
 -- each of them was drawn
 all_in_order : (rows : List (List Cell)) → AllByRecursion IsDrawnRow rows → AllByRecursion IsDrawnCell (cells_in_order rows)
 all_in_order [] all = tt
-all_in_order (cells ∷ rows) all = append_each IsDrawnCell cells (cells_in_order rows) (all.0).each (all_in_order rows all.1)
+all_in_order (cells ∷ rows) all = AllByRecursion-append IsDrawnCell cells (cells_in_order rows) (all.0).each (all_in_order rows all.1)
 
 -- the cells of the tree as they are written
 written_are : (rows : List (List Cell)) → cells_written (open_table_node rows) ≡ map cell_node (cells_in_order rows)

@@ -16,7 +16,7 @@ use Rattle.tl_grid.specs.declared.shape.SpanOf.{SpanOf}
 use Rattle.tl_grid.specs.Dropping.{count_below, keeps_column, keeps_row}
 use Rattle.tl_grid.specs.Form.{HasGrid, IsRefused}
 use Rattle.tl_grid.specs.Forming.{Forming, covers, has_cell, first_free, cell_at, with_cell, form_cells, grown_into, begin_row, form_row, form_rows}
-use Rattle.tl_grid.specs.Forming.{at_group_end, no_cells, formed, cells_in, cell_count}
+use Rattle.tl_grid.specs.Forming.{at_group_end, no_cells, formed, cells_in}
 use Rattle.tl_grid.specs.Forming as forming
 use Rattle.tl_grid.specs.Overlap.{HasNoOverlap, numbers_over, cells_over}
 use Rattle.tl_grid.specs.Shapes.{IsSpan}

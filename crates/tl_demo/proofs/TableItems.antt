@@ -11,6 +11,7 @@ use Rattle.std.proofs.lemmas.List.Elements.{All-from_recursion}
 use Rattle.std.proofs.lemmas.Str.{chars-IsAscii, IsUtf8-from_ascii}
 use Rattle.std.proofs.lemmas.Str.Ascii.{IsAscii-from_all}
 use Rattle.tl_base.specs.declared.limits.TheConstants.{MAX_FILE_BYTES}
+use Rattle.tl_base.proofs.Members.{AllByRecursion-append}
 use Rattle.tl_token.specs.Characters.{is_control}
 use Rattle.tl_token.specs.Elements.{no_spans}
 use Rattle.tl_token.specs.Grammar.{markup, unquoted}
@@ -18,7 +19,6 @@ use Rattle.tl_token.specs.Grammar as grammar
 use Rattle.tl_token.specs.Spelling.{SpellsTokens, without_mark}
 use Rattle.tl_token.specs.declared.token.Element.TheVariants as elements
 use Rattle.tl_token.specs.declared.token.Token.{Token}
-use Rattle.tl_form.proofs.SoundParts.{append_each}
 use Rattle.tl_html.specs.Html.{escaped}
 use Rattle.tl_html.specs.inner.Ascii.{is_ascii}
 use Rattle.tl_html.proofs.Items.{Item, item_text, items_text, item_kinds, IsItem, IsTagText, AreFine, kind_of, items_spelt}
@@ -40,13 +40,14 @@ letters (suc n) = (inl refl, letters n)
 next_letters : (lengths : List ℕ) → AllByRecursion IsLetterOrSpace (flat_map (λ n. codes " " ++ word_text n) lengths)
 next_letters [] = tt
 next_letters (n ∷ lengths) =
-    append_each IsLetterOrSpace (codes " " ++ word_text n) (flat_map (λ m. codes " " ++ word_text m) lengths) (inr refl, letters n) (next_letters lengths)
+    AllByRecursion-append IsLetterOrSpace (codes " " ++ word_text n) (flat_map (λ m. codes " " ++ word_text m) lengths)
+    (inr refl, letters n) (next_letters lengths)
 
 -- the words of a cell are letters and spaces
 pub words_letters : (lengths : List ℕ) → AllByRecursion IsLetterOrSpace (words_text lengths)
 words_letters [] = tt
 words_letters (n ∷ lengths) =
-    append_each IsLetterOrSpace (word_text n) (flat_map (λ m. codes " " ++ word_text m) lengths) (letters n) (next_letters lengths)
+    AllByRecursion-append IsLetterOrSpace (word_text n) (flat_map (λ m. codes " " ++ word_text m) lengths) (letters n) (next_letters lengths)
 
 -- a text of letters and spaces is written as it is
 unescaped : (text : List ℕ) → AllByRecursion IsLetterOrSpace text → flat_map escaped text ≡ text
@@ -126,11 +127,11 @@ cells_are (cell ∷ cells) all =
 rows_are : (rows : List (List Cell)) → AllByRecursion IsDrawnRow rows → AllByRecursion IsItem (flat_map row_items rows)
 rows_are [] all = tt
 rows_are (cells ∷ rows) all =
-    append_each IsItem (row_items cells) (flat_map row_items rows) ((row_start, tt), cells_are cells (all.0).each) (rows_are rows all.1)
+    AllByRecursion-append IsItem (row_items cells) (flat_map row_items rows) ((row_start, tt), cells_are cells (all.0).each) (rows_are rows all.1)
 
 -- the items of a table are tags with fine texts
 items_are : (rows : List (List Cell)) → AllByRecursion IsDrawnRow rows → AllByRecursion IsItem (table_items rows)
-items_are rows all = ((table_start, tt), append_each IsItem (flat_map row_items rows) (last_item ∷ []) (rows_are rows all) ((table_end, tt), tt))
+items_are rows all = ((table_start, tt), AllByRecursion-append IsItem (flat_map row_items rows) (last_item ∷ []) (rows_are rows all) ((table_end, tt), tt))
 
 -- ---- their text
 
@@ -184,22 +185,22 @@ tag_ascii colspan = by_test (colspan == 2)
 cells_ascii : (cells : List Cell) → AllByRecursion IsByte (flat_map cell_text cells)
 cells_ascii [] = tt
 cells_ascii (cell ∷ cells) =
-    append_each IsByte (cell_text cell) (flat_map cell_text cells)
-    (append_each IsByte (tag_text cell.colspan) (words_text cell.words) (tag_ascii cell.colspan)
+    AllByRecursion-append IsByte (cell_text cell) (flat_map cell_text cells)
+    (AllByRecursion-append IsByte (tag_text cell.colspan) (words_text cell.words) (tag_ascii cell.colspan)
     (letters_ascii (words_text cell.words) (words_letters cell.words)))
     (cells_ascii cells)
 
 rows_ascii : (rows : List (List Cell)) → AllByRecursion IsByte (flat_map row_text rows)
 rows_ascii [] = tt
 rows_ascii (cells ∷ rows) =
-    append_each IsByte (row_text cells) (flat_map row_text rows)
-    (append_each IsByte (codes "<tr>") (flat_map cell_text cells) (recursion_from_test (codes "<tr>") refl) (cells_ascii cells)) (rows_ascii rows)
+    AllByRecursion-append IsByte (row_text cells) (flat_map row_text rows)
+    (AllByRecursion-append IsByte (codes "<tr>") (flat_map cell_text cells) (recursion_from_test (codes "<tr>") refl) (cells_ascii cells)) (rows_ascii rows)
 
 -- the text of a table is ASCII
 text_ascii : (rows : List (List Cell)) → IsAscii (rows_text rows)
 text_ascii rows = IsAscii-from_all (rows_text rows) (All-from_recursion IsByte (rows_text rows)
-    (append_each IsByte (codes "<table>" ++ flat_map row_text rows) (codes "</table>")
-    (append_each IsByte (codes "<table>") (flat_map row_text rows) (recursion_from_test (codes "<table>") refl) (rows_ascii rows))
+    (AllByRecursion-append IsByte (codes "<table>" ++ flat_map row_text rows) (codes "</table>")
+    (AllByRecursion-append IsByte (codes "<table>") (flat_map row_text rows) (recursion_from_test (codes "<table>") refl) (rows_ascii rows))
     (recursion_from_test (codes "</table>") refl)))
 
 -- ---- its length

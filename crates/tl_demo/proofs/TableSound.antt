@@ -15,7 +15,7 @@ use Rattle.tl_token.proofs.Sizes.{byte_count-cons}
 use Rattle.tl_text.specs.declared.paragraph.Atom.TheVariants.{Word}
 use Rattle.tl_text.specs.Paragraph.{IsParagraph, atom_size}
 use Rattle.tl_text.proofs.WordParagraphs.{words_are_paragraph}
-use Rattle.tl_tree.specs.Outline.{Entries, cell, row, group, columns, paragraph, outline}
+use Rattle.tl_tree.specs.Outline.{Entries, cell, row, group, columns, paragraph}
 use Rattle.tl_tree.specs.Outline as entries
 use Rattle.tl_tree.specs.Sound.{IsNumberedFrom, table_count, IsNestedBelow, IsPlainAtom, IsCellInRange, IsInRange, entry_size, AreSound, IsSound}
 use Rattle.tl_tree.specs.declared.node.Part.TheVariants as parts

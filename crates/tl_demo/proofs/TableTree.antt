@@ -9,10 +9,10 @@ use Rattle.tl_text.specs.declared.paragraph.Atom.TheVariants.{Word}
 use Rattle.tl_text.specs.Words.{has_character, words_of}
 use Rattle.tl_text.proofs.WordLemmas.{words_from, words_from-start, words_from-letter, words_from-white, words_from-end}
 use Rattle.tl_token.specs.declared.token.Token.{Token}
-use Rattle.tl_tree.specs.Grammar.{Marks, Cells, Rows, Parts, Table, Document, character, no_flow, no_cell, no_row, no_space, no_caption, no_columns, no_part}
+use Rattle.tl_tree.specs.Grammar.{Marks, Cells, Rows, Document, character, no_flow, no_cell, no_row, no_space, no_caption, no_columns, no_part}
 use Rattle.tl_tree.specs.Grammar.{left_out, loose_rows, no_outer}
 use Rattle.tl_tree.specs.Grammar as grammar
-use Rattle.tl_tree.specs.Outline.{Entries, cell, row, group, columns, paragraph, cell_outline, group_outline, block_outline, outline}
+use Rattle.tl_tree.specs.Outline.{Entries, cell, row, group, columns, paragraph, cell_outline, group_outline, outline}
 use Rattle.tl_tree.specs.Outline as entries
 use Rattle.tl_tree.specs.Paragraphs.{leading, first_text, after_breaks, atoms_of, paragraph_of, entries_after, entries_of}
 use Rattle.tl_tree.specs.Spelling.{SpellsTree, FitLimits, IsWithinLimits}
@@ -24,6 +24,8 @@ use Rattle.tl_tree.specs.declared.node.GroupNode.{roll-GroupNode}
 use Rattle.tl_tree.specs.declared.node.Part.TheVariants as parts
 use Rattle.tl_tree.specs.declared.node.TableNode.{TableNode, roll-TableNode}
 use Rattle.tl_tree.proofs.Outlines.{paragraph_made, cell_made, group_made, table_made}
+use Rattle.tl_tree.proofs.Adds.{after-text}
+use Rattle.tl_tree.specs.inner.Reading.{row_outline}
 use Rattle.tl_form.specs.Formed.{OpenNode, OpenGroup, OpenCellNode}
 use Rattle.tl_html.proofs.Items.{Item, item_kinds, text_kinds, kind_of}
 use Rattle.tl_html.proofs.PageTags.{numbers}
@@ -233,11 +235,6 @@ text_leads : (text : List ℕ) (later : Marks) → leading (map character text +
 text_leads [] later = refl
 text_leads (c ∷ text) later = ap (λ (ms : Marks). character c ∷ ms) (text_leads text later)
 
--- characters add no entry of their own
-text_passed : (k : ℕ) (text : List ℕ) (later : Marks) → entries_after k (map character text ++ later) ≡ entries_after k later
-text_passed k [] later = refl
-text_passed k (c ∷ text) later = text_passed k text later
-
 -- a cell has words, so it has a paragraph
 one_paragraph : (c : Cell) → 1 ≤ length c.words → paragraph_of (paragraph_in c) ≡ paragraph (paragraph_in c) ∷ []
 one_paragraph c some = by_words c.words some
@@ -266,13 +263,10 @@ cells_entries k (c ∷ cells) later sharp all =
     ap (λ (m : Marks). start (paragraph_of (atoms_of m) ++ entries_after k (map character text ++ grammar.paragraph_ends ∷ ms))) (text_leads text ms)
     ∙ ap (λ (l : List Atom). start (paragraph_of l ++ entries_after k (map character text ++ grammar.paragraph_ends ∷ ms))) (atoms_are c (all.0).words)
     ∙ ap (λ (es : Entries). start (es ++ entries_after k (map character text ++ grammar.paragraph_ends ∷ ms))) (one_paragraph c (all.0).some)
-    ∙ ap (λ (es : Entries). start (paragraph (paragraph_in c) ∷ es)) (text_passed k text (grammar.paragraph_ends ∷ ms)
+    ∙ ap (λ (es : Entries). start (paragraph (paragraph_in c) ∷ es)) (after-text k text (grammar.paragraph_ends ∷ ms)
     ∙ ends_sharp k ms (cells_sharp cells later sharp) ∙ cells_entries k cells later sharp all.1)
     ∙ ap (λ (es : Entries). es ++ (flat_map cell_outline (map cell_node cells) ++ entries_after k later)) (sym (cell_outlined c))
     ∙ sym (append_assoc (cell_outline (cell_node c)) (flat_map cell_outline (map cell_node cells)) (entries_after k later))
-
-abbrev row_outline : List CellNode → Entries
-row_outline nodes = row ∷ flat_map cell_outline nodes
 
 -- the marks of the rows become their outlines
 rows_entries : (k : ℕ) (rows : List (List Cell)) (later : Marks) → IsSharp later → AllByRecursion IsDrawnRow rows →

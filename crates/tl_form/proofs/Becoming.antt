@@ -3,6 +3,7 @@
 use Rattle.std.proofs.Common.{ℕ, zero, suc, ◌≤◌, max, Option, Some, None, List, [], ◌∷◌, arith}
 use Rattle.std.specs.List.{AllZip}
 use Rattle.tl_base.specs.declared.breaking.Breaking.{Breaking}
+use Rattle.tl_base.proofs.Zips.{AllZip-weaker}
 use Rattle.tl_tree.specs.declared.node.Block.{Block, out-Block}
 use Rattle.tl_tree.specs.declared.node.Block.TheOpen as open_block
 use Rattle.tl_tree.specs.declared.node.CellNode.{CellNode, out-CellNode}
@@ -14,7 +15,6 @@ use Rattle.tl_form.specs.declared.cell.TableCell.{TableCell, out-TableCell}
 use Rattle.tl_form.specs.Tables.{OpenTable, OpenCell, OpenContent}
 use Rattle.tl_form.specs.Formed.{OpenNode, OpenCellNode, OpenBlock, BecomesContent, BecomeContents, BecomesCell, BecomeCells, BecomeCaption}
 use Rattle.tl_form.specs.Formed.{BecomesBy, BecomesWithin, Becomes}
-use Rattle.tl_form.proofs.Deeper.{AllZip-weaker}
 
 module _ (some more : TableNode → Table → Type 0) (weaker : (node : TableNode) (table : Table) → some node table → more node table)
     (breaking : Breaking) where

@@ -5,6 +5,7 @@ use Rattle.std.specs.List.{flat_map}
 use Rattle.std.proofs.lemmas.Grind.{flat_map-append}
 use Rattle.std.proofs.lemmas.List.{append-nil}
 use Rattle.tl_base.specs.declared.breaking.Breaking.{Breaking}
+use Rattle.tl_base.proofs.Zips.{AllZip-append}
 use Rattle.tl_tree.specs.Outline.{Entries, table, caption, columns, group, row, cell, paragraph, table_end, block_outline, cell_outline}
 use Rattle.tl_tree.specs.Outline.{group_outline, outline}
 use Rattle.tl_tree.specs.Sound.{IsNestedBelow, table_count}
@@ -13,15 +14,15 @@ use Rattle.tl_tree.specs.declared.node.Block.{Block, out-Block}
 use Rattle.tl_tree.specs.declared.node.CellNode.{CellNode, out-CellNode}
 use Rattle.tl_tree.specs.declared.node.GroupNode.{GroupNode, out-GroupNode}
 use Rattle.tl_tree.specs.declared.node.TableNode.{TableNode, out-TableNode}
+use Rattle.tl_tree.specs.inner.Lines.{blocks_outline}
 use Rattle.tl_form.specs.declared.cell.Content.{Content, out-Content}
 use Rattle.tl_form.specs.declared.cell.Table.{Table}
 use Rattle.tl_form.specs.declared.cell.TableCell.{TableCell, out-TableCell}
 use Rattle.tl_form.specs.Tables.{OpenTable, tables_of, tables_in}
 use Rattle.tl_form.specs.Formed.{OpenNode, BecomesContent, BecomeContents, BecomeCells, BecomeCaption, BecomesBy}
 use Rattle.tl_form.specs.Formed.{cells_of_group, cells_written}
-use Rattle.tl_form.specs.inner.Forming.{flow_outline, cells_outline}
+use Rattle.tl_form.specs.inner.Forming.{cells_outline}
 use Rattle.tl_form.proofs.SoundNodes.{rows_outline, groups_outline, cell_outline-out, group_outline-out, outline-out}
-use Rattle.tl_form.proofs.Writing.{joined_zip}
 
 -- ---- entries without those that begin and end no table
 
@@ -88,10 +89,10 @@ abbrev pub blocks_of : OpenNode → List Block
 blocks_of node = captured node.caption ++ flat_map flow_of (cells_written node)
 
 abbrev pub alone : List Block → Entries
-alone flow = tables_alone (flow_outline flow)
+alone flow = tables_alone (blocks_outline flow)
 
 pub alone-flows : (xs ys : List Block) → alone (xs ++ ys) ≡ alone xs ++ alone ys
-alone-flows xs ys = ap tables_alone (flat_map-append block_outline xs ys) ∙ alone-append (flow_outline xs) (flow_outline ys)
+alone-flows xs ys = ap tables_alone (flat_map-append block_outline xs ys) ∙ alone-append (blocks_outline xs) (blocks_outline ys)
 
 pub alone-cells : (nodes : List CellNode) → tables_alone (cells_outline nodes) ≡ alone (flat_map flow_of nodes)
 alone-cells [] = refl
@@ -169,7 +170,7 @@ module _ (forms : TableNode → Table → Type 0) (breaking : Breaking) where
   zip_cells [] (one ∷ cells) become = absurd become
   zip_cells (node ∷ nodes) [] become = absurd become
   zip_cells (node ∷ nodes) (one ∷ cells) become =
-      joined_zip one_becomes (flow_of node) (flat_map flow_of nodes) (out-TableCell one).blocks (contents_of cells) become.0.blocks
+      AllZip-append one_becomes (flow_of node) (flat_map flow_of nodes) (out-TableCell one).blocks (contents_of cells) become.0.blocks
       (zip_cells nodes cells become.1)
 
   pub zip_caption : (cols : ℕ) (flow : Option (List Block)) (cells : List TableCell) → BecomeCaption forms breaking cols flow cells →
@@ -185,5 +186,5 @@ module _ (forms : TableNode → Table → Type 0) (breaking : Breaking) where
       BecomeContents forms breaking (blocks_of node) (contents_of (becomes.caption ++ becomes.written))
   zip_table node made becomes =
       subst (BecomeContents forms breaking (blocks_of node)) (sym (flat_map-append (λ one. (out-TableCell one).blocks) becomes.caption becomes.written))
-      (joined_zip one_becomes (captured node.caption) (flat_map flow_of (cells_written node)) (contents_of becomes.caption) (contents_of becomes.written)
+      (AllZip-append one_becomes (captured node.caption) (flat_map flow_of (cells_written node)) (contents_of becomes.caption) (contents_of becomes.written)
       (zip_caption made.cols node.caption becomes.caption becomes.captioned) (zip_cells (cells_written node) becomes.written becomes.cells))

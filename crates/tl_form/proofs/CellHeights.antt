@@ -1,9 +1,8 @@
 -- What a cell needs by one account where it has a height by another, and how much it needs at most.
-use Rattle.std.proofs.Common.{◌≡◌, ℕ, ◌+◌, ◌*◌, ◌<◌, ◌≤◌, List, [], ◌∷◌, length, sum, sum_by, refl, sym, ap, subst, ◌∙◌, arith}
+use Rattle.std.proofs.Common.{ℕ, ◌+◌, ◌*◌, ◌≤◌, List, [], ◌∷◌, sum, sum_by, refl, sym, subst, arith}
 use Rattle.std.specs.List.{AllZip, AllByRecursion}
 use Rattle.std.proofs.lemmas.List.Sums.{sum_by-cons}
 use Rattle.tl_base.proofs.Sums.{sum-cons}
-use Rattle.tl_text.specs.Paragraph.{atom_size}
 use Rattle.tl_form.specs.declared.cell.Content.{Content, out-Content}
 use Rattle.tl_form.specs.declared.cell.Content.TheOpen as open_content
 use Rattle.tl_form.specs.declared.cell.Table.{Table}

@@ -1,8 +1,8 @@
 -- What a cell needs, block by block: its heights are determined, where they begin, and their steps.
-use Rattle.std.proofs.Common.{◌≡◌, ℕ, zero, suc, ◌+◌, ◌<◌, ◌≤◌, ◌↔◌, max, List, [], ◌∷◌, ◌++◌, length, take, get_or, Option, Some, None, IsTrue}
-use Rattle.std.proofs.Common.{refl, sym, ap, subst, ◌∙◌, arith, sum, append-nil}
-use Rattle.std.specs.List.{All, AllZip, AllByRecursion}
-use Rattle.std.specs.Option.{IsSome, IsSomeAnd}
+use Rattle.std.proofs.Common.{◌≡◌, ℕ, zero, suc, ◌+◌, ◌<◌, ◌≤◌, max, List, [], ◌∷◌, ◌++◌, length, take, get_or, Option, Some, None}
+use Rattle.std.proofs.Common.{refl, sym, ap, subst, ◌∙◌, arith, sum}
+use Rattle.std.specs.List.{AllZip}
+use Rattle.std.specs.Option.{IsSomeAnd}
 use Rattle.std.specs.declared.alloc.Global.{Global}
 use Rattle.std.specs.declared.boxed.Box.{Box}
 use Rattle.std.proofs.lemmas.List.{take_all, take_more}
@@ -10,6 +10,7 @@ use Rattle.tl_base.specs.declared.limits.TheConstants.{MAX_HEIGHT}
 use Rattle.tl_base.specs.declared.steps.Config.{Config}
 use Rattle.tl_base.specs.Steps.{AreSteps, first_height, first_width, height_at, stacked_height}
 use Rattle.tl_base.proofs.Sums.{sum-cons, sum-one}
+use Rattle.tl_base.proofs.Zips.{AllZip-push}
 use Rattle.tl_problem.proofs.Heights.{height-from_first}
 use Rattle.tl_text.specs.declared.paragraph.Atom.{Atom}
 use Rattle.tl_text.specs.Cuttings.{HasCutting, LeastLines}
@@ -18,12 +19,10 @@ use Rattle.tl_text.proofs.Paragraphs.{LeastLines-falls}
 use Rattle.tl_form.specs.declared.cell.Content.{Content, out-Content}
 use Rattle.tl_form.specs.declared.cell.Content.TheOpen as open_content
 use Rattle.tl_form.specs.declared.cell.Table.{Table, out-Table}
-use Rattle.tl_form.specs.declared.cell.TableCell.{TableCell, out-TableCell}
 use Rattle.tl_form.specs.declared.heights.InnerSteps.{InnerSteps}
 use Rattle.tl_form.specs.Tables.{OpenCell, OpenContent}
 use Rattle.tl_form.specs.Problems.{AreStepsOf, BlockNeeds, CellNeeds, InnerNeeds, steps_for}
 use Rattle.tl_form.specs.inner.CellSteps.{From, BlocksNeed, IsLowCell, IsStart}
-use Rattle.tl_form.proofs.LeastRoomLemmas.{AllZip-push}
 use Rattle.tl_form.proofs.NeedSteps.{AreStepsOf-same, AreStepsOf-stacked, BothNeed, height-first, first-least}
 use Rattle.tl_form.proofs.ParagraphSteps.{lines-from_fit}
 

@@ -2,13 +2,14 @@
 use Rattle.std.proofs.Common.{◌≡◌, ℕ, zero, suc, ◌+◌, List, [], ◌∷◌, Option, Some, None, sym, subst, arith}
 use Rattle.std.specs.List.{AllZip}
 use Rattle.tl_base.specs.declared.style.Style.{Style}
+use Rattle.tl_base.proofs.Zips.{AllZip-weaker}
 use Rattle.tl_problem.specs.declared.chain.Chain.{Chain}
 use Rattle.tl_problem.specs.declared.chain.Entry.{Entry}
 use Rattle.tl_form.specs.declared.cell.Table.{Table, out-Table}
 use Rattle.tl_form.specs.declared.cell.TableCell.{out-TableCell}
 use Rattle.tl_form.specs.Tables.{OpenTable, OpenCell}
-use Rattle.tl_form.specs.Chains.{Link, HasWidth, IsLink, IsChainBy, IsChainWithin, IsChain}
-use Rattle.tl_form.proofs.Deeper.{AllZip-weaker}
+use Rattle.tl_form.specs.Chains.{Link, HasWidth, IsLink, IsChainBy, IsChainWithin}
+use Rattle.tl_form.specs.inner.Links.{Weighs}
 
 module _ (some more : Table → List Chain → ℕ → Type 0)
     (weaker : (table : Table) (chains : List Chain) (weight : ℕ) → some table chains weight → more table chains weight) where
@@ -58,10 +59,6 @@ pub IsChainWithin-deeper' : (more depth : ℕ) (style : Style) (table : Table) (
     IsChainWithin depth style table chains weight → IsChainWithin (depth + more) style table chains weight
 IsChainWithin-deeper' more depth style table chains weight chain = let same : depth + more ≡ more + depth =
     omega arith in subst (λ d. IsChainWithin d style table chains weight) (sym same) (IsChainWithin-deeper more depth style table chains weight chain)
-
--- chains of a table of any depth
-abbrev pub Weighs : Style → Table → List Chain → ℕ → Type 0
-Weighs style table chains weight = IsChain table style chains weight
 
 -- a link whose chains have some depth
 link_depth : (style : Style) (table : OpenTable) (entry : Entry) (link : Link) → IsLink (Weighs style) table entry link →

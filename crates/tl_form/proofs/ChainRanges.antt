@@ -1,8 +1,7 @@
 -- Tables that trees become have few cells, and the numbers of chains are within their ranges.
-use Rattle.std.proofs.Common.{◌≡◌, ℕ, zero, suc, ◌+◌, ◌<◌, ◌≤◌, ◌⊎◌, inl, inr, List, [], ◌∷◌, ◌++◌, length, map, Option, Some, None, Contains}
-use Rattle.std.proofs.Common.{slice_get, codes, refl, sym, ap, subst, ◌∙◌, length-append, arith}
+use Rattle.std.proofs.Common.{◌≡◌, ℕ, zero, suc, ◌+◌, ◌<◌, ◌≤◌, ◌⊎◌, inl, inr, List, [], ◌∷◌, ◌++◌, length, Option, Some, None, Contains}
+use Rattle.std.proofs.Common.{slice_get, codes, refl, sym, ap, subst, length-append, arith}
 use Rattle.std.specs.List.{AllZip, AllByRecursion, flat_map}
-use Rattle.std.specs.List.Sorted.{IsPermutation}
 use Rattle.std.proofs.lemmas.List.{length-map}
 use Rattle.std.proofs.lemmas.Option.{get_or_from_slice_get, slice_get_within}
 use Rattle.std.proofs.lemmas.List.Concat.{flat_map-cons}
@@ -11,7 +10,7 @@ use Rattle.std.proofs.lemmas.List.Sorted.{All-permutation, length_permutation}
 use Rattle.tl_base.specs.declared.breaking.Breaking.{Breaking}
 use Rattle.tl_base.specs.declared.limits.TheConstants.{MAX_CELLS, MAX_TABLES}
 use Rattle.tl_base.specs.declared.style.Style.{Style}
-use Rattle.tl_base.proofs.Members.{Contains-flat_map}
+use Rattle.tl_base.proofs.Members.{Contains-flat_map, AllByRecursion-append, AllByRecursion-weaker}
 use Rattle.tl_cert.specs.Pieces.{AllWithin, IsWithin, character, number, word}
 use Rattle.tl_cert.specs.declared.limits.TheConstants.{MAX_TABLE}
 use Rattle.tl_cert.specs.Text.{IsChainWritable, entry_pieces, inner_pieces, space}
@@ -21,19 +20,19 @@ use Rattle.tl_tree.specs.declared.node.Block.{Block, out-Block}
 use Rattle.tl_tree.specs.declared.node.Block.TheOpen as open_block
 use Rattle.tl_tree.specs.declared.node.CellNode.{CellNode, out-CellNode}
 use Rattle.tl_tree.specs.declared.node.TableNode.{TableNode, out-TableNode}
+use Rattle.tl_cert.proofs.reading.Words.{within-word}
 use Rattle.tl_form.specs.declared.cell.Content.{Content, out-Content}
 use Rattle.tl_form.specs.declared.cell.Content.TheOpen as open_content
 use Rattle.tl_form.specs.declared.cell.Table.{Table, out-Table}
 use Rattle.tl_form.specs.declared.cell.TableCell.{TableCell, out-TableCell}
 use Rattle.tl_form.specs.Tables.{OpenTable, OpenCell, OpenContent, inner_tables, tables_in, tables_of}
-use Rattle.tl_form.specs.Chains.{HasWidth, IsChainBy, IsChainWithin, IsLink, Link}
+use Rattle.tl_form.specs.Chains.{HasWidth, IsChainWithin, IsLink, Link}
 use Rattle.tl_form.specs.ChainRanges.{HasFewCells}
 use Rattle.tl_form.specs.Formed.{OpenBlock, OpenNode, BecomesContent, BecomeContents, BecomeCells, BecomeCaption, BecomesBy, BecomesWithin}
 use Rattle.tl_form.specs.Formed.{caption_rows, cells_written, lowered}
 use Rattle.tl_form.specs.Problems.{IsAmong}
 use Rattle.tl_form.specs.Sound.{IsSound, place_of}
-use Rattle.tl_form.proofs.ProblemTruth.{joined-each}
-use Rattle.tl_form.proofs.SoundParts.{append_each, sound_inner, weaker_each}
+use Rattle.tl_form.proofs.SoundParts.{sound_inner, joined-each}
 
 -- ---- the table itself, or one nested in it
 
@@ -101,7 +100,7 @@ module _ (forms : TableNode → Table → Type 0) (breaking : Breaking) where
       (recursion_from_All (λ cell. AllByRecursion IsFormed (tables_in (out-TableCell cell))) table.cells
       (All-permutation (λ cell. AllByRecursion IsFormed (tables_in (out-TableCell cell))) (becomes.caption ++ becomes.written) table.cells becomes.same
       (All-from_recursion (λ cell. AllByRecursion IsFormed (tables_in (out-TableCell cell))) (becomes.caption ++ becomes.written)
-      (append_each (λ cell. AllByRecursion IsFormed (tables_in (out-TableCell cell))) becomes.caption becomes.written
+      (AllByRecursion-append (λ cell. AllByRecursion IsFormed (tables_in (out-TableCell cell))) becomes.caption becomes.written
       (caption-formed table.cols node.caption becomes.caption becomes.captioned).0 (cells-formed (cells_written node) becomes.written becomes.cells)))))
 
   few-cells : (node : OpenNode) (table : OpenTable) → BecomesBy forms breaking node table → length table.cells ≤ MAX_CELLS + 1
@@ -132,11 +131,6 @@ formed-few (suc depth) breaking node table becomes = λ inside among. elim (amon
 
 -- ---- chains
 
--- a word has no number
-word-within : (text : List ℕ) → AllWithin (word text)
-word-within [] = tt
-word-within (c ∷ text) = (tt, word-within text)
-
 -- the numbers of an entry are in their ranges
 abbrev IsEntryWithin : Entry → Type 0
 IsEntryWithin entry = AllWithin (entry_pieces entry)
@@ -145,18 +139,21 @@ entries-within : (entries : List Entry) → AllByRecursion IsEntryWithin entries
     AllWithin (flat_map (λ entry. character space ∷ entry_pieces entry) entries)
 entries-within [] each = tt
 entries-within (entry ∷ entries) each =
-    subst AllWithin (sym (flat_map-cons (λ one. character space ∷ entry_pieces one) entry entries))
-    (tt, append_each IsWithin (entry_pieces entry) (flat_map (λ one. character space ∷ entry_pieces one) entries) each.0 (entries-within entries each.1))
+    subst AllWithin (sym (flat_map-cons (λ one. character space ∷ entry_pieces one) entry entries)) (
+      tt,
+      AllByRecursion-append IsWithin (entry_pieces entry) (flat_map (λ one. character space ∷ entry_pieces one) entries)
+          each.0 (entries-within entries each.1),
+    )
 
 chain-within : (chain : Chain) → 0 < length chain.entries → chain.table < MAX_TABLES → AllByRecursion IsEntryWithin chain.entries → IsChainWritable chain
 chain-within chain some low each = (
   omega (arith, some),
-  append_each IsWithin (word (codes "chain "))
+  AllByRecursion-append IsWithin (word (codes "chain "))
       (number 0 MAX_TABLE chain.table ∷ (flat_map (λ entry. character space ∷ entry_pieces entry) chain.entries ++ word (codes "\n")))
-      (word-within (codes "chain ")) (
+      (within-word (codes "chain ")) (
         (omega arith, omega (arith, low)),
-        append_each IsWithin (flat_map (λ entry. character space ∷ entry_pieces entry) chain.entries) (word (codes "\n"))
-            (entries-within chain.entries each) (word-within (codes "\n")),
+        AllByRecursion-append IsWithin (flat_map (λ entry. character space ∷ entry_pieces entry) chain.entries) (word (codes "\n"))
+            (entries-within chain.entries each) (within-word (codes "\n")),
       ),
 )
 
@@ -207,7 +204,7 @@ module _ (weighs : Table → List Chain → ℕ → Type 0) (table : OpenTable) 
   links-inner (entry ∷ entries) [] stand each = absurd stand
   links-inner (entry ∷ entries) (link ∷ links) stand each =
       subst (AllByRecursion IsChainWritable) (sym (flat_map-cons (λ (one : Link). one.inner) link links))
-      (append_each IsChainWritable link.inner (flat_map (λ (one : Link). one.inner) links)
+      (AllByRecursion-append IsChainWritable link.inner (flat_map (λ (one : Link). one.inner) links)
       (link-inner stand.0.cell entry.cell entry.inner link stand.0.named stand.0.wide each) (links-inner entries links stand.1 each))
 
 pub chains-writable : (depth : ℕ) (table : Table) (style : Style) (chains : List Chain) (weight : ℕ) → IsSound table → HasFewCells table →
@@ -231,5 +228,5 @@ chains-writable (suc depth) table style chains weight sound few is = (
   sounds = sound_inner table sound.depth sound.shallow sound.sound sound.few_tables sound.size
 
   low : AllByRecursion (λ nested. (out-Table nested).number < MAX_TABLES) (inner_tables (out-Table table))
-  low = weaker_each IsSound (λ nested. (out-Table nested).number < MAX_TABLES) (inner_tables (out-Table table))
+  low = AllByRecursion-weaker IsSound (λ nested. (out-Table nested).number < MAX_TABLES) (inner_tables (out-Table table))
       (λ nested one. omega (arith, one.few_tables)) sounds

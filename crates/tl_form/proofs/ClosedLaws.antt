@@ -1,15 +1,14 @@
 -- Where sections are closed they tell the least heights of their tables, so that the problem of the table around these is
 -- the true one; and then a budget of at least its count closes the next section too.
-use Rattle.std.proofs.Common.{◌≡◌, ◌∙◌, ℕ, zero, suc, ◌+◌, ◌-◌, ◌^◌, ◌<◌, ◌≤◌, List, length, get_or, take, Option, Some, None, inl, inr, refl, sym}
+use Rattle.std.proofs.Common.{◌≡◌, ◌∙◌, ℕ, zero, suc, ◌+◌, ◌-◌, ◌^◌, ◌<◌, ◌≤◌, List, length, get_or, take, Some, inl, refl, sym}
 use Rattle.std.proofs.Common.{ap, subst, arith}
-use Rattle.std.specs.List.{All, AllByRecursion, Contains}
+use Rattle.std.specs.List.{All, Contains}
 use Rattle.std.specs.Option.{IsSomeAnd}
 use Rattle.std.proofs.lemmas.List.{take_all}
 use Rattle.std.proofs.lemmas.List.Elements.{All-nil, All-more, All-contains, All-from_recursion, recursion_from_All}
 use Rattle.tl_base.specs.declared.style.Style.{Style}
 use Rattle.tl_base.specs.Steps.{height_at}
 use Rattle.tl_base.proofs.Members.{All-from_Contains}
-use Rattle.tl_problem.specs.declared.cell.Cell.{Cell}
 use Rattle.tl_problem.specs.Agreement.{LowIsHigh}
 use Rattle.tl_problem.specs.Problem.{ProblemModel}
 use Rattle.tl_problem.specs.Spans.{count_of}
@@ -19,13 +18,13 @@ use Rattle.tl_form.specs.declared.cell.Table.{Table, out-Table}
 use Rattle.tl_form.specs.declared.heights.InnerSteps.{InnerSteps}
 use Rattle.tl_form.specs.ClosedLaws.{IsClosed, IsWideDocument, IsKnownAt, ClosedTellLeast, BudgetCloses}
 use Rattle.tl_form.specs.CountLaws.{CountsRise}
-use Rattle.tl_form.specs.Expected.{Document, Due, IsTableOf, own_number, least_of, placed_width, due_after}
+use Rattle.tl_form.specs.Expected.{Document, IsTableOf, own_number, least_of, placed_width, due_after}
 use Rattle.tl_form.specs.declared.layout.Layout.{Layout}
 use Rattle.tl_form.specs.Layouts.{Fits}
-use Rattle.tl_form.specs.Least.{IsLeastHeight, IsLeastWidth}
+use Rattle.tl_form.specs.Least.{IsLeastWidth}
 use Rattle.tl_form.specs.Nested.{IsAsWide, IsWithin, IsGreatestLower, IsLeastFound, AreStepsBy, AreInnerSteps}
 use Rattle.tl_form.specs.ProblemLaws.{BoundsMeet, LayoutsAreByLow, LayoutsByHighFit, TrueWhereBoundsMeet}
-use Rattle.tl_form.specs.Problems.{InnerNeeds, IsAmong, IsCount, IsCountAll, IsTrueProblem, steps_for}
+use Rattle.tl_form.specs.Problems.{InnerNeeds, IsAmong, IsCountAll, IsTrueProblem}
 use Rattle.tl_form.specs.Sound.{IsSound}
 use Rattle.tl_form.specs.Tables.{inner_tables}
 use Rattle.tl_form.specs.Valid.{AreGoodBelow, IsGood}
@@ -36,7 +35,7 @@ use Rattle.tl_form.proofs.LinkLemmas.{IsLeastWidth-unique}
 use Rattle.tl_form.proofs.ProblemTruth.{true-low-is-high}
 use Rattle.tl_form.proofs.SectionHeights.{any_all, any_item}
 use Rattle.tl_form.proofs.TableNumbers.{one_of_number, number_within, inside_greater, sound_among}
-use Rattle.tl_form.proofs.Truth.{Fits-wider, HasStepsOf, IsTrue, all_true, high_is_above, low_is_below, nested_among, steps_found}
+use Rattle.tl_form.proofs.Truth.{Fits-wider, IsTrue, all_true, high_is_above, low_is_below, nested_among, steps_found}
 
 -- ---- where a width is told of, closed sections tell the least height
 

@@ -8,6 +8,7 @@ use Rattle.std.proofs.lemmas.List.Concat.{flat_map-cons}
 use Rattle.tl_base.specs.declared.style.Style.{Style}
 use Rattle.std.proofs.lemmas.List.Elements.{recursion_from_All}
 use Rattle.tl_base.proofs.Members.{All-from_Contains, Contains-cases, Contains-none, Contains-flat_map}
+use Rattle.tl_base.proofs.Zips.{AllZip-append, AllZip-Contains}
 use Rattle.tl_cert.specs.declared.section.Section.{Section}
 use Rattle.tl_form.specs.declared.cell.Content.{Content, out-Content}
 use Rattle.tl_form.specs.declared.cell.Table.{Table, out-Table}
@@ -18,17 +19,6 @@ use Rattle.tl_form.specs.Problems.{steps_for}
 use Rattle.tl_form.specs.inner.CellSteps.{HaveSteps}
 use Rattle.tl_form.specs.inner.Collecting.{Collects, LackSteps}
 use Rattle.tl_form.proofs.Truth.{steps_found}
-use Rattle.tl_form.proofs.Writing.{joined_zip}
-
--- what belongs to one of some items
-zip_item : {A B : Type 0} (R : A → B → Type 0) (xs : List A) (ys : List B) (x : A) → AllZip R xs ys → Contains xs x → (y : B) × R x y
-zip_item R [] ys x all has = absurd (Contains-none x has)
-zip_item R (z ∷ xs) [] x all has = absurd all
-zip_item {B = B} R (z ∷ xs) (y ∷ ys) x all has = by_case (Contains-cases z xs x has) (zip_item R xs ys x all.1)
-  where
-    by_case : (z ≡ x) ⊎ Contains xs x → (Contains xs x → (y : B) × R x y) → (y : B) × R x y
-    by_case (inl same) again = (y, subst (λ first. R first y) same all.0)
-    by_case (inr later) again = again later
 
 -- what belongs to the first of two lists joined, and to the second
 zip_split : {A B : Type 0} (R : A → B → Type 0) (xs zs : List A) (ys : List B) → AllZip R (xs ++ zs) ys →
@@ -60,7 +50,7 @@ module _ (style : Style) (page : ℕ) (sections : List Section) where
     more = so_far.more ++ more;
     joined = joined ∙ ap (λ (all : List InnerSteps). all ++ more) so_far.joined ∙ append_assoc before so_far.more more;
     each = subst (λ tables. AllZip (AreStepsBy style page sections) tables (so_far.more ++ more)) (sym next)
-        (joined_zip (AreStepsBy style page sections) (flat_map f (take i xs)) (f x) so_far.more more so_far.each each);
+        (AllZip-append (AreStepsBy style page sections) (flat_map f (take i xs)) (f x) so_far.more more so_far.each each);
   } where
     next : flat_map f (take (i + 1) xs) ≡ flat_map f (take i xs) ++ f x
     next = ap (flat_map f) (take_more xs i x within ∙ ap (λ (y : X). take i xs ++ y ∷ []) (sym is))
@@ -92,7 +82,7 @@ module _ (style : Style) (page : ℕ) (sections : List Section) where
   cell_lacks cell blocks i x nested same within is one none inner all =
       let has : Contains (tables_of (out-Content x)) nested = subst (λ tables. Contains tables nested) (sym one) (0, omega arith, refl) in
       let among : Contains cell.blocks x = subst (λ xs. Contains xs x) same (i, within, sym is) in
-      let steps = zip_item (AreStepsBy style page sections) (tables_in cell) inner nested all
+      let steps = AllZip-Contains (AreStepsBy style page sections) (tables_in cell) inner nested all
       (Contains-flat_map (λ block. tables_of (out-Content block)) cell.blocks x nested among has) in
       none steps.0 steps.1
 

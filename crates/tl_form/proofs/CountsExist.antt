@@ -1,17 +1,18 @@
 -- A sound table that fits a page has a true problem there, and a count, and so have the tables nested in it.
-use Rattle.std.proofs.Common.{◌≡◌, ℕ, zero, suc, ◌+◌, ◌<◌, ◌≤◌, ◌⊎◌, inl, inr, max, List, [], ◌∷◌, length, Contains, refl, sym, ap, subst, ◌∙◌, arith}
+use Rattle.std.proofs.Common.{◌≡◌, ℕ, zero, suc, ◌≤◌, ◌⊎◌, inl, inr, List, [], ◌∷◌, length, Contains, refl, sym, subst, arith}
 use Rattle.std.specs.List.{AllZip, AllByRecursion}
 use Rattle.std.proofs.lemmas.Bool.{cases_lt}
 use Rattle.std.proofs.lemmas.List.{get_or-map, length-map}
 use Rattle.std.proofs.lemmas.List.Elements.{recursion_from_All}
 use Rattle.tl_base.specs.declared.style.Style.{Style}
 use Rattle.tl_base.specs.Style.{gap_of, row_gap_of, edge_of}
-use Rattle.tl_base.proofs.Members.{Contains-cases, Contains-first, Contains-later, Contains-none}
+use Rattle.tl_base.proofs.Members.{Contains-cases, Contains-first, Contains-later, Contains-none, AllByRecursion-weaker}
 use Rattle.tl_grid.specs.Dropping.{IsPlaced}
 use Rattle.tl_problem.specs.declared.cell.Cell.{Cell}
 use Rattle.tl_problem.specs.Sizes.{room, total}
 use Rattle.tl_problem.specs.Problem.{ProblemModel}
 use Rattle.tl_problem.specs.Spans.{count_of}
+use Rattle.tl_problem.proofs.SizeLaws.{room-total}
 use Rattle.tl_form.specs.declared.cell.Table.{Table, out-Table}
 use Rattle.tl_form.specs.declared.cell.TableCell.{TableCell, out-TableCell}
 use Rattle.tl_form.specs.declared.layout.Layout.{Layout, out-Layout}
@@ -22,11 +23,12 @@ use Rattle.tl_form.specs.Problems.{CellNeeds, IsAmong, IsCellBy, IsCount, IsCoun
 use Rattle.tl_form.specs.Sound.{IsSoundBy, IsSoundWithin, place_of}
 use Rattle.tl_form.proofs.Deeper.{FitsBy-weaker}
 use Rattle.tl_form.proofs.LeastExists.{Settles, settles}
-use Rattle.tl_form.proofs.ProblemLayouts.{IsBelowAt, cell-below, room-total}
-use Rattle.tl_form.proofs.ProblemTruth.{cell-inside, fits-wider, joined-each}
+use Rattle.tl_form.proofs.ProblemLayouts.{IsBelowAt, cell-below}
+use Rattle.tl_form.proofs.ProblemTruth.{cell-inside}
 use Rattle.tl_form.proofs.Searches.{Decides, first-of}
-use Rattle.tl_form.proofs.SoundParts.{both_each, each_joined, weaker_each}
+use Rattle.tl_form.proofs.SoundParts.{both_each, each_joined, joined-each}
 use Rattle.tl_form.proofs.StepsExist.{HasStart, cell-begins, cell-steps}
+use Rattle.tl_form.proofs.Truth.{Fits-wider}
 
 module _ (style : Style) where
   abbrev Real : Table → ℕ → ℕ → Type 0
@@ -47,11 +49,11 @@ module _ (style : Style) where
             | inl here ↦ here
             | inr none ↦
                 let at = first.1.1.attained in
-                absurd (none first.1.0 at.0 (fits-wider style table first.0 v first.1.0 at.0 wide at.1))
+                absurd (none first.1.0 at.0 (Fits-wider style table first.0 v first.1.0 at.0 wide at.1))
           ];
         };
         falls = λ v u k n wider one other.
-            other.least k one.attained.0 (fits-wider style table v u k one.attained.0 wider one.attained.1);
+            other.least k one.attained.0 (Fits-wider style table v u k one.attained.0 wider one.attained.1);
       }
     where
       decide : (v : ℕ) → Decides ((h : ℕ) × Real table v h)
@@ -70,7 +72,7 @@ module _ (style : Style) where
       (n : ℕ) × CellNeeds Real cell w n
   cell-needs w h cell inner settle held =
       let low = cell-below Any Real w cell h inner
-      (weaker_each (Settles style) (IsBelowAt Any Real w) (tables_in cell)
+      (AllByRecursion-weaker (Settles style) (IsBelowAt Any Real w) (tables_in cell)
       (λ nested one k layout fits. elim (one w) [
         | inl least ↦ (least.0, least.1, least.1.least k layout fits)
         | inr none ↦ absurd (none k layout fits)
@@ -112,7 +114,7 @@ module _ (style : Style) where
 
     cell-starts : (cell : OpenCell) → AllByRecursion (Settles style) (tables_in cell) → NeedsWithin page cell → AllByRecursion (HasStart Real) (tables_in cell)
     cell-starts cell settle some =
-        weaker_each (λ nested. Settles style nested × ((m : ℕ) × Real nested some.w m)) (HasStart Real) (tables_in cell)
+        AllByRecursion-weaker (λ nested. Settles style nested × ((m : ℕ) × Real nested some.w m)) (HasStart Real) (tables_in cell)
         (λ nested both. has-start nested both.0 some.w both.1.0 both.1.1)
         (both_each (Settles style) (λ nested. (m : ℕ) × Real nested some.w m) (tables_in cell) settle (cell-inside Real some.w cell some.n some.need))
 
@@ -135,11 +137,11 @@ module _ (style : Style) where
         AllByRecursion (λ cell. AllByRecursion (λ nested. (h : ℕ) × (layout : Layout) × Fits nested style page h layout) (tables_in (out-TableCell cell))) cells
     inner-fit [] some = tt
     inner-fit (cell ∷ cells) some = (
-      weaker_each (λ nested. (m : ℕ) × Real nested some.0.w m) (λ nested. (h : ℕ) × (layout : Layout) × Fits nested style page h layout)
+      AllByRecursion-weaker (λ nested. (m : ℕ) × Real nested some.0.w m) (λ nested. (h : ℕ) × (layout : Layout) × Fits nested style page h layout)
           (tables_in (out-TableCell cell))
           (λ nested least.
           let at = least.1.attained in
-          (least.0, at.0, fits-wider style nested some.0.w page least.0 at.0 some.0.within at.1))
+          (least.0, at.0, Fits-wider style nested some.0.w page least.0 at.0 some.0.within at.1))
           (cell-inside Real some.0.w (out-TableCell cell) some.0.n some.0.need),
       inner-fit cells some.1,
     )
@@ -273,11 +275,11 @@ module _ (style : Style) where
     counts zero table sound height layout fits = absurd sound
     counts (suc depth) table sound height layout (zero, held) = absurd held
     counts (suc depth) table sound height layout (suc within, held) =
-        let settle = weaker_each (IsSoundWithin depth) (Settles style) (inner_tables (out-Table table)) (λ nested is. settles style depth nested is)
+        let settle = AllByRecursion-weaker (IsSoundWithin depth) (Settles style) (inner_tables (out-Table table)) (λ nested is. settles style depth nested is)
         sound.inner in
         let own = true-problem table sound settle height within layout held in
         count-all table (count_of own.0) (own.0, own.1, refl)
-        (weaker_each (λ nested. IsSoundWithin depth nested × ((h : ℕ) × (one : Layout) × Fits nested style page h one))
+        (AllByRecursion-weaker (λ nested. IsSoundWithin depth nested × ((h : ℕ) × (one : Layout) × Fits nested style page h one))
         (λ nested. (m : ℕ) × IsCountAll nested style page m) (inner_tables (out-Table table))
         (λ nested both. counts depth nested both.0 both.1.0 both.1.1 both.1.2)
         (both_each (IsSoundWithin depth) (λ nested. (h : ℕ) × (one : Layout) × Fits nested style page h one) (inner_tables (out-Table table)) sound.inner
@@ -289,5 +291,5 @@ module _ (style : Style) where
     problems (suc depth) table sound height layout (zero, held) = absurd held
     problems (suc depth) table sound height layout (suc within, held) =
         true-problem table sound
-        (weaker_each (IsSoundWithin depth) (Settles style) (inner_tables (out-Table table)) (λ nested is. settles style depth nested is) sound.inner)
+        (AllByRecursion-weaker (IsSoundWithin depth) (Settles style) (inner_tables (out-Table table)) (λ nested is. settles style depth nested is) sound.inner)
         height within layout held

@@ -1,15 +1,16 @@
 -- On a wider page a table has at least as many ways: the same spans, and for each at least as many classes.
-use Rattle.std.proofs.Common.{◌≡◌, ℕ, zero, suc, ◌+◌, ◌-◌, ◌*◌, ◌^◌, ◌<◌, ◌≤◌, ◌⊎◌, inl, inr, min, max, Bool, true, false, cond, ◌==◌, ◌&&◌, ◌||◌}
-use Rattle.std.proofs.Common.{List, [], ◌∷◌, ◌++◌, length, map, filter, Contains, Some, refl, sym, ap, subst, ◌∙◌, arith}
-use Rattle.std.specs.List.{All, AllZip, list_any, range_with_len}
+use Rattle.std.proofs.Common.{◌≡◌, ℕ, zero, suc, ◌+◌, ◌-◌, ◌^◌, ◌≤◌, inl, inr, min, Bool, true, false, cond, ◌==◌, ◌&&◌, ◌||◌}
+use Rattle.std.proofs.Common.{List, [], ◌∷◌, ◌++◌, length, map, filter, Contains, refl, sym, ap, subst, ◌∙◌, arith}
+use Rattle.std.specs.List.{AllZip, list_any, range_with_len}
 use Rattle.std.proofs.Math.Nat.{mul-le-mul_left, mul-le-mul_right}
-use Rattle.std.proofs.lemmas.Bool.{cases_Bool, eqb-true, eq-eqb}
+use Rattle.std.proofs.lemmas.Bool.{cases_Bool}
 use Rattle.std.proofs.lemmas.List.Elements.{All-contains, Contains-append_left, Contains-append_right, Contains-append_cases}
 use Rattle.std.proofs.lemmas.List.Folds.{Any-from_list_any, list_any_at}
 use Rattle.tl_base.specs.declared.steps.Config.{Config}
 use Rattle.tl_base.specs.declared.style.Style.{Style}
 use Rattle.tl_base.specs.Style.{edge_of}
-use Rattle.tl_base.specs.Steps.{AreSteps, first_height, first_width, height_at}
+use Rattle.tl_base.specs.Steps.{first_height, first_width, height_at}
+use Rattle.tl_base.proofs.Stacking.{first_width-within}
 use Rattle.tl_problem.specs.declared.cell.Cell.{Cell}
 use Rattle.tl_problem.specs.declared.cell.Span.{Span}
 use Rattle.tl_problem.specs.Problem.{ProblemModel}
@@ -18,7 +19,6 @@ use Rattle.tl_form.specs.declared.cell.Table.{Table, out-Table}
 use Rattle.tl_form.specs.declared.cell.TableCell.{TableCell, out-TableCell}
 use Rattle.tl_form.specs.Problems.{AreStepsOf, CellNeeds, IsCellBy, IsProblemBy}
 use Rattle.tl_form.proofs.NeedSteps.{first-least, height-first, same-option, step-there}
-use Rattle.tl_form.proofs.ProblemCells.{first-within}
 
 -- ---- the same steps, up to a lesser width
 
@@ -37,7 +37,7 @@ module _ (needs : ℕ → ℕ → Type 0) (narrow wide : ℕ) (within : narrow �
 
   pub first-stays : first_width short ≡ first_width long
   first-stays =
-      let inside = first-within narrow short of_short.decreasing of_short.within in
+      let inside = first_width-within narrow short of_short.decreasing of_short.within in
       let here = sym (same-heights (first_width short) inside) ∙ height-first short of_short.decreasing in
       let more = first-least long of_long.decreasing (first_width short) (first_height short) here in
       let there = same-heights (first_width long) (omega (arith, more, inside)) ∙ height-first long of_long.decreasing in

@@ -1,11 +1,11 @@
 -- Which widths of a nested table the sections so far tell of: all from its least width up to the page where its sections are
 -- done, and those above the width that is due where they are not.
-use Rattle.std.proofs.Common.{◌≡◌, ◌∙◌, ℕ, zero, suc, ◌+◌, ◌-◌, ◌<◌, ◌≤◌, Bool, true, false, if◌then◌else◌, ◌==◌, nat_le, List, [], ◌∷◌, ◌++◌, ◌⊎◌}
+use Rattle.std.proofs.Common.{◌≡◌, ◌∙◌, ℕ, zero, suc, ◌+◌, ◌-◌, ◌<◌, ◌≤◌, Bool, if◌then◌else◌, List, [], ◌∷◌, ◌++◌}
 use Rattle.std.proofs.Common.{inl, inr, length, get_or, take, Option, None, Some, Contains, refl, sym, ap, subst, arith}
-use Rattle.std.specs.List.{All}
 use Rattle.std.proofs.lemmas.Bool.{cases_eq, cases_lt, eq-eqb, ne_eqb}
 use Rattle.std.proofs.lemmas.List.{take_more}
 use Rattle.std.proofs.lemmas.List.Elements.{Contains-push, Contains-append_left}
+use Rattle.std.proofs.lemmas.Option.{same_Some, none-some}
 use Rattle.tl_base.specs.declared.style.Style.{Style}
 use Rattle.tl_problem.proofs.Heights.{test_le, test_le_false}
 use Rattle.tl_cert.specs.declared.section.Section.{Section}
@@ -35,25 +35,19 @@ pub more_told : (style : Style) (sections : List Section) (section : Section) (n
     AreTold style (sections ++ section ∷ []) number w
 more_told style sections section number w (one, has, tells) = (one, Contains-append_left sections (section ∷ []) one has, tells)
 
-none_some : {X : Type 0} {x : X} → None ≡ Some x → ⊥
-none_some equal = cc
-
-some_is : {X : Type 0} {x y : X} → Some x ≡ Some y → x ≡ y
-some_is equal = cc
-
 next_none : (least placed : ℕ) → next_width least placed ≡ None → placed ≤ least
 next_none least zero is = omega arith
 next_none least (suc narrower) is = elim (cases_lt narrower least) [
   | inl less ↦ omega (arith, less)
-  | inr more ↦ absurd (none_some (sym is ∙ ap (λ (b : Bool). if b then Some narrower else None) (test_le least narrower more)))
+  | inr more ↦ absurd (none-some _ (sym is ∙ ap (λ (b : Bool). if b then Some narrower else None) (test_le least narrower more)))
 ]
 
 next_some : (least placed width : ℕ) → next_width least placed ≡ Some width → (width + 1 ≡ placed) × (least ≤ width)
-next_some least zero width is = absurd (none_some is)
+next_some least zero width is = absurd (none-some _ is)
 next_some least (suc narrower) width is = elim (cases_lt narrower least) [
-  | inl less ↦ absurd (none_some (sym (ap (λ (b : Bool). if b then Some narrower else None) (test_le_false least narrower less)) ∙ is))
+  | inl less ↦ absurd (none-some _ (sym (ap (λ (b : Bool). if b then Some narrower else None) (test_le_false least narrower less)) ∙ is))
   | inr more ↦
-      let same : narrower ≡ width = some_is (sym (ap (λ (b : Bool). if b then Some narrower else None) (test_le least narrower more)) ∙ is) in
+      let same : narrower ≡ width = same_Some _ _ (sym (ap (λ (b : Bool). if b then Some narrower else None) (test_le least narrower more)) ∙ is) in
       (omega (arith, same), omega (arith, same, more))
 ]
 
@@ -111,11 +105,11 @@ module _ (document : Document) (leasts : (number : ℕ) → own_number document 
 
     pub next_covered : (next : Due) → next_due document now.table placed ≡ Some next → IsCovered document after next
     next_covered next is = elim (cases_eq now.table (own_number document)) [
-      | inl same ↦ absurd (none_some (sym (ap (λ (b : Bool). if b then None else Some (due_in document now.table
+      | inl same ↦ absurd (none-some _ (sym (ap (λ (b : Bool). if b then None else Some (due_in document now.table
           (next_width (least_of document now.table) placed))) (eq-eqb now.table (own_number document) same)) ∙ is))
       | inr other ↦
           let due : due_in document now.table (next_width (least_of document now.table) placed) ≡ next =
-          some_is (sym (ap (λ (b : Bool). if b then None else Some (due_in document now.table
+          same_Some _ _ (sym (ap (λ (b : Bool). if b then None else Some (due_in document now.table
           (next_width (least_of document now.table) placed))) (ne_eqb now.table (own_number document) other)) ∙ is) in
           subst (IsCovered document after) due (by_width (next_width (least_of document now.table) placed) refl other)
     ]
@@ -161,7 +155,7 @@ module _ (document : Document) (some : own_number document ≤ document.last)
       ((i : ℕ) (d : Section) → i < n → Follows document (take i sections) (get_or sections i d)) →
       (now : Due) → due_after document (take n sections) ≡ Some now → Stands document (take n sections) now
   stands zero within follow now is =
-      subst (Stands document []) (some_is is) (record { covered = first_covered document leasts some; may = first_may document some })
+      subst (Stands document []) (same_Some _ _ is) (record { covered = first_covered document leasts some; may = first_may document some })
   stands (suc n) within follow now is =
       let section = get_or sections n no_section in
       let follows = follow n no_section (omega arith) in

@@ -1,7 +1,7 @@
 -- What fits by layouts of some depth fits by those of any greater one, in wider rooms and in higher ones.
-use Rattle.std.proofs.Common.{◌≡◌, ℕ, zero, suc, ◌+◌, ◌≤◌, List, [], ◌∷◌, sym, subst, arith}
-use Rattle.std.specs.List.{AllZip}
+use Rattle.std.proofs.Common.{◌≡◌, ℕ, zero, suc, ◌+◌, ◌≤◌, List, sym, subst, arith}
 use Rattle.tl_base.specs.declared.style.Style.{Style}
+use Rattle.tl_base.proofs.Zips.{AllZip-weaker}
 use Rattle.tl_form.specs.declared.cell.Content.{out-Content}
 use Rattle.tl_form.specs.declared.cell.Content.TheOpen as open_content
 use Rattle.tl_form.specs.declared.cell.Table.{Table, out-Table}
@@ -9,14 +9,6 @@ use Rattle.tl_form.specs.declared.cell.TableCell.{out-TableCell}
 use Rattle.tl_form.specs.declared.layout.Layout.{Layout, out-Layout}
 use Rattle.tl_form.specs.Tables.{OpenTable, OpenCell, OpenContent}
 use Rattle.tl_form.specs.Layouts.{OpenLayout, Share, FitsShare, FitsRoom, FitsCell, FitsBy, FitsWithin}
-
--- what holds of two lists place by place, weakened
-pub AllZip-weaker : {A B : Type 0} (P Q : A → B → Type 0) (xs : List A) (ys : List B) → ((x : A) (y : B) → P x y → Q x y) → AllZip P xs ys →
-    AllZip Q xs ys
-AllZip-weaker P Q [] [] weaker all = tt
-AllZip-weaker P Q [] (y ∷ ys) weaker all = absurd all
-AllZip-weaker P Q (x ∷ xs) [] weaker all = absurd all
-AllZip-weaker P Q (x ∷ xs) (y ∷ ys) weaker all = (weaker x y all.0, AllZip-weaker P Q xs ys weaker all.1)
 
 module _ (some more : Table → ℕ → ℕ → Layout → Type 0)
     (weaker : (table : Table) (width height : ℕ) (layout : Layout) → some table width height layout → more table width height layout) where

@@ -1,53 +1,46 @@
 -- Where the sections so far are good, the next one that is due has a problem: the tables nested in its own have steps by the
 -- sections, and the problem with them is sound.
-use Rattle.std.proofs.Common.{◌≡◌, ◌∙◌, ℕ, zero, suc, ◌+◌, ◌-◌, ◌*◌, ◌<◌, ◌≤◌, List, [], ◌∷◌, ◌⊎◌, inl, inr, length, get_or, take, Option, None}
+use Rattle.std.proofs.Common.{◌≡◌, ◌∙◌, ℕ, zero, suc, ◌+◌, ◌-◌, ◌*◌, ◌<◌, ◌≤◌, List, inl, inr, length, get_or, take}
 use Rattle.std.proofs.Common.{Some, Contains, refl, sym, ap, subst, arith}
-use Rattle.std.specs.List.{All, AllZip, AllByRecursion}
+use Rattle.std.specs.List.{All, AllByRecursion}
 use Rattle.std.specs.Option.{IsSomeAnd}
-use Rattle.std.proofs.lemmas.List.{take_all, length-take}
+use Rattle.std.proofs.lemmas.List.{take_all}
 use Rattle.std.proofs.lemmas.List.Elements.{All-nil, All-more, All-get_or, All-contains, All-from_recursion, recursion_from_All}
 use Rattle.tl_base.specs.declared.limits.TheConstants.{MAX_PAGE_WIDTH}
 use Rattle.tl_base.specs.declared.style.Style.{Style}
-use Rattle.tl_base.specs.declared.steps.Config.{Config}
-use Rattle.tl_base.specs.Steps.{AreSteps, IsLowAt, first_width, first_height, height_at}
+use Rattle.tl_base.specs.Steps.{IsLowAt, first_width, first_height}
 use Rattle.tl_base.specs.Style.{gap_of, edge_of}
-use Rattle.tl_base.proofs.Members.{Contains-cases, Contains-none, flat_map-Contains, All-from_Contains, Contains-map}
+use Rattle.tl_base.proofs.Members.{flat_map-Contains, All-from_Contains, Contains-map}
+use Rattle.tl_base.proofs.Zips.{AllZip-Contains}
+use Rattle.tl_base.proofs.Stacking.{first_width-within}
 use Rattle.tl_grid.specs.Dropping.{IsPlaced}
-use Rattle.tl_problem.specs.Problem.{ProblemModel, total_width}
+use Rattle.tl_problem.specs.Problem.{total_width}
 use Rattle.tl_problem.specs.Sizes.{total}
 use Rattle.tl_problem.proofs.Heights.{height-from_low}
+use Rattle.tl_problem.proofs.SizeLaws.{room-total}
 use Rattle.tl_cert.specs.declared.section.Section.{Section}
 use Rattle.tl_form.specs.declared.cell.Table.{Table, out-Table}
 use Rattle.tl_form.specs.declared.cell.TableCell.{TableCell, out-TableCell}
 use Rattle.tl_form.specs.declared.heights.InnerSteps.{InnerSteps}
 use Rattle.tl_form.specs.declared.layout.Layout.{Layout, out-Layout}
 use Rattle.tl_form.specs.Expected.{Document, Due, IsTableOf, own_number, least_of, placed_width, due_after}
-use Rattle.tl_form.specs.Layouts.{Fits, FitsWithin, FitsBy, FitsCell, width_for, height_for}
+use Rattle.tl_form.specs.Layouts.{FitsWithin, FitsCell, width_for, height_for}
 use Rattle.tl_form.specs.Least.{IsLeastWidth}
 use Rattle.tl_form.specs.Nested.{AreStepsBy, AreInnerSteps, IsLeastFound}
 use Rattle.tl_form.specs.ProblemLaws.{LayoutsAreByLow, LayoutsByHighFit}
 use Rattle.tl_form.specs.Problems.{IsAmong, IsInsideWithin, HasSoundProblem, steps_for}
 use Rattle.tl_form.specs.Sound.{IsSound, IsSoundWithin, nested_in_table, place_of, places_of, table_size}
-use Rattle.tl_form.specs.SoundProblems.{AreSoundSteps, AreSoundPremises, SoundProblemsAlone, PlacementsAreLow}
-use Rattle.tl_form.specs.Tables.{OpenTable, inner_tables, tables_in}
+use Rattle.tl_form.specs.SoundProblems.{AreSoundSteps, SoundProblemsAlone, PlacementsAreLow}
+use Rattle.tl_form.specs.Tables.{inner_tables, tables_in}
 use Rattle.tl_form.specs.Valid.{IsGood, AreGoodBelow}
 use Rattle.tl_form.proofs.Coverage.{Stands, Follows, stands}
 use Rattle.tl_form.proofs.CoveredSteps.{steps_by, inner_by}
 use Rattle.tl_form.proofs.NeedSteps.{height-first}
 use Rattle.tl_form.proofs.OwnWidths.{tables_in-fit}
-use Rattle.tl_form.proofs.ProblemLayouts.{room-total}
 use Rattle.tl_form.proofs.TableNumbers.{one_of_number, table_of_number, number_within, inside_greater, sound_among}
 use Rattle.tl_form.proofs.Truth.{Fits-wider, IsTrue, all_true, height_from, nested_among, steps_found}
 
 -- ---- a nested table is no wider than the one that holds it
-
-zip_has : {A B : Type 0} (P : A → B → Type 0) (xs : List A) (ys : List B) (x : A) → AllZip P xs ys → Contains xs x → (y : B) × P x y
-zip_has P [] ys x all has = absurd (Contains-none x has)
-zip_has P (a ∷ xs) [] x all has = absurd all
-zip_has P (a ∷ xs) (b ∷ ys) x all has = elim (Contains-cases a xs x has) [
-  | inl same ↦ (b, subst (λ one. P one b) same all.0)
-  | inr later ↦ zip_has P xs ys x all.1 later
-]
 
 cell_within : (table : Table) → IsSound table → (cell : TableCell) → Contains (out-Table table).cells cell →
     ((out-TableCell cell).place.left < (out-TableCell cell).place.right) × ((out-TableCell cell).place.right ≤ (out-Table table).cols)
@@ -72,7 +65,7 @@ nested_narrower style table nested least inner sound has outer own =
         let in_cell = flat_map-Contains (λ cell. tables_in (out-TableCell cell)) (out-Table table).cells nested has in
         let cell = in_cell.0 in
         let place = (out-TableCell cell).place in
-        let part = zip_has (λ one inner. FitsCell (FitsWithin depth style) style (out-Layout layout) (out-TableCell one) inner)
+        let part = AllZip-Contains (λ one inner. FitsCell (FitsWithin depth style) style (out-Layout layout) (out-TableCell one) inner)
         (out-Table table).cells held.parts cell held.cells in_cell.1 in
         let w = width_for style (out-Layout layout) place in
         let fit = All-contains (λ one. (height : ℕ) × (layout : Layout) × FitsWithin depth style one w height layout) (tables_in (out-TableCell cell)) nested
@@ -125,10 +118,6 @@ module _ (document : Document) (on : IsOnPage document) where
 
 -- ---- the steps of nested tables are sound
 
-first_within : (page : ℕ) (steps : List Config) → AreSteps steps → All (λ step. step.width ≤ page) steps → first_width steps ≤ page
-first_within page [] are all = absurd (omega (arith, are.has_step))
-first_within page (step ∷ steps) are all = all 0 step (omega arith)
-
 module _ (document : Document) (on : IsOnPage document) (before : List Section) (true_before : All (IsTrue document) before)
     (small_before : All (IsSmall document) before) where
   sound_steps : (nested : Table) → IsAmong document.table nested → (page : ℕ) (steps : InnerSteps) →
@@ -173,7 +162,7 @@ module _ (document : Document) (on : IsOnPage document) (before : List Section) 
 
     small : first_height steps.high ≤ 2 * table_size nested
     small =
-        let upto = first_within page steps.high by.high.decreasing by.high.within in
+        let upto = first_width-within page steps.high by.high.decreasing by.high.within in
         let least = (by.high.each (first_width steps.high) (first_height steps.high) upto).0 (height-first steps.high by.high.decreasing) in
         let found = found_at (first_width steps.high) (first_height steps.high) least.1 in
         omega (arith, found.3, found.5 nested (named found.0 found.1))

@@ -8,6 +8,7 @@ use Rattle.std.proofs.lemmas.List.{append-nil, take-append-drop}
 use Rattle.std.proofs.lemmas.List.Concat.{flat_map-cons}
 use Rattle.tl_base.specs.Returned.{IsMemoryOr, ReturnsError}
 use Rattle.tl_base.specs.declared.breaking.Breaking.{Breaking}
+use Rattle.tl_base.proofs.Members.{AllByRecursion-append}
 use Rattle.tl_grid.specs.declared.error.GridError.{GridError}
 use Rattle.tl_grid.specs.declared.error.GridError.TheVariants as causes
 use Rattle.tl_grid.specs.declared.shape.Grid.{Grid}
@@ -32,7 +33,6 @@ use Rattle.tl_form.specs.Formed.{cells_of_group, cells_written, shape_of}
 use Rattle.tl_form.specs.Refused.{NumberedShape, HasSomeGrid, AreRefused, IsRefused, tables_in_block, part_of_cell, tables_of}
 use Rattle.tl_form.specs.inner.Forming.{IsOwnError, tables_in_flow, tables_in_caption, tables_in_cells, tables_in_groups}
 use Rattle.tl_form.proofs.TreeParts.{itself, tables_in_open, tables_in_block-out, part_of_cell-out, part_of_group-out, tables_of-out}
-use Rattle.tl_form.proofs.SoundParts.{append_each}
 
 abbrev Gridded : List NumberedShape → Type 0
 Gridded tables = AllByRecursion HasSomeGrid tables
@@ -67,7 +67,7 @@ module _ (forms : TableNode → Table → Type 0) (each : (node : TableNode) (ta
   contents_gridded [] blocks become = tt
   contents_gridded (block ∷ flow) [] become = absurd become
   contents_gridded (block ∷ flow) (content ∷ blocks) become =
-      append_each HasSomeGrid (tables_in_block block) (tables_in_flow flow)
+      AllByRecursion-append HasSomeGrid (tables_in_block block) (tables_in_flow flow)
       (subst Gridded (sym (tables_in_block-out block)) (content_gridded (out-Block block) (out-Content content) become.0))
       (contents_gridded flow blocks become.1)
 
@@ -75,7 +75,7 @@ module _ (forms : TableNode → Table → Type 0) (each : (node : TableNode) (ta
   cells_gridded [] cells become = tt
   cells_gridded (node ∷ nodes) [] become = absurd become
   cells_gridded (node ∷ nodes) (cell ∷ cells) become =
-      append_each HasSomeGrid (part_of_cell node).inner (tables_in_cells nodes)
+      AllByRecursion-append HasSomeGrid (part_of_cell node).inner (tables_in_cells nodes)
       (subst Gridded (sym (ap (λ part. part.inner) (part_of_cell-out node)))
       (contents_gridded (out-CellNode node).flow (out-TableCell cell).blocks become.0.blocks))
       (cells_gridded nodes cells become.1)
@@ -90,7 +90,7 @@ module _ (forms : TableNode → Table → Type 0) (each : (node : TableNode) (ta
   table_gridded node table becomes =
       subst Gridded (sym (tables_of-out node)) (
         (becomes.grid, becomes.has_grid),
-        append_each HasSomeGrid (tables_in_caption (out-TableNode node).caption) (tables_in_groups (out-TableNode node).groups)
+        AllByRecursion-append HasSomeGrid (tables_in_caption (out-TableNode node).caption) (tables_in_groups (out-TableNode node).groups)
             (caption_gridded table.cols (out-TableNode node).caption becomes.caption becomes.captioned)
             (subst Gridded (sym (tables_written (out-TableNode node).groups))
             (cells_gridded (cells_written (out-TableNode node)) becomes.written becomes.cells)),
@@ -118,7 +118,7 @@ refused_among prefix tables rest (errors.Grid number cause) gridded refused = re
       ap (λ (more : List NumberedShape). prefix ++ (more ++ rest)) refused.split
       ∙ ap (λ (more : List NumberedShape). prefix ++ more) (append_assoc refused.before (refused.table ∷ refused.after) rest)
       ∙ sym (append_assoc prefix refused.before (refused.table ∷ (refused.after ++ rest)));
-  formed = append_each HasSomeGrid prefix refused.before gridded refused.formed;
+  formed = AllByRecursion-append HasSomeGrid prefix refused.before gridded refused.formed;
   numbered = refused.numbered;
   refused = refused.refused;
 }

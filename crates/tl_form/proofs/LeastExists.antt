@@ -1,12 +1,13 @@
 -- A sound table that fits a page has a least height on it, and it can be found.
-use Rattle.std.proofs.Common.{◌≡◌, ℕ, zero, suc, ◌+◌, ◌<◌, ◌≤◌, ◌⊎◌, inl, inr, List, [], ◌∷◌, length, replicate, sum, sum_by, refl, sym, ap, subst}
-use Rattle.std.proofs.Common.{◌∙◌, arith}
-use Rattle.std.specs.List.{All, AllZip, AllByRecursion, flat_map}
+use Rattle.std.proofs.Common.{◌≡◌, ℕ, zero, suc, ◌+◌, ◌<◌, ◌≤◌, ◌⊎◌, inl, inr, List, [], ◌∷◌, length, replicate, sum, refl, subst}
+use Rattle.std.proofs.Common.{arith}
+use Rattle.std.specs.List.{AllZip, AllByRecursion, flat_map}
 use Rattle.std.proofs.lemmas.Bool.{cases_lt}
 use Rattle.std.proofs.lemmas.List.{get_or-map, length-map, length-replicate}
-use Rattle.std.proofs.lemmas.List.Elements.{recursion_from_All, All-from_recursion}
+use Rattle.std.proofs.lemmas.List.Elements.{recursion_from_All}
 use Rattle.tl_base.specs.declared.style.Style.{Style}
 use Rattle.tl_base.specs.Style.{gap_of, row_gap_of, edge_of}
+use Rattle.tl_base.proofs.Members.{AllByRecursion-weaker}
 use Rattle.tl_grid.specs.Dropping.{IsPlaced}
 use Rattle.tl_problem.specs.Sizes.{room, total}
 use Rattle.tl_form.specs.declared.cell.Content.{Content, out-Content}
@@ -27,7 +28,7 @@ use Rattle.tl_form.proofs.ParagraphSteps.{fits-or-not, lines-from_fit}
 use Rattle.tl_form.proofs.ProblemLayouts.{IsAboveAt, IsBelowAt, cell-above, cell-below}
 use Rattle.tl_form.proofs.ProblemTruth.{cell-inside, fits-rolled, least-functional}
 use Rattle.tl_form.proofs.Searches.{Decides, Found, decide-some, total-small}
-use Rattle.tl_form.proofs.SoundParts.{each_joined, weaker_each}
+use Rattle.tl_form.proofs.SoundParts.{each_joined}
 
 module _ (style : Style) where
   abbrev Real : Table → ℕ → ℕ → Type 0
@@ -93,13 +94,13 @@ module _ (style : Style) where
   cell-fits : (w n h : ℕ) (cell : OpenCell) → CellNeeds Real cell w n → n ≤ h → (inner : List Layout) × FitsRoom Any w h cell inner
   cell-fits w n h cell need enough =
       cell-above Any Real w cell n h
-      (weaker_each (λ nested. (m : ℕ) × Real nested w m) (IsAboveAt Any Real w) (tables_in cell)
+      (AllByRecursion-weaker (λ nested. (m : ℕ) × Real nested w m) (IsAboveAt Any Real w) (tables_in cell)
       (λ nested some m least. (m, least.attained.0, least.attained.1, omega arith)) (cell-inside Real w cell n need)) need enough
 
   cell-lower : (w n h : ℕ) (cell : OpenCell) (inner : List Layout) → CellNeeds Real cell w n → FitsRoom Any w h cell inner → n ≤ h
   cell-lower w n h cell inner need held =
       let low = cell-below Any Real w cell h inner
-      (weaker_each (λ nested. (m : ℕ) × Real nested w m) (IsBelowAt Any Real w) (tables_in cell)
+      (AllByRecursion-weaker (λ nested. (m : ℕ) × Real nested w m) (IsBelowAt Any Real w) (tables_in cell)
       (λ nested some k layout fits. (some.0, some.1, some.1.least k layout fits)) (cell-inside Real w cell n need)) held in
       omega (arith, cell-functional Real (least-functional style) cell w n low.0 need low.1, low.2)
 
@@ -385,4 +386,4 @@ module _ (style : Style) where
   settles zero table sound = absurd sound
   settles (suc depth) table sound =
       table-settles table sound
-      (weaker_each (IsSoundWithin depth) Settles (inner_tables (out-Table table)) (λ nested is. settles depth nested is) sound.inner)
+      (AllByRecursion-weaker (IsSoundWithin depth) Settles (inner_tables (out-Table table)) (λ nested is. settles depth nested is) sound.inner)

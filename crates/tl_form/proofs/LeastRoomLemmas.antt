@@ -4,6 +4,7 @@ use Rattle.std.specs.List.{AllZip, flat_map}
 use Rattle.std.specs.declared.alloc.Global.{Global}
 use Rattle.std.specs.declared.boxed.Box.{Box}
 use Rattle.tl_base.specs.declared.style.Style.{Style}
+use Rattle.tl_base.proofs.Zips.{AllZip-weaker, AllZip-push}
 use Rattle.tl_text.specs.declared.paragraph.Atom.{Atom}
 use Rattle.tl_text.specs.Cuttings.{joined, HasCutting}
 use Rattle.tl_form.specs.declared.cell.Content.{Content, out-Content}
@@ -14,7 +15,7 @@ use Rattle.tl_form.specs.Tables.{OpenCell, OpenContent}
 use Rattle.tl_form.specs.Layouts.{Share, FitsShare, FitsWithin}
 use Rattle.tl_form.specs.Least.{IsLeastWidth}
 use Rattle.tl_form.specs.inner.LeastRooms.{IsLeastForBlock, IsLeastForBlocks, IsLeastRoom}
-use Rattle.tl_form.proofs.Deeper.{AllZip-weaker, FitsShare-weaker, FitsWithin-deeper, FitsWithin-deeper', FitsWithin-wider}
+use Rattle.tl_form.proofs.Deeper.{FitsShare-weaker, FitsWithin-deeper, FitsWithin-deeper', FitsWithin-wider}
 
 -- the least width of a paragraph
 pub least_for_paragraph : (style : Style) (paragraph : List Atom) (w : ℕ) → ((v : ℕ) → w ≤ v → HasCutting v paragraph) →
@@ -58,13 +59,6 @@ deeper_shares style more depth v blocks shares fits =
     (λ block share. FitsShare (FitsWithin (more + depth) style) v (out-Content block) share) blocks shares
     (λ block share one. FitsShare-weaker (FitsWithin depth style) (FitsWithin (more + depth) style) (FitsWithin-deeper more depth style) v
     (out-Content block) share one) fits
-
-pub AllZip-push : {A B : Type 0} (R : A → B → Type 0) (xs : List A) (ys : List B) (x : A) (y : B) → AllZip R xs ys → R x y →
-    AllZip R (xs ++ x ∷ []) (ys ++ y ∷ [])
-AllZip-push R [] [] x y all one = (one, tt)
-AllZip-push R [] (z ∷ ys) x y all one = absurd all
-AllZip-push R (z ∷ xs) [] x y all one = absurd all
-AllZip-push R (z ∷ xs) (u ∷ ys) x y all one = (all.0, AllZip-push R xs ys x y all.1 one)
 
 -- the shares of the blocks up to the last, and of the last
 pub AllZip-pushed : {A B : Type 0} (R : A → B → Type 0) (xs : List A) (zs : List B) (x : A) → AllZip R (xs ++ x ∷ []) zs →

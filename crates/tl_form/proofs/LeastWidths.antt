@@ -6,6 +6,7 @@ use Rattle.std.proofs.lemmas.List.Sums.{sum_by-cons}
 use Rattle.std.proofs.lemmas.List.Elements.{recursion_from_All, All-from_recursion}
 use Rattle.tl_base.specs.declared.style.Style.{Style}
 use Rattle.tl_base.specs.Style.{gap_of, row_gap_of, edge_of}
+use Rattle.tl_base.proofs.Zips.{AllZip-weaker}
 use Rattle.tl_grid.specs.Dropping.{IsPlaced}
 use Rattle.tl_problem.specs.Sizes.{room, total}
 use Rattle.tl_form.specs.declared.cell.Table.{Table, out-Table}
@@ -18,7 +19,7 @@ use Rattle.tl_form.specs.Least.{IsLeastWidth}
 use Rattle.tl_form.specs.Sound.{place_of}
 use Rattle.tl_form.specs.inner.Demands.{GiveRooms, IsLeastFor}
 use Rattle.tl_form.specs.inner.LeastRooms.{AreDemandsOf}
-use Rattle.tl_form.proofs.Deeper.{AllZip-weaker, FitsRoom-weaker, FitsRoom-higher, FitsWithin-deeper, FitsWithin-deeper'}
+use Rattle.tl_form.proofs.Deeper.{FitsRoom-weaker, FitsRoom-higher, FitsWithin-deeper, FitsWithin-deeper'}
 use Rattle.tl_form.proofs.Rooms.{ahead, room-ends}
 
 -- ---- rows of one height are high enough for any cell of that height

@@ -1,14 +1,14 @@
 -- A paragraph has no more lines than units and breaks, and so no more than it counts.
-use Rattle.std.proofs.Common.{◌≡◌, ℕ, ◌+◌, ◌<◌, ◌≤◌, max, List, [], ◌∷◌, ◌++◌, length, sum_by, refl, sym, ap, ◌∙◌, subst, length-append, arith}
+use Rattle.std.proofs.Common.{◌≡◌, ℕ, ◌+◌, ◌≤◌, max, List, [], ◌∷◌, length, sum_by, refl, ap, length-append, arith}
 use Rattle.std.specs.List.{AllZip, AllByRecursion, onto_first}
 use Rattle.std.proofs.lemmas.List.Sums.{sum_by-cons}
 use Rattle.std.proofs.lemmas.List.Concat.{flat_map-cons}
 use Rattle.std.proofs.lemmas.List.Elements.{recursion_from_All}
-use Rattle.std.proofs.lemmas.Str.{length-le-encodes}
 use Rattle.tl_text.specs.declared.paragraph.Atom.{Atom}
 use Rattle.tl_text.specs.declared.paragraph.Atom.TheVariants.{Word, Glue, Break}
-use Rattle.tl_text.specs.Cuttings.{IsCutting, IsPieceCut, LeastLines, joined}
+use Rattle.tl_text.specs.Cuttings.{IsPieceCut, LeastLines, joined}
 use Rattle.tl_text.specs.Paragraph.{IsParagraph, IsSpelt, atom_size, lined_pieces}
+use Rattle.tl_text.proofs.Sizes.{length-le}
 
 -- lines with units, joined, have no fewer units than they are lines
 lines-few : (lines : List (List Atom)) → AllByRecursion (λ line. line ≡ [] → ⊥) lines → length lines ≤ length (joined lines)
@@ -54,16 +54,6 @@ pieces-count [] = omega arith
 pieces-count (Break ∷ atoms) = omega (arith, sum_by-cons piece_count [] (lined_pieces atoms), pieces-count atoms)
 pieces-count (Word text ∷ atoms) = omega (arith, first-count (Word text) (lined_pieces atoms), pieces-count atoms)
 pieces-count (Glue text ∷ atoms) = omega (arith, first-count (Glue text) (lined_pieces atoms), pieces-count atoms)
-
--- an atom that is spelt counts
-counts : (atom : Atom) → IsSpelt atom → 1 ≤ atom_size atom
-counts (Word text) is = omega (arith, is.0, length-le-encodes text)
-counts (Glue text) is = omega (arith, is.0, length-le-encodes text)
-counts Break is = omega arith
-
-length-le : (atoms : List Atom) → AllByRecursion IsSpelt atoms → length atoms ≤ sum_by atom_size atoms
-length-le [] is = omega arith
-length-le (atom ∷ atoms) is = omega (arith, sum_by-cons atom_size atom atoms, counts atom is.0, length-le atoms is.1)
 
 -- the least number of lines is no more than what the paragraph counts
 pub lines-le : (atoms : List Atom) (w n : ℕ) → IsParagraph atoms → LeastLines w atoms n → n ≤ sum_by atom_size atoms

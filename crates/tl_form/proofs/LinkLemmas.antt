@@ -12,6 +12,7 @@ use Rattle.std.proofs.lemmas.List.Elements.{Contains-append_left, Contains-appen
 use Rattle.std.proofs.lemmas.Option.{slice_get_within, slice_get_read, slice_get-get_or}
 use Rattle.tl_base.specs.declared.style.Style.{Style}
 use Rattle.tl_base.specs.Style.{gap_of, edge_of}
+use Rattle.tl_base.proofs.Zips.{AllZip-push}
 use Rattle.tl_problem.specs.declared.chain.Chain.{Chain}
 use Rattle.tl_problem.specs.declared.chain.Entry.{Entry}
 use Rattle.tl_form.specs.declared.cell.Content.{Content, out-Content}
@@ -26,10 +27,9 @@ use Rattle.tl_form.specs.Chains.{Link, HasWidth, IsLink, IsChainWithin, IsChain,
 use Rattle.tl_form.specs.Sound.{IsSound, place_of}
 use Rattle.tl_form.specs.inner.Demands.{AreInRow, columns_of, demands_weight, IsRowOf}
 use Rattle.tl_form.specs.inner.LeastRooms.{IsDemandOf, AreDemandsOf, IsSoundBlock}
-use Rattle.tl_form.specs.inner.Links.{IsLinked, IsLinkedBy, AreOthers}
-use Rattle.tl_form.proofs.ChainDepths.{Weighs, links_depth}
+use Rattle.tl_form.specs.inner.Links.{IsLinked, IsLinkedBy, AreOthers, Weighs}
+use Rattle.tl_form.proofs.ChainDepths.{links_depth}
 use Rattle.tl_form.proofs.ChainLaws.{never_narrower}
-use Rattle.tl_form.proofs.LeastRoomLemmas.{AllZip-push}
 
 -- ---- the links found so far
 

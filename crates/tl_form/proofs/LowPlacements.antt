@@ -1,20 +1,19 @@
 -- No placement needs more than two lines for all that the table holds: rows that are as high as all cells that begin in
 -- them, one under the other, are enough.
-use Rattle.std.proofs.Common.{◌≡◌, ℕ, zero, suc, ◌+◌, ◌-◌, ◌*◌, ◌<◌, ◌≤◌, Bool, true, false, ◌==◌, cond, ◌⊎◌, inl, inr, List, [], ◌∷◌, length}
-use Rattle.std.proofs.Common.{get_or, map, take, Some, sum, sum_by, refl, sym, ap, subst, ◌∙◌, arith}
-use Rattle.std.specs.List.{All, AllZip, AllByRecursion, Any, range_with_len}
+use Rattle.std.proofs.Common.{◌≡◌, ℕ, zero, suc, ◌+◌, ◌-◌, ◌*◌, ◌<◌, ◌≤◌, ◌==◌, cond, inl, inr, List, [], ◌∷◌, length}
+use Rattle.std.proofs.Common.{get_or, map, sum_by, refl, ap, ◌∙◌, arith}
+use Rattle.std.specs.List.{AllByRecursion, range_with_len}
 use Rattle.std.proofs.lemmas.Bool.{eq-eqb, ne_eqb, cases_eq}
 use Rattle.std.proofs.lemmas.List.{length-map}
 use Rattle.std.proofs.lemmas.List.FromFn.{length-range_with_len, get_or-map-range_with_len}
-use Rattle.std.proofs.lemmas.List.Elements.{recursion_from_All, All-from_recursion}
 use Rattle.std.proofs.lemmas.List.Sums.{sum_by-cons}
 use Rattle.tl_base.specs.declared.style.Style.{Style}
 use Rattle.tl_base.specs.declared.style.Style.TheVariants.{Plain, Frame}
-use Rattle.tl_base.specs.Style.{gap_of, row_gap_of, edge_of}
-use Rattle.tl_base.specs.Steps.{IsLowAt, first_height, first_width, height_at}
+use Rattle.tl_base.specs.Style.{row_gap_of, edge_of}
+use Rattle.tl_base.specs.Steps.{first_height}
 use Rattle.tl_problem.specs.declared.cell.Cell.{Cell}
-use Rattle.tl_problem.specs.Sizes.{position, room, total}
-use Rattle.tl_problem.proofs.SizeLaws.{position-mono, room-position}
+use Rattle.tl_problem.specs.Sizes.{room, total}
+use Rattle.tl_problem.proofs.SizeLaws.{position-mono, room-position, position-next}
 use Rattle.tl_form.proofs.Rooms.{total-ahead}
 
 -- ---- how much the cells that begin in a row are
@@ -105,22 +104,6 @@ heights-sum made (row ∷ rows) some =
       heights-sum made rows some.1,
       some.0,
     )
-
--- the next place
-position-next : (gap : ℕ) (sizes : List ℕ) (k : ℕ) → k < length sizes → position gap sizes (k + 1) ≡ position gap sizes k + get_or sizes k 0 + gap
-position-next gap sizes k within = let product : gap * (k + 1) ≡ gap * k + gap = grind arith in omega (arith, take-next sizes k within, product)
-  where
-    take-next : (sizes : List ℕ) (k : ℕ) → k < length sizes → sum (take (k + 1) sizes) ≡ sum (take k sizes) + get_or sizes k 0
-    take-next [] k within = absurd (omega (arith, within))
-    take-next (size ∷ sizes) zero within = omega (arith, sum_by-cons (λ (x : ℕ). x) size [])
-    take-next (size ∷ sizes) (suc k) within =
-        let next : suc k + 1 ≡ suc (k + 1) = omega arith in
-        rw next (omega (
-          arith,
-          sum_by-cons (λ (x : ℕ). x) size (take (k + 1) sizes),
-          sum_by-cons (λ (x : ℕ). x) size (take k sizes),
-          take-next sizes k (omega arith),
-        ))
 
 -- a span of rows has the room of its first
 first-room : (gap : ℕ) (sizes : List ℕ) (top bottom : ℕ) → top < bottom → bottom ≤ length sizes → get_or sizes top 0 ≤ room gap sizes top bottom

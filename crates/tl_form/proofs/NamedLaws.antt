@@ -12,12 +12,14 @@ use Rattle.tl_base.specs.declared.style.Style.{Style}
 use Rattle.tl_base.specs.Style.{gap_of, row_gap_of, edge_of}
 use Rattle.tl_base.specs.Steps.{IsLowAt, height_at}
 use Rattle.tl_base.proofs.Members.{Contains-first, Contains-later, Contains-cases, Contains-none, Contains-flat_map}
+use Rattle.tl_base.proofs.Sums.{sum-cons}
 use Rattle.tl_problem.specs.declared.cell.Cell.{Cell}
 use Rattle.tl_problem.specs.declared.placed.Placed.{Placed}
-use Rattle.tl_problem.specs.Problem.{ProblemModel, cell_height, cell_width}
+use Rattle.tl_problem.specs.Problem.{ProblemModel}
 use Rattle.tl_problem.specs.Sizes.{room, total}
 use Rattle.tl_problem.specs.Placements.{IsPlacement}
 use Rattle.tl_problem.specs.Sound.{IsSound as IsSoundProblem}
+use Rattle.tl_problem.proofs.SizeLaws.{room-total}
 use Rattle.tl_cert.specs.declared.certificate.Certificate.{Certificate}
 use Rattle.tl_cert.specs.declared.certificate.Claim.{Claim}
 use Rattle.tl_cert.specs.declared.certificate.Claim.TheVariants.{Lowest, Bounded, Narrow}
@@ -29,26 +31,22 @@ use Rattle.tl_form.specs.declared.cell.TableCell.{TableCell, out-TableCell}
 use Rattle.tl_form.specs.declared.heights.InnerSteps.{InnerSteps}
 use Rattle.tl_form.specs.declared.layout.Layout.{Layout, out-Layout}
 use Rattle.tl_form.specs.Expected.{Document, IsDocumentOf, IsTableOf, own_number, placed_width}
-use Rattle.tl_form.specs.Layouts.{OpenLayout, Share, Fits, FitsBy, FitsCell, FitsRoom, FitsShare, width_for, height_for, total_width, total_height}
-use Rattle.tl_form.specs.Named.{IsChosen, IsPlacementOf, AreLaidIn, IsLayoutBy, IsLaidWithin, IsNamedBy}
-use Rattle.tl_form.specs.Nested.{IsWithin, IsLeastFound, AreStepsBy, AreInnerSteps}
+use Rattle.tl_form.specs.Layouts.{Share, Fits, FitsRoom, FitsShare, width_for}
+use Rattle.tl_form.specs.Named.{IsChosen, AreLaidIn, IsLaidWithin, IsNamedBy}
+use Rattle.tl_form.specs.Nested.{IsWithin, IsLeastFound, AreInnerSteps}
 use Rattle.tl_form.specs.ProblemLaws.{LayoutsAreByLow, LayoutsByHighFit}
-use Rattle.tl_form.specs.Problems.{BlockNeeds, CellNeeds, InnerNeeds, IsAmong, IsCellBy, IsProblemOf, steps_for}
+use Rattle.tl_form.specs.Problems.{BlockNeeds, CellNeeds, InnerNeeds, IsAmong, IsCellBy, IsProblemOf}
 use Rattle.tl_form.specs.Sound.{IsSound}
 use Rattle.tl_form.specs.Tables.{OpenCell, OpenContent, tables_of, tables_in, inner_tables}
-use Rattle.tl_form.specs.Valid.{AreGoodBelow, AreWhole, EndsWith, HasNumbers, HasPlacement, IsProblemAt, IsShown}
+use Rattle.tl_form.specs.Valid.{AreGoodBelow, AreWhole, EndsWith, HasNumbers, IsShown}
 use Rattle.tl_form.specs.ValidLaws.{HasHeight, NamedLayoutFits}
-use Rattle.tl_form.proofs.ProblemLayouts.{fits-from_any, room-total}
-use Rattle.tl_form.proofs.SectionHeights.{any_item}
+use Rattle.tl_form.proofs.ProblemLayouts.{fits-from_any}
 use Rattle.tl_form.proofs.TableNumbers.{one_of_number}
 use Rattle.tl_form.proofs.OneProblem.{one_document}
 use Rattle.tl_form.proofs.ValidLaws.{own_last, ends, no_section}
 use Rattle.tl_form.proofs.Truth.{Fits-wider, HasStepsOf, IsTrue, all_true, steps_found, nested_among}
 
 -- ---- a cell in which given layouts of its nested tables have room
-
-sum-cons : (n : ℕ) (ns : List ℕ) → sum (n ∷ ns) ≡ n + sum ns
-sum-cons n ns = sum_by-cons (λ m. m) n ns
 
 -- what belongs to two lists joined, in two parts
 zip_parts : {A B : Type 0} (R : A → B → Type 0) (xs zs : List A) (ys : List B) → AllZip R (xs ++ zs) ys →

@@ -1,5 +1,5 @@
 -- Steps of what is needed: they are determined by it, and they come from lists of steps whose each step is needed.
-use Rattle.std.proofs.Common.{◌≡◌, ℕ, zero, suc, ◌+◌, ◌<◌, ◌≤◌, ◌⊎◌, ◌↔◌, inl, inr, List, [], ◌∷◌, length, get_or, filter, nat_le, Option, Some}
+use Rattle.std.proofs.Common.{◌≡◌, ℕ, zero, suc, ◌+◌, ◌<◌, ◌≤◌, ◌⊎◌, inl, inr, List, [], ◌∷◌, length, get_or, filter, nat_le, Option, Some}
 use Rattle.std.proofs.Common.{None, Contains, refl, sym, ap, subst, ◌∙◌, arith}
 use Rattle.std.specs.List.{All, last_or}
 use Rattle.std.specs.Option.{option_map}
@@ -10,7 +10,7 @@ use Rattle.tl_base.specs.declared.steps.Config.{Config}
 use Rattle.tl_base.specs.Steps.{AreSteps, IsLowAt, both_heights, first_height, first_width, height_at, stacked_height}
 use Rattle.tl_base.proofs.Decreasing.{Falls, no_step, height_at-step}
 use Rattle.tl_base.proofs.Members.{Contains-first, Contains-later, All-from_Contains, same-ordered}
-use Rattle.tl_problem.proofs.Heights.{test_le, test_le_false, IsLowAt-from, IsLowAt-wider, height-from_first, height-from_low, height-same}
+use Rattle.tl_problem.proofs.Heights.{test_le, test_le_false, IsLowAt-from, IsLowAt-wider, height-from_low, height-same}
 use Rattle.tl_form.specs.Problems.{AreStepsOf}
 
 -- ---- the step that a height is of

@@ -5,6 +5,7 @@ use Rattle.std.proofs.lemmas.List.Sums.{sum_by-cons}
 use Rattle.std.specs.List.{AllByRecursion, flat_map, range_with_len}
 use Rattle.std.proofs.lemmas.Grind.{flat_map-append}
 use Rattle.std.proofs.lemmas.List.{append-nil}
+use Rattle.tl_tree.specs.inner.Lines.{blocks_outline}
 use Rattle.tl_grid.specs.declared.error.GridError.{GridError}
 use Rattle.tl_tree.specs.Outline.{Entries, table, caption, columns, group, row, cell, paragraph, table_end, block_outline, outline}
 use Rattle.tl_tree.specs.Sound.{IsNumberedFrom, table_count}
@@ -15,7 +16,7 @@ use Rattle.tl_tree.specs.declared.node.CellNode.{CellNode}
 use Rattle.tl_tree.specs.declared.node.TableNode.{TableNode, out-TableNode}
 use Rattle.tl_form.specs.Formed.{OpenBlock, cells_written}
 use Rattle.tl_form.specs.Refused.{NumberedShape, HasSomeGrid, IsFirstWithoutGrid, tables_in_block, tables_of}
-use Rattle.tl_form.specs.inner.Forming.{flow_outline, tables_in_flow, tables_in_caption, tables_in_cells, tables_in_groups}
+use Rattle.tl_form.specs.inner.Forming.{tables_in_flow, tables_in_caption, tables_in_cells, tables_in_groups}
 use Rattle.tl_form.proofs.TreeParts.{itself, tables_in_open, tables_in_block-out, part_of_cell-out, tables_of-out}
 use Rattle.tl_form.proofs.Gridless.{tables_written}
 use Rattle.tl_form.proofs.NumbersOpen.{is_number, times}
@@ -85,10 +86,10 @@ block_long : (n : ℕ) → Long n → (o : OpenBlock) → table_count (open_outl
 block_long n each (open_block.Para atoms) few = refl
 block_long n each (open_block.Table node) few = each node.value few
 
-flow_long : (n : ℕ) → Long n → (flow : List Block) → table_count (flow_outline flow) ≤ n → length (tables_in_flow flow) ≡ table_count (flow_outline flow)
+flow_long : (n : ℕ) → Long n → (flow : List Block) → table_count (blocks_outline flow) ≤ n → length (tables_in_flow flow) ≡ table_count (blocks_outline flow)
 flow_long n each [] few = refl
 flow_long n each (block ∷ flow) few =
-    let counts = count-append (block_outline block) (flow_outline flow) in
+    let counts = count-append (block_outline block) (blocks_outline flow) in
     let own = ap table_count (block_outline-out block) in
     omega (
       arith,
@@ -100,13 +101,13 @@ flow_long n each (block ∷ flow) few =
       flow_long n each flow (omega (arith, counts)),
     )
 
-counted : (node : TableNode) → table_count (outline node) ≡ table_count (flow_outline (blocks_of (out-TableNode node))) + 1
+counted : (node : TableNode) → table_count (outline node) ≡ table_count (blocks_outline (blocks_of (out-TableNode node))) + 1
 counted node = omega (
   arith,
   alone-count (outline node),
   ap table_count (alone-table node),
   count-append (alone (blocks_of (out-TableNode node))) (table_end ∷ []),
-  alone-count (flow_outline (blocks_of (out-TableNode node))),
+  alone-count (blocks_outline (blocks_of (out-TableNode node))),
 )
 
 long : (n : ℕ) → Long n
@@ -146,15 +147,15 @@ block_numbered : (n : ℕ) → Numbered n → (o : OpenBlock) (k : ℕ) (rest : 
 block_numbered n each (open_block.Para atoms) k rest few numbered = (tt, subst (λ m. IsNumberedFrom m rest) (omega arith) numbered)
 block_numbered n each (open_block.Table node) k rest few numbered = each node.value k rest few numbered
 
-flow_numbered : (n : ℕ) → Numbered n → (flow : List Block) (k : ℕ) (rest : Entries) → table_count (flow_outline flow) ≤ n →
+flow_numbered : (n : ℕ) → Numbered n → (flow : List Block) (k : ℕ) (rest : Entries) → table_count (blocks_outline flow) ≤ n →
     IsNumberedFrom k (alone flow ++ rest) → AreNumbered k (tables_in_flow flow) × IsNumberedFrom (k + length (tables_in_flow flow)) rest
 flow_numbered n each [] k rest few numbered = (tt, subst (λ m. IsNumberedFrom m rest) (omega arith) numbered)
 flow_numbered n each (block ∷ flow) k rest few numbered =
     let split : alone (block ∷ flow) ++ rest ≡ tables_alone (open_outline (out-Block block)) ++ (alone flow ++ rest) =
-    ap (λ (es : Entries). es ++ rest) (alone-append (block_outline block) (flow_outline flow)
+    ap (λ (es : Entries). es ++ rest) (alone-append (block_outline block) (blocks_outline flow)
     ∙ ap (λ (es : Entries). tables_alone es ++ alone flow) (block_outline-out block))
     ∙ append_assoc (tables_alone (open_outline (out-Block block))) (alone flow) rest in
-    let counts = count-append (block_outline block) (flow_outline flow) in
+    let counts = count-append (block_outline block) (blocks_outline flow) in
     let own = ap table_count (block_outline-out block) in
     let first = block_numbered n each (out-Block block) k (alone flow ++ rest) (omega (arith, counts, own))
     (subst (IsNumberedFrom k) split numbered) in
@@ -180,12 +181,12 @@ numbered (suc n) node k rest few is =
     ap (λ (es : Entries). es ++ rest) (alone-table node)
     ∙ ap (λ (es : Entries). table (out-TableNode node).number ∷ es) (append_assoc (alone blocks) (table_end ∷ []) rest) in
     let from : IsNumberedFrom k (table (out-TableNode node).number ∷ (alone blocks ++ table_end ∷ rest)) = subst (IsNumberedFrom k) opened is in
-    let fewer : table_count (flow_outline blocks) ≤ n = omega (
+    let fewer : table_count (blocks_outline blocks) ≤ n = omega (
       arith,
       alone-count (outline node),
       ap table_count (alone-table node),
       count-append (alone blocks) (table_end ∷ []),
-      alone-count (flow_outline blocks),
+      alone-count (blocks_outline blocks),
     ) in
     let inside = flow_numbered n (numbered n) blocks (k + 1) (table_end ∷ rest) fewer from.1 in
     let same = tables_of_blocks node in (

@@ -2,21 +2,17 @@
 use Rattle.std.proofs.Common.{◌≡◌, ◌∙◌, ℕ, ◌<◌, List, [], ◌⊎◌, inl, inr, length, get_or, take, None, Some, refl, sym, ap, subst, arith}
 use Rattle.std.proofs.lemmas.Bool.{cases_lt}
 use Rattle.std.proofs.lemmas.List.{take_all, get_or_default}
+use Rattle.std.proofs.lemmas.Option.{same_Some, none-some}
 use Rattle.tl_problem.specs.Problem.{ProblemModel}
 use Rattle.tl_cert.specs.declared.certificate.Certificate.{Certificate}
 use Rattle.tl_cert.specs.declared.certificate.Claim.{Claim}
 use Rattle.tl_cert.specs.declared.certificate.Claim.TheVariants.{Lowest, Bounded, Narrow}
 use Rattle.tl_cert.specs.declared.section.Section.{Section}
+use Rattle.tl_cert.specs.Text.{IsNarrow}
 use Rattle.tl_form.specs.Expected.{Document, Due, due_after, IsDue}
 use Rattle.tl_form.specs.Refusals.{Fault, wrong_claim, wrong_chain, missing, extra, wrong_layout, wrong_trace, wrong_log}
 use Rattle.tl_form.specs.Refusals.{IsGoodUpTo, HasWrongChain, ComesTo, IsRefusedFor}
-use Rattle.tl_form.specs.Valid.{IsNarrow, IsClaimFor, AreTooWide, IsProblemAt, IsLaid, HasTrace, HasLog, IsGood, AreWhole, IsShown, IsValidFor, EndsWith}
-
-none_some : {X : Type 0} {x : X} → None ≡ Some x → ⊥
-none_some equal = cc
-
-some_is : {X : Type 0} {x y : X} → Some x ≡ Some y → x ≡ y
-some_is equal = cc
+use Rattle.tl_form.specs.Valid.{IsClaimFor, AreTooWide, IsProblemAt, IsLaid, HasTrace, HasLog, IsGood, AreWhole, IsShown, IsValidFor, EndsWith}
 
 -- a section has one problem, on what those before it tell
 abbrev pub HasOneProblem : Document → Type 0
@@ -85,10 +81,10 @@ module _ (document : Document) (budget : ℕ) (certificate : Certificate) (one_p
   same_here n one other (inl (none, inl first)) (inl (again, inr second)) = absurd (omega (arith, first.1, second.1))
   same_here n one other (inl (none, inr first)) (inl (again, inl second)) = absurd (omega (arith, first.1, second.1))
   same_here n one other (inl (none, inr first)) (inl (again, inr second)) = first.0 ∙ sym second.0
-  same_here n one other (inl first) (inr second) = absurd (none_some (sym first.0 ∙ second.1))
-  same_here n one other (inr first) (inl second) = absurd (none_some (sym second.0 ∙ first.1))
+  same_here n one other (inl first) (inr second) = absurd (none-some _ (sym first.0 ∙ second.1))
+  same_here n one other (inr first) (inl second) = absurd (none-some _ (sym second.0 ∙ first.1))
   same_here n one other (inr (due, is, inl first)) (inr (again, are, inl second)) =
-      first.0 ∙ ap (λ (d : Due). missing d.table) (some_is (sym is ∙ are)) ∙ sym second.0
+      first.0 ∙ ap (λ (d : Due). missing d.table) (same_Some _ _ (sym is ∙ are)) ∙ sym second.0
   same_here n one other (inr (due, is, inl first)) (inr (again, are, inr (section, comes, reason))) =
       absurd (first.1 section comes.there (subst (IsDue document (take n sections)) (sym comes.is) comes.due))
   same_here n one other (inr (due, is, inr (section, comes, reason))) (inr (again, are, inl second)) =
@@ -143,7 +139,7 @@ module _ (document : Document) (budget : ℕ) (certificate : Certificate) (one_p
     number,
     record {
       good = more.good;
-      stops = λ d there good. none_some (sym more.none ∙ good.due);
+      stops = λ d there good. none-some _ (sym more.none ∙ good.due);
     },
     inl (more.none, inr (refl, more.more)),
   ))
@@ -215,7 +211,7 @@ module _ (document : Document) (budget : ℕ) (certificate : Certificate) (one_p
       whole_stops claim same whole with_numbers (inr (inr (n, stop, inr (due, is_due, reason)))) is other = elim (cases_lt n (length sections)) [
         | inl there ↦ let d : Section = record { table = 0; width = 0; height = 0; lower = 0; widths = []; trace = []; log = [] } in
             stop.stops d there (whole.good n d there)
-        | inr past ↦ none_some (sym whole.none ∙ ap (due_after document) (sym (take_all n sections past)) ∙ is_due)
+        | inr past ↦ none-some _ (sym whole.none ∙ ap (due_after document) (sym (take_all n sections past)) ∙ is_due)
       ]
 
       by_claim : (claim : Claim) → certificate.claim ≡ claim → IsShown document budget certificate certificate.claim → Refused fault →

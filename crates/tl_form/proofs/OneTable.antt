@@ -9,14 +9,14 @@ use Rattle.std.proofs.lemmas.List.Sorted.{Contains-permutation, IsPermutation-ma
 use Rattle.tl_base.specs.Returned.{IsMemoryOr}
 use Rattle.tl_base.specs.declared.breaking.Breaking.{Breaking}
 use Rattle.tl_base.proofs.Members.{same-ordered}
-use Rattle.tl_base.proofs.Zips.{AllZip-get_or}
+use Rattle.tl_base.proofs.Zips.{AllZip-get_or, AllZip-append, AllZip-length}
 use Rattle.tl_grid.specs.declared.shape.Grid.{Grid}
 use Rattle.tl_grid.specs.declared.shape.Place.{Place}
 use Rattle.tl_grid.specs.declared.shape.Shape.{Shape}
 use Rattle.tl_grid.specs.declared.shape.ShapeGroup.{ShapeGroup}
 use Rattle.tl_grid.specs.declared.shape.SpanOf.{SpanOf}
 use Rattle.tl_grid.specs.Form.{HasGrid}
-use Rattle.tl_grid.proofs.Results.{each_ok}
+use Rattle.tl_grid.proofs.Results.{one_grid}
 use Rattle.tl_tree.specs.declared.node.Block.{Block, out-Block}
 use Rattle.tl_tree.specs.declared.node.Block.TheOpen as open_block
 use Rattle.tl_tree.specs.declared.node.CellNode.{CellNode, out-CellNode}
@@ -40,7 +40,6 @@ use Rattle.tl_form.specs.Same.{AreSameContent, AreSameCell, AreSameBy, AreSameWi
 use Rattle.tl_form.specs.Sound.{ComesBefore, place_of}
 use Rattle.tl_form.proofs.Gridless.{becomes_gridded, not_among}
 use Rattle.tl_form.proofs.SoundParts.{each_joined}
-use Rattle.tl_form.proofs.Writing.{joined_zip, zip_length}
 
 -- ---- items that belong together, in another order of each list
 
@@ -98,7 +97,7 @@ module _ (R : TableCell → TableCell → Type 0) (placed : (x y : TableCell) �
           let k = found.0 in
           let y = get_or ys k e in
           let one : R u y = subst (λ x. R x y) found.2 (AllZip-get_or R xs ys k u e all found.1) in
-          let many = zip_length R xs ys all in
+          let many = AllZip-length R xs ys all in
           let has = Contains-permutation ys vs y second (k, omega (arith, found.1), get_same ys k y e (omega (arith, found.1))) in
           let j = has.0 in
           let at : get_or (map place_of vs) j (place_of e) ≡ get_or (map place_of vs) i (place_of e) =
@@ -238,7 +237,7 @@ module _ (same : TableNode → TableNode → Type 0) where
   row_cells_same [] (y ∷ ys) is = absurd is
   row_cells_same (x ∷ xs) [] is = absurd is
   row_cells_same (x ∷ xs) (y ∷ ys) is =
-      joined_zip (λ c d. AreSameNode same (out-CellNode c) (out-CellNode d)) x (flat_map (λ (row : List CellNode). row) xs) y
+      AllZip-append (λ c d. AreSameNode same (out-CellNode c) (out-CellNode d)) x (flat_map (λ (row : List CellNode). row) xs) y
       (flat_map (λ (row : List CellNode). row) ys) is.0 (row_cells_same xs ys is.1)
 
   group_cells_same : (xs ys : List GroupNode) → AllZip (λ g h. AreSameGroup same (out-GroupNode g) (out-GroupNode h)) xs ys →
@@ -247,7 +246,7 @@ module _ (same : TableNode → TableNode → Type 0) where
   group_cells_same [] (y ∷ ys) is = absurd is
   group_cells_same (x ∷ xs) [] is = absurd is
   group_cells_same (x ∷ xs) (y ∷ ys) is =
-      joined_zip (λ c d. AreSameNode same (out-CellNode c) (out-CellNode d)) (cells_of_group (out-GroupNode x))
+      AllZip-append (λ c d. AreSameNode same (out-CellNode c) (out-CellNode d)) (cells_of_group (out-GroupNode x))
       (flat_map (λ g. cells_of_group (out-GroupNode g)) xs) (cells_of_group (out-GroupNode y)) (flat_map (λ g. cells_of_group (out-GroupNode g)) ys)
       (row_cells_same (out-GroupNode x).rows (out-GroupNode y).rows is.0.rows) (group_cells_same xs ys is.1)
 
@@ -262,9 +261,6 @@ module _ (same : TableNode → TableNode → Type 0) where
       ap (λ n. let s : Shape = record { columns = n; groups = map group_shape a.groups } in s) is.columns
       ∙ ap (λ groups. let s : Shape = record { columns = b.columns; groups = groups } in s) (groups_same a.groups b.groups is.groups)
 
-one_grid : (shape : Shape) (one two : Grid) → HasGrid shape one → HasGrid shape two → one ≡ two
-one_grid shape one two is are = each_ok shape (Ok one) is tt two are
-
 module _ (same : TableNode → TableNode → Type 0) (some other : TableNode → Table → Type 0) (twins : Table → Table → Type 0)
     (each : (a b : TableNode) (s t : Table) → same a b → some a s → other b t → twins s t) (breaking : Breaking) where
   table_twins : (a b : OpenNode) (s t : OpenTable) → AreSameTable same a b → BecomesBy some breaking a s → BecomesBy other breaking b t → AreSameBy twins s t
@@ -274,7 +270,7 @@ module _ (same : TableNode → TableNode → Type 0) (some other : TableNode →
     rows = first.rows ∙ ap (λ n. n + caption_rows a.caption) (ap (λ (g : Grid). g.rows) grids) ∙ ap (λ n. second.grid.rows + n) downs ∙ sym second.rows;
     cells = zip_sorted (λ c d. AreSameCell twins (out-TableCell c) (out-TableCell d)) (λ c d one. one.place) (first.caption ++ first.written)
         (second.caption ++ second.written) s.cells t.cells
-        (joined_zip (λ c d. AreSameCell twins (out-TableCell c) (out-TableCell d)) first.caption first.written second.caption second.written
+        (AllZip-append (λ c d. AreSameCell twins (out-TableCell c) (out-TableCell d)) first.caption first.written second.caption second.written
         (caption_twins same some other twins each breaking s.cols t.cols a.caption b.caption first.caption second.caption cols is.caption first.captioned
         second.captioned)
         (cells_twins same some other twins each breaking (cells_written a) (cells_written b) first.written second.written

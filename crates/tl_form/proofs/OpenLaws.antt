@@ -5,7 +5,6 @@ use Rattle.std.specs.List.{All, Any}
 use Rattle.std.proofs.lemmas.Bool.{cases_lt}
 use Rattle.std.proofs.lemmas.List.{get_or-take, get_or_default}
 use Rattle.std.proofs.lemmas.List.Elements.{All-nil, All-more, All-get_or, All-contains, All-from_recursion}
-use Rattle.tl_base.specs.declared.style.Style.{Style}
 use Rattle.tl_base.specs.Steps.{height_at}
 use Rattle.tl_problem.specs.Agreement.{LowIsHigh}
 use Rattle.tl_problem.specs.Problem.{ProblemModel}
@@ -18,8 +17,7 @@ use Rattle.tl_cert.specs.Traces.{zone_at}
 use Rattle.tl_cert.specs.Worked.{IsWorked}
 use Rattle.tl_cert.proofs.TraceLaws.{zones-are}
 use Rattle.tl_cert.proofs.WorkedLaws.{agree-everywhere}
-use Rattle.tl_form.specs.declared.cell.Table.{Table}
-use Rattle.tl_form.specs.ClosedLaws.{IsClosed, IsWideDocument}
+use Rattle.tl_form.specs.ClosedLaws.{IsClosed}
 use Rattle.tl_form.specs.Expected.{Document, least_of, own_number}
 use Rattle.tl_form.specs.Least.{IsLeastWidth}
 use Rattle.tl_form.specs.OpenLaws.{IsSpent, OpenSpends}

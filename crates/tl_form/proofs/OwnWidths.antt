@@ -7,6 +7,8 @@ use Rattle.std.proofs.lemmas.List.{take_more}
 use Rattle.std.proofs.lemmas.List.Concat.{flat_map-cons}
 use Rattle.tl_base.specs.declared.style.Style.{Style}
 use Rattle.tl_base.specs.Style.{gap_of, edge_of}
+use Rattle.tl_base.proofs.Zips.{AllZip-weaker}
+use Rattle.tl_base.proofs.Members.{AllByRecursion-append}
 use Rattle.tl_problem.specs.Sizes.{total}
 use Rattle.tl_text.specs.declared.paragraph.Atom.{Atom}
 use Rattle.tl_text.specs.Cuttings.{joined, HasCutting}
@@ -22,15 +24,15 @@ use Rattle.tl_form.specs.Least.{IsLeastWidth}
 use Rattle.tl_form.specs.Chains.{widest_unit, widest_in, widest_among, own_width}
 use Rattle.tl_form.specs.inner.LeastRooms.{IsLeastRoom}
 use Rattle.tl_form.specs.inner.Links.{IsOther, AreOthers}
-use Rattle.tl_form.proofs.Deeper.{AllZip-weaker, FitsShare-weaker, FitsWithin-deeper, FitsWithin-deeper', FitsWithin-wider}
+use Rattle.tl_form.proofs.Deeper.{FitsShare-weaker, FitsWithin-deeper, FitsWithin-deeper', FitsWithin-wider}
 
 -- ---- paragraphs
 
-fit_of_widest : (w : ℕ) (atoms : List Atom) → widest_unit atoms ≤ w → AllFit w atoms
+pub fit_of_widest : (w : ℕ) (atoms : List Atom) → widest_unit atoms ≤ w → AllFit w atoms
 fit_of_widest w [] narrow = tt
 fit_of_widest w (atom ∷ atoms) narrow = (omega arith, fit_of_widest w atoms (omega arith))
 
-widest_of_fit : (w : ℕ) (atoms : List Atom) → AllFit w atoms → widest_unit atoms ≤ w
+pub widest_of_fit : (w : ℕ) (atoms : List Atom) → AllFit w atoms → widest_unit atoms ≤ w
 widest_of_fit w [] fit = omega arith
 widest_of_fit w (atom ∷ atoms) fit = omega (arith, fit.0, widest_of_fit w atoms fit.1)
 
@@ -65,10 +67,6 @@ tables_of-fit : (fits : Table → ℕ → ℕ → Layout → Type 0) (w : ℕ) (
 tables_of-fit fits w (open_content.Para paragraph) share one = tt
 tables_of-fit fits w (open_content.Table box) share one = ((one.height, one.layout, one.laid), tt)
 
-append_each : {X : Type 0} (P : X → Type 0) (xs ys : List X) → AllByRecursion P xs → AllByRecursion P ys → AllByRecursion P (xs ++ ys)
-append_each P [] ys one other = other
-append_each P (x ∷ xs) ys one other = (one.0, append_each P xs ys one.1 other)
-
 tables_among-fit : (fits : Table → ℕ → ℕ → Layout → Type 0) (w : ℕ) (blocks : List Content) (shares : List Share) →
     AllZip (λ block share. FitsShare fits w (out-Content block) share) blocks shares →
     AllByRecursion (λ table. (height : ℕ) × (layout : Layout) × fits table w height layout) (flat_map (λ block. tables_of (out-Content block)) blocks)
@@ -77,7 +75,7 @@ tables_among-fit fits w (block ∷ blocks) [] all = absurd all
 tables_among-fit fits w (block ∷ blocks) (share ∷ shares) all =
     subst (AllByRecursion (λ table. (height : ℕ) × (layout : Layout) × fits table w height layout))
     (sym (flat_map-cons (λ one. tables_of (out-Content one)) block blocks))
-    (append_each (λ table. (height : ℕ) × (layout : Layout) × fits table w height layout) (tables_of (out-Content block))
+    (AllByRecursion-append (λ table. (height : ℕ) × (layout : Layout) × fits table w height layout) (tables_of (out-Content block))
     (flat_map (λ one. tables_of (out-Content one)) blocks)
     (tables_of-fit fits w (out-Content block) share all.0) (tables_among-fit fits w blocks shares all.1))
 
@@ -126,11 +124,6 @@ shares_in style v (block ∷ blocks) narrow each =
             (FitsWithin-deeper one.0 rest.0 style) v (out-Content other) share fits) rest.2,
       ),
     )
-
--- where no nested table's least width is a cell's least room, its own width is
-weaker_blocks : {X : Type 0} (P Q : X → Type 0) (xs : List X) → ((x : X) → P x → Q x) → AllByRecursion P xs → AllByRecursion Q xs
-weaker_blocks P Q [] weaker all = tt
-weaker_blocks P Q (x ∷ xs) weaker all = (weaker x all.0, weaker_blocks P Q xs weaker all.1)
 
 others_below : (style : Style) (w depth : ℕ) (blocks : List Content) (shares : List Share) →
     AllZip (λ block share. FitsShare (FitsWithin depth style) w (out-Content block) share) blocks shares →

@@ -1,22 +1,20 @@
 -- The height of a placement beside what its table holds.
-use Rattle.std.proofs.Common.{◌≡◌, ℕ, zero, suc, ◌+◌, ◌*◌, ◌<◌, ◌≤◌, List, [], ◌∷◌, length, get_or, map, Some, sum_by, refl, sym, ap, subst, ◌∙◌, arith}
+use Rattle.std.proofs.Common.{◌≡◌, ℕ, zero, suc, ◌+◌, ◌*◌, ◌<◌, ◌≤◌, List, [], ◌∷◌, length, get_or, sum_by, refl, sym, ap, subst, ◌∙◌, arith}
 use Rattle.std.specs.List.{All, AllZip, AllByRecursion, Any, range_with_len}
-use Rattle.std.proofs.lemmas.List.{get_or_default}
 use Rattle.std.proofs.lemmas.List.Elements.{recursion_from_All, All-from_recursion}
 use Rattle.std.proofs.lemmas.List.FromFn.{get_or-range_with_len, length-range_with_len}
 use Rattle.std.proofs.lemmas.List.Sums.{sum_by-cons}
 use Rattle.tl_base.specs.declared.style.Style.{Style}
-use Rattle.tl_base.specs.Style.{gap_of, row_gap_of, edge_of}
-use Rattle.tl_base.specs.Steps.{AreSteps, IsLowAt, first_height, first_width, height_at}
+use Rattle.tl_base.specs.Style.{row_gap_of, edge_of}
+use Rattle.tl_base.specs.Steps.{AreSteps, first_height, first_width}
+use Rattle.tl_base.proofs.Zips.{AllZip-length}
 use Rattle.tl_grid.specs.declared.shape.Place.{Place}
 use Rattle.tl_grid.specs.Dropping.{IsPlaced}
 use Rattle.tl_problem.specs.declared.cell.Cell.{Cell}
 use Rattle.tl_problem.specs.declared.placed.Placed.{Placed}
-use Rattle.tl_problem.specs.Sizes.{position, room, total}
 use Rattle.tl_problem.specs.Problem.{ProblemModel, cell_height, cell_width, total_height}
 use Rattle.tl_problem.specs.Layouts.{GiveHigh}
 use Rattle.tl_problem.specs.Placements.{IsPlacement}
-use Rattle.tl_problem.specs.Sound.{greatest_height}
 use Rattle.tl_problem.proofs.Heights.{IsLowAt-from, IsLowAt-higher, height-from_low}
 use Rattle.tl_problem.proofs.SizeLaws.{total-le}
 use Rattle.tl_form.specs.declared.cell.Content.{out-Content}
@@ -24,12 +22,11 @@ use Rattle.tl_form.specs.declared.cell.Table.{Table, out-Table}
 use Rattle.tl_form.specs.declared.cell.TableCell.{TableCell, out-TableCell}
 use Rattle.tl_form.specs.declared.heights.InnerSteps.{InnerSteps}
 use Rattle.tl_form.specs.Problems.{InnerNeeds, IsCellBy, IsProblemOf}
-use Rattle.tl_form.specs.Sound.{IsSoundBy, IsSoundWithin, IsSpelt, cell_size, place_of, table_size}
+use Rattle.tl_form.specs.Sound.{IsSoundBy, IsSoundWithin, IsSpelt, place_of, table_size}
 use Rattle.tl_form.specs.SoundProblems.{AreSoundPremises}
 use Rattle.tl_form.proofs.LowPlacements.{length-rows, row_heights, row_weight, rows-enough, rows-total, weight-le}
 use Rattle.tl_form.proofs.NeedSteps.{first-least, height-falls, height-first}
-use Rattle.tl_form.proofs.ProblemCells.{greatest-first}
-use Rattle.tl_form.proofs.SafeProblems.{any-made, cells-small, have, made_place, placed-cells, places-same}
+use Rattle.tl_form.proofs.SafeProblems.{any-made, cells-small, have, placed-cells, places-same}
 use Rattle.tl_form.proofs.SizesOpen.{table_size-out}
 
 -- a cell of the problem has steps, and rows in the grid
@@ -47,20 +44,13 @@ in-rows lows highs page cols n (cell ∷ cells) (one ∷ made) of placed = (
   in-rows lows highs page cols n cells made of.1 placed.1,
 )
 
-zip-length : {A B : Type 0} (R : A → B → Type 0) (xs : List A) (ys : List B) → AllZip R xs ys → length xs ≡ length ys
-zip-length R [] [] all = refl
-zip-length R [] (y ∷ ys) all = absurd all
-zip-length R (x ∷ xs) [] all = absurd all
-zip-length R (x ∷ xs) (y ∷ ys) all = let rest = zip-length R xs ys all.1 in omega (arith, rest)
-
-sum-heights : (made : List Cell) → sum_by (λ one. first_height one.high + 1) made ≡ sum_by (λ one. greatest_height one.high) made + length made
+sum-heights : (made : List Cell) → sum_by (λ one. first_height one.high + 1) made ≡ sum_by (λ one. first_height one.high) made + length made
 sum-heights [] = refl
 sum-heights (one ∷ made) =
     omega (
       arith,
       sum_by-cons (λ (any : Cell). first_height any.high + 1) one made,
-      sum_by-cons (λ (any : Cell). greatest_height any.high) one made,
-      greatest-first one.high,
+      sum_by-cons (λ (any : Cell). first_height any.high) one made,
       sum-heights made,
     )
 
@@ -93,7 +83,7 @@ module _ (problem : ProblemModel) (placed : Placed) (placement : IsPlacement pro
       (placement.rows.earliest (row_heights problem.cells problem.rows) give (length placed.heights) (omega arith))
 
   pub height-low : AllByRecursion (λ row. 1 ≤ row_weight problem.cells row) (range_with_len 0 problem.rows) →
-      (some : ℕ) → sum_by (λ one. greatest_height one.high) problem.cells + 2 * length problem.cells ≤ some → placed.height ≤ some
+      (some : ℕ) → sum_by (λ one. first_height one.high) problem.cells + 2 * length problem.cells ≤ some → placed.height ≤ some
   height-low rows some small =
       by-rows problem.rows refl problem.cells refl
     where
@@ -133,7 +123,7 @@ module _ (table : Table) (style : Style) (page : ℕ) (inner : List InnerSteps) 
         cells-small inner style page (out-Table table).cells problem.cells of.made (have table style page inner given)
             (recursion_from_All (λ cell. AllByRecursion (λ block. IsSpelt (out-Content block)) (out-TableCell cell).blocks) (out-Table table).cells by.spelt),
         table_size-out table,
-        zip-length (λ cell one. IsCellBy (InnerNeeds (λ any. any.low) inner) (InnerNeeds (λ any. any.high) inner) page (out-TableCell cell) one)
+        AllZip-length (λ cell one. IsCellBy (InnerNeeds (λ any. any.low) inner) (InnerNeeds (λ any. any.high) inner) page (out-TableCell cell) one)
             (out-Table table).cells problem.cells of.made,
       ))
     where

@@ -1,17 +1,20 @@
 -- What a sound problem of a table tells of its cells, and what its cells tell of it.
-use Rattle.std.proofs.Common.{◌≡◌, ℕ, zero, suc, ◌+◌, ◌<◌, ◌≤◌, ◌↔◌, List, [], ◌∷◌, ◌++◌, length, take, get_or, Option, Some, None, sum_by, refl}
+use Rattle.std.proofs.Common.{◌≡◌, ℕ, ◌+◌, ◌<◌, ◌≤◌, List, [], ◌∷◌, ◌++◌, length, take, get_or, Option, Some, None, sum_by, refl}
 use Rattle.std.proofs.Common.{sym, ap, subst, ◌∙◌, arith}
-use Rattle.std.specs.List.{All, AllZip, AllByRecursion}
+use Rattle.std.specs.List.{AllZip, AllByRecursion}
 use Rattle.std.specs.Option.{IsSome, IsSomeAnd}
-use Rattle.std.proofs.lemmas.List.Elements.{recursion_from_All, All-from_recursion, All-get_or}
+use Rattle.std.proofs.lemmas.List.Elements.{recursion_from_All}
 use Rattle.std.proofs.lemmas.List.Sums.{sum_by-cons}
 use Rattle.tl_base.specs.declared.limits.TheConstants.{MAX_HEIGHT}
 use Rattle.tl_base.specs.declared.steps.Config.{Config}
 use Rattle.tl_base.specs.declared.style.Style.{Style}
-use Rattle.tl_base.specs.Steps.{AreSteps, IsLowAt, first_height, first_width, height_at}
+use Rattle.tl_base.specs.Steps.{first_height, first_width, height_at}
+use Rattle.tl_base.proofs.Members.{AllByRecursion-append}
+use Rattle.tl_base.proofs.Stacking.{first_width-within}
+use Rattle.tl_base.proofs.Zips.{AllZip-push}
 use Rattle.tl_problem.specs.declared.cell.Cell.{Cell}
 use Rattle.tl_problem.specs.Problem.{ProblemModel}
-use Rattle.tl_problem.specs.Sound.{IsSound, IsSoundCell, greatest_height}
+use Rattle.tl_problem.specs.Sound.{IsSound, IsSoundCell}
 use Rattle.tl_problem.proofs.Heights.{IsLowAt-from, height-from_first, height-from_low}
 use Rattle.tl_form.specs.declared.cell.Content.{out-Content}
 use Rattle.tl_form.specs.declared.cell.Table.{Table, out-Table}
@@ -22,31 +25,25 @@ use Rattle.tl_form.specs.Tables.{OpenCell, inner_tables, tables_in, tables_of}
 use Rattle.tl_form.specs.Problems.{AreStepsOf, CellNeeds, InnerNeeds, IsCellBy, IsProblemOf, HasSoundProblem, steps_for}
 use Rattle.tl_form.specs.inner.CellSteps.{AreLowCells, HaveSteps, IsLowByBoth, IsLowCell, IsStart, NeedsBy}
 use Rattle.tl_form.proofs.CellNeedLemmas.{IsFunctional, cell-functional, inner-functional}
-use Rattle.tl_form.proofs.LeastRoomLemmas.{AllZip-push}
 use Rattle.tl_form.proofs.NeedSteps.{first-least, height-first}
-use Rattle.tl_form.proofs.ProblemTruth.{cell-inside, joined-each, same-problem}
-use Rattle.tl_form.proofs.SoundParts.{append_each, each_joined, weaker_each}
+use Rattle.tl_form.proofs.ProblemTruth.{cell-inside, same-problem}
+use Rattle.tl_form.proofs.SoundParts.{each_joined, joined-each}
 use Rattle.std.proofs.lemmas.List.{take_more}
 
 -- ---- the steps of a cell
-
--- the first step is within the page
-pub first-within : (page : ℕ) (steps : List Config) → AreSteps steps → All (λ step. step.width ≤ page) steps → first_width steps ≤ page
-first-within page [] are within = absurd (omega (arith, are.has_step))
-first-within page (step ∷ steps) are within = within 0 step (omega arith)
 
 module _ (needs : Table → ℕ → ℕ → Type 0) (functional : IsFunctional needs) (page : ℕ) (cell : OpenCell) (steps : List Config)
     (of : AreStepsOf (CellNeeds needs cell) page steps) where
   -- the cell has a height where they begin
   pub first-need : CellNeeds needs cell (first_width steps) (first_height steps)
-  first-need = (of.each (first_width steps) (first_height steps) (first-within page steps of.decreasing of.within)).0 (height-first steps of.decreasing)
+  first-need = (of.each (first_width steps) (first_height steps) (first_width-within page steps of.decreasing of.within)).0 (height-first steps of.decreasing)
 
   pub low-from_steps : first_height steps ≤ MAX_HEIGHT → IsLowCell needs page cell
   low-from_steps small = record {
-    some = let some = height-from_first steps of.decreasing.has_step page (first-within page steps of.decreasing of.within) in
+    some = let some = height-from_first steps of.decreasing.has_step page (first_width-within page steps of.decreasing of.within) in
         (some.0, (of.each page some.0 (omega arith)).0 some.1);
     low = λ start h begins need.
-        let inside = first-within page steps of.decreasing of.within in
+        let inside = first_width-within page steps of.decreasing of.within in
         let before = begins.from (first_width steps) (first_height steps) first-need in
         let after = first-least steps of.decreasing start h ((of.each start h (omega (arith, before, inside))).1 need) in
         let same : first_width steps ≡ start = omega (arith, before, after) in
@@ -56,10 +53,6 @@ module _ (needs : Table → ℕ → ℕ → Type 0) (functional : IsFunctional n
   }
 
 -- ---- a sound cell is low by both bounds
-
-pub greatest-first : (steps : List Config) → greatest_height steps ≡ first_height steps
-greatest-first [] = refl
-greatest-first (step ∷ steps) = refl
 
 low-first : (problem : ProblemModel) (made : Cell) → IsSoundCell problem made → first_height made.low ≤ first_height made.high
 low-first problem made sound =
@@ -77,18 +70,17 @@ module _ (inner : List InnerSteps) (page : ℕ) where
   MadeBy cell made = IsCellBy (NeedsBy Low inner) (NeedsBy High inner) page (out-TableCell cell) made
 
   low-cells : (problem : ProblemModel) (cells : List TableCell) (made : List Cell) → AllZip MadeBy cells made →
-      AllByRecursion (IsSoundCell problem) made → sum_by (λ one. greatest_height one.high) made ≤ MAX_HEIGHT → AreLowCells inner page cells
+      AllByRecursion (IsSoundCell problem) made → sum_by (λ one. first_height one.high) made ≤ MAX_HEIGHT → AreLowCells inner page cells
   low-cells problem [] made of sound small = tt
   low-cells problem (cell ∷ cells) [] of sound small = absurd of
   low-cells problem (cell ∷ cells) (one ∷ made) of sound small =
-      let all = sum_by-cons (λ (any : Cell). greatest_height any.high) one made in
-      let high = greatest-first one.high in
+      let all = sum_by-cons (λ (any : Cell). first_height any.high) one made in
       let low = low-first problem one sound.0 in (
         record {
           by_low = low-from_steps (NeedsBy Low inner) (inner-functional (λ any. any.low) inner) page (out-TableCell cell) one.low of.0.low
-              (omega (arith, all, high, low, small));
+              (omega (arith, all, low, small));
           by_high = low-from_steps (NeedsBy High inner) (inner-functional (λ any. any.high) inner) page (out-TableCell cell) one.high of.0.high
-              (omega (arith, all, high, small));
+              (omega (arith, all, small));
         },
         low-cells problem cells made of.1 sound.1 (omega (arith, all, small)),
       )
@@ -192,7 +184,7 @@ pub low-more-cells : (inner : List InnerSteps) (page : ℕ) (cells : List TableC
     AreLowCells inner page (take (k + 1) cells)
 low-more-cells inner page cells k cell inside is before here =
     subst (AreLowCells inner page) (sym (take_more cells k cell inside ∙ ap (λ last. take k cells ++ last ∷ []) (sym is)))
-    (append_each (λ any. IsLowByBoth inner page (out-TableCell any)) (take k cells) (cell ∷ []) before (here, tt))
+    (AllByRecursion-append (λ any. IsLowByBoth inner page (out-TableCell any)) (take k cells) (cell ∷ []) before (here, tt))
 
 -- the same from each block, from each cell, and one more of them
 pub blocks-have : (inner : List InnerSteps) (cell : OpenCell) → AllByRecursion (λ block. HaveSteps inner (tables_of (out-Content block))) cell.blocks →
@@ -209,4 +201,4 @@ pub have-more : {X : Type 0} (P : X → Type 0) (xs : List X) (k : ℕ) (x : X) 
     AllByRecursion P (take (k + 1) xs)
 have-more P xs k x inside is before here =
     subst (AllByRecursion P) (sym (take_more xs k x inside ∙ ap (λ last. take k xs ++ last ∷ []) (sym is)))
-    (append_each P (take k xs) (x ∷ []) before (here, tt))
+    (AllByRecursion-append P (take k xs) (x ∷ []) before (here, tt))

@@ -1,6 +1,6 @@
 -- Layouts of a table and of its problem: a layout that fits is one by bounds below, and one by bounds above is one that
 -- fits.
-use Rattle.std.proofs.Common.{◌≡◌, ℕ, zero, suc, ◌+◌, ◌<◌, ◌≤◌, List, [], ◌∷◌, ◌++◌, length, Some, sum, sum_by, refl, sym, ap, subst, ◌∙◌, arith}
+use Rattle.std.proofs.Common.{◌≡◌, ℕ, ◌+◌, ◌<◌, ◌≤◌, List, [], ◌∷◌, length, Some, sum, sum_by, refl, sym, ap, subst, ◌∙◌, arith}
 use Rattle.std.specs.List.{All, AllZip, AllByRecursion, flat_map}
 use Rattle.std.proofs.lemmas.List.Elements.{recursion_from_All, All-from_recursion}
 use Rattle.std.proofs.lemmas.List.Sums.{sum_by-cons}
@@ -8,27 +8,28 @@ use Rattle.tl_base.specs.declared.style.Style.{Style}
 use Rattle.tl_base.specs.Style.{gap_of, row_gap_of, edge_of}
 use Rattle.tl_base.specs.Steps.{AreSteps, IsLowAt, first_width, height_at}
 use Rattle.tl_base.proofs.Sums.{sum-cons}
+use Rattle.tl_base.proofs.Members.{AllByRecursion-weaker}
+use Rattle.tl_base.proofs.Zips.{AllZip-weaker}
 use Rattle.tl_problem.specs.declared.cell.Cell.{Cell}
-use Rattle.tl_problem.specs.Sizes.{position, room, total}
-use Rattle.tl_problem.specs.Problem.{ProblemModel, cell_height, cell_width, total_height, total_width}
-use Rattle.tl_problem.specs.Layouts.{GiveHeights, IsLayoutByLow, IsLayoutByHigh, WithinPage}
+use Rattle.tl_problem.specs.Sizes.{room, total}
+use Rattle.tl_problem.specs.Problem.{ProblemModel, total_height, total_width}
+use Rattle.tl_problem.specs.Layouts.{IsLayoutByLow, IsLayoutByHigh}
 use Rattle.tl_problem.specs.Sound.{IsSound, IsSoundCell}
 use Rattle.tl_problem.proofs.Heights.{IsLowAt-from, IsLowAt-higher, height-from_low}
-use Rattle.tl_problem.proofs.SizeLaws.{position-mono, room-position, total-position}
-use Rattle.tl_text.specs.Cuttings.{LeastLines, joined}
+use Rattle.tl_problem.proofs.SizeLaws.{room-total}
 use Rattle.tl_text.proofs.Minimals.{AllFit-from_cutting}
 use Rattle.tl_form.specs.declared.cell.Content.{Content, out-Content}
 use Rattle.tl_form.specs.declared.cell.Content.TheOpen as open_content
-use Rattle.tl_form.specs.declared.cell.Table.{Table, out-Table}
+use Rattle.tl_form.specs.declared.cell.Table.{Table}
 use Rattle.tl_form.specs.declared.cell.TableCell.{TableCell, out-TableCell}
-use Rattle.tl_form.specs.declared.layout.Layout.{Layout, out-Layout, roll-Layout, out-roll-Layout}
+use Rattle.tl_form.specs.declared.layout.Layout.{Layout}
 use Rattle.tl_form.specs.Tables.{OpenTable, OpenCell, OpenContent, inner_tables, tables_in, tables_of}
-use Rattle.tl_form.specs.Layouts.{OpenLayout, Share, Fits, FitsBy, FitsCell, FitsInside, FitsRoom, FitsShare, FitsWithin}
+use Rattle.tl_form.specs.Layouts.{OpenLayout, Share, Fits, FitsBy, FitsCell, FitsRoom, FitsShare, FitsWithin}
 use Rattle.tl_form.specs.Problems.{BlockNeeds, CellNeeds, IsCellBy, IsProblemBy}
-use Rattle.tl_form.proofs.Deeper.{FitsRoom-higher, FitsShare-weaker, FitsRoom-weaker, FitsWithin-deeper, FitsWithin-deeper'}
+use Rattle.tl_form.proofs.Deeper.{FitsShare-weaker, FitsRoom-weaker, FitsWithin-deeper}
 use Rattle.tl_form.proofs.NeedSteps.{first-least}
 use Rattle.tl_form.proofs.ParagraphSteps.{lines-from_fit}
-use Rattle.tl_form.proofs.SoundParts.{both_each, each_joined, weaker_each}
+use Rattle.tl_form.proofs.SoundParts.{both_each, each_joined}
 
 -- ---- a cell that fits a room needs no more than the room has, by bounds below
 
@@ -144,12 +145,6 @@ gather P deeper (x ∷ xs) (y ∷ ys) all =
       ),
     )
 
-weaker-zip : {A B : Type 0} (P Q : A → B → Type 0) (xs : List A) (ys : List B) → ((x : A) (y : B) → P x y → Q x y) → AllZip P xs ys → AllZip Q xs ys
-weaker-zip P Q [] [] weaker all = tt
-weaker-zip P Q [] (y ∷ ys) weaker all = absurd all
-weaker-zip P Q (x ∷ xs) [] weaker all = absurd all
-weaker-zip P Q (x ∷ xs) (y ∷ ys) weaker all = (weaker x y all.0, weaker-zip P Q xs ys weaker all.1)
-
 module _ (style : Style) where
   -- a table's layouts, of any depth
   abbrev FitsAny : Table → ℕ → ℕ → Layout → Type 0
@@ -169,7 +164,7 @@ module _ (style : Style) where
       let all = gather (λ depth block share. FitsShare (FitsWithin depth style) w (out-Content block) share)
       (λ more depth block share one. FitsShare-weaker (FitsWithin depth style) (FitsWithin (more + depth) style)
       (FitsWithin-deeper more depth style) w (out-Content block) share one) cell.blocks held.shares
-      (weaker-zip (λ block share. FitsShare FitsAny w (out-Content block) share)
+      (AllZip-weaker (λ block share. FitsShare FitsAny w (out-Content block) share)
       (λ block share. (depth : ℕ) × FitsShare (FitsWithin depth style) w (out-Content block) share) cell.blocks held.shares
       (λ block share one. share-at w (out-Content block) share one) held.blocks) in (
         all.0,
@@ -185,7 +180,7 @@ module _ (style : Style) where
       (FitsWithin-deeper more depth style) (room (gap_of style) layout.widths (out-TableCell cell).place.left (out-TableCell cell).place.right)
       (room (row_gap_of style) layout.heights (out-TableCell cell).place.top (out-TableCell cell).place.bottom) (out-TableCell cell) inner one)
       table.cells held.parts
-      (weaker-zip (λ cell inner. FitsCell FitsAny style layout (out-TableCell cell) inner)
+      (AllZip-weaker (λ cell inner. FitsCell FitsAny style layout (out-TableCell cell) inner)
       (λ cell inner. (depth : ℕ) × FitsCell (FitsWithin depth style) style layout (out-TableCell cell) inner) table.cells held.parts
       (λ cell inner one. room-at (room (gap_of style) layout.widths (out-TableCell cell).place.left (out-TableCell cell).place.right)
       (room (row_gap_of style) layout.heights (out-TableCell cell).place.top (out-TableCell cell).place.bottom) (out-TableCell cell) inner one)
@@ -203,14 +198,6 @@ module _ (style : Style) where
       )
 
 -- ---- rooms are no wider than the page
-
-pub room-total : (gap edge : ℕ) (sizes : List ℕ) (left right : ℕ) → left < right → right ≤ length sizes →
-    room gap sizes left right ≤ total gap edge sizes
-room-total gap edge sizes left right ahead within =
-    let whole = total-position gap edge sizes (omega (arith, ahead, within)) in
-    let span = room-position gap sizes left right ahead in
-    let before = position-mono gap sizes right (length sizes) within in
-    omega (arith, whole, span, before)
 
 -- ---- layouts of the table are layouts of its problem by bounds below
 
@@ -266,13 +253,14 @@ module _ (lows highs : Table → ℕ → ℕ → Type 0) (style : Style) (page :
 
   pub sound-in_grid : (problem : ProblemModel) → IsSound problem → AreInGrid problem
   sound-in_grid problem sound =
-      weaker_each (IsSoundCell problem) (λ one. (one.left < one.right) × (one.right ≤ problem.cols)) problem.cells (λ one is. is.columns)
+      AllByRecursion-weaker (IsSoundCell problem) (λ one. (one.left < one.right) × (one.right ≤ problem.cols)) problem.cells (λ one is. is.columns)
       (recursion_from_All (IsSoundCell problem) problem.cells sound.cells)
 
   placed-in : (problem : ProblemModel) (widths : List ℕ) → AreInGrid problem → length widths ≡ problem.cols →
       AllByRecursion (λ one. (one.left < one.right) × (one.right ≤ length widths)) problem.cells
   placed-in problem widths placed columns =
-      weaker_each (λ one. (one.left < one.right) × (one.right ≤ problem.cols)) (λ one. (one.left < one.right) × (one.right ≤ length widths)) problem.cells
+      AllByRecursion-weaker (λ one. (one.left < one.right) × (one.right ≤ problem.cols))
+      (λ one. (one.left < one.right) × (one.right ≤ length widths)) problem.cells
       (λ one is. (is.0, omega (arith, is.1, columns))) placed
 
   -- each cell's `low` is steps
@@ -296,7 +284,7 @@ module _ (lows highs : Table → ℕ → ℕ → Type 0) (style : Style) (page :
             (subst (λ w. total (gap_of style) (edge_of style) layout.widths ≤ w) (sym of.wide) held.within);
         cells = subst (λ s. All (λ one. first_width one.low ≤ room (gap_of s) layout.widths one.left one.right) problem.cells) (sym of.drawn)
             (All-from_recursion (λ one. first_width one.low ≤ room (gap_of style) layout.widths one.left one.right) problem.cells
-            (weaker_each (λ one. AreSteps one.low × HasRoom layout.widths layout.heights one)
+            (AllByRecursion-weaker (λ one. AreSteps one.low × HasRoom layout.widths layout.heights one)
             (λ one. first_width one.low ≤ room (gap_of style) layout.widths one.left one.right) problem.cells
             (λ one both. first-least one.low both.0 (room (gap_of style) layout.widths one.left one.right) both.1.0 both.1.1) both));
       };
@@ -306,7 +294,7 @@ module _ (lows highs : Table → ℕ → ℕ → Type 0) (style : Style) (page :
             (room (gap_of s) layout.widths one.left one.right)) problem.cells) (sym of.drawn)
             (All-from_recursion (λ one. IsLowAt one.low (room (row_gap_of style) layout.heights one.top one.bottom)
             (room (gap_of style) layout.widths one.left one.right)) problem.cells
-            (weaker_each (HasRoom layout.widths layout.heights)
+            (AllByRecursion-weaker (HasRoom layout.widths layout.heights)
             (λ one. IsLowAt one.low (room (row_gap_of style) layout.heights one.top one.bottom) (room (gap_of style) layout.widths one.left one.right))
             problem.cells
             (λ one has. IsLowAt-higher one.low has.0 (room (row_gap_of style) layout.heights one.top one.bottom)
@@ -394,7 +382,7 @@ module _ (lows highs : Table → ℕ → ℕ → Type 0) (style : Style) (page :
 
     enough : AllByRecursion (IsEnough widths heights) problem.cells
     enough =
-        weaker_each (λ one. ((one.left < one.right) × (one.right ≤ length widths))
+        AllByRecursion-weaker (λ one. ((one.left < one.right) × (one.right ≤ length widths))
         × IsLowAt one.high (room (row_gap_of style) heights one.top one.bottom) (room (gap_of style) widths one.left one.right))
         (IsEnough widths heights) problem.cells
         (λ one both. (omega (arith, room-total (gap_of style) (edge_of style) widths one.left one.right both.0.0 both.0.1, narrow), both.1))

@@ -1,14 +1,12 @@
 -- The problem of a table is determined, its steps lie round the true ones, and it is the true problem where the bounds
 -- of nested tables meet.
-use Rattle.std.proofs.Common.{◌≡◌, ℕ, zero, suc, ◌+◌, ◌<◌, ◌≤◌, ◌↔◌, List, [], ◌∷◌, length, Some, sum, refl, sym, ap, subst, ◌∙◌, arith}
-use Rattle.std.specs.List.{All, AllZip, AllByRecursion, flat_map}
-use Rattle.std.proofs.lemmas.List.Concat.{flat_map-cons}
+use Rattle.std.proofs.Common.{◌≡◌, ℕ, zero, suc, ◌≤◌, List, [], ◌∷◌, refl, sym, ap, subst, ◌∙◌, arith}
+use Rattle.std.specs.List.{AllZip, AllByRecursion}
 use Rattle.std.proofs.lemmas.List.Elements.{recursion_from_All, All-from_recursion}
 use Rattle.tl_base.specs.declared.style.Style.{Style}
-use Rattle.tl_base.specs.Style.{gap_of, row_gap_of, edge_of}
-use Rattle.tl_base.specs.Steps.{IsLowAt, height_at}
+use Rattle.tl_base.specs.Steps.{IsLowAt}
+use Rattle.tl_base.proofs.Members.{AllByRecursion-weaker}
 use Rattle.tl_problem.specs.declared.cell.Cell.{Cell}
-use Rattle.tl_problem.specs.Sizes.{total}
 use Rattle.tl_problem.specs.Problem.{ProblemModel, cell_height, cell_width, total_height, total_width}
 use Rattle.tl_problem.specs.Layouts.{IsLayoutByLow, IsLayoutByHigh}
 use Rattle.tl_problem.specs.Sound.{IsSound}
@@ -22,13 +20,13 @@ use Rattle.tl_form.specs.declared.layout.Layout.{Layout, out-Layout, roll-Layout
 use Rattle.tl_form.specs.Tables.{OpenTable, OpenCell, OpenContent, inner_tables, tables_in, tables_of}
 use Rattle.tl_form.specs.Layouts.{OpenLayout, Fits, FitsBy, FitsWithin}
 use Rattle.tl_form.specs.Least.{IsLeastHeight}
-use Rattle.tl_form.specs.Problems.{AreStepsOf, BlockNeeds, CellNeeds, InnerNeeds, IsCellBy, IsProblemBy, IsProblemOf, IsTrueProblem}
+use Rattle.tl_form.specs.Problems.{BlockNeeds, CellNeeds, InnerNeeds, IsCellBy, IsProblemBy, IsProblemOf, IsTrueProblem}
 use Rattle.tl_form.specs.ProblemLaws.{IsBelowLayouts, IsAboveLayouts, LowIsBelow, HighIsAbove, BoundsMeet, IsBetween, IsLeastByHigh}
 use Rattle.tl_form.proofs.CellNeedLemmas.{IsFunctional, cell-functional, inner-functional}
-use Rattle.tl_form.proofs.Deeper.{FitsWithin-wider}
 use Rattle.tl_form.proofs.NeedSteps.{AreStepsOf-same, AreStepsOf-unique}
 use Rattle.tl_form.proofs.ProblemLayouts.{IsBelowAt, IsAboveAt, cell-below, cell-above, fits-from_any, layout-low, layout-high, sound-in_grid}
-use Rattle.tl_form.proofs.SoundParts.{append_each, both_each, each_joined, weaker_each}
+use Rattle.tl_form.proofs.SoundParts.{both_each, each_joined, joined-each}
+use Rattle.tl_form.proofs.Truth.{Fits-wider}
 
 -- ---- the problem is determined
 
@@ -76,10 +74,6 @@ fits-rolled style table width height layout held =
           (sym (out-roll-Layout layout)) at.1,
     )
 
-pub fits-wider : (style : Style) (table : Table) (width wider height : ℕ) (layout : Layout) → width ≤ wider → Fits table style width height layout →
-    Fits table style wider height layout
-fits-wider style table width wider height layout more (depth, held) = (depth, FitsWithin-wider depth style table width wider height layout more held)
-
 -- ---- a layout of the table by bounds below, and one of the problem by bounds above
 
 module _ (lows highs : Table → ℕ → ℕ → Type 0) (table : Table) (style : Style) (page : ℕ) (problem : ProblemModel)
@@ -90,7 +84,7 @@ module _ (lows highs : Table → ℕ → ℕ → Type 0) (table : Table) (style 
   fits-low below height layout (zero, held) = absurd held
   fits-low below height layout (suc depth, held) =
       layout-low lows highs style page (out-Table table) problem of (sound-in_grid lows highs style page problem sound) (FitsWithin depth style)
-      (weaker_each (IsBelowLayouts lows style page) (λ nested. (w : ℕ) → w ≤ page → IsBelowAt (FitsWithin depth style) lows w nested)
+      (AllByRecursion-weaker (IsBelowLayouts lows style page) (λ nested. (w : ℕ) → w ≤ page → IsBelowAt (FitsWithin depth style) lows w nested)
       (inner_tables (out-Table table)) (λ nested is w within k inner one. is w k inner within (depth, one)) below) height (out-Layout layout) held
 
   pub high-fits : AllByRecursion (IsAboveLayouts highs style page) (inner_tables (out-Table table)) → (widths heights : List ℕ) →
@@ -100,7 +94,7 @@ module _ (lows highs : Table → ℕ → ℕ → Type 0) (table : Table) (style 
   high-fits above widths heights laid =
       let made = layout-high lows highs style page (out-Table table) problem of (sound-in_grid lows highs style page problem sound)
       (λ nested w h inner. Fits nested style w h inner)
-      (weaker_each (IsAboveLayouts highs style page)
+      (AllByRecursion-weaker (IsAboveLayouts highs style page)
       (λ nested. (w : ℕ) → w ≤ page → IsAboveAt (λ one v h inner. Fits one style v h inner) highs w nested) (inner_tables (out-Table table))
       (λ nested is w within h need. is w h within need) above) widths heights laid in
       let layout : OpenLayout = record { widths = widths; heights = heights; inner = made.0 } in (
@@ -137,13 +131,6 @@ module _ (needs others : Table → ℕ → ℕ → Type 0) (w : ℕ) where
     all = need.all;
   }
 
--- each table in a cell that has a height has one
-pub joined-each : {X : Type 0} (P : Table → Type 0) (f : X → List Table) (xs : List X) → AllByRecursion (λ x. AllByRecursion P (f x)) xs →
-    AllByRecursion P (flat_map f xs)
-joined-each P f [] all = tt
-joined-each P f (x ∷ xs) all =
-    subst (AllByRecursion P) (sym (flat_map-cons f x xs)) (append_each P (f x) (flat_map f xs) all.0 (joined-each P f xs all.1))
-
 module _ (needs : Table → ℕ → ℕ → Type 0) (w : ℕ) where
   block-inside : (block : OpenContent) (h : ℕ) → BlockNeeds needs block w h → AllByRecursion (λ nested. (m : ℕ) × needs nested w m) (tables_of block)
   block-inside (open_content.Para paragraph) h need = tt
@@ -179,19 +166,19 @@ module _ (lows highs : Table → ℕ → ℕ → Type 0) (style : Style) (page :
     low = λ w h within is.
         let need = (true.low.each w h within).0 is in
         let room = cell-above (λ nested v k layout. Fits nested style v k layout) Real w cell h h
-        (weaker_each (IsBelowLayouts lows style page) (IsAboveAt (λ nested v k layout. Fits nested style v k layout) Real w) (tables_in cell)
+        (AllByRecursion-weaker (IsBelowLayouts lows style page) (IsAboveAt (λ nested v k layout. Fits nested style v k layout) Real w) (tables_in cell)
         (λ nested unused k least. (k, least.attained.0, least.attained.1, omega arith)) below) need (omega arith) in
         let low = cell-below (λ nested v k layout. Fits nested style v k layout) lows w cell h room.0
-        (weaker_each (IsBelowLayouts lows style page) (IsBelowAt (λ nested v k layout. Fits nested style v k layout) lows w) (tables_in cell)
+        (AllByRecursion-weaker (IsBelowLayouts lows style page) (IsBelowAt (λ nested v k layout. Fits nested style v k layout) lows w) (tables_in cell)
         (λ nested is_below k layout fits. is_below w k layout within fits) below) room.1 in
         IsLowAt-higher made.low low.0 h w low.2 (IsLowAt-from made.low low.0 w ((of.low.each w low.0 within).1 low.1));
     high = λ w h k within is more.
         let need = (true.high.each w h within).0 is in
         let room = cell-above (λ nested v m layout. Fits nested style v m layout) highs w cell k k
-        (weaker_each (IsAboveLayouts highs style page) (IsAboveAt (λ nested v m layout. Fits nested style v m layout) highs w) (tables_in cell)
+        (AllByRecursion-weaker (IsAboveLayouts highs style page) (IsAboveAt (λ nested v m layout. Fits nested style v m layout) highs w) (tables_in cell)
         (λ nested is_above m bound. is_above w m within bound) above) ((of.high.each w k within).0 more) (omega arith) in
         let low = cell-below (λ nested v m layout. Fits nested style v m layout) Real w cell k room.0
-        (weaker_each (λ nested. (m : ℕ) × Real nested w m) (IsBelowAt (λ nested v m layout. Fits nested style v m layout) Real w) (tables_in cell)
+        (AllByRecursion-weaker (λ nested. (m : ℕ) × Real nested w m) (IsBelowAt (λ nested v m layout. Fits nested style v m layout) Real w) (tables_in cell)
         (λ nested some m layout fits. (some.0, some.1, some.1.least m layout fits)) (cell-inside Real w cell h need)) room.1 in
         let same = cell-functional Real (least-functional style) cell w h low.0 need low.1 in
         omega (arith, same, low.2);
@@ -267,17 +254,17 @@ module _ (lows highs : Table → ℕ → ℕ → Type 0) (one_low : IsFunctional
     bottom = of.bottom;
     low = AreStepsOf-same (CellNeeds lows cell) (CellNeeds (λ nested. IsLeastHeight nested style) cell) page made.low
         (λ w h within need. cell-so lows (λ nested. IsLeastHeight nested style) w cell h
-        (weaker_each Meet (SoOfEach lows (λ nested. IsLeastHeight nested style) w) (tables_in cell)
+        (AllByRecursion-weaker Meet (SoOfEach lows (λ nested. IsLeastHeight nested style) w) (tables_in cell)
         (λ nested one k low. low-real nested w k within one low) meet) need)
         (λ w h within need. cell-so (λ nested. IsLeastHeight nested style) lows w cell h
-        (weaker_each Meet (SoOfEach (λ nested. IsLeastHeight nested style) lows w) (tables_in cell)
+        (AllByRecursion-weaker Meet (SoOfEach (λ nested. IsLeastHeight nested style) lows w) (tables_in cell)
         (λ nested one k least. real-low nested w k within one least) meet) need) of.low;
     high = AreStepsOf-same (CellNeeds highs cell) (CellNeeds (λ nested. IsLeastHeight nested style) cell) page made.high
         (λ w h within need. cell-so highs (λ nested. IsLeastHeight nested style) w cell h
-        (weaker_each Meet (SoOfEach highs (λ nested. IsLeastHeight nested style) w) (tables_in cell)
+        (AllByRecursion-weaker Meet (SoOfEach highs (λ nested. IsLeastHeight nested style) w) (tables_in cell)
         (λ nested one k high. high-real nested w k within one high) meet) need)
         (λ w h within need. cell-so (λ nested. IsLeastHeight nested style) highs w cell h
-        (weaker_each Meet (SoOfEach (λ nested. IsLeastHeight nested style) highs w) (tables_in cell)
+        (AllByRecursion-weaker Meet (SoOfEach (λ nested. IsLeastHeight nested style) highs w) (tables_in cell)
         (λ nested one k least. real-high nested w k within one least) meet) need) of.high;
   }
 
@@ -324,7 +311,7 @@ low-is-high problem widths heights same laid = record {
   enough = record {
     rows = laid.enough.rows;
     cells = All-from_recursion (λ cell. IsLowAt cell.high (cell_height problem heights cell) (cell_width problem widths cell)) problem.cells
-        (weaker_each (λ cell. (cell.low ≡ cell.high) × IsLowAt cell.low (cell_height problem heights cell) (cell_width problem widths cell))
+        (AllByRecursion-weaker (λ cell. (cell.low ≡ cell.high) × IsLowAt cell.low (cell_height problem heights cell) (cell_width problem widths cell))
         (λ cell. IsLowAt cell.high (cell_height problem heights cell) (cell_width problem widths cell)) problem.cells
         (λ cell both. subst (λ steps. IsLowAt steps (cell_height problem heights cell) (cell_width problem widths cell)) both.0 both.1)
         (both_each (λ cell. cell.low ≡ cell.high) (λ cell. IsLowAt cell.low (cell_height problem heights cell) (cell_width problem widths cell))
@@ -346,7 +333,7 @@ module _ (table : Table) (style : Style) (page : ℕ) (inner : List InnerSteps) 
   pub is-true : IsTrueProblem table style page problem
   is-true =
       real-problem low_needs high_needs (inner-functional (λ one. one.low) inner) (inner-functional (λ one. one.high) inner) style page table problem of
-      (weaker_each (λ nested. IsBelowLayouts low_needs style page nested × (IsAboveLayouts high_needs style page nested
+      (AllByRecursion-weaker (λ nested. IsBelowLayouts low_needs style page nested × (IsAboveLayouts high_needs style page nested
       × ((w h : ℕ) → w ≤ page → low_needs nested w h → high_needs nested w h)))
       (Meet low_needs high_needs (inner-functional (λ one. one.low) inner) (inner-functional (λ one. one.high) inner) style page)
       (inner_tables (out-Table table)) (λ nested all. record { below = all.0; above = all.1.0; same = all.1.1 })
@@ -370,7 +357,7 @@ module _ (table : Table) (style : Style) (page : ℕ) (inner : List InnerSteps) 
   as-layout widths heights laid =
       let made = high-fits low_needs high_needs table style page problem of sound above widths heights laid in (
         made.0,
-        fits-wider style table (total_width problem widths) page (total_height problem heights) made.0 (omega (arith, laid.page.page, of.wide)) made.1,
+        Fits-wider style table (total_width problem widths) page (total_height problem heights) made.0 (omega (arith, laid.page.page, of.wide)) made.1,
       )
 
   pub least-there : (height : ℕ) → IsLeastByHigh problem height → IsLeastHeight table style page height

@@ -1,42 +1,38 @@
 -- The problem of a sound table that fits the page is sound, where the steps of its nested tables are.
-use Rattle.std.proofs.Common.{◌≡◌, ℕ, zero, suc, ◌+◌, ◌*◌, ◌<◌, ◌≤◌, max, List, [], ◌∷◌, length, get_or, map, Some, sum_by, refl, sym, ap, subst, ◌∙◌, arith}
+use Rattle.std.proofs.Common.{◌≡◌, ℕ, zero, suc, ◌+◌, ◌*◌, ◌<◌, ◌≤◌, max, List, [], ◌∷◌, length, get_or, map, sum_by, refl, sym, ap, subst, ◌∙◌, arith}
 use Rattle.std.specs.List.{All, AllPairs, AllZip, AllByRecursion, Any}
 use Rattle.std.proofs.lemmas.List.{get_or-map, get_or_default, length-map}
 use Rattle.std.proofs.lemmas.List.Elements.{recursion_from_All, All-from_recursion}
 use Rattle.std.proofs.lemmas.List.Sums.{sum_by-cons}
-use Rattle.tl_base.specs.declared.limits.TheConstants.{MAX_HEIGHT}
-use Rattle.tl_base.specs.declared.steps.Config.{Config}
 use Rattle.tl_base.specs.declared.style.Style.{Style}
 use Rattle.tl_base.specs.Style.{gap_of, row_gap_of, edge_of}
-use Rattle.tl_base.specs.Steps.{AreSteps, first_height, first_width, height_at}
+use Rattle.tl_base.specs.Steps.{first_height, first_width}
+use Rattle.tl_base.proofs.Members.{AllByRecursion-weaker}
 use Rattle.tl_grid.specs.declared.shape.Place.{Place}
 use Rattle.tl_grid.specs.Dropping.{IsPlaced}
-use Rattle.tl_grid.specs.Slots.{AreApart, HasAnchorInColumn, HasAnchorInRow}
+use Rattle.tl_grid.specs.Slots.{AreApart}
 use Rattle.tl_problem.specs.declared.cell.Cell.{Cell}
 use Rattle.tl_problem.specs.Sizes.{room, total}
 use Rattle.tl_problem.specs.Problem.{ProblemModel}
-use Rattle.tl_problem.specs.Layouts.{WithinPage}
-use Rattle.tl_problem.specs.Sound.{IsSound, IsSoundCell, ShareSlot, greatest_height}
+use Rattle.tl_problem.specs.Sound.{IsSoundCell, ShareSlot}
+use Rattle.tl_problem.proofs.SizeLaws.{room-total}
 use Rattle.tl_form.specs.declared.cell.Content.{out-Content}
 use Rattle.tl_form.specs.declared.cell.Table.{Table, out-Table}
 use Rattle.tl_form.specs.declared.cell.TableCell.{TableCell, out-TableCell}
 use Rattle.tl_form.specs.declared.heights.InnerSteps.{InnerSteps}
 use Rattle.tl_form.specs.declared.layout.Layout.{Layout, out-Layout}
-use Rattle.tl_form.specs.Tables.{OpenTable, inner_tables, tables_in}
+use Rattle.tl_form.specs.Tables.{tables_in}
 use Rattle.tl_form.specs.Layouts.{Fits, FitsBy, FitsRoom, FitsWithin}
-use Rattle.tl_form.specs.Problems.{CellNeeds, HasSoundProblem, InnerNeeds, IsCellBy, IsProblemBy, IsProblemOf}
-use Rattle.tl_form.specs.Sound.{IsSoundBy, IsSoundWithin, IsSpelt, cell_size, place_of, places_of, table_size}
-use Rattle.tl_form.specs.Sound.{IsSound as IsSoundTable}
+use Rattle.tl_form.specs.Problems.{CellNeeds, HasSoundProblem, InnerNeeds, IsCellBy}
+use Rattle.tl_form.specs.Sound.{IsSoundBy, IsSoundWithin, IsSpelt, cell_size, place_of}
 use Rattle.tl_form.specs.SoundProblems.{AreSoundPremises}
 use Rattle.tl_form.proofs.CellNeedLemmas.{inner-functional}
-use Rattle.tl_form.proofs.NeedSteps.{first-least, height-first}
-use Rattle.tl_form.proofs.ProblemCells.{first-need, first-within, greatest-first}
-use Rattle.tl_form.proofs.ProblemLayouts.{room-total}
-use Rattle.tl_form.proofs.ProblemTruth.{fits-wider}
+use Rattle.tl_form.proofs.NeedSteps.{first-least}
+use Rattle.tl_form.proofs.ProblemCells.{first-need}
 use Rattle.tl_form.proofs.SizesOpen.{table_size-out}
 use Rattle.tl_form.proofs.SoundCells.{HasSound, below-all, cell-fits-low, cell-made, cell-wider, high-cell-small, same-first}
-use Rattle.tl_form.proofs.SoundParts.{both_each, each_joined, weaker_each}
-use Rattle.tl_form.proofs.StepsExist.{HasStart}
+use Rattle.tl_form.proofs.SoundParts.{each_joined}
+use Rattle.tl_form.proofs.Truth.{Fits-wider}
 
 -- where a cell of a problem lies
 abbrev pub made_place : Cell → Place
@@ -131,7 +127,7 @@ module _ (inner : List InnerSteps) (style : Style) (page : ℕ) where
   pub cells-small : (cells : List TableCell) (made : List Cell) → AllZip Made cells made →
       AllByRecursion (λ cell. AllByRecursion (HasSound inner style page) (tables_in (out-TableCell cell))) cells →
       AllByRecursion (λ cell. AllByRecursion (λ block. IsSpelt (out-Content block)) (out-TableCell cell).blocks) cells →
-      sum_by (λ one. greatest_height one.high) made + 2 * length cells ≤ 2 * sum_by cell_size cells
+      sum_by (λ one. first_height one.high) made + 2 * length cells ≤ 2 * sum_by cell_size cells
   cells-small [] [] of have spelt = omega arith
   cells-small [] (one ∷ made) of have spelt = absurd of
   cells-small (cell ∷ cells) [] of have spelt = absurd of
@@ -139,9 +135,8 @@ module _ (inner : List InnerSteps) (style : Style) (page : ℕ) where
       let need = first-need highs (inner-functional (λ any. any.high) inner) page (out-TableCell cell) one.high of.0.high in
       omega (
         arith,
-        sum_by-cons (λ (any : Cell). greatest_height any.high) one made,
+        sum_by-cons (λ (any : Cell). first_height any.high) one made,
         sum_by-cons cell_size cell cells,
-        greatest-first one.high,
         high-cell-small inner style page cell (first_width one.high) (first_height one.high) have.0 spelt.0 need,
         cells-small cells made of.1 have.1 spelt.1,
       )
@@ -224,7 +219,7 @@ module _ (table : Table) (style : Style) (page : ℕ) (inner : List InnerSteps) 
       cells = All-from_recursion (IsSoundCell problem) made.0 sound-made;
       apart = apart-cells inner style page made.0
           (All-from_recursion (λ one. (one.left < one.right) × (one.top < one.bottom)) made.0
-          (weaker_each (IsSoundCell problem) (λ one. (one.left < one.right) × (one.top < one.bottom)) made.0
+          (AllByRecursion-weaker (IsSoundCell problem) (λ one. (one.left < one.right) × (one.top < one.bottom)) made.0
           (λ one is. (is.columns.0, is.rows.0)) sound-made))
           (subst (AllPairs AreApart) (sym places) by.apart);
       columns = λ column within. any-made inner style page (λ place. place.left ≡ column) made.0
@@ -250,7 +245,7 @@ module _ (table : Table) (style : Style) (page : ℕ) (inner : List InnerSteps) 
         × CellNeeds (lows inner style page) (out-TableCell cell) w k) (out-Table table).cells
     fit = cells-fit inner style page (FitsWithin depth style) (λ nested v h one fits. (depth, fits)) widths (out-Layout layout).heights
         (out-Table table).cells held.parts have
-        (weaker_each (λ cell. IsPlaced (out-Table table).cols (out-Table table).rows (place_of cell))
+        (AllByRecursion-weaker (λ cell. IsPlaced (out-Table table).cols (out-Table table).rows (place_of cell))
         (λ cell. ((place_of cell).left < (place_of cell).right) × ((place_of cell).right ≤ length widths)) (out-Table table).cells
         (λ cell at. (at.0, omega (arith, at.1, held.columns))) (placed-cells by)) held.within held.cells
 
@@ -266,7 +261,7 @@ module _ (table : Table) (style : Style) (page : ℕ) (inner : List InnerSteps) 
     places : map made_place made.0 ≡ map place_of (out-Table table).cells
     places = places-same inner style page (out-Table table).cells made.0 made.1
 
-    small : sum_by (λ one. greatest_height one.high) made.0 + 2 * length (out-Table table).cells ≤ 2 * sum_by cell_size (out-Table table).cells
+    small : sum_by (λ one. first_height one.high) made.0 + 2 * length (out-Table table).cells ≤ 2 * sum_by cell_size (out-Table table).cells
     small = cells-small inner style page (out-Table table).cells made.0 made.1 have
         (recursion_from_All (λ cell. AllByRecursion (λ block. IsSpelt (out-Content block)) (out-TableCell cell).blocks) (out-Table table).cells by.spelt)
 
@@ -274,7 +269,7 @@ module _ (table : Table) (style : Style) (page : ℕ) (inner : List InnerSteps) 
   sound-problem =
       let fits = given.is_least.attained in
       by-depths given.sound.depth given.sound.sound fits.0 fits.1
-      (fits-wider style table given.least page fits.0 fits.1 given.wide fits.2)
+      (Fits-wider style table given.least page fits.0 fits.1 given.wide fits.2)
     where
       by-depths : (depth : ℕ) → IsSoundWithin depth table → (height : ℕ) (layout : Layout) → Fits table style page height layout →
           HasSoundProblem table style page inner

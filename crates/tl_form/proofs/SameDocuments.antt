@@ -7,13 +7,14 @@ use Rattle.tl_cert.specs.declared.certificate.Certificate.{Certificate}
 use Rattle.tl_cert.specs.declared.certificate.Claim.{Claim}
 use Rattle.tl_cert.specs.declared.certificate.Claim.TheVariants.{Lowest, Bounded, Narrow}
 use Rattle.tl_cert.specs.declared.section.Section.{Section}
+use Rattle.tl_cert.specs.Text.{IsNarrow}
 use Rattle.tl_form.specs.declared.cell.Table.{Table, out-Table}
 use Rattle.tl_form.specs.Expected.{Document, Due, IsDocumentOf, own_number, least_of, due_in, next_due, next_width, first_due, placed_width}
 use Rattle.tl_form.specs.Expected.{due_from, due_after}
 use Rattle.tl_form.specs.Least.{IsLeastWidth}
 use Rattle.tl_form.specs.Same.{AreSame}
 use Rattle.tl_form.specs.Sound.{nested_in_table}
-use Rattle.tl_form.specs.Valid.{IsNarrow, IsClaimFor, IsProblemAt, IsGood, AreWhole, IsShown, IsValid}
+use Rattle.tl_form.specs.Valid.{IsClaimFor, IsProblemAt, IsGood, AreWhole, IsShown, IsValid}
 use Rattle.tl_form.proofs.SameChains.{same_chain}
 use Rattle.tl_form.proofs.SameFits.{same_least}
 use Rattle.tl_form.proofs.SameProblems.{same_inner, same_problem}

@@ -6,6 +6,7 @@ use Rattle.std.specs.List.{AllZip, Contains, flat_map}
 use Rattle.std.proofs.lemmas.List.Sums.{sum_by-cons}
 use Rattle.std.proofs.lemmas.Slice.Zip.{AllZip-left}
 use Rattle.tl_base.proofs.Members.{Contains-cases, Contains-first, Contains-later, Contains-none}
+use Rattle.tl_base.proofs.Zips.{AllZip-append}
 use Rattle.tl_form.specs.declared.cell.Content.{out-Content}
 use Rattle.tl_form.specs.declared.cell.Content.TheOpen as open_content
 use Rattle.tl_form.specs.declared.cell.Table.{Table, out-Table}
@@ -15,7 +16,6 @@ use Rattle.tl_form.specs.Same.{AreSameContent, AreSameCell, AreSameBy, AreSameWi
 use Rattle.tl_form.specs.Sound.{nested_in_table, nested_in_cell, nested_in_content}
 use Rattle.tl_form.specs.Tables.{OpenTable, OpenCell, OpenContent, tables_of, tables_in, inner_tables}
 use Rattle.tl_form.proofs.SizesOpen.{nested_in_table-out, nested_in_cell-out, nested_in_content-out, open_tables}
-use Rattle.tl_form.proofs.Writing.{joined_zip}
 
 -- ---- lists whose items belong together
 
@@ -75,7 +75,7 @@ zip_joined R Q f g each [] [] all = tt
 zip_joined R Q f g each [] (y ∷ ys) all = absurd all
 zip_joined R Q f g each (x ∷ xs) [] all = absurd all
 zip_joined R Q f g each (x ∷ xs) (y ∷ ys) all =
-    joined_zip Q (f x) (flat_map f xs) (g y) (flat_map g ys) (each x y all.0) (zip_joined R Q f g each xs ys all.1)
+    AllZip-append Q (f x) (flat_map f xs) (g y) (flat_map g ys) (each x y all.0) (zip_joined R Q f g each xs ys all.1)
 
 -- their sums
 zip_sum : {A B : Type 0} (R : A → B → Type 0) (f : A → ℕ) (g : B → ℕ) → ((a : A) (b : B) → R a b → f a ≡ g b) →

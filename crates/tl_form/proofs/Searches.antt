@@ -1,9 +1,10 @@
 -- Finite searches: whether some list of so many small numbers is of a kind, where each list is or is not.
-use Rattle.std.proofs.Common.{◌≡◌, ℕ, zero, suc, ◌+◌, ◌*◌, ◌<◌, ◌≤◌, ◌⊎◌, inl, inr, List, [], ◌∷◌, length, sum, refl, sym, subst, arith}
+use Rattle.std.proofs.Common.{◌≡◌, ℕ, zero, suc, ◌+◌, ◌<◌, ◌≤◌, ◌⊎◌, inl, inr, List, [], ◌∷◌, length, sum, refl, subst, arith}
 use Rattle.std.specs.List.{AllByRecursion}
 use Rattle.std.proofs.lemmas.Bool.{cases_lt}
 use Rattle.tl_base.proofs.Sums.{sum-cons}
 use Rattle.tl_problem.specs.Sizes.{total}
+use Rattle.tl_problem.proofs.SizeLaws.{sum-total}
 
 -- it is so, or it is not
 abbrev pub Decides : Type 0 → Type 0
@@ -79,10 +80,6 @@ sizes-small : (most : ℕ) (sizes : List ℕ) → sum sizes ≤ most → AllByRe
 sizes-small most [] small = tt
 sizes-small most (size ∷ sizes) small =
     (omega (arith, sum-cons size sizes, small), sizes-small most sizes (omega (arith, sum-cons size sizes, small)))
-
-sum-total : (gap edge : ℕ) (sizes : List ℕ) → sum sizes ≤ total gap edge sizes
-sum-total gap edge [] = omega arith
-sum-total gap edge (size ∷ sizes) = omega (arith, sum-cons size sizes)
 
 pub total-small : (gap edge most : ℕ) (sizes : List ℕ) → total gap edge sizes ≤ most → AllByRecursion (λ size. size ≤ most) sizes
 total-small gap edge most sizes small = sizes-small most sizes (omega (arith, sum-total gap edge sizes, small))

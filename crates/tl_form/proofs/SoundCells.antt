@@ -1,12 +1,14 @@
 -- Cells of a problem whose nested tables have sound steps: they have steps of their own, and are sound.
-use Rattle.std.proofs.Common.{◌≡◌, ℕ, zero, suc, ◌+◌, ◌*◌, ◌<◌, ◌≤◌, ◌⊎◌, inl, inr, List, [], ◌∷◌, length, Option, Some, None, refl, sym, ap, subst}
-use Rattle.std.proofs.Common.{◌∙◌, arith}
-use Rattle.std.specs.List.{All, AllZip, AllByRecursion}
+use Rattle.std.proofs.Common.{◌≡◌, ℕ, ◌+◌, ◌*◌, ◌≤◌, inl, inr, List, Option, Some, None, refl, sym, subst}
+use Rattle.std.proofs.Common.{arith}
+use Rattle.std.specs.List.{AllByRecursion}
 use Rattle.std.specs.Option.{IsSomeAnd}
 use Rattle.std.proofs.lemmas.Bool.{cases_lt}
 use Rattle.tl_base.specs.declared.steps.Config.{Config}
 use Rattle.tl_base.specs.declared.style.Style.{Style}
 use Rattle.tl_base.specs.Steps.{AreSteps, IsLowAt, first_height, first_width, height_at}
+use Rattle.tl_base.proofs.Members.{AllByRecursion-weaker}
+use Rattle.tl_base.proofs.Stacking.{first_width-within}
 use Rattle.tl_problem.specs.declared.cell.Cell.{Cell}
 use Rattle.tl_problem.proofs.Heights.{IsLowAt-from, IsLowAt-higher, IsLowAt-same, height-from_first, height-from_low}
 use Rattle.tl_form.specs.declared.cell.Table.{Table, out-Table}
@@ -15,17 +17,15 @@ use Rattle.tl_form.specs.declared.heights.InnerSteps.{InnerSteps}
 use Rattle.tl_form.specs.declared.layout.Layout.{Layout}
 use Rattle.tl_form.specs.Layouts.{Fits, FitsRoom}
 use Rattle.tl_form.specs.Tables.{OpenCell, tables_in}
-use Rattle.tl_form.specs.Problems.{AreStepsOf, CellNeeds, InnerNeeds, IsCellBy, steps_for}
+use Rattle.tl_form.specs.Problems.{CellNeeds, InnerNeeds, IsCellBy, steps_for}
 use Rattle.tl_form.specs.Sound.{IsSpelt, cell_size, table_size}
 use Rattle.tl_form.specs.SoundProblems.{AreSoundSteps}
 use Rattle.tl_form.specs.declared.cell.Content.{out-Content}
-use Rattle.tl_form.specs.inner.CellSteps.{IsStart}
 use Rattle.tl_form.proofs.CellHeights.{adds-any, adds-less, cell-by, cell-small}
-use Rattle.tl_form.proofs.CellNeedLemmas.{IsFunctional, inner-functional}
+use Rattle.tl_form.proofs.CellNeedLemmas.{inner-functional}
 use Rattle.tl_form.proofs.NeedSteps.{first-least, height-falls, height-first, height-past}
-use Rattle.tl_form.proofs.ProblemCells.{first-need, first-within}
+use Rattle.tl_form.proofs.ProblemCells.{first-need}
 use Rattle.tl_form.proofs.ProblemLayouts.{IsBelowAt, cell-below}
-use Rattle.tl_form.proofs.SoundParts.{weaker_each}
 use Rattle.tl_form.proofs.StepsExist.{HasStart, cell-begins, cell-steps}
 
 opened : {P : InnerSteps → Type 0} (o : Option InnerSteps) → IsSomeAnd o P → (one : InnerSteps) × (o ≡ Some one) × P one
@@ -108,22 +108,22 @@ module _ (inner : List InnerSteps) (style : Style) (page : ℕ) where
 
   module _ (cell : OpenCell) (have : AllByRecursion HasSound (tables_in cell)) where
     have-low : AllByRecursion (HasStart lows) (tables_in cell)
-    have-low = weaker_each HasSound (HasStart lows) (tables_in cell) low-start have
+    have-low = AllByRecursion-weaker HasSound (HasStart lows) (tables_in cell) low-start have
 
     have-high : AllByRecursion (HasStart highs) (tables_in cell)
-    have-high = weaker_each HasSound (HasStart highs) (tables_in cell) high-start have
+    have-high = AllByRecursion-weaker HasSound (HasStart highs) (tables_in cell) high-start have
 
     cell-low-high : (w h : ℕ) → CellNeeds lows cell w h → (k : ℕ) × CellNeeds highs cell w k
     cell-low-high w h need =
         let by = cell-by (λ m n. Unit {0}) adds-any lows highs w cell h
-        (weaker_each HasSound (λ nested. (m : ℕ) → lows nested w m → (n : ℕ) × highs nested w n × Unit {0}) (tables_in cell)
+        (AllByRecursion-weaker HasSound (λ nested. (m : ℕ) → lows nested w m → (n : ℕ) × highs nested w n × Unit {0}) (tables_in cell)
         (λ nested has m low. let high = low-high nested w m has low in (high.0, high.1, tt)) have) need in
         (by.0, by.1)
 
     cell-high-low : (w h : ℕ) → w ≤ page → CellNeeds highs cell w h → (k : ℕ) × CellNeeds lows cell w k × (k ≤ h)
     cell-high-low w h within need =
         cell-by (λ m n. n ≤ m) adds-less highs lows w cell h
-        (weaker_each HasSound (λ nested. (m : ℕ) → highs nested w m → (n : ℕ) × lows nested w n × (n ≤ m)) (tables_in cell)
+        (AllByRecursion-weaker HasSound (λ nested. (m : ℕ) → highs nested w m → (n : ℕ) × lows nested w n × (n ≤ m)) (tables_in cell)
         (λ nested has m high. high-low nested w m within has high) have) need
 
     -- where a cell fits it has a height
@@ -135,10 +135,10 @@ module _ (inner : List InnerSteps) (style : Style) (page : ℕ) where
         (w h : ℕ) (parts : List Layout) → FitsRoom fits w h cell parts → (k : ℕ) × CellNeeds lows cell w k
     cell-fits-low fits any w h parts room =
         let flat = cell-below fits Flat w cell h parts
-        (weaker_each HasSound (IsBelowAt fits Flat w) (tables_in cell)
+        (AllByRecursion-weaker HasSound (IsBelowAt fits Flat w) (tables_in cell)
         (λ nested has height layout held. (0, (fits-low nested w height layout has (any nested w height layout held), refl), omega arith)) have) room in
         let by = cell-by (λ m n. Unit {0}) adds-any Flat lows w cell flat.0
-        (weaker_each HasSound (λ nested. (m : ℕ) → Flat nested w m → (n : ℕ) × lows nested w n × Unit {0}) (tables_in cell)
+        (AllByRecursion-weaker HasSound (λ nested. (m : ℕ) → Flat nested w m → (n : ℕ) × lows nested w n × Unit {0}) (tables_in cell)
         (λ nested has m low. (low.0.0, low.0.1, tt)) have) flat.1 in
         (by.0, by.1)
 
@@ -171,10 +171,10 @@ module _ (inner : List InnerSteps) (style : Style) (page : ℕ) where
 
     module _ (made : Cell) (of : IsCellBy lows highs page cell made) where
       inside-low : first_width made.low ≤ page
-      inside-low = first-within page made.low of.low.decreasing of.low.within
+      inside-low = first_width-within page made.low of.low.decreasing of.low.within
 
       inside-high : first_width made.high ≤ page
-      inside-high = first-within page made.high of.high.decreasing of.high.within
+      inside-high = first_width-within page made.high of.high.decreasing of.high.within
 
       pub same-first : first_width made.low ≡ first_width made.high
       same-first =
@@ -211,5 +211,5 @@ module _ (inner : List InnerSteps) (style : Style) (page : ℕ) where
       h + 2 ≤ 2 * cell_size cell
   high-cell-small cell w h have spelt need =
       cell-small highs w cell h spelt
-      (weaker_each HasSound (λ nested. (m : ℕ) → highs nested w m → m ≤ 2 * table_size nested) (tables_in (out-TableCell cell))
+      (AllByRecursion-weaker HasSound (λ nested. (m : ℕ) → highs nested w m → m ≤ 2 * table_size nested) (tables_in (out-TableCell cell))
       (λ nested has m high. high-small nested w m has high) have) need

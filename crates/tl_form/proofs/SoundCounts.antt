@@ -11,6 +11,7 @@ use Rattle.tl_tree.specs.Sound.{table_count}
 use Rattle.tl_tree.specs.declared.node.Block.{Block, out-Block}
 use Rattle.tl_tree.specs.declared.node.Block.TheOpen as open_block
 use Rattle.tl_tree.specs.declared.node.TableNode.{TableNode, out-TableNode}
+use Rattle.tl_tree.specs.inner.Lines.{blocks_outline}
 use Rattle.tl_form.specs.declared.cell.Content.{Content, out-Content}
 use Rattle.tl_form.specs.declared.cell.Content.TheOpen as open_content
 use Rattle.tl_form.specs.declared.cell.Table.{Table, out-Table}
@@ -18,7 +19,6 @@ use Rattle.tl_form.specs.declared.cell.TableCell.{TableCell, out-TableCell}
 use Rattle.tl_form.specs.Tables.{OpenTable, OpenContent}
 use Rattle.tl_form.specs.Formed.{OpenBlock, BecomesContent, BecomeContents, BecomesBy, BecomesWithin}
 use Rattle.tl_form.specs.Sound.{nested_in_table, nested_in_cell, nested_in_content}
-use Rattle.tl_form.specs.inner.Forming.{flow_outline}
 use Rattle.tl_form.proofs.SizesOpen.{nested_in_table-out, nested_in_cell-out, nested_in_content-out, open_tables}
 use Rattle.tl_form.proofs.SoundNodes.{open_outline, block_outline-out}
 use Rattle.tl_form.proofs.Blocks.{alone-count, count-append, blocks_of, alone, alone-table, contents_of, zip_table}
@@ -58,7 +58,7 @@ content_counts forms counts breaking (open_block.Table node) (open_content.Para 
 content_counts forms counts breaking (open_block.Table node) (open_content.Table box) becomes = omega (arith, counts node.value box.value becomes)
 
 pub contents_count : (forms : TableNode → Table → Type 0) → Counts forms → (breaking : Breaking) (flow : List Block) (contents : List Content) →
-    BecomeContents forms breaking flow contents → sum_by nested_in_content contents ≡ table_count (flow_outline flow)
+    BecomeContents forms breaking flow contents → sum_by nested_in_content contents ≡ table_count (blocks_outline flow)
 contents_count forms counts breaking [] [] become = refl
 contents_count forms counts breaking [] (content ∷ contents) become = absurd become
 contents_count forms counts breaking (block ∷ flow) [] become = absurd become
@@ -68,7 +68,7 @@ contents_count forms counts breaking (block ∷ flow) (content ∷ contents) bec
   nested_in_content-out content,
   content_counts forms counts breaking (out-Block block) (out-Content content) become.0,
   ap table_count (block_outline-out block),
-  count-append (block_outline block) (flow_outline flow),
+  count-append (block_outline block) (blocks_outline flow),
   contents_count forms counts breaking flow contents become.1,
 )
 
@@ -84,7 +84,7 @@ table_counts forms counts breaking node made becomes =
       sum_same nested_in_cell (λ one. sum_by nested_in_content (out-TableCell one).blocks) nested_in_cell-out all,
       sum_flat nested_in_content (λ one. (out-TableCell one).blocks) all,
       contents_count forms counts breaking blocks (contents_of all) (zip_table forms breaking (out-TableNode node) (out-Table made) becomes),
-      alone-count (flow_outline blocks),
+      alone-count (blocks_outline blocks),
       alone-count (outline node),
       ap table_count (alone-table node),
       count-append (alone blocks) (table_end ∷ []),

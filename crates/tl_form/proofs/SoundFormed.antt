@@ -10,6 +10,8 @@ use Rattle.std.proofs.lemmas.List.Sorted.{All-permutation, Contains-permutation,
 use Rattle.std.proofs.lemmas.List.Sums.{sum_by-cons, sum_by-append}
 use Rattle.tl_base.specs.declared.breaking.Breaking.{Breaking}
 use Rattle.tl_base.specs.declared.limits.TheConstants.{MAX_DEPTH, MAX_PAGE_WIDTH}
+use Rattle.tl_base.proofs.Members.{AllByRecursion-append}
+use Rattle.tl_tree.specs.inner.Lines.{blocks_outline}
 use Rattle.tl_grid.specs.Dropping.{IsPlaced}
 use Rattle.tl_text.specs.Paragraph.{atom_size}
 use Rattle.tl_tree.specs.Outline.{Entries, table, caption, columns, group, row, cell, paragraph, table_end, block_outline, cell_outline}
@@ -30,11 +32,11 @@ use Rattle.tl_form.specs.Tables.{OpenTable, OpenContent, tables_of, tables_in}
 use Rattle.tl_form.specs.Formed.{OpenBlock, BecomesContent, BecomeContents, BecomeCells, BecomeCaption, BecomesBy, BecomesWithin, Becomes}
 use Rattle.tl_form.specs.Formed.{cells_of_group, cells_written, caption_rows}
 use Rattle.tl_form.specs.Sound.{IsSoundBy, IsSoundWithin, IsSound, place_of, table_size, cell_size, content_size}
-use Rattle.tl_form.specs.inner.Forming.{flow_outline, cells_outline}
+use Rattle.tl_form.specs.inner.Forming.{cells_outline}
 use Rattle.tl_form.proofs.SizesOpen.{table_size-out, cell_size-out, content_size-out, open_size}
 use Rattle.tl_form.proofs.SoundNodes.{open_outline, rows_outline, groups_outline, block_outline-out, cell_outline-out, group_outline-out, outline-out}
 use Rattle.tl_form.proofs.SoundNodes.{sound_each, cell_flow, group_rows, table_groups, table_caption}
-use Rattle.tl_form.proofs.SoundParts.{each_joined, append_each}
+use Rattle.tl_form.proofs.SoundParts.{each_joined, joined-each}
 use Rattle.tl_form.proofs.Laid.{AreLaid, cells_laid}
 use Rattle.tl_form.proofs.Orders.{apart_moved}
 use Rattle.tl_form.proofs.UnitSizes.{broken_size}
@@ -52,16 +54,11 @@ use Rattle.tl_form.proofs.SoundCounts.{Counts, Numbers, within_counts, within_nu
 
 -- ---- depth
 
-each_flat : {X : Type 0} (P : Table → Type 0) (f : X → List Table) (xs : List X) → AllByRecursion (λ x. AllByRecursion P (f x)) xs →
-    AllByRecursion P (flat_map f xs)
-each_flat P f [] all = tt
-each_flat P f (x ∷ xs) all = append_each P (f x) (flat_map f xs) all.0 (each_flat P f xs all.1)
-
 -- what holds of the tables in some cells holds of those in the cells in another order
 tables_moved : (P : Table → Type 0) (xs ys : List TableCell) → IsPermutation xs ys → AllByRecursion P (tables_among (contents_of xs)) →
     AllByRecursion P (flat_map (λ one. tables_in (out-TableCell one)) ys)
 tables_moved P xs ys moved all =
-    each_flat P (λ one. tables_in (out-TableCell one)) ys
+    joined-each P (λ one. tables_in (out-TableCell one)) ys
     (recursion_from_All (λ one. AllByRecursion P (tables_in (out-TableCell one))) ys
     (All-permutation (λ one. AllByRecursion P (tables_in (out-TableCell one))) xs ys moved
     (All-from_recursion (λ one. AllByRecursion P (tables_in (out-TableCell one))) xs
@@ -75,18 +72,19 @@ narrow_caption forms breaking cols (Some flow) (one ∷ cells) become =
     (omega (arith, become.0.least), subst (AllByRecursion (λ each. (out-TableCell each).least ≤ MAX_PAGE_WIDTH)) (sym become.1) tt)
 
 -- the outline of a table's cells is sound where the table's is
-flat_rows : (rows : List (List CellNode)) → AllByRecursion (λ cells. AreSound (cells_outline cells)) rows →
+pub flat_rows : (rows : List (List CellNode)) → AllByRecursion (λ cells. AreSound (cells_outline cells)) rows →
     AllByRecursion (λ node. AreSound (cell_outline node)) (flat_map (λ (cells : List CellNode). cells) rows)
 flat_rows [] sound = tt
 flat_rows (cells ∷ rows) sound =
-    append_each (λ node. AreSound (cell_outline node)) cells (flat_map (λ (each : List CellNode). each) rows) (sound_each cell_outline cells sound.0)
+    AllByRecursion-append (λ node. AreSound (cell_outline node)) cells (flat_map (λ (each : List CellNode). each) rows) (sound_each cell_outline cells sound.0)
     (flat_rows rows sound.1)
 
-flat_groups : (groups : List GroupNode) → AllByRecursion (λ g. AreSound (group_outline g)) groups →
+pub flat_groups : (groups : List GroupNode) → AllByRecursion (λ g. AreSound (group_outline g)) groups →
     AllByRecursion (λ node. AreSound (cell_outline node)) (flat_map (λ g. cells_of_group (out-GroupNode g)) groups)
 flat_groups [] sound = tt
 flat_groups (g ∷ groups) sound =
-    append_each (λ node. AreSound (cell_outline node)) (cells_of_group (out-GroupNode g)) (flat_map (λ each. cells_of_group (out-GroupNode each)) groups)
+    AllByRecursion-append (λ node. AreSound (cell_outline node)) (cells_of_group (out-GroupNode g))
+    (flat_map (λ each. cells_of_group (out-GroupNode each)) groups)
     (flat_rows (out-GroupNode g).rows (group_rows g sound.0)) (flat_groups groups sound.1)
 
 narrow_cells : (forms : TableNode → Table → Type 0) (breaking : Breaking) (nodes : List CellNode) (cells : List TableCell) →
@@ -103,12 +101,13 @@ flat_cells : (nodes : List CellNode) → AllByRecursion (λ node. AreSound (cell
     AllByRecursion (λ block. AreSound (block_outline block)) (flat_map flow_of nodes)
 flat_cells [] sound = tt
 flat_cells (node ∷ nodes) sound =
-    append_each (λ block. AreSound (block_outline block)) (flow_of node) (flat_map flow_of nodes)
+    AllByRecursion-append (λ block. AreSound (block_outline block)) (flow_of node) (flat_map flow_of nodes)
     (sound_each block_outline (flow_of node) (cell_flow node sound.0)) (flat_cells nodes sound.1)
 
 sound_blocks_of : (node : TableNode) → AreSound (outline node) → AllByRecursion (λ block. AreSound (block_outline block)) (blocks_of (out-TableNode node))
 sound_blocks_of node sound =
-    append_each (λ block. AreSound (block_outline block)) (captured (out-TableNode node).caption) (flat_map flow_of (cells_written (out-TableNode node)))
+    AllByRecursion-append (λ block. AreSound (block_outline block)) (captured (out-TableNode node).caption)
+    (flat_map flow_of (cells_written (out-TableNode node)))
     (by_caption (out-TableNode node).caption refl)
     (flat_cells (cells_written (out-TableNode node)) (flat_groups (out-TableNode node).groups (table_groups node sound)))
   where
@@ -137,13 +136,13 @@ level_sound forms breaking node made sound is becomes inner numbers = record {
       (has.0, found.0, has.1, has.2, found.2);
   narrow = All-permutation (λ one. (out-TableCell one).least ≤ MAX_PAGE_WIDTH) all made.cells becomes.same
       (All-from_recursion (λ one. (out-TableCell one).least ≤ MAX_PAGE_WIDTH) all
-      (append_each (λ one. (out-TableCell one).least ≤ MAX_PAGE_WIDTH) becomes.caption becomes.written
+      (AllByRecursion-append (λ one. (out-TableCell one).least ≤ MAX_PAGE_WIDTH) becomes.caption becomes.written
       (narrow_caption forms breaking made.cols (out-TableNode node).caption becomes.caption becomes.captioned)
       (narrow_cells forms breaking (cells_written (out-TableNode node)) becomes.written
       (flat_groups (out-TableNode node).groups (table_groups node is)) becomes.cells)));
   spelt = All-permutation (λ one. AllByRecursion (λ block. IsSpelt (out-Content block)) (out-TableCell one).blocks) all made.cells becomes.same
       (All-from_recursion (λ one. AllByRecursion (λ block. IsSpelt (out-Content block)) (out-TableCell one).blocks) all
-      (append_each (λ one. AllByRecursion (λ block. IsSpelt (out-Content block)) (out-TableCell one).blocks) becomes.caption becomes.written
+      (AllByRecursion-append (λ one. AllByRecursion (λ block. IsSpelt (out-Content block)) (out-TableCell one).blocks) becomes.caption becomes.written
       (spelt-caption forms breaking node made.cols (out-TableNode node).caption becomes.caption refl is becomes.captioned)
       (spelt-cells forms breaking (cells_written (out-TableNode node)) becomes.written
       (flat_groups (out-TableNode node).groups (table_groups node is)) becomes.cells)));
@@ -190,7 +189,7 @@ contents_deep forms deep breaking [] (content ∷ contents) become sound k are d
 contents_deep forms deep breaking (block ∷ flow) [] become sound k are depth more rest nested = absurd become
 contents_deep forms deep breaking (block ∷ flow) (content ∷ contents) become sound k are depth more rest nested =
     let split : alone (block ∷ flow) ++ rest ≡ tables_alone (open_outline (out-Block block)) ++ (alone flow ++ rest) =
-    ap (λ (es : Entries). es ++ rest) (alone-append (block_outline block) (flow_outline flow)
+    ap (λ (es : Entries). es ++ rest) (alone-append (block_outline block) (blocks_outline flow)
     ∙ ap (λ (es : Entries). tables_alone es ++ alone flow) (block_outline-out block))
     ∙ append_assoc (tables_alone (open_outline (out-Block block))) (alone flow) rest in
     let split_numbers = numbered_split k (tables_in_block block) (tables_in_flow flow) are in
@@ -199,7 +198,7 @@ contents_deep forms deep breaking (block ∷ flow) (content ∷ contents) become
     (alone flow ++ rest) (subst (IsNestedBelow (depth + more) depth) split nested) in
     let later = contents_deep forms deep breaking flow contents become.1 sound.1 (k + length (tables_in_block block)) split_numbers.1
     depth more rest first.1 in
-    (append_each (IsSoundWithin more) (tables_of (out-Content content)) (tables_among contents) first.0 later.0, later.1)
+    (AllByRecursion-append (IsSoundWithin more) (tables_of (out-Content content)) (tables_among contents) first.0 later.0, later.1)
 
 table_deep : (forms : TableNode → Table → Type 0) → Counts forms → Numbers forms → Deep forms → (breaking : Breaking) (node : TableNode) (made : Table) →
     BecomesBy forms breaking (out-TableNode node) (out-Table made) → AreSound (outline node) →
@@ -253,7 +252,7 @@ content_small forms small breaking (open_block.Table node) (open_content.Para un
 content_small forms small breaking (open_block.Table node) (open_content.Table box) becomes = small node.value box.value becomes
 
 contents_small : (forms : TableNode → Table → Type 0) → Small forms → (breaking : Breaking) (flow : List Block) (contents : List Content) →
-    BecomeContents forms breaking flow contents → sum_by content_size contents ≤ sum_by entry_size (flow_outline flow)
+    BecomeContents forms breaking flow contents → sum_by content_size contents ≤ sum_by entry_size (blocks_outline flow)
 contents_small forms small breaking [] [] become = omega arith
 contents_small forms small breaking [] (content ∷ contents) become = absurd become
 contents_small forms small breaking (block ∷ flow) [] become = absurd become
@@ -263,7 +262,7 @@ contents_small forms small breaking (block ∷ flow) (content ∷ contents) beco
   content_size-out content,
   content_small forms small breaking (out-Block block) (out-Content content) become.0,
   ap (sum_by entry_size) (block_outline-out block),
-  sum_by-append entry_size (block_outline block) (flow_outline flow),
+  sum_by-append entry_size (block_outline block) (blocks_outline flow),
   contents_small forms small breaking flow contents become.1,
 )
 
@@ -279,7 +278,7 @@ cells_small forms small breaking (node ∷ nodes) (one ∷ cells) become = omega
   contents_small forms small breaking (flow_of node) (out-TableCell one).blocks become.0.blocks,
   ap (sum_by entry_size) (cell_outline-out node),
   sum_by-cons entry_size (cell (out-CellNode node).head (out-CellNode node).colspan (out-CellNode node).rowspan (out-CellNode node).least)
-      (flow_outline (flow_of node)),
+      (blocks_outline (flow_of node)),
   sum_by-append entry_size (cell_outline node) (cells_outline nodes),
   cells_small forms small breaking nodes cells become.1,
 )
@@ -325,7 +324,7 @@ caption_small forms small breaking cols (Some flow) (one ∷ cells) become = ome
   ap (sum_by cell_size) become.1,
   cell_size-out one,
   contents_small forms small breaking flow (out-TableCell one).blocks become.0.blocks,
-  sum_by-cons entry_size caption (flow_outline flow),
+  sum_by-cons entry_size caption (blocks_outline flow),
 )
 
 table_small : (forms : TableNode → Table → Type 0) → Small forms → (breaking : Breaking) (node : TableNode) (made : Table) →

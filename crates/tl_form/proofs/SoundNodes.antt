@@ -4,6 +4,7 @@ use Rattle.std.specs.List.{AllByRecursion, flat_map}
 use Rattle.std.proofs.lemmas.List.Concat.{flat_map-cons}
 use Rattle.std.proofs.lemmas.List.Sums.{sum_by-cons, sum_by-append}
 use Rattle.tl_base.specs.declared.limits.TheConstants.{MAX_FILE_BYTES}
+use Rattle.tl_tree.specs.inner.Lines.{blocks_outline}
 use Rattle.tl_grid.specs.Shapes.{IsSpan, AllSpans}
 use Rattle.tl_grid.specs.Forming.{cells_in, row_count, cell_count}
 use Rattle.tl_tree.specs.Outline.{Entry, Entries, table, columns, group, row, cell, paragraph, table_end, block_outline, cell_outline, group_outline, outline}
@@ -16,7 +17,7 @@ use Rattle.tl_tree.specs.declared.node.GroupNode.{GroupNode, out-GroupNode, roll
 use Rattle.tl_tree.specs.declared.node.TableNode.{TableNode, out-TableNode, roll-out-TableNode}
 use Rattle.tl_tree.proofs.Outlines.{paragraph_made, nested_made, cell_made, group_made, table_made}
 use Rattle.tl_form.specs.Formed.{OpenBlock, span_of, group_shape, shape_of}
-use Rattle.tl_form.specs.inner.Forming.{flow_outline, cells_outline}
+use Rattle.tl_form.specs.inner.Forming.{cells_outline}
 
 -- ---- the outlines of the parts by what they hold
 
@@ -32,7 +33,7 @@ block_outline-out block = ap block_outline (sym (roll-out-Block block)) ∙ made
     made (open_block.Table box) = nested_made box
 
 pub cell_outline-out : (node : CellNode) → let open_node = out-CellNode node in
-    cell_outline node ≡ cell open_node.head open_node.colspan open_node.rowspan open_node.least ∷ flow_outline open_node.flow
+    cell_outline node ≡ cell open_node.head open_node.colspan open_node.rowspan open_node.least ∷ blocks_outline open_node.flow
 cell_outline-out node = ap cell_outline (sym (roll-out-CellNode node)) ∙ cell_made (out-CellNode node)
 
 -- the entries of rows
@@ -80,7 +81,7 @@ sound_each f (x ∷ xs) sound =
 pub boxed_node : (block : Block) (o : OpenBlock) → out-Block block ≡ o → AreSound (block_outline block) → AreSound (open_outline o)
 boxed_node block o is sound = subst AreSound (block_outline-out block ∙ ap open_outline is) sound
 
-pub cell_flow : (node : CellNode) → AreSound (cell_outline node) → AreSound (flow_outline (out-CellNode node).flow)
+pub cell_flow : (node : CellNode) → AreSound (cell_outline node) → AreSound (blocks_outline (out-CellNode node).flow)
 cell_flow node sound = sound_tail _ _ (subst AreSound (cell_outline-out node) sound)
 
 rows_each : (rows : List (List CellNode)) → AreSound (rows_outline rows) → AllByRecursion (λ cells. AreSound (cells_outline cells)) rows
@@ -102,7 +103,7 @@ table_groups node sound =
     sound_each group_outline (out-TableNode node).groups (sound_split _ (table_end ∷ []) (sound_tail _ _ (table_rest node sound).1)).0
 
 pub table_caption : (node : TableNode) (flow : List Block) → (out-TableNode node).caption ≡ Some flow → AreSound (outline node) →
-    AreSound (flow_outline flow)
+    AreSound (blocks_outline flow)
 table_caption node flow is sound = sound_tail _ _ (subst (λ found. AreSound (caption_outline found)) is (table_rest node sound).0)
 
 -- ---- the shape of a table
@@ -132,7 +133,7 @@ row_size (node ∷ nodes) =
     let split = sum_by-append entry_size (cell_outline node) (cells_outline nodes) in
     let one = ap (sum_by entry_size) (cell_outline-out node) in
     let first = sum_by-cons entry_size (cell (out-CellNode node).head (out-CellNode node).colspan (out-CellNode node).rowspan (out-CellNode node).least)
-    (flow_outline (out-CellNode node).flow) in
+    (blocks_outline (out-CellNode node).flow) in
     let rest = row_size nodes in
     omega (arith, ap (sum_by entry_size) (flat_map-cons cell_outline node nodes))
 

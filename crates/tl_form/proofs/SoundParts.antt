@@ -5,6 +5,7 @@ use Rattle.std.proofs.lemmas.List.Concat.{flat_map-cons}
 use Rattle.std.proofs.lemmas.List.Sums.{sum_by-cons}
 use Rattle.std.proofs.lemmas.List.Elements.{recursion_from_All, All-from_recursion, All-get_or}
 use Rattle.tl_base.specs.declared.limits.TheConstants.{MAX_DEPTH, MAX_FILE_BYTES, MAX_PAGE_WIDTH, MAX_TABLES}
+use Rattle.tl_base.proofs.Members.{AllByRecursion-append, AllByRecursion-weaker}
 use Rattle.tl_form.specs.declared.cell.Content.{out-Content}
 use Rattle.tl_form.specs.declared.cell.Content.TheOpen as open_content
 use Rattle.tl_form.specs.declared.cell.Table.{Table, out-Table}
@@ -27,17 +28,9 @@ each_joined P f (x ∷ xs) all = let both = each_split P (f x) (flat_map f xs) (
     each_split P [] zs all = (tt, all)
     each_split P (y ∷ ys) zs all = let rest = each_split P ys zs all.1 in ((all.0, rest.0), rest.1)
 
-pub weaker_each : {X : Type 0} (P Q : X → Type 0) (xs : List X) → ((x : X) → P x → Q x) → AllByRecursion P xs → AllByRecursion Q xs
-weaker_each P Q [] weaker all = tt
-weaker_each P Q (x ∷ xs) weaker all = (weaker x all.0, weaker_each P Q xs weaker all.1)
-
 pub both_each : {X : Type 0} (P Q : X → Type 0) (xs : List X) → AllByRecursion P xs → AllByRecursion Q xs → AllByRecursion (λ x. P x × Q x) xs
 both_each P Q [] one other = tt
 both_each P Q (x ∷ xs) one other = ((one.0, other.0), both_each P Q xs one.1 other.1)
-
-pub append_each : {X : Type 0} (P : X → Type 0) (xs ys : List X) → AllByRecursion P xs → AllByRecursion P ys → AllByRecursion P (xs ++ ys)
-append_each P [] ys one other = other
-append_each P (x ∷ xs) ys one other = (one.0, append_each P xs ys one.1 other)
 
 -- joined, what each measures is no greater than all together
 small_joined : {X : Type 0} (measure : Table → ℕ) (f : X → List Table) (size : X → ℕ) (xs : List X) →
@@ -47,9 +40,9 @@ small_joined measure f size [] each = tt
 small_joined measure f size (x ∷ xs) each =
     let sum = sum_by-cons size x xs in
     subst (AllByRecursion (λ table. measure table ≤ sum_by size (x ∷ xs))) (sym (flat_map-cons f x xs))
-    (append_each (λ table. measure table ≤ sum_by size (x ∷ xs)) (f x) (flat_map f xs)
-    (weaker_each (λ table. measure table ≤ size x) (λ table. measure table ≤ sum_by size (x ∷ xs)) (f x) (λ table small. omega arith) (each x))
-    (weaker_each (λ table. measure table ≤ sum_by size xs) (λ table. measure table ≤ sum_by size (x ∷ xs)) (flat_map f xs)
+    (AllByRecursion-append (λ table. measure table ≤ sum_by size (x ∷ xs)) (f x) (flat_map f xs)
+    (AllByRecursion-weaker (λ table. measure table ≤ size x) (λ table. measure table ≤ sum_by size (x ∷ xs)) (f x) (λ table small. omega arith) (each x))
+    (AllByRecursion-weaker (λ table. measure table ≤ sum_by size xs) (λ table. measure table ≤ sum_by size (x ∷ xs)) (flat_map f xs)
     (λ table small. omega arith) (small_joined measure f size xs each)))
 
 -- ---- a nested table holds no more than the table
@@ -60,7 +53,7 @@ small_in_block (open_content.Table box) = (omega arith, tt)
 
 small_in_cell : (cell : TableCell) → AllByRecursion (λ table. table_size table ≤ cell_size cell) (tables_in (out-TableCell cell))
 small_in_cell cell =
-    weaker_each (λ table. table_size table ≤ sum_by content_size (out-TableCell cell).blocks) (λ table. table_size table ≤ cell_size cell)
+    AllByRecursion-weaker (λ table. table_size table ≤ sum_by content_size (out-TableCell cell).blocks) (λ table. table_size table ≤ cell_size cell)
     (tables_in (out-TableCell cell)) (λ table small. omega (arith, cell_size-out cell))
     (small_joined table_size (λ block. tables_of (out-Content block)) content_size (out-TableCell cell).blocks
     (λ block. subst (λ n. AllByRecursion (λ table. table_size table ≤ n) (tables_of (out-Content block))) (sym (content_size-out block))
@@ -75,7 +68,7 @@ pub sound_inner : (table : Table) (depth : ℕ) → depth ≤ MAX_DEPTH → IsSo
     table_size table ≤ MAX_FILE_BYTES → AllByRecursion IsSound (inner_tables (out-Table table))
 sound_inner table zero shallow sound few size = absurd sound
 sound_inner table (suc depth) shallow sound few size =
-    weaker_each (λ inner. IsSoundWithin depth inner × ((table_size inner ≤ table_size table) ×
+    AllByRecursion-weaker (λ inner. IsSoundWithin depth inner × ((table_size inner ≤ table_size table) ×
     ((out-Table inner).number + nested_in_table inner ≤ (out-Table table).number + nested_in_table table)))
     IsSound (inner_tables (out-Table table))
     (λ inner all. record { depth = depth; shallow = omega arith; sound = all.0; few_tables = omega (arith, all.1.1); size = omega (arith, all.1.0) })
@@ -94,7 +87,7 @@ narrow_of table (suc depth) sound = sound.narrow
 -- each cell of a sound table is sound
 pub sound_cells : (table : Table) → IsSound table → AllByRecursion (λ cell. IsSoundCell (out-TableCell cell)) (out-Table table).cells
 sound_cells table sound =
-    weaker_each (λ cell. ((out-TableCell cell).least ≤ MAX_PAGE_WIDTH) × AllByRecursion IsSound (tables_in (out-TableCell cell)))
+    AllByRecursion-weaker (λ cell. ((out-TableCell cell).least ≤ MAX_PAGE_WIDTH) × AllByRecursion IsSound (tables_in (out-TableCell cell)))
     (λ cell. IsSoundCell (out-TableCell cell)) (out-Table table).cells
     (λ cell both. record { narrow = both.0; inner = both.1 })
     (both_each (λ cell. (out-TableCell cell).least ≤ MAX_PAGE_WIDTH) (λ cell. AllByRecursion IsSound (tables_in (out-TableCell cell)))
@@ -111,3 +104,10 @@ sound_blocks cell sound = each_joined IsSound (λ block. tables_of (out-Content 
 -- what holds of each item holds of one that a loop has come to
 pub at_item : {X : Type 0} (P : X → Type 0) (xs : List X) (i : ℕ) (x : X) → AllByRecursion P xs → i < length xs → x ≡ get_or xs i x → P x
 at_item P xs i x all within is = subst P (sym is) (All-get_or P xs i x within (All-from_recursion P xs all))
+
+-- what is so of each table of each item is so of each of all their tables
+pub joined-each : {X : Type 0} (P : Table → Type 0) (f : X → List Table) (xs : List X) → AllByRecursion (λ x. AllByRecursion P (f x)) xs →
+    AllByRecursion P (flat_map f xs)
+joined-each P f [] all = tt
+joined-each P f (x ∷ xs) all =
+    subst (AllByRecursion P) (sym (flat_map-cons f x xs)) (AllByRecursion-append P (f x) (flat_map f xs) all.0 (joined-each P f xs all.1))

@@ -1,12 +1,12 @@
 -- The paragraphs of a table that a sound tree becomes are paragraphs, whether their words are broken or not.
-use Rattle.std.proofs.Common.{◌≡◌, ℕ, Option, Some, None, List, [], ◌∷◌, refl, sym, subst}
+use Rattle.std.proofs.Common.{◌≡◌, ℕ, Option, Some, None, List, [], ◌∷◌, sym, subst}
 use Rattle.std.specs.List.{AllByRecursion}
 use Rattle.tl_base.specs.declared.breaking.Breaking.{Breaking}
 use Rattle.tl_base.specs.declared.breaking.Breaking.TheVariants.{Words, Any}
 use Rattle.tl_text.specs.declared.paragraph.Atom.{Atom}
 use Rattle.tl_text.specs.Paragraph.{IsParagraph}
 use Rattle.tl_text.proofs.ClusterLemmas.{separated_paragraph}
-use Rattle.tl_tree.specs.Outline.{Entries, paragraph, block_outline, cell_outline, outline}
+use Rattle.tl_tree.specs.Outline.{block_outline, cell_outline, outline}
 use Rattle.tl_tree.specs.Sound.{AreSound}
 use Rattle.tl_tree.specs.declared.node.Block.{Block, out-Block}
 use Rattle.tl_tree.specs.declared.node.Block.TheOpen as open_block

@@ -1,22 +1,20 @@
 -- Steps that are found width by width: at each width one more, where the height is lower.
-use Rattle.std.proofs.Common.{◌≡◌, ◌∙◌, ℕ, zero, suc, ◌+◌, ◌-◌, ◌<◌, ◌≤◌, nat_le, nat_lt, Bool, true, false, cond, if◌then◌else◌, List, [], ◌∷◌}
+use Rattle.std.proofs.Common.{◌≡◌, ◌∙◌, ℕ, zero, suc, ◌+◌, ◌-◌, ◌<◌, ◌≤◌, nat_le, nat_lt, Bool, false, cond, if◌then◌else◌, List, [], ◌∷◌}
 use Rattle.std.proofs.Common.{◌++◌, ◌⊎◌, inl, inr, length, get_or, filter, slice_get, option_map, Option, None, Some, refl, sym, ap, subst, arith}
 use Rattle.std.proofs.Common.{length-append}
 use Rattle.std.specs.List.{All, last_or}
 use Rattle.std.proofs.lemmas.Bool.{cases_lt}
 use Rattle.std.proofs.lemmas.Bool.Decides.{nat_tests}
-use Rattle.std.proofs.lemmas.Option.{slice_get-get_or}
-use Rattle.std.proofs.lemmas.List.Elements.{All-nil, All-push, filter-append}
+use Rattle.std.proofs.lemmas.Option.{slice_get-get_or, same_Some}
+use Rattle.std.proofs.lemmas.List.Elements.{All-nil, All-push}
 use Rattle.std.proofs.lemmas.List.Quantifiers.{all_pairs_push}
 use Rattle.tl_base.specs.declared.steps.Config.{Config}
 use Rattle.tl_base.specs.Steps.{AreSteps, first_width, height_at}
-use Rattle.tl_base.proofs.Decreasing.{no_step, test_le, test_le_false}
+use Rattle.tl_base.proofs.Decreasing.{no_step, test_le, test_le_false, test_lt}
+use Rattle.tl_base.proofs.Stacking.{height_at-push}
 use Rattle.tl_form.specs.Problems.{AreStepsOf}
 use Rattle.tl_form.specs.inner.Collecting.{is_below, with_step, AreStepsBelow}
 use Rattle.tl_form.proofs.NeedSteps.{first-least}
-
-test_lt : {a b : ℕ} → a < b → nat_lt a b ≡ true
-test_lt less = grind (arith, nat_tests)
 
 test_lt_false : {a b : ℕ} → b ≤ a → nat_lt a b ≡ false
 test_lt_false more = grind (arith, nat_tests)
@@ -27,27 +25,11 @@ last_push : {X : Type 0} (o : Option X) (xs : List X) (x : X) → last_or o (xs 
 last_push o [] x = refl
 last_push o (y ∷ xs) x = last_push (Some y) xs x
 
-height_push : (steps : List Config) (step : Config) (w : ℕ) →
-    height_at (steps ++ step ∷ []) w ≡ cond (nat_le step.width w) (Some step.height) (height_at steps w)
-height_push steps step w =
-    ap (λ narrow. option_map (λ s. s.height) (last_or None narrow)) (filter-append (λ s. nat_le s.width w) steps (step ∷ []))
-    ∙ last_is (filter (λ s. nat_le s.width w) steps) (nat_le step.width w)
-  where
-    nil : (all : List Config) → all ++ [] ≡ all
-    nil [] = refl
-    nil (x ∷ all) = ap (λ rest. x ∷ rest) (nil all)
-
-    last_is : (all : List Config) (narrow : Bool) →
-        option_map (λ s. s.height) (last_or None (all ++ cond narrow (step ∷ []) [])) ≡ cond narrow (Some step.height) (option_map (λ s.
-        s.height) (last_or None all))
-    last_is all true = ap (option_map (λ s. s.height)) (last_push None all step)
-    last_is all false = ap (λ xs. option_map (λ s. s.height) (last_or None xs)) (nil all)
-
 height_push-below : (steps : List Config) (step : Config) (w : ℕ) → w < step.width → height_at (steps ++ step ∷ []) w ≡ height_at steps w
-height_push-below steps step w less = height_push steps step w ∙ ap (λ b. cond b (Some step.height) (height_at steps w)) (test_le_false less)
+height_push-below steps step w less = height_at-push steps step w ∙ ap (λ b. cond b (Some step.height) (height_at steps w)) (test_le_false less)
 
 height_push-past : (steps : List Config) (step : Config) (w : ℕ) → step.width ≤ w → height_at (steps ++ step ∷ []) w ≡ Some step.height
-height_push-past steps step w more = height_push steps step w ∙ ap (λ b. cond b (Some step.height) (height_at steps w)) (test_le more)
+height_push-past steps step w more = height_at-push steps step w ∙ ap (λ b. cond b (Some step.height) (height_at steps w)) (test_le more)
 
 -- where all steps are narrow enough the last has the height
 height_all : (steps : List Config) (w : ℕ) → 0 < length steps → All (λ step. step.width ≤ w) steps →
@@ -70,9 +52,6 @@ height_all steps w some narrow =
         at : length (x ∷ y ∷ xs) - 1 ≡ suc (length (y ∷ xs) - 1) → get_or (y ∷ xs) (length (y ∷ xs) - 1) no_step ≡
             get_or (x ∷ y ∷ xs) (length (x ∷ y ∷ xs) - 1) no_step
         at same = sym (ap (λ k. get_or (x ∷ y ∷ xs) k no_step) same)
-
-some_is : {X : Type 0} {x y : X} → Some x ≡ Some y → x ≡ y
-some_is equal = cc
 
 -- ---- one width more
 
@@ -112,7 +91,7 @@ module _ (needs : ℕ → ℕ → Type 0) (functional : (w a b : ℕ) → needs 
       ]
         where
           same_last : (d : Config) → (get_or steps (length steps - 1) d).height ≡ last.height
-          same_last d = ap (λ (s : Config). s.height) (some_is (sym (slice_get-get_or steps (length steps - 1) d (omega arith))
+          same_last d = ap (λ (s : Config). s.height) (same_Some _ _ (sym (slice_get-get_or steps (length steps - 1) d (omega arith))
               ∙ slice_get-get_or steps (length steps - 1) no_step (omega arith)))
 
       first_kept : (xs : List Config) → (0 < length xs → first_width xs ≡ least) → first_width (steps ++ step ∷ []) ≡ least
@@ -168,7 +147,7 @@ module _ (needs : ℕ → ℕ → Type 0) (functional : (w a b : ℕ) → needs 
 
       stays : h ≡ last.height
       stays =
-          let same : previous.0 ≡ last.height = some_is (sym previous.1 ∙ height_all steps (w - 1) some (narrow (w - 1) (omega (arith, before_w)))) in
+          let same : previous.0 ≡ last.height = same_Some _ _ (sym previous.1 ∙ height_all steps (w - 1) some (narrow (w - 1) (omega (arith, before_w)))) in
           omega (arith, higher, same, falls (w - 1) w previous.0 h (omega arith) previous.2 here)
 
       at : (v : ℕ) → v < w + 1 → least ≤ v → (v < w) ⊎ (w ≤ v) → (n : ℕ) × (height_at steps v ≡ Some n) × needs v n
@@ -216,7 +195,7 @@ module _ (needs : ℕ → ℕ → Type 0) (functional : (w a b : ℕ) → needs 
     forth w h within is =
         let since : least ≤ w = omega (arith, below.first are.has_step, first-least steps are w h is) in
         let found = below.each w (omega (arith, within)) since in
-        (since, subst (needs w) (some_is (sym found.1 ∙ is)) found.2)
+        (since, subst (needs w) (same_Some _ _ (sym found.1 ∙ is)) found.2)
 
   pub below_begins : (page : ℕ) (steps : List Config) → least ≤ page → AreStepsBelow needs least (page + 1) steps → first_width steps ≡ least
   below_begins page steps wide below = below.first (below.some (omega (arith, wide)))

@@ -1,19 +1,17 @@
 -- What is needed from a width on, and falls, has steps; and so has what a cell needs where its nested tables do.
-use Rattle.std.proofs.Common.{◌≡◌, ℕ, zero, suc, ◌+◌, ◌-◌, ◌<◌, ◌≤◌, ◌⊎◌, inl, inr, max, List, [], ◌∷◌, ◌++◌, length, Some, Contains, sum, refl, sym}
+use Rattle.std.proofs.Common.{◌≡◌, ℕ, zero, suc, ◌+◌, ◌-◌, ◌≤◌, inl, inr, max, List, [], ◌∷◌, ◌++◌, Contains, sum, refl}
 use Rattle.std.proofs.Common.{ap, subst, ◌∙◌, arith}
-use Rattle.std.specs.List.{All, AllPairs, AllZip, AllByRecursion}
+use Rattle.std.specs.List.{AllByRecursion}
 use Rattle.std.proofs.lemmas.Bool.{cases_lt}
 use Rattle.std.proofs.lemmas.List.{length_push}
 use Rattle.std.proofs.lemmas.List.Elements.{All-contains, Contains-push, Contains-push_cases, Contains-append_left}
 use Rattle.tl_base.specs.declared.steps.Config.{Config}
-use Rattle.tl_base.specs.Steps.{AreSteps, height_at}
 use Rattle.tl_base.proofs.Decreasing.{Falls}
-use Rattle.tl_base.proofs.Members.{All-from_Contains, AllPairs-append, AllPairs-cons, AllPairs-none, Contains-none}
+use Rattle.tl_base.proofs.Members.{AllPairs-append, AllPairs-cons, AllPairs-none, Contains-none}
 use Rattle.tl_base.proofs.Sums.{sum-cons}
 use Rattle.tl_text.specs.declared.paragraph.Atom.{Atom}
 use Rattle.tl_text.specs.Cuttings.{LeastLines}
-use Rattle.tl_text.specs.Paragraph.{unit_width}
-use Rattle.tl_text.proofs.Paragraphs.{AllFit, LeastLines-falls}
+use Rattle.tl_text.proofs.Paragraphs.{LeastLines-falls}
 use Rattle.tl_form.specs.declared.cell.Content.{Content, out-Content}
 use Rattle.tl_form.specs.declared.cell.Content.TheOpen as open_content
 use Rattle.tl_form.specs.declared.cell.Table.{Table}
@@ -25,6 +23,7 @@ use Rattle.tl_form.proofs.CellNeedLemmas.{blocks-cell, cell-blocks}
 use Rattle.tl_form.proofs.NeedSteps.{IsDecreasing, AreStepsOf-from, height-own, step-at}
 use Rattle.tl_form.proofs.ParagraphSteps.{fit-from_lines, lines-from_fit}
 use Rattle.tl_form.proofs.SoundParts.{each_joined}
+use Rattle.tl_form.proofs.OwnWidths.{fit_of_widest, widest_of_fit}
 
 -- ---- steps, width by width
 
@@ -135,18 +134,10 @@ module _ (needs : ℕ → ℕ → Type 0) (start : ℕ) (begins : IsStart needs 
 
 -- ---- a paragraph begins at its widest unit
 
-widest-fits : (w : ℕ) (atoms : List Atom) → widest_unit atoms ≤ w → AllFit w atoms
-widest-fits w [] wide = tt
-widest-fits w (atom ∷ atoms) wide = (omega (arith, wide), widest-fits w atoms (omega (arith, wide)))
-
-fits-widest : (w : ℕ) (atoms : List Atom) → AllFit w atoms → widest_unit atoms ≤ w
-fits-widest w [] fit = omega arith
-fits-widest w (atom ∷ atoms) fit = omega (arith, fit.0, fits-widest w atoms fit.1)
-
 pub paragraph-start : (atoms : List Atom) → IsStart (λ w h. LeastLines w atoms h) (widest_unit atoms)
 paragraph-start atoms = record {
-  from = λ w h least. fits-widest w atoms (fit-from_lines w atoms h least);
-  has = λ w wide. lines-from_fit w atoms (widest-fits w atoms wide);
+  from = λ w h least. widest_of_fit w atoms (fit-from_lines w atoms h least);
+  has = λ w wide. lines-from_fit w atoms (fit_of_widest w atoms wide);
 }
 
 -- ---- a cell begins where each of its blocks does

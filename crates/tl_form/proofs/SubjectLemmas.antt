@@ -1,14 +1,12 @@
 -- The document that a subject is: each number has its table, and its least width.
-use Rattle.std.proofs.Common.{◌≡◌, ◌∙◌, ℕ, zero, suc, ◌+◌, ◌-◌, ◌<◌, ◌≤◌, Bool, true, false, if◌then◌else◌, ◌==◌, nat_le, List, [], ◌∷◌, ◌++◌, ◌⊎◌}
+use Rattle.std.proofs.Common.{◌≡◌, ◌∙◌, ℕ, ◌+◌, ◌-◌, ◌<◌, ◌≤◌, List, [], ◌∷◌, ◌++◌}
 use Rattle.std.proofs.Common.{inl, inr, length, get_or, Option, None, Some, IsSome, MatchOption, Result, Ok, Err, IfOk, refl, sym, ap, subst, arith}
-use Rattle.std.proofs.Common.{length-append}
 use Rattle.std.proofs.Math.Seq.{get_or-append_seam}
-use Rattle.std.proofs.lemmas.Bool.{cases_lt, eq-eqb, ne_eqb}
+use Rattle.std.proofs.lemmas.Bool.{cases_lt}
 use Rattle.std.proofs.lemmas.List.{get_or_append_left, length_push}
 use Rattle.tl_base.specs.declared.style.Style.{Style}
-use Rattle.tl_problem.proofs.Heights.{test_le, test_le_false}
 use Rattle.tl_form.specs.declared.cell.Table.{Table, out-Table}
-use Rattle.tl_form.specs.Expected.{Document, IsDocumentOf, due_in, next_due, next_width, own_number, least_of}
+use Rattle.tl_form.specs.Expected.{IsDocumentOf}
 use Rattle.tl_form.specs.Least.{IsLeastWidth}
 use Rattle.tl_form.specs.Numbered.{HasNumber, LacksNumber}
 use Rattle.tl_form.specs.Problems.{IsAmong}

@@ -81,10 +81,6 @@ twice {X = X} n f xs i j d before within first second =
 number : Table → ℕ
 number table = (out-Table table).number
 
--- the table is this one or inside it
-abbrev IsOneOf : Table → Table → Type 0
-IsOneOf table one = (table ≡ one) ⊎ ((depth : ℕ) × IsInsideWithin depth table one)
-
 inside_numbers : (depth : ℕ) (table one : Table) → IsInsideWithin depth table one →
     Contains (numbers_inside (out-Table table)) (out-Table one).number
 inside_numbers zero table one inside = absurd inside
@@ -115,7 +111,7 @@ module _ (depth : ℕ) (table : Table) (sound : IsSoundWithin (suc depth) table)
   )
 
 -- a table that is this one or inside it has a number of this one
-one_numbers : (table one : Table) → IsOneOf table one → Contains (numbers_of_table table) (out-Table one).number
+one_numbers : (table one : Table) → IsAmong table one → Contains (numbers_of_table table) (out-Table one).number
 one_numbers table one (inl same) =
     subst (λ numbers. Contains numbers (out-Table one).number) (sym (numbers_of_table-out table))
     (subst (λ n. Contains (n ∷ numbers_inside (out-Table table)) (out-Table one).number) (ap (λ t. (out-Table t).number) (sym same))
@@ -125,13 +121,13 @@ one_numbers table one (inr inside) =
     (Contains-later (out-Table table).number (numbers_inside (out-Table table)) (out-Table one).number
     (inside_numbers inside.0 table one inside.1))
 
-nested_one : (depth : ℕ) (nested one : Table) → (nested ≡ one) ⊎ IsInsideWithin depth nested one → IsOneOf nested one
+nested_one : (depth : ℕ) (nested one : Table) → (nested ≡ one) ⊎ IsInsideWithin depth nested one → IsAmong nested one
 nested_one depth nested one (inl same) = inl same
 nested_one depth nested one (inr inside) = inr (depth, inside)
 
 -- ---- exactly one
 
-same_one : (depth : ℕ) (table one other : Table) → IsSoundWithin depth table → IsOneOf table one → IsOneOf table other →
+same_one : (depth : ℕ) (table one other : Table) → IsSoundWithin depth table → IsAmong table one → IsAmong table other →
     (out-Table one).number ≡ (out-Table other).number → one ≡ other
 same_one zero table one other sound is are same = absurd sound
 same_one (suc depth) table one other sound (inl is) (inl are) same = sym is ∙ are
@@ -166,10 +162,10 @@ same_one (suc depth) table one other sound (inr (suc shallow, within)) (inr (suc
     n : ℕ
     n = (out-Table one).number
 
-    first : IsOneOf within.0 one
+    first : IsAmong within.0 one
     first = nested_one shallow within.0 one within.2
 
-    second : IsOneOf inside.0 other
+    second : IsAmong inside.0 other
     second = nested_one deep inside.0 other inside.2
 
     has_one : (d : Table) → Contains (numbers_of_table (get_or inner i d)) n
@@ -181,7 +177,7 @@ same_one (suc depth) table one other sound (inr (suc shallow, within)) (inr (suc
         (subst (Contains (numbers_of_table inside.0)) (sym same) (one_numbers inside.0 other second))
 
     Again : Type 0
-    Again = IsSoundWithin depth within.0 → IsOneOf within.0 one → IsOneOf within.0 other → (out-Table one).number ≡ (out-Table other).number →
+    Again = IsSoundWithin depth within.0 → IsAmong within.0 one → IsAmong within.0 other → (out-Table one).number ≡ (out-Table other).number →
         one ≡ other
 
     meet : Again → i ≡ j → one ≡ other
@@ -189,7 +185,7 @@ same_one (suc depth) table one other sound (inr (suc shallow, within)) (inr (suc
         let equal : inside.0 ≡ within.0 = sym inside.1.2 ∙ ap (λ k. get_or inner k inside.0) (sym at)
         ∙ get_or_default inner i inside.0 within.0 within.1.1 ∙ within.1.2 in
         again (All-contains (IsSoundWithin depth) inner within.0 (All-from_recursion (IsSoundWithin depth) inner sound.inner) within.1)
-        first (subst (λ t. IsOneOf t other) equal second) same
+        first (subst (λ t. IsAmong t other) equal second) same
 
     at_index : (i < j) ⊎ (j ≤ i) → Again → one ≡ other
     at_index (inl before) again = absurd (omega (
@@ -208,7 +204,7 @@ same_one (suc depth) table one other sound (inr (suc shallow, within)) (inr (suc
 
 -- a number of the table is that of the table or of one inside
 number_one : (depth : ℕ) (table : Table) → IsSoundWithin depth table → (n : ℕ) → Contains (numbers_of_table table) n →
-    (one : Table) × IsOneOf table one × ((out-Table one).number ≡ n)
+    (one : Table) × IsAmong table one × ((out-Table one).number ≡ n)
 number_one zero table sound n has = absurd sound
 number_one (suc depth) table sound n has =
     by_case (Contains-cases (out-Table table).number (numbers_inside (out-Table table)) n
@@ -217,14 +213,14 @@ number_one (suc depth) table sound n has =
     inner : List Table
     inner = inner_tables (out-Table table)
 
-    deeper : (nested one : Table) → Contains inner nested → IsOneOf nested one → IsOneOf table one
+    deeper : (nested one : Table) → Contains inner nested → IsAmong nested one → IsAmong table one
     deeper nested one among (inl same) = inr (1, (nested, among, inl same))
     deeper nested one among (inr inside) = inr (suc inside.0, (nested, among, inr inside.1))
 
     by_case : ((out-Table table).number ≡ n) ⊎ Contains (numbers_inside (out-Table table)) n →
         ((nested : Table) → IsSoundWithin depth nested → Contains (numbers_of_table nested) n →
-        (one : Table) × IsOneOf nested one × ((out-Table one).number ≡ n)) →
-        (one : Table) × IsOneOf table one × ((out-Table one).number ≡ n)
+        (one : Table) × IsAmong nested one × ((out-Table one).number ≡ n)) →
+        (one : Table) × IsAmong table one × ((out-Table one).number ≡ n)
     by_case (inl own) again = (table, inl refl, own)
     by_case (inr later) again =
         let found = flat_map-Contains numbers_of_table inner n (subst (λ numbers. Contains numbers n) (inner_numbers table) later) in

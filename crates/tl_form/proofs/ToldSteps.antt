@@ -1,9 +1,8 @@
 -- The steps that the sections of a table tell: what is collected width by width, and what is said of sections.
-use Rattle.std.proofs.Common.{◌≡◌, ◌∙◌, ℕ, ◌+◌, ◌-◌, ◌^◌, ◌<◌, ◌≤◌, List, [], ◌∷◌, subst, arith}
-use Rattle.std.specs.List.{All}
+use Rattle.std.proofs.Common.{◌≡◌, ◌∙◌, ℕ, ◌+◌, ◌-◌, ◌^◌, ◌<◌, ◌≤◌, List, [], subst, arith}
 use Rattle.tl_base.specs.declared.steps.Config.{Config}
 use Rattle.tl_base.specs.declared.style.Style.{Style}
-use Rattle.tl_base.specs.Steps.{AreSteps, first_width}
+use Rattle.tl_base.proofs.Stacking.{first_width-within}
 use Rattle.tl_cert.specs.declared.section.Section.{Section}
 use Rattle.tl_form.specs.declared.cell.Table.{Table, out-Table}
 use Rattle.tl_form.specs.declared.heights.Bound.{Bound}
@@ -21,15 +20,10 @@ use Rattle.tl_form.proofs.Truth.{height_from}
 
 -- ---- width by width
 
--- steps do not begin past the page
-begins_within : (page : ℕ) (steps : List Config) → AreSteps steps → All (λ step. step.width ≤ page) steps → first_width steps ≤ page
-begins_within page [] are within = absurd (omega (arith, are.has_step))
-begins_within page (step ∷ steps) are within = within 0 step (omega arith)
-
 pub never_wide : (bound : Bound) (told : List Told) (least page : ℕ) (steps : List Config) → AreToldSteps bound told least page steps →
     page < least → ⊥
 never_wide bound told least page steps is wide =
-    omega (arith, wide, is.begins, begins_within page steps is.are.decreasing is.are.within)
+    omega (arith, wide, is.begins, first_width-within page steps is.are.decreasing is.are.within)
 
 pub height_missing : (bound : Bound) (told : List Told) (least page w : ℕ) (steps : List Config) → AreToldSteps bound told least page steps →
     least ≤ w → w ≤ page → ((h : ℕ) → TellsHeight bound told w h → ⊥) → ⊥

@@ -57,9 +57,6 @@ nested_among table one nested (inr inside) has = inr (suc inside.0, inside_furth
 
 -- ---- the steps of a nested table among those of all
 
-some_is : {X : Type 0} {x y : X} → Some x ≡ Some y → x ≡ y
-some_is equal = cc
-
 -- the first steps with the number of a nested table are those of a table with that number
 pub record HasStepsOf (style : Style) (page : ℕ) (before : List Section) (tables : List Table) (inner : List InnerSteps) (number : ℕ) : Type 0 where
   pub steps : InnerSteps

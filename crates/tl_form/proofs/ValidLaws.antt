@@ -1,15 +1,17 @@
 -- What a valid certificate proves of the table.
-use Rattle.std.proofs.Common.{◌≡◌, ◌∙◌, ℕ, zero, suc, ◌+◌, ◌<◌, ◌≤◌, inl, List, [], ◌∷◌, length, get_or, take, Option, None, Some, refl, sym, ap}
+use Rattle.std.proofs.Common.{◌≡◌, ◌∙◌, ℕ, suc, ◌+◌, ◌≤◌, inl, List, [], ◌∷◌, length, get_or, take, None, Some, sym, ap}
 use Rattle.std.proofs.Common.{subst, arith}
 use Rattle.std.specs.List.{last_or}
 use Rattle.std.specs.Option.{IsSomeAnd}
 use Rattle.std.proofs.lemmas.List.{take_all, length-take}
 use Rattle.std.proofs.lemmas.List.Elements.{All-get_or}
 use Rattle.tl_base.specs.declared.style.Style.{Style}
+use Rattle.tl_base.proofs.Decreasing.{last_or-take}
 use Rattle.tl_cert.specs.declared.certificate.Certificate.{Certificate}
 use Rattle.tl_cert.specs.declared.certificate.Claim.{Claim}
 use Rattle.tl_cert.specs.declared.certificate.Claim.TheVariants.{Lowest, Bounded, Narrow}
 use Rattle.tl_cert.specs.declared.section.Section.{Section}
+use Rattle.tl_cert.specs.Text.{IsNarrow}
 use Rattle.tl_form.specs.declared.cell.Table.{Table, out-Table}
 use Rattle.tl_form.specs.Chains.{IsChain}
 use Rattle.tl_form.specs.Expected.{Document, IsDocumentOf, IsTableOf, own_number, next_due, placed_width, due_after}
@@ -17,16 +19,10 @@ use Rattle.tl_form.specs.Layouts.{Fits}
 use Rattle.tl_form.specs.Laws.{NoPageIsNarrowerThanAChain}
 use Rattle.tl_form.specs.ProblemLaws.{LayoutsAreByLow, LayoutsByHighFit}
 use Rattle.tl_form.specs.Sound.{IsSound}
-use Rattle.tl_form.specs.Valid.{IsNarrow, AreWhole, AreTooWide, IsShown, HasNumbers, EndsWith}
+use Rattle.tl_form.specs.Valid.{AreWhole, AreTooWide, IsShown, HasNumbers, EndsWith}
 use Rattle.tl_form.specs.ValidLaws.{IsBetween, LowestIsLeast, BoundedIsBetween, NarrowIsTooWide}
 use Rattle.tl_form.proofs.DueLaws.{due_after-more, due_next, last_is_own, may_be_due}
 use Rattle.tl_form.proofs.Truth.{Fits-wider, IsTrue, all_true}
-
--- the last of some items
-pub last_or-take : {X : Type 0} (o : Option X) (xs : List X) (n : ℕ) (d : X) → n < length xs → last_or o (take (suc n) xs) ≡ Some (get_or xs n d)
-last_or-take o [] n d within = absurd (omega arith)
-last_or-take o (x ∷ xs) zero d within = refl
-last_or-take o (x ∷ xs) (suc n) d within = last_or-take (Some x) xs n d (omega arith)
 
 -- the last section is one of the document's own table on the whole page
 pub record IsOwnLast (document : Document) (sections : List Section) : Type 0 where

@@ -1,5 +1,5 @@
 -- Demands of a sound table, and how wide it is beside what it holds.
-use Rattle.std.proofs.Common.{◌≡◌, ◌∙◌, ℕ, zero, suc, ◌+◌, ◌-◌, ◌*◌, ◌<◌, ◌≤◌, max, List, [], ◌∷◌, ◌++◌, length, take, map, get_or, sum_by}
+use Rattle.std.proofs.Common.{◌≡◌, ◌∙◌, ℕ, zero, suc, ◌+◌, ◌-◌, ◌<◌, ◌≤◌, max, List, [], ◌∷◌, ◌++◌, length, take, map, get_or, sum_by}
 use Rattle.std.proofs.Common.{slice_index_or, refl, sym, ap, subst, length-append, arith}
 use Rattle.std.specs.List.{All, AllByRecursion}
 use Rattle.std.proofs.lemmas.List.{take_more}
@@ -9,6 +9,7 @@ use Rattle.tl_base.specs.declared.limits.TheConstants.{MAX_COLUMNS}
 use Rattle.tl_base.specs.declared.style.Style.{Style}
 use Rattle.tl_base.specs.Style.{gap_of}
 use Rattle.tl_base.specs.declared.limits.TheConstants.{MAX_PAGE_WIDTH}
+use Rattle.tl_base.proofs.Zips.{AllZip-push}
 use Rattle.tl_grid.specs.declared.shape.Place.{Place}
 use Rattle.tl_grid.specs.Dropping.{IsPlaced}
 use Rattle.tl_grid.specs.Slots.{HasAnchorInColumn}
@@ -22,7 +23,7 @@ use Rattle.tl_form.specs.Least.{IsLeastWidth}
 use Rattle.tl_form.specs.Sound.{IsSoundWithin, IsSound, place_of, places_of, table_size, cell_size, content_size}
 use Rattle.tl_form.specs.inner.Demands.{AreDemands, AreSmall, IsPlacedDemand, IsLeastFor, most_gaps, most_width}
 use Rattle.tl_form.specs.inner.LeastRooms.{IsDemandOf, AreDemandsOf, IsLeastForBlock, IsLeastForBlocks, IsLeastRoom}
-use Rattle.tl_form.proofs.LeastRoomLemmas.{AllZip-push, least_for_none, least_for_more, least_for_cell}
+use Rattle.tl_form.proofs.LeastRoomLemmas.{least_for_none, least_for_more, least_for_cell}
 use Rattle.tl_form.proofs.LeastWidths.{least_width_for}
 use Rattle.tl_form.proofs.SizesOpen.{table_size-out, cell_size-out}
 

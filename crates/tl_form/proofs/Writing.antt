@@ -1,11 +1,11 @@
 -- Cells that are written one after another, each at the place of its number.
-use Rattle.std.proofs.Common.{◌≡◌, ◌∙◌, ℕ, ◌+◌, ◌<◌, ◌≤◌, List, [], ◌∷◌, ◌++◌, length, map, get_or, take, drop, refl, sym, ap, subst, append_assoc}
+use Rattle.std.proofs.Common.{◌≡◌, ◌∙◌, ℕ, ◌+◌, ◌<◌, ◌≤◌, List, [], ◌∷◌, ◌++◌, length, map, get_or, take, drop, sym, ap, subst, append_assoc}
 use Rattle.std.proofs.Common.{length-append, arith}
 use Rattle.std.specs.List.{AllZip, flat_map}
 use Rattle.std.proofs.lemmas.Grind.{flat_map-append}
 use Rattle.std.proofs.lemmas.List.{append-nil, map-append, take_more, take-append-drop}
 use Rattle.tl_base.specs.declared.breaking.Breaking.{Breaking}
-use Rattle.tl_base.proofs.Zips.{AllZip-push}
+use Rattle.tl_base.proofs.Zips.{AllZip-push, AllZip-append, AllZip-length}
 use Rattle.tl_grid.specs.declared.shape.Place.{Place}
 use Rattle.tl_tree.specs.declared.node.CellNode.{CellNode, out-CellNode}
 use Rattle.tl_form.specs.declared.cell.TableCell.{TableCell, out-TableCell}
@@ -13,28 +13,14 @@ use Rattle.tl_form.specs.Formed.{Becomes, BecomesCell}
 use Rattle.tl_form.specs.Sound.{place_of}
 use Rattle.tl_form.specs.inner.Forming.{Writes}
 
--- two pairs of lists whose items belong together, joined
-pub joined_zip : {A B : Type 0} (R : A → B → Type 0) (xs zs : List A) (ys ws : List B) → AllZip R xs ys → AllZip R zs ws → AllZip R (xs ++ zs) (ys ++ ws)
-joined_zip R [] zs [] ws first second = second
-joined_zip R [] zs (y ∷ ys) ws first second = absurd first
-joined_zip R (x ∷ xs) zs [] ws first second = absurd first
-joined_zip R (x ∷ xs) zs (y ∷ ys) ws first second = (first.0, joined_zip R xs zs ys ws first.1 second)
-
 pub Writes-none : (breaking : Breaking) (places : List Place) (before : List TableCell) → map place_of before ≡ take (length before) places →
     Writes breaking [] places before before
 Writes-none breaking places before placed = record { more = []; joined = sym (append-nil before); cells = tt; placed = placed }
 
--- they have as many items
-pub zip_length : {A B : Type 0} (R : A → B → Type 0) (xs : List A) (ys : List B) → AllZip R xs ys → length xs ≡ length ys
-zip_length R [] [] all = refl
-zip_length R [] (y ∷ ys) all = absurd all
-zip_length R (x ∷ xs) [] all = absurd all
-zip_length R (x ∷ xs) (y ∷ ys) all = let rest = zip_length R xs ys all.1 in omega arith
-
 pub Writes-length : (breaking : Breaking) (nodes : List CellNode) (places : List Place) (before after : List TableCell) →
     Writes breaking nodes places before after → length after ≡ length before + length nodes
 Writes-length breaking nodes places before after writes =
-    let both = zip_length (λ node cell. BecomesCell (Becomes breaking) breaking (out-CellNode node) (out-TableCell cell)) nodes writes.more writes.cells in
+    let both = AllZip-length (λ node cell. BecomesCell (Becomes breaking) breaking (out-CellNode node) (out-TableCell cell)) nodes writes.more writes.cells in
     omega (arith, ap length writes.joined, length-append before writes.more)
 
 pub Writes-cell : (breaking : Breaking) (nodes : List CellNode) (node : CellNode) (places : List Place) (before mid after : List TableCell) (cell : TableCell)
@@ -60,7 +46,7 @@ pub Writes-more : (breaking : Breaking) (nodes others : List CellNode) (places :
 Writes-more breaking nodes others places before mid after first second = record {
   more = first.more ++ second.more;
   joined = second.joined ∙ ap (λ (cells : List TableCell). cells ++ second.more) first.joined ∙ append_assoc before first.more second.more;
-  cells = joined_zip (λ one made. BecomesCell (Becomes breaking) breaking (out-CellNode one) (out-TableCell made)) nodes others first.more second.more
+  cells = AllZip-append (λ one made. BecomesCell (Becomes breaking) breaking (out-CellNode one) (out-TableCell made)) nodes others first.more second.more
       first.cells second.cells;
   placed = second.placed;
 }

@@ -5,9 +5,10 @@ use Rattle.tl_problem.specs.Problem.{ProblemModel}
 use Rattle.tl_cert.specs.declared.certificate.Certificate.{Certificate}
 use Rattle.tl_cert.specs.declared.certificate.Claim.TheVariants.{Narrow}
 use Rattle.tl_cert.specs.declared.section.Section.{Section}
+use Rattle.tl_cert.specs.Text.{IsNarrow}
 use Rattle.tl_form.specs.declared.cell.Table.{Table}
 use Rattle.tl_form.specs.Expected.{Document, IsDocumentOf, due_after, IsDue}
-use Rattle.tl_form.specs.Valid.{IsNarrow, IsClaimFor, AreTooWide, IsLaid, HasTrace, HasLog, AreGoodBelow, EndsWith}
+use Rattle.tl_form.specs.Valid.{IsClaimFor, AreTooWide, IsLaid, HasTrace, HasLog, AreGoodBelow, EndsWith}
 
 -- the certificate is for this document, its claim rests on sections, and the first `n` of them are good
 pub record IsGoodUpTo (document : Document) (budget : ℕ) (certificate : Certificate) (n : ℕ) : Type 0 where

@@ -16,6 +16,7 @@ use Rattle.tl_cert.specs.declared.certificate.Claim.TheVariants.{Lowest, Bounded
 use Rattle.tl_cert.specs.declared.section.Section.{Section}
 use Rattle.tl_cert.specs.Lines.{IsGoodLog}
 use Rattle.tl_cert.specs.Worked.{IsWorked}
+use Rattle.tl_cert.specs.Text.{IsNarrow}
 use Rattle.tl_form.specs.declared.cell.Table.{Table}
 use Rattle.tl_form.specs.declared.heights.InnerSteps.{InnerSteps}
 use Rattle.tl_form.specs.Chains.{IsChain}
@@ -24,12 +25,6 @@ use Rattle.tl_form.specs.Nested.{AreInnerSteps}
 use Rattle.tl_form.specs.Problems.{IsProblemOf}
 
 -- ---- the claim, and a chain
-
--- the claim says that the page is too narrow
-abbrev pub IsNarrow : Claim → Type 0
-IsNarrow (Lowest height) = ⊥
-IsNarrow (Bounded height lower) = ⊥
-IsNarrow (Narrow least) = Unit {0}
 
 -- the certificate is for this page, style and budget, and says that the page is too narrow exactly where no layout fits it
 pub record IsClaimFor (document : Document) (budget : ℕ) (certificate : Certificate) : Type 0 where

@@ -1,7 +1,7 @@
 //! Forms the table of a tree: its grid, its caption's row and its cells by top, then left.
 
-ghost use Rattle.std.specs.Prelude.{◌≡◌, ◌+◌, ◌<◌, ◌≤◌, ◌^◌, ◌++◌, [], ◌∷◌, length, map, take, IfOk, IfErr, alloc_error};
-ghost use Rattle.std.specs.List.{All, flat_map};
+ghost use Rattle.std.specs.Prelude.{◌≡◌, ◌+◌, ◌<◌, ◌≤◌, ◌++◌, [], length, map, take, IfOk, IfErr, alloc_error};
+ghost use Rattle.std.specs.List.{All};
 ghost use Rattle.std.specs.List.Sorted.{IsPermutation, IsNonDecreasingBy};
 ghost use Rattle.tl_base.specs.Returned.{ReturnsError, IsMemoryOr};
 ghost use Rattle.tl_base.specs.declared.limits.TheConstants.{MAX_ROWS};
@@ -13,17 +13,18 @@ ghost use Rattle.tl_tree.specs.declared.node.GroupNode.{out-GroupNode};
 ghost use Rattle.tl_tree.specs.declared.node.TableNode.{out-TableNode};
 ghost use Rattle.tl_tree.specs.Outline.{block_outline, cell_outline, group_outline, outline};
 ghost use Rattle.tl_tree.specs.Sound.{AreSound, IsSound};
+ghost use Rattle.tl_tree.specs.inner.Lines.{blocks_outline};
 ghost use Rattle.tl_form.specs.declared.cell.Content.{out-Content};
-ghost use Rattle.tl_form.specs.declared.cell.Table.{Table, out-Table};
+ghost use Rattle.tl_form.specs.declared.cell.Table.{Table};
 ghost use Rattle.tl_form.specs.declared.cell.TableCell.{out-TableCell};
 ghost use Rattle.tl_form.specs.declared.error.FormError.{FormError};
 ghost use Rattle.tl_form.specs.declared.error.FormError.TheVariants.{Memory};
-ghost use Rattle.tl_form.specs.Formed.{Becomes, BecomesContent, BecomeContents, BecomesCell, BecomesCaption, BecomeCaption, BecomeCells};
+ghost use Rattle.tl_form.specs.Formed.{Becomes, BecomesContent, BecomeContents, BecomesCell, BecomeCaption};
 ghost use Rattle.tl_form.specs.Formed.{caption_rows, cells_of_group, cells_written, kind_of, lowered, shape_of};
-ghost use Rattle.tl_form.specs.Refused.{AreRefused, IsRefused, tables_in_block, part_of_cell, part_of_group, tables_of};
+ghost use Rattle.tl_form.specs.Refused.{AreRefused, IsRefused, tables_in_block, part_of_cell, part_of_group};
 ghost use Rattle.tl_form.specs.Same.{ReturnsTable};
 ghost use Rattle.tl_form.specs.Sound.{IsSound as IsSoundTable, place_of};
-ghost use Rattle.tl_form.specs.inner.Forming.{IsOwnError, Writes, cells_outline, flow_outline, refusal, slot_number};
+ghost use Rattle.tl_form.specs.inner.Forming.{IsOwnError, Writes, cells_outline, refusal, slot_number};
 ghost use Rattle.tl_form.specs.inner.Forming.{tables_in_caption, tables_in_cells, tables_in_flow, tables_in_groups};
 
 use crate::cell::{Content, Kind, Table, TableCell};
@@ -138,7 +139,7 @@ fn content(alloc: Global, block: &Block, breaking: Breaking) -> Result<Content, 
 /// The blocks of a flow.
 #[cycle(forming)]
 fn contents(alloc: Global, flow: &[Block], breaking: Breaking) -> Result<List<Content>, FormError>
-    requires { AreSound (flow_outline flow.now) }
+    requires { AreSound (blocks_outline flow.now) }
     ensures ok { IfOk result (BecomeContents (Becomes breaking) breaking flow.now) }
     ensures err { IfErr result (IsMemoryOr (Memory alloc_error) (AreRefused (tables_in_flow flow.now))) }
 {

@@ -1,7 +1,6 @@
 //! The least width of a table: that of the narrowest page that any of its layouts fits.
 
-ghost use Rattle.std.specs.Prelude.{◌≡◌, ◌+◌, ◌*◌, ◌<◌, ◌≤◌, ◌^◌, ℕ, length, sum_by, IfOk, vec_len};
-ghost use Rattle.std.specs.List.{All};
+ghost use Rattle.std.specs.Prelude.{◌≡◌, ◌+◌, ◌<◌, ◌≤◌, sum_by, IfOk};
 ghost use Rattle.tl_base.specs.declared.limits.TheConstants.{MAX_HEIGHT};
 ghost use Rattle.tl_form.specs.declared.cell.Content.{out-Content};
 ghost use Rattle.tl_form.specs.declared.cell.Table.{out-Table};

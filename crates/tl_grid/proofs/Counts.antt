@@ -4,7 +4,7 @@ use Rattle.std.proofs.Common.{◌∙◌, inl, inr, arith, add-one}
 use Rattle.std.specs.List.{filter, dedup, dedup_from}
 use Rattle.std.specs.List.Sorted.{IsStrictlyIncreasing, IsNonDecreasingBy}
 use Rattle.std.proofs.lemmas.Bool.{lt-ltb, le-ltb, eq-eqb, ne_eqb, eqb-true, cases_Bool, cases_lt, cases_eq, cases_order, both_ways, cond-true}
-use Rattle.std.proofs.lemmas.Bool.{cond-false}
+use Rattle.std.proofs.lemmas.Bool.{cond-false, or_parts}
 use Rattle.std.proofs.lemmas.List.Kept.{AllPairs-from_increasing}
 use Rattle.tl_grid.specs.Dropping.{count_below}
 use Rattle.tl_base.specs.Lists.{is_among}
@@ -127,18 +127,13 @@ rises_from a (k ∷ ks) up first = (
   rises_from (k + 1) ks (rises_tail k ks up) (rises_head k ks up),
 )
 
--- if neither passes, the second does not
-not_later : (s t : Bool) → (s || t) ≡ false → t ≡ false
-not_later true t e = absurd (both_ways true e refl)
-not_later false t e = e
-
 -- all are below the end
 pub count_whole : (n : ℕ) (ks : List ℕ) → ((x : ℕ) → n ≤ x → is_among ks x ≡ false) → length (filter (λ k. ltb k n) ks) ≡ length ks
 count_whole n [] none = refl
 count_whole n (k ∷ ks) none =
     elim (cases_lt k n) [
       | inl lt ↦ ap length (filter_yes (λ j. ltb j n) k ks (lt-ltb k n lt))
-          ∙ ap suc (count_whole n ks (λ x le. not_later (eqb k x) (is_among ks x) (sym (is_among-cons k ks x) ∙ none x le)))
+          ∙ ap suc (count_whole n ks (λ x le. (or_parts (eqb k x) (is_among ks x) (sym (is_among-cons k ks x) ∙ none x le)).1))
       | inr ge ↦ absurd (both_ways true (sym (ap (λ t. t || is_among ks k) (eq-eqb k k refl)) ∙ sym (is_among-cons k ks k) ∙ none k ge) refl)
     ]
 

@@ -14,11 +14,12 @@ use Rattle.tl_grid.specs.Overlap.{numbers_over, IsBefore}
 use Rattle.tl_grid.specs.inner.OpenBlocks.{reaches, Walk, hit}
 use Rattle.tl_grid.specs.inner.Walk.{Row, RowGroup, placed, walk_of, unless_hit, place_cells, row_of, after_row, then_ok, place_rows}
 use Rattle.tl_grid.proofs.Chains.{spot, Chain, chain_append, chain_kept}
-use Rattle.tl_grid.proofs.Passing.{EndsWithin, passes}
+use Rattle.tl_grid.proofs.Passing.{passes}
 use Rattle.tl_grid.proofs.Cells.{cell_of, AllQuiet, BeginsBy, BeginsAbove, block_number, numbers_here, grown_cells, still_cells, grown_elsewhere}
 use Rattle.tl_grid.proofs.Later.{form_cells_before, form_cells_row, Later, later_rows}
 use Rattle.tl_grid.proofs.Rows.{RowMatches, IsWide, IsFoundIn, IsSound, sound_on, column_found, row_step, row_overlap, hit_block, all_weaken}
 use Rattle.tl_grid.proofs.Rows.{one_at_most_here}
+use Rattle.tl_grid.specs.inner.States.{EndsBy}
 
 -- the error is the first overlap of the cells, in a row above row n
 abbrev pub FoundAbove : ℕ → List Cell → GridError → Type 0
@@ -106,7 +107,7 @@ pub record GroupMatches (done : List Cell) (s : Forming) (g : RowGroup) : Type 0
   pub cells : s.cells ≡ done ++ map (cell_of g.row) g.blocks
   pub at_row : s.row ≡ g.row
   pub high : s.height ≡ g.height
-  pub within : AllByRecursion (EndsWithin s.width) g.open_blocks
+  pub within : AllByRecursion (EndsBy s.width) g.open_blocks
   pub tops : AllByRecursion (BeginsAbove g.row) g.blocks
   pub sound : AllByRecursion (IsSound s.width g.height) g.blocks
   pub low : g.row ≤ g.height

@@ -179,7 +179,7 @@ same_places shape ps qs are are' = lists_same ps qs (are.as_many ∙ sym are'.as
     ap (slice_get ps) (sym is.1) ∙ p ∙ sym (ap (slice_get qs) (sym is.1) ∙ q))
 
 -- a table has one grid
-one_grid : (shape : Shape) (first second : Grid) → HasGrid shape first → HasGrid shape second → first ≡ second
+pub one_grid : (shape : Shape) (first second : Grid) → HasGrid shape first → HasGrid shape second → first ≡ second
 one_grid shape first second has has' =
     let columns = has.columns ∙ sym has'.columns in
     let rows = has.rows ∙ sym has'.rows in

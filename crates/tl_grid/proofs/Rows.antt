@@ -13,9 +13,10 @@ use Rattle.tl_grid.specs.inner.OpenBlocks.{reaches, Walk, hit}
 use Rattle.tl_grid.specs.inner.Walk.{block_at, Row, placed, walk_of}
 use Rattle.tl_grid.proofs.Chains.{spot, Chain, ChainTo, spot_in, spot_before, spot_from, filter_yes, filter_no, none_left, none_right, at_most_one}
 use Rattle.tl_grid.proofs.Chains.{chain_append, chain_yes}
-use Rattle.tl_grid.proofs.Passing.{some, BeginsAfter, EndsWithin, Passes, passes, push_prefix}
+use Rattle.tl_grid.proofs.Passing.{some, BeginsAfter, Passes, passes, push_prefix}
 use Rattle.tl_grid.proofs.Cells.{cell_of, AllQuiet, block_number, BeginsBy, numbers_here, has_cell_here, first_free_is, formed_cell}
 use Rattle.tl_grid.proofs.Later.{with_cell_before}
+use Rattle.tl_grid.specs.inner.States.{EndsBy}
 
 -- the blocks begin at column `right` or after it, and the first of them takes row y
 abbrev pub BeginsFrom : ℕ → ℕ → List Block → Type 0
@@ -58,7 +59,7 @@ pub record RowMatches (done : List Cell) (y : ℕ) (s : Forming) (r : Row) : Typ
   pub at_row : s.row ≡ y
   pub high : s.height ≡ r.height
   pub wide : r.column ≤ s.width
-  pub within : AllByRecursion (EndsWithin s.width) (r.passed ++ r.ahead)
+  pub within : AllByRecursion (EndsBy s.width) (r.passed ++ r.ahead)
   pub tops : AllByRecursion (BeginsBy y) r.blocks
   pub sound : AllByRecursion (IsSound s.width r.height) r.blocks
   pub low : y < r.height
@@ -112,7 +113,7 @@ column_found done y s r quiet m =
     let p : Passes y r.column r.passed r.ahead w = passes y r.ahead r.column r.passed m.prefix m.rest in
     let wide : r.column ≤ s.width = m.wide in
     let on : r.column ≤ w.column = p.on in
-    let within : w.column ≤ s.width = p.within s.width wide (all_right (EndsWithin s.width) r.passed r.ahead m.within) in
+    let within : w.column ≤ s.width = p.within s.width wide (all_right (EndsBy s.width) r.passed r.ahead m.within) in
     first_free_is (λ column. has_cell column s.row s.cells) (s.width - r.column) r.column w.column on (omega arith)
     (λ x' le lt. taken_here done y s r quiet m x' ∙ p.taken x' le lt)
     (taken_here done y s r quiet m w.column ∙ ap some (sym (p.same w.column y (omega arith)))
@@ -206,8 +207,8 @@ row_step done y number span s r quiet wide m none =
       at_row = at_row;
       high = ap (λ h. max h (s.row + initial_rowspan span)) high ∙ ap (λ row. max r.height (row + initial_rowspan span)) at_row;
       wide = omega arith;
-      within = all_insert (EndsWithin width) w.passed b w.ahead (omega arith)
-          (all_weaken (EndsWithin s.width) (EndsWithin width) (λ c h. omega arith) (w.passed ++ w.ahead) (p.kept s.width m.within));
+      within = all_insert (EndsBy width) w.passed b w.ahead (omega arith)
+          (all_weaken (EndsBy s.width) (EndsBy width) (λ c h. omega arith) (w.passed ++ w.ahead) (p.kept s.width m.within));
       tops = all_push (BeginsBy y) r.blocks b (omega arith) m.tops;
       sound = all_push (IsSound width height) r.blocks b
           (omega arith, omega arith, rows_some y span.rowspan, omega arith)

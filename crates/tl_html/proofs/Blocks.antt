@@ -7,6 +7,7 @@ use Rattle.std.specs.declared.boxed.Box.{Box}
 use Rattle.std.specs.declared.alloc.Global.{Global}
 use Rattle.tl_base.specs.declared.breaking.Breaking.{Breaking}
 use Rattle.tl_base.specs.declared.breaking.Breaking.TheVariants.{Words, Any}
+use Rattle.tl_base.proofs.Members.{AllByRecursion-append}
 use Rattle.tl_token.specs.Elements.{no_spans}
 use Rattle.tl_token.specs.declared.token.Element.TheVariants as elements
 use Rattle.tl_text.specs.declared.paragraph.Atom.{Atom}
@@ -21,6 +22,7 @@ use Rattle.tl_tree.specs.declared.node.Block.{Block, out-Block, roll-Block, out-
 use Rattle.tl_tree.specs.declared.node.Block.TheOpen as open_block
 use Rattle.tl_tree.specs.declared.node.TableNode.{TableNode}
 use Rattle.tl_tree.proofs.Outlines.{paragraph_made, nested_made}
+use Rattle.tl_tree.specs.inner.Lines.{blocks_outline}
 use Rattle.tl_form.specs.declared.cell.Content.{Content, out-Content, roll-Content, out-roll-Content, fold_out-Content, map-Content}
 use Rattle.tl_form.specs.declared.cell.Content.TheOpen as open_content
 use Rattle.tl_form.specs.declared.cell.Table.{Table}
@@ -29,8 +31,6 @@ use Rattle.tl_form.specs.declared.layout.Layout.{Layout}
 use Rattle.tl_form.specs.Tables.{OpenContent, tables_of}
 use Rattle.tl_form.specs.Formed.{OpenBlock, BecomesContent, BecomeContents, broken}
 use Rattle.tl_form.specs.Same.{AreSameContent}
-use Rattle.tl_form.specs.inner.Forming.{flow_outline}
-use Rattle.tl_form.proofs.SoundParts.{append_each}
 use Rattle.tl_form.proofs.SoundNodes.{open_outline, block_outline-out}
 use Rattle.tl_html.specs.Html.{paragraph_html, Flow, Cell, blocks_html, block_page, table_page, cell_page, flow_of, cell_of, html_of}
 use Rattle.tl_html.specs.Html as html
@@ -116,7 +116,7 @@ module _ (breaking : Breaking) (forms : TableNode → Table → Type 0) (alike :
     pub goes : GoesOn (grammar_kinds items) ms
     pub next : ℕ
     pub flow : List Block
-    pub stand : StandFor k ms (flow_outline flow) next
+    pub stand : StandFor k ms (blocks_outline flow) next
     pub back : List Content
     pub become : BecomeContents forms breaking flow back
     pub same : AllZip (λ block content. AreSameContent alike (out-Content block) (out-Content content)) blocks back
@@ -182,7 +182,7 @@ module _ (breaking : Breaking) (forms : TableNode → Table → Type 0) (alike :
       let feed : Marks = character 0x0A ∷ [] in
       record {
         items = t.prefix ++ last_item ∷ [];
-        are = append_each IsItem t.prefix (last_item ∷ []) t.are ((page_tags.table_end, (refl, tt)), tt);
+        are = AllByRecursion-append IsItem t.prefix (last_item ∷ []) t.are ((page_tags.table_end, (refl, tt)), tt);
         written = ap (λ (f : Flow). f.text) flow ∙ t.written;
         left = subst (λ (f : Flow). AllZip has others f.rest) (sym flow) left;
         ms = t.ms ++ feed;
@@ -249,7 +249,7 @@ module _ (breaking : Breaking) (forms : TableNode → Table → Type 0) (alike :
       let rest = flow_back flow blocks (flow_of block inner).rest others one.next become.1 sound.1 one.left in
       record {
         items = one.items ++ rest.items;
-        are = append_each IsItem one.items rest.items one.are rest.are;
+        are = AllByRecursion-append IsItem one.items rest.items one.are rest.are;
         written = ap (λ (cs : List ℕ). cs ++ (blocks_html (map flow_of blocks) (flow_of block inner).rest).text) one.written
             ∙ ap (λ (cs : List ℕ). items_text one.items ++ cs) rest.written
             ∙ sym (flat_map-append item_text one.items rest.items);
@@ -259,7 +259,7 @@ module _ (breaking : Breaking) (forms : TableNode → Table → Type 0) (alike :
             (goes_append (grammar_kinds one.items) (grammar_kinds rest.items) one.ms rest.ms one.goes rest.goes);
         next = rest.next;
         flow = one.made ∷ rest.flow;
-        stand = stand_append k one.next rest.next one.ms rest.ms (block_outline one.made) (flow_outline rest.flow) one.stand rest.stand;
+        stand = stand_append k one.next rest.next one.ms rest.ms (block_outline one.made) (blocks_outline rest.flow) one.stand rest.stand;
         back = one.back ∷ rest.back;
         become = (one.becomes, rest.become);
         same = (one.same, rest.same);

@@ -6,12 +6,15 @@ use Rattle.std.proofs.lemmas.List.{map-append}
 use Rattle.std.proofs.lemmas.List.Concat.{flat_map-append}
 use Rattle.tl_base.specs.declared.breaking.Breaking.{Breaking}
 use Rattle.tl_base.specs.declared.limits.TheConstants.{MAX_COLSPAN, MAX_ROWSPAN, MAX_PAGE_WIDTH}
+use Rattle.tl_base.proofs.Zips.{AllZip-append}
+use Rattle.tl_base.proofs.Members.{AllByRecursion-append}
+use Rattle.tl_tree.specs.inner.Lines.{blocks_outline}
 use Rattle.tl_grid.specs.declared.shape.Place.{Place}
 use Rattle.tl_grid.specs.declared.shape.SpanOf.{SpanOf}
 use Rattle.tl_token.specs.Elements.{no_spans}
 use Rattle.tl_token.specs.declared.token.Element.{Element}
 use Rattle.tl_token.specs.declared.token.Element.TheVariants as elements
-use Rattle.tl_tree.specs.Grammar.{Marks, Cells, Rows, no_flow, no_cell, no_row, no_space, space, by_tag}
+use Rattle.tl_tree.specs.Grammar.{Marks, Cells, Rows, no_flow, no_cell, no_space, space, by_tag}
 use Rattle.tl_tree.specs.Grammar as grammar
 use Rattle.tl_tree.specs.Outline.{Entries, cell, row, cell_outline, block_outline, outline}
 use Rattle.tl_tree.specs.Paragraphs.{leading, atoms_of, paragraph_of, entries_after}
@@ -28,12 +31,10 @@ use Rattle.tl_form.specs.Tables.{OpenCell, tables_in}
 use Rattle.tl_form.specs.Formed.{OpenCellNode, BecomesCell, BecomeCells, kind_of, span_of}
 use Rattle.tl_form.specs.Same.{AreSameCell}
 use Rattle.tl_form.specs.Sound.{place_of}
-use Rattle.tl_form.specs.inner.Forming.{flow_outline, cells_outline}
-use Rattle.tl_form.proofs.Writing.{joined_zip}
-use Rattle.tl_form.proofs.SoundParts.{append_each}
+use Rattle.tl_form.specs.inner.Forming.{cells_outline}
 use Rattle.tl_form.proofs.SoundNodes.{cell_outline-out, cell_flow, sound_each, rows_outline}
 use Rattle.tl_html.specs.declared.filled.Filled.{Filled}
-use Rattle.tl_html.specs.Html.{Cell, fill, blocks_html, block_page, table_page, cell_page, flow_of, cell_of, html_of, cell_html, is_caption, line}
+use Rattle.tl_html.specs.Html.{Cell, fill, blocks_html, block_page, table_page, cell_page, flow_of, cell_of, cell_html, is_caption, line}
 use Rattle.tl_html.specs.Html as html
 use Rattle.tl_html.proofs.Items.{Item, item_text, items_text, IsItem}
 use Rattle.tl_html.proofs.PageTags.{numbers, attributes_text, plain_start, head_start, plain_end, head_end}
@@ -271,10 +272,10 @@ module _ (breaking : Breaking) (forms : TableNode → Table → Type 0) (alike :
       let rest = cells_back cells found.rest others flow.next below.1 flow.left in
       record {
         items = items ++ rest.items;
-        are = append_each IsItem items rest.items (
+        are = AllByRecursion-append IsItem items rest.items (
           start_is n.head colspan rowspan o.least (omega (arith, is.wide)) is.few_columns (omega (arith, is.high)) is.few_rows
               (omega (arith, is.becomes.least, range.narrow)),
-          append_each IsItem flow.items (end_item n.head ∷ []) flow.are (end_is n.head, tt),
+          AllByRecursion-append IsItem flow.items (end_item n.head ∷ []) flow.are (end_is n.head, tt),
         )
             rest.are;
         filled = one ∷ rest.filled;
@@ -303,7 +304,7 @@ module _ (breaking : Breaking) (forms : TableNode → Table → Type 0) (alike :
         nodes = made ∷ rest.nodes;
         stand = stand_append k flow.next rest.next marks rest.ms (cell_outline made) (cells_outline rest.nodes)
             (subst (λ (es : Entries). StandFor k marks es flow.next) (sym (cell_made node'))
-            (cell_stands k flow.next n.head colspan rowspan o.least flow.ms (flow_outline flow.flow) flow.stand))
+            (cell_stands k flow.next n.head colspan rowspan o.least flow.ms (blocks_outline flow.flow) flow.stand))
             rest.stand;
         back = twin ∷ rest.back;
         become = (
@@ -402,8 +403,8 @@ module _ (breaking : Breaking) (forms : TableNode → Table → Type 0) (alike :
       let marks : Marks = grammar.row_begins ∷ one.ms in
       record {
         items = items ++ rest.items;
-        are = append_each IsItem items rest.items
-            ((page_tags.row_start, tt), append_each IsItem one.items (row_end_item ∷ []) one.are ((page_tags.row_end, (refl, tt)), tt)) rest.are;
+        are = AllByRecursion-append IsItem items rest.items
+            ((page_tags.row_start, tt), AllByRecursion-append IsItem one.items (row_end_item ∷ []) one.are ((page_tags.row_end, (refl, tt)), tt)) rest.are;
         filled = one.filled ∷ rest.filled;
         layouts = rest.layouts;
         fills = λ more.
@@ -427,10 +428,10 @@ module _ (breaking : Breaking) (forms : TableNode → Table → Type 0) (alike :
         stand = stand_append k one.next rest.next marks rest.ms (row ∷ cells_outline one.nodes) (rows_outline rest.nodes)
             (row_stands k one.next one.ms (cells_outline one.nodes) one.stand) rest.stand;
         back = one.back ++ rest.back;
-        become = joined_zip (λ node made. BecomesCell forms breaking (out-CellNode node) (out-TableCell made)) one.nodes
+        become = AllZip-append (λ node made. BecomesCell forms breaking (out-CellNode node) (out-TableCell made)) one.nodes
             (joined rest.nodes) one.back rest.back
             one.become rest.become;
-        same = joined_zip (λ c twin. AreSameCell alike (out-TableCell c) (out-TableCell twin)) cells (joined rows) one.back rest.back one.same rest.same;
+        same = AllZip-append (λ c twin. AreSameCell alike (out-TableCell c) (out-TableCell twin)) cells (joined rows) one.back rest.back one.same rest.same;
         places = map-append place_of one.back rest.back ∙ ap (λ (ps : List Place). ps ++ map place_of rest.back) one.places
             ∙ ap (λ (ps : List Place). map place_of cells ++ ps) rest.places ∙ sym (map-append place_of cells (joined rows));
         spans = ap (λ (ss : List SpanOf). ss ∷ map (map span_of) rest.nodes) one.spans

@@ -2,6 +2,7 @@
 use Rattle.std.proofs.Common.{ℕ, zero, suc, List, [], ◌∷◌, sym, subst}
 use Rattle.std.specs.List.{AllZip, flat_map}
 use Rattle.tl_base.specs.declared.style.Style.{Style}
+use Rattle.tl_base.proofs.Zips.{AllZip-append}
 use Rattle.tl_form.specs.declared.cell.Content.{Content, out-Content}
 use Rattle.tl_form.specs.declared.cell.Content.TheOpen as open_content
 use Rattle.tl_form.specs.declared.cell.Table.{Table, out-Table}
@@ -9,7 +10,6 @@ use Rattle.tl_form.specs.declared.cell.TableCell.{TableCell, out-TableCell}
 use Rattle.tl_form.specs.declared.layout.Layout.{Layout, out-Layout}
 use Rattle.tl_form.specs.Layouts.{OpenLayout, Share, FitsShare, FitsCell, FitsWithin}
 use Rattle.tl_form.specs.Tables.{OpenContent, tables_of, tables_in}
-use Rattle.tl_form.proofs.Writing.{joined_zip}
 use Rattle.tl_html.specs.Laws.{AFittingLayoutHasColumns}
 use Rattle.tl_html.specs.Readable.{HasColumnsWithin}
 
@@ -26,7 +26,7 @@ module _ (fits : Table → ℕ → ℕ → Layout → Type 0) (has : Table → L
   shares_columns w [] (share ∷ shares) laid = absurd laid
   shares_columns w (block ∷ blocks) [] laid = absurd laid
   shares_columns w (block ∷ blocks) (share ∷ shares) laid =
-      joined_zip has (tables_of (out-Content block)) (flat_map (λ other. tables_of (out-Content other)) blocks) share.inner
+      AllZip-append has (tables_of (out-Content block)) (flat_map (λ other. tables_of (out-Content other)) blocks) share.inner
       (flat_map (λ (other : Share). other.inner) shares) (share_columns w (out-Content block) share laid.0) (shares_columns w blocks shares laid.1)
 
   cells_columns : (style : Style) (layout : OpenLayout) (cells : List TableCell) (parts : List (List Layout)) →
@@ -36,7 +36,7 @@ module _ (fits : Table → ℕ → ℕ → Layout → Type 0) (has : Table → L
   cells_columns style layout [] (inner ∷ parts) laid = absurd laid
   cells_columns style layout (cell ∷ cells) [] laid = absurd laid
   cells_columns style layout (cell ∷ cells) (inner ∷ parts) laid =
-      joined_zip has (tables_in (out-TableCell cell)) (flat_map (λ other. tables_in (out-TableCell other)) cells) inner (flat_map (λ more. more) parts)
+      AllZip-append has (tables_in (out-TableCell cell)) (flat_map (λ other. tables_in (out-TableCell other)) cells) inner (flat_map (λ more. more) parts)
       (subst (AllZip has (tables_in (out-TableCell cell))) laid.0.given (shares_columns _ (out-TableCell cell).blocks laid.0.shares laid.0.blocks))
       (cells_columns style layout cells parts laid.1)
 

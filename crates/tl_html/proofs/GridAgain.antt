@@ -2,7 +2,7 @@
 -- dropped.
 use Rattle.std.proofs.Common.{◌≡◌, ℕ, ◌+◌, ◌-◌, ◌<◌, ◌≤◌, max, zero, suc, Bool, true, false, ◌&&◌, ◌||◌, cond, ltb, leb, eqb, List, [], ◌∷◌, ◌++◌}
 use Rattle.std.proofs.Common.{map, length, get_or}
-use Rattle.std.proofs.Common.{◌⊎◌, refl, sym, ap, ◌∙◌, subst, inl, inr, arith, append_assoc, append-nil, All}
+use Rattle.std.proofs.Common.{refl, sym, ap, ◌∙◌, subst, inl, inr, arith, append_assoc, append-nil, All}
 use Rattle.std.specs.List.{AllByRecursion, AllPairs, flat_map}
 use Rattle.std.proofs.lemmas.Bool.{lt-ltb, le-leb, eqb-true, ltb-true, leb-true, and_parts, and_from, or_left, or_right, cases_lt, cond-false}
 use Rattle.std.proofs.lemmas.Bool.{false_from_ne_true}
@@ -15,6 +15,7 @@ use Rattle.tl_grid.specs.Forming.{form_row, form_rows, at_group_end, no_cells, f
 use Rattle.tl_grid.specs.Dropping.{IsPlaced}
 use Rattle.tl_grid.specs.Slots.{HasSlot, AreApart, IsFilledToLeft}
 use Rattle.tl_grid.proofs.Cells.{first_free_is}
+use Rattle.tl_form.specs.Sound.{ComesBefore}
 
 -- how many columns and rows a place takes
 abbrev pub span_at : Place → SpanOf
@@ -35,10 +36,6 @@ cell_on number place = record {
 abbrev pub cells_on : ℕ → List Place → List Cell
 cells_on number [] = []
 cells_on number (place ∷ places) = cell_on number place ∷ cells_on (number + 1) places
-
--- the first comes before the second in the order by top, then left
-abbrev pub Precedes : Place → Place → Type 0
-Precedes first second = (first.top < second.top) ⊎ ((first.top ≡ second.top) × (first.left < second.left))
 
 cells_on-append : (number : ℕ) (xs ys : List Place) → cells_on number (xs ++ ys) ≡ cells_on number xs ++ cells_on (number + length xs) ys
 cells_on-append number [] ys = ap (λ n. cells_on n ys) (let same : number ≡ number + 0 = omega arith in same)
@@ -91,7 +88,7 @@ free_of x y number d (p ∷ places) none =
 pub record IsGrid (W H : ℕ) (places : List Place) : Type 0 where
   pub placed : All (IsPlaced W H) places
   pub apart : AllPairs AreApart places
-  pub in_order : AllPairs Precedes places
+  pub in_order : AllPairs ComesBefore places
   pub filled : All (IsFilledToLeft places) places
 
 module _ (W H : ℕ) (places : List Place) (grid : IsGrid W H places) where
@@ -126,8 +123,8 @@ module _ (W H : ℕ) (places : List Place) (grid : IsGrid W H places) where
               absurd (elim (cases_lt (length done) k) [
                 | inl after ↦ (
                     let first : get_or places (length done) q ≡ p = ap (λ (l : List Place). get_or l (length done) q) (sym split) ∙ middle done p later q in
-                    let order : Precedes p q = subst (λ (r : Place). Precedes r q) first
-                    (subst (Precedes (get_or places (length done) q)) is (grid.in_order (length done) k q after inside)) in
+                    let order : ComesBefore p q = subst (λ (r : Place). ComesBefore r q) first
+                    (subst (ComesBefore (get_or places (length done) q)) is (grid.in_order (length done) k q after inside)) in
                     elim order [
                       | inl lower ↦ omega (arith, has.2)
                       | inr beside ↦ omega (arith, has.0, beside.1)
@@ -158,7 +155,7 @@ module _ (W H : ℕ) (places : List Place) (grid : IsGrid W H places) where
       let at_p : get_or places n p ≡ p = here done p (q ∷ later) split in
       let at_q : get_or places (length (done ++ p ∷ [])) p ≡ q =
       ap (λ (l : List Place). get_or l (length (done ++ p ∷ [])) p) (sym split') ∙ middle (done ++ p ∷ []) q later p in
-      let order : Precedes p q = subst (λ (r : Place). Precedes r q) at_p (subst (Precedes (get_or places n p)) at_q
+      let order : ComesBefore p q = subst (λ (r : Place). ComesBefore r q) at_p (subst (ComesBefore (get_or places n p)) at_q
       (grid.in_order n (length (done ++ p ∷ [])) p (omega arith) in_q)) in
       let lies_p = lies done p (q ∷ later) split in
       let lies_q = lies (done ++ p ∷ []) q later split' in

@@ -12,12 +12,12 @@ use Rattle.tl_base.specs.declared.limits.TheConstants.{MAX_COLSPAN, MAX_ROWSPAN,
 use Rattle.tl_token.specs.Characters.{◌∈◌, is_space, is_name_character, is_gap, begins, run, past}
 use Rattle.tl_token.specs.Numbers.{number, number_from, unsigned, signed_number, number_of, columns_of, rows_of, floor_of}
 use Rattle.tl_token.specs.Elements.{Attribute, value_of, attribute_number, element_of, spans_of, cell_spans, no_spans}
-use Rattle.tl_token.specs.Grammar.{Each, Value, quoted, Attributes, IsTagName, opening, IsTag, markup}
+use Rattle.tl_token.specs.Grammar.{Each, quoted, Attributes, IsTagName, opening, markup}
 use Rattle.tl_token.specs.Grammar as grammar
 use Rattle.tl_token.specs.declared.token.Element.{Element}
 use Rattle.tl_token.specs.declared.token.Element.TheVariants.{Table, Caption, Colgroup, Col, Tr, Td, Th, Br, P}
 use Rattle.tl_token.specs.declared.token.Spans.{Spans}
-use Rattle.tl_token.proofs.CharacterTests.{excludes}
+use Rattle.tl_token.proofs.CharacterTests.{excludes, Each-push}
 use Rattle.tl_html.specs.Html.{attribute}
 use Rattle.tl_html.proofs.Items.{IsTagText}
 
@@ -90,10 +90,6 @@ number-push : (a : ℕ) (ds : List ℕ) (c : ℕ) → number_from 10 a (ds ++ c 
 number-push a [] c = refl
 number-push a (d ∷ ds) c = number-push (a * 10 + digit_value d) ds c
 
-each_push : (test : ℕ → Bool) (ds : List ℕ) (c : ℕ) → Each test ds → test c ≡ true → Each test (ds ++ c ∷ [])
-each_push test [] c each is = (is, tt)
-each_push test (d ∷ ds) c each is = (each.0, each_push test ds c each.1 is)
-
 some_push : (ds : List ℕ) (c : ℕ) → (d : ℕ) × (others : List ℕ) × (ds ++ c ∷ [] ≡ d ∷ others)
 some_push [] c = (c, [], refl)
 some_push (d ∷ ds) c = (d, ds ++ c ∷ [], refl)
@@ -112,7 +108,7 @@ decimal_digits n lt = decimal_by_steps IsDigits
     let tens : number 10 ds ≡ m / 10 = before.value in
     record {
       some = some_push ds (48 + m % 10);
-      digits = each_push is_ascii_digit ds (48 + m % 10) before.digits (digit_is (m % 10) last).0;
+      digits = Each-push is_ascii_digit ds (48 + m % 10) before.digits (digit_is (m % 10) last).0;
       value = let all : number 10 ds * 10 + digit_value (48 + m % 10) ≡ m = omega (arith, is, tens) in sum ∙ all;
     }) n lt
 

@@ -16,13 +16,14 @@ use Rattle.tl_text.specs.Paragraph.{IsSolid, IsSpelt}
 use Rattle.tl_text.specs.Clusters.{clusters_of, word_of, by_clusters}
 use Rattle.tl_text.specs.Cuttings.{joined}
 use Rattle.tl_text.proofs.ClusterLemmas.{joined-clusters}
-use Rattle.tl_text.proofs.WordLemmas.{words_from, words_from-start, words_from-letter, words_from-white, words_from-end}
+use Rattle.tl_text.proofs.WordLemmas.{words_from-end}
 use Rattle.tl_tree.specs.Sound.{IsPlainAtom}
 use Rattle.tl_tree.specs.Grammar as marks
 use Rattle.tl_tree.specs.Grammar.{Mark, Marks, Flow, character, line_break, words, break, edge}
 use Rattle.tl_tree.specs.Outline.{Entries, paragraph}
-use Rattle.tl_tree.specs.Paragraphs.{leading, first_text, after_breaks, atoms_of, paragraph_of, entries_after}
+use Rattle.tl_tree.specs.Paragraphs.{leading, atoms_of, paragraph_of, entries_after}
 use Rattle.tl_tree.specs.Tags.{Kind, Kinds, class_of, p_or_div, br}
+use Rattle.tl_tree.proofs.Lines.{atoms_from, open_atoms, read_letter, read_white, read_line_break, read_end, read_none}
 use Rattle.tl_html.specs.Html.{escaped, atoms_html, paragraph_html}
 use Rattle.tl_html.proofs.Items.{Item, item_text, items_text, item_kinds, text_kinds, IsItem, AreFine}
 use Rattle.tl_html.proofs.PageTags.{paragraph_start, paragraph_end}
@@ -168,49 +169,6 @@ pub paragraph_is_items : (atoms : List Atom) → AllByRecursion IsPlainAtom atom
 paragraph_is_items atoms plain = ((paragraph_start, lead_fine false atoms plain), breaks_are_items atoms plain)
 
 -- ---- the words of marks, read from the left
-
--- the atoms once an open word goes on with those marks
-abbrev atoms_from : List Atom → List ℕ → Marks → List Atom
-atoms_from atoms word ms = atoms ++ (map Word (words_from word (first_text ms)) ++ after_breaks ms)
-
--- the word that is open, as an atom
-abbrev open_atoms : List ℕ → List Atom
-open_atoms word = map Word (words_from word [])
-
--- a letter joins the word
-read_letter : (atoms : List Atom) (word : List ℕ) (c : ℕ) (ms : Marks) → is_ascii_whitespace c ≡ false →
-    atoms_from atoms (word ++ c ∷ []) ms ≡ atoms_from atoms word (character c ∷ ms)
-read_letter atoms word c ms letter = ap (λ ws. atoms ++ (map Word ws ++ after_breaks ms)) (sym (words_from-letter word (first_text ms) c letter))
-
-map_if : (b : Bool) (word : List ℕ) (later : List (List ℕ)) → map Word (cond b (word ∷ later) later) ≡ map Word (cond b (word ∷ []) []) ++ map Word later
-map_if true word later = refl
-map_if false word later = refl
-
--- white space ends it
-read_white : (atoms : List Atom) (word : List ℕ) (c : ℕ) (ms : Marks) → is_ascii_whitespace c ≡ true →
-    atoms_from (atoms ++ open_atoms word) [] ms ≡ atoms_from atoms word (character c ∷ ms)
-read_white atoms word c ms white =
-    let rest = words_from [] (first_text ms) in
-    let e : map Word (words_from word (c ∷ first_text ms)) ≡ open_atoms word ++ map Word rest =
-    ap (λ ws. map Word ws) (words_from-white word (first_text ms) c white) ∙ map_if (has_character word) word rest
-    ∙ ap (λ ws. map Word ws ++ map Word rest) (sym (words_from-end word)) in
-    append_assoc atoms (open_atoms word) _
-    ∙ ap (λ x. atoms ++ x) (sym (append_assoc (open_atoms word) (map Word rest) (after_breaks ms)) ∙ ap (λ x. x ++ after_breaks ms) (sym e))
-
--- a break ends it and stands after it
-read_line_break : (atoms : List Atom) (word : List ℕ) (ms : Marks) →
-    atoms_from ((atoms ++ open_atoms word) ++ Break ∷ []) [] ms ≡ atoms_from atoms word (line_break ∷ ms)
-read_line_break atoms word ms =
-    append_assoc (atoms ++ open_atoms word) (Break ∷ []) _ ∙ append_assoc atoms (open_atoms word) _
-    ∙ ap (λ ws. atoms ++ (open_atoms word ++ (Break ∷ (map Word ws ++ after_breaks ms)))) (words_from-start (first_text ms))
-
--- nothing more comes
-read_end : (atoms : List Atom) (word : List ℕ) → atoms_from atoms word [] ≡ atoms ++ open_atoms word
-read_end atoms word = ap (λ x. atoms ++ x) (append-nil (open_atoms word))
-
--- nothing has come
-read_none : (ms : Marks) → atoms_from [] [] ms ≡ atoms_of ms
-read_none ms = ap (λ ws. map Word ws ++ after_breaks ms) (words_from-start (first_text ms))
 
 -- ---- the marks of a paragraph
 

@@ -2,6 +2,7 @@
 use Rattle.std.proofs.Common.{◌≡◌, ◌∙◌, ℕ, zero, suc, List, [], ◌∷◌, ◌++◌, map, refl, sym, ap, subst, append-nil}
 use Rattle.std.specs.List.{AllByRecursion}
 use Rattle.tl_base.specs.declared.breaking.Breaking.{Breaking}
+use Rattle.tl_base.proofs.Members.{AllByRecursion-append}
 use Rattle.tl_token.specs.Spelling.{without_mark}
 use Rattle.tl_token.specs.declared.token.Token.{Token}
 use Rattle.tl_tree.specs.Grammar.{Marks, no_outer, outer_space}
@@ -23,7 +24,6 @@ use Rattle.tl_html.proofs.PageTags as page_tags
 use Rattle.tl_html.proofs.PageWords.{grammar_kinds, kinds_append}
 use Rattle.tl_html.proofs.Blocks.{TableBack, last_item}
 use Rattle.tl_html.proofs.TableAgain.{table_again}
-use Rattle.tl_form.proofs.SoundParts.{append_each}
 
 -- a table with others nested in it
 within_back : (depth deep : ℕ) (breaking : Breaking) (node : TableNode) (table : Table) (layout : Layout) (k : ℕ) → BecomesWithin depth breaking node table →
@@ -47,7 +47,7 @@ pub reads_back : PageReadsBack
 reads_back table layout bytes page breaking node tree becomes columns =
     let t = within_back becomes.0 columns.0 breaking node table layout 0 becomes.1 tree.sound columns.1 in
     let items : List Item = t.prefix ++ last_item ∷ [] in
-    let all : AllByRecursion IsItem items = append_each IsItem t.prefix (last_item ∷ []) t.are ((page_tags.table_end, (refl, tt)), tt) in
+    let all : AllByRecursion IsItem items = AllByRecursion-append IsItem t.prefix (last_item ∷ []) t.are ((page_tags.table_end, (refl, tt)), tt) in
     let begun = begins table layout in
     let first = page.1 ∙ begun.1 in
     let (tokens, spelt) = items_spelt bytes items page.0 (page.1 ∙ t.written) (ap without_mark first ∙ sym first) all in

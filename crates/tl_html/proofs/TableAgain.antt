@@ -8,7 +8,8 @@ use Rattle.std.proofs.lemmas.List.Elements.{recursion_from_All}
 use Rattle.std.proofs.lemmas.List.Sorted.{IsPermutation-refl, length_permutation}
 use Rattle.tl_base.specs.declared.breaking.Breaking.{Breaking}
 use Rattle.tl_base.specs.declared.limits.TheConstants.{MAX_COLUMNS, MAX_ROWS, MAX_CELLS}
-use Rattle.tl_base.proofs.Members.{All-from_Contains, Contains-cases, Contains-none}
+use Rattle.tl_base.proofs.Members.{All-from_Contains, Contains-cases, Contains-none, AllByRecursion-append}
+use Rattle.tl_base.proofs.Zips.{AllZip-append}
 use Rattle.tl_grid.specs.declared.shape.Grid.{Grid}
 use Rattle.tl_grid.specs.declared.shape.Place.{Place}
 use Rattle.tl_grid.specs.declared.shape.Shape.{Shape}
@@ -20,7 +21,7 @@ use Rattle.tl_token.specs.Elements.{no_spans}
 use Rattle.tl_token.specs.declared.token.Element.TheVariants as elements
 use Rattle.tl_tree.specs.Grammar.{Marks, no_space, space}
 use Rattle.tl_tree.specs.Grammar as grammar
-use Rattle.tl_tree.specs.Outline.{Entries, columns, cell_outline, group_outline, outline}
+use Rattle.tl_tree.specs.Outline.{Entries, columns, cell_outline, outline}
 use Rattle.tl_tree.specs.Outline as entries
 use Rattle.tl_tree.specs.Paragraphs.{leading, atoms_of, paragraph_of, entries_after, entries_of}
 use Rattle.tl_tree.specs.Sound.{AreSound}
@@ -41,10 +42,9 @@ use Rattle.tl_form.specs.Formed.{OpenNode, OpenGroup, BecomesCell, BecomeCells, 
 use Rattle.tl_form.specs.Formed.{is_foot, lowered, span_of}
 use Rattle.tl_form.specs.Same.{AreSameCell}
 use Rattle.tl_form.specs.Sound.{ComesBefore, place_of, places_of}
-use Rattle.tl_form.specs.inner.Forming.{cells_outline}
-use Rattle.tl_form.proofs.Writing.{joined_zip}
-use Rattle.tl_form.proofs.SoundParts.{append_each, each_joined}
-use Rattle.tl_form.proofs.SoundNodes.{sound_each, group_rows, table_groups, table_caption, groups_outline}
+use Rattle.tl_form.proofs.SoundParts.{each_joined}
+use Rattle.tl_form.proofs.SoundNodes.{table_groups, table_caption, groups_outline}
+use Rattle.tl_form.proofs.SoundFormed.{flat_groups}
 use Rattle.tl_html.specs.declared.filled.Filled.{Filled}
 use Rattle.tl_html.specs.Alike.{AreAlikeBy}
 use Rattle.tl_html.specs.Html.{Cell, fill, block_page, table_page, cell_page, cell_of, html_of, caption_line, caption_html, columns_html, row_html}
@@ -96,20 +96,6 @@ one_row None = omega arith
 one_row (Some flow) = omega arith
 
 -- ---- the cells of a tree are sound
-
-flat_rows : (rows : List (List CellNode)) → AllByRecursion (λ cells. AreSound (cells_outline cells)) rows →
-    AllByRecursion (λ node. AreSound (cell_outline node)) (flat_map (λ (cells : List CellNode). cells) rows)
-flat_rows [] sound = tt
-flat_rows (cells ∷ rows) sound =
-    append_each (λ node. AreSound (cell_outline node)) cells (flat_map (λ (each : List CellNode). each) rows) (sound_each cell_outline cells sound.0)
-    (flat_rows rows sound.1)
-
-flat_groups : (groups : List GroupNode) → AllByRecursion (λ g. AreSound (group_outline g)) groups →
-    AllByRecursion (λ node. AreSound (cell_outline node)) (flat_map (λ g. cells_of_group (out-GroupNode g)) groups)
-flat_groups [] sound = tt
-flat_groups (g ∷ groups) sound =
-    append_each (λ node. AreSound (cell_outline node)) (cells_of_group (out-GroupNode g)) (flat_map (λ each. cells_of_group (out-GroupNode each)) groups)
-    (flat_rows (out-GroupNode g).rows (group_rows g sound.0)) (flat_groups groups sound.1)
 
 -- the cell of a tree that a cell comes from
 comes_from : (forms : TableNode → Table → Type 0) (breaking : Breaking) (nodes : List CellNode) (cells : List TableCell) →
@@ -536,7 +522,7 @@ module _ (breaking : Breaking) (forms : TableNode → Table → Type 0) (alike :
       rows = refl;
       cells = subst (λ (cs : List TableCell). AllZip SameCells cs (cap.back ++ rest.back))
           (ap (λ (cs : List TableCell). becomes.caption ++ cs) by_rows.1 ∙ sym (table_rows.cells_split breaking forms node T sound becomes))
-          (joined_zip SameCells becomes.caption (joined rows) cap.back rest.back cap.same rest.same);
+          (AllZip-append SameCells becomes.caption (joined rows) cap.back rest.back cap.same rest.same);
     }
 
     -- the table is read back
@@ -546,8 +532,8 @@ module _ (breaking : Breaking) (forms : TableNode → Table → Type 0) (alike :
       prefix = prefix;
       are = (
         (page_tags.table_start, (refl, tt)),
-        append_each IsItem cap.items (columns_items L.widths ++ rest.items) cap.are
-            (append_each IsItem (columns_items L.widths) rest.items (columns_are L.widths) rest.are),
+        AllByRecursion-append IsItem cap.items (columns_items L.widths ++ rest.items) cap.are
+            (AllByRecursion-append IsItem (columns_items L.widths) rest.items (columns_are L.widths) rest.are),
       );
       written = page_is;
       ms = marks;

@@ -6,6 +6,8 @@ use Rattle.std.proofs.lemmas.Bool.{eq-eqb, ne_eqb, cond-true, cond-false}
 use Rattle.std.proofs.lemmas.List.Concat.{flat_map-append}
 use Rattle.std.proofs.lemmas.List.Sums.{sum_by-cons}
 use Rattle.tl_base.specs.declared.breaking.Breaking.{Breaking}
+use Rattle.tl_base.proofs.Members.{AllByRecursion-append}
+use Rattle.tl_tree.specs.inner.Lines.{blocks_outline}
 use Rattle.tl_grid.specs.declared.shape.Place.{Place}
 use Rattle.tl_token.specs.Elements.{no_spans}
 use Rattle.tl_token.specs.declared.token.Element.TheVariants as elements
@@ -30,11 +32,9 @@ use Rattle.tl_form.specs.Tables.{OpenCell, tables_in}
 use Rattle.tl_form.specs.Formed.{BecomeCaption, BecomesCaption, OpenGroup, caption_rows}
 use Rattle.tl_form.specs.Same.{AreSameCell}
 use Rattle.tl_form.specs.Sound.{place_of}
-use Rattle.tl_form.specs.inner.Forming.{flow_outline}
-use Rattle.tl_form.proofs.SoundParts.{append_each}
 use Rattle.tl_form.proofs.SoundNodes.{sound_each, rows_outline, groups_outline}
 use Rattle.tl_html.specs.declared.filled.Filled.{Filled}
-use Rattle.tl_html.specs.Html.{Cell, fill, blocks_html, flow_of, cell_of, cell_html, cell_in_row, is_caption, caption_line, caption_html, column_html}
+use Rattle.tl_html.specs.Html.{Cell, fill, blocks_html, flow_of, cell_of, cell_html, cell_in_row, is_caption, caption_line, column_html}
 use Rattle.tl_html.specs.Html.{columns_html, row_html, line}
 use Rattle.tl_html.specs.Html as html
 use Rattle.tl_html.proofs.Items.{Item, item_text, items_text, IsItem}
@@ -89,7 +89,7 @@ rows_written above (fs ∷ rows) r low all =
     ∙ flat_map-append (cell_in_row r) fs (joined rows)
     ∙ ap (λ (cs : List ℕ). flat_map (cell_in_row r) fs ++ cs) (after r (r + 1) rows (omega arith) all.1)
     ∙ append-nil (flat_map (cell_in_row r) fs) ∙ here r fs all.0 in
-    let low' : AllByRecursion (λ (f : Filled). f.place.top < r + 1) (above ++ fs) = append_each (λ (f : Filled). f.place.top < r + 1) above fs
+    let low' : AllByRecursion (λ (f : Filled). f.place.top < r + 1) (above ++ fs) = AllByRecursion-append (λ (f : Filled). f.place.top < r + 1) above fs
     (more above low) (level fs all.0) in
     ap (λ (cs : List ℕ). line (codes "<tr>" ++ cs ++ codes "</tr>") ++ flat_map (row_html (above ++ (fs ++ joined rows)))
     (range_with_len (r + 1) (length rows))) own
@@ -156,7 +156,7 @@ pub columns_are : (widths : List ℕ) → AllByRecursion IsItem (columns_items w
 columns_are [] = tt
 columns_are (width ∷ widths) = (
   (page_tags.colgroup_start, tt),
-  append_each IsItem (map col_item (width ∷ widths)) (colgroup_end_item ∷ []) (cols_are (width ∷ widths)) ((page_tags.colgroup_end, (refl, tt)), tt),
+  AllByRecursion-append IsItem (map col_item (width ∷ widths)) (colgroup_end_item ∷ []) (cols_are (width ∷ widths)) ((page_tags.colgroup_end, (refl, tt)), tt),
 )
 
 cols_written : (widths : List ℕ) → flat_map column_html widths ≡ items_text (map col_item widths)
@@ -293,7 +293,7 @@ module _ (breaking : Breaking) (forms : TableNode → Table → Type 0) (alike :
   }
 
   some_caption_back : (cols : ℕ) (flow : List Block) (cap : TableCell) (inner : List Layout) (others : List Table) (k : ℕ) →
-      BecomesCaption forms breaking cols flow (out-TableCell cap) → AreSound (flow_outline flow) →
+      BecomesCaption forms breaking cols flow (out-TableCell cap) → AreSound (blocks_outline flow) →
       AllZip has (tables_in (out-TableCell cap) ++ others) inner →
       CaptionBack cols 1 (cap ∷ []) inner others k
   some_caption_back cols flow cap inner others k becomes sound fits =
@@ -312,7 +312,7 @@ module _ (breaking : Breaking) (forms : TableNode → Table → Type 0) (alike :
         items = items;
         are = (
           (page_tags.caption_start, tt),
-          append_each IsItem f.items (caption_end_item ∷ []) f.are ((page_tags.caption_end, (refl, tt)), tt),
+          AllByRecursion-append IsItem f.items (caption_end_item ∷ []) f.are ((page_tags.caption_end, (refl, tt)), tt),
         );
         filled = one ∷ [];
         layouts = found.rest;
@@ -347,7 +347,7 @@ module _ (breaking : Breaking) (forms : TableNode → Table → Type 0) (alike :
               ∙ ap (λ (m : Marks). caption ∷ (paragraph_of (atoms_of m) ++ entries_after k (f.ms ++ grammar.paragraph_ends ∷ later)))
               (f.stand.sharp (grammar.paragraph_ends ∷ later) refl)
               ∙ ap (λ (rest : Entries). caption ∷ rest) (f.stand.same (grammar.paragraph_ends ∷ later) refl
-              ∙ ap (λ (rest : Entries). flow_outline f.flow ++ rest) (ends_sharp f.next later sharp));
+              ∙ ap (λ (rest : Entries). blocks_outline f.flow ++ rest) (ends_sharp f.next later sharp));
         };
         rows = refl;
         back = twin ∷ [];
@@ -364,7 +364,7 @@ module _ (breaking : Breaking) (forms : TableNode → Table → Type 0) (alike :
       }
 
   pub caption_back : (cols : ℕ) (flow : Option (List Block)) (cells : List TableCell) (inner : List Layout) (others : List Table) (k : ℕ) →
-      BecomeCaption forms breaking cols flow cells → ((blocks : List Block) → flow ≡ Some blocks → AreSound (flow_outline blocks)) →
+      BecomeCaption forms breaking cols flow cells → ((blocks : List Block) → flow ≡ Some blocks → AreSound (blocks_outline blocks)) →
       AllZip has (flat_map (λ c. tables_in (out-TableCell c)) cells ++ others) inner → CaptionBack cols (caption_rows flow) cells inner others k
   caption_back cols None cells inner others k becomes sound fits =
       subst (λ (cs : List TableCell). CaptionBack cols 0 cs inner others k) (sym becomes)

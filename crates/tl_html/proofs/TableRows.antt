@@ -5,10 +5,11 @@ use Rattle.std.specs.List.{AllByRecursion, AllPairs, Any}
 use Rattle.std.specs.List.Sorted.{IsPermutation}
 use Rattle.std.proofs.lemmas.Bool.{cases_lt}
 use Rattle.std.proofs.lemmas.List.{length-map, get_or-map, map-append}
-use Rattle.std.proofs.lemmas.List.Elements.{recursion_from_All, All-contains}
+use Rattle.std.proofs.lemmas.List.Elements.{recursion_from_All, All-contains, Contains-append_cases, Contains-append_right}
 use Rattle.std.proofs.lemmas.List.Sorted.{Contains-permutation, IsPermutation-map, IsPermutation-sym}
 use Rattle.tl_base.specs.declared.breaking.Breaking.{Breaking}
-use Rattle.tl_base.proofs.Members.{All-from_Contains, map-Contains, Contains-map, Contains-first, Contains-later, Contains-cases, Contains-none}
+use Rattle.tl_base.proofs.Members.{All-from_Contains, map-Contains, Contains-map, Contains-first, Contains-cases, Contains-none}
+use Rattle.tl_base.proofs.Members.{AllByRecursion-suffix}
 use Rattle.tl_grid.specs.declared.shape.Grid.{Grid}
 use Rattle.tl_grid.specs.declared.shape.Place.{Place}
 use Rattle.tl_grid.specs.Dropping.{IsPlaced}
@@ -26,7 +27,7 @@ use Rattle.tl_form.specs.Sound.{ComesBefore, place_of, places_of}
 use Rattle.tl_form.proofs.Laid.{AreLaid, cells_laid}
 use Rattle.tl_form.proofs.Orders.{apart_moved}
 use Rattle.tl_form.proofs.SoundNodes.{shape_spans}
-use Rattle.tl_html.proofs.GridAgain.{Precedes, IsGrid}
+use Rattle.tl_html.proofs.GridAgain.{IsGrid}
 use Rattle.tl_html.proofs.Cells.{joined}
 
 -- ---- places so many rows up
@@ -67,7 +68,7 @@ module _ (down : ℕ) where
   abbrev pub ups : List Place → List Place
   ups places = map (raised down) places
 
-  order_up : (places : List Place) → All (λ (p : Place). down ≤ p.top) places → AllPairs ComesBefore places → AllPairs Precedes (ups places)
+  order_up : (places : List Place) → All (λ (p : Place). down ≤ p.top) places → AllPairs ComesBefore places → AllPairs ComesBefore (ups places)
   order_up places low pairs i j d before within =
       let long : length (ups places) ≡ length places = length-map places (raised down) in
       let e = lowered down d in
@@ -78,7 +79,7 @@ module _ (down : ℕ) where
       ∙ get_or-map (raised down) places j e (raised down e) (omega arith) in
       let low_i = low i e (omega arith) in
       let low_j = low j e (omega arith) in
-      subst (λ p. Precedes p (get_or (ups places) j d)) (sym at_i) (subst (Precedes (raised down (get_or places i e))) (sym at_j)
+      subst (λ p. ComesBefore p (get_or (ups places) j d)) (sym at_i) (subst (ComesBefore (raised down (get_or places i e))) (sym at_j)
       (elim (pairs i j e before (omega arith)) [
         | inl lower ↦ inl (omega (arith, lower, low_i, low_j))
         | inr beside ↦ inr (ap (λ n. n - down) beside.0, beside.1)
@@ -138,7 +139,7 @@ by_rows zero y [] rise within = ([], refl, refl, tt)
 by_rows zero y (c ∷ cells) rise within = absurd (omega (arith, rise.0, within.0))
 by_rows (suc n) y cells rise within =
     let one = first_row y cells rise in
-    let later : AllByRecursion (λ c. (place_of c).top < y + suc n) one.1 = suffix_each (λ c. (place_of c).top < y + suc n) one.0 one.1
+    let later : AllByRecursion (λ c. (place_of c).top < y + suc n) one.1 = AllByRecursion-suffix (λ c. (place_of c).top < y + suc n) one.0 one.1
     (subst (AllByRecursion (λ c. (place_of c).top < y + suc n)) (sym one.2) within) in
     let same : y + suc n ≡ y + 1 + n = omega arith in
     let rest = by_rows n (y + 1) one.1 one.4 (subst (λ m. AllByRecursion (λ c. (place_of c).top < m) one.1) same later) in (
@@ -147,10 +148,6 @@ by_rows (suc n) y cells rise within =
       ap suc rest.2,
       (one.3, rest.3),
     )
-  where
-    suffix_each : {X : Type 0} (P : X → Type 0) (xs ys : List X) → AllByRecursion P (xs ++ ys) → AllByRecursion P ys
-    suffix_each P [] ys all = all
-    suffix_each P (x ∷ xs) ys all = suffix_each P xs ys all.1
 
 rise_from : (y : ℕ) (cells : List TableCell) → AllPairs ComesBefore (map place_of cells) →
     ((i : ℕ) (d : Place) → i < length cells → y ≤ (get_or (map place_of cells) i d).top) → Rise y cells
@@ -231,26 +228,12 @@ module _ (breaking : Breaking) (forms : TableNode → Table → Type 0) (node : 
   pub cells_split : table.cells ≡ becomes.caption ++ below
   cells_split = below_and.1
 
-  append_cases : {X : Type 0} (xs ys : List X) (x : X) → Contains (xs ++ ys) x → Contains xs x ⊎ Contains ys x
-  append_cases [] ys x has = inr has
-  append_cases (y ∷ xs) ys x has = elim (Contains-cases y (xs ++ ys) x has) [
-    | inl here ↦ inl (subst (Contains (y ∷ xs)) here (Contains-first y xs))
-    | inr later ↦ elim (append_cases xs ys x later) [
-      | inl early ↦ inl (Contains-later y xs x early)
-      | inr late ↦ inr late
-    ]
-  ]
-
-  append_right : {X : Type 0} (xs ys : List X) (x : X) → Contains ys x → Contains (xs ++ ys) x
-  append_right [] ys x has = has
-  append_right (y ∷ xs) ys x has = Contains-later y (xs ++ ys) x (append_right xs ys x has)
-
   -- the cells below the caption are those written
   pub below_written : (c : TableCell) → Contains below c → Contains becomes.written c
   below_written c has =
-      let all : Contains table.cells c = subst (λ (cs : List TableCell). Contains cs c) (sym cells_split) (append_right becomes.caption below c has) in
+      let all : Contains table.cells c = subst (λ (cs : List TableCell). Contains cs c) (sym cells_split) (Contains-append_right becomes.caption below c has) in
       let moved = Contains-permutation table.cells (becomes.caption ++ becomes.written) c (IsPermutation-sym _ _ becomes.same) all in
-      elim (append_cases becomes.caption becomes.written c moved) [
+      elim (Contains-append_cases becomes.caption becomes.written c moved) [
         | inl above ↦ absurd (below_and.2 c above has)
         | inr written ↦ written
       ]
@@ -285,9 +268,9 @@ module _ (breaking : Breaking) (forms : TableNode → Table → Type 0) (node : 
       let low = subst (λ (ps : List Place). Contains ps (lowered down q)) (sym becomes.places) (Contains-map (lowered down) grid.places q has) in
       let at = map-Contains place_of becomes.written (lowered down q) low in
       let all = Contains-permutation (becomes.caption ++ becomes.written) table.cells at.0 becomes.same
-      (append_right becomes.caption becomes.written at.0 at.1) in
+      (Contains-append_right becomes.caption becomes.written at.0 at.1) in
       let cells = subst (λ (cs : List TableCell). Contains cs at.0) cells_split all in
-      elim (append_cases becomes.caption below at.0 cells) [
+      elim (Contains-append_cases becomes.caption below at.0 cells) [
         | inl above ↦ absurd (
             let top = caption_on_top (out-TableNode node).caption becomes.caption becomes.captioned at.0 above in
             let under : (place_of at.0).top ≡ q.top + down = ap (λ (p : Place). p.top) at.2 in

@@ -1,10 +1,10 @@
 //! Paragraphs as HTML.
 
-ghost use Rattle.std.specs.Prelude.{◌≡◌, ◌++◌, [], ◌∷◌, OnOk, IfSome, IfNone, codes, true, false};
+ghost use Rattle.std.specs.Prelude.{◌≡◌, ◌++◌, [], ◌∷◌, OnOk, IfSome, IfNone, true, false};
 ghost use Rattle.std.specs.List.{flat_map};
 ghost use Rattle.std.specs.Str.{chars};
 ghost use Rattle.tl_html.specs.inner.Ascii.{is_ascii};
-ghost use Rattle.tl_html.specs.Html.{escaped, atom_html, atoms_html, paragraph_html, space_before};
+ghost use Rattle.tl_html.specs.Html.{escaped, atom_html, atoms_html, paragraph_html};
 
 use crate::builder::TextBuilder;
 use std::alloc::AllocError;

@@ -1,6 +1,6 @@
 //! Rows of cells as HTML.
 
-ghost use Rattle.std.specs.Prelude.{◌≡◌, ◌++◌, ◌∷◌, ◌<◌, OnOk, codes, true};
+ghost use Rattle.std.specs.Prelude.{◌≡◌, ◌++◌, ◌<◌, OnOk, true};
 ghost use Rattle.std.specs.List.{flat_map};
 ghost use Rattle.tl_form.specs.declared.cell.Kind.{Kind};
 ghost use Rattle.tl_html.specs.inner.Ascii.{is_ascii};

@@ -1,8 +1,8 @@
 //! Tables as HTML.
 
-ghost use Rattle.std.specs.Prelude.{◌≡◌, ◌++◌, ◌≤◌, [], OnOk, IfOk, length, map};
+ghost use Rattle.std.specs.Prelude.{◌≡◌, ◌++◌, ◌≤◌, OnOk, IfOk, length, map};
 ghost use Rattle.std.specs.List.{flat_map, list_any};
-ghost use Rattle.tl_html.specs.Html.{blocks_html, bytes_of, caption_html, caption_line, caption_rows, cell_of, column_html};
+ghost use Rattle.tl_html.specs.Html.{blocks_html, bytes_of, caption_html, caption_line, cell_of, column_html};
 ghost use Rattle.tl_html.specs.Html.{columns_html, fill, flow_of, html_of, is_caption, rows_html};
 ghost use Rattle.tl_html.specs.Readable.{IsPage, ReadsBack};
 ghost use Rattle.tl_html.specs.inner.Flows.{Flowed, IsFilled};

@@ -3,6 +3,7 @@ use Rattle.std.proofs.Common.{◌≡◌, ℕ, zero, suc, ◌+◌, ◌-◌, ◌*�
 use Rattle.std.proofs.Common.{refl, sym, ap, subst, arith}
 use Rattle.std.proofs.lemmas.Bool.{cases_eq, eq-eqb, ne_eqb}
 use Rattle.tl_base.specs.declared.limits.TheConstants.{MAX_PAGE_WIDTH, MAX_TABLES}
+use Rattle.tl_problem.proofs.AreaLaws.{times_le}
 use Rattle.tl_cert.specs.declared.limits.TheConstants.{MAX_SECTIONS}
 use Rattle.tl_form.specs.Expected.{Document, Due, own_number, least_of, next_width, due_in, next_due}
 use Rattle.tl_form.proofs.DueLaws.{MayBeDue}
@@ -60,13 +61,8 @@ module _ (document : Document) (now : Due) (may : MayBeDue document now) (placed
 
 -- ---- no more than a certificate has
 
-mono : (k m b : ℕ) → k ≤ m → k * b ≤ m * b
-mono zero m b less = omega arith
-mono (suc k) zero b less = absurd (omega (arith, less))
-mono (suc k) (suc m) b less = omega (arith, mono k m b (omega (arith, less)))
-
 pub few_enough : (count tables page : ℕ) → tables < MAX_TABLES → page ≤ MAX_PAGE_WIDTH → count + page ≤ tables * (page + 1) + page + 1 →
     count ≤ MAX_SECTIONS
 few_enough count tables page few narrow all =
-    let most : tables * (page + 1) ≤ 199 * (page + 1) = mono tables 199 (page + 1) (omega (arith, few)) in
+    let most : tables * (page + 1) ≤ (MAX_TABLES - 1) * (page + 1) = times_le tables (MAX_TABLES - 1) (page + 1) (omega (arith, few)) in
     omega (arith, most, narrow, all)

@@ -1,5 +1,5 @@
 -- The section that is due has a problem.
-use Rattle.std.proofs.Common.{◌≡◌, ◌∙◌, ℕ, ◌≤◌, List, inl, length, take, Some, ◌*◌, IsSome, Option, None, MatchOption, Result, Ok, Err, IfOk, refl}
+use Rattle.std.proofs.Common.{◌≡◌, ◌∙◌, ℕ, ◌≤◌, List, inl, length, take, Some, ◌*◌, IsSome, Option, None, MatchOption, refl}
 use Rattle.std.proofs.Common.{sym, ap, subst, arith}
 use Rattle.std.specs.List.{All}
 use Rattle.std.proofs.lemmas.List.{take_all}
@@ -144,10 +144,3 @@ module _ (subject : Subject) (is : IsSubject subject) (fits : FitsPage subject) 
         }) made placement
 
 -- ---- results
-
-pub weaker : {X E : Type 0} (result : Result X E) (P Q : X → Type 0) → ((x : X) → P x → Q x) → IfOk result P → IfOk result Q
-weaker (Ok x) P Q more is = more x is
-weaker (Err e) P Q more is = tt
-
-pub it_is : {X : Type 0} (L : Type 0) (o : Option X) (x : X) (P : X → Type 0) → o ≡ Some x → MatchOption o L P → P x
-it_is {X = X} L o x P is has = subst (λ (one : Option X). MatchOption one L P) is has

@@ -7,16 +7,10 @@ use Rattle.tl_base.proofs.Sums.{sum-cons}
 use Rattle.tl_problem.specs.Sizes.{total}
 use Rattle.tl_cert.specs.declared.limits.TheConstants.{MAX_TABLE}
 use Rattle.tl_cert.specs.declared.section.Section.{Section}
-use Rattle.tl_cert.specs.Pieces.{Piece, field, word, AllWithin}
+use Rattle.tl_cert.specs.Pieces.{field, word, AllWithin}
 use Rattle.tl_cert.specs.Text.{space, line_feed, spaced, cut_pieces, line_pieces, section_head, IsLogWritable, IsTraceWritable, IsSectionWritable}
-
-joined : (ps qs : List Piece) → AllWithin ps → AllWithin qs → AllWithin (ps ++ qs)
-joined [] qs first second = second
-joined (p ∷ ps) qs first second = (first.0, joined ps qs first.1 second)
-
-words : (cs : List ℕ) → AllWithin (word cs)
-words [] = tt
-words (c ∷ cs) = (tt, words cs)
+use Rattle.tl_cert.proofs.reading.Spellings.{within-append}
+use Rattle.tl_cert.proofs.reading.Words.{within-word}
 
 fields : (low high value end : ℕ) → low ≤ value → value ≤ high → AllWithin (field low high value end)
 fields low high value end more less = ((more, less), (tt, tt))
@@ -39,7 +33,7 @@ total_within gap edge most (w ∷ widths) all =
 spaced_within : (widths : List ℕ) → AllByRecursion (λ w. w ≤ MAX_PAGE_WIDTH) widths → AllWithin (flat_map (spaced MAX_PAGE_WIDTH) widths)
 spaced_within [] all = tt
 spaced_within (w ∷ widths) all = subst AllWithin (sym (flat_map-cons (spaced MAX_PAGE_WIDTH) w widths))
-    (joined (spaced MAX_PAGE_WIDTH w) (flat_map (spaced MAX_PAGE_WIDTH) widths) (tt, ((omega arith, all.0), tt)) (spaced_within widths all.1))
+    (within-append (spaced MAX_PAGE_WIDTH w) (flat_map (spaced MAX_PAGE_WIDTH) widths) (tt, ((omega arith, all.0), tt)) (spaced_within widths all.1))
 
 -- the numbers of a section are in their ranges
 pub record IsInRange (section : Section) : Type 0 where
@@ -63,12 +57,12 @@ head section is =
     let from_height = field 0 MAX_HEIGHT section.height space ++ from_lower in
     let from_width = field 0 MAX_PAGE_WIDTH section.width space ++ from_height in
     let from_table = field 0 MAX_TABLE section.table space ++ from_width in
-    joined (word (codes "section ")) from_table (words (codes "section "))
-    (joined (field 0 MAX_TABLE section.table space) from_width (fields 0 MAX_TABLE section.table space (omega arith) is.table)
-    (joined (field 0 MAX_PAGE_WIDTH section.width space) from_height (fields 0 MAX_PAGE_WIDTH section.width space (omega arith) is.width)
-    (joined (field 0 MAX_HEIGHT section.height space) from_lower (fields 0 MAX_HEIGHT section.height space (omega arith) is.height)
-    (joined (field 0 MAX_HEIGHT section.lower space) from_cuts (fields 0 MAX_HEIGHT section.lower space (omega arith) is.lower)
-    (joined (field 0 MAX_BUDGET cuts space) lines (fields 0 MAX_BUDGET cuts space (omega arith) is.trace.0)
+    within-append (word (codes "section ")) from_table (within-word (codes "section "))
+    (within-append (field 0 MAX_TABLE section.table space) from_width (fields 0 MAX_TABLE section.table space (omega arith) is.table)
+    (within-append (field 0 MAX_PAGE_WIDTH section.width space) from_height (fields 0 MAX_PAGE_WIDTH section.width space (omega arith) is.width)
+    (within-append (field 0 MAX_HEIGHT section.height space) from_lower (fields 0 MAX_HEIGHT section.height space (omega arith) is.height)
+    (within-append (field 0 MAX_HEIGHT section.lower space) from_cuts (fields 0 MAX_HEIGHT section.lower space (omega arith) is.lower)
+    (within-append (field 0 MAX_BUDGET cuts space) lines (fields 0 MAX_BUDGET cuts space (omega arith) is.trace.0)
     (fields 1 (2 * cuts + 1) (length section.log) line_feed (omega (arith, is.some)) is.short))))))
 
 pub written : (section : Section) → IsInRange section → IsSectionWritable section
@@ -79,9 +73,9 @@ written section is =
     let from_widths = flat_map (spaced MAX_PAGE_WIDTH) section.widths ++ from_end in
     let from_line = word (codes "widths") ++ from_widths in (
       record { widths = is.columns; lines = is.log.0 },
-      joined (section_head section) from_line (head section is)
-          (joined (word (codes "widths")) from_widths (words (codes "widths"))
-          (joined (flat_map (spaced MAX_PAGE_WIDTH) section.widths) from_end (spaced_within section.widths is.widths)
-          (joined (word (codes "\n")) from_cuts (words (codes "\n"))
-          (joined (flat_map cut_pieces section.trace) lines is.trace.1 is.log.1)))),
+      within-append (section_head section) from_line (head section is)
+          (within-append (word (codes "widths")) from_widths (within-word (codes "widths"))
+          (within-append (flat_map (spaced MAX_PAGE_WIDTH) section.widths) from_end (spaced_within section.widths is.widths)
+          (within-append (word (codes "\n")) from_cuts (within-word (codes "\n"))
+          (within-append (flat_map cut_pieces section.trace) lines is.trace.1 is.log.1)))),
     )

@@ -1,6 +1,6 @@
 //! The sections of a document by solvers that are made.
 
-ghost use Rattle.std.specs.Prelude.{◌≡◌, ℕ, ◌≤◌, ◌↔◌, IfOk};
+ghost use Rattle.std.specs.Prelude.{ℕ, ◌≤◌, IfOk};
 ghost use Rattle.tl_base.specs.declared.limits.TheConstants.{MAX_BUDGET, MAX_PAGE_WIDTH};
 ghost use Rattle.tl_form.specs.Least.{IsLeastWidth};
 ghost use Rattle.tl_form.specs.Sound.{IsSound};

@@ -5,7 +5,7 @@ use Rattle.std.specs.declared.alloc.Global.{Global}
 use Rattle.std.specs.declared.boxed.Box.{Box}
 use Rattle.tl_base.specs.declared.style.Style.{Style}
 use Rattle.tl_base.specs.declared.style.Style.TheVariants.{Plain, Frame}
-use Rattle.tl_base.specs.Style.{gap_of, row_gap_of, edge_of}
+use Rattle.tl_base.specs.Style.{row_gap_of}
 use Rattle.tl_text.specs.declared.paragraph.Atom.{Atom}
 use Rattle.tl_text.specs.Cuttings.{HasCutting}
 use Rattle.tl_form.specs.declared.cell.Content.TheOpen as open_content
@@ -19,17 +19,9 @@ use Rattle.tl_page.specs.inner.Contents.{FitsPage, FitsBlockRoom, ShowsPart, Sho
 
 -- ---- styles
 
-pub gap-small : (style : Style) → gap_of style ≤ 2
-gap-small Plain = omega arith
-gap-small Frame = omega arith
-
 pub row_gap-small : (style : Style) → row_gap_of style ≤ 2
 row_gap-small Plain = omega arith
 row_gap-small Frame = omega arith
-
-pub edge-small : (style : Style) → edge_of style ≤ 1
-edge-small Plain = omega arith
-edge-small Frame = omega arith
 
 -- ---- paragraphs
 

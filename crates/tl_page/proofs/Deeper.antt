@@ -1,6 +1,7 @@
 -- What is a page by tables of some depth is one by those of any greater depth.
 use Rattle.std.proofs.Common.{◌≡◌, ℕ, zero, suc, ◌+◌, List, subst, arith}
 use Rattle.tl_base.specs.declared.style.Style.{Style}
+use Rattle.tl_base.proofs.Zips.{AllZip-weaker}
 use Rattle.tl_form.specs.declared.cell.Content.{out-Content}
 use Rattle.tl_form.specs.declared.cell.Content.TheOpen as open_content
 use Rattle.tl_form.specs.declared.cell.Table.{Table, out-Table}
@@ -8,7 +9,6 @@ use Rattle.tl_form.specs.declared.cell.TableCell.{out-TableCell}
 use Rattle.tl_form.specs.declared.layout.Layout.{Layout, out-Layout}
 use Rattle.tl_form.specs.Tables.{OpenTable, OpenCell, OpenContent}
 use Rattle.tl_form.specs.Layouts.{OpenLayout, width_for}
-use Rattle.tl_form.proofs.Deeper.{AllZip-weaker}
 use Rattle.tl_page.specs.Pages.{Content, ShowsBlock, ShowsCell, ShowsBy, ShowsWithin}
 
 module _ (some more : Table → Layout → List (List ℕ) → Type 0)

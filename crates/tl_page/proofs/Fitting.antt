@@ -3,12 +3,10 @@
 use Rattle.std.proofs.Common.{◌≡◌, ℕ, zero, suc, ◌+◌, ◌*◌, ◌^◌, ◌<◌, ◌≤◌, List, [], ◌∷◌, ◌++◌, length, drop, sum, refl, sym, ◌∙◌, ap, arith}
 use Rattle.std.specs.List.{All, AllZip, flat_map}
 use Rattle.std.proofs.lemmas.List.{drop_at, length-append}
-use Rattle.std.proofs.lemmas.List.Sums.{sum_by-cons}
 use Rattle.tl_base.specs.declared.limits.TheConstants.{MAX_COLUMNS, MAX_HEIGHT, MAX_PAGE_WIDTH, MAX_ROWS}
 use Rattle.tl_base.specs.declared.style.Style.{Style}
 use Rattle.tl_base.specs.Style.{gap_of, row_gap_of, edge_of}
-use Rattle.tl_problem.specs.Sizes.{room, total}
-use Rattle.tl_problem.proofs.SizeLaws.{total-position, room-position, position-mono}
+use Rattle.tl_problem.proofs.SizeLaws.{sum-total}
 use Rattle.tl_grid.specs.Dropping.{IsPlaced}
 use Rattle.tl_form.specs.declared.cell.Content.{Content as Block, out-Content}
 use Rattle.tl_form.specs.declared.cell.Content.TheOpen as open_content
@@ -21,15 +19,6 @@ use Rattle.tl_page.specs.Pages.{Content, ShowsBlock, ShowsCell}
 use Rattle.tl_page.specs.inner.Contents.{FitsPage}
 
 -- ---- sizes
-
-pub sum-total : (gap edge : ℕ) (sizes : List ℕ) → sum sizes ≤ total gap edge sizes
-sum-total gap edge [] = omega arith
-sum-total gap edge (size ∷ sizes) = omega (arith, sum_by-cons (λ x. x) size sizes)
-
-pub room-total : (gap edge : ℕ) (sizes : List ℕ) (from past : ℕ) → from < past → past ≤ length sizes → room gap sizes from past ≤ total gap edge sizes
-room-total gap edge sizes from past ahead within =
-    let some : 0 < length sizes = omega arith in
-    omega (arith, room-position gap sizes from past ahead, position-mono gap sizes past (length sizes) within, total-position gap edge sizes some)
 
 -- what holds of a table and a layout that fits a page
 pub record Fitting (style : Style) (table : OpenTable) (layout : OpenLayout) : Type 0 where

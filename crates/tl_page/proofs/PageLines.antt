@@ -5,6 +5,7 @@ use Rattle.std.specs.List.{AllByRecursion, flat_map, range_with_len}
 use Rattle.std.proofs.lemmas.Bool.{cases_lt}
 use Rattle.std.proofs.lemmas.List.FromFn.{length-map-range_with_len}
 use Rattle.std.proofs.lemmas.List.Sums.{sum_by-cons}
+use Rattle.tl_base.proofs.Members.{AllByRecursion-append}
 use Rattle.tl_problem.specs.Sizes.{position}
 use Rattle.tl_page.specs.declared.strip.Strip.{Strip}
 use Rattle.tl_page.specs.Pictures.{Picture, line_of, strip_lines}
@@ -145,10 +146,6 @@ module _ (picture : Picture) (gap edge : ℕ) where
 
 -- ---- what holds of each line
 
-joined_all : {X : Type 0} (P : X → Type 0) (xs ys : List X) → AllByRecursion P xs → AllByRecursion P ys → AllByRecursion P (xs ++ ys)
-joined_all P [] ys one other = other
-joined_all P (x ∷ xs) ys one other = (one.0, joined_all P xs ys one.1 other)
-
 mapped_all : {X Y : Type 0} (P : Y → Type 0) (f : X → Y) (xs : List X) → ((x : X) → P (f x)) → AllByRecursion P (map f xs)
 mapped_all P f [] each = tt
 mapped_all P f (x ∷ xs) each = (each x, mapped_all P f xs each)
@@ -157,5 +154,5 @@ pub all_lines : (P : List ℕ → Type 0) (picture : Picture) (downs : List Stri
     AllByRecursion P (flat_map (strip_lines picture) downs)
 all_lines P picture [] each = tt
 all_lines P picture (down ∷ downs) each =
-    joined_all P (strip_lines picture down) (flat_map (strip_lines picture) downs)
+    AllByRecursion-append P (strip_lines picture down) (flat_map (strip_lines picture) downs)
     (mapped_all P (line_of picture down) (range_with_len down.from down.size) (each down)) (all_lines P picture downs each)

@@ -1,16 +1,17 @@
 -- Cells and blocks one after the other: what stands so far, and what is left to fit.
-use Rattle.std.proofs.Common.{◌≡◌, ℕ, suc, ◌+◌, ◌<◌, ◌≤◌, List, [], ◌∷◌, ◌++◌, length, take, drop, map, get_or, sum_by, refl, sym, ◌∙◌, ap, ap₂}
+use Rattle.std.proofs.Common.{◌≡◌, ℕ, ◌+◌, ◌<◌, ◌≤◌, List, [], ◌∷◌, ◌++◌, length, take, drop, map, get_or, sum_by, refl, sym, ◌∙◌, ap, ap₂}
 use Rattle.std.proofs.Common.{subst, append_assoc, append-nil, arith}
 use Rattle.std.specs.List.{All, AllZip, flat_map}
 use Rattle.std.proofs.lemmas.List.{take_more, take_all, drop_more, drop_all, map_push, length-map, get_or-map}
 use Rattle.std.proofs.lemmas.List.Concat.{flat_map-append}
 use Rattle.std.proofs.lemmas.List.Sums.{sum_by-cons}
-use Rattle.tl_base.proofs.Zips.{AllZip-push}
+use Rattle.tl_base.proofs.Zips.{AllZip-push, AllZip-weaker, AllZip-length}
 use Rattle.tl_base.specs.declared.limits.TheConstants.{MAX_HEIGHT, MAX_PAGE_WIDTH}
 use Rattle.tl_base.specs.declared.style.Style.{Style}
 use Rattle.tl_base.specs.Style.{gap_of, row_gap_of, edge_of}
 use Rattle.tl_grid.specs.Dropping.{IsPlaced}
 use Rattle.tl_grid.specs.declared.shape.Place.{Place}
+use Rattle.tl_problem.proofs.SizeLaws.{room-total}
 use Rattle.tl_form.specs.declared.cell.Content.{Content as Block, out-Content}
 use Rattle.tl_form.specs.declared.cell.Table.{Table, out-Table}
 use Rattle.tl_form.specs.declared.cell.TableCell.{TableCell, out-TableCell}
@@ -18,14 +19,13 @@ use Rattle.tl_form.specs.declared.layout.Layout.{Layout, out-Layout}
 use Rattle.tl_form.specs.Tables.{OpenTable, OpenCell}
 use Rattle.tl_form.specs.Layouts.{OpenLayout, Share, FitsShare, FitsCell, FitsWithin, width_for, height_for}
 use Rattle.tl_form.specs.Sound.{place_of, places_of}
-use Rattle.tl_form.proofs.Deeper.{AllZip-weaker}
 use Rattle.tl_page.specs.declared.line.Drawn.{Drawn}
 use Rattle.tl_page.specs.declared.line.Line.{Line}
 use Rattle.tl_page.specs.Pages.{Content, ShowsBlock, ShowsCell, ShowsWithin}
 use Rattle.tl_page.specs.Pictures.{drawn, drawn_cells}
 use Rattle.tl_page.specs.inner.Contents.{FitsBlockRoom, FitsCellRoom, ShowsPart, ShowsParts, ShowsCells}
 use Rattle.tl_page.proofs.Deeper.{ShowsBlock-weaker, ShowsCell-weaker, ShowsWithin-deeper, ShowsWithin-deeper'}
-use Rattle.tl_page.proofs.Fitting.{Fitting, room-total, same_rest, as_many_in_block, as_many_in_cell}
+use Rattle.tl_page.proofs.Fitting.{Fitting, same_rest, as_many_in_block, as_many_in_cell}
 
 -- ---- lists
 
@@ -44,12 +44,6 @@ left_first R xs i x ys within is all =
 
 pub taken_more : {A : Type 0} (xs : List A) (i : ℕ) (x : A) → i < length xs → x ≡ get_or xs i x → take (i + 1) xs ≡ take i xs ++ x ∷ []
 taken_more xs i x within is = take_more xs i x within ∙ ap (λ last. take i xs ++ last ∷ []) (sym is)
-
-AllZip-length : {A B : Type 0} (R : A → B → Type 0) (xs : List A) (ys : List B) → AllZip R xs ys → length xs ≡ length ys
-AllZip-length R [] [] all = refl
-AllZip-length R [] (y ∷ ys) all = absurd all
-AllZip-length R (x ∷ xs) [] all = absurd all
-AllZip-length R (x ∷ xs) (y ∷ ys) all = ap suc (AllZip-length R xs ys all.1)
 
 pub flat_map-push : {X A : Type 0} (f : X → List A) (xs : List X) (x : X) → flat_map f (xs ++ x ∷ []) ≡ flat_map f xs ++ f x
 flat_map-push f xs x = flat_map-append f xs (x ∷ []) ∙ ap (λ last. flat_map f xs ++ last) (append-nil (f x))

@@ -1,14 +1,13 @@
 -- A line of a page, swept from left to right: where a cell has begun, all its room is written at once.
-use Rattle.std.proofs.Common.{◌≡◌, ◌⊎◌, inl, inr, ℕ, zero, suc, ◌+◌, ◌*◌, ◌<◌, ◌≤◌, List, [], ◌∷◌, ◌++◌, Option, Some, None, length, drop, take}
-use Rattle.std.proofs.Common.{get_or, slice_get, replicate, sum, refl, sym, ◌∙◌, ap, subst, append_assoc, append-nil, arith}
+use Rattle.std.proofs.Common.{◌≡◌, ◌⊎◌, inl, inr, ℕ, zero, suc, ◌+◌, ◌<◌, ◌≤◌, List, [], ◌∷◌, ◌++◌, Option, Some, None, length, drop}
+use Rattle.std.proofs.Common.{get_or, slice_get, replicate, refl, sym, ◌∙◌, ap, subst, append_assoc, append-nil, arith}
 use Rattle.std.specs.List.{flat_map}
-use Rattle.std.proofs.lemmas.List.{drop_more, drop_all, take_more}
-use Rattle.std.proofs.lemmas.List.Sums.{sum_by-cons, sum_by-append}
+use Rattle.std.proofs.lemmas.List.{drop_more, drop_all}
 use Rattle.std.proofs.lemmas.Bool.{cases_lt}
 use Rattle.std.proofs.lemmas.Option.{none-some, same_Some}
 use Rattle.tl_grid.specs.declared.shape.Place.{Place}
 use Rattle.tl_problem.specs.Sizes.{position, room, total}
-use Rattle.tl_problem.proofs.SizeLaws.{total-position, room-position}
+use Rattle.tl_problem.proofs.SizeLaws.{total-position, room-position, position-next}
 use Rattle.tl_page.specs.declared.strip.Strip.{Strip}
 use Rattle.tl_page.specs.Strips.{following, strips_from, strips}
 use Rattle.tl_page.specs.Widths.{IsSign, HasWidth}
@@ -28,15 +27,6 @@ strip_with before after from size = record { before = before; after = after; fro
 pub cases_option : (o : Option ℕ) → (o ≡ None) ⊎ ((n : ℕ) × (o ≡ Some n))
 cases_option None = inl refl
 cases_option (Some n) = inr (n, refl)
-
--- the next slot begins a gap after the end of this one
-position-more : (gap : ℕ) (sizes : List ℕ) (k : ℕ) → k < length sizes → position gap sizes (k + 1) ≡ position gap sizes k + get_or sizes k 0 + gap
-position-more gap sizes k within =
-    let last = ap sum (take_more sizes k 0 within) in
-    let both = sum_by-append (λ x. x) (take k sizes) (get_or sizes k 0 ∷ []) in
-    let one = sum_by-cons (λ x. x) (get_or sizes k 0) [] in
-    let product : gap * (k + 1) ≡ gap * k + gap = grind arith in
-    omega (arith, last, both, one, product)
 
 -- `kind` is the cell that goes through a slot, if any does; a cell's content stands in its first slot, and everything
 -- else that is not inside a cell is drawn
@@ -153,7 +143,7 @@ module _ (kind : ℕ → Option ℕ) (places : List Place) (gap edge : ℕ) (wid
               made (before.width + size) (slot + 1)
               (HasWidth-append before.written text before.width size (before.width + size) before.wide
               (drawn_width size text (is.bare (slot + 1) before.from size none)) refl)
-              (omega (arith, fresh.begins, position-more gap widths slot within)) (inl (none, refl))
+              (omega (arith, fresh.begins, position-next gap widths slot within)) (inl (none, refl))
 
           first : IsFresh slot before.width → (n : ℕ) → kind (slot + 1) ≡ Some n → After text slot
           first fresh n some =

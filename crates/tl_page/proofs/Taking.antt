@@ -7,7 +7,7 @@ use Rattle.std.proofs.lemmas.List.{drop_all, take_all, drop_more, length-drop}
 use Rattle.std.proofs.lemmas.List.Sums.{sum_by-cons, sum_by-append}
 use Rattle.std.specs.declared.alloc.Global.{Global}
 use Rattle.std.specs.declared.boxed.Box.{Box}
-use Rattle.tl_base.proofs.Zips.{AllZip-push}
+use Rattle.tl_base.proofs.Zips.{AllZip-push, AllZip-weaker}
 use Rattle.tl_base.specs.declared.style.Style.{Style}
 use Rattle.tl_text.specs.declared.paragraph.Atom.{Atom}
 use Rattle.tl_text.specs.Paragraph.{unit_width}
@@ -20,7 +20,7 @@ use Rattle.tl_form.specs.declared.cell.TableCell.{TableCell, out-TableCell}
 use Rattle.tl_form.specs.declared.layout.Layout.{Layout, out-Layout}
 use Rattle.tl_form.specs.Tables.{OpenCell, OpenContent}
 use Rattle.tl_form.specs.Layouts.{OpenLayout, Share, FitsShare, FitsRoom, FitsCell, FitsBy, FitsWithin, total_width, total_height, width_for, height_for}
-use Rattle.tl_form.proofs.Deeper.{AllZip-weaker, FitsShare-weaker, FitsRoom-weaker, FitsWithin-deeper, FitsWithin-deeper'}
+use Rattle.tl_form.proofs.Deeper.{FitsShare-weaker, FitsRoom-weaker, FitsWithin-deeper, FitsWithin-deeper'}
 use Rattle.tl_page.specs.declared.measure.Taken.{Taken}
 use Rattle.tl_page.specs.inner.Taking.{TakesBlock, TakesCell, TakesTable}
 use Rattle.tl_page.proofs.Progress.{left_first, taken_more, flat_map-push, one_further}

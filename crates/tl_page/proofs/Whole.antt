@@ -6,9 +6,10 @@ use Rattle.std.specs.List.{All, AllByRecursion, AllPairs, AllZip, flat_map}
 use Rattle.std.proofs.lemmas.List.{length-append, length-map, get_or-map, map-append, take_at}
 use Rattle.std.proofs.lemmas.List.Sums.{sum_by-cons}
 use Rattle.std.proofs.lemmas.Option.{none-some, same_Some, slice_get_within, slice_get-get_or}
-use Rattle.tl_base.proofs.Zips.{AllZip-get_or}
+use Rattle.tl_base.proofs.Zips.{AllZip-get_or, AllZip-length}
 use Rattle.tl_base.specs.declared.style.Style.{Style}
 use Rattle.tl_base.specs.Style.{gap_of, row_gap_of, edge_of}
+use Rattle.tl_base.proofs.Members.{AllByRecursion-append}
 use Rattle.tl_grid.specs.declared.shape.Place.{Place}
 use Rattle.tl_grid.specs.Dropping.{IsPlaced}
 use Rattle.tl_grid.specs.Slots.{AreApart}
@@ -26,7 +27,7 @@ use Rattle.tl_form.specs.Layouts.{OpenLayout, Share, Fits, FitsShare, FitsRoom, 
 use Rattle.tl_form.specs.Layouts.{height_for}
 use Rattle.tl_form.specs.Sound.{IsSound, IsSoundWithin, place_of, places_of}
 use Rattle.tl_form.specs.inner.LeastRooms.{IsSoundBlock, IsSoundCell}
-use Rattle.tl_form.proofs.SoundParts.{append_each, sound_cells, sound_blocks}
+use Rattle.tl_form.proofs.SoundParts.{sound_cells, sound_blocks}
 use Rattle.tl_page.specs.declared.line.Line.{Line}
 use Rattle.tl_page.specs.Pages.{Content, ShowsBlock, ShowsCell, ShowsBy, ShowsWithin, grid_of, line_from, line_text}
 use Rattle.tl_page.specs.Pictures.{Picture, picture, filled, spaces, line_of}
@@ -72,12 +73,6 @@ zip_mapped R S f g [] [] each all = tt
 zip_mapped R S f g [] (y ∷ ys) each all = absurd all
 zip_mapped R S f g (x ∷ xs) [] each all = absurd all
 zip_mapped R S f g (x ∷ xs) (y ∷ ys) each all = (each x y all.0, zip_mapped R S f g xs ys each all.1)
-
-zip_length : {A B : Type 0} (R : A → B → Type 0) (xs : List A) (ys : List B) → AllZip R xs ys → length xs ≡ length ys
-zip_length R [] [] all = refl
-zip_length R [] (y ∷ ys) all = absurd all
-zip_length R (x ∷ xs) [] all = absurd all
-zip_length R (x ∷ xs) (y ∷ ys) all = ap suc (zip_length R xs ys all.1)
 
 -- ---- what holds of a page
 
@@ -175,7 +170,7 @@ module _ (depth : ℕ) (style : Style)
       let one = block_whole level w (out-Content block) share part sound.0 fit.0 shows.0 here in
       let rest = blocks_whole level w blocks shares parts sound.1 fit.1 shows.1 there in
       record {
-        in_room = append_each (IsInRoom w) part.lines (flat_map (λ part. part.lines) parts) one.in_room rest.in_room;
+        in_room = AllByRecursion-append (IsInRoom w) part.lines (flat_map (λ part. part.lines) parts) one.in_room rest.in_room;
         low = omega (
           arith,
           length-append part.lines (flat_map (λ part. part.lines) parts),
@@ -302,7 +297,7 @@ module _ (depth : ℕ) (style : Style)
         let none : Content = record { lines = []; inner = [] } in
         let content = get_or shows.contents n none in
         let whole : IsCellWhole layout cell content = AllZip-get_or (IsCellWhole layout) table.cells shows.contents n other none cells within in
-        let as_many = zip_length (IsCellWhole layout) table.cells shows.contents cells in
+        let as_many = AllZip-length (IsCellWhole layout) table.cells shows.contents cells in
         let at : slice_get (places_of table) n ≡ Some (place_of cell) =
         slice_get-get_or (places_of table) n (place_of other) (omega (arith, within, length-map table.cells place_of))
         ∙ ap Some (get_or-map place_of table.cells n other (place_of other) within) in

@@ -1,17 +1,14 @@
 //! The content of the cells of a table: blocks one under the other, paragraphs and nested pages.
 
-ghost use Rattle.std.specs.Prelude.{◌≡◌, ◌<◌, ◌≤◌, ◌++◌, ◌+◌, ◌*◌, ◌^◌, List, ℕ, length, sum, OnOk, IfOk};
-ghost use Rattle.tl_base.specs.Style.{gap_of, row_gap_of, edge_of};
+ghost use Rattle.std.specs.Prelude.{◌≡◌, ◌<◌, ◌++◌, ◌+◌, ◌*◌, ◌^◌, List, length, sum, OnOk, IfOk};
 ghost use Rattle.tl_form.specs.Sound.{IsSound};
 ghost use Rattle.tl_form.specs.declared.cell.Content.{out-Content};
 ghost use Rattle.tl_form.specs.declared.cell.Table.{out-Table};
 ghost use Rattle.tl_form.specs.declared.cell.TableCell.{out-TableCell};
 ghost use Rattle.tl_form.specs.declared.layout.Layout.{out-Layout};
 ghost use Rattle.tl_form.specs.inner.LeastRooms.{IsSoundBlock, IsSoundCell};
-ghost use Rattle.tl_page.specs.Corners.{owner_of};
-ghost use Rattle.tl_page.specs.Pages.{grid_of, nested_lines};
+ghost use Rattle.tl_page.specs.Pages.{nested_lines};
 ghost use Rattle.tl_page.specs.Pictures.{lines_of};
-ghost use Rattle.tl_page.specs.Strips.{strips as page_strips};
 ghost use Rattle.tl_page.specs.inner.Contents.{FitsPage, FitsCellRoom, FitsBlockRoom, ShowsPart, ShowsParts, ShowsCells, picture_with};
 
 use crate::line::{Drawn, Line};

@@ -1,6 +1,6 @@
 //! The lines of a paragraph in a cell.
 
-ghost use Rattle.std.specs.Prelude.{◌≡◌, ◌+◌, ◌*◌, ◌≤◌, ◌++◌, List, ℕ, length, encode_utf8_all, slice_range, OnOk, IfOk};
+ghost use Rattle.std.specs.Prelude.{◌≡◌, ◌+◌, ◌*◌, ◌≤◌, ◌++◌, List, length, encode_utf8_all, OnOk, IfOk};
 ghost use Rattle.std.specs.List.{All};
 ghost use Rattle.tl_base.specs.Text.{byte_count};
 ghost use Rattle.tl_page.specs.declared.line.Line.{Line as Shown};

@@ -1,6 +1,6 @@
 //! Writes the lines of a picture, each from left to right.
 
-ghost use Rattle.std.specs.Prelude.{◌≡◌, ◌+◌, ◌++◌, replicate, slice_get, OnOk, IfOk, if◌then◌else◌, ◌&&◌, ◌==◌};
+ghost use Rattle.std.specs.Prelude.{◌≡◌, ◌+◌, ◌++◌, replicate, slice_get, OnOk, IfOk, ◌&&◌, ◌==◌};
 ghost use Rattle.tl_page.specs.Corners.{corner_of};
 ghost use Rattle.tl_page.specs.Pictures.{filled, inside, inside_cell, piece, line_of, strip_lines, lines_of};
 ghost use Rattle.tl_page.specs.inner.Drawing.{owner_in, shown};

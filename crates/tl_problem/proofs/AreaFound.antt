@@ -1,6 +1,6 @@
 -- The area bound from the least areas of the cells and the greatest place where the columns end.
-use Rattle.std.proofs.Common.{◌≡◌, ℕ, ◌+◌, ◌-◌, ◌*◌, ◌/◌, ◌%◌, ◌<◌, ◌≤◌, suc, min, ℤ, pos, List, [], ◌∷◌, ◌++◌, inl, inr, length, get_or, Option}
-use Rattle.std.proofs.Common.{Some, None, MatchOption, refl, sym, ap, ◌∙◌, subst, arith}
+use Rattle.std.proofs.Common.{◌≡◌, ℕ, ◌+◌, ◌-◌, ◌*◌, ◌/◌, ◌%◌, ◌<◌, ◌≤◌, suc, min, ℤ, pos, List, [], ◌∷◌, ◌++◌, inl, inr, length, get_or}
+use Rattle.std.proofs.Common.{Some, refl, sym, ap, ◌∙◌, subst, arith}
 use Rattle.std.specs.List.{AllZip, sum_by}
 use Rattle.std.specs.Int.{div_ceil}
 use Rattle.std.proofs.lemmas.Int.{ints}
@@ -9,21 +9,21 @@ use Rattle.std.proofs.lemmas.Nat.{div-add-mod', mod_below}
 use Rattle.std.proofs.lemmas.List.{length_push}
 use Rattle.std.proofs.lemmas.List.Sums.{sum_by-cons, sum_by_push, get_or-le-sum_by}
 use Rattle.std.proofs.Math.Nat.{mul-le-mul, mul-le-mul_right}
-use Rattle.tl_base.specs.declared.limits.TheConstants.{MAX_HEIGHT}
+use Rattle.tl_base.specs.declared.limits.TheConstants.{MAX_HEIGHT, MAX_PAGE_WIDTH}
 use Rattle.tl_base.specs.Style.{gap_of, row_gap_of, edge_of}
 use Rattle.tl_base.specs.declared.style.Style.{Style}
 use Rattle.tl_base.specs.declared.style.Style.TheVariants.{Plain, Frame}
-use Rattle.tl_base.specs.Steps.{height_at}
+use Rattle.tl_base.specs.Steps.{height_at, first_height}
 use Rattle.tl_diff.specs.Bounds.{Bounds, IsGreatest, HasNoGreatest}
 use Rattle.tl_problem.specs.declared.cell.Cell.{Cell}
 use Rattle.tl_problem.specs.Sizes.{position}
 use Rattle.tl_problem.specs.Problem.{ProblemModel, cell_width}
 use Rattle.tl_problem.specs.Layouts.{WithinPage}
-use Rattle.tl_problem.specs.Sound.{IsSound, IsSoundCell, greatest_height}
-use Rattle.tl_problem.specs.Bounds.{HasNoWidths, IsGreatestRoom}
-use Rattle.tl_problem.specs.Areas.{IsBetweenRooms, IsLeastArea, IsGreatestEnd, IsRoundedUp, IsAreaBound}
+use Rattle.tl_problem.specs.Sound.{IsSound, IsSoundCell}
+use Rattle.tl_problem.specs.Bounds.{IsGreatestRoom}
+use Rattle.tl_problem.specs.Areas.{IsLeastArea, IsGreatestEnd, IsRoundedUp, IsAreaBound}
 use Rattle.tl_problem.specs.Works.{places, IsLeft, KeepsPage}
-use Rattle.tl_problem.specs.inner.Demands.{cell_at}
+use Rattle.tl_problem.specs.inner.Demands.{cell_at, no_cell}
 use Rattle.tl_problem.specs.inner.Needs.{IsLeastRoom}
 use Rattle.tl_problem.specs.inner.Least.{area_with, IsLeastStep, HaveAreas}
 use Rattle.tl_problem.specs.inner.Constraints.{widths_of}
@@ -33,9 +33,6 @@ use Rattle.tl_problem.proofs.NeedLemmas.{upto-push, all-most, sum-le, height-le,
 use Rattle.tl_problem.proofs.WorkLemmas.{left-from, left-position}
 use Rattle.tl_problem.proofs.ConstraintLemmas.{gap-few, gap-some}
 use Rattle.tl_problem.proofs.AreaSteps.{least-below, least-attained}
-
-abbrev no_cell : Cell
-no_cell = record { left = 0; right = 0; top = 0; bottom = 0; low = []; high = [] }
 
 row_gap-few : (style : Style) → row_gap_of style ≤ 1
 row_gap-few Plain = omega arith
@@ -131,7 +128,7 @@ rounded-up n divisor some =
 -- ---- the greatest end
 
 module _ (problem : ProblemModel) (sound : IsSound problem) (bounds : Bounds) (keeps : KeepsPage problem bounds) (some : 0 < problem.cols) where
-  end-small : (widths : List ℕ) → WithinPage problem widths → position (gap_of problem.style) widths problem.cols ≤ 502
+  end-small : (widths : List ℕ) → WithinPage problem widths → position (gap_of problem.style) widths problem.cols ≤ MAX_PAGE_WIDTH + 2
   end-small widths page =
       let whole = total-position (gap_of problem.style) (edge_of problem.style) widths (omega (arith, page.columns)) in
       let at = ap (position (gap_of problem.style) widths) page.columns in
@@ -139,14 +136,14 @@ module _ (problem : ProblemModel) (sound : IsSound problem) (bounds : Bounds) (k
 
   pub end-some : HasNoGreatest bounds 0 problem.cols → ⊥
   end-some none =
-      let more = none (pos 1000) in
+      let more = none (pos (2 * MAX_PAGE_WIDTH)) in
       let widths = widths_of more.0 (gap_of problem.style) problem.cols in
       let at = left-position problem bounds keeps more.0 more.1.0 problem.cols (omega arith) in
       let small = end-small widths (keeps.page widths (left-from problem bounds keeps more.0 more.1.0)) in
       omega (arith, ints, more.1.1, at, small)
 
   pub greatest-end : (most : ℤ) → IsGreatest bounds 0 problem.cols most →
-      (end : ℕ) × ((most ≡ pos end) × (IsGreatestEnd problem (IsLeft problem bounds) end × ((0 < end) × (end ≤ 502))))
+      (end : ℕ) × ((most ≡ pos end) × (IsGreatestEnd problem (IsLeft problem bounds) end × ((0 < end) × (end ≤ MAX_PAGE_WIDTH + 2))))
   greatest-end most is =
       let x = is.reached.0 in
       let widths = widths_of x (gap_of problem.style) problem.cols in
@@ -174,7 +171,7 @@ module _ (problem : ProblemModel) (sound : IsSound problem) (bounds : Bounds) (k
 module _ (problem : ProblemModel) (sound : IsSound problem) (Among : List ℕ → Type 0) (page : (widths : List ℕ) → Among widths →
     WithinPage problem widths) (end : ℕ) (greatest : IsGreatestEnd problem Among end) where
   area-small : (k least : ℕ) → k < length problem.cells → IsLeastArea problem Among (cell_at problem.cells k) least →
-      least ≤ end * (greatest_height (cell_at problem.cells k).high + 1)
+      least ≤ end * (first_height (cell_at problem.cells k).high + 1)
   area-small k least within is =
       let cell = cell_at problem.cells k in
       let sound_cell = sound.cells k no_cell within in
@@ -190,16 +187,16 @@ module _ (problem : ProblemModel) (sound : IsSound problem) (Among : List ℕ �
       let place = room-position (gap_of problem.style) widths cell.left cell.right sound_cell.columns.0 in
       let far = position-mono (gap_of problem.style) widths cell.right problem.cols sound_cell.columns.1 in
       let wide : w + gap_of problem.style ≤ end = omega (arith, place, far, greatest.attained.2) in
-      let tall : found.0 + row_gap_of problem.style ≤ greatest_height cell.high + 1 = omega (arith, low, most, row_gap-few problem.style) in
+      let tall : found.0 + row_gap_of problem.style ≤ first_height cell.high + 1 = omega (arith, low, most, row_gap-few problem.style) in
       omega (arith, below, mul-le-mul wide tall)
 
-  scaled : (cells : List Cell) → sum_by (λ c. end * (greatest_height c.high + 1)) cells ≡ end * (sum_by (λ c. greatest_height c.high) cells + length cells)
+  scaled : (cells : List Cell) → sum_by (λ c. end * (first_height c.high + 1)) cells ≡ end * (sum_by (λ c. first_height c.high) cells + length cells)
   scaled [] = omega arith
   scaled (c ∷ cells) =
       let rest = scaled cells in
-      let one = sum_by-cons (λ (x : Cell). end * (greatest_height x.high + 1)) c cells in
-      let other = sum_by-cons (λ (x : Cell). greatest_height x.high) c cells in
-      let product = spread end (greatest_height c.high) (sum_by (λ x. greatest_height x.high) cells) (length cells) in
+      let one = sum_by-cons (λ (x : Cell). end * (first_height x.high + 1)) c cells in
+      let other = sum_by-cons (λ (x : Cell). first_height x.high) c cells in
+      let product = spread end (first_height c.high) (sum_by (λ x. first_height x.high) cells) (length cells) in
       one ∙ omega (arith, rest, product) ∙ ap (λ s. end * (s + length (c ∷ cells))) (sym other) where
         spread : (e g s n : ℕ) → e * (g + 1) + e * (s + n) ≡ e * (g + s + suc n)
         spread e g s n = grind arith
@@ -207,25 +204,27 @@ module _ (problem : ProblemModel) (sound : IsSound problem) (Among : List ℕ �
   -- so few lines hold them
   pub areas-small : (total : ℕ) → HaveAreas problem Among (length problem.cells) total → total ≤ (MAX_HEIGHT + length problem.cells) * end
   areas-small total h =
-      let each = sum-le (λ c. end * (greatest_height c.high + 1)) problem.cells h.areas h.count
+      let each = sum-le (λ c. end * (first_height c.high + 1)) problem.cells h.areas h.count
       (λ k within. area-small k (get_or h.areas k 0) within (h.each k within)) in
-      let most = mul-le-mul (upto end end (omega arith)) (upto (sum_by (λ c. greatest_height c.high) problem.cells + length problem.cells)
+      let most = mul-le-mul (upto end end (omega arith)) (upto (sum_by (λ c. first_height c.high) problem.cells + length problem.cells)
       (MAX_HEIGHT + length problem.cells) (omega (arith, sound.low_enough))) in
       let turned : end * (MAX_HEIGHT + length problem.cells) ≡ (MAX_HEIGHT + length problem.cells) * end = grind arith in
       omega (arith, each, scaled problem.cells, most, turned, h.sums)
 
-  pub area-few : (k least : ℕ) → k < length problem.cells → end ≤ 502 → IsLeastArea problem Among (cell_at problem.cells k) least → least ≤ 1099511627776
+  pub area-few : (k least : ℕ) → k < length problem.cells → end ≤ MAX_PAGE_WIDTH + 2 → IsLeastArea problem Among (cell_at problem.cells k) least →
+      least ≤ (MAX_PAGE_WIDTH + 2) * (MAX_HEIGHT + 1)
   area-few k least within few is =
       let small = area-small k least within is in
       let cell = cell_at problem.cells k in
-      let one = get_or-le-sum_by (λ (c : Cell). greatest_height c.high) problem.cells k no_cell within in
-      let most = mul-le-mul few (upto (greatest_height cell.high + 1) 1073741825 (omega (arith, one, sound.low_enough))) in
+      let one = get_or-le-sum_by (λ (c : Cell). first_height c.high) problem.cells k no_cell within in
+      let most = mul-le-mul few (upto (first_height cell.high + 1) (MAX_HEIGHT + 1) (omega (arith, one, sound.low_enough))) in
       omega (arith, small, most)
 
   -- the areas of the first cells
-  pub areas-few : (upto total : ℕ) → upto ≤ length problem.cells → end ≤ 502 → HaveAreas problem Among upto total → total ≤ upto * 1099511627776
+  pub areas-few : (upto total : ℕ) → upto ≤ length problem.cells → end ≤ MAX_PAGE_WIDTH + 2 → HaveAreas problem Among upto total →
+      total ≤ upto * ((MAX_PAGE_WIDTH + 2) * (MAX_HEIGHT + 1))
   areas-few upto total within few h =
-      let all = all-most (λ x. x) 1099511627776 h.areas (λ k below. area-few k (get_or h.areas k 0) (omega (arith, h.count)) few
+      let all = all-most (λ x. x) ((MAX_PAGE_WIDTH + 2) * (MAX_HEIGHT + 1)) h.areas (λ k below. area-few k (get_or h.areas k 0) (omega (arith, h.count)) few
       (h.each k (omega (arith, h.count)))) in
       omega (arith, all, h.count, h.sums)
 
@@ -246,54 +245,3 @@ module _ (problem : ProblemModel) (sound : IsSound problem) (Among : List ℕ �
       refl,
     );
   }
-
--- ---- sets that hold each other have one area bound
-
-module _ (problem : ProblemModel) (A B : List ℕ → Type 0) (to : (widths : List ℕ) → A widths → B widths) (from : (widths : List ℕ) → B widths → A widths) where
-  between-same : (cell : Cell) (w : ℕ) → IsBetweenRooms problem A cell w → IsBetweenRooms problem B cell w
-  between-same cell w is = record {
-    no_more = (is.no_more.0, to is.no_more.0 is.no_more.1, is.no_more.2);
-    no_less = (is.no_less.0, to is.no_less.0 is.no_less.1, is.no_less.2);
-  }
-
-module _ (problem : ProblemModel) (A B : List ℕ → Type 0) (to : (widths : List ℕ) → A widths → B widths) (from : (widths : List ℕ) → B widths → A widths) where
-  least-same : (cell : Cell) (least : ℕ) → IsLeastArea problem A cell least → IsLeastArea problem B cell least
-  least-same cell least is = record {
-    attained = (is.attained.0, is.attained.1, between-same problem A B to from cell is.attained.0 is.attained.2, is.attained.3, is.attained.4);
-    never_less = λ w h between here. is.never_less w h (between-same problem B A from to cell w between) here;
-  }
-
-  zip-same : (cells : List Cell) (ns : List ℕ) → AllZip (IsLeastArea problem A) cells ns → AllZip (IsLeastArea problem B) cells ns
-  zip-same [] [] all = tt
-  zip-same [] (n ∷ ns) all = absurd all
-  zip-same (c ∷ cells) [] all = absurd all
-  zip-same (c ∷ cells) (n ∷ ns) all = (least-same c n all.0, zip-same cells ns all.1)
-
-  area-same-some : (bound : ℕ) → IsAreaBound problem A bound → IsAreaBound problem B bound
-  area-same-some bound is = record {
-    some = (is.some.0, to is.some.0 is.some.1);
-    no_column = is.no_column;
-    columns = λ columns.
-        let held = is.columns columns in (
-          held.0,
-          record {
-            areas = held.1.areas;
-            end = held.1.end;
-            least = zip-same problem.cells held.1.areas held.1.least;
-            greatest = record {
-              attained = (
-                held.1.greatest.attained.0,
-                to held.1.greatest.attained.0 held.1.greatest.attained.1,
-                held.1.greatest.attained.2,
-              );
-              never_more = λ widths among. held.1.greatest.never_more widths (from widths among);
-            };
-            rounded = held.1.rounded;
-          },
-          held.2,
-        );
-  }
-
-  pub area-same : (found : Option ℕ) → MatchOption found (HasNoWidths A) (IsAreaBound problem A) → MatchOption found (HasNoWidths B) (IsAreaBound problem B)
-  area-same None none = λ widths among. none widths (from widths among)
-  area-same (Some bound) is = area-same-some bound is

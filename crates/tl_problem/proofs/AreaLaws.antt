@@ -27,7 +27,7 @@ zip-sum R f (x ∷ xs) (n ∷ ns) zip each =
     let rest = zip-sum R f xs ns zip.1 (λ k d within. each (suc k) d (omega arith)) in
     omega (arith, head, first, one, rest)
 
-times_le : (a b c : ℕ) → a ≤ b → a * c ≤ b * c
+pub times_le : (a b c : ℕ) → a ≤ b → a * c ≤ b * c
 times_le a b c le = grind arith
 
 turned : (b c : ℕ) → b * c ≡ c * b

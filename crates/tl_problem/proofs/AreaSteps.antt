@@ -8,20 +8,13 @@ use Rattle.std.proofs.lemmas.Bool.Decides.{nat_tests}
 use Rattle.std.proofs.Math.Nat.{mul-le-mul}
 use Rattle.tl_base.specs.declared.steps.Config.{Config}
 use Rattle.tl_base.specs.Steps.{AreSteps, height_at}
+use Rattle.tl_base.proofs.Decreasing.{Falls}
 use Rattle.tl_problem.specs.inner.Least.{step_at, area_with, IsLeastStep}
 use Rattle.tl_problem.proofs.NeedLemmas.{filter-none}
-
-test_le : (a b : ℕ) → a ≤ b → nat_le a b ≡ true
-test_le a b le = grind (arith, nat_tests)
-
-test_le_false : (a b : ℕ) → b < a → nat_le a b ≡ false
-test_le_false a b gt = grind (arith, nat_tests)
+use Rattle.tl_problem.proofs.Heights.{test_le, test_le_false}
 
 le_test : (a b : ℕ) → nat_le a b ≡ true → a ≤ b
 le_test a b is = grind (arith, nat_tests)
-
-abbrev Falls : Config → Config → Type 0
-Falls a b = (a.width < b.width) × (b.height < a.height)
 
 tail : (step : Config) (steps : List Config) → AllPairs Falls (step ∷ steps) → AllPairs Falls steps
 tail step steps decreasing i j d before within = decreasing (suc i) (suc j) d (omega arith) (omega arith)

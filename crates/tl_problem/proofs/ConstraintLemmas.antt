@@ -1,18 +1,17 @@
 -- Constraints of the page and of a zone's ranges, one after another, and the sets of widths that they leave.
-use Rattle.std.proofs.Common.{◌≡◌, ℕ, ◌+◌, ◌-◌, ◌*◌, ◌<◌, ◌≤◌, ℤ, pos, ◌≤ℤ◌, Bool, true, false, IsTrue, List, [], ◌∷◌, inl, inr, length, get_or}
-use Rattle.std.proofs.Common.{Option, Some, None, MatchOption, refl, sym, ap, ◌∙◌, arith}
+use Rattle.std.proofs.Common.{◌≡◌, ℕ, ◌+◌, ◌-◌, ◌*◌, ◌<◌, ◌≤◌, ℤ, pos, ◌≤ℤ◌, Bool, true, false, IsTrue, List, [], ◌∷◌, inl, inr, length}
+use Rattle.std.proofs.Common.{refl, sym, ap, ◌∙◌, arith}
 use Rattle.std.proofs.lemmas.Int.{ints}
 use Rattle.std.proofs.lemmas.Bool.{cases_eq, cases_lt}
 use Rattle.std.proofs.lemmas.List.{get_or_past}
 use Rattle.std.proofs.lemmas.List.Elements.{Contains-get_or}
 use Rattle.tl_base.specs.declared.limits.TheConstants.{MAX_PAGE_WIDTH}
-use Rattle.tl_base.specs.Style.{gap_of, edge_of, row_gap_of}
+use Rattle.tl_base.specs.Style.{gap_of, edge_of}
 use Rattle.tl_base.specs.declared.style.Style.{Style}
 use Rattle.tl_base.specs.declared.style.Style.TheVariants.{Plain, Frame}
 use Rattle.tl_base.specs.Steps.{first_width}
 use Rattle.tl_diff.specs.Bounds.{Bounds, Satisfies, IsSatisfiable, HasNoGreatest, IsLeast}
 use Rattle.tl_diff.specs.Marks.{MarkedBounds}
-use Rattle.tl_problem.specs.declared.cell.Cell.{Cell}
 use Rattle.tl_problem.specs.declared.zone.Range.{Range}
 use Rattle.tl_problem.specs.Sizes.{position, room}
 use Rattle.tl_problem.specs.Problem.{ProblemModel, cell_width, total_width}
@@ -20,32 +19,21 @@ use Rattle.tl_problem.specs.Layouts.{WithinPage}
 use Rattle.tl_problem.specs.Sound.{IsSound}
 use Rattle.tl_problem.specs.Spans.{spans_of, page_room}
 use Rattle.tl_problem.specs.Zones.{span_at, classes_at, range_at, first_in_class, last_in_class, span_width, IsWidthOf, InZone}
-use Rattle.tl_problem.specs.Bounds.{HasNoWidths, IsGreatestRoom, GiveLow, IsBound}
+use Rattle.tl_problem.specs.Bounds.{HasNoWidths, IsGreatestRoom}
 use Rattle.tl_problem.specs.Placements.{AreLeast}
 use Rattle.tl_problem.specs.Works.{places, IsLeft, KeepsPage}
 use Rattle.tl_problem.specs.inner.Needs.{IsLeastRoom}
-use Rattle.tl_problem.specs.inner.Demands.{cell_at}
+use Rattle.tl_problem.specs.inner.Demands.{cell_at, no_cell}
 use Rattle.tl_problem.specs.inner.Constraints.{widths_of, AreApart, AreNear, PageUpto, AddsFact, HasFirst, HasLast, AddsRanges}
-use Rattle.tl_problem.proofs.SizeLaws.{total-position, room-position, position-mono}
+use Rattle.tl_problem.proofs.SizeLaws.{total-position, room-position, position-mono, position-gap}
 use Rattle.tl_problem.proofs.SpanLaws.{room-in_page, least_width-within, classes-first, classes-cases}
 use Rattle.tl_problem.proofs.ZoneLaws.{span-within}
-use Rattle.tl_problem.proofs.DemandLemmas.{sum_take-mono}
-use Rattle.tl_problem.proofs.NeedLemmas.{All-from_numbers, IsLeastTotal-same}
+use Rattle.tl_problem.proofs.NeedLemmas.{All-from_numbers}
 use Rattle.tl_problem.proofs.WorkLemmas.{left-from, left-room, left-position}
-
-abbrev no_cell : Cell
-no_cell = record { left = 0; right = 0; top = 0; bottom = 0; low = []; high = [] }
 
 pub gap-some : (style : Style) → 1 ≤ gap_of style
 gap-some Plain = omega arith
 gap-some Frame = omega arith
-
--- columns follow each other with a gap
-position-gap : (gap : ℕ) (widths : List ℕ) (k : ℕ) → position gap widths k + gap ≤ position gap widths (k + 1)
-position-gap gap widths k =
-    let sums = sum_take-mono widths k (k + 1) (omega arith) in
-    let product : gap * (k + 1) ≡ gap * k + gap = grind arith in
-    omega (arith, sums, product)
 
 position-start : (gap : ℕ) (widths : List ℕ) → position gap widths 0 ≡ 0
 position-start gap widths = omega arith
@@ -291,35 +279,6 @@ AddsRanges-none problem zone matrix = record {
   to = λ whole widths left s below. absurd (omega arith);
 }
 
--- ---- sets that hold each other have one bound
-
-module _ (problem : ProblemModel) (A B : List ℕ → Type 0) (to : (widths : List ℕ) → A widths → B widths) (from : (widths : List ℕ) → B widths → A widths) where
-  greatest-same : (left right w : ℕ) → IsGreatestRoom problem A left right w → IsGreatestRoom problem B left right w
-  greatest-same left right w is = record {
-    attained = (is.attained.0, to is.attained.0 is.attained.1, is.attained.2);
-    never_more = λ widths among. is.never_more widths (from widths among);
-  }
-
-module _ (problem : ProblemModel) (A B : List ℕ → Type 0) (to : (widths : List ℕ) → A widths → B widths) (from : (widths : List ℕ) → B widths → A widths) where
-  give-same : (heights : List ℕ) → GiveLow problem A heights → GiveLow problem B heights
-  give-same heights give = record {
-    rows = give.rows;
-    cells = λ k d within w greatest. give.cells k d within w (greatest-same problem B A from to (get_or problem.cells k d).left
-        (get_or problem.cells k d).right w greatest);
-  }
-
-module _ (problem : ProblemModel) (A B : List ℕ → Type 0) (to : (widths : List ℕ) → A widths → B widths) (from : (widths : List ℕ) → B widths → A widths) where
-  IsBound-same : (bound : ℕ) → IsBound problem A bound → IsBound problem B bound
-  IsBound-same bound is = record {
-    some = (is.some.0, to is.some.0 is.some.1);
-    least = IsLeastTotal-same (row_gap_of problem.style) (edge_of problem.style) (GiveLow problem A) (GiveLow problem B) bound
-        (give-same problem A B to from) (give-same problem B A from to) is.least;
-  }
-
-  pub bound-same : (found : Option ℕ) → MatchOption found (HasNoWidths A) (IsBound problem A) → MatchOption found (HasNoWidths B) (IsBound problem B)
-  bound-same None none = λ widths among. none widths (from widths among)
-  bound-same (Some bound) is = IsBound-same bound is
-
 -- ---- a matrix is its parts
 
 pub same-matrix : (a b : MarkedBounds) → a.marks ≡ b.marks → a.bounds ≡ b.bounds → a.held ≡ b.held → a ≡ b
@@ -347,7 +306,7 @@ module _ (problem : ProblemModel) (sound : IsSound problem) (bounds : Bounds) (k
 
   pub greatest-some : HasNoGreatest bounds left right → ⊥
   greatest-some none =
-      let more = none (pos 1000) in
+      let more = none (pos (2 * MAX_PAGE_WIDTH)) in
       let at = left-room problem bounds keeps left right ahead within more.0 more.1.0 in
       let page = keeps.page (widths_of more.0 (gap_of problem.style) problem.cols) (left-from problem bounds keeps more.0 more.1.0) in
       let small = room-small problem sound (widths_of more.0 (gap_of problem.style) problem.cols) page left right ahead within in
@@ -433,7 +392,7 @@ module _ (problem : ProblemModel) (bounds : Bounds) (keeps : KeepsPage problem b
     }
 
     -- the least places are within the page
-    pub place-small : IsSound problem → (k : ℕ) → k ≤ problem.cols → (pos 0 ≤ℤ x k) × (x k ≤ℤ pos 502)
+    pub place-small : IsSound problem → (k : ℕ) → k ≤ problem.cols → (pos 0 ≤ℤ x k) × (x k ≤ℤ pos (MAX_PAGE_WIDTH + 2))
     place-small sound k up =
         let widths = widths_of x (gap_of problem.style) problem.cols in
         let left = left-from problem bounds keeps x is.satisfies in

@@ -7,7 +7,7 @@ use Rattle.std.proofs.lemmas.Bool.{cases_lt}
 use Rattle.std.proofs.lemmas.List.{length-append, take_all, take-append-le, length-map, get_or-map, get_or_default}
 use Rattle.std.proofs.lemmas.List.Sums.{sum_by-append, sum_by-cons}
 use Rattle.std.proofs.Math.Nat.{mul-le-mul}
-use Rattle.tl_base.specs.declared.limits.TheConstants.{MAX_ROWS}
+use Rattle.tl_base.specs.declared.limits.TheConstants.{MAX_COLUMNS, MAX_ROWS}
 use Rattle.tl_base.specs.Style.{row_gap_of, edge_of}
 use Rattle.tl_diff.specs.declared.paths.Arc.{Arc}
 use Rattle.tl_diff.specs.Paths.{arc_at, IsPath, path_weight, total_weight, LeadForward, InOrder}
@@ -39,7 +39,7 @@ count-few problem Columns sound = omega (arith, sound.few_columns)
 count-few problem Rows sound = sound.few_rows
 
 -- cells share no slot, so that there are no more of them than slots
-pub few-cells : (problem : ProblemModel) → IsSound problem → length problem.cells ≤ 120060
+pub few-cells : (problem : ProblemModel) → IsSound problem → length problem.cells ≤ MAX_COLUMNS * (MAX_ROWS + 1)
 few-cells problem sound =
     let all = areas-within (λ (c : Cell). c.left) (λ (c : Cell). c.right) (λ (c : Cell). c.top) (λ (c : Cell). c.bottom) (λ n. n) (λ n. n)
     (λ n. omega arith) (λ n. omega arith) refl refl

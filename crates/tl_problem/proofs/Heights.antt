@@ -7,6 +7,7 @@ use Rattle.std.proofs.lemmas.Bool.{cases_lt}
 use Rattle.std.proofs.lemmas.Bool.Decides.{nat_tests}
 use Rattle.tl_base.specs.declared.steps.Config.{Config}
 use Rattle.tl_base.specs.Steps.{AreSteps, first_width, height_at, IsLowAt}
+use Rattle.tl_base.proofs.Members.{AllPairs-head, AllPairs-tail}
 
 -- tests and what they mean
 pub test_le : (a b : ℕ) → a ≤ b → nat_le a b ≡ true
@@ -51,21 +52,14 @@ last-low h o p (step ∷ steps) give low = low
 abbrev NoHigher : Option Config → Config → Type 0
 NoHigher o step = (h : ℕ) → Low h o → step.height ≤ h
 
--- of any two steps the later is no higher
-tail_pairs : {X : Type 0} (R : X → X → Type 0) (x : X) (xs : List X) → AllPairs R (x ∷ xs) → AllPairs R xs
-tail_pairs R x xs all = λ i j d before within. all (suc i) (suc j) d (omega arith) (omega arith)
-
-head_pairs : {X : Type 0} (R : X → X → Type 0) (x : X) (xs : List X) → AllPairs R (x ∷ xs) → All (R x) xs
-head_pairs R x xs all = λ k d within. all 0 (suc k) d (omega arith) (omega arith)
-
 wider_low : (h w v : ℕ) → w ≤ v → (o : Option Config) (steps : List Config) → AllPairs (λ a b. (a.width < b.width) × (b.height < a.height)) steps →
     All (NoHigher o) steps →
     Low h (last_or o (filter (λ step. nat_le step.width w) steps)) → Low h (last_or o (filter (λ step. nat_le step.width v) steps))
 wider_low h w v more o [] decreasing no_higher low = low
 wider_low h w v more o (step ∷ steps) decreasing no_higher low =
-    let later = tail_pairs (λ a b. (a.width < b.width) × (b.height < a.height)) step steps decreasing in
+    let later = AllPairs-tail (λ a b. (a.width < b.width) × (b.height < a.height)) step steps decreasing in
     let lower : All (NoHigher (Some step)) steps = λ k d within. λ bound here. let fall =
-    head_pairs (λ a b. (a.width < b.width) × (b.height < a.height)) step steps decreasing k d within in omega (arith, fall.1, here) in
+    AllPairs-head (λ a b. (a.width < b.width) × (b.height < a.height)) step steps decreasing k d within in omega (arith, fall.1, here) in
     let rest : All (NoHigher o) steps = λ k d within. no_higher (suc k) d (omega arith) in
     elim (cases_lt w step.width) [
       | inr narrow ↦

@@ -1,41 +1,38 @@
 -- What the cells need, by number, says what layouts, bounds and tight placements ask for: sizes give the one where they
 -- give the other.
-use Rattle.std.proofs.Common.{◌≡◌, ℕ, ◌+◌, ◌-◌, ◌*◌, ◌<◌, ◌≤◌, zero, suc, Bool, true, false, cond, nat_le, IsSome, IsNone, ◌↔◌, List, [], ◌∷◌, ◌++◌}
+use Rattle.std.proofs.Common.{◌≡◌, ℕ, ◌+◌, ◌-◌, ◌*◌, ◌^◌, ◌<◌, ◌≤◌, zero, suc, Bool, true, false, cond, nat_le, IsSome, IsNone, ◌↔◌, List, [], ◌∷◌, ◌++◌}
 use Rattle.std.proofs.Common.{length, get_or, set, drop, filter, sum, Option, Some, None, refl, sym, ap, ◌∙◌, subst, inl, inr, arith}
 use Rattle.std.specs.List.{All, AllPairs, last_or, sum_by, slice_range}
 use Rattle.std.specs.Option.{option_map, IfSome}
 use Rattle.std.proofs.lemmas.Bool.{cases_eq, cases_lt}
-use Rattle.std.proofs.lemmas.Bool.Decides.{nat_tests}
 use Rattle.std.proofs.lemmas.List.{get_or_default, get_or_push, get_or_append_left, get_or-set_same, get_or-set_other}
 use Rattle.std.proofs.lemmas.List.Sums.{sum_by-cons, sum_by-take-le, sum_by-take-drop, sum_by-le}
-use Rattle.tl_base.specs.declared.limits.TheConstants.{MAX_HEIGHT, MAX_PAGE_WIDTH, MAX_ROWS}
+use Rattle.tl_base.specs.declared.limits.TheConstants.{MAX_COLUMNS, MAX_HEIGHT, MAX_PAGE_WIDTH, MAX_ROWS}
 use Rattle.tl_base.specs.Style.{gap_of, row_gap_of, edge_of}
 use Rattle.tl_base.specs.declared.style.Style.{Style}
 use Rattle.tl_base.specs.declared.style.Style.TheVariants.{Plain, Frame}
 use Rattle.tl_base.specs.declared.steps.Config.{Config}
-use Rattle.tl_base.specs.Steps.{AreSteps, first_width, height_at, IsLowAt}
+use Rattle.tl_base.specs.Steps.{AreSteps, first_width, height_at, IsLowAt, first_height}
 use Rattle.tl_problem.specs.declared.axis.Axis.TheVariants.{Columns, Rows}
 use Rattle.tl_problem.specs.declared.cell.Cell.{Cell}
 use Rattle.tl_problem.specs.Sizes.{total}
 use Rattle.tl_problem.specs.Problem.{ProblemModel, cell_width, cell_height}
 use Rattle.tl_problem.specs.Layouts.{WithinPage, GiveHigh}
-use Rattle.tl_problem.specs.Sound.{IsSound, IsSoundCell, greatest_height}
+use Rattle.tl_problem.specs.Sound.{IsSound, IsSoundCell}
 use Rattle.tl_problem.specs.Bounds.{IsGreatestRoom, GiveLow, IsLeastTotal}
 use Rattle.tl_problem.specs.Placements.{AreLeast}
 use Rattle.tl_problem.specs.Tight.{KeepHigh}
-use Rattle.tl_problem.specs.inner.Demands.{cell_at, GiveDemands}
+use Rattle.tl_problem.specs.inner.Demands.{cell_at, GiveDemands, no_cell}
 use Rattle.tl_problem.specs.inner.Needs.{NeedHigh, NeedLow, NeedWidths, NeedLeast}
-use Rattle.tl_problem.proofs.Heights.{IsLowAt-from, IsLowAt-higher, IsLowAt-wider, height-from_low, height-from_first}
+use Rattle.tl_problem.proofs.Heights.{IsLowAt-from, IsLowAt-higher, IsLowAt-wider, height-from_low, height-from_first, test_le_false}
 use Rattle.tl_problem.proofs.SpanLaws.{room-in_page}
 use Rattle.tl_problem.proofs.DemandLemmas.{few-cells}
 use Rattle.tl_problem.proofs.TightLaws.{least-total, KeepHigh-itself}
-
-abbrev none : Cell
-none = record { left = 0; right = 0; top = 0; bottom = 0; low = []; high = [] }
+use Rattle.tl_problem.proofs.SizeLaws.{sum-total}
 
 -- what is so of each cell by number is so of all
 pub All-from_numbers : (P : Cell → Type 0) (cells : List Cell) → ((k : ℕ) → k < length cells → P (cell_at cells k)) → All P cells
-All-from_numbers P cells each k d within = subst P (get_or_default cells k none d within) (each k within)
+All-from_numbers P cells each k d within = subst P (get_or_default cells k no_cell d within) (each k within)
 
 -- a height is what it is
 same-height : (steps : List Config) (w h k : ℕ) → height_at steps w ≡ Some h → height_at steps w ≡ Some k → h ≡ k
@@ -52,9 +49,6 @@ low-le steps w h k is low =
 pub filter-none : (p : Config → Bool) (steps : List Config) → All (λ s. p s ≡ false) steps → filter p steps ≡ []
 filter-none p [] all = refl
 filter-none p (step ∷ steps) all = rw (all 0 step (omega arith)) (filter-none p steps (λ k d within. all (suc k) d (omega arith)))
-
-test_le_false : (a b : ℕ) → b < a → nat_le a b ≡ false
-test_le_false a b gt = grind (arith, nat_tests)
 
 pub low-first : (steps : List Config) → AreSteps steps → (h w : ℕ) → IsLowAt steps h w → first_width steps ≤ w
 low-first [] are h w low = absurd low
@@ -86,7 +80,7 @@ IsLeastTotal-same gap edge A B least to from is = record {
 
 module _ (problem : ProblemModel) (sound : IsSound problem) where
   sound-at : (k : ℕ) → k < length problem.cells → IsSoundCell problem (cell_at problem.cells k)
-  sound-at k within = sound.cells k none within
+  sound-at k within = sound.cells k no_cell within
 
   -- ---- heights
 
@@ -107,7 +101,7 @@ module _ (problem : ProblemModel) (sound : IsSound problem) where
     cells = λ k within.
         let cell = cell_at problem.cells k in
         low-le cell.high (cell_width problem widths cell) (get_or demands k 0) (cell_height problem heights cell) (need.each k within)
-        (give.cells k none within);
+        (give.cells k no_cell within);
   }
 
   module _ (Among : List ℕ → Type 0) (demands : List ℕ) (need : NeedLow problem Among demands) where
@@ -136,7 +130,7 @@ module _ (problem : ProblemModel) (sound : IsSound problem) where
       cells = λ k within.
           let cell = cell_at problem.cells k in
           let found = need.each k within in
-          low-le cell.low found.0 (get_or demands k 0) (cell_height problem heights cell) found.1.1 (give.cells k none within found.0 found.1.0);
+          low-le cell.low found.0 (get_or demands k 0) (cell_height problem heights cell) found.1.1 (give.cells k no_cell within found.0 found.1.0);
     }
 
   -- ---- widths
@@ -161,13 +155,13 @@ module _ (problem : ProblemModel) (sound : IsSound problem) where
     cells = λ k within.
         let cell = cell_at problem.cells k in
         let found = need.each k within in
-        found.1.1.least (cell_width problem other cell) (keep.cells k none within found.0 found.1.0);
+        found.1.1.least (cell_width problem other cell) (keep.cells k no_cell within found.0 found.1.0);
   }
 
   pub give-page : (demands widths : List ℕ) → NeedLeast problem demands → WithinPage problem widths → GiveDemands problem Columns demands widths
   give-page demands widths need page = record {
     count = page.columns;
-    cells = λ k within. omega (arith, need.each k within, page.cells k none within);
+    cells = λ k within. omega (arith, need.each k within, page.cells k no_cell within);
   }
 
   -- the least widths that give each cell its least width are within the page
@@ -203,9 +197,9 @@ module _ (problem : ProblemModel) (sound : IsSound problem) where
         cells = All-from_numbers (λ cell. first_width cell.low ≤ cell_width problem tight cell) problem.cells (λ k within.
             let cell = cell_at problem.cells k in
             let is = sound-at k within in
-            let wide : first_width cell.high ≤ cell_width problem widths cell = omega (arith, is.same_least, page.cells k none within) in
+            let wide : first_width cell.high ≤ cell_width problem widths cell = omega (arith, is.same_least, page.cells k no_cell within) in
             let here = height-from_first cell.high is.steps.1.has_step (cell_width problem widths cell) wide in
-            let low = least.kind.cells k none within here.0 here.1 in
+            let low = least.kind.cells k no_cell within here.0 here.1 in
             omega (arith, is.same_least, low-first cell.high is.steps.1 here.0 (cell_width problem tight cell) low));
       }
 
@@ -232,35 +226,35 @@ last-le most p o (step ∷ steps) start all =
       | false ↦ last-le most p o steps start (λ k d within. all (suc k) d (omega arith))
     ]
 
-heights-le : (steps : List Config) → AreSteps steps → All (λ s. s.height ≤ greatest_height steps) steps
+heights-le : (steps : List Config) → AreSteps steps → All (λ s. s.height ≤ first_height steps) steps
 heights-le [] are k d within = absurd (omega arith)
 heights-le (step ∷ steps) are zero d within = omega arith
 heights-le (step ∷ steps) are (suc k) d within = let fall = are.decreasing 0 (suc k) d (omega arith) within in omega (arith, fall.1)
 
-pub height-le : (steps : List Config) → AreSteps steps → (w h : ℕ) → height_at steps w ≡ Some h → h ≤ greatest_height steps
+pub height-le : (steps : List Config) → AreSteps steps → (w h : ℕ) → height_at steps w ≡ Some h → h ≤ first_height steps
 height-le steps are w h is = le (last_or None (filter (λ s. nat_le s.width w) steps))
-    (last-le (greatest_height steps) (λ s. nat_le s.width w) None steps tt (heights-le steps are)) is where
-      le : (o : Option Config) → IfSome o (λ s. s.height ≤ greatest_height steps) → option_map (λ s. s.height) o ≡ Some h → h ≤ greatest_height steps
+    (last-le (first_height steps) (λ s. nat_le s.width w) None steps tt (heights-le steps are)) is where
+      le : (o : Option Config) → IfSome o (λ s. s.height ≤ first_height steps) → option_map (λ s. s.height) o ≡ Some h → h ≤ first_height steps
       le None small is = cc
       le (Some s) small is = let e : s.height ≡ h = cc in omega (arith, small, e)
 
 module _ (problem : ProblemModel) (sound : IsSound problem) where
   pub high-sum : (widths demands : List ℕ) → NeedHigh problem widths demands → sum demands ≤ MAX_HEIGHT
   high-sum widths demands need =
-      let less = sum-le (λ cell. greatest_height cell.high) problem.cells demands need.count (λ k within.
+      let less = sum-le (λ cell. first_height cell.high) problem.cells demands need.count (λ k within.
       let cell = cell_at problem.cells k in
-      height-le cell.high (sound.cells k none within).steps.1 (cell_width problem widths cell) (get_or demands k 0) (need.each k within)) in
+      height-le cell.high (sound.cells k no_cell within).steps.1 (cell_width problem widths cell) (get_or demands k 0) (need.each k within)) in
       omega (arith, less, sound.low_enough)
 
   pub low-sum : (Among : List ℕ → Type 0) (demands : List ℕ) → ((widths : List ℕ) → Among widths → WithinPage problem widths) →
       NeedLow problem Among demands → sum demands ≤ MAX_HEIGHT
   low-sum Among demands page need =
-      let less = sum-le (λ cell. greatest_height cell.high) problem.cells demands need.count (λ k within.
+      let less = sum-le (λ cell. first_height cell.high) problem.cells demands need.count (λ k within.
       let cell = cell_at problem.cells k in
-      let is = sound.cells k none within in
+      let is = sound.cells k no_cell within in
       let found = need.each k within in
       let at = found.1.0.attained in
-      let wide : first_width cell.high ≤ found.0 = omega (arith, is.same_least, (page at.0 at.1).cells k none within, at.2) in
+      let wide : first_width cell.high ≤ found.0 = omega (arith, is.same_least, (page at.0 at.1).cells k no_cell within, at.2) in
       let high = height-from_first cell.high is.steps.1.has_step found.0 wide in
       let most = height-le cell.high is.steps.1 found.0 high.0 high.1 in
       let low = is.low_below high.0 found.0 (IsLowAt-from cell.high high.0 found.0 high.1) in
@@ -269,10 +263,7 @@ module _ (problem : ProblemModel) (sound : IsSound problem) where
 
 -- the sum of the sizes within a page
 pub sum-page : (problem : ProblemModel) → IsSound problem → (widths : List ℕ) → WithinPage problem widths → sum widths ≤ MAX_PAGE_WIDTH
-sum-page problem sound widths page = omega (arith, sum-total (gap_of problem.style) (edge_of problem.style) widths, page.page, sound.narrow) where
-  sum-total : (gap edge : ℕ) (sizes : List ℕ) → sum sizes ≤ total gap edge sizes
-  sum-total gap edge [] = omega arith
-  sum-total gap edge (size ∷ sizes) = omega (arith, sum_by-cons (λ x. x) size sizes)
+sum-page problem sound widths page = omega (arith, sum-total (gap_of problem.style) (edge_of problem.style) widths, page.page, sound.narrow)
 
 -- the total of some sizes, by their sum
 pub total-sum : (gap edge : ℕ) (sizes : List ℕ) → 0 < length sizes → total gap edge sizes ≡ sum sizes + gap * (length sizes - 1) + 2 * edge
@@ -356,8 +347,8 @@ sum-range sizes from past =
     omega (arith, inner, whole)
 
 -- sizes of 32 bits do not sum to much
-pub sum-bound : (sizes : List ℕ) → ((k : ℕ) → get_or sizes k 0 < 4294967296) → sum sizes ≤ length sizes * 4294967295
-sum-bound sizes fit = sum_by-le (λ x. x) 4294967295 sizes (λ k d within. omega (arith, get_or_default sizes k d 0 within, fit k))
+pub sum-bound : (sizes : List ℕ) → ((k : ℕ) → get_or sizes k 0 < 2 ^ 32) → sum sizes ≤ length sizes * (2 ^ 32 - 1)
+sum-bound sizes fit = sum_by-le (λ x. x) (2 ^ 32 - 1) sizes (λ k d within. omega (arith, get_or_default sizes k d 0 within, fit k))
 
 -- the total height of few rows is little more than the sum
 pub total-few : (style : Style) (heights : List ℕ) → length heights ≤ MAX_ROWS + 1 →
@@ -377,23 +368,24 @@ module _ (problem : ProblemModel) (sound : IsSound problem) where
       cell_width problem widths (cell_at problem.cells k) ≤ MAX_PAGE_WIDTH
   room-most widths page k within =
       let cell = cell_at problem.cells k in
-      let is = sound.cells k none within in
+      let is = sound.cells k no_cell within in
       omega (arith, room-in_page problem widths page cell.left cell.right is.columns.0 is.columns.1, sound.narrow)
 
-  pub least-sum : (demands : List ℕ) → NeedLeast problem demands → sum demands ≤ 60030000
+  pub least-sum : (demands : List ℕ) → NeedLeast problem demands → sum demands ≤ MAX_COLUMNS * (MAX_ROWS + 1) * MAX_PAGE_WIDTH
   least-sum demands need =
       let page = sound.fits in
       let all = all-most (λ x. x) MAX_PAGE_WIDTH demands
       (λ k within. omega (
         arith,
         need.each k (omega (arith, need.count)),
-        page.1.cells k none (omega (arith, need.count)),
+        page.1.cells k no_cell (omega (arith, need.count)),
         room-most page.0 page.1
             k (omega (arith, need.count)),
       )) in
       omega (arith, all, need.count, few-cells problem sound)
 
-  pub width-sum : (widths demands : List ℕ) → WithinPage problem widths → NeedWidths problem widths demands → sum demands ≤ 60030000
+  pub width-sum : (widths demands : List ℕ) → WithinPage problem widths → NeedWidths problem widths demands →
+      sum demands ≤ MAX_COLUMNS * (MAX_ROWS + 1) * MAX_PAGE_WIDTH
   width-sum widths demands page need =
       let all = all-most (λ x. x) MAX_PAGE_WIDTH demands (λ k within.
       let inside : k < length problem.cells = omega (arith, need.count) in

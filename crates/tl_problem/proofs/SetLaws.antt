@@ -1,5 +1,5 @@
 -- Bounds of sets of widths that have the same widths, and of a set within another.
-use Rattle.std.proofs.Common.{ℕ, ◌≤◌, List, [], ◌∷◌, inl, inr, get_or, arith}
+use Rattle.std.proofs.Common.{ℕ, ◌≤◌, List, [], ◌∷◌, inl, inr, get_or, Option, Some, None, MatchOption, arith}
 use Rattle.std.specs.List.{AllZip}
 use Rattle.tl_base.specs.Style.{gap_of}
 use Rattle.tl_problem.specs.declared.cell.Cell.{Cell}
@@ -9,7 +9,7 @@ use Rattle.tl_problem.specs.Layouts.{WithinPage}
 use Rattle.tl_problem.specs.Sound.{IsSound}
 use Rattle.tl_problem.specs.Spans.{page_room}
 use Rattle.tl_problem.specs.Zones.{whole_zone, InZone}
-use Rattle.tl_problem.specs.Bounds.{IsGreatestRoom, GiveLow, IsBound}
+use Rattle.tl_problem.specs.Bounds.{HasNoWidths, IsGreatestRoom, GiveLow, IsBound}
 use Rattle.tl_problem.specs.Areas.{IsBetweenRooms, IsLeastArea, IsAreaBound}
 use Rattle.tl_problem.specs.Placements.{AreLeast, IsPlacementIn, IsOpening}
 use Rattle.tl_problem.proofs.Heights.{IsLowAt-wider}
@@ -94,6 +94,19 @@ module _ (problem : ProblemModel) (A B : List ℕ → Type 0) (there : (widths :
       held.2,
     );
   }
+
+module _ (problem : ProblemModel) (A B : List ℕ → Type 0) (there : (widths : List ℕ) → A widths → B widths) (back : (widths : List ℕ) → B widths →
+    A widths) where
+  -- a bound that was found, or none as there are no widths
+  pub found_bound-same : (found : Option ℕ) → MatchOption found (HasNoWidths A) (IsBound problem A) →
+      MatchOption found (HasNoWidths B) (IsBound problem B)
+  found_bound-same None none = λ widths among. none widths (back widths among)
+  found_bound-same (Some bound) is = bound-same problem A B there back bound is
+
+  pub found_area-same : (found : Option ℕ) → MatchOption found (HasNoWidths A) (IsAreaBound problem A) →
+      MatchOption found (HasNoWidths B) (IsAreaBound problem B)
+  found_area-same None none = λ widths among. none widths (back widths among)
+  found_area-same (Some bound) is = area_bound-same problem A B there back bound is
 
 -- the opening is the placement in the whole zone
 pub opening-in_whole : (problem : ProblemModel) → IsSound problem → (placed : Placed) → IsOpening problem placed →

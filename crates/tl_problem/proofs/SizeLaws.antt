@@ -1,7 +1,8 @@
 -- Columns and rows: where they end, what all take together, and that their places tell their sizes.
-use Rattle.std.proofs.Common.{◌≡◌, ℕ, ◌+◌, ◌-◌, ◌*◌, ◌<◌, ◌≤◌, zero, suc, List, [], ◌∷◌, length, take, drop, sum, refl, ap, arith}
+use Rattle.std.proofs.Common.{◌≡◌, ℕ, ◌+◌, ◌-◌, ◌*◌, ◌<◌, ◌≤◌, zero, suc, List, [], ◌∷◌, length, get_or, take, drop, sum, refl, ap, arith}
 use Rattle.std.proofs.lemmas.List.{take_all}
 use Rattle.std.proofs.lemmas.List.Sums.{sum_by-cons}
+use Rattle.tl_base.proofs.Sums.{sum-cons}
 use Rattle.tl_problem.specs.Sizes.{position, room, total}
 
 -- ---- the total, by the place where the last one ends
@@ -79,3 +80,42 @@ same-positions gap (x ∷ xs) (y ∷ ys) same at =
     let right = sum_by-cons (λ n. n) y (take place ys) in
     omega (arith, here, left, right, first)) in
     cc
+
+-- ---- sizes within the whole
+
+-- a room takes no more than the whole
+pub room-total : (gap edge : ℕ) (sizes : List ℕ) (left right : ℕ) → left < right → right ≤ length sizes →
+    room gap sizes left right ≤ total gap edge sizes
+room-total gap edge sizes left right ahead within =
+    let whole = total-position gap edge sizes (omega (arith, ahead, within)) in
+    let span = room-position gap sizes left right ahead in
+    let before = position-mono gap sizes right (length sizes) within in
+    omega (arith, whole, span, before)
+
+-- the sizes alone take no more than the whole
+pub sum-total : (gap edge : ℕ) (sizes : List ℕ) → sum sizes ≤ total gap edge sizes
+sum-total gap edge [] = omega arith
+sum-total gap edge (size ∷ sizes) = omega (arith, sum-cons size sizes)
+
+-- the next place is a size and a gap further
+pub position-next : (gap : ℕ) (sizes : List ℕ) (k : ℕ) → k < length sizes → position gap sizes (k + 1) ≡ position gap sizes k + get_or sizes k 0 + gap
+position-next gap sizes k within = let product : gap * (k + 1) ≡ gap * k + gap = grind arith in omega (arith, take-next sizes k within, product)
+  where
+    take-next : (sizes : List ℕ) (k : ℕ) → k < length sizes → sum (take (k + 1) sizes) ≡ sum (take k sizes) + get_or sizes k 0
+    take-next [] k within = absurd (omega (arith, within))
+    take-next (size ∷ sizes) zero within = omega (arith, sum_by-cons (λ (x : ℕ). x) size [])
+    take-next (size ∷ sizes) (suc k) within =
+        let next : suc k + 1 ≡ suc (k + 1) = omega arith in
+        rw next (omega (
+          arith,
+          sum_by-cons (λ (x : ℕ). x) size (take (k + 1) sizes),
+          sum_by-cons (λ (x : ℕ). x) size (take k sizes),
+          take-next sizes k (omega arith),
+        ))
+
+-- a place after a size is at least a gap further
+pub position-gap : (gap : ℕ) (sizes : List ℕ) (k : ℕ) → position gap sizes k + gap ≤ position gap sizes (k + 1)
+position-gap gap sizes k =
+    let more = position-mono 0 sizes k (k + 1) (omega arith) in
+    let product : gap * (k + 1) ≡ gap * k + gap = grind arith in
+    omega (arith, more, product)

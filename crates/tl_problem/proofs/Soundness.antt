@@ -12,7 +12,7 @@ use Rattle.tl_problem.specs.declared.cell.Cell.{Cell}
 use Rattle.tl_problem.specs.Sizes.{position}
 use Rattle.tl_problem.specs.Problem.{ProblemModel, cell_width}
 use Rattle.tl_problem.specs.Layouts.{WithinPage}
-use Rattle.tl_problem.specs.inner.Demands.{cell_at, rises}
+use Rattle.tl_problem.specs.inner.Demands.{cell_at, rises, no_cell}
 use Rattle.tl_problem.specs.inner.Least.{step_at}
 use Rattle.tl_problem.specs.inner.Soundness.{IsNowhereAbove, Fits, IsNextPlace, AreLeastPlaces}
 use Rattle.tl_problem.specs.inner.Spanning.{IsInGrid}
@@ -20,10 +20,7 @@ use Rattle.tl_problem.proofs.AreaSteps.{height-at-step, height-between}
 use Rattle.tl_problem.proofs.DemandLemmas.{rises-length, rises-sum}
 use Rattle.tl_problem.proofs.Heights.{IsLowAt-from, IsLowAt-higher, IsLowAt-wider, height-from_low}
 use Rattle.tl_problem.proofs.NeedLemmas.{All-from_numbers, low-first}
-use Rattle.tl_problem.proofs.SizeLaws.{total-position, room-position, position-mono}
-
-abbrev none : Cell
-none = record { left = 0; right = 0; top = 0; bottom = 0; low = []; high = [] }
+use Rattle.tl_problem.proofs.SizeLaws.{total-position, room-position, position-mono, position-gap}
 
 -- ---- `low` nowhere above `high`
 
@@ -57,12 +54,6 @@ module _ (low high : List Config) (low_steps : AreSteps low) (high_steps : AreSt
 
 -- ---- the least places of columns
 
-position-next : (gap : ℕ) (sizes : List ℕ) (k : ℕ) → position gap sizes k + gap ≤ position gap sizes (k + 1)
-position-next gap sizes k =
-    let more = position-mono 0 sizes k (k + 1) (omega arith) in
-    let product : gap * (k + 1) ≡ gap * k + gap = grind arith in
-    omega (arith, more, product)
-
 -- widths that give each cell its least width
 abbrev GiveLeast : ℕ → List Cell → List ℕ → Type 0
 GiveLeast gap cells widths = (k : ℕ) → k < length cells →
@@ -73,7 +64,7 @@ module _ (cols : ℕ) (gap : ℕ) (cells : List Cell) (inside : All (IsInGrid co
   least_places-none places zeros = record {
     first = zeros;
     gaps = λ k below. absurd (omega arith);
-    rooms = λ k within up. absurd (omega (arith, up, (inside k none within).0));
+    rooms = λ k within up. absurd (omega (arith, up, (inside k no_cell within).0));
     least = λ widths give place up. omega (arith, zeros, ap (λ p. get_or places p 0) (let e : place ≡ 0 = omega arith in e));
   }
 
@@ -83,10 +74,10 @@ module _ (cols : ℕ) (gap : ℕ) (cells : List Cell) (inside : All (IsInGrid co
     pub next-least : (widths : List ℕ) → GiveLeast gap cells widths → place ≤ position gap widths (column + 1)
     next-least widths give =
         elim next.attained [
-          | inl after ↦ omega (arith, after, are.least widths give column (omega arith), position-next gap widths column)
+          | inl after ↦ omega (arith, after, are.least widths give column (omega arith), position-gap gap widths column)
           | inr ends ↦
               let cell = cell_at cells ends.0 in
-              let ahead = (inside ends.0 none ends.1.0).0 in
+              let ahead = (inside ends.0 no_cell ends.1.0).0 in
               let begins = are.least widths give cell.left (omega (arith, ahead, ends.1.1.0)) in
               let wide = give ends.0 ends.1.0 in
               let at = ap (position gap widths) ends.1.1.0 in
@@ -101,7 +92,7 @@ module _ (cols : ℕ) (gap : ℕ) (cells : List Cell) (inside : All (IsInGrid co
         | inr last ↦ let e : k ≡ column = omega arith in rw e (omega (arith, old column (omega arith), new, next.gaps))
       ];
       rooms = λ k cell up.
-          let ahead = (inside k none cell).0 in
+          let ahead = (inside k no_cell cell).0 in
           elim (cases_lt (cell_at cells k).right (column + 1)) [
             | inl before ↦ omega (
               arith,
@@ -175,8 +166,8 @@ module _ (cols : ℕ) (style : Style) (width : ℕ) (cells : List Cell) (inside 
 
   page-gives : (widths : List ℕ) → WithinPage page widths → GiveLeast gap cells widths
   page-gives widths within k cell =
-      let ahead = (inside k none cell).0 in
-      omega (arith, within.cells k none cell, room-position gap widths (cell_at cells k).left (cell_at cells k).right ahead)
+      let ahead = (inside k no_cell cell).0 in
+      omega (arith, within.cells k no_cell cell, room-position gap widths (cell_at cells k).left (cell_at cells k).right ahead)
 
   -- columns that end no later than the page allows
   page-ends : (widths : List ℕ) → WithinPage page widths → 0 < cols → position gap widths cols + 2 * edge_of style ≤ width + gap
@@ -199,7 +190,7 @@ module _ (cols : ℕ) (style : Style) (width : ℕ) (cells : List Cell) (inside 
       columns = sym empty;
       page = omega arith;
       cells = All-from_numbers (λ cell. first_width cell.low ≤ cell_width page [] cell) cells
-          (λ k within. let at = inside k none within in absurd (omega (arith, at.0, at.1, empty)));
+          (λ k within. let at = inside k no_cell within in absurd (omega (arith, at.0, at.1, empty)));
     },
   )
 
@@ -243,7 +234,7 @@ module _ (cols : ℕ) (style : Style) (width : ℕ) (cells : List Cell) (inside 
             omega (arith, all, at, at-place cols (omega arith), ends);
         cells = All-from_numbers (λ cell. first_width cell.low ≤ cell_width page widths cell) cells (λ k within.
             let cell = cell_at cells k in
-            let in_grid = inside k none within in
+            let in_grid = inside k no_cell within in
             let wide = are.rooms k within in_grid.1 in
             omega (
               arith,

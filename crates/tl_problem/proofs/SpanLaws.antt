@@ -22,14 +22,11 @@ use Rattle.tl_problem.specs.Spans.{span, has_span, all_spans, spans_of, greatest
 use Rattle.tl_problem.specs.Zones.{span_at, classes_at, first_in_class, last_in_class}
 use Rattle.tl_problem.proofs.Heights.{height-same}
 use Rattle.tl_problem.proofs.SizeLaws.{total-position, room-position, position-mono}
+use Rattle.tl_problem.specs.inner.Spanning.{IsEarlier}
 
 -- ---- spans, by left, then right
 
--- the span stands before another
-abbrev pub IsBefore : Span → Span → Type 0
-IsBefore a b = (a.left < b.left) ⊎ ((a.left ≡ b.left) × (a.right < b.right))
-
-pub before-strict : (a b : Span) → IsBefore a b → IsBefore b a → ⊥
+pub before-strict : (a b : Span) → IsEarlier a b → IsEarlier b a → ⊥
 before-strict a b (inl less) (inl more) = omega arith
 before-strict a b (inl less) (inr same) = omega arith
 before-strict a b (inr same) (inl more) = omega arith
@@ -45,11 +42,11 @@ pub has_span-from : (columns : Span) (cell : Cell) → cell.left ≡ columns.lef
 has_span-from columns cell left right = and_from (nat_eq cell.left columns.left) (nat_eq cell.right columns.right)
     (eq-eqb cell.left columns.left left) (eq-eqb cell.right columns.right right)
 
-all_spans-ordered : (cols : ℕ) → AllPairs IsBefore (all_spans cols)
+all_spans-ordered : (cols : ℕ) → AllPairs IsEarlier (all_spans cols)
 all_spans-ordered cols =
-    AllPairs-flat_map IsBefore (λ a b. a < b) (λ left. map (span left) (range_with_len (left + 1) (cols - left))) (range_with_len 0 cols)
+    AllPairs-flat_map IsEarlier (λ a b. a < b) (λ left. map (span left) (range_with_len (left + 1) (cols - left))) (range_with_len 0 cols)
     (AllPairs-range 0 cols)
-    (λ left. AllPairs-map IsBefore (span left) (range_with_len (left + 1) (cols - left))
+    (λ left. AllPairs-map IsEarlier (span left) (range_with_len (left + 1) (cols - left))
     (λ i j d before within. inr (refl, AllPairs-range (left + 1) (cols - left) i j d before within)))
     (λ left later a b less first second.
     let one = map-Contains (span left) (range_with_len (left + 1) (cols - left)) a first in
@@ -62,9 +59,9 @@ all_spans-Contains cols left right ahead within =
     (Contains-range 0 cols left (omega arith) (omega arith))
     (Contains-map (span left) (range_with_len (left + 1) (cols - left)) right (Contains-range (left + 1) (cols - left) right (omega arith) (omega arith)))
 
-pub spans-ordered : (problem : ProblemModel) → AllPairs IsBefore (spans_of problem)
+pub spans-ordered : (problem : ProblemModel) → AllPairs IsEarlier (spans_of problem)
 unfolding spans_of
-spans-ordered problem = AllPairs-filter IsBefore (λ columns. list_any (has_span columns) problem.cells) (all_spans problem.cols)
+spans-ordered problem = AllPairs-filter IsEarlier (λ columns. list_any (has_span columns) problem.cells) (all_spans problem.cols)
     (all_spans-ordered problem.cols)
 
 -- each cell's span is one of them
@@ -88,11 +85,11 @@ spans-cell problem columns has =
     (some.1, (some.0, some.2, some.3), some.4)
 
 -- a list of spans in this order, one for each cell and each of some cell, is the list of the spans
-pub spans-are : (problem : ProblemModel) → IsSound problem → (spans : List Span) → AllPairs IsBefore spans →
+pub spans-are : (problem : ProblemModel) → IsSound problem → (spans : List Span) → AllPairs IsEarlier spans →
     ((cell : Cell) → Contains problem.cells cell → Contains spans (span cell.left cell.right)) →
     ((columns : Span) → Contains spans columns → (cell : Cell) × Contains problem.cells cell × (has_span columns cell ≡ true)) → spans ≡ spans_of problem
 spans-are problem sound spans ordered each some =
-    same-ordered IsBefore before-strict spans (spans_of problem) ordered (spans-ordered problem)
+    same-ordered IsEarlier before-strict spans (spans_of problem) ordered (spans-ordered problem)
     (λ columns has. let found = some columns has in subst (λ s. Contains (spans_of problem) s) (same_span columns found.0 found.2)
     (spans-Contains problem sound found.0 found.1))
     (λ columns has. let found = spans-cell problem columns has in

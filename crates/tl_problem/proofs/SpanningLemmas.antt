@@ -1,22 +1,27 @@
 -- How the spans of cells, and the classes of a span, are found step by step.
-use Rattle.std.proofs.Common.{◌≡◌, ◌≢◌, ℕ, ◌+◌, ◌-◌, ◌*◌, ◌/◌, ◌%◌, ◌<◌, ◌≤◌, zero, suc, min, max, mul_assoc, Bool, true, false, nat_eq, List, []}
-use Rattle.std.proofs.Common.{◌∷◌, ◌++◌, ◌⊎◌, inl, inr, length, map, get_or, set, refl, sym, ap, ◌∙◌, subst, arith}
-use Rattle.std.specs.List.{All, AllPairs, Contains, list_any}
+use Rattle.std.proofs.Common.{◌≡◌, ◌≢◌, ℕ, ◌+◌, ◌-◌, ◌*◌, ◌/◌, ◌%◌, ◌<◌, ◌≤◌, zero, suc, min, max, mul_assoc, Bool, true, false, not, nat_eq, List, []}
+use Rattle.std.proofs.Common.{◌∷◌, ◌++◌, ◌⊎◌, inl, inr, length, map, filter, get_or, set, refl, sym, ap, ◌∙◌, subst, arith}
+use Rattle.std.proofs.Common.{length-append}
+use Rattle.std.specs.List.{All, AllPairs, Contains, flat_map, list_any, range_with_len}
 use Rattle.std.proofs.lemmas.Bool.{cases_eq, cases_lt, eqb-true}
 use Rattle.std.proofs.lemmas.List.{map-append, length-map, get_or-map, get_or_push, get_or_append_left, length_push, get_or-set_same}
 use Rattle.std.proofs.lemmas.List.{get_or-set_other, length-set, get_or_default, ext_get_or}
 use Rattle.std.proofs.lemmas.List.Elements.{filter-append, All-contains, Contains-get_or, Contains-append_left, Contains-append_right, Contains-append_cases}
 use Rattle.std.proofs.lemmas.List.Folds.{Any-from_list_any}
 use Rattle.std.proofs.lemmas.Nat.{div-mul-add, mod-mul-add, div-add-mod', mod_below}
-use Rattle.std.proofs.Math.Nat.{mul-le-mul_right, le-mul_of_pos_right}
+use Rattle.std.proofs.lemmas.List.Concat.{flat_map-cons}
+use Rattle.std.proofs.lemmas.List.Filters.{length-filter_both}
+use Rattle.std.proofs.lemmas.List.FromFn.{length-map-range_with_len}
+use Rattle.std.proofs.Math.Nat.{mul-le-mul, mul-le-mul_right, le-mul_of_pos_right}
+use Rattle.tl_base.specs.declared.limits.TheConstants.{MAX_COLUMNS, MAX_PAGE_WIDTH}
 use Rattle.tl_base.specs.declared.steps.Config.{Config}
 use Rattle.tl_base.specs.Steps.{first_width}
-use Rattle.tl_base.proofs.Members.{Contains-first, Contains-none, AllPairs-append, filter-Contains}
+use Rattle.tl_base.proofs.Members.{Contains-first, Contains-none, AllPairs-append, filter-Contains, Contains-push}
 use Rattle.tl_problem.specs.declared.cell.Cell.{Cell}
 use Rattle.tl_problem.specs.declared.cell.Span.{Span}
 use Rattle.tl_problem.specs.Problem.{ProblemModel}
 use Rattle.tl_problem.specs.Sound.{IsSound}
-use Rattle.tl_problem.specs.Spans.{span, has_span, greatest, spans_of, cells_of, least_width, page_room, begins_step, classes_of, product}
+use Rattle.tl_problem.specs.Spans.{span, has_span, all_spans, greatest, spans_of, cells_of, least_width, page_room, begins_step, classes_of, product}
 use Rattle.tl_problem.specs.Zones.{span_at, classes_at}
 use Rattle.tl_problem.specs.inner.Demands.{cell_at}
 use Rattle.tl_problem.specs.inner.Spanning.{slot_of, IsSeen, IsEarlier, AreSpansUpto, AreSpans, cells_among, least_among, IsStepAt, AddsSteps}
@@ -25,9 +30,6 @@ use Rattle.tl_problem.proofs.SpanLaws.{has_span-from, has_span-parts, spans-are,
 use Rattle.tl_problem.proofs.SpanLaws.{classes-Contains, classes-some, classes-rising, class-in_page}
 
 -- ---- the steps of one cell
-
-pub Contains-push : {X : Type 0} (xs : List X) (x : X) → Contains (xs ++ x ∷ []) x
-Contains-push xs x = Contains-append_right xs (x ∷ []) x (Contains-first x [])
 
 pub Contains-one : {X : Type 0} (x y : X) → Contains (x ∷ []) y → x ≡ y
 Contains-one x y (zero, within, is) = is
@@ -332,9 +334,36 @@ classes-found problem classes are =
     firsts-found problem (get_or (spans_of problem) s (span 0 0)) (get_or classes s []) (are.each s inside) ∙ sym
     (get_or-map (classes_of problem) (spans_of problem) s (span 0 0) [] inside))
 
--- ---- how many classes there are
+-- ---- how many spans and classes there are
 
-rising-at : (xs : List ℕ) → AllPairs (λ a b. a < b) xs → (k : ℕ) → k < length xs → k ≤ get_or xs k 0
+-- the spans that begin at one column
+abbrev row : ℕ → ℕ → List Span
+row cols left = map (span left) (range_with_len (left + 1) (cols - left))
+
+rows-length : (cols a n : ℕ) → a + n ≡ cols → 2 * length (flat_map (row cols) (range_with_len a n)) ≡ n * n + n
+rows-length cols a zero whole = omega arith
+rows-length cols a (suc n) whole =
+    let rest = rows-length cols (a + 1) n (omega (arith, whole)) in
+    let first : length (row cols a) ≡ suc n = length-map-range_with_len (span a) (a + 1) (cols - a) ∙ omega (arith, whole) in
+    let split = ap length (flat_map-cons (row cols) a (range_with_len (a + 1) n)) in
+    let sum = length-append (row cols a) (flat_map (row cols) (range_with_len (a + 1) n)) in
+    let square : suc n * suc n + suc n ≡ n * n + n + 2 * suc n = grind arith in
+    omega (arith, rest, first, split, sum, square)
+
+filter-short : {X : Type 0} (p : X → Bool) (xs : List X) → length (filter p xs) ≤ length xs
+filter-short p xs = omega (arith, length-filter_both p (λ x. not (p x)) (λ x. refl) xs)
+
+-- there are few spans
+pub spans-few : (problem : ProblemModel) → IsSound problem → 2 * length (spans_of problem) ≤ MAX_COLUMNS * (MAX_COLUMNS + 1)
+unfolding spans_of
+spans-few problem sound =
+    let all = rows-length problem.cols 0 problem.cols (omega arith) in
+    let some = filter-short (λ columns. list_any (has_span columns) problem.cells) (all_spans problem.cols) in
+    let square = mul-le-mul sound.few_columns sound.few_columns in
+    omega (arith, all, some, square, sound.few_columns)
+
+-- numbers that rise are at least their places
+pub rising-at : (xs : List ℕ) → AllPairs (λ a b. a < b) xs → (k : ℕ) → k < length xs → k ≤ get_or xs k 0
 rising-at xs rising zero within = omega arith
 rising-at xs rising (suc k) within =
     let before = rising-at xs rising k (omega arith) in
@@ -343,7 +372,7 @@ rising-at xs rising (suc k) within =
 
 -- the classes of a span are few, and there is one
 pub classes-few : (problem : ProblemModel) → IsSound problem → (s : ℕ) → s < length (spans_of problem) →
-    (1 ≤ length (classes_at problem s)) × (length (classes_at problem s) ≤ 503)
+    (1 ≤ length (classes_at problem s)) × (length (classes_at problem s) ≤ MAX_PAGE_WIDTH + 2)
 classes-few problem sound s within =
     let some = classes-some problem (span_at problem s) in
     elim (cases_lt 1 (length (classes_at problem s))) [

@@ -1,18 +1,12 @@
 -- When a problem is sound: a grid in the limits, in which no two cells cover one slot, each column and row has a cell
 -- that begins there, and some layout is within the page.
-use Rattle.std.specs.Prelude.{◌≡◌, ℕ, ◌+◌, ◌<◌, ◌≤◌, List, [], ◌∷◌, sum_by}
+use Rattle.std.specs.Prelude.{◌≡◌, ℕ, ◌+◌, ◌<◌, ◌≤◌, List, sum_by}
 use Rattle.std.specs.List.{All, AllPairs, Any}
 use Rattle.tl_base.specs.declared.limits.TheConstants.{MAX_COLUMNS, MAX_ROWS, MAX_PAGE_WIDTH, MAX_HEIGHT}
-use Rattle.tl_base.specs.declared.steps.Config.{Config}
-use Rattle.tl_base.specs.Steps.{AreSteps, first_width, IsLowAt}
+use Rattle.tl_base.specs.Steps.{AreSteps, first_width, IsLowAt, first_height}
 use Rattle.tl_problem.specs.declared.cell.Cell.{Cell}
 use Rattle.tl_problem.specs.Problem.{ProblemModel}
 use Rattle.tl_problem.specs.Layouts.{WithinPage}
-
--- the greatest height of a decreasing step function, that of its first step
-abbrev pub greatest_height : List Config → ℕ
-greatest_height [] = 0
-greatest_height (step ∷ steps) = step.height
 
 -- a cell in the grid, whose `low` and `high` begin at one width, and whose `low` is nowhere above its `high`: where no
 -- more than `h` lines are needed by `high`, no more are needed by `low`
@@ -37,5 +31,5 @@ pub record IsSound (problem : ProblemModel) : Type 0 where
   pub apart : AllPairs (λ a b. ShareSlot a b → ⊥) problem.cells
   pub columns : (column : ℕ) → column < problem.cols → Any (λ cell. cell.left ≡ column) problem.cells
   pub rows : (row : ℕ) → row < problem.rows → Any (λ cell. cell.top ≡ row) problem.cells
-  pub low_enough : sum_by (λ cell. greatest_height cell.high) problem.cells ≤ MAX_HEIGHT
+  pub low_enough : sum_by (λ cell. first_height cell.high) problem.cells ≤ MAX_HEIGHT
   pub fits : (widths : List ℕ) × WithinPage problem widths

@@ -2,9 +2,9 @@
 
 ghost use Rattle.std.specs.Prelude.{◌≡◌, ◌+◌, ◌<◌, ◌≤◌, ◌↔◌, length, sum_by, IsTrue};
 ghost use Rattle.std.specs.List.{All, Any};
-ghost use Rattle.tl_base.specs.Steps.{AreSteps, IsLowAt};
+ghost use Rattle.tl_base.specs.Steps.{AreSteps, IsLowAt, first_height};
 ghost use Rattle.tl_problem.specs.Layouts.{WithinPage};
-ghost use Rattle.tl_problem.specs.Sound.{IsSound, IsSoundCell, ShareSlot, greatest_height};
+ghost use Rattle.tl_problem.specs.Sound.{IsSound, IsSoundCell, ShareSlot};
 ghost use Rattle.tl_problem.specs.inner.Axes.{start_of};
 ghost use Rattle.tl_problem.specs.inner.Soundness.{AreSeparate, EachBegins, Fits, IsNextPlace, IsNowhereAbove, IsSeparate, grid};
 ghost use Rattle.tl_problem.specs.inner.Spanning.{IsInGrid};
@@ -148,7 +148,7 @@ fn begins_at(cells: &[Cell], axis: Axis, place: u32) -> bool
 
 /// Whether the greatest heights of the cells sum to a height in the limits.
 fn are_low_enough(cells: &[Cell]) -> bool
-    ensures { IsTrue result ↔ (sum_by (λ cell. greatest_height cell.high) cells.now ≤ MAX_HEIGHT) }
+    ensures { IsTrue result ↔ (sum_by (λ cell. first_height cell.high) cells.now ≤ MAX_HEIGHT) }
 {
     let mut height: u64 = 0;
     for cell in cells {

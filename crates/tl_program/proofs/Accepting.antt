@@ -1,8 +1,7 @@
 -- A check accepts what another run has laid out.
-use Rattle.std.proofs.Common.{◌≡◌, ◌≢◌, ◌⊎◌, inl, inr, ℕ, ◌+◌, ◌*◌, ◌<◌, ◌≤◌, Bool, true, false, List, [], ◌∷◌, ◌++◌, Option, Some, None}
+use Rattle.std.proofs.Common.{◌≡◌, ◌≢◌, ◌⊎◌, inl, inr, ℕ, ◌+◌, ◌≤◌, Bool, true, false, List, [], ◌++◌, Option, Some, None}
 use Rattle.std.proofs.Common.{refl, sym, ap, subst, ◌∙◌, arith}
-use Rattle.std.specs.Prelude.{IfSome, is_some, option_map, bytes_eq}
-use Rattle.std.specs.Map.{update}
+use Rattle.std.specs.Prelude.{IfSome, is_some, bytes_eq}
 use Rattle.std.proofs.lemmas.Bool.{cases_lt}
 use Rattle.std.proofs.lemmas.Map.{update_same, update_other}
 use Rattle.std.proofs.lemmas.Slice.Eq.{bytes_eq-Decides}
@@ -23,11 +22,11 @@ use Rattle.tl_program.specs.declared.refusal.Refusal.TheVariants as refusals
 use Rattle.tl_program.specs.declared.report.Report.{Report}
 use Rattle.tl_program.specs.declared.report.Report.TheVariants as reports
 use Rattle.tl_program.specs.declared.task.Task.{Task}
-use Rattle.tl_program.specs.Answers.{budget_in, budget_of, reach, certificate_file, IsReadable, IsAnswerBy, IsAnswerTo, IsLaid, IsNarrow}
-use Rattle.tl_program.specs.Change.{Change, Stored, Holds, DoesNotFail, after}
+use Rattle.tl_program.specs.Answers.{budget_in, reach, certificate_file, IsReadable, IsAnswerBy, IsAnswerTo}
+use Rattle.tl_program.specs.Change.{Change, Holds, DoesNotFail, after}
 use Rattle.tl_program.specs.Checks.{asked_of, IsValidIn}
 use Rattle.tl_program.specs.Command.{Laying, IsLay, Checking, IsCheck, AreNames}
-use Rattle.tl_program.specs.Complete.{ShowsFile, SpellsTable, claim_status, AsksForSame, IsLaidOut, AcceptsLaid}
+use Rattle.tl_program.specs.Complete.{SpellsTable, claim_status, AsksForSame, IsLaidOut, AcceptsLaid}
 use Rattle.tl_program.specs.Headline.{Becomes, Ends}
 use Rattle.tl_program.specs.Messages.{number_of, status_of, refusal_status, text_of}
 use Rattle.tl_program.specs.Outcomes.{Outcome, asked, stored_as, outcome_of, IsAnswered, IsAnswerFor}

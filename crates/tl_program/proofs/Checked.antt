@@ -1,8 +1,7 @@
 -- What a check comes to, as the files decide it.
-use Rattle.std.proofs.Common.{◌≡◌, ◌⊎◌, inl, inr, ℕ, ◌<◌, ◌≤◌, List, [], Option, Some, refl, sym, ap, subst, ◌∙◌, arith}
+use Rattle.std.proofs.Common.{◌≡◌, ◌⊎◌, inl, inr, ℕ, List, sym, ap, subst, ◌∙◌, arith}
 use Rattle.std.proofs.lemmas.Bool.Decides.{eqb_tells}
-use Rattle.tl_base.specs.declared.limits.TheConstants.{MAX_REACH}
-use Rattle.tl_base.specs.Desk.{Files, longer}
+use Rattle.tl_base.specs.Desk.{longer}
 use Rattle.tl_cert.specs.declared.certificate.Certificate.{Certificate}
 use Rattle.tl_cert.specs.declared.certificate.Claim.{Claim}
 use Rattle.tl_cert.specs.declared.certificate.Claim.TheVariants as claims
@@ -17,10 +16,10 @@ use Rattle.tl_program.specs.declared.reading.Reading.TheVariants as readings
 use Rattle.tl_program.specs.declared.report.Report.{Report}
 use Rattle.tl_program.specs.declared.report.Report.TheVariants as reports
 use Rattle.tl_program.specs.declared.task.Task.{Task}
-use Rattle.tl_program.specs.Answers.{budget_in, reach}
-use Rattle.tl_program.specs.Change.{Change, Holds, DoesNotFail, after}
+use Rattle.tl_program.specs.Answers.{budget_in}
+use Rattle.tl_program.specs.Change.{Change, DoesNotFail, after}
 use Rattle.tl_program.specs.Checks as checks
-use Rattle.tl_program.specs.Checks.{asked_of, IsValidIn, IsAccepted, IsRejected, IsJudged, IsCheckOf, IsCheckFor, IsCheckIn, IsChecked}
+use Rattle.tl_program.specs.Checks.{asked_of, IsValidIn, IsJudged, IsCheckOf, IsCheckFor, IsCheckIn}
 use Rattle.tl_program.specs.Command.{Checking, IsCheck}
 use Rattle.tl_program.specs.Complete.{ShowsFile, SpellsTable, claim_status, IsAcceptedSo, IsRejectedSo}
 use Rattle.tl_program.specs.Headline.{Becomes, Ends}

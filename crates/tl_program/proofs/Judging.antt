@@ -1,5 +1,5 @@
 -- What the text of a certificate is found to be: what a valid one shows, and why another is rejected.
-use Rattle.std.proofs.Common.{◌≡◌, ◌⊎◌, inl, inr, ℕ, ◌-◌, ◌<◌, ◌≤◌, List, [], ◌∷◌, length, get_or, take, Option, None, Some}
+use Rattle.std.proofs.Common.{◌≡◌, inl, inr, ℕ, ◌-◌, ◌<◌, ◌≤◌, List, [], ◌∷◌, length, get_or, take, Option, None, Some}
 use Rattle.std.proofs.Common.{refl, sym, ap, subst, ◌∙◌, append-nil, arith}
 use Rattle.std.specs.Prelude.{IfOk, IsSomeAnd, Result, Ok, Err, alloc_error}
 use Rattle.std.specs.declared.alloc.AllocError.{AllocError}
@@ -8,7 +8,7 @@ use Rattle.std.proofs.lemmas.Option.{get_or_from_slice_get}
 use Rattle.std.proofs.lemmas.Bool.{cases_lt}
 use Rattle.std.proofs.lemmas.List.{take_all}
 use Rattle.tl_base.specs.Returned.{IsMemoryOr}
-use Rattle.tl_base.specs.declared.limits.TheConstants.{MAX_PAGE_WIDTH, MAX_BUDGET, MAX_COLUMNS}
+use Rattle.tl_base.specs.declared.limits.TheConstants.{MAX_PAGE_WIDTH, MAX_BUDGET}
 use Rattle.tl_cert.specs.declared.certificate.Certificate.{Certificate}
 use Rattle.tl_cert.specs.declared.certificate.Claim.{Claim}
 use Rattle.tl_cert.specs.declared.certificate.Claim.TheVariants as claims
@@ -16,7 +16,7 @@ use Rattle.tl_cert.specs.declared.error.CertError.{CertError}
 use Rattle.tl_cert.specs.declared.error.CertError.TheVariants as texts
 use Rattle.tl_cert.specs.declared.section.Section.{Section}
 use Rattle.tl_cert.specs.Faults.{IsTextOf, Refused}
-use Rattle.tl_cert.specs.Text.{IsWritable, HasProof, IsSectionShaped}
+use Rattle.tl_cert.specs.Text.{IsWritable, HasProof, IsSectionShaped, IsNarrow}
 use Rattle.tl_cert.proofs.text.Laws.{texts_apart}
 use Rattle.tl_form.specs.declared.cell.Table.{Table}
 use Rattle.tl_form.specs.ClosedLaws.{IsClosed, IsWideDocument, BudgetCloses}
@@ -25,7 +25,7 @@ use Rattle.tl_form.specs.Least.{IsLeastWidth}
 use Rattle.tl_form.specs.OpenLaws.{IsSpent, OpenSpends}
 use Rattle.tl_form.specs.Problems.{IsCountAll}
 use Rattle.tl_form.specs.Sound.{IsSound}
-use Rattle.tl_form.specs.Valid.{IsNarrow, IsShown, HasNumbers, EndsWith}
+use Rattle.tl_form.specs.Valid.{IsShown, HasNumbers, EndsWith}
 use Rattle.tl_form.specs.ValidLaws.{LowestIsLeast, BoundedIsBetween, NarrowIsTooWide}
 use Rattle.tl_form.proofs.LinkLemmas.{IsLeastWidth-unique}
 use Rattle.tl_verify.specs.declared.reject.Reject.{Reject}
@@ -36,7 +36,7 @@ use Rattle.tl_program.specs.declared.report.Report.{Report}
 use Rattle.tl_program.specs.declared.report.Report.TheVariants as reports
 use Rattle.tl_program.specs.declared.task.Task.{Task}
 use Rattle.tl_program.specs.Answers.{budget_in, IsBelowCounts}
-use Rattle.tl_program.specs.Checks.{IsValidIn, columns_of, Shows, IsAccepted, IsReason, IsRejected, IsJudged}
+use Rattle.tl_program.specs.Checks.{IsValidIn, columns_of, Shows, IsJudged}
 use Rattle.tl_program.specs.Rejections.{text_rejection, step_rejection}
 use Rattle.tl_program.specs.inner.Claims.{HasFewColumns, report_of}
 use Rattle.tl_program.proofs.Laying.{own_least, last_found, last_of, last_is}

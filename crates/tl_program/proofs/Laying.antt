@@ -9,18 +9,20 @@ use Rattle.std.proofs.lemmas.Bool.{cases_lt, eqb-true, eq-eqb}
 use Rattle.std.proofs.lemmas.Bool.Decides.{eqb_tells}
 use Rattle.tl_base.specs.declared.limits.TheConstants.{MAX_PAGE_WIDTH, MAX_BUDGET, MAX_COLUMNS, MAX_HEIGHT}
 use Rattle.tl_base.specs.declared.style.Style.{Style}
+use Rattle.tl_base.proofs.Decreasing.{last_or-take}
 use Rattle.tl_problem.specs.Problem.{ProblemModel}
+use Rattle.tl_cert.proofs.reading.Words.{within-word}
 use Rattle.tl_solve.specs.declared.outcome.Outcome.{Outcome}
 use Rattle.tl_cert.specs.declared.certificate.Certificate.{Certificate}
 use Rattle.tl_cert.specs.declared.certificate.Claim.{Claim}
 use Rattle.tl_cert.specs.declared.certificate.Claim.TheVariants as claims
 use Rattle.tl_cert.specs.declared.section.Section.{Section}
 use Rattle.tl_cert.specs.Pieces.{Piece, AllWithin, word, field}
-use Rattle.tl_cert.specs.Text.{IsWritable, HasProof, HasSections, IsSectionShaped, IsSectionWritable}
+use Rattle.tl_cert.specs.Text.{IsWritable, HasProof, HasSections, IsSectionShaped, IsSectionWritable, IsNarrow}
 use Rattle.tl_cert.specs.Text.{IsChainWritable, cert_pieces, claim_pieces, section_pieces, section_head}
 use Rattle.tl_cert.specs.Text.{chain_pieces}
 use Rattle.tl_cert.specs.Text.{style_word, version_word, has_area, space, line_feed, spaced, cut_pieces, line_pieces}
-use Rattle.tl_cert.proofs.reading.Spellings.{within-first}
+use Rattle.tl_cert.proofs.reading.Spellings.{within-first, within-append}
 use Rattle.tl_form.specs.declared.cell.Table.{Table}
 use Rattle.tl_form.specs.declared.layout.Layout.{Layout, out-Layout}
 use Rattle.tl_form.specs.ClosedLaws.{IsClosed, IsWideDocument, BudgetCloses}
@@ -38,9 +40,8 @@ use Rattle.tl_form.specs.Expected.{Document, IsDocumentOf, own_number, least_of}
 use Rattle.tl_form.specs.Least.{IsLeastWidth}
 use Rattle.tl_form.specs.Subjects.{meant}
 use Rattle.tl_form.specs.declared.subject.Subject.{Subject}
-use Rattle.tl_form.specs.Valid.{IsNarrow, AreGoodBelow, AreWhole, HasNumbers, EndsWith, IsShown, IsValid}
+use Rattle.tl_form.specs.Valid.{AreGoodBelow, AreWhole, HasNumbers, EndsWith, IsShown, IsValid}
 use Rattle.tl_form.specs.ValidLaws.{HasHeight}
-use Rattle.tl_form.proofs.ValidLaws.{last_or-take}
 use Rattle.tl_nested.specs.Searched.{AreSectionsOf, AreWritable}
 use Rattle.tl_program.specs.declared.answer.Answer.{Answer}
 use Rattle.tl_program.specs.declared.refusal.Refusal.{Refusal}
@@ -117,42 +118,35 @@ claim_height section false = refl
 
 -- ---- writing
 
-joined : (ps qs : List Piece) → AllWithin ps → AllWithin qs → AllWithin (ps ++ qs)
-joined [] qs first second = second
-joined (p ∷ ps) qs first second = (first.0, joined ps qs first.1 second)
-
-words : (cs : List ℕ) → AllWithin (word cs)
-words [] = tt
-words (c ∷ cs) = (tt, words cs)
-
 each_within : {X : Type 0} (f : X → List Piece) (xs : List X) → AllByRecursion (λ x. AllWithin (f x)) xs → AllWithin (flat_map f xs)
 each_within f [] all = tt
-each_within f (x ∷ xs) all = joined (f x) (flat_map f xs) all.0 (each_within f xs all.1)
+each_within f (x ∷ xs) all = within-append (f x) (flat_map f xs) all.0 (each_within f xs all.1)
 
 claim_within : (claim : Claim) → ((height : ℕ) → claim ≡ claims.Lowest height → height ≤ MAX_HEIGHT) →
     ((height lower : ℕ) → claim ≡ claims.Bounded height lower → (height ≤ MAX_HEIGHT) × (lower ≤ MAX_HEIGHT)) →
     ((least : ℕ) → claim ≡ claims.Narrow least → least ≤ MAX_HEIGHT) → AllWithin (claim_pieces claim)
 claim_within (claims.Lowest height) lowest bounded narrow =
-    joined (word (codes "lowest ")) (field 0 MAX_HEIGHT height line_feed) (words (codes "lowest ")) ((omega arith, lowest height refl), (tt, tt))
+    within-append (word (codes "lowest ")) (field 0 MAX_HEIGHT height line_feed) (within-word (codes "lowest ")) ((omega arith, lowest height refl), (tt, tt))
 claim_within (claims.Bounded height lower) lowest bounded narrow =
-    joined (word (codes "bounded ")) (field 0 MAX_HEIGHT height space ++ field 0 MAX_HEIGHT lower line_feed) (words (codes "bounded "))
+    within-append (word (codes "bounded ")) (field 0 MAX_HEIGHT height space ++ field 0 MAX_HEIGHT lower line_feed) (within-word (codes "bounded "))
     ((omega arith, (bounded height lower refl).0), (tt, ((omega arith, (bounded height lower refl).1), (tt, tt))))
 claim_within (claims.Narrow least) lowest bounded narrow =
-    joined (word (codes "narrow ")) (field 0 MAX_HEIGHT least line_feed) (words (codes "narrow ")) ((omega arith, narrow least refl), (tt, tt))
+    within-append (word (codes "narrow ")) (field 0 MAX_HEIGHT least line_feed) (within-word (codes "narrow ")) ((omega arith, narrow least refl), (tt, tt))
 
 -- the pieces of a certificate are within their ranges where its parts are
 pub pieces_within : (c : Certificate) → 1 ≤ c.width → c.width ≤ MAX_PAGE_WIDTH → c.budget ≤ MAX_BUDGET → AllWithin (claim_pieces c.claim) →
     AllByRecursion (λ chain. AllWithin (chain_pieces chain)) c.chains → AllByRecursion (λ section. AllWithin (section_pieces section)) c.sections →
     AllWithin (cert_pieces c)
 pieces_within c more less cuts claim chains sections =
-    let tail = joined (flat_map section_pieces c.sections) (word (codes "end\n")) (each_within section_pieces c.sections sections) (words (codes "end\n")) in
-    let body = joined (flat_map chain_pieces c.chains) _ (each_within chain_pieces c.chains chains) tail in
-    let claimed = joined (claim_pieces c.claim) _ claim body in
-    let budgeted = joined (field 0 MAX_BUDGET c.budget line_feed) _ ((omega arith, cuts), (tt, tt)) claimed in
-    let styled = joined (word (style_word c.style)) _ (words (style_word c.style)) budgeted in
-    let wide = joined (field 1 MAX_PAGE_WIDTH c.width space) _ ((more, less), (tt, tt)) styled in
-    let versioned = joined (word (version_word (has_area c.sections))) _ (words (version_word (has_area c.sections))) wide in
-    joined (word (codes "tablelayout ")) _ (words (codes "tablelayout ")) versioned
+    let tail = within-append (flat_map section_pieces c.sections) (word (codes "end\n")) (each_within section_pieces c.sections sections)
+    (within-word (codes "end\n")) in
+    let body = within-append (flat_map chain_pieces c.chains) _ (each_within chain_pieces c.chains chains) tail in
+    let claimed = within-append (claim_pieces c.claim) _ claim body in
+    let budgeted = within-append (field 0 MAX_BUDGET c.budget line_feed) _ ((omega arith, cuts), (tt, tt)) claimed in
+    let styled = within-append (word (style_word c.style)) _ (within-word (style_word c.style)) budgeted in
+    let wide = within-append (field 1 MAX_PAGE_WIDTH c.width space) _ ((more, less), (tt, tt)) styled in
+    let versioned = within-append (word (version_word (has_area c.sections))) _ (within-word (version_word (has_area c.sections))) wide in
+    within-append (word (codes "tablelayout ")) _ (within-word (codes "tablelayout ")) versioned
 
 shaped_wide : (claim : Claim) (c : Certificate) → (IsNarrow claim → ⊥) → HasSections c → HasProof claim c
 shaped_wide (claims.Lowest height) c wide has = has
@@ -174,9 +168,10 @@ section_numbers section can =
 section_claims : (section : Section) (same : Bool) → (section.height ≤ MAX_HEIGHT) × (section.lower ≤ MAX_HEIGHT) →
     AllWithin (claim_pieces (claim_by section same))
 section_claims section true numbers =
-    joined (word (codes "lowest ")) (field 0 MAX_HEIGHT section.height line_feed) (words (codes "lowest ")) ((omega arith, numbers.0), (tt, tt))
+    within-append (word (codes "lowest ")) (field 0 MAX_HEIGHT section.height line_feed) (within-word (codes "lowest ")) ((omega arith, numbers.0), (tt, tt))
 section_claims section false numbers =
-    joined (word (codes "bounded ")) (field 0 MAX_HEIGHT section.height space ++ field 0 MAX_HEIGHT section.lower line_feed) (words (codes "bounded "))
+    within-append (word (codes "bounded ")) (field 0 MAX_HEIGHT section.height space ++ field 0 MAX_HEIGHT section.lower line_feed)
+    (within-word (codes "bounded "))
     ((omega arith, numbers.0), (tt, ((omega arith, numbers.1), (tt, tt))))
 
 all_at : {X : Type 0} (P : X → Type 0) (xs : List X) → AllByRecursion P xs → (i : ℕ) (d : X) → i < length xs → P (get_or xs i d)
@@ -458,6 +453,6 @@ module _ (table : Table) (style : Style) (page budget least weight : ℕ) (chain
       let can = law table style chains weight sound cells heaviest.chain in (
         record { some = can.0; entries = map_all IsChainWritable (λ chain. 1 ≤ length chain.entries) (λ chain is. is.0) chains can.1; no_section = refl },
         pieces_within narrow_certificate more less cuts
-            (joined (word (codes "narrow ")) (field 0 MAX_HEIGHT least line_feed) (words (codes "narrow ")) ((omega arith, small), (tt, tt)))
+            (within-append (word (codes "narrow ")) (field 0 MAX_HEIGHT least line_feed) (within-word (codes "narrow ")) ((omega arith, small), (tt, tt)))
             (map_all IsChainWritable (λ chain. AllWithin (chain_pieces chain)) (λ chain is. is.1) chains can.1) tt,
       )

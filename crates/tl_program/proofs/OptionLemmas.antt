@@ -1,5 +1,5 @@
 -- What has been read of options, and that arguments spell at most one list of them.
-use Rattle.std.proofs.Common.{◌≡◌, ◌≢◌, ◌⊎◌, inl, inr, ◌↔◌, ℕ, Bool, true, false, List, []}
+use Rattle.std.proofs.Common.{◌≡◌, ◌≢◌, ◌⊎◌, inl, inr, ◌↔◌, ℕ, List, []}
 use Rattle.std.proofs.Common.{◌∷◌, ◌++◌, Option, Some, None, refl, sym, ap, subst, ◌∙◌, decimal, get_or}
 use Rattle.std.proofs.Common.{arith}
 use Rattle.std.specs.Prelude.{Contains}
@@ -17,6 +17,7 @@ use Rattle.tl_base.specs.declared.breaking.Breaking.{Breaking}
 use Rattle.tl_base.specs.declared.breaking.Breaking.TheVariants.{Words, Any}
 use Rattle.tl_base.specs.declared.style.Style.{Style}
 use Rattle.tl_base.specs.declared.style.Style.TheVariants as styles
+use Rattle.tl_base.proofs.Texts.{same_test}
 use Rattle.tl_program.specs.declared.options.Choice.{Choice}
 use Rattle.tl_program.specs.declared.options.Choice.TheVariants as choices
 use Rattle.tl_program.specs.declared.options.Options.{Options}
@@ -207,11 +208,6 @@ option_same None None to from = refl
 option_same None (Some x) to from = from x refl
 option_same (Some x) other to from = sym (to x refl)
 
-flag_same : (one other : Bool) → (one ≡ true → other ≡ true) → (other ≡ true → one ≡ true) → one ≡ other
-flag_same true other to from = sym (to refl)
-flag_same false true to from = from refl
-flag_same false false to from = refl
-
 rebuilt : (one other : Options) → one.style ≡ other.style → one.breaking ≡ other.breaking → one.budget ≡ other.budget →
     one.search ≡ other.search → one.html ≡ other.html → one ≡ other
 rebuilt one other style breaking budget solver html =
@@ -224,7 +220,7 @@ options_same one other to from =
     let breaking : one.breaking ≡ other.breaking = option_same one.breaking other.breaking (λ x. to (choices.Breaking x)) (λ x. from (choices.Breaking x)) in
     let budget : one.budget ≡ other.budget = option_same one.budget other.budget (λ x. to (choices.Budget x)) (λ x. from (choices.Budget x)) in
     let solver : one.search ≡ other.search = option_same one.search other.search (λ x. to (choices.Search x)) (λ x. from (choices.Search x)) in
-    let html : one.html ≡ other.html = flag_same one.html other.html (to choices.Html) (from choices.Html) in
+    let html : one.html ≡ other.html = same_test one.html other.html (to choices.Html) (from choices.Html) in
     rebuilt one other style breaking budget solver html
 
 -- the arguments spell at most one set of options

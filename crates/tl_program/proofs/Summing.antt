@@ -1,12 +1,10 @@
 -- The numbers of a demonstration: its table is read and fits its page, and its last section is the table's own.
-use Rattle.std.proofs.Common.{◌≡◌, inl, inr, ℕ, ◌-◌, ◌<◌, ◌≤◌, ◌^◌, ◌+◌, List, [], length, get_or, take, Option, Some, None}
+use Rattle.std.proofs.Common.{◌≡◌, inl, inr, ℕ, ◌-◌, ◌<◌, ◌≤◌, ◌^◌, List, [], length, get_or, take, Option, Some, None}
 use Rattle.std.proofs.Common.{refl, sym, ap, subst, ◌∙◌, arith}
 use Rattle.std.specs.Prelude.{IsSome, IsSomeAnd, IfOk, Result, Ok, Err}
 use Rattle.std.specs.declared.alloc.AllocError.{AllocError}
-use Rattle.std.specs.List.{last_or}
 use Rattle.std.proofs.lemmas.List.{get_or-take, length-take, take-take}
 use Rattle.tl_base.specs.declared.breaking.Breaking.TheVariants.{Words}
-use Rattle.tl_base.specs.declared.limits.TheConstants.{MAX_FILE_BYTES}
 use Rattle.tl_base.specs.declared.style.Style.TheVariants.{Plain}
 use Rattle.tl_cert.specs.declared.certificate.Certificate.{Certificate}
 use Rattle.tl_cert.specs.declared.section.Section.{Section}
@@ -15,11 +13,9 @@ use Rattle.tl_demo.specs.Fits.{DemoFits, IsDemo}
 use Rattle.tl_demo.specs.declared.laws.TheConstants.{DEMO_WIDTH}
 use Rattle.tl_form.specs.declared.cell.Table.{Table, out-Table}
 use Rattle.tl_form.specs.ChainRanges.{HasFewCells}
-use Rattle.tl_form.specs.Expected.{IsDocumentOf, due_after, own_number}
 use Rattle.tl_form.specs.Least.{IsLeastWidth}
-use Rattle.tl_form.specs.Same.{AreSame}
 use Rattle.tl_form.specs.Sound.{IsSound}
-use Rattle.tl_form.specs.Valid.{AreGoodBelow, AreWhole, IsGood, IsValid}
+use Rattle.tl_form.specs.Valid.{AreWhole, IsGood, IsValid}
 use Rattle.tl_form.proofs.LinkLemmas.{IsLeastWidth-unique}
 use Rattle.tl_form.proofs.SameFits.{same_least}
 use Rattle.tl_form.proofs.ValidLaws.{IsOwnLast, own_last}

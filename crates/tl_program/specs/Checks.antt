@@ -27,7 +27,7 @@ use Rattle.tl_program.specs.declared.rejection.Rejection.{Rejection}
 use Rattle.tl_program.specs.declared.report.Report.{Report}
 use Rattle.tl_program.specs.declared.report.Report.TheVariants as reports
 use Rattle.tl_program.specs.declared.task.Task.{Task}
-use Rattle.tl_program.specs.Answers.{budget_in, reach, IsBelowCounts, IsTooFar}
+use Rattle.tl_program.specs.Answers.{budget_in, reach, IsBelowCounts}
 use Rattle.tl_program.specs.Change.{Change, Holds}
 use Rattle.tl_program.specs.Command.{Checking}
 use Rattle.tl_program.specs.Outcomes.{Outcome}

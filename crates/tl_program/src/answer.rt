@@ -1,21 +1,15 @@
 //! What becomes of a table on a page: its lowest page and a certificate, or why there is none.
 
-ghost use Rattle.std.specs.Prelude.{◌≡◌, ◌<◌, ◌≤◌, ◌*◌, ◌+◌, ◌-◌, ◌^◌, ℕ, true, false, IfOk, IfSome, length};
-ghost use Rattle.tl_base.specs.declared.limits.TheConstants.{MAX_TABLES, MAX_PAGE_WIDTH, MAX_BUDGET};
-ghost use Rattle.tl_base.specs.declared.limits.TheConstants.{MAX_HEIGHT, MAX_COLUMNS, MAX_REACH};
-ghost use Rattle.tl_base.specs.Style.{gap_of, edge_of};
-ghost use Rattle.tl_problem.specs.Sizes.{total};
-ghost use Rattle.tl_cert.specs.declared.section.Section.{Section as S};
+ghost use Rattle.std.specs.Prelude.{◌≡◌, ◌<◌, ◌≤◌, ◌-◌, ℕ, IfOk, IfSome, length};
+ghost use Rattle.tl_base.specs.declared.limits.TheConstants.{MAX_PAGE_WIDTH, MAX_BUDGET, MAX_HEIGHT};
 ghost use Rattle.tl_cert.specs.Text.{IsWritable};
 ghost use Rattle.tl_form.specs.Layouts.{Fits};
 ghost use Rattle.tl_form.specs.Least.{IsLeastWidth};
 ghost use Rattle.tl_form.specs.Expected.{IsDocumentOf};
-ghost use Rattle.tl_form.specs.Sound.{IsSound, nested_in_table};
+ghost use Rattle.tl_form.specs.Sound.{IsSound};
 ghost use Rattle.tl_form.specs.Subjects.{meant};
 ghost use Rattle.tl_form.specs.ChainRanges.{HasFewCells};
-ghost use Rattle.tl_nested.specs.Searched.{AreSectionsOf, AreWritable};
-ghost use Rattle.tl_program.specs.Answers.{budget_in, reach, IsPageFile};
-ghost use Rattle.tl_program.specs.Answers.{certificate_file, IsOutcomeOf, IsAnswerTo, IsNarrow, IsAnswerBy};
+ghost use Rattle.tl_program.specs.Answers.{budget_in, IsPageFile, certificate_file, IsAnswerTo, IsNarrow, IsAnswerBy};
 ghost use Rattle.tl_program.specs.Answers.{IsReadable, StoresNothing};
 ghost use Rattle.tl_program.specs.declared.refusal.Refusal.{Refusal};
 ghost use Rattle.tl_program.specs.declared.report.Report.TheVariants as reports;

@@ -1,9 +1,8 @@
 //! What the text of a certificate shows of a table, or why it is rejected. No search is called.
 
-ghost use Rattle.std.specs.Prelude.{◌≡◌, ◌≤◌, ◌<◌, IfOk, None, Some, length};
+ghost use Rattle.std.specs.Prelude.{◌≡◌, ◌≤◌, ◌<◌, IfOk, None, Some};
 ghost use Rattle.std.specs.List.{last_or};
-ghost use Rattle.tl_base.specs.declared.limits.TheConstants.{MAX_BUDGET, MAX_COLUMNS, MAX_PAGE_WIDTH};
-ghost use Rattle.tl_cert.specs.Text.{IsWritable};
+ghost use Rattle.tl_base.specs.declared.limits.TheConstants.{MAX_BUDGET, MAX_PAGE_WIDTH};
 ghost use Rattle.tl_form.specs.Sound.{IsSound};
 ghost use Rattle.tl_program.specs.declared.rejection.Rejection.{Rejection as R};
 ghost use Rattle.tl_program.specs.declared.report.Report.TheVariants as reports;

@@ -1,7 +1,7 @@
 //! Reads commands from the arguments of the command line.
 
-ghost use Rattle.std.specs.Prelude.{◌≡◌, ◌≢◌, ◌↔◌, ◌++◌, ◌∷◌, ◌<◌, ◌≤◌, ◌^◌, ℕ, [], List, map, string_bytes, decimal};
-ghost use Rattle.std.specs.Prelude.{codes, false, None, IfSome, IfNone, IsTrue, option_map, option_to_list};
+ghost use Rattle.std.specs.Prelude.{◌≡◌, ◌≢◌, ◌↔◌, ◌++◌, ◌∷◌, ◌<◌, ◌≤◌, ℕ, [], List, map, string_bytes, decimal};
+ghost use Rattle.std.specs.Prelude.{false, None, IfSome, IfNone, IsTrue, option_map, option_to_list};
 ghost use Rattle.tl_program.specs.Command.{IsDashed, IsDashedAtFirst, AreNames, IsLay, IsCheck, IsDemo};
 ghost use Rattle.tl_program.specs.Command.{AskForNoLayout, AskForNoCheck, AskForNoDemo};
 

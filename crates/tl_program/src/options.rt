@@ -2,12 +2,10 @@
 
 ghost use Rattle.std.specs.Prelude.{◌≡◌, ◌≢◌, ◌⊎◌, ◌↔◌, ◌++◌, ◌∷◌, ◌≤◌, ◌<◌, ℕ, true, false, List, [], map};
 ghost use Rattle.std.specs.Prelude.{string_bytes, codes, decimal, length, IsTrue, IfSome, IfNone};
-ghost use Rattle.std.specs.List.{flat_map};
 ghost use Rattle.tl_program.specs.declared.options.Choice.{Choice};
 ghost use Rattle.tl_program.specs.declared.options.Options.{Options};
 ghost use Rattle.tl_program.specs.Options.{name_of, words_of, style_word, break_word, search_word, IsInRange};
 ghost use Rattle.tl_program.specs.Options.{IsGiven, AreOptions};
-ghost use Rattle.tl_program.specs.inner.OptionsRead.{HasRead};
 
 use tl_base::{Breaking, MAX_BUDGET, Style, read_number};
 

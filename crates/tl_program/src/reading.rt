@@ -1,11 +1,10 @@
 //! Reads the bytes of a file as a table, or says why they are none.
 
-ghost use Rattle.std.specs.Prelude.{◌≡◌, ◌≤◌, ◌<◌, length, IfOk, Some, IfSome};
+ghost use Rattle.std.specs.Prelude.{◌≡◌, ◌<◌, IfOk, Some};
 ghost use Rattle.tl_tree.specs.declared.node.TableNode.{TableNode};
 ghost use Rattle.tl_tree.specs.Readable.{AreReadable};
 ghost use Rattle.tl_tree.specs.Same.{AreSame};
 ghost use Rattle.tl_tree.specs.Sound.{IsSound as IsSoundTree};
-ghost use Rattle.tl_form.specs.Sound.{IsSound};
 ghost use Rattle.tl_program.specs.declared.reading.Reading.{Reading};
 ghost use Rattle.tl_program.specs.declared.reading.Reading.TheVariants as readings;
 ghost use Rattle.tl_program.specs.declared.refusal.Refusal.{Refusal as R};

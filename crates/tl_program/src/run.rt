@@ -11,7 +11,7 @@ ghost use Rattle.tl_program.specs.Change.{between};
 ghost use Rattle.tl_program.specs.Checks.{IsCheckIn, IsCheckOf};
 ghost use Rattle.tl_program.specs.Command.{IsCheck, IsDemo, IsLay};
 ghost use Rattle.tl_program.specs.Complete.{AcceptsLaid, IsAcceptedSo, IsComplete, IsRefusedSo, IsRejectedSo};
-ghost use Rattle.tl_program.specs.Headline.{Becomes, Ends};
+ghost use Rattle.tl_program.specs.Headline.{Ends};
 ghost use Rattle.tl_program.specs.Messages.{number_of};
 ghost use Rattle.tl_program.specs.Outcomes.{IsAnswerOf, outcome_of, stored_as};
 ghost use Rattle.tl_program.specs.Tasks.{task_of};

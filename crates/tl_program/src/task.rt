@@ -1,7 +1,7 @@
 //! What is asked of a table: the options of a command, each as it is given or by default.
 
-ghost use Rattle.std.specs.Prelude.{◌≡◌, IfSome};
-ghost use Rattle.tl_program.specs.Tasks.{given_or, task_of};
+ghost use Rattle.std.specs.Prelude.{◌≡◌};
+ghost use Rattle.tl_program.specs.Tasks.{task_of};
 
 use crate::options::{Options, Search};
 use tl_base::{Breaking, Style};

@@ -17,17 +17,12 @@ use Rattle.tl_problem.proofs.BoundLaws.{bound-below_placement}
 use Rattle.tl_problem.proofs.SetLaws.{opening-in_whole}
 use Rattle.tl_problem.proofs.ZoneLaws.{whole-is_zone}
 use Rattle.tl_cert.specs.declared.trace.CutAt.{CutAt}
-use Rattle.tl_cert.specs.Traces.{with_parts, zones_of, zone_of, IsZoneOf, IsCut, IsTrace, IsTraceOf, IsKeen}
-use Rattle.tl_cert.proofs.TraceLaws.{zone-old, zone-lower, zone-upper, zone-cases, cuts-there, zones-are}
+use Rattle.tl_cert.specs.Traces.{with_parts, zones_of, zone_of, IsZoneOf, IsCut, IsTraceOf, IsKeen}
+use Rattle.tl_cert.proofs.TraceLaws.{zone-old, zone-lower, zone-upper, zone-cases, cuts-there, zones-are, zones-push, trace-push}
 use Rattle.tl_solve.specs.declared.arena.Arena.{Arena}
 use Rattle.tl_solve.specs.Arenas.{IsBoundFound, AreBoundsOf, HasBoundBelow, IsLookedAt, IsLowered, IsArenaOf}
 use Rattle.tl_solve.proofs.Opening.{placement_in-unique, tight-opening, opening-is_tight}
-use Rattle.tl_solve.proofs.OrderLaws.{at-each-push}
-use Rattle.tl_solve.proofs.ZoneLists.{zones-push, zones-count, zone-item, found-more}
-
--- a trace with a further cut is one
-pub trace-push : (whole : List Range) (trace : List CutAt) (cut : CutAt) → IsTrace whole trace → IsCut whole trace cut → IsTrace whole (trace ++ cut ∷ [])
-trace-push whole trace cut is now = at-each-push (IsCut whole) trace cut is now
+use Rattle.tl_solve.proofs.ZoneLists.{zones-count, zone-item, found-more}
 
 -- a lower placement is below what the old one was
 pub lowered-le : (old new : Placed) → IsLowered old new → new.height ≤ old.height

@@ -3,7 +3,6 @@
 use Rattle.std.proofs.Common.{◌≡◌, ◌≢◌, ℕ, ◌+◌, ◌-◌, ◌<◌, ◌≤◌, Bool, true, false, nat_lt, if◌then◌else◌, List, [], ◌∷◌, inl, inr, length, refl, sym}
 use Rattle.std.proofs.Common.{ap, subst, arith}
 use Rattle.std.specs.List.{All, Contains, range_with_len}
-use Rattle.std.proofs.lemmas.Bool.Decides.{nat_tests}
 use Rattle.std.proofs.lemmas.List.{get_or-set_same, get_or-set_other, length-set, get_or_default}
 use Rattle.std.proofs.lemmas.List.Elements.{All-nil, All-contains, Contains-append_left, Contains-append_cases}
 use Rattle.tl_base.proofs.Members.{Contains-first, Contains-cases, Contains-none, Contains-flat_map, flat_map-Contains, Contains-range, range-Contains}
@@ -19,13 +18,7 @@ use Rattle.tl_problem.proofs.ZoneLaws.{cases_eq, cut-cases, upper-inside, lower-
 use Rattle.tl_cert.specs.declared.log.Bound.{Bound}
 use Rattle.tl_cert.specs.Nogoods.{Meets, Breaks, at_most, at_least, range_bounds, zone_bounds}
 use Rattle.tl_cert.specs.Implied.{IsLeft, Implied, OneLeft}
-use Rattle.tl_cert.proofs.ZoneBounds.{zone-meets, zone-from_meets}
-
-lt_test : (a b : ℕ) → a < b → nat_lt a b ≡ true
-lt_test a b less = grind (arith, nat_tests)
-
-not_lt_test : (a b : ℕ) → b ≤ a → nat_lt a b ≡ false
-not_lt_test a b less = grind (arith, nat_tests)
+use Rattle.tl_cert.proofs.ZoneBounds.{zone-meets, zone-from_meets, lt_test, not_lt_test}
 
 -- what a test gives
 given-has : (b : Bool) (x : Bound) → b ≡ true → Contains (if b then x ∷ [] else []) x

@@ -1,9 +1,8 @@
 -- The lines of a log that is made for a trace are good, and so is the log.
-use Rattle.std.proofs.Common.{◌≡◌, ℕ, ◌+◌, ◌-◌, ◌*◌, ◌<◌, ◌≤◌, true, false, nat_le, if◌then◌else◌, List, [], ◌∷◌, inl, inr, length, get_or, Option}
+use Rattle.std.proofs.Common.{◌≡◌, ℕ, ◌+◌, ◌-◌, ◌*◌, ◌<◌, ◌≤◌, if◌then◌else◌, List, [], ◌∷◌, inl, inr, length, get_or, Option}
 use Rattle.std.proofs.Common.{Some, None, refl, sym, ap, ◌∙◌, subst, arith}
 use Rattle.std.specs.List.{All}
 use Rattle.std.proofs.lemmas.Bool.{cases_lt}
-use Rattle.std.proofs.lemmas.Bool.Decides.{nat_tests}
 use Rattle.std.proofs.lemmas.List.Elements.{All-nil, All-cons}
 use Rattle.tl_problem.specs.declared.zone.Range.{Range}
 use Rattle.tl_problem.specs.Problem.{ProblemModel}
@@ -13,6 +12,7 @@ use Rattle.tl_problem.specs.Bounds.{HasNoWidths}
 use Rattle.tl_problem.proofs.BoundLaws.{bound-unique}
 use Rattle.tl_problem.proofs.SetLaws.{bound-same, area_bound-same}
 use Rattle.tl_problem.proofs.ZoneLaws.{whole-is_zone}
+use Rattle.tl_problem.proofs.Heights.{test_le, test_le_false}
 use Rattle.tl_cert.specs.declared.log.Bound.{Bound}
 use Rattle.tl_cert.specs.declared.log.End.TheVariants.{Cycle, Chain, Area}
 use Rattle.tl_cert.specs.declared.log.LogLine.{LogLine}
@@ -23,18 +23,12 @@ use Rattle.tl_cert.specs.Nogoods.{zone_bounds, nogood_bounds, NamesAreThere, at_
 use Rattle.tl_cert.specs.Implied.{IsLeft, Implied, OneLeft}
 use Rattle.tl_cert.specs.Lines.{nogood_at, EndsBy, IsGoodLine, IsGoodLog}
 use Rattle.tl_cert.proofs.TraceLaws.{zones-are}
+use Rattle.tl_cert.proofs.CutParts.{HasParts, has-parts, first-whole, no_cut}
 use Rattle.tl_solve.specs.Logs.{Proves}
 use Rattle.tl_solve.specs.Arenas.{IsBoundFound, AreBoundsOf}
 use Rattle.tl_solve.specs.inner.Found.{IsCutFound, AreCutsOf}
 use Rattle.tl_solve.specs.inner.Shapes.{closing_end, closing_line_of, firing_line_of, line_of, AreLinesOf}
-use Rattle.tl_solve.proofs.Parts.{HasParts, cut-parts, first-whole}
 use Rattle.tl_solve.proofs.Firing.{left-inside, inside-left, lower-implied, upper-implied, lower-but_one, whole-bounds}
-
-le_test : (a b : ℕ) → a ≤ b → nat_le a b ≡ true
-le_test a b le = grind (arith, nat_tests)
-
-not_le_test : (a b : ℕ) → b < a → nat_le a b ≡ false
-not_le_test a b less = grind (arith, nat_tests)
 
 -- ---- a zone that stands
 
@@ -47,9 +41,9 @@ module _ (problem : ProblemModel) (sound : IsSound problem) (zone : List Range) 
       let back = left-inside problem sound zone is [] in
       let Among = IsLeft problem (zone_bounds problem zone) [] in
       elim (cases_lt bound lower) [
-        | inr high ↦ subst (λ t. EndsBy problem Among [] lower (if t then Chain else Area)) (sym (le_test lower bound high))
+        | inr high ↦ subst (λ t. EndsBy problem Among [] lower (if t then Chain else Area)) (sym (test_le lower bound high))
             (bound, bound-same problem (InZone problem zone) Among there back bound found, high)
-        | inl low ↦ subst (λ t. EndsBy problem Among [] lower (if t then Chain else Area)) (sym (not_le_test lower bound low))
+        | inl low ↦ subst (λ t. EndsBy problem Among [] lower (if t then Chain else Area)) (sym (test_le_false lower bound low))
             (elim proves [
               | inl none ↦ absurd (none found.some.0 found.some.1)
               | inr (inl other) ↦
@@ -98,7 +92,7 @@ module _ (problem : ProblemModel) (sound : IsSound problem) (trace : List CutAt)
     given = zone_bounds problem zone
 
     there : cut.zone < 2 * length trace + 1
-    there = omega (arith, parts.earlier, within)
+    there = omega (arith, parts.before, within)
 
     is_zone : IsZone problem zone
     is_zone = zones-are problem sound trace is cut.zone there
@@ -113,10 +107,10 @@ module _ (problem : ProblemModel) (sound : IsSound problem) (trace : List CutAt)
     g = last - (2 * i + 2)
 
     before_f : f < k
-    before_f = omega (arith, parts.earlier, number, within)
+    before_f = omega (arith, parts.before, number, within)
 
     before_g : g < k
-    before_g = omega (arith, parts.earlier, number, within)
+    before_g = omega (arith, parts.before, number, within)
 
     back_f : last - f ≡ 2 * i + 1
     back_f = omega (arith, within)
@@ -125,10 +119,10 @@ module _ (problem : ProblemModel) (sound : IsSound problem) (trace : List CutAt)
     back_g = omega (arith, within)
 
     low : nogood_bounds problem trace (nogood_at log f) ≡ zone_bounds problem (lower_part zone cut.span cut.class)
-    low = ap (nogood_bounds problem trace) (part-nogood f (2 * i + 1) (omega (arith, before_f, long)) back_f) ∙ ap (zone_bounds problem) parts.lower
+    low = ap (nogood_bounds problem trace) (part-nogood f (2 * i + 1) (omega (arith, before_f, long)) back_f) ∙ ap (zone_bounds problem) parts.low_is
 
     high : nogood_bounds problem trace (nogood_at log g) ≡ zone_bounds problem (upper_part zone cut.span cut.class)
-    high = ap (nogood_bounds problem trace) (part-nogood g (2 * i + 2) (omega (arith, before_g, long)) back_g) ∙ ap (zone_bounds problem) parts.upper
+    high = ap (nogood_bounds problem trace) (part-nogood g (2 * i + 2) (omega (arith, before_g, long)) back_g) ∙ ap (zone_bounds problem) parts.high_is
 
     named_f : (f < k) × NamesAreThere problem trace (nogood_at log f)
     named_f = part-named k f (2 * i + 1) before_f long back_f (omega (arith, within))
@@ -142,8 +136,8 @@ module _ (problem : ProblemModel) (sound : IsSound problem) (trace : List CutAt)
     by_upper : (some : Option ℕ) → IsBoundFound problem (zone_of problem trace (2 * i + 2)) some →
         IsGoodLine problem trace log lower k (firing_line_of last cut.zone i some)
     by_upper None none =
-        let empty : HasNoWidths (InZone problem (upper_part zone cut.span cut.class)) = subst (λ part. HasNoWidths (InZone problem part)) parts.upper none in
-        let all = lower-implied problem sound zone is_zone cut.span cut.class span parts.from parts.before empty in
+        let empty : HasNoWidths (InZone problem (upper_part zone cut.span cut.class)) = subst (λ part. HasNoWidths (InZone problem part)) parts.high_is none in
+        let all = lower-implied problem sound zone is_zone cut.span cut.class span parts.lower parts.upper empty in
         let implied = subst (λ bounds. All (Implied problem (IsLeft problem given [])) bounds) (sym low) all in
         record {
           names = there;
@@ -155,9 +149,9 @@ module _ (problem : ProblemModel) (sound : IsSound problem) (trace : List CutAt)
     by_upper (Some bound) some =
         let b = at_most cut.span (last_in_class problem cut.span cut.class) in
         let widths = some.some.0 in
-        let inside = subst (λ part. InZone problem part widths) parts.upper some.some.1 in
-        let one = lower-but_one problem sound zone is_zone cut.span cut.class span parts.from parts.before widths inside in
-        let all = upper-implied problem sound zone is_zone cut.span cut.class span parts.from parts.before in
+        let inside = subst (λ part. InZone problem part widths) parts.high_is some.some.1 in
+        let one = lower-but_one problem sound zone is_zone cut.span cut.class span parts.lower parts.upper widths inside in
+        let all = upper-implied problem sound zone is_zone cut.span cut.class span parts.lower parts.upper in
         let implied = subst (λ bounds. All (Implied problem (IsLeft problem given (b ∷ []))) bounds) (sym high) all in
         record {
           names = there;
@@ -168,9 +162,6 @@ module _ (problem : ProblemModel) (sound : IsSound problem) (trace : List CutAt)
         }
 
 -- ---- the whole log
-
-abbrev no_cut : CutAt
-no_cut = record { zone = 0; span = 0; class = 0 }
 
 line-nogood : (last lower z : ℕ) (bounds : List (Option ℕ)) (found : Option ℕ) → (line_of last bounds lower z found).nogood ≡ Zone z
 line-nogood last lower z bounds None = refl
@@ -203,7 +194,7 @@ log-good problem sound trace is lower standing cuts bounds are_bounds are_cuts l
           let inside : i < length trace = cut_there.0 in
           subst (λ n. IsGoodLine problem trace log lower k (line_of (2 * length trace) bounds lower n (Some i))) same
           (firing-good problem sound trace is log lower nogoods i k cut (get_or bounds (2 * i + 2) None) inside
-          (cut-parts (whole_zone problem) trace is i no_cut inside) (omega (arith, same, small)) (omega (arith, within))
+          (has-parts (whole_zone problem) trace is i no_cut inside) (omega (arith, same, small)) (omega (arith, within))
           (are_bounds.each (2 * i + 2) None (omega (arith, inside, are_bounds.count))))
 
       each_good : (k : ℕ) (d : LogLine) → k < length log → IsGoodLine problem trace log lower k (get_or log k d)

@@ -1,5 +1,4 @@
 mod Examples
-mod Parts
 mod Firing
 mod GoodLines
 mod Writable

@@ -5,9 +5,9 @@ use Rattle.std.specs.List.{All, AllPairs, Contains}
 use Rattle.std.specs.Result.{IfOk}
 use Rattle.std.proofs.lemmas.Bool.{cases_lt}
 use Rattle.std.proofs.lemmas.List.{get_or_append_left, get_or-append-add}
-use Rattle.std.proofs.lemmas.List.Elements.{All-nil, All-push, Contains-append_left, Contains-append_right, Contains-append_cases}
+use Rattle.std.proofs.lemmas.List.Elements.{All-nil, All-push, Contains-append_left, Contains-append_cases}
 use Rattle.std.proofs.lemmas.List.Quantifiers.{all_pairs_push}
-use Rattle.tl_base.proofs.Members.{Contains-first, Contains-cases, Contains-none}
+use Rattle.tl_base.proofs.Members.{Contains-first, Contains-cases, Contains-none, All-prefix, All-last, Contains-push}
 use Rattle.tl_problem.specs.declared.zone.Range.{Range}
 use Rattle.tl_problem.specs.Problem.{ProblemModel}
 use Rattle.tl_problem.specs.Zones.{range_at, IsZone, whole_zone}
@@ -24,14 +24,6 @@ use Rattle.tl_solve.specs.Orders.{IsFirstCut, CutsFirstSpans, IsBelowPlacements,
 use Rattle.tl_solve.specs.inner.Walk.{IsStack, KeepsOrder}
 use Rattle.tl_solve.proofs.OrderLaws.{at-each-push, from-before, follows-from, before-more, follows-more, lower-from, upper-from, lower-before_upper}
 
--- what holds of all but the last holds of the first ones, and of the last
-all-init : {X : Type 0} (P : X → Type 0) (xs : List X) (x : X) → All P (xs ++ x ∷ []) → All P xs
-all-init P xs x all i d within =
-    subst P (get_or_append_left xs (x ∷ []) d i within) (all i d (omega (arith, within, length-append xs (x ∷ []))))
-
-all-last : {X : Type 0} (P : X → Type 0) (xs : List X) (x : X) → All P (xs ++ x ∷ []) → P x
-all-last P xs x all = subst P (get_or-append-add xs (x ∷ []) 0 x) (all (length xs + 0) x (omega (arith, length-append xs (x ∷ []))))
-
 pairs-init : {X : Type 0} (R : X → X → Type 0) (xs : List X) (x : X) → AllPairs R (xs ++ x ∷ []) → AllPairs R xs
 pairs-init R xs x pairs i j d less within =
     let short : i < length xs = omega (arith, less, within) in
@@ -47,9 +39,6 @@ pairs-last R xs x pairs i d within =
 
 all-map : {X : Type 0} (P Q : X → Type 0) (xs : List X) → ((x : X) → P x → Q x) → All P xs → All Q xs
 all-map P Q xs step all i d within = step (get_or xs i d) (all i d within)
-
-on-top : {X : Type 0} (xs : List X) (x : X) → Contains (xs ++ x ∷ []) x
-on-top xs x = Contains-append_right xs (x ∷ []) x (Contains-first x [])
 
 -- a zone that is closed for a height is closed for a lower one
 pub closed-lower : (problem : ProblemModel) (zone : List Range) (height best : ℕ) → best ≤ height → IsClosed problem zone height → IsClosed problem zone best
@@ -104,14 +93,14 @@ module _ (problem : ProblemModel) where
 
   module _ (trace : List CutAt) (height : ℕ) (stack : List ℕ) (z : ℕ) (is : IsStack problem trace height (stack ++ z ∷ [])) where
     pub top-stands : Stands trace z
-    top-stands = all-last (Stands trace) stack z is.standing
+    top-stands = All-last (Stands trace) stack z is.standing
 
     -- its top goes, where that zone is closed
     pub stack-closed : IsClosed problem (zone_of problem trace z) height → IsStack problem trace height stack
     stack-closed done = record {
-      standing = all-init (Stands trace) stack z is.standing;
+      standing = All-prefix (Stands trace) stack z is.standing;
       apart = pairs-init (λ under over. (over ≢ under) × ComesBefore trace over under) stack z is.apart;
-      follow = all-init (λ y. All (λ cut. Follows trace cut.zone y) trace) stack z is.follow;
+      follow = All-prefix (λ y. All (λ cut. Follows trace cut.zone y) trace) stack z is.follow;
       closed = λ y stands. elim (is.closed y stands) [
         | inr closed ↦ inr closed
         | inl has ↦ elim (Contains-append_cases stack (z ∷ []) y has) [
@@ -137,7 +126,7 @@ module _ (problem : ProblemModel) where
       unders = pairs-last (λ under over. (over ≢ under) × ComesBefore trace over under) stack z is.apart
 
       rest_standing : All (Stands trace) stack
-      rest_standing = all-init (Stands trace) stack z is.standing
+      rest_standing = All-prefix (Stands trace) stack z is.standing
 
       low-from : ComesFrom more z (2 * n + 1)
       low-from = subst (λ a. ComesFrom (trace ++ cut ∷ []) a (2 * length trace + 1)) top (lower-from trace cut)
@@ -180,7 +169,7 @@ module _ (problem : ProblemModel) where
       -- a part of the top follows all that were cut
       part-follows : (part : ℕ) → ComesFrom more z part → All (λ c. Follows more c.zone part) more
       part-follows part from =
-          let all = all-last (λ y. All (λ c. Follows trace c.zone y) trace) stack z is.follow in
+          let all = All-last (λ y. All (λ c. Follows trace c.zone y) trace) stack z is.follow in
           All-push (λ (c : CutAt). Follows (trace ++ cut ∷ []) c.zone part) trace cut
           (λ i d within. follows-from (follows-more trace cut (all i d within)) from)
           (inl (subst (λ a. ComesFrom (trace ++ cut ∷ []) a part) (sym top) from))
@@ -189,7 +178,7 @@ module _ (problem : ProblemModel) where
           ((stack ++ (2 * length trace + 2) ∷ []) ++ (2 * length trace + 1) ∷ [])
       stack-follow =
           let P = λ (y : ℕ). All (λ (c : CutAt). Follows (trace ++ cut ∷ []) c.zone y) (trace ++ cut ∷ []) in
-          let before = all-init (λ y. All (λ c. Follows trace c.zone y) trace) stack z is.follow in
+          let before = All-prefix (λ y. All (λ c. Follows trace c.zone y) trace) stack z is.follow in
           let old : All P stack = λ i d within.
           All-push (λ (c : CutAt). Follows (trace ++ cut ∷ []) c.zone (get_or stack i d)) trace cut
           (λ k e inside. follows-more trace cut (before i d within k e inside))
@@ -218,9 +207,9 @@ module _ (problem : ProblemModel) where
                     ]
                   ]
                 ]
-            | inr (inl first) ↦ inl (subst (Contains ((stack ++ high ∷ []) ++ low ∷ [])) (sym first) (on-top (stack ++ high ∷ []) low))
+            | inr (inl first) ↦ inl (subst (Contains ((stack ++ high ∷ []) ++ low ∷ [])) (sym first) (Contains-push (stack ++ high ∷ []) low))
             | inr (inr second) ↦ inl (subst (Contains ((stack ++ high ∷ []) ++ low ∷ [])) (sym second)
-                (Contains-append_left (stack ++ high ∷ []) (low ∷ []) high (on-top stack high)))
+                (Contains-append_left (stack ++ high ∷ []) (low ∷ []) high (Contains-push stack high)))
           ]
 
       pub stack-cut : (best : ℕ) → best ≤ height →
@@ -236,7 +225,7 @@ module _ (problem : ProblemModel) where
       pub order-cut : KeepsOrder problem trace → IsFirstCut (zone_of problem trace z) cut → HasBoundBelow problem trace z height →
           IsKeen problem (whole_zone problem) trace height → KeepsOrder problem (trace ++ cut ∷ [])
       order-cut keeps first below keen =
-          let all = all-last (λ y. All (λ c. Follows trace c.zone y) trace) stack z is.follow in
+          let all = All-last (λ y. All (λ c. Follows trace c.zone y) trace) stack z is.follow in
           let low : IsBelowPlacements problem trace below.0 = λ y placed there placement.
           let above = keen y placed there placement in omega (arith, above, below.2) in
           record {

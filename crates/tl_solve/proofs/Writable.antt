@@ -1,7 +1,8 @@
 -- The lines of a log that is made for a trace are within the ranges of a certificate's text.
-use Rattle.std.proofs.Common.{ℕ, ◌+◌, ◌-◌, ◌*◌, ◌<◌, ◌≤◌, zero, suc, List, [], ◌∷◌, ◌++◌, length, get_or, Option, Some, None, codes, sym, subst, arith}
+use Rattle.std.proofs.Common.{ℕ, ◌+◌, ◌-◌, ◌*◌, ◌<◌, ◌≤◌, zero, suc, List, [], ◌∷◌, length, get_or, Option, Some, None, codes, sym, subst, arith}
 use Rattle.std.specs.List.{All, AllByRecursion, flat_map}
 use Rattle.std.proofs.lemmas.List.Concat.{flat_map-cons}
+use Rattle.tl_base.proofs.Members.{AllByRecursion-append}
 use Rattle.tl_cert.specs.declared.limits.TheConstants.{MAX_LINE, MAX_ZONE}
 use Rattle.tl_cert.specs.declared.log.End.{End}
 use Rattle.tl_cert.specs.declared.log.End.TheVariants.{Fired}
@@ -9,11 +10,8 @@ use Rattle.tl_cert.specs.declared.log.LogLine.{LogLine}
 use Rattle.tl_cert.specs.declared.log.Nogood.TheVariants.{Zone}
 use Rattle.tl_cert.specs.Pieces.{character, number, word, IsWithin, AllWithin}
 use Rattle.tl_cert.specs.Text.{space, fire_pieces, end_word, line_pieces, IsLineShaped, IsLogWritable}
+use Rattle.tl_cert.proofs.reading.Words.{within-word}
 use Rattle.tl_solve.specs.inner.Shapes.{parts_fired, line_of, AreLinesOf}
-
-pub all-append : {X : Type 0} (P : X → Type 0) (xs ys : List X) → AllByRecursion P xs → AllByRecursion P ys → AllByRecursion P (xs ++ ys)
-all-append P [] ys first second = second
-all-append P (x ∷ xs) ys first second = (first.0, all-append P xs ys first.1 second)
 
 all-by_recursion : {X : Type 0} (P : X → Type 0) (xs : List X) → All P xs → AllByRecursion P xs
 all-by_recursion P [] all = tt
@@ -22,14 +20,10 @@ all-by_recursion P (x ∷ xs) all = (all 0 x (omega arith), all-by_recursion P x
 pub all-flat_map : {X Y : Type 0} (P : Y → Type 0) (f : X → List Y) (xs : List X) → All (λ x. AllByRecursion P (f x)) xs → AllByRecursion P (flat_map f xs)
 all-flat_map P f [] all = tt
 all-flat_map P f (x ∷ xs) all = subst (AllByRecursion P) (sym (flat_map-cons f x xs))
-    (all-append P (f x) (flat_map f xs) (all 0 x (omega arith)) (all-flat_map P f xs (λ i d within. all (suc i) d (omega arith))))
-
-pub word-within : (cs : List ℕ) → AllWithin (word cs)
-word-within [] = tt
-word-within (c ∷ cs) = (tt, word-within cs)
+    (AllByRecursion-append P (f x) (flat_map f xs) (all 0 x (omega arith)) (all-flat_map P f xs (λ i d within. all (suc i) d (omega arith))))
 
 fire-within : (f : ℕ) → f ≤ MAX_LINE → AllWithin (fire_pieces f)
-fire-within f small = all-append IsWithin (word (codes " @")) (number 0 MAX_LINE f ∷ []) (word-within (codes " @")) ((omega arith, small), tt)
+fire-within f small = AllByRecursion-append IsWithin (word (codes " @")) (number 0 MAX_LINE f ∷ []) (within-word (codes " @")) ((omega arith, small), tt)
 
 -- a line of a zone, with at most two fires
 line-within : (z : ℕ) (fires : List ℕ) (end : End) → z ≤ MAX_ZONE → All (λ f. f ≤ MAX_LINE) fires →
@@ -39,8 +33,8 @@ line-within z fires end small few =
       tt,
       (
         (omega arith, small),
-        all-append IsWithin (flat_map fire_pieces fires) (character space ∷ word (end_word end))
-            (all-flat_map IsWithin fire_pieces fires (λ i d within. fire-within (get_or fires i d) (few i d within))) (tt, word-within (end_word end)),
+        AllByRecursion-append IsWithin (flat_map fire_pieces fires) (character space ∷ word (end_word end))
+            (all-flat_map IsWithin fire_pieces fires (λ i d within. fire-within (get_or fires i d) (few i d within))) (tt, within-word (end_word end)),
       ),
     ))
 

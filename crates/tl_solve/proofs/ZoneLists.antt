@@ -1,6 +1,6 @@
 -- The zones of a trace, cut by cut, and what is found of each.
-use Rattle.std.proofs.Common.{◌≡◌, ℕ, ◌+◌, ◌*◌, ◌<◌, suc, List, [], ◌∷◌, ◌++◌, inl, inr, length, get_or, take, Option, refl, sym, ap, ◌∙◌, subst}
-use Rattle.std.proofs.Common.{arith, append_assoc, length-append}
+use Rattle.std.proofs.Common.{◌≡◌, ℕ, ◌+◌, ◌*◌, ◌<◌, suc, List, [], ◌∷◌, ◌++◌, inl, inr, length, get_or, take, Option, sym, ap, ◌∙◌, subst}
+use Rattle.std.proofs.Common.{arith, append_assoc}
 use Rattle.std.proofs.lemmas.Bool.{cases_lt}
 use Rattle.std.proofs.lemmas.List.{get_or_default, get_or_append_left, get_or-append-add}
 use Rattle.std.proofs.Math.Seq.{take-suc}
@@ -8,19 +8,9 @@ use Rattle.tl_problem.specs.declared.zone.Range.{Range}
 use Rattle.tl_problem.specs.Problem.{ProblemModel}
 use Rattle.tl_problem.specs.Zones.{whole_zone, lower_part, upper_part}
 use Rattle.tl_cert.specs.declared.trace.CutAt.{CutAt}
-use Rattle.tl_cert.specs.Traces.{with_parts, zones_after, zones_of, zone_of}
+use Rattle.tl_cert.specs.Traces.{with_parts, zones_of, zone_of}
+use Rattle.tl_cert.proofs.TraceLaws.{zones-push, zones-length}
 use Rattle.tl_solve.specs.Arenas.{IsBoundFound}
-
-pub zones-push : (zones : List (List Range)) (cuts : List CutAt) (cut : CutAt) → zones_after zones (cuts ++ cut ∷ []) ≡ with_parts (zones_after zones cuts) cut
-zones-push zones [] cut = refl
-zones-push zones (first ∷ cuts) cut = zones-push (with_parts zones first) cuts cut
-
-zones-length : (zones : List (List Range)) (cuts : List CutAt) → length (zones_after zones cuts) ≡ length zones + 2 * length cuts
-zones-length zones [] = omega arith
-zones-length zones (cut ∷ cuts) =
-    let rest = zones-length (with_parts zones cut) cuts in
-    let two = length-append zones (lower_part (get_or zones cut.zone []) cut.span cut.class ∷ upper_part (get_or zones cut.zone []) cut.span cut.class ∷ []) in
-    omega (arith, rest, two)
 
 -- so many zones
 pub zones-count : (whole : List Range) (trace : List CutAt) (zones : List (List Range)) → zones ≡ zones_of whole trace → length zones ≡ 2 * length trace + 1

@@ -1,7 +1,7 @@
 //! The zones of a search by their numbers, with what every search keeps of them: the cuts, the bound of
 //! each zone and the best placement. It knows no order in which zones are cut.
 
-ghost use Rattle.std.specs.Prelude.{◌≡◌, ◌+◌, ◌*◌, ◌<◌, ◌≤◌, ◌++◌, [], ◌∷◌, length, get_or, IfOk, OnOk, IfNone, IfSome};
+ghost use Rattle.std.specs.Prelude.{◌≡◌, ◌+◌, ◌<◌, ◌≤◌, ◌++◌, [], ◌∷◌, length, IfOk, OnOk, IfNone, IfSome};
 ghost use Rattle.tl_base.specs.declared.limits.TheConstants.{MAX_BUDGET};
 ghost use Rattle.tl_problem.specs.Agreement.{HasOneClass};
 ghost use Rattle.tl_problem.specs.Placements.{IsOpening, IsPlacement};

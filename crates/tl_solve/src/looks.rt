@@ -1,6 +1,6 @@
 //! Looks at the placement of a zone, which may be lower than the best so far.
 
-ghost use Rattle.std.specs.Prelude.{◌≡◌, ◌<◌, ◌≤◌, length, IfOk, OnOk};
+ghost use Rattle.std.specs.Prelude.{◌<◌, ◌≤◌, IfOk, OnOk};
 ghost use Rattle.tl_problem.specs.Placements.{IsPlacement};
 ghost use Rattle.tl_problem.specs.Tight.{IsTight};
 ghost use Rattle.tl_problem.specs.Works.{IsWorkOf};

@@ -5,12 +5,14 @@ use Rattle.std.specs.List.{AllByRecursion, list_any}
 use Rattle.std.specs.Char.{is_ascii_whitespace}
 use Rattle.std.specs.Str.{chars, encode_utf8_all, IsUtf8}
 use Rattle.std.proofs.Math.Utf8.{scalar, scalars}
-use Rattle.std.proofs.lemmas.Str.{chars-encodes, scalars-chars, encodes-append}
+use Rattle.std.proofs.lemmas.Str.{chars-encodes, scalars-chars}
 use Rattle.std.proofs.lemmas.List.{map-append}
 use Rattle.std.proofs.lemmas.List.Sums.{sum_by-cons, sum_by-append}
 use Rattle.std.proofs.lemmas.List.Elements.{All-from_recursion, recursion_from_All}
 use Rattle.unicode_segmentation.specs.Grapheme.{is_grapheme_break, graphemes}
 use Rattle.unicode_segmentation.specs.Segments.{Rule, cut, prepend, segments}
+use Rattle.std.proofs.lemmas.Bool.{or_parts}
+use Rattle.tl_base.proofs.Texts.{byte_count-append}
 use Rattle.tl_text.specs.declared.paragraph.Atom.{Atom}
 use Rattle.tl_text.specs.declared.paragraph.Atom.TheVariants.{Word, Glue, Break}
 use Rattle.tl_base.specs.Text.{byte_count}
@@ -55,15 +57,11 @@ joined-cut rule before (c ∷ cs) after =
 pub joined-clusters : (text : List ℕ) → joined (clusters_of text) ≡ text
 joined-clusters text = joined-cut (is_grapheme_break true) [] text []
 
--- the bytes of two texts
-size-append : (text more : List ℕ) → byte_count (text ++ more) ≡ byte_count text + byte_count more
-size-append text more = ap length (encodes-append text more) ∙ length-append (encode_utf8_all text) (encode_utf8_all more)
-
 -- the bytes of the pieces are those of the text
-size-joined : (pieces : List (List ℕ)) → sum_by byte_count pieces ≡ byte_count (joined pieces)
+pub size-joined : (pieces : List (List ℕ)) → sum_by byte_count pieces ≡ byte_count (joined pieces)
 size-joined [] = refl
 size-joined (piece ∷ pieces) =
-    sum_by-cons byte_count piece pieces ∙ ap (λ n. byte_count piece + n) (size-joined pieces) ∙ sym (size-append piece (joined pieces))
+    sum_by-cons byte_count piece pieces ∙ ap (λ n. byte_count piece + n) (size-joined pieces) ∙ sym (byte_count-append piece (joined pieces))
 
 -- a text with a character has a cluster
 some-cluster : (c : ℕ) (text : List ℕ) → (first : List ℕ) × (others : List (List ℕ)) × (clusters_of (c ∷ text) ≡ first ∷ others)
@@ -75,11 +73,11 @@ some-cluster c text = from (clusters_of (c ∷ text)) (joined-clusters (c ∷ te
 
 -- ---- the crate's list of clusters, as bytes
 
-both-left : (a b : Bool) → (a && b) ≡ true → a ≡ true
+pub both-left : (a b : Bool) → (a && b) ≡ true → a ≡ true
 both-left true b is = refl
 both-left false b is = is
 
-both-right : (a b : Bool) → (a && b) ≡ true → b ≡ true
+pub both-right : (a b : Bool) → (a && b) ≡ true → b ≡ true
 both-right true b is = is
 both-right false b is = absurd (cc)
 
@@ -132,14 +130,6 @@ spelt-word : (texts : List (List ℕ)) (rest : List Atom) → AllByRecursion IsS
 spelt-word [] rest each after = after
 spelt-word (text ∷ texts) rest each after = (each.0, spelt-glues texts rest each.1 after)
 
-neither-left : (a b : Bool) → (a || b) ≡ false → a ≡ false
-neither-left false b is = refl
-neither-left true b is = is
-
-neither-right : (a b : Bool) → (a || b) ≡ false → b ≡ false
-neither-right false b is = is
-neither-right true b is = absurd (cc)
-
 -- the clusters of a solid text are solid
 solid-clusters : (text : List ℕ) → list_any is_ascii_whitespace text ≡ false → AllByRecursion IsSolid (clusters_of text)
 solid-clusters text is = all-cut (λ c. is_ascii_whitespace c ≡ false) IsSolid one more (is_grapheme_break true) [] text [] (each text is)
@@ -152,7 +142,7 @@ solid-clusters text is = all-cut (λ c. is_ascii_whitespace c ≡ false) IsSolid
 
     each : (cs : List ℕ) → list_any is_ascii_whitespace cs ≡ false → AllByRecursion (λ c. is_ascii_whitespace c ≡ false) cs
     each [] is = tt
-    each (c ∷ cs) is = (neither-left (is_ascii_whitespace c) _ is, each cs (neither-right (is_ascii_whitespace c) _ is))
+    each (c ∷ cs) is = let parts = or_parts (is_ascii_whitespace c) _ is in (parts.0, each cs parts.1)
 
 -- units that are spelt stay so
 spelt-units : (atom : Atom) (rest : List Atom) → IsSpelt atom → AllByRecursion IsSpelt rest → AllByRecursion IsSpelt (units_of atom ++ rest)
@@ -165,20 +155,20 @@ spelt-separated [] each = tt
 spelt-separated (atom ∷ atoms) each = spelt-units atom (by_clusters atoms) each.0 (spelt-separated atoms each.1)
 
 -- no byte is lost and none comes
-size-glues : (texts : List (List ℕ)) → sum_by atom_size (map Glue texts) ≡ sum_by byte_count texts
+pub size-glues : (texts : List (List ℕ)) → sum_by atom_size (map Glue texts) ≡ sum_by byte_count texts
 size-glues [] = refl
 size-glues (text ∷ texts) = omega (arith, size-glues texts, sum_by-cons atom_size (Glue text) (map Glue texts), sum_by-cons byte_count text texts)
 
-size-word : (texts : List (List ℕ)) → sum_by atom_size (word_of texts) ≡ sum_by byte_count texts
+pub size-word : (texts : List (List ℕ)) → sum_by atom_size (word_of texts) ≡ sum_by byte_count texts
 size-word [] = refl
 size-word (text ∷ texts) = omega (arith, size-glues texts, sum_by-cons atom_size (Word text) (map Glue texts), sum_by-cons byte_count text texts)
 
-size-units : (atom : Atom) → sum_by atom_size (units_of atom) ≡ atom_size atom
+pub size-units : (atom : Atom) → sum_by atom_size (units_of atom) ≡ atom_size atom
 size-units (Word text) = size-word (clusters_of text) ∙ size-joined (clusters_of text) ∙ ap byte_count (joined-clusters text)
 size-units (Glue text) = omega arith
 size-units Break = omega arith
 
-size-separated : (atoms : List Atom) → sum_by atom_size (by_clusters atoms) ≡ sum_by atom_size atoms
+pub size-separated : (atoms : List Atom) → sum_by atom_size (by_clusters atoms) ≡ sum_by atom_size atoms
 size-separated [] = refl
 size-separated (atom ∷ atoms) = omega (
   arith,

@@ -20,12 +20,12 @@ pub small_atoms : (atoms : List Atom) → IsParagraph atoms → All (λ atom. at
 small_atoms atoms is = All-from_recursion (λ atom. atom_size atom ≤ MAX_FILE_BYTES) atoms (within MAX_FILE_BYTES atoms is.size)
 
 -- an atom that is spelt counts
-counts : (atom : Atom) → IsSpelt atom → 1 ≤ atom_size atom
+pub counts : (atom : Atom) → IsSpelt atom → 1 ≤ atom_size atom
 counts (Word text) is = omega (arith, is.0, length-le-encodes text)
 counts (Glue text) is = omega (arith, is.0, length-le-encodes text)
 counts Break is = omega arith
 
-length-le : (atoms : List Atom) → AllByRecursion IsSpelt atoms → length atoms ≤ sum_by atom_size atoms
+pub length-le : (atoms : List Atom) → AllByRecursion IsSpelt atoms → length atoms ≤ sum_by atom_size atoms
 length-le [] is = omega arith
 length-le (atom ∷ atoms) is = omega (arith, sum_by-cons atom_size atom atoms, counts atom is.0, length-le atoms is.1)
 

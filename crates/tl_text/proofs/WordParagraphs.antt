@@ -1,14 +1,14 @@
 -- The words of a text are a paragraph, where there is one and the text is within the limit.
-use Rattle.std.proofs.Common.{◌≡◌, ℕ, ◌+◌, ◌<◌, ◌≤◌, Bool, true, false, cond, ◌||◌, List, [], ◌∷◌, length, map, filter, sum_by, refl, arith, length-append}
+use Rattle.std.proofs.Common.{◌≡◌, ℕ, ◌+◌, ◌<◌, ◌≤◌, Bool, true, false, cond, ◌||◌, List, [], ◌∷◌, length, map, filter, sum_by, refl, arith}
 use Rattle.std.specs.List.{AllByRecursion, list_any, slice_split, onto_first}
 use Rattle.std.specs.Char.{is_ascii_whitespace, encode_utf8}
-use Rattle.std.specs.Str.{encode_utf8_all}
 use Rattle.std.proofs.lemmas.List.{length-map}
 use Rattle.std.proofs.lemmas.Bool.{ltb-true}
 use Rattle.std.proofs.lemmas.List.Sums.{sum_by-cons}
 use Rattle.std.proofs.lemmas.List.Elements.{All-from_recursion}
 use Rattle.std.proofs.lemmas.List.Splits.{slice_split-cons_yes, slice_split-cons_no}
 use Rattle.tl_base.specs.declared.limits.TheConstants.{MAX_FILE_BYTES}
+use Rattle.tl_base.proofs.Texts.{byte_count-cons}
 use Rattle.tl_text.specs.declared.paragraph.Atom.{Atom}
 use Rattle.tl_text.specs.declared.paragraph.Atom.TheVariants.{Word}
 use Rattle.tl_base.specs.Text.{byte_count}
@@ -24,14 +24,10 @@ clean_more : (c : ℕ) (parts : List (List ℕ)) → is_ascii_whitespace c ≡ f
 clean_more c [] solid clean = (rw solid, tt)
 clean_more c (part ∷ parts) solid clean = (rw solid clean.0, clean.1)
 
--- the bytes of a character and of the text after it
-bytes-cons : (c : ℕ) (text : List ℕ) → byte_count (c ∷ text) ≡ length (encode_utf8 c) + byte_count text
-bytes-cons c text = length-append (encode_utf8 c) (encode_utf8_all text)
-
 size_more : (c : ℕ) (parts : List (List ℕ)) → sum_by byte_count (onto_first c parts) ≡ length (encode_utf8 c) + sum_by byte_count parts
-size_more c [] = omega (arith, bytes-cons c [])
+size_more c [] = omega (arith, byte_count-cons c [])
 size_more c (part ∷ parts) =
-    omega (arith, bytes-cons c part, sum_by-cons byte_count (c ∷ part) parts, sum_by-cons byte_count part parts)
+    omega (arith, byte_count-cons c part, sum_by-cons byte_count (c ∷ part) parts, sum_by-cons byte_count part parts)
 
 -- parts without white space, no longer than the text
 abbrev AreParts : List ℕ → List (List ℕ) → Type 0
@@ -41,10 +37,10 @@ AreParts text parts = AllByRecursion IsClean parts × (sum_by byte_count parts �
 parts_more : (c : ℕ) (text : List ℕ) (white : Bool) → is_ascii_whitespace c ≡ white → AreParts text (slice_split is_ascii_whitespace text) →
     AreParts (c ∷ text) (slice_split is_ascii_whitespace (c ∷ text))
 parts_more c text true is parts = rw (slice_split-cons_yes is_ascii_whitespace c text is)
-    ((refl, parts.0), omega (arith, parts.1, bytes-cons c text, sum_by-cons byte_count [] (slice_split is_ascii_whitespace text)))
+    ((refl, parts.0), omega (arith, parts.1, byte_count-cons c text, sum_by-cons byte_count [] (slice_split is_ascii_whitespace text)))
 parts_more c text false is parts = rw (slice_split-cons_no is_ascii_whitespace c text is) (
   clean_more c (slice_split is_ascii_whitespace text) is parts.0,
-  omega (arith, parts.1, bytes-cons c text, size_more c (slice_split is_ascii_whitespace text)),
+  omega (arith, parts.1, byte_count-cons c text, size_more c (slice_split is_ascii_whitespace text)),
 )
 
 -- the parts between white space
@@ -89,7 +85,7 @@ atoms_size (word ∷ words) =
     omega (arith, atoms_size words, sum_by-cons atom_size (Word word) (map Word words), sum_by-cons byte_count word words)
 
 -- no piece of them begins with a unit that goes on with a word
-begun_more : (word : List ℕ) (pieces : List (List Atom)) → list_any begins_with_glue pieces ≡ false →
+pub begun_more : (word : List ℕ) (pieces : List (List Atom)) → list_any begins_with_glue pieces ≡ false →
     list_any begins_with_glue (onto_first (Word word) pieces) ≡ false
 begun_more word [] begun = refl
 begun_more word (piece ∷ pieces) begun = rest (begins_with_glue piece) begun where

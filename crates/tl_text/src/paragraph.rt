@@ -29,7 +29,6 @@ pub struct Para {
 
 impl Model for Para {
     ghost use Rattle.std.specs.Prelude.{List};
-    ghost use Rattle.std.specs.Coded.{coded_list};
     ghost use Rattle.tl_text.specs.declared.paragraph.Atom.{Atom};
 
     ghost Value = { List Atom };

@@ -1,7 +1,7 @@
 -- What is read as a doctype is one of the grammar, and what is no prefix of one is none.
 use Rattle.std.proofs.Common.{◌≡◌, ◌≢◌, ℕ, Bool, true, false, ◌&&◌, List, [], ◌∷◌, ◌++◌, Option, Some, None, refl, sym, ap, ◌∙◌, subst, inl, inr, eqb}
 use Rattle.std.proofs.Common.{cond, append_assoc}
-use Rattle.std.proofs.lemmas.Bool.{false≢true}
+use Rattle.std.proofs.lemmas.Bool.{false≢true, and_parts, and_from}
 use Rattle.std.specs.Prelude.{codes}
 use Rattle.std.specs.Char.{to_ascii_lowercase}
 use Rattle.tl_token.specs.Elements.{is_word}
@@ -35,21 +35,12 @@ mark_and_more (c ∷ cs) rest more h = elim (chosen (λ (o : Option (List ℕ)).
   | inr e ↦ ap (λ b. cond b (Some (cs ++ more)) (past_first (codes ">") (cs ++ more))) (e.0) ∙ mark_and_more cs rest more (e.1)
 ]
 
--- the first letter of a word and its others
-and_cases : (a b : Bool) → (a && b) ≡ true → (a ≡ true) × (b ≡ true)
-and_cases true b h = (refl, h)
-and_cases false b h = absurd (false≢true h)
-
-and_true : (a b : Bool) → a ≡ true → b ≡ true → (a && b) ≡ true
-and_true true b h k = k
-and_true false b h k = h
-
 Worded-more : (w cs rest : List ℕ) (c d : ℕ) → eqb (to_ascii_lowercase c) d ≡ true → Worded w cs rest → Worded (d ∷ w) (c ∷ cs) rest
 Worded-more w cs rest c d e k = record {
   word = c ∷ k.word;
   inside = k.inside;
   opened = ap (λ x. c ∷ x) (k.opened);
-  named = and_true _ _ e (k.named);
+  named = and_from _ _ e (k.named);
   closed = k.closed;
 }
 
@@ -61,7 +52,7 @@ Worded-less w cs rest c d k = from (k.word) (k.opened) (k.named)
     from (e ∷ word) opened named =
         let same : e ≡ c = cc in
         let later : cs ≡ word ++ k.inside = cc in
-        let (head, others) = and_cases _ _ named in
+        let (head, others) = and_parts _ _ named in
         (ap (λ x. eqb (to_ascii_lowercase x) d) (sym same) ∙ head, record { word = word; inside = k.inside; opened = later; named = others; closed = k.closed })
 
 -- what follows the `<!`, where the rest w of the word is to come
@@ -99,7 +90,7 @@ word_is (d ∷ w) [] small =
 word_is (d ∷ w) (c ∷ cs) small = elim (cases_bool (eqb (to_ascii_lowercase c) d)) [
   | inl e ↦
       let P : Bool → Type 0 = λ b. WordIs (cond b (doctype_word w cs) (faulty bad_tag)) (d ∷ w) (c ∷ cs) in
-      subst P (sym e) (more_word (doctype_word w cs) w cs c d e (word_is w cs ((and_cases _ _ small).1)))
+      subst P (sym e) (more_word (doctype_word w cs) w cs c d e (word_is w cs ((and_parts _ _ small).1)))
   | inr e ↦
       let P : Bool → Type 0 = λ b. WordIs (cond b (doctype_word w cs) (faulty bad_tag)) (d ∷ w) (c ∷ cs) in
       subst P (sym e) (λ more rest given. clash _ ((Worded-less w (cs ++ more) rest c d given).0) e)

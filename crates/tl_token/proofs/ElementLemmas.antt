@@ -1,21 +1,16 @@
 -- A name compared with a lowercase word, as bytes and as characters.
-use Rattle.std.proofs.Common.{◌≡◌, ℕ, zero, suc, ◌<◌, ◌≤◌, Bool, true, false, ◌||◌, ◌&&◌, List, [], ◌∷◌, refl, sym, ap, ◌∙◌, subst, inl, inr, map, arith}
-use Rattle.std.proofs.lemmas.Bool.{false≢true}
+use Rattle.std.proofs.Common.{◌≡◌, ℕ, zero, suc, ◌<◌, ◌≤◌, Bool, true, ◌||◌, List, [], ◌∷◌, refl, sym, ap, ◌∙◌, subst, inl, inr, map, arith}
+use Rattle.std.proofs.lemmas.Bool.{and_parts}
 use Rattle.std.proofs.lemmas.Bool.Decides.{nat_tests}
 use Rattle.std.proofs.lemmas.Str.{chars-IsAscii, encodes-IsAscii, encodes-chars}
 use Rattle.std.specs.Prelude.{IsTrue, nat_eq, ◌↔◌}
 use Rattle.std.specs.Str.{chars, IsUtf8, IsAscii}
 use Rattle.std.specs.Char.{to_ascii_lowercase, is_ascii_lowercase}
 use lib.Pointwise.{pointwise, bytes_decides}
+use Rattle.tl_base.proofs.Texts.{same_test}
 use Rattle.tl_token.specs.Characters.{◌∈◌}
 use Rattle.tl_token.specs.Elements.{is_word, is_lowercase}
 use Rattle.tl_token.proofs.CharacterTests.{or_cases, is_it}
-
--- two tests that hold of each other are equal
-pub same_bool : (a b : Bool) → (a ≡ true → b ≡ true) → (b ≡ true → a ≡ true) → a ≡ b
-same_bool true b f g = sym (f refl)
-same_bool false true f g = absurd (false≢true (g refl))
-same_bool false false f g = refl
 
 lower_le : (c : ℕ) → c ≤ to_ascii_lowercase c
 lower_le c = grind (arith, nat_tests)
@@ -29,15 +24,11 @@ small_is c h = elim (or_cases (is_ascii_lowercase c) (c ∈ "-") h) [
   | inr d ↦ let P : ℕ → Type 0 = λ x. (x < 128) × (to_ascii_lowercase x ≡ x) in subst P (sym (is_it c 45 (d.1))) (omega arith, refl)
 ]
 
-both_true : (a b : Bool) → (a && b) ≡ true → (a ≡ true) × (b ≡ true)
-both_true true b h = (refl, h)
-both_true false b h = absurd (false≢true h)
-
 -- a lowercase word in lowercase is itself
 small_lower : (w : List ℕ) → is_lowercase w ≡ true → map to_ascii_lowercase w ≡ w
 small_lower [] h = refl
 small_lower (c ∷ w) h =
-    let (head, later) = both_true (is_ascii_lowercase c || c ∈ "-") (is_lowercase w) h in
+    let (head, later) = and_parts (is_ascii_lowercase c || c ∈ "-") (is_lowercase w) h in
     let first : to_ascii_lowercase c ≡ c = (small_is c head).1 in
     let others = small_lower w later in
     cc
@@ -51,7 +42,7 @@ ascii_from_lower : (bs w : List ℕ) → is_lowercase w ≡ true → map to_asci
 ascii_from_lower [] w h e = λ i. omega arith
 ascii_from_lower (b ∷ bs) [] h e = cc
 ascii_from_lower (b ∷ bs) (c ∷ w) h e =
-    let (head, later) = both_true (is_ascii_lowercase c || c ∈ "-") (is_lowercase w) h in
+    let (head, later) = and_parts (is_ascii_lowercase c || c ∈ "-") (is_lowercase w) h in
     let first : to_ascii_lowercase b ≡ c = cc in
     let others : map to_ascii_lowercase bs ≡ w = cc in
     ascii_first b bs (omega (arith, lower_le b, (small_is c head).0)) (ascii_from_lower bs w later others)
@@ -74,13 +65,13 @@ word_characters bs w h e =
 -- what a comparison of bytes without case tells
 pub is_word_from : (bs w : List ℕ) (b : Bool) → IsUtf8 bs → is_lowercase w ≡ true
     → (IsTrue b ↔ (map to_ascii_lowercase bs ≡ map to_ascii_lowercase w)) → b ≡ is_word (chars bs) w
-is_word_from bs w b u h same = same_bool b (is_word (chars bs) w)
+is_word_from bs w b u h same = same_test b (is_word (chars bs) w)
     (λ t. (bytes_decides (map to_ascii_lowercase (chars bs)) w).1 (word_characters bs w h (same.0 t)))
     (λ t. same.1 (word_bytes bs w u h ((bytes_decides (map to_ascii_lowercase (chars bs)) w).0 t)))
 
 -- what a comparison of bytes tells
 pub is_exactly_from : (bs w : List ℕ) → IsUtf8 bs → is_lowercase w ≡ true → pointwise nat_eq bs w ≡ pointwise nat_eq (chars bs) w
-is_exactly_from bs w u h = same_bool (pointwise nat_eq bs w) (pointwise nat_eq (chars bs) w)
+is_exactly_from bs w u h = same_test (pointwise nat_eq bs w) (pointwise nat_eq (chars bs) w)
     (λ t.
     let e = (bytes_decides bs w).0 t in
     let P : List ℕ → Type 0 = λ x. IsAscii x in

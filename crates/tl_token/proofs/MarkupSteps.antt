@@ -1,7 +1,7 @@
 -- How comments and doctypes end, by the runs that the reader passes.
 use Rattle.std.proofs.Common.{◌≡◌, ℕ, ◌<◌, Bool, true, false, not, ◌&&◌, List, [], ◌∷◌, ◌++◌, Some, None, length, refl, sym, ap, ◌∙◌, inl, inr, eqb}
 use Rattle.std.proofs.Common.{cond, drop, get_or, ◌+◌, add-one, drop-cons}
-use Rattle.std.proofs.lemmas.Bool.{eqb-true, eq-eqb, false≢true}
+use Rattle.std.proofs.lemmas.Bool.{eqb-true, eq-eqb}
 use Rattle.std.proofs.lemmas.Bool.Decides.{eqb_tells}
 use Rattle.std.specs.Prelude.{codes}
 use Rattle.std.specs.Char.{to_ascii_lowercase}
@@ -11,7 +11,7 @@ use Rattle.std.proofs.Math.Seq.{drop-length}
 use Rattle.tl_token.specs.Characters.{first, begins, run, past}
 use Rattle.tl_token.specs.Grammar.{Each, has_prefix, past_first}
 use Rattle.tl_token.proofs.CharacterTests.{not_true}
-use Rattle.tl_token.proofs.TagSteps.{run_split, run_each, past_ended}
+use Rattle.tl_token.proofs.TagSteps.{run_split, run_each, past_ended, nothing_left}
 
 -- characters that are no `>`, before the first `>`
 before_close : (w cs : List ℕ) → Each (λ c. not (eqb c 62)) w → past_first (codes ">") (w ++ cs) ≡ past_first (codes ">") cs
@@ -23,10 +23,6 @@ pub close_found : (old new : List ℕ) → past (λ c. not (eqb c 62)) old ≡ 6
 close_found old new e =
     let test : ℕ → Bool = λ c. not (eqb c 62) in
     ap (past_first (codes ">")) (run_split test old) ∙ before_close (run test old) (past test old) (run_each test old) ∙ ap (past_first (codes ">")) e
-
-nothing_left : (quote : ℕ) (cs : List ℕ) → begins (λ c. eqb c quote) cs ≡ false → begins (λ c. not (eqb c quote)) cs ≡ false → cs ≡ []
-nothing_left quote [] h k = refl
-nothing_left quote (c ∷ cs) h k = absurd (false≢true (sym k ∙ ap not h))
 
 pub close_missing : (old : List ℕ) → begins (λ c. eqb c 62) (past (λ c. not (eqb c 62)) old) ≡ false → past_first (codes ">") old ≡ None
 close_missing old h =

@@ -8,7 +8,8 @@ use Rattle.std.proofs.lemmas.Bool.Decides.{nat_tests}
 use Rattle.std.proofs.lemmas.Str.{encodes-chars, chars-nil}
 use Rattle.std.specs.Str.{chars, IsUtf8}
 use lib.Utf8.{encodes}
-use Rattle.tl_token.proofs.ElementLemmas.{same_bool}
+use Rattle.tl_base.specs.declared.limits.TheConstants.{MAX_COLSPAN}
+use Rattle.tl_base.proofs.Texts.{same_test}
 use Rattle.tl_token.specs.Grammar.{numbered_character}
 use Rattle.tl_token.specs.Characters.{is_control}
 use lib.Utf8.{scalar}
@@ -16,7 +17,7 @@ use Rattle.tl_token.specs.Numbers.{number, signed_number, columns_of, rows_of, f
 
 -- where a number stops, it is above 0 as before
 positive_same : (top n total : ℕ) → 0 < top → n ≡ min total top → nat_lt 0 n ≡ nat_lt 0 total
-positive_same top n total t h = same_bool (nat_lt 0 n) (nat_lt 0 total) (λ a. grind (arith, nat_tests)) (λ a. grind (arith, nat_tests))
+positive_same top n total t h = same_test (nat_lt 0 n) (nat_lt 0 total) (λ a. grind (arith, nat_tests)) (λ a. grind (arith, nat_tests))
 
 -- the number after a sign, where it stops at the top
 pub signed_below : (top : ℕ) (b : Bool) (ds : List ℕ) (n : ℕ) → 0 < top → ds ≢ [] → n ≡ min (number 10 ds) top
@@ -49,7 +50,7 @@ signed_either top b ds n t some h = ((λ k. low b (k.0) (k.1) ∙ signed_below t
 -- a number that stops far above the limits gives what the number gives
 pub columns_below : (o : Option ℕ) → columns_of (option_map (λ x. min x 4294967295) o) ≡ columns_of o
 columns_below None = refl
-columns_below (Some n) = let e : min (min n 4294967295) 1000 ≡ min n 1000 = omega arith in ap (max 1) e
+columns_below (Some n) = let e : min (min n 4294967295) MAX_COLSPAN ≡ min n MAX_COLSPAN = omega arith in ap (max 1) e
 
 pub rows_below : (o : Option ℕ) → rows_of (option_map (λ x. min x 4294967295) o) ≡ rows_of o
 rows_below None = refl

@@ -1,10 +1,11 @@
 -- A piece takes at least as many bytes of the file as its token or its character has.
 use Rattle.std.proofs.Common.{◌≡◌, ℕ, zero, suc, ◌+◌, ◌<◌, ◌≤◌, Bool, true, false, ◌&&◌, List, [], ◌∷◌, ◌++◌, Option, Some, None, length, refl, sym}
 use Rattle.std.proofs.Common.{ap, ◌∙◌, subst, inl, inr, cond, arith, drop, length-append}
-use Rattle.std.proofs.lemmas.Bool.{false≢true}
-use Rattle.std.proofs.lemmas.Str.{encodes-append, length-encode, len_utf8_bounds}
+use Rattle.std.proofs.lemmas.Bool.{false≢true, and_parts}
+use Rattle.std.proofs.lemmas.Str.{length-encode, len_utf8_bounds}
 use Rattle.std.specs.Prelude.{codes}
 use Rattle.std.specs.Char.{len_utf8, is_ascii_hexdigit, is_ascii_alphanumeric}
+use Rattle.tl_base.proofs.Texts.{byte_count-append}
 use Rattle.tl_token.specs.Numbers.{number}
 use lib.Utf8.{encode, encodes}
 use Rattle.tl_base.specs.Text.{byte_count}
@@ -22,9 +23,6 @@ use Rattle.tl_token.proofs.CharacterTests.{chosen}
 
 pub byte_count-cons : (c : ℕ) (cs : List ℕ) → byte_count (c ∷ cs) ≡ len_utf8 c + byte_count cs
 byte_count-cons c cs = length-append (encode c) (encodes cs) ∙ ap (λ n. n + byte_count cs) (length-encode c)
-
-pub byte_count-append : (xs ys : List ℕ) → byte_count (xs ++ ys) ≡ byte_count xs + byte_count ys
-byte_count-append xs ys = ap length (encodes-append xs ys) ∙ length-append (encodes xs) (encodes ys)
 
 pub more_bytes : (c : ℕ) (cs : List ℕ) → byte_count cs < byte_count (c ∷ cs)
 more_bytes c cs = omega (arith, byte_count-cons c cs, (len_utf8_bounds c).0)
@@ -116,15 +114,11 @@ run_less : (test : ℕ → Bool) (cs text rest : List ℕ) → ended_run test cs
 run_less test cs text rest h =
     elim (chosen (λ (o : Option (List ℕ × List ℕ)). o ≡ Some (text, rest)) (begins test cs && begins (λ c. c ∈ ";") (past test cs)) _ _ h) [
       | inl e ↦
-          let (some, close) = and_cases (begins test cs) _ (e.0) in
+          let (some, close) = and_parts (begins test cs) _ (e.0) in
           let same : drop 1 (past test cs) ≡ rest = ap after_of (e.1) in
           omega (arith, past_less test cs some, one_less (λ c. c ∈ ";") (past test cs) close, ap byte_count (sym same))
       | inr e ↦ let never = e.1 in cc
     ]
-  where
-    and_cases : (a b : Bool) → (a && b) ≡ true → (a ≡ true) × (b ≡ true)
-    and_cases true b h = (refl, h)
-    and_cases false b h = absurd (false≢true h)
 
 abbrev pub piece_size : Piece → ℕ
 piece_size hidden = 0

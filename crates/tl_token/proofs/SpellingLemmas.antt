@@ -1,10 +1,10 @@
 -- What is read of a text is what its grammar says, and the grammar says one thing only.
 use Rattle.std.proofs.Common.{◌≡◌, ℕ, ◌≤◌, Bool, true, false, List, [], ◌∷◌, length, refl, sym, ap, ◌∙◌, subst, inl, inr, eqb, cond, arith, Result}
 use Rattle.std.proofs.Common.{Ok, Err, IfOk, IfErr}
-use Rattle.std.proofs.lemmas.Str.{encodes-chars}
 use Rattle.std.specs.Str.{chars, IsUtf8}
 use Rattle.std.specs.Str.Lossy.{utf8_valid_len}
 use Rattle.tl_base.specs.Text.{byte_count}
+use Rattle.tl_base.proofs.Texts.{byte_count-chars}
 use Rattle.tl_token.specs.Grammar.{Piece, Stands, FaultStands}
 use Rattle.tl_token.specs.Grammar as grammar
 use Rattle.tl_token.specs.Spelling.{place_of, tokens_of, without_mark, characters, SpellsTokens, FirstFault, Refused, out_of_memory, Tokens, size_of}
@@ -34,9 +34,6 @@ mark_le (c ∷ cs) = by_test (eqb c 0xFEFF)
     by_test : (b : Bool) → byte_count (cond b cs (c ∷ cs)) ≤ byte_count (c ∷ cs)
     by_test true = let h = more_bytes c cs in omega arith
     by_test false = omega arith
-
-pub bytes_of : (bytes : List ℕ) → IsUtf8 bytes → byte_count (chars bytes) ≡ length bytes
-bytes_of bytes u = ap length (encodes-chars bytes u)
 
 -- what stands where the reader finds it
 pub stands_there : (c : ℕ) (old cs rest : List ℕ) (piece : Piece) → old ≡ c ∷ cs → stands piece rest ≡ standing c cs → Stands old piece rest
@@ -128,7 +125,7 @@ module _ (bytes : List ℕ) where
   -- and the tokens are no larger than the file
   tokens_small : (ts : Tokens) → SpellsTokens bytes ts → size_of ts ≤ length bytes
   tokens_small ts h =
-      omega (arith, tokens_le (length bytes) (characters bytes) [] (h.1) (h.2), ap size_of (h.3), mark_le (chars bytes), bytes_of bytes (h.0))
+      omega (arith, tokens_le (length bytes) (characters bytes) [] (h.1) (h.2), ap size_of (h.3), mark_le (chars bytes), byte_count-chars bytes (h.0))
 
   pub small : (result : Result Tokens TokenError) → IfOk result (SpellsTokens bytes) → IfOk result (λ ts. size_of ts ≤ length bytes)
   small (Ok ts) h = tokens_small ts h

@@ -11,7 +11,8 @@ use Rattle.tl_token.specs.Grammar.{Each, Value, missing, quoted, unquoted, Attri
 use Rattle.tl_token.specs.inner.States.{State, tag_open, end_tag_open, tag_name, between, in_name, after_name, before_value, in_quotes, in_value}
 use Rattle.tl_token.specs.inner.States.{ended, failed, empty_tag, with_attribute, step, reads, read}
 use Rattle.tl_token.specs.inner.States.{with_more}
-use Rattle.tl_token.proofs.CharacterTests.{chosen, or_left, or_right, not_true, is_it, is_either, Each-push, push≢nil, push_regroup, clash}
+use Rattle.tl_token.proofs.CharacterTests.{chosen, or_left, or_right, is_it, Each-push, push≢nil, push_regroup}
+use Rattle.tl_token.proofs.TagWhole.{space_no_name}
 
 -- after the tag t, cs goes on to the whole tag, from which the rest follows
 pub record Continues (t : Tag) (cs : List ℕ) (whole : Tag) (rest : List ℕ) : Type 0 where
@@ -75,9 +76,6 @@ continues_end t whole c cs rest e k =
       whole_is = k.0 ∙ ap (λ (x : List Attribute). record { is_end = t.is_end; name = t.name; attributes = x }) (sym (append-nil (t.attributes)));
       spelled = end e;
     })
-
-space_no_name : (c : ℕ) → is_space c ≡ true → is_name_character c ≡ false
-space_no_name c h = Rattle.tl_token.proofs.CharacterTests.not_false (is_space c || c ∈ "/>=\"'<") (or_left (is_space c) (c ∈ "/>=\"'<") h)
 
 -- a value is missing where white space, `/` or `>` is next
 no_value : (c : ℕ) (cs : List ℕ) → is_name_character c ≡ false → Value (c ∷ cs) [] (c ∷ cs)

@@ -19,6 +19,7 @@ use Rattle.tl_token.specs.inner.Reader.{Eats}
 use Rattle.tl_token.proofs.CharacterTests.{cases_bool, or_right, or_false}
 use Rattle.tl_token.proofs.TagWhole.{took, left, after_name_run, before_value_run, in_quotes_run, tag_name_run, to_equals, gap_between, unquoted_read}
 use Rattle.tl_token.proofs.TagWhole.{value_ends, named_read, tag_name_ends, letter_no_slash}
+use Rattle.tl_token.proofs.ReaderLemmas.{past_none}
 
 -- a text is its longest run and what follows it
 pub run_split : (test : ℕ → Bool) (cs : List ℕ) → cs ≡ run test cs ++ past test cs
@@ -80,7 +81,7 @@ quoted_ends t n old new quote e =
     (λ w ds each same. in_quotes_run t n quote [] w ds each ∙ ap (λ x. read (in_quotes t n quote x) ds) same)
     ∙ ap (read (in_quotes t n quote v)) e ∙ took (eqb quote quote) _ _ new (eq-eqb quote quote refl)
 
-nothing_left : (quote : ℕ) (cs : List ℕ) → begins (λ c. eqb c quote) cs ≡ false → begins (λ c. not (eqb c quote)) cs ≡ false → cs ≡ []
+pub nothing_left : (quote : ℕ) (cs : List ℕ) → begins (λ c. eqb c quote) cs ≡ false → begins (λ c. not (eqb c quote)) cs ≡ false → cs ≡ []
 nothing_left quote [] h k = refl
 nothing_left quote (c ∷ cs) h k = absurd (false≢true (sym k ∙ ap not h))
 
@@ -116,17 +117,13 @@ no_value_start : (t : Tag) (n cs : List ℕ) → begins is_space cs ≡ false �
 no_value_start t n [] s q v = refl
 no_value_start t n (c ∷ cs) s q v = left (is_space c) _ _ cs s ∙ left (c ∈ "\"'") _ _ cs q ∙ left (is_value_character c) _ _ cs v
 
-past_nothing : (test : ℕ → Bool) (cs : List ℕ) → begins test cs ≡ false → past test cs ≡ cs
-past_nothing test [] h = refl
-past_nothing test (c ∷ cs) h = ap (λ b. cond b (past test cs) (c ∷ cs)) h
-
 pub unquoted_stops : (t : Tag) (n old : List ℕ) → begins is_space old ≡ false → begins (λ c. c ∈ "\"'") old ≡ false
     → (begins is_value_character old ≡ false) ⊎ (begins (λ c. is_space c || c ∈ ">") (past is_value_character old) ≡ false)
     → read (before_value t n) old ≡ stop (past is_value_character old)
-unquoted_stops t n old s q (inl v) = no_value_start t n old s q v ∙ ap stop (sym (past_nothing is_value_character old v))
+unquoted_stops t n old s q (inl v) = no_value_start t n old s q v ∙ ap stop (sym (past_none is_value_character old v))
 unquoted_stops t n old s q (inr k) = elim (cases_bool (begins is_value_character old)) [
   | inl v ↦ value_run t n old v ∙ no_value_end t n (run is_value_character old) (past is_value_character old) (past_ended is_value_character old) k
-  | inr v ↦ no_value_start t n old s q v ∙ ap stop (sym (past_nothing is_value_character old v))
+  | inr v ↦ no_value_start t n old s q v ∙ ap stop (sym (past_none is_value_character old v))
 ]
 
 -- after an attribute without a value, what is neither a character of a name nor white space

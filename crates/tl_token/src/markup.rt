@@ -1,6 +1,6 @@
 //! Comments and doctypes, and what a `<` opens.
 
-ghost use Rattle.std.specs.Prelude.{◌≡◌, codes, chars};
+ghost use Rattle.std.specs.Prelude.{◌≡◌, codes};
 ghost use Rattle.tl_token.specs.Characters.{is_control, opens_markup};
 ghost use Rattle.tl_token.specs.inner.Reading.{in_comment, doctype_word, declaration, angle, standing};
 ghost use Rattle.tl_token.specs.inner.Reader.{unread};

@@ -1,6 +1,6 @@
 //! A text from its start to its end, a character at a time. It knows no tags.
 
-ghost use Rattle.std.specs.Prelude.{◌≡◌, false, [], ◌∷◌, ◌++◌, length, drop, chars, MatchOption, if◌then◌else◌};
+ghost use Rattle.std.specs.Prelude.{◌≡◌, false, drop, chars};
 ghost use Rattle.std.specs.Str.{IsUtf8};
 ghost use Rattle.tl_base.specs.Text.{byte_count};
 ghost use Rattle.tl_token.specs.Characters.{first, begins, run, past, is_name_character, is_value_character};

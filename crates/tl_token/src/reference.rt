@@ -1,7 +1,6 @@
 //! References to characters.
 
-ghost use Rattle.std.specs.Prelude.{◌≡◌, Some, None, chars, MatchOption};
-ghost use Rattle.std.specs.Char.{is_ascii_digit, is_ascii_hexdigit};
+ghost use Rattle.std.specs.Prelude.{◌≡◌, Some, None, chars};
 ghost use Rattle.tl_token.specs.Numbers.{number};
 ghost use Rattle.tl_token.specs.Grammar.{named_character, numbered_character, ended_run, referred, numeric_reference, reference};
 ghost use Rattle.tl_token.specs.inner.Reading.{referred_or};

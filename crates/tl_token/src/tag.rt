@@ -1,6 +1,6 @@
 //! The tags of a file, with the numbers of their attributes.
 
-ghost use Rattle.std.specs.Prelude.{◌≡◌, ◌≤◌, IsTrue, false, codes, length, chars, List, [], Err, IfOk};
+ghost use Rattle.std.specs.Prelude.{◌≡◌, ◌≤◌, IsTrue, false, length, chars, List, [], Err, IfOk};
 ghost use Rattle.tl_token.specs.Characters.{◌∈◌, begins, is_space, is_name_character};
 ghost use Rattle.tl_token.specs.Elements.{Attribute, is_lowercase};
 ghost use Rattle.tl_token.specs.inner.States.{tag_open, in_name, before_value, in_quotes, read, attribute};

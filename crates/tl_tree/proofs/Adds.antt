@@ -95,7 +95,7 @@ leading-text : (cs : List ℕ) (ms : Marks) → leading (map character cs ++ ms)
 leading-text [] ms = refl
 leading-text (c ∷ cs) ms = ap (λ x. character c ∷ x) (leading-text cs ms)
 
-after-text : (k : ℕ) (cs : List ℕ) (ms : Marks) → entries_after k (map character cs ++ ms) ≡ entries_after k ms
+pub after-text : (k : ℕ) (cs : List ℕ) (ms : Marks) → entries_after k (map character cs ++ ms) ≡ entries_after k ms
 after-text k [] ms = refl
 after-text k (c ∷ cs) ms = after-text k cs ms
 

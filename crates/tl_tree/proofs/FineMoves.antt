@@ -1,14 +1,14 @@
 -- What a token that is readable leads to: few more columns, marks that count no more than the token, and
 -- numbers in their ranges.
 use Rattle.std.proofs.Common.{◌≡◌, ◌≤◌, ℕ, ◌+◌, ◌*◌, Bool, true, false, ◌||◌, List, [], ◌∷◌, ◌++◌, length, map, sum_by, refl, sym, ap, ◌∙◌}
-use Rattle.std.proofs.Common.{subst, cond, arith, length-append}
+use Rattle.std.proofs.Common.{subst, cond, arith}
 use Rattle.std.proofs.lemmas.Bool.{false≢true}
 use Rattle.std.proofs.lemmas.List.Sums.{sum_by-cons, sum_by-append}
 use Rattle.std.specs.List.{AllByRecursion, list_any}
 use Rattle.std.specs.Char.{encode_utf8}
-use Rattle.std.specs.Str.{encode_utf8_all}
 use Rattle.tl_base.specs.declared.limits.TheConstants.{MAX_COLSPAN}
 use Rattle.tl_base.specs.Text.{byte_count}
+use Rattle.tl_base.proofs.Texts.{byte_count-cons}
 use Rattle.tl_token.specs.Characters.{is_control}
 use Rattle.tl_token.specs.declared.token.Spans.{Spans}
 use Rattle.tl_tree.specs.Tags.{Section, part_of, Kind, Kinds, text, table_start, table_end, caption_start, caption_end, colgroup_start, colgroup_end, col}
@@ -50,12 +50,9 @@ FineMove p k (enter holder) = k ≡ table_start
 FineMove p k (leave ms) = (k ≡ table_end) × (ms ≡ due p ++ table_ends ∷ [])
 FineMove p k never = Unit {0}
 
-bytes-cons : (c : ℕ) (cs : List ℕ) → byte_count (c ∷ cs) ≡ length (encode_utf8 c) + byte_count cs
-bytes-cons c cs = length-append (encode_utf8 c) (encode_utf8_all cs)
-
 text_size : (cs : List ℕ) → sum_by mark_size (map character cs) ≡ byte_count cs
 text_size [] = refl
-text_size (c ∷ cs) = sum_by-cons mark_size (character c) (map character cs) ∙ ap (λ n. length (encode_utf8 c) + n) (text_size cs) ∙ sym (bytes-cons c cs)
+text_size (c ∷ cs) = sum_by-cons mark_size (character c) (map character cs) ∙ ap (λ n. length (encode_utf8 c) + n) (text_size cs) ∙ sym (byte_count-cons c cs)
 
 text_fine : (n : ℕ) (cs : List ℕ) → list_any is_control cs ≡ false → AllByRecursion (IsFineMark n) (map character cs)
 text_fine n [] h = tt

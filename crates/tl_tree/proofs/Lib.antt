@@ -3,9 +3,9 @@ mod MachineWhole
 mod MachineSound
 mod Depths
 mod Verdicts
-mod Lines
+pub mod Lines
 pub mod Outlines
-mod Adds
+pub mod Adds
 mod Readings
 mod FineMoves
 mod FineMarks

@@ -3,6 +3,8 @@ use Rattle.std.proofs.Common.{◌≡◌, ◌<◌, ◌≤◌, ℕ, ◌+◌, Bool,
 use Rattle.std.proofs.Common.{cond, arith, append_assoc, Result, Ok, Err, OnOk}
 use Rattle.std.specs.Prelude.{OnErr, is_ok, Option, Some, None, MatchOption, SomeIff, string_bytes}
 use Rattle.tl_base.specs.declared.limits.TheConstants.{MAX_FILE_BYTES}
+use Rattle.tl_text.proofs.ClusterLemmas.{both-left, both-right}
+use Rattle.tl_text.proofs.WordParagraphs.{begun_more}
 use Rattle.tl_tree.specs.declared.flow.Line.{Line}
 use Rattle.tl_tree.specs.inner.Lines.{open_word, ReadsMarks}
 use Rattle.std.specs.Str.{chars, IsUtf8}
@@ -10,15 +12,15 @@ use Rattle.std.specs.Char.{encode_utf8}
 use Rattle.std.proofs.lemmas.Str.{chars-nil}
 use Rattle.tl_base.proofs.Texts.{chars-push}
 use Rattle.std.specs.Char.{is_ascii_whitespace}
-use Rattle.std.specs.List.{AllByRecursion, list_all, list_any, onto_first}
-use Rattle.std.proofs.lemmas.Bool.{false≢true, ltb-true}
+use Rattle.std.specs.List.{AllByRecursion, list_all, list_any}
+use Rattle.std.proofs.lemmas.Bool.{false≢true, ltb-true, and_from}
 use Rattle.std.proofs.lemmas.Bool.Decides.{nat_tests}
 use Rattle.std.proofs.lemmas.List.{append-nil}
 use Rattle.std.proofs.lemmas.List.Elements.{All-from_recursion}
 use Rattle.std.proofs.lemmas.List.Sums.{sum_by-cons, sum_by-append}
 use Rattle.tl_base.specs.Text.{byte_count}
 use Rattle.tl_text.specs.Words.{has_character}
-use Rattle.tl_text.specs.Paragraph.{IsParagraph, IsSolid, IsSpelt, atom_size, lined_pieces, begins_with_glue, has_leading_glue}
+use Rattle.tl_text.specs.Paragraph.{IsParagraph, IsSolid, IsSpelt, atom_size, lined_pieces, has_leading_glue}
 use Rattle.tl_text.specs.declared.paragraph.Atom.{Atom}
 use Rattle.tl_text.specs.declared.paragraph.Atom.TheVariants.{Word, Glue, Break}
 use Rattle.tl_text.proofs.WordLemmas.{words_from, words_from-start, words_from-letter, words_from-white, words_from-end, has_character-chars}
@@ -69,29 +71,16 @@ read_end atoms word = ap (λ x. atoms ++ x) (append-nil (open_atoms word))
 pub read_none : (ms : Marks) → atoms_from [] [] ms ≡ atoms_of ms
 read_none ms = ap (λ ws. map Word ws ++ after_breaks ms) (words_from-start (first_text ms))
 
--- the word that is open is whole
-pub both : (a b : Bool) → a ≡ true → b ≡ true → (a && b) ≡ true
-both true b h k = k
-both false b h k = absurd (false≢true h)
-
-pub part_left : (a b : Bool) → (a && b) ≡ true → a ≡ true
-part_left true b h = refl
-part_left false b h = absurd (false≢true h)
-
-pub part_right : (a b : Bool) → (a && b) ≡ true → b ≡ true
-part_right true b h = h
-part_right false b h = absurd (false≢true h)
-
 pub whole_word : (word : List ℕ) → list_any is_ascii_whitespace word ≡ false → list_all is_whole (open_atoms word) ≡ true
 whole_word word solid = subst (λ (ws : List (List ℕ)). list_all is_whole (map Word ws) ≡ true) (sym (words_from-end word)) (by_test (has_character word) refl)
   where
     by_test : (b : Bool) → has_character word ≡ b → list_all is_whole (map Word (cond b (word ∷ []) [])) ≡ true
     by_test false h = refl
-    by_test true h = both _ true (both _ _ h (ap not solid)) refl
+    by_test true h = and_from _ true (and_from _ _ h (ap not solid)) refl
 
 pub whole_append : (xs ys : List Atom) → list_all is_whole xs ≡ true → list_all is_whole ys ≡ true → list_all is_whole (xs ++ ys) ≡ true
 whole_append [] ys h k = k
-whole_append (x ∷ xs) ys h k = both (is_whole x) _ (part_left (is_whole x) _ h) (whole_append xs ys (part_right (is_whole x) _ h) k)
+whole_append (x ∷ xs) ys h k = and_from (is_whole x) _ (both-left (is_whole x) _ h) (whole_append xs ys (both-right (is_whole x) _ h) k)
 
 -- no character passes the test after one more that does not
 pub none_push : (test : ℕ → Bool) (word : List ℕ) (c : ℕ) → list_any test word ≡ false → test c ≡ false → list_any test (word ++ c ∷ []) ≡ false
@@ -106,8 +95,8 @@ none_push test (d ∷ word) c h k = by_first (λ g. none_push test word c g k) (
 -- whole atoms within the limit are a paragraph
 solid_of : (text : List ℕ) → (has_character text && not (list_any is_ascii_whitespace text)) ≡ true → IsSolid text
 solid_of text h = (
-  ltb-true 0 (length text) (part_left (has_character text) _ h),
-  unnot (list_any is_ascii_whitespace text) (part_right (has_character text) _ h),
+  ltb-true 0 (length text) (both-left (has_character text) _ h),
+  unnot (list_any is_ascii_whitespace text) (both-right (has_character text) _ h),
 )
   where
     unnot : (b : Bool) → not b ≡ true → b ≡ false
@@ -116,22 +105,13 @@ solid_of text h = (
 
 spelt_whole : (atoms : List Atom) → list_all is_whole atoms ≡ true → AllByRecursion IsSpelt atoms
 spelt_whole [] h = tt
-spelt_whole (Word text ∷ atoms) h = (solid_of text (part_left (is_whole (Word text)) _ h), spelt_whole atoms (part_right (is_whole (Word text)) _ h))
+spelt_whole (Word text ∷ atoms) h = (solid_of text (both-left (is_whole (Word text)) _ h), spelt_whole atoms (both-right (is_whole (Word text)) _ h))
 spelt_whole (Glue text ∷ atoms) h = absurd (false≢true h)
 spelt_whole (Break ∷ atoms) h = (tt, spelt_whole atoms h)
 
-begun_onto : (text : List ℕ) (pieces : List (List Atom)) → list_any begins_with_glue pieces ≡ false
-    → list_any begins_with_glue (onto_first (Word text) pieces) ≡ false
-begun_onto text [] h = refl
-begun_onto text (piece ∷ pieces) h = by_first (begins_with_glue piece) h
-  where
-    by_first : (b : Bool) → (b || list_any begins_with_glue pieces) ≡ false → list_any begins_with_glue pieces ≡ false
-    by_first false g = g
-    by_first true g = absurd (false≢true (sym g))
-
 begun_whole : (atoms : List Atom) → list_all is_whole atoms ≡ true → has_leading_glue atoms ≡ false
 begun_whole [] h = refl
-begun_whole (Word text ∷ atoms) h = begun_onto text (lined_pieces atoms) (begun_whole atoms (part_right (is_whole (Word text)) _ h))
+begun_whole (Word text ∷ atoms) h = begun_more text (lined_pieces atoms) (begun_whole atoms (both-right (is_whole (Word text)) _ h))
 begun_whole (Glue text ∷ atoms) h = absurd (false≢true h)
 begun_whole (Break ∷ atoms) h = begun_whole atoms h
 
@@ -157,7 +137,7 @@ closed_size atoms word = omega (arith, sum_by-append atom_size atoms (open_atoms
 -- what a push leaves
 pub whole_push : {E : Type 0} (r : Result (Unit {0}) E) (old new : List Atom) (x : Atom) → OnOk r (new ≡ old ++ x ∷ []) → OnErr r (new ≡ old)
     → is_whole x ≡ true → list_all is_whole old ≡ true → list_all is_whole new ≡ true
-whole_push (Ok done) old new x pushed left is h = rw pushed (whole_append old (x ∷ []) h (both (is_whole x) true is refl))
+whole_push (Ok done) old new x pushed left is h = rw pushed (whole_append old (x ∷ []) h (and_from (is_whole x) true is refl))
 whole_push (Err error) old new x pushed left is h = rw left h
 
 -- a text with bytes, none of them white space, is whole
@@ -165,7 +145,7 @@ pub whole_text : (bytes : List ℕ) → IsUtf8 bytes → 0 < length bytes → li
 whole_text bytes utf8 some solid =
     let shown = has_character-chars bytes utf8 in
     let has : has_character (chars bytes) ≡ true = grind (arith, nat_tests) in
-    both (has_character (chars bytes)) _ has (ap not solid)
+    and_from (has_character (chars bytes)) _ has (ap not solid)
 
 pub open_text : (bytes : List ℕ) → IsUtf8 bytes → 0 < length bytes → open_atoms (chars bytes) ≡ Word (chars bytes) ∷ []
 open_text bytes utf8 some =
@@ -179,9 +159,6 @@ no_text (b ∷ bytes) h = absurd (omega arith)
 
 pub open_none : (bytes : List ℕ) → length bytes ≡ 0 → open_atoms (chars bytes) ≡ []
 open_none bytes h = rw (no_text bytes h, chars-nil) refl
-
-pub none_open : (bytes : List ℕ) → length bytes ≡ 0 → chars bytes ≡ []
-none_open bytes h = rw (no_text bytes h, chars-nil) refl
 
 -- the word after a push of a character
 pub solid_after : (b : Bool) (old new : List ℕ) (c : ℕ) → IsUtf8 old → IsUtf8 new → new ≡ cond b (old ++ encode_utf8 c) old

@@ -1,5 +1,5 @@
 -- The machine accepts every document, with its marks.
-use Rattle.std.proofs.Common.{◌≡◌, ℕ, ◌+◌, Bool, true, false, List, [], ◌∷◌, ◌++◌, refl, sym, ap, ◌∙◌, subst, cond, append_assoc, add_assoc, add-zero, zero-add}
+use Rattle.std.proofs.Common.{◌≡◌, ℕ, ◌+◌, Bool, true, false, List, [], ◌∷◌, ◌++◌, refl, sym, ap, ◌∙◌, subst, append_assoc, add_assoc, add-zero, zero-add}
 use Rattle.std.proofs.lemmas.Bool.{false≢true}
 use Rattle.std.proofs.lemmas.List.Sums.{sum_by-cons}
 use Rattle.std.specs.Prelude.{map, sum}
@@ -16,7 +16,7 @@ use Rattle.tl_tree.specs.inner.Machine.{Holder, of_caption, of_cell, Place, open
 use Rattle.tl_tree.specs.inner.Machine.{enter, leave, never, closes, same_head, move, State, before, inside, after, left, moved, marks_of, next, told}
 use Rattle.tl_tree.specs.inner.Machine.{reached, all_told, Accepts}
 use Rattle.tl_tree.proofs.Moves.{no_way, same_head-refl, closes-own, is_plain, white_stays, told_first, is_entry, Alike, nowhere, alike, cell_as_row}
-use Rattle.tl_tree.proofs.Moves.{row_as_group, group_as_between, columns_as_between, colgroup_as_columns, caption_as_columns, opened_as_columns}
+use Rattle.tl_tree.proofs.Moves.{row_as_group, group_as_between, columns_as_between, colgroup_as_columns, caption_as_columns, opened_as_columns, when}
 
 -- a token that moves to a place from which the rest is accepted
 pub by_move : (p q : Place) (hs : List Holder) (k : Kind) (ns : Marks) {ks : Kinds} {ms : Marks} → move p k ≡ to q ns
@@ -73,10 +73,6 @@ ended_whole tag p q hs ns other e plain level kind (by_tag spaces) a =
     by_move p q hs tag ns e (spaces_whole q hs plain spaces a)
 ended_whole tag p q hs ns other e plain level {ks} kind (left_out solid) a =
     as_alike_all p q hs ns other level ks solid kind a
-
-when : (b : Bool) (m n : Move) → b ≡ true → cond b m n ≡ m
-when true m n h = refl
-when false m n h = absurd (false≢true h)
 
 -- what follows rows is no row
 pub rows_end : {ks rest : Kinds} {ms more : Marks} → Rows ks ms rest more → begins_with is_row_start rest ≡ false

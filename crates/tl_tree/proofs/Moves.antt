@@ -31,7 +31,7 @@ abbrev pub is_plain : Place → Bool
 is_plain (in_flow holder) = false
 is_plain _ = true
 
-when : (b : Bool) (m n : Move) → b ≡ true → cond b m n ≡ m
+pub when : (b : Bool) (m n : Move) → b ≡ true → cond b m n ≡ m
 when true m n h = refl
 when false m n h = absurd (false≢true h)
 

@@ -2,7 +2,6 @@
 use Rattle.std.proofs.Common.{◌≡◌, ◌<◌, ◌≤◌, ℕ, Bool, true, false, not, ◌&&◌, ◌||◌, List, [], ◌∷◌, Option, Some, None, length, sum_by, refl, sym}
 use Rattle.std.proofs.Common.{ap, ◌∙◌, subst, inl, inr, cond, arith, drop}
 use Rattle.std.specs.List.{AllByRecursion, list_any}
-use Rattle.std.proofs.lemmas.Bool.{false≢true}
 use Rattle.std.proofs.lemmas.Int.{clamps}
 use Rattle.std.proofs.lemmas.List.Sums.{sum_by-cons}
 use lib.Utf8.{scalar}
@@ -20,17 +19,10 @@ use Rattle.tl_token.specs.declared.token.Spans.{Spans}
 use Rattle.tl_token.specs.declared.token.Token.{Token}
 use Rattle.tl_token.specs.declared.token.TokenKind.{TokenKind}
 use Rattle.tl_token.specs.declared.token.TokenKind.TheVariants.{Start, End, Text}
-use Rattle.tl_token.proofs.CharacterTests.{chosen}
+use Rattle.tl_token.proofs.CharacterTests.{chosen, not_true}
+use Rattle.tl_text.proofs.ClusterLemmas.{both-right}
 use Rattle.tl_tree.specs.Tags.{kinds, class_of, start_of, end_of}
 use Rattle.tl_tree.specs.Readable.{IsReadable, AreReadable, kind_size}
-
-not_true : (b : Bool) → not b ≡ true → b ≡ false
-not_true true h = absurd (false≢true h)
-not_true false h = refl
-
-both : (a b : Bool) → (a && b) ≡ true → b ≡ true
-both true b h = h
-both false b h = absurd (false≢true h)
 
 some_is : {A : Type 0} (a b : A) → Some a ≡ Some b → a ≡ b
 some_is {A = A} a b h = ap (λ o. value o) h
@@ -45,7 +37,7 @@ numbered_plain n d h = elim (chosen (λ (o : Option ℕ). o ≡ Some d) (scalar 
   | inl e ↦
       let same = some_is n d (e.1) in
       let P : ℕ → Type 0 = λ x. is_control x ≡ false in
-      subst P same (not_true (is_control n) (both (scalar n) (not (is_control n)) (e.0)))
+      subst P same (not_true (is_control n) (both-right (scalar n) (not (is_control n)) (e.0)))
   | inr e ↦ let never = e.1 in cc
 ]
 

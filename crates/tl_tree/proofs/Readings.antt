@@ -15,7 +15,7 @@ use Rattle.tl_tree.specs.Paragraphs.{leading, paragraph_of, entries_of, entries_
 use Rattle.tl_tree.specs.Outline.{Entry, Entries, table, table_end, outline}
 use Rattle.tl_tree.specs.Spelling.{FitsLimits, tables_with}
 use Rattle.tl_tree.specs.inner.Machine as machine
-use Rattle.tl_tree.specs.inner.Machine.{State, move, moved, marks_of, next, told, due}
+use Rattle.tl_tree.specs.inner.Machine.{moved, due}
 use Rattle.tl_tree.specs.inner.Verdict.{is_failed}
 use Rattle.tl_tree.specs.inner.Lines.{line_atoms, open_word, blocks_outline}
 use Rattle.tl_tree.specs.inner.Reading.{after_entries, outcome, parts_so_far, Adds, in_flow, holder_so_far, holder_of, place_of, Moves}

@@ -4,6 +4,7 @@ use Rattle.std.proofs.Common.{cond, arith, Result, Ok, Err, IfOk, OnOk}
 use Rattle.std.proofs.lemmas.List.Sums.{sum_by-cons}
 use Rattle.std.specs.Char.{is_ascii_whitespace}
 use Rattle.std.specs.List.{AllByRecursion, list_all, list_any}
+use Rattle.std.proofs.lemmas.Bool.{and_from}
 use Rattle.tl_base.specs.declared.limits.TheConstants.{MAX_FILE_BYTES, MAX_COLSPAN, MAX_DECLARED_COLUMNS, MAX_DEPTH}
 use Rattle.tl_token.specs.Characters.{is_control}
 use Rattle.tl_token.specs.declared.token.Token.{Token}
@@ -13,6 +14,7 @@ use Rattle.tl_text.specs.declared.paragraph.Atom.{Atom}
 use Rattle.tl_text.specs.declared.paragraph.Atom.TheVariants.{Word, Break}
 use Rattle.tl_text.proofs.WordLemmas.{words_from, words_from-end}
 use Rattle.tl_text.proofs.Paragraphs.{all-append, all-suffix}
+use Rattle.tl_text.proofs.ClusterLemmas.{both-left, both-right}
 use Rattle.tl_tree.specs.Tags.{kinds}
 use Rattle.tl_tree.specs.Grammar as marks
 use Rattle.tl_tree.specs.Grammar.{Mark, Marks, character, line_break}
@@ -26,8 +28,8 @@ use Rattle.tl_tree.specs.declared.error.TreeError.{TreeError}
 use Rattle.tl_tree.specs.inner.Atoms.{is_whole}
 use Rattle.tl_tree.specs.inner.Machine.{before, reached, all_told}
 use Rattle.tl_tree.specs.inner.Verdict.{is_failed}
-use Rattle.tl_tree.proofs.Lines.{atoms_from, open_atoms, read_letter, read_white, read_line_break, read_none, read_end, none_push, part_left}
-use Rattle.tl_tree.proofs.Lines.{part_right, both, whole_word, whole_paragraph}
+use Rattle.tl_tree.proofs.Lines.{atoms_from, open_atoms, read_letter, read_white, read_line_break, read_none, read_end, none_push}
+use Rattle.tl_tree.proofs.Lines.{whole_word, whole_paragraph}
 use Rattle.tl_tree.proofs.MachineWhole.{document_whole}
 use Rattle.tl_tree.proofs.FineMoves.{mark_size, IsFineMark, small_marks}
 use Rattle.tl_tree.proofs.FineMarks.{AreFineMarks, number_at, fine_marks, number_told}
@@ -50,7 +52,7 @@ plain_open word solid plain =
 
     both_of : (atoms : List Atom) → list_all is_whole atoms ≡ true → AllByRecursion IsPlainAtom atoms → AllByRecursion IsPlain atoms
     both_of [] whole h = tt
-    both_of (atom ∷ atoms) whole h = ((part_left (is_whole atom) _ whole, h.0), both_of atoms (part_right (is_whole atom) _ whole) h.1)
+    both_of (atom ∷ atoms) whole h = ((both-left (is_whole atom) _ whole, h.0), both_of atoms (both-right (is_whole atom) _ whole) h.1)
 
 -- the atoms that are read from marks in their ranges
 plain_atoms : (n : ℕ) (word : List ℕ) (ms : Marks) → list_any is_ascii_whitespace word ≡ false → list_any is_control word ≡ false
@@ -79,7 +81,7 @@ plain_atoms n word (m ∷ ms) solid plain fine = other_mark (plain_atoms n [] ms
 
 all_whole : (atoms : List Atom) → AllByRecursion IsPlain atoms → list_all is_whole atoms ≡ true
 all_whole [] h = refl
-all_whole (atom ∷ atoms) h = both (is_whole atom) _ h.0.0 (all_whole atoms h.1)
+all_whole (atom ∷ atoms) h = and_from (is_whole atom) _ h.0.0 (all_whole atoms h.1)
 
 all_plain : (atoms : List Atom) → AllByRecursion IsPlain atoms → AllByRecursion IsPlainAtom atoms
 all_plain [] h = tt

@@ -25,7 +25,6 @@ pub(crate) struct Line {
 impl Line {
     ghost use Rattle.tl_tree.specs.inner.Lines.{line_atoms, line_size, open_word, ReadsMarks};
     ghost use Rattle.tl_tree.specs.Grammar.{character, line_break};
-    ghost use Rattle.tl_tree.specs.Paragraphs.{atoms_of};
 
     pub(crate) fn new(alloc: Global) -> Line
         ensures atoms { result.atoms ≡ [] }

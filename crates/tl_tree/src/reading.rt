@@ -1,13 +1,12 @@
 //! A document as it is read, from its first token to its last.
 
-ghost use Rattle.std.specs.Prelude.{◌≡◌, ◌≢◌, ◌≤◌, ◌<◌, ◌+◌, ◌++◌, ◌∷◌, [], ℕ, false, true, length, chars, IfOk, IfErr, OnOk};
+ghost use Rattle.std.specs.Prelude.{◌≡◌, ◌≢◌, ◌≤◌, ◌<◌, ◌+◌, ℕ, length, chars, IfOk, IfErr};
 ghost use Rattle.tl_token.specs.declared.token.Element.TheVariants.{Table, Outer as OuterElement};
 ghost use Rattle.tl_tree.specs.declared.stop.Stop.TheVariants.{Misfit};
 ghost use Rattle.tl_token.specs.declared.token.TokenKind.{TokenKind};
 ghost use Rattle.tl_tree.specs.Tags as tags;
-ghost use Rattle.tl_tree.specs.Tags.{class_of, start_of, end_of, is_table_start};
+ghost use Rattle.tl_tree.specs.Tags.{class_of, start_of, end_of};
 ghost use Rattle.tl_tree.specs.inner.Machine as machine;
-ghost use Rattle.tl_tree.specs.inner.Machine.{next, in_flow};
 ghost use Rattle.tl_tree.specs.Readable.{IsReadable};
 ghost use Rattle.tl_tree.specs.inner.Lines.{line_size};
 ghost use Rattle.tl_tree.specs.inner.Reading.{IsModest};

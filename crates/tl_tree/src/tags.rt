@@ -4,7 +4,7 @@ ghost use Rattle.std.specs.Prelude.{◌≡◌, ◌≢◌, ◌≤◌, false, true
 ghost use Rattle.tl_token.specs.declared.token.Element.TheVariants.{Table};
 ghost use Rattle.tl_tree.specs.Tags as tags;
 ghost use Rattle.tl_tree.specs.Tags.{Section, part_of, start_of, end_of, is_white, is_table_start};
-ghost use Rattle.tl_tree.specs.inner.Machine.{move, never, of_caption, of_cell, in_flow};
+ghost use Rattle.tl_tree.specs.inner.Machine.{move, never};
 ghost use Rattle.tl_tree.specs.Readable.{IsReadable};
 ghost use Rattle.tl_tree.specs.inner.Stops.{IsMisfitOr};
 
@@ -17,7 +17,7 @@ use tl_base::{List, MAX_COLSPAN};
 use tl_token::{Element, Spans};
 
 impl OpenTable {
-    ghost use Rattle.tl_tree.specs.inner.Reading.{outcome, place_of, place_columns, IsModest, Moves, is_caption_flow, is_cell_flow};
+    ghost use Rattle.tl_tree.specs.inner.Reading.{place_of, IsModest, Moves, is_caption_flow, is_cell_flow};
 
     fn is_in_caption(&self) -> bool
         ensures { result ≡ is_caption_flow (place_of self.now) }

@@ -2,6 +2,7 @@
 use Rattle.std.proofs.Common.{◌≡◌, ◌∙◌, ℕ, ◌<◌, ◌≤◌, List, length, get_or, take, Some, inl, inr, sym, ap, subst, arith}
 use Rattle.std.proofs.lemmas.Bool.{cases_lt}
 use Rattle.std.proofs.lemmas.List.{get_or_default}
+use Rattle.std.proofs.lemmas.Option.{same_Some}
 use Rattle.tl_base.specs.declared.limits.TheConstants.{MAX_PAGE_WIDTH}
 use Rattle.tl_base.specs.Returned.{IsMemoryOr}
 use Rattle.tl_base.specs.declared.style.Style.{Style}
@@ -9,6 +10,7 @@ use Rattle.tl_problem.specs.declared.placed.Placed.{Placed}
 use Rattle.tl_problem.specs.Problem.{ProblemModel}
 use Rattle.tl_cert.specs.declared.certificate.Certificate.{Certificate}
 use Rattle.tl_cert.specs.declared.section.Section.{Section}
+use Rattle.tl_cert.specs.Text.{IsNarrow}
 use Rattle.tl_form.specs.declared.cell.Table.{Table}
 use Rattle.tl_form.specs.Expected.{Document, Due, IsDocumentOf, IsTableOf, IsDue, due_after, least_of, own_number}
 use Rattle.tl_form.specs.Least.{IsLeastWidth}
@@ -16,7 +18,7 @@ use Rattle.tl_form.specs.Nested.{AreInnerSteps}
 use Rattle.tl_form.specs.Problems.{IsProblemOf}
 use Rattle.tl_form.specs.Refusals.{IsGoodUpTo, IsMissing, ComesTo, HasWrongLayout, HasWrongTrace}
 use Rattle.tl_form.specs.Sound.{IsSound}
-use Rattle.tl_form.specs.Valid.{IsClaimFor, IsNarrow, IsProblemAt, HasPlacement, IsLaid, HasTrace, HasLog, IsGood}
+use Rattle.tl_form.specs.Valid.{IsClaimFor, IsProblemAt, HasPlacement, IsLaid, HasTrace, HasLog, IsGood}
 use Rattle.tl_form.proofs.Coverage.{stands}
 use Rattle.tl_form.proofs.DueProblems.{IsOnPage, good_follows, leasts, some_number}
 use Rattle.tl_form.proofs.TableNumbers.{one_of_number}
@@ -83,9 +85,6 @@ is_due document before now section due table width = due ∙ λ i. Some (record 
 
 -- ---- why it is refused
 
-some_is : {X : Type 0} {x y : X} → Some x ≡ Some y → x ≡ y
-some_is equal = cc
-
 module _ (document : Document) (budget : ℕ) (certificate : Certificate) (number : ℕ) (there : number < length certificate.sections)
     (good : IsGoodUpTo document budget certificate number) where
   pub missing : (now : Due) (section : Section) → due_after document (take number certificate.sections) ≡ Some now →
@@ -98,7 +97,7 @@ module _ (document : Document) (budget : ℕ) (certificate : Certificate) (numbe
     due = due;
     wrong = λ d within is_due.
         let same : get_or certificate.sections number d ≡ section = get_or_default certificate.sections number d section there ∙ is in
-        let both = some_is (sym due ∙ is_due) in
+        let both = same_Some _ _ (sym due ∙ is_due) in
         other (sym (ap (λ (one : Due). one.table) both ∙ ap (λ (s : Section). s.table) same)) (sym (ap (λ (one : Due). one.width) both
         ∙ ap (λ (s : Section). s.width) same));
   }

@@ -12,7 +12,7 @@ use Rattle.tl_base.specs.declared.style.Style.{Style}
 use Rattle.tl_base.specs.Steps.{first_width, height_at}
 use Rattle.tl_base.specs.Style.{gap_of, edge_of}
 use Rattle.tl_base.proofs.Members.{All-from_Contains, Contains-first, Contains-flat_map, Contains-later}
-use Rattle.tl_base.proofs.Sums.{sum-cons}
+use Rattle.tl_base.proofs.Zips.{AllZip-push, AllZip-append}
 use Rattle.tl_problem.specs.declared.cell.Cell.{Cell}
 use Rattle.tl_problem.specs.declared.placed.Placed.{Placed}
 use Rattle.tl_problem.specs.Layouts.{WithinPage}
@@ -21,10 +21,11 @@ use Rattle.tl_problem.specs.Sizes.{room, total}
 use Rattle.tl_problem.specs.Sound.{IsSoundCell}
 use Rattle.std.specs.declared.alloc.Global.{Global}
 use Rattle.std.specs.declared.boxed.Box.{Box}
+use Rattle.tl_problem.proofs.SizeLaws.{room-total, sum-total}
 use Rattle.tl_cert.specs.declared.certificate.Certificate.{Certificate}
 use Rattle.tl_cert.specs.declared.certificate.Claim.{Claim}
 use Rattle.tl_cert.specs.declared.certificate.Claim.TheVariants.{Lowest, Bounded, Narrow}
-use Rattle.tl_cert.specs.Text.{IsWritable}
+use Rattle.tl_cert.specs.Text.{IsWritable, IsNarrow}
 use Rattle.tl_form.specs.declared.cell.Content.TheOpen as open_content
 use Rattle.tl_verify.proofs.Writable.{small_sections}
 use Rattle.tl_cert.specs.declared.section.Section.{Section}
@@ -32,7 +33,6 @@ use Rattle.tl_form.specs.declared.cell.Table.{Table, out-Table}
 use Rattle.tl_form.specs.declared.cell.TableCell.{TableCell, out-TableCell}
 use Rattle.tl_form.specs.declared.cell.Content.{Content, out-Content}
 use Rattle.tl_form.specs.declared.layout.Layout.{Layout, out-Layout}
-use Rattle.tl_form.proofs.LeastRoomLemmas.{AllZip-push}
 use Rattle.tl_form.specs.Expected.{Document, IsTableOf, own_number, placed_width}
 use Rattle.tl_form.specs.Layouts.{Fits}
 use Rattle.tl_form.specs.Least.{IsLeastWidth}
@@ -42,9 +42,8 @@ use Rattle.tl_form.specs.ProblemLaws.{LayoutsAreByLow, LayoutsByHighFit}
 use Rattle.tl_form.specs.Problems.{InnerNeeds, IsCellBy}
 use Rattle.tl_form.specs.Sound.{IsSound, IsSoundWithin}
 use Rattle.tl_form.specs.Tables.{OpenContent, inner_tables, tables_in, tables_of}
-use Rattle.tl_form.specs.Valid.{AreWhole, HasPlacement, IsGood, IsNarrow, IsProblemAt, IsShown, IsValid}
+use Rattle.tl_form.specs.Valid.{AreWhole, HasPlacement, IsGood, IsProblemAt, IsShown, IsValid}
 use Rattle.tl_form.specs.ValidLaws.{HasHeight}
-use Rattle.tl_form.proofs.ProblemLayouts.{room-total}
 use Rattle.tl_form.proofs.ProblemTruth.{cell-inside, fits-low, high-fits}
 use Rattle.tl_form.proofs.NamedLaws.{named_layout}
 use Rattle.tl_form.proofs.SoundParts.{at_item, both_each, each_joined}
@@ -208,17 +207,14 @@ module _ (document : Document) (budget : ℕ) (style : Style) (sections : List S
 
     pub rooms_part : section.width ≤ MAX_PAGE_WIDTH → (placed : Placed) → placed.widths ≡ widths → HasRooms style sections (out-Table table) placed
     rooms_part narrow placed same = record {
-      page = omega (arith, ap (λ (ws : List ℕ). sum ws) same, sum_total (gap_of problem.style) (edge_of problem.style) widths, page.page, of.made.wide, narrow);
+      page = omega (arith, ap (λ (ws : List ℕ). sum ws) same, sum-total (gap_of problem.style) (edge_of problem.style) widths, page.page, of.made.wide, narrow);
       few = omega (arith, ap length same, page.columns, of.sound.few_columns);
       each = subst (λ ws. AllByRecursion (HasRoom style sections ws) (out-Table table).cells) (sym same)
           (cells_rooms (out-Table table).cells problem.cells (λ cell has. has) of.made.made
           (both_each (IsSoundCell problem) (λ one. first_width one.low ≤ cell_width problem widths one) problem.cells
           (recursion_from_All (IsSoundCell problem) problem.cells of.sound.cells)
           (recursion_from_All (λ one. first_width one.low ≤ cell_width problem widths one) problem.cells page.cells)));
-    } where
-      sum_total : (gap edge : ℕ) (sizes : List ℕ) → sum sizes ≤ total gap edge sizes
-      sum_total gap edge [] = omega arith
-      sum_total gap edge (size ∷ sizes) = omega (arith, sum-cons size sizes)
+    }
 
 -- a call that found something, where finding nothing is absurd
 pub is_some_by : {X : Type 0} (o : Option X) (P : Type 0) (Q : X → Type 0) → (P → ⊥) → MatchOption o P Q → (x : X) × (o ≡ Some x)
@@ -230,18 +226,12 @@ is_some_by (Some x) P Q never found = (x, refl)
 pub lays_none : (style : Style) (sections : List Section) (w : ℕ) (inner : List Layout) → LaysOut style sections w [] inner inner
 lays_none style sections w inner = record { part = []; joined = sym (append-nil inner); each = tt }
 
-zip_append : {A B : Type 0} (P : A → B → Type 0) (xs xs' : List A) (ys ys' : List B) → AllZip P xs ys → AllZip P xs' ys' → AllZip P (xs ++ xs') (ys ++ ys')
-zip_append P [] xs' [] ys' one other = other
-zip_append P [] xs' (y ∷ ys) ys' one other = absurd one
-zip_append P (x ∷ xs) xs' [] ys' one other = absurd one
-zip_append P (x ∷ xs) xs' (y ∷ ys) ys' one other = (one.0, zip_append P xs xs' ys ys' one.1 other)
-
 pub lays_more : (style : Style) (sections : List Section) (w : ℕ) (tables more : List Table) (before inner after : List Layout) →
     LaysOut style sections w tables before inner → LaysOut style sections w more inner after → LaysOut style sections w (tables ++ more) before after
 lays_more style sections w tables more before inner after far next = record {
   part = far.part ++ next.part;
   joined = next.joined ∙ ap (λ xs. xs ++ next.part) far.joined ∙ append_assoc before far.part next.part;
-  each = zip_append (IsLaidIn style sections w) tables more far.part next.part far.each next.each;
+  each = AllZip-append (IsLaidIn style sections w) tables more far.part next.part far.each next.each;
 }
 
 -- the tables of blocks that are past

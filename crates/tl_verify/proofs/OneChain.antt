@@ -15,7 +15,7 @@ use Rattle.tl_form.specs.Tables.{inner_tables, tables_in}
 use Rattle.tl_form.proofs.ChainDepths.{links_depth}
 use Rattle.tl_form.proofs.TableNumbers.{one_of_number, sound_among}
 use Rattle.tl_form.proofs.Truth.{nested_among}
-use Rattle.tl_verify.specs.inner.Walks.{Weighs}
+use Rattle.tl_form.specs.inner.Links.{Weighs}
 
 -- ---- lists that begin alike
 

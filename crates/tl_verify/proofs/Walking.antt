@@ -1,20 +1,21 @@
 -- Walks of chains: what stands at a place, entry by entry.
 use Rattle.std.proofs.Common.{◌≡◌, ◌∙◌, ℕ, zero, suc, ◌+◌, ◌-◌, ◌*◌, ◌<◌, ◌≤◌, List, [], ◌∷◌, ◌++◌, length, drop, take, get_or, Option, Some, None}
-use Rattle.std.proofs.Common.{slice_get, append_assoc, append-nil, length-drop, ◌↔◌, refl, sym, ap, subst, Bool, true, false, ◌==◌, Contains}
-use Rattle.std.proofs.Common.{MatchOption, ◌⊎◌, inl, inr, arith}
+use Rattle.std.proofs.Common.{slice_get, append_assoc, append-nil, length-drop, ◌↔◌, refl, sym, ap, subst, Bool, true, false, ◌==◌}
+use Rattle.std.proofs.Common.{MatchOption, inl, inr, arith}
 use Rattle.std.specs.List.{AllZip, flat_map}
 use Rattle.std.proofs.lemmas.Bool.{cases_eq, eq-eqb, ne_eqb}
 use Rattle.std.proofs.Math.Seq.{drop-cons, drop-nil}
-use Rattle.std.proofs.lemmas.List.Elements.{All-contains}
+use Rattle.std.proofs.lemmas.List.Elements.{All-contains, Contains-append_cases}
 use Rattle.std.proofs.lemmas.List.Concat.{flat_map-cons}
 use Rattle.std.proofs.lemmas.List.Sums.{sum_by-cons, sum_by-append}
 use Rattle.tl_base.specs.declared.style.Style.{Style}
 use Rattle.tl_base.specs.Style.{gap_of, edge_of}
-use Rattle.tl_base.proofs.Members.{Contains-cases, Contains-flat_map, Contains-later, Contains-map, Contains-none}
+use Rattle.tl_base.proofs.Members.{Contains-cases, Contains-flat_map, Contains-map, Contains-none}
 use Rattle.std.specs.declared.alloc.Global.{Global}
 use Rattle.std.specs.declared.boxed.Box.{Box}
 use Rattle.std.proofs.lemmas.Grind.{flat_map-append}
 use Rattle.std.proofs.lemmas.List.{take_more}
+use Rattle.tl_base.proofs.Zips.{AllZip-length}
 use Rattle.tl_form.specs.declared.cell.Content.{Content, out-Content}
 use Rattle.tl_form.specs.declared.cell.Content.TheOpen as open_content
 use Rattle.tl_grid.specs.Dropping.{IsPlaced}
@@ -29,9 +30,10 @@ use Rattle.tl_form.specs.Sound.{IsSound, place_of, places_of}
 use Rattle.tl_form.proofs.Widths.{grid_of}
 use Rattle.tl_form.specs.Tables.{OpenCell, OpenContent, tables_in, tables_of}
 use Rattle.tl_form.proofs.ChainDepths.{links_depth, links-weaker}
+use Rattle.tl_form.specs.inner.Links.{Weighs}
 use Rattle.tl_verify.specs.declared.chains.Row.{Row}
 use Rattle.tl_verify.specs.declared.chains.Walked.{Walked}
-use Rattle.tl_verify.specs.inner.Walks.{Weighs, IsWalk, HasNoWalk, IsWalkIn, HasNoWalkIn, link_of, IsStep, HasNoStep, AreLinked, widths_of, IsRow, HasNoRow}
+use Rattle.tl_verify.specs.inner.Walks.{IsWalk, HasNoWalk, IsWalkIn, HasNoWalkIn, link_of, IsStep, HasNoStep, AreLinked, widths_of, IsRow, HasNoRow}
 use Rattle.tl_verify.proofs.OneChain.{AreOne, any_chain_one, any_links_one, contains_at, any_step_one, first_same, later_same, link_same, rest_same, some_same}
 
 -- ---- lists from a place on
@@ -53,22 +55,6 @@ pub drop_item : {X : Type 0} (xs : List X) (n : ℕ) (x : X) → n < length xs �
 drop_item xs n x within is =
     let next : suc n ≡ n + 1 = omega arith in
     drop-cons xs n x within ∙ (λ i. sym is i ∷ drop (suc n) xs) ∙ ap (λ k. x ∷ drop k xs) next
-
-Contains-either : {X : Type 0} (xs ys : List X) (x : X) → Contains (xs ++ ys) x → Contains xs x ⊎ Contains ys x
-Contains-either [] ys x has = inr has
-Contains-either (y ∷ xs) ys x has = elim (Contains-cases y (xs ++ ys) x has) [
-  | inl is ↦ inl (0, omega arith, is)
-  | inr later ↦ elim (Contains-either xs ys x later) [
-    | inl first ↦ inl (Contains-later y xs x first)
-    | inr last ↦ inr last
-  ]
-]
-
-as_many : {A B : Type 0} (P : A → B → Type 0) (xs : List A) (ys : List B) → AllZip P xs ys → length xs ≡ length ys
-as_many P [] [] all = refl
-as_many P [] (y ∷ ys) all = absurd all
-as_many P (x ∷ xs) [] all = absurd all
-as_many P (x ∷ xs) (y ∷ ys) all = omega (arith, as_many P xs ys all.1)
 
 pub none_at : {X : Type 0} (xs : List X) (k : ℕ) → length xs ≤ k → slice_get xs k ≡ None
 none_at [] k past = refl
@@ -166,7 +152,7 @@ module _ (style : Style) where
         row.width + gap_of style * (length first.entries + ((out-Table table).cols - row.covered) - 1) + 2 * edge_of style
         ≡ links_weight style (out-Table table).cols is_row.links
     row_weighs row is_row =
-        let many = as_many (λ entry link. IsLink (Weighs style) (out-Table table) entry link) first.entries is_row.links is_row.linked.stand in
+        let many = AllZip-length (λ entry link. IsLink (Weighs style) (out-Table table) entry link) first.entries is_row.links is_row.linked.stand in
         ap (λ w. w + gap_of style * (length first.entries + ((out-Table table).cols - row.covered) - 1) + 2 * edge_of style) is_row.wide
         ∙ ap (λ n. widths_of is_row.links + gap_of style * (n + ((out-Table table).cols - row.covered) - 1) + 2 * edge_of style) many
         ∙ ap (λ n. widths_of is_row.links + gap_of style * (length is_row.links + ((out-Table table).cols - n) - 1) + 2 * edge_of style) is_row.covers
@@ -227,7 +213,7 @@ module _ (style : Style) where
   pub walk_more : (some more : List Table) (number : ℕ) (chains : List Chain) (at most : ℕ) → HasNoWalkIn style some number chains at most →
       HasNoWalkIn style more number chains at most → HasNoWalkIn style (some ++ more) number chains at most
   walk_more some more number chains at most none also = λ nested has.
-      elim (Contains-either some more nested has) [ inl first ↦ none nested first | inr later ↦ also nested later ]
+      elim (Contains-append_cases some more nested has) [ inl first ↦ none nested first | inr later ↦ also nested later ]
 
   pub walk_box : (table : Table) (number : ℕ) (chains : List Chain) (at most : ℕ) (result : Option Walked) → (out-Table table).number ≡ number →
       MatchOption result (HasNoWalk style table chains at most) (IsWalk style table chains at most) →

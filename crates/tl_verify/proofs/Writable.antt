@@ -9,36 +9,28 @@ use Rattle.tl_cert.specs.declared.certificate.Claim.{Claim}
 use Rattle.tl_cert.specs.declared.certificate.Claim.TheVariants.{Lowest, Bounded, Narrow}
 use Rattle.tl_cert.specs.declared.limits.TheConstants.{MAX_SECTIONS}
 use Rattle.tl_cert.specs.declared.section.Section.{Section}
-use Rattle.tl_cert.specs.Pieces.{Piece, AllWithin, field, word}
+use Rattle.tl_cert.specs.Pieces.{AllWithin, field, word}
 use Rattle.tl_cert.specs.Text.{IsWritable, IsSectionShaped, HasProof, space, line_feed, spaced, cut_pieces, line_pieces, section_pieces, section_head}
-use Rattle.tl_cert.specs.Text.{chain_pieces, claim_pieces, version_word, style_word, has_area}
-use Rattle.tl_form.specs.Valid.{IsNarrow}
+use Rattle.tl_cert.specs.Text.{chain_pieces, claim_pieces, version_word, style_word, has_area, IsNarrow}
+use Rattle.tl_cert.proofs.reading.Spellings.{within-first, within-second}
 use Rattle.tl_verify.specs.inner.Sections.{IsSmall}
 
 -- ---- pieces one after the other
-
-within_right : (ps qs : List Piece) → AllWithin (ps ++ qs) → AllWithin qs
-within_right [] qs all = all
-within_right (p ∷ ps) qs all = within_right ps qs all.1
-
-within_left : (ps qs : List Piece) → AllWithin (ps ++ qs) → AllWithin ps
-within_left [] qs all = tt
-within_left (p ∷ ps) qs all = (all.0, within_left ps qs all.1)
 
 within_each : (sections : List Section) (i : ℕ) (d : Section) → i < length sections → AllWithin (flat_map section_pieces sections) →
     AllWithin (section_pieces (get_or sections i d))
 within_each [] i d within all = absurd (omega arith)
 within_each (section ∷ sections) zero d within all =
-    within_left (section_pieces section) (flat_map section_pieces sections) (subst AllWithin (flat_map-cons section_pieces section sections) all)
+    within-first (section_pieces section) (flat_map section_pieces sections) (subst AllWithin (flat_map-cons section_pieces section sections) all)
 within_each (section ∷ sections) (suc i) d within all =
     within_each sections i d (omega arith)
-    (within_right (section_pieces section) (flat_map section_pieces sections) (subst AllWithin (flat_map-cons section_pieces section sections) all))
+    (within-second (section_pieces section) (flat_map section_pieces sections) (subst AllWithin (flat_map-cons section_pieces section sections) all))
 
 -- ---- the numbers of a section
 
 small_section : (section : Section) → length section.widths ≤ MAX_COLUMNS → AllWithin (section_pieces section) → IsSmall section
 small_section section few all =
-    let head = within_left (section_head section) (word (codes "widths") ++ (flat_map (spaced MAX_PAGE_WIDTH) section.widths ++ (word (codes "\n")
+    let head = within-first (section_head section) (word (codes "widths") ++ (flat_map (spaced MAX_PAGE_WIDTH) section.widths ++ (word (codes "\n")
     ++ (flat_map cut_pieces section.trace ++ flat_map line_pieces section.log)))) all in
     -- after `section ` come the table, the width, the height, the lower bound, the cuts and the lines, each with a character
     let width = head.1.1.1.1.1.1.1.1.1.1 in
@@ -65,17 +57,17 @@ small_sections c written i d within = small_section (get_or c.sections i d) (few
 
     budget : AllWithin (field 0 MAX_BUDGET c.budget line_feed ++ (claim_pieces c.claim ++ (flat_map chain_pieces c.chains
         ++ (flat_map section_pieces c.sections ++ word (codes "end\n")))))
-    budget = within_right (word (style_word c.style)) (field 0 MAX_BUDGET c.budget line_feed ++ (claim_pieces c.claim ++ (flat_map chain_pieces c.chains
+    budget = within-second (word (style_word c.style)) (field 0 MAX_BUDGET c.budget line_feed ++ (claim_pieces c.claim ++ (flat_map chain_pieces c.chains
         ++ (flat_map section_pieces c.sections ++ word (codes "end\n")))))
-        (within_right (word (version_word (has_area c.sections))) (field 1 MAX_PAGE_WIDTH c.width space ++ (word (style_word c.style)
+        (within-second (word (version_word (has_area c.sections))) (field 1 MAX_PAGE_WIDTH c.width space ++ (word (style_word c.style)
         ++ (field 0 MAX_BUDGET c.budget line_feed ++ (claim_pieces c.claim ++ (flat_map chain_pieces c.chains ++ (flat_map section_pieces c.sections
         ++ word (codes "end\n"))))))) width).1.1
 
     sections : AllWithin (flat_map section_pieces c.sections)
     sections =
-        within_left (flat_map section_pieces c.sections) (word (codes "end\n"))
-        (within_right (flat_map chain_pieces c.chains) (flat_map section_pieces c.sections ++ word (codes "end\n"))
-        (within_right (claim_pieces c.claim) (flat_map chain_pieces c.chains ++ (flat_map section_pieces c.sections ++ word (codes "end\n")))
+        within-first (flat_map section_pieces c.sections) (word (codes "end\n"))
+        (within-second (flat_map chain_pieces c.chains) (flat_map section_pieces c.sections ++ word (codes "end\n"))
+        (within-second (claim_pieces c.claim) (flat_map chain_pieces c.chains ++ (flat_map section_pieces c.sections ++ word (codes "end\n")))
         budget.1.1))
 
 pub few_sections : (certificate : Certificate) → IsWritable certificate → (IsNarrow certificate.claim → ⊥) →

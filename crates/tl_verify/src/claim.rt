@@ -1,7 +1,8 @@
 //! The claim of a certificate: what it is for, and whether it has the numbers of the last section.
 
-ghost use Rattle.std.specs.Prelude.{◌≡◌, ◌<◌, IsTrue, ◌↔◌, length};
-ghost use Rattle.tl_form.specs.Valid.{EndsWith, HasNumbers, IsClaimFor, IsNarrow};
+ghost use Rattle.std.specs.Prelude.{◌<◌, IsTrue, ◌↔◌, length};
+ghost use Rattle.tl_cert.specs.Text.{IsNarrow};
+ghost use Rattle.tl_form.specs.Valid.{EndsWith, HasNumbers, IsClaimFor};
 ghost use Rattle.tl_form.specs.Subjects.{meant};
 
 use tl_cert::{Certificate, Claim, Section};

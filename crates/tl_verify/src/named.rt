@@ -7,7 +7,7 @@ ghost use Rattle.tl_base.specs.declared.limits.TheConstants.{MAX_COLUMNS, MAX_PA
 ghost use Rattle.tl_base.specs.Style.{gap_of};
 ghost use Rattle.tl_problem.specs.Sizes.{room};
 ghost use Rattle.tl_cert.specs.declared.section.Section.{Section};
-ghost use Rattle.tl_cert.specs.Text.{IsWritable};
+ghost use Rattle.tl_cert.specs.Text.{IsNarrow, IsWritable};
 ghost use Rattle.tl_form.specs.declared.cell.Content.{out-Content};
 ghost use Rattle.tl_form.specs.declared.cell.Table.{out-Table};
 ghost use Rattle.tl_form.specs.declared.cell.TableCell.{out-TableCell};
@@ -17,7 +17,7 @@ ghost use Rattle.tl_form.specs.Named.{IsChosen, IsNamed};
 ghost use Rattle.tl_form.specs.Nested.{IsWithin};
 ghost use Rattle.tl_form.specs.Sound.{IsSound};
 ghost use Rattle.tl_form.specs.Tables.{tables_in, tables_of};
-ghost use Rattle.tl_form.specs.Valid.{IsNarrow, IsValid};
+ghost use Rattle.tl_form.specs.Valid.{IsValid};
 ghost use Rattle.tl_form.specs.ValidLaws.{HasHeight};
 ghost use Rattle.tl_verify.specs.inner.Naming.{CanLay, HasPart, HasRooms, HaveFewColumns, IsLaidOut, IsLower, IsPlacedBy, LaysOut, NoneWithin};
 

@@ -1,12 +1,11 @@
 //! Judges the sections of a certificate, one after the other.
 
-ghost use Rattle.std.specs.Prelude.{◌≡◌, ◌<◌, ◌≤◌, ◌^◌, length, take, get_or, IfOk, IfErr, Some, alloc_error};
+ghost use Rattle.std.specs.Prelude.{◌≡◌, ◌<◌, length, take, get_or, IfOk, IfErr, Some, alloc_error};
 ghost use Rattle.tl_base.specs.Returned.{IsMemoryOr};
-ghost use Rattle.tl_base.specs.declared.limits.TheConstants.{MAX_BUDGET, MAX_PAGE_WIDTH};
 ghost use Rattle.tl_cert.specs.declared.certificate.Certificate.{Certificate};
 ghost use Rattle.tl_cert.specs.declared.section.Section.{Section};
 ghost use Rattle.tl_cert.specs.Text.{IsWritable};
-ghost use Rattle.tl_form.specs.Expected.{IsDocumentOf, due_after, placed_width};
+ghost use Rattle.tl_form.specs.Expected.{due_after, placed_width};
 ghost use Rattle.tl_form.specs.Refusals.{IsGoodUpTo};
 ghost use Rattle.tl_form.specs.Valid.{AreWhole, HasLog, HasTrace, IsGood};
 ghost use Rattle.tl_verify.specs.declared.reject.Reject.TheVariants.{Memory};

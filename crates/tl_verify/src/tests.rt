@@ -3,9 +3,9 @@
 ghost use Rattle.std.specs.Prelude.{◌≤◌, IfOk};
 ghost use Rattle.tl_base.specs.declared.limits.TheConstants.{MAX_BUDGET, MAX_PAGE_WIDTH};
 ghost use Rattle.tl_base.specs.declared.style.Style.TheVariants.{Plain};
-ghost use Rattle.tl_cert.specs.Text.{IsWritable};
+ghost use Rattle.tl_cert.specs.Text.{IsNarrow, IsWritable};
 ghost use Rattle.tl_form.specs.Sound.{IsSound};
-ghost use Rattle.tl_form.specs.Valid.{IsNarrow, IsValid};
+ghost use Rattle.tl_form.specs.Valid.{IsValid};
 
 use crate::{Reject, layout, verify};
 use std::alloc::{AllocError, Global};

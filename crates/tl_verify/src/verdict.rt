@@ -1,12 +1,12 @@
 //! Judges a whole certificate, step by step.
 
-ghost use Rattle.std.specs.Prelude.{◌≡◌, ◌+◌, ◌<◌, ◌≤◌, IfOk, IfErr, alloc_error};
+ghost use Rattle.std.specs.Prelude.{◌≡◌, ◌<◌, ◌≤◌, IfOk, IfErr, alloc_error};
 ghost use Rattle.tl_base.specs.Returned.{IsMemoryOr, ReturnsError, ReturnsOk};
 ghost use Rattle.tl_base.specs.declared.limits.TheConstants.{MAX_BUDGET, MAX_PAGE_WIDTH};
 ghost use Rattle.tl_cert.specs.declared.certificate.Claim.{Claim};
 ghost use Rattle.tl_cert.specs.Text.{IsWritable};
 ghost use Rattle.tl_form.specs.Sound.{IsSound};
-ghost use Rattle.tl_form.specs.Valid.{IsClaimFor, IsNarrow, IsValid, IsValidFor};
+ghost use Rattle.tl_form.specs.Valid.{IsClaimFor, IsValid, IsValidFor};
 ghost use Rattle.tl_verify.specs.declared.reject.Reject.{Reject};
 ghost use Rattle.tl_verify.specs.declared.reject.Reject.TheVariants.{Memory};
 ghost use Rattle.tl_verify.specs.Verdicts.{IsReason, IsRefusedAs, verdict_on};

@@ -10,7 +10,7 @@ pub spell-word : (w : List ℕ) → spell (word w) ≡ w
 spell-word [] = refl
 spell-word (c ∷ w) = ap (λ (t : List ℕ). c ∷ t) (spell-word w)
 
-within-word : (w : List ℕ) → AllWithin (word w)
+pub within-word : (w : List ℕ) → AllWithin (word w)
 within-word [] = tt
 within-word (c ∷ w) = (tt, within-word w)
 

@@ -72,7 +72,7 @@ abbrev IsReadyFor : ℕ → Bool → Type 0
 IsReadyFor zero first = IsLater first
 IsReadyFor (suc k) first = Unit {0}
 
-abbrev end_line : List Piece
+abbrev pub end_line : List Piece
 end_line = word (codes "end\n")
 
 abbrev pub chains_form : ListForm Bool Chain Chain (Unit {0})
@@ -85,7 +85,7 @@ chains_form = record {
   IsReady = IsReadyFor;
 }
 
-exact_end_line : (IsEnd : Type 0) → IsEnd → Exact (word_at (codes "end\n")) (λ (e : Unit {0}). IsEnd) (λ e. end_line)
+pub exact_end_line : (IsEnd : Type 0) → IsEnd → Exact (word_at (codes "end\n")) (λ (e : Unit {0}). IsEnd) (λ e. end_line)
 exact_end_line IsEnd is = exact_same (λ (e : Unit {0}). IsEnd) (λ e. end_line) (exact_word (codes "end\n")) (λ e any. is) (λ e end. tt) (λ e any. refl)
 
 chains_exact : IsExactList chains_reading chains_form

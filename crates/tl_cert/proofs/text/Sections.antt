@@ -1,23 +1,21 @@
 -- Reading the sections of a certificate, and its last line, is exact.
 use Rattle.std.proofs.Common.{◌≡◌, ℕ, zero, suc, ◌≤◌, Bool, true, false, List, [], ◌∷◌, ◌++◌, length, refl, sym, ap, ◌∙◌, append_assoc, arith}
-use Rattle.std.specs.Prelude.{codes}
 use Rattle.std.specs.List.{flat_map, AllByRecursion}
 use Rattle.tl_cert.specs.declared.section.Section.{Section}
 use Rattle.tl_cert.specs.declared.areas.Areas.{Areas}
 use Rattle.tl_cert.specs.declared.areas.Areas.TheVariants.{Never, Free, Owed}
 use Rattle.tl_cert.specs.declared.limits.TheConstants.{MAX_SECTIONS}
-use Rattle.tl_cert.specs.Pieces.{Piece, word}
+use Rattle.tl_cert.specs.Pieces.{Piece}
 use Rattle.tl_cert.specs.Text.{section_pieces, log_has_area, has_area, IsSectionShaped}
 use Rattle.tl_cert.specs.inner.Areas.{Suits, for_part, after}
 use Rattle.tl_cert.specs.inner.CertReading.{sections_turn, sections_reading, sections_at}
-use Rattle.tl_cert.specs.inner.reading.Readings.{word_at}
 use Rattle.tl_cert.specs.inner.reading.Lists.{Listing}
 use Rattle.tl_cert.proofs.reading.Exact.{Exact}
-use Rattle.tl_cert.proofs.reading.Words.{exact_word}
 use Rattle.tl_cert.proofs.reading.Same.{exact_same}
 use Rattle.tl_cert.proofs.reading.ListExact.{ListForm, IsListed, list_pieces, Turns, IsExactList, exact_list}
 use Rattle.tl_cert.proofs.text.SectionParts.{IsPaid, suits_parts, suits_first, suits_others, paid_at_last, none_owed, paid_if_none}
 use Rattle.tl_cert.proofs.text.SectionReading.{IsSection, exact_section}
+use Rattle.tl_cert.proofs.text.Chains.{exact_end_line, end_line}
 
 abbrev State : Type 0
 State = Bool × Areas
@@ -34,9 +32,6 @@ abbrev IsReadyFor : ℕ → State → Type 0
 IsReadyFor zero s = IsOver (s.0) (s.1)
 IsReadyFor (suc k) s = Unit {0}
 
-abbrev end_line : List Piece
-end_line = word (codes "end\n")
-
 abbrev sections_form : ListForm State Section Section (Unit {0})
 sections_form = record {
   IsItem = λ k s section. IsSection (for_part k (s.1)) section;
@@ -46,9 +41,6 @@ sections_form = record {
   lift = λ section sections. section;
   IsReady = IsReadyFor;
 }
-
-exact_end_line : (IsEnd : Type 0) → IsEnd → Exact (word_at (codes "end\n")) (λ (e : Unit {0}). IsEnd) (λ e. end_line)
-exact_end_line IsEnd is = exact_same (λ (e : Unit {0}). IsEnd) (λ e. end_line) (exact_word (codes "end\n")) (λ e any. is) (λ e end. tt) (λ e any. refl)
 
 sections_exact : IsExactList sections_reading sections_form
 sections_exact = record {

@@ -11,7 +11,7 @@ use Rattle.tl_cert.specs.declared.certificate.Claim.TheVariants.{Lowest, Bounded
 use Rattle.tl_cert.specs.declared.certificate.Certificate.{Certificate}
 use Rattle.tl_base.specs.declared.limits.TheConstants.{MAX_PAGE_WIDTH, MAX_BUDGET, MAX_HEIGHT}
 use Rattle.tl_cert.specs.Pieces.{Piece, field, word, spell}
-use Rattle.tl_cert.specs.Text.{space, line_feed, version_word, style_word, claim_pieces, chain_pieces}
+use Rattle.tl_cert.specs.Text.{space, line_feed, version_word, style_word, claim_pieces, chain_pieces, IsNarrow}
 use Rattle.tl_cert.specs.Text.{section_pieces, cert_pieces, has_area, HasChains, HasSections, HasProof, IsShaped}
 use Rattle.tl_cert.specs.inner.Areas.{Suits}
 use Rattle.tl_cert.specs.inner.CertReading.{version_at, style_at, lowest_at, bounded_at, narrow_at}
@@ -76,11 +76,6 @@ abbrev IsBounded : Claim → Type 0
 IsBounded (Lowest height) = ⊥
 IsBounded (Bounded height lower) = Unit {0}
 IsBounded (Narrow least) = ⊥
-
-abbrev IsNarrow : Claim → Type 0
-IsNarrow (Lowest height) = ⊥
-IsNarrow (Bounded height lower) = ⊥
-IsNarrow (Narrow least) = Unit {0}
 
 abbrev first_of : Claim → ℕ
 first_of (Lowest height) = height

@@ -10,17 +10,13 @@ use Rattle.tl_grid.specs.Form.{IsRefused as HasCause}
 use Rattle.tl_tree.specs.declared.node.Block.{Block}
 use Rattle.tl_tree.specs.declared.node.CellNode.{CellNode}
 use Rattle.tl_tree.specs.declared.node.GroupNode.{GroupNode}
-use Rattle.tl_tree.specs.Outline.{Entries, block_outline, cell_outline}
+use Rattle.tl_tree.specs.Outline.{Entries, cell_outline}
 use Rattle.tl_form.specs.declared.cell.TableCell.{TableCell}
 use Rattle.tl_form.specs.declared.error.FormError.{FormError}
 use Rattle.tl_form.specs.declared.error.FormError.TheVariants as errors
 use Rattle.tl_form.specs.Formed.{OpenNode, Becomes, BecomeCells, shape_of}
 use Rattle.tl_form.specs.Refused.{NumberedShape, tables_in_block, part_of_cell, part_of_group}
 use Rattle.tl_form.specs.Sound.{place_of}
-
--- the entries of a flow
-abbrev pub flow_outline : List Block → Entries
-flow_outline flow = flat_map block_outline flow
 
 -- the entries of a row's cells
 abbrev pub cells_outline : List CellNode → Entries

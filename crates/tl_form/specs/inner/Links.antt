@@ -1,13 +1,18 @@
 -- Why a cell is as wide as it is: its own width, or the chain of a table nested in it. No public clause cites this file.
-use Rattle.std.specs.Prelude.{◌≡◌, ℕ, Some, Contains}
+use Rattle.std.specs.Prelude.{◌≡◌, ℕ, List, Some, Contains}
 use Rattle.std.specs.List.{AllByRecursion}
 use Rattle.tl_base.specs.declared.style.Style.{Style}
+use Rattle.tl_problem.specs.declared.chain.Chain.{Chain}
 use Rattle.tl_form.specs.declared.cell.Content.{Content, out-Content}
 use Rattle.tl_form.specs.declared.cell.Table.{Table, out-Table}
 use Rattle.tl_form.specs.declared.narrow.Linked.{Linked}
 use Rattle.tl_form.specs.Tables.{OpenCell, OpenContent, tables_of}
 use Rattle.tl_form.specs.Least.{IsLeastWidth}
 use Rattle.tl_form.specs.Chains.{HasWidth, IsChain}
+
+-- what the chains of a table weigh, however deep its tables are nested
+abbrev pub Weighs : Style → Table → List Chain → ℕ → Type 0
+Weighs style table chains weight = IsChain table style chains weight
 
 -- the reason for the cell's width, as an entry and its chains give it
 abbrev pub IsLinked : Style → OpenCell → ℕ → Linked → Type 0

@@ -1,5 +1,5 @@
 -- How a table is looked up by its number, table by table. No public clause cites this file.
-use Rattle.std.specs.Prelude.{◌≡◌, ℕ, List}
+use Rattle.std.specs.Prelude.{ℕ, List}
 use Rattle.std.specs.List.{Contains}
 use Rattle.tl_form.specs.declared.cell.Table.{Table}
 use Rattle.tl_form.specs.Numbered.{HasNumber, LacksNumber}

@@ -9,7 +9,7 @@ use Rattle.tl_tree.specs.Paragraphs.{leading, paragraph_of, entries_after, entri
 use Rattle.tl_tree.specs.Outline.{Entries, table, caption, columns, group, row, cell, cell_outline, group_outline}
 use Rattle.tl_tree.specs.inner.Lines.{line_atoms, line_size, blocks_outline}
 use Rattle.tl_tree.specs.inner.Machine as machine
-use Rattle.tl_tree.specs.inner.Machine.{Place, State, row_of, group_of, columns_of, move, to, never, marks_of, next, told}
+use Rattle.tl_tree.specs.inner.Machine.{Place, row_of, group_of, columns_of, move, to, marks_of}
 use Rattle.tl_tree.specs.declared.node.Block.{Block}
 use Rattle.tl_tree.specs.declared.node.CellNode.{CellNode}
 use Rattle.tl_tree.specs.declared.flow.Line.{Line}

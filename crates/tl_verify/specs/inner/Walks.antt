@@ -7,12 +7,9 @@ use Rattle.tl_problem.specs.declared.chain.Entry.{Entry}
 use Rattle.tl_form.specs.declared.cell.Table.{Table, out-Table}
 use Rattle.tl_form.specs.Chains.{AreSideBySide, HasWidth, IsChain, IsLink, Link, covered}
 use Rattle.tl_form.specs.Tables.{OpenTable, OpenCell}
+use Rattle.tl_form.specs.inner.Links.{Weighs}
 use Rattle.tl_verify.specs.declared.chains.Row.{Row}
 use Rattle.tl_verify.specs.declared.chains.Walked.{Walked}
-
--- the chains of a nested table, of any depth
-abbrev pub Weighs : Style → Table → List Chain → ℕ → Type 0
-Weighs style table chains weight = IsChain table style chains weight
 
 -- the chains from place `at` on begin with `own`, and go on from place `past` on
 pub record Begins (chains : List Chain) (at : ℕ) (own : List Chain) (past : ℕ) : Type 0 where

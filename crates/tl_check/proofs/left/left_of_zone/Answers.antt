@@ -8,10 +8,11 @@ use Rattle.tl_problem.specs.Works.{IsLeft}
 use Rattle.tl_cert.specs.Implied.{Implied}
 use Rattle.tl_cert.specs.Nogoods.{zone_bounds}
 use Rattle.tl_cert.specs.Traces.{zone_of}
+use Rattle.tl_cert.proofs.CutParts.{no_cut}
 use Rattle.tl_check.specs.declared.left.Left.TheVariants.{More}
 use Rattle.tl_check.proofs.LeftLaws.{but-found, but-none}
 use Rattle.tl_check.proofs.PartBounds.{cut-span, cut-next, part-implied, part-looked_at, whole-no_bounds}
-use Rattle.tl_check.proofs.ZoneWalks.{no_cut, cut_to, parent-there, zone-first}
+use Rattle.tl_check.proofs.ZoneWalks.{cut_to, parent-there, zone-first}
 use Rattle.tl_check.proofs.left.left_of_zone.Goals as goal
 
 pub part_bound-requires-clause-span : goal.part_bound-requires-clause-span

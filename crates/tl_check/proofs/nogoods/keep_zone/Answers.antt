@@ -8,7 +8,8 @@ use Rattle.tl_cert.specs.Nogoods.{Breaks, Meets}
 use Rattle.tl_cert.specs.Traces.{zone_of}
 use Rattle.tl_cert.proofs.TraceLaws.{zones-are}
 use Rattle.tl_cert.proofs.ZoneBounds.{zone-meets, zone-from_meets}
-use Rattle.tl_check.proofs.ZoneWalks.{no_cut, parent-there, zone-first}
+use Rattle.tl_cert.proofs.CutParts.{no_cut}
+use Rattle.tl_check.proofs.ZoneWalks.{parent-there, zone-first}
 use Rattle.tl_check.proofs.PartBounds.{cut-span, cut-next, part-inside, part-meets, part-from}
 use Rattle.tl_check.proofs.nogoods.keep_zone.Goals as goal
 

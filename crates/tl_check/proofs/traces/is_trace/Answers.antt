@@ -6,8 +6,9 @@ use Rattle.std.proofs.lemmas.List.{take_more, length-take, length-set}
 use Rattle.tl_problem.specs.Zones.{whole_zone}
 use Rattle.tl_cert.specs.declared.trace.CutAt.{CutAt}
 use Rattle.tl_cert.specs.Traces.{IsTraceOf}
+use Rattle.tl_cert.proofs.TraceLaws.{trace-push}
 use Rattle.tl_check.specs.inner.Traces.{AreFlags}
-use Rattle.tl_check.proofs.Flags.{trace-push, flags-push}
+use Rattle.tl_check.proofs.Flags.{flags-push}
 use Rattle.tl_check.proofs.traces.is_trace.Goals as goal
 
 pub loop-i-preserved : goal.loop-i-preserved

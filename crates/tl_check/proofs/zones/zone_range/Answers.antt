@@ -4,8 +4,9 @@ use Rattle.std.proofs.Common.{subst, arith}
 use Rattle.tl_problem.specs.Zones.{range_at}
 use Rattle.tl_problem.proofs.SpanningLemmas.{classes-few}
 use Rattle.tl_cert.specs.Traces.{zone_of}
+use Rattle.tl_cert.proofs.CutParts.{no_cut}
 use Rattle.tl_check.specs.inner.Zones.{IsWithinClasses}
-use Rattle.tl_check.proofs.ZoneWalks.{no_cut, walk-start, walk-end, walk-low, walk-high, walk-other, parent-there, cut-class}
+use Rattle.tl_check.proofs.ZoneWalks.{walk-start, walk-end, walk-low, walk-high, walk-other, parent-there, cut-class}
 use Rattle.tl_check.proofs.zones.zone_range.Goals as goal
 
 pub zones-init : goal.zones-init

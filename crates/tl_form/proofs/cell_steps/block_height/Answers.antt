@@ -1,10 +1,8 @@
-use Rattle.std.proofs.Common.{◌≡◌, List, Option, Some, ap, length, get_or, subst, sym, ◌∙◌, arith}
+use Rattle.std.proofs.Common.{ap, ◌∙◌}
 use Rattle.tl_form.specs.declared.cell.Content.{out-Content}
-use Rattle.tl_form.specs.declared.cell.Content.TheVariants.{outs-Para, outs-Table}
-use Rattle.tl_form.specs.declared.cell.TableCell.{out-TableCell}
-use Rattle.tl_form.specs.Problems.{AreStepsOf, BlockNeeds, CellNeeds}
-use Rattle.tl_form.specs.inner.CellSteps.{From, HaveSteps, IsStart, NeedsBy, bound_of}
-use Rattle.tl_form.proofs.CellNeedLemmas.{height-paragraph, height-table, paragraph-height, table-height}
+use Rattle.tl_form.specs.declared.cell.Content.TheVariants.{outs-Para}
+use Rattle.tl_form.specs.inner.CellSteps.{NeedsBy}
+use Rattle.tl_form.proofs.CellNeedLemmas.{height-paragraph}
 use Rattle.tl_form.proofs.ParagraphSteps.{some-lines}
 use Rattle.tl_form.proofs.cell_steps.block_height.Goals as goal
 

@@ -1,9 +1,7 @@
-use Rattle.std.proofs.Common.{◌≡◌, List, Option, Some, ap, length, get_or, subst, sym, ◌∙◌, arith}
+use Rattle.std.proofs.Common.{ap, ◌∙◌}
 use Rattle.tl_form.specs.declared.cell.Content.{out-Content}
 use Rattle.tl_form.specs.declared.cell.Content.TheVariants.{outs-Para, outs-Table}
-use Rattle.tl_form.specs.declared.cell.TableCell.{out-TableCell}
-use Rattle.tl_form.specs.Problems.{AreStepsOf, BlockNeeds, CellNeeds}
-use Rattle.tl_form.specs.inner.CellSteps.{From, HaveSteps, IsStart, NeedsBy, bound_of}
+use Rattle.tl_form.specs.inner.CellSteps.{NeedsBy, bound_of}
 use Rattle.tl_form.proofs.CellNeedLemmas.{paragraph-begins, table-begins}
 use Rattle.tl_form.proofs.cell_steps.block_start.Goals as goal
 

@@ -1,9 +1,8 @@
-use Rattle.std.proofs.Common.{◌≡◌, ◌≤◌, ℕ, List, Ok, Err, Option, Some, ap, length, get_or, subst, sym, ◌∙◌, arith, IfOk}
+use Rattle.std.proofs.Common.{◌≡◌, Some, ap, subst, ◌∙◌}
 use Rattle.tl_form.specs.declared.cell.Content.{out-Content}
 use Rattle.tl_form.specs.declared.cell.Content.TheVariants.{outs-Para, outs-Table}
-use Rattle.tl_form.specs.declared.cell.TableCell.{out-TableCell}
-use Rattle.tl_form.specs.Problems.{AreStepsOf, BlockNeeds, CellNeeds}
-use Rattle.tl_form.specs.inner.CellSteps.{From, HaveSteps, IsStart, NeedsBy, bound_of}
+use Rattle.tl_form.specs.Problems.{AreStepsOf, BlockNeeds}
+use Rattle.tl_form.specs.inner.CellSteps.{From, NeedsBy, bound_of}
 use Rattle.std.proofs.lemmas.Result.{IfOk-weaker}
 use Rattle.tl_base.specs.Steps.{AreSteps, height_at}
 use Rattle.tl_form.proofs.CellNeedLemmas.{block-between, height-paragraph, height-table, paragraph-height, table-height}

@@ -1,10 +1,7 @@
-use Rattle.std.proofs.Common.{◌≡◌, ◌+◌, ◌<◌, ◌≤◌, List, take, Option, Some, ap, length, get_or, refl, subst, sym, ◌∙◌, arith}
+use Rattle.std.proofs.Common.{◌≡◌, ◌+◌, ◌<◌, ◌≤◌, take, length, get_or, refl, subst, sym, arith}
 use Rattle.tl_form.specs.declared.cell.Content.{out-Content}
-use Rattle.tl_form.specs.declared.cell.Content.TheVariants.{outs-Para, outs-Table}
 use Rattle.tl_form.specs.declared.cell.TableCell.{out-TableCell}
-use Rattle.tl_form.specs.Problems.{AreStepsOf, BlockNeeds, CellNeeds}
-use Rattle.tl_form.specs.inner.CellSteps.{From, HaveSteps, IsStart, NeedsBy, bound_of}
-use Rattle.std.proofs.lemmas.List.{take_all}
+use Rattle.tl_form.specs.inner.CellSteps.{HaveSteps, NeedsBy, bound_of}
 use Rattle.tl_form.proofs.CellNeedLemmas.{LowSoFar, block-at, cell-blocks, high-so-far, inner-functional, low-all, low-more}
 use Rattle.tl_form.proofs.ProblemCells.{have-blocks}
 use Rattle.tl_form.proofs.SoundParts.{at_item}

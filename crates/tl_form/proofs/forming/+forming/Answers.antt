@@ -4,6 +4,7 @@ use Rattle.std.specs.List.Sorted.{IsPermutation, IsNonDecreasingBy}
 use Rattle.std.proofs.lemmas.List.{take_all, length-map, length-take}
 use Rattle.tl_base.specs.Returned.{IsMemoryOr}
 use Rattle.tl_base.specs.declared.limits.TheConstants.{MAX_ROWS}
+use Rattle.tl_tree.specs.inner.Lines.{blocks_outline}
 use Rattle.tl_grid.specs.declared.shape.Place.{Place}
 use Rattle.tl_grid.proofs.Laws.{all_within}
 use Rattle.tl_tree.specs.Outline.{block_outline, cell_outline, group_outline}
@@ -17,7 +18,7 @@ use Rattle.tl_form.specs.declared.cell.Table.{out-roll-Table}
 use Rattle.tl_form.specs.declared.error.FormError.TheVariants.{Memory}
 use Rattle.tl_form.specs.Formed.{Becomes, BecomesContent, BecomeContents, cells_of_group, cells_written, lowered, shape_of}
 use Rattle.tl_form.specs.Refused.{CellPart, GroupPart, HasSomeGrid, AreRefused, IsRefused, tables_in_block, part_of_cell, part_of_group}
-use Rattle.tl_form.specs.inner.Forming.{Writes, cells_outline, flow_outline, slot_number, tables_in_cells, tables_in_flow, tables_in_groups}
+use Rattle.tl_form.specs.inner.Forming.{Writes, cells_outline, slot_number, tables_in_cells, tables_in_flow, tables_in_groups}
 use Rattle.tl_form.proofs.SoundNodes.{sound_each, cell_flow, group_rows, table_groups, table_caption, shape_spans}
 use Rattle.tl_form.proofs.SoundParts.{at_item}
 use Rattle.tl_form.proofs.TreeParts.{part_of_cell-out, part_of_group-out}
@@ -44,7 +45,7 @@ contents-loop-block-preserved t c =
 pub cell-contents-requires : goal.cell-contents-requires
 cell-contents-requires t c = (
   search (rules, the_lemmas),
-  subst (λ flow. AreSound (flow_outline flow)) (sym c.as_slice.ensures) (cell_flow c.args.node.now c.requires),
+  subst (λ flow. AreSound (blocks_outline flow)) (sym c.as_slice.ensures) (cell_flow c.args.node.now c.requires),
 )
 
 pub cell-returns-in_err-blocks-clause-err : goal.cell-returns-in_err-blocks-clause-err
@@ -58,7 +59,7 @@ cell-returns-in_err-blocks-clause-err t c =
 pub caption_cells-contents-requires : goal.caption_cells-contents-requires
 caption_cells-contents-requires t c = (
   search (rules, the_lemmas),
-  subst (λ flow. AreSound (flow_outline flow)) (sym c.as_slice.ensures) (table_caption c.args.node.now c.in-Some.flow c.in-Some.is c.requires),
+  subst (λ flow. AreSound (blocks_outline flow)) (sym c.as_slice.ensures) (table_caption c.args.node.now c.in-Some.flow c.in-Some.is c.requires),
 )
 
 pub contents-returns-in_err-made-clause-err : goal.contents-returns-in_err-made-clause-err

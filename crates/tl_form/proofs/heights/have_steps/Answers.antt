@@ -1,12 +1,9 @@
-use Rattle.std.proofs.Common.{◌≡◌, ◌+◌, ◌<◌, ◌≤◌, List, ap, length, get_or, refl, subst, sym, take, ◌∙◌}
+use Rattle.std.proofs.Common.{◌≡◌, ◌<◌, ◌≤◌, length, get_or, refl, subst, sym, ◌∙◌}
 use Rattle.std.specs.List.{AllByRecursion}
-use Rattle.std.specs.Option.{IsSome}
 use Rattle.std.proofs.lemmas.List.{take_all}
-use Rattle.tl_form.specs.declared.cell.Content.{out-Content}
-use Rattle.tl_form.specs.declared.cell.Content.TheVariants.{outs-Para, outs-Table}
 use Rattle.tl_form.specs.declared.cell.Table.{out-Table}
 use Rattle.tl_form.specs.declared.cell.TableCell.{out-TableCell}
-use Rattle.tl_form.specs.Tables.{inner_tables, tables_in, tables_of}
+use Rattle.tl_form.specs.Tables.{tables_in}
 use Rattle.tl_form.specs.inner.CellSteps.{HaveSteps}
 use Rattle.tl_form.proofs.SoundParts.{at_item}
 use Rattle.tl_form.proofs.ProblemCells.{each-have, have-each, have-more}

@@ -1,11 +1,8 @@
-use Rattle.std.proofs.Common.{◌≡◌, ◌∙◌, List, true, false, sym, subst}
+use Rattle.std.proofs.Common.{◌≡◌, ◌∙◌, true, false, sym, subst}
 use Rattle.tl_form.specs.declared.cell.Table.{out-Table}
-use Rattle.tl_form.specs.declared.heights.InnerSteps.{InnerSteps}
 use Rattle.tl_form.specs.Nested.{AreInnerSteps}
 use Rattle.tl_form.specs.Problems.{HasSoundProblem}
 use Rattle.tl_form.specs.Tables.{inner_tables}
-use Rattle.tl_form.specs.inner.CellSteps.{HaveSteps}
-use Rattle.tl_form.proofs.Collected.{have_steps}
 use Rattle.tl_form.proofs.OneProblem.{one_inner}
 use Rattle.tl_form.proofs.nested_steps.inner_steps.Goals as goal
 

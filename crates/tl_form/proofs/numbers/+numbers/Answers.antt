@@ -3,7 +3,7 @@ use Rattle.tl_form.specs.declared.cell.Content.{out-Content}
 use Rattle.tl_form.specs.declared.cell.TableCell.{out-TableCell}
 use Rattle.tl_form.specs.declared.cell.Table.{out-Table}
 use Rattle.tl_form.specs.Tables.{tables_of, tables_in}
-use Rattle.tl_form.proofs.NumberLemmas.{deeper, own, none_of, has_one, lack_more, lack_all}
+use Rattle.tl_form.proofs.NumberLemmas.{deeper, none_of, has_one, lack_more, lack_all}
 use Rattle.tl_form.proofs.numbers.+numbers.Goals as goal
 
 pub number_in_cell-returns-in-Some : goal.number_in_cell-returns-in-Some

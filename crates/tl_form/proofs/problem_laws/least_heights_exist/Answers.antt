@@ -1,4 +1,4 @@
-use Rattle.std.proofs.Common.{◌⊎◌, inl, inr}
+use Rattle.std.proofs.Common.{inl, inr}
 use Rattle.tl_form.proofs.LeastExists.{settles}
 use Rattle.tl_form.proofs.problem_laws.least_heights_exist.Goals as goal
 

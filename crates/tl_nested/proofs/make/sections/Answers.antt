@@ -1,11 +1,12 @@
 use Rattle.std.proofs.Common.{subst}
+use Rattle.tl_form.proofs.SubjectLemmas.{ok_weaker}
 use Rattle.tl_nested.specs.Searched.{AreSectionsOf}
 use Rattle.tl_nested.proofs.Made.{sections_more}
-use Rattle.tl_nested.proofs.Ready.{weaker}
 use Rattle.tl_nested.proofs.make.sections.Goals as goal
 
 pub returns-clause-expected : goal.returns-clause-expected
-returns-clause-expected g c = weaker c.sections_by.result _ (AreSectionsOf (λ problem outcome. g.M.Make.besides c.args.maker.now problem c.args.budget outcome)
+returns-clause-expected g c = ok_weaker c.sections_by.result _
+    (AreSectionsOf (λ problem outcome. g.M.Make.besides c.args.maker.now problem c.args.budget outcome)
     c.args.table.now c.args.style c.args.width c.args.budget)
     (sections_more _ (λ problem outcome. g.M.Make.besides c.args.maker.now problem c.args.budget outcome) (λ problem outcome is.
     subst (λ p. g.M.Make.besides c.args.maker.now p c.args.budget outcome) is.argument_is is.call.1)

@@ -5,7 +5,8 @@ use Rattle.tl_form.specs.Nested.{AreInnerSteps}
 use Rattle.tl_form.specs.Problems.{HasSoundProblem, IsProblemOf}
 use Rattle.tl_form.specs.Subjects.{due_of, meant}
 use Rattle.tl_form.specs.Valid.{IsProblemAt}
-use Rattle.tl_nested.proofs.Ready.{it_is, may, narrow, problem_due, some, sound_one, weaker, wide}
+use Rattle.tl_form.proofs.SubjectLemmas.{it_is, ok_weaker}
+use Rattle.tl_nested.proofs.Ready.{may, narrow, problem_due, some, sound_one, wide}
 use Rattle.tl_nested.proofs.searching.problem_at.Goals as goal
 
 pub table_of-table-requires-clause-from : goal.table_of-table-requires-clause-from
@@ -61,7 +62,7 @@ returns c =
     c.unwrap-inner.ensures c.in_ok-inner_steps.ensures in
     let inner = c.as_slice.result.now in
     let both = subst (λ inner. AreInnerSteps one style w before inner × HasSoundProblem one style w inner) (sym c.as_slice.ensures) found in
-    weaker c.problem.result (IsProblemOf one style w inner)
+    ok_weaker c.problem.result (IsProblemOf one style w inner)
     (λ problem. (section : Section) → section.table ≡ c.args.due.table → section.width ≡ w → IsProblemAt (meant c.args.subject.now) before section problem)
     (λ problem made section table width. problem_due c.args.subject.now c.requires.subject c.requires.wide before c.requires.good.0 c.requires.good.1
     (due_of c.args.due) c.requires.next one c.table_of-table.ensures inner both.0 both.1 problem made section table width) c.problem.ensures

@@ -2,6 +2,7 @@
 use Rattle.std.proofs.Common.{◌≡◌, ◌∙◌, ◌+◌, ◌<◌, ◌≤◌, ℕ, List, Some, None, get_or, length, sym, ap, ap₂, subst, rules, arith}
 use Rattle.tl_base.specs.Style.{gap_of, row_gap_of, edge_of}
 use Rattle.tl_problem.specs.Sizes.{room, total}
+use Rattle.tl_problem.proofs.SizeLaws.{room-total}
 use Rattle.tl_form.specs.declared.cell.Content.{out-Content, the_lemmas}
 use Rattle.tl_form.specs.declared.cell.Content.TheOpen as open_content
 use Rattle.tl_form.specs.declared.cell.Content.TheVariants.{outs-Para, outs-Table}
@@ -16,7 +17,7 @@ use Rattle.tl_page.specs.inner.Taking.{TakesBlock, TakesCell, TakesTable}
 use Rattle.tl_page.proofs.Taking.{paragraph-takes, paragraph-too-wide, nested-takes, nested-fits-none, blocks_taken-none}
 use Rattle.tl_page.proofs.Taking.{blocks_taken-more, blocks_taken-stuck, blocks_taken-high, blocks_taken-all}
 use Rattle.tl_page.proofs.Taking.{cells_taken-more, cells_taken-stuck, cells_taken-over, cells_taken-all}
-use Rattle.tl_page.proofs.Fitting.{room-total, sound_table}
+use Rattle.tl_page.proofs.Fitting.{sound_table}
 use Rattle.tl_page.proofs.Progress.{placed_cell}
 use Rattle.tl_page.proofs.measure.+measure.Goals as goal
 

@@ -1,10 +1,8 @@
 -- The last section has few columns.
-use Rattle.std.proofs.Common.{◌≡◌, ◌≤◌, ℕ, List, length, Option, Some, None, sym, ap, subst, ◌∙◌}
-use Rattle.std.specs.Prelude.{option_map}
+use Rattle.std.proofs.Common.{◌≡◌, ◌≤◌, ℕ, List, length, Some, None, sym, ap, subst, ◌∙◌}
 use Rattle.std.specs.List.{last_or}
 use Rattle.tl_base.specs.declared.limits.TheConstants.{MAX_COLUMNS}
 use Rattle.tl_base.specs.Style.{gap_of, edge_of}
-use Rattle.tl_cert.specs.declared.section.Section.{Section}
 use Rattle.tl_problem.specs.Sizes.{total}
 use Rattle.tl_program.specs.Checks.{page_columns}
 use Rattle.tl_program.specs.inner.Claims.{HasFewColumns}

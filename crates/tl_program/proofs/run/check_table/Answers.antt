@@ -1,5 +1,5 @@
 -- What was loaded of the certificate is judged as its file is.
-use Rattle.std.proofs.Common.{◌≡◌, ◌≤◌, ◌+◌, ℕ, List, length, Option, subst, sym}
+use Rattle.std.proofs.Common.{◌≡◌, ◌≤◌, ◌+◌, ℕ, List, length, Option, subst}
 use Rattle.std.specs.Prelude.{IfOk, IfSome}
 use Rattle.tl_base.specs.declared.limits.TheConstants.{MAX_CERTIFICATE_BYTES}
 use Rattle.tl_base.specs.Desk.{IsReadFrom, Rose}

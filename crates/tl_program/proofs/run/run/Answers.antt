@@ -1,8 +1,7 @@
 -- A run is complete by how it ends.
-use Rattle.std.proofs.Common.{◌≡◌, sym, subst, ℕ, List, map, string_bytes}
+use Rattle.std.proofs.Common.{◌≡◌, sym, subst, ℕ, List}
 use Rattle.tl_program.specs.Change.{Change}
 use Rattle.tl_program.specs.Complete.{IsComplete, IsRefusedSo, IsAcceptedSo, IsRejectedSo, AcceptsLaid}
-use Rattle.tl_program.specs.Messages.{number_of}
 use Rattle.tl_program.proofs.Accepting.{accepts_laid}
 use Rattle.tl_program.proofs.Checked.{accepted_so, rejected_so}
 use Rattle.tl_program.proofs.Ends.{complete, refused_so}

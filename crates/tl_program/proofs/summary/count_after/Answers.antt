@@ -1,5 +1,5 @@
 -- The sections before the table's own, on any document of it.
-use Rattle.std.proofs.Common.{◌≡◌, ℕ, List, length, Some, sym, subst}
+use Rattle.std.proofs.Common.{◌≡◌, length, Some, subst}
 use Rattle.tl_base.specs.declared.style.Style.TheVariants.{Plain}
 use Rattle.tl_demo.specs.declared.laws.TheConstants.{DEMO_WIDTH}
 use Rattle.tl_form.specs.declared.cell.Table.{out-Table}

@@ -1,5 +1,5 @@
 -- The text of the number is read as a table that fits the page.
-use Rattle.std.proofs.Common.{◌≡◌, ℕ, Option, Some, sym, subst, ◌∙◌, arith}
+use Rattle.std.proofs.Common.{Option, sym, subst, ◌∙◌, arith}
 use Rattle.std.specs.Prelude.{IsSome, IsSomeAnd}
 use Rattle.tl_form.specs.declared.cell.Table.{Table}
 use Rattle.tl_program.specs.inner.Readings.{table_in}

@@ -2,6 +2,7 @@ use Rattle.std.proofs.Common.{◌≡◌, ◌-◌, ℕ, List, [], ◌∷◌, ◌+
 use Rattle.std.specs.Str.{chars}
 use Rattle.std.proofs.lemmas.List.{append-nil}
 use Rattle.tl_base.specs.Text.{byte_count}
+use Rattle.tl_base.proofs.Texts.{byte_count-chars}
 use Rattle.tl_token.specs.Spelling.{part, place_of, Leads, here, tokens_of, characters, without_mark}
 use Rattle.tl_token.specs.inner.Reader.{unread}
 use Rattle.tl_token.specs.inner.Found.{piece_of, fault_of}
@@ -10,7 +11,7 @@ use Rattle.tl_token.specs.Spelling.{Refused}
 use Rattle.tl_token.specs.declared.token.TokenError.{TokenError}
 use Rattle.tl_token.proofs.Endings.{leads_more}
 use Rattle.tl_token.proofs.Sizes.{piece_le}
-use Rattle.tl_token.proofs.SpellingLemmas.{mark_passed, mark_le, bytes_of, stands_there, fault_there, refused}
+use Rattle.tl_token.proofs.SpellingLemmas.{mark_passed, mark_le, stands_there, fault_there, refused}
 use Rattle.tl_token.proofs.file.read.Goals as goal
 
 pub overflow_sub-first : goal.overflow_sub-first
@@ -18,7 +19,7 @@ overflow_sub-first c =
     let text = c.args.text.now in
     let passed : characters text ≡ unread c.eat.new.self =
     ap without_mark (sym c.new-reader.ensures) ∙ mark_passed (unread c.new-reader.result) (unread c.eat.new.self) c.eat.result c.eat.ensures in
-    omega (arith, c.len.ensures, ap byte_count passed, mark_le (chars text), bytes_of text c.utf8.text)
+    omega (arith, c.len.ensures, ap byte_count passed, mark_le (chars text), byte_count-chars text c.utf8.text)
 
 pub loop-c-init : goal.loop-c-init
 loop-c-init c =
@@ -31,7 +32,7 @@ loop-c-init c =
       subst P passed here,
       (λ later. sym (c.new-output.ensures later)),
       ap (λ n. size - n) c.len.ensures,
-      omega (arith, ap byte_count passed, mark_le (chars text), bytes_of text c.utf8.text),
+      omega (arith, ap byte_count passed, mark_le (chars text), byte_count-chars text c.utf8.text),
     )
 
 pub returns-in-Err-clause-err : goal.returns-in-Err-clause-err

@@ -2,9 +2,9 @@ use Rattle.std.proofs.Common.{◌≡◌, ◌∙◌, ◌-◌, ◌<◌, List, None
 use Rattle.std.specs.List.{last_or}
 use Rattle.std.specs.Option.{IsSomeAnd}
 use Rattle.std.proofs.lemmas.List.{take_all}
+use Rattle.tl_base.proofs.Decreasing.{last_or-take}
 use Rattle.tl_cert.specs.declared.section.Section.{Section}
 use Rattle.tl_form.specs.Valid.{HasNumbers}
-use Rattle.tl_form.proofs.ValidLaws.{last_or-take}
 use Rattle.tl_verify.proofs.claim.ends_with.Goals as goal
 
 last_is : (sections : List Section) (last : Section) → 0 < length sections → last ≡ get_or sections (length sections - 1) last →

@@ -1,6 +1,7 @@
-use Rattle.std.proofs.Common.{◌≡◌, ◌∷◌, ℕ, Option, None, Some, refl, sym, subst, ap, arith, length}
-use Rattle.std.specs.Option.{MatchOption}
+use Rattle.std.proofs.Common.{◌≡◌, ◌∷◌, ℕ, sym, subst, ap, arith, length}
 use Rattle.std.proofs.lemmas.List.Elements.{All-head}
+use Rattle.std.proofs.lemmas.Option.{MatchOption-at_some}
+use Rattle.tl_base.proofs.Options.{match-none}
 use Rattle.tl_cert.specs.declared.trace.CutAt.{CutAt}
 use Rattle.tl_cert.specs.Traces.{Stands, zone_of}
 use Rattle.tl_astar.specs.inner.Frontier.{IsShut, IsUnderBounds}
@@ -10,13 +11,6 @@ use Rattle.tl_astar.specs.inner.Searches.{AreLeft, open_zones}
 use Rattle.tl_astar.proofs.FrontierLaws.{frontier-shut}
 use Rattle.tl_astar.proofs.SearchLaws.{left-kept, least-kept}
 use Rattle.tl_astar.proofs.best.BestSolver.solve.Goals as goal
-
-match-none : {A : Type 0} (o : Option A) (P : Type 0) (Q : A → Type 0) → MatchOption o P Q → ((x : A) → o ≡ Some x → ⊥) → P
-match-none None P Q holds not = holds
-match-none (Some x) P Q holds not = absurd (not x refl)
-
-match-some : {A : Type 0} (o : Option A) (x : A) (P : Type 0) (Q : A → Type 0) → o ≡ Some x → MatchOption o P Q → Q x
-match-some o x P Q same holds = subst (λ found. MatchOption found P Q) same holds
 
 pub choose-requires-clause-stands : goal.choose-requires-clause-stands
 choose-requires-clause-stands c =
@@ -29,7 +23,7 @@ cut-requires-clause-left c =
     let s = c.next.new.self in
     let t = c.choose.new.self in
     let told = c.in_ok-cut.ensures in
-    let top = match-some c.in_ok-cut.field-0 c.in-Some-2.cut _ (λ (cut : CutAt). cut.zone ≡ c.in-Some.zone) c.in-Some-2.is told.shut in
+    let top = MatchOption-at_some _ (λ (cut : CutAt). cut.zone ≡ c.in-Some.zone) c.in-Some-2.cut c.in-Some-2.is told.shut in
     subst (λ z. AreLeft p t (z ∷ open_zones t)) (sym top)
     (left-kept p s t told.opens told.trace (λ zones. c.in-Some.zone ∷ zones) told.lowered c.in-Some.ensures.left)
 
@@ -39,7 +33,7 @@ cut-requires-clause-least c =
     let s = c.next.new.self in
     let t = c.choose.new.self in
     let told = c.in_ok-cut.ensures in
-    let top = match-some c.in_ok-cut.field-0 c.in-Some-2.cut _ (λ (cut : CutAt). cut.zone ≡ c.in-Some.zone) c.in-Some-2.is told.shut in
+    let top = MatchOption-at_some _ (λ (cut : CutAt). cut.zone ≡ c.in-Some.zone) c.in-Some-2.cut c.in-Some-2.is told.shut in
     subst (λ z. (bound : ℕ) → IsBoundOf p t.arena.trace z bound → IsUnderBounds p t.arena.trace bound (open_zones t)) (sym top)
     (least-kept p s t told.opens told.trace c.in-Some.zone c.in-Some.ensures.least)
 

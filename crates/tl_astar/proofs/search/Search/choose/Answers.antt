@@ -1,5 +1,5 @@
-use Rattle.std.proofs.Common.{◌≡◌, Option, None, Some, refl, sym, ◌∙◌, subst, ap}
-use Rattle.std.specs.Option.{IfNone}
+use Rattle.std.proofs.Common.{◌≡◌, sym, ◌∙◌, subst, ap}
+use Rattle.tl_base.proofs.Options.{not-some}
 use Rattle.tl_cert.specs.Traces.{IsZoneOf, zone_of}
 use Rattle.tl_solve.specs.declared.arena.Arena.{Arena}
 use Rattle.tl_solve.specs.Orders.{IsFirstCut}
@@ -7,10 +7,6 @@ use Rattle.tl_solve.proofs.ArenaLaws.{arena-zone}
 use Rattle.tl_astar.specs.inner.Frontier.{IsShut, PartsRange}
 use Rattle.tl_astar.proofs.SearchLaws.{zone-there, zone-lent, first-parts, parts-cut}
 use Rattle.tl_astar.proofs.search.Search.choose.Goals as goal
-
-not-some : {A : Type 0} (o : Option A) (P : Type 0) → IfNone o P → ((x : A) → o ≡ Some x → ⊥) → P
-not-some None P holds not = holds
-not-some (Some x) P holds not = absurd (not x refl)
 
 pub bounds-zones-zone : goal.bounds-zones-zone
 bounds-zones-zone c =

@@ -1,12 +1,8 @@
-use Rattle.std.proofs.Common.{Option, None, Some, IsTrue, false, inl, inr, sym, subst, rules}
-use Rattle.std.specs.Option.{IfNone}
+use Rattle.std.proofs.Common.{IsTrue, false, inl, inr, sym, subst, rules}
+use Rattle.tl_base.proofs.Options.{if_none}
 use Rattle.tl_astar.specs.inner.Searches.{IsSearchOf}
 use Rattle.tl_astar.proofs.search.Search.first_cut.Goals.{else-self-via-then-self+else-is_area_enough, else-self-via-else-self}
 use Rattle.tl_astar.proofs.search.Search.first_cut.Goals as goal
-
-if_none : {A : Type 0} (o : Option A) (P : Type 0) → P → IfNone o P
-if_none None P holds = holds
-if_none (Some x) P holds = tt
 
 not-true : IsTrue false → ⊥
 not-true is = cc

@@ -1,7 +1,8 @@
-use Rattle.std.proofs.Common.{◌≡◌, ◌∷◌, false, true, map, Option, None, Some, refl, sym, ◌∙◌, subst, ap, arith, length}
+use Rattle.std.proofs.Common.{◌≡◌, ◌∷◌, false, true, map, Option, None, Some, sym, ◌∙◌, subst, ap, arith, length}
 use Rattle.std.specs.BinaryHeap.{heap_items, heap_len}
 use Rattle.std.specs.Option.{IfNone, is_some}
 use Rattle.std.proofs.lemmas.List.Elements.{All-head}
+use Rattle.tl_base.proofs.Options.{not-some}
 use Rattle.tl_cert.specs.Traces.{Stands}
 use Rattle.tl_solve.specs.declared.arena.Arena.{Arena}
 use Rattle.tl_astar.specs.declared.opens.OpenZones.{OpenZones}
@@ -16,10 +17,6 @@ none-holds None P none holds = holds
 none-holds (Some x) P some holds = absurd (not some) where
   not : true ≡ false → ⊥
   not same = cc
-
-not-some : {A : Type 0} (o : Option A) (P : Type 0) → IfNone o P → ((x : A) → o ≡ Some x → ⊥) → P
-not-some None P holds not = holds
-not-some (Some x) P holds not = absurd (not x refl)
 
 pub first_cut-requires-clause-search : goal.first_cut-requires-clause-search
 first_cut-requires-clause-search c =

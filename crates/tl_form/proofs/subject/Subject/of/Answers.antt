@@ -1,8 +1,7 @@
-use Rattle.std.proofs.Common.{◌+◌, ◌≤◌, ◌∙◌, ap, sym, subst, rules, arith}
+use Rattle.std.proofs.Common.{◌≤◌, sym, subst, arith}
 use Rattle.std.specs.List.{All}
 use Rattle.std.proofs.lemmas.List.Elements.{All-push}
 use Rattle.tl_base.specs.declared.limits.TheConstants.{MAX_HEIGHT}
-use Rattle.tl_form.specs.Sound.{nested_in_table}
 use Rattle.tl_form.proofs.SubjectLemmas.{leasts_more, document_made}
 use Rattle.tl_form.proofs.subject.Subject.of.Goals as goal
 

@@ -1,5 +1,5 @@
-use Rattle.std.proofs.Common.{length, Option, Some, None, inr, sym, ap, ◌∙◌, subst, arith}
-use Rattle.std.specs.Option.{IfNone}
+use Rattle.std.proofs.Common.{length, inr, sym, ap, ◌∙◌, subst, arith}
+use Rattle.tl_base.proofs.Options.{if_none}
 use Rattle.tl_problem.specs.Agreement.{HasOneClass}
 use Rattle.tl_problem.specs.Zones.{range_at, whole_zone}
 use Rattle.tl_cert.specs.Traces.{zone_of}
@@ -7,7 +7,7 @@ use Rattle.tl_solve.specs.Arenas.{IsBoundFound}
 use Rattle.tl_solve.specs.Orders.{IsFirstOpen}
 use Rattle.tl_solve.proofs.Agreeing.{one_class-differ}
 use Rattle.tl_solve.proofs.ArenaLaws.{arena-item, arena-zone}
-use Rattle.tl_solve.proofs.FewSpans.{spans-few}
+use Rattle.tl_problem.proofs.SpanningLemmas.{spans-few}
 use Rattle.tl_solve.proofs.ZoneLists.{zones-count}
 use Rattle.tl_solve.proofs.arena.Arena.first_cut.Goals as goal
 
@@ -24,10 +24,6 @@ first_open-requires c =
     let few = spans-few p c.requires.arena.work.sound in
     let spans = (arena-zone p arena c.requires.arena c.args.zone c.requires.there).spans in
     omega (arith, ap length (c.ranges-ranges.ensures ∙ same), few, spans)
-
-if_none : {A : Type 0} (o : Option A) (P : Type 0) → P → IfNone o P
-if_none None P holds = holds
-if_none (Some x) P holds = tt
 
 pub returns-in_err-span-clause-closed : goal.returns-in_err-span-clause-closed
 returns-in_err-span-clause-closed c =

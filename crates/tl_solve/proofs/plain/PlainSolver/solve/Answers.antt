@@ -1,7 +1,7 @@
 -- The stack and the order of the cuts go on by what the arena ensures.
-use Rattle.std.proofs.Common.{◌≡◌, ◌+◌, ◌*◌, ◌++◌, ◌∷◌, [], length, Option, Some, None, inl, inr, refl, sym, ap, ◌∙◌, subst, arith, length-append}
-use Rattle.std.specs.Option.{MatchOption}
+use Rattle.std.proofs.Common.{◌≡◌, ◌+◌, ◌*◌, ◌++◌, ◌∷◌, [], length, inl, inr, sym, ap, ◌∙◌, subst, arith, length-append}
 use Rattle.std.proofs.lemmas.Bool.{cases_lt}
+use Rattle.tl_base.proofs.Options.{match-none}
 use Rattle.tl_cert.specs.Traces.{zone_of}
 use Rattle.tl_cert.specs.Worked.{IsClosed}
 use Rattle.tl_solve.specs.inner.Walk.{IsStack, KeepsOrder}
@@ -9,10 +9,6 @@ use Rattle.tl_solve.proofs.ArenaLaws.{arena-keen, arena-zone, lowered-le}
 use Rattle.tl_solve.proofs.WalkLaws.{top-stands, stack-start, order-start, stack-closed, stack-cut, order-cut, stack-end, first-is_cut, plain-ends}
 use Rattle.tl_solve.proofs.WalkLaws.{plain-outcome}
 use Rattle.tl_solve.proofs.plain.PlainSolver.solve.Goals as goal
-
-match-none : {A : Type 0} (o : Option A) (P : Type 0) (Q : A → Type 0) → MatchOption o P Q → ((x : A) → o ≡ Some x → ⊥) → P
-match-none None P Q holds not = holds
-match-none (Some x) P Q holds not = absurd (not x refl)
 
 pub loop-zone-init : goal.loop-zone-init
 loop-zone-init c =

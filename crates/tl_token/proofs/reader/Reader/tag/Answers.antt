@@ -2,7 +2,7 @@ use Rattle.std.proofs.Common.{◌≡◌, ◌||◌, sym, ap, ◌∙◌, cond}
 use Rattle.std.specs.Char.{is_ascii_alphanumeric}
 use Rattle.tl_token.specs.Characters.{◌∈◌, is_gap, begins, run, past}
 use Rattle.tl_token.specs.Elements.{element_of, spans_of}
-use Rattle.tl_token.specs.inner.States.{read, tag_name, between, empty_tag, with_more}
+use Rattle.tl_token.specs.inner.States.{read, between, empty_tag, with_more}
 use Rattle.tl_token.specs.inner.Reading.{tag_found, known_or_not, stands}
 use Rattle.tl_token.specs.Grammar.{tag}
 use Rattle.tl_token.specs.declared.token.TokenKind.TheVariants.{Start, End}

@@ -3,8 +3,9 @@ use Rattle.std.proofs.lemmas.Bool.Decides.{nat_tests}
 use Rattle.std.specs.Str.{chars}
 use Rattle.std.proofs.lemmas.Str.{chars-nil, IsUtf8-string_bytes}
 use Rattle.std.proofs.lemmas.List.{append-nil}
+use Rattle.tl_token.proofs.Saturating.{chars_none}
 use Rattle.tl_text.specs.declared.paragraph.Atom.TheVariants.{Word}
-use Rattle.tl_tree.proofs.Lines.{whole_push, whole_text, open_text, open_none, none_open}
+use Rattle.tl_tree.proofs.Lines.{whole_push, whole_text, open_text, open_none}
 use Rattle.tl_tree.proofs.flow.Line.end_word.Goals as goal
 
 pub invariant_of-self : goal.invariant_of-self
@@ -43,4 +44,4 @@ pub returns-else-not-is_empty-clause-word : goal.returns-else-not-is_empty-claus
 returns-else-not-is_empty-clause-word c =
     let bytes = string_bytes c.args.self.now.word in
     let counted = c.args.self.now.word.bytes.ok.0 in
-    none_open bytes (grind (arith, nat_tests))
+    chars_none bytes (grind (arith, nat_tests))

@@ -1,6 +1,6 @@
 use Rattle.std.proofs.Common.{◌≡◌, sym, ap, ◌∙◌, subst, chars}
 use Rattle.tl_tree.specs.Tags as tags
-use Rattle.tl_tree.specs.Tags.{Kind, class_of, end_of}
+use Rattle.tl_tree.specs.Tags.{Kind, class_of}
 use Rattle.tl_tree.specs.inner.Documents.{Reads}
 use Rattle.tl_tree.proofs.Readings.{if_ok}
 use Rattle.tl_tree.proofs.reading.Reading.read.Goals as goal
