@@ -19,11 +19,21 @@ pub const MAX_BOUND: u32 = 1_000_000;
 /// Constraints `x_b <= x_a + most` between whole-number variables, kept as a closed difference bound
 /// matrix, so that each tightest bound is one look-up. `new` makes all the room; every other call
 /// takes no memory.
-#[derive(Debug, Drop)]
+#[derive(Debug)]
 pub struct Matrix {
     bounds: ClosedBounds,
     copies: Vec<ClosedBounds>,
     held: u32,
+}
+
+impl Drop for Matrix {
+    fn drop(self) {
+        let Matrix {
+            bounds: _bounds,
+            copies: _copies,
+            held: _held,
+        } = self;
+    }
 }
 
 impl Model for Matrix {

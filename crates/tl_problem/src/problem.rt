@@ -15,7 +15,7 @@ use tl_base::{List, Style};
 
 /// A grid of cells on a page of `width` columns. Contracts see it as the record of its columns, rows,
 /// style, width and cells; it is sound.
-#[derive(Debug, Drop)]
+#[derive(Debug)]
 pub struct Problem {
     alloc: Global,
     cols: u32,
@@ -27,6 +27,23 @@ pub struct Problem {
     classes: Vec<List<u32>>,
     by_left: Vec<Turn>,
     by_top: Vec<Turn>,
+}
+
+impl Drop for Problem {
+    fn drop(self) {
+        let Problem {
+            alloc: _alloc,
+            cols: _cols,
+            rows: _rows,
+            style: _style,
+            width: _width,
+            cells: _cells,
+            spans: _spans,
+            classes: _classes,
+            by_left: _by_left,
+            by_top: _by_top,
+        } = self;
+    }
 }
 
 impl Model for Problem {

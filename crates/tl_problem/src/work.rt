@@ -13,7 +13,7 @@ use tl_diff::{Arc, Matrix};
 /// where the columns begin: variable `k` is the place of column `k`, and the last one is where the
 /// columns end, a gap after the last. The room of a span of columns is so the difference of two
 /// variables less a gap.
-#[derive(Debug, Drop)]
+#[derive(Debug)]
 pub struct Work {
     /// The constraints: at first those of the page and of the least widths. A caller may add others.
     pub matrix: Matrix,
@@ -22,6 +22,18 @@ pub struct Work {
     pub(crate) demands: Vec<u32>,
     pub(crate) arcs: Vec<Arc>,
     pub(crate) ends: Vec<u32>,
+}
+
+impl Drop for Work {
+    fn drop(self) {
+        let Work {
+            matrix: _matrix,
+            start: _start,
+            demands: _demands,
+            arcs: _arcs,
+            ends: _ends,
+        } = self;
+    }
 }
 
 impl Work {
