@@ -17,7 +17,7 @@ pub enum Claim {
 
 /// A claim on one table at one width, and its proof: chains of cells for `Narrow`, sections for the
 /// other claims.
-#[derive(Debug, Drop)]
+#[derive(Debug)]
 pub struct Certificate {
     /// The page width, in columns of text.
     pub width: u32,
@@ -27,4 +27,17 @@ pub struct Certificate {
     pub claim: Claim,
     pub chains: List<Chain>,
     pub sections: List<Section>,
+}
+
+impl Drop for Certificate {
+    fn drop(self) {
+        let Certificate {
+            width: _width,
+            style: _style,
+            budget: _budget,
+            claim: _claim,
+            chains: _chains,
+            sections: _sections,
+        } = self;
+    }
 }

@@ -73,6 +73,39 @@ impl<'a> Reader<'a> {
         Ok(Claim::Narrow(least))
     }
 
+    /// What follows the claim: chains with `narrow`, and sections with the other claims.
+    #[tactic(auto, unfolding(crate::specs::inner::reading::Readings::followed, crate::specs::inner::reading::Readings::give))]
+    fn proof(
+        &mut self,
+        alloc: Global,
+        has_area: bool,
+        width: u32,
+        style: Style,
+        budget: u32,
+        claim: Claim,
+    ) -> Result<Certificate, Fault>
+        ensures { Gives (λ x. x) result self.new.rest.now (read.proof_at has_area width style budget claim self.old.rest.now) }
+    {
+        let (chains, sections) = match claim {
+            Claim::Lowest(_) | Claim::Bounded(_, _) => {
+                let sections = self.sections(alloc, areas_of(has_area))?;
+                (List::new(alloc), sections)
+            }
+            Claim::Narrow(_) => {
+                let chains = self.chains(alloc)?;
+                (chains, List::new(alloc))
+            }
+        };
+        Ok(Certificate {
+            width,
+            style,
+            budget,
+            claim,
+            chains,
+            sections,
+        })
+    }
+
     /// A certificate, up to the end of its last line.
     #[tactic(auto, unfolding(crate::specs::inner::CertReading::certificate_at, // and how readings follow one another
     crate::specs::inner::reading::Readings::followed, crate::specs::inner::reading::Readings::give))]
@@ -85,22 +118,7 @@ impl<'a> Reader<'a> {
         let style = self.style()?;
         let budget = self.field(0, MAX_BUDGET, b'\n')?;
         let claim = self.claim(has_area)?;
-        let mut chains = List::new(alloc);
-        let mut sections = List::new(alloc);
-        match claim {
-            Claim::Lowest(_) | Claim::Bounded(_, _) => {
-                sections = self.sections(alloc, areas_of(has_area))?;
-            }
-            Claim::Narrow(_) => chains = self.chains(alloc)?,
-        }
-        Ok(Certificate {
-            width,
-            style,
-            budget,
-            claim,
-            chains,
-            sections,
-        })
+        self.proof(alloc, has_area, width, style, budget, claim)
     }
 }
 

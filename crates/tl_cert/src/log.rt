@@ -46,11 +46,21 @@ pub enum End {
 
 /// One line of a log: its nogood, the earlier lines that it fires, by their numbers from 0, and its
 /// end.
-#[derive(Debug, Drop)]
+#[derive(Debug)]
 pub struct LogLine {
     pub nogood: Nogood,
     pub fires: List<u32>,
     pub end: End,
+}
+
+impl Drop for LogLine {
+    fn drop(self) {
+        let LogLine {
+            nogood: _nogood,
+            fires: _fires,
+            end: _end,
+        } = self;
+    }
 }
 
 /// Log lines in order. The last one has a nogood without bounds, so that nothing lower exists at all.

@@ -4,7 +4,7 @@ use crate::{Log, Trace};
 use tl_base::List;
 
 /// What one search of one table at one width found and proved.
-#[derive(Debug, Drop)]
+#[derive(Debug)]
 pub struct Section {
     /// The number of the table, by the order of the start tags, from 0.
     pub table: u32,
@@ -18,4 +18,18 @@ pub struct Section {
     pub widths: List<u32>,
     pub trace: Trace,
     pub log: Log,
+}
+
+impl Drop for Section {
+    fn drop(self) {
+        let Section {
+            table: _table,
+            width: _width,
+            height: _height,
+            lower: _lower,
+            widths: _widths,
+            trace: _trace,
+            log: _log,
+        } = self;
+    }
 }
