@@ -20,7 +20,7 @@ use tl_problem::{Placed, Problem, Range, Work, Zone};
 /// The zones that a search has made of one problem. Zone 0 is the whole; cut `i`, counted from 0, makes
 /// the zones `2i + 1` and `2i + 2`. The best placement is tight, and none that stands at the least
 /// positions of a zone is lower. The memory that it takes grows with the cuts and the spans.
-#[derive(Debug, Drop)]
+#[derive(Debug)]
 pub struct Arena {
     pub(crate) alloc: Global,
     pub(crate) work: Work,
@@ -30,6 +30,20 @@ pub struct Arena {
     /// The height of the opening, in lines.
     pub(crate) opening: u32,
     pub(crate) best: Placed,
+}
+
+impl Drop for Arena {
+    fn drop(self) {
+        let Arena {
+            alloc: _alloc,
+            work: _work,
+            zones: _zones,
+            bounds: _bounds,
+            trace: _trace,
+            opening: _opening,
+            best: _best,
+        } = self;
+    }
 }
 
 impl Arena {
@@ -154,6 +168,23 @@ impl Arena {
         self.bounds.push(upper_bound)?;
         self.trace.push(cut)?;
         Ok(())
+    }
+
+    /// The best placement and the cuts, without what a search keeps besides.
+    pub(crate) fn into_parts(self) -> (Placed, Trace)
+        ensures best { result.0 ≡ self.best }
+        ensures trace { result.1 ≡ self.trace }
+    {
+        let Arena {
+            alloc: _,
+            work: _work,
+            zones: _zones,
+            bounds: _bounds,
+            trace,
+            opening: _,
+            best,
+        } = self;
+        (best, trace)
     }
 }
 

@@ -90,10 +90,11 @@ impl Arena {
         ensures short { IfOk result (λ outcome. length outcome.log ≤ 2 * length outcome.trace + 1) }
     {
         let log = log_of_bounds(self.alloc, problem, &self.trace, &self.bounds, lower)?;
+        let (best, trace) = self.into_parts();
         Ok(Outcome {
-            best: self.best,
+            best,
             lower,
-            trace: self.trace,
+            trace,
             log,
         })
     }
