@@ -33,7 +33,7 @@ use tl_page::page;
 use tl_verify::layout;
 
 /// What is reported of a table, and what is stored for it.
-#[derive(Debug, Drop)]
+#[derive(Drop)]
 pub struct Answer {
     pub report: Report,
     pub page: Option<List<u8>>,

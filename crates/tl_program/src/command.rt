@@ -9,7 +9,7 @@ use crate::options::{Options, number_up_to};
 use tl_base::MAX_PAGE_WIDTH;
 
 /// The command to lay a table out.
-#[derive(Clone, Copy, Debug)]
+#[derive(Clone, Copy)]
 pub struct Lay<'a> {
     /// The page width in columns, from 1 to [`MAX_PAGE_WIDTH`].
     pub width: u32,
@@ -23,7 +23,7 @@ pub struct Lay<'a> {
 }
 
 /// The command to check a certificate.
-#[derive(Clone, Copy, Debug)]
+#[derive(Clone, Copy)]
 pub struct Check<'a> {
     /// The page width in columns, from 1 to [`MAX_PAGE_WIDTH`].
     pub width: u32,

@@ -20,7 +20,7 @@ use tl_nested::{Make, sections};
 use tl_solve::Plain;
 
 /// Makes plain searches.
-#[derive(Clone, Copy, Debug)]
+#[derive(Clone, Copy)]
 struct MakePlain;
 
 impl Make for MakePlain {
@@ -34,7 +34,7 @@ impl Make for MakePlain {
 }
 
 /// Makes best-first searches.
-#[derive(Clone, Copy, Debug)]
+#[derive(Clone, Copy)]
 struct MakeBest;
 
 impl Make for MakeBest {

@@ -10,7 +10,7 @@ ghost use Rattle.tl_program.specs.Options.{IsGiven, AreOptions};
 use tl_base::{Breaking, MAX_BUDGET, Style, read_number};
 
 /// The search that finds the layout.
-#[derive(Clone, Copy, Debug, PartialEq, Eq)]
+#[derive(Clone, Copy)]
 pub enum Search {
     /// Cuts the first span that can be cut.
     Plain,
@@ -19,7 +19,7 @@ pub enum Search {
 }
 
 /// An option that is given.
-#[derive(Clone, Copy, Debug, PartialEq, Eq)]
+#[derive(Clone, Copy)]
 pub enum Choice {
     /// `--style plain|frame`.
     Style(Style),
@@ -34,7 +34,7 @@ pub enum Choice {
 }
 
 /// The options of a command, each as it is given, if it is.
-#[derive(Clone, Copy, Debug, PartialEq, Eq)]
+#[derive(Clone, Copy)]
 pub struct Options {
     pub style: Option<Style>,
     pub breaking: Option<Breaking>,

@@ -19,7 +19,7 @@ use tl_token::{Token, tokens};
 use tl_tree::{TableNode, tree};
 
 /// What the bytes of a file are.
-#[derive(Debug, Drop)]
+#[derive(Drop)]
 pub enum Reading {
     Table(Table),
     Refused(Refusal),

@@ -11,7 +11,7 @@ use tl_token::{Token, TokenError};
 use tl_tree::TreeError;
 
 /// What is wrong with a file that is no document.
-#[derive(Clone, Copy, Debug, PartialEq, Eq)]
+#[derive(Clone, Copy)]
 pub enum Fault {
     NotUtf8,
     UnendedTag,
@@ -27,7 +27,7 @@ pub enum Fault {
 }
 
 /// What is limited.
-#[derive(Clone, Copy, Debug, PartialEq, Eq)]
+#[derive(Clone, Copy)]
 pub enum Limit {
     /// The bytes of the file.
     File,
@@ -46,7 +46,7 @@ pub enum Limit {
 }
 
 /// Why a file is refused.
-#[derive(Clone, Copy, Debug, PartialEq, Eq)]
+#[derive(Clone, Copy)]
 pub enum Refusal {
     /// It is no document, for what stands at this byte of it, counted from 0.
     BadInput(Fault, u32),

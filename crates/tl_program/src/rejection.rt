@@ -8,7 +8,7 @@ use tl_verify::Reject;
 
 /// Why a certificate is rejected: its bytes are none, or it is not valid. Sections and lines are
 /// counted from 0, sections over the whole certificate.
-#[derive(Clone, Copy, Debug, PartialEq, Eq)]
+#[derive(Clone, Copy)]
 pub enum Rejection {
     /// The bytes before this place, counted from 0, begin a certificate, and with the one at it none.
     Syntax(u32),

@@ -10,7 +10,7 @@ use crate::status::Status;
 use tl_cert::Claim;
 
 /// The numbers of a demonstration.
-#[derive(Clone, Copy, Debug, PartialEq, Eq)]
+#[derive(Clone, Copy)]
 pub struct Summary {
     /// The cells of the table.
     pub cells: u32,
@@ -25,7 +25,7 @@ pub struct Summary {
 }
 
 /// What is reported. Heights are in lines, widths in columns.
-#[derive(Clone, Copy, Debug, PartialEq, Eq)]
+#[derive(Clone, Copy)]
 pub enum Report {
     /// A page of this height is stored, or its certificate is valid, and no layout is lower.
     Lowest { height: u32, width: u64 },

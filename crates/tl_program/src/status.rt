@@ -3,7 +3,7 @@
 ghost use Rattle.std.specs.Prelude.{◌≡◌};
 
 /// How the program ends. The numbers are its exit statuses; a number that is missing is not used.
-#[derive(Clone, Copy, Debug, PartialEq, Eq)]
+#[derive(Clone, Copy)]
 pub enum Status {
     /// The page is stored, or the certificate is valid, and no layout is lower.
     Lowest = 0,

@@ -7,7 +7,7 @@ use crate::options::{Options, Search};
 use tl_base::{Breaking, Style};
 
 /// What is asked of a table.
-#[derive(Clone, Copy, Debug)]
+#[derive(Clone, Copy)]
 pub struct Task {
     /// The page width in columns, from 1 to `MAX_PAGE_WIDTH`.
     pub width: u32,
