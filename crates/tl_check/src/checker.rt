@@ -18,7 +18,7 @@ use tl_problem::{Problem, Work};
 
 /// A checker of traces and logs of one problem. `reserve` makes all its room; no other call takes
 /// memory. What it keeps between calls is the same for every trace and log.
-#[derive(Debug, Drop)]
+#[derive(Debug)]
 pub struct Checker {
     /// The constraints of the problem's page, and buffers.
     work: Work,
@@ -26,6 +26,16 @@ pub struct Checker {
     opening: u32,
     /// For each zone of a trace whether it was cut.
     is_cut: Vec<bool>,
+}
+
+impl Drop for Checker {
+    fn drop(self) {
+        let Checker {
+            work: _work,
+            opening: _opening,
+            is_cut: _is_cut,
+        } = self;
+    }
 }
 
 impl Checker {

@@ -1,9 +1,8 @@
 -- The line by its number.
-use Rattle.std.proofs.Common.{◌≤◌}
-use Rattle.std.proofs.Common.{length, sym, ap, ◌∙◌, subst, arith}
+use Rattle.std.proofs.Common.{length, refl, sym, ap, ◌∙◌, subst, arith}
 use Rattle.std.proofs.lemmas.List.{get_or_default}
-use Rattle.tl_diff.specs.Marks.{MarkedBounds}
 use Rattle.tl_cert.specs.Lines.{IsGoodLine}
+use Rattle.tl_check.proofs.Flags.{stays-by}
 use Rattle.tl_check.proofs.checker.Checker.line.Goals as goal
 
 pub is_good_line-requires-clause-mark : goal.is_good_line-requires-clause-mark
@@ -21,13 +20,5 @@ returns-clause-good c =
     )
 
 pub returns-clause-stays : goal.returns-clause-stays
-returns-clause-stays c = λ cuts is.
-    let same = c.is_good_line.ensures.matrix in
-    record {
-      few = is.few;
-      page = c.is_good_line.ensures.page;
-      none_held = ap (λ (m : MarkedBounds). m.held) same ∙ is.none_held;
-      marks = subst (λ (m : MarkedBounds). 1 ≤ m.marks) (sym same) is.marks;
-      opening = is.opening;
-      flags = is.flags;
-    }
+returns-clause-stays c =
+    stays-by c.args.problem.now c.args.self.now _ (λ page. c.is_good_line.ensures.page) c.is_good_line.ensures.matrix refl (omega arith)

@@ -1,5 +1,6 @@
 -- Step by step.
-use Rattle.std.proofs.Common.{length, ap, arith}
+use Rattle.std.proofs.Common.{length, refl, ap, arith}
+use Rattle.tl_check.proofs.Flags.{written-room, stays-by}
 use Rattle.tl_check.proofs.checker.Checker.worked.Goals as goal
 
 pub returns-then-not-is_trace-clause-worked : goal.returns-then-not-is_trace-clause-worked
@@ -18,3 +19,33 @@ returns-clause-worked c =
       },
       λ worked. c.is_worked.ensures.worked.1 (worked.below (omega arith)),
     )
+
+pub returns-then-not-is_trace-clause-stays : goal.returns-then-not-is_trace-clause-stays
+returns-then-not-is_trace-clause-stays c =
+    let old = c.args.self.now in
+    let room = written-room old.is_cut.len c.is_trace.new.is_cut old.is_cut.items (omega arith) (omega arith) in
+    stays-by c.args.problem.now old _ (λ page. page) refl refl room
+
+pub returns-then-trace-budget-clause-stays : goal.returns-then-trace-budget-clause-stays
+returns-then-trace-budget-clause-stays c =
+    let old = c.args.self.now in
+    let room = written-room old.is_cut.len c.is_trace.new.is_cut old.is_cut.items (omega arith) (omega arith) in
+    stays-by c.args.problem.now old _ (λ page. page) refl refl room
+
+pub returns-then-section-clause-stays : goal.returns-then-section-clause-stays
+returns-then-section-clause-stays c =
+    let old = c.args.self.now in
+    let room = written-room old.is_cut.len c.is_trace.new.is_cut old.is_cut.items (omega arith) (omega arith) in
+    stays-by c.args.problem.now old _ (λ page. page) refl refl room
+
+pub returns-then-section-2-clause-stays : goal.returns-then-section-2-clause-stays
+returns-then-section-2-clause-stays c =
+    let old = c.args.self.now in
+    let room = written-room old.is_cut.len c.is_trace.new.is_cut old.is_cut.items (omega arith) (omega arith) in
+    stays-by c.args.problem.now old _ (λ page. page) refl refl room
+
+pub returns-clause-stays : goal.returns-clause-stays
+returns-clause-stays c =
+    let old = c.args.self.now in
+    let room = written-room old.is_cut.len c.is_trace.new.is_cut old.is_cut.items (omega arith) (omega arith) in
+    stays-by c.args.problem.now old _ (λ page. c.is_worked.ensures.page) c.is_worked.ensures.matrix refl room
