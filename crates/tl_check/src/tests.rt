@@ -1,7 +1,5 @@
 //! Logs, traces and sections of four small tables, worked by hand.
 
-ghost use Rattle.std.specs.Prelude.{◌<◌};
-
 use crate::Checker;
 use std::alloc::Global;
 use std::test::Fail;
@@ -9,88 +7,74 @@ use tl_base::{Config, List, MAX_BUDGET, Steps, Style};
 use tl_cert::{Bound, CutAt, End, Log, LogLine, Nogood, Section, Side, Trace};
 use tl_problem::{Cell, Problem};
 
-/// The steps with these configurations.
-fn steps(alloc: Global, configs: &[(u32, u32)]) -> Result<Steps, Fail> {
-    let mut list = List::new(alloc);
-    for &(width, height) in configs {
-        list.push(Config { width, height })?;
-    }
-    let Some(steps) = Steps::new(list) else {
-        return Err("the configurations are no steps".into());
-    };
-    Ok(steps)
+/// `aaa bbb` beside `cc dd ee`.
+const TWO_COLUMNS: &str = "0-1 0-1 = 3:2 7:1; 1-2 0-1 = 2:3 5:2 8:1";
+
+/// `a a`, `b b` and `c`, `c` above `p`, `q`, `cccc cccc` and `dddd dddd`.
+const FOUR_COLUMNS: &str = "0-1 0-1 = 1:2 3:1; 1-2 0-1 = 1:2 3:1; 2-3 0-1 = 1:2; \
+    0-1 1-2 = 1:1; 1-2 1-2 = 1:1; 2-3 1-2 = 4:2 9:1; 3-4 1-2 = 4:2 9:1";
+
+/// `a a` beside `b b`.
+const NARROW_COLUMNS: &str = "0-1 0-1 = 1:2 3:1; 1-2 0-1 = 1:2 3:1";
+
+/// Two numbers with a character between them.
+fn pair(text: &str, between: char) -> Result<(u32, u32), Fail> {
+    let (first, second) = text.split_once(between).ok_or("no pair")?;
+    let first = first.parse::<u32>().ok().ok_or("no number")?;
+    let second = second.parse::<u32>().ok().ok_or("no number")?;
+    Ok((first, second))
 }
 
-/// A cell of one column and one row that needs these heights.
-fn cell(alloc: Global, left: u32, top: u32, configs: &[(u32, u32)]) -> Result<Cell, Fail>
-    requires left { left < 60 }
-    requires top { top < 60 }
-{
+/// The step function with these widths and heights.
+fn steps(alloc: Global, text: &str) -> Result<Steps, Fail> {
+    let mut list = List::new(alloc);
+    for step in text.split(' ') {
+        let (width, height) = pair(step, ':')?;
+        list.push(Config { width, height })?;
+    }
+    Ok(Steps::new(list).ok_or("no steps")?)
+}
+
+/// The cell that is written as its columns, its rows and its steps: `0-2 0-1 = 4:3 7:2` covers two columns
+/// of the first row, and needs three lines from 4 columns on, two from 7. Where `high` differs from `low`,
+/// its steps follow ` / `.
+fn cell(alloc: Global, text: &str) -> Result<Cell, Fail> {
+    let (place, both) = text.split_once(" = ").ok_or("no steps")?;
+    let (columns, rows) = place.split_once(' ').ok_or("no rows")?;
+    let (low, high) = both.split_once(" / ").unwrap_or((both, both));
+    let (left, right) = pair(columns, '-')?;
+    let (top, bottom) = pair(rows, '-')?;
+    let low = steps(alloc, low)?;
+    let high = steps(alloc, high)?;
     Ok(Cell {
         left,
-        right: left + 1,
+        right,
         top,
-        bottom: top + 1,
-        low: steps(alloc, configs)?,
-        high: steps(alloc, configs)?,
+        bottom,
+        low,
+        high,
     })
 }
 
-/// A problem in plain style.
-fn problem(
-    alloc: Global,
-    cols: u32,
-    rows: u32,
-    width: u32,
-    cells: List<Cell>,
-) -> Result<Problem, Fail> {
+/// The problem in plain style of the cells that are written with `; ` between two.
+fn problem(alloc: Global, cols: u32, rows: u32, width: u32, text: &str) -> Result<Problem, Fail> {
+    let mut cells = List::new(alloc);
+    for text in text.split("; ") {
+        cells.push(cell(alloc, text)?)?;
+    }
     if !Problem::is_sound(cols, rows, Style::Plain, width, cells.as_slice()) {
         return Err("the cells make no sound problem".into());
     }
     Ok(Problem::new(alloc, cols, rows, Style::Plain, width, cells)?)
 }
 
-/// `aaa bbb` beside `cc dd ee` on 12 columns: two lines at 3 and 5 columns, and never one.
+/// On 12 columns there are two lines at 3 and 5 columns, and never one.
 fn two_columns(alloc: Global) -> Result<Problem, Fail> {
-    let mut cells = List::new(alloc);
-    cells.push(cell(alloc, 0, 0, &[(3, 2), (7, 1)])?)?;
-    cells.push(cell(alloc, 1, 0, &[(2, 3), (5, 2), (8, 1)])?)?;
-    problem(alloc, 2, 1, 12, cells)
+    problem(alloc, 2, 1, 12, TWO_COLUMNS)
 }
 
-/// `a a`, `b b` and `c`, `c` above `p`, `q`, `cccc cccc` and `dddd dddd` on 25 columns.
 fn four_columns(alloc: Global) -> Result<Problem, Fail> {
-    let mut cells = List::new(alloc);
-    cells.push(cell(alloc, 0, 0, &[(1, 2), (3, 1)])?)?;
-    cells.push(cell(alloc, 1, 0, &[(1, 2), (3, 1)])?)?;
-    cells.push(cell(alloc, 2, 0, &[(1, 2)])?)?;
-    cells.push(cell(alloc, 0, 1, &[(1, 1)])?)?;
-    cells.push(cell(alloc, 1, 1, &[(1, 1)])?)?;
-    cells.push(cell(alloc, 2, 1, &[(4, 2), (9, 1)])?)?;
-    cells.push(cell(alloc, 3, 1, &[(4, 2), (9, 1)])?)?;
-    problem(alloc, 4, 2, 25, cells)
-}
-
-/// `a a` beside `b b` on 7 columns: by their areas they need two lines.
-fn narrow_columns(alloc: Global) -> Result<Problem, Fail> {
-    let mut cells = List::new(alloc);
-    cells.push(cell(alloc, 0, 0, &[(1, 2), (3, 1)])?)?;
-    cells.push(cell(alloc, 1, 0, &[(1, 2), (3, 1)])?)?;
-    problem(alloc, 2, 1, 7, cells)
-}
-
-/// One cell of one column that needs these heights at least, and for which those are enough.
-fn one_cell(alloc: Global, low: u32, high: u32) -> Result<Problem, Fail> {
-    let mut cells = List::new(alloc);
-    cells.push(Cell {
-        left: 0,
-        right: 1,
-        top: 0,
-        bottom: 1,
-        low: steps(alloc, &[(1, low)])?,
-        high: steps(alloc, &[(1, high)])?,
-    })?;
-    problem(alloc, 1, 1, 1, cells)
+    problem(alloc, 4, 2, 25, FOUR_COLUMNS)
 }
 
 /// The trace with these cuts of a zone at a span after a class.
@@ -222,23 +206,17 @@ fn the_whole_ends_by_its_chain(rt: HostRuntime) -> Result<(), Fail> {
         ([1].as_slice(), End::Fired, 2, Err(0)),
     ] {
         let log = one_line(rt.alloc(), fires, end)?;
-        assert_eq!(rt;
-            verdict(rt.alloc(), &problem, &none, &log, lower)?,
-            want,
-            "{lower}"
-        );
-        assert_eq!(rt;
-            first_is_good(rt.alloc(), &problem, &none, &log, lower)?,
-            want.is_ok(),
-            "{lower}"
-        );
+        let found = verdict(rt.alloc(), &problem, &none, &log, lower)?;
+        let first = first_is_good(rt.alloc(), &problem, &none, &log, lower)?;
+        assert_eq!(rt; (found, first), (want, want.is_ok()), "{lower}");
     }
     Ok(())
 }
 
 #[test]
 fn an_area_ends_what_no_chain_does(rt: HostRuntime) -> Result<(), Fail> {
-    let problem = narrow_columns(rt.alloc())?;
+    // By their areas the cells need two lines on 7 columns.
+    let problem = problem(rt.alloc(), 2, 1, 7, NARROW_COLUMNS)?;
     let none = List::new(rt.alloc());
     for (end, lower, want) in [
         (End::Area, 2, Ok(())),
@@ -300,11 +278,20 @@ fn the_most_cuts_of_one_zone_are_no_trace(rt: HostRuntime) -> Result<(), Fail> {
     Ok(())
 }
 
+/// The first two lines of the log of four columns, or so many of them: both are on the third column.
+fn lines_of_third(alloc: Global, count: usize) -> Result<Log, Fail> {
+    let mut log = List::new(alloc);
+    for (side, width) in [(Side::Most, 8), (Side::Least, 9)] {
+        if log.len() < count {
+            log.push(bound_line(alloc, 2, side, width)?)?;
+        }
+    }
+    Ok(log)
+}
+
 /// The log of four columns: two lines on the third one, and a last line that fires these.
 fn four_columns_log(alloc: Global, last: &[u32]) -> Result<Log, Fail> {
-    let mut log = List::new(alloc);
-    log.push(bound_line(alloc, 2, Side::Most, 8)?)?;
-    log.push(bound_line(alloc, 2, Side::Least, 9)?)?;
+    let mut log = lines_of_third(alloc, 2)?;
     log.push(zone_line(alloc, 0, last, End::Fired)?)?;
     Ok(log)
 }
@@ -335,20 +322,25 @@ fn a_line_fires_lines_before_it(rt: HostRuntime) -> Result<(), Fail> {
 fn a_log_ends_with_a_nogood_without_bounds(rt: HostRuntime) -> Result<(), Fail> {
     let problem = four_columns(rt.alloc())?;
     let none = List::new(rt.alloc());
-    let mut log = List::new(rt.alloc());
-    assert_eq!(rt; verdict(rt.alloc(), &problem, &none, &log, 0)?, Err(0));
-    log.push(bound_line(rt.alloc(), 2, Side::Most, 8)?)?;
-    assert_eq!(rt; verdict(rt.alloc(), &problem, &none, &log, 4)?, Err(1));
-    log.push(bound_line(rt.alloc(), 2, Side::Least, 9)?)?;
-    assert_eq!(rt; verdict(rt.alloc(), &problem, &none, &log, 4)?, Err(2));
-    let last = zone_line(rt.alloc(), 0, &[0, 1], End::Fired)?;
-    assert!(rt; tries(rt.alloc(), &problem, &none, &log, &last)?);
-    let itself = zone_line(rt.alloc(), 0, &[0, 2], End::Fired)?;
-    assert!(rt; !tries(rt.alloc(), &problem, &none, &log, &itself)?);
-    let other = zone_line(rt.alloc(), 1, &[0, 1], End::Fired)?;
-    assert!(rt; !tries(rt.alloc(), &problem, &none, &log, &other)?);
-    log.push(last)?;
+    for (count, lower, want) in [(0, 0, Err(0)), (1, 4, Err(1)), (2, 4, Err(2))] {
+        let log = lines_of_third(rt.alloc(), count)?;
+        assert_eq!(rt; verdict(rt.alloc(), &problem, &none, &log, lower)?, want);
+    }
+    let log = four_columns_log(rt.alloc(), &[0, 1])?;
     assert_eq!(rt; verdict(rt.alloc(), &problem, &none, &log, 4)?, Ok(()));
+    Ok(())
+}
+
+#[test]
+fn a_line_is_tried_at_the_end_of_a_log(rt: HostRuntime) -> Result<(), Fail> {
+    let problem = four_columns(rt.alloc())?;
+    let none = List::new(rt.alloc());
+    let log = lines_of_third(rt.alloc(), 2)?;
+    for (zone, fired, want) in [(0, 1, true), (0, 2, false), (1, 1, false)] {
+        let line = zone_line(rt.alloc(), zone, &[0, fired], End::Fired)?;
+        let found = tries(rt.alloc(), &problem, &none, &log, &line)?;
+        assert_eq!(rt; found, want, "{zone} {fired}");
+    }
     Ok(())
 }
 
@@ -400,19 +392,16 @@ fn a_search_ends_at_its_budget_or_with_each_zone_closed(rt: HostRuntime) -> Resu
 // One class is closed only where what the cell needs and what is enough for it differ.
 #[test]
 fn one_class_is_closed_where_low_and_high_differ(rt: HostRuntime) -> Result<(), Fail> {
-    for (low, high, height, lower, want) in [
-        (1, 2, 2, 1, true),
-        (1, 2, 3, 1, true),
-        (2, 2, 3, 2, false),
-        (1, 1, 2, 1, false),
+    for (cell, height, lower, want) in [
+        ("0-1 0-1 = 1:1 / 1:2", 2, 1, true),
+        ("0-1 0-1 = 1:1 / 1:2", 3, 1, true),
+        ("0-1 0-1 = 1:2", 3, 2, false),
+        ("0-1 0-1 = 1:1", 2, 1, false),
     ] {
-        let problem = one_cell(rt.alloc(), low, high)?;
+        let problem = problem(rt.alloc(), 1, 1, 1, cell)?;
         let section = section(rt.alloc(), height, lower, &[])?;
-        assert_eq!(rt;
-            is_worked(rt.alloc(), &problem, &section, 5)?,
-            want,
-            "{low} {high}"
-        );
+        let worked = is_worked(rt.alloc(), &problem, &section, 5)?;
+        assert_eq!(rt; worked, want, "{cell}");
     }
     Ok(())
 }
