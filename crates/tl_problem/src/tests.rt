@@ -258,6 +258,17 @@ fn spans_are_by_left_then_right_and_classes_begin_within_the_page(
     Ok(())
 }
 
+/// What is found in the zone of all layouts.
+fn found_in_whole(alloc: Global, problem: &Problem) -> Result<String, Fail> {
+    let whole = whole(problem)?;
+    found_in(alloc, problem, &whole)
+}
+
+fn shown_opening(alloc: Global, problem: &Problem) -> Result<String, Fail> {
+    let opening = problem.opening()?;
+    shown(alloc, &opening)
+}
+
 #[test]
 fn whole_problems_have_the_bounds_and_openings_counted_by_hand(
     rt: HostRuntime,
@@ -266,9 +277,9 @@ fn whole_problems_have_the_bounds_and_openings_counted_by_hand(
         let (page, row) = halves(row)?;
         let (cells, wanted) = halves(row)?;
         let problem = problem(rt.alloc(), page, cells)?;
-        let found = found_in(rt.alloc(), &problem, &whole(&problem)?)?;
+        let found = found_in_whole(rt.alloc(), &problem)?;
         assert_eq!(rt; found.as_str(), wanted, "{page} {cells}");
-        let opening = shown(rt.alloc(), &problem.opening()?)?;
+        let opening = shown_opening(rt.alloc(), &problem)?;
         assert!(rt; wanted.ends_with(opening.as_str()), "{page} {cells}");
     }
     Ok(())
@@ -285,6 +296,14 @@ fn placed(alloc: Global, problem: &Problem, widths: &str) -> Result<Option<Place
     Ok(problem.place(list.as_slice())?)
 }
 
+/// The placement under these widths, or that there is none.
+fn shown_placed(alloc: Global, problem: &Problem, widths: &str) -> Result<String, Fail> {
+    match placed(alloc, problem, widths)? {
+        Some(placed) => shown(alloc, &placed),
+        None => Ok(String::from_str(alloc, "None")?),
+    }
+}
+
 #[test]
 fn a_placement_has_the_least_heights_under_its_widths(rt: HostRuntime) -> Result<(), Fail> {
     for row in PLACED.lines() {
@@ -292,16 +311,28 @@ fn a_placement_has_the_least_heights_under_its_widths(rt: HostRuntime) -> Result
         let (cells, row) = halves(row)?;
         let (widths, wanted) = halves(row)?;
         let problem = problem(rt.alloc(), page, cells)?;
-        match placed(rt.alloc(), &problem, widths)? {
-            Some(placed) => assert_eq!(rt;
-                shown(rt.alloc(), &placed)?.as_str(),
-                wanted,
-                "{page} {cells} {widths}"
-            ),
-            None => assert_eq!(rt; "None", wanted, "{page} {cells} {widths}"),
-        }
+        let found = shown_placed(rt.alloc(), &problem, widths)?;
+        assert_eq!(rt; found.as_str(), wanted, "{page} {cells} {widths}");
     }
     Ok(())
+}
+
+/// The placement made tight.
+fn shown_tight(alloc: Global, problem: &Problem, placed: &Placed) -> Result<String, Fail>
+    requires { IsPlacement problem.now placed.now }
+{
+    let tight = problem.tight(placed)?;
+    shown(alloc, &tight)
+}
+
+/// The placement made tight, and that made tight again.
+fn shown_tight_twice(alloc: Global, problem: &Problem, placed: &Placed) -> Result<String, Fail>
+    requires { IsPlacement problem.now placed.now }
+{
+    let once = shown_tight(alloc, problem, placed)?;
+    let tight = problem.tight(placed)?;
+    let twice = shown_tight(alloc, problem, &tight)?;
+    Ok(format!(in alloc; "{once}; {twice}")?)
 }
 
 // In 4 and 6 columns both cells need two lines, as they do in 3 and 5.
@@ -309,10 +340,8 @@ fn a_placement_has_the_least_heights_under_its_widths(rt: HostRuntime) -> Result
 fn a_tight_placement_has_the_least_columns_for_its_heights(rt: HostRuntime) -> Result<(), Fail> {
     let problem = problem(rt.alloc(), "plain 2x1 12", TWO_CELLS)?;
     let placed = placed(rt.alloc(), &problem, "4 6")?.ok_or("no placement")?;
-    let tight = problem.tight(&placed)?;
-    let again = problem.tight(&tight)?;
-    assert_eq!(rt; shown(rt.alloc(), &tight)?.as_str(), "[3, 5] [2] 10x2");
-    assert_eq!(rt; shown(rt.alloc(), &again)?.as_str(), "[3, 5] [2] 10x2");
+    let found = shown_tight_twice(rt.alloc(), &problem, &placed)?;
+    assert_eq!(rt; found.as_str(), "[3, 5] [2] 10x2; [3, 5] [2] 10x2");
     Ok(())
 }
 
@@ -362,16 +391,36 @@ fn seven_cuts_of_four_columns_make_fifteen_zones(rt: HostRuntime) -> Result<(), 
     Ok(())
 }
 
+/// The upper one of the two parts.
+fn upper_part(zone: &Zone, problem: &Problem, s: u32) -> Result<Zone, Fail>
+    requires { IsZone problem.now zone.now }
+    ensures { IfOk result (IsZone problem.now) }
+{
+    let (_, upper) = cut(zone, problem, s)?;
+    Ok(upper)
+}
+
+/// What is found in the lower part, and in the upper one.
+fn found_in_parts(alloc: Global, problem: &Problem, zone: &Zone, s: u32) -> Result<String, Fail>
+    requires { IsZone problem.now zone.now }
+{
+    let (lower, upper) = cut(zone, problem, s)?;
+    let lower = found_in(alloc, problem, &lower)?;
+    let upper = found_in(alloc, problem, &upper)?;
+    Ok(format!(in alloc; "{lower}; {upper}")?)
+}
+
 // The left cell has one line from 7 columns on, the right one two from 5: together these are 14.
 #[test]
 fn a_zone_that_no_widths_lie_in_has_no_bound(rt: HostRuntime) -> Result<(), Fail> {
     let problem = problem(rt.alloc(), "plain 2x1 12", TWO_CELLS)?;
-    let (_, wide) = cut(&whole(&problem)?, &problem, 0)?;
-    let (narrow, both) = cut(&wide, &problem, 1)?;
-    let found = found_in(rt.alloc(), &problem, &narrow)?;
-    assert_eq!(rt; found.as_str(), "Some(3) Some(2) [7, 2] [3] 11x3");
-    let found = found_in(rt.alloc(), &problem, &both)?;
-    assert_eq!(rt; found.as_str(), "None None ");
+    let whole = whole(&problem)?;
+    let wide = upper_part(&whole, &problem, 0)?;
+    let found = found_in_parts(rt.alloc(), &problem, &wide, 1)?;
+    assert_eq!(rt;
+        found.as_str(),
+        "Some(3) Some(2) [7, 2] [3] 11x3; None None "
+    );
     Ok(())
 }
 
@@ -380,11 +429,10 @@ fn a_zone_that_no_widths_lie_in_has_no_bound(rt: HostRuntime) -> Result<(), Fail
 #[test]
 fn a_colspan_is_cut_at_its_own_classes(rt: HostRuntime) -> Result<(), Fail> {
     let problem = problem(rt.alloc(), "plain 2x2 9", A_COLSPAN)?;
-    let (narrow, wide) = cut(&whole(&problem)?, &problem, 1)?;
-    let found = found_in(rt.alloc(), &problem, &narrow)?;
-    assert_eq!(rt; found.as_str(), "Some(4) Some(4) [1, 2] [3, 1] 5x4");
-    let found = found_in(rt.alloc(), &problem, &wide)?;
-    assert_eq!(rt; found.as_str(), "Some(3) Some(3) [1, 4] [2, 1] 7x3");
+    let whole = whole(&problem)?;
+    let found = found_in_parts(rt.alloc(), &problem, &whole, 1)?;
+    let wanted = "Some(4) Some(4) [1, 2] [3, 1] 5x4; Some(3) Some(3) [1, 4] [2, 1] 7x3";
+    assert_eq!(rt; found.as_str(), wanted);
     Ok(())
 }
 
@@ -392,9 +440,18 @@ fn a_colspan_is_cut_at_its_own_classes(rt: HostRuntime) -> Result<(), Fail> {
 fn a_new_work_has_the_bounds_of_the_whole(rt: HostRuntime) -> Result<(), Fail> {
     let problem = problem(rt.alloc(), "plain 2x1 12", TWO_CELLS)?;
     let mut work = Work::new(&problem)?;
-    assert_eq!(rt; problem.held_bound(&mut work), Some(2));
-    assert_eq!(rt; problem.held_area(&work), Some(2));
+    let bound = problem.held_bound(&mut work);
+    assert_eq!(rt; (bound, problem.held_area(&work)), (Some(2), Some(2)));
     Ok(())
+}
+
+/// Whether the cells on the page are a sound problem, in words.
+fn soundness(alloc: Global, page: &str, cells: &str) -> Result<&'static str, Fail> {
+    if sound(alloc, page, cells)?.is_some() {
+        Ok("true")
+    } else {
+        Ok("false")
+    }
 }
 
 #[test]
@@ -402,11 +459,7 @@ fn a_sound_problem_keeps_the_grid_its_steps_and_the_page(rt: HostRuntime) -> Res
     for row in SOUND.lines() {
         let (page, row) = halves(row)?;
         let (cells, wanted) = halves(row)?;
-        let found = if sound(rt.alloc(), page, cells)?.is_some() {
-            "true"
-        } else {
-            "false"
-        };
+        let found = soundness(rt.alloc(), page, cells)?;
         assert_eq!(rt; found, wanted, "{page} {cells}");
     }
     Ok(())
@@ -431,16 +484,24 @@ fn a_row(alloc: Global, cols: u32, more: u32, one: &str) -> Result<Option<Proble
     made(alloc, cols, 1, Style::Plain, 200, cells)
 }
 
+/// The count of such a row, or that it is no sound problem.
+fn count_of_row(alloc: Global, cols: u32, more: u32, one: &str) -> Result<String, Fail> {
+    match a_row(alloc, cols, more, one)? {
+        Some(problem) => Ok(format!(in alloc; "{}", problem.count())?),
+        None => Ok(String::from_str(alloc, "no sound problem")?),
+    }
+}
+
 #[test]
 fn counts_of_sixty_columns_stop_at_the_last_number_of_64_bits(rt: HostRuntime) -> Result<(), Fail> {
     for row in COUNTS.lines() {
         let (more, row) = halves(row)?;
         let (one, wanted) = halves(row)?;
-        let problem = a_row(rt.alloc(), 60, number(more)?, one)?.ok_or("no sound problem")?;
-        let found = format!(in rt.alloc(); "{}", problem.count())?;
+        let found = count_of_row(rt.alloc(), 60, number(more)?, one)?;
         assert_eq!(rt; found.as_str(), wanted, "{more} {one}");
     }
-    assert!(rt; a_row(rt.alloc(), 61, 0, "1:1")?.is_none());
+    let found = count_of_row(rt.alloc(), 61, 0, "1:1")?;
+    assert_eq!(rt; found.as_str(), "no sound problem");
     Ok(())
 }
 
@@ -451,9 +512,10 @@ fn sixty_columns_have_a_bound_below_their_area_bound(rt: HostRuntime) -> Result<
     let problem = a_row(rt.alloc(), 60, 0, "1:1")?.ok_or("no sound problem")?;
     let whole = whole(&problem)?;
     let mut work = Work::new(&problem)?;
-    assert_eq!(rt; problem.bound_of(&whole, &mut work), Some(1));
-    assert_eq!(rt; problem.area_of(&whole, &mut work), Some(2));
-    assert_eq!(rt; problem.bound_of(&whole, &mut work), Some(1));
+    let bound = problem.bound_of(&whole, &mut work);
+    let area = problem.area_of(&whole, &mut work);
+    let again = problem.bound_of(&whole, &mut work);
+    assert_eq!(rt; (bound, area, again), (Some(1), Some(2), Some(1)));
     Ok(())
 }
 
@@ -480,7 +542,7 @@ fn sixty_columns_are_placed(rt: HostRuntime) -> Result<(), Fail> {
 fn a_part_of_sixty_columns_is_placed(rt: HostRuntime) -> Result<(), Fail> {
     let problem = a_row(rt.alloc(), 60, 0, "1:1")?.ok_or("no sound problem")?;
     let whole = whole(&problem)?;
-    let (_, upper) = cut(&whole, &problem, 59)?;
+    let upper = upper_part(&whole, &problem, 59)?;
     assert_eq!(rt; size_in(&problem, &upper)?, (180, 2));
     Ok(())
 }
