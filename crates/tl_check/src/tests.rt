@@ -1,5 +1,9 @@
 //! Logs, traces and sections of four small tables, worked by hand.
 
+ghost use Rattle.std.specs.Prelude.{length, IfOk};
+ghost use Rattle.tl_cert.specs.Traces.{IsTraceOf};
+ghost use Rattle.tl_check.specs.Checkers.{IsReserved};
+
 use crate::Checker;
 use std::alloc::Global;
 use std::test::Fail;
@@ -120,6 +124,21 @@ fn is_trace(alloc: Global, problem: &Problem, trace: &Trace) -> Result<bool, Fai
     Ok(checker.trace(problem, trace))
 }
 
+/// A checker that is reserved for the problem and the trace, which is one of at most ten cuts.
+fn checker_of(alloc: Global, problem: &Problem, trace: &Trace) -> Result<Checker, Fail>
+    ensures reserved { IfOk result (IsReserved problem.now (length trace.now)) }
+    ensures trace { IfOk result (λ checker. IsTraceOf problem.now trace.now) }
+{
+    if trace.len() > 10 {
+        return Err("too many cuts".into());
+    }
+    let mut checker = Checker::reserve(alloc, problem, trace.len() as u32)?;
+    if !checker.trace(problem, trace) {
+        return Err("no trace".into());
+    }
+    Ok(checker)
+}
+
 /// What is found of the log.
 fn verdict(
     alloc: Global,
@@ -128,13 +147,10 @@ fn verdict(
     log: &Log,
     lower: u32,
 ) -> Result<Result<(), u32>, Fail> {
-    if trace.len() > 10 || log.len() > 10 {
-        return Err("too many cuts or lines".into());
+    if log.len() > 10 {
+        return Err("too many lines".into());
     }
-    let mut checker = Checker::reserve(alloc, problem, trace.len() as u32)?;
-    if !checker.trace(problem, trace) {
-        return Err("no trace".into());
-    }
+    let mut checker = checker_of(alloc, problem, trace)?;
     Ok(checker.log(problem, trace, log, lower))
 }
 
@@ -146,13 +162,10 @@ fn first_is_good(
     log: &Log,
     lower: u32,
 ) -> Result<bool, Fail> {
-    if trace.len() > 10 || log.is_empty() {
-        return Err("too many cuts, or no line".into());
+    if log.is_empty() {
+        return Err("no line".into());
     }
-    let mut checker = Checker::reserve(alloc, problem, trace.len() as u32)?;
-    if !checker.trace(problem, trace) {
-        return Err("no trace".into());
-    }
+    let mut checker = checker_of(alloc, problem, trace)?;
     Ok(checker.line(problem, trace, log, 0, lower))
 }
 
@@ -164,13 +177,7 @@ fn tries(
     log: &Log,
     line: &LogLine,
 ) -> Result<bool, Fail> {
-    if trace.len() > 10 {
-        return Err("too many cuts".into());
-    }
-    let mut checker = Checker::reserve(alloc, problem, trace.len() as u32)?;
-    if !checker.trace(problem, trace) {
-        return Err("no trace".into());
-    }
+    let mut checker = checker_of(alloc, problem, trace)?;
     Ok(checker.tries(problem, trace, log, line, 4))
 }
 
