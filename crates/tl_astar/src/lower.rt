@@ -49,7 +49,8 @@ impl Search {
     {
         let stands = uncut_zones(self.alloc, self.arena.trace())?;
         let lower = least_proved(problem, &self.arena, &mut self.work, &stands);
-        let found = self.arena.finish_at(problem, budget, lower)?;
+        let arena = self.into_arena();
+        let found = arena.finish_at(problem, budget, lower)?;
         Ok(found)
     }
 }

@@ -27,7 +27,6 @@ use tl_problem::{Problem, Work};
 use tl_solve::Arena;
 
 /// The zones that a search has made of a problem, and those of them that may still be cut.
-#[derive(Drop)]
 pub(crate) struct Search {
     pub(crate) alloc: Global,
     pub(crate) arena: Arena,
@@ -38,6 +37,20 @@ pub(crate) struct Search {
     pub(crate) shape: Shape,
     /// At how many cuts a low placement is looked for again.
     pub(crate) next_greedy: u32,
+}
+
+impl Drop for Search {
+    fn drop(self) {
+        let Search {
+            alloc: _alloc,
+            arena: _arena,
+            work: _work,
+            opens: _opens,
+            low_is_high: _low_is_high,
+            shape: _shape,
+            next_greedy: _next_greedy,
+        } = self;
+    }
 }
 
 impl Search {
@@ -145,6 +158,22 @@ impl Search {
         self.add(2 * made + 1)?;
         self.add(2 * made + 2)?;
         Ok(())
+    }
+
+    /// The arena, without what the search keeps besides.
+    pub(crate) fn into_arena(self) -> Arena
+        ensures { result ≡ self.arena }
+    {
+        let Search {
+            alloc: _,
+            arena,
+            work: _work,
+            opens: _opens,
+            low_is_high: _,
+            shape: _shape,
+            next_greedy: _,
+        } = self;
+        arena
     }
 }
 

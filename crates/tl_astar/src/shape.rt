@@ -9,7 +9,6 @@ use tl_problem::{Cell, Problem, Span};
 
 /// The spans and strips of a problem's cells. A strip is the rows from a top up to a bottom; each row is
 /// one, and each cell lies in one.
-#[derive(Drop)]
 pub(crate) struct Shape {
     pub(crate) cols: u32,
     pub(crate) rows: u32,
@@ -26,6 +25,22 @@ pub(crate) struct Shape {
     pub(crate) strips: Vec<(u32, u32)>,
     /// For each cell the number of its strip.
     pub(crate) strip_of: Vec<usize>,
+}
+
+impl Drop for Shape {
+    fn drop(self) {
+        let Shape {
+            cols: _cols,
+            rows: _rows,
+            style: _style,
+            width: _width,
+            spans: _spans,
+            classes: _classes,
+            cells: _cells,
+            strips: _strips,
+            strip_of: _strip_of,
+        } = self;
+    }
 }
 
 impl Shape {

@@ -6,7 +6,6 @@ use std::alloc::{AllocError, Global};
 use tl_problem::{Cell, Range};
 
 /// The rooms that a zone gives its spans, and the heights of its strips by `low` at the greatest of them.
-#[derive(Drop)]
 pub(crate) struct Sight {
     pub(crate) spread: Spread,
     /// The least room of each span.
@@ -19,6 +18,19 @@ pub(crate) struct Sight {
     pub(crate) heights: Vec<u32>,
     /// The least room of each span at which no cell of it is higher than its rows at the greatest rooms.
     pub(crate) wanted: Vec<u32>,
+}
+
+impl Drop for Sight {
+    fn drop(self) {
+        let Sight {
+            spread: _spread,
+            least: _least,
+            most: _most,
+            last: _last,
+            heights: _heights,
+            wanted: _wanted,
+        } = self;
+    }
 }
 
 impl Sight {

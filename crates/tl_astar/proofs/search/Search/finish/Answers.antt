@@ -11,11 +11,11 @@ finish_at-requires-clause-ended c =
     let all : length c.deref.result.now ≡ 2 * length arena.trace + 1 =
     omega (arith, ap length c.deref.ensures.value, c.in_ok-stands.ensures.count, ap length c.trace.ensures) in
     let proved = subst (λ n. IsProvedUpto p arena.trace arena.best.height n least) all c.least_proved-lower.ensures in
-    λ below. elim c.requires.ended [
+    rw c.into_arena-arena.ensures (λ below. elim c.requires.ended [
       | inl spent ↦ inl spent
       | inr shut ↦ inr (shut-closed p arena.trace arena.best.height least proved c.requires.search.arena.work.sound c.requires.search.arena.trace_of
           shut below)
-    ]
+    ])
 
 pub finish_at-requires-clause-standing : goal.finish_at-requires-clause-standing
 finish_at-requires-clause-standing c =
@@ -25,7 +25,7 @@ finish_at-requires-clause-standing c =
     let all : length c.deref.result.now ≡ 2 * length arena.trace + 1 =
     omega (arith, ap length c.deref.ensures.value, c.in_ok-stands.ensures.count, ap length c.trace.ensures) in
     let proved = subst (λ n. IsProvedUpto p arena.trace arena.best.height n least) all c.least_proved-lower.ensures in
-    all-prove p arena.trace arena.best.height least proved
+    rw c.into_arena-arena.ensures (all-prove p arena.trace arena.best.height least proved)
 
 pub finish_at-requires-clause-enough : goal.finish_at-requires-clause-enough
 finish_at-requires-clause-enough c =
@@ -35,7 +35,7 @@ finish_at-requires-clause-enough c =
     let all : length c.deref.result.now ≡ 2 * length arena.trace + 1 =
     omega (arith, ap length c.deref.ensures.value, c.in_ok-stands.ensures.count, ap length c.trace.ensures) in
     let proved = subst (λ n. IsProvedUpto p arena.trace arena.best.height n least) all c.least_proved-lower.ensures in
-    some-bound p arena.trace arena.best.height least proved
+    rw c.into_arena-arena.ensures (some-bound p arena.trace arena.best.height least proved)
 
 pub returns-clause-besides : goal.returns-clause-besides
 returns-clause-besides c =
@@ -47,4 +47,5 @@ returns-clause-besides c =
     omega (arith, ap length c.deref.ensures.value, c.in_ok-stands.ensures.count, ap length c.trace.ensures) in
     let proved = subst (λ n. IsProvedUpto p arena.trace arena.best.height n least) all c.least_proved-lower.ensures in
     best-outcome p is.arena.work.sound c.args.budget arena is.arena least proved is.order c.requires.shown c.in_ok-found.found
-    c.in_ok-found.ensures.best c.in_ok-found.ensures.trace c.in_ok-found.ensures.lower
+    (rw c.into_arena-arena.ensures at c.in_ok-found.ensures.best) (rw c.into_arena-arena.ensures at c.in_ok-found.ensures.trace)
+    c.in_ok-found.ensures.lower
