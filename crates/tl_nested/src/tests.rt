@@ -7,6 +7,7 @@ ghost use Rattle.tl_solve.specs.Plain.{IsPlainOutcome};
 
 use crate::{Make, sections};
 use std::alloc::{AllocError, Global};
+use std::process::Abort;
 use std::test::Fail;
 use tl_base::{Breaking, MAX_FILE_BYTES, Style};
 use tl_cert::Section;
@@ -71,6 +72,23 @@ fn sections_of(alloc: Global, file: &str, width: u32, budget: u32) -> Result<Str
     Ok(line)
 }
 
+/// Compares the sections of a file with those that are wanted.
+fn compare(
+    rt: &impl Abort,
+    alloc: Global,
+    file: &str,
+    width: u32,
+    budget: u32,
+    wanted: &str,
+) -> Result<(), Fail>
+    requires page { width ≤ MAX_PAGE_WIDTH }
+    requires cuts { budget ≤ MAX_BUDGET }
+{
+    let found = sections_of(alloc, file, width, budget)?;
+    assert_eq!(rt; found.as_str(), wanted);
+    Ok(())
+}
+
 /// A table of two columns: it takes 10 columns and 2 lines, or 7 and 3.
 const PAIR: &str = "<table><tr><td>aaa bbb</td><td>cc dd ee</td></tr></table>";
 
@@ -87,60 +105,46 @@ const DEEP: &str = "<table><tr><td><table><tr><td><table><tr><td>a bb</table></t
 
 #[test]
 fn a_table_alone_has_one_section(rt: HostRuntime) -> Result<(), Fail> {
-    let alloc = rt.alloc();
-    let found = sections_of(alloc, PAIR, 12, 100)?;
-    assert_eq!(rt; found.as_str(), "0 12 2 2: 3 5;");
-    Ok(())
+    compare(&rt, rt.alloc(), PAIR, 12, 100, "0 12 2 2: 3 5;")
 }
 
 #[test]
 fn a_nested_table_has_a_section_for_each_narrower_placement(rt: HostRuntime) -> Result<(), Fail> {
-    let alloc = rt.alloc();
-    let found = sections_of(alloc, NESTED, 12, 100)?;
-    assert_eq!(rt; found.as_str(), "1 12 2 2: 3 5;1 9 3 3: 3 2;0 12 2 2: 10;");
-    Ok(())
+    compare(
+        &rt,
+        rt.alloc(),
+        NESTED,
+        12,
+        100,
+        "1 12 2 2: 3 5;1 9 3 3: 3 2;0 12 2 2: 10;",
+    )
 }
 
 #[test]
 fn on_a_narrow_page_a_nested_table_has_fewer_sections(rt: HostRuntime) -> Result<(), Fail> {
-    let alloc = rt.alloc();
-    let found = sections_of(alloc, NESTED, 9, 100)?;
-    assert_eq!(rt; found.as_str(), "1 9 3 3: 3 2;0 9 3 3: 7;");
-    Ok(())
+    compare(&rt, rt.alloc(), NESTED, 9, 100, "1 9 3 3: 3 2;0 9 3 3: 7;")
 }
 
 #[test]
 fn at_the_least_width_each_table_has_one_section(rt: HostRuntime) -> Result<(), Fail> {
-    let alloc = rt.alloc();
-    let found = sections_of(alloc, NESTED, 7, 100)?;
-    assert_eq!(rt; found.as_str(), "1 7 3 3: 3 2;0 7 3 3: 7;");
-    Ok(())
+    compare(&rt, rt.alloc(), NESTED, 7, 100, "1 7 3 3: 3 2;0 7 3 3: 7;")
 }
 
 #[test]
 fn without_cuts_a_height_found_is_no_lower_bound(rt: HostRuntime) -> Result<(), Fail> {
-    let alloc = rt.alloc();
-    let found = sections_of(alloc, NESTED, 12, 0)?;
-    assert_eq!(rt; found.as_str(), "1 12 3 2: 3 2;0 12 3 2: 7;");
-    Ok(())
+    compare(&rt, rt.alloc(), NESTED, 12, 0, "1 12 3 2: 3 2;0 12 3 2: 7;")
 }
 
 #[test]
 fn tables_side_by_side_come_from_the_greatest_number_down(rt: HostRuntime) -> Result<(), Fail> {
-    let alloc = rt.alloc();
-    let found = sections_of(alloc, BESIDE, 12, 100)?;
     let wanted = "2 12 1 1: 5;2 4 2 2: 2;1 12 1 1: 5;1 4 2 2: 2;0 12 1 1: 5 5;";
-    assert_eq!(rt; found.as_str(), wanted);
-    Ok(())
+    compare(&rt, rt.alloc(), BESIDE, 12, 100, wanted)
 }
 
 #[test]
 fn three_tables_inside_one_another_are_searched_from_the_inside(
     rt: HostRuntime,
 ) -> Result<(), Fail> {
-    let alloc = rt.alloc();
-    let found = sections_of(alloc, DEEP, 5, 100)?;
     let wanted = "2 5 1 1: 4;2 3 2 2: 2;1 5 1 1: 4;1 3 2 2: 2;0 5 1 1: 4;";
-    assert_eq!(rt; found.as_str(), wanted);
-    Ok(())
+    compare(&rt, rt.alloc(), DEEP, 5, 100, wanted)
 }
