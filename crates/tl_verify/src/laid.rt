@@ -16,10 +16,31 @@ use tl_form::{Table, inner_steps, problem};
 use tl_problem::{Placed, Problem};
 
 /// A section's problem and its placement on it.
-#[derive(Drop)]
 pub struct Laid {
     pub problem: Problem,
     pub placed: Placed,
+}
+
+impl Drop for Laid {
+    fn drop(self) {
+        let Laid {
+            problem: _problem,
+            placed: _placed,
+        } = self;
+    }
+}
+
+impl Laid {
+    /// The placement, without its problem.
+    pub fn into_placed(self) -> Placed
+        ensures { result ≡ self.placed }
+    {
+        let Laid {
+            problem: _problem,
+            placed,
+        } = self;
+        placed
+    }
 }
 
 /// The problem of a section of the table, on what the sections before it tell of nested tables. `None`

@@ -88,7 +88,7 @@ fn placed_by(
     ensures rooms { IfOk result (HasRooms style sections.now (out-Table table.now)) }
 {
     let laid = lay(alloc, table, style, &sections[..at], &sections[at])?.unwrap();
-    Ok(laid.placed)
+    Ok(laid.into_placed())
 }
 
 /// The layout of the table by the section with this place in the certificate.

@@ -50,8 +50,8 @@ returns-clause-own c = λ document budget part.
     HasPlacement section problem placed → ⊥)
     (λ laid. IsProblemFor c.args.table.now c.args.style section.width (take c.args.at c.args.sections.now) laid.problem
     × HasPlacement section laid.problem laid.placed) c.unwrap-laid.ensures c.in_ok-lay.ensures in
-    placed_part document budget c.args.style c.args.sections.now c.args.table.now part c.args.at c.requires.there section c.index-sections-at.is own
-    c.unwrap-laid.result.problem c.unwrap-laid.result.placed both.0 both.1
+    rw c.into_placed.ensures (placed_part document budget c.args.style c.args.sections.now c.args.table.now part c.args.at c.requires.there
+    section c.index-sections-at.is own c.unwrap-laid.result.problem c.unwrap-laid.result.placed both.0 both.1)
 
 pub returns-clause-rooms : goal.returns-clause-rooms
 returns-clause-rooms c =
@@ -63,8 +63,8 @@ returns-clause-rooms c =
     HasPlacement section problem placed → ⊥)
     (λ laid. IsProblemFor c.args.table.now c.args.style section.width (take c.args.at c.args.sections.now) laid.problem
     × HasPlacement section laid.problem laid.placed) c.unwrap-laid.ensures c.in_ok-lay.ensures in
-    rooms_part c.requires.part.0 c.requires.part.1 c.args.style c.args.sections.now c.args.table.now c.requires.part.2
+    rw c.into_placed.ensures (rooms_part c.requires.part.0 c.requires.part.1 c.args.style c.args.sections.now c.args.table.now c.requires.part.2
     c.args.at c.requires.there section c.index-sections-at.is own
     c.unwrap-laid.result.problem both.0 c.unwrap-laid.result.placed.widths both.1.tight.placement.page
     (subst (λ (s : Section). s.width ≤ MAX_PAGE_WIDTH) (sym c.index-sections-at.is) (c.requires.part.2.small c.args.at section c.requires.there).narrow)
-    c.unwrap-laid.result.placed refl
+    c.unwrap-laid.result.placed refl)
