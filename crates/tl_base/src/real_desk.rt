@@ -161,6 +161,7 @@ mod tests {
     use crate::{Desk, DeskFault, List, RealDesk};
     use std::alloc::{AllocError, Global};
     use std::io::{self, ErrorKind, Read, Write};
+    use std::process::Abort;
     use std::test::Fail;
 
     /// `count` bytes that repeat after 251, so that a chunk lost or written twice shows.
@@ -172,24 +173,32 @@ mod tests {
         Ok(bytes)
     }
 
+    /// The file that the test of long files stores and removes.
+    const LONG: &str = "real_desk_long.txt";
+
+    /// Asserts that the file `LONG` gives these bytes where `most` are read.
+    fn is_loaded(
+        rt: &impl Abort,
+        desk: &mut impl Desk,
+        most: u32,
+        wanted: &[u8],
+    ) -> Result<(), Fail> {
+        assert!(rt; desk.load(LONG, most)?.as_slice() == wanted, "{most} bytes");
+        Ok(())
+    }
+
     #[test]
     fn a_long_file_is_stored_and_loaded_whole(rt: HostRuntime) -> Result<(), Fail> {
         let bytes = many_bytes(rt.alloc(), 200_001)?;
-        let mut desk = RealDesk::new(&rt);
-        desk.store("real_desk_long.txt", bytes.as_slice())?;
-        assert!(rt; desk.load("real_desk_long.txt", 200_001)? == bytes);
         let prefix = many_bytes(rt.alloc(), 200_000)?;
-        assert!(rt; desk.load("real_desk_long.txt", 199_999)? == prefix);
-        desk.store("real_desk_long.txt", b"short\n")?;
-        assert_eq!(rt;
-            desk.load("real_desk_long.txt", 9)?.as_slice(),
-            b"short\n".as_slice()
-        );
-        assert_eq!(rt;
-            desk.load("real_desk_long.txt", 2)?.as_slice(),
-            b"sho".as_slice()
-        );
-        std::fs::remove_file(&rt, "real_desk_long.txt")?;
+        let mut desk = RealDesk::new(&rt);
+        desk.store(LONG, bytes.as_slice())?;
+        is_loaded(&rt, &mut desk, 200_001, bytes.as_slice())?;
+        is_loaded(&rt, &mut desk, 199_999, prefix.as_slice())?;
+        desk.store(LONG, b"short\n")?;
+        is_loaded(&rt, &mut desk, 9, b"short\n")?;
+        is_loaded(&rt, &mut desk, 2, b"sho")?;
+        std::fs::remove_file(&rt, LONG)?;
         Ok(())
     }
 

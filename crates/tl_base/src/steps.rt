@@ -210,6 +210,7 @@ mod tests {
     use super::{Config, Steps};
     use crate::{List, MAX_HEIGHT, Style};
     use std::alloc::{AllocError, Global};
+    use std::process::Abort;
     use std::test::Fail;
 
     fn steps(alloc: Global, pairs: &[(u32, u32)]) -> Result<Option<Steps>, AllocError> {
@@ -281,60 +282,66 @@ mod tests {
         Ok(Some(Steps::stack(alloc, &above, &below)?))
     }
 
+    /// Asserts that the stack of both has the steps wanted.
+    fn is_stack(
+        rt: &impl Abort,
+        alloc: Global,
+        above: &[(u32, u32)],
+        below: &[(u32, u32)],
+        wanted: &[(u32, u32)],
+    ) -> Result<(), Fail> {
+        let stacked = stacked(alloc, above, below)?.ok_or("steps")?;
+        let wanted = steps(alloc, wanted)?.ok_or("steps")?;
+        assert_eq!(rt; stacked.configs(), wanted.configs());
+        Ok(())
+    }
+
     // Two words, of four columns and of one, under three words of two columns; and the greatest heights.
     #[test]
     fn stacked_heights_are_added_at_each_width(rt: HostRuntime) -> Result<(), Fail> {
-        let three_words = [(2, 3), (5, 2), (8, 1)].as_slice();
-        let two_words = [(4, 2), (6, 1)].as_slice();
-        let highest = [(1, 536_870_912), (u32::MAX, 0)].as_slice();
-        for (above, below, want) in [
-            (
-                three_words,
-                two_words,
-                [(4, 5), (5, 4), (6, 3), (8, 2)].as_slice(),
-            ),
-            (
-                two_words,
-                three_words,
-                [(4, 5), (5, 4), (6, 3), (8, 2)].as_slice(),
-            ),
-            (
-                highest,
-                highest,
-                [(1, 1_073_741_824), (u32::MAX, 0)].as_slice(),
-            ),
-        ] {
-            let stacked = stacked(rt.alloc(), above, below)?.ok_or("steps")?;
-            let want = steps(rt.alloc(), want)?.ok_or("steps")?;
-            assert_eq!(rt;
-                stacked.configs(),
-                want.configs(),
-                "{above:?} above {below:?}"
-            );
+        let alloc = rt.alloc();
+        let three_words = [(2, 3), (5, 2), (8, 1)];
+        let two_words = [(4, 2), (6, 1)];
+        let both = [(4, 5), (5, 4), (6, 3), (8, 2)];
+        is_stack(&rt, alloc, &three_words, &two_words, &both)?;
+        is_stack(&rt, alloc, &two_words, &three_words, &both)?;
+        let highest = [(1, 536_870_912), (u32::MAX, 0)];
+        let wanted = [(1, 1_073_741_824), (u32::MAX, 0)];
+        is_stack(&rt, alloc, &highest, &highest, &wanted)
+    }
+
+    /// So many steps, each a line lower than the one before and `apart` columns wider.
+    fn falling(
+        alloc: Global,
+        first: (u32, u32),
+        apart: u32,
+        count: u32,
+    ) -> Result<List<(u32, u32)>, AllocError> {
+        let (mut width, mut height) = first;
+        let mut pairs = List::new(alloc);
+        for _ in 0..count {
+            pairs.push((width, height))?;
+            width = width.saturating_add(apart);
+            height = height.saturating_sub(1);
         }
-        Ok(())
+        Ok(pairs)
     }
 
     // Each has a step at every second width, one at the odd and one at the even ones: the stack falls
     // by a line at each width from 2 to 500.
     #[test]
     fn a_stack_has_each_step_of_both(rt: HostRuntime) -> Result<(), Fail> {
-        let mut odd = List::new(rt.alloc());
-        let mut even = List::new(rt.alloc());
-        for i in 0..250u32 {
-            odd.push((2 * i + 1, 250 - i))?;
-            even.push((2 * i + 2, 250 - i))?;
-        }
-        let mut want = List::new(rt.alloc());
-        for k in 0..499u32 {
-            want.push(Config {
-                width: 2 + k,
-                height: 500 - k,
-            })?;
-        }
-        let stacked = stacked(rt.alloc(), odd.as_slice(), even.as_slice())?.ok_or("steps")?;
-        assert_eq!(rt; stacked.configs(), want.as_slice());
-        Ok(())
+        let alloc = rt.alloc();
+        let odd = falling(alloc, (1, 250), 2, 250)?;
+        let even = falling(alloc, (2, 250), 2, 250)?;
+        let wanted = falling(alloc, (2, 500), 1, 499)?;
+        is_stack(
+            &rt,
+            alloc,
+            odd.as_slice(),
+            even.as_slice(),
+            wanted.as_slice(),
+        )
     }
 
     #[test]

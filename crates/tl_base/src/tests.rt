@@ -5,6 +5,7 @@ use crate::{
 };
 use std::alloc::{AllocError, Global};
 use std::collections::BTreeMap;
+use std::process::Abort;
 use std::test::Fail as Failure;
 
 #[test]
@@ -73,23 +74,34 @@ fn a_list_is_iterated_in_order(rt: HostRuntime) -> Result<(), Failure> {
 
 #[test]
 fn lists_and_texts_are_equal_by_what_they_hold(rt: HostRuntime) -> Result<(), Failure> {
-    let mut list = List::new(rt.alloc());
-    list.push(Text::from_str(rt.alloc(), "a\u{e9}\u{4e2d}")?)?;
-    let mut other = List::new(rt.alloc());
     let string = String::from_str(rt.alloc(), "a\u{e9}\u{4e2d}")?;
-    other.push(Text::from_string(string))?;
+    let list = list_of(rt.alloc(), Text::from_str(rt.alloc(), "a\u{e9}\u{4e2d}")?)?;
+    let mut other = list_of(rt.alloc(), Text::from_string(string))?;
     assert!(rt; list == other);
     other.push(Text::from_str(rt.alloc(), "")?)?;
     assert!(rt; list != other);
+    Ok(())
+}
+
+/// The list of one text.
+fn list_of(alloc: Global, text: Text) -> Result<List<Text>, Failure> {
+    let mut list = List::new(alloc);
+    list.push(text)?;
+    Ok(list)
+}
+
+#[test]
+fn a_text_has_its_bytes_and_is_equal_to_no_other(rt: HostRuntime) -> Result<(), Failure> {
+    let other = Text::from_str(rt.alloc(), "a\u{4e2d}")?;
     for (text, len, is_empty) in [
         ("", 0, true),
         ("a", 1, false),
         ("a\u{e9}\u{4e2d}", 6, false),
     ] {
         let held = Text::from_str(rt.alloc(), text)?;
-        assert_eq!(rt; (held.len(), held.is_empty()), (len, is_empty), "{text:?}");
-        assert!(rt;
-            held != Text::from_str(rt.alloc(), "a\u{4e2d}")?,
+        assert_eq!(rt;
+            (held.len(), held.is_empty(), held == other),
+            (len, is_empty, false),
             "{text:?}"
         );
     }
@@ -107,16 +119,33 @@ fn desk_with(alloc: Global, held: &[u8], fails: &[Fail]) -> Result<MemoryDesk, A
 #[test]
 fn a_desk_in_memory_holds_what_was_stored_and_printed(rt: HostRuntime) -> Result<(), Failure> {
     let mut desk = desk_with(rt.alloc(), b"abcd", &[])?;
-    assert_eq!(rt; desk.load("in", 2)?.as_slice(), b"abc".as_slice());
-    assert_eq!(rt; desk.load("in", 9)?.as_slice(), b"abcd".as_slice());
+    is_loaded(&rt, &mut desk, 2, b"abc")?;
+    is_loaded(&rt, &mut desk, 9, b"abcd")?;
     assert!(rt; matches!(desk.load("out", 9), Err(DeskFault::Failed)));
+    store_and_say_twice(&mut desk)?;
+    assert_eq!(rt; desk.said(), b"said twice".as_slice());
+    let held = desk.files().get("out").ok_or("no file")?;
+    assert_eq!(rt; held.as_slice(), b"two".as_slice());
+    Ok(())
+}
+
+/// Asserts that the file `in` gives these bytes where `most` are read.
+fn is_loaded(
+    rt: &impl Abort,
+    desk: &mut MemoryDesk,
+    most: u32,
+    wanted: &[u8],
+) -> Result<(), Failure> {
+    assert_eq!(rt; desk.load("in", most)?.as_slice(), wanted);
+    Ok(())
+}
+
+/// Stores two files under the name `out`, and prints two texts.
+fn store_and_say_twice(desk: &mut MemoryDesk) -> Result<(), Failure> {
     desk.store("out", b"one")?;
     desk.store("out", b"two")?;
     desk.say(b"said ")?;
     desk.say(b"twice")?;
-    assert_eq!(rt; desk.said(), b"said twice".as_slice());
-    let held = desk.files().get("out").ok_or("no file")?;
-    assert_eq!(rt; held.as_slice(), b"two".as_slice());
     Ok(())
 }
 
@@ -132,7 +161,7 @@ fn a_planned_failure_passes_so_many_bytes(rt: HostRuntime) -> Result<(), Failure
     assert!(rt; matches!(desk.store("in", b"wxyz"), Err(DeskFault::Failed)));
     assert!(rt; matches!(desk.say(b"said"), Err(DeskFault::Failed)));
     assert!(rt; matches!(desk.load("in", 9), Err(DeskFault::Failed)));
-    assert_eq!(rt; desk.load("in", 9)?.as_slice(), b"wx".as_slice());
+    is_loaded(&rt, &mut desk, 9, b"wx")?;
     assert_eq!(rt; desk.said(), b"xsaid".as_slice());
     Ok(())
 }
@@ -148,6 +177,11 @@ fn long_texts_and_files_are_held_whole(rt: HostRuntime) -> Result<(), Failure> {
     assert!(rt; text == Text::from_string(string));
     let bytes = text.as_str().as_bytes();
     let mut desk = desk_with(rt.alloc(), bytes, &[])?;
+    is_held_whole(&rt, &mut desk, bytes)
+}
+
+/// Asserts that the desk holds the bytes whole, stored and printed.
+fn is_held_whole(rt: &impl Abort, desk: &mut MemoryDesk, bytes: &[u8]) -> Result<(), Failure> {
     desk.store("out", bytes)?;
     desk.say(b"1")?;
     desk.say(bytes)?;
@@ -158,9 +192,24 @@ fn long_texts_and_files_are_held_whole(rt: HostRuntime) -> Result<(), Failure> {
 
 #[test]
 fn a_fault_is_printed_in_the_users_words(rt: HostRuntime) -> Result<(), Failure> {
-    let failed = format!(in rt.alloc(); "{}", DeskFault::Failed)?;
-    assert_eq!(rt; failed.as_str(), "reading or writing failed");
-    let memory = format!(in rt.alloc(); "{}", DeskFault::from(AllocError))?;
-    assert_eq!(rt; memory.as_str(), "out of memory");
+    let failed = DeskFault::Failed;
+    is_printed(&rt, rt.alloc(), failed, "reading or writing failed")?;
+    is_printed(
+        &rt,
+        rt.alloc(),
+        DeskFault::from(AllocError),
+        "out of memory",
+    )
+}
+
+/// Asserts that the fault is printed in these words.
+fn is_printed(
+    rt: &impl Abort,
+    alloc: Global,
+    fault: DeskFault,
+    wanted: &str,
+) -> Result<(), Failure> {
+    let printed = format!(in alloc; "{fault}")?;
+    assert_eq!(rt; printed.as_str(), wanted);
     Ok(())
 }
