@@ -191,15 +191,30 @@ mod tests {
     fn a_long_file_is_stored_and_loaded_whole(rt: HostRuntime) -> Result<(), Fail> {
         let bytes = many_bytes(rt.alloc(), 200_001)?;
         let prefix = many_bytes(rt.alloc(), 200_000)?;
-        let mut desk = RealDesk::new(&rt);
-        desk.store(LONG, bytes.as_slice())?;
-        is_loaded(&rt, &mut desk, 200_001, bytes.as_slice())?;
-        is_loaded(&rt, &mut desk, 199_999, prefix.as_slice())?;
-        desk.store(LONG, b"short\n")?;
-        is_loaded(&rt, &mut desk, 9, b"short\n")?;
-        is_loaded(&rt, &mut desk, 2, b"sho")?;
+        is_held_whole(
+            &rt,
+            &mut RealDesk::new(&rt),
+            bytes.as_slice(),
+            prefix.as_slice(),
+        )?;
         std::fs::remove_file(&rt, LONG)?;
         Ok(())
+    }
+
+    /// Asserts that the file `LONG` holds all of the bytes, whose prefix is all but the last, and then
+    /// what is stored in their place.
+    fn is_held_whole(
+        rt: &impl Abort,
+        desk: &mut impl Desk,
+        bytes: &[u8],
+        prefix: &[u8],
+    ) -> Result<(), Fail> {
+        desk.store(LONG, bytes)?;
+        is_loaded(rt, desk, 200_001, bytes)?;
+        is_loaded(rt, desk, 199_999, prefix)?;
+        desk.store(LONG, b"short\n")?;
+        is_loaded(rt, desk, 9, b"short\n")?;
+        is_loaded(rt, desk, 2, b"sho")
     }
 
     #[test]

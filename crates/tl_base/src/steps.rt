@@ -253,7 +253,7 @@ mod tests {
             (8, Some(1)),
             (u32::MAX, Some(1)),
         ] {
-            assert_eq!(rt; three_words.height_at(width), height, "width {width}");
+            is_height(&rt, &three_words, width, height);
         }
         for (height, width) in [
             (0, None),
@@ -262,9 +262,19 @@ mod tests {
             (3, Some(2)),
             (u32::MAX, Some(2)),
         ] {
-            assert_eq!(rt; three_words.width_for(height), width, "height {height}");
+            is_width(&rt, &three_words, height, width);
         }
         Ok(())
+    }
+
+    /// Asserts the height at this width.
+    fn is_height(rt: &impl Abort, steps: &Steps, width: u32, wanted: Option<u32>) {
+        assert_eq!(rt; steps.height_at(width), wanted, "width {width}");
+    }
+
+    /// Asserts the least width for this height.
+    fn is_width(rt: &impl Abort, steps: &Steps, height: u32, wanted: Option<u32>) {
+        assert_eq!(rt; steps.width_for(height), wanted, "height {height}");
     }
 
     /// Two step functions one above the other, unless together they are too high.

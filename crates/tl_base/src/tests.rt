@@ -119,10 +119,15 @@ fn desk_with(alloc: Global, held: &[u8], fails: &[Fail]) -> Result<MemoryDesk, A
 #[test]
 fn a_desk_in_memory_holds_what_was_stored_and_printed(rt: HostRuntime) -> Result<(), Failure> {
     let mut desk = desk_with(rt.alloc(), b"abcd", &[])?;
-    is_loaded(&rt, &mut desk, 2, b"abc")?;
-    is_loaded(&rt, &mut desk, 9, b"abcd")?;
+    holds_all(&rt, &mut desk)
+}
+
+/// Asserts that the desk, whose file `in` holds `abcd`, holds what is stored and printed.
+fn holds_all(rt: &impl Abort, desk: &mut MemoryDesk) -> Result<(), Failure> {
+    is_loaded(rt, desk, 2, b"abc")?;
+    is_loaded(rt, desk, 9, b"abcd")?;
     assert!(rt; matches!(desk.load("out", 9), Err(DeskFault::Failed)));
-    store_and_say_twice(&mut desk)?;
+    store_and_say_twice(desk)?;
     assert_eq!(rt; desk.said(), b"said twice".as_slice());
     let held = desk.files().get("out").ok_or("no file")?;
     assert_eq!(rt; held.as_slice(), b"two".as_slice());
@@ -157,11 +162,16 @@ fn a_planned_failure_passes_so_many_bytes(rt: HostRuntime) -> Result<(), Failure
         Fail { call: 3, bytes: 0 },
     ];
     let mut desk = desk_with(rt.alloc(), b"abcd", &fails)?;
+    fails_thrice(&rt, &mut desk)
+}
+
+/// Asserts that the desk fails at its second, third and fourth call, after 2, 9 and 0 bytes.
+fn fails_thrice(rt: &impl Abort, desk: &mut MemoryDesk) -> Result<(), Failure> {
     desk.say(b"x")?;
     assert!(rt; matches!(desk.store("in", b"wxyz"), Err(DeskFault::Failed)));
     assert!(rt; matches!(desk.say(b"said"), Err(DeskFault::Failed)));
     assert!(rt; matches!(desk.load("in", 9), Err(DeskFault::Failed)));
-    is_loaded(&rt, &mut desk, 9, b"wx")?;
+    is_loaded(rt, desk, 9, b"wx")?;
     assert_eq!(rt; desk.said(), b"xsaid".as_slice());
     Ok(())
 }
