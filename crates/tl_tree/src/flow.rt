@@ -88,10 +88,18 @@ impl Line {
 }
 
 /// The blocks of a flow so far, and the paragraph after them.
-#[derive(Drop)]
 pub(crate) struct Flow {
     pub(crate) blocks: List<Block>,
     pub(crate) line: Line,
+}
+
+impl Drop for Flow {
+    fn drop(self) {
+        let Flow {
+            blocks: _blocks,
+            line: _line,
+        } = self;
+    }
 }
 
 impl Flow {

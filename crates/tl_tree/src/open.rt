@@ -21,14 +21,12 @@ pub(crate) struct Head {
 }
 
 /// A table of which more groups may come, and no column.
-#[derive(Drop)]
 pub(crate) struct Parts {
     pub(crate) head: Head,
     pub(crate) groups: List<GroupNode>,
 }
 
 /// A group of which more rows may come.
-#[derive(Drop)]
 pub(crate) struct OpenGroup {
     pub(crate) table: Parts,
     pub(crate) part: Part,
@@ -36,14 +34,12 @@ pub(crate) struct OpenGroup {
 }
 
 /// A row of which more cells may come.
-#[derive(Drop)]
 pub(crate) struct OpenRow {
     pub(crate) group: OpenGroup,
     pub(crate) cells: List<CellNode>,
 }
 
 /// A cell, but for its flow.
-#[derive(Drop)]
 pub(crate) struct OpenCell {
     pub(crate) row: OpenRow,
     pub(crate) head: bool,
@@ -71,6 +67,44 @@ pub(crate) enum OpenTable {
     Group(OpenGroup),
     Row(OpenRow),
     Flow(Holder, Flow),
+}
+
+impl Drop for Parts {
+    fn drop(self) {
+        let Parts {
+            head: _head,
+            groups: _groups,
+        } = self;
+    }
+}
+
+impl Drop for OpenGroup {
+    fn drop(self) {
+        let OpenGroup {
+            table: _table,
+            part: _part,
+            rows: _rows,
+        } = self;
+    }
+}
+
+impl Drop for OpenRow {
+    fn drop(self) {
+        let OpenRow {
+            group: _group,
+            cells: _cells,
+        } = self;
+    }
+}
+
+impl Drop for OpenCell {
+    fn drop(self) {
+        let OpenCell {
+            row: _row,
+            head: _head,
+            spans: _spans,
+        } = self;
+    }
 }
 
 impl Head {
@@ -141,17 +175,20 @@ impl OpenCell {
         ensures adds { IfOk result (λ row. Adds (in_flow (cell_so_far self) flow) (after_entries (row_so_far row)) (paragraph_ends ∷ [])) }
         ensures part { IfOk result (λ row. row.group.part ≡ self.row.group.part) }
     {
-        let OpenCell { row, head, spans } = self;
-        let OpenRow { group, mut cells } = row;
+        let OpenCell {
+            mut row,
+            head,
+            spans,
+        } = self;
         let flow = flow.end(alloc)?;
-        cells.push(CellNode {
+        row.cells.push(CellNode {
             head,
             colspan: spans.colspan,
             rowspan: spans.rowspan,
             least: spans.least,
             flow,
         })?;
-        Ok(OpenRow { group, cells })
+        Ok(row)
     }
 }
 
@@ -163,14 +200,9 @@ impl OpenRow {
         ensures so_far { IfOk result (λ group. group_so_far group ≡ row_so_far self) }
         ensures part { IfOk result (λ group. group.part ≡ self.group.part) }
     {
-        let OpenRow { group, cells } = self;
-        let OpenGroup {
-            table,
-            part,
-            mut rows,
-        } = group;
-        rows.push(cells)?;
-        Ok(OpenGroup { table, part, rows })
+        let OpenRow { mut group, cells } = self;
+        group.rows.push(cells)?;
+        Ok(group)
     }
 }
 
@@ -193,10 +225,13 @@ impl OpenGroup {
     pub(crate) fn end(self) -> Result<Parts, AllocError>
         ensures { IfOk result (λ parts. parts_so_far parts ≡ group_so_far self) }
     {
-        let OpenGroup { table, part, rows } = self;
-        let Parts { head, mut groups } = table;
-        groups.push(GroupNode { part, rows })?;
-        Ok(Parts { head, groups })
+        let OpenGroup {
+            mut table,
+            part,
+            rows,
+        } = self;
+        table.groups.push(GroupNode { part, rows })?;
+        Ok(table)
     }
 }
 

@@ -318,31 +318,48 @@ fn white_space_between_tags_is_ignored(rt: HostRuntime) -> Result<(), Fail> {
     Ok(())
 }
 
+/// Reads one text so many times, another so many times, and what ends the file, and compares its tree
+/// or its error.
+fn compare_repeated(
+    rt: &impl Abort,
+    alloc: Global,
+    starts: (&str, usize),
+    nested: (&str, usize),
+    end: &str,
+    wanted: &str,
+) -> Result<(), AllocError> {
+    let starts = repeated(alloc, starts.0, starts.1)?;
+    let nested = repeated(alloc, nested.0, nested.1)?;
+    let file = format!(in alloc; "{}{}{end}", starts.as_str(), nested.as_str())?;
+    assert_eq!(rt; shown(alloc, file.as_bytes())?.as_str(), wanted);
+    Ok(())
+}
+
+const EMPTY_TABLE: &str = "<table></table>";
+
+const TABLE_WITH_CELL: &str = "<table><tr><td>";
+
+const TABLE_WITH_CAPTION: &str = "<table><caption>";
+
 #[test]
 fn the_token_that_passes_a_limit_is_named(rt: HostRuntime) -> Result<(), Fail> {
     let alloc = rt.alloc();
     // Eight tables, each in a caption, and a ninth.
-    let file = repeated(alloc, "<table><caption>", 9)?;
+    let starts = (TABLE_WITH_CAPTION, 9);
     let wanted = "tables too deep at token 16";
-    assert_eq!(rt; shown(alloc, file.as_bytes())?.as_str(), wanted);
+    compare_repeated(&rt, alloc, starts, ("", 0), "", wanted)?;
     // The table after 200 others, inside eight of them: its depth comes before its number.
-    let starts = repeated(alloc, "<table><tr><td>", 7)?;
-    let nested = repeated(alloc, "<table></table>", 192)?;
-    let file = format!(in alloc;
-        "{}{}<table><tr><td><table>",
-        starts.as_str(),
-        nested.as_str()
-    )?;
+    let starts = (TABLE_WITH_CELL, 7);
+    let end = "<table><tr><td><table>";
     let wanted = "tables too deep at token 408";
-    assert_eq!(rt; shown(alloc, file.as_bytes())?.as_str(), wanted);
+    compare_repeated(&rt, alloc, starts, (EMPTY_TABLE, 192), end, wanted)?;
     // The table after 200 others, with no token besides those that they need, and with a text before it.
-    let nested = repeated(alloc, "<table></table>", 199)?;
-    let file = format!(in alloc; "<table><caption>{}<table>", nested.as_str())?;
+    let starts = (TABLE_WITH_CAPTION, 1);
+    let nested = (EMPTY_TABLE, 199);
     let wanted = "too many tables at token 400";
-    assert_eq!(rt; shown(alloc, file.as_bytes())?.as_str(), wanted);
-    let file = format!(in alloc; "<table><caption>{}a<table>", nested.as_str())?;
+    compare_repeated(&rt, alloc, starts, nested, "<table>", wanted)?;
     let wanted = "too many tables at token 401";
-    assert_eq!(rt; shown(alloc, file.as_bytes())?.as_str(), wanted);
+    compare_repeated(&rt, alloc, starts, nested, "a<table>", wanted)?;
     Ok(())
 }
 
@@ -360,33 +377,29 @@ fn what_is_no_document_is_refused_at_its_first_wrong_token(rt: HostRuntime) -> R
 #[test]
 fn at_most_eight_tables_are_inside_one_another(rt: HostRuntime) -> Result<(), Fail> {
     let alloc = rt.alloc();
-    let starts = repeated(alloc, "<table><tr><td>", 7)?;
-    let ends = repeated(alloc, "</table>", 7)?;
-    let file = format!(in alloc; "{}<table></table>{}", starts.as_str(), ends.as_str())?;
+    let starts = (TABLE_WITH_CELL, 7);
+    let end = "<table></table></table></table></table></table></table></table></table>";
     let wanted =
         "[T0 Loose{| d[T1 Loose{| d[T2 Loose{| d[T3 Loose{| d[T4 Loose{| d[T5 Loose{| d[T6 Loose{| d[T7]}]}]}]}]}]}]}]";
-    assert_eq!(rt; shown(alloc, file.as_bytes())?.as_str(), wanted);
-    let file = format!(in alloc; "{}<table><tr><td>a<table>", starts.as_str())?;
+    compare_repeated(&rt, alloc, starts, ("", 0), end, wanted)?;
+    let end = "<table><tr><td>a<table>";
     let wanted = "tables too deep at token 25";
-    assert_eq!(rt; shown(alloc, file.as_bytes())?.as_str(), wanted);
-    let file = format!(in alloc; "{}<table><table>", starts.as_str())?;
+    compare_repeated(&rt, alloc, starts, ("", 0), end, wanted)?;
     let wanted = "misplaced tag at token 22";
-    assert_eq!(rt; shown(alloc, file.as_bytes())?.as_str(), wanted);
+    compare_repeated(&rt, alloc, starts, ("", 0), "<table><table>", wanted)?;
     Ok(())
 }
 
 #[test]
 fn a_document_has_at_most_200_tables(rt: HostRuntime) -> Result<(), Fail> {
     let alloc = rt.alloc();
-    let nested = repeated(alloc, "<table></table>", 199)?;
-    let file = format!(in alloc; "<table><tr><td>{}", nested.as_str())?;
-    assert_eq!(rt; shown(alloc, file.as_bytes())?.as_str(), "unclosed table");
-    let file = format!(in alloc; "<table><tr><td>{}<table>", nested.as_str())?;
+    let starts = (TABLE_WITH_CELL, 1);
+    let nested = (EMPTY_TABLE, 199);
+    compare_repeated(&rt, alloc, starts, nested, "", "unclosed table")?;
     let wanted = "too many tables at token 401";
-    assert_eq!(rt; shown(alloc, file.as_bytes())?.as_str(), wanted);
-    let file = format!(in alloc; "<table><tr><td>{}</td><table>", nested.as_str())?;
+    compare_repeated(&rt, alloc, starts, nested, "<table>", wanted)?;
     let wanted = "misplaced tag at token 402";
-    assert_eq!(rt; shown(alloc, file.as_bytes())?.as_str(), wanted);
+    compare_repeated(&rt, alloc, starts, nested, "</td><table>", wanted)?;
     Ok(())
 }
 
@@ -436,24 +449,31 @@ fn words_that_fill_a_file_are_read(rt: HostRuntime) -> Result<(), Fail> {
     Ok(())
 }
 
+/// A table with 199 in it, which fill a file with their cells.
+fn file_of_tables(alloc: Global) -> Result<String, AllocError> {
+    let cells = repeated(alloc, "<td>", 1_305)?;
+    let table = format!(in alloc; "<table><tr>{}</table>", cells.as_str())?;
+    let nested = repeated(alloc, table.as_str(), 199)?;
+    format!(in alloc; "<table><tr><td>{}</table>", nested.as_str())
+}
+
+/// The tree of `file_of_tables`.
+fn tree_of_tables(alloc: Global) -> Result<String, AllocError> {
+    let cells = repeated(alloc, " d", 1_305)?;
+    let mut line = String::from_str(alloc, "[T0 Loose{| d")?;
+    for number in 1..200 {
+        let table = format!(in alloc; "[T{number} Loose{{|{}}}]", cells.as_str())?;
+        line.push_str(table.as_str())?;
+    }
+    line.push_str("}]")?;
+    Ok(line)
+}
+
 #[test]
 fn two_hundred_tables_that_fill_a_file_are_read(rt: HostRuntime) -> Result<(), Fail> {
     let alloc = rt.alloc();
-    let cells = repeated(alloc, "<td>", 1_305)?;
-    let shown_cells = repeated(alloc, " d", 1_305)?;
-    let mut file = String::from_str(alloc, "<table><tr><td>")?;
-    let mut wanted = String::from_str(alloc, "[T0 Loose{| d")?;
-    for number in 1..200 {
-        file.push_str("<table><tr>")?;
-        file.push_str(cells.as_str())?;
-        file.push_str("</table>")?;
-        let begun = format!(in alloc; "[T{number} Loose{{|")?;
-        wanted.push_str(begun.as_str())?;
-        wanted.push_str(shown_cells.as_str())?;
-        wanted.push_str("}]")?;
-    }
-    file.push_str("</table>")?;
-    wanted.push_str("}]")?;
+    let file = file_of_tables(alloc)?;
+    let wanted = tree_of_tables(alloc)?;
     assert_eq!(rt; shown(alloc, file.as_bytes())?.as_str(), wanted.as_str());
     Ok(())
 }
