@@ -42,12 +42,22 @@ const NO_RUN: Run = Run {
 /// The open blocks of a row group, those that may take rows to come, and a walk over them from left
 /// to right. Contracts see the column that the walk has come to, and the blocks to its left and to
 /// its right, each from left to right.
-#[derive(Drop)]
 pub struct OpenBlocks {
     column: u32,
     passed: Vec<Block>,
     ahead: VecDeque<Block>,
     run: Run,
+}
+
+impl Drop for OpenBlocks {
+    fn drop(self) {
+        let OpenBlocks {
+            column: _column,
+            passed: _passed,
+            ahead: _ahead,
+            run: _run,
+        } = self;
+    }
 }
 
 impl Model for OpenBlocks {
@@ -229,10 +239,10 @@ impl OpenBlocks {
             (λ e. e ≡ Memory alloc_error) }
     {
         let OpenBlocks {
+            column: _column,
             mut passed,
             ahead,
             run,
-            ..
         } = self;
         passed.push(block)?;
         Ok(OpenBlocks {

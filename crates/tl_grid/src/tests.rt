@@ -7,6 +7,7 @@ ghost use Rattle.tl_grid.specs.Forming.{cells_in, cells_of, rows_of};
 
 use crate::{Grid, GridError, Place, Shape, ShapeGroup, SpanOf, form};
 use std::alloc::{AllocError, Global};
+use std::process::Abort;
 use std::test::Fail;
 use tl_base::List;
 
@@ -139,6 +140,24 @@ fn draw(alloc: Global, grid: &Grid) -> Result<String, AllocError> {
     Ok(drawing)
 }
 
+/// The grid of a shape without declared columns.
+fn grid_of(alloc: Global, shape: &Shape) -> Result<Grid, Fail> {
+    if !are_groups(shape.groups.as_slice()) || !are_few(shape.groups.as_slice()) {
+        return Err("not a shape that form takes".into());
+    }
+    if shape.columns != 0 {
+        return Err("declared columns".into());
+    }
+    Ok(form(alloc, shape)?)
+}
+
+/// The drawing of the grid of a table.
+fn drawn(alloc: Global, table: &str) -> Result<String, Fail> {
+    let shape = read(alloc, table)?;
+    let grid = grid_of(alloc, &shape)?;
+    Ok(draw(alloc, &grid)?)
+}
+
 #[test]
 fn tables_have_their_grids(rt: HostRuntime) -> Result<(), Fail> {
     for (table, drawing) in [
@@ -177,12 +196,8 @@ fn tables_have_their_grids(rt: HostRuntime) -> Result<(), Fail> {
         ("f11|13", "B/A"),
         ("f12 11/11|11|f11 11|11", "D./G./AB/AC/EF"),
     ] {
-        let shape = read(rt.alloc(), table)?;
-        assert!(rt; are_groups(shape.groups.as_slice()) && are_few(shape.groups.as_slice()));
-        assert!(rt; shape.columns == 0);
-        let grid = form(rt.alloc(), &shape)?;
-        let drawing_found = draw(rt.alloc(), &grid)?;
-        assert_eq!(rt; drawing_found.as_str(), drawing, "{table}");
+        let found = drawn(rt.alloc(), table)?;
+        assert_eq!(rt; found.as_str(), drawing, "{table}");
     }
     Ok(())
 }
@@ -244,6 +259,14 @@ fn group_of(alloc: Global, rows: &[&[(u32, u32)]]) -> Result<Shape, AllocError> 
     Ok(Shape { columns: 0, groups })
 }
 
+/// Compares places with their edges: left, right, top and bottom.
+fn compare_places(rt: &impl Abort, found: &[Place], wanted: &[(u32, u32, u32, u32)]) {
+    assert_eq!(rt; found.len(), wanted.len());
+    for (place, edges) in found.iter().zip(wanted) {
+        assert_eq!(rt; (place.left, place.right, place.top, place.bottom), *edges);
+    }
+}
+
 #[test]
 fn cells_have_their_places(rt: HostRuntime) -> Result<(), Fail> {
     for (rows, cols, lines, places) in [
@@ -283,17 +306,17 @@ fn cells_have_their_places(rt: HostRuntime) -> Result<(), Fail> {
         ),
     ] {
         let shape = group_of(rt.alloc(), rows)?;
-        assert!(rt; are_groups(shape.groups.as_slice()) && are_few(shape.groups.as_slice()));
-        assert!(rt; shape.columns == 0);
-        let grid = form(rt.alloc(), &shape)?;
+        let grid = grid_of(rt.alloc(), &shape)?;
         assert_eq!(rt; (grid.cols, grid.rows), (cols, lines));
-        let found = grid.places.as_slice();
-        assert_eq!(rt; found.len(), places.len());
-        for (place, wanted) in found.iter().zip(places) {
-            assert_eq!(rt; (place.left, place.right, place.top, place.bottom), *wanted);
-        }
+        compare_places(&rt, grid.places.as_slice(), places);
     }
     Ok(())
+}
+
+/// What `form` returns for a table, in words.
+fn outcome_of_text(alloc: Global, table: &str) -> Result<String, Fail> {
+    let shape = read(alloc, table)?;
+    Ok(outcome(alloc, &shape)?)
 }
 
 #[test]
@@ -313,8 +336,7 @@ fn the_first_overlap_is_named(rt: HostRuntime) -> Result<(), Fail> {
         // a slot that dropping would leave out
         ("41/11 12/31", "cells 2 and 3 overlap at row 2 column 1"),
     ] {
-        let shape = read(rt.alloc(), table)?;
-        let found = outcome(rt.alloc(), &shape)?;
+        let found = outcome_of_text(rt.alloc(), table)?;
         assert_eq!(rt; found.as_str(), wanted, "{table}");
     }
     Ok(())
