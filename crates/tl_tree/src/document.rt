@@ -75,11 +75,7 @@ fn read(alloc: Global, tokens: &[Token]) -> Result<TableNode, TreeError>
             tables += 1;
         }
     }
-    match reading {
-        Reading::Before => Err(TreeError::NoTable),
-        Reading::Inside(_outer, _table) => Err(TreeError::Unclosed),
-        Reading::After(node) => Ok(node),
-    }
+    reading.into_tree()
 }
 
 /// The tree that the tokens of a file spell: its table, with the tables nested in it. The tables are

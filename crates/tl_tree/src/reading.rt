@@ -1,6 +1,6 @@
 //! A document as it is read, from its first token to its last.
 
-ghost use Rattle.std.specs.Prelude.{◌≡◌, ◌≢◌, ◌≤◌, ◌<◌, ◌+◌, ℕ, length, chars, IfOk, IfErr};
+ghost use Rattle.std.specs.Prelude.{◌≡◌, ◌≢◌, ◌≤◌, ◌<◌, ◌+◌, ℕ, length, chars, IfOk, IfErr, Some};
 ghost use Rattle.tl_token.specs.declared.token.Element.TheVariants.{Table, Outer as OuterElement};
 ghost use Rattle.tl_tree.specs.declared.stop.Stop.TheVariants.{Misfit};
 ghost use Rattle.tl_token.specs.declared.token.TokenKind.{TokenKind};
@@ -8,10 +8,13 @@ ghost use Rattle.tl_tree.specs.Tags as tags;
 ghost use Rattle.tl_tree.specs.Tags.{class_of, start_of, end_of};
 ghost use Rattle.tl_tree.specs.inner.Machine as machine;
 ghost use Rattle.tl_tree.specs.Readable.{IsReadable};
+ghost use Rattle.tl_tree.specs.declared.reading.Reading.TheVariants.{After};
 ghost use Rattle.tl_tree.specs.inner.Lines.{line_size};
+ghost use Rattle.tl_tree.specs.inner.Verdict.{end_fault};
 ghost use Rattle.tl_tree.specs.inner.Reading.{IsModest};
 ghost use Rattle.tl_tree.specs.inner.Documents.{state_of, IsModestReading, IsFresh, Reads, IsStop, IsLimit, Nests, Leaves};
 
+use crate::error::TreeError;
 use crate::flow::Flow;
 use crate::node::{Block, TableNode};
 use crate::open::{Holder, OpenTable};
@@ -29,7 +32,6 @@ pub(crate) struct Outer {
 }
 
 /// How far a document has been read.
-#[derive(Drop)]
 pub(crate) enum Reading {
     /// Its table has not begun.
     Before,
@@ -39,7 +41,29 @@ pub(crate) enum Reading {
     After(TableNode),
 }
 
+impl Drop for Reading {
+    fn drop(self) {
+        match self {
+            Reading::Before => {}
+            Reading::Inside(_outer, _table) => {}
+            Reading::After(_node) => {}
+        }
+    }
+}
+
 impl Reading {
+    /// The tree of the document, if its table has ended.
+    pub(crate) fn into_tree(self) -> Result<TableNode, TreeError>
+        ensures ok { IfOk result (λ node. self ≡ After node) }
+        ensures err { IfErr result (λ error. end_fault (state_of self) ≡ Some error) }
+    {
+        match self {
+            Reading::Before => Err(TreeError::NoTable),
+            Reading::Inside(_outer, _table) => Err(TreeError::Unclosed),
+            Reading::After(node) => Ok(node),
+        }
+    }
+
     /// Reads one token on. `tables` is the number of tables that have begun.
     pub(crate) fn read(
         self,

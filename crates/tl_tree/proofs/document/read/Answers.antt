@@ -1,4 +1,4 @@
-use Rattle.std.proofs.Common.{◌≡◌, ◌≤◌, ◌<◌, ℕ, ◌+◌, true, false, ◌∷◌, length, take, drop, inr, sym, ap, ◌∙◌, subst, arith, alloc_error, sum_by}
+use Rattle.std.proofs.Common.{◌≡◌, ◌≤◌, ◌<◌, ℕ, ◌+◌, true, false, ◌∷◌, length, take, drop, inr, sym, ◌∙◌, subst, arith, alloc_error, sum_by}
 use Rattle.std.proofs.lemmas.List.{length-map, length-take-le}
 use Rattle.tl_base.specs.declared.limits.TheConstants.{MAX_FILE_BYTES}
 use Rattle.tl_base.specs.Returned.{IsMemoryOr}
@@ -6,11 +6,11 @@ use Rattle.tl_tree.specs.Tags.{Kinds, kind_of, kinds, is_table_start}
 use Rattle.tl_tree.specs.Readable.{kind_size}
 use Rattle.tl_tree.specs.Spelling.{IsRefused, tables_with}
 use Rattle.tl_tree.specs.declared.error.TreeError.{TreeError}
-use Rattle.tl_tree.specs.declared.error.TreeError.TheVariants.{Memory, NoTable, Unclosed}
+use Rattle.tl_tree.specs.declared.error.TreeError.TheVariants.{Memory}
 use Rattle.tl_tree.specs.declared.reading.Reading.{Reading}
 use Rattle.tl_tree.specs.inner.Verdict.{end_fault}
 use Rattle.tl_tree.specs.inner.Documents.{state_of, HasRead, stop_error}
-use Rattle.tl_tree.proofs.Readings.{tables_tag}
+use Rattle.tl_tree.proofs.Readings.{tables_tag, if_ok, if_err}
 use Rattle.tl_tree.proofs.Documents.{one_more_read, stopped, ended_refused, ended_tree, kinds_length, modest, few_tables, at_token, with_token}
 use Rattle.tl_tree.proofs.Documents.{readable_parts, small_prefix, fresh, one_more_table, all_taken}
 use Rattle.tl_tree.proofs.document.read.Goals as goal
@@ -89,30 +89,24 @@ loop-index-preserved c =
           subst Q (tables_tag c.loop-index.tables k tag ∙ sym w.tables-is) all
     ]
 
-pub returns-in-Before-clause-err : goal.returns-in-Before-clause-err
-returns-in-Before-clause-err c =
+pub returns-clause-err : goal.returns-clause-err
+returns-clause-err c =
     let tokens = c.args.tokens.now in
     let P : Kinds → Type 0 = λ ks. HasRead ks c.loop-index.tables c.loop-index.reading in
     let all = subst P (all_taken tokens c.loop-index.index c.loop-index-test.false) c.loop-index.invariant in
-    inr (ended_refused (kinds tokens) c.loop-index.tables c.loop-index.reading NoTable all (ap (λ r. end_fault (state_of r)) c.in-Before.is))
+    if_err c.into_tree.result (λ e fault. inr (ended_refused (kinds tokens) c.loop-index.tables c.loop-index.reading e all fault)) c.into_tree.ensures.err
 
-pub returns-in-Inside-clause-err : goal.returns-in-Inside-clause-err
-returns-in-Inside-clause-err c =
-    let tokens = c.args.tokens.now in
-    let P : Kinds → Type 0 = λ ks. HasRead ks c.loop-index.tables c.loop-index.reading in
-    let all = subst P (all_taken tokens c.loop-index.index c.loop-index-test.false) c.loop-index.invariant in
-    inr (ended_refused (kinds tokens) c.loop-index.tables c.loop-index.reading Unclosed all (ap (λ r. end_fault (state_of r)) c.in-Inside.is))
-
-pub returns-in-After-clause-ok : goal.returns-in-After-clause-ok
-returns-in-After-clause-ok c =
+pub returns-clause-ok : goal.returns-clause-ok
+returns-clause-ok c =
     let tokens = c.args.tokens.now in
     let P : Kinds → Type 0 = λ ks. HasRead ks c.loop-index.tables c.loop-index.reading in
     let Q : Reading → Type 0 = λ r. HasRead (kinds tokens) c.loop-index.tables r in
     let all = subst P (all_taken tokens c.loop-index.index c.loop-index-test.false) c.loop-index.invariant in
-    ended_tree tokens c.loop-index.tables c.in-After.node (subst Q c.in-After.is all)
+    if_ok c.into_tree.result (λ node is. ended_tree tokens c.loop-index.tables node (subst Q is all)) c.into_tree.ensures.ok
 
-pub returns-in-After-clause-within : goal.returns-in-After-clause-within
-returns-in-After-clause-within c =
+pub returns-clause-within : goal.returns-clause-within
+returns-clause-within c =
     let tokens = c.args.tokens.now in
     let P : Kinds → Type 0 = λ ks. HasRead ks c.loop-index.tables c.loop-index.reading in
-    (subst P (all_taken tokens c.loop-index.index c.loop-index-test.false) c.loop-index.invariant).within
+    let all = subst P (all_taken tokens c.loop-index.index c.loop-index-test.false) c.loop-index.invariant in
+    if_ok c.into_tree.result (λ node is. all.within) c.into_tree.ensures.ok
