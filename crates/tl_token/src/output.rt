@@ -11,13 +11,24 @@ use std::alloc::{AllocError, Global};
 use tl_base::{List, Text};
 
 /// The tokens so far, and the characters of a text that no tag has ended yet, with its bytes.
-#[derive(Drop)]
 pub(crate) struct Output {
     alloc: Global,
     tokens: List<Token>,
     text: String,
     first: u32,
     past: u32,
+}
+
+impl Drop for Output {
+    fn drop(self) {
+        let Output {
+            alloc: _alloc,
+            tokens: _tokens,
+            text: _text,
+            first: _first,
+            past: _past,
+        } = self;
+    }
 }
 
 impl Output {
@@ -100,11 +111,11 @@ impl Output {
     {
         self.close()?;
         let Output {
-            alloc: _,
+            alloc: _alloc,
             tokens,
-            text: _,
-            first: _,
-            past: _,
+            text: _text,
+            first: _first,
+            past: _past,
         } = self;
         Ok(tokens)
     }

@@ -3,7 +3,7 @@
 use crate::token::{Element, Spans};
 
 /// What stands at a place.
-#[derive(Debug, Drop)]
+#[derive(Drop)]
 pub(crate) enum Piece {
     /// A comment or a doctype.
     Hidden,
@@ -16,7 +16,7 @@ pub(crate) enum Piece {
 }
 
 /// What stands where no piece does.
-#[derive(Clone, Copy, Debug, PartialEq, Eq)]
+#[derive(Clone, Copy)]
 pub(crate) enum Fault {
     UnendedTag,
     UnendedComment,

@@ -279,14 +279,15 @@ fn white_space_separates_attributes_and_is_text(rt: HostRuntime) -> Result<(), F
 
 #[test]
 fn bytes_that_are_no_text_are_refused_first(rt: HostRuntime) -> Result<(), Fail> {
-    assert_eq!(rt; shown(rt.alloc(), b"\xff")?.as_str(), "not utf-8 at 0");
-    assert_eq!(rt; shown(rt.alloc(), b"a\xff")?.as_str(), "not utf-8 at 1");
-    assert_eq!(rt; shown(rt.alloc(), b"<td>\xc2")?.as_str(), "not utf-8 at 4");
-    assert_eq!(rt; shown(rt.alloc(), b"&foo;\x80")?.as_str(), "not utf-8 at 5");
-    assert_eq!(rt;
-        shown(rt.alloc(), b"\xed\xa0\x80")?.as_str(),
-        "not utf-8 at 0"
-    );
+    for (bytes, wanted) in [
+        (b"\xff".as_slice(), "not utf-8 at 0"),
+        (b"a\xff".as_slice(), "not utf-8 at 1"),
+        (b"<td>\xc2".as_slice(), "not utf-8 at 4"),
+        (b"&foo;\x80".as_slice(), "not utf-8 at 5"),
+        (b"\xed\xa0\x80".as_slice(), "not utf-8 at 0"),
+    ] {
+        assert_eq!(rt; shown(rt.alloc(), bytes)?.as_str(), wanted);
+    }
     Ok(())
 }
 
@@ -301,14 +302,20 @@ fn each_proper_prefix_of_a_tag_is_unended(rt: HostRuntime) -> Result<(), Fail> {
     Ok(())
 }
 
+/// So many copies of the text.
+fn repeated(alloc: Global, text: &str, times: usize) -> Result<Vec<u8>, AllocError> {
+    let mut file = Vec::new(alloc);
+    for _ in 0..times {
+        file.extend_from_slice(text.as_bytes())?;
+    }
+    Ok(file)
+}
+
 // A file of 1,048,576 bytes: three tokens to every 16 bytes, or one text.
 #[test]
 fn a_file_at_the_limit_is_read(rt: HostRuntime) -> Result<(), Fail> {
     for (bytes, wanted) in [("<td>ab &lt;</td>", 196_608), ("a text of 16 b. ", 1)] {
-        let mut file = Vec::new(rt.alloc());
-        for _ in 0..1 << 16 {
-            file.extend_from_slice(bytes.as_bytes())?;
-        }
+        let file = repeated(rt.alloc(), bytes, 1 << 16)?;
         assert_eq!(rt; file.len(), 1 << 20);
         let found = tokens(rt.alloc(), file.as_slice())
             .ok()
