@@ -2,7 +2,7 @@
 
 /// A cell in the grid before columns and rows are dropped: the slots in the columns `left..right`
 /// and from the row `top` on.
-#[derive(Debug, Drop, Clone, Copy)]
+#[derive(Drop, Clone, Copy)]
 pub struct Block {
     /// The cell's number as written, counted from 0.
     pub number: u32,
