@@ -2,6 +2,7 @@
 
 use crate::{Atom, Para, TextError, configs, count_lines, least_width, lines, part, words};
 use std::alloc::{AllocError, Global};
+use std::process::Abort;
 use std::test::Fail;
 use tl_base::{List, Text};
 
@@ -112,6 +113,44 @@ fn a_paragraph_has_at_most_so_many_bytes_and_breaks(rt: HostRuntime) -> Result<(
     Ok(())
 }
 
+/// Compares the widths from which on a paragraph has fewer lines, and their numbers of lines.
+fn compare_configs(
+    rt: &impl Abort,
+    alloc: Global,
+    (spelt, p): (&str, &Para),
+    steps: &[(u32, u32)],
+    last: u32,
+) -> Result<(), Fail> {
+    let first = steps.first().ok_or("no step")?.0;
+    assert_eq!(rt; least_width(p), first, "{spelt:?}");
+    assert!(rt; first <= last && last <= 500);
+    let found = configs(alloc, p, last)?;
+    let found = found.configs();
+    assert_eq!(rt; found.len(), steps.len(), "{spelt:?}");
+    for (config, step) in found.iter().zip(steps) {
+        assert_eq!(rt; (config.width, config.height), *step, "{spelt:?}");
+    }
+    Ok(())
+}
+
+/// Compares the number of lines of a paragraph in a width, as it is counted and as it is made.
+fn compare_lines(
+    rt: &impl Abort,
+    alloc: Global,
+    (spelt, p): (&str, &Para),
+    steps: &[(u32, u32)],
+    width: u32,
+) {
+    let want = steps
+        .iter()
+        .rev()
+        .find(|step| step.0 <= width)
+        .map(|step| step.1);
+    assert_eq!(rt; count_lines(p, width), want, "{spelt:?} in {width}");
+    let made = lines(alloc, p, width).ok().map(|made| made.len());
+    assert_eq!(rt; made, want.map(|n| n as usize), "{spelt:?} in {width}");
+}
+
 // For each paragraph: the widths from which on it has fewer lines, with their numbers of lines,
 // counted by hand; the last width tried.
 #[test]
@@ -140,24 +179,9 @@ fn each_width_has_the_least_number_of_lines(rt: HostRuntime) -> Result<(), Fail>
         ("a +bb +c", [(2, 3), (3, 2), (4, 1)].as_slice(), 5),
     ] {
         let p = paragraph(rt.alloc(), spelt)?;
-        let first = steps.first().ok_or("no step")?.0;
-        assert_eq!(rt; least_width(&p), first, "{spelt:?}");
-        assert!(rt; first <= last && last <= 500);
-        let found = configs(rt.alloc(), &p, last)?;
-        let found = found.configs();
-        assert_eq!(rt; found.len(), steps.len(), "{spelt:?}");
-        for (config, step) in found.iter().zip(steps) {
-            assert_eq!(rt; (config.width, config.height), *step, "{spelt:?}");
-        }
+        compare_configs(&rt, rt.alloc(), (spelt, &p), steps, last)?;
         for width in 0..=last {
-            let want = steps
-                .iter()
-                .rev()
-                .find(|step| step.0 <= width)
-                .map(|step| step.1);
-            assert_eq!(rt; count_lines(&p, width), want, "{spelt:?} in {width}");
-            let made = lines(rt.alloc(), &p, width).ok().map(|made| made.len());
-            assert_eq!(rt; made, want.map(|n| n as usize), "{spelt:?} in {width}");
+            compare_lines(&rt, rt.alloc(), (spelt, &p), steps, width);
         }
     }
     Ok(())
