@@ -5,7 +5,7 @@ use tl_form::Kind;
 use tl_grid::Place;
 
 /// A cell of a table with the text that stands for its blocks.
-#[derive(Debug, Drop)]
+#[derive(Drop)]
 pub struct Filled {
     /// What it is in its table.
     pub kind: Kind,

@@ -2,6 +2,7 @@
 
 use crate::html;
 use std::alloc::Global;
+use std::process::Abort;
 use std::test::Fail;
 use tl_base::{Breaking, List, MAX_FILE_BYTES, Text};
 use tl_form::{Content, Kind, Layout, Table, TableCell};
@@ -176,75 +177,113 @@ fn same(one: &Table, other: &Table) -> bool {
     true
 }
 
+/// A cell of one paragraph, or of nothing: its kind, its edges, its floor and its text.
+type TextCell = (Kind, (u32, u32, u32, u32), u32, &'static str);
+
+/// The cells with their texts.
+fn cells_of(alloc: Global, texts: &[TextCell]) -> Result<List<TableCell>, Fail> {
+    let mut cells = List::new(alloc);
+    for &(kind, edges, least, spelt) in texts {
+        let blocks = if spelt.is_empty() {
+            List::new(alloc)
+        } else {
+            text(alloc, spelt)?
+        };
+        cells.push(cell(kind, edges, least, blocks))?;
+    }
+    Ok(cells)
+}
+
+/// Compares the page of a table in a layout, and reads it back.
+fn compare(
+    rt: &impl Abort,
+    alloc: Global,
+    table: &Table,
+    layout: &Layout,
+    want: &str,
+    breaking: Breaking,
+) -> Result<(), Fail> {
+    let page = written(alloc, table, layout)?;
+    assert_eq!(rt; page.as_str(), want);
+    let again = table_of(alloc, want, breaking)?;
+    assert!(rt; same(table, &again));
+    Ok(())
+}
+
+/// Compares the page of a table of these cells, in a layout with these columns and rows.
+fn compare_cells(
+    rt: &impl Abort,
+    alloc: Global,
+    (cols, rows): (u32, u32),
+    (widths, heights): (&[u32], &[u32]),
+    cells: &[TextCell],
+    want: &str,
+) -> Result<(), Fail> {
+    let layout = layout(alloc, widths, heights, List::new(alloc))?;
+    let table = table(cols, rows, cells_of(alloc, cells)?);
+    compare(rt, alloc, &table, &layout, want, Breaking::Words)
+}
+
 #[test]
 fn one_cell_is_a_column_and_a_row(rt: HostRuntime) -> Result<(), Fail> {
-    let alloc = rt.alloc();
-    let mut cells = List::new(alloc);
-    cells.push(cell(Kind::Plain, (0, 1, 0, 1), 0, text(alloc, "aa bb cc")?))?;
-    let layout = layout(alloc, &[8], &[1], List::new(alloc))?;
+    let cells = [(Kind::Plain, (0, 1, 0, 1), 0, "aa bb cc")];
     let want = "<table>\n\
         <colgroup><col style=\"width:8ch\"></colgroup>\n\
         <tr><td><p>aa bb cc</p></td></tr>\n\
         </table>\n";
-    let table = table(1, 1, cells);
-    assert_eq!(rt; written(alloc, &table, &layout)?.as_str(), want);
-    assert!(rt; same(&table, &table_of(alloc, want, Breaking::Words)?));
-    Ok(())
+    compare_cells(&rt, rt.alloc(), (1, 1), (&[8], &[1]), &cells, want)
 }
 
 #[test]
 fn a_span_is_an_attribute_above_one(rt: HostRuntime) -> Result<(), Fail> {
-    let alloc = rt.alloc();
-    let mut cells = List::new(alloc);
-    cells.push(cell(Kind::Plain, (0, 2, 0, 1), 0, text(alloc, "aaaa bbbb cc")?))?;
-    cells.push(cell(Kind::Plain, (0, 1, 1, 2), 0, text(alloc, "x")?))?;
-    cells.push(cell(Kind::Plain, (1, 2, 1, 2), 0, text(alloc, "yy")?))?;
-    let layout = layout(alloc, &[1, 4], &[2, 1], List::new(alloc))?;
+    let cells = [
+        (Kind::Plain, (0, 2, 0, 1), 0, "aaaa bbbb cc"),
+        (Kind::Plain, (0, 1, 1, 2), 0, "x"),
+        (Kind::Plain, (1, 2, 1, 2), 0, "yy"),
+    ];
     let want = "<table>\n\
         <colgroup><col style=\"width:1ch\"><col style=\"width:4ch\"></colgroup>\n\
         <tr><td colspan=\"2\"><p>aaaa bbbb cc</p></td></tr>\n\
         <tr><td><p>x</p></td><td><p>yy</p></td></tr>\n\
         </table>\n";
-    let table = table(2, 2, cells);
-    assert_eq!(rt; written(alloc, &table, &layout)?.as_str(), want);
-    assert!(rt; same(&table, &table_of(alloc, want, Breaking::Words)?));
-    Ok(())
+    compare_cells(&rt, rt.alloc(), (2, 2), (&[1, 4], &[2, 1]), &cells, want)
 }
 
 #[test]
 fn a_caption_has_a_line_above_the_columns_and_no_row(rt: HostRuntime) -> Result<(), Fail> {
-    let alloc = rt.alloc();
-    let mut cells = List::new(alloc);
-    cells.push(cell(Kind::Caption, (0, 2, 0, 1), 0, text(alloc, "A")?))?;
-    cells.push(cell(Kind::Head, (0, 1, 1, 3), 4, text(alloc, "b")?))?;
-    cells.push(cell(Kind::Plain, (1, 2, 1, 2), 0, text(alloc, "c")?))?;
-    cells.push(cell(Kind::Plain, (1, 2, 2, 3), 0, List::new(alloc)))?;
-    let layout = layout(alloc, &[4, 1], &[1, 1, 0], List::new(alloc))?;
+    let cells = [
+        (Kind::Caption, (0, 2, 0, 1), 0, "A"),
+        (Kind::Head, (0, 1, 1, 3), 4, "b"),
+        (Kind::Plain, (1, 2, 1, 2), 0, "c"),
+        (Kind::Plain, (1, 2, 2, 3), 0, ""),
+    ];
     let want = "<table>\n\
         <caption><p>A</p></caption>\n\
         <colgroup><col style=\"width:4ch\"><col style=\"width:1ch\"></colgroup>\n\
         <tr><th rowspan=\"2\" data-min=\"4\"><p>b</p></th><td><p>c</p></td></tr>\n\
         <tr><td></td></tr>\n\
         </table>\n";
-    let table = table(2, 3, cells);
-    assert_eq!(rt; written(alloc, &table, &layout)?.as_str(), want);
-    assert!(rt; same(&table, &table_of(alloc, want, Breaking::Words)?));
-    Ok(())
+    compare_cells(&rt, rt.alloc(), (2, 3), (&[4, 1], &[1, 1, 0]), &cells, want)
+}
+
+/// A table of one cell with that text.
+fn nested(alloc: Global, spelt: &'static str) -> Result<Content, Fail> {
+    let cells = cells_of(alloc, &[(Kind::Plain, (0, 1, 0, 1), 0, spelt)])?;
+    Ok(Content::Table(Box::new(alloc, table(1, 1, cells))?))
 }
 
 #[test]
 fn each_nested_table_takes_the_next_layout(rt: HostRuntime) -> Result<(), Fail> {
     let alloc = rt.alloc();
-    let mut inner = List::new(alloc);
     let mut blocks = text(alloc, "x")?;
-    for (number, width) in [("1", 3), ("2", 5)] {
-        let mut cells = List::new(alloc);
-        cells.push(cell(Kind::Plain, (0, 1, 0, 1), 0, text(alloc, number)?))?;
-        blocks.push(Content::Table(Box::new(alloc, table(1, 1, cells))?))?;
-        inner.push(layout(alloc, &[width], &[1], List::new(alloc))?)?;
-    }
+    blocks.push(nested(alloc, "1")?)?;
+    blocks.push(nested(alloc, "2")?)?;
     let mut cells = List::new(alloc);
     cells.push(cell(Kind::Plain, (0, 1, 0, 1), 0, blocks))?;
+    let table = table(1, 1, cells);
+    let mut inner = List::new(alloc);
+    inner.push(layout(alloc, &[3], &[1], List::new(alloc))?)?;
+    inner.push(layout(alloc, &[5], &[1], List::new(alloc))?)?;
     let layout = layout(alloc, &[5], &[3], inner)?;
     let want = "<table>\n\
         <colgroup><col style=\"width:5ch\"></colgroup>\n\
@@ -258,26 +297,40 @@ fn each_nested_table_takes_the_next_layout(rt: HostRuntime) -> Result<(), Fail> 
         </table>\n\
         </td></tr>\n\
         </table>\n";
-    let table = table(1, 1, cells);
-    assert_eq!(rt; written(alloc, &table, &layout)?.as_str(), want);
-    assert!(rt; same(&table, &table_of(alloc, want, Breaking::Words)?));
-    Ok(())
+    compare(&rt, alloc, &table, &layout, want, Breaking::Words)
 }
 
 #[test]
 fn a_table_without_columns_has_no_line_between_its_tags(rt: HostRuntime) -> Result<(), Fail> {
-    let alloc = rt.alloc();
-    let layout = layout(alloc, &[], &[], List::new(alloc))?;
-    let empty = table(0, 0, List::new(alloc));
     let want = "<table>\n</table>\n";
-    assert_eq!(rt; written(alloc, &empty, &layout)?.as_str(), want);
-    assert!(rt; same(&empty, &table_of(alloc, want, Breaking::Words)?));
-    Ok(())
+    compare_cells(&rt, rt.alloc(), (0, 0), (&[], &[]), &[], want)
+}
+
+/// Compares what stands in the one cell of a page, for a cell with one paragraph.
+fn compare_words(
+    rt: &impl Abort,
+    alloc: Global,
+    spelt: &'static str,
+    want: &str,
+    breaking: Breaking,
+) -> Result<(), Fail> {
+    let layout = layout(alloc, &[9], &[3], List::new(alloc))?;
+    let cells = cells_of(alloc, &[(Kind::Plain, (0, 1, 0, 1), 0, spelt)])?;
+    let page = format!(in alloc;
+        "<table>\n<colgroup><col style=\"width:9ch\"></colgroup>\n<tr><td>{want}</td></tr>\n</table>\n"
+    )?;
+    compare(
+        rt,
+        alloc,
+        &table(1, 1, cells),
+        &layout,
+        page.as_str(),
+        breaking,
+    )
 }
 
 #[test]
 fn words_are_escaped_and_keep_their_breaks(rt: HostRuntime) -> Result<(), Fail> {
-    let alloc = rt.alloc();
     for (spelt, want) in [
         ("a&b <c>", "<p>a&amp;b &lt;c&gt;</p>"),
         ("a\u{a0}b", "<p>a&nbsp;b</p>"),
@@ -286,62 +339,53 @@ fn words_are_escaped_and_keep_their_breaks(rt: HostRuntime) -> Result<(), Fail> 
         ("/ a / /", "<p><br>a<br><br></p>"),
         ("\"'\u{e9}\u{4e2d}", "<p>\"'\u{e9}\u{4e2d}</p>"),
     ] {
-        let mut cells = List::new(alloc);
-        cells.push(cell(Kind::Plain, (0, 1, 0, 1), 0, text(alloc, spelt)?))?;
-        let layout = layout(alloc, &[9], &[3], List::new(alloc))?;
-        let table = table(1, 1, cells);
-        let page = written(alloc, &table, &layout)?;
-        let mut line = String::from_str(
-            alloc,
-            "<table>\n<colgroup><col style=\"width:9ch\"></colgroup>\n<tr><td>",
-        )?;
-        line.push_str(want)?;
-        line.push_str("</td></tr>\n</table>\n")?;
-        assert_eq!(rt; page.as_str(), line.as_str());
         // A unit that goes on with a word is read back where words may be broken.
         let breaking = if spelt.contains('+') {
             Breaking::Any
         } else {
             Breaking::Words
         };
-        assert!(rt; same(&table, &table_of(alloc, page.as_str(), breaking)?));
+        compare_words(&rt, rt.alloc(), spelt, want, breaking)?;
     }
     Ok(())
 }
 
 #[test]
 fn a_caption_alone_makes_one_column(rt: HostRuntime) -> Result<(), Fail> {
-    let alloc = rt.alloc();
-    let mut cells = List::new(alloc);
-    cells.push(cell(Kind::Caption, (0, 1, 0, 1), 0, text(alloc, "A b")?))?;
-    let layout = layout(alloc, &[3], &[1], List::new(alloc))?;
+    let cells = [(Kind::Caption, (0, 1, 0, 1), 0, "A b")];
     let want = "<table>\n\
         <caption><p>A b</p></caption>\n\
         <colgroup><col style=\"width:3ch\"></colgroup>\n\
         </table>\n";
-    let table = table(1, 1, cells);
-    assert_eq!(rt; written(alloc, &table, &layout)?.as_str(), want);
-    assert!(rt; same(&table, &table_of(alloc, want, Breaking::Words)?));
-    Ok(())
+    compare_cells(&rt, rt.alloc(), (1, 1), (&[3], &[1]), &cells, want)
+}
+
+/// A table of so many rows of one cell.
+fn tall_table(alloc: Global, rows: u32) -> Result<Table, Fail> {
+    let mut cells = List::new(alloc);
+    for row in 0..rows {
+        cells.push(cell(Kind::Plain, (0, 1, row, row + 1), 0, text(alloc, "a")?))?;
+    }
+    Ok(table(1, rows, cells))
+}
+
+/// The page of `tall_table`.
+fn tall_page(alloc: Global, rows: u32) -> Result<String, Fail> {
+    let start = "<table>\n<colgroup><col style=\"width:1ch\"></colgroup>\n";
+    let mut page = String::from_str(alloc, start)?;
+    for _ in 0..rows {
+        page.push_str("<tr><td><p>a</p></td></tr>\n")?;
+    }
+    page.push_str("</table>\n")?;
+    Ok(page)
 }
 
 #[test]
 fn two_thousand_rows_have_a_line_each(rt: HostRuntime) -> Result<(), Fail> {
     let alloc = rt.alloc();
-    let mut cells = List::new(alloc);
-    let mut lines = String::new(alloc);
-    for row in 0..2_000 {
-        cells.push(cell(Kind::Plain, (0, 1, row, row + 1), 0, text(alloc, "a")?))?;
-        lines.push_str("<tr><td><p>a</p></td></tr>\n")?;
-    }
     let heights = vec![in alloc; 1; 2_000]?;
     let layout = layout(alloc, &[1], &heights, List::new(alloc))?;
-    let want = format!(in alloc;
-        "<table>\n<colgroup><col style=\"width:1ch\"></colgroup>\n{}</table>\n",
-        lines.as_str()
-    )?;
-    let table = table(1, 2_000, cells);
-    assert!(rt; written(alloc, &table, &layout)?.as_str() == want.as_str());
-    assert!(rt; same(&table, &table_of(alloc, want.as_str(), Breaking::Words)?));
-    Ok(())
+    let table = tall_table(alloc, 2_000)?;
+    let want = tall_page(alloc, 2_000)?;
+    compare(&rt, alloc, &table, &layout, want.as_str(), Breaking::Words)
 }
