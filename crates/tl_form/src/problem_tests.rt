@@ -3,6 +3,7 @@
 use crate::tests::table_of;
 use crate::{InnerSteps, Table, has_sound_problem, problem};
 use std::alloc::{AllocError, Global};
+use std::process::Abort;
 use std::test::Fail;
 use tl_base::{Breaking, Config, List, Steps, Style};
 use tl_problem::{Cell, Problem};
@@ -73,7 +74,8 @@ fn problem_of(
     }
 }
 
-fn number(text: &str) -> Result<u32, Fail> {
+/// The number that is written so.
+pub fn number(text: &str) -> Result<u32, Fail> {
     Ok(text.parse::<u32>().ok().ok_or("no number")?)
 }
 
@@ -134,6 +136,44 @@ fn flat(alloc: Global, file: &str, width: u32) -> Result<String, Fail> {
     Ok(found)
 }
 
+/// Compares the problem of a file's table, without nested tables, with a text.
+fn is_flat(
+    rt: &impl Abort,
+    alloc: Global,
+    file: &str,
+    width: u32,
+    wanted: &str,
+) -> Result<(), Fail> {
+    let found = flat(alloc, file, width)?;
+    assert_eq!(rt; found.as_str(), wanted);
+    Ok(())
+}
+
+/// Compares the problem of a table with another inside, by these bounds of it, with a text.
+fn is_around(
+    rt: &impl Abort,
+    alloc: Global,
+    width: u32,
+    bounds: (&str, &str),
+    wanted: &str,
+) -> Result<(), Fail> {
+    let found = around(alloc, width, bounds.0, bounds.1)?;
+    assert_eq!(rt; found.as_str(), wanted);
+    Ok(())
+}
+
+/// Compares the problem of a table with two others inside, by their steps, with a text.
+fn is_around_two(
+    rt: &impl Abort,
+    alloc: Global,
+    steps: (&str, &str),
+    wanted: &str,
+) -> Result<(), Fail> {
+    let found = around_two(alloc, steps.0, steps.1)?;
+    assert_eq!(rt; found.as_str(), wanted);
+    Ok(())
+}
+
 const TWO_WORDS: &str = "<table><tr><td>aaa bbb<td>cc dd ee</table>";
 
 const TWO_WORDS_INSIDE: &str = "<table><tr><td><table><tr><td>aaa bbb<td>cc dd ee</table></table>";
@@ -144,60 +184,38 @@ const TWO_TABLES_INSIDE: &str =
 #[test]
 fn each_cell_has_the_least_lines_of_its_paragraphs(rt: HostRuntime) -> Result<(), Fail> {
     let alloc = rt.alloc();
-    let found = flat(alloc, TWO_WORDS, 12)?;
-    assert_eq!(rt;
-        found.as_str(),
-        "2x1 at 12, count 6: 0-1,0-1(3:2 7:1) 1-2,0-1(2:3 5:2 8:1)"
-    );
+    let wanted = "2x1 at 12, count 6: 0-1,0-1(3:2 7:1) 1-2,0-1(2:3 5:2 8:1)";
+    is_flat(&rt, alloc, TWO_WORDS, 12, wanted)?;
     let file = "<table><tr><td>a<br><br><p>b<br></table>";
-    let found = flat(alloc, file, 5)?;
-    assert_eq!(rt; found.as_str(), "1x1 at 5, count 1: 0-1,0-1(1:3)");
+    is_flat(&rt, alloc, file, 5, "1x1 at 5, count 1: 0-1,0-1(1:3)")?;
     let file = "<table><tr><td data-min=4>a<td><td data-min=3></table>";
-    let found = flat(alloc, file, 20)?;
-    assert_eq!(rt;
-        found.as_str(),
-        "3x1 at 20, count 1: 0-1,0-1(4:1) 1-2,0-1(0:0) 2-3,0-1(3:0)"
-    );
-    Ok(())
+    let wanted = "3x1 at 20, count 1: 0-1,0-1(4:1) 1-2,0-1(0:0) 2-3,0-1(3:0)";
+    is_flat(&rt, alloc, file, 20, wanted)
 }
 
 #[test]
 fn spans_have_steps_of_their_own(rt: HostRuntime) -> Result<(), Fail> {
-    let alloc = rt.alloc();
     let file = "<table><tr><td colspan=2>aaaa bbbb cc<tr><td>x<td>yy</table>";
-    let found = flat(alloc, file, 9)?;
-    assert_eq!(rt;
-        found.as_str(),
-        "2x2 at 9, count 2: 0-2,0-1(4:3 7:2) 0-1,1-2(1:1) 1-2,1-2(2:1)"
-    );
+    let wanted = "2x2 at 9, count 2: 0-2,0-1(4:3 7:2) 0-1,1-2(1:1) 1-2,1-2(2:1)";
+    is_flat(&rt, rt.alloc(), file, 9, wanted)?;
     let file = "<table><tr><td rowspan=2>aa bb cc<td>x<tr><td>y</table>";
-    let found = flat(alloc, file, 7)?;
-    assert_eq!(rt;
-        found.as_str(),
-        "2x2 at 7, count 2: 0-1,0-2(2:3 5:2) 1-2,0-1(1:1) 1-2,1-2(1:1)"
-    );
-    Ok(())
+    let wanted = "2x2 at 7, count 2: 0-1,0-2(2:3 5:2) 1-2,0-1(1:1) 1-2,1-2(1:1)";
+    is_flat(&rt, rt.alloc(), file, 7, wanted)
 }
 
 #[test]
 fn a_page_too_narrow_or_too_wide_has_no_sound_problem(rt: HostRuntime) -> Result<(), Fail> {
-    let found = flat(rt.alloc(), TWO_WORDS, 6)?;
-    assert_eq!(rt; found.as_str(), "unsound");
-    let found = flat(rt.alloc(), TWO_WORDS, 501)?;
-    assert_eq!(rt; found.as_str(), "unsound");
-    Ok(())
+    is_flat(&rt, rt.alloc(), TWO_WORDS, 6, "unsound")?;
+    is_flat(&rt, rt.alloc(), TWO_WORDS, 501, "unsound")
 }
 
 #[test]
 fn four_columns_of_two_classes_have_16_ways(rt: HostRuntime) -> Result<(), Fail> {
     let file =
         "<table><tr><td>a a<td>b b<td>c<br>c<tr><td>p<td>q<td>cccc cccc<td>dddd dddd</table>";
-    let found = problem_of(rt.alloc(), file, Breaking::Words, Style::Plain, 25, &[])?;
-    assert_eq!(rt;
-        found.as_str(),
-        "4x2 at 25, count 16: 0-1,0-1(1:2 3:1) 1-2,0-1(1:2 3:1) 2-3,0-1(1:2) 0-1,1-2(1:1) 1-2,1-2(1:1) 2-3,1-2(4:2 9:1) 3-4,1-2(4:2 9:1)"
-    );
-    Ok(())
+    let wanted =
+        "4x2 at 25, count 16: 0-1,0-1(1:2 3:1) 1-2,0-1(1:2 3:1) 2-3,0-1(1:2) 0-1,1-2(1:1) 1-2,1-2(1:1) 2-3,1-2(4:2 9:1) 3-4,1-2(4:2 9:1)";
+    is_flat(&rt, rt.alloc(), file, 25, wanted)
 }
 
 #[test]
@@ -212,28 +230,22 @@ fn a_word_between_units_has_a_step_at_each_width_that_pays(rt: HostRuntime) -> R
 }
 
 // The table of two words fits 7 columns in 3 lines, 10 in 2 and 17 in one.
+const WHOLE: &str = "7:3 10:2 17:1";
+
 #[test]
 fn a_nested_table_needs_what_its_steps_say(rt: HostRuntime) -> Result<(), Fail> {
-    let whole = "7:3 10:2 17:1";
-    let found = around(rt.alloc(), 12, whole, whole)?;
-    assert_eq!(rt; found.as_str(), "1x1 at 12, count 2: 0-1,0-1(7:3 10:2)");
-    let found = around(rt.alloc(), 12, "7:2", "7:3")?;
-    assert_eq!(rt; found.as_str(), "1x1 at 12, count 1: 0-1,0-1(7:2|7:3)");
-    Ok(())
+    let wanted = "1x1 at 12, count 2: 0-1,0-1(7:3 10:2)";
+    is_around(&rt, rt.alloc(), 12, (WHOLE, WHOLE), wanted)?;
+    let wanted = "1x1 at 12, count 1: 0-1,0-1(7:2|7:3)";
+    is_around(&rt, rt.alloc(), 12, ("7:2", "7:3"), wanted)
 }
 
 #[test]
 fn crossing_unequal_or_missing_bounds_make_no_sound_problem(rt: HostRuntime) -> Result<(), Fail> {
-    let whole = "7:3 10:2 17:1";
-    let found = around(rt.alloc(), 12, "7:3", "7:2")?;
-    assert_eq!(rt; found.as_str(), "unsound");
-    let found = around(rt.alloc(), 12, "6:3", "7:3")?;
-    assert_eq!(rt; found.as_str(), "unsound");
-    let found = around(rt.alloc(), 12, "", whole)?;
-    assert_eq!(rt; found.as_str(), "unsound");
-    let found = around(rt.alloc(), 6, whole, whole)?;
-    assert_eq!(rt; found.as_str(), "unsound");
-    Ok(())
+    is_around(&rt, rt.alloc(), 12, ("7:3", "7:2"), "unsound")?;
+    is_around(&rt, rt.alloc(), 12, ("6:3", "7:3"), "unsound")?;
+    is_around(&rt, rt.alloc(), 12, ("", WHOLE), "unsound")?;
+    is_around(&rt, rt.alloc(), 6, (WHOLE, WHOLE), "unsound")
 }
 
 // A height at a width at which the cell has none does not count towards the limit of heights.
@@ -241,11 +253,10 @@ fn crossing_unequal_or_missing_bounds_make_no_sound_problem(rt: HostRuntime) -> 
 fn tables_one_under_the_other_are_added_from_the_greater_least_width_on(
     rt: HostRuntime,
 ) -> Result<(), Fail> {
-    let found = around_two(rt.alloc(), "2:5 4:1", "3:2")?;
-    assert_eq!(rt; found.as_str(), "1x1 at 9, count 2: 0-1,0-1(3:7 4:3)");
-    let found = around_two(rt.alloc(), "1:1073741824 5:1", "5:1073741823")?;
-    assert_eq!(rt; found.as_str(), "1x1 at 9, count 1: 0-1,0-1(5:1073741824)");
-    let found = around_two(rt.alloc(), "1:1073741824 5:1", "5:1073741824")?;
-    assert_eq!(rt; found.as_str(), "unsound");
-    Ok(())
+    let alloc = rt.alloc();
+    let wanted = "1x1 at 9, count 2: 0-1,0-1(3:7 4:3)";
+    is_around_two(&rt, alloc, ("2:5 4:1", "3:2"), wanted)?;
+    let wanted = "1x1 at 9, count 1: 0-1,0-1(5:1073741824)";
+    is_around_two(&rt, alloc, ("1:1073741824 5:1", "5:1073741823"), wanted)?;
+    is_around_two(&rt, alloc, ("1:1073741824 5:1", "5:1073741824"), "unsound")
 }

@@ -1,7 +1,8 @@
 //! Files whose tables, least widths and chains are counted by hand, refusals, and tables at the limits.
 
-ghost use Rattle.std.specs.Prelude.{IfOk};
+ghost use Rattle.std.specs.Prelude.{◌≡◌, IfOk, Some};
 ghost use Rattle.tl_form.specs.Sound.{IsSound};
+ghost use Rattle.tl_tree.specs.Sound.{IsSound as IsSoundTree};
 
 use crate::{
     Content, FormError, Kind, Layout, Table, TableCell, least_width, narrow_chain, nested, table,
@@ -14,7 +15,42 @@ use tl_grid::GridError;
 use tl_problem::{Chain, Entry};
 use tl_text::{Atom, Para};
 use tl_token::tokens;
-use tl_tree::tree;
+use tl_tree::{TableNode, tree};
+
+/// The tree of a file, if it spells one.
+fn tree_of(alloc: Global, file: &str) -> Result<Option<TableNode>, AllocError>
+    ensures { IfOk result (λ found. (node : TableNode) → found ≡ Some node → IsSoundTree node) }
+{
+    let bytes = file.as_bytes();
+    if bytes.len() > MAX_FILE_BYTES {
+        return Ok(None);
+    }
+    let Ok(list) = tokens(alloc, bytes) else {
+        return Ok(None);
+    };
+    match tree(alloc, list.as_slice()) {
+        Ok(node) => Ok(Some(node)),
+        Err(_) => Ok(None),
+    }
+}
+
+/// The table of a tree, or why it has none.
+fn table_or_text(
+    alloc: Global,
+    node: &TableNode,
+    breaking: Breaking,
+) -> Result<Result<Table, String>, AllocError>
+    requires { IsSoundTree node.now }
+    ensures { IfOk result (λ found. IfOk found IsSound) }
+{
+    match table(alloc, node, breaking) {
+        Ok(formed) => Ok(Ok(formed)),
+        Err(error) => {
+            let text = format!(in alloc; "{error}")?;
+            Ok(Err(text))
+        }
+    }
+}
 
 /// The table of a file, or why it has none.
 pub fn table_of(
@@ -24,29 +60,10 @@ pub fn table_of(
 ) -> Result<Result<Table, String>, AllocError>
     ensures { IfOk result (λ found. IfOk found IsSound) }
 {
-    let bytes = file.as_bytes();
-    if bytes.len() > MAX_FILE_BYTES {
-        let text = String::from_str(alloc, "too long")?;
-        return Ok(Err(text));
-    }
-    let list = match tokens(alloc, bytes) {
-        Ok(list) => list,
-        Err(error) => {
-            let text = format!(in alloc; "{error}")?;
-            return Ok(Err(text));
-        }
-    };
-    let node = match tree(alloc, list.as_slice()) {
-        Ok(node) => node,
-        Err(error) => {
-            let text = format!(in alloc; "{error}")?;
-            return Ok(Err(text));
-        }
-    };
-    match table(alloc, &node, breaking) {
-        Ok(formed) => Ok(Ok(formed)),
-        Err(error) => {
-            let text = format!(in alloc; "{error}")?;
+    match tree_of(alloc, file)? {
+        Some(node) => table_or_text(alloc, &node, breaking),
+        None => {
+            let text = String::from_str(alloc, "no tree")?;
             Ok(Err(text))
         }
     }
@@ -267,14 +284,59 @@ const DATAFRAME: &str = "<table border=\"1\" class=\"dataframe\">
 </table>
 ";
 
+/// Compares the table of a file with a text.
+fn forms(
+    rt: &impl Abort,
+    alloc: Global,
+    file: &str,
+    breaking: Breaking,
+    wanted: &str,
+) -> Result<(), Fail> {
+    let found = shown(alloc, file, breaking)?;
+    assert_eq!(rt; found.as_str(), wanted);
+    Ok(())
+}
+
+/// Compares the least width of a file's table and its heaviest chain with a text.
+fn weighs(
+    rt: &impl Abort,
+    alloc: Global,
+    file: &str,
+    style: Style,
+    wanted: &str,
+) -> Result<(), Fail> {
+    let found = narrowest(alloc, file, style)?;
+    assert_eq!(rt; found.as_str(), wanted);
+    Ok(())
+}
+
+/// Compares the least width of a file's table with a number.
+fn takes(
+    rt: &impl Abort,
+    alloc: Global,
+    file: &str,
+    style: Style,
+    wanted: u32,
+) -> Result<(), Fail> {
+    let found = least_of(alloc, file, style)?;
+    assert_eq!(rt; found, Some(wanted));
+    Ok(())
+}
+
+/// Compares how many tables are inside a file's table with a number.
+fn nests(rt: &impl Abort, alloc: Global, file: &str, wanted: u32) -> Result<(), Fail> {
+    let found = nested_of(alloc, file)?;
+    assert_eq!(rt; found, Some(wanted));
+    Ok(())
+}
+
 /// Compares the table of each line's file with what stands after its arrow.
 fn compare(rt: &impl Abort, alloc: Global, table: &str, breaking: Breaking) -> Result<(), Fail> {
     let cases = table.strip_prefix('\n').ok_or("a case on the first line")?;
     for line in cases.lines() {
         let (input, wanted) = line.split_once(" => ").ok_or("a line without an arrow")?;
         let file = input.replace(alloc, "OVER", OVERLAP)?;
-        let found = shown(alloc, file.as_str(), breaking)?;
-        assert_eq!(rt; found.as_str(), wanted, "{input}");
+        forms(rt, alloc, file.as_str(), breaking, wanted)?;
     }
     Ok(())
 }
@@ -299,28 +361,22 @@ fn faulty_spans_are_1_and_rowspan_0_reaches_the_end_of_its_group(
     let wanted =
         "[T0 8x2 d0-2,0-1(a b c) d2-3,0-1(d) d3-4,0-1(e) d4-7,0-1(f) d7-8,0-2(g) d0-1,1-2(h) d1-2,1-2(i) \
         d2-3,1-2(j) d3-4,1-2(k) d4-5,1-2(l) d5-6,1-2(m) d6-7,1-2(n)]";
-    assert_eq!(&rt; shown(rt.alloc(), file, Breaking::Words)?.as_str(), wanted);
-    Ok(())
+    forms(&rt, rt.alloc(), file, Breaking::Words, wanted)
 }
 
 #[test]
 fn a_file_as_a_data_tool_writes_it_is_formed(rt: HostRuntime) -> Result<(), Fail> {
     let wanted =
         "[T0 3x2 h0-1,0-1 h1-2,0-1(name) h2-3,0-1(qty) h0-1,1-2(0) d1-2,1-2(red pepper) d2-3,1-2(12)]";
-    assert_eq!(&rt;
-        shown(rt.alloc(), DATAFRAME, Breaking::Words)?.as_str(),
-        wanted
-    );
-    assert_eq!(&rt; least_of(rt.alloc(), DATAFRAME, Style::Plain)?, Some(14));
-    Ok(())
+    forms(&rt, rt.alloc(), DATAFRAME, Breaking::Words, wanted)?;
+    takes(&rt, rt.alloc(), DATAFRAME, Style::Plain, 14)
 }
 
 #[test]
 fn words_are_separated_into_units_at_all_depths(rt: HostRuntime) -> Result<(), Fail> {
     let file = "<table><caption>T u</caption><tr><td>ab c<br>d<table><tr><td>ef</table></table>";
     let wanted = "[T0 1x2 c0-1,0-1(T u) d0-1,1-2(a~b c / d)[T1 1x1 d0-1,0-1(e~f)]]";
-    assert_eq!(&rt; shown(rt.alloc(), file, Breaking::Any)?.as_str(), wanted);
-    Ok(())
+    forms(&rt, rt.alloc(), file, Breaking::Any, wanted)
 }
 
 #[test]
@@ -331,38 +387,36 @@ fn least_widths_and_heaviest_chains_are_those_counted_by_hand(rt: HostRuntime) -
         .ok_or("a case on the first line")?;
     for line in cases.lines() {
         let (file, wanted) = line.split_once(" => ").ok_or("a line without an arrow")?;
-        let found = narrowest(alloc, file, Style::Plain)?;
-        assert_eq!(&rt; found.as_str(), wanted, "{file}");
+        weighs(&rt, alloc, file, Style::Plain, wanted)?;
     }
     Ok(())
 }
 
 #[test]
 fn a_frame_adds_one_column_between_two_and_one_at_each_side(rt: HostRuntime) -> Result<(), Fail> {
-    let alloc = rt.alloc();
     let spanned = "<table><tr><td colspan=2>abc<tr><td>x<td>y</table>";
-    assert_eq!(&rt; least_of(alloc, spanned, Style::Frame)?, Some(5));
+    takes(&rt, rt.alloc(), spanned, Style::Frame, 5)?;
     let inner = "<table><tr><td><table><tr><td>aaa bbb<td>cc dd ee</table></table>";
     let wanted = "10, chain 0 0:1, chain 1 0 1";
-    assert_eq!(&rt; narrowest(alloc, inner, Style::Frame)?.as_str(), wanted);
-    Ok(())
+    weighs(&rt, rt.alloc(), inner, Style::Frame, wanted)
+}
+
+/// So many tables inside one another.
+fn inside_one_another(alloc: Global, times: usize) -> Result<String, AllocError> {
+    let starts = repeated(alloc, "<table><tr><td>", times)?;
+    let ends = repeated(alloc, "</table>", times)?;
+    format!(in alloc; "{starts}a{ends}")
 }
 
 #[test]
 fn eight_tables_stand_inside_one_another(rt: HostRuntime) -> Result<(), Fail> {
     let alloc = rt.alloc();
-    let starts = repeated(alloc, "<table><tr><td>", 8)?;
-    let ends = repeated(alloc, "</table>", 8)?;
-    let file = format!(in alloc; "{starts}a{ends}")?;
-    assert_eq!(&rt; nested_of(alloc, file.as_str())?, Some(7));
-    assert_eq!(&rt; least_of(alloc, file.as_str(), Style::Frame)?, Some(17));
+    let file = inside_one_another(alloc, 8)?;
+    nests(&rt, alloc, file.as_str(), 7)?;
+    takes(&rt, alloc, file.as_str(), Style::Frame, 17)?;
     let wanted =
         "1, chain 0 0:1, chain 1 0:2, chain 2 0:3, chain 3 0:4, chain 4 0:5, chain 5 0:6, chain 6 0:7, chain 7 0";
-    assert_eq!(&rt;
-        narrowest(alloc, file.as_str(), Style::Plain)?.as_str(),
-        wanted
-    );
-    Ok(())
+    weighs(&rt, alloc, file.as_str(), Style::Plain, wanted)
 }
 
 #[test]
@@ -370,101 +424,114 @@ fn two_hundred_tables_are_counted(rt: HostRuntime) -> Result<(), Fail> {
     let alloc = rt.alloc();
     let inner = repeated(alloc, "<table></table>", 199)?;
     let file = format!(in alloc; "<table><tr><td>{inner}</table>")?;
-    assert_eq!(&rt; nested_of(alloc, file.as_str())?, Some(199));
-    Ok(())
+    nests(&rt, alloc, file.as_str(), 199)
 }
 
-/// A table inside another, with these rows.
-fn inside(alloc: Global, rows: &str) -> Result<String, AllocError> {
-    format!(in alloc; "<table><tr><td><table>{rows}</table></table>")
+/// A nested table as large as it may be: a beginning, and a part so many times.
+#[derive(Clone, Copy)]
+struct Limit<'a> {
+    begin: &'a str,
+    part: &'a str,
+    times: usize,
+    /// The least width of the table around it.
+    least: u32,
+    /// What is too much at its end.
+    more: &'a str,
+    /// What is then the refusal.
+    refusal: &'a str,
+}
+
+/// The file of the limit, with this at the end of its nested table.
+fn file_of(alloc: Global, limit: &Limit<'_>, end: &str) -> Result<String, AllocError> {
+    let parts = repeated(alloc, limit.part, limit.times)?;
+    let begin = limit.begin;
+    format!(in alloc; "<table><tr><td><table>{begin}{parts}{end}</table></table>")
+}
+
+/// Compares what is found at the limit, and past it.
+fn is_held(rt: &impl Abort, alloc: Global, limit: &Limit<'_>) -> Result<(), Fail> {
+    let file = file_of(alloc, limit, "")?;
+    takes(rt, alloc, file.as_str(), Style::Plain, limit.least)?;
+    let past = file_of(alloc, limit, limit.more)?;
+    forms(rt, alloc, past.as_str(), Breaking::Words, limit.refusal)
 }
 
 #[test]
 fn a_nested_table_may_have_20000_cells(rt: HostRuntime) -> Result<(), Fail> {
-    let alloc = rt.alloc();
-    let rows = repeated(alloc, "<tr><td><td><td><td><td><td><td><td><td><td>", 2000)?;
-    let file = inside(alloc, rows.as_str())?;
-    assert_eq!(&rt; least_of(alloc, file.as_str(), Style::Plain)?, Some(18));
-    let more = format!(in alloc; "{rows}<td>")?;
-    let file = inside(alloc, more.as_str())?;
-    assert_eq!(&rt;
-        shown(alloc, file.as_str(), Breaking::Words)?.as_str(),
-        "table 1: 20001 cells in a table"
-    );
-    Ok(())
+    let limit = Limit {
+        begin: "",
+        part: "<tr><td><td><td><td><td><td><td><td><td><td>",
+        times: 2000,
+        least: 18,
+        more: "<td>",
+        refusal: "table 1: 20001 cells in a table",
+    };
+    is_held(&rt, rt.alloc(), &limit)
 }
 
 #[test]
 fn a_nested_table_may_have_60_columns(rt: HostRuntime) -> Result<(), Fail> {
-    let alloc = rt.alloc();
-    let cells = repeated(alloc, "<td>", 60)?;
-    let row = format!(in alloc; "<tr>{cells}")?;
-    let file = inside(alloc, row.as_str())?;
-    assert_eq!(&rt; least_of(alloc, file.as_str(), Style::Plain)?, Some(118));
-    let more = format!(in alloc; "{row}<td>")?;
-    let file = inside(alloc, more.as_str())?;
-    assert_eq!(&rt;
-        shown(alloc, file.as_str(), Breaking::Words)?.as_str(),
-        "table 1: 61 columns in a table"
-    );
-    Ok(())
+    let limit = Limit {
+        begin: "<tr>",
+        part: "<td>",
+        times: 60,
+        least: 118,
+        more: "<td>",
+        refusal: "table 1: 61 columns in a table",
+    };
+    is_held(&rt, rt.alloc(), &limit)
 }
 
 #[test]
 fn a_nested_table_may_have_2000_rows_below_its_caption(rt: HostRuntime) -> Result<(), Fail> {
-    let alloc = rt.alloc();
-    let rows = repeated(alloc, "<tr><td>", 2000)?;
-    let captioned = format!(in alloc; "<caption>abc</caption>{rows}")?;
-    let file = inside(alloc, captioned.as_str())?;
-    assert_eq!(&rt; least_of(alloc, file.as_str(), Style::Plain)?, Some(3));
-    let more = format!(in alloc; "{captioned}<tr><td>")?;
-    let file = inside(alloc, more.as_str())?;
-    assert_eq!(&rt;
-        shown(alloc, file.as_str(), Breaking::Words)?.as_str(),
-        "table 1: 2001 rows in a table"
-    );
-    Ok(())
+    let limit = Limit {
+        begin: "<caption>abc</caption>",
+        part: "<tr><td>",
+        times: 2000,
+        least: 3,
+        more: "<tr><td>",
+        refusal: "table 1: 2001 rows in a table",
+    };
+    is_held(&rt, rt.alloc(), &limit)
+}
+
+/// A table of so many rows and columns, with two words in each cell.
+fn filled(alloc: Global, rows: usize, columns: usize) -> Result<String, AllocError> {
+    let cells = repeated(alloc, "<td>aa b", columns)?;
+    let row = format!(in alloc; "<tr>{cells}")?;
+    let rows = repeated(alloc, row.as_str(), rows)?;
+    format!(in alloc; "<table>{rows}</table>")
 }
 
 #[test]
 fn two_thousand_rows_of_ten_cells_have_a_least_width(rt: HostRuntime) -> Result<(), Fail> {
-    let alloc = rt.alloc();
-    let cells = repeated(alloc, "<td>aa b", 10)?;
-    let row = format!(in alloc; "<tr>{cells}")?;
-    let rows = repeated(alloc, row.as_str(), 2000)?;
-    let file = format!(in alloc; "<table>{rows}</table>")?;
-    assert_eq!(&rt;
-        narrowest(alloc, file.as_str(), Style::Frame)?.starts_with("31, chain 0 "),
-        true
-    );
+    let file = filled(rt.alloc(), 2000, 10)?;
+    let found = narrowest(rt.alloc(), file.as_str(), Style::Frame)?;
+    assert_eq!(&rt; found.starts_with("31, chain 0 "), true);
     Ok(())
 }
 
 #[test]
 fn sixty_columns_of_333_rows_have_a_least_width(rt: HostRuntime) -> Result<(), Fail> {
-    let alloc = rt.alloc();
-    let cells = repeated(alloc, "<td>aa b", 60)?;
-    let row = format!(in alloc; "<tr>{cells}")?;
-    let rows = repeated(alloc, row.as_str(), 333)?;
-    let file = format!(in alloc; "<table>{rows}</table>")?;
-    assert_eq!(&rt;
-        narrowest(alloc, file.as_str(), Style::Frame)?.starts_with("181, chain 0 "),
-        true
-    );
+    let file = filled(rt.alloc(), 333, 60)?;
+    let found = narrowest(rt.alloc(), file.as_str(), Style::Frame)?;
+    assert_eq!(&rt; found.starts_with("181, chain 0 "), true);
+    Ok(())
+}
+
+/// Compares the message of an error with a text.
+fn says(rt: &impl Abort, alloc: Global, error: FormError, wanted: &str) -> Result<(), Fail> {
+    let found = format!(in alloc; "{error}")?;
+    assert_eq!(rt; found.as_str(), wanted);
     Ok(())
 }
 
 #[test]
 fn each_error_has_its_message(rt: HostRuntime) -> Result<(), Fail> {
     let alloc = rt.alloc();
-    let error = FormError::Memory(AllocError);
-    assert_eq!(&rt; format!(in alloc; "{error}")?.as_str(), "out of memory");
+    says(&rt, alloc, FormError::Memory(AllocError), "out of memory")?;
     let error = FormError::Grid(3, GridError::TooManyRows(2001));
-    assert_eq!(&rt;
-        format!(in alloc; "{error}")?.as_str(),
-        "table 3: 2001 rows in a table"
-    );
-    Ok(())
+    says(&rt, alloc, error, "table 3: 2001 rows in a table")
 }
 
 /// Takes what may be sent to other threads and shared between them.

@@ -3,7 +3,7 @@ use Rattle.std.proofs.lemmas.Bool.Decides.{nat_tests}
 use Rattle.tl_token.specs.declared.token.Token.{Token}
 use Rattle.tl_tree.specs.Readable.{AreReadable}
 use Rattle.tl_tree.proofs.ReadableTokens.{tokens_readable}
-use Rattle.tl_form.proofs.tests.table_of.Goals as goal
+use Rattle.tl_form.proofs.tests.tree_of.Goals as goal
 
 pub tree-requires : goal.tree-requires
 tree-requires c =
