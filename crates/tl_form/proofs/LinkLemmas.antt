@@ -297,10 +297,6 @@ links_next style table demands numbers n entries after inner more item d linked 
     (slice_get-get_or demands k d within)
     (room_at style table.cells demands k item d those within is) reason before))
 
-pub made_of : (new first chains inner : List Chain) (chain : Chain) → new ≡ [] → first ≡ new ++ chain ∷ [] → chains ≡ first ++ inner →
-    chains ≡ chain ∷ inner
-made_of new first chains inner chain none pushed joined = joined ∙ ap (λ prefix. prefix ++ inner) (pushed ∙ ap (λ prefix. prefix ++ chain ∷ []) none)
-
 pub all_links : (style : Style) (table : OpenTable) (demands : List Demand) (numbers items : List ℕ) (n : ℕ) (entries : List Entry)
     (inner : List Chain) → items ≡ numbers → n ≤ length items → length items ≤ n →
     LinksSoFar style table demands items n entries inner → LinksSoFar style table demands numbers (length numbers) entries inner

@@ -9,7 +9,6 @@ use Rattle.std.specs.List.{AllZip}
 use Rattle.std.specs.declared.alloc.Global.{Global}
 use Rattle.std.specs.declared.boxed.Box.{Box}
 use Rattle.tl_base.specs.declared.steps.Config.{Config}
-use Rattle.tl_base.specs.declared.style.Style.TheVariants.{Plain}
 use Rattle.tl_base.specs.Steps.{height_at}
 use Rattle.tl_text.specs.declared.paragraph.Atom.{Atom}
 use Rattle.tl_form.specs.declared.cell.Content.{Content, out-Content, roll-Content, out-roll-Content}

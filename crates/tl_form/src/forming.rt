@@ -73,14 +73,14 @@ fn caption_rows(node: &TableNode) -> u32
 }
 
 /// The places, so many rows below.
-fn lowered(alloc: Global, places: &[Place], down: u32) -> Result<List<Place>, AllocError>
-    requires high { All (λ place. place.bottom ≤ MAX_ROWS) places.now }
-    requires low { All (λ place. place.top < place.bottom) places.now }
+fn lowered(alloc: Global, places: List<Place>, down: u32) -> Result<List<Place>, AllocError>
+    requires high { All (λ place. place.bottom ≤ MAX_ROWS) places }
+    requires low { All (λ place. place.top < place.bottom) places }
     requires few { down ≤ 1 }
-    ensures { IfOk result (λ below. below ≡ map (lowered down) places.now) }
+    ensures { IfOk result (λ below. below ≡ map (lowered down) places) }
 {
     let mut below = List::new(alloc);
-    for place in places {
+    for place in places.as_slice() {
         below.push(Place {
             top: place.top + down,
             bottom: place.bottom + down,
@@ -287,6 +287,16 @@ fn joined(mut first: Vec<TableCell>, second: Vec<TableCell>) -> Result<Vec<Table
     Ok(first)
 }
 
+/// The cells of both by top, then left.
+fn arranged(first: Vec<TableCell>, second: Vec<TableCell>) -> Result<Vec<TableCell>, AllocError>
+    ensures same { IfOk result (λ sorted. IsPermutation (first.items ++ second.items) sorted.items) }
+    ensures sorted { IfOk result (λ sorted. IsNonDecreasingBy slot_number sorted.items) }
+{
+    let cells = joined(first, second)?;
+    let sorted = in_order(cells)?;
+    Ok(sorted)
+}
+
 /// The table of a part of a tree.
 #[cycle(forming)]
 fn formed(alloc: Global, node: &TableNode, breaking: Breaking) -> Result<Table, FormError>
@@ -297,15 +307,15 @@ fn formed(alloc: Global, node: &TableNode, breaking: Breaking) -> Result<Table, 
     let grid = grid_of(alloc, node)?;
     let down = caption_rows(node);
     let cols = grid.cols.max(down);
+    let rows = grid.rows + down;
     let caption = caption_cells(alloc, node, cols, breaking)?;
-    let places = lowered(alloc, grid.places.as_slice(), down)?;
+    let places = lowered(alloc, grid.places, down)?;
     let written = written_cells(alloc, node, places.as_slice(), breaking)?;
-    let cells = joined(caption, written)?;
-    let cells = in_order(cells)?;
+    let cells = arranged(caption, written)?;
     Ok(Table {
         number: node.number,
         cols,
-        rows: grid.rows + down,
+        rows,
         cells: List::from_vec(cells),
     })
 }

@@ -1,6 +1,6 @@
 //! Chains of columns: why no page narrower than a table's least width holds it.
 
-ghost use Rattle.std.specs.Prelude.{◌≡◌, ◌+◌, ◌*◌, ◌<◌, ◌++◌, ℕ, None, [], IfOk, MatchOption};
+ghost use Rattle.std.specs.Prelude.{◌≡◌, ◌+◌, ◌*◌, ◌<◌, ◌++◌, ◌∷◌, ℕ, None, [], IfOk, MatchOption};
 ghost use Rattle.tl_form.specs.declared.cell.Content.{out-Content};
 ghost use Rattle.tl_form.specs.declared.cell.Table.{out-Table};
 ghost use Rattle.tl_form.specs.declared.cell.TableCell.{out-TableCell};
@@ -69,6 +69,15 @@ fn chained(mut first: List<Chain>, second: List<Chain>) -> Result<List<Chain>, A
     Ok(first)
 }
 
+/// The chain, and after it those of `rest`.
+fn followed(alloc: Global, first: Chain, rest: List<Chain>) -> Result<List<Chain>, AllocError>
+    ensures { IfOk result (λ chains. chains ≡ first ∷ rest) }
+{
+    let mut chains = List::new(alloc);
+    chains.push(first)?;
+    chained(chains, rest)
+}
+
 /// A heaviest chain of the cells' demands. It weighs the least width of the table.
 fn heaviest_of(
     alloc: Global,
@@ -106,19 +115,18 @@ pub fn narrow_chain(alloc: Global, table: &Table, style: Style) -> Result<List<C
     for number in heaviest.numbers.as_slice() {
         let at = *number as usize;
         let linked = link_of(alloc, &cells[at], demands[at].width, style)?;
+        let nested = linked.inner;
+        inner = chained(inner, linked.chains)?;
         entries.push(Entry {
             cell: *number,
-            inner: linked.inner,
+            inner: nested,
         })?;
-        inner = chained(inner, linked.chains)?;
     }
-    let mut chains = List::new(alloc);
-    chains.push(Chain {
+    let first = Chain {
         table: table.number,
         entries,
-    })?;
-    let chains = chained(chains, inner)?;
-    Ok(chains)
+    };
+    followed(alloc, first, inner)
 }
 
 /// The reason why the cell's room is at least so wide.

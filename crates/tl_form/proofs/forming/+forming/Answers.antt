@@ -1,9 +1,8 @@
-use Rattle.std.proofs.Common.{◌≡◌, ◌∙◌, ◌+◌, ◌<◌, ◌≤◌, [], List, length, map, take, get_or, sym, ap, subst, rules, arith, alloc_error}
-use Rattle.std.specs.List.{All, AllByRecursion, flat_map}
+use Rattle.std.proofs.Common.{◌≡◌, ◌∙◌, ◌+◌, ◌++◌, ◌<◌, ◌≤◌, [], List, length, take, get_or, refl, sym, ap, subst, rules, arith, alloc_error}
+use Rattle.std.specs.List.{AllByRecursion, flat_map}
 use Rattle.std.specs.List.Sorted.{IsPermutation, IsNonDecreasingBy}
 use Rattle.std.proofs.lemmas.List.{take_all, length-map, length-take}
 use Rattle.tl_base.specs.Returned.{IsMemoryOr}
-use Rattle.tl_base.specs.declared.limits.TheConstants.{MAX_ROWS}
 use Rattle.tl_tree.specs.inner.Lines.{blocks_outline}
 use Rattle.tl_grid.specs.declared.shape.Place.{Place}
 use Rattle.tl_grid.proofs.Laws.{all_within}
@@ -226,17 +225,15 @@ formed-returns-in_err-caption-clause-err t c =
     search rules
 
 pub formed-lowered-requires-clause-high : goal.formed-lowered-requires-clause-high
-formed-lowered-requires-clause-high t c =
-    subst (All (λ place. place.bottom ≤ MAX_ROWS)) (sym c.as_slice.ensures) (λ k d within.
+formed-lowered-requires-clause-high t c = λ k d within.
     let placed = all_within (shape_of (out-TableNode c.args.node.now)) c.in_ok-grid.grid (shape_spans c.args.node.now c.requires) c.in_ok-grid.ensures.ok
     k d within in
-    omega (arith, placed.3, c.in_ok-grid.ensures.ok.rows, c.in_ok-grid.ensures.ok.few_rows))
+    omega (arith, placed.3, c.in_ok-grid.ensures.ok.rows, c.in_ok-grid.ensures.ok.few_rows)
 
 pub formed-lowered-requires-clause-low : goal.formed-lowered-requires-clause-low
-formed-lowered-requires-clause-low t c =
-    subst (All (λ place. place.top < place.bottom)) (sym c.as_slice.ensures) (λ k d within.
+formed-lowered-requires-clause-low t c = λ k d within.
     (all_within (shape_of (out-TableNode c.args.node.now)) c.in_ok-grid.grid (shape_spans c.args.node.now c.requires) c.in_ok-grid.ensures.ok
-    k d within).2)
+    k d within).2
 
 pub formed-written_cells-requires : goal.formed-written_cells-requires
 formed-written_cells-requires t c = (
@@ -244,7 +241,7 @@ formed-written_cells-requires t c = (
   (
     c.requires,
     as_many_cells (out-TableNode c.args.node.now) c.in_ok-grid.grid c.in_ok-grid.ensures.ok
-        ∙ sym (ap length (c.as_slice-2.ensures ∙ c.in_ok-places.ensures ∙ ap (map (lowered c.caption_rows-down.result)) c.as_slice.ensures)
+        ∙ sym (ap length (c.as_slice.ensures ∙ c.in_ok-places.ensures)
         ∙ length-map c.in_ok-grid.grid.places (lowered c.caption_rows-down.result)),
   ),
 )
@@ -259,12 +256,11 @@ formed-returns-in_err-written-clause-err t c =
 pub formed-returns-clause-ok : goal.formed-returns-clause-ok
 formed-returns-clause-ok t c =
     made_table c.args.breaking c.args.node.now _ c.in_ok-grid.grid c.in_ok-places.places c.in_ok-caption.caption.items c.in_ok-written.written.items
-    c.in_ok-cells.cells.items c.from_vec.result c.caption_rows-down.result c.max-cols.result c.requires c.in_ok-grid.ensures.ok
-    c.caption_rows-down.ensures c.max-cols.ensures c.in_ok-caption.ensures.ok
-    (c.in_ok-places.ensures ∙ ap (map (lowered c.caption_rows-down.result)) c.as_slice.ensures)
+    (c.in_ok-caption.caption.items ++ c.in_ok-written.written.items) c.from_vec.result c.caption_rows-down.result c.max-cols.result c.requires
+    c.in_ok-grid.ensures.ok c.caption_rows-down.ensures c.max-cols.ensures c.in_ok-caption.ensures.ok c.in_ok-places.ensures
     (subst (λ (places : List Place). Writes c.args.breaking (cells_written (out-TableNode c.args.node.now)) places [] c.in_ok-written.written.items)
-    c.as_slice-2.ensures c.in_ok-written.ensures.ok)
-    c.in_ok-cells.ensures
-    (subst (IsPermutation c.in_ok-cells.cells.items) (sym c.from_vec.ensures) c.in_ok-cells-2.ensures.same)
-    (subst (IsNonDecreasingBy slot_number) (sym c.from_vec.ensures) c.in_ok-cells-2.ensures.sorted)
+    c.as_slice.ensures c.in_ok-written.ensures.ok)
+    refl
+    (subst (IsPermutation (c.in_ok-caption.caption.items ++ c.in_ok-written.written.items)) (sym c.from_vec.ensures) c.in_ok-cells.ensures.same)
+    (subst (IsNonDecreasingBy slot_number) (sym c.from_vec.ensures) c.in_ok-cells.ensures.sorted)
     (out-roll-Table _)

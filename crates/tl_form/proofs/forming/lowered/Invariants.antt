@@ -3,4 +3,4 @@ use Rattle.tl_form.specs.Formed.{lowered}
 use Rattle.tl_form.proofs.forming.lowered.Given as goal
 
 abbrev pub invariant-loop-place : goal.invariant-loop-place
-invariant-loop-place l = l.below ≡ map (lowered l.down) (take l.place-index l.places)
+invariant-loop-place l = l.below ≡ map (lowered l.down) (take l.place-index l.place-items)

@@ -1,16 +1,19 @@
-use Rattle.std.proofs.Common.{◌≡◌, ◌∙◌, ◌<◌, MatchOption, get_or, length, refl, sym, ap, subst, rules, arith}
+use Rattle.std.proofs.Common.{◌≡◌, ◌∙◌, ◌<◌, ◌∷◌, ℕ, MatchOption, get_or, length, refl, sym, ap, subst, rules, arith}
 use Rattle.std.specs.List.{AllByRecursion}
 use Rattle.std.proofs.lemmas.List.{take_all}
 use Rattle.std.proofs.lemmas.Option.{slice_get_read}
+use Rattle.std.proofs.lemmas.Result.{IfOk-weaker}
+use Rattle.tl_problem.specs.declared.chain.Chain.{Chain}
 use Rattle.tl_form.specs.inner.Links.{AreOthers, IsLinkedBy}
 use Rattle.tl_form.specs.declared.cell.Content.{out-Content, the_lemmas}
 use Rattle.tl_form.specs.declared.cell.Content.TheVariants.{outs-Table}
 use Rattle.tl_form.specs.declared.cell.Table.{out-Table}
 use Rattle.tl_form.specs.declared.cell.TableCell.{out-TableCell}
+use Rattle.tl_form.specs.Chains.{IsHeaviestChain}
 use Rattle.tl_form.specs.Least.{IsLeastWidth}
 use Rattle.tl_form.specs.inner.LeastRooms.{IsSoundBlock, IsSoundCell, AreDemandsOf}
 use Rattle.tl_form.proofs.LinkLemmas.{boxed_sound, linked_by_box, others_more, unlinked_by, linked_in, chain_made, as_many, number_within, room_at}
-use Rattle.tl_form.proofs.LinkLemmas.{links_next, made_of, all_links}
+use Rattle.tl_form.proofs.LinkLemmas.{links_next, all_links}
 use Rattle.tl_form.proofs.OwnWidths.{own_or_inner, own_below, column_of_width}
 use Rattle.tl_form.proofs.SoundParts.{sound_cells, sound_blocks, at_item}
 use Rattle.tl_form.proofs.narrow.+narrow.Goals as goal
@@ -141,17 +144,19 @@ narrow_chain-loop-number-preserved t c =
     c.in_ok-linked.ensures c.loop-number.invariant c.in_ok-push.ensures.ok c.in_ok-inner.ensures
 
 pub narrow_chain-returns : goal.narrow_chain-returns
-narrow_chain-returns t c = (
-  c.in_ok-heaviest.heaviest.weight,
-  c.in_ok-heaviest.ensures.least,
-  chain_made c.args.style c.args.table.now c.as_slice-demands.result.now c.in_ok-heaviest.heaviest.numbers c.in_ok-heaviest.heaviest.weight
-      c.loop-number.entries c.loop-number.inner c.in_ok-chains.chains c.requires.sound c.in_ok-heaviest.ensures.chain
-      (all_links c.args.style (out-Table c.args.table.now) c.as_slice-demands.result.now c.in_ok-heaviest.heaviest.numbers
-      c.as_slice-number-items.result.now c.loop-number.number-index c.loop-number.entries c.loop-number.inner c.as_slice-number-items.ensures
-      c.loop-number.auto.number-index-end c.loop-number-test.false c.loop-number.invariant)
-      (take_all (length c.in_ok-heaviest.heaviest.numbers) c.in_ok-heaviest.heaviest.numbers (omega arith))
-      (made_of c.new-chains.result c.push-2.new.self c.in_ok-chains.chains c.loop-number.inner
-      (record { table = (out-Table c.args.table.now).number; entries = c.loop-number.entries }) c.new-chains.ensures c.in_ok-push-2.ensures.ok
-      c.in_ok-chains.ensures)
+narrow_chain-returns t c =
+    let numbers = c.in_ok-heaviest.heaviest.numbers in
+    let weight = c.in_ok-heaviest.heaviest.weight in
+    let first : Chain = record { table = (out-Table c.args.table.now).number; entries = c.loop-number.entries } in
+    IfOk-weaker c.followed.result (λ chains. chains ≡ first ∷ c.loop-number.inner)
+    (λ chains. (w : ℕ) × IsLeastWidth c.args.table.now c.args.style w × IsHeaviestChain c.args.table.now c.args.style chains w)
+    (λ chains made. (
+      weight,
       c.in_ok-heaviest.ensures.least,
-)
+      chain_made c.args.style c.args.table.now c.as_slice-demands.result.now numbers weight c.loop-number.entries c.loop-number.inner chains
+          c.requires.sound c.in_ok-heaviest.ensures.chain
+          (all_links c.args.style (out-Table c.args.table.now) c.as_slice-demands.result.now numbers c.as_slice-number-items.result.now
+          c.loop-number.number-index c.loop-number.entries c.loop-number.inner c.as_slice-number-items.ensures
+          c.loop-number.auto.number-index-end c.loop-number-test.false c.loop-number.invariant)
+          (take_all (length numbers) numbers (omega arith)) made c.in_ok-heaviest.ensures.least,
+    )) c.followed.ensures
