@@ -21,7 +21,7 @@ use tl_base::{List, Style};
 use tl_form::{Content, Layout, Table, TableCell};
 
 /// The lines of a cell, and the number of the first layout of a nested table that it leaves.
-#[derive(Debug, Drop)]
+#[derive(Drop)]
 pub struct Part {
     pub lines: List<Line>,
     pub next: usize,

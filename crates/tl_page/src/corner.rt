@@ -8,7 +8,7 @@ use tl_base::Style;
 
 /// The owners of the four slots around a place of the page. Inside a row or a column two of the slots
 /// are the same, and inside a cell all four belong to it.
-#[derive(Clone, Copy, Debug)]
+#[derive(Clone, Copy)]
 pub struct Corner {
     pub up_left: Owner,
     pub up_right: Owner,

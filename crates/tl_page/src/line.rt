@@ -3,7 +3,7 @@
 use tl_base::List;
 
 /// A line of a cell's content.
-#[derive(Debug, Drop)]
+#[derive(Drop)]
 pub struct Line {
     /// Its bytes, in UTF-8.
     pub text: List<u8>,
@@ -12,7 +12,7 @@ pub struct Line {
 }
 
 /// A cell that is to be drawn.
-#[derive(Debug, Drop)]
+#[derive(Drop)]
 pub struct Drawn {
     /// The column of the grid in which it begins, counted from 0.
     pub left: u32,

@@ -14,7 +14,7 @@ use tl_problem::{room_size, total_size};
 use tl_text::count_lines;
 
 /// What a block takes of its cell.
-#[derive(Clone, Copy, Debug)]
+#[derive(Clone, Copy)]
 pub struct Taken {
     /// How many lines.
     pub lines: u64,

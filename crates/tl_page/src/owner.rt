@@ -2,7 +2,7 @@
 
 /// The owner of a slot. Slots are counted from 1 in both directions, and slot 0 and the one past the
 /// last lie outside of the grid.
-#[derive(Clone, Copy, Debug, PartialEq, Eq)]
+#[derive(Clone, Copy, PartialEq, Eq)]
 pub enum Owner {
     /// The slot lies outside of the grid.
     Outside,

@@ -16,7 +16,7 @@ use tl_form::{Table, TableCell};
 use tl_grid::Place;
 
 /// The owner of each slot of a grid.
-#[derive(Debug, Drop)]
+#[derive(Drop)]
 pub struct Owners {
     /// How many columns the grid has.
     pub cols: u32,

@@ -14,7 +14,7 @@ use std::alloc::{AllocError, Global};
 use tl_base::{List, Style};
 
 /// A table that is to be drawn.
-#[derive(Debug, Drop)]
+#[derive(Drop)]
 pub struct Drawing {
     pub style: Style,
     /// The strips of columns, from left to right.

@@ -2,7 +2,7 @@
 
 /// A strip of a page: the columns of the page (or its lines) that lie in one column of the grid (or
 /// one row), or between two neighbouring ones, where a gap or an edge is.
-#[derive(Clone, Copy, Debug, PartialEq, Eq)]
+#[derive(Clone, Copy, PartialEq, Eq)]
 pub struct Strip {
     /// The slot on its near side, counted from 1, with 0 for the outside.
     pub before: u32,
