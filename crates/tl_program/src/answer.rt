@@ -14,6 +14,7 @@ ghost use Rattle.tl_program.specs.Answers.{IsReadable, StoresNothing};
 ghost use Rattle.tl_program.specs.declared.refusal.Refusal.{Refusal};
 ghost use Rattle.tl_program.specs.declared.report.Report.TheVariants as reports;
 ghost use Rattle.tl_program.specs.inner.Claims.{certificate_of, claim_of};
+ghost use Rattle.tl_program.specs.inner.Found.{IsFound};
 
 use crate::budget::budget_within;
 use crate::makers::searched;
@@ -158,7 +159,27 @@ fn lowest(alloc: Global, task: &Task, table: &Table, budget: u32) -> Result<Answ
 {
     let sections = searched(alloc, task, table, budget)?;
     let certificate = certificate_of(alloc, task, budget, sections);
-    let layout = layout(alloc, table, task.style, &certificate)?;
+    laid(alloc, task, table, budget, &certificate)
+}
+
+/// The page of the layout that the certificate of a search names, with the certificate.
+fn laid(
+    alloc: Global,
+    task: &Task,
+    table: &Table,
+    budget: u32,
+    certificate: &Certificate,
+) -> Result<Answer, AllocError>
+    requires sound { IsSound table.now }
+    requires page { (1 ≤ task.now.width) × (task.now.width ≤ MAX_PAGE_WIDTH) }
+    requires budget { budget ≡ budget_in task.now table.now }
+    requires cuts { budget ≤ MAX_BUDGET }
+    requires wide { (least : ℕ) → IsLeastWidth table.now task.now.style least → least ≤ task.now.width }
+    requires found { IsFound task.now table.now budget certificate.now }
+    ensures answered { IfOk result (λ answer. IsAnswerBy answer.report task.now table.now answer) }
+    ensures not_refused { IfOk result (λ answer. (refusal : Refusal) → answer.report ≡ reports.Refused refusal → ⊥) }
+{
+    let layout = layout(alloc, table, task.style, certificate)?;
     let width = total_width(task.style, layout.widths.as_slice());
     lowest_is_least();
     bounded_is_between();
@@ -167,7 +188,7 @@ fn lowest(alloc: Global, task: &Task, table: &Table, budget: u32) -> Result<Answ
     Ok(Answer {
         report: report_of(task.width, certificate.claim, width),
         page: Some(page_file(alloc, task, table, &layout)?),
-        certificate: certificate_file(alloc, task, &certificate)?,
+        certificate: certificate_file(alloc, task, certificate)?,
     })
 }
 

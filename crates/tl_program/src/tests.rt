@@ -53,6 +53,18 @@ fn arguments(alloc: Global, line: &str) -> Result<Vec<String>, AllocError> {
     Ok(arguments)
 }
 
+/// Adds a file to the files.
+fn add(
+    alloc: Global,
+    files: &mut BTreeMap<String, List<u8>>,
+    name: &str,
+    bytes: &[u8],
+) -> Result<(), AllocError> {
+    let name = String::from_str(alloc, name)?;
+    files.insert(name, List::from_slice(alloc, bytes)?)?;
+    Ok(())
+}
+
 /// A desk whose file `t.html` holds these bytes, and `c.txt` this certificate, if there is one.
 fn desk_with(
     alloc: Global,
@@ -61,15 +73,9 @@ fn desk_with(
     fails: &[Fail],
 ) -> Result<MemoryDesk, AllocError> {
     let mut files = BTreeMap::new(alloc);
-    files.insert(
-        String::from_str(alloc, "t.html")?,
-        List::from_slice(alloc, bytes)?,
-    )?;
+    add(alloc, &mut files, "t.html", bytes)?;
     if let Some(certificate) = certificate {
-        files.insert(
-            String::from_str(alloc, "c.txt")?,
-            List::from_slice(alloc, certificate.as_bytes())?,
-        )?;
+        add(alloc, &mut files, "c.txt", certificate.as_bytes())?;
     }
     Ok(MemoryDesk::new(alloc, files, List::from_slice(alloc, fails)?))
 }
@@ -90,44 +96,68 @@ fn status_of(alloc: Global, line: &str, desk: &mut MemoryDesk) -> Result<u8, All
     Ok(run(alloc, arguments.as_slice(), desk, &NoGate))
 }
 
+/// What a run leaves: the status, the files `p.txt` and `c.txt`, and what was printed.
+#[derive(Clone, Copy, Debug, PartialEq, Eq)]
+struct Left<'a> {
+    status: u8,
+    page: Option<&'a [u8]>,
+    certificate: Option<&'a [u8]>,
+    said: &'a [u8],
+    /// `t.html` is as it was, and there is no other file.
+    stays: bool,
+}
+
+impl<'a> Left<'a> {
+    /// What is on the desk after a run with this status, where `t.html` had these bytes.
+    fn on(desk: &'a MemoryDesk, status: u8, bytes: &[u8]) -> Left<'a> {
+        let page = held(desk, "p.txt");
+        let certificate = held(desk, "c.txt");
+        let files = match (page, certificate) {
+            (None, None) => 1,
+            (Some(_), Some(_)) => 3,
+            _ => 2,
+        };
+        Left {
+            status,
+            page,
+            certificate,
+            said: desk.said(),
+            stays: held(desk, "t.html") == Some(bytes) && desk.files().len() == files,
+        }
+    }
+}
+
+/// Runs the command line over a desk whose file `t.html` holds these bytes, and `c.txt` this
+/// certificate, with these failures. It compares all that is left.
+fn check_left(
+    rt: &(impl Abort + AllocGlobal),
+    line: &str,
+    bytes: &[u8],
+    certificate: Option<&str>,
+    fails: &[Fail],
+    wanted: &Left<'_>,
+) -> Result<(), Failure> {
+    let alloc = rt.alloc();
+    let mut desk = desk_with(alloc, bytes, certificate, fails)?;
+    let status = status_of(alloc, line, &mut desk)?;
+    assert_eq!(rt; Left::on(&desk, status, bytes), *wanted, "{line} {fails:?}");
+    Ok(())
+}
+
 /// Runs the case over a desk with these failures, and compares all that is wanted of it.
 fn check_with(
     rt: &(impl Abort + AllocGlobal),
     fails: &[Fail],
     case: &Case<'_>,
 ) -> Result<(), Failure> {
-    let alloc = rt.alloc();
-    let mut desk = desk(alloc, case.file.as_bytes(), fails)?;
-    let status = status_of(alloc, case.line, &mut desk)?;
-    assert_eq!(rt; status, case.status, "{} {fails:?}", case.line);
-    assert_eq!(rt;
-        desk.said(),
-        case.message.as_bytes(),
-        "{} {fails:?}",
-        case.line
-    );
-    let page = case.page.map(|page| page.as_bytes());
-    assert_eq!(rt; held(&desk, "p.txt"), page, "{} {fails:?}", case.line);
-    let certificate = case.certificate.map(|text| text.as_bytes());
-    assert_eq!(rt;
-        held(&desk, "c.txt"),
-        certificate,
-        "{} {fails:?}",
-        case.line
-    );
-    let files = match (page, certificate) {
-        (None, None) => 1,
-        (Some(_), Some(_)) => 3,
-        _ => 2,
+    let wanted = Left {
+        status: case.status,
+        page: case.page.map(|page| page.as_bytes()),
+        certificate: case.certificate.map(|text| text.as_bytes()),
+        said: case.message.as_bytes(),
+        stays: true,
     };
-    assert_eq!(rt; desk.files().len(), files, "{} {fails:?}", case.line);
-    assert_eq!(rt;
-        held(&desk, "t.html"),
-        Some(case.file.as_bytes()),
-        "{}",
-        case.line
-    );
-    Ok(())
+    check_left(rt, case.line, case.file.as_bytes(), None, fails, &wanted)
 }
 
 /// Runs the case over a desk that does not fail.
@@ -143,17 +173,14 @@ fn check_refused(
     status: u8,
     message: &str,
 ) -> Result<(), Failure> {
-    let alloc = rt.alloc();
-    let mut desk = desk(alloc, file, &[])?;
-    assert_eq!(rt;
-        status_of(alloc, line, &mut desk)?,
+    let wanted = Left {
         status,
-        "{line}: {message}"
-    );
-    assert_eq!(rt; desk.said(), message.as_bytes(), "{line}: {message}");
-    assert_eq!(rt; desk.files().len(), 1, "{line}: {message}");
-    assert_eq!(rt; held(&desk, "t.html"), Some(file), "{line}: {message}");
-    Ok(())
+        page: None,
+        certificate: None,
+        said: message.as_bytes(),
+        stays: true,
+    };
+    check_left(rt, line, file, None, &[], &wanted)
 }
 
 /// A text so many times, one after the other.

@@ -1,12 +1,13 @@
 //! Checks certificates over files in memory, and demonstrates tables.
 
-use super::{NESTED, ONE, SPANNED, TWO, desk_with, held, repeated, status_of};
+use super::{Left, NESTED, ONE, SPANNED, TWO, check_left, desk, repeated, status_of};
 use crate::messages::text;
 use crate::rejection::Rejection;
 use crate::report::Report;
+use std::alloc::{AllocError, Global};
 use std::process::Abort;
 use std::test::Fail as Failure;
-use tl_base::{Fail, List};
+use tl_base::{Fail, List, MemoryDesk};
 
 /// Runs a command line over a file and a certificate, and compares status and message. The files
 /// are as before.
@@ -18,22 +19,14 @@ fn check(
     status: u8,
     message: &str,
 ) -> Result<(), Failure> {
-    let alloc = rt.alloc();
-    let mut desk = desk_with(alloc, file.as_bytes(), certificate, &[])?;
-    assert_eq!(rt;
-        status_of(alloc, line, &mut desk)?,
+    let wanted = Left {
         status,
-        "{line}: {certificate:?}"
-    );
-    assert_eq!(rt; desk.said(), message.as_bytes(), "{line}: {certificate:?}");
-    let before = certificate.map(|text| text.as_bytes());
-    assert_eq!(rt; held(&desk, "c.txt"), before, "{line}: {certificate:?}");
-    assert_eq!(rt;
-        held(&desk, "t.html"),
-        Some(file.as_bytes()),
-        "{line}: {certificate:?}"
-    );
-    Ok(())
+        page: None,
+        certificate: certificate.map(|text| text.as_bytes()),
+        said: message.as_bytes(),
+        stays: true,
+    };
+    check_left(rt, line, file.as_bytes(), certificate, &[], &wanted)
 }
 
 /// A certificate, and what is printed where it is checked.
@@ -392,20 +385,47 @@ fn arguments_that_ask_for_no_check_are_invalid(rt: HostRuntime) -> Result<(), Fa
 
 #[test]
 fn a_call_of_the_desk_that_fails_ends_a_check(rt: HostRuntime) -> Result<(), Failure> {
-    let alloc = rt.alloc();
     // There are three calls, so that a failure of a fourth changes nothing.
-    let cases = [
-        (0, 0, 7, "read fault\n"),
-        (1, 0, 7, "read fault\n"),
-        (2, 6, 8, "lowest"),
-        (3, 0, 0, "lowest height 2 width 10\n"),
+    let cases: [(u32, u32, u8, &[u8]); 4] = [
+        (0, 0, 7, b"read fault\n"),
+        (1, 0, 7, b"read fault\n"),
+        (2, 6, 8, b"lowest"),
+        (3, 0, 0, b"lowest height 2 width 10\n"),
     ];
-    for (call, bytes, status, message) in cases {
-        let mut desk = desk_with(alloc, TWO.as_bytes(), Some(CLOSED), &[Fail { call, bytes }])?;
-        assert_eq!(rt; status_of(alloc, LINE, &mut desk)?, status, "{call}");
-        assert_eq!(rt; desk.said(), message.as_bytes(), "{call}");
+    for (call, bytes, status, said) in cases {
+        let wanted = Left {
+            status,
+            page: None,
+            certificate: Some(CLOSED.as_bytes()),
+            said,
+            stays: true,
+        };
+        let fails = [Fail { call, bytes }];
+        check_left(&rt, LINE, TWO.as_bytes(), Some(CLOSED), &fails, &wanted)?;
     }
     Ok(())
+}
+
+/// The status of the command line over the desk, and what it prints.
+fn told(alloc: Global, line: &str, desk: &mut MemoryDesk) -> Result<(u8, List<u8>), AllocError> {
+    let before = desk.said().len();
+    let status = status_of(alloc, line, desk)?;
+    let message = desk.said().get(before..).unwrap_or(b"");
+    Ok((status, List::from_slice(alloc, message)?))
+}
+
+/// The status of two command lines over the desk, one after the other, where both have one status and
+/// print one message.
+fn common_status(
+    alloc: Global,
+    one: &str,
+    other: &str,
+    desk: &mut MemoryDesk,
+) -> Result<Option<u8>, AllocError> {
+    let (status, message) = told(alloc, one, desk)?;
+    let (again, second) = told(alloc, other, desk)?;
+    let same = again == status && second.as_slice() == message.as_slice();
+    Ok(if same { Some(status) } else { None })
 }
 
 /// Lays a file out, and checks the certificate with the same width and options. No file is refused.
@@ -417,21 +437,14 @@ fn laid_and_checked(
     search: &str,
 ) -> Result<(), Failure> {
     let alloc = rt.alloc();
-    let mut desk = desk_with(alloc, file.as_bytes(), None, &[])?;
     let lay = format!(in alloc; "lay {width} t.html p.txt c.txt{options}{search}")?;
-    let laid = status_of(alloc, lay.as_str(), &mut desk)?;
-    assert!(rt; matches!(laid, 0 | 3 | 4), "{lay}: {file}: {laid}");
-    let message = List::from_slice(alloc, desk.said())?;
     let check = format!(in alloc; "check {width} t.html c.txt{options}")?;
-    assert_eq!(rt;
-        status_of(alloc, check.as_str(), &mut desk)?,
-        laid,
-        "{lay}: {file}"
+    let mut desk = desk(alloc, file.as_bytes(), &[])?;
+    let status = common_status(alloc, lay.as_str(), check.as_str(), &mut desk)?;
+    assert!(rt;
+        matches!(status, Some(0 | 3 | 4)),
+        "{lay}: {file}: {status:?}"
     );
-    let twice = desk.said();
-    assert_eq!(rt; twice.len(), 2 * message.len(), "{lay}: {file}");
-    assert!(rt; twice.starts_with(message.as_slice()), "{lay}: {file}");
-    assert!(rt; twice.ends_with(message.as_slice()), "{lay}: {file}");
     Ok(())
 }
 
@@ -563,23 +576,25 @@ fn a_certificate_that_is_too_long_has_a_message(rt: HostRuntime) -> Result<(), F
     Ok(())
 }
 
+/// Whether the command line has status 0 and one message, which begins so, over two desks with different
+/// files.
+fn is_told_twice(alloc: Global, line: &str, begin: &[u8]) -> Result<bool, AllocError> {
+    let (status, message) = told(alloc, line, &mut desk(alloc, TWO.as_bytes(), &[])?)?;
+    let (again, second) = told(alloc, line, &mut desk(alloc, &[], &[])?)?;
+    let begins = message.as_slice().starts_with(begin);
+    Ok(status == 0 && again == 0 && begins && second.as_slice() == message.as_slice())
+}
+
 #[test]
 fn a_demonstration_is_the_same_each_time(rt: HostRuntime) -> Result<(), Failure> {
-    let alloc = rt.alloc();
     // The cells and the ways to give each span a class were counted by another program.
-    let cases = [
-        ("demo 0", "cells 159 count 185118922800 height "),
-        ("demo 1", "cells 157 count 369733496832 height "),
-        ("demo 2", "cells 152 count 434928130560 height "),
+    let cases: [(&str, &[u8]); 3] = [
+        ("demo 0", b"cells 159 count 185118922800 height "),
+        ("demo 1", b"cells 157 count 369733496832 height "),
+        ("demo 2", b"cells 152 count 434928130560 height "),
     ];
     for (line, begin) in cases {
-        let mut one = desk_with(alloc, TWO.as_bytes(), None, &[])?;
-        let mut other = desk_with(alloc, &[], None, &[])?;
-        let status = status_of(alloc, line, &mut one)?;
-        assert_eq!(rt; status, 0, "{line}");
-        assert_eq!(rt; status_of(alloc, line, &mut other)?, status, "{line}");
-        assert_eq!(rt; one.said(), other.said(), "{line}");
-        assert!(rt; one.said().starts_with(begin.as_bytes()), "{line}");
+        assert!(rt; is_told_twice(rt.alloc(), line, begin)?, "{line}");
     }
     Ok(())
 }

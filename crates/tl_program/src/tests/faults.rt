@@ -180,23 +180,23 @@ fn a_file_that_is_not_there_is_a_read_fault(rt: HostRuntime) -> Result<(), Failu
 fn a_lowest_page_is_stored_whole_or_in_part(rt: HostRuntime) -> Result<(), Failure> {
     let alloc = rt.alloc();
     let whole = Some(b"aaa  cc dd\nbbb  ee   \n".as_slice());
-    for (call, bytes, status, page, message) in [
-        (0, 0, 7, None, "read fault\n"),
-        (1, 4, 8, Some(b"aaa ".as_slice()), ""),
-        (2, 0, 8, whole, ""),
-        (3, 6, 8, whole, "lowest"),
-    ] {
+    // The call that fails, the bytes that it passes, the status, the page, whether the certificate is
+    // empty where it is stored, and the message.
+    let cases: [(u32, u32, u8, Option<&[u8]>, Option<bool>, &[u8]); 4] = [
+        (0, 0, 7, None, None, b"read fault\n"),
+        (1, 4, 8, Some(b"aaa "), None, b""),
+        (2, 0, 8, whole, Some(true), b""),
+        (3, 6, 8, whole, Some(false), b"lowest"),
+    ];
+    for (call, bytes, status, page, empty, said) in cases {
         let mut desk = desk(alloc, TWO.as_bytes(), &[Fail { call, bytes }])?;
-        let line = "lay 12 t.html p.txt c.txt";
-        assert_eq!(rt; status_of(alloc, line, &mut desk)?, status, "call {call}");
-        assert_eq!(rt; held(&desk, "p.txt"), page, "call {call}");
-        assert_eq!(rt; held(&desk, "c.txt").is_some(), call >= 2, "call {call}");
+        let found = status_of(alloc, "lay 12 t.html p.txt c.txt", &mut desk)?;
+        let certificate = held(&desk, "c.txt").map(|text| text.is_empty());
         assert_eq!(rt;
-            held(&desk, "c.txt").is_some_and(|text| text.is_empty()),
-            call == 2,
+            (found, held(&desk, "p.txt"), certificate, desk.said()),
+            (status, page, empty, said),
             "call {call}"
         );
-        assert_eq!(rt; desk.said(), message.as_bytes(), "call {call}");
     }
     Ok(())
 }
@@ -212,8 +212,12 @@ fn an_older_page_is_replaced_or_stays(rt: HostRuntime) -> Result<(), Failure> {
         ("lay 0 t.html p.txt", 2, "aaa  cc dd\nbbb  ee   \n"),
         ("lay 7 t.html p.txt", 8, "aa"),
     ] {
-        assert_eq!(rt; status_of(alloc, line, &mut desk)?, status, "{line}");
-        assert_eq!(rt; held(&desk, "p.txt"), Some(page.as_bytes()), "{line}");
+        let found = status_of(alloc, line, &mut desk)?;
+        assert_eq!(rt;
+            (found, held(&desk, "p.txt")),
+            (status, Some(page.as_bytes())),
+            "{line}"
+        );
     }
     Ok(())
 }

@@ -1,22 +1,22 @@
 //! Each limit at its end and one past it.
 
-use crate::tests::{TWO, check_refused, desk, held, repeated, status_of};
+use crate::tests::{Case, TWO, check, check_refused, repeated};
 use std::alloc::{AllocError, Global};
 use std::process::Abort;
 use std::test::Fail;
 
 /// A text that is repeated so many times, between a start and an end.
 #[derive(Clone, Copy)]
-struct Built {
-    start: &'static str,
-    text: &'static str,
+struct Built<'a> {
+    start: &'a str,
+    text: &'a str,
     times: usize,
-    end: &'static str,
+    end: &'a str,
 }
 
-impl Built {
+impl<'a> Built<'a> {
     /// What is neither repeated nor followed by an end.
-    fn just(start: &'static str) -> Built {
+    fn just(start: &'a str) -> Built<'a> {
         Built {
             start,
             text: "",
@@ -36,7 +36,7 @@ impl Built {
 fn check_built(
     rt: &(impl Abort + AllocGlobal),
     line: &str,
-    built: &Built,
+    built: &Built<'_>,
     status: u8,
     message: &str,
 ) -> Result<(), Fail> {
@@ -48,27 +48,30 @@ fn check_built(
 fn check_page(
     rt: &(impl Abort + AllocGlobal),
     line: &str,
-    built: &Built,
-    page: &Built,
+    built: &Built<'_>,
+    page: &Built<'_>,
     message: &str,
 ) -> Result<(), Fail> {
     let alloc = rt.alloc();
     let file = built.whole(alloc)?;
     let page = page.whole(alloc)?;
-    let mut desk = desk(alloc, file.as_bytes(), &[])?;
-    assert_eq!(rt; status_of(alloc, line, &mut desk)?, 0, "{line}");
-    assert_eq!(rt; held(&desk, "p.txt"), Some(page.as_bytes()), "{line}");
-    assert_eq!(rt; desk.files().len(), 2, "{line}");
-    assert_eq!(rt; desk.said(), message.as_bytes(), "{line}");
-    Ok(())
+    let case = Case {
+        line,
+        file: file.as_str(),
+        status: 0,
+        page: Some(page.as_str()),
+        certificate: None,
+        message,
+    };
+    check(rt, &case)
 }
 
 /// The file passes with this page, and with its text once more it is refused as `past` says.
 fn check_last(
     rt: &(impl Abort + AllocGlobal),
     line: &str,
-    last: &Built,
-    page: &Built,
+    last: &Built<'_>,
+    page: &Built<'_>,
     message: &str,
     past: (u8, &str),
 ) -> Result<(), Fail> {
@@ -269,14 +272,25 @@ fn a_search_makes_100000_cuts(rt: HostRuntime) -> Result<(), Fail> {
 #[test]
 fn a_cell_of_70000_words_has_700_lines(rt: HostRuntime) -> Result<(), Fail> {
     let alloc = rt.alloc();
-    let words = repeated(alloc, "word ", 70_000)?;
-    let file = format!(in alloc; "<table><tr><td>{}</table>", words.as_str())?;
-    let words = repeated(alloc, "word ", 99)?;
-    let line = format!(in alloc; "{}word\n", words.as_str())?;
-    let page = repeated(alloc, line.as_str(), 700)?;
-    let mut desk = desk(alloc, file.as_bytes(), &[])?;
-    assert_eq!(rt; status_of(alloc, "lay 500 t.html p.txt", &mut desk)?, 0);
-    assert!(rt; held(&desk, "p.txt") == Some(page.as_bytes()));
-    assert_eq!(rt; desk.said(), b"lowest height 700 width 499\n".as_slice());
-    Ok(())
+    let file = Built {
+        start: "<table><tr><td>",
+        text: "word ",
+        times: 70_000,
+        end: "</table>",
+    };
+    let line = Built {
+        start: "",
+        text: "word ",
+        times: 99,
+        end: "word\n",
+    };
+    let line = line.whole(alloc)?;
+    let page = Built {
+        start: "",
+        text: line.as_str(),
+        times: 700,
+        end: "",
+    };
+    let message = "lowest height 700 width 499\n";
+    check_page(&rt, "lay 500 t.html p.txt", &file, &page, message)
 }

@@ -160,11 +160,19 @@ fn options_come_in_any_order(rt: HostRuntime) -> Result<(), Fail> {
 fn a_position_may_look_like_an_option(rt: HostRuntime) -> Result<(), Fail> {
     let alloc = rt.alloc();
     let mut desk = desk(alloc, ONE.as_bytes(), &[])?;
-    assert_eq!(rt; status_of(alloc, "lay 8 t.html --html", &mut desk)?, 0);
-    assert_eq!(rt; held(&desk, "--html"), Some(b"aa bb cc\n".as_slice()));
-    assert_eq!(rt; status_of(alloc, "lay 7 --html p.txt", &mut desk)?, 5);
-    let message = "lowest height 1 width 8\nbad input: stray text at 0\n";
-    assert_eq!(rt; desk.said(), message.as_bytes());
-    assert_eq!(rt; held(&desk, "p.txt"), None);
+    let laid = status_of(alloc, "lay 8 t.html --html", &mut desk)?;
+    let read = status_of(alloc, "lay 7 --html p.txt", &mut desk)?;
+    let page = Some(b"aa bb cc\n".as_slice());
+    let message: &[u8] = b"lowest height 1 width 8\nbad input: stray text at 0\n";
+    assert_eq!(rt;
+        (
+            laid,
+            held(&desk, "--html"),
+            read,
+            held(&desk, "p.txt"),
+            desk.said()
+        ),
+        (0, page, 5, None, message)
+    );
     Ok(())
 }

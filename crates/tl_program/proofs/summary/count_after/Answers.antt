@@ -31,7 +31,7 @@ problem_at-requires-clause-next c =
 pub returns : goal.returns
 returns c = record {
   problem = c.in_ok-problem_at.field-0;
-  counted = c.count-2.ensures;
+  counted = c.count.ensures;
   own = λ document of section number width.
       subst (λ (d : Document). IsProblemAt d c.args.before.now section c.in_ok-problem_at.field-0)
       (one_document c.args.table.now Plain DEMO_WIDTH (meant c.in_ok-subject.subject) document c.requires.sound c.in_ok-subject.ensures.is of)
