@@ -15,7 +15,5 @@ mod search;
 mod shape;
 mod sight;
 mod spread;
-#[cfg(test)]
-mod tests;
 
 pub use best::Best;

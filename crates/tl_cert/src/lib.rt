@@ -17,8 +17,6 @@ mod log_text;
 mod reader;
 mod section;
 mod section_text;
-#[cfg(test)]
-mod tests;
 mod text_laws;
 mod trace;
 mod writing;

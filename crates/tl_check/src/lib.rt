@@ -10,8 +10,6 @@ mod firing;
 mod left;
 mod line;
 mod nogoods;
-#[cfg(test)]
-mod tests;
 mod traces;
 mod worked;
 mod zones;

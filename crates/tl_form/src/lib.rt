@@ -60,10 +60,3 @@ pub use valid_laws::{
     narrow_is_too_wide, refused_for_one_reason, valid_is_not_refused,
 };
 pub use width::least_width;
-
-#[cfg(test)]
-mod nested_tests;
-#[cfg(test)]
-mod problem_tests;
-#[cfg(test)]
-mod tests;

@@ -17,8 +17,6 @@ mod problem;
 mod sizes;
 mod sound;
 mod spans;
-#[cfg(test)]
-mod tests;
 mod work;
 mod zone;
 

@@ -18,6 +18,3 @@ pub use document::tree;
 pub use error::TreeError;
 pub use laws::tokens_spell_one_tree;
 pub use node::{Block, CellNode, GroupNode, Part, TableNode};
-
-#[cfg(test)]
-mod tests;

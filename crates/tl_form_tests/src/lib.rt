@@ -1,0 +1,10 @@
+//! The tests of `tl_form`, by its public calls alone: tables of files, their least widths and their problems.
+//! They stand apart, so that `tl_form` is proved once, and not again with each test. It has no code.
+#![tactic(auto)]
+
+#[cfg(test)]
+mod nested_tests;
+#[cfg(test)]
+mod problem_tests;
+#[cfg(test)]
+mod tests;
