@@ -1,6 +1,8 @@
 //! Checks certificates over files in memory, and demonstrates tables.
 
-use super::{Left, NESTED, ONE, SPANNED, TWO, check_left, desk, repeated, status_of};
+use super::{
+    Left, NESTED, ONE, SPANNED, TWO, check_left, desk, desk_with, held, repeated, status_of,
+};
 use crate::messages::text;
 use crate::rejection::Rejection;
 use crate::report::Report;
@@ -19,14 +21,17 @@ fn check(
     status: u8,
     message: &str,
 ) -> Result<(), Failure> {
-    let wanted = Left {
-        status,
-        page: None,
-        certificate: certificate.map(|text| text.as_bytes()),
-        said: message.as_bytes(),
-        stays: true,
-    };
-    check_left(rt, line, file.as_bytes(), certificate, &[], &wanted)
+    let alloc = rt.alloc();
+    let mut desk = desk_with(alloc, file.as_bytes(), certificate, &[])?;
+    let found = status_of(alloc, line, &mut desk)?;
+    let before = certificate.map(|text| text.as_bytes());
+    let stays = held(&desk, "c.txt") == before && held(&desk, "t.html") == Some(file.as_bytes());
+    let told = desk.said() == message.as_bytes();
+    assert!(rt;
+        found == status && stays && told,
+        "{line}: {certificate:?}: {found}, {message:?}"
+    );
+    Ok(())
 }
 
 /// A certificate, and what is printed where it is checked.

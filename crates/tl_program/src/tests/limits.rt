@@ -1,6 +1,6 @@
 //! Each limit at its end and one past it.
 
-use crate::tests::{Case, TWO, check, check_refused, repeated};
+use crate::tests::{TWO, check_refused, desk, held, repeated, status_of};
 use std::alloc::{AllocError, Global};
 use std::process::Abort;
 use std::test::Fail;
@@ -55,15 +55,15 @@ fn check_page(
     let alloc = rt.alloc();
     let file = built.whole(alloc)?;
     let page = page.whole(alloc)?;
-    let case = Case {
-        line,
-        file: file.as_str(),
-        status: 0,
-        page: Some(page.as_str()),
-        certificate: None,
-        message,
-    };
-    check(rt, &case)
+    let mut desk = desk(alloc, file.as_bytes(), &[])?;
+    let status = status_of(alloc, line, &mut desk)?;
+    let stored = held(&desk, "p.txt") == Some(page.as_bytes()) && desk.files().len() == 2;
+    let told = desk.said() == message.as_bytes();
+    assert!(rt;
+        status == 0 && stored && told,
+        "{line}: {status}, {message:?}"
+    );
+    Ok(())
 }
 
 /// The file passes with this page, and with its text once more it is refused as `past` says.
