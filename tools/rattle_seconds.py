@@ -9,6 +9,7 @@ looked at four times a second, so what one takes after the last look is not coun
 compiling, linking and running tests, stands in one line. Ends with the command's status.
 """
 import os
+import signal
 import subprocess
 import sys
 import threading
@@ -93,6 +94,9 @@ def print_table(sums, elapsed):
 def main(words):
     begun = time.monotonic()
     command = subprocess.Popen(words)
+    # What was counted is printed where the run is ended early, too.
+    signal.signal(signal.SIGINT, lambda *_: command.terminate())
+    signal.signal(signal.SIGTERM, lambda *_: command.terminate())
     watch, ended = Watch(command.pid), threading.Event()
 
     def look():
