@@ -1,7 +1,7 @@
 #!/usr/bin/env bash
 # How long the best-first search takes, as LLVM builds it. Proves and builds with `rt`, which has to be in
-# the path, a copy of the crates as they are committed, in which best_test.txt stands for the tests of
-# tl_astar. Its tests time themselves: 20 drawn tables of 30 rows over six columns, which have to close with
+# the path, a copy of the crates as they are committed, in which best_test.txt stands for the tests in
+# tl_astar_tests. Its tests time themselves: 20 drawn tables of 30 rows over six columns, which have to close with
 # 2,000 cuts, and single cuts of 2,000 rows of 10 columns and of 333 rows of 60 columns. Fails where a table
 # takes more than 50 ms, or a cut more than 20 or 50 ms.
 set -euo pipefail
@@ -9,7 +9,7 @@ top=$(cd "$(dirname "$0")/.." && pwd)
 copy=$(mktemp -d)
 trap 'rm -rf "$copy"' EXIT
 git -C "$top" archive HEAD crates crates.txt HANDLES | tar -x -C "$copy"
-cd "$copy/crates/tl_astar"
+cd "$copy/crates/tl_astar_tests"
 mkdir -p proofs/bench
 mv proofs/tests/drawn_row proofs/bench/drawn_row
 sed -i 's/proofs\.tests\.drawn_row/proofs.bench.drawn_row/; s/6 - l.column/l.cols - l.column/' proofs/bench/drawn_row/*.antt
@@ -18,8 +18,8 @@ cp "$top/bench/best_test.txt" src/bench.rt
 sed -i 's/^mod tests;/mod bench;/' src/lib.rt
 rt test >"$copy/log" 2>&1 || { cat "$copy/log"; exit 1; }
 {
-    ./out/tl_astar_tests bench::twenty_tables
-    ./out/tl_astar_tests bench::cuts_of_large_problems
+    ./out/tl_astar_tests_tests bench::twenty_tables
+    ./out/tl_astar_tests_tests bench::cuts_of_large_problems
 } | grep " us" | tee "$copy/log"
 awk '
     BEGIN { most["table"] = 50000; most["2000"] = 20000; most["333"] = 50000 }
