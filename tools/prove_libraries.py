@@ -6,9 +6,10 @@
 `rt` locks a crate and all those below it while it works in a checkout. So each library is proved in a
 copy of its own, which has the libraries below it as links; what the copy keeps in out/ goes to the
 checkout when it ends, so that a run that is stopped goes on from there. The library that the longest
-chain of others waits for gets all processors, by its jobs and its priority; the others share those that
-it leaves. Prints a line for each library as it begins, and one with its seconds as it ends, elapsed and
-of processors. Where one is not proved it prints the end of what `rt` said, and ends with 1.
+chain of others waits for goes first, by its priority, and gets all jobs but one, or all where no other
+library is ready; the others share what it leaves. Prints a line for each library as it begins, and one
+with its seconds as it ends, elapsed and of processors. Where one is not proved it prints the end of what
+`rt` said, and ends with 1.
 """
 import contextlib
 import os
@@ -119,7 +120,10 @@ def prove(target):
             if ready and len(running) < LANES:
                 name = max(ready, key=length.get)
                 is_first = all(length[it.name] < length[name] for it in running.values())
-                jobs = LANES if is_first else max(1, (LANES - len(running)) // len(ready))
+                share = (LANES - len(running)) // len(ready)
+                # More jobs for one library cost more processor seconds: all only where no other can use them.
+                alone = not running and len(ready) == 1
+                jobs = max(1, LANES if alone else max(LANES - 1, share) if is_first else share)
                 waiting.remove(name)
                 say(f"{name} ({len(length) - len(waiting)} of {len(length) + 1})")
                 it = Proving(name, lines, closure(name, depends_on), jobs)
