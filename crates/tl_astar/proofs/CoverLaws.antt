@@ -26,7 +26,8 @@ module _ (problem : ProblemModel) (sound : IsSound problem) (widths : List ℕ) 
     whole-all problem sound widths page,
   )
 
-  covered-more : (trace : List CutAt) (cut : CutAt) → IsTraceOf problem trace → IsCut (whole_zone problem) trace cut → IsCovered trace →
+  covered-more : (trace : List CutAt) (cut : CutAt) → IsTraceOf problem trace → IsCut (whole_zone problem) trace cut →
+      IsCovered trace →
       IsCovered (trace ++ cut ∷ [])
   covered-more trace cut is now covered =
       let z = covered.0 in
@@ -37,7 +38,8 @@ module _ (problem : ProblemModel) (sound : IsSound problem) (widths : List ℕ) 
         | inr apart ↦ (
           z,
           stands-old (whole_zone problem) trace cut z covered.1 apart,
-          subst (λ ranges. InZone problem ranges widths) (sym (zone-old (whole_zone problem) trace cut z covered.1.there)) covered.2,
+          subst (λ ranges. InZone problem ranges widths) (sym (zone-old (whole_zone problem) trace cut z covered.1.there))
+              covered.2,
         )
         | inl same ↦
             let inside = subst (λ y. InZone problem (zone_of problem trace y) widths) (sym same) covered.2 in
@@ -59,7 +61,8 @@ module _ (problem : ProblemModel) (sound : IsSound problem) (widths : List ℕ) 
   covered trace is = trace-by (whole_zone problem) IsCovered covered-none covered-more trace is
 
 -- no placement is lower than what each zone that stands proves
-pub proved-below_placement : (problem : ProblemModel) → IsSound problem → (trace : List CutAt) → IsTraceOf problem trace → (lower : ℕ) →
+pub proved-below_placement : (problem : ProblemModel) → IsSound problem → (trace : List CutAt) → IsTraceOf problem trace →
+    (lower : ℕ) →
     ((z : ℕ) → Stands trace z → Proves problem (zone_of problem trace z) lower) → (placed : Placed) → IsPlacement problem placed →
     lower ≤ placed.height
 proved-below_placement problem sound trace is lower proves placed placement =

@@ -29,7 +29,11 @@ stand z stands =
     let not = stands.not_cut 0 (cut_of 0) (omega arith) in
     elim (cases_lt z 1) [
       | inl first ↦ absurd (not (omega (arith, first)))
-      | inr more ↦ elim (cases_lt z 2) [ inl one ↦ inl (omega (arith, one, more)) | inr two ↦ inr (omega (arith, two, stands.there)) ]
+      | inr more ↦ elim (cases_lt z 2) [
+        | inl one ↦ inl (omega (arith, one, more))
+        | inr two ↦ inr
+            (omega (arith, two, stands.there))
+      ]
     ]
 
 first_stands : Stands one_cut 1
@@ -51,7 +55,8 @@ second_stands = record {
 module _ (problem : ProblemModel) (first : IsBoundOf problem one_cut 1 3) (second : IsBoundOf problem one_cut 2 4)
     (first_area : IsAreaOf problem one_cut 1 6) (second_area : IsAreaOf problem one_cut 2 2)
     (several : HasOneClass (zone_of problem one_cut 1) → ⊥) where
-  bound_at : (z other : ℕ) → Stands one_cut z → IsBoundOf problem one_cut z other → ((z ≡ 1) × (other ≡ 3)) ⊎ ((z ≡ 2) × (other ≡ 4))
+  bound_at : (z other : ℕ) → Stands one_cut z → IsBoundOf problem one_cut z other →
+      ((z ≡ 1) × (other ≡ 3)) ⊎ ((z ≡ 2) × (other ≡ 4))
   bound_at z other stands has = elim (stand z stands) [
     | inl one ↦ inl (
       one,
@@ -100,7 +105,8 @@ module _ (problem : ProblemModel) (first : IsBoundOf problem one_cut 1 3) (secon
   )
 
   -- where the placement in zone 2 has five lines, zone 1, whose area bound is six, may not be cut
-  one_not_by_area : (placed : Placed) → IsPlacementIn problem (InZone problem (zone_of problem one_cut 2)) placed → placed.height ≡ 5 →
+  one_not_by_area : (placed : Placed) → IsPlacementIn problem (InZone problem (zone_of problem one_cut 2)) placed →
+      placed.height ≡ 5 →
       CutsBelowByArea problem (cut_of 0 ∷ cut_of 1 ∷ []) → ⊥
   one_not_by_area placed placement five is =
       let at = is 1 (cut_of 0) (omega arith) in

@@ -17,21 +17,25 @@ use Rattle.tl_problem.proofs.ZoneLaws.{whole-is_zone, lower-inside, upper-inside
 use Rattle.tl_cert.specs.declared.trace.CutAt.{CutAt}
 use Rattle.tl_cert.specs.Traces.{zone_of, IsZoneOf, Stands, IsCut, IsTraceOf}
 use Rattle.tl_cert.specs.Worked.{IsBoundOf}
-use Rattle.tl_cert.proofs.TraceLaws.{zone-old, zone-lower, zone-upper, zone-cases, stands-old, stood-before, stands-new, cuts-there, zones-are}
+use Rattle.tl_cert.proofs.TraceLaws.{zone-old, zone-lower, zone-upper, zone-cases, stands-old, stood-before, stands-new}
+use Rattle.tl_cert.proofs.TraceLaws.{cuts-there, zones-are}
 use Rattle.tl_solve.proofs.WalkLaws.{closed-lower}
 use Rattle.tl_astar.specs.inner.Frontier.{IsShut, AreShut, IsUnderBounds, IsFrontier}
 use Rattle.tl_astar.proofs.Lists.{apart-permuted}
 
 -- a zone that is shut for a height is shut for a lower one
-pub shut-lower : (problem : ProblemModel) (zone : List Range) (height best : ℕ) → best ≤ height → IsShut problem zone height → IsShut problem zone best
+pub shut-lower : (problem : ProblemModel) (zone : List Range) (height best : ℕ) → best ≤ height → IsShut problem zone height →
+    IsShut problem zone best
 shut-lower problem zone height best less (inl closed) = inl (closed-lower problem zone height best less closed)
 shut-lower problem zone height best less (inr area) = inr (area.0, (area.1.0, area.1.1, omega (arith, less, area.1.2)))
 
 -- before any cut the whole may be cut
 pub frontier-whole : (problem : ProblemModel) (height : ℕ) → IsFrontier problem [] height (0 ∷ [])
 frontier-whole problem height = record {
-  standing = All-cons (Stands []) 0 [] (record { there = omega arith; not_cut = All-nil (λ (c : CutAt). c.zone ≢ 0) }) (All-nil (Stands []));
-  once = AllPairs-cons (λ (a b : ℕ). a ≢ b) 0 [] (All-nil (λ (b : ℕ). 0 ≢ b)) (λ i j d less within. absurd (omega (arith, within)));
+  standing = All-cons (Stands []) 0 [] (record { there = omega arith; not_cut = All-nil (λ (c : CutAt). c.zone ≢ 0) })
+      (All-nil (Stands []));
+  once = AllPairs-cons (λ (a b : ℕ). a ≢ b) 0 [] (All-nil (λ (b : ℕ). 0 ≢ b))
+      (λ i j d less within. absurd (omega (arith, within)));
   others = λ z stands.
       let first : 0 ≡ z = omega (arith, stands.there) in
       inl (subst (Contains (0 ∷ [])) first (Contains-first 0 []));
@@ -54,7 +58,8 @@ module _ (problem : ProblemModel) (trace : List CutAt) where
 
   module _ (height : ℕ) where
     -- the order of the zones is free
-    pub frontier-permuted : (xs ys : List ℕ) → IsPermutation xs ys → IsFrontier problem trace height xs → IsFrontier problem trace height ys
+    pub frontier-permuted : (xs ys : List ℕ) → IsPermutation xs ys → IsFrontier problem trace height xs →
+        IsFrontier problem trace height ys
     frontier-permuted xs ys same is = record {
       standing = All-permutation (Stands trace) xs ys same is.standing;
       once = apart-permuted xs ys same is.once;
@@ -63,11 +68,13 @@ module _ (problem : ProblemModel) (trace : List CutAt) where
         | inr shut ↦ inr shut
       ];
       rising = λ i d within bound has.
-          All-permutation (λ z. (other : ℕ) → IsBoundOf problem trace z other → bound ≤ other) xs ys same (is.rising i d within bound has);
+          All-permutation (λ z. (other : ℕ) → IsBoundOf problem trace z other →
+          bound ≤ other) xs ys same (is.rising i d within bound has);
     }
 
     -- a zone that is shut may be left out
-    pub frontier-shut : (z : ℕ) (zones : List ℕ) → IsFrontier problem trace height (z ∷ zones) → IsShut problem (zone_of problem trace z) height →
+    pub frontier-shut : (z : ℕ) (zones : List ℕ) → IsFrontier problem trace height (z ∷ zones) →
+        IsShut problem (zone_of problem trace z) height →
         IsFrontier problem trace height zones
     frontier-shut z zones is shut = record {
       standing = All-tail (Stands trace) z zones is.standing;
@@ -92,11 +99,15 @@ module _ (problem : ProblemModel) (trace : List CutAt) where
 module _ (problem : ProblemModel) (sound : IsSound problem) (trace : List CutAt) (is : IsTraceOf problem trace) (cut : CutAt)
     (now : IsCut (whole_zone problem) trace cut) where
   -- the bounds of the zones that were there stay
-  pub bound-before : (z bound : ℕ) → IsZoneOf trace z → IsBoundOf problem (trace ++ cut ∷ []) z bound → IsBoundOf problem trace z bound
-  bound-before z bound there = subst (λ zone. IsBound problem (InZone problem zone) bound) (zone-old (whole_zone problem) trace cut z there)
+  pub bound-before : (z bound : ℕ) → IsZoneOf trace z → IsBoundOf problem (trace ++ cut ∷ []) z bound →
+      IsBoundOf problem trace z bound
+  bound-before z bound there = subst (λ zone. IsBound problem (InZone problem zone) bound)
+      (zone-old (whole_zone problem) trace cut z there)
 
-  pub bound-kept : (z bound : ℕ) → IsZoneOf trace z → IsBoundOf problem trace z bound → IsBoundOf problem (trace ++ cut ∷ []) z bound
-  bound-kept z bound there = subst (λ zone. IsBound problem (InZone problem zone) bound) (sym (zone-old (whole_zone problem) trace cut z there))
+  pub bound-kept : (z bound : ℕ) → IsZoneOf trace z → IsBoundOf problem trace z bound →
+      IsBoundOf problem (trace ++ cut ∷ []) z bound
+  bound-kept z bound there = subst (λ zone. IsBound problem (InZone problem zone) bound)
+      (sym (zone-old (whole_zone problem) trace cut z there))
 
   cut_there : cut.span < length (zone_of problem trace cut.zone)
   cut_there =
@@ -107,14 +118,18 @@ module _ (problem : ProblemModel) (sound : IsSound problem) (trace : List CutAt)
   lower_within : (widths : List ℕ) → InZone problem (zone_of problem (trace ++ cut ∷ []) (2 * length trace + 1)) widths →
       InZone problem (zone_of problem trace cut.zone) widths
   lower_within widths inside =
-      lower-inside problem sound (zone_of problem trace cut.zone) (zones-are problem sound trace is cut.zone now.stands.there) cut.span cut.class
-      cut_there now.lower now.upper widths (subst (λ zone. InZone problem zone widths) (zone-lower (whole_zone problem) trace cut) inside)
+      lower-inside problem sound (zone_of problem trace cut.zone) (zones-are problem sound trace is cut.zone now.stands.there)
+      cut.span cut.class
+      cut_there now.lower now.upper widths (subst (λ zone. InZone problem zone widths)
+      (zone-lower (whole_zone problem) trace cut) inside)
 
   upper_within : (widths : List ℕ) → InZone problem (zone_of problem (trace ++ cut ∷ []) (2 * length trace + 2)) widths →
       InZone problem (zone_of problem trace cut.zone) widths
   upper_within widths inside =
-      upper-inside problem sound (zone_of problem trace cut.zone) (zones-are problem sound trace is cut.zone now.stands.there) cut.span cut.class
-      cut_there now.lower now.upper widths (subst (λ zone. InZone problem zone widths) (zone-upper (whole_zone problem) trace cut) inside)
+      upper-inside problem sound (zone_of problem trace cut.zone) (zones-are problem sound trace is cut.zone now.stands.there)
+      cut.span cut.class
+      cut_there now.lower now.upper widths (subst (λ zone. InZone problem zone widths)
+      (zone-upper (whole_zone problem) trace cut) inside)
 
   -- so the bound of a part is no less
   pub lower_bound-more : (bound other : ℕ) → IsBoundOf problem trace cut.zone bound →
@@ -160,7 +175,8 @@ module _ (problem : ProblemModel) (sound : IsSound problem) (trace : List CutAt)
               (stands-new (whole_zone problem) trace cut is now low (omega arith) (omega arith))
               (All-cons (Stands (trace ++ cut ∷ [])) high zones
               (stands-new (whole_zone problem) trace cut is now high (omega arith) (omega arith))
-              (λ k d within. stands-old (whole_zone problem) trace cut (get_or zones k d) (standing k d within) (apart k d within)));
+              (λ k d within. stands-old (whole_zone problem) trace cut (get_or zones k d) (standing k d within)
+              (apart k d within)));
           once = AllPairs-cons (λ (a b : ℕ). a ≢ b) low (high ∷ zones)
               (All-cons (λ (b : ℕ). low ≢ b) high zones (λ same. omega (arith, same))
               (λ k d within same. omega (arith, same, (standing k d within).there)))
@@ -174,7 +190,8 @@ module _ (problem : ProblemModel) (sound : IsSound problem) (trace : List CutAt)
             | inl old ↦
                 let stood = stood-before (whole_zone problem) trace cut z stands old in
                 elim (before.others z stood.0) [
-                  | inr shut ↦ inr (subst (λ zone. IsShut problem zone height) (sym (zone-old (whole_zone problem) trace cut z old)) shut)
+                  | inr shut ↦ inr (subst (λ zone. IsShut problem zone height)
+                      (sym (zone-old (whole_zone problem) trace cut z old)) shut)
                   | inl has ↦ elim (Contains-cases cut.zone zones z has) [
                     | inl same ↦ absurd (stood.1 same)
                     | inr later ↦ inl (Contains-later low (high ∷ zones) z (Contains-later high zones z later))
@@ -192,7 +209,8 @@ module _ (problem : ProblemModel) (sound : IsSound problem) (trace : List CutAt)
               under-more bound (subst (λ b. IsUnderBounds problem trace b (cut.zone ∷ zones)) (sym same)
               (All-cons Old cut.zone zones
               (λ other has_other.
-              let equal = bound-unique problem (InZone problem (zone_of problem trace cut.zone)) found.0 other found.1 has_other in
+              let equal = bound-unique problem (InZone problem (zone_of problem trace cut.zone))
+              found.0 other found.1 has_other in
               omega (arith, equal))
               least)));
         }

@@ -20,7 +20,7 @@ use Rattle.tl_solve.specs.Ends.{HasBoundUpTo}
 use Rattle.tl_solve.specs.Logs.{Proves}
 use Rattle.tl_solve.specs.Orders.{AtEachCut, CutsBelowPlacements}
 use Rattle.tl_astar.specs.Best.{IsOfLeastBound, CutsBelowByArea, CutsUpTo, IsAreaOf, IsLeastProved, IsBestOutcome}
-use Rattle.tl_astar.specs.inner.Frontier.{AreShut, KeepsOrder}
+use Rattle.tl_astar.specs.inner.Frontier.{AreShut, KeepsBoundOrder}
 use Rattle.tl_astar.specs.inner.Lower.{IsProvedUpto, IsLessened}
 use Rattle.tl_astar.proofs.CoverLaws.{proved-below_placement}
 use Rattle.tl_astar.proofs.OrderLaws.{proves-less}
@@ -47,7 +47,8 @@ module _ (problem : ProblemModel) (trace : List CutAt) (height : ℕ) where
   }
 
   -- the greater of both bounds of a zone, where that is less
-  pub lessened-by : (z least bound area next : ℕ) → IsBoundOf problem trace z bound → IsAreaOf problem trace z area → next ≡ min least (max bound area) →
+  pub lessened-by : (z least bound area next : ℕ) → IsBoundOf problem trace z bound → IsAreaOf problem trace z area →
+      next ≡ min least (max bound area) →
       IsLessened problem trace z least next
   lessened-by z least bound area next has_bound has_area is = record {
     at_most = omega (arith, is);
@@ -80,7 +81,8 @@ module _ (problem : ProblemModel) (trace : List CutAt) (height : ℕ) where
     all-prove z stands = is.proved z stands.there stands
 
     -- a zone that has both bounds and proves a number has one that is as great
-    proved-by : (z bound area n : ℕ) → IsBoundOf problem trace z bound → IsAreaOf problem trace z area → Proves problem (zone_of problem trace z) n →
+    proved-by : (z bound area n : ℕ) → IsBoundOf problem trace z bound → IsAreaOf problem trace z area →
+        Proves problem (zone_of problem trace z) n →
         n ≤ max bound area
     proved-by z bound area n has_bound has_area (inl none) = absurd (none has_bound.some.0 has_bound.some.1)
     proved-by z bound area n has_bound has_area (inr (inl high)) =
@@ -120,7 +122,8 @@ module _ (problem : ProblemModel) (trace : List CutAt) (height : ℕ) where
                   let same = bound-unique problem Among high.0 some.1 high.1 some.4 in
                   absurd (omega (arith, same, high.2, some.6, below))
               | inl (inr (inr single)) ↦
-                  absurd (agree-everywhere problem sound (zone_of problem trace some.0) (zones-are problem sound trace trace_of some.0 some.3.there)
+                  absurd (agree-everywhere problem sound (zone_of problem trace some.0)
+                  (zones-are problem sound trace trace_of some.0 some.3.there)
                   area.0 single.1)
               | inr high ↦
                   let same = area-unique problem Among high.1.0 some.2 high.1.1 some.5 in
@@ -130,7 +133,8 @@ module _ (problem : ProblemModel) (trace : List CutAt) (height : ℕ) where
     ]
 
     -- what each zone proves is at most the least, where it is at most the height
-    pub proved-at_most : (n : ℕ) → n ≤ height → ((z : ℕ) → Stands trace z → Proves problem (zone_of problem trace z) n) → n ≤ least
+    pub proved-at_most : (n : ℕ) → n ≤ height → ((z : ℕ) → Stands trace z → Proves problem (zone_of problem trace z) n) →
+        n ≤ least
     proved-at_most n below proves = elim is.attained [
       | inl same ↦ omega (arith, same, below)
       | inr some ↦
@@ -139,8 +143,10 @@ module _ (problem : ProblemModel) (trace : List CutAt) (height : ℕ) where
     ]
 
 -- the outcome of a search keeps its promises
-pub best-outcome : (problem : ProblemModel) → IsSound problem → (budget : ℕ) (arena : Arena) → IsArenaOf problem arena → (least : ℕ) →
-    IsProvedUpto problem arena.trace arena.best.height (2 * length arena.trace + 1) least → KeepsOrder problem arena.trace arena.best.height →
+pub best-outcome : (problem : ProblemModel) → IsSound problem → (budget : ℕ) (arena : Arena) → IsArenaOf problem arena →
+    (least : ℕ) →
+    IsProvedUpto problem arena.trace arena.best.height (2 * length arena.trace + 1) least →
+    KeepsBoundOrder problem arena.trace arena.best.height →
     (budget ≡ 0 → IsOpening problem arena.best) → (outcome : Outcome) → outcome.best ≡ arena.best → outcome.trace ≡ arena.trace →
     outcome.lower ≡ least → IsBestOutcome problem budget outcome
 best-outcome problem sound budget arena is least proved keeps shown outcome best trace lower =

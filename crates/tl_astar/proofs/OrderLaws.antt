@@ -20,15 +20,16 @@ use Rattle.tl_solve.specs.Logs.{Proves}
 use Rattle.tl_solve.specs.Orders.{IsBelowPlacements}
 use Rattle.tl_solve.proofs.OrderLaws.{at-each-push}
 use Rattle.tl_astar.specs.Best.{HaveSameSteps, IsAreaOf, MayBeLower, IsOfLeastBound}
-use Rattle.tl_astar.specs.inner.Frontier.{HasAreaBelow, IsUnderBounds, IsFrontier, IsCutProved, KeepsOrder}
+use Rattle.tl_astar.specs.inner.Frontier.{HasAreaBelow, IsUnderBounds, IsFrontier, IsCutProved, KeepsBoundOrder}
 use Rattle.tl_astar.proofs.FrontierLaws.{bound-kept, lower_bound-more, upper_bound-more}
 
 -- a zone has a bound or no widths
 abbrev pub HasBoundOrNone : ProblemModel → List CutAt → ℕ → Type 0
-HasBoundOrNone problem trace z = HasNoWidths (InZone problem (zone_of problem trace z)) ⊎ ((bound : ℕ) × IsBoundOf problem trace z bound)
+HasBoundOrNone problem trace z = HasNoWidths (InZone problem (zone_of problem trace z)) ⊎
+    ((bound : ℕ) × IsBoundOf problem trace z bound)
 
 -- no cuts keep the order
-pub order-none : (problem : ProblemModel) (height : ℕ) → KeepsOrder problem [] height
+pub order-none : (problem : ProblemModel) (height : ℕ) → KeepsBoundOrder problem [] height
 order-none problem height = record {
   order = λ i d within. absurd (omega (arith, within));
   below = λ i d within. absurd (omega (arith, within));
@@ -37,8 +38,8 @@ order-none problem height = record {
 }
 
 -- the order is kept for a lower placement too: fewer zones may hold a layout below it
-pub order-lower : (problem : ProblemModel) (trace : List CutAt) (height best : ℕ) → best ≤ height → KeepsOrder problem trace height →
-    KeepsOrder problem trace best
+pub order-lower : (problem : ProblemModel) (trace : List CutAt) (height best : ℕ) → best ≤ height →
+    KeepsBoundOrder problem trace height → KeepsBoundOrder problem trace best
 order-lower problem trace height best less keeps = record {
   order = λ i d within.
       let cut = keeps.order i d within in (
@@ -55,16 +56,19 @@ order-lower problem trace height best less keeps = record {
 }
 
 -- a zone proves less where it proves more
-pub proves-less : (problem : ProblemModel) (zone : List Range) (least lower : ℕ) → lower ≤ least → Proves problem zone least → Proves problem zone lower
+pub proves-less : (problem : ProblemModel) (zone : List Range) (least lower : ℕ) → lower ≤ least → Proves problem zone least →
+    Proves problem zone lower
 proves-less problem zone least lower less (inl none) = inl none
 proves-less problem zone least lower less (inr (inl bound)) = inr (inl (bound.0, bound.1, omega (arith, less, bound.2)))
 proves-less problem zone least lower less (inr (inr area)) = inr (inr (area.0, area.1, omega (arith, less, area.2)))
 
 module _ (problem : ProblemModel) (sound : IsSound problem) (trace : List CutAt) (is : IsTraceOf problem trace) (cut : CutAt)
-    (now : IsCut (whole_zone problem) trace cut) (height : ℕ) (zones : List ℕ) (before : IsFrontier problem trace height (cut.zone ∷ zones))
+    (now : IsCut (whole_zone problem) trace cut) (height : ℕ) (zones : List ℕ)
+    (before : IsFrontier problem trace height (cut.zone ∷ zones))
     (has : HasBoundBelow problem trace cut.zone height) (least : IsUnderBounds problem trace has.0 zones) where
   -- the bound of the zone that is cut is at most that of each zone that may hold a layout below the height
-  is_least : (z other : ℕ) → Stands trace z → IsBoundOf problem trace z other → MayBeLower problem (zone_of problem trace z) height → has.0 ≤ other
+  is_least : (z other : ℕ) → Stands trace z → IsBoundOf problem trace z other →
+      MayBeLower problem (zone_of problem trace z) height → has.0 ≤ other
   is_least z other stands bound may =
       let Among = InZone problem (zone_of problem trace z) in
       elim (before.others z stands) [
@@ -96,14 +100,16 @@ module _ (problem : ProblemModel) (sound : IsSound problem) (trace : List CutAt)
           | inr bound ↦ elim (Contains-cases cut.zone zones z there) [
             | inl same ↦ inr (inl (has.0, subst (λ y. IsBoundOf problem trace y has.0) same has.1, omega arith))
             | inr later ↦
-                let more = All-contains (λ y. (b : ℕ) → IsBoundOf problem trace y b → has.0 ≤ b) zones z least later bound.0 bound.1 in
+                let more = All-contains (λ y. (b : ℕ) → IsBoundOf problem trace y b →
+                has.0 ≤ b) zones z least later bound.0 bound.1 in
                 inr (inl (bound.0, bound.1, more))
           ]
         ]
         | inr (inl (inl none)) ↦ inl none
         | inr (inl (inr (inl high))) ↦ inr (inl (high.0, high.1, omega (arith, high.2, has.2)))
         | inr (inl (inr (inr single))) ↦
-            absurd (agree-everywhere problem sound (zone_of problem trace z) (zones-are problem sound trace is z stands.there) low single.1)
+            absurd (agree-everywhere problem sound (zone_of problem trace z) (zones-are problem sound trace is z stands.there)
+            low single.1)
         | inr (inr shut) ↦ inr (inr (shut.1.0, shut.1.1, omega (arith, shut.1.2, has.2)))
       ]
 
@@ -132,23 +138,28 @@ module _ (problem : ProblemModel) (sound : IsSound problem) (trace : List CutAt)
         ]
       ]
 
-  pub order-cut : KeepsOrder problem trace height → (HaveSameSteps problem → HasAreaBelow problem trace cut.zone height) →
+  pub order-cut : KeepsBoundOrder problem trace height → (HaveSameSteps problem → HasAreaBelow problem trace cut.zone height) →
       IsKeen problem (whole_zone problem) trace height →
       ((z : ℕ) → IsZoneOf trace z → HasBoundOrNone problem trace z) →
       ((z : ℕ) → IsZoneOf (trace ++ cut ∷ []) z → HasBoundOrNone problem (trace ++ cut ∷ []) z) →
-      KeepsOrder problem (trace ++ cut ∷ []) height
+      KeepsBoundOrder problem (trace ++ cut ∷ []) height
   order-cut keeps small keen found found_more =
       let low : IsBelowPlacements problem trace has.0 = λ y placed there placement.
       let above = keen y placed there placement in omega (arith, above, has.2) in
       record {
         order = at-each-push (IsOfLeastBound problem height) trace cut keeps.order (has.0, has.1, is_least);
-        below = at-each-push (λ cuts c. (bound : ℕ) × IsBoundOf problem cuts c.zone bound × IsBelowPlacements problem cuts bound) trace cut
+        below = at-each-push (λ cuts c. (bound : ℕ) × IsBoundOf problem cuts c.zone bound ×
+            IsBelowPlacements problem cuts bound) trace cut
             keeps.below (has.0, has.1, low);
         below_by_area = λ same.
             let area = small same in
             at-each-push (λ cuts c. (a : ℕ) × IsAreaOf problem cuts c.zone a × IsBelowPlacements problem cuts a) trace cut
-            (keeps.below_by_area same)
-            (area.0, area.1, λ y placed there placement. let above = keen y placed there placement in omega (arith, above, area.2));
+            (keeps.below_by_area same) (
+              area.0,
+              area.1,
+              λ y placed there placement. let above = keen y placed there placement in
+                  omega (arith, above, area.2),
+            );
         proved = λ agree. All-push (IsCutProved problem (trace ++ cut ∷ [])) trace cut
             (λ i d within.
             let old = keeps.proved agree i d within in

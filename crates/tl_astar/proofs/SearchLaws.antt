@@ -1,12 +1,14 @@
 -- How the entries of a best-first search go on: a zone that is taken out, and parts that are added.
-use Rattle.std.proofs.Common.{◌≡◌, ℕ, ◌+◌, ◌*◌, ◌<◌, ◌≤◌, List, [], ◌∷◌, ◌++◌, inl, inr, length, get_or, map, Option, Some, None, sym, ◌∙◌, subst}
+use Rattle.std.proofs.Common.{◌≡◌, ℕ, ◌+◌, ◌*◌, ◌<◌, ◌≤◌, List, [], ◌∷◌, ◌++◌, inl, inr, length, get_or, map, Option, Some, None}
+use Rattle.std.proofs.Common.{sym, ◌∙◌, subst}
 use Rattle.std.proofs.Common.{ap, arith, length-append}
 use Rattle.std.specs.BinaryHeap.{heap_items}
 use Rattle.std.specs.List.{All}
 use Rattle.std.proofs.lemmas.Bool.{cases_lt}
 use Rattle.std.proofs.lemmas.List.{get_or-map, length-map}
 use Rattle.std.proofs.lemmas.List.Elements.{All-cons, All-head, All-tail, All-map}
-use Rattle.std.proofs.lemmas.List.Sorted.{All-permutation, IsPermutation-map, IsPermutation-cons, IsPermutation-middle, IsPermutation-trans}
+use Rattle.std.proofs.lemmas.List.Sorted.{All-permutation, IsPermutation-map, IsPermutation-cons, IsPermutation-middle}
+use Rattle.std.proofs.lemmas.List.Sorted.{IsPermutation-trans}
 use Rattle.tl_problem.specs.declared.zone.Range.{Range}
 use Rattle.tl_problem.specs.Problem.{ProblemModel}
 use Rattle.tl_problem.specs.Sound.{IsSound}
@@ -25,7 +27,7 @@ use Rattle.tl_astar.specs.inner.Entries.{Entry, entry, bound_in, zone_in, IsTake
 use Rattle.tl_astar.specs.declared.opens.OpenZones.{OpenZones}
 use Rattle.tl_astar.specs.declared.search.Search.{Search}
 use Rattle.tl_astar.specs.Best.{HaveSameSteps}
-use Rattle.tl_astar.specs.inner.Frontier.{HasAreaBelow, IsUnderBounds, IsFrontier, KeepsOrder, PartsRange}
+use Rattle.tl_astar.specs.inner.Frontier.{HasAreaBelow, IsUnderBounds, IsFrontier, KeepsBoundOrder, PartsRange}
 use Rattle.tl_astar.specs.inner.Searches.{HaveBounds, AreLeft, IsSearchOf, open_zones}
 use Rattle.tl_astar.proofs.FrontierLaws.{frontier-lower, frontier-permuted, frontier-shut, frontier-cut, bound-kept}
 use Rattle.tl_astar.proofs.OrderLaws.{HasBoundOrNone, order-lower, order-cut}
@@ -35,12 +37,15 @@ module _ (problem : ProblemModel) (trace : List CutAt) where
 
   module _ (old : List Entry) (zone : ℕ) (left : List Entry) (out : IsTakenOut old zone left) where
     bounds_out : HaveBounds problem trace old → HaveBounds problem trace (entry out.bound zone ∷ left)
-    bounds_out have = All-permutation (λ e. IsBoundOf problem trace (zone_in e) (bound_in e)) old (entry out.bound zone ∷ left) out.taken have
+    bounds_out have = All-permutation (λ e. IsBoundOf problem trace (zone_in e) (bound_in e)) old (entry out.bound zone ∷ left)
+        out.taken have
 
     pub taken-bounds : HaveBounds problem trace old → HaveBounds problem trace left
-    taken-bounds have = All-tail (λ e. IsBoundOf problem trace (zone_in e) (bound_in e)) (entry out.bound zone) left (bounds_out have)
+    taken-bounds have = All-tail (λ e. IsBoundOf problem trace (zone_in e) (bound_in e)) (entry out.bound zone) left
+        (bounds_out have)
 
-    pub taken-frontier : (height : ℕ) → IsFrontier problem trace height (map zone_in old) → IsFrontier problem trace height (zone ∷ map zone_in left)
+    pub taken-frontier : (height : ℕ) → IsFrontier problem trace height (map zone_in old) →
+        IsFrontier problem trace height (zone ∷ map zone_in left)
     taken-frontier height is =
         frontier-permuted problem trace height (map zone_in old) (zone ∷ map zone_in left)
         (IsPermutation-map zone_in old (entry out.bound zone ∷ left) out.taken) is
@@ -49,13 +54,15 @@ module _ (problem : ProblemModel) (trace : List CutAt) where
     pub taken-least : HaveBounds problem trace old → (bound : ℕ) → IsBoundOf problem trace zone bound →
         IsUnderBounds problem trace bound (map zone_in left)
     taken-least have bound is =
-        let here = All-head (λ e. IsBoundOf problem trace (zone_in e) (bound_in e)) (entry out.bound zone) left (bounds_out have) in
+        let here = All-head (λ e. IsBoundOf problem trace (zone_in e) (bound_in e)) (entry out.bound zone) left
+        (bounds_out have) in
         let same = bound-unique problem (InZone problem (zone_of problem trace zone)) bound out.bound is here in
         let rest = taken-bounds have in
         All-map (λ z. (other : ℕ) → IsBoundOf problem trace z other → bound ≤ other) zone_in left (λ k d within other has.
         let e = get_or left k d in
         let least = out.least k d within in
-        let equal = bound-unique problem (InZone problem (zone_of problem trace (zone_in e))) other (bound_in e) has (rest k d within) in
+        let equal = bound-unique problem (InZone problem (zone_of problem trace (zone_in e))) other (bound_in e) has
+        (rest k d within) in
         omega (arith, same, least, equal))
 
   -- ---- a zone is added
@@ -89,7 +96,8 @@ module _ (problem : ProblemModel) (trace : List CutAt) where
       frontier-permuted problem trace height (zone ∷ other ∷ map zone_in old) (other ∷ map zone_in new)
       (IsPermutation-trans (zone ∷ other ∷ map zone_in old) (other ∷ zone ∷ map zone_in old) (other ∷ map zone_in new)
       (IsPermutation-middle (zone ∷ []) other (map zone_in old))
-      (IsPermutation-cons other (zone ∷ map zone_in old) (map zone_in new) (IsPermutation-map zone_in (entry bound zone ∷ old) new added))) is
+      (IsPermutation-cons other (zone ∷ map zone_in old) (map zone_in new)
+      (IsPermutation-map zone_in (entry bound zone ∷ old) new added))) is
 
 -- the entries keep their bounds through a cut
 pub bounds-more : (problem : ProblemModel) → IsSound problem → (trace : List CutAt) → IsTraceOf problem trace → (cut : CutAt) →
@@ -110,24 +118,29 @@ found-or_none problem arena is z there =
       found (Some bound) is_bound = inr (bound, is_bound)
 
 -- what the arena lends of a zone: its ranges and its bound
-pub zone-there : (problem : ProblemModel) (arena : Arena) → IsArenaOf problem arena → (z : ℕ) → IsZoneOf arena.trace z → (zones : List (List Range)) →
+pub zone-there : (problem : ProblemModel) (arena : Arena) → IsArenaOf problem arena → (z : ℕ) → IsZoneOf arena.trace z →
+    (zones : List (List Range)) →
     zones ≡ arena.zones.items → z < length zones
 zone-there problem arena is z there zones lent =
     omega (arith, there, ap length lent, ap length is.zones, zones-length (whole_zone problem ∷ []) arena.trace)
 
-pub zone-lent : (problem : ProblemModel) (arena : Arena) → IsArenaOf problem arena → (z : ℕ) → IsZoneOf arena.trace z → (zones : List (List Range))
+pub zone-lent : (problem : ProblemModel) (arena : Arena) → IsArenaOf problem arena → (z : ℕ) → IsZoneOf arena.trace z →
+    (zones : List (List Range))
     (item : List Range) → zones ≡ arena.zones.items → item ≡ get_or zones z item → item ≡ zone_of problem arena.trace z
 zone-lent problem arena is z there zones item lent at =
     arena-item problem arena is z item there (at ∙ ap (λ zs. get_or zs z item) lent)
 
-pub bound-lent : (problem : ProblemModel) (arena : Arena) → IsArenaOf problem arena → (z : ℕ) → IsZoneOf arena.trace z → (bounds : List (Option ℕ))
-    (d : Option ℕ) (bound : ℕ) → bounds ≡ arena.bounds.items → get_or bounds z d ≡ Some bound → IsBoundOf problem arena.trace z bound
+pub bound-lent : (problem : ProblemModel) (arena : Arena) → IsArenaOf problem arena → (z : ℕ) → IsZoneOf arena.trace z →
+    (bounds : List (Option ℕ))
+    (d : Option ℕ) (bound : ℕ) → bounds ≡ arena.bounds.items → get_or bounds z d ≡ Some bound →
+    IsBoundOf problem arena.trace z bound
 bound-lent problem arena is z there bounds d bound lent at =
     subst (IsBoundFound problem (zone_of problem arena.trace z)) (sym (ap (λ bs. get_or bs z d) lent) ∙ at)
     (is.bounds.each z d (omega (arith, there, is.bounds.count)))
 
 -- a bound below the best height is below that of the opening
-pub below-opening : (problem : ProblemModel) (arena : Arena) → IsArenaOf problem arena → (z : ℕ) → HasBoundBelow problem arena.trace z arena.best.height →
+pub below-opening : (problem : ProblemModel) (arena : Arena) → IsArenaOf problem arena → (z : ℕ) →
+    HasBoundBelow problem arena.trace z arena.best.height →
     HasBoundBelow problem arena.trace z arena.opening
 below-opening problem arena is z has =
     let less = lowered-le is.opening.0 arena.best is.opening.3 in
@@ -147,17 +160,22 @@ search-popped problem search opens is bounds = record {
   order = is.order;
 }
 
-module _ (problem : ProblemModel) (old new : Search) (opens : new.opens ≡ old.opens) (trace : new.arena.trace ≡ old.arena.trace) where
+module _ (problem : ProblemModel) (old new : Search) (opens : new.opens ≡ old.opens)
+    (trace : new.arena.trace ≡ old.arena.trace) where
   -- a lower placement leaves the zones that may be cut
-  pub left-kept : (extended : List ℕ → List ℕ) → new.arena.best.height ≤ old.arena.best.height → AreLeft problem old (extended (open_zones old)) →
+  pub left-kept : (extended : List ℕ → List ℕ) → new.arena.best.height ≤ old.arena.best.height →
+      AreLeft problem old (extended (open_zones old)) →
       AreLeft problem new (extended (open_zones new))
   left-kept extended less left =
-      let lower = frontier-lower problem old.arena.trace old.arena.best.height new.arena.best.height (extended (open_zones old)) less left in
-      subst (λ (o : OpenZones). IsFrontier problem new.arena.trace new.arena.best.height (extended (map zone_in (heap_items o.heap)))) (sym opens)
+      let lower = frontier-lower problem old.arena.trace old.arena.best.height new.arena.best.height (extended (open_zones old))
+      less left in
+      subst (λ (o : OpenZones). IsFrontier problem new.arena.trace new.arena.best.height
+      (extended (map zone_in (heap_items o.heap)))) (sym opens)
       (subst (λ t. IsFrontier problem t new.arena.best.height (extended (open_zones old))) (sym trace) lower)
 
   -- and the bounds among which one is least
-  pub least-kept : (z : ℕ) → ((bound : ℕ) → IsBoundOf problem old.arena.trace z bound → IsUnderBounds problem old.arena.trace bound (open_zones old)) →
+  pub least-kept : (z : ℕ) → ((bound : ℕ) → IsBoundOf problem old.arena.trace z bound →
+      IsUnderBounds problem old.arena.trace bound (open_zones old)) →
       (bound : ℕ) → IsBoundOf problem new.arena.trace z bound → IsUnderBounds problem new.arena.trace bound (open_zones new)
   least-kept z least =
       subst (λ (o : OpenZones). (bound : ℕ) → IsBoundOf problem new.arena.trace z bound →
@@ -167,12 +185,16 @@ module _ (problem : ProblemModel) (old new : Search) (opens : new.opens ≡ old.
 -- ---- a cut, and both parts added
 
 module _ (problem : ProblemModel) (A B : Arena) (is : IsArenaOf problem A) (also : IsArenaOf problem B) (cut : CutAt)
-    (now : IsCut (whole_zone problem) A.trace cut) (longer : B.trace ≡ A.trace ++ cut ∷ []) (lowered : B.best.height ≤ A.best.height)
-    (old mid new : List Entry) (first : IsAdded (2 * length A.trace + 1) (get_or B.bounds.items (2 * length A.trace + 1) None) old mid)
+    (now : IsCut (whole_zone problem) A.trace cut) (longer : B.trace ≡ A.trace ++ cut ∷ [])
+    (lowered : B.best.height ≤ A.best.height)
+    (old mid new : List Entry) (first : IsAdded (2 * length A.trace + 1) (get_or B.bounds.items (2 * length A.trace + 1) None)
+    old mid)
     (second : IsAdded (2 * length A.trace + 2) (get_or B.bounds.items (2 * length A.trace + 2) None) mid new)
-    (left : IsFrontier problem A.trace A.best.height (cut.zone ∷ map zone_in old)) (below : HasBoundBelow problem A.trace cut.zone A.best.height)
+    (left : IsFrontier problem A.trace A.best.height (cut.zone ∷ map zone_in old))
+    (below : HasBoundBelow problem A.trace cut.zone A.best.height)
     (least : IsUnderBounds problem A.trace below.0 (map zone_in old)) where
-  found_at : (z : ℕ) → z ≤ 2 * length A.trace + 2 → IsBoundFound problem (zone_of problem (A.trace ++ cut ∷ []) z) (get_or B.bounds.items z None)
+  found_at : (z : ℕ) → z ≤ 2 * length A.trace + 2 → IsBoundFound problem (zone_of problem (A.trace ++ cut ∷ []) z)
+      (get_or B.bounds.items z None)
   found_at z within =
       let count = length-append A.trace (cut ∷ []) in
       subst (λ t. IsBoundFound problem (zone_of problem t z) (get_or B.bounds.items z None)) longer
@@ -180,16 +202,19 @@ module _ (problem : ProblemModel) (A B : Arena) (is : IsArenaOf problem A) (also
 
   entries_stand : All (λ e. Stands A.trace (zone_in e)) old
   entries_stand k d within =
-      let here = All-tail (Stands A.trace) cut.zone (map zone_in old) left.standing k (zone_in d) (omega (arith, within, length-map old zone_in)) in
+      let here = All-tail (Stands A.trace) cut.zone (map zone_in old) left.standing k (zone_in d)
+      (omega (arith, within, length-map old zone_in)) in
       subst (Stands A.trace) (get_or-map zone_in old k d (zone_in d) within) here
 
   pub cut-bounds : HaveBounds problem A.trace old → HaveBounds problem B.trace new
   cut-bounds have =
       let more = bounds-more problem is.work.sound A.trace is.trace_of cut now old entries_stand have in
-      let one = added-bounds problem (A.trace ++ cut ∷ []) (2 * length A.trace + 1) (get_or B.bounds.items (2 * length A.trace + 1) None) old mid first
+      let one = added-bounds problem (A.trace ++ cut ∷ []) (2 * length A.trace + 1)
+      (get_or B.bounds.items (2 * length A.trace + 1) None) old mid first
       (found_at (2 * length A.trace + 1) (omega arith)) more in
       subst (λ t. HaveBounds problem t new) (sym longer)
-      (added-bounds problem (A.trace ++ cut ∷ []) (2 * length A.trace + 2) (get_or B.bounds.items (2 * length A.trace + 2) None) mid new second
+      (added-bounds problem (A.trace ++ cut ∷ []) (2 * length A.trace + 2) (get_or B.bounds.items (2 * length A.trace + 2) None)
+      mid new second
       (found_at (2 * length A.trace + 2) (omega arith)) one)
 
   pub cut-left : IsFrontier problem B.trace B.best.height (map zone_in new)
@@ -198,38 +223,44 @@ module _ (problem : ProblemModel) (A B : Arena) (is : IsArenaOf problem A) (also
       let low = 2 * length A.trace + 1 in
       let high = 2 * length A.trace + 2 in
       let both = frontier-lower problem more A.best.height B.best.height (low ∷ high ∷ map zone_in old) lowered
-      (frontier-cut problem is.work.sound A.trace is.trace_of cut now A.best.height (map zone_in old) left (below.0, below.1) least) in
+      (frontier-cut problem is.work.sound A.trace is.trace_of cut now A.best.height (map zone_in old) left (below.0, below.1)
+      least) in
       subst (λ t. IsFrontier problem t B.best.height (map zone_in new)) (sym longer)
-      (added-frontier problem more B.best.height high (get_or B.bounds.items high None) mid new second (found_at high (omega arith))
-      (added-first problem more B.best.height low high (get_or B.bounds.items low None) old mid first (found_at low (omega arith)) both))
+      (added-frontier problem more B.best.height high (get_or B.bounds.items high None) mid new second
+      (found_at high (omega arith))
+      (added-first problem more B.best.height low high (get_or B.bounds.items low None) old mid first
+      (found_at low (omega arith)) both))
 
-  pub cut-order : (HaveSameSteps problem → HasAreaBelow problem A.trace cut.zone A.best.height) → KeepsOrder problem A.trace A.best.height →
-      KeepsOrder problem B.trace B.best.height
+  pub cut-order : (HaveSameSteps problem → HasAreaBelow problem A.trace cut.zone A.best.height) →
+      KeepsBoundOrder problem A.trace A.best.height → KeepsBoundOrder problem B.trace B.best.height
   cut-order small keeps =
       let more = A.trace ++ cut ∷ [] in
-      subst (λ t. KeepsOrder problem t B.best.height) (sym longer)
+      subst (λ t. KeepsBoundOrder problem t B.best.height) (sym longer)
       (order-lower problem more A.best.height B.best.height lowered
       (order-cut problem is.work.sound A.trace is.trace_of cut now A.best.height (map zone_in old) left below least keeps small
       (arena-keen problem is.work.sound A is) (found-or_none problem A is)
       (subst (λ t. (z : ℕ) → IsZoneOf t z → HasBoundOrNone problem t z) longer (found-or_none problem B also))))
 
 -- the search once a placement was offered to its arena
-pub search-offered : (problem : ProblemModel) (search : Search) (arena : Arena) → IsSearchOf problem search → IsArenaOf problem arena →
-    arena.trace ≡ search.arena.trace → arena.best.height ≤ search.arena.best.height → IsSearchOf problem (record search { arena = arena })
+pub search-offered : (problem : ProblemModel) (search : Search) (arena : Arena) → IsSearchOf problem search →
+    IsArenaOf problem arena →
+    arena.trace ≡ search.arena.trace → arena.best.height ≤ search.arena.best.height →
+    IsSearchOf problem (record search { arena = arena })
 search-offered problem search arena is offered trace less = record {
   arena = offered;
   work = is.work;
   bounds = subst (λ t. HaveBounds problem t (heap_items search.opens.heap)) (sym trace) is.bounds;
   agree = is.agree;
   same_steps = is.same_steps;
-  order = subst (λ t. KeepsOrder problem t arena.best.height) (sym trace)
+  order = subst (λ t. KeepsBoundOrder problem t arena.best.height) (sym trace)
       (order-lower problem search.arena.trace search.arena.best.height arena.best.height less is.order);
 }
 
 -- ---- where a zone is cut
 
 -- the first cut of a zone splits a range of it
-pub first-parts : (problem : ProblemModel) (zone : List Range) → IsZone problem zone → (cut : CutAt) → IsFirstCut zone cut → PartsRange zone cut
+pub first-parts : (problem : ProblemModel) (zone : List Range) → IsZone problem zone → (cut : CutAt) → IsFirstCut zone cut →
+    PartsRange zone cut
 first-parts problem zone is cut first =
     let range = is.ranges cut.span first.span.there in (
       first.span.there,
@@ -241,7 +272,8 @@ first-parts problem zone is cut first =
     )
 
 -- a cut that splits a range of a zone that stands is one
-pub parts-cut : (problem : ProblemModel) (trace : List CutAt) (z : ℕ) (cut : CutAt) → Stands trace z → IsZone problem (zone_of problem trace z) →
+pub parts-cut : (problem : ProblemModel) (trace : List CutAt) (z : ℕ) (cut : CutAt) → Stands trace z →
+    IsZone problem (zone_of problem trace z) →
     cut.zone ≡ z → PartsRange (zone_of problem trace z) cut → IsCut (whole_zone problem) trace cut
 parts-cut problem trace z cut stands is top parts =
     let same = sym top in

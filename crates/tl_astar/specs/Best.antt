@@ -27,7 +27,8 @@ pub record MayBeLower (problem : ProblemModel) (zone : List Range) (height : ℕ
 -- below the height
 abbrev pub IsOfLeastBound : ProblemModel → ℕ → List CutAt → CutAt → Type 0
 IsOfLeastBound problem height cuts cut = (bound : ℕ) × IsBoundOf problem cuts cut.zone bound
-    × ((z other : ℕ) → Stands cuts z → IsBoundOf problem cuts z other → MayBeLower problem (zone_of problem cuts z) height → bound ≤ other)
+    × ((z other : ℕ) → Stands cuts z → IsBoundOf problem cuts z other → MayBeLower problem (zone_of problem cuts z) height →
+    bound ≤ other)
 
 -- each zone that was cut has a bound of at most `lower`
 abbrev pub CutsUpTo : ProblemModel → List CutAt → ℕ → Type 0

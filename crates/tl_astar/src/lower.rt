@@ -1,18 +1,12 @@
 //! The lower bound of a search, and its outcome.
 
 ghost use Rattle.std.specs.Prelude.{◌≡◌, ◌⊎◌, ℕ, ◌+◌, ◌*◌, ◌<◌, ◌≤◌, length, get_or, IfOk};
-ghost use Rattle.tl_problem.specs.Agreement.{LowIsHigh};
 ghost use Rattle.tl_problem.specs.Placements.{IsOpening};
-ghost use Rattle.tl_problem.specs.Spans.{count_of};
-ghost use Rattle.tl_problem.specs.Tight.{IsTight};
 ghost use Rattle.tl_problem.specs.Works.{IsWorkOf};
-ghost use Rattle.tl_problem.specs.Zones.{whole_zone};
 ghost use Rattle.tl_cert.specs.declared.trace.CutAt.{CutAt};
-ghost use Rattle.tl_cert.specs.Lines.{IsGoodLog};
-ghost use Rattle.tl_cert.specs.Text.{IsLogWritable, IsTraceWritable};
-ghost use Rattle.tl_cert.specs.Traces.{IsKeen, IsZoneOf};
-ghost use Rattle.tl_cert.specs.Worked.{IsWorked};
+ghost use Rattle.tl_cert.specs.Traces.{IsZoneOf};
 ghost use Rattle.tl_solve.specs.Arenas.{IsArenaOf};
+ghost use Rattle.tl_solve.specs.Solver.{IsSolverOutcome};
 ghost use Rattle.tl_astar.specs.Best.{IsBestOutcome};
 ghost use Rattle.tl_astar.specs.inner.Frontier.{AreShut};
 ghost use Rattle.tl_astar.specs.inner.Lower.{AreUncut, IsLessened, IsProvedUpto};
@@ -34,18 +28,7 @@ impl Search {
         requires ended { (length self.arena.trace ≡ budget) ⊎ AreShut problem.now self.arena.trace self.arena.best.height }
         requires shown { budget ≡ 0 → IsOpening problem.now self.arena.best }
         ensures besides { IfOk result (IsBestOutcome problem.now budget) }
-
-        // What every search promises.
-        ensures tight { IfOk result (λ outcome. IsTight problem.now outcome.best) }
-        ensures good { IfOk result (λ outcome. IsGoodLog problem.now outcome.trace outcome.log outcome.lower) }
-        ensures ordered { IfOk result (λ outcome. outcome.lower ≤ outcome.best.height) }
-        ensures closed { LowIsHigh problem.now → count_of problem.now ≤ budget →
-            IfOk result (λ outcome. outcome.lower ≡ outcome.best.height) }
-        ensures worked { IfOk result (λ outcome. IsWorked problem.now outcome.trace outcome.best.height outcome.lower budget) }
-        ensures keen { IfOk result (λ outcome. IsKeen problem.now (whole_zone problem.now) outcome.trace outcome.best.height) }
-        ensures trace_writable { IfOk result (λ outcome. IsTraceWritable outcome.trace) }
-        ensures log_writable { IfOk result (λ outcome. IsLogWritable outcome.log) }
-        ensures short { IfOk result (λ outcome. length outcome.log ≤ 2 * length outcome.trace + 1) }
+        ensures solved { IfOk result (IsSolverOutcome problem.now budget) }
     {
         let stands = uncut_zones(self.alloc, self.arena.trace())?;
         let lower = least_proved(problem, &self.arena, &mut self.work, &stands);

@@ -1,5 +1,6 @@
 -- Which runs of digits are canonical decimals.
-use Rattle.std.proofs.Common.{◌≡◌, ℕ, ◌<◌, ◌≤◌, ◌^◌, List, [], ◌∷◌, length, get_or, true, false, Bool, arith, ap, sym, take, ◌∙◌, refl, cond, suc, zero, ◌&&◌}
+use Rattle.std.proofs.Common.{◌≡◌, ℕ, ◌<◌, ◌≤◌, ◌^◌, List, [], ◌∷◌, length, get_or, true, false, Bool, arith, ap, sym, take, ◌∙◌}
+use Rattle.std.proofs.Common.{refl, cond, suc, zero, ◌&&◌}
 use Rattle.std.specs.Fmt.{decimal}
 use Rattle.std.specs.Char.{is_ascii_digit}
 use Rattle.std.specs.List.{take_while}
@@ -57,7 +58,8 @@ pub parsed_value : {E : Type 0} (ds : List ℕ) (r : Result ℕ E) → all_ascii
 parsed_value {E} ds (Ok n) digits alone parsed =
     let value = parse_digits own {E = E} 64 ds (Ok n) parsed digits in
     let written : decimal (digits_value 10 ds) ≡ ds =
-    decimal-digits_value own ds digits value.0.0 (λ first. let short : length ds ≤ 1 = alone first in omega (arith, value.0.0)) value.0.1 in
+    decimal-digits_value own ds digits value.0.0 (λ first. let short : length ds ≤ 1 = alone first in
+    omega (arith, value.0.0)) value.0.1 in
     sym (ap decimal value.1 ∙ written)
 parsed_value ds (Err e) digits alone parsed = tt
 
@@ -71,7 +73,8 @@ parsed_none {E} ds (Err e) parsed = λ n small is.
 
 -- one digit more in a run of digits
 run_more : (is_digit : Bool) (d : ℕ) (ds : List ℕ) → (is_digit && all_ascii_digits ds) ≡ true →
-    (all_ascii_digits ds ≡ true → take_while is_ascii_digit ds ≡ ds) → cond is_digit (d ∷ take_while is_ascii_digit ds) [] ≡ d ∷ ds
+    (all_ascii_digits ds ≡ true → take_while is_ascii_digit ds ≡ ds) →
+    cond is_digit (d ∷ take_while is_ascii_digit ds) [] ≡ d ∷ ds
 run_more true d ds digits rest = ap (λ run. d ∷ run) (rest digits)
 run_more false d ds digits rest = cc
 

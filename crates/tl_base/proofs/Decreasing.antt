@@ -89,7 +89,8 @@ FallsBelow-more steps n some below last = λ i j before within.
           subst (λ k. Falls (get_or steps i no_step) (get_or steps k no_step)) (sym end)
           (elim (cases_lt i (n - 1)) [
             | inl earlier ↦ let between = below i (n - 1) earlier (omega arith) in (omega (arith, last.0), omega (arith, last.1))
-            | inr next ↦ let same : i ≡ n - 1 = omega arith in subst (λ k. Falls (get_or steps k no_step) (get_or steps n no_step)) (sym same) last
+            | inr next ↦ let same : i ≡ n - 1 = omega arith in
+                subst (λ k. Falls (get_or steps k no_step) (get_or steps n no_step)) (sym same) last
           ])
     ]
 
@@ -128,7 +129,8 @@ module _ (steps : List Config) (are : AreSteps steps) where
 -- ---- the height at a width
 
 -- where the items that pass come first, a filter takes just those
-filter-take : {X : Type 0} (p : X → Bool) (xs : List X) (n : ℕ) → IsPartitionPoint (λ x. p x ≡ true) (λ x. p x ≡ false) xs n → filter p xs ≡ take n xs
+filter-take : {X : Type 0} (p : X → Bool) (xs : List X) (n : ℕ) → IsPartitionPoint (λ x. p x ≡ true) (λ x. p x ≡ false) xs n →
+    filter p xs ≡ take n xs
 filter-take p [] zero at = refl
 filter-take p [] (suc n) at = refl
 filter-take p (x ∷ xs) zero at =
@@ -143,22 +145,26 @@ filter-take p (x ∷ xs) (suc n) at =
       (λ k d low high. at.1 (suc k) d (omega arith) (omega arith)),
     )))
 
-pub last_or-take : {X : Type 0} (o : Option X) (xs : List X) (n : ℕ) (d : X) → n < length xs → last_or o (take (suc n) xs) ≡ Some (get_or xs n d)
+pub last_or-take : {X : Type 0} (o : Option X) (xs : List X) (n : ℕ) (d : X) → n < length xs →
+    last_or o (take (suc n) xs) ≡ Some (get_or xs n d)
 last_or-take o [] n d within = absurd (omega arith)
 last_or-take o (x ∷ xs) zero d within = refl
 last_or-take o (x ∷ xs) (suc n) d within = last_or-take (Some x) xs n d (omega arith)
 
 -- no step is narrow enough
-pub height_at-none : (steps : List Config) (w : ℕ) → IsPartitionPoint (λ step. nat_le step.width w ≡ true) (λ step. nat_le step.width w ≡
+pub height_at-none : (steps : List Config) (w : ℕ) → IsPartitionPoint (λ step. nat_le step.width w ≡ true)
+    (λ step. nat_le step.width w ≡
     false) steps 0 → height_at steps w ≡ None
-height_at-none steps w at = ap (λ narrow. option_map (λ step. step.height) (last_or None narrow)) (filter-take (λ step. nat_le step.width w) steps 0 at)
+height_at-none steps w at = ap (λ narrow. option_map (λ step. step.height) (last_or None narrow))
+    (filter-take (λ step. nat_le step.width w) steps 0 at)
 
 -- the last step that is narrow enough
 pub height_at-some : (steps : List Config) (w n : ℕ) (d : Config) → n < length steps →
     IsPartitionPoint (λ step. nat_le step.width w ≡ true) (λ step. nat_le step.width w ≡ false) steps (suc n) →
     height_at steps w ≡ Some (get_or steps n d).height
 height_at-some steps w n d within at =
-    ap (λ narrow. option_map (λ step. step.height) (last_or None narrow)) (filter-take (λ step. nat_le step.width w) steps (suc n) at)
+    ap (λ narrow. option_map (λ step. step.height) (last_or None narrow))
+    (filter-take (λ step. nat_le step.width w) steps (suc n) at)
     ∙ ap (λ last. option_map (λ step. step.height) last) (last_or-take None steps n d within)
 
 -- at a step's own width the height is its own
@@ -179,29 +185,37 @@ height_at-step steps are n within =
 abbrev IsFound : {X : Type 0} → (X → Bool) → Option X → List X → X → X → Type 0
 IsFound p o xs x d = (o ≡ Some x) ⊎ ((k : ℕ) × (k < length xs) × (p (get_or xs k d) ≡ true) × (get_or xs k d ≡ x))
 
-found_later : {X : Type 0} (p : X → Bool) (o first : Option X) (y : X) (xs : List X) (x d : X) → IsFound p o xs x d → (o ≡ Some x →
+found_later : {X : Type 0} (p : X → Bool) (o first : Option X) (y : X) (xs : List X) (x d : X) → IsFound p o xs x d →
+    (o ≡ Some x →
     IsFound p first (y ∷ xs) x d) → IsFound p first (y ∷ xs) x d
-found_later p o first y xs x d found start = elim found [ inl at_start ↦ start at_start | inr at ↦ inr (suc at.0, omega (arith, at.1), at.2, at.3) ]
+found_later p o first y xs x d found start =
+    elim found [ inl at_start ↦ start at_start | inr at ↦ inr (suc at.0, omega (arith, at.1), at.2, at.3) ]
 
 found_choice : {X : Type 0} (p : X → Bool) (o : Option X) (y : X) (xs : List X) (x d : X) (test : Bool) → p y ≡ test →
-    (last_or (Some y) (filter p xs) ≡ Some x → IsFound p (Some y) xs x d) → (last_or o (filter p xs) ≡ Some x → IsFound p o xs x d) →
+    (last_or (Some y) (filter p xs) ≡ Some x → IsFound p (Some y) xs x d) →
+    (last_or o (filter p xs) ≡ Some x → IsFound p o xs x d) →
     last_or o (cond test (y ∷ filter p xs) (filter p xs)) ≡ Some x → IsFound p o (y ∷ xs) x d
-found_choice p o y xs x d true passes kept dropped is = found_later p (Some y) o y xs x d (kept is) (λ at_start. inr (0, omega arith, passes, cc))
+found_choice p o y xs x d true passes kept dropped is = found_later p (Some y) o y xs x d (kept is)
+    (λ at_start. inr (0, omega arith, passes, cc))
 found_choice p o y xs x d false fails kept dropped is = found_later p o o y xs x d (dropped is) (λ at_start. inl at_start)
 
 -- the last item that passes passes
-last_filter : {X : Type 0} (p : X → Bool) (o : Option X) (xs : List X) (x d : X) → last_or o (filter p xs) ≡ Some x → IsFound p o xs x d
+last_filter : {X : Type 0} (p : X → Bool) (o : Option X) (xs : List X) (x d : X) → last_or o (filter p xs) ≡ Some x →
+    IsFound p o xs x d
 last_filter p o [] x d is = inl is
 last_filter p o (y ∷ xs) x d is = found_choice p o y xs x d (p y) refl (last_filter p (Some y) xs x d) (last_filter p o xs x d) is
 
 -- a height is that of a step that is narrow enough
 height_of_step : (steps : List Config) (w h : ℕ) → height_at steps w ≡ Some h →
     (k : ℕ) × (k < length steps) × ((get_or steps k no_step).width ≤ w) × ((get_or steps k no_step).height ≡ h)
-height_of_step steps w h is = open_last (last_or None (filter (λ step. nat_le step.width w) steps)) (λ step. last_filter (λ s. nat_le
+height_of_step steps w h is = open_last (last_or None (filter (λ step. nat_le step.width w) steps))
+    (λ step. last_filter (λ s. nat_le
     s.width w) None steps step no_step) is
   where
-    open_last : (last : Option Config) → ((step : Config) → last ≡ Some step → IsFound (λ s. nat_le s.width w) None steps step no_step) →
-        option_map (λ step. step.height) last ≡ Some h → (k : ℕ) × (k < length steps) × ((get_or steps k no_step).width ≤ w) × ((get_or
+    open_last : (last : Option Config) → ((step : Config) → last ≡ Some step →
+        IsFound (λ s. nat_le s.width w) None steps step no_step) →
+        option_map (λ step. step.height) last ≡ Some h → (k : ℕ) × (k < length steps) × ((get_or steps k no_step).width ≤ w) ×
+        ((get_or
         steps k no_step).height ≡ h)
     open_last None found same = cc
     open_last (Some step) found same =
@@ -212,7 +226,8 @@ height_of_step steps w h is = open_last (last_or None (filter (λ step. nat_le s
 
 -- ---- the least width for a height
 
-module _ (steps : List Config) (are : AreSteps steps) (h n : ℕ) (within : n < length steps) (at : IsPartitionPoint (λ step. nat_lt h
+module _ (steps : List Config) (are : AreSteps steps) (h n : ℕ) (within : n < length steps)
+    (at : IsPartitionPoint (λ step. nat_lt h
     step.height ≡ true) (λ step. nat_lt h step.height ≡ false) steps n) where
   -- the first step that is low enough
   pub low_here : (get_or steps n no_step).height ≤ h
@@ -232,7 +247,8 @@ module _ (steps : List Config) (are : AreSteps steps) (h n : ℕ) (within : n < 
             | inl before ↦ let high = lt_test (at.0 step.0 no_step (omega arith) before) in absurd (omega (arith, step.3, low'))
             | inr later ↦ elim (cases_lt n step.0) [
               | inl after ↦ let fall = falls steps are n step.0 after step.1 in omega (arith, fall.0, step.2)
-              | inr same ↦ let end : n ≡ step.0 = omega arith in omega (arith, step.2, ap (λ k. (get_or steps k no_step).width) end)
+              | inr same ↦ let end : n ≡ step.0 = omega arith in
+                  omega (arith, step.2, ap (λ k. (get_or steps k no_step).width) end)
             ]
           ]
 
@@ -259,17 +275,23 @@ last-is steps some =
 
 module _ (steps : List Config) (are : AreSteps steps) (h : ℕ) where
   -- the last step is too high just where no step is low enough
-  pub last_high : AllWithin (λ step. nat_lt h step.height ≡ true) steps 0 (length steps) → IfSome (last_or None steps) (λ last. h < last.height)
-  last_high each = subst (λ last. IfSome last (λ step. h < step.height)) (sym (last-is steps are.has_step)) (lt_test (each (length steps -
+  pub last_high : AllWithin (λ step. nat_lt h step.height ≡ true) steps 0 (length steps) →
+      IfSome (last_or None steps) (λ last. h < last.height)
+  last_high each = subst (λ last. IfSome last (λ step. h < step.height)) (sym (last-is steps are.has_step))
+      (lt_test (each (length steps -
       1) no_step (omega arith) (omega (arith, are.has_step))))
 
-  pub last_low : (n : ℕ) → n < length steps → (get_or steps n no_step).height ≤ h → IfSome (last_or None steps) (λ last. last.height ≤ h)
-  last_low n within low = subst (λ last. IfSome last (λ step. step.height ≤ h)) (sym (last-is steps are.has_step)) (last_low_here (cases_lt
+  pub last_low : (n : ℕ) → n < length steps → (get_or steps n no_step).height ≤ h →
+      IfSome (last_or None steps) (λ last. last.height ≤ h)
+  last_low n within low = subst (λ last. IfSome last (λ step. step.height ≤ h)) (sym (last-is steps are.has_step))
+      (last_low_here (cases_lt
       n (length steps - 1)))
     where
       last_low_here : (n < length steps - 1) ⊎ (length steps - 1 ≤ n) → (get_or steps (length steps - 1) no_step).height ≤ h
-      last_low_here (inl before) = let fall = falls steps are n (length steps - 1) before (omega arith) in omega (arith, fall.1, low)
-      last_low_here (inr same) = let end : n ≡ length steps - 1 = omega arith in omega (arith, low, ap (λ k. (get_or steps k no_step).height) end)
+      last_low_here (inl before) = let fall = falls steps are n (length steps - 1) before (omega arith) in
+          omega (arith, fall.1, low)
+      last_low_here (inr same) = let end : n ≡ length steps - 1 = omega arith in
+          omega (arith, low, ap (λ k. (get_or steps k no_step).height) end)
 
 pub test_le_below : {a b : ℕ} → nat_le a b ≡ false → b < a
 test_le_below test = grind (arith, nat_tests)
@@ -293,7 +315,11 @@ module _ (steps : List Config) (are : AreSteps steps) (w : ℕ) where
 
   -- no step is narrow enough: the width is below the first
   pub below_first : IsPastNarrow steps w 0 → w < first_width steps
-  below_first at = omega (arith, first_width-is steps no_step are.has_step, test_le_below (at.1 0 no_step (omega arith) are.has_step))
+  below_first at = omega (
+    arith,
+    first_width-is steps no_step are.has_step,
+    test_le_below (at.1 0 no_step (omega arith) are.has_step),
+  )
 
   -- a step is narrow enough: the width is not below the first
   pub from_first : (n : ℕ) → 0 < n → IsPastNarrow steps w n → first_width steps ≤ w
@@ -305,7 +331,8 @@ module _ (steps : List Config) (are : AreSteps steps) (w : ℕ) where
   some_narrow (suc n) at from = omega arith
 
   -- the height is that of the last step that is narrow enough
-  pub height_at-last : (n : ℕ) → 0 < n → n ≤ length steps → IsPastNarrow steps w n → height_at steps w ≡ Some (get_or steps (n - 1) no_step).height
+  pub height_at-last : (n : ℕ) → 0 < n → n ≤ length steps → IsPastNarrow steps w n →
+      height_at steps w ≡ Some (get_or steps (n - 1) no_step).height
   height_at-last zero some within at = absurd (omega (arith, some))
   height_at-last (suc n) some within at =
       let here : suc n - 1 ≡ n = omega arith in

@@ -4,6 +4,7 @@ pub mod Decreasing
 pub mod Members
 pub mod MemoryDesks
 pub mod Options
+pub mod SizeLaws
 pub mod Stacking
 pub mod Sums
 pub mod Texts

@@ -1,11 +1,13 @@
 -- What filters, maps and joined lists contain, and lists in a strict order: two with the same elements are the same.
-use Rattle.std.proofs.Common.{◌≡◌, ℕ, ◌+◌, ◌-◌, ◌<◌, ◌≤◌, zero, suc, Bool, true, false, List, [], ◌∷◌, ◌++◌, ◌⊎◌, inl, inr, length, map, get_or}
+use Rattle.std.proofs.Common.{◌≡◌, ℕ, ◌+◌, ◌-◌, ◌<◌, ◌≤◌, zero, suc, Bool, true, false, List, [], ◌∷◌, ◌++◌, ◌⊎◌, inl, inr}
+use Rattle.std.proofs.Common.{length, map, get_or}
 use Rattle.std.proofs.Common.{filter, refl, sym, ap, ◌∙◌, subst, arith}
 use Rattle.std.proofs.Common.{eqb, ◌||◌, length-append}
 use Rattle.std.specs.List.{All, AllByRecursion, AllPairs, Contains, flat_map, list_any, range_with_len}
 use Rattle.std.proofs.lemmas.Bool.{cases_Bool, cases_eq, eq-eqb, ne_eqb}
 use Rattle.std.proofs.lemmas.List.{get_or_append_left, get_or-append-add}
-use Rattle.std.proofs.lemmas.List.Elements.{All-filter, All-contains, Contains-get_or, Contains-append_left, Contains-append_right, Contains-append_cases}
+use Rattle.std.proofs.lemmas.List.Elements.{All-filter, All-contains, Contains-get_or, Contains-append_left}
+use Rattle.std.proofs.lemmas.List.Elements.{Contains-append_right, Contains-append_cases}
 use Rattle.tl_base.specs.Lists.{is_among}
 use Rattle.std.proofs.lemmas.List.FromFn.{length-range_with_len, get_or-range_with_len}
 
@@ -56,7 +58,8 @@ pub Contains-filter : {X : Type 0} (p : X → Bool) (xs : List X) (x : X) → p 
 Contains-filter p [] x passes has = absurd (Contains-none x has)
 Contains-filter p (y ∷ ys) x passes has =
     elim (Contains-cases y ys x has) [
-      | inl here ↦ let first : p y ≡ true = ap p here ∙ passes in rw first (subst (λ z. Contains (y ∷ filter p ys) z) here (Contains-first y (filter p ys)))
+      | inl here ↦ let first : p y ≡ true = ap p here ∙ passes in
+          rw first (subst (λ z. Contains (y ∷ filter p ys) z) here (Contains-first y (filter p ys)))
       | inr later ↦
           let rest = Contains-filter p ys x passes later in
           elim (cases_Bool (p y)) [
@@ -92,7 +95,8 @@ map-Contains f (x ∷ xs) y has =
       | inr later ↦ let rest = map-Contains f xs y later in (rest.0, Contains-later x xs rest.0 rest.1, rest.2)
     ]
 
-pub Contains-flat_map : {X Y : Type 0} (f : X → List Y) (xs : List X) (x : X) (y : Y) → Contains xs x → Contains (f x) y → Contains (flat_map f xs) y
+pub Contains-flat_map : {X Y : Type 0} (f : X → List Y) (xs : List X) (x : X) (y : Y) → Contains xs x → Contains (f x) y →
+    Contains (flat_map f xs) y
 Contains-flat_map f [] x y has inside = absurd (Contains-none x has)
 Contains-flat_map f (z ∷ zs) x y has inside =
     elim (Contains-cases z zs x has) [
@@ -100,7 +104,8 @@ Contains-flat_map f (z ∷ zs) x y has inside =
       | inr later ↦ Contains-append_right (f z) (flat_map f zs) y (Contains-flat_map f zs x y later inside)
     ]
 
-pub flat_map-Contains : {X Y : Type 0} (f : X → List Y) (xs : List X) (y : Y) → Contains (flat_map f xs) y → (x : X) × Contains xs x × Contains (f x) y
+pub flat_map-Contains : {X Y : Type 0} (f : X → List Y) (xs : List X) (y : Y) → Contains (flat_map f xs) y →
+    (x : X) × Contains xs x × Contains (f x) y
 flat_map-Contains f [] y has = absurd (Contains-none y has)
 flat_map-Contains f (z ∷ zs) y has =
     elim (Contains-append_cases (f z) (flat_map f zs) y has) [
@@ -109,7 +114,11 @@ flat_map-Contains f (z ∷ zs) y has =
     ]
 
 pub Contains-range : (a n x : ℕ) → a ≤ x → x < a + n → Contains (range_with_len a n) x
-Contains-range a n x from before = (x - a, omega (arith, length-range_with_len a n), get_or-range_with_len a n (x - a) x (omega arith) ∙ omega arith)
+Contains-range a n x from before = (
+  x - a,
+  omega (arith, length-range_with_len a n),
+  get_or-range_with_len a n (x - a) x (omega arith) ∙ omega arith,
+)
 
 pub range-Contains : (a n x : ℕ) → Contains (range_with_len a n) x → (a ≤ x) × (x < a + n)
 range-Contains a n x has =
@@ -143,7 +152,8 @@ AllPairs-append R (x ∷ xs) ys first second between =
       | inl left ↦ All-contains (R x) xs y (AllPairs-head R x xs first) left
       | inr right ↦ between x y (Contains-first x xs) right
     ]))
-    (AllPairs-append R xs ys (AllPairs-tail R x xs first) second (λ z y left right. between z y (Contains-later x xs z left) right))
+    (AllPairs-append R xs ys (AllPairs-tail R x xs first) second
+    (λ z y left right. between z y (Contains-later x xs z left) right))
 
 pub AllPairs-filter : {X : Type 0} (R : X → X → Type 0) (p : X → Bool) (xs : List X) → AllPairs R xs → AllPairs R (filter p xs)
 AllPairs-filter R p [] all = all
@@ -154,21 +164,26 @@ AllPairs-filter R p (x ∷ xs) all =
       | inr left ↦ rw left rest
     ]
 
-pub AllPairs-map : {X Y : Type 0} (R : Y → Y → Type 0) (f : X → Y) (xs : List X) → AllPairs (λ a b. R (f a) (f b)) xs → AllPairs R (map f xs)
+pub AllPairs-map : {X Y : Type 0} (R : Y → Y → Type 0) (f : X → Y) (xs : List X) → AllPairs (λ a b. R (f a) (f b)) xs →
+    AllPairs R (map f xs)
 AllPairs-map R f [] all = AllPairs-none R
 AllPairs-map R f (x ∷ xs) all =
     AllPairs-cons R (f x) (map f xs)
     (All-from_Contains (R (f x)) (map f xs) (λ y has.
     let found = map-Contains f xs y has in
-    subst (R (f x)) found.2 (All-contains (λ b. R (f x) (f b)) xs found.0 (AllPairs-head (λ a b. R (f a) (f b)) x xs all) found.1)))
+    subst (R (f x)) found.2 (All-contains (λ b. R (f x) (f b)) xs found.0 (AllPairs-head (λ a b. R (f a) (f b)) x xs all)
+    found.1)))
     (AllPairs-map R f xs (AllPairs-tail (λ a b. R (f a) (f b)) x xs all))
 
 -- the parts of a joined list in order, and each part's elements before the next part's
-pub AllPairs-flat_map : {X Y : Type 0} (R : Y → Y → Type 0) (Before : X → X → Type 0) (f : X → List Y) (xs : List X) → AllPairs Before xs →
-    ((x : X) → AllPairs R (f x)) → ((x z : X) (a b : Y) → Before x z → Contains (f x) a → Contains (f z) b → R a b) → AllPairs R (flat_map f xs)
+pub AllPairs-flat_map : {X Y : Type 0} (R : Y → Y → Type 0) (Before : X → X → Type 0) (f : X → List Y) (xs : List X) →
+    AllPairs Before xs →
+    ((x : X) → AllPairs R (f x)) → ((x z : X) (a b : Y) → Before x z → Contains (f x) a → Contains (f z) b → R a b) →
+    AllPairs R (flat_map f xs)
 AllPairs-flat_map R Before f [] all each between = AllPairs-none R
 AllPairs-flat_map R Before f (x ∷ xs) all each between =
-    AllPairs-append R (f x) (flat_map f xs) (each x) (AllPairs-flat_map R Before f xs (AllPairs-tail Before x xs all) each between) (λ a b left right.
+    AllPairs-append R (f x) (flat_map f xs) (each x) (AllPairs-flat_map R Before f xs (AllPairs-tail Before x xs all)
+    each between) (λ a b left right.
     let found = flat_map-Contains f xs b right in
     between x found.0 a b (All-contains (Before x) xs found.0 (AllPairs-head Before x xs all) found.1) left found.2)
 
@@ -176,7 +191,8 @@ pub AllPairs-range : (a n : ℕ) → AllPairs (λ x y. x < y) (range_with_len a 
 AllPairs-range a zero = AllPairs-none (λ x y. x < y)
 AllPairs-range a (suc n) =
     AllPairs-cons (λ x y. x < y) a (range_with_len (a + 1) n)
-    (All-from_Contains (λ y. a < y) (range_with_len (a + 1) n) (λ y has. let found = range-Contains (a + 1) n y has in omega (arith, found.0)))
+    (All-from_Contains (λ y. a < y) (range_with_len (a + 1) n) (λ y has. let found = range-Contains (a + 1) n y has in
+    omega (arith, found.0)))
     (AllPairs-range (a + 1) n)
 
 -- ---- in a strict order two lists with the same elements are the same
@@ -199,11 +215,13 @@ module _ {X : Type 0} (R : X → X → Type 0) (strict : (x y : X) → R x y →
       ] in
       let tails : xs ≡ ys = same-ordered xs ys (AllPairs-tail R x xs first) (AllPairs-tail R y ys second)
       (λ z has. elim (Contains-cases y ys z (there z (Contains-later x xs z has))) [
-        | inl here ↦ let before = All-contains (R x) xs z after_x has in let loop = subst (R x) (sym here ∙ sym same) before in absurd (strict x x loop loop)
+        | inl here ↦ let before = All-contains (R x) xs z after_x has in let loop = subst (R x) (sym here ∙ sym same) before in
+            absurd (strict x x loop loop)
         | inr later ↦ later
       ])
       (λ z has. elim (Contains-cases x xs z (back z (Contains-later y ys z has))) [
-        | inl here ↦ let before = All-contains (R y) ys z after_y has in let loop = subst (R y) (sym here ∙ same) before in absurd (strict y y loop loop)
+        | inl here ↦ let before = All-contains (R y) ys z after_y has in let loop = subst (R y) (sym here ∙ same) before in
+            absurd (strict y y loop loop)
         | inr later ↦ later
       ]) in
       cc
@@ -211,12 +229,14 @@ module _ {X : Type 0} (R : X → X → Type 0) (strict : (x y : X) → R x y →
 -- ---- what is so of each item
 
 -- what is so of each item of two lists is so of each of both together
-pub AllByRecursion-append : {X : Type 0} (P : X → Type 0) (xs ys : List X) → AllByRecursion P xs → AllByRecursion P ys → AllByRecursion P (xs ++ ys)
+pub AllByRecursion-append : {X : Type 0} (P : X → Type 0) (xs ys : List X) → AllByRecursion P xs → AllByRecursion P ys →
+    AllByRecursion P (xs ++ ys)
 AllByRecursion-append P [] ys one other = other
 AllByRecursion-append P (x ∷ xs) ys one other = (one.0, AllByRecursion-append P xs ys one.1 other)
 
 -- what is so of each item, weakened
-pub AllByRecursion-weaker : {X : Type 0} (P Q : X → Type 0) (xs : List X) → ((x : X) → P x → Q x) → AllByRecursion P xs → AllByRecursion Q xs
+pub AllByRecursion-weaker : {X : Type 0} (P Q : X → Type 0) (xs : List X) → ((x : X) → P x → Q x) → AllByRecursion P xs →
+    AllByRecursion Q xs
 AllByRecursion-weaker P Q [] weaker all = tt
 AllByRecursion-weaker P Q (x ∷ xs) weaker all = (weaker x all.0, AllByRecursion-weaker P Q xs weaker all.1)
 
@@ -227,11 +247,13 @@ AllByRecursion-suffix P (x ∷ xs) ys all = AllByRecursion-suffix P xs ys all.1
 
 -- what is so of all is so of all before the last
 pub All-prefix : {X : Type 0} (P : X → Type 0) (xs : List X) (x : X) → All P (xs ++ x ∷ []) → All P xs
-All-prefix P xs x all = λ k d within. subst P (get_or_append_left xs (x ∷ []) d k within) (all k d (omega (arith, within, length-append xs (x ∷ []))))
+All-prefix P xs x all = λ k d within. subst P (get_or_append_left xs (x ∷ []) d k within)
+    (all k d (omega (arith, within, length-append xs (x ∷ []))))
 
 -- and of the last one
 pub All-last : {X : Type 0} (P : X → Type 0) (xs : List X) (x : X) → All P (xs ++ x ∷ []) → P x
-All-last P xs x all = subst P (get_or-append-add xs (x ∷ []) 0 x) (all (length xs + 0) x (omega (arith, length-append xs (x ∷ []))))
+All-last P xs x all = subst P (get_or-append-add xs (x ∷ []) 0 x)
+    (all (length xs + 0) x (omega (arith, length-append xs (x ∷ []))))
 
 -- an item at the end is in the list
 pub Contains-push : {X : Type 0} (xs : List X) (x : X) → Contains (xs ++ x ∷ []) x

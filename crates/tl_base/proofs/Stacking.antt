@@ -1,5 +1,6 @@
 -- Two step functions one above the other: where their sum changes, and that the steps found are its steps.
-use Rattle.std.proofs.Common.{◌≡◌, ℕ, ◌-◌, ◌<◌, ◌≤◌, max, Bool, nat_le, true, false, List, [], ◌∷◌, ◌++◌, ◌⊎◌, inl, inr, length, get_or, filter, cond}
+use Rattle.std.proofs.Common.{◌≡◌, ℕ, ◌-◌, ◌<◌, ◌≤◌, max, Bool, nat_le, true, false, List, [], ◌∷◌, ◌++◌, ◌⊎◌, inl, inr, length}
+use Rattle.std.proofs.Common.{get_or, filter, cond}
 use Rattle.std.proofs.Common.{Option, Some, None, refl, sym, ap, ◌∙◌, subst, arith}
 use Rattle.std.specs.List.{All, AllPairs, last_or}
 use Rattle.std.specs.Option.{option_map, IsSomeAnd, IsSome}
@@ -11,12 +12,14 @@ use Rattle.std.proofs.lemmas.List.Quantifiers.{all_pairs_push}
 use Rattle.tl_base.specs.declared.steps.Config.{Config}
 use Rattle.tl_base.specs.Steps.{AreSteps, first_width, first_height, height_at, both_heights, stacked_height}
 use Rattle.tl_base.specs.inner.Stacking.{IsPastNarrow, IsNextWidth}
-use Rattle.tl_base.proofs.Decreasing.{no_step, Falls, falls, le_test, first_height-is, height_at-below, height_at-last, height_at-step, test_le}
+use Rattle.tl_base.proofs.Decreasing.{no_step, Falls, falls, le_test, first_height-is, height_at-below, height_at-last}
+use Rattle.tl_base.proofs.Decreasing.{height_at-step, test_le}
 use Rattle.tl_base.proofs.Decreasing.{test_le_false, test_le_below}
 
 -- ---- one step function
 
-module _ (steps : List Config) (are : AreSteps steps) (w n : ℕ) (some : 0 < n) (within : n ≤ length steps) (at : IsPastNarrow steps w n) where
+module _ (steps : List Config) (are : AreSteps steps) (w n : ℕ) (some : 0 < n) (within : n ≤ length steps)
+    (at : IsPastNarrow steps w n) where
   -- up to the next step the same steps are narrow enough
   narrow_between : (v : ℕ) → w ≤ v → (n < length steps → v < (get_or steps n no_step).width) → IsPastNarrow steps v n
   narrow_between v from below = (
@@ -26,7 +29,12 @@ module _ (steps : List Config) (are : AreSteps steps) (w n : ℕ) (some : 0 < n)
     wide : (k : ℕ) (d : Config) → n ≤ k → k < length steps → (n < k) ⊎ (k ≤ n) → nat_le (get_or steps k d).width v ≡ false
     wide k d low high (inl later) =
         let fall = are.decreasing n k d later high in
-        test_le_false (omega (arith, fall.0, below (omega arith), ap (λ a. a.width) (get_or_default steps n d no_step (omega arith))))
+        test_le_false (omega (
+          arith,
+          fall.0,
+          below (omega arith),
+          ap (λ a. a.width) (get_or_default steps n d no_step (omega arith)),
+        ))
     wide k d low high (inr here) =
         let same : k ≡ n = omega arith in
         test_le_false (omega (
@@ -52,10 +60,12 @@ module _ (steps : List Config) (are : AreSteps steps) (w n : ℕ) (some : 0 < n)
     same = λ v from below. same_between v from (λ _. below);
     lower =
         let fall = falls steps are (n - 1) n (omega arith) more in
-        lower_of (height_at steps w) (height_at steps (get_or steps n no_step).width) (height_at-last steps are w n some within at)
+        lower_of (height_at steps w) (height_at steps (get_or steps n no_step).width)
+        (height_at-last steps are w n some within at)
         (height_at-step steps are n more) fall.1;
   } where
-    lower_of : (before here : Option ℕ) {high low : ℕ} → before ≡ Some high → here ≡ Some low → low < high → IsSomeAnd before (λ b. IsSomeAnd here (λ h. h < b))
+    lower_of : (before here : Option ℕ) {high low : ℕ} → before ≡ Some high → here ≡ Some low → low < high →
+        IsSomeAnd before (λ b. IsSomeAnd here (λ h. h < b))
     lower_of before here is_before is_here less = rw is_before (rw is_here less)
 
   -- there is a height
@@ -66,7 +76,8 @@ module _ (steps : List Config) (are : AreSteps steps) (w n : ℕ) (some : 0 < n)
   pub height_le_first : (get_or steps (n - 1) no_step).height ≤ first_height steps
   height_le_first = at_most (cases_lt 0 (n - 1)) where
     at_most : (0 < n - 1) ⊎ (n - 1 ≤ 0) → (get_or steps (n - 1) no_step).height ≤ first_height steps
-    at_most (inl later) = let fall = falls steps are 0 (n - 1) later (omega arith) in omega (arith, fall.1, first_height-is steps no_step are.has_step)
+    at_most (inl later) = let fall = falls steps are 0 (n - 1) later (omega arith) in
+        omega (arith, fall.1, first_height-is steps no_step are.has_step)
     at_most (inr first) = let here : n - 1 ≡ 0 = omega arith in omega (
       arith,
       first_height-is steps no_step are.has_step,
@@ -80,11 +91,13 @@ none_above None = refl
 none_above (Some n) = refl
 
 -- below the greater first width there is no height
-pub none_below : (a b : List Config) → AreSteps a → AreSteps b → (v : ℕ) → v < max (first_width a) (first_width b) → stacked_height a b v ≡ None
+pub none_below : (a b : List Config) → AreSteps a → AreSteps b → (v : ℕ) → v < max (first_width a) (first_width b) →
+    stacked_height a b v ≡ None
 none_below a b are_a are_b v below = none (cases_lt v (first_width a)) where
   none : (v < first_width a) ⊎ (first_width a ≤ v) → stacked_height a b v ≡ None
   none (inl in_a) = ap (λ h. both_heights h (height_at b v)) (height_at-below a are_a v in_a)
-  none (inr past) = ap (both_heights (height_at a v)) (height_at-below b are_b v (omega (arith, past, below))) ∙ none_above (height_at a v)
+  none (inr past) = ap (both_heights (height_at a v)) (height_at-below b are_b v (omega (arith, past, below))) ∙ none_above
+      (height_at a v)
 
 -- ---- the steps found so far
 
@@ -103,7 +116,8 @@ height_at-push steps step w =
     last_nil all = ap (last_or None) (append-nil all)
 
     last_is : (all : List Config) (narrow : Bool) →
-        option_map (λ s. s.height) (last_or None (all ++ cond narrow (step ∷ []) [])) ≡ cond narrow (Some step.height) (option_map (λ s.
+        option_map (λ s. s.height) (last_or None (all ++ cond narrow (step ∷ []) [])) ≡ cond narrow (Some step.height)
+        (option_map (λ s.
         s.height) (last_or None all))
     last_is all true = ap (option_map (λ s. s.height)) (last_push None all)
     last_is all false = ap (option_map (λ s. s.height)) (last_nil all)
@@ -114,12 +128,14 @@ pub record AreStepsBelow (least : ℕ) (height : ℕ → Option ℕ) (steps : Li
   pub begins : (length steps ≡ 0) → width ≡ least
   pub first : 0 < length steps → first_width steps ≡ least
   pub decreasing : AllPairs Falls steps
-  pub before : (k : ℕ) (d : Config) → k < length steps → ((get_or steps k d).width < width) × IsSomeAnd (height width) (λ here. here <
+  pub before : (k : ℕ) (d : Config) → k < length steps → ((get_or steps k d).width < width) ×
+      IsSomeAnd (height width) (λ here. here <
       (get_or steps k d).height)
   pub heights : (v : ℕ) → v < width → height_at steps v ≡ height v
 
 -- no step is found yet
-pub none_found : (least : ℕ) (height : ℕ → Option ℕ) (steps : List Config) → steps ≡ [] → ((v : ℕ) → v < least → height v ≡ None) →
+pub none_found : (least : ℕ) (height : ℕ → Option ℕ) (steps : List Config) → steps ≡ [] →
+    ((v : ℕ) → v < least → height v ≡ None) →
     AreStepsBelow least height steps least
 none_found least height steps is none = subst (λ list. AreStepsBelow least height list least) (sym is) (record {
   from = omega arith;
@@ -130,7 +146,8 @@ none_found least height steps is none = subst (λ list. AreStepsBelow least heig
   heights = λ v below. sym (none v below);
 })
 
-module _ (least : ℕ) (height : ℕ → Option ℕ) (steps : List Config) (width h : ℕ) (found : AreStepsBelow least height steps width) (here :
+module _ (least : ℕ) (height : ℕ → Option ℕ) (steps : List Config) (width h : ℕ)
+    (found : AreStepsBelow least height steps width) (here :
     height width ≡ Some h) where
   -- the step at this width
   abbrev step : Config
@@ -139,7 +156,8 @@ module _ (least : ℕ) (height : ℕ → Option ℕ) (steps : List Config) (widt
   -- it is wider and lower than those before
   falls_to : AllPairs Falls (steps ++ step ∷ [])
   falls_to = all_pairs_push Falls steps step found.decreasing (λ k d within. falls_here k d (found.before k d within)) where
-    falls_here : (k : ℕ) (d : Config) → ((get_or steps k d).width < width) × IsSomeAnd (height width) (λ low. low < (get_or steps k
+    falls_here : (k : ℕ) (d : Config) → ((get_or steps k d).width < width) ×
+        IsSomeAnd (height width) (λ low. low < (get_or steps k
         d).height) → Falls (get_or steps k d) step
     falls_here k d before = (before.0, rw here at before.1)
 
@@ -156,7 +174,8 @@ module _ (least : ℕ) (height : ℕ → Option ℕ) (steps : List Config) (widt
     at (inr past) = ap (λ test. cond test (Some h) (height_at steps v)) (test_le past) ∙ sym (stays past ∙ here)
 
   -- the steps below the next width
-  pub one_more : (list : List Config) (next : ℕ) → list ≡ steps ++ step ∷ [] → IsNextWidth height width next → AreStepsBelow least height list next
+  pub one_more : (list : List Config) (next : ℕ) → list ≡ steps ++ step ∷ [] → IsNextWidth height width next →
+      AreStepsBelow least height list next
   one_more list next is changes = subst (λ all. AreStepsBelow least height all next) (sym is) (record {
     from = omega (arith, found.from, changes.above);
     begins = λ none. absurd (omega (arith, length_push steps step));
@@ -166,7 +185,8 @@ module _ (least : ℕ) (height : ℕ → Option ℕ) (steps : List Config) (widt
     heights = λ v below. heights_to v (λ past. changes.same v past below);
   }) where
     all_before : (k : ℕ) (d : Config) → k < length (steps ++ step ∷ []) → (k < length steps) ⊎ (length steps ≤ k) →
-        ((get_or (steps ++ step ∷ []) k d).width < next) × IsSomeAnd (height next) (λ low. low < (get_or (steps ++ step ∷ []) k d).height)
+        ((get_or (steps ++ step ∷ []) k d).width < next) × IsSomeAnd (height next)
+        (λ low. low < (get_or (steps ++ step ∷ []) k d).height)
     all_before k d within (inl old) =
         let same : get_or (steps ++ step ∷ []) k d ≡ get_or steps k d = get_or_append_left steps (step ∷ []) d k old in
         let before = found.before k d old in (
@@ -181,27 +201,35 @@ module _ (least : ℕ) (height : ℕ → Option ℕ) (steps : List Config) (widt
         lower_still (Some now) (Some then) less falls is = omega (arith, less, falls, is)
     all_before k d within (inr new) =
         let at : k ≡ length steps = omega (arith, within, new, length_push steps step) in
-        let same : get_or (steps ++ step ∷ []) k d ≡ step = ap (λ i. get_or (steps ++ step ∷ []) i d) at ∙ get_or-append_seam steps step [] d in (
+        let same : get_or (steps ++ step ∷ []) k d ≡ step = ap
+        (λ i. get_or (steps ++ step ∷ []) i d) at ∙ get_or-append_seam steps step [] d in (
           omega (arith, changes.above, ap (λ s. s.width) same),
           lower_here (height width) (height next) here changes.lower (ap (λ s. s.height) same),
         )
       where
-        lower_here : (now then : Option ℕ) {same : ℕ} → now ≡ Some h → IsSomeAnd now (λ before. IsSomeAnd then (λ low. low < before)) →
+        lower_here : (now then : Option ℕ) {same : ℕ} → now ≡ Some h →
+            IsSomeAnd now (λ before. IsSomeAnd then (λ low. low < before)) →
             same ≡ h → IsSomeAnd then (λ low. low < same)
         lower_here now None is falls same = absurd (rw is at falls)
         lower_here now (Some then) is falls same = let less : then < h = rw is at falls in omega (arith, less, same)
 
   -- no width is next: these are all
   pub all_found : (list : List Config) → list ≡ steps ++ step ∷ [] → AreSteps list
-  all_found list is = subst (λ all. AreSteps all) (sym is) (record { has_step = omega (arith, length_push steps step); decreasing = falls_to })
+  all_found list is = subst (λ all. AreSteps all) (sym is) (record {
+    has_step =
+        omega (arith, length_push steps step);
+    decreasing = falls_to;
+  })
 
   pub all_first : (list : List Config) → list ≡ steps ++ step ∷ [] → first_width list ≡ least
   all_first list is = ap first_width is ∙ begins_with steps refl
 
-  pub all_heights : (list : List Config) → list ≡ steps ++ step ∷ [] → ((v : ℕ) → width ≤ v → height v ≡ height width) → (v : ℕ) → height_at list v ≡ height v
+  pub all_heights : (list : List Config) → list ≡ steps ++ step ∷ [] → ((v : ℕ) → width ≤ v → height v ≡ height width) →
+      (v : ℕ) → height_at list v ≡ height v
   all_heights list is stays v = ap (λ all. height_at all v) is ∙ heights_to v (stays v)
 
 -- where each step begins within a page, so does the first
-pub first_width-within : (page : ℕ) (steps : List Config) → AreSteps steps → All (λ step. step.width ≤ page) steps → first_width steps ≤ page
+pub first_width-within : (page : ℕ) (steps : List Config) → AreSteps steps → All (λ step. step.width ≤ page) steps →
+    first_width steps ≤ page
 first_width-within page [] are within = absurd (omega (arith, are.has_step))
 first_width-within page (step ∷ steps) are within = within 0 step (omega arith)

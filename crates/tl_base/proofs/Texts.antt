@@ -1,5 +1,6 @@
 -- A text's bytes and its characters.
-use Rattle.std.proofs.Common.{◌≡◌, ℕ, Bool, true, false, ◌==◌, IsTrue, ◌↔◌, ◌+◌, ◌<◌, ◌≤◌, List, [], ◌∷◌, ◌++◌, length, ap, arith, refl, sym, ◌∙◌}
+use Rattle.std.proofs.Common.{◌≡◌, ℕ, Bool, true, false, ◌==◌, IsTrue, ◌↔◌, ◌+◌, ◌<◌, ◌≤◌, List, [], ◌∷◌, ◌++◌, length, ap, arith}
+use Rattle.std.proofs.Common.{refl, sym, ◌∙◌}
 use Rattle.std.proofs.Common.{◌⊎◌, inl, inr, eq-eqb, length-append}
 use Rattle.std.proofs.lemmas.Bool.{cases_lt, eqb-true}
 use Rattle.std.specs.Prelude.{bytes_eq}
@@ -27,7 +28,8 @@ has_character bytes utf8 some = some_of (chars bytes) (byte_count-chars bytes ut
     some_of (c ∷ characters) counted = omega arith
 
 -- the text with one more character at its end
-pub chars-push : (bytes more : List ℕ) (c : ℕ) → IsUtf8 bytes → IsUtf8 more → more ≡ bytes ++ encode_utf8 c → chars more ≡ chars bytes ++ c ∷ []
+pub chars-push : (bytes more : List ℕ) (c : ℕ) → IsUtf8 bytes → IsUtf8 more → more ≡ bytes ++ encode_utf8 c →
+    chars more ≡ chars bytes ++ c ∷ []
 chars-push bytes more c utf8 valid is =
     sym (chars_from_encodes (chars bytes ++ c ∷ []) more valid (
     encodes-append (chars bytes) (c ∷ []) ∙ ap (λ prefix. prefix ++ encode_utf8_all (c ∷ [])) (encodes-chars bytes utf8)
@@ -58,7 +60,8 @@ no_byte bytes text utf8 same = (
   none_of (inr zero) none = omega (arith, zero)
 
 -- whether a text has no character is told by its bytes
-pub tells_no_character : (bytes text : List ℕ) (told : Bool) → IsUtf8 bytes → told ≡ (length bytes == 0) → chars bytes ≡ text → IsTrue told ↔ (text ≡ [])
+pub tells_no_character : (bytes text : List ℕ) (told : Bool) → IsUtf8 bytes → told ≡ (length bytes == 0) → chars bytes ≡ text →
+    IsTrue told ↔ (text ≡ [])
 tells_no_character bytes text told utf8 is same =
     let both = no_byte bytes text utf8 same in (
       λ yes. both.0 (eqb-true (length bytes) 0 (sym is ∙ yes)),

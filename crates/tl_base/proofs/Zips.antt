@@ -21,7 +21,8 @@ AllZip-unpush R S (a ∷ xs) (b ∷ ys) x y long all =
     let rest = AllZip-unpush R S xs ys x y long.1 all.1 in ((all.0, rest.0), rest.1)
 
 -- one of the pairs
-pub AllZip-get_or : {A B : Type 0} (R : A → B → Type 0) (xs : List A) (ys : List B) (k : ℕ) (x : A) (y : B) → AllZip R xs ys → k < length xs →
+pub AllZip-get_or : {A B : Type 0} (R : A → B → Type 0) (xs : List A) (ys : List B) (k : ℕ) (x : A) (y : B) → AllZip R xs ys →
+    k < length xs →
     R (get_or xs k x) (get_or ys k y)
 AllZip-get_or R [] ys k x y all within = absurd (omega arith)
 AllZip-get_or R (a ∷ xs) [] k x y all within = absurd all
@@ -29,7 +30,8 @@ AllZip-get_or R (a ∷ xs) (b ∷ ys) zero x y all within = all.0
 AllZip-get_or R (a ∷ xs) (b ∷ ys) (suc k) x y all within = AllZip-get_or R xs ys k x y all.1 (omega arith)
 
 -- what holds of two lists place by place, weakened
-pub AllZip-weaker : {A B : Type 0} (P Q : A → B → Type 0) (xs : List A) (ys : List B) → ((x : A) (y : B) → P x y → Q x y) → AllZip P xs ys →
+pub AllZip-weaker : {A B : Type 0} (P Q : A → B → Type 0) (xs : List A) (ys : List B) → ((x : A) (y : B) → P x y → Q x y) →
+    AllZip P xs ys →
     AllZip Q xs ys
 AllZip-weaker P Q [] [] weaker all = tt
 AllZip-weaker P Q [] (y ∷ ys) weaker all = absurd all
@@ -37,7 +39,8 @@ AllZip-weaker P Q (x ∷ xs) [] weaker all = absurd all
 AllZip-weaker P Q (x ∷ xs) (y ∷ ys) weaker all = (weaker x y all.0, AllZip-weaker P Q xs ys weaker all.1)
 
 -- two pairs of lists whose items belong together, joined
-pub AllZip-append : {A B : Type 0} (R : A → B → Type 0) (xs zs : List A) (ys ws : List B) → AllZip R xs ys → AllZip R zs ws → AllZip R (xs ++ zs) (ys ++ ws)
+pub AllZip-append : {A B : Type 0} (R : A → B → Type 0) (xs zs : List A) (ys ws : List B) → AllZip R xs ys → AllZip R zs ws →
+    AllZip R (xs ++ zs) (ys ++ ws)
 AllZip-append R [] zs [] ws first second = second
 AllZip-append R [] zs (y ∷ ys) ws first second = absurd first
 AllZip-append R (x ∷ xs) zs [] ws first second = absurd first
@@ -51,7 +54,8 @@ AllZip-length R (x ∷ xs) [] all = absurd all
 AllZip-length R (x ∷ xs) (y ∷ ys) all = let rest = AllZip-length R xs ys all.1 in omega arith
 
 -- one item, and what belongs to it
-pub AllZip-Contains : {A B : Type 0} (P : A → B → Type 0) (xs : List A) (ys : List B) (x : A) → AllZip P xs ys → Contains xs x → (y : B) × P x y
+pub AllZip-Contains : {A B : Type 0} (P : A → B → Type 0) (xs : List A) (ys : List B) (x : A) → AllZip P xs ys → Contains xs x →
+    (y : B) × P x y
 AllZip-Contains P [] ys x all has = absurd (Contains-none x has)
 AllZip-Contains P (a ∷ xs) [] x all has = absurd all
 AllZip-Contains P (a ∷ xs) (b ∷ ys) x all has = elim (Contains-cases a xs x has) [

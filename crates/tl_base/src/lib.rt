@@ -1,11 +1,13 @@
 //! What every layer shares: lists and texts that contracts see as their items, canonical decimal
 //! numbers, the desk through which files and standard output are reached, and the gate that
-//! parallel pieces of work pass, step functions from widths to heights, and the limits that more
-//! than one crate knows. It knows no table, no text breaking and no layout. Its one contract: what
-//! the desk holds after each call, and that a fault is returned only where its count of faults rose.
+//! parallel pieces of work pass, step functions from widths to heights, styles and the sizes of
+//! columns and rows, chains of cells, and the limits that more than one crate knows. It knows no
+//! table, no text breaking and no layout. Its one contract: what the desk holds after each call, and
+//! that a fault is returned only where its count of faults rose.
 #![tactic(auto)]
 
 mod breaking;
+mod chain;
 mod desk;
 mod gate;
 mod items;
@@ -13,6 +15,7 @@ mod limits;
 mod memory_desk;
 mod number;
 mod real_desk;
+mod sizes;
 mod steps;
 mod style;
 #[cfg(test)]
@@ -20,6 +23,7 @@ mod tests;
 mod text;
 
 pub use breaking::Breaking;
+pub use chain::{Chain, Entry};
 pub use desk::{Desk, DeskFault};
 pub use gate::{Gate, NoGate};
 pub use items::List;
@@ -31,6 +35,7 @@ pub use limits::{
 pub use memory_desk::{Fail, MemoryDesk};
 pub use number::{read_number, write_number};
 pub use real_desk::RealDesk;
+pub use sizes::{room_on_page, room_size, total_size};
 pub use steps::{Config, Steps};
 pub use style::Style;
 pub use text::Text;

@@ -355,8 +355,12 @@ mod tests {
     }
 
     #[test]
-    fn a_frame_has_lines_where_plain_has_spaces(rt: HostRuntime) {
-        for (style, gap, row_gap, edge) in [(Style::Plain, 2, 0, 0), (Style::Frame, 1, 1, 1)] {
+    fn each_style_has_its_gaps_and_edge(rt: HostRuntime) {
+        for (style, gap, row_gap, edge) in [
+            (Style::Plain, 2, 0, 0),
+            (Style::Compact, 1, 0, 0),
+            (Style::Frame, 1, 1, 1),
+        ] {
             assert_eq!(rt;
                 (style.gap(), style.row_gap(), style.edge()),
                 (gap, row_gap, edge)

@@ -1,10 +1,12 @@
-//! The two ways in which a table is drawn.
+//! The ways in which a table is drawn.
 
 /// How a table is drawn.
 #[derive(Clone, Copy, Debug, PartialEq, Eq)]
 pub enum Style {
     /// Two spaces between columns, and nothing else.
     Plain,
+    /// One space between columns, and nothing else.
+    Compact,
     /// A line of `|`, `-` and `+` between columns and rows and round the table.
     Frame,
 }
@@ -19,7 +21,7 @@ impl Style {
     {
         match self {
             Style::Plain => 2,
-            Style::Frame => 1,
+            Style::Compact | Style::Frame => 1,
         }
     }
 
@@ -28,7 +30,7 @@ impl Style {
         ensures { result ≡ row_gap_of self }
     {
         match self {
-            Style::Plain => 0,
+            Style::Plain | Style::Compact => 0,
             Style::Frame => 1,
         }
     }
@@ -38,7 +40,7 @@ impl Style {
         ensures { result ≡ edge_of self }
     {
         match self {
-            Style::Plain => 0,
+            Style::Plain | Style::Compact => 0,
             Style::Frame => 1,
         }
     }

@@ -1,30 +1,34 @@
 -- Appending the texts of pieces, one after the other.
-use Rattle.std.proofs.Common.{◌≡◌, ℕ, ◌+◌, ◌/◌, ◌%◌, ◌≤◌, ◌<◌, List, [], ◌∷◌, ◌++◌, length, get_or, take, sym, ap, ◌∙◌, append_assoc, arith}
+use Rattle.std.proofs.Common.{◌≡◌, ℕ, ◌+◌, ◌/◌, ◌%◌, ◌≤◌, ◌<◌, List, [], ◌∷◌, ◌++◌, length, get_or, take, sym, ap, ◌∙◌}
+use Rattle.std.proofs.Common.{append_assoc, arith}
 use Rattle.std.specs.List.{flat_map}
 use Rattle.std.proofs.lemmas.List.{append-nil, take_more, get_or_default}
 use Rattle.std.proofs.lemmas.List.Concat.{flat_map-append}
 use Rattle.std.specs.Prelude.{codes}
-use Rattle.tl_problem.specs.declared.chain.Chain.{Chain}
+use Rattle.tl_base.specs.declared.chain.Chain.{Chain}
 use Rattle.tl_cert.specs.declared.log.LogLine.{LogLine}
 use Rattle.tl_cert.specs.declared.section.Section.{Section}
 use Rattle.tl_cert.specs.declared.certificate.Certificate.{Certificate}
 use Rattle.tl_base.specs.declared.limits.TheConstants.{MAX_PAGE_WIDTH, MAX_BUDGET}
 use Rattle.tl_cert.specs.Pieces.{Piece, spell, numeral, word, character, field}
 use Rattle.tl_cert.specs.Text.{space, line_feed, spaced, chain_pieces, entry_pieces, cut_pieces, nogood_pieces, fire_pieces}
-use Rattle.tl_cert.specs.Text.{end_word, line_pieces, section_head, section_pieces, claim_pieces, version_word, style_word, has_area, cert_text}
+use Rattle.tl_cert.specs.Text.{end_word, line_pieces, section_head, section_pieces, claim_pieces, version_word, style_word}
+use Rattle.tl_cert.specs.Text.{has_area, cert_text}
 use Rattle.tl_cert.specs.inner.Head.{head_text}
 use Rattle.tl_cert.proofs.reading.Numerals.{numeral_small, numeral_step}
 use Rattle.tl_cert.proofs.reading.Spellings.{spell-append}
 use Rattle.tl_cert.proofs.reading.Words.{spell-word}
 
 -- one item more
-pub written_more : {X : Type 0} (f : X → List Piece) (xs : List X) (i : ℕ) (x : X) (old out new : List ℕ) → i < length xs → x ≡ get_or xs i x
+pub written_more : {X : Type 0} (f : X → List Piece) (xs : List X) (i : ℕ) (x : X) (old out new : List ℕ) → i < length xs →
+    x ≡ get_or xs i x
     → out ≡ old ++ spell (flat_map f (take i xs))
     → new ≡ out ++ spell (f x) → new ≡ old ++ spell (flat_map f (take (i + 1) xs))
 written_more f xs i x old out new there is so_far more =
     let taken : take (i + 1) xs ≡ take i xs ++ x ∷ [] = take_more xs i x there ∙ ap (λ y. take i xs ++ y ∷ []) (sym is) in
     let whole : flat_map f (take (i + 1) xs) ≡ flat_map f (take i xs) ++ f x =
-    ap (flat_map f) taken ∙ flat_map-append f (take i xs) (x ∷ []) ∙ ap (λ (ps : List Piece). flat_map f (take i xs) ++ ps) (append-nil (f x)) in
+    ap (flat_map f) taken ∙ flat_map-append f (take i xs) (x ∷ []) ∙ ap (λ (ps : List Piece). flat_map f (take i xs) ++ ps)
+    (append-nil (f x)) in
     more ∙ ap (λ (t : List ℕ). t ++ spell (f x)) so_far ∙ append_assoc old (spell (flat_map f (take i xs))) (spell (f x))
     ∙ ap (λ (t : List ℕ). old ++ t) (sym (ap spell whole ∙ spell-append (flat_map f (take i xs)) (f x)))
 
@@ -53,9 +57,11 @@ pub ruleset appending = (append_assoc, spell-append, spell-word)
 -- ---- the texts of parts that are joined
 
 pub chain_spelled : (chain : Chain) → spell (chain_pieces chain)
-    ≡ codes "chain " ++ (numeral chain.table ++ (spell (flat_map (λ entry. character space ∷ entry_pieces entry) chain.entries) ++ (10 ∷ [])))
+    ≡ codes "chain " ++ (numeral chain.table ++ (spell (flat_map (λ entry. character space ∷ entry_pieces entry)
+    chain.entries) ++ (10 ∷ [])))
 chain_spelled chain =
-    ap (λ (t : List ℕ). codes "chain " ++ (numeral chain.table ++ t)) (spell-append (flat_map (λ entry. character space ∷ entry_pieces entry) chain.entries)
+    ap (λ (t : List ℕ). codes "chain " ++ (numeral chain.table ++ t))
+    (spell-append (flat_map (λ entry. character space ∷ entry_pieces entry) chain.entries)
     (word (codes "\n")))
 
 pub line_spelled : (line : LogLine) → spell (line_pieces line) ≡ spell (nogood_pieces line.nogood)
@@ -75,23 +81,30 @@ section_spelled s =
     let widths : List Piece = flat_map (spaced MAX_PAGE_WIDTH) s.widths in
     spell-append (section_head s) (word (codes "widths") ++ (widths ++ (word (codes "\n") ++ (trace ++ log))))
     ∙ ap (λ (t : List ℕ). spell (section_head s) ++ (codes "widths" ++ t))
-    (spell-append widths (word (codes "\n") ++ (trace ++ log)) ∙ ap (λ (t : List ℕ). spell widths ++ (10 ∷ t)) (spell-append trace log))
+    (spell-append widths (word (codes "\n") ++ (trace ++ log)) ∙ ap (λ (t : List ℕ). spell widths ++ (10 ∷ t))
+    (spell-append trace log))
 
 pub cert_spelled : (c : Certificate) → cert_text c
-    ≡ head_text c ++ (spell (claim_pieces c.claim) ++ (spell (flat_map chain_pieces c.chains) ++ (spell (flat_map section_pieces c.sections) ++ codes "end\n")))
+    ≡ head_text c ++ (spell (claim_pieces c.claim) ++ (spell (flat_map chain_pieces c.chains) ++
+    (spell (flat_map section_pieces c.sections) ++ codes "end\n")))
 cert_spelled c =
     let version : List ℕ = version_word (has_area c.sections) in
     let style : List ℕ = style_word c.style in
-    let rest : List Piece = claim_pieces c.claim ++ (flat_map chain_pieces c.chains ++ (flat_map section_pieces c.sections ++ word (codes "end\n"))) in
+    let rest : List Piece =
+    claim_pieces c.claim ++ (flat_map chain_pieces c.chains ++
+    (flat_map section_pieces c.sections ++ word (codes "end\n"))) in
     let later : List Piece = word style ++ (field 0 MAX_BUDGET c.budget line_feed ++ rest) in
     let rest_is : spell rest ≡ spell (claim_pieces c.claim) ++ (spell (flat_map chain_pieces c.chains)
     ++ (spell (flat_map section_pieces c.sections) ++ codes "end\n")) =
-    spell-append (claim_pieces c.claim) (flat_map chain_pieces c.chains ++ (flat_map section_pieces c.sections ++ word (codes "end\n")))
+    spell-append (claim_pieces c.claim) (flat_map chain_pieces c.chains ++
+    (flat_map section_pieces c.sections ++ word (codes "end\n")))
     ∙ ap (λ (t : List ℕ). spell (claim_pieces c.claim) ++ t)
     (spell-append (flat_map chain_pieces c.chains) (flat_map section_pieces c.sections ++ word (codes "end\n"))
-    ∙ ap (λ (t : List ℕ). spell (flat_map chain_pieces c.chains) ++ t) (spell-append (flat_map section_pieces c.sections) (word (codes "end\n")))) in
+    ∙ ap (λ (t : List ℕ). spell (flat_map chain_pieces c.chains) ++ t)
+    (spell-append (flat_map section_pieces c.sections) (word (codes "end\n")))) in
     let later_is : spell later ≡ style ++ (numeral c.budget ++ (10 ∷ spell rest)) =
-    spell-append (word style) (field 0 MAX_BUDGET c.budget line_feed ++ rest) ∙ ap (λ (t : List ℕ). t ++ (numeral c.budget ++ (10 ∷ spell rest)))
+    spell-append (word style) (field 0 MAX_BUDGET c.budget line_feed ++ rest) ∙ ap
+    (λ (t : List ℕ). t ++ (numeral c.budget ++ (10 ∷ spell rest)))
     (spell-word style) in
     let all_is : cert_text c ≡ codes "tablelayout " ++ (version ++ (numeral c.width ++ (32 ∷ spell later))) =
     ap (λ (t : List ℕ). codes "tablelayout " ++ t)

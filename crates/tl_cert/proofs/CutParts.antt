@@ -1,5 +1,6 @@
 -- The zone of each cut of a trace, and its two parts.
-use Rattle.std.proofs.Common.{◌≡◌, ℕ, ◌+◌, ◌*◌, ◌<◌, ◌≤◌, List, [], ◌∷◌, ◌++◌, inl, inr, length, get_or, refl, sym, ap, ◌∙◌, subst, arith, length-append}
+use Rattle.std.proofs.Common.{◌≡◌, ℕ, ◌+◌, ◌*◌, ◌<◌, ◌≤◌, List, [], ◌∷◌, ◌++◌, inl, inr, length, get_or, refl, sym, ap, ◌∙◌}
+use Rattle.std.proofs.Common.{subst, arith, length-append}
 use Rattle.std.proofs.lemmas.Bool.{cases_lt}
 use Rattle.std.proofs.lemmas.List.{get_or_append_left, get_or-append-add}
 use Rattle.tl_problem.specs.declared.zone.Range.{Range}
@@ -58,7 +59,8 @@ module _ (whole : List Range) (trace : List CutAt) (cut : CutAt) where
 pub has-parts : (whole : List Range) (trace : List CutAt) → IsTrace whole trace → (i : ℕ) (d : CutAt) → i < length trace
     → HasParts whole trace i (get_or trace i d)
 has-parts whole trace is = trace-by whole (AllHaveParts whole) (λ i d within. absurd (omega arith)) more trace is where
-  more : (cuts : List CutAt) (cut : CutAt) → IsTrace whole cuts → IsCut whole cuts cut → AllHaveParts whole cuts → AllHaveParts whole (cuts ++ cut ∷ [])
+  more : (cuts : List CutAt) (cut : CutAt) → IsTrace whole cuts → IsCut whole cuts cut → AllHaveParts whole cuts →
+      AllHaveParts whole (cuts ++ cut ∷ [])
   more cuts cut before now all i d within =
       elim (cases_lt i (length cuts)) [
         | inl old ↦ subst (HasParts whole (cuts ++ cut ∷ []) i) (sym (get_or_append_left cuts (cut ∷ []) d i old))
@@ -66,7 +68,8 @@ has-parts whole trace is = trace-by whole (AllHaveParts whole) (λ i d within. a
         | inr last ↦
             let here : i ≡ length cuts = omega (arith, last, within, length-append cuts (cut ∷ [])) in
             let number : i ≡ length cuts + 0 = omega (arith, here) in
-            let at : get_or (cuts ++ cut ∷ []) i d ≡ cut = ap (λ n. get_or (cuts ++ cut ∷ []) n d) number ∙ get_or-append-add cuts (cut ∷ []) 0 d in
+            let at : get_or (cuts ++ cut ∷ []) i d ≡ cut = ap (λ n. get_or (cuts ++ cut ∷ []) n d)
+            number ∙ get_or-append-add cuts (cut ∷ []) 0 d in
             subst (λ n. HasParts whole (cuts ++ cut ∷ []) n (get_or (cuts ++ cut ∷ []) i d)) (sym here)
             (subst (HasParts whole (cuts ++ cut ∷ []) (length cuts)) (sym at) (parts-last whole cuts cut now))
       ]
@@ -74,4 +77,5 @@ has-parts whole trace is = trace-by whole (AllHaveParts whole) (λ i d within. a
 -- zone 0 stays the whole
 pub first-whole : (whole : List Range) (trace : List CutAt) → IsTrace whole trace → zone_at whole trace 0 ≡ whole
 first-whole whole trace is =
-    trace-by whole (λ cuts. zone_at whole cuts 0 ≡ whole) refl (λ cuts cut before now same. zone-old whole cuts cut 0 (omega arith) ∙ same) trace is
+    trace-by whole (λ cuts. zone_at whole cuts 0 ≡ whole) refl
+    (λ cuts cut before now same. zone-old whole cuts cut 0 (omega arith) ∙ same) trace is

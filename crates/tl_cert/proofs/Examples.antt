@@ -22,7 +22,7 @@ use Rattle.tl_base.specs.declared.steps.Config.{Config}
 use Rattle.tl_base.specs.Steps.{first_width, IsLowAt}
 use Rattle.tl_base.proofs.Members.{Contains-first, Contains-cases, Contains-none}
 use Rattle.tl_problem.specs.declared.cell.Cell.{Cell}
-use Rattle.tl_problem.specs.Sizes.{room, total}
+use Rattle.tl_base.specs.Sizes.{room, total}
 use Rattle.tl_problem.specs.Problem.{ProblemModel, cell_width, cell_height}
 use Rattle.tl_problem.specs.Layouts.{WithinPage}
 use Rattle.tl_problem.specs.Spans.{spans_of, classes_of, count_of}
@@ -51,7 +51,8 @@ abbrev two_words : ℕ → List Config
 two_words n = step n 2 ∷ step (2 * n + 1) 1 ∷ []
 
 abbrev cells : List Cell
-cells = cell 0 0 (two_words 1) ∷ cell 1 0 (two_words 1) ∷ cell 2 0 (step 1 2 ∷ []) ∷ cell 0 1 (step 1 1 ∷ []) ∷ cell 1 1 (step 1 1 ∷ []) ∷ cell 2 1
+cells = cell 0 0 (two_words 1) ∷ cell 1 0 (two_words 1) ∷ cell 2 0 (step 1 2 ∷ []) ∷ cell 0 1 (step 1 1 ∷ []) ∷ cell 1 1
+    (step 1 1 ∷ []) ∷ cell 2 1
     (two_words 4) ∷ cell 3 1 (two_words 4) ∷ []
 
 abbrev problem : ProblemModel
@@ -120,7 +121,8 @@ fits a b c d first second third fourth page = record {
 }
 
 -- of any widths within the page the four rooms sum to at most 19
-rooms : (widths : List ℕ) → WithinPage problem widths → (1 ≤ room 2 widths 0 1) × (1 ≤ room 2 widths 1 2) × (4 ≤ room 2 widths 2 3) × (4 ≤ room 2 widths 3 4)
+rooms : (widths : List ℕ) → WithinPage problem widths → (1 ≤ room 2 widths 0 1) × (1 ≤ room 2 widths 1 2) ×
+    (4 ≤ room 2 widths 2 3) × (4 ≤ room 2 widths 3 4)
     × (room 2 widths 0 1 + room 2 widths 1 2 + room 2 widths 2 3 + room 2 widths 3 4 ≤ 19)
 rooms widths is = (
   is.cells 3 (cell 0 0 []) (omega arith),
@@ -159,7 +161,8 @@ step-needed n lines w h wider low = rw (test_le n w wider) at low
 
 -- ---- the bound of widths that are left: four, where the lower row needs two lines
 
-module _ (Among : List ℕ → Type 0) (page : (widths : List ℕ) → Among widths → WithinPage problem widths) (some : List ℕ) (among : Among some) where
+module _ (Among : List ℕ → Type 0) (page : (widths : List ℕ) → Among widths →
+    WithinPage problem widths) (some : List ℕ) (among : Among some) where
   enough : GiveLow problem Among (2 ∷ 2 ∷ [])
   enough = record {
     rows = refl;
@@ -196,7 +199,8 @@ module _ (Among : List ℕ → Type 0) (page : (widths : List ℕ) → Among wid
     Given : Cell → Type 0
     Given c = (w : ℕ) → IsGreatestRoom problem Among c.left c.right w → IsLowAt c.low (cell_height problem (2 ∷ 2 ∷ []) c) w
 
-    above : (left top n : ℕ) → n ≤ room 2 some left (left + 1) → 2 ≤ cell_height problem (2 ∷ 2 ∷ []) (cell left top []) → Given (cell left top (two_words n))
+    above : (left top n : ℕ) → n ≤ room 2 some left (left + 1) → 2 ≤ cell_height problem (2 ∷ 2 ∷ []) (cell left top []) →
+        Given (cell left top (two_words n))
     above left top n wide two w greatest = let more = greatest.never_more some among in
         two-enough n w (cell_height problem (2 ∷ 2 ∷ []) (cell left top [])) (omega (arith, wide, more)) two
 
@@ -204,9 +208,11 @@ module _ (Among : List ℕ → Type 0) (page : (widths : List ℕ) → Among wid
     upper w greatest = let more = greatest.never_more some among in step-enough 1 2 w 2 (omega (arith, third, more)) (omega arith)
 
     line : (left : ℕ) → 1 ≤ room 2 some left (left + 1) → Given (cell left 1 (step 1 1 ∷ []))
-    line left wide w greatest = let more = greatest.never_more some among in step-enough 1 1 w 2 (omega (arith, wide, more)) (omega arith)
+    line left wide w greatest = let more = greatest.never_more some among in
+        step-enough 1 1 w 2 (omega (arith, wide, more)) (omega arith)
 
-  pub bound-four : (w : ℕ) → IsGreatestRoom problem Among 2 3 w → ((heights : List ℕ) → GiveLow problem Among heights → 2 ≤ room 0 heights 1 2) →
+  pub bound-four : (w : ℕ) → IsGreatestRoom problem Among 2 3 w →
+      ((heights : List ℕ) → GiveLow problem Among heights → 2 ≤ room 0 heights 1 2) →
       IsBound problem Among 4
   bound-four w third lower = record {
     some = (some, among);
@@ -215,7 +221,8 @@ module _ (Among : List ℕ → Type 0) (page : (widths : List ℕ) → Among wid
       never_less = λ heights give.
           let more = third.never_more some among in
           let wide = (rooms some (page some among)).2 in
-          let first = step-needed 1 2 w (room 0 heights 0 1) (omega (arith, more, wide)) (give.cells 2 (cell 0 0 []) (omega arith) w third) in
+          let first = step-needed 1 2 w (room 0 heights 0 1) (omega (arith, more, wide))
+          (give.cells 2 (cell 0 0 []) (omega arith) w third) in
           two_rows heights give.rows first (lower heights give);
     };
   } where
@@ -259,7 +266,8 @@ narrow_room = record {
 narrow_bound : IsBound problem narrow 4
 unfolding narrow narrow_room
 narrow_bound = bound-four narrow (λ widths left. left.page) (1 ∷ 1 ∷ 8 ∷ 4 ∷ []) (narrow_room.attained.1) 8 narrow_room
-    (λ heights give. two-needed 4 8 (room 0 heights 1 2) (omega arith) (omega arith) (give.cells 5 (cell 0 0 []) (omega arith) 8 narrow_room))
+    (λ heights give. two-needed 4 8 (room 0 heights 1 2) (omega arith) (omega arith)
+    (give.cells 5 (cell 0 0 []) (omega arith) 8 narrow_room))
 
 -- where it has at least 9
 wide : List ℕ → Type 0
@@ -306,7 +314,8 @@ fourth_room = record {
 wide_bound : IsBound problem wide 4
 unfolding wide wide_room
 wide_bound = bound-four wide (λ widths left. left.page) (1 ∷ 1 ∷ 13 ∷ 4 ∷ []) (wide_room.attained.1) 13 wide_room
-    (λ heights give. two-needed 4 8 (room 0 heights 1 2) (omega arith) (omega arith) (give.cells 6 (cell 0 0 []) (omega arith) 8 fourth_room))
+    (λ heights give. two-needed 4 8 (room 0 heights 1 2) (omega arith) (omega arith)
+    (give.cells 6 (cell 0 0 []) (omega arith) 8 fourth_room))
 
 abbrev log : List LogLine
 log = record { nogood = Bounds (third_at_most_8 ∷ []); fires = []; end = Chain } ∷ record {

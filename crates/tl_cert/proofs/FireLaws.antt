@@ -33,7 +33,8 @@ bound-decides a b =
       bound_of span side width = record { span = span; side = side; width = width }
 
       made : a.span ≡ b.span → a.side ≡ b.side → a.width ≡ b.width → a ≡ b
-      made span side width = ap (λ s. bound_of s a.side a.width) span ∙ ap (λ s. bound_of b.span s a.width) side ∙ ap (bound_of b.span b.side) width
+      made span side width = ap (λ s. bound_of s a.side a.width) span ∙ ap (λ s. bound_of b.span s a.width) side ∙ ap
+          (bound_of b.span b.side) width
 
 module _ (problem : ProblemModel) (given : List Bound) where
   -- of a nogood no two bounds are the one that is left
@@ -46,7 +47,8 @@ module _ (problem : ProblemModel) (given : List Bound) where
       ]
 
   -- firing the same nogoods joins the same bounds
-  pub fires-unique : (joined : List Bound) (nogoods : List (List Bound)) (a b : List Bound) → Fires problem given joined nogoods a →
+  pub fires-unique : (joined : List Bound) (nogoods : List (List Bound)) (a b : List Bound) →
+      Fires problem given joined nogoods a →
       Fires problem given joined nogoods b → a ≡ b
   fires-unique joined [] a b first second = first ∙ sym second
   fires-unique joined (nogood ∷ nogoods) a b (inl (all, rest)) (inl (also, other)) = fires-unique joined nogoods a b rest other
@@ -56,17 +58,21 @@ module _ (problem : ProblemModel) (given : List Bound) where
       absurd (one.not_implied (All-contains (Implied problem (IsLeft problem given joined)) nogood bound all one.among))
   fires-unique joined (nogood ∷ nogoods) a b (inr (bound, one, rest)) (inr (also, second, other)) =
       let same = one_left-unique joined nogood also bound second one in
-      fires-unique (joined ++ bound ∷ []) nogoods a b rest (subst (λ c. Fires problem given (joined ++ c ∷ []) nogoods b) same other)
+      fires-unique (joined ++ bound ∷ []) nogoods a b rest (subst (λ c. Fires problem given (joined ++ c ∷ []) nogoods b)
+      same other)
 
   -- nogoods are fired part by part
   pub fires-append : (joined : List Bound) (nogoods more : List (List Bound)) (between last : List Bound) →
-      Fires problem given joined nogoods between → Fires problem given between more last → Fires problem given joined (nogoods ++ more) last
+      Fires problem given joined nogoods between → Fires problem given between more last →
+      Fires problem given joined (nogoods ++ more) last
   fires-append joined [] more between last first second = subst (λ js. Fires problem given js more last) first second
-  fires-append joined (nogood ∷ nogoods) more between last (inl (all, rest)) second = inl (all, fires-append joined nogoods more between last rest second)
+  fires-append joined (nogood ∷ nogoods) more between last (inl (all, rest)) second =
+      inl (all, fires-append joined nogoods more between last rest second)
   fires-append joined (nogood ∷ nogoods) more between last (inr (bound, one, rest)) second =
       inr (bound, one, fires-append (joined ++ bound ∷ []) nogoods more between last rest second)
 
-  pub fires-split : (joined : List Bound) (nogoods more : List (List Bound)) (last : List Bound) → Fires problem given joined (nogoods ++ more) last →
+  pub fires-split : (joined : List Bound) (nogoods more : List (List Bound)) (last : List Bound) →
+      Fires problem given joined (nogoods ++ more) last →
       (between : List Bound) × Fires problem given joined nogoods between × Fires problem given between more last
   fires-split joined [] more last fires = (joined, refl, fires)
   fires-split joined (nogood ∷ nogoods) more last (inl (all, rest)) =

@@ -6,7 +6,7 @@ use Rattle.tl_cert.specs.declared.certificate.Certificate.{Certificate}
 use Rattle.tl_cert.specs.declared.error.CertError.{CertError}
 use Rattle.tl_cert.specs.declared.error.CertError.TheVariants.{Memory, Syntax, Range, TooLong}
 use Rattle.tl_base.specs.declared.limits.TheConstants.{MAX_CERTIFICATE_BYTES}
-use Rattle.tl_cert.specs.Faults.{IsRangeFault, IsSyntaxFault, Refused, IsTextOf}
+use Rattle.tl_cert.specs.Faults.{IsRangeFault, IsSyntaxFault, IsNoText, IsTextOf}
 use Rattle.tl_cert.specs.inner.CertReading.{whole_at}
 use Rattle.tl_cert.specs.inner.Gives.{ReturnsAs}
 use Rattle.tl_cert.specs.inner.reading.Readings.{wrong, outside}
@@ -18,26 +18,31 @@ Read = Result Certificate CertError
 abbrev Results : Read → List ℕ → Type 0
 Results r bytes = ReturnsAs r (length bytes) (whole_at bytes)
 
-pub result_ok : (r : Read) (bytes : List ℕ) → length bytes ≤ MAX_CERTIFICATE_BYTES → Results r bytes → IfOk r (λ c. IsTextOf bytes c)
+pub result_ok : (r : Read) (bytes : List ℕ) → length bytes ≤ MAX_CERTIFICATE_BYTES → Results r bytes →
+    IfOk r (λ c. IsTextOf bytes c)
 result_ok (Ok c) bytes short is = let p = text_of bytes c [] is in record { short = short; writable = p.0; text = p.1 }
 result_ok (Err e) bytes short is = tt
 
-pub result_each_ok : (r : Read) (bytes : List ℕ) → Results r bytes → (c : Certificate) → IsTextOf bytes c → ReturnsOk (Memory alloc_error) c r
+pub result_each_ok : (r : Read) (bytes : List ℕ) → Results r bytes → (c : Certificate) → IsTextOf bytes c →
+    ReturnsOk (Memory alloc_error) c r
 result_each_ok (Ok d) bytes is c text = let again = whole_again bytes c text.writable text.text in cc
 result_each_ok (Err (Memory e)) bytes is c text = refl
-result_each_ok (Err (Syntax place)) bytes is c text = let again = whole_again bytes c text.writable text.text in let here = is.1 in absurd cc
-result_each_ok (Err (Range place)) bytes is c text = let again = whole_again bytes c text.writable text.text in let here = is.1 in absurd cc
+result_each_ok (Err (Syntax place)) bytes is c text = let again = whole_again bytes c text.writable text.text in let here =
+    is.1 in absurd cc
+result_each_ok (Err (Range place)) bytes is c text = let again = whole_again bytes c text.writable text.text in let here =
+    is.1 in absurd cc
 result_each_ok (Err TooLong) bytes is c text = absurd is
 
 pub result_err : (r : Read) (bytes : List ℕ) → length bytes ≤ MAX_CERTIFICATE_BYTES → Results r bytes
-    → IfErr r (IsMemoryOr (Memory alloc_error) (Refused bytes))
+    → IfErr r (IsMemoryOr (Memory alloc_error) (IsNoText bytes))
 result_err (Ok c) bytes short is = tt
 result_err (Err (Memory e)) bytes short is = inl refl
 result_err (Err (Syntax place)) bytes short is = inr (short, subst (IsSyntaxFault bytes) (sym is.2) (syntax_from bytes is.0 is.1))
 result_err (Err (Range place)) bytes short is = inr (short, subst (IsRangeFault bytes) (sym is.2) (range_of bytes is.0 is.1))
 result_err (Err TooLong) bytes short is = absurd is
 
-pub result_each_err : (r : Read) (bytes : List ℕ) → length bytes ≤ MAX_CERTIFICATE_BYTES → Results r bytes → (e : CertError) → Refused bytes e
+pub result_each_err : (r : Read) (bytes : List ℕ) → length bytes ≤ MAX_CERTIFICATE_BYTES → Results r bytes → (e : CertError) →
+    IsNoText bytes e
     → ReturnsError (Memory alloc_error) e r
 result_each_err r bytes short is (Memory e) refused = absurd refused
 result_each_err r bytes short is TooLong refused = absurd (omega arith)
@@ -59,7 +64,8 @@ result_each_err r bytes short is (Range place) refused =
     let p = whole_outside bytes place refused.1 in
     at_outside r is p.0 p.1
   where
-    at_outside : (r : Read) → Results r bytes → whole_at bytes ≡ outside (length bytes - place) → length bytes - (length bytes - place) ≡ place
+    at_outside : (r : Read) → Results r bytes → whole_at bytes ≡ outside (length bytes - place) →
+        length bytes - (length bytes - place) ≡ place
         → ReturnsError (Memory alloc_error) (Range place) r
     at_outside (Ok c) is w p = absurd cc
     at_outside (Err (Memory e)) is w p = inl refl

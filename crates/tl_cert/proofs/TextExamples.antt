@@ -2,7 +2,7 @@
 use Rattle.std.proofs.Common.{◌≡◌, ℕ, List, [], ◌∷◌, refl}
 use Rattle.std.specs.Prelude.{Some, None, codes}
 use Rattle.std.specs.List.{concat}
-use Rattle.tl_base.specs.declared.style.Style.TheVariants.{Plain, Frame}
+use Rattle.tl_base.specs.declared.style.Style.TheVariants.{Plain, Compact, Frame}
 use Rattle.tl_cert.specs.declared.log.Side.TheVariants.{Most, Least}
 use Rattle.tl_cert.specs.declared.log.Nogood.TheVariants as nogoods
 use Rattle.tl_cert.specs.declared.log.End.{End}
@@ -31,7 +31,15 @@ uncut table width height lower widths end = record {
 
 -- two columns of widths 3 and 5, of height 2
 lowest_of_two_columns : cert_text
-    (record { width = 12; style = Plain; budget = 6; claim = Lowest 2; chains = []; sections = uncut 0 12 2 2 (3 ∷ 5 ∷ []) ends.Chain ∷ [] })
+    (record {
+      width = 12;
+      style = Plain;
+      budget = 6;
+      claim = Lowest 2;
+      chains = [];
+      sections =
+          uncut 0 12 2 2 (3 ∷ 5 ∷ []) ends.Chain ∷ [];
+    })
     ≡ concat (
     codes "tablelayout 1 12 plain 6\n" ∷
     codes "lowest 2\n" ∷
@@ -42,8 +50,37 @@ lowest_of_two_columns : cert_text
 unfolding numeral
 lowest_of_two_columns = refl
 
+-- one column between them in place of two
+compact_of_two_columns : cert_text
+    (record {
+      width = 9;
+      style = Compact;
+      budget = 6;
+      claim = Lowest 2;
+      chains = [];
+      sections =
+          uncut 0 9 2 2 (3 ∷ 5 ∷ []) ends.Chain ∷ [];
+    })
+    ≡ concat (
+    codes "tablelayout 1 9 compact 6\n" ∷
+    codes "lowest 2\n" ∷
+    codes "section 0 9 2 2 0 1\n" ∷
+    codes "widths 3 5\n" ∷
+    codes "z0 chain\n" ∷
+    codes "end\n" ∷ [])
+unfolding numeral
+compact_of_two_columns = refl
+
 bounded_of_two_columns : cert_text
-    (record { width = 12; style = Plain; budget = 0; claim = Bounded 3 2; chains = []; sections = uncut 0 12 3 2 (3 ∷ 2 ∷ []) ends.Chain ∷ [] })
+    (record {
+      width = 12;
+      style = Plain;
+      budget = 0;
+      claim = Bounded 3 2;
+      chains = [];
+      sections =
+          uncut 0 12 3 2 (3 ∷ 2 ∷ []) ends.Chain ∷ [];
+    })
     ≡ concat (
     codes "tablelayout 1 12 plain 0\n" ∷
     codes "bounded 3 2\n" ∷
@@ -97,7 +134,8 @@ lowest_of_a_nested_table : cert_text (record {
   budget = 5000;
   claim = Lowest 2;
   chains = [];
-  sections = uncut 1 12 2 2 (3 ∷ 5 ∷ []) ends.Chain ∷ uncut 1 9 3 3 (3 ∷ 2 ∷ []) ends.Chain ∷ uncut 0 12 2 2 (10 ∷ []) ends.Chain ∷ [];
+  sections = uncut 1 12 2 2 (3 ∷ 5 ∷ []) ends.Chain ∷ uncut 1 9 3 3 (3 ∷ 2 ∷ []) ends.Chain ∷ uncut 0 12 2 2 (10 ∷ [])
+      ends.Chain ∷ [];
 })
     ≡ concat (
     codes "tablelayout 1 12 plain 5000\n" ∷
@@ -128,7 +166,12 @@ lowest_by_three_cuts : cert_text (record {
     height = 4;
     lower = 4;
     widths = 1 ∷ 1 ∷ 4 ∷ 4 ∷ [];
-    trace = record { zone = 0; span = 0; class = 0 } ∷ record { zone = 1; span = 1; class = 0 } ∷ record { zone = 3; span = 2; class = 0 } ∷ [];
+    trace = record { zone = 0; span = 0; class = 0 } ∷ record { zone = 1; span = 1; class = 0 } ∷ record {
+      zone = 3;
+      span =
+          2;
+      class = 0;
+    } ∷ [];
     log = record { nogood = nogoods.Bounds (record { span = 2; side = Most; width = 8 } ∷ []); fires = []; end = ends.Chain }
         ∷ record { nogood = nogoods.Bounds (record { span = 2; side = Least; width = 9 } ∷ []); fires = []; end = ends.Chain }
         ∷ record { nogood = nogoods.Zone 0; fires = 0 ∷ 1 ∷ []; end = ends.Fired } ∷ [];

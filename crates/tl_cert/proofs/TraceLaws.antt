@@ -16,15 +16,18 @@ use Rattle.tl_cert.specs.Traces.{with_parts, zones_after, zones_of, zone_at, IsZ
 
 -- ---- the zones after a further cut
 
-pub zones-push : (zones : List (List Range)) (cuts : List CutAt) (cut : CutAt) → zones_after zones (cuts ++ cut ∷ []) ≡ with_parts (zones_after zones cuts) cut
+pub zones-push : (zones : List (List Range)) (cuts : List CutAt) (cut : CutAt) →
+    zones_after zones (cuts ++ cut ∷ []) ≡ with_parts (zones_after zones cuts) cut
 zones-push zones [] cut = refl
 zones-push zones (first ∷ cuts) cut = zones-push (with_parts zones first) cuts cut
 
-pub zones-length : (zones : List (List Range)) (cuts : List CutAt) → length (zones_after zones cuts) ≡ length zones + 2 * length cuts
+pub zones-length : (zones : List (List Range)) (cuts : List CutAt) →
+    length (zones_after zones cuts) ≡ length zones + 2 * length cuts
 zones-length zones [] = omega arith
 zones-length zones (cut ∷ cuts) =
     let rest = zones-length (with_parts zones cut) cuts in
-    let two = length-append zones (lower_part (get_or zones cut.zone []) cut.span cut.class ∷ upper_part (get_or zones cut.zone []) cut.span cut.class ∷ []) in
+    let two = length-append zones (lower_part (get_or zones cut.zone []) cut.span cut.class ∷ upper_part
+    (get_or zones cut.zone []) cut.span cut.class ∷ []) in
     omega (arith, rest, two)
 
 module _ (whole : List Range) (trace : List CutAt) (cut : CutAt) where
@@ -37,22 +40,29 @@ module _ (whole : List Range) (trace : List CutAt) (cut : CutAt) where
       (zone_at whole trace cut.zone) cut.span cut.class ∷ []) [] z known
 
   -- and its two parts follow
-  pub zone-lower : zone_at whole (trace ++ cut ∷ []) (2 * length trace + 1) ≡ lower_part (zone_at whole trace cut.zone) cut.span cut.class
+  pub zone-lower : zone_at whole (trace ++ cut ∷ []) (2 * length trace + 1) ≡ lower_part (zone_at whole trace cut.zone)
+      cut.span cut.class
   zone-lower =
-      let parts = lower_part (zone_at whole trace cut.zone) cut.span cut.class ∷ upper_part (zone_at whole trace cut.zone) cut.span cut.class ∷ [] in
+      let parts = lower_part (zone_at whole trace cut.zone) cut.span cut.class ∷ upper_part (zone_at whole trace cut.zone)
+      cut.span cut.class ∷ [] in
       let number : 2 * length trace + 1 ≡ length (zones_of whole trace) + 0 = omega (arith, zones-length (whole ∷ []) trace) in
-      ap (λ zones. get_or zones (2 * length trace + 1) []) (zones-push (whole ∷ []) trace cut) ∙ ap (λ i. get_or (zones_of whole trace ++ parts) i []) number ∙
+      ap (λ zones. get_or zones (2 * length trace + 1) []) (zones-push (whole ∷ []) trace cut) ∙ ap
+      (λ i. get_or (zones_of whole trace ++ parts) i []) number ∙
       get_or-append-add (zones_of whole trace) parts 0 []
 
-  pub zone-upper : zone_at whole (trace ++ cut ∷ []) (2 * length trace + 2) ≡ upper_part (zone_at whole trace cut.zone) cut.span cut.class
+  pub zone-upper : zone_at whole (trace ++ cut ∷ []) (2 * length trace + 2) ≡ upper_part (zone_at whole trace cut.zone)
+      cut.span cut.class
   zone-upper =
-      let parts = lower_part (zone_at whole trace cut.zone) cut.span cut.class ∷ upper_part (zone_at whole trace cut.zone) cut.span cut.class ∷ [] in
+      let parts = lower_part (zone_at whole trace cut.zone) cut.span cut.class ∷ upper_part (zone_at whole trace cut.zone)
+      cut.span cut.class ∷ [] in
       let number : 2 * length trace + 2 ≡ length (zones_of whole trace) + 1 = omega (arith, zones-length (whole ∷ []) trace) in
-      ap (λ zones. get_or zones (2 * length trace + 2) []) (zones-push (whole ∷ []) trace cut) ∙ ap (λ i. get_or (zones_of whole trace ++ parts) i []) number ∙
+      ap (λ zones. get_or zones (2 * length trace + 2) []) (zones-push (whole ∷ []) trace cut) ∙ ap
+      (λ i. get_or (zones_of whole trace ++ parts) i []) number ∙
       get_or-append-add (zones_of whole trace) parts 1 []
 
   -- a zone after the cut is one from before or one of the two parts
-  pub zone-cases : (z : ℕ) → IsZoneOf (trace ++ cut ∷ []) z → IsZoneOf trace z ⊎ ((z ≡ 2 * length trace + 1) ⊎ (z ≡ 2 * length trace + 2))
+  pub zone-cases : (z : ℕ) → IsZoneOf (trace ++ cut ∷ []) z →
+      IsZoneOf trace z ⊎ ((z ≡ 2 * length trace + 1) ⊎ (z ≡ 2 * length trace + 2))
   zone-cases z there =
       let more = length-append trace (cut ∷ []) in
       elim (cases_lt z (2 * length trace + 1)) [
@@ -77,12 +87,14 @@ module _ (whole : List Range) (trace : List CutAt) (cut : CutAt) where
       not_cut = λ k d within. subst (λ c. c.zone ≢ z) (get_or_append_left trace (cut ∷ []) d k within)
           (stands.not_cut k d (omega (arith, within, length-append trace (cut ∷ []))));
     },
-    subst (λ c. c.zone ≢ z) (get_or-append-add trace (cut ∷ []) 0 cut) (stands.not_cut (length trace + 0) cut (omega (arith, length-append trace (cut ∷ [])))),
+    subst (λ c. c.zone ≢ z) (get_or-append-add trace (cut ∷ []) 0 cut)
+        (stands.not_cut (length trace + 0) cut (omega (arith, length-append trace (cut ∷ [])))),
   )
 
 -- ---- what holds of no cuts, and of each trace with one cut more, holds of each trace
 
-module _ (whole : List Range) (P : List CutAt → Type 0) (none : P []) (more : (trace : List CutAt) (cut : CutAt) → IsTrace whole trace →
+module _ (whole : List Range) (P : List CutAt → Type 0) (none : P []) (more : (trace : List CutAt) (cut : CutAt) →
+    IsTrace whole trace →
     IsCut whole trace cut → P trace → P (trace ++ cut ∷ [])) where
   trace-prefix : (trace : List CutAt) → IsTrace whole trace → (n : ℕ) → IsTrace whole (take n trace)
   trace-prefix trace is n = λ i d within.
@@ -98,7 +110,8 @@ module _ (whole : List Range) (P : List CutAt → Type 0) (none : P []) (more : 
   upto [] is (suc n) within = absurd (omega arith)
   upto (first ∷ trace) is (suc n) within =
       subst P (sym (take-suc (first ∷ trace) n first (omega arith)))
-      (more (take n (first ∷ trace)) (get_or (first ∷ trace) n first) (trace-prefix (first ∷ trace) is n) (is n first (omega arith))
+      (more (take n (first ∷ trace)) (get_or (first ∷ trace) n first) (trace-prefix (first ∷ trace) is n)
+      (is n first (omega arith))
       (upto (first ∷ trace) is n (omega arith)))
 
   pub trace-by : (trace : List CutAt) → IsTrace whole trace → P trace
@@ -107,7 +120,8 @@ module _ (whole : List Range) (P : List CutAt → Type 0) (none : P []) (more : 
 -- ---- the zones of a trace are zones of the problem, and no cut names one that is not there
 
 pub cuts-there : (whole : List Range) (trace : List CutAt) → IsTrace whole trace → All (λ cut. IsZoneOf trace cut.zone) trace
-cuts-there whole trace is = λ i d within. let stands = (is i d within).stands.there in omega (arith, stands, length-take i trace, within)
+cuts-there whole trace is = λ i d within. let stands = (is i d within).stands.there in
+    omega (arith, stands, length-take i trace, within)
 
 -- so the two parts of a further cut stand
 pub stands-new : (whole : List Range) (trace : List CutAt) (cut : CutAt) → IsTrace whole trace → IsCut whole trace cut → (z : ℕ) →
@@ -118,42 +132,52 @@ stands-new whole trace cut is now z from upto = record {
       omega (arith, old, same, from)) (λ same. omega (arith, now.stands.there, same, from));
 }
 
-pub zones-are : (problem : ProblemModel) → IsSound problem → (trace : List CutAt) → IsTrace (whole_zone problem) trace → (z : ℕ) → IsZoneOf trace z →
+pub zones-are : (problem : ProblemModel) → IsSound problem → (trace : List CutAt) → IsTrace (whole_zone problem) trace →
+    (z : ℕ) → IsZoneOf trace z →
     IsZone problem (zone_at (whole_zone problem) trace z)
 zones-are problem sound trace is = trace-by (whole_zone problem) AllZones none more trace is where
   AllZones : List CutAt → Type 0
   AllZones cuts = (z : ℕ) → IsZoneOf cuts z → IsZone problem (zone_at (whole_zone problem) cuts z)
 
   none : AllZones []
-  none z there = let first : z ≡ 0 = omega arith in subst (λ n. IsZone problem (zone_at (whole_zone problem) [] n)) (sym first) (whole-is_zone problem)
+  none z there = let first : z ≡ 0 = omega arith in subst (λ n. IsZone problem (zone_at (whole_zone problem) [] n)) (sym first)
+      (whole-is_zone problem)
 
-  more : (cuts : List CutAt) (cut : CutAt) → IsTrace (whole_zone problem) cuts → IsCut (whole_zone problem) cuts cut → AllZones cuts →
+  more : (cuts : List CutAt) (cut : CutAt) → IsTrace (whole_zone problem) cuts → IsCut (whole_zone problem) cuts cut →
+      AllZones cuts →
       AllZones (cuts ++ cut ∷ [])
   more cuts cut before now zones z there =
       let parent = zones cut.zone now.stands.there in
-      let span : cut.span < length (zone_at (whole_zone problem) cuts cut.zone) = omega (arith, now.span, parent.spans, (whole-is_zone problem).spans) in
+      let span : cut.span < length (zone_at (whole_zone problem) cuts cut.zone) =
+      omega (arith, now.span, parent.spans, (whole-is_zone problem).spans) in
       elim (zone-cases (whole_zone problem) cuts cut z there) [
         | inl old ↦ subst (IsZone problem) (sym (zone-old (whole_zone problem) cuts cut z old)) (zones z old)
         | inr (inl first) ↦ subst (λ n. IsZone problem (zone_at (whole_zone problem) (cuts ++ cut ∷ []) n)) (sym first)
             (subst (IsZone problem) (sym (zone-lower (whole_zone problem) cuts cut))
-            (lower-is_zone problem sound (zone_at (whole_zone problem) cuts cut.zone) parent cut.span cut.class span now.lower now.upper))
+            (lower-is_zone problem sound (zone_at (whole_zone problem) cuts cut.zone)
+            parent cut.span cut.class span now.lower now.upper))
         | inr (inr second) ↦ subst (λ n. IsZone problem (zone_at (whole_zone problem) (cuts ++ cut ∷ []) n)) (sym second)
             (subst (IsZone problem) (sym (zone-upper (whole_zone problem) cuts cut))
-            (upper-is_zone problem sound (zone_at (whole_zone problem) cuts cut.zone) parent cut.span cut.class span now.lower now.upper))
+            (upper-is_zone problem sound (zone_at (whole_zone problem) cuts cut.zone)
+            parent cut.span cut.class span now.lower now.upper))
       ]
 
 -- a trace with one cut more is a trace
-pub trace-push : (whole : List Range) (cuts : List CutAt) (cut : CutAt) → IsTrace whole cuts → IsCut whole cuts cut → IsTrace whole (cuts ++ cut ∷ [])
+pub trace-push : (whole : List Range) (cuts : List CutAt) (cut : CutAt) → IsTrace whole cuts → IsCut whole cuts cut →
+    IsTrace whole (cuts ++ cut ∷ [])
 trace-push whole cuts cut is now i d within =
     elim (cases_lt i (length cuts)) [
       | inl old ↦
           let prefix = take-append-le i cuts (cut ∷ []) (omega (arith, old)) in
           let at = get_or_append_left cuts (cut ∷ []) d i old in
-          subst (λ cs. IsCut whole cs (get_or (cuts ++ cut ∷ []) i d)) (sym prefix) (subst (IsCut whole (take i cuts)) (sym at) (is i d old))
+          subst (λ cs. IsCut whole cs (get_or (cuts ++ cut ∷ []) i d)) (sym prefix)
+          (subst (IsCut whole (take i cuts)) (sym at) (is i d old))
       | inr last ↦
           let here : i ≡ length cuts = omega (arith, last, within, length-append cuts (cut ∷ [])) in
           let number : i ≡ length cuts + 0 = omega (arith, here) in
-          let at : get_or (cuts ++ cut ∷ []) i d ≡ cut = ap (λ n. get_or (cuts ++ cut ∷ []) n d) number ∙ get_or-append-add cuts (cut ∷ []) 0 d in
-          let prefix : take i (cuts ++ cut ∷ []) ≡ cuts = take-append-le i cuts (cut ∷ []) (omega (arith, here)) ∙ take_all i cuts (omega (arith, here)) in
+          let at : get_or (cuts ++ cut ∷ []) i d ≡ cut = ap (λ n. get_or (cuts ++ cut ∷ []) n d) number ∙ get_or-append-add cuts
+          (cut ∷ []) 0 d in
+          let prefix : take i (cuts ++ cut ∷ []) ≡ cuts = take-append-le i cuts (cut ∷ [])
+          (omega (arith, here)) ∙ take_all i cuts (omega (arith, here)) in
           subst (λ cs. IsCut whole cs (get_or (cuts ++ cut ∷ []) i d)) (sym prefix) (subst (IsCut whole cuts) (sym at) now)
     ]

@@ -16,12 +16,14 @@ use Rattle.tl_cert.proofs.TraceLaws.{zones-are}
 use Rattle.tl_cert.proofs.CountLaws.{parts-vectors}
 
 -- where `low` is `high` at all widths of the page, no zone has a cell for which they differ
-pub agree-everywhere : (problem : ProblemModel) → IsSound problem → (zone : List Range) → IsZone problem zone → LowIsHigh problem → DifferIn problem zone → ⊥
+pub agree-everywhere : (problem : ProblemModel) → IsSound problem → (zone : List Range) → IsZone problem zone →
+    LowIsHigh problem → DifferIn problem zone → ⊥
 agree-everywhere problem sound zone is same differ =
     let page = class-in_page problem sound differ.s (range_at zone differ.s).last (is.ranges differ.s differ.span).1 in
     differ.differ (same differ.cell differ.inside differ.w (omega (arith, page, differ.width.1)))
 
-pub worked-lower : (problem : ProblemModel) → IsSound problem → (trace : List CutAt) (height lower budget : ℕ) → LowIsHigh problem →
+pub worked-lower : (problem : ProblemModel) → IsSound problem → (trace : List CutAt) (height lower budget : ℕ) →
+    LowIsHigh problem →
     count_of problem ≤ budget → budget < 2 ^ 64 - 1 →
     IsWorked problem trace height lower budget → lower ≡ height
 worked-lower problem sound trace height lower budget same enough small worked =

@@ -13,7 +13,8 @@ use Rattle.tl_problem.specs.Problem.{ProblemModel}
 use Rattle.tl_problem.specs.Layouts.{WithinPage}
 use Rattle.tl_problem.specs.Sound.{IsSound}
 use Rattle.tl_problem.specs.Spans.{page_room}
-use Rattle.tl_problem.specs.Zones.{span_at, classes_at, first_in_class, last_in_class, range_at, IsZone, span_width, IsWidthOf, InZone}
+use Rattle.tl_problem.specs.Zones.{span_at, classes_at, first_in_class, last_in_class, range_at, IsZone, span_width, IsWidthOf}
+use Rattle.tl_problem.specs.Zones.{InZone}
 use Rattle.tl_problem.proofs.SpanLaws.{least_width-within, classes-first, room-in_page}
 use Rattle.tl_problem.proofs.ZoneLaws.{span-within}
 use Rattle.tl_cert.specs.declared.log.Bound.{Bound}
@@ -45,7 +46,8 @@ module _ (problem : ProblemModel) (zone : List Range) where
 
   pub range-bound_of : (s : ℕ) → s < length zone → (bound : Bound) → Contains (range_bounds problem s (range_at zone s)) bound →
       Contains (zone_bounds problem zone) bound
-  range-bound_of s within bound has = Contains-flat_map (λ t. range_bounds problem t (range_at zone t)) (range_with_len 0 (length zone)) s bound
+  range-bound_of s within bound has = Contains-flat_map (λ t. range_bounds problem t (range_at zone t))
+      (range_with_len 0 (length zone)) s bound
       (Contains-range 0 (length zone) s (omega arith) (omega arith)) has
 
 module _ (problem : ProblemModel) (sound : IsSound problem) (zone : List Range) (is : IsZone problem zone) (widths : List ℕ) where
@@ -61,11 +63,14 @@ module _ (problem : ProblemModel) (sound : IsSound problem) (zone : List Range) 
         let lower = nat_lt 0 r.first in
         elim (Contains-append_cases (if upper then at_most s (last_in_class problem s r.last) ∷ [] else [])
         (if lower then at_least s (first_in_class problem s r.first) ∷ [] else []) bound found.2) [
-          | inl most ↦ subst (Meets problem widths) (Contains-given upper (at_most s (last_in_class problem s r.last)) bound most) here.1
-          | inr least ↦ subst (Meets problem widths) (Contains-given lower (at_least s (first_in_class problem s r.first)) bound least) here.0
+          | inl most ↦ subst (Meets problem widths) (Contains-given upper (at_most s (last_in_class problem s r.last))
+              bound most) here.1
+          | inr least ↦ subst (Meets problem widths) (Contains-given lower (at_least s (first_in_class problem s r.first))
+              bound least) here.0
         ]
 
-  pub zone-from_meets : WithinPage problem widths → All (Meets problem widths) (zone_bounds problem zone) → InZone problem zone widths
+  pub zone-from_meets : WithinPage problem widths → All (Meets problem widths) (zone_bounds problem zone) →
+      InZone problem zone widths
   zone-from_meets page meets = record { page = page; ranges = in_range } where
     in_range : (s : ℕ) → s < length zone → IsWidthOf problem zone s (span_width problem widths s)
     in_range s within = (from, upto) where
@@ -81,10 +86,12 @@ module _ (problem : ProblemModel) (sound : IsSound problem) (zone : List Range) 
       from : first_in_class problem s r.first ≤ span_width problem widths s
       from =
           elim (cases_lt 0 r.first) [
-            | inl past ↦ All-contains (Meets problem widths) (zone_bounds problem zone) (at_least s (first_in_class problem s r.first)) meets
+            | inl past ↦ All-contains (Meets problem widths) (zone_bounds problem zone)
+                (at_least s (first_in_class problem s r.first)) meets
                 (range-bound_of problem zone s within (at_least s (first_in_class problem s r.first))
                 (Contains-append_right (if upper then at_most s (last_in_class problem s r.last) ∷ [] else [])
-                (if lower then at_least s (first_in_class problem s r.first) ∷ [] else []) (at_least s (first_in_class problem s r.first))
+                (if lower then at_least s (first_in_class problem s r.first) ∷ [] else [])
+                (at_least s (first_in_class problem s r.first))
                 (given-Contains lower (at_least s (first_in_class problem s r.first)) (lt_test 0 r.first past))))
             | inr none ↦
                 let first : r.first ≡ 0 = omega arith in
@@ -95,14 +102,18 @@ module _ (problem : ProblemModel) (sound : IsSound problem) (zone : List Range) 
       upto : span_width problem widths s ≤ last_in_class problem s r.last
       upto =
           elim (cases_lt (r.last + 1) (length (classes_at problem s))) [
-            | inl before ↦ All-contains (Meets problem widths) (zone_bounds problem zone) (at_most s (last_in_class problem s r.last)) meets
+            | inl before ↦ All-contains (Meets problem widths) (zone_bounds problem zone)
+                (at_most s (last_in_class problem s r.last)) meets
                 (range-bound_of problem zone s within (at_most s (last_in_class problem s r.last))
                 (Contains-append_left (if upper then at_most s (last_in_class problem s r.last) ∷ [] else [])
-                (if lower then at_least s (first_in_class problem s r.first) ∷ [] else []) (at_most s (last_in_class problem s r.last))
-                (given-Contains upper (at_most s (last_in_class problem s r.last)) (lt_test (r.last + 1) (length (classes_at problem s)) before))))
+                (if lower then at_least s (first_in_class problem s r.first) ∷ [] else [])
+                (at_most s (last_in_class problem s r.last))
+                (given-Contains upper (at_most s (last_in_class problem s r.last))
+                (lt_test (r.last + 1) (length (classes_at problem s)) before))))
             | inr last ↦
                 let end = get_or_past (classes_at problem s) (r.last + 1) (page_room problem + 1) last in
                 let columns = span-within problem sound s (omega (arith, within, is.spans)) in
-                let room = room-in_page problem widths page (span_at problem s).left (span_at problem s).right columns.0 columns.1 in
+                let room = room-in_page problem widths page (span_at problem s).left
+                (span_at problem s).right columns.0 columns.1 in
                 omega (arith, end, room)
           ]

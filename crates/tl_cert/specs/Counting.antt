@@ -29,8 +29,10 @@ pub record PartsVectors (problem : ProblemModel) (trace : List CutAt) : Type 0 w
   pub standing : List ℕ
   pub are : AreStanding trace standing
   pub count : length standing ≡ length trace + 1
-  pub has_one : (z : ℕ) → Stands trace z → (vector : List ℕ) × IsVector problem vector × HasVector (zone_of problem trace z) vector
-  pub in_some : (vector : List ℕ) → IsVector problem vector → (z : ℕ) × Stands trace z × HasVector (zone_of problem trace z) vector
+  pub has_one : (z : ℕ) → Stands trace z → (vector : List ℕ) × IsVector problem vector ×
+      HasVector (zone_of problem trace z) vector
+  pub in_some : (vector : List ℕ) → IsVector problem vector →
+      (z : ℕ) × Stands trace z × HasVector (zone_of problem trace z) vector
   pub in_no_other : (vector : List ℕ) (a b : ℕ) → Stands trace a → Stands trace b →
       HasVector (zone_of problem trace a) vector → HasVector (zone_of problem trace b) vector → a ≡ b
   pub fewer : length trace < 2 ^ 64 - 1 → length trace < count_of problem

@@ -42,11 +42,11 @@ pub record IsSyntaxFault (bytes : List ℕ) (place : ℕ) : Type 0 where
   pub no_range : (other : ℕ) → ¬ IsRangeFault bytes other
 
 -- Why the bytes are no certificate: there are too many, or of the other two faults this is the first by place.
-abbrev pub Refused : List ℕ → CertError → Type 0
-Refused bytes (Memory error) = ⊥
-Refused bytes (Syntax place) = (length bytes ≤ MAX_CERTIFICATE_BYTES) × IsSyntaxFault bytes place
-Refused bytes (Range place) = (length bytes ≤ MAX_CERTIFICATE_BYTES) × IsRangeFault bytes place
-Refused bytes TooLong = MAX_CERTIFICATE_BYTES < length bytes
+abbrev pub IsNoText : List ℕ → CertError → Type 0
+IsNoText bytes (Memory error) = ⊥
+IsNoText bytes (Syntax place) = (length bytes ≤ MAX_CERTIFICATE_BYTES) × IsSyntaxFault bytes place
+IsNoText bytes (Range place) = (length bytes ≤ MAX_CERTIFICATE_BYTES) × IsRangeFault bytes place
+IsNoText bytes TooLong = MAX_CERTIFICATE_BYTES < length bytes
 
 -- the bytes are the text of this certificate
 pub record IsTextOf (bytes : List ℕ) (c : Certificate) : Type 0 where

@@ -40,12 +40,14 @@ abbrev pub fired : ProblemModel → List CutAt → List LogLine → LogLine → 
 fired problem trace log line = map (λ f. nogood_bounds problem trace (nogood_at log f)) line.fires
 
 -- line `k`, which is `line`, is good for `lower`
-pub record IsGoodLine (problem : ProblemModel) (trace : List CutAt) (log : List LogLine) (lower k : ℕ) (line : LogLine) : Type 0 where
+pub record IsGoodLine (problem : ProblemModel) (trace : List CutAt) (log : List LogLine) (lower k : ℕ)
+    (line : LogLine) : Type 0 where
   pub names : NamesAreThere problem trace line.nogood
   pub earlier : All (λ f. (f < k) × NamesAreThere problem trace (nogood_at log f)) line.fires
   pub joined : List Bound
   pub fires : Fires problem (nogood_bounds problem trace line.nogood) [] (fired problem trace log line) joined
-  pub ends : EndsBy problem (IsLeft problem (nogood_bounds problem trace line.nogood) joined) (fired problem trace log line) lower line.end
+  pub ends : EndsBy problem (IsLeft problem (nogood_bounds problem trace line.nogood) joined) (fired problem trace log line)
+      lower line.end
 
 -- a good log: it has a line, each line is good, and the nogood of the last has no bounds
 pub record IsGoodLog (problem : ProblemModel) (trace : List CutAt) (log : List LogLine) (lower : ℕ) : Type 0 where

@@ -4,9 +4,9 @@ use Rattle.std.specs.Prelude.{ℕ, ◌+◌, ◌*◌, ◌≤◌, ◌≡◌, Bool,
 use Rattle.std.specs.Prelude.{◌||◌, IsTrue, List, [], ◌∷◌, ◌++◌, length, codes, Option, Some, None}
 use Rattle.std.specs.List.{flat_map, list_any, AllByRecursion}
 use Rattle.tl_base.specs.declared.style.Style.{Style}
-use Rattle.tl_base.specs.declared.style.Style.TheVariants.{Plain, Frame}
-use Rattle.tl_problem.specs.declared.chain.Entry.{Entry}
-use Rattle.tl_problem.specs.declared.chain.Chain.{Chain}
+use Rattle.tl_base.specs.declared.style.Style.TheVariants.{Plain, Compact, Frame}
+use Rattle.tl_base.specs.declared.chain.Entry.{Entry}
+use Rattle.tl_base.specs.declared.chain.Chain.{Chain}
 use Rattle.tl_cert.specs.declared.trace.CutAt.{CutAt}
 use Rattle.tl_cert.specs.declared.log.Side.{Side}
 use Rattle.tl_cert.specs.declared.log.Side.TheVariants.{Most, Least}
@@ -21,7 +21,8 @@ use Rattle.tl_cert.specs.declared.certificate.Claim.{Claim}
 use Rattle.tl_cert.specs.declared.certificate.Claim.TheVariants.{Lowest, Bounded, Narrow}
 use Rattle.tl_cert.specs.declared.certificate.Certificate.{Certificate}
 use Rattle.tl_base.specs.declared.limits.TheConstants.{MAX_PAGE_WIDTH, MAX_HEIGHT, MAX_BUDGET, MAX_COLUMNS, MAX_CELLS}
-use Rattle.tl_cert.specs.declared.limits.TheConstants.{MAX_TABLE, MAX_SECTIONS, MAX_ZONE, MAX_LINE, MAX_SPAN, MAX_CLASS, MAX_BOUNDS, MAX_FIRES}
+use Rattle.tl_cert.specs.declared.limits.TheConstants.{MAX_TABLE, MAX_SECTIONS, MAX_ZONE, MAX_LINE, MAX_SPAN, MAX_CLASS}
+use Rattle.tl_cert.specs.declared.limits.TheConstants.{MAX_BOUNDS, MAX_FIRES}
 use Rattle.tl_cert.specs.Pieces.{Piece, character, number, field, word, spell, AllWithin}
 
 -- the character between two numbers or words of a line
@@ -58,7 +59,8 @@ chain_pieces chain =
 
 -- `cut Z S K`: the zone, the span, and the last class of the lower part
 abbrev pub cut_pieces : CutAt → List Piece
-cut_pieces cut = word (codes "cut ") ++ (field 0 MAX_ZONE cut.zone space ++ (field 0 MAX_SPAN cut.span space ++ field 0 MAX_CLASS cut.class line_feed))
+cut_pieces cut = word (codes "cut ") ++ (field 0 MAX_ZONE cut.zone space ++
+    (field 0 MAX_SPAN cut.span space ++ field 0 MAX_CLASS cut.class line_feed))
 
 -- `-` for "at most", `+` for "at least"
 abbrev pub side_sign : Side → ℕ
@@ -141,12 +143,14 @@ version_word false = codes "1 "
 -- the style by its name
 abbrev pub style_word : Style → List ℕ
 style_word Plain = codes "plain "
+style_word Compact = codes "compact "
 style_word Frame = codes "frame "
 
 -- `lowest H`, `bounded H L` or `narrow L`
 abbrev pub claim_pieces : Claim → List Piece
 claim_pieces (Lowest height) = word (codes "lowest ") ++ field 0 MAX_HEIGHT height line_feed
-claim_pieces (Bounded height lower) = word (codes "bounded ") ++ (field 0 MAX_HEIGHT height space ++ field 0 MAX_HEIGHT lower line_feed)
+claim_pieces (Bounded height lower) = word (codes "bounded ") ++
+    (field 0 MAX_HEIGHT height space ++ field 0 MAX_HEIGHT lower line_feed)
 claim_pieces (Narrow least) = word (codes "narrow ") ++ field 0 MAX_HEIGHT least line_feed
 
 -- `tablelayout V WIDTH STYLE BUDGET`, the claim, the chains or the sections, and `end`
@@ -253,4 +257,5 @@ IsWritable c = IsShaped c × AllWithin (cert_pieces c)
 
 -- No two certificates have one text, and no text is a proper prefix of another, the ranges left aside.
 abbrev pub TextsAreApart : Type 0
-TextsAreApart = (c d : Certificate) (t u : List ℕ) → IsShaped c → IsShaped d → cert_text c ++ t ≡ cert_text d ++ u → (c ≡ d) × (t ≡ u)
+TextsAreApart = (c d : Certificate) (t u : List ℕ) → IsShaped c → IsShaped d → cert_text c ++ t ≡ cert_text d ++ u →
+    (c ≡ d) × (t ≡ u)

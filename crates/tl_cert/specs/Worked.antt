@@ -16,7 +16,8 @@ use Rattle.tl_cert.specs.Traces.{Stands, IsTraceOf, zone_of}
 abbrev pub IsClosed : ProblemModel → List Range → ℕ → Type 0
 IsClosed problem zone height =
     HasNoWidths (InZone problem zone)
-    ⊎ (((bound : ℕ) × IsBound problem (InZone problem zone) bound × (height ≤ bound)) ⊎ (HasOneClass zone × DifferIn problem zone))
+    ⊎ (((bound : ℕ) × IsBound problem (InZone problem zone) bound × (height ≤ bound)) ⊎
+    (HasOneClass zone × DifferIn problem zone))
 
 -- the bound of the zone with this number
 abbrev pub IsBoundOf : ProblemModel → List CutAt → ℕ → ℕ → Type 0

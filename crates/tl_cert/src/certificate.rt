@@ -1,8 +1,7 @@
 //! A whole certificate.
 
 use crate::Section;
-use tl_base::{List, Style};
-use tl_problem::Chain;
+use tl_base::{Chain, List, Style};
 
 /// What a certificate proves.
 #[derive(Clone, Copy, Debug, PartialEq, Eq)]

@@ -5,7 +5,7 @@ ghost use Rattle.tl_base.specs.Returned.{ReturnsOk, ReturnsError, IsMemoryOr};
 ghost use Rattle.tl_cert.specs.declared.certificate.Certificate.{Certificate};
 ghost use Rattle.tl_cert.specs.declared.error.CertError.{CertError};
 ghost use Rattle.tl_cert.specs.declared.error.CertError.TheVariants.{Memory};
-ghost use Rattle.tl_cert.specs.Faults.{IsTextOf, Refused};
+ghost use Rattle.tl_cert.specs.Faults.{IsTextOf, IsNoText};
 ghost use Rattle.tl_cert.specs.inner.Gives.{Gives, ReturnsAs};
 ghost use Rattle.tl_cert.specs.inner.CertReading as read;
 
@@ -39,6 +39,18 @@ impl<'a> Reader<'a> {
         if self.next_is(b'f') {
             self.word(b"frame ")?;
             return Ok(Style::Frame);
+        }
+        self.style_without_lines()
+    }
+
+    #[tactic(auto, unfolding(crate::specs::inner::CertReading::no_lines_at, // and how readings follow one another
+    crate::specs::inner::reading::Readings::followed, crate::specs::inner::reading::Readings::either, crate::specs::inner::reading::Readings::give))]
+    fn style_without_lines(&mut self) -> Result<Style, Fault>
+        ensures { Gives (λ x. x) result self.new.rest.now (read.no_lines_at self.old.rest.now) }
+    {
+        if self.next_is(b'c') {
+            self.word(b"compact ")?;
+            return Ok(Style::Compact);
         }
         self.word(b"plain ")?;
         Ok(Style::Plain)
@@ -160,8 +172,8 @@ fn read_short(alloc: Global, bytes: &[u8]) -> Result<Certificate, CertError>
 pub fn read(alloc: Global, bytes: &[u8]) -> Result<Certificate, CertError>
     ensures ok { IfOk result (IsTextOf bytes.now) }
     ensures each_ok { (c : Certificate) → IsTextOf bytes.now c → ReturnsOk (Memory alloc_error) c result }
-    ensures err { IfErr result (IsMemoryOr (Memory alloc_error) (Refused bytes.now)) }
-    ensures each_err { (e : CertError) → Refused bytes.now e → ReturnsError (Memory alloc_error) e result }
+    ensures err { IfErr result (IsMemoryOr (Memory alloc_error) (IsNoText bytes.now)) }
+    ensures each_err { (e : CertError) → IsNoText bytes.now e → ReturnsError (Memory alloc_error) e result }
 {
     if bytes.len() > MAX_CERTIFICATE_BYTES {
         return Err(CertError::TooLong);

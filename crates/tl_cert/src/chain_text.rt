@@ -9,8 +9,7 @@ use crate::follow::Follow;
 use crate::limits::MAX_TABLE;
 use crate::reader::{Fault, Reader};
 use std::alloc::Global;
-use tl_base::{List, MAX_CELLS};
-use tl_problem::{Chain, Entry};
+use tl_base::{Chain, Entry, List, MAX_CELLS};
 
 impl<'a> Reader<'a> {
     /// An entry, and whether another follows.

@@ -12,8 +12,7 @@ use crate::section::Section;
 use crate::section_text::has_area as log_has_area;
 use crate::trace::CutAt;
 use std::alloc::{AllocError, Global};
-use tl_base::{List, MAX_PAGE_WIDTH, Style};
-use tl_problem::{Chain, Entry};
+use tl_base::{Chain, Entry, List, MAX_PAGE_WIDTH, Style};
 
 /// Appends the canonical decimal of a number, digit by digit.
 #[tactic(auto, using(crate::proofs::Appending::digits))]
@@ -259,6 +258,7 @@ fn put_style(out: &mut List<u8>, style: Style) -> Result<(), AllocError>
 {
     match style {
         Style::Plain => out.extend_from_slice(b"plain "),
+        Style::Compact => out.extend_from_slice(b"compact "),
         Style::Frame => out.extend_from_slice(b"frame "),
     }
 }

@@ -16,9 +16,15 @@ use Rattle.tl_check.specs.declared.checker.Checker.{Checker}
 use Rattle.tl_check.specs.Checkers.{StaysReserved}
 use Rattle.tl_check.specs.inner.Traces.{AreFlags}
 
-pub flags-push : (cuts : List CutAt) (cut : CutAt) (flags : List Bool) → 2 * (length cuts + 1) + 1 ≤ length flags → cut.zone < length flags →
+pub flags-push : (cuts : List CutAt) (cut : CutAt) (flags : List Bool) → 2 * (length cuts + 1) + 1 ≤ length flags →
+    cut.zone < length flags →
     AreFlags cuts flags → AreFlags (cuts ++ cut ∷ []) (set flags cut.zone true)
-flags-push cuts cut flags room there h = record { room = omega (arith, room, count, length-append cuts (cut ∷ [])); cut = is_cut; not_cut = is_not } where
+flags-push cuts cut flags room there h = record {
+  room = omega (arith, room, count, length-append cuts (cut ∷ []));
+  cut =
+      is_cut;
+  not_cut = is_not;
+} where
   count : length (set flags cut.zone true) ≡ length flags
   count = length-set flags cut.zone true
 
@@ -31,7 +37,8 @@ flags-push cuts cut flags room there h = record { room = omega (arith, room, cou
             (All-prefix (λ c. c.zone ≢ z) cuts cut all)
       ]
 
-  is_not : (z : ℕ) (d : Bool) → z < length (set flags cut.zone true) → get_or (set flags cut.zone true) z d ≡ false → All (λ c. c.zone ≢ z) (cuts ++ cut ∷ [])
+  is_not : (z : ℕ) (d : Bool) → z < length (set flags cut.zone true) → get_or (set flags cut.zone true) z d ≡ false →
+      All (λ c. c.zone ≢ z) (cuts ++ cut ∷ [])
   is_not z d within is =
       elim (cases_eq z cut.zone) [
         | inl same ↦
@@ -61,6 +68,7 @@ stays-by problem old new page matrix opening flags = λ cuts is.
       page = page is.page;
       none_held = ap (λ (m : MarkedBounds). m.held) matrix ∙ is.none_held;
       marks = subst (λ (m : MarkedBounds). 1 ≤ m.marks) (sym matrix) is.marks;
-      opening = subst (λ height. (placed : Placed) × IsOpening problem placed × (placed.height ≡ height)) (sym opening) is.opening;
+      opening = subst (λ height. (placed : Placed) × IsOpening problem placed × (placed.height ≡ height)) (sym opening)
+          is.opening;
       flags = omega (arith, flags, is.flags);
     }

@@ -11,7 +11,7 @@ use Rattle.tl_problem.specs.Spans.{spans_of}
 use Rattle.tl_problem.specs.Zones.{span_at, span_width}
 use Rattle.tl_problem.specs.Works as works
 use Rattle.tl_problem.specs.Works.{places}
-use Rattle.tl_problem.proofs.SizeLaws.{room-position}
+use Rattle.tl_base.proofs.SizeLaws.{room-position}
 use Rattle.tl_problem.proofs.ZoneLaws.{span-within}
 use Rattle.tl_problem.proofs.ConstraintLemmas.{KeepsPage-adds}
 use Rattle.tl_cert.specs.declared.log.Bound.{Bound}
@@ -45,13 +45,18 @@ Restricts-none problem matrix F keeps none = record {
   all = λ widths left fact. left;
 }
 
-module _ (problem : ProblemModel) (old new : MarkedBounds) (keeps : IsMatrixOf problem old.bounds) (rest : new ≡ record old { bounds = new.bounds })
+module _ (problem : ProblemModel) (old new : MarkedBounds) (keeps : IsMatrixOf problem old.bounds)
+    (rest : new ≡ record old { bounds = new.bounds })
     (s : ℕ) (inside : s < length (spans_of problem)) where
   -- an upper bound on the distance of a span's edges
   pub Restricts-most : (m : ℤ) → AddsBound old.bounds new.bounds (span_at problem s).left (span_at problem s).right m →
       Restricts problem old new (λ widths. pos (span_width problem widths s + gap_of problem.style) ≤ℤ m)
   Restricts-most m adds = record {
-    keeps = record { sound = keeps.sound; page = KeepsPage-adds problem old.bounds new.bounds adds.variables adds.keeps keeps.page };
+    keeps = record {
+      sound = keeps.sound;
+      page = KeepsPage-adds problem old.bounds new.bounds adds.variables adds.keeps
+          keeps.page;
+    };
     marks = ap (λ matrix. matrix.marks) rest;
     held = ap (λ matrix. matrix.held) rest;
     before = λ widths left. record { columns = left.columns; satisfies = adds.keeps (places problem widths) left.satisfies };
@@ -63,14 +68,23 @@ module _ (problem : ProblemModel) (old new : MarkedBounds) (keeps : IsMatrixOf p
     all = λ widths left small.
         let step = room-position (gap_of problem.style) widths (span_at problem s).left (span_at problem s).right
         (span-within problem keeps.sound s inside).0 in
-        record { columns = left.columns; satisfies = adds.all (places problem widths) left.satisfies (omega (arith, ints, step, small)) };
+        record {
+          columns = left.columns;
+          satisfies = adds.all (places problem widths) left.satisfies
+              (omega (arith, ints, step, small));
+        };
   }
 
   -- a lower bound
-  pub Restricts-least : (m n : ℤ) → n ≡ neg_ℤ m → AddsBound old.bounds new.bounds (span_at problem s).right (span_at problem s).left n →
+  pub Restricts-least : (m n : ℤ) → n ≡ neg_ℤ m → AddsBound old.bounds new.bounds (span_at problem s).right
+      (span_at problem s).left n →
       Restricts problem old new (λ widths. m ≤ℤ pos (span_width problem widths s + gap_of problem.style))
   Restricts-least m n is adds = record {
-    keeps = record { sound = keeps.sound; page = KeepsPage-adds problem old.bounds new.bounds adds.variables adds.keeps keeps.page };
+    keeps = record {
+      sound = keeps.sound;
+      page = KeepsPage-adds problem old.bounds new.bounds adds.variables adds.keeps
+          keeps.page;
+    };
     marks = ap (λ matrix. matrix.marks) rest;
     held = ap (λ matrix. matrix.held) rest;
     before = λ widths left. record { columns = left.columns; satisfies = adds.keeps (places problem widths) left.satisfies };
@@ -82,7 +96,11 @@ module _ (problem : ProblemModel) (old new : MarkedBounds) (keeps : IsMatrixOf p
     all = λ widths left small.
         let step = room-position (gap_of problem.style) widths (span_at problem s).left (span_at problem s).right
         (span-within problem keeps.sound s inside).0 in
-        record { columns = left.columns; satisfies = adds.all (places problem widths) left.satisfies (omega (arith, ints, step, small, is)) };
+        record {
+          columns = left.columns;
+          satisfies = adds.all (places problem widths) left.satisfies
+              (omega (arith, ints, step, small, is));
+        };
   }
 
 -- ---- what the constraints describe
@@ -93,27 +111,50 @@ pub Describes-page : (problem : ProblemModel) (bounds : Bounds) → IsMatrixOf p
     ((widths : List ℕ) → IsLeft problem [] [] widths → works.IsLeft problem bounds widths) → Describes problem [] [] bounds
 Describes-page problem bounds keeps to from = record { keeps = keeps; to = to; from = from }
 
-module _ (problem : ProblemModel) (given joined : List Bound) (old new : MarkedBounds) (bound : Bound) (h : Describes problem given joined old.bounds) where
+module _ (problem : ProblemModel) (given joined : List Bound) (old new : MarkedBounds) (bound : Bound)
+    (h : Describes problem given joined old.bounds) where
   -- a bound that is met is one more given
-  pub Describes-met : Restricts problem old new (λ widths. Meets problem widths bound) → Describes problem (given ++ bound ∷ []) joined new.bounds
+  pub Describes-met : Restricts problem old new (λ widths. Meets problem widths bound) →
+      Describes problem (given ++ bound ∷ []) joined new.bounds
   Describes-met r = record {
     keeps = r.keeps;
     to = λ widths left.
         let before = h.to widths (r.before widths left) in
-        record { page = before.page; meets = All-push (Meets problem widths) given bound before.meets (r.fact widths left); breaks = before.breaks };
+        record {
+          page = before.page;
+          meets = All-push (Meets problem widths) given bound before.meets
+              (r.fact widths left);
+          breaks = before.breaks;
+        };
     from = λ widths left. r.all widths
-        (h.from widths (record { page = left.page; meets = All-prefix (Meets problem widths) given bound left.meets; breaks = left.breaks }))
+        (h.from widths (record {
+          page = left.page;
+          meets = All-prefix (Meets problem widths) given bound left.meets;
+          breaks =
+              left.breaks;
+        }))
         (All-last (Meets problem widths) given bound left.meets);
   }
 
   -- a bound that is broken joins
-  pub Describes-broken : Restricts problem old new (λ widths. Breaks problem widths bound) → Describes problem given (joined ++ bound ∷ []) new.bounds
+  pub Describes-broken : Restricts problem old new (λ widths. Breaks problem widths bound) →
+      Describes problem given (joined ++ bound ∷ []) new.bounds
   Describes-broken r = record {
     keeps = r.keeps;
     to = λ widths left.
         let before = h.to widths (r.before widths left) in
-        record { page = before.page; meets = before.meets; breaks = All-push (Breaks problem widths) joined bound before.breaks (r.fact widths left) };
+        record {
+          page = before.page;
+          meets = before.meets;
+          breaks =
+              All-push (Breaks problem widths) joined bound before.breaks (r.fact widths left);
+        };
     from = λ widths left. r.all widths
-        (h.from widths (record { page = left.page; meets = left.meets; breaks = All-prefix (Breaks problem widths) joined bound left.breaks }))
+        (h.from widths (record {
+          page = left.page;
+          meets = left.meets;
+          breaks =
+              All-prefix (Breaks problem widths) joined bound left.breaks;
+        }))
         (All-last (Breaks problem widths) joined bound left.breaks);
   }

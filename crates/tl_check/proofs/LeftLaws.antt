@@ -1,7 +1,8 @@
 -- What is left of a nogood with one bound more, and what firing it does.
 use Rattle.std.proofs.Common.{◌≡◌, ◌≢◌, ◌⊎◌, ℕ, List, [], ◌∷◌, ◌++◌, inl, inr, refl, sym, ◌∙◌, subst}
 use Rattle.std.specs.List.{All, Contains}
-use Rattle.std.proofs.lemmas.List.Elements.{All-push, Contains-append_left, Contains-append_right, Contains-append_cases, All-contains}
+use Rattle.std.proofs.lemmas.List.Elements.{All-push, Contains-append_left, Contains-append_right, Contains-append_cases}
+use Rattle.std.proofs.lemmas.List.Elements.{All-contains}
 use Rattle.tl_base.proofs.Members.{All-from_Contains, Contains-first, Contains-cases, Contains-none}
 use Rattle.tl_diff.specs.Marks.{MarkedBounds}
 use Rattle.tl_problem.specs.Problem.{ProblemModel}
@@ -53,7 +54,8 @@ module _ (problem : ProblemModel) (Among : List ℕ → Type 0) (nogood : List B
   }
 
   -- a bound that is implied leaves no more
-  pub left-implied : (left : Left) → Implied problem Among bound → HasLeft problem Among nogood left → HasLeft problem Among longer left
+  pub left-implied : (left : Left) → Implied problem Among bound → HasLeft problem Among nogood left →
+      HasLeft problem Among longer left
   left-implied Nothing implied h = All-push (Implied problem Among) nogood bound h implied
   left-implied (One b) implied h = one-implied b h implied
   left-implied More implied h = two-longer h
@@ -71,10 +73,12 @@ module _ (problem : ProblemModel) (Among : List ℕ → Type 0) (nogood : List B
   left-again b is h = record {
     among = has-old b h.among;
     not_implied = h.not_implied;
-    others = λ other has apart. new-cases (Implied problem Among) other has (λ before. h.others other before apart) (λ same. absurd (apart (sym (is ∙ same))));
+    others = λ other has apart. new-cases (Implied problem Among) other has (λ before. h.others other before apart)
+        (λ same. absurd (apart (sym (is ∙ same))));
   }
 
-  pub left-second : (b : Bound) → b ≢ bound → (Implied problem Among bound → ⊥) → OneLeft problem Among nogood b → TwoLeft problem Among longer
+  pub left-second : (b : Bound) → b ≢ bound → (Implied problem Among bound → ⊥) → OneLeft problem Among nogood b →
+      TwoLeft problem Among longer
   left-second b apart not h = record {
     one = b;
     other = bound;
@@ -92,7 +96,8 @@ module _ (problem : ProblemModel) (Among : List ℕ → Type 0) (nogood : List B
 
 module _ (problem : ProblemModel) (Among : List ℕ → Type 0) (nogood : List Bound) where
   -- two that are left of some bounds are left of all
-  two-wider : (seen : List Bound) → ((b : Bound) → Contains seen b → Contains nogood b) → TwoLeft problem Among seen → TwoLeft problem Among nogood
+  two-wider : (seen : List Bound) → ((b : Bound) → Contains seen b → Contains nogood b) → TwoLeft problem Among seen →
+      TwoLeft problem Among nogood
   two-wider seen among h = record {
     one = h.one;
     other = h.other;
@@ -103,12 +108,14 @@ module _ (problem : ProblemModel) (Among : List ℕ → Type 0) (nogood : List B
     not_implied_too = h.not_implied_too;
   }
 
-  pub but-found : (rest : List Bound) (left : Left) → left ≡ More → HasLeftBut problem Among nogood rest left → HasLeft problem Among nogood left
+  pub but-found : (rest : List Bound) (left : Left) → left ≡ More → HasLeftBut problem Among nogood rest left →
+      HasLeft problem Among nogood left
   but-found rest left is h = subst (HasLeft problem Among nogood) (sym is)
       (two-wider h.seen h.among (subst (HasLeft problem Among h.seen) is h.has_left))
 
   -- where there is no rest, what is left was found
-  pub but-none : (rest : List Bound) (left : Left) → ((b : Bound) → Contains rest b → ⊥) → HasLeftBut problem Among nogood rest left →
+  pub but-none : (rest : List Bound) (left : Left) → ((b : Bound) → Contains rest b → ⊥) →
+      HasLeftBut problem Among nogood rest left →
       HasLeft problem Among nogood left
   but-none rest left none h = by_left left h.has_left where
     looked_at : (b : Bound) → Contains nogood b → (Contains h.seen b → Implied problem Among b) → Implied problem Among b
@@ -130,7 +137,8 @@ module _ (problem : ProblemModel) (Among : List ℕ → Type 0) (nogood : List B
 
   -- the rest is fewer by one bound, which is implied, or is looked at with others of the nogood
   module _ (rest fewer : List Bound) (bound : Bound) (next : (b : Bound) → Contains rest b → (b ≡ bound) ⊎ Contains fewer b) where
-    pub but-implied : (left : Left) → Implied problem Among bound → HasLeftBut problem Among nogood rest left → HasLeftBut problem Among nogood fewer left
+    pub but-implied : (left : Left) → Implied problem Among bound → HasLeftBut problem Among nogood rest left →
+        HasLeftBut problem Among nogood fewer left
     but-implied left implied h = record {
       seen = h.seen;
       has_left = h.has_left;
@@ -193,21 +201,25 @@ module _ (problem : ProblemModel) (given : List Bound) (nogood : List Bound) (ol
       LeadsTo problem given nogoods old.bounds → LeadsTo problem given (nogoods ++ nogood ∷ []) old.bounds
   fires-nothing nogoods all h = record {
     joined = h.joined;
-    fires = fires-append problem given [] nogoods (nogood ∷ []) h.joined h.joined h.fires (inl (all-to h.joined h.describes all, refl));
+    fires = fires-append problem given [] nogoods (nogood ∷ []) h.joined h.joined h.fires
+        (inl (all-to h.joined h.describes all, refl));
     describes = h.describes;
   }
 
-  pub fires-one : (nogoods : List (List Bound)) (b : Bound) (new : MarkedBounds) → OneLeft problem (works.IsLeft problem old.bounds) nogood b →
+  pub fires-one : (nogoods : List (List Bound)) (b : Bound) (new : MarkedBounds) →
+      OneLeft problem (works.IsLeft problem old.bounds) nogood b →
       Restricts problem old new (λ widths. Breaks problem widths b) →
       LeadsTo problem given nogoods old.bounds → LeadsTo problem given (nogoods ++ nogood ∷ []) new.bounds
   fires-one nogoods b new one r h = record {
     joined = h.joined ++ b ∷ [];
-    fires = fires-append problem given [] nogoods (nogood ∷ []) h.joined (h.joined ++ b ∷ []) h.fires (inr (b, one-to h.joined h.describes b one, refl));
+    fires = fires-append problem given [] nogoods (nogood ∷ []) h.joined (h.joined ++ b ∷ []) h.fires
+        (inr (b, one-to h.joined h.describes b one, refl));
     describes = Describes-broken problem given h.joined old new b h.describes r;
   }
 
   pub fires-never : (nogoods more : List (List Bound)) → TwoLeft problem (works.IsLeft problem old.bounds) nogood →
       LeadsTo problem given nogoods old.bounds → NeverFires problem given (nogoods ++ nogood ∷ more)
-  fires-never nogoods more two h last fires = fires-stuck problem given [] nogoods more nogood h.joined last two.one two.other h.fires
+  fires-never nogoods more two h last fires = fires-stuck problem given [] nogoods more nogood h.joined last two.one two.other
+      h.fires
       two.among two.among_too two.differ (λ implied. two.not_implied (implied-from h.joined h.describes two.one implied))
       (λ implied. two.not_implied_too (implied-from h.joined h.describes two.other implied)) fires

@@ -24,11 +24,13 @@ use Rattle.tl_check.specs.inner.Firing.{HasLeft, HasLeftBut}
 use Rattle.tl_check.specs.inner.Zones.{IsPartBound}
 use Rattle.tl_check.proofs.LeftLaws.{but-implied, but-looked_at}
 use Rattle.tl_check.proofs.Spans.{on-span}
-use Rattle.tl_check.proofs.ZoneWalks.{cut_to, cut-known, cut-there, parent-there, halves-odd, halves-even, low-here, high-here, low-other, high-other}
+use Rattle.tl_check.proofs.ZoneWalks.{cut_to, cut-known, cut-there, parent-there, halves-odd, halves-even, low-here, high-here}
+use Rattle.tl_check.proofs.ZoneWalks.{low-other, high-other}
 
 -- a bound of a range is that of its last class, or that of its first
 range-cases : (problem : ProblemModel) (s : ℕ) (r : Range) (bound : Bound) → Contains (range_bounds problem s r) bound →
-    Contains (if nat_lt (r.last + 1) (length (classes_at problem s)) then at_most s (last_in_class problem s r.last) ∷ [] else []) bound
+    Contains (if nat_lt (r.last + 1) (length (classes_at problem s)) then at_most s
+    (last_in_class problem s r.last) ∷ [] else []) bound
     ⊎ Contains (if nat_lt 0 r.first then at_least s (first_in_class problem s r.first) ∷ [] else []) bound
 range-cases problem s r bound has = Contains-append_cases
     (if nat_lt (r.last + 1) (length (classes_at problem s)) then at_most s (last_in_class problem s r.last) ∷ [] else [])
@@ -53,7 +55,8 @@ whole-no_bounds problem bound has =
       none true x is has = absurd cc
       none false x is has = Contains-none bound has
 
-module _ (problem : ProblemModel) (sound : IsSound problem) (trace : List CutAt) (is_trace : IsTraceOf problem trace) (zone : ℕ) (some : 0 < zone)
+module _ (problem : ProblemModel) (sound : IsSound problem) (trace : List CutAt) (is_trace : IsTraceOf problem trace) (zone : ℕ)
+    (some : 0 < zone)
     (there : IsZoneOf trace zone) (d : CutAt) where
   abbrev cut : CutAt
   cut = cut_to trace zone d
@@ -88,10 +91,12 @@ module _ (problem : ProblemModel) (sound : IsSound problem) (trace : List CutAt)
   )
 
   odd-is : zone % 2 ≡ 1 → part ≡ lower_part parent cut.span cut.class
-  odd-is odd = ap (zone_of problem trace) (sym (halves-odd zone some odd)) ∙ (cut-known problem trace is_trace zone some there d).low_is
+  odd-is odd = ap (zone_of problem trace) (sym (halves-odd zone some odd)) ∙
+      (cut-known problem trace is_trace zone some there d).low_is
 
   even-is : zone % 2 ≢ 1 → part ≡ upper_part parent cut.span cut.class
-  even-is even = ap (zone_of problem trace) (sym (halves-even zone some even)) ∙ (cut-known problem trace is_trace zone some there d).high_is
+  even-is even = ap (zone_of problem trace) (sym (halves-even zone some even)) ∙
+      (cut-known problem trace is_trace zone some there d).high_is
 
   -- widths in the part are in the zone that was cut
   pub part-inside : (widths : List ℕ) → InZone problem part widths → InZone problem parent widths
@@ -108,11 +113,13 @@ module _ (problem : ProblemModel) (sound : IsSound problem) (trace : List CutAt)
   -- the range of the cut's span in the part
   odd-range : zone % 2 ≡ 1 → range_at part cut.span ≡ range (range_at parent cut.span).first cut.class
   odd-range odd = ap (λ z. range_at (zone_of problem trace z) cut.span) (sym (halves-odd zone some odd))
-      ∙ low-here problem sound trace is_trace cut.span cut-span i cut within (cut-known problem trace is_trace zone some there d) refl
+      ∙ low-here problem sound trace is_trace cut.span cut-span i cut within
+      (cut-known problem trace is_trace zone some there d) refl
 
   even-range : zone % 2 ≢ 1 → range_at part cut.span ≡ range (cut.class + 1) (range_at parent cut.span).last
   even-range even = ap (λ z. range_at (zone_of problem trace z) cut.span) (sym (halves-even zone some even))
-      ∙ high-here problem sound trace is_trace cut.span cut-span i cut within (cut-known problem trace is_trace zone some there d) refl
+      ∙ high-here problem sound trace is_trace cut.span cut-span i cut within
+      (cut-known problem trace is_trace zone some there d) refl
 
   other-range : (s : ℕ) → s < length (spans_of problem) → cut.span ≢ s → range_at part s ≡ range_at parent s
   other-range s inside apart =
@@ -138,49 +145,62 @@ module _ (problem : ProblemModel) (sound : IsSound problem) (trace : List CutAt)
         ]
 
     -- a bound of the part is that of the cut, or one of the zone that was cut
-    pub part-bounds : (other : Bound) → Contains (zone_bounds problem part) other → (other ≡ bound) ⊎ Contains (zone_bounds problem parent) other
+    pub part-bounds : (other : Bound) → Contains (zone_bounds problem part) other →
+        (other ≡ bound) ⊎ Contains (zone_bounds problem parent) other
     part-bounds other has =
         let found = bound-of_range problem part other has in
         let s = found.0 in
-        let inside : s < length (spans_of problem) = omega (arith, found.1, (zones-are problem sound trace is_trace zone there).spans) in
+        let inside : s < length (spans_of problem) = omega (
+          arith,
+          found.1,
+          (zones-are problem sound trace is_trace zone there).spans,
+        ) in
         let long : s < length parent = omega (arith, inside, (zones-are problem sound trace is_trace cut.zone before).spans) in
         elim (cases_eq cut.span s) [
           | inr apart ↦ inr (range-bound_of problem parent s long other
               (subst (λ (r : Range). Contains (range_bounds problem s r) other) (other-range s inside apart) found.2))
           | inl same ↦ at_cut (subst (λ (t : ℕ). Contains (range_bounds problem t (range_at part t)) other) (sym same) found.2)
         ] where
-          kept : Contains (range_bounds problem cut.span (range_at parent cut.span)) other → Contains (zone_bounds problem parent) other
+          kept : Contains (range_bounds problem cut.span (range_at parent cut.span)) other →
+              Contains (zone_bounds problem parent) other
           kept has = range-bound_of problem parent cut.span span-there other has
 
-          at_cut : Contains (range_bounds problem cut.span (range_at part cut.span)) other → (other ≡ bound) ⊎ Contains (zone_bounds problem parent) other
+          at_cut : Contains (range_bounds problem cut.span (range_at part cut.span)) other →
+              (other ≡ bound) ⊎ Contains (zone_bounds problem parent) other
           at_cut has = elim (cases_eq (zone % 2) 1) [
             | inl odd ↦
                 let r = range (range_at parent cut.span).first cut.class in
-                elim (range-cases problem cut.span r other (subst (λ (q : Range). Contains (range_bounds problem cut.span q) other) (odd-range odd) has)) [
+                elim (range-cases problem cut.span r other (subst
+                (λ (q : Range). Contains (range_bounds problem cut.span q) other) (odd-range odd) has)) [
                   | inl most ↦ inl (sym (Contains-given (nat_lt (cut.class + 1) (length (classes_at problem cut.span)))
                       (at_most cut.span (last_in_class problem cut.span cut.class)) other most) ∙ sym (is_bound.lower odd))
                   | inr least ↦ inr (kept (Contains-append_right
                       (if nat_lt ((range_at parent cut.span).last + 1) (length (classes_at problem cut.span))
                       then at_most cut.span (last_in_class problem cut.span (range_at parent cut.span).last) ∷ [] else [])
                       (if nat_lt 0 (range_at parent cut.span).first
-                      then at_least cut.span (first_in_class problem cut.span (range_at parent cut.span).first) ∷ [] else []) other least))
+                      then at_least cut.span (first_in_class problem cut.span (range_at parent cut.span).first) ∷ [] else [])
+                      other least))
                 ]
             | inr even ↦
                 let r = range (cut.class + 1) (range_at parent cut.span).last in
-                elim (range-cases problem cut.span r other (subst (λ (q : Range). Contains (range_bounds problem cut.span q) other) (even-range even) has)) [
+                elim (range-cases problem cut.span r other (subst
+                (λ (q : Range). Contains (range_bounds problem cut.span q) other) (even-range even) has)) [
                   | inl most ↦ inr (kept (Contains-append_left
                       (if nat_lt ((range_at parent cut.span).last + 1) (length (classes_at problem cut.span))
                       then at_most cut.span (last_in_class problem cut.span (range_at parent cut.span).last) ∷ [] else [])
                       (if nat_lt 0 (range_at parent cut.span).first
-                      then at_least cut.span (first_in_class problem cut.span (range_at parent cut.span).first) ∷ [] else []) other most))
+                      then at_least cut.span (first_in_class problem cut.span (range_at parent cut.span).first) ∷ [] else [])
+                      other most))
                   | inr least ↦ inl (sym (Contains-given (nat_lt 0 (cut.class + 1))
-                      (at_least cut.span (first_in_class problem cut.span (cut.class + 1))) other least) ∙ sym (is_bound.upper even))
+                      (at_least cut.span (first_in_class problem cut.span (cut.class + 1))) other least) ∙ sym
+                      (is_bound.upper even))
                 ]
           ]
 
     -- widths in the zone that was cut are in the part where they meet its bound
     pub part-from : (widths : List ℕ) → InZone problem parent widths → Meets problem widths bound → InZone problem part widths
-    part-from widths inside meets = zone-from_meets problem sound part (zones-are problem sound trace is_trace zone there) widths inside.page
+    part-from widths inside meets = zone-from_meets problem sound part (zones-are problem sound trace is_trace zone there)
+        widths inside.page
         (All-from_Contains (Meets problem widths) (zone_bounds problem part) each) where
           each : (other : Bound) → Contains (zone_bounds problem part) other → Meets problem widths other
           each other has = elim (part-bounds other has) [
@@ -198,7 +218,8 @@ module _ (problem : ProblemModel) (sound : IsSound problem) (trace : List CutAt)
       pub part-implied : (left : Left) → Implied problem Among bound →
           HasLeftBut problem Among (zone_bounds problem top) (zone_bounds problem part) left →
           HasLeftBut problem Among (zone_bounds problem top) (zone_bounds problem parent) left
-      part-implied left implied found = but-implied problem Among (zone_bounds problem top) (zone_bounds problem part) (zone_bounds problem parent) bound
+      part-implied left implied found = but-implied problem Among (zone_bounds problem top) (zone_bounds problem part)
+          (zone_bounds problem parent) bound
           part-bounds left implied found
 
       -- or all bounds of its span are looked at
@@ -210,7 +231,8 @@ module _ (problem : ProblemModel) (sound : IsSound problem) (trace : List CutAt)
       part-looked_at is_zone left found finds h =
           let s = cut.span in
           let long : s < length top = omega (arith, cut-span, (zones-are problem sound trace is_trace z is_zone).spans) in
-          but-looked_at problem Among (zone_bounds problem top) (zone_bounds problem part) (zone_bounds problem parent) bound part-bounds left found
+          but-looked_at problem Among (zone_bounds problem top) (zone_bounds problem part) (zone_bounds problem parent)
+          bound part-bounds left found
           (range_bounds problem s (range_at top s)) (λ b has. range-bound_of problem top s long b has)
           (λ b same has. on-span problem top s b (ap (λ (x : Bound). x.span) same ∙ on_cut) has) finds h
         where

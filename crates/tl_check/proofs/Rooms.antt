@@ -10,25 +10,32 @@ use Rattle.tl_diff.proofs.BoundLaws.{Implied-from, Implied-le, Implied-none}
 use Rattle.tl_problem.specs.Problem.{ProblemModel}
 use Rattle.tl_problem.specs.Spans.{spans_of}
 use Rattle.tl_problem.specs.Zones.{span_at, span_width}
-use Rattle.tl_problem.specs.Works.{places, IsLeft}
-use Rattle.tl_problem.specs.inner.Constraints.{widths_of}
-use Rattle.tl_problem.proofs.SizeLaws.{room-position}
+use Rattle.tl_problem.specs.Works.{places, IsLeft, widths_of}
+use Rattle.tl_base.proofs.SizeLaws.{room-position}
 use Rattle.tl_problem.proofs.ZoneLaws.{span-within}
 use Rattle.tl_problem.proofs.ConstraintLemmas.{room-small}
 use Rattle.tl_problem.proofs.WorkLemmas.{left-from, left-room}
 use Rattle.tl_check.specs.inner.Matrices.{IsMatrixOf}
 
 -- what is implied is decided by the tightest bound
-pub near-decided : (bounds : Bounds) (a b : ℕ) (most : ℤ) (o : Option ℤ) → MatchOption o (HasNoGreatest bounds a b) (IsGreatest bounds a b) →
+pub near-decided : (bounds : Bounds) (a b : ℕ) (most : ℤ) (o : Option ℤ) →
+    MatchOption o (HasNoGreatest bounds a b) (IsGreatest bounds a b) →
     (IsSomeAnd o (λ m. m ≤ℤ most) → Implied bounds a b most) × (Implied bounds a b most → IsSomeAnd o (λ m. m ≤ℤ most))
 near-decided bounds a b most None is = (λ never. absurd never, λ implied. absurd (Implied-none bounds a b most is implied))
-near-decided bounds a b most (Some m) is = (λ less. Implied-from bounds a b m most is less, λ implied. Implied-le bounds a b m most is implied)
+near-decided bounds a b most (Some m) is = (
+  λ less. Implied-from bounds a b m most is less,
+  λ implied. Implied-le bounds a b m most is implied,
+)
 
 -- a width that is cut off past the page bounds the same rooms as the whole one
 module _ (room gap w cut : ℕ) (few : room ≤ MAX_PAGE_WIDTH) (same : w ≤ MAX_PAGE_WIDTH → cut ≡ w)
     (past : MAX_PAGE_WIDTH < w → cut ≡ MAX_PAGE_WIDTH + 1) (m : ℤ) where
   pub near-to : m ≡ pos (cut + gap) → pos (room + gap) ≤ℤ m → room ≤ w
-  near-to is h = elim (cases_lt MAX_PAGE_WIDTH w) [ inl above ↦ omega (arith, few, above) | inr within ↦ omega (arith, ints, is, h, same within) ]
+  near-to is h = elim (cases_lt MAX_PAGE_WIDTH w) [
+    | inl above ↦ omega (arith, few, above)
+    | inr within ↦ omega
+        (arith, ints, is, h, same within)
+  ]
 
   pub near-from : m ≡ pos (cut + gap) → room ≤ w → pos (room + gap) ≤ℤ m
   near-from is h = elim (cases_lt MAX_PAGE_WIDTH w) [
@@ -57,10 +64,18 @@ module _ (room gap w cut : ℕ) (few : room ≤ MAX_PAGE_WIDTH) (same : w ≤ MA
   ]
 
   pub past-from : m ≡ pos (cut + gap + 1) → w + 1 ≤ room → m ≤ℤ pos (room + gap)
-  past-from is h = elim (cases_lt MAX_PAGE_WIDTH w) [ inl above ↦ absurd (omega (arith, few, above, h)) | inr within ↦ omega (arith, ints, is, h, same within) ]
+  past-from is h = elim (cases_lt MAX_PAGE_WIDTH w) [
+    | inl above ↦ absurd (omega (arith, few, above, h))
+    | inr within ↦ omega
+        (arith, ints, is, h, same within)
+  ]
 
   pub below-to : m ≡ pos (cut + gap) -ℤ pos 1 → pos (room + gap) ≤ℤ m → room + 1 ≤ w
-  below-to is h = elim (cases_lt MAX_PAGE_WIDTH w) [ inl above ↦ omega (arith, few, above) | inr within ↦ omega (arith, ints, is, h, same within) ]
+  below-to is h = elim (cases_lt MAX_PAGE_WIDTH w) [
+    | inl above ↦ omega (arith, few, above)
+    | inr within ↦ omega
+        (arith, ints, is, h, same within)
+  ]
 
   pub below-from : m ≡ pos (cut + gap) -ℤ pos 1 → room + 1 ≤ w → pos (room + gap) ≤ℤ m
   below-from is h = elim (cases_lt MAX_PAGE_WIDTH w) [
@@ -68,7 +83,8 @@ module _ (room gap w cut : ℕ) (few : room ≤ MAX_PAGE_WIDTH) (same : w ≤ MA
     | inr within ↦ omega (arith, ints, is, h, same within)
   ]
 
-module _ (problem : ProblemModel) (bounds : Bounds) (keeps : IsMatrixOf problem bounds) (s : ℕ) (inside : s < length (spans_of problem)) where
+module _ (problem : ProblemModel) (bounds : Bounds) (keeps : IsMatrixOf problem bounds) (s : ℕ)
+    (inside : s < length (spans_of problem)) where
   abbrev left_of : ℕ
   left_of = (span_at problem s).left
 
@@ -89,7 +105,8 @@ module _ (problem : ProblemModel) (bounds : Bounds) (keeps : IsMatrixOf problem 
       let apart = all (places problem widths) left.satisfies in
       omega (arith, ints, step, apart)
 
-  pub implied-most : (m : ℤ) → ((widths : List ℕ) → IsLeft problem bounds widths → pos (span_width problem widths s + gap_of problem.style) ≤ℤ m) →
+  pub implied-most : (m : ℤ) → ((widths : List ℕ) → IsLeft problem bounds widths →
+      pos (span_width problem widths s + gap_of problem.style) ≤ℤ m) →
       Implied bounds left_of right_of m
   implied-most m all x meets =
       let span = span-within problem keeps.sound s inside in
@@ -97,7 +114,8 @@ module _ (problem : ProblemModel) (bounds : Bounds) (keeps : IsMatrixOf problem 
       let small = all (widths_of x (gap_of problem.style) problem.cols) (left-from problem bounds keeps.page x meets) in
       omega (arith, ints, at, small)
 
-  pub least-implied : (m n : ℤ) → n ≡ neg_ℤ m → Implied bounds right_of left_of n → (widths : List ℕ) → IsLeft problem bounds widths →
+  pub least-implied : (m n : ℤ) → n ≡ neg_ℤ m → Implied bounds right_of left_of n → (widths : List ℕ) →
+      IsLeft problem bounds widths →
       m ≤ℤ pos (span_width problem widths s + gap_of problem.style)
   least-implied m n is all widths left =
       let step = room-position (gap_of problem.style) widths left_of right_of (span-within problem keeps.sound s inside).0 in

@@ -36,7 +36,12 @@ use Rattle.tl_check.specs.inner.Traces.{CutsAreNeeded, IsEnough, AllClosed, Span
 pub page-describes : (problem : ProblemModel) (work : Work) → HasPage problem work → Describes problem [] [] work.matrix.bounds
 page-describes problem work h = record {
   keeps = record { sound = h.work_of.sound; page = h.work_of.keeps };
-  to = λ widths left. record { page = h.work_of.keeps.page widths left; meets = All-nil (Meets problem widths); breaks = All-nil (Breaks problem widths) };
+  to = λ widths left. record {
+    page = h.work_of.keeps.page widths left;
+    meets = All-nil (Meets problem widths);
+    breaks =
+        All-nil (Breaks problem widths);
+  };
   from = λ widths left. h.whole widths left.page;
 }
 
@@ -48,7 +53,12 @@ pub zone-bound : (problem : ProblemModel) → IsSound problem → (zone : List R
 zone-bound problem sound zone is bounds d o found = found_bound-same problem (works.IsLeft problem bounds) (InZone problem zone)
     (λ widths left. let h = d.to widths left in zone-from_meets problem sound zone is widths h.page h.meets)
     (λ widths inside. d.from widths
-    (record { page = inside.page; meets = zone-meets problem sound zone is widths inside; breaks = All-nil (Breaks problem widths) }))
+    (record {
+      page = inside.page;
+      meets = zone-meets problem sound zone is widths inside;
+      breaks =
+          All-nil (Breaks problem widths);
+    }))
     o found
 
 -- ---- a bound that was found decides
@@ -59,14 +69,16 @@ module _ (problem : ProblemModel) (Among : List ℕ → Type 0) (P : ℕ → Typ
   found-to None none h = absurd h
   found-to (Some bound) is h = (bound, is, h)
 
-  pub found-from : (o : Option ℕ) → MatchOption o (HasNoWidths Among) (IsBound problem Among) → (bound : ℕ) → IsBound problem Among bound → P bound
+  pub found-from : (o : Option ℕ) → MatchOption o (HasNoWidths Among) (IsBound problem Among) → (bound : ℕ) →
+      IsBound problem Among bound → P bound
       → IsSomeAnd o P
   found-from None none bound is h = absurd (none is.some.0 is.some.1)
   found-from (Some found) is bound other h = subst P (bound-unique problem Among bound found other is) h
 
 -- ---- one cut more, one zone more
 
-pub needed-next : (problem : ProblemModel) (trace : List CutAt) (height i : ℕ) (cut : CutAt) → i < length trace → cut ≡ get_or trace i cut →
+pub needed-next : (problem : ProblemModel) (trace : List CutAt) (height i : ℕ) (cut : CutAt) → i < length trace →
+    cut ≡ get_or trace i cut →
     CutsAreNeeded problem trace height i → (bound : ℕ) × IsBoundOf problem trace cut.zone bound × (bound < height) →
     CutsAreNeeded problem trace height (i + 1)
 needed-next problem trace height i cut within is before here j d less =
@@ -79,7 +91,8 @@ needed-next problem trace height i cut within is before here j d less =
     ]
 
 pub enough-next : (problem : ProblemModel) (trace : List CutAt) (lower z : ℕ) → (IsEnough problem trace lower z → ⊥) →
-    (Stands trace z → (bound : ℕ) → IsBoundOf problem trace z bound → bound ≤ lower → ⊥) → IsEnough problem trace lower (z + 1) → ⊥
+    (Stands trace z → (bound : ℕ) → IsBoundOf problem trace z bound → bound ≤ lower → ⊥) →
+    IsEnough problem trace lower (z + 1) → ⊥
 enough-next problem trace lower z before here (zone, bound, within, stands, is, enough) =
     elim (cases_lt zone z) [
       | inl old ↦ before (zone, bound, old, stands, is, enough)
@@ -100,10 +113,12 @@ closed-next problem trace height z before here zone within stands =
 
 -- ---- a zone is closed
 
-pub closed-none : (problem : ProblemModel) (zone : List Range) (height : ℕ) → HasNoWidths (InZone problem zone) → IsClosed problem zone height
+pub closed-none : (problem : ProblemModel) (zone : List Range) (height : ℕ) → HasNoWidths (InZone problem zone) →
+    IsClosed problem zone height
 closed-none problem zone height none = inl none
 
-pub closed-some : (problem : ProblemModel) (zone : List Range) (height bound : ℕ) → IsBound problem (InZone problem zone) bound → bound < height →
+pub closed-some : (problem : ProblemModel) (zone : List Range) (height bound : ℕ) →
+    IsBound problem (InZone problem zone) bound → bound < height →
     IsClosed problem zone height → HasOneClass zone × DifferIn problem zone
 closed-some problem zone height bound is low (inl none) = absurd (none is.some.0 is.some.1)
 closed-some problem zone height bound is low (inr (inl (other, also, enough))) =
@@ -113,7 +128,8 @@ closed-some problem zone height bound is low (inr (inr both)) = both
 -- ---- `low` and `high` differ at a span
 
 pub differ-from : (problem : ProblemModel) (zone : List Range) (s : ℕ) → s < length zone → (r : Range) → r ≡ range_at zone s →
-    SpanDiffers problem s (first_in_class problem s r.first) (last_in_class problem s r.last) (length problem.cells) → DifferIn problem zone
+    SpanDiffers problem s (first_in_class problem s r.first) (last_in_class problem s r.last) (length problem.cells) →
+    DifferIn problem zone
 differ-from problem zone s within r is (k, cell, less, there, at, has, (w, from, upto, differ)) = record {
   s = s;
   w = w;
@@ -137,23 +153,35 @@ differ-next problem zone s r is before here d less =
       | inl old ↦ before d old
       | inr last ↦
           let same : d.s ≡ s = omega (arith, less, last) in
-          let P : ℕ → Type 0 = λ t. SpanDiffers problem t (first_in_class problem t (range_at zone t).first) (last_in_class problem t (range_at zone t).last)
+          let P : ℕ → Type 0 = λ t. SpanDiffers problem t (first_in_class problem t (range_at zone t).first)
+          (last_in_class problem t (range_at zone t).last)
           (length problem.cells) in
-          let found : P d.s = (d.inside.0, d.cell, d.inside.1, d.inside.1, d.inside.2, d.has, (d.w, d.width.0, d.width.1, d.differ)) in
-          here (subst (λ (q : Range). SpanDiffers problem s (first_in_class problem s q.first) (last_in_class problem s q.last) (length problem.cells)) (sym is)
+          let found : P d.s = (
+            d.inside.0,
+            d.cell,
+            d.inside.1,
+            d.inside.1,
+            d.inside.2,
+            d.has,
+            (d.w, d.width.0, d.width.1, d.differ),
+          ) in
+          here (subst (λ (q : Range). SpanDiffers problem s (first_in_class problem s q.first) (last_in_class problem s q.last)
+          (length problem.cells)) (sym is)
           (subst P same found))
     ]
 
 -- ---- worked with a gap
 
-opening-unique : (problem : ProblemModel) (first second : Placed) → IsOpening problem first → IsOpening problem second → first ≡ second
+opening-unique : (problem : ProblemModel) (first second : Placed) → IsOpening problem first → IsOpening problem second →
+    first ≡ second
 opening-unique problem first second one other = placement-unique problem first second
     (least-unique (gap_of problem.style) (WithinPage problem) first.widths second.widths
     (one.placement.page.columns ∙ sym other.placement.page.columns) one.columns other.columns) one.placement other.placement
 
 module _ (problem : ProblemModel) (trace : List CutAt) (height lower budget opening : ℕ) (is : HasOpening problem opening) where
   pub below-from : CutsAreNeeded problem trace opening (length trace) → IsEnough problem trace lower (2 * length trace + 1) →
-      ((length trace ≡ budget) ⊎ AllClosed problem trace height (2 * length trace + 1)) → IsWorkedBelow problem trace height lower budget
+      ((length trace ≡ budget) ⊎ AllClosed problem trace height (2 * length trace + 1)) →
+      IsWorkedBelow problem trace height lower budget
   below-from needed enough ended = record {
     opening = is.0;
     is_opening = is.1;
@@ -174,7 +202,8 @@ module _ (problem : ProblemModel) (trace : List CutAt) (height lower budget open
   pub below-enough : IsWorkedBelow problem trace height lower budget → IsEnough problem trace lower (2 * length trace + 1)
   below-enough h = (h.enough.0, h.enough.1, h.enough.2.there, h.enough.2, h.enough.3, h.enough.4)
 
-  pub below-closed : (length trace ≢ budget) → IsWorkedBelow problem trace height lower budget → AllClosed problem trace height (2 * length trace + 1)
+  pub below-closed : (length trace ≢ budget) → IsWorkedBelow problem trace height lower budget →
+      AllClosed problem trace height (2 * length trace + 1)
   below-closed more h = elim h.ended [
     | inl all ↦ absurd (more all)
     | inr closed ↦ λ z within stands. closed z stands
@@ -182,7 +211,8 @@ module _ (problem : ProblemModel) (trace : List CutAt) (height lower budget open
 
 -- ---- one line more
 
-pub good-next : (problem : ProblemModel) (trace : List CutAt) (log : List LogLine) (lower k : ℕ) → ((j : ℕ) → j < k → IsGoodAt problem trace log lower j) →
+pub good-next : (problem : ProblemModel) (trace : List CutAt) (log : List LogLine) (lower k : ℕ) →
+    ((j : ℕ) → j < k → IsGoodAt problem trace log lower j) →
     IsGoodAt problem trace log lower k → (j : ℕ) → j < k + 1 → IsGoodAt problem trace log lower j
 good-next problem trace log lower k before here j less =
     elim (cases_lt j k) [

@@ -29,7 +29,8 @@ cut-there z n some there = omega (arith, some, there)
 abbrev pub cut_to : List CutAt → ℕ → CutAt → CutAt
 cut_to trace zone d = get_or trace ((zone - 1) / 2) d
 
-module _ (problem : ProblemModel) (trace : List CutAt) (is_trace : IsTraceOf problem trace) (zone : ℕ) (some : 0 < zone) (there : IsZoneOf trace zone)
+module _ (problem : ProblemModel) (trace : List CutAt) (is_trace : IsTraceOf problem trace) (zone : ℕ) (some : 0 < zone)
+    (there : IsZoneOf trace zone)
     (d : CutAt) where
   pub cut-known : HasParts (whole_zone problem) trace ((zone - 1) / 2) (cut_to trace zone d)
   cut-known = has-parts (whole_zone problem) trace is_trace ((zone - 1) / 2) d (cut-there zone (length trace) some there)
@@ -44,7 +45,8 @@ module _ (problem : ProblemModel) (trace : List CutAt) (is_trace : IsTraceOf pro
   ]
 
 -- zone 0 is the whole
-pub zone-first : (problem : ProblemModel) (trace : List CutAt) → IsTraceOf problem trace → zone_of problem trace 0 ≡ whole_zone problem
+pub zone-first : (problem : ProblemModel) (trace : List CutAt) → IsTraceOf problem trace →
+    zone_of problem trace 0 ≡ whole_zone problem
 zone-first problem trace is_trace = trace-by (whole_zone problem) (λ cuts. zone_of problem cuts 0 ≡ whole_zone problem) refl
     (λ cuts cut before now same. zone-old (whole_zone problem) cuts cut 0 (omega arith) ∙ same) trace is_trace
 
@@ -64,26 +66,31 @@ module _ (problem : ProblemModel) (sound : IsSound problem) (trace : List CutAt)
   low-here i cut within h here =
       let zone = zone_of problem trace cut.zone in
       ap (λ z. range_at z s) h.low_is ∙ ap (λ t. range_at (lower_part zone t cut.class) s) here
-      ∙ get_or-set_same zone s (range (range_at zone s).first cut.class) (range 0 0) (long cut.zone (omega (arith, h.before, within)))
+      ∙ get_or-set_same zone s (range (range_at zone s).first cut.class) (range 0 0)
+      (long cut.zone (omega (arith, h.before, within)))
 
   pub high-here : (i : ℕ) (cut : CutAt) → i < length trace → HasParts (whole_zone problem) trace i cut → cut.span ≡ s →
       range_of (2 * i + 2) ≡ range (cut.class + 1) (range_of cut.zone).last
   high-here i cut within h here =
       let zone = zone_of problem trace cut.zone in
       ap (λ z. range_at z s) h.high_is ∙ ap (λ t. range_at (upper_part zone t cut.class) s) here
-      ∙ get_or-set_same zone s (range (cut.class + 1) (range_at zone s).last) (range 0 0) (long cut.zone (omega (arith, h.before, within)))
+      ∙ get_or-set_same zone s (range (cut.class + 1) (range_at zone s).last) (range 0 0)
+      (long cut.zone (omega (arith, h.before, within)))
 
-  pub low-other : (i : ℕ) (cut : CutAt) → HasParts (whole_zone problem) trace i cut → cut.span ≢ s → range_of (2 * i + 1) ≡ range_of cut.zone
+  pub low-other : (i : ℕ) (cut : CutAt) → HasParts (whole_zone problem) trace i cut → cut.span ≢ s →
+      range_of (2 * i + 1) ≡ range_of cut.zone
   low-other i cut h apart =
       let zone = zone_of problem trace cut.zone in
       ap (λ z. range_at z s) h.low_is
       ∙ get_or-set_other zone cut.span s (range (range_at zone cut.span).first cut.class) (range 0 0) (λ same. apart (sym same))
 
-  pub high-other : (i : ℕ) (cut : CutAt) → HasParts (whole_zone problem) trace i cut → cut.span ≢ s → range_of (2 * i + 2) ≡ range_of cut.zone
+  pub high-other : (i : ℕ) (cut : CutAt) → HasParts (whole_zone problem) trace i cut → cut.span ≢ s →
+      range_of (2 * i + 2) ≡ range_of cut.zone
   high-other i cut h apart =
       let zone = zone_of problem trace cut.zone in
       ap (λ z. range_at z s) h.high_is
-      ∙ get_or-set_other zone cut.span s (range (cut.class + 1) (range_at zone cut.span).last) (range 0 0) (λ same. apart (sym same))
+      ∙ get_or-set_other zone cut.span s (range (cut.class + 1) (range_at zone cut.span).last) (range 0 0)
+      (λ same. apart (sym same))
 
   -- the classes of a zone in the range of the zone that was cut, one cut further up
   module _ (top zone first last : ℕ) (some : 0 < zone) (there : IsZoneOf trace zone) (d : CutAt)
@@ -102,18 +109,22 @@ module _ (problem : ProblemModel) (sound : IsSound problem) (trace : List CutAt)
         let upper = subst (λ t. cut_of.class < (range_at (zone_of problem trace cut_of.zone) t).last) here known.upper in
         omega (arith, ranges.1, upper)
 
-    pub walk-low : zone % 2 ≡ 1 → cut_of.span ≡ s → IsWithinClasses (range_of top) (range_of cut_of.zone) first (min cut_of.class last)
+    pub walk-low : zone % 2 ≡ 1 → cut_of.span ≡ s → IsWithinClasses (range_of top) (range_of cut_of.zone) first
+        (min cut_of.class last)
     walk-low odd here =
-        let at = ap range_of (sym (halves-odd zone some odd)) ∙ low-here ((zone - 1) / 2) cut_of (cut-there zone (length trace) some there) known here in
+        let at = ap range_of (sym (halves-odd zone some odd)) ∙ low-here ((zone - 1) / 2) cut_of
+        (cut-there zone (length trace) some there) known here in
         let upper = subst (λ t. cut_of.class < (range_at (zone_of problem trace cut_of.zone) t).last) here known.upper in
         record {
           from = within.from ∙ ap (λ r. max first r.first) at;
           upto = omega (arith, within.upto, ap (λ r. r.last) at, upper);
         }
 
-    pub walk-high : zone % 2 ≢ 1 → cut_of.span ≡ s → IsWithinClasses (range_of top) (range_of cut_of.zone) (max (cut_of.class + 1) first) last
+    pub walk-high : zone % 2 ≢ 1 → cut_of.span ≡ s → IsWithinClasses (range_of top) (range_of cut_of.zone)
+        (max (cut_of.class + 1) first) last
     walk-high even here =
-        let at = ap range_of (sym (halves-even zone some even)) ∙ high-here ((zone - 1) / 2) cut_of (cut-there zone (length trace) some there) known here in
+        let at = ap range_of (sym (halves-even zone some even)) ∙ high-here ((zone - 1) / 2) cut_of
+        (cut-there zone (length trace) some there) known here in
         let lower = subst (λ t. (range_at (zone_of problem trace cut_of.zone) t).first ≤ cut_of.class) here known.lower in
         record {
           from = omega (arith, within.from, ap (λ r. r.first) at, lower);
@@ -138,12 +149,14 @@ module _ (problem : ProblemModel) (sound : IsSound problem) (trace : List CutAt)
       omega (arith, ranges.1, upper)
 
   -- at the whole the walk has found the classes
-  pub walk-start : (top last : ℕ) → IsZoneOf trace top → last + 1 ≡ length (classes_at problem s) → IsWithinClasses (range_of top) (range_of top) 0 last
+  pub walk-start : (top last : ℕ) → IsZoneOf trace top → last + 1 ≡ length (classes_at problem s) →
+      IsWithinClasses (range_of top) (range_of top) 0 last
   walk-start top last there is_last =
       let ranges = (zones-are problem sound trace is_trace top there).ranges s (long top there) in
       record { from = omega arith; upto = omega (arith, ranges.1, is_last) }
 
-  pub walk-end : (top first last : ℕ) → last < length (classes_at problem s) → IsWithinClasses (range_of top) (range_of 0) first last →
+  pub walk-end : (top first last : ℕ) → last < length (classes_at problem s) →
+      IsWithinClasses (range_of top) (range_of 0) first last →
       range first last ≡ range_of top
   walk-end top first last small within =
       let whole : range_of 0 ≡ range 0 (length (classes_at problem s) - 1) =

@@ -4,9 +4,9 @@ use Rattle.tl_token.specs.declared.token.Token.{Token}
 use Rattle.tl_tree.specs.Sound.{IsSound as IsSoundTree}
 use Rattle.tl_tree.specs.Spelling.{SpellsTree, IsWithinLimits}
 use Rattle.tl_tree.specs.Tags.{kinds}
-use Rattle.tl_form.specs.Sound.{IsSound}
-use Rattle.tl_form.proofs.SoundFormed.{becomes_sound}
-use Rattle.tl_form.specs.declared.cell.Table.{Table}
+use Rattle.tl_table.specs.Sound.{IsSound}
+use Rattle.tl_table.proofs.SoundFormed.{becomes_sound}
+use Rattle.tl_table.specs.declared.cell.Table.{Table}
 use Rattle.tl_base.specs.declared.breaking.Breaking.TheVariants.{Words}
 use Rattle.tl_demo.specs.Demo.{demo_rows, demo_text_of}
 use Rattle.tl_demo.specs.Fits.{DemoFits}
@@ -15,7 +15,7 @@ use Rattle.tl_demo.proofs.TableItems.{demo_items, demo_length, demo_tokens}
 use Rattle.tl_demo.proofs.TableTree.{kinds_are, table_kinds, table_kinds_are, table_node, table_spelt, table_within}
 use Rattle.tl_demo.proofs.TableSound.{table_sound}
 use Rattle.tl_demo.proofs.TableFormed.{table_formed}
-use Rattle.tl_demo.proofs.TableFits.{table_fits, least_exists}
+use Rattle.tl_demo.proofs.TableFits.{table_fits}
 
 pub demo_fits : DemoFits
 demo_fits number small_number =
@@ -32,15 +32,14 @@ demo_fits number small_number =
     let formed = table_formed rows drawn.0 (omega (arith, drawn.1)) sound.sound in
     let table : Table = formed.0 in
     let is_sound : IsSound table = becomes_sound Words (table_node rows) table sound formed.1.becomes in
-    let fits = table_fits table is_sound formed.1.narrow formed.1.cells in
-    let least = least_exists table 58 fits.0 fits.1 is_sound fits.2 in (
+    let fits = table_fits table is_sound formed.1.narrow formed.1.cells in (
       table,
-      least.0,
       record {
         short = short;
         spelt = record { tokens = tokens; cut = cut.1.0; node = table_node rows; read = tree; formed = formed.1.becomes };
         within = within;
-        is_least = least.1.0;
+        height = fits.0;
+        layout = fits.1;
+        fits = fits.2;
       },
-      omega (arith, least.1.1),
     )

@@ -1,9 +1,11 @@
 -- What is drawn is in its range: words of one to eight letters, one to six of them in a cell, and rows of at most six
 -- columns.
-use Rattle.std.proofs.Common.{◌≡◌, ℕ, zero, suc, ◌+◌, ◌<◌, ◌≤◌, ◌==◌, Bool, true, false, ◌⊎◌, List, [], ◌∷◌, length, refl, inl, inr, arith}
+use Rattle.std.proofs.Common.{◌≡◌, ℕ, zero, suc, ◌+◌, ◌<◌, ◌≤◌, ◌==◌, Bool, true, false, ◌⊎◌, List, [], ◌∷◌, length, refl, inl}
+use Rattle.std.proofs.Common.{inr, arith}
 use Rattle.std.specs.Prelude.{if◌then◌else◌}
 use Rattle.std.specs.List.{AllByRecursion}
-use Rattle.tl_demo.specs.Demo.{Cell, Drawn, drawn, next_state, words_from, cell_from, cell_before, cells_from, rows_from, demo_rows}
+use Rattle.tl_demo.specs.Demo.{Cell, Drawn, drawn, next_state, words_from, cell_from, cell_before, cells_from, rows_from}
+use Rattle.tl_demo.specs.Demo.{demo_rows}
 
 -- a word is of one to eight letters
 abbrev pub IsWordLength : ℕ → Type 0
@@ -40,7 +42,8 @@ unfolding drawn
 drawn_below below state some = omega (arith, some)
 
 -- so many words are drawn, each of one to eight letters
-words_drawn : (count state : ℕ) → AllByRecursion IsWordLength (words_from count state).value × (length (words_from count state).value ≡ count)
+words_drawn : (count state : ℕ) → AllByRecursion IsWordLength (words_from count state).value ×
+    (length (words_from count state).value ≡ count)
 words_drawn zero state = (tt, refl)
 words_drawn (suc count) state =
     let others = words_drawn count (next_state state) in
@@ -68,7 +71,8 @@ before_over others_from colspan columns state is others =
 -- one cell over two columns and others, or one over one column and others
 either_over : (columns state : ℕ) (wide : Bool) → ((s : ℕ) → AreOver columns (cells_from columns s).value) →
     ((s : ℕ) → AreOver (suc columns) (cells_from (suc columns) s).value) →
-    AreOver (suc (suc columns)) ((if wide then cell_before (cells_from columns) 2 state else cell_before (cells_from (suc columns)) 1 state).value)
+    AreOver (suc (suc columns)) ((if wide then cell_before (cells_from columns) 2 state else cell_before
+    (cells_from (suc columns)) 1 state).value)
 either_over columns state true two one =
     let over = before_over (cells_from columns) 2 columns state (inr refl) two in
     (over.0, omega (arith, over.1))
@@ -85,7 +89,8 @@ cells_over (suc (suc columns)) state =
     either_over columns (next_state state) (drawn 5 state == 0) (λ s. cells_over columns s) (λ s. cells_over (suc columns) s)
 
 -- so many rows are drawn
-rows_drawn : (count state : ℕ) → AllByRecursion IsDrawnRow (rows_from count state).value × (length (rows_from count state).value ≡ count)
+rows_drawn : (count state : ℕ) → AllByRecursion IsDrawnRow (rows_from count state).value ×
+    (length (rows_from count state).value ≡ count)
 unfolding rows_from
 rows_drawn zero state = (tt, refl)
 rows_drawn (suc count) state =

@@ -16,7 +16,11 @@ unfolding next_state
 ten_states = refl
 
 three_cells : take 3 (cells_from 6 0).value ≡
-    record { colspan = 2; words = 5 ∷ [] } ∷ record { colspan = 1; words = 8 ∷ [] } ∷ record { colspan = 2; words = 3 ∷ 3 ∷ [] } ∷ []
+    record { colspan = 2; words = 5 ∷ [] } ∷ record { colspan = 1; words = 8 ∷ [] } ∷ record {
+      colspan = 2;
+      words =
+          3 ∷ 3 ∷ [];
+    } ∷ []
 unfolding next_state drawn cells_from
 three_cells = refl
 

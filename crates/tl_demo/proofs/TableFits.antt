@@ -1,8 +1,7 @@
--- The table of a number fits 58 columns: six columns of eight and two columns between each two.
-use Rattle.std.proofs.Common.{◌≡◌, ◌∙◌, ℕ, zero, suc, ◌+◌, ◌<◌, ◌≤◌, ◌≢◌, ◌⊎◌, List, [], ◌∷◌, map, length, replicate}
-use Rattle.std.proofs.Common.{refl, sym, ap, subst, inl, inr, arith, append-nil}
+-- The table of a number fits 58 columns, and so the page: six columns of eight and two columns between each two.
+use Rattle.std.proofs.Common.{◌≡◌, ◌∙◌, ℕ, zero, suc, ◌≤◌, ◌≢◌, List, [], ◌∷◌, map, length, replicate}
+use Rattle.std.proofs.Common.{refl, sym, ap, subst, arith, append-nil}
 use Rattle.std.specs.List.{All, AllZip, AllByRecursion, flat_map, onto_first}
-use Rattle.std.proofs.lemmas.Bool.{cases_lt}
 use Rattle.std.proofs.lemmas.List.{length-map, length-replicate}
 use Rattle.std.proofs.lemmas.List.Elements.{recursion_from_All}
 use Rattle.std.proofs.lemmas.List.Sums.{sum_by-cons}
@@ -10,25 +9,25 @@ use Rattle.unicode_width.proofs.Computing.{unicode_width}
 use Rattle.tl_base.specs.declared.style.Style.TheVariants.{Plain}
 use Rattle.tl_grid.specs.declared.shape.Place.{Place}
 use Rattle.tl_grid.specs.Dropping.{IsPlaced}
-use Rattle.tl_problem.specs.Sizes.{total}
+use Rattle.tl_base.specs.Sizes.{total}
 use Rattle.tl_text.specs.declared.paragraph.Atom.{Atom}
 use Rattle.tl_text.specs.declared.paragraph.Atom.TheVariants.{Word}
 use Rattle.tl_text.specs.Cuttings.{joined, line_width, IsCutting, IsPieceCut}
 use Rattle.tl_text.specs.Paragraph.{lined_pieces, unit_width}
 use Rattle.tl_text.specs.Words.{width_of}
-use Rattle.tl_form.specs.declared.cell.Content.{out-roll-Content}
-use Rattle.tl_form.specs.declared.cell.Content.TheOpen as open_content
-use Rattle.tl_form.specs.declared.cell.Table.{Table, out-Table}
-use Rattle.tl_form.specs.declared.cell.TableCell.{TableCell, out-TableCell, out-roll-TableCell}
-use Rattle.tl_form.specs.declared.layout.Layout.{Layout, roll-Layout}
-use Rattle.tl_form.specs.Tables.{OpenTable, OpenCell, OpenContent}
-use Rattle.tl_form.specs.Layouts.{OpenLayout, Share, Fits, FitsCell, FitsParagraph, FitsRoom, FitsShare, total_height, width_for, height_for}
-use Rattle.tl_form.specs.Least.{IsLeastHeight, IsLeastWidth}
-use Rattle.tl_form.specs.Sound.{IsSound, place_of}
-use Rattle.tl_form.proofs.LeastExists.{Settles, settles}
-use Rattle.tl_form.proofs.LeastWidths.{room-equal}
-use Rattle.tl_form.proofs.ProblemTruth.{fits-rolled}
-use Rattle.tl_form.proofs.Widths.{grid_of}
+use Rattle.tl_table.specs.declared.cell.Content.{out-roll-Content}
+use Rattle.tl_table.specs.declared.cell.Content.TheOpen as open_content
+use Rattle.tl_table.specs.declared.cell.Table.{Table, out-Table}
+use Rattle.tl_table.specs.declared.cell.TableCell.{TableCell, out-TableCell, out-roll-TableCell}
+use Rattle.tl_table.specs.declared.layout.Layout.{Layout, roll-Layout}
+use Rattle.tl_table.specs.Tables.{OpenTable, OpenCell, OpenContent}
+use Rattle.tl_table.specs.Layouts.{OpenLayout, Share, Fits, FitsCell, FitsParagraph, FitsRoom, FitsShare, total_height, width_for}
+use Rattle.tl_table.specs.Layouts.{height_for}
+use Rattle.tl_table.specs.Sound.{IsSound, place_of}
+use Rattle.tl_table.proofs.LeastWidths.{room-equal}
+use Rattle.tl_table.proofs.AnyDepth.{fits-rolled}
+use Rattle.tl_table.proofs.Widths.{grid_of}
+use Rattle.tl_demo.specs.declared.laws.TheConstants.{DEMO_WIDTH}
 use Rattle.tl_demo.specs.Demo.{Cell, word_text}
 use Rattle.tl_demo.proofs.DrawnRows.{IsWordLength, IsDrawnCell}
 use Rattle.tl_demo.proofs.TableTree.{paragraph_in}
@@ -82,7 +81,8 @@ is_cutting (n ∷ lengths) some =
     ((not_empty (n ∷ lengths), joined_lines (n ∷ lengths)), tt)
 
 -- each line holds where eight letters do
-lines_hold : (w : ℕ) (lengths : List ℕ) → 8 ≤ w → AllByRecursion IsWordLength lengths → AllByRecursion (λ line. line_width line ≤ w) (lines_in lengths)
+lines_hold : (w : ℕ) (lengths : List ℕ) → 8 ≤ w → AllByRecursion IsWordLength lengths →
+    AllByRecursion (λ line. line_width line ≤ w) (lines_in lengths)
 lines_hold w [] wide all = tt
 lines_hold w (n ∷ lengths) wide all =
     let narrow = word_width n (all.0).1 in
@@ -90,14 +90,16 @@ lines_hold w (n ∷ lengths) wide all =
 
 -- there are as many lines as words
 lines_count : (lengths : List ℕ) → length (lines_in lengths) ≡ length lengths
-lines_count lengths = length-map (atoms_in lengths) (λ (unit : Atom). unit ∷ []) ∙ length-map (map word_text lengths) Word ∙ length-map lengths word_text
+lines_count lengths = length-map (atoms_in lengths) (λ (unit : Atom). unit ∷ []) ∙ length-map (map word_text lengths)
+    Word ∙ length-map lengths word_text
 
 -- the paragraph of a cell fits wherever eight letters do
 paragraph_fits : (w : ℕ) (c : Cell) → 8 ≤ w → IsDrawnCell c → FitsParagraph w (paragraph_in c) (length c.words)
 paragraph_fits w c wide drawn = (
   lines_in c.words ∷ [],
   is_cutting c.words drawn.some,
-  subst (λ lines. AllByRecursion (λ line. line_width line ≤ w) lines) (sym (append-nil (lines_in c.words))) (lines_hold w c.words wide drawn.words),
+  subst (λ lines. AllByRecursion (λ line. line_width line ≤ w) lines) (sym (append-nil (lines_in c.words)))
+      (lines_hold w c.words wide drawn.words),
   omega (arith, ap length (append-nil (lines_in c.words)), lines_count c.words),
 )
 
@@ -112,13 +114,15 @@ abbrev share_of : Cell → Share
 share_of c = record { height = length c.words; inner = [] }
 
 -- a cell fits in eight columns and six lines
-cell_fits : (w h : ℕ) (c : Cell) (place : Place) → 8 ≤ w → 6 ≤ h → IsDrawnCell c → FitsRoom FitsInner w h (out-TableCell (table_cell c place)) []
+cell_fits : (w h : ℕ) (c : Cell) (place : Place) → 8 ≤ w → 6 ≤ h → IsDrawnCell c →
+    FitsRoom FitsInner w h (out-TableCell (table_cell c place)) []
 cell_fits w h c place wide high drawn =
     subst (λ (o : OpenCell). FitsRoom FitsInner w h o []) (sym (out-roll-TableCell (open_cell c place))) (record {
       floor = omega arith;
       shares = share_of c ∷ [];
       blocks = (
-        subst (λ (o : OpenContent). FitsShare FitsInner w o (share_of c)) (sym (out-roll-Content (open_content.Para (paragraph_in c))))
+        subst (λ (o : OpenContent). FitsShare FitsInner w o (share_of c))
+            (sym (out-roll-Content (open_content.Para (paragraph_in c))))
             (paragraph_fits w c wide drawn, refl),
         tt,
       );
@@ -145,10 +149,14 @@ cells_fit table [] drawn placed = tt
 cells_fit table (cell ∷ cells) drawn placed =
     let is = drawn.0 in
     let at = placed.0 in
-    let wide : 8 ≤ width_for Plain (layout_in table) (place_of cell) = room-equal 2 table.cols 8 (place_of cell).left (place_of cell).right at.0 at.1 in
-    let high : 6 ≤ height_for Plain (layout_in table) (place_of cell) = room-equal 0 table.rows 6 (place_of cell).top (place_of cell).bottom at.2 at.3 in
-    let fits = cell_fits (width_for Plain (layout_in table) (place_of cell)) (height_for Plain (layout_in table) (place_of cell)) is.0 is.1 wide high is.2 in (
-      subst (λ (one : TableCell). FitsRoom FitsInner (width_for Plain (layout_in table) (place_of cell)) (height_for Plain (layout_in table) (place_of cell))
+    let wide : 8 ≤ width_for Plain (layout_in table) (place_of cell) =
+    room-equal 2 table.cols 8 (place_of cell).left (place_of cell).right at.0 at.1 in
+    let high : 6 ≤ height_for Plain (layout_in table) (place_of cell) =
+    room-equal 0 table.rows 6 (place_of cell).top (place_of cell).bottom at.2 at.3 in
+    let fits = cell_fits (width_for Plain (layout_in table) (place_of cell))
+    (height_for Plain (layout_in table) (place_of cell)) is.0 is.1 wide high is.2 in (
+      subst (λ (one : TableCell). FitsRoom FitsInner (width_for Plain (layout_in table) (place_of cell))
+          (height_for Plain (layout_in table) (place_of cell))
           (out-TableCell one) []) (sym is.3) fits,
       cells_fit table cells drawn.1 placed.1,
     )
@@ -169,18 +177,18 @@ total_narrow (suc (suc (suc (suc (suc zero))))) few = omega arith
 total_narrow (suc (suc (suc (suc (suc (suc zero)))))) few = omega arith
 total_narrow (suc (suc (suc (suc (suc (suc (suc cols))))))) few = absurd (omega (arith, few))
 
--- a table of at most six columns fits a page of 58
+-- a table of at most six columns fits the page
 pub table_fits : (table : Table) → IsSound table → (out-Table table).cols ≤ 6 → All IsDrawnTableCell (out-Table table).cells →
-    (height : ℕ) × (layout : Layout) × Fits table Plain 58 height layout
+    (height : ℕ) × (layout : Layout) × Fits table Plain DEMO_WIDTH height layout
 table_fits table sound narrow drawn =
     let t = out-Table table in
     let grid = grid_of table sound.depth sound.sound in (
       total_height Plain (layout_in t),
       roll-Layout (layout_in t),
-      fits-rolled Plain table 58 (total_height Plain (layout_in t)) (layout_in t) (record {
+      fits-rolled Plain table DEMO_WIDTH (total_height Plain (layout_in t)) (layout_in t) (record {
         columns = length-replicate {A = ℕ} t.cols 8;
         rows = length-replicate {A = ℕ} t.rows 6;
-        within = total_narrow t.cols narrow;
+        within = omega (arith, total_narrow t.cols narrow);
         high = refl;
         parts = no_layouts t.cells;
         cells = cells_fit t t.cells (recursion_from_All IsDrawnTableCell t.cells drawn) (each_placed t.cells grid.placed);
@@ -190,60 +198,10 @@ table_fits table sound narrow drawn =
   where
     each_placed : (cells : List TableCell) → All (IsPlaced (out-Table table).cols (out-Table table).rows) (map place_of cells) →
         AllByRecursion (λ cell. IsPlaced (out-Table table).cols (out-Table table).rows (place_of cell)) cells
-    each_placed cells all = from cells (recursion_from_All (IsPlaced (out-Table table).cols (out-Table table).rows) (map place_of cells) all)
+    each_placed cells all =
+        from cells (recursion_from_All (IsPlaced (out-Table table).cols (out-Table table).rows) (map place_of cells) all)
       where
         from : (cs : List TableCell) → AllByRecursion (IsPlaced (out-Table table).cols (out-Table table).rows) (map place_of cs) →
             AllByRecursion (λ cell. IsPlaced (out-Table table).cols (out-Table table).rows (place_of cell)) cs
         from [] each = tt
         from (c ∷ cs) each = (each.0, from cs each.1)
-
--- ---- the least width
-
-module _ (table : Table) (settle : Settles Plain table) where
-  FitsAt : ℕ → Type 0
-  FitsAt w = (height : ℕ) × (layout : Layout) × Fits table Plain w height layout
-
-  -- the narrowest page below a width that some layout fits, or none does
-  narrowest : (n : ℕ) → ((w : ℕ) × (w < n) × FitsAt w × ((v : ℕ) → v < w → FitsAt v → ⊥)) ⊎ ((v : ℕ) → v < n → FitsAt v → ⊥)
-  unfolding FitsAt
-  narrowest zero = inr (λ v lt fits. omega (arith, lt))
-  narrowest (suc n) = by_rest (narrowest n) (settle n)
-    where
-      by_rest : ((w : ℕ) × (w < n) × FitsAt w × ((v : ℕ) → v < w → FitsAt v → ⊥)) ⊎ ((v : ℕ) → v < n → FitsAt v → ⊥) →
-          ((h : ℕ) × IsLeastHeight table Plain n h) ⊎ ((h : ℕ) (layout : Layout) → Fits table Plain n h layout → ⊥) →
-          ((w : ℕ) × (w < suc n) × FitsAt w × ((v : ℕ) → v < w → FitsAt v → ⊥)) ⊎ ((v : ℕ) → v < suc n → FitsAt v → ⊥)
-      by_rest (inl (w, lt, fits, none)) settled = inl (w, omega (arith, lt), fits, none)
-      by_rest (inr none) (inl (h, least)) = inl (n, omega arith, (h, least.attained.0, least.attained.1), none)
-      by_rest (inr none) (inr not) = inr (λ v lt fits. last v (cases_lt v n) lt fits)
-        where
-          last : (v : ℕ) → (v < n) ⊎ (n ≤ v) → v < suc n → FitsAt v → ⊥
-          last v (inl below) lt fits = none v below fits
-          last v (inr from) lt fits =
-              let same : v ≡ n = omega (arith, from, lt) in
-              let at = subst (λ w. FitsAt w) same fits in not at.0 at.1 at.2
-
-  -- a table that fits a page has a least width, no greater than that page
-  least_from : (w : ℕ) → FitsAt w → (least : ℕ) × (IsLeastWidth table Plain least × (least ≤ w))
-  unfolding FitsAt
-  least_from w fits = by_search (narrowest (w + 1))
-    where
-      by_search : ((n : ℕ) × (n < w + 1) × FitsAt n × ((v : ℕ) → v < n → FitsAt v → ⊥)) ⊎ ((v : ℕ) → v < w + 1 → FitsAt v → ⊥) →
-          (least : ℕ) × (IsLeastWidth table Plain least × (least ≤ w))
-      by_search (inr none) = absurd (none w (omega arith) fits)
-      by_search (inl (n, lt, at, none)) = (
-        n,
-        (
-          record { attained = at; least = λ other height layout laid. no_less other (cases_lt other n) (height, layout, laid) },
-          omega (arith, lt),
-        ),
-      )
-        where
-          no_less : (other : ℕ) → (other < n) ⊎ (n ≤ other) → FitsAt other → n ≤ other
-          no_less other (inl below) laid = absurd (none other below laid)
-          no_less other (inr from) laid = from
-
--- a sound table that fits some width has a least width, at most that one
-pub least_exists : (table : Table) (w height : ℕ) (layout : Layout) → IsSound table → Fits table Plain w height layout →
-    (least : ℕ) × (IsLeastWidth table Plain least × (least ≤ w))
-unfolding FitsAt
-least_exists table w height layout sound fits = least_from table (settles Plain sound.depth table sound.sound) w (height, layout, fits)

@@ -1,12 +1,14 @@
 -- The tree of a table becomes a table, whose cells are those drawn, each at its place of the grid.
-use Rattle.std.proofs.Common.{◌≡◌, ◌∙◌, ℕ, zero, suc, ◌+◌, ◌<◌, ◌≤◌, max, ◌⊎◌, false, List, [], ◌∷◌, ◌++◌, map, length, get_or, insert}
+use Rattle.std.proofs.Common.{◌≡◌, ◌∙◌, ℕ, zero, suc, ◌+◌, ◌<◌, ◌≤◌, max, ◌⊎◌, false, List, [], ◌∷◌, ◌++◌, map, length, get_or}
+use Rattle.std.proofs.Common.{insert}
 use Rattle.std.proofs.Common.{refl, sym, ap, subst, inl, inr, arith, append-nil}
 use Rattle.std.specs.List.{All, AllByRecursion, flat_map}
 use Rattle.std.specs.List.Sorted.{IsPermutation, IsNonDecreasingBy}
 use Rattle.std.proofs.lemmas.Bool.{cases_lt}
 use Rattle.std.proofs.lemmas.List.{map-append, length-map, take_all}
 use Rattle.std.proofs.lemmas.List.Elements.{All-from_recursion}
-use Rattle.std.proofs.lemmas.List.Sorted.{IsPermutation-refl, IsPermutation-trans, IsPermutation-cons, IsPermutation-insert, All-permutation}
+use Rattle.std.proofs.lemmas.List.Sorted.{IsPermutation-refl, IsPermutation-trans, IsPermutation-cons, IsPermutation-insert}
+use Rattle.std.proofs.lemmas.List.Sorted.{All-permutation}
 use Rattle.std.proofs.lemmas.List.Sorted.{IsNonDecreasingBy-short, IsNonDecreasingBy-insert, IsNonDecreasingBy-drop}
 use Rattle.tl_base.specs.declared.limits.TheConstants.{MAX_ROWS}
 use Rattle.tl_base.specs.declared.breaking.Breaking.TheVariants.{Words}
@@ -24,17 +26,18 @@ use Rattle.tl_tree.specs.declared.node.Block.TheOpen as open_block
 use Rattle.tl_tree.specs.declared.node.CellNode.{CellNode, out-CellNode, out-roll-CellNode}
 use Rattle.tl_tree.specs.declared.node.GroupNode.{out-GroupNode, roll-GroupNode, out-roll-GroupNode}
 use Rattle.tl_tree.specs.declared.node.TableNode.{TableNode, out-TableNode, out-roll-TableNode}
-use Rattle.tl_form.specs.declared.cell.Content.{out-Content, roll-Content, out-roll-Content}
-use Rattle.tl_form.specs.declared.cell.Content.TheOpen as open_content
-use Rattle.tl_form.specs.declared.cell.Kind.TheVariants as kinds
-use Rattle.tl_form.specs.declared.cell.Table.{Table, out-Table, roll-Table, out-roll-Table}
-use Rattle.tl_form.specs.declared.cell.TableCell.{TableCell, out-TableCell, roll-TableCell, out-roll-TableCell}
-use Rattle.tl_form.specs.Tables.{OpenTable, OpenCell, OpenContent}
-use Rattle.tl_form.specs.Formed.{OpenNode, OpenGroup, OpenCellNode, OpenBlock, Becomes, BecomesCell, BecomeCells, BecomesContent, BecomeCaption, caption_rows}
-use Rattle.tl_form.specs.Formed.{cells_of_group, cells_written, is_foot, lowered, shape_of, span_of}
-use Rattle.tl_form.specs.Sound.{place_of}
-use Rattle.tl_form.specs.inner.Forming.{Writes, slot_number}
-use Rattle.tl_form.proofs.Formed.{made_table, as_many_cells}
+use Rattle.tl_table.specs.declared.cell.Content.{out-Content, roll-Content, out-roll-Content}
+use Rattle.tl_table.specs.declared.cell.Content.TheOpen as open_content
+use Rattle.tl_table.specs.declared.cell.Kind.TheVariants as kinds
+use Rattle.tl_table.specs.declared.cell.Table.{Table, out-Table, roll-Table, out-roll-Table}
+use Rattle.tl_table.specs.declared.cell.TableCell.{TableCell, out-TableCell, roll-TableCell, out-roll-TableCell}
+use Rattle.tl_table.specs.Tables.{OpenTable, OpenCell, OpenContent}
+use Rattle.tl_table.specs.Formed.{OpenNode, OpenGroup, OpenCellNode, OpenBlock, Becomes, BecomesCell, BecomeCells, BecomesContent}
+use Rattle.tl_table.specs.Formed.{BecomeCaption, caption_rows}
+use Rattle.tl_table.specs.Formed.{cells_of_group, cells_written, is_foot, lowered, shape_of, span_of}
+use Rattle.tl_table.specs.Sound.{place_of}
+use Rattle.tl_table.specs.Formed.{Writes, slot_number}
+use Rattle.tl_table.proofs.Formed.{made_table, as_many_cells}
 use Rattle.tl_demo.specs.Demo.{Cell}
 use Rattle.tl_demo.proofs.DrawnRows.{IsDrawnCell, IsDrawnRow}
 use Rattle.tl_demo.proofs.TableTree.{paragraph_in, cell_node, open_cell_node, open_group_node, open_table_node, table_node}
@@ -57,7 +60,8 @@ comes_at measure [] value rises = record {
   above = λ k d lt. absurd (omega (arith, lt));
   below = λ k d le lt. absurd (omega (arith, lt));
 }
-comes_at measure (x ∷ xs) value rises = by_order (cases_lt (measure x) value) (comes_at measure xs value (IsNonDecreasingBy-drop measure 1 (x ∷ xs) rises))
+comes_at measure (x ∷ xs) value rises = by_order (cases_lt (measure x) value)
+    (comes_at measure xs value (IsNonDecreasingBy-drop measure 1 (x ∷ xs) rises))
   where
     by_order : (measure x < value) ⊎ (value ≤ measure x) → ComesAt measure xs value → ComesAt measure (x ∷ xs) value
     by_order (inr low) later = record {
@@ -82,14 +86,16 @@ comes_at measure (x ∷ xs) value rises = by_order (cases_lt (measure x) value) 
         after (suc k) d le lt = later.below k d (omega (arith, le)) (omega (arith, lt))
 
 -- each list has an order in which a measure rises
-pub sorted_by : {X : Type 0} (measure : X → ℕ) (xs : List X) → (sorted : List X) × (IsPermutation xs sorted × IsNonDecreasingBy measure sorted)
+pub sorted_by : {X : Type 0} (measure : X → ℕ) (xs : List X) →
+    (sorted : List X) × (IsPermutation xs sorted × IsNonDecreasingBy measure sorted)
 sorted_by measure [] = ([], (IsPermutation-refl [], IsNonDecreasingBy-short measure [] (omega arith)))
 sorted_by measure (x ∷ xs) =
     let rest = sorted_by measure xs in
     let comes = comes_at measure rest.0 (measure x) rest.1.1 in (
       insert rest.0 comes.at x,
       (
-        IsPermutation-trans (x ∷ xs) (x ∷ rest.0) (insert rest.0 comes.at x) (IsPermutation-cons x xs rest.0 rest.1.0) (IsPermutation-insert rest.0 comes.at x),
+        IsPermutation-trans (x ∷ xs) (x ∷ rest.0) (insert rest.0 comes.at x) (IsPermutation-cons x xs rest.0 rest.1.0)
+            (IsPermutation-insert rest.0 comes.at x),
         IsNonDecreasingBy-insert measure rest.0 comes.at x rest.1.1 comes.within comes.above comes.below,
       ),
     )
@@ -98,7 +104,13 @@ sorted_by measure (x ∷ xs) =
 
 -- a cell of the table by its fields: one paragraph
 abbrev pub open_cell : Cell → Place → OpenCell
-open_cell c place = record { kind = kinds.Plain; place = place; least = 0; blocks = roll-Content (open_content.Para (paragraph_in c)) ∷ [] }
+open_cell c place = record {
+  kind = kinds.Plain;
+  place = place;
+  least = 0;
+  blocks =
+      roll-Content (open_content.Para (paragraph_in c)) ∷ [];
+}
 
 abbrev pub table_cell : Cell → Place → TableCell
 table_cell c place = roll-TableCell (open_cell c place)
@@ -110,13 +122,16 @@ placed_cells (c ∷ cells) [] = []
 placed_cells (c ∷ cells) (place ∷ places) = table_cell c place ∷ placed_cells cells places
 
 -- there are as many cells as places
-placed_length : (cells : List Cell) (places : List Place) → length cells ≡ length places → length (placed_cells cells places) ≡ length places
+placed_length : (cells : List Cell) (places : List Place) → length cells ≡ length places →
+    length (placed_cells cells places) ≡ length places
 placed_length [] places same = same
 placed_length (c ∷ cells) [] same = absurd (omega (arith, same))
-placed_length (c ∷ cells) (place ∷ places) same = let rest = placed_length cells places (omega (arith, same)) in omega (arith, rest)
+placed_length (c ∷ cells) (place ∷ places) same = let rest = placed_length cells places (omega (arith, same)) in
+    omega (arith, rest)
 
 -- each cell is at its place
-places_are : (cells : List Cell) (places : List Place) → length cells ≡ length places → map place_of (placed_cells cells places) ≡ places
+places_are : (cells : List Cell) (places : List Place) → length cells ≡ length places →
+    map place_of (placed_cells cells places) ≡ places
 places_are [] [] same = refl
 places_are [] (place ∷ places) same = absurd (omega (arith, same))
 places_are (c ∷ cells) [] same = absurd (omega (arith, same))
@@ -129,7 +144,8 @@ abbrev pub IsDrawnTableCell : TableCell → Type 0
 IsDrawnTableCell cell = (c : Cell) × (place : Place) × IsDrawnCell c × (cell ≡ table_cell c place)
 
 -- each of them was drawn
-placed_drawn : (cells : List Cell) (places : List Place) → AllByRecursion IsDrawnCell cells → AllByRecursion IsDrawnTableCell (placed_cells cells places)
+placed_drawn : (cells : List Cell) (places : List Place) → AllByRecursion IsDrawnCell cells →
+    AllByRecursion IsDrawnTableCell (placed_cells cells places)
 placed_drawn [] places all = tt
 placed_drawn (c ∷ cells) [] all = tt
 placed_drawn (c ∷ cells) (place ∷ places) all = ((c, place, all.0, refl), placed_drawn cells places all.1)
@@ -141,16 +157,20 @@ Forms node table = Becomes Words node table
 
 -- a paragraph becomes the same paragraph, as its words are not broken
 block_becomes : (units : List Atom) →
-    BecomesContent Forms Words (out-Block (roll-Block (open_block.Para units))) (out-Content (roll-Content (open_content.Para units)))
+    BecomesContent Forms Words (out-Block (roll-Block (open_block.Para units)))
+    (out-Content (roll-Content (open_content.Para units)))
 block_becomes units =
     subst (λ (b : OpenBlock). BecomesContent Forms Words b (out-Content (roll-Content (open_content.Para units))))
     (sym (out-roll-Block (open_block.Para units)))
-    (subst (λ (d : OpenContent). BecomesContent Forms Words (open_block.Para units) d) (sym (out-roll-Content (open_content.Para units))) refl)
+    (subst (λ (d : OpenContent). BecomesContent Forms Words (open_block.Para units) d)
+    (sym (out-roll-Content (open_content.Para units))) refl)
 
 -- a cell of the tree becomes the cell of the table, wherever that lies
-cell_becomes : (c : Cell) (place : Place) → BecomesCell Forms Words (out-CellNode (cell_node c)) (out-TableCell (table_cell c place))
+cell_becomes : (c : Cell) (place : Place) → BecomesCell Forms Words (out-CellNode (cell_node c))
+    (out-TableCell (table_cell c place))
 cell_becomes c place =
-    subst (λ (n : OpenCellNode). BecomesCell Forms Words n (out-TableCell (table_cell c place))) (sym (out-roll-CellNode (open_cell_node c)))
+    subst (λ (n : OpenCellNode). BecomesCell Forms Words n (out-TableCell (table_cell c place)))
+    (sym (out-roll-CellNode (open_cell_node c)))
     (subst (λ (d : OpenCell). BecomesCell Forms Words (open_cell_node c) d) (sym (out-roll-TableCell (open_cell c place)))
     (record { kind = refl; least = refl; blocks = (block_becomes (paragraph_in c), tt) }))
 
@@ -167,15 +187,18 @@ abbrev cells_in_order : List (List Cell) → List Cell
 cells_in_order rows = flat_map (λ (cells : List Cell). cells) rows
 
 -- the cells of the tree are those of the rows, in their order
-nodes_in_order : (rows : List (List Cell)) → flat_map (λ (nodes : List CellNode). nodes) (map (map cell_node) rows) ≡ map cell_node (cells_in_order rows)
+nodes_in_order : (rows : List (List Cell)) → flat_map (λ (nodes : List CellNode). nodes)
+    (map (map cell_node) rows) ≡ map cell_node (cells_in_order rows)
 nodes_in_order [] = refl
 nodes_in_order (cells ∷ rows) =
-    ap (λ (ns : List CellNode). map cell_node cells ++ ns) (nodes_in_order rows) ∙ sym (map-append cell_node cells (cells_in_order rows))
+    ap (λ (ns : List CellNode). map cell_node cells ++ ns) (nodes_in_order rows) ∙ sym
+    (map-append cell_node cells (cells_in_order rows))
 
 -- each of them was drawn
 all_in_order : (rows : List (List Cell)) → AllByRecursion IsDrawnRow rows → AllByRecursion IsDrawnCell (cells_in_order rows)
 all_in_order [] all = tt
-all_in_order (cells ∷ rows) all = AllByRecursion-append IsDrawnCell cells (cells_in_order rows) (all.0).each (all_in_order rows all.1)
+all_in_order (cells ∷ rows) all = AllByRecursion-append IsDrawnCell cells (cells_in_order rows) (all.0).each
+    (all_in_order rows all.1)
 
 -- the cells of the tree as they are written
 written_are : (rows : List (List Cell)) → cells_written (open_table_node rows) ≡ map cell_node (cells_in_order rows)
@@ -187,7 +210,8 @@ written_are rows =
 row_spans_are : (cells : List Cell) → map span_of (map cell_node cells) ≡ map span_in cells
 row_spans_are [] = refl
 row_spans_are (c ∷ cells) =
-    ap (λ (n : OpenCellNode). let s : SpanOf = record { colspan = n.colspan; rowspan = n.rowspan } in s ∷ map span_of (map cell_node cells))
+    ap (λ (n : OpenCellNode). let s : SpanOf = record { colspan = n.colspan; rowspan = n.rowspan } in
+    s ∷ map span_of (map cell_node cells))
     (out-roll-CellNode (open_cell_node c))
     ∙ ap (λ (ss : List SpanOf). span_in c ∷ ss) (row_spans_are cells)
 
@@ -200,8 +224,16 @@ spans_are (cells ∷ rows) =
 -- what the grid of the tree depends on
 shape_is : (rows : List (List Cell)) → shape_of (open_table_node rows) ≡ shape_in rows
 shape_is rows =
-    let with : List (List SpanOf) → Shape = λ spans. record { columns = 0; groups = record { foot = false; rows = spans } ∷ [] } in
-    ap (λ (g : OpenGroup). let s : Shape = record { columns = 0; groups = record { foot = is_foot g.part; rows = map (map span_of) g.rows } ∷ [] } in s)
+    let with : List (List SpanOf) → Shape = λ spans. record {
+      columns = 0;
+      groups =
+          record { foot = false; rows = spans } ∷ [];
+    } in
+    ap (λ (g : OpenGroup). let s : Shape = record {
+      columns = 0;
+      groups =
+          record { foot = is_foot g.part; rows = map (map span_of) g.rows } ∷ [];
+    } in s)
     (out-roll-GroupNode (open_group_node rows))
     ∙ ap with (spans_are rows)
 
@@ -213,7 +245,8 @@ pub record IsFormedTable (rows : List (List Cell)) (table : Table) : Type 0 wher
   pub narrow : (out-Table table).cols ≤ 6
   pub cells : All IsDrawnTableCell (out-Table table).cells
 
-module _ (rows : List (List Cell)) (all : AllByRecursion IsDrawnRow rows) (few : length rows ≤ MAX_ROWS) (sound : AreSound (outline (table_node rows))) where
+module _ (rows : List (List Cell)) (all : AllByRecursion IsDrawnRow rows) (few : length rows ≤ MAX_ROWS)
+    (sound : AreSound (outline (table_node rows))) where
   node : OpenNode
   node = out-TableNode (table_node rows)
 
@@ -257,8 +290,10 @@ module _ (rows : List (List Cell)) (all : AllByRecursion IsDrawnRow rows) (few :
   writes = record {
     more = written;
     joined = refl;
-    cells = subst (λ (ns : List CellNode). BecomeCells Forms Words ns written) (sym nodes_are) (cells_become cells places as_many);
-    placed = places_are cells places as_many ∙ sym (take_all (length written) places (omega (arith, placed_length cells places as_many)));
+    cells = subst (λ (ns : List CellNode). BecomeCells Forms Words ns written) (sym nodes_are)
+        (cells_become cells places as_many);
+    placed = places_are cells places as_many ∙ sym (take_all (length written) places
+        (omega (arith, placed_length cells places as_many)));
   }
 
   -- the cells by top, then left
@@ -283,7 +318,8 @@ module _ (rows : List (List Cell)) (all : AllByRecursion IsDrawnRow rows) (few :
 
   becomes : Becomes Words (table_node rows) table
   unfolding node open_table
-  becomes = made_table Words (table_node rows) table grid places [] written written order.0 0 (max grid.cols 0) sound has (sym no_caption) refl captioned refl
+  becomes = made_table Words (table_node rows) table grid places [] written written order.0 0 (max grid.cols 0) sound has
+      (sym no_caption) refl captioned refl
       writes refl order.1.0 order.1.1 table_is
 
   narrow : (out-Table table).cols ≤ 6

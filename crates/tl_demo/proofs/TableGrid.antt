@@ -1,6 +1,7 @@
 -- Rows of cells over at most six columns, each cell one row high, form a grid: no two cells share a slot, and it is no
 -- wider than six columns.
-use Rattle.std.proofs.Common.{◌≡◌, ℕ, zero, suc, ◌+◌, ◌-◌, ◌*◌, ◌<◌, ◌≤◌, max, Bool, true, false, ◌&&◌, ◌||◌, cond, ltb, leb, eqb, ◌⊎◌, List, [], ◌∷◌, ◌++◌}
+use Rattle.std.proofs.Common.{◌≡◌, ℕ, zero, suc, ◌+◌, ◌-◌, ◌*◌, ◌<◌, ◌≤◌, max, Bool, true, false, ◌&&◌, ◌||◌, cond, ltb, leb, eqb}
+use Rattle.std.proofs.Common.{◌⊎◌, List, [], ◌∷◌, ◌++◌}
 use Rattle.std.proofs.Common.{map, length, refl, sym, ap, ◌∙◌, subst, inl, inr, arith}
 use Rattle.std.specs.List.{AllByRecursion}
 use Rattle.std.proofs.lemmas.Bool.{cases_Bool, and_parts, and_right, leb-true, ltb-true, false_from_ne_true}
@@ -14,8 +15,9 @@ use Rattle.tl_grid.specs.declared.shape.Shape.{Shape}
 use Rattle.tl_grid.specs.declared.shape.ShapeGroup.{ShapeGroup}
 use Rattle.tl_grid.specs.declared.shape.SpanOf.{SpanOf}
 use Rattle.tl_grid.specs.Dropping.{count_below, keeps_column, keeps_row}
-use Rattle.tl_grid.specs.Form.{HasGrid, IsRefused}
-use Rattle.tl_grid.specs.Forming.{Forming, covers, has_cell, first_free, cell_at, with_cell, form_cells, grown_into, begin_row, form_row, form_rows}
+use Rattle.tl_grid.specs.Form.{HasGrid, LacksGrid}
+use Rattle.tl_grid.specs.Forming.{Forming, covers, has_cell, first_free, cell_at, with_cell, form_cells, grown_into, begin_row}
+use Rattle.tl_grid.specs.Forming.{form_row, form_rows}
 use Rattle.tl_grid.specs.Forming.{at_group_end, no_cells, formed, cells_in}
 use Rattle.tl_grid.specs.Forming as forming
 use Rattle.tl_grid.specs.Overlap.{HasNoOverlap, numbers_over, cells_over}
@@ -39,7 +41,8 @@ shape_in rows = record { columns = 0; groups = record { foot = false; rows = map
 -- ---- a cell one row high
 
 -- which slots a cell of one row covers
-covers_only : (number x y colspan x' y' : ℕ) → covers x' y' (cell_at number x y (record { colspan = colspan; rowspan = 1 })) ≡ true →
+covers_only : (number x y colspan x' y' : ℕ) →
+    covers x' y' (cell_at number x y (record { colspan = colspan; rowspan = 1 })) ≡ true →
     (x ≤ x') × (x' < x + colspan) × (y' ≡ y)
 covers_only number x y colspan x' y' is =
     let both = and_parts (leb x x' && ltb x' (x + colspan)) (leb y y' && ltb y' (y + 1)) is in
@@ -86,7 +89,8 @@ cell_with number x y colspan = cell_at number x y (record { colspan = colspan; r
 -- a slot has one cell more where the new cell covers it
 over_pushed : (x' y' : ℕ) (cells : List forming.Cell) (c : forming.Cell) →
     length (numbers_over x' y' (cells ++ c ∷ [])) ≡ length (numbers_over x' y' cells) + length (numbers_over x' y' (c ∷ []))
-over_pushed x' y' cells c = ap length (numbers-append x' y' cells (c ∷ [])) ∙ length-append (numbers_over x' y' cells) (numbers_over x' y' (c ∷ []))
+over_pushed x' y' cells c = ap length (numbers-append x' y' cells (c ∷ [])) ∙ length-append (numbers_over x' y' cells)
+    (numbers_over x' y' (c ∷ []))
 
 -- a cell that does not cover the slot adds none to it
 over_none : (x' y' : ℕ) (c : forming.Cell) → covers x' y' c ≡ false → numbers_over x' y' (c ∷ []) ≡ []
@@ -98,9 +102,11 @@ over_one x' y' c = by_test (cases_Bool (covers x' y' c))
   where
     by_test : (covers x' y' c ≡ true) ⊎ (covers x' y' c ≡ false) → length (numbers_over x' y' (c ∷ [])) ≤ 1
     by_test (inl is) =
-        let same : length (numbers_over x' y' (c ∷ [])) ≡ 1 = ap (λ cs. length (map number_of cs)) (filter_yes (covers x' y') c [] is) in
+        let same : length (numbers_over x' y' (c ∷ [])) ≡ 1 =
+        ap (λ cs. length (map number_of cs)) (filter_yes (covers x' y') c [] is) in
         omega (arith, same)
-    by_test (inr not) = let none : length (numbers_over x' y' (c ∷ [])) ≡ 0 = ap length (over_none x' y' c not) in omega (arith, none)
+    by_test (inr not) = let none : length (numbers_over x' y' (c ∷ [])) ≡ 0 = ap length (over_none x' y' c not) in
+        omega (arith, none)
 
 -- a cell in free columns shares no slot
 pushed_one : (number y x colspan : ℕ) (cells : List forming.Cell) → HasNoOverlap cells →
@@ -113,7 +119,8 @@ pushed_one number y x colspan cells one free x' y' = by_test (cases_Bool (covers
     by_test : (covers x' y' c ≡ true) ⊎ (covers x' y' c ≡ false) → length (numbers_over x' y' (cells ++ c ∷ [])) ≤ 1
     by_test (inl is) =
         let at = covers_only number x y colspan x' y' is in
-        let none : length (numbers_over x' y' cells) ≡ 0 = ap (λ row. length (numbers_over x' row cells)) at.2 ∙ ap length (free x' at.0) in
+        let none : length (numbers_over x' y' cells) ≡ 0 = ap (λ row. length (numbers_over x' row cells)) at.2 ∙ ap length
+        (free x' at.0) in
         omega (arith, over_pushed x' y' cells c, none, over_one x' y' c)
     by_test (inr not) =
         let none : length (numbers_over x' y' (c ∷ [])) ≡ 0 = ap length (over_none x' y' c not) in
@@ -122,7 +129,8 @@ pushed_one number y x colspan cells one free x' y' = by_test (cases_Bool (covers
 -- the first column from x on is free
 begins_at : (y x : ℕ) (s : Forming) → RowAt y x s → first_free (λ column. has_cell column s.row s.cells) x (s.width - x) ≡ x
 begins_at y x s state =
-    first_free_is (λ column. has_cell column s.row s.cells) (s.width - x) x x (omega arith) (omega arith) (λ x' from lt. absurd (omega (arith, from, lt)))
+    first_free_is (λ column. has_cell column s.row s.cells) (s.width - x) x x (omega arith) (omega arith)
+    (λ x' from lt. absurd (omega (arith, from, lt)))
     (ap (λ row. has_cell x row s.cells) state.row
     ∙ any_is_some (covers x y) s.cells ∙ sym (some_map number_of (cells_over x y s.cells)) ∙ ap some (state.free x (omega arith)))
 
@@ -131,7 +139,8 @@ with_one : (number y x colspan : ℕ) (s : Forming) → x + colspan ≤ 6 → Ro
     RowAt y (x + colspan) (with_cell number x (record { colspan = colspan; rowspan = 1 }) s)
 with_one number y x colspan s narrow state =
     let cells : List forming.Cell = s.cells ++ cell_with number x y colspan ∷ [] in
-    let same : s.cells ++ cell_with number x s.row colspan ∷ [] ≡ cells = ap (λ row. s.cells ++ cell_with number x row colspan ∷ []) state.row in
+    let same : s.cells ++ cell_with number x s.row colspan ∷ [] ≡ cells =
+    ap (λ row. s.cells ++ cell_with number x row colspan ∷ []) state.row in
     record {
       row = state.row;
       width = let w : max s.width (x + colspan) ≤ 6 = omega (arith, narrow, state.width) in w;
@@ -141,7 +150,8 @@ with_one number y x colspan s narrow state =
       one = subst HasNoOverlap (sym same) (pushed_one number y x colspan s.cells state.one state.free);
       free = λ x' from.
           ap (numbers_over x' y) same ∙ numbers-append x' y s.cells (cell_with number x y colspan ∷ [])
-          ∙ ap (λ (ns : List ℕ). ns ++ numbers_over x' y (cell_with number x y colspan ∷ [])) (state.free x' (omega (arith, from)))
+          ∙ ap (λ (ns : List ℕ). ns ++ numbers_over x' y (cell_with number x y colspan ∷ []))
+          (state.free x' (omega (arith, from)))
           ∙ over_none x' y (cell_with number x y colspan) (covers_none number x y colspan x' y (λ at. omega (arith, at.1, from)));
     }
 
@@ -152,7 +162,8 @@ cells_form [] number y x s narrow state = (x, state)
 cells_form (c ∷ cells) number y x s narrow state =
     let next = with_one number y x c.colspan s (omega (arith, narrow)) state in
     let rest = cells_form cells (number + 1) y (x + c.colspan) (with_cell number x (span_in c) s) (omega (arith, narrow)) next in
-    subst (λ at. (end : ℕ) × RowAt y end (form_cells (number + 1) (at + c.colspan) (map span_in cells) (with_cell number at (span_in c) s)))
+    subst (λ at. (end : ℕ) × RowAt y end (form_cells (number + 1) (at + c.colspan) (map span_in cells)
+    (with_cell number at (span_in c) s)))
     (sym (begins_at y x s state)) rest
 
 -- ---- rows
@@ -169,7 +180,8 @@ record RowsAt (y : ℕ) (s : Forming) : Type 0 where
 grown_same : (y z : ℕ) (cells : List forming.Cell) → AllQuiet z cells → map (grown_into y) cells ≡ cells
 grown_same y z [] quiet = refl
 grown_same y z (c ∷ cells) quiet =
-    ap (λ (d : forming.Cell). d ∷ map (grown_into y) cells) (one c (quiet.0).still) ∙ ap (λ (ds : List forming.Cell). c ∷ ds) (grown_same y z cells quiet.1)
+    ap (λ (d : forming.Cell). d ∷ map (grown_into y) cells) (one c (quiet.0).still) ∙ ap (λ (ds : List forming.Cell). c ∷ ds)
+    (grown_same y z cells quiet.1)
   where
     one : (d : forming.Cell) → d.grows ≡ false → grown_into y d ≡ d
     one d still = λ i. record {
@@ -212,7 +224,8 @@ row_begins y s state =
     }
 
 -- a row is formed
-row_forms : (cells : List Cell) (number y : ℕ) (s : Forming) → columns_of cells ≤ 6 → RowsAt y s → RowsAt (y + 1) (form_row number (map span_in cells) s)
+row_forms : (cells : List Cell) (number y : ℕ) (s : Forming) → columns_of cells ≤ 6 → RowsAt y s →
+    RowsAt (y + 1) (form_row number (map span_in cells) s)
 row_forms cells number y s narrow state =
     let made = cells_form cells number y 0 (begin_row s) (omega (arith, narrow)) (row_begins y s state) in
     record {
@@ -228,7 +241,8 @@ rows_form : (rows : List (List Cell)) (number y : ℕ) (s : Forming) → AllByRe
     RowsAt (y + length rows) (form_rows number (map (map span_in) rows) s)
 rows_form [] number y s all state = subst (λ n. RowsAt n s) (let e : y ≡ y + 0 = omega arith in e) state
 rows_form (cells ∷ rows) number y s all state =
-    subst (λ n. RowsAt n (form_rows number (map (map span_in) (cells ∷ rows)) s)) (let e : y + 1 + length rows ≡ y + suc (length rows) = omega arith in e)
+    subst (λ n. RowsAt n (form_rows number (map (map span_in) (cells ∷ rows)) s))
+    (let e : y + 1 + length rows ≡ y + suc (length rows) = omega arith in e)
     (rows_form rows _ (y + 1) (form_row number (map span_in cells) s) all.1 (row_forms cells number y s (all.0).narrow state))
 
 -- ---- the grid
@@ -242,7 +256,14 @@ record IsFormed (rows : ℕ) (s : Forming) : Type 0 where
 -- the rows are formed
 shape_formed : (rows : List (List Cell)) → AllByRecursion IsDrawnRow rows → IsFormed (length rows) (formed (shape_in rows))
 shape_formed rows all =
-    let start : RowsAt 0 (no_cells 0) = record { row = refl; width = omega arith; height = omega arith; low = tt; one = λ x y. omega arith } in
+    let start : RowsAt 0 (no_cells 0) = record {
+      row = refl;
+      width = omega arith;
+      height = omega arith;
+      low = tt;
+      one =
+          λ x y. omega arith;
+    } in
     let made = rows_form rows 0 0 (no_cells 0) all start in
     let last : Forming = form_rows 0 (map (map span_in) rows) (no_cells 0) in
     record {
@@ -269,7 +290,13 @@ few_in_row (c ∷ cells) all = omega (arith, some_columns c all.0, few_in_row ce
 few_cells : (rows : List (List Cell)) → AllByRecursion IsDrawnRow rows → cells_in (map (map span_in) rows) ≤ 6 * length rows
 few_cells [] all = omega arith
 few_cells (cells ∷ rows) all =
-    omega (arith, sum_by-cons length (map span_in cells) (map (map span_in) rows), few_in_row cells (all.0).each, (all.0).narrow, few_cells rows all.1)
+    omega (
+      arith,
+      sum_by-cons length (map span_in cells) (map (map span_in) rows),
+      few_in_row cells (all.0).each,
+      (all.0).narrow,
+      few_cells rows all.1,
+    )
 
 -- the spans are in their ranges
 row_spans : (cells : List Cell) → AllByRecursion IsDrawnCell cells → AllByRecursion IsSpan (map span_in cells)
@@ -280,15 +307,18 @@ row_spans (c ∷ cells) all = ((some_columns c all.0, by_colspan (all.0).colspan
     by_colspan (inl one) = omega (arith, one)
     by_colspan (inr two) = omega (arith, two)
 
-all_spans : (rows : List (List Cell)) → AllByRecursion IsDrawnRow rows → AllByRecursion (AllByRecursion IsSpan) (map (map span_in) rows)
+all_spans : (rows : List (List Cell)) → AllByRecursion IsDrawnRow rows →
+    AllByRecursion (AllByRecursion IsSpan) (map (map span_in) rows)
 all_spans [] all = tt
 all_spans (cells ∷ rows) all = (row_spans cells (all.0).each, all_spans rows all.1)
 
 -- no grid of drawn rows is refused
-not_refused : (rows : List (List Cell)) → AllByRecursion IsDrawnRow rows → length rows ≤ MAX_ROWS → (error : GridError) → IsRefused (shape_in rows) error → ⊥
+not_refused : (rows : List (List Cell)) → AllByRecursion IsDrawnRow rows → length rows ≤ MAX_ROWS → (error : GridError) →
+    LacksGrid (shape_in rows) error → ⊥
 not_refused rows all few (Memory error) refused = refused
 not_refused rows all few (TooManyCells count) refused =
-    let one = sum_by-cons (λ (group : ShapeGroup). cells_in group.rows) (record { foot = false; rows = map (map span_in) rows }) [] in
+    let one = sum_by-cons (λ (group : ShapeGroup). cells_in group.rows) (record { foot = false; rows = map (map span_in) rows })
+    [] in
     omega (arith, refused.counted, refused.many, few_cells rows all, few, one)
 not_refused rows all few (Overlap first second x y) refused =
     let made = shape_formed rows all in
@@ -297,24 +327,43 @@ not_refused rows all few (Overlap first second x y) refused =
     omega (arith, long, made.one x y)
 not_refused rows all few (TooManyColumns count) refused =
     let made = shape_formed rows all in
-    omega (arith, refused.counted, refused.many, made.width, count_below-le (keeps_column (formed (shape_in rows)).cells) (formed (shape_in rows)).width)
+    omega (
+      arith,
+      refused.counted,
+      refused.many,
+      made.width,
+      count_below-le (keeps_column (formed (shape_in rows)).cells) (formed (shape_in rows)).width,
+    )
 not_refused rows all few (TooManyRows count) refused =
     let made = shape_formed rows all in
-    omega (arith, refused.counted, refused.many, made.height, few, count_below-le (keeps_row (formed (shape_in rows)).cells) (formed (shape_in rows)).height)
+    omega (
+      arith,
+      refused.counted,
+      refused.many,
+      made.height,
+      few,
+      count_below-le (keeps_row (formed (shape_in rows)).cells) (formed (shape_in rows)).height,
+    )
 
 -- the rows have a grid, of at most six columns
 pub has_grid : (rows : List (List Cell)) → AllByRecursion IsDrawnRow rows → length rows ≤ MAX_ROWS →
     (grid : Grid) × (HasGrid (shape_in rows) grid × (grid.cols ≤ 6))
 has_grid rows all few = from (decided (shape_in rows) (all_spans rows all, tt))
   where
-    from : ((grid : Grid) × HasGrid (shape_in rows) grid) ⊎ ((error : GridError) × IsRefused (shape_in rows) error) →
+    from : ((grid : Grid) × HasGrid (shape_in rows) grid) ⊎ ((error : GridError) × LacksGrid (shape_in rows) error) →
         (grid : Grid) × (HasGrid (shape_in rows) grid × (grid.cols ≤ 6))
     from (inl found) = (
       found.0,
       (
         found.1,
         (let made = shape_formed rows all in
-            omega (arith, found.1.columns, made.width, count_below-le (keeps_column (formed (shape_in rows)).cells) (formed (shape_in rows)).width)),
+            omega (
+              arith,
+              found.1.columns,
+              made.width,
+              count_below-le (keeps_column (formed (shape_in rows)).cells)
+                  (formed (shape_in rows)).width,
+            )),
       ),
     )
     from (inr refused) = absurd (not_refused rows all few refused.0 refused.1)

@@ -1,5 +1,6 @@
 -- The text of a table as tags, each with the text up to the next tag.
-use Rattle.std.proofs.Common.{◌≡◌, ℕ, zero, suc, ◌*◌, ◌<◌, ◌≤◌, ◌==◌, ltb, Bool, true, false, ◌⊎◌, List, [], ◌∷◌, ◌++◌, map, length, codes}
+use Rattle.std.proofs.Common.{◌≡◌, ℕ, zero, suc, ◌*◌, ◌<◌, ◌≤◌, ◌==◌, ltb, Bool, true, false, ◌⊎◌, List, [], ◌∷◌, ◌++◌, map}
+use Rattle.std.proofs.Common.{length, codes}
 use Rattle.std.proofs.Common.{refl, sym, ap, ◌∙◌, subst, inl, inr, arith}
 use Rattle.std.specs.Prelude.{if◌then◌else◌}
 use Rattle.std.specs.List.{AllByRecursion, flat_map}
@@ -20,7 +21,7 @@ use Rattle.tl_token.specs.Spelling.{SpellsTokens, without_mark}
 use Rattle.tl_token.specs.declared.token.Element.TheVariants as elements
 use Rattle.tl_token.specs.declared.token.Token.{Token}
 use Rattle.tl_html.specs.Html.{escaped}
-use Rattle.tl_html.specs.inner.Ascii.{is_ascii}
+use Rattle.tl_base.specs.Text.{is_ascii}
 use Rattle.tl_html.proofs.Items.{Item, item_text, items_text, item_kinds, IsItem, IsTagText, AreFine, kind_of, items_spelt}
 use Rattle.tl_html.proofs.PageTags.{numbers, plain_start, table_start, table_end, row_start}
 use Rattle.tl_demo.specs.Demo.{Cell, word_text, words_text, tag_text, cell_text, row_text, rows_text, demo_rows, demo_text_of}
@@ -47,12 +48,14 @@ next_letters (n ∷ lengths) =
 pub words_letters : (lengths : List ℕ) → AllByRecursion IsLetterOrSpace (words_text lengths)
 words_letters [] = tt
 words_letters (n ∷ lengths) =
-    AllByRecursion-append IsLetterOrSpace (word_text n) (flat_map (λ m. codes " " ++ word_text m) lengths) (letters n) (next_letters lengths)
+    AllByRecursion-append IsLetterOrSpace (word_text n) (flat_map (λ m. codes " " ++ word_text m) lengths) (letters n)
+    (next_letters lengths)
 
 -- a text of letters and spaces is written as it is
 unescaped : (text : List ℕ) → AllByRecursion IsLetterOrSpace text → flat_map escaped text ≡ text
 unescaped [] all = refl
-unescaped (c ∷ text) all = ap (λ cs. cs ++ flat_map escaped text) (one c all.0) ∙ ap (λ (cs : List ℕ). c ∷ cs) (unescaped text all.1)
+unescaped (c ∷ text) all = ap (λ cs. cs ++ flat_map escaped text) (one c all.0) ∙ ap (λ (cs : List ℕ). c ∷ cs)
+    (unescaped text all.1)
   where
     one : (d : ℕ) → IsLetterOrSpace d → escaped d ≡ d ∷ []
     one d (inl is) = subst (λ e. escaped e ≡ e ∷ []) (sym is) refl
@@ -72,7 +75,12 @@ fine (c ∷ text) all = (one c all.0, fine text all.1)
 -- the tag of a cell over two columns, whose colspan has no quotes
 wide_start : IsTagText (codes "<td colspan=2>") false elements.Td (numbers 2 1 0)
 wide_start rest =
-    markup elements.Td (record { is_end = false; name = codes "td"; attributes = record { name = codes "colspan"; value = codes "2" } ∷ [] })
+    markup elements.Td (record {
+      is_end = false;
+      name = codes "td";
+      attributes =
+          record { name = codes "colspan"; value = codes "2" } ∷ [];
+    })
     (record {
       following = codes " colspan=2>" ++ rest;
       spelled = refl;
@@ -127,11 +135,16 @@ cells_are (cell ∷ cells) all =
 rows_are : (rows : List (List Cell)) → AllByRecursion IsDrawnRow rows → AllByRecursion IsItem (flat_map row_items rows)
 rows_are [] all = tt
 rows_are (cells ∷ rows) all =
-    AllByRecursion-append IsItem (row_items cells) (flat_map row_items rows) ((row_start, tt), cells_are cells (all.0).each) (rows_are rows all.1)
+    AllByRecursion-append IsItem (row_items cells) (flat_map row_items rows) ((row_start, tt), cells_are cells (all.0).each)
+    (rows_are rows all.1)
 
 -- the items of a table are tags with fine texts
 items_are : (rows : List (List Cell)) → AllByRecursion IsDrawnRow rows → AllByRecursion IsItem (table_items rows)
-items_are rows all = ((table_start, tt), AllByRecursion-append IsItem (flat_map row_items rows) (last_item ∷ []) (rows_are rows all) ((table_end, tt), tt))
+items_are rows all = (
+  (table_start, tt),
+  AllByRecursion-append IsItem (flat_map row_items rows) (last_item ∷ [])
+      (rows_are rows all) ((table_end, tt), tt),
+)
 
 -- ---- their text
 
@@ -139,7 +152,8 @@ items_are rows all = ((table_start, tt), AllByRecursion-append IsItem (flat_map 
 cells_written : (cells : List Cell) → flat_map cell_text cells ≡ items_text (map cell_item cells)
 cells_written [] = refl
 cells_written (cell ∷ cells) =
-    ap (λ (cs : List ℕ). tag_text cell.colspan ++ cs ++ flat_map cell_text cells) (sym (unescaped (words_text cell.words) (words_letters cell.words)))
+    ap (λ (cs : List ℕ). tag_text cell.colspan ++ cs ++ flat_map cell_text cells)
+    (sym (unescaped (words_text cell.words) (words_letters cell.words)))
     ∙ ap (λ (cs : List ℕ). item_text (cell_item cell) ++ cs) (cells_written cells)
 
 rows_written : (rows : List (List Cell)) → flat_map row_text rows ≡ items_text (flat_map row_items rows)
@@ -194,13 +208,15 @@ rows_ascii : (rows : List (List Cell)) → AllByRecursion IsByte (flat_map row_t
 rows_ascii [] = tt
 rows_ascii (cells ∷ rows) =
     AllByRecursion-append IsByte (row_text cells) (flat_map row_text rows)
-    (AllByRecursion-append IsByte (codes "<tr>") (flat_map cell_text cells) (recursion_from_test (codes "<tr>") refl) (cells_ascii cells)) (rows_ascii rows)
+    (AllByRecursion-append IsByte (codes "<tr>") (flat_map cell_text cells) (recursion_from_test (codes "<tr>") refl)
+    (cells_ascii cells)) (rows_ascii rows)
 
 -- the text of a table is ASCII
 text_ascii : (rows : List (List Cell)) → IsAscii (rows_text rows)
 text_ascii rows = IsAscii-from_all (rows_text rows) (All-from_recursion IsByte (rows_text rows)
     (AllByRecursion-append IsByte (codes "<table>" ++ flat_map row_text rows) (codes "</table>")
-    (AllByRecursion-append IsByte (codes "<table>") (flat_map row_text rows) (recursion_from_test (codes "<table>") refl) (rows_ascii rows))
+    (AllByRecursion-append IsByte (codes "<table>") (flat_map row_text rows) (recursion_from_test (codes "<table>") refl)
+    (rows_ascii rows))
     (recursion_from_test (codes "</table>") refl)))
 
 -- ---- its length
@@ -286,7 +302,8 @@ demo_items number = table_items (demo_rows number)
 
 -- the text spells the tokens of its tags
 pub demo_tokens : (number : ℕ) →
-    (tokens : List Token) × (SpellsTokens (demo_text_of number) tokens × (map kind_of tokens ≡ flat_map item_kinds (demo_items number)))
+    (tokens : List Token) × (SpellsTokens (demo_text_of number) tokens ×
+    (map kind_of tokens ≡ flat_map item_kinds (demo_items number)))
 unfolding demo_text_of
 demo_tokens number =
     let rows = demo_rows number in

@@ -1,5 +1,6 @@
 -- The tree of a table is sound: one table, with words without control characters.
-use Rattle.std.proofs.Common.{◌≡◌, ◌∙◌, ℕ, zero, suc, ◌+◌, ◌*◌, ◌≤◌, ◌⊎◌, false, List, [], ◌∷◌, map, length, refl, sym, ap, subst, inl, inr, arith, sum_by}
+use Rattle.std.proofs.Common.{◌≡◌, ◌∙◌, ℕ, zero, suc, ◌+◌, ◌*◌, ◌≤◌, ◌⊎◌, false, List, [], ◌∷◌, map, length, refl, sym, ap, subst}
+use Rattle.std.proofs.Common.{inl, inr, arith, sum_by}
 use Rattle.std.specs.List.{AllByRecursion, list_any}
 use Rattle.std.specs.Str.{IsAscii}
 use Rattle.std.proofs.lemmas.List.{length-map}
@@ -17,7 +18,8 @@ use Rattle.tl_text.specs.Paragraph.{IsParagraph, atom_size}
 use Rattle.tl_text.proofs.WordParagraphs.{words_are_paragraph}
 use Rattle.tl_tree.specs.Outline.{Entries, cell, row, group, columns, paragraph}
 use Rattle.tl_tree.specs.Outline as entries
-use Rattle.tl_tree.specs.Sound.{IsNumberedFrom, table_count, IsNestedBelow, IsPlainAtom, IsCellInRange, IsInRange, entry_size, AreSound, IsSound}
+use Rattle.tl_tree.specs.Sound.{IsNumberedFrom, table_count, IsNestedBelow, IsPlainAtom, IsCellInRange, IsInRange, entry_size}
+use Rattle.tl_tree.specs.Sound.{AreSound, IsSound}
 use Rattle.tl_tree.specs.declared.node.Part.TheVariants as parts
 use Rattle.tl_demo.specs.Demo.{Cell, word_text, words_text}
 use Rattle.tl_demo.proofs.DrawnRows.{IsWordLength, IsDrawnCell, IsDrawnRow, columns_of, some_columns}
@@ -26,12 +28,14 @@ use Rattle.tl_demo.proofs.TableTree.{paragraph_in, words_are, cells_listed, rows
 
 -- ---- one table
 
-cells_numbered : (k : ℕ) (cells : List Cell) (later : Entries) → IsNumberedFrom k later → IsNumberedFrom k (cells_listed cells later)
+cells_numbered : (k : ℕ) (cells : List Cell) (later : Entries) → IsNumberedFrom k later →
+    IsNumberedFrom k (cells_listed cells later)
 cells_numbered k [] later is = is
 cells_numbered k (c ∷ cells) later is = cells_numbered k cells later is
 
 -- no table is nested in a row, so the numbers stay as they are
-rows_numbered : (k : ℕ) (rows : List (List Cell)) (later : Entries) → IsNumberedFrom k later → IsNumberedFrom k (rows_listed rows later)
+rows_numbered : (k : ℕ) (rows : List (List Cell)) (later : Entries) → IsNumberedFrom k later →
+    IsNumberedFrom k (rows_listed rows later)
 rows_numbered k [] later is = is
 rows_numbered k (cells ∷ rows) later is = cells_numbered k cells (rows_listed rows later) (rows_numbered k rows later is)
 
@@ -44,14 +48,17 @@ rows_count : (rows : List (List Cell)) (later : Entries) → table_count (rows_l
 rows_count [] later = refl
 rows_count (cells ∷ rows) later = cells_count cells (rows_listed rows later) ∙ rows_count rows later
 
-cells_nested : (most depth : ℕ) (cells : List Cell) (later : Entries) → IsNestedBelow most depth later → IsNestedBelow most depth (cells_listed cells later)
+cells_nested : (most depth : ℕ) (cells : List Cell) (later : Entries) → IsNestedBelow most depth later →
+    IsNestedBelow most depth (cells_listed cells later)
 cells_nested most depth [] later is = is
 cells_nested most depth (c ∷ cells) later is = cells_nested most depth cells later is
 
 -- no table is nested in a row, so tables stand as deep as before
-rows_nested : (most depth : ℕ) (rows : List (List Cell)) (later : Entries) → IsNestedBelow most depth later → IsNestedBelow most depth (rows_listed rows later)
+rows_nested : (most depth : ℕ) (rows : List (List Cell)) (later : Entries) → IsNestedBelow most depth later →
+    IsNestedBelow most depth (rows_listed rows later)
 rows_nested most depth [] later is = is
-rows_nested most depth (cells ∷ rows) later is = cells_nested most depth cells (rows_listed rows later) (rows_nested most depth rows later is)
+rows_nested most depth (cells ∷ rows) later is = cells_nested most depth cells (rows_listed rows later)
+    (rows_nested most depth rows later is)
 
 -- ---- its paragraphs
 
@@ -70,18 +77,27 @@ word_bytes zero = refl
 word_bytes (suc n) = omega (arith, byte_count-cons 0x61 (word_text n), word_bytes n)
 
 -- eight bytes at most for each word
-few_bytes : (lengths : List ℕ) → AllByRecursion IsWordLength lengths → sum_by atom_size (map Word (map word_text lengths)) ≤ 8 * length lengths
+few_bytes : (lengths : List ℕ) → AllByRecursion IsWordLength lengths →
+    sum_by atom_size (map Word (map word_text lengths)) ≤ 8 * length lengths
 few_bytes [] all = omega arith
 few_bytes (n ∷ lengths) all =
-    omega (arith, sum_by-cons atom_size (Word (word_text n)) (map Word (map word_text lengths)), word_bytes n, (all.0).1, few_bytes lengths all.1)
+    omega (
+      arith,
+      sum_by-cons atom_size (Word (word_text n)) (map Word (map word_text lengths)),
+      word_bytes n,
+      (all.0).1,
+      few_bytes lengths all.1,
+    )
 
 -- the words of a cell are a paragraph
 is_paragraph : (c : Cell) → IsDrawnCell c → IsParagraph (paragraph_in c)
 is_paragraph c is =
     let text = words_text c.words in
     let same = words_are c.words is.words in
-    let ascii : IsAscii text = IsAscii-from_all text (All-from_recursion IsByte text (letters_ascii text (words_letters c.words))) in
-    let bytes : byte_count text ≡ length text = ap byte_count (sym (chars-IsAscii text ascii)) ∙ byte_count-chars text (IsUtf8-from_ascii text ascii) in
+    let ascii : IsAscii text =
+    IsAscii-from_all text (All-from_recursion IsByte text (letters_ascii text (words_letters c.words))) in
+    let bytes : byte_count text ≡ length text = ap byte_count (sym (chars-IsAscii text ascii)) ∙ byte_count-chars text
+    (IsUtf8-from_ascii text ascii) in
     subst (λ (ws : List (List ℕ)). IsParagraph (map Word ws)) same
     (words_are_paragraph text (omega (arith, bytes, words_length c.words is.words, is.few))
     (omega (arith, ap length same, length-map c.words word_text, is.some)))
@@ -104,14 +120,20 @@ cell_in_range c is = record {
 cells_in_range : (cells : List Cell) (later : Entries) → AllByRecursion IsDrawnCell cells → AllByRecursion IsInRange later →
     AllByRecursion IsInRange (cells_listed cells later)
 cells_in_range [] later all is = is
-cells_in_range (c ∷ cells) later all is =
-    (cell_in_range c all.0, (record { is_paragraph = is_paragraph c all.0; plain = all_plain c.words }, cells_in_range cells later all.1 is))
+cells_in_range (c ∷ cells) later all is = (
+  cell_in_range c all.0,
+  (
+    record { is_paragraph = is_paragraph c all.0; plain = all_plain c.words },
+    cells_in_range cells later all.1 is,
+  ),
+)
 
 -- all that stands in the rows is in its range
 rows_in_range : (rows : List (List Cell)) (later : Entries) → AllByRecursion IsDrawnRow rows → AllByRecursion IsInRange later →
     AllByRecursion IsInRange (rows_listed rows later)
 rows_in_range [] later all is = is
-rows_in_range (cells ∷ rows) later all is = (tt, cells_in_range cells (rows_listed rows later) (all.0).each (rows_in_range rows later all.1 is))
+rows_in_range (cells ∷ rows) later all is =
+    (tt, cells_in_range cells (rows_listed rows later) (all.0).each (rows_in_range rows later all.1 is))
 
 -- a cell counts 1, and the bytes of its words
 cells_size : (cells : List Cell) (later : Entries) → AllByRecursion IsDrawnCell cells →

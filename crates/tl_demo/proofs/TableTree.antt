@@ -9,14 +9,16 @@ use Rattle.tl_text.specs.declared.paragraph.Atom.TheVariants.{Word}
 use Rattle.tl_text.specs.Words.{has_character, words_of}
 use Rattle.tl_text.proofs.WordLemmas.{words_from, words_from-start, words_from-letter, words_from-white, words_from-end}
 use Rattle.tl_token.specs.declared.token.Token.{Token}
-use Rattle.tl_tree.specs.Grammar.{Marks, Cells, Rows, Document, character, no_flow, no_cell, no_row, no_space, no_caption, no_columns, no_part}
+use Rattle.tl_tree.specs.Grammar.{Marks, Cells, Rows, Document, character, no_flow, no_cell, no_row, no_space, no_caption}
+use Rattle.tl_tree.specs.Grammar.{no_columns, no_part}
 use Rattle.tl_tree.specs.Grammar.{left_out, loose_rows, no_outer}
 use Rattle.tl_tree.specs.Grammar as grammar
 use Rattle.tl_tree.specs.Outline.{Entries, cell, row, group, columns, paragraph, cell_outline, group_outline, outline}
 use Rattle.tl_tree.specs.Outline as entries
 use Rattle.tl_tree.specs.Paragraphs.{leading, first_text, after_breaks, atoms_of, paragraph_of, entries_after, entries_of}
 use Rattle.tl_tree.specs.Spelling.{SpellsTree, FitLimits, IsWithinLimits}
-use Rattle.tl_tree.specs.Tags.{Kinds, class_of, kinds, is_white, is_row_start, begins_with, table_start, table_end, row_start, cell_start}
+use Rattle.tl_tree.specs.Tags.{Kinds, class_of, kinds, is_white, is_row_start, begins_with, table_start, table_end, row_start}
+use Rattle.tl_tree.specs.Tags.{cell_start}
 use Rattle.tl_tree.specs.declared.node.Block.{roll-Block}
 use Rattle.tl_tree.specs.declared.node.Block.TheOpen as open_block
 use Rattle.tl_tree.specs.declared.node.CellNode.{CellNode, roll-CellNode}
@@ -25,8 +27,8 @@ use Rattle.tl_tree.specs.declared.node.Part.TheVariants as parts
 use Rattle.tl_tree.specs.declared.node.TableNode.{TableNode, roll-TableNode}
 use Rattle.tl_tree.proofs.Outlines.{paragraph_made, cell_made, group_made, table_made}
 use Rattle.tl_tree.proofs.Adds.{after-text}
-use Rattle.tl_tree.specs.inner.Reading.{row_outline}
-use Rattle.tl_form.specs.Formed.{OpenNode, OpenGroup, OpenCellNode}
+use Rattle.tl_tree.specs.Outline.{row_outline}
+use Rattle.tl_table.specs.Formed.{OpenNode, OpenGroup, OpenCellNode}
 use Rattle.tl_html.proofs.Items.{Item, item_kinds, text_kinds, kind_of}
 use Rattle.tl_html.proofs.PageTags.{numbers}
 use Rattle.tl_html.proofs.PageWords.{grammar_kinds, kinds_cons, text_goes, ends_sharp, IsSharp}
@@ -49,13 +51,15 @@ rows_kinds (cells ∷ rows) later = row_start ∷ cells_kinds cells (rows_kinds 
 abbrev pub table_kinds : List (List Cell) → Kinds
 table_kinds rows = table_start ∷ rows_kinds rows (table_end ∷ [])
 
-cells_kinds_are : (cells : List Cell) (items : List Item) → grammar_kinds (map cell_item cells ++ items) ≡ cells_kinds cells (grammar_kinds items)
+cells_kinds_are : (cells : List Cell) (items : List Item) → grammar_kinds (map cell_item cells ++ items) ≡ cells_kinds cells
+    (grammar_kinds items)
 cells_kinds_are [] items = refl
 cells_kinds_are (c ∷ cells) items =
     kinds_cons (cell_item c) (map cell_item cells ++ items)
     ∙ ap (λ (ks : Kinds). map class_of (item_kinds (cell_item c)) ++ ks) (cells_kinds_are cells items)
 
-rows_kinds_are : (rows : List (List Cell)) (items : List Item) → grammar_kinds (flat_map row_items rows ++ items) ≡ rows_kinds rows (grammar_kinds items)
+rows_kinds_are : (rows : List (List Cell)) (items : List Item) →
+    grammar_kinds (flat_map row_items rows ++ items) ≡ rows_kinds rows (grammar_kinds items)
 rows_kinds_are [] items = refl
 rows_kinds_are (cells ∷ rows) items =
     ap (λ (xs : List Item). grammar_kinds (row_item ∷ xs)) (append_assoc (map cell_item cells) (flat_map row_items rows) items)
@@ -72,7 +76,8 @@ table_kinds_are rows = ap (λ (ks : Kinds). table_start ∷ ks) (rows_kinds_are 
 abbrev cells_marks : List Cell → Marks → Marks
 cells_marks [] later = later
 cells_marks (c ∷ cells) later =
-    grammar.cell_begins false (numbers c.colspan 1 0) ∷ (map character (words_text c.words) ++ grammar.paragraph_ends ∷ cells_marks cells later)
+    grammar.cell_begins false (numbers c.colspan 1 0) ∷ (map character
+    (words_text c.words) ++ grammar.paragraph_ends ∷ cells_marks cells later)
 
 abbrev rows_marks : List (List Cell) → Marks → Marks
 rows_marks [] later = later
@@ -83,11 +88,13 @@ table_marks rows =
     grammar.table_begins ∷ grammar.columns 0 ∷ grammar.group_begins parts.Loose ∷ rows_marks rows (grammar.table_ends ∷ [])
 
 -- a tag follows a cell, so its end tag may be left out
-cells_tagged : (cells : List Cell) (later : Kinds) → begins_with is_white later ≡ false → begins_with is_white (cells_kinds cells later) ≡ false
+cells_tagged : (cells : List Cell) (later : Kinds) → begins_with is_white later ≡ false →
+    begins_with is_white (cells_kinds cells later) ≡ false
 cells_tagged [] later tagged = tagged
 cells_tagged (c ∷ cells) later tagged = refl
 
-rows_tagged : (rows : List (List Cell)) (later : Kinds) → begins_with is_white later ≡ false → begins_with is_white (rows_kinds rows later) ≡ false
+rows_tagged : (rows : List (List Cell)) (later : Kinds) → begins_with is_white later ≡ false →
+    begins_with is_white (rows_kinds rows later) ≡ false
 rows_tagged [] later tagged = tagged
 rows_tagged (cells ∷ rows) later tagged = refl
 
@@ -98,15 +105,18 @@ cells_read [] later m tagged = no_cell
 cells_read (c ∷ cells) later m tagged =
     let ks = cells_kinds cells later in
     let ms : Marks = grammar.paragraph_ends ∷ cells_marks cells m in
-    grammar.cell (text_goes (words_text c.words) ks ks ms ms no_flow) (left_out (cells_tagged cells later tagged)) (cells_read cells later m tagged)
+    grammar.cell (text_goes (words_text c.words) ks ks ms ms no_flow) (left_out (cells_tagged cells later tagged))
+    (cells_read cells later m tagged)
 
 -- the grammar reads the rows of a table
-rows_read : (rows : List (List Cell)) (later : Kinds) (m : Marks) → begins_with is_white later ≡ false → begins_with is_row_start later ≡ false →
+rows_read : (rows : List (List Cell)) (later : Kinds) (m : Marks) → begins_with is_white later ≡ false →
+    begins_with is_row_start later ≡ false →
     Rows (rows_kinds rows later) (rows_marks rows m) later m
 rows_read [] later m tagged ended = no_row ended
 rows_read (cells ∷ rows) later m tagged ended =
     let begun = rows_tagged rows later tagged in
-    grammar.row no_space (cells_read cells (rows_kinds rows later) (rows_marks rows m) begun) (left_out begun) (rows_read rows later m tagged ended)
+    grammar.row no_space (cells_read cells (rows_kinds rows later) (rows_marks rows m) begun) (left_out begun)
+    (rows_read rows later m tagged ended)
 
 -- the grammar reads the table, which is the whole document
 table_read : (rows : List (List Cell)) → 0 < length rows → Document (table_kinds rows) (table_marks rows)
@@ -128,12 +138,14 @@ text_within : (depth tables : ℕ) (text : List ℕ) (later : Kinds) → FitLimi
 text_within depth tables [] later fit = fit
 text_within depth tables (c ∷ text) later fit = (tt, fit)
 
-cells_within : (depth tables : ℕ) (cells : List Cell) (later : Kinds) → FitLimits depth tables later → FitLimits depth tables (cells_kinds cells later)
+cells_within : (depth tables : ℕ) (cells : List Cell) (later : Kinds) → FitLimits depth tables later →
+    FitLimits depth tables (cells_kinds cells later)
 cells_within depth tables [] later fit = fit
 cells_within depth tables (c ∷ cells) later fit =
     (tt, text_within depth tables (words_text c.words) (cells_kinds cells later) (cells_within depth tables cells later fit))
 
-rows_within : (depth tables : ℕ) (rows : List (List Cell)) (later : Kinds) → FitLimits depth tables later → FitLimits depth tables (rows_kinds rows later)
+rows_within : (depth tables : ℕ) (rows : List (List Cell)) (later : Kinds) → FitLimits depth tables later →
+    FitLimits depth tables (rows_kinds rows later)
 rows_within depth tables [] later fit = fit
 rows_within depth tables (cells ∷ rows) later fit =
     (tt, cells_within depth tables cells (rows_kinds rows later) (rows_within depth tables rows later fit))
@@ -145,7 +157,8 @@ table_within rows = ((omega arith, omega arith), rows_within 1 1 rows (table_end
 -- ---- the words of a text
 
 -- letters join the open word
-words_from-word : (word : List ℕ) (n : ℕ) (rest : List ℕ) → words_from word (word_text n ++ rest) ≡ words_from (word ++ word_text n) rest
+words_from-word : (word : List ℕ) (n : ℕ) (rest : List ℕ) → words_from word (word_text n ++ rest) ≡ words_from
+    (word ++ word_text n) rest
 words_from-word word zero rest = ap (λ (w : List ℕ). words_from w rest) (sym (append-nil word))
 words_from-word word (suc n) rest =
     words_from-letter word (word_text n ++ rest) 0x61 refl
@@ -172,7 +185,8 @@ pub words_are : (lengths : List ℕ) → AllByRecursion IsWordLength lengths →
 words_are [] all = refl
 words_are (n ∷ lengths) all =
     let rest = flat_map (λ m. codes " " ++ word_text m) lengths in
-    sym (words_from-start (word_text n ++ rest)) ∙ words_from-word [] n rest ∙ words_spaced (word_text n) lengths (has_letters n (all.0).0) all.1
+    sym (words_from-start (word_text n ++ rest)) ∙ words_from-word [] n rest ∙ words_spaced (word_text n) lengths
+    (has_letters n (all.0).0) all.1
 
 -- the paragraph of a cell
 abbrev pub paragraph_in : Cell → List Atom
@@ -239,7 +253,8 @@ text_leads (c ∷ text) later = ap (λ (ms : Marks). character c ∷ ms) (text_l
 one_paragraph : (c : Cell) → 1 ≤ length c.words → paragraph_of (paragraph_in c) ≡ paragraph (paragraph_in c) ∷ []
 one_paragraph c some = by_words c.words some
   where
-    by_words : (lengths : List ℕ) → 1 ≤ length lengths → paragraph_of (map Word (map word_text lengths)) ≡ paragraph (map Word (map word_text lengths)) ∷ []
+    by_words : (lengths : List ℕ) → 1 ≤ length lengths → paragraph_of (map Word (map word_text lengths)) ≡ paragraph
+        (map Word (map word_text lengths)) ∷ []
     by_words [] none = absurd (omega (arith, none))
     by_words (n ∷ lengths) more = refl
 
@@ -260,9 +275,12 @@ cells_entries k (c ∷ cells) later sharp all =
     let text = words_text c.words in
     let ms = cells_marks cells later in
     let start : Entries → Entries = λ es. cell false c.colspan 1 0 ∷ es in
-    ap (λ (m : Marks). start (paragraph_of (atoms_of m) ++ entries_after k (map character text ++ grammar.paragraph_ends ∷ ms))) (text_leads text ms)
-    ∙ ap (λ (l : List Atom). start (paragraph_of l ++ entries_after k (map character text ++ grammar.paragraph_ends ∷ ms))) (atoms_are c (all.0).words)
-    ∙ ap (λ (es : Entries). start (es ++ entries_after k (map character text ++ grammar.paragraph_ends ∷ ms))) (one_paragraph c (all.0).some)
+    ap (λ (m : Marks). start (paragraph_of (atoms_of m) ++ entries_after k (map character text ++ grammar.paragraph_ends ∷ ms)))
+    (text_leads text ms)
+    ∙ ap (λ (l : List Atom). start (paragraph_of l ++ entries_after k (map character text ++ grammar.paragraph_ends ∷ ms)))
+    (atoms_are c (all.0).words)
+    ∙ ap (λ (es : Entries). start (es ++ entries_after k (map character text ++ grammar.paragraph_ends ∷ ms)))
+    (one_paragraph c (all.0).some)
     ∙ ap (λ (es : Entries). start (paragraph (paragraph_in c) ∷ es)) (after-text k text (grammar.paragraph_ends ∷ ms)
     ∙ ends_sharp k ms (cells_sharp cells later sharp) ∙ cells_entries k cells later sharp all.1)
     ∙ ap (λ (es : Entries). es ++ (flat_map cell_outline (map cell_node cells) ++ entries_after k later)) (sym (cell_outlined c))
@@ -278,27 +296,32 @@ rows_entries k (cells ∷ rows) later sharp all =
     ap (λ (m : Marks). row ∷ (paragraph_of (atoms_of m) ++ entries_after k (cells_marks cells ms))) here
     ∙ ap (λ (es : Entries). row ∷ es) (cells_entries k cells ms (rows_sharp rows later sharp) (all.0).each
     ∙ ap (λ (es : Entries). flat_map cell_outline (map cell_node cells) ++ es) (rows_entries k rows later sharp all.1)
-    ∙ sym (append_assoc (flat_map cell_outline (map cell_node cells)) (flat_map row_outline (map (map cell_node) rows)) (entries_after k later)))
+    ∙ sym (append_assoc (flat_map cell_outline (map cell_node cells)) (flat_map row_outline (map (map cell_node) rows))
+    (entries_after k later)))
 
 -- what stands in the tree
 outline_is : (rows : List (List Cell)) → outline (table_node rows)
-    ≡ entries.table 0 ∷ columns 0 ∷ group parts.Loose ∷ (flat_map row_outline (map (map cell_node) rows) ++ entries.table_end ∷ [])
+    ≡ entries.table 0 ∷ columns 0 ∷ group parts.Loose ∷ (flat_map row_outline
+    (map (map cell_node) rows) ++ entries.table_end ∷ [])
 outline_is rows =
     table_made 0 None 0 (roll-GroupNode (open_group_node rows) ∷ [])
     ∙ ap (λ (es : Entries). entries.table 0 ∷ columns 0 ∷ (es ++ entries.table_end ∷ []))
     (append-nil (group_outline (roll-GroupNode (open_group_node rows))) ∙ group_made (open_group_node rows))
 
 -- the outline of the tree is that of the marks
-table_outlined : (rows : List (List Cell)) → AllByRecursion IsDrawnRow rows → outline (table_node rows) ≡ entries_of 0 (table_marks rows)
+table_outlined : (rows : List (List Cell)) → AllByRecursion IsDrawnRow rows →
+    outline (table_node rows) ≡ entries_of 0 (table_marks rows)
 table_outlined rows all =
     let ms = rows_marks rows (grammar.table_ends ∷ []) in
     let before : Entries → Entries = λ es. entries.table 0 ∷ columns 0 ∷ group parts.Loose ∷ es in
     outline_is rows
     ∙ ap before (sym (rows_entries 1 rows (grammar.table_ends ∷ []) refl all))
-    ∙ ap (λ (m : Marks). before (paragraph_of (atoms_of m) ++ entries_after 1 ms)) (sym (rows_sharp rows (grammar.table_ends ∷ []) refl))
+    ∙ ap (λ (m : Marks). before (paragraph_of (atoms_of m) ++ entries_after 1 ms))
+    (sym (rows_sharp rows (grammar.table_ends ∷ []) refl))
 
 -- the tokens spell the tree
-pub table_spelt : (tokens : List Token) (rows : List (List Cell)) → kinds tokens ≡ table_kinds rows → 0 < length rows → AllByRecursion IsDrawnRow rows →
+pub table_spelt : (tokens : List Token) (rows : List (List Cell)) → kinds tokens ≡ table_kinds rows → 0 < length rows →
+    AllByRecursion IsDrawnRow rows →
     SpellsTree tokens (table_node rows)
 table_spelt tokens rows read some all = record {
   marks = table_marks rows;
@@ -307,7 +330,8 @@ table_spelt tokens rows read some all = record {
 }
 
 -- the tokens of items are what these are to the grammar
-pub kinds_are : (tokens : List Token) (items : List Item) → map kind_of tokens ≡ flat_map item_kinds items → kinds tokens ≡ grammar_kinds items
+pub kinds_are : (tokens : List Token) (items : List Item) → map kind_of tokens ≡ flat_map item_kinds items →
+    kinds tokens ≡ grammar_kinds items
 kinds_are tokens items is = each tokens ∙ ap (map class_of) is
   where
     each : (ts : List Token) → kinds ts ≡ map class_of (map kind_of ts)
@@ -325,17 +349,20 @@ abbrev pub rows_listed : List (List Cell) → Entries → Entries
 rows_listed [] later = later
 rows_listed (cells ∷ rows) later = row ∷ cells_listed cells (rows_listed rows later)
 
-cells_in_list : (cells : List Cell) (later : Entries) → flat_map cell_outline (map cell_node cells) ++ later ≡ cells_listed cells later
+cells_in_list : (cells : List Cell) (later : Entries) → flat_map cell_outline
+    (map cell_node cells) ++ later ≡ cells_listed cells later
 cells_in_list [] later = refl
 cells_in_list (c ∷ cells) later =
     append_assoc (cell_outline (cell_node c)) (flat_map cell_outline (map cell_node cells)) later
     ∙ ap (λ (es : Entries). es ++ (flat_map cell_outline (map cell_node cells) ++ later)) (cell_outlined c)
     ∙ ap (λ (es : Entries). cell false c.colspan 1 0 ∷ paragraph (paragraph_in c) ∷ es) (cells_in_list cells later)
 
-rows_in_list : (rows : List (List Cell)) (later : Entries) → flat_map row_outline (map (map cell_node) rows) ++ later ≡ rows_listed rows later
+rows_in_list : (rows : List (List Cell)) (later : Entries) →
+    flat_map row_outline (map (map cell_node) rows) ++ later ≡ rows_listed rows later
 rows_in_list [] later = refl
 rows_in_list (cells ∷ rows) later =
-    ap (λ (es : Entries). row ∷ es) (append_assoc (flat_map cell_outline (map cell_node cells)) (flat_map row_outline (map (map cell_node) rows)) later
+    ap (λ (es : Entries). row ∷ es) (append_assoc (flat_map cell_outline (map cell_node cells))
+    (flat_map row_outline (map (map cell_node) rows)) later
     ∙ cells_in_list cells (flat_map row_outline (map (map cell_node) rows) ++ later)
     ∙ ap (cells_listed cells) (rows_in_list rows later))
 
@@ -343,4 +370,5 @@ rows_in_list (cells ∷ rows) later =
 pub table_listed : (rows : List (List Cell)) →
     outline (table_node rows) ≡ entries.table 0 ∷ columns 0 ∷ group parts.Loose ∷ rows_listed rows (entries.table_end ∷ [])
 table_listed rows =
-    outline_is rows ∙ ap (λ (es : Entries). entries.table 0 ∷ columns 0 ∷ group parts.Loose ∷ es) (rows_in_list rows (entries.table_end ∷ []))
+    outline_is rows ∙ ap (λ (es : Entries). entries.table 0 ∷ columns 0 ∷ group parts.Loose ∷ es)
+    (rows_in_list rows (entries.table_end ∷ []))

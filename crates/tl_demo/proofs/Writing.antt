@@ -1,9 +1,11 @@
 -- Text that is written piece by piece: what is written, with the text of what is left to draw, stays the whole.
-use Rattle.std.proofs.Common.{◌≡◌, ℕ, zero, suc, ◌+◌, ◌-◌, ◌<◌, ◌≤◌, ◌==◌, ◌⊎◌, inl, inr, false, List, ◌∷◌, ◌++◌, refl, sym, ap, subst, ◌∙◌}
+use Rattle.std.proofs.Common.{◌≡◌, ℕ, zero, suc, ◌+◌, ◌-◌, ◌<◌, ◌≤◌, ◌==◌, ◌⊎◌, inl, inr, false, List, ◌∷◌, ◌++◌, refl, sym, ap}
+use Rattle.std.proofs.Common.{subst, ◌∙◌}
 use Rattle.std.proofs.Common.{append_assoc, append-nil, arith}
 use Rattle.std.specs.List.{flat_map}
 use Rattle.std.proofs.lemmas.Bool.Decides.{nat_tests}
-use Rattle.tl_demo.specs.Demo.{Drawn, Cell, cell_from, cell_before, drawn, next_state, words_from, cell_words_from, cells_from, rows_from}
+use Rattle.tl_demo.specs.Demo.{Drawn, Cell, cell_from, cell_before, drawn, next_state, words_from, cell_words_from, cells_from}
+use Rattle.tl_demo.specs.Demo.{rows_from}
 use Rattle.tl_demo.specs.Demo.{words_text, tag_text, cell_text, row_text}
 use Rattle.tl_demo.specs.inner.Writing.{colspan_of, next_word_text, next_words_text}
 
@@ -21,7 +23,8 @@ pub record WordsLeft (count state : ℕ) (out text : List ℕ) (end : ℕ) : Typ
 pub word_written : (count state : ℕ) (out new text : List ℕ) (end : ℕ) → new ≡ out ++ next_word_text (1 + drawn 8 state) →
     WordsLeft (suc count) state out text end → WordsLeft count (next_state state) new text end
 word_written count state out new text end is left = record {
-  text_is = written_piece next_word_text (1 + drawn 8 state) (words_from count (next_state state)).value out new is ∙ left.text_is;
+  text_is = written_piece next_word_text (1 + drawn 8 state)
+      (words_from count (next_state state)).value out new is ∙ left.text_is;
   state_is = left.state_is;
 }
 

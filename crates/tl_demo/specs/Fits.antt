@@ -6,21 +6,22 @@ use Rattle.tl_base.specs.declared.limits.TheConstants.{MAX_FILE_BYTES}
 use Rattle.tl_base.specs.declared.style.Style.TheVariants.{Plain}
 use Rattle.tl_tree.specs.Spelling.{IsWithinLimits}
 use Rattle.tl_tree.specs.Tags.{kinds}
-use Rattle.tl_form.specs.declared.cell.Table.{Table}
-use Rattle.tl_form.specs.Least.{IsLeastWidth}
-use Rattle.tl_form.specs.Spells.{Spells}
+use Rattle.tl_table.specs.declared.cell.Table.{Table}
+use Rattle.tl_table.specs.declared.layout.Layout.{Layout}
+use Rattle.tl_table.specs.Layouts.{Fits}
+use Rattle.tl_table.specs.Spells.{Spells}
 use Rattle.tl_demo.specs.declared.laws.TheConstants.{DEMO_WIDTH}
 use Rattle.tl_demo.specs.Demo.{demo_text_of}
 
--- a number's text is a table file within all limits, and spells this table, whose least width in
--- style plain is `least`
-pub record IsDemo (number : ℕ) (table : Table) (least : ℕ) : Type 0 where
+-- a number's text is a table file within all limits, and spells this table, of which a layout in style plain fits the page
+pub record IsDemo (number : ℕ) (table : Table) : Type 0 where
   pub short : length (demo_text_of number) ≤ MAX_FILE_BYTES
   pub spelt : Spells (demo_text_of number) Words table
   pub within : IsWithinLimits (kinds spelt.tokens)
-  pub is_least : IsLeastWidth table Plain least
+  pub height : ℕ
+  pub layout : Layout
+  pub fits : Fits table Plain DEMO_WIDTH height layout
 
 -- the table of each number fits the page of a demonstration
 abbrev pub DemoFits : Type 0
-DemoFits = (number : ℕ) → number < 2 ^ 32 →
-    (table : Table) × (least : ℕ) × IsDemo number table least × (least ≤ DEMO_WIDTH)
+DemoFits = (number : ℕ) → number < 2 ^ 32 → (table : Table) × IsDemo number table

@@ -5,8 +5,7 @@ ghost use Rattle.std.specs.List.{flat_map};
 ghost use Rattle.tl_demo.specs.Demo.{Cell, cell_from, cell_text, cell_words_from, cells_from, demo_text_of};
 ghost use Rattle.tl_demo.specs.Demo.{drawn, next_state, row_text, rows_from, tag_text, word_text};
 ghost use Rattle.tl_demo.specs.Demo.{words_from, words_text};
-ghost use Rattle.tl_demo.specs.inner.Writing.{Appended, cells_text, colspan_of, next_word_text};
-ghost use Rattle.tl_demo.specs.inner.Writing.{next_words_text};
+ghost use Rattle.tl_demo.specs.inner.Writing.{Appended, cells_text, colspan_of, next_word_text, next_words_text};
 
 use crate::draws::Draws;
 use std::alloc::{AllocError, Global};

@@ -35,13 +35,15 @@ AtMost-via None m s w r h k = absurd h
 AtMost-via (Some c) None s w r h k = absurd k
 AtMost-via (Some c) (Some e) s w r h k = omega (arith, ints)
 
-pub via-AtMost : (o m : Option ℤ) (w t : ℤ) → AtMost (via o w m) t → (s : ℤ) × ((r : ℤ) × (AtMost o s × (AtMost m r × (((s +ℤ w) +ℤ r) ≤ℤ t))))
+pub via-AtMost : (o m : Option ℤ) (w t : ℤ) → AtMost (via o w m) t →
+    (s : ℤ) × ((r : ℤ) × (AtMost o s × (AtMost m r × (((s +ℤ w) +ℤ r) ≤ℤ t))))
 via-AtMost None m w t h = absurd h
 via-AtMost (Some c) None w t h = absurd h
 via-AtMost (Some c) (Some e) w t h = (c, (e, (omega (arith, ints), (omega (arith, ints), h))))
 
 -- what a bound of t says of positions
-pub Satisfies-at : (bounds : Bounds) (x : ℕ → ℤ) (p q : ℕ) (t : ℤ) → Satisfies bounds x → p < bounds.n → q < bounds.n → AtMost (bound_at bounds p q) t
+pub Satisfies-at : (bounds : Bounds) (x : ℕ → ℤ) (p q : ℕ) (t : ℤ) → Satisfies bounds x → p < bounds.n → q < bounds.n →
+    AtMost (bound_at bounds p q) t
     → IsWithin x p q t
 Satisfies-at bounds x p q t meets first second h =
     let c = AtMost-some (bound_at bounds p q) t h in

@@ -1,8 +1,10 @@
 -- What the layers above need of difference constraints, tightest bounds and marks.
-use Rattle.std.proofs.Common.{◌≡◌, ℕ, ◌<◌, ◌≤◌, ℤ, pos, ◌≤ℤ◌, neg_ℤ, Option, Some, None, IsSome, MatchOption, List, ◌∷◌, ◌↔◌, refl, arith}
+use Rattle.std.proofs.Common.{◌≡◌, ℕ, ◌<◌, ◌≤◌, ℤ, pos, ◌≤ℤ◌, neg_ℤ, Option, Some, None, IsSome, MatchOption, List, ◌∷◌, ◌↔◌}
+use Rattle.std.proofs.Common.{refl, arith}
 use Rattle.std.proofs.lemmas.Int.{ints}
 use Rattle.tl_diff.specs.Marks.{MarkedBounds}
-use Rattle.tl_diff.specs.Bounds.{Bounds, Satisfies, IsSatisfiable, Implied, AddsBound, IsGreatest, HasGreatest, HasNoGreatest, IsLeast}
+use Rattle.tl_diff.specs.Bounds.{Bounds, Satisfies, IsSatisfiable, Implied, AddsBound, IsGreatest, HasGreatest, HasNoGreatest}
+use Rattle.tl_diff.specs.Bounds.{IsLeast}
 
 -- there is one tightest bound on two variables
 pub IsGreatest-unique : (bounds : Bounds) (a b : ℕ) (s t : ℤ) → IsGreatest bounds a b s → IsGreatest bounds a b t → s ≡ t
@@ -16,13 +18,15 @@ IsGreatest-bounded bounds a b most h none =
     omega (arith, ints, more.1.1, h.implied more.0 more.1.0)
 
 -- a returned bound is a number where there is a tightest bound
-pub IsSome-greatest : (bounds : Bounds) (a b : ℕ) (o : Option ℤ) → MatchOption o (HasNoGreatest bounds a b) (IsGreatest bounds a b) →
+pub IsSome-greatest : (bounds : Bounds) (a b : ℕ) (o : Option ℤ) →
+    MatchOption o (HasNoGreatest bounds a b) (IsGreatest bounds a b) →
     (HasNoGreatest bounds a b → ⊥) → IsSome o
 IsSome-greatest bounds a b None none has = absurd (has none)
 IsSome-greatest bounds a b (Some c) h has = refl
 
 -- a returned bound that is a number is the tightest, so that not every number is passed
-pub HasGreatest-some : (bounds : Bounds) (a b : ℕ) (o : Option ℤ) → MatchOption o (HasNoGreatest bounds a b) (IsGreatest bounds a b) → IsSome o →
+pub HasGreatest-some : (bounds : Bounds) (a b : ℕ) (o : Option ℤ) →
+    MatchOption o (HasNoGreatest bounds a b) (IsGreatest bounds a b) → IsSome o →
     HasGreatest bounds a b
 HasGreatest-some bounds a b None h some = cc
 HasGreatest-some bounds a b (Some c) h some = (c, h)
@@ -32,7 +36,8 @@ pub IsGreatest-own : (bounds : Bounds) (a : ℕ) (most : ℤ) → IsGreatest bou
 IsGreatest-own bounds a most h = omega (arith, ints, h.reached.1.1)
 
 -- The least assignment has the greatest `x_0 - x_k` of each variable, negated.
-pub IsLeast-greatest : (bounds : Bounds) (x : ℕ → ℤ) → 1 ≤ bounds.n → ((k : ℕ) → k < bounds.n → IsGreatest bounds k 0 (neg_ℤ (x k))) → IsLeast bounds x
+pub IsLeast-greatest : (bounds : Bounds) (x : ℕ → ℤ) → 1 ≤ bounds.n →
+    ((k : ℕ) → k < bounds.n → IsGreatest bounds k 0 (neg_ℤ (x k))) → IsLeast bounds x
 IsLeast-greatest bounds x some h = record {
   starts = omega (arith, ints, (h 0 some).reached.1.1);
   satisfies = λ p q from to c is.
@@ -42,11 +47,13 @@ IsLeast-greatest bounds x some h = record {
 }
 
 -- what satisfies one constraint more satisfies the others
-pub AddsBound-shrinks : (old new : Bounds) (a b : ℕ) (most : ℤ) → AddsBound old new a b most → IsSatisfiable new → IsSatisfiable old
+pub AddsBound-shrinks : (old new : Bounds) (a b : ℕ) (most : ℤ) → AddsBound old new a b most → IsSatisfiable new →
+    IsSatisfiable old
 AddsBound-shrinks old new a b most h some = (some.0, h.keeps some.0 some.1)
 
 -- a tightest bound does not rise by one constraint more
-pub IsGreatest-falls : (old new : Bounds) (a b : ℕ) (most : ℤ) → AddsBound old new a b most → (p q : ℕ) (s t : ℤ) → IsGreatest old p q s →
+pub IsGreatest-falls : (old new : Bounds) (a b : ℕ) (most : ℤ) → AddsBound old new a b most → (p q : ℕ) (s t : ℤ) →
+    IsGreatest old p q s →
     IsGreatest new p q t → t ≤ℤ s
 IsGreatest-falls old new a b most h p q s t before after =
     omega (arith, ints, after.reached.1.1, before.implied after.reached.0 (h.keeps after.reached.0 after.reached.1.0))
@@ -65,11 +72,13 @@ Implied-none bounds a b most none implied =
     omega (arith, ints, more.1.1, implied more.0 more.1.0)
 
 -- `undo` gives back the constraints of the last mark, and so what satisfies them.
-pub undo_last : (old new : MarkedBounds) (last : Bounds) (rest : List Bounds) → old.held ≡ new.bounds ∷ new.held → old.held ≡ last ∷ rest →
+pub undo_last : (old new : MarkedBounds) (last : Bounds) (rest : List Bounds) → old.held ≡ new.bounds ∷ new.held →
+    old.held ≡ last ∷ rest →
     (new.bounds ≡ last) × (new.held ≡ rest)
 undo_last old new last rest undone held = (cc, cc)
 
-pub undo_gives_back : (old new : MarkedBounds) (last : Bounds) (rest : List Bounds) → old.held ≡ new.bounds ∷ new.held → old.held ≡ last ∷ rest →
+pub undo_gives_back : (old new : MarkedBounds) (last : Bounds) (rest : List Bounds) → old.held ≡ new.bounds ∷ new.held →
+    old.held ≡ last ∷ rest →
     (x : ℕ → ℤ) → Satisfies new.bounds x ↔ Satisfies last x
 undo_gives_back old new last rest undone held x =
     let same = (undo_last old new last rest undone held).0 in

@@ -37,7 +37,12 @@ IsPath-last arcs p i (j ∷ is) k path =
       there = rest.there;
       leads = (path.0, path.1, rest.leads);
       ends = rest.ends;
-      weighs = omega (arith, rest.weighs, sum_by-cons (λ j. (arc_at arcs j).weight) i (j ∷ is), sum_by-cons (λ j. (arc_at arcs j).weight) i rest.way);
+      weighs = omega (
+        arith,
+        rest.weighs,
+        sum_by-cons (λ j. (arc_at arcs j).weight) i (j ∷ is),
+        sum_by-cons (λ j. (arc_at arcs j).weight) i rest.way,
+      );
     }
 
 -- The arcs `taken` lead from `place` to n and make up the whole difference, and no arc from number i on is the last of
@@ -46,16 +51,22 @@ pub record IsTaken (n : ℕ) (arcs : List Arc) (out : List ℕ) (place i : ℕ) 
   pub up : place ≤ n
   pub leads : IsPath arcs place taken n
   pub weighs : path_weight arcs taken + get_or out place 0 ≡ get_or out n 0
-  pub done : (j : ℕ) → i ≤ j → j < length arcs → (arc_at arcs j).to ≤ place → get_or out (arc_at arcs j).from 0 + (arc_at arcs j).weight < get_or out place 0
+  pub done : (j : ℕ) → i ≤ j → j < length arcs → (arc_at arcs j).to ≤ place →
+      get_or out (arc_at arcs j).from 0 + (arc_at arcs j).weight < get_or out place 0
 
 module _ (n : ℕ) (arcs : List Arc) (out : List ℕ) (forward : LeadForward n arcs) (in_order : InOrder arcs)
     (heaviest : (k : ℕ) → k ≤ n → IsHeaviest arcs k (get_or out k 0)) where
   -- what an arc adds is never more than what is between its ends, nor than what is up to a later place
-  pub arc-le : (i k : ℕ) → i < length arcs → (arc_at arcs i).to ≤ k → k ≤ n → get_or out (arc_at arcs i).from 0 + (arc_at arcs i).weight ≤ get_or out k 0
+  pub arc-le : (i k : ℕ) → i < length arcs → (arc_at arcs i).to ≤ k → k ≤ n →
+      get_or out (arc_at arcs i).from 0 + (arc_at arcs i).weight ≤ get_or out k 0
   arc-le i k there ends up =
       let before = heaviest (arc_at arcs i).from (omega (arith, forward i there)) in
       let end = heaviest (arc_at arcs i).to (omega arith) in
-      omega (arith, IsHeaviest-along arcs i _ _ there before end, IsHeaviest-further arcs (arc_at arcs i).to k _ _ end (heaviest k up) ends)
+      omega (
+        arith,
+        IsHeaviest-along arcs i _ _ there before end,
+        IsHeaviest-further arcs (arc_at arcs i).to k _ _ end (heaviest k up) ends,
+      )
 
   pub IsTaken-none : (i : ℕ) → length arcs ≤ i → IsTaken n arcs out n i []
   IsTaken-none i past = record {
@@ -66,8 +77,10 @@ module _ (n : ℕ) (arcs : List Arc) (out : List ℕ) (forward : LeadForward n a
   }
 
   -- an arc that makes up the difference is taken
-  pub IsTaken-takes : (place i : ℕ) (taken : List ℕ) → IsTaken n arcs out place (i + 1) taken → i < length arcs → (arc_at arcs i).to ≤ place
-      → get_or out (arc_at arcs i).from 0 + (arc_at arcs i).weight ≡ get_or out place 0 → IsTaken n arcs out (arc_at arcs i).from i (i ∷ taken)
+  pub IsTaken-takes : (place i : ℕ) (taken : List ℕ) → IsTaken n arcs out place (i + 1) taken → i < length arcs →
+      (arc_at arcs i).to ≤ place
+      → get_or out (arc_at arcs i).from 0 + (arc_at arcs i).weight ≡ get_or out place 0 →
+      IsTaken n arcs out (arc_at arcs i).from i (i ∷ taken)
   IsTaken-takes place i taken h there ends same = record {
     up = omega (arith, h.up, forward i there);
     leads = (there, omega arith, IsPath-sooner arcs (arc_at arcs i).to place taken n h.leads ends);
@@ -80,7 +93,8 @@ module _ (n : ℕ) (arcs : List Arc) (out : List ℕ) (forward : LeadForward n a
 
   -- any other is left out
   pub IsTaken-skips : (place i : ℕ) (taken : List ℕ) → IsTaken n arcs out place (i + 1) taken → i < length arcs
-      → ((arc_at arcs i).to ≤ place → get_or out (arc_at arcs i).from 0 + (arc_at arcs i).weight ≢ get_or out place 0) → IsTaken n arcs out place i taken
+      → ((arc_at arcs i).to ≤ place → get_or out (arc_at arcs i).from 0 + (arc_at arcs i).weight ≢ get_or out place 0) →
+      IsTaken n arcs out place i taken
   IsTaken-skips place i taken h there apart = record {
     up = h.up;
     leads = h.leads;

@@ -1,5 +1,6 @@
 -- Tightest bounds are reached: assignments that stay under given heights and are otherwise as great as possible.
-use Rattle.std.proofs.Common.{◌≡◌, ◌≢◌, ℕ, zero, suc, ◌+◌, ◌<◌, ◌≤◌, ℤ, pos, negsuc, ◌+ℤ◌, ◌≤ℤ◌, Option, Some, None, cond, eqb, refl, arith, inl, inr}
+use Rattle.std.proofs.Common.{◌≡◌, ◌≢◌, ℕ, zero, suc, ◌+◌, ◌<◌, ◌≤◌, ℤ, pos, negsuc, ◌+ℤ◌, ◌≤ℤ◌, Option, Some, None, cond, eqb}
+use Rattle.std.proofs.Common.{refl, arith, inl, inr}
 use Rattle.std.proofs.Common.{◌⊎◌, ⊎_elim, sym, subst}
 use Rattle.std.specs.Int.{int_min}
 use Rattle.std.proofs.lemmas.Int.{ints, clamps}
@@ -33,7 +34,8 @@ lower_cases (Some c) y e = by_order (int_cases e (y +ℤ c))
     int_cases : (i j : ℤ) → (i ≤ℤ j) ⊎ (j ≤ℤ i)
     int_cases i j = grind (arith, ints)
 
-    by_order : (e ≤ℤ (y +ℤ c)) ⊎ ((y +ℤ c) ≤ℤ e) → (e ≤ℤ int_min e (y +ℤ c)) ⊎ ((d : ℤ) × ((c ≤ℤ d) × ((y +ℤ d) ≤ℤ int_min e (y +ℤ c))))
+    by_order : (e ≤ℤ (y +ℤ c)) ⊎ ((y +ℤ c) ≤ℤ e) → (e ≤ℤ int_min e (y +ℤ c)) ⊎
+        ((d : ℤ) × ((c ≤ℤ d) × ((y +ℤ d) ≤ℤ int_min e (y +ℤ c))))
     by_order (inl h) = inl (omega (arith, ints, clamps))
     by_order (inr h) = inr (c, (omega (arith, ints), omega (arith, ints, clamps)))
 
@@ -44,7 +46,12 @@ module _ (bounds : Bounds) (top : ℕ → ℤ) where
       ⊎_elim
       (λ e. subst (λ j. lower (bound_at bounds k p) (top k) (under bounds top p k) ≤ℤ (top j +ℤ c)) (sym e)
       (lower_at (bound_at bounds k p) (top k) (under bounds top p k) c (subst (λ j. AtMost (bound_at bounds j p) c) e h)))
-      (λ apart. omega (arith, ints, lower_le (bound_at bounds k p) (top k) (under bounds top p k), under_le p q k c (omega arith) h))
+      (λ apart. omega (
+        arith,
+        ints,
+        lower_le (bound_at bounds k p) (top k) (under bounds top p k),
+        under_le p q k c (omega arith) h,
+      ))
       (cases_eq q k)
 
   -- which height holds a variable down
@@ -56,11 +63,25 @@ module _ (bounds : Bounds) (top : ℕ → ℤ) where
     pub reached : (top source +ℤ by) ≤ℤ e
 
   under_held : IsClosed bounds → (p k : ℕ) → p < bounds.n → k ≤ bounds.n → HeldBy p (under bounds top p k)
-  under_held closed p zero there up = record { source = p; by = pos 0; there = there; bound = closed.own p there; reached = omega (arith, ints) }
+  under_held closed p zero there up = record {
+    source = p;
+    by = pos 0;
+    there = there;
+    bound = closed.own p there;
+    reached =
+        omega (arith, ints);
+  }
   under_held closed p (suc k) there up =
       let rest = under_held closed p k there (omega arith) in
       ⊎_elim
-      (λ le. record { source = rest.source; by = rest.by; there = rest.there; bound = rest.bound; reached = omega (arith, ints, rest.reached) })
+      (λ le. record {
+        source = rest.source;
+        by = rest.by;
+        there = rest.there;
+        bound = rest.bound;
+        reached =
+            omega (arith, ints, rest.reached);
+      })
       (λ new. record { source = k; by = new.0; there = omega arith; bound = new.1.0; reached = new.1.1 })
       (lower_cases (bound_at bounds k p) (top k) (under bounds top p k))
 
@@ -101,7 +122,13 @@ module _ (bounds : Bounds) (closed : IsClosed bounds) (a b : ℕ) (first : a < b
         let held = under_held bounds (far k) closed a bounds.n first (omega arith) in
         ⊎_elim
         (λ e. omega (arith, ints, held.reached, far_here k held.source e, closed.own_least a held.by first (rw e at held.bound)))
-        (λ apart. omega (arith, ints, held.reached, far_other k held.source apart, to_a held.source held.by held.there held.bound))
+        (λ apart. omega (
+          arith,
+          ints,
+          held.reached,
+          far_other k held.source apart,
+          to_a held.source held.by held.there held.bound,
+        ))
         (cases_eq held.source a)
 
     b_up : target ≤ℤ under bounds (far k) b bounds.n
@@ -109,7 +136,13 @@ module _ (bounds : Bounds) (closed : IsClosed bounds) (a b : ℕ) (first : a < b
         let held = under_held bounds (far k) closed b bounds.n second (omega arith) in
         ⊎_elim
         (λ e. omega (arith, ints, held.reached, far_here k held.source e, free held.by (rw e at held.bound)))
-        (λ apart. omega (arith, ints, held.reached, far_other k held.source apart, to_b held.source held.by held.there held.bound))
+        (λ apart. omega (
+          arith,
+          ints,
+          held.reached,
+          far_other k held.source apart,
+          to_b held.source held.by held.there held.bound,
+        ))
         (cases_eq held.source a)
 
     reaches_by : (x : ℕ → ℤ) × (Satisfies bounds x × ((x a +ℤ target) ≤ℤ x b))
@@ -117,12 +150,21 @@ module _ (bounds : Bounds) (closed : IsClosed bounds) (a b : ℕ) (first : a < b
       (λ p. under bounds (far k) p bounds.n),
       (
         Satisfies-under bounds (far k) closed,
-        omega (arith, ints, a_up, b_up, far_here k a refl, under_le bounds (far k) a a bounds.n (pos 0) first (closed.own a first)),
+        omega (
+          arith,
+          ints,
+          a_up,
+          b_up,
+          far_here k a refl,
+          under_le bounds (far k) a a bounds.n (pos 0) first
+              (closed.own a first),
+        ),
       ),
     )
 
   -- If no bound from a to b is below `target`, some assignment has `x_b >= x_a + target`.
-  pub reaches : (target : ℤ) → ((c : ℤ) → AtMost (bound_at bounds a b) c → target ≤ℤ c) → (x : ℕ → ℤ) × (Satisfies bounds x × ((x a +ℤ target) ≤ℤ x b))
+  pub reaches : (target : ℤ) → ((c : ℤ) → AtMost (bound_at bounds a b) c → target ≤ℤ c) →
+      (x : ℕ → ℤ) × (Satisfies bounds x × ((x a +ℤ target) ≤ℤ x b))
   reaches target free =
       let i = past (under bounds (λ q. pos 0) a bounds.n) in
       let j = past (under bounds (λ q. pos 0) b bounds.n) in

@@ -37,7 +37,12 @@ no_greatest_back (negsuc n) = (pair (negsuc 0), (satisfies_three (negsuc 0) (ome
 
 -- Three arcs: from place 0 to places 2 and 1, and from place 1 to place 3.
 abbrev fork : List Arc
-fork = record { from = 0; to = 2; weight = 5 } ∷ record { from = 0; to = 1; weight = 2 } ∷ record { from = 1; to = 3; weight = 4 } ∷ []
+fork = record { from = 0; to = 2; weight = 5 } ∷ record { from = 0; to = 1; weight = 2 } ∷ record {
+  from = 1;
+  to = 3;
+  weight =
+      4;
+} ∷ []
 
 -- The last two are a path to place 4, which weighs 6.
 path_over_one : IsPath fork 0 (1 ∷ 2 ∷ []) 4

@@ -1,5 +1,6 @@
 -- Why no tightest bound is large: among n variables that lie far apart there is a gap that no given constraint spans.
-use Rattle.std.proofs.Common.{◌≡◌, ℕ, zero, suc, ◌+◌, ◌*◌, ◌<◌, ◌≤◌, ℤ, pos, negsuc, ◌+ℤ◌, ◌≤ℤ◌, ◌<ℤ◌, neg_ℤ, Some, cond, arith, inl, inr, ◌⊎◌, ⊎_elim}
+use Rattle.std.proofs.Common.{◌≡◌, ℕ, zero, suc, ◌+◌, ◌*◌, ◌<◌, ◌≤◌, ℤ, pos, negsuc, ◌+ℤ◌, ◌≤ℤ◌, ◌<ℤ◌, neg_ℤ, Some, cond, arith}
+use Rattle.std.proofs.Common.{inl, inr, ◌⊎◌, ⊎_elim}
 use Rattle.std.specs.Prelude.{int_le}
 use Rattle.std.proofs.lemmas.Int.{ints, by_lt_z}
 use Rattle.std.proofs.lemmas.Bool.{cases_eq}
@@ -70,7 +71,8 @@ module _ (x : ℕ → ℤ) where
       (find_gap t n)
 
   -- A gap among the first k windows of MAX_BOUND above variable l, or more than k variables up to their end.
-  gap_among : (n l : ℕ) → l < n → (k : ℕ) → ((j : ℕ) × ((j < k) × IsGap n x (x l +ℤ pos (MAX_BOUND * j)))) ⊎ (k < count_up_to x (x l +ℤ pos (MAX_BOUND * k)) n)
+  gap_among : (n l : ℕ) → l < n → (k : ℕ) → ((j : ℕ) × ((j < k) × IsGap n x (x l +ℤ pos (MAX_BOUND * j)))) ⊎
+      (k < count_up_to x (x l +ℤ pos (MAX_BOUND * k)) n)
   gap_among n l there zero = inr (omega (arith, count_some (x l +ℤ pos (MAX_BOUND * 0)) n l there (omega (arith, ints))))
   gap_among n l there (suc k) =
       ⊎_elim
@@ -87,7 +89,8 @@ module _ (x : ℕ → ℤ) where
       (gap_among n l there k)
 
   -- Between two variables that are more than MAX_BOUND for each variable apart there is a gap.
-  gap_between : (n l h : ℕ) → l < n → h < n → (x l +ℤ pos (MAX_BOUND * n)) <ℤ x h → (t : ℤ) × (IsGap n x t × ((x l ≤ℤ t) × (t <ℤ x h)))
+  gap_between : (n l h : ℕ) → l < n → h < n → (x l +ℤ pos (MAX_BOUND * n)) <ℤ x h →
+      (t : ℤ) × (IsGap n x t × ((x l ≤ℤ t) × (t <ℤ x h)))
   gap_between n l h low high far =
       ⊎_elim
       (λ g. (x l +ℤ pos (MAX_BOUND * g.0), (g.1.1, (omega (arith, ints), omega (arith, ints, g.1.0)))))
@@ -103,7 +106,8 @@ moved_high : (x : ℕ → ℤ) (t s : ℤ) (p : ℕ) → t <ℤ x p → moved_pa
 moved_high x t s p h = grind (arith, ints)
 
 -- a constraint that is not large still holds when the variables above a gap move
-moved_within : (x : ℕ → ℤ) (t s : ℤ) (u v n : ℕ) (w : ℤ) → u < n → v < n → IsGap n x t → negsuc 0 ≤ℤ s → neg_ℤ (pos MAX_BOUND) ≤ℤ w → w ≤ℤ pos MAX_BOUND
+moved_within : (x : ℕ → ℤ) (t s : ℤ) (u v n : ℕ) (w : ℤ) → u < n → v < n → IsGap n x t → negsuc 0 ≤ℤ s →
+    neg_ℤ (pos MAX_BOUND) ≤ℤ w → w ≤ℤ pos MAX_BOUND
     → IsWithin x u v w → IsWithin (moved_past x t s) u v w
 moved_within x t s u v n w first second gap low small_low small_high h =
     ⊎_elim
@@ -117,7 +121,8 @@ moved_within x t s u v n w first second gap low small_low small_high h =
     (gap v second))
     (gap u first)
 
-pub IsLoose-adds : (old new : Bounds) (u v : ℕ) (w : ℤ) → u < old.n → v < old.n → AddsBound old new u v w → neg_ℤ (pos MAX_BOUND) ≤ℤ w →
+pub IsLoose-adds : (old new : Bounds) (u v : ℕ) (w : ℤ) → u < old.n → v < old.n → AddsBound old new u v w →
+    neg_ℤ (pos MAX_BOUND) ≤ℤ w →
     w ≤ℤ pos MAX_BOUND → IsLoose old → IsLoose new
 IsLoose-adds old new u v w first second adds low high loose x t s meets gap back =
     let gap_old : IsGap old.n x t = (λ p there. gap p (omega (arith, adds.variables))) in
@@ -132,7 +137,8 @@ IsLoose-free bounds free x t s meets gap back = free (moved_past x t s)
 
 module _ (bounds : Bounds) (closed : IsClosed bounds) (loose : IsLoose bounds) where
   -- variables that are far apart can be moved one further apart, and one nearer
-  stretch : (x : ℕ → ℤ) (l h : ℕ) (s : ℤ) → Satisfies bounds x → l < bounds.n → h < bounds.n → (x l +ℤ pos (MAX_BOUND * bounds.n)) <ℤ x h → negsuc 0 ≤ℤ s
+  stretch : (x : ℕ → ℤ) (l h : ℕ) (s : ℤ) → Satisfies bounds x → l < bounds.n → h < bounds.n →
+      (x l +ℤ pos (MAX_BOUND * bounds.n)) <ℤ x h → negsuc 0 ≤ℤ s
       → (y : ℕ → ℤ) × (Satisfies bounds y × ((y l ≡ x l) × (y h ≡ x h +ℤ s)))
   stretch x l h s meets low high far back =
       let g = gap_between x bounds.n l h low high far in
@@ -148,7 +154,8 @@ module _ (bounds : Bounds) (closed : IsClosed bounds) (loose : IsLoose bounds) w
     not_below : (c <ℤ neg_ℤ (pos (MAX_BOUND * bounds.n))) → ⊥
     not_below large =
         let r = reaches bounds closed a b first second c (λ t h. rw is at h) in
-        let y = stretch r.0 b a (negsuc 0) r.1.0 second first (omega (arith, ints, r.1.0 a b first second c is)) (omega (arith, ints)) in
+        let y = stretch r.0 b a (negsuc 0) r.1.0 second first (omega (arith, ints, r.1.0 a b first second c is))
+        (omega (arith, ints)) in
         omega (arith, ints, r.1.1, y.1.0 a b first second c is, y.1.1.0, y.1.1.1)
 
   pub AreSmall-closed : AreSmall bounds

@@ -1,11 +1,13 @@
 -- What a closed difference bound matrix says of all assignments, and that it stays so: made, refused and tightened.
-use Rattle.std.proofs.Common.{◌≡◌, ◌≢◌, ℕ, ◌+◌, ◌*◌, ◌<◌, ◌≤◌, ℤ, pos, negsuc, ◌+ℤ◌, ◌-ℤ◌, ◌≤ℤ◌, neg_ℤ, List, length, set, Option, Some, None, Bool}
+use Rattle.std.proofs.Common.{◌≡◌, ◌≢◌, ℕ, ◌+◌, ◌*◌, ◌<◌, ◌≤◌, ℤ, pos, negsuc, ◌+ℤ◌, ◌-ℤ◌, ◌≤ℤ◌, neg_ℤ, List, length, set, Option}
+use Rattle.std.proofs.Common.{Some, None, Bool}
 use Rattle.std.proofs.Common.{true, false, refl, ap, arith, inl, inr, ◌⊎◌, sym, subst, ◌∙◌, ◌↔◌, IsTrue, MatchOption, IfSome}
 use Rattle.std.proofs.lemmas.Int.{ints, by_lt_z}
 use Rattle.std.proofs.lemmas.Bool.{cases_eq}
 use Rattle.std.proofs.lemmas.List.{length-set}
 use Rattle.tl_diff.specs.declared.matrix.TheConstants.{MAX_BOUND, MAX_VARIABLES}
-use Rattle.tl_diff.specs.Bounds.{bounds_of, Bounds, bound_at, Satisfies, IsWithin, IsSatisfiable, AddsBound, IsGreatest, HasNoGreatest, IsSmall}
+use Rattle.tl_diff.specs.Bounds.{bounds_of, Bounds, bound_at, Satisfies, IsWithin, IsSatisfiable, AddsBound, IsGreatest}
+use Rattle.tl_diff.specs.Bounds.{HasNoGreatest, IsSmall}
 use Rattle.tl_diff.specs.inner.Closed.{AtMost, IsClosed, AreSmall, IsExact, IsSound, IsImproved, IsRowSmall, IsFree}
 use Rattle.tl_diff.proofs.AtMostLemmas.{AtMost-from, AtMost-more, Satisfies-at, Satisfies-from}
 use Rattle.tl_diff.proofs.EnvelopeLemmas.{under, Satisfies-under, IsGreatest-closed, HasNoGreatest-closed}
@@ -17,11 +19,13 @@ use Rattle.tl_diff.proofs.RowLemmas.{bound_at-set_same, bound_at-set_row, bound_
 
 -- the matrix knows whether some assignment satisfies it
 pub IsSatisfiable-sound : (bounds : Bounds) (holds : Bool) → IsSound bounds holds → IsTrue holds ↔ IsSatisfiable bounds
-IsSatisfiable-sound bounds true h = (λ _. ((λ p. under bounds (λ _. pos 0) p bounds.n), Satisfies-under bounds (λ _. pos 0) (h.exact refl).closed), λ _. refl)
+IsSatisfiable-sound bounds true h =
+    (λ _. ((λ p. under bounds (λ _. pos 0) p bounds.n), Satisfies-under bounds (λ _. pos 0) (h.exact refl).closed), λ _. refl)
 IsSatisfiable-sound bounds false h = (λ e. cc, λ some. absurd (h.none refl some.0 some.1))
 
 -- one look-up gives the tightest bound
-pub upper_sound : (bounds : Bounds) (holds : Bool) (a b : ℕ) (o : Option ℤ) → IsSound bounds holds → IsSatisfiable bounds → a < bounds.n →
+pub upper_sound : (bounds : Bounds) (holds : Bool) (a b : ℕ) (o : Option ℤ) → IsSound bounds holds → IsSatisfiable bounds →
+    a < bounds.n →
     b < bounds.n → o ≡ bound_at bounds a b
     → MatchOption o (HasNoGreatest bounds a b) (IsGreatest bounds a b)
 upper_sound bounds holds a b None h some first second is =
@@ -39,7 +43,8 @@ IsRowSmall-sound bounds p few small there q c within is =
     (omega (arith, ints, h.0), omega (arith, ints, h.1))
 
 -- the bound that one look-up finds is small
-pub small_sound : (bounds : Bounds) (holds : Bool) (a b : ℕ) (o : Option ℤ) → IsSound bounds holds → IsSatisfiable bounds → a < bounds.n →
+pub small_sound : (bounds : Bounds) (holds : Bool) (a b : ℕ) (o : Option ℤ) → IsSound bounds holds → IsSatisfiable bounds →
+    a < bounds.n →
     b < bounds.n → o ≡ bound_at bounds a b → IfSome o IsSmall
 small_sound bounds holds a b None h some first second is = tt
 small_sound bounds holds a b (Some c) h some first second is =
@@ -60,13 +65,16 @@ module _ (n : ℕ) (rows : List (Option ℤ)) where
     own p from below (inl e) =
         subst (λ j. bound_at (bounds_of n (set rows (variable * n + variable) (Some (pos 0)))) j j ≡ Some (pos 0)) (sym e)
         (bound_at-set_same n rows variable variable (Some (pos 0)) h.pairs there there)
-    own p from below (inr apart) = bound_at-set_row n rows variable variable (Some (pos 0)) p p there from apart ∙ h.own p from (omega arith)
+    own p from below (inr apart) = bound_at-set_row n rows variable variable (Some (pos 0)) p p there from apart ∙ h.own p from
+        (omega arith)
 
     other : (p q : ℕ) → p < n → q < n → p ≢ q → (p ≡ variable) ⊎ (p ≢ variable) →
         bound_at (bounds_of n (set rows (variable * n + variable) (Some (pos 0)))) p q ≡ None
     other p q from to apart (inl e) =
-        bound_at-set_column n rows variable variable (Some (pos 0)) p q there to (λ k. apart (e ∙ sym k)) ∙ h.other p q from to apart
-    other p q from to apart (inr off) = bound_at-set_row n rows variable variable (Some (pos 0)) p q there to off ∙ h.other p q from to apart
+        bound_at-set_column n rows variable variable (Some (pos 0)) p q there to
+        (λ k. apart (e ∙ sym k)) ∙ h.other p q from to apart
+    other p q from to apart (inr off) = bound_at-set_row n rows variable variable (Some (pos 0))
+        p q there to off ∙ h.other p q from to apart
 
 module _ (bounds : Bounds) (h : IsFree bounds bounds.n) where
   -- its bounds are those of each variable to itself
@@ -85,7 +93,8 @@ module _ (bounds : Bounds) (h : IsFree bounds bounds.n) where
       omega (arith, ints, c.1, ap x c.0))
 
   free_own : (p r : ℕ) (t : ℤ) → p < bounds.n → p ≡ r → pos 0 ≤ℤ t → AtMost (bound_at bounds p r) t
-  free_own p r t there e le = subst (λ j. AtMost (bound_at bounds p j) t) e (AtMost-from (bound_at bounds p p) (pos 0) t (h.own p there there) le)
+  free_own p r t there e le = subst (λ j. AtMost (bound_at bounds p j) t) e
+      (AtMost-from (bound_at bounds p p) (pos 0) t (h.own p there there) le)
 
   IsClosed-free : IsClosed bounds
   IsClosed-free = record {
@@ -121,12 +130,18 @@ module _ (n : ℕ) (rows : List (Option ℤ)) (a b : ℕ) (most : ℤ) (first : 
   }
 
   -- one that no assignment can satisfy is written down as it is
-  module _ (pairs : length rows ≡ n * n) (exact : IsExact (bounds_of n rows)) (back : AtMost (bound_at (bounds_of n rows) b a) (negsuc 0 -ℤ most)) where
+  module _ (pairs : length rows ≡ n * n) (exact : IsExact (bounds_of n rows))
+      (back : AtMost (bound_at (bounds_of n rows) b a) (negsuc 0 -ℤ most)) where
     abbrev refused : Bounds
     refused = bounds_of n (set rows (a * n + b) (Some most))
 
     none_meet_old : (x : ℕ → ℤ) → Satisfies (bounds_of n rows) x → IsWithin x a b most → ⊥
-    none_meet_old x meets within = omega (arith, ints, within, Satisfies-at (bounds_of n rows) x b a (negsuc 0 -ℤ most) meets second first back)
+    none_meet_old x meets within = omega (
+      arith,
+      ints,
+      within,
+      Satisfies-at (bounds_of n rows) x b a (negsuc 0 -ℤ most) meets second first back,
+    )
 
     pub none_meet : (x : ℕ → ℤ) → Satisfies refused x → ⊥
     none_meet x meets = cases (cases_eq a b)
@@ -161,13 +176,15 @@ module _ (n : ℕ) (rows : List (Option ℤ)) (a b : ℕ) (most : ℤ) (first : 
     }
 
   -- any other tightens every pair
-  pub no_cycle : (¬ AtMost (bound_at (bounds_of n rows) b a) (negsuc 0 -ℤ most)) → (t : ℤ) → AtMost (bound_at (bounds_of n rows) b a) t → pos 0 ≤ℤ (t +ℤ most)
+  pub no_cycle : (¬ AtMost (bound_at (bounds_of n rows) b a) (negsuc 0 -ℤ most)) → (t : ℤ) →
+      AtMost (bound_at (bounds_of n rows) b a) t → pos 0 ≤ℤ (t +ℤ most)
   no_cycle free t k =
       by_lt_z (t +ℤ most) (pos 0)
       (λ low. absurd (free (AtMost-more (bound_at (bounds_of n rows) b a) t (negsuc 0 -ℤ most) k (omega (arith, ints)))))
       (λ le. le)
 
-  module _ (new : List (Option ℤ)) (improved : IsImproved (bounds_of n rows) (bounds_of n new) a b most n) (exact : IsExact (bounds_of n rows)) where
+  module _ (new : List (Option ℤ)) (improved : IsImproved (bounds_of n rows) (bounds_of n new) a b most n)
+      (exact : IsExact (bounds_of n rows)) where
     pub AddsBound-sound : AddsBound (bounds_of n rows) (bounds_of n new) a b most
     AddsBound-sound = AddsBound-improved (bounds_of n rows) (bounds_of n new) a b most first second improved exact.closed
 
@@ -175,7 +192,8 @@ module _ (n : ℕ) (rows : List (Option ℤ)) (a b : ℕ) (most : ℤ) (first : 
         → ((t : ℤ) → AtMost (bound_at (bounds_of n rows) b a) t → pos 0 ≤ℤ (t +ℤ most)) → IsSound (bounds_of n new) true
     IsSound-improved some few low high round =
         let closed = IsClosed-improved (bounds_of n rows) (bounds_of n new) a b most first second improved exact.closed round in
-        let loose = IsLoose-adds (bounds_of n rows) (bounds_of n new) a b most first second AddsBound-sound low high exact.loose in
+        let loose = IsLoose-adds (bounds_of n rows) (bounds_of n new)
+        a b most first second AddsBound-sound low high exact.loose in
         record {
           some = some;
           few = few;

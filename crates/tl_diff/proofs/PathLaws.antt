@@ -18,7 +18,8 @@ IsHeaviest-further arcs k m v w g h far =
     omega (arith, g.reached.1.1, h.greatest g.reached.0 (IsPath-further arcs 0 g.reached.0 k m g.reached.1.0 far))
 
 -- and so has the end of an arc, with the arc's weight
-pub IsHeaviest-along : (arcs : List Arc) (i v w : ℕ) → i < length arcs → IsHeaviest arcs (arc_at arcs i).from v → IsHeaviest arcs (arc_at arcs i).to w
+pub IsHeaviest-along : (arcs : List Arc) (i v w : ℕ) → i < length arcs → IsHeaviest arcs (arc_at arcs i).from v →
+    IsHeaviest arcs (arc_at arcs i).to w
     → v + (arc_at arcs i).weight ≤ w
 IsHeaviest-along arcs i v w there g h =
     omega (
@@ -26,7 +27,8 @@ IsHeaviest-along arcs i v w there g h =
       g.reached.1.1,
       path_weight-push arcs g.reached.0 i,
       h.greatest (g.reached.0 ++ i ∷ [])
-          (IsPath-push arcs 0 g.reached.0 (arc_at arcs i).from i (arc_at arcs i).to g.reached.1.0 there (omega arith) (omega arith)),
+          (IsPath-push arcs 0 g.reached.0 (arc_at arcs i).from i (arc_at arcs i).to g.reached.1.0 there (omega arith)
+          (omega arith)),
     )
 
 -- ---- arcs put one after another
@@ -48,7 +50,8 @@ module _ (arcs : List Arc) (e : Arc) where
   LeadForward-push n forward ahead within i there =
       ⊎_elim
       (λ last. rw (arc_at-last i last) (ahead, within))
-      (λ other. let before : i < length arcs = omega (arith, length_push arcs e) in rw (arc_at-before i before) (forward i before))
+      (λ other. let before : i < length arcs = omega (arith, length_push arcs e) in
+      rw (arc_at-before i before) (forward i before))
       (cases_eq i (length arcs))
 
   pub InOrder-push : InOrder arcs → ((i : ℕ) → i < length arcs → (arc_at arcs i).from ≤ e.from) → InOrder (arcs ++ e ∷ [])

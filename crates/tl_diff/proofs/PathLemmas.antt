@@ -1,5 +1,6 @@
 -- Paths that are made longer, and the pass that finds the heaviest.
-use Rattle.std.proofs.Common.{◌≡◌, ◌≢◌, ℕ, zero, suc, ◌+◌, ◌<◌, ◌≤◌, max, List, [], ◌∷◌, ◌++◌, length, get_or, set, take, ◌-◌, add-zero, sym, ap, ◌∙◌}
+use Rattle.std.proofs.Common.{◌≡◌, ◌≢◌, ℕ, zero, suc, ◌+◌, ◌<◌, ◌≤◌, max, List, [], ◌∷◌, ◌++◌, length, get_or, set, take, ◌-◌}
+use Rattle.std.proofs.Common.{add-zero, sym, ap, ◌∙◌}
 use Rattle.std.proofs.Common.{arith, inl, inr, ◌⊎◌, ⊎_elim}
 use Rattle.std.proofs.lemmas.List.{length-set, get_or-set_same, get_or-set_other}
 use Rattle.std.proofs.lemmas.List.Sums.{sum_by_push, sum_by_more, sum_by-cons}
@@ -16,13 +17,15 @@ IsPath-further arcs p [] k m path far = omega arith
 IsPath-further arcs p (i ∷ is) k m path far = (path.0, path.1, IsPath-further arcs (arc_at arcs i).to is k m path.2 far)
 
 -- and along an arc that begins there or later
-pub IsPath-push : (arcs : List Arc) (p : ℕ) (is : List ℕ) (k i m : ℕ) → IsPath arcs p is k → i < length arcs → k ≤ (arc_at arcs i).from →
+pub IsPath-push : (arcs : List Arc) (p : ℕ) (is : List ℕ) (k i m : ℕ) → IsPath arcs p is k → i < length arcs →
+    k ≤ (arc_at arcs i).from →
     (arc_at arcs i).to ≤ m → IsPath arcs p (is ++ i ∷ []) m
 IsPath-push arcs p [] k i m path there from to = (there, omega arith, to)
 IsPath-push arcs p (j ∷ is) k i m path there from to =
     (path.0, path.1, IsPath-push arcs (arc_at arcs j).to is k i m path.2 there from to)
 
-pub path_weight-push : (arcs : List Arc) (is : List ℕ) (i : ℕ) → path_weight arcs (is ++ i ∷ []) ≡ path_weight arcs is + (arc_at arcs i).weight
+pub path_weight-push : (arcs : List Arc) (is : List ℕ) (i : ℕ) →
+    path_weight arcs (is ++ i ∷ []) ≡ path_weight arcs is + (arc_at arcs i).weight
 path_weight-push arcs is i = sum_by_push (λ j. (arc_at arcs j).weight) is i
 
 -- ---- a table of weights in which one place may have more
@@ -49,7 +52,8 @@ module _ (out : List ℕ) (e w : ℕ) (there : e < length out) where
 
 module _ (n : ℕ) (arcs : List Arc) (place next : ℕ) (out : List ℕ) (forward : LeadForward n arcs) (in_order : InOrder arcs) where
   -- the arc `next` begins at `place`
-  module _ (h : IsRelaxed arcs n place (place + 1) place next out) (there : next < length arcs) (from : (arc_at arcs next).from ≡ place) where
+  module _ (h : IsRelaxed arcs n place (place + 1) place next out) (there : next < length arcs)
+      (from : (arc_at arcs next).from ≡ place) where
     -- the weight of the way to `place` and along the arc
     abbrev along : ℕ
     along = get_or out place 0 + (arc_at arcs next).weight
@@ -62,10 +66,12 @@ module _ (n : ℕ) (arcs : List Arc) (place next : ℕ) (out : List ℕ) (forwar
 
     arc-reached : (k : ℕ) → k ≤ n → (k ≡ (arc_at arcs next).to) ⊎ (k ≢ (arc_at arcs next).to) →
         (is : List ℕ) × (IsPath arcs 0 is k × (path_weight arcs is ≡ get_or after k 0))
-    arc-reached k up (inr apart) = let r = h.reached k up in (r.0, (r.1.0, r.1.1 ∙ sym (raised_other out _ along in_room k apart)))
+    arc-reached k up (inr apart) = let r = h.reached k up in
+        (r.0, (r.1.0, r.1.1 ∙ sym (raised_other out _ along in_room k apart)))
     arc-reached k up (inl same) = go (cases_lt (get_or out k 0) along)
       where
-        go : (get_or out k 0 < along) ⊎ (along ≤ get_or out k 0) → (is : List ℕ) × (IsPath arcs 0 is k × (path_weight arcs is ≡ get_or after k 0))
+        go : (get_or out k 0 < along) ⊎ (along ≤ get_or out k 0) →
+            (is : List ℕ) × (IsPath arcs 0 is k × (path_weight arcs is ≡ get_or after k 0))
         go (inl less) =
             let r = h.reached place (omega (arith, forward next there)) in (
               r.0 ++ next ∷ [],
@@ -75,7 +81,8 @@ module _ (n : ℕ) (arcs : List Arc) (place next : ℕ) (out : List ℕ) (forwar
                     ∙ omega (arith, r.1.1, raised_same out _ along in_room k same, ap (λ j. get_or out j 0) same),
               ),
             )
-        go (inr more) = let r = h.reached k up in (r.0, (r.1.0, omega (arith, r.1.1, raised_same out _ along in_room k same, ap (λ j. get_or out j 0) same)))
+        go (inr more) = let r = h.reached k up in
+            (r.0, (r.1.0, omega (arith, r.1.1, raised_same out _ along in_room k same, ap (λ j. get_or out j 0) same)))
 
     arc-taken-here : get_or after (arc_at arcs next).from 0 + (arc_at arcs next).weight ≤ get_or after (arc_at arcs next).to 0
     arc-taken-here =
@@ -105,7 +112,8 @@ module _ (n : ℕ) (arcs : List Arc) (place next : ℕ) (out : List ℕ) (forwar
     arc-before i below (inl same) = rw same (omega arith)
     arc-before i below (inr apart) = omega (arith, h.before i (omega arith))
 
-    arc-small : (k : ℕ) → k ≤ n → (k ≡ (arc_at arcs next).to) ⊎ (k ≢ (arc_at arcs next).to) → get_or after k 0 ≤ total_weight (take (next + 1) arcs)
+    arc-small : (k : ℕ) → k ≤ n → (k ≡ (arc_at arcs next).to) ⊎ (k ≢ (arc_at arcs next).to) →
+        get_or after k 0 ≤ total_weight (take (next + 1) arcs)
     arc-small k up same =
         let sum = sum_by_more (λ e. e.weight) arcs next (record { from = 0; to = 0; weight = 0 }) there in
         let here = h.small k up in
@@ -132,15 +140,20 @@ module _ (n : ℕ) (arcs : List Arc) (place next : ℕ) (out : List ℕ) (forwar
     }
 
   -- all arcs that begin at `place` are done: the next place has at least as much
-  module _ (h : IsRelaxed arcs n place (place + 1) place next out) (there : place < n) (past : next < length arcs → (arc_at arcs next).from ≢ place) where
+  module _ (h : IsRelaxed arcs n place (place + 1) place next out) (there : place < n) (past : next < length arcs →
+      (arc_at arcs next).from ≢ place) where
     abbrev on : List ℕ
     on = set out (place + 1) (max (get_or out (place + 1) 0) (get_or out place 0))
 
     on-room : place + 1 < length out
     on-room = omega (arith, h.room)
 
-    on-reached : (k : ℕ) → k ≤ n → (k ≡ place + 1) ⊎ (k ≢ place + 1) → (is : List ℕ) × (IsPath arcs 0 is k × (path_weight arcs is ≡ get_or on k 0))
-    on-reached k up (inr apart) = let r = h.reached k up in (r.0, (r.1.0, r.1.1 ∙ sym (raised_other out _ (get_or out place 0) on-room k apart)))
+    on-reached : (k : ℕ) → k ≤ n → (k ≡ place + 1) ⊎ (k ≢ place + 1) →
+        (is : List ℕ) × (IsPath arcs 0 is k × (path_weight arcs is ≡ get_or on k 0))
+    on-reached k up (inr apart) = let r = h.reached k up in (
+      r.0,
+      (r.1.0, r.1.1 ∙ sym (raised_other out _ (get_or out place 0) on-room k apart)),
+    )
     on-reached k up (inl same) = go (cases_lt (get_or out k 0) (get_or out place 0))
       where
         go : (get_or out k 0 < get_or out place 0) ⊎ (get_or out place 0 ≤ get_or out k 0) →
@@ -154,12 +167,26 @@ module _ (n : ℕ) (arcs : List Arc) (place next : ℕ) (out : List ℕ) (forwar
                     (arith, r.1.1, raised_same out _ (get_or out place 0) on-room k same, ap (λ j. get_or out j 0) same),
               ),
             )
-        go (inr more) = let r = h.reached k up in
-            (r.0, (r.1.0, omega (arith, r.1.1, raised_same out _ (get_or out place 0) on-room k same, ap (λ j. get_or out j 0) same)))
+        go (inr more) = let r = h.reached k up in (
+          r.0,
+          (
+            r.1.0,
+            omega (
+              arith,
+              r.1.1,
+              raised_same out _ (get_or out place 0) on-room k same,
+              ap (λ j. get_or out j 0) same,
+            ),
+          ),
+        )
 
     on-rising : (k : ℕ) → k < place + 1 → (k ≡ place) ⊎ (k ≢ place) → get_or on k 0 ≤ get_or on (k + 1) 0
     on-rising k below (inl same) =
-        rw same (omega (arith, raised_other out _ (get_or out place 0) on-room place (omega arith), raised_at out _ (get_or out place 0) on-room))
+        rw same (omega (
+          arith,
+          raised_other out _ (get_or out place 0) on-room place (omega arith),
+          raised_at out _ (get_or out place 0) on-room,
+        ))
     on-rising k below (inr apart) =
         omega (
           arith,
@@ -209,7 +236,8 @@ module _ (n : ℕ) (arcs : List Arc) (place next : ℕ) (out : List ℕ) (forwar
 
 -- ---- the end of the pass
 
-module _ (n : ℕ) (arcs : List Arc) (next : ℕ) (out : List ℕ) (forward : LeadForward n arcs) (h : IsRelaxed arcs n n n n next out) where
+module _ (n : ℕ) (arcs : List Arc) (next : ℕ) (out : List ℕ) (forward : LeadForward n arcs)
+    (h : IsRelaxed arcs n n n n next out) where
   rising_by : (k m : ℕ) → k + m ≤ n → get_or out k 0 ≤ get_or out (k + m) 0
   rising_by k zero up = rw add-zero (omega arith)
   rising_by k (suc m) up =
@@ -220,10 +248,12 @@ module _ (n : ℕ) (arcs : List Arc) (next : ℕ) (out : List ℕ) (forward : Le
   rising_to p k low up = let e : p + (k - p) ≡ k = omega arith in rw e at (rising_by p (k - p) (omega arith))
 
   -- no path gains more than its end has above its start
-  path_weight-le : (p : ℕ) (is : List ℕ) (k : ℕ) → IsPath arcs p is k → k ≤ n → get_or out p 0 + path_weight arcs is ≤ get_or out k 0
+  path_weight-le : (p : ℕ) (is : List ℕ) (k : ℕ) → IsPath arcs p is k → k ≤ n →
+      get_or out p 0 + path_weight arcs is ≤ get_or out k 0
   path_weight-le p [] k path up = omega (arith, rising_to p k path up)
   path_weight-le p (i ∷ is) k path up =
-      let past : i < next = ⊎_elim (λ l. l) (λ g. absurd (omega (arith, h.later i g path.0, forward i path.0))) (cases_lt i next) in
+      let past : i < next = ⊎_elim (λ l. l) (λ g. absurd (omega (arith, h.later i g path.0, forward i path.0)))
+      (cases_lt i next) in
       omega (
         arith,
         path_weight-le (arc_at arcs i).to is k path.2 up,

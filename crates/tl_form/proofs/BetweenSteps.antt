@@ -1,5 +1,6 @@
 -- Steps from one width on and up to another: those between, after one for the height at the first width.
-use Rattle.std.proofs.Common.{◌≡◌, ℕ, ◌+◌, ◌<◌, ◌≤◌, ◌⊎◌, inl, inr, List, [], ◌∷◌, ◌++◌, length, get_or, Some, Contains, sym, ap, subst, ◌∙◌, arith}
+use Rattle.std.proofs.Common.{◌≡◌, ℕ, ◌+◌, ◌<◌, ◌≤◌, ◌⊎◌, inl, inr, List, [], ◌∷◌, ◌++◌, length, get_or, Some, Contains, sym, ap}
+use Rattle.std.proofs.Common.{subst, ◌∙◌, arith}
 use Rattle.std.proofs.lemmas.Bool.{cases_lt}
 use Rattle.std.proofs.lemmas.List.{get_or_default, length_push}
 use Rattle.std.proofs.lemmas.List.Elements.{Contains-push, Contains-push_cases, Contains-append_left}
@@ -14,8 +15,10 @@ use Rattle.tl_form.proofs.NeedSteps.{AreStepsOf-from, height-falls, height-own, 
 -- the list has the height at `from`, and those of the first `i` steps that begin after it and up to the page
 pub record BetweenSoFar (steps : List Config) (from page i : ℕ) (list : List Config) : Type 0 where
   pub are : AreSteps list
-  pub kept : (step : Config) → Contains list step → (from ≤ step.width) × (step.width ≤ page) × (height_at steps step.width ≡ Some step.height)
-  pub before : (step : Config) → Contains list step → (step.width ≤ from) ⊎ ((k : ℕ) × (k < i) × (k < length steps) × (get_or steps k no_step ≡ step))
+  pub kept : (step : Config) → Contains list step → (from ≤ step.width) × (step.width ≤ page) ×
+      (height_at steps step.width ≡ Some step.height)
+  pub before : (step : Config) → Contains list step → (step.width ≤ from) ⊎
+      ((k : ℕ) × (k < i) × (k < length steps) × (get_or steps k no_step ≡ step))
   pub every : (k : ℕ) → k < i → k < length steps → from < (get_or steps k no_step).width → (get_or steps k no_step).width ≤ page →
       Contains list (get_or steps k no_step)
   pub first : (h : ℕ) → height_at steps from ≡ Some h → Contains list (record { width = from; height = h })
@@ -52,7 +55,8 @@ between-first steps from page h list within at is =
 module _ (steps : List Config) (are : AreSteps steps) (from page : ℕ) where
   -- the next step is between
   pub between-kept : (i : ℕ) (list more : List Config) (step : Config) → BetweenSoFar steps from page i list → i < length steps →
-      step ≡ get_or steps i step → from < step.width → step.width ≤ page → more ≡ list ++ step ∷ [] → BetweenSoFar steps from page (i + 1) more
+      step ≡ get_or steps i step → from < step.width → step.width ≤ page → more ≡ list ++ step ∷ [] →
+      BetweenSoFar steps from page (i + 1) more
   between-kept i list more step so_far inside is wide narrow push =
       subst (BetweenSoFar steps from page (i + 1)) (sym push) (record {
         are = record {
@@ -67,7 +71,8 @@ module _ (steps : List Config) (are : AreSteps steps) (from page : ℕ) where
         kept = λ one has. elim (Contains-push_cases list step one has) [
           | inl old ↦ so_far.kept one old
           | inr same ↦
-              subst (λ (any : Config). (from ≤ any.width) × (any.width ≤ page) × (height_at steps any.width ≡ Some any.height)) same
+              subst (λ (any : Config). (from ≤ any.width) × (any.width ≤ page) × (height_at steps any.width ≡ Some any.height))
+              same
               (omega (arith, wide), narrow, height-own steps are step there)
         ];
         before = λ one has. elim (Contains-push_cases list step one has) [
@@ -121,7 +126,8 @@ module _ (steps : List Config) (are : AreSteps steps) (from page : ℕ) where
       | inl old ↦ so_far.every k old within after upto
       | inr new ↦
           let here : i ≡ k = omega (arith, less, new) in
-          let same : step ≡ get_or steps k no_step = is ∙ sym (get_or_default steps i no_step step inside) ∙ ap (λ n. get_or steps n no_step) here in
+          let same : step ≡ get_or steps k no_step = is ∙ sym (get_or_default steps i no_step step inside) ∙ ap
+          (λ n. get_or steps n no_step) here in
           let width = ap (λ (any : Config). any.width) same in
           absurd (omega (arith, width, upto, outside (omega (arith, after, width))))
     ];
@@ -129,7 +135,8 @@ module _ (steps : List Config) (are : AreSteps steps) (from page : ℕ) where
   }
 
   -- all steps have been looked at
-  pub between-all : (i h : ℕ) (list : List Config) → BetweenSoFar steps from page i list → length steps ≤ i → height_at steps from ≡ Some h →
+  pub between-all : (i h : ℕ) (list : List Config) → BetweenSoFar steps from page i list → length steps ≤ i →
+      height_at steps from ≡ Some h →
       AreStepsOf (From from (λ w n. height_at steps w ≡ Some n)) page list
   between-all i h list so_far whole at =
       AreStepsOf-from (From from (λ w n. height_at steps w ≡ Some n)) page list so_far.are
@@ -144,7 +151,8 @@ module _ (steps : List Config) (are : AreSteps steps) (from page : ℕ) where
       let found = step-at steps w n need.1 in
       elim (cases_lt from found.0.width) [
         | inl wide ↦
-            let index : get_or steps found.1.0 no_step ≡ found.0 = get_or_default steps found.1.0 no_step found.0 found.1.1 ∙ found.1.2 in
+            let index : get_or steps found.1.0 no_step ≡ found.0 =
+            get_or_default steps found.1.0 no_step found.0 found.1.1 ∙ found.1.2 in
             let width = ap (λ (any : Config). any.width) index in (
               found.0,
               subst (λ (any : Config). Contains list any) index

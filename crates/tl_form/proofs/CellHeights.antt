@@ -3,16 +3,16 @@ use Rattle.std.proofs.Common.{ℕ, ◌+◌, ◌*◌, ◌≤◌, List, [], ◌∷
 use Rattle.std.specs.List.{AllZip, AllByRecursion}
 use Rattle.std.proofs.lemmas.List.Sums.{sum_by-cons}
 use Rattle.tl_base.proofs.Sums.{sum-cons}
-use Rattle.tl_form.specs.declared.cell.Content.{Content, out-Content}
-use Rattle.tl_form.specs.declared.cell.Content.TheOpen as open_content
-use Rattle.tl_form.specs.declared.cell.Table.{Table}
-use Rattle.tl_form.specs.declared.cell.TableCell.{TableCell, out-TableCell}
-use Rattle.tl_form.specs.Tables.{OpenCell, OpenContent, tables_in, tables_of}
+use Rattle.tl_table.specs.declared.cell.Content.{Content, out-Content}
+use Rattle.tl_table.specs.declared.cell.Content.TheOpen as open_content
+use Rattle.tl_table.specs.declared.cell.Table.{Table}
+use Rattle.tl_table.specs.declared.cell.TableCell.{TableCell, out-TableCell}
+use Rattle.tl_table.specs.Tables.{OpenCell, OpenContent, tables_in, tables_of}
 use Rattle.tl_form.specs.Problems.{BlockNeeds, CellNeeds}
-use Rattle.tl_form.specs.Sound.{IsSpelt, cell_size, content_size, table_size}
+use Rattle.tl_table.specs.Sound.{IsSpelt, cell_size, content_size, table_size}
 use Rattle.tl_form.proofs.LineCounts.{lines-le}
-use Rattle.tl_form.proofs.SizesOpen.{cell_size-out, content_size-out, open_size}
-use Rattle.tl_form.proofs.SoundParts.{each_joined}
+use Rattle.tl_table.proofs.SizesOpen.{cell_size-out, content_size-out, open_size}
+use Rattle.tl_table.proofs.SoundParts.{each_joined}
 
 -- ---- by another account
 
@@ -32,14 +32,17 @@ module _ (Rel : ℕ → ℕ → Type 0) (adds : Adds Rel) (needs others : Table 
   abbrev pub IsSo : Table → Type 0
   IsSo nested = (h : ℕ) → needs nested w h → (k : ℕ) × others nested w k × Rel h k
 
-  block-by : (block : OpenContent) (h : ℕ) → AllByRecursion IsSo (tables_of block) → BlockNeeds needs block w h → (k : ℕ) × BlockNeeds others block w
+  block-by : (block : OpenContent) (h : ℕ) → AllByRecursion IsSo (tables_of block) → BlockNeeds needs block w h →
+      (k : ℕ) × BlockNeeds others block w
       k × Rel h k
   block-by (open_content.Para paragraph) h so need = (h, need, adds.same h)
   block-by (open_content.Table box) h so need = so.0 h need
 
-  blocks-by : (blocks : List Content) (heights : List ℕ) → AllByRecursion (λ block. AllByRecursion IsSo (tables_of (out-Content block))) blocks →
+  blocks-by : (blocks : List Content) (heights : List ℕ) → AllByRecursion
+      (λ block. AllByRecursion IsSo (tables_of (out-Content block))) blocks →
       AllZip (λ block height. BlockNeeds needs (out-Content block) w height) blocks heights →
-      (ks : List ℕ) × AllZip (λ block height. BlockNeeds others (out-Content block) w height) blocks ks × Rel (sum heights) (sum ks)
+      (ks : List ℕ) × AllZip (λ block height. BlockNeeds others (out-Content block) w height) blocks ks ×
+      Rel (sum heights) (sum ks)
   blocks-by [] [] so need = ([], tt, adds.same 0)
   blocks-by [] (h ∷ heights) so need = absurd need
   blocks-by (block ∷ blocks) [] so need = absurd need
@@ -53,9 +56,11 @@ module _ (Rel : ℕ → ℕ → Type 0) (adds : Adds Rel) (needs others : Table 
             (adds.plus h first.0 (sum heights) (sum rest.0) first.2 rest.2)),
       )
 
-  pub cell-by : (cell : OpenCell) (h : ℕ) → AllByRecursion IsSo (tables_in cell) → CellNeeds needs cell w h → (k : ℕ) × CellNeeds others cell w k × Rel h k
+  pub cell-by : (cell : OpenCell) (h : ℕ) → AllByRecursion IsSo (tables_in cell) → CellNeeds needs cell w h →
+      (k : ℕ) × CellNeeds others cell w k × Rel h k
   cell-by cell h so need =
-      let all = blocks-by cell.blocks need.heights (each_joined IsSo (λ block. tables_of (out-Content block)) cell.blocks so) need.blocks in (
+      let all = blocks-by cell.blocks need.heights (each_joined IsSo (λ block. tables_of (out-Content block)) cell.blocks so)
+      need.blocks in (
         sum all.0,
         record { floor = need.floor; heights = all.0; blocks = all.1; all = refl },
         subst (λ n. Rel n (sum all.0)) need.all all.2,
@@ -68,14 +73,16 @@ module _ (needs : Table → ℕ → ℕ → Type 0) (w : ℕ) where
   abbrev pub IsSmall : Table → Type 0
   IsSmall nested = (h : ℕ) → needs nested w h → h ≤ 2 * table_size nested
 
-  block-small : (block : OpenContent) (h : ℕ) → IsSpelt block → AllByRecursion IsSmall (tables_of block) → BlockNeeds needs block w h →
+  block-small : (block : OpenContent) (h : ℕ) → IsSpelt block → AllByRecursion IsSmall (tables_of block) →
+      BlockNeeds needs block w h →
       h ≤ 2 * open_size block
   block-small (open_content.Para paragraph) h spelt small need = omega (arith, lines-le paragraph w h spelt need)
   block-small (open_content.Table box) h spelt small need = small.0 h need
 
   blocks-small : (blocks : List Content) (heights : List ℕ) → AllByRecursion (λ block. IsSpelt (out-Content block)) blocks →
       AllByRecursion (λ block. AllByRecursion IsSmall (tables_of (out-Content block))) blocks →
-      AllZip (λ block height. BlockNeeds needs (out-Content block) w height) blocks heights → sum heights ≤ 2 * sum_by content_size blocks
+      AllZip (λ block height. BlockNeeds needs (out-Content block) w height) blocks heights →
+      sum heights ≤ 2 * sum_by content_size blocks
   blocks-small [] [] spelt small need = omega arith
   blocks-small [] (h ∷ heights) spelt small need = absurd need
   blocks-small (block ∷ blocks) [] spelt small need = absurd need
@@ -89,8 +96,10 @@ module _ (needs : Table → ℕ → ℕ → Type 0) (w : ℕ) where
         blocks-small blocks heights spelt.1 small.1 need.1,
       )
 
-  pub cell-small : (cell : TableCell) (h : ℕ) → AllByRecursion (λ block. IsSpelt (out-Content block)) (out-TableCell cell).blocks →
-      AllByRecursion IsSmall (tables_in (out-TableCell cell)) → CellNeeds needs (out-TableCell cell) w h → h + 2 ≤ 2 * cell_size cell
+  pub cell-small : (cell : TableCell) (h : ℕ) → AllByRecursion (λ block. IsSpelt (out-Content block))
+      (out-TableCell cell).blocks →
+      AllByRecursion IsSmall (tables_in (out-TableCell cell)) → CellNeeds needs (out-TableCell cell) w h →
+      h + 2 ≤ 2 * cell_size cell
   cell-small cell h spelt small need =
       omega (
         arith,

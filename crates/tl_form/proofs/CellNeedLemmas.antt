@@ -1,5 +1,6 @@
 -- What a cell needs, block by block: its heights are determined, where they begin, and their steps.
-use Rattle.std.proofs.Common.{◌≡◌, ℕ, zero, suc, ◌+◌, ◌<◌, ◌≤◌, max, List, [], ◌∷◌, ◌++◌, length, take, get_or, Option, Some, None}
+use Rattle.std.proofs.Common.{◌≡◌, ℕ, zero, suc, ◌+◌, ◌<◌, ◌≤◌, max, List, [], ◌∷◌, ◌++◌, length, take, get_or, Option, Some}
+use Rattle.std.proofs.Common.{None}
 use Rattle.std.proofs.Common.{refl, sym, ap, subst, ◌∙◌, arith, sum}
 use Rattle.std.specs.List.{AllZip}
 use Rattle.std.specs.Option.{IsSomeAnd}
@@ -16,11 +17,11 @@ use Rattle.tl_text.specs.declared.paragraph.Atom.{Atom}
 use Rattle.tl_text.specs.Cuttings.{HasCutting, LeastLines}
 use Rattle.tl_text.proofs.Minimals.{AllFit-from_cutting}
 use Rattle.tl_text.proofs.Paragraphs.{LeastLines-falls}
-use Rattle.tl_form.specs.declared.cell.Content.{Content, out-Content}
-use Rattle.tl_form.specs.declared.cell.Content.TheOpen as open_content
-use Rattle.tl_form.specs.declared.cell.Table.{Table, out-Table}
+use Rattle.tl_table.specs.declared.cell.Content.{Content, out-Content}
+use Rattle.tl_table.specs.declared.cell.Content.TheOpen as open_content
+use Rattle.tl_table.specs.declared.cell.Table.{Table, out-Table}
 use Rattle.tl_form.specs.declared.heights.InnerSteps.{InnerSteps}
-use Rattle.tl_form.specs.Tables.{OpenCell, OpenContent}
+use Rattle.tl_table.specs.Tables.{OpenCell, OpenContent}
 use Rattle.tl_form.specs.Problems.{AreStepsOf, BlockNeeds, CellNeeds, InnerNeeds, steps_for}
 use Rattle.tl_form.specs.inner.CellSteps.{From, BlocksNeed, IsLowCell, IsStart}
 use Rattle.tl_form.proofs.NeedSteps.{AreStepsOf-same, AreStepsOf-stacked, BothNeed, height-first, first-least}
@@ -69,7 +70,8 @@ module _ (needs : Table → ℕ → ℕ → Type 0) (functional : IsFunctional n
 
   pub cell-functional : (cell : OpenCell) (w m n : ℕ) → CellNeeds needs cell w m → CellNeeds needs cell w n → m ≡ n
   cell-functional cell w m n first second =
-      sym first.all ∙ ap sum (heights-functional cell.blocks w first.heights second.heights first.blocks second.blocks) ∙ second.all
+      sym first.all ∙ ap sum (heights-functional cell.blocks w first.heights second.heights first.blocks
+      second.blocks) ∙ second.all
 
 -- ---- block by block
 
@@ -85,7 +87,8 @@ module _ (needs : Table → ℕ → ℕ → Type 0) where
   none-is w h ([], those, all) = sym all
   none-is w h (n ∷ ns, those, all) = absurd those
 
-  pub one-more : (blocks : List Content) (block : Content) (w m n : ℕ) → BlocksNeed needs blocks w m → BlockNeeds needs (out-Content block) w n →
+  pub one-more : (blocks : List Content) (block : Content) (w m n : ℕ) → BlocksNeed needs blocks w m →
+      BlockNeeds needs (out-Content block) w n →
       BlocksNeed needs (blocks ++ block ∷ []) w (m + n)
   one-more blocks block w m n before here = (
     before.0 ++ n ∷ [],
@@ -109,7 +112,8 @@ module _ (needs : Table → ℕ → ℕ → Type 0) where
       )
 
   -- the first blocks need no more than all
-  pub first-blocks : (k : ℕ) (blocks : List Content) (w h : ℕ) → BlocksNeed needs blocks w h → (m : ℕ) × BlocksNeed needs (take k blocks) w m × (m ≤ h)
+  pub first-blocks : (k : ℕ) (blocks : List Content) (w h : ℕ) → BlocksNeed needs blocks w h →
+      (m : ℕ) × BlocksNeed needs (take k blocks) w m × (m ≤ h)
   first-blocks zero blocks w h all = (0, none-needed w, omega arith)
   first-blocks (suc k) [] w h all = (h, all, omega arith)
   first-blocks (suc k) (block ∷ blocks) w h ([], those, all) = absurd those
@@ -127,7 +131,8 @@ module _ (needs : Table → ℕ → ℕ → Type 0) where
   block-at (one ∷ blocks) w h k block ([], those, all) within is = absurd those
   block-at (one ∷ blocks) w h zero block (n ∷ ns, those, all) within is =
       (n, subst (λ (b : Content). BlockNeeds needs (out-Content b) w n) (sym is) those.0)
-  block-at (one ∷ blocks) w h (suc k) block (n ∷ ns, those, all) within is = block-at blocks w (sum ns) k block (ns, those.1, refl) (omega arith) is
+  block-at (one ∷ blocks) w h (suc k) block (n ∷ ns, those, all) within is =
+      block-at blocks w (sum ns) k block (ns, those.1, refl) (omega arith) is
 
   pub cell-blocks : (cell : OpenCell) (w h : ℕ) → CellNeeds needs cell w h → BlocksNeed needs cell.blocks w h
   cell-blocks cell w h need = (need.heights, need.blocks, need.all)
@@ -167,13 +172,15 @@ module _ (needs : Table → ℕ → ℕ → Type 0) where
   abbrev pub StepsSoFar : ℕ → ℕ → List Content → List Config → Type 0
   StepsSoFar start page blocks steps = AreStepsOf (From start (BlocksNeed needs blocks)) page steps
 
-  pub steps-none : (start page : ℕ) (steps : List Config) → AreStepsOf (From start (λ w h. h ≡ 0)) page steps → StepsSoFar start page [] steps
+  pub steps-none : (start page : ℕ) (steps : List Config) → AreStepsOf (From start (λ w h. h ≡ 0)) page steps →
+      StepsSoFar start page [] steps
   steps-none start page steps of =
       AreStepsOf-same (From start (λ w h. h ≡ 0)) (From start (BlocksNeed needs [])) page steps
       (λ w h within need. (need.0, subst (λ n. BlocksNeed needs [] w n) (sym need.1) (none-needed w)))
       (λ w h within need. (need.0, none-is w h need.1)) of
 
-  pub steps-more : (start page : ℕ) (blocks : List Content) (block : Content) (before here steps : List Config) → StepsSoFar start page blocks before →
+  pub steps-more : (start page : ℕ) (blocks : List Content) (block : Content) (before here steps : List Config) →
+      StepsSoFar start page blocks before →
       AreStepsOf (From start (BlockNeeds needs (out-Content block))) page here → AreSteps steps →
       ((w : ℕ) → height_at steps w ≡ stacked_height before here w) → StepsSoFar start page (blocks ++ block ∷ []) steps
   steps-more start page blocks block before here steps of_before of_here are heights =
@@ -186,7 +193,8 @@ module _ (needs : Table → ℕ → ℕ → Type 0) where
       (λ w h within need.
       let less = one-less blocks block w h need.1 in
       (less.0, less.1, (need.0, less.2), (need.0, less.3), less.4))
-      (AreStepsOf-stacked (From start (BlocksNeed needs blocks)) (From start (BlockNeeds needs (out-Content block))) page before here steps of_before
+      (AreStepsOf-stacked (From start (BlocksNeed needs blocks)) (From start (BlockNeeds needs (out-Content block)))
+      page before here steps of_before
       of_here are heights)
 
   pub steps-all : (page : ℕ) (cell : OpenCell) (start : ℕ) (steps : List Config) → IsStart (CellNeeds needs cell) start →
@@ -208,22 +216,26 @@ pub taken : (blocks : List Content) (k : ℕ) (block : Content) → k < length b
 taken blocks k block inside is = take_more blocks k block inside ∙ ap (λ last. take k blocks ++ last ∷ []) (sym is)
 
 module _ (needs : Table → ℕ → ℕ → Type 0) (functional : IsFunctional needs) (cell : OpenCell) (width : ℕ) where
-  pub low-more : (k height more : ℕ) (block : Content) → LowSoFar needs width (take k cell.blocks) height → k < length cell.blocks →
+  pub low-more : (k height more : ℕ) (block : Content) → LowSoFar needs width (take k cell.blocks) height →
+      k < length cell.blocks →
       block ≡ get_or cell.blocks k block → BlockNeeds needs (out-Content block) width more → height + more ≤ MAX_HEIGHT →
       LowSoFar needs width (take (k + 1) cell.blocks) (height + more)
   low-more k height more block so_far inside is here low = record {
-    needed = subst (λ (blocks : List Content). BlocksNeed needs blocks width (height + more)) (sym (taken cell.blocks k block inside is))
+    needed = subst (λ (blocks : List Content). BlocksNeed needs blocks width (height + more))
+        (sym (taken cell.blocks k block inside is))
         (one-more needs (take k cell.blocks) block width height more so_far.needed here);
     low = low;
   }
 
   -- where the first blocks are too high the cell is
-  pub high-so-far : (k height more h : ℕ) (block : Content) → BlocksNeed needs (take k cell.blocks) width height → k < length cell.blocks →
+  pub high-so-far : (k height more h : ℕ) (block : Content) → BlocksNeed needs (take k cell.blocks) width height →
+      k < length cell.blocks →
       block ≡ get_or cell.blocks k block → BlockNeeds needs (out-Content block) width more → MAX_HEIGHT < height + more →
       CellNeeds needs cell width h → h ≤ MAX_HEIGHT → ⊥
   high-so-far k height more h block so_far inside is here high need low =
       let first = first-blocks needs (k + 1) cell.blocks width h (cell-blocks needs cell width h need) in
-      let sum = subst (λ (blocks : List Content). BlocksNeed needs blocks width (height + more)) (sym (taken cell.blocks k block inside is))
+      let sum = subst (λ (blocks : List Content). BlocksNeed needs blocks width (height + more))
+      (sym (taken cell.blocks k block inside is))
       (one-more needs (take k cell.blocks) block width height more so_far here) in
       let same = blocks-functional needs functional (take (k + 1) cell.blocks) width first.0 (height + more) first.1 sum in
       omega (arith, same, first.2, high, low)
@@ -240,12 +252,14 @@ module _ (needs : Table → ℕ → ℕ → Type 0) (functional : IsFunctional n
 -- ---- where steps begin
 
 -- steps of what is needed from a width on begin there
-pub from-first : (needs : ℕ → ℕ → Type 0) (start page h : ℕ) (steps : List Config) → start ≤ page → AreStepsOf (From start needs) page steps →
+pub from-first : (needs : ℕ → ℕ → Type 0) (start page h : ℕ) (steps : List Config) → start ≤ page →
+    AreStepsOf (From start needs) page steps →
     needs start h → (first_width steps ≡ start) × needs start (first_height steps)
 from-first needs start page h steps within of need =
     let here = (of.each start h within).1 (omega arith, need) in
     let least = first-least steps of.decreasing start h here in
-    let first = (of.each (first_width steps) (first_height steps) (omega (arith, least, within))).0 (height-first steps of.decreasing) in
+    let first = (of.each (first_width steps) (first_height steps) (omega (arith, least, within))).0
+    (height-first steps of.decreasing) in
     let same : first_width steps ≡ start = omega (arith, least, first.0) in
     (same, subst (λ w. needs w (first_height steps)) same first.1)
 
@@ -253,7 +267,8 @@ from-first needs start page h steps within of need =
 pub low-together : (needs : Table → ℕ → ℕ → Type 0) → IsFunctional needs → (cell : OpenCell) (page start k : ℕ) (block : Content)
     (before here : List Config) → IsLowCell needs page cell → IsStart (CellNeeds needs cell) start → k < length cell.blocks →
     block ≡ get_or cell.blocks k block → StepsSoFar needs start page (take k cell.blocks) before →
-    AreStepsOf (From start (BlockNeeds needs (out-Content block))) page here → first_height before + first_height here ≤ MAX_HEIGHT
+    AreStepsOf (From start (BlockNeeds needs (out-Content block))) page here →
+    first_height before + first_height here ≤ MAX_HEIGHT
 low-together needs functional cell page start k block before here low begins inside is of_before of_here =
     let within : start ≤ page = begins.from page low.some.0 low.some.1 in
     let whole = begins.has start (omega arith) in
@@ -278,7 +293,8 @@ steps-begin steps are = record {
 -- ---- a block by its kind
 
 pub paragraph-begins : (needs : Table → ℕ → ℕ → Type 0) (block : OpenContent) (paragraph : List Atom) (start : ℕ) →
-    block ≡ open_content.Para paragraph → ((w : ℕ) → start ≤ w → HasCutting w paragraph) → ((w : ℕ) → HasCutting w paragraph → start ≤ w) →
+    block ≡ open_content.Para paragraph → ((w : ℕ) → start ≤ w → HasCutting w paragraph) →
+    ((w : ℕ) → HasCutting w paragraph → start ≤ w) →
     IsStart (BlockNeeds needs block) start
 paragraph-begins needs block paragraph start is holds least =
     subst (λ (any : OpenContent). IsStart (BlockNeeds needs any) start) (sym is) (record {
@@ -288,11 +304,13 @@ paragraph-begins needs block paragraph start is holds least =
 
 -- a nested table has the steps that are found for it
 module _ (bound : InnerSteps → List Config) (inner : List InnerSteps) (nested : Table) (steps : List Config) where
-  pub needs-from_steps : IsSomeAnd (steps_for inner (out-Table nested).number) (λ one. steps ≡ bound one) → (w h : ℕ) → height_at steps w ≡ Some h →
+  pub needs-from_steps : IsSomeAnd (steps_for inner (out-Table nested).number) (λ one. steps ≡ bound one) → (w h : ℕ) →
+      height_at steps w ≡ Some h →
       InnerNeeds bound inner nested w h
   needs-from_steps found w h is = by_steps (steps_for inner (out-Table nested).number) found
     where
-      by_steps : (o : Option InnerSteps) → IsSomeAnd o (λ one. steps ≡ bound one) → IsSomeAnd o (λ one. height_at (bound one) w ≡ Some h)
+      by_steps : (o : Option InnerSteps) → IsSomeAnd o (λ one. steps ≡ bound one) →
+          IsSomeAnd o (λ one. height_at (bound one) w ≡ Some h)
       by_steps None found = absurd found
       by_steps (Some one) found = subst (λ any. height_at any w ≡ Some h) found is
 
@@ -300,14 +318,17 @@ module _ (bound : InnerSteps → List Config) (inner : List InnerSteps) (nested 
       InnerNeeds bound inner nested w h → height_at steps w ≡ Some h
   steps-from_needs found w h is = by_steps (steps_for inner (out-Table nested).number) found is
     where
-      by_steps : (o : Option InnerSteps) → IsSomeAnd o (λ one. steps ≡ bound one) → IsSomeAnd o (λ one. height_at (bound one) w ≡ Some h) →
+      by_steps : (o : Option InnerSteps) → IsSomeAnd o (λ one. steps ≡ bound one) →
+          IsSomeAnd o (λ one. height_at (bound one) w ≡ Some h) →
           height_at steps w ≡ Some h
       by_steps None found is = absurd found
       by_steps (Some one) found is = subst (λ any. height_at any w ≡ Some h) (sym found) is
 
-pub table-begins : (bound : InnerSteps → List Config) (inner : List InnerSteps) (block : OpenContent) (box : Box Table Global) (nested : Table)
+pub table-begins : (bound : InnerSteps → List Config) (inner : List InnerSteps) (block : OpenContent) (box : Box Table Global)
+    (nested : Table)
     (steps : List Config) (start : ℕ) → block ≡ open_content.Table box → nested ≡ box.value →
-    IsSomeAnd (steps_for inner (out-Table nested).number) (λ one. steps ≡ bound one) → IsStart (λ w h. height_at steps w ≡ Some h) start →
+    IsSomeAnd (steps_for inner (out-Table nested).number) (λ one. steps ≡ bound one) →
+    IsStart (λ w h. height_at steps w ≡ Some h) start →
     IsStart (BlockNeeds (InnerNeeds bound inner) block) start
 table-begins bound inner block box nested steps start is same found begins =
     subst (λ (any : OpenContent). IsStart (BlockNeeds (InnerNeeds bound inner) any) start) (sym is)
@@ -317,15 +338,18 @@ table-begins bound inner block box nested steps start is same found begins =
     }))
 
 -- a block's height and steps, by its kind
-pub paragraph-height : (needs : Table → ℕ → ℕ → Type 0) (block : OpenContent) (paragraph : List Atom) (w h : ℕ) → block ≡ open_content.Para paragraph →
+pub paragraph-height : (needs : Table → ℕ → ℕ → Type 0) (block : OpenContent) (paragraph : List Atom) (w h : ℕ) →
+    block ≡ open_content.Para paragraph →
     LeastLines w paragraph h → BlockNeeds needs block w h
 paragraph-height needs block paragraph w h is least = subst (λ (any : OpenContent). BlockNeeds needs any w h) (sym is) least
 
-pub height-paragraph : (needs : Table → ℕ → ℕ → Type 0) (block : OpenContent) (paragraph : List Atom) (w h : ℕ) → block ≡ open_content.Para paragraph →
+pub height-paragraph : (needs : Table → ℕ → ℕ → Type 0) (block : OpenContent) (paragraph : List Atom) (w h : ℕ) →
+    block ≡ open_content.Para paragraph →
     BlockNeeds needs block w h → LeastLines w paragraph h
 height-paragraph needs block paragraph w h is need = subst (λ (any : OpenContent). BlockNeeds needs any w h) is need
 
-module _ (bound : InnerSteps → List Config) (inner : List InnerSteps) (block : OpenContent) (box : Box Table Global) (nested : Table)
+module _ (bound : InnerSteps → List Config) (inner : List InnerSteps) (block : OpenContent) (box : Box Table Global)
+    (nested : Table)
     (steps : List Config) (is : block ≡ open_content.Table box) (same : nested ≡ box.value)
     (found : IsSomeAnd (steps_for inner (out-Table nested).number) (λ one. steps ≡ bound one)) where
   pub table-height : (w h : ℕ) → height_at steps w ≡ Some h → BlockNeeds (InnerNeeds bound inner) block w h
@@ -336,7 +360,8 @@ module _ (bound : InnerSteps → List Config) (inner : List InnerSteps) (block :
   pub height-table : (w h : ℕ) → BlockNeeds (InnerNeeds bound inner) block w h → height_at steps w ≡ Some h
   height-table w h need =
       steps-from_needs bound inner nested steps found w h
-      (subst (λ (any : Table). InnerNeeds bound inner any w h) (sym same) (subst (λ (any : OpenContent). BlockNeeds (InnerNeeds bound inner) any w h) is need))
+      (subst (λ (any : Table). InnerNeeds bound inner any w h) (sym same)
+      (subst (λ (any : OpenContent). BlockNeeds (InnerNeeds bound inner) any w h) is need))
 
 -- the steps between two widths of a block's steps are those of the block
 pub block-between : (needs : Table → ℕ → ℕ → Type 0) (block : OpenContent) (from page : ℕ) (steps cut : List Config) →

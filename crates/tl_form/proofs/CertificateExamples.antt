@@ -8,14 +8,16 @@
 --   section 1 12 2 2    the nested table on 12 columns: its placement of 10 has 2 lines, the lowest
 --   section 1 9 3 3     on 9, one less than 10: its placement of 7, its least width, has 3 lines
 --   section 0 12 2 2    the table itself: its placement of 10 has 2 lines
-use Rattle.std.proofs.Common.{◌≡◌, ◌∙◌, ℕ, zero, suc, ◌-◌, ◌==◌, if◌then◌else◌, ◌<◌, ◌≤◌, List, [], ◌∷◌, length, get_or, take, Option, None, Some}
+use Rattle.std.proofs.Common.{◌≡◌, ◌∙◌, ℕ, zero, suc, ◌-◌, ◌==◌, if◌then◌else◌, ◌<◌, ◌≤◌, List, [], ◌∷◌, length, get_or, take}
+use Rattle.std.proofs.Common.{Option, None, Some}
 use Rattle.std.proofs.Common.{refl, sym, ap, subst, arith}
 use Rattle.std.proofs.lemmas.List.Elements.{All-from_recursion}
 use Rattle.tl_base.specs.declared.style.Style.TheVariants.{Plain, Frame}
 use Rattle.tl_cert.specs.declared.certificate.Claim.TheVariants.{Lowest, Bounded}
 use Rattle.tl_cert.specs.declared.section.Section.{Section}
-use Rattle.tl_form.specs.declared.cell.Table.{Table, out-Table}
-use Rattle.tl_form.specs.Expected.{Document, Due, next_width, placed_width, due_in, next_due, due_from, due_after, IsDue, AreExpected}
+use Rattle.tl_table.specs.declared.cell.Table.{Table, out-Table}
+use Rattle.tl_form.specs.Expected.{Document, Due, next_width, placed_width, due_in, next_due, due_from, due_after, IsDue}
+use Rattle.tl_form.specs.Expected.{AreExpected}
 use Rattle.tl_form.specs.Named.{IsChosen}
 use Rattle.tl_form.specs.Nested.{IsAsWide, IsWithin, IsGreatestLower, IsLeastFound}
 use Rattle.tl_form.specs.Valid.{EndsWith}
@@ -121,7 +123,8 @@ module _ (table : Table) (numbered : (out-Table table).number ≡ 0) where
 lower_at_9 : IsGreatestLower nested 1 9 3
 lower_at_9 = record {
   attained = (1, narrow, omega arith, refl, (record { of = refl; wide = omega arith }, refl));
-  never_more = All-from_recursion (λ s. IsAsWide 1 9 s → s.lower ≤ 3) nested ((λ counts. omega arith), ((λ counts. omega arith), tt));
+  never_more = All-from_recursion (λ s. IsAsWide 1 9 s → s.lower ≤ 3) nested
+      ((λ counts. omega arith), ((λ counts. omega arith), tt));
 }
 
 -- on 10 the second section says nothing
@@ -143,7 +146,8 @@ found_at_9 = record {
 found_at_10 : IsLeastFound Plain nested 1 10 2
 found_at_10 = record {
   attained = (0, wide, omega arith, refl, (record { of = refl; narrow = omega arith }, refl));
-  never_less = All-from_recursion (λ s. IsWithin Plain 1 10 s → 2 ≤ s.height) nested ((λ counts. omega arith), ((λ counts. omega arith), tt));
+  never_less = All-from_recursion (λ s. IsWithin Plain 1 10 s →
+      2 ≤ s.height) nested ((λ counts. omega arith), ((λ counts. omega arith), tt));
 }
 
 -- ---- the claim, and the layout

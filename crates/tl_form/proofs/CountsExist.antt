@@ -9,24 +9,24 @@ use Rattle.tl_base.specs.Style.{gap_of, row_gap_of, edge_of}
 use Rattle.tl_base.proofs.Members.{Contains-cases, Contains-first, Contains-later, Contains-none, AllByRecursion-weaker}
 use Rattle.tl_grid.specs.Dropping.{IsPlaced}
 use Rattle.tl_problem.specs.declared.cell.Cell.{Cell}
-use Rattle.tl_problem.specs.Sizes.{room, total}
+use Rattle.tl_base.specs.Sizes.{room, total}
 use Rattle.tl_problem.specs.Problem.{ProblemModel}
 use Rattle.tl_problem.specs.Spans.{count_of}
-use Rattle.tl_problem.proofs.SizeLaws.{room-total}
-use Rattle.tl_form.specs.declared.cell.Table.{Table, out-Table}
-use Rattle.tl_form.specs.declared.cell.TableCell.{TableCell, out-TableCell}
-use Rattle.tl_form.specs.declared.layout.Layout.{Layout, out-Layout}
-use Rattle.tl_form.specs.Tables.{OpenTable, OpenCell, inner_tables, tables_in}
-use Rattle.tl_form.specs.Layouts.{OpenLayout, Fits, FitsBy, FitsCell, FitsRoom, FitsWithin}
-use Rattle.tl_form.specs.Least.{IsLeastHeight}
-use Rattle.tl_form.specs.Problems.{CellNeeds, IsAmong, IsCellBy, IsCount, IsCountAll, IsTrueProblem}
-use Rattle.tl_form.specs.Sound.{IsSoundBy, IsSoundWithin, place_of}
-use Rattle.tl_form.proofs.Deeper.{FitsBy-weaker}
+use Rattle.tl_base.proofs.SizeLaws.{room-total}
+use Rattle.tl_table.specs.declared.cell.Table.{Table, out-Table}
+use Rattle.tl_table.specs.declared.cell.TableCell.{TableCell, out-TableCell}
+use Rattle.tl_table.specs.declared.layout.Layout.{Layout, out-Layout}
+use Rattle.tl_table.specs.Tables.{OpenTable, OpenCell, inner_tables, tables_in, IsAmong}
+use Rattle.tl_table.specs.Layouts.{OpenLayout, Fits, FitsBy, FitsCell, FitsRoom, FitsWithin}
+use Rattle.tl_table.specs.Least.{IsLeastHeight}
+use Rattle.tl_form.specs.Problems.{CellNeeds, IsCellBy, IsCount, IsCountAll, IsTrueProblem}
+use Rattle.tl_table.specs.Sound.{IsSoundBy, IsSoundWithin, place_of}
+use Rattle.tl_table.proofs.Deeper.{FitsBy-weaker}
 use Rattle.tl_form.proofs.LeastExists.{Settles, settles}
 use Rattle.tl_form.proofs.ProblemLayouts.{IsBelowAt, cell-below}
 use Rattle.tl_form.proofs.ProblemTruth.{cell-inside}
 use Rattle.tl_form.proofs.Searches.{Decides, first-of}
-use Rattle.tl_form.proofs.SoundParts.{both_each, each_joined, joined-each}
+use Rattle.tl_table.proofs.SoundParts.{both_each, each_joined, joined-each}
 use Rattle.tl_form.proofs.StepsExist.{HasStart, cell-begins, cell-steps}
 use Rattle.tl_form.proofs.Truth.{Fits-wider}
 
@@ -57,7 +57,11 @@ module _ (style : Style) where
       }
     where
       decide : (v : ℕ) → Decides ((h : ℕ) × Real table v h)
-      decide v = elim (settle v) [ inl here ↦ inl here | inr none ↦ inr (λ some. none some.0 some.1.attained.0 some.1.attained.1) ]
+      decide v = elim (settle v) [
+        | inl here ↦ inl here
+        | inr none ↦ inr
+            (λ some. none some.0 some.1.attained.0 some.1.attained.1)
+      ]
 
   -- ---- the cells of a layout that fits need heights at their rooms
 
@@ -68,7 +72,8 @@ module _ (style : Style) where
     pub within : w ≤ page
     pub need : CellNeeds Real cell w n
 
-  cell-needs : (w h : ℕ) (cell : OpenCell) (inner : List Layout) → AllByRecursion (Settles style) (tables_in cell) → FitsRoom Any w h cell inner →
+  cell-needs : (w h : ℕ) (cell : OpenCell) (inner : List Layout) → AllByRecursion (Settles style) (tables_in cell) →
+      FitsRoom Any w h cell inner →
       (n : ℕ) × CellNeeds Real cell w n
   cell-needs w h cell inner settle held =
       let low = cell-below Any Real w cell h inner
@@ -112,13 +117,16 @@ module _ (style : Style) where
     abbrev Made : TableCell → Cell → Type 0
     Made cell made = IsCellBy Real Real page (out-TableCell cell) made
 
-    cell-starts : (cell : OpenCell) → AllByRecursion (Settles style) (tables_in cell) → NeedsWithin page cell → AllByRecursion (HasStart Real) (tables_in cell)
+    cell-starts : (cell : OpenCell) → AllByRecursion (Settles style) (tables_in cell) → NeedsWithin page cell →
+        AllByRecursion (HasStart Real) (tables_in cell)
     cell-starts cell settle some =
         AllByRecursion-weaker (λ nested. Settles style nested × ((m : ℕ) × Real nested some.w m)) (HasStart Real) (tables_in cell)
         (λ nested both. has-start nested both.0 some.w both.1.0 both.1.1)
-        (both_each (Settles style) (λ nested. (m : ℕ) × Real nested some.w m) (tables_in cell) settle (cell-inside Real some.w cell some.n some.need))
+        (both_each (Settles style) (λ nested. (m : ℕ) × Real nested some.w m) (tables_in cell) settle
+        (cell-inside Real some.w cell some.n some.need))
 
-    true-cells : (cells : List TableCell) → AllByRecursion (λ cell. AllByRecursion (Settles style) (tables_in (out-TableCell cell))) cells →
+    true-cells : (cells : List TableCell) →
+        AllByRecursion (λ cell. AllByRecursion (Settles style) (tables_in (out-TableCell cell))) cells →
         AllByRecursion (λ cell. NeedsWithin page (out-TableCell cell)) cells → (made : List Cell) × AllZip Made cells made
     true-cells [] settle some = ([], tt)
     true-cells (cell ∷ cells) settle some =
@@ -128,16 +136,26 @@ module _ (style : Style) where
         (omega (arith, begins.1.from some.0.w some.0.n some.0.need, some.0.within)) in
         let place = place_of cell in
         let rest = true-cells cells settle.1 some.1 in (
-          record { left = place.left; right = place.right; top = place.top; bottom = place.bottom; low = steps.0; high = steps.0 } ∷ rest.0,
+          record {
+            left = place.left;
+            right = place.right;
+            top = place.top;
+            bottom = place.bottom;
+            low = steps.0;
+            high =
+                steps.0;
+          } ∷ rest.0,
           (record { left = refl; right = refl; top = refl; bottom = refl; low = steps.1; high = steps.1 }, rest.1),
         )
 
     -- each table in the cells fits the page
     inner-fit : (cells : List TableCell) → AllByRecursion (λ cell. NeedsWithin page (out-TableCell cell)) cells →
-        AllByRecursion (λ cell. AllByRecursion (λ nested. (h : ℕ) × (layout : Layout) × Fits nested style page h layout) (tables_in (out-TableCell cell))) cells
+        AllByRecursion (λ cell. AllByRecursion (λ nested. (h : ℕ) × (layout : Layout) × Fits nested style page h layout)
+        (tables_in (out-TableCell cell))) cells
     inner-fit [] some = tt
     inner-fit (cell ∷ cells) some = (
-      AllByRecursion-weaker (λ nested. (m : ℕ) × Real nested some.0.w m) (λ nested. (h : ℕ) × (layout : Layout) × Fits nested style page h layout)
+      AllByRecursion-weaker (λ nested. (m : ℕ) × Real nested some.0.w m)
+          (λ nested. (h : ℕ) × (layout : Layout) × Fits nested style page h layout)
           (tables_in (out-TableCell cell))
           (λ nested least.
           let at = least.1.attained in
@@ -156,10 +174,12 @@ module _ (style : Style) where
 
       needs : AllByRecursion (λ cell. NeedsWithin page (out-TableCell cell)) (out-Table table).cells
       needs =
-          let fits = FitsBy-weaker (FitsWithin depth style) Any (λ nested w h one is. (depth, is)) style (out-Table table) page height
+          let fits = FitsBy-weaker (FitsWithin depth style) Any (λ nested w h one is. (depth, is)) style (out-Table table)
+          page height
           (out-Layout layout) held in
           cells-need page (out-Table table) (out-Layout layout) fits.columns fits.within (out-Table table).cells fits.parts each
-          (recursion_from_All (λ cell. IsPlaced (out-Table table).cols (out-Table table).rows (place_of cell)) (out-Table table).cells
+          (recursion_from_All (λ cell. IsPlaced (out-Table table).cols (out-Table table).rows (place_of cell))
+          (out-Table table).cells
           (λ k d within. subst (IsPlaced (out-Table table).cols (out-Table table).rows)
           (get_or-map place_of (out-Table table).cells k d (place_of d) within)
           (by.placed k (place_of d) (omega (arith, within, length-map (out-Table table).cells place_of))))) fits.cells
@@ -171,9 +191,11 @@ module _ (style : Style) where
             record { columns = refl; lines = refl; drawn = refl; wide = refl; made = made.1 },
           )
 
-      pub inner-fits : AllByRecursion (λ nested. (h : ℕ) × (one : Layout) × Fits nested style page h one) (inner_tables (out-Table table))
+      pub inner-fits : AllByRecursion (λ nested. (h : ℕ) × (one : Layout) × Fits nested style page h one)
+          (inner_tables (out-Table table))
       inner-fits =
-          joined-each (λ nested. (h : ℕ) × (one : Layout) × Fits nested style page h one) (λ cell. tables_in (out-TableCell cell)) (out-Table table).cells
+          joined-each (λ nested. (h : ℕ) × (one : Layout) × Fits nested style page h one)
+          (λ cell. tables_in (out-TableCell cell)) (out-Table table).cells
           (inner-fit (out-Table table).cells needs)
 
     -- ---- the greatest count of some tables
@@ -182,14 +204,16 @@ module _ (style : Style) where
       attained : (inside : Table) × P inside × IsCount inside style page most
       never_more : (inside : Table) → P inside → (count : ℕ) × IsCount inside style page count × (count ≤ most)
 
-    most-same : (P Q : Table → Type 0) (most : ℕ) → ((inside : Table) → P inside → Q inside) → ((inside : Table) → Q inside → P inside) → MostOf P most →
+    most-same : (P Q : Table → Type 0) (most : ℕ) → ((inside : Table) → P inside → Q inside) →
+        ((inside : Table) → Q inside → P inside) → MostOf P most →
         MostOf Q most
     most-same P Q most there back is = record {
       attained = (is.attained.0, there is.attained.0 is.attained.1, is.attained.2);
       never_more = λ inside one. is.never_more inside (back inside one);
     }
 
-    most-both : (P Q : Table → Type 0) (m n : ℕ) → MostOf P m → MostOf Q n → (most : ℕ) × MostOf (λ inside. P inside ⊎ Q inside) most
+    most-both : (P Q : Table → Type 0) (m n : ℕ) → MostOf P m → MostOf Q n →
+        (most : ℕ) × MostOf (λ inside. P inside ⊎ Q inside) most
     most-both P Q m n first second =
         elim (cases_lt m n) [
           | inl less ↦ (
@@ -218,7 +242,8 @@ module _ (style : Style) where
     abbrev AmongOf : List Table → Table → Type 0
     AmongOf tables inside = (nested : Table) × Contains tables nested × IsAmong nested inside
 
-    most-all : (P : Table → Type 0) (most : ℕ) (tables : List Table) → AllByRecursion (λ nested. (m : ℕ) × IsCountAll nested style page m) tables →
+    most-all : (P : Table → Type 0) (most : ℕ) (tables : List Table) →
+        AllByRecursion (λ nested. (m : ℕ) × IsCountAll nested style page m) tables →
         MostOf P most → (more : ℕ) × MostOf (λ inside. P inside ⊎ AmongOf tables inside) more
     most-all P most [] those is = (
       most,
@@ -226,11 +251,16 @@ module _ (style : Style) where
           (λ inside one. elim one [ inl left ↦ left | inr none ↦ absurd (Contains-none none.0 none.1) ]) is,
     )
     most-all P most (nested ∷ tables) those is =
-        let one : MostOf (IsAmong nested) those.0.0 = record { attained = those.0.1.attained; never_more = those.0.1.never_more } in
+        let one : MostOf (IsAmong nested) those.0.0 = record {
+          attained = those.0.1.attained;
+          never_more =
+              those.0.1.never_more;
+        } in
         let both = most-both P (IsAmong nested) most those.0.0 is one in
         let all = most-all (λ inside. P inside ⊎ IsAmong nested inside) both.0 tables those.1 both.1 in (
           all.0,
-          most-same (λ inside. (P inside ⊎ IsAmong nested inside) ⊎ AmongOf tables inside) (λ inside. P inside ⊎ AmongOf (nested ∷ tables) inside) all.0
+          most-same (λ inside. (P inside ⊎ IsAmong nested inside) ⊎ AmongOf tables inside)
+              (λ inside. P inside ⊎ AmongOf (nested ∷ tables) inside) all.0
               (λ inside some. elim some [
                 | inl before ↦ elim before [ inl left ↦ inl left | inr here ↦ inr (nested, Contains-first nested tables, here) ]
                 | inr later ↦ inr (later.0, Contains-later nested tables later.0 later.1, later.2)
@@ -251,45 +281,53 @@ module _ (style : Style) where
     among-to table inside (inr (suc depth, (nested, has, inl same))) = inr (nested, has, inl same)
     among-to table inside (inr (suc depth, (nested, has, inr deeper))) = inr (nested, has, inr (depth, deeper))
 
-    among-from : (table inside : Table) → (table ≡ inside) ⊎ AmongOf (inner_tables (out-Table table)) inside → IsAmong table inside
+    among-from : (table inside : Table) → (table ≡ inside) ⊎ AmongOf (inner_tables (out-Table table)) inside →
+        IsAmong table inside
     among-from table inside (inl same) = inl same
     among-from table inside (inr (nested, has, inl same)) = inr (1, (nested, has, inl same))
     among-from table inside (inr (nested, has, inr (depth, deeper))) = inr (suc depth, (nested, has, inr deeper))
 
     count-all : (table : Table) (count : ℕ) → IsCount table style page count →
-        AllByRecursion (λ nested. (m : ℕ) × IsCountAll nested style page m) (inner_tables (out-Table table)) → (most : ℕ) × IsCountAll table style page most
+        AllByRecursion (λ nested. (m : ℕ) × IsCountAll nested style page m) (inner_tables (out-Table table)) →
+        (most : ℕ) × IsCountAll table style page most
     count-all table count is each =
         let own : MostOf (λ inside. table ≡ inside) count = record {
           attained = (table, refl, is);
           never_more = λ inside same. (count, subst (λ (any : Table). IsCount any style page count) same is, omega arith);
         } in
         let all = most-all (λ inside. table ≡ inside) count (inner_tables (out-Table table)) each own in
-        let whole = most-same (λ inside. (table ≡ inside) ⊎ AmongOf (inner_tables (out-Table table)) inside) (IsAmong table) all.0 (among-from table)
+        let whole = most-same (λ inside. (table ≡ inside) ⊎ AmongOf (inner_tables (out-Table table)) inside) (IsAmong table)
+        all.0 (among-from table)
         (among-to table) all.1 in
         (all.0, record { attained = whole.attained; never_more = whole.never_more })
 
     -- ---- all depths
 
-    pub counts : (depth : ℕ) (table : Table) → IsSoundWithin depth table → (height : ℕ) (layout : Layout) → Fits table style page height layout →
+    pub counts : (depth : ℕ) (table : Table) → IsSoundWithin depth table → (height : ℕ) (layout : Layout) →
+        Fits table style page height layout →
         (most : ℕ) × IsCountAll table style page most
     counts zero table sound height layout fits = absurd sound
     counts (suc depth) table sound height layout (zero, held) = absurd held
     counts (suc depth) table sound height layout (suc within, held) =
-        let settle = AllByRecursion-weaker (IsSoundWithin depth) (Settles style) (inner_tables (out-Table table)) (λ nested is. settles style depth nested is)
+        let settle = AllByRecursion-weaker (IsSoundWithin depth) (Settles style) (inner_tables (out-Table table))
+        (λ nested is. settles style depth nested is)
         sound.inner in
         let own = true-problem table sound settle height within layout held in
         count-all table (count_of own.0) (own.0, own.1, refl)
         (AllByRecursion-weaker (λ nested. IsSoundWithin depth nested × ((h : ℕ) × (one : Layout) × Fits nested style page h one))
         (λ nested. (m : ℕ) × IsCountAll nested style page m) (inner_tables (out-Table table))
         (λ nested both. counts depth nested both.0 both.1.0 both.1.1 both.1.2)
-        (both_each (IsSoundWithin depth) (λ nested. (h : ℕ) × (one : Layout) × Fits nested style page h one) (inner_tables (out-Table table)) sound.inner
+        (both_each (IsSoundWithin depth) (λ nested. (h : ℕ) × (one : Layout) × Fits nested style page h one)
+        (inner_tables (out-Table table)) sound.inner
         (inner-fits table sound settle height within layout held)))
 
-    pub problems : (depth : ℕ) (table : Table) → IsSoundWithin depth table → (height : ℕ) (layout : Layout) → Fits table style page height layout →
+    pub problems : (depth : ℕ) (table : Table) → IsSoundWithin depth table → (height : ℕ) (layout : Layout) →
+        Fits table style page height layout →
         (problem : ProblemModel) × IsTrueProblem table style page problem
     problems zero table sound height layout fits = absurd sound
     problems (suc depth) table sound height layout (zero, held) = absurd held
     problems (suc depth) table sound height layout (suc within, held) =
         true-problem table sound
-        (AllByRecursion-weaker (IsSoundWithin depth) (Settles style) (inner_tables (out-Table table)) (λ nested is. settles style depth nested is) sound.inner)
+        (AllByRecursion-weaker (IsSoundWithin depth) (Settles style) (inner_tables (out-Table table))
+        (λ nested is. settles style depth nested is) sound.inner)
         height within layout held

@@ -14,15 +14,17 @@ use Rattle.tl_base.proofs.Stacking.{first_width-within}
 use Rattle.tl_problem.specs.declared.cell.Cell.{Cell}
 use Rattle.tl_problem.specs.declared.cell.Span.{Span}
 use Rattle.tl_problem.specs.Problem.{ProblemModel}
-use Rattle.tl_problem.specs.Spans.{has_span, all_spans, spans_of, greatest, cells_of, least_width, page_room, begins_step, classes_of, product, count_of}
-use Rattle.tl_form.specs.declared.cell.Table.{Table, out-Table}
-use Rattle.tl_form.specs.declared.cell.TableCell.{TableCell, out-TableCell}
+use Rattle.tl_problem.specs.Spans.{has_span, all_spans, spans_of, greatest, cells_of, least_width, page_room, begins_step}
+use Rattle.tl_problem.specs.Spans.{classes_of, product, count_of}
+use Rattle.tl_table.specs.declared.cell.Table.{Table, out-Table}
+use Rattle.tl_table.specs.declared.cell.TableCell.{TableCell, out-TableCell}
 use Rattle.tl_form.specs.Problems.{AreStepsOf, CellNeeds, IsCellBy, IsProblemBy}
 use Rattle.tl_form.proofs.NeedSteps.{first-least, height-first, same-option, step-there}
 
 -- ---- the same steps, up to a lesser width
 
-module _ (needs : ℕ → ℕ → Type 0) (narrow wide : ℕ) (within : narrow ≤ wide) (short long : List Config) (of_short : AreStepsOf needs narrow short)
+module _ (needs : ℕ → ℕ → Type 0) (narrow wide : ℕ) (within : narrow ≤ wide) (short long : List Config)
+    (of_short : AreStepsOf needs narrow short)
     (of_long : AreStepsOf needs wide long) where
   same-heights : (w : ℕ) → w ≤ narrow → height_at short w ≡ height_at long w
   same-heights w inside =
@@ -52,7 +54,8 @@ pub record Stays (short long : Cell) : Type 0 where
   pub first : first_width short.low ≡ first_width long.low
   pub steps : (step : Config) → Contains (short.low ++ short.high) step → Contains (long.low ++ long.high) step
 
-cells-stay : (lows highs : Table → ℕ → ℕ → Type 0) (narrow wide : ℕ) → narrow ≤ wide → (cells : List TableCell) (short long : List Cell) →
+cells-stay : (lows highs : Table → ℕ → ℕ → Type 0) (narrow wide : ℕ) → narrow ≤ wide →
+    (cells : List TableCell) (short long : List Cell) →
     AllZip (λ cell made. IsCellBy lows highs narrow (out-TableCell cell) made) cells short →
     AllZip (λ cell made. IsCellBy lows highs wide (out-TableCell cell) made) cells long → AllZip Stays short long
 cells-stay lows highs narrow wide within [] [] [] first second = tt
@@ -69,7 +72,8 @@ cells-stay lows highs narrow wide within (cell ∷ cells) (a ∷ short) (b ∷ l
       | inl low ↦ Contains-append_left b.low b.high step
           (step-stays (CellNeeds lows (out-TableCell cell)) narrow wide within a.low b.low first.0.low second.0.low step low)
       | inr high ↦ Contains-append_right b.low b.high step
-          (step-stays (CellNeeds highs (out-TableCell cell)) narrow wide within a.high b.high first.0.high second.0.high step high)
+          (step-stays (CellNeeds highs (out-TableCell cell))
+          narrow wide within a.high b.high first.0.high second.0.high step high)
     ];
   },
   cells-stay lows highs narrow wide within cells short long first.1 second.1,
@@ -78,7 +82,8 @@ cells-stay lows highs narrow wide within (cell ∷ cells) (a ∷ short) (b ∷ l
 -- ---- lists that stand so to one another
 
 module _ {A B : Type 0} (R : A → B → Type 0) where
-  zip-filter : (f : A → Bool) (g : B → Bool) → ((x : A) (y : B) → R x y → f x ≡ g y) → (xs : List A) (ys : List B) → AllZip R xs ys →
+  zip-filter : (f : A → Bool) (g : B → Bool) → ((x : A) (y : B) → R x y → f x ≡ g y) → (xs : List A) (ys : List B) →
+      AllZip R xs ys →
       AllZip R (filter f xs) (filter g ys)
   zip-filter f g same [] [] all = tt
   zip-filter f g same [] (y ∷ ys) all = absurd all
@@ -99,7 +104,8 @@ module _ {A B : Type 0} (R : A → B → Type 0) where
   zip-any f g same (x ∷ xs) (y ∷ ys) all =
       ap (λ b. b || list_any f xs) (same x y all.0) ∙ ap (λ b. g y || b) (zip-any f g same xs ys all.1)
 
-  zip-implies : (f : A → Bool) (g : B → Bool) → ((x : A) (y : B) → R x y → f x ≡ true → g y ≡ true) → (xs : List A) (ys : List B) → AllZip R xs ys →
+  zip-implies : (f : A → Bool) (g : B → Bool) → ((x : A) (y : B) → R x y → f x ≡ true → g y ≡ true) →
+      (xs : List A) (ys : List B) → AllZip R xs ys →
       list_any f xs ≡ true → list_any g ys ≡ true
   zip-implies f g so [] [] all is = is
   zip-implies f g so [] (y ∷ ys) all is = absurd all
@@ -112,7 +118,8 @@ module _ {A B : Type 0} (R : A → B → Type 0) where
             elim (cases_Bool (g y)) [ inl passes ↦ rw passes refl | inr fails ↦ rw fails rest ]
       ]
 
-  zip-map : (u : A → ℕ) (v : B → ℕ) → ((x : A) (y : B) → R x y → u x ≡ v y) → (xs : List A) (ys : List B) → AllZip R xs ys → map u xs ≡ map v ys
+  zip-map : (u : A → ℕ) (v : B → ℕ) → ((x : A) (y : B) → R x y → u x ≡ v y) → (xs : List A) (ys : List B) → AllZip R xs ys →
+      map u xs ≡ map v ys
   zip-map u v same [] [] all = refl
   zip-map u v same [] (y ∷ ys) all = absurd all
   zip-map u v same (x ∷ xs) [] all = absurd all
@@ -130,7 +137,11 @@ more-pass f g so a (suc n) (suc m) less =
     let rest = more-pass f g so (a + 1) n m (omega (arith, less)) in
     elim (cases_Bool (f a)) [
       | inl passes ↦ let other = so a passes in rw passes (rw other (omega (arith, rest)))
-      | inr fails ↦ elim (cases_Bool (g a)) [ inl other ↦ rw fails (rw other (omega (arith, rest))) | inr neither ↦ rw fails (rw neither rest) ]
+      | inr fails ↦ elim (cases_Bool (g a)) [
+        | inl other ↦ rw fails (rw other (omega (arith, rest)))
+        | inr neither ↦ rw fails
+            (rw neither rest)
+      ]
     ]
 
 -- a product of more is more
@@ -144,32 +155,38 @@ product-le f g less (x ∷ xs) =
 
 -- ---- classes and counts
 
-module _ (short long : ProblemModel) (cols : short.cols ≡ long.cols) (style : short.style ≡ long.style) (wider : short.width ≤ long.width)
+module _ (short long : ProblemModel) (cols : short.cols ≡ long.cols) (style : short.style ≡ long.style)
+    (wider : short.width ≤ long.width)
     (stay : AllZip Stays short.cells long.cells) where
   has-same : (columns : Span) (a b : Cell) → Stays a b → has_span columns a ≡ has_span columns b
   has-same columns a b is =
-      ap (λ left. (left == columns.left) && (a.right == columns.right)) is.left ∙ ap (λ right. (b.left == columns.left) && (right == columns.right)) is.right
+      ap (λ left. (left == columns.left) && (a.right == columns.right)) is.left ∙ ap
+      (λ right. (b.left == columns.left) && (right == columns.right)) is.right
 
   spans-same : spans_of short ≡ spans_of long
   unfolding spans_of
   spans-same = ap (λ n. filter (λ columns. list_any (has_span columns) short.cells) (all_spans n)) cols
-      ∙ filter-same (λ columns. list_any (has_span columns) short.cells) (λ columns. list_any (has_span columns) long.cells) (all_spans long.cols)
+      ∙ filter-same (λ columns. list_any (has_span columns) short.cells) (λ columns. list_any (has_span columns) long.cells)
+      (all_spans long.cols)
       (λ columns. zip-any Stays (has_span columns) (has_span columns) (has-same columns) short.cells long.cells stay)
     where
       filter-same : {X : Type 0} (f g : X → Bool) (xs : List X) → ((x : X) → f x ≡ g x) → filter f xs ≡ filter g xs
       filter-same f g [] same = refl
       filter-same f g (x ∷ xs) same =
-          ap (λ b. cond b (x ∷ filter f xs) (filter f xs)) (same x) ∙ ap (λ rest. cond (g x) (x ∷ rest) rest) (filter-same f g xs same)
+          ap (λ b. cond b (x ∷ filter f xs) (filter f xs)) (same x) ∙ ap (λ rest. cond (g x) (x ∷ rest) rest)
+          (filter-same f g xs same)
 
   classes-more : (columns : Span) → length (classes_of short columns) ≤ length (classes_of long columns)
   unfolding classes_of
   classes-more columns =
       let cells = zip-filter Stays (has_span columns) (has_span columns) (has-same columns) short.cells long.cells stay in
       let least : least_width short columns ≡ least_width long columns =
-      ap greatest (zip-map Stays (λ cell. first_width cell.low) (λ cell. first_width cell.low) (λ a b is. is.first) (cells_of short columns)
+      ap greatest (zip-map Stays (λ cell. first_width cell.low) (λ cell. first_width cell.low) (λ a b is. is.first)
+      (cells_of short columns)
       (cells_of long columns) cells) in
       let begins = λ (w : ℕ). zip-implies Stays (λ cell. list_any (λ step. step.width == w) (cell.low ++ cell.high))
-      (λ cell. list_any (λ step. step.width == w) (cell.low ++ cell.high)) (begins-stays w) (cells_of short columns) (cells_of long columns) cells in
+      (λ cell. list_any (λ step. step.width == w) (cell.low ++ cell.high)) (begins-stays w) (cells_of short columns)
+      (cells_of long columns) cells in
       let room : page_room short ≤ page_room long = omega (arith, wider, ap edge_of style) in
       let pass = more-pass (begins_step short columns) (begins_step long columns) begins (least_width short columns + 1)
       (page_room short - least_width short columns) (page_room long - least_width short columns) (omega (arith, room)) in
@@ -187,16 +204,19 @@ module _ (short long : ProblemModel) (cols : short.cols ≡ long.cols) (style : 
   pub count-more : count_of short ≤ count_of long
   count-more =
       let spans = ap (λ all. product (map (λ columns. length (classes_of short columns)) all)) spans-same in
-      let products = product-le (λ columns. length (classes_of short columns)) (λ columns. length (classes_of long columns)) classes-more (spans_of long) in
+      let products = product-le (λ columns. length (classes_of short columns)) (λ columns. length (classes_of long columns))
+      classes-more (spans_of long) in
       min-le (product (map (λ columns. length (classes_of short columns)) (spans_of short)))
       (product (map (λ columns. length (classes_of long columns)) (spans_of long))) (2 ^ 64 - 1) (omega (arith, spans, products))
     where
       min-le : (m n most : ℕ) → m ≤ n → min m most ≤ min n most
       min-le m n most less = omega (arith, less)
 
-pub counts-rise : (lows highs : Table → ℕ → ℕ → Type 0) (style : Style) (narrow wide : ℕ) (table : Table) (short long : ProblemModel) → narrow ≤ wide →
+pub counts-rise : (lows highs : Table → ℕ → ℕ → Type 0) (style : Style) (narrow wide : ℕ) (table : Table)
+    (short long : ProblemModel) → narrow ≤ wide →
     IsProblemBy lows highs style narrow (out-Table table) short → IsProblemBy lows highs style wide (out-Table table) long →
     count_of short ≤ count_of long
 counts-rise lows highs style narrow wide table short long within first second =
-    count-more short long (first.columns ∙ sym second.columns) (first.drawn ∙ sym second.drawn) (omega (arith, first.wide, second.wide, within))
+    count-more short long (first.columns ∙ sym second.columns) (first.drawn ∙ sym second.drawn)
+    (omega (arith, first.wide, second.wide, within))
     (cells-stay lows highs narrow wide within (out-Table table).cells short.cells long.cells first.made second.made)

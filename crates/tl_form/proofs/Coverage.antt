@@ -9,7 +9,8 @@ use Rattle.std.proofs.lemmas.Option.{same_Some, none-some}
 use Rattle.tl_base.specs.declared.style.Style.{Style}
 use Rattle.tl_problem.proofs.Heights.{test_le, test_le_false}
 use Rattle.tl_cert.specs.declared.section.Section.{Section}
-use Rattle.tl_form.specs.Expected.{Document, Due, own_number, least_of, first_due, next_width, due_in, next_due, placed_width, due_after, IsDue}
+use Rattle.tl_form.specs.Expected.{Document, Due, own_number, least_of, first_due, next_width, due_in, next_due, placed_width}
+use Rattle.tl_form.specs.Expected.{due_after, IsDue}
 use Rattle.tl_form.proofs.DueLaws.{MayBeDue, due_next, due_after-more, first_may, next_may}
 
 -- a section of the table tells of this width: its page is at least so wide, and its placement no wider
@@ -45,13 +46,16 @@ next_none least (suc narrower) is = elim (cases_lt narrower least) [
 next_some : (least placed width : ℕ) → next_width least placed ≡ Some width → (width + 1 ≡ placed) × (least ≤ width)
 next_some least zero width is = absurd (none-some _ is)
 next_some least (suc narrower) width is = elim (cases_lt narrower least) [
-  | inl less ↦ absurd (none-some _ (sym (ap (λ (b : Bool). if b then Some narrower else None) (test_le_false least narrower less)) ∙ is))
+  | inl less ↦ absurd (none-some _ (sym (ap (λ (b : Bool). if b then Some narrower else None)
+      (test_le_false least narrower less)) ∙ is))
   | inr more ↦
-      let same : narrower ≡ width = same_Some _ _ (sym (ap (λ (b : Bool). if b then Some narrower else None) (test_le least narrower more)) ∙ is) in
+      let same : narrower ≡ width =
+      same_Some _ _ (sym (ap (λ (b : Bool). if b then Some narrower else None) (test_le least narrower more)) ∙ is) in
       (omega (arith, same), omega (arith, same, more))
 ]
 
-module _ (document : Document) (leasts : (number : ℕ) → own_number document ≤ number → number ≤ document.last → least_of document number ≤ document.page) where
+module _ (document : Document) (leasts : (number : ℕ) → own_number document ≤ number → number ≤ document.last →
+    least_of document number ≤ document.page) where
   pub first_covered : own_number document ≤ document.last → IsCovered document [] (first_due document document.last)
   first_covered some = record {
     upto = omega arith;
@@ -60,8 +64,10 @@ module _ (document : Document) (leasts : (number : ℕ) → own_number document 
     own = λ w past within. absurd (omega (arith, past, within));
   }
 
-  module _ (sections : List Section) (now : Due) (covered : IsCovered document sections now) (may : MayBeDue document now) (section : Section)
-      (of : section.table ≡ now.table) (wide : section.width ≡ now.width) (within : placed_width document.style section ≤ section.width) where
+  module _ (sections : List Section) (now : Due) (covered : IsCovered document sections now) (may : MayBeDue document now)
+      (section : Section)
+      (of : section.table ≡ now.table) (wide : section.width ≡ now.width)
+      (within : placed_width document.style section ≤ section.width) where
     abbrev after : List Section
     after = sections ++ section ∷ []
 
@@ -71,10 +77,15 @@ module _ (document : Document) (leasts : (number : ℕ) → own_number document 
     here : (w : ℕ) → placed ≤ w → w ≤ document.page → AreTold document.style after now.table w
     here w narrow upto = elim (cases_lt now.width w) [
       | inl past ↦ more_told document.style sections section now.table w (covered.own w past upto)
-      | inr more ↦ (section, Contains-push sections section, record { of = of; wide = omega (arith, wide, more); narrow = narrow })
+      | inr more ↦ (
+        section,
+        Contains-push sections section,
+        record { of = of; wide = omega (arith, wide, more); narrow = narrow },
+      )
     ]
 
-    by_width : (width : Option ℕ) → next_width (least_of document now.table) placed ≡ width → (now.table ≡ own_number document → ⊥) →
+    by_width : (width : Option ℕ) → next_width (least_of document now.table) placed ≡ width →
+        (now.table ≡ own_number document → ⊥) →
         IsCovered document after (due_in document now.table width)
     by_width None is other = record {
       upto = omega arith;
@@ -84,7 +95,8 @@ module _ (document : Document) (leasts : (number : ℕ) → own_number document 
         | inr last ↦
             let same : now.table ≡ number = omega (arith, past, last, less) in
             let from : least_of document now.table ≤ w = subst (λ n. least_of document n ≤ w) (sym same) least in
-            subst (λ n. AreTold document.style after n w) same (here w (omega (arith, next_none (least_of document now.table) placed is, from)) narrow)
+            subst (λ n. AreTold document.style after n w) same
+            (here w (omega (arith, next_none (least_of document now.table) placed is, from)) narrow)
       ];
       own = λ w past upto. absurd (omega (arith, past, upto));
     } where
@@ -145,9 +157,11 @@ module _ (document : Document) (some : own_number document ≤ document.last)
       ∙ sym (due_after-more document sections n no_section within)
       ∙ ap (λ many. due_after document (take many sections)) one ∙ is in
       subst (λ all. Stands document all now)
-      (ap (λ this. take n sections ++ this ∷ []) same ∙ sym (take_more sections n no_section within) ∙ ap (λ many. take many sections) one)
+      (ap (λ this. take n sections ++ this ∷ []) same ∙ sym (take_more sections n no_section within) ∙ ap
+      (λ many. take many sections) one)
       (record {
-        covered = next_covered document leasts (take n sections) (due_of section) stood.covered stood.may section refl refl follows.within now next;
+        covered = next_covered document leasts (take n sections) (due_of section)
+            stood.covered stood.may section refl refl follows.within now next;
         may = next_may document section.table (placed_width document.style section) now stood.may.from stood.may.upto next;
       })
 
@@ -155,7 +169,11 @@ module _ (document : Document) (some : own_number document ≤ document.last)
       ((i : ℕ) (d : Section) → i < n → Follows document (take i sections) (get_or sections i d)) →
       (now : Due) → due_after document (take n sections) ≡ Some now → Stands document (take n sections) now
   stands zero within follow now is =
-      subst (Stands document []) (same_Some _ _ is) (record { covered = first_covered document leasts some; may = first_may document some })
+      subst (Stands document []) (same_Some _ _ is) (record {
+        covered = first_covered document leasts some;
+        may =
+            first_may document some;
+      })
   stands (suc n) within follow now is =
       let section = get_or sections n no_section in
       let follows = follow n no_section (omega arith) in

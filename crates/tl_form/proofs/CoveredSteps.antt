@@ -9,10 +9,10 @@ use Rattle.tl_base.specs.declared.style.Style.{Style}
 use Rattle.tl_base.specs.declared.steps.Config.{Config}
 use Rattle.tl_base.specs.Steps.{first_width}
 use Rattle.tl_cert.specs.declared.section.Section.{Section}
-use Rattle.tl_form.specs.declared.cell.Table.{Table, out-Table}
+use Rattle.tl_table.specs.declared.cell.Table.{Table, out-Table}
 use Rattle.tl_form.specs.declared.heights.InnerSteps.{InnerSteps}
 use Rattle.tl_form.specs.Expected.{placed_width}
-use Rattle.tl_form.specs.Least.{IsLeastWidth}
+use Rattle.tl_table.specs.Least.{IsLeastWidth}
 use Rattle.tl_form.specs.Nested.{IsAsWide, IsWithin, IsGreatestLower, IsLeastFound, AreStepsBy}
 use Rattle.tl_form.specs.Problems.{AreStepsOf}
 use Rattle.tl_form.specs.inner.Collecting.{IsMost, IsFewest}
@@ -34,7 +34,8 @@ module _ {X : Type 0} (No : List X → Type 0) (Best : List X → ℕ → Type 0
       (more (take n xs) (get_or xs n d) (best_upto xs n d (omega arith))))
 
   best_of : (xs : List X) (d : X) → No xs ⊎ ((m : ℕ) × Best xs m)
-  best_of xs d = subst (λ all. No all ⊎ ((m : ℕ) × Best all m)) (take_all (length xs) xs (omega arith)) (best_upto xs (length xs) d (omega arith))
+  best_of xs d = subst (λ all. No all ⊎ ((m : ℕ) × Best all m)) (take_all (length xs) xs (omega arith))
+      (best_upto xs (length xs) d (omega arith))
 
 module _ {X : Type 0} (Counts : X → Type 0) (measure : X → ℕ) (decide : (x : X) → Counts x ⊎ (Counts x → ⊥)) (d : X) where
   most_of : (xs : List X) → best.NoneCounts Counts measure xs ⊎ ((most : ℕ) × IsMost Counts measure xs most)
@@ -76,7 +77,8 @@ as_wide number w section = elim (cases_eq section.table number) [
   | inr other ↦ inr (λ is. other is.of)
 ]
 
-within : (style : Style) (number w : ℕ) (section : Section) → IsWithin style number w section ⊎ (IsWithin style number w section → ⊥)
+within : (style : Style) (number w : ℕ) (section : Section) →
+    IsWithin style number w section ⊎ (IsWithin style number w section → ⊥)
 within style number w section = elim (cases_eq section.table number) [
   | inl same ↦ elim (cases_lt w (placed_width style section)) [
     | inl wide ↦ inr (λ is. omega (arith, wide, is.narrow))
@@ -89,7 +91,8 @@ pub lower_told : (style : Style) (sections : List Section) (number w : ℕ) → 
     (lower : ℕ) × IsGreatestLower sections number w lower
 lower_told style sections number w (section, has, tells) =
     elim (most_of (IsAsWide number w) (λ one. one.lower) (as_wide number w) section sections) [
-      | inl none ↦ absurd (All-contains (λ one. IsAsWide number w one → ⊥) sections section none has (record { of = tells.of; wide = tells.wide }))
+      | inl none ↦ absurd (All-contains (λ one. IsAsWide number w one →
+          ⊥) sections section none has (record { of = tells.of; wide = tells.wide }))
       | inr found ↦ (found.0, record { attained = found.1.attained; never_more = found.1.never_more })
     ]
 
@@ -97,11 +100,13 @@ pub height_told : (style : Style) (sections : List Section) (number w : ℕ) →
     (height : ℕ) × IsLeastFound style sections number w height
 height_told style sections number w (section, has, tells) =
     elim (fewest_of (IsWithin style number w) (λ one. one.height) (within style number w) section sections) [
-      | inl none ↦ absurd (All-contains (λ one. IsWithin style number w one → ⊥) sections section none has (record { of = tells.of; narrow = tells.narrow }))
+      | inl none ↦ absurd (All-contains (λ one. IsWithin style number w one →
+          ⊥) sections section none has (record { of = tells.of; narrow = tells.narrow }))
       | inr found ↦ (found.0, record { attained = found.1.attained; never_less = found.1.never_less })
     ]
 
-lower_falls : (sections : List Section) (number v w a b : ℕ) → v ≤ w → IsGreatestLower sections number v a → IsGreatestLower sections number w b → b ≤ a
+lower_falls : (sections : List Section) (number v w a b : ℕ) → v ≤ w → IsGreatestLower sections number v a →
+    IsGreatestLower sections number w b → b ≤ a
 lower_falls sections number v w a b wider first second =
     let at = second.attained in
     let most = subst (λ section. IsAsWide number v section → section.lower ≤ a) at.3
@@ -118,7 +123,8 @@ found_falls style sections number v w a b wider first second =
 
 -- ---- steps of what is there at each width from the least one up to the page, and falls
 
-module _ (Needs : ℕ → ℕ → Type 0) (falls : (v w m n : ℕ) → v ≤ w → Needs v m → Needs w n → n ≤ m) (least page : ℕ) (narrow : least ≤ page)
+module _ (Needs : ℕ → ℕ → Type 0) (falls : (v w m n : ℕ) → v ≤ w → Needs v m → Needs w n →
+    n ≤ m) (least page : ℕ) (narrow : least ≤ page)
     (there : (w : ℕ) → least ≤ w → w ≤ page → (h : ℕ) × Needs w h) where
   pub steps_upto : (steps : List Config) × AreStepsOf (λ w h. (least ≤ w) × Needs w h) page steps
   steps_upto =
@@ -131,7 +137,8 @@ module _ (Needs : ℕ → ℕ → Type 0) (falls : (v w m n : ℕ) → v ≤ w �
         made.0,
         AreStepsOf-same (λ w h. (least ≤ w) × Needs (min w page) h) (λ w h. (least ≤ w) × Needs w h) page made.0
             (λ w h upto need. let same : min w page ≡ w = omega (arith, upto) in (need.0, subst (λ v. Needs v h) same need.1))
-            (λ w h upto need. let same : min w page ≡ w = omega (arith, upto) in (need.0, subst (λ v. Needs v h) (sym same) need.1)) made.1,
+            (λ w h upto need. let same : min w page ≡ w = omega (arith, upto) in
+            (need.0, subst (λ v. Needs v h) (sym same) need.1)) made.1,
       )
 
   pub steps_begin : (steps : List Config) → AreStepsOf (λ w h. (least ≤ w) × Needs w h) page steps → first_width steps ≡ least
@@ -143,8 +150,10 @@ module _ (Needs : ℕ → ℕ → Type 0) (falls : (v w m n : ℕ) → v ≤ w �
 
 -- ---- the steps of a nested table
 
-pub steps_by : (style : Style) (sections : List Section) (nested : Table) (least page : ℕ) → IsLeastWidth nested style least → least ≤ page →
-    ((w : ℕ) → least ≤ w → w ≤ page → AreTold style sections (out-Table nested).number w) → (steps : InnerSteps) × AreStepsBy style page sections nested steps
+pub steps_by : (style : Style) (sections : List Section) (nested : Table) (least page : ℕ) → IsLeastWidth nested style least →
+    least ≤ page →
+    ((w : ℕ) → least ≤ w → w ≤ page → AreTold style sections (out-Table nested).number w) →
+    (steps : InnerSteps) × AreStepsBy style page sections nested steps
 steps_by style sections nested least page is_least narrow told =
     let number = (out-Table nested).number in
     let lows = steps_upto (IsGreatestLower sections number) (lower_falls sections number) least page narrow

@@ -1,11 +1,13 @@
 -- Which section is due after some, one at a time; and that the last of all is one of the document's own table on the whole
 -- page.
-use Rattle.std.proofs.Common.{◌≡◌, ◌∙◌, ℕ, zero, suc, ◌+◌, ◌-◌, ◌<◌, ◌≤◌, Bool, true, false, if◌then◌else◌, ◌==◌, List, [], ◌∷◌, ◌++◌, ◌⊎◌, inl, inr}
+use Rattle.std.proofs.Common.{◌≡◌, ◌∙◌, ℕ, zero, suc, ◌+◌, ◌-◌, ◌<◌, ◌≤◌, Bool, true, false, if◌then◌else◌, ◌==◌, List, [], ◌∷◌}
+use Rattle.std.proofs.Common.{◌++◌, ◌⊎◌, inl, inr}
 use Rattle.std.proofs.Common.{length, get_or, take, Option, None, Some, refl, sym, ap, subst, arith}
 use Rattle.std.proofs.lemmas.Bool.{cases_eq, eq-eqb, ne_eqb}
 use Rattle.std.proofs.lemmas.List.{take_more}
 use Rattle.tl_cert.specs.declared.section.Section.{Section}
-use Rattle.tl_form.specs.Expected.{Document, Due, own_number, least_of, first_due, next_width, due_in, next_due, placed_width, due_from, due_after}
+use Rattle.tl_form.specs.Expected.{Document, Due, own_number, least_of, first_due, next_width, due_in, next_due, placed_width}
+use Rattle.tl_form.specs.Expected.{due_from, due_after}
 
 -- what is due after one more section
 abbrev pub due_next : Document → Option Due → Section → Option Due
@@ -38,7 +40,8 @@ pub record MayBeDue (document : Document) (now : Due) : Type 0 where
 pub first_may : (document : Document) → own_number document ≤ document.last → MayBeDue document (first_due document document.last)
 first_may document some = record { from = some; upto = omega arith; whole = λ own. refl }
 
-pub next_may : (document : Document) (number placed : ℕ) (next_one : Due) → own_number document ≤ number → number ≤ document.last →
+pub next_may : (document : Document) (number placed : ℕ) (next_one : Due) → own_number document ≤ number →
+    number ≤ document.last →
     next_due document number placed ≡ Some next_one → MayBeDue document next_one
 next_may document number placed next_one from upto is = by_test (number == own_number document) refl is
   where
@@ -58,7 +61,8 @@ next_may document number placed next_one from upto is = by_test (number == own_n
     after (Some width) other = record { from = from; upto = upto; whole = λ own. absurd (other own) }
 
     by_test : (test : Bool) → (number == own_number document) ≡ test →
-        (if number == own_number document then None else Some (due_in document number (next_width (least_of document number) placed))) ≡ Some next_one →
+        (if number == own_number document then None else Some
+        (due_in document number (next_width (least_of document number) placed))) ≡ Some next_one →
         MayBeDue document next_one
     by_test true same found = absurd (none_is (subst (λ (b : Bool). (if b then None else Some
         (due_in document number (next_width (least_of document number) placed))) ≡ Some next_one) same found))
@@ -85,17 +89,20 @@ next_may document number placed next_one from upto is = by_test (number == own_n
 some_is : {X : Type 0} {x y : X} → Some x ≡ Some y → x ≡ y
 some_is equal = cc
 
-nothing_due : (document : Document) (sections : List Section) (next_one : Due) → due_from document None sections ≡ Some next_one → ⊥
+nothing_due : (document : Document) (sections : List Section) (next_one : Due) →
+    due_from document None sections ≡ Some next_one → ⊥
 nothing_due document [] next_one is = cc
 nothing_due document (one ∷ sections) next_one is = cc
 
 due_may : (document : Document) (due : Option Due) (next_one : Due) (sections : List Section) →
-    ((now : Due) → due ≡ Some now → MayBeDue document now) → due_from document due sections ≡ Some next_one → MayBeDue document next_one
+    ((now : Due) → due ≡ Some now → MayBeDue document now) → due_from document due sections ≡ Some next_one →
+    MayBeDue document next_one
 due_may document due next_one [] may is = may next_one is
 due_may document None next_one (section ∷ sections) may is = absurd (nothing_due document (section ∷ sections) next_one is)
 due_may document (Some now) next_one (section ∷ sections) may is =
     due_may document (next_due document now.table (placed_width document.style section)) next_one sections
-    (λ next same. next_may document now.table (placed_width document.style section) next (may now refl).from (may now refl).upto same) is
+    (λ next same. next_may document now.table (placed_width document.style section) next (may now refl).from
+    (may now refl).upto same) is
 
 pub may_be_due : (document : Document) (sections : List Section) (next_one : Due) → own_number document ≤ document.last →
     due_after document sections ≡ Some next_one → MayBeDue document next_one
@@ -104,10 +111,12 @@ may_be_due document sections next_one some is =
     (λ now same. subst (MayBeDue document) (some_is same) (first_may document some)) is
 
 -- nothing is due after a section of the document's own table alone
-pub last_is_own : (document : Document) (number placed : ℕ) → next_due document number placed ≡ None → number ≡ own_number document
+pub last_is_own : (document : Document) (number placed : ℕ) → next_due document number placed ≡ None →
+    number ≡ own_number document
 last_is_own document number placed is = elim (cases_eq number (own_number document)) [
   | inl same ↦ same
-  | inr other ↦ absurd (some_is (ap (λ (b : Bool). if b then None else Some (due_in document number (next_width (least_of document number) placed)))
+  | inr other ↦ absurd (some_is (ap (λ (b : Bool). if b then None else Some
+      (due_in document number (next_width (least_of document number) placed)))
       (sym (ne_eqb number (own_number document) other)) ∙ is))
 ]
   where

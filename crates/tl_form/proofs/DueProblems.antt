@@ -15,46 +15,50 @@ use Rattle.tl_base.proofs.Zips.{AllZip-Contains}
 use Rattle.tl_base.proofs.Stacking.{first_width-within}
 use Rattle.tl_grid.specs.Dropping.{IsPlaced}
 use Rattle.tl_problem.specs.Problem.{total_width}
-use Rattle.tl_problem.specs.Sizes.{total}
+use Rattle.tl_base.specs.Sizes.{total}
 use Rattle.tl_problem.proofs.Heights.{height-from_low}
-use Rattle.tl_problem.proofs.SizeLaws.{room-total}
+use Rattle.tl_base.proofs.SizeLaws.{room-total}
 use Rattle.tl_cert.specs.declared.section.Section.{Section}
-use Rattle.tl_form.specs.declared.cell.Table.{Table, out-Table}
-use Rattle.tl_form.specs.declared.cell.TableCell.{TableCell, out-TableCell}
+use Rattle.tl_table.specs.declared.cell.Table.{Table, out-Table}
+use Rattle.tl_table.specs.declared.cell.TableCell.{TableCell, out-TableCell}
 use Rattle.tl_form.specs.declared.heights.InnerSteps.{InnerSteps}
-use Rattle.tl_form.specs.declared.layout.Layout.{Layout, out-Layout}
+use Rattle.tl_table.specs.declared.layout.Layout.{Layout, out-Layout}
 use Rattle.tl_form.specs.Expected.{Document, Due, IsTableOf, own_number, least_of, placed_width, due_after}
-use Rattle.tl_form.specs.Layouts.{FitsWithin, FitsCell, width_for, height_for}
-use Rattle.tl_form.specs.Least.{IsLeastWidth}
+use Rattle.tl_table.specs.Layouts.{FitsWithin, FitsCell, width_for, height_for}
+use Rattle.tl_table.specs.Least.{IsLeastWidth}
 use Rattle.tl_form.specs.Nested.{AreStepsBy, AreInnerSteps, IsLeastFound}
 use Rattle.tl_form.specs.ProblemLaws.{LayoutsAreByLow, LayoutsByHighFit}
-use Rattle.tl_form.specs.Problems.{IsAmong, IsInsideWithin, HasSoundProblem, steps_for}
-use Rattle.tl_form.specs.Sound.{IsSound, IsSoundWithin, nested_in_table, place_of, places_of, table_size}
+use Rattle.tl_form.specs.Problems.{HasSoundProblem, steps_for}
+use Rattle.tl_table.specs.Tables.{IsAmong, IsInsideWithin, inner_tables, tables_in}
+use Rattle.tl_table.specs.Sound.{IsSound, IsSoundWithin, nested_in_table, place_of, places_of, table_size}
 use Rattle.tl_form.specs.SoundProblems.{AreSoundSteps, SoundProblemsAlone, PlacementsAreLow}
-use Rattle.tl_form.specs.Tables.{inner_tables, tables_in}
 use Rattle.tl_form.specs.Valid.{IsGood, AreGoodBelow}
 use Rattle.tl_form.proofs.Coverage.{Stands, Follows, stands}
 use Rattle.tl_form.proofs.CoveredSteps.{steps_by, inner_by}
 use Rattle.tl_form.proofs.NeedSteps.{height-first}
-use Rattle.tl_form.proofs.OwnWidths.{tables_in-fit}
-use Rattle.tl_form.proofs.TableNumbers.{one_of_number, table_of_number, number_within, inside_greater, sound_among}
+use Rattle.tl_table.proofs.OwnWidths.{tables_in-fit}
+use Rattle.tl_table.proofs.TableNumbers.{one_of_number, table_of_number, number_within, inside_greater, sound_among}
 use Rattle.tl_form.proofs.Truth.{Fits-wider, IsTrue, all_true, height_from, nested_among, steps_found}
 
 -- ---- a nested table is no wider than the one that holds it
 
 cell_within : (table : Table) → IsSound table → (cell : TableCell) → Contains (out-Table table).cells cell →
-    ((out-TableCell cell).place.left < (out-TableCell cell).place.right) × ((out-TableCell cell).place.right ≤ (out-Table table).cols)
+    ((out-TableCell cell).place.left < (out-TableCell cell).place.right) ×
+    ((out-TableCell cell).place.right ≤ (out-Table table).cols)
 cell_within table sound cell has = by_depth sound.depth sound.sound
   where
     by_depth : (depth : ℕ) → IsSoundWithin depth table →
-        ((out-TableCell cell).place.left < (out-TableCell cell).place.right) × ((out-TableCell cell).place.right ≤ (out-Table table).cols)
+        ((out-TableCell cell).place.left < (out-TableCell cell).place.right) ×
+        ((out-TableCell cell).place.right ≤ (out-Table table).cols)
     by_depth zero is = absurd is
     by_depth (suc depth) is =
-        let placed = All-contains (IsPlaced (out-Table table).cols (out-Table table).rows) (places_of (out-Table table)) (out-TableCell cell).place is.placed
+        let placed = All-contains (IsPlaced (out-Table table).cols (out-Table table).rows) (places_of (out-Table table))
+        (out-TableCell cell).place is.placed
         (Contains-map place_of (out-Table table).cells cell has) in
         (placed.0, placed.1)
 
-pub nested_narrower : (style : Style) (table nested : Table) (least inner : ℕ) → IsSound table → Contains (inner_tables (out-Table table)) nested →
+pub nested_narrower : (style : Style) (table nested : Table) (least inner : ℕ) → IsSound table →
+    Contains (inner_tables (out-Table table)) nested →
     IsLeastWidth table style least → IsLeastWidth nested style inner → inner ≤ least
 nested_narrower style table nested least inner sound has outer own =
     by_depth outer.attained.0 outer.attained.1 outer.attained.2.0 outer.attained.2.1
@@ -65,12 +69,16 @@ nested_narrower style table nested least inner sound has outer own =
         let in_cell = flat_map-Contains (λ cell. tables_in (out-TableCell cell)) (out-Table table).cells nested has in
         let cell = in_cell.0 in
         let place = (out-TableCell cell).place in
-        let part = AllZip-Contains (λ one inner. FitsCell (FitsWithin depth style) style (out-Layout layout) (out-TableCell one) inner)
+        let part = AllZip-Contains (λ one inner. FitsCell (FitsWithin depth style) style (out-Layout layout) (out-TableCell one)
+        inner)
         (out-Table table).cells held.parts cell held.cells in_cell.1 in
         let w = width_for style (out-Layout layout) place in
-        let fit = All-contains (λ one. (height : ℕ) × (layout : Layout) × FitsWithin depth style one w height layout) (tables_in (out-TableCell cell)) nested
-        (All-from_recursion (λ one. (height : ℕ) × (layout : Layout) × FitsWithin depth style one w height layout) (tables_in (out-TableCell cell))
-        (tables_in-fit (FitsWithin depth style) w (height_for style (out-Layout layout) place) (out-TableCell cell) part.0 part.1)) in_cell.2 in
+        let fit = All-contains (λ one. (height : ℕ) × (layout : Layout) × FitsWithin depth style one w height layout)
+        (tables_in (out-TableCell cell)) nested
+        (All-from_recursion (λ one. (height : ℕ) × (layout : Layout) × FitsWithin depth style one w height layout)
+        (tables_in (out-TableCell cell))
+        (tables_in-fit (FitsWithin depth style) w (height_for style (out-Layout layout) place) (out-TableCell cell)
+        part.0 part.1)) in_cell.2 in
         let placed = cell_within table sound cell in_cell.1 in
         let narrow = room-total (gap_of style) (edge_of style) (out-Layout layout).widths place.left place.right placed.0
         (omega (arith, placed.1, held.columns)) in
@@ -81,7 +89,8 @@ nested_narrower style table nested least inner sound has outer own =
 pub record IsOnPage (document : Document) : Type 0 where
   pub sound : IsSound document.table
   pub numbers : document.last ≡ own_number document + nested_in_table document.table
-  pub least : (one : Table) → IsAmong document.table one → IsLeastWidth one document.style (least_of document (out-Table one).number)
+  pub least : (one : Table) → IsAmong document.table one → IsLeastWidth one document.style
+      (least_of document (out-Table one).number)
   pub wide : least_of document (own_number document) ≤ document.page
   pub narrow : document.page ≤ MAX_PAGE_WIDTH
 
@@ -95,12 +104,14 @@ module _ (document : Document) (on : IsOnPage document) where
   among_wide one (inl same) = subst (λ t. least_of document (out-Table t).number ≤ document.page) same on.wide
   among_wide one (inr inside) = deeper inside.0 document.table (inl refl) on.wide inside.1
     where
-      deeper : (depth : ℕ) (holder : Table) → IsAmong document.table holder → least_of document (out-Table holder).number ≤ document.page →
+      deeper : (depth : ℕ) (holder : Table) → IsAmong document.table holder →
+          least_of document (out-Table holder).number ≤ document.page →
           IsInsideWithin depth holder one → least_of document (out-Table one).number ≤ document.page
       deeper zero holder among wide within = absurd within
       deeper (suc depth) holder among wide (nested, has, further) =
           let next = nested_among document.table holder nested among has in
-          let narrow = nested_narrower document.style holder nested (least_of document (out-Table holder).number) (least_of document (out-Table nested).number)
+          let narrow = nested_narrower document.style holder nested (least_of document (out-Table holder).number)
+          (least_of document (out-Table nested).number)
           (sound_among document.table holder on.sound among) has (on.least holder among) (on.least nested next) in
           let less : least_of document (out-Table nested).number ≤ document.page = omega (arith, narrow, wide) in
           elim further [
@@ -133,7 +144,8 @@ module _ (document : Document) (on : IsOnPage document) (before : List Section) 
     named section same = record { among = among; numbered = sym same }
 
     found_at : (w h : ℕ) → IsLeastFound document.style before (out-Table nested).number w h →
-        (section : Section) × (section.table ≡ (out-Table nested).number) × (placed_width document.style section ≤ w) × (section.height ≡ h)
+        (section : Section) × (section.table ≡ (out-Table nested).number) × (placed_width document.style section ≤ w) ×
+        (section.height ≡ h)
         × IsTrue document section × IsSmall document section
     found_at w h least =
         let at = least.attained in (
@@ -153,7 +165,8 @@ module _ (document : Document) (on : IsOnPage document) (before : List Section) 
         let layout = found.4.found nested (named found.0 found.1) in
         let low = height_from steps.low w by.low.decreasing (omega (arith, by.begins.0, least.0)) in
         let greatest = ((by.low.each w low.0 upto).0 low.1).1.attained in
-        let lower = subst (IsTrue document) greatest.3 (All-get_or (IsTrue document) before greatest.0 greatest.1 greatest.2 true_before) in
+        let lower = subst (IsTrue document) greatest.3 (All-get_or (IsTrue document)
+        before greatest.0 greatest.1 greatest.2 true_before) in
         let less = lower.lower nested (named greatest.1 greatest.4.0.of) found.0.height layout.0
         (Fits-wider document.style nested (placed_width document.style found.0) greatest.1.width found.0.height layout.0
         (omega (arith, found.2, greatest.4.0.wide)) layout.1) in
@@ -163,7 +176,8 @@ module _ (document : Document) (on : IsOnPage document) (before : List Section) 
     small : first_height steps.high ≤ 2 * table_size nested
     small =
         let upto = first_width-within page steps.high by.high.decreasing by.high.within in
-        let least = (by.high.each (first_width steps.high) (first_height steps.high) upto).0 (height-first steps.high by.high.decreasing) in
+        let least = (by.high.each (first_width steps.high) (first_height steps.high) upto).0
+        (height-first steps.high by.high.decreasing) in
         let found = found_at (first_width steps.high) (first_height steps.high) least.1 in
         omega (arith, found.3, found.5 nested (named found.0 found.1))
 
@@ -172,20 +186,25 @@ module _ (document : Document) (on : IsOnPage document) (before : List Section) 
       AllByRecursion (λ nested. IsSomeAnd (steps_for inner (out-Table nested).number) (AreSoundSteps document.style page nested))
       (inner_tables (out-Table one))
   have_sound_steps one among page inner steps =
-      recursion_from_All (λ nested. IsSomeAnd (steps_for inner (out-Table nested).number) (AreSoundSteps document.style page nested))
+      recursion_from_All (λ nested. IsSomeAnd (steps_for inner (out-Table nested).number)
+      (AreSoundSteps document.style page nested))
       (inner_tables (out-Table one))
-      (All-from_Contains (λ nested. IsSomeAnd (steps_for inner (out-Table nested).number) (AreSoundSteps document.style page nested))
+      (All-from_Contains (λ nested. IsSomeAnd (steps_for inner (out-Table nested).number)
+      (AreSoundSteps document.style page nested))
       (inner_tables (out-Table one)) (λ nested has.
       let found = steps_found document.style page before (inner_tables (out-Table one)) inner nested steps has in
       let own = nested_among document.table one nested among has in
-      let same = one_of_number document.table found.of nested on.sound (nested_among document.table one found.of among found.has) own found.numbered in
+      let same = one_of_number document.table found.of nested on.sound
+      (nested_among document.table one found.of among found.has) own found.numbered in
       let by = subst (λ t. AreStepsBy document.style page before t found.steps) same found.are in
-      subst (λ o. IsSomeAnd o (AreSoundSteps document.style page nested)) (sym found.found) (sound_steps nested own page found.steps by)))
+      subst (λ o. IsSomeAnd o (AreSoundSteps document.style page nested)) (sym found.found)
+      (sound_steps nested own page found.steps by)))
 
 -- ---- good sections are small
 
 -- the placement of a good section is within its page
-pub good_follows : (document : Document) (budget : ℕ) (before : List Section) (section : Section) → IsGood document budget before section →
+pub good_follows : (document : Document) (budget : ℕ) (before : List Section) (section : Section) →
+    IsGood document budget before section →
     Follows document before section
 good_follows document budget before section good = record {
   due = good.due;
@@ -202,25 +221,31 @@ module _ (by_low : LayoutsAreByLow) (by_high : LayoutsByHighFit) (sound_alone : 
       IsGood document budget before section → least_of document section.table ≤ section.width → IsSmall document section
   small_section before true_before small_before section good from = λ one named.
       let own = good.laid.own in
-      let same = one_of_number document.table own.one one on.sound own.named.among named.among (own.named.numbered ∙ sym named.numbered) in
-      let least = subst (IsLeastWidth own.one document.style) (ap (least_of document) own.named.numbered) (on.least own.one own.named.among) in
+      let same = one_of_number document.table own.one one on.sound own.named.among named.among
+      (own.named.numbered ∙ sym named.numbered) in
+      let least = subst (IsLeastWidth own.one document.style) (ap (least_of document) own.named.numbered)
+      (on.least own.one own.named.among) in
       let low = are_low own.one document.style section.width own.inner good.problem good.laid.placed (record {
         sound = sound_among document.table own.one on.sound own.named.among;
         narrow = omega (arith, own.sound.narrow, own.made.wide);
         least = least_of document section.table;
         is_least = least;
         wide = from;
-        each = have_sound_steps document on before true_before small_before own.one own.named.among section.width own.inner own.steps;
+        each = have_sound_steps document on before true_before small_before own.one own.named.among section.width own.inner
+            own.steps;
       }) own.made good.laid.placement.tight.placement in
       subst (λ t. section.height ≤ 2 * table_size t) same (omega (arith, low, good.laid.placement.high))
 
   module _ (sections : List Section) (good : AreGoodBelow document budget sections (length sections)) where
-    pub all_stand : (n : ℕ) → n ≤ length sections → (now : Due) → due_after document (take n sections) ≡ Some now → Stands document (take n sections) now
+    pub all_stand : (n : ℕ) → n ≤ length sections → (now : Due) → due_after document (take n sections) ≡ Some now →
+        Stands document (take n sections) now
     all_stand n within = stands document (some_number document on) (leasts document on) sections n within
-        (λ i d less. good_follows document budget (take i sections) (get_or sections i d) (good i d (omega (arith, less, within))))
+        (λ i d less. good_follows document budget (take i sections) (get_or sections i d)
+        (good i d (omega (arith, less, within))))
 
     pub all_are_true : (n : ℕ) → n ≤ length sections → All (IsTrue document) (take n sections)
-    all_are_true n within = all_true by_low by_high document on.sound budget sections n within (λ i d less. good i d (omega (arith, less, within)))
+    all_are_true n within = all_true by_low by_high document on.sound budget sections n within
+        (λ i d less. good i d (omega (arith, less, within)))
 
     pub all_small : (n : ℕ) → n ≤ length sections → All (IsSmall document) (take n sections)
     all_small zero within = All-nil (IsSmall document)
@@ -236,7 +261,8 @@ module _ (by_low : LayoutsAreByLow) (by_high : LayoutsByHighFit) (sound_alone : 
 
     -- ---- what is due has a problem
 
-    module _ (now : Due) (is : due_after document sections ≡ Some now) (one : Table) (named : IsTableOf document now.table one) where
+    module _ (now : Due) (is : due_after document sections ≡ Some now) (one : Table)
+        (named : IsTableOf document now.table one) where
       whole : take (length sections) sections ≡ sections
       whole = take_all (length sections) sections (omega arith)
 
@@ -263,7 +289,8 @@ module _ (by_low : LayoutsAreByLow) (by_high : LayoutsByHighFit) (sound_alone : 
           let greater = inside_greater one nested 1 own_sound (nested, has, inl refl) in
           let within = number_within document.table nested on.sound among in
           let least = on.least nested among in
-          let narrow = nested_narrower document.style one nested (least_of document now.table) (least_of document (out-Table nested).number)
+          let narrow = nested_narrower document.style one nested (least_of document now.table)
+          (least_of document (out-Table nested).number)
           own_sound has own_least least in
           steps_by document.style sections nested (least_of document (out-Table nested).number) now.width least
           (omega (arith, narrow, stood.covered.from))
@@ -272,8 +299,10 @@ module _ (by_low : LayoutsAreByLow) (by_high : LayoutsByHighFit) (sound_alone : 
 
       pub due_inner : (inner : List InnerSteps) × AreInnerSteps one document.style now.width sections inner
       due_inner = inner_by document.style now.width sections (inner_tables (out-Table one))
-          (recursion_from_All (λ nested. (steps : InnerSteps) × AreStepsBy document.style now.width sections nested steps) (inner_tables (out-Table one))
-          (All-from_Contains (λ nested. (steps : InnerSteps) × AreStepsBy document.style now.width sections nested steps) (inner_tables (out-Table one))
+          (recursion_from_All (λ nested. (steps : InnerSteps) × AreStepsBy document.style now.width sections nested steps)
+          (inner_tables (out-Table one))
+          (All-from_Contains (λ nested. (steps : InnerSteps) × AreStepsBy document.style now.width sections nested steps)
+          (inner_tables (out-Table one))
           nested_steps))
 
       pub due_sound : (inner : List InnerSteps) → AreInnerSteps one document.style now.width sections inner →

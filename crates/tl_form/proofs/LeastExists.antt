@@ -9,26 +9,27 @@ use Rattle.tl_base.specs.declared.style.Style.{Style}
 use Rattle.tl_base.specs.Style.{gap_of, row_gap_of, edge_of}
 use Rattle.tl_base.proofs.Members.{AllByRecursion-weaker}
 use Rattle.tl_grid.specs.Dropping.{IsPlaced}
-use Rattle.tl_problem.specs.Sizes.{room, total}
-use Rattle.tl_form.specs.declared.cell.Content.{Content, out-Content}
-use Rattle.tl_form.specs.declared.cell.Content.TheOpen as open_content
-use Rattle.tl_form.specs.declared.cell.Table.{Table, out-Table}
-use Rattle.tl_form.specs.declared.cell.TableCell.{TableCell, out-TableCell}
-use Rattle.tl_form.specs.declared.layout.Layout.{Layout, out-Layout, roll-Layout}
-use Rattle.tl_form.specs.Tables.{OpenTable, OpenCell, OpenContent, inner_tables, tables_in, tables_of}
-use Rattle.tl_form.specs.Layouts.{OpenLayout, Share, Fits, FitsBy, FitsCell, FitsRoom, FitsShare, FitsWithin}
-use Rattle.tl_form.specs.Least.{IsLeastHeight}
+use Rattle.tl_base.specs.Sizes.{room, total}
+use Rattle.tl_table.specs.declared.cell.Content.{Content, out-Content}
+use Rattle.tl_table.specs.declared.cell.Content.TheOpen as open_content
+use Rattle.tl_table.specs.declared.cell.Table.{Table, out-Table}
+use Rattle.tl_table.specs.declared.cell.TableCell.{TableCell, out-TableCell}
+use Rattle.tl_table.specs.declared.layout.Layout.{Layout, out-Layout, roll-Layout}
+use Rattle.tl_table.specs.Tables.{OpenTable, OpenCell, OpenContent, inner_tables, tables_in, tables_of}
+use Rattle.tl_table.specs.Layouts.{OpenLayout, Share, Fits, FitsBy, FitsCell, FitsRoom, FitsShare, FitsWithin}
+use Rattle.tl_table.specs.Least.{IsLeastHeight}
 use Rattle.tl_form.specs.Problems.{BlockNeeds, CellNeeds}
-use Rattle.tl_form.specs.Sound.{IsSoundBy, IsSoundWithin, place_of}
+use Rattle.tl_table.specs.Sound.{IsSoundBy, IsSoundWithin, place_of}
 use Rattle.tl_text.proofs.Minimals.{AllFit-from_cutting}
 use Rattle.tl_form.proofs.CellNeedLemmas.{cell-functional}
-use Rattle.tl_form.proofs.Deeper.{FitsBy-weaker}
-use Rattle.tl_form.proofs.LeastWidths.{room-equal}
+use Rattle.tl_table.proofs.Deeper.{FitsBy-weaker}
+use Rattle.tl_table.proofs.LeastWidths.{room-equal}
 use Rattle.tl_form.proofs.ParagraphSteps.{fits-or-not, lines-from_fit}
 use Rattle.tl_form.proofs.ProblemLayouts.{IsAboveAt, IsBelowAt, cell-above, cell-below}
-use Rattle.tl_form.proofs.ProblemTruth.{cell-inside, fits-rolled, least-functional}
+use Rattle.tl_form.proofs.ProblemTruth.{cell-inside, least-functional}
+use Rattle.tl_table.proofs.AnyDepth.{fits-rolled}
 use Rattle.tl_form.proofs.Searches.{Decides, Found, decide-some, total-small}
-use Rattle.tl_form.proofs.SoundParts.{each_joined}
+use Rattle.tl_table.proofs.SoundParts.{each_joined}
 
 module _ (style : Style) where
   abbrev Real : Table → ℕ → ℕ → Type 0
@@ -39,7 +40,8 @@ module _ (style : Style) where
 
   -- on each page the table has a least height, or no layout fits
   abbrev pub Settles : Table → Type 0
-  Settles table = (w : ℕ) → ((h : ℕ) × IsLeastHeight table style w h) ⊎ ((h : ℕ) (layout : Layout) → Fits table style w h layout → ⊥)
+  Settles table = (w : ℕ) → ((h : ℕ) × IsLeastHeight table style w h) ⊎
+      ((h : ℕ) (layout : Layout) → Fits table style w h layout → ⊥)
 
   -- ---- a cell, where its nested tables settle
 
@@ -56,7 +58,8 @@ module _ (style : Style) where
         | inr none ↦ inr (λ share held. none held.height held.layout held.laid)
       ]
 
-  blocks-settle : (w : ℕ) (blocks : List Content) → AllByRecursion (λ block. AllByRecursion Settles (tables_of (out-Content block))) blocks →
+  blocks-settle : (w : ℕ) (blocks : List Content) → AllByRecursion
+      (λ block. AllByRecursion Settles (tables_of (out-Content block))) blocks →
       ((heights : List ℕ) × AllZip (λ block height. BlockNeeds Real (out-Content block) w height) blocks heights)
       ⊎ ((shares : List Share) → AllZip (λ block share. FitsShare Any w (out-Content block) share) blocks shares → ⊥)
   blocks-settle w [] settle = inl ([], tt)
@@ -74,7 +77,8 @@ module _ (style : Style) where
       none-first none [] held = absurd held
       none-first none (share ∷ shares) held = none share held.0
 
-      none-later : ((shares : List Share) → AllZip (λ one share. FitsShare Any w (out-Content one) share) blocks shares → ⊥) → (shares : List Share) →
+      none-later : ((shares : List Share) → AllZip (λ one share. FitsShare Any w (out-Content one) share) blocks shares → ⊥) →
+          (shares : List Share) →
           AllZip (λ one share. FitsShare Any w (out-Content one) share) (block ∷ blocks) shares → ⊥
       none-later none [] held = absurd held
       none-later none (share ∷ shares) held = none shares held.1
@@ -84,14 +88,16 @@ module _ (style : Style) where
   cell-settles w cell settle =
       elim (cases_lt w cell.least) [
         | inl below ↦ inr (λ h inner held. omega (arith, held.floor, below))
-        | inr floor ↦ elim (blocks-settle w cell.blocks (each_joined Settles (λ block. tables_of (out-Content block)) cell.blocks settle)) [
-          | inr none ↦ inr (λ h inner held. none held.shares held.blocks)
-          | inl all ↦ inl (sum all.0, record { floor = floor; heights = all.0; blocks = all.1; all = refl })
-        ]
+        | inr floor ↦ elim (blocks-settle w cell.blocks (each_joined Settles (λ block. tables_of (out-Content block))
+            cell.blocks settle)) [
+              | inr none ↦ inr (λ h inner held. none held.shares held.blocks)
+              | inl all ↦ inl (sum all.0, record { floor = floor; heights = all.0; blocks = all.1; all = refl })
+            ]
       ]
 
   -- a cell that needs a height fits a room that is as high, and in no lower one
-  cell-fits : (w n h : ℕ) (cell : OpenCell) → CellNeeds Real cell w n → n ≤ h → (inner : List Layout) × FitsRoom Any w h cell inner
+  cell-fits : (w n h : ℕ) (cell : OpenCell) → CellNeeds Real cell w n → n ≤ h →
+      (inner : List Layout) × FitsRoom Any w h cell inner
   cell-fits w n h cell need enough =
       cell-above Any Real w cell n h
       (AllByRecursion-weaker (λ nested. (m : ℕ) × Real nested w m) (IsAboveAt Any Real w) (tables_in cell)
@@ -106,7 +112,8 @@ module _ (style : Style) where
 
   -- ---- widths and heights of a table
 
-  module _ (table : OpenTable) (settle : AllByRecursion (λ cell. AllByRecursion Settles (tables_in (out-TableCell cell))) table.cells)
+  module _ (table : OpenTable) (settle : AllByRecursion (λ cell. AllByRecursion Settles (tables_in (out-TableCell cell)))
+      table.cells)
       (placed : AllByRecursion (λ cell. IsPlaced table.cols table.rows (place_of cell)) table.cells) where
     abbrev room_for : List ℕ → TableCell → ℕ
     room_for widths cell = room (gap_of style) widths (place_of cell).left (place_of cell).right
@@ -123,26 +130,31 @@ module _ (style : Style) where
     AllHeld widths heights cells = AllByRecursion (λ cell. (n : ℕ) × CellNeeds Real (out-TableCell cell) (room_for widths cell) n
         × (n ≤ lines_for heights cell)) cells
 
-    decide-need : (widths : List ℕ) (cells : List TableCell) → AllByRecursion (λ cell. AllByRecursion Settles (tables_in (out-TableCell cell))) cells →
+    decide-need : (widths : List ℕ) (cells : List TableCell) →
+        AllByRecursion (λ cell. AllByRecursion Settles (tables_in (out-TableCell cell))) cells →
         Decides (AllNeed widths cells)
     decide-need widths [] each = inl tt
     decide-need widths (cell ∷ cells) each =
         elim (cell-settles (room_for widths cell) (out-TableCell cell) each.0) [
           | inr none ↦ inr (λ all.
-              let fits = cell-fits (room_for widths cell) all.0.0 all.0.0 (out-TableCell cell) all.0.1 (omega arith) in none all.0.0 fits.0 fits.1)
+              let fits = cell-fits (room_for widths cell) all.0.0 all.0.0 (out-TableCell cell) all.0.1 (omega arith) in
+              none all.0.0 fits.0 fits.1)
           | inl need ↦ elim (decide-need widths cells each.1) [ inl rest ↦ inl (need, rest) | inr not ↦ inr (λ all. not all.1) ]
         ]
 
     decide-held : (widths heights : List ℕ) (cells : List TableCell) →
-        AllByRecursion (λ cell. AllByRecursion Settles (tables_in (out-TableCell cell))) cells → Decides (AllHeld widths heights cells)
+        AllByRecursion (λ cell. AllByRecursion Settles (tables_in (out-TableCell cell))) cells →
+        Decides (AllHeld widths heights cells)
     decide-held widths heights [] each = inl tt
     decide-held widths heights (cell ∷ cells) each =
         elim (cell-settles (room_for widths cell) (out-TableCell cell) each.0) [
           | inr none ↦ inr (λ all.
-              let fits = cell-fits (room_for widths cell) all.0.0 all.0.0 (out-TableCell cell) all.0.1 (omega arith) in none all.0.0 fits.0 fits.1)
+              let fits = cell-fits (room_for widths cell) all.0.0 all.0.0 (out-TableCell cell) all.0.1 (omega arith) in
+              none all.0.0 fits.0 fits.1)
           | inl need ↦ elim (cases_lt (lines_for heights cell) need.0) [
             | inl high ↦ inr (λ all.
-                let same = cell-functional Real (least-functional style) (out-TableCell cell) (room_for widths cell) need.0 all.0.0 need.1 all.0.1 in
+                let same = cell-functional Real (least-functional style) (out-TableCell cell) (room_for widths cell)
+                need.0 all.0.0 need.1 all.0.1 in
                 omega (arith, same, all.0.2, high))
             | inr low ↦ elim (decide-held widths heights cells each.1) [
               | inl rest ↦ inl ((need.0, need.1, low), rest)
@@ -160,7 +172,8 @@ module _ (style : Style) where
       pub held : AllHeld widths heights table.cells
 
     parts-of : (widths heights : List ℕ) (cells : List TableCell) → AllHeld widths heights cells →
-        (parts : List (List Layout)) × AllZip (λ cell inner. FitsRoom Any (room_for widths cell) (lines_for heights cell) (out-TableCell cell) inner)
+        (parts : List (List Layout)) × AllZip (λ cell inner. FitsRoom Any (room_for widths cell) (lines_for heights cell)
+        (out-TableCell cell) inner)
         cells parts
     parts-of widths heights [] held = ([], tt)
     parts-of widths heights (cell ∷ cells) held =
@@ -186,7 +199,8 @@ module _ (style : Style) where
 
     held-by : (layout : OpenLayout) (cells : List TableCell) (parts : List (List Layout)) →
         AllByRecursion (λ cell. AllByRecursion Settles (tables_in (out-TableCell cell))) cells →
-        AllZip (λ cell inner. FitsCell Any style layout (out-TableCell cell) inner) cells parts → AllHeld layout.widths layout.heights cells
+        AllZip (λ cell inner. FitsCell Any style layout (out-TableCell cell) inner) cells parts →
+        AllHeld layout.widths layout.heights cells
     held-by layout [] parts each fits = tt
     held-by layout (cell ∷ cells) [] each fits = absurd fits
     held-by layout (cell ∷ cells) (inner ∷ parts) each fits = (
@@ -195,13 +209,15 @@ module _ (style : Style) where
         | inl need ↦ (
           need.0,
           need.1,
-          cell-lower (room_for layout.widths cell) need.0 (lines_for layout.heights cell) (out-TableCell cell) inner need.1 fits.0,
+          cell-lower (room_for layout.widths cell) need.0 (lines_for layout.heights cell) (out-TableCell cell)
+              inner need.1 fits.0,
         )
       ],
       held-by layout cells parts each.1 fits.1,
     )
 
-    fits-good : (page height : ℕ) (layout : OpenLayout) → FitsBy Any style table page height layout → IsGood page layout.widths layout.heights
+    fits-good : (page height : ℕ) (layout : OpenLayout) → FitsBy Any style table page height layout →
+        IsGood page layout.widths layout.heights
     fits-good page height layout fits = record {
       columns = fits.columns;
       rows = fits.rows;
@@ -235,7 +251,13 @@ module _ (style : Style) where
                     | inr narrow ↦ elim (cases_lt (total_of heights) height) [
                       | inr high ↦ inr (λ is. omega (arith, is.1, high))
                       | inl low ↦ inl (
-                        record { columns = omega (arith, enough, columns); rows = omega (arith, some, rows); narrow = narrow; held = held },
+                        record {
+                          columns = omega (arith, enough, columns);
+                          rows = omega (arith, some, rows);
+                          narrow =
+                              narrow;
+                          held = held;
+                        },
                         low,
                       )
                     ]
@@ -246,10 +268,12 @@ module _ (style : Style) where
           ]
         ]
 
-    some-lower : (page height : ℕ) → Decides (Found table.cols (λ widths. Found table.rows (λ heights. IsLower page height widths heights)))
+    some-lower : (page height : ℕ) →
+        Decides (Found table.cols (λ widths. Found table.rows (λ heights. IsLower page height widths heights)))
     some-lower page height =
         decide-some table.cols page (λ widths. Found table.rows (λ heights. IsLower page height widths heights))
-        (λ widths. decide-some table.rows height (λ heights. IsLower page height widths heights) (λ heights. decide-lower page height widths heights)
+        (λ widths. decide-some table.rows height (λ heights. IsLower page height widths heights)
+        (λ heights. decide-lower page height widths heights)
         (λ heights is. total-small (row_gap_of style) (edge_of style) height heights (omega (arith, is.1))))
         (λ widths found. total-small (gap_of style) (edge_of style) page widths found.2.0.narrow)
 
@@ -260,7 +284,8 @@ module _ (style : Style) where
       pub good : IsGood page widths heights
       pub least : (others more : List ℕ) → IsGood page others more → total_of heights ≤ total_of more
 
-    lower-down : (fuel page : ℕ) (widths heights : List ℕ) → IsGood page widths heights → total_of heights ≤ fuel → IsLeastGood page
+    lower-down : (fuel page : ℕ) (widths heights : List ℕ) → IsGood page widths heights → total_of heights ≤ fuel →
+        IsLeastGood page
     lower-down zero page widths heights good small =
         record { widths = widths; heights = heights; good = good; least = λ others more is. omega (arith, small) }
     lower-down (suc fuel) page widths heights good small =
@@ -284,8 +309,10 @@ module _ (style : Style) where
     need-sum widths [] need = 0
     need-sum widths (cell ∷ cells) need = need.0.0 + need-sum widths cells need.1
 
-    held-high : (widths : List ℕ) (high : ℕ) (cells : List TableCell) (need : AllNeed widths cells) → need-sum widths cells need ≤ high →
-        AllByRecursion (λ cell. IsPlaced table.cols table.rows (place_of cell)) cells → AllHeld widths (replicate table.rows high) cells
+    held-high : (widths : List ℕ) (high : ℕ) (cells : List TableCell) (need : AllNeed widths cells) →
+        need-sum widths cells need ≤ high →
+        AllByRecursion (λ cell. IsPlaced table.cols table.rows (place_of cell)) cells →
+        AllHeld widths (replicate table.rows high) cells
     held-high widths high [] need enough at = tt
     held-high widths high (cell ∷ cells) need enough at = (
       (
@@ -308,7 +335,8 @@ module _ (style : Style) where
         decide-some table.cols page (IsWide page)
         (λ widths. elim (cases_lt page (total (gap_of style) (edge_of style) widths)) [
           | inl wide ↦ inr (λ is. omega (arith, is.0, wide))
-          | inr narrow ↦ elim (decide-need widths table.cells settle) [ inl need ↦ inl (narrow, need) | inr not ↦ inr (λ is. not is.1) ]
+          | inr narrow ↦ elim (decide-need widths table.cells settle)
+              [ inl need ↦ inl (narrow, need) | inr not ↦ inr (λ is. not is.1) ]
         ])
         (λ widths is. total-small (gap_of style) (edge_of style) page widths is.0)
 
@@ -317,7 +345,8 @@ module _ (style : Style) where
     need-held widths heights (cell ∷ cells) held = ((held.0.0, held.0.1), need-held widths heights cells held.1)
 
     -- good sizes, or none
-    pub settled : (page : ℕ) → IsLeastGood page ⊎ ((height : ℕ) (layout : OpenLayout) → FitsBy Any style table page height layout → ⊥)
+    pub settled : (page : ℕ) → IsLeastGood page ⊎ ((height : ℕ) (layout : OpenLayout) →
+        FitsBy Any style table page height layout → ⊥)
     settled page =
         elim (some-wide page) [
           | inr none ↦ inr (λ height layout fits.
@@ -336,12 +365,14 @@ module _ (style : Style) where
 
   -- ---- one table, and all depths
 
-  any-by : (depth : ℕ) (table : OpenTable) (width height : ℕ) (layout : OpenLayout) → FitsBy (FitsWithin depth style) style table width height layout →
+  any-by : (depth : ℕ) (table : OpenTable) (width height : ℕ) (layout : OpenLayout) →
+      FitsBy (FitsWithin depth style) style table width height layout →
       FitsBy Any style table width height layout
   any-by depth table width height layout fits =
       FitsBy-weaker (FitsWithin depth style) Any (λ nested w h one held. (depth, held)) style table width height layout fits
 
-  table-settles : {sound : Table → Type 0} (table : Table) → IsSoundBy sound (out-Table table) → AllByRecursion Settles (inner_tables (out-Table table)) →
+  table-settles : {sound : Table → Type 0} (table : Table) → IsSoundBy sound (out-Table table) →
+      AllByRecursion Settles (inner_tables (out-Table table)) →
       Settles table
   table-settles table by settle page =
       elim (settled (out-Table table) each placed page) [
@@ -363,13 +394,16 @@ module _ (style : Style) where
       each : AllByRecursion (λ cell. AllByRecursion Settles (tables_in (out-TableCell cell))) (out-Table table).cells
       each = each_joined Settles (λ cell. tables_in (out-TableCell cell)) (out-Table table).cells settle
 
-      placed : AllByRecursion (λ cell. IsPlaced (out-Table table).cols (out-Table table).rows (place_of cell)) (out-Table table).cells
-      placed = recursion_from_All (λ cell. IsPlaced (out-Table table).cols (out-Table table).rows (place_of cell)) (out-Table table).cells
+      placed : AllByRecursion (λ cell. IsPlaced (out-Table table).cols (out-Table table).rows (place_of cell))
+          (out-Table table).cells
+      placed = recursion_from_All (λ cell. IsPlaced (out-Table table).cols (out-Table table).rows (place_of cell))
+          (out-Table table).cells
           (λ k d within. subst (IsPlaced (out-Table table).cols (out-Table table).rows)
           (get_or-map place_of (out-Table table).cells k d (place_of d) within)
           (by.placed k (place_of d) (omega (arith, within, length-map (out-Table table).cells place_of))))
 
-      least-of : (least : IsLeastGood (out-Table table) each placed page) → (other : ℕ) (layout : Layout) → Fits table style page other layout →
+      least-of : (least : IsLeastGood (out-Table table) each placed page) → (other : ℕ) (layout : Layout) →
+          Fits table style page other layout →
           total (row_gap_of style) (edge_of style) least.heights ≤ other
       least-of least other layout (zero, held) = absurd held
       least-of least other layout (suc depth, held) =
@@ -377,13 +411,16 @@ module _ (style : Style) where
           (any-by depth (out-Table table) page other (out-Layout layout) held) in
           omega (arith, least.least (out-Layout layout).widths (out-Layout layout).heights good, held.high)
 
-      none-fits : ((height : ℕ) (layout : OpenLayout) → FitsBy Any style (out-Table table) page height layout → ⊥) → (h : ℕ) (layout : Layout) →
+      none-fits : ((height : ℕ) (layout : OpenLayout) → FitsBy Any style (out-Table table) page height layout → ⊥) →
+          (h : ℕ) (layout : Layout) →
           Fits table style page h layout → ⊥
       none-fits none h layout (zero, held) = absurd held
-      none-fits none h layout (suc depth, held) = none h (out-Layout layout) (any-by depth (out-Table table) page h (out-Layout layout) held)
+      none-fits none h layout (suc depth, held) = none h (out-Layout layout)
+          (any-by depth (out-Table table) page h (out-Layout layout) held)
 
   pub settles : (depth : ℕ) (table : Table) → IsSoundWithin depth table → Settles table
   settles zero table sound = absurd sound
   settles (suc depth) table sound =
       table-settles table sound
-      (AllByRecursion-weaker (IsSoundWithin depth) Settles (inner_tables (out-Table table)) (λ nested is. settles depth nested is) sound.inner)
+      (AllByRecursion-weaker (IsSoundWithin depth) Settles (inner_tables (out-Table table))
+      (λ nested is. settles depth nested is) sound.inner)

@@ -1,38 +1,3 @@
-pub mod Arcs
-pub mod ChainDepths
-pub mod ChainLaws
-pub mod Deeper
-pub mod Duality
-mod Examples
-mod Lowest
-pub mod Found
-pub mod LeastRoomLemmas
-pub mod LeastWidths
-pub mod LinkLemmas
-pub mod OwnWidths
-pub mod Rooms
-pub mod Rows
-pub mod SizesOpen
-pub mod Sorted
-pub mod SoundParts
-pub mod Widths
-pub mod TreeParts
-pub mod SoundNodes
-pub mod Becoming
-pub mod Gridless
-pub mod Writing
-pub mod Formed
-pub mod SpeltBlocks
-pub mod SoundFormed
-pub mod OneTable
-pub mod Numbered
-pub mod OneFile
-pub mod Orders
-pub mod Laid
-pub mod UnitSizes
-pub mod Blocks
-pub mod NumbersOpen
-pub mod SoundCounts
 pub mod NeedSteps
 pub mod ParagraphSteps
 pub mod CellNeedLemmas
@@ -53,7 +18,6 @@ pub mod LeastExists
 pub mod CountsExist
 mod ProblemExamples
 pub mod BetweenSteps
-pub mod TableNumbers
 pub mod DueLaws
 pub mod Truth
 pub mod ValidLaws
@@ -65,18 +29,15 @@ pub mod SectionHeights
 mod CertificateExamples
 pub mod ToldSteps
 pub mod Collected
-pub mod InnerNumbers
 pub mod NamedLaws
-pub mod NumberLemmas
 pub mod Coverage
 pub mod CoveredSteps
 pub mod DueProblems
 pub mod SubjectLemmas
 pub mod ClosedLaws
 pub mod OpenLaws
-mod SameExamples
-pub mod SameTables
-pub mod SameFits
-pub mod SameChains
 pub mod SameProblems
 pub mod SameDocuments
+pub mod Placing
+pub mod SmallSections
+pub mod NamedSteps

@@ -45,9 +45,14 @@ pieces-few (piece ∷ pieces) (lines ∷ cut) is =
       pieces-few pieces cut is.1,
     )
 
-first-count : (unit : Atom) (pieces : List (List Atom)) → sum_by piece_count (onto_first unit pieces) ≤ 1 + sum_by piece_count pieces
+first-count : (unit : Atom) (pieces : List (List Atom)) → sum_by piece_count
+    (onto_first unit pieces) ≤ 1 + sum_by piece_count pieces
 first-count unit [] = omega (arith, sum_by-cons piece_count (unit ∷ []) [])
-first-count unit (piece ∷ pieces) = omega (arith, sum_by-cons piece_count (unit ∷ piece) pieces, sum_by-cons piece_count piece pieces)
+first-count unit (piece ∷ pieces) = omega (
+  arith,
+  sum_by-cons piece_count (unit ∷ piece) pieces,
+  sum_by-cons piece_count piece pieces,
+)
 
 pieces-count : (atoms : List Atom) → sum_by piece_count (lined_pieces atoms) ≤ length atoms
 pieces-count [] = omega arith

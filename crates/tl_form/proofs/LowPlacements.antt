@@ -8,13 +8,13 @@ use Rattle.std.proofs.lemmas.List.{length-map}
 use Rattle.std.proofs.lemmas.List.FromFn.{length-range_with_len, get_or-map-range_with_len}
 use Rattle.std.proofs.lemmas.List.Sums.{sum_by-cons}
 use Rattle.tl_base.specs.declared.style.Style.{Style}
-use Rattle.tl_base.specs.declared.style.Style.TheVariants.{Plain, Frame}
+use Rattle.tl_base.specs.declared.style.Style.TheVariants.{Plain, Compact, Frame}
 use Rattle.tl_base.specs.Style.{row_gap_of, edge_of}
 use Rattle.tl_base.specs.Steps.{first_height}
 use Rattle.tl_problem.specs.declared.cell.Cell.{Cell}
-use Rattle.tl_problem.specs.Sizes.{room, total}
-use Rattle.tl_problem.proofs.SizeLaws.{position-mono, room-position, position-next}
-use Rattle.tl_form.proofs.Rooms.{total-ahead}
+use Rattle.tl_base.specs.Sizes.{room, total}
+use Rattle.tl_base.proofs.SizeLaws.{position-mono, room-position, position-next}
+use Rattle.tl_table.proofs.Rooms.{total-ahead}
 
 -- ---- how much the cells that begin in a row are
 
@@ -26,7 +26,8 @@ abbrev pub row_weight : List Cell → ℕ → ℕ
 row_weight made row = sum_by (weight_in row) made
 
 -- a cell is no more than its row
-pub weight-le : (made : List Cell) (k : ℕ) (d : Cell) → k < length made → first_height (get_or made k d).high + 1 ≤ row_weight made (get_or made k d).top
+pub weight-le : (made : List Cell) (k : ℕ) (d : Cell) → k < length made →
+    first_height (get_or made k d).high + 1 ≤ row_weight made (get_or made k d).top
 weight-le [] k d within = absurd (omega (arith, within))
 weight-le (one ∷ made) zero d within =
     let same = eq-eqb one.top one.top refl in
@@ -46,7 +47,12 @@ weight-rows one from (suc n) =
           omega (arith, sum_by-cons (λ row. weight_in row one) from (range_with_len (from + 1) n), here, rest)
       | inr other ↦
           let here = ap (λ b. cond b (first_height one.high + 1) 0) (ne_eqb one.top from other) in
-          omega (arith, sum_by-cons (λ row. weight_in row one) from (range_with_len (from + 1) n), here, weight-rows one (from + 1) n)
+          omega (
+            arith,
+            sum_by-cons (λ row. weight_in row one) from (range_with_len (from + 1) n),
+            here,
+            weight-rows one (from + 1) n,
+          )
     ]
   where
     -- in rows past its first it counts nothing
@@ -54,7 +60,12 @@ weight-rows one from (suc n) =
     weight-past one from zero before = refl
     weight-past one from (suc n) before =
         let here = ap (λ b. cond b (first_height one.high + 1) 0) (ne_eqb one.top from (λ same. omega (arith, same, before))) in
-        omega (arith, sum_by-cons (λ row. weight_in row one) from (range_with_len (from + 1) n), here, weight-past one (from + 1) n (omega (arith, before)))
+        omega (
+          arith,
+          sum_by-cons (λ row. weight_in row one) from (range_with_len (from + 1) n),
+          here,
+          weight-past one (from + 1) n (omega (arith, before)),
+        )
 
 -- a sum of sums, the other way round
 sum-none : (rows : List ℕ) → sum_by (λ (row : ℕ). 0) rows ≡ 0
@@ -70,7 +81,8 @@ sum-same : (f g : ℕ → ℕ) (rows : List ℕ) → ((row : ℕ) → f row ≡ 
 sum-same f g [] same = refl
 sum-same f g (row ∷ rows) same = omega (arith, sum_by-cons f row rows, sum_by-cons g row rows, same row, sum-same f g rows same)
 
-rows-weight : (made : List Cell) (n : ℕ) → sum_by (row_weight made) (range_with_len 0 n) ≤ sum_by (λ one. first_height one.high + 1) made
+rows-weight : (made : List Cell) (n : ℕ) → sum_by (row_weight made) (range_with_len 0 n) ≤ sum_by
+    (λ one. first_height one.high + 1) made
 rows-weight [] n = omega (arith, sum-none (range_with_len 0 n))
 rows-weight (one ∷ made) n =
     let split = sum-same (row_weight (one ∷ made)) (λ row. weight_in row one + row_weight made row) (range_with_len 0 n)
@@ -106,7 +118,8 @@ heights-sum made (row ∷ rows) some =
     )
 
 -- a span of rows has the room of its first
-first-room : (gap : ℕ) (sizes : List ℕ) (top bottom : ℕ) → top < bottom → bottom ≤ length sizes → get_or sizes top 0 ≤ room gap sizes top bottom
+first-room : (gap : ℕ) (sizes : List ℕ) (top bottom : ℕ) → top < bottom → bottom ≤ length sizes →
+    get_or sizes top 0 ≤ room gap sizes top bottom
 first-room gap sizes top bottom ahead within =
     omega (
       arith,
@@ -116,11 +129,14 @@ first-room gap sizes top bottom ahead within =
     )
 
 -- each cell has its first height
-pub rows-enough : (gap : ℕ) (made : List Cell) (n k : ℕ) (d : Cell) → k < length made → (get_or made k d).top < (get_or made k d).bottom →
-    (get_or made k d).bottom ≤ n → first_height (get_or made k d).high ≤ room gap (row_heights made n) (get_or made k d).top (get_or made k d).bottom
+pub rows-enough : (gap : ℕ) (made : List Cell) (n k : ℕ) (d : Cell) → k < length made →
+    (get_or made k d).top < (get_or made k d).bottom →
+    (get_or made k d).bottom ≤ n → first_height (get_or made k d).high ≤ room gap (row_heights made n) (get_or made k d).top
+    (get_or made k d).bottom
 rows-enough gap made n k d inside ahead within =
     let one = get_or made k d in
-    let at = get_or-map-range_with_len (λ row. row_weight made row - 1) 0 n one.top one.top 0 (omega (arith, ahead, within)) (omega arith) in
+    let at = get_or-map-range_with_len (λ row. row_weight made row - 1) 0 n one.top one.top 0 (omega (arith, ahead, within))
+    (omega arith) in
     omega (
       arith,
       first-room gap (row_heights made n) one.top one.bottom ahead (omega (arith, within, length-rows made n)),
@@ -131,9 +147,11 @@ rows-enough gap made n k d inside ahead within =
 -- gaps and edges are no more than the rows and one line
 by-style : (style : Style) (n : ℕ) → 0 < n → row_gap_of style * (n - 1) + 2 * edge_of style ≤ n + 1
 by-style Plain n some = omega arith
+by-style Compact n some = omega arith
 by-style Frame n some = omega (arith, some)
 
-pub rows-total : (style : Style) (made : List Cell) (n : ℕ) → AllByRecursion (λ row. 1 ≤ row_weight made row) (range_with_len 0 n) →
+pub rows-total : (style : Style) (made : List Cell) (n : ℕ) →
+    AllByRecursion (λ row. 1 ≤ row_weight made row) (range_with_len 0 n) →
     total (row_gap_of style) (edge_of style) (row_heights made n) ≤ sum_by (λ one. first_height one.high + 1) made + 1
 rows-total style made zero some = omega arith
 rows-total style made (suc n) some =

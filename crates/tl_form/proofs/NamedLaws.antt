@@ -1,6 +1,7 @@
 -- The layout that a certificate names fits: each table of it stands by the placement of its section, in which the layouts
 -- of the tables nested in it have room.
-use Rattle.std.proofs.Common.{◌≡◌, ◌∙◌, ℕ, zero, suc, ◌-◌, ◌<◌, ◌≤◌, List, [], ◌∷◌, ◌++◌, ◌⊎◌, inl, inr, length, get_or, take, sum, sum_by}
+use Rattle.std.proofs.Common.{◌≡◌, ◌∙◌, ℕ, zero, suc, ◌-◌, ◌<◌, ◌≤◌, List, [], ◌∷◌, ◌++◌, ◌⊎◌, inl, inr, length, get_or, take}
+use Rattle.std.proofs.Common.{sum, sum_by}
 use Rattle.std.proofs.Common.{Option, Some, None, refl, sym, ap, subst, arith}
 use Rattle.std.specs.List.{All, AllZip, AllByRecursion, Contains, flat_map}
 use Rattle.std.specs.Option.{IsSomeAnd}
@@ -16,32 +17,32 @@ use Rattle.tl_base.proofs.Sums.{sum-cons}
 use Rattle.tl_problem.specs.declared.cell.Cell.{Cell}
 use Rattle.tl_problem.specs.declared.placed.Placed.{Placed}
 use Rattle.tl_problem.specs.Problem.{ProblemModel}
-use Rattle.tl_problem.specs.Sizes.{room, total}
+use Rattle.tl_base.specs.Sizes.{room, total}
 use Rattle.tl_problem.specs.Placements.{IsPlacement}
 use Rattle.tl_problem.specs.Sound.{IsSound as IsSoundProblem}
-use Rattle.tl_problem.proofs.SizeLaws.{room-total}
+use Rattle.tl_base.proofs.SizeLaws.{room-total}
 use Rattle.tl_cert.specs.declared.certificate.Certificate.{Certificate}
 use Rattle.tl_cert.specs.declared.certificate.Claim.{Claim}
 use Rattle.tl_cert.specs.declared.certificate.Claim.TheVariants.{Lowest, Bounded, Narrow}
 use Rattle.tl_cert.specs.declared.section.Section.{Section}
-use Rattle.tl_form.specs.declared.cell.Content.{Content, out-Content}
-use Rattle.tl_form.specs.declared.cell.Content.TheOpen as open_content
-use Rattle.tl_form.specs.declared.cell.Table.{Table, out-Table}
-use Rattle.tl_form.specs.declared.cell.TableCell.{TableCell, out-TableCell}
+use Rattle.tl_table.specs.declared.cell.Content.{Content, out-Content}
+use Rattle.tl_table.specs.declared.cell.Content.TheOpen as open_content
+use Rattle.tl_table.specs.declared.cell.Table.{Table, out-Table}
+use Rattle.tl_table.specs.declared.cell.TableCell.{TableCell, out-TableCell}
 use Rattle.tl_form.specs.declared.heights.InnerSteps.{InnerSteps}
-use Rattle.tl_form.specs.declared.layout.Layout.{Layout, out-Layout}
+use Rattle.tl_table.specs.declared.layout.Layout.{Layout, out-Layout}
 use Rattle.tl_form.specs.Expected.{Document, IsDocumentOf, IsTableOf, own_number, placed_width}
-use Rattle.tl_form.specs.Layouts.{Share, Fits, FitsRoom, FitsShare, width_for}
+use Rattle.tl_table.specs.Layouts.{Share, Fits, FitsRoom, FitsShare, width_for}
 use Rattle.tl_form.specs.Named.{IsChosen, AreLaidIn, IsLaidWithin, IsNamedBy}
 use Rattle.tl_form.specs.Nested.{IsWithin, IsLeastFound, AreInnerSteps}
 use Rattle.tl_form.specs.ProblemLaws.{LayoutsAreByLow, LayoutsByHighFit}
-use Rattle.tl_form.specs.Problems.{BlockNeeds, CellNeeds, InnerNeeds, IsAmong, IsCellBy, IsProblemOf}
-use Rattle.tl_form.specs.Sound.{IsSound}
-use Rattle.tl_form.specs.Tables.{OpenCell, OpenContent, tables_of, tables_in, inner_tables}
+use Rattle.tl_form.specs.Problems.{BlockNeeds, CellNeeds, InnerNeeds, IsCellBy, IsProblemOf}
+use Rattle.tl_table.specs.Tables.{IsAmong, OpenCell, OpenContent, tables_of, tables_in, inner_tables}
+use Rattle.tl_table.specs.Sound.{IsSound}
 use Rattle.tl_form.specs.Valid.{AreGoodBelow, AreWhole, EndsWith, HasNumbers, IsShown}
 use Rattle.tl_form.specs.ValidLaws.{HasHeight, NamedLayoutFits}
-use Rattle.tl_form.proofs.ProblemLayouts.{fits-from_any}
-use Rattle.tl_form.proofs.TableNumbers.{one_of_number}
+use Rattle.tl_table.proofs.AnyDepth.{fits-from_any}
+use Rattle.tl_table.proofs.TableNumbers.{one_of_number}
 use Rattle.tl_form.proofs.OneProblem.{one_document}
 use Rattle.tl_form.proofs.ValidLaws.{own_last, ends, no_section}
 use Rattle.tl_form.proofs.Truth.{Fits-wider, HasStepsOf, IsTrue, all_true, steps_found, nested_among}
@@ -65,7 +66,8 @@ module _ (style : Style) (needs : Table → ℕ → ℕ → Type 0) (w : ℕ) wh
   abbrev pub IsEnoughFor : Table → Layout → Type 0
   IsEnoughFor nested layout = (h : ℕ) → needs nested w h → (k : ℕ) × Fits nested style w k layout × (k ≤ h)
 
-  block_given : (block : OpenContent) (h : ℕ) (part : List Layout) → AllZip IsEnoughFor (tables_of block) part → BlockNeeds needs block w h →
+  block_given : (block : OpenContent) (h : ℕ) (part : List Layout) → AllZip IsEnoughFor (tables_of block) part →
+      BlockNeeds needs block w h →
       (share : Share) × FitsShare FitsAny w block share × (share.height ≡ h) × (share.inner ≡ part)
   block_given (open_content.Para paragraph) h [] given need =
       let cut = need.attained in
@@ -91,8 +93,10 @@ module _ (style : Style) (needs : Table → ℕ → ℕ → Type 0) (w : ℕ) wh
   blocks_given [] (h ∷ heights) part given need = absurd need
   blocks_given (block ∷ blocks) [] part given need = absurd need
   blocks_given (block ∷ blocks) (h ∷ heights) part given need =
-      let split = zip_parts IsEnoughFor (tables_of (out-Content block)) (flat_map (λ each. tables_of (out-Content each)) blocks) part
-      (subst (λ tables. AllZip IsEnoughFor tables part) (flat_map-cons (λ each. tables_of (out-Content each)) block blocks) given) in
+      let split = zip_parts IsEnoughFor (tables_of (out-Content block)) (flat_map (λ each. tables_of (out-Content each)) blocks)
+      part
+      (subst (λ tables. AllZip IsEnoughFor tables part) (flat_map-cons (λ each. tables_of (out-Content each)) block blocks)
+      given) in
       let first = block_given (out-Content block) h split.0 split.3 need.0 in
       let rest = blocks_given blocks heights split.1 split.4 need.1 in (
         first.0 ∷ rest.0,
@@ -103,11 +107,19 @@ module _ (style : Style) (needs : Table → ℕ → ℕ → Type 0) (w : ℕ) wh
             ∙ ap (λ (inner : List Layout). split.0 ++ inner) rest.3 ∙ sym split.2,
       )
 
-  pub cell_given : (cell : OpenCell) (n h : ℕ) (part : List Layout) → AllZip IsEnoughFor (tables_in cell) part → CellNeeds needs cell w n → n ≤ h →
+  pub cell_given : (cell : OpenCell) (n h : ℕ) (part : List Layout) → AllZip IsEnoughFor (tables_in cell) part →
+      CellNeeds needs cell w n → n ≤ h →
       FitsRoom FitsAny w h cell part
   cell_given cell n h part given need enough =
       let all = blocks_given cell.blocks need.heights part given need.blocks in
-      record { floor = need.floor; shares = all.0; blocks = all.1; within = omega (arith, all.2, need.all, enough); given = all.3 }
+      record {
+        floor = need.floor;
+        shares = all.0;
+        blocks = all.1;
+        within = omega (arith, all.2, need.all, enough);
+        given =
+            all.3;
+      }
 
 -- ---- all cells
 
@@ -121,7 +133,8 @@ module _ (style : Style) (lows highs : Table → ℕ → ℕ → Type 0) (page :
   pub record IsFine (made : Cell) : Type 0 where
     pub some : made.left < made.right
     pub within : made.right ≤ length widths
-    pub low : IsLowAt made.high (room (row_gap_of style) heights made.top made.bottom) (room (gap_of style) widths made.left made.right)
+    pub low : IsLowAt made.high (room (row_gap_of style) heights made.top made.bottom)
+        (room (gap_of style) widths made.left made.right)
 
   -- the layouts of the tables nested in the cell are no higher than these need in its room
   abbrev pub IsGiven : TableCell → List Layout → Type 0
@@ -134,24 +147,29 @@ module _ (style : Style) (lows highs : Table → ℕ → ℕ → Type 0) (page :
       (room (gap_of style) widths (out-TableCell cell).place.left (out-TableCell cell).place.right)
       (room (row_gap_of style) heights (out-TableCell cell).place.top (out-TableCell cell).place.bottom) (out-TableCell cell) part
 
-  one_given : (cell : TableCell) (made : Cell) (part : List Layout) → IsCellBy lows highs page (out-TableCell cell) made → IsFine made →
+  one_given : (cell : TableCell) (made : Cell) (part : List Layout) → IsCellBy lows highs page (out-TableCell cell) made →
+      IsFine made →
       IsGiven cell part → FitsIn cell part
   one_given cell made part is fine given =
       let place = (out-TableCell cell).place in
       let across : room (gap_of style) widths made.left made.right ≡ room (gap_of style) widths place.left place.right =
-      ap (λ left. room (gap_of style) widths left made.right) is.left ∙ ap (λ right. room (gap_of style) widths place.left right) is.right in
+      ap (λ left. room (gap_of style) widths left made.right) is.left ∙ ap
+      (λ right. room (gap_of style) widths place.left right) is.right in
       let down : room (row_gap_of style) heights made.top made.bottom ≡ room (row_gap_of style) heights place.top place.bottom =
-      ap (λ top. room (row_gap_of style) heights top made.bottom) is.top ∙ ap (λ bottom. room (row_gap_of style) heights place.top bottom) is.bottom in
+      ap (λ top. room (row_gap_of style) heights top made.bottom) is.top ∙ ap
+      (λ bottom. room (row_gap_of style) heights place.top bottom) is.bottom in
       let within = room-total (gap_of style) (edge_of style) widths made.left made.right fine.some fine.within in
       let low = low_height (height_at made.high (room (gap_of style) widths made.left made.right))
       (room (row_gap_of style) heights made.top made.bottom) fine.low in
-      let need = (is.high.each (room (gap_of style) widths place.left place.right) low.0 (omega (arith, across, within, narrow))).0
+      let need = (is.high.each (room (gap_of style) widths place.left place.right) low.0
+      (omega (arith, across, within, narrow))).0
       (ap (height_at made.high) (sym across) ∙ low.1) in
       cell_given style highs (room (gap_of style) widths place.left place.right) (out-TableCell cell) low.0
       (room (row_gap_of style) heights place.top place.bottom) part given need (omega (arith, low.2, down))
 
   pub all_given : (cells : List TableCell) (made : List Cell) (parts : List (List Layout)) →
-      AllZip (λ cell one. IsCellBy lows highs page (out-TableCell cell) one) cells made → AllByRecursion IsFine made → AllZip IsGiven cells parts →
+      AllZip (λ cell one. IsCellBy lows highs page (out-TableCell cell) one) cells made → AllByRecursion IsFine made →
+      AllZip IsGiven cells parts →
       AllZip FitsIn cells parts
   all_given [] [] [] are fine given = tt
   all_given [] [] (part ∷ parts) are fine given = absurd given
@@ -164,7 +182,8 @@ module _ (style : Style) (lows highs : Table → ℕ → ℕ → Type 0) (page :
 -- ---- one table
 
 module _ (table : Table) (style : Style) (page : ℕ) (inner : List InnerSteps) (problem : ProblemModel)
-    (of : IsProblemOf table style page inner problem) (sound : IsSoundProblem problem) (placed : Placed) (placement : IsPlacement problem placed) where
+    (of : IsProblemOf table style page inner problem) (sound : IsSoundProblem problem) (placed : Placed)
+    (placement : IsPlacement problem placed) where
   abbrev highs : Table → ℕ → ℕ → Type 0
   highs = InnerNeeds (λ one. one.high) inner
 
@@ -177,8 +196,10 @@ module _ (table : Table) (style : Style) (page : ℕ) (inner : List InnerSteps) 
   low_enough = subst (λ s. All (λ one. IsLowAt one.high (room (row_gap_of s) placed.heights one.top one.bottom)
       (room (gap_of s) placed.widths one.left one.right)) problem.cells) of.drawn placement.rows.kind.cells
 
-  all_fine : AllByRecursion (IsFine style (InnerNeeds (λ one. one.low) inner) highs page placed.widths placed.heights fits_page) problem.cells
-  all_fine = recursion_from_All (IsFine style (InnerNeeds (λ one. one.low) inner) highs page placed.widths placed.heights fits_page) problem.cells
+  all_fine : AllByRecursion (IsFine style (InnerNeeds (λ one. one.low) inner) highs page placed.widths placed.heights fits_page)
+      problem.cells
+  all_fine = recursion_from_All (IsFine style (InnerNeeds (λ one. one.low) inner)
+      highs page placed.widths placed.heights fits_page) problem.cells
       (λ k d within. record {
         some = (sound.cells k d within).columns.0;
         within = omega (arith, (sound.cells k d within).columns.1, placement.page.columns);
@@ -192,24 +213,36 @@ module _ (table : Table) (style : Style) (page : ℕ) (inner : List InnerSteps) 
     where
       from : (cells : List TableCell) (made : List Cell) (cell : TableCell) →
           AllZip (λ each one. IsCellBy (InnerNeeds (λ one. one.low) inner) highs page (out-TableCell each) one) cells made →
-          AllByRecursion (IsFine style (InnerNeeds (λ one. one.low) inner) highs page placed.widths placed.heights fits_page) made →
-          Contains cells cell → room (gap_of style) placed.widths (out-TableCell cell).place.left (out-TableCell cell).place.right ≤ page
+          AllByRecursion (IsFine style (InnerNeeds (λ one. one.low) inner) highs page placed.widths placed.heights fits_page)
+          made →
+          Contains cells cell → room (gap_of style) placed.widths (out-TableCell cell).place.left
+          (out-TableCell cell).place.right ≤ page
       from [] made cell are fine has = absurd (Contains-none cell has)
       from (each ∷ cells) [] cell are fine has = absurd are
-      from (each ∷ cells) (one ∷ made) cell are fine has = by_case (Contains-cases each cells cell has) (from cells made cell are.1 fine.1)
+      from (each ∷ cells) (one ∷ made) cell are fine has = by_case (Contains-cases each cells cell has)
+          (from cells made cell are.1 fine.1)
         where
           here : room (gap_of style) placed.widths (out-TableCell each).place.left (out-TableCell each).place.right ≤ page
           here =
               let place = (out-TableCell each).place in
-              let across : room (gap_of style) placed.widths one.left one.right ≡ room (gap_of style) placed.widths place.left place.right =
+              let across : room (gap_of style) placed.widths one.left one.right ≡ room (gap_of style)
+              placed.widths place.left place.right =
               ap (λ left. room (gap_of style) placed.widths left one.right) are.0.left
               ∙ ap (λ right. room (gap_of style) placed.widths place.left right) are.0.right in
-              omega (arith, across, room-total (gap_of style) (edge_of style) placed.widths one.left one.right fine.0.some fine.0.within, fits_page)
+              omega (
+                arith,
+                across,
+                room-total (gap_of style) (edge_of style)
+                    placed.widths one.left one.right fine.0.some fine.0.within,
+                fits_page,
+              )
 
           by_case : (each ≡ cell) ⊎ Contains cells cell →
-              (Contains cells cell → room (gap_of style) placed.widths (out-TableCell cell).place.left (out-TableCell cell).place.right ≤ page) →
+              (Contains cells cell → room (gap_of style) placed.widths (out-TableCell cell).place.left
+              (out-TableCell cell).place.right ≤ page) →
               room (gap_of style) placed.widths (out-TableCell cell).place.left (out-TableCell cell).place.right ≤ page
-          by_case (inl same) again = subst (λ it. room (gap_of style) placed.widths (out-TableCell it).place.left (out-TableCell it).place.right ≤
+          by_case (inl same) again =
+              subst (λ it. room (gap_of style) placed.widths (out-TableCell it).place.left (out-TableCell it).place.right ≤
               page) same here
           by_case (inr later) again = again later
 
@@ -219,7 +252,8 @@ module _ (table : Table) (style : Style) (page : ℕ) (inner : List InnerSteps) 
       AllZip (λ cell part. AllZip (IsEnoughFor style highs (room (gap_of style) placed.widths (out-TableCell cell).place.left
       (out-TableCell cell).place.right)) (tables_in (out-TableCell cell)) part) (out-Table table).cells parts →
       flat_map (λ part. part) parts ≡ (out-Layout layout).inner →
-      Fits table style (total (gap_of style) (edge_of style) placed.widths) (total (row_gap_of style) (edge_of style) placed.heights) layout
+      Fits table style (total (gap_of style) (edge_of style) placed.widths)
+      (total (row_gap_of style) (edge_of style) placed.heights) layout
   given_fits layout parts wide high given joined =
       let any = fits-from_any style (out-Table table) (total (gap_of style) (edge_of style) placed.widths)
       (total (row_gap_of style) (edge_of style) placed.heights) (out-Layout layout) (record {
@@ -230,13 +264,16 @@ module _ (table : Table) (style : Style) (page : ℕ) (inner : List InnerSteps) 
         parts = parts;
         cells = subst (λ widths. AllZip (λ cell part. FitsRoom (λ nested v h one. Fits nested style v h one)
             (room (gap_of style) widths (out-TableCell cell).place.left (out-TableCell cell).place.right)
-            (room (row_gap_of style) (out-Layout layout).heights (out-TableCell cell).place.top (out-TableCell cell).place.bottom) (out-TableCell cell) part)
+            (room (row_gap_of style) (out-Layout layout).heights (out-TableCell cell).place.top
+            (out-TableCell cell).place.bottom) (out-TableCell cell) part)
             (out-Table table).cells parts) (sym wide)
             (subst (λ heights. AllZip (λ cell part. FitsRoom (λ nested v h one. Fits nested style v h one)
             (room (gap_of style) placed.widths (out-TableCell cell).place.left (out-TableCell cell).place.right)
-            (room (row_gap_of style) heights (out-TableCell cell).place.top (out-TableCell cell).place.bottom) (out-TableCell cell) part)
+            (room (row_gap_of style) heights (out-TableCell cell).place.top (out-TableCell cell).place.bottom)
+            (out-TableCell cell) part)
             (out-Table table).cells parts) (sym high)
-            (all_given style (InnerNeeds (λ one. one.low) inner) highs page placed.widths placed.heights fits_page (out-Table table).cells problem.cells
+            (all_given style (InnerNeeds (λ one. one.low) inner) highs page placed.widths placed.heights fits_page
+            (out-Table table).cells problem.cells
             parts of.made all_fine given));
         given = joined;
       }) in (suc any.0, any.1)
@@ -244,7 +281,8 @@ module _ (table : Table) (style : Style) (page : ℕ) (inner : List InnerSteps) 
 -- ---- by the number of tables inside one another
 
 -- what is so of layouts in each cell
-zip_weaker : {A B : Type 0} (P Q : A → B → Type 0) (xs : List A) (ys : List B) → ((x : A) (y : B) → Contains xs x → P x y → Q x y) →
+zip_weaker : {A B : Type 0} (P Q : A → B → Type 0) (xs : List A) (ys : List B) →
+    ((x : A) (y : B) → Contains xs x → P x y → Q x y) →
     AllZip P xs ys → AllZip Q xs ys
 zip_weaker P Q [] [] weaker all = tt
 zip_weaker P Q [] (y ∷ ys) weaker all = absurd all
@@ -263,22 +301,30 @@ module _ (document : Document) (sound : IsSound document.table) (budget : ℕ) (
   -- a layout by a section fits the columns of its placement, as high
   abbrev LaidFit : ℕ → Type 0
   LaidFit depth = (i : ℕ) → i < length sections → (one : Table) → IsTableOf document (at i).table one → (layout : Layout) →
-      IsLaidWithin depth document sections i one layout → Fits one document.style (placed_width document.style (at i)) (at i).height layout
+      IsLaidWithin depth document sections i one layout → Fits one document.style (placed_width document.style (at i))
+      (at i).height layout
 
   -- the steps that the sections before tell are those of some section, which is chosen or higher
-  chosen_enough : (i : ℕ) (one : Table) (inner : List InnerSteps) (w : ℕ) (nested : Table) (layout : Layout) (depth : ℕ) → i ≤ length sections →
+  chosen_enough : (i : ℕ) (one : Table) (inner : List InnerSteps) (w : ℕ) (nested : Table) (layout : Layout) (depth : ℕ) →
+      i ≤ length sections →
       IsAmong document.table one → AreInnerSteps one document.style (at i).width (take i sections) inner → w ≤ (at i).width →
       Contains (inner_tables (out-Table one)) nested → LaidFit depth →
-      (j : ℕ) × IsChosen document.style sections (out-Table nested).number w j × IsLaidWithin depth document sections j nested layout →
+      (j : ℕ) × IsChosen document.style sections (out-Table nested).number w j ×
+      IsLaidWithin depth document sections j nested layout →
       IsEnoughFor document.style (InnerNeeds (λ each. each.high) inner) w nested layout
   chosen_enough i one inner w nested layout depth before among steps within has again (j, chosen, laid) h needs = (
     (at j).height,
     Fits-wider document.style nested (placed_width document.style (at j)) w (at j).height layout (chosen.within d).narrow
-        (again j chosen.there nested (record { among = nested_among document.table one nested among has; numbered = sym (chosen.within d).of }) layout laid),
+        (again j chosen.there nested (record {
+          among = nested_among document.table one nested among has;
+          numbered =
+              sym (chosen.within d).of;
+        }) layout laid),
     lower,
   )
     where
-      found : HasStepsOf document.style (at i).width (take i sections) (inner_tables (out-Table one)) inner (out-Table nested).number
+      found : HasStepsOf document.style (at i).width (take i sections) (inner_tables (out-Table one)) inner
+          (out-Table nested).number
       found = steps_found document.style (at i).width (take i sections) (inner_tables (out-Table one)) inner nested steps has
 
       high : height_at found.steps.high w ≡ Some h
@@ -310,7 +356,8 @@ module _ (document : Document) (sound : IsSound document.table) (budget : ℕ) (
       let by = placing d in
       let own = by.1 in
       let placement = by.2.tight.placement in
-      let same = one_of_number document.table own.one one sound own.named.among named.among (own.named.numbered ∙ sym named.numbered) in
+      let same = one_of_number document.table own.one one sound own.named.among named.among
+      (own.named.numbered ∙ sym named.numbered) in
       let made : IsProblemOf one document.style (at i).width own.inner by.0 =
       subst (λ t. IsProblemOf t document.style (at i).width own.inner by.0) same own.made in
       let steps : AreInnerSteps one document.style (at i).width (take i sections) own.inner =
@@ -318,13 +365,16 @@ module _ (document : Document) (sound : IsSound document.table) (budget : ℕ) (
       let narrow = fits_page one document.style (at i).width own.inner by.0 made own.sound placed placement in
       let given = zip_weaker
       (λ cell part. AreLaidIn (λ nested w each. (j : ℕ) × IsChosen document.style sections (out-Table nested).number w j
-      × IsLaidWithin depth document sections j nested each) (width_for document.style (out-Layout layout) (out-TableCell cell).place) (out-TableCell cell) part)
+      × IsLaidWithin depth document sections j nested each) (width_for document.style (out-Layout layout)
+      (out-TableCell cell).place) (out-TableCell cell) part)
       (λ cell part. AllZip (IsEnoughFor document.style (InnerNeeds (λ each. each.high) own.inner)
-      (room (gap_of document.style) placed.widths (out-TableCell cell).place.left (out-TableCell cell).place.right)) (tables_in (out-TableCell cell)) part)
+      (room (gap_of document.style) placed.widths (out-TableCell cell).place.left (out-TableCell cell).place.right))
+      (tables_in (out-TableCell cell)) part)
       (out-Table one).cells laid.parts
       (λ cell part has laid_in. zip_weaker
       (λ nested each. (j : ℕ) × IsChosen document.style sections (out-Table nested).number
-      (width_for document.style (out-Layout layout) (out-TableCell cell).place) j × IsLaidWithin depth document sections j nested each)
+      (width_for document.style (out-Layout layout) (out-TableCell cell).place) j ×
+      IsLaidWithin depth document sections j nested each)
       (IsEnoughFor document.style (InnerNeeds (λ each. each.high) own.inner)
       (room (gap_of document.style) placed.widths (out-TableCell cell).place.left (out-TableCell cell).place.right))
       (tables_in (out-TableCell cell)) part
@@ -337,29 +387,35 @@ module _ (document : Document) (sound : IsSound document.table) (budget : ℕ) (
       (subst (λ widths. (j : ℕ) × IsChosen document.style sections (out-Table nested).number
       (room (gap_of document.style) widths (out-TableCell cell).place.left (out-TableCell cell).place.right) j
       × IsLaidWithin depth document sections j nested each) laid.columns chosen)) laid_in) laid.cells in
-      let fits = given_fits one document.style (at i).width own.inner by.0 made own.sound placed placement layout laid.parts laid.columns laid.lines given
+      let fits = given_fits one document.style (at i).width own.inner by.0 made own.sound placed placement layout laid.parts
+      laid.columns laid.lines given
       laid.given in
       let wide : total (gap_of document.style) (edge_of document.style) placed.widths ≡ placed_width document.style (at i) =
       ap (total (gap_of document.style) (edge_of document.style)) by.2.wide in
       let high : total (row_gap_of document.style) (edge_of document.style) placed.heights ≡ (at i).height =
       ap (λ s. total (row_gap_of s) (edge_of s) placed.heights) (sym own.made.drawn) ∙ sym placement.height ∙ by.2.high in
       subst (λ h. Fits one document.style (placed_width document.style (at i)) h layout) high
-      (subst (λ w. Fits one document.style w (total (row_gap_of document.style) (edge_of document.style) placed.heights) layout) wide fits)
+      (subst (λ w. Fits one document.style w (total (row_gap_of document.style) (edge_of document.style) placed.heights) layout)
+      wide fits)
 
 -- ---- for a certificate
 
 -- the layout that the sections of a document name fits its page, as high as the last of them
-pub named_fits : (document : Document) → IsSound document.table → (budget : ℕ) (sections : List Section) → own_number document ≤ document.last →
+pub named_fits : (document : Document) → IsSound document.table → (budget : ℕ) (sections : List Section) →
+    own_number document ≤ document.last →
     AreWhole document budget sections → (d : Section) (layout : Layout) → IsNamedBy document sections layout →
-    Fits document.table document.style (placed_width document.style (get_or sections (length sections - 1) d)) (get_or sections (length sections - 1) d).height
+    Fits document.table document.style (placed_width document.style (get_or sections (length sections - 1) d))
+    (get_or sections (length sections - 1) d).height
     layout
 named_fits document sound budget sections some whole d layout named =
     let own = own_last document budget sections some whole in
     let n : own.n ≡ length sections - 1 = omega (arith, own.last) in
     laid_fits document sound budget sections whole.good d named.0 (length sections - 1) (omega (arith, own.last)) document.table
-    (record { among = inl refl; numbered = sym (subst (λ k. (get_or sections k d).table ≡ own_number document) n (own.of d)) }) layout named.1
+    (record { among = inl refl; numbered = sym (subst (λ k. (get_or sections k d).table ≡ own_number document) n (own.of d)) })
+    layout named.1
 
-module _ (below : LayoutsAreByLow) (above : LayoutsByHighFit) (table : Table) (style : Style) (page budget : ℕ) (certificate : Certificate)
+module _ (below : LayoutsAreByLow) (above : LayoutsByHighFit) (table : Table) (style : Style) (page budget : ℕ)
+    (certificate : Certificate)
     (height : ℕ) (layout : Layout) (sound : IsSound table) (document : Document) (of : IsDocumentOf table style page document)
     (named : IsNamedBy document certificate.sections layout) where
   by_sections : (claim : Claim) → AreWhole document budget certificate.sections → EndsWith claim certificate.sections →
@@ -377,16 +433,19 @@ module _ (below : LayoutsAreByLow) (above : LayoutsByHighFit) (table : Table) (s
       (ap (λ xs. get_or xs (length sections - 1) no_section) (take_all (length sections) sections (omega arith)))
       (All-get_or (IsTrue document) (take (length sections) sections) (length sections - 1) no_section
       (omega (arith, inside, length-take (length sections) sections)) all) in
-      let page_is : last.width ≡ page = subst (λ k. (get_or sections k no_section).width ≡ page) n (own.whole no_section ∙ of.wide) in
+      let page_is : last.width ≡ page = subst (λ k. (get_or sections k no_section).width ≡ page) n
+      (own.whole no_section ∙ of.wide) in
       let numbers : HasNumbers claim last = subst (λ k. HasNumbers claim (get_or sections k no_section)) n
       (ends claim sections own.n no_section own.last with_numbers) in
       let fits = named_fits document sound_document budget sections some whole no_section layout named in
       subst (λ t. Fits t style page height layout) of.same
       (subst (λ s. Fits document.table s page height layout) of.drawn
       (subst (λ h. Fits document.table document.style page h layout) (is last numbers)
-      (Fits-wider document.style document.table (placed_width document.style last) page last.height layout (omega (arith, told.within, page_is)) fits)))
+      (Fits-wider document.style document.table (placed_width document.style last) page last.height layout
+      (omega (arith, told.within, page_is)) fits)))
 
-  by_claim : (claim : Claim) → IsShown document budget certificate claim → HasHeight claim height → Fits table style page height layout
+  by_claim : (claim : Claim) → IsShown document budget certificate claim → HasHeight claim height →
+      Fits table style page height layout
   by_claim (Lowest most) shown has = by_sections (Lowest most) shown.0 shown.1 (λ section numbers. numbers.0 ∙ has)
   by_claim (Bounded most lower) shown has = by_sections (Bounded most lower) shown.0 shown.1 (λ section numbers. numbers.0 ∙ has)
   by_claim (Narrow least) shown has = absurd has
@@ -394,6 +453,7 @@ module _ (below : LayoutsAreByLow) (above : LayoutsByHighFit) (table : Table) (s
 pub named_layout : LayoutsAreByLow → LayoutsByHighFit → NamedLayoutFits
 named_layout below above table style page budget certificate height layout sound valid has named =
     let wide : certificate.width ≡ page = valid.2.claim.wide ∙ valid.1.wide in
-    let same = one_document table style page named.0 valid.0 sound (subst (λ w. IsDocumentOf table style w named.0) wide named.1) valid.1 in
+    let same = one_document table style page named.0 valid.0 sound
+    (subst (λ w. IsDocumentOf table style w named.0) wide named.1) valid.1 in
     by_claim below above table style page budget certificate height layout sound valid.0 valid.1
     (subst (λ document. IsNamedBy document certificate.sections layout) same named.2) certificate.claim valid.2.shown has

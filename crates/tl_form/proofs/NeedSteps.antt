@@ -1,5 +1,6 @@
 -- Steps of what is needed: they are determined by it, and they come from lists of steps whose each step is needed.
-use Rattle.std.proofs.Common.{◌≡◌, ℕ, zero, suc, ◌+◌, ◌<◌, ◌≤◌, ◌⊎◌, inl, inr, List, [], ◌∷◌, length, get_or, filter, nat_le, Option, Some}
+use Rattle.std.proofs.Common.{◌≡◌, ℕ, zero, suc, ◌+◌, ◌<◌, ◌≤◌, ◌⊎◌, inl, inr, List, [], ◌∷◌, length, get_or, filter, nat_le}
+use Rattle.std.proofs.Common.{Option, Some}
 use Rattle.std.proofs.Common.{None, Contains, refl, sym, ap, subst, ◌∙◌, arith}
 use Rattle.std.specs.List.{All, last_or}
 use Rattle.std.specs.Option.{option_map}
@@ -53,7 +54,8 @@ module _ (steps : List Config) (are : AreSteps steps) where
       IsLowAt-wider steps are step.height step.width w narrow (IsLowAt-from steps step.height step.width (height-own step has))
 
   -- the wider of two steps is the lower
-  pub wider-lower : (narrow wide : Config) → Contains steps narrow → Contains steps wide → narrow.width < wide.width → wide.height < narrow.height
+  pub wider-lower : (narrow wide : Config) → Contains steps narrow → Contains steps wide → narrow.width < wide.width →
+      wide.height < narrow.height
   wider-lower narrow wide first second wider =
       let at_first : get_or steps first.0 no_step ≡ narrow = get_or_default steps first.0 no_step narrow first.1 ∙ first.2 in
       let at_second : get_or steps second.0 no_step ≡ wide = get_or_default steps second.0 no_step wide second.1 ∙ second.2 in
@@ -64,7 +66,8 @@ module _ (steps : List Config) (are : AreSteps steps) where
             let fall = are.decreasing first.0 second.0 no_step before second.1 in
             omega (arith, fall.1, ap (λ (step : Config). step.height) at_first, ap (λ (step : Config). step.height) at_second)
         | inr other ↦ elim (cases_lt second.0 first.0) [
-          | inl after ↦ let fall = are.decreasing second.0 first.0 no_step after first.1 in absurd (omega (arith, fall.0, low, high, wider))
+          | inl after ↦ let fall = are.decreasing second.0 first.0 no_step after first.1 in
+              absurd (omega (arith, fall.0, low, high, wider))
           | inr same ↦
               let end : first.0 ≡ second.0 = omega (arith, other, same) in
               absurd (omega (arith, ap (λ k. (get_or steps k no_step).width) end, low, high, wider))
@@ -94,7 +97,8 @@ module _ (steps : List Config) (are : AreSteps steps) where
       (low.0, low.1)
 
   -- the height at a width stands from the width of its step on
-  pub height-since : (step : Config) (v w : ℕ) → Contains steps step → step.width ≤ v → v ≤ w → height_at steps w ≡ Some step.height →
+  pub height-since : (step : Config) (v w : ℕ) → Contains steps step → step.width ≤ v → v ≤ w →
+      height_at steps w ≡ Some step.height →
       height_at steps v ≡ Some step.height
   height-since step v w has narrow wider is =
       let low = height-from_low steps step.height v (low-from_step step v has narrow) in
@@ -138,7 +142,8 @@ same-option (Some m) p there back = sym (there m refl)
 
 -- a step up to the page is one of other steps that have the same heights up to it
 pub step-there : (page : ℕ) (these those : List Config) → AreSteps these → AreSteps those →
-    ((w : ℕ) → w ≤ page → height_at these w ≡ height_at those w) → (step : Config) → Contains these step → step.width ≤ page → Contains those step
+    ((w : ℕ) → w ≤ page → height_at these w ≡ height_at those w) → (step : Config) → Contains these step → step.width ≤ page →
+    Contains those step
 step-there page these those are others same step has narrow =
     let there = step-at those step.width step.height (sym (same step.width narrow) ∙ height-own these are step has) in
     elim (cases_lt there.0.width step.width) [
@@ -159,12 +164,14 @@ pub same-steps : (page : ℕ) (one other : List Config) → AreSteps one → Are
     All (λ step. step.width ≤ page) other → ((w : ℕ) → w ≤ page → height_at one w ≡ height_at other w) → one ≡ other
 same-steps page one other first second within_one within_other same =
     same-ordered Falls (λ x y before after. omega (arith, before.0, after.0)) one other first.decreasing second.decreasing
-    (λ step has. step-there page one other first second same step has (All-contains (λ (any : Config). any.width ≤ page) one step within_one has))
+    (λ step has. step-there page one other first second same step has
+    (All-contains (λ (any : Config). any.width ≤ page) one step within_one has))
     (λ step has. step-there page other one second first (λ w within. sym (same w within)) step has
     (All-contains (λ (any : Config). any.width ≤ page) other step within_other has))
 
 -- the steps of what is needed are determined
-pub AreStepsOf-unique : (needs : ℕ → ℕ → Type 0) (page : ℕ) (one other : List Config) → AreStepsOf needs page one → AreStepsOf needs page other →
+pub AreStepsOf-unique : (needs : ℕ → ℕ → Type 0) (page : ℕ) (one other : List Config) → AreStepsOf needs page one →
+    AreStepsOf needs page other →
     one ≡ other
 AreStepsOf-unique needs page one other first second =
     same-steps page one other first.decreasing second.decreasing first.within second.within
@@ -173,12 +180,16 @@ AreStepsOf-unique needs page one other first second =
     (λ n is. (first.each w n within).1 ((second.each w n within).0 is)))
 
 -- what is needed in other words has the same steps
-pub AreStepsOf-same : (needs others : ℕ → ℕ → Type 0) (page : ℕ) (steps : List Config) → ((w h : ℕ) → w ≤ page → needs w h → others w h) →
+pub AreStepsOf-same : (needs others : ℕ → ℕ → Type 0) (page : ℕ) (steps : List Config) →
+    ((w h : ℕ) → w ≤ page → needs w h → others w h) →
     ((w h : ℕ) → w ≤ page → others w h → needs w h) → AreStepsOf needs page steps → AreStepsOf others page steps
 AreStepsOf-same needs others page steps there back of = record {
   decreasing = of.decreasing;
   within = of.within;
-  each = λ w h within. (λ is. there w h within ((of.each w h within).0 is), λ other. (of.each w h within).1 (back w h within other));
+  each = λ w h within. (
+    λ is. there w h within ((of.each w h within).0 is),
+    λ other. (of.each w h within).1 (back w h within other),
+  );
 }
 
 -- ---- where they come from
@@ -221,9 +232,11 @@ AreStepsOf-from needs page steps are decreasing needed begun = record {
       low.1 ∙ ap Some same
 
 -- what they are of falls with the width
-pub AreStepsOf-falls : (needs : ℕ → ℕ → Type 0) (page : ℕ) (steps : List Config) → AreStepsOf needs page steps → IsDecreasing needs page
+pub AreStepsOf-falls : (needs : ℕ → ℕ → Type 0) (page : ℕ) (steps : List Config) → AreStepsOf needs page steps →
+    IsDecreasing needs page
 AreStepsOf-falls needs page steps of = record {
-  falls = λ v w m n wider within first second. height-falls steps of.decreasing v w m n wider ((of.each v m (omega arith)).1 first)
+  falls = λ v w m n wider within first second. height-falls steps of.decreasing v w m n wider
+      ((of.each v m (omega arith)).1 first)
       ((of.each w n within).1 second);
   wider = λ v w m wider within first.
       let more = height-wider steps of.decreasing v w m wider ((of.each v m (omega arith)).1 first) in
@@ -240,13 +253,15 @@ both-some (Some m) (Some n) h is = (m, n, refl, refl, cc)
 -- past the page nothing changes
 pub height-past : (page : ℕ) (steps : List Config) → All (λ step. step.width ≤ page) steps → (w : ℕ) → page ≤ w →
     height_at steps page ≡ height_at steps w
-height-past page steps within w past = height-same steps page w past (λ k d inside wide upto. omega (arith, within k d inside, wide))
+height-past page steps within w past = height-same steps page w past
+    (λ k d inside wide upto. omega (arith, within k d inside, wide))
 
 -- the needs of both
 abbrev pub BothNeed : (ℕ → ℕ → Type 0) → (ℕ → ℕ → Type 0) → ℕ → ℕ → Type 0
 BothNeed first second w h = (m n : ℕ) × first w m × second w n × (m + n ≡ h)
 
-pub AreStepsOf-stacked : (first second : ℕ → ℕ → Type 0) (page : ℕ) (a b steps : List Config) → AreStepsOf first page a → AreStepsOf second page b →
+pub AreStepsOf-stacked : (first second : ℕ → ℕ → Type 0) (page : ℕ) (a b steps : List Config) → AreStepsOf first page a →
+    AreStepsOf second page b →
     AreSteps steps → ((w : ℕ) → height_at steps w ≡ stacked_height a b w) → AreStepsOf (BothNeed first second) page steps
 AreStepsOf-stacked first second page a b steps of_a of_b are heights = record {
   decreasing = are;
@@ -260,7 +275,8 @@ AreStepsOf-stacked first second page a b steps of_a of_b are heights = record {
         | inl wide ↦
             let past : height_at steps page ≡ height_at steps step.width =
             heights page ∙ ap (λ o. both_heights o (height_at b page)) (height-past page a of_a.within step.width (omega arith))
-            ∙ ap (λ o. both_heights (height_at a step.width) o) (height-past page b of_b.within step.width (omega arith)) ∙ sym (heights step.width) in
+            ∙ ap (λ o. both_heights (height_at a step.width) o) (height-past page b of_b.within step.width (omega arith)) ∙ sym
+            (heights step.width) in
             let at = step-at steps page step.height (past ∙ height-own steps are step has) in
             let fall = wider-lower steps are at.0 step at.1 has (omega (arith, at.2, wide)) in
             absurd (omega (arith, fall, at.3))

@@ -4,20 +4,21 @@ use Rattle.std.specs.List.{AllZip}
 use Rattle.std.proofs.lemmas.List.{get_or_default}
 use Rattle.tl_base.specs.declared.style.Style.{Style}
 use Rattle.tl_cert.specs.declared.section.Section.{Section}
-use Rattle.tl_form.specs.declared.cell.Table.{Table, out-Table}
+use Rattle.tl_table.specs.declared.cell.Table.{Table, out-Table}
 use Rattle.tl_form.specs.declared.heights.InnerSteps.{InnerSteps}
 use Rattle.tl_form.specs.Expected.{Document, IsDocumentOf, own_number, least_of}
-use Rattle.tl_form.specs.Least.{IsLeastWidth}
+use Rattle.tl_table.specs.Least.{IsLeastWidth}
 use Rattle.tl_form.specs.Nested.{AreStepsBy, AreInnerSteps, IsGreatestLower, IsLeastFound}
 use Rattle.tl_form.specs.ProblemLaws.{ProblemIsDetermined}
-use Rattle.tl_form.specs.Problems.{IsProblemOf, IsAmong, AreStepsOf}
-use Rattle.tl_form.specs.Sound.{IsSound, nested_in_table}
-use Rattle.tl_form.specs.Refusals.{IsRefusedFor}
+use Rattle.tl_form.specs.Problems.{IsProblemOf, AreStepsOf}
+use Rattle.tl_table.specs.Tables.{IsAmong}
+use Rattle.tl_table.specs.Sound.{IsSound, nested_in_table}
+use Rattle.tl_form.specs.Failures.{FailsFor}
 use Rattle.tl_form.specs.ValidLaws.{RefusedForOneReason, ValidIsNotRefused}
-use Rattle.tl_form.proofs.LinkLemmas.{IsLeastWidth-unique}
+use Rattle.tl_table.proofs.LinkLemmas.{IsLeastWidth-unique}
 use Rattle.tl_form.proofs.NeedSteps.{AreStepsOf-unique}
 use Rattle.tl_form.proofs.OneFault.{HasOneProblem, one_fault, no_fault}
-use Rattle.tl_form.proofs.TableNumbers.{one_of_number, table_of_number}
+use Rattle.tl_table.proofs.TableNumbers.{one_of_number, table_of_number}
 
 -- ---- steps
 
@@ -63,7 +64,8 @@ one_problem determined document sound before section one other is are =
     (subst (λ t. IsProblemOf t document.style section.width are.inner other) same are.made))
   where
     same : are.one ≡ is.one
-    same = one_of_number document.table are.one is.one sound are.named.among is.named.among (are.named.numbered ∙ sym is.named.numbered)
+    same = one_of_number document.table are.one is.one sound are.named.among is.named.among
+        (are.named.numbered ∙ sym is.named.numbered)
 
     inner : are.inner ≡ is.inner
     inner = one_inner document.style section.width before _ are.inner is.inner
@@ -72,7 +74,8 @@ one_problem determined document sound before section one other is are =
 -- ---- documents
 
 -- lists of one length with the same items are the same
-same_items : {X : Type 0} (xs ys : List X) → length xs ≡ length ys → ((i : ℕ) (d : X) → i < length xs → get_or xs i d ≡ get_or ys i d) → xs ≡ ys
+same_items : {X : Type 0} (xs ys : List X) → length xs ≡ length ys →
+    ((i : ℕ) (d : X) → i < length xs → get_or xs i d ≡ get_or ys i d) → xs ≡ ys
 same_items [] [] long each = refl
 same_items [] (y ∷ ys) long each = absurd (omega (arith, long))
 same_items (x ∷ xs) [] long each = absurd (omega (arith, long))
@@ -81,7 +84,8 @@ same_items (x ∷ xs) (y ∷ ys) long each =
     let tail = same_items xs ys (omega (arith, long)) (λ i d within. each (suc i) d (omega (arith, within))) in
     λ i. head i ∷ tail i
 
-pub one_document : (table : Table) (style : Style) (page : ℕ) (one other : Document) → IsSound table → IsDocumentOf table style page one →
+pub one_document : (table : Table) (style : Style) (page : ℕ) (one other : Document) → IsSound table →
+    IsDocumentOf table style page one →
     IsDocumentOf table style page other → one ≡ other
 one_document table style page one other sound is are = λ i. record {
   table = same i;
@@ -113,7 +117,8 @@ one_document table style page one other sound is are = λ i. record {
 
   each : (i : ℕ) (d : ℕ) → i < length one.least → get_or one.least i d ≡ get_or other.least i d
   each i d within =
-      let found = table_of_number one.table (own_number one + i) (subst IsSound (sym is.same) sound) (omega arith) (omega (arith, is.each, within)) in
+      let found = table_of_number one.table (own_number one + i) (subst IsSound (sym is.same) sound) (omega arith)
+      (omega (arith, is.each, within)) in
       let n = (out-Table found.0).number in
       let at_one : n - own_number one ≡ i = omega (arith, found.2) in
       let at_other : n - own_number other ≡ i = omega (arith, found.2, own) in
@@ -121,7 +126,8 @@ one_document table style page one other sound is are = λ i. record {
       subst (λ k. IsLeastWidth found.0 one.style (get_or one.least k 0)) at_one (is.least found.0 found.1) in
       let second : IsLeastWidth found.0 one.style (get_or other.least i 0) =
       subst (λ k. IsLeastWidth found.0 one.style (get_or other.least k 0)) at_other
-      (subst (λ s. IsLeastWidth found.0 s (least_of other n)) (sym drawn) (are.least found.0 (subst (λ t. IsAmong t found.0) same found.1))) in
+      (subst (λ s. IsLeastWidth found.0 s (least_of other n)) (sym drawn)
+      (are.least found.0 (subst (λ t. IsAmong t found.0) same found.1))) in
       get_or_default one.least i d 0 within
       ∙ IsLeastWidth-unique found.0 one.style (get_or one.least i 0) (get_or other.least i 0) first second
       ∙ get_or_default other.least i 0 d (omega (arith, long, within))
@@ -135,10 +141,10 @@ pub refused_once : ProblemIsDetermined → RefusedForOneReason
 refused_once determined table style page budget certificate sound one other is are =
     let same = one_document table style page are.0 is.0 sound are.1 is.1 in
     one_fault is.0 budget certificate (one_problem determined is.0 (subst IsSound (sym is.1.same) sound)) one other is.2
-    (subst (λ document. IsRefusedFor document budget certificate other) same are.2)
+    (subst (λ document. FailsFor document budget certificate other) same are.2)
 
 pub valid_not_refused : ProblemIsDetermined → ValidIsNotRefused
 valid_not_refused determined table style page budget certificate sound valid fault is =
     let same = one_document table style page is.0 valid.0 sound is.1 valid.1 in
     no_fault valid.0 budget certificate (one_problem determined valid.0 (subst IsSound (sym valid.1.same) sound)) fault valid.2
-    (subst (λ document. IsRefusedFor document budget certificate fault) same is.2)
+    (subst (λ document. FailsFor document budget certificate fault) same is.2)

@@ -1,6 +1,7 @@
 -- The first section of a document that is open has made all cuts of the budget: its problem is the true one, in which `low`
 -- is `high`, so that no zone of it is closed by their difference.
-use Rattle.std.proofs.Common.{◌≡◌, ◌∙◌, ℕ, zero, suc, ◌+◌, ◌<◌, ◌≤◌, ◌⊎◌, inl, inr, List, length, get_or, take, refl, sym, ap, subst, arith, length-take}
+use Rattle.std.proofs.Common.{◌≡◌, ◌∙◌, ℕ, zero, suc, ◌+◌, ◌<◌, ◌≤◌, ◌⊎◌, inl, inr, List, length, get_or, take, refl, sym, ap}
+use Rattle.std.proofs.Common.{subst, arith, length-take}
 use Rattle.std.specs.List.{All, Any}
 use Rattle.std.proofs.lemmas.Bool.{cases_lt}
 use Rattle.std.proofs.lemmas.List.{get_or-take, get_or_default}
@@ -19,10 +20,10 @@ use Rattle.tl_cert.proofs.TraceLaws.{zones-are}
 use Rattle.tl_cert.proofs.WorkedLaws.{agree-everywhere}
 use Rattle.tl_form.specs.ClosedLaws.{IsClosed}
 use Rattle.tl_form.specs.Expected.{Document, least_of, own_number}
-use Rattle.tl_form.specs.Least.{IsLeastWidth}
+use Rattle.tl_table.specs.Least.{IsLeastWidth}
 use Rattle.tl_form.specs.OpenLaws.{IsSpent, OpenSpends}
 use Rattle.tl_form.specs.ProblemLaws.{LayoutsAreByLow, LayoutsByHighFit, TrueWhereBoundsMeet}
-use Rattle.tl_form.specs.Sound.{IsSound}
+use Rattle.tl_table.specs.Sound.{IsSound}
 use Rattle.tl_form.specs.Valid.{AreGoodBelow, IsGood}
 use Rattle.tl_form.proofs.ClosedLaws.{bounds_meet}
 use Rattle.tl_form.proofs.Coverage.{Stands, stands}
@@ -31,7 +32,8 @@ use Rattle.tl_form.proofs.ProblemTruth.{true-low-is-high}
 use Rattle.tl_form.proofs.Truth.{IsTrue, all_true, high_is_above, low_is_below}
 
 -- a worked trace that is open made all cuts of the budget, where `low` is `high`
-worked_spends : (problem : ProblemModel) → IsSoundProblem problem → (trace : List CutAt) (height lower budget : ℕ) → LowIsHigh problem →
+worked_spends : (problem : ProblemModel) → IsSoundProblem problem → (trace : List CutAt) (height lower budget : ℕ) →
+    LowIsHigh problem →
     IsWorked problem trace height lower budget → lower < height → length trace ≡ budget
 worked_spends problem sound trace height lower budget same worked below =
     let open_work = worked.below below in
@@ -53,7 +55,8 @@ worked_spends problem sound trace height lower budget same worked below =
           ]
     ]
 
-module _ (by_low : LayoutsAreByLow) (by_high : LayoutsByHighFit) (meet : TrueWhereBoundsMeet) (document : Document) (on : IsOnPage document)
+module _ (by_low : LayoutsAreByLow) (by_high : LayoutsByHighFit) (meet : TrueWhereBoundsMeet) (document : Document)
+    (on : IsOnPage document)
     (budget : ℕ) where
   -- after closed sections a good one is closed, or has spent the budget
   closed_or_spent : (before : List Section) → All (IsTrue document) before → All IsClosed before → (section : Section) →
@@ -70,12 +73,14 @@ module _ (by_low : LayoutsAreByLow) (by_high : LayoutsByHighFit) (meet : TrueWhe
       (All-from_recursion (λ each. each.low ≡ each.high) good.problem.cells
       (true-low-is-high own.one document.style section.width good.problem real)) has) in
       elim (cases_lt section.lower section.height) [
-        | inl below ↦ inr (worked_spends good.problem own.sound section.trace section.height section.lower budget same good.traced below)
+        | inl below ↦ inr (worked_spends good.problem own.sound section.trace section.height section.lower budget same
+            good.traced below)
         | inr reached ↦ inl (let ordered = good.traced.ordered in omega (arith, reached, ordered))
       ]
 
   -- what is so of some of the first is so of some of one more
-  later : (P : Section → Type 0) (sections : List Section) (n : ℕ) → n < length sections → Any P (take n sections) → Any P (take (suc n) sections)
+  later : (P : Section → Type 0) (sections : List Section) (n : ℕ) → n < length sections → Any P (take n sections) →
+      Any P (take (suc n) sections)
   later P sections n within (k, section, inside, is, so) =
       let below : k < n = omega (arith, inside, length-take n sections, within) in (
         k,
@@ -104,7 +109,8 @@ module _ (by_low : LayoutsAreByLow) (by_high : LayoutsByHighFit) (meet : TrueWhe
         | inl closed ↦
             let section = get_or sections n d in
             let is = good n d (omega arith) in
-            let told = all_true by_low by_high document on.sound budget sections n (omega (arith, within)) (λ j e below. good j e (omega (arith, below))) in
+            let told = all_true by_low by_high document on.sound budget sections n (omega (arith, within))
+            (λ j e below. good j e (omega (arith, below))) in
             let stood = stands document (some_number document on) (leasts document on) sections n (omega (arith, within))
             (λ j e below. good_follows document budget (take j sections) (get_or sections j e) (good j e (omega (arith, below))))
             (record { table = section.table; width = section.width }) is.due in
@@ -116,7 +122,8 @@ module _ (by_low : LayoutsAreByLow) (by_high : LayoutsByHighFit) (meet : TrueWhe
             ]
       ]
 
-  pub open_spent : (sections : List Section) (n : ℕ) → n ≤ length sections → AreGoodBelow document budget sections n → (i : ℕ) (d : Section) → i < n →
+  pub open_spent : (sections : List Section) (n : ℕ) → n ≤ length sections → AreGoodBelow document budget sections n →
+      (i : ℕ) (d : Section) → i < n →
       (get_or sections i d).lower < (get_or sections i d).height → Any (IsSpent budget) (take n sections)
   open_spent sections n within good i d inside below = elim (all_or_spent sections d n within good) [
     | inr spent ↦ spent

@@ -77,7 +77,11 @@ begins atoms (suc w) n least =
               refl,
             )
             | inr more ↦
-                let same : before.0 ≡ n = omega (arith, more, LeastLines-falls w (suc w) atoms before.0 n (omega arith) before.1 least) in
+                let same : before.0 ≡ n = omega (
+                  arith,
+                  more,
+                  LeastLines-falls w (suc w) atoms before.0 n (omega arith) before.1 least,
+                ) in
                 let found = begins atoms w n (subst (λ k. LeastLines w atoms k) same before.1) in
                 (found.0, found.1, omega (arith, found.2), found.3)
           ]
@@ -102,7 +106,8 @@ holds-wider atoms from page h wider least =
 
 -- where a paragraph has lines no unit is too wide
 pub some-lines : (atoms : List Atom) (w h : ℕ) (o : Option ℕ) →
-    (IsNone o → (k : ℕ) × (atom : Atom) × (k < length atoms) × (get_or atoms k atom ≡ atom) × (w < unit_width atom)) → LeastLines w atoms h → IsSome o
+    (IsNone o → (k : ℕ) × (atom : Atom) × (k < length atoms) × (get_or atoms k atom ≡ atom) × (w < unit_width atom)) →
+    LeastLines w atoms h → IsSome o
 some-lines atoms w h None wide least =
     let at = wide refl in
     let fit = All-from_recursion (λ atom. unit_width atom ≤ w) atoms (fit-from_lines w atoms h least) in

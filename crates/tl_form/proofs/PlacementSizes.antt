@@ -1,5 +1,6 @@
 -- The height of a placement beside what its table holds.
-use Rattle.std.proofs.Common.{◌≡◌, ℕ, zero, suc, ◌+◌, ◌*◌, ◌<◌, ◌≤◌, List, [], ◌∷◌, length, get_or, sum_by, refl, sym, ap, subst, ◌∙◌, arith}
+use Rattle.std.proofs.Common.{◌≡◌, ℕ, zero, suc, ◌+◌, ◌*◌, ◌<◌, ◌≤◌, List, [], ◌∷◌, length, get_or, sum_by, refl, sym, ap, subst}
+use Rattle.std.proofs.Common.{◌∙◌, arith}
 use Rattle.std.specs.List.{All, AllZip, AllByRecursion, Any, range_with_len}
 use Rattle.std.proofs.lemmas.List.Elements.{recursion_from_All, All-from_recursion}
 use Rattle.std.proofs.lemmas.List.FromFn.{get_or-range_with_len, length-range_with_len}
@@ -16,18 +17,18 @@ use Rattle.tl_problem.specs.Problem.{ProblemModel, cell_height, cell_width, tota
 use Rattle.tl_problem.specs.Layouts.{GiveHigh}
 use Rattle.tl_problem.specs.Placements.{IsPlacement}
 use Rattle.tl_problem.proofs.Heights.{IsLowAt-from, IsLowAt-higher, height-from_low}
-use Rattle.tl_problem.proofs.SizeLaws.{total-le}
-use Rattle.tl_form.specs.declared.cell.Content.{out-Content}
-use Rattle.tl_form.specs.declared.cell.Table.{Table, out-Table}
-use Rattle.tl_form.specs.declared.cell.TableCell.{TableCell, out-TableCell}
+use Rattle.tl_base.proofs.SizeLaws.{total-le}
+use Rattle.tl_table.specs.declared.cell.Content.{out-Content}
+use Rattle.tl_table.specs.declared.cell.Table.{Table, out-Table}
+use Rattle.tl_table.specs.declared.cell.TableCell.{TableCell, out-TableCell}
 use Rattle.tl_form.specs.declared.heights.InnerSteps.{InnerSteps}
 use Rattle.tl_form.specs.Problems.{InnerNeeds, IsCellBy, IsProblemOf}
-use Rattle.tl_form.specs.Sound.{IsSoundBy, IsSoundWithin, IsSpelt, place_of, table_size}
+use Rattle.tl_table.specs.Sound.{IsSoundBy, IsSoundWithin, IsSpelt, place_of, table_size}
 use Rattle.tl_form.specs.SoundProblems.{AreSoundPremises}
 use Rattle.tl_form.proofs.LowPlacements.{length-rows, row_heights, row_weight, rows-enough, rows-total, weight-le}
 use Rattle.tl_form.proofs.NeedSteps.{first-least, height-falls, height-first}
 use Rattle.tl_form.proofs.SafeProblems.{any-made, cells-small, have, placed-cells, places-same}
-use Rattle.tl_form.proofs.SizesOpen.{table_size-out}
+use Rattle.tl_table.proofs.SizesOpen.{table_size-out}
 
 -- a cell of the problem has steps, and rows in the grid
 abbrev IsInRows : ℕ → Cell → Type 0
@@ -44,7 +45,8 @@ in-rows lows highs page cols n (cell ∷ cells) (one ∷ made) of placed = (
   in-rows lows highs page cols n cells made of.1 placed.1,
 )
 
-sum-heights : (made : List Cell) → sum_by (λ one. first_height one.high + 1) made ≡ sum_by (λ one. first_height one.high) made + length made
+sum-heights : (made : List Cell) → sum_by (λ one. first_height one.high + 1) made ≡ sum_by (λ one. first_height one.high)
+    made + length made
 sum-heights [] = refl
 sum-heights (one ∷ made) =
     omega (
@@ -58,7 +60,8 @@ sum-heights (one ∷ made) =
 no-weight : (row : ℕ) → row_weight [] row ≡ 0
 no-weight row = refl
 
-module _ (problem : ProblemModel) (placed : Placed) (placement : IsPlacement problem placed) (inside : All (IsInRows problem.rows) problem.cells) where
+module _ (problem : ProblemModel) (placed : Placed) (placement : IsPlacement problem placed)
+    (inside : All (IsInRows problem.rows) problem.cells) where
   -- rows so high are enough
   give : GiveHigh problem placed.widths (row_heights problem.cells problem.rows)
   give = record {
@@ -69,9 +72,11 @@ module _ (problem : ProblemModel) (placed : Placed) (placement : IsPlacement pro
         let w = cell_width problem placed.widths one in
         let low = height-from_low one.high (cell_height problem placed.heights one) w (placement.rows.kind.cells k d within) in
         let least = first-least one.high at.0 w low.0 low.1 in
-        let fall = height-falls one.high at.0 (first_width one.high) w (first_height one.high) low.0 least (height-first one.high at.0) low.1 in
+        let fall = height-falls one.high at.0 (first_width one.high) w (first_height one.high) low.0 least
+        (height-first one.high at.0) low.1 in
         let enough = rows-enough (row_gap_of problem.style) problem.cells problem.rows k d within at.1 at.2 in
-        IsLowAt-higher one.high low.0 (cell_height problem (row_heights problem.cells problem.rows) one) w (omega (arith, fall, enough))
+        IsLowAt-higher one.high low.0 (cell_height problem (row_heights problem.cells problem.rows) one) w
+        (omega (arith, fall, enough))
         (IsLowAt-from one.high low.0 w low.1);
   }
 
@@ -105,13 +110,15 @@ module _ (problem : ProblemModel) (placed : Placed) (placement : IsPlacement pro
           omega (arith, whole, rows-total problem.style problem.cells problem.rows rows, sum-heights problem.cells, small, count)
 
 module _ (table : Table) (style : Style) (page : ℕ) (inner : List InnerSteps) (problem : ProblemModel) (placed : Placed)
-    (given : AreSoundPremises table style page inner) (of : IsProblemOf table style page inner problem) (placement : IsPlacement problem placed) where
+    (given : AreSoundPremises table style page inner) (of : IsProblemOf table style page inner problem)
+    (placement : IsPlacement problem placed) where
   by-sound : {sound : Table → Type 0} → IsSoundBy sound (out-Table table) → placed.height ≤ 2 * table_size table
   by-sound by =
       height-low problem placed placement
       (All-from_recursion (IsInRows problem.rows) problem.cells
       (subst (λ n. AllByRecursion (IsInRows n) problem.cells) (sym of.lines)
-      (in-rows (InnerNeeds (λ one. one.low) inner) (InnerNeeds (λ one. one.high) inner) page (out-Table table).cols (out-Table table).rows
+      (in-rows (InnerNeeds (λ one. one.low) inner) (InnerNeeds (λ one. one.high) inner) page (out-Table table).cols
+      (out-Table table).rows
       (out-Table table).cells problem.cells of.made (placed-cells table style page inner given by))))
       (recursion_from_All (λ row. 1 ≤ row_weight problem.cells row) (range_with_len 0 problem.rows) (λ k d within.
       let long : k < problem.rows = omega (arith, within, length-range_with_len 0 problem.rows) in
@@ -121,9 +128,11 @@ module _ (table : Table) (style : Style) (page : ℕ) (inner : List InnerSteps) 
       (omega (
         arith,
         cells-small inner style page (out-Table table).cells problem.cells of.made (have table style page inner given)
-            (recursion_from_All (λ cell. AllByRecursion (λ block. IsSpelt (out-Content block)) (out-TableCell cell).blocks) (out-Table table).cells by.spelt),
+            (recursion_from_All (λ cell. AllByRecursion (λ block. IsSpelt (out-Content block)) (out-TableCell cell).blocks)
+            (out-Table table).cells by.spelt),
         table_size-out table,
-        AllZip-length (λ cell one. IsCellBy (InnerNeeds (λ any. any.low) inner) (InnerNeeds (λ any. any.high) inner) page (out-TableCell cell) one)
+        AllZip-length (λ cell one. IsCellBy (InnerNeeds (λ any. any.low) inner) (InnerNeeds (λ any. any.high) inner) page
+            (out-TableCell cell) one)
             (out-Table table).cells problem.cells of.made,
       ))
     where
@@ -131,7 +140,8 @@ module _ (table : Table) (style : Style) (page : ℕ) (inner : List InnerSteps) 
       has-weight row within =
           let found = any-made inner style page (λ (place : Place). place.top ≡ row) problem.cells
           (subst (Any (λ (place : Place). place.top ≡ row))
-          (sym (places-same inner style page (out-Table table).cells problem.cells of.made)) (by.rows row (omega (arith, within, of.lines)))) in
+          (sym (places-same inner style page (out-Table table).cells problem.cells of.made))
+          (by.rows row (omega (arith, within, of.lines)))) in
           let weight = weight-le problem.cells found.0 found.1 found.2 in
           let top : (get_or problem.cells found.0 found.1).top ≡ row = ap (λ (one : Cell). one.top) found.3 ∙ found.4 in
           omega (arith, weight, ap (row_weight problem.cells) top)

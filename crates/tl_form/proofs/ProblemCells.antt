@@ -16,18 +16,18 @@ use Rattle.tl_problem.specs.declared.cell.Cell.{Cell}
 use Rattle.tl_problem.specs.Problem.{ProblemModel}
 use Rattle.tl_problem.specs.Sound.{IsSound, IsSoundCell}
 use Rattle.tl_problem.proofs.Heights.{IsLowAt-from, height-from_first, height-from_low}
-use Rattle.tl_form.specs.declared.cell.Content.{out-Content}
-use Rattle.tl_form.specs.declared.cell.Table.{Table, out-Table}
-use Rattle.tl_form.specs.declared.cell.TableCell.{TableCell, out-TableCell}
+use Rattle.tl_table.specs.declared.cell.Content.{out-Content}
+use Rattle.tl_table.specs.declared.cell.Table.{Table, out-Table}
+use Rattle.tl_table.specs.declared.cell.TableCell.{TableCell, out-TableCell}
 use Rattle.tl_form.specs.declared.heights.Bound.TheVariants.{Low, High}
 use Rattle.tl_form.specs.declared.heights.InnerSteps.{InnerSteps}
-use Rattle.tl_form.specs.Tables.{OpenCell, inner_tables, tables_in, tables_of}
+use Rattle.tl_table.specs.Tables.{OpenCell, inner_tables, tables_in, tables_of}
 use Rattle.tl_form.specs.Problems.{AreStepsOf, CellNeeds, InnerNeeds, IsCellBy, IsProblemOf, HasSoundProblem, steps_for}
 use Rattle.tl_form.specs.inner.CellSteps.{AreLowCells, HaveSteps, IsLowByBoth, IsLowCell, IsStart, NeedsBy}
 use Rattle.tl_form.proofs.CellNeedLemmas.{IsFunctional, cell-functional, inner-functional}
 use Rattle.tl_form.proofs.NeedSteps.{first-least, height-first}
 use Rattle.tl_form.proofs.ProblemTruth.{cell-inside, same-problem}
-use Rattle.tl_form.proofs.SoundParts.{each_joined, joined-each}
+use Rattle.tl_table.proofs.SoundParts.{each_joined, joined-each}
 use Rattle.std.proofs.lemmas.List.{take_more}
 
 -- ---- the steps of a cell
@@ -36,11 +36,13 @@ module _ (needs : Table → ℕ → ℕ → Type 0) (functional : IsFunctional n
     (of : AreStepsOf (CellNeeds needs cell) page steps) where
   -- the cell has a height where they begin
   pub first-need : CellNeeds needs cell (first_width steps) (first_height steps)
-  first-need = (of.each (first_width steps) (first_height steps) (first_width-within page steps of.decreasing of.within)).0 (height-first steps of.decreasing)
+  first-need = (of.each (first_width steps) (first_height steps) (first_width-within page steps of.decreasing of.within)).0
+      (height-first steps of.decreasing)
 
   pub low-from_steps : first_height steps ≤ MAX_HEIGHT → IsLowCell needs page cell
   low-from_steps small = record {
-    some = let some = height-from_first steps of.decreasing.has_step page (first_width-within page steps of.decreasing of.within) in
+    some = let some = height-from_first steps of.decreasing.has_step page
+        (first_width-within page steps of.decreasing of.within) in
         (some.0, (of.each page some.0 (omega arith)).0 some.1);
     low = λ start h begins need.
         let inside = first_width-within page steps of.decreasing of.within in
@@ -70,24 +72,31 @@ module _ (inner : List InnerSteps) (page : ℕ) where
   MadeBy cell made = IsCellBy (NeedsBy Low inner) (NeedsBy High inner) page (out-TableCell cell) made
 
   low-cells : (problem : ProblemModel) (cells : List TableCell) (made : List Cell) → AllZip MadeBy cells made →
-      AllByRecursion (IsSoundCell problem) made → sum_by (λ one. first_height one.high) made ≤ MAX_HEIGHT → AreLowCells inner page cells
+      AllByRecursion (IsSoundCell problem) made → sum_by (λ one. first_height one.high) made ≤ MAX_HEIGHT →
+      AreLowCells inner page cells
   low-cells problem [] made of sound small = tt
   low-cells problem (cell ∷ cells) [] of sound small = absurd of
   low-cells problem (cell ∷ cells) (one ∷ made) of sound small =
       let all = sum_by-cons (λ (any : Cell). first_height any.high) one made in
       let low = low-first problem one sound.0 in (
         record {
-          by_low = low-from_steps (NeedsBy Low inner) (inner-functional (λ any. any.low) inner) page (out-TableCell cell) one.low of.0.low
+          by_low = low-from_steps (NeedsBy Low inner) (inner-functional (λ any. any.low) inner) page (out-TableCell cell)
+              one.low of.0.low
               (omega (arith, all, low, small));
-          by_high = low-from_steps (NeedsBy High inner) (inner-functional (λ any. any.high) inner) page (out-TableCell cell) one.high of.0.high
+          by_high = low-from_steps (NeedsBy High inner) (inner-functional (λ any. any.high) inner) page (out-TableCell cell)
+              one.high of.0.high
               (omega (arith, all, small));
         },
         low-cells problem cells made of.1 sound.1 (omega (arith, all, small)),
       )
 
-  some-steps : (tables : List Table) (w : ℕ) → AllByRecursion (λ nested. (m : ℕ) × NeedsBy Low inner nested w m) tables → HaveSteps inner tables
+  some-steps : (tables : List Table) (w : ℕ) → AllByRecursion (λ nested. (m : ℕ) × NeedsBy Low inner nested w m) tables →
+      HaveSteps inner tables
   some-steps [] w each = tt
-  some-steps (nested ∷ tables) w each = (is-some w each.0.0 (steps_for inner (out-Table nested).number) each.0.1, some-steps tables w each.1)
+  some-steps (nested ∷ tables) w each = (
+    is-some w each.0.0 (steps_for inner (out-Table nested).number) each.0.1,
+    some-steps tables w each.1,
+  )
     where
       is-some : (w h : ℕ) (o : Option InnerSteps) → IsSomeAnd o (λ one. height_at one.low w ≡ Some h) → IsSome o
       is-some w h None is = absurd is
@@ -120,13 +129,15 @@ are-low table style page inner (problem, of, sound) =
 -- ---- the cells that are made are those of the problem
 
 pub made-problem : (table : Table) (style : Style) (page : ℕ) (inner : List InnerSteps) (made : List Cell) →
-    AllZip (λ cell one. IsCellBy (NeedsBy Low inner) (NeedsBy High inner) page (out-TableCell cell) one) (out-Table table).cells made →
+    AllZip (λ cell one. IsCellBy (NeedsBy Low inner) (NeedsBy High inner) page (out-TableCell cell) one)
+    (out-Table table).cells made →
     IsProblemOf table style page inner
     (record { cols = (out-Table table).cols; rows = (out-Table table).rows; style = style; width = page; cells = made })
 made-problem table style page inner made of = record { columns = refl; lines = refl; drawn = refl; wide = refl; made = of }
 
 pub made-sound : (table : Table) (style : Style) (page : ℕ) (inner : List InnerSteps) (made : List Cell) →
-    AllZip (λ cell one. IsCellBy (NeedsBy Low inner) (NeedsBy High inner) page (out-TableCell cell) one) (out-Table table).cells made →
+    AllZip (λ cell one. IsCellBy (NeedsBy Low inner) (NeedsBy High inner) page (out-TableCell cell) one)
+    (out-Table table).cells made →
     HasSoundProblem table style page inner →
     IsSound (record { cols = (out-Table table).cols; rows = (out-Table table).rows; style = style; width = page; cells = made })
 made-sound table style page inner made of (problem, is, sound) =
@@ -138,7 +149,8 @@ made-sound table style page inner made of (problem, is, sound) =
 -- ---- a cell that begins within the page and is low there
 
 pub low-at_start : (needs : Table → ℕ → ℕ → Type 0) → IsFunctional needs → (page : ℕ) (cell : OpenCell) (start : ℕ) →
-    IsStart (CellNeeds needs cell) start → start ≤ page → (h : ℕ) × CellNeeds needs cell start h × (h ≤ MAX_HEIGHT) → IsLowCell needs page cell
+    IsStart (CellNeeds needs cell) start → start ≤ page → (h : ℕ) × CellNeeds needs cell start h × (h ≤ MAX_HEIGHT) →
+    IsLowCell needs page cell
 low-at_start needs functional page cell start begins within low = record {
   some = begins.has page within;
   low = λ other h first need.
@@ -162,22 +174,28 @@ start-low needs page cell start begins low =
 pub have-blocks : (inner : List InnerSteps) (cell : OpenCell) → HaveSteps inner (tables_in cell) →
     AllByRecursion (λ block. HaveSteps inner (tables_of (out-Content block))) cell.blocks
 have-blocks inner cell have =
-    each_joined (λ nested. IsSome (steps_for inner (out-Table nested).number)) (λ block. tables_of (out-Content block)) cell.blocks have
+    each_joined (λ nested. IsSome (steps_for inner (out-Table nested).number)) (λ block. tables_of (out-Content block))
+    cell.blocks have
 
 pub have-each : (inner : List InnerSteps) (table : Table) → HaveSteps inner (inner_tables (out-Table table)) →
     AllByRecursion (λ cell. HaveSteps inner (tables_in (out-TableCell cell))) (out-Table table).cells
 have-each inner table have =
-    each_joined (λ nested. IsSome (steps_for inner (out-Table nested).number)) (λ cell. tables_in (out-TableCell cell)) (out-Table table).cells have
+    each_joined (λ nested. IsSome (steps_for inner (out-Table nested).number)) (λ cell. tables_in (out-TableCell cell))
+    (out-Table table).cells have
 
-pub cells-more : (inner : List InnerSteps) (page : ℕ) (cells : List TableCell) (k : ℕ) (cell : TableCell) (made : List Cell) (one : Cell) →
+pub cells-more : (inner : List InnerSteps) (page : ℕ) (cells : List TableCell) (k : ℕ) (cell : TableCell) (made : List Cell)
+    (one : Cell) →
     k < length cells → cell ≡ get_or cells k cell →
     AllZip (λ any other. IsCellBy (NeedsBy Low inner) (NeedsBy High inner) page (out-TableCell any) other) (take k cells) made →
     IsCellBy (NeedsBy Low inner) (NeedsBy High inner) page (out-TableCell cell) one →
-    AllZip (λ any other. IsCellBy (NeedsBy Low inner) (NeedsBy High inner) page (out-TableCell any) other) (take (k + 1) cells) (made ++ one ∷ [])
+    AllZip (λ any other. IsCellBy (NeedsBy Low inner) (NeedsBy High inner) page (out-TableCell any) other) (take (k + 1) cells)
+    (made ++ one ∷ [])
 cells-more inner page cells k cell made one inside is before here =
-    subst (λ (some : List TableCell). AllZip (λ any other. IsCellBy (NeedsBy Low inner) (NeedsBy High inner) page (out-TableCell any) other) some
+    subst (λ (some : List TableCell). AllZip (λ any other. IsCellBy (NeedsBy Low inner) (NeedsBy High inner) page
+    (out-TableCell any) other) some
     (made ++ one ∷ [])) (sym (take_more cells k cell inside ∙ ap (λ last. take k cells ++ last ∷ []) (sym is)))
-    (AllZip-push (λ any other. IsCellBy (NeedsBy Low inner) (NeedsBy High inner) page (out-TableCell any) other) (take k cells) made cell one before here)
+    (AllZip-push (λ any other. IsCellBy (NeedsBy Low inner) (NeedsBy High inner) page (out-TableCell any) other) (take k cells)
+    made cell one before here)
 
 pub low-more-cells : (inner : List InnerSteps) (page : ℕ) (cells : List TableCell) (k : ℕ) (cell : TableCell) → k < length cells →
     cell ≡ get_or cells k cell → AreLowCells inner page (take k cells) → IsLowByBoth inner page (out-TableCell cell) →
@@ -187,17 +205,22 @@ low-more-cells inner page cells k cell inside is before here =
     (AllByRecursion-append (λ any. IsLowByBoth inner page (out-TableCell any)) (take k cells) (cell ∷ []) before (here, tt))
 
 -- the same from each block, from each cell, and one more of them
-pub blocks-have : (inner : List InnerSteps) (cell : OpenCell) → AllByRecursion (λ block. HaveSteps inner (tables_of (out-Content block))) cell.blocks →
+pub blocks-have : (inner : List InnerSteps) (cell : OpenCell) →
+    AllByRecursion (λ block. HaveSteps inner (tables_of (out-Content block))) cell.blocks →
     HaveSteps inner (tables_in cell)
 blocks-have inner cell have =
-    joined-each (λ nested. IsSome (steps_for inner (out-Table nested).number)) (λ block. tables_of (out-Content block)) cell.blocks have
+    joined-each (λ nested. IsSome (steps_for inner (out-Table nested).number)) (λ block. tables_of (out-Content block))
+    cell.blocks have
 
-pub each-have : (inner : List InnerSteps) (table : Table) → AllByRecursion (λ cell. HaveSteps inner (tables_in (out-TableCell cell))) (out-Table table).cells →
+pub each-have : (inner : List InnerSteps) (table : Table) → AllByRecursion
+    (λ cell. HaveSteps inner (tables_in (out-TableCell cell))) (out-Table table).cells →
     HaveSteps inner (inner_tables (out-Table table))
 each-have inner table have =
-    joined-each (λ nested. IsSome (steps_for inner (out-Table nested).number)) (λ cell. tables_in (out-TableCell cell)) (out-Table table).cells have
+    joined-each (λ nested. IsSome (steps_for inner (out-Table nested).number)) (λ cell. tables_in (out-TableCell cell))
+    (out-Table table).cells have
 
-pub have-more : {X : Type 0} (P : X → Type 0) (xs : List X) (k : ℕ) (x : X) → k < length xs → x ≡ get_or xs k x → AllByRecursion P (take k xs) → P x →
+pub have-more : {X : Type 0} (P : X → Type 0) (xs : List X) (k : ℕ) (x : X) → k < length xs → x ≡ get_or xs k x →
+    AllByRecursion P (take k xs) → P x →
     AllByRecursion P (take (k + 1) xs)
 have-more P xs k x inside is before here =
     subst (AllByRecursion P) (sym (take_more xs k x inside ∙ ap (λ last. take k xs ++ last ∷ []) (sym is)))

@@ -11,12 +11,12 @@ use Rattle.std.specs.declared.boxed.Box.{Box}
 use Rattle.tl_base.specs.declared.steps.Config.{Config}
 use Rattle.tl_base.specs.Steps.{height_at}
 use Rattle.tl_text.specs.declared.paragraph.Atom.{Atom}
-use Rattle.tl_form.specs.declared.cell.Content.{Content, out-Content, roll-Content, out-roll-Content}
-use Rattle.tl_form.specs.declared.cell.Content.TheOpen as open_content
-use Rattle.tl_form.specs.declared.cell.Kind.TheVariants as kinds
-use Rattle.tl_form.specs.declared.cell.Table.{Table, out-Table}
+use Rattle.tl_table.specs.declared.cell.Content.{Content, out-Content, roll-Content, out-roll-Content}
+use Rattle.tl_table.specs.declared.cell.Content.TheOpen as open_content
+use Rattle.tl_table.specs.declared.cell.Kind.TheVariants as kinds
+use Rattle.tl_table.specs.declared.cell.Table.{Table, out-Table}
 use Rattle.tl_form.specs.declared.heights.InnerSteps.{InnerSteps}
-use Rattle.tl_form.specs.Tables.{OpenCell, OpenTable}
+use Rattle.tl_table.specs.Tables.{OpenCell, OpenTable}
 use Rattle.tl_form.specs.Problems.{BlockNeeds, CellNeeds, InnerNeeds, steps_for}
 
 abbrev step : ℕ → ℕ → Config
@@ -72,7 +72,13 @@ module _ (paragraph : List Atom) (box : Box Table Global) (is : (out-Table box.v
   blocks = roll-Content (open_content.Para paragraph) ∷ roll-Content (open_content.Table box) ∷ []
 
   abbrev cell : ℕ → OpenCell
-  cell floor = record { kind = kinds.Plain; place = record { left = 0; right = 1; top = 0; bottom = 1 }; least = floor; blocks = blocks }
+  cell floor = record {
+    kind = kinds.Plain;
+    place = record { left = 0; right = 1; top = 0; bottom = 1 };
+    least = floor;
+    blocks =
+        blocks;
+  }
 
   abbrev lows : Table → ℕ → ℕ → Type 0
   lows = InnerNeeds (λ any. any.low) inner
@@ -83,7 +89,8 @@ module _ (paragraph : List Atom) (box : Box Table Global) (is : (out-Table box.v
     floor = omega arith;
     heights = 1 ∷ 2 ∷ [];
     blocks = (
-      subst (λ block. BlockNeeds lows block 4 1) (sym (out-roll-Content (open_content.Para paragraph))) (one_line lows 4 (omega arith)),
+      subst (λ block. BlockNeeds lows block 4 1) (sym (out-roll-Content (open_content.Para paragraph)))
+          (one_line lows 4 (omega arith)),
       (subst (λ block. BlockNeeds lows block 4 2) (sym (out-roll-Content (open_content.Table box))) (two_at_4 box.value is), tt),
     );
     all = refl;

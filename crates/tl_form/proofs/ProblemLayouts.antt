@@ -1,6 +1,6 @@
 -- Layouts of a table and of its problem: a layout that fits is one by bounds below, and one by bounds above is one that
 -- fits.
-use Rattle.std.proofs.Common.{◌≡◌, ℕ, ◌+◌, ◌<◌, ◌≤◌, List, [], ◌∷◌, length, Some, sum, sum_by, refl, sym, ap, subst, ◌∙◌, arith}
+use Rattle.std.proofs.Common.{◌≡◌, ℕ, ◌<◌, ◌≤◌, List, [], ◌∷◌, length, Some, sum, sum_by, refl, sym, ap, subst, ◌∙◌, arith}
 use Rattle.std.specs.List.{All, AllZip, AllByRecursion, flat_map}
 use Rattle.std.proofs.lemmas.List.Elements.{recursion_from_All, All-from_recursion}
 use Rattle.std.proofs.lemmas.List.Sums.{sum_by-cons}
@@ -9,40 +9,41 @@ use Rattle.tl_base.specs.Style.{gap_of, row_gap_of, edge_of}
 use Rattle.tl_base.specs.Steps.{AreSteps, IsLowAt, first_width, height_at}
 use Rattle.tl_base.proofs.Sums.{sum-cons}
 use Rattle.tl_base.proofs.Members.{AllByRecursion-weaker}
-use Rattle.tl_base.proofs.Zips.{AllZip-weaker}
 use Rattle.tl_problem.specs.declared.cell.Cell.{Cell}
-use Rattle.tl_problem.specs.Sizes.{room, total}
+use Rattle.tl_base.specs.Sizes.{room, total}
 use Rattle.tl_problem.specs.Problem.{ProblemModel, total_height, total_width}
 use Rattle.tl_problem.specs.Layouts.{IsLayoutByLow, IsLayoutByHigh}
 use Rattle.tl_problem.specs.Sound.{IsSound, IsSoundCell}
 use Rattle.tl_problem.proofs.Heights.{IsLowAt-from, IsLowAt-higher, height-from_low}
-use Rattle.tl_problem.proofs.SizeLaws.{room-total}
+use Rattle.tl_base.proofs.SizeLaws.{room-total}
 use Rattle.tl_text.proofs.Minimals.{AllFit-from_cutting}
-use Rattle.tl_form.specs.declared.cell.Content.{Content, out-Content}
-use Rattle.tl_form.specs.declared.cell.Content.TheOpen as open_content
-use Rattle.tl_form.specs.declared.cell.Table.{Table}
-use Rattle.tl_form.specs.declared.cell.TableCell.{TableCell, out-TableCell}
-use Rattle.tl_form.specs.declared.layout.Layout.{Layout}
-use Rattle.tl_form.specs.Tables.{OpenTable, OpenCell, OpenContent, inner_tables, tables_in, tables_of}
-use Rattle.tl_form.specs.Layouts.{OpenLayout, Share, Fits, FitsBy, FitsCell, FitsRoom, FitsShare, FitsWithin}
+use Rattle.tl_table.specs.declared.cell.Content.{Content, out-Content}
+use Rattle.tl_table.specs.declared.cell.Content.TheOpen as open_content
+use Rattle.tl_table.specs.declared.cell.Table.{Table}
+use Rattle.tl_table.specs.declared.cell.TableCell.{TableCell, out-TableCell}
+use Rattle.tl_table.specs.declared.layout.Layout.{Layout}
+use Rattle.tl_table.specs.Tables.{OpenTable, OpenCell, OpenContent, inner_tables, tables_in, tables_of}
+use Rattle.tl_table.specs.Layouts.{OpenLayout, Share, FitsBy, FitsCell, FitsRoom, FitsShare}
 use Rattle.tl_form.specs.Problems.{BlockNeeds, CellNeeds, IsCellBy, IsProblemBy}
-use Rattle.tl_form.proofs.Deeper.{FitsShare-weaker, FitsRoom-weaker, FitsWithin-deeper}
 use Rattle.tl_form.proofs.NeedSteps.{first-least}
 use Rattle.tl_form.proofs.ParagraphSteps.{lines-from_fit}
-use Rattle.tl_form.proofs.SoundParts.{both_each, each_joined}
+use Rattle.tl_table.proofs.SoundParts.{both_each, each_joined}
 
 -- ---- a cell that fits a room needs no more than the room has, by bounds below
 
 -- a nested table that fits has a bound there, no higher
 abbrev pub IsBelowAt : (Table → ℕ → ℕ → Layout → Type 0) → (Table → ℕ → ℕ → Type 0) → ℕ → Table → Type 0
-IsBelowAt fits needs w nested = (height : ℕ) (layout : Layout) → fits nested w height layout → (h : ℕ) × needs nested w h × (h ≤ height)
+IsBelowAt fits needs w nested = (height : ℕ) (layout : Layout) → fits nested w height layout →
+    (h : ℕ) × needs nested w h × (h ≤ height)
 
 -- a nested table with a bound fits, and is no higher
 abbrev pub IsAboveAt : (Table → ℕ → ℕ → Layout → Type 0) → (Table → ℕ → ℕ → Type 0) → ℕ → Table → Type 0
-IsAboveAt fits needs w nested = (h : ℕ) → needs nested w h → (height : ℕ) × (layout : Layout) × fits nested w height layout × (height ≤ h)
+IsAboveAt fits needs w nested = (h : ℕ) → needs nested w h →
+    (height : ℕ) × (layout : Layout) × fits nested w height layout × (height ≤ h)
 
 module _ (fits : Table → ℕ → ℕ → Layout → Type 0) (needs : Table → ℕ → ℕ → Type 0) (w : ℕ) where
-  block-below : (block : OpenContent) (share : Share) → AllByRecursion (IsBelowAt fits needs w) (tables_of block) → FitsShare fits w block share →
+  block-below : (block : OpenContent) (share : Share) → AllByRecursion (IsBelowAt fits needs w) (tables_of block) →
+      FitsShare fits w block share →
       (h : ℕ) × BlockNeeds needs block w h × (h ≤ share.height)
   block-below (open_content.Para paragraph) share below held =
       let cut = held.0 in
@@ -80,7 +81,8 @@ module _ (fits : Table → ℕ → ℕ → Layout → Type 0) (needs : Table →
 
   -- ---- a cell fits a room in which it has a bound above
 
-  block-above : (block : OpenContent) (h : ℕ) → AllByRecursion (IsAboveAt fits needs w) (tables_of block) → BlockNeeds needs block w h →
+  block-above : (block : OpenContent) (h : ℕ) → AllByRecursion (IsAboveAt fits needs w) (tables_of block) →
+      BlockNeeds needs block w h →
       (share : Share) × FitsShare fits w block share × (share.height ≡ h)
   block-above (open_content.Para paragraph) h above need =
       let cut = need.attained in (
@@ -111,93 +113,22 @@ module _ (fits : Table → ℕ → ℕ → Layout → Type 0) (needs : Table →
         omega (arith, sum-cons h heights, sum_by-cons (λ (one : Share). one.height) first.0 rest.0, first.2, rest.2),
       )
 
-  pub cell-above : (cell : OpenCell) (n h : ℕ) → AllByRecursion (IsAboveAt fits needs w) (tables_in cell) → CellNeeds needs cell w n → n ≤ h →
+  pub cell-above : (cell : OpenCell) (n h : ℕ) → AllByRecursion (IsAboveAt fits needs w) (tables_in cell) →
+      CellNeeds needs cell w n → n ≤ h →
       (inner : List Layout) × FitsRoom fits w h cell inner
   cell-above cell n h above need enough =
       let all = blocks-above cell.blocks need.heights
       (each_joined (IsAboveAt fits needs w) (λ block. tables_of (out-Content block)) cell.blocks above) need.blocks in (
         flat_map (λ share. share.inner) all.0,
-        record { floor = need.floor; shares = all.0; blocks = all.1; within = omega (arith, all.2, need.all, enough); given = refl },
-      )
-
--- ---- one depth for all
-
-deepen : {A B : Type 0} (P : ℕ → A → B → Type 0) → ((more depth : ℕ) (a : A) (b : B) → P depth a b → P (more + depth) a b) → (more depth : ℕ)
-    (xs : List A) (ys : List B) → AllZip (P depth) xs ys → AllZip (P (more + depth)) xs ys
-deepen P deeper more depth [] [] all = tt
-deepen P deeper more depth [] (y ∷ ys) all = absurd all
-deepen P deeper more depth (x ∷ xs) [] all = absurd all
-deepen P deeper more depth (x ∷ xs) (y ∷ ys) all = (deeper more depth x y all.0, deepen P deeper more depth xs ys all.1)
-
--- what holds at some depth of each holds at one depth of all
-gather : {A B : Type 0} (P : ℕ → A → B → Type 0) → ((more depth : ℕ) (a : A) (b : B) → P depth a b → P (more + depth) a b) → (xs : List A)
-    (ys : List B) → AllZip (λ a b. (depth : ℕ) × P depth a b) xs ys → (depth : ℕ) × AllZip (P depth) xs ys
-gather P deeper [] [] all = (0, tt)
-gather P deeper [] (y ∷ ys) all = absurd all
-gather P deeper (x ∷ xs) [] all = absurd all
-gather P deeper (x ∷ xs) (y ∷ ys) all =
-    let rest = gather P deeper xs ys all.1 in
-    let same : all.0.0 + rest.0 ≡ rest.0 + all.0.0 = omega arith in (
-      rest.0 + all.0.0,
-      (
-        deeper rest.0 all.0.0 x y all.0.1,
-        subst (λ depth. AllZip (P depth) xs ys) same (deepen P deeper all.0.0 rest.0 xs ys rest.1),
-      ),
-    )
-
-module _ (style : Style) where
-  -- a table's layouts, of any depth
-  abbrev FitsAny : Table → ℕ → ℕ → Layout → Type 0
-  FitsAny nested w h layout = Fits nested style w h layout
-
-  share-at : (w : ℕ) (block : OpenContent) (share : Share) → FitsShare FitsAny w block share →
-      (depth : ℕ) × FitsShare (FitsWithin depth style) w block share
-  share-at w (open_content.Para paragraph) share held = (0, held)
-  share-at w (open_content.Table box) share held = (
-    held.laid.0,
-    record { layout = held.layout; height = held.height; laid = held.laid.1; within = held.within; given = held.given },
-  )
-
-  room-at : (w h : ℕ) (cell : OpenCell) (inner : List Layout) → FitsRoom FitsAny w h cell inner →
-      (depth : ℕ) × FitsRoom (FitsWithin depth style) w h cell inner
-  room-at w h cell inner held =
-      let all = gather (λ depth block share. FitsShare (FitsWithin depth style) w (out-Content block) share)
-      (λ more depth block share one. FitsShare-weaker (FitsWithin depth style) (FitsWithin (more + depth) style)
-      (FitsWithin-deeper more depth style) w (out-Content block) share one) cell.blocks held.shares
-      (AllZip-weaker (λ block share. FitsShare FitsAny w (out-Content block) share)
-      (λ block share. (depth : ℕ) × FitsShare (FitsWithin depth style) w (out-Content block) share) cell.blocks held.shares
-      (λ block share one. share-at w (out-Content block) share one) held.blocks) in (
-        all.0,
-        record { floor = held.floor; shares = held.shares; blocks = all.1; within = held.within; given = held.given },
-      )
-
-  -- a layout of any depths fits
-  pub fits-from_any : (table : OpenTable) (width height : ℕ) (layout : OpenLayout) → FitsBy FitsAny style table width height layout →
-      (depth : ℕ) × FitsBy (FitsWithin depth style) style table width height layout
-  fits-from_any table width height layout held =
-      let all = gather (λ depth cell inner. FitsCell (FitsWithin depth style) style layout (out-TableCell cell) inner)
-      (λ more depth cell inner one. FitsRoom-weaker (FitsWithin depth style) (FitsWithin (more + depth) style)
-      (FitsWithin-deeper more depth style) (room (gap_of style) layout.widths (out-TableCell cell).place.left (out-TableCell cell).place.right)
-      (room (row_gap_of style) layout.heights (out-TableCell cell).place.top (out-TableCell cell).place.bottom) (out-TableCell cell) inner one)
-      table.cells held.parts
-      (AllZip-weaker (λ cell inner. FitsCell FitsAny style layout (out-TableCell cell) inner)
-      (λ cell inner. (depth : ℕ) × FitsCell (FitsWithin depth style) style layout (out-TableCell cell) inner) table.cells held.parts
-      (λ cell inner one. room-at (room (gap_of style) layout.widths (out-TableCell cell).place.left (out-TableCell cell).place.right)
-      (room (row_gap_of style) layout.heights (out-TableCell cell).place.top (out-TableCell cell).place.bottom) (out-TableCell cell) inner one)
-      held.cells) in (
-        all.0,
         record {
-          columns = held.columns;
-          rows = held.rows;
-          within = held.within;
-          high = held.high;
-          parts = held.parts;
-          cells = all.1;
-          given = held.given;
+          floor = need.floor;
+          shares = all.0;
+          blocks = all.1;
+          within = omega (arith, all.2, need.all, enough);
+          given =
+              refl;
         },
       )
-
--- ---- rooms are no wider than the page
 
 -- ---- layouts of the table are layouts of its problem by bounds below
 
@@ -210,10 +141,12 @@ module _ (lows highs : Table → ℕ → ℕ → Type 0) (style : Style) (page :
   HasRoom widths heights made = (n : ℕ) × (height_at made.low (room (gap_of style) widths made.left made.right) ≡ Some n)
       × (n ≤ room (row_gap_of style) heights made.top made.bottom)
 
-  cells-low : (fits : Table → ℕ → ℕ → Layout → Type 0) (layout : OpenLayout) (cells : List TableCell) (made : List Cell) (parts : List (List Layout)) →
+  cells-low : (fits : Table → ℕ → ℕ → Layout → Type 0) (layout : OpenLayout) (cells : List TableCell) (made : List Cell)
+      (parts : List (List Layout)) →
       AllZip CellOf cells made → AllByRecursion (λ one. (one.left < one.right) × (one.right ≤ length layout.widths)) made →
       total (gap_of style) (edge_of style) layout.widths ≤ page →
-      AllByRecursion (λ cell. AllByRecursion (λ nested. (w : ℕ) → w ≤ page → IsBelowAt fits lows w nested) (tables_in (out-TableCell cell))) cells →
+      AllByRecursion (λ cell. AllByRecursion (λ nested. (w : ℕ) → w ≤ page →
+      IsBelowAt fits lows w nested) (tables_in (out-TableCell cell))) cells →
       AllZip (λ cell inner. FitsCell fits style layout (out-TableCell cell) inner) cells parts →
       AllByRecursion (HasRoom layout.widths layout.heights) made
   cells-low fits layout [] [] parts of placed narrow below held = tt
@@ -231,7 +164,12 @@ module _ (lows highs : Table → ℕ → ℕ → Type 0) (style : Style) (page :
       ap (λ top. room (row_gap_of style) layout.heights top one.bottom) of.0.top
       ∙ ap (λ bottom. room (row_gap_of style) layout.heights open_cell.place.top bottom) of.0.bottom in
       let within : w ≤ page =
-      omega (arith, same, room-total (gap_of style) (edge_of style) layout.widths one.left one.right placed.0.0 placed.0.1, narrow) in
+      omega (
+        arith,
+        same,
+        room-total (gap_of style) (edge_of style) layout.widths one.left one.right placed.0.0 placed.0.1,
+        narrow,
+      ) in
       let need = cell-below fits lows w open_cell h inner
       (at-width (tables_in open_cell) w within below.0) held.0 in (
         (
@@ -242,7 +180,8 @@ module _ (lows highs : Table → ℕ → ℕ → Type 0) (style : Style) (page :
         cells-low fits layout cells made parts of.1 placed.1 narrow below.1 held.1,
       )
     where
-      at-width : (tables : List Table) (w : ℕ) → w ≤ page → AllByRecursion (λ nested. (v : ℕ) → v ≤ page → IsBelowAt fits lows v nested) tables →
+      at-width : (tables : List Table) (w : ℕ) → w ≤ page → AllByRecursion (λ nested. (v : ℕ) → v ≤ page →
+          IsBelowAt fits lows v nested) tables →
           AllByRecursion (IsBelowAt fits lows w) tables
       at-width [] w within all = tt
       at-width (table ∷ tables) w within all = (all.0 w within, at-width tables w within all.1)
@@ -253,7 +192,8 @@ module _ (lows highs : Table → ℕ → ℕ → Type 0) (style : Style) (page :
 
   pub sound-in_grid : (problem : ProblemModel) → IsSound problem → AreInGrid problem
   sound-in_grid problem sound =
-      AllByRecursion-weaker (IsSoundCell problem) (λ one. (one.left < one.right) × (one.right ≤ problem.cols)) problem.cells (λ one is. is.columns)
+      AllByRecursion-weaker (IsSoundCell problem) (λ one. (one.left < one.right) × (one.right ≤ problem.cols)) problem.cells
+      (λ one is. is.columns)
       (recursion_from_All (IsSoundCell problem) problem.cells sound.cells)
 
   placed-in : (problem : ProblemModel) (widths : List ℕ) → AreInGrid problem → length widths ≡ problem.cols →
@@ -264,14 +204,16 @@ module _ (lows highs : Table → ℕ → ℕ → Type 0) (style : Style) (page :
       (λ one is. (is.0, omega (arith, is.1, columns))) placed
 
   -- each cell's `low` is steps
-  low-steps : (cells : List TableCell) (made : List Cell) → AllZip CellOf cells made → AllByRecursion (λ one. AreSteps one.low) made
+  low-steps : (cells : List TableCell) (made : List Cell) → AllZip CellOf cells made →
+      AllByRecursion (λ one. AreSteps one.low) made
   low-steps [] [] of = tt
   low-steps [] (one ∷ made) of = absurd of
   low-steps (cell ∷ cells) [] of = absurd of
   low-steps (cell ∷ cells) (one ∷ made) of = (of.0.low.decreasing, low-steps cells made of.1)
 
   -- a layout of the table is one of the problem by `low`
-  pub layout-low : (table : OpenTable) (problem : ProblemModel) → IsProblemBy lows highs style page table problem → AreInGrid problem →
+  pub layout-low : (table : OpenTable) (problem : ProblemModel) → IsProblemBy lows highs style page table problem →
+      AreInGrid problem →
       (fits : Table → ℕ → ℕ → Layout → Type 0) →
       AllByRecursion (λ nested. (w : ℕ) → w ≤ page → IsBelowAt fits lows w nested) (inner_tables table) →
       (height : ℕ) (layout : OpenLayout) → FitsBy fits style table page height layout →
@@ -282,11 +224,13 @@ module _ (lows highs : Table → ℕ → ℕ → Type 0) (style : Style) (page :
         columns = held.columns ∙ sym of.columns;
         page = subst (λ s. total (gap_of s) (edge_of s) layout.widths ≤ problem.width) (sym of.drawn)
             (subst (λ w. total (gap_of style) (edge_of style) layout.widths ≤ w) (sym of.wide) held.within);
-        cells = subst (λ s. All (λ one. first_width one.low ≤ room (gap_of s) layout.widths one.left one.right) problem.cells) (sym of.drawn)
+        cells = subst (λ s. All (λ one. first_width one.low ≤ room (gap_of s) layout.widths one.left one.right) problem.cells)
+            (sym of.drawn)
             (All-from_recursion (λ one. first_width one.low ≤ room (gap_of style) layout.widths one.left one.right) problem.cells
             (AllByRecursion-weaker (λ one. AreSteps one.low × HasRoom layout.widths layout.heights one)
             (λ one. first_width one.low ≤ room (gap_of style) layout.widths one.left one.right) problem.cells
-            (λ one both. first-least one.low both.0 (room (gap_of style) layout.widths one.left one.right) both.1.0 both.1.1) both));
+            (λ one both. first-least one.low both.0 (room (gap_of style) layout.widths one.left one.right) both.1.0 both.1.1)
+            both));
       };
       enough = record {
         rows = held.rows ∙ sym of.lines;
@@ -295,7 +239,8 @@ module _ (lows highs : Table → ℕ → ℕ → Type 0) (style : Style) (page :
             (All-from_recursion (λ one. IsLowAt one.low (room (row_gap_of style) layout.heights one.top one.bottom)
             (room (gap_of style) layout.widths one.left one.right)) problem.cells
             (AllByRecursion-weaker (HasRoom layout.widths layout.heights)
-            (λ one. IsLowAt one.low (room (row_gap_of style) layout.heights one.top one.bottom) (room (gap_of style) layout.widths one.left one.right))
+            (λ one. IsLowAt one.low (room (row_gap_of style) layout.heights one.top one.bottom)
+            (room (gap_of style) layout.widths one.left one.right))
             problem.cells
             (λ one has. IsLowAt-higher one.low has.0 (room (row_gap_of style) layout.heights one.top one.bottom)
             (room (gap_of style) layout.widths one.left one.right) has.2
@@ -307,11 +252,13 @@ module _ (lows highs : Table → ℕ → ℕ → Type 0) (style : Style) (page :
     rooms : AllByRecursion (HasRoom layout.widths layout.heights) problem.cells
     rooms = cells-low fits layout table.cells problem.cells held.parts of.made
         (placed-in problem layout.widths placed (held.columns ∙ sym of.columns)) held.within
-        (each_joined (λ nested. (w : ℕ) → w ≤ page → IsBelowAt fits lows w nested) (λ cell. tables_in (out-TableCell cell)) table.cells below)
+        (each_joined (λ nested. (w : ℕ) → w ≤ page → IsBelowAt fits lows w nested) (λ cell. tables_in (out-TableCell cell))
+        table.cells below)
         held.cells
 
     both : AllByRecursion (λ one. AreSteps one.low × HasRoom layout.widths layout.heights one) problem.cells
-    both = both_each (λ one. AreSteps one.low) (HasRoom layout.widths layout.heights) problem.cells (low-steps table.cells problem.cells of.made) rooms
+    both = both_each (λ one. AreSteps one.low) (HasRoom layout.widths layout.heights) problem.cells
+        (low-steps table.cells problem.cells of.made) rooms
 
   -- ---- layouts of the problem by bounds above are those of layouts of the table
 
@@ -320,12 +267,15 @@ module _ (lows highs : Table → ℕ → ℕ → Type 0) (style : Style) (page :
   IsEnough widths heights made = (room (gap_of style) widths made.left made.right ≤ page)
       × IsLowAt made.high (room (row_gap_of style) heights made.top made.bottom) (room (gap_of style) widths made.left made.right)
 
-  cells-high : (fits : Table → ℕ → ℕ → Layout → Type 0) (widths heights : List ℕ) (cells : List TableCell) (made : List Cell) → AllZip CellOf cells made →
+  cells-high : (fits : Table → ℕ → ℕ → Layout → Type 0) (widths heights : List ℕ) (cells : List TableCell) (made : List Cell) →
+      AllZip CellOf cells made →
       AllByRecursion (IsEnough widths heights) made →
-      AllByRecursion (λ cell. AllByRecursion (λ nested. (w : ℕ) → w ≤ page → IsAboveAt fits highs w nested) (tables_in (out-TableCell cell))) cells →
+      AllByRecursion (λ cell. AllByRecursion (λ nested. (w : ℕ) → w ≤ page →
+      IsAboveAt fits highs w nested) (tables_in (out-TableCell cell))) cells →
       (parts : List (List Layout)) × AllZip (λ cell inner. FitsRoom fits
       (room (gap_of style) widths (out-TableCell cell).place.left (out-TableCell cell).place.right)
-      (room (row_gap_of style) heights (out-TableCell cell).place.top (out-TableCell cell).place.bottom) (out-TableCell cell) inner) cells parts
+      (room (row_gap_of style) heights (out-TableCell cell).place.top (out-TableCell cell).place.bottom) (out-TableCell cell)
+      inner) cells parts
   cells-high fits widths heights [] [] of enough above = ([], tt)
   cells-high fits widths heights [] (one ∷ made) of enough above = absurd of
   cells-high fits widths heights (cell ∷ cells) [] of enough above = absurd of
@@ -334,24 +284,29 @@ module _ (lows highs : Table → ℕ → ℕ → Type 0) (style : Style) (page :
       let w = room (gap_of style) widths open_cell.place.left open_cell.place.right in
       let h = room (row_gap_of style) heights open_cell.place.top open_cell.place.bottom in
       let same : room (gap_of style) widths one.left one.right ≡ w =
-      ap (λ left. room (gap_of style) widths left one.right) of.0.left ∙ ap (λ right. room (gap_of style) widths open_cell.place.left right) of.0.right in
+      ap (λ left. room (gap_of style) widths left one.right) of.0.left ∙ ap
+      (λ right. room (gap_of style) widths open_cell.place.left right) of.0.right in
       let high : room (row_gap_of style) heights one.top one.bottom ≡ h =
       ap (λ top. room (row_gap_of style) heights top one.bottom) of.0.top
       ∙ ap (λ bottom. room (row_gap_of style) heights open_cell.place.top bottom) of.0.bottom in
       let within : w ≤ page = omega (arith, same, enough.0.0) in
-      let low = height-from_low one.high (room (row_gap_of style) heights one.top one.bottom) (room (gap_of style) widths one.left one.right) enough.0.1 in
+      let low = height-from_low one.high (room (row_gap_of style) heights one.top one.bottom)
+      (room (gap_of style) widths one.left one.right) enough.0.1 in
       let need = (of.0.high.each w low.0 within).0 (ap (height_at one.high) (sym same) ∙ low.1) in
-      let first = cell-above fits highs w open_cell low.0 h (at-width (tables_in open_cell) w within above.0) need (omega (arith, high, low.2)) in
+      let first = cell-above fits highs w open_cell low.0 h (at-width (tables_in open_cell) w within above.0) need
+      (omega (arith, high, low.2)) in
       let rest = cells-high fits widths heights cells made of.1 enough.1 above.1 in
       (first.0 ∷ rest.0, (first.1, rest.1))
     where
-      at-width : (tables : List Table) (w : ℕ) → w ≤ page → AllByRecursion (λ nested. (v : ℕ) → v ≤ page → IsAboveAt fits highs v nested) tables →
+      at-width : (tables : List Table) (w : ℕ) → w ≤ page → AllByRecursion (λ nested. (v : ℕ) → v ≤ page →
+          IsAboveAt fits highs v nested) tables →
           AllByRecursion (IsAboveAt fits highs w) tables
       at-width [] w within all = tt
       at-width (table ∷ tables) w within all = (all.0 w within, at-width tables w within all.1)
 
   -- the widths and heights of a layout of the problem by `high` are those of a layout of the table
-  pub layout-high : (table : OpenTable) (problem : ProblemModel) → IsProblemBy lows highs style page table problem → AreInGrid problem →
+  pub layout-high : (table : OpenTable) (problem : ProblemModel) → IsProblemBy lows highs style page table problem →
+      AreInGrid problem →
       (fits : Table → ℕ → ℕ → Layout → Type 0) →
       AllByRecursion (λ nested. (w : ℕ) → w ≤ page → IsAboveAt fits highs w nested) (inner_tables table) →
       (widths heights : List ℕ) → IsLayoutByHigh problem widths heights →
@@ -362,8 +317,10 @@ module _ (lows highs : Table → ℕ → ℕ → Type 0) (style : Style) (page :
     record {
       columns = laid.page.columns ∙ of.columns;
       rows = laid.enough.rows ∙ of.lines;
-      within = subst (λ s. total (gap_of style) (edge_of style) widths ≤ total (gap_of s) (edge_of s) widths) (sym of.drawn) (omega arith);
-      high = subst (λ s. total (row_gap_of style) (edge_of style) heights ≡ total (row_gap_of s) (edge_of s) heights) (sym of.drawn) refl;
+      within = subst (λ s. total (gap_of style) (edge_of style) widths ≤ total (gap_of s) (edge_of s) widths) (sym of.drawn)
+          (omega arith);
+      high = subst (λ s. total (row_gap_of style) (edge_of style) heights ≡ total (row_gap_of s) (edge_of s) heights)
+          (sym of.drawn) refl;
       parts = found.0;
       cells = found.1;
       given = refl;
@@ -373,11 +330,13 @@ module _ (lows highs : Table → ℕ → ℕ → Type 0) (style : Style) (page :
     narrow = subst (λ w. total (gap_of style) (edge_of style) widths ≤ w) of.wide
         (subst (λ s. total (gap_of s) (edge_of s) widths ≤ problem.width) of.drawn laid.page.page)
 
-    low : AllByRecursion (λ one. IsLowAt one.high (room (row_gap_of style) heights one.top one.bottom) (room (gap_of style) widths one.left one.right))
+    low : AllByRecursion (λ one. IsLowAt one.high (room (row_gap_of style) heights one.top one.bottom)
+        (room (gap_of style) widths one.left one.right))
         problem.cells
     low = recursion_from_All (λ one. IsLowAt one.high (room (row_gap_of style) heights one.top one.bottom)
         (room (gap_of style) widths one.left one.right)) problem.cells
-        (subst (λ s. All (λ one. IsLowAt one.high (room (row_gap_of s) heights one.top one.bottom) (room (gap_of s) widths one.left one.right))
+        (subst (λ s. All (λ one. IsLowAt one.high (room (row_gap_of s) heights one.top one.bottom)
+        (room (gap_of s) widths one.left one.right))
         problem.cells) of.drawn laid.enough.cells)
 
     enough : AllByRecursion (IsEnough widths heights) problem.cells
@@ -385,13 +344,23 @@ module _ (lows highs : Table → ℕ → ℕ → Type 0) (style : Style) (page :
         AllByRecursion-weaker (λ one. ((one.left < one.right) × (one.right ≤ length widths))
         × IsLowAt one.high (room (row_gap_of style) heights one.top one.bottom) (room (gap_of style) widths one.left one.right))
         (IsEnough widths heights) problem.cells
-        (λ one both. (omega (arith, room-total (gap_of style) (edge_of style) widths one.left one.right both.0.0 both.0.1, narrow), both.1))
+        (λ one both. (
+          omega (
+            arith,
+            room-total (gap_of style) (edge_of style) widths one.left one.right both.0.0 both.0.1,
+            narrow,
+          ),
+          both.1,
+        ))
         (both_each (λ one. (one.left < one.right) × (one.right ≤ length widths))
-        (λ one. IsLowAt one.high (room (row_gap_of style) heights one.top one.bottom) (room (gap_of style) widths one.left one.right)) problem.cells
+        (λ one. IsLowAt one.high (room (row_gap_of style) heights one.top one.bottom)
+        (room (gap_of style) widths one.left one.right)) problem.cells
         (placed-in problem widths placed laid.page.columns) low)
 
     found : (parts : List (List Layout)) × AllZip (λ cell inner. FitsRoom fits
         (room (gap_of style) widths (out-TableCell cell).place.left (out-TableCell cell).place.right)
-        (room (row_gap_of style) heights (out-TableCell cell).place.top (out-TableCell cell).place.bottom) (out-TableCell cell) inner) table.cells parts
+        (room (row_gap_of style) heights (out-TableCell cell).place.top (out-TableCell cell).place.bottom) (out-TableCell cell)
+        inner) table.cells parts
     found = cells-high fits widths heights table.cells problem.cells of.made enough
-        (each_joined (λ nested. (w : ℕ) → w ≤ page → IsAboveAt fits highs w nested) (λ cell. tables_in (out-TableCell cell)) table.cells above)
+        (each_joined (λ nested. (w : ℕ) → w ≤ page → IsAboveAt fits highs w nested) (λ cell. tables_in (out-TableCell cell))
+        table.cells above)

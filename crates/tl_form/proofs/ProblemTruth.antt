@@ -11,37 +11,42 @@ use Rattle.tl_problem.specs.Problem.{ProblemModel, cell_height, cell_width, tota
 use Rattle.tl_problem.specs.Layouts.{IsLayoutByLow, IsLayoutByHigh}
 use Rattle.tl_problem.specs.Sound.{IsSound}
 use Rattle.tl_problem.proofs.Heights.{IsLowAt-from, IsLowAt-higher}
-use Rattle.tl_form.specs.declared.cell.Content.{Content, out-Content}
-use Rattle.tl_form.specs.declared.cell.Content.TheOpen as open_content
-use Rattle.tl_form.specs.declared.cell.Table.{Table, out-Table}
-use Rattle.tl_form.specs.declared.cell.TableCell.{TableCell, out-TableCell}
+use Rattle.tl_table.specs.declared.cell.Content.{Content, out-Content}
+use Rattle.tl_table.specs.declared.cell.Content.TheOpen as open_content
+use Rattle.tl_table.specs.declared.cell.Table.{Table, out-Table}
+use Rattle.tl_table.specs.declared.cell.TableCell.{TableCell, out-TableCell}
 use Rattle.tl_form.specs.declared.heights.InnerSteps.{InnerSteps}
-use Rattle.tl_form.specs.declared.layout.Layout.{Layout, out-Layout, roll-Layout, out-roll-Layout}
-use Rattle.tl_form.specs.Tables.{OpenTable, OpenCell, OpenContent, inner_tables, tables_in, tables_of}
-use Rattle.tl_form.specs.Layouts.{OpenLayout, Fits, FitsBy, FitsWithin}
-use Rattle.tl_form.specs.Least.{IsLeastHeight}
+use Rattle.tl_table.specs.declared.layout.Layout.{Layout, out-Layout, roll-Layout, out-roll-Layout}
+use Rattle.tl_table.specs.Tables.{OpenTable, OpenCell, OpenContent, inner_tables, tables_in, tables_of}
+use Rattle.tl_table.specs.Layouts.{OpenLayout, Fits, FitsWithin}
+use Rattle.tl_table.specs.Least.{IsLeastHeight}
 use Rattle.tl_form.specs.Problems.{BlockNeeds, CellNeeds, InnerNeeds, IsCellBy, IsProblemBy, IsProblemOf, IsTrueProblem}
-use Rattle.tl_form.specs.ProblemLaws.{IsBelowLayouts, IsAboveLayouts, LowIsBelow, HighIsAbove, BoundsMeet, IsBetween, IsLeastByHigh}
+use Rattle.tl_form.specs.ProblemLaws.{IsBelowLayouts, IsAboveLayouts, LowIsBelow, HighIsAbove, BoundsMeet, IsBetween}
+use Rattle.tl_form.specs.ProblemLaws.{IsLeastByHigh}
 use Rattle.tl_form.proofs.CellNeedLemmas.{IsFunctional, cell-functional, inner-functional}
 use Rattle.tl_form.proofs.NeedSteps.{AreStepsOf-same, AreStepsOf-unique}
-use Rattle.tl_form.proofs.ProblemLayouts.{IsBelowAt, IsAboveAt, cell-below, cell-above, fits-from_any, layout-low, layout-high, sound-in_grid}
-use Rattle.tl_form.proofs.SoundParts.{both_each, each_joined, joined-each}
+use Rattle.tl_form.proofs.ProblemLayouts.{IsBelowAt, IsAboveAt, cell-below, cell-above, layout-low, layout-high, sound-in_grid}
+use Rattle.tl_table.proofs.AnyDepth.{fits-rolled}
+use Rattle.tl_table.proofs.SoundParts.{both_each, each_joined, joined-each}
 use Rattle.tl_form.proofs.Truth.{Fits-wider}
 
 -- ---- the problem is determined
 
 module _ (lows highs : Table → ℕ → ℕ → Type 0) (style : Style) (page : ℕ) where
-  same-cell : (cell : OpenCell) (one other : Cell) → IsCellBy lows highs page cell one → IsCellBy lows highs page cell other → one ≡ other
+  same-cell : (cell : OpenCell) (one other : Cell) → IsCellBy lows highs page cell one → IsCellBy lows highs page cell other →
+      one ≡ other
   same-cell cell one other first second =
       let left : one.left ≡ other.left = first.left ∙ sym second.left in
       let right : one.right ≡ other.right = first.right ∙ sym second.right in
       let top : one.top ≡ other.top = first.top ∙ sym second.top in
       let bottom : one.bottom ≡ other.bottom = first.bottom ∙ sym second.bottom in
       let low : one.low ≡ other.low = AreStepsOf-unique (CellNeeds lows cell) page one.low other.low first.low second.low in
-      let high : one.high ≡ other.high = AreStepsOf-unique (CellNeeds highs cell) page one.high other.high first.high second.high in
+      let high : one.high ≡ other.high = AreStepsOf-unique (CellNeeds highs cell)
+      page one.high other.high first.high second.high in
       λ i. record { left = left i; right = right i; top = top i; bottom = bottom i; low = low i; high = high i }
 
-  pub same-cells : (cells : List TableCell) (one other : List Cell) → AllZip (λ cell made. IsCellBy lows highs page (out-TableCell cell) made) cells one →
+  pub same-cells : (cells : List TableCell) (one other : List Cell) →
+      AllZip (λ cell made. IsCellBy lows highs page (out-TableCell cell) made) cells one →
       AllZip (λ cell made. IsCellBy lows highs page (out-TableCell cell) made) cells other → one ≡ other
   same-cells [] [] [] first second = refl
   same-cells [] [] (b ∷ other) first second = absurd second
@@ -63,39 +68,35 @@ module _ (lows highs : Table → ℕ → ℕ → Type 0) (style : Style) (page :
       let cells : one.cells ≡ other.cells = same-cells table.cells one.cells other.cells first.made second.made in
       λ i. record { cols = cols i; rows = rows i; style = drawn i; width = width i; cells = cells i }
 
--- ---- layouts by their fields, and rolled up
-
-pub fits-rolled : (style : Style) (table : Table) (width height : ℕ) (layout : OpenLayout) →
-    FitsBy (λ nested w h inner. Fits nested style w h inner) style (out-Table table) width height layout → Fits table style width height (roll-Layout layout)
-fits-rolled style table width height layout held =
-    let at = fits-from_any style (out-Table table) width height layout held in (
-      suc at.0,
-      subst (λ (open_layout : OpenLayout). FitsBy (FitsWithin at.0 style) style (out-Table table) width height open_layout)
-          (sym (out-roll-Layout layout)) at.1,
-    )
-
 -- ---- a layout of the table by bounds below, and one of the problem by bounds above
 
 module _ (lows highs : Table → ℕ → ℕ → Type 0) (table : Table) (style : Style) (page : ℕ) (problem : ProblemModel)
     (of : IsProblemBy lows highs style page (out-Table table) problem) (sound : IsSound problem) where
-  pub fits-low : AllByRecursion (IsBelowLayouts lows style page) (inner_tables (out-Table table)) → (height : ℕ) (layout : Layout) →
+  pub fits-low : AllByRecursion (IsBelowLayouts lows style page) (inner_tables (out-Table table)) →
+      (height : ℕ) (layout : Layout) →
       Fits table style page height layout →
-      IsLayoutByLow problem (out-Layout layout).widths (out-Layout layout).heights × (total_height problem (out-Layout layout).heights ≡ height)
+      IsLayoutByLow problem (out-Layout layout).widths (out-Layout layout).heights ×
+      (total_height problem (out-Layout layout).heights ≡ height)
   fits-low below height layout (zero, held) = absurd held
   fits-low below height layout (suc depth, held) =
-      layout-low lows highs style page (out-Table table) problem of (sound-in_grid lows highs style page problem sound) (FitsWithin depth style)
-      (AllByRecursion-weaker (IsBelowLayouts lows style page) (λ nested. (w : ℕ) → w ≤ page → IsBelowAt (FitsWithin depth style) lows w nested)
-      (inner_tables (out-Table table)) (λ nested is w within k inner one. is w k inner within (depth, one)) below) height (out-Layout layout) held
+      layout-low lows highs style page (out-Table table) problem of (sound-in_grid lows highs style page problem sound)
+      (FitsWithin depth style)
+      (AllByRecursion-weaker (IsBelowLayouts lows style page) (λ nested. (w : ℕ) → w ≤ page →
+      IsBelowAt (FitsWithin depth style) lows w nested)
+      (inner_tables (out-Table table)) (λ nested is w within k inner one. is w k inner within (depth, one)) below) height
+      (out-Layout layout) held
 
   pub high-fits : AllByRecursion (IsAboveLayouts highs style page) (inner_tables (out-Table table)) → (widths heights : List ℕ) →
       IsLayoutByHigh problem widths heights →
       (layout : Layout) × Fits table style (total_width problem widths) (total_height problem heights) layout
       × ((out-Layout layout).widths ≡ widths) × ((out-Layout layout).heights ≡ heights)
   high-fits above widths heights laid =
-      let made = layout-high lows highs style page (out-Table table) problem of (sound-in_grid lows highs style page problem sound)
+      let made = layout-high lows highs style page (out-Table table) problem of
+      (sound-in_grid lows highs style page problem sound)
       (λ nested w h inner. Fits nested style w h inner)
       (AllByRecursion-weaker (IsAboveLayouts highs style page)
-      (λ nested. (w : ℕ) → w ≤ page → IsAboveAt (λ one v h inner. Fits one style v h inner) highs w nested) (inner_tables (out-Table table))
+      (λ nested. (w : ℕ) → w ≤ page → IsAboveAt (λ one v h inner. Fits one style v h inner) highs w nested)
+      (inner_tables (out-Table table))
       (λ nested is w within h need. is w h within need) above) widths heights laid in
       let layout : OpenLayout = record { widths = widths; heights = heights; inner = made.0 } in (
         roll-Layout layout,
@@ -111,39 +112,52 @@ module _ (needs others : Table → ℕ → ℕ → Type 0) (w : ℕ) where
   abbrev pub SoOfEach : Table → Type 0
   SoOfEach nested = (h : ℕ) → needs nested w h → others nested w h
 
-  block-so : (block : OpenContent) (h : ℕ) → AllByRecursion SoOfEach (tables_of block) → BlockNeeds needs block w h → BlockNeeds others block w h
+  block-so : (block : OpenContent) (h : ℕ) → AllByRecursion SoOfEach (tables_of block) → BlockNeeds needs block w h →
+      BlockNeeds others block w h
   block-so (open_content.Para paragraph) h so need = need
   block-so (open_content.Table box) h so need = so.0 h need
 
-  blocks-so : (blocks : List Content) (heights : List ℕ) → AllByRecursion (λ block. AllByRecursion SoOfEach (tables_of (out-Content block))) blocks →
+  blocks-so : (blocks : List Content) (heights : List ℕ) → AllByRecursion
+      (λ block. AllByRecursion SoOfEach (tables_of (out-Content block))) blocks →
       AllZip (λ block height. BlockNeeds needs (out-Content block) w height) blocks heights →
       AllZip (λ block height. BlockNeeds others (out-Content block) w height) blocks heights
   blocks-so [] [] so need = tt
   blocks-so [] (h ∷ heights) so need = absurd need
   blocks-so (block ∷ blocks) [] so need = absurd need
-  blocks-so (block ∷ blocks) (h ∷ heights) so need = (block-so (out-Content block) h so.0 need.0, blocks-so blocks heights so.1 need.1)
+  blocks-so (block ∷ blocks) (h ∷ heights) so need = (
+    block-so (out-Content block) h so.0 need.0,
+    blocks-so blocks heights so.1 need.1,
+  )
 
-  pub cell-so : (cell : OpenCell) (h : ℕ) → AllByRecursion SoOfEach (tables_in cell) → CellNeeds needs cell w h → CellNeeds others cell w h
+  pub cell-so : (cell : OpenCell) (h : ℕ) → AllByRecursion SoOfEach (tables_in cell) → CellNeeds needs cell w h →
+      CellNeeds others cell w h
   cell-so cell h so need = record {
     floor = need.floor;
     heights = need.heights;
-    blocks = blocks-so cell.blocks need.heights (each_joined SoOfEach (λ block. tables_of (out-Content block)) cell.blocks so) need.blocks;
+    blocks = blocks-so cell.blocks need.heights (each_joined SoOfEach (λ block. tables_of (out-Content block)) cell.blocks so)
+        need.blocks;
     all = need.all;
   }
 
 module _ (needs : Table → ℕ → ℕ → Type 0) (w : ℕ) where
-  block-inside : (block : OpenContent) (h : ℕ) → BlockNeeds needs block w h → AllByRecursion (λ nested. (m : ℕ) × needs nested w m) (tables_of block)
+  block-inside : (block : OpenContent) (h : ℕ) → BlockNeeds needs block w h →
+      AllByRecursion (λ nested. (m : ℕ) × needs nested w m) (tables_of block)
   block-inside (open_content.Para paragraph) h need = tt
   block-inside (open_content.Table box) h need = ((h, need), tt)
 
-  blocks-inside : (blocks : List Content) (heights : List ℕ) → AllZip (λ block height. BlockNeeds needs (out-Content block) w height) blocks heights →
+  blocks-inside : (blocks : List Content) (heights : List ℕ) →
+      AllZip (λ block height. BlockNeeds needs (out-Content block) w height) blocks heights →
       AllByRecursion (λ block. AllByRecursion (λ nested. (m : ℕ) × needs nested w m) (tables_of (out-Content block))) blocks
   blocks-inside [] [] need = tt
   blocks-inside [] (h ∷ heights) need = absurd need
   blocks-inside (block ∷ blocks) [] need = absurd need
-  blocks-inside (block ∷ blocks) (h ∷ heights) need = (block-inside (out-Content block) h need.0, blocks-inside blocks heights need.1)
+  blocks-inside (block ∷ blocks) (h ∷ heights) need = (
+    block-inside (out-Content block) h need.0,
+    blocks-inside blocks heights need.1,
+  )
 
-  pub cell-inside : (cell : OpenCell) (h : ℕ) → CellNeeds needs cell w h → AllByRecursion (λ nested. (m : ℕ) × needs nested w m) (tables_in cell)
+  pub cell-inside : (cell : OpenCell) (h : ℕ) → CellNeeds needs cell w h →
+      AllByRecursion (λ nested. (m : ℕ) × needs nested w m) (tables_in cell)
   cell-inside cell h need =
       joined-each (λ nested. (m : ℕ) × needs nested w m) (λ block. tables_of (out-Content block)) cell.blocks
       (blocks-inside cell.blocks need.heights need.blocks)
@@ -160,31 +174,37 @@ module _ (lows highs : Table → ℕ → ℕ → Type 0) (style : Style) (page :
   Real nested = IsLeastHeight nested style
 
   between-cell : (cell : OpenCell) (made real : Cell) → IsCellBy lows highs page cell made → IsCellBy Real Real page cell real →
-      AllByRecursion (IsBelowLayouts lows style page) (tables_in cell) → AllByRecursion (IsAboveLayouts highs style page) (tables_in cell) →
+      AllByRecursion (IsBelowLayouts lows style page) (tables_in cell) →
+      AllByRecursion (IsAboveLayouts highs style page) (tables_in cell) →
       IsBetween page made real
   between-cell cell made real of true below above = record {
     low = λ w h within is.
         let need = (true.low.each w h within).0 is in
         let room = cell-above (λ nested v k layout. Fits nested style v k layout) Real w cell h h
-        (AllByRecursion-weaker (IsBelowLayouts lows style page) (IsAboveAt (λ nested v k layout. Fits nested style v k layout) Real w) (tables_in cell)
+        (AllByRecursion-weaker (IsBelowLayouts lows style page)
+        (IsAboveAt (λ nested v k layout. Fits nested style v k layout) Real w) (tables_in cell)
         (λ nested unused k least. (k, least.attained.0, least.attained.1, omega arith)) below) need (omega arith) in
         let low = cell-below (λ nested v k layout. Fits nested style v k layout) lows w cell h room.0
-        (AllByRecursion-weaker (IsBelowLayouts lows style page) (IsBelowAt (λ nested v k layout. Fits nested style v k layout) lows w) (tables_in cell)
+        (AllByRecursion-weaker (IsBelowLayouts lows style page)
+        (IsBelowAt (λ nested v k layout. Fits nested style v k layout) lows w) (tables_in cell)
         (λ nested is_below k layout fits. is_below w k layout within fits) below) room.1 in
         IsLowAt-higher made.low low.0 h w low.2 (IsLowAt-from made.low low.0 w ((of.low.each w low.0 within).1 low.1));
     high = λ w h k within is more.
         let need = (true.high.each w h within).0 is in
         let room = cell-above (λ nested v m layout. Fits nested style v m layout) highs w cell k k
-        (AllByRecursion-weaker (IsAboveLayouts highs style page) (IsAboveAt (λ nested v m layout. Fits nested style v m layout) highs w) (tables_in cell)
+        (AllByRecursion-weaker (IsAboveLayouts highs style page)
+        (IsAboveAt (λ nested v m layout. Fits nested style v m layout) highs w) (tables_in cell)
         (λ nested is_above m bound. is_above w m within bound) above) ((of.high.each w k within).0 more) (omega arith) in
         let low = cell-below (λ nested v m layout. Fits nested style v m layout) Real w cell k room.0
-        (AllByRecursion-weaker (λ nested. (m : ℕ) × Real nested w m) (IsBelowAt (λ nested v m layout. Fits nested style v m layout) Real w) (tables_in cell)
+        (AllByRecursion-weaker (λ nested. (m : ℕ) × Real nested w m)
+        (IsBelowAt (λ nested v m layout. Fits nested style v m layout) Real w) (tables_in cell)
         (λ nested some m layout fits. (some.0, some.1, some.1.least m layout fits)) (cell-inside Real w cell h need)) room.1 in
         let same = cell-functional Real (least-functional style) cell w h low.0 need low.1 in
         omega (arith, same, low.2);
   }
 
-  pub between-cells : (cells : List TableCell) (made real : List Cell) → AllZip (λ cell one. IsCellBy lows highs page (out-TableCell cell) one) cells made →
+  pub between-cells : (cells : List TableCell) (made real : List Cell) →
+      AllZip (λ cell one. IsCellBy lows highs page (out-TableCell cell) one) cells made →
       AllZip (λ cell one. IsCellBy Real Real page (out-TableCell cell) one) cells real →
       AllByRecursion (λ cell. AllByRecursion (IsBelowLayouts lows style page) (tables_in (out-TableCell cell))) cells →
       AllByRecursion (λ cell. AllByRecursion (IsAboveLayouts highs style page) (tables_in (out-TableCell cell))) cells →
@@ -203,14 +223,18 @@ pub steps-between : (table : Table) (style : Style) (page : ℕ) (inner : List I
     IsProblemOf table style page inner problem → IsTrueProblem table style page real → LowIsBelow table style page inner →
     HighIsAbove table style page inner → AllZip (IsBetween page) problem.cells real.cells
 steps-between table style page inner problem real of true below above =
-    between-cells (InnerNeeds (λ one. one.low) inner) (InnerNeeds (λ one. one.high) inner) style page (out-Table table).cells problem.cells real.cells
+    between-cells (InnerNeeds (λ one. one.low) inner) (InnerNeeds (λ one. one.high) inner) style page
+    (out-Table table).cells problem.cells real.cells
     of.made true.made
-    (each_joined (IsBelowLayouts (InnerNeeds (λ one. one.low) inner) style page) (λ cell. tables_in (out-TableCell cell)) (out-Table table).cells below)
-    (each_joined (IsAboveLayouts (InnerNeeds (λ one. one.high) inner) style page) (λ cell. tables_in (out-TableCell cell)) (out-Table table).cells above)
+    (each_joined (IsBelowLayouts (InnerNeeds (λ one. one.low) inner) style page) (λ cell. tables_in (out-TableCell cell))
+    (out-Table table).cells below)
+    (each_joined (IsAboveLayouts (InnerNeeds (λ one. one.high) inner) style page) (λ cell. tables_in (out-TableCell cell))
+    (out-Table table).cells above)
 
 -- ---- where the bounds meet
 
-module _ (lows highs : Table → ℕ → ℕ → Type 0) (one_low : IsFunctional lows) (one_high : IsFunctional highs) (style : Style) (page : ℕ) where
+module _ (lows highs : Table → ℕ → ℕ → Type 0) (one_low : IsFunctional lows) (one_high : IsFunctional highs) (style : Style)
+    (page : ℕ) where
   -- bounds round the layouts of a nested table that meet
   pub record Meet (nested : Table) : Type 0 where
     pub below : IsBelowLayouts lows style page nested
@@ -268,13 +292,18 @@ module _ (lows highs : Table → ℕ → ℕ → Type 0) (one_low : IsFunctional
         (λ nested one k least. real-high nested w k within one least) meet) need) of.high;
   }
 
-  real-cells : (cells : List TableCell) (made : List Cell) → AllZip (λ cell one. IsCellBy lows highs page (out-TableCell cell) one) cells made →
+  real-cells : (cells : List TableCell) (made : List Cell) →
+      AllZip (λ cell one. IsCellBy lows highs page (out-TableCell cell) one) cells made →
       AllByRecursion (λ cell. AllByRecursion Meet (tables_in (out-TableCell cell))) cells →
-      AllZip (λ cell one. IsCellBy (λ nested. IsLeastHeight nested style) (λ nested. IsLeastHeight nested style) page (out-TableCell cell) one) cells made
+      AllZip (λ cell one. IsCellBy (λ nested. IsLeastHeight nested style) (λ nested. IsLeastHeight nested style) page
+      (out-TableCell cell) one) cells made
   real-cells [] [] of meet = tt
   real-cells [] (one ∷ made) of meet = absurd of
   real-cells (cell ∷ cells) [] of meet = absurd of
-  real-cells (cell ∷ cells) (one ∷ made) of meet = (real-cell (out-TableCell cell) one of.0 meet.0, real-cells cells made of.1 meet.1)
+  real-cells (cell ∷ cells) (one ∷ made) of meet = (
+    real-cell (out-TableCell cell) one of.0 meet.0,
+    real-cells cells made of.1 meet.1,
+  )
 
   pub real-problem : (table : Table) (problem : ProblemModel) → IsProblemBy lows highs style page (out-Table table) problem →
       AllByRecursion Meet (inner_tables (out-Table table)) → IsTrueProblem table style page problem
@@ -288,18 +317,21 @@ module _ (lows highs : Table → ℕ → ℕ → Type 0) (one_low : IsFunctional
   }
 
 -- the true problem has one list of steps for each cell
-pub true-low-is-high : (table : Table) (style : Style) (page : ℕ) (problem : ProblemModel) → IsTrueProblem table style page problem →
+pub true-low-is-high : (table : Table) (style : Style) (page : ℕ) (problem : ProblemModel) →
+    IsTrueProblem table style page problem →
     AllByRecursion (λ cell. cell.low ≡ cell.high) problem.cells
 true-low-is-high table style page problem of = by_cells (out-Table table).cells problem.cells of.made
   where
     by_cells : (cells : List TableCell) (made : List Cell) →
-        AllZip (λ cell one. IsCellBy (λ nested. IsLeastHeight nested style) (λ nested. IsLeastHeight nested style) page (out-TableCell cell) one) cells made →
+        AllZip (λ cell one. IsCellBy (λ nested. IsLeastHeight nested style) (λ nested. IsLeastHeight nested style) page
+        (out-TableCell cell) one) cells made →
         AllByRecursion (λ one. one.low ≡ one.high) made
     by_cells [] [] each = tt
     by_cells [] (one ∷ made) each = absurd each
     by_cells (cell ∷ cells) [] each = absurd each
     by_cells (cell ∷ cells) (one ∷ made) each = (
-      AreStepsOf-unique (CellNeeds (λ nested. IsLeastHeight nested style) (out-TableCell cell)) page one.low one.high each.0.low each.0.high,
+      AreStepsOf-unique (CellNeeds (λ nested. IsLeastHeight nested style) (out-TableCell cell))
+          page one.low one.high each.0.low each.0.high,
       by_cells cells made each.1,
     )
 
@@ -310,13 +342,18 @@ low-is-high problem widths heights same laid = record {
   page = laid.page;
   enough = record {
     rows = laid.enough.rows;
-    cells = All-from_recursion (λ cell. IsLowAt cell.high (cell_height problem heights cell) (cell_width problem widths cell)) problem.cells
-        (AllByRecursion-weaker (λ cell. (cell.low ≡ cell.high) × IsLowAt cell.low (cell_height problem heights cell) (cell_width problem widths cell))
+    cells = All-from_recursion (λ cell. IsLowAt cell.high (cell_height problem heights cell) (cell_width problem widths cell))
+        problem.cells
+        (AllByRecursion-weaker (λ cell. (cell.low ≡ cell.high) ×
+        IsLowAt cell.low (cell_height problem heights cell) (cell_width problem widths cell))
         (λ cell. IsLowAt cell.high (cell_height problem heights cell) (cell_width problem widths cell)) problem.cells
-        (λ cell both. subst (λ steps. IsLowAt steps (cell_height problem heights cell) (cell_width problem widths cell)) both.0 both.1)
-        (both_each (λ cell. cell.low ≡ cell.high) (λ cell. IsLowAt cell.low (cell_height problem heights cell) (cell_width problem widths cell))
+        (λ cell both. subst (λ steps. IsLowAt steps (cell_height problem heights cell) (cell_width problem widths cell))
+        both.0 both.1)
+        (both_each (λ cell. cell.low ≡ cell.high) (λ cell. IsLowAt cell.low (cell_height problem heights cell)
+        (cell_width problem widths cell))
         problem.cells same
-        (recursion_from_All (λ cell. IsLowAt cell.low (cell_height problem heights cell) (cell_width problem widths cell)) problem.cells
+        (recursion_from_All (λ cell. IsLowAt cell.low (cell_height problem heights cell) (cell_width problem widths cell))
+        problem.cells
         laid.enough.cells)));
   };
 }
@@ -332,14 +369,16 @@ module _ (table : Table) (style : Style) (page : ℕ) (inner : List InnerSteps) 
 
   pub is-true : IsTrueProblem table style page problem
   is-true =
-      real-problem low_needs high_needs (inner-functional (λ one. one.low) inner) (inner-functional (λ one. one.high) inner) style page table problem of
+      real-problem low_needs high_needs (inner-functional (λ one. one.low) inner) (inner-functional (λ one. one.high) inner)
+      style page table problem of
       (AllByRecursion-weaker (λ nested. IsBelowLayouts low_needs style page nested × (IsAboveLayouts high_needs style page nested
       × ((w h : ℕ) → w ≤ page → low_needs nested w h → high_needs nested w h)))
       (Meet low_needs high_needs (inner-functional (λ one. one.low) inner) (inner-functional (λ one. one.high) inner) style page)
       (inner_tables (out-Table table)) (λ nested all. record { below = all.0; above = all.1.0; same = all.1.1 })
       (both_each (IsBelowLayouts low_needs style page) (λ nested. IsAboveLayouts high_needs style page nested
       × ((w h : ℕ) → w ≤ page → low_needs nested w h → high_needs nested w h)) (inner_tables (out-Table table)) below
-      (both_each (IsAboveLayouts high_needs style page) (λ nested. (w h : ℕ) → w ≤ page → low_needs nested w h → high_needs nested w h)
+      (both_each (IsAboveLayouts high_needs style page) (λ nested. (w h : ℕ) → w ≤ page → low_needs nested w h →
+      high_needs nested w h)
       (inner_tables (out-Table table)) above meet)))
 
   as-high : (height : ℕ) (layout : Layout) → Fits table style page height layout →
@@ -348,7 +387,8 @@ module _ (table : Table) (style : Style) (page : ℕ) (inner : List InnerSteps) 
       let low = fits-low low_needs high_needs table style page problem of sound below height layout held in (
         (out-Layout layout).widths,
         (out-Layout layout).heights,
-        low-is-high problem (out-Layout layout).widths (out-Layout layout).heights (true-low-is-high table style page problem is-true) low.0,
+        low-is-high problem (out-Layout layout).widths (out-Layout layout).heights
+            (true-low-is-high table style page problem is-true) low.0,
         low.1,
       )
 
@@ -357,7 +397,8 @@ module _ (table : Table) (style : Style) (page : ℕ) (inner : List InnerSteps) 
   as-layout widths heights laid =
       let made = high-fits low_needs high_needs table style page problem of sound above widths heights laid in (
         made.0,
-        Fits-wider style table (total_width problem widths) page (total_height problem heights) made.0 (omega (arith, laid.page.page, of.wide)) made.1,
+        Fits-wider style table (total_width problem widths) page (total_height problem heights) made.0
+            (omega (arith, laid.page.page, of.wide)) made.1,
       )
 
   pub least-there : (height : ℕ) → IsLeastByHigh problem height → IsLeastHeight table style page height
@@ -372,5 +413,6 @@ module _ (table : Table) (style : Style) (page : ℕ) (inner : List InnerSteps) 
   pub least-back : (height : ℕ) → IsLeastHeight table style page height → IsLeastByHigh problem height
   least-back height least = record {
     attained = as-high height least.attained.0 least.attained.1;
-    least = λ widths heights laid. let made = as-layout widths heights laid in least.least (total_height problem heights) made.0 made.1;
+    least = λ widths heights laid. let made = as-layout widths heights laid in
+        least.least (total_height problem heights) made.0 made.1;
   }

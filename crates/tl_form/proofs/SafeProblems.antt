@@ -1,5 +1,6 @@
 -- The problem of a sound table that fits the page is sound, where the steps of its nested tables are.
-use Rattle.std.proofs.Common.{◌≡◌, ℕ, zero, suc, ◌+◌, ◌*◌, ◌<◌, ◌≤◌, max, List, [], ◌∷◌, length, get_or, map, sum_by, refl, sym, ap, subst, ◌∙◌, arith}
+use Rattle.std.proofs.Common.{◌≡◌, ℕ, zero, suc, ◌+◌, ◌*◌, ◌<◌, ◌≤◌, max, List, [], ◌∷◌, length, get_or, map, sum_by, refl, sym}
+use Rattle.std.proofs.Common.{ap, subst, ◌∙◌, arith}
 use Rattle.std.specs.List.{All, AllPairs, AllZip, AllByRecursion, Any}
 use Rattle.std.proofs.lemmas.List.{get_or-map, get_or_default, length-map}
 use Rattle.std.proofs.lemmas.List.Elements.{recursion_from_All, All-from_recursion}
@@ -12,26 +13,26 @@ use Rattle.tl_grid.specs.declared.shape.Place.{Place}
 use Rattle.tl_grid.specs.Dropping.{IsPlaced}
 use Rattle.tl_grid.specs.Slots.{AreApart}
 use Rattle.tl_problem.specs.declared.cell.Cell.{Cell}
-use Rattle.tl_problem.specs.Sizes.{room, total}
+use Rattle.tl_base.specs.Sizes.{room, total}
 use Rattle.tl_problem.specs.Problem.{ProblemModel}
 use Rattle.tl_problem.specs.Sound.{IsSoundCell, ShareSlot}
-use Rattle.tl_problem.proofs.SizeLaws.{room-total}
-use Rattle.tl_form.specs.declared.cell.Content.{out-Content}
-use Rattle.tl_form.specs.declared.cell.Table.{Table, out-Table}
-use Rattle.tl_form.specs.declared.cell.TableCell.{TableCell, out-TableCell}
+use Rattle.tl_base.proofs.SizeLaws.{room-total}
+use Rattle.tl_table.specs.declared.cell.Content.{out-Content}
+use Rattle.tl_table.specs.declared.cell.Table.{Table, out-Table}
+use Rattle.tl_table.specs.declared.cell.TableCell.{TableCell, out-TableCell}
 use Rattle.tl_form.specs.declared.heights.InnerSteps.{InnerSteps}
-use Rattle.tl_form.specs.declared.layout.Layout.{Layout, out-Layout}
-use Rattle.tl_form.specs.Tables.{tables_in}
-use Rattle.tl_form.specs.Layouts.{Fits, FitsBy, FitsRoom, FitsWithin}
+use Rattle.tl_table.specs.declared.layout.Layout.{Layout, out-Layout}
+use Rattle.tl_table.specs.Tables.{tables_in}
+use Rattle.tl_table.specs.Layouts.{Fits, FitsBy, FitsRoom, FitsWithin}
 use Rattle.tl_form.specs.Problems.{CellNeeds, HasSoundProblem, InnerNeeds, IsCellBy}
-use Rattle.tl_form.specs.Sound.{IsSoundBy, IsSoundWithin, IsSpelt, cell_size, place_of}
+use Rattle.tl_table.specs.Sound.{IsSoundBy, IsSoundWithin, IsSpelt, cell_size, place_of}
 use Rattle.tl_form.specs.SoundProblems.{AreSoundPremises}
 use Rattle.tl_form.proofs.CellNeedLemmas.{inner-functional}
 use Rattle.tl_form.proofs.NeedSteps.{first-least}
 use Rattle.tl_form.proofs.ProblemCells.{first-need}
-use Rattle.tl_form.proofs.SizesOpen.{table_size-out}
+use Rattle.tl_table.proofs.SizesOpen.{table_size-out}
 use Rattle.tl_form.proofs.SoundCells.{HasSound, below-all, cell-fits-low, cell-made, cell-wider, high-cell-small, same-first}
-use Rattle.tl_form.proofs.SoundParts.{each_joined}
+use Rattle.tl_table.proofs.SoundParts.{each_joined}
 use Rattle.tl_form.proofs.Truth.{Fits-wider}
 
 -- where a cell of a problem lies
@@ -50,8 +51,10 @@ module _ (inner : List InnerSteps) (style : Style) (page : ℕ) where
 
   -- ---- the cells of a layout that fits have heights, and steps
 
-  cells-made : (cells : List TableCell) → AllByRecursion (λ cell. AllByRecursion (HasSound inner style page) (tables_in (out-TableCell cell))) cells →
-      AllByRecursion (λ cell. (h : ℕ) × CellNeeds lows (out-TableCell cell) page h) cells → (made : List Cell) × AllZip Made cells made
+  cells-made : (cells : List TableCell) →
+      AllByRecursion (λ cell. AllByRecursion (HasSound inner style page) (tables_in (out-TableCell cell))) cells →
+      AllByRecursion (λ cell. (h : ℕ) × CellNeeds lows (out-TableCell cell) page h) cells →
+      (made : List Cell) × AllZip Made cells made
   cells-made [] have some = ([], tt)
   cells-made (cell ∷ cells) have some =
       let first = cell-made inner style page (out-TableCell cell) have.0 some.0.0 some.0.1 in
@@ -60,7 +63,8 @@ module _ (inner : List InnerSteps) (style : Style) (page : ℕ) where
 
   -- ---- they lie where the table's do
 
-  pub places-same : (cells : List TableCell) (made : List Cell) → AllZip Made cells made → map made_place made ≡ map place_of cells
+  pub places-same : (cells : List TableCell) (made : List Cell) → AllZip Made cells made →
+      map made_place made ≡ map place_of cells
   places-same [] [] of = refl
   places-same [] (one ∷ made) of = absurd of
   places-same (cell ∷ cells) [] of = absurd of
@@ -69,7 +73,13 @@ module _ (inner : List InnerSteps) (style : Style) (page : ℕ) where
       let right = of.0.right in
       let top = of.0.top in
       let bottom = of.0.bottom in
-      let here : made_place one ≡ place_of cell = λ i. record { left = left i; right = right i; top = top i; bottom = bottom i } in
+      let here : made_place one ≡ place_of cell = λ i. record {
+        left = left i;
+        right = right i;
+        top = top i;
+        bottom =
+            bottom i;
+      } in
       let rest = places-same cells made of.1 in
       λ i. here i ∷ rest i
 
@@ -80,10 +90,12 @@ module _ (inner : List InnerSteps) (style : Style) (page : ℕ) where
       (omega arith, omega (arith, share.0.1, first.0), omega arith, omega (arith, share.1.1, first.1))
       (omega arith, omega (arith, share.0.0, second.0), omega arith, omega (arith, share.1.0, second.1))
 
-  at-place : (made : List Cell) (i : ℕ) (d : Cell) → i < length made → get_or (map made_place made) i (made_place d) ≡ made_place (get_or made i d)
+  at-place : (made : List Cell) (i : ℕ) (d : Cell) → i < length made →
+      get_or (map made_place made) i (made_place d) ≡ made_place (get_or made i d)
   at-place made i d within = get_or-map made_place made i d (made_place d) within
 
-  apart-cells : (made : List Cell) → All (λ one. (one.left < one.right) × (one.top < one.bottom)) made → AllPairs AreApart (map made_place made) →
+  apart-cells : (made : List Cell) → All (λ one. (one.left < one.right) × (one.top < one.bottom)) made →
+      AllPairs AreApart (map made_place made) →
       AllPairs (λ a b. ShareSlot a b → ⊥) made
   apart-cells made placed apart i j d before within share =
       let long : length (map made_place made) ≡ length made = length-map made made_place in
@@ -98,7 +110,15 @@ module _ (inner : List InnerSteps) (style : Style) (page : ℕ) where
   any-made P made (i, place, within, is, has) =
       let long : length (map made_place made) ≡ length made = length-map made made_place in
       let inside : i < length made = omega (arith, within, long) in
-      let d : Cell = record { left = place.left; right = place.right; top = place.top; bottom = place.bottom; low = []; high = [] } in
+      let d : Cell = record {
+        left = place.left;
+        right = place.right;
+        top = place.top;
+        bottom = place.bottom;
+        low = [];
+        high =
+            [];
+      } in
       let one = get_or made i d in
       let same : made_place one ≡ place = sym (at-place made i d inside) ∙ is in
       (i, one, inside, get_or_default made i one d inside, subst P (sym same) has)
@@ -107,7 +127,8 @@ module _ (inner : List InnerSteps) (style : Style) (page : ℕ) where
 
   sound-cells : (problem : ProblemModel) (cells : List TableCell) (made : List Cell) → AllZip Made cells made →
       AllByRecursion (λ cell. AllByRecursion (HasSound inner style page) (tables_in (out-TableCell cell))) cells →
-      AllByRecursion (λ cell. IsPlaced problem.cols problem.rows (place_of cell)) cells → AllByRecursion (IsSoundCell problem) made
+      AllByRecursion (λ cell. IsPlaced problem.cols problem.rows (place_of cell)) cells →
+      AllByRecursion (IsSoundCell problem) made
   sound-cells problem [] [] of have placed = tt
   sound-cells problem [] (one ∷ made) of have placed = absurd of
   sound-cells problem (cell ∷ cells) [] of have placed = absurd of
@@ -163,7 +184,12 @@ module _ (inner : List InnerSteps) (style : Style) (page : ℕ) where
           w,
           some.0,
           refl,
-          omega (arith, room-total (gap_of style) (edge_of style) widths (place_of cell).left (place_of cell).right placed.0.0 placed.0.1, narrow),
+          omega (
+            arith,
+            room-total (gap_of style) (edge_of style) widths (place_of cell).left
+                (place_of cell).right placed.0.0 placed.0.1,
+            narrow,
+          ),
           some.1,
         ),
         cells-fit fits any widths heights cells parts have.1 placed.1 narrow held.1,
@@ -173,10 +199,13 @@ module _ (inner : List InnerSteps) (style : Style) (page : ℕ) where
   cells-page : (widths : List ℕ) (cells : List TableCell) →
       AllByRecursion (λ cell. AllByRecursion (HasSound inner style page) (tables_in (out-TableCell cell))) cells →
       AllByRecursion (λ cell. (w k : ℕ) × (w ≡ room (gap_of style) widths (place_of cell).left (place_of cell).right) × (w ≤ page)
-      × CellNeeds lows (out-TableCell cell) w k) cells → AllByRecursion (λ cell. (h : ℕ) × CellNeeds lows (out-TableCell cell) page h) cells
+      × CellNeeds lows (out-TableCell cell) w k) cells → AllByRecursion
+      (λ cell. (h : ℕ) × CellNeeds lows (out-TableCell cell) page h) cells
   cells-page widths [] have fit = tt
-  cells-page widths (cell ∷ cells) have fit =
-      (cell-wider inner style page (out-TableCell cell) have.0 fit.0.0 fit.0.1 fit.0.3 fit.0.4, cells-page widths cells have.1 fit.1)
+  cells-page widths (cell ∷ cells) have fit = (
+    cell-wider inner style page (out-TableCell cell) have.0 fit.0.0 fit.0.1 fit.0.3 fit.0.4,
+    cells-page widths cells have.1 fit.1,
+  )
 
   -- and its least width
   cells-within : (widths : List ℕ) (cells : List TableCell) (made : List Cell) → AllZip Made cells made →
@@ -187,15 +216,19 @@ module _ (inner : List InnerSteps) (style : Style) (page : ℕ) where
   cells-within widths [] (one ∷ made) of fit = absurd of
   cells-within widths (cell ∷ cells) [] of fit = absurd of
   cells-within widths (cell ∷ cells) (one ∷ made) of fit =
-      let same : room (gap_of style) widths one.left one.right ≡ room (gap_of style) widths (place_of cell).left (place_of cell).right =
-      ap (λ left. room (gap_of style) widths left one.right) of.0.left ∙ ap (λ right. room (gap_of style) widths (place_of cell).left right) of.0.right in
+      let same : room (gap_of style) widths one.left one.right ≡ room (gap_of style) widths (place_of cell).left
+      (place_of cell).right =
+      ap (λ left. room (gap_of style) widths left one.right) of.0.left ∙ ap
+      (λ right. room (gap_of style) widths (place_of cell).left right) of.0.right in
       let least = first-least one.low of.0.low.decreasing fit.0.0 fit.0.1 ((of.0.low.each fit.0.0 fit.0.1 fit.0.3).1 fit.0.4) in
       (omega (arith, least, fit.0.2, same), cells-within widths cells made of.1 fit.1)
 
 -- ---- the problem
 
-module _ (table : Table) (style : Style) (page : ℕ) (inner : List InnerSteps) (given : AreSoundPremises table style page inner) where
-  pub have : AllByRecursion (λ cell. AllByRecursion (HasSound inner style page) (tables_in (out-TableCell cell))) (out-Table table).cells
+module _ (table : Table) (style : Style) (page : ℕ) (inner : List InnerSteps)
+    (given : AreSoundPremises table style page inner) where
+  pub have : AllByRecursion (λ cell. AllByRecursion (HasSound inner style page) (tables_in (out-TableCell cell)))
+      (out-Table table).cells
   have = each_joined (HasSound inner style page) (λ cell. tables_in (out-TableCell cell)) (out-Table table).cells given.each
 
   pub placed-cells : {sound : Table → Type 0} (by : IsSoundBy sound (out-Table table)) →
@@ -208,7 +241,8 @@ module _ (table : Table) (style : Style) (page : ℕ) (inner : List InnerSteps) 
 
   -- by a layout that fits
   by-layout : {sound : Table → Type 0} (by : IsSoundBy sound (out-Table table)) (height depth : ℕ) (layout : Layout) →
-      FitsBy (FitsWithin depth style) style (out-Table table) page height (out-Layout layout) → HasSoundProblem table style page inner
+      FitsBy (FitsWithin depth style) style (out-Table table) page height (out-Layout layout) →
+      HasSoundProblem table style page inner
   by-layout {sound} by height depth layout held = (
     problem,
     record { columns = refl; lines = refl; drawn = refl; wide = refl; made = made.1 },
@@ -232,7 +266,8 @@ module _ (table : Table) (style : Style) (page : ℕ) (inner : List InnerSteps) 
         record {
           columns = held.columns;
           page = held.within;
-          cells = All-from_recursion (λ one. first_width one.low ≤ room (gap_of style) (out-Layout layout).widths one.left one.right) made.0
+          cells = All-from_recursion (λ one. first_width one.low ≤ room (gap_of style)
+              (out-Layout layout).widths one.left one.right) made.0
               (cells-within inner style page (out-Layout layout).widths (out-Table table).cells made.0 made.1 fit);
         },
       );
@@ -241,16 +276,19 @@ module _ (table : Table) (style : Style) (page : ℕ) (inner : List InnerSteps) 
     widths : List ℕ
     widths = (out-Layout layout).widths
 
-    fit : AllByRecursion (λ cell. (w k : ℕ) × (w ≡ room (gap_of style) widths (place_of cell).left (place_of cell).right) × (w ≤ page)
+    fit : AllByRecursion (λ cell. (w k : ℕ) × (w ≡ room (gap_of style) widths (place_of cell).left (place_of cell).right) ×
+        (w ≤ page)
         × CellNeeds (lows inner style page) (out-TableCell cell) w k) (out-Table table).cells
-    fit = cells-fit inner style page (FitsWithin depth style) (λ nested v h one fits. (depth, fits)) widths (out-Layout layout).heights
+    fit = cells-fit inner style page (FitsWithin depth style) (λ nested v h one fits. (depth, fits)) widths
+        (out-Layout layout).heights
         (out-Table table).cells held.parts have
         (AllByRecursion-weaker (λ cell. IsPlaced (out-Table table).cols (out-Table table).rows (place_of cell))
         (λ cell. ((place_of cell).left < (place_of cell).right) × ((place_of cell).right ≤ length widths)) (out-Table table).cells
         (λ cell at. (at.0, omega (arith, at.1, held.columns))) (placed-cells by)) held.within held.cells
 
     made : (made : List Cell) × AllZip (Made inner style page) (out-Table table).cells made
-    made = cells-made inner style page (out-Table table).cells have (cells-page inner style page widths (out-Table table).cells have fit)
+    made = cells-made inner style page (out-Table table).cells have
+        (cells-page inner style page widths (out-Table table).cells have fit)
 
     problem : ProblemModel
     problem = record { cols = (out-Table table).cols; rows = (out-Table table).rows; style = style; width = page; cells = made.0 }
@@ -261,9 +299,11 @@ module _ (table : Table) (style : Style) (page : ℕ) (inner : List InnerSteps) 
     places : map made_place made.0 ≡ map place_of (out-Table table).cells
     places = places-same inner style page (out-Table table).cells made.0 made.1
 
-    small : sum_by (λ one. first_height one.high) made.0 + 2 * length (out-Table table).cells ≤ 2 * sum_by cell_size (out-Table table).cells
+    small : sum_by (λ one. first_height one.high) made.0 + 2 * length (out-Table table).cells ≤ 2 * sum_by cell_size
+        (out-Table table).cells
     small = cells-small inner style page (out-Table table).cells made.0 made.1 have
-        (recursion_from_All (λ cell. AllByRecursion (λ block. IsSpelt (out-Content block)) (out-TableCell cell).blocks) (out-Table table).cells by.spelt)
+        (recursion_from_All (λ cell. AllByRecursion (λ block. IsSpelt (out-Content block)) (out-TableCell cell).blocks)
+        (out-Table table).cells by.spelt)
 
   pub sound-problem : HasSoundProblem table style page inner
   sound-problem =

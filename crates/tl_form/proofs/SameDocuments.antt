@@ -1,5 +1,6 @@
 -- A certificate that is valid for a table is valid for each table that is the same.
-use Rattle.std.proofs.Common.{◌≡◌, ◌∙◌, ℕ, ◌+◌, ◌-◌, ◌<◌, ◌==◌, if◌then◌else◌, List, [], ◌∷◌, get_or, take, Option, None, Some, ◌↔◌}
+use Rattle.std.proofs.Common.{◌≡◌, ◌∙◌, ℕ, ◌+◌, ◌-◌, ◌<◌, ◌==◌, if◌then◌else◌, List, [], ◌∷◌, get_or, take, Option, None, Some}
+use Rattle.std.proofs.Common.{◌↔◌}
 use Rattle.std.proofs.Common.{refl, sym, ap, subst}
 use Rattle.tl_base.specs.declared.style.Style.{Style}
 use Rattle.tl_problem.specs.Problem.{ProblemModel}
@@ -8,17 +9,18 @@ use Rattle.tl_cert.specs.declared.certificate.Claim.{Claim}
 use Rattle.tl_cert.specs.declared.certificate.Claim.TheVariants.{Lowest, Bounded, Narrow}
 use Rattle.tl_cert.specs.declared.section.Section.{Section}
 use Rattle.tl_cert.specs.Text.{IsNarrow}
-use Rattle.tl_form.specs.declared.cell.Table.{Table, out-Table}
-use Rattle.tl_form.specs.Expected.{Document, Due, IsDocumentOf, own_number, least_of, due_in, next_due, next_width, first_due, placed_width}
+use Rattle.tl_table.specs.declared.cell.Table.{Table, out-Table}
+use Rattle.tl_form.specs.Expected.{Document, Due, IsDocumentOf, own_number, least_of, due_in, next_due, next_width, first_due}
+use Rattle.tl_form.specs.Expected.{placed_width}
 use Rattle.tl_form.specs.Expected.{due_from, due_after}
-use Rattle.tl_form.specs.Least.{IsLeastWidth}
-use Rattle.tl_form.specs.Same.{AreSame}
-use Rattle.tl_form.specs.Sound.{nested_in_table}
+use Rattle.tl_table.specs.Least.{IsLeastWidth}
+use Rattle.tl_table.specs.Same.{AreSame}
+use Rattle.tl_table.specs.Sound.{nested_in_table}
 use Rattle.tl_form.specs.Valid.{IsClaimFor, IsProblemAt, IsGood, AreWhole, IsShown, IsValid}
-use Rattle.tl_form.proofs.SameChains.{same_chain}
-use Rattle.tl_form.proofs.SameFits.{same_least}
+use Rattle.tl_table.proofs.SameChains.{same_chain}
+use Rattle.tl_table.proofs.SameFits.{same_least}
 use Rattle.tl_form.proofs.SameProblems.{same_inner, same_problem}
-use Rattle.tl_form.proofs.SameTables.{among_twin, same_nests, same_number, same_turned}
+use Rattle.tl_table.proofs.SameTables.{among_twin, same_nests, same_number, same_turned}
 
 -- the document with another table in place of its own
 abbrev put : Document → Table → Document
@@ -42,7 +44,8 @@ module _ (document : Document) (other : Table) (same : AreSame document.table ot
 
   -- ---- it is the document of the other table
 
-  document_same : (table : Table) (style : Style) (page : ℕ) → IsDocumentOf table style page document → IsDocumentOf other style page twin
+  document_same : (table : Table) (style : Style) (page : ℕ) → IsDocumentOf table style page document →
+      IsDocumentOf other style page twin
   document_same table style page of = record {
     same = refl;
     drawn = of.drawn;
@@ -64,7 +67,8 @@ module _ (document : Document) (other : Table) (same : AreSame document.table ot
   next_same : (number placed : ℕ) → next_due document number placed ≡ next_due twin number placed
   next_same number placed =
       ap (λ n. if number == n then None else Some (due_in document number (next_width (least_of document number) placed))) own
-      ∙ ap (λ n. if number == own_number twin then None else Some (due_in document number (next_width n placed))) (least_same number)
+      ∙ ap (λ n. if number == own_number twin then None else Some (due_in document number (next_width n placed)))
+      (least_same number)
       ∙ ap (λ due. if number == own_number twin then None else Some due) (in_same (next_width (least_of twin number) placed))
     where
       in_same : (width : Option ℕ) → due_in document number width ≡ due_in twin number width
@@ -84,7 +88,8 @@ module _ (document : Document) (other : Table) (same : AreSame document.table ot
 
   -- ---- sections
 
-  problem_at : (before : List Section) (section : Section) (problem : ProblemModel) → IsProblemAt document before section problem →
+  problem_at : (before : List Section) (section : Section) (problem : ProblemModel) →
+      IsProblemAt document before section problem →
       IsProblemAt twin before section problem
   problem_at before section problem at =
       let found = among_twin document.table other at.one same at.named.among in
@@ -97,7 +102,8 @@ module _ (document : Document) (other : Table) (same : AreSame document.table ot
         sound = at.sound;
       }
 
-  good_same : (budget : ℕ) (before : List Section) (section : Section) → IsGood document budget before section → IsGood twin budget before section
+  good_same : (budget : ℕ) (before : List Section) (section : Section) → IsGood document budget before section →
+      IsGood twin budget before section
   good_same budget before section good = record {
     due = sym (after_same before) ∙ good.due;
     problem = good.problem;
@@ -118,15 +124,18 @@ module _ (document : Document) (other : Table) (same : AreSame document.table ot
 
   -- ---- the claim
 
-  claim_same : (budget : ℕ) (certificate : Certificate) → IsClaimFor document budget certificate → IsClaimFor twin budget certificate
+  claim_same : (budget : ℕ) (certificate : Certificate) → IsClaimFor document budget certificate →
+      IsClaimFor twin budget certificate
   claim_same budget certificate claim = record {
     wide = claim.wide;
     drawn = claim.drawn;
     cuts = claim.cuts;
-    kind = subst (λ n. IsNarrow certificate.claim ↔ (document.page < n)) (ap (least_of document) own ∙ least_same (own_number twin)) claim.kind;
+    kind = subst (λ n. IsNarrow certificate.claim ↔ (document.page < n))
+        (ap (least_of document) own ∙ least_same (own_number twin)) claim.kind;
   }
 
-  shown_same : (budget : ℕ) (certificate : Certificate) (claim : Claim) → IsShown document budget certificate claim → IsShown twin budget certificate claim
+  shown_same : (budget : ℕ) (certificate : Certificate) (claim : Claim) → IsShown document budget certificate claim →
+      IsShown twin budget certificate claim
   shown_same budget certificate (Narrow least) shown = record {
     weighed = same_chain document.table other document.style certificate.chains least same shown.weighed;
     wider = shown.wider;

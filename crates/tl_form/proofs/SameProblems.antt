@@ -10,18 +10,18 @@ use Rattle.tl_problem.specs.Problem.{ProblemModel}
 use Rattle.tl_cert.specs.declared.section.Section.{Section}
 use Rattle.tl_text.specs.Cuttings.{LeastLines}
 use Rattle.tl_text.specs.declared.paragraph.Atom.{Atom}
-use Rattle.tl_form.specs.declared.cell.Content.{out-Content}
-use Rattle.tl_form.specs.declared.cell.Content.TheOpen as open_content
-use Rattle.tl_form.specs.declared.cell.Table.{Table, out-Table}
-use Rattle.tl_form.specs.declared.cell.TableCell.{out-TableCell}
+use Rattle.tl_table.specs.declared.cell.Content.{out-Content}
+use Rattle.tl_table.specs.declared.cell.Content.TheOpen as open_content
+use Rattle.tl_table.specs.declared.cell.Table.{Table, out-Table}
+use Rattle.tl_table.specs.declared.cell.TableCell.{out-TableCell}
 use Rattle.tl_form.specs.declared.heights.InnerSteps.{InnerSteps}
 use Rattle.tl_form.specs.Nested.{AreStepsBy, AreInnerSteps, IsGreatestLower, IsLeastFound}
 use Rattle.tl_form.specs.Problems.{AreStepsOf, BlockNeeds, CellNeeds, InnerNeeds, IsCellBy, IsProblemBy, IsProblemOf, steps_for}
-use Rattle.tl_form.specs.Same.{AreSameContent, AreSameCell, AreSameBy, AreSame}
-use Rattle.tl_form.specs.Tables.{OpenTable, OpenCell, OpenContent, inner_tables}
+use Rattle.tl_table.specs.Same.{AreSameContent, AreSameCell, AreSameBy, AreSame}
+use Rattle.tl_table.specs.Tables.{OpenTable, OpenCell, OpenContent, inner_tables}
 use Rattle.tl_form.proofs.NeedSteps.{AreStepsOf-same}
-use Rattle.tl_form.proofs.SameFits.{same_least}
-use Rattle.tl_form.proofs.SameTables.{cell_turned, inner_same, same_number, same_opened, same_turned, zip_over}
+use Rattle.tl_table.proofs.SameFits.{same_least}
+use Rattle.tl_table.proofs.SameTables.{cell_turned, inner_same, same_number, same_opened, same_turned, zip_over}
 
 -- ---- what a cell needs
 
@@ -40,13 +40,16 @@ module _ (needs : Table → ℕ → ℕ → Type 0) (each : AreShared needs) whe
   needs_same a b w h is need = record {
     floor = omega (arith, is.least, need.floor);
     heights = need.heights;
-    blocks = zip_over (λ c d. AreSameContent AreSame (out-Content c) (out-Content d)) (λ c height. BlockNeeds needs (out-Content c) w height)
+    blocks = zip_over (λ c d. AreSameContent AreSame (out-Content c) (out-Content d))
+        (λ c height. BlockNeeds needs (out-Content c) w height)
         (λ d height. BlockNeeds needs (out-Content d) w height)
-        (λ c d height one. block_same (out-Content c) (out-Content d) w height one) a.blocks b.blocks need.heights is.blocks need.blocks;
+        (λ c d height one. block_same (out-Content c) (out-Content d) w height one)
+        a.blocks b.blocks need.heights is.blocks need.blocks;
     all = need.all;
   }
 
-  steps_same : (a b : OpenCell) (page : ℕ) (steps : List Config) → AreSameCell AreSame a b → AreStepsOf (CellNeeds needs a) page steps →
+  steps_same : (a b : OpenCell) (page : ℕ) (steps : List Config) → AreSameCell AreSame a b →
+      AreStepsOf (CellNeeds needs a) page steps →
       AreStepsOf (CellNeeds needs b) page steps
   steps_same a b page steps is of =
       AreStepsOf-same (CellNeeds needs a) (CellNeeds needs b) page steps (λ w h within. needs_same a b w h is)
@@ -55,7 +58,8 @@ module _ (needs : Table → ℕ → ℕ → Type 0) (each : AreShared needs) whe
 -- ---- the problem
 
 module _ (lows highs : Table → ℕ → ℕ → Type 0) (low : AreShared lows) (high : AreShared highs) where
-  made_same : (a b : OpenCell) (page : ℕ) (made : Cell) → AreSameCell AreSame a b → IsCellBy lows highs page a made → IsCellBy lows highs page b made
+  made_same : (a b : OpenCell) (page : ℕ) (made : Cell) → AreSameCell AreSame a b → IsCellBy lows highs page a made →
+      IsCellBy lows highs page b made
   made_same a b page made is one = record {
     left = one.left ∙ ap (λ (p : Place). p.left) is.place;
     right = one.right ∙ ap (λ (p : Place). p.right) is.place;
@@ -72,9 +76,11 @@ module _ (lows highs : Table → ℕ → ℕ → Type 0) (low : AreShared lows) 
     lines = one.lines ∙ is.rows;
     drawn = one.drawn;
     wide = one.wide;
-    made = zip_over (λ c d. AreSameCell AreSame (out-TableCell c) (out-TableCell d)) (λ c made. IsCellBy lows highs page (out-TableCell c) made)
+    made = zip_over (λ c d. AreSameCell AreSame (out-TableCell c) (out-TableCell d))
+        (λ c made. IsCellBy lows highs page (out-TableCell c) made)
         (λ d made. IsCellBy lows highs page (out-TableCell d) made)
-        (λ c d made each. made_same (out-TableCell c) (out-TableCell d) page made each) a.cells b.cells problem.cells is.cells one.made;
+        (λ c d made each. made_same (out-TableCell c) (out-TableCell d) page made each)
+        a.cells b.cells problem.cells is.cells one.made;
   }
 
 inner_needs : (bound : InnerSteps → List Config) (inner : List InnerSteps) → AreShared (InnerNeeds bound inner)
@@ -82,10 +88,12 @@ inner_needs bound inner a b w h same need =
     subst (λ n. IsSomeAnd (steps_for inner n) (λ one. height_at (bound one) w ≡ Some h)) (same_number a b same) need
 
 -- with the same steps of nested tables
-pub same_problem : (one other : Table) (style : Style) (page : ℕ) (inner : List InnerSteps) (problem : ProblemModel) → AreSame one other →
+pub same_problem : (one other : Table) (style : Style) (page : ℕ) (inner : List InnerSteps) (problem : ProblemModel) →
+    AreSame one other →
     IsProblemOf one style page inner problem → IsProblemOf other style page inner problem
 same_problem one other style page inner problem same is =
-    problem_same (InnerNeeds (λ s. s.low) inner) (InnerNeeds (λ s. s.high) inner) (inner_needs (λ s. s.low) inner) (inner_needs (λ s. s.high) inner)
+    problem_same (InnerNeeds (λ s. s.low) inner) (InnerNeeds (λ s. s.high) inner) (inner_needs (λ s. s.low) inner)
+    (inner_needs (λ s. s.high) inner)
     style page (out-Table one) (out-Table other) problem (same_opened one other same) is
 
 -- ---- the steps that sections give
@@ -98,13 +106,15 @@ steps_by_same style page sections a b steps same by = record {
   is_least = same_least a b style by.least same by.is_least;
   begins = by.begins;
   low = subst (λ n. AreStepsOf (λ w lower. (by.least ≤ w) × IsGreatestLower sections n w lower) page steps.low) number by.low;
-  high = subst (λ n. AreStepsOf (λ w height. (by.least ≤ w) × IsLeastFound style sections n w height) page steps.high) number by.high;
+  high = subst (λ n. AreStepsOf (λ w height. (by.least ≤ w) × IsLeastFound style sections n w height) page steps.high)
+      number by.high;
 } where
   number : (out-Table a).number ≡ (out-Table b).number
   number = same_number a b same
 
 -- sections give the tables nested directly in them the same steps
-pub same_inner : (one other : Table) (style : Style) (page : ℕ) (sections : List Section) (inner : List InnerSteps) → AreSame one other →
+pub same_inner : (one other : Table) (style : Style) (page : ℕ) (sections : List Section) (inner : List InnerSteps) →
+    AreSame one other →
     AreInnerSteps one style page sections inner → AreInnerSteps other style page sections inner
 same_inner one other style page sections inner same are =
     zip_over AreSame (AreStepsBy style page sections) (AreStepsBy style page sections) (steps_by_same style page sections)

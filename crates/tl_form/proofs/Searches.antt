@@ -3,8 +3,8 @@ use Rattle.std.proofs.Common.{◌≡◌, ℕ, zero, suc, ◌+◌, ◌<◌, ◌�
 use Rattle.std.specs.List.{AllByRecursion}
 use Rattle.std.proofs.lemmas.Bool.{cases_lt}
 use Rattle.tl_base.proofs.Sums.{sum-cons}
-use Rattle.tl_problem.specs.Sizes.{total}
-use Rattle.tl_problem.proofs.SizeLaws.{sum-total}
+use Rattle.tl_base.specs.Sizes.{total}
+use Rattle.tl_base.proofs.SizeLaws.{sum-total}
 
 -- it is so, or it is not
 abbrev pub Decides : Type 0 → Type 0
@@ -20,10 +20,12 @@ None n most Kind = (xs : List ℕ) → length xs ≡ n → AllByRecursion (λ x.
 
 -- no list that begins with a number up to `upto` is of it
 abbrev NoneUpTo : ℕ → ℕ → ℕ → (List ℕ → Type 0) → Type 0
-NoneUpTo upto n most Kind = (x : ℕ) (xs : List ℕ) → x ≤ upto → length xs ≡ n → AllByRecursion (λ y. y ≤ most) xs → Kind (x ∷ xs) → ⊥
+NoneUpTo upto n most Kind = (x : ℕ) (xs : List ℕ) → x ≤ upto → length xs ≡ n → AllByRecursion (λ y. y ≤ most) xs →
+    Kind (x ∷ xs) → ⊥
 
 -- by first numbers
-by-first : (n most : ℕ) (Kind : List ℕ → Type 0) → ((x : ℕ) → Found n (λ xs. Kind (x ∷ xs)) ⊎ None n most (λ xs. Kind (x ∷ xs))) → (upto : ℕ) →
+by-first : (n most : ℕ) (Kind : List ℕ → Type 0) → ((x : ℕ) →
+    Found n (λ xs. Kind (x ∷ xs)) ⊎ None n most (λ xs. Kind (x ∷ xs))) → (upto : ℕ) →
     Found (suc n) Kind ⊎ NoneUpTo upto n most Kind
 by-first n most Kind each zero =
     elim (each zero) [
@@ -91,7 +93,8 @@ pub first-of : (Kind : ℕ → Type 0) → ((n : ℕ) → Decides (Kind n)) → 
     (least : ℕ) × Kind least × ((n : ℕ) → Kind n → n < least → ⊥)
 first-of Kind decide most is = from 0 most (omega arith) (λ n one less. omega (arith, less))
   where
-    from : (start rest : ℕ) → start + rest ≡ most → ((n : ℕ) → Kind n → n < start → ⊥) → (least : ℕ) × Kind least × ((n : ℕ) → Kind n → n < least → ⊥)
+    from : (start rest : ℕ) → start + rest ≡ most → ((n : ℕ) → Kind n → n < start → ⊥) →
+        (least : ℕ) × Kind least × ((n : ℕ) → Kind n → n < least → ⊥)
     from start zero end none = (start, subst Kind (let same : most ≡ start = omega (arith, end) in same) is, none)
     from start (suc rest) end none =
         elim (decide start) [

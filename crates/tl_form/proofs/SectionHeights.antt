@@ -27,20 +27,24 @@ item_any P xs x has is = (has.0, x, has.1, has.2, is)
 
 -- ---- at wider pages no more
 
-lower_le : (told : List Told) (v w a b : ℕ) → v ≤ w → IsMost (IsAsWideAs v) (λ one. one.lower) told a → IsMost (IsAsWideAs w) (λ one. one.lower) told b → b ≤ a
+lower_le : (told : List Told) (v w a b : ℕ) → v ≤ w → IsMost (IsAsWideAs v) (λ one. one.lower) told a →
+    IsMost (IsAsWideAs w) (λ one. one.lower) told b → b ≤ a
 lower_le told v w a b wider first second =
-    let at = any_all (λ one. IsAsWideAs w one × (one.lower ≡ b)) (λ one. IsAsWideAs v one → one.lower ≤ a) told second.attained first.never_more in
+    let at = any_all (λ one. IsAsWideAs w one × (one.lower ≡ b)) (λ one. IsAsWideAs v one →
+    one.lower ≤ a) told second.attained first.never_more in
     let counts = at.1.0 in
     omega (arith, at.1.1, at.2 (omega (arith, counts, wider)))
 
 found_le : (told : List Told) (v w a b : ℕ) → v ≤ w → IsFewest (IsPlacedIn v) (λ one. one.height) told a →
     IsFewest (IsPlacedIn w) (λ one. one.height) told b → b ≤ a
 found_le told v w a b wider first second =
-    let at = any_all (λ one. IsPlacedIn v one × (one.height ≡ a)) (λ one. IsPlacedIn w one → b ≤ one.height) told first.attained second.never_less in
+    let at = any_all (λ one. IsPlacedIn v one × (one.height ≡ a)) (λ one. IsPlacedIn w one →
+    b ≤ one.height) told first.attained second.never_less in
     let counts = at.1.0 in
     omega (arith, at.1.1, at.2 (omega (arith, counts, wider)))
 
-pub height_falls : (bound : Bound) (told : List Told) (v w a b : ℕ) → v ≤ w → TellsHeight bound told v a → TellsHeight bound told w b → b ≤ a
+pub height_falls : (bound : Bound) (told : List Told) (v w a b : ℕ) → v ≤ w → TellsHeight bound told v a →
+    TellsHeight bound told w b → b ≤ a
 height_falls Low told v w a b wider first second = lower_le told v w a b wider first second
 height_falls High told v w a b wider first second = found_le told v w a b wider first second
 
@@ -63,35 +67,42 @@ module _ (style : Style) (number : ℕ) (sections : List Section) where
       let among = filter-Contains (λ section. section.table == number) sections mapped.0 mapped.1 in
       (mapped.0, among.0, eqb-true mapped.0.table number among.1, mapped.2)
 
-  section_told : (section : Section) → Contains sections section → section.table ≡ number → Contains (told_by style number sections) (told_of style section)
+  section_told : (section : Section) → Contains sections section → section.table ≡ number →
+      Contains (told_by style number sections) (told_of style section)
   section_told section has of =
       Contains-map (told_of style) (filter (λ each. each.table == number) sections) section
       (Contains-filter (λ each. each.table == number) sections section (eq-eqb section.table number of) has)
 
-  pub lower_told : (w h : ℕ) → IsGreatestLower sections number w h → IsMost (IsAsWideAs w) (λ one. one.lower) (told_by style number sections) h
+  pub lower_told : (w h : ℕ) → IsGreatestLower sections number w h →
+      IsMost (IsAsWideAs w) (λ one. one.lower) (told_by style number sections) h
   lower_told w h is =
       let at = any_item (λ section. IsAsWide number w section × (section.lower ≡ h)) sections is.attained in record {
         attained = item_any (λ one. IsAsWideAs w one × (one.lower ≡ h)) (told_by style number sections) (told_of style at.0)
             (section_told at.0 at.1 at.2.0.of) (at.2.0.wide, at.2.1);
-        never_more = All-from_Contains (λ one. IsAsWideAs w one → one.lower ≤ h) (told_by style number sections) (λ one has counts.
+        never_more = All-from_Contains (λ one. IsAsWideAs w one →
+            one.lower ≤ h) (told_by style number sections) (λ one has counts.
             let by = told_section one has in
             let wide : IsAsWideAs w (told_of style by.0) = subst (IsAsWideAs w) (sym by.3) counts in
             subst (λ each. each.lower ≤ h) by.3
-            (All-contains (λ section. IsAsWide number w section → section.lower ≤ h) sections by.0 is.never_more by.1 (record { of = by.2; wide = wide })));
+            (All-contains (λ section. IsAsWide number w section →
+            section.lower ≤ h) sections by.0 is.never_more by.1 (record { of = by.2; wide = wide })));
       }
 
-  pub told_lower : (w h : ℕ) → IsMost (IsAsWideAs w) (λ one. one.lower) (told_by style number sections) h → IsGreatestLower sections number w h
+  pub told_lower : (w h : ℕ) → IsMost (IsAsWideAs w) (λ one. one.lower) (told_by style number sections) h →
+      IsGreatestLower sections number w h
   told_lower w h is =
       let at = any_item (λ one. IsAsWideAs w one × (one.lower ≡ h)) (told_by style number sections) is.attained in
       let by = told_section at.0 at.1 in record {
         attained = item_any (λ section. IsAsWide number w section × (section.lower ≡ h)) sections by.0 by.1
             (record { of = by.2; wide = subst (IsAsWideAs w) (sym by.3) at.2.0 }, ap (λ (each : Told). each.lower) by.3 ∙ at.2.1);
         never_more = All-from_Contains (λ section. IsAsWide number w section → section.lower ≤ h) sections (λ section has counts.
-            All-contains (λ one. IsAsWideAs w one → one.lower ≤ h) (told_by style number sections) (told_of style section) is.never_more
+            All-contains (λ one. IsAsWideAs w one → one.lower ≤ h) (told_by style number sections) (told_of style section)
+            is.never_more
             (section_told section has counts.of) counts.wide);
       }
 
-  uncapped : (w : ℕ) (section : Section) → w < 2 ^ 64 - 1 → capped (placed_width style section) ≤ w → placed_width style section ≤ w
+  uncapped : (w : ℕ) (section : Section) → w < 2 ^ 64 - 1 → capped (placed_width style section) ≤ w →
+      placed_width style section ≤ w
   uncapped w section small narrow = omega (arith, small, narrow)
 
   pub found_told : (w h : ℕ) → w < 2 ^ 64 - 1 → IsLeastFound style sections number w h →
@@ -100,7 +111,8 @@ module _ (style : Style) (number : ℕ) (sections : List Section) where
       let at = any_item (λ section. IsWithin style number w section × (section.height ≡ h)) sections is.attained in record {
         attained = item_any (λ one. IsPlacedIn w one × (one.height ≡ h)) (told_by style number sections) (told_of style at.0)
             (section_told at.0 at.1 at.2.0.of) (under at.0 at.2.0.narrow, at.2.1);
-        never_less = All-from_Contains (λ one. IsPlacedIn w one → h ≤ one.height) (told_by style number sections) (λ one has counts.
+        never_less = All-from_Contains (λ one. IsPlacedIn w one →
+            h ≤ one.height) (told_by style number sections) (λ one has counts.
             let by = told_section one has in
             let narrow : IsPlacedIn w (told_of style by.0) = subst (IsPlacedIn w) (sym by.3) counts in
             subst (λ each. h ≤ each.height) by.3
@@ -116,9 +128,13 @@ module _ (style : Style) (number : ℕ) (sections : List Section) where
   told_found w h small is =
       let at = any_item (λ one. IsPlacedIn w one × (one.height ≡ h)) (told_by style number sections) is.attained in
       let by = told_section at.0 at.1 in record {
-        attained = item_any (λ section. IsWithin style number w section × (section.height ≡ h)) sections by.0 by.1
-            (record { of = by.2; narrow = uncapped w by.0 small (subst (IsPlacedIn w) (sym by.3) at.2.0) }, ap (λ (each : Told). each.height) by.3 ∙ at.2.1);
-        never_less = All-from_Contains (λ section. IsWithin style number w section → h ≤ section.height) sections (λ section has counts.
-            All-contains (λ one. IsPlacedIn w one → h ≤ one.height) (told_by style number sections) (told_of style section) is.never_less
+        attained = item_any (λ section. IsWithin style number w section × (section.height ≡ h)) sections by.0 by.1 (
+          record { of = by.2; narrow = uncapped w by.0 small (subst (IsPlacedIn w) (sym by.3) at.2.0) },
+          ap (λ (each : Told). each.height) by.3 ∙ at.2.1,
+        );
+        never_less = All-from_Contains (λ section. IsWithin style number w section →
+            h ≤ section.height) sections (λ section has counts.
+            All-contains (λ one. IsPlacedIn w one → h ≤ one.height) (told_by style number sections) (told_of style section)
+            is.never_less
             (section_told section has counts.of) (let narrow = counts.narrow in omega (arith, narrow)));
       }

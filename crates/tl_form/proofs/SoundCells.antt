@@ -11,16 +11,16 @@ use Rattle.tl_base.proofs.Members.{AllByRecursion-weaker}
 use Rattle.tl_base.proofs.Stacking.{first_width-within}
 use Rattle.tl_problem.specs.declared.cell.Cell.{Cell}
 use Rattle.tl_problem.proofs.Heights.{IsLowAt-from, IsLowAt-higher, IsLowAt-same, height-from_first, height-from_low}
-use Rattle.tl_form.specs.declared.cell.Table.{Table, out-Table}
-use Rattle.tl_form.specs.declared.cell.TableCell.{TableCell, out-TableCell}
+use Rattle.tl_table.specs.declared.cell.Table.{Table, out-Table}
+use Rattle.tl_table.specs.declared.cell.TableCell.{TableCell, out-TableCell}
 use Rattle.tl_form.specs.declared.heights.InnerSteps.{InnerSteps}
-use Rattle.tl_form.specs.declared.layout.Layout.{Layout}
-use Rattle.tl_form.specs.Layouts.{Fits, FitsRoom}
-use Rattle.tl_form.specs.Tables.{OpenCell, tables_in}
+use Rattle.tl_table.specs.declared.layout.Layout.{Layout}
+use Rattle.tl_table.specs.Layouts.{Fits, FitsRoom}
+use Rattle.tl_table.specs.Tables.{OpenCell, tables_in}
 use Rattle.tl_form.specs.Problems.{CellNeeds, InnerNeeds, IsCellBy, steps_for}
-use Rattle.tl_form.specs.Sound.{IsSpelt, cell_size, table_size}
+use Rattle.tl_table.specs.Sound.{IsSpelt, cell_size, table_size}
 use Rattle.tl_form.specs.SoundProblems.{AreSoundSteps}
-use Rattle.tl_form.specs.declared.cell.Content.{out-Content}
+use Rattle.tl_table.specs.declared.cell.Content.{out-Content}
 use Rattle.tl_form.proofs.CellHeights.{adds-any, adds-less, cell-by, cell-small}
 use Rattle.tl_form.proofs.CellNeedLemmas.{inner-functional}
 use Rattle.tl_form.proofs.NeedSteps.{first-least, height-falls, height-first, height-past}
@@ -43,7 +43,8 @@ module _ (inner : List InnerSteps) (style : Style) (page : ℕ) where
   abbrev pub HasSound : Table → Type 0
   HasSound nested = IsSomeAnd (steps_for inner (out-Table nested).number) (AreSoundSteps style page nested)
 
-  module _ (bound : InnerSteps → List Config) (nested : Table) (one : InnerSteps) (is : steps_for inner (out-Table nested).number ≡ Some one) where
+  module _ (bound : InnerSteps → List Config) (nested : Table) (one : InnerSteps)
+      (is : steps_for inner (out-Table nested).number ≡ Some one) where
     needs-to : (w h : ℕ) → InnerNeeds bound inner nested w h → height_at (bound one) w ≡ Some h
     needs-to w h need = subst (λ o. IsSomeAnd o (λ any. height_at (bound any) w ≡ Some h)) is need
 
@@ -87,7 +88,8 @@ module _ (inner : List InnerSteps) (style : Style) (page : ℕ) where
       (low.0, needs-of (λ one. one.low) nested at.0 at.1 w low.0 low.1, low.2)
 
   -- a nested table that fits has a lower bound
-  fits-low : (nested : Table) (w height : ℕ) (layout : Layout) → HasSound nested → Fits nested style w height layout → (k : ℕ) × lows nested w k
+  fits-low : (nested : Table) (w height : ℕ) (layout : Layout) → HasSound nested → Fits nested style w height layout →
+      (k : ℕ) × lows nested w k
   fits-low nested w height layout has fits =
       let at = opened {P = AreSoundSteps style page nested} (steps_for inner (out-Table nested).number) has in
       let least = at.2.least.least w height layout fits in
@@ -100,7 +102,8 @@ module _ (inner : List InnerSteps) (style : Style) (page : ℕ) where
       let at = opened {P = AreSoundSteps style page nested} (steps_for inner (out-Table nested).number) has in
       let high = needs-to (λ one. one.high) nested at.0 at.1 w h need in
       let least = first-least at.0.high at.2.decreasing.1 w h high in
-      let fall = height-falls at.0.high at.2.decreasing.1 (first_width at.0.high) w (first_height at.0.high) h least (height-first at.0.high at.2.decreasing.1)
+      let fall = height-falls at.0.high at.2.decreasing.1 (first_width at.0.high) w (first_height at.0.high) h least
+      (height-first at.0.high at.2.decreasing.1)
       high in
       omega (arith, fall, at.2.small)
 
@@ -116,14 +119,16 @@ module _ (inner : List InnerSteps) (style : Style) (page : ℕ) where
     cell-low-high : (w h : ℕ) → CellNeeds lows cell w h → (k : ℕ) × CellNeeds highs cell w k
     cell-low-high w h need =
         let by = cell-by (λ m n. Unit {0}) adds-any lows highs w cell h
-        (AllByRecursion-weaker HasSound (λ nested. (m : ℕ) → lows nested w m → (n : ℕ) × highs nested w n × Unit {0}) (tables_in cell)
+        (AllByRecursion-weaker HasSound (λ nested. (m : ℕ) → lows nested w m →
+        (n : ℕ) × highs nested w n × Unit {0}) (tables_in cell)
         (λ nested has m low. let high = low-high nested w m has low in (high.0, high.1, tt)) have) need in
         (by.0, by.1)
 
     cell-high-low : (w h : ℕ) → w ≤ page → CellNeeds highs cell w h → (k : ℕ) × CellNeeds lows cell w k × (k ≤ h)
     cell-high-low w h within need =
         cell-by (λ m n. n ≤ m) adds-less highs lows w cell h
-        (AllByRecursion-weaker HasSound (λ nested. (m : ℕ) → highs nested w m → (n : ℕ) × lows nested w n × (n ≤ m)) (tables_in cell)
+        (AllByRecursion-weaker HasSound (λ nested. (m : ℕ) → highs nested w m →
+        (n : ℕ) × lows nested w n × (n ≤ m)) (tables_in cell)
         (λ nested has m high. high-low nested w m within has high) have) need
 
     -- where a cell fits it has a height
@@ -136,9 +141,14 @@ module _ (inner : List InnerSteps) (style : Style) (page : ℕ) where
     cell-fits-low fits any w h parts room =
         let flat = cell-below fits Flat w cell h parts
         (AllByRecursion-weaker HasSound (IsBelowAt fits Flat w) (tables_in cell)
-        (λ nested has height layout held. (0, (fits-low nested w height layout has (any nested w height layout held), refl), omega arith)) have) room in
+        (λ nested has height layout held. (
+          0,
+          (fits-low nested w height layout has (any nested w height layout held), refl),
+          omega arith,
+        )) have) room in
         let by = cell-by (λ m n. Unit {0}) adds-any Flat lows w cell flat.0
-        (AllByRecursion-weaker HasSound (λ nested. (m : ℕ) → Flat nested w m → (n : ℕ) × lows nested w n × Unit {0}) (tables_in cell)
+        (AllByRecursion-weaker HasSound (λ nested. (m : ℕ) → Flat nested w m →
+        (n : ℕ) × lows nested w n × Unit {0}) (tables_in cell)
         (λ nested has m low. (low.0.0, low.0.1, tt)) have) flat.1 in
         (by.0, by.1)
 
@@ -202,14 +212,17 @@ module _ (inner : List InnerSteps) (style : Style) (page : ℕ) where
             | inl past ↦
                 let high = height-past page made.high of.high.within w (omega (arith, past)) in
                 let low = height-past page made.low of.low.within w (omega (arith, past)) in
-                IsLowAt-same made.low h page w low (below-within h page (omega arith) (IsLowAt-same made.high h w page (sym high) is))
+                IsLowAt-same made.low h page w low (below-within h page (omega arith)
+                (IsLowAt-same made.high h w page (sym high) is))
           ]
 
   -- a height of a cell is small
   pub high-cell-small : (cell : TableCell) (w h : ℕ) → AllByRecursion HasSound (tables_in (out-TableCell cell)) →
-      AllByRecursion (λ block. IsSpelt (out-Content block)) (out-TableCell cell).blocks → CellNeeds highs (out-TableCell cell) w h →
+      AllByRecursion (λ block. IsSpelt (out-Content block)) (out-TableCell cell).blocks →
+      CellNeeds highs (out-TableCell cell) w h →
       h + 2 ≤ 2 * cell_size cell
   high-cell-small cell w h have spelt need =
       cell-small highs w cell h spelt
-      (AllByRecursion-weaker HasSound (λ nested. (m : ℕ) → highs nested w m → m ≤ 2 * table_size nested) (tables_in (out-TableCell cell))
+      (AllByRecursion-weaker HasSound (λ nested. (m : ℕ) → highs nested w m →
+      m ≤ 2 * table_size nested) (tables_in (out-TableCell cell))
       (λ nested has m high. high-small nested w m has high) have) need

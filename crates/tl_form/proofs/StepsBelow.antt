@@ -1,6 +1,8 @@
 -- Steps that are found width by width: at each width one more, where the height is lower.
-use Rattle.std.proofs.Common.{◌≡◌, ◌∙◌, ℕ, zero, suc, ◌+◌, ◌-◌, ◌<◌, ◌≤◌, nat_le, nat_lt, Bool, false, cond, if◌then◌else◌, List, [], ◌∷◌}
-use Rattle.std.proofs.Common.{◌++◌, ◌⊎◌, inl, inr, length, get_or, filter, slice_get, option_map, Option, None, Some, refl, sym, ap, subst, arith}
+use Rattle.std.proofs.Common.{◌≡◌, ◌∙◌, ℕ, zero, suc, ◌+◌, ◌-◌, ◌<◌, ◌≤◌, nat_le, nat_lt, Bool, false, cond, if◌then◌else◌, List}
+use Rattle.std.proofs.Common.{[], ◌∷◌}
+use Rattle.std.proofs.Common.{◌++◌, ◌⊎◌, inl, inr, length, get_or, filter, slice_get, option_map, Option, None, Some, refl, sym}
+use Rattle.std.proofs.Common.{ap, subst, arith}
 use Rattle.std.proofs.Common.{length-append}
 use Rattle.std.specs.List.{All, last_or}
 use Rattle.std.proofs.lemmas.Bool.{cases_lt}
@@ -25,11 +27,15 @@ last_push : {X : Type 0} (o : Option X) (xs : List X) (x : X) → last_or o (xs 
 last_push o [] x = refl
 last_push o (y ∷ xs) x = last_push (Some y) xs x
 
-height_push-below : (steps : List Config) (step : Config) (w : ℕ) → w < step.width → height_at (steps ++ step ∷ []) w ≡ height_at steps w
-height_push-below steps step w less = height_at-push steps step w ∙ ap (λ b. cond b (Some step.height) (height_at steps w)) (test_le_false less)
+height_push-below : (steps : List Config) (step : Config) (w : ℕ) → w < step.width →
+    height_at (steps ++ step ∷ []) w ≡ height_at steps w
+height_push-below steps step w less = height_at-push steps step w ∙ ap (λ b. cond b (Some step.height) (height_at steps w))
+    (test_le_false less)
 
-height_push-past : (steps : List Config) (step : Config) (w : ℕ) → step.width ≤ w → height_at (steps ++ step ∷ []) w ≡ Some step.height
-height_push-past steps step w more = height_at-push steps step w ∙ ap (λ b. cond b (Some step.height) (height_at steps w)) (test_le more)
+height_push-past : (steps : List Config) (step : Config) (w : ℕ) → step.width ≤ w →
+    height_at (steps ++ step ∷ []) w ≡ Some step.height
+height_push-past steps step w more = height_at-push steps step w ∙ ap (λ b. cond b (Some step.height) (height_at steps w))
+    (test_le more)
 
 -- where all steps are narrow enough the last has the height
 height_all : (steps : List Config) (w : ℕ) → 0 < length steps → All (λ step. step.width ≤ w) steps →
@@ -41,7 +47,8 @@ height_all steps w some narrow =
     whole : (xs : List Config) → All (λ step. step.width ≤ w) xs → filter (λ step. nat_le step.width w) xs ≡ xs
     whole [] all = refl
     whole (x ∷ xs) all =
-        ap (λ b. cond b (x ∷ filter (λ step. nat_le step.width w) xs) (filter (λ step. nat_le step.width w) xs)) (test_le (all 0 x (omega arith)))
+        ap (λ b. cond b (x ∷ filter (λ step. nat_le step.width w) xs) (filter (λ step. nat_le step.width w) xs))
+        (test_le (all 0 x (omega arith)))
         ∙ ap (λ rest. x ∷ rest) (whole xs (λ k d within. all (suc k) d (omega arith)))
 
     last_is : (o : Option Config) (xs : List Config) → 0 < length xs → last_or o xs ≡ Some (get_or xs (length xs - 1) no_step)
@@ -78,7 +85,8 @@ module _ (needs : ℕ → ℕ → Type 0) (functional : (w a b : ℕ) → needs 
     pushed some lower = record {
       decreasing = all_pairs_push (λ a b. (a.width < b.width) × (b.height < a.height)) steps step below.decreasing
           (λ k d within. (below.before k d within, above k d within));
-      before = All-push (λ each. each.width < w + 1) steps step (λ k d within. omega (arith, below.before k d within)) (omega arith);
+      before = All-push (λ each. each.width < w + 1) steps step (λ k d within. omega (arith, below.before k d within))
+          (omega arith);
       some = λ less. omega (arith, length-append steps (step ∷ []));
       first = λ many. first_kept steps below.first;
       each = λ v before since. at v before since (cases_lt v w);
@@ -91,13 +99,15 @@ module _ (needs : ℕ → ℕ → Type 0) (functional : (w a b : ℕ) → needs 
       ]
         where
           same_last : (d : Config) → (get_or steps (length steps - 1) d).height ≡ last.height
-          same_last d = ap (λ (s : Config). s.height) (same_Some _ _ (sym (slice_get-get_or steps (length steps - 1) d (omega arith))
+          same_last d = ap (λ (s : Config). s.height) (same_Some _ _
+              (sym (slice_get-get_or steps (length steps - 1) d (omega arith))
               ∙ slice_get-get_or steps (length steps - 1) no_step (omega arith)))
 
       first_kept : (xs : List Config) → (0 < length xs → first_width xs ≡ least) → first_width (steps ++ step ∷ []) ≡ least
       first_kept xs first = by_list steps some below.first
         where
-          by_list : (xs : List Config) → 0 < length xs → (0 < length xs → first_width xs ≡ least) → first_width (xs ++ step ∷ []) ≡ least
+          by_list : (xs : List Config) → 0 < length xs → (0 < length xs → first_width xs ≡ least) →
+              first_width (xs ++ step ∷ []) ≡ least
           by_list [] none first = absurd (omega (arith, none))
           by_list (x ∷ xs) some first = first some
 
@@ -147,7 +157,8 @@ module _ (needs : ℕ → ℕ → Type 0) (functional : (w a b : ℕ) → needs 
 
       stays : h ≡ last.height
       stays =
-          let same : previous.0 ≡ last.height = same_Some _ _ (sym previous.1 ∙ height_all steps (w - 1) some (narrow (w - 1) (omega (arith, before_w)))) in
+          let same : previous.0 ≡ last.height = same_Some _ _
+          (sym previous.1 ∙ height_all steps (w - 1) some (narrow (w - 1) (omega (arith, before_w)))) in
           omega (arith, higher, same, falls (w - 1) w previous.0 h (omega arith) previous.2 here)
 
       at : (v : ℕ) → v < w + 1 → least ≤ v → (v < w) ⊎ (w ≤ v) → (n : ℕ) × (height_at steps v ≡ Some n) × needs v n
@@ -185,7 +196,8 @@ module _ (needs : ℕ → ℕ → Type 0) (functional : (w a b : ℕ) → needs 
     within = λ k d within. omega (arith, below.before k d within);
     each = λ w h within. (
       (λ is. forth w h within is),
-      (λ need. let found = below.each w (omega (arith, within)) need.0 in found.1 ∙ ap Some (functional w found.0 h found.2 need.1)),
+      (λ need. let found = below.each w (omega (arith, within)) need.0 in
+          found.1 ∙ ap Some (functional w found.0 h found.2 need.1)),
     );
   } where
     are : AreSteps steps
@@ -197,5 +209,6 @@ module _ (needs : ℕ → ℕ → Type 0) (functional : (w a b : ℕ) → needs 
         let found = below.each w (omega (arith, within)) since in
         (since, subst (needs w) (same_Some _ _ (sym found.1 ∙ is)) found.2)
 
-  pub below_begins : (page : ℕ) (steps : List Config) → least ≤ page → AreStepsBelow needs least (page + 1) steps → first_width steps ≡ least
+  pub below_begins : (page : ℕ) (steps : List Config) → least ≤ page → AreStepsBelow needs least (page + 1) steps →
+      first_width steps ≡ least
   below_begins page steps wide below = below.first (below.some (omega (arith, wide)))

@@ -12,18 +12,18 @@ use Rattle.tl_base.proofs.Sums.{sum-cons}
 use Rattle.tl_text.specs.declared.paragraph.Atom.{Atom}
 use Rattle.tl_text.specs.Cuttings.{LeastLines}
 use Rattle.tl_text.proofs.Paragraphs.{LeastLines-falls}
-use Rattle.tl_form.specs.declared.cell.Content.{Content, out-Content}
-use Rattle.tl_form.specs.declared.cell.Content.TheOpen as open_content
-use Rattle.tl_form.specs.declared.cell.Table.{Table}
-use Rattle.tl_form.specs.Chains.{widest_unit}
-use Rattle.tl_form.specs.Tables.{OpenCell, OpenContent, tables_in, tables_of}
+use Rattle.tl_table.specs.declared.cell.Content.{Content, out-Content}
+use Rattle.tl_table.specs.declared.cell.Content.TheOpen as open_content
+use Rattle.tl_table.specs.declared.cell.Table.{Table}
+use Rattle.tl_table.specs.Chains.{widest_unit}
+use Rattle.tl_table.specs.Tables.{OpenCell, OpenContent, tables_in, tables_of}
 use Rattle.tl_form.specs.Problems.{AreStepsOf, BlockNeeds, CellNeeds}
 use Rattle.tl_form.specs.inner.CellSteps.{BlocksNeed, IsStart}
 use Rattle.tl_form.proofs.CellNeedLemmas.{blocks-cell, cell-blocks}
 use Rattle.tl_form.proofs.NeedSteps.{IsDecreasing, AreStepsOf-from, height-own, step-at}
 use Rattle.tl_form.proofs.ParagraphSteps.{fit-from_lines, lines-from_fit}
-use Rattle.tl_form.proofs.SoundParts.{each_joined}
-use Rattle.tl_form.proofs.OwnWidths.{fit_of_widest, widest_of_fit}
+use Rattle.tl_table.proofs.SoundParts.{each_joined}
+use Rattle.tl_table.proofs.OwnWidths.{fit_of_widest, widest_of_fit}
 
 -- ---- steps, width by width
 
@@ -56,7 +56,8 @@ module _ (needs : ℕ → ℕ → Type 0) (start : ℕ) (begins : IsStart needs 
       )
 
   -- the steps up to the next width
-  next-steps : (page : ℕ) → start ≤ page → (steps : List Config) → AreStepsOf needs page steps → (more : List Config) × AreStepsOf needs (suc page) more
+  next-steps : (page : ℕ) → start ≤ page → (steps : List Config) → AreStepsOf needs page steps →
+      (more : List Config) × AreStepsOf needs (suc page) more
   next-steps page within steps of =
       let here = begins.has page within in
       let next = begins.has (suc page) (omega (arith, within)) in
@@ -73,13 +74,15 @@ module _ (needs : ℕ → ℕ → Type 0) (start : ℕ) (begins : IsStart needs 
                           | inl none ↦ absurd (Contains-none other none)
                           | inr is ↦
                               let before = step-before one first in
-                              subst (λ (step : Config). Falls one step) is (omega (arith, before.0), omega (arith, before.1, lower))
+                              subst (λ (step : Config). Falls one step) is
+                              (omega (arith, before.0), omega (arith, before.1, lower))
                         ]);
                   })
                   (decreasing (suc page))
                   (λ step has. elim (Contains-push_cases steps last step has) [
                     | inl old ↦ let before = step-before step old in (omega (arith, before.0), before.2)
-                    | inr is ↦ subst (λ (one : Config). (one.width ≤ suc page) × needs one.width one.height) is (omega arith, next.1)
+                    | inr is ↦ subst (λ (one : Config). (one.width ≤ suc page) × needs one.width one.height) is
+                        (omega arith, next.1)
                   ])
                   (λ w n narrow need. elim (cases_lt w (suc page)) [
                     | inl old ↦
@@ -111,14 +114,16 @@ module _ (needs : ℕ → ℕ → Type 0) (start : ℕ) (begins : IsStart needs 
         )
       ]
     where
-      step-before : (step : Config) → Contains steps step → (step.width ≤ page) × ((begins.has page within).0 ≤ step.height) × needs step.width step.height
+      step-before : (step : Config) → Contains steps step → (step.width ≤ page) × ((begins.has page within).0 ≤ step.height) ×
+          needs step.width step.height
       step-before step has =
           let narrow = All-contains (λ (one : Config). one.width ≤ page) steps step of.within has in
           let need = (of.each step.width step.height narrow).0 (height-own steps of.decreasing step has) in
           (narrow, falls step.width page step.height (begins.has page within).0 narrow need (begins.has page within).1, need)
 
   steps-after : (n : ℕ) → (steps : List Config) × AreStepsOf needs (start + n) steps
-  steps-after zero = let same : start ≡ start + 0 = omega arith in (first-steps.0, subst (λ page. AreStepsOf needs page first-steps.0) same first-steps.1)
+  steps-after zero = let same : start ≡ start + 0 = omega arith in
+      (first-steps.0, subst (λ page. AreStepsOf needs page first-steps.0) same first-steps.1)
   steps-after (suc n) =
       let before = steps-after n in
       let more = next-steps (start + n) (omega arith) before.0 before.1 in
@@ -149,16 +154,20 @@ pub record HasStart (needs : Table → ℕ → ℕ → Type 0) (nested : Table) 
   pub falls : (v w m n : ℕ) → v ≤ w → needs nested v m → needs nested w n → n ≤ m
 
 module _ (needs : Table → ℕ → ℕ → Type 0) where
-  pub block-start : (block : OpenContent) → AllByRecursion (HasStart needs) (tables_of block) → (start : ℕ) × IsStart (BlockNeeds needs block) start
+  pub block-start : (block : OpenContent) → AllByRecursion (HasStart needs) (tables_of block) →
+      (start : ℕ) × IsStart (BlockNeeds needs block) start
   block-start (open_content.Para paragraph) have = (widest_unit paragraph, paragraph-start paragraph)
   block-start (open_content.Table box) have = (have.0.start, have.0.begins)
 
-  block-falls : (block : OpenContent) → AllByRecursion (HasStart needs) (tables_of block) → (v w m n : ℕ) → v ≤ w → BlockNeeds needs block v m →
+  block-falls : (block : OpenContent) → AllByRecursion (HasStart needs) (tables_of block) → (v w m n : ℕ) → v ≤ w →
+      BlockNeeds needs block v m →
       BlockNeeds needs block w n → n ≤ m
-  block-falls (open_content.Para paragraph) have v w m n wider first second = LeastLines-falls v w paragraph m n wider first second
+  block-falls (open_content.Para paragraph) have v w m n wider first second =
+      LeastLines-falls v w paragraph m n wider first second
   block-falls (open_content.Table box) have v w m n wider first second = have.0.falls v w m n wider first second
 
-  blocks-start : (floor : ℕ) (blocks : List Content) → AllByRecursion (λ block. AllByRecursion (HasStart needs) (tables_of (out-Content block))) blocks →
+  blocks-start : (floor : ℕ) (blocks : List Content) → AllByRecursion
+      (λ block. AllByRecursion (HasStart needs) (tables_of (out-Content block))) blocks →
       (start : ℕ) × IsStart (λ w h. (floor ≤ w) × BlocksNeed needs blocks w h) start
   blocks-start floor [] have = (floor, record { from = λ w h all. all.0; has = λ w wide. (0, (wide, ([], tt, refl))) })
   blocks-start floor (block ∷ blocks) have =
@@ -166,7 +175,8 @@ module _ (needs : Table → ℕ → ℕ → Type 0) where
       let rest = blocks-start floor blocks have.1 in (
         max first.0 rest.0,
         record {
-          from = λ w h all. bounds w h all.0 all.1 first.0 rest.0 (λ n here. first.1.from w n here) (λ n there. rest.1.from w n there);
+          from = λ w h all. bounds w h all.0 all.1 first.0 rest.0 (λ n here. first.1.from w n here)
+              (λ n there. rest.1.from w n there);
           has = λ w wide.
               let here = first.1.has w (omega (arith, wide)) in
               let there = rest.1.has w (omega (arith, wide)) in (
@@ -190,7 +200,8 @@ module _ (needs : Table → ℕ → ℕ → Type 0) where
       bounds w h wide (n ∷ ns, those, all) one other here there =
           omega (arith, here n those.0, there (sum ns) (wide, (ns, those.1, refl)))
 
-  blocks-fall : (blocks : List Content) → AllByRecursion (λ block. AllByRecursion (HasStart needs) (tables_of (out-Content block))) blocks →
+  blocks-fall : (blocks : List Content) →
+      AllByRecursion (λ block. AllByRecursion (HasStart needs) (tables_of (out-Content block))) blocks →
       (v w m n : ℕ) → v ≤ w → BlocksNeed needs blocks v m → BlocksNeed needs blocks w n → n ≤ m
   blocks-fall [] have v w m n wider ([], first, all) ([], second, every) = omega (arith, all, every)
   blocks-fall [] have v w m n wider (k ∷ ks, first, all) second = absurd first
@@ -208,9 +219,11 @@ module _ (needs : Table → ℕ → ℕ → Type 0) where
         every,
       )
 
-  pub cell-begins : (cell : OpenCell) → AllByRecursion (HasStart needs) (tables_in cell) → (start : ℕ) × IsStart (CellNeeds needs cell) start
+  pub cell-begins : (cell : OpenCell) → AllByRecursion (HasStart needs) (tables_in cell) →
+      (start : ℕ) × IsStart (CellNeeds needs cell) start
   cell-begins cell have =
-      let all = blocks-start cell.least cell.blocks (each_joined (HasStart needs) (λ block. tables_of (out-Content block)) cell.blocks have) in (
+      let all = blocks-start cell.least cell.blocks (each_joined (HasStart needs) (λ block. tables_of (out-Content block))
+      cell.blocks have) in (
         all.0,
         record {
           from = λ w h need. all.1.from w h (need.floor, cell-blocks needs cell w h need);
@@ -218,14 +231,17 @@ module _ (needs : Table → ℕ → ℕ → Type 0) where
         },
       )
 
-  pub cell-falls : (cell : OpenCell) → AllByRecursion (HasStart needs) (tables_in cell) → (v w m n : ℕ) → v ≤ w → CellNeeds needs cell v m →
+  pub cell-falls : (cell : OpenCell) → AllByRecursion (HasStart needs) (tables_in cell) → (v w m n : ℕ) → v ≤ w →
+      CellNeeds needs cell v m →
       CellNeeds needs cell w n → n ≤ m
   cell-falls cell have v w m n wider first second =
-      blocks-fall cell.blocks (each_joined (HasStart needs) (λ block. tables_of (out-Content block)) cell.blocks have) v w m n wider
+      blocks-fall cell.blocks (each_joined (HasStart needs) (λ block. tables_of (out-Content block)) cell.blocks have)
+      v w m n wider
       (cell-blocks needs cell v m first) (cell-blocks needs cell w n second)
 
   -- a cell that begins within the page has steps
-  pub cell-steps : (cell : OpenCell) (have : AllByRecursion (HasStart needs) (tables_in cell)) (page : ℕ) → (cell-begins cell have).0 ≤ page →
+  pub cell-steps : (cell : OpenCell) (have : AllByRecursion (HasStart needs) (tables_in cell)) (page : ℕ) →
+      (cell-begins cell have).0 ≤ page →
       (steps : List Config) × AreStepsOf (CellNeeds needs cell) page steps
   cell-steps cell have page within =
       let begin = cell-begins cell have in

@@ -1,23 +1,26 @@
 -- The document that a subject is: each number has its table, and its least width.
 use Rattle.std.proofs.Common.{◌≡◌, ◌∙◌, ℕ, ◌+◌, ◌-◌, ◌<◌, ◌≤◌, List, [], ◌∷◌, ◌++◌}
-use Rattle.std.proofs.Common.{inl, inr, length, get_or, Option, None, Some, IsSome, MatchOption, Result, Ok, Err, IfOk, refl, sym, ap, subst, arith}
+use Rattle.std.proofs.Common.{inl, inr, length, get_or, Option, None, Some, IsSome, MatchOption, Result, Ok, Err, IfOk, refl, sym}
+use Rattle.std.proofs.Common.{ap, subst, arith}
 use Rattle.std.proofs.Math.Seq.{get_or-append_seam}
 use Rattle.std.proofs.lemmas.Bool.{cases_lt}
 use Rattle.std.proofs.lemmas.List.{get_or_append_left, length_push}
 use Rattle.tl_base.specs.declared.style.Style.{Style}
-use Rattle.tl_form.specs.declared.cell.Table.{Table, out-Table}
+use Rattle.tl_table.specs.declared.cell.Table.{Table, out-Table}
 use Rattle.tl_form.specs.Expected.{IsDocumentOf}
-use Rattle.tl_form.specs.Least.{IsLeastWidth}
-use Rattle.tl_form.specs.Numbered.{HasNumber, LacksNumber}
-use Rattle.tl_form.specs.Problems.{IsAmong}
-use Rattle.tl_form.specs.Sound.{IsSound, nested_in_table}
-use Rattle.tl_form.proofs.TableNumbers.{one_of_number, number_within, table_of_number}
+use Rattle.tl_table.specs.Least.{IsLeastWidth}
+use Rattle.tl_table.specs.Numbered.{HasNumber, LacksNumber}
+use Rattle.tl_table.specs.Tables.{IsAmong}
+use Rattle.tl_table.specs.Sound.{IsSound, nested_in_table}
+use Rattle.tl_table.proofs.TableNumbers.{one_of_number, number_within, table_of_number}
 
 -- ---- each number has its table
 
-pub is_there : {X : Type 0} (table : Table) (n : ℕ) (o : Option X) (P : X → Type 0) → IsSound table → (out-Table table).number ≤ n →
+pub is_there : {X : Type 0} (table : Table) (n : ℕ) (o : Option X) (P : X → Type 0) → IsSound table →
+    (out-Table table).number ≤ n →
     n ≤ (out-Table table).number + nested_in_table table → MatchOption o (LacksNumber table n) P → IsSome o
-is_there table n None P sound from upto lacks = let one = table_of_number table n sound from upto in absurd (lacks one.0 one.1 one.2)
+is_there table n None P sound from upto lacks = let one = table_of_number table n sound from upto in
+    absurd (lacks one.0 one.1 one.2)
 is_there table n (Some x) P sound from upto has = refl
 
 pub it_is : {X : Type 0} (L : Type 0) (o : Option X) (x : X) (P : X → Type 0) → o ≡ Some x → MatchOption o L P → P x
@@ -42,9 +45,11 @@ pub record LeastsSoFar (table : Table) (style : Style) (k : ℕ) (least : List �
       IsLeastWidth one style (get_or least i d)
 
 pub leasts_none : (table : Table) (style : Style) (least : List ℕ) → least ≡ [] → LeastsSoFar table style 0 least
-leasts_none table style least none = subst (LeastsSoFar table style 0) (sym none) (record { count = refl; each = λ i d less. absurd (omega (arith, less)) })
+leasts_none table style least none = subst (LeastsSoFar table style 0) (sym none)
+    (record { count = refl; each = λ i d less. absurd (omega (arith, less)) })
 
-pub leasts_more : (table : Table) (style : Style) (k n : ℕ) (least more : List ℕ) → LeastsSoFar table style k least → more ≡ least ++ n ∷ [] →
+pub leasts_more : (table : Table) (style : Style) (k n : ℕ) (least more : List ℕ) → LeastsSoFar table style k least →
+    more ≡ least ++ n ∷ [] →
     ((one : Table) → IsAmong table one → (out-Table one).number ≡ (out-Table table).number + k → IsLeastWidth one style n) →
     LeastsSoFar table style (k + 1) more
 leasts_more table style k n least more so_far push next = subst (LeastsSoFar table style (k + 1)) (sym push) (record {
@@ -54,12 +59,14 @@ leasts_more table style k n least more so_far push next = subst (LeastsSoFar tab
         (so_far.each i d old one among numbered)
     | inr new ↦
         let same : i ≡ length least = omega (arith, less, new, so_far.count) in
-        let at : get_or (least ++ n ∷ []) i d ≡ n = ap (λ j. get_or (least ++ n ∷ []) j d) same ∙ get_or-append_seam least n [] d in
+        let at : get_or (least ++ n ∷ []) i d ≡ n = ap (λ j. get_or (least ++ n ∷ []) j d)
+        same ∙ get_or-append_seam least n [] d in
         subst (IsLeastWidth one style) (sym at) (next one among (omega (arith, numbered, same, so_far.count)))
   ];
 })
 
-pub document_made : (table : Table) (style : Style) (page last k : ℕ) (least : List ℕ) → IsSound table → LeastsSoFar table style k least →
+pub document_made : (table : Table) (style : Style) (page last k : ℕ) (least : List ℕ) → IsSound table →
+    LeastsSoFar table style k least →
     k ≡ nested_in_table table + 1 → last ≡ (out-Table table).number + nested_in_table table →
     IsDocumentOf table style page (record { table = table; style = style; page = page; last = last; least = least })
 document_made table style page last k least sound so_far all end = record {
@@ -70,5 +77,6 @@ document_made table style page last k least sound so_far all end = record {
   each = so_far.count ∙ all;
   least = λ one among.
       let within = number_within table one sound among in
-      so_far.each ((out-Table one).number - (out-Table table).number) 0 (omega (arith, within, all)) one among (omega (arith, within.0));
+      so_far.each ((out-Table one).number - (out-Table table).number) 0 (omega (arith, within, all)) one among
+      (omega (arith, within.0));
 }

@@ -4,15 +4,15 @@ use Rattle.tl_base.specs.declared.steps.Config.{Config}
 use Rattle.tl_base.specs.declared.style.Style.{Style}
 use Rattle.tl_base.proofs.Stacking.{first_width-within}
 use Rattle.tl_cert.specs.declared.section.Section.{Section}
-use Rattle.tl_form.specs.declared.cell.Table.{Table, out-Table}
+use Rattle.tl_table.specs.declared.cell.Table.{Table, out-Table}
 use Rattle.tl_form.specs.declared.heights.Bound.{Bound}
 use Rattle.tl_form.specs.declared.heights.Bound.TheVariants.{Low, High}
 use Rattle.tl_form.specs.declared.heights.InnerSteps.{InnerSteps}
 use Rattle.tl_form.specs.declared.nested_steps.Told.{Told}
-use Rattle.tl_form.specs.Least.{IsLeastWidth}
+use Rattle.tl_table.specs.Least.{IsLeastWidth}
 use Rattle.tl_form.specs.Nested.{IsGreatestLower, IsLeastFound, AreStepsBy}
 use Rattle.tl_form.specs.inner.Collecting.{AreStepsBelow, AreToldSteps, TellsHeight, told_by, with_step}
-use Rattle.tl_form.proofs.LinkLemmas.{IsLeastWidth-unique}
+use Rattle.tl_table.proofs.LinkLemmas.{IsLeastWidth-unique}
 use Rattle.tl_form.proofs.NeedSteps.{AreStepsOf-same}
 use Rattle.tl_form.proofs.SectionHeights.{height_falls, height_one, lower_told, told_lower, found_told, told_found}
 use Rattle.tl_form.proofs.StepsBelow.{below_none, below_more, below_steps, below_begins}
@@ -20,27 +20,32 @@ use Rattle.tl_form.proofs.Truth.{height_from}
 
 -- ---- width by width
 
-pub never_wide : (bound : Bound) (told : List Told) (least page : ℕ) (steps : List Config) → AreToldSteps bound told least page steps →
+pub never_wide : (bound : Bound) (told : List Told) (least page : ℕ) (steps : List Config) →
+    AreToldSteps bound told least page steps →
     page < least → ⊥
 never_wide bound told least page steps is wide =
     omega (arith, wide, is.begins, first_width-within page steps is.are.decreasing is.are.within)
 
-pub height_missing : (bound : Bound) (told : List Told) (least page w : ℕ) (steps : List Config) → AreToldSteps bound told least page steps →
+pub height_missing : (bound : Bound) (told : List Told) (least page w : ℕ) (steps : List Config) →
+    AreToldSteps bound told least page steps →
     least ≤ w → w ≤ page → ((h : ℕ) → TellsHeight bound told w h → ⊥) → ⊥
 height_missing bound told least page w steps is from within none =
     let here = height_from steps w is.are.decreasing (omega (arith, is.begins, from)) in
     none here.0 ((is.are.each w here.0 within).0 here.1).1
 
-pub told_none : (bound : Bound) (told : List Told) (least : ℕ) (steps : List Config) → steps ≡ [] → AreStepsBelow (TellsHeight bound told) least least steps
+pub told_none : (bound : Bound) (told : List Told) (least : ℕ) (steps : List Config) → steps ≡ [] →
+    AreStepsBelow (TellsHeight bound told) least least steps
 told_none bound told least steps is =
-    below_none (TellsHeight bound told) (height_one bound told) (λ v w a b wider first second. height_falls bound told v w a b wider first second)
+    below_none (TellsHeight bound told) (height_one bound told)
+    (λ v w a b wider first second. height_falls bound told v w a b wider first second)
     least steps is
 
 pub told_more : (bound : Bound) (told : List Told) (least w h : ℕ) (steps : List Config) → least ≤ w →
     AreStepsBelow (TellsHeight bound told) least w steps → TellsHeight bound told w h →
     AreStepsBelow (TellsHeight bound told) least (w + 1) (with_step steps w h)
 told_more bound told least w h steps from below here =
-    below_more (TellsHeight bound told) (height_one bound told) (λ v x a b wider first second. height_falls bound told v x a b wider first second) least
+    below_more (TellsHeight bound told) (height_one bound told)
+    (λ v x a b wider first second. height_falls bound told v x a b wider first second) least
     w h steps from below here
 
 pub told_done : (bound : Bound) (told : List Told) (least page w : ℕ) (steps : List Config) → least ≤ page → w ≡ page + 1 →
@@ -71,7 +76,8 @@ module _ (style : Style) (page : ℕ) (sections : List Section) (nested : Table)
         are = AreStepsOf-same (λ w h. (is.least ≤ w) × IsGreatestLower sections (out-Table nested).number w h)
             (λ w h. (least ≤ w) × TellsHeight Low told w h) page steps.low
             (λ w h within both. (omega (arith, same, both.0), lower_told style (out-Table nested).number sections w h both.1))
-            (λ w h within both. (omega (arith, same, both.0), told_lower style (out-Table nested).number sections w h both.1)) is.low;
+            (λ w h within both. (omega (arith, same, both.0), told_lower style (out-Table nested).number sections w h both.1))
+            is.low;
       }
 
   pub to_high : (steps : InnerSteps) → AreStepsBy style page sections nested steps → AreToldSteps High told least page steps.high
@@ -103,6 +109,14 @@ module _ (style : Style) (page : ℕ) (sections : List Section) (nested : Table)
         (λ w h within both. (both.0, lower_told style (out-Table nested).number sections w h both.1)) low.are;
     high = AreStepsOf-same (λ w h. (least ≤ w) × TellsHeight High told w h)
         (λ w h. (least ≤ w) × IsLeastFound style sections (out-Table nested).number w h) page steps.high
-        (λ w h within both. (both.0, told_found style (out-Table nested).number sections w h (omega (arith, within, small)) both.1))
-        (λ w h within both. (both.0, found_told style (out-Table nested).number sections w h (omega (arith, within, small)) both.1)) high.are;
+        (λ w h within both. (
+          both.0,
+          told_found style (out-Table nested).number sections w h (omega (arith, within, small))
+              both.1,
+        ))
+        (λ w h within both. (
+          both.0,
+          found_told style (out-Table nested).number sections w h (omega (arith, within, small))
+              both.1,
+        )) high.are;
   }

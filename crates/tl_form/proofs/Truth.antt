@@ -1,7 +1,8 @@
 -- What good sections prove: no layout of the table on the section's page is below its lower bound, and one has its height
 -- in the columns of its placement. By induction on the number of the section: those before it tell the truth of the tables
 -- nested in its own.
-use Rattle.std.proofs.Common.{◌≡◌, ◌∙◌, ℕ, zero, suc, ◌+◌, ◌≤◌, Bool, true, if◌then◌else◌, cond, nat_le, filter, option_map, List, [], ◌∷◌, ◌⊎◌, inl}
+use Rattle.std.proofs.Common.{◌≡◌, ◌∙◌, ℕ, zero, suc, ◌+◌, ◌≤◌, Bool, true, if◌then◌else◌, cond, nat_le, filter, option_map, List}
+use Rattle.std.proofs.Common.{[], ◌∷◌, ◌⊎◌, inl}
 use Rattle.std.proofs.Common.{inr, length, get_or, take, None, Some, refl, sym, ap, subst, arith}
 use Rattle.std.specs.List.{All, AllZip, Contains, last_or}
 use Rattle.std.specs.Option.{IsSomeAnd}
@@ -13,23 +14,23 @@ use Rattle.tl_base.specs.Steps.{AreSteps, first_width, height_at}
 use Rattle.tl_base.proofs.Decreasing.{test_le}
 use Rattle.tl_base.proofs.Members.{Contains-cases, Contains-none, All-from_Contains}
 use Rattle.tl_base.specs.Style.{gap_of, edge_of}
-use Rattle.tl_problem.specs.Sizes.{total}
+use Rattle.tl_base.specs.Sizes.{total}
 use Rattle.tl_problem.specs.Problem.{total_width, total_height}
 use Rattle.tl_cert.specs.declared.section.Section.{Section}
 use Rattle.tl_cert.proofs.LogLaws.{log-sound}
-use Rattle.tl_form.specs.declared.cell.Table.{Table, out-Table}
+use Rattle.tl_table.specs.declared.cell.Table.{Table, out-Table}
 use Rattle.tl_form.specs.declared.heights.InnerSteps.{InnerSteps}
-use Rattle.tl_form.specs.declared.layout.Layout.{Layout, out-Layout}
+use Rattle.tl_table.specs.declared.layout.Layout.{Layout, out-Layout}
 use Rattle.tl_form.specs.Expected.{Document, IsTableOf, placed_width}
-use Rattle.tl_form.specs.Layouts.{Fits}
+use Rattle.tl_table.specs.Layouts.{Fits}
 use Rattle.tl_form.specs.Nested.{IsGreatestLower, AreStepsBy, AreInnerSteps}
 use Rattle.tl_form.specs.ProblemLaws.{IsBelowLayouts, IsAboveLayouts, LowIsBelow, HighIsAbove, LayoutsAreByLow, LayoutsByHighFit}
-use Rattle.tl_form.specs.Problems.{IsInsideWithin, IsAmong, InnerNeeds, steps_for}
-use Rattle.tl_form.specs.Sound.{IsSound}
-use Rattle.tl_form.specs.Tables.{inner_tables}
+use Rattle.tl_form.specs.Problems.{InnerNeeds, steps_for}
+use Rattle.tl_table.specs.Tables.{IsInsideWithin, IsAmong, inner_tables}
+use Rattle.tl_table.specs.Sound.{IsSound}
 use Rattle.tl_form.specs.Valid.{IsGood, AreGoodBelow}
-use Rattle.tl_form.proofs.Deeper.{FitsWithin-wider}
-use Rattle.tl_form.proofs.TableNumbers.{one_of_number}
+use Rattle.tl_table.proofs.Deeper.{FitsWithin-wider}
+use Rattle.tl_table.proofs.TableNumbers.{one_of_number}
 
 -- a layout that fits a page fits a wider one
 pub Fits-wider : (style : Style) (table : Table) (width wider height : ℕ) (layout : Layout) → width ≤ wider →
@@ -39,18 +40,21 @@ Fits-wider style table width wider height layout more fits =
 
 -- ---- tables nested in one that is among those of a document are among them
 
-inside_further : (depth : ℕ) (table one nested : Table) → IsInsideWithin depth table one → Contains (inner_tables (out-Table one)) nested →
+inside_further : (depth : ℕ) (table one nested : Table) → IsInsideWithin depth table one →
+    Contains (inner_tables (out-Table one)) nested →
     IsInsideWithin (suc depth) table nested
 inside_further zero table one nested inside has = absurd inside
 inside_further (suc depth) table one nested inside has =
     (inside.0, inside.1, inr (by_case inside.2 (λ further. inside_further depth inside.0 one nested further has)))
   where
     by_case : (inside.0 ≡ one) ⊎ IsInsideWithin depth inside.0 one →
-        (IsInsideWithin depth inside.0 one → IsInsideWithin (suc depth) inside.0 nested) → IsInsideWithin (suc depth) inside.0 nested
+        (IsInsideWithin depth inside.0 one → IsInsideWithin (suc depth) inside.0 nested) →
+        IsInsideWithin (suc depth) inside.0 nested
     by_case (inl same) again = (nested, subst (λ t. Contains (inner_tables (out-Table t)) nested) (sym same) has, inl refl)
     by_case (inr further) again = again further
 
-pub nested_among : (table one nested : Table) → IsAmong table one → Contains (inner_tables (out-Table one)) nested → IsAmong table nested
+pub nested_among : (table one nested : Table) → IsAmong table one → Contains (inner_tables (out-Table one)) nested →
+    IsAmong table nested
 nested_among table one nested (inl same) has =
     inr (1, (nested, subst (λ t. Contains (inner_tables (out-Table t)) nested) (sym same) has, inl refl))
 nested_among table one nested (inr inside) has = inr (suc inside.0, inside_further inside.0 table one nested inside.1 has)
@@ -58,7 +62,8 @@ nested_among table one nested (inr inside) has = inr (suc inside.0, inside_furth
 -- ---- the steps of a nested table among those of all
 
 -- the first steps with the number of a nested table are those of a table with that number
-pub record HasStepsOf (style : Style) (page : ℕ) (before : List Section) (tables : List Table) (inner : List InnerSteps) (number : ℕ) : Type 0 where
+pub record HasStepsOf (style : Style) (page : ℕ) (before : List Section) (tables : List Table) (inner : List InnerSteps)
+    (number : ℕ) : Type 0 where
   pub steps : InnerSteps
   pub found : steps_for inner number ≡ Some steps
   pub of : Table
@@ -66,7 +71,8 @@ pub record HasStepsOf (style : Style) (page : ℕ) (before : List Section) (tabl
   pub numbered : (out-Table of).number ≡ number
   pub are : AreStepsBy style page before of steps
 
-pub steps_found : (style : Style) (page : ℕ) (before : List Section) (tables : List Table) (inner : List InnerSteps) (nested : Table) →
+pub steps_found : (style : Style) (page : ℕ) (before : List Section) (tables : List Table) (inner : List InnerSteps)
+    (nested : Table) →
     AllZip (AreStepsBy style page before) tables inner → Contains tables nested →
     HasStepsOf style page before tables inner (out-Table nested).number
 steps_found style page before [] inner nested all has = absurd (Contains-none nested has)
@@ -127,9 +133,11 @@ height_from (step ∷ rest) w are from =
     last_some x [] = (x, refl)
     last_some x (y ∷ ys) = last_some y ys
 
-module _ (document : Document) (sound : IsSound document.table) (before : List Section) (true_before : All (IsTrue document) before)
+module _ (document : Document) (sound : IsSound document.table) (before : List Section)
+    (true_before : All (IsTrue document) before)
     (one : Table) (among : IsAmong document.table one) (page : ℕ) (inner : List InnerSteps)
-    (steps : AreInnerSteps one document.style page before inner) (nested : Table) (has : Contains (inner_tables (out-Table one)) nested) where
+    (steps : AreInnerSteps one document.style page before inner) (nested : Table)
+    (has : Contains (inner_tables (out-Table one)) nested) where
   found_steps : HasStepsOf document.style page before (inner_tables (out-Table one)) inner (out-Table nested).number
   found_steps = steps_found document.style page before (inner_tables (out-Table one)) inner nested steps has
 
@@ -138,7 +146,8 @@ module _ (document : Document) (sound : IsSound document.table) (before : List S
 
   own_steps : AreStepsBy document.style page before nested found_steps.steps
   own_steps = subst (λ t. AreStepsBy document.style page before t found_steps.steps)
-      (one_of_number document.table found_steps.of nested sound (nested_among document.table one found_steps.of among found_steps.has)
+      (one_of_number document.table found_steps.of nested sound
+      (nested_among document.table one found_steps.of among found_steps.has)
       nested_of.among found_steps.numbered) found_steps.are
 
   -- no layout is below `low`
@@ -187,25 +196,31 @@ module _ (document : Document) (sound : IsSound document.table) (before : List S
             (subst (λ n. Fits nested document.style (placed_width document.style at.1) n laid.0) at.4.1 laid.1),
       )
 
-module _ (document : Document) (sound : IsSound document.table) (before : List Section) (true_before : All (IsTrue document) before)
+module _ (document : Document) (sound : IsSound document.table) (before : List Section)
+    (true_before : All (IsTrue document) before)
     (one : Table) (among : IsAmong document.table one) (page : ℕ) (inner : List InnerSteps)
     (steps : AreInnerSteps one document.style page before inner) where
   pub low_is_below : LowIsBelow one document.style page inner
-  low_is_below = recursion_from_All (IsBelowLayouts (InnerNeeds (λ each. each.low) inner) document.style page) (inner_tables (out-Table one))
+  low_is_below = recursion_from_All (IsBelowLayouts (InnerNeeds (λ each. each.low) inner) document.style page)
+      (inner_tables (out-Table one))
       (All-from_Contains (IsBelowLayouts (InnerNeeds (λ each. each.low) inner) document.style page) (inner_tables (out-Table one))
       (λ nested has. nested_lower document sound before true_before one among page inner steps nested has))
 
   pub high_is_above : HighIsAbove one document.style page inner
-  high_is_above = recursion_from_All (IsAboveLayouts (InnerNeeds (λ each. each.high) inner) document.style page) (inner_tables (out-Table one))
-      (All-from_Contains (IsAboveLayouts (InnerNeeds (λ each. each.high) inner) document.style page) (inner_tables (out-Table one))
+  high_is_above = recursion_from_All (IsAboveLayouts (InnerNeeds (λ each. each.high) inner) document.style page)
+      (inner_tables (out-Table one))
+      (All-from_Contains (IsAboveLayouts (InnerNeeds (λ each. each.high) inner) document.style page)
+      (inner_tables (out-Table one))
       (λ nested has w h within needs.
       let laid = nested_upper document sound before true_before one among page inner steps nested has w h within needs in
       (h, laid.0, laid.1, omega arith)))
 
 -- ---- each good section tells the truth
 
-module _ (below : LayoutsAreByLow) (above : LayoutsByHighFit) (document : Document) (sound : IsSound document.table) (budget : ℕ) where
-  true_section : (before : List Section) → All (IsTrue document) before → (section : Section) → IsGood document budget before section →
+module _ (below : LayoutsAreByLow) (above : LayoutsByHighFit) (document : Document) (sound : IsSound document.table)
+    (budget : ℕ) where
+  true_section : (before : List Section) → All (IsTrue document) before → (section : Section) →
+      IsGood document budget before section →
       IsTrue document section
   true_section before true_before section good = record {
     within = omega (
@@ -216,7 +231,8 @@ module _ (below : LayoutsAreByLow) (above : LayoutsByHighFit) (document : Docume
     );
     lower = λ one named height layout fits.
         let own = good.laid.own in
-        let same = one_of_number document.table one own.one sound named.among own.named.among (named.numbered ∙ sym own.named.numbered) in
+        let same = one_of_number document.table one own.one sound named.among own.named.among
+        (named.numbered ∙ sym own.named.numbered) in
         let by_low = below own.one document.style section.width own.inner good.problem own.made own.sound
         (low_is_below document sound before true_before own.one own.named.among section.width own.inner own.steps)
         height layout (subst (λ t. Fits t document.style section.width height layout) same fits) in
@@ -228,14 +244,16 @@ module _ (below : LayoutsAreByLow) (above : LayoutsByHighFit) (document : Docume
         );
     found = λ one named.
         let own = good.laid.own in
-        let same = one_of_number document.table own.one one sound own.named.among named.among (own.named.numbered ∙ sym named.numbered) in
+        let same = one_of_number document.table own.one one sound own.named.among named.among
+        (own.named.numbered ∙ sym named.numbered) in
         let placed = good.laid.placed in
         let placement = good.laid.placement.tight.placement in
         let laid = above own.one document.style section.width own.inner good.problem own.made own.sound
         (high_is_above document sound before true_before own.one own.named.among section.width own.inner own.steps)
         placed.widths placed.heights (record { page = placement.page; enough = placement.rows.kind }) in
         let wide = placed_as section good in
-        let high : total_height good.problem placed.heights ≡ section.height = sym placement.height ∙ good.laid.placement.high in (
+        let high : total_height good.problem placed.heights ≡ section.height =
+        sym placement.height ∙ good.laid.placement.high in (
           laid.0,
           subst (λ t. Fits t document.style (placed_width document.style section) section.height laid.0) same
               (subst (λ h. Fits own.one document.style (placed_width document.style section) h laid.0) high

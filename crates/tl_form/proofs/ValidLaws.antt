@@ -12,13 +12,13 @@ use Rattle.tl_cert.specs.declared.certificate.Claim.{Claim}
 use Rattle.tl_cert.specs.declared.certificate.Claim.TheVariants.{Lowest, Bounded, Narrow}
 use Rattle.tl_cert.specs.declared.section.Section.{Section}
 use Rattle.tl_cert.specs.Text.{IsNarrow}
-use Rattle.tl_form.specs.declared.cell.Table.{Table, out-Table}
-use Rattle.tl_form.specs.Chains.{IsChain}
+use Rattle.tl_table.specs.declared.cell.Table.{Table, out-Table}
+use Rattle.tl_table.specs.Chains.{IsChain}
 use Rattle.tl_form.specs.Expected.{Document, IsDocumentOf, IsTableOf, own_number, next_due, placed_width, due_after}
-use Rattle.tl_form.specs.Layouts.{Fits}
-use Rattle.tl_form.specs.Laws.{NoPageIsNarrowerThanAChain}
+use Rattle.tl_table.specs.Layouts.{Fits}
+use Rattle.tl_table.specs.Laws.{NoPageIsNarrowerThanAChain}
 use Rattle.tl_form.specs.ProblemLaws.{LayoutsAreByLow, LayoutsByHighFit}
-use Rattle.tl_form.specs.Sound.{IsSound}
+use Rattle.tl_table.specs.Sound.{IsSound}
 use Rattle.tl_form.specs.Valid.{AreWhole, AreTooWide, IsShown, HasNumbers, EndsWith}
 use Rattle.tl_form.specs.ValidLaws.{IsBetween, LowestIsLeast, BoundedIsBetween, NarrowIsTooWide}
 use Rattle.tl_form.proofs.DueLaws.{due_after-more, due_next, last_is_own, may_be_due}
@@ -62,9 +62,11 @@ pub ends : (claim : Claim) (sections : List Section) (n : ℕ) (d : Section) →
     HasNumbers claim (get_or sections n d)
 ends claim sections n d last with_numbers =
     subst (λ o. IsSomeAnd o (HasNumbers claim))
-    (ap (last_or None) (sym (take_all (suc n) sections (omega (arith, last)))) ∙ last_or-take None sections n d (omega (arith, last))) with_numbers
+    (ap (last_or None) (sym (take_all (suc n) sections (omega (arith, last)))) ∙ last_or-take None sections n d
+    (omega (arith, last))) with_numbers
 
-module _ (below : LayoutsAreByLow) (above : LayoutsByHighFit) (table : Table) (style : Style) (page budget : ℕ) (sound : IsSound table)
+module _ (below : LayoutsAreByLow) (above : LayoutsByHighFit) (table : Table) (style : Style) (page budget : ℕ)
+    (sound : IsSound table)
     (document : Document) (of : IsDocumentOf table style page document) where
   sound_document : IsSound document.table
   sound_document = subst IsSound (sym of.same) sound
@@ -72,7 +74,8 @@ module _ (below : LayoutsAreByLow) (above : LayoutsByHighFit) (table : Table) (s
   some_number : own_number document ≤ document.last
   some_number = omega (arith, of.numbers)
 
-  pub between : (sections : List Section) (claim : Claim) (d : Section) → AreWhole document budget sections → EndsWith claim sections →
+  pub between : (sections : List Section) (claim : Claim) (d : Section) → AreWhole document budget sections →
+      EndsWith claim sections →
       (section : Section) × HasNumbers claim section × IsBetween table style page section.height section.lower
   between sections claim d whole with_numbers =
       let own = own_last document budget sections some_number whole in
@@ -80,7 +83,8 @@ module _ (below : LayoutsAreByLow) (above : LayoutsByHighFit) (table : Table) (s
       let all = all_true below above document sound_document budget sections (length sections) (omega arith) whole.good in
       let told : IsTrue document section = subst (IsTrue document)
       (ap (λ xs. get_or xs own.n d) (take_all (length sections) sections (omega arith)))
-      (All-get_or (IsTrue document) (take (length sections) sections) own.n d (omega (arith, own.last, length-take (length sections) sections)) all) in
+      (All-get_or (IsTrue document) (take (length sections) sections) own.n d
+      (omega (arith, own.last, length-take (length sections) sections)) all) in
       let named : IsTableOf document section.table table = record {
         among = inl of.same;
         numbered = ap (λ t. (out-Table t).number) (sym of.same) ∙ sym
@@ -104,7 +108,8 @@ module _ (below : LayoutsAreByLow) (above : LayoutsByHighFit) (table : Table) (s
 
 -- ---- for a certificate
 
-pub shown_by_sections : (document : Document) (budget : ℕ) (certificate : Certificate) (claim : Claim) → IsShown document budget certificate claim →
+pub shown_by_sections : (document : Document) (budget : ℕ) (certificate : Certificate) (claim : Claim) →
+    IsShown document budget certificate claim →
     (IsNarrow claim → ⊥) → AreWhole document budget certificate.sections × EndsWith claim certificate.sections
 shown_by_sections document budget certificate (Lowest height) shown other = shown
 shown_by_sections document budget certificate (Bounded height lower) shown other = shown
@@ -118,7 +123,8 @@ lowest_is_least below above table style page budget certificate height sound val
     let document = valid.0 in
     let shown = shown_by_sections document budget certificate (Lowest height)
     (subst (IsShown document budget certificate) claim valid.2.shown) (λ narrow. narrow) in
-    let proved = between below above table style page budget sound document valid.1 certificate.sections (Lowest height) no_section shown.0 shown.1 in
+    let proved = between below above table style page budget sound document valid.1 certificate.sections (Lowest height)
+    no_section shown.0 shown.1 in
     record {
       attained = (proved.2.attained.0, subst (λ h. Fits table style page h proved.2.attained.0) proved.1.0 proved.2.attained.1);
       least = λ other layout fits. omega (arith, proved.2.never_less other layout fits, proved.1.1);
@@ -129,7 +135,8 @@ bounded_is_between below above table style page budget certificate height lower 
     let document = valid.0 in
     let shown = shown_by_sections document budget certificate (Bounded height lower)
     (subst (IsShown document budget certificate) claim valid.2.shown) (λ narrow. narrow) in
-    let proved = between below above table style page budget sound document valid.1 certificate.sections (Bounded height lower) no_section shown.0 shown.1 in (
+    let proved = between below above table style page budget sound document valid.1 certificate.sections (Bounded height lower)
+    no_section shown.0 shown.1 in (
       proved.1.2,
       record {
         attained = (proved.2.attained.0, subst (λ h. Fits table style page h proved.2.attained.0) proved.1.0 proved.2.attained.1);
@@ -143,5 +150,8 @@ narrow_is_too_wide chains table style page budget certificate least sound valid 
     let shown : AreTooWide document certificate.chains least = subst (IsShown document budget certificate) claim valid.2.shown in
     let weighed : IsChain table style certificate.chains least =
     subst (λ t. IsChain t style certificate.chains least) valid.1.same
-    (subst (λ s. IsChain document.table s certificate.chains least) valid.1.drawn shown.weighed) in
-    (omega (arith, shown.wider, valid.1.wide), λ width height layout fits. chains table style certificate.chains least width height layout sound weighed fits)
+    (subst (λ s. IsChain document.table s certificate.chains least) valid.1.drawn shown.weighed) in (
+      omega (arith, shown.wider, valid.1.wide),
+      λ width height layout fits. chains table style certificate.chains least width
+          height layout sound weighed fits,
+    )

@@ -5,12 +5,13 @@ use Rattle.std.specs.List.{All}
 use Rattle.tl_base.specs.declared.limits.TheConstants.{MAX_PAGE_WIDTH}
 use Rattle.tl_base.specs.declared.style.Style.{Style}
 use Rattle.tl_cert.specs.declared.section.Section.{Section}
-use Rattle.tl_form.specs.declared.cell.Table.{Table, out-Table}
+use Rattle.tl_table.specs.declared.cell.Table.{Table, out-Table}
 use Rattle.tl_form.specs.Expected.{Document, Due, IsDocumentOf, due_after}
-use Rattle.tl_form.specs.Least.{IsLeastHeight, IsLeastWidth}
+use Rattle.tl_table.specs.Least.{IsLeastHeight, IsLeastWidth}
 use Rattle.tl_form.specs.Nested.{IsGreatestLower, IsLeastFound}
-use Rattle.tl_form.specs.Problems.{IsAmong, IsCountAll}
-use Rattle.tl_form.specs.Sound.{IsSound}
+use Rattle.tl_form.specs.Problems.{IsCountAll}
+use Rattle.tl_table.specs.Tables.{IsAmong}
+use Rattle.tl_table.specs.Sound.{IsSound}
 use Rattle.tl_form.specs.Valid.{AreGoodBelow}
 
 -- a section whose lower bound is its height

@@ -3,11 +3,11 @@
 use Rattle.std.specs.Prelude.{ℕ, ◌≤◌}
 use Rattle.tl_base.specs.declared.style.Style.{Style}
 use Rattle.tl_problem.specs.Problem.{ProblemModel}
-use Rattle.tl_form.specs.declared.cell.Table.{Table}
-use Rattle.tl_form.specs.declared.layout.Layout.{Layout}
-use Rattle.tl_form.specs.Layouts.{Fits}
-use Rattle.tl_form.specs.Least.{IsLeastHeight}
-use Rattle.tl_form.specs.Sound.{IsSound}
+use Rattle.tl_table.specs.declared.cell.Table.{Table}
+use Rattle.tl_table.specs.declared.layout.Layout.{Layout}
+use Rattle.tl_table.specs.Layouts.{Fits}
+use Rattle.tl_table.specs.Least.{IsLeastHeight}
+use Rattle.tl_table.specs.Sound.{IsSound}
 use Rattle.tl_form.specs.Problems.{IsCount, IsCountAll, IsTrueProblem}
 
 -- on a wider page a table has at least as many ways

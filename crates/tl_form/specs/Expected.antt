@@ -1,15 +1,16 @@
 -- Which sections a certificate of a document has, and in which order: for each nested table, from the greatest number
 -- down, one on the whole page, and then one a column narrower than the placement before, as long as the table has a
 -- layout there; last one of the document's own table.
-use Rattle.std.specs.Prelude.{◌≡◌, ℕ, zero, suc, ◌+◌, ◌-◌, ◌<◌, ◌==◌, nat_le, if◌then◌else◌, List, [], ◌∷◌, length, get_or, take, Option, None, Some}
+use Rattle.std.specs.Prelude.{◌≡◌, ℕ, zero, suc, ◌+◌, ◌-◌, ◌<◌, ◌==◌, nat_le, if◌then◌else◌, List, [], ◌∷◌, length, get_or, take}
+use Rattle.std.specs.Prelude.{Option, None, Some}
 use Rattle.tl_base.specs.declared.style.Style.{Style}
 use Rattle.tl_base.specs.Style.{gap_of, edge_of}
-use Rattle.tl_problem.specs.Sizes.{total}
+use Rattle.tl_base.specs.Sizes.{total}
 use Rattle.tl_cert.specs.declared.section.Section.{Section}
-use Rattle.tl_form.specs.declared.cell.Table.{Table, out-Table}
-use Rattle.tl_form.specs.Least.{IsLeastWidth}
-use Rattle.tl_form.specs.Problems.{IsAmong}
-use Rattle.tl_form.specs.Sound.{nested_in_table}
+use Rattle.tl_table.specs.declared.cell.Table.{Table, out-Table}
+use Rattle.tl_table.specs.Least.{IsLeastWidth}
+use Rattle.tl_table.specs.Tables.{IsAmong}
+use Rattle.tl_table.specs.Sound.{nested_in_table}
 
 -- ---- a document: a table with those nested in it, on a page
 

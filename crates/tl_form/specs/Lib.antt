@@ -1,13 +1,4 @@
-pub mod Tables
-pub mod Layouts
-pub mod Least
-pub mod Chains
-pub mod Sound
-pub mod Formed
-pub mod Refused
-pub mod Same
 pub mod Problems
-pub mod Numbered
 pub mod ProblemLaws
 pub mod SoundProblems
 pub mod CountLaws
@@ -16,12 +7,9 @@ pub mod Expected
 pub mod Subjects
 pub mod Nested
 pub mod Valid
-pub mod Refusals
+pub mod Failures
 pub mod Named
 pub mod ValidLaws
 pub mod ClosedLaws
 pub mod OpenLaws
-pub mod Spells
-pub mod SameLaws
-pub mod Laws
 pub mod inner

@@ -7,13 +7,13 @@ use Rattle.tl_problem.specs.declared.placed.Placed.{Placed}
 use Rattle.tl_problem.specs.Problem.{ProblemModel}
 use Rattle.tl_cert.specs.declared.certificate.Certificate.{Certificate}
 use Rattle.tl_cert.specs.declared.section.Section.{Section}
-use Rattle.tl_form.specs.declared.cell.Table.{Table, out-Table}
-use Rattle.tl_form.specs.declared.cell.TableCell.{out-TableCell}
-use Rattle.tl_form.specs.declared.layout.Layout.{Layout, out-Layout}
+use Rattle.tl_table.specs.declared.cell.Table.{Table, out-Table}
+use Rattle.tl_table.specs.declared.cell.TableCell.{out-TableCell}
+use Rattle.tl_table.specs.declared.layout.Layout.{Layout, out-Layout}
 use Rattle.tl_form.specs.Expected.{Document, IsDocumentOf}
-use Rattle.tl_form.specs.Layouts.{OpenLayout, width_for}
+use Rattle.tl_table.specs.Layouts.{OpenLayout, width_for}
 use Rattle.tl_form.specs.Nested.{IsWithin}
-use Rattle.tl_form.specs.Tables.{OpenTable, OpenCell, tables_in}
+use Rattle.tl_table.specs.Tables.{OpenTable, OpenCell, tables_in}
 use Rattle.tl_form.specs.Valid.{IsProblemAt, HasPlacement}
 
 -- section `i` is the one by which the table is laid out in a room of `w` columns: no other within the room is lower, and

@@ -4,7 +4,7 @@ use Rattle.std.specs.Prelude.{◌≡◌, ℕ, ◌<◌, ◌≤◌, List, length, 
 use Rattle.std.specs.List.{Any}
 use Rattle.tl_base.specs.declared.style.Style.{Style}
 use Rattle.tl_cert.specs.declared.section.Section.{Section}
-use Rattle.tl_form.specs.declared.cell.Table.{Table}
+use Rattle.tl_table.specs.declared.cell.Table.{Table}
 use Rattle.tl_form.specs.ClosedLaws.{IsWideDocument}
 use Rattle.tl_form.specs.Expected.{Document}
 use Rattle.tl_form.specs.Valid.{AreGoodBelow}

@@ -7,12 +7,12 @@ use Rattle.tl_problem.specs.declared.cell.Cell.{Cell}
 use Rattle.tl_problem.specs.Problem.{ProblemModel, total_width, total_height}
 use Rattle.tl_problem.specs.Layouts.{IsLayoutByLow, IsLayoutByHigh}
 use Rattle.tl_problem.specs.Sound.{IsSound}
-use Rattle.tl_form.specs.declared.cell.Table.{Table, out-Table}
+use Rattle.tl_table.specs.declared.cell.Table.{Table, out-Table}
 use Rattle.tl_form.specs.declared.heights.InnerSteps.{InnerSteps}
-use Rattle.tl_form.specs.declared.layout.Layout.{Layout, out-Layout}
-use Rattle.tl_form.specs.Tables.{inner_tables}
-use Rattle.tl_form.specs.Layouts.{Fits}
-use Rattle.tl_form.specs.Least.{IsLeastHeight}
+use Rattle.tl_table.specs.declared.layout.Layout.{Layout, out-Layout}
+use Rattle.tl_table.specs.Tables.{inner_tables}
+use Rattle.tl_table.specs.Layouts.{Fits}
+use Rattle.tl_table.specs.Least.{IsLeastHeight}
 use Rattle.tl_form.specs.Problems.{InnerNeeds, IsProblemOf, IsTrueProblem}
 
 -- ---- bounds between which the true heights of nested tables lie
@@ -67,7 +67,8 @@ pub record IsBetween (page : ℕ) (cell real : Cell) : Type 0 where
   pub low : (w h : ℕ) → w ≤ page → height_at real.low w ≡ Some h → IsLowAt cell.low h w
   pub high : (w h k : ℕ) → w ≤ page → height_at real.high w ≡ Some h → height_at cell.high w ≡ Some k → h ≤ k
 
--- with `low` below the layouts of nested tables and `high` above some, what each cell needs truly lies between its `low` and its `high`
+-- with `low` below the layouts of nested tables and `high` above some, what each cell needs truly lies between its `low` and its
+-- `high`
 abbrev pub TrueStepsLieBetween : Type 0
 TrueStepsLieBetween = (table : Table) (style : Style) (page : ℕ) (inner : List InnerSteps) (problem real : ProblemModel) →
     IsProblemOf table style page inner problem → IsTrueProblem table style page real → LowIsBelow table style page inner →

@@ -1,7 +1,7 @@
 -- The problem of a table: what a search sees of it. Each cell needs at a width as many lines as its blocks need there, one
 -- under the other; it begins at its floor, or where each of its blocks has a height. What a nested table needs is given
 -- from outside: as a lower bound and an upper one of each, or as it is, which gives the true problem.
-use Rattle.std.specs.Prelude.{◌≡◌, ℕ, zero, suc, ◌≤◌, ◌⊎◌, ◌↔◌, ◌==◌, if◌then◌else◌, List, [], ◌∷◌, Option, None, Some, IsSomeAnd, Contains, sum}
+use Rattle.std.specs.Prelude.{◌≡◌, ℕ, ◌≤◌, ◌↔◌, ◌==◌, if◌then◌else◌, List, [], ◌∷◌, Option, None, Some, IsSomeAnd, sum}
 use Rattle.std.specs.List.{All, AllZip}
 use Rattle.tl_base.specs.declared.style.Style.{Style}
 use Rattle.tl_base.specs.declared.steps.Config.{Config}
@@ -11,13 +11,13 @@ use Rattle.tl_problem.specs.Problem.{ProblemModel}
 use Rattle.tl_problem.specs.Sound.{IsSound}
 use Rattle.tl_problem.specs.Spans.{count_of}
 use Rattle.tl_text.specs.Cuttings.{LeastLines}
-use Rattle.tl_form.specs.declared.cell.Content.{out-Content}
-use Rattle.tl_form.specs.declared.cell.Content.TheOpen as open_content
-use Rattle.tl_form.specs.declared.cell.Table.{Table, out-Table}
-use Rattle.tl_form.specs.declared.cell.TableCell.{out-TableCell}
+use Rattle.tl_table.specs.declared.cell.Content.{out-Content}
+use Rattle.tl_table.specs.declared.cell.Content.TheOpen as open_content
+use Rattle.tl_table.specs.declared.cell.Table.{Table, out-Table}
+use Rattle.tl_table.specs.declared.cell.TableCell.{out-TableCell}
 use Rattle.tl_form.specs.declared.heights.InnerSteps.{InnerSteps}
-use Rattle.tl_form.specs.Tables.{OpenTable, OpenCell, OpenContent, inner_tables}
-use Rattle.tl_form.specs.Least.{IsLeastHeight}
+use Rattle.tl_table.specs.Tables.{OpenTable, OpenCell, OpenContent, IsAmong}
+use Rattle.tl_table.specs.Least.{IsLeastHeight}
 
 -- ---- what a cell needs
 
@@ -97,16 +97,6 @@ IsTrueProblem table style page problem = IsProblemBy (λ nested. IsLeastHeight n
 abbrev pub IsCount : Table → Style → ℕ → ℕ → Type 0
 IsCount table style page count = (problem : ProblemModel) × IsTrueProblem table style page problem
     × (count_of problem ≡ count)
-
--- `inside` is nested in a table with fewer than `depth` tables inside one another
-abbrev pub IsInsideWithin : ℕ → Table → Table → Type 0
-IsInsideWithin zero table inside = ⊥
-IsInsideWithin (suc depth) table inside = (nested : Table) × Contains (inner_tables (out-Table table)) nested
-    × ((nested ≡ inside) ⊎ IsInsideWithin depth nested inside)
-
--- `inside` is the table, or nested in it at any depth
-abbrev pub IsAmong : Table → Table → Type 0
-IsAmong table inside = (table ≡ inside) ⊎ ((depth : ℕ) × IsInsideWithin depth table inside)
 
 -- the greatest count of the table and of each table nested in it, each on a page of `page` columns
 pub record IsCountAll (table : Table) (style : Style) (page most : ℕ) : Type 0 where

@@ -8,11 +8,11 @@ use Rattle.tl_base.specs.Steps.{AreSteps, IsLowAt, first_height, first_width}
 use Rattle.tl_problem.specs.declared.placed.Placed.{Placed}
 use Rattle.tl_problem.specs.Problem.{ProblemModel}
 use Rattle.tl_problem.specs.Placements.{IsPlacement}
-use Rattle.tl_form.specs.declared.cell.Table.{Table, out-Table}
+use Rattle.tl_table.specs.declared.cell.Table.{Table, out-Table}
 use Rattle.tl_form.specs.declared.heights.InnerSteps.{InnerSteps}
-use Rattle.tl_form.specs.Tables.{inner_tables}
-use Rattle.tl_form.specs.Least.{IsLeastWidth}
-use Rattle.tl_form.specs.Sound.{IsSound, table_size}
+use Rattle.tl_table.specs.Tables.{inner_tables}
+use Rattle.tl_table.specs.Least.{IsLeastWidth}
+use Rattle.tl_table.specs.Sound.{IsSound, table_size}
 use Rattle.tl_form.specs.Problems.{HasSoundProblem, IsProblemOf, steps_for}
 
 -- steps of a nested table that leave a problem sound: both begin at its least width, `low` is nowhere above `high`, and
@@ -36,11 +36,13 @@ pub record AreSoundPremises (table : Table) (style : Style) (page : ℕ) (inner 
 
 -- a sound table that fits the page has a sound problem, where the steps of its nested tables leave it sound
 abbrev pub SoundProblemsAlone : Type 0
-SoundProblemsAlone = (table : Table) (style : Style) (page : ℕ) (inner : List InnerSteps) → AreSoundPremises table style page inner →
+SoundProblemsAlone = (table : Table) (style : Style) (page : ℕ) (inner : List InnerSteps) →
+    AreSoundPremises table style page inner →
     HasSoundProblem table style page inner
 
 -- no placement of such a problem needs more than two lines for all that the table holds
 abbrev pub PlacementsAreLow : Type 0
-PlacementsAreLow = (table : Table) (style : Style) (page : ℕ) (inner : List InnerSteps) (problem : ProblemModel) (placed : Placed) →
+PlacementsAreLow = (table : Table) (style : Style) (page : ℕ) (inner : List InnerSteps) (problem : ProblemModel)
+    (placed : Placed) →
     AreSoundPremises table style page inner → IsProblemOf table style page inner problem → IsPlacement problem placed →
     placed.height ≤ 2 * table_size table

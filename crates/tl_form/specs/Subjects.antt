@@ -5,7 +5,7 @@ use Rattle.tl_form.specs.declared.subject.Due.{Due}
 use Rattle.tl_form.specs.declared.subject.Subject.{Subject}
 use Rattle.tl_form.specs.Expected.{Document, IsDocumentOf}
 use Rattle.tl_form.specs.Expected as expected
-use Rattle.tl_form.specs.Sound.{IsSound}
+use Rattle.tl_table.specs.Sound.{IsSound}
 
 -- the document that the subject is
 abbrev pub meant : Subject → Document

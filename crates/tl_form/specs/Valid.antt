@@ -5,7 +5,7 @@
 use Rattle.std.specs.Prelude.{◌≡◌, ℕ, ◌<◌, ◌↔◌, List, length, get_or, take, None, IsSomeAnd}
 use Rattle.std.specs.List.{last_or}
 use Rattle.tl_base.specs.declared.style.Style.{Style}
-use Rattle.tl_problem.specs.declared.chain.Chain.{Chain}
+use Rattle.tl_base.specs.declared.chain.Chain.{Chain}
 use Rattle.tl_problem.specs.declared.placed.Placed.{Placed}
 use Rattle.tl_problem.specs.Problem.{ProblemModel}
 use Rattle.tl_problem.specs.Sound.{IsSound}
@@ -17,9 +17,9 @@ use Rattle.tl_cert.specs.declared.section.Section.{Section}
 use Rattle.tl_cert.specs.Lines.{IsGoodLog}
 use Rattle.tl_cert.specs.Worked.{IsWorked}
 use Rattle.tl_cert.specs.Text.{IsNarrow}
-use Rattle.tl_form.specs.declared.cell.Table.{Table}
+use Rattle.tl_table.specs.declared.cell.Table.{Table}
 use Rattle.tl_form.specs.declared.heights.InnerSteps.{InnerSteps}
-use Rattle.tl_form.specs.Chains.{IsChain}
+use Rattle.tl_table.specs.Chains.{IsChain}
 use Rattle.tl_form.specs.Expected.{Document, IsDocumentOf, IsTableOf, own_number, least_of, due_after, IsDue}
 use Rattle.tl_form.specs.Nested.{AreInnerSteps}
 use Rattle.tl_form.specs.Problems.{IsProblemOf}

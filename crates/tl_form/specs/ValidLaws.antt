@@ -1,17 +1,17 @@
 -- What a valid certificate proves of its table. Each is the contract of a function of `valid_laws`.
-use Rattle.std.specs.Prelude.{◌≡◌, ℕ, ◌+◌, ◌<◌, ◌≤◌}
+use Rattle.std.specs.Prelude.{◌≡◌, ℕ, ◌<◌, ◌≤◌}
 use Rattle.tl_base.specs.declared.style.Style.{Style}
 use Rattle.tl_cert.specs.declared.certificate.Certificate.{Certificate}
 use Rattle.tl_cert.specs.declared.certificate.Claim.{Claim}
 use Rattle.tl_cert.specs.declared.certificate.Claim.TheVariants.{Lowest, Bounded, Narrow}
-use Rattle.tl_form.specs.declared.cell.Table.{Table, out-Table}
-use Rattle.tl_form.specs.declared.layout.Layout.{Layout}
-use Rattle.tl_form.specs.Layouts.{Fits}
-use Rattle.tl_form.specs.Least.{IsLeastHeight}
+use Rattle.tl_table.specs.declared.cell.Table.{Table}
+use Rattle.tl_table.specs.declared.layout.Layout.{Layout}
+use Rattle.tl_table.specs.Layouts.{Fits}
+use Rattle.tl_table.specs.Least.{IsLeastHeight}
 use Rattle.tl_form.specs.Named.{IsNamed}
-use Rattle.tl_form.specs.Problems.{IsAmong}
-use Rattle.tl_form.specs.Refusals.{Fault, IsRefused}
-use Rattle.tl_form.specs.Sound.{IsSound, nested_in_table}
+use Rattle.tl_form.specs.Failures.{Failure, Fails}
+use Rattle.tl_table.specs.Same.{AreSame}
+use Rattle.tl_table.specs.Sound.{IsSound}
 use Rattle.tl_form.specs.Valid.{IsValid}
 
 -- a layout that fits the page has this height, and none is below `lower`
@@ -40,22 +40,14 @@ NarrowIsTooWide = (table : Table) (style : Style) (page budget : ℕ) (certifica
 -- a certificate is refused for one reason at most
 abbrev pub RefusedForOneReason : Type 0
 RefusedForOneReason = (table : Table) (style : Style) (page budget : ℕ) (certificate : Certificate) → IsSound table →
-    (one other : Fault) → IsRefused table style page budget certificate one →
-    IsRefused table style page budget certificate other → one ≡ other
+    (one other : Failure) → Fails table style page budget certificate one →
+    Fails table style page budget certificate other → one ≡ other
 
 -- a valid certificate is refused for none
 abbrev pub ValidIsNotRefused : Type 0
 ValidIsNotRefused = (table : Table) (style : Style) (page budget : ℕ) (certificate : Certificate) → IsSound table →
-    IsValid table style page budget certificate → (fault : Fault) →
-    IsRefused table style page budget certificate fault → ⊥
-
--- each number from the table's own on, up to that of the last table inside, is that of one table
-abbrev pub EachNumberIsOfOneTable : Type 0
-EachNumberIsOfOneTable = (table : Table) → IsSound table →
-    ((n : ℕ) → (out-Table table).number ≤ n → n ≤ (out-Table table).number + nested_in_table table →
-    (one : Table) × IsAmong table one × ((out-Table one).number ≡ n))
-    × ((one other : Table) → IsAmong table one → IsAmong table other →
-    (out-Table one).number ≡ (out-Table other).number → one ≡ other)
+    IsValid table style page budget certificate → (fault : Failure) →
+    Fails table style page budget certificate fault → ⊥
 
 -- the height that a claim has
 abbrev pub HasHeight : Claim → ℕ → Type 0
@@ -68,3 +60,8 @@ abbrev pub NamedLayoutFits : Type 0
 NamedLayoutFits = (table : Table) (style : Style) (page budget : ℕ) (certificate : Certificate) (height : ℕ) (layout : Layout) →
     IsSound table → IsValid table style page budget certificate → HasHeight certificate.claim height →
     IsNamed table style certificate layout → Fits table style page height layout
+
+-- a certificate that is valid for one is valid for the other
+abbrev pub SameTablesShareCertificates : Type 0
+SameTablesShareCertificates = (one other : Table) (style : Style) (page budget : ℕ) (certificate : Certificate) →
+    AreSame one other → IsValid one style page budget certificate → IsValid other style page budget certificate

@@ -1,8 +1,4 @@
 -- What private functions promise each other. No public clause cites this file.
-pub mod Demands
-pub mod LeastRooms
-pub mod Links
-pub mod Forming
 pub mod CellSteps
 pub mod Collecting
-pub mod Numbers
+pub mod Naming

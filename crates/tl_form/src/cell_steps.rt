@@ -3,16 +3,16 @@
 
 ghost use Rattle.std.specs.Prelude.{◌≡◌, ◌+◌, ◌≤◌, ◌↔◌, ℕ, Some, IfOk, IsTrue};
 ghost use Rattle.tl_base.specs.Steps.{AreSteps, first_height, height_at, stacked_height};
-ghost use Rattle.tl_form.specs.declared.cell.Content.{out-Content};
-ghost use Rattle.tl_form.specs.declared.cell.TableCell.{out-TableCell};
+ghost use Rattle.tl_table.specs.declared.cell.Content.{out-Content};
+ghost use Rattle.tl_table.specs.declared.cell.TableCell.{out-TableCell};
 ghost use Rattle.tl_form.specs.Problems.{AreStepsOf, BlockNeeds, CellNeeds};
-ghost use Rattle.tl_form.specs.Tables.{tables_of, tables_in};
+ghost use Rattle.tl_table.specs.Tables.{tables_of, tables_in};
 ghost use Rattle.tl_form.specs.inner.CellSteps.{From, HaveSteps, IsLowCell, IsStart, NeedsBy};
 
-use crate::cell::{Content, TableCell};
 use crate::heights::{Bound, InnerSteps, bound_for, start_of};
 use std::alloc::{AllocError, Global};
 use tl_base::{Config, List, MAX_HEIGHT, MAX_PAGE_WIDTH, Steps};
+use tl_table::{Content, TableCell};
 use tl_text::{configs, count_lines, least_width};
 
 /// The least width at which the block has a height.

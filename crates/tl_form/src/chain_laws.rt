@@ -1,11 +1,6 @@
-//! Laws of the ranges of chains. Each is the contract of a function that does nothing.
+//! A law of the ranges of chains. It is the contract of a function that does nothing.
 
-ghost use Rattle.tl_form.specs.ChainRanges.{ChainsAreWritable, FormedHasFewCells};
-
-/// A table that a tree becomes has no more cells, at all depths, than a grid may have and a caption.
-pub fn formed_has_few_cells()
-    ensures { FormedHasFewCells }
-{}
+ghost use Rattle.tl_form.specs.ChainRanges.{ChainsAreWritable};
 
 /// The chains of a sound table that has, at all depths, no more cells than a grid may have and a
 /// caption are within the ranges of a certificate's text.

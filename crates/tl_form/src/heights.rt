@@ -3,14 +3,14 @@
 ghost use Rattle.std.specs.Prelude.{◌≡◌, ◌↔◌, Some, IsSome, IsSomeAnd, IsTrue};
 ghost use Rattle.tl_base.specs.Steps.{height_at};
 ghost use Rattle.tl_form.specs.Problems.{steps_for};
-ghost use Rattle.tl_form.specs.Tables.{inner_tables, tables_in, tables_of};
-ghost use Rattle.tl_form.specs.declared.cell.Content.{out-Content};
-ghost use Rattle.tl_form.specs.declared.cell.Table.{out-Table};
-ghost use Rattle.tl_form.specs.declared.cell.TableCell.{out-TableCell};
+ghost use Rattle.tl_table.specs.Tables.{inner_tables, tables_in, tables_of};
+ghost use Rattle.tl_table.specs.declared.cell.Content.{out-Content};
+ghost use Rattle.tl_table.specs.declared.cell.Table.{out-Table};
+ghost use Rattle.tl_table.specs.declared.cell.TableCell.{out-TableCell};
 ghost use Rattle.tl_form.specs.inner.CellSteps.{HaveSteps, IsStart, bound_of};
 
-use crate::cell::{Content, Table, TableCell};
 use tl_base::Steps;
+use tl_table::{Content, Table, TableCell};
 
 /// The heights in lines that a nested table needs at each width in columns: at least `low`, and no
 /// more than `high`.

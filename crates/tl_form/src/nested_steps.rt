@@ -6,26 +6,24 @@ ghost use Rattle.std.specs.Option.{option_copied};
 ghost use Rattle.std.specs.List.{All};
 ghost use Rattle.tl_base.specs.declared.limits.TheConstants.{MAX_PAGE_WIDTH};
 ghost use Rattle.tl_base.specs.declared.steps.Config.{Config};
-ghost use Rattle.tl_form.specs.declared.cell.Table.{out-Table};
-ghost use Rattle.tl_form.specs.declared.cell.TableCell.{out-TableCell};
+ghost use Rattle.tl_table.specs.declared.cell.Table.{out-Table};
+ghost use Rattle.tl_table.specs.declared.cell.TableCell.{out-TableCell};
 ghost use Rattle.tl_form.specs.declared.heights.InnerSteps.{InnerSteps};
 ghost use Rattle.tl_form.specs.Expected.{placed_width};
-ghost use Rattle.tl_form.specs.Least.{IsLeastWidth};
+ghost use Rattle.tl_table.specs.Least.{IsLeastWidth};
 ghost use Rattle.tl_form.specs.Nested.{AreInnerSteps, AreStepsBy};
 ghost use Rattle.tl_form.specs.Problems.{HasSoundProblem};
-ghost use Rattle.tl_form.specs.Sound.{IsSound};
-ghost use Rattle.tl_form.specs.Tables.{inner_tables, tables_in};
+ghost use Rattle.tl_table.specs.Sound.{IsSound, IsSoundCell};
+ghost use Rattle.tl_table.specs.Tables.{inner_tables, tables_in};
 ghost use Rattle.tl_form.specs.inner.Collecting.{AreToldSteps, Collects, IsAsWideAs, IsFewest, IsMost, IsPlacedIn, LackSteps, TellsHeight};
 ghost use Rattle.tl_form.specs.inner.Collecting.{capped, greater, is_below, lesser, told_by, with_step};
-ghost use Rattle.tl_form.specs.inner.LeastRooms.{IsSoundCell};
 
-use crate::cell::{Content, Table, TableCell};
 use crate::heights::{Bound, InnerSteps};
 use crate::problems::has_sound_problem;
-use crate::width::least_width;
 use std::alloc::{AllocError, Global};
 use tl_base::{Config, List, Steps, Style};
 use tl_cert::Section;
+use tl_table::{Content, Table, TableCell, least_width};
 
 /// What one section tells of its table.
 #[derive(Clone, Copy)]
@@ -215,7 +213,7 @@ fn steps_of(
 
 /// The steps of the tables nested in a cell, after those of the cells before it. `None` exactly where
 /// one of these tables has none.
-fn cell_steps(
+fn steps_in_cell(
     alloc: Global,
     cell: &TableCell,
     style: Style,
@@ -260,7 +258,7 @@ fn collected_steps(
 {
     let mut inner = List::new(alloc);
     for cell in table.cells.as_slice() {
-        let Some(more) = cell_steps(alloc, cell, style, page, sections, inner)? else {
+        let Some(more) = steps_in_cell(alloc, cell, style, page, sections, inner)? else {
             return Ok(None);
         };
         inner = more;

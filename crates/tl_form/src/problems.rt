@@ -2,19 +2,19 @@
 
 ghost use Rattle.std.specs.Prelude.{◌≤◌, ◌↔◌, IfOk, IsTrue};
 ghost use Rattle.std.specs.List.{AllZip};
-ghost use Rattle.tl_form.specs.declared.cell.Table.{out-Table};
-ghost use Rattle.tl_form.specs.declared.cell.TableCell.{out-TableCell};
+ghost use Rattle.tl_table.specs.declared.cell.Table.{out-Table};
+ghost use Rattle.tl_table.specs.declared.cell.TableCell.{out-TableCell};
 ghost use Rattle.tl_form.specs.Problems.{HasSoundProblem, IsCellBy, IsProblemOf};
-ghost use Rattle.tl_form.specs.Tables.{inner_tables, tables_in};
+ghost use Rattle.tl_table.specs.Tables.{inner_tables, tables_in};
 ghost use Rattle.tl_form.specs.inner.CellSteps.{AreLowCells, HaveSteps, IsLowByBoth, IsLowCell, NeedsBy};
 ghost use Rattle.tl_form.specs.declared.heights.Bound.TheVariants.{Low, High};
 
-use crate::cell::{Table, TableCell};
 use crate::cell_steps::{cell_start, cell_steps, is_low};
 use crate::heights::{Bound, InnerSteps, have_steps};
 use std::alloc::{AllocError, Global};
 use tl_base::{List, MAX_PAGE_WIDTH, Style};
 use tl_problem::{Cell, Problem};
+use tl_table::{Table, TableCell};
 
 /// The cell of the problem: the place of this one, and what it needs by both bounds.
 fn problem_cell(

@@ -3,19 +3,16 @@
 ghost use Rattle.std.specs.Prelude.{◌≡◌, ◌+◌, ◌<◌, ◌≤◌, IfOk, length, option_map};
 ghost use Rattle.std.specs.List.{All};
 ghost use Rattle.tl_base.specs.declared.limits.TheConstants.{MAX_HEIGHT};
-ghost use Rattle.tl_form.specs.declared.cell.Table.{Table, out-Table};
+ghost use Rattle.tl_table.specs.declared.cell.Table.{Table, out-Table};
 ghost use Rattle.tl_form.specs.Expected.{IsDocumentOf, IsTableOf, first_due, next_due, own_number};
-ghost use Rattle.tl_form.specs.Least.{IsLeastWidth};
-ghost use Rattle.tl_form.specs.Problems.{IsAmong};
-ghost use Rattle.tl_form.specs.Sound.{IsSound, nested_in_table};
+ghost use Rattle.tl_table.specs.Least.{IsLeastWidth};
+ghost use Rattle.tl_table.specs.Tables.{IsAmong};
+ghost use Rattle.tl_table.specs.Sound.{IsSound, nested_in_table};
 ghost use Rattle.tl_form.specs.Subjects.{due_of, meant};
 
-use crate::cell::Table;
-use crate::count::nested;
-use crate::numbers::with_number;
-use crate::width::least_width;
 use std::alloc::{AllocError, Global};
 use tl_base::Style;
+use tl_table::{Table, least_width, nested, with_number};
 
 /// A table on a page in a style, with the least width of it and of each table nested in it.
 #[derive(Drop)]

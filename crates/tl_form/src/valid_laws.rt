@@ -1,11 +1,11 @@
 //! What a valid certificate proves, and laws of validity. Each is the contract of a function that does
 //! nothing.
 
-ghost use Rattle.tl_form.specs.ValidLaws.{BoundedIsBetween, EachNumberIsOfOneTable, LowestIsLeast, NamedLayoutFits, NarrowIsTooWide};
-ghost use Rattle.tl_form.specs.ValidLaws.{RefusedForOneReason, ValidIsNotRefused};
+ghost use Rattle.tl_form.specs.ValidLaws.{BoundedIsBetween, LowestIsLeast, NamedLayoutFits, NarrowIsTooWide};
+ghost use Rattle.tl_form.specs.ValidLaws.{RefusedForOneReason, SameTablesShareCertificates, ValidIsNotRefused};
 
-use crate::laws::no_page_is_narrower_than_a_chain;
 use crate::problem_laws::{layouts_are_by_low, layouts_by_high_fit, problem_is_determined};
+use tl_table::no_page_is_narrower_than_a_chain;
 
 /// The height that a valid certificate claims to be the lowest is the least of all layouts on the page.
 pub fn lowest_is_least()
@@ -45,11 +45,6 @@ pub fn valid_is_not_refused()
     problem_is_determined();
 }
 
-/// Each number from a sound table's own on is that of exactly one of the table and those inside it.
-pub fn each_number_is_of_one_table()
-    ensures { EachNumberIsOfOneTable }
-{}
-
 /// The layout that a valid certificate names fits the page, with the height that it claims.
 pub fn named_layout_fits()
     ensures { NamedLayoutFits }
@@ -57,3 +52,8 @@ pub fn named_layout_fits()
     layouts_are_by_low();
     layouts_by_high_fit();
 }
+
+/// Two tables that are the same have the same valid certificates.
+pub fn same_tables_share_certificates()
+    ensures { SameTablesShareCertificates }
+{}

@@ -1,5 +1,5 @@
-//! The tests of `tl_form`, by its public calls alone: tables of files, their least widths and their problems.
-//! They stand apart, so that `tl_form` is proved once, and not again with each test. It has no code.
+//! The tests of `tl_table` and `tl_form`, by their public calls alone: tables of files, their least widths
+//! and their problems. They stand apart, so that each is proved once, and not again with each test. It has no code.
 #![tactic(auto)]
 
 #[cfg(test)]

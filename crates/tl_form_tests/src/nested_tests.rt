@@ -2,7 +2,7 @@
 
 ghost use Rattle.std.specs.Prelude.{◌≤◌};
 ghost use Rattle.tl_base.specs.declared.limits.TheConstants.{MAX_PAGE_WIDTH};
-ghost use Rattle.tl_form.specs.Sound.{IsSound};
+ghost use Rattle.tl_table.specs.Sound.{IsSound};
 
 use crate::problem_tests::number;
 use crate::tests::table_of;
@@ -11,7 +11,8 @@ use std::process::Abort;
 use std::test::Fail;
 use tl_base::{Breaking, List, Steps, Style};
 use tl_cert::{Log, Section, Trace};
-use tl_form::{Table, inner_steps, least_width};
+use tl_form::inner_steps;
+use tl_table::{Table, least_width};
 
 /// The numbers of a text, separated by spaces.
 fn numbers(alloc: Global, text: &str) -> Result<List<u32>, Fail> {

@@ -5,8 +5,9 @@ use std::alloc::{AllocError, Global};
 use std::process::Abort;
 use std::test::Fail;
 use tl_base::{Breaking, Config, List, Steps, Style};
-use tl_form::{InnerSteps, Table, has_sound_problem, problem};
+use tl_form::{InnerSteps, has_sound_problem, problem};
 use tl_problem::{Cell, Problem};
+use tl_table::Table;
 
 /// Steps as text: `3:2 7:1`.
 fn push_steps(alloc: Global, line: &mut String, steps: &Steps) -> Result<(), AllocError> {

@@ -1,18 +1,17 @@
 //! Files whose tables, least widths and chains are counted by hand, refusals, and tables at the limits.
 
 ghost use Rattle.std.specs.Prelude.{◌≡◌, IfOk, Some};
-ghost use Rattle.tl_form.specs.Sound.{IsSound};
+ghost use Rattle.tl_table.specs.Sound.{IsSound};
 ghost use Rattle.tl_tree.specs.Sound.{IsSound as IsSoundTree};
 
 use std::alloc::{AllocError, Global};
 use std::process::Abort;
 use std::test::Fail;
-use tl_base::{Breaking, List, MAX_FILE_BYTES, Style};
-use tl_form::{
+use tl_base::{Breaking, Chain, Entry, List, MAX_FILE_BYTES, Style};
+use tl_grid::GridError;
+use tl_table::{
     Content, FormError, Kind, Layout, Table, TableCell, least_width, narrow_chain, nested, table,
 };
-use tl_grid::GridError;
-use tl_problem::{Chain, Entry};
 use tl_text::{Atom, Para};
 use tl_token::tokens;
 use tl_tree::{TableNode, tree};
@@ -390,6 +389,15 @@ fn least_widths_and_heaviest_chains_are_those_counted_by_hand(rt: HostRuntime) -
         weighs(&rt, alloc, file, Style::Plain, wanted)?;
     }
     Ok(())
+}
+
+#[test]
+fn a_compact_table_has_one_column_between_two_and_no_edge(rt: HostRuntime) -> Result<(), Fail> {
+    let spanned = "<table><tr><td colspan=2>abc<tr><td>x<td>y</table>";
+    takes(&rt, rt.alloc(), spanned, Style::Compact, 3)?;
+    let inner = "<table><tr><td><table><tr><td>aaa bbb<td>cc dd ee</table></table>";
+    let wanted = "6, chain 0 0:1, chain 1 0 1";
+    weighs(&rt, rt.alloc(), inner, Style::Compact, wanted)
 }
 
 #[test]

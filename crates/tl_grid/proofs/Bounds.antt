@@ -36,7 +36,8 @@ passed_within width y (b ∷ bs) x ps le all =
     ]
 
 -- what ends by a column ends by one further right
-all_by : (width wider : ℕ) → width ≤ wider → (xs : List Block) → AllByRecursion (EndsBy width) xs → AllByRecursion (EndsBy wider) xs
+all_by : (width wider : ℕ) → width ≤ wider → (xs : List Block) → AllByRecursion (EndsBy width) xs →
+    AllByRecursion (EndsBy wider) xs
 all_by width wider le [] a = tt
 all_by width wider le (x ∷ xs) a = (omega (arith, a.0), all_by width wider le xs a.1)
 

@@ -1,8 +1,10 @@
 -- The definition's cells beside the blocks: which cells lie over a slot.
-use Rattle.std.proofs.Common.{◌≡◌, ℕ, ◌+◌, ◌<◌, ◌≤◌, zero, suc, Bool, true, false, ◌&&◌, ◌||◌, cond, ltb, leb, eqb, List, [], ◌∷◌, ◌++◌, map, refl}
+use Rattle.std.proofs.Common.{◌≡◌, ℕ, ◌+◌, ◌<◌, ◌≤◌, zero, suc, Bool, true, false, ◌&&◌, ◌||◌, cond, ltb, leb, eqb, List, [], ◌∷◌}
+use Rattle.std.proofs.Common.{◌++◌, map, refl}
 use Rattle.std.proofs.Common.{sym, ap, ◌∙◌, inl, inr, arith}
 use Rattle.std.specs.List.{filter, AllByRecursion}
-use Rattle.std.proofs.lemmas.Bool.{lt-ltb, le-ltb, le-leb, eq-eqb, ne_eqb, cases_Bool, cases_lt, cases_eq, cond-true, cond-false, and_right}
+use Rattle.std.proofs.lemmas.Bool.{lt-ltb, le-ltb, le-leb, eq-eqb, ne_eqb, cases_Bool, cases_lt, cases_eq, cond-true, cond-false}
+use Rattle.std.proofs.lemmas.Bool.{and_right}
 use Rattle.std.proofs.lemmas.List.{map-append}
 use Rattle.std.proofs.lemmas.List.Elements.{filter-append}
 use Rattle.tl_grid.specs.declared.shape.SpanOf.{SpanOf}
@@ -141,8 +143,10 @@ first_free_from taken zero x = omega arith
 first_free_from taken (suc k) x =
     let ih : x + 1 ≤ first_free taken (x + 1) k = first_free_from taken k (x + 1) in
     elim (cases_Bool (taken x)) [
-      | inl e ↦ (let eq : first_free taken x (suc k) ≡ first_free taken (x + 1) k = cond-true (taken x) (first_free taken (x + 1) k) x e in rw eq (omega arith))
-      | inr e ↦ (let eq : first_free taken x (suc k) ≡ x = cond-false (taken x) (first_free taken (x + 1) k) x e in rw eq (omega arith))
+      | inl e ↦ (let eq : first_free taken x (suc k) ≡ first_free taken (x + 1) k =
+          cond-true (taken x) (first_free taken (x + 1) k) x e in rw eq (omega arith))
+      | inr e ↦ (let eq : first_free taken x (suc k) ≡ x = cond-false (taken x) (first_free taken (x + 1) k) x e in
+          rw eq (omega arith))
     ]
 
 -- a growing cell begins with one row
@@ -198,10 +202,12 @@ grown_cell y b lt = λ i. record {
 }
 
 -- the same for all blocks of a group
-pub grown_cells : (y : ℕ) (bs : List Block) → AllByRecursion (BeginsAbove y) bs → map (grown_into y) (map (cell_of y) bs) ≡ map (cell_of (y + 1)) bs
+pub grown_cells : (y : ℕ) (bs : List Block) → AllByRecursion (BeginsAbove y) bs →
+    map (grown_into y) (map (cell_of y) bs) ≡ map (cell_of (y + 1)) bs
 grown_cells y [] all = refl
 grown_cells y (b ∷ bs) all =
-    ap (λ c. c ∷ map (grown_into y) (map (cell_of y) bs)) (grown_cell y b all.0) ∙ ap (λ cs. cell_of (y + 1) b ∷ cs) (grown_cells y bs all.1)
+    ap (λ c. c ∷ map (grown_into y) (map (cell_of y) bs)) (grown_cell y b all.0) ∙ ap (λ cs. cell_of (y + 1) b ∷ cs)
+    (grown_cells y bs all.1)
 
 -- the cells of earlier groups do not grow
 still_cell : (y : ℕ) (c : Cell) → c.grows ≡ false → grown_into y c ≡ c
@@ -221,13 +227,15 @@ still_cells y start (c ∷ cs) q =
     ap (λ d. d ∷ map (grown_into y) cs) (still_cell y c q.0.still) ∙ ap (λ ds. c ∷ ds) (still_cells y start cs q.1)
 
 -- growing into a row changes nothing in another
-pub grown_elsewhere : (x y y' : ℕ) → (y' ≡ y → ⊥) → (cs : List Cell) → numbers_over x y' (map (grown_into y) cs) ≡ numbers_over x y' cs
+pub grown_elsewhere : (x y y' : ℕ) → (y' ≡ y → ⊥) → (cs : List Cell) →
+    numbers_over x y' (map (grown_into y) cs) ≡ numbers_over x y' cs
 grown_elsewhere x y y' ne [] = refl
 grown_elsewhere x y y' ne (c ∷ cs) =
     let rest : numbers_over x y' (map (grown_into y) cs) ≡ numbers_over x y' cs = grown_elsewhere x y y' ne cs in
     let same : covers x y' (grown_into y c) ≡ covers x y' c =
     ap (λ r. (leb c.left x && ltb x c.right) && r)
-    (ap (λ t. c.rows y' || (c.grows && t)) (ne_eqb y' y ne) ∙ ap (λ t. c.rows y' || t) (and_right c.grows false refl) ∙ or_false (c.rows y')) in
+    (ap (λ t. c.rows y' || (c.grows && t)) (ne_eqb y' y ne) ∙ ap (λ t. c.rows y' || t) (and_right c.grows false refl) ∙ or_false
+    (c.rows y')) in
     elim (cases_Bool (covers x y' c)) [
       | inl e ↦
           ap (map number_of) (filter_yes (covers x y') (grown_into y c) (map (grown_into y) cs) (same ∙ e))

@@ -1,7 +1,9 @@
 -- Blocks in order, side by side: which of them cover a slot.
-use Rattle.std.proofs.Common.{◌≡◌, ℕ, ◌<◌, ◌≤◌, Bool, true, false, ◌&&◌, ltb, leb, List, [], ◌∷◌, ◌++◌, length, refl, inl, inr, arith}
+use Rattle.std.proofs.Common.{◌≡◌, ℕ, ◌<◌, ◌≤◌, Bool, true, false, ◌&&◌, ltb, leb, List, [], ◌∷◌, ◌++◌, length, refl, inl, inr}
+use Rattle.std.proofs.Common.{arith}
 use Rattle.std.specs.List.{filter}
-use Rattle.std.proofs.lemmas.Bool.{ltb-true, leb-true, lt-ltb, le-ltb, le-leb, lt-leb, and_parts, and_from, and_left, and_right, or_cases, or_left}
+use Rattle.std.proofs.lemmas.Bool.{ltb-true, leb-true, lt-ltb, le-ltb, le-leb, lt-leb, and_parts, and_from, and_left, and_right}
+use Rattle.std.proofs.lemmas.Bool.{or_cases, or_left}
 use Rattle.std.proofs.lemmas.Bool.{or_right, cases_Bool, cond-true, cond-false}
 use Rattle.tl_grid.specs.declared.block.Block.{Block}
 use Rattle.tl_grid.specs.inner.OpenBlocks.{reaches}
@@ -67,11 +69,13 @@ pub filter_no : {X : Type 0} (p : X → Bool) (x : X) (xs : List X) → p x ≡ 
 filter_no p x xs h = cond-false (p x) (x ∷ filter p xs) (filter p xs) h
 
 -- the chain of the blocks that reach row y, without one that does not, or with one that does
-pub chain_no : (a y : ℕ) (b : Block) (bs : List Block) → reaches y b ≡ false → Chain a (filter (reaches y) (b ∷ bs)) → Chain a (filter (reaches y) bs)
+pub chain_no : (a y : ℕ) (b : Block) (bs : List Block) → reaches y b ≡ false → Chain a (filter (reaches y) (b ∷ bs)) →
+    Chain a (filter (reaches y) bs)
 chain_no a y b bs e c = rw (filter_no (reaches y) b bs e) at c
 
 -- and with one that does
-pub chain_yes : (a y : ℕ) (b : Block) (bs : List Block) → reaches y b ≡ true → Chain a (filter (reaches y) (b ∷ bs)) → Chain a (b ∷ filter (reaches y) bs)
+pub chain_yes : (a y : ℕ) (b : Block) (bs : List Block) → reaches y b ≡ true → Chain a (filter (reaches y) (b ∷ bs)) →
+    Chain a (b ∷ filter (reaches y) bs)
 chain_yes a y b bs e c = rw (filter_yes (reaches y) b bs e) at c
 
 -- a chain is one from any column before it
@@ -112,7 +116,8 @@ none_left z x y y' lt le (b ∷ bs) c =
     ]
 
 -- nor does one before column z cover z or one after it
-pub none_right : (a z x y y' : ℕ) → z ≤ x → y ≤ y' → (bs : List Block) → ChainTo a (filter (reaches y) bs) z → filter (spot x y') bs ≡ []
+pub none_right : (a z x y y' : ℕ) → z ≤ x → y ≤ y' → (bs : List Block) → ChainTo a (filter (reaches y) bs) z →
+    filter (spot x y') bs ≡ []
 none_right a z x y y' ge le [] c = refl
 none_right a z x y y' ge le (b ∷ bs) c =
     elim (cases_Bool (reaches y b)) [
@@ -127,7 +132,8 @@ none_right a z x y y' ge le (b ∷ bs) c =
     ]
 
 -- a chain covers no slot twice
-pub at_most_one : (a x y y' : ℕ) → y ≤ y' → (bs : List Block) → Chain a (filter (reaches y) bs) → length (filter (spot x y') bs) ≤ 1
+pub at_most_one : (a x y y' : ℕ) → y ≤ y' → (bs : List Block) → Chain a (filter (reaches y) bs) →
+    length (filter (spot x y') bs) ≤ 1
 at_most_one a x y y' le [] c = omega arith
 at_most_one a x y y' le (b ∷ bs) c =
     elim (cases_Bool (reaches y b)) [
@@ -151,7 +157,8 @@ chain_append a z [] cs c d = chain_from a z cs c d
 chain_append a z (b ∷ bs) cs c d = (c.0, c.1, chain_append b.right z bs cs c.2 d)
 
 -- one more block at a chain's end
-pub chain_push : (a z : ℕ) (bs : List Block) (b : Block) → ChainTo a bs z → z ≤ b.left → b.left < b.right → ChainTo a (bs ++ b ∷ []) b.right
+pub chain_push : (a z : ℕ) (bs : List Block) (b : Block) → ChainTo a bs z → z ≤ b.left → b.left < b.right →
+    ChainTo a (bs ++ b ∷ []) b.right
 chain_push a z [] b c l r = (omega arith, r, omega arith)
 chain_push a z (x ∷ bs) b c l r = (c.0, c.1, chain_push x.right z bs b c.2 l r)
 

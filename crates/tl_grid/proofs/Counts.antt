@@ -1,9 +1,11 @@
 -- How many kept numbers are below a number: their places in a list in strictly increasing order.
-use Rattle.std.proofs.Common.{◌≡◌, ℕ, ◌+◌, ◌<◌, ◌≤◌, zero, suc, Bool, true, false, ◌||◌, cond, ltb, eqb, List, [], ◌∷◌, length, get_or, refl, sym, ap}
+use Rattle.std.proofs.Common.{◌≡◌, ℕ, ◌+◌, ◌<◌, ◌≤◌, zero, suc, Bool, true, false, ◌||◌, cond, ltb, eqb, List, [], ◌∷◌, length}
+use Rattle.std.proofs.Common.{get_or, refl, sym, ap}
 use Rattle.std.proofs.Common.{◌∙◌, inl, inr, arith, add-one}
 use Rattle.std.specs.List.{filter, dedup, dedup_from}
 use Rattle.std.specs.List.Sorted.{IsStrictlyIncreasing, IsNonDecreasingBy}
-use Rattle.std.proofs.lemmas.Bool.{lt-ltb, le-ltb, eq-eqb, ne_eqb, eqb-true, cases_Bool, cases_lt, cases_eq, cases_order, both_ways, cond-true}
+use Rattle.std.proofs.lemmas.Bool.{lt-ltb, le-ltb, eq-eqb, ne_eqb, eqb-true, cases_Bool, cases_lt, cases_eq, cases_order}
+use Rattle.std.proofs.lemmas.Bool.{both_ways, cond-true}
 use Rattle.std.proofs.lemmas.Bool.{cond-false, or_parts}
 use Rattle.std.proofs.lemmas.List.Kept.{AllPairs-from_increasing}
 use Rattle.tl_grid.specs.Dropping.{count_below}
@@ -31,7 +33,8 @@ one_of true t apart = (let none : one_if t ≡ 0 = ap one_if (apart refl) in ome
 one_of false t apart = omega arith
 
 -- what passes one of two tests that never both pass
-count_or : (p q : ℕ → Bool) → ((x : ℕ) → p x ≡ true → q x ≡ false) → (n : ℕ) → count_below (λ x. p x || q x) n ≡ count_below p n + count_below q n
+count_or : (p q : ℕ → Bool) → ((x : ℕ) → p x ≡ true → q x ≡ false) → (n : ℕ) →
+    count_below (λ x. p x || q x) n ≡ count_below p n + count_below q n
 count_or p q apart zero = refl
 count_or p q apart (suc n) =
     let rest : count_below (λ x. p x || q x) n ≡ count_below p n + count_below q n = count_or p q apart n in
@@ -80,7 +83,8 @@ count_among a n (k ∷ ks) r =
     let apart : (x : ℕ) → eqb k x ≡ true → is_among ks x ≡ false =
     λ x e. not_among (k + 1) x (let same : k ≡ x = eqb-true k x e in omega arith) ks r.1 in
     let both : count_below (is_among (k ∷ ks)) n ≡ count_below (λ x. eqb k x) n + count_below (is_among ks) n =
-    count_same (is_among (k ∷ ks)) (λ x. eqb k x || is_among ks x) (λ x. is_among-cons k ks x) n ∙ count_or (λ x. eqb k x) (is_among ks) apart n in
+    count_same (is_among (k ∷ ks)) (λ x. eqb k x || is_among ks x) (λ x. is_among-cons k ks x) n ∙ count_or (λ x. eqb k x)
+    (is_among ks) apart n in
     let one : count_below (λ x. eqb k x) n ≡ one_if (ltb k n) = count_one k n in
     let rest : count_below (is_among ks) n ≡ length (filter (λ j. ltb j n) ks) = count_among (k + 1) n ks r.1 in
     elim (cases_Bool (ltb k n)) [
@@ -106,7 +110,8 @@ point_is_count p (x ∷ xs) zero le passes fails =
     ∙ point_is_count p xs zero (omega arith) (λ k h. absurd (omega arith)) (λ k h l. fails (suc k) (omega arith) (omega arith))
 point_is_count p (x ∷ xs) (suc i) le passes fails =
     ap length (filter_yes p x xs (passes 0 (omega arith)))
-    ∙ ap suc (point_is_count p xs i (omega arith) (λ k h. passes (suc k) (omega arith)) (λ k h l. fails (suc k) (omega arith) (omega arith)))
+    ∙ ap suc (point_is_count p xs i (omega arith) (λ k h. passes (suc k) (omega arith))
+    (λ k h l. fails (suc k) (omega arith) (omega arith)))
 
 -- the rest of a list that rises rises
 rises_tail : (k : ℕ) (ks : List ℕ) → IsStrictlyIncreasing (k ∷ ks) → IsStrictlyIncreasing ks
@@ -128,13 +133,15 @@ rises_from a (k ∷ ks) up first = (
 )
 
 -- all are below the end
-pub count_whole : (n : ℕ) (ks : List ℕ) → ((x : ℕ) → n ≤ x → is_among ks x ≡ false) → length (filter (λ k. ltb k n) ks) ≡ length ks
+pub count_whole : (n : ℕ) (ks : List ℕ) → ((x : ℕ) → n ≤ x → is_among ks x ≡ false) →
+    length (filter (λ k. ltb k n) ks) ≡ length ks
 count_whole n [] none = refl
 count_whole n (k ∷ ks) none =
     elim (cases_lt k n) [
       | inl lt ↦ ap length (filter_yes (λ j. ltb j n) k ks (lt-ltb k n lt))
           ∙ ap suc (count_whole n ks (λ x le. (or_parts (eqb k x) (is_among ks x) (sym (is_among-cons k ks x) ∙ none x le)).1))
-      | inr ge ↦ absurd (both_ways true (sym (ap (λ t. t || is_among ks k) (eq-eqb k k refl)) ∙ sym (is_among-cons k ks k) ∙ none k ge) refl)
+      | inr ge ↦ absurd (both_ways true (sym (ap (λ t. t || is_among ks k) (eq-eqb k k refl)) ∙ sym
+          (is_among-cons k ks k) ∙ none k ge) refl)
     ]
 
 -- `a` again changes no "or"
@@ -169,5 +176,6 @@ pub non_decreasing : (ks : List ℕ) → IsStrictlyIncreasing ks → IsNonDecrea
 non_decreasing ks up i j d le lt =
     elim (cases_eq i j) [
       | inl e ↦ (let same : get_or ks i d ≡ get_or ks j d = ap (λ k. get_or ks k d) e in omega arith)
-      | inr ne ↦ (let below : get_or ks i d < get_or ks j d = AllPairs-from_increasing ks up i j d (omega arith) lt in omega arith)
+      | inr ne ↦ (let below : get_or ks i d < get_or ks j d = AllPairs-from_increasing ks up i j d (omega arith) lt in
+          omega arith)
     ]

@@ -1,15 +1,19 @@
 -- In each row of the standard's steps the slots to the left of an anchor are taken.
-use Rattle.std.proofs.Common.{◌≡◌, ℕ, ◌+◌, ◌-◌, ◌<◌, ◌≤◌, zero, suc, Bool, true, false, ◌&&◌, ◌||◌, not, cond, ltb, leb, eqb, List, [], ◌∷◌, ◌++◌}
+use Rattle.std.proofs.Common.{◌≡◌, ℕ, ◌+◌, ◌-◌, ◌<◌, ◌≤◌, zero, suc, Bool, true, false, ◌&&◌, ◌||◌, not, cond, ltb, leb, eqb}
+use Rattle.std.proofs.Common.{List, [], ◌∷◌, ◌++◌}
 use Rattle.std.proofs.Common.{map, length, sym, ap, ◌∙◌, inl, inr, arith}
 use Rattle.std.specs.List.{AllByRecursion}
-use Rattle.std.proofs.lemmas.Bool.{lt-ltb, le-leb, and_parts, and_from, or_left, or_right, or_cases, cases_Bool, cases_eq, cases_lt, cond-true}
+use Rattle.std.proofs.lemmas.Bool.{lt-ltb, le-leb, and_parts, and_from, or_left, or_right, or_cases, cases_Bool, cases_eq}
+use Rattle.std.proofs.lemmas.Bool.{cases_lt, cond-true}
 use Rattle.std.proofs.lemmas.Bool.{cond-false}
 use Rattle.std.proofs.lemmas.List.Folds.{list_any-append}
 use Rattle.tl_grid.specs.declared.shape.SpanOf.{SpanOf}
 use Rattle.tl_grid.specs.declared.shape.ShapeGroup.{ShapeGroup}
 use Rattle.tl_grid.specs.declared.shape.Shape.{Shape}
-use Rattle.tl_grid.specs.Forming.{Cell, Forming, covers, has_cell, first_free, initial_rowspan, cell_at, with_cell, form_cells, grown_into, begin_row}
-use Rattle.tl_grid.specs.Forming.{form_row, form_rows, at_group_end, end_group, form_group, form_groups, cells_in, no_cells, formed}
+use Rattle.tl_grid.specs.Forming.{Cell, Forming, covers, has_cell, first_free, initial_rowspan, cell_at, with_cell, form_cells}
+use Rattle.tl_grid.specs.Forming.{grown_into, begin_row}
+use Rattle.tl_grid.specs.Forming.{form_row, form_rows, at_group_end, end_group, form_group, form_groups, cells_in, no_cells}
+use Rattle.tl_grid.specs.Forming.{formed}
 use Rattle.tl_grid.proofs.Rows.{rows_some}
 
 -- the slots to the left of the cell are taken in the row of its anchor
@@ -25,13 +29,15 @@ abbrev Covers : List Cell → List Cell → Type 0
 Covers cells others = (x y : ℕ) → has_cell x y cells ≡ true → has_cell x y others ≡ true
 
 -- what was filled stays filled
-filled_on : (cells others : List Cell) → Covers cells others → (cs : List Cell) → AllByRecursion (IsFilled cells) cs → AllByRecursion (IsFilled others) cs
+filled_on : (cells others : List Cell) → Covers cells others → (cs : List Cell) → AllByRecursion (IsFilled cells) cs →
+    AllByRecursion (IsFilled others) cs
 filled_on cells others more [] all = tt
 filled_on cells others more (c ∷ cs) all = (λ x lt. more x c.top (all.0 x lt), filled_on cells others more cs all.1)
 
 -- one more cell takes no slot away
 covers_push : (cells : List Cell) (c : Cell) → Covers cells (cells ++ c ∷ [])
-covers_push cells c x y has = list_any-append (covers x y) cells (c ∷ []) ∙ or_left (has_cell x y cells) (has_cell x y (c ∷ [])) has
+covers_push cells c x y has = list_any-append (covers x y) cells (c ∷ []) ∙ or_left (has_cell x y cells) (has_cell x y (c ∷ []))
+    has
 
 -- one more cell that is filled
 push_filled : (P : Cell → Type 0) (cs : List Cell) (c : Cell) → AllByRecursion P cs → P c → AllByRecursion P (cs ++ c ∷ [])
@@ -44,7 +50,8 @@ passed_taken taken zero x x' le lt = absurd (omega arith)
 passed_taken taken (suc k) x x' le lt =
     elim (cases_Bool (taken x)) [
       | inl e ↦
-          let on : first_free taken x (suc k) ≡ first_free taken (x + 1) k = cond-true (taken x) (first_free taken (x + 1) k) x e in
+          let on : first_free taken x (suc k) ≡ first_free taken (x + 1) k =
+          cond-true (taken x) (first_free taken (x + 1) k) x e in
           elim (cases_eq x x') [
             | inl same ↦ ap taken (sym same) ∙ e
             | inr ne ↦ passed_taken taken k (x + 1) x' (omega arith) (omega arith)
@@ -55,7 +62,8 @@ passed_taken taken (suc k) x x' le lt =
     ]
 
 -- a cell takes the slots of its first row
-covers_first : (number x y : ℕ) (span : SpanOf) (x' : ℕ) → x ≤ x' → x' < x + span.colspan → covers x' y (cell_at number x y span) ≡ true
+covers_first : (number x y : ℕ) (span : SpanOf) (x' : ℕ) → x ≤ x' → x' < x + span.colspan →
+    covers x' y (cell_at number x y span) ≡ true
 covers_first number x y span x' le lt =
     and_from (leb x x' && ltb x' (x + span.colspan)) (leb y y && ltb y (y + initial_rowspan span))
     (and_from (leb x x') (ltb x' (x + span.colspan)) (le-leb x x' le) (lt-ltb x' (x + span.colspan) lt))
@@ -96,7 +104,8 @@ cells_filled (span ∷ spans) number x s before all =
     (λ x' lt. covers_push s.cells c x' s.row (free x' lt)))
 
 -- a change of all cells that takes no slot from one
-covers_map : (f : Cell → Cell) → ((x y : ℕ) (c : Cell) → covers x y c ≡ true → covers x y (f c) ≡ true) → (cs : List Cell) → Covers cs (map f cs)
+covers_map : (f : Cell → Cell) → ((x y : ℕ) (c : Cell) → covers x y c ≡ true → covers x y (f c) ≡ true) → (cs : List Cell) →
+    Covers cs (map f cs)
 covers_map f more [] x y has = has
 covers_map f more (c ∷ cs) x y has =
     elim (or_cases (covers x y c) (has_cell x y cs) has) [
@@ -112,7 +121,8 @@ map_filled others f same [] all = tt
 map_filled others f same (c ∷ cs) all = (same c all.0, map_filled others f same cs all.1)
 
 -- a cell with more rows covers no less
-more_rows : (x y : ℕ) (c : Cell) (more : Bool) → covers x y c ≡ true → ((leb c.left x && ltb x c.right) && (c.rows y || more)) ≡ true
+more_rows : (x y : ℕ) (c : Cell) (more : Bool) → covers x y c ≡ true →
+    ((leb c.left x && ltb x c.right) && (c.rows y || more)) ≡ true
 more_rows x y c more e =
     let is = and_parts (leb c.left x && ltb x c.right) (c.rows y) e in
     and_from (leb c.left x && ltb x c.right) (c.rows y || more) is.0 (or_left (c.rows y) more is.1)
@@ -121,7 +131,8 @@ more_rows x y c more e =
 begin_filled : (s : Forming) → AllFilled s → AllFilled (begin_row s)
 begin_filled s all =
     map_filled (begin_row s).cells (grown_into s.row) (λ c is. is) s.cells
-    (filled_on s.cells (begin_row s).cells (covers_map (grown_into s.row) (λ x y c e. more_rows x y c (c.grows && eqb y s.row) e) s.cells) s.cells all)
+    (filled_on s.cells (begin_row s).cells (covers_map (grown_into s.row)
+    (λ x y c e. more_rows x y c (c.grows && eqb y s.row) e) s.cells) s.cells all)
 
 -- the rows of a group
 rows_filled : (rows : List (List SpanOf)) (number : ℕ) (s : Forming) → AllFilled s → AllFilled (form_rows number rows s)
@@ -137,21 +148,26 @@ group_filled number rows s all =
     let ended : Cell → Cell = at_group_end last.row last.height in
     map_filled (end_group last).cells ended (λ c is. is) last.cells
     (filled_on last.cells (end_group last).cells
-    (covers_map ended (λ x y c e. more_rows x y c (c.grows && (ltb last.row y && ltb y last.height)) e) last.cells) last.cells (rows_filled rows number s all))
+    (covers_map ended (λ x y c e. more_rows x y c (c.grows && (ltb last.row y && ltb y last.height)) e) last.cells) last.cells
+    (rows_filled rows number s all))
 
 -- a group in its turn, and one that is passed over
-turn_filled : (b : Bool) (number : ℕ) (rows : List (List SpanOf)) (s : Forming) → AllFilled s → AllFilled (cond b (form_group number rows s) s)
+turn_filled : (b : Bool) (number : ℕ) (rows : List (List SpanOf)) (s : Forming) → AllFilled s →
+    AllFilled (cond b (form_group number rows s) s)
 turn_filled true number rows s all = group_filled number rows s all
 turn_filled false number rows s all = all
 
 -- all groups whose turn it is
-groups_filled : (turn : ShapeGroup → Bool) (gs : List ShapeGroup) (number : ℕ) (s : Forming) → AllFilled s → AllFilled (form_groups turn number gs s)
+groups_filled : (turn : ShapeGroup → Bool) (gs : List ShapeGroup) (number : ℕ) (s : Forming) → AllFilled s →
+    AllFilled (form_groups turn number gs s)
 groups_filled turn [] number s all = all
 groups_filled turn (g ∷ gs) number s all =
-    groups_filled turn gs (number + cells_in g.rows) (cond (turn g) (form_group number g.rows s) s) (turn_filled (turn g) number g.rows s all)
+    groups_filled turn gs (number + cells_in g.rows) (cond (turn g) (form_group number g.rows s) s)
+    (turn_filled (turn g) number g.rows s all)
 
 -- in every table all slots to the left of an anchored cell are taken in its row
 pub formed_filled : (shape : Shape) → AllFilled (formed shape)
 formed_filled shape =
-    groups_filled (λ group. group.foot) shape.groups 0 (form_groups (λ group. not group.foot) 0 shape.groups (no_cells shape.columns))
+    groups_filled (λ group. group.foot) shape.groups 0 (form_groups (λ group. not group.foot) 0 shape.groups
+    (no_cells shape.columns))
     (groups_filled (λ group. not group.foot) shape.groups 0 (no_cells shape.columns) tt)

@@ -1,5 +1,6 @@
 -- The blocks' dropped grid is the definition's.
-use Rattle.std.proofs.Common.{◌≡◌, ℕ, ◌+◌, ◌<◌, ◌≤◌, zero, suc, Bool, true, false, ◌&&◌, ◌||◌, ltb, leb, eqb, List, [], ◌∷◌, map, length, refl, sym}
+use Rattle.std.proofs.Common.{◌≡◌, ℕ, ◌+◌, ◌<◌, ◌≤◌, zero, suc, Bool, true, false, ◌&&◌, ◌||◌, ltb, leb, eqb, List, [], ◌∷◌, map}
+use Rattle.std.proofs.Common.{length, refl, sym}
 use Rattle.std.proofs.Common.{ap, ◌∙◌, subst, inl, inr, arith}
 use Rattle.std.specs.List.{AllByRecursion}
 use Rattle.std.specs.List.Sorted.{IsStrictlyIncreasing}
@@ -20,7 +21,8 @@ use Rattle.tl_grid.proofs.Tables.{mask, whole, TableMatches}
 use Rattle.tl_grid.proofs.Counts.{one_if, count_same, count_among, count_whole, rises_from}
 
 -- the cells that are looked at in the rows with an anchor are the blocks
-masked : (s : Forming) (t : Table) → TableMatches s t → map (mask (keeps_row s.cells)) s.cells ≡ map (mask (keeps_row s.cells)) (map whole t.blocks)
+masked : (s : Forming) (t : Table) → TableMatches s t → map (mask (keeps_row s.cells)) s.cells ≡ map (mask (keeps_row s.cells))
+    (map whole t.blocks)
 masked s t m = m.pairs (keeps_row s.cells) (λ y lt. refl)
 
 -- the columns kept do not depend on rows
@@ -36,12 +38,14 @@ rows_of_masked keeps (c ∷ cs) y = ap (λ t. eqb c.top y || t) (rows_of_masked 
 -- the columns in which blocks begin
 columns_of_whole : (bs : List Block) (x : ℕ) → keeps_column (map whole bs) x ≡ begins_in_column bs x
 columns_of_whole [] x = refl
-columns_of_whole (b ∷ bs) x = ap (λ t. eqb b.left x || t) (columns_of_whole bs x) ∙ sym (is_among-cons b.left (map (λ (block : Block). block.left) bs) x)
+columns_of_whole (b ∷ bs) x = ap (λ t. eqb b.left x || t) (columns_of_whole bs x) ∙ sym
+    (is_among-cons b.left (map (λ (block : Block). block.left) bs) x)
 
 -- and the rows
 rows_of_whole : (bs : List Block) (y : ℕ) → keeps_row (map whole bs) y ≡ begins_in_row bs y
 rows_of_whole [] y = refl
-rows_of_whole (b ∷ bs) y = ap (λ t. eqb b.top y || t) (rows_of_whole bs y) ∙ sym (is_among-cons b.top (map (λ (block : Block). block.top) bs) y)
+rows_of_whole (b ∷ bs) y = ap (λ t. eqb b.top y || t) (rows_of_whole bs y) ∙ sym
+    (is_among-cons b.top (map (λ (block : Block). block.top) bs) y)
 
 -- the same columns and rows are kept
 pub same_columns : (s : Forming) (t : Table) → TableMatches s t → (x : ℕ) → keeps_column s.cells x ≡ begins_in_column t.blocks x
@@ -56,7 +60,8 @@ same_rows s t m y =
     ∙ rows_of_masked (keeps_row s.cells) (map whole t.blocks) y ∙ rows_of_whole t.blocks y
 
 -- none begins past the table's width or height
-pub no_column : (width height : ℕ) (bs : List Block) → AllByRecursion (IsSound width height) bs → (x : ℕ) → width ≤ x → begins_in_column bs x ≡ false
+pub no_column : (width height : ℕ) (bs : List Block) → AllByRecursion (IsSound width height) bs → (x : ℕ) → width ≤ x →
+    begins_in_column bs x ≡ false
 no_column width height [] sound x le = refl
 no_column width height (b ∷ bs) sound x le =
     is_among-cons b.left (map (λ (block : Block). block.left) bs) x
@@ -64,7 +69,8 @@ no_column width height (b ∷ bs) sound x le =
     ∙ no_column width height bs sound.1 x le
 
 -- and none below its height
-pub no_row : (width height : ℕ) (bs : List Block) → AllByRecursion (IsSound width height) bs → (y : ℕ) → height ≤ y → begins_in_row bs y ≡ false
+pub no_row : (width height : ℕ) (bs : List Block) → AllByRecursion (IsSound width height) bs → (y : ℕ) → height ≤ y →
+    begins_in_row bs y ≡ false
 no_row width height [] sound y le = refl
 no_row width height (b ∷ bs) sound y le =
     is_among-cons b.top (map (λ (block : Block). block.top) bs) y
@@ -117,7 +123,8 @@ count_early keeps a b (suc n) le =
     omega arith
 
 -- up to the end of the bounds
-count_within : (keeps : ℕ → Bool) (a b n : ℕ) → a ≤ n → n ≤ b → count_below keeps a + count_below (between keeps a b) n ≡ count_below keeps n
+count_within : (keeps : ℕ → Bool) (a b n : ℕ) → a ≤ n → n ≤ b →
+    count_below keeps a + count_below (between keeps a b) n ≡ count_below keeps n
 count_within keeps a b zero le le' =
     let start : a ≡ 0 = omega arith in ap (λ k. count_below keeps k + 0) start
 count_within keeps a b (suc n) le le' =
@@ -128,14 +135,16 @@ count_within keeps a b (suc n) le le' =
           let same : count_below keeps a ≡ count_below keeps (suc n) = ap (count_below keeps) end in
           omega arith
       | inr ge ↦
-          let rest : count_below keeps a + count_below (between keeps a b) n ≡ count_below keeps n = count_within keeps a b n ge (omega arith) in
+          let rest : count_below keeps a + count_below (between keeps a b) n ≡ count_below keeps n =
+          count_within keeps a b n ge (omega arith) in
           let here : one_if (between keeps a b n) ≡ one_if (keeps n) =
           ap one_if (between_in keeps a b n ge (omega arith)) in
           omega arith
     ]
 
 -- what is kept between a and b, by the counts up to both
-pub count_between : (keeps : ℕ → Bool) (a b n : ℕ) → a ≤ b → b ≤ n → count_below keeps a + count_below (between keeps a b) n ≡ count_below keeps b
+pub count_between : (keeps : ℕ → Bool) (a b n : ℕ) → a ≤ b → b ≤ n →
+    count_below keeps a + count_below (between keeps a b) n ≡ count_below keeps b
 count_between keeps a b zero le le' =
     let end : b ≡ 0 = omega arith in
     let start : a ≡ 0 = omega arith in
@@ -146,7 +155,8 @@ count_between keeps a b (suc n) le le' =
           let end : b ≡ suc n = omega arith in
           count_within keeps a b (suc n) (omega arith) (omega arith) ∙ ap (count_below keeps) (sym end)
       | inr ge ↦
-          let rest : count_below keeps a + count_below (between keeps a b) n ≡ count_below keeps b = count_between keeps a b n le ge in
+          let rest : count_below keeps a + count_below (between keeps a b) n ≡ count_below keeps b =
+          count_between keeps a b n le ge in
           let here : one_if (between keeps a b n) ≡ 0 =
           ap one_if (between_out keeps a b n (and_right (leb a n) (ltb n b) (le-ltb n b ge))) in
           omega arith

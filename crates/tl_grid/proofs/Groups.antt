@@ -1,5 +1,6 @@
 -- Whole rows and row groups: the walk gives the standard's cells, or the first overlap.
-use Rattle.std.proofs.Common.{◌≡◌, ℕ, ◌+◌, ◌<◌, ◌≤◌, max, List, [], ◌∷◌, ◌++◌, map, length, Option, Some, None, Result, Ok, Err, refl, sym, ap}
+use Rattle.std.proofs.Common.{◌≡◌, ℕ, ◌+◌, ◌<◌, ◌≤◌, max, List, [], ◌∷◌, ◌++◌, map, length, Option, Some, None, Result, Ok, Err}
+use Rattle.std.proofs.Common.{refl, sym, ap}
 use Rattle.std.proofs.Common.{◌∙◌, subst, inl, inr, arith}
 use Rattle.std.specs.List.{filter, AllByRecursion}
 use Rattle.std.proofs.lemmas.List.{map-append, length-map}
@@ -12,12 +13,15 @@ use Rattle.tl_grid.specs.declared.error.GridError.TheVariants.{Memory, TooManyCe
 use Rattle.tl_grid.specs.Forming.{Cell, Forming, with_cell, form_cells, begin_row, next_row, form_row, form_rows, grown_into}
 use Rattle.tl_grid.specs.Overlap.{numbers_over, IsBefore}
 use Rattle.tl_grid.specs.inner.OpenBlocks.{reaches, Walk, hit}
-use Rattle.tl_grid.specs.inner.Walk.{Row, RowGroup, placed, walk_of, unless_hit, place_cells, row_of, after_row, then_ok, place_rows}
+use Rattle.tl_grid.specs.inner.Walk.{Row, RowGroup, placed, walk_of, unless_hit, place_cells, row_of, after_row, then_ok}
+use Rattle.tl_grid.specs.inner.Walk.{place_rows}
 use Rattle.tl_grid.proofs.Chains.{spot, Chain, chain_append, chain_kept}
 use Rattle.tl_grid.proofs.Passing.{passes}
-use Rattle.tl_grid.proofs.Cells.{cell_of, AllQuiet, BeginsBy, BeginsAbove, block_number, numbers_here, grown_cells, still_cells, grown_elsewhere}
+use Rattle.tl_grid.proofs.Cells.{cell_of, AllQuiet, BeginsBy, BeginsAbove, block_number, numbers_here, grown_cells, still_cells}
+use Rattle.tl_grid.proofs.Cells.{grown_elsewhere}
 use Rattle.tl_grid.proofs.Later.{form_cells_before, form_cells_row, Later, later_rows}
-use Rattle.tl_grid.proofs.Rows.{RowMatches, IsWide, IsFoundIn, IsSound, sound_on, column_found, row_step, row_overlap, hit_block, all_weaken}
+use Rattle.tl_grid.proofs.Rows.{RowMatches, IsWide, IsFoundIn, IsSound, sound_on, column_found, row_step, row_overlap, hit_block}
+use Rattle.tl_grid.proofs.Rows.{all_weaken}
 use Rattle.tl_grid.proofs.Rows.{one_at_most_here}
 use Rattle.tl_grid.specs.inner.States.{EndsBy}
 
@@ -64,7 +68,8 @@ before_further x' y' x z y lt (inr (same, left)) = inr (same, omega arith)
 row_gives_step : (more : Result Row GridError) (o : Option Block) (span : SpanOf) (spans : List SpanOf)
     (done : List Cell) (y number : ℕ) (s : Forming) (r : Row) → AllQuiet y done → IsWide span →
     RowMatches done y s r → hit (walk_of y r).ahead ((walk_of y r).column + span.colspan) ≡ o →
-    (o ≡ None → RowGives done y (form_cells (number + 1) ((walk_of y r).column + span.colspan) spans (with_cell number (walk_of y r).column span s)) more) →
+    (o ≡ None → RowGives done y (form_cells (number + 1) ((walk_of y r).column + span.colspan) spans
+    (with_cell number (walk_of y r).column span s)) more) →
     RowGives done y (form_cells (number + 1) ((walk_of y r).column + span.colspan) spans
     (with_cell number (walk_of y r).column span s)) (unless_hit o number y more)
 row_gives_step more None span spans done y number s r quiet wide m found rest = rest refl
@@ -73,7 +78,8 @@ row_gives_step more (Some b) span spans done y number s r quiet wide m found res
     let t : Forming = with_cell number w.column span s in
     let at_row : s.row ≡ y = m.at_row in
     let f : IsFoundIn t.cells b.number number b.left y = row_overlap done y number span s r b quiet wide m found in
-    let (ahead, is) = hit_block y w.column (w.column + span.colspan) w.ahead b (passes y r.ahead r.column r.passed m.prefix m.rest).begins found in
+    let (ahead, is) = hit_block y w.column (w.column + span.colspan) w.ahead b
+    (passes y r.ahead r.column r.passed m.prefix m.rest).begins found in
     let left : b.left < w.column + span.colspan = is.3 in
     let P : List ℕ → Type 0 = λ l. length l ≤ 1 in (
       record {
@@ -100,7 +106,8 @@ row_gives (span ∷ spans) done y number s r quiet wide m =
     (row_gives_step (place_cells y (number + 1) (placed y number span r w) spans)
     (hit w.ahead (w.column + span.colspan)) span spans done y number s r quiet wide.0 m refl
     (λ none. row_gives spans done y (number + 1)
-    (with_cell number w.column span s) (placed y number span r w) quiet wide.1 (row_step done y number span s r quiet wide.0 m none)))
+    (with_cell number w.column span s) (placed y number span r w) quiet wide.1
+    (row_step done y number span s r quiet wide.0 m none)))
 
 -- a row group in the standard's steps and in the walk, between two rows
 pub record GroupMatches (done : List Cell) (s : Forming) (g : RowGroup) : Type 0 where
@@ -126,7 +133,8 @@ begun_cells done y bs quiet tops =
     ∙ ap (λ l. done ++ l) (grown_cells y bs tops)
 
 -- a row begins
-row_begins : (done : List Cell) (s : Forming) (g : RowGroup) → GroupMatches done s g → RowMatches done g.row (begin_row s) (row_of g)
+row_begins : (done : List Cell) (s : Forming) (g : RowGroup) → GroupMatches done s g →
+    RowMatches done g.row (begin_row s) (row_of g)
 row_begins done s g m =
     let at_row : s.row ≡ g.row = m.at_row in
     record {
@@ -155,7 +163,8 @@ quiet_on y z le (c ∷ cs) q =
     (record { still = q.0.still; above = λ row h. q.0.above row (omega arith) }, quiet_on y z le cs q.1)
 
 -- a row ends
-row_ends : (done : List Cell) (y : ℕ) (s : Forming) (r : Row) → AllQuiet y done → RowMatches done y s r → GroupMatches done (next_row s) (after_row y r)
+row_ends : (done : List Cell) (y : ℕ) (s : Forming) (r : Row) → AllQuiet y done → RowMatches done y s r →
+    GroupMatches done (next_row s) (after_row y r)
 row_ends done y s r quiet m =
     let at_row : s.row ≡ y = m.at_row in
     let low : y < r.height = m.low in
@@ -179,7 +188,8 @@ row_ends done y s r quiet m =
             let same : y' ≡ y = omega arith in
             let P : List ℕ → Type 0 = λ l. length l ≤ 1 in
             let one : length (filter (spot x' y) r.blocks) ≤ 1 = one_at_most_here done y s r x' m in
-            subst P (sym (ap (λ row. numbers_over x' row s.cells) same ∙ ap (numbers_over x' y) m.cells ∙ numbers_here x' y done r.blocks quiet m.tops))
+            subst P (sym (ap (λ row. numbers_over x' row s.cells) same ∙ ap (numbers_over x' y)
+            m.cells ∙ numbers_here x' y done r.blocks quiet m.tops))
             (rw (length-map (filter (spot x' y) r.blocks) block_number) one)
       ];
       quiet = quiet_on y (y + 1) (omega arith) done quiet;
@@ -205,7 +215,8 @@ AllWide = AllByRecursion (AllByRecursion IsWide)
 -- the rest of the rows, after one
 rows_give_step : (result : Result Row GridError) (done : List Cell) (y number : ℕ) (s : Forming)
     (rows : List (List SpanOf)) → s.row ≡ y → AllQuiet y done → RowGives done y s result →
-    ((row : Row) → RowMatches done y s row → RowsGive done (form_rows number rows (next_row s)) (place_rows number (after_row y row) rows)) →
+    ((row : Row) → RowMatches done y s row → RowsGive done (form_rows number rows (next_row s))
+    (place_rows number (after_row y row) rows)) →
     RowsGive done (form_rows number rows (next_row s)) (then_ok (λ row. place_rows number (after_row y row) rows) result)
 rows_give_step (Ok row) done y number s rows at_row quiet gives next = next row gives
 rows_give_step (Err error) done y number s rows at_row quiet gives next =
@@ -221,7 +232,8 @@ pub rows_give : (rows : List (List SpanOf)) (done : List Cell) (number : ℕ) (s
 rows_give [] done number s g wide m = m
 rows_give (spans ∷ rows) done number s g wide m =
     let at_row : s.row ≡ g.row = m.at_row in
-    rows_give_step (place_cells g.row number (row_of g) spans) done g.row (number + length spans) (form_cells number 0 spans (begin_row s)) rows
+    rows_give_step (place_cells g.row number (row_of g) spans) done g.row (number + length spans)
+    (form_cells number 0 spans (begin_row s)) rows
     (form_cells_row spans number 0 (begin_row s) ∙ at_row) m.quiet
     (row_gives spans done g.row number (begin_row s) (row_of g) m.quiet wide.0 (row_begins done s g m))
     (λ row matches. rows_give rows done (number + length spans) (form_row number spans s) (after_row g.row row) wide.1

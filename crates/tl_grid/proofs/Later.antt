@@ -1,11 +1,13 @@
 -- The steps of the standard change nothing in the rows above the current one.
-use Rattle.std.proofs.Common.{◌≡◌, ℕ, ◌+◌, ◌-◌, ◌<◌, ◌≤◌, max, Bool, false, ◌&&◌, ◌||◌, ltb, leb, eqb, List, [], ◌∷◌, ◌++◌, map, length, refl, sym}
+use Rattle.std.proofs.Common.{◌≡◌, ℕ, ◌+◌, ◌-◌, ◌<◌, ◌≤◌, max, Bool, false, ◌&&◌, ◌||◌, ltb, leb, eqb, List, [], ◌∷◌, ◌++◌, map}
+use Rattle.std.proofs.Common.{length, refl, sym}
 use Rattle.std.proofs.Common.{ap, ◌∙◌, subst, inl, inr, arith, append-nil}
 use Rattle.std.proofs.lemmas.Bool.{lt-leb, le-ltb, ne_eqb, cases_Bool, and_left, and_right, cond-true, cond-false}
 use Rattle.std.proofs.lemmas.List.Folds.{list_any-append}
 use Rattle.tl_grid.specs.declared.shape.SpanOf.{SpanOf}
 use Rattle.tl_grid.specs.declared.shape.ShapeGroup.{ShapeGroup}
-use Rattle.tl_grid.specs.Forming.{Cell, Forming, covers, has_cell, first_free, initial_rowspan, cell_at, with_cell, form_cells, grown_into, begin_row}
+use Rattle.tl_grid.specs.Forming.{Cell, Forming, covers, has_cell, first_free, initial_rowspan, cell_at, with_cell, form_cells}
+use Rattle.tl_grid.specs.Forming.{grown_into, begin_row}
 use Rattle.tl_grid.specs.Forming.{next_row, form_row, form_rows, at_group_end, end_group, form_group, form_groups, cells_in}
 use Rattle.tl_grid.specs.Overlap.{numbers_over, IsBefore}
 use Rattle.tl_grid.specs.Dropping.{keeps_row}
@@ -90,7 +92,8 @@ form_cells_width : (spans : List SpanOf) (number x : ℕ) (s : Forming) → s.wi
 form_cells_width [] number x s = omega arith
 form_cells_width (span ∷ spans) number x s =
     let at : ℕ = first_free (λ column. has_cell column s.row s.cells) x (s.width - x) in
-    let rest : max s.width (at + span.colspan) ≤ (form_cells (number + 1) (at + span.colspan) spans (with_cell number at span s)).width =
+    let rest : max s.width (at + span.colspan) ≤ (form_cells (number + 1) (at + span.colspan) spans
+    (with_cell number at span s)).width =
     form_cells_width spans (number + 1) (at + span.colspan) (with_cell number at span s) in
     omega arith
 
@@ -104,7 +107,8 @@ later_cells spans number x s = record {
 }
 
 -- anchors stay where cells are changed one by one
-pub anchors-map : (f : Cell → Cell) → ((c : Cell) → (f c).top ≡ c.top) → (cs : List Cell) (y : ℕ) → keeps_row (map f cs) y ≡ keeps_row cs y
+pub anchors-map : (f : Cell → Cell) → ((c : Cell) → (f c).top ≡ c.top) → (cs : List Cell) (y : ℕ) →
+    keeps_row (map f cs) y ≡ keeps_row cs y
 anchors-map f same [] y = refl
 anchors-map f same (c ∷ cs) y =
     ap (λ t. eqb t y || keeps_row (map f cs) y) (same c) ∙ ap (λ t. eqb c.top y || t) (anchors-map f same cs y)
@@ -141,10 +145,12 @@ later_rows (spans ∷ rows) number s =
     (later_rows rows (number + length spans) after)
 
 -- the end of a group changes nothing above the row that comes after it
-pub ended_elsewhere : (x row height y' : ℕ) → y' ≤ row → (cs : List Cell) → numbers_over x y' (map (at_group_end row height) cs) ≡ numbers_over x y' cs
+pub ended_elsewhere : (x row height y' : ℕ) → y' ≤ row → (cs : List Cell) →
+    numbers_over x y' (map (at_group_end row height) cs) ≡ numbers_over x y' cs
 ended_elsewhere x row height y' le [] = refl
 ended_elsewhere x row height y' le (c ∷ cs) =
-    let rest : numbers_over x y' (map (at_group_end row height) cs) ≡ numbers_over x y' cs = ended_elsewhere x row height y' le cs in
+    let rest : numbers_over x y' (map (at_group_end row height) cs) ≡ numbers_over x y' cs =
+    ended_elsewhere x row height y' le cs in
     let same : covers x y' (at_group_end row height c) ≡ covers x y' c =
     ap (λ r. (leb c.left x && ltb x c.right) && r)
     (ap (λ t. c.rows y' || t) (and_right c.grows (ltb row y' && ltb y' height)
@@ -175,7 +181,8 @@ later_group number rows s =
     later_then s.row last.row s last (form_group number rows s) step.on step (later_end last)
 
 -- all groups whose turn it is
-pub later_groups : (turn : ShapeGroup → Bool) (groups : List ShapeGroup) (number : ℕ) (s : Forming) → Later s.row s (form_groups turn number groups s)
+pub later_groups : (turn : ShapeGroup → Bool) (groups : List ShapeGroup) (number : ℕ) (s : Forming) →
+    Later s.row s (form_groups turn number groups s)
 later_groups turn [] number s = later_same s
 later_groups turn (group ∷ groups) number s =
     let rest : ℕ = number + cells_in group.rows in

@@ -3,7 +3,8 @@
 use Rattle.std.proofs.Common.{◌≡◌, ℕ, ◌+◌, ◌<◌, ◌≤◌, max, zero, suc, Bool, true, ◌&&◌, ltb, leb, eqb, List, length, get_or}
 use Rattle.std.proofs.Common.{Result, Ok, Err, refl, sym, ap, ◌∙◌, subst, inl, inr, arith, All}
 use Rattle.std.specs.List.{AllByRecursion, AllPairs, Any}
-use Rattle.std.proofs.lemmas.Bool.{ltb-true, leb-true, lt-ltb, le-leb, eq-eqb, eqb-true, and_parts, and_from, cases_Bool, cases_lt}
+use Rattle.std.proofs.lemmas.Bool.{ltb-true, leb-true, lt-ltb, le-leb, eq-eqb, eqb-true, and_parts, and_from, cases_Bool}
+use Rattle.std.proofs.lemmas.Bool.{cases_lt}
 use Rattle.std.proofs.lemmas.List.{length-map}
 use Rattle.std.proofs.lemmas.Option.{slice_get_within, get_or_from_slice_get}
 use Rattle.tl_grid.specs.declared.shape.Shape.{Shape}
@@ -16,7 +17,8 @@ use Rattle.tl_grid.specs.declared.error.GridError.TheVariants.{Memory, TooManyCe
 use Rattle.tl_grid.specs.Shapes.{AllSpans}
 use Rattle.tl_grid.specs.Forming.{Cell, Forming, covers, formed, cell_count}
 use Rattle.tl_grid.specs.Overlap.{cells_over, numbers_over, HasNoOverlap}
-use Rattle.tl_grid.specs.Dropping.{count_below, keeps_column, keeps_row, new_column, new_row, place_of, IsPlaced, ArePlaces, StandsAtNumber}
+use Rattle.tl_grid.specs.Dropping.{count_below, keeps_column, keeps_row, new_column, new_row, place_of, IsPlaced, ArePlaces}
+use Rattle.tl_grid.specs.Dropping.{StandsAtNumber}
 use Rattle.tl_grid.specs.Slots.{HasSlot, AreApart, HasAnchorInColumn, HasAnchorInRow, IsFilledToLeft, KeepsSlots}
 use Rattle.tl_grid.specs.Form.{HasGrid}
 use Rattle.tl_grid.specs.inner.Walk.{place_all}
@@ -66,7 +68,8 @@ from_back keeps a x kept le =
     ]
 
 -- each new number comes from a kept one
-pub kept_at : (keeps : ℕ → Bool) (n k : ℕ) → k < count_below keeps n → (x : ℕ) × ((x < n) × (keeps x ≡ true) × (count_below keeps x ≡ k))
+pub kept_at : (keeps : ℕ → Bool) (n k : ℕ) → k < count_below keeps n →
+    (x : ℕ) × ((x < n) × (keeps x ≡ true) × (count_below keeps x ≡ k))
 kept_at keeps zero k lt = absurd (omega arith)
 kept_at keeps (suc n) k lt =
     elim (cases_lt k (count_below keeps n)) [
@@ -118,9 +121,11 @@ shown_placed : (s : Forming) (c : Cell) (b : Block) → IsIn c s.cells → IsSho
 shown_placed s c b is shows =
     let left : c.left ≡ b.left = ap (λ (d : Cell). d.left) shows.same in
     let top : c.top ≡ b.top = ap (λ (d : Cell). d.top) shows.same in
-    let P : Place → Type 0 = λ place. IsPlaced (count_below (keeps_column s.cells) s.width) (count_below (keeps_row s.cells) s.height) place in
+    let P : Place → Type 0 = λ place. IsPlaced (count_below (keeps_column s.cells) s.width)
+    (count_below (keeps_row s.cells) s.height) place in
     subst P (sym shows.place) (
-      count_past (keeps_column s.cells) b.left b.right (sym (ap (keeps_column s.cells) left) ∙ column_kept s.cells c is) shows.sound.0,
+      count_past (keeps_column s.cells) b.left b.right (sym (ap (keeps_column s.cells) left) ∙ column_kept s.cells c is)
+          shows.sound.0,
       count_rises (keeps_column s.cells) b.right s.width shows.sound.1,
       count_past (keeps_row s.cells) b.top b.bottom (sym (ap (keeps_row s.cells) top) ∙ row_kept s.cells c is) shows.sound.2,
       count_rises (keeps_row s.cells) b.bottom s.height shows.sound.3,
@@ -145,7 +150,8 @@ slot_of : (s : Forming) (c : Cell) (b : Block) (x y : ℕ) → IsShownBy s c b �
     keeps_row s.cells y ≡ true → covers x y c ≡ true →
     HasSlot (new_column s.cells x) (new_row s.cells y) (place_of s c)
 slot_of s c b x y shows column row has =
-    let is = and_parts (leb b.left x && ltb x b.right) (leb b.top y && ltb y b.bottom) (sym (covers_shown s c b x y shows row) ∙ has) in
+    let is = and_parts (leb b.left x && ltb x b.right) (leb b.top y && ltb y b.bottom)
+    (sym (covers_shown s c b x y shows row) ∙ has) in
     let across = and_parts (leb b.left x) (ltb x b.right) is.0 in
     let down = and_parts (leb b.top y) (ltb y b.bottom) is.1 in
     let P : Place → Type 0 = λ place. HasSlot (new_column s.cells x) (new_row s.cells y) place in
@@ -175,7 +181,8 @@ slot_back s c b x y shows column row has =
 -- a slot of the place of a cell comes from a kept one
 slot_from : (s : Forming) (c : Cell) (b : Block) (x y : ℕ) → IsIn c s.cells → IsShownBy s c b →
     HasSlot x y (place_of s c) →
-    (column row : ℕ) × (keeps_column s.cells column ≡ true) × (keeps_row s.cells row ≡ true) × (new_column s.cells column ≡ x) × (new_row s.cells row ≡ y)
+    (column row : ℕ) × (keeps_column s.cells column ≡ true) × (keeps_row s.cells row ≡ true) × (new_column s.cells column ≡ x) ×
+    (new_row s.cells row ≡ y)
 slot_from s c b x y is shows has =
     let placed = shown_placed s c b is shows in
     let (column, at) = kept_at (keeps_column s.cells) s.width x (omega (arith, has.1, placed.1)) in
@@ -190,7 +197,8 @@ shown_keeps s c b is shows = record {
 }
 
 -- The law of kept slots: the kept slots of each cell are exactly the slots of its place.
-pub kept_slots : (shape : Shape) (grid : Grid) → AllSpans shape.groups → HasGrid shape grid → AllByRecursion (KeepsSlots (formed shape)) (formed shape).cells
+pub kept_slots : (shape : Shape) (grid : Grid) → AllSpans shape.groups → HasGrid shape grid →
+    AllByRecursion (KeepsSlots (formed shape)) (formed shape).cells
 kept_slots shape grid spans has =
     let all = shown shape spans has.no_overlap in
     all_from (KeepsSlots (formed shape)) (formed shape).cells
@@ -204,8 +212,16 @@ place_at : (shape : Shape) (places : List Place) → ArePlaces shape places → 
 place_at shape places are k d lt =
     let many : length places ≡ cell_count shape = are.as_many in
     let (c, is) = cell_numbered shape k (omega arith) in
-    let stands : StandsAtNumber (formed shape) places c = all_at (StandsAtNumber (formed shape) places) (formed shape).cells c are.each is.0 in
-    (c, (is.0, is.1, ap (λ i. get_or places i d) (sym is.1) ∙ get_or_from_slice_get places c.number (place_of (formed shape) c) d stands))
+    let stands : StandsAtNumber (formed shape) places c = all_at (StandsAtNumber (formed shape) places)
+    (formed shape).cells c are.each is.0 in (
+      c,
+      (
+        is.0,
+        is.1,
+        ap (λ i. get_or places i d) (sym is.1) ∙ get_or_from_slice_get places c.number (place_of (formed shape) c)
+            d stands,
+      ),
+    )
 
 -- what holds of the place of each cell holds of each place
 all_places : (shape : Shape) (places : List Place) (P : Place → Type 0) → ArePlaces shape places →
@@ -217,7 +233,8 @@ all_places shape places P are each k d lt =
 any_place : (shape : Shape) (places : List Place) (P : Place → Type 0) (c : Cell) → ArePlaces shape places →
     IsIn c (formed shape).cells → P (place_of (formed shape) c) → Any P places
 any_place shape places P c are is holds =
-    let stands : StandsAtNumber (formed shape) places c = all_at (StandsAtNumber (formed shape) places) (formed shape).cells c are.each is in (
+    let stands : StandsAtNumber (formed shape) places c = all_at (StandsAtNumber (formed shape) places)
+    (formed shape).cells c are.each is in (
       c.number,
       place_of (formed shape) c,
       slice_get_within places c.number (place_of (formed shape) c) stands,
@@ -226,7 +243,8 @@ any_place shape places P c are is holds =
     )
 
 -- Each place has a slot, and lies within the grid.
-pub all_within : (shape : Shape) (grid : Grid) → AllSpans shape.groups → HasGrid shape grid → All (IsPlaced grid.cols grid.rows) grid.places
+pub all_within : (shape : Shape) (grid : Grid) → AllSpans shape.groups → HasGrid shape grid →
+    All (IsPlaced grid.cols grid.rows) grid.places
 all_within shape grid spans has =
     let s : Forming = formed shape in
     let all = shown shape spans has.no_overlap in
@@ -247,7 +265,8 @@ same_slot shape one keeps c d x y is is' has has' =
     let kd : KeepsSlots s d = all_at (KeepsSlots s) s.cells d keeps is' in
     let (column, row, kept, kept', to, to') = kc.whole x y has in
     let P : ℕ → ℕ → Cell → Type 0 = λ i j e. HasSlot i j (place_of s e) in
-    let back : (e : Cell) → HasSlot x y (place_of s e) → HasSlot (new_column s.cells column) (new_row s.cells row) (place_of s e) =
+    let back : (e : Cell) → HasSlot x y (place_of s e) → HasSlot (new_column s.cells column) (new_row s.cells row)
+    (place_of s e) =
     λ e h. subst (λ i. P i (new_row s.cells row) e) (sym to) (subst (λ j. P x j e) (sym to') h) in
     one_passes (covers column row) s.cells c d
     (let over : length (cells_over column row s.cells) ≡ length (numbers_over column row s.cells)
@@ -262,7 +281,8 @@ all_apart shape grid spans has i j d lt below x y first second =
     let (c, is) = place_at shape grid.places has.places i d (omega arith) in
     let (c', is') = place_at shape grid.places has.places j d below in
     let P : Place → Type 0 = λ place. HasSlot x y place in
-    let same : c ≡ c' = same_slot shape has.no_overlap (kept_slots shape grid spans has) c c' x y is.0 is'.0 (subst P is.2 first) (subst P is'.2 second) in
+    let same : c ≡ c' = same_slot shape has.no_overlap (kept_slots shape grid spans has) c c' x y is.0 is'.0
+    (subst P is.2 first) (subst P is'.2 second) in
     let number : c.number ≡ c'.number = ap number_of same in
     omega (arith, is.1, is'.1)
 
@@ -293,7 +313,8 @@ all_rows shape grid has y lt =
     (ap (new_row s.cells) (eqb-true c.top row is.1) ∙ at.2)
 
 -- All slots to the left of an anchored cell are covered in its row.
-pub all_filled : (shape : Shape) (grid : Grid) → AllSpans shape.groups → HasGrid shape grid → All (IsFilledToLeft grid.places) grid.places
+pub all_filled : (shape : Shape) (grid : Grid) → AllSpans shape.groups → HasGrid shape grid →
+    All (IsFilledToLeft grid.places) grid.places
 all_filled shape grid spans has =
     let s : Forming = formed shape in
     let keeps = kept_slots shape grid spans has in

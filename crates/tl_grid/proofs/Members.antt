@@ -1,5 +1,6 @@
 -- The elements of a list, and what a test keeps of them.
-use Rattle.std.proofs.Common.{◌≡◌, ◌≤◌, suc, Bool, true, false, List, [], ◌∷◌, map, length, refl, sym, ap, ◌∙◌, subst, inl, inr, ◌⊎◌, arith}
+use Rattle.std.proofs.Common.{◌≡◌, ◌≤◌, suc, Bool, true, false, List, [], ◌∷◌, map, length, refl, sym, ap, ◌∙◌, subst, inl, inr}
+use Rattle.std.proofs.Common.{◌⊎◌, arith}
 use Rattle.std.specs.List.{filter, list_any, AllByRecursion}
 use Rattle.std.proofs.lemmas.Bool.{both_ways, cases_Bool, or_cases, or_left, or_right}
 use Rattle.tl_grid.proofs.Chains.{filter_yes, filter_no}
@@ -21,12 +22,14 @@ all_from P [] each = tt
 all_from P (x ∷ xs) each = (each x (inl refl), all_from P xs (λ y is. each y (inr is)))
 
 -- what holds of all images holds of all
-pub all_from_map : {X Y : Type 0} (P : Y → Type 0) (f : X → Y) (xs : List X) → AllByRecursion P (map f xs) → AllByRecursion (λ x. P (f x)) xs
+pub all_from_map : {X Y : Type 0} (P : Y → Type 0) (f : X → Y) (xs : List X) → AllByRecursion P (map f xs) →
+    AllByRecursion (λ x. P (f x)) xs
 all_from_map P f [] all = tt
 all_from_map P f (x ∷ xs) all = (all.0, all_from_map P f xs all.1)
 
 -- and the converse
-pub all_to_map : {X Y : Type 0} (P : Y → Type 0) (f : X → Y) (xs : List X) → AllByRecursion (λ x. P (f x)) xs → AllByRecursion P (map f xs)
+pub all_to_map : {X Y : Type 0} (P : Y → Type 0) (f : X → Y) (xs : List X) → AllByRecursion (λ x. P (f x)) xs →
+    AllByRecursion P (map f xs)
 all_to_map P f [] all = tt
 all_to_map P f (x ∷ xs) all = (all.0, all_to_map P f xs all.1)
 
@@ -59,12 +62,14 @@ kept_some p (y ∷ ys) x is e =
     ]
 
 -- an element that passes is the first, where that passes and no other does
-first_passes : {X : Type 0} (p : X → Bool) (y : X) (ys : List X) (x : X) → length (filter p ys) ≤ 0 → IsIn x (y ∷ ys) → p x ≡ true → x ≡ y
+first_passes : {X : Type 0} (p : X → Bool) (y : X) (ys : List X) (x : X) → length (filter p ys) ≤ 0 → IsIn x (y ∷ ys) →
+    p x ≡ true → x ≡ y
 first_passes p y ys x none (inl same) e = same
 first_passes p y ys x none (inr later) e = absurd (let some : 1 ≤ length (filter p ys) = kept_some p ys x later e in omega arith)
 
 -- where at most one passes, all that pass are the same
-pub one_passes : {X : Type 0} (p : X → Bool) (xs : List X) (x x' : X) → length (filter p xs) ≤ 1 → IsIn x xs → IsIn x' xs → p x ≡ true → p x' ≡ true → x ≡ x'
+pub one_passes : {X : Type 0} (p : X → Bool) (xs : List X) (x x' : X) → length (filter p xs) ≤ 1 → IsIn x xs → IsIn x' xs →
+    p x ≡ true → p x' ≡ true → x ≡ x'
 one_passes p [] x x' one is is' e e' = absurd is
 one_passes p (y ∷ ys) x x' one is is' e e' =
     elim (cases_Bool (p y)) [

@@ -1,5 +1,6 @@
 -- The numbers of the formed cells: each number below the table's count of cells, once.
-use Rattle.std.proofs.Common.{◌≡◌, ℕ, ◌+◌, ◌-◌, ◌<◌, ◌≤◌, zero, suc, Bool, true, false, not, cond, eqb, List, [], ◌∷◌, ◌++◌, map, length, refl, sym}
+use Rattle.std.proofs.Common.{◌≡◌, ℕ, ◌+◌, ◌-◌, ◌<◌, ◌≤◌, zero, suc, Bool, true, false, not, cond, eqb, List, [], ◌∷◌, ◌++◌, map}
+use Rattle.std.proofs.Common.{length, refl, sym}
 use Rattle.std.proofs.Common.{ap, ◌∙◌, inl, inr, arith, zero-add}
 use Rattle.std.proofs.lemmas.Bool.{eq-eqb, eqb-true, ne_eqb, cases_Bool, cases_eq, cases_lt}
 use Rattle.std.proofs.lemmas.List.{map-append}
@@ -8,7 +9,8 @@ use Rattle.std.proofs.lemmas.Simd.{map-map}
 use Rattle.tl_grid.specs.declared.shape.SpanOf.{SpanOf}
 use Rattle.tl_grid.specs.declared.shape.ShapeGroup.{ShapeGroup}
 use Rattle.tl_grid.specs.declared.shape.Shape.{Shape}
-use Rattle.tl_grid.specs.Forming.{Cell, Forming, has_cell, first_free, cell_at, with_cell, form_cells, grown_into, begin_row, form_row, form_rows}
+use Rattle.tl_grid.specs.Forming.{Cell, Forming, has_cell, first_free, cell_at, with_cell, form_cells, grown_into, begin_row}
+use Rattle.tl_grid.specs.Forming.{form_row, form_rows}
 use Rattle.tl_grid.specs.Forming.{at_group_end, form_group, form_groups, cells_in, cells_of, no_cells, formed, cell_count}
 use Rattle.tl_grid.proofs.Cells.{number_of}
 use Rattle.tl_grid.proofs.Counts.{one_if}
@@ -92,8 +94,10 @@ cells_tally n (span ∷ spans) number x s =
     ≡ tally n (numbers next.cells) + one_among n (number + 1) (length spans) =
     cells_tally n spans (number + 1) (at + span.colspan) next in
     let here : tally n (numbers next.cells) ≡ tally n (numbers s.cells) + (one_if (eqb number n) + 0) =
-    ap (tally n) (map-append number_of s.cells (cell_at number at s.row span ∷ [])) ∙ tally-append n (numbers s.cells) (number ∷ []) in
-    let more : one_among n number (length (span ∷ spans)) ≡ one_if (eqb number n) + one_among n (number + 1) (length spans) = refl in
+    ap (tally n) (map-append number_of s.cells (cell_at number at s.row span ∷ [])) ∙ tally-append n (numbers s.cells)
+    (number ∷ []) in
+    let more : one_among n number (length (span ∷ spans)) ≡ one_if (eqb number n) + one_among n (number + 1) (length spans) =
+    refl in
     rest ∙ (let sums : tally n (numbers next.cells) + one_among n (number + 1) (length spans)
     ≡ tally n (numbers s.cells) + one_among n number (length (span ∷ spans)) = omega arith in sums)
 
@@ -109,14 +113,16 @@ rows_tally n (spans ∷ rows) number s =
     let here : tally n (numbers next.cells) ≡ tally n (numbers s.cells) + one_among n number (length spans) =
     cells_tally n spans number 0 (begin_row s)
     ∙ ap (λ ks. tally n ks + one_among n number (length spans)) (map-map number_of (grown_into s.row) s.cells) in
-    let more : one_among n number (cells_in (spans ∷ rows)) ≡ one_among n number (length spans) + one_among n (number + length spans) (cells_in rows) =
+    let more : one_among n number (cells_in (spans ∷ rows)) ≡ one_among n number (length spans) + one_among n
+    (number + length spans) (cells_in rows) =
     ap (one_among n number) (sum_by-cons length spans rows) ∙ one_among-sum n number (length spans) (cells_in rows) in
     rest ∙ (let sums : tally n (numbers next.cells) + one_among n (number + length spans) (cells_in rows)
     ≡ tally n (numbers s.cells) + one_among n number (cells_in (spans ∷ rows)) = omega arith in sums)
 
 -- a group in its turn, and one that is passed over
 turn_tally : (b : Bool) (n number : ℕ) (rows : List (List SpanOf)) (s : Forming) →
-    tally n (numbers (cond b (form_group number rows s) s).cells) ≡ tally n (numbers s.cells) + cond b (one_among n number (cells_in rows)) 0
+    tally n (numbers (cond b (form_group number rows s) s).cells) ≡ tally n (numbers s.cells) + cond b
+    (one_among n number (cells_in rows)) 0
 turn_tally true n number rows s =
     let last : Forming = form_rows number rows s in
     ap (tally n) (map-map number_of (at_group_end last.row last.height) last.cells) ∙ rows_tally n rows number s
@@ -125,7 +131,8 @@ turn_tally false n number rows s = omega arith
 -- 1 if n is the number of a cell of the groups whose turn it is
 abbrev in_turn : (ShapeGroup → Bool) → ℕ → ℕ → List ShapeGroup → ℕ
 in_turn turn n number [] = 0
-in_turn turn n number (g ∷ gs) = cond (turn g) (one_among n number (cells_in g.rows)) 0 + in_turn turn n (number + cells_in g.rows) gs
+in_turn turn n number (g ∷ gs) = cond (turn g) (one_among n number (cells_in g.rows)) 0 + in_turn turn n
+    (number + cells_in g.rows) gs
 
 -- all groups whose turn it is
 groups_tally : (turn : ShapeGroup → Bool) (n : ℕ) (gs : List ShapeGroup) (number : ℕ) (s : Forming) →
@@ -138,7 +145,8 @@ groups_tally turn n (g ∷ gs) number s =
     groups_tally turn n gs (number + cells_in g.rows) next in
     let here : tally n (numbers next.cells) ≡ tally n (numbers s.cells) + cond (turn g) (one_among n number (cells_in g.rows)) 0 =
     turn_tally (turn g) n number g.rows s in
-    let more : in_turn turn n number (g ∷ gs) ≡ cond (turn g) (one_among n number (cells_in g.rows)) 0 + in_turn turn n (number + cells_in g.rows) gs = refl in
+    let more : in_turn turn n number (g ∷ gs) ≡ cond (turn g) (one_among n number (cells_in g.rows)) 0 + in_turn turn n
+    (number + cells_in g.rows) gs = refl in
     rest ∙ (let sums : tally n (numbers next.cells) + in_turn turn n (number + cells_in g.rows) gs
     ≡ tally n (numbers s.cells) + in_turn turn n number (g ∷ gs) = omega arith in sums)
 
@@ -154,11 +162,14 @@ both_turns n [] number = refl
 both_turns n (g ∷ gs) number =
     let one : ℕ = one_among n number (cells_in g.rows) in
     let next : ℕ = number + cells_in g.rows in
-    let rest : in_turn (λ g. not g.foot) n next gs + in_turn (λ g. g.foot) n next gs ≡ one_among n next (cells_of gs) = both_turns n gs next in
+    let rest : in_turn (λ g. not g.foot) n next gs + in_turn (λ g. g.foot) n next gs ≡ one_among n next (cells_of gs) =
+    both_turns n gs next in
     let here : cond (not g.foot) one 0 + cond g.foot one 0 ≡ one = one_turn g.foot one in
     let more : one_among n number (cells_of (g ∷ gs)) ≡ one + one_among n next (cells_of gs) =
-    ap (one_among n number) (sum_by-cons (λ (h : ShapeGroup). cells_in h.rows) g gs) ∙ one_among-sum n number (cells_in g.rows) (cells_of gs) in
-    let sums : (cond (not g.foot) one 0 + in_turn (λ g. not g.foot) n next gs) + (cond g.foot one 0 + in_turn (λ g. g.foot) n next gs)
+    ap (one_among n number) (sum_by-cons (λ (h : ShapeGroup). cells_in h.rows) g gs) ∙ one_among-sum n number (cells_in g.rows)
+    (cells_of gs) in
+    let sums : (cond (not g.foot) one 0 + in_turn (λ g. not g.foot) n next gs) +
+    (cond g.foot one 0 + in_turn (λ g. g.foot) n next gs)
     ≡ one + one_among n next (cells_of gs) = omega arith in
     sums ∙ sym more
 
@@ -168,7 +179,8 @@ numbered n shape =
     let bodies : Forming = form_groups (λ group. not group.foot) 0 shape.groups (no_cells shape.columns) in
     let first : tally n (numbers bodies.cells) ≡ 0 + in_turn (λ group. not group.foot) n 0 shape.groups =
     groups_tally (λ group. not group.foot) n shape.groups 0 (no_cells shape.columns) in
-    let then : tally n (numbers (formed shape).cells) ≡ tally n (numbers bodies.cells) + in_turn (λ group. group.foot) n 0 shape.groups =
+    let then : tally n (numbers (formed shape).cells) ≡ tally n (numbers bodies.cells) + in_turn (λ group. group.foot)
+    n 0 shape.groups =
     groups_tally (λ group. group.foot) n shape.groups 0 bodies in
     let both : in_turn (λ g. not g.foot) n 0 shape.groups + in_turn (λ g. g.foot) n 0 shape.groups
     ≡ one_among n 0 (cell_count shape) = both_turns n shape.groups 0 in
@@ -179,8 +191,10 @@ pub numbered_once : (n : ℕ) (shape : Shape) → tally n (numbers (formed shape
 numbered_once n shape =
     let all : tally n (numbers (formed shape).cells) ≡ one_among n 0 (cell_count shape) = numbered n shape in
     elim (cases_lt n (cell_count shape)) [
-      | inl lt ↦ (let one : one_among n 0 (cell_count shape) ≡ 1 = one_among-in n 0 (cell_count shape) (omega arith) (omega arith) in omega arith)
-      | inr ge ↦ (let none : one_among n 0 (cell_count shape) ≡ 0 = one_among-past n 0 (cell_count shape) (omega arith) in omega arith)
+      | inl lt ↦ (let one : one_among n 0 (cell_count shape) ≡ 1 =
+          one_among-in n 0 (cell_count shape) (omega arith) (omega arith) in omega arith)
+      | inr ge ↦ (let none : one_among n 0 (cell_count shape) ≡ 0 = one_among-past n 0 (cell_count shape) (omega arith) in
+          omega arith)
     ]
 
 -- none is as large as the count
@@ -200,7 +214,8 @@ numbered_in f n (x ∷ xs) has =
     ]
 
 -- each number below the count has a cell
-pub cell_numbered : (shape : Shape) (n : ℕ) → n < cell_count shape → (cell : Cell) × (IsIn cell (formed shape).cells × (cell.number ≡ n))
+pub cell_numbered : (shape : Shape) (n : ℕ) → n < cell_count shape →
+    (cell : Cell) × (IsIn cell (formed shape).cells × (cell.number ≡ n))
 cell_numbered shape n lt =
     let all : tally n (numbers (formed shape).cells) ≡ one_among n 0 (cell_count shape) = numbered n shape in
     let one : one_among n 0 (cell_count shape) ≡ 1 = one_among-in n 0 (cell_count shape) (omega arith) (omega arith) in

@@ -1,11 +1,13 @@
 -- What passing the open blocks leaves: the first free column, and the same blocks over each slot.
-use Rattle.std.proofs.Common.{◌≡◌, ℕ, ◌<◌, ◌≤◌, Bool, true, false, leb, List, [], ◌∷◌, ◌++◌, refl, sym, ap, ◌∙◌, subst, inl, inr, arith, append_assoc}
+use Rattle.std.proofs.Common.{◌≡◌, ℕ, ◌<◌, ◌≤◌, Bool, true, false, leb, List, [], ◌∷◌, ◌++◌, refl, sym, ap, ◌∙◌, subst, inl, inr}
+use Rattle.std.proofs.Common.{arith, append_assoc}
 use Rattle.std.specs.List.{filter, list_any, AllByRecursion}
 use Rattle.std.proofs.lemmas.Bool.{leb-true, leb-false, cases_Bool, cases_lt, cond-true, cond-false}
 use Rattle.std.proofs.lemmas.List.Elements.{filter-append}
 use Rattle.tl_grid.specs.declared.block.Block.{Block}
 use Rattle.tl_grid.specs.inner.OpenBlocks.{reaches, Walk, pass_taken}
-use Rattle.tl_grid.proofs.Chains.{spot, Chain, ChainTo, spot_in, spot_ended, not_below, filter_yes, filter_no, chain_yes, chain_no, chain_push}
+use Rattle.tl_grid.proofs.Chains.{spot, Chain, ChainTo, spot_in, spot_ended, not_below, filter_yes, filter_no, chain_yes}
+use Rattle.tl_grid.proofs.Chains.{chain_no, chain_push}
 use Rattle.tl_grid.specs.inner.States.{EndsBy}
 
 -- whether a list has an element
@@ -49,7 +51,8 @@ pub pass_stop : (y x : ℕ) (ps : List Block) (b : Block) (bs : List Block) → 
 pass_stop y x ps b bs e f = cond-true (reaches y b) _ _ e ∙ cond-false (leb b.left x) _ _ f
 
 -- a block that has ended is dropped
-pub pass_ended : (y x : ℕ) (ps : List Block) (b : Block) (bs : List Block) → reaches y b ≡ false → pass_taken y x ps (b ∷ bs) ≡ pass_taken y x ps bs
+pub pass_ended : (y x : ℕ) (ps : List Block) (b : Block) (bs : List Block) → reaches y b ≡ false →
+    pass_taken y x ps (b ∷ bs) ≡ pass_taken y x ps bs
 pass_ended y x ps b bs e = cond-false (reaches y b) _ _ e
 
 -- a filter keeps one element in the middle
@@ -83,7 +86,8 @@ passes_on y x ps b bs w e le lt ge p = record {
 }
 
 -- a test that fails in the middle keeps nothing there
-filter_drop : (p : Block → Bool) (xs : List Block) (b : Block) (ys : List Block) → p b ≡ false → filter p (xs ++ ys) ≡ filter p (xs ++ b ∷ ys)
+filter_drop : (p : Block → Bool) (xs : List Block) (b : Block) (ys : List Block) → p b ≡ false →
+    filter p (xs ++ ys) ≡ filter p (xs ++ b ∷ ys)
 filter_drop p [] b ys e = sym (filter_no p b ys e)
 filter_drop p (x ∷ xs) b ys e =
     elim (cases_Bool (p x)) [
@@ -92,12 +96,14 @@ filter_drop p (x ∷ xs) b ys e =
     ]
 
 -- what holds of all holds of the others
-pub all_drop : (P : Block → Type 0) (xs : List Block) (b : Block) (ys : List Block) → AllByRecursion P (xs ++ b ∷ ys) → AllByRecursion P (xs ++ ys)
+pub all_drop : (P : Block → Type 0) (xs : List Block) (b : Block) (ys : List Block) → AllByRecursion P (xs ++ b ∷ ys) →
+    AllByRecursion P (xs ++ ys)
 all_drop P [] b ys all = all.1
 all_drop P (x ∷ xs) b ys all = (all.0, all_drop P xs b ys all.1)
 
 -- one block dropped
-passes_ended : (y x : ℕ) (ps : List Block) (b : Block) (bs : List Block) (w : Walk) → reaches y b ≡ false → Passes y x ps bs w → Passes y x ps (b ∷ bs) w
+passes_ended : (y x : ℕ) (ps : List Block) (b : Block) (bs : List Block) (w : Walk) → reaches y b ≡ false → Passes y x ps bs w →
+    Passes y x ps (b ∷ bs) w
 passes_ended y x ps b bs w e p = record {
   prefix = p.prefix;
   rest = p.rest;

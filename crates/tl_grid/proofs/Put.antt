@@ -1,5 +1,6 @@
 -- What is put at numbers of which each stands once.
-use Rattle.std.proofs.Common.{◌≡◌, ℕ, ◌+◌, ◌<◌, ◌≤◌, zero, suc, eqb, List, [], ◌∷◌, map, length, fold, Some, refl, ap, ◌∙◌, inl, inr, arith}
+use Rattle.std.proofs.Common.{◌≡◌, ℕ, ◌+◌, ◌<◌, ◌≤◌, zero, suc, eqb, List, [], ◌∷◌, map, length, fold, Some, refl, ap, ◌∙◌, inl}
+use Rattle.std.proofs.Common.{inr, arith}
 use Rattle.std.proofs.Common.{length-set}
 use Rattle.std.specs.Prelude.{slice_set, slice_get}
 use Rattle.std.specs.List.{AllByRecursion}
@@ -66,6 +67,7 @@ put_all f g (x ∷ xs) vs once low =
     )
 
 -- what is put changes no length
-pub length_put : {X V : Type 0} (f : X → ℕ) (g : X → V) (xs : List X) (vs : List V) → length (fold (λ found x. slice_set found (f x) (g x)) vs xs) ≡ length vs
+pub length_put : {X V : Type 0} (f : X → ℕ) (g : X → V) (xs : List X) (vs : List V) →
+    length (fold (λ found x. slice_set found (f x) (g x)) vs xs) ≡ length vs
 length_put f g [] vs = refl
 length_put f g (x ∷ xs) vs = length_put f g xs (slice_set vs (f x) (g x)) ∙ length-set vs (f x) (g x)

@@ -18,9 +18,10 @@ use Rattle.tl_grid.specs.declared.error.GridError.{GridError}
 use Rattle.tl_grid.specs.declared.error.GridError.TheVariants.{Memory, TooManyCells, Overlap, TooManyColumns, TooManyRows}
 use Rattle.tl_grid.specs.Forming.{Cell, formed, cell_count}
 use Rattle.tl_grid.specs.Overlap.{numbers_over, IsBefore, HasNoOverlap, IsFirstOverlap}
-use Rattle.tl_grid.specs.Dropping.{keeps_column, keeps_row, place_of, ArePlaces, StandsAtNumber, kept_column_count, kept_row_count}
+use Rattle.tl_grid.specs.Dropping.{keeps_column, keeps_row, place_of, ArePlaces, StandsAtNumber, kept_column_count}
+use Rattle.tl_grid.specs.Dropping.{kept_row_count}
 use Rattle.tl_base.specs.Lists.{is_among}
-use Rattle.tl_grid.specs.Form.{HasGrid, HasTooManyColumns, HasTooManyRows, IsRefused}
+use Rattle.tl_grid.specs.Form.{HasGrid, HasTooManyColumns, HasTooManyRows, LacksGrid}
 use Rattle.tl_grid.specs.inner.Walk.{place_all}
 use Rattle.tl_grid.specs.Shapes.{AllSpans}
 use Rattle.tl_grid.specs.inner.Places.{begins_in_column, begins_in_row, place_by, place_in, put_places, nowhere}
@@ -44,13 +45,15 @@ pub record AreRows (blocks : List Block) (rows : List ℕ) : Type 0 where
   pub same : (y : ℕ) → is_among rows y ≡ begins_in_row blocks y
 
 -- a walk that ends gives the standard's table
-table_matches : (shape : Shape) (t : Table) → AllSpans shape.groups → place_all shape.groups ≡ Ok t → TableMatches (formed shape) t
+table_matches : (shape : Shape) (t : Table) → AllSpans shape.groups → place_all shape.groups ≡ Ok t →
+    TableMatches (formed shape) t
 table_matches shape t spans e =
     let P : Result Table GridError → Type 0 = λ r. TableGives (formed shape) r in
     subst P e (all_give shape (wide_groups shape.groups spans))
 
 -- an overlap that the walk found is refused
-found_refused : (shape : Shape) (error : GridError) → cell_count shape ≤ MAX_CELLS → IsFound (formed shape) error → IsRefused shape error
+found_refused : (shape : Shape) (error : GridError) → cell_count shape ≤ MAX_CELLS → IsFound (formed shape) error →
+    LacksGrid shape error
 found_refused shape (Memory e) few found = found
 found_refused shape (TooManyCells count) few found = absurd found
 found_refused shape (Overlap first second x y) few found = record {
@@ -63,7 +66,7 @@ found_refused shape (TooManyRows count) few found = absurd found
 -- an error of the walk, or out of memory
 pub walk_refused : (shape : Shape) (error : GridError) → AllSpans shape.groups →
     cell_count shape ≤ MAX_CELLS → (error ≡ Memory alloc_error) ⊎ (place_all shape.groups ≡ Err error) →
-    IsMemoryOr (Memory alloc_error) (IsRefused shape) error
+    IsMemoryOr (Memory alloc_error) (LacksGrid shape) error
 walk_refused shape error spans few (inl memory) = inl memory
 walk_refused shape error spans few (inr walked) =
     let P : Result Table GridError → Type 0 = λ r. TableGives (formed shape) r in
@@ -99,7 +102,8 @@ rows_refused shape t columns rows count spans few walked are narrow are' counted
     }
 
 -- a place, by tests that agree
-place_same : (p q p' q' : ℕ → Bool) (b : Block) → ((x : ℕ) → p x ≡ p' x) → ((y : ℕ) → q y ≡ q' y) → place_by p q b ≡ place_by p' q' b
+place_same : (p q p' q' : ℕ → Bool) (b : Block) → ((x : ℕ) → p x ≡ p' x) → ((y : ℕ) → q y ≡ q' y) →
+    place_by p q b ≡ place_by p' q' b
 place_same p q p' q' b across down = λ i. record {
   left = count_same p p' across b.left i;
   right = count_same p p' across b.right i;
@@ -131,7 +135,8 @@ are_places shape t columns rows count places m are are' counted many put = recor
     each [] all = tt
     each (b ∷ bs) all = (
       ap (λ ps. slice_get ps b.number) put ∙ all.0
-          ∙ ap Some (place_same (is_among columns) (is_among rows) (keeps_column (formed shape).cells) (keeps_row (formed shape).cells) b
+          ∙ ap Some (place_same (is_among columns) (is_among rows) (keeps_column (formed shape).cells)
+          (keeps_row (formed shape).cells) b
           (λ x. are.same x ∙ sym (same_columns (formed shape) t m x))
           (λ y. are'.same y ∙ sym (same_rows (formed shape) t m y))),
       each bs all.1,
@@ -174,8 +179,10 @@ same_places : (shape : Shape) (ps qs : List Place) → ArePlaces shape ps → Ar
 same_places shape ps qs are are' = lists_same ps qs (are.as_many ∙ sym are'.as_many)
     (λ k lt. let count : length ps ≡ cell_count shape = are.as_many in
     let (c, is) = cell_numbered shape k (omega arith) in
-    let p : slice_get ps c.number ≡ Some (place_of (formed shape) c) = all_at (StandsAtNumber (formed shape) ps) (formed shape).cells c are.each is.0 in
-    let q : slice_get qs c.number ≡ Some (place_of (formed shape) c) = all_at (StandsAtNumber (formed shape) qs) (formed shape).cells c are'.each is.0 in
+    let p : slice_get ps c.number ≡ Some (place_of (formed shape) c) =
+    all_at (StandsAtNumber (formed shape) ps) (formed shape).cells c are.each is.0 in
+    let q : slice_get qs c.number ≡ Some (place_of (formed shape) c) =
+    all_at (StandsAtNumber (formed shape) qs) (formed shape).cells c are'.each is.0 in
     ap (slice_get ps) (sym is.1) ∙ p ∙ sym (ap (slice_get qs) (sym is.1) ∙ q))
 
 -- a table has one grid
@@ -201,7 +208,8 @@ order x y x' y' =
     ]
 
 -- a slot with two cells has more than one
-many_over : (cells : List Cell) (first second x y : ℕ) → IsFirstOverlap cells first second x y → length (numbers_over x y cells) ≤ 1 → ⊥
+many_over : (cells : List Cell) (first second x y : ℕ) → IsFirstOverlap cells first second x y →
+    length (numbers_over x y cells) ≤ 1 → ⊥
 many_over cells first second x y is one =
     let (more, over) = is.two in
     let two : length (numbers_over x y cells) ≡ suc (suc (length more)) = ap length over in
@@ -215,7 +223,8 @@ one_overlap cells a b x y a' b' x' y' is is' =
       | inl same ↦
           let (more, over) = is.two in
           let (more', over') = is'.two in
-          let here : numbers_over x y cells ≡ numbers_over x' y' cells = ap (λ i. numbers_over i y cells) same.0 ∙ ap (λ j. numbers_over x' j cells) same.1 in
+          let here : numbers_over x y cells ≡ numbers_over x' y' cells =
+          ap (λ i. numbers_over i y cells) same.0 ∙ ap (λ j. numbers_over x' j cells) same.1 in
           let lists : a ∷ b ∷ more ≡ a' ∷ b' ∷ more' = sym over ∙ here ∙ over' in
           let first : a ≡ a' = cc in
           let second : b ≡ b' = cc in
@@ -225,7 +234,7 @@ one_overlap cells a b x y a' b' x' y' is is' =
     ]
 
 -- a table with a grid has no cause
-no_cause : (shape : Shape) (grid : Grid) (error : GridError) → HasGrid shape grid → IsRefused shape error → ⊥
+no_cause : (shape : Shape) (grid : Grid) (error : GridError) → HasGrid shape grid → LacksGrid shape error → ⊥
 no_cause shape grid (Memory e) has is = is
 no_cause shape grid (TooManyCells count) has is = omega (arith, has.few_cells, is.counted, is.many)
 no_cause shape grid (Overlap a b x y) has is = many_over (formed shape).cells a b x y is.overlap (has.no_overlap x y)
@@ -233,7 +242,7 @@ no_cause shape grid (TooManyColumns count) has is = omega (arith, has.few_column
 no_cause shape grid (TooManyRows count) has is = omega (arith, has.few_rows, is.counted, is.many)
 
 -- a table has one cause
-one_cause : (shape : Shape) (first second : GridError) → IsRefused shape first → IsRefused shape second → first ≡ second
+one_cause : (shape : Shape) (first second : GridError) → LacksGrid shape first → LacksGrid shape second → first ≡ second
 one_cause shape (Memory e) second is is' = absurd is
 one_cause shape (TooManyCells n) (Memory e) is is' = absurd is'
 one_cause shape (TooManyCells n) (TooManyCells m) is is' = ap TooManyCells (is.counted ∙ sym is'.counted)
@@ -242,17 +251,22 @@ one_cause shape (TooManyCells n) (TooManyColumns m) is is' = absurd (omega (arit
 one_cause shape (TooManyCells n) (TooManyRows m) is is' = absurd (omega (arith, is.counted, is.many, is'.few_cells))
 one_cause shape (Overlap a b x y) (Memory e) is is' = absurd is'
 one_cause shape (Overlap a b x y) (TooManyCells m) is is' = absurd (omega (arith, is'.counted, is'.many, is.few_cells))
-one_cause shape (Overlap a b x y) (Overlap a' b' x' y') is is' = one_overlap (formed shape).cells a b x y a' b' x' y' is.overlap is'.overlap
-one_cause shape (Overlap a b x y) (TooManyColumns m) is is' = absurd (many_over (formed shape).cells a b x y is.overlap (is'.no_overlap x y))
-one_cause shape (Overlap a b x y) (TooManyRows m) is is' = absurd (many_over (formed shape).cells a b x y is.overlap (is'.no_overlap x y))
+one_cause shape (Overlap a b x y) (Overlap a' b' x' y') is is' =
+    one_overlap (formed shape).cells a b x y a' b' x' y' is.overlap is'.overlap
+one_cause shape (Overlap a b x y) (TooManyColumns m) is is' =
+    absurd (many_over (formed shape).cells a b x y is.overlap (is'.no_overlap x y))
+one_cause shape (Overlap a b x y) (TooManyRows m) is is' = absurd
+    (many_over (formed shape).cells a b x y is.overlap (is'.no_overlap x y))
 one_cause shape (TooManyColumns n) (Memory e) is is' = absurd is'
 one_cause shape (TooManyColumns n) (TooManyCells m) is is' = absurd (omega (arith, is'.counted, is'.many, is.few_cells))
-one_cause shape (TooManyColumns n) (Overlap a b x y) is is' = absurd (many_over (formed shape).cells a b x y is'.overlap (is.no_overlap x y))
+one_cause shape (TooManyColumns n) (Overlap a b x y) is is' =
+    absurd (many_over (formed shape).cells a b x y is'.overlap (is.no_overlap x y))
 one_cause shape (TooManyColumns n) (TooManyColumns m) is is' = ap TooManyColumns (is.counted ∙ sym is'.counted)
 one_cause shape (TooManyColumns n) (TooManyRows m) is is' = absurd (omega (arith, is.counted, is.many, is'.few_columns))
 one_cause shape (TooManyRows n) (Memory e) is is' = absurd is'
 one_cause shape (TooManyRows n) (TooManyCells m) is is' = absurd (omega (arith, is'.counted, is'.many, is.few_cells))
-one_cause shape (TooManyRows n) (Overlap a b x y) is is' = absurd (many_over (formed shape).cells a b x y is'.overlap (is.no_overlap x y))
+one_cause shape (TooManyRows n) (Overlap a b x y) is is' = absurd
+    (many_over (formed shape).cells a b x y is'.overlap (is.no_overlap x y))
 one_cause shape (TooManyRows n) (TooManyColumns m) is is' = absurd (omega (arith, is'.counted, is'.many, is.few_columns))
 one_cause shape (TooManyRows n) (TooManyRows m) is is' = ap TooManyRows (is.counted ∙ sym is'.counted)
 
@@ -264,7 +278,7 @@ ok_law shape P (Err error) law has = tt
 
 -- a grid of the table is returned, or out of memory
 pub each_ok : (shape : Shape) (result : Result Grid GridError) → IfOk result (λ grid. HasGrid shape grid) →
-    IfErr result (λ error. IsMemoryOr (Memory alloc_error) (IsRefused shape) error) → (grid : Grid) →
+    IfErr result (λ error. IsMemoryOr (Memory alloc_error) (LacksGrid shape) error) → (grid : Grid) →
     HasGrid shape grid → ReturnsOk (Memory alloc_error) grid result
 each_ok shape (Ok found) has refused grid has' = one_grid shape found grid has has'
 each_ok shape (Err error) has (inl memory) grid has' = memory
@@ -272,8 +286,8 @@ each_ok shape (Err error) has (inr is) grid has' = absurd (no_cause shape grid e
 
 -- a cause of the table is returned, or out of memory
 pub each_err : (shape : Shape) (result : Result Grid GridError) → IfOk result (λ grid. HasGrid shape grid) →
-    IfErr result (λ error. IsMemoryOr (Memory alloc_error) (IsRefused shape) error) → (error : GridError) →
-    IsRefused shape error → ReturnsError (Memory alloc_error) error result
+    IfErr result (λ error. IsMemoryOr (Memory alloc_error) (LacksGrid shape) error) → (error : GridError) →
+    LacksGrid shape error → ReturnsError (Memory alloc_error) error result
 each_err shape (Ok found) has refused error is = no_cause shape found error has is
 each_err shape (Err error) has (inl memory) expected is = inl memory
 each_err shape (Err error) has (inr is') expected is = inr (one_cause shape error expected is' is)
@@ -295,10 +309,13 @@ have_places shape = record {
 
 -- a table within the limits has a grid, or too many columns or rows
 within_limits : (shape : Shape) → cell_count shape ≤ MAX_CELLS → HasNoOverlap (formed shape).cells →
-    ((grid : Grid) × HasGrid shape grid) ⊎ ((error : GridError) × IsRefused shape error)
+    ((grid : Grid) × HasGrid shape grid) ⊎ ((error : GridError) × LacksGrid shape error)
 within_limits shape few one =
     elim (cases_lt MAX_COLUMNS (kept_column_count shape)) [
-      | inl wide ↦ inr (TooManyColumns (kept_column_count shape), record { few_cells = few; no_overlap = one; counted = refl; many = wide })
+      | inl wide ↦ inr (
+        TooManyColumns (kept_column_count shape),
+        record { few_cells = few; no_overlap = one; counted = refl; many = wide },
+      )
       | inr narrow ↦
           elim (cases_lt MAX_ROWS (kept_row_count shape)) [
             | inl high ↦ inr (
@@ -307,7 +324,16 @@ within_limits shape few one =
             )
             | inr low ↦ inl (
               record { cols = kept_column_count shape; rows = kept_row_count shape; places = formed_places shape },
-              record { few_cells = few; no_overlap = one; few_columns = narrow; few_rows = low; columns = refl; rows = refl; places = have_places shape },
+              record {
+                few_cells = few;
+                no_overlap = one;
+                few_columns = narrow;
+                few_rows = low;
+                columns = refl;
+                rows =
+                    refl;
+                places = have_places shape;
+              },
             )
           ]
     ]
@@ -315,12 +341,13 @@ within_limits shape few one =
 -- what the walk gives is the first overlap, or there is none
 walk_decides : (shape : Shape) (result : Result Table GridError) → cell_count shape ≤ MAX_CELLS →
     TableGives (formed shape) result →
-    ((grid : Grid) × HasGrid shape grid) ⊎ ((error : GridError) × IsRefused shape error)
+    ((grid : Grid) × HasGrid shape grid) ⊎ ((error : GridError) × LacksGrid shape error)
 walk_decides shape (Ok t) few gives = within_limits shape few gives.one
 walk_decides shape (Err error) few found = inr (error, found_refused shape error few found)
 
 -- Each table has a grid, or one of the causes holds.
-pub decided : (shape : Shape) → AllSpans shape.groups → ((grid : Grid) × HasGrid shape grid) ⊎ ((error : GridError) × IsRefused shape error)
+pub decided : (shape : Shape) → AllSpans shape.groups → ((grid : Grid) × HasGrid shape grid) ⊎
+    ((error : GridError) × LacksGrid shape error)
 decided shape spans =
     elim (cases_lt MAX_CELLS (cell_count shape)) [
       | inl many ↦ inr (TooManyCells (cell_count shape), record { counted = refl; many = many })

@@ -1,8 +1,10 @@
 -- A row that is walked over the open blocks is the standard's row, up to the first overlap.
-use Rattle.std.proofs.Common.{◌≡◌, ℕ, ◌+◌, ◌-◌, ◌<◌, ◌≤◌, max, Bool, true, false, ◌||◌, cond, ltb, eqb, List, [], ◌∷◌, ◌++◌, map, length, Some, None}
+use Rattle.std.proofs.Common.{◌≡◌, ℕ, ◌+◌, ◌-◌, ◌<◌, ◌≤◌, max, Bool, true, false, ◌||◌, cond, ltb, eqb, List, [], ◌∷◌, ◌++◌, map}
+use Rattle.std.proofs.Common.{length, Some, None}
 use Rattle.std.proofs.Common.{refl, sym, ap, ◌∙◌, subst, inl, inr, arith, append_assoc, append-nil}
 use Rattle.std.specs.List.{filter, AllByRecursion}
-use Rattle.std.proofs.lemmas.Bool.{ltb-true, ltb-false, lt-ltb, eq-eqb, ne_eqb, cases_Bool, cases_eq, or_left, or_right, cond-true, cond-false}
+use Rattle.std.proofs.lemmas.Bool.{ltb-true, ltb-false, lt-ltb, eq-eqb, ne_eqb, cases_Bool, cases_eq, or_left, or_right}
+use Rattle.std.proofs.lemmas.Bool.{cond-true, cond-false}
 use Rattle.std.proofs.lemmas.List.{map-append, length-map}
 use Rattle.std.proofs.lemmas.List.Elements.{filter-append}
 use Rattle.tl_grid.specs.declared.shape.SpanOf.{SpanOf}
@@ -11,10 +13,12 @@ use Rattle.tl_grid.specs.Forming.{Cell, Forming, has_cell, first_free, initial_r
 use Rattle.tl_grid.specs.Overlap.{numbers_over, IsBefore}
 use Rattle.tl_grid.specs.inner.OpenBlocks.{reaches, Walk, hit}
 use Rattle.tl_grid.specs.inner.Walk.{block_at, Row, placed, walk_of}
-use Rattle.tl_grid.proofs.Chains.{spot, Chain, ChainTo, spot_in, spot_before, spot_from, filter_yes, filter_no, none_left, none_right, at_most_one}
+use Rattle.tl_grid.proofs.Chains.{spot, Chain, ChainTo, spot_in, spot_before, spot_from, filter_yes, filter_no, none_left}
+use Rattle.tl_grid.proofs.Chains.{none_right, at_most_one}
 use Rattle.tl_grid.proofs.Chains.{chain_append, chain_yes}
 use Rattle.tl_grid.proofs.Passing.{some, BeginsAfter, Passes, passes, push_prefix}
-use Rattle.tl_grid.proofs.Cells.{cell_of, AllQuiet, block_number, BeginsBy, numbers_here, has_cell_here, first_free_is, formed_cell}
+use Rattle.tl_grid.proofs.Cells.{cell_of, AllQuiet, block_number, BeginsBy, numbers_here, has_cell_here, first_free_is}
+use Rattle.tl_grid.proofs.Cells.{formed_cell}
 use Rattle.tl_grid.proofs.Later.{with_cell_before}
 use Rattle.tl_grid.specs.inner.States.{EndsBy}
 
@@ -24,7 +28,8 @@ BeginsFrom y right [] = Unit {0}
 BeginsFrom y right (b ∷ bs) = (reaches y b ≡ true) × (right ≤ b.left)
 
 -- such a chain is one from that column on
-chain_later : (y x right : ℕ) (bs : List Block) → BeginsFrom y right bs → Chain x (filter (reaches y) bs) → Chain right (filter (reaches y) bs)
+chain_later : (y x right : ℕ) (bs : List Block) → BeginsFrom y right bs → Chain x (filter (reaches y) bs) →
+    Chain right (filter (reaches y) bs)
 chain_later y x right [] begins c = tt
 chain_later y x right (b ∷ bs) begins c =
     let d : Chain x (b ∷ filter (reaches y) bs) = chain_yes x y b bs begins.0 c in
@@ -74,7 +79,8 @@ all_right P [] ys a = a
 all_right P (x ∷ xs) ys a = all_right P xs ys a.1
 
 -- one more in the middle, or at the end
-all_insert : (P : Block → Type 0) (xs : List Block) (b : Block) (ys : List Block) → P b → AllByRecursion P (xs ++ ys) → AllByRecursion P ((xs ++ b ∷ []) ++ ys)
+all_insert : (P : Block → Type 0) (xs : List Block) (b : Block) (ys : List Block) → P b → AllByRecursion P (xs ++ ys) →
+    AllByRecursion P ((xs ++ b ∷ []) ++ ys)
 all_insert P [] b ys h a = (h, a)
 all_insert P (x ∷ xs) b ys h a = (a.0, all_insert P xs b ys h a.1)
 
@@ -84,7 +90,8 @@ all_push P [] b h a = (h, tt)
 all_push P (x ∷ xs) b h a = (a.0, all_push P xs b h a.1)
 
 -- a weaker fact holds of all too
-pub all_weaken : (P Q : Block → Type 0) → ((b : Block) → P b → Q b) → (xs : List Block) → AllByRecursion P xs → AllByRecursion Q xs
+pub all_weaken : (P Q : Block → Type 0) → ((b : Block) → P b → Q b) → (xs : List Block) → AllByRecursion P xs →
+    AllByRecursion Q xs
 all_weaken P Q f [] a = tt
 all_weaken P Q f (x ∷ xs) a = (f x a.0, all_weaken P Q f xs a.1)
 
@@ -117,7 +124,8 @@ column_found done y s r quiet m =
     first_free_is (λ column. has_cell column s.row s.cells) (s.width - r.column) r.column w.column on (omega arith)
     (λ x' le lt. taken_here done y s r quiet m x' ∙ p.taken x' le lt)
     (taken_here done y s r quiet m w.column ∙ ap some (sym (p.same w.column y (omega arith)))
-    ∙ ap some (none_between y w.column r w (w.column + 1) y p (begins_next y w.column w.ahead p.begins) (omega arith) (omega arith) (omega arith)))
+    ∙ ap some (none_between y w.column r w (w.column + 1) y p (begins_next y w.column w.ahead p.begins) (omega arith)
+    (omega arith) (omega arith)))
 
 -- of two lists that make none the first is empty
 nothing_left : (xs ys : List Block) → xs ++ ys ≡ [] → xs ≡ []
@@ -147,7 +155,8 @@ filter_insert p xs b ys bs same none =
           let empty : filter p xs ++ filter p ys ≡ [] = sym (filter-append p xs ys) ∙ none e in
           filter_push_yes p bs b e ∙ ap (λ l. l ++ b ∷ []) (same ∙ none e)
           ∙ sym (filter-append p (xs ++ b ∷ []) ys
-          ∙ ap (λ l. l ++ filter p ys) (filter_push_yes p xs b e ∙ ap (λ l. l ++ b ∷ []) (nothing_left (filter p xs) (filter p ys) empty))
+          ∙ ap (λ l. l ++ filter p ys) (filter_push_yes p xs b e ∙ ap (λ l. l ++ b ∷ [])
+          (nothing_left (filter p xs) (filter p ys) empty))
           ∙ ap (λ l. (b ∷ []) ++ l) (nothing_right (filter p xs) (filter p ys) empty))
       | inr e ↦
           filter_push_no p bs b e ∙ same ∙ filter-append p xs ys
@@ -244,7 +253,8 @@ pub record IsFoundIn (cells : List Cell) (first second x y : ℕ) : Type 0 where
   pub before : (x' y' : ℕ) → IsBefore x' y' x y → length (numbers_over x' y' cells) ≤ 1
 
 -- in the row that is formed no slot has two blocks
-pub one_at_most_here : (done : List Cell) (y : ℕ) (s : Forming) (r : Row) (x : ℕ) → RowMatches done y s r → length (filter (spot x y) r.blocks) ≤ 1
+pub one_at_most_here : (done : List Cell) (y : ℕ) (s : Forming) (r : Row) (x : ℕ) → RowMatches done y s r →
+    length (filter (spot x y) r.blocks) ≤ 1
 one_at_most_here done y s r x m =
     let P : List Block → Type 0 = λ l. length l ≤ 1 in
     let Q : List Block → Type 0 = λ l. Chain 0 l in
@@ -256,7 +266,8 @@ one_at_most_here done y s r x m =
 -- the blocks of the row's slots after one more cell
 numbers_placed : (done : List Cell) (y number : ℕ) (span : SpanOf) (s : Forming) (r : Row) (x x' : ℕ) →
     AllQuiet y done → RowMatches done y s r →
-    numbers_over x' y (with_cell number x span s).cells ≡ map block_number (filter (spot x' y) (r.blocks ++ block_at number x y span ∷ []))
+    numbers_over x' y (with_cell number x span s).cells ≡ map block_number
+    (filter (spot x' y) (r.blocks ++ block_at number x y span ∷ []))
 numbers_placed done y number span s r x x' quiet m =
     ap (numbers_over x' y) (placed_cells done y number x span s r.blocks m.at_row m.cells)
     ∙ numbers_here x' y done (r.blocks ++ block_at number x y span ∷ []) quiet
@@ -312,13 +323,15 @@ row_overlap done y number span s r b quiet wide m found =
     let alone : filter (spot b.left y) r.blocks ≡ b ∷ [] =
     m.same b.left y (omega arith) ∙ sym (p.same b.left y (omega arith))
     ∙ filter-append (spot b.left y) w.passed w.ahead
-    ∙ ap (λ l. l ++ filter (spot b.left y) w.ahead) (none_right 0 w.column b.left y y (omega arith) (omega arith) w.passed p.prefix)
+    ∙ ap (λ l. l ++ filter (spot b.left y) w.ahead) (none_right 0 w.column b.left y y (omega arith) (omega arith)
+    w.passed p.prefix)
     ∙ ap (filter (spot b.left y)) is.0
     ∙ filter_yes (spot b.left y) b rest (spot_in b.left y b (omega arith) chain.1 is.1)
     ∙ ap (λ l. b ∷ l) (none_left b.right b.left y y chain.1 (omega arith) rest chain.2) in
     record {
       two = numbers_placed done y number span s r w.column b.left quiet m
-          ∙ ap (map block_number) (filter_push_yes (spot b.left y) r.blocks c (spot_in b.left y c (omega arith) within (begins_here y span.rowspan))
+          ∙ ap (map block_number) (filter_push_yes (spot b.left y) r.blocks c
+          (spot_in b.left y c (omega arith) within (begins_here y span.rowspan))
           ∙ ap (λ l. l ++ c ∷ []) alone);
       before = before_overlap done y number span s r b.left quiet m begins;
     }

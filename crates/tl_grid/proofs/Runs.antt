@@ -83,7 +83,8 @@ length_push : (xs : List Block) (b : Block) → length (xs ++ b ∷ []) ≡ suc 
 length_push xs b = omega (arith, length-append xs (b ∷ []))
 
 -- no blocks are a run, too
-pub no_run : (column : ℕ) (passed : List Block) (run : Run) → HoldsRun column passed run → HoldsRun column passed record { count = 0; column = 0; until = 0 }
+pub no_run : (column : ℕ) (passed : List Block) (run : Run) → HoldsRun column passed run →
+    HoldsRun column passed record { count = 0; column = 0; until = 0 }
 no_run column passed run holds =
     let few : run.count ≤ length passed = holds.few in
     record {
@@ -94,12 +95,14 @@ no_run column passed run holds =
     }
 
 -- a run stays one where one more block is passed
-pub run_stays : (column : ℕ) (passed : List Block) (run : Run) (b : Block) → HoldsRun column passed run → HoldsRun b.right (passed ++ b ∷ []) run
+pub run_stays : (column : ℕ) (passed : List Block) (run : Run) (b : Block) → HoldsRun column passed run →
+    HoldsRun b.right (passed ++ b ∷ []) run
 run_stays column passed run b holds =
     let few : run.count ≤ length passed = holds.few in
     let more : length (passed ++ b ∷ []) ≡ suc (length passed) = length_push passed b in
     let same : take run.count (passed ++ b ∷ []) ≡ take run.count passed = take-append-le run.count passed (b ∷ []) few in
-    let P : List Block → Type 0 = λ l. (y : ℕ) → y < run.until → pass_taken y 0 [] l ≡ record { column = run.column; passed = l; ahead = [] } in
+    let P : List Block → Type 0 = λ l. (y : ℕ) → y < run.until →
+    pass_taken y 0 [] l ≡ record { column = run.column; passed = l; ahead = [] } in
     record {
       few = omega arith;
       level = λ e. absurd (omega arith);
@@ -114,8 +117,10 @@ run_on : (column : ℕ) (passed : List Block) (run : Run) (until : ℕ) (b : Blo
     HoldsRun b.right (passed ++ b ∷ []) record { count = run.count + 1; column = b.right; until = until }
 run_on column passed run until b holds at left alive before =
     let more : length (passed ++ b ∷ []) ≡ suc (length passed) = length_push passed b in
-    let same : take (run.count + 1) (passed ++ b ∷ []) ≡ passed ++ b ∷ [] = take_all (passed ++ b ∷ []) (run.count + 1) (omega arith) in
-    let P : List Block → Type 0 = λ l. (y : ℕ) → y < until → pass_taken y 0 [] l ≡ record { column = b.right; passed = l; ahead = [] } in
+    let same : take (run.count + 1) (passed ++ b ∷ []) ≡ passed ++ b ∷ [] =
+    take_all (passed ++ b ∷ []) (run.count + 1) (omega arith) in
+    let P : List Block → Type 0 = λ l. (y : ℕ) → y < until →
+    pass_taken y 0 [] l ≡ record { column = b.right; passed = l; ahead = [] } in
     record {
       few = omega arith;
       level = λ e. refl;
@@ -137,7 +142,8 @@ pub run_first : (column : ℕ) (passed : List Block) (run : Run) (end : ℕ) (b 
     HoldsRun b.right (passed ++ b ∷ []) record { count = run.count + 1; column = b.right; until = end }
 run_first column [] run end b holds at none left ends =
     let start : column ≡ 0 = holds.level at ∙ holds.start none in
-    run_on column [] run end b holds at left (alive_to b end ends) (λ y lt. λ i. record { column = sym start i; passed = []; ahead = [] })
+    run_on column [] run end b holds at left (alive_to b end ends)
+    (λ y lt. λ i. record { column = sym start i; passed = []; ahead = [] })
 run_first column (p ∷ passed) run end b holds at none left ends = absurd (omega arith)
 
 -- a further block of a run
@@ -147,17 +153,20 @@ pub run_next : (column : ℕ) (passed : List Block) (run : Run) (end : ℕ) (b :
     HoldsRun b.right (passed ++ b ∷ []) record { count = run.count + 1; column = b.right; until = run.until }
 run_next column passed run end b holds at le left ends =
     let all : take run.count passed ≡ passed = take_all passed run.count (omega arith) in
-    let P : List Block → Type 0 = λ l. (y : ℕ) → y < run.until → pass_taken y 0 [] l ≡ record { column = run.column; passed = l; ahead = [] } in
+    let P : List Block → Type 0 = λ l. (y : ℕ) → y < run.until →
+    pass_taken y 0 [] l ≡ record { column = run.column; passed = l; ahead = [] } in
     let here : column ≡ run.column = holds.level at in
     run_on column passed run run.until b holds at left (λ y lt. alive_to b end ends y (omega arith))
     (λ y lt. subst P all holds.passes y lt ∙ (λ i. record { column = sym here i; passed = passed; ahead = [] }))
 
 -- after a rewind the walk stands at the end of the run
-pub run_rewound : (column : ℕ) (passed : List Block) (run : Run) → HoldsRun column passed run → HoldsRun run.column (take run.count passed) run
+pub run_rewound : (column : ℕ) (passed : List Block) (run : Run) → HoldsRun column passed run →
+    HoldsRun run.column (take run.count passed) run
 run_rewound column passed run holds =
     let few : run.count ≤ length passed = holds.few in
     let long : length (take run.count passed) ≡ run.count = length-take-le run.count passed few in
-    let P : List Block → Type 0 = λ l. (y : ℕ) → y < run.until → pass_taken y 0 [] l ≡ record { column = run.column; passed = l; ahead = [] } in
+    let P : List Block → Type 0 = λ l. (y : ℕ) → y < run.until →
+    pass_taken y 0 [] l ≡ record { column = run.column; passed = l; ahead = [] } in
     record {
       few = omega arith;
       level = λ e. refl;

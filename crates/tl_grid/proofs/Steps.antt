@@ -1,5 +1,6 @@
 -- One step of a walk, as the code keeps it.
-use Rattle.std.proofs.Common.{◌≡◌, ℕ, ◌+◌, ◌<◌, max, List, [], ◌∷◌, ◌++◌, length, Option, Some, None, Result, Ok, sym, ap, ◌∙◌, subst, arith}
+use Rattle.std.proofs.Common.{◌≡◌, ℕ, ◌+◌, ◌<◌, max, List, [], ◌∷◌, ◌++◌, length, Option, Some, None, Result, Ok, sym, ap, ◌∙◌}
+use Rattle.std.proofs.Common.{subst, arith}
 use Rattle.tl_grid.specs.declared.shape.SpanOf.{SpanOf}
 use Rattle.tl_grid.specs.declared.block.Block.{Block}
 use Rattle.tl_grid.specs.declared.row.RowState.{RowState}
@@ -15,7 +16,8 @@ cell_free : (y number : ℕ) (span : SpanOf) (row : Row) (walk : Walk) → walk 
     place_cell y number row span ≡ Ok (placed y number span row walk)
 cell_free y number span row walk e none =
     let done : Row = placed y number span row walk in
-    let P : Walk → Type 0 = λ w. unless_hit (hit w.ahead (w.column + span.colspan)) number y (Ok (placed y number span row w)) ≡ Ok done in
+    let P : Walk → Type 0 = λ w. unless_hit (hit w.ahead (w.column + span.colspan)) number y
+    (Ok (placed y number span row w)) ≡ Ok done in
     subst P e (ap (λ o. unless_hit o number y (Ok done)) none)
 
 -- a cell that is placed, as the code keeps it
@@ -31,7 +33,8 @@ cell_done y number span row walk b height blocks open_blocks e none is high more
     let tall : max row.height c.bottom ≡ height = ap (λ (d : Block). max row.height d.bottom) (sym is) ∙ sym high in
     let all : row.blocks ++ c ∷ [] ≡ blocks = ap (λ d. row.blocks ++ d ∷ []) (sym is) ∙ sym more in
     let column : c.right ≡ open_blocks.column = sym right ∙ ap (λ (w : Walk). w.column) (sym put) in
-    let passed : walk.passed ++ c ∷ [] ≡ open_blocks.passed = ap (λ d. walk.passed ++ d ∷ []) (sym is) ∙ ap (λ (w : Walk). w.passed) (sym put) in
+    let passed : walk.passed ++ c ∷ [] ≡ open_blocks.passed =
+    ap (λ d. walk.passed ++ d ∷ []) (sym is) ∙ ap (λ (w : Walk). w.passed) (sym put) in
     let ahead : walk.ahead ≡ open_blocks.ahead = ap (λ (w : Walk). w.ahead) (sym put) in
     cell_free y number span (row_over row) walk e (ap (hit walk.ahead) (sym right) ∙ none)
     ∙ ap Ok (λ i. record { column = column i; height = tall i; blocks = all i; passed = passed i; ahead = ahead i })
@@ -39,7 +42,14 @@ cell_done y number span row walk b height blocks open_blocks e none is high more
 -- the cells of a row, where the walk to the first of them has been made before
 pub row_begun : (y number : ℕ) (spans : List SpanOf) (row : Row) (walk : Walk) → 0 < length spans →
     walk ≡ walk_of y row →
-    place_cells y number record { column = walk.column; height = row.height; blocks = row.blocks; passed = walk.passed; ahead = walk.ahead } spans
+    place_cells y number record {
+      column = walk.column;
+      height = row.height;
+      blocks = row.blocks;
+      passed = walk.passed;
+      ahead =
+          walk.ahead;
+    } spans
     ≡ place_cells y number row spans
 row_begun y number [] row walk some e = absurd (omega arith)
 row_begun y number (span ∷ spans) row walk some e =
@@ -58,5 +68,6 @@ pub cells_step : (y number : ℕ) (row after : Row) (span : SpanOf) (spans : Lis
     place_cell y number row span ≡ Ok after →
     place_cells y number row (span ∷ spans) ≡ place_cells y (number + 1) after spans
 cells_step y number row after span spans e =
-    step_on (hit (walk_of y row).ahead ((walk_of y row).column + span.colspan)) number y (placed y number span row (walk_of y row)) after
+    step_on (hit (walk_of y row).ahead ((walk_of y row).column + span.colspan)) number y
+    (placed y number span row (walk_of y row)) after
     (λ r. place_cells y (number + 1) r spans) e

@@ -1,8 +1,10 @@
 -- Whole tables: group after group, the footers last.
-use Rattle.std.proofs.Common.{◌≡◌, ℕ, ◌+◌, ◌<◌, ◌≤◌, suc, Bool, true, false, ◌&&◌, ◌||◌, not, cond, ltb, leb, eqb, List, [], ◌∷◌, ◌++◌, map, length}
+use Rattle.std.proofs.Common.{◌≡◌, ℕ, ◌+◌, ◌<◌, ◌≤◌, suc, Bool, true, false, ◌&&◌, ◌||◌, not, cond, ltb, leb, eqb, List, [], ◌∷◌}
+use Rattle.std.proofs.Common.{◌++◌, map, length}
 use Rattle.std.proofs.Common.{Result, Ok, Err, refl, sym, ap, ◌∙◌, subst, inl, inr, arith, append-nil}
 use Rattle.std.specs.List.{filter, AllByRecursion}
-use Rattle.std.proofs.lemmas.Bool.{lt-ltb, le-ltb, le-leb, ne_eqb, cases_Bool, cases_lt, cases_order, both_ways, and_left, and_right, cond-true}
+use Rattle.std.proofs.lemmas.Bool.{lt-ltb, le-ltb, le-leb, ne_eqb, cases_Bool, cases_lt, cases_order, both_ways, and_left}
+use Rattle.std.proofs.lemmas.Bool.{and_right, cond-true}
 use Rattle.std.proofs.lemmas.Bool.{cond-false}
 use Rattle.std.proofs.lemmas.List.{map-append}
 use Rattle.std.proofs.lemmas.Simd.{map-map}
@@ -12,7 +14,8 @@ use Rattle.tl_grid.specs.declared.shape.ShapeGroup.{ShapeGroup}
 use Rattle.tl_grid.specs.declared.shape.Shape.{Shape}
 use Rattle.tl_grid.specs.declared.block.Block.{Block}
 use Rattle.tl_grid.specs.declared.error.GridError.{GridError}
-use Rattle.tl_grid.specs.Forming.{Cell, Forming, covers, form_rows, at_group_end, end_group, form_group, form_groups, cells_in, no_cells, formed}
+use Rattle.tl_grid.specs.Forming.{Cell, Forming, covers, form_rows, at_group_end, end_group, form_group, form_groups, cells_in}
+use Rattle.tl_grid.specs.Forming.{no_cells, formed}
 use Rattle.tl_grid.specs.Overlap.{numbers_over}
 use Rattle.tl_grid.specs.Dropping.{keeps_row}
 use Rattle.tl_grid.specs.declared.table.Table.{Table}
@@ -48,7 +51,8 @@ whole b = record {
 
 -- the cells cover the rows with an anchor as the blocks do
 abbrev pub SameWhereKept : Forming → List Block → Type 0
-SameWhereKept s bs = (keeps : ℕ → Bool) → ((y : ℕ) → y < s.row → keeps y ≡ keeps_row s.cells y) → map (mask keeps) s.cells ≡ map (mask keeps) (map whole bs)
+SameWhereKept s bs = (keeps : ℕ → Bool) → ((y : ℕ) → y < s.row → keeps y ≡ keeps_row s.cells y) →
+    map (mask keeps) s.cells ≡ map (mask keeps) (map whole bs)
 
 -- a table in the standard's steps and in the walk, between two groups
 pub record TableMatches (s : Forming) (t : Table) : Type 0 where
@@ -83,13 +87,15 @@ still_all row height y (c ∷ cs) q =
     ∙ ap (λ ds. c ∷ ds) (still_all row height y cs q.1)
 
 -- the cells after a group
-ended_cells : (done : List Cell) (s : Forming) (g : RowGroup) → GroupMatches done s g → (end_group s).cells ≡ done ++ map (ended_cell g.row g.height) g.blocks
+ended_cells : (done : List Cell) (s : Forming) (g : RowGroup) → GroupMatches done s g →
+    (end_group s).cells ≡ done ++ map (ended_cell g.row g.height) g.blocks
 ended_cells done s g m =
     ap (λ row. map (at_group_end row s.height) s.cells) m.at_row
     ∙ ap (λ height. map (at_group_end g.row height) s.cells) m.high
     ∙ ap (map (at_group_end g.row g.height)) m.cells
     ∙ map-append (at_group_end g.row g.height) done (map (cell_of g.row) g.blocks)
-    ∙ ap (λ l. l ++ map (at_group_end g.row g.height) (map (cell_of g.row) g.blocks)) (still_all g.row g.height g.row done m.quiet)
+    ∙ ap (λ l. l ++ map (at_group_end g.row g.height) (map (cell_of g.row) g.blocks))
+    (still_all g.row g.height g.row done m.quiet)
     ∙ ap (λ l. done ++ l) (map-map (at_group_end g.row g.height) (cell_of g.row) g.blocks)
 
 -- the rows of a cell whose group has ended
@@ -118,10 +124,12 @@ quiet_append y [] ds q r = r
 quiet_append y (c ∷ cs) ds q r = (q.0, quiet_append y cs ds q.1 r)
 
 -- no anchor stands where the blocks begin above
-no_anchor : (row height y : ℕ) (bs : List Block) → row ≤ y → AllByRecursion (BeginsAbove row) bs → keeps_row (map (ended_cell row height) bs) y ≡ false
+no_anchor : (row height y : ℕ) (bs : List Block) → row ≤ y → AllByRecursion (BeginsAbove row) bs →
+    keeps_row (map (ended_cell row height) bs) y ≡ false
 no_anchor row height y [] le tops = refl
 no_anchor row height y (b ∷ bs) le tops =
-    ap (λ t. t || keeps_row (map (ended_cell row height) bs) y) (ne_eqb b.top y (λ e. let lt : b.top < row = tops.0 in omega arith))
+    ap (λ t. t || keeps_row (map (ended_cell row height) bs) y)
+    (ne_eqb b.top y (λ e. let lt : b.top < row = tops.0 in omega arith))
     ∙ no_anchor row height y bs le tops.1
 
 -- no slot has more cells than blocks
@@ -168,7 +176,8 @@ ended_covers x y row height b ge none =
     ]
 
 -- after a group no slot has two cells
-one_after : (done : List Cell) (s : Forming) (g : RowGroup) → GroupMatches done s g → (x y : ℕ) → length (numbers_over x y (end_group s).cells) ≤ 1
+one_after : (done : List Cell) (s : Forming) (g : RowGroup) → GroupMatches done s g → (x y : ℕ) →
+    length (numbers_over x y (end_group s).cells) ≤ 1
 one_after done s g m x y =
     let at_row : s.row ≡ g.row = m.at_row in
     let P : List ℕ → Type 0 = λ l. length l ≤ 1 in
@@ -179,7 +188,8 @@ one_after done s g m x y =
           let few : length (numbers_over x y (map (ended_cell g.row g.height) g.blocks)) ≤ length (filter (spot x y) g.blocks) =
           numbers_fewer x y (ended_cell g.row g.height) (spot x y) (λ b. ended_covers x y g.row g.height b below) g.blocks in
           let one : length (filter (spot x y) g.open_blocks) ≤ 1 = at_most_one 0 x g.row y below g.open_blocks m.chain in
-          let same : length (filter (spot x y) g.blocks) ≡ length (filter (spot x y) g.open_blocks) = ap length (m.same x y below) in
+          let same : length (filter (spot x y) g.blocks) ≡ length (filter (spot x y) g.open_blocks) =
+          ap length (m.same x y below) in
           subst C (sym (ended_cells done s g m))
           (subst P (sym (numbers-append x y done (map (ended_cell g.row g.height) g.blocks)
           ∙ ap (λ l. l ++ numbers_over x y (map (ended_cell g.row g.height) g.blocks)) (quiet_none x g.row y below done m.quiet)))
@@ -189,7 +199,8 @@ one_after done s g m x y =
 -- the rows of a cell and of its block, where those with an anchor are kept
 kept_rows_same : (keep g : Bool) (row height top bottom y : ℕ) → row ≤ height → top < row →
     (y ≡ row → row < height → keep ≡ false) →
-    (keep && ((leb top y && ltb y (cond g row bottom)) || (g && (ltb row y && ltb y height)))) ≡ (keep && (leb top y && ltb y (cond g height bottom)))
+    (keep && ((leb top y && ltb y (cond g row bottom)) || (g && (ltb row y && ltb y height)))) ≡
+    (keep && (leb top y && ltb y (cond g height bottom)))
 kept_rows_same false g row height top bottom y low lt gap = refl
 kept_rows_same true false row height top bottom y low lt gap = or_false (leb top y && ltb y bottom)
 kept_rows_same true true row height top bottom y low lt gap =
@@ -237,7 +248,8 @@ masked_all keeps row height (b ∷ bs) low tops gap =
     ∙ ap (λ cs. mask keeps (whole (settled height b)) ∷ cs) (masked_all keeps row height bs low tops.1 gap)
 
 -- where a block ends when its group ends
-settled_bottom : (g : Bool) (height bottom top : ℕ) → top < bottom → bottom ≤ height → (top < cond g height bottom) × (cond g height bottom ≤ height)
+settled_bottom : (g : Bool) (height bottom top : ℕ) → top < bottom → bottom ≤ height →
+    (top < cond g height bottom) × (cond g height bottom ≤ height)
 settled_bottom true height bottom top lt le = (omega arith, omega arith)
 settled_bottom false height bottom top lt le = (lt, le)
 
@@ -281,7 +293,8 @@ group_ends s last t g before later m =
       at_row = omega arith;
       quiet = subst C (sym cells) (quiet_append (end_group last).row s.cells ended
           (quiet_on g.row (end_group last).row (omega arith) s.cells m.quiet)
-          (quiet_on g.height (end_group last).row (omega arith) ended (quiet_ended g.row g.height last.width low g.blocks m.sound)));
+          (quiet_on g.height (end_group last).row (omega arith) ended
+          (quiet_ended g.row g.height last.width low g.blocks m.sound)));
       one = one_after s.cells last g m;
       anchors = λ y ge. ap (λ cs. keeps_row cs y) cells ∙ no_anchors y (omega arith);
       sound = all_append (IsSound last.width last.height) t.blocks (map (settled g.height) g.blocks)
@@ -360,11 +373,14 @@ GroupWide group = AllWide group.rows
 -- the rest of the groups, after one
 groups_give_step : (result : Result RowGroup GridError) (turn : ShapeGroup → Bool) (number : ℕ)
     (s last : Forming) (t : Table) (groups : List ShapeGroup) → GroupGives s last t result →
-    ((u : Table) → TableMatches (end_group last) u → TableGives (form_groups turn number groups (end_group last)) (place_groups turn number u groups)) →
-    TableGives (form_groups turn number groups (end_group last)) (then_ok (λ group. place_groups turn number (after_group t group) groups) result)
+    ((u : Table) → TableMatches (end_group last) u → TableGives (form_groups turn number groups (end_group last))
+    (place_groups turn number u groups)) →
+    TableGives (form_groups turn number groups (end_group last))
+    (then_ok (λ group. place_groups turn number (after_group t group) groups) result)
 groups_give_step (Ok group) turn number s last t groups gives next = next (after_group t group) gives
 groups_give_step (Err error) turn number s last t groups gives next =
-    found_later (end_group last) (form_groups turn number groups (end_group last)) error (later_groups turn groups number (end_group last)) gives
+    found_later (end_group last) (form_groups turn number groups (end_group last)) error
+    (later_groups turn groups number (end_group last)) gives
 
 -- all groups whose turn it is
 pub groups_give : (turn : ShapeGroup → Bool) (groups : List ShapeGroup) (number : ℕ) (s : Forming)
@@ -378,7 +394,8 @@ groups_give turn (group ∷ groups) number s t wide m =
     then_ok (λ g. place_groups turn rest (after_group t g) groups) (place_rows number (group_at t.row) group.rows) in
     elim (cases_Bool (turn group)) [
       | inl e ↦
-          let P : Forming → Type 0 = λ u. TableGives (form_groups turn rest groups u) (place_groups turn number t (group ∷ groups)) in
+          let P : Forming → Type 0 = λ u. TableGives (form_groups turn rest groups u)
+          (place_groups turn number t (group ∷ groups)) in
           let Q : Result Table GridError → Type 0 = λ r. TableGives (form_groups turn rest groups (end_group last)) r in
           subst P (sym (cond-true (turn group) (form_group number group.rows s) s e))
           (subst Q (sym (cond-true (turn group) walked (place_groups turn rest t groups) e))
@@ -386,7 +403,8 @@ groups_give turn (group ∷ groups) number s t wide m =
           (group_gives number group.rows s t wide.0 m)
           (λ u matches. groups_give turn groups rest (end_group last) u wide.1 matches)))
       | inr e ↦
-          let P : Forming → Type 0 = λ u. TableGives (form_groups turn rest groups u) (place_groups turn number t (group ∷ groups)) in
+          let P : Forming → Type 0 = λ u. TableGives (form_groups turn rest groups u)
+          (place_groups turn number t (group ∷ groups)) in
           let Q : Result Table GridError → Type 0 = λ r. TableGives (form_groups turn rest groups s) r in
           subst P (sym (cond-false (turn group) (form_group number group.rows s) s e))
           (subst Q (sym (cond-false (turn group) walked (place_groups turn rest t groups) e))
@@ -408,7 +426,8 @@ none_yet columns = record {
 -- the footers, after all others
 footers_give : (result : Result Table GridError) (groups : List ShapeGroup) (s : Forming) →
     AllByRecursion GroupWide groups → TableGives s result →
-    TableGives (form_groups (λ group. group.foot) 0 groups s) (then_ok (λ table. place_groups (λ group. group.foot) 0 table groups) result)
+    TableGives (form_groups (λ group. group.foot) 0 groups s)
+    (then_ok (λ table. place_groups (λ group. group.foot) 0 table groups) result)
 footers_give (Ok table) groups s wide m = groups_give (λ group. group.foot) groups 0 s table wide m
 footers_give (Err error) groups s wide found =
     found_later s (form_groups (λ group. group.foot) 0 groups s) error (later_groups (λ group. group.foot) groups 0 s) found
@@ -418,4 +437,8 @@ pub all_give : (shape : Shape) → AllByRecursion GroupWide shape.groups → Tab
 all_give shape wide =
     footers_give (place_groups (λ group. not group.foot) 0 (record { row = 0; blocks = [] }) shape.groups) shape.groups
     (form_groups (λ group. not group.foot) 0 shape.groups (no_cells shape.columns)) wide
-    (groups_give (λ group. not group.foot) shape.groups 0 (no_cells shape.columns) record { row = 0; blocks = [] } wide (none_yet shape.columns))
+    (groups_give (λ group. not group.foot) shape.groups 0 (no_cells shape.columns) record {
+      row = 0;
+      blocks =
+          [];
+    } wide (none_yet shape.columns))

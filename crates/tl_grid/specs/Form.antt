@@ -6,8 +6,7 @@ use Rattle.tl_base.specs.declared.limits.TheConstants.{MAX_CELLS, MAX_COLUMNS, M
 use Rattle.tl_grid.specs.declared.shape.Shape.{Shape}
 use Rattle.tl_grid.specs.declared.shape.Grid.{Grid}
 use Rattle.tl_grid.specs.declared.error.GridError.{GridError}
-use Rattle.tl_grid.specs.declared.error.GridError.TheVariants.{Memory, TooManyCells, Overlap}
-use Rattle.tl_grid.specs.declared.error.GridError.TheVariants.{TooManyColumns, TooManyRows}
+use Rattle.tl_grid.specs.declared.error.GridError.TheVariants.{Memory, TooManyCells, Overlap, TooManyColumns, TooManyRows}
 use Rattle.tl_grid.specs.Forming.{formed, cell_count}
 use Rattle.tl_grid.specs.Overlap.{HasNoOverlap, IsFirstOverlap}
 use Rattle.tl_grid.specs.Dropping.{ArePlaces, kept_column_count, kept_row_count}
@@ -48,9 +47,9 @@ pub record HasTooManyRows (shape : Shape) (count : ℕ) : Type 0 where
   pub many : MAX_ROWS < count
 
 -- the error's cause holds of the table, and no earlier one; memory is no cause in a table
-abbrev pub IsRefused : Shape → GridError → Type 0
-IsRefused shape (Memory error) = ⊥
-IsRefused shape (TooManyCells count) = HasTooManyCells shape count
-IsRefused shape (Overlap first second x y) = HasOverlap shape first second x y
-IsRefused shape (TooManyColumns count) = HasTooManyColumns shape count
-IsRefused shape (TooManyRows count) = HasTooManyRows shape count
+abbrev pub LacksGrid : Shape → GridError → Type 0
+LacksGrid shape (Memory error) = ⊥
+LacksGrid shape (TooManyCells count) = HasTooManyCells shape count
+LacksGrid shape (Overlap first second x y) = HasOverlap shape first second x y
+LacksGrid shape (TooManyColumns count) = HasTooManyColumns shape count
+LacksGrid shape (TooManyRows count) = HasTooManyRows shape count

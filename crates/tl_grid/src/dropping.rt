@@ -6,8 +6,7 @@ ghost use Rattle.std.specs.List.Sorted.{IsStrictlyIncreasing};
 ghost use Rattle.tl_grid.specs.declared.block.Block.{Block};
 ghost use Rattle.tl_grid.specs.declared.error.GridError.TheVariants.{Memory};
 ghost use Rattle.tl_base.specs.Lists.{is_among};
-ghost use Rattle.tl_grid.specs.inner.Places.{begins_in_column, begins_in_row, nowhere, place_in};
-ghost use Rattle.tl_grid.specs.inner.Places.{put_places};
+ghost use Rattle.tl_grid.specs.inner.Places.{begins_in_column, begins_in_row, nowhere, place_in, put_places};
 
 use crate::block::Block;
 use crate::error::GridError;

@@ -8,9 +8,8 @@ ghost use Rattle.tl_grid.specs.declared.error.GridError.TheVariants.{Memory};
 ghost use Rattle.tl_grid.specs.Shapes.{AllSpans};
 ghost use Rattle.tl_grid.specs.Forming.{cell_count, row_count, cells_of, formed};
 ghost use Rattle.tl_grid.specs.Dropping.{IsPlaced};
-ghost use Rattle.tl_grid.specs.Slots.{AreApart, HasAnchorInColumn, HasAnchorInRow, IsFilledToLeft};
-ghost use Rattle.tl_grid.specs.Slots.{KeepsSlots};
-ghost use Rattle.tl_grid.specs.Form.{HasGrid, IsRefused};
+ghost use Rattle.tl_grid.specs.Slots.{AreApart, HasAnchorInColumn, HasAnchorInRow, IsFilledToLeft, KeepsSlots};
+ghost use Rattle.tl_grid.specs.Form.{HasGrid, LacksGrid};
 ghost use Rattle.tl_base.specs.Returned.{ReturnsOk, ReturnsError, IsMemoryOr};
 
 use crate::dropping::{kept_columns, kept_rows, places_as_written};
@@ -39,7 +38,7 @@ fn first_result(alloc: Global, shape: &Shape) -> Result<Grid, GridError>
     requires rows { row_count shape.now < 2 ^ 20 }
     requires cells { cell_count shape.now < 2 ^ 32 }
     ensures ok { IfOk result (λ grid. HasGrid shape.now grid) }
-    ensures err { IfErr result (IsMemoryOr (Memory alloc_error) (IsRefused shape.now)) }
+    ensures err { IfErr result (IsMemoryOr (Memory alloc_error) (LacksGrid shape.now)) }
 {
     let groups = shape.groups.as_slice();
     let count = count_all(groups);
@@ -88,11 +87,11 @@ pub fn form(alloc: Global, shape: &Shape) -> Result<Grid, GridError>
     // The kept slots of a cell are exactly those of its place.
     ensures kept { IfOk result (λ grid.
         AllByRecursion (KeepsSlots (formed shape.now)) (formed shape.now).cells) }
-    ensures err { IfErr result (IsMemoryOr (Memory alloc_error) (IsRefused shape.now)) }
+    ensures err { IfErr result (IsMemoryOr (Memory alloc_error) (LacksGrid shape.now)) }
     // The grid and the causes exclude one another: each is the only result.
     ensures each_ok { (grid : Grid) → HasGrid shape.now grid
         → ReturnsOk (Memory alloc_error) grid result }
-    ensures each_err { (error : GridError) → IsRefused shape.now error
+    ensures each_err { (error : GridError) → LacksGrid shape.now error
         → ReturnsError (Memory alloc_error) error result }
 {
     first_result(alloc, shape)

@@ -3,8 +3,7 @@
 ghost use Rattle.std.specs.Prelude.{◌≡◌, ◌+◌, ◌*◌, ◌<◌, ◌≤◌, ◌^◌, IfOk, length, Ok};
 ghost use Rattle.std.specs.List.{AllByRecursion};
 ghost use Rattle.tl_grid.specs.Forming.{cells_in};
-ghost use Rattle.tl_grid.specs.inner.Walk.{place_cells, row_of, after_row, then_ok, group_at};
-ghost use Rattle.tl_grid.specs.inner.Walk.{place_rows};
+ghost use Rattle.tl_grid.specs.inner.Walk.{place_cells, row_of, after_row, then_ok, group_at, place_rows};
 ghost use Rattle.tl_grid.specs.Shapes.{IsSpan};
 ghost use Rattle.tl_grid.specs.inner.States.{IsWalked, EndsBy, group_over};
 

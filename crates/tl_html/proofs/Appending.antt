@@ -1,5 +1,6 @@
 -- A text that grows by what each item of a list stands for.
-use Rattle.std.proofs.Common.{◌≡◌, ℕ, ◌+◌, ◌-◌, ◌<◌, suc, List, [], ◌∷◌, ◌++◌, length, take, get_or, sym, ap, ◌∙◌, arith, append_assoc, append-nil}
+use Rattle.std.proofs.Common.{◌≡◌, ℕ, ◌+◌, ◌-◌, ◌<◌, suc, List, [], ◌∷◌, ◌++◌, length, take, get_or, sym, ap, ◌∙◌, arith}
+use Rattle.std.proofs.Common.{append_assoc, append-nil}
 use Rattle.std.specs.List.{flat_map, range_with_len}
 use Rattle.std.proofs.lemmas.List.{take_more}
 use Rattle.std.proofs.lemmas.List.Concat.{flat_map-append}
@@ -15,7 +16,8 @@ grown_at f xs i d start old new within before after =
     ∙ ap (flat_map f) (sym (take_more xs i d within)))
 
 -- one more item, which was looked up
-pub grown : {X : Type 0} (f : X → List ℕ) (xs : List X) (i : ℕ) (x : X) (start old new : List ℕ) → i < length xs → x ≡ get_or xs i x →
+pub grown : {X : Type 0} (f : X → List ℕ) (xs : List X) (i : ℕ) (x : X) (start old new : List ℕ) → i < length xs →
+    x ≡ get_or xs i x →
     old ≡ start ++ flat_map f (take i xs) → new ≡ old ++ f x → new ≡ start ++ flat_map f (take (i + 1) xs)
 grown f xs i x start old new within item before after =
     grown_at f xs i x start old new within before (after ∙ ap (λ y. old ++ f y) item)
@@ -31,4 +33,5 @@ next_number f i n within =
 pub three_parts : (start a b c first second third : List ℕ) → first ≡ start ++ a → second ≡ first ++ b → third ≡ second ++ c →
     third ≡ start ++ (a ++ (b ++ c))
 three_parts start a b c first second third one two three =
-    three ∙ ap (λ text. text ++ c) (two ∙ ap (λ text. text ++ b) one) ∙ append_assoc (start ++ a) b c ∙ append_assoc start a (b ++ c)
+    three ∙ ap (λ text. text ++ c) (two ∙ ap (λ text. text ++ b) one) ∙ append_assoc (start ++ a) b c ∙ append_assoc start a
+    (b ++ c)

@@ -14,7 +14,7 @@ use Rattle.tl_text.specs.declared.paragraph.Atom.{Atom}
 use Rattle.tl_text.specs.Paragraph.{IsSpelt}
 use Rattle.tl_tree.specs.Grammar.{Marks, character, nested, words}
 use Rattle.tl_tree.specs.Grammar as grammar
-use Rattle.tl_tree.specs.Outline.{Entries, paragraph, block_outline, outline}
+use Rattle.tl_tree.specs.Outline.{Entries, paragraph, block_outline, outline, blocks_outline}
 use Rattle.tl_tree.specs.Paragraphs.{atoms_of, paragraph_of, entries_after, entries_of}
 use Rattle.tl_tree.specs.Sound.{AreSound, IsPlainAtom}
 use Rattle.tl_tree.specs.Tags.{Kinds, table_end, text}
@@ -22,21 +22,23 @@ use Rattle.tl_tree.specs.declared.node.Block.{Block, out-Block, roll-Block, out-
 use Rattle.tl_tree.specs.declared.node.Block.TheOpen as open_block
 use Rattle.tl_tree.specs.declared.node.TableNode.{TableNode}
 use Rattle.tl_tree.proofs.Outlines.{paragraph_made, nested_made}
-use Rattle.tl_tree.specs.inner.Lines.{blocks_outline}
-use Rattle.tl_form.specs.declared.cell.Content.{Content, out-Content, roll-Content, out-roll-Content, fold_out-Content, map-Content}
-use Rattle.tl_form.specs.declared.cell.Content.TheOpen as open_content
-use Rattle.tl_form.specs.declared.cell.Table.{Table}
-use Rattle.tl_form.specs.declared.cell.TableCell.{TableCell}
-use Rattle.tl_form.specs.declared.layout.Layout.{Layout}
-use Rattle.tl_form.specs.Tables.{OpenContent, tables_of}
-use Rattle.tl_form.specs.Formed.{OpenBlock, BecomesContent, BecomeContents, broken}
-use Rattle.tl_form.specs.Same.{AreSameContent}
-use Rattle.tl_form.proofs.SoundNodes.{open_outline, block_outline-out}
-use Rattle.tl_html.specs.Html.{paragraph_html, Flow, Cell, blocks_html, block_page, table_page, cell_page, flow_of, cell_of, html_of}
+use Rattle.tl_table.specs.declared.cell.Content.{Content, out-Content, roll-Content, out-roll-Content, fold_out-Content}
+use Rattle.tl_table.specs.declared.cell.Content.{map-Content}
+use Rattle.tl_table.specs.declared.cell.Content.TheOpen as open_content
+use Rattle.tl_table.specs.declared.cell.Table.{Table}
+use Rattle.tl_table.specs.declared.cell.TableCell.{TableCell}
+use Rattle.tl_table.specs.declared.layout.Layout.{Layout}
+use Rattle.tl_table.specs.Tables.{OpenContent, tables_of}
+use Rattle.tl_table.specs.Formed.{OpenBlock, BecomesContent, BecomeContents, broken}
+use Rattle.tl_table.specs.Same.{AreSameContent}
+use Rattle.tl_table.proofs.SoundNodes.{open_outline, block_outline-out}
+use Rattle.tl_html.specs.Html.{paragraph_html, Flow, Cell, blocks_html, block_page, table_page, cell_page, flow_of, cell_of}
+use Rattle.tl_html.specs.Html.{html_of}
 use Rattle.tl_html.specs.Html as html
 use Rattle.tl_html.proofs.Items.{Item, item_text, items_text, IsItem}
 use Rattle.tl_html.proofs.PageTags as page_tags
-use Rattle.tl_html.proofs.PageWords.{paragraph_items, paragraph_written, clusters_items, paragraph_is_items, paragraph_marks, paragraph_goes, paragraph_stands}
+use Rattle.tl_html.proofs.PageWords.{paragraph_items, paragraph_written, clusters_items, paragraph_is_items, paragraph_marks}
+use Rattle.tl_html.proofs.PageWords.{paragraph_goes, paragraph_stands}
 use Rattle.tl_html.proofs.PageWords.{GoesOn, goes_append, grammar_kinds, kinds_append, IsSharp, StandFor, NoGlue}
 
 -- ---- a block's text, by what the block is
@@ -48,17 +50,20 @@ open_flow (open_content.Table box) (layout ∷ inner) = record { text = html_of 
 
 flow_of-out : (block : Content) (inner : List Layout) → flow_of block inner ≡ open_flow (out-Content block) inner
 flow_of-out block inner =
-    ap (λ (flow : html.Block). flow inner) (fold_out-Content html.Block (Layout → List ℕ) Cell block_page table_page cell_page block)
+    ap (λ (flow : html.Block). flow inner) (fold_out-Content html.Block (Layout →
+    List ℕ) Cell block_page table_page cell_page block)
     ∙ opened (out-Content block) inner
   where
     opened : (content : OpenContent) (layouts : List Layout) →
-        block_page (map-Content Content Table TableCell html.Block (Layout → List ℕ) Cell flow_of html_of cell_of content) layouts ≡ open_flow content layouts
+        block_page (map-Content Content Table TableCell html.Block (Layout → List ℕ) Cell flow_of html_of cell_of content)
+        layouts ≡ open_flow content layouts
     opened (open_content.Para units) layouts = refl
     opened (open_content.Table box) [] = refl
     opened (open_content.Table box) (layout ∷ layouts) = refl
 
 -- marks one after the other stand for their entries one after the other
-pub stand_append : (k l m : ℕ) (ms ns : Marks) (es fs : Entries) → StandFor k ms es l → StandFor l ns fs m → StandFor k (ms ++ ns) (es ++ fs) m
+pub stand_append : (k l m : ℕ) (ms ns : Marks) (es fs : Entries) → StandFor k ms es l → StandFor l ns fs m →
+    StandFor k (ms ++ ns) (es ++ fs) m
 stand_append k l m ms ns es fs one two = record {
   sharp = λ later sharp. subst IsSharp (sym (append_assoc ms ns later)) (one.sharp (ns ++ later) (two.sharp later sharp));
   same = λ later sharp.
@@ -74,7 +79,8 @@ last_item = record { mark = codes "</table>"; is_end = true; element = elements.
 
 -- A table on a page, and the table that is read back: the tokens up to its last tag are a table of the grammar, whose
 -- marks are the outline of a tree that becomes it.
-pub record TableBack (forms : TableNode → Table → Type 0) (alike : Table → Table → Type 0) (table : Table) (layout : Layout) (k : ℕ) : Type 0 where
+pub record TableBack (forms : TableNode → Table → Type 0) (alike : Table → Table →
+    Type 0) (table : Table) (layout : Layout) (k : ℕ) : Type 0 where
   pub prefix : List Item
   pub are : AllByRecursion IsItem prefix
   pub written : html_of table layout ≡ items_text (prefix ++ last_item ∷ [])
@@ -88,8 +94,10 @@ pub record TableBack (forms : TableNode → Table → Type 0) (alike : Table →
   pub become : forms node back
   pub same : alike table back
 
-module _ (breaking : Breaking) (forms : TableNode → Table → Type 0) (alike : Table → Table → Type 0) (has : Table → Layout → Type 0)
-    (inside : (node : TableNode) (table : Table) (layout : Layout) (k : ℕ) → forms node table → AreSound (outline node) → has table layout →
+module _ (breaking : Breaking) (forms : TableNode → Table → Type 0) (alike : Table → Table → Type 0) (has : Table → Layout →
+    Type 0)
+    (inside : (node : TableNode) (table : Table) (layout : Layout) (k : ℕ) → forms node table → AreSound (outline node) →
+    has table layout →
     TableBack forms alike table layout k) where
   -- a block
   record BlockBack (block : Content) (inner : List Layout) (others : List Table) (k : ℕ) : Type 0 where
@@ -132,7 +140,8 @@ module _ (breaking : Breaking) (forms : TableNode → Table → Type 0) (alike :
   units_written Any units atoms spelt is =
       ap paragraph_html is ∙ paragraph_written (broken Any atoms) ∙ ap items_text (clusters_items atoms spelt)
 
-  para_back : (block : Content) (inner : List Layout) (others : List Table) (k : ℕ) (units atoms : List Atom) → out-Content block ≡ open_content.Para units →
+  para_back : (block : Content) (inner : List Layout) (others : List Table) (k : ℕ) (units atoms : List Atom) →
+      out-Content block ≡ open_content.Para units →
       units ≡ broken breaking atoms → AreSound (paragraph atoms ∷ []) → AllZip has others inner → BlockBack block inner others k
   para_back block inner others k units atoms opened is sound left =
       let range = sound.in_range.0 in
@@ -167,9 +176,11 @@ module _ (breaking : Breaking) (forms : TableNode → Table → Type 0) (alike :
       ap (λ (ms : Marks). paragraph_of (atoms_of (character 0x0A ∷ ms)) ++ entries_after k later) sharp
       ∙ ap (λ (atoms : List Atom). paragraph_of atoms ++ entries_after k later) nothing_there
 
-  nested_back : (block : Content) (layout : Layout) (inner : List Layout) (others : List Table) (k : ℕ) (nbox : Box TableNode Global)
+  nested_back : (block : Content) (layout : Layout) (inner : List Layout) (others : List Table) (k : ℕ)
+      (nbox : Box TableNode Global)
       (box : Box Table Global) →
-      out-Content block ≡ open_content.Table box → forms nbox.value box.value → AreSound (outline nbox.value) → has box.value layout →
+      out-Content block ≡ open_content.Table box → forms nbox.value box.value → AreSound (outline nbox.value) →
+      has box.value layout →
       AllZip has others inner → BlockBack block (layout ∷ inner) others k
   nested_back block layout inner others k nbox box opened becomes sound fits left =
       let t = inside nbox.value box.value layout k becomes sound fits in
@@ -187,7 +198,8 @@ module _ (breaking : Breaking) (forms : TableNode → Table → Type 0) (alike :
         left = subst (λ (f : Flow). AllZip has others f.rest) (sym flow) left;
         ms = t.ms ++ feed;
         goes = λ k1 rest m1 more flows.
-            subst (λ (ks : Kinds). grammar.Flow (ks ++ k1) ((t.ms ++ feed) ++ m1) rest more) (sym (kinds_append t.prefix (last_item ∷ [])))
+            subst (λ (ks : Kinds). grammar.Flow (ks ++ k1) ((t.ms ++ feed) ++ m1) rest more)
+            (sym (kinds_append t.prefix (last_item ∷ [])))
             (subst (λ (ks : Kinds). grammar.Flow ks ((t.ms ++ feed) ++ m1) rest more)
             (sym (append_assoc (grammar_kinds t.prefix) (table_end ∷ text (0x0A ∷ []) ∷ []) k1))
             (subst (λ (ms : Marks). grammar.Flow (grammar_kinds t.prefix ++ (table_end ∷ text (0x0A ∷ []) ∷ k1)) ms rest more)
@@ -203,15 +215,19 @@ module _ (breaking : Breaking) (forms : TableNode → Table → Type 0) (alike :
               ∙ ap (λ (es : Entries). es ++ entries_after t.next later) (sym (nested_made nbox'));
         };
         back = back;
-        becomes = subst (λ (o : OpenBlock). BecomesContent forms breaking o (out-Content back)) (sym (out-roll-Block (open_block.Table nbox')))
+        becomes = subst (λ (o : OpenBlock). BecomesContent forms breaking o (out-Content back))
+            (sym (out-roll-Block (open_block.Table nbox')))
             (subst (λ (c : OpenContent). BecomesContent forms breaking (open_block.Table nbox') c)
             (sym (out-roll-Content (open_content.Table box'))) t.become);
         same = subst (λ (c : OpenContent). AreSameContent alike c (out-Content back)) (sym opened)
-            (subst (λ (c : OpenContent). AreSameContent alike (open_content.Table box) c) (sym (out-roll-Content (open_content.Table box'))) t.same);
+            (subst (λ (c : OpenContent). AreSameContent alike (open_content.Table box) c)
+            (sym (out-roll-Content (open_content.Table box'))) t.same);
       }
 
-  block_back : (o : OpenBlock) (d : OpenContent) (block : Content) (inner : List Layout) (others : List Table) (k : ℕ) → out-Content block ≡ d →
-      BecomesContent forms breaking o d → AreSound (open_outline o) → AllZip has (tables_of d ++ others) inner → BlockBack block inner others k
+  block_back : (o : OpenBlock) (d : OpenContent) (block : Content) (inner : List Layout) (others : List Table) (k : ℕ) →
+      out-Content block ≡ d →
+      BecomesContent forms breaking o d → AreSound (open_outline o) → AllZip has (tables_of d ++ others) inner →
+      BlockBack block inner others k
   block_back (open_block.Para atoms) (open_content.Para units) block inner others k opened becomes sound fits =
       para_back block inner others k units atoms opened becomes sound fits
   block_back (open_block.Para atoms) (open_content.Table box) block inner others k opened becomes sound fits = absurd becomes
@@ -225,7 +241,8 @@ module _ (breaking : Breaking) (forms : TableNode → Table → Type 0) (alike :
 
   pub flow_back : (flow : List Block) (blocks : List Content) (inner : List Layout) (others : List Table) (k : ℕ) →
       BecomeContents forms breaking flow blocks →
-      AllByRecursion (λ block. AreSound (block_outline block)) flow → AllZip has (tables_among blocks ++ others) inner → FlowBack blocks inner others k
+      AllByRecursion (λ block. AreSound (block_outline block)) flow → AllZip has (tables_among blocks ++ others) inner →
+      FlowBack blocks inner others k
   flow_back [] [] inner others k become sound fits = record {
     items = [];
     are = tt;
@@ -245,7 +262,8 @@ module _ (breaking : Breaking) (forms : TableNode → Table → Type 0) (alike :
   flow_back (node ∷ flow) (block ∷ blocks) inner others k become sound fits =
       let one = block_back (out-Block node) (out-Content block) block inner (tables_among blocks ++ others) k refl become.0
       (subst AreSound (block_outline-out node) sound.0)
-      (subst (λ (tables : List Table). AllZip has tables inner) (append_assoc (tables_of (out-Content block)) (tables_among blocks) others) fits) in
+      (subst (λ (tables : List Table). AllZip has tables inner)
+      (append_assoc (tables_of (out-Content block)) (tables_among blocks) others) fits) in
       let rest = flow_back flow blocks (flow_of block inner).rest others one.next become.1 sound.1 one.left in
       record {
         items = one.items ++ rest.items;
@@ -259,7 +277,8 @@ module _ (breaking : Breaking) (forms : TableNode → Table → Type 0) (alike :
             (goes_append (grammar_kinds one.items) (grammar_kinds rest.items) one.ms rest.ms one.goes rest.goes);
         next = rest.next;
         flow = one.made ∷ rest.flow;
-        stand = stand_append k one.next rest.next one.ms rest.ms (block_outline one.made) (blocks_outline rest.flow) one.stand rest.stand;
+        stand = stand_append k one.next rest.next one.ms rest.ms (block_outline one.made) (blocks_outline rest.flow)
+            one.stand rest.stand;
         back = one.back ∷ rest.back;
         become = (one.becomes, rest.become);
         same = (one.same, rest.same);

@@ -1,5 +1,6 @@
 -- The cells of a row and the rows of a table on a page, and the same read back.
-use Rattle.std.proofs.Common.{◌≡◌, ℕ, ◌-◌, ◌<◌, ◌≤◌, Bool, true, false, List, [], ◌∷◌, ◌++◌, map, refl, sym, ap, ◌∙◌, subst, append_assoc, append-nil}
+use Rattle.std.proofs.Common.{◌≡◌, ℕ, ◌-◌, ◌<◌, ◌≤◌, Bool, true, false, List, [], ◌∷◌, ◌++◌, map, refl, sym, ap, ◌∙◌, subst}
+use Rattle.std.proofs.Common.{append_assoc, append-nil}
 use Rattle.std.proofs.Common.{codes, arith}
 use Rattle.std.specs.List.{AllZip, AllByRecursion, flat_map}
 use Rattle.std.proofs.lemmas.List.{map-append}
@@ -8,7 +9,7 @@ use Rattle.tl_base.specs.declared.breaking.Breaking.{Breaking}
 use Rattle.tl_base.specs.declared.limits.TheConstants.{MAX_COLSPAN, MAX_ROWSPAN, MAX_PAGE_WIDTH}
 use Rattle.tl_base.proofs.Zips.{AllZip-append}
 use Rattle.tl_base.proofs.Members.{AllByRecursion-append}
-use Rattle.tl_tree.specs.inner.Lines.{blocks_outline}
+use Rattle.tl_tree.specs.Outline.{blocks_outline, Entries, cell, row, cell_outline, block_outline, outline, cells_outline}
 use Rattle.tl_grid.specs.declared.shape.Place.{Place}
 use Rattle.tl_grid.specs.declared.shape.SpanOf.{SpanOf}
 use Rattle.tl_token.specs.Elements.{no_spans}
@@ -16,25 +17,25 @@ use Rattle.tl_token.specs.declared.token.Element.{Element}
 use Rattle.tl_token.specs.declared.token.Element.TheVariants as elements
 use Rattle.tl_tree.specs.Grammar.{Marks, Cells, Rows, no_flow, no_cell, no_space, space, by_tag}
 use Rattle.tl_tree.specs.Grammar as grammar
-use Rattle.tl_tree.specs.Outline.{Entries, cell, row, cell_outline, block_outline, outline}
 use Rattle.tl_tree.specs.Paragraphs.{leading, atoms_of, paragraph_of, entries_after}
 use Rattle.tl_tree.specs.Sound.{AreSound}
 use Rattle.tl_tree.specs.Tags.{Kinds, cell_start, cell_end, row_start, row_end, text}
 use Rattle.tl_tree.specs.declared.node.CellNode.{CellNode, out-CellNode, roll-CellNode, out-roll-CellNode}
 use Rattle.tl_tree.specs.declared.node.TableNode.{TableNode}
 use Rattle.tl_tree.proofs.Outlines.{cell_made}
-use Rattle.tl_form.specs.declared.cell.Kind.{Kind}
-use Rattle.tl_form.specs.declared.cell.Table.{Table}
-use Rattle.tl_form.specs.declared.cell.TableCell.{TableCell, out-TableCell, roll-TableCell, out-roll-TableCell, fold_out-TableCell}
-use Rattle.tl_form.specs.declared.layout.Layout.{Layout}
-use Rattle.tl_form.specs.Tables.{OpenCell, tables_in}
-use Rattle.tl_form.specs.Formed.{OpenCellNode, BecomesCell, BecomeCells, kind_of, span_of}
-use Rattle.tl_form.specs.Same.{AreSameCell}
-use Rattle.tl_form.specs.Sound.{place_of}
-use Rattle.tl_form.specs.inner.Forming.{cells_outline}
-use Rattle.tl_form.proofs.SoundNodes.{cell_outline-out, cell_flow, sound_each, rows_outline}
+use Rattle.tl_table.specs.declared.cell.Kind.{Kind}
+use Rattle.tl_table.specs.declared.cell.Table.{Table}
+use Rattle.tl_table.specs.declared.cell.TableCell.{TableCell, out-TableCell, roll-TableCell, out-roll-TableCell}
+use Rattle.tl_table.specs.declared.cell.TableCell.{fold_out-TableCell}
+use Rattle.tl_table.specs.declared.layout.Layout.{Layout}
+use Rattle.tl_table.specs.Tables.{OpenCell, tables_in}
+use Rattle.tl_table.specs.Formed.{OpenCellNode, BecomesCell, BecomeCells, kind_of, span_of}
+use Rattle.tl_table.specs.Same.{AreSameCell}
+use Rattle.tl_table.specs.Sound.{place_of}
+use Rattle.tl_table.proofs.SoundNodes.{cell_outline-out, cell_flow, sound_each, rows_outline}
 use Rattle.tl_html.specs.declared.filled.Filled.{Filled}
-use Rattle.tl_html.specs.Html.{Cell, fill, blocks_html, block_page, table_page, cell_page, flow_of, cell_of, cell_html, is_caption, line}
+use Rattle.tl_html.specs.Html.{Cell, fill, blocks_html, block_page, table_page, cell_page, flow_of, cell_of, cell_html}
+use Rattle.tl_html.specs.Html.{is_caption, line}
 use Rattle.tl_html.specs.Html as html
 use Rattle.tl_html.proofs.Items.{Item, item_text, items_text, IsItem}
 use Rattle.tl_html.proofs.PageTags.{numbers, attributes_text, plain_start, head_start, plain_end, head_end}
@@ -63,19 +64,28 @@ start_item head colspan rowspan least = record {
 }
 
 abbrev end_item : Bool → Item
-end_item head = record { mark = 0x3C ∷ 0x2F ∷ (name_of head ++ 0x3E ∷ []); is_end = true; element = element_of head; spans = no_spans; text = [] }
+end_item head = record {
+  mark = 0x3C ∷ 0x2F ∷ (name_of head ++ 0x3E ∷ []);
+  is_end = true;
+  element = element_of head;
+  spans =
+      no_spans;
+  text = [];
+}
 
 end_is : (head : Bool) → IsItem (end_item head)
 end_is true = (head_end, tt)
 end_is false = (plain_end, tt)
 
-start_is : (head : Bool) (colspan rowspan least : ℕ) → 0 < colspan → colspan ≤ MAX_COLSPAN → 0 < rowspan → rowspan ≤ MAX_ROWSPAN → least ≤ MAX_PAGE_WIDTH →
+start_is : (head : Bool) (colspan rowspan least : ℕ) → 0 < colspan → colspan ≤ MAX_COLSPAN → 0 < rowspan →
+    rowspan ≤ MAX_ROWSPAN → least ≤ MAX_PAGE_WIDTH →
     IsItem (start_item head colspan rowspan least)
 start_is true c r l a b d e f = (head_start c r l a b d e f, tt)
 start_is false c r l a b d e f = (plain_start c r l a b d e f, tt)
 
 start_kind : (head : Bool) (colspan rowspan least : ℕ) (items : List Item) →
-    grammar_kinds (start_item head colspan rowspan least ∷ items) ≡ cell_start head (numbers colspan rowspan least) ∷ grammar_kinds items
+    grammar_kinds (start_item head colspan rowspan least ∷ items) ≡ cell_start head
+    (numbers colspan rowspan least) ∷ grammar_kinds items
 start_kind true c r l items = refl
 start_kind false c r l items = refl
 
@@ -106,9 +116,11 @@ cell_written head place least flow items is =
     ∙ regroup name attributes flow
     ∙ ap (λ (cs : List ℕ). (0x3C ∷ (name ++ (attributes ++ 0x3E ∷ []))) ++ cs) (
     ap (λ (cs : List ℕ). cs ++ (0x3C ∷ 0x2F ∷ (name ++ 0x3E ∷ []))) is
-    ∙ ap (λ (cs : List ℕ). items_text items ++ cs) (sym (append-nil (item_text (end_item head)) ∙ append-nil (end_item head).mark))
+    ∙ ap (λ (cs : List ℕ). items_text items ++ cs) (sym (append-nil (item_text (end_item head)) ∙ append-nil
+    (end_item head).mark))
     ∙ sym (flat_map-append item_text items (end_item head ∷ [])))
-    ∙ ap (λ (cs : List ℕ). cs ++ items_text (items ++ end_item head ∷ [])) (sym (append-nil (0x3C ∷ (name ++ (attributes ++ 0x3E ∷ [])))))
+    ∙ ap (λ (cs : List ℕ). cs ++ items_text (items ++ end_item head ∷ []))
+    (sym (append-nil (0x3C ∷ (name ++ (attributes ++ 0x3E ∷ [])))))
 
 -- a row's line
 abbrev pub row_line : List Filled → List ℕ
@@ -143,10 +155,12 @@ rows_append ks ls ms ns one two k1 rest m1 more rows =
     (one (ls ++ k1) rest (ns ++ m1) more (two k1 rest m1 more rows)))
 
 abbrev cell_marks : Bool → ℕ → ℕ → ℕ → Marks → Marks
-cell_marks head colspan rowspan least ms = grammar.cell_begins head (numbers colspan rowspan least) ∷ (ms ++ grammar.paragraph_ends ∷ [])
+cell_marks head colspan rowspan least ms = grammar.cell_begins head (numbers colspan rowspan least) ∷
+    (ms ++ grammar.paragraph_ends ∷ [])
 
 cell_goes : (head : Bool) (colspan rowspan least : ℕ) (items : List Item) (ms : Marks) → GoesOn (grammar_kinds items) ms →
-    CellsGo (grammar_kinds (start_item head colspan rowspan least ∷ (items ++ end_item head ∷ []))) (cell_marks head colspan rowspan least ms)
+    CellsGo (grammar_kinds (start_item head colspan rowspan least ∷ (items ++ end_item head ∷ [])))
+    (cell_marks head colspan rowspan least ms)
 cell_goes head colspan rowspan least items ms goes k1 rest m1 more cells =
     let spans = numbers colspan rowspan least in
     let split : grammar_kinds (start_item head colspan rowspan least ∷ (items ++ end_item head ∷ [])) ++ k1
@@ -156,9 +170,11 @@ cell_goes head colspan rowspan least items ms goes k1 rest m1 more cells =
     (kinds_append items (end_item head ∷ []) ∙ ap (λ (ks : Kinds). grammar_kinds items ++ ks) (end_kind head))
     ∙ ap (λ (ks : Kinds). cell_start head spans ∷ ks) (append_assoc (grammar_kinds items) (cell_end head ∷ []) k1) in
     subst (λ (ks : Kinds). Cells ks (cell_marks head colspan rowspan least ms ++ m1) rest more) (sym split)
-    (subst (λ (m : Marks). Cells (cell_start head spans ∷ (grammar_kinds items ++ (cell_end head ∷ k1))) (grammar.cell_begins head spans ∷ m) rest more)
+    (subst (λ (m : Marks). Cells (cell_start head spans ∷ (grammar_kinds items ++ (cell_end head ∷ k1)))
+    (grammar.cell_begins head spans ∷ m) rest more)
     (sym (append_assoc ms (grammar.paragraph_ends ∷ []) m1))
-    (grammar.cell (goes (cell_end head ∷ k1) (cell_end head ∷ k1) (grammar.paragraph_ends ∷ m1) (grammar.paragraph_ends ∷ m1) no_flow)
+    (grammar.cell (goes (cell_end head ∷ k1) (cell_end head ∷ k1) (grammar.paragraph_ends ∷ m1) (grammar.paragraph_ends ∷ m1)
+    no_flow)
     (by_tag no_space) cells))
 
 cell_stands : (k next : ℕ) (head : Bool) (colspan rowspan least : ℕ) (ms : Marks) (es : Entries) → StandFor k ms es next →
@@ -168,13 +184,15 @@ cell_stands k next head colspan rowspan least ms es stand = record {
   same = λ later sharp.
       ap (λ (m : Marks). cell head colspan rowspan least ∷ (paragraph_of (atoms_of (leading m)) ++ entries_after k m))
       (append_assoc ms (grammar.paragraph_ends ∷ []) later)
-      ∙ ap (λ (m : Marks). cell head colspan rowspan least ∷ (paragraph_of (atoms_of m) ++ entries_after k (ms ++ grammar.paragraph_ends ∷ later)))
+      ∙ ap (λ (m : Marks). cell head colspan rowspan least ∷
+      (paragraph_of (atoms_of m) ++ entries_after k (ms ++ grammar.paragraph_ends ∷ later)))
       (stand.sharp (grammar.paragraph_ends ∷ later) refl)
       ∙ ap (λ (rest : Entries). cell head colspan rowspan least ∷ rest) (stand.same (grammar.paragraph_ends ∷ later) refl
       ∙ ap (λ (rest : Entries). es ++ rest) (ends_sharp next later sharp));
 }
 
-row_stands : (k next : ℕ) (ms : Marks) (es : Entries) → StandFor k ms es next → StandFor k (grammar.row_begins ∷ ms) (row ∷ es) next
+row_stands : (k next : ℕ) (ms : Marks) (es : Entries) → StandFor k ms es next →
+    StandFor k (grammar.row_begins ∷ ms) (row ∷ es) next
 row_stands k next ms es stand = record {
   sharp = λ later sharp. refl;
   same = λ later sharp.
@@ -185,11 +203,19 @@ row_stands k next ms es stand = record {
 -- ---- a cell
 
 pub cell_of-out : (c : TableCell) → let o = out-TableCell c in
-    cell_of c ≡ (let made : Cell = record { kind = o.kind; place = o.place; least = o.least; flow = blocks_html (map flow_of o.blocks) } in made)
+    cell_of c ≡ (let made : Cell = record {
+      kind = o.kind;
+      place = o.place;
+      least = o.least;
+      flow =
+          blocks_html (map flow_of o.blocks);
+    } in made)
 cell_of-out c = fold_out-TableCell html.Block (Layout → List ℕ) Cell block_page table_page cell_page c
 
-module _ (breaking : Breaking) (forms : TableNode → Table → Type 0) (alike : Table → Table → Type 0) (has : Table → Layout → Type 0)
-    (inside : (node : TableNode) (table : Table) (layout : Layout) (k : ℕ) → forms node table → AreSound (outline node) → has table layout →
+module _ (breaking : Breaking) (forms : TableNode → Table → Type 0) (alike : Table → Table → Type 0) (has : Table → Layout →
+    Type 0)
+    (inside : (node : TableNode) (table : Table) (layout : Layout) (k : ℕ) → forms node table → AreSound (outline node) →
+    has table layout →
     TableBack forms alike table layout k) where
   -- a cell below the caption: what cell of a tree it comes from, and how large it is
   pub record IsBelow (c : TableCell) : Type 0 where
@@ -256,13 +282,21 @@ module _ (breaking : Breaking) (forms : TableNode → Table → Type 0) (alike :
       let colspan = place.right - place.left in
       let rowspan = place.bottom - place.top in
       let range = (subst AreSound (cell_outline-out is.node) is.sound).in_range.0 in
-      let flow = flow_back breaking forms alike has inside n.flow o.blocks inner (tables_below cells ++ others) k is.becomes.blocks
+      let flow = flow_back breaking forms alike has inside n.flow o.blocks inner (tables_below cells ++ others)
+      k is.becomes.blocks
       (sound_each block_outline n.flow (cell_flow is.node is.sound))
       (subst (λ (tables : List Table). AllZip has tables inner) (append_assoc (tables_in o) (tables_below cells) others) fits) in
       let found = blocks_html (map flow_of o.blocks) inner in
       let one : Filled = record { kind = o.kind; place = place; least = o.least; text = found.text } in
       let items = start_item n.head colspan rowspan o.least ∷ (flow.items ++ end_item n.head ∷ []) in
-      let node' : OpenCellNode = record { head = n.head; colspan = colspan; rowspan = rowspan; least = o.least; flow = flow.flow } in
+      let node' : OpenCellNode = record {
+        head = n.head;
+        colspan = colspan;
+        rowspan = rowspan;
+        least = o.least;
+        flow =
+            flow.flow;
+      } in
       let made : CellNode = roll-CellNode node' in
       let twin' : OpenCell = record { kind = o.kind; place = place; least = o.least; blocks = flow.back } in
       let twin : TableCell = roll-TableCell twin' in
@@ -293,7 +327,8 @@ module _ (breaking : Breaking) (forms : TableNode → Table → Type 0) (alike :
           text =
               found.text;
         }) ++ flat_map cell_html rest.filled) is.becomes.kind
-            ∙ ap (λ (cs : List ℕ). cs ++ flat_map cell_html rest.filled) (cell_written n.head place o.least found.text flow.items flow.written)
+            ∙ ap (λ (cs : List ℕ). cs ++ flat_map cell_html rest.filled)
+            (cell_written n.head place o.least found.text flow.items flow.written)
             ∙ ap (λ (cs : List ℕ). items_text items ++ cs) rest.written
             ∙ sym (flat_map-append item_text items rest.items);
         ms = marks ++ rest.ms;
@@ -314,11 +349,14 @@ module _ (breaking : Breaking) (forms : TableNode → Table → Type 0) (alike :
           rest.become,
         );
         same = (
-          subst (λ (d : OpenCell). AreSameCell alike o d) (sym open_twin) (record { kind = refl; place = refl; least = refl; blocks = flow.same }),
+          subst (λ (d : OpenCell). AreSameCell alike o d) (sym open_twin)
+              (record { kind = refl; place = refl; least = refl; blocks = flow.same }),
           rest.same,
         );
-        places = ap (λ (d : OpenCell). d.place ∷ map place_of rest.back) open_twin ∙ ap (λ (ps : List Place). place ∷ ps) rest.places;
-        spans = ap (λ (d : OpenCellNode). (let s : SpanOf = record { colspan = d.colspan; rowspan = d.rowspan } in s) ∷ map span_of rest.nodes) open_node
+        places = ap (λ (d : OpenCell). d.place ∷ map place_of rest.back) open_twin ∙ ap (λ (ps : List Place). place ∷ ps)
+            rest.places;
+        spans = ap (λ (d : OpenCellNode). (let s : SpanOf = record { colspan = d.colspan; rowspan = d.rowspan } in
+            s) ∷ map span_of rest.nodes) open_node
             ∙ ap (λ (ss : List SpanOf). span_at place ∷ ss) rest.spans;
       }
 
@@ -333,15 +371,18 @@ module _ (breaking : Breaking) (forms : TableNode → Table → Type 0) (alike :
   abbrev row_items : List Item → List Item
   row_items items = row_start_item ∷ (items ++ row_end_item ∷ [])
 
-  row_goes : (items : List Item) (ms : Marks) → CellsGo (grammar_kinds items) ms → RowsGo (grammar_kinds (row_items items)) (grammar.row_begins ∷ ms)
+  row_goes : (items : List Item) (ms : Marks) → CellsGo (grammar_kinds items) ms →
+      RowsGo (grammar_kinds (row_items items)) (grammar.row_begins ∷ ms)
   row_goes items ms goes k1 rest m1 more rows =
       let split : grammar_kinds (row_items items) ++ k1 ≡ row_start ∷ (grammar_kinds items ++ (row_end ∷ text (0x0A ∷ []) ∷ k1)) =
       ap (λ (ks : Kinds). row_start ∷ (ks ++ k1)) (kinds_append items (row_end_item ∷ []))
       ∙ ap (λ (ks : Kinds). row_start ∷ ks) (append_assoc (grammar_kinds items) (row_end ∷ text (0x0A ∷ []) ∷ []) k1) in
       subst (λ (ks : Kinds). Rows ks (grammar.row_begins ∷ (ms ++ m1)) rest more) (sym split)
-      (grammar.row no_space (goes (row_end ∷ text (0x0A ∷ []) ∷ k1) (row_end ∷ text (0x0A ∷ []) ∷ k1) m1 m1 no_cell) (by_tag (space refl no_space)) rows)
+      (grammar.row no_space (goes (row_end ∷ text (0x0A ∷ []) ∷ k1) (row_end ∷ text (0x0A ∷ []) ∷ k1) m1 m1 no_cell)
+      (by_tag (space refl no_space)) rows)
 
-  row_written : (filled : List Filled) (items : List Item) → flat_map cell_html filled ≡ items_text items → row_line filled ≡ items_text (row_items items)
+  row_written : (filled : List Filled) (items : List Item) → flat_map cell_html filled ≡ items_text items →
+      row_line filled ≡ items_text (row_items items)
   row_written filled items is =
       ap (λ (cs : List ℕ). line (codes "<tr>" ++ cs ++ codes "</tr>")) is
       ∙ ap (λ (cs : List ℕ). codes "<tr>" ++ cs) (append_assoc (items_text items) (codes "</tr>") (0x0A ∷ [])
@@ -352,7 +393,8 @@ module _ (breaking : Breaking) (forms : TableNode → Table → Type 0) (alike :
     pub are : AllByRecursion IsItem items
     pub filled : List (List Filled)
     pub layouts : List Layout
-    pub fills : (rest : List TableCell) → fill (map cell_of (joined rows ++ rest)) inner ≡ joined filled ++ fill (map cell_of rest) layouts
+    pub fills : (rest : List TableCell) → fill (map cell_of (joined rows ++ rest)) inner ≡ joined filled ++ fill
+        (map cell_of rest) layouts
     pub left : AllZip has others layouts
     pub at : map (map (λ (f : Filled). f.place)) filled ≡ map (map place_of) rows
     pub plain : AllByRecursion (AllByRecursion (λ f. is_caption f ≡ false)) filled
@@ -369,7 +411,8 @@ module _ (breaking : Breaking) (forms : TableNode → Table → Type 0) (alike :
     pub places : map place_of back ≡ map place_of (joined rows)
     pub spans : map (map span_of) nodes ≡ map (map (λ c. span_at (place_of c))) rows
 
-  pub rows_back : (rows : List (List TableCell)) (inner : List Layout) (others : List Table) (k : ℕ) → AllByRecursion (AllByRecursion IsBelow) rows →
+  pub rows_back : (rows : List (List TableCell)) (inner : List Layout) (others : List Table) (k : ℕ) →
+      AllByRecursion (AllByRecursion IsBelow) rows →
       AllZip has (tables_below (joined rows) ++ others) inner → RowsBack rows inner others k
   rows_back [] inner others k below fits = record {
     items = [];
@@ -397,14 +440,18 @@ module _ (breaking : Breaking) (forms : TableNode → Table → Type 0) (alike :
       let tables : tables_below (cells ++ joined rows) ++ others ≡ tables_below cells ++ (tables_below (joined rows) ++ others) =
       ap (λ (ts : List Table). ts ++ others) (flat_map-append (λ c. tables_in (out-TableCell c)) cells (joined rows))
       ∙ append_assoc (tables_below cells) (tables_below (joined rows)) others in
-      let one = cells_back cells inner (tables_below (joined rows) ++ others) k below.0 (subst (λ (ts : List Table). AllZip has ts inner) tables fits) in
+      let one = cells_back cells inner (tables_below (joined rows) ++ others) k below.0
+      (subst (λ (ts : List Table). AllZip has ts inner) tables fits) in
       let rest = rows_back rows one.layouts others one.next below.1 one.left in
       let items = row_items one.items in
       let marks : Marks = grammar.row_begins ∷ one.ms in
       record {
         items = items ++ rest.items;
-        are = AllByRecursion-append IsItem items rest.items
-            ((page_tags.row_start, tt), AllByRecursion-append IsItem one.items (row_end_item ∷ []) one.are ((page_tags.row_end, (refl, tt)), tt)) rest.are;
+        are = AllByRecursion-append IsItem items rest.items (
+          (page_tags.row_start, tt),
+          AllByRecursion-append IsItem one.items (row_end_item ∷ []) one.are
+              ((page_tags.row_end, (refl, tt)), tt),
+        ) rest.are;
         filled = one.filled ∷ rest.filled;
         layouts = rest.layouts;
         fills = λ more.
@@ -421,7 +468,8 @@ module _ (breaking : Breaking) (forms : TableNode → Table → Type 0) (alike :
             ∙ sym (flat_map-append item_text items rest.items);
         ms = marks ++ rest.ms;
         goes = subst (λ (ks : Kinds). RowsGo ks (marks ++ rest.ms)) (sym (kinds_append items rest.items))
-            (rows_append (grammar_kinds items) (grammar_kinds rest.items) marks rest.ms (row_goes one.items one.ms one.goes) rest.goes);
+            (rows_append (grammar_kinds items) (grammar_kinds rest.items) marks rest.ms (row_goes one.items one.ms one.goes)
+            rest.goes);
         next = rest.next;
         nodes = one.nodes ∷ rest.nodes;
         begun = (_, refl);
@@ -431,7 +479,8 @@ module _ (breaking : Breaking) (forms : TableNode → Table → Type 0) (alike :
         become = AllZip-append (λ node made. BecomesCell forms breaking (out-CellNode node) (out-TableCell made)) one.nodes
             (joined rest.nodes) one.back rest.back
             one.become rest.become;
-        same = AllZip-append (λ c twin. AreSameCell alike (out-TableCell c) (out-TableCell twin)) cells (joined rows) one.back rest.back one.same rest.same;
+        same = AllZip-append (λ c twin. AreSameCell alike (out-TableCell c) (out-TableCell twin)) cells (joined rows)
+            one.back rest.back one.same rest.same;
         places = map-append place_of one.back rest.back ∙ ap (λ (ps : List Place). ps ++ map place_of rest.back) one.places
             ∙ ap (λ (ps : List Place). map place_of cells ++ ps) rest.places ∙ sym (map-append place_of cells (joined rows));
         spans = ap (λ (ss : List SpanOf). ss ∷ map (map span_of) rest.nodes) one.spans

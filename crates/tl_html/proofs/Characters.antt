@@ -4,7 +4,7 @@ use Rattle.std.specs.Str.{chars, IsAscii}
 use Rattle.std.proofs.lemmas.Bool.{ltb-true, and_parts}
 use Rattle.std.proofs.lemmas.Str.{chars-IsAscii}
 use Rattle.std.proofs.lemmas.Str.Ascii.{IsAscii-nil, IsAscii-cons}
-use Rattle.tl_html.specs.inner.Ascii.{is_ascii}
+use Rattle.tl_base.specs.Text.{is_ascii}
 
 pub IsAscii-from_test : (bytes : List ℕ) → is_ascii bytes ≡ true → IsAscii bytes
 IsAscii-from_test [] h = IsAscii-nil

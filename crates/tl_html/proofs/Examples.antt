@@ -8,13 +8,13 @@ use Rattle.tl_html.specs.declared.filled.Filled.{Filled}
 use Rattle.tl_html.specs.Html.{paragraph_html, caption_html, columns_html, rows_html}
 use Rattle.tl_html.specs.Alike.{AreAlikeBy, AreAlikeWithin, AreAlike}
 use Rattle.tl_html.specs.Readable.{HasColumnsBy, HasColumnsWithin, HasColumns}
-use Rattle.tl_form.specs.declared.cell.Kind.TheVariants as kinds
-use Rattle.tl_form.specs.declared.cell.Table.{Table, out-Table, roll-Table, out-roll-Table}
-use Rattle.tl_form.specs.declared.cell.TableCell.{roll-TableCell, out-roll-TableCell}
-use Rattle.tl_form.specs.declared.layout.Layout.{out-Layout, roll-Layout, out-roll-Layout}
-use Rattle.tl_form.specs.Layouts.{OpenLayout}
-use Rattle.tl_form.specs.Same.{AreSameCell}
-use Rattle.tl_form.specs.Tables.{OpenTable, OpenCell, tables_in}
+use Rattle.tl_table.specs.declared.cell.Kind.TheVariants as kinds
+use Rattle.tl_table.specs.declared.cell.Table.{Table, out-Table, roll-Table, out-roll-Table}
+use Rattle.tl_table.specs.declared.cell.TableCell.{roll-TableCell, out-roll-TableCell}
+use Rattle.tl_table.specs.declared.layout.Layout.{out-Layout, roll-Layout, out-roll-Layout}
+use Rattle.tl_table.specs.Layouts.{OpenLayout}
+use Rattle.tl_table.specs.Same.{AreSameCell}
+use Rattle.tl_table.specs.Tables.{OpenTable, OpenCell, tables_in}
 
 -- a space between two words, none at a break, and four characters escaped
 paragraph : paragraph_html (Word (codes "a<b") ∷ Glue (codes "&") ∷ Word (codes ">") ∷ Break ∷ Word (codes "c") ∷ []) ≡
@@ -22,13 +22,31 @@ paragraph : paragraph_html (Word (codes "a<b") ∷ Glue (codes "&") ∷ Word (co
 paragraph = refl
 
 abbrev over_both : Filled
-over_both = record { kind = kinds.Plain; place = record { left = 0; right = 2; top = 0; bottom = 1 }; least = 0; text = codes "<p>aaaa bbbb cc</p>" }
+over_both = record {
+  kind = kinds.Plain;
+  place = record { left = 0; right = 2; top = 0; bottom = 1 };
+  least = 0;
+  text =
+      codes "<p>aaaa bbbb cc</p>";
+}
 
 abbrev below : Filled
-below = record { kind = kinds.Plain; place = record { left = 0; right = 1; top = 1; bottom = 2 }; least = 0; text = codes "<p>x</p>" }
+below = record {
+  kind = kinds.Plain;
+  place = record { left = 0; right = 1; top = 1; bottom = 2 };
+  least = 0;
+  text =
+      codes "<p>x</p>";
+}
 
 abbrev beside : Filled
-beside = record { kind = kinds.Plain; place = record { left = 1; right = 2; top = 1; bottom = 2 }; least = 0; text = codes "<p>yy</p>" }
+beside = record {
+  kind = kinds.Plain;
+  place = record { left = 1; right = 2; top = 1; bottom = 2 };
+  least = 0;
+  text =
+      codes "<p>yy</p>";
+}
 
 -- what stands on the table's two lines of rows, where the first cell is over both columns
 rows : rows_html 2 (over_both ∷ below ∷ beside ∷ []) ≡
@@ -40,10 +58,22 @@ columns : columns_html (1 ∷ 4 ∷ []) ≡ codes "<colgroup><col style=\"width:
 columns = rw (decimal_digit 1 (omega arith), decimal_digit 4 (omega arith))
 
 abbrev caption : Filled
-caption = record { kind = kinds.Caption; place = record { left = 0; right = 1; top = 0; bottom = 1 }; least = 0; text = codes "<p>A</p>" }
+caption = record {
+  kind = kinds.Caption;
+  place = record { left = 0; right = 1; top = 0; bottom = 1 };
+  least = 0;
+  text =
+      codes "<p>A</p>";
+}
 
 abbrev head : Filled
-head = record { kind = kinds.Head; place = record { left = 0; right = 1; top = 1; bottom = 2 }; least = 4; text = codes "<p>b</p>" }
+head = record {
+  kind = kinds.Head;
+  place = record { left = 0; right = 1; top = 1; bottom = 2 };
+  least = 4;
+  text =
+      codes "<p>b</p>";
+}
 
 -- a caption has a line of its own and no row, and a floor is an attribute
 caption_line : caption_html (caption ∷ head ∷ []) ≡ codes "<caption><p>A</p></caption>\n"
@@ -56,7 +86,13 @@ captioned_rows = rw (decimal_digit 4 (omega arith))
 
 -- a table of so many columns with one empty cell over them
 abbrev empty_cell : ℕ → OpenCell
-empty_cell cols = record { kind = kinds.Plain; place = record { left = 0; right = cols; top = 0; bottom = 1 }; least = 0; blocks = [] }
+empty_cell cols = record {
+  kind = kinds.Plain;
+  place = record { left = 0; right = cols; top = 0; bottom = 1 };
+  least =
+      0;
+  blocks = [];
+}
 
 abbrev open_table : ℕ → ℕ → OpenTable
 open_table number cols = record { number = number; cols = cols; rows = 1; cells = roll-TableCell (empty_cell cols) ∷ [] }
@@ -72,7 +108,8 @@ numbers_aside : AreAlike (table_of 0 1) (table_of 5 1)
 numbers_aside = (
   1,
   subst (λ (t : OpenTable). AreAlikeBy (AreAlikeWithin 0) t (out-Table (table_of 5 1))) (sym (out-roll-Table (open_table 0 1)))
-      (subst (λ (t : OpenTable). AreAlikeBy (AreAlikeWithin 0) (open_table 0 1) t) (sym (out-roll-Table (open_table 5 1))) (record {
+      (subst (λ (t : OpenTable). AreAlikeBy (AreAlikeWithin 0) (open_table 0 1) t) (sym (out-roll-Table (open_table 5 1)))
+      (record {
         cols = refl;
         rows = refl;
         cells = (
@@ -95,10 +132,13 @@ columns_count (suc depth) alike =
 one_width : HasColumns (table_of 0 1) (roll-Layout (open_layout (3 ∷ [])))
 one_width = (
   1,
-  subst (λ (t : OpenTable). HasColumnsBy (HasColumnsWithin 0) t (out-Layout (roll-Layout (open_layout (3 ∷ []))))) (sym (out-roll-Table (open_table 0 1)))
-      (subst (λ (l : OpenLayout). HasColumnsBy (HasColumnsWithin 0) (open_table 0 1) l) (sym (out-roll-Layout (open_layout (3 ∷ [])))) (record {
+  subst (λ (t : OpenTable). HasColumnsBy (HasColumnsWithin 0) t (out-Layout (roll-Layout (open_layout (3 ∷ [])))))
+      (sym (out-roll-Table (open_table 0 1)))
+      (subst (λ (l : OpenLayout). HasColumnsBy (HasColumnsWithin 0) (open_table 0 1) l)
+      (sym (out-roll-Layout (open_layout (3 ∷ [])))) (record {
         columns = refl;
-        inner = subst (λ (c : OpenCell). AllZip (HasColumnsWithin 0) (tables_in c ++ []) []) (sym (out-roll-TableCell (empty_cell 1))) tt;
+        inner = subst (λ (c : OpenCell). AllZip (HasColumnsWithin 0) (tables_in c ++ []) [])
+            (sym (out-roll-TableCell (empty_cell 1))) tt;
       })),
 )
 

@@ -1,21 +1,24 @@
 -- A grid that is written out row by row is formed again: each cell comes to its place, and no column and no row is
 -- dropped.
-use Rattle.std.proofs.Common.{◌≡◌, ℕ, ◌+◌, ◌-◌, ◌<◌, ◌≤◌, max, zero, suc, Bool, true, false, ◌&&◌, ◌||◌, cond, ltb, leb, eqb, List, [], ◌∷◌, ◌++◌}
+use Rattle.std.proofs.Common.{◌≡◌, ℕ, ◌+◌, ◌-◌, ◌<◌, ◌≤◌, max, zero, suc, Bool, true, false, ◌&&◌, ◌||◌, cond, ltb, leb, eqb}
+use Rattle.std.proofs.Common.{List, [], ◌∷◌, ◌++◌}
 use Rattle.std.proofs.Common.{map, length, get_or}
 use Rattle.std.proofs.Common.{refl, sym, ap, ◌∙◌, subst, inl, inr, arith, append_assoc, append-nil, All}
 use Rattle.std.specs.List.{AllByRecursion, AllPairs, flat_map}
-use Rattle.std.proofs.lemmas.Bool.{lt-ltb, le-leb, eqb-true, ltb-true, leb-true, and_parts, and_from, or_left, or_right, cases_lt, cond-false}
+use Rattle.std.proofs.lemmas.Bool.{lt-ltb, le-leb, eqb-true, ltb-true, leb-true, and_parts, and_from, or_left, or_right, cases_lt}
+use Rattle.std.proofs.lemmas.Bool.{cond-false}
 use Rattle.std.proofs.lemmas.Bool.{false_from_ne_true}
 use Rattle.std.proofs.lemmas.List.{length-append}
 use Rattle.tl_grid.specs.declared.shape.SpanOf.{SpanOf}
 use Rattle.tl_grid.specs.declared.shape.Shape.{Shape}
 use Rattle.tl_grid.specs.declared.shape.Place.{Place}
-use Rattle.tl_grid.specs.Forming.{Cell, Forming, covers, has_cell, first_free, initial_rowspan, cell_at, with_cell, form_cells, grown_into, begin_row}
+use Rattle.tl_grid.specs.Forming.{Cell, Forming, covers, has_cell, first_free, initial_rowspan, cell_at, with_cell, form_cells}
+use Rattle.tl_grid.specs.Forming.{grown_into, begin_row}
 use Rattle.tl_grid.specs.Forming.{form_row, form_rows, at_group_end, no_cells, formed}
 use Rattle.tl_grid.specs.Dropping.{IsPlaced}
 use Rattle.tl_grid.specs.Slots.{HasSlot, AreApart, IsFilledToLeft}
 use Rattle.tl_grid.proofs.Cells.{first_free_is}
-use Rattle.tl_form.specs.Sound.{ComesBefore}
+use Rattle.tl_table.specs.Sound.{ComesBefore}
 
 -- how many columns and rows a place takes
 abbrev pub span_at : Place → SpanOf
@@ -37,11 +40,13 @@ abbrev pub cells_on : ℕ → List Place → List Cell
 cells_on number [] = []
 cells_on number (place ∷ places) = cell_on number place ∷ cells_on (number + 1) places
 
-cells_on-append : (number : ℕ) (xs ys : List Place) → cells_on number (xs ++ ys) ≡ cells_on number xs ++ cells_on (number + length xs) ys
+cells_on-append : (number : ℕ) (xs ys : List Place) → cells_on number (xs ++ ys) ≡ cells_on number xs ++ cells_on
+    (number + length xs) ys
 cells_on-append number [] ys = ap (λ n. cells_on n ys) (let same : number ≡ number + 0 = omega arith in same)
 cells_on-append number (x ∷ xs) ys =
     ap (λ (cells : List Cell). cell_on number x ∷ cells) (cells_on-append (number + 1) xs ys
-    ∙ ap (λ n. cells_on (number + 1) xs ++ cells_on n ys) (let same : number + 1 + length xs ≡ number + suc (length xs) = omega arith in same))
+    ∙ ap (λ n. cells_on (number + 1) xs ++ cells_on n ys) (let same : number + 1 + length xs ≡ number + suc (length xs) =
+    omega arith in same))
 
 -- ---- what is known of a list at one of its places
 
@@ -76,7 +81,8 @@ slot_of x y number p e =
     (leb-true p.left x across.0, ltb-true x p.right across.1, leb-true p.top y down.0, ltb-true y p.bottom down.1)
 
 -- no place of the list covers the slot
-free_of : (x y number : ℕ) (d : Place) (places : List Place) → ((i : ℕ) → i < length places → HasSlot x y (get_or places i d) → ⊥) →
+free_of : (x y number : ℕ) (d : Place) (places : List Place) →
+    ((i : ℕ) → i < length places → HasSlot x y (get_or places i d) → ⊥) →
     has_cell x y (cells_on number places) ≡ false
 free_of x y number d [] none = refl
 free_of x y number d (p ∷ places) none =
@@ -122,7 +128,8 @@ module _ (W H : ℕ) (places : List Place) (grid : IsGrid W H places) where
           | inr from ↦
               absurd (elim (cases_lt (length done) k) [
                 | inl after ↦ (
-                    let first : get_or places (length done) q ≡ p = ap (λ (l : List Place). get_or l (length done) q) (sym split) ∙ middle done p later q in
+                    let first : get_or places (length done) q ≡ p =
+                    ap (λ (l : List Place). get_or l (length done) q) (sym split) ∙ middle done p later q in
                     let order : ComesBefore p q = subst (λ (r : Place). ComesBefore r q) first
                     (subst (ComesBefore (get_or places (length done) q)) is (grid.in_order (length done) k q after inside)) in
                     elim order [
@@ -131,7 +138,8 @@ module _ (W H : ℕ) (places : List Place) (grid : IsGrid W H places) where
                     ])
                 | inr upto ↦ (
                     let at : k ≡ length done = omega arith in
-                    let same : q ≡ p = sym is ∙ ap (λ n. get_or places n q) at ∙ ap (λ (l : List Place). get_or l (length done) q) (sym split)
+                    let same : q ≡ p = sym is ∙ ap (λ n. get_or places n q) at ∙ ap
+                    (λ (l : List Place). get_or l (length done) q) (sym split)
                     ∙ middle done p later q in
                     let bound : p.left ≤ x = subst (λ (r : Place). r.left ≤ x) same has.0 in
                     omega arith)
@@ -146,7 +154,8 @@ module _ (W H : ℕ) (places : List Place) (grid : IsGrid W H places) where
         (subst (HasSlot p.left p.top) (sym here) (omega arith, lies.0, omega arith, lies.2)))
 
   -- of two neighbours in a row the second begins at the end of the first or after it
-  beside : (done : List Place) (p q : Place) (later : List Place) → done ++ p ∷ q ∷ later ≡ places → p.top ≡ q.top → p.right ≤ q.left
+  beside : (done : List Place) (p q : Place) (later : List Place) → done ++ p ∷ q ∷ later ≡ places → p.top ≡ q.top →
+      p.right ≤ q.left
   beside done p q later split level =
       let split' : (done ++ p ∷ []) ++ q ∷ later ≡ places = append_assoc done (p ∷ []) (q ∷ later) ∙ split in
       let n = length done in
@@ -186,7 +195,8 @@ module _ (W H : ℕ) (places : List Place) (grid : IsGrid W H places) where
   abbrev pub AreInRow : ℕ → List Place → Type 0
   AreInRow y ps = AllByRecursion (λ (p : Place). p.top ≡ y) ps
 
-  next_start : (done : List Place) (y : ℕ) (p : Place) (ps more : List Place) → done ++ (p ∷ ps ++ more) ≡ places → AreInRow y (p ∷ ps) →
+  next_start : (done : List Place) (y : ℕ) (p : Place) (ps more : List Place) → done ++ (p ∷ ps ++ more) ≡ places →
+      AreInRow y (p ∷ ps) →
       StartsFrom p.right ps
   next_start done y p [] more split level = tt
   next_start done y p (q ∷ ps) more split level = beside done p q (ps ++ more) split (level.0 ∙ sym level.1.0)
@@ -194,14 +204,17 @@ module _ (W H : ℕ) (places : List Place) (grid : IsGrid W H places) where
   rowspan_is : (p : Place) → p.top < p.bottom → p.top + initial_rowspan (span_at p) ≡ p.bottom
   rowspan_is p lt =
       let n = p.bottom - p.top in
-      let some : cond (eqb n 0) 1 n ≡ n = cond-false (eqb n 0) 1 n (false_from_ne_true (eqb n 0) (λ e. let none : n ≡ 0 = eqb-true n 0 e in omega arith)) in
+      let some : cond (eqb n 0) 1 n ≡ n = cond-false (eqb n 0) 1 n
+      (false_from_ne_true (eqb n 0) (λ e. let none : n ≡ 0 = eqb-true n 0 e in omega arith)) in
       omega arith
 
   -- the cell is the one at its place
-  cell_is : (number y : ℕ) (p : Place) → p.left < p.right → p.top < p.bottom → p.top ≡ y → cell_at number p.left y (span_at p) ≡ cell_on number p
+  cell_is : (number y : ℕ) (p : Place) → p.left < p.right → p.top < p.bottom → p.top ≡ y →
+      cell_at number p.left y (span_at p) ≡ cell_on number p
   cell_is number y p wide high level =
       let right : p.left + (p.right - p.left) ≡ p.right = omega arith in
-      let bottom : y + initial_rowspan (span_at p) ≡ p.bottom = ap (λ n. n + initial_rowspan (span_at p)) (sym level) ∙ rowspan_is p high in
+      let bottom : y + initial_rowspan (span_at p) ≡ p.bottom =
+      ap (λ n. n + initial_rowspan (span_at p)) (sym level) ∙ rowspan_is p high in
       let grows : eqb (p.bottom - p.top) 0 ≡ false = false_from_ne_true (eqb (p.bottom - p.top) 0)
       (λ e. let none : p.bottom - p.top ≡ 0 = eqb-true (p.bottom - p.top) 0 e in omega arith) in
       λ i. record {
@@ -213,7 +226,8 @@ module _ (W H : ℕ) (places : List Place) (grid : IsGrid W H places) where
         grows = grows i;
       }
 
-  cells_again : (ps done more : List Place) (y x number : ℕ) (s : Forming) → done ++ (ps ++ more) ≡ places → AreInRow y ps → StartsFrom x ps →
+  cells_again : (ps done more : List Place) (y x number : ℕ) (s : Forming) → done ++ (ps ++ more) ≡ places → AreInRow y ps →
+      StartsFrom x ps →
       number ≡ length done → IsAt y done s → y < H → IsAt y (done ++ ps) (form_cells number x (map span_at ps) s)
       × (s.height ≤ (form_cells number x (map span_at ps) s).height)
   cells_again [] done more y x number s split level starts at state low =
@@ -230,23 +244,28 @@ module _ (W H : ℕ) (places : List Place) (grid : IsGrid W H places) where
       let span = span_at p in
       let next : Forming = with_cell number p.left span s in
       let right : p.left + span.colspan ≡ p.right = omega (arith, lies_p.0) in
-      let bottom : s.row + initial_rowspan span ≡ p.bottom = ap (λ n. n + initial_rowspan span) (state.row ∙ sym level.0) ∙ rowspan_is p lies_p.2 in
+      let bottom : s.row + initial_rowspan span ≡ p.bottom =
+      ap (λ n. n + initial_rowspan span) (state.row ∙ sym level.0) ∙ rowspan_is p lies_p.2 in
       let state' : IsAt y (done ++ p ∷ []) next = record {
         width = let w : max s.width (p.left + span.colspan) ≡ W = omega (arith, state.width, right, lies_p.1) in w;
         row = state.row;
         low = let h : max s.height (s.row + initial_rowspan span) ≤ H = omega (arith, state.low, bottom, lies_p.3) in h;
         cells = ap (λ (cells : List Cell). cells ++ cell_at number p.left s.row span ∷ []) state.cells
-            ∙ ap (λ (cell : Cell). cells_on 0 done ++ cell ∷ []) (cell_is number s.row p lies_p.0 lies_p.2 (level.0 ∙ sym state.row))
+            ∙ ap (λ (cell : Cell). cells_on 0 done ++ cell ∷ [])
+            (cell_is number s.row p lies_p.0 lies_p.2 (level.0 ∙ sym state.row))
             ∙ ap (λ n. cells_on 0 done ++ cell_on n p ∷ []) (at ∙ (let z : length done ≡ 0 + length done = omega arith in z))
             ∙ sym (cells_on-append 0 done (p ∷ []));
       } in
       let split' : (done ++ p ∷ []) ++ (ps ++ more) ≡ places = append_assoc done (p ∷ []) (ps ++ more) ∙ split in
-      let rest = cells_again ps (done ++ p ∷ []) more y p.right (number + 1) next split' level.1 (next_start done y p ps more split level)
+      let rest = cells_again ps (done ++ p ∷ []) more y p.right (number + 1) next split' level.1
+      (next_start done y p ps more split level)
       (let long : length (done ++ p ∷ []) ≡ length done + 1 = length-append done (p ∷ []) in omega arith) state' low in
       let Q : Forming → Type 0 = λ made. IsAt y (done ++ p ∷ ps) made × (s.height ≤ made.height) in
-      subst (λ column. Q (form_cells (number + 1) (column + span.colspan) (map span_at ps) (with_cell number column span s))) (sym found)
+      subst (λ column. Q (form_cells (number + 1) (column + span.colspan) (map span_at ps) (with_cell number column span s)))
+      (sym found)
       (subst (λ column. Q (form_cells (number + 1) column (map span_at ps) next)) (sym right) (
-        subst (λ (l : List Place). IsAt y l (form_cells (number + 1) p.right (map span_at ps) next)) (append_assoc done (p ∷ []) ps) rest.0,
+        subst (λ (l : List Place). IsAt y l (form_cells (number + 1) p.right (map span_at ps) next))
+            (append_assoc done (p ∷ []) ps) rest.0,
         omega
             (arith, rest.1),
       ))
@@ -309,12 +328,20 @@ module _ (W H : ℕ) (places : List Place) (grid : IsGrid W H places) where
   length_spans [] = refl
   length_spans (p ∷ ps) = let rest : length (map span_at ps) ≡ length ps = length_spans ps in omega arith
 
-  rows_again : (rows : List (List Place)) (done : List Place) (y number : ℕ) (s : Forming) → done ++ concat rows ≡ places → AreRows y rows →
+  rows_again : (rows : List (List Place)) (done : List Place) (y number : ℕ) (s : Forming) → done ++ concat rows ≡ places →
+      AreRows y rows →
       y + length rows ≤ H → number ≡ length done → IsAt y done s → y ≤ s.height →
-      IsAt (y + length rows) places (form_rows number (spans_on rows) s) × (y + length rows ≤ (form_rows number (spans_on rows) s).height)
+      IsAt (y + length rows) places (form_rows number (spans_on rows) s) ×
+      (y + length rows ≤ (form_rows number (spans_on rows) s).height)
   rows_again [] done y number s split level room at state high =
       let end : y ≡ y + 0 = omega arith in (
-        record { width = state.width; row = state.row ∙ end; low = state.low; cells = state.cells ∙ ap (cells_on 0) (sym (append-nil done) ∙ split) },
+        record {
+          width = state.width;
+          row = state.row ∙ end;
+          low = state.low;
+          cells =
+              state.cells ∙ ap (cells_on 0) (sym (append-nil done) ∙ split);
+        },
         omega arith,
       )
   rows_again (ps ∷ rows) done y number s split level room at state high =
@@ -335,11 +362,13 @@ module _ (W H : ℕ) (places : List Place) (grid : IsGrid W H places) where
         low = made.0.low;
         cells = made.0.cells;
       } in
-      let rest = rows_again rows (done ++ ps) (y + 1) (number + length (map span_at ps)) next (append_assoc done ps (concat rows) ∙ split) level.1
+      let rest = rows_again rows (done ++ ps) (y + 1) (number + length (map span_at ps)) next
+      (append_assoc done ps (concat rows) ∙ split) level.1
       (omega arith)
       (omega (arith, length_spans ps, length-append done ps)) after (omega (arith, low, made.1)) in
       let end : y + 1 + length rows ≡ y + suc (length rows) = omega arith in
-      subst (λ n. IsAt n places (form_rows number (spans_on (ps ∷ rows)) s) × (n ≤ (form_rows number (spans_on (ps ∷ rows)) s).height)) end rest
+      subst (λ n. IsAt n places (form_rows number (spans_on (ps ∷ rows)) s) ×
+      (n ≤ (form_rows number (spans_on (ps ∷ rows)) s).height)) end rest
 
   -- the shape of the rows, in one group or in none
   abbrev pub shape_on : List (List Place) → Shape
@@ -351,7 +380,8 @@ module _ (W H : ℕ) (places : List Place) (grid : IsGrid W H places) where
     pub height : s.height ≡ H
     pub cells : s.cells ≡ cells_on 0 places
 
-  pub formed_again : (rows : List (List Place)) → concat rows ≡ places → AreRows 0 rows → length rows ≡ H → IsFormedAgain (formed (shape_on rows))
+  pub formed_again : (rows : List (List Place)) → concat rows ≡ places → AreRows 0 rows → length rows ≡ H →
+      IsFormedAgain (formed (shape_on rows))
   formed_again [] split level tall = record { width = refl; height = tall; cells = ap (cells_on 0) split }
   formed_again (ps ∷ rows) split level tall =
       let start : IsAt 0 [] (no_cells W) = record { width = refl; row = refl; low = omega arith; cells = refl } in

@@ -1,15 +1,18 @@
 -- Where a cell is anchored in each column and each row, none is dropped: the grid that is formed again is the grid.
-use Rattle.std.proofs.Common.{◌≡◌, ℕ, ◌+◌, ◌-◌, ◌<◌, ◌≤◌, zero, suc, Bool, true, false, ◌&&◌, cond, ltb, leb, eqb, List, [], ◌∷◌, ◌++◌, map, length}
+use Rattle.std.proofs.Common.{◌≡◌, ℕ, ◌+◌, ◌-◌, ◌<◌, ◌≤◌, zero, suc, Bool, true, false, ◌&&◌, cond, ltb, leb, eqb, List, [], ◌∷◌}
+use Rattle.std.proofs.Common.{◌++◌, map, length}
 use Rattle.std.proofs.Common.{get_or, Some}
 use Rattle.std.proofs.Common.{refl, sym, ap, ◌∙◌, subst, inl, inr, arith, append_assoc}
 use Rattle.std.specs.List.{AllByRecursion, AllPairs, filter, list_any, slice_get, flat_map}
-use Rattle.std.proofs.lemmas.Bool.{lt-ltb, le-leb, le-ltb, lt-leb, eq-eqb, or_left, or_right, cases_Bool, cases_lt, cond-true, cond-false, false_from_ne_true}
+use Rattle.std.proofs.lemmas.Bool.{lt-ltb, le-leb, le-ltb, lt-leb, eq-eqb, or_left, or_right, cases_Bool, cases_lt, cond-true}
+use Rattle.std.proofs.lemmas.Bool.{cond-false, false_from_ne_true}
 use Rattle.std.proofs.lemmas.List.{length-append, length-map}
 use Rattle.std.proofs.lemmas.List.Sums.{sum_by-cons}
 use Rattle.tl_base.specs.declared.limits.TheConstants.{MAX_CELLS, MAX_COLUMNS, MAX_ROWS}
 use Rattle.tl_grid.specs.declared.shape.Place.{Place}
 use Rattle.tl_grid.specs.Forming.{Cell, Forming, covers, formed, cell_count, cells_in}
-use Rattle.tl_grid.specs.Dropping.{count_below, keeps_column, keeps_row, new_column, new_row, covered_columns, covered_rows, place_of, IsPlaced}
+use Rattle.tl_grid.specs.Dropping.{count_below, keeps_column, keeps_row, new_column, new_row, covered_columns, covered_rows}
+use Rattle.tl_grid.specs.Dropping.{place_of, IsPlaced}
 use Rattle.tl_grid.specs.Dropping.{StandsAtNumber}
 use Rattle.tl_grid.specs.Overlap.{numbers_over}
 use Rattle.tl_grid.specs.Form.{HasGrid}
@@ -36,7 +39,8 @@ count_between test l r (suc n) le within below inside above =
     elim (cases_lt n r) [
       | inr past ↦
           let none : one_if (test n) ≡ 0 = ap one_if (above n (omega arith) past) in
-          let rest : count_below test n ≡ r - l = count_between test l r n le past (λ x lt. below x (omega arith)) (λ x lt. inside x (omega arith))
+          let rest : count_below test n ≡ r - l = count_between test l r n le past (λ x lt. below x (omega arith))
+          (λ x lt. inside x (omega arith))
           (λ x lt. above x (omega arith)) in
           omega arith
       | inl last ↦ elim (cases_lt n l) [
@@ -79,7 +83,8 @@ row_at y number (suc i) d (p ∷ places) within is =
     (row_at y (number + 1) i d places (omega arith) is)
 
 -- at most one place covers a slot
-few_over : (x y number : ℕ) (places : List Place) → AllPairs AreApart places → length (numbers_over x y (cells_on number places)) ≤ 1
+few_over : (x y number : ℕ) (places : List Place) → AllPairs AreApart places →
+    length (numbers_over x y (cells_on number places)) ≤ 1
 few_over x y number [] apart = omega arith
 few_over x y number (p ∷ places) apart =
     let rest : List Cell = cells_on (number + 1) places in
@@ -89,23 +94,29 @@ few_over x y number (p ∷ places) apart =
           let none : length (filter (covers x y) rest) ≡ 0 = none_over (number + 1) places
           (λ i within has. apart 0 (suc i) p (omega arith) (omega arith) x y (slot_of x y number p here) has) in
           let kept : filter (covers x y) (cell_on number p ∷ rest) ≡ cell_on number p ∷ filter (covers x y) rest =
-          cond-true (covers x y (cell_on number p)) (cell_on number p ∷ filter (covers x y) rest) (filter (covers x y) rest) here in
-          let long : length (numbers_over x y (cell_on number p ∷ rest)) ≡ length (filter (covers x y) (cell_on number p ∷ rest)) = length-map _ _ in
-          let more : length (filter (covers x y) (cell_on number p ∷ rest)) ≡ suc (length (filter (covers x y) rest)) = ap length kept in
+          cond-true (covers x y (cell_on number p)) (cell_on number p ∷ filter (covers x y) rest) (filter (covers x y) rest)
+          here in
+          let long : length (numbers_over x y (cell_on number p ∷ rest)) ≡ length
+          (filter (covers x y) (cell_on number p ∷ rest)) = length-map _ _ in
+          let more : length (filter (covers x y) (cell_on number p ∷ rest)) ≡ suc (length (filter (covers x y) rest)) =
+          ap length kept in
           omega arith
       | inr not_here ↦
           let kept : filter (covers x y) (cell_on number p ∷ rest) ≡ filter (covers x y) rest =
-          cond-false (covers x y (cell_on number p)) (cell_on number p ∷ filter (covers x y) rest) (filter (covers x y) rest) not_here in
+          cond-false (covers x y (cell_on number p)) (cell_on number p ∷ filter (covers x y) rest) (filter (covers x y) rest)
+          not_here in
           let same : length (numbers_over x y (cell_on number p ∷ rest)) ≡ length (numbers_over x y rest) =
           ap (λ (cells : List Cell). length (map (λ (cell : Cell). cell.number) cells)) kept in
           let less : length (numbers_over x y rest) ≤ 1 = few_over x y (number + 1) places tail in
           omega arith
     ]
   where
-    none_over : (n : ℕ) (qs : List Place) → ((i : ℕ) → i < length qs → HasSlot x y (get_or qs i p) → ⊥) → length (filter (covers x y) (cells_on n qs)) ≡ 0
+    none_over : (n : ℕ) (qs : List Place) → ((i : ℕ) → i < length qs → HasSlot x y (get_or qs i p) → ⊥) →
+        length (filter (covers x y) (cells_on n qs)) ≡ 0
     none_over n [] none = refl
     none_over n (q ∷ qs) none =
-        ap length (cond-false (covers x y (cell_on n q)) (cell_on n q ∷ filter (covers x y) (cells_on (n + 1) qs)) (filter (covers x y) (cells_on (n + 1) qs))
+        ap length (cond-false (covers x y (cell_on n q)) (cell_on n q ∷ filter (covers x y) (cells_on (n + 1) qs))
+        (filter (covers x y) (cells_on (n + 1) qs))
         (false_from_ne_true (covers x y (cell_on n q)) (λ e. none 0 (omega arith) (slot_of x y n q e))))
         ∙ none_over (n + 1) qs (λ i within has. none (suc i) (omega arith) has)
 
@@ -115,9 +126,11 @@ cells_counted [] = refl
 cells_counted (ps ∷ rows) =
     let rest : cells_in (map (map span_at) rows) ≡ length (flat_map (λ (qs : List Place). qs) rows) = cells_counted rows in
     let here : length (map span_at ps) ≡ length ps = length-map ps span_at in
-    let sum : cells_in (map (map span_at) (ps ∷ rows)) ≡ length (map span_at ps) + cells_in (map (map span_at) rows) = sum_by-cons length
+    let sum : cells_in (map (map span_at) (ps ∷ rows)) ≡ length (map span_at ps) + cells_in (map (map span_at) rows) =
+    sum_by-cons length
     (map span_at ps) (map (map span_at) rows) in
-    let long : length (ps ++ flat_map (λ (qs : List Place). qs) rows) ≡ length ps + length (flat_map (λ (qs : List Place). qs) rows) = length-append ps _ in
+    let long : length (ps ++ flat_map (λ (qs : List Place). qs) rows) ≡ length ps + length
+    (flat_map (λ (qs : List Place). qs) rows) = length-append ps _ in
     omega arith
 
 at_prefix : (before : List Place) (p : Place) (later : List Place) → slice_get (before ++ p ∷ later) (length before) ≡ Some p
@@ -146,18 +159,23 @@ module _ (W H : ℕ) (places : List Place) (grid : IsGrid W H places) (columns :
     place_again number p lies =
         let left : new_column state.cells p.left ≡ p.left = count_all (keeps_column state.cells) p.left
         (λ x lt. kept_column 0 x (omega (arith, lies.0, lies.1))) in
-        let top : new_row state.cells p.top ≡ p.top = count_all (keeps_row state.cells) p.top (λ y lt. kept_row 0 y (omega (arith, lies.2, lies.3))) in
+        let top : new_row state.cells p.top ≡ p.top = count_all (keeps_row state.cells) p.top
+        (λ y lt. kept_row 0 y (omega (arith, lies.2, lies.3))) in
         let across : covered_columns state (cell_on number p) ≡ p.right - p.left = count_between
         (λ x. keeps_column state.cells x && (leb p.left x && ltb x p.right)) p.left p.right W (omega (arith, lies.0)) lies.1
-        (λ x lt below. ap (λ b. keeps_column state.cells x && (b && ltb x p.right)) (lt-leb p.left x below) ∙ and_none (keeps_column state.cells x))
-        (λ x lt from to. ap (λ b. b && (leb p.left x && ltb x p.right)) (kept_column 0 x lt) ∙ ap (λ b. b && ltb x p.right) (le-leb p.left x from)
+        (λ x lt below. ap (λ b. keeps_column state.cells x && (b && ltb x p.right)) (lt-leb p.left x below) ∙ and_none
+        (keeps_column state.cells x))
+        (λ x lt from to. ap (λ b. b && (leb p.left x && ltb x p.right)) (kept_column 0 x lt) ∙ ap (λ b. b && ltb x p.right)
+        (le-leb p.left x from)
         ∙ lt-ltb x p.right to)
         (λ x lt past. ap (λ b. keeps_column state.cells x && (leb p.left x && b)) (le-ltb x p.right past)
         ∙ ap (λ b. keeps_column state.cells x && b) (and_none (leb p.left x)) ∙ and_none (keeps_column state.cells x)) in
         let down : covered_rows state (cell_on number p) ≡ p.bottom - p.top = count_between
         (λ y. keeps_row state.cells y && (leb p.top y && ltb y p.bottom)) p.top p.bottom H (omega (arith, lies.2)) lies.3
-        (λ y lt below. ap (λ b. keeps_row state.cells y && (b && ltb y p.bottom)) (lt-leb p.top y below) ∙ and_none (keeps_row state.cells y))
-        (λ y lt from to. ap (λ b. b && (leb p.top y && ltb y p.bottom)) (kept_row 0 y lt) ∙ ap (λ b. b && ltb y p.bottom) (le-leb p.top y from)
+        (λ y lt below. ap (λ b. keeps_row state.cells y && (b && ltb y p.bottom)) (lt-leb p.top y below) ∙ and_none
+        (keeps_row state.cells y))
+        (λ y lt from to. ap (λ b. b && (leb p.top y && ltb y p.bottom)) (kept_row 0 y lt) ∙ ap (λ b. b && ltb y p.bottom)
+        (le-leb p.top y from)
         ∙ lt-ltb y p.bottom to)
         (λ y lt past. ap (λ b. keeps_row state.cells y && (leb p.top y && b)) (le-ltb y p.bottom past)
         ∙ ap (λ b. keeps_row state.cells y && b) (and_none (leb p.top y)) ∙ and_none (keeps_row state.cells y)) in
@@ -193,35 +211,49 @@ module _ (W H : ℕ) (places : List Place) (grid : IsGrid W H places) (columns :
       middle (y ∷ xs) x ys = middle xs x ys
 
   -- the grid of the rows is the grid
-  pub grid_again : (rows : List (List Place)) → flat_map (λ (ps : List Place). ps) rows ≡ places → AreRows W H places grid 0 rows → length rows ≡ H →
+  pub grid_again : (rows : List (List Place)) → flat_map (λ (ps : List Place). ps) rows ≡ places →
+      AreRows W H places grid 0 rows → length rows ≡ H →
       W ≤ MAX_COLUMNS → H ≤ MAX_ROWS → length places ≤ MAX_CELLS →
       HasGrid (shape_on W H places grid rows) (record { cols = W; rows = H; places = places })
   grid_again rows split level tall few_columns few_rows few_cells =
       let made = formed_again W H places grid rows split level tall in
       let s : Forming = formed (shape_on W H places grid rows) in
-      let same : s ≡ state s.row = λ i. record { width = made.width i; height = made.height i; row = s.row; cells = made.cells i } in
+      let same : s ≡ state s.row = λ i. record {
+        width = made.width i;
+        height = made.height i;
+        row = s.row;
+        cells =
+            made.cells i;
+      } in
       let counted : cell_count (shape_on W H places grid rows) ≡ length places = by_rows rows split in
-      let kept : count_below (keeps_column (cells_on 0 places)) W ≡ W = count_all (keeps_column (cells_on 0 places)) W (kept_column 0) in
+      let kept : count_below (keeps_column (cells_on 0 places)) W ≡ W =
+      count_all (keeps_column (cells_on 0 places)) W (kept_column 0) in
       let held : count_below (keeps_row (cells_on 0 places)) H ≡ H = count_all (keeps_row (cells_on 0 places)) H (kept_row 0) in
-      let columns_are : count_below (keeps_column s.cells) s.width ≡ W = ap (λ (t : Forming). count_below (keeps_column t.cells) t.width) same ∙ kept in
-      let rows_are : count_below (keeps_row s.cells) s.height ≡ H = ap (λ (t : Forming). count_below (keeps_row t.cells) t.height) same ∙ held in
+      let columns_are : count_below (keeps_column s.cells) s.width ≡ W =
+      ap (λ (t : Forming). count_below (keeps_column t.cells) t.width) same ∙ kept in
+      let rows_are : count_below (keeps_row s.cells) s.height ≡ H =
+      ap (λ (t : Forming). count_below (keeps_row t.cells) t.height) same ∙ held in
       record {
         few_cells = omega arith;
-        no_overlap = λ x y. subst (λ (t : Forming). length (numbers_over x y t.cells) ≤ 1) (sym same) (few_over x y 0 places grid.apart);
+        no_overlap = λ x y. subst (λ (t : Forming). length (numbers_over x y t.cells) ≤ 1) (sym same)
+            (few_over x y 0 places grid.apart);
         few_columns = omega arith;
         few_rows = omega arith;
         columns = sym columns_are;
         rows = sym rows_are;
         places = record {
           as_many = sym counted;
-          each = subst (λ (t : Forming). AllByRecursion (StandsAtNumber t places) t.cells) (sym same) (stand s.row [] places refl (all_lie places [] refl));
+          each = subst (λ (t : Forming). AllByRecursion (StandsAtNumber t places) t.cells) (sym same)
+              (stand s.row [] places refl (all_lie places [] refl));
         };
       }
     where
-      by_rows : (rs : List (List Place)) → flat_map (λ (ps : List Place). ps) rs ≡ places → cell_count (shape_on W H places grid rs) ≡ length places
+      by_rows : (rs : List (List Place)) → flat_map (λ (ps : List Place). ps) rs ≡ places →
+          cell_count (shape_on W H places grid rs) ≡ length places
       by_rows [] e = ap length e
       by_rows (ps ∷ rs) e =
           let sum : cell_count (shape_on W H places grid (ps ∷ rs)) ≡ 0 + cells_in (map (map span_at) (ps ∷ rs)) = refl in
-          let count : cells_in (map (map span_at) (ps ∷ rs)) ≡ length (flat_map (λ (qs : List Place). qs) (ps ∷ rs)) = cells_counted (ps ∷ rs) in
+          let count : cells_in (map (map span_at) (ps ∷ rs)) ≡ length (flat_map (λ (qs : List Place). qs) (ps ∷ rs)) =
+          cells_counted (ps ∷ rs) in
           let all : length (flat_map (λ (qs : List Place). qs) (ps ∷ rs)) ≡ length places = ap length e in
           omega arith

@@ -1,11 +1,13 @@
 -- A page as a list of tags, each with the text up to the next tag: the tokens that its characters spell.
-use Rattle.std.proofs.Common.{◌≡◌, ℕ, Bool, true, false, cond, eqb, List, [], ◌∷◌, ◌++◌, map, refl, sym, ap, ◌∙◌, subst, append_assoc}
+use Rattle.std.proofs.Common.{◌≡◌, ℕ, Bool, true, false, cond, eqb, List, [], ◌∷◌, ◌++◌, map, refl, sym, ap, ◌∙◌, subst}
+use Rattle.std.proofs.Common.{append_assoc}
 use Rattle.std.specs.Prelude.{codes, IsUtf8, chars, length}
 use Rattle.std.specs.List.{AllByRecursion, flat_map}
 use Rattle.std.proofs.lemmas.Bool.{eqb-true, both_ways, not_from_false}
 use Rattle.tl_token.specs.Characters.{is_control}
 use Rattle.tl_token.specs.Grammar.{Piece, hidden, tag, character, Stands, by_reference, plain}
-use Rattle.tl_token.specs.Spelling.{Part, part, place_of, Leads, here, next, join_before, character_before, piece_before, tokens_of, characters}
+use Rattle.tl_token.specs.Spelling.{Part, part, place_of, Leads, here, next, join_before, character_before, piece_before}
+use Rattle.tl_token.specs.Spelling.{tokens_of, characters}
 use Rattle.tl_token.specs.Spelling.{without_mark, SpellsTokens}
 use Rattle.tl_token.specs.declared.token.Element.{Element}
 use Rattle.tl_token.specs.declared.token.Spans.{Spans}
@@ -35,7 +37,8 @@ items_text items = flat_map item_text items
 
 -- the characters are a tag, whatever follows
 abbrev pub IsTagText : List ℕ → Bool → Element → Spans → Type 0
-IsTagText mark is_end element spans = (rest : List ℕ) → Stands (mark ++ rest) (tag (cond is_end (End element) (Start element spans))) rest
+IsTagText mark is_end element spans = (rest : List ℕ) → Stands (mark ++ rest)
+    (tag (cond is_end (End element) (Start element spans))) rest
 
 -- no control character stands in the text
 abbrev pub AreFine : List ℕ → Type 0
@@ -49,18 +52,21 @@ IsItem item = IsTagText item.mark item.is_end item.element item.spans × AreFine
 -- one piece after another, up to the rest
 pub data Reads : List ℕ → List Piece → List ℕ → Type 0 where
   done : {cs : List ℕ} → Reads cs [] cs
-  step : {cs mid rest : List ℕ} {pieces : List Piece} → (piece : Piece) → Stands cs piece mid → Reads mid pieces rest → Reads cs (piece ∷ pieces) rest
+  step : {cs mid rest : List ℕ} {pieces : List Piece} → (piece : Piece) → Stands cs piece mid → Reads mid pieces rest →
+      Reads cs (piece ∷ pieces) rest
 
 reads_append : (cs mid rest : List ℕ) (one two : List Piece) → Reads cs one mid → Reads mid two rest → Reads cs (one ++ two) rest
 reads_append cs mid rest _ two done later = later
-reads_append cs mid rest _ two (step {mid = m} {pieces = ps} piece stands more) later = step piece stands (reads_append m mid rest ps two more later)
+reads_append cs mid rest _ two (step {mid = m} {pieces = ps} piece stands more) later =
+    step piece stands (reads_append m mid rest ps two more later)
 
 -- a character that is escaped reads as itself
 escape_reads : (c : ℕ) (rest : List ℕ) → is_control c ≡ false → Stands (escaped c ++ rest) (character c) rest
 escape_reads c rest fine = by_tests (eqb c 0x26) (eqb c 0x3C) (eqb c 0x3E) (eqb c 0xA0) refl refl refl refl
   where
     by_tests : (a b d e : Bool) → eqb c 0x26 ≡ a → eqb c 0x3C ≡ b → eqb c 0x3E ≡ d → eqb c 0xA0 ≡ e →
-        Stands (cond a (codes "&amp;") (cond b (codes "&lt;") (cond d (codes "&gt;") (cond e (codes "&nbsp;") (c ∷ [])))) ++ rest) (character c) rest
+        Stands (cond a (codes "&amp;") (cond b (codes "&lt;")
+        (cond d (codes "&gt;") (cond e (codes "&nbsp;") (c ∷ [])))) ++ rest) (character c) rest
     by_tests true b d e p q r s =
         subst (λ x. Stands (codes "&amp;" ++ rest) (character x) rest) (sym (eqb-true c 0x26 p)) (by_reference refl refl)
     by_tests false true d e p q r s =
@@ -70,12 +76,17 @@ escape_reads c rest fine = by_tests (eqb c 0x26) (eqb c 0x3C) (eqb c 0x3E) (eqb 
     by_tests false false false true p q r s =
         subst (λ x. Stands (codes "&nbsp;" ++ rest) (character x) rest) (sym (eqb-true c 0xA0 s)) (by_reference refl refl)
     by_tests false false false false p q r s =
-        plain (not_from_false (is_control c) fine, (λ h. absurd (both_ways (eqb c 0x3C) q h)), (λ h. absurd (both_ways (eqb c 0x26) p h)))
+        plain (
+          not_from_false (is_control c) fine,
+          (λ h. absurd (both_ways (eqb c 0x3C) q h)),
+          (λ h. absurd (both_ways (eqb c 0x26) p h)),
+        )
 
 text_reads : (text rest : List ℕ) → AreFine text → Reads (flat_map escaped text ++ rest) (map character text) rest
 text_reads [] rest fine = done
 text_reads (c ∷ text) rest fine =
-    subst (λ (cs : List ℕ). Reads cs (character c ∷ map character text) rest) (sym (append_assoc (escaped c) (flat_map escaped text) rest))
+    subst (λ (cs : List ℕ). Reads cs (character c ∷ map character text) rest)
+    (sym (append_assoc (escaped c) (flat_map escaped text) rest))
     (step (character c) (escape_reads c (flat_map escaped text ++ rest) fine.0) (text_reads text rest fine.1))
 
 -- the pieces of an item
@@ -141,7 +152,8 @@ token_kinds : (parts : List Part) → map kind_of (tokens_of parts) ≡ kinds_ov
 token_kinds [] = refl
 token_kinds (p ∷ parts) = by_piece p.piece (token_kinds parts)
   where
-    by_tokens : (c : ℕ) (later : List Token) → map kind_of (character_before c p.first p.past later) ≡ character_kinds c (map kind_of later)
+    by_tokens : (c : ℕ) (later : List Token) → map kind_of (character_before c p.first p.past later) ≡ character_kinds c
+        (map kind_of later)
     by_tokens c [] = refl
     by_tokens c (t ∷ later) = joins c p.first p.past t.kind t later refl
 
@@ -160,16 +172,21 @@ text_kinds (c ∷ cs) = Text (c ∷ cs) ∷ []
 abbrev pub item_kinds : Item → List TokenKind
 item_kinds item = tag_kind item ∷ text_kinds item.text
 
-tags_first : (c : ℕ) (items : List Item) → character_kinds c (flat_map item_kinds items) ≡ Text (c ∷ []) ∷ flat_map item_kinds items
+tags_first : (c : ℕ) (items : List Item) → character_kinds c (flat_map item_kinds items) ≡ Text
+    (c ∷ []) ∷ flat_map item_kinds items
 tags_first c [] = refl
 tags_first c (item ∷ items) = by_end item.is_end
   where
-    by_end : (b : Bool) → character_kinds c (cond b (End item.element) (Start item.element item.spans) ∷ (text_kinds item.text ++ flat_map item_kinds items))
-        ≡ Text (c ∷ []) ∷ cond b (End item.element) (Start item.element item.spans) ∷ (text_kinds item.text ++ flat_map item_kinds items)
+    by_end : (b : Bool) →
+        character_kinds c (cond b (End item.element) (Start item.element item.spans) ∷
+        (text_kinds item.text ++ flat_map item_kinds items))
+        ≡ Text (c ∷ []) ∷ cond b (End item.element) (Start item.element item.spans) ∷
+        (text_kinds item.text ++ flat_map item_kinds items)
     by_end true = refl
     by_end false = refl
 
-text_over : (text : List ℕ) (items : List Item) → kinds_over (map character text) (flat_map item_kinds items) ≡ text_kinds text ++ flat_map item_kinds items
+text_over : (text : List ℕ) (items : List Item) → kinds_over (map character text)
+    (flat_map item_kinds items) ≡ text_kinds text ++ flat_map item_kinds items
 text_over [] items = refl
 text_over (c ∷ []) items = tags_first c items
 text_over (c ∷ d ∷ text) items = ap (character_kinds c) (text_over (d ∷ text) items)
@@ -182,8 +199,10 @@ items_over (item ∷ items) =
     ∙ ap (λ (ks : List TokenKind). tag_kind item ∷ ks) (text_over item.text items)
 
 -- The characters of items spell their tokens.
-pub items_spelt : (bytes : List ℕ) (items : List Item) → IsUtf8 bytes → chars bytes ≡ items_text items → without_mark (chars bytes) ≡ chars bytes →
-    AllByRecursion IsItem items → (tokens : List Token) × (SpellsTokens bytes tokens × (map kind_of tokens ≡ flat_map item_kinds items))
+pub items_spelt : (bytes : List ℕ) (items : List Item) → IsUtf8 bytes → chars bytes ≡ items_text items →
+    without_mark (chars bytes) ≡ chars bytes →
+    AllByRecursion IsItem items → (tokens : List Token) × (SpellsTokens bytes tokens ×
+    (map kind_of tokens ≡ flat_map item_kinds items))
 items_spelt bytes items utf8 is no_mark all =
     let (parts, leads) = placed (length bytes) (items_text items) [] (flat_map item_pieces items) (items_read items all) in
     let at : characters bytes ≡ items_text items = no_mark ∙ is in (

@@ -1,5 +1,6 @@
 -- The tags that a page has, as tokens: tags without attributes, a column with its width, and a cell with its numbers.
-use Rattle.std.proofs.Common.{◌≡◌, ◌≢◌, ℕ, ◌+◌, ◌*◌, ◌/◌, ◌%◌, ◌^◌, ◌<◌, ◌≤◌, min, max, Bool, true, false, not, ◌||◌, cond, ltb, eqb, List, [], ◌∷◌}
+use Rattle.std.proofs.Common.{◌≡◌, ◌≢◌, ℕ, ◌+◌, ◌*◌, ◌/◌, ◌%◌, ◌^◌, ◌<◌, ◌≤◌, min, max, Bool, true, false, not, ◌||◌, cond, ltb}
+use Rattle.std.proofs.Common.{eqb, List, [], ◌∷◌}
 use Rattle.std.proofs.Common.{◌++◌, Option, Some, None, refl, sym, ap, ◌∙◌, subst, append_assoc, arith, decimal, zero, suc}
 use Rattle.std.specs.Prelude.{codes, option_and_then}
 use Rattle.tl_token.specs.declared.token.TokenKind.TheVariants.{Start}
@@ -29,7 +30,8 @@ bare is_end name e named known rest =
     markup e (record { is_end = is_end; name = name; attributes = [] })
     (record {
       following = 0x3E ∷ rest;
-      spelled = append_assoc (opening is_end) (name ++ codes ">") rest ∙ ap (λ (cs : List ℕ). opening is_end ++ cs) (append_assoc name (codes ">") rest);
+      spelled = append_assoc (opening is_end) (name ++ codes ">") rest ∙ ap (λ (cs : List ℕ). opening is_end ++ cs)
+          (append_assoc name (codes ">") rest);
       named = named;
       separated = refl;
       attributes = grammar.end refl;
@@ -131,7 +133,8 @@ digits_number : (n : ℕ) (ds : List ℕ) → IsDigits n ds → number_of ds ≡
 digits_number n ds is =
     let (d, others, split) = is.some in
     let each : Each is_ascii_digit (d ∷ others) = subst (Each is_ascii_digit) split is.digits in
-    let no_space : past is_space (d ∷ others) ≡ d ∷ others = ap (λ b. cond b (past is_space others) (d ∷ others)) (digit_no_space d each.0) in
+    let no_space : past is_space (d ∷ others) ≡ d ∷ others =
+    ap (λ b. cond b (past is_space others) (d ∷ others)) (digit_no_space d each.0) in
     let no_sign : unsigned (d ∷ others) ≡ d ∷ others = ap (λ b. cond b others (d ∷ others)) (digit_no_sign d each.0) in
     let no_minus : begins (λ c. c ∈ "-") (d ∷ others) ≡ false = excludes is_ascii_digit d 45 refl each.0 in
     let all : number_of (d ∷ others) ≡ Some (number 10 (d ∷ others)) =
@@ -150,10 +153,12 @@ glyph_is n lt = grind (arith, nat_tests, lt)
 
 digits_on : (k n : ℕ) (later : List ℕ) → Each is_ascii_digit later → Each is_ascii_digit (digits_onto k 10 false n later)
 digits_on zero n later each = each
-digits_on (suc k) n later each = by_test (eqb (n / 10) 0) (digits_on k (n / 10) (digit_glyph false (n % 10) ∷ later) (glyph_is (n % 10) (omega arith), each))
+digits_on (suc k) n later each =
+    by_test (eqb (n / 10) 0) (digits_on k (n / 10) (digit_glyph false (n % 10) ∷ later) (glyph_is (n % 10) (omega arith), each))
   where
     by_test : (b : Bool) → Each is_ascii_digit (digits_onto k 10 false (n / 10) (digit_glyph false (n % 10) ∷ later)) →
-        Each is_ascii_digit (cond b (digit_glyph false (n % 10) ∷ later) (digits_onto k 10 false (n / 10) (digit_glyph false (n % 10) ∷ later)))
+        Each is_ascii_digit (cond b (digit_glyph false (n % 10) ∷ later)
+        (digits_onto k 10 false (n / 10) (digit_glyph false (n % 10) ∷ later)))
     by_test true more = (glyph_is (n % 10) (omega arith), each)
     by_test false more = more
 
@@ -179,7 +184,8 @@ each_append test [] ys one two = two
 each_append test (x ∷ xs) ys one two = (one.0, each_append test xs ys one.1 two)
 
 -- an attribute after a space, whose value stands in quotes
-in_quotes : (name value : List ℕ) (later : List ℕ) (others : List Attribute) (rest : List ℕ) → name ≢ [] → Each is_name_character name →
+in_quotes : (name value : List ℕ) (later : List ℕ) (others : List Attribute) (rest : List ℕ) → name ≢ [] →
+    Each is_name_character name →
     Each no_quote value → Attributes later others rest →
     Attributes (0x20 ∷ (name ++ (codes "=\"" ++ (value ++ (34 ∷ later))))) (record { name = name; value = value } ∷ others) rest
 in_quotes name value later others rest some named plain more =
@@ -190,16 +196,20 @@ in_quotes name value later others rest some named plain more =
 pub column_tag : (width : ℕ) → IsTagText (codes "<col style=\"width:" ++ decimal width ++ codes "ch\">") false Col no_spans
 column_tag width rest =
     let value : List ℕ = codes "width:" ++ (decimal width ++ codes "ch") in
-    let plain : Each no_quote value = each_append no_quote (codes "width:") (decimal width ++ codes "ch") (refl, (refl, (refl, (refl, (refl, (refl, tt))))))
-    (each_append no_quote (decimal width) (codes "ch") (digits_no_quote (decimal width) (decimal_each width)) (refl, (refl, tt))) in
+    let plain : Each no_quote value = each_append no_quote (codes "width:") (decimal width ++ codes "ch")
+    (refl, (refl, (refl, (refl, (refl, (refl, tt))))))
+    (each_append no_quote (decimal width) (codes "ch") (digits_no_quote (decimal width) (decimal_each width))
+    (refl, (refl, tt))) in
     markup Col (record { is_end = false; name = codes "col"; attributes = record { name = codes "style"; value = value } ∷ [] })
     (record {
       following = 0x20 ∷ (codes "style" ++ (codes "=\"" ++ (value ++ (34 ∷ (0x3E ∷ rest)))));
       spelled = ap (λ (cs : List ℕ). codes "<col style=\"width:" ++ cs) (
-          append_assoc (decimal width) (codes "ch\">") rest ∙ sym (append_assoc (decimal width) (codes "ch") (34 ∷ (0x3E ∷ rest))));
+          append_assoc (decimal width) (codes "ch\">") rest ∙ sym
+          (append_assoc (decimal width) (codes "ch") (34 ∷ (0x3E ∷ rest))));
       named = (refl, (refl, (refl, tt)));
       separated = refl;
-      attributes = in_quotes (codes "style") value (0x3E ∷ rest) [] rest (λ e. cc) (refl, (refl, (refl, (refl, (refl, tt))))) plain (grammar.end refl);
+      attributes = in_quotes (codes "style") value (0x3E ∷ rest) [] rest (λ e. cc) (refl, (refl, (refl, (refl, (refl, tt)))))
+          plain (grammar.end refl);
     })
     refl refl
 
@@ -209,17 +219,21 @@ column_tag width rest =
 abbrev given : Bool → List ℕ → ℕ → List Attribute
 given b name number = cond b (record { name = name; value = decimal number } ∷ []) []
 
-numbered : (b : Bool) (name : List ℕ) (number : ℕ) (later : List ℕ) (others : List Attribute) (rest : List ℕ) → number < 2 ^ 64 → name ≢ [] →
+numbered : (b : Bool) (name : List ℕ) (number : ℕ) (later : List ℕ) (others : List Attribute) (rest : List ℕ) →
+    number < 2 ^ 64 → name ≢ [] →
     Each is_name_character name → Attributes later others rest →
-    Attributes (cond b (0x20 ∷ name ++ codes "=\"" ++ decimal number ++ codes "\"") [] ++ later) (given b name number ++ others) rest
+    Attributes (cond b (0x20 ∷ name ++ codes "=\"" ++ decimal number ++ codes "\"") [] ++ later) (given b name number ++ others)
+    rest
 numbered false name number later others rest small some named more = more
 numbered true name number later others rest small some named more =
-    let same : (0x20 ∷ name ++ codes "=\"" ++ decimal number ++ codes "\"") ++ later ≡ 0x20 ∷ (name ++ (codes "=\"" ++ (decimal number ++ (34 ∷ later)))) =
+    let same : (0x20 ∷ name ++ codes "=\"" ++ decimal number ++ codes "\"") ++ later ≡ 0x20 ∷
+    (name ++ (codes "=\"" ++ (decimal number ++ (34 ∷ later)))) =
     append_assoc (0x20 ∷ name ++ codes "=\"" ++ decimal number) (codes "\"") later
     ∙ append_assoc (0x20 ∷ name ++ codes "=\"") (decimal number) (34 ∷ later)
     ∙ append_assoc (0x20 ∷ name) (codes "=\"") (decimal number ++ (34 ∷ later)) in
     subst (λ (cs : List ℕ). Attributes cs (record { name = name; value = decimal number } ∷ others) rest) (sym same)
-    (in_quotes name (decimal number) later others rest some named (digits_no_quote (decimal number) (decimal_digits number small).digits) more)
+    (in_quotes name (decimal number) later others rest some named
+    (digits_no_quote (decimal number) (decimal_digits number small).digits) more)
 
 -- the numbers of a cell, and its attributes as they are written
 abbrev pub numbers : ℕ → ℕ → ℕ → Spans
@@ -230,10 +244,12 @@ attributes_text colspan rowspan least =
     attribute (codes "colspan") 1 colspan ++ attribute (codes "rowspan") 1 rowspan ++ attribute (codes "data-min") 0 least
 
 -- the attributes of a cell
-module _ (colspan rowspan least : ℕ) (columns : 0 < colspan) (few_columns : colspan ≤ MAX_COLSPAN) (rows : 0 < rowspan) (few_rows : rowspan ≤ MAX_ROWSPAN)
+module _ (colspan rowspan least : ℕ) (columns : 0 < colspan) (few_columns : colspan ≤ MAX_COLSPAN) (rows : 0 < rowspan)
+    (few_rows : rowspan ≤ MAX_ROWSPAN)
     (narrow : least ≤ MAX_PAGE_WIDTH) where
   abbrev listed : Bool → Bool → Bool → List Attribute
-  listed a b c = given a (codes "colspan") colspan ++ (given b (codes "rowspan") rowspan ++ (given c (codes "data-min") least ++ []))
+  listed a b c = given a (codes "colspan") colspan ++ (given b (codes "rowspan") rowspan ++
+      (given c (codes "data-min") least ++ []))
 
   colspan_value : (a b c : Bool) → value_of (codes "colspan") (listed a b c) ≡ cond a (Some (decimal colspan)) None
   colspan_value true b c = refl
@@ -261,24 +277,30 @@ module _ (colspan rowspan least : ℕ) (columns : 0 < colspan) (few_columns : co
   least_value false false false = refl
 
   colspan_is : (a b c : Bool) → ltb 1 colspan ≡ a → columns_of (attribute_number (codes "colspan") (listed a b c)) ≡ colspan
-  colspan_is a b c is = ap (λ (v : Option (List ℕ)). columns_of (option_and_then number_of v)) (colspan_value a b c) ∙ by_test a is
+  colspan_is a b c is = ap (λ (v : Option (List ℕ)). columns_of (option_and_then number_of v))
+      (colspan_value a b c) ∙ by_test a is
     where
-      by_test : (d : Bool) → ltb 1 colspan ≡ d → columns_of (option_and_then number_of (cond d (Some (decimal colspan)) None)) ≡ colspan
-      by_test true more = ap columns_of (decimal_number colspan (omega arith)) ∙ (let n : max 1 (min colspan MAX_COLSPAN) ≡ colspan = omega arith in n)
+      by_test : (d : Bool) → ltb 1 colspan ≡ d →
+          columns_of (option_and_then number_of (cond d (Some (decimal colspan)) None)) ≡ colspan
+      by_test true more = ap columns_of (decimal_number colspan (omega arith)) ∙
+          (let n : max 1 (min colspan MAX_COLSPAN) ≡ colspan = omega arith in n)
       by_test false one = let le = ltb-false 1 colspan one in omega arith
 
   rowspan_is : (a b c : Bool) → ltb 1 rowspan ≡ b → rows_of (attribute_number (codes "rowspan") (listed a b c)) ≡ rowspan
   rowspan_is a b c is = ap (λ (v : Option (List ℕ)). rows_of (option_and_then number_of v)) (rowspan_value a b c) ∙ by_test b is
     where
-      by_test : (d : Bool) → ltb 1 rowspan ≡ d → rows_of (option_and_then number_of (cond d (Some (decimal rowspan)) None)) ≡ rowspan
-      by_test true more = ap rows_of (decimal_number rowspan (omega arith)) ∙ (let n : min rowspan MAX_ROWSPAN ≡ rowspan = omega arith in n)
+      by_test : (d : Bool) → ltb 1 rowspan ≡ d →
+          rows_of (option_and_then number_of (cond d (Some (decimal rowspan)) None)) ≡ rowspan
+      by_test true more = ap rows_of (decimal_number rowspan (omega arith)) ∙ (let n : min rowspan MAX_ROWSPAN ≡ rowspan =
+          omega arith in n)
       by_test false one = let le = ltb-false 1 rowspan one in omega arith
 
   least_is : (a b c : Bool) → ltb 0 least ≡ c → floor_of (attribute_number (codes "data-min") (listed a b c)) ≡ least
   least_is a b c is = ap (λ (v : Option (List ℕ)). floor_of (option_and_then number_of v)) (least_value a b c) ∙ by_test c is
     where
       by_test : (d : Bool) → ltb 0 least ≡ d → floor_of (option_and_then number_of (cond d (Some (decimal least)) None)) ≡ least
-      by_test true more = ap floor_of (decimal_number least (omega arith)) ∙ (let n : min least MAX_PAGE_WIDTH ≡ least = omega arith in n)
+      by_test true more = ap floor_of (decimal_number least (omega arith)) ∙ (let n : min least MAX_PAGE_WIDTH ≡ least =
+          omega arith in n)
       by_test false none = let le = ltb-false 0 least none in omega arith
 
   spans_are : cell_spans (listed (ltb 1 colspan) (ltb 1 rowspan) (ltb 0 least)) ≡ numbers colspan rowspan least
@@ -306,10 +328,12 @@ module _ (colspan rowspan least : ℕ) (columns : 0 < colspan) (few_columns : co
       (refl, (refl, (refl, (refl, (refl, (refl, (refl, (refl, tt))))))))
       (grammar.end refl))))
 
-  separated_text : (rest : List ℕ) → begins (λ c. is_gap c || c ∈ ">") ((attributes_text colspan rowspan least) ++ (0x3E ∷ rest)) ≡ true
+  separated_text : (rest : List ℕ) → begins (λ c. is_gap c || c ∈ ">")
+      ((attributes_text colspan rowspan least) ++ (0x3E ∷ rest)) ≡ true
   separated_text rest = by_tests (ltb 1 colspan) (ltb 1 rowspan) (ltb 0 least)
     where
-      by_tests : (a b c : Bool) → begins (λ x. is_gap x || x ∈ ">") (((cond a (0x20 ∷ codes "colspan" ++ codes "=\"" ++ decimal colspan ++ codes "\"") []
+      by_tests : (a b c : Bool) → begins (λ x. is_gap x || x ∈ ">")
+          (((cond a (0x20 ∷ codes "colspan" ++ codes "=\"" ++ decimal colspan ++ codes "\"") []
           ++ cond b (0x20 ∷ codes "rowspan" ++ codes "=\"" ++ decimal rowspan ++ codes "\"") [])
           ++ cond c (0x20 ∷ codes "data-min" ++ codes "=\"" ++ decimal least ++ codes "\"") []) ++ (0x3E ∷ rest)) ≡ true
       by_tests true b c = refl
@@ -317,7 +341,8 @@ module _ (colspan rowspan least : ℕ) (columns : 0 < colspan) (few_columns : co
       by_tests false false true = refl
       by_tests false false false = refl
 
-  cell_tag : (name : List ℕ) (e : Element) → IsTagName name → element_of name ≡ Some e → ((all : List Attribute) → spans_of e all ≡ cell_spans all) →
+  cell_tag : (name : List ℕ) (e : Element) → IsTagName name → element_of name ≡ Some e →
+      ((all : List Attribute) → spans_of e all ≡ cell_spans all) →
       IsTagText (0x3C ∷ (name ++ ((attributes_text colspan rowspan least) ++ 0x3E ∷ []))) false e (numbers colspan rowspan least)
   cell_tag name e named known spans rest =
       let all = listed (ltb 1 colspan) (ltb 1 rowspan) (ltb 0 least) in
@@ -332,8 +357,10 @@ module _ (colspan rowspan least : ℕ) (columns : 0 < colspan) (few_columns : co
       })
       known (ap (Start e) (sym spans_are ∙ sym (spans all)))
 
-  pub plain_start : IsTagText (0x3C ∷ (codes "td" ++ ((attributes_text colspan rowspan least) ++ 0x3E ∷ []))) false Td (numbers colspan rowspan least)
+  pub plain_start : IsTagText (0x3C ∷ (codes "td" ++ ((attributes_text colspan rowspan least) ++ 0x3E ∷ []))) false Td
+      (numbers colspan rowspan least)
   plain_start = cell_tag (codes "td") Td (refl, (refl, tt)) refl (λ all. refl)
 
-  pub head_start : IsTagText (0x3C ∷ (codes "th" ++ ((attributes_text colspan rowspan least) ++ 0x3E ∷ []))) false Th (numbers colspan rowspan least)
+  pub head_start : IsTagText (0x3C ∷ (codes "th" ++ ((attributes_text colspan rowspan least) ++ 0x3E ∷ []))) false Th
+      (numbers colspan rowspan least)
   head_start = cell_tag (codes "th") Th (refl, (refl, tt)) refl (λ all. refl)

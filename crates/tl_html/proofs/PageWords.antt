@@ -1,5 +1,6 @@
 -- Paragraphs on a page: the tags and texts that they are, and the same words read back.
-use Rattle.std.proofs.Common.{◌≡◌, ℕ, ◌<◌, Bool, true, false, cond, List, [], ◌∷◌, ◌++◌, map, length, refl, sym, ap, ◌∙◌, subst, append_assoc}
+use Rattle.std.proofs.Common.{◌≡◌, ℕ, ◌<◌, Bool, true, false, cond, List, [], ◌∷◌, ◌++◌, map, length, refl, sym, ap, ◌∙◌, subst}
+use Rattle.std.proofs.Common.{append_assoc}
 use Rattle.std.proofs.Common.{append-nil, arith, codes}
 use Rattle.std.specs.List.{AllByRecursion, flat_map, list_any}
 use Rattle.std.specs.Char.{is_ascii_whitespace}
@@ -57,11 +58,13 @@ end_item = record { mark = codes "</p>"; is_end = true; element = elements.P; sp
 abbrev pub paragraph_items : List Atom → List Item
 paragraph_items atoms = start_item (lead false atoms) ∷ (break_items atoms ++ end_item ∷ [])
 
-atoms_written : (follows : Bool) (atoms : List Atom) → atoms_html follows atoms ≡ flat_map escaped (lead follows atoms) ++ items_text (break_items atoms)
+atoms_written : (follows : Bool) (atoms : List Atom) → atoms_html follows atoms ≡ flat_map escaped
+    (lead follows atoms) ++ items_text (break_items atoms)
 atoms_written follows [] = refl
 atoms_written true (Word word ∷ atoms) =
     ap (λ (cs : List ℕ). 0x20 ∷ (flat_map escaped word ++ cs)) (atoms_written true atoms)
-    ∙ ap (λ (cs : List ℕ). 0x20 ∷ cs) (sym (append_assoc (flat_map escaped word) (flat_map escaped (lead true atoms)) (items_text (break_items atoms)))
+    ∙ ap (λ (cs : List ℕ). 0x20 ∷ cs) (sym (append_assoc (flat_map escaped word) (flat_map escaped (lead true atoms))
+    (items_text (break_items atoms)))
     ∙ ap (λ (cs : List ℕ). cs ++ items_text (break_items atoms)) (sym (flat_map-append escaped word (lead true atoms))))
 atoms_written false (Word word ∷ atoms) =
     ap (λ (cs : List ℕ). flat_map escaped word ++ cs) (atoms_written true atoms)
@@ -82,8 +85,10 @@ atoms_written false (Break ∷ atoms) = ap (λ (cs : List ℕ). codes "<br>" ++ 
 pub paragraph_written : (atoms : List Atom) → paragraph_html atoms ≡ items_text (paragraph_items atoms)
 paragraph_written atoms =
     ap (λ (cs : List ℕ). codes "<p>" ++ (cs ++ codes "</p>")) (atoms_written false atoms)
-    ∙ ap (λ (cs : List ℕ). codes "<p>" ++ cs) (append_assoc (flat_map escaped (lead false atoms)) (items_text (break_items atoms)) (codes "</p>")
-    ∙ ap (λ (cs : List ℕ). flat_map escaped (lead false atoms) ++ cs) (sym (flat_map-append item_text (break_items atoms) (end_item ∷ []))))
+    ∙ ap (λ (cs : List ℕ). codes "<p>" ++ cs) (append_assoc (flat_map escaped (lead false atoms))
+    (items_text (break_items atoms)) (codes "</p>")
+    ∙ ap (λ (cs : List ℕ). flat_map escaped (lead false atoms) ++ cs)
+    (sym (flat_map-append item_text (break_items atoms) (end_item ∷ []))))
 
 -- ---- units that are separated are written as their word
 
@@ -100,7 +105,8 @@ word_parts : (word : List ℕ) → IsSolid word → (first : List ℕ) × (other
 word_parts [] solid = absurd (omega (arith, solid.0))
 word_parts (c ∷ cs) solid = from (clusters_of (c ∷ cs)) (joined-clusters (c ∷ cs))
   where
-    from : (pieces : List (List ℕ)) → joined pieces ≡ c ∷ cs → (first : List ℕ) × (others : List (List ℕ)) × (pieces ≡ first ∷ others)
+    from : (pieces : List (List ℕ)) → joined pieces ≡ c ∷ cs →
+        (first : List ℕ) × (others : List (List ℕ)) × (pieces ≡ first ∷ others)
     from [] is = absurd (cc)
     from (first ∷ others) is = (first, others, refl)
 
@@ -121,7 +127,8 @@ word_break word rest = by_units (clusters_of word)
     by_units [] = refl
     by_units (first ∷ others) = glues_break others rest
 
-clusters_lead : (follows : Bool) (atoms : List Atom) → AllByRecursion IsSpelt atoms → lead follows (by_clusters atoms) ≡ lead follows atoms
+clusters_lead : (follows : Bool) (atoms : List Atom) → AllByRecursion IsSpelt atoms →
+    lead follows (by_clusters atoms) ≡ lead follows atoms
 clusters_lead follows [] spelt = refl
 clusters_lead follows (Word word ∷ atoms) spelt =
     word_lead follows word (by_clusters atoms) spelt.0
@@ -137,7 +144,8 @@ clusters_break (Break ∷ atoms) spelt =
     ap (λ (cs : List ℕ). break_item cs ∷ break_items (by_clusters atoms)) (clusters_lead false atoms spelt.1)
     ∙ ap (λ (items : List Item). break_item (lead false atoms) ∷ items) (clusters_break atoms spelt.1)
 
-pub clusters_items : (atoms : List Atom) → AllByRecursion IsSpelt atoms → paragraph_items (by_clusters atoms) ≡ paragraph_items atoms
+pub clusters_items : (atoms : List Atom) → AllByRecursion IsSpelt atoms →
+    paragraph_items (by_clusters atoms) ≡ paragraph_items atoms
 clusters_items atoms spelt =
     ap (λ (cs : List ℕ). start_item cs ∷ (break_items (by_clusters atoms) ++ end_item ∷ [])) (clusters_lead false atoms spelt)
     ∙ ap (λ (items : List Item). start_item (lead false atoms) ∷ (items ++ end_item ∷ [])) (clusters_break atoms spelt)
@@ -154,12 +162,15 @@ fine_append (x ∷ xs) ys one two = (one.0, fine_append xs ys one.1 two)
 
 lead_fine : (follows : Bool) (atoms : List Atom) → AllByRecursion IsPlainAtom atoms → AreFine (lead follows atoms)
 lead_fine follows [] plain = tt
-lead_fine true (Word word ∷ atoms) plain = (refl, fine_append word (lead true atoms) (fine_text word plain.0) (lead_fine true atoms plain.1))
-lead_fine false (Word word ∷ atoms) plain = fine_append word (lead true atoms) (fine_text word plain.0) (lead_fine true atoms plain.1)
+lead_fine true (Word word ∷ atoms) plain =
+    (refl, fine_append word (lead true atoms) (fine_text word plain.0) (lead_fine true atoms plain.1))
+lead_fine false (Word word ∷ atoms) plain = fine_append word (lead true atoms) (fine_text word plain.0)
+    (lead_fine true atoms plain.1)
 lead_fine follows (Glue unit ∷ atoms) plain = absurd plain.0
 lead_fine follows (Break ∷ atoms) plain = tt
 
-breaks_are_items : (atoms : List Atom) → AllByRecursion IsPlainAtom atoms → AllByRecursion IsItem (break_items atoms ++ end_item ∷ [])
+breaks_are_items : (atoms : List Atom) → AllByRecursion IsPlainAtom atoms →
+    AllByRecursion IsItem (break_items atoms ++ end_item ∷ [])
 breaks_are_items [] plain = ((paragraph_end, tt), tt)
 breaks_are_items (Word word ∷ atoms) plain = breaks_are_items atoms plain.1
 breaks_are_items (Glue unit ∷ atoms) plain = absurd plain.0
@@ -200,7 +211,8 @@ abbrev pub NoGlue : Atom → Type 0
 NoGlue atom = IsSpelt atom × IsPlainAtom atom
 
 -- the words that come once the open word and these marks are read
-words_back : (atoms : List Atom) (follows : Bool) (list : List Atom) (word : List ℕ) → (follows ≡ false → word ≡ []) → AllByRecursion NoGlue atoms →
+words_back : (atoms : List Atom) (follows : Bool) (list : List Atom) (word : List ℕ) → (follows ≡ false → word ≡ []) →
+    AllByRecursion NoGlue atoms →
     atoms_from list word (map character (lead follows atoms) ++ break_marks atoms) ≡ (list ++ open_atoms word) ++ atoms
 words_back [] follows list word none fine = read_end list word ∙ sym (append-nil (list ++ open_atoms word))
 words_back (Word next ∷ atoms) true list word none fine =
@@ -265,19 +277,23 @@ item_goes : (mark : List ℕ) (cs : List ℕ) (tag : Kind) (m : Mark) → GoesOn
 item_goes mark cs tag m one = goes_append (tag ∷ []) (map class_of (text_kinds cs)) (m ∷ []) (map character cs) one (text_goes cs)
 
 pub kinds_append : (xs ys : List Item) → grammar_kinds (xs ++ ys) ≡ grammar_kinds xs ++ grammar_kinds ys
-kinds_append xs ys = ap (map class_of) (flat_map-append item_kinds xs ys) ∙ map-append class_of (flat_map item_kinds xs) (flat_map item_kinds ys)
+kinds_append xs ys = ap (map class_of) (flat_map-append item_kinds xs ys) ∙ map-append class_of (flat_map item_kinds xs)
+    (flat_map item_kinds ys)
 
 pub kinds_cons : (x : Item) (ys : List Item) → grammar_kinds (x ∷ ys) ≡ map class_of (item_kinds x) ++ grammar_kinds ys
 kinds_cons x ys = map-append class_of (item_kinds x) (flat_map item_kinds ys)
 
-breaks_go : (atoms : List Atom) → GoesOn (grammar_kinds (break_items atoms ++ end_item ∷ [])) (break_marks atoms ++ marks.paragraph_ends ∷ [])
+breaks_go : (atoms : List Atom) → GoesOn (grammar_kinds (break_items atoms ++ end_item ∷ []))
+    (break_marks atoms ++ marks.paragraph_ends ∷ [])
 breaks_go [] = λ k1 rest m1 more flow. edge flow
 breaks_go (Word word ∷ atoms) = breaks_go atoms
 breaks_go (Glue unit ∷ atoms) = breaks_go atoms
 breaks_go (Break ∷ atoms) =
-    subst (λ (ks : Kinds). GoesOn ks (line_break ∷ (map character (lead false atoms) ++ break_marks atoms) ++ marks.paragraph_ends ∷ []))
+    subst (λ (ks : Kinds). GoesOn ks (line_break ∷ (map character
+    (lead false atoms) ++ break_marks atoms) ++ marks.paragraph_ends ∷ []))
     (sym (kinds_cons (break_item (lead false atoms)) (break_items atoms ++ end_item ∷ [])))
-    (subst (λ (ms : Marks). GoesOn (map class_of (item_kinds (break_item (lead false atoms))) ++ grammar_kinds (break_items atoms ++ end_item ∷ []))
+    (subst (λ (ms : Marks). GoesOn (map class_of (item_kinds (break_item (lead false atoms))) ++ grammar_kinds
+    (break_items atoms ++ end_item ∷ []))
     (line_break ∷ ms))
     (sym (append_assoc (map character (lead false atoms)) (break_marks atoms) (marks.paragraph_ends ∷ [])))
     (goes_append (map class_of (item_kinds (break_item (lead false atoms)))) (grammar_kinds (break_items atoms ++ end_item ∷ []))
@@ -290,8 +306,10 @@ paragraph_marks atoms = marks.paragraph_ends ∷ (line_marks atoms ++ marks.para
 
 pub paragraph_goes : (atoms : List Atom) → GoesOn (grammar_kinds (paragraph_items atoms)) (paragraph_marks atoms)
 paragraph_goes atoms =
-    subst (λ (ks : Kinds). GoesOn ks (paragraph_marks atoms)) (sym (kinds_cons (start_item (lead false atoms)) (break_items atoms ++ end_item ∷ [])))
-    (subst (λ (ms : Marks). GoesOn (map class_of (item_kinds (start_item (lead false atoms))) ++ grammar_kinds (break_items atoms ++ end_item ∷ []))
+    subst (λ (ks : Kinds). GoesOn ks (paragraph_marks atoms))
+    (sym (kinds_cons (start_item (lead false atoms)) (break_items atoms ++ end_item ∷ [])))
+    (subst (λ (ms : Marks). GoesOn (map class_of (item_kinds (start_item (lead false atoms))) ++ grammar_kinds
+    (break_items atoms ++ end_item ∷ []))
     (marks.paragraph_ends ∷ ms))
     (sym (append_assoc (map character (lead false atoms)) (break_marks atoms) (marks.paragraph_ends ∷ [])))
     (goes_append (map class_of (item_kinds (start_item (lead false atoms)))) (grammar_kinds (break_items atoms ++ end_item ∷ []))
@@ -345,13 +363,17 @@ pub paragraph_stands : (k : ℕ) (atoms : List Atom) → 0 < length atoms → Al
 paragraph_stands k [] some fine = absurd (omega arith)
 paragraph_stands k (atom ∷ atoms) some fine =
     let all = atom ∷ atoms in
-    let line : AllByRecursion IsLineMark (line_marks all) = letters_in_line (lead false all) (break_marks all) (breaks_in_line all) in
+    let line : AllByRecursion IsLineMark (line_marks all) = letters_in_line (lead false all) (break_marks all)
+    (breaks_in_line all) in
     record {
       sharp = λ later sharp. refl;
       same = λ later sharp.
-          ap (λ (ms : Marks). paragraph_of (atoms_of (leading ms)) ++ entries_after k ms) (append_assoc (line_marks all) (marks.paragraph_ends ∷ []) later)
+          ap (λ (ms : Marks). paragraph_of (atoms_of (leading ms)) ++ entries_after k ms)
+          (append_assoc (line_marks all) (marks.paragraph_ends ∷ []) later)
           ∙ ap (λ (ms : Marks). paragraph_of (atoms_of ms) ++ entries_after k (line_marks all ++ marks.paragraph_ends ∷ later))
           (line_leads (line_marks all) (marks.paragraph_ends ∷ later) line refl)
-          ∙ ap (λ (l : List Atom). paragraph_of l ++ entries_after k (line_marks all ++ marks.paragraph_ends ∷ later)) (atoms_back all fine)
-          ∙ ap (λ (es : Entries). paragraph all ∷ es) (line_passed k (line_marks all) (marks.paragraph_ends ∷ later) line ∙ ends_sharp k later sharp);
+          ∙ ap (λ (l : List Atom). paragraph_of l ++ entries_after k (line_marks all ++ marks.paragraph_ends ∷ later))
+          (atoms_back all fine)
+          ∙ ap (λ (es : Entries). paragraph all ∷ es) (line_passed k (line_marks all) (marks.paragraph_ends ∷ later)
+          line ∙ ends_sharp k later sharp);
     }

@@ -12,9 +12,9 @@ use Rattle.tl_tree.specs.Paragraphs.{leading, atoms_of, paragraph_of, entries_af
 use Rattle.tl_tree.specs.Sound.{AreSound}
 use Rattle.tl_tree.specs.Tags.{Kinds, class_of, kinds, table_end, text}
 use Rattle.tl_tree.specs.declared.node.TableNode.{TableNode}
-use Rattle.tl_form.specs.declared.cell.Table.{Table, fold_out-Table}
-use Rattle.tl_form.specs.declared.layout.Layout.{Layout}
-use Rattle.tl_form.specs.Formed.{BecomesWithin}
+use Rattle.tl_table.specs.declared.cell.Table.{Table, fold_out-Table}
+use Rattle.tl_table.specs.declared.layout.Layout.{Layout}
+use Rattle.tl_table.specs.Formed.{BecomesWithin}
 use Rattle.tl_html.specs.Alike.{AreAlikeWithin}
 use Rattle.tl_html.specs.Html.{Block, Cell, block_page, table_page, cell_page, html_of}
 use Rattle.tl_html.specs.Laws.{PageReadsBack}
@@ -26,8 +26,10 @@ use Rattle.tl_html.proofs.Blocks.{TableBack, last_item}
 use Rattle.tl_html.proofs.TableAgain.{table_again}
 
 -- a table with others nested in it
-within_back : (depth deep : ℕ) (breaking : Breaking) (node : TableNode) (table : Table) (layout : Layout) (k : ℕ) → BecomesWithin depth breaking node table →
-    AreSound (outline node) → HasColumnsWithin deep table layout → TableBack (BecomesWithin depth breaking) (AreAlikeWithin depth) table layout k
+within_back : (depth deep : ℕ) (breaking : Breaking) (node : TableNode) (table : Table) (layout : Layout) (k : ℕ) →
+    BecomesWithin depth breaking node table →
+    AreSound (outline node) → HasColumnsWithin deep table layout →
+    TableBack (BecomesWithin depth breaking) (AreAlikeWithin depth) table layout k
 within_back zero deep breaking node table layout k becomes sound fits = absurd becomes
 within_back (suc depth) zero breaking node table layout k becomes sound fits = absurd fits
 within_back (suc depth) (suc deep) breaking node table layout k becomes sound fits =
@@ -36,8 +38,11 @@ within_back (suc depth) (suc deep) breaking node table layout k becomes sound fi
 
 -- a page begins with a tag
 begins : (table : Table) (layout : Layout) → (rest : List ℕ) × (html_of table layout ≡ 0x3C ∷ rest)
-begins table layout =
-    (_, ap (λ (page : Layout → List ℕ). page layout) (fold_out-Table Block (Layout → List ℕ) Cell block_page table_page cell_page table))
+begins table layout = (
+  _,
+  ap (λ (page : Layout → List ℕ). page layout) (fold_out-Table Block (Layout →
+      List ℕ) Cell block_page table_page cell_page table),
+)
 
 kinds_are : (tokens : List Token) → kinds tokens ≡ map class_of (map kind_of tokens)
 kinds_are [] = refl
@@ -47,7 +52,8 @@ pub reads_back : PageReadsBack
 reads_back table layout bytes page breaking node tree becomes columns =
     let t = within_back becomes.0 columns.0 breaking node table layout 0 becomes.1 tree.sound columns.1 in
     let items : List Item = t.prefix ++ last_item ∷ [] in
-    let all : AllByRecursion IsItem items = AllByRecursion-append IsItem t.prefix (last_item ∷ []) t.are ((page_tags.table_end, (refl, tt)), tt) in
+    let all : AllByRecursion IsItem items = AllByRecursion-append IsItem t.prefix (last_item ∷ []) t.are
+    ((page_tags.table_end, (refl, tt)), tt) in
     let begun = begins table layout in
     let first = page.1 ∙ begun.1 in
     let (tokens, spelt) = items_spelt bytes items page.0 (page.1 ∙ t.written) (ap without_mark first ∙ sym first) all in
@@ -56,7 +62,8 @@ reads_back table layout bytes page breaking node tree becomes columns =
     ∙ kinds_append t.prefix (last_item ∷ []) in
     let whole : grammar.Table (kinds tokens) t.ms feed [] =
     subst (λ (ks : Kinds). grammar.Table ks t.ms feed []) (sym read)
-    (subst (λ (ms : Marks). grammar.Table (grammar_kinds t.prefix ++ (table_end ∷ feed)) ms feed []) (append-nil t.ms) (t.reads feed [])) in
+    (subst (λ (ms : Marks). grammar.Table (grammar_kinds t.prefix ++ (table_end ∷ feed)) ms feed []) (append-nil t.ms)
+    (t.reads feed [])) in
     let sharp : leading t.ms ≡ [] = subst (λ (ms : Marks). leading ms ≡ []) (append-nil t.ms) (t.sharp []) in
     let same : entries_of 0 t.ms ≡ outline t.node =
     ap (λ (ms : Marks). paragraph_of (atoms_of ms) ++ entries_after 0 t.ms) sharp
@@ -68,7 +75,14 @@ reads_back table layout bytes page breaking node tree becomes columns =
         node = t.node;
         read = record {
           marks = t.ms;
-          document = record { before = kinds tokens; after = feed; led = no_outer; whole = whole; followed = outer_space refl no_outer };
+          document = record {
+            before = kinds tokens;
+            after = feed;
+            led = no_outer;
+            whole = whole;
+            followed =
+                outer_space refl no_outer;
+          };
           same = sym same;
         };
         formed = (becomes.0, t.become);

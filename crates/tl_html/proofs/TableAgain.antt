@@ -1,5 +1,6 @@
 -- A table on a page, and the same table read back, where the tables nested in it are read back.
-use Rattle.std.proofs.Common.{◌≡◌, ◌∙◌, ℕ, zero, suc, ◌+◌, ◌-◌, ◌<◌, ◌≤◌, max, false, Option, Some, None, List, [], ◌∷◌, ◌++◌, map, length, Contains}
+use Rattle.std.proofs.Common.{◌≡◌, ◌∙◌, ℕ, zero, suc, ◌+◌, ◌-◌, ◌<◌, ◌≤◌, max, false, Option, Some, None, List, [], ◌∷◌, ◌++◌}
+use Rattle.std.proofs.Common.{map, length, Contains}
 use Rattle.std.proofs.Common.{refl, sym, ap, subst, inl, inr, arith, append_assoc, append-nil, codes}
 use Rattle.std.specs.List.{AllByRecursion, AllPairs, AllZip, flat_map, range_with_len}
 use Rattle.std.proofs.lemmas.List.{map-append, length-map, length-append}
@@ -21,33 +22,34 @@ use Rattle.tl_token.specs.Elements.{no_spans}
 use Rattle.tl_token.specs.declared.token.Element.TheVariants as elements
 use Rattle.tl_tree.specs.Grammar.{Marks, no_space, space}
 use Rattle.tl_tree.specs.Grammar as grammar
-use Rattle.tl_tree.specs.Outline.{Entries, columns, cell_outline, outline}
+use Rattle.tl_tree.specs.Outline.{Entries, columns, cell_outline, outline, caption_outline}
 use Rattle.tl_tree.specs.Outline as entries
 use Rattle.tl_tree.specs.Paragraphs.{leading, atoms_of, paragraph_of, entries_after, entries_of}
 use Rattle.tl_tree.specs.Sound.{AreSound}
 use Rattle.tl_tree.specs.Tags.{Kinds, table_start, table_end, text}
-use Rattle.tl_tree.specs.inner.Reading.{caption_outline}
 use Rattle.tl_tree.specs.declared.node.Block.{Block}
 use Rattle.tl_tree.specs.declared.node.CellNode.{CellNode, out-CellNode}
 use Rattle.tl_tree.specs.declared.node.GroupNode.{GroupNode, out-GroupNode, out-roll-GroupNode}
 use Rattle.tl_tree.specs.declared.node.Part.TheVariants as parts
 use Rattle.tl_tree.specs.declared.node.TableNode.{TableNode, out-TableNode, roll-TableNode, out-roll-TableNode}
 use Rattle.tl_tree.proofs.Outlines.{table_made}
-use Rattle.tl_form.specs.declared.cell.Table.{Table, out-Table, roll-Table, out-roll-Table, fold_out-Table}
-use Rattle.tl_form.specs.declared.cell.TableCell.{TableCell, out-TableCell}
-use Rattle.tl_form.specs.declared.layout.Layout.{Layout, out-Layout}
-use Rattle.tl_form.specs.Layouts.{OpenLayout}
-use Rattle.tl_form.specs.Tables.{OpenTable, tables_in}
-use Rattle.tl_form.specs.Formed.{OpenNode, OpenGroup, BecomesCell, BecomeCells, BecomesBy, caption_rows, cells_of_group, cells_written, group_shape}
-use Rattle.tl_form.specs.Formed.{is_foot, lowered, span_of}
-use Rattle.tl_form.specs.Same.{AreSameCell}
-use Rattle.tl_form.specs.Sound.{ComesBefore, place_of, places_of}
-use Rattle.tl_form.proofs.SoundParts.{each_joined}
-use Rattle.tl_form.proofs.SoundNodes.{table_groups, table_caption, groups_outline}
-use Rattle.tl_form.proofs.SoundFormed.{flat_groups}
+use Rattle.tl_table.specs.declared.cell.Table.{Table, out-Table, roll-Table, out-roll-Table, fold_out-Table}
+use Rattle.tl_table.specs.declared.cell.TableCell.{TableCell, out-TableCell}
+use Rattle.tl_table.specs.declared.layout.Layout.{Layout, out-Layout}
+use Rattle.tl_table.specs.Layouts.{OpenLayout}
+use Rattle.tl_table.specs.Tables.{OpenTable, tables_in}
+use Rattle.tl_table.specs.Formed.{OpenNode, OpenGroup, BecomesCell, BecomeCells, BecomesBy, caption_rows, cells_of_group}
+use Rattle.tl_table.specs.Formed.{cells_written, group_shape}
+use Rattle.tl_table.specs.Formed.{is_foot, lowered, span_of}
+use Rattle.tl_table.specs.Same.{AreSameCell}
+use Rattle.tl_table.specs.Sound.{ComesBefore, place_of, places_of}
+use Rattle.tl_table.proofs.SoundParts.{each_joined}
+use Rattle.tl_table.proofs.SoundNodes.{table_groups, table_caption, groups_outline}
+use Rattle.tl_table.proofs.SoundFormed.{flat_groups}
 use Rattle.tl_html.specs.declared.filled.Filled.{Filled}
 use Rattle.tl_html.specs.Alike.{AreAlikeBy}
-use Rattle.tl_html.specs.Html.{Cell, fill, block_page, table_page, cell_page, cell_of, html_of, caption_line, caption_html, columns_html, row_html}
+use Rattle.tl_html.specs.Html.{Cell, fill, block_page, table_page, cell_page, cell_of, html_of, caption_line, caption_html}
+use Rattle.tl_html.specs.Html.{columns_html, row_html}
 use Rattle.tl_html.specs.Html.{rows_html, line}
 use Rattle.tl_html.specs.Html as html
 use Rattle.tl_html.specs.Readable.{HasColumnsBy}
@@ -60,7 +62,8 @@ use Rattle.tl_html.proofs.Blocks.{TableBack, last_item, stand_append}
 use Rattle.tl_html.proofs.Cells.{HasRows, IsBelow, RowsBack, rows_back, joined}
 use Rattle.tl_html.proofs.TableRows.{raised, lowered_raised, InRow, InRows}
 use Rattle.tl_html.proofs.TableRows as table_rows
-use Rattle.tl_html.proofs.TableParts.{BeginInRows, rows_written, no_captions, columns_items, columns_are, columns_written, columns_read}
+use Rattle.tl_html.proofs.TableParts.{BeginInRows, rows_written, no_captions, columns_items, columns_are, columns_written}
+use Rattle.tl_html.proofs.TableParts.{columns_read}
 use Rattle.tl_html.proofs.TableParts.{part_marks, groups_of, group_of, parts_read, parts_stand, CaptionBack, caption_back}
 
 -- ---- lists of lists
@@ -69,7 +72,8 @@ joined_map : {X Y : Type 0} (f : X → Y) (rows : List (List X)) → joined (map
 joined_map f [] = refl
 joined_map f (row ∷ rows) = ap (λ rest. map f row ++ rest) (joined_map f rows) ∙ sym (map-append f row (joined rows))
 
-begin_in_rows : (r : ℕ) (filled : List (List Filled)) (rows : List (List TableCell)) → map (map (λ (f : Filled). f.place)) filled ≡ map (map place_of) rows →
+begin_in_rows : (r : ℕ) (filled : List (List Filled)) (rows : List (List TableCell)) →
+    map (map (λ (f : Filled). f.place)) filled ≡ map (map place_of) rows →
     InRows r rows → BeginInRows r filled
 begin_in_rows r [] rows same level = tt
 begin_in_rows r (fs ∷ filled) [] same level = absurd (cc)
@@ -87,9 +91,11 @@ begin_in_rows r (fs ∷ filled) (cells ∷ rows) same level =
         let later : map (λ (f : Filled). f.place) gs ≡ map place_of cs = cc in
         (ap (λ (p : Place). p.top) here ∙ all.0, one gs cs later all.1)
 
-length_rows : (filled : List (List Filled)) (rows : List (List TableCell)) → map (map (λ (f : Filled). f.place)) filled ≡ map (map place_of) rows →
+length_rows : (filled : List (List Filled)) (rows : List (List TableCell)) →
+    map (map (λ (f : Filled). f.place)) filled ≡ map (map place_of) rows →
     length filled ≡ length rows
-length_rows filled rows same = sym (length-map filled (map (λ (f : Filled). f.place))) ∙ ap length same ∙ length-map rows (map place_of)
+length_rows filled rows same = sym (length-map filled (map (λ (f : Filled). f.place))) ∙ ap length same ∙ length-map rows
+    (map place_of)
 
 one_row : (caption : Option (List Block)) → caption_rows caption ≤ 1
 one_row None = omega arith
@@ -115,10 +121,13 @@ regroup t c w r l = simp append_assoc
 regroup_kinds : (c w r l : Kinds) → (c ++ (w ++ r)) ++ l ≡ c ++ (w ++ (r ++ l))
 regroup_kinds c w r l = simp append_assoc
 
-module _ (breaking : Breaking) (forms : TableNode → Table → Type 0) (alike : Table → Table → Type 0) (has : Table → Layout → Type 0)
-    (inside : (node : TableNode) (table : Table) (layout : Layout) (k : ℕ) → forms node table → AreSound (outline node) → has table layout →
+module _ (breaking : Breaking) (forms : TableNode → Table → Type 0) (alike : Table → Table → Type 0) (has : Table → Layout →
+    Type 0)
+    (inside : (node : TableNode) (table : Table) (layout : Layout) (k : ℕ) → forms node table → AreSound (outline node) →
+    has table layout →
     TableBack forms alike table layout k) where
-  module _ (node : TableNode) (table : Table) (layout : Layout) (k : ℕ) (becomes : BecomesBy forms breaking (out-TableNode node) (out-Table table))
+  module _ (node : TableNode) (table : Table) (layout : Layout) (k : ℕ)
+      (becomes : BecomesBy forms breaking (out-TableNode node) (out-Table table))
       (sound : AreSound (outline node)) (fits : HasColumnsBy has (out-Table table) (out-Layout layout)) where
     abbrev T : OpenTable
     T = out-Table table
@@ -147,7 +156,8 @@ module _ (breaking : Breaking) (forms : TableNode → Table → Type 0) (alike :
     is_below : (c : TableCell) → Contains below c → IsBelow breaking forms alike has inside c
     is_below c there =
         let from = comes_from forms breaking (cells_written (out-TableNode node)) becomes.written becomes.cells
-        (flat_groups (out-TableNode node).groups (table_groups node sound)) c (table_rows.below_written breaking forms node T sound becomes c there) in
+        (flat_groups (out-TableNode node).groups (table_groups node sound)) c
+        (table_rows.below_written breaking forms node T sound becomes c there) in
         let under = table_rows.under_caption breaking forms node T sound becomes c there in
         let lies = under.1 in
         let few : grid.cols ≤ MAX_COLUMNS = omega (arith, becomes.has_grid.columns, becomes.has_grid.few_columns) in
@@ -169,12 +179,14 @@ module _ (breaking : Breaking) (forms : TableNode → Table → Type 0) (alike :
     -- ---- the parts
 
     tables_are : flat_map (λ c. tables_in (out-TableCell c)) T.cells ≡
-        flat_map (λ c. tables_in (out-TableCell c)) becomes.caption ++ (flat_map (λ c. tables_in (out-TableCell c)) (joined rows) ++ [])
+        flat_map (λ c. tables_in (out-TableCell c)) becomes.caption ++
+        (flat_map (λ c. tables_in (out-TableCell c)) (joined rows) ++ [])
     tables_are =
         ap (flat_map (λ c. tables_in (out-TableCell c))) (table_rows.cells_split breaking forms node T sound becomes)
         ∙ flat_map-append (λ c. tables_in (out-TableCell c)) becomes.caption below
         ∙ ap (λ (ts : List Table). flat_map (λ c. tables_in (out-TableCell c)) becomes.caption ++ ts)
-        (ap (flat_map (λ c. tables_in (out-TableCell c))) (sym by_rows.1) ∙ sym (append-nil (flat_map (λ c. tables_in (out-TableCell c)) (joined rows))))
+        (ap (flat_map (λ c. tables_in (out-TableCell c))) (sym by_rows.1) ∙ sym
+        (append-nil (flat_map (λ c. tables_in (out-TableCell c)) (joined rows))))
 
     cap : CaptionBack breaking forms alike has inside T.cols down becomes.caption L.inner
         (flat_map (λ c. tables_in (out-TableCell c)) (joined rows) ++ []) (k + 1)
@@ -183,7 +195,8 @@ module _ (breaking : Breaking) (forms : TableNode → Table → Type 0) (alike :
         (λ flow is. table_caption node flow is sound) (subst (λ (ts : List Table). AllZip has ts L.inner) tables_are fits.inner)
 
     rest : RowsBack breaking forms alike has inside rows cap.layouts [] cap.next
-    rest = rows_back breaking forms alike has inside rows cap.layouts [] cap.next (all_below (IsBelow breaking forms alike has inside) is_below) cap.left
+    rest = rows_back breaking forms alike has inside rows cap.layouts [] cap.next
+        (all_below (IsBelow breaking forms alike has inside) is_below) cap.left
 
     -- ---- the page
 
@@ -206,7 +219,8 @@ module _ (breaking : Breaking) (forms : TableNode → Table → Type 0) (alike :
 
     rows_are : rows_html T.rows filled ≡ items_text rest.items
     rows_are =
-        let many : T.rows - down ≡ length rest.filled = omega (arith, becomes.rows, by_rows.2, length_rows rest.filled rows rest.at) in
+        let many : T.rows - down ≡ length rest.filled = omega
+        (arith, becomes.rows, by_rows.2, length_rows rest.filled rows rest.at) in
         ap (λ n. flat_map (row_html filled) (range_with_len n (T.rows - n))) (cap.counted rest.filled rest.plain)
         ∙ ap (λ n. flat_map (row_html filled) (range_with_len down n)) many
         ∙ rows_written cap.filled rest.filled down cap.tops (begin_in_rows down rest.filled rows rest.at by_rows.3)
@@ -222,16 +236,20 @@ module _ (breaking : Breaking) (forms : TableNode → Table → Type 0) (alike :
     page_is =
         let start : List ℕ = line (codes "<table>") in
         let end : List ℕ = line (codes "</table>") in
-        ap (λ (page : Layout → List ℕ). page layout) (fold_out-Table html.Block (Layout → List ℕ) Cell block_page table_page cell_page table)
-        ∙ ap (λ (fs : List Filled). (((start ++ caption_html fs) ++ columns_html L.widths) ++ rows_html T.rows fs) ++ end) filled_is
+        ap (λ (page : Layout → List ℕ). page layout) (fold_out-Table html.Block (Layout →
+        List ℕ) Cell block_page table_page cell_page table)
+        ∙ ap (λ (fs : List Filled). (((start ++ caption_html fs) ++ columns_html L.widths) ++ rows_html T.rows fs) ++ end)
+        filled_is
         ∙ ap (λ (cs : List ℕ). (((start ++ cs) ++ columns_html L.widths) ++ rows_html T.rows filled) ++ end) caption_is
-        ∙ ap (λ (cs : List ℕ). (((start ++ items_text cap.items) ++ cs) ++ rows_html T.rows filled) ++ end) (columns_written L.widths)
+        ∙ ap (λ (cs : List ℕ). (((start ++ items_text cap.items) ++ cs) ++ rows_html T.rows filled) ++ end)
+        (columns_written L.widths)
         ∙ ap (λ (cs : List ℕ). (((start ++ items_text cap.items) ++ items_text (columns_items L.widths)) ++ cs) ++ end) rows_are
         ∙ regroup start (items_text cap.items) (items_text (columns_items L.widths)) (items_text rest.items) end
         ∙ ap (λ (cs : List ℕ). start ++ (cs ++ end)) (
         ap (λ (cs : List ℕ). items_text cap.items ++ cs) (sym (flat_map-append item_text (columns_items L.widths) rest.items))
         ∙ sym (flat_map-append item_text cap.items (columns_items L.widths ++ rest.items)))
-        ∙ ap (λ (cs : List ℕ). start ++ cs) (sym (flat_map-append item_text (cap.items ++ (columns_items L.widths ++ rest.items)) (last_item ∷ [])))
+        ∙ ap (λ (cs : List ℕ). start ++ cs) (sym (flat_map-append item_text
+        (cap.items ++ (columns_items L.widths ++ rest.items)) (last_item ∷ [])))
 
     -- ---- the grammar
 
@@ -250,7 +268,8 @@ module _ (breaking : Breaking) (forms : TableNode → Table → Type 0) (alike :
     reads after more =
         let wide = grammar_kinds (columns_items L.widths) in
         let split : grammar_kinds prefix ++ table_end ∷ after ≡
-        table_start ∷ text (0x0A ∷ []) ∷ (grammar_kinds cap.items ++ (wide ++ (grammar_kinds rest.items ++ (table_end ∷ after)))) =
+        table_start ∷ text (0x0A ∷ []) ∷ (grammar_kinds cap.items ++
+        (wide ++ (grammar_kinds rest.items ++ (table_end ∷ after)))) =
         ap (λ (ks : Kinds). table_start ∷ text (0x0A ∷ []) ∷ (ks ++ (table_end ∷ after))) (
         kinds_append cap.items (columns_items L.widths ++ rest.items)
         ∙ ap (λ (ks : Kinds). grammar_kinds cap.items ++ ks) (kinds_append (columns_items L.widths) rest.items))
@@ -289,7 +308,8 @@ module _ (breaking : Breaking) (forms : TableNode → Table → Type 0) (alike :
     outline_is : outline made ≡ entries.table k ∷ (inner_entries ++ entries.table_end ∷ [])
     unfolding made
     outline_is = table_made k cap.flow T.cols groups
-        ∙ ap (λ (es : Entries). entries.table k ∷ es) (sym (append_assoc (caption_outline cap.flow) (columns T.cols ∷ groups_outline groups)
+        ∙ ap (λ (es : Entries). entries.table k ∷ es) (sym (append_assoc (caption_outline cap.flow)
+        (columns T.cols ∷ groups_outline groups)
         (entries.table_end ∷ [])))
 
     columns_stand : (l : ℕ) → StandFor l (grammar.columns T.cols ∷ []) (columns T.cols ∷ []) l
@@ -299,16 +319,19 @@ module _ (breaking : Breaking) (forms : TableNode → Table → Type 0) (alike :
     }
 
     body_stands : StandFor (k + 1) body inner_entries rest.next
-    body_stands = stand_append (k + 1) cap.next rest.next cap.ms (grammar.columns T.cols ∷ part_marks rows rest.ms) (caption_outline cap.flow)
+    body_stands = stand_append (k + 1) cap.next rest.next cap.ms (grammar.columns T.cols ∷ part_marks rows rest.ms)
+        (caption_outline cap.flow)
         (columns T.cols ∷ groups_outline groups) cap.stand
-        (stand_append cap.next cap.next rest.next (grammar.columns T.cols ∷ []) (part_marks rows rest.ms) (columns T.cols ∷ []) (groups_outline groups)
+        (stand_append cap.next cap.next rest.next (grammar.columns T.cols ∷ []) (part_marks rows rest.ms) (columns T.cols ∷ [])
+        (groups_outline groups)
         (columns_stand cap.next) (parts_stand rows rest.items rest.ms rest.nodes cap.next rest.next rest.begun rest.stand))
 
     stands : (later : Marks) → entries_after k (marks ++ later) ≡ outline made ++ entries_of rest.next later
     stands later =
         ap (λ (ms : Marks). entries.table k ∷ (paragraph_of (atoms_of (leading ms)) ++ entries_after (k + 1) ms))
         (append_assoc body (grammar.table_ends ∷ []) later)
-        ∙ ap (λ (ms : Marks). entries.table k ∷ (paragraph_of (atoms_of ms) ++ entries_after (k + 1) (body ++ (grammar.table_ends ∷ later))))
+        ∙ ap (λ (ms : Marks). entries.table k ∷ (paragraph_of (atoms_of ms) ++ entries_after (k + 1)
+        (body ++ (grammar.table_ends ∷ later))))
         (body_stands.sharp (grammar.table_ends ∷ later) refl)
         ∙ ap (λ (es : Entries). entries.table k ∷ es) (body_stands.same (grammar.table_ends ∷ later) refl
         ∙ sym (append_assoc inner_entries (entries.table_end ∷ []) (entries_of rest.next later)))
@@ -341,19 +364,22 @@ module _ (breaking : Breaking) (forms : TableNode → Table → Type 0) (alike :
         one [] all = tt
         one (c ∷ cs) all = (omega (arith, all.0), one cs all.1)
 
-    span_up : (c : TableCell) → down ≤ (place_of c).top → (place_of c).top < (place_of c).bottom → span_at (place_of c) ≡ span_at (up c)
+    span_up : (c : TableCell) → down ≤ (place_of c).top → (place_of c).top < (place_of c).bottom →
+        span_at (place_of c) ≡ span_at (up c)
     span_up c low high =
         let same : (place_of c).bottom - (place_of c).top ≡ (up c).bottom - (up c).top = omega arith in
         λ i. record { colspan = (place_of c).right - (place_of c).left; rowspan = same i }
 
-    spans_up : (rs : List (List TableCell)) → AllByRecursion (AllByRecursion (λ c. (down ≤ (place_of c).top) × ((place_of c).top < (place_of c).bottom))) rs →
+    spans_up : (rs : List (List TableCell)) → AllByRecursion
+        (AllByRecursion (λ c. (down ≤ (place_of c).top) × ((place_of c).top < (place_of c).bottom))) rs →
         map (map (λ c. span_at (place_of c))) rs ≡ map (map span_at) (map (map up) rs)
     spans_up [] all = refl
     spans_up (cells ∷ rs) all =
         ap (λ (ss : List SpanOf). ss ∷ map (map (λ c. span_at (place_of c))) rs) (one cells all.0)
         ∙ ap (λ (sss : List (List SpanOf)). map span_at (map up cells) ∷ sss) (spans_up rs all.1)
       where
-        one : (cs : List TableCell) → AllByRecursion (λ c. (down ≤ (place_of c).top) × ((place_of c).top < (place_of c).bottom)) cs →
+        one : (cs : List TableCell) → AllByRecursion (λ c. (down ≤ (place_of c).top) × ((place_of c).top < (place_of c).bottom))
+            cs →
             map (λ c. span_at (place_of c)) cs ≡ map span_at (map up cs)
         one [] each = refl
         one (c ∷ cs) each =
@@ -365,11 +391,13 @@ module _ (breaking : Breaking) (forms : TableNode → Table → Type 0) (alike :
         let under = table_rows.under_caption breaking forms node T sound becomes c there in
         (under.0, omega (arith, under.0, under.1.2))
 
-    lowers_back : (cells : List TableCell) → AllByRecursion (λ c. (down ≤ (place_of c).top) × ((place_of c).top < (place_of c).bottom)) cells →
+    lowers_back : (cells : List TableCell) → AllByRecursion (λ c. (down ≤ (place_of c).top) ×
+        ((place_of c).top < (place_of c).bottom)) cells →
         map place_of cells ≡ map (lowered down) (map (raised down) (map place_of cells))
     lowers_back [] all = refl
     lowers_back (c ∷ cells) all =
-        ap (λ (p : Place). p ∷ map place_of cells) (sym (lowered_raised down (place_of c) all.0.0 (omega (arith, all.0.0, all.0.1))))
+        ap (λ (p : Place). p ∷ map place_of cells) (sym (lowered_raised down (place_of c) all.0.0
+        (omega (arith, all.0.0, all.0.1))))
         ∙ ap (λ (ps : List Place). lowered down (raised down (place_of c)) ∷ ps) (lowers_back cells all.1)
 
     abbrev new_grid : Grid
@@ -379,9 +407,11 @@ module _ (breaking : Breaking) (forms : TableNode → Table → Type 0) (alike :
     few_places =
         let a : length places ≡ length (map place_of below) = length-map (map place_of below) (raised down) in
         let b : length (map place_of below) ≡ length below = length-map below place_of in
-        let c : length T.cells ≡ length (becomes.caption ++ below) = ap length (table_rows.cells_split breaking forms node T sound becomes) in
+        let c : length T.cells ≡ length (becomes.caption ++ below) =
+        ap length (table_rows.cells_split breaking forms node T sound becomes) in
         let d : length (becomes.caption ++ below) ≡ length becomes.caption + length below = length-append becomes.caption below in
-        let e : length T.cells ≡ length (becomes.caption ++ becomes.written) = length_permutation (becomes.caption ++ becomes.written) T.cells becomes.same in
+        let e : length T.cells ≡ length (becomes.caption ++ becomes.written) =
+        length_permutation (becomes.caption ++ becomes.written) T.cells becomes.same in
         let f : length (becomes.caption ++ becomes.written) ≡ length becomes.caption + length becomes.written =
         length-append becomes.caption becomes.written in
         let g : length (map place_of becomes.written) ≡ length becomes.written = length-map becomes.written place_of in
@@ -396,7 +426,8 @@ module _ (breaking : Breaking) (forms : TableNode → Table → Type 0) (alike :
     no_column (suc n) = let before : count_below (λ x. false) n ≡ 0 = no_column n in omega arith
 
     -- a table without rows has no column with a cell
-    grid_of : (rs : List (List TableCell)) (nodes : List (List CellNode)) → rows ≡ rs → map (map span_of) nodes ≡ map (map (λ c. span_at (place_of c))) rs →
+    grid_of : (rs : List (List TableCell)) (nodes : List (List CellNode)) → rows ≡ rs →
+        map (map span_of) nodes ≡ map (map (λ c. span_at (place_of c))) rs →
         HasGrid (let s : Shape = record { columns = T.cols; groups = map group_shape (groups_of rs nodes) } in s) new_grid
     grid_of [] nodes is spans =
         let none : places ≡ [] = sym placed_joined ∙ ap (λ (r : List (List TableCell)). joined (map (map up) r)) is in
@@ -427,9 +458,11 @@ module _ (breaking : Breaking) (forms : TableNode → Table → Type 0) (alike :
         ((table_rows.places_grid breaking forms node T sound becomes).placed any.0 any.1 any.2) in
         let wide : grid.cols ≡ T.cols = omega (arith, becomes.cols, one_row (out-TableNode node).caption, lies.0, lies.1) in
         let placed : List (List Place) = map (map up) (cells ∷ rs) in
-        let again : HasGrid (shape_on grid.cols grid.rows places (table_rows.places_grid breaking forms node T sound becomes) placed) new_grid =
+        let again : HasGrid (shape_on grid.cols grid.rows places (table_rows.places_grid breaking forms node T sound becomes)
+        placed) new_grid =
         grid_again grid.cols grid.rows places (table_rows.places_grid breaking forms node T sound becomes)
-        (table_rows.places_columns breaking forms node T sound becomes) (table_rows.places_rows breaking forms node T sound becomes) placed
+        (table_rows.places_columns breaking forms node T sound becomes)
+        (table_rows.places_rows breaking forms node T sound becomes) placed
         (ap (λ (r : List (List TableCell)). joined (map (map up) r)) (sym is) ∙ placed_joined)
         (rows_up 0 (cells ∷ rs) (subst (λ n. InRows n (cells ∷ rs)) (let same : down ≡ 0 + down = omega arith in same)
         (subst (InRows down) is by_rows.3)))
@@ -440,8 +473,10 @@ module _ (breaking : Breaking) (forms : TableNode → Table → Type 0) (alike :
         let shapes : map (map span_of) nodes ≡ map (map span_at) placed = spans ∙ spans_up (cells ∷ rs)
         (subst (AllByRecursion (AllByRecursion (λ c. (down ≤ (place_of c).top) × ((place_of c).top < (place_of c).bottom)))) is
         (all_below (λ c. (down ≤ (place_of c).top) × ((place_of c).top < (place_of c).bottom)) low_high)) in
-        let group : group_shape (group_of nodes) ≡ (let s : ShapeGroup = record { foot = false; rows = map (map span_of) nodes } in s) =
-        ap (λ (g : OpenGroup). let s : ShapeGroup = record { foot = is_foot g.part; rows = map (map span_of) g.rows } in s) (out-roll-GroupNode open_group) in
+        let group : group_shape (group_of nodes) ≡ (let s : ShapeGroup =
+        record { foot = false; rows = map (map span_of) nodes } in s) =
+        ap (λ (g : OpenGroup). let s : ShapeGroup = record { foot = is_foot g.part; rows = map (map span_of) g.rows } in
+        s) (out-roll-GroupNode open_group) in
         let shape : (let s : Shape = record { columns = T.cols; groups = group_shape (group_of nodes) ∷ [] } in s) ≡
         (let s : Shape = record {
           columns = grid.cols;
@@ -476,11 +511,13 @@ module _ (breaking : Breaking) (forms : TableNode → Table → Type 0) (alike :
     written_is : (rs : List (List TableCell)) (nodes : List (List CellNode)) (cells : List TableCell) → (rs ≡ [] → nodes ≡ []) →
         BecomeCells forms breaking (joined nodes) cells →
         BecomeCells forms breaking (flat_map (λ group. cells_of_group (out-GroupNode group)) (groups_of rs nodes)) cells
-    written_is [] nodes cells none become = subst (λ (ns : List (List CellNode)). BecomeCells forms breaking (joined ns) cells) (none refl) become
+    written_is [] nodes cells none become = subst (λ (ns : List (List CellNode)). BecomeCells forms breaking (joined ns) cells)
+        (none refl) become
     written_is (r ∷ rs) nodes cells none become =
         let open_group : OpenGroup = record { part = parts.Loose; rows = nodes } in
         subst (λ (ns : List CellNode). BecomeCells forms breaking ns cells)
-        (sym (append-nil (cells_of_group (out-GroupNode (group_of nodes))) ∙ ap (λ (g : OpenGroup). cells_of_group g) (out-roll-GroupNode open_group))) become
+        (sym (append-nil (cells_of_group (out-GroupNode (group_of nodes))) ∙ ap (λ (g : OpenGroup). cells_of_group g)
+        (out-roll-GroupNode open_group))) become
 
     no_nodes : (rs : List (List TableCell)) (items : List Item) (ms : Marks) (nodes : List (List CellNode)) →
         HasRows rs items ms nodes → rs ≡ [] → nodes ≡ []
@@ -506,7 +543,8 @@ module _ (breaking : Breaking) (forms : TableNode → Table → Type 0) (alike :
       written = rest.back;
       cells = written_is rows rest.nodes rest.back (no_nodes rows rest.items rest.ms rest.nodes rest.begun) rest.become;
       places = rest.places ∙ ap (map place_of) by_rows.1
-          ∙ lowers_back below (recursion_from_All (λ c. (down ≤ (place_of c).top) × ((place_of c).top < (place_of c).bottom)) below
+          ∙ lowers_back below (recursion_from_All (λ c. (down ≤ (place_of c).top) × ((place_of c).top < (place_of c).bottom))
+          below
           (All-from_Contains (λ c. (down ≤ (place_of c).top) × ((place_of c).top < (place_of c).bottom)) below low_high))
           ∙ ap (λ n. map (lowered n) places) (sym cap.rows);
       same = IsPermutation-refl (cap.back ++ rest.back);
@@ -521,7 +559,8 @@ module _ (breaking : Breaking) (forms : TableNode → Table → Type 0) (alike :
       cols = refl;
       rows = refl;
       cells = subst (λ (cs : List TableCell). AllZip SameCells cs (cap.back ++ rest.back))
-          (ap (λ (cs : List TableCell). becomes.caption ++ cs) by_rows.1 ∙ sym (table_rows.cells_split breaking forms node T sound becomes))
+          (ap (λ (cs : List TableCell). becomes.caption ++ cs) by_rows.1 ∙ sym
+          (table_rows.cells_split breaking forms node T sound becomes))
           (AllZip-append SameCells becomes.caption (joined rows) cap.back rest.back cap.same rest.same);
     }
 

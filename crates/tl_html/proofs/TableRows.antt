@@ -1,5 +1,6 @@
 -- The rows of a table: its cells below the caption, row by row, and the grid that they are.
-use Rattle.std.proofs.Common.{◌≡◌, ◌∙◌, ◌⊎◌, ℕ, zero, suc, ◌+◌, ◌-◌, ◌<◌, ◌≤◌, max, Option, Some, None, List, [], ◌∷◌, ◌++◌, map, length, get_or}
+use Rattle.std.proofs.Common.{◌≡◌, ◌∙◌, ◌⊎◌, ℕ, zero, suc, ◌+◌, ◌-◌, ◌<◌, ◌≤◌, max, Option, Some, None, List, [], ◌∷◌, ◌++◌, map}
+use Rattle.std.proofs.Common.{length, get_or}
 use Rattle.std.proofs.Common.{Contains, All, refl, sym, ap, subst, inl, inr, arith}
 use Rattle.std.specs.List.{AllByRecursion, AllPairs, Any}
 use Rattle.std.specs.List.Sorted.{IsPermutation}
@@ -19,14 +20,14 @@ use Rattle.tl_tree.specs.Outline.{outline}
 use Rattle.tl_tree.specs.Sound.{AreSound}
 use Rattle.tl_tree.specs.declared.node.Block.{Block}
 use Rattle.tl_tree.specs.declared.node.TableNode.{TableNode, out-TableNode}
-use Rattle.tl_form.specs.declared.cell.Table.{Table}
-use Rattle.tl_form.specs.declared.cell.TableCell.{TableCell}
-use Rattle.tl_form.specs.Tables.{OpenTable}
-use Rattle.tl_form.specs.Formed.{BecomeCaption, BecomesBy, caption_rows, lowered, shape_of}
-use Rattle.tl_form.specs.Sound.{ComesBefore, place_of, places_of}
-use Rattle.tl_form.proofs.Laid.{AreLaid, cells_laid}
-use Rattle.tl_form.proofs.Orders.{apart_moved}
-use Rattle.tl_form.proofs.SoundNodes.{shape_spans}
+use Rattle.tl_table.specs.declared.cell.Table.{Table}
+use Rattle.tl_table.specs.declared.cell.TableCell.{TableCell}
+use Rattle.tl_table.specs.Tables.{OpenTable}
+use Rattle.tl_table.specs.Formed.{BecomeCaption, BecomesBy, caption_rows, lowered, shape_of}
+use Rattle.tl_table.specs.Sound.{ComesBefore, place_of, places_of}
+use Rattle.tl_table.proofs.Laid.{AreLaid, cells_laid}
+use Rattle.tl_table.proofs.Orders.{apart_moved}
+use Rattle.tl_table.proofs.SoundNodes.{shape_spans}
 use Rattle.tl_html.proofs.GridAgain.{IsGrid}
 use Rattle.tl_html.proofs.Cells.{joined}
 
@@ -35,7 +36,8 @@ use Rattle.tl_html.proofs.Cells.{joined}
 abbrev pub raised : ℕ → Place → Place
 raised down place = record { left = place.left; right = place.right; top = place.top - down; bottom = place.bottom - down }
 
-pub lowered_raised : (down : ℕ) (place : Place) → down ≤ place.top → down ≤ place.bottom → lowered down (raised down place) ≡ place
+pub lowered_raised : (down : ℕ) (place : Place) → down ≤ place.top → down ≤ place.bottom →
+    lowered down (raised down place) ≡ place
 lowered_raised down place low high =
     let top : place.top - down + down ≡ place.top = omega arith in
     let bottom : place.bottom - down + down ≡ place.bottom = omega arith in
@@ -52,7 +54,8 @@ raised_lowered down place =
 get_past : {X : Type 0} (xs ys : List X) (i : ℕ) (d : X) → get_or (xs ++ ys) (length xs + i) d ≡ get_or ys i d
 get_past [] ys i d = ap (λ n. get_or ys n d) (let same : 0 + i ≡ i = omega arith in same)
 get_past (x ∷ xs) ys i d =
-    ap (λ n. get_or (x ∷ (xs ++ ys)) n d) (let same : suc (length xs) + i ≡ suc (length xs + i) = omega arith in same) ∙ get_past xs ys i d
+    ap (λ n. get_or (x ∷ (xs ++ ys)) n d) (let same : suc (length xs) + i ≡ suc (length xs + i) = omega arith in
+    same) ∙ get_past xs ys i d
 
 length_past : {X : Type 0} (xs ys : List X) → length (xs ++ ys) ≡ length xs + length ys
 length_past [] ys = omega arith
@@ -68,7 +71,8 @@ module _ (down : ℕ) where
   abbrev pub ups : List Place → List Place
   ups places = map (raised down) places
 
-  order_up : (places : List Place) → All (λ (p : Place). down ≤ p.top) places → AllPairs ComesBefore places → AllPairs ComesBefore (ups places)
+  order_up : (places : List Place) → All (λ (p : Place). down ≤ p.top) places → AllPairs ComesBefore places →
+      AllPairs ComesBefore (ups places)
   order_up places low pairs i j d before within =
       let long : length (ups places) ≡ length places = length-map places (raised down) in
       let e = lowered down d in
@@ -79,13 +83,15 @@ module _ (down : ℕ) where
       ∙ get_or-map (raised down) places j e (raised down e) (omega arith) in
       let low_i = low i e (omega arith) in
       let low_j = low j e (omega arith) in
-      subst (λ p. ComesBefore p (get_or (ups places) j d)) (sym at_i) (subst (ComesBefore (raised down (get_or places i e))) (sym at_j)
+      subst (λ p. ComesBefore p (get_or (ups places) j d)) (sym at_i)
+      (subst (ComesBefore (raised down (get_or places i e))) (sym at_j)
       (elim (pairs i j e before (omega arith)) [
         | inl lower ↦ inl (omega (arith, lower, low_i, low_j))
         | inr beside ↦ inr (ap (λ n. n - down) beside.0, beside.1)
       ]))
 
-  apart_up : (places : List Place) → All (λ (p : Place). down ≤ p.top) places → AllPairs AreApart places → AllPairs AreApart (ups places)
+  apart_up : (places : List Place) → All (λ (p : Place). down ≤ p.top) places → AllPairs AreApart places →
+      AllPairs AreApart (ups places)
   apart_up places low pairs i j d before within x y one other =
       let long : length (ups places) ≡ length places = length-map places (raised down) in
       let e = lowered down d in
@@ -139,7 +145,8 @@ by_rows zero y [] rise within = ([], refl, refl, tt)
 by_rows zero y (c ∷ cells) rise within = absurd (omega (arith, rise.0, within.0))
 by_rows (suc n) y cells rise within =
     let one = first_row y cells rise in
-    let later : AllByRecursion (λ c. (place_of c).top < y + suc n) one.1 = AllByRecursion-suffix (λ c. (place_of c).top < y + suc n) one.0 one.1
+    let later : AllByRecursion (λ c. (place_of c).top < y + suc n) one.1 =
+    AllByRecursion-suffix (λ c. (place_of c).top < y + suc n) one.0 one.1
     (subst (AllByRecursion (λ c. (place_of c).top < y + suc n)) (sym one.2) within) in
     let same : y + suc n ≡ y + 1 + n = omega arith in
     let rest = by_rows n (y + 1) one.1 one.4 (subst (λ m. AllByRecursion (λ c. (place_of c).top < m) one.1) same later) in (
@@ -155,7 +162,8 @@ rise_from y [] pairs low = tt
 rise_from y (c ∷ cells) pairs low = (
   low 0 (place_of c) (omega arith),
   rise_from (place_of c).top cells (λ i j d before within. pairs (suc i) (suc j) d (omega arith) (omega arith))
-      (λ i d within. from (get_or (map place_of cells) i d) (pairs 0 (suc i) d (omega arith) (let long = length-map cells place_of in omega arith))),
+      (λ i d within. from (get_or (map place_of cells) i d) (pairs 0 (suc i) d (omega arith) (let long =
+      length-map cells place_of in omega arith))),
 )
   where
     from : (p : Place) → ComesBefore (place_of c) p → (place_of c).top ≤ p.top
@@ -164,7 +172,8 @@ rise_from y (c ∷ cells) pairs low = (
 
 -- ---- a table that a tree becomes
 
-module _ (breaking : Breaking) (forms : TableNode → Table → Type 0) (node : TableNode) (table : OpenTable) (sound : AreSound (outline node))
+module _ (breaking : Breaking) (forms : TableNode → Table → Type 0) (node : TableNode) (table : OpenTable)
+    (sound : AreSound (outline node))
     (becomes : BecomesBy forms breaking (out-TableNode node) table) where
   abbrev pub down : ℕ
   down = caption_rows (out-TableNode node).caption
@@ -176,7 +185,8 @@ module _ (breaking : Breaking) (forms : TableNode → Table → Type 0) (node : 
   never_before p (inl lower) = omega arith
   never_before p (inr beside) = omega (arith, beside.1)
 
-  pub split_at : (caption : Option (List Block)) (above : List TableCell) → BecomeCaption forms breaking table.cols caption above →
+  pub split_at : (caption : Option (List Block)) (above : List TableCell) →
+      BecomeCaption forms breaking table.cols caption above →
       IsPermutation (above ++ becomes.written) table.cells → (below : List TableCell) × (table.cells ≡ above ++ below)
       × ((c : TableCell) → Contains above c → Contains below c → ⊥)
   split_at None above captioned moved = (
@@ -186,13 +196,15 @@ module _ (breaking : Breaking) (forms : TableNode → Table → Type 0) (node : 
   )
   split_at (Some flow) [] captioned moved = absurd captioned
   split_at (Some flow) (cap ∷ above) captioned moved = first table.cells becomes.in_order
-      (Contains-permutation ((cap ∷ above) ++ becomes.written) table.cells cap moved (Contains-first cap (above ++ becomes.written)))
+      (Contains-permutation ((cap ∷ above) ++ becomes.written) table.cells cap moved
+      (Contains-first cap (above ++ becomes.written)))
     where
       place : place_of cap ≡ record { left = 0; right = table.cols; top = 0; bottom = 1 }
       place = captioned.0.place
 
       first : (cells : List TableCell) → AllPairs ComesBefore (map place_of cells) → Contains cells cap →
-          (below : List TableCell) × (cells ≡ (cap ∷ above) ++ below) × ((c : TableCell) → Contains (cap ∷ above) c → Contains below c → ⊥)
+          (below : List TableCell) × (cells ≡ (cap ∷ above) ++ below) ×
+          ((c : TableCell) → Contains (cap ∷ above) c → Contains below c → ⊥)
       first [] pairs has = absurd (Contains-none cap has)
       first (c ∷ cells) pairs (zero, within, is) = (
         cells,
@@ -204,14 +216,18 @@ module _ (breaking : Breaking) (forms : TableNode → Table → Type 0) (node : 
           by_cases d (inr later) other = Contains-none d (subst (λ (cs : List TableCell). Contains cs d) captioned.1 later)
           by_cases d (inl same) (k, inside, at) =
               let order = pairs 0 (suc k) (place_of d) (omega arith) (let long = length-map cells place_of in omega arith) in
-              let there : get_or (map place_of cells) k (place_of d) ≡ place_of d = get_or-map place_of cells k d (place_of d) inside ∙ ap place_of at in
-              never_before (place_of d) (subst (λ p. ComesBefore p (place_of d)) (ap place_of (is ∙ same)) (subst (ComesBefore (place_of c)) there order))
+              let there : get_or (map place_of cells) k (place_of d) ≡ place_of d =
+              get_or-map place_of cells k d (place_of d) inside ∙ ap place_of at in
+              never_before (place_of d) (subst (λ p. ComesBefore p (place_of d)) (ap place_of (is ∙ same))
+              (subst (ComesBefore (place_of c)) there order))
       first (c ∷ cells) pairs (suc k, within, is) = absurd (
           let long = length-map cells place_of in
           let order = pairs 0 (suc k) (place_of cap) (omega arith) (omega arith) in
-          let there : get_or (map place_of cells) k (place_of cap) ≡ place_of cap = get_or-map place_of cells k cap (place_of cap) (omega arith)
+          let there : get_or (map place_of cells) k (place_of cap) ≡ place_of cap =
+          get_or-map place_of cells k cap (place_of cap) (omega arith)
           ∙ ap place_of is in
-          let order' : ComesBefore (place_of c) (record { left = 0; right = table.cols; top = 0; bottom = 1 }) = subst (ComesBefore (place_of c))
+          let order' : ComesBefore (place_of c) (record { left = 0; right = table.cols; top = 0; bottom = 1 }) =
+          subst (ComesBefore (place_of c))
           (there ∙ place) order in
           elim order' [
             | inl lower ↦ omega arith
@@ -231,21 +247,26 @@ module _ (breaking : Breaking) (forms : TableNode → Table → Type 0) (node : 
   -- the cells below the caption are those written
   pub below_written : (c : TableCell) → Contains below c → Contains becomes.written c
   below_written c has =
-      let all : Contains table.cells c = subst (λ (cs : List TableCell). Contains cs c) (sym cells_split) (Contains-append_right becomes.caption below c has) in
-      let moved = Contains-permutation table.cells (becomes.caption ++ becomes.written) c (IsPermutation-sym _ _ becomes.same) all in
+      let all : Contains table.cells c = subst (λ (cs : List TableCell). Contains cs c) (sym cells_split)
+      (Contains-append_right becomes.caption below c has) in
+      let moved = Contains-permutation table.cells (becomes.caption ++ becomes.written) c (IsPermutation-sym _ _ becomes.same)
+      all in
       elim (Contains-append_cases becomes.caption becomes.written c moved) [
         | inl above ↦ absurd (below_and.2 c above has)
         | inr written ↦ written
       ]
 
   -- the grid's places are those of the cells written, so many rows up
-  place_in_grid : (c : TableCell) → Contains becomes.written c → (q : Place) × Contains grid.places q × (lowered down q ≡ place_of c)
+  place_in_grid : (c : TableCell) → Contains becomes.written c →
+      (q : Place) × Contains grid.places q × (lowered down q ≡ place_of c)
   place_in_grid c has = map-Contains (lowered down) grid.places (place_of c)
       (subst (λ (ps : List Place). Contains ps (place_of c)) becomes.places (Contains-map place_of becomes.written c has))
 
-  caption_on_top : (caption : Option (List Block)) (above : List TableCell) → BecomeCaption forms breaking table.cols caption above →
+  caption_on_top : (caption : Option (List Block)) (above : List TableCell) →
+      BecomeCaption forms breaking table.cols caption above →
       (c : TableCell) → Contains above c → (caption_rows caption ≡ 1) × ((place_of c).top ≡ 0)
-  caption_on_top None above captioned c has = absurd (Contains-none c (subst (λ (cs : List TableCell). Contains cs c) captioned has))
+  caption_on_top None above captioned c has =
+      absurd (Contains-none c (subst (λ (cs : List TableCell). Contains cs c) captioned has))
   caption_on_top (Some flow) [] captioned c has = absurd captioned
   caption_on_top (Some flow) (cap ∷ above) captioned c has = elim (Contains-cases cap above c has) [
     | inl here ↦ (refl, ap (λ (d : TableCell). (place_of d).top) (sym here) ∙ ap (λ (p : Place). p.top) captioned.0.place)
@@ -265,7 +286,8 @@ module _ (breaking : Breaking) (forms : TableNode → Table → Type 0) (node : 
 
   from_grid : (q : Place) → Contains grid.places q → Contains places q
   from_grid q has =
-      let low = subst (λ (ps : List Place). Contains ps (lowered down q)) (sym becomes.places) (Contains-map (lowered down) grid.places q has) in
+      let low = subst (λ (ps : List Place). Contains ps (lowered down q)) (sym becomes.places)
+      (Contains-map (lowered down) grid.places q has) in
       let at = map-Contains place_of becomes.written (lowered down q) low in
       let all = Contains-permutation (becomes.caption ++ becomes.written) table.cells at.0 becomes.same
       (Contains-append_right becomes.caption becomes.written at.0 at.1) in
@@ -284,10 +306,12 @@ module _ (breaking : Breaking) (forms : TableNode → Table → Type 0) (node : 
   lies_in = all_within (shape_of (out-TableNode node)) grid (shape_spans node sound) becomes.has_grid
 
   -- each cell below the caption lies below its row
-  pub under_caption : (c : TableCell) → Contains below c → (down ≤ (place_of c).top) × IsPlaced grid.cols grid.rows (raised down (place_of c))
+  pub under_caption : (c : TableCell) → Contains below c → (down ≤ (place_of c).top) ×
+      IsPlaced grid.cols grid.rows (raised down (place_of c))
   under_caption c has =
       let found = place_in_grid c (below_written c has) in
-      let lies : IsPlaced grid.cols grid.rows found.0 = All-contains (IsPlaced grid.cols grid.rows) grid.places found.0 lies_in found.1 in
+      let lies : IsPlaced grid.cols grid.rows found.0 = All-contains (IsPlaced grid.cols grid.rows)
+      grid.places found.0 lies_in found.1 in
       let same : found.0 ≡ raised down (place_of c) = sym (raised_lowered down found.0) ∙ ap (raised down) found.2 in
       let under : (place_of c).top ≡ found.0.top + down = ap (λ (p : Place). p.top) (sym found.2) in
       (omega arith, subst (IsPlaced grid.cols grid.rows) same lies)
@@ -301,11 +325,13 @@ module _ (breaking : Breaking) (forms : TableNode → Table → Type 0) (node : 
   places_split = ap (map place_of) cells_split ∙ map-append place_of becomes.caption below
 
   pub below_in_order : AllPairs ComesBefore (map place_of below)
-  below_in_order = pairs_suffix ComesBefore (map place_of becomes.caption) (map place_of below) (subst (AllPairs ComesBefore) places_split becomes.in_order)
+  below_in_order = pairs_suffix ComesBefore (map place_of becomes.caption) (map place_of below)
+      (subst (AllPairs ComesBefore) places_split becomes.in_order)
 
   laid : AreLaid (max grid.cols down) (grid.rows + down) (map place_of (becomes.caption ++ becomes.written))
   laid = cells_laid forms breaking node grid (out-TableNode node).caption becomes.caption becomes.written sound becomes.has_grid
-      (subst (λ cols. BecomeCaption forms breaking cols (out-TableNode node).caption becomes.caption) becomes.cols becomes.captioned) becomes.places
+      (subst (λ cols. BecomeCaption forms breaking cols (out-TableNode node).caption becomes.caption)
+      becomes.cols becomes.captioned) becomes.places
 
   below_apart : AllPairs AreApart (map place_of below)
   below_apart = pairs_suffix AreApart (map place_of becomes.caption) (map place_of below)
@@ -331,7 +357,8 @@ module _ (breaking : Breaking) (forms : TableNode → Table → Type 0) (node : 
   }
 
   pub places_columns : (x : ℕ) → x < grid.cols → HasAnchorInColumn places x
-  places_columns x lt = any_from (λ (p : Place). p.left ≡ x) (all_columns (shape_of (out-TableNode node)) grid becomes.has_grid x lt)
+  places_columns x lt = any_from (λ (p : Place). p.left ≡ x)
+      (all_columns (shape_of (out-TableNode node)) grid becomes.has_grid x lt)
 
   pub places_rows : (y : ℕ) → y < grid.rows → HasAnchorInRow places y
   places_rows y lt = any_from (λ (p : Place). p.top ≡ y) (all_rows (shape_of (out-TableNode node)) grid becomes.has_grid y lt)
@@ -340,5 +367,6 @@ module _ (breaking : Breaking) (forms : TableNode → Table → Type 0) (node : 
   pub rows_of : (rows : List (List TableCell)) × (joined rows ≡ below) × (length rows ≡ grid.rows) × InRows down rows
   rows_of = by_rows grid.rows down below
       (rise_from down below below_in_order (λ i d within. tops_low i d (let long = length-map below place_of in omega arith)))
-      (recursion_from_All (λ c. (place_of c).top < down + grid.rows) below (All-from_Contains (λ c. (place_of c).top < down + grid.rows) below (λ c has.
+      (recursion_from_All (λ c. (place_of c).top < down + grid.rows) below
+      (All-from_Contains (λ c. (place_of c).top < down + grid.rows) below (λ c has.
       let under = under_caption c has in omega (arith, under.0, under.1.2, under.1.3))))

@@ -1,10 +1,10 @@
 -- When two tables are the same but for the numbers of tables, which say where each begins in its file.
 use Rattle.std.specs.Prelude.{◌≡◌, ℕ, zero, suc}
 use Rattle.std.specs.List.{AllZip}
-use Rattle.tl_form.specs.declared.cell.Table.{Table, out-Table}
-use Rattle.tl_form.specs.declared.cell.TableCell.{out-TableCell}
-use Rattle.tl_form.specs.Same.{AreSameCell}
-use Rattle.tl_form.specs.Tables.{OpenTable}
+use Rattle.tl_table.specs.declared.cell.Table.{Table, out-Table}
+use Rattle.tl_table.specs.declared.cell.TableCell.{out-TableCell}
+use Rattle.tl_table.specs.Same.{AreSameCell}
+use Rattle.tl_table.specs.Tables.{OpenTable}
 
 -- two tables have the same columns, rows and cells, where `alike` says so of nested tables
 pub record AreAlikeBy (alike : Table → Table → Type 0) (one other : OpenTable) : Type 0 where

@@ -6,13 +6,13 @@ use Rattle.std.specs.Str.{encode_utf8_all}
 use Rattle.tl_grid.specs.declared.shape.Place.{Place}
 use Rattle.tl_text.specs.declared.paragraph.Atom.{Atom}
 use Rattle.tl_text.specs.declared.paragraph.Atom.TheVariants.{Word, Glue, Break}
-use Rattle.tl_form.specs.declared.cell.Content.TheOpen as open_content
-use Rattle.tl_form.specs.declared.cell.Kind.{Kind}
-use Rattle.tl_form.specs.declared.cell.Kind.TheVariants as kinds
-use Rattle.tl_form.specs.declared.cell.Content.{Content, fold-Content}
-use Rattle.tl_form.specs.declared.cell.Table.{Table, fold-Table}
-use Rattle.tl_form.specs.declared.cell.TableCell.{TableCell, fold-TableCell}
-use Rattle.tl_form.specs.declared.layout.Layout.{Layout, out-Layout}
+use Rattle.tl_table.specs.declared.cell.Content.TheOpen as open_content
+use Rattle.tl_table.specs.declared.cell.Kind.{Kind}
+use Rattle.tl_table.specs.declared.cell.Kind.TheVariants as kinds
+use Rattle.tl_table.specs.declared.cell.Content.{Content, fold-Content}
+use Rattle.tl_table.specs.declared.cell.Table.{Table, fold-Table}
+use Rattle.tl_table.specs.declared.cell.TableCell.{TableCell, fold-TableCell}
+use Rattle.tl_table.specs.declared.layout.Layout.{Layout, out-Layout}
 use Rattle.tl_html.specs.declared.filled.Filled.{Filled}
 
 -- ---- paragraphs

@@ -1,9 +1,9 @@
 -- Laws of the HTML page. Each is the contract of a function of `laws`.
 use Rattle.std.specs.Prelude.{ℕ, List}
 use Rattle.tl_base.specs.declared.style.Style.{Style}
-use Rattle.tl_form.specs.declared.cell.Table.{Table}
-use Rattle.tl_form.specs.declared.layout.Layout.{Layout}
-use Rattle.tl_form.specs.Layouts.{Fits}
+use Rattle.tl_table.specs.declared.cell.Table.{Table}
+use Rattle.tl_table.specs.declared.layout.Layout.{Layout}
+use Rattle.tl_table.specs.Layouts.{Fits}
 use Rattle.tl_html.specs.Readable.{HasColumns, IsPage, ReadsBack}
 
 -- the page of a table reads back
@@ -12,5 +12,6 @@ PageReadsBack = (table : Table) (layout : Layout) (bytes : List ℕ) → IsPage 
 
 -- a layout that fits some page has a width for each column
 abbrev pub AFittingLayoutHasColumns : Type 0
-AFittingLayoutHasColumns = (table : Table) (style : Style) (width height : ℕ) (layout : Layout) → Fits table style width height layout →
+AFittingLayoutHasColumns = (table : Table) (style : Style) (width height : ℕ) (layout : Layout) →
+    Fits table style width height layout →
     HasColumns table layout

@@ -4,12 +4,12 @@ use Rattle.std.specs.List.{AllZip}
 use Rattle.tl_base.specs.declared.breaking.Breaking.{Breaking}
 use Rattle.tl_tree.specs.Sound.{IsSound}
 use Rattle.tl_tree.specs.declared.node.TableNode.{TableNode}
-use Rattle.tl_form.specs.declared.cell.Table.{Table, out-Table}
-use Rattle.tl_form.specs.declared.layout.Layout.{Layout, out-Layout}
-use Rattle.tl_form.specs.Formed.{Becomes}
-use Rattle.tl_form.specs.Layouts.{OpenLayout}
-use Rattle.tl_form.specs.Spells.{Spells}
-use Rattle.tl_form.specs.Tables.{OpenTable, inner_tables}
+use Rattle.tl_table.specs.declared.cell.Table.{Table, out-Table}
+use Rattle.tl_table.specs.declared.layout.Layout.{Layout, out-Layout}
+use Rattle.tl_table.specs.Formed.{Becomes}
+use Rattle.tl_table.specs.Layouts.{OpenLayout}
+use Rattle.tl_table.specs.Spells.{Spells}
+use Rattle.tl_table.specs.Tables.{OpenTable, inner_tables}
 use Rattle.tl_html.specs.Alike.{AreAlike}
 use Rattle.tl_html.specs.Html.{html_of}
 

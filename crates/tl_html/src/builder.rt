@@ -2,7 +2,7 @@
 
 ghost use Rattle.std.specs.Prelude.{◌≡◌, ◌++◌, [], ◌∷◌, OnOk, true, decimal};
 ghost use Rattle.std.specs.Str.{chars, encode_utf8_all, IsUtf8};
-ghost use Rattle.tl_html.specs.inner.Ascii.{is_ascii};
+ghost use Rattle.tl_base.specs.Text.{is_ascii};
 
 use std::alloc::{AllocError, Global};
 use std::marker::Model;

@@ -1,8 +1,8 @@
 //! Cells with the text of their flows.
 
 use tl_base::Text;
-use tl_form::Kind;
 use tl_grid::Place;
+use tl_table::Kind;
 
 /// A cell of a table with the text that stands for its blocks.
 #[derive(Drop)]

@@ -3,7 +3,7 @@
 ghost use Rattle.std.specs.Prelude.{◌≡◌, ◌++◌, [], ◌∷◌, OnOk, IfSome, IfNone, true, false};
 ghost use Rattle.std.specs.List.{flat_map};
 ghost use Rattle.std.specs.Str.{chars};
-ghost use Rattle.tl_html.specs.inner.Ascii.{is_ascii};
+ghost use Rattle.tl_base.specs.Text.{is_ascii};
 ghost use Rattle.tl_html.specs.Html.{escaped, atom_html, atoms_html, paragraph_html};
 
 use crate::builder::TextBuilder;

@@ -2,14 +2,14 @@
 
 ghost use Rattle.std.specs.Prelude.{◌≡◌, ◌++◌, ◌<◌, OnOk, true};
 ghost use Rattle.std.specs.List.{flat_map};
-ghost use Rattle.tl_form.specs.declared.cell.Kind.{Kind};
-ghost use Rattle.tl_html.specs.inner.Ascii.{is_ascii};
+ghost use Rattle.tl_table.specs.declared.cell.Kind.{Kind};
+ghost use Rattle.tl_base.specs.Text.{is_ascii};
 ghost use Rattle.tl_html.specs.Html.{attribute, attributes, element, cell_html, cell_in_row, row_html};
 
 use crate::builder::TextBuilder;
 use crate::filled::Filled;
 use std::alloc::{AllocError, Global};
-use tl_form::Kind;
+use tl_table::Kind;
 
 /// Appends an attribute, where its number is above its default.
 fn write_attribute(

@@ -14,7 +14,7 @@ use crate::paragraph::write_paragraph;
 use crate::row::write_row;
 use std::alloc::{AllocError, Global};
 use tl_base::List;
-use tl_form::{Content, Kind, Layout, Table, TableCell};
+use tl_table::{Content, Kind, Layout, Table, TableCell};
 
 /// Appends a block of a cell. Of the layouts of nested tables `taken` were taken before it; returns
 /// how many are taken after it.

@@ -5,8 +5,8 @@ use std::alloc::Global;
 use std::process::Abort;
 use std::test::Fail;
 use tl_base::{Breaking, List, MAX_FILE_BYTES, Text};
-use tl_form::{Content, Kind, Layout, Table, TableCell};
 use tl_grid::Place;
+use tl_table::{Content, Kind, Layout, Table, TableCell};
 use tl_text::{Atom, Para, words};
 use tl_token::tokens;
 use tl_tree::tree;
@@ -100,7 +100,7 @@ fn table_of(alloc: Global, page: &str, breaking: Breaking) -> Result<Table, Fail
     }
     let list = tokens(alloc, bytes)?;
     let node = tree(alloc, list.as_slice())?;
-    Ok(tl_form::table(alloc, &node, breaking)?)
+    Ok(tl_table::table(alloc, &node, breaking)?)
 }
 
 /// Whether two paragraphs have the same units and breaks.

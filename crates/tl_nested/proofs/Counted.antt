@@ -1,5 +1,6 @@
 -- How many sections there may be: each that is due leaves fewer.
-use Rattle.std.proofs.Common.{◌≡◌, ℕ, zero, suc, ◌+◌, ◌-◌, ◌*◌, ◌<◌, ◌≤◌, if◌then◌else◌, nat_le, Bool, true, false, Option, None, Some, inl, inr}
+use Rattle.std.proofs.Common.{◌≡◌, ℕ, zero, suc, ◌+◌, ◌-◌, ◌*◌, ◌<◌, ◌≤◌, if◌then◌else◌, nat_le, Bool, true, false, Option, None}
+use Rattle.std.proofs.Common.{Some, inl, inr}
 use Rattle.std.proofs.Common.{refl, sym, ap, subst, arith}
 use Rattle.std.proofs.lemmas.Bool.{cases_eq, eq-eqb, ne_eqb}
 use Rattle.tl_base.specs.declared.limits.TheConstants.{MAX_PAGE_WIDTH, MAX_TABLES}
@@ -32,11 +33,13 @@ module _ (document : Document) (now : Due) (may : MayBeDue document now) (placed
   apart : (now.table ≡ own_number document → ⊥) → now.table - own_number document ≡ (now.table - 1 - own_number document) + 1
   apart other = by_left (now.table - own_number document) refl
     where
-      by_left : (k : ℕ) → now.table - own_number document ≡ k → now.table - own_number document ≡ (now.table - 1 - own_number document) + 1
+      by_left : (k : ℕ) → now.table - own_number document ≡ k →
+          now.table - own_number document ≡ (now.table - 1 - own_number document) + 1
       by_left zero none = absurd (other (omega (arith, none, may.from)))
       by_left (suc k) some = omega (arith, some)
 
-  by_width : (now.table ≡ own_number document → ⊥) → (width : Option ℕ) → next_width (least_of document now.table) placed ≡ width →
+  by_width : (now.table ≡ own_number document → ⊥) → (width : Option ℕ) →
+      next_width (least_of document now.table) placed ≡ width →
       left document (Some (due_in document now.table width)) < left document (Some now)
   by_width other None is =
       let less = one_less (now.table - own_number document) (now.table - 1 - own_number document) document.page (apart other) in
@@ -52,7 +55,8 @@ module _ (document : Document) (now : Due) (may : MayBeDue document now) (placed
         (eq-eqb now.table (own_number document) same) in
         subst (λ next. left document next < left document (Some now)) (sym none) (omega (arith, may.whole same))
     | inr other ↦
-        let some : next_due document now.table placed ≡ Some (due_in document now.table (next_width (least_of document now.table) placed)) =
+        let some : next_due document now.table placed ≡ Some
+        (due_in document now.table (next_width (least_of document now.table) placed)) =
         ap (λ (b : Bool). if b then None else Some (due_in document now.table (next_width (least_of document now.table) placed)))
         (ne_eqb now.table (own_number document) other) in
         subst (λ next. left document next < left document (Some now)) (sym some)
@@ -61,8 +65,10 @@ module _ (document : Document) (now : Due) (may : MayBeDue document now) (placed
 
 -- ---- no more than a certificate has
 
-pub few_enough : (count tables page : ℕ) → tables < MAX_TABLES → page ≤ MAX_PAGE_WIDTH → count + page ≤ tables * (page + 1) + page + 1 →
+pub few_enough : (count tables page : ℕ) → tables < MAX_TABLES → page ≤ MAX_PAGE_WIDTH →
+    count + page ≤ tables * (page + 1) + page + 1 →
     count ≤ MAX_SECTIONS
 few_enough count tables page few narrow all =
-    let most : tables * (page + 1) ≤ (MAX_TABLES - 1) * (page + 1) = times_le tables (MAX_TABLES - 1) (page + 1) (omega (arith, few)) in
+    let most : tables * (page + 1) ≤ (MAX_TABLES - 1) * (page + 1) =
+    times_le tables (MAX_TABLES - 1) (page + 1) (omega (arith, few)) in
     omega (arith, most, narrow, all)

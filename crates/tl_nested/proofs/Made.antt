@@ -1,5 +1,6 @@
 -- A section that is due, made of an outcome for its problem, and one more section of a list.
-use Rattle.std.proofs.Common.{◌≡◌, ◌∙◌, ℕ, ◌+◌, ◌-◌, ◌*◌, ◌≤◌, List, [], ◌∷◌, ◌++◌, inl, inr, length, get_or, take, Option, None, Some, Result, Ok}
+use Rattle.std.proofs.Common.{◌≡◌, ◌∙◌, ℕ, ◌+◌, ◌-◌, ◌*◌, ◌≤◌, List, [], ◌∷◌, ◌++◌, inl, inr, length, get_or, take, Option, None}
+use Rattle.std.proofs.Common.{Some, Result, Ok}
 use Rattle.std.proofs.Common.{refl, sym, ap, subst, arith}
 use Rattle.std.specs.declared.alloc.AllocError.{AllocError}
 use denote.Param.Members.{Shared}
@@ -12,21 +13,22 @@ use Rattle.tl_base.specs.declared.limits.TheConstants.{MAX_FILE_BYTES, MAX_PAGE_
 use Rattle.tl_base.specs.declared.style.Style.{Style}
 use Rattle.tl_base.specs.Style.{gap_of, edge_of}
 use Rattle.tl_problem.specs.Problem.{ProblemModel}
-use Rattle.tl_problem.specs.Sizes.{total}
+use Rattle.tl_base.specs.Sizes.{total}
 use Rattle.tl_problem.specs.Sound as problem_sound
 use Rattle.tl_cert.specs.declared.section.Section.{Section}
 use Rattle.tl_cert.specs.Text.{IsSectionWritable}
-use Rattle.tl_form.specs.declared.cell.Table.{Table}
+use Rattle.tl_table.specs.declared.cell.Table.{Table}
 use Rattle.tl_form.specs.declared.subject.Subject.{Subject}
 use Rattle.tl_form.specs.Expected.{Document, Due, own_number, placed_width, first_due, next_due, due_after}
-use Rattle.tl_form.specs.Sound.{table_size}
+use Rattle.tl_table.specs.Sound.{table_size}
 use Rattle.tl_form.specs.Subjects.{IsSubject, meant}
 use Rattle.tl_form.specs.Valid.{AreGoodBelow, IsGood, IsProblemAt}
 use Rattle.tl_form.proofs.DueLaws.{MayBeDue, due_next, due_from-push}
 use Rattle.tl_form.proofs.DueProblems.{good_follows}
 use Rattle.tl_solve.specs.declared.outcome.Outcome.{Outcome}
+use Rattle.tl_solve.specs.Solver.{IsSolverOutcome}
 use Rattle.tl_nested.specs.Searched.{FitsPage, AreSectionsOf, AreWritable, EachIsSearched, IsSearched}
-use Rattle.tl_nested.specs.Solved.{Gives, IsSolved, SolvesEach}
+use Rattle.tl_nested.specs.Solved.{Gives, SolvesEach}
 use Rattle.tl_nested.specs.inner.SoFar.{AreSoFar, left}
 use Rattle.tl_nested.proofs.Counted.{few_enough, left_falls}
 use Rattle.tl_nested.proofs.Ready.{may, narrow, small, sound_one}
@@ -45,9 +47,10 @@ section_of now outcome = record {
 }
 
 module _ (subject : Subject) (is : IsSubject subject) (fits : FitsPage subject) (before : List Section) (budget : ℕ)
-    (good : AreGoodBelow (meant subject) budget before (length before)) (now : Due) (due : due_after (meant subject) before ≡ Some now)
+    (good : AreGoodBelow (meant subject) budget before (length before)) (now : Due)
+    (due : due_after (meant subject) before ≡ Some now)
     (outcome : Outcome) (problem : ProblemModel) (at : IsProblemAt (meant subject) before (section_of now outcome) problem)
-    (solved : IsSolved problem budget outcome) where
+    (solved : IsSolverOutcome problem budget outcome) where
   abbrev pub good_section : IsGood (meant subject) budget before (section_of now outcome)
   good_section = record {
     due = due;
@@ -75,7 +78,8 @@ module _ (subject : Subject) (is : IsSubject subject) (fits : FitsPage subject) 
   pub writable : IsSectionWritable (section_of now outcome)
   writable =
       let placement = solved.tight.placement in
-      let low = small subject is fits before budget good now due at.one at.named at.inner at.steps problem at.made outcome.best placement in
+      let low = small subject is fits before budget good now due at.one at.named at.inner at.steps problem at.made outcome.best
+      placement in
       let narrow_page = narrow subject is fits before budget good now due at.one at.named in
       let one_small = at_size in
       written (section_of now outcome) (record {
@@ -97,41 +101,49 @@ module _ (subject : Subject) (is : IsSubject subject) (fits : FitsPage subject) 
 
 -- ---- a call
 
-pub solved_by : {F : Type 0} (g : Shared F (Bor ProblemModel × (ℕ × Unit {0})) (Result Outcome AllocError)) (f : F) (p : Bor ProblemModel)
-    (budget : ℕ) (result : Result Outcome AllocError) (outcome : Outcome) → SolvesEach g f budget → problem_sound.IsSound p.now → result ≡ Ok outcome →
-    g.post f (p, (budget, tt)) result → IsSolved p.now budget outcome × Gives g f budget p.now outcome
+pub solved_by : {F : Type 0} (g : Shared F (Bor ProblemModel × (ℕ × Unit {0})) (Result Outcome AllocError)) (f : F)
+    (p : Bor ProblemModel)
+    (budget : ℕ) (result : Result Outcome AllocError) (outcome : Outcome) → SolvesEach g f budget →
+    problem_sound.IsSound p.now → result ≡ Ok outcome →
+    g.post f (p, (budget, tt)) result → IsSolverOutcome p.now budget outcome × Gives g f budget p.now outcome
 solved_by g f p budget result outcome solves sound is post =
     let call = subst (λ r. g.post f (p, (budget, tt)) r) is post in
     (solves p outcome sound call, record { argument = p; argument_is = refl; call = call })
 
 -- ---- one more section
 
-push_each : (given : ProblemModel → Outcome → Type 0) (document : Document) (budget : ℕ) (before : List Section) (section : Section) →
+push_each : (given : ProblemModel → Outcome → Type 0) (document : Document) (budget : ℕ) (before : List Section)
+    (section : Section) →
     EachIsSearched given document budget before → IsSearched given document budget before section →
     EachIsSearched given document budget (before ++ section ∷ [])
 push_each given document budget before section each next = λ i d within. elim (cases_lt i (length before)) [
   | inl old ↦
       subst (λ all. IsSearched given document budget all (get_or (before ++ section ∷ []) i d))
       (sym (take-append-le i before (section ∷ []) (omega (arith, old))))
-      (subst (IsSearched given document budget (take i before)) (sym (get_or_append_left before (section ∷ []) d i old)) (each i d old))
+      (subst (IsSearched given document budget (take i before)) (sym (get_or_append_left before (section ∷ []) d i old))
+      (each i d old))
   | inr new ↦
       let same : i ≡ length before = omega (arith, new, within, length_push before section) in
-      let at : get_or (before ++ section ∷ []) i d ≡ section = ap (λ j. get_or (before ++ section ∷ []) j d) same ∙ get_or-append_seam before section [] d in
+      let at : get_or (before ++ section ∷ []) i d ≡ section =
+      ap (λ j. get_or (before ++ section ∷ []) j d) same ∙ get_or-append_seam before section [] d in
       let all : take i (before ++ section ∷ []) ≡ before =
       take-append-le i before (section ∷ []) (omega (arith, same)) ∙ take_all i before (omega (arith, same)) in
       subst (λ one. IsSearched given document budget (take i (before ++ section ∷ [])) one) (sym at)
       (subst (λ those. IsSearched given document budget those section) (sym all) next)
 ]
 
-push_writable : (before : List Section) (section : Section) → AllByRecursion IsSectionWritable before → IsSectionWritable section →
+push_writable : (before : List Section) (section : Section) → AllByRecursion IsSectionWritable before →
+    IsSectionWritable section →
     AllByRecursion IsSectionWritable (before ++ section ∷ [])
 push_writable [] section each next = (next, tt)
 push_writable (one ∷ before) section each next = (each.0, push_writable before section each.1 next)
 
 -- the first that is due, and one more
-pub none_so_far : (given : ProblemModel → Outcome → Type 0) (document : Document) (budget : ℕ) (sections : List Section) → sections ≡ [] →
+pub none_so_far : (given : ProblemModel → Outcome → Type 0) (document : Document) (budget : ℕ) (sections : List Section) →
+    sections ≡ [] →
     AreSoFar given document budget sections (Some (first_due document document.last))
-none_so_far given document budget sections none = subst (λ all. AreSoFar given document budget all (Some (first_due document document.last))) (sym none)
+none_so_far given document budget sections none =
+    subst (λ all. AreSoFar given document budget all (Some (first_due document document.last))) (sym none)
     (record {
       each = λ i d within. absurd (omega (arith, within));
       due = refl;
@@ -139,10 +151,12 @@ none_so_far given document budget sections none = subst (λ all. AreSoFar given 
       writable = tt;
     })
 
-pub more_so_far : (given : ProblemModel → Outcome → Type 0) (document : Document) (budget : ℕ) (before more : List Section) (now : Due) (section : Section)
+pub more_so_far : (given : ProblemModel → Outcome → Type 0) (document : Document) (budget : ℕ) (before more : List Section)
+    (now : Due) (section : Section)
     (placed : ℕ) (next : Option Due) → MayBeDue document now → AreSoFar given document budget before (Some now) →
     IsSearched given document budget before section → IsSectionWritable section → placed ≡ placed_width document.style section →
-    placed ≤ now.width → more ≡ before ++ section ∷ [] → next ≡ next_due document now.table placed → AreSoFar given document budget more next
+    placed ≤ now.width → more ≡ before ++ section ∷ [] → next ≡ next_due document now.table placed →
+    AreSoFar given document budget more next
 more_so_far given document budget before more now section placed next may_be so_far searched_one written_one same within push is =
     subst (λ all. AreSoFar given document budget all next) (sym push)
     (subst (AreSoFar given document budget (before ++ section ∷ [])) (sym is) (record {
@@ -159,7 +173,8 @@ good_so_far given document budget sections each = λ i d within. (each i d withi
 
 -- the placement of a good section that is due is within its page
 pub within_due : (document : Document) (budget : ℕ) (before : List Section) (section : Section) (now : Due) (placed : ℕ) →
-    IsGood document budget before section → due_after document before ≡ Some now → placed ≡ placed_width document.style section → placed ≤ now.width
+    IsGood document budget before section → due_after document before ≡ Some now →
+    placed ≡ placed_width document.style section → placed ≤ now.width
 within_due document budget before section now placed good due same =
     let follows = good_follows document budget before section good in
     let both : Some (record { table = section.table; width = section.width }) ≡ Some now = sym good.due ∙ due in
@@ -172,13 +187,15 @@ within_due document budget before section now placed good due same =
 
 -- ---- the end
 
-pub all_so_far : (given : ProblemModel → Outcome → Type 0) (subject : Subject) (budget : ℕ) (sections : List Section) (next : Option Due) →
+pub all_so_far : (given : ProblemModel → Outcome → Type 0) (subject : Subject) (budget : ℕ) (sections : List Section)
+    (next : Option Due) →
     IsSubject subject → next ≡ None → AreSoFar given (meant subject) budget sections next → AreWritable sections
 all_so_far given subject budget sections next is none so_far = record {
   some = nonempty sections (so_far.due ∙ none);
   most = few_enough (length sections) (subject.last - own_number (meant subject)) subject.page
       (omega (arith, is.document.numbers, is.sound.few_tables)) is.narrow
-      (subst (λ o. length sections + left (meant subject) o ≤ (subject.last - own_number (meant subject)) * (subject.page + 1) + subject.page + 1)
+      (subst (λ o. length sections + left (meant subject) o ≤ (subject.last - own_number (meant subject)) *
+      (subject.page + 1) + subject.page + 1)
       none so_far.few);
   each = so_far.writable;
 } where
@@ -190,7 +207,8 @@ all_so_far given subject budget sections next is none so_far = record {
 
 given_more : (given other : ProblemModel → Outcome → Type 0) →
     ((problem : ProblemModel) (outcome : Outcome) → given problem outcome → other problem outcome) →
-    (document : Document) (budget : ℕ) (before : List Section) (section : Section) → IsSearched given document budget before section →
+    (document : Document) (budget : ℕ) (before : List Section) (section : Section) →
+    IsSearched given document budget before section →
     IsSearched other document budget before section
 given_more given other more document budget before section is = record {
   good = is.good;
@@ -202,11 +220,13 @@ given_more given other more document budget before section is = record {
 
 pub sections_more : (given other : ProblemModel → Outcome → Type 0) →
     ((problem : ProblemModel) (outcome : Outcome) → given problem outcome → other problem outcome) →
-    (table : Table) (style : Style) (page budget : ℕ) (sections : List Section) → AreSectionsOf given table style page budget sections →
+    (table : Table) (style : Style) (page budget : ℕ) (sections : List Section) →
+    AreSectionsOf given table style page budget sections →
     AreSectionsOf other table style page budget sections
 sections_more given other more table style page budget sections are = record {
   document = are.document;
   of = are.of;
-  each = λ i d within. given_more given other more are.document budget (take i sections) (get_or sections i d) (are.each i d within);
+  each = λ i d within. given_more given other more are.document budget (take i sections) (get_or sections i d)
+      (are.each i d within);
   none = are.none;
 }

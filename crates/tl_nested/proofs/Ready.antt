@@ -6,29 +6,29 @@ use Rattle.std.proofs.lemmas.List.{take_all}
 use Rattle.tl_base.specs.declared.limits.TheConstants.{MAX_PAGE_WIDTH}
 use Rattle.tl_base.specs.declared.style.Style.{Style}
 use Rattle.tl_problem.specs.Problem.{ProblemModel}
-use Rattle.tl_problem.specs.Sound as problem_sound
 use Rattle.tl_problem.specs.declared.placed.Placed.{Placed}
 use Rattle.tl_problem.specs.Placements.{IsPlacement}
 use Rattle.tl_cert.specs.declared.section.Section.{Section}
-use Rattle.tl_form.specs.declared.cell.Table.{Table, out-Table}
+use Rattle.tl_table.specs.declared.cell.Table.{Table}
 use Rattle.tl_form.specs.declared.heights.InnerSteps.{InnerSteps}
 use Rattle.tl_form.specs.declared.subject.Subject.{Subject}
 use Rattle.tl_form.specs.Expected.{Due, IsDocumentOf, IsTableOf, own_number, least_of, due_after}
-use Rattle.tl_form.specs.Least.{IsLeastWidth}
-use Rattle.tl_form.specs.Nested.{AreInnerSteps}
+use Rattle.tl_table.specs.Least.{IsLeastWidth}
+use Rattle.tl_form.specs.Nested.{AreInnerSteps, IsProblemFor}
 use Rattle.tl_form.specs.ProblemLaws.{LayoutsAreByLow, LayoutsByHighFit}
-use Rattle.tl_form.specs.Problems.{HasSoundProblem, InnerNeeds, IsProblemOf}
-use Rattle.tl_form.specs.Sound.{IsSound, table_size}
+use Rattle.tl_form.specs.Problems.{InnerNeeds, IsProblemOf}
+use Rattle.tl_table.specs.Sound.{IsSound, table_size}
 use Rattle.tl_form.specs.SoundProblems.{SoundProblemsAlone, PlacementsAreLow}
 use Rattle.tl_form.specs.Subjects.{IsSubject, meant}
 use Rattle.tl_form.specs.Valid.{AreGoodBelow, IsProblemAt}
 use Rattle.tl_form.proofs.DueLaws.{MayBeDue, may_be_due}
-use Rattle.tl_form.proofs.DueProblems.{IsOnPage, IsSmall, all_are_true, all_small, have_sound_steps, due_inner, due_sound, due_range}
-use Rattle.tl_form.proofs.LinkLemmas.{IsLeastWidth-unique}
+use Rattle.tl_form.proofs.DueProblems.{IsOnPage, IsSmall, all_are_true, all_small, have_sound_steps, due_inner, due_sound}
+use Rattle.tl_form.proofs.DueProblems.{due_range}
+use Rattle.tl_table.proofs.LinkLemmas.{IsLeastWidth-unique}
 use Rattle.tl_form.proofs.PlacementSizes.{placement-low}
-use Rattle.tl_form.proofs.ProblemTruth.{fits-low, high-fits, same-problem}
+use Rattle.tl_form.proofs.ProblemTruth.{fits-low, high-fits}
 use Rattle.tl_form.proofs.SafeProblems.{sound-problem}
-use Rattle.tl_form.proofs.TableNumbers.{sound_among}
+use Rattle.tl_table.proofs.TableNumbers.{sound_among}
 use Rattle.tl_form.proofs.Truth.{IsTrue}
 use Rattle.tl_nested.specs.Searched.{FitsPage}
 
@@ -36,11 +36,13 @@ use Rattle.tl_nested.specs.Searched.{FitsPage}
 
 pub by_low : LayoutsAreByLow
 by_low table style page inner problem of sound below =
-    fits-low (InnerNeeds (λ bounds. bounds.low) inner) (InnerNeeds (λ bounds. bounds.high) inner) table style page problem of sound below
+    fits-low (InnerNeeds (λ bounds. bounds.low) inner) (InnerNeeds (λ bounds. bounds.high) inner)
+    table style page problem of sound below
 
 pub by_high : LayoutsByHighFit
 by_high table style page inner problem of sound above =
-    high-fits (InnerNeeds (λ bounds. bounds.low) inner) (InnerNeeds (λ bounds. bounds.high) inner) table style page problem of sound above
+    high-fits (InnerNeeds (λ bounds. bounds.low) inner) (InnerNeeds (λ bounds. bounds.high) inner)
+    table style page problem of sound above
 
 pub alone : SoundProblemsAlone
 alone = sound-problem
@@ -79,7 +81,8 @@ fits_of table style page subject of wide =
 -- ---- the table that is due
 
 module _ (subject : Subject) (is : IsSubject subject) (fits : FitsPage subject) (before : List Section) (budget : ℕ)
-    (good : AreGoodBelow (meant subject) budget before (length before)) (now : Due) (due : due_after (meant subject) before ≡ Some now) where
+    (good : AreGoodBelow (meant subject) budget before (length before)) (now : Due)
+    (due : due_after (meant subject) before ≡ Some now) where
   pub may : MayBeDue (meant subject) now
   may = may_be_due (meant subject) before now (omega (arith, is.document.numbers)) due
 
@@ -88,7 +91,8 @@ module _ (subject : Subject) (is : IsSubject subject) (fits : FitsPage subject) 
     sound_one = sound_among subject.table.now one is.sound named.among
 
     pub least_one : IsLeastWidth one subject.style (least_of (meant subject) now.table)
-    least_one = subst (IsLeastWidth one subject.style) (ap (least_of (meant subject)) named.numbered) (is.document.least one named.among)
+    least_one = subst (IsLeastWidth one subject.style) (ap (least_of (meant subject)) named.numbered)
+        (is.document.least one named.among)
 
     range : (least_of (meant subject) now.table ≤ now.width) × (now.width ≤ subject.page)
     range = due_range by_low by_high alone low (meant subject) (on_page subject is fits) budget before good now due one named
@@ -97,28 +101,35 @@ module _ (subject : Subject) (is : IsSubject subject) (fits : FitsPage subject) 
     narrow = omega (arith, range.1, is.narrow)
 
     pub wide : (least : ℕ) → IsLeastWidth one subject.style least → least ≤ now.width
-    wide least is_least = omega (arith, range.0, IsLeastWidth-unique one subject.style least (least_of (meant subject) now.table) is_least least_one)
+    wide least is_least =
+        omega (
+          arith,
+          range.0,
+          IsLeastWidth-unique one subject.style least (least_of (meant subject) now.table)
+              is_least least_one,
+        )
 
-    pub some : {X : Type 0} (found : Option X) (P : X → Type 0) → MatchOption found ((inner : List InnerSteps) →
-        AreInnerSteps one subject.style now.width before inner → HasSoundProblem one subject.style now.width inner → ⊥) P → IsSome found
+    pub some : {X : Type 0} (found : Option X) (P : X → Type 0) → MatchOption found ((problem : ProblemModel) →
+        IsProblemFor one subject.style now.width before problem → ⊥) P → IsSome found
     some None P none =
-        let inner = due_inner by_low by_high alone low (meant subject) (on_page subject is fits) budget before good now due one named in
-        absurd (none inner.0 inner.1 (due_sound by_low by_high alone low (meant subject) (on_page subject is fits) budget before good now due one named
-        inner.0 inner.1))
+        let inner = due_inner by_low by_high alone low (meant subject) (on_page subject is fits)
+        budget before good now due one named in
+        let has = due_sound by_low by_high alone low (meant subject) (on_page subject is fits)
+        budget before good now due one named inner.0 inner.1 in
+        absurd (none has.0 (record { inner = inner.0; steps = inner.1; made = has.1; sound = has.2 }))
     some (Some x) P has = refl
 
     -- the problem is that of each section that is due
-    pub problem_due : (inner : List InnerSteps) → AreInnerSteps one subject.style now.width before inner →
-        HasSoundProblem one subject.style now.width inner → (problem : ProblemModel) → IsProblemOf one subject.style now.width inner problem →
-        (section : Section) → section.table ≡ now.table → section.width ≡ now.width → IsProblemAt (meant subject) before section problem
-    problem_due inner steps has problem made section table width = record {
+    pub problem_due : (problem : ProblemModel) → IsProblemFor one subject.style now.width before problem →
+        (section : Section) → section.table ≡ now.table → section.width ≡ now.width →
+        IsProblemAt (meant subject) before section problem
+    problem_due problem own section table width = record {
       one = one;
       named = record { among = named.among; numbered = named.numbered ∙ sym table };
-      inner = inner;
-      steps = subst (λ w. AreInnerSteps one subject.style w before inner) (sym width) steps;
-      made = subst (λ w. IsProblemOf one subject.style w inner problem) (sym width) made;
-      sound = subst problem_sound.IsSound (same-problem (InnerNeeds (λ bounds. bounds.low) inner) (InnerNeeds (λ bounds. bounds.high) inner)
-          subject.style now.width (out-Table one) has.0 problem has.1 made) has.2;
+      inner = own.inner;
+      steps = subst (λ w. AreInnerSteps one subject.style w before own.inner) (sym width) own.steps;
+      made = subst (λ w. IsProblemOf one subject.style w own.inner problem) (sym width) own.made;
+      sound = own.sound;
     }
 
     whole : take (length before) before ≡ before
@@ -126,7 +137,8 @@ module _ (subject : Subject) (is : IsSubject subject) (fits : FitsPage subject) 
 
     -- a placement of it is no higher than twice the size of its table
     pub small : (inner : List InnerSteps) → AreInnerSteps one subject.style now.width before inner → (problem : ProblemModel) →
-        IsProblemOf one subject.style now.width inner problem → (placed : Placed) → IsPlacement problem placed → placed.height ≤ 2 * table_size one
+        IsProblemOf one subject.style now.width inner problem → (placed : Placed) → IsPlacement problem placed →
+        placed.height ≤ 2 * table_size one
     small inner steps problem made placed placement =
         let on = on_page subject is fits in
         low one subject.style now.width inner problem placed (record {

@@ -4,11 +4,12 @@ use Rattle.std.specs.List.{AllByRecursion, flat_map}
 use Rattle.std.proofs.lemmas.List.Concat.{flat_map-cons}
 use Rattle.tl_base.specs.declared.limits.TheConstants.{MAX_BUDGET, MAX_COLUMNS, MAX_HEIGHT, MAX_PAGE_WIDTH}
 use Rattle.tl_base.proofs.Sums.{sum-cons}
-use Rattle.tl_problem.specs.Sizes.{total}
+use Rattle.tl_base.specs.Sizes.{total}
 use Rattle.tl_cert.specs.declared.limits.TheConstants.{MAX_TABLE}
 use Rattle.tl_cert.specs.declared.section.Section.{Section}
 use Rattle.tl_cert.specs.Pieces.{field, word, AllWithin}
-use Rattle.tl_cert.specs.Text.{space, line_feed, spaced, cut_pieces, line_pieces, section_head, IsLogWritable, IsTraceWritable, IsSectionWritable}
+use Rattle.tl_cert.specs.Text.{space, line_feed, spaced, cut_pieces, line_pieces, section_head, IsLogWritable, IsTraceWritable}
+use Rattle.tl_cert.specs.Text.{IsSectionWritable}
 use Rattle.tl_cert.proofs.reading.Spellings.{within-append}
 use Rattle.tl_cert.proofs.reading.Words.{within-word}
 
@@ -30,10 +31,12 @@ total_within gap edge most (w ∷ widths) all =
     le-all : (a b c d : ℕ) → a ≤ a + b + c + d
     le-all a b c d = omega arith
 
-spaced_within : (widths : List ℕ) → AllByRecursion (λ w. w ≤ MAX_PAGE_WIDTH) widths → AllWithin (flat_map (spaced MAX_PAGE_WIDTH) widths)
+spaced_within : (widths : List ℕ) → AllByRecursion (λ w. w ≤ MAX_PAGE_WIDTH) widths →
+    AllWithin (flat_map (spaced MAX_PAGE_WIDTH) widths)
 spaced_within [] all = tt
 spaced_within (w ∷ widths) all = subst AllWithin (sym (flat_map-cons (spaced MAX_PAGE_WIDTH) w widths))
-    (within-append (spaced MAX_PAGE_WIDTH w) (flat_map (spaced MAX_PAGE_WIDTH) widths) (tt, ((omega arith, all.0), tt)) (spaced_within widths all.1))
+    (within-append (spaced MAX_PAGE_WIDTH w) (flat_map (spaced MAX_PAGE_WIDTH) widths) (tt, ((omega arith, all.0), tt))
+    (spaced_within widths all.1))
 
 -- the numbers of a section are in their ranges
 pub record IsInRange (section : Section) : Type 0 where
@@ -58,10 +61,14 @@ head section is =
     let from_width = field 0 MAX_PAGE_WIDTH section.width space ++ from_height in
     let from_table = field 0 MAX_TABLE section.table space ++ from_width in
     within-append (word (codes "section ")) from_table (within-word (codes "section "))
-    (within-append (field 0 MAX_TABLE section.table space) from_width (fields 0 MAX_TABLE section.table space (omega arith) is.table)
-    (within-append (field 0 MAX_PAGE_WIDTH section.width space) from_height (fields 0 MAX_PAGE_WIDTH section.width space (omega arith) is.width)
-    (within-append (field 0 MAX_HEIGHT section.height space) from_lower (fields 0 MAX_HEIGHT section.height space (omega arith) is.height)
-    (within-append (field 0 MAX_HEIGHT section.lower space) from_cuts (fields 0 MAX_HEIGHT section.lower space (omega arith) is.lower)
+    (within-append (field 0 MAX_TABLE section.table space) from_width
+    (fields 0 MAX_TABLE section.table space (omega arith) is.table)
+    (within-append (field 0 MAX_PAGE_WIDTH section.width space) from_height
+    (fields 0 MAX_PAGE_WIDTH section.width space (omega arith) is.width)
+    (within-append (field 0 MAX_HEIGHT section.height space) from_lower
+    (fields 0 MAX_HEIGHT section.height space (omega arith) is.height)
+    (within-append (field 0 MAX_HEIGHT section.lower space) from_cuts
+    (fields 0 MAX_HEIGHT section.lower space (omega arith) is.lower)
     (within-append (field 0 MAX_BUDGET cuts space) lines (fields 0 MAX_BUDGET cuts space (omega arith) is.trace.0)
     (fields 1 (2 * cuts + 1) (length section.log) line_feed (omega (arith, is.some)) is.short))))))
 

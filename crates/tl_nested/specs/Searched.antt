@@ -7,13 +7,13 @@ use Rattle.tl_problem.specs.Problem.{ProblemModel}
 use Rattle.tl_cert.specs.declared.limits.TheConstants.{MAX_SECTIONS}
 use Rattle.tl_cert.specs.declared.section.Section.{Section}
 use Rattle.tl_cert.specs.Text.{IsSectionWritable}
-use Rattle.tl_form.specs.declared.cell.Table.{Table}
+use Rattle.tl_table.specs.declared.cell.Table.{Table}
 use Rattle.tl_form.specs.declared.subject.Subject.{Subject}
 use Rattle.tl_form.specs.Expected.{Document, IsDocumentOf, own_number, least_of, due_after}
 use Rattle.tl_form.specs.Subjects.{meant}
 use Rattle.tl_form.specs.Valid.{IsGood}
 use Rattle.tl_solve.specs.declared.outcome.Outcome.{Outcome}
-use Rattle.tl_nested.specs.Solved.{IsSolved}
+use Rattle.tl_solve.specs.Solver.{IsSolverOutcome}
 
 -- the page is at least as wide as the least width of the document's own table
 abbrev pub FitsPage : Subject → Type 0
@@ -32,7 +32,7 @@ pub record IsSearched (given : ProblemModel → Outcome → Type 0) (document : 
     (section : Section) : Type 0 where
   pub good : IsGood document budget before section
   pub outcome : Outcome
-  pub solved : IsSolved good.problem budget outcome
+  pub solved : IsSolverOutcome good.problem budget outcome
   pub gives : given good.problem outcome
   pub same : IsSectionOf outcome section
 

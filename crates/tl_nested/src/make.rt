@@ -1,21 +1,22 @@
 //! The sections of a document by solvers that are made.
 
-ghost use Rattle.std.specs.Prelude.{ℕ, ◌≤◌, IfOk};
+ghost use Rattle.std.specs.Prelude.{◌≡◌, ℕ, ◌≤◌, IfOk};
 ghost use Rattle.tl_base.specs.declared.limits.TheConstants.{MAX_BUDGET, MAX_PAGE_WIDTH};
-ghost use Rattle.tl_form.specs.Least.{IsLeastWidth};
-ghost use Rattle.tl_form.specs.Sound.{IsSound};
+ghost use Rattle.tl_table.specs.Least.{IsLeastWidth};
+ghost use Rattle.tl_table.specs.Sound.{IsSound};
 ghost use Rattle.tl_nested.specs.Searched.{AreSectionsOf, AreWritable};
-ghost use Rattle.tl_nested.specs.Solved.{IsSolved};
 ghost use Rattle.tl_problem.specs.Problem.{ProblemModel};
 ghost use Rattle.tl_solve.specs.declared.outcome.Outcome.{Outcome};
+ghost use Rattle.tl_solve.specs.Solver.{IsSolverOutcome};
 
 use crate::searching::sections_by;
 use std::alloc::{AllocError, Global};
-use tl_base::{List, Style};
+use std::thread::Threads;
+use tl_base::{Gate, List, Style};
 use tl_cert::Section;
-use tl_form::Table;
 use tl_problem::Problem;
 use tl_solve::{Outcome, Solver};
+use tl_table::Table;
 
 /// Makes solvers. What each outcome of a solver that it makes has besides is a meaning of the maker.
 pub trait Make: Sync {
@@ -32,14 +33,19 @@ pub trait Make: Sync {
 }
 
 /// All sections of a certificate of the table on a page of `width` columns, each by a solver of its own.
-pub fn sections<M: Make>(
+/// So many `workers` may search at one time, each piece of work behind the gate; one is all that there is yet.
+pub fn sections<R: Threads + Sync, M: Make, G: Gate>(
+    _rt: &R,
     alloc: Global,
     table: &Table,
     style: Style,
     width: u32,
     budget: u32,
+    workers: u32,
     maker: &M,
+    _gate: &G,
 ) -> Result<List<Section>, AllocError>
+    requires one_worker { workers ≡ 1 }
     requires sound { IsSound table.now }
     requires narrow { width ≤ MAX_PAGE_WIDTH }
     requires wide { (least : ℕ) → IsLeastWidth table.now style least → least ≤ width }
@@ -50,7 +56,7 @@ pub fn sections<M: Make>(
 {
     let solve = |problem: &Problem, budget: u32| -> Result<Outcome, AllocError>
         requires { budget ≤ MAX_BUDGET }
-        ensures solved { IfOk result (IsSolved problem.now budget) }
+        ensures solved { IfOk result (IsSolverOutcome problem.now budget) }
         ensures besides { IfOk result (λ outcome. M.besides maker.entry.now problem.now budget outcome) }
     { maker.make(alloc)?.solve(problem, budget) };
     sections_by(alloc, table, style, width, budget, &solve)

@@ -5,8 +5,8 @@ ghost use Rattle.tl_base.specs.declared.limits.TheConstants.{MAX_BUDGET, MAX_PAG
 ghost use Rattle.tl_cert.specs.declared.section.Section.{Section};
 ghost use Rattle.tl_cert.specs.Text.{IsSectionWritable};
 ghost use Rattle.tl_form.specs.Expected.{due_after, placed_width};
-ghost use Rattle.tl_form.specs.Least.{IsLeastWidth};
-ghost use Rattle.tl_form.specs.Sound.{IsSound};
+ghost use Rattle.tl_table.specs.Least.{IsLeastWidth};
+ghost use Rattle.tl_table.specs.Sound.{IsSound};
 ghost use Rattle.tl_form.specs.Subjects.{IsSubject, due_of, meant};
 ghost use Rattle.tl_form.specs.Valid.{AreGoodBelow, IsProblemAt};
 ghost use Rattle.tl_nested.specs.Searched.{AreSectionsOf, AreWritable, FitsPage, IsSearched};
@@ -15,9 +15,10 @@ ghost use Rattle.tl_nested.specs.Solved.{Gives, SearchesEach, SolvesEach};
 use std::alloc::{AllocError, Global};
 use tl_base::{List, Style};
 use tl_cert::Section;
-use tl_form::{Due, Subject, Table, inner_steps, problem};
+use tl_form::{Due, Subject, problem_for};
 use tl_problem::{Placed, Problem};
 use tl_solve::Outcome;
+use tl_table::Table;
 
 /// What one search gave.
 #[derive(Drop)]
@@ -43,8 +44,8 @@ pub fn problem_at(
         IsProblemAt (meant subject.now) before.now section problem) }
 {
     let table = subject.table_of(due.table);
-    let inner = inner_steps(alloc, table, subject.style, due.width, before)?.unwrap();
-    problem(alloc, table, subject.style, due.width, inner.as_slice())
+    let problem = problem_for(alloc, table, subject.style, due.width, before)?.unwrap();
+    Ok(problem)
 }
 
 /// Searches the section that is due, on the sections before it.

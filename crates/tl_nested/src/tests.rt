@@ -2,17 +2,18 @@
 
 ghost use Rattle.std.specs.Prelude.{◌≤◌, IfOk};
 ghost use Rattle.tl_base.specs.declared.limits.TheConstants.{MAX_BUDGET, MAX_PAGE_WIDTH};
-ghost use Rattle.tl_form.specs.Sound.{IsSound};
+ghost use Rattle.tl_table.specs.Sound.{IsSound};
 ghost use Rattle.tl_solve.specs.Plain.{IsPlainOutcome};
 
 use crate::{Make, sections};
 use std::alloc::{AllocError, Global};
 use std::process::Abort;
 use std::test::Fail;
-use tl_base::{Breaking, MAX_FILE_BYTES, Style};
+use std::thread::Threads;
+use tl_base::{Breaking, MAX_FILE_BYTES, NoGate, Style};
 use tl_cert::Section;
-use tl_form::{Table, least_width, table};
 use tl_solve::Plain;
+use tl_table::{Table, least_width, table};
 use tl_token::tokens;
 use tl_tree::tree;
 
@@ -55,7 +56,13 @@ fn push_section(alloc: Global, line: &mut String, section: &Section) -> Result<(
 }
 
 /// The sections of a file on a page in style plain, as text.
-fn sections_of(alloc: Global, file: &str, width: u32, budget: u32) -> Result<String, Fail>
+fn sections_of(
+    rt: &(impl Threads + Sync),
+    alloc: Global,
+    file: &str,
+    width: u32,
+    budget: u32,
+) -> Result<String, Fail>
     requires page { width ≤ MAX_PAGE_WIDTH }
     requires cuts { budget ≤ MAX_BUDGET }
 {
@@ -64,7 +71,18 @@ fn sections_of(alloc: Global, file: &str, width: u32, budget: u32) -> Result<Str
     if width < least {
         return Err("no layout fits the page".into());
     }
-    let found = sections(alloc, &table, Style::Plain, width, budget, &MakePlain {})?;
+    let style = Style::Plain;
+    let found = sections(
+        rt,
+        alloc,
+        &table,
+        style,
+        width,
+        budget,
+        1,
+        &MakePlain {},
+        &NoGate,
+    )?;
     let mut line = String::new(alloc);
     for section in found.as_slice() {
         push_section(alloc, &mut line, section)?;
@@ -74,7 +92,7 @@ fn sections_of(alloc: Global, file: &str, width: u32, budget: u32) -> Result<Str
 
 /// Compares the sections of a file with those that are wanted.
 fn compare(
-    rt: &impl Abort,
+    rt: &(impl Abort + Threads + Sync),
     alloc: Global,
     file: &str,
     width: u32,
@@ -84,7 +102,7 @@ fn compare(
     requires page { width ≤ MAX_PAGE_WIDTH }
     requires cuts { budget ≤ MAX_BUDGET }
 {
-    let found = sections_of(alloc, file, width, budget)?;
+    let found = sections_of(rt, alloc, file, width, budget)?;
     assert_eq!(rt; found.as_str(), wanted);
     Ok(())
 }

@@ -1,16 +1,17 @@
 -- A block that fits: a paragraph has a cutting, and a nested table the next layout.
-use Rattle.std.proofs.Common.{◌≡◌, ℕ, ◌+◌, ◌<◌, ◌≤◌, List, [], ◌∷◌, ◌++◌, length, drop, get_or, refl, sym, ◌∙◌, ap, subst, suc, arith}
+use Rattle.std.proofs.Common.{◌≡◌, ℕ, ◌+◌, ◌<◌, ◌≤◌, List, [], ◌∷◌, ◌++◌, length, drop, get_or, refl, sym, ◌∙◌, ap, subst, suc}
+use Rattle.std.proofs.Common.{arith}
 use Rattle.std.proofs.lemmas.List.{get_or-drop, drop_more, length-drop}
 use Rattle.std.specs.declared.alloc.Global.{Global}
 use Rattle.std.specs.declared.boxed.Box.{Box}
 use Rattle.tl_base.specs.declared.style.Style.{Style}
-use Rattle.tl_base.specs.declared.style.Style.TheVariants.{Plain, Frame}
+use Rattle.tl_base.specs.declared.style.Style.TheVariants.{Plain, Compact, Frame}
 use Rattle.tl_base.specs.Style.{row_gap_of}
 use Rattle.tl_text.specs.declared.paragraph.Atom.{Atom}
 use Rattle.tl_text.specs.Cuttings.{HasCutting}
-use Rattle.tl_form.specs.declared.cell.Content.TheOpen as open_content
-use Rattle.tl_form.specs.declared.cell.Table.{Table, out-Table}
-use Rattle.tl_form.specs.declared.layout.Layout.{Layout, out-Layout}
+use Rattle.tl_table.specs.declared.cell.Content.TheOpen as open_content
+use Rattle.tl_table.specs.declared.cell.Table.{Table, out-Table}
+use Rattle.tl_table.specs.declared.layout.Layout.{Layout, out-Layout}
 use Rattle.tl_page.specs.declared.line.Drawn.{Drawn}
 use Rattle.tl_page.specs.declared.line.Line.{Line}
 use Rattle.tl_page.specs.Pages.{AreParagraphLines, ShowsWithin, nested_lines}
@@ -21,6 +22,7 @@ use Rattle.tl_page.specs.inner.Contents.{FitsPage, FitsBlockRoom, ShowsPart, Sho
 
 pub row_gap-small : (style : Style) → row_gap_of style ≤ 2
 row_gap-small Plain = omega arith
+row_gap-small Compact = omega arith
 row_gap-small Frame = omega arith
 
 -- ---- paragraphs
@@ -29,8 +31,10 @@ pub paragraph_fits : (style : Style) (w : ℕ) (paragraph : List Atom) (inner : 
     FitsBlockRoom style w (open_content.Para paragraph) inner next → HasCutting w paragraph
 paragraph_fits style w paragraph inner next fit = (fit.fits.0.0, fit.fits.0.1, fit.fits.0.2)
 
-pub paragraph_shown : (style : Style) (w : ℕ) (paragraph : List Atom) (inner : List Layout) (next : ℕ) (before lines more : List Line) →
-    AreParagraphLines w paragraph more → lines ≡ before ++ more → ShowsPart style w (open_content.Para paragraph) inner next next before lines
+pub paragraph_shown : (style : Style) (w : ℕ) (paragraph : List Atom) (inner : List Layout) (next : ℕ)
+    (before lines more : List Line) →
+    AreParagraphLines w paragraph more → lines ≡ before ++ more →
+    ShowsPart style w (open_content.Para paragraph) inner next next before lines
 paragraph_shown style w paragraph inner next before lines more are written = record {
   depth = 0;
   content = record { lines = more; inner = [] };
@@ -55,13 +59,16 @@ module _ (style : Style) (w : ℕ) (table : Table) (inner : List Layout) (next :
   pub nested_fits : (layout : Layout) → FitsNested → layout ≡ get_or inner next layout → FitsPage style table layout
   nested_fits layout fit is =
       let place : next + 0 ≡ next = omega arith in
-      let same : get_or inner (next + 0) layout ≡ fit.layout = sym (get_or-drop next inner 0 layout) ∙ ap (λ rest. get_or rest 0 layout) fit.here in
+      let same : get_or inner (next + 0) layout ≡ fit.layout =
+      sym (get_or-drop next inner 0 layout) ∙ ap (λ rest. get_or rest 0 layout) fit.here in
       let at : get_or inner next layout ≡ fit.layout = rw place at same in
       subst (FitsPage style table) (sym (is ∙ at)) fit.fits
 
 -- the lines of a page with cells that show their content
-pub page_shown : (style : Style) (table : Table) (layout : Layout) (cells : List Drawn) (page : List (List ℕ)) → (shows : ShowsCells style table layout cells) →
-    page ≡ lines_of (picture_with style (out-Table table) (out-Layout layout) cells) → ShowsWithin (suc shows.depth) style table layout page
+pub page_shown : (style : Style) (table : Table) (layout : Layout) (cells : List Drawn) (page : List (List ℕ)) →
+    (shows : ShowsCells style table layout cells) →
+    page ≡ lines_of (picture_with style (out-Table table) (out-Layout layout) cells) →
+    ShowsWithin (suc shows.depth) style table layout page
 page_shown style table layout cells page shows drawn = record {
   contents = shows.contents;
   cells = shows.shows;
@@ -80,10 +87,13 @@ nested_given style w box inner next fit = record {
 }
 
 -- a nested table stands as its page
-pub nested_shown : (style : Style) (w : ℕ) (box : Box Table Global) (inner : List Layout) (next : ℕ) (layout : Layout) (cells : List Drawn)
+pub nested_shown : (style : Style) (w : ℕ) (box : Box Table Global) (inner : List Layout) (next : ℕ) (layout : Layout)
+    (cells : List Drawn)
     (page : List (List ℕ))
-    (before lines : List Line) → layout ≡ get_or inner next layout → next < length inner → ShowsCells style box.value layout cells →
-    page ≡ lines_of (picture_with style (out-Table box.value) (out-Layout layout) cells) → lines ≡ before ++ nested_lines style layout page →
+    (before lines : List Line) → layout ≡ get_or inner next layout → next < length inner →
+    ShowsCells style box.value layout cells →
+    page ≡ lines_of (picture_with style (out-Table box.value) (out-Layout layout) cells) →
+    lines ≡ before ++ nested_lines style layout page →
     ShowsPart style w (open_content.Table box) inner next (next + 1) before lines
 nested_shown style w box inner next layout cells page before lines is within shows drawn written = record {
   depth = suc shows.depth;

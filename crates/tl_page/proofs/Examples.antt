@@ -1,5 +1,6 @@
 -- Tables, drawn by hand. The first has a cell over both columns, one below on the left, and a slot
--- that no cell covers; its columns are 2 and 3 wide. The second has a cell over two rows beside two others. The third has a nested
+-- that no cell covers; its columns are 2 and 3 wide. The second has a cell over two rows beside two others. The third has a
+-- nested
 -- table in a cell beside an uncovered slot.
 --
 --   plain      frame          frame      frame
@@ -12,7 +13,7 @@
 --                                        +---+-+
 use Rattle.std.proofs.Common.{◌≡◌, inr, ℕ, List, [], ◌∷◌, codes, map, refl, arith}
 use Rattle.tl_base.specs.declared.style.Style.{Style}
-use Rattle.tl_base.specs.declared.style.Style.TheVariants.{Plain, Frame}
+use Rattle.tl_base.specs.declared.style.Style.TheVariants.{Plain, Compact, Frame}
 use Rattle.tl_grid.specs.declared.shape.Place.{Place}
 use Rattle.tl_page.specs.declared.line.Line.{Line}
 use Rattle.tl_page.specs.Pictures.{Picture, picture, lines_of}
@@ -36,6 +37,9 @@ spanned style = picture style (record { cols = 2; rows = 2; places = over_both �
 
 spanned_plain : lines_of (spanned Plain) ≡ codes "aaaa   " ∷ codes "bb     " ∷ []
 spanned_plain = refl
+
+spanned_compact : lines_of (spanned Compact) ≡ codes "aaaa  " ∷ codes "bb    " ∷ []
+spanned_compact = refl
 
 spanned_frame : lines_of (spanned Frame) ≡
     codes "+------+"
@@ -103,7 +107,8 @@ abbrev nested : Picture
 nested = picture Frame (record { cols = 1; rows = 1; places = place 0 1 0 1 ∷ [] }) (1 ∷ []) (1 ∷ []) ((one 0x78 ∷ []) ∷ [])
 
 abbrev around : Style → List Line → Picture
-around style page = picture style (record { cols = 2; rows = 2; places = place 0 1 0 1 ∷ place 1 2 0 1 ∷ place 0 1 1 2 ∷ [] }) (3 ∷ 1 ∷ []) (1 ∷ 3 ∷ [])
+around style page = picture style (record { cols = 2; rows = 2; places = place 0 1 0 1 ∷ place 1 2 0 1 ∷ place 0 1 1 2 ∷ [] })
+    (3 ∷ 1 ∷ []) (1 ∷ 3 ∷ [])
     ((one 0x61 ∷ []) ∷ (one 0x62 ∷ []) ∷ page ∷ [])
 
 abbrev nested_page : List Line

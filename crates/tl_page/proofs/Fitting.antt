@@ -1,20 +1,21 @@
 -- What follows where a layout fits: sizes that are small, rooms within the page, and layouts of nested tables one after
 -- the other.
-use Rattle.std.proofs.Common.{◌≡◌, ℕ, zero, suc, ◌+◌, ◌*◌, ◌^◌, ◌<◌, ◌≤◌, List, [], ◌∷◌, ◌++◌, length, drop, sum, refl, sym, ◌∙◌, ap, arith}
+use Rattle.std.proofs.Common.{◌≡◌, ℕ, zero, suc, ◌+◌, ◌*◌, ◌^◌, ◌<◌, ◌≤◌, List, [], ◌∷◌, ◌++◌, length, drop, sum, refl, sym, ◌∙◌}
+use Rattle.std.proofs.Common.{ap, arith}
 use Rattle.std.specs.List.{All, AllZip, flat_map}
 use Rattle.std.proofs.lemmas.List.{drop_at, length-append}
 use Rattle.tl_base.specs.declared.limits.TheConstants.{MAX_COLUMNS, MAX_HEIGHT, MAX_PAGE_WIDTH, MAX_ROWS}
 use Rattle.tl_base.specs.declared.style.Style.{Style}
 use Rattle.tl_base.specs.Style.{gap_of, row_gap_of, edge_of}
-use Rattle.tl_problem.proofs.SizeLaws.{sum-total}
+use Rattle.tl_base.proofs.SizeLaws.{sum-total}
 use Rattle.tl_grid.specs.Dropping.{IsPlaced}
-use Rattle.tl_form.specs.declared.cell.Content.{Content as Block, out-Content}
-use Rattle.tl_form.specs.declared.cell.Content.TheOpen as open_content
-use Rattle.tl_form.specs.declared.cell.Table.{Table, out-Table}
-use Rattle.tl_form.specs.declared.layout.Layout.{Layout, out-Layout}
-use Rattle.tl_form.specs.Tables.{OpenTable, OpenCell, OpenContent}
-use Rattle.tl_form.specs.Layouts.{OpenLayout, Share, FitsShare, FitsRoom, FitsBy, FitsWithin}
-use Rattle.tl_form.specs.Sound.{IsSound, IsSoundWithin, places_of}
+use Rattle.tl_table.specs.declared.cell.Content.{Content as Block, out-Content}
+use Rattle.tl_table.specs.declared.cell.Content.TheOpen as open_content
+use Rattle.tl_table.specs.declared.cell.Table.{Table, out-Table}
+use Rattle.tl_table.specs.declared.layout.Layout.{Layout, out-Layout}
+use Rattle.tl_table.specs.Tables.{OpenTable, OpenCell, OpenContent}
+use Rattle.tl_table.specs.Layouts.{OpenLayout, Share, FitsShare, FitsRoom, FitsBy, FitsWithin}
+use Rattle.tl_table.specs.Sound.{IsSound, IsSoundWithin, places_of}
 use Rattle.tl_page.specs.Pages.{Content, ShowsBlock, ShowsCell}
 use Rattle.tl_page.specs.inner.Contents.{FitsPage}
 
@@ -29,7 +30,8 @@ pub record Fitting (style : Style) (table : OpenTable) (layout : OpenLayout) : T
   pub low : height ≤ MAX_HEIGHT
   pub fits : FitsBy (FitsWithin depth style) style table width height layout
 
-pub fitting : (style : Style) (table : Table) (layout : Layout) → FitsPage style table layout → Fitting style (out-Table table) (out-Layout layout)
+pub fitting : (style : Style) (table : Table) (layout : Layout) → FitsPage style table layout →
+    Fitting style (out-Table table) (out-Layout layout)
 fitting style table layout (width, height, narrow, low, (zero, fits)) = absurd fits
 fitting style table layout (width, height, narrow, low, (suc depth, fits)) = record {
   depth = depth;
@@ -47,7 +49,12 @@ pub record Sound (table : OpenTable) : Type 0 where
 
 sound_within : (table : Table) (depth : ℕ) → IsSoundWithin depth table → Sound (out-Table table)
 sound_within table zero sound = absurd sound
-sound_within table (suc depth) sound = record { few_columns = sound.few_columns; few_rows = sound.few_rows; placed = sound.placed }
+sound_within table (suc depth) sound = record {
+  few_columns = sound.few_columns;
+  few_rows = sound.few_rows;
+  placed =
+      sound.placed;
+}
 
 pub sound_table : (table : Table) → IsSound table → Sound (out-Table table)
 sound_table table sound = sound_within table sound.depth sound.sound
@@ -56,23 +63,39 @@ sound_table table sound = sound_within table sound.depth sound.sound
 pub small_widths : (style : Style) (table : OpenTable) (layout : OpenLayout) → Sound table → Fitting style table layout →
     sum layout.widths + 2 * length layout.widths < 2 ^ 31
 small_widths style table layout sound fit =
-    omega (arith, sum-total (gap_of style) (edge_of style) layout.widths, fit.fits.columns, fit.fits.within, fit.narrow, sound.few_columns)
+    omega (
+      arith,
+      sum-total (gap_of style) (edge_of style) layout.widths,
+      fit.fits.columns,
+      fit.fits.within,
+      fit.narrow,
+      sound.few_columns,
+    )
 
 pub small_heights : (style : Style) (table : OpenTable) (layout : OpenLayout) → Sound table → Fitting style table layout →
     sum layout.heights + 2 * length layout.heights < 2 ^ 31
 small_heights style table layout sound fit =
-    omega (arith, sum-total (row_gap_of style) (edge_of style) layout.heights, fit.fits.rows, fit.fits.high, fit.low, sound.few_rows)
+    omega (
+      arith,
+      sum-total (row_gap_of style) (edge_of style) layout.heights,
+      fit.fits.rows,
+      fit.fits.high,
+      fit.low,
+      sound.few_rows,
+    )
 
 -- ---- layouts one after the other
 
 -- of two splits of a list at one place the rests are the same
-pub same_rest : {X : Type 0} (xs ys more rest all : List X) → length xs ≡ length ys → xs ++ more ≡ all → ys ++ rest ≡ all → more ≡ rest
+pub same_rest : {X : Type 0} (xs ys more rest all : List X) → length xs ≡ length ys → xs ++ more ≡ all → ys ++ rest ≡ all →
+    more ≡ rest
 same_rest xs ys more rest all same one other =
     sym (drop_at xs more (length xs) refl) ∙ ap (drop (length xs)) (one ∙ sym other) ∙ drop_at ys rest (length xs) (sym same)
 
 module _ (fits : Table → ℕ → ℕ → Layout → Type 0) (shows : Table → Layout → List (List ℕ) → Type 0) (style : Style) (w : ℕ) where
   -- a block is given as many layouts as it shows
-  pub as_many_in_block : (block : OpenContent) (share : Share) (content : Content) → FitsShare fits w block share → ShowsBlock shows style w block content →
+  pub as_many_in_block : (block : OpenContent) (share : Share) (content : Content) → FitsShare fits w block share →
+      ShowsBlock shows style w block content →
       length share.inner ≡ length content.inner
   as_many_in_block (open_content.Para paragraph) share content fit shown = ap length fit.1 ∙ sym (ap length shown.1)
   as_many_in_block (open_content.Table box) share content fit shown = ap length fit.given ∙ sym (ap length shown.inner)
@@ -100,4 +123,5 @@ module _ (fits : Table → ℕ → ℕ → Layout → Type 0) (shows : Table →
       ShowsCell shows style w cell content →
       length given ≡ length content.inner
   as_many_in_cell h cell given content fit shown =
-      ap length (sym fit.given) ∙ as_many_in_blocks cell.blocks fit.shares shown.parts fit.blocks shown.blocks ∙ ap length shown.inner
+      ap length (sym fit.given) ∙ as_many_in_blocks cell.blocks fit.shares shown.parts fit.blocks shown.blocks ∙ ap length
+      shown.inner

@@ -29,12 +29,14 @@ more-along w used (unit ∷ units) rest within =
     ≡ used + sum_by unit_width (unit ∷ units) + sum_by gap_before (unit ∷ units) = omega (arith, widths, gaps) in
     at_choice (λ n. n ≡ more w (used + sum_by unit_width (unit ∷ units) + sum_by gap_before (unit ∷ units)) rest)
     (used + gap_before unit + unit_width unit) w _ _
-    (λ fits. more-along w (used + gap_before unit + unit_width unit) units rest (omega (arith, same, within)) ∙ ap (λ (n : ℕ). more w n rest) same)
+    (λ fits. more-along w (used + gap_before unit + unit_width unit) units rest (omega (arith, same, within)) ∙ ap
+    (λ (n : ℕ). more w n rest) same)
     (λ over. absurd (omega (arith, over, widths, gaps, within)))
 
 -- a filled line is followed by as many lines as the units after it need
 lines-more : (w : ℕ) (first : Atom) (line : List Atom) (lines : List (List Atom)) → AllByRecursion (λ line. line ≢ []) lines →
-    AllByRecursion (Holds w) lines → FillsLines w ((first ∷ line) ∷ lines) → length lines ≡ more w (line_width (first ∷ line)) (joined lines)
+    AllByRecursion (Holds w) lines → FillsLines w ((first ∷ line) ∷ lines) →
+    length lines ≡ more w (line_width (first ∷ line)) (joined lines)
 lines-more w first line [] some holds filled = refl
 lines-more w first line ([] ∷ lines) some holds filled = absurd (some.0 refl)
 lines-more w first line ((unit ∷ next) ∷ lines) some holds filled =
@@ -42,12 +44,14 @@ lines-more w first line ((unit ∷ next) ∷ lines) some holds filled =
     let sum = sum_by-cons unit_width unit next in
     let rest = lines-more w unit next lines some.1 holds.1 filled.1 in
     let along = more-along w (unit_width unit) next (joined lines) (omega (arith, holds.0, sum)) in
-    let same : unit_width unit + sum_by unit_width next + sum_by gap_before next ≡ line_width (unit ∷ next) = omega (arith, sum) in
+    let same : unit_width unit + sum_by unit_width next + sum_by gap_before next ≡ line_width (unit ∷ next) =
+    omega (arith, sum) in
     at_choice (λ n. length ((unit ∷ next) ∷ lines) ≡ n) (used + gap_before unit + unit_width unit) w _ _
     (λ fits. absurd (omega (arith, fits, filled.0, line_width-push first line unit)))
     (λ over. omega (arith, rest, along, ap (λ (n : ℕ). more w n (joined lines)) same))
 
-piece-same : (w : ℕ) (piece : List Atom) (lines : List (List Atom)) → IsPieceCut piece lines → AllByRecursion (Holds w) lines → FillsLines w lines →
+piece-same : (w : ℕ) (piece : List Atom) (lines : List (List Atom)) → IsPieceCut piece lines → AllByRecursion (Holds w) lines →
+    FillsLines w lines →
     length lines ≡ length (piece_lines w piece)
 piece-same w [] lines cut holds filled = ap length cut
 piece-same w (unit ∷ units) [] cut holds filled = absurd (omega (arith, ap length cut.1))
@@ -56,7 +60,8 @@ piece-same w (unit ∷ units) ((first ∷ line) ∷ lines) cut holds filled =
     let sum = sum_by-cons unit_width first line in
     let beyond = lines-more w first line lines cut.0.1 holds.1 filled in
     let along = more-along w (unit_width first) line (joined lines) (omega (arith, holds.0, sum)) in
-    let same : unit_width first + sum_by unit_width line + sum_by gap_before line ≡ line_width (first ∷ line) = omega (arith, sum) in
+    let same : unit_width first + sum_by unit_width line + sum_by gap_before line ≡ line_width (first ∷ line) =
+    omega (arith, sum) in
     let all = fill-length w first [] (line ++ joined lines) in
     omega (
       arith,
@@ -83,7 +88,8 @@ pieces-same w (piece ∷ pieces) (lines ∷ cut) is holds filled =
     )
 
 -- no cutting that holds in the width has fewer lines
-pub greedy-least : (w : ℕ) (atoms : List Atom) (cut other : List (List (List Atom))) → IsGreedyCutting w atoms cut → IsCutting atoms other →
+pub greedy-least : (w : ℕ) (atoms : List Atom) (cut other : List (List (List Atom))) → IsGreedyCutting w atoms cut →
+    IsCutting atoms other →
     HoldsIn w other → length (joined cut) ≤ length (joined other)
 greedy-least w atoms cut other greedy is holds =
     omega (

@@ -1,5 +1,6 @@
 -- The bytes and the columns of a line, unit by unit.
-use Rattle.std.proofs.Common.{◌≡◌, ℕ, suc, ◌+◌, ◌<◌, List, [], ◌∷◌, ◌++◌, length, take, get_or, refl, sym, ◌∙◌, ap, ap₂, arith, append_assoc}
+use Rattle.std.proofs.Common.{◌≡◌, ℕ, suc, ◌+◌, ◌<◌, List, [], ◌∷◌, ◌++◌, length, take, get_or, refl, sym, ◌∙◌, ap, ap₂, arith}
+use Rattle.std.proofs.Common.{append_assoc}
 use Rattle.std.proofs.Common.{append-nil, if◌then◌else◌, ne_eqb}
 use Rattle.std.specs.List.{flat_map}
 use Rattle.std.proofs.lemmas.List.{take_more, length-take-le}
@@ -24,7 +25,8 @@ pub line_text-push : (line : List Atom) (unit : Atom) →
     line_text (line ++ unit ∷ []) ≡ line_text line ++ (spaces (gap_in_line (length line) unit) ++ text_of unit)
 line_text-push [] unit = append-nil (text_of unit)
 line_text-push (first ∷ line) unit =
-    ap (λ more. text_of first ++ more) (flat_map-append lead line (unit ∷ []) ∙ ap (λ last. flat_map lead line ++ last) (append-nil (lead unit)))
+    ap (λ more. text_of first ++ more) (flat_map-append lead line (unit ∷ []) ∙ ap (λ last. flat_map lead line ++ last)
+    (append-nil (lead unit)))
     ∙ sym (append_assoc (text_of first) (flat_map lead line) (lead unit))
     ∙ ap (λ gap. line_text (first ∷ line) ++ (spaces gap ++ text_of unit)) (sym (gap_later (length line) unit)) where
       lead : Atom → List ℕ
@@ -52,7 +54,8 @@ break_width (first ∷ line) = omega (arith, line_width-push first line Break)
 -- a line is the same with a break at its end as without it
 pub line_from-break : (line : List Atom) → line_from (line ++ Break ∷ []) ≡ line_from line
 line_from-break line =
-    ap₂ (λ (text : List ℕ) (width : ℕ). let made : Line = record { text = text; width = width } in made) (break_text line) (break_width line)
+    ap₂ (λ (text : List ℕ) (width : ℕ). let made : Line = record { text = text; width = width } in
+    made) (break_text line) (break_width line)
 
 -- a line's units up to one more
 pub units_more : (units : List Atom) (n : ℕ) (unit : Atom) → n < length units → unit ≡ get_or units n unit →

@@ -1,5 +1,6 @@
 -- Each line of a picture takes all columns, and the lines of a cell stand after all columns before the cell.
-use Rattle.std.proofs.Common.{◌≡◌, ℕ, zero, suc, ◌+◌, ◌-◌, ◌<◌, ◌≤◌, ◌&&◌, List, [], ◌∷◌, ◌++◌, Option, Some, None, length, slice_get, refl, sym}
+use Rattle.std.proofs.Common.{◌≡◌, ℕ, zero, suc, ◌+◌, ◌-◌, ◌<◌, ◌≤◌, ◌&&◌, List, [], ◌∷◌, ◌++◌, Option, Some, None, length}
+use Rattle.std.proofs.Common.{slice_get, refl, sym}
 use Rattle.std.proofs.Common.{◌∙◌, ap, subst, arith, if◌then◌else◌, ne_eqb}
 use Rattle.std.specs.List.{All, AllByRecursion, AllPairs, AllZip}
 use Rattle.std.proofs.lemmas.Bool.{eq-eqb}
@@ -9,7 +10,7 @@ use Rattle.tl_base.specs.Style.{gap_of, row_gap_of, edge_of}
 use Rattle.tl_grid.specs.declared.shape.Place.{Place}
 use Rattle.tl_grid.specs.Dropping.{IsPlaced}
 use Rattle.tl_grid.specs.Slots.{AreApart}
-use Rattle.tl_problem.specs.Sizes.{position, room, total}
+use Rattle.tl_base.specs.Sizes.{position, room, total}
 use Rattle.tl_page.specs.declared.line.Drawn.{Drawn}
 use Rattle.tl_page.specs.declared.line.Line.{Line}
 use Rattle.tl_page.specs.declared.strip.Strip.{Strip}
@@ -32,7 +33,8 @@ line_filled columns line (wide, within) =
 none_filled : (columns : ℕ) → HasWidth (filled columns None) columns
 none_filled columns = HasWidth-signs 0x20 columns (0, omega arith, refl)
 
-any_filled : (columns : ℕ) (lines : List Line) (k : ℕ) → AllByRecursion (IsInRoom columns) lines → HasWidth (filled columns (slice_get lines k)) columns
+any_filled : (columns : ℕ) (lines : List Line) (k : ℕ) → AllByRecursion (IsInRoom columns) lines →
+    HasWidth (filled columns (slice_get lines k)) columns
 any_filled columns [] k fit = none_filled columns
 any_filled columns (line ∷ lines) zero fit = line_filled columns line fit.0
 any_filled columns (line ∷ lines) (suc k) fit = any_filled columns lines k fit.1
@@ -46,9 +48,11 @@ content_at (Some cell) y = filled cell.columns (slice_get cell.lines (y - cell.f
 begun_cell : (cell : Drawn) (slot from size y : ℕ) → slot ≡ cell.left + 1 →
     inside_cell (Some cell) (strip_with slot slot from size) y ≡ content_at (Some cell) y
 begun_cell cell slot from size y begins =
-    ap (λ t. if t && t then filled cell.columns (slice_get cell.lines (y - cell.first)) else []) (eq-eqb slot (cell.left + 1) begins)
+    ap (λ t. if t && t then filled cell.columns (slice_get cell.lines (y - cell.first)) else [])
+    (eq-eqb slot (cell.left + 1) begins)
 
-later_cell : (cell : Drawn) (slot from size y : ℕ) → cell.left + 1 < slot → inside_cell (Some cell) (strip_with slot slot from size) y ≡ []
+later_cell : (cell : Drawn) (slot from size y : ℕ) → cell.left + 1 < slot →
+    inside_cell (Some cell) (strip_with slot slot from size) y ≡ []
 later_cell cell slot from size y beyond =
     ap (λ t. if t && t then filled cell.columns (slice_get cell.lines (y - cell.first)) else [])
     (ne_eqb slot (cell.left + 1) (λ same. absurd (omega (arith, same, beyond))))
@@ -102,7 +106,8 @@ module _ (style : Style) (grid : Grid) (widths heights : List ℕ) (contents : L
     drawn_at n place at = cell_drawn grid.places contents n place fit.filled at
 
     placed : (slot n : ℕ) → kind slot ≡ Some n →
-        (place : Place) × (slice_get grid.places n ≡ Some place) × (place.left < slot) × (slot ≤ place.right) × (place.right ≤ length widths)
+        (place : Place) × (slice_get grid.places n ≡ Some place) × (place.left < slot) × (slot ≤ place.right) ×
+        (place.right ≤ length widths)
     placed slot n some =
         let both = through_both (owner_of grid slot down.before) (owner_of grid slot down.after) n some in
         let lies = lies_over grid slot down.before n both.0 in
@@ -118,9 +123,11 @@ module _ (style : Style) (grid : Grid) (widths heights : List ℕ) (contents : L
         let first = same_Some above.0 place (sym above.1 ∙ at) in
         let second = same_Some below.0 place (sym below.1 ∙ at) in
         let one = has_slots grid other down.before n place fit.placed fit.apart at left right
-        (subst (λ (place : Place). place.top < down.before) first above.4) (subst (λ (place : Place). down.before ≤ place.bottom) first above.5) in
+        (subst (λ (place : Place). place.top < down.before) first above.4)
+        (subst (λ (place : Place). down.before ≤ place.bottom) first above.5) in
         let two = has_slots grid other down.after n place fit.placed fit.apart at left right
-        (subst (λ (place : Place). place.top < down.after) second below.4) (subst (λ (place : Place). down.after ≤ place.bottom) second below.5) in
+        (subst (λ (place : Place). place.top < down.after) second below.4)
+        (subst (λ (place : Place). down.after ≤ place.bottom) second below.5) in
         rw (one, two) (through_same n)
 
     swept : IsSwept kind grid.places (gap_of style) (edge_of style) widths content piece_at
@@ -129,8 +136,10 @@ module _ (style : Style) (grid : Grid) (widths heights : List ℕ) (contents : L
       whole = whole;
       wide = λ n place at. let cell = drawn_at n place at in
           subst (λ some. HasWidth (content_at some y) (room (gap_of style) widths place.left place.right)) (sym cell.3)
-          (any_filled (room (gap_of style) widths place.left place.right) cell.0 (y - (edge_of style + position (row_gap_of style) heights place.top)) cell.1);
-      bare = λ slot from size none. bare_slot style (drawn_cells style widths heights grid.places contents) (owner_of grid slot down.before)
+          (any_filled (room (gap_of style) widths place.left place.right) cell.0
+          (y - (edge_of style + position (row_gap_of style) heights place.top)) cell.1);
+      bare = λ slot from size none. bare_slot style (drawn_cells style widths heights grid.places contents)
+          (owner_of grid slot down.before)
           (owner_of grid slot down.after) (strip_with slot slot from size) y none;
       begun = λ slot from size n place some at begins. let cell = drawn_at n place at in
           cell_slot style (drawn_cells style widths heights grid.places contents) (owner_of grid slot down.before)
@@ -143,15 +152,19 @@ module _ (style : Style) (grid : Grid) (widths heights : List ℕ) (contents : L
           (owner_of grid slot down.after) (strip_with slot slot from size) y n some
           ∙ ap (λ some. inside_cell some (strip_with slot slot from size) y) cell.3
           ∙ later_cell (drawn style widths heights place cell.0) slot from size y beyond;
-      between = λ slot from size. gap_between style (drawn_cells style widths heights grid.places contents) (owner_of grid slot down.before)
-          (owner_of grid (slot + 1) down.before) (owner_of grid slot down.after) (owner_of grid (slot + 1) down.after) slot from size y;
+      between = λ slot from size. gap_between style (drawn_cells style widths heights grid.places contents)
+          (owner_of grid slot down.before)
+          (owner_of grid (slot + 1) down.before) (owner_of grid slot down.after) (owner_of grid (slot + 1) down.after)
+          slot from size y;
     }
 
-    pub line_wide : HasWidth (line_of (picture style grid widths heights contents) down y) (total (gap_of style) (edge_of style) widths)
+    pub line_wide : HasWidth (line_of (picture style grid widths heights contents) down y)
+        (total (gap_of style) (edge_of style) widths)
     line_wide = whole_line kind grid.places (gap_of style) (edge_of style) widths content piece_at swept
 
     -- the line of a cell that goes through stands after all columns before the cell
-    pub cell_stands : (n : ℕ) (place : Place) (lines : List Line) → slice_get grid.places n ≡ Some place → slice_get contents n ≡ Some lines →
+    pub cell_stands : (n : ℕ) (place : Place) (lines : List Line) → slice_get grid.places n ≡ Some place →
+        slice_get contents n ≡ Some lines →
         place.top < down.before → down.before ≤ place.bottom → place.top < down.after → down.after ≤ place.bottom →
         (before after : List ℕ) × HasWidth before (edge_of style + position (gap_of style) widths place.left)
         × (line_of (picture style grid widths heights contents) down y
@@ -161,9 +174,12 @@ module _ (style : Style) (grid : Grid) (widths heights : List ℕ) (contents : L
         let cell = drawn_at n place at in
         let lies = placed_at n place at in
         let same = same_Some cell.0 lines (sym cell.2 ∙ stood) in
-        let one = has_slots grid (place.left + 1) down.before n place fit.placed fit.apart at (omega arith) (omega (arith, lies.0)) above begun in
-        let two = has_slots grid (place.left + 1) down.after n place fit.placed fit.apart at (omega arith) (omega (arith, lies.0)) below ended in
-        let found = stands kind grid.places (gap_of style) (edge_of style) widths content piece_at swept n place at (rw (one, two) (through_same n)) in
+        let one = has_slots grid (place.left + 1) down.before n place fit.placed fit.apart at (omega arith)
+        (omega (arith, lies.0)) above begun in
+        let two = has_slots grid (place.left + 1) down.after n place fit.placed fit.apart at (omega arith)
+        (omega (arith, lies.0)) below ended in
+        let found = stands kind grid.places (gap_of style) (edge_of style)
+        widths content piece_at swept n place at (rw (one, two) (through_same n)) in
         let text : content n ≡ filled (room (gap_of style) widths place.left place.right)
         (slice_get lines (y - (edge_of style + position (row_gap_of style) heights place.top))) =
         ap (λ some. content_at some y) cell.3

@@ -1,11 +1,12 @@
 -- Where two strips meet: what stands there is the content of a cell that goes through, or is drawn.
-use Rattle.std.proofs.Common.{◌≡◌, ◌⊎◌, inl, inr, ℕ, zero, suc, ◌+◌, ◌-◌, ◌<◌, ◌≤◌, Bool, true, false, not, ◌&&◌, ◌==◌, List, [], ◌∷◌, Option, Some}
+use Rattle.std.proofs.Common.{◌≡◌, ◌⊎◌, inl, inr, ℕ, zero, suc, ◌+◌, ◌-◌, ◌<◌, ◌≤◌, Bool, true, false, not, ◌&&◌, ◌==◌, List, []}
+use Rattle.std.proofs.Common.{◌∷◌, Option, Some}
 use Rattle.std.proofs.Common.{None, get_or, slice_get, replicate, refl, sym, ◌∙◌, ap, subst, arith, tests, if◌then◌else◌}
 use Rattle.std.specs.List.{All, AllPairs}
 use Rattle.std.proofs.lemmas.Bool.{cases_Bool, eq-eqb, eqb-true, and_parts, false≢true}
 use Rattle.std.proofs.lemmas.Option.{none-some, same_Some, slice_get_within, get_or_from_slice_get}
 use Rattle.tl_base.specs.declared.style.Style.{Style}
-use Rattle.tl_base.specs.declared.style.Style.TheVariants.{Plain, Frame}
+use Rattle.tl_base.specs.declared.style.Style.TheVariants.{Plain, Compact, Frame}
 use Rattle.tl_grid.specs.declared.shape.Place.{Place}
 use Rattle.tl_grid.specs.Dropping.{IsPlaced}
 use Rattle.tl_grid.specs.Slots.{AreApart}
@@ -57,13 +58,15 @@ same_cell n (Cell m) same = ap Cell (sym (eqb-true n m same))
 
 pub sign_is : (style : Style) (up down left right : Bool) → IsSign (sign style up down left right)
 sign_is Plain up down left right = (0, omega arith, refl)
+sign_is Compact up down left right = (0, omega arith, refl)
 sign_is Frame true true false false = (1, omega arith, refl)
 sign_is Frame false false true true = (2, omega arith, refl)
 sign_is Frame up down left right = (3, omega arith, refl)
 
 -- what stands where the four owners meet
 abbrev pub met : Style → List Drawn → Corner → Strip → ℕ → List ℕ
-met style cells corner across y = if is_one corner then inside cells corner.up_left across y else replicate across.size (corner_sign style corner)
+met style cells corner across y = if is_one corner then inside cells corner.up_left across y else replicate across.size
+    (corner_sign style corner)
 
 drawn_corner : (style : Style) (cells : List Drawn) (corner : Corner) (across : Strip) (y : ℕ) → is_one corner ≡ false →
     IsDrawn across.size (met style cells corner across y)
@@ -98,23 +101,32 @@ bare_slot style cells above below across y none = elim (cases_Bool (is_one (two 
   blank Outside one none = drawn_blank style cells (two Outside below) across y one refl
   blank (Bare column row) one none = drawn_blank style cells (two (Bare column row) below) across y one refl
   blank (Cell n) one none =
-      let below_too = same_cell n below (and_parts (is_same (Cell n) (Cell n) && is_same (Cell n) below) (is_same (Cell n) below) one).1 in
+      let below_too = same_cell n below (and_parts (is_same (Cell n) (Cell n) && is_same (Cell n) below)
+      (is_same (Cell n) below) one).1 in
       absurd (none-some n (sym none ∙ ap (through (Cell n)) below_too ∙ through_same n))
 
-pub cell_slot : (style : Style) (cells : List Drawn) (above below : Owner) (across : Strip) (y n : ℕ) → through above below ≡ Some n →
+pub cell_slot : (style : Style) (cells : List Drawn) (above below : Owner) (across : Strip) (y n : ℕ) →
+    through above below ≡ Some n →
     met style cells (two above below) across y ≡ inside_cell (slice_get cells n) across y
 cell_slot style cells above below across y n some =
     let both = through_both above below n some in
     ap (λ owner. met style cells (two owner below) across y) both.0
     ∙ ap (λ owner. met style cells (two (Cell n) owner) across y) both.1
-    ∙ ap (λ t. if t then inside cells (Cell n) across y else replicate across.size (corner_sign style (two (Cell n) (Cell n)))) one where
+    ∙ ap (λ t. if t then inside cells (Cell n) across y else replicate across.size (corner_sign style (two (Cell n) (Cell n))))
+    one where
       one : is_one (two (Cell n) (Cell n)) ≡ true
       one = ap (λ t. (t && t) && t) (eq-eqb n n refl)
 
 -- ---- between two columns
 
 abbrev four : Owner → Owner → Owner → Owner → Corner
-four up_left up_right down_left down_right = record { up_left = up_left; up_right = up_right; down_left = down_left; down_right = down_right }
+four up_left up_right down_left down_right = record {
+  up_left = up_left;
+  up_right = up_right;
+  down_left =
+      down_left;
+  down_right = down_right;
+}
 
 none_between : (cell : Option Drawn) (slot from size y : ℕ) → inside_cell cell (strip_with slot (slot + 1) from size) y ≡ []
 none_between None slot from size y = refl
@@ -127,7 +139,8 @@ none_between (Some cell) slot from size y =
       never text false other both = refl
 
 -- where all four have one owner, a cell goes on, and else the gap is blank
-one_between : (style : Style) (cells : List Drawn) (owner : Owner) (up_right down_left down_right : Owner) (slot from size y : ℕ) →
+one_between : (style : Style) (cells : List Drawn) (owner : Owner) (up_right down_left down_right : Owner)
+    (slot from size y : ℕ) →
     is_one (four owner up_right down_left down_right) ≡ true →
     (IsDrawn size (met style cells (four owner up_right down_left down_right) (strip_with slot (slot + 1) from size) y)
     × ((n : ℕ) → through owner down_left ≡ Some n → through up_right down_right ≡ Some n → ⊥))
@@ -138,7 +151,8 @@ one_between style cells Outside up_right down_left down_right slot from size y o
   λ n left right. none-some n left,
 )
 one_between style cells (Bare column row) up_right down_left down_right slot from size y one = inl (
-  drawn_blank style cells (four (Bare column row) up_right down_left down_right) (strip_with slot (slot + 1) from size) y one refl,
+  drawn_blank style cells (four (Bare column row) up_right down_left down_right) (strip_with slot (slot + 1) from size)
+      y one refl,
   λ n left right. none-some n left,
 )
 one_between style cells (Cell n) up_right down_left down_right slot from size y one =
@@ -186,7 +200,8 @@ number_found : (number : ℕ) (list : List Place) (column row n : ℕ) → numbe
 number_found number [] column row n found = absurd (none-some n found)
 number_found number (place ∷ list) column row n found = elim (cases_Bool (covers_slot column row place)) [
   | inl here ↦
-      let same = same_Some number n (sym (ap (λ t. if t then Some number else number_over (number + 1) list column row) here) ∙ found) in
+      let same = same_Some number n (sym (ap (λ t. if t then Some number else number_over (number + 1) list column row)
+      here) ∙ found) in
       (0, place, omega (arith, same), refl, here)
   | inr other ↦
       let rest = number_found (number + 1) list column row n
@@ -195,7 +210,8 @@ number_found number (place ∷ list) column row n found = elim (cases_Bool (cove
 ]
 
 -- of places that share no slot, the one that has it
-number_is : (number : ℕ) (list : List Place) (column row k : ℕ) (place : Place) → slice_get list k ≡ Some place → covers_slot column row place ≡ true →
+number_is : (number : ℕ) (list : List Place) (column row k : ℕ) (place : Place) → slice_get list k ≡ Some place →
+    covers_slot column row place ≡ true →
     ((j : ℕ) (other : Place) → j < k → slice_get list j ≡ Some other → covers_slot column row other ≡ true → ⊥) →
     number_over number list column row ≡ Some (number + k)
 number_is number [] column row k place at covers apart = absurd (none-some place at)
@@ -218,7 +234,8 @@ covered_parts : (place : Place) (column row : ℕ) → covers_slot column row pl
     (place.left < column) × (column ≤ place.right) × (place.top < row) × (row ≤ place.bottom)
 covered_parts place column row covers = (grind (arith, tests), grind (arith, tests), grind (arith, tests), grind (arith, tests))
 
-covers_from : (place : Place) (column row : ℕ) → place.left < column → column ≤ place.right → place.top < row → row ≤ place.bottom →
+covers_from : (place : Place) (column row : ℕ) → place.left < column → column ≤ place.right → place.top < row →
+    row ≤ place.bottom →
     covers_slot column row place ≡ true
 covers_from place column row left right top bottom = grind (arith, tests)
 
@@ -238,11 +255,13 @@ owned_number column row (Some n) = refl
 module _ (grid : Grid) where
   -- the cell that has a slot lies over it
   pub lies_over : (column row n : ℕ) → owner_of grid column row ≡ Cell n →
-      (place : Place) × (slice_get grid.places n ≡ Some place) × (place.left < column) × (column ≤ place.right) × (place.top < row) × (row ≤ place.bottom)
+      (place : Place) × (slice_get grid.places n ≡ Some place) × (place.left < column) × (column ≤ place.right) ×
+      (place.top < row) × (row ≤ place.bottom)
   lies_over column row n is = elim (cases_Bool (is_inside grid.cols column && is_inside grid.rows row)) [
     | inr outside ↦ absurd (none-some n (ap cell_number (sym (picked outside) ∙ is)))
     | inl here ↦
-        let number = sym (owned_number column row (number_over 0 grid.places column row)) ∙ ap cell_number (sym (picked here) ∙ is) in
+        let number = sym (owned_number column row (number_over 0 grid.places column row)) ∙ ap cell_number
+        (sym (picked here) ∙ is) in
         let found = number_found 0 grid.places column row n number in
         let parts = covered_parts found.1 column row found.4 in
         let same : n ≡ found.0 = omega (arith, found.2) in
@@ -253,7 +272,8 @@ module _ (grid : Grid) where
     picked same = ap (λ t. if t then owned column row (number_over 0 grid.places column row) else Outside) same
 
   -- a cell has each slot of its place
-  pub has_slots : (column row n : ℕ) (place : Place) → All (IsPlaced grid.cols grid.rows) grid.places → AllPairs AreApart grid.places →
+  pub has_slots : (column row n : ℕ) (place : Place) → All (IsPlaced grid.cols grid.rows) grid.places →
+      AllPairs AreApart grid.places →
       slice_get grid.places n ≡ Some place → place.left < column → column ≤ place.right → place.top < row → row ≤ place.bottom →
       owner_of grid column row ≡ Cell n
   has_slots column row n place placed apart at left right top bottom =

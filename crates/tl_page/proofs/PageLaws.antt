@@ -6,10 +6,10 @@ use Rattle.std.proofs.lemmas.List.FromFn.{length-map-range_with_len}
 use Rattle.std.proofs.lemmas.List.Sums.{sum_by-cons}
 use Rattle.tl_base.specs.declared.style.Style.{Style}
 use Rattle.tl_base.specs.Style.{row_gap_of, edge_of}
-use Rattle.tl_problem.specs.Sizes.{total}
-use Rattle.tl_form.specs.declared.cell.Table.{Table, out-Table}
-use Rattle.tl_form.specs.declared.layout.Layout.{Layout, out-Layout}
-use Rattle.tl_form.specs.Layouts.{total_height}
+use Rattle.tl_base.specs.Sizes.{total}
+use Rattle.tl_table.specs.declared.cell.Table.{Table, out-Table}
+use Rattle.tl_table.specs.declared.layout.Layout.{Layout, out-Layout}
+use Rattle.tl_table.specs.Layouts.{total_height}
 use Rattle.tl_page.specs.declared.strip.Strip.{Strip}
 use Rattle.tl_page.specs.Pages.{IsPage, grid_of}
 use Rattle.tl_page.specs.Pictures.{Picture, picture, line_of, strip_lines}
@@ -21,7 +21,8 @@ strip_high picture strip = length-map-range_with_len (line_of picture strip) str
 
 -- the strips from a slot on
 high-from : (picture : Picture) (gap edge slot from size : ℕ) (sizes : List ℕ) →
-    length (flat_map (strip_lines picture) (strips_from gap edge slot from (size ∷ sizes))) ≡ size + sum sizes + gap * length sizes + edge
+    length (flat_map (strip_lines picture) (strips_from gap edge slot from (size ∷ sizes))) ≡ size + sum sizes + gap * length
+    sizes + edge
 high-from picture gap edge slot from size [] =
     let inside : Strip = record { before = slot; after = slot; from = from; size = size } in
     let beyond : Strip = record { before = slot; after = slot + 1; from = from + size; size = edge } in
@@ -50,12 +51,18 @@ high-from picture gap edge slot from size (next ∷ sizes) =
       product,
     )
 
-high : (picture : Picture) (gap edge : ℕ) (sizes : List ℕ) → length (flat_map (strip_lines picture) (strips gap edge sizes)) ≡ total gap edge sizes
+high : (picture : Picture) (gap edge : ℕ) (sizes : List ℕ) →
+    length (flat_map (strip_lines picture) (strips gap edge sizes)) ≡ total gap edge sizes
 high picture gap edge [] = refl
 high picture gap edge (size ∷ sizes) =
     let first : Strip = record { before = 0; after = 1; from = 0; size = edge } in
     let rest = flat_map (strip_lines picture) (strips_from gap edge 1 edge (size ∷ sizes)) in
-    omega (arith, length-append (strip_lines picture first) rest, strip_high picture first, high-from picture gap edge 1 edge size sizes)
+    omega (
+      arith,
+      length-append (strip_lines picture first) rest,
+      strip_high picture first,
+      high-from picture gap edge 1 edge size sizes,
+    )
 
 pub as_high : (style : Style) (table : Table) (layout : Layout) (page : List (List ℕ)) → IsPage style table layout page →
     length page ≡ total_height style (out-Layout layout)

@@ -1,12 +1,13 @@
 -- Which strip a line of a page lies in, and what holds of all lines of a page.
-use Rattle.std.proofs.Common.{◌≡◌, ℕ, zero, suc, ◌+◌, ◌-◌, ◌*◌, ◌<◌, ◌≤◌, inl, inr, List, [], ◌∷◌, ◌++◌, Some, length, take, map, slice_get, refl}
+use Rattle.std.proofs.Common.{◌≡◌, ℕ, zero, suc, ◌+◌, ◌-◌, ◌*◌, ◌<◌, ◌≤◌, inl, inr, List, [], ◌∷◌, ◌++◌, Some, length, take, map}
+use Rattle.std.proofs.Common.{slice_get, refl}
 use Rattle.std.proofs.Common.{◌∙◌, ap, arith}
 use Rattle.std.specs.List.{AllByRecursion, flat_map, range_with_len}
 use Rattle.std.proofs.lemmas.Bool.{cases_lt}
 use Rattle.std.proofs.lemmas.List.FromFn.{length-map-range_with_len}
 use Rattle.std.proofs.lemmas.List.Sums.{sum_by-cons}
 use Rattle.tl_base.proofs.Members.{AllByRecursion-append}
-use Rattle.tl_problem.specs.Sizes.{position}
+use Rattle.tl_base.specs.Sizes.{position}
 use Rattle.tl_page.specs.declared.strip.Strip.{Strip}
 use Rattle.tl_page.specs.Pictures.{Picture, line_of, strip_lines}
 use Rattle.tl_page.specs.Strips.{following, strips_from, strips}
@@ -23,7 +24,8 @@ get-right [] ys k j same = let here : j ≡ k = omega (arith, same) in ap (slice
 get-right (x ∷ xs) ys k zero same = absurd (omega (arith, same))
 get-right (x ∷ xs) ys k (suc j) same = get-right xs ys k j (omega (arith, same))
 
-get-range : {X : Type 0} (f : ℕ → X) (from size i : ℕ) → i < size → slice_get (map f (range_with_len from size)) i ≡ Some (f (from + i))
+get-range : {X : Type 0} (f : ℕ → X) (from size i : ℕ) → i < size →
+    slice_get (map f (range_with_len from size)) i ≡ Some (f (from + i))
 get-range f from zero i within = absurd (omega (arith, within))
 get-range f from (suc size) zero within = let same : from ≡ from + 0 = omega arith in ap (λ (n : ℕ). Some (f n)) same
 get-range f from (suc size) (suc i) within =
@@ -45,7 +47,8 @@ module _ (picture : Picture) (gap edge : ℕ) where
     pub begins : slot + top ≤ down.before
     pub ordered : down.before ≤ down.after
     pub ends : down.after < slot + past
-    pub here : slice_get (flat_map (strip_lines picture) (strips_from gap edge slot from sizes)) i ≡ Some (line_of picture down (from + i))
+    pub here : slice_get (flat_map (strip_lines picture) (strips_from gap edge slot from sizes)) i ≡ Some
+        (line_of picture down (from + i))
 
   high : (strip : Strip) → length (strip_lines picture strip) ≡ strip.size
   high strip = length-map-range_with_len (line_of picture strip) strip.from strip.size
@@ -63,7 +66,8 @@ module _ (picture : Picture) (gap edge : ℕ) where
         begins = omega (arith, rest.begins, begin);
         ordered = rest.ordered;
         ends = omega (arith, rest.ends, end);
-        here = get-right (strip_lines picture inner) (strip_lines picture outer ++ others) (i - size) i (omega (arith, high inner, far))
+        here = get-right (strip_lines picture inner) (strip_lines picture outer ++ others) (i - size) i
+            (omega (arith, high inner, far))
             ∙ get-right (strip_lines picture outer) others (i - size - gap) (i - size) (omega (arith, high outer, gapped, far))
             ∙ rest.here ∙ ap (λ (y : ℕ). Some (line_of picture rest.down y)) line;
       }
@@ -94,7 +98,8 @@ module _ (picture : Picture) (gap edge : ℕ) where
         begins = omega arith;
         ordered = omega arith;
         ends = omega arith;
-        here = get-right (strip_lines picture inner) (strip_lines picture outer ++ others) (i - size) i (omega (arith, high inner, beyond_it))
+        here = get-right (strip_lines picture inner) (strip_lines picture outer ++ others) (i - size) i
+            (omega (arith, high inner, beyond_it))
             ∙ get-left (strip_lines picture outer) others (i - size) (omega (arith, high outer, between, beyond_it))
             ∙ get-range (line_of picture outer) (from + size) gap (i - size) (omega (arith, between, beyond_it))
             ∙ ap (λ (y : ℕ). Some (line_of picture outer y)) line;
@@ -109,7 +114,8 @@ module _ (picture : Picture) (gap edge : ℕ) where
       let start = position-cons gap size (next ∷ sizes) top in
       let end = position-cons gap size (next ∷ sizes) past in
       beyond slot from (suc top) (suc past) i size (next ∷ sizes) top past (omega arith) refl (omega (arith, first, start)) refl
-      (lies_in (slot + 1) (from + size + gap) top past (i - size - gap) (next ∷ sizes) (omega (arith, ahead)) (omega (arith, within))
+      (lies_in (slot + 1) (from + size + gap) top past (i - size - gap) (next ∷ sizes) (omega (arith, ahead))
+      (omega (arith, within))
       (omega (arith, first, start)) (omega (arith, last, end, first, start)))
   lies_in slot from zero (suc zero) i (size ∷ sizes) ahead within first last =
       in_slot slot from zero i size sizes (omega (arith, last, position-cons gap size sizes zero))
@@ -121,7 +127,8 @@ module _ (picture : Picture) (gap edge : ℕ) where
       | inr far ↦
           let end = position-cons gap size (next ∷ sizes) (suc past) in
           beyond slot from zero (suc (suc past)) i size (next ∷ sizes) zero (suc past) (omega arith) refl far refl
-          (lies_in (slot + 1) (from + size + gap) zero (suc past) (i - size - gap) (next ∷ sizes) (omega arith) (omega (arith, within))
+          (lies_in (slot + 1) (from + size + gap) zero (suc past) (i - size - gap) (next ∷ sizes) (omega arith)
+          (omega (arith, within))
           (omega arith) (omega (arith, last, end, far)))
     ]
   ]
@@ -140,7 +147,8 @@ module _ (picture : Picture) (gap edge : ℕ) where
         omega (arith, rest.ordered, rest.ends),
         omega (arith, rest.begins, rest.ordered),
         omega (arith, rest.ends),
-        get-right (strip_lines picture border) (flat_map (strip_lines picture) (strips_from gap edge 1 edge (size ∷ sizes))) i (edge + i)
+        get-right (strip_lines picture border) (flat_map (strip_lines picture) (strips_from gap edge 1 edge (size ∷ sizes))) i
+            (edge + i)
             (omega (arith, high border)) ∙ rest.here,
       )
 
@@ -150,7 +158,8 @@ mapped_all : {X Y : Type 0} (P : Y → Type 0) (f : X → Y) (xs : List X) → (
 mapped_all P f [] each = tt
 mapped_all P f (x ∷ xs) each = (each x, mapped_all P f xs each)
 
-pub all_lines : (P : List ℕ → Type 0) (picture : Picture) (downs : List Strip) → ((down : Strip) (y : ℕ) → P (line_of picture down y)) →
+pub all_lines : (P : List ℕ → Type 0) (picture : Picture) (downs : List Strip) →
+    ((down : Strip) (y : ℕ) → P (line_of picture down y)) →
     AllByRecursion P (flat_map (strip_lines picture) downs)
 all_lines P picture [] each = tt
 all_lines P picture (down ∷ downs) each =

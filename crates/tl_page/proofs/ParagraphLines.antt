@@ -1,5 +1,6 @@
 -- The lines of a paragraph, as the ranges of its atoms show them.
-use Rattle.std.proofs.Common.{◌≡◌, ℕ, zero, suc, ◌-◌, ◌<◌, ◌≤◌, List, [], ◌∷◌, length, drop, get_or, map, IsSomeAnd, slice_get, refl, ◌∙◌, ap, ap₂}
+use Rattle.std.proofs.Common.{◌≡◌, ℕ, zero, suc, ◌-◌, ◌<◌, ◌≤◌, List, [], ◌∷◌, length, drop, get_or, map, IsSomeAnd, slice_get}
+use Rattle.std.proofs.Common.{refl, ◌∙◌, ap, ap₂}
 use Rattle.std.proofs.Common.{arith, inl, inr}
 use Rattle.std.specs.List.{All, AllZip, AllByRecursion}
 use Rattle.std.proofs.lemmas.List.{length-take, length-drop}
@@ -41,7 +42,8 @@ ranges_within from past (range ∷ ranges) order =
     ((omega (arith, order.1), order_ends range.past past ranges order.2), ranges_within range.past past ranges order.2)
 
 -- each range ends within the paragraph
-pub range_within : (past : ℕ) (ranges : List Range) (place : ℕ) (none : Range) → AreInOrder 0 ranges past → place < length ranges →
+pub range_within : (past : ℕ) (ranges : List Range) (place : ℕ) (none : Range) → AreInOrder 0 ranges past →
+    place < length ranges →
     IsWithin past (get_or ranges place none)
 range_within past ranges place none order within =
     All-from_recursion (IsWithin past) ranges (ranges_within 0 past ranges order) place none within
@@ -50,7 +52,8 @@ range_within past ranges place none order within =
 pub range_is_small : (n : ℕ) (atoms : List Atom) (range : Range) → All (λ atom. atom_size atom ≤ n) atoms →
     All (λ atom. atom_size atom ≤ n) (ranged atoms range)
 range_is_small n atoms range small =
-    All-take (λ atom. atom_size atom ≤ n) (range.past - range.first) (drop range.first atoms) (All-drop (λ atom. atom_size atom ≤ n) range.first atoms small)
+    All-take (λ atom. atom_size atom ≤ n) (range.past - range.first) (drop range.first atoms)
+    (All-drop (λ atom. atom_size atom ≤ n) range.first atoms small)
 
 -- the atoms of a range are no more than all
 pub range_is_short : (atoms : List Atom) (range : Range) → length (ranged atoms range) ≤ length atoms

@@ -3,7 +3,7 @@ use Rattle.std.proofs.Common.{◌≡◌, ℕ, ◌+◌, List, ◌∙◌, ap}
 use Rattle.std.proofs.Math.Path.{fun_ext}
 use Rattle.tl_base.specs.declared.style.Style.{Style}
 use Rattle.tl_base.specs.Style.{gap_of, row_gap_of, edge_of}
-use Rattle.tl_problem.specs.Sizes.{position, room}
+use Rattle.tl_base.specs.Sizes.{position, room}
 use Rattle.tl_grid.specs.declared.shape.Place.{Place}
 use Rattle.tl_page.specs.declared.line.Drawn.{Drawn}
 use Rattle.tl_page.specs.declared.line.Line.{Line}
@@ -26,14 +26,16 @@ same_picture style across across' down down' owner owner' cells one two three =
 pub same_strips : (gap gap' edge edge' : ℕ) (sizes sizes' : List ℕ) → gap ≡ gap' → edge ≡ edge' → sizes ≡ sizes' →
     strips gap edge sizes ≡ strips gap' edge' sizes'
 same_strips gap gap' edge edge' sizes sizes' one two three =
-    ap (λ (some : ℕ). strips some edge sizes) one ∙ ap (λ (some : ℕ). strips gap' some sizes) two ∙ ap (λ (some : List ℕ). strips gap' edge' some) three
+    ap (λ (some : ℕ). strips some edge sizes) one ∙ ap (λ (some : ℕ). strips gap' some sizes) two ∙ ap
+    (λ (some : List ℕ). strips gap' edge' some) three
 
 -- a cell with its lines, by the numbers that the code finds
 abbrev pub cell_with : ℕ → ℕ → ℕ → List Line → Drawn
 cell_with left columns first lines = record { left = left; columns = columns; first = first; lines = lines }
 
 pub same_drawn : (style : Style) (widths heights : List ℕ) (place : Place) (columns first : ℕ) (lines : List Line) →
-    columns ≡ room (gap_of style) widths place.left place.right → first ≡ edge_of style + position (row_gap_of style) heights place.top →
+    columns ≡ room (gap_of style) widths place.left place.right →
+    first ≡ edge_of style + position (row_gap_of style) heights place.top →
     cell_with place.left columns first lines ≡ drawn style widths heights place lines
 same_drawn style widths heights place columns first lines one two =
     ap (λ (some : ℕ). cell_with place.left some first lines) one

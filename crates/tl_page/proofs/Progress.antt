@@ -1,5 +1,6 @@
 -- Cells and blocks one after the other: what stands so far, and what is left to fit.
-use Rattle.std.proofs.Common.{◌≡◌, ℕ, ◌+◌, ◌<◌, ◌≤◌, List, [], ◌∷◌, ◌++◌, length, take, drop, map, get_or, sum_by, refl, sym, ◌∙◌, ap, ap₂}
+use Rattle.std.proofs.Common.{◌≡◌, ℕ, ◌+◌, ◌<◌, ◌≤◌, List, [], ◌∷◌, ◌++◌, length, take, drop, map, get_or, sum_by, refl, sym, ◌∙◌}
+use Rattle.std.proofs.Common.{ap, ap₂}
 use Rattle.std.proofs.Common.{subst, append_assoc, append-nil, arith}
 use Rattle.std.specs.List.{All, AllZip, flat_map}
 use Rattle.std.proofs.lemmas.List.{take_more, take_all, drop_more, drop_all, map_push, length-map, get_or-map}
@@ -11,14 +12,14 @@ use Rattle.tl_base.specs.declared.style.Style.{Style}
 use Rattle.tl_base.specs.Style.{gap_of, row_gap_of, edge_of}
 use Rattle.tl_grid.specs.Dropping.{IsPlaced}
 use Rattle.tl_grid.specs.declared.shape.Place.{Place}
-use Rattle.tl_problem.proofs.SizeLaws.{room-total}
-use Rattle.tl_form.specs.declared.cell.Content.{Content as Block, out-Content}
-use Rattle.tl_form.specs.declared.cell.Table.{Table, out-Table}
-use Rattle.tl_form.specs.declared.cell.TableCell.{TableCell, out-TableCell}
-use Rattle.tl_form.specs.declared.layout.Layout.{Layout, out-Layout}
-use Rattle.tl_form.specs.Tables.{OpenTable, OpenCell}
-use Rattle.tl_form.specs.Layouts.{OpenLayout, Share, FitsShare, FitsCell, FitsWithin, width_for, height_for}
-use Rattle.tl_form.specs.Sound.{place_of, places_of}
+use Rattle.tl_base.proofs.SizeLaws.{room-total}
+use Rattle.tl_table.specs.declared.cell.Content.{Content as Block, out-Content}
+use Rattle.tl_table.specs.declared.cell.Table.{Table, out-Table}
+use Rattle.tl_table.specs.declared.cell.TableCell.{TableCell, out-TableCell}
+use Rattle.tl_table.specs.declared.layout.Layout.{Layout, out-Layout}
+use Rattle.tl_table.specs.Tables.{OpenTable, OpenCell}
+use Rattle.tl_table.specs.Layouts.{OpenLayout, Share, FitsShare, FitsCell, FitsWithin, width_for, height_for}
+use Rattle.tl_table.specs.Sound.{place_of, places_of}
 use Rattle.tl_page.specs.declared.line.Drawn.{Drawn}
 use Rattle.tl_page.specs.declared.line.Line.{Line}
 use Rattle.tl_page.specs.Pages.{Content, ShowsBlock, ShowsCell, ShowsWithin}
@@ -36,26 +37,30 @@ AllZip-first R x xs [] all = absurd all
 AllZip-first R x xs (y ∷ ys) all = (y, ys, refl, all.0, all.1)
 
 -- the first of those that are left
-pub left_first : {A B : Type 0} (R : A → B → Type 0) (xs : List A) (i : ℕ) (x : A) (ys : List B) → i < length xs → x ≡ get_or xs i x →
+pub left_first : {A B : Type 0} (R : A → B → Type 0) (xs : List A) (i : ℕ) (x : A) (ys : List B) → i < length xs →
+    x ≡ get_or xs i x →
     AllZip R (drop i xs) ys → (y : B) × (rest : List B) × (ys ≡ y ∷ rest) × R x y × AllZip R (drop (i + 1) xs) rest
 left_first R xs i x ys within is all =
     AllZip-first R x (drop (i + 1) xs) ys
     (subst (λ some. AllZip R some ys) (drop_more xs i x within ∙ ap (λ first. first ∷ drop (i + 1) xs) (sym is)) all)
 
-pub taken_more : {A : Type 0} (xs : List A) (i : ℕ) (x : A) → i < length xs → x ≡ get_or xs i x → take (i + 1) xs ≡ take i xs ++ x ∷ []
+pub taken_more : {A : Type 0} (xs : List A) (i : ℕ) (x : A) → i < length xs → x ≡ get_or xs i x →
+    take (i + 1) xs ≡ take i xs ++ x ∷ []
 taken_more xs i x within is = take_more xs i x within ∙ ap (λ last. take i xs ++ last ∷ []) (sym is)
 
 pub flat_map-push : {X A : Type 0} (f : X → List A) (xs : List X) (x : X) → flat_map f (xs ++ x ∷ []) ≡ flat_map f xs ++ f x
 flat_map-push f xs x = flat_map-append f xs (x ∷ []) ∙ ap (λ last. flat_map f xs ++ last) (append-nil (f x))
 
 -- what was before, one more, and what is left
-pub one_further : {X : Type 0} (before one left now all : List X) → one ++ left ≡ now → before ++ now ≡ all → (before ++ one) ++ left ≡ all
+pub one_further : {X : Type 0} (before one left now all : List X) → one ++ left ≡ now → before ++ now ≡ all →
+    (before ++ one) ++ left ≡ all
 one_further before one left now all step sofar = append_assoc before one left ∙ ap (λ rest. before ++ rest) step ∙ sofar
 
 -- ---- the blocks of a cell
 
 -- the first `i` blocks stand in the lines, and the others are left to fit
-pub record BlocksSoFar (style : Style) (w : ℕ) (blocks : List Block) (inner : List Layout) (start : ℕ) (i next : ℕ) (lines : List Line) : Type 0 where
+pub record BlocksSoFar (style : Style) (w : ℕ) (blocks : List Block) (inner : List Layout) (start : ℕ) (i next : ℕ)
+    (lines : List Line) : Type 0 where
   pub depth : ℕ
   pub parts : List Content
   pub shows : AllZip (λ block part. ShowsBlock (ShowsWithin depth style) style w (out-Content block) part) (take i blocks) parts
@@ -68,7 +73,8 @@ pub record BlocksSoFar (style : Style) (w : ℕ) (blocks : List Block) (inner : 
   pub more : List Layout
   pub left : flat_map (λ share. share.inner) shares ++ more ≡ drop next inner
 
-pub blocks-none : (style : Style) (w : ℕ) (cell : OpenCell) (inner : List Layout) (start : ℕ) → FitsCellRoom style w cell inner start →
+pub blocks-none : (style : Style) (w : ℕ) (cell : OpenCell) (inner : List Layout) (start : ℕ) →
+    FitsCellRoom style w cell inner start →
     BlocksSoFar style w cell.blocks inner start 0 start []
 blocks-none style w cell inner start fit = record {
   depth = 0;
@@ -85,11 +91,13 @@ blocks-none style w cell inner start fit = record {
 }
 
 -- the next block fits by the next layouts
-pub block-next : (style : Style) (w : ℕ) (blocks : List Block) (inner : List Layout) (start i next : ℕ) (lines : List Line) (block : Block) →
+pub block-next : (style : Style) (w : ℕ) (blocks : List Block) (inner : List Layout) (start i next : ℕ) (lines : List Line)
+    (block : Block) →
     w ≤ MAX_PAGE_WIDTH → i < length blocks → block ≡ get_or blocks i block → BlocksSoFar style w blocks inner start i next lines →
     FitsBlockRoom style w (out-Content block) inner next
 block-next style w blocks inner start i next lines block narrow within is sofar =
-    let first = left_first (λ block share. FitsShare (FitsWithin sofar.level style) w (out-Content block) share) blocks i block sofar.shares within is
+    let first = left_first (λ block share. FitsShare (FitsWithin sofar.level style) w (out-Content block) share)
+    blocks i block sofar.shares within is
     sofar.fits in
     let sum = sum_by-cons (λ (share : Share). share.height) first.0 first.1 in
     let whole = ap (sum_by (λ (share : Share). share.height)) first.2 in
@@ -105,19 +113,23 @@ block-next style w blocks inner start i next lines block narrow within is sofar 
     }
 
 -- the next block stands after those so far
-pub blocks-more : (style : Style) (w : ℕ) (blocks : List Block) (inner : List Layout) (start i next after : ℕ) (lines new : List Line) (block : Block) →
+pub blocks-more : (style : Style) (w : ℕ) (blocks : List Block) (inner : List Layout) (start i next after : ℕ)
+    (lines new : List Line) (block : Block) →
     i < length blocks → block ≡ get_or blocks i block → BlocksSoFar style w blocks inner start i next lines →
     ShowsPart style w (out-Content block) inner next after lines new → BlocksSoFar style w blocks inner start (i + 1) after new
 blocks-more style w blocks inner start i next after lines new block within is sofar part =
-    let first = left_first (λ block share. FitsShare (FitsWithin sofar.level style) w (out-Content block) share) blocks i block sofar.shares within is
+    let first = left_first (λ block share. FitsShare (FitsWithin sofar.level style) w (out-Content block) share)
+    blocks i block sofar.shares within is
     sofar.fits in
     let sum = sum_by-cons (λ (share : Share). share.height) first.0 first.1 in
     let whole = ap (sum_by (λ (share : Share). share.height)) first.2 in
     let deep = part.depth + sofar.depth in
     let shown = λ (block : Block) (part : Content). ShowsBlock (ShowsWithin deep style) style w (out-Content block) part in
     let others : AllZip shown (take i blocks) sofar.parts =
-    AllZip-weaker (λ block part. ShowsBlock (ShowsWithin sofar.depth style) style w (out-Content block) part) shown (take i blocks) sofar.parts
-    (λ block content one. ShowsBlock-weaker (ShowsWithin sofar.depth style) (ShowsWithin deep style) (ShowsWithin-deeper part.depth sofar.depth style)
+    AllZip-weaker (λ block part. ShowsBlock (ShowsWithin sofar.depth style) style w (out-Content block) part) shown
+    (take i blocks) sofar.parts
+    (λ block content one. ShowsBlock-weaker (ShowsWithin sofar.depth style) (ShowsWithin deep style)
+    (ShowsWithin-deeper part.depth sofar.depth style)
     style w (out-Content block) content one) sofar.shows in
     let this : shown block part.content =
     ShowsBlock-weaker (ShowsWithin part.depth style) (ShowsWithin deep style) (ShowsWithin-deeper' sofar.depth part.depth style)
@@ -140,19 +152,23 @@ blocks-more style w blocks inner start i next after lines new block within is so
       fits = first.4;
       low = omega (arith, sofar.low, whole, sum);
       more = sofar.more;
-      left = same_rest first.0.inner part.content.inner (flat_map (λ share. share.inner) first.1 ++ sofar.more) (drop after inner) (drop next inner)
-          (as_many_in_block (FitsWithin sofar.level style) (ShowsWithin part.depth style) style w (out-Content block) first.0 part.content first.3 part.shows)
+      left = same_rest first.0.inner part.content.inner (flat_map (λ share. share.inner) first.1 ++ sofar.more)
+          (drop after inner) (drop next inner)
+          (as_many_in_block (FitsWithin sofar.level style) (ShowsWithin part.depth style) style w (out-Content block)
+          first.0 part.content first.3 part.shows)
           given part.rest;
     }
 
-pub blocks-all : (style : Style) (w : ℕ) (cell : OpenCell) (inner : List Layout) (start i next : ℕ) (lines : List Line) → take i cell.blocks ≡ cell.blocks →
+pub blocks-all : (style : Style) (w : ℕ) (cell : OpenCell) (inner : List Layout) (start i next : ℕ) (lines : List Line) →
+    take i cell.blocks ≡ cell.blocks →
     BlocksSoFar style w cell.blocks inner start i next lines → ShowsParts style w cell inner start next lines
 blocks-all style w cell inner start i next lines all sofar = record {
   depth = sofar.depth;
   content = record { lines = flat_map (λ part. part.lines) sofar.parts; inner = flat_map (λ part. part.inner) sofar.parts };
   shows = record {
     parts = sofar.parts;
-    blocks = subst (λ some. AllZip (λ block part. ShowsBlock (ShowsWithin sofar.depth style) style w (out-Content block) part) some sofar.parts) all
+    blocks = subst (λ some. AllZip (λ block part. ShowsBlock (ShowsWithin sofar.depth style) style w (out-Content block) part)
+        some sofar.parts) all
         sofar.shows;
     lines = refl;
     inner = refl;
@@ -163,7 +179,8 @@ blocks-all style w cell inner start i next lines all sofar = record {
 
 -- ---- the cells of a table
 
-drawn_cells-push : (style : Style) (widths heights : List ℕ) (places : List Place) (contents : List (List Line)) (place : Place) (lines : List Line) →
+drawn_cells-push : (style : Style) (widths heights : List ℕ) (places : List Place) (contents : List (List Line)) (place : Place)
+    (lines : List Line) →
     length places ≡ length contents →
     drawn_cells style widths heights (places ++ place ∷ []) (contents ++ lines ∷ [])
     ≡ drawn_cells style widths heights places contents ++ drawn style widths heights place lines ∷ []
@@ -171,7 +188,8 @@ drawn_cells-push style widths heights [] [] place lines same = refl
 drawn_cells-push style widths heights [] (content ∷ contents) place lines same = absurd (omega arith)
 drawn_cells-push style widths heights (one ∷ places) [] place lines same = absurd (omega arith)
 drawn_cells-push style widths heights (one ∷ places) (content ∷ contents) place lines same =
-    ap (λ rest. drawn style widths heights one content ∷ rest) (drawn_cells-push style widths heights places contents place lines (omega arith))
+    ap (λ rest. drawn style widths heights one content ∷ rest)
+    (drawn_cells-push style widths heights places contents place lines (omega arith))
 
 AllZip-none : {A B : Type 0} (R : A → B → Type 0) (ys : List B) → AllZip R [] ys → ys ≡ []
 AllZip-none R [] all = refl
@@ -181,17 +199,21 @@ AllZip-none R (y ∷ ys) all = absurd all
 pub record CellsSoFar (style : Style) (table : OpenTable) (layout : OpenLayout) (i next : ℕ) (cells : List Drawn) : Type 0 where
   pub depth : ℕ
   pub contents : List Content
-  pub shows : AllZip (λ cell content. ShowsCell (ShowsWithin depth style) style (width_for style layout (out-TableCell cell).place)
+  pub shows : AllZip (λ cell content. ShowsCell (ShowsWithin depth style) style
+      (width_for style layout (out-TableCell cell).place)
       (out-TableCell cell) content)
       (take i table.cells) contents
-  pub written : cells ≡ drawn_cells style layout.widths layout.heights (map place_of (take i table.cells)) (map (λ content. content.lines) contents)
+  pub written : cells ≡ drawn_cells style layout.widths layout.heights (map place_of (take i table.cells))
+      (map (λ content. content.lines) contents)
   pub rest : flat_map (λ content. content.inner) contents ++ drop next layout.inner ≡ layout.inner
   pub level : ℕ
   pub parts : List (List Layout)
-  pub fits : AllZip (λ cell given. FitsCell (FitsWithin level style) style layout (out-TableCell cell) given) (drop i table.cells) parts
+  pub fits : AllZip (λ cell given. FitsCell (FitsWithin level style) style layout (out-TableCell cell) given)
+      (drop i table.cells) parts
   pub left : flat_map (λ given. given) parts ≡ drop next layout.inner
 
-pub cells-none : (style : Style) (table : OpenTable) (layout : OpenLayout) → Fitting style table layout → CellsSoFar style table layout 0 0 []
+pub cells-none : (style : Style) (table : OpenTable) (layout : OpenLayout) → Fitting style table layout →
+    CellsSoFar style table layout 0 0 []
 cells-none style table layout fit = record {
   depth = 0;
   contents = [];
@@ -209,30 +231,44 @@ pub narrow_room : (style : Style) (table : OpenTable) (layout : OpenLayout) (pla
     IsPlaced table.cols table.rows place → width_for style layout place ≤ MAX_PAGE_WIDTH
 narrow_room style table layout place fit placed =
     let within : place.right ≤ length layout.widths = omega (arith, fit.fits.columns, placed.1) in
-    omega (arith, room-total (gap_of style) (edge_of style) layout.widths place.left place.right placed.0 within, fit.fits.within, fit.narrow)
+    omega (
+      arith,
+      room-total (gap_of style) (edge_of style) layout.widths place.left place.right placed.0 within,
+      fit.fits.within,
+      fit.narrow,
+    )
 
 low_room : (style : Style) (table : OpenTable) (layout : OpenLayout) (place : Place) → Fitting style table layout →
     IsPlaced table.cols table.rows place → height_for style layout place ≤ MAX_HEIGHT
 low_room style table layout place fit placed =
     let within : place.bottom ≤ length layout.heights = omega (arith, fit.fits.rows, placed.3) in
-    omega (arith, room-total (row_gap_of style) (edge_of style) layout.heights place.top place.bottom placed.2 within, fit.fits.high, fit.low)
+    omega (
+      arith,
+      room-total (row_gap_of style) (edge_of style) layout.heights place.top place.bottom placed.2 within,
+      fit.fits.high,
+      fit.low,
+    )
 
 -- each cell is placed
-pub placed_cell : (table : OpenTable) (i : ℕ) (cell : TableCell) → All (IsPlaced table.cols table.rows) (places_of table) → i < length table.cells →
+pub placed_cell : (table : OpenTable) (i : ℕ) (cell : TableCell) → All (IsPlaced table.cols table.rows) (places_of table) →
+    i < length table.cells →
     cell ≡ get_or table.cells i cell → IsPlaced table.cols table.rows (place_of cell)
 placed_cell table i cell placed within is =
     let many : i < length (places_of table) = omega (arith, length-map table.cells place_of) in
-    let same : get_or (places_of table) i (place_of cell) ≡ place_of cell = get_or-map place_of table.cells i cell (place_of cell) within
+    let same : get_or (places_of table) i (place_of cell) ≡ place_of cell =
+    get_or-map place_of table.cells i cell (place_of cell) within
     ∙ ap place_of (sym is) in
     subst (IsPlaced table.cols table.rows) same (placed i (place_of cell) many)
 
 -- the next cell fits by the next layouts
 pub cell-next : (style : Style) (table : OpenTable) (layout : OpenLayout) (i next : ℕ) (cells : List Drawn) (cell : TableCell) →
-    Fitting style table layout → IsPlaced table.cols table.rows (place_of cell) → i < length table.cells → cell ≡ get_or table.cells i cell →
+    Fitting style table layout → IsPlaced table.cols table.rows (place_of cell) → i < length table.cells →
+    cell ≡ get_or table.cells i cell →
     CellsSoFar style table layout i next cells →
     FitsCellRoom style (width_for style layout (place_of cell)) (out-TableCell cell) layout.inner next
 cell-next style table layout i next cells cell fit placed within is sofar =
-    let first = left_first (λ cell given. FitsCell (FitsWithin sofar.level style) style layout (out-TableCell cell) given) table.cells i cell
+    let first = left_first (λ cell given. FitsCell (FitsWithin sofar.level style) style layout (out-TableCell cell) given)
+    table.cells i cell
     sofar.parts within is sofar.fits in
     record {
       narrow = narrow_room style table layout (place_of cell) fit placed;
@@ -246,20 +282,24 @@ cell-next style table layout i next cells cell fit placed within is sofar =
     }
 
 -- the next cell is drawn after those so far
-pub cells-more : (style : Style) (table : OpenTable) (layout : OpenLayout) (i next after : ℕ) (cells : List Drawn) (lines : List Line) (cell : TableCell) →
+pub cells-more : (style : Style) (table : OpenTable) (layout : OpenLayout) (i next after : ℕ) (cells : List Drawn)
+    (lines : List Line) (cell : TableCell) →
     i < length table.cells → cell ≡ get_or table.cells i cell → CellsSoFar style table layout i next cells →
     ShowsParts style (width_for style layout (place_of cell)) (out-TableCell cell) layout.inner next after lines →
     CellsSoFar style table layout (i + 1) after (cells ++ drawn style layout.widths layout.heights (place_of cell) lines ∷ [])
 cells-more style table layout i next after cells lines cell within is sofar part =
-    let first = left_first (λ cell given. FitsCell (FitsWithin sofar.level style) style layout (out-TableCell cell) given) table.cells i cell
+    let first = left_first (λ cell given. FitsCell (FitsWithin sofar.level style) style layout (out-TableCell cell) given)
+    table.cells i cell
     sofar.parts within is sofar.fits in
     let deep = part.depth + sofar.depth in
     let room = λ (cell : TableCell). width_for style layout (out-TableCell cell).place in
-    let shown = λ (cell : TableCell) (content : Content). ShowsCell (ShowsWithin deep style) style (room cell) (out-TableCell cell) content in
+    let shown = λ (cell : TableCell) (content : Content). ShowsCell (ShowsWithin deep style) style (room cell)
+    (out-TableCell cell) content in
     let others : AllZip shown (take i table.cells) sofar.contents =
     AllZip-weaker (λ cell content. ShowsCell (ShowsWithin sofar.depth style) style (room cell) (out-TableCell cell) content) shown
     (take i table.cells) sofar.contents
-    (λ cell content one. ShowsCell-weaker (ShowsWithin sofar.depth style) (ShowsWithin deep style) (ShowsWithin-deeper part.depth sofar.depth style)
+    (λ cell content one. ShowsCell-weaker (ShowsWithin sofar.depth style) (ShowsWithin deep style)
+    (ShowsWithin-deeper part.depth sofar.depth style)
     style (room cell) (out-TableCell cell) content one) sofar.shows in
     let this : shown cell part.content =
     ShowsCell-weaker (ShowsWithin part.depth style) (ShowsWithin deep style) (ShowsWithin-deeper' sofar.depth part.depth style)
@@ -267,7 +307,8 @@ cells-more style table layout i next after cells lines cell within is sofar part
     let taken = taken_more table.cells i cell within is in
     let lines_of = λ (content : Content). content.lines in
     let many : length (map place_of (take i table.cells)) ≡ length (map lines_of sofar.contents) =
-    length-map (take i table.cells) place_of ∙ AllZip-length shown (take i table.cells) sofar.contents others ∙ sym (length-map sofar.contents lines_of) in
+    length-map (take i table.cells) place_of ∙ AllZip-length shown (take i table.cells) sofar.contents others ∙ sym
+    (length-map sofar.contents lines_of) in
     let places : map place_of (take (i + 1) table.cells) ≡ map place_of (take i table.cells) ++ place_of cell ∷ [] =
     ap (map place_of) taken ∙ map_push place_of (take i table.cells) cell in
     record {
@@ -275,32 +316,40 @@ cells-more style table layout i next after cells lines cell within is sofar part
       contents = sofar.contents ++ part.content ∷ [];
       shows = subst (λ some. AllZip shown some (sofar.contents ++ part.content ∷ [])) (sym taken)
           (AllZip-push shown (take i table.cells) sofar.contents cell part.content others this);
-      written = ap₂ (λ (before : List Drawn) (last : List Line). before ++ drawn style layout.widths layout.heights (place_of cell) last ∷ [])
+      written = ap₂ (λ (before : List Drawn) (last : List Line). before ++ drawn style layout.widths layout.heights
+          (place_of cell) last ∷ [])
           sofar.written part.written
-          ∙ sym (drawn_cells-push style layout.widths layout.heights (map place_of (take i table.cells)) (map lines_of sofar.contents)
+          ∙ sym (drawn_cells-push style layout.widths layout.heights (map place_of (take i table.cells))
+          (map lines_of sofar.contents)
           (place_of cell) part.content.lines many)
-          ∙ ap₂ (drawn_cells style layout.widths layout.heights) (sym places) (sym (map_push lines_of sofar.contents part.content));
-      rest = ap (λ used. used ++ drop after layout.inner) (flat_map-push (λ (content : Content). content.inner) sofar.contents part.content)
+          ∙ ap₂ (drawn_cells style layout.widths layout.heights) (sym places)
+          (sym (map_push lines_of sofar.contents part.content));
+      rest = ap (λ used. used ++ drop after layout.inner) (flat_map-push (λ (content : Content). content.inner)
+          sofar.contents part.content)
           ∙ one_further (flat_map (λ content. content.inner) sofar.contents) part.content.inner (drop after layout.inner)
           (drop next layout.inner) layout.inner part.rest sofar.rest;
       level = sofar.level;
       parts = first.1;
       fits = first.4;
-      left = same_rest first.0 part.content.inner (flat_map (λ given. given) first.1) (drop after layout.inner) (drop next layout.inner)
-          (as_many_in_cell (FitsWithin sofar.level style) (ShowsWithin part.depth style) style (room cell) (height_for style layout (place_of cell))
+      left = same_rest first.0 part.content.inner (flat_map (λ given. given) first.1) (drop after layout.inner)
+          (drop next layout.inner)
+          (as_many_in_cell (FitsWithin sofar.level style) (ShowsWithin part.depth style) style (room cell)
+          (height_for style layout (place_of cell))
           (out-TableCell cell)
           first.0 part.content first.3 part.shows)
           (ap (flat_map (λ given. given)) (sym first.2) ∙ sofar.left) part.rest;
     }
 
-pub cells-all : (style : Style) (table : Table) (layout : Layout) (i next : ℕ) (cells : List Drawn) → length (out-Table table).cells ≤ i →
+pub cells-all : (style : Style) (table : Table) (layout : Layout) (i next : ℕ) (cells : List Drawn) →
+    length (out-Table table).cells ≤ i →
     CellsSoFar style (out-Table table) (out-Layout layout) i next cells → ShowsCells style table layout cells
 cells-all style table layout i next cells all sofar =
     let every = (out-Table table).cells in
     let taken : take i every ≡ every = take_all i every all in
     let none : sofar.parts ≡ [] = AllZip-none
     (λ cell given. FitsCell (FitsWithin sofar.level style) style (out-Layout layout) (out-TableCell cell) given) sofar.parts
-    (subst (λ some. AllZip (λ cell given. FitsCell (FitsWithin sofar.level style) style (out-Layout layout) (out-TableCell cell) given) some
+    (subst (λ some. AllZip (λ cell given. FitsCell (FitsWithin sofar.level style) style (out-Layout layout) (out-TableCell cell)
+    given) some
     sofar.parts) (drop_all i every all) sofar.fits) in
     let left : drop next (out-Layout layout).inner ≡ [] = sym sofar.left ∙ ap (flat_map (λ given. given)) none in
     record {
@@ -311,6 +360,7 @@ cells-all style table layout i next cells all sofar =
           (out-TableCell cell) content) some sofar.contents) taken sofar.shows;
       inner = sym (append-nil (flat_map (λ content. content.inner) sofar.contents))
           ∙ ap (λ rest. flat_map (λ content. content.inner) sofar.contents ++ rest) (sym left) ∙ sofar.rest;
-      drawn = sofar.written ∙ ap (λ some. drawn_cells style (out-Layout layout).widths (out-Layout layout).heights (map place_of some)
+      drawn = sofar.written ∙ ap (λ some. drawn_cells style (out-Layout layout).widths (out-Layout layout).heights
+          (map place_of some)
           (map (λ content. content.lines) sofar.contents)) taken;
     }

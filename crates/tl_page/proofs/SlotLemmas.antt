@@ -1,5 +1,6 @@
 -- The slots of a grid, row by row in one list, and the cells over them.
-use Rattle.std.proofs.Common.{◌≡◌, ℕ, ◌+◌, ◌*◌, ◌<◌, ◌≤◌, ◌⊎◌, inl, inr, true, false, ◌&&◌, Option, Some, replicate, get_or, refl, ◌∙◌, ap, arith}
+use Rattle.std.proofs.Common.{◌≡◌, ℕ, ◌+◌, ◌*◌, ◌<◌, ◌≤◌, ◌⊎◌, inl, inr, true, false, ◌&&◌, Option, Some, replicate, get_or, refl}
+use Rattle.std.proofs.Common.{◌∙◌, ap, arith}
 use Rattle.std.proofs.Common.{tests, if◌then◌else◌}
 use Rattle.std.proofs.Math.Nat.{mul-le-mul}
 use Rattle.std.proofs.lemmas.Bool.{cases_Bool, cases_lt}
@@ -29,12 +30,14 @@ row_after cols row earlier before =
 
 -- ---- one more cell
 
-pub covers-true : (place : Place) (column row : ℕ) → place.left ≤ column → column < place.right → place.top ≤ row → row < place.bottom →
+pub covers-true : (place : Place) (column row : ℕ) → place.left ≤ column → column < place.right → place.top ≤ row →
+    row < place.bottom →
     covers_slot (column + 1) (row + 1) place ≡ true
 covers-true place column row left right top bottom = grind (arith, tests)
 
 pub covers-false : (place : Place) (column row : ℕ) →
-    ((column < place.left) ⊎ (place.right ≤ column)) ⊎ ((row < place.top) ⊎ (place.bottom ≤ row)) → covers_slot (column + 1) (row + 1) place ≡ false
+    ((column < place.left) ⊎ (place.right ≤ column)) ⊎ ((row < place.top) ⊎ (place.bottom ≤ row)) →
+    covers_slot (column + 1) (row + 1) place ≡ false
 covers-false place column row (inl (inl before)) = grind (arith, tests)
 covers-false place column row (inl (inr after)) = grind (arith, tests)
 covers-false place column row (inr (inl before)) = grind (arith, tests)

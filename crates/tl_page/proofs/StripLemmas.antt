@@ -1,9 +1,10 @@
 -- Where the strips of a page begin.
-use Rattle.std.proofs.Common.{◌≡◌, ℕ, ◌+◌, ◌-◌, ◌*◌, ◌<◌, ◌≤◌, zero, suc, List, [], ◌∷◌, length, get_or, take, drop, sum, refl, ◌∙◌, ap, arith}
+use Rattle.std.proofs.Common.{◌≡◌, ℕ, ◌+◌, ◌-◌, ◌*◌, ◌<◌, ◌≤◌, zero, suc, List, [], ◌∷◌, length, get_or, take, drop, sum, refl}
+use Rattle.std.proofs.Common.{◌∙◌, ap, arith}
 use Rattle.std.proofs.lemmas.List.{at_drop_more, at_drop_all}
 use Rattle.std.proofs.lemmas.List.Sums.{sum_by-cons}
-use Rattle.tl_problem.specs.Sizes.{position, room, total}
-use Rattle.tl_problem.proofs.SizeLaws.{room-position, total-position}
+use Rattle.tl_base.specs.Sizes.{position, room, total}
+use Rattle.tl_base.proofs.SizeLaws.{room-position, total-position}
 use Rattle.tl_page.specs.declared.strip.Strip.{Strip}
 use Rattle.tl_page.specs.Strips.{following, strips_from, strips}
 
@@ -59,9 +60,15 @@ ends gap edge (size ∷ sizes) (suc k) none some within =
 
 -- a room reaches from the begin of its first slot to the end of its last
 pub rooms : (gap edge : ℕ) (sizes : List ℕ) (from past : ℕ) (none : Strip) → from < past → past ≤ length sizes →
-    (get_or (strips gap edge sizes) (2 * past) none).from - (get_or (strips gap edge sizes) (2 * from + 1) none).from ≡ room gap sizes from past
+    (get_or (strips gap edge sizes) (2 * past) none).from - (get_or (strips gap edge sizes) (2 * from + 1) none).from ≡ room gap
+    sizes from past
 rooms gap edge sizes from past none ahead within =
-    omega (arith, begins gap edge sizes from none (omega arith), ends gap edge sizes past none (omega arith) within, room-position gap sizes from past ahead)
+    omega (
+      arith,
+      begins gap edge sizes from none (omega arith),
+      ends gap edge sizes past none (omega arith) within,
+      room-position gap sizes from past ahead,
+    )
 
 -- ---- how many there are, and where the last one ends
 

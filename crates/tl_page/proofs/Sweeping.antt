@@ -1,13 +1,14 @@
 -- A line of a page, swept from left to right: where a cell has begun, all its room is written at once.
-use Rattle.std.proofs.Common.{◌≡◌, ◌⊎◌, inl, inr, ℕ, zero, suc, ◌+◌, ◌<◌, ◌≤◌, List, [], ◌∷◌, ◌++◌, Option, Some, None, length, drop}
+use Rattle.std.proofs.Common.{◌≡◌, ◌⊎◌, inl, inr, ℕ, zero, suc, ◌+◌, ◌<◌, ◌≤◌, List, [], ◌∷◌, ◌++◌, Option, Some, None, length}
+use Rattle.std.proofs.Common.{drop}
 use Rattle.std.proofs.Common.{get_or, slice_get, replicate, refl, sym, ◌∙◌, ap, subst, append_assoc, append-nil, arith}
 use Rattle.std.specs.List.{flat_map}
 use Rattle.std.proofs.lemmas.List.{drop_more, drop_all}
 use Rattle.std.proofs.lemmas.Bool.{cases_lt}
 use Rattle.std.proofs.lemmas.Option.{none-some, same_Some}
 use Rattle.tl_grid.specs.declared.shape.Place.{Place}
-use Rattle.tl_problem.specs.Sizes.{position, room, total}
-use Rattle.tl_problem.proofs.SizeLaws.{total-position, room-position, position-next}
+use Rattle.tl_base.specs.Sizes.{position, room, total}
+use Rattle.tl_base.proofs.SizeLaws.{total-position, room-position, position-next}
 use Rattle.tl_page.specs.declared.strip.Strip.{Strip}
 use Rattle.tl_page.specs.Strips.{following, strips_from, strips}
 use Rattle.tl_page.specs.Widths.{IsSign, HasWidth}
@@ -30,20 +31,26 @@ cases_option (Some n) = inr (n, refl)
 
 -- `kind` is the cell that goes through a slot, if any does; a cell's content stands in its first slot, and everything
 -- else that is not inside a cell is drawn
-module _ (kind : ℕ → Option ℕ) (places : List Place) (gap edge : ℕ) (widths : List ℕ) (content : ℕ → List ℕ) (piece : Strip → List ℕ) where
+module _ (kind : ℕ → Option ℕ) (places : List Place) (gap edge : ℕ) (widths : List ℕ) (content : ℕ → List ℕ) (piece : Strip →
+    List ℕ) where
   pub record IsSwept : Type 0 where
     pub placed : (slot n : ℕ) → kind slot ≡ Some n →
-        (place : Place) × (slice_get places n ≡ Some place) × (place.left < slot) × (slot ≤ place.right) × (place.right ≤ length widths)
+        (place : Place) × (slice_get places n ≡ Some place) × (place.left < slot) × (slot ≤ place.right) ×
+        (place.right ≤ length widths)
     pub whole : (slot other n : ℕ) (place : Place) → kind slot ≡ Some n → slice_get places n ≡ Some place → place.left < other →
         other ≤ place.right → kind other ≡ Some n
-    pub wide : (n : ℕ) (place : Place) → slice_get places n ≡ Some place → HasWidth (content n) (room gap widths place.left place.right)
+    pub wide : (n : ℕ) (place : Place) → slice_get places n ≡ Some place →
+        HasWidth (content n) (room gap widths place.left place.right)
     pub bare : (slot from size : ℕ) → kind slot ≡ None → IsDrawn size (piece (strip_with slot slot from size))
-    pub begun : (slot from size n : ℕ) (place : Place) → kind slot ≡ Some n → slice_get places n ≡ Some place → slot ≡ place.left + 1 →
+    pub begun : (slot from size n : ℕ) (place : Place) → kind slot ≡ Some n → slice_get places n ≡ Some place →
+        slot ≡ place.left + 1 →
         piece (strip_with slot slot from size) ≡ content n
-    pub later : (slot from size n : ℕ) (place : Place) → kind slot ≡ Some n → slice_get places n ≡ Some place → place.left + 1 < slot →
+    pub later : (slot from size n : ℕ) (place : Place) → kind slot ≡ Some n → slice_get places n ≡ Some place →
+        place.left + 1 < slot →
         piece (strip_with slot slot from size) ≡ []
     pub between : (slot from size : ℕ) →
-        (IsDrawn size (piece (strip_with slot (slot + 1) from size)) × ((n : ℕ) → kind slot ≡ Some n → kind (slot + 1) ≡ Some n → ⊥))
+        (IsDrawn size (piece (strip_with slot (slot + 1) from size)) ×
+        ((n : ℕ) → kind slot ≡ Some n → kind (slot + 1) ≡ Some n → ⊥))
         ⊎ ((n : ℕ) × (kind slot ≡ Some n) × (kind (slot + 1) ≡ Some n) × (piece (strip_with slot (slot + 1) from size) ≡ []))
 
   -- what is written before a slot that no cell goes on into: all columns before the slot
@@ -87,7 +94,8 @@ module _ (kind : ℕ → Option ℕ) (places : List Place) (gap edge : ℕ) (wid
       ≡ piece (strip_with (slot + 1) (slot + 1) from (get_or widths slot 0))
       ++ (piece (strip_with (slot + 1) (slot + 1 + 1) (from + get_or widths slot 0) (following gap edge (drop (slot + 1) widths)))
       ++ flat_map piece (strips_from gap edge (slot + 1 + 1) (from + get_or widths slot 0 + gap) (drop (slot + 1) widths)))
-  strips_at slot from within = ap (λ sizes. flat_map piece (strips_from gap edge (slot + 1) from sizes)) (drop_more widths slot 0 within)
+  strips_at slot from within = ap (λ sizes. flat_map piece (strips_from gap edge (slot + 1) from sizes))
+      (drop_more widths slot 0 within)
 
   module _ (is : IsSwept) where
     -- ---- through a slot
@@ -95,16 +103,21 @@ module _ (kind : ℕ → Option ℕ) (places : List Place) (gap edge : ℕ) (wid
     -- one more piece is written
     slot_written : (text : List ℕ) (slot : ℕ) (before : Before text slot) → slot < length widths →
         text ≡ (before.written ++ piece (strip_with (slot + 1) (slot + 1) before.from (get_or widths slot 0)))
-        ++ (piece (strip_with (slot + 1) (slot + 1 + 1) (before.from + get_or widths slot 0) (following gap edge (drop (slot + 1) widths)))
-        ++ flat_map piece (strips_from gap edge (slot + 1 + 1) (before.from + get_or widths slot 0 + gap) (drop (slot + 1) widths)))
+        ++ (piece (strip_with (slot + 1) (slot + 1 + 1) (before.from + get_or widths slot 0)
+        (following gap edge (drop (slot + 1) widths)))
+        ++ flat_map piece (strips_from gap edge (slot + 1 + 1) (before.from + get_or widths slot 0 + gap)
+        (drop (slot + 1) widths)))
     slot_written text slot before within =
         before.left ∙ ap (λ rest. before.written ++ rest) (strips_at slot before.from within)
         ∙ sym (append_assoc before.written (piece (strip_with (slot + 1) (slot + 1) before.from (get_or widths slot 0)))
-        (piece (strip_with (slot + 1) (slot + 1 + 1) (before.from + get_or widths slot 0) (following gap edge (drop (slot + 1) widths)))
-        ++ flat_map piece (strips_from gap edge (slot + 1 + 1) (before.from + get_or widths slot 0 + gap) (drop (slot + 1) widths))))
+        (piece (strip_with (slot + 1) (slot + 1 + 1) (before.from + get_or widths slot 0)
+        (following gap edge (drop (slot + 1) widths)))
+        ++ flat_map piece (strips_from gap edge (slot + 1 + 1) (before.from + get_or widths slot 0 + gap)
+        (drop (slot + 1) widths))))
 
     -- a cell that has not gone on into the slot begins there
-    begins_here : (slot width n : ℕ) (place : Place) → IsFresh slot width → kind (slot + 1) ≡ Some n → slice_get places n ≡ Some place →
+    begins_here : (slot width n : ℕ) (place : Place) → IsFresh slot width → kind (slot + 1) ≡ Some n →
+        slice_get places n ≡ Some place →
         place.left < slot + 1 → slot < place.right → place.left ≡ slot
     begins_here slot width n place fresh here at left right =
         elim (cases_lt place.left slot) [
@@ -121,10 +134,12 @@ module _ (kind : ℕ → Option ℕ) (places : List Place) (gap edge : ℕ) (wid
           ]
           | inr on ↦ later on
         ] where
-          made : (width past : ℕ) → HasWidth (before.written ++ piece (strip_with (slot + 1) (slot + 1) before.from (get_or widths slot 0))) width →
+          made : (width past : ℕ) →
+              HasWidth (before.written ++ piece (strip_with (slot + 1) (slot + 1) before.from (get_or widths slot 0))) width →
               width + gap ≡ edge + position gap widths past →
               (((kind (slot + 1) ≡ None) × (past ≡ slot + 1))
-              ⊎ ((n : ℕ) × (place : Place) × (kind (slot + 1) ≡ Some n) × (slice_get places n ≡ Some place) × (past ≡ place.right))) → After text slot
+              ⊎ ((n : ℕ) × (place : Place) × (kind (slot + 1) ≡ Some n) × (slice_get places n ≡ Some place) ×
+              (past ≡ place.right))) → After text slot
           made width past wide all ends = record {
             from = before.from + get_or widths slot 0;
             written = before.written ++ piece (strip_with (slot + 1) (slot + 1) before.from (get_or widths slot 0));
@@ -157,7 +172,12 @@ module _ (kind : ℕ → Option ℕ) (places : List Place) (gap edge : ℕ) (wid
               (HasWidth-append before.written text before.width columns (before.width + columns) before.wide
               (HasWidth-same (content n) text columns (is.wide n place lies.1)
               (sym (is.begun (slot + 1) before.from size n place some lies.1 (omega (arith, same))))) refl)
-              (omega (arith, fresh.begins, ap (position gap widths) same, room-position gap widths place.left place.right (omega (arith, lies.2, lies.3))))
+              (omega (
+                arith,
+                fresh.begins,
+                ap (position gap widths) same,
+                room-position gap widths place.left place.right (omega (arith, lies.2, lies.3)),
+              ))
               (inr (n, place, some, lies.1, refl))
 
           later : GoesOn slot before.width → After text slot
@@ -166,7 +186,8 @@ module _ (kind : ℕ → Option ℕ) (places : List Place) (gap edge : ℕ) (wid
               let text = piece (strip_with (slot + 1) (slot + 1) before.from size) in
               made before.width on.place.right
               (HasWidth-same before.written (before.written ++ text) before.width before.wide
-              (sym (ap (λ more. before.written ++ more) (is.later (slot + 1) before.from size on.number on.place on.here on.at (omega (arith, on.begun)))
+              (sym (ap (λ more. before.written ++ more) (is.later (slot + 1) before.from size on.number on.place on.here on.at
+              (omega (arith, on.begun)))
               ∙ append-nil before.written)))
               on.all
               (inr (on.number, on.place, on.here, on.at, refl))
@@ -182,10 +203,12 @@ module _ (kind : ℕ → Option ℕ) (places : List Place) (gap edge : ℕ) (wid
       size = following-more gap edge widths (slot + 1) more
 
       made : (width : ℕ) → HasWidth (after.written ++ piece (strip_with (slot + 1) (slot + 1 + 1) after.from
-          (following gap edge (drop (slot + 1) widths)))) width → IsFresh (slot + 1) width ⊎ GoesOn (slot + 1) width → Before text (slot + 1)
+          (following gap edge (drop (slot + 1) widths)))) width → IsFresh (slot + 1) width ⊎ GoesOn (slot + 1) width →
+          Before text (slot + 1)
       made width wide state = record {
         from = after.from + gap;
-        written = after.written ++ piece (strip_with (slot + 1) (slot + 1 + 1) after.from (following gap edge (drop (slot + 1) widths)));
+        written = after.written ++ piece (strip_with (slot + 1) (slot + 1 + 1) after.from
+            (following gap edge (drop (slot + 1) widths)));
         left = after.left ∙ sym (append_assoc after.written (piece (strip_with (slot + 1) (slot + 1 + 1) after.from
             (following gap edge (drop (slot + 1) widths))))
             (flat_map piece (strips_from gap edge (slot + 1 + 1) (after.from + gap) (drop (slot + 1) widths))));
@@ -199,7 +222,8 @@ module _ (kind : ℕ → Option ℕ) (places : List Place) (gap edge : ℕ) (wid
       ended apart = elim after.ends [
         | inl (none, past) ↦ past
         | inr (n, place, here, at, past) ↦ elim (cases_lt (slot + 1) place.right) [
-          | inl before ↦ absurd (apart n here (is.whole (slot + 1) (slot + 1 + 1) n place here at (omega (arith, reaches n place here at)) (omega arith)))
+          | inl before ↦ absurd (apart n here (is.whole (slot + 1) (slot + 1 + 1)
+              n place here at (omega (arith, reaches n place here at)) (omega arith)))
           | inr beyond ↦ omega (arith, past, inside n place here at)
         ]
       ] where
@@ -216,7 +240,8 @@ module _ (kind : ℕ → Option ℕ) (places : List Place) (gap edge : ℕ) (wid
             subst (λ (place : Place). slot + 1 ≤ place.right) same lies.3
 
       fresh : IsDrawn (following gap edge (drop (slot + 1) widths)) (piece (strip_with (slot + 1) (slot + 1 + 1) after.from
-          (following gap edge (drop (slot + 1) widths)))) → ((n : ℕ) → kind (slot + 1) ≡ Some n → kind (slot + 1 + 1) ≡ Some n → ⊥) →
+          (following gap edge (drop (slot + 1) widths)))) → ((n : ℕ) → kind (slot + 1) ≡ Some n → kind (slot + 1 + 1) ≡ Some n →
+          ⊥) →
           Before text (slot + 1)
       fresh drawn apart =
           let wide = following gap edge (drop (slot + 1) widths) in
@@ -226,7 +251,8 @@ module _ (kind : ℕ → Option ℕ) (places : List Place) (gap edge : ℕ) (wid
           (inl (record { begins = omega (arith, after.all, ap (position gap widths) (ended apart), size); apart = apart }))
 
       on : (n : ℕ) → kind (slot + 1) ≡ Some n → kind (slot + 1 + 1) ≡ Some n →
-          piece (strip_with (slot + 1) (slot + 1 + 1) after.from (following gap edge (drop (slot + 1) widths))) ≡ [] → Before text (slot + 1)
+          piece (strip_with (slot + 1) (slot + 1 + 1) after.from (following gap edge (drop (slot + 1) widths))) ≡ [] →
+          Before text (slot + 1)
       on n here next none =
           let lies = is.placed (slot + 1) n here in
           made after.width
@@ -280,7 +306,8 @@ module _ (kind : ℕ → Option ℕ) (places : List Place) (gap edge : ℕ) (wid
         let next : slot + 1 ≡ suc slot = omega arith in
         subst (Before (flat_map piece (strips gap edge widths))) next
         (over (flat_map piece (strips gap edge widths)) slot
-        (through (flat_map piece (strips gap edge widths)) slot (before_slot slot (omega (arith, within))) (omega (arith, within)))
+        (through (flat_map piece (strips gap edge widths)) slot (before_slot slot (omega (arith, within)))
+        (omega (arith, within)))
         (omega (arith, within)))
 
     -- the content of a cell stands after all columns before the cell
@@ -327,7 +354,8 @@ module _ (kind : ℕ → Option ℕ) (places : List Place) (gap edge : ℕ) (wid
         HasWidth-same (after.written ++ text) (flat_map piece (strips gap edge widths)) (total gap edge widths)
         (HasWidth-append after.written text after.width edge (total gap edge widths) after.wide (drawn_width edge text drawn)
         (omega (arith, after.all, ap (position gap widths) (past ∙ end), total-position gap edge widths (omega (arith, end)))))
-        (sym (after.left ∙ ap (λ sizes. after.written ++ beyond sizes) none ∙ ap (λ more. after.written ++ more) (append-nil text))) where
+        (sym (after.left ∙ ap (λ sizes. after.written ++ beyond sizes) none ∙ ap (λ more. after.written ++ more)
+        (append-nil text))) where
           nothing : (n : ℕ) → kind (slot + 1 + 1) ≡ Some n → ⊥
           nothing n here = let lies = is.placed (slot + 1 + 1) n here in omega (arith, lies.3, lies.4, end)
 
@@ -349,8 +377,10 @@ module _ (kind : ℕ → Option ℕ) (places : List Place) (gap edge : ℕ) (wid
     pub whole_line : HasWidth (flat_map piece (strips gap edge widths)) (total gap edge widths)
     whole_line = whole widths refl where
       whole : (sizes : List ℕ) → widths ≡ sizes → HasWidth (flat_map piece (strips gap edge widths)) (total gap edge widths)
-      whole [] none = subst (λ (sizes : List ℕ). HasWidth (flat_map piece (strips gap edge sizes)) (total gap edge sizes)) (sym none) HasWidth-none
+      whole [] none = subst (λ (sizes : List ℕ). HasWidth (flat_map piece (strips gap edge sizes)) (total gap edge sizes))
+          (sym none) HasWidth-none
       whole (size ∷ sizes) some =
           let text = flat_map piece (strips gap edge widths) in
           let end : length sizes + 1 ≡ length widths = omega (arith, ap length some) in
-          last_line (length sizes) end (through text (length sizes) (before_slot (length sizes) (omega (arith, end))) (omega (arith, end)))
+          last_line (length sizes) end (through text (length sizes) (before_slot (length sizes) (omega (arith, end)))
+          (omega (arith, end)))

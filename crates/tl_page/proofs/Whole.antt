@@ -1,6 +1,7 @@
 -- Each line of a page is as wide as the layout, and all text of a table stands on its page: blocks, cells and tables, by
 -- the tables nested in them.
-use Rattle.std.proofs.Common.{◌≡◌, ℕ, zero, suc, ◌+◌, ◌-◌, ◌≤◌, List, [], ◌∷◌, ◌++◌, Some, length, take, map, get_or, slice_get, sum_by, refl, sym}
+use Rattle.std.proofs.Common.{◌≡◌, ℕ, zero, suc, ◌+◌, ◌-◌, ◌≤◌, List, [], ◌∷◌, ◌++◌, Some, length, take, map, get_or, slice_get}
+use Rattle.std.proofs.Common.{sum_by, refl, sym}
 use Rattle.std.proofs.Common.{◌∙◌, ap, ap₂, subst, append_assoc, arith}
 use Rattle.std.specs.List.{All, AllByRecursion, AllPairs, AllZip, flat_map}
 use Rattle.std.proofs.lemmas.List.{length-append, length-map, get_or-map, map-append, take_at}
@@ -13,21 +14,21 @@ use Rattle.tl_base.proofs.Members.{AllByRecursion-append}
 use Rattle.tl_grid.specs.declared.shape.Place.{Place}
 use Rattle.tl_grid.specs.Dropping.{IsPlaced}
 use Rattle.tl_grid.specs.Slots.{AreApart}
-use Rattle.tl_problem.specs.Sizes.{position, room}
-use Rattle.tl_problem.proofs.SizeLaws.{room-position}
+use Rattle.tl_base.specs.Sizes.{position, room}
+use Rattle.tl_base.proofs.SizeLaws.{room-position}
 use Rattle.tl_text.specs.declared.paragraph.Atom.{Atom}
 use Rattle.tl_text.specs.Cuttings.{joined, line_width}
-use Rattle.tl_form.specs.declared.cell.Content.{Content as Block, out-Content}
-use Rattle.tl_form.specs.declared.cell.Content.TheOpen as open_content
-use Rattle.tl_form.specs.declared.cell.Table.{Table, out-Table}
-use Rattle.tl_form.specs.declared.cell.TableCell.{TableCell, out-TableCell}
-use Rattle.tl_form.specs.declared.layout.Layout.{Layout, out-Layout}
-use Rattle.tl_form.specs.Tables.{OpenTable, OpenContent}
-use Rattle.tl_form.specs.Layouts.{OpenLayout, Share, Fits, FitsShare, FitsRoom, FitsCell, FitsBy, FitsWithin, total_width, total_height, width_for}
-use Rattle.tl_form.specs.Layouts.{height_for}
-use Rattle.tl_form.specs.Sound.{IsSound, IsSoundWithin, place_of, places_of}
-use Rattle.tl_form.specs.inner.LeastRooms.{IsSoundBlock, IsSoundCell}
-use Rattle.tl_form.proofs.SoundParts.{sound_cells, sound_blocks}
+use Rattle.tl_table.specs.declared.cell.Content.{Content as Block, out-Content}
+use Rattle.tl_table.specs.declared.cell.Content.TheOpen as open_content
+use Rattle.tl_table.specs.declared.cell.Table.{Table, out-Table}
+use Rattle.tl_table.specs.declared.cell.TableCell.{TableCell, out-TableCell}
+use Rattle.tl_table.specs.declared.layout.Layout.{Layout, out-Layout}
+use Rattle.tl_table.specs.Tables.{OpenTable, OpenContent}
+use Rattle.tl_table.specs.Layouts.{OpenLayout, Share, Fits, FitsShare, FitsRoom, FitsCell, FitsBy, FitsWithin, total_width}
+use Rattle.tl_table.specs.Layouts.{total_height, width_for}
+use Rattle.tl_table.specs.Layouts.{height_for}
+use Rattle.tl_table.specs.Sound.{IsSound, IsSoundWithin, place_of, places_of, IsSoundBlock, IsSoundCell}
+use Rattle.tl_table.proofs.SoundParts.{sound_cells, sound_blocks}
 use Rattle.tl_page.specs.declared.line.Line.{Line}
 use Rattle.tl_page.specs.Pages.{Content, ShowsBlock, ShowsCell, ShowsBy, ShowsWithin, grid_of, line_from, line_text}
 use Rattle.tl_page.specs.Pictures.{Picture, picture, filled, spaces, line_of}
@@ -81,7 +82,8 @@ pub record IsWhole (depth : ℕ) (style : Style) (table : Table) (layout : Layou
   pub wide : AllByRecursion (λ line. HasWidth line (total_width style (out-Layout layout))) page
   pub holds : HoldsWithin depth style table layout page
 
-lines_in_room : (w : ℕ) (lines : List (List Atom)) → AllByRecursion (λ line. line_width line ≤ w) lines → AllByRecursion (IsInRoom w) (map line_from lines)
+lines_in_room : (w : ℕ) (lines : List (List Atom)) → AllByRecursion (λ line. line_width line ≤ w) lines →
+    AllByRecursion (IsInRoom w) (map line_from lines)
 lines_in_room w [] holds = tt
 lines_in_room w (line ∷ lines) holds = ((HasWidth-line line, holds.0), lines_in_room w lines holds.1)
 
@@ -96,12 +98,14 @@ fits_parts zero style table w h layout fits = absurd fits
 fits_parts (suc level) style table w h layout fits = (fits.within, fits.high)
 
 grid_parts : (depth : ℕ) (table : Table) → IsSoundWithin depth table →
-    All (IsPlaced (out-Table table).cols (out-Table table).rows) (places_of (out-Table table)) × AllPairs AreApart (places_of (out-Table table))
+    All (IsPlaced (out-Table table).cols (out-Table table).rows) (places_of (out-Table table)) ×
+    AllPairs AreApart (places_of (out-Table table))
 grid_parts zero table sound = absurd sound
 grid_parts (suc depth) table sound = (sound.placed, sound.apart)
 
 module _ (depth : ℕ) (style : Style)
-    (inside : (table : Table) (layout : Layout) (page : List (List ℕ)) (width height : ℕ) → IsSound table → Fits table style width height layout →
+    (inside : (table : Table) (layout : Layout) (page : List (List ℕ)) (width height : ℕ) → IsSound table →
+    Fits table style width height layout →
     ShowsWithin depth style table layout page → IsWhole depth style table layout page) where
   -- ---- a block
 
@@ -111,7 +115,8 @@ module _ (depth : ℕ) (style : Style)
     pub text : AreTextsOf style (HoldsWithin depth style) block (texts_of lines)
 
   block_whole : (level w : ℕ) (block : OpenContent) (share : Share) (part : Content) → IsSoundBlock block →
-      FitsShare (FitsWithin level style) w block share → ShowsBlock (ShowsWithin depth style) style w block part → share.inner ≡ part.inner →
+      FitsShare (FitsWithin level style) w block share → ShowsBlock (ShowsWithin depth style) style w block part →
+      share.inner ≡ part.inner →
       IsBlockWhole w share.height block part.lines
   block_whole level w (open_content.Para paragraph) share part sound fit shows same =
       let cut = shows.0.0 in
@@ -119,7 +124,13 @@ module _ (depth : ℕ) (style : Style)
       let lines = shows.0.2 in
       record {
         in_room = subst (AllByRecursion (IsInRoom w)) (sym lines) (lines_in_room w (joined cut) greedy.holds);
-        low = omega (arith, ap length lines, length-map (joined cut) line_from, greedy-least w paragraph cut fit.0.0 greedy fit.0.1 fit.0.2, fit.0.3);
+        low = omega (
+          arith,
+          ap length lines,
+          length-map (joined cut) line_from,
+          greedy-least w paragraph cut fit.0.0 greedy fit.0.1 fit.0.2,
+          fit.0.3,
+        );
         text = (cut, greedy.cutting, ap texts_of lines ∙ texts_from (joined cut));
       }
   block_whole level w (open_content.Table box) share part sound fit shows same =
@@ -138,7 +149,8 @@ module _ (depth : ℕ) (style : Style)
           parts.1,
           fit.within,
         );
-        text = subst (AreTextsOf style (HoldsWithin depth style) (open_content.Table box)) (sym (ap texts_of shows.lines ∙ texts_nested width shows.page))
+        text = subst (AreTextsOf style (HoldsWithin depth style) (open_content.Table box))
+            (sym (ap texts_of shows.lines ∙ texts_nested width shows.page))
             (shows.layout, (depth, shows.shown), whole.holds);
       }
 
@@ -157,14 +169,23 @@ module _ (depth : ℕ) (style : Style)
       AllZip (λ block part. ShowsBlock (ShowsWithin depth style) style w (out-Content block) part) blocks parts →
       flat_map (λ share. share.inner) shares ≡ flat_map (λ part. part.inner) parts →
       AreBlocksWhole w (sum_by (λ share. share.height) shares) blocks (flat_map (λ part. part.lines) parts)
-  blocks_whole level w [] [] [] sound fit shows same = record { in_room = tt; low = omega arith; texts = []; each = tt; all = refl }
+  blocks_whole level w [] [] [] sound fit shows same = record {
+    in_room = tt;
+    low = omega arith;
+    texts = [];
+    each = tt;
+    all =
+        refl;
+  }
   blocks_whole level w [] [] (part ∷ parts) sound fit shows same = absurd shows
   blocks_whole level w [] (share ∷ shares) parts sound fit shows same = absurd fit
   blocks_whole level w (block ∷ blocks) [] parts sound fit shows same = absurd fit
   blocks_whole level w (block ∷ blocks) (share ∷ shares) [] sound fit shows same = absurd shows
   blocks_whole level w (block ∷ blocks) (share ∷ shares) (part ∷ parts) sound fit shows same =
-      let many = as_many_in_block (FitsWithin level style) (ShowsWithin depth style) style w (out-Content block) share part fit.0 shows.0 in
-      let here = same_first share.inner part.inner (flat_map (λ share. share.inner) shares) (flat_map (λ part. part.inner) parts) many same in
+      let many = as_many_in_block (FitsWithin level style) (ShowsWithin depth style) style w (out-Content block)
+      share part fit.0 shows.0 in
+      let here = same_first share.inner part.inner (flat_map (λ share. share.inner) shares)
+      (flat_map (λ part. part.inner) parts) many same in
       let there = same_rest share.inner part.inner (flat_map (λ share. share.inner) shares) (flat_map (λ part. part.inner) parts)
       (part.inner ++ flat_map (λ part. part.inner) parts) many same refl in
       let one = block_whole level w (out-Content block) share part sound.0 fit.0 shows.0 here in
@@ -187,10 +208,12 @@ module _ (depth : ℕ) (style : Style)
   -- ---- a cell
 
   cell_whole : (level w h : ℕ) (cell : TableCell) (given : List Layout) (content : Content) → IsSoundCell (out-TableCell cell) →
-      FitsRoom (FitsWithin level style) w h (out-TableCell cell) given → ShowsCell (ShowsWithin depth style) style w (out-TableCell cell) content →
+      FitsRoom (FitsWithin level style) w h (out-TableCell cell) given →
+      ShowsCell (ShowsWithin depth style) style w (out-TableCell cell) content →
       given ≡ content.inner → AreBlocksWhole w h (out-TableCell cell).blocks content.lines
   cell_whole level w h cell given content sound fit shows same =
-      let blocks = blocks_whole level w (out-TableCell cell).blocks fit.shares shows.parts (sound_blocks cell sound) fit.blocks shows.blocks
+      let blocks = blocks_whole level w (out-TableCell cell).blocks fit.shares shows.parts (sound_blocks cell sound)
+      fit.blocks shows.blocks
       (fit.given ∙ same ∙ sym shows.inner) in
       record {
         in_room = subst (AllByRecursion (IsInRoom w)) shows.lines blocks.in_room;
@@ -203,13 +226,15 @@ module _ (depth : ℕ) (style : Style)
   module _ (layout : OpenLayout) where
     -- what holds of a cell and its lines
     abbrev IsCellWhole : TableCell → Content → Type 0
-    IsCellWhole cell content = AreBlocksWhole (width_for style layout (out-TableCell cell).place) (height_for style layout (out-TableCell cell).place)
+    IsCellWhole cell content = AreBlocksWhole (width_for style layout (out-TableCell cell).place)
+        (height_for style layout (out-TableCell cell).place)
         (out-TableCell cell).blocks content.lines
 
     cells_whole : (level : ℕ) (cells : List TableCell) (parts : List (List Layout)) (contents : List Content) →
         AllByRecursion (λ cell. IsSoundCell (out-TableCell cell)) cells →
         AllZip (λ cell given. FitsCell (FitsWithin level style) style layout (out-TableCell cell) given) cells parts →
-        AllZip (λ cell content. ShowsCell (ShowsWithin depth style) style (width_for style layout (out-TableCell cell).place) (out-TableCell cell) content)
+        AllZip (λ cell content. ShowsCell (ShowsWithin depth style) style (width_for style layout (out-TableCell cell).place)
+        (out-TableCell cell) content)
         cells contents →
         flat_map (λ given. given) parts ≡ flat_map (λ content. content.inner) contents → AllZip IsCellWhole cells contents
     cells_whole level [] [] [] sound fit shows same = tt
@@ -220,8 +245,10 @@ module _ (depth : ℕ) (style : Style)
     cells_whole level (cell ∷ cells) (given ∷ parts) (content ∷ contents) sound fit shows same =
         let w = width_for style layout (out-TableCell cell).place in
         let h = height_for style layout (out-TableCell cell).place in
-        let many = as_many_in_cell (FitsWithin level style) (ShowsWithin depth style) style w h (out-TableCell cell) given content fit.0 shows.0 in
-        let here = same_first given content.inner (flat_map (λ given. given) parts) (flat_map (λ content. content.inner) contents) many same in
+        let many = as_many_in_cell (FitsWithin level style) (ShowsWithin depth style) style w h (out-TableCell cell)
+        given content fit.0 shows.0 in
+        let here = same_first given content.inner (flat_map (λ given. given) parts)
+        (flat_map (λ content. content.inner) contents) many same in
         let there = same_rest given content.inner (flat_map (λ given. given) parts) (flat_map (λ content. content.inner) contents)
         (content.inner ++ flat_map (λ content. content.inner) contents) many same refl in (
           cell_whole level w h cell given content sound.0 fit.0 shows.0 here,
@@ -246,13 +273,15 @@ module _ (depth : ℕ) (style : Style)
       columns = fit.columns;
       placed = placed;
       apart = apart;
-      filled = zip_mapped (IsCellWhole layout) (HasRoom style (grid_of table) layout.widths layout.heights contents) place_of (λ content. content.lines)
+      filled = zip_mapped (IsCellWhole layout) (HasRoom style (grid_of table) layout.widths layout.heights contents) place_of
+          (λ content. content.lines)
           table.cells shows.contents (λ cell content whole. whole.in_room) cells;
     }
 
     wide : AllByRecursion (λ line. HasWidth line (total_width style layout)) page
     wide = subst (AllByRecursion (λ line. HasWidth line (total_width style layout))) (sym shows.drawn)
-        (all_lines (λ line. HasWidth line (total_width style layout)) drawn_picture (strips (row_gap_of style) (edge_of style) layout.heights)
+        (all_lines (λ line. HasWidth line (total_width style layout)) drawn_picture
+        (strips (row_gap_of style) (edge_of style) layout.heights)
         (λ down y. line_wide style (grid_of table) layout.widths layout.heights contents filled_in down y))
 
     -- line `k` of a cell stands on the page
@@ -268,12 +297,14 @@ module _ (depth : ℕ) (style : Style)
         let begin = position gap heights place.top in
         let within = slice_get_within lines k line here in
         let rooms = room-position gap heights place.top place.bottom lies.2 in
-        let found = page_line drawn_picture gap edge heights place.top place.bottom (begin + k) lies.2 (omega (arith, fit.rows, lies.3)) (omega arith)
+        let found = page_line drawn_picture gap edge heights place.top place.bottom (begin + k) lies.2
+        (omega (arith, fit.rows, lies.3)) (omega arith)
         (omega (arith, within, low, rooms)) in
         let row : edge + (begin + k) ≡ edge + begin + k = omega arith in
         let number : edge + (begin + k) - (edge + begin) ≡ k = omega arith in
         let columns = room (gap_of style) layout.widths place.left place.right in
-        let stands = cell_stands style (grid_of table) layout.widths heights contents filled_in found.0 (edge + (begin + k)) n place lines at stood
+        let stands = cell_stands style (grid_of table) layout.widths heights contents filled_in found.0 (edge + (begin + k))
+        n place lines at stood
         found.1 found.2 found.3 found.4 in
         let tail : List ℕ = spaces (columns - line.width) in
         let content = filled columns (slice_get lines (edge + (begin + k) - (edge + begin))) in
@@ -282,27 +313,37 @@ module _ (depth : ℕ) (style : Style)
           before = stands.0;
           after = tail ++ stands.1;
           columns = stands.2;
-          line = placed_line stands.0 stands.1 line.text tail content text (line_of drawn_picture found.0 (edge + (begin + k))) stands.3
+          line = placed_line stands.0 stands.1 line.text tail content text (line_of drawn_picture found.0 (edge + (begin + k)))
+              stands.3
               (ap₂ (λ (page : List (List ℕ)) (y : ℕ). slice_get page y) shows.drawn (sym row) ∙ found.5);
         } where
-          placed_line : (before after text tail content : List ℕ) → content ≡ text ++ tail → (whole : List ℕ) → whole ≡ before ++ (content ++ after) →
+          placed_line : (before after text tail content : List ℕ) → content ≡ text ++ tail → (whole : List ℕ) →
+              whole ≡ before ++ (content ++ after) →
               slice_get page (edge_of style + position (row_gap_of style) layout.heights place.top + k) ≡ Some whole →
-              slice_get page (edge_of style + position (row_gap_of style) layout.heights place.top + k) ≡ Some (before ++ (text ++ (tail ++ after)))
+              slice_get page (edge_of style + position (row_gap_of style) layout.heights place.top + k) ≡ Some
+              (before ++ (text ++ (tail ++ after)))
           placed_line before after text tail content is whole drawn at =
-              at ∙ ap Some (drawn ∙ ap (λ middle. before ++ (middle ++ after)) is ∙ ap (λ rest. before ++ rest) (append_assoc text tail after))
+              at ∙ ap Some (drawn ∙ ap (λ middle. before ++ (middle ++ after)) is ∙ ap (λ rest. before ++ rest)
+              (append_assoc text tail after))
 
     holds : HoldsBy (HoldsWithin depth style) style table layout page
     holds n other within =
         let cell = get_or table.cells n other in
         let none : Content = record { lines = []; inner = [] } in
         let content = get_or shows.contents n none in
-        let whole : IsCellWhole layout cell content = AllZip-get_or (IsCellWhole layout) table.cells shows.contents n other none cells within in
+        let whole : IsCellWhole layout cell content = AllZip-get_or (IsCellWhole layout)
+        table.cells shows.contents n other none cells within in
         let as_many = AllZip-length (IsCellWhole layout) table.cells shows.contents cells in
         let at : slice_get (places_of table) n ≡ Some (place_of cell) =
         slice_get-get_or (places_of table) n (place_of other) (omega (arith, within, length-map table.cells place_of))
         ∙ ap Some (get_or-map place_of table.cells n other (place_of other) within) in
         let stood : slice_get contents n ≡ Some content.lines =
-        slice_get-get_or contents n [] (omega (arith, within, as_many, length-map shows.contents (λ (content : Content). content.lines)))
+        slice_get-get_or contents n [] (omega (
+          arith,
+          within,
+          as_many,
+          length-map shows.contents (λ (content : Content). content.lines),
+        ))
         ∙ ap Some (get_or-map (λ (content : Content). content.lines) shows.contents n none [] (omega (arith, within, as_many))) in
         let lies : IsPlaced table.cols table.rows (place_of cell) =
         subst (IsPlaced table.cols table.rows) (get_or-map place_of table.cells n other (place_of other) within)
@@ -319,16 +360,20 @@ module _ (depth : ℕ) (style : Style)
 
 -- ---- at all depths
 
-pub whole : (depth : ℕ) (style : Style) (table : Table) (layout : Layout) (page : List (List ℕ)) (width height : ℕ) → IsSound table →
+pub whole : (depth : ℕ) (style : Style) (table : Table) (layout : Layout) (page : List (List ℕ)) (width height : ℕ) →
+    IsSound table →
     Fits table style width height layout → ShowsWithin depth style table layout page → IsWhole depth style table layout page
 whole zero style table layout page width height sound fits shows = absurd shows
 whole (suc depth) style table layout page width height sound (zero, fit) shows = absurd fit
 whole (suc depth) style table layout page width height sound (suc level, fit) shows =
-    let inside = λ (table : Table) (layout : Layout) (page : List (List ℕ)) (width height : ℕ). whole depth style table layout page width height in
+    let inside = λ (table : Table) (layout : Layout) (page : List (List ℕ))
+    (width height : ℕ). whole depth style table layout page width height in
     let grid = grid_parts sound.depth table sound.sound in
-    let cells = cells_whole depth style inside (out-Layout layout) level (out-Table table).cells fit.parts shows.contents (sound_cells table sound)
+    let cells = cells_whole depth style inside (out-Layout layout) level (out-Table table).cells fit.parts shows.contents
+    (sound_cells table sound)
     fit.cells shows.cells (fit.given ∙ sym shows.inner) in
     record {
       wide = wide depth style inside level width height (out-Table table) (out-Layout layout) page grid.0 grid.1 fit shows cells;
-      holds = holds depth style inside level width height (out-Table table) (out-Layout layout) page grid.0 grid.1 fit shows cells;
+      holds = holds depth style inside level width height (out-Table table) (out-Layout layout)
+          page grid.0 grid.1 fit shows cells;
     }

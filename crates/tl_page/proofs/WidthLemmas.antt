@@ -1,5 +1,6 @@
 -- Texts side by side take the columns of all of them.
-use Rattle.std.proofs.Common.{◌≡◌, inl, inr, ℕ, zero, suc, ◌+◌, List, [], ◌∷◌, ◌++◌, replicate, sum_by, refl, ◌∙◌, ap, ap₂, append-nil, arith}
+use Rattle.std.proofs.Common.{◌≡◌, inl, inr, ℕ, zero, suc, ◌+◌, List, [], ◌∷◌, ◌++◌, replicate, sum_by, refl, ◌∙◌, ap, ap₂}
+use Rattle.std.proofs.Common.{append-nil, arith}
 use Rattle.std.specs.List.{AllByRecursion, flat_map}
 use Rattle.std.proofs.lemmas.List.Concat.{flat_map-append}
 use Rattle.std.proofs.lemmas.List.Sums.{sum_by-cons, sum_by-append}
@@ -18,12 +19,14 @@ both P (x ∷ xs) ys one other = (one.0, both P xs ys one.1 other)
 pub HasWidth-none : HasWidth [] 0
 HasWidth-none = record { pieces = []; each = tt; bytes = refl; columns = refl }
 
-pub HasWidth-append : (text more : List ℕ) (width columns all : ℕ) → HasWidth text width → HasWidth more columns → width + columns ≡ all →
+pub HasWidth-append : (text more : List ℕ) (width columns all : ℕ) → HasWidth text width → HasWidth more columns →
+    width + columns ≡ all →
     HasWidth (text ++ more) all
 HasWidth-append text more width columns all one other sum = record {
   pieces = one.pieces ++ other.pieces;
   each = both IsPiece one.pieces other.pieces one.each other.each;
-  bytes = flat_map-append (λ (piece : Line). piece.text) one.pieces other.pieces ∙ ap₂ (λ (left right : List ℕ). left ++ right) one.bytes other.bytes;
+  bytes = flat_map-append (λ (piece : Line). piece.text) one.pieces other.pieces ∙ ap₂ (λ (left right : List ℕ). left ++ right)
+      one.bytes other.bytes;
   columns = omega (arith, sum_by-append (λ (piece : Line). piece.width) one.pieces other.pieces, one.columns, other.columns, sum);
 }
 
@@ -41,10 +44,22 @@ HasWidth-signs sign (suc count) is =
     }
 
 pub HasWidth-is : (text : List ℕ) (width columns : ℕ) → HasWidth text width → width ≡ columns → HasWidth text columns
-HasWidth-is text width columns one same = record { pieces = one.pieces; each = one.each; bytes = one.bytes; columns = one.columns ∙ same }
+HasWidth-is text width columns one same = record {
+  pieces = one.pieces;
+  each = one.each;
+  bytes = one.bytes;
+  columns =
+      one.columns ∙ same;
+}
 
 pub HasWidth-same : (text other : List ℕ) (width : ℕ) → HasWidth text width → text ≡ other → HasWidth other width
-HasWidth-same text other width one same = record { pieces = one.pieces; each = one.each; bytes = one.bytes ∙ same; columns = one.columns }
+HasWidth-same text other width one same = record {
+  pieces = one.pieces;
+  each = one.each;
+  bytes = one.bytes ∙ same;
+  columns =
+      one.columns;
+}
 
 -- ---- lines of units
 
@@ -67,7 +82,8 @@ HasWidth-units (unit ∷ units) =
     HasWidth-append (spaces (gap_before unit) ++ text_of unit) (flat_map (λ next. spaces (gap_before next) ++ text_of next) units)
     (gap_before unit + unit_width unit) (sum_by unit_width units + sum_by gap_before units)
     (sum_by unit_width (unit ∷ units) + sum_by gap_before (unit ∷ units))
-    (HasWidth-append (spaces (gap_before unit)) (text_of unit) (gap_before unit) (unit_width unit) (gap_before unit + unit_width unit)
+    (HasWidth-append (spaces (gap_before unit)) (text_of unit) (gap_before unit) (unit_width unit)
+    (gap_before unit + unit_width unit)
     (HasWidth-signs 0x20 (gap_before unit) (0, omega arith, refl)) (HasWidth-unit unit) refl)
     (HasWidth-units units) (omega (arith, sum_by-cons unit_width unit units, sum_by-cons gap_before unit units))
 

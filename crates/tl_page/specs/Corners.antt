@@ -1,8 +1,9 @@
 -- What is drawn where four slots meet. Every place of a page lies among four slots: two of them are the same inside a
 -- row or a column, and all four inside a cell.
-use Rattle.std.specs.Prelude.{ℕ, ◌+◌, ◌&&◌, Bool, true, false, not, nat_lt, nat_le, ◌==◌, List, [], ◌∷◌, Option, Some, None, if◌then◌else◌}
+use Rattle.std.specs.Prelude.{ℕ, ◌+◌, ◌&&◌, Bool, true, false, not, nat_lt, nat_le, ◌==◌, List, [], ◌∷◌, Option, Some, None}
+use Rattle.std.specs.Prelude.{if◌then◌else◌}
 use Rattle.tl_base.specs.declared.style.Style.{Style}
-use Rattle.tl_base.specs.declared.style.Style.TheVariants.{Plain, Frame}
+use Rattle.tl_base.specs.declared.style.Style.TheVariants.{Plain, Compact, Frame}
 use Rattle.tl_grid.specs.declared.shape.Place.{Place}
 use Rattle.tl_page.specs.declared.corner.Corner.{Corner}
 use Rattle.tl_page.specs.declared.owner.Owner.{Owner}
@@ -68,9 +69,10 @@ is_one corner =
     (is_same corner.up_left corner.up_right && is_same corner.up_left corner.down_left)
     && is_same corner.up_left corner.down_right
 
--- the character of a corner, by whether its sides up, down, left and right are drawn; in style plain all are spaces
+-- the character of a corner, by whether its sides up, down, left and right are drawn; in styles plain and compact all are spaces
 abbrev pub sign : Style → Bool → Bool → Bool → Bool → ℕ
 sign Plain up down left right = 0x20
+sign Compact up down left right = 0x20
 sign Frame true true false false = 0x7C
 sign Frame false false true true = 0x2D
 sign Frame up down left right = 0x2B

@@ -4,10 +4,10 @@ use Rattle.std.specs.List.{AllByRecursion}
 use Rattle.tl_base.specs.declared.style.Style.{Style}
 use Rattle.tl_text.specs.declared.paragraph.Atom.{Atom}
 use Rattle.tl_text.specs.Cuttings.{joined, IsCutting}
-use Rattle.tl_form.specs.declared.cell.Table.{Table}
-use Rattle.tl_form.specs.declared.layout.Layout.{Layout, out-Layout}
-use Rattle.tl_form.specs.Layouts.{Fits, total_width, total_height}
-use Rattle.tl_form.specs.Sound.{IsSound}
+use Rattle.tl_table.specs.declared.cell.Table.{Table}
+use Rattle.tl_table.specs.declared.layout.Layout.{Layout, out-Layout}
+use Rattle.tl_table.specs.Layouts.{Fits, total_width, total_height}
+use Rattle.tl_table.specs.Sound.{IsSound}
 use Rattle.tl_page.specs.declared.line.Line.{Line}
 use Rattle.tl_page.specs.Pages.{AreParagraphLines, IsPage, line_from}
 use Rattle.tl_page.specs.Standing.{HoldsAllText}

@@ -7,14 +7,14 @@ use Rattle.tl_text.specs.declared.paragraph.Atom.{Atom}
 use Rattle.tl_text.specs.declared.paragraph.Atom.TheVariants.{Word, Glue, Break}
 use Rattle.tl_text.specs.Paragraph.{gap_before}
 use Rattle.tl_text.specs.Cuttings.{joined, line_width, IsGreedyCutting}
-use Rattle.tl_form.specs.declared.cell.Content.{out-Content}
-use Rattle.tl_form.specs.declared.cell.Content.TheOpen as open_content
-use Rattle.tl_form.specs.declared.cell.Table.{Table, out-Table}
-use Rattle.tl_form.specs.declared.cell.TableCell.{out-TableCell}
-use Rattle.tl_form.specs.declared.layout.Layout.{Layout, out-Layout}
-use Rattle.tl_form.specs.Tables.{OpenTable, OpenCell, OpenContent}
-use Rattle.tl_form.specs.Layouts.{OpenLayout, total_width, width_for}
-use Rattle.tl_form.specs.Sound.{places_of}
+use Rattle.tl_table.specs.declared.cell.Content.{out-Content}
+use Rattle.tl_table.specs.declared.cell.Content.TheOpen as open_content
+use Rattle.tl_table.specs.declared.cell.Table.{Table, out-Table}
+use Rattle.tl_table.specs.declared.cell.TableCell.{out-TableCell}
+use Rattle.tl_table.specs.declared.layout.Layout.{Layout, out-Layout}
+use Rattle.tl_table.specs.Tables.{OpenTable, OpenCell, OpenContent}
+use Rattle.tl_table.specs.Layouts.{OpenLayout, total_width, width_for}
+use Rattle.tl_table.specs.Sound.{places_of}
 use Rattle.tl_page.specs.declared.line.Line.{Line}
 use Rattle.tl_page.specs.Corners.{Grid}
 use Rattle.tl_page.specs.Pictures.{picture, spaces, lines_of}

@@ -21,4 +21,10 @@ strips_from gap edge slot from (size ∷ sizes) =
 -- the strips of a page along one axis, with an edge on both sides; none where there is no slot
 abbrev pub strips : ℕ → ℕ → List ℕ → List Strip
 strips gap edge [] = []
-strips gap edge (size ∷ sizes) = record { before = 0; after = 1; from = 0; size = edge } ∷ strips_from gap edge 1 edge (size ∷ sizes)
+strips gap edge (size ∷ sizes) = record {
+  before = 0;
+  after = 1;
+  from = 0;
+  size =
+      edge;
+} ∷ strips_from gap edge 1 edge (size ∷ sizes)

@@ -1,12 +1,11 @@
 //! The content of the cells of a table: blocks one under the other, paragraphs and nested pages.
 
 ghost use Rattle.std.specs.Prelude.{◌≡◌, ◌<◌, ◌++◌, ◌+◌, ◌*◌, ◌^◌, List, length, sum, OnOk, IfOk};
-ghost use Rattle.tl_form.specs.Sound.{IsSound};
-ghost use Rattle.tl_form.specs.declared.cell.Content.{out-Content};
-ghost use Rattle.tl_form.specs.declared.cell.Table.{out-Table};
-ghost use Rattle.tl_form.specs.declared.cell.TableCell.{out-TableCell};
-ghost use Rattle.tl_form.specs.declared.layout.Layout.{out-Layout};
-ghost use Rattle.tl_form.specs.inner.LeastRooms.{IsSoundBlock, IsSoundCell};
+ghost use Rattle.tl_table.specs.Sound.{IsSound, IsSoundBlock, IsSoundCell};
+ghost use Rattle.tl_table.specs.declared.cell.Content.{out-Content};
+ghost use Rattle.tl_table.specs.declared.cell.Table.{out-Table};
+ghost use Rattle.tl_table.specs.declared.cell.TableCell.{out-TableCell};
+ghost use Rattle.tl_table.specs.declared.layout.Layout.{out-Layout};
 ghost use Rattle.tl_page.specs.Pages.{nested_lines};
 ghost use Rattle.tl_page.specs.Pictures.{lines_of};
 ghost use Rattle.tl_page.specs.inner.Contents.{FitsPage, FitsCellRoom, FitsBlockRoom, ShowsPart, ShowsParts, ShowsCells, picture_with};
@@ -18,7 +17,7 @@ use crate::picture::{Drawing, draw};
 use crate::strips::{begin_of, room_in, strips, total_in};
 use std::alloc::{AllocError, Global};
 use tl_base::{List, Style};
-use tl_form::{Content, Layout, Table, TableCell};
+use tl_table::{Content, Layout, Table, TableCell};
 
 /// The lines of a cell, and the number of the first layout of a nested table that it leaves.
 #[derive(Drop)]

@@ -58,7 +58,7 @@ fn sign_of(style: Style, up: bool, down: bool, left: bool, right: bool) -> u8
     ensures { result ≡ sign style up down left right }
 {
     match (style, up, down, left, right) {
-        (Style::Plain, _, _, _, _) => b' ',
+        (Style::Plain | Style::Compact, _, _, _, _) => b' ',
         (Style::Frame, true, true, false, false) => b'|',
         (Style::Frame, false, false, true, true) => b'-',
         (Style::Frame, _, _, _, _) => b'+',

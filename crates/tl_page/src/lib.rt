@@ -10,6 +10,8 @@ mod line;
 mod measure;
 mod owner;
 mod owners;
+#[cfg(test)]
+mod page_tests;
 mod pages;
 mod paragraph;
 mod picture;
@@ -17,8 +19,6 @@ mod strip;
 mod strips;
 #[cfg(test)]
 mod tests;
-#[cfg(test)]
-mod worked;
 
 pub use laws::{lines_are_as_wide, pages_are_as_high, pages_hold_all_text, paragraphs_are_whole};
 pub use measure::fits;

@@ -1,16 +1,14 @@
 //! Decides whether a layout fits a page, by what each cell takes of its room.
 
 ghost use Rattle.std.specs.Prelude.{◌↔◌, ◌<◌, ◌≤◌, ◌^◌, ℕ, IfSome, IsTrue};
-ghost use Rattle.tl_form.specs.Layouts.{Fits};
-ghost use Rattle.tl_form.specs.Sound.{IsSound};
-ghost use Rattle.tl_form.specs.declared.cell.Content.{out-Content};
-ghost use Rattle.tl_form.specs.declared.cell.TableCell.{out-TableCell};
-ghost use Rattle.tl_form.specs.inner.LeastRooms.{IsSoundBlock, IsSoundCell};
+ghost use Rattle.tl_table.specs.Layouts.{Fits};
+ghost use Rattle.tl_table.specs.Sound.{IsSound, IsSoundBlock, IsSoundCell};
+ghost use Rattle.tl_table.specs.declared.cell.Content.{out-Content};
+ghost use Rattle.tl_table.specs.declared.cell.TableCell.{out-TableCell};
 ghost use Rattle.tl_page.specs.inner.Taking.{TakesBlock, TakesCell, TakesTable};
 
-use tl_base::{MAX_HEIGHT, Style};
-use tl_form::{Content, Layout, Table, TableCell};
-use tl_problem::{room_size, total_size};
+use tl_base::{MAX_HEIGHT, Style, room_size, total_size};
+use tl_table::{Content, Layout, Table, TableCell};
 use tl_text::count_lines;
 
 /// What a block takes of its cell.

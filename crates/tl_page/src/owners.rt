@@ -2,8 +2,8 @@
 
 ghost use Rattle.std.specs.Prelude.{◌≡◌, ◌+◌, ◌*◌, ◌<◌, ◌≤◌, ◌⊎◌, ℕ, length, map, get_or, replicate, None, Some, IfOk};
 ghost use Rattle.std.specs.List.{All};
-ghost use Rattle.tl_form.specs.Sound.{place_of, places_of};
-ghost use Rattle.tl_form.specs.declared.cell.Table.{out-Table};
+ghost use Rattle.tl_table.specs.Sound.{place_of, places_of};
+ghost use Rattle.tl_table.specs.declared.cell.Table.{out-Table};
 ghost use Rattle.tl_grid.specs.Dropping.{IsPlaced};
 ghost use Rattle.tl_page.specs.Corners.{number_over, owner_of};
 ghost use Rattle.tl_page.specs.Pages.{grid_of};
@@ -12,8 +12,8 @@ ghost use Rattle.tl_page.specs.inner.Drawing.{owner_in};
 use crate::owner::Owner;
 use std::alloc::{AllocError, Global};
 use tl_base::List;
-use tl_form::{Table, TableCell};
 use tl_grid::Place;
+use tl_table::{Table, TableCell};
 
 /// The owner of each slot of a grid.
 #[derive(Drop)]

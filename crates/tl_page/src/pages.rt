@@ -1,14 +1,14 @@
 //! The text page of a table.
 
 ghost use Rattle.std.specs.Prelude.{◌≡◌, ◌≤◌, ◌++◌, ◌∷◌, [], List, ℕ, IfOk, OnOk};
-ghost use Rattle.tl_form.specs.Layouts.{Fits};
-ghost use Rattle.tl_form.specs.Sound.{IsSound};
+ghost use Rattle.tl_table.specs.Layouts.{Fits};
+ghost use Rattle.tl_table.specs.Sound.{IsSound};
 ghost use Rattle.tl_page.specs.Pages.{IsPage, bytes_of};
 
 use crate::cells::{drawn_cells, page_with};
 use std::alloc::{AllocError, Global};
 use tl_base::{List, MAX_HEIGHT, MAX_PAGE_WIDTH, Style};
-use tl_form::{Layout, Table};
+use tl_table::{Layout, Table};
 
 /// The text page of a table in a layout that fits a page: as many lines as the layout is high, each
 /// filled to the width of the layout and ended by a line feed, in UTF-8. A paragraph is cut greedily

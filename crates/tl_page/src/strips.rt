@@ -1,7 +1,7 @@
 //! Cuts a page into strips along one axis.
 
 ghost use Rattle.std.specs.Prelude.{◌≡◌, ◌+◌, ◌*◌, ◌<◌, ◌≤◌, ◌^◌, length, sum, get_or, ℕ, List, [], ◌∷◌, ◌++◌, IfOk, OnOk};
-ghost use Rattle.tl_problem.specs.Sizes.{position, room, total};
+ghost use Rattle.tl_base.specs.Sizes.{position, room, total};
 ghost use Rattle.tl_page.specs.Strips.{strips as page_strips};
 
 use crate::strip::Strip;

@@ -8,7 +8,7 @@ use Rattle.tl_base.specs.declared.style.Style.TheVariants.{Plain}
 use Rattle.tl_base.specs.declared.steps.Config.{Config}
 use Rattle.tl_base.specs.Steps.{first_width, height_at}
 use Rattle.tl_problem.specs.declared.cell.Cell.{Cell}
-use Rattle.tl_problem.specs.Sizes.{position, total}
+use Rattle.tl_base.specs.Sizes.{position, total}
 use Rattle.tl_problem.specs.Problem.{ProblemModel, cell_width}
 use Rattle.tl_problem.specs.Layouts.{WithinPage}
 use Rattle.tl_problem.specs.Areas.{area, IsLeastArea, IsAreaBound}
@@ -31,7 +31,8 @@ fits : (a b : ℕ) → 1 ≤ a → 1 ≤ b → a + b ≤ 5 → WithinPage side_b
 fits a b one other page = record {
   columns = refl;
   page = omega arith;
-  cells = All-from_recursion (λ c. first_width c.low ≤ cell_width side_by_side (a ∷ b ∷ []) c) side_by_side.cells (omega arith, (omega arith, tt));
+  cells = All-from_recursion (λ c. first_width c.low ≤ cell_width side_by_side (a ∷ b ∷ []) c) side_by_side.cells
+      (omega arith, (omega arith, tt));
 }
 
 -- at least 5 at every width from one column on
@@ -61,7 +62,8 @@ first_area = record {
     refl,
     refl,
   );
-  never_less = λ w h between is. let wide = between.no_more.1.cells 0 first (omega arith) in area-least w h (omega (arith, wide, between.no_more.2)) is;
+  never_less = λ w h between is. let wide = between.no_more.1.cells 0 first (omega arith) in
+      area-least w h (omega (arith, wide, between.no_more.2)) is;
 }
 
 second_area : IsLeastArea side_by_side (WithinPage side_by_side) second 5
@@ -77,7 +79,8 @@ second_area = record {
     refl,
     refl,
   );
-  never_less = λ w h between is. let wide = between.no_more.1.cells 1 first (omega arith) in area-least w h (omega (arith, wide, between.no_more.2)) is;
+  never_less = λ w h between is. let wide = between.no_more.1.cells 1 first (omega arith) in
+      area-least w h (omega (arith, wide, between.no_more.2)) is;
 }
 
 two_lines : IsAreaBound side_by_side (WithinPage side_by_side) 2

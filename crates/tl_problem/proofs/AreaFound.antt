@@ -1,5 +1,6 @@
 -- The area bound from the least areas of the cells and the greatest place where the columns end.
-use Rattle.std.proofs.Common.{◌≡◌, ℕ, ◌+◌, ◌-◌, ◌*◌, ◌/◌, ◌%◌, ◌<◌, ◌≤◌, suc, min, ℤ, pos, List, [], ◌∷◌, ◌++◌, inl, inr, length, get_or}
+use Rattle.std.proofs.Common.{◌≡◌, ℕ, ◌+◌, ◌-◌, ◌*◌, ◌/◌, ◌%◌, ◌<◌, ◌≤◌, suc, min, ℤ, pos, List, [], ◌∷◌, ◌++◌, inl, inr, length}
+use Rattle.std.proofs.Common.{get_or}
 use Rattle.std.proofs.Common.{Some, refl, sym, ap, ◌∙◌, subst, arith}
 use Rattle.std.specs.List.{AllZip, sum_by}
 use Rattle.std.specs.Int.{div_ceil}
@@ -12,23 +13,22 @@ use Rattle.std.proofs.Math.Nat.{mul-le-mul, mul-le-mul_right}
 use Rattle.tl_base.specs.declared.limits.TheConstants.{MAX_HEIGHT, MAX_PAGE_WIDTH}
 use Rattle.tl_base.specs.Style.{gap_of, row_gap_of, edge_of}
 use Rattle.tl_base.specs.declared.style.Style.{Style}
-use Rattle.tl_base.specs.declared.style.Style.TheVariants.{Plain, Frame}
+use Rattle.tl_base.specs.declared.style.Style.TheVariants.{Plain, Compact, Frame}
 use Rattle.tl_base.specs.Steps.{height_at, first_height}
 use Rattle.tl_diff.specs.Bounds.{Bounds, IsGreatest, HasNoGreatest}
 use Rattle.tl_problem.specs.declared.cell.Cell.{Cell}
-use Rattle.tl_problem.specs.Sizes.{position}
+use Rattle.tl_base.specs.Sizes.{position}
 use Rattle.tl_problem.specs.Problem.{ProblemModel, cell_width}
 use Rattle.tl_problem.specs.Layouts.{WithinPage}
 use Rattle.tl_problem.specs.Sound.{IsSound, IsSoundCell}
 use Rattle.tl_problem.specs.Bounds.{IsGreatestRoom}
 use Rattle.tl_problem.specs.Areas.{IsLeastArea, IsGreatestEnd, IsRoundedUp, IsAreaBound}
-use Rattle.tl_problem.specs.Works.{places, IsLeft, KeepsPage}
+use Rattle.tl_problem.specs.Works.{places, IsLeft, KeepsPage, widths_of}
 use Rattle.tl_problem.specs.inner.Demands.{cell_at, no_cell}
 use Rattle.tl_problem.specs.inner.Needs.{IsLeastRoom}
 use Rattle.tl_problem.specs.inner.Least.{area_with, IsLeastStep, HaveAreas}
-use Rattle.tl_problem.specs.inner.Constraints.{widths_of}
 use Rattle.tl_problem.proofs.Heights.{height-from_first, IsLowAt-from}
-use Rattle.tl_problem.proofs.SizeLaws.{total-position, room-position, position-mono}
+use Rattle.tl_base.proofs.SizeLaws.{total-position, room-position, position-mono}
 use Rattle.tl_problem.proofs.NeedLemmas.{upto-push, all-most, sum-le, height-le, low-le}
 use Rattle.tl_problem.proofs.WorkLemmas.{left-from, left-position}
 use Rattle.tl_problem.proofs.ConstraintLemmas.{gap-few, gap-some}
@@ -36,15 +36,18 @@ use Rattle.tl_problem.proofs.AreaSteps.{least-below, least-attained}
 
 row_gap-few : (style : Style) → row_gap_of style ≤ 1
 row_gap-few Plain = omega arith
+row_gap-few Compact = omega arith
 row_gap-few Frame = omega arith
 
 pub edge-few : (style : Style) → edge_of style ≤ 1
 edge-few Plain = omega arith
+edge-few Compact = omega arith
 edge-few Frame = omega arith
 
 -- ---- the least area of one cell
 
-module _ (problem : ProblemModel) (Among : List ℕ → Type 0) (cell : Cell) (low high first least : ℕ) (sound : IsSoundCell problem cell)
+module _ (problem : ProblemModel) (Among : List ℕ → Type 0) (cell : Cell) (low high first least : ℕ)
+    (sound : IsSoundCell problem cell)
     (narrow : IsLeastRoom problem Among cell.left cell.right low) (wide : IsGreatestRoom problem Among cell.left cell.right high)
     (is : height_at cell.low low ≡ Some first)
     (h : IsLeastStep (gap_of problem.style) (row_gap_of problem.style) cell.low (length cell.low) low high
@@ -55,7 +58,8 @@ module _ (problem : ProblemModel) (Among : List ℕ → Type 0) (cell : Cell) (l
   pub IsLeastArea-found : IsLeastArea problem Among cell least
   IsLeastArea-found = record {
     attained =
-        let at = least-attained (gap_of problem.style) (row_gap_of problem.style) cell.low sound.steps.0 low high first least is h low-high in (
+        let at = least-attained (gap_of problem.style) (row_gap_of problem.style)
+        cell.low sound.steps.0 low high first least is h low-high in (
           at.0,
           at.1.0,
           record {
@@ -90,7 +94,10 @@ AllZip-from : (R : Cell → ℕ → Type 0) (cells : List Cell) (ns : List ℕ) 
 AllZip-from R [] [] same each = tt
 AllZip-from R [] (n ∷ ns) same each = absurd (omega arith)
 AllZip-from R (c ∷ cells) [] same each = absurd (omega arith)
-AllZip-from R (c ∷ cells) (n ∷ ns) same each = (each 0 (omega arith), AllZip-from R cells ns (omega arith) (λ k within. each (suc k) (omega arith)))
+AllZip-from R (c ∷ cells) (n ∷ ns) same each = (
+  each 0 (omega arith),
+  AllZip-from R cells ns (omega arith) (λ k within. each (suc k) (omega arith)),
+)
 
 -- ---- rounded up
 
@@ -127,8 +134,10 @@ rounded-up n divisor some =
 
 -- ---- the greatest end
 
-module _ (problem : ProblemModel) (sound : IsSound problem) (bounds : Bounds) (keeps : KeepsPage problem bounds) (some : 0 < problem.cols) where
-  end-small : (widths : List ℕ) → WithinPage problem widths → position (gap_of problem.style) widths problem.cols ≤ MAX_PAGE_WIDTH + 2
+module _ (problem : ProblemModel) (sound : IsSound problem) (bounds : Bounds) (keeps : KeepsPage problem bounds)
+    (some : 0 < problem.cols) where
+  end-small : (widths : List ℕ) → WithinPage problem widths →
+      position (gap_of problem.style) widths problem.cols ≤ MAX_PAGE_WIDTH + 2
   end-small widths page =
       let whole = total-position (gap_of problem.style) (edge_of problem.style) widths (omega (arith, page.columns)) in
       let at = ap (position (gap_of problem.style) widths) page.columns in
@@ -143,7 +152,8 @@ module _ (problem : ProblemModel) (sound : IsSound problem) (bounds : Bounds) (k
       omega (arith, ints, more.1.1, at, small)
 
   pub greatest-end : (most : ℤ) → IsGreatest bounds 0 problem.cols most →
-      (end : ℕ) × ((most ≡ pos end) × (IsGreatestEnd problem (IsLeft problem bounds) end × ((0 < end) × (end ≤ MAX_PAGE_WIDTH + 2))))
+      (end : ℕ) × ((most ≡ pos end) × (IsGreatestEnd problem (IsLeft problem bounds) end ×
+      ((0 < end) × (end ≤ MAX_PAGE_WIDTH + 2))))
   greatest-end most is =
       let x = is.reached.0 in
       let widths = widths_of x (gap_of problem.style) problem.cols in
@@ -159,7 +169,8 @@ module _ (problem : ProblemModel) (sound : IsSound problem) (bounds : Bounds) (k
           (
             record {
               attained = (widths, left, refl);
-              never_more = λ other kept. let apart = is.implied (places problem other) kept.satisfies in omega (arith, ints, apart, same);
+              never_more = λ other kept. let apart = is.implied (places problem other) kept.satisfies in
+                  omega (arith, ints, apart, same);
             },
             (omega (arith, one, first), end-small widths (keeps.page widths left)),
           ),
@@ -180,17 +191,25 @@ module _ (problem : ProblemModel) (sound : IsSound problem) (Among : List ℕ �
       let here = page widths among in
       let w = cell_width problem widths cell in
       let found = height-from_first cell.low sound_cell.steps.0.has_step w (here.cells k no_cell within) in
-      let high = height-from_first cell.high sound_cell.steps.1.has_step w (omega (arith, sound_cell.same_least, here.cells k no_cell within)) in
-      let low = low-le cell.low w found.0 high.0 found.1 (sound_cell.low_below high.0 w (IsLowAt-from cell.high high.0 w high.1)) in
+      let high = height-from_first cell.high sound_cell.steps.1.has_step w
+      (omega (arith, sound_cell.same_least, here.cells k no_cell within)) in
+      let low = low-le cell.low w found.0 high.0 found.1 (sound_cell.low_below high.0 w
+      (IsLowAt-from cell.high high.0 w high.1)) in
       let most = height-le cell.high sound_cell.steps.1 w high.0 high.1 in
-      let below = is.never_less w found.0 (record { no_more = (widths, among, omega arith); no_less = (widths, among, omega arith) }) found.1 in
+      let below = is.never_less w found.0 (record {
+        no_more = (widths, among, omega arith);
+        no_less =
+            (widths, among, omega arith);
+      }) found.1 in
       let place = room-position (gap_of problem.style) widths cell.left cell.right sound_cell.columns.0 in
       let far = position-mono (gap_of problem.style) widths cell.right problem.cols sound_cell.columns.1 in
       let wide : w + gap_of problem.style ≤ end = omega (arith, place, far, greatest.attained.2) in
-      let tall : found.0 + row_gap_of problem.style ≤ first_height cell.high + 1 = omega (arith, low, most, row_gap-few problem.style) in
+      let tall : found.0 + row_gap_of problem.style ≤ first_height cell.high + 1 =
+      omega (arith, low, most, row_gap-few problem.style) in
       omega (arith, below, mul-le-mul wide tall)
 
-  scaled : (cells : List Cell) → sum_by (λ c. end * (first_height c.high + 1)) cells ≡ end * (sum_by (λ c. first_height c.high) cells + length cells)
+  scaled : (cells : List Cell) → sum_by (λ c. end * (first_height c.high + 1)) cells ≡ end *
+      (sum_by (λ c. first_height c.high) cells + length cells)
   scaled [] = omega arith
   scaled (c ∷ cells) =
       let rest = scaled cells in
@@ -202,16 +221,19 @@ module _ (problem : ProblemModel) (sound : IsSound problem) (Among : List ℕ �
         spread e g s n = grind arith
 
   -- so few lines hold them
-  pub areas-small : (total : ℕ) → HaveAreas problem Among (length problem.cells) total → total ≤ (MAX_HEIGHT + length problem.cells) * end
+  pub areas-small : (total : ℕ) → HaveAreas problem Among (length problem.cells) total →
+      total ≤ (MAX_HEIGHT + length problem.cells) * end
   areas-small total h =
       let each = sum-le (λ c. end * (first_height c.high + 1)) problem.cells h.areas h.count
       (λ k within. area-small k (get_or h.areas k 0) within (h.each k within)) in
-      let most = mul-le-mul (upto end end (omega arith)) (upto (sum_by (λ c. first_height c.high) problem.cells + length problem.cells)
+      let most = mul-le-mul (upto end end (omega arith)) (upto
+      (sum_by (λ c. first_height c.high) problem.cells + length problem.cells)
       (MAX_HEIGHT + length problem.cells) (omega (arith, sound.low_enough))) in
       let turned : end * (MAX_HEIGHT + length problem.cells) ≡ (MAX_HEIGHT + length problem.cells) * end = grind arith in
       omega (arith, each, scaled problem.cells, most, turned, h.sums)
 
-  pub area-few : (k least : ℕ) → k < length problem.cells → end ≤ MAX_PAGE_WIDTH + 2 → IsLeastArea problem Among (cell_at problem.cells k) least →
+  pub area-few : (k least : ℕ) → k < length problem.cells → end ≤ MAX_PAGE_WIDTH + 2 →
+      IsLeastArea problem Among (cell_at problem.cells k) least →
       least ≤ (MAX_PAGE_WIDTH + 2) * (MAX_HEIGHT + 1)
   area-few k least within few is =
       let small = area-small k least within is in
@@ -224,7 +246,8 @@ module _ (problem : ProblemModel) (sound : IsSound problem) (Among : List ℕ �
   pub areas-few : (upto total : ℕ) → upto ≤ length problem.cells → end ≤ MAX_PAGE_WIDTH + 2 → HaveAreas problem Among upto total →
       total ≤ upto * ((MAX_PAGE_WIDTH + 2) * (MAX_HEIGHT + 1))
   areas-few upto total within few h =
-      let all = all-most (λ x. x) ((MAX_PAGE_WIDTH + 2) * (MAX_HEIGHT + 1)) h.areas (λ k below. area-few k (get_or h.areas k 0) (omega (arith, h.count)) few
+      let all = all-most (λ x. x) ((MAX_PAGE_WIDTH + 2) * (MAX_HEIGHT + 1)) h.areas
+      (λ k below. area-few k (get_or h.areas k 0) (omega (arith, h.count)) few
       (h.each k (omega (arith, h.count)))) in
       omega (arith, all, h.count, h.sums)
 

@@ -5,17 +5,18 @@ use Rattle.std.proofs.lemmas.Bool.{cases_lt}
 use Rattle.std.proofs.lemmas.List.Sums.{sum_by-cons}
 use Rattle.tl_base.specs.Style.{gap_of, row_gap_of, edge_of}
 use Rattle.tl_problem.specs.declared.cell.Cell.{Cell}
-use Rattle.tl_problem.specs.Sizes.{position}
+use Rattle.tl_base.specs.Sizes.{position}
 use Rattle.tl_problem.specs.Problem.{ProblemModel, total_height, cell_width, cell_height}
 use Rattle.tl_problem.specs.Layouts.{IsLayoutByLow}
 use Rattle.tl_problem.specs.Sound.{IsSound}
 use Rattle.tl_problem.specs.Areas.{IsBetweenRooms, IsLeastArea, HoldAreas, IsAreaBound}
 use Rattle.tl_problem.proofs.Heights.{height-from_low}
-use Rattle.tl_problem.proofs.SizeLaws.{total-position, room-position, position-mono}
+use Rattle.tl_base.proofs.SizeLaws.{total-position, room-position, position-mono}
 use Rattle.tl_problem.proofs.Rectangles.{amount, late, areas-within}
 
 -- numbers that are each at most what their partner gives sum to at most the sum of that
-zip-sum : {X : Type 0} (R : X → ℕ → Type 0) (f : X → ℕ) (xs : List X) (ns : List ℕ) → AllZip R xs ns → All (λ x. (n : ℕ) → R x n → n ≤ f x) xs →
+zip-sum : {X : Type 0} (R : X → ℕ → Type 0) (f : X → ℕ) (xs : List X) (ns : List ℕ) → AllZip R xs ns →
+    All (λ x. (n : ℕ) → R x n → n ≤ f x) xs →
     sum ns ≤ sum_by f xs
 zip-sum R f [] [] zip each = omega arith
 zip-sum R f [] (n ∷ ns) zip each = absurd zip
@@ -63,7 +64,8 @@ module _ (problem : ProblemModel) (sound : IsSound problem) (Among : List ℕ �
   least-taken k d within n least =
       let cell = get_or problem.cells k d in
       let whole = sound.cells k d within in
-      let found = height-from_low cell.low (cell_height problem heights cell) (cell_width problem widths cell) (layout.enough.cells k d within) in
+      let found = height-from_low cell.low (cell_height problem heights cell) (cell_width problem widths cell)
+      (layout.enough.cells k d within) in
       let here : IsBetweenRooms problem Among cell (cell_width problem widths cell) =
       record { no_more = (widths, among, omega arith); no_less = (widths, among, omega arith) } in
       let never = least.never_less (cell_width problem widths cell) found.0 here found.1 in
@@ -71,9 +73,11 @@ module _ (problem : ProblemModel) (sound : IsSound problem) (Among : List ℕ �
       let down = late y_at y_rising cell.top cell.bottom problem.rows (omega (arith, whole.rows.0)) whole.rows.1 in
       let wide = room-position (gap_of problem.style) widths cell.left cell.right whole.columns.0 in
       let high = room-position (row_gap_of problem.style) heights cell.top cell.bottom whole.rows.0 in
-      let columns : amount x_at x_rising cell.left cell.right problem.cols ≡ cell_width problem widths cell + gap_of problem.style =
+      let columns : amount x_at x_rising cell.left cell.right problem.cols ≡ cell_width problem widths cell + gap_of
+      problem.style =
       omega (arith, across, wide) in
-      let rows : found.0 + row_gap_of problem.style ≤ amount y_at y_rising cell.top cell.bottom problem.rows = omega (arith, down, high, found.2) in
+      let rows : found.0 + row_gap_of problem.style ≤ amount y_at y_rising cell.top cell.bottom problem.rows =
+      omega (arith, down, high, found.2) in
       let more = times_more (cell_width problem widths cell + gap_of problem.style) (found.0 + row_gap_of problem.style)
       (amount y_at y_rising cell.top cell.bottom problem.rows) rows in
       let turned = ap (λ a. a * amount y_at y_rising cell.top cell.bottom problem.rows) columns in
@@ -92,8 +96,10 @@ module _ (problem : ProblemModel) (sound : IsSound problem) (Among : List ℕ �
             let anchored = sound.columns 0 some in
             let cell = sound.cells anchored.0 anchored.1 anchored.2 in
             let rows : 0 < length heights = omega (arith, layout.enough.rows, cell.rows.0, cell.rows.1) in
-            let each = zip-sum (IsLeastArea problem Among) taken problem.cells hold.areas hold.least (λ k d within n least. least-taken k d within n least) in
-            let within = areas-within (λ c. c.left) (λ c. c.right) (λ c. c.top) (λ c. c.bottom) x_at y_at x_rising y_rising (omega arith)
+            let each = zip-sum (IsLeastArea problem Among) taken problem.cells hold.areas hold.least
+            (λ k d within n least. least-taken k d within n least) in
+            let within = areas-within (λ c. c.left) (λ c. c.right) (λ c. c.top) (λ c. c.bottom) x_at y_at x_rising y_rising
+            (omega arith)
             (omega arith) problem.cells problem.cols problem.rows sound.apart in
             let end = hold.greatest.never_more widths among in
             let more = turned_more (x_at problem.cols) hold.end (y_at problem.rows) end in
@@ -105,7 +111,8 @@ module _ (problem : ProblemModel) (sound : IsSound problem) (Among : List ℕ �
 
 -- ---- a set of widths has no two area bounds
 
-least_area-unique : (problem : ProblemModel) (Among : List ℕ → Type 0) (cell : Cell) (a b : ℕ) → IsLeastArea problem Among cell a →
+least_area-unique : (problem : ProblemModel) (Among : List ℕ → Type 0) (cell : Cell) (a b : ℕ) →
+    IsLeastArea problem Among cell a →
     IsLeastArea problem Among cell b → a ≡ b
 least_area-unique problem Among cell a b first second =
     let one = first.attained in
@@ -124,17 +131,25 @@ areas-unique problem Among (cell ∷ cells) (m ∷ ms) (n ∷ ns) first second =
     let rest = areas-unique problem Among cells ms ns first.1 second.1 in
     cc
 
-lines-unique : (problem : ProblemModel) (Among : List ℕ → Type 0) (a b : ℕ) → HoldAreas problem Among a → HoldAreas problem Among b → a ≡ b
+lines-unique : (problem : ProblemModel) (Among : List ℕ → Type 0) (a b : ℕ) → HoldAreas problem Among a →
+    HoldAreas problem Among b → a ≡ b
 lines-unique problem Among a b first second =
     let areas = ap sum (areas-unique problem Among problem.cells first.areas second.areas first.least second.least) in
     let one = first.greatest.attained in
     let other = second.greatest.attained in
-    let ends : first.end ≡ second.end = omega (arith, first.greatest.never_more other.0 other.1, second.greatest.never_more one.0 one.1, one.2, other.2) in
+    let ends : first.end ≡ second.end = omega (
+      arith,
+      first.greatest.never_more other.0 other.1,
+      second.greatest.never_more one.0 one.1,
+      one.2,
+      other.2,
+    ) in
     let below = first.rounded.least b (omega (arith, second.rounded.enough, areas, ap (λ e. b * e) ends)) in
     let above = second.rounded.least a (omega (arith, first.rounded.enough, areas, ap (λ e. a * e) ends)) in
     omega (arith, below, above)
 
-pub area-unique : (problem : ProblemModel) (Among : List ℕ → Type 0) (a b : ℕ) → IsAreaBound problem Among a → IsAreaBound problem Among b → a ≡ b
+pub area-unique : (problem : ProblemModel) (Among : List ℕ → Type 0) (a b : ℕ) → IsAreaBound problem Among a →
+    IsAreaBound problem Among b → a ≡ b
 area-unique problem Among a b first second =
     elim (cases_lt 0 problem.cols) [
       | inr none ↦ omega (arith, first.no_column (omega arith), second.no_column (omega arith))

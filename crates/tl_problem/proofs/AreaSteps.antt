@@ -1,5 +1,6 @@
 -- The least area of a cell is at its least room, or where a step begins.
-use Rattle.std.proofs.Common.{◌≡◌, ℕ, ◌+◌, ◌<◌, ◌≤◌, zero, suc, min, Bool, true, false, cond, nat_le, List, [], ◌∷◌, ◌⊎◌, inl, inr, length, get_or}
+use Rattle.std.proofs.Common.{◌≡◌, ℕ, ◌+◌, ◌<◌, ◌≤◌, zero, suc, min, Bool, true, false, cond, nat_le, List, [], ◌∷◌, ◌⊎◌, inl}
+use Rattle.std.proofs.Common.{inr, length, get_or}
 use Rattle.std.proofs.Common.{filter, Option, Some, None, refl, sym, ap, ◌∙◌, arith}
 use Rattle.std.specs.List.{AllPairs, last_or}
 use Rattle.std.specs.Option.{option_map}
@@ -20,9 +21,11 @@ tail : (step : Config) (steps : List Config) → AllPairs Falls (step ∷ steps)
 tail step steps decreasing i j d before within = decreasing (suc i) (suc j) d (omega arith) (omega arith)
 
 -- steps wider than a width are none that begin up to it
-wider-none : (w : ℕ) (step : Config) (steps : List Config) → AllPairs Falls (step ∷ steps) → w ≤ step.width → filter (λ s. nat_le s.width w) steps ≡ []
+wider-none : (w : ℕ) (step : Config) (steps : List Config) → AllPairs Falls (step ∷ steps) → w ≤ step.width →
+    filter (λ s. nat_le s.width w) steps ≡ []
 wider-none w step steps decreasing wide = filter-none (λ s. nat_le s.width w) steps
-    (λ k d within. let more = decreasing 0 (suc k) d (omega arith) (omega arith) in test_le_false (get_or steps k d).width w (omega (arith, more.0)))
+    (λ k d within. let more = decreasing 0 (suc k) d (omega arith) (omega arith) in
+    test_le_false (get_or steps k d).width w (omega (arith, more.0)))
 
 -- the last of those that pass is the first or one of them
 last-from : (p : Config → Bool) (x : Config) (steps : List Config) (s : Config) → last_or (Some x) (filter p steps) ≡ Some s →
@@ -77,7 +80,8 @@ between o (step ∷ steps) decreasing low w more s is =
       | inr early ↦
           let one = test_le step.width low early in
           let other = test_le step.width w (omega arith) in
-          rw one (shift (Some step) step steps low w s (between (Some step) steps (tail step steps decreasing) low w more s (rw other at is)))
+          rw one (shift (Some step) step steps low w s (between (Some step) steps (tail step steps decreasing) low w more s
+          (rw other at is)))
       | inl late ↦
           let out = test_le_false step.width low late in
           let rest = wider-none low step steps decreasing (omega arith) in
@@ -88,9 +92,22 @@ between o (step ∷ steps) decreasing low w more s is =
             | inr within ↦
                 let keep = test_le step.width w within in
                 elim (last-from (λ x. nat_le x.width w) step steps s (rw keep at is)) [
-                  | inl same ↦ inr (0, (omega arith, (same, (omega (arith, ap (λ x. x.width) same), omega (arith, ap (λ x. x.width) same)))))
+                  | inl same ↦ inr (
+                    0,
+                    (
+                      omega arith,
+                      (
+                        same,
+                        (
+                          omega (arith, ap (λ x. x.width) same),
+                          omega (arith, ap (λ x. x.width) same),
+                        ),
+                      ),
+                    ),
+                  )
                   | inr later ↦
-                      let wide = decreasing 0 (suc later.0) (record { width = 0; height = 0 }) (omega arith) (omega (arith, later.1.0)) in
+                      let wide = decreasing 0 (suc later.0) (record { width = 0; height = 0 }) (omega arith)
+                      (omega (arith, later.1.0)) in
                       inr (
                         suc later.0,
                         (
@@ -104,11 +121,13 @@ between o (step ∷ steps) decreasing low w more s is =
 
 pub height-between : (steps : List Config) → AreSteps steps → (low w h : ℕ) → low ≤ w → height_at steps w ≡ Some h →
     (height_at steps low ≡ Some h) ⊎
-    ((k : ℕ) × ((k < length steps) × ((low < (step_at steps k).width) × (((step_at steps k).width ≤ w) × ((step_at steps k).height ≡ h)))))
+    ((k : ℕ) × ((k < length steps) × ((low < (step_at steps k).width) ×
+    (((step_at steps k).width ≤ w) × ((step_at steps k).height ≡ h)))))
 height-between steps are low w h more is = at (last_or None (filter (λ x. nat_le x.width w) steps)) refl is where
   at : (o : Option Config) → last_or None (filter (λ x. nat_le x.width w) steps) ≡ o → option_map (λ x. x.height) o ≡ Some h →
       (height_at steps low ≡ Some h) ⊎
-      ((k : ℕ) × ((k < length steps) × ((low < (step_at steps k).width) × (((step_at steps k).width ≤ w) × ((step_at steps k).height ≡ h)))))
+      ((k : ℕ) × ((k < length steps) × ((low < (step_at steps k).width) ×
+      (((step_at steps k).width ≤ w) × ((step_at steps k).height ≡ h)))))
   at None same none = cc
   at (Some s) same some =
       let e : s.height ≡ h = cc in
@@ -116,7 +135,16 @@ height-between steps are low w h more is = at (last_or None (filter (λ x. nat_l
         | inl here ↦ inl (ap (option_map (λ x. x.height)) here ∙ ap Some e)
         | inr later ↦
             let width = ap (λ x. x.width) later.1.1.0 in
-            inr (later.0, (later.1.0, (omega (arith, width, later.1.1.1.0), (omega (arith, width, later.1.1.1.1), ap (λ x. x.height) later.1.1.0 ∙ e))))
+            inr (
+              later.0,
+              (
+                later.1.0,
+                (
+                  omega (arith, width, later.1.1.1.0),
+                  (omega (arith, width, later.1.1.1.1), ap (λ x. x.height) later.1.1.0 ∙ e),
+                ),
+              ),
+            )
       ]
 
 -- ---- the least over the steps, one after another
@@ -129,7 +157,8 @@ module _ (gap row_gap : ℕ) (steps : List Config) (low high start : ℕ) where
     abbrev here : Config
     here = step_at steps upto
 
-    pub IsLeastStep-skip : (low < here.width → here.width ≤ high → ⊥) → IsLeastStep gap row_gap steps (upto + 1) low high start least
+    pub IsLeastStep-skip : (low < here.width → here.width ≤ high → ⊥) →
+        IsLeastStep gap row_gap steps (upto + 1) low high start least
     IsLeastStep-skip out = record {
       below_start = h.below_start;
       below_steps = λ k below past within. elim (cases_eq k upto) [
@@ -169,7 +198,8 @@ area-mono gap row_gap v w h le = mul-le-mul (wider v w gap le) (same (h + row_ga
   same : (n : ℕ) → n ≤ n
   same n = omega arith
 
-module _ (gap row_gap : ℕ) (steps : List Config) (are : AreSteps steps) (low high first least : ℕ) (is : height_at steps low ≡ Some first)
+module _ (gap row_gap : ℕ) (steps : List Config) (are : AreSteps steps) (low high first least : ℕ)
+    (is : height_at steps low ≡ Some first)
     (h : IsLeastStep gap row_gap steps (length steps) low high (area_with gap row_gap low first) least) where
   pub least-below : (w k : ℕ) → low ≤ w → w ≤ high → height_at steps w ≡ Some k → least ≤ area_with gap row_gap w k
   least-below w k more within here =
@@ -186,11 +216,20 @@ module _ (gap row_gap : ℕ) (steps : List Config) (are : AreSteps steps) (low h
             omega (arith, small, wide, ap (area_with gap row_gap step.width) later.1.1.1.1)
       ]
 
-  pub least-attained : low ≤ high → (w : ℕ) × ((k : ℕ) × ((low ≤ w) × ((w ≤ high) × ((height_at steps w ≡ Some k) × (area_with gap row_gap w k ≡ least)))))
+  pub least-attained : low ≤ high →
+      (w : ℕ) × ((k : ℕ) × ((low ≤ w) × ((w ≤ high) × ((height_at steps w ≡ Some k) × (area_with gap row_gap w k ≡ least)))))
   least-attained more =
       elim h.attained [
         | inl start ↦ (low, (first, (omega arith, (more, (is, sym start)))))
         | inr later ↦
-            let step = step_at steps later.0 in
-            (step.width, (step.height, (omega (arith, later.1.1.0), (later.1.1.1.0, (height-at-step steps are later.0 later.1.0, sym later.1.1.1.1)))))
+            let step = step_at steps later.0 in (
+              step.width,
+              (
+                step.height,
+                (
+                  omega (arith, later.1.1.0),
+                  (later.1.1.1.0, (height-at-step steps are later.0 later.1.0, sym later.1.1.1.1)),
+                ),
+              ),
+            )
       ]

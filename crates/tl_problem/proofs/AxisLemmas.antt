@@ -1,5 +1,6 @@
 -- Cells in the order in which they begin: each cell is there once, and nothing else.
-use Rattle.std.proofs.Common.{◌≡◌, ℕ, ◌+◌, ◌<◌, ◌≤◌, zero, suc, List, [], ◌∷◌, ◌++◌, length, get_or, take, sum, refl, sym, ap, ◌∙◌, subst, arith}
+use Rattle.std.proofs.Common.{◌≡◌, ℕ, ◌+◌, ◌<◌, ◌≤◌, zero, suc, List, [], ◌∷◌, ◌++◌, length, get_or, take, sum, refl, sym, ap}
+use Rattle.std.proofs.Common.{◌∙◌, subst, arith}
 use Rattle.std.specs.List.{All, Contains, sum_by}
 use Rattle.std.proofs.lemmas.List.{take_more, take_all}
 use Rattle.std.proofs.lemmas.List.Sorted.{All-permutation, Contains-permutation, sum_by-IsPermutation, length_permutation}
@@ -17,14 +18,16 @@ turns_from-push axis n (first ∷ cells) cell =
     let rest = turns_from-push axis (n + 1) cells cell in
     let same : n + 1 + length cells ≡ n + length (first ∷ cells) = omega arith in
     ap (λ ts. turn (start_of axis first) n ∷ ts)
-    (subst (λ k. turns_from axis (n + 1) (cells ++ cell ∷ []) ≡ turns_from axis (n + 1) cells ++ turn (start_of axis cell) k ∷ []) same rest)
+    (subst (λ k. turns_from axis (n + 1) (cells ++ cell ∷ []) ≡ turns_from axis (n + 1) cells ++ turn (start_of axis cell)
+    k ∷ []) same rest)
 
 pub turns_from-more : (axis : Axis) (cells : List Cell) (k : ℕ) (d : Cell) → k < length cells →
     turns_from axis 0 (take (k + 1) cells) ≡ turns_from axis 0 (take k cells) ++ turn (start_of axis (get_or cells k d)) k ∷ []
 turns_from-more axis cells k d within =
     let more = take_more cells k d within in
     let pushed = turns_from-push axis 0 (take k cells) (get_or cells k d) in
-    ap (turns_from axis 0) more ∙ pushed ∙ ap (λ j. turns_from axis 0 (take k cells) ++ turn (start_of axis (get_or cells k d)) j ∷ [])
+    ap (turns_from axis 0) more ∙ pushed ∙ ap (λ j. turns_from axis 0 (take k cells) ++ turn (start_of axis (get_or cells k d))
+    j ∷ [])
     (seen cells k within) where
       seen : (cells : List Cell) (k : ℕ) → k < length cells → 0 + length (take k cells) ≡ k
       seen [] k within = absurd (omega arith)
@@ -64,7 +67,8 @@ module _ (axis : Axis) (cells : List Cell) (order : List Turn) (is : IsOrder axi
       Contains-permutation (turns_from axis 0 cells) order (turn (start_of axis (cell_at cells k)) k) is.same (
         k,
         omega (arith, turns_from-length axis 0 cells),
-        (let number : 0 + k ≡ k = omega arith in rw number at (turns_from-at axis 0 cells k (turn (start_of axis (cell_at cells k)) k) within)),
+        (let number : 0 + k ≡ k = omega arith in
+            rw number at (turns_from-at axis 0 cells k (turn (start_of axis (cell_at cells k)) k) within)),
       )
 
   -- what is given for each cell sums up alike
@@ -77,13 +81,15 @@ module _ (axis : Axis) (cells : List Cell) (order : List Turn) (is : IsOrder axi
       rw (whole, every) at all) where
         seen : (k : ℕ) → k ≤ length cells → sum_by (λ t. get_or ns t.cell 0) (turns_from axis 0 (take k cells)) ≡ sum (take k ns)
         seen zero up = none cells ns where
-          none : (cells : List Cell) (ns : List ℕ) → sum_by (λ t. get_or ns t.cell 0) (turns_from axis 0 (take 0 cells)) ≡ sum (take 0 ns)
+          none : (cells : List Cell) (ns : List ℕ) → sum_by (λ t. get_or ns t.cell 0) (turns_from axis 0 (take 0 cells)) ≡ sum
+              (take 0 ns)
           none cells ns = refl
         seen (suc k) up =
             let rest = seen k (omega arith) in
             let d = cell_at cells k in
             let next : suc k ≡ k + 1 = omega arith in
             let turns = ap (sum_by (λ t. get_or ns t.cell 0)) (turns_from-more axis cells k d (omega arith)) in
-            let pushed = sum_by_push (λ t. get_or ns t.cell 0) (turns_from axis 0 (take k cells)) (turn (start_of axis (get_or cells k d)) k) in
+            let pushed = sum_by_push (λ t. get_or ns t.cell 0) (turns_from axis 0 (take k cells))
+            (turn (start_of axis (get_or cells k d)) k) in
             let more = sum_by_more (λ n. n) ns k 0 (omega arith) in
             rw next (omega (arith, turns, pushed, more, rest))

@@ -8,7 +8,7 @@ use Rattle.tl_base.specs.Steps.{AreSteps, height_at, IsLowAt}
 use Rattle.tl_base.proofs.Members.{AllPairs-none, AllPairs-cons}
 use Rattle.tl_problem.specs.declared.cell.Cell.{Cell}
 use Rattle.tl_problem.specs.declared.zone.Range.{Range}
-use Rattle.tl_problem.specs.Sizes.{room, total}
+use Rattle.tl_base.specs.Sizes.{room, total}
 use Rattle.tl_problem.specs.Problem.{cell_height}
 use Rattle.tl_problem.specs.Spans.{spans_of, classes_of}
 use Rattle.tl_problem.specs.Zones.{whole_zone, lower_part, span_width, IsWidthOf, InZone}
@@ -20,8 +20,10 @@ pub decreasing : AreSteps wide.low
 decreasing = record {
   has_step = omega arith;
   decreasing = AllPairs-cons Falls (step 4 3) (step 7 2 ∷ step 12 1 ∷ [])
-      (All-from_recursion (Falls (step 4 3)) (step 7 2 ∷ step 12 1 ∷ []) ((omega arith, omega arith), ((omega arith, omega arith), tt)))
-      (AllPairs-cons Falls (step 7 2) (step 12 1 ∷ []) (All-from_recursion (Falls (step 7 2)) (step 12 1 ∷ []) ((omega arith, omega arith), tt))
+      (All-from_recursion (Falls (step 4 3)) (step 7 2 ∷ step 12 1 ∷ [])
+      ((omega arith, omega arith), ((omega arith, omega arith), tt)))
+      (AllPairs-cons Falls (step 7 2) (step 12 1 ∷ []) (All-from_recursion (Falls (step 7 2)) (step 12 1 ∷ [])
+      ((omega arith, omega arith), tt))
       (AllPairs-cons Falls (step 12 1) [] (All-from_recursion (Falls (step 12 1)) [] tt) (AllPairs-none Falls)));
 } where
   Falls : Config → Config → Type 0
@@ -41,7 +43,8 @@ module _ (zone : List Range) (most need : ℕ) (some : 5 ≤ most) (is : height_
 
   first_at_most : (widths : List ℕ) → InZone problem zone widths → room 2 widths 0 1 ≤ most - 4
   first_at_most widths inside = split widths inside.page.columns (limit widths inside) (at_least widths inside) where
-    split : (widths : List ℕ) → length widths ≡ 2 → room 2 widths 0 2 ≤ most → (1 ≤ room 2 widths 0 1) × (2 ≤ room 2 widths 1 2) → room 2 widths 0 1 ≤ most - 4
+    split : (widths : List ℕ) → length widths ≡ 2 → room 2 widths 0 2 ≤ most →
+        (1 ≤ room 2 widths 0 1) × (2 ≤ room 2 widths 1 2) → room 2 widths 0 1 ≤ most - 4
     split [] columns both each = absurd (omega arith)
     split (first ∷ []) columns both each = absurd (omega arith)
     split (first ∷ second ∷ []) columns both each = omega arith
@@ -49,7 +52,8 @@ module _ (zone : List Range) (most need : ℕ) (some : 5 ≤ most) (is : height_
 
   second_at_most : (widths : List ℕ) → InZone problem zone widths → room 2 widths 1 2 ≤ most - 3
   second_at_most widths inside = split widths inside.page.columns (limit widths inside) (at_least widths inside) where
-    split : (widths : List ℕ) → length widths ≡ 2 → room 2 widths 0 2 ≤ most → (1 ≤ room 2 widths 0 1) × (2 ≤ room 2 widths 1 2) → room 2 widths 1 2 ≤ most - 3
+    split : (widths : List ℕ) → length widths ≡ 2 → room 2 widths 0 2 ≤ most →
+        (1 ≤ room 2 widths 0 1) × (2 ≤ room 2 widths 1 2) → room 2 widths 1 2 ≤ most - 3
     split [] columns both each = absurd (omega arith)
     split (first ∷ []) columns both each = absurd (omega arith)
     split (first ∷ second ∷ []) columns both each = omega arith
@@ -57,10 +61,24 @@ module _ (zone : List Range) (most need : ℕ) (some : 5 ≤ most) (is : height_
 
   -- the greatest rooms of the three cells
   wide_room : IsGreatestRoom problem (InZone problem zone) 0 2 most
-  wide_room = record { attained = (1 ∷ (most - 3) ∷ [], fill 1 (most - 3) (omega arith) (omega arith) (omega arith), omega arith); never_more = limit }
+  wide_room = record {
+    attained = (
+      1 ∷ (most - 3) ∷ [],
+      fill 1 (most - 3) (omega arith) (omega arith) (omega arith),
+      omega arith,
+    );
+    never_more = limit;
+  }
 
   first_room : IsGreatestRoom problem (InZone problem zone) 0 1 (most - 4)
-  first_room = record { attained = ((most - 4) ∷ 2 ∷ [], fill (most - 4) 2 (omega arith) (omega arith) (omega arith), omega arith); never_more = first_at_most }
+  first_room = record {
+    attained = (
+      (most - 4) ∷ 2 ∷ [],
+      fill (most - 4) 2 (omega arith) (omega arith) (omega arith),
+      omega arith,
+    );
+    never_more = first_at_most;
+  }
 
   second_room : IsGreatestRoom problem (InZone problem zone) 1 2 (most - 3)
   second_room = record {
@@ -74,14 +92,25 @@ module _ (zone : List Range) (most need : ℕ) (some : 5 ≤ most) (is : height_
   bound = record {
     some = (1 ∷ (most - 3) ∷ [], fill 1 (most - 3) (omega arith) (omega arith) (omega arith));
     least = record {
-      attained = (need ∷ 1 ∷ [], record { rows = refl; cells = All-from_recursion Given problem.cells (tall, (short_first, (short_second, tt))) }, omega arith);
+      attained = (
+        need ∷ 1 ∷ [],
+        record {
+          rows = refl;
+          cells =
+              All-from_recursion Given problem.cells (tall, (short_first, (short_second, tt)));
+        },
+        omega arith,
+      );
       never_less = λ heights give.
-          let one = subst (λ o. IsSomeAnd o (λ height. height ≤ cell_height problem heights wide)) is (give.cells 0 wide (omega arith) most wide_room) in
-          two_rows heights give.rows one (line heights (most - 4) (omega arith) (give.cells 1 wide (omega arith) (most - 4) first_room));
+          let one = subst (λ o. IsSomeAnd o (λ height. height ≤ cell_height problem heights wide)) is
+          (give.cells 0 wide (omega arith) most wide_room) in
+          two_rows heights give.rows one (line heights (most - 4) (omega arith)
+          (give.cells 1 wide (omega arith) (most - 4) first_room));
     };
   } where
     Given : Cell → Type 0
-    Given c = (w : ℕ) → IsGreatestRoom problem (InZone problem zone) c.left c.right w → IsLowAt c.low (cell_height problem (need ∷ 1 ∷ []) c) w
+    Given c = (w : ℕ) → IsGreatestRoom problem (InZone problem zone) c.left c.right w →
+        IsLowAt c.low (cell_height problem (need ∷ 1 ∷ []) c) w
 
     tall : Given wide
     tall w greatest =
@@ -102,7 +131,8 @@ module _ (zone : List Range) (most need : ℕ) (some : 5 ≤ most) (is : height_
     line : (heights : List ℕ) (w : ℕ) → 1 ≤ w → IsLowAt (step 1 1 ∷ []) (room 0 heights 1 2) w → 1 ≤ room 0 heights 1 2
     line heights w enough low = rw (test_le 1 w enough) at low
 
-    two_rows : (heights : List ℕ) → length heights ≡ 2 → need ≤ cell_height problem heights (cell 0 2 0 1 []) → 1 ≤ room 0 heights 1 2 →
+    two_rows : (heights : List ℕ) → length heights ≡ 2 → need ≤ cell_height problem heights (cell 0 2 0 1 []) →
+        1 ≤ room 0 heights 1 2 →
         need + 1 ≤ total 0 0 heights
     two_rows [] rows tall short = absurd (omega arith)
     two_rows (first ∷ []) rows tall short = absurd (omega arith)
@@ -119,11 +149,13 @@ module _ (zone : List Range) (widths : List ℕ) where
   ranges-from first both second three (suc (suc zero)) inside = second
   ranges-from first both second three (suc (suc (suc s))) inside = absurd (omega arith)
 
-in_whole : (first second : ℕ) → 1 ≤ first → 2 ≤ second → first + second + 2 ≤ 9 → InZone problem (whole_zone problem) (first ∷ second ∷ [])
+in_whole : (first second : ℕ) → 1 ≤ first → 2 ≤ second → first + second + 2 ≤ 9 →
+    InZone problem (whole_zone problem) (first ∷ second ∷ [])
 unfolding spans_of classes_of
 in_whole first second some more page = record {
   page = within first second some more (omega arith);
-  ranges = ranges-from (whole_zone problem) (first ∷ second ∷ []) (omega arith, omega arith) (omega arith, omega arith) (omega arith, omega arith) refl;
+  ranges = ranges-from (whole_zone problem) (first ∷ second ∷ []) (omega arith, omega arith) (omega arith, omega arith)
+      (omega arith, omega arith) refl;
 }
 
 whole_at_most : (widths : List ℕ) → InZone problem (whole_zone problem) widths → room 2 widths 0 2 ≤ 9
@@ -134,7 +166,8 @@ whole_at_most widths inside = (inside.ranges 1 (omega arith)).1
 pub whole_bound : IsBound problem (InZone problem (whole_zone problem)) 3
 whole_bound = bound (whole_zone problem) 9 2 (omega arith) refl in_whole whole_at_most
 
-in_narrow : (first second : ℕ) → 1 ≤ first → 2 ≤ second → first + second + 2 ≤ 6 → InZone problem (lower_part (whole_zone problem) 1 0) (first ∷ second ∷ [])
+in_narrow : (first second : ℕ) → 1 ≤ first → 2 ≤ second → first + second + 2 ≤ 6 →
+    InZone problem (lower_part (whole_zone problem) 1 0) (first ∷ second ∷ [])
 unfolding spans_of classes_of
 in_narrow first second some more page = record {
   page = within first second some more (omega arith);

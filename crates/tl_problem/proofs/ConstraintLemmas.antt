@@ -1,5 +1,6 @@
 -- Constraints of the page and of a zone's ranges, one after another, and the sets of widths that they leave.
-use Rattle.std.proofs.Common.{◌≡◌, ℕ, ◌+◌, ◌-◌, ◌*◌, ◌<◌, ◌≤◌, ℤ, pos, ◌≤ℤ◌, Bool, true, false, IsTrue, List, [], ◌∷◌, inl, inr, length}
+use Rattle.std.proofs.Common.{◌≡◌, ℕ, ◌+◌, ◌-◌, ◌*◌, ◌<◌, ◌≤◌, ℤ, pos, ◌≤ℤ◌, Bool, true, false, IsTrue, List, [], ◌∷◌, inl, inr}
+use Rattle.std.proofs.Common.{length}
 use Rattle.std.proofs.Common.{refl, sym, ap, ◌∙◌, arith}
 use Rattle.std.proofs.lemmas.Int.{ints}
 use Rattle.std.proofs.lemmas.Bool.{cases_eq, cases_lt}
@@ -8,12 +9,12 @@ use Rattle.std.proofs.lemmas.List.Elements.{Contains-get_or}
 use Rattle.tl_base.specs.declared.limits.TheConstants.{MAX_PAGE_WIDTH}
 use Rattle.tl_base.specs.Style.{gap_of, edge_of}
 use Rattle.tl_base.specs.declared.style.Style.{Style}
-use Rattle.tl_base.specs.declared.style.Style.TheVariants.{Plain, Frame}
+use Rattle.tl_base.specs.declared.style.Style.TheVariants.{Plain, Compact, Frame}
 use Rattle.tl_base.specs.Steps.{first_width}
 use Rattle.tl_diff.specs.Bounds.{Bounds, Satisfies, IsSatisfiable, HasNoGreatest, IsLeast}
 use Rattle.tl_diff.specs.Marks.{MarkedBounds}
 use Rattle.tl_problem.specs.declared.zone.Range.{Range}
-use Rattle.tl_problem.specs.Sizes.{position, room}
+use Rattle.tl_base.specs.Sizes.{position, room}
 use Rattle.tl_problem.specs.Problem.{ProblemModel, cell_width, total_width}
 use Rattle.tl_problem.specs.Layouts.{WithinPage}
 use Rattle.tl_problem.specs.Sound.{IsSound}
@@ -21,11 +22,11 @@ use Rattle.tl_problem.specs.Spans.{spans_of, page_room}
 use Rattle.tl_problem.specs.Zones.{span_at, classes_at, range_at, first_in_class, last_in_class, span_width, IsWidthOf, InZone}
 use Rattle.tl_problem.specs.Bounds.{HasNoWidths, IsGreatestRoom}
 use Rattle.tl_problem.specs.Placements.{AreLeast}
-use Rattle.tl_problem.specs.Works.{places, IsLeft, KeepsPage}
+use Rattle.tl_problem.specs.Works.{places, IsLeft, KeepsPage, widths_of}
 use Rattle.tl_problem.specs.inner.Needs.{IsLeastRoom}
 use Rattle.tl_problem.specs.inner.Demands.{cell_at, no_cell}
-use Rattle.tl_problem.specs.inner.Constraints.{widths_of, AreApart, AreNear, PageUpto, AddsFact, HasFirst, HasLast, AddsRanges}
-use Rattle.tl_problem.proofs.SizeLaws.{total-position, room-position, position-mono, position-gap}
+use Rattle.tl_problem.specs.inner.Constraints.{AreApart, AreNear, PageUpto, AddsFact, HasFirst, HasLast, AddsRanges}
+use Rattle.tl_base.proofs.SizeLaws.{total-position, room-position, position-mono, position-gap}
 use Rattle.tl_problem.proofs.SpanLaws.{room-in_page, least_width-within, classes-first, classes-cases}
 use Rattle.tl_problem.proofs.ZoneLaws.{span-within}
 use Rattle.tl_problem.proofs.NeedLemmas.{All-from_numbers}
@@ -33,6 +34,7 @@ use Rattle.tl_problem.proofs.WorkLemmas.{left-from, left-room, left-position}
 
 pub gap-some : (style : Style) → 1 ≤ gap_of style
 gap-some Plain = omega arith
+gap-some Compact = omega arith
 gap-some Frame = omega arith
 
 position-start : (gap : ℕ) (widths : List ℕ) → position gap widths 0 ≡ 0
@@ -40,12 +42,15 @@ position-start gap widths = omega arith
 
 -- ---- the page
 
-pub page-satisfiable : (problem : ProblemModel) (columns cells : ℕ) (matrix : MarkedBounds) → PageUpto problem columns cells matrix →
+pub page-satisfiable : (problem : ProblemModel) (columns cells : ℕ) (matrix : MarkedBounds) →
+    PageUpto problem columns cells matrix →
     IsSatisfiable matrix.bounds
-page-satisfiable problem columns cells matrix h = let fits = h.sound.fits in (places problem fits.0, (h.whole fits.0 fits.1).satisfies)
+page-satisfiable problem columns cells matrix h = let fits = h.sound.fits in
+    (places problem fits.0, (h.whole fits.0 fits.1).satisfies)
 
 module _ (problem : ProblemModel) (k : ℕ) (old new : MarkedBounds) where
-  pub PageUpto-gap : k < problem.cols → PageUpto problem k 0 old → AddsFact old new (λ x. AreApart x k (k + 1) (gap_of problem.style)) →
+  pub PageUpto-gap : k < problem.cols → PageUpto problem k 0 old →
+      AddsFact old new (λ x. AreApart x k (k + 1) (gap_of problem.style)) →
       PageUpto problem (k + 1) 0 new
   PageUpto-gap inside h adds = record {
     sound = h.sound;
@@ -55,7 +60,11 @@ module _ (problem : ProblemModel) (k : ℕ) (old new : MarkedBounds) where
     whole = λ widths page.
         let before = h.whole widths page in
         let step = position-gap (gap_of problem.style) widths k in
-        record { columns = before.columns; satisfies = adds.all (places problem widths) before.satisfies (omega (arith, ints, step)) };
+        record {
+          columns = before.columns;
+          satisfies = adds.all (places problem widths) before.satisfies
+              (omega (arith, ints, step));
+        };
     gaps = λ x meets j below. elim (cases_eq j k) [
       | inl same ↦ rw same (adds.adds x meets)
       | inr apart ↦ h.gaps x (adds.keeps x meets) j (omega arith)
@@ -89,7 +98,8 @@ module _ (problem : ProblemModel) (k : ℕ) (old new : MarkedBounds) where
   }
 
 module _ (problem : ProblemModel) (old new : MarkedBounds) (h : PageUpto problem problem.cols (length problem.cells) old)
-    (adds : AddsFact old new (λ x. AreNear x 0 problem.cols (problem.width + gap_of problem.style - 2 * edge_of problem.style))) where
+    (adds : AddsFact old new
+    (λ x. AreNear x 0 problem.cols (problem.width + gap_of problem.style - 2 * edge_of problem.style))) where
   total-within : (widths : List ℕ) → length widths ≡ problem.cols →
       position (gap_of problem.style) widths problem.cols ≤ problem.width + gap_of problem.style - 2 * edge_of problem.style →
       total_width problem widths ≤ problem.width
@@ -128,7 +138,8 @@ module _ (problem : ProblemModel) (old new : MarkedBounds) (h : PageUpto problem
           cells = All-from_numbers (λ cell. first_width cell.low ≤ cell_width problem widths cell) problem.cells (λ k within.
               let cell = cell_at problem.cells k in
               let apart = h.rooms (places problem widths) (adds.keeps (places problem widths) left.satisfies) k within in
-              let step = room-position (gap_of problem.style) widths cell.left cell.right (h.sound.cells k no_cell within).columns.0 in
+              let step = room-position (gap_of problem.style) widths cell.left cell.right
+              (h.sound.cells k no_cell within).columns.0 in
               omega (arith, ints, apart, step));
         };
   }
@@ -138,19 +149,29 @@ module _ (problem : ProblemModel) (old new : MarkedBounds) (h : PageUpto problem
       let before = h.whole widths page in
       let ends = ends-within widths page in
       let start = position-start (gap_of problem.style) widths in
-      record { columns = before.columns; satisfies = adds.all (places problem widths) before.satisfies (omega (arith, ints, ends, start)) }
+      record {
+        columns = before.columns;
+        satisfies = adds.all (places problem widths) before.satisfies
+            (omega (arith, ints, ends, start));
+      }
 
 -- ---- the ranges of a zone
 
-pub KeepsPage-adds : (problem : ProblemModel) (old new : Bounds) → new.n ≡ old.n → ((x : ℕ → ℤ) → Satisfies new x → Satisfies old x) →
+pub KeepsPage-adds : (problem : ProblemModel) (old new : Bounds) → new.n ≡ old.n →
+    ((x : ℕ → ℤ) → Satisfies new x → Satisfies old x) →
     KeepsPage problem old → KeepsPage problem new
 KeepsPage-adds problem old new same keeps h = record {
   variables = same ∙ h.variables;
   gaps = λ x meets k below. h.gaps x (keeps x meets) k below;
-  page = λ widths left. h.page widths (record { columns = left.columns; satisfies = keeps (places problem widths) left.satisfies });
+  page = λ widths left. h.page widths (record {
+    columns = left.columns;
+    satisfies =
+        keeps (places problem widths) left.satisfies;
+  });
 }
 
-pub AddsFact-none : (matrix : MarkedBounds) (Fact : (ℕ → ℤ) → Type 0) → ((x : ℕ → ℤ) → Satisfies matrix.bounds x → Fact x) → AddsFact matrix matrix Fact
+pub AddsFact-none : (matrix : MarkedBounds) (Fact : (ℕ → ℤ) → Type 0) → ((x : ℕ → ℤ) → Satisfies matrix.bounds x → Fact x) →
+    AddsFact matrix matrix Fact
 AddsFact-none matrix Fact so = record {
   variables = refl;
   marks = refl;
@@ -160,7 +181,8 @@ AddsFact-none matrix Fact so = record {
   all = λ x meets fact. meets;
 }
 
-module _ (problem : ProblemModel) (sound : IsSound problem) (zone : List Range) (s : ℕ) (inside : s < length (spans_of problem)) where
+module _ (problem : ProblemModel) (sound : IsSound problem) (zone : List Range) (s : ℕ)
+    (inside : s < length (spans_of problem)) where
   abbrev left_of : ℕ
   left_of = (span_at problem s).left
 
@@ -168,7 +190,8 @@ module _ (problem : ProblemModel) (sound : IsSound problem) (zone : List Range) 
   right_of = (span_at problem s).right
 
   -- the first class begins at the least width, which the page keeps
-  pub first-kept : (bounds : Bounds) → KeepsPage problem bounds → (range_at zone s).first ≡ 0 → (x : ℕ → ℤ) → Satisfies bounds x → HasFirst problem zone s x
+  pub first-kept : (bounds : Bounds) → KeepsPage problem bounds → (range_at zone s).first ≡ 0 → (x : ℕ → ℤ) →
+      Satisfies bounds x → HasFirst problem zone s x
   first-kept bounds keeps none x meets =
       let widths = widths_of x (gap_of problem.style) problem.cols in
       let span = span-within problem sound s inside in
@@ -179,7 +202,8 @@ module _ (problem : ProblemModel) (sound : IsSound problem) (zone : List Range) 
       omega (arith, ints, at, least, first)
 
   -- the last class ends with the page
-  pub last-kept : (bounds : Bounds) → KeepsPage problem bounds → (range_at zone s).last + 1 ≡ length (classes_at problem s) → (x : ℕ → ℤ) →
+  pub last-kept : (bounds : Bounds) → KeepsPage problem bounds → (range_at zone s).last + 1 ≡ length (classes_at problem s) →
+      (x : ℕ → ℤ) →
       Satisfies bounds x → HasLast problem zone s x
   last-kept bounds keeps all x meets =
       let widths = widths_of x (gap_of problem.style) problem.cols in
@@ -203,12 +227,14 @@ module _ (problem : ProblemModel) (sound : IsSound problem) (zone : List Range) 
       let step = room-position (gap_of problem.style) widths left_of right_of (span-within problem sound s inside).0 in
       omega (arith, ints, step, has)
 
-  range-last : (widths : List ℕ) → HasLast problem zone s (places problem widths) → span_width problem widths s ≤ last_in_class problem s (range_at zone s).last
+  range-last : (widths : List ℕ) → HasLast problem zone s (places problem widths) →
+      span_width problem widths s ≤ last_in_class problem s (range_at zone s).last
   range-last widths has =
       let step = room-position (gap_of problem.style) widths left_of right_of (span-within problem sound s inside).0 in
       omega (arith, ints, step, has)
 
-  last-range : (widths : List ℕ) → span_width problem widths s ≤ last_in_class problem s (range_at zone s).last → HasLast problem zone s (places problem widths)
+  last-range : (widths : List ℕ) → span_width problem widths s ≤ last_in_class problem s (range_at zone s).last →
+      HasLast problem zone s (places problem widths)
   last-range widths has =
       let step = room-position (gap_of problem.style) widths left_of right_of (span-within problem sound s inside).0 in
       omega (arith, ints, step, has)
@@ -224,18 +250,24 @@ module _ (problem : ProblemModel) (sound : IsSound problem) (zone : List Range) 
       keeps = λ x meets. h.keeps x (first.keeps x meets);
       from = λ widths left each.
           let before = h.from widths left each in
-          record { columns = before.columns; satisfies = first.all (places problem widths) before.satisfies (first-range widths (each s in_zone).0) };
+          record {
+            columns = before.columns;
+            satisfies = first.all (places problem widths) before.satisfies
+                (first-range widths (each s in_zone).0);
+          };
       to = λ whole. absurd (none whole);
     }
 
-    module _ (half new : MarkedBounds) (first : AddsFact mid half (HasFirst problem zone s)) (last : AddsFact half new (HasLast problem zone s)) where
+    module _ (half new : MarkedBounds) (first : AddsFact mid half (HasFirst problem zone s))
+        (last : AddsFact half new (HasLast problem zone s)) where
       left-new : (widths : List ℕ) → IsLeft problem old.bounds widths →
           ((r : ℕ) → r < length zone → IsWidthOf problem zone r (span_width problem widths r)) → IsLeft problem new.bounds widths
       left-new widths left each =
           let before = h.from widths left each in
           record {
             columns = before.columns;
-            satisfies = last.all (places problem widths) (first.all (places problem widths) before.satisfies (first-range widths (each s in_zone).0))
+            satisfies = last.all (places problem widths) (first.all (places problem widths) before.satisfies
+                (first-range widths (each s in_zone).0))
                 (last-range widths (each s in_zone).1);
           }
 
@@ -265,11 +297,16 @@ module _ (problem : ProblemModel) (sound : IsSound problem) (zone : List Range) 
                 range-last widths
                     (last.adds (places problem widths) left.satisfies),
               )
-              | inr apart ↦ h.to tt widths (record { columns = left.columns; satisfies = first.keeps (places problem widths) half_left }) r (omega arith)
+              | inr apart ↦ h.to tt widths (record {
+                columns = left.columns;
+                satisfies =
+                    first.keeps (places problem widths) half_left;
+              }) r (omega arith)
             ];
       }
 
-pub AddsRanges-none : (problem : ProblemModel) (zone : List Range) (matrix : MarkedBounds) → AddsRanges problem zone 0 matrix matrix (Unit {0})
+pub AddsRanges-none : (problem : ProblemModel) (zone : List Range) (matrix : MarkedBounds) →
+    AddsRanges problem zone 0 matrix matrix (Unit {0})
 AddsRanges-none problem zone matrix = record {
   variables = refl;
   marks = refl;
@@ -282,19 +319,24 @@ AddsRanges-none problem zone matrix = record {
 -- ---- a matrix is its parts
 
 pub same-matrix : (a b : MarkedBounds) → a.marks ≡ b.marks → a.bounds ≡ b.bounds → a.held ≡ b.held → a ≡ b
-same-matrix a b marks bounds held = made (λ m n h. record { marks = m; bounds = n; held = h }) a.marks b.marks a.bounds b.bounds a.held b.held marks
+same-matrix a b marks bounds held = made (λ m n h. record { marks = m; bounds = n; held = h })
+    a.marks b.marks a.bounds b.bounds a.held b.held marks
     bounds held where
-      made : {X Y Z W : Type 0} (make : X → Y → Z → W) (x x' : X) (y y' : Y) (z z' : Z) → x ≡ x' → y ≡ y' → z ≡ z' → make x y z ≡ make x' y' z'
+      made : {X Y Z W : Type 0} (make : X → Y → Z → W) (x x' : X) (y y' : Y) (z z' : Z) → x ≡ x' → y ≡ y' → z ≡ z' →
+          make x y z ≡ make x' y' z'
       made make x x' y y' z z' one two three = cc
 
 -- ---- rooms within a page are small, and there is a greatest
 
-pub room-small : (problem : ProblemModel) → IsSound problem → (widths : List ℕ) → WithinPage problem widths → (left right : ℕ) → left < right →
+pub room-small : (problem : ProblemModel) → IsSound problem → (widths : List ℕ) → WithinPage problem widths → (left right : ℕ) →
+    left < right →
     right ≤ problem.cols → room (gap_of problem.style) widths left right ≤ MAX_PAGE_WIDTH
-room-small problem sound widths page left right ahead within = omega (arith, room-in_page problem widths page left right ahead within, sound.narrow)
+room-small problem sound widths page left right ahead within =
+    omega (arith, room-in_page problem widths page left right ahead within, sound.narrow)
 
 pub gap-few : (style : Style) → gap_of style ≤ 2
 gap-few Plain = omega arith
+gap-few Compact = omega arith
 gap-few Frame = omega arith
 
 module _ (problem : ProblemModel) (sound : IsSound problem) (bounds : Bounds) (keeps : KeepsPage problem bounds) (left right : ℕ)
@@ -308,7 +350,8 @@ module _ (problem : ProblemModel) (sound : IsSound problem) (bounds : Bounds) (k
   greatest-some none =
       let more = none (pos (2 * MAX_PAGE_WIDTH)) in
       let at = left-room problem bounds keeps left right ahead within more.0 more.1.0 in
-      let page = keeps.page (widths_of more.0 (gap_of problem.style) problem.cols) (left-from problem bounds keeps more.0 more.1.0) in
+      let page = keeps.page (widths_of more.0 (gap_of problem.style) problem.cols)
+      (left-from problem bounds keeps more.0 more.1.0) in
       let small = room-small problem sound (widths_of more.0 (gap_of problem.style) problem.cols) page left right ahead within in
       omega (arith, ints, more.1.1, at, small, gap-few problem.style)
 
@@ -324,12 +367,14 @@ module _ (problem : ProblemModel) (sound : IsSound problem) (bounds : Bounds) (k
       omega (arith, ints, more.1.1, at)
 
 -- a class begins within the page
-pub class-small : (problem : ProblemModel) → IsSound problem → (s class : ℕ) → s < length (spans_of problem) → class < length (classes_at problem s) →
+pub class-small : (problem : ProblemModel) → IsSound problem → (s class : ℕ) → s < length (spans_of problem) →
+    class < length (classes_at problem s) →
     first_in_class problem s class ≤ MAX_PAGE_WIDTH
 class-small problem sound s class inside within =
     let page = sound.fits in
     let span = span-within problem sound s inside in
-    elim (classes-cases problem (span_at problem s) (first_in_class problem s class) (Contains-get_or (classes_at problem s) class 0 within)) [
+    elim (classes-cases problem (span_at problem s) (first_in_class problem s class)
+    (Contains-get_or (classes_at problem s) class 0 within)) [
       | inl first ↦
           let least = least_width-within problem (span_at problem s) page.0 page.1 in
           let small = room-small problem sound page.0 page.1 (span_at problem s).left (span_at problem s).right span.0 span.1 in
@@ -338,26 +383,35 @@ class-small problem sound s class inside within =
     ]
 
 -- a cell's least width is within the page
-pub first-small : (problem : ProblemModel) → IsSound problem → (k : ℕ) → k < length problem.cells → first_width (cell_at problem.cells k).low ≤ MAX_PAGE_WIDTH
+pub first-small : (problem : ProblemModel) → IsSound problem → (k : ℕ) → k < length problem.cells →
+    first_width (cell_at problem.cells k).low ≤ MAX_PAGE_WIDTH
 first-small problem sound k within =
     let page = sound.fits in
     let cell = cell_at problem.cells k in
     let is = sound.cells k no_cell within in
-    omega (arith, page.1.cells k no_cell within, room-small problem sound page.0 page.1 cell.left cell.right is.columns.0 is.columns.1)
+    omega (
+      arith,
+      page.1.cells k no_cell within,
+      room-small problem sound page.0 page.1 cell.left cell.right is.columns.0
+          is.columns.1,
+    )
 
 -- ---- what a zone's ranges leave
 
-module _ (problem : ProblemModel) (zone : List Range) (marks : ℕ) (held : List Bounds) (base : Bounds) (new : MarkedBounds) (whole : Bool)
+module _ (problem : ProblemModel) (zone : List Range) (marks : ℕ) (held : List Bounds) (base : Bounds) (new : MarkedBounds)
+    (whole : Bool)
     (adds : AddsRanges problem zone (length zone) (record { marks = marks; bounds = base; held = held }) new (IsTrue whole)) where
   -- is in the zone,
-  pub ranges-zone : whole ≡ true → KeepsPage problem base → (widths : List ℕ) → IsLeft problem new.bounds widths → InZone problem zone widths
+  pub ranges-zone : whole ≡ true → KeepsPage problem base → (widths : List ℕ) → IsLeft problem new.bounds widths →
+      InZone problem zone widths
   ranges-zone all keeps widths left = record {
     page = keeps.page widths (record { columns = left.columns; satisfies = adds.keeps (places problem widths) left.satisfies });
     ranges = λ s below. adds.to all widths left s below;
   }
 
   -- and all of the zone is left,
-  pub ranges-left : ((widths : List ℕ) → WithinPage problem widths → IsLeft problem base widths) → (widths : List ℕ) → InZone problem zone widths →
+  pub ranges-left : ((widths : List ℕ) → WithinPage problem widths → IsLeft problem base widths) → (widths : List ℕ) →
+      InZone problem zone widths →
       IsLeft problem new.bounds widths
   ranges-left page widths is = adds.from widths (page widths is.page) is.ranges
 
@@ -405,6 +459,19 @@ module _ (problem : ProblemModel) (bounds : Bounds) (keeps : KeepsPage problem b
           | inl some ↦
               let whole = total-position (gap_of problem.style) (edge_of problem.style) widths (omega (arith, left.columns)) in
               let ends = ap (position (gap_of problem.style) widths) left.columns in
-              let before = position-mono (gap_of problem.style) widths k problem.cols up in
-              (omega (arith, ints, at, is.starts), omega (arith, ints, at, is.starts, whole, ends, before, page.page, sound.narrow, gap-few problem.style))
+              let before = position-mono (gap_of problem.style) widths k problem.cols up in (
+                omega (arith, ints, at, is.starts),
+                omega (
+                  arith,
+                  ints,
+                  at,
+                  is.starts,
+                  whole,
+                  ends,
+                  before,
+                  page.page,
+                  sound.narrow,
+                  gap-few problem.style,
+                ),
+              )
         ]

@@ -1,6 +1,7 @@
 -- Heaviest paths over the cells give the least sizes that meet what the cells demand: such sizes are the rises between
 -- the weights of heaviest paths, and no sizes that meet all demands are less than a path's weight.
-use Rattle.std.proofs.Common.{◌≡◌, ℕ, ◌+◌, ◌-◌, ◌*◌, ◌<◌, ◌≤◌, zero, suc, List, [], ◌∷◌, inl, inr, length, get_or, map, take, sum, refl, sym, ap, ◌∙◌}
+use Rattle.std.proofs.Common.{◌≡◌, ℕ, ◌+◌, ◌-◌, ◌*◌, ◌<◌, ◌≤◌, zero, suc, List, [], ◌∷◌, inl, inr, length, get_or, map, take, sum}
+use Rattle.std.proofs.Common.{refl, sym, ap, ◌∙◌}
 use Rattle.std.proofs.Common.{subst, arith}
 use Rattle.std.specs.List.{All, sum_by}
 use Rattle.std.proofs.lemmas.Bool.{cases_lt}
@@ -16,14 +17,13 @@ use Rattle.tl_problem.specs.declared.axis.Axis.{Axis}
 use Rattle.tl_problem.specs.declared.axis.Axis.TheVariants.{Columns, Rows}
 use Rattle.tl_problem.specs.declared.axis.Turn.{Turn}
 use Rattle.tl_problem.specs.declared.cell.Cell.{Cell}
-use Rattle.tl_problem.specs.Sizes.{position, room, total}
+use Rattle.tl_base.specs.Sizes.{position, room, total, IsLeastTotal}
 use Rattle.tl_problem.specs.Problem.{ProblemModel}
 use Rattle.tl_problem.specs.Sound.{IsSound, IsSoundCell}
-use Rattle.tl_problem.specs.Bounds.{IsLeastTotal}
 use Rattle.tl_problem.specs.Placements.{AreLeast}
 use Rattle.tl_problem.specs.inner.Axes.{start_of, end_of, count_on, gap_on, turn}
 use Rattle.tl_problem.specs.inner.Demands.{cell_at, cell_arc, arc_for, AreArcs, GiveDemands, HaveEnds, rises}
-use Rattle.tl_problem.proofs.SizeLaws.{room-position, total-position, total-le, take-between}
+use Rattle.tl_base.proofs.SizeLaws.{room-position, total-position, total-le, take-between}
 use Rattle.tl_problem.proofs.Rectangles.{amount, late, areas-within}
 use Rattle.tl_problem.proofs.AxisLemmas.{IsTurn, order-length, order-turns, order-all, order-sum}
 
@@ -41,14 +41,16 @@ count-few problem Rows sound = sound.few_rows
 -- cells share no slot, so that there are no more of them than slots
 pub few-cells : (problem : ProblemModel) → IsSound problem → length problem.cells ≤ MAX_COLUMNS * (MAX_ROWS + 1)
 few-cells problem sound =
-    let all = areas-within (λ (c : Cell). c.left) (λ (c : Cell). c.right) (λ (c : Cell). c.top) (λ (c : Cell). c.bottom) (λ n. n) (λ n. n)
+    let all = areas-within (λ (c : Cell). c.left) (λ (c : Cell). c.right) (λ (c : Cell). c.top) (λ (c : Cell). c.bottom)
+    (λ n. n) (λ n. n)
     (λ n. omega arith) (λ n. omega arith) refl refl
     problem.cells problem.cols problem.rows sound.apart in
     let each = count-le area problem.cells (λ k d within. one-at-least (get_or problem.cells k d) (sound.cells k d within)) in
     let product = mul-le-mul sound.few_columns sound.few_rows in
     omega (arith, all, each, product) where
       area : Cell → ℕ
-      area c = amount (λ n. n) (λ n. omega arith) c.left c.right problem.cols * amount (λ n. n) (λ n. omega arith) c.top c.bottom problem.rows
+      area c = amount (λ n. n) (λ n. omega arith) c.left c.right problem.cols * amount (λ n. n) (λ n. omega arith)
+          c.top c.bottom problem.rows
 
       count-le : (f : Cell → ℕ) (cells : List Cell) → All (λ c. 1 ≤ f c) cells → length cells ≤ sum_by f cells
       count-le f [] some = omega arith
@@ -61,7 +63,8 @@ few-cells problem sound =
       one-at-least c is =
           let wide = late (λ n. n) (λ n. omega arith) c.left c.right problem.cols (omega (arith, is.columns.0)) is.columns.1 in
           let high = late (λ n. n) (λ n. omega arith) c.top c.bottom problem.rows (omega (arith, is.rows.0)) is.rows.1 in
-          positive (amount (λ n. n) (λ n. omega arith) c.left c.right problem.cols) (amount (λ n. n) (λ n. omega arith) c.top c.bottom problem.rows)
+          positive (amount (λ n. n) (λ n. omega arith) c.left c.right problem.cols)
+          (amount (λ n. n) (λ n. omega arith) c.top c.bottom problem.rows)
           (omega (arith, wide, is.columns.0)) (omega (arith, high, is.rows.0)) where
             positive : (a b : ℕ) → 1 ≤ a → 1 ≤ b → 1 ≤ a * b
             positive a b first second = let m = mul-le-mul first second in omega (arith, m)
@@ -78,7 +81,8 @@ rises-sum f (suc n) rising k up =
     elim (cases_lt n k) [
       | inr low ↦
           let inside : k ≤ length (rises f n) = omega (arith, rises-length f n) in
-          rw (take-append-le k (rises f n) ((f (n + 1) - f n) ∷ []) inside) (rises-sum f n (λ j below. rising j (omega arith)) k low)
+          rw (take-append-le k (rises f n) ((f (n + 1) - f n) ∷ []) inside)
+          (rises-sum f n (λ j below. rising j (omega arith)) k low)
       | inl last ↦
           let all : k ≡ suc n = omega arith in
           let whole = take_all (suc n) (rises f (suc n)) (omega (arith, rises-length f (suc n))) in
@@ -112,14 +116,16 @@ room-sums gap sizes from past ahead =
 
 -- ---- arcs of cells
 
-weights-le : (f : Turn → Arc) (g : Turn → ℕ) (order : List Turn) → ((t : Turn) → (f t).weight ≤ g t) → total_weight (map f order) ≤ sum_by g order
+weights-le : (f : Turn → Arc) (g : Turn → ℕ) (order : List Turn) → ((t : Turn) → (f t).weight ≤ g t) →
+    total_weight (map f order) ≤ sum_by g order
 weights-le f g [] less = omega arith
 weights-le f g (t ∷ order) less =
     let first = less t in
     let rest = weights-le f g order less in
     omega (arith, first, rest, sum_by-cons (λ (e : Arc). e.weight) (f t) (map f order), sum_by-cons g t order)
 
-module _ (problem : ProblemModel) (axis : Axis) (demands : List ℕ) (arcs : List Arc) (are : AreArcs problem axis demands arcs) where
+module _ (problem : ProblemModel) (axis : Axis) (demands : List ℕ) (arcs : List Arc)
+    (are : AreArcs problem axis demands arcs) where
   abbrev arc_of : Turn → Arc
   arc_of t = arc_for problem axis demands t.cell
 
@@ -139,14 +145,21 @@ module _ (problem : ProblemModel) (axis : Axis) (demands : List ℕ) (arcs : Lis
       (omega (arith, arcs-length, order-length axis problem.cells are.order are.ordered))
 
   -- the arc with a number is that of some cell
-  pub arcs-cell : (i : ℕ) → i < length arcs → (k : ℕ) × ((k < length problem.cells) × (arc_at arcs i ≡ arc_for problem axis demands k))
+  pub arcs-cell : (i : ℕ) → i < length arcs → (k : ℕ) × ((k < length problem.cells) ×
+      (arc_at arcs i ≡ arc_for problem axis demands k))
   arcs-cell i there = ((turn_at i).cell, ((turns i there).0, arcs-at i there))
 
   -- each cell has its arc
-  pub cell-arc : (k : ℕ) → k < length problem.cells → (i : ℕ) × ((i < length arcs) × (arc_at arcs i ≡ arc_for problem axis demands k))
+  pub cell-arc : (k : ℕ) → k < length problem.cells → (i : ℕ) ×
+      ((i < length arcs) × (arc_at arcs i ≡ arc_for problem axis demands k))
   cell-arc k within =
       let has = order-all axis problem.cells are.order are.ordered k within in
-      let there : has.0 < length arcs = omega (arith, has.1, arcs-length, order-length axis problem.cells are.order are.ordered) in
+      let there : has.0 < length arcs = omega (
+        arith,
+        has.1,
+        arcs-length,
+        order-length axis problem.cells are.order are.ordered,
+      ) in
       let at = get_or_default are.order has.0 (turn 0 0) (turn (start_of axis (cell_at problem.cells k)) k) has.1 in
       (has.0, (there, arcs-at has.0 there ∙ ap arc_of (at ∙ has.2)))
 
@@ -159,7 +172,8 @@ module _ (problem : ProblemModel) (axis : Axis) (demands : List ℕ) (arcs : Lis
   pub arcs-in_order : InOrder arcs
   arcs-in_order i j less there =
       let first : i < length arcs = omega arith in
-      let rising = are.ordered.rising i j (turn 0 0) (omega arith) (omega (arith, arcs-length, order-length axis problem.cells are.order are.ordered)) in
+      let rising = are.ordered.rising i j (turn 0 0) (omega arith)
+      (omega (arith, arcs-length, order-length axis problem.cells are.order are.ordered)) in
       let one = (turns i first).1 in
       let other = (turns j there).1 in
       omega (arith, ap (λ e. e.from) (arcs-at i first), ap (λ e. e.from) (arcs-at j there), rising, one, other)
@@ -172,7 +186,8 @@ module _ (problem : ProblemModel) (axis : Axis) (demands : List ℕ) (arcs : Lis
   -- ---- no sizes that meet all demands are less than a path's weight
 
   module _ (sizes : List ℕ) (give : GiveDemands problem axis demands sizes) where
-    arc-below : (i : ℕ) → i < length arcs → sum (take (arc_at arcs i).from sizes) + (arc_at arcs i).weight ≤ sum (take (arc_at arcs i).to sizes)
+    arc-below : (i : ℕ) → i < length arcs → sum (take (arc_at arcs i).from sizes) + (arc_at arcs i).weight ≤ sum
+        (take (arc_at arcs i).to sizes)
     arc-below i there =
         let found = arcs-cell i there in
         let cell = cell_at problem.cells found.0 in
@@ -180,9 +195,11 @@ module _ (problem : ProblemModel) (axis : Axis) (demands : List ℕ) (arcs : Lis
         let enough = give.cells found.0 found.1.0 in
         let sums = room-sums (gap_on axis problem) sizes (start_of axis cell) (end_of axis cell) ahead.0 in
         let mono = sum_take-mono sizes (start_of axis cell) (end_of axis cell) (omega (arith, ahead.0)) in
-        subst (λ e. sum (take e.from sizes) + e.weight ≤ sum (take e.to sizes)) (sym found.1.1) (omega (arith, enough, sums, mono))
+        subst (λ e. sum (take e.from sizes) + e.weight ≤ sum (take e.to sizes)) (sym found.1.1)
+        (omega (arith, enough, sums, mono))
 
-    pub path-below : (p : ℕ) (is : List ℕ) (k : ℕ) → IsPath arcs p is k → sum (take p sizes) + path_weight arcs is ≤ sum (take k sizes)
+    pub path-below : (p : ℕ) (is : List ℕ) (k : ℕ) → IsPath arcs p is k →
+        sum (take p sizes) + path_weight arcs is ≤ sum (take k sizes)
     path-below p [] k path = omega (arith, sum_take-mono sizes p k path)
     path-below p (i ∷ is) k path =
         let rest = path-below (arc_at arcs i).to is k path.2 in
@@ -193,7 +210,12 @@ module _ (problem : ProblemModel) (axis : Axis) (demands : List ℕ) (arcs : Lis
 -- a path goes forward
 path-ahead : (n : ℕ) (arcs : List Arc) → LeadForward n arcs → (p : ℕ) (is : List ℕ) (k : ℕ) → IsPath arcs p is k → p ≤ k
 path-ahead n arcs forward p [] k path = path
-path-ahead n arcs forward p (i ∷ is) k path = omega (arith, path.1, forward i path.0, path-ahead n arcs forward (arc_at arcs i).to is k path.2)
+path-ahead n arcs forward p (i ∷ is) k path = omega (
+  arith,
+  path.1,
+  forward i path.0,
+  path-ahead n arcs forward (arc_at arcs i).to is k path.2,
+)
 
 -- ---- the least sizes
 
@@ -212,10 +234,16 @@ module _ (problem : ProblemModel) (axis : Axis) (demands ends : List ℕ) (h : H
         none [] path weighs = sym weighs
         none (i ∷ is) path weighs =
             let forward = arcs-forward problem axis demands h.arcs h.are in
-            absurd (omega (arith, forward i path.0, path-ahead (count_on axis problem) h.arcs forward (arc_at h.arcs i).to is 0 path.2))
+            absurd (omega (
+              arith,
+              forward i path.0,
+              path-ahead (count_on axis problem) h.arcs forward
+                  (arc_at h.arcs i).to is 0 path.2,
+            ))
 
   pub ends-rise : (k : ℕ) → k < count_on axis problem → end_at k ≤ end_at (k + 1)
-  ends-rise k below = IsHeaviest-further h.arcs k (k + 1) (end_at k) (end_at (k + 1)) (h.heaviest k (omega arith)) (h.heaviest (k + 1) (omega arith))
+  ends-rise k below = IsHeaviest-further h.arcs k (k + 1) (end_at k) (end_at (k + 1)) (h.heaviest k (omega arith))
+      (h.heaviest (k + 1) (omega arith))
       (omega arith)
 
   pub sizes-sum : (k : ℕ) → k ≤ count_on axis problem → sum (take k sizes) ≡ end_at k
@@ -228,14 +256,16 @@ module _ (problem : ProblemModel) (axis : Axis) (demands ends : List ℕ) (h : H
         let cell = cell_at problem.cells k in
         let found = cell-arc problem axis demands h.arcs h.are k within in
         let ahead = sound-axis problem axis cell (h.are.sound.cells k _ within) in
-        let first : end_at (start_of axis cell) + (cell_arc axis (gap_on axis problem) cell (get_or demands k 0)).weight ≤ end_at (end_of axis cell) =
+        let first : end_at (start_of axis cell) + (cell_arc axis (gap_on axis problem) cell
+        (get_or demands k 0)).weight ≤ end_at (end_of axis cell) =
         reached cell found.0 found.1.0 (get_or demands k 0) found.1.1 ahead in
         let sums = room-sums (gap_on axis problem) sizes (start_of axis cell) (end_of axis cell) ahead.0 in
         let one = sizes-sum (start_of axis cell) (omega (arith, ahead)) in
         let other = sizes-sum (end_of axis cell) ahead.1 in
         omega (arith, first, sums, one, other);
   } where
-    reached : (cell : Cell) (i : ℕ) → i < length h.arcs → (demand : ℕ) → arc_at h.arcs i ≡ cell_arc axis (gap_on axis problem) cell demand →
+    reached : (cell : Cell) (i : ℕ) → i < length h.arcs → (demand : ℕ) →
+        arc_at h.arcs i ≡ cell_arc axis (gap_on axis problem) cell demand →
         (start_of axis cell < end_of axis cell) × (end_of axis cell ≤ count_on axis problem) →
         end_at (start_of axis cell) + (cell_arc axis (gap_on axis problem) cell demand).weight ≤ end_at (end_of axis cell)
     reached cell i there demand is ahead =
@@ -245,7 +275,8 @@ module _ (problem : ProblemModel) (axis : Axis) (demands ends : List ℕ) (h : H
         subst (λ e. end_at e.from + e.weight ≤ end_at e.to) is along
 
   -- at each place no other sizes that give the demands are less
-  pub sizes-below : (other : List ℕ) → GiveDemands problem axis demands other → (k : ℕ) → k ≤ count_on axis problem → sum (take k sizes) ≤ sum (take k other)
+  pub sizes-below : (other : List ℕ) → GiveDemands problem axis demands other → (k : ℕ) → k ≤ count_on axis problem →
+      sum (take k sizes) ≤ sum (take k other)
   sizes-below other give k up =
       let r = (h.heaviest k up).reached in
       let path = path-below problem axis demands h.arcs h.are other give 0 r.0 k r.1.0 in
@@ -254,18 +285,24 @@ module _ (problem : ProblemModel) (axis : Axis) (demands ends : List ℕ) (h : H
   pub sizes-least : AreLeast (gap_on axis problem) (GiveDemands problem axis demands) sizes
   sizes-least = record {
     kind = sizes-give;
-    earliest = λ other give place within. omega (arith, sizes-below other give place (omega (arith, rises-length end_at (count_on axis problem))));
+    earliest = λ other give place within. omega (
+      arith,
+      sizes-below other give place
+          (omega (arith, rises-length end_at (count_on axis problem))),
+    );
   }
 
 -- the least total height
 module _ (problem : ProblemModel) (demands ends : List ℕ) (h : HaveEnds problem Rows demands ends) where
-  pub least_total-none : problem.rows ≡ 0 → IsLeastTotal (row_gap_of problem.style) (edge_of problem.style) (GiveDemands problem Rows demands) 0
+  pub least_total-none : problem.rows ≡ 0 → IsLeastTotal (row_gap_of problem.style) (edge_of problem.style)
+      (GiveDemands problem Rows demands) 0
   least_total-none none = record {
     attained = (
       [],
       record {
         count = sym none;
-        cells = λ k within. let is = (h.are.sound.cells k (cell_at problem.cells k) within).rows in absurd (omega (arith, is.0, is.1, none));
+        cells = λ k within. let is = (h.are.sound.cells k (cell_at problem.cells k) within).rows in
+            absurd (omega (arith, is.0, is.1, none));
       },
       refl,
     );
@@ -287,7 +324,8 @@ module _ (problem : ProblemModel) (demands ends : List ℕ) (h : HaveEnds proble
       let counted = rw rows at (gaps_more (row_gap_of problem.style) (problem.rows - 1)) in
       omega (arith, whole, last, at, counted)
 
-  pub least_total-some : 0 < problem.rows → IsLeastTotal (row_gap_of problem.style) (edge_of problem.style) (GiveDemands problem Rows demands)
+  pub least_total-some : 0 < problem.rows → IsLeastTotal (row_gap_of problem.style) (edge_of problem.style)
+      (GiveDemands problem Rows demands)
       (get_or ends problem.rows 0 + row_gap_of problem.style * (problem.rows - 1) + 2 * edge_of problem.style)
   least_total-some some =
       let least = sizes problem Rows demands ends h in

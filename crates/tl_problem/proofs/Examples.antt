@@ -6,7 +6,7 @@ use Rattle.tl_base.specs.declared.style.Style.TheVariants.{Plain}
 use Rattle.tl_base.specs.declared.steps.Config.{Config}
 use Rattle.tl_base.specs.Steps.{first_width}
 use Rattle.tl_problem.specs.declared.cell.Cell.{Cell}
-use Rattle.tl_problem.specs.Sizes.{position, room, total}
+use Rattle.tl_base.specs.Sizes.{position, room, total}
 use Rattle.tl_problem.specs.Problem.{ProblemModel, cell_width}
 use Rattle.tl_problem.specs.Layouts.{WithinPage}
 use Rattle.tl_problem.specs.Spans.{span, spans_of, classes_of, count_of}
@@ -52,7 +52,14 @@ abbrev pub wide : Cell
 wide = cell 0 2 0 1 (step 4 3 ∷ step 7 2 ∷ step 12 1 ∷ [])
 
 abbrev pub problem : ProblemModel
-problem = record { cols = 2; rows = 2; style = Plain; width = 9; cells = wide ∷ cell 0 1 1 2 (step 1 1 ∷ []) ∷ cell 1 2 1 2 (step 2 1 ∷ []) ∷ [] }
+problem = record {
+  cols = 2;
+  rows = 2;
+  style = Plain;
+  width = 9;
+  cells =
+      wide ∷ cell 0 1 1 2 (step 1 1 ∷ []) ∷ cell 1 2 1 2 (step 2 1 ∷ []) ∷ [];
+}
 
 -- spans by left, then right
 three_spans : spans_of problem ≡ span 0 1 ∷ span 0 2 ∷ span 1 2 ∷ []

@@ -1,5 +1,6 @@
 -- Decreasing step functions: wider is no higher, a height stands from the first width on, and changes where a step begins.
-use Rattle.std.proofs.Common.{cond, ◌≡◌, ℕ, ◌<◌, ◌≤◌, suc, Bool, true, false, nat_le, List, [], ◌∷◌, length, get_or, filter, Option, Some, None, refl}
+use Rattle.std.proofs.Common.{cond, ◌≡◌, ℕ, ◌<◌, ◌≤◌, suc, Bool, true, false, nat_le, List, [], ◌∷◌, length, get_or, filter}
+use Rattle.std.proofs.Common.{Option, Some, None, refl}
 use Rattle.std.proofs.Common.{sym, ap, ◌∙◌, subst, inl, inr, arith}
 use Rattle.std.specs.Option.{option_map, IsSomeAnd}
 use Rattle.std.specs.List.{All, AllPairs, last_or}
@@ -28,13 +29,15 @@ pub IsLowAt-from : (steps : List Config) (h w : ℕ) → height_at steps w ≡ S
 IsLowAt-from steps h w is = subst (λ o. IsSomeAnd o (λ height. height ≤ h)) (sym is) (omega arith)
 
 -- what is low has a height
-pub height-from_low : (steps : List Config) (h w : ℕ) → IsLowAt steps h w → (height : ℕ) × (height_at steps w ≡ Some height) × (height ≤ h)
+pub height-from_low : (steps : List Config) (h w : ℕ) → IsLowAt steps h w →
+    (height : ℕ) × (height_at steps w ≡ Some height) × (height ≤ h)
 height-from_low steps h w low = some (height_at steps w) low where
   some : (o : Option ℕ) → IsSomeAnd o (λ height. height ≤ h) → (height : ℕ) × (o ≡ Some height) × (height ≤ h)
   some None low = absurd low
   some (Some height) low = (height, refl, low)
 
-pub IsLowAt-same : (steps : List Config) (h w v : ℕ) → height_at steps w ≡ height_at steps v → IsLowAt steps h w → IsLowAt steps h v
+pub IsLowAt-same : (steps : List Config) (h w v : ℕ) → height_at steps w ≡ height_at steps v → IsLowAt steps h w →
+    IsLowAt steps h v
 IsLowAt-same steps h w v same low = subst (λ o. IsSomeAnd o (λ height. height ≤ h)) same low
 
 -- ---- wider is no higher
@@ -44,7 +47,8 @@ abbrev Low : ℕ → Option Config → Type 0
 Low h o = IsSomeAnd (option_map (λ step. step.height) o) (λ height. height ≤ h)
 
 -- the last item of a list is low if what stands before it is
-last-low : (h : ℕ) (o p : Option Config) (steps : List Config) → (Low h o → Low h p) → Low h (last_or o steps) → Low h (last_or p steps)
+last-low : (h : ℕ) (o p : Option Config) (steps : List Config) → (Low h o → Low h p) → Low h (last_or o steps) →
+    Low h (last_or p steps)
 last-low h o p [] give low = give low
 last-low h o p (step ∷ steps) give low = low
 
@@ -52,14 +56,17 @@ last-low h o p (step ∷ steps) give low = low
 abbrev NoHigher : Option Config → Config → Type 0
 NoHigher o step = (h : ℕ) → Low h o → step.height ≤ h
 
-wider_low : (h w v : ℕ) → w ≤ v → (o : Option Config) (steps : List Config) → AllPairs (λ a b. (a.width < b.width) × (b.height < a.height)) steps →
+wider_low : (h w v : ℕ) → w ≤ v → (o : Option Config) (steps : List Config) →
+    AllPairs (λ a b. (a.width < b.width) × (b.height < a.height)) steps →
     All (NoHigher o) steps →
-    Low h (last_or o (filter (λ step. nat_le step.width w) steps)) → Low h (last_or o (filter (λ step. nat_le step.width v) steps))
+    Low h (last_or o (filter (λ step. nat_le step.width w) steps)) →
+    Low h (last_or o (filter (λ step. nat_le step.width v) steps))
 wider_low h w v more o [] decreasing no_higher low = low
 wider_low h w v more o (step ∷ steps) decreasing no_higher low =
     let later = AllPairs-tail (λ a b. (a.width < b.width) × (b.height < a.height)) step steps decreasing in
     let lower : All (NoHigher (Some step)) steps = λ k d within. λ bound here. let fall =
-    AllPairs-head (λ a b. (a.width < b.width) × (b.height < a.height)) step steps decreasing k d within in omega (arith, fall.1, here) in
+    AllPairs-head (λ a b. (a.width < b.width) × (b.height < a.height)) step steps decreasing k d within in
+    omega (arith, fall.1, here) in
     let rest : All (NoHigher o) steps = λ k d within. no_higher (suc k) d (omega arith) in
     elim (cases_lt w step.width) [
       | inr narrow ↦
@@ -70,11 +77,13 @@ wider_low h w v more o (step ∷ steps) decreasing no_higher low =
           let first = test_le_false step.width w wide in
           let below = rw first at low in
           elim (cases_lt v step.width) [
-            | inl wider ↦ let second = test_le_false step.width v wider in rw second (wider_low h w v more o steps later rest below)
+            | inl wider ↦ let second = test_le_false step.width v wider in
+                rw second (wider_low h w v more o steps later rest below)
             | inr enough ↦
                 let second = test_le step.width v enough in
                 rw second (wider_low h w v more (Some step) steps later lower
-                (last-low h o (Some step) (filter (λ s. nat_le s.width w) steps) (λ here. no_higher 0 step (omega arith) h here) below))
+                (last-low h o (Some step) (filter (λ s. nat_le s.width w) steps) (λ here. no_higher 0 step (omega arith) h here)
+                below))
           ]
     ]
 
@@ -88,7 +97,8 @@ last-some : (x : Config) (xs : List Config) → (h : ℕ) × (option_map (λ ste
 last-some x [] = (x.height, refl)
 last-some x (y ∷ ys) = last-some y ys
 
-pub height-from_first : (steps : List Config) → 0 < length steps → (w : ℕ) → first_width steps ≤ w → (h : ℕ) × (height_at steps w ≡ Some h)
+pub height-from_first : (steps : List Config) → 0 < length steps → (w : ℕ) → first_width steps ≤ w →
+    (h : ℕ) × (height_at steps w ≡ Some h)
 height-from_first [] some w wide = absurd (omega arith)
 height-from_first (step ∷ steps) some w wide =
     let first = test_le step.width w wide in
@@ -100,10 +110,12 @@ height-from_first (step ∷ steps) some w wide =
 same_filter : {X : Type 0} (p q : X → Bool) (xs : List X) → All (λ x. p x ≡ q x) xs → filter p xs ≡ filter q xs
 same_filter p q [] agree = refl
 same_filter p q (x ∷ xs) agree =
-    rw (agree 0 x (omega arith)) (ap (λ rest. cond (q x) (x ∷ rest) rest) (same_filter p q xs (λ k d within. agree (suc k) d (omega arith))))
+    rw (agree 0 x (omega arith)) (ap (λ rest. cond (q x) (x ∷ rest) rest)
+    (same_filter p q xs (λ k d within. agree (suc k) d (omega arith))))
 
 -- no step begins after the one width up to the other
-pub height-same : (steps : List Config) (w v : ℕ) → w ≤ v → All (λ step. w < step.width → step.width ≤ v → ⊥) steps → height_at steps w ≡ height_at steps v
+pub height-same : (steps : List Config) (w v : ℕ) → w ≤ v → All (λ step. w < step.width → step.width ≤ v → ⊥) steps →
+    height_at steps w ≡ height_at steps v
 height-same steps w v more none =
     ap (λ narrow. option_map (λ step. step.height) (last_or None narrow))
     (same_filter (λ step. nat_le step.width w) (λ step. nat_le step.width v) steps agree) where

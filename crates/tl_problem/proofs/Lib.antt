@@ -14,7 +14,6 @@ pub mod NeedLemmas
 pub mod OneClass
 pub mod Rectangles
 pub mod SetLaws
-pub mod SizeLaws
 pub mod Soundness
 pub mod SpanLaws
 pub mod SpanningLemmas

@@ -1,34 +1,34 @@
 -- What the cells need, by number, says what layouts, bounds and tight placements ask for: sizes give the one where they
 -- give the other.
-use Rattle.std.proofs.Common.{◌≡◌, ℕ, ◌+◌, ◌-◌, ◌*◌, ◌^◌, ◌<◌, ◌≤◌, zero, suc, Bool, true, false, cond, nat_le, IsSome, IsNone, ◌↔◌, List, [], ◌∷◌, ◌++◌}
-use Rattle.std.proofs.Common.{length, get_or, set, drop, filter, sum, Option, Some, None, refl, sym, ap, ◌∙◌, subst, inl, inr, arith}
-use Rattle.std.specs.List.{All, AllPairs, last_or, sum_by, slice_range}
+use Rattle.std.proofs.Common.{◌≡◌, ℕ, ◌+◌, ◌*◌, ◌<◌, ◌≤◌, zero, suc, Bool, true, false, cond, nat_le, IsSome, IsNone, ◌↔◌, List}
+use Rattle.std.proofs.Common.{[], ◌∷◌, ◌++◌}
+use Rattle.std.proofs.Common.{length, get_or, set, filter, sum, Option, Some, None, refl, sym, ap, ◌∙◌, subst, inl, inr, arith}
+use Rattle.std.specs.List.{All, AllPairs, last_or, sum_by}
 use Rattle.std.specs.Option.{option_map, IfSome}
 use Rattle.std.proofs.lemmas.Bool.{cases_eq, cases_lt}
 use Rattle.std.proofs.lemmas.List.{get_or_default, get_or_push, get_or_append_left, get_or-set_same, get_or-set_other}
-use Rattle.std.proofs.lemmas.List.Sums.{sum_by-cons, sum_by-take-le, sum_by-take-drop, sum_by-le}
+use Rattle.std.proofs.lemmas.List.Sums.{sum_by-cons, sum_by-le}
 use Rattle.tl_base.specs.declared.limits.TheConstants.{MAX_COLUMNS, MAX_HEIGHT, MAX_PAGE_WIDTH, MAX_ROWS}
-use Rattle.tl_base.specs.Style.{gap_of, row_gap_of, edge_of}
-use Rattle.tl_base.specs.declared.style.Style.{Style}
-use Rattle.tl_base.specs.declared.style.Style.TheVariants.{Plain, Frame}
+use Rattle.tl_base.specs.Style.{gap_of, edge_of}
 use Rattle.tl_base.specs.declared.steps.Config.{Config}
 use Rattle.tl_base.specs.Steps.{AreSteps, first_width, height_at, IsLowAt, first_height}
 use Rattle.tl_problem.specs.declared.axis.Axis.TheVariants.{Columns, Rows}
 use Rattle.tl_problem.specs.declared.cell.Cell.{Cell}
-use Rattle.tl_problem.specs.Sizes.{total}
 use Rattle.tl_problem.specs.Problem.{ProblemModel, cell_width, cell_height}
 use Rattle.tl_problem.specs.Layouts.{WithinPage, GiveHigh}
 use Rattle.tl_problem.specs.Sound.{IsSound, IsSoundCell}
-use Rattle.tl_problem.specs.Bounds.{IsGreatestRoom, GiveLow, IsLeastTotal}
+use Rattle.tl_problem.specs.Bounds.{IsGreatestRoom, GiveLow}
+use Rattle.tl_base.specs.Sizes.{IsLeastTotal}
 use Rattle.tl_problem.specs.Placements.{AreLeast}
 use Rattle.tl_problem.specs.Tight.{KeepHigh}
 use Rattle.tl_problem.specs.inner.Demands.{cell_at, GiveDemands, no_cell}
 use Rattle.tl_problem.specs.inner.Needs.{NeedHigh, NeedLow, NeedWidths, NeedLeast}
-use Rattle.tl_problem.proofs.Heights.{IsLowAt-from, IsLowAt-higher, IsLowAt-wider, height-from_low, height-from_first, test_le_false}
+use Rattle.tl_problem.proofs.Heights.{IsLowAt-from, IsLowAt-higher, IsLowAt-wider, height-from_low, height-from_first}
+use Rattle.tl_problem.proofs.Heights.{test_le_false}
 use Rattle.tl_problem.proofs.SpanLaws.{room-in_page}
 use Rattle.tl_problem.proofs.DemandLemmas.{few-cells}
 use Rattle.tl_problem.proofs.TightLaws.{least-total, KeepHigh-itself}
-use Rattle.tl_problem.proofs.SizeLaws.{sum-total}
+use Rattle.tl_base.proofs.SizeLaws.{sum-total}
 
 -- what is so of each cell by number is so of all
 pub All-from_numbers : (P : Cell → Type 0) (cells : List Cell) → ((k : ℕ) → k < length cells → P (cell_at cells k)) → All P cells
@@ -59,19 +59,22 @@ low-first (step ∷ steps) are h w low =
     ] where
       all : w < step.width → All (λ s. nat_le s.width w ≡ false) (step ∷ steps)
       all narrow zero d within = test_le_false step.width w narrow
-      all narrow (suc k) d within = let wider = are.decreasing 0 (suc k) d (omega arith) within in test_le_false (get_or steps k d).width w
+      all narrow (suc k) d within = let wider = are.decreasing 0 (suc k) d (omega arith) within in
+          test_le_false (get_or steps k d).width w
           (omega (arith, wider.0, narrow))
 
 -- ---- least sizes of kinds that hold each other
 
-pub AreLeast-same : (gap : ℕ) (A B : List ℕ → Type 0) (sizes : List ℕ) → ((xs : List ℕ) → A xs → B xs) → ((xs : List ℕ) → B xs → A xs) →
+pub AreLeast-same : (gap : ℕ) (A B : List ℕ → Type 0) (sizes : List ℕ) → ((xs : List ℕ) → A xs → B xs) →
+    ((xs : List ℕ) → B xs → A xs) →
     AreLeast gap A sizes → AreLeast gap B sizes
 AreLeast-same gap A B sizes to from least = record {
   kind = to sizes least.kind;
   earliest = λ other kind place within. least.earliest other (from other kind) place within;
 }
 
-pub IsLeastTotal-same : (gap edge : ℕ) (A B : List ℕ → Type 0) (least : ℕ) → ((xs : List ℕ) → A xs → B xs) → ((xs : List ℕ) → B xs → A xs) →
+pub IsLeastTotal-same : (gap edge : ℕ) (A B : List ℕ → Type 0) (least : ℕ) → ((xs : List ℕ) → A xs → B xs) →
+    ((xs : List ℕ) → B xs → A xs) →
     IsLeastTotal gap edge A least → IsLeastTotal gap edge B least
 IsLeastTotal-same gap edge A B least to from is = record {
   attained = (is.attained.0, to is.attained.0 is.attained.1, is.attained.2);
@@ -88,9 +91,11 @@ module _ (problem : ProblemModel) (sound : IsSound problem) where
       GiveHigh problem widths heights
   high-give widths demands heights need give = record {
     rows = give.count;
-    cells = All-from_numbers (λ cell. IsLowAt cell.high (cell_height problem heights cell) (cell_width problem widths cell)) problem.cells (λ k within.
+    cells = All-from_numbers (λ cell. IsLowAt cell.high (cell_height problem heights cell) (cell_width problem widths cell))
+        problem.cells (λ k within.
         let cell = cell_at problem.cells k in
-        IsLowAt-higher cell.high (get_or demands k 0) (cell_height problem heights cell) (cell_width problem widths cell) (give.cells k within)
+        IsLowAt-higher cell.high (get_or demands k 0) (cell_height problem heights cell) (cell_width problem widths cell)
+        (give.cells k within)
         (IsLowAt-from cell.high (get_or demands k 0) (cell_width problem widths cell) (need.each k within)));
   }
 
@@ -100,7 +105,8 @@ module _ (problem : ProblemModel) (sound : IsSound problem) where
     count = give.rows;
     cells = λ k within.
         let cell = cell_at problem.cells k in
-        low-le cell.high (cell_width problem widths cell) (get_or demands k 0) (cell_height problem heights cell) (need.each k within)
+        low-le cell.high (cell_width problem widths cell) (get_or demands k 0) (cell_height problem heights cell)
+        (need.each k within)
         (give.cells k no_cell within);
   }
 
@@ -130,12 +136,14 @@ module _ (problem : ProblemModel) (sound : IsSound problem) where
       cells = λ k within.
           let cell = cell_at problem.cells k in
           let found = need.each k within in
-          low-le cell.low found.0 (get_or demands k 0) (cell_height problem heights cell) found.1.1 (give.cells k no_cell within found.0 found.1.0);
+          low-le cell.low found.0 (get_or demands k 0) (cell_height problem heights cell) found.1.1
+          (give.cells k no_cell within found.0 found.1.0);
     }
 
   -- ---- widths
 
-  pub keep-give : (widths demands other : List ℕ) → NeedWidths problem widths demands → GiveDemands problem Columns demands other →
+  pub keep-give : (widths demands other : List ℕ) → NeedWidths problem widths demands →
+      GiveDemands problem Columns demands other →
       KeepHigh problem widths other
   keep-give widths demands other need give = record {
     columns = give.count;
@@ -145,7 +153,8 @@ module _ (problem : ProblemModel) (sound : IsSound problem) where
         let found = need.each k within in
         let same = same-height cell.high (cell_width problem widths cell) found.0 h found.1.0 is in
         subst (λ n. IsLowAt cell.high n (cell_width problem other cell)) same
-        (IsLowAt-wider cell.high (sound-at k within).steps.1 found.0 (get_or demands k 0) (cell_width problem other cell) (give.cells k within) found.1.1.low));
+        (IsLowAt-wider cell.high (sound-at k within).steps.1 found.0 (get_or demands k 0) (cell_width problem other cell)
+        (give.cells k within) found.1.1.low));
   }
 
   pub give-keep : (widths demands other : List ℕ) → NeedWidths problem widths demands → KeepHigh problem widths other →
@@ -158,7 +167,8 @@ module _ (problem : ProblemModel) (sound : IsSound problem) where
         found.1.1.least (cell_width problem other cell) (keep.cells k no_cell within found.0 found.1.0);
   }
 
-  pub give-page : (demands widths : List ℕ) → NeedLeast problem demands → WithinPage problem widths → GiveDemands problem Columns demands widths
+  pub give-page : (demands widths : List ℕ) → NeedLeast problem demands → WithinPage problem widths →
+      GiveDemands problem Columns demands widths
   give-page demands widths need page = record {
     count = page.columns;
     cells = λ k within. omega (arith, need.each k within, page.cells k no_cell within);
@@ -169,7 +179,8 @@ module _ (problem : ProblemModel) (sound : IsSound problem) where
       AreLeast (gap_of problem.style) (GiveDemands problem Columns demands) widths → WithinPage problem widths
   page-give demands widths need least =
       let fits = sound.fits in
-      let less = least-total (gap_of problem.style) (edge_of problem.style) (GiveDemands problem Columns demands) widths fits.0 least
+      let less = least-total (gap_of problem.style) (edge_of problem.style) (GiveDemands problem Columns demands)
+      widths fits.0 least
       (give-page demands fits.0 need fits.1) (least.kind.count ∙ sym fits.1.columns) in
       record {
         columns = least.kind.count;
@@ -179,14 +190,16 @@ module _ (problem : ProblemModel) (sound : IsSound problem) where
       }
 
   pub page-least : (demands widths : List ℕ) → NeedLeast problem demands →
-      AreLeast (gap_of problem.style) (GiveDemands problem Columns demands) widths → AreLeast (gap_of problem.style) (WithinPage problem) widths
+      AreLeast (gap_of problem.style) (GiveDemands problem Columns demands) widths →
+      AreLeast (gap_of problem.style) (WithinPage problem) widths
   page-least demands widths need least = record {
     kind = page-give demands widths need least;
     earliest = λ other page place within. least.earliest other (give-page demands other need page) place within;
   }
 
   -- and so are those of a tight placement
-  pub page-keep : (widths tight : List ℕ) → WithinPage problem widths → AreLeast (gap_of problem.style) (KeepHigh problem widths) tight →
+  pub page-keep : (widths tight : List ℕ) → WithinPage problem widths →
+      AreLeast (gap_of problem.style) (KeepHigh problem widths) tight →
       WithinPage problem tight
   page-keep widths tight page least =
       let less = least-total (gap_of problem.style) (edge_of problem.style) (KeepHigh problem widths) tight widths least
@@ -197,7 +210,8 @@ module _ (problem : ProblemModel) (sound : IsSound problem) where
         cells = All-from_numbers (λ cell. first_width cell.low ≤ cell_width problem tight cell) problem.cells (λ k within.
             let cell = cell_at problem.cells k in
             let is = sound-at k within in
-            let wide : first_width cell.high ≤ cell_width problem widths cell = omega (arith, is.same_least, page.cells k no_cell within) in
+            let wide : first_width cell.high ≤ cell_width problem widths cell =
+            omega (arith, is.same_least, page.cells k no_cell within) in
             let here = height-from_first cell.high is.steps.1.has_step (cell_width problem widths cell) wide in
             let low = least.kind.cells k no_cell within here.0 here.1 in
             omega (arith, is.same_least, low-first cell.high is.steps.1 here.0 (cell_width problem tight cell) low));
@@ -229,12 +243,14 @@ last-le most p o (step ∷ steps) start all =
 heights-le : (steps : List Config) → AreSteps steps → All (λ s. s.height ≤ first_height steps) steps
 heights-le [] are k d within = absurd (omega arith)
 heights-le (step ∷ steps) are zero d within = omega arith
-heights-le (step ∷ steps) are (suc k) d within = let fall = are.decreasing 0 (suc k) d (omega arith) within in omega (arith, fall.1)
+heights-le (step ∷ steps) are (suc k) d within = let fall = are.decreasing 0 (suc k) d (omega arith) within in
+    omega (arith, fall.1)
 
 pub height-le : (steps : List Config) → AreSteps steps → (w h : ℕ) → height_at steps w ≡ Some h → h ≤ first_height steps
 height-le steps are w h is = le (last_or None (filter (λ s. nat_le s.width w) steps))
     (last-le (first_height steps) (λ s. nat_le s.width w) None steps tt (heights-le steps are)) is where
-      le : (o : Option Config) → IfSome o (λ s. s.height ≤ first_height steps) → option_map (λ s. s.height) o ≡ Some h → h ≤ first_height steps
+      le : (o : Option Config) → IfSome o (λ s. s.height ≤ first_height steps) → option_map (λ s. s.height) o ≡ Some h →
+          h ≤ first_height steps
       le None small is = cc
       le (Some s) small is = let e : s.height ≡ h = cc in omega (arith, small, e)
 
@@ -243,7 +259,8 @@ module _ (problem : ProblemModel) (sound : IsSound problem) where
   high-sum widths demands need =
       let less = sum-le (λ cell. first_height cell.high) problem.cells demands need.count (λ k within.
       let cell = cell_at problem.cells k in
-      height-le cell.high (sound.cells k no_cell within).steps.1 (cell_width problem widths cell) (get_or demands k 0) (need.each k within)) in
+      height-le cell.high (sound.cells k no_cell within).steps.1 (cell_width problem widths cell) (get_or demands k 0)
+      (need.each k within)) in
       omega (arith, less, sound.low_enough)
 
   pub low-sum : (Among : List ℕ → Type 0) (demands : List ℕ) → ((widths : List ℕ) → Among widths → WithinPage problem widths) →
@@ -262,18 +279,19 @@ module _ (problem : ProblemModel) (sound : IsSound problem) where
       omega (arith, less, sound.low_enough)
 
 -- the sum of the sizes within a page
-pub sum-page : (problem : ProblemModel) → IsSound problem → (widths : List ℕ) → WithinPage problem widths → sum widths ≤ MAX_PAGE_WIDTH
-sum-page problem sound widths page = omega (arith, sum-total (gap_of problem.style) (edge_of problem.style) widths, page.page, sound.narrow)
-
--- the total of some sizes, by their sum
-pub total-sum : (gap edge : ℕ) (sizes : List ℕ) → 0 < length sizes → total gap edge sizes ≡ sum sizes + gap * (length sizes - 1) + 2 * edge
-total-sum gap edge [] some = absurd (omega arith)
-total-sum gap edge (size ∷ sizes) some = let rest : length (size ∷ sizes) - 1 ≡ length sizes = omega arith in rw rest
-    (omega (arith, sum_by-cons (λ x. x) size sizes))
+pub sum-page : (problem : ProblemModel) → IsSound problem → (widths : List ℕ) → WithinPage problem widths →
+    sum widths ≤ MAX_PAGE_WIDTH
+sum-page problem sound widths page = omega (
+  arith,
+  sum-total (gap_of problem.style) (edge_of problem.style) widths,
+  page.page,
+  sound.narrow,
+)
 
 -- ---- the last step is the lowest
 
-last-under : (p : Config → Bool) (o : Option Config) (steps : List Config) → AllPairs (λ a b. (a.width < b.width) × (b.height < a.height)) steps →
+last-under : (p : Config → Bool) (o : Option Config) (steps : List Config) →
+    AllPairs (λ a b. (a.width < b.width) × (b.height < a.height)) steps →
     All (λ s. IfSome o (λ x. s.height ≤ x.height)) steps →
     (s : Config) → last_or o (filter p steps) ≡ Some s → IfSome (last_or o steps) (λ l. l.height ≤ s.height)
 last-under p o [] decreasing under s is = rw is (omega arith)
@@ -282,9 +300,11 @@ last-under p o (step ∷ []) decreasing under s is = one (p step) is where
   one true is = let e : step ≡ s = cc in omega (arith, ap (λ x. x.height) e)
   one false is = let first = under 0 step (omega arith) in rw is at first
 last-under p o (step ∷ next ∷ steps) decreasing under s is =
-    let rest : AllPairs (λ a b. (a.width < b.width) × (b.height < a.height)) (next ∷ steps) = λ i j d before within. decreasing (suc i) (suc j) d
+    let rest : AllPairs (λ a b. (a.width < b.width) × (b.height < a.height)) (next ∷ steps) =
+    λ i j d before within. decreasing (suc i) (suc j) d
     (omega arith) (omega arith) in
-    let below : All (λ x. IfSome (Some step) (λ y. x.height ≤ y.height)) (next ∷ steps) = λ k d within. let fall = decreasing 0 (suc k) d (omega arith)
+    let below : All (λ x. IfSome (Some step) (λ y. x.height ≤ y.height)) (next ∷ steps) = λ k d within. let fall =
+    decreasing 0 (suc k) d (omega arith)
     (omega arith) in omega (arith, fall.1) in
     let later : All (λ x. IfSome o (λ y. x.height ≤ y.height)) (next ∷ steps) = λ k d within. under (suc k) d (omega arith) in
     (elim (p step) as (λ b. last_or o (cond b (step ∷ filter p (next ∷ steps)) (filter p (next ∷ steps))) ≡ Some s →
@@ -294,7 +314,8 @@ last-under p o (step ∷ next ∷ steps) decreasing under s is =
     ]) is
 
 -- a height is at least that of the last step
-pub last-lowest : (steps : List Config) → AreSteps steps → (w h : ℕ) → height_at steps w ≡ Some h → IfSome (last_or None steps) (λ last. last.height ≤ h)
+pub last-lowest : (steps : List Config) → AreSteps steps → (w h : ℕ) → height_at steps w ≡ Some h →
+    IfSome (last_or None steps) (λ last. last.height ≤ h)
 last-lowest steps are w h is = at (last_or None (filter (λ s. nat_le s.width w) steps)) refl is where
   at : (o : Option Config) → last_or None (filter (λ s. nat_le s.width w) steps) ≡ o → option_map (λ s. s.height) o ≡ Some h →
       IfSome (last_or None steps) (λ last. last.height ≤ h)
@@ -321,7 +342,8 @@ width-found (x ∷ steps) are w h is (Some v) never = refl
 
 -- ---- lists that grow
 
-pub upto-push : (P : ℕ → ℕ → Type 0) (xs : List ℕ) (x n : ℕ) → length xs ≡ n → ((k : ℕ) → k < n → P k (get_or xs k 0)) → P n x → (k : ℕ) → k < n + 1 →
+pub upto-push : (P : ℕ → ℕ → Type 0) (xs : List ℕ) (x n : ℕ) → length xs ≡ n → ((k : ℕ) → k < n → P k (get_or xs k 0)) → P n x →
+    (k : ℕ) → k < n + 1 →
     P k (get_or (xs ++ x ∷ []) k 0)
 upto-push P xs x n count each one k below =
     elim (cases_eq k n) [
@@ -331,32 +353,14 @@ upto-push P xs x n count each one k below =
           rw (get_or_append_left xs (x ∷ []) 0 k before) (each k (omega arith))
     ]
 
-pub upto-set : (P : ℕ → ℕ → Type 0) (xs : List ℕ) (x n : ℕ) → n < length xs → ((k : ℕ) → k < n → P k (get_or xs k 0)) → P n x → (k : ℕ) → k < n + 1 →
+pub upto-set : (P : ℕ → ℕ → Type 0) (xs : List ℕ) (x n : ℕ) → n < length xs → ((k : ℕ) → k < n → P k (get_or xs k 0)) → P n x →
+    (k : ℕ) → k < n + 1 →
     P k (get_or (set xs n x) k 0)
 upto-set P xs x n inside each one k below =
     elim (cases_eq k n) [
       | inl same ↦ rw same (subst (P n) (sym (get_or-set_same xs n x 0 inside)) one)
       | inr apart ↦ subst (P k) (sym (get_or-set_other xs n k x 0 apart)) (each k (omega arith))
     ]
-
--- the sum of a span of sizes is at most that of all
-pub sum-range : (sizes : List ℕ) (from past : ℕ) → sum (slice_range sizes from past) ≤ sum sizes
-sum-range sizes from past =
-    let inner = sum_by-take-le (λ x. x) (drop from sizes) (past - from) in
-    let whole = sum_by-take-drop (λ x. x) sizes from in
-    omega (arith, inner, whole)
-
--- sizes of 32 bits do not sum to much
-pub sum-bound : (sizes : List ℕ) → ((k : ℕ) → get_or sizes k 0 < 2 ^ 32) → sum sizes ≤ length sizes * (2 ^ 32 - 1)
-sum-bound sizes fit = sum_by-le (λ x. x) (2 ^ 32 - 1) sizes (λ k d within. omega (arith, get_or_default sizes k d 0 within, fit k))
-
--- the total height of few rows is little more than the sum
-pub total-few : (style : Style) (heights : List ℕ) → length heights ≤ MAX_ROWS + 1 →
-    total (row_gap_of style) (edge_of style) heights ≤ sum heights + (MAX_ROWS + 3)
-total-few Plain [] few = omega arith
-total-few Frame [] few = omega arith
-total-few Plain (h ∷ heights) few = omega (arith, sum_by-cons (λ x. x) h heights)
-total-few Frame (h ∷ heights) few = omega (arith, sum_by-cons (λ x. x) h heights)
 
 -- ---- demands on columns are small
 
@@ -391,6 +395,7 @@ module _ (problem : ProblemModel) (sound : IsSound problem) where
       let inside : k < length problem.cells = omega (arith, need.count) in
       let found = need.each k inside in
       let cell = cell_at problem.cells k in
-      let less = found.1.1.least (cell_width problem widths cell) (IsLowAt-from cell.high found.0 (cell_width problem widths cell) found.1.0) in
+      let less = found.1.1.least (cell_width problem widths cell)
+      (IsLowAt-from cell.high found.0 (cell_width problem widths cell) found.1.0) in
       omega (arith, less, room-most widths page k inside)) in
       omega (arith, all, need.count, few-cells problem sound)

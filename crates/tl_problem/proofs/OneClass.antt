@@ -1,5 +1,6 @@
 -- In a zone of one class for each span, where `low` and `high` agree, every placement has the zone's bound as its height.
-use Rattle.std.proofs.Common.{◌≡◌, ℕ, ◌+◌, ◌<◌, ◌≤◌, zero, suc, List, ◌⊎◌, inl, inr, length, get_or, Option, Some, None, refl, sym, ap, ◌∙◌, subst, arith}
+use Rattle.std.proofs.Common.{◌≡◌, ℕ, ◌+◌, ◌<◌, ◌≤◌, zero, suc, List, ◌⊎◌, inl, inr, length, get_or, Option, Some, None, refl}
+use Rattle.std.proofs.Common.{sym, ap, ◌∙◌, subst, arith}
 use Rattle.std.specs.List.{All, Contains}
 use Rattle.std.specs.Option.{IsSomeAnd}
 use Rattle.std.proofs.lemmas.Bool.{cases_lt}
@@ -10,7 +11,7 @@ use Rattle.tl_base.specs.declared.steps.Config.{Config}
 use Rattle.tl_base.specs.Steps.{height_at, IsLowAt}
 use Rattle.tl_problem.specs.declared.cell.Cell.{Cell}
 use Rattle.tl_problem.specs.declared.zone.Range.{Range}
-use Rattle.tl_problem.specs.Sizes.{room}
+use Rattle.tl_base.specs.Sizes.{room}
 use Rattle.tl_problem.specs.Problem.{ProblemModel, total_height, cell_width, cell_height}
 use Rattle.tl_problem.specs.Layouts.{GiveHigh}
 use Rattle.tl_problem.specs.Sound.{IsSound}
@@ -59,10 +60,12 @@ span-number problem sound cell has =
     let found = spans-Contains problem sound cell has in
     (found.0, found.1, get_or_default (spans_of problem) found.0 (span 0 0) (span cell.left cell.right) found.1 ∙ found.2)
 
-module _ (problem : ProblemModel) (sound : IsSound problem) (zone : List Range) (is : IsZone problem zone) (one : HasOneClass zone)
+module _ (problem : ProblemModel) (sound : IsSound problem) (zone : List Range) (is : IsZone problem zone)
+    (one : HasOneClass zone)
     (agree : AgreeIn problem zone) where
   -- heights that give each cell its `low` at the greatest room give it its `high` at each room in the zone
-  pub high-from_greatest : (widths heights : List ℕ) → InZone problem zone widths → GiveLow problem (InZone problem zone) heights →
+  pub high-from_greatest : (widths heights : List ℕ) → InZone problem zone widths →
+      GiveLow problem (InZone problem zone) heights →
       GiveHigh problem widths heights
   high-from_greatest widths heights inside give = record { rows = give.rows; cells = enough } where
     enough : All (λ cell. IsLowAt cell.high (cell_height problem heights cell) (cell_width problem widths cell)) problem.cells
@@ -83,7 +86,8 @@ module _ (problem : ProblemModel) (sound : IsSound problem) (zone : List Range) 
         elim (IsLowAt-decides cell.high h v) [
           | inl low ↦ low
           | inr high ↦ absurd (greatest-not_none problem (InZone problem zone) cell.left cell.right (page_room problem)
-              (λ ws among. room-in_page problem ws among.page cell.left cell.right (sound.cells k d within).columns.0 (sound.cells k d within).columns.1)
+              (λ ws among. room-in_page problem ws among.page cell.left cell.right (sound.cells k d within).columns.0
+              (sound.cells k d within).columns.1)
               (λ w greatest. high (
               let some = greatest.attained in
               let there_too = some.1.ranges s there in
@@ -92,7 +96,8 @@ module _ (problem : ProblemModel) (sound : IsSound problem) (zone : List Range) 
               (omega (arith, here.0, width_is widths, from)) (omega (arith, there_too.1, width_is some.0, some.2)) in
               let low = IsLowAt-same cell.low h w v (sym unchanged) (give.cells k d within w greatest) in
               subst (λ o. IsSomeAnd o (λ height. height ≤ h))
-              (agree s v cell there (omega (arith, here.0, width_is widths), omega (arith, here.1, width_is widths)) has same) low))
+              (agree s v cell there (omega (arith, here.0, width_is widths), omega (arith, here.1, width_is widths)) has same)
+              low))
               widths inside)
         ]
 
@@ -104,6 +109,7 @@ module _ (problem : ProblemModel) (sound : IsSound problem) (zone : List Range) 
       (record { page = inside.page; enough = low-from_high problem sound widths heights least.kind }) in
       let rows = bounds.least.attained in
       let enough = high-from_greatest widths rows.0 inside rows.1 in
-      let above = least-total (row_gap_of problem.style) (edge_of problem.style) (GiveHigh problem widths) heights rows.0 least enough
+      let above = least-total (row_gap_of problem.style) (edge_of problem.style) (GiveHigh problem widths)
+      heights rows.0 least enough
       (least.kind.rows ∙ sym rows.1.rows) in
       omega (arith, below, above, rows.2)

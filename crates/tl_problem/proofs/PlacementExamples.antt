@@ -7,7 +7,7 @@ use Rattle.std.proofs.lemmas.List.Elements.{All-from_recursion}
 use Rattle.tl_base.specs.Steps.{height_at, IsLowAt}
 use Rattle.tl_problem.specs.declared.cell.Cell.{Cell}
 use Rattle.tl_problem.specs.declared.placed.Placed.{Placed}
-use Rattle.tl_problem.specs.Sizes.{position, room}
+use Rattle.tl_base.specs.Sizes.{position, room}
 use Rattle.tl_problem.specs.Problem.{cell_width, cell_height}
 use Rattle.tl_problem.specs.Layouts.{WithinPage, GiveHigh}
 use Rattle.tl_problem.specs.Placements.{AreLeast, IsOpening}
@@ -28,7 +28,8 @@ two-least gap OfKind first second kind each = record {
   earliest = λ other also place inside. let facts = each other also in
       at other facts.0 facts.1.0 facts.1.1 place inside;
 } where
-  at : (other : List ℕ) → length other ≡ 2 → first ≤ room gap other 0 1 → first + second ≤ room gap other 0 1 + room gap other 1 2 → (place : ℕ) →
+  at : (other : List ℕ) → length other ≡ 2 → first ≤ room gap other 0 1 →
+      first + second ≤ room gap other 0 1 + room gap other 1 2 → (place : ℕ) →
       place ≤ 2 → position gap (first ∷ second ∷ []) place ≤ position gap other place
   at [] two one both place inside = absurd (omega arith)
   at (a ∷ []) two one both place inside = absurd (omega arith)
@@ -43,7 +44,8 @@ line-needs : (w width h : ℕ) → width ≤ w → IsLowAt (step width 1 ∷ [])
 line-needs w width h wider low = rw (test_le width w wider) at low
 
 -- the heights that are least under some widths, where the wide cell needs so many lines
-rows-least : (widths : List ℕ) (need : ℕ) → (height_at wide.high (room 2 widths 0 2) ≡ Some need) → 1 ≤ room 2 widths 0 1 → 2 ≤ room 2 widths 1 2 →
+rows-least : (widths : List ℕ) (need : ℕ) → (height_at wide.high (room 2 widths 0 2) ≡ Some need) → 1 ≤ room 2 widths 0 1 →
+    2 ≤ room 2 widths 1 2 →
     AreLeast 0 (GiveHigh problem widths) (need ∷ 1 ∷ [])
 rows-least widths need is first second =
     two-least 0 (GiveHigh problem widths) need 1
@@ -55,8 +57,10 @@ rows-least widths need is first second =
       );
     })
     (λ heights give.
-    let tall = subst (λ o. IsSomeAnd o (λ height. height ≤ cell_height problem heights wide)) is (give.cells 0 wide (omega arith)) in
-    let line = line-needs (room 2 widths 0 1) 1 (cell_height problem heights (cell 0 1 1 2 [])) first (give.cells 1 wide (omega arith)) in
+    let tall = subst (λ o. IsSomeAnd o (λ height. height ≤ cell_height problem heights wide)) is
+    (give.cells 0 wide (omega arith)) in
+    let line = line-needs (room 2 widths 0 1) 1 (cell_height problem heights (cell 0 1 1 2 [])) first
+    (give.cells 1 wide (omega arith)) in
     (give.rows, (omega (arith, tall), omega (arith, tall, line)))) where
       Given : Cell → Type 0
       Given c = IsLowAt c.high (cell_height problem (need ∷ 1 ∷ []) c) (cell_width problem widths c)
@@ -113,7 +117,8 @@ tight = record {
   };
 } where
   Keeps : Cell → Type 0
-  Keeps c = (h : ℕ) → height_at c.high (cell_width problem (1 ∷ 6 ∷ []) c) ≡ Some h → IsLowAt c.high h (cell_width problem (1 ∷ 4 ∷ []) c)
+  Keeps c = (h : ℕ) → height_at c.high (cell_width problem (1 ∷ 6 ∷ []) c) ≡ Some h →
+      IsLowAt c.high h (cell_width problem (1 ∷ 4 ∷ []) c)
 
   kept : (need h : ℕ) → Some need ≡ Some h → need ≤ h
   kept need h is = let same : need ≡ h = cc in omega (arith, same)

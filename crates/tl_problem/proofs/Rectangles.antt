@@ -1,6 +1,7 @@
 -- Rectangles on a grid that share no slot: their areas together are at most the area of the grid. A slot is as wide as
 -- the places of its column's two sides are apart, and as high as those of its row's.
-use Rattle.std.proofs.Common.{◌≡◌, ℕ, ◌+◌, ◌-◌, ◌*◌, ◌<◌, ◌≤◌, zero, suc, cond, ◌&&◌, nat_le, nat_lt, List, [], ◌∷◌, ◌⊎◌, inl, inr, refl, ap, ◌∙◌, arith}
+use Rattle.std.proofs.Common.{◌≡◌, ℕ, ◌+◌, ◌-◌, ◌*◌, ◌<◌, ◌≤◌, zero, suc, cond, ◌&&◌, nat_le, nat_lt, List, [], ◌∷◌, ◌⊎◌, inl}
+use Rattle.std.proofs.Common.{inr, refl, ap, ◌∙◌, arith}
 use Rattle.std.specs.List.{All, AllPairs, sum_by}
 use Rattle.std.proofs.lemmas.Bool.{cases_lt}
 use Rattle.std.proofs.lemmas.Bool.Decides.{nat_tests}
@@ -122,13 +123,17 @@ module _ {X : Type 0} (left right top bottom : X → ℕ) where
   covers row column x = inside (top x) (bottom x) row * inside (left x) (right x) column
 
   covers-cases : (row column : ℕ) (x : X) →
-      (covers row column x ≡ 0) ⊎ ((covers row column x ≡ 1) × (((left x ≤ column) × (column < right x)) × ((top x ≤ row) × (row < bottom x))))
+      (covers row column x ≡ 0) ⊎ ((covers row column x ≡ 1) ×
+      (((left x ≤ column) × (column < right x)) × ((top x ≤ row) × (row < bottom x))))
   covers-cases row column x =
       elim (inside-cases (top x) (bottom x) row) [
         | inl none ↦ inl (ap (λ i. i * inside (left x) (right x) column) none ∙ omega arith)
         | inr (one, rows) ↦ elim (inside-cases (left x) (right x) column) [
           | inl none ↦ inl (ap (λ i. inside (top x) (bottom x) row * i) none ∙ omega arith)
-          | inr (other, columns) ↦ inr (ap (λ i. i * inside (left x) (right x) column) one ∙ omega (arith, other), (columns, rows))
+          | inr (other, columns) ↦ inr (
+            ap (λ i. i * inside (left x) (right x) column) one ∙ omega (arith, other),
+            (columns, rows),
+          )
         ]
       ] where
         inside-cases : (from past n : ℕ) → (inside from past n ≡ 0) ⊎ ((inside from past n ≡ 1) × ((from ≤ n) × (n < past)))
@@ -142,7 +147,8 @@ module _ {X : Type 0} (left right top bottom : X → ℕ) where
             ]
 
   -- no rectangle that shares no slot with one that covers the slot covers it
-  others-none : (row column : ℕ) (x : X) (xs : List X) → ((left x ≤ column) × (column < right x)) × ((top x ≤ row) × (row < bottom x)) →
+  others-none : (row column : ℕ) (x : X) (xs : List X) → ((left x ≤ column) × (column < right x)) ×
+      ((top x ≤ row) × (row < bottom x)) →
       All (λ y. Share x y → ⊥) xs → sum_by (covers row column) xs ≡ 0
   others-none row column x [] here apart = refl
   others-none row column x (y ∷ ys) here apart =
@@ -156,7 +162,12 @@ module _ {X : Type 0} (left right top bottom : X → ℕ) where
   one_covers row column [] apart = omega arith
   one_covers row column (x ∷ xs) apart =
       elim (covers-cases row column x) [
-        | inl none ↦ omega (arith, sum_by-cons (covers row column) x xs, none, one_covers row column xs (AllPairs-tail (λ a b. Share a b → ⊥) x xs apart))
+        | inl none ↦ omega (
+          arith,
+          sum_by-cons (covers row column) x xs,
+          none,
+          one_covers row column xs (AllPairs-tail (λ a b. Share a b → ⊥) x xs apart),
+        )
         | inr (one, here) ↦ omega (
           arith,
           sum_by-cons (covers row column) x xs,
@@ -169,13 +180,17 @@ module _ {X : Type 0} (left right top bottom : X → ℕ) where
   module _ (x_at y_at : ℕ → ℕ) (x_rising : (n : ℕ) → x_at n ≤ x_at (n + 1)) (y_rising : (n : ℕ) →
       y_at n ≤ y_at (n + 1)) (x_starts : x_at 0 ≡ 0) (y_starts : y_at 0 ≡ 0) where
     pub areas-within : (xs : List X) (columns rows : ℕ) → AllPairs (λ a b. Share a b → ⊥) xs →
-        sum_by (λ x. amount x_at x_rising (left x) (right x) columns * amount y_at y_rising (top x) (bottom x) rows) xs ≤ x_at columns * y_at rows
+        sum_by (λ x. amount x_at x_rising (left x) (right x) columns * amount y_at y_rising (top x) (bottom x) rows)
+        xs ≤ x_at columns * y_at rows
     areas-within xs columns rows apart =
-        let each = weighted y_at y_rising top bottom (λ x. amount x_at x_rising (left x) (right x) columns) (x_at columns) xs rows row_load in
+        let each = weighted y_at y_rising top bottom (λ x. amount x_at x_rising (left x) (right x) columns) (x_at columns)
+        xs rows row_load in
         omega (arith, each) where
-          row_load : (row : ℕ) → row < rows → sum_by (λ x. amount x_at x_rising (left x) (right x) columns * inside (top x) (bottom x) row) xs ≤ x_at columns
+          row_load : (row : ℕ) → row < rows →
+              sum_by (λ x. amount x_at x_rising (left x) (right x) columns * inside (top x) (bottom x) row) xs ≤ x_at columns
           row_load row before =
-              let one = weighted x_at x_rising left right (λ x. inside (top x) (bottom x) row) 1 xs columns (λ column within. one_covers row column xs apart) in
+              let one = weighted x_at x_rising left right (λ x. inside (top x) (bottom x) row) 1 xs columns
+              (λ column within. one_covers row column xs apart) in
               let turned = sum_by-same (λ x. amount x_at x_rising (left x) (right x) columns * inside (top x) (bottom x) row)
               (λ x. inside (top x) (bottom x) row * amount x_at x_rising (left x) (right x) columns) xs
               (λ x. turn (amount x_at x_rising (left x) (right x) columns) (inside (top x) (bottom x) row)) in

@@ -19,7 +19,8 @@ use Rattle.tl_problem.proofs.ZoneLaws.{whole-all}
 
 -- ---- two sets with the same widths
 
-module _ (problem : ProblemModel) (A B : List ℕ → Type 0) (there : (widths : List ℕ) → A widths → B widths) (back : (widths : List ℕ) → B widths →
+module _ (problem : ProblemModel) (A B : List ℕ → Type 0) (there : (widths : List ℕ) → A widths →
+    B widths) (back : (widths : List ℕ) → B widths →
     A widths) where
   greatest_room-same : (left right w : ℕ) → IsGreatestRoom problem A left right w → IsGreatestRoom problem B left right w
   greatest_room-same left right w is = record {
@@ -28,17 +29,27 @@ module _ (problem : ProblemModel) (A B : List ℕ → Type 0) (there : (widths :
   }
 
   least-same : (gap : ℕ) (sizes : List ℕ) → AreLeast gap A sizes → AreLeast gap B sizes
-  least-same gap sizes is = record { kind = there sizes is.kind; earliest = λ other among place within. is.earliest other (back other among) place within }
+  least-same gap sizes is = record {
+    kind = there sizes is.kind;
+    earliest =
+        λ other among place within. is.earliest other (back other among) place within;
+  }
 
   pub placement-same : (placed : Placed) → IsPlacementIn problem A placed → IsPlacementIn problem B placed
-  placement-same placed is = record { columns = least-same (gap_of problem.style) placed.widths is.columns; placement = is.placement }
+  placement-same placed is = record {
+    columns = least-same (gap_of problem.style) placed.widths is.columns;
+    placement =
+        is.placement;
+  }
 
-module _ (problem : ProblemModel) (A B : List ℕ → Type 0) (there : (widths : List ℕ) → A widths → B widths) (back : (widths : List ℕ) → B widths →
+module _ (problem : ProblemModel) (A B : List ℕ → Type 0) (there : (widths : List ℕ) → A widths →
+    B widths) (back : (widths : List ℕ) → B widths →
     A widths) where
   give_low-same : (heights : List ℕ) → GiveLow problem A heights → GiveLow problem B heights
   give_low-same heights give = record {
     rows = give.rows;
-    cells = λ k d within w greatest. give.cells k d within w (greatest_room-same problem B A back there (get_or problem.cells k d).left
+    cells = λ k d within w greatest. give.cells k d within w
+        (greatest_room-same problem B A back there (get_or problem.cells k d).left
         (get_or problem.cells k d).right w greatest);
   }
 
@@ -48,24 +59,36 @@ module _ (problem : ProblemModel) (A B : List ℕ → Type 0) (there : (widths :
     no_less = (is.no_less.0, there is.no_less.0 is.no_less.1, is.no_less.2);
   }
 
-module _ (problem : ProblemModel) (A B : List ℕ → Type 0) (there : (widths : List ℕ) → A widths → B widths) (back : (widths : List ℕ) → B widths →
+module _ (problem : ProblemModel) (A B : List ℕ → Type 0) (there : (widths : List ℕ) → A widths →
+    B widths) (back : (widths : List ℕ) → B widths →
     A widths) where
   pub bound-same : (bound : ℕ) → IsBound problem A bound → IsBound problem B bound
   bound-same bound is = record {
     some = (is.some.0, there is.some.0 is.some.1);
     least = record {
-      attained = (is.least.attained.0, give_low-same problem A B there back is.least.attained.0 is.least.attained.1, is.least.attained.2);
+      attained = (
+        is.least.attained.0,
+        give_low-same problem A B there back is.least.attained.0 is.least.attained.1,
+        is.least.attained.2,
+      );
       never_less = λ heights give. is.least.never_less heights (give_low-same problem B A back there heights give);
     };
   }
 
   least_area-same : (cell : Cell) (n : ℕ) → IsLeastArea problem A cell n → IsLeastArea problem B cell n
   least_area-same cell n is = record {
-    attained = (is.attained.0, is.attained.1, between-same problem A B there back cell is.attained.0 is.attained.2, is.attained.3, is.attained.4);
+    attained = (
+      is.attained.0,
+      is.attained.1,
+      between-same problem A B there back cell is.attained.0 is.attained.2,
+      is.attained.3,
+      is.attained.4,
+    );
     never_less = λ w h between at. is.never_less w h (between-same problem B A back there cell w between) at;
   }
 
-  areas-same : (cells : List Cell) (ns : List ℕ) → AllZip (IsLeastArea problem A) cells ns → AllZip (IsLeastArea problem B) cells ns
+  areas-same : (cells : List Cell) (ns : List ℕ) → AllZip (IsLeastArea problem A) cells ns →
+      AllZip (IsLeastArea problem B) cells ns
   areas-same [] [] zip = zip
   areas-same [] (n ∷ ns) zip = zip
   areas-same (cell ∷ cells) [] zip = zip
@@ -95,7 +118,8 @@ module _ (problem : ProblemModel) (A B : List ℕ → Type 0) (there : (widths :
     );
   }
 
-module _ (problem : ProblemModel) (A B : List ℕ → Type 0) (there : (widths : List ℕ) → A widths → B widths) (back : (widths : List ℕ) → B widths →
+module _ (problem : ProblemModel) (A B : List ℕ → Type 0) (there : (widths : List ℕ) → A widths →
+    B widths) (back : (widths : List ℕ) → B widths →
     A widths) where
   -- a bound that was found, or none as there are no widths
   pub found_bound-same : (found : Option ℕ) → MatchOption found (HasNoWidths A) (IsBound problem A) →
@@ -132,11 +156,13 @@ module _ (problem : ProblemModel) (sound : IsSound problem) (A B : List ℕ → 
         elim (IsLowAt-decides cell.low h w) [
           | inl low ↦ low
           | inr high ↦ absurd (greatest-not_none problem A cell.left cell.right (page_room problem)
-              (λ ws also. room-in_page problem ws (page ws also) cell.left cell.right (sound.cells k d inside).columns.0 (sound.cells k d inside).columns.1)
+              (λ ws also. room-in_page problem ws (page ws also) cell.left cell.right (sound.cells k d inside).columns.0
+              (sound.cells k d inside).columns.1)
               (λ v narrower. high (
               let some = narrower.attained in
               let wider = greatest.never_more some.0 (within some.0 some.1) in
-              IsLowAt-wider cell.low (sound.cells k d inside).steps.0 h v w (omega (arith, wider, some.2)) (give.cells k d inside v narrower)))
+              IsLowAt-wider cell.low (sound.cells k d inside).steps.0 h v w (omega (arith, wider, some.2))
+              (give.cells k d inside v narrower)))
               widths among)
         ];
   }

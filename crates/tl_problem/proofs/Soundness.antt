@@ -1,6 +1,7 @@
 -- The test for a sound problem: `low` is nowhere above `high` if it is not where the steps of `high` begin, and the least
 -- places of the columns tell whether some widths are within the page.
-use Rattle.std.proofs.Common.{◌≡◌, ℕ, ◌+◌, ◌-◌, ◌*◌, ◌<◌, ◌≤◌, zero, suc, List, [], ◌∷◌, inl, inr, max, length, get_or, set, refl, sym, ap, ◌∙◌, arith}
+use Rattle.std.proofs.Common.{◌≡◌, ℕ, ◌+◌, ◌-◌, ◌*◌, ◌<◌, ◌≤◌, zero, suc, List, [], ◌∷◌, inl, inr, max, length, get_or, set, refl}
+use Rattle.std.proofs.Common.{sym, ap, ◌∙◌, arith}
 use Rattle.std.specs.List.{All}
 use Rattle.std.proofs.lemmas.Bool.{cases_eq, cases_lt}
 use Rattle.std.proofs.lemmas.List.{get_or-set_same, get_or-set_other}
@@ -9,7 +10,7 @@ use Rattle.tl_base.specs.declared.style.Style.{Style}
 use Rattle.tl_base.specs.declared.steps.Config.{Config}
 use Rattle.tl_base.specs.Steps.{AreSteps, first_width, height_at, IsLowAt}
 use Rattle.tl_problem.specs.declared.cell.Cell.{Cell}
-use Rattle.tl_problem.specs.Sizes.{position}
+use Rattle.tl_base.specs.Sizes.{position}
 use Rattle.tl_problem.specs.Problem.{ProblemModel, cell_width}
 use Rattle.tl_problem.specs.Layouts.{WithinPage}
 use Rattle.tl_problem.specs.inner.Demands.{cell_at, rises, no_cell}
@@ -20,7 +21,7 @@ use Rattle.tl_problem.proofs.AreaSteps.{height-at-step, height-between}
 use Rattle.tl_problem.proofs.DemandLemmas.{rises-length, rises-sum}
 use Rattle.tl_problem.proofs.Heights.{IsLowAt-from, IsLowAt-higher, IsLowAt-wider, height-from_low}
 use Rattle.tl_problem.proofs.NeedLemmas.{All-from_numbers, low-first}
-use Rattle.tl_problem.proofs.SizeLaws.{total-position, room-position, position-mono, position-gap}
+use Rattle.tl_base.proofs.SizeLaws.{total-position, room-position, position-mono, position-gap}
 
 -- ---- `low` nowhere above `high`
 
@@ -29,12 +30,14 @@ first_width-at [] some = absurd (omega arith)
 first_width-at (step ∷ steps) some = refl
 
 module _ (low high : List Config) (low_steps : AreSteps low) (high_steps : AreSteps high) where
-  pub nowhere_above-at : IsNowhereAbove low high → (k : ℕ) → k < length high → IsLowAt low (step_at high k).height (step_at high k).width
+  pub nowhere_above-at : IsNowhereAbove low high → (k : ℕ) → k < length high →
+      IsLowAt low (step_at high k).height (step_at high k).width
   nowhere_above-at above k within =
       let step = step_at high k in
       above step.height step.width (IsLowAt-from high step.height step.width (height-at-step high high_steps k within))
 
-  pub nowhere_above-from : ((k : ℕ) → k < length high → IsLowAt low (step_at high k).height (step_at high k).width) → IsNowhereAbove low high
+  pub nowhere_above-from : ((k : ℕ) → k < length high → IsLowAt low (step_at high k).height (step_at high k).width) →
+      IsNowhereAbove low high
   nowhere_above-from each = λ h w is.
       let found = height-from_low high h w is in
       let from = low-first high high_steps h w is in
@@ -45,7 +48,8 @@ module _ (low high : List Config) (low_steps : AreSteps low) (high_steps : AreSt
             let same = ap (height_at high) first ∙ at in
             let height : (step_at high 0).height ≡ found.0 = let both = sym same ∙ start in cc in
             IsLowAt-higher low (step_at high 0).height h w (omega (arith, height, found.2))
-            (IsLowAt-wider low low_steps (step_at high 0).height (step_at high 0).width w (omega (arith, first, from)) (each 0 high_steps.has_step))
+            (IsLowAt-wider low low_steps (step_at high 0).height (step_at high 0).width w (omega (arith, first, from))
+            (each 0 high_steps.has_step))
         | inr later ↦
             let step = step_at high later.0 in
             IsLowAt-higher low step.height h w (omega (arith, later.1.1.1.1, found.2))
@@ -57,7 +61,8 @@ module _ (low high : List Config) (low_steps : AreSteps low) (high_steps : AreSt
 -- widths that give each cell its least width
 abbrev GiveLeast : ℕ → List Cell → List ℕ → Type 0
 GiveLeast gap cells widths = (k : ℕ) → k < length cells →
-    position gap widths (cell_at cells k).left + first_width (cell_at cells k).low + gap ≤ position gap widths (cell_at cells k).right
+    position gap widths (cell_at cells k).left + first_width (cell_at cells k).low + gap ≤ position gap widths
+    (cell_at cells k).right
 
 module _ (cols : ℕ) (gap : ℕ) (cells : List Cell) (inside : All (IsInGrid cols) cells) where
   pub least_places-none : (places : List ℕ) → get_or places 0 0 ≡ 0 → AreLeastPlaces gap cells 0 places
@@ -119,7 +124,8 @@ module _ (cols : ℕ) (gap : ℕ) (cells : List Cell) (inside : All (IsInGrid co
 
 -- ---- the place of the next column, one cell after another
 
-module _ (gap : ℕ) (cells : List Cell) (number : ℕ) (places : List ℕ) (column place : ℕ) (next : IsNextPlace gap cells number places column place) where
+module _ (gap : ℕ) (cells : List Cell) (number : ℕ) (places : List ℕ) (column place : ℕ)
+    (next : IsNextPlace gap cells number places column place) where
   abbrev cell : Cell
   cell = cell_at cells number
 
@@ -208,7 +214,8 @@ module _ (cols : ℕ) (style : Style) (width : ℕ) (cells : List Cell) (inside 
         let before = enough k (omega arith) in
         let step = are.gaps k (omega arith) in
         let product : gap * suc k ≡ gap * k + gap = grind arith in
-        let next : get_or places (k + 1) 0 ≡ get_or places (suc k) 0 = ap (λ p. get_or places p 0) (let e : k + 1 ≡ suc k = omega arith in e) in
+        let next : get_or places (k + 1) 0 ≡ get_or places (suc k) 0 =
+        ap (λ p. get_or places p 0) (let e : k + 1 ≡ suc k = omega arith in e) in
         omega (arith, before, step, product, next)
 
     rising : (k : ℕ) → k < cols → bare k ≤ bare (k + 1)

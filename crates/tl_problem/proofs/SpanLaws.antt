@@ -1,5 +1,6 @@
 -- The spans of a problem in their order, and the classes of a span: where they begin, and that no height changes within.
-use Rattle.std.proofs.Common.{◌≡◌, ℕ, ◌+◌, ◌-◌, ◌<◌, ◌≤◌, true, nat_eq, List, [], ◌∷◌, ◌++◌, ◌⊎◌, inl, inr, length, map, get_or, filter, refl, sym}
+use Rattle.std.proofs.Common.{◌≡◌, ℕ, ◌+◌, ◌-◌, ◌<◌, ◌≤◌, true, nat_eq, List, [], ◌∷◌, ◌++◌, ◌⊎◌, inl, inr, length, map, get_or}
+use Rattle.std.proofs.Common.{filter, refl, sym}
 use Rattle.std.proofs.Common.{ap, ◌∙◌, subst, arith}
 use Rattle.std.specs.List.{AllPairs, Contains, list_any, range_with_len}
 use Rattle.std.proofs.lemmas.Bool.{cases_lt, eqb-true, eq-eqb, and_parts, and_from}
@@ -9,19 +10,22 @@ use Rattle.std.proofs.lemmas.List.Folds.{Any-from_list_any, list_any_at}
 use Rattle.tl_base.specs.Style.{gap_of, edge_of}
 use Rattle.tl_base.specs.declared.steps.Config.{Config}
 use Rattle.tl_base.specs.Steps.{first_width, height_at}
-use Rattle.tl_base.proofs.Members.{All-from_Contains, Contains-first, Contains-later, Contains-cases, Contains-filter, filter-Contains, Contains-map}
-use Rattle.tl_base.proofs.Members.{map-Contains, Contains-flat_map, Contains-range, range-Contains, AllPairs-cons, AllPairs-filter, AllPairs-map}
+use Rattle.tl_base.proofs.Members.{All-from_Contains, Contains-first, Contains-later, Contains-cases, Contains-filter}
+use Rattle.tl_base.proofs.Members.{filter-Contains, Contains-map}
+use Rattle.tl_base.proofs.Members.{map-Contains, Contains-flat_map, Contains-range, range-Contains, AllPairs-cons}
+use Rattle.tl_base.proofs.Members.{AllPairs-filter, AllPairs-map}
 use Rattle.tl_base.proofs.Members.{AllPairs-flat_map, AllPairs-range, same-ordered}
 use Rattle.tl_problem.specs.declared.cell.Cell.{Cell}
 use Rattle.tl_problem.specs.declared.cell.Span.{Span}
-use Rattle.tl_problem.specs.Sizes.{room}
+use Rattle.tl_base.specs.Sizes.{room}
 use Rattle.tl_problem.specs.Problem.{ProblemModel, cell_width}
 use Rattle.tl_problem.specs.Layouts.{WithinPage}
 use Rattle.tl_problem.specs.Sound.{IsSound, IsSoundCell}
-use Rattle.tl_problem.specs.Spans.{span, has_span, all_spans, spans_of, greatest, cells_of, least_width, page_room, begins_step, classes_of}
+use Rattle.tl_problem.specs.Spans.{span, has_span, all_spans, spans_of, greatest, cells_of, least_width, page_room, begins_step}
+use Rattle.tl_problem.specs.Spans.{classes_of}
 use Rattle.tl_problem.specs.Zones.{span_at, classes_at, first_in_class, last_in_class}
 use Rattle.tl_problem.proofs.Heights.{height-same}
-use Rattle.tl_problem.proofs.SizeLaws.{total-position, room-position, position-mono}
+use Rattle.tl_base.proofs.SizeLaws.{total-position, room-position, position-mono}
 use Rattle.tl_problem.specs.inner.Spanning.{IsEarlier}
 
 -- ---- spans, by left, then right
@@ -33,18 +37,21 @@ before-strict a b (inr same) (inl more) = omega arith
 before-strict a b (inr same) (inr alike) = omega arith
 
 -- the cell has the span where its columns are the span's
-pub has_span-parts : (columns : Span) (cell : Cell) → has_span columns cell ≡ true → (cell.left ≡ columns.left) × (cell.right ≡ columns.right)
+pub has_span-parts : (columns : Span) (cell : Cell) → has_span columns cell ≡ true →
+    (cell.left ≡ columns.left) × (cell.right ≡ columns.right)
 has_span-parts columns cell has =
     let parts = and_parts (nat_eq cell.left columns.left) (nat_eq cell.right columns.right) has in
     (eqb-true cell.left columns.left parts.0, eqb-true cell.right columns.right parts.1)
 
-pub has_span-from : (columns : Span) (cell : Cell) → cell.left ≡ columns.left → cell.right ≡ columns.right → has_span columns cell ≡ true
+pub has_span-from : (columns : Span) (cell : Cell) → cell.left ≡ columns.left → cell.right ≡ columns.right →
+    has_span columns cell ≡ true
 has_span-from columns cell left right = and_from (nat_eq cell.left columns.left) (nat_eq cell.right columns.right)
     (eq-eqb cell.left columns.left left) (eq-eqb cell.right columns.right right)
 
 all_spans-ordered : (cols : ℕ) → AllPairs IsEarlier (all_spans cols)
 all_spans-ordered cols =
-    AllPairs-flat_map IsEarlier (λ a b. a < b) (λ left. map (span left) (range_with_len (left + 1) (cols - left))) (range_with_len 0 cols)
+    AllPairs-flat_map IsEarlier (λ a b. a < b) (λ left. map (span left) (range_with_len (left + 1) (cols - left)))
+    (range_with_len 0 cols)
     (AllPairs-range 0 cols)
     (λ left. AllPairs-map IsEarlier (span left) (range_with_len (left + 1) (cols - left))
     (λ i j d before within. inr (refl, AllPairs-range (left + 1) (cols - left) i j d before within)))
@@ -55,9 +62,11 @@ all_spans-ordered cols =
 
 all_spans-Contains : (cols left right : ℕ) → left < right → right ≤ cols → Contains (all_spans cols) (span left right)
 all_spans-Contains cols left right ahead within =
-    Contains-flat_map (λ left. map (span left) (range_with_len (left + 1) (cols - left))) (range_with_len 0 cols) left (span left right)
+    Contains-flat_map (λ left. map (span left) (range_with_len (left + 1) (cols - left))) (range_with_len 0 cols) left
+    (span left right)
     (Contains-range 0 cols left (omega arith) (omega arith))
-    (Contains-map (span left) (range_with_len (left + 1) (cols - left)) right (Contains-range (left + 1) (cols - left) right (omega arith) (omega arith)))
+    (Contains-map (span left) (range_with_len (left + 1) (cols - left)) right
+    (Contains-range (left + 1) (cols - left) right (omega arith) (omega arith)))
 
 pub spans-ordered : (problem : ProblemModel) → AllPairs IsEarlier (spans_of problem)
 unfolding spans_of
@@ -72,7 +81,8 @@ spans-Contains problem sound cell has =
     let whole = All-contains (IsSoundCell problem) problem.cells cell sound.cells has in
     Contains-filter (λ columns. list_any (has_span columns) problem.cells) (all_spans problem.cols) (span cell.left cell.right)
     (list_any_at (has_span (span cell.left cell.right)) problem.cells has.0 cell has.1
-    (subst (λ c. has_span (span cell.left cell.right) c ≡ true) (sym has.2) (has_span-from (span cell.left cell.right) cell refl refl)))
+    (subst (λ c. has_span (span cell.left cell.right) c ≡ true) (sym has.2)
+    (has_span-from (span cell.left cell.right) cell refl refl)))
     (all_spans-Contains problem.cols cell.left cell.right whole.columns.0 whole.columns.1)
 
 -- and each of them is some cell's
@@ -87,7 +97,8 @@ spans-cell problem columns has =
 -- a list of spans in this order, one for each cell and each of some cell, is the list of the spans
 pub spans-are : (problem : ProblemModel) → IsSound problem → (spans : List Span) → AllPairs IsEarlier spans →
     ((cell : Cell) → Contains problem.cells cell → Contains spans (span cell.left cell.right)) →
-    ((columns : Span) → Contains spans columns → (cell : Cell) × Contains problem.cells cell × (has_span columns cell ≡ true)) → spans ≡ spans_of problem
+    ((columns : Span) → Contains spans columns → (cell : Cell) × Contains problem.cells cell × (has_span columns cell ≡ true)) →
+    spans ≡ spans_of problem
 spans-are problem sound spans ordered each some =
     same-ordered IsEarlier before-strict spans (spans_of problem) ordered (spans-ordered problem)
     (λ columns has. let found = some columns has in subst (λ s. Contains (spans_of problem) s) (same_span columns found.0 found.2)
@@ -95,7 +106,8 @@ spans-are problem sound spans ordered each some =
     (λ columns has. let found = spans-cell problem columns has in
     subst (λ s. Contains spans s) (same_span columns found.0 found.2) (each found.0 found.1)) where
       same_span : (columns : Span) (cell : Cell) → has_span columns cell ≡ true → span cell.left cell.right ≡ columns
-      same_span columns cell has = let parts = has_span-parts columns cell has in ap (λ left. span left cell.right) parts.0 ∙ ap (span columns.left) parts.1
+      same_span columns cell has = let parts = has_span-parts columns cell has in
+          ap (λ left. span left cell.right) parts.0 ∙ ap (span columns.left) parts.1
 
 -- ---- the classes of a span
 
@@ -115,7 +127,8 @@ greatest-least (m ∷ ns) most each =
     omega (arith, first, rest)
 
 -- the room of a span is at most that of the page
-pub room-in_page : (problem : ProblemModel) (widths : List ℕ) → WithinPage problem widths → (left right : ℕ) → left < right → right ≤ problem.cols →
+pub room-in_page : (problem : ProblemModel) (widths : List ℕ) → WithinPage problem widths → (left right : ℕ) → left < right →
+    right ≤ problem.cols →
     room (gap_of problem.style) widths left right ≤ page_room problem
 room-in_page problem widths is left right ahead within =
     let whole = total-position (gap_of problem.style) (edge_of problem.style) widths (omega (arith, is.columns)) in
@@ -125,16 +138,19 @@ room-in_page problem widths is left right ahead within =
 
 module _ (problem : ProblemModel) (columns : Span) where
   -- a cell of the span has its first width at or before the first class
-  pub least_width-le : (cell : Cell) → Contains problem.cells cell → has_span columns cell ≡ true → first_width cell.low ≤ least_width problem columns
+  pub least_width-le : (cell : Cell) → Contains problem.cells cell → has_span columns cell ≡ true →
+      first_width cell.low ≤ least_width problem columns
   least_width-le cell has is =
       greatest-le (map (λ c. first_width c.low) (cells_of problem columns)) (first_width cell.low)
-      (Contains-map (λ c. first_width c.low) (cells_of problem columns) cell (Contains-filter (has_span columns) problem.cells cell is has))
+      (Contains-map (λ c. first_width c.low) (cells_of problem columns) cell
+      (Contains-filter (has_span columns) problem.cells cell is has))
 
   -- widths within the page give the span at least the width of its first class
   pub least_width-within : (widths : List ℕ) → WithinPage problem widths →
       least_width problem columns ≤ room (gap_of problem.style) widths columns.left columns.right
   least_width-within widths is =
-      greatest-least (map (λ c. first_width c.low) (cells_of problem columns)) (room (gap_of problem.style) widths columns.left columns.right) (λ n has.
+      greatest-least (map (λ c. first_width c.low) (cells_of problem columns))
+      (room (gap_of problem.style) widths columns.left columns.right) (λ n has.
       let found = map-Contains (λ c. first_width c.low) (cells_of problem columns) n has in
       let kept = filter-Contains (has_span columns) problem.cells found.0 found.1 in
       let parts = has_span-parts columns found.0 kept.1 in
@@ -147,8 +163,10 @@ module _ (problem : ProblemModel) (columns : Span) where
   unfolding classes_of
   classes-rising =
       let least = least_width problem columns in
-      AllPairs-cons (λ a b. a < b) least (filter (begins_step problem columns) (range_with_len (least + 1) (page_room problem - least)))
-      (All-from_Contains (λ w. least < w) (filter (begins_step problem columns) (range_with_len (least + 1) (page_room problem - least))) (λ w has.
+      AllPairs-cons (λ a b. a < b) least (filter (begins_step problem columns)
+      (range_with_len (least + 1) (page_room problem - least)))
+      (All-from_Contains (λ w. least < w) (filter (begins_step problem columns)
+      (range_with_len (least + 1) (page_room problem - least))) (λ w has.
       let kept = filter-Contains (begins_step problem columns) (range_with_len (least + 1) (page_room problem - least)) w has in
       let between = range-Contains (least + 1) (page_room problem - least) w kept.0 in
       omega (arith, between.0)))
@@ -157,14 +175,17 @@ module _ (problem : ProblemModel) (columns : Span) where
 
   -- where a class begins: at the least width, or past it and within the page where a step begins
   pub classes-cases : (w : ℕ) → Contains (classes_of problem columns) w →
-      (w ≡ least_width problem columns) ⊎ ((least_width problem columns < w) × (w ≤ page_room problem) × (begins_step problem columns w ≡ true))
+      (w ≡ least_width problem columns) ⊎ ((least_width problem columns < w) × (w ≤ page_room problem) ×
+      (begins_step problem columns w ≡ true))
   unfolding classes_of
   classes-cases w has =
       let least = least_width problem columns in
-      elim (Contains-cases least (filter (begins_step problem columns) (range_with_len (least + 1) (page_room problem - least))) w has) [
+      elim (Contains-cases least (filter (begins_step problem columns) (range_with_len (least + 1) (page_room problem - least)))
+      w has) [
         | inl here ↦ inl (sym here)
         | inr later ↦
-            let kept = filter-Contains (begins_step problem columns) (range_with_len (least + 1) (page_room problem - least)) w later in
+            let kept = filter-Contains (begins_step problem columns) (range_with_len (least + 1) (page_room problem - least))
+            w later in
             let between = range-Contains (least + 1) (page_room problem - least) w kept.0 in
             inr (omega (arith, between.0), omega (arith, between.0, between.1), kept.1)
       ]
@@ -172,7 +193,8 @@ module _ (problem : ProblemModel) (columns : Span) where
   pub classes-least : Contains (classes_of problem columns) (least_width problem columns)
   unfolding classes_of
   classes-least = Contains-first (least_width problem columns)
-      (filter (begins_step problem columns) (range_with_len (least_width problem columns + 1) (page_room problem - least_width problem columns)))
+      (filter (begins_step problem columns) (range_with_len (least_width problem columns + 1)
+      (page_room problem - least_width problem columns)))
 
   pub classes-first : (d : ℕ) → get_or (classes_of problem columns) 0 d ≡ least_width problem columns
   unfolding classes_of
@@ -182,7 +204,8 @@ module _ (problem : ProblemModel) (columns : Span) where
   unfolding classes_of
   classes-some = omega arith
 
-  pub classes-Contains : (w : ℕ) → least_width problem columns < w → w ≤ page_room problem → begins_step problem columns w ≡ true →
+  pub classes-Contains : (w : ℕ) → least_width problem columns < w → w ≤ page_room problem →
+      begins_step problem columns w ≡ true →
       Contains (classes_of problem columns) w
   unfolding classes_of
   classes-Contains w past page begins =
@@ -192,9 +215,11 @@ module _ (problem : ProblemModel) (columns : Span) where
       (Contains-range (least + 1) (page_room problem - least) w (omega arith) (omega arith)))
 
   -- a rising list of these widths, and of no others, is the list of the classes
-  pub classes-are : (firsts : List ℕ) → AllPairs (λ a b. a < b) firsts → ((w : ℕ) → Contains firsts w → Contains (classes_of problem columns) w) →
+  pub classes-are : (firsts : List ℕ) → AllPairs (λ a b. a < b) firsts →
+      ((w : ℕ) → Contains firsts w → Contains (classes_of problem columns) w) →
       ((w : ℕ) → Contains (classes_of problem columns) w → Contains firsts w) → firsts ≡ classes_of problem columns
-  classes-are firsts rising there back = same-ordered (λ a b. a < b) (λ a b less more. omega arith) firsts (classes_of problem columns) rising
+  classes-are firsts rising there back = same-ordered (λ a b. a < b) (λ a b less more. omega arith) firsts
+      (classes_of problem columns) rising
       classes-rising there back
 
   -- a step of a cell of the span begins where it does
@@ -205,7 +230,8 @@ module _ (problem : ProblemModel) (columns : Span) where
       let one : list_any (λ s. nat_eq s.width step.width) (cell.low ++ cell.high) ≡ true =
       list_any_at (λ s. nat_eq s.width step.width) (cell.low ++ cell.high) among.0 step among.1
       (eq-eqb (get_or (cell.low ++ cell.high) among.0 step).width step.width (ap (λ s. s.width) among.2)) in
-      list_any_at (λ c. list_any (λ s. nat_eq s.width step.width) (c.low ++ c.high)) (cells_of problem columns) inside.0 cell inside.1
+      list_any_at (λ c. list_any (λ s. nat_eq s.width step.width) (c.low ++ c.high)) (cells_of problem columns)
+      inside.0 cell inside.1
       (subst (λ c. list_any (λ s. nat_eq s.width step.width) (c.low ++ c.high) ≡ true) (sym inside.2) one)
 
 -- ---- within a class no height changes
@@ -225,7 +251,8 @@ between-none xs rising k top x inside has past before =
           let above = rising k (k + 1) 0 (omega arith) (omega (arith, has.1)) in
           elim (cases_lt (k + 1) has.0) [
             | inl more ↦ let high = rising (k + 1) has.0 0 more has.1 in omega (arith, high, at, has.2, next)
-            | inr same ↦ let here : has.0 ≡ k + 1 = omega arith in omega (arith, ap (λ i. get_or xs i 0) here, at, has.2, next, above)
+            | inr same ↦ let here : has.0 ≡ k + 1 = omega arith in
+                omega (arith, ap (λ i. get_or xs i 0) here, at, has.2, next, above)
           ]
     ]
 
@@ -264,7 +291,8 @@ module _ (problem : ProblemModel) (sound : IsSound problem) (s class : ℕ) (ins
       (w v : ℕ) (more : w ≤ v) (from : first_in_class problem s class ≤ w) (upto : v ≤ last_in_class problem s class) where
     no_step : (step : Config) → Contains (cell.low ++ cell.high) step → w < step.width → step.width ≤ v → ⊥
     no_step step among past before =
-        between-none (classes_at problem s) (classes-rising problem (span_at problem s)) class (page_room problem) step.width inside
+        between-none (classes_at problem s) (classes-rising problem (span_at problem s)) class (page_room problem)
+        step.width inside
         (classes-Contains problem (span_at problem s) step.width (omega (arith, class-past_least, past, from))
         (omega (arith, class-in_page, upto, before)) (begins-from problem (span_at problem s) cell step has is among))
         (omega (arith, past, from)) (omega (arith, upto, before))

@@ -1,12 +1,15 @@
 -- How the spans of cells, and the classes of a span, are found step by step.
-use Rattle.std.proofs.Common.{◌≡◌, ◌≢◌, ℕ, ◌+◌, ◌-◌, ◌*◌, ◌/◌, ◌%◌, ◌<◌, ◌≤◌, zero, suc, min, max, mul_assoc, Bool, true, false, not, nat_eq, List, []}
+use Rattle.std.proofs.Common.{◌≡◌, ◌≢◌, ℕ, ◌+◌, ◌-◌, ◌*◌, ◌/◌, ◌%◌, ◌<◌, ◌≤◌, zero, suc, min, max, mul_assoc, Bool, true, false}
+use Rattle.std.proofs.Common.{not, nat_eq, List, []}
 use Rattle.std.proofs.Common.{◌∷◌, ◌++◌, ◌⊎◌, inl, inr, length, map, filter, get_or, set, refl, sym, ap, ◌∙◌, subst, arith}
 use Rattle.std.proofs.Common.{length-append}
 use Rattle.std.specs.List.{All, AllPairs, Contains, flat_map, list_any, range_with_len}
 use Rattle.std.proofs.lemmas.Bool.{cases_eq, cases_lt, eqb-true}
-use Rattle.std.proofs.lemmas.List.{map-append, length-map, get_or-map, get_or_push, get_or_append_left, length_push, get_or-set_same}
+use Rattle.std.proofs.lemmas.List.{map-append, length-map, get_or-map, get_or_push, get_or_append_left, length_push}
+use Rattle.std.proofs.lemmas.List.{get_or-set_same}
 use Rattle.std.proofs.lemmas.List.{get_or-set_other, length-set, get_or_default, ext_get_or}
-use Rattle.std.proofs.lemmas.List.Elements.{filter-append, All-contains, Contains-get_or, Contains-append_left, Contains-append_right, Contains-append_cases}
+use Rattle.std.proofs.lemmas.List.Elements.{filter-append, All-contains, Contains-get_or, Contains-append_left}
+use Rattle.std.proofs.lemmas.List.Elements.{Contains-append_right, Contains-append_cases}
 use Rattle.std.proofs.lemmas.List.Folds.{Any-from_list_any}
 use Rattle.std.proofs.lemmas.Nat.{div-mul-add, mod-mul-add, div-add-mod', mod_below}
 use Rattle.std.proofs.lemmas.List.Concat.{flat_map-cons}
@@ -21,12 +24,15 @@ use Rattle.tl_problem.specs.declared.cell.Cell.{Cell}
 use Rattle.tl_problem.specs.declared.cell.Span.{Span}
 use Rattle.tl_problem.specs.Problem.{ProblemModel}
 use Rattle.tl_problem.specs.Sound.{IsSound}
-use Rattle.tl_problem.specs.Spans.{span, has_span, all_spans, greatest, spans_of, cells_of, least_width, page_room, begins_step, classes_of, product}
+use Rattle.tl_problem.specs.Spans.{span, has_span, all_spans, greatest, spans_of, cells_of, least_width, page_room, begins_step}
+use Rattle.tl_problem.specs.Spans.{classes_of, product}
 use Rattle.tl_problem.specs.Zones.{span_at, classes_at}
 use Rattle.tl_problem.specs.inner.Demands.{cell_at}
-use Rattle.tl_problem.specs.inner.Spanning.{slot_of, IsSeen, IsEarlier, AreSpansUpto, AreSpans, cells_among, least_among, IsStepAt, AddsSteps}
+use Rattle.tl_problem.specs.inner.Spanning.{slot_of, IsSeen, IsEarlier, AreSpansUpto, AreSpans, cells_among, least_among}
+use Rattle.tl_problem.specs.inner.Spanning.{IsStepAt, AddsSteps}
 use Rattle.tl_problem.specs.inner.Spanning.{IsClass, AreFound, AreFirsts, AreClasses}
-use Rattle.tl_problem.proofs.SpanLaws.{has_span-from, has_span-parts, spans-are, begins-from, classes-are, classes-cases, classes-least}
+use Rattle.tl_problem.proofs.SpanLaws.{has_span-from, has_span-parts, spans-are, begins-from, classes-are, classes-cases}
+use Rattle.tl_problem.proofs.SpanLaws.{classes-least}
 use Rattle.tl_problem.proofs.SpanLaws.{classes-Contains, classes-some, classes-rising, class-in_page}
 
 -- ---- the steps of one cell
@@ -45,7 +51,14 @@ module _ (old new : List ℕ) (least most : ℕ) where
 
   module _ (done : List Config) (step : Config) (h : AddsSteps old new done least most) where
     further : (w : ℕ) → IsStepAt done least most w → IsStepAt (done ++ step ∷ []) least most w
-    further w is = record { past = is.past; within = is.within; step = is.step; has = Contains-append_left done (step ∷ []) is.step is.has; begins = is.begins }
+    further w is = record {
+      past = is.past;
+      within = is.within;
+      step = is.step;
+      has =
+          Contains-append_left done (step ∷ []) is.step is.has;
+      begins = is.begins;
+    }
 
     pub AddsSteps-skip : (least < step.width → step.width ≤ most → ⊥) → AddsSteps old new (done ++ step ∷ []) least most
     AddsSteps-skip out = record {
@@ -53,13 +66,22 @@ module _ (old new : List ℕ) (least most : ℕ) where
       adds = λ w is. adds w is (Contains-append_cases done (step ∷ []) is.step is.has);
       only = λ w has. elim (h.only w has) [ inl before ↦ inl before | inr is ↦ inr (further w is) ];
     } where
-      adds : (w : ℕ) → (is : IsStepAt (done ++ step ∷ []) least most w) → Contains done is.step ⊎ Contains (step ∷ []) is.step → Contains new w
-      adds w is (inl left) = h.adds w (record { past = is.past; within = is.within; step = is.step; has = left; begins = is.begins })
+      adds : (w : ℕ) → (is : IsStepAt (done ++ step ∷ []) least most w) → Contains done is.step ⊎ Contains (step ∷ []) is.step →
+          Contains new w
+      adds w is (inl left) = h.adds w (record {
+        past = is.past;
+        within = is.within;
+        step = is.step;
+        has = left;
+        begins =
+            is.begins;
+      })
       adds w is (inr right) =
           let same = ap (λ s. s.width) (Contains-one step is.step right) in
           absurd (out (omega (arith, same, is.begins, is.past)) (omega (arith, same, is.begins, is.within)))
 
-    pub AddsSteps-push : least < step.width → step.width ≤ most → AddsSteps old (new ++ step.width ∷ []) (done ++ step ∷ []) least most
+    pub AddsSteps-push : least < step.width → step.width ≤ most →
+        AddsSteps old (new ++ step.width ∷ []) (done ++ step ∷ []) least most
     AddsSteps-push past within = record {
       keeps = λ w has. Contains-append_left new (step.width ∷ []) w (h.keeps w has);
       adds = λ w is. adds w is (Contains-append_cases done (step ∷ []) is.step is.has);
@@ -70,13 +92,21 @@ module _ (old new : List ℕ) (least most : ℕ) where
       adds w is (inl left) = Contains-append_left new (step.width ∷ []) w
           (h.adds w (record { past = is.past; within = is.within; step = is.step; has = left; begins = is.begins }))
       adds w is (inr right) =
-          subst (Contains (new ++ step.width ∷ [])) (ap (λ s. s.width) (Contains-one step is.step right) ∙ is.begins) (Contains-push new step.width)
+          subst (Contains (new ++ step.width ∷ [])) (ap (λ s. s.width) (Contains-one step is.step right) ∙ is.begins)
+          (Contains-push new step.width)
 
       only : (w : ℕ) → Contains new w ⊎ Contains (step.width ∷ []) w → Contains old w ⊎ IsStepAt (done ++ step ∷ []) least most w
       only w (inl left) = elim (h.only w left) [ inl before ↦ inl before | inr is ↦ inr (further w is) ]
       only w (inr right) =
           let same = Contains-one step.width w right in
-          inr (record { past = omega (arith, same); within = omega (arith, same); step = step; has = Contains-push done step; begins = same })
+          inr (record {
+            past = omega (arith, same);
+            within = omega (arith, same);
+            step = step;
+            has =
+                Contains-push done step;
+            begins = same;
+          })
 
 -- ---- the greatest least width
 
@@ -93,9 +123,11 @@ module _ (done : List Cell) (columns : Span) (cell : Cell) where
         nothing [] = refl
         nothing (c ∷ cells) = ap (λ cs. c ∷ cs) (nothing cells)
 
-  pub least_among-more : has_span columns cell ≡ true → least_among (done ++ cell ∷ []) columns ≡ max (least_among done columns) (first_width cell.low)
+  pub least_among-more : has_span columns cell ≡ true → least_among (done ++ cell ∷ []) columns ≡ max (least_among done columns)
+      (first_width cell.low)
   least_among-more is =
-      ap (λ cells. greatest (map (λ c. first_width c.low) cells)) (filter-append (has_span columns) done (cell ∷ []) ∙ rw is refl) ∙
+      ap (λ cells. greatest (map (λ c. first_width c.low) cells))
+      (filter-append (has_span columns) done (cell ∷ []) ∙ rw is refl) ∙
       ap greatest (map-append (λ c. first_width c.low) (cells_among done columns) (cell ∷ [])) ∙
       greatest-push (map (λ c. first_width c.low) (cells_among done columns)) (first_width cell.low)
 
@@ -116,7 +148,8 @@ module _ (cells : List Cell) (columns : Span) (least most : ℕ) where
       there = h.there;
       back = λ w is. back w is (Contains-append_cases done (cell ∷ []) is.cell is.has);
     } where
-      back : (w : ℕ) → (is : IsClass (done ++ cell ∷ []) columns least most w) → Contains done is.cell ⊎ Contains (cell ∷ []) is.cell → Contains old w
+      back : (w : ℕ) → (is : IsClass (done ++ cell ∷ []) columns least most w) →
+          Contains done is.cell ⊎ Contains (cell ∷ []) is.cell → Contains old w
       back w is (inl left) = h.back w (record { cell = is.cell; has = left; spans = is.spans; begins = is.begins })
       back w is (inr right) =
           let same = Contains-one cell is.cell right in
@@ -131,7 +164,8 @@ module _ (cells : List Cell) (columns : Span) (least most : ℕ) where
       there = λ w has. there w (high.only w has);
       back = λ w is. back w is (Contains-append_cases done (cell ∷ []) is.cell is.has);
     } where
-      one : (w : ℕ) (steps : List Config) → ((s : Config) → Contains steps s → Contains (cell.low ++ cell.high) s) → IsStepAt steps least most w →
+      one : (w : ℕ) (steps : List Config) → ((s : Config) → Contains steps s → Contains (cell.low ++ cell.high) s) →
+          IsStepAt steps least most w →
           IsClass cells columns least most w
       one w steps inside is = record {
         cell = cell;
@@ -147,18 +181,37 @@ module _ (cells : List Cell) (columns : Span) (least most : ℕ) where
       ]
       there w (inr is) = inr (one w cell.high (λ s has. Contains-append_right cell.low cell.high s has) is)
 
-      step_back : (w : ℕ) → (is : IsStepAt (cell.low ++ cell.high) least most w) → Contains cell.low is.step ⊎ Contains cell.high is.step → Contains new w
-      step_back w is (inl left) = high.keeps w (low.adds w (record { past = is.past; within = is.within; step = is.step; has = left; begins = is.begins }))
-      step_back w is (inr right) = high.adds w (record { past = is.past; within = is.within; step = is.step; has = right; begins = is.begins })
+      step_back : (w : ℕ) → (is : IsStepAt (cell.low ++ cell.high) least most w) →
+          Contains cell.low is.step ⊎ Contains cell.high is.step → Contains new w
+      step_back w is (inl left) =
+          high.keeps w (low.adds w (record {
+            past = is.past;
+            within = is.within;
+            step = is.step;
+            has = left;
+            begins =
+                is.begins;
+          }))
+      step_back w is (inr right) = high.adds w (record {
+        past = is.past;
+        within = is.within;
+        step = is.step;
+        has =
+            right;
+        begins = is.begins;
+      })
 
-      back : (w : ℕ) → (is : IsClass (done ++ cell ∷ []) columns least most w) → Contains done is.cell ⊎ Contains (cell ∷ []) is.cell → Contains new w
-      back w is (inl left) = high.keeps w (low.keeps w (h.back w (record { cell = is.cell; has = left; spans = is.spans; begins = is.begins })))
+      back : (w : ℕ) → (is : IsClass (done ++ cell ∷ []) columns least most w) →
+          Contains done is.cell ⊎ Contains (cell ∷ []) is.cell → Contains new w
+      back w is (inl left) =
+          high.keeps w (low.keeps w (h.back w (record { cell = is.cell; has = left; spans = is.spans; begins = is.begins })))
       back w is (inr right) =
           let begins = subst (λ c. IsStepAt (c.low ++ c.high) least most w) (sym (Contains-one cell is.cell right)) is.begins in
           step_back w begins (Contains-append_cases cell.low cell.high begins.step begins.has)
 
   -- a list with the same elements is as good
-  pub AreFound-same : (done : List Cell) (old new : List ℕ) → ((w : ℕ) → Contains old w → Contains new w) → ((w : ℕ) → Contains new w → Contains old w) →
+  pub AreFound-same : (done : List Cell) (old new : List ℕ) → ((w : ℕ) → Contains old w → Contains new w) →
+      ((w : ℕ) → Contains new w → Contains old w) →
       AreFound cells done columns least most old → AreFound cells done columns least most new
   AreFound-same done old new to from h = record {
     least_in = to least h.least_in;
@@ -178,7 +231,8 @@ slot-within side cell left right =
     omega (arith, more, one, right)
 
 module _ (side : ℕ) (cells : List Cell) where
-  pub IsSeen-none : (seen : List Bool) → length seen ≡ side * side → ((slot : ℕ) → get_or seen slot false ≡ false) → IsSeen side cells 0 seen
+  pub IsSeen-none : (seen : List Bool) → length seen ≡ side * side → ((slot : ℕ) → get_or seen slot false ≡ false) →
+      IsSeen side cells 0 seen
   IsSeen-none seen size clear = record {
     size = size;
     all = λ k none. absurd (omega arith);
@@ -196,12 +250,15 @@ module _ (side : ℕ) (cells : List Cell) where
         some = λ slot is. some slot is (cases_eq slot here);
       } where
         all : (j : ℕ) → j < k + 1 →
-            (slot_of side (cell_at cells j) ≡ slot_of side (cell_at cells k)) ⊎ (slot_of side (cell_at cells j) ≢ slot_of side (cell_at cells k)) →
+            (slot_of side (cell_at cells j) ≡ slot_of side (cell_at cells k)) ⊎
+            (slot_of side (cell_at cells j) ≢ slot_of side (cell_at cells k)) →
             (j ≡ k) ⊎ (j ≢ k) →
             get_or (set seen (slot_of side (cell_at cells k)) true) (slot_of side (cell_at cells j)) false ≡ true
-        all j below (inl same) any = rw same (get_or-set_same seen (slot_of side (cell_at cells k)) true false (omega (arith, h.size)))
+        all j below (inl same) any =
+            rw same (get_or-set_same seen (slot_of side (cell_at cells k)) true false (omega (arith, h.size)))
         all j below (inr apart) (inl last) = absurd (apart (ap (λ i. slot_of side (cell_at cells i)) last))
-        all j below (inr apart) (inr before) = get_or-set_other seen (slot_of side (cell_at cells k)) (slot_of side (cell_at cells j)) true false
+        all j below (inr apart) (inr before) = get_or-set_other seen (slot_of side (cell_at cells k))
+            (slot_of side (cell_at cells j)) true false
             apart ∙ h.all j (omega arith)
 
         some : (slot : ℕ) → get_or (set seen (slot_of side (cell_at cells k)) true) slot false ≡ true →
@@ -254,9 +311,11 @@ module _ (side : ℕ) (seen : List Bool) (some : 0 < side) where
 
     pub AreSpansUpto-push : get_or seen slot false ≡ true → AreSpansUpto side seen (slot + 1) (spans ++ here ∷ [])
     AreSpansUpto-push marked = record {
-      ordered = AllPairs-append IsEarlier spans (here ∷ []) h.ordered (λ i j d before within. absurd (omega arith)) (λ a b first second.
+      ordered = AllPairs-append IsEarlier spans (here ∷ []) h.ordered (λ i j d before within. absurd (omega arith))
+          (λ a b first second.
           let found = h.some a first in
-          subst (λ x. IsEarlier x b) found.1.1.1 (subst (IsEarlier (span (found.0 / side) (found.0 % side))) (Contains-one here b second)
+          subst (λ x. IsEarlier x b) found.1.1.1 (subst (IsEarlier (span (found.0 / side) (found.0 % side)))
+          (Contains-one here b second)
           (earlier side found.0 slot some found.1.0)));
       all = λ other below is. elim (cases_eq other slot) [
         | inl same ↦ subst (λ i. Contains (spans ++ here ∷ []) (span (i / side) (i % side))) (sym same) (Contains-push spans here)
@@ -277,7 +336,8 @@ module _ (side : ℕ) (seen : List Bool) (some : 0 < side) where
     each = λ cell has.
         let at : cell_at cells has.0 ≡ cell = get_or_default cells has.0 _ cell has.1 ∙ has.2 in
         let in_grid = All-contains (λ c. (c.left < side) × (c.right < side)) cells cell grid has in
-        let marked : get_or seen (slot_of side cell) false ≡ true = subst (λ c. get_or seen (slot_of side c) false ≡ true) at (is.all has.0 has.1) in
+        let marked : get_or seen (slot_of side cell) false ≡ true =
+        subst (λ c. get_or seen (slot_of side c) false ≡ true) at (is.all has.0 has.1) in
         let found = h.all (slot_of side cell) (slot-within side cell in_grid.0 in_grid.1) marked in
         rw (div-mul-add cell.left side cell.right in_grid.1, mod-mul-add cell.left side cell.right in_grid.1) at found;
     some = λ columns has.
@@ -285,51 +345,67 @@ module _ (side : ℕ) (seen : List Bool) (some : 0 < side) where
         let one = is.some found.0 found.1.1.0 in
         let cell = cell_at cells one.0 in
         let in_grid = grid one.0 (record { left = 0; right = 0; top = 0; bottom = 0; low = []; high = [] }) one.1.0 in
-        let left : cell.left ≡ columns.left = sym (div-mul-add cell.left side cell.right in_grid.1) ∙ ap (λ i. i / side) one.1.1 ∙ ap (λ s. s.left)
+        let left : cell.left ≡ columns.left = sym (div-mul-add cell.left side cell.right in_grid.1) ∙ ap (λ i. i / side)
+        one.1.1 ∙ ap (λ s. s.left)
         found.1.1.1 in
-        let right : cell.right ≡ columns.right = sym (mod-mul-add cell.left side cell.right in_grid.1) ∙ ap (λ i. i % side) one.1.1 ∙ ap
+        let right : cell.right ≡ columns.right = sym (mod-mul-add cell.left side cell.right in_grid.1) ∙ ap (λ i. i % side)
+        one.1.1 ∙ ap
         (λ s. s.right) found.1.1.1 in
         (cell, Contains-get_or cells one.0 _ one.1.0, has_span-from columns cell left right);
   }
 
 -- ---- what was found is what the problem's spans and classes are
 
-pub spans-found : (problem : ProblemModel) → IsSound problem → (spans : List Span) → AreSpans problem.cells spans → spans ≡ spans_of problem
+pub spans-found : (problem : ProblemModel) → IsSound problem → (spans : List Span) → AreSpans problem.cells spans →
+    spans ≡ spans_of problem
 spans-found problem sound spans are = spans-are problem sound spans are.ordered are.each are.some
 
-firsts-found : (problem : ProblemModel) (columns : Span) (firsts : List ℕ) → AreFirsts problem.cells columns (page_room problem) firsts →
+firsts-found : (problem : ProblemModel) (columns : Span) (firsts : List ℕ) →
+    AreFirsts problem.cells columns (page_room problem) firsts →
     firsts ≡ classes_of problem columns
 firsts-found problem columns firsts are =
     classes-are problem columns firsts are.rising
     (λ w has. there w (are.found.there w has))
     (λ w has. back w (classes-cases problem columns w has)) where
-      there : (w : ℕ) → (w ≡ least_among problem.cells columns) ⊎ IsClass problem.cells columns (least_among problem.cells columns)
+      there : (w : ℕ) → (w ≡ least_among problem.cells columns) ⊎
+          IsClass problem.cells columns (least_among problem.cells columns)
           (page_room problem) w → Contains (classes_of problem columns) w
       there w (inl first) = subst (Contains (classes_of problem columns)) (sym first) (classes-least problem columns)
       there w (inr is) =
           classes-Contains problem columns w is.begins.past is.begins.within
-          (subst (λ v. begins_step problem columns v ≡ true) is.begins.begins (begins-from problem columns is.cell is.begins.step is.has is.spans
+          (subst (λ v. begins_step problem columns v ≡ true) is.begins.begins
+          (begins-from problem columns is.cell is.begins.step is.has is.spans
           is.begins.has))
 
       back : (w : ℕ) → (w ≡ least_width problem columns) ⊎
-          ((least_width problem columns < w) × (w ≤ page_room problem) × (begins_step problem columns w ≡ true)) → Contains firsts w
+          ((least_width problem columns < w) × (w ≤ page_room problem) × (begins_step problem columns w ≡ true)) →
+          Contains firsts w
       back w (inl first) = subst (Contains firsts) (sym first) are.found.least_in
       back w (inr later) =
-          let one = Any-from_list_any (λ cell. list_any (λ step. nat_eq step.width w) (cell.low ++ cell.high)) (cells_of problem columns) later.2 in
+          let one = Any-from_list_any (λ cell. list_any (λ step. nat_eq step.width w) (cell.low ++ cell.high))
+          (cells_of problem columns) later.2 in
           let among = filter-Contains (has_span columns) problem.cells one.1 (one.0, one.2, one.3) in
           let at = Any-from_list_any (λ step. nat_eq step.width w) (one.1.low ++ one.1.high) one.4 in
           are.found.back w (record {
             cell = one.1;
             has = among.0;
             spans = among.1;
-            begins = record { past = later.0; within = later.1; step = at.1; has = (at.0, at.2, at.3); begins = eqb-true at.1.width w at.4 };
+            begins = record {
+              past = later.0;
+              within = later.1;
+              step = at.1;
+              has = (at.0, at.2, at.3);
+              begins =
+                  eqb-true at.1.width w at.4;
+            };
           })
 
 pub classes-found : (problem : ProblemModel) (classes : List (List ℕ)) →
     AreClasses problem.cells (page_room problem) (spans_of problem) (length (spans_of problem)) classes →
     classes ≡ map (classes_of problem) (spans_of problem)
 classes-found problem classes are =
-    ext_get_or [] classes (map (classes_of problem) (spans_of problem)) (are.count ∙ sym (length-map (spans_of problem) (classes_of problem))) (λ s within.
+    ext_get_or [] classes (map (classes_of problem) (spans_of problem))
+    (are.count ∙ sym (length-map (spans_of problem) (classes_of problem))) (λ s within.
     let inside : s < length (spans_of problem) = omega (arith, are.count) in
     firsts-found problem (get_or (spans_of problem) s (span 0 0)) (get_or classes s []) (are.each s inside) ∙ sym
     (get_or-map (classes_of problem) (spans_of problem) s (span 0 0) [] inside))
@@ -412,11 +488,13 @@ min-product p (suc n) most =
 -- ---- small steps
 
 -- a cell that has not both edges of the span has another
-pub has_span-false : (columns : Span) (cell : Cell) → (cell.left ≡ columns.left → cell.right ≡ columns.right → ⊥) → has_span columns cell ≡ false
-has_span-false columns cell apart = decide (has_span columns cell) (λ is. let parts = has_span-parts columns cell is in apart parts.0 parts.1) where
-  decide : (b : Bool) → (b ≡ true → ⊥) → b ≡ false
-  decide true never = absurd (never refl)
-  decide false never = refl
+pub has_span-false : (columns : Span) (cell : Cell) → (cell.left ≡ columns.left → cell.right ≡ columns.right → ⊥) →
+    has_span columns cell ≡ false
+has_span-false columns cell apart = decide (has_span columns cell) (λ is. let parts = has_span-parts columns cell is in
+    apart parts.0 parts.1) where
+      decide : (b : Bool) → (b ≡ true → ⊥) → b ≡ false
+      decide true never = absurd (never refl)
+      decide false never = refl
 
 pub AreClasses-push : (cells : List Cell) (most : ℕ) (spans : List Span) (k : ℕ) (classes : List (List ℕ)) (firsts : List ℕ) →
     AreClasses cells most spans k classes →

@@ -1,6 +1,7 @@
 -- Assignments to the places of columns and widths of columns are the same thing, moved as a whole: so the tightest bounds
 -- of a matrix are the greatest and least rooms of the widths that it leaves.
-use Rattle.std.proofs.Common.{◌≡◌, ℕ, ◌+◌, ◌*◌, ◌<◌, ◌≤◌, zero, suc, ℤ, pos, negsuc, ◌+ℤ◌, ◌-ℤ◌, ◌≤ℤ◌, neg_ℤ, List, [], ◌∷◌, ◌++◌, inl, inr, length}
+use Rattle.std.proofs.Common.{◌≡◌, ℕ, ◌+◌, ◌*◌, ◌<◌, ◌≤◌, zero, suc, ℤ, pos, negsuc, ◌+ℤ◌, ◌-ℤ◌, ◌≤ℤ◌, neg_ℤ, List, [], ◌∷◌, ◌++◌}
+use Rattle.std.proofs.Common.{inl, inr, length}
 use Rattle.std.proofs.Common.{take, sum, refl, ap, ◌∙◌, arith}
 use Rattle.std.proofs.lemmas.Int.{ints}
 use Rattle.std.proofs.lemmas.Bool.{cases_lt}
@@ -8,29 +9,34 @@ use Rattle.std.proofs.lemmas.List.{length-append, take_all, take-append-le}
 use Rattle.std.proofs.lemmas.List.Sums.{sum_by-append}
 use Rattle.tl_base.specs.Style.{gap_of}
 use Rattle.tl_diff.specs.Bounds.{Bounds, Satisfies, IsSatisfiable, IsGreatest}
-use Rattle.tl_problem.specs.Sizes.{position, room}
+use Rattle.tl_base.specs.Sizes.{position, room}
 use Rattle.tl_problem.specs.Problem.{ProblemModel}
 use Rattle.tl_problem.specs.Bounds.{IsGreatestRoom}
-use Rattle.tl_problem.specs.Works.{places, IsLeft, KeepsPage}
+use Rattle.tl_problem.specs.Works.{places, IsLeft, KeepsPage, part_above, widths_of}
 use Rattle.tl_problem.specs.inner.Needs.{IsLeastRoom}
-use Rattle.tl_problem.specs.inner.Constraints.{part_above, widths_of}
-use Rattle.tl_problem.proofs.SizeLaws.{room-position}
+use Rattle.tl_base.proofs.SizeLaws.{room-position}
 
 pub part_above-is : (z : ℤ) → pos 0 ≤ℤ z → pos (part_above z) ≡ z
 part_above-is (pos n) up = refl
 part_above-is (negsuc n) up = absurd (omega (arith, ints))
 
 -- one width more
-pub widths_of-next : (x : ℕ → ℤ) (gap n : ℕ) → widths_of x gap (n + 1) ≡ widths_of x gap n ++ part_above (x (n + 1) -ℤ (x n +ℤ pos gap)) ∷ []
+pub widths_of-next : (x : ℕ → ℤ) (gap n : ℕ) → widths_of x gap (n + 1) ≡ widths_of x gap n ++ part_above
+    (x (n + 1) -ℤ (x n +ℤ pos gap)) ∷ []
 widths_of-next x gap n = let next : n + 1 ≡ suc n = omega arith in ap (widths_of x gap) next
 
 module _ (x : ℕ → ℤ) (gap : ℕ) where
   pub widths_of-length : (n : ℕ) → length (widths_of x gap n) ≡ n
   widths_of-length zero = refl
-  widths_of-length (suc n) = omega (arith, length-append (widths_of x gap n) (part_above (x (n + 1) -ℤ (x n +ℤ pos gap)) ∷ []), widths_of-length n)
+  widths_of-length (suc n) = omega (
+    arith,
+    length-append (widths_of x gap n) (part_above (x (n + 1) -ℤ (x n +ℤ pos gap)) ∷ []),
+    widths_of-length n,
+  )
 
   -- they begin where the assignment says, counted from its first place
-  pub widths_of-position : (n : ℕ) → ((k : ℕ) → k < n → (x k +ℤ pos gap) ≤ℤ x (k + 1)) → (k : ℕ) → k ≤ n → pos (position gap (widths_of x gap n) k) ≡ x k -ℤ x 0
+  pub widths_of-position : (n : ℕ) → ((k : ℕ) → k < n → (x k +ℤ pos gap) ≤ℤ x (k + 1)) → (k : ℕ) → k ≤ n →
+      pos (position gap (widths_of x gap n) k) ≡ x k -ℤ x 0
   widths_of-position zero gaps k up =
       let none : k ≡ 0 = omega arith in
       rw none (start gap) where
@@ -41,13 +47,15 @@ module _ (x : ℕ → ℤ) (gap : ℕ) where
         | inr low ↦
             let inside : k ≤ length (widths_of x gap n) = omega (arith, widths_of-length n) in
             let before = widths_of-position n (λ j below. gaps j (omega arith)) k low in
-            let same = ap (λ xs. pos (sum xs + gap * k)) (take-append-le k (widths_of x gap n) (part_above (x (n + 1) -ℤ (x n +ℤ pos gap)) ∷ []) inside) in
+            let same = ap (λ xs. pos (sum xs + gap * k)) (take-append-le k (widths_of x gap n)
+            (part_above (x (n + 1) -ℤ (x n +ℤ pos gap)) ∷ []) inside) in
             same ∙ before
         | inl last ↦
             let all : k ≡ suc n = omega arith in
             let whole = ap sum (take_all (suc n) (widths_of x gap (suc n)) (omega (arith, widths_of-length (suc n)))) in
             let split = sum_by-append (λ w. w) (widths_of x gap n) (part_above (x (n + 1) -ℤ (x n +ℤ pos gap)) ∷ []) in
-            let one : sum (part_above (x (n + 1) -ℤ (x n +ℤ pos gap)) ∷ []) ≡ part_above (x (n + 1) -ℤ (x n +ℤ pos gap)) = omega arith in
+            let one : sum (part_above (x (n + 1) -ℤ (x n +ℤ pos gap)) ∷ []) ≡ part_above (x (n + 1) -ℤ (x n +ℤ pos gap)) =
+            omega arith in
             let before = widths_of-position n (λ j below. gaps j (omega arith)) n (omega arith) in
             let full = ap sum (take_all n (widths_of x gap n) (omega (arith, widths_of-length n))) in
             let above = part_above-is (x (n + 1) -ℤ (x n +ℤ pos gap)) (omega (arith, ints, gaps n (omega arith))) in
@@ -62,8 +70,10 @@ module _ (problem : ProblemModel) (bounds : Bounds) (keeps : KeepsPage problem b
   left-from x meets = record {
     columns = widths_of-length x (gap_of problem.style) problem.cols;
     satisfies = λ a b first second c is.
-        let one = widths_of-position x (gap_of problem.style) problem.cols (keeps.gaps x meets) a (omega (arith, keeps.variables)) in
-        let other = widths_of-position x (gap_of problem.style) problem.cols (keeps.gaps x meets) b (omega (arith, keeps.variables)) in
+        let one = widths_of-position x (gap_of problem.style) problem.cols (keeps.gaps x meets) a
+        (omega (arith, keeps.variables)) in
+        let other = widths_of-position x (gap_of problem.style) problem.cols (keeps.gaps x meets) b
+        (omega (arith, keeps.variables)) in
         omega (arith, ints, one, other, meets a b first second c is);
   }
 
@@ -78,7 +88,8 @@ module _ (problem : ProblemModel) (bounds : Bounds) (keeps : KeepsPage problem b
   module _ (left right : ℕ) (ahead : left < right) (within : right ≤ problem.cols) where
     -- the room of a span by the assignment
     pub left-room : (x : ℕ → ℤ) → Satisfies bounds x →
-        pos (room (gap_of problem.style) (widths_of x (gap_of problem.style) problem.cols) left right + gap_of problem.style) ≡ x right -ℤ x left
+        pos (room (gap_of problem.style) (widths_of x (gap_of problem.style) problem.cols)
+        left right + gap_of problem.style) ≡ x right -ℤ x left
     left-room x meets =
         let places = room-position (gap_of problem.style) (widths_of x (gap_of problem.style) problem.cols) left right ahead in
         let one = left-position x meets left (omega arith) in
@@ -92,7 +103,8 @@ module _ (problem : ProblemModel) (bounds : Bounds) (keeps : KeepsPage problem b
         let x = is.reached.0 in
         let widths = widths_of x (gap_of problem.style) problem.cols in
         let at = left-room x is.reached.1.0 in
-        let same : most ≡ pos (room (gap_of problem.style) widths left right + gap_of problem.style) = omega (arith, ints, at, is.reached.1.1) in (
+        let same : most ≡ pos (room (gap_of problem.style) widths left right + gap_of problem.style) =
+        omega (arith, ints, at, is.reached.1.1) in (
           room (gap_of problem.style) widths left right,
           (
             same,
@@ -113,7 +125,8 @@ module _ (problem : ProblemModel) (bounds : Bounds) (keeps : KeepsPage problem b
         let x = is.reached.0 in
         let widths = widths_of x (gap_of problem.style) problem.cols in
         let at = left-room x is.reached.1.0 in
-        let same : most ≡ neg_ℤ (pos (room (gap_of problem.style) widths left right + gap_of problem.style)) = omega (arith, ints, at, is.reached.1.1) in (
+        let same : most ≡ neg_ℤ (pos (room (gap_of problem.style) widths left right + gap_of problem.style)) =
+        omega (arith, ints, at, is.reached.1.1) in (
           room (gap_of problem.style) widths left right,
           (
             same,

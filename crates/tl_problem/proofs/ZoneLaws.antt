@@ -1,5 +1,6 @@
 -- Zones: the whole has all widths within the page, and the two parts of a cut have between them those of the zone.
-use Rattle.std.proofs.Common.{◌≡◌, ◌≢◌, ℕ, ◌+◌, ◌-◌, ◌<◌, ◌≤◌, List, ◌⊎◌, inl, inr, length, set, sym, ap, ◌∙◌, subst, arith, length-set}
+use Rattle.std.proofs.Common.{◌≡◌, ◌≢◌, ℕ, ◌+◌, ◌-◌, ◌<◌, ◌≤◌, List, ◌⊎◌, inl, inr, length, set, sym, ap, ◌∙◌, subst, arith}
+use Rattle.std.proofs.Common.{length-set}
 use Rattle.std.proofs.lemmas.Bool.{cases_lt}
 use Rattle.std.proofs.lemmas.List.{length-map, get_or-map, get_or_default, get_or_past, get_or-set_same, get_or-set_other}
 use Rattle.std.proofs.lemmas.List.Elements.{All-contains, Contains-get_or}
@@ -8,26 +9,35 @@ use Rattle.tl_problem.specs.Problem.{ProblemModel}
 use Rattle.tl_problem.specs.Layouts.{WithinPage}
 use Rattle.tl_problem.specs.Sound.{IsSound, IsSoundCell}
 use Rattle.tl_problem.specs.Spans.{span, spans_of, classes_of, page_room}
-use Rattle.tl_problem.specs.Zones.{span_at, classes_at, first_in_class, last_in_class, range, range_at, IsZone, whole_zone, lower_part, upper_part}
+use Rattle.tl_problem.specs.Zones.{span_at, classes_at, first_in_class, last_in_class, range, range_at, IsZone, whole_zone}
+use Rattle.tl_problem.specs.Zones.{lower_part, upper_part}
 use Rattle.tl_problem.specs.Zones.{span_width, InZone}
-use Rattle.tl_problem.proofs.SpanLaws.{has_span-parts, spans-cell, least_width-within, classes-rising, classes-first, classes-some, class-in_page, room-in_page}
+use Rattle.tl_problem.proofs.SpanLaws.{has_span-parts, spans-cell, least_width-within, classes-rising, classes-first}
+use Rattle.tl_problem.proofs.SpanLaws.{classes-some, class-in_page, room-in_page}
 
 -- the room of a span is a width of its range's classes
 abbrev pub InRange : ProblemModel → List ℕ → ℕ → Range → Type 0
-InRange problem widths s r = (first_in_class problem s r.first ≤ span_width problem widths s) × (span_width problem widths s ≤ last_in_class problem s r.last)
+InRange problem widths s r = (first_in_class problem s r.first ≤ span_width problem widths s) ×
+    (span_width problem widths s ≤ last_in_class problem s r.last)
 
 -- ---- the whole
 
 -- the range of a span in the whole
 pub whole-range : (problem : ProblemModel) (s : ℕ) → s < length (spans_of problem) →
     range_at (whole_zone problem) s ≡ range 0 (length (classes_at problem s) - 1)
-whole-range problem s within = get_or-map (λ columns. range 0 (length (classes_of problem columns) - 1)) (spans_of problem) s (span 0 0) (range 0 0) within
+whole-range problem s within = get_or-map (λ columns. range 0 (length (classes_of problem columns) - 1)) (spans_of problem) s
+    (span 0 0) (range 0 0) within
 
 pub whole-is_zone : (problem : ProblemModel) → IsZone problem (whole_zone problem)
 whole-is_zone problem = record {
   spans = length-map (spans_of problem) (λ columns. range 0 (length (classes_of problem columns) - 1));
   ranges = λ s within.
-      let is = whole-range problem s (omega (arith, within, length-map (spans_of problem) (λ columns. range 0 (length (classes_of problem columns) - 1)))) in
+      let is = whole-range problem s (omega (
+        arith,
+        within,
+        length-map (spans_of problem)
+            (λ columns. range 0 (length (classes_of problem columns) - 1)),
+      )) in
       let some = classes-some problem (span_at problem s) in
       (omega (arith, ap (λ r. r.first) is), omega (arith, ap (λ r. r.last) is, some));
 }
@@ -41,7 +51,8 @@ span-within problem sound s within =
     let cell = All-contains (IsSoundCell problem) problem.cells found.0 sound.cells found.1 in
     (omega (arith, parts.0, parts.1, cell.columns.0), omega (arith, parts.1, cell.columns.1))
 
-pub whole-all : (problem : ProblemModel) → IsSound problem → (widths : List ℕ) → WithinPage problem widths → InZone problem (whole_zone problem) widths
+pub whole-all : (problem : ProblemModel) → IsSound problem → (widths : List ℕ) → WithinPage problem widths →
+    InZone problem (whole_zone problem) widths
 whole-all problem sound widths page = record {
   page = page;
   ranges = λ s inside.
@@ -54,7 +65,8 @@ whole-all problem sound widths page = record {
       let columns = span-within problem sound s within in
       let least = least_width-within problem (span_at problem s) widths page in
       let most = room-in_page problem widths page (span_at problem s).left (span_at problem s).right columns.0 columns.1 in
-      let end = get_or_past (classes_at problem s) (length (classes_at problem s) - 1 + 1) (page_room problem + 1) (omega arith) in
+      let end = get_or_past (classes_at problem s) (length (classes_at problem s) - 1 + 1) (page_room problem + 1)
+      (omega arith) in
       subst (InRange problem widths s) (sym (whole-range problem s within)) (
         omega (arith, least, classes-first problem (span_at problem s) 0),
         omega (arith, most, end),
@@ -71,7 +83,8 @@ cases_eq t s = elim (cases_lt t s) [
       elim (cases_lt s t) [ inl above ↦ inr (λ e. omega arith) | inr same ↦ inl (omega arith) ]
 ]
 
-module _ (problem : ProblemModel) (sound : IsSound problem) (zone : List Range) (is : IsZone problem zone) (s class : ℕ) (there : s < length zone)
+module _ (problem : ProblemModel) (sound : IsSound problem) (zone : List Range) (is : IsZone problem zone) (s class : ℕ)
+    (there : s < length zone)
     (from : (range_at zone s).first ≤ class) (before : class < (range_at zone s).last) where
   lower_at : range_at (lower_part zone s class) s ≡ range (range_at zone s).first class
   lower_at = get_or-set_same zone s (range (range_at zone s).first class) (range 0 0) there
@@ -120,7 +133,8 @@ module _ (problem : ProblemModel) (sound : IsSound problem) (zone : List Range) 
   other_at r t apart = get_or-set_other zone s t r (range 0 0) apart
 
   -- of any list of ranges, what is so of the cut one and of each other is so of all
-  each_range : (widths : List ℕ) (r : Range) → InRange problem widths s r → ((t : ℕ) → t < length zone → t ≢ s → InRange problem widths t (range_at zone t)) →
+  each_range : (widths : List ℕ) (r : Range) → InRange problem widths s r →
+      ((t : ℕ) → t < length zone → t ≢ s → InRange problem widths t (range_at zone t)) →
       (t : ℕ) → t < length (set zone s r) → InRange problem widths t (range_at (set zone s r) t)
   each_range widths r here others t within =
       let inside : t < length zone = omega (arith, within, length-set zone s r) in
@@ -169,20 +183,28 @@ module _ (problem : ProblemModel) (sound : IsSound problem) (zone : List Range) 
   pub lower-inside : (widths : List ℕ) → InZone problem (lower_part zone s class) widths → InZone problem zone widths
   lower-inside widths inside =
       part_inside (range (range_at zone s).first class) widths
-      (λ here. (here.0, omega (arith, here.1, earlier_end class (range_at zone s).last (omega arith) (is.ranges s there).1))) inside
+      (λ here. (here.0, omega (arith, here.1, earlier_end class (range_at zone s).last (omega arith) (is.ranges s there).1)))
+      inside
 
   pub upper-inside : (widths : List ℕ) → InZone problem (upper_part zone s class) widths → InZone problem zone widths
   upper-inside widths inside =
       part_inside (range (class + 1) (range_at zone s).last) widths
       (λ here. (
-        omega (arith, here.0, later_start (range_at zone s).first (class + 1) (omega arith) (omega (arith, (is.ranges s there).1))),
+        omega (
+          arith,
+          here.0,
+          later_start (range_at zone s).first (class + 1) (omega arith)
+              (omega (arith, (is.ranges s there).1)),
+        ),
         here.1,
       )) inside
 
   -- no widths are in both parts
-  pub parts-apart : (widths : List ℕ) → InZone problem (lower_part zone s class) widths → InZone problem (upper_part zone s class) widths → ⊥
+  pub parts-apart : (widths : List ℕ) → InZone problem (lower_part zone s class) widths →
+      InZone problem (upper_part zone s class) widths → ⊥
   parts-apart widths low high =
-      let below = subst (InRange problem widths s) lower_at (low.ranges s (omega (arith, there, length-set zone s (range (range_at zone s).first class)))) in
+      let below = subst (InRange problem widths s) lower_at (low.ranges s
+      (omega (arith, there, length-set zone s (range (range_at zone s).first class)))) in
       let above = subst (InRange problem widths s) upper_at (high.ranges s
       (omega (arith, there, length-set zone s (range (class + 1) (range_at zone s).last)))) in
       omega (arith, below.1, above.0, next_class.0)
@@ -196,8 +218,10 @@ module _ (problem : ProblemModel) (sound : IsSound problem) (zone : List Range) 
         elim (cases_eq t s) [
           | inl same ↦ subst (λ u. ((range_at (set zone s r) u).first ≤ (range_at (set zone s r) u).last) ×
               ((range_at (set zone s r) u).last < length (classes_at problem u))) (sym same)
-              (subst (λ q. (q.first ≤ q.last) × (q.last < length (classes_at problem s))) (sym (get_or-set_same zone s r (range 0 0) there)) (ordered, within))
-          | inr apart ↦ subst (λ q. (q.first ≤ q.last) × (q.last < length (classes_at problem t))) (sym (other_at r t apart)) (is.ranges t inside)
+              (subst (λ q. (q.first ≤ q.last) × (q.last < length (classes_at problem s)))
+              (sym (get_or-set_same zone s r (range 0 0) there)) (ordered, within))
+          | inr apart ↦ subst (λ q. (q.first ≤ q.last) × (q.last < length (classes_at problem t))) (sym (other_at r t apart))
+              (is.ranges t inside)
         ];
   }
 

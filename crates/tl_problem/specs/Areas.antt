@@ -4,7 +4,7 @@ use Rattle.std.specs.List.{AllZip}
 use Rattle.tl_base.specs.Style.{gap_of, row_gap_of, edge_of}
 use Rattle.tl_base.specs.Steps.{height_at}
 use Rattle.tl_problem.specs.declared.cell.Cell.{Cell}
-use Rattle.tl_problem.specs.Sizes.{position}
+use Rattle.tl_base.specs.Sizes.{position}
 use Rattle.tl_problem.specs.Problem.{ProblemModel, cell_width}
 
 -- `w` lies between the least and the greatest room of the cell: some of the widths give it no more, and some no less

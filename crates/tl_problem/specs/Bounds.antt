@@ -4,7 +4,7 @@ use Rattle.std.specs.Prelude.{◌≡◌, ℕ, ◌≤◌, List, length}
 use Rattle.std.specs.List.{All}
 use Rattle.tl_base.specs.Style.{gap_of, row_gap_of, edge_of}
 use Rattle.tl_base.specs.Steps.{IsLowAt}
-use Rattle.tl_problem.specs.Sizes.{room, total}
+use Rattle.tl_base.specs.Sizes.{room, IsLeastTotal}
 use Rattle.tl_problem.specs.Problem.{ProblemModel, cell_height}
 
 -- the set has no widths
@@ -21,11 +21,6 @@ pub record GiveLow (problem : ProblemModel) (Among : List ℕ → Type 0) (heigh
   pub rows : length heights ≡ problem.rows
   pub cells : All (λ cell. (w : ℕ) → IsGreatestRoom problem Among cell.left cell.right w →
       IsLowAt cell.low (cell_height problem heights cell) w) problem.cells
-
--- `least` is the least total of sizes of this kind
-pub record IsLeastTotal (gap edge : ℕ) (OfKind : List ℕ → Type 0) (least : ℕ) : Type 0 where
-  pub attained : (sizes : List ℕ) × OfKind sizes × (total gap edge sizes ≡ least)
-  pub never_less : (sizes : List ℕ) → OfKind sizes → least ≤ total gap edge sizes
 
 -- the bound of a set that has widths: the least total height of rows that give each cell its `low` at the greatest room
 -- of its span

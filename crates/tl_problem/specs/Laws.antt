@@ -41,7 +41,8 @@ OneClassIsExact = (problem : ProblemModel) → IsSound problem →
 -- the whole is a zone with all widths within the page
 abbrev pub WholeHasAll : Type 0
 WholeHasAll = (problem : ProblemModel) → IsSound problem →
-    IsZone problem (whole_zone problem) × ((widths : List ℕ) → WithinPage problem widths ↔ InZone problem (whole_zone problem) widths)
+    IsZone problem (whole_zone problem) × ((widths : List ℕ) →
+    WithinPage problem widths ↔ InZone problem (whole_zone problem) widths)
 
 -- the parts of a cut are zones that have between them the widths of the cut zone, and none in common
 pub record IsPartition (problem : ProblemModel) (zone low high : List Range) : Type 0 where

@@ -2,7 +2,7 @@
 use Rattle.std.specs.Prelude.{◌≡◌, ℕ, ◌≤◌, List, length}
 use Rattle.tl_base.specs.Style.{gap_of, row_gap_of}
 use Rattle.tl_problem.specs.declared.placed.Placed.{Placed}
-use Rattle.tl_problem.specs.Sizes.{position}
+use Rattle.tl_base.specs.Sizes.{position}
 use Rattle.tl_problem.specs.Problem.{ProblemModel, total_width, total_height}
 use Rattle.tl_problem.specs.Layouts.{WithinPage, GiveHigh}
 

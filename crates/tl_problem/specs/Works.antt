@@ -1,11 +1,11 @@
 -- What a `Work` leaves: the widths whose columns begin at places that satisfy the constraints of its matrix. Variable k of
 -- the matrix is the place where column k begins, and the last one the place where the columns end, a gap after the last.
-use Rattle.std.specs.Prelude.{◌≡◌, ℕ, ◌+◌, ◌<◌, ℤ, pos, ◌+ℤ◌, ◌≤ℤ◌, List, length}
+use Rattle.std.specs.Prelude.{◌≡◌, ℕ, zero, suc, ◌+◌, ◌<◌, ℤ, pos, negsuc, ◌+ℤ◌, ◌-ℤ◌, ◌≤ℤ◌, List, [], ◌∷◌, ◌++◌, length}
 use Rattle.tl_base.specs.Style.{gap_of}
 use Rattle.tl_diff.specs.Bounds.{Bounds, Satisfies}
 use Rattle.tl_diff.specs.Marks.{MarkedBounds}
 use Rattle.tl_problem.specs.declared.work.Work.{Work}
-use Rattle.tl_problem.specs.Sizes.{position}
+use Rattle.tl_base.specs.Sizes.{position}
 use Rattle.tl_problem.specs.Problem.{ProblemModel}
 use Rattle.tl_problem.specs.Layouts.{WithinPage}
 use Rattle.tl_problem.specs.Sound.{IsSound}
@@ -45,3 +45,13 @@ pub record IsWorkOf (problem : ProblemModel) (work : Work) : Type 0 where
 pub record HasPage (problem : ProblemModel) (work : Work) : Type 0 where
   pub work_of : IsWorkOf problem work
   pub whole : (widths : List ℕ) → WithinPage problem widths → IsLeft problem work.matrix.bounds widths
+
+-- a number, 0 where it is negative
+abbrev pub part_above : ℤ → ℕ
+part_above (pos n) = n
+part_above (negsuc n) = 0
+
+-- the widths that an assignment leaves between gaps
+abbrev pub widths_of : (ℕ → ℤ) → ℕ → ℕ → List ℕ
+widths_of x gap zero = []
+widths_of x gap (suc n) = widths_of x gap n ++ part_above (x (n + 1) -ℤ (x n +ℤ pos gap)) ∷ []

@@ -9,9 +9,8 @@ ghost use Rattle.tl_problem.specs.Bounds.{HasNoWidths, IsBound, IsGreatestRoom};
 ghost use Rattle.tl_problem.specs.Layouts.{WithinPage};
 ghost use Rattle.tl_problem.specs.Placements.{AreLeast, IsPlacementIn};
 ghost use Rattle.tl_problem.specs.Sound.{IsSound, IsSoundCell};
-ghost use Rattle.tl_problem.specs.Works.{IsLeft, IsWorkOf, KeepsPage};
+ghost use Rattle.tl_problem.specs.Works.{IsLeft, IsWorkOf, KeepsPage, widths_of};
 ghost use Rattle.tl_problem.specs.Zones.{InZone, IsZone};
-ghost use Rattle.tl_problem.specs.inner.Constraints.{widths_of};
 ghost use Rattle.tl_problem.specs.inner.Needs.{IsLeastRoom, NeedLow};
 
 use crate::constraints::add_ranges;

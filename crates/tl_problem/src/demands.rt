@@ -3,7 +3,7 @@
 
 ghost use Rattle.std.specs.Prelude.{◌≡◌, ℕ, ◌+◌, ◌-◌, ◌*◌, ◌<◌, ◌≤◌, ◌^◌, length, slice_index, sum, IfOk};
 ghost use Rattle.tl_base.specs.Style.{edge_of, row_gap_of};
-ghost use Rattle.tl_problem.specs.Bounds.{IsLeastTotal};
+ghost use Rattle.tl_base.specs.Sizes.{IsLeastTotal};
 ghost use Rattle.tl_problem.specs.declared.axis.Axis.TheVariants.{Rows};
 ghost use Rattle.tl_problem.specs.Placements.{AreLeast};
 ghost use Rattle.tl_problem.specs.inner.Axes.{count_on, end_of, gap_on, start_of};

@@ -7,27 +7,23 @@ mod area;
 mod axis;
 mod bound;
 mod cell;
-mod chain;
 mod constraints;
 mod demands;
 mod laws;
 mod placed;
 mod placing;
 mod problem;
-mod sizes;
 mod sound;
 mod spans;
 mod work;
 mod zone;
 
 pub use cell::{Cell, Span};
-pub use chain::{Chain, Entry};
 pub use laws::{
     area_bound_is_below_layouts, bound_is_below_layouts, bound_is_below_placements,
     cuts_are_partitions, one_class_is_exact, tight_once, tight_raises_nothing, whole_has_all,
 };
 pub use placed::Placed;
 pub use problem::Problem;
-pub use sizes::{room_on_page, room_size, total_size};
 pub use work::Work;
 pub use zone::{Range, Zone};

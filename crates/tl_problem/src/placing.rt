@@ -4,17 +4,16 @@ ghost use Rattle.std.specs.Prelude.{◌≡◌, ℕ, ◌+◌, ◌<◌, ◌≤◌,
 ghost use Rattle.tl_base.specs.Steps.{AreSteps, IsLeastWidthFor, first_width, height_at};
 ghost use Rattle.tl_problem.specs.Layouts.{WithinPage};
 ghost use Rattle.tl_problem.specs.Placements.{IsOpening, IsPlacement};
-ghost use Rattle.tl_problem.specs.Sizes.{room};
+ghost use Rattle.tl_base.specs.Sizes.{room};
 ghost use Rattle.tl_problem.specs.Sound.{IsSound};
 ghost use Rattle.tl_problem.specs.Tight.{IsTightFrom};
 ghost use Rattle.tl_problem.specs.inner.Needs.{NeedHigh, NeedLeast, NeedWidths};
 
 use crate::axis::Axis;
 use crate::demands::least_sizes;
-use crate::sizes::{room_on_page, total_size};
 use crate::{Cell, Placed, Problem};
 use std::alloc::AllocError;
-use tl_base::{List, MAX_COLUMNS, MAX_PAGE_WIDTH};
+use tl_base::{List, MAX_COLUMNS, MAX_PAGE_WIDTH, room_on_page, total_size};
 
 impl Problem {
     /// The least heights of the rows under these widths, by the `high` steps of the cells. `None`

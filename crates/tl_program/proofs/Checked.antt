@@ -1,33 +1,27 @@
 -- What a check comes to, as the files decide it.
-use Rattle.std.proofs.Common.{◌≡◌, ◌⊎◌, inl, inr, ℕ, List, sym, ap, subst, ◌∙◌, arith}
-use Rattle.std.proofs.lemmas.Bool.Decides.{eqb_tells}
-use Rattle.tl_base.specs.Desk.{longer}
+use Rattle.std.proofs.Common.{◌≡◌, ◌⊎◌, inl, inr, ℕ, List, sym, ap, subst, ◌∙◌}
+use Rattle.tl_command.specs.declared.command.Command.TheVariants.{Check}
+use Rattle.tl_command.specs.Ask.{Asked}
 use Rattle.tl_cert.specs.declared.certificate.Certificate.{Certificate}
 use Rattle.tl_cert.specs.declared.certificate.Claim.{Claim}
-use Rattle.tl_cert.specs.declared.certificate.Claim.TheVariants as claims
 use Rattle.tl_cert.specs.Faults.{IsTextOf}
-use Rattle.tl_form.specs.declared.cell.Table.{Table}
-use Rattle.tl_form.specs.Same.{AreSame}
+use Rattle.tl_table.specs.declared.cell.Table.{Table}
+use Rattle.tl_table.specs.Same.{AreSame}
 use Rattle.tl_form.specs.Valid.{IsValid}
 use Rattle.tl_form.proofs.SameDocuments.{same_valid}
-use Rattle.tl_form.proofs.SameTables.{same_turned}
-use Rattle.tl_program.specs.declared.reading.Reading.{Reading}
-use Rattle.tl_program.specs.declared.reading.Reading.TheVariants as readings
+use Rattle.tl_table.proofs.SameTables.{same_turned}
 use Rattle.tl_program.specs.declared.report.Report.{Report}
-use Rattle.tl_program.specs.declared.report.Report.TheVariants as reports
 use Rattle.tl_program.specs.declared.task.Task.{Task}
 use Rattle.tl_program.specs.Answers.{budget_in}
-use Rattle.tl_program.specs.Change.{Change, DoesNotFail, after}
-use Rattle.tl_program.specs.Checks as checks
-use Rattle.tl_program.specs.Checks.{asked_of, IsValidIn, IsJudged, IsCheckOf, IsCheckFor, IsCheckIn}
-use Rattle.tl_program.specs.Command.{Checking, IsCheck}
+use Rattle.tl_program.specs.Asks.{IsAskOf, input_name, judged_name}
+use Rattle.tl_program.specs.Change.{Change, DoesNotFail}
+use Rattle.tl_program.specs.Checks.{IsValidIn, IsShownAs, lowest_shown, bounded_shown, narrow_shown, IsJudged, IsChecked}
 use Rattle.tl_program.specs.Complete.{ShowsFile, SpellsTable, claim_status, IsAcceptedSo, IsRejectedSo}
-use Rattle.tl_program.specs.Headline.{Becomes, Ends}
-use Rattle.tl_program.specs.Messages.{number_of, status_of, text_of}
-use Rattle.tl_program.specs.Outcomes.{Outcome}
-use Rattle.tl_program.specs.Reading.{IsReading, AreAlike}
-use Rattle.tl_program.proofs.CommandLemmas.{checking_once, lay_is_no_check, check_is_no_demo}
-use Rattle.tl_program.proofs.Ends.{same_bytes, same_reach, same_budget}
+use Rattle.tl_program.specs.Headline.{IsCarriedOut, Ends}
+use Rattle.tl_program.specs.Messages.{status_number, status_of}
+use Rattle.tl_program.specs.Deliveries.{Delivery}
+use Rattle.tl_program.specs.Tasks.{task_of}
+use Rattle.tl_program.proofs.Ends.{same_bytes, same_budget, went, own_input}
 use Rattle.tl_program.proofs.Judging.{one_certificate}
 
 -- the table as it was read, and what is judged of the text, that a check which did not fail went by
@@ -36,56 +30,33 @@ record WentBy (task : Task) (table : Table) (text : List ℕ) (status : ℕ) : T
   alike : AreSame found table
   report : Report
   judged : IsJudged task found text report
-  same : status ≡ number_of (status_of report)
+  same : status ≡ status_number (status_of report)
 
-module _ (words : List (List ℕ)) (change : Change) (status : ℕ) (ends : Ends words change status) (command : Checking) (bytes text : List ℕ)
-    (table : Table) (is : IsCheck words command) (input : ShowsFile change command.input bytes) (certificate : ShowsFile change command.certificate text)
-    (quiet : DoesNotFail change) (spells : SpellsTable (asked_of command) bytes table) where
-  by_table : (found : Table) (report : Report) → AreSame found table →
-      IsCheckOf (asked_of command) found change.files command.certificate report → status ≡ number_of (status_of report) →
-      WentBy (asked_of command) table text status
-  by_table found report alike (inl far) same = absurd (omega (arith, far.0, spells.within, same_reach (asked_of command) found table alike))
-  by_table found report alike (inr (near, other, held, judged)) same = record {
-    found = found;
-    alike = alike;
-    report = report;
-    judged = subst (λ (t : List ℕ). IsJudged (asked_of command) found t report)
-        (same_bytes change.files certificate.0 command.certificate other text certificate.1 certificate.2 held) judged;
-    same = same;
-  }
+module _ (words : List (List ℕ)) (change : Change) (status : ℕ) (ends : Ends words change status) (asked : Asked)
+    (bytes text : List ℕ)
+    (table : Table) (is : IsAskOf Check words asked) (input : ShowsFile change (input_name asked) bytes)
+    (certificate : ShowsFile change (judged_name asked) text)
+    (quiet : DoesNotFail change) (spells : SpellsTable (task_of asked) bytes table) where
+  by_delivery : (delivery : Delivery) → IsCarriedOut Check asked change delivery →
+      status ≡ status_number (status_of delivery.report) →
+      WentBy (task_of asked) table text status
+  by_delivery delivery carried same =
+      let own = own_input asked (IsChecked asked change.files) change delivery carried bytes input quiet table spells in
+      let judged = own.2.judged in
+      record {
+        found = own.0;
+        alike = own.1;
+        report = delivery.report;
+        judged = subst (λ (t : List ℕ). IsJudged (task_of asked) own.0 t delivery.report)
+            (same_bytes change.files certificate.0 (judged_name asked) judged.0 text certificate.1 certificate.2 judged.1)
+            judged.2;
+        same = same;
+      }
 
-  by_reading : (reading : Reading) (report : Report) → AreAlike reading (readings.Table table) →
-      IsCheckFor (asked_of command) reading change.files command.certificate report →
-      status ≡ number_of (status_of report) → WentBy (asked_of command) table text status
-  by_reading (readings.Table found) report alike checked same = by_table found report alike checked same
-  by_reading (readings.Refused refusal) report alike checked same = absurd alike
-
-  by_check : (report : Report) → IsCheckIn command change.files report → status ≡ number_of (status_of report) →
-      WentBy (asked_of command) table text status
-  by_check report checked same =
-      let bytes_are : checked.bytes ≡ bytes = same_bytes change.files input.0 command.input checked.bytes bytes input.1 input.2 checked.held in
-      let spelled : IsReading (asked_of command).breaking checked.bytes (readings.Table table) =
-      subst (λ (bs : List ℕ). IsReading (asked_of command).breaking bs (readings.Table table)) (sym bytes_are) spells.read in
-      by_reading checked.reading report (checked.only (readings.Table table) spelled) checked.checked same
-
-  by_outcome : (outcome : Outcome) × Becomes words change outcome × (status ≡ number_of (status_of outcome.report))
-      × (change.files_after ≡ after change.files outcome.stores) × (change.said_after ≡ longer change.said (text_of outcome.report)) →
-      WentBy (asked_of command) table text status
-  by_outcome (outcome, inl usage, same, files, said) = absurd (usage.0.no_check command is)
-  by_outcome (outcome, inr (inl (other, is', laid)), same, files, said) = absurd (lay_is_no_check words other command is' is)
-  by_outcome (outcome, inr (inr (inl (other, is', inl unread))), same, files, said) = absurd (quiet.load unread.rose)
-  by_outcome (outcome, inr (inr (inl (other, is', inr checked))), same, files, said) =
-      by_check outcome.report
-      (subst (λ (c : Checking). IsCheckIn c change.files outcome.report) (checking_once words other command is' is) checked.0) same
-  by_outcome (outcome, inr (inr (inr (number, is', demonstrated))), same, files, said) = absurd (check_is_no_demo words command number is is')
-
-  went_by : WentBy (asked_of command) table text status ⊎ (status ≡ 9)
-  went_by = elim (eqb_tells status 9) [
-    | inl nine ↦ inr nine.1
-    | inr other ↦ elim (eqb_tells status 8) [
-      | inl eight ↦ absurd (quiet.write (ends.write_fault eight.1).0)
-      | inr another ↦ inl (by_outcome (ends.done another.1 other.1))
-    ]
+  went_by : WentBy (task_of asked) table text status ⊎ (status ≡ 9)
+  went_by = elim (went words change status Check asked ends is quiet) [
+    | inl so ↦ inl (by_delivery so.0 so.1 so.2)
+    | inr nine ↦ inr nine
   ]
 
 -- a certificate that is valid for a table is valid for each that is the same
@@ -96,42 +67,48 @@ valid_alike task one other certificate same valid =
     (same_valid one other task.style task.width (budget_in task one) certificate same valid)
 
 -- what is shown has the status of the claim
-shown_status : (task : Task) (table : Table) (certificate : Certificate) (report : Report) → checks.Shows report task table certificate →
-    number_of (status_of report) ≡ number_of (claim_status certificate.claim)
-shown_status task table certificate (reports.Lowest height width) shows = sym (ap (λ (claim : Claim). number_of (claim_status claim)) shows.0)
-shown_status task table certificate (reports.Bounded height lower width) shows = sym (ap (λ (claim : Claim). number_of (claim_status claim)) shows.0)
-shown_status task table certificate (reports.Narrow least width) shows = sym (ap (λ (claim : Claim). number_of (claim_status claim)) shows.0)
-shown_status task table certificate (reports.Rejected rejection) shows = absurd shows
-shown_status task table certificate (reports.Refused refusal) shows = absurd shows
-shown_status task table certificate (reports.Summary summary) shows = absurd shows
-shown_status task table certificate reports.Usage shows = absurd shows
-shown_status task table certificate reports.ReadFault shows = absurd shows
+shown_status : (task : Task) (table : Table) (certificate : Certificate) {report : Report} →
+    IsShownAs task table certificate report →
+    status_number (status_of report) ≡ status_number (claim_status certificate.claim)
+shown_status task table certificate (lowest_shown is) =
+    sym (ap (λ (claim : Claim). status_number (claim_status claim)) is.claimed)
+shown_status task table certificate (bounded_shown is) = sym
+    (ap (λ (claim : Claim). status_number (claim_status claim)) is.claimed)
+shown_status task table certificate (narrow_shown is) =
+    sym (ap (λ (claim : Claim). status_number (claim_status claim)) is.claimed)
 
-pub accepted_so : (words : List (List ℕ)) (change : Change) (status : ℕ) → Ends words change status → IsAcceptedSo words change status
-accepted_so words change status ends = λ command bytes text table certificate is input held quiet spells text_is valid.
-    elim (went_by words change status ends command bytes text table is input held quiet spells) [
-      | inl so ↦ inl (so.same ∙ by_judged command text certificate text_is so.found
-          (valid_alike (asked_of command) table so.found certificate (same_turned so.found table so.alike) valid) so.report so.judged)
+pub accepted_so : (words : List (List ℕ)) (change : Change) (status : ℕ) → Ends words change status →
+    IsAcceptedSo words change status
+accepted_so words change status ends = λ asked bytes text table certificate is input held quiet spells text_is valid.
+    elim (went_by words change status ends asked bytes text table is input held quiet spells) [
+      | inl so ↦ inl (so.same ∙ by_judged asked text certificate text_is so.found
+          (valid_alike (task_of asked) table so.found certificate (same_turned so.found table so.alike) valid)
+          so.report so.judged)
       | inr nine ↦ inr nine
     ] where
-      by_judged : (command : Checking) (text : List ℕ) (certificate : Certificate) → IsTextOf text certificate → (found : Table) →
-          IsValidIn (asked_of command) found certificate → (report : Report) → IsJudged (asked_of command) found text report →
-          number_of (status_of report) ≡ number_of (claim_status certificate.claim)
-      by_judged command text certificate text_is found valid report (inl accepted) =
-          shown_status (asked_of command) found accepted.certificate report accepted.shows
-          ∙ ap (λ (c : Certificate). number_of (claim_status c.claim)) (one_certificate text accepted.certificate certificate accepted.text_is text_is)
-      by_judged command text certificate text_is found valid report (inr rejected) = absurd (rejected.never certificate text_is valid)
+      by_judged : (asked : Asked) (text : List ℕ) (certificate : Certificate) → IsTextOf text certificate → (found : Table) →
+          IsValidIn (task_of asked) found certificate → (report : Report) → IsJudged (task_of asked) found text report →
+          status_number (status_of report) ≡ status_number (claim_status certificate.claim)
+      by_judged asked text certificate text_is found valid report (inl accepted) =
+          shown_status (task_of asked) found accepted.certificate accepted.shows
+          ∙ ap (λ (c : Certificate). status_number (claim_status c.claim))
+          (one_certificate text accepted.certificate certificate accepted.text_is text_is)
+      by_judged asked text certificate text_is found valid report (inr rejected) =
+          absurd (rejected.never certificate text_is valid)
 
-pub rejected_so : (words : List (List ℕ)) (change : Change) (status : ℕ) → Ends words change status → IsRejectedSo words change status
-rejected_so words change status ends = λ command bytes text table is input held quiet spells never.
-    elim (went_by words change status ends command bytes text table is input held quiet spells) [
-      | inl so ↦ inl (so.same ∙ by_judged command text table so.found so.alike never so.report so.judged)
+pub rejected_so : (words : List (List ℕ)) (change : Change) (status : ℕ) → Ends words change status →
+    IsRejectedSo words change status
+rejected_so words change status ends = λ asked bytes text table is input held quiet spells never.
+    elim (went_by words change status ends asked bytes text table is input held quiet spells) [
+      | inl so ↦ inl (so.same ∙ by_judged asked text table so.found so.alike never so.report so.judged)
       | inr nine ↦ inr nine
     ] where
-      by_judged : (command : Checking) (text : List ℕ) (table found : Table) → AreSame found table →
-          ((certificate : Certificate) → IsTextOf text certificate → IsValidIn (asked_of command) table certificate → ⊥) → (report : Report) →
-          IsJudged (asked_of command) found text report → number_of (status_of report) ≡ 10
-      by_judged command text table found alike never report (inl accepted) =
+      by_judged : (asked : Asked) (text : List ℕ) (table found : Table) → AreSame found table →
+          ((certificate : Certificate) → IsTextOf text certificate → IsValidIn (task_of asked) table certificate → ⊥) →
+          (report : Report) →
+          IsJudged (task_of asked) found text report → status_number (status_of report) ≡ 10
+      by_judged asked text table found alike never report (inl accepted) =
           absurd (never accepted.certificate accepted.text_is
-          (valid_alike (asked_of command) found table accepted.certificate alike accepted.valid))
-      by_judged command text table found alike never report (inr rejected) = ap (λ (r : Report). number_of (status_of r)) rejected.told
+          (valid_alike (task_of asked) found table accepted.certificate alike accepted.valid))
+      by_judged asked text table found alike never report (inr rejected) =
+          ap (λ (r : Report). status_number (status_of r)) rejected.told

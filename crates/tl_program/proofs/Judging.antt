@@ -15,19 +15,19 @@ use Rattle.tl_cert.specs.declared.certificate.Claim.TheVariants as claims
 use Rattle.tl_cert.specs.declared.error.CertError.{CertError}
 use Rattle.tl_cert.specs.declared.error.CertError.TheVariants as texts
 use Rattle.tl_cert.specs.declared.section.Section.{Section}
-use Rattle.tl_cert.specs.Faults.{IsTextOf, Refused}
+use Rattle.tl_cert.specs.Faults.{IsTextOf, IsNoText}
 use Rattle.tl_cert.specs.Text.{IsWritable, HasProof, IsSectionShaped, IsNarrow}
 use Rattle.tl_cert.proofs.text.Laws.{texts_apart}
-use Rattle.tl_form.specs.declared.cell.Table.{Table}
+use Rattle.tl_table.specs.declared.cell.Table.{Table}
 use Rattle.tl_form.specs.ClosedLaws.{IsClosed, IsWideDocument, BudgetCloses}
 use Rattle.tl_form.specs.Expected.{Document, own_number, least_of}
-use Rattle.tl_form.specs.Least.{IsLeastWidth}
+use Rattle.tl_table.specs.Least.{IsLeastWidth}
 use Rattle.tl_form.specs.OpenLaws.{IsSpent, OpenSpends}
 use Rattle.tl_form.specs.Problems.{IsCountAll}
-use Rattle.tl_form.specs.Sound.{IsSound}
+use Rattle.tl_table.specs.Sound.{IsSound}
 use Rattle.tl_form.specs.Valid.{IsShown, HasNumbers, EndsWith}
 use Rattle.tl_form.specs.ValidLaws.{LowestIsLeast, BoundedIsBetween, NarrowIsTooWide}
-use Rattle.tl_form.proofs.LinkLemmas.{IsLeastWidth-unique}
+use Rattle.tl_table.proofs.LinkLemmas.{IsLeastWidth-unique}
 use Rattle.tl_verify.specs.declared.reject.Reject.{Reject}
 use Rattle.tl_verify.specs.declared.reject.Reject.TheVariants as steps
 use Rattle.tl_verify.specs.Verdicts.{IsRefusedAs}
@@ -36,7 +36,7 @@ use Rattle.tl_program.specs.declared.report.Report.{Report}
 use Rattle.tl_program.specs.declared.report.Report.TheVariants as reports
 use Rattle.tl_program.specs.declared.task.Task.{Task}
 use Rattle.tl_program.specs.Answers.{budget_in, IsBelowCounts}
-use Rattle.tl_program.specs.Checks.{IsValidIn, columns_of, Shows, IsJudged}
+use Rattle.tl_program.specs.Checks.{IsValidIn, columns_shown, IsShownAs, lowest_shown, bounded_shown, narrow_shown, IsJudged}
 use Rattle.tl_program.specs.Rejections.{text_rejection, step_rejection}
 use Rattle.tl_program.specs.inner.Claims.{HasFewColumns, report_of}
 use Rattle.tl_program.proofs.Laying.{own_least, last_found, last_of, last_is}
@@ -107,7 +107,7 @@ module _ (task : Task) (table : Table) (certificate : Certificate) (sound : IsSo
     narrower less = omega (arith, less, same, valid.1.wide)
 
   by_bounds : (height lower : ℕ) → certificate.claim ≡ claims.Bounded height lower → 0 < length sections →
-      Any (IsSpent (budget_in task table)) sections × IsBelowCounts task table
+      Any (IsSpent (budget_in task table)) sections × IsBelowCounts table task.style task.width (budget_in task table)
   by_bounds height lower is some = (spent, below) where
     shown : IsShown document (budget_in task table) certificate (claims.Bounded height lower)
     shown = subst (IsShown document (budget_in task table) certificate) is valid.2.shown
@@ -116,7 +116,8 @@ module _ (task : Task) (table : Table) (certificate : Certificate) (sound : IsSo
     last = last_of sections some
 
     numbers : HasNumbers (claims.Bounded height lower) last
-    numbers = subst (λ (found : Option Section). IsSomeAnd found (HasNumbers (claims.Bounded height lower))) (last_is sections some).found shown.1
+    numbers = subst (λ (found : Option Section). IsSomeAnd found (HasNumbers (claims.Bounded height lower)))
+        (last_is sections some).found shown.1
 
     wide_document : IsWideDocument table task.style task.width document
     wide_document = record {
@@ -132,7 +133,8 @@ module _ (task : Task) (table : Table) (certificate : Certificate) (sound : IsSo
 
     spent : Any (IsSpent (budget_in task table)) sections
     spent = subst (Any (IsSpent (budget_in task table))) (take_all (length sections) sections (omega arith))
-        (spends_law table task.style task.width (budget_in task table) (length sections) document sections wide_document (omega arith)
+        (spends_law table task.style task.width (budget_in task table) (length sections) document sections wide_document
+        (omega arith)
         shown.0.good (length sections - 1) last (omega (arith, some)) opened)
 
     below : (most : ℕ) → IsCountAll table task.style task.width most → budget_in task table < most
@@ -144,50 +146,57 @@ module _ (task : Task) (table : Table) (certificate : Certificate) (sound : IsSo
       closed : All IsClosed (take (length sections) sections) → ⊥
       closed all =
           let same : (get_or sections (length sections - 1) last).lower ≡ (get_or sections (length sections - 1) last).height =
-          (subst (All IsClosed) (take_all (length sections) sections (omega arith)) all) (length sections - 1) last (omega (arith, some)) in
+          (subst (All IsClosed) (take_all (length sections) sections (omega arith)) all) (length sections - 1) last
+          (omega (arith, some)) in
           omega (arith, same, opened)
 
   -- a claim of a bound rests on a section
   some_section : (height lower : ℕ) → certificate.claim ≡ claims.Bounded height lower → 0 < length sections
-  some_section height lower is = by_sections sections (subst (IsShown document (budget_in task table) certificate) is valid.2.shown).1 where
-    by_sections : (all : List Section) → EndsWith (claims.Bounded height lower) all → 0 < length all
-    by_sections [] ends = absurd ends
-    by_sections (section ∷ all) ends = omega arith
+  some_section height lower is =
+      by_sections sections (subst (IsShown document (budget_in task table) certificate) is valid.2.shown).1 where
+        by_sections : (all : List Section) → EndsWith (claims.Bounded height lower) all → 0 < length all
+        by_sections [] ends = absurd ends
+        by_sections (section ∷ all) ends = omega arith
 
   by_claim : (claim : Claim) → certificate.claim ≡ claim →
-      Shows (report_of task.width claim (columns_of task certificate)) task table certificate
-  by_claim (claims.Lowest height) is =
-      (is, lowest_law table task.style task.width (budget_in task table) certificate height sound valid is, refl)
+      IsShownAs task table certificate (report_of task.width claim (columns_shown task certificate))
+  by_claim (claims.Lowest height) is = lowest_shown (record {
+    claimed = is;
+    least = lowest_law table task.style task.width (budget_in task table) certificate height sound valid is;
+  })
   by_claim (claims.Bounded height lower) is =
       let between = bounded_law table task.style task.width (budget_in task table) certificate height lower sound valid is in
       let both = by_bounds height lower is (some_section height lower is) in
-      (is, between.0, between.1, both.0, both.1, refl)
+      bounded_shown (record { claimed = is; apart = between.0; between = between.1; spent = both.0; below = both.1 })
   by_claim (claims.Narrow least) is =
       let too = narrow_law table task.style task.width (budget_in task table) certificate least sound valid is in
-      (is, too.0, too.1, refl)
+      narrow_shown (record { claimed = is; narrow = too.0; each = too.1 })
 
   pub accepted : (text : List ℕ) (report : Report) → IsTextOf text certificate →
-      report ≡ report_of task.width certificate.claim (columns_of task certificate) → IsJudged task table text report
+      report ≡ report_of task.width certificate.claim (columns_shown task certificate) → IsJudged task table text report
   accepted text report text_is told = inl (record {
     certificate = certificate;
     text_is = text_is;
     valid = valid;
-    shows = subst (λ (r : Report). Shows r task table certificate) (sym told) (by_claim certificate.claim refl);
+    shows = subst (IsShownAs task table certificate) (sym told) (by_claim certificate.claim refl);
   })
 
 -- ---- what is rejected
 
 -- a result that tells why, where there is a reason
 abbrev pub Tells : Option Rejection → Result Report AllocError → Type 0
-Tells rejection result = IfOk result (λ report. (found : Rejection) × (rejection ≡ Some found) × (report ≡ reports.Rejected found))
+Tells rejection result = IfOk result (λ report. (found : Rejection) × (rejection ≡ Some found) ×
+    (report ≡ reports.Rejected found))
 
 none_some : (found : Rejection) → None ≡ Some found → ⊥
 none_some found e = absurd cc
 
 -- bytes that are no certificate's
-pub text_rejected : (task : Task) (table : Table) (text : List ℕ) (error : CertError) (result : Result Report AllocError) (rejection : Option Rejection) →
-    rejection ≡ text_rejection error → Tells rejection result → IsMemoryOr (texts.Memory alloc_error) (Refused text) error →
-    ((certificate : Certificate) → IsTextOf text certificate → error ≡ texts.Memory alloc_error) → IfOk result (IsJudged task table text)
+pub text_rejected : (task : Task) (table : Table) (text : List ℕ) (error : CertError) (result : Result Report AllocError)
+    (rejection : Option Rejection) →
+    rejection ≡ text_rejection error → Tells rejection result → IsMemoryOr (texts.Memory alloc_error) (IsNoText text) error →
+    ((certificate : Certificate) → IsTextOf text certificate → error ≡ texts.Memory alloc_error) →
+    IfOk result (IsJudged task table text)
 text_rejected task table text error (Err failed) rejection is tells why never = tt
 text_rejected task table text error (Ok report) rejection is tells why never = inr (record {
   rejection = tells.0;
@@ -198,12 +207,13 @@ text_rejected task table text error (Ok report) rejection is tells why never = i
   no_memory : error ≡ texts.Memory alloc_error → ⊥
   no_memory same = none_some tells.0 (sym (is ∙ ap text_rejection same) ∙ tells.1)
 
-  refused : IsMemoryOr (texts.Memory alloc_error) (Refused text) error → Refused text error
+  refused : IsMemoryOr (texts.Memory alloc_error) (IsNoText text) error → IsNoText text error
   refused (inl same) = absurd (no_memory same)
   refused (inr cause) = cause
 
 -- a certificate that is not valid
-pub step_rejected : (task : Task) (table : Table) (text : List ℕ) (certificate : Certificate) (reject : Reject) (result : Result Report AllocError)
+pub step_rejected : (task : Task) (table : Table) (text : List ℕ) (certificate : Certificate) (reject : Reject)
+    (result : Result Report AllocError)
     (rejection : Option Rejection) → rejection ≡ step_rejection reject → Tells rejection result → IsTextOf text certificate →
     IsMemoryOr (steps.Memory alloc_error) (IsRefusedAs table task.style task.width (budget_in task table) certificate) reject →
     (IsValidIn task table certificate → reject ≡ steps.Memory alloc_error) → IfOk result (IsJudged task table text)
@@ -218,7 +228,8 @@ step_rejected task table text certificate reject (Ok report) rejection is tells 
   no_memory : reject ≡ steps.Memory alloc_error → ⊥
   no_memory same = none_some tells.0 (sym (is ∙ ap step_rejection same) ∙ tells.1)
 
-  refused : IsMemoryOr (steps.Memory alloc_error) (IsRefusedAs table task.style task.width (budget_in task table) certificate) reject →
+  refused : IsMemoryOr (steps.Memory alloc_error) (IsRefusedAs table task.style task.width (budget_in task table) certificate)
+      reject →
       IsRefusedAs table task.style task.width (budget_in task table) certificate reject
   refused (inl same) = absurd (no_memory same)
   refused (inr cause) = cause

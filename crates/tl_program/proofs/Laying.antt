@@ -18,36 +18,34 @@ use Rattle.tl_cert.specs.declared.certificate.Claim.{Claim}
 use Rattle.tl_cert.specs.declared.certificate.Claim.TheVariants as claims
 use Rattle.tl_cert.specs.declared.section.Section.{Section}
 use Rattle.tl_cert.specs.Pieces.{Piece, AllWithin, word, field}
-use Rattle.tl_cert.specs.Text.{IsWritable, HasProof, HasSections, IsSectionShaped, IsSectionWritable, IsNarrow}
+use Rattle.tl_cert.specs.Text.{IsWritable, HasProof, HasSections, IsSectionShaped, IsSectionWritable, IsNarrow, chain_pieces}
 use Rattle.tl_cert.specs.Text.{IsChainWritable, cert_pieces, claim_pieces, section_pieces, section_head}
-use Rattle.tl_cert.specs.Text.{chain_pieces}
 use Rattle.tl_cert.specs.Text.{style_word, version_word, has_area, space, line_feed, spaced, cut_pieces, line_pieces}
 use Rattle.tl_cert.proofs.reading.Spellings.{within-first, within-append}
-use Rattle.tl_form.specs.declared.cell.Table.{Table}
-use Rattle.tl_form.specs.declared.layout.Layout.{Layout, out-Layout}
+use Rattle.tl_table.specs.declared.cell.Table.{Table}
+use Rattle.tl_table.specs.declared.layout.Layout.{Layout, out-Layout}
 use Rattle.tl_form.specs.ClosedLaws.{IsClosed, IsWideDocument, BudgetCloses}
 use Rattle.tl_form.specs.OpenLaws.{IsSpent, OpenSpends}
-use Rattle.tl_problem.specs.declared.chain.Chain.{Chain}
-use Rattle.tl_form.specs.ChainRanges.{HasFewCells, ChainsAreWritable}
-use Rattle.tl_form.specs.Chains.{IsChain, IsHeaviestChain}
-use Rattle.tl_form.proofs.LinkLemmas.{IsLeastWidth-unique}
-use Rattle.tl_form.specs.Layouts.{Fits, FitsWithin, total_width}
+use Rattle.tl_base.specs.declared.chain.Chain.{Chain}
+use Rattle.tl_form.specs.ChainRanges.{ChainsAreWritable}
+use Rattle.tl_table.specs.FewCells.{HasFewCells}
+use Rattle.tl_table.specs.Chains.{IsChain, IsHeaviestChain}
+use Rattle.tl_table.proofs.LinkLemmas.{IsLeastWidth-unique}
+use Rattle.tl_table.specs.Layouts.{Fits, FitsWithin, total_width}
 use Rattle.tl_form.specs.Named.{IsNamed}
 use Rattle.tl_form.specs.Problems.{IsCountAll}
-use Rattle.tl_form.specs.Sound.{IsSound, IsSoundWithin}
-use Rattle.tl_form.specs.ValidLaws.{LowestIsLeast, BoundedIsBetween}
+use Rattle.tl_table.specs.Sound.{IsSound, IsSoundWithin}
+use Rattle.tl_form.specs.ValidLaws.{LowestIsLeast, BoundedIsBetween, HasHeight}
 use Rattle.tl_form.specs.Expected.{Document, IsDocumentOf, own_number, least_of}
-use Rattle.tl_form.specs.Least.{IsLeastWidth}
+use Rattle.tl_table.specs.Least.{IsLeastWidth}
 use Rattle.tl_form.specs.Subjects.{meant}
 use Rattle.tl_form.specs.declared.subject.Subject.{Subject}
 use Rattle.tl_form.specs.Valid.{AreGoodBelow, AreWhole, HasNumbers, EndsWith, IsShown, IsValid}
-use Rattle.tl_form.specs.ValidLaws.{HasHeight}
 use Rattle.tl_nested.specs.Searched.{AreSectionsOf, AreWritable}
 use Rattle.tl_program.specs.declared.answer.Answer.{Answer}
-use Rattle.tl_program.specs.declared.refusal.Refusal.{Refusal}
-use Rattle.tl_program.specs.declared.report.Report.TheVariants as reports
 use Rattle.tl_program.specs.declared.task.Task.{Task}
-use Rattle.tl_program.specs.Answers.{budget_in, certificate_file, IsPageFile, IsOutcomeOf, IsLaid, IsAnswerBy, IsReadable}
+use Rattle.tl_program.specs.Answers.{budget_in, certificate_file, IsPageFile, IsOutcomeOf, IsWritten, IsLaidAs, lowest_laid}
+use Rattle.tl_program.specs.Answers.{bounded_laid, IsReadBack}
 use Rattle.tl_program.specs.inner.Claims.{section_claim, claim_of_last, claim_of, certificate_of, report_of}
 
 -- ---- the last section
@@ -94,7 +92,8 @@ claim_is_wide sections = by_last (last_or None sections) where
 
 -- what shows a claim that the page is wide enough
 shown_by : (document : Document) (budget : ℕ) (certificate : Certificate) (claim : Claim) → (IsNarrow claim → ⊥) →
-    AreWhole document budget certificate.sections → EndsWith claim certificate.sections → IsShown document budget certificate claim
+    AreWhole document budget certificate.sections → EndsWith claim certificate.sections →
+    IsShown document budget certificate claim
 shown_by document budget certificate (claims.Lowest height) wide whole ends = (whole, ends)
 shown_by document budget certificate (claims.Bounded height lower) wide whole ends = (whole, ends)
 shown_by document budget certificate (claims.Narrow least) wide whole ends = absurd (wide tt)
@@ -104,7 +103,8 @@ pub own_least : (table : Table) (style : Style) (page : ℕ) (document : Documen
     IsLeastWidth table style (least_of document (own_number document))
 own_least table style page document of =
     subst (λ (t : Table). IsLeastWidth t style (least_of document (own_number document))) of.same
-    (subst (λ (s : Style). IsLeastWidth document.table s (least_of document (own_number document))) of.drawn (of.least document.table (inl refl)))
+    (subst (λ (s : Style). IsLeastWidth document.table s (least_of document (own_number document))) of.drawn
+    (of.least document.table (inl refl)))
 
 -- the first item of a list that is not empty
 pub first_of : {X : Type 0} (xs : List X) → 0 < length xs → X
@@ -118,7 +118,8 @@ claim_height section false = refl
 
 -- ---- writing
 
-each_within : {X : Type 0} (f : X → List Piece) (xs : List X) → AllByRecursion (λ x. AllWithin (f x)) xs → AllWithin (flat_map f xs)
+each_within : {X : Type 0} (f : X → List Piece) (xs : List X) → AllByRecursion (λ x. AllWithin (f x)) xs →
+    AllWithin (flat_map f xs)
 each_within f [] all = tt
 each_within f (x ∷ xs) all = within-append (f x) (flat_map f xs) all.0 (each_within f xs all.1)
 
@@ -126,26 +127,33 @@ claim_within : (claim : Claim) → ((height : ℕ) → claim ≡ claims.Lowest h
     ((height lower : ℕ) → claim ≡ claims.Bounded height lower → (height ≤ MAX_HEIGHT) × (lower ≤ MAX_HEIGHT)) →
     ((least : ℕ) → claim ≡ claims.Narrow least → least ≤ MAX_HEIGHT) → AllWithin (claim_pieces claim)
 claim_within (claims.Lowest height) lowest bounded narrow =
-    within-append (word (codes "lowest ")) (field 0 MAX_HEIGHT height line_feed) (within-word (codes "lowest ")) ((omega arith, lowest height refl), (tt, tt))
+    within-append (word (codes "lowest ")) (field 0 MAX_HEIGHT height line_feed) (within-word (codes "lowest "))
+    ((omega arith, lowest height refl), (tt, tt))
 claim_within (claims.Bounded height lower) lowest bounded narrow =
-    within-append (word (codes "bounded ")) (field 0 MAX_HEIGHT height space ++ field 0 MAX_HEIGHT lower line_feed) (within-word (codes "bounded "))
+    within-append (word (codes "bounded ")) (field 0 MAX_HEIGHT height space ++ field 0 MAX_HEIGHT lower line_feed)
+    (within-word (codes "bounded "))
     ((omega arith, (bounded height lower refl).0), (tt, ((omega arith, (bounded height lower refl).1), (tt, tt))))
 claim_within (claims.Narrow least) lowest bounded narrow =
-    within-append (word (codes "narrow ")) (field 0 MAX_HEIGHT least line_feed) (within-word (codes "narrow ")) ((omega arith, narrow least refl), (tt, tt))
+    within-append (word (codes "narrow ")) (field 0 MAX_HEIGHT least line_feed) (within-word (codes "narrow "))
+    ((omega arith, narrow least refl), (tt, tt))
 
 -- the pieces of a certificate are within their ranges where its parts are
-pub pieces_within : (c : Certificate) → 1 ≤ c.width → c.width ≤ MAX_PAGE_WIDTH → c.budget ≤ MAX_BUDGET → AllWithin (claim_pieces c.claim) →
-    AllByRecursion (λ chain. AllWithin (chain_pieces chain)) c.chains → AllByRecursion (λ section. AllWithin (section_pieces section)) c.sections →
+pub pieces_within : (c : Certificate) → 1 ≤ c.width → c.width ≤ MAX_PAGE_WIDTH → c.budget ≤ MAX_BUDGET →
+    AllWithin (claim_pieces c.claim) →
+    AllByRecursion (λ chain. AllWithin (chain_pieces chain)) c.chains →
+    AllByRecursion (λ section. AllWithin (section_pieces section)) c.sections →
     AllWithin (cert_pieces c)
 pieces_within c more less cuts claim chains sections =
-    let tail = within-append (flat_map section_pieces c.sections) (word (codes "end\n")) (each_within section_pieces c.sections sections)
+    let tail = within-append (flat_map section_pieces c.sections) (word (codes "end\n"))
+    (each_within section_pieces c.sections sections)
     (within-word (codes "end\n")) in
     let body = within-append (flat_map chain_pieces c.chains) _ (each_within chain_pieces c.chains chains) tail in
     let claimed = within-append (claim_pieces c.claim) _ claim body in
     let budgeted = within-append (field 0 MAX_BUDGET c.budget line_feed) _ ((omega arith, cuts), (tt, tt)) claimed in
     let styled = within-append (word (style_word c.style)) _ (within-word (style_word c.style)) budgeted in
     let wide = within-append (field 1 MAX_PAGE_WIDTH c.width space) _ ((more, less), (tt, tt)) styled in
-    let versioned = within-append (word (version_word (has_area c.sections))) _ (within-word (version_word (has_area c.sections))) wide in
+    let versioned = within-append (word (version_word (has_area c.sections))) _
+    (within-word (version_word (has_area c.sections))) wide in
     within-append (word (codes "tablelayout ")) _ (within-word (codes "tablelayout ")) versioned
 
 shaped_wide : (claim : Claim) (c : Certificate) → (IsNarrow claim → ⊥) → HasSections c → HasProof claim c
@@ -168,9 +176,11 @@ section_numbers section can =
 section_claims : (section : Section) (same : Bool) → (section.height ≤ MAX_HEIGHT) × (section.lower ≤ MAX_HEIGHT) →
     AllWithin (claim_pieces (claim_by section same))
 section_claims section true numbers =
-    within-append (word (codes "lowest ")) (field 0 MAX_HEIGHT section.height line_feed) (within-word (codes "lowest ")) ((omega arith, numbers.0), (tt, tt))
+    within-append (word (codes "lowest ")) (field 0 MAX_HEIGHT section.height line_feed) (within-word (codes "lowest "))
+    ((omega arith, numbers.0), (tt, tt))
 section_claims section false numbers =
-    within-append (word (codes "bounded ")) (field 0 MAX_HEIGHT section.height space ++ field 0 MAX_HEIGHT section.lower line_feed)
+    within-append (word (codes "bounded ")) (field 0 MAX_HEIGHT section.height space ++ field 0 MAX_HEIGHT section.lower
+    line_feed)
     (within-word (codes "bounded "))
     ((omega arith, numbers.0), (tt, ((omega arith, numbers.1), (tt, tt))))
 
@@ -255,7 +265,8 @@ module _ (given : ProblemModel → Outcome → Type 0) (table : Table) (style : 
               (wide (least_of are.document (own_number are.document)) (own_least table style page are.document are.of)))),
         );
       };
-      shown = shown_by are.document budget (certificate_of page style budget sections) (claim_of sections) (claim_is_wide sections) whole ends;
+      shown = shown_by are.document budget (certificate_of page style budget sections) (claim_of sections)
+          (claim_is_wide sections) whole ends;
     },
   ) where
     too_wide : (a b : ℕ) → a < b → b ≤ a → ⊥
@@ -280,7 +291,8 @@ module _ (given : ProblemModel → Outcome → Type 0) (table : Table) (style : 
       (get_or sections (length sections - 1) d).lower < (get_or sections (length sections - 1) d).height
   open_last height lower is d = subst (λ (s : Section). s.lower < s.height) (sym (last.at d))
       (by_test (last_section.lower == last_section.height) refl (sym claim_same ∙ is)) where
-        by_test : (same : Bool) → (last_section.lower == last_section.height) ≡ same → claim_by last_section same ≡ claims.Bounded height lower →
+        by_test : (same : Bool) → (last_section.lower == last_section.height) ≡ same →
+            claim_by last_section same ≡ claims.Bounded height lower →
             last_section.lower < last_section.height
         by_test true e bounded = absurd (apart bounded) where
           apart : claims.Lowest last_section.height ≡ claims.Bounded height lower → ⊥
@@ -289,12 +301,14 @@ module _ (given : ProblemModel → Outcome → Type 0) (table : Table) (style : 
 
 -- ---- the claim of a section, by its test
 
-pub lowest_claim : (sections : List Section) (section : Section) → last_or None sections ≡ Some section → section.lower ≡ section.height →
+pub lowest_claim : (sections : List Section) (section : Section) → last_or None sections ≡ Some section →
+    section.lower ≡ section.height →
     claims.Lowest section.height ≡ claim_of sections
 lowest_claim sections section found same =
     sym (ap (claim_by section) (eq-eqb section.lower section.height same)) ∙ sym (ap claim_of_last found)
 
-pub bounded_claim : (sections : List Section) (section : Section) → last_or None sections ≡ Some section → section.lower ≢ section.height →
+pub bounded_claim : (sections : List Section) (section : Section) → last_or None sections ≡ Some section →
+    section.lower ≢ section.height →
     claims.Bounded section.height section.lower ≡ claim_of sections
 bounded_claim sections section found apart = elim (eqb_tells section.lower section.height) [
   | inl same ↦ absurd (apart same.1)
@@ -304,10 +318,12 @@ bounded_claim sections section found apart = elim (eqb_tells section.lower secti
 -- ---- the fit
 
 -- a layout that fits has few columns
-pub few_columns : (table : Table) (style : Style) (page height : ℕ) (layout : Layout) → IsSound table → Fits table style page height layout →
+pub few_columns : (table : Table) (style : Style) (page height : ℕ) (layout : Layout) → IsSound table →
+    Fits table style page height layout →
     length (out-Layout layout).widths ≤ MAX_COLUMNS
 few_columns table style page height layout sound fits = by_depth sound.depth fits.0 sound.sound fits.1 where
-  by_depth : (deep fit : ℕ) → IsSoundWithin deep table → FitsWithin fit style table page height layout → length (out-Layout layout).widths ≤ MAX_COLUMNS
+  by_depth : (deep fit : ℕ) → IsSoundWithin deep table → FitsWithin fit style table page height layout →
+      length (out-Layout layout).widths ≤ MAX_COLUMNS
   by_depth zero fit is laid = absurd is
   by_depth (suc deep) zero is laid = absurd laid
   by_depth (suc deep) (suc fit) is laid = omega (arith, laid.columns, is.few_columns)
@@ -315,9 +331,11 @@ few_columns table style page height layout sound fits = by_depth sound.depth fit
 -- ---- what is answered
 
 abbrev pub sections_of : Task → Table → List Section → Type 0
-sections_of task table sections = AreSectionsOf (IsOutcomeOf task.search (budget_in task table)) table task.style task.width (budget_in task table) sections
+sections_of task table sections = AreSectionsOf (IsOutcomeOf task.search (budget_in task table)) table task.style task.width
+    (budget_in task table) sections
 
-module _ (task : Task) (table : Table) (sections : List Section) (are : sections_of task table sections) (can : AreWritable sections)
+module _ (task : Task) (table : Table) (sections : List Section) (are : sections_of task table sections)
+    (can : AreWritable sections)
     (wide : (least : ℕ) → IsLeastWidth table task.style least → least ≤ task.width)
     (sound : IsSound table) (narrow : task.width ≤ MAX_PAGE_WIDTH) (cuts : budget_in task table ≤ MAX_BUDGET)
     (layout : Layout) (taken : ℕ) (page : List ℕ) (answer : Answer)
@@ -326,27 +344,32 @@ module _ (task : Task) (table : Table) (sections : List Section) (are : sections
     (takes : taken ≡ total_width task.style (out-Layout layout))
     (is_page : IsPageFile task.html task.style table layout page)
     (page_stored : answer.page ≡ Some page)
-    (certificate_stored : answer.certificate ≡ certificate_file task.certified (certificate_of task.width task.style (budget_in task table) sections))
-    (readable : IsReadable task.certified (certificate_of task.width task.style (budget_in task table) sections))
+    (certificate_stored : answer.certificate ≡ certificate_file task.certified
+    (certificate_of task.width task.style (budget_in task table) sections))
+    (readable : IsReadBack task.certified (certificate_of task.width task.style (budget_in task table) sections))
     (lowest_law : LowestIsLeast) (bounded_law : BoundedIsBetween) (closes_law : BudgetCloses) (spends_law : OpenSpends) where
   abbrev cert : Certificate
   cert = certificate_of task.width task.style (budget_in task table) sections
 
   is_valid : IsValid table task.style task.width (budget_in task table) cert
-  is_valid = valid (IsOutcomeOf task.search (budget_in task table)) table task.style task.width (budget_in task table) sections are can wide
+  is_valid = valid (IsOutcomeOf task.search (budget_in task table)) table task.style task.width (budget_in task table)
+      sections are can wide
 
-  abbrev laid : (claim : Claim) (height : ℕ) → claim_of sections ≡ claim → HasHeight claim height → IsLaid task table claim height taken answer
+  abbrev laid : (claim : Claim) (height : ℕ) → claim_of sections ≡ claim → HasHeight claim height →
+      IsWritten task table task.width (budget_in task table) claim height taken answer
   laid claim height is high = record {
     certificate = cert;
-    claimed = is;
-    valid = is_valid;
+    certifies = record { claimed = is; valid = is_valid };
     searched = are;
     layout = layout;
     named = named;
-    fits = fits height (subst (λ (c : Claim). HasHeight c height) (sym is) high);
-    wide = takes;
     page = page;
-    is_page = is_page;
+    is_page = record {
+      fits = fits height (subst (λ (c : Claim). HasHeight c height) (sym is) high);
+      wide = takes;
+      is_page =
+          is_page;
+    };
     page_stored = page_stored;
     certificate_stored = certificate_stored;
     readable = readable;
@@ -358,25 +381,33 @@ module _ (task : Task) (table : Table) (sections : List Section) (are : sections
   good : AreGoodBelow are.document (budget_in task table) sections (length sections)
   good = λ i d within. (are.each i d within).good
 
-  by_claim : (claim : Claim) → claim_of sections ≡ claim → IsAnswerBy (report_of task.width claim taken) task table answer
-  by_claim (claims.Lowest height) is = (
-    laid (claims.Lowest height) height is refl,
-    lowest_law table task.style task.width (budget_in task table) cert height sound is_valid is,
-  )
+  by_claim : (claim : Claim) → claim_of sections ≡ claim → IsLaidAs task table answer (report_of task.width claim taken)
+  by_claim (claims.Lowest height) is = lowest_laid (record {
+    written = laid (claims.Lowest height) height is refl;
+    least = lowest_law table task.style task.width (budget_in task table) cert height sound is_valid is;
+  })
   by_claim (claims.Narrow least) is = absurd (claim_is_wide sections (subst IsNarrow (sym is) tt))
   by_claim (claims.Bounded height lower) is =
       let between = bounded_law table task.style task.width (budget_in task table) cert height lower sound is_valid is in
-      (between.0, record { laid = laid (claims.Bounded height lower) height is refl; spent = spent }, between.1, below) where
+      bounded_laid (record {
+        apart = between.0;
+        written = laid (claims.Bounded height lower) height is refl;
+        spent = spent;
+        between = between.1;
+        below = below;
+      }) where
         last : ℕ
         last = length sections - 1
 
-        opened : (d : Section) → (get_or sections (length sections - 1) d).lower < (get_or sections (length sections - 1) d).height
+        opened : (d : Section) → (get_or sections (length sections - 1) d).lower <
+            (get_or sections (length sections - 1) d).height
         opened = open_last (IsOutcomeOf task.search (budget_in task table)) table task.style task.width
             (budget_in task table) sections are can wide height lower is
 
         spent : Any (IsSpent (budget_in task table)) sections
         spent = subst (Any (IsSpent (budget_in task table))) (take_all (length sections) sections (omega arith))
-            (spends_law table task.style task.width (budget_in task table) (length sections) are.document sections wide_document (omega arith) good
+            (spends_law table task.style task.width (budget_in task table) (length sections) are.document sections wide_document
+            (omega arith) good
             (length sections - 1) (first_of sections can.some) (omega (arith, can.some)) (opened (first_of sections can.some)))
 
         below : (most : ℕ) → IsCountAll table task.style task.width most → budget_in task table < most
@@ -390,18 +421,12 @@ module _ (task : Task) (table : Table) (sections : List Section) (are : sections
           closed all =
               let d = first_of sections can.some in
               let same : (get_or sections (length sections - 1) d).lower ≡ (get_or sections (length sections - 1) d).height =
-              (subst (All IsClosed) (take_all (length sections) sections (omega arith)) all) (length sections - 1) d (omega (arith, can.some)) in
+              (subst (All IsClosed) (take_all (length sections) sections (omega arith)) all) (length sections - 1) d
+              (omega (arith, can.some)) in
               omega (arith, same, opened d)
 
-  pub answered : IsAnswerBy (report_of task.width (claim_of sections) taken) task table answer
+  pub answered : IsLaidAs task table answer (report_of task.width (claim_of sections) taken)
   answered = by_claim (claim_of sections) refl
-
-  pub not_refused : (refusal : Refusal) → report_of task.width (claim_of sections) taken ≡ reports.Refused refusal → ⊥
-  not_refused refusal = by_report (claim_of sections) where
-    by_report : (claim : Claim) → report_of task.width claim taken ≡ reports.Refused refusal → ⊥
-    by_report (claims.Lowest height) e = absurd cc
-    by_report (claims.Bounded height lower) e = absurd cc
-    by_report (claims.Narrow least) e = absurd cc
 
 -- ---- a page that is too narrow
 
@@ -410,7 +435,8 @@ first_any [] a b some = absurd (omega (arith, some))
 first_any (x ∷ xs) a b some = refl
 
 -- the first of a subject's least widths is that of its own table
-pub own_first : (table : Table) (style : Style) (page : ℕ) (subject : Subject) (n : ℕ) → IsDocumentOf table style page (meant subject) →
+pub own_first : (table : Table) (style : Style) (page : ℕ) (subject : Subject) (n : ℕ) →
+    IsDocumentOf table style page (meant subject) →
     n ≡ get_or subject.least.items 0 n → IsLeastWidth table style n
 own_first table style page subject n of is =
     let k = own_number (meant subject) in
@@ -423,7 +449,15 @@ module _ (table : Table) (style : Style) (page budget least weight : ℕ) (chain
     (sound : IsSound table) (is_least : IsLeastWidth table style least) (narrow : page < least)
     (weighs : IsLeastWidth table style weight) (heaviest : IsHeaviestChain table style chains weight) where
   abbrev pub narrow_certificate : Certificate
-  narrow_certificate = record { width = page; style = style; budget = budget; claim = claims.Narrow least; chains = chains; sections = [] }
+  narrow_certificate = record {
+    width = page;
+    style = style;
+    budget = budget;
+    claim = claims.Narrow least;
+    chains =
+        chains;
+    sections = [];
+  }
 
   pub valid_narrow : IsValid table style page budget narrow_certificate
   valid_narrow = (
@@ -434,25 +468,38 @@ module _ (table : Table) (style : Style) (page budget least weight : ℕ) (chain
         wide = sym of.wide;
         drawn = sym of.drawn;
         cuts = refl;
-        kind = (λ is. subst (λ (w : ℕ). w < least_of document (own_number document)) (sym of.wide) (subst (λ (w : ℕ). page < w) own narrow), λ less. tt);
+        kind = (
+          λ is. subst (λ (w : ℕ). w < least_of document (own_number document)) (sym of.wide)
+              (subst (λ (w : ℕ). page < w) own narrow),
+          λ less. tt,
+        );
       };
       shown = record {
         weighed = subst (λ (t : Table). IsChain t document.style chains least) (sym of.same) (subst (λ
             (s : Style). IsChain table s chains least) (sym of.drawn)
-            (subst (λ (w : ℕ). IsChain table style chains w) (IsLeastWidth-unique table style weight least weighs is_least) heaviest.chain));
+            (subst (λ (w : ℕ). IsChain table style chains w) (IsLeastWidth-unique table style weight least weighs is_least)
+            heaviest.chain));
         wider = subst (λ (w : ℕ). w < least) (sym of.wide) narrow;
       };
     },
   ) where
     own : least ≡ least_of document (own_number document)
-    own = IsLeastWidth-unique table style least (least_of document (own_number document)) is_least (own_least table style page document of)
+    own = IsLeastWidth-unique table style least (least_of document (own_number document)) is_least
+        (own_least table style page document of)
 
-  pub writable_narrow : 1 ≤ page → page ≤ MAX_PAGE_WIDTH → budget ≤ MAX_BUDGET → least ≤ MAX_HEIGHT → HasFewCells table → ChainsAreWritable →
+  pub writable_narrow : 1 ≤ page → page ≤ MAX_PAGE_WIDTH → budget ≤ MAX_BUDGET → least ≤ MAX_HEIGHT → HasFewCells table →
+      ChainsAreWritable →
       IsWritable narrow_certificate
   writable_narrow more less cuts small cells law =
       let can = law table style chains weight sound cells heaviest.chain in (
-        record { some = can.0; entries = map_all IsChainWritable (λ chain. 1 ≤ length chain.entries) (λ chain is. is.0) chains can.1; no_section = refl },
+        record {
+          some = can.0;
+          entries = map_all IsChainWritable (λ chain. 1 ≤ length chain.entries) (λ chain is. is.0)
+              chains can.1;
+          no_section = refl;
+        },
         pieces_within narrow_certificate more less cuts
-            (within-append (word (codes "narrow ")) (field 0 MAX_HEIGHT least line_feed) (within-word (codes "narrow ")) ((omega arith, small), (tt, tt)))
+            (within-append (word (codes "narrow ")) (field 0 MAX_HEIGHT least line_feed) (within-word (codes "narrow "))
+            ((omega arith, small), (tt, tt)))
             (map_all IsChainWritable (λ chain. AllWithin (chain_pieces chain)) (λ chain is. is.1) chains can.1) tt,
       )

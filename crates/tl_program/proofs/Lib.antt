@@ -1,12 +1,11 @@
 pub mod Accepting
+pub mod Asking
 pub mod Checked
 pub mod Checking
-pub mod CommandLemmas
 pub mod Ends
 mod Examples
+pub mod Inputs
 pub mod Judging
 pub mod Laying
-pub mod OptionLemmas
-pub mod Readings
-pub mod SameShapes
+pub mod Storing
 pub mod Summing

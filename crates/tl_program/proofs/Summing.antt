@@ -11,55 +11,64 @@ use Rattle.tl_cert.specs.declared.section.Section.{Section}
 use Rattle.tl_demo.specs.Demo.{demo_text_of}
 use Rattle.tl_demo.specs.Fits.{DemoFits, IsDemo}
 use Rattle.tl_demo.specs.declared.laws.TheConstants.{DEMO_WIDTH}
-use Rattle.tl_form.specs.declared.cell.Table.{Table, out-Table}
-use Rattle.tl_form.specs.ChainRanges.{HasFewCells}
-use Rattle.tl_form.specs.Least.{IsLeastWidth}
-use Rattle.tl_form.specs.Sound.{IsSound}
+use Rattle.tl_table.specs.declared.cell.Table.{Table, out-Table}
+use Rattle.tl_table.specs.FewCells.{HasFewCells}
+use Rattle.tl_table.specs.Least.{IsLeastWidth}
+use Rattle.tl_table.specs.Sound.{IsSound}
 use Rattle.tl_form.specs.Valid.{AreWhole, IsGood, IsValid}
-use Rattle.tl_form.proofs.LinkLemmas.{IsLeastWidth-unique}
-use Rattle.tl_form.proofs.SameFits.{same_least}
+use Rattle.tl_table.proofs.SameFits.{same_least}
 use Rattle.tl_form.proofs.ValidLaws.{IsOwnLast, own_last}
 use Rattle.tl_nested.specs.Searched.{AreSectionsOf, AreWritable}
 use Rattle.tl_program.specs.declared.limits.TheConstants.{DEMO_BUDGET}
-use Rattle.tl_program.specs.declared.options.Search.TheVariants.{Best}
-use Rattle.tl_program.specs.declared.reading.Reading.{Reading}
-use Rattle.tl_program.specs.declared.reading.Reading.TheVariants as readings
+use Rattle.tl_command.specs.declared.options.Search.TheVariants.{Best}
+use Rattle.tl_read.specs.declared.reading.Reading.{Reading}
+use Rattle.tl_read.specs.declared.reading.Reading.TheVariants as readings
 use Rattle.tl_program.specs.declared.report.Summary.{Summary}
 use Rattle.tl_program.specs.Answers.{IsOutcomeOf}
 use Rattle.tl_program.specs.Demonstration.{before_last, IsSummaryOf}
-use Rattle.tl_program.specs.Reading.{IsReading, AreAlike}
+use Rattle.tl_read.specs.declared.source.Source.TheVariants.{Html}
+use Rattle.tl_read.specs.Reading.{IsReading, AreSameReadings, IsSoundReading, table_in}
 use Rattle.tl_program.specs.inner.Claims.{certificate_of}
-use Rattle.tl_program.specs.inner.Numbers.{HasOwnNext, IsCountAfter}
-use Rattle.tl_program.specs.inner.Readings.{IsSoundReading, table_in}
+use Rattle.tl_program.specs.inner.Summaries.{HasOwnNext, IsCountAfter}
 use Rattle.tl_program.proofs.Laying.{last_found, valid}
 
 -- ---- the table
 
 -- a table that is read of a number's text, and fits the page
 abbrev pub IsDemoTable : ℕ → Table → Type 0
-IsDemoTable number table = IsReading Words (demo_text_of number) (readings.Table table)
+IsDemoTable number table = IsReading (Html Words) (demo_text_of number) (readings.Table table)
     × ((least : ℕ) → IsLeastWidth table Plain least → least ≤ DEMO_WIDTH)
 
 -- the text of a number is read as a table, in whatever way it is read
 pub demo_read : DemoFits → (number : ℕ) (bytes : List ℕ) (reading : Reading) → number < 2 ^ 32 → bytes ≡ demo_text_of number →
-    IsReading Words bytes reading → ((other : Reading) → IsReading Words bytes other → AreAlike reading other) →
+    IsReading (Html Words) bytes reading → ((other : Reading) → IsReading (Html Words) bytes other →
+    AreSameReadings reading other) →
     IsSomeAnd (table_in reading) (IsDemoTable number)
-demo_read law number bytes reading small same is only = by_reading reading (subst (λ (bs : List ℕ). IsReading Words bs reading) same is)
-    (only (readings.Table demo.0) (subst (λ (bs : List ℕ). IsReading Words bs (readings.Table demo.0)) (sym same) spelled)) where
-      demo : (table : Table) × (least : ℕ) × IsDemo number table least × (least ≤ DEMO_WIDTH)
+demo_read law number bytes reading small same is only = by_reading reading
+    (subst (λ (bs : List ℕ). IsReading (Html Words) bs reading) same is)
+    (only (readings.Table demo.0) (subst (λ (bs : List ℕ). IsReading (Html Words) bs (readings.Table demo.0)) (sym same)
+    spelled)) where
+      demo : (table : Table) × IsDemo number table
       demo = law number small
 
-      spelled : IsReading Words (demo_text_of number) (readings.Table demo.0)
-      spelled = inr (demo.2.short, inl (demo.2.spelt.tokens, demo.2.spelt.cut, inl (demo.2.spelt.node, demo.2.spelt.read, demo.2.within, demo.2.spelt.formed)))
+      spelled : IsReading (Html Words) (demo_text_of number) (readings.Table demo.0)
+      spelled = inr (
+        demo.1.short,
+        inl (
+          demo.1.spelt.tokens,
+          demo.1.spelt.cut,
+          inl (demo.1.spelt.node, demo.1.spelt.read, demo.1.within, demo.1.spelt.formed),
+        ),
+      )
 
-      by_reading : (reading : Reading) → IsReading Words (demo_text_of number) reading → AreAlike reading (readings.Table demo.0) →
+      by_reading : (reading : Reading) → IsReading (Html Words) (demo_text_of number) reading →
+          AreSameReadings reading (readings.Table demo.0) →
           IsSomeAnd (table_in reading) (IsDemoTable number)
       by_reading (readings.Refused refusal) is alike = absurd alike
       by_reading (readings.Table table) is alike = (is, λ least least_is. narrow least least_is) where
         narrow : (least : ℕ) → IsLeastWidth table Plain least → least ≤ DEMO_WIDTH
         narrow least least_is =
-            let unique : least ≡ demo.1 = IsLeastWidth-unique demo.0 Plain least demo.1 (same_least table demo.0 Plain least alike least_is) demo.2.is_least in
-            omega (arith, unique, demo.3)
+            (same_least table demo.0 Plain least alike least_is).least DEMO_WIDTH demo.1.height demo.1.layout demo.1.fits
 
 -- there is one, where one is such
 pub some_there : {X : Type 0} (P : X → Type 0) (o : Option X) → IsSomeAnd o P → IsSome o
@@ -67,7 +76,8 @@ some_there P (Some x) is = refl
 some_there P None is = absurd is
 
 -- the table of a reading is sound where that is
-pub sound_table : (reading : Reading) (table : Table) → table_in reading ≡ Some table → IsSoundReading reading → IsSound table × HasFewCells table
+pub sound_table : (reading : Reading) (table : Table) → table_in reading ≡ Some table → IsSoundReading reading →
+    IsSound table × HasFewCells table
 sound_table (readings.Table one) table is sound = subst (λ (t : Table). IsSound t × HasFewCells t) (some_same is) sound where
   some_same : Some one ≡ Some table → one ≡ table
   some_same e = cc
@@ -117,7 +127,8 @@ module _ (table : Table) (sections : List Section) (are : demo_sections table se
 
 -- ---- the numbers
 
-module _ (table : Table) (certificate : Certificate) (sections : List Section) (are : demo_sections table sections) (can : AreWritable sections)
+module _ (table : Table) (certificate : Certificate) (sections : List Section) (are : demo_sections table sections)
+    (can : AreWritable sections)
     (wide : (least : ℕ) → IsLeastWidth table Plain least → least ≤ DEMO_WIDTH)
     (made : certificate ≡ certificate_of DEMO_WIDTH Plain DEMO_BUDGET sections) where
   abbrev pub of_sections : certificate.sections ≡ sections
@@ -132,9 +143,12 @@ module _ (table : Table) (certificate : Certificate) (sections : List Section) (
   pub next_there : HasOwnNext table (before_last certificate.sections)
   next_there = own_next table certificate.sections there writable_there
 
-  pub summary_made : (summary : Summary) (section : Section) (count : ℕ) → section ≡ get_or certificate.sections (length certificate.sections - 1) section →
-      IsCountAfter table (before_last certificate.sections) count → summary.cells ≡ length (out-Table table).cells → summary.count ≡ count →
-      summary.height ≡ section.height → summary.lower ≡ section.lower → summary.cuts ≡ length section.trace → IsSummaryOf table summary
+  pub summary_made : (summary : Summary) (section : Section) (count : ℕ) →
+      section ≡ get_or certificate.sections (length certificate.sections - 1) section →
+      IsCountAfter table (before_last certificate.sections) count → summary.cells ≡ length (out-Table table).cells →
+      summary.count ≡ count →
+      summary.height ≡ section.height → summary.lower ≡ section.lower → summary.cuts ≡ length section.trace →
+      IsSummaryOf table summary
   summary_made summary section count is counted cells counts height lower cuts = record {
     certificate = certificate;
     valid = subst (IsValid table Plain DEMO_WIDTH DEMO_BUDGET) (sym made)
@@ -154,8 +168,10 @@ module _ (table : Table) (certificate : Certificate) (sections : List Section) (
   }
 
 -- the summary of a number's table
-pub demonstrated : (number : ℕ) (table : Table) (result : Result Summary AllocError) → IsReading Words (demo_text_of number) (readings.Table table) →
-    IfOk result (IsSummaryOf table) → IfOk result (λ summary. (table : Table) × IsReading Words (demo_text_of number) (readings.Table table)
+pub demonstrated : (number : ℕ) (table : Table) (result : Result Summary AllocError) →
+    IsReading (Html Words) (demo_text_of number) (readings.Table table) →
+    IfOk result (IsSummaryOf table) → IfOk result (λ summary. (table : Table) ×
+    IsReading (Html Words) (demo_text_of number) (readings.Table table)
     × IsSummaryOf table summary)
 demonstrated number table (Ok summary) read is = (table, read, is)
 demonstrated number table (Err failed) read is = tt

@@ -13,14 +13,16 @@ use Rattle.tl_cert.specs.declared.certificate.Claim.{Claim}
 use Rattle.tl_cert.specs.declared.certificate.Claim.TheVariants as claims
 use Rattle.tl_cert.specs.Faults.{IsTextOf}
 use Rattle.tl_cert.specs.Text.{cert_text}
-use Rattle.tl_form.specs.declared.cell.Table.{Table}
-use Rattle.tl_form.specs.declared.layout.Layout.{Layout, out-Layout}
-use Rattle.tl_form.specs.Layouts.{Fits, total_width}
-use Rattle.tl_form.specs.Least.{IsLeastHeight, IsLeastWidth}
+use Rattle.tl_command.specs.declared.options.Search.{Search}
+use Rattle.tl_command.specs.declared.options.Search.TheVariants as kinds
+use Rattle.tl_table.specs.declared.cell.Table.{Table}
+use Rattle.tl_table.specs.declared.layout.Layout.{Layout, out-Layout}
+use Rattle.tl_table.specs.Layouts.{Fits, total_width}
+use Rattle.tl_table.specs.Least.{IsLeastHeight, IsLeastWidth}
 use Rattle.tl_form.specs.Named.{IsNamed}
 use Rattle.tl_form.specs.OpenLaws.{IsSpent}
 use Rattle.tl_form.specs.Problems.{IsCountAll}
-use Rattle.tl_form.specs.Sound.{nested_in_table}
+use Rattle.tl_table.specs.Sound.{nested_in_table}
 use Rattle.tl_form.specs.Valid.{IsValid}
 use Rattle.tl_form.specs.ValidLaws.{IsBetween}
 use Rattle.tl_html.specs.Html as html
@@ -30,11 +32,6 @@ use Rattle.tl_page.specs.Pages as pages
 use Rattle.tl_program.specs.declared.answer.Answer.{Answer}
 use Rattle.tl_program.specs.declared.limits.TheConstants.{DEFAULT_BUDGET}
 use Rattle.tl_program.specs.declared.task.Task.{Task}
-use Rattle.tl_program.specs.declared.options.Search.{Search}
-use Rattle.tl_program.specs.declared.options.Search.TheVariants as kinds
-use Rattle.tl_program.specs.declared.refusal.Limit.TheVariants as limits
-use Rattle.tl_program.specs.declared.refusal.Refusal.{Refusal}
-use Rattle.tl_program.specs.declared.refusal.Refusal.TheVariants as refusals
 use Rattle.tl_program.specs.declared.report.Report.{Report}
 use Rattle.tl_program.specs.declared.report.Report.TheVariants as reports
 
@@ -71,82 +68,81 @@ certificate_file true certificate = Some (cert_text certificate)
 certificate_file false certificate = None
 
 -- where it is asked for, its text is read back as it is
-abbrev pub IsReadable : Bool → Certificate → Type 0
-IsReadable true certificate = IsTextOf (cert_text certificate) certificate
-IsReadable false certificate = Unit {0}
+abbrev pub IsReadBack : Bool → Certificate → Type 0
+IsReadBack true certificate = IsTextOf (cert_text certificate) certificate
+IsReadBack false certificate = Unit {0}
 
--- ---- the answers
+-- ---- a layout
 
 -- what the search that is named promises besides of each outcome
 abbrev pub IsOutcomeOf : Search → ℕ → ProblemModel → Outcome → Type 0
 IsOutcomeOf kinds.Plain budget problem outcome = IsPlainOutcome problem outcome
 IsOutcomeOf kinds.Best budget problem outcome = IsBestOutcome problem budget outcome
 
--- a page of the table is stored, and the certificate that claims this of it: the certificate is valid, each of its
--- sections is that of an outcome of the search that is named, and the page is that of the layout that it names, which
--- fits with this height and takes `taken` columns
-pub record IsLaid (task : Task) (table : Table) (claim : Claim) (height taken : ℕ) (answer : Answer) : Type 0 where
-  pub certificate : Certificate
+-- the file is a page of the table: that of this layout, which fits a page of `width` columns, has so many lines and takes so
+-- many columns
+pub record IsPageAt (html : Bool) (style : Style) (table : Table) (width height taken : ℕ) (layout : Layout)
+    (page : List ℕ) : Type 0 where
+  pub fits : Fits table style width height layout
+  pub wide : taken ≡ total_width style (out-Layout layout)
+  pub is_page : IsPageFile html style table layout page
+
+-- the certificate claims this of the table on a page of `width` columns, and is valid for this budget
+pub record Certifies (table : Table) (style : Style) (width budget : ℕ) (claim : Claim) (certificate : Certificate) : Type 0 where
   pub claimed : certificate.claim ≡ claim
-  pub valid : IsValid table task.style task.width (budget_in task table) certificate
-  pub searched : AreSectionsOf (IsOutcomeOf task.search (budget_in task table)) table task.style task.width
-      (budget_in task table) certificate.sections
-  pub layout : Layout
-  pub named : IsNamed table task.style certificate layout
-  pub fits : Fits table task.style task.width height layout
-  pub wide : taken ≡ total_width task.style (out-Layout layout)
-  pub page : List ℕ
-  pub is_page : IsPageFile task.html task.style table layout page
-  pub page_stored : answer.page ≡ Some page
-  pub certificate_stored : answer.certificate ≡ certificate_file task.certified certificate
-  pub readable : IsReadable task.certified certificate
-
--- no page is stored, and the certificate that claims this: it is valid
-pub record IsNarrow (task : Task) (table : Table) (least : ℕ) (answer : Answer) : Type 0 where
-  pub is_least : IsLeastWidth table task.style least
-  pub narrow : task.width < least
-  pub certificate : Certificate
-  pub claimed : certificate.claim ≡ claims.Narrow least
-  pub valid : IsValid table task.style task.width (budget_in task table) certificate
-  pub no_page : answer.page ≡ None
-  pub certificate_stored : answer.certificate ≡ certificate_file task.certified certificate
-  pub readable : IsReadable task.certified certificate
-
--- the table is refused, for a reach past its limit
-pub record IsTooFar (task : Task) (table : Table) (refusal : Refusal) : Type 0 where
-  pub far : MAX_REACH < reach task table
-  pub told : refusal ≡ refusals.Limit limits.Reach (reach task table)
-
--- nothing is stored
-pub record StoresNothing (answer : Answer) : Type 0 where
-  pub no_page : answer.page ≡ None
-  pub no_certificate : answer.certificate ≡ None
-
--- a page is stored as laid out, and some section made as many cuts as the budget allows
-pub record IsSpentOn (task : Task) (table : Table) (claim : Claim) (height taken : ℕ) (answer : Answer) : Type 0 where
-  pub laid : IsLaid task table claim height taken answer
-  pub spent : Any (IsSpent (budget_in task table)) laid.certificate.sections
+  pub valid : IsValid table style width budget certificate
 
 -- the budget is below the greatest count of the table and those nested in it
-abbrev pub IsBelowCounts : Task → Table → Type 0
-IsBelowCounts task table = (most : ℕ) → IsCountAll table task.style task.width most → budget_in task table < most
+abbrev pub IsBelowCounts : Table → Style → ℕ → ℕ → Type 0
+IsBelowCounts table style width budget = (most : ℕ) → IsCountAll table style width most → budget < most
 
--- what is stored for a table and what holds of it, report by report
-abbrev pub IsAnswerBy : Report → Task → Table → Answer → Type 0
-IsAnswerBy (reports.Lowest height width) task table answer = IsLaid task table (claims.Lowest height) height width answer
-    × IsLeastHeight table task.style task.width height
-IsAnswerBy (reports.Bounded height lower width) task table answer = (lower < height)
-    × IsSpentOn task table (claims.Bounded height lower) height width answer × IsBetween table task.style task.width height lower
-    × IsBelowCounts task table
-IsAnswerBy (reports.Narrow least width) task table answer = IsNarrow task table least answer × (width ≡ task.width)
-IsAnswerBy (reports.Refused refusal) task table answer = IsTooFar task table refusal × StoresNothing answer
-IsAnswerBy (reports.Rejected rejection) task table answer = ⊥
-IsAnswerBy (reports.Summary summary) task table answer = ⊥
-IsAnswerBy reports.Usage task table answer = ⊥
-IsAnswerBy reports.ReadFault task table answer = ⊥
+-- ---- what is stored
 
--- what is reported of a table, and stored for it: it is refused exactly where the reach is past its limit
-pub record IsAnswerTo (task : Task) (table : Table) (answer : Answer) : Type 0 where
-  pub answered : IsAnswerBy answer.report task table answer
-  pub within : (refusal : Refusal) → answer.report ≡ reports.Refused refusal → MAX_REACH < reach task table
-  pub past : MAX_REACH < reach task table → answer.report ≡ reports.Refused (refusals.Limit limits.Reach (reach task table))
+-- a page of the table is stored, and a certificate that claims this of it: each of its sections is that of an outcome of the
+-- search that is named, and the page is that of the layout that it names
+pub record IsWritten (task : Task) (table : Table) (width budget : ℕ) (claim : Claim) (height taken : ℕ)
+    (answer : Answer) : Type 0 where
+  pub certificate : Certificate
+  pub certifies : Certifies table task.style width budget claim certificate
+  pub searched : AreSectionsOf (IsOutcomeOf task.search budget) table task.style width budget certificate.sections
+  pub layout : Layout
+  pub named : IsNamed table task.style certificate layout
+  pub page : List ℕ
+  pub is_page : IsPageAt task.html task.style table width height taken layout page
+  pub page_stored : answer.page ≡ Some page
+  pub certificate_stored : answer.certificate ≡ certificate_file task.certified certificate
+  pub readable : IsReadBack task.certified certificate
+
+-- a page is stored, and no layout is lower
+pub record IsWrittenLowest (task : Task) (table : Table) (width budget height taken : ℕ) (answer : Answer) : Type 0 where
+  pub written : IsWritten task table width budget (claims.Lowest height) height taken answer
+  pub least : IsLeastHeight table task.style width height
+
+-- a page is stored, and no layout is below the bound: some section made as many cuts as the budget allows, which is below the
+-- counts
+pub record IsWrittenBounded (task : Task) (table : Table) (width budget height lower taken : ℕ) (answer : Answer) : Type 0 where
+  pub apart : lower < height
+  pub written : IsWritten task table width budget (claims.Bounded height lower) height taken answer
+  pub spent : Any (IsSpent budget) written.certificate.sections
+  pub between : IsBetween table task.style width height lower
+  pub below : IsBelowCounts table task.style width budget
+
+-- no page is stored, as the table needs more columns, and a certificate that claims this
+pub record IsWrittenNarrow (task : Task) (table : Table) (width budget least : ℕ) (answer : Answer) : Type 0 where
+  pub is_least : IsLeastWidth table task.style least
+  pub narrow : width < least
+  pub certificate : Certificate
+  pub certifies : Certifies table task.style width budget (claims.Narrow least) certificate
+  pub no_page : answer.page ≡ None
+  pub certificate_stored : answer.certificate ≡ certificate_file task.certified certificate
+  pub readable : IsReadBack task.certified certificate
+
+-- what a layout comes to, by its report
+pub data IsLaidAs (task : Task) (table : Table) (answer : Answer) : Report → Type 0 where
+  lowest_laid : {height taken : ℕ} → IsWrittenLowest task table task.width (budget_in task table) height taken answer
+      → IsLaidAs task table answer (reports.Lowest height taken)
+  bounded_laid : {height lower taken : ℕ} → IsWrittenBounded task table task.width (budget_in task table)
+      height lower taken answer
+      → IsLaidAs task table answer (reports.Bounded height lower taken)
+  narrow_laid : {least : ℕ} → IsWrittenNarrow task table task.width (budget_in task table) least answer
+      → IsLaidAs task table answer (reports.Narrow least task.width)

@@ -6,20 +6,22 @@ use Rattle.tl_cert.specs.declared.certificate.Certificate.{Certificate}
 use Rattle.tl_cert.specs.declared.certificate.Claim.{Claim}
 use Rattle.tl_cert.specs.declared.certificate.Claim.TheVariants as claims
 use Rattle.tl_cert.specs.Faults.{IsTextOf}
-use Rattle.tl_form.specs.declared.cell.Table.{Table}
-use Rattle.tl_program.specs.declared.reading.Reading.TheVariants as readings
-use Rattle.tl_program.specs.declared.refusal.Refusal.{Refusal}
+use Rattle.tl_command.specs.declared.command.Command.TheVariants.{Lay, Check}
+use Rattle.tl_command.specs.Ask.{Asked}
+use Rattle.tl_table.specs.declared.cell.Table.{Table}
+use Rattle.tl_read.specs.declared.reading.Reading.TheVariants as readings
+use Rattle.tl_read.specs.declared.refusal.Refusal.{Refusal}
 use Rattle.tl_program.specs.declared.status.Status.{Status}
 use Rattle.tl_program.specs.declared.status.Status.TheVariants as statuses
 use Rattle.tl_program.specs.declared.task.Task.{Task}
 use Rattle.tl_program.specs.Answers.{reach}
+use Rattle.tl_program.specs.Asks.{IsAskOf, input_name, certificate_name, judged_name}
 use Rattle.tl_program.specs.Change.{Change, DoesNotFail}
-use Rattle.tl_program.specs.Checks.{asked_of, IsValidIn}
-use Rattle.tl_program.specs.Command.{Laying, IsLay, Checking, IsCheck}
+use Rattle.tl_program.specs.Checks.{IsValidIn}
 use Rattle.tl_program.specs.Headline.{Ends}
-use Rattle.tl_program.specs.Messages.{number_of, refusal_status}
-use Rattle.tl_program.specs.Outcomes.{asked}
-use Rattle.tl_program.specs.Reading.{IsReading}
+use Rattle.tl_program.specs.Messages.{status_number, refusal_status}
+use Rattle.tl_program.specs.Tasks.{task_of}
+use Rattle.tl_read.specs.Reading.{IsReading}
 
 -- the desk shows a file of this name with these bytes
 abbrev pub ShowsFile : Change → List ℕ → List ℕ → Type 0
@@ -27,21 +29,21 @@ ShowsFile change name bytes = (files : Files) × (change.files ≡ Some files) �
 
 -- the bytes spell a table, whose reach is within its limit
 pub record SpellsTable (task : Task) (bytes : List ℕ) (table : Table) : Type 0 where
-  pub read : IsReading task.breaking bytes (readings.Table table)
+  pub read : IsReading task.source bytes (readings.Table table)
   pub within : reach task table ≤ MAX_REACH
 
 -- a file that spells a table within all limits gives 0, 3 or 4
 abbrev pub IsComplete : List (List ℕ) → Change → ℕ → Type 0
-IsComplete words change status = (command : Laying) (bytes : List ℕ) (table : Table) → IsLay words command →
-    ShowsFile change command.input bytes → DoesNotFail change → SpellsTable (asked command) bytes table →
+IsComplete words change status = (asked : Asked) (bytes : List ℕ) (table : Table) → IsAskOf Lay words asked →
+    ShowsFile change (input_name asked) bytes → DoesNotFail change → SpellsTable (task_of asked) bytes table →
     (status ≡ 0) ⊎ ((status ≡ 3) ⊎ ((status ≡ 4) ⊎ (status ≡ 9)))
 
 -- a file that is refused gives the status of its refusal
 abbrev pub IsRefusedSo : List (List ℕ) → Change → ℕ → Type 0
-IsRefusedSo words change status = (command : Laying) (bytes : List ℕ) (refusal : Refusal) → IsLay words command →
-    ShowsFile change command.input bytes → DoesNotFail change →
-    IsReading (asked command).breaking bytes (readings.Refused refusal) →
-    (status ≡ number_of (refusal_status refusal)) ⊎ (status ≡ 9)
+IsRefusedSo words change status = (asked : Asked) (bytes : List ℕ) (refusal : Refusal) → IsAskOf Lay words asked →
+    ShowsFile change (input_name asked) bytes → DoesNotFail change →
+    IsReading (task_of asked).source bytes (readings.Refused refusal) →
+    (status ≡ status_number (refusal_status refusal)) ⊎ (status ≡ 9)
 
 -- the status of a claim that is shown
 abbrev pub claim_status : Claim → Status
@@ -51,35 +53,37 @@ claim_status (claims.Narrow least) = statuses.Narrow
 
 -- the text of a certificate that is valid for the table that a file spells is accepted, by its claim
 abbrev pub IsAcceptedSo : List (List ℕ) → Change → ℕ → Type 0
-IsAcceptedSo words change status = (command : Checking) (bytes text : List ℕ) (table : Table) (certificate : Certificate) →
-    IsCheck words command → ShowsFile change command.input bytes → ShowsFile change command.certificate text → DoesNotFail change →
-    SpellsTable (asked_of command) bytes table → IsTextOf text certificate → IsValidIn (asked_of command) table certificate →
-    (status ≡ number_of (claim_status certificate.claim)) ⊎ (status ≡ 9)
+IsAcceptedSo words change status = (asked : Asked) (bytes text : List ℕ) (table : Table) (certificate : Certificate) →
+    IsAskOf Check words asked → ShowsFile change (input_name asked) bytes → ShowsFile change (judged_name asked) text →
+    DoesNotFail change → SpellsTable (task_of asked) bytes table → IsTextOf text certificate →
+    IsValidIn (task_of asked) table certificate →
+    (status ≡ status_number (claim_status certificate.claim)) ⊎ (status ≡ 9)
 
 -- a text that is that of no certificate valid for the table is rejected
 abbrev pub IsRejectedSo : List (List ℕ) → Change → ℕ → Type 0
-IsRejectedSo words change status = (command : Checking) (bytes text : List ℕ) (table : Table) →
-    IsCheck words command → ShowsFile change command.input bytes → ShowsFile change command.certificate text → DoesNotFail change →
-    SpellsTable (asked_of command) bytes table →
-    ((certificate : Certificate) → IsTextOf text certificate → IsValidIn (asked_of command) table certificate → ⊥) →
+IsRejectedSo words change status = (asked : Asked) (bytes text : List ℕ) (table : Table) →
+    IsAskOf Check words asked → ShowsFile change (input_name asked) bytes → ShowsFile change (judged_name asked) text →
+    DoesNotFail change → SpellsTable (task_of asked) bytes table →
+    ((certificate : Certificate) → IsTextOf text certificate → IsValidIn (task_of asked) table certificate → ⊥) →
     (status ≡ 10) ⊎ (status ≡ 9)
 
 -- a check asks for what was laid out: the same file and page, and the certificate that was stored
-pub record AsksForSame (laying : Laying) (command : Checking) : Type 0 where
-  pub width : laying.width ≡ command.width
-  pub input : laying.input ≡ command.input
-  pub certificate : laying.certificate ≡ Some command.certificate
-  pub style : (asked laying).style ≡ (asked_of command).style
-  pub breaking : (asked laying).breaking ≡ (asked_of command).breaking
-  pub budget : laying.options.budget ≡ command.options.budget
+pub record AsksForSame (laid checked : Asked) : Type 0 where
+  pub width : laid.number ≡ checked.number
+  pub input : input_name laid ≡ input_name checked
+  pub certificate : certificate_name laid ≡ Some (judged_name checked)
+  pub style : (task_of laid).style ≡ (task_of checked).style
+  pub source : (task_of laid).source ≡ (task_of checked).source
+  pub budget : laid.options.budget ≡ checked.options.budget
 
 -- a run gave a page, or showed that there is none
-abbrev pub IsLaidOut : ℕ → Type 0
-IsLaidOut status = (status ≡ 0) ⊎ ((status ≡ 3) ⊎ (status ≡ 4))
+abbrev pub IsLaidStatus : ℕ → Type 0
+IsLaidStatus status = (status ≡ 0) ⊎ ((status ≡ 3) ⊎ (status ≡ 4))
 
 -- a check of what another run has just laid out has the status of that run
 abbrev pub AcceptsLaid : List (List ℕ) → Change → ℕ → Type 0
-AcceptsLaid words change status = (earlier : List (List ℕ)) (before : Change) (told : ℕ) (laying : Laying) (command : Checking) →
-    IsLay earlier laying → IsCheck words command → AsksForSame laying command → Ends earlier before told → IsLaidOut told →
+AcceptsLaid words change status = (earlier : List (List ℕ)) (before : Change) (told : ℕ) (laid checked : Asked) →
+    IsAskOf Lay earlier laid → IsAskOf Check words checked → AsksForSame laid checked →
+    Ends earlier before told → IsLaidStatus told →
     (files : Files) × (before.files_after ≡ Some files) × (change.files ≡ Some files) → DoesNotFail change →
     (status ≡ told) ⊎ (status ≡ 9)

@@ -1,6 +1,6 @@
 -- What a demonstration of a number reports: of its table, laid out on its page by the best-first search, and of a
 -- certificate of it that is valid.
-use Rattle.std.specs.Prelude.{◌≡◌, ℕ, ◌-◌, List, [], length, take, None, Some}
+use Rattle.std.specs.Prelude.{◌≡◌, ℕ, ◌-◌, List, length, take, None, Some}
 use Rattle.std.specs.List.{last_or}
 use Rattle.tl_base.specs.declared.breaking.Breaking.TheVariants.{Words}
 use Rattle.tl_base.specs.declared.style.Style.TheVariants.{Plain}
@@ -8,19 +8,20 @@ use Rattle.tl_cert.specs.declared.certificate.Certificate.{Certificate}
 use Rattle.tl_cert.specs.declared.section.Section.{Section}
 use Rattle.tl_demo.specs.Demo.{demo_text_of}
 use Rattle.tl_demo.specs.declared.laws.TheConstants.{DEMO_WIDTH}
-use Rattle.tl_form.specs.declared.cell.Table.{Table, out-Table}
+use Rattle.tl_table.specs.declared.cell.Table.{Table, out-Table}
 use Rattle.tl_form.specs.Valid.{IsValid, IsProblemAt}
 use Rattle.tl_nested.specs.Searched.{AreSectionsOf}
 use Rattle.tl_problem.specs.Problem.{ProblemModel}
 use Rattle.tl_problem.specs.Spans.{count_of}
 use Rattle.tl_program.specs.declared.limits.TheConstants.{DEMO_BUDGET}
-use Rattle.tl_program.specs.declared.options.Search.TheVariants.{Best}
-use Rattle.tl_program.specs.declared.reading.Reading.TheVariants as readings
+use Rattle.tl_command.specs.declared.options.Search.TheVariants.{Best}
+use Rattle.tl_read.specs.declared.reading.Reading.TheVariants as readings
 use Rattle.tl_program.specs.declared.report.Report.TheVariants as reports
 use Rattle.tl_program.specs.declared.report.Summary.{Summary}
 use Rattle.tl_program.specs.Answers.{IsOutcomeOf}
-use Rattle.tl_program.specs.Outcomes.{Outcome}
-use Rattle.tl_program.specs.Reading.{IsReading}
+use Rattle.tl_program.specs.Deliveries.{Delivery, reported}
+use Rattle.tl_read.specs.declared.source.Source.TheVariants.{Html}
+use Rattle.tl_read.specs.Reading.{IsReading}
 
 -- the sections but the last
 abbrev pub before_last : List Section → List Section
@@ -44,9 +45,9 @@ pub record IsSummaryOf (table : Table) (summary : Summary) : Type 0 where
   pub cuts : summary.cuts ≡ length section.trace
 
 -- the text of the number's table is read as a table, whose numbers are reported, and nothing is stored
-pub record IsDemonstrated (number : ℕ) (outcome : Outcome) : Type 0 where
+pub record IsDemonstrated (number : ℕ) (delivery : Delivery) : Type 0 where
   pub table : Table
-  pub read : IsReading Words (demo_text_of number) (readings.Table table)
+  pub read : IsReading (Html Words) (demo_text_of number) (readings.Table table)
   pub summary : Summary
   pub numbers : IsSummaryOf table summary
-  pub so : outcome ≡ record { report = reports.Summary summary; stores = [] }
+  pub so : delivery ≡ reported (reports.Summary summary)

@@ -1,11 +1,11 @@
 -- The exit status and the message of each report. A message ends with a line feed.
 use Rattle.std.specs.Prelude.{ℕ, ◌==◌, if◌then◌else◌, List, [], ◌∷◌, ◌++◌, codes, decimal}
-use Rattle.tl_program.specs.declared.refusal.Fault.{Fault}
-use Rattle.tl_program.specs.declared.refusal.Fault.TheVariants as faults
-use Rattle.tl_program.specs.declared.refusal.Limit.{Limit}
-use Rattle.tl_program.specs.declared.refusal.Limit.TheVariants as limits
-use Rattle.tl_program.specs.declared.refusal.Refusal.{Refusal}
-use Rattle.tl_program.specs.declared.refusal.Refusal.TheVariants as refusals
+use Rattle.tl_read.specs.declared.refusal.Fault.{Fault}
+use Rattle.tl_read.specs.declared.refusal.Fault.TheVariants as faults
+use Rattle.tl_read.specs.declared.refusal.Limit.{Limit}
+use Rattle.tl_read.specs.declared.refusal.Limit.TheVariants as limits
+use Rattle.tl_read.specs.declared.refusal.Refusal.{Refusal}
+use Rattle.tl_read.specs.declared.refusal.Refusal.TheVariants as refusals
 use Rattle.tl_program.specs.declared.rejection.Rejection.{Rejection}
 use Rattle.tl_program.specs.declared.rejection.Rejection.TheVariants as rejections
 use Rattle.tl_program.specs.declared.report.Report.{Report}
@@ -15,17 +15,17 @@ use Rattle.tl_program.specs.declared.status.Status.{Status}
 use Rattle.tl_program.specs.declared.status.Status.TheVariants as statuses
 
 -- the number of a status
-abbrev pub number_of : Status → ℕ
-number_of statuses.Lowest = 0
-number_of statuses.Usage = 2
-number_of statuses.Bounded = 3
-number_of statuses.Narrow = 4
-number_of statuses.BadInput = 5
-number_of statuses.Limit = 6
-number_of statuses.ReadFault = 7
-number_of statuses.WriteFault = 8
-number_of statuses.Memory = 9
-number_of statuses.Rejected = 10
+abbrev pub status_number : Status → ℕ
+status_number statuses.Lowest = 0
+status_number statuses.Usage = 2
+status_number statuses.Bounded = 3
+status_number statuses.Narrow = 4
+status_number statuses.BadInput = 5
+status_number statuses.Limit = 6
+status_number statuses.ReadFault = 7
+status_number statuses.WriteFault = 8
+status_number statuses.Memory = 9
+status_number statuses.Rejected = 10
 
 -- the status of a refusal
 abbrev pub refusal_status : Refusal → Status
@@ -101,16 +101,16 @@ summary_text summary =
     ++ (decimal summary.cuts ++ 10 ∷ [])))))))))
 
 -- the message of a report
-abbrev pub text_of : Report → List ℕ
-text_of (reports.Lowest height width) =
+abbrev pub message_of : Report → List ℕ
+message_of (reports.Lowest height width) =
     codes "lowest height " ++ (decimal height ++ (codes " width " ++ (decimal width ++ 10 ∷ [])))
-text_of (reports.Bounded height lower width) =
+message_of (reports.Bounded height lower width) =
     codes "bounded height " ++ (decimal height ++ (codes " lower " ++ (decimal lower ++ (codes " width "
     ++ (decimal width ++ 10 ∷ [])))))
-text_of (reports.Narrow least width) =
+message_of (reports.Narrow least width) =
     codes "narrow least " ++ (decimal least ++ (codes " width " ++ (decimal width ++ 10 ∷ [])))
-text_of (reports.Refused refusal) = refusal_text refusal
-text_of (reports.Rejected rejection) = codes "rejected: " ++ (rejection_text rejection ++ 10 ∷ [])
-text_of (reports.Summary summary) = summary_text summary
-text_of reports.Usage = codes "usage\n"
-text_of reports.ReadFault = codes "read fault\n"
+message_of (reports.Refused refusal) = refusal_text refusal
+message_of (reports.Rejected rejection) = codes "rejected: " ++ (rejection_text rejection ++ 10 ∷ [])
+message_of (reports.Summary summary) = summary_text summary
+message_of reports.Usage = codes "usage\n"
+message_of reports.ReadFault = codes "read fault\n"

@@ -1,4 +1,5 @@
--- How what is wrong with a certificate is reported: where its text goes wrong, or which step of judging it is the first that fails.
+-- How what is wrong with a certificate is reported: where its text goes wrong, or which step of judging it is the first that
+-- fails.
 use Rattle.std.specs.Prelude.{Option, Some, None}
 use Rattle.tl_cert.specs.declared.error.CertError.{CertError}
 use Rattle.tl_cert.specs.declared.error.CertError.TheVariants as texts

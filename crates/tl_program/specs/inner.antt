@@ -1,7 +1,6 @@
 -- What private functions promise each other. No public clause cites these files.
+pub mod Certified
 pub mod Claims
-pub mod Found
-pub mod Numbers
-pub mod OptionsRead
 pub mod Printing
-pub mod Readings
+pub mod Steps
+pub mod Summaries

@@ -3,35 +3,36 @@
 ghost use Rattle.std.specs.Prelude.{◌≡◌, ◌<◌, ◌≤◌, ◌-◌, ℕ, IfOk, IfSome, length};
 ghost use Rattle.tl_base.specs.declared.limits.TheConstants.{MAX_PAGE_WIDTH, MAX_BUDGET, MAX_HEIGHT};
 ghost use Rattle.tl_cert.specs.Text.{IsWritable};
-ghost use Rattle.tl_form.specs.Layouts.{Fits};
-ghost use Rattle.tl_form.specs.Least.{IsLeastWidth};
+ghost use Rattle.tl_table.specs.Layouts.{Fits};
+ghost use Rattle.tl_table.specs.Least.{IsLeastWidth};
 ghost use Rattle.tl_form.specs.Expected.{IsDocumentOf};
-ghost use Rattle.tl_form.specs.Sound.{IsSound};
+ghost use Rattle.tl_table.specs.Sound.{IsSound};
 ghost use Rattle.tl_form.specs.Subjects.{meant};
-ghost use Rattle.tl_form.specs.ChainRanges.{HasFewCells};
-ghost use Rattle.tl_program.specs.Answers.{budget_in, IsPageFile, certificate_file, IsAnswerTo, IsNarrow, IsAnswerBy};
-ghost use Rattle.tl_program.specs.Answers.{IsReadable, StoresNothing};
-ghost use Rattle.tl_program.specs.declared.refusal.Refusal.{Refusal};
-ghost use Rattle.tl_program.specs.declared.report.Report.TheVariants as reports;
+ghost use Rattle.tl_table.specs.FewCells.{HasFewCells};
+ghost use Rattle.tl_program.specs.Answers.{budget_in, reach, IsPageFile, certificate_file, IsReadBack};
+ghost use Rattle.tl_program.specs.Answers.{IsLaidAs};
+ghost use Rattle.tl_program.specs.Inputs.{IsOfTable};
 ghost use Rattle.tl_program.specs.inner.Claims.{certificate_of, claim_of};
-ghost use Rattle.tl_program.specs.inner.Found.{IsFound};
+ghost use Rattle.tl_program.specs.inner.Certified.{IsFound};
+ghost use Rattle.tl_program.specs.inner.Steps.{PassesOn};
 
 use crate::budget::budget_within;
 use crate::makers::searched;
-use crate::refusal::Refusal;
 use crate::report::{Report, report_of};
 use crate::task::Task;
 use crate::widths::total_width;
 use std::alloc::{AllocError, Global};
-use tl_base::{List, MAX_CERTIFICATE_BYTES};
+use std::thread::Threads;
+use tl_base::{Gate, List, MAX_CERTIFICATE_BYTES};
 use tl_cert::{Certificate, Claim, Section, write};
 use tl_form::{
-    Layout, Subject, Table, bounded_is_between, budget_closes, chains_are_writable,
-    lowest_is_least, narrow_chain, open_spends,
+    Subject, bounded_is_between, budget_closes, chains_are_writable, layout, lowest_is_least,
+    open_spends,
 };
 use tl_html::html;
 use tl_page::page;
-use tl_verify::layout;
+use tl_read::Refusal;
+use tl_table::{Layout, Table, narrow_chain};
 
 /// What is reported of a table, and what is stored for it.
 #[derive(Drop)]
@@ -44,8 +45,7 @@ pub struct Answer {
 impl Answer {
     /// The answer that reports this refusal and stores nothing.
     pub fn refused(refusal: Refusal) -> Answer
-        ensures report { result.report ≡ reports.Refused refusal }
-        ensures nothing { StoresNothing result }
+        ensures { PassesOn result refusal }
     {
         Answer {
             report: Report::Refused(refusal),
@@ -56,12 +56,19 @@ impl Answer {
 }
 
 /// What is reported of the table, and what is stored for it, by the task.
-pub fn answer_to(alloc: Global, task: &Task, table: &Table) -> Result<Answer, AllocError>
+pub fn answer_to<R: Threads + Sync, G: Gate>(
+    rt: &R,
+    alloc: Global,
+    task: &Task,
+    table: &Table,
+    gate: &G,
+) -> Result<Answer, AllocError>
     requires sound { IsSound table.now }
     requires cells { HasFewCells table.now }
     requires narrow { (1 ≤ task.now.width) × (task.now.width ≤ MAX_PAGE_WIDTH) }
     requires cuts { IfSome task.now.budget (λ budget. budget ≤ MAX_BUDGET) }
-    ensures { IfOk result (IsAnswerTo task.now table.now) }
+    ensures { IfOk result (λ answer. IsOfTable (reach task.now table.now) (PassesOn answer)
+        (IsLaidAs task.now table.now answer answer.report)) }
 {
     let budget = match budget_within(task, table) {
         Ok(budget) => budget,
@@ -72,7 +79,7 @@ pub fn answer_to(alloc: Global, task: &Task, table: &Table) -> Result<Answer, Al
     if least > task.width {
         return too_narrow(alloc, task, &subject, budget, least);
     }
-    lowest(alloc, task, table, budget)
+    lowest(rt, alloc, task, table, budget, gate)
 }
 
 /// The chains that show that the page is too narrow.
@@ -92,8 +99,7 @@ fn too_narrow(
     requires least { IsLeastWidth subject.now.table.now task.now.style least }
     requires narrow { task.now.width < least }
     requires small { least ≤ MAX_HEIGHT }
-    ensures report { IfOk result (λ answer. answer.report ≡ reports.Narrow least task.now.width) }
-    ensures is { IfOk result (IsNarrow task.now subject.now.table.now least) }
+    ensures { IfOk result (λ answer. IsLaidAs task.now subject.now.table.now answer answer.report) }
 {
     chains_are_writable();
     let certificate = Certificate {
@@ -148,16 +154,22 @@ pub fn certificate_of(
 }
 
 /// The lowest page that the search finds, with its certificate.
-fn lowest(alloc: Global, task: &Task, table: &Table, budget: u32) -> Result<Answer, AllocError>
+fn lowest<R: Threads + Sync, G: Gate>(
+    rt: &R,
+    alloc: Global,
+    task: &Task,
+    table: &Table,
+    budget: u32,
+    gate: &G,
+) -> Result<Answer, AllocError>
     requires sound { IsSound table.now }
     requires page { (1 ≤ task.now.width) × (task.now.width ≤ MAX_PAGE_WIDTH) }
     requires budget { budget ≡ budget_in task.now table.now }
     requires cuts { budget ≤ MAX_BUDGET }
     requires wide { (least : ℕ) → IsLeastWidth table.now task.now.style least → least ≤ task.now.width }
-    ensures answered { IfOk result (λ answer. IsAnswerBy answer.report task.now table.now answer) }
-    ensures not_refused { IfOk result (λ answer. (refusal : Refusal) → answer.report ≡ reports.Refused refusal → ⊥) }
+    ensures { IfOk result (λ answer. IsLaidAs task.now table.now answer answer.report) }
 {
-    let sections = searched(alloc, task, table, budget)?;
+    let sections = searched(rt, alloc, task, table, budget, gate)?;
     let certificate = certificate_of(alloc, task, budget, sections);
     laid(alloc, task, table, budget, &certificate)
 }
@@ -176,8 +188,7 @@ fn laid(
     requires cuts { budget ≤ MAX_BUDGET }
     requires wide { (least : ℕ) → IsLeastWidth table.now task.now.style least → least ≤ task.now.width }
     requires found { IsFound task.now table.now budget certificate.now }
-    ensures answered { IfOk result (λ answer. IsAnswerBy answer.report task.now table.now answer) }
-    ensures not_refused { IfOk result (λ answer. (refusal : Refusal) → answer.report ≡ reports.Refused refusal → ⊥) }
+    ensures { IfOk result (λ answer. IsLaidAs task.now table.now answer answer.report) }
 {
     let layout = layout(alloc, table, task.style, certificate)?;
     let width = total_width(task.style, layout.widths.as_slice());
@@ -219,7 +230,7 @@ fn certificate_file(
 ) -> Result<Option<List<u8>>, AllocError>
     requires { IsWritable certificate.now }
     ensures file { IfOk result (λ file. file ≡ certificate_file task.now.certified certificate.now) }
-    ensures readable { IfOk result (λ _. IsReadable task.now.certified certificate.now) }
+    ensures readable { IfOk result (λ _. IsReadBack task.now.certified certificate.now) }
 {
     if !task.certified {
         return Ok(None);

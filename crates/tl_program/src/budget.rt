@@ -2,14 +2,15 @@
 
 ghost use Rattle.std.specs.Prelude.{◌≡◌, ◌<◌, ◌≤◌, ◌*◌, ◌+◌, IfOk, IfErr, IfSome};
 ghost use Rattle.tl_base.specs.declared.limits.TheConstants.{MAX_BUDGET, MAX_PAGE_WIDTH, MAX_REACH, MAX_TABLES};
-ghost use Rattle.tl_form.specs.Sound.{IsSound};
-ghost use Rattle.tl_program.specs.Answers.{budget_in, budget_of, reach, searches, IsTooFar};
+ghost use Rattle.tl_table.specs.Sound.{IsSound};
+ghost use Rattle.tl_program.specs.Answers.{budget_in, budget_of, reach, searches};
+ghost use Rattle.tl_program.specs.inner.Steps.{IsTooFar};
 
 use crate::limits::DEFAULT_BUDGET;
-use crate::refusal::{Limit, Refusal};
 use crate::task::Task;
 use tl_base::MAX_REACH;
-use tl_form::{Table, nested};
+use tl_read::{Limit, Refusal};
+use tl_table::{Table, nested};
 
 /// How many searches there may be: one of the table, and one of each nested table at each width.
 fn searches(table: &Table, width: u32) -> u64

@@ -3,23 +3,26 @@
 ghost use Rattle.std.specs.Prelude.{◌≡◌, ◌≤◌, ◌<◌, IfOk, None, Some};
 ghost use Rattle.std.specs.List.{last_or};
 ghost use Rattle.tl_base.specs.declared.limits.TheConstants.{MAX_BUDGET, MAX_PAGE_WIDTH};
-ghost use Rattle.tl_form.specs.Sound.{IsSound};
+ghost use Rattle.tl_table.specs.Sound.{IsSound};
 ghost use Rattle.tl_program.specs.declared.rejection.Rejection.{Rejection as R};
 ghost use Rattle.tl_program.specs.declared.report.Report.TheVariants as reports;
 ghost use Rattle.tl_program.specs.Answers.{budget_in};
 ghost use Rattle.tl_program.specs.Checks.{IsJudged, page_columns};
 ghost use Rattle.tl_program.specs.inner.Claims.{HasFewColumns, report_of};
 
+use crate::limits::WORKERS;
 use crate::rejection::{Rejection, step_rejection, text_rejection};
 use crate::report::{Report, report_of};
 use crate::task::Task;
 use crate::widths::total_width;
 use std::alloc::{AllocError, Global};
-use tl_base::Style;
+use std::thread::Threads;
+use tl_base::{Gate, Style};
 use tl_cert::{Certificate, Section, read};
 use tl_form::{
-    Table, bounded_is_between, budget_closes, lowest_is_least, narrow_is_too_wide, open_spends,
+    bounded_is_between, budget_closes, lowest_is_least, narrow_is_too_wide, open_spends,
 };
+use tl_table::Table;
 use tl_verify::verify;
 
 /// What is rejected, or out of memory.
@@ -54,12 +57,14 @@ fn shown(task: &Task, certificate: &Certificate) -> Report
 }
 
 /// Judges the text of a certificate for what is asked of the table.
-pub fn judge(
+pub fn judge<R: Threads + Sync, G: Gate>(
+    rt: &R,
     alloc: Global,
     task: &Task,
     table: &Table,
     budget: u32,
     text: &[u8],
+    gate: &G,
 ) -> Result<Report, AllocError>
     requires sound { IsSound table.now }
     requires page { (1 ≤ task.now.width) × (task.now.width ≤ MAX_PAGE_WIDTH) }
@@ -71,7 +76,17 @@ pub fn judge(
         Ok(certificate) => certificate,
         Err(error) => return rejected(text_rejection(error)),
     };
-    match verify(alloc, table, task.style, task.width, budget, &certificate) {
+    match verify(
+        rt,
+        alloc,
+        table,
+        task.style,
+        task.width,
+        budget,
+        WORKERS,
+        &certificate,
+        gate,
+    ) {
         Ok(_) => {
             lowest_is_least();
             bounded_is_between();

@@ -1,7 +1,7 @@
 //! Lays out a table on a page of fixed-width text, as low as any layout can be, with a certificate
-//! that no page is lower. It depends on the crates that read, search, judge and draw; here are the
-//! command, its messages and the order of the steps. Its one contract: the statuses of `run`, what
-//! is stored and printed after each, and what the page and the certificate are.
+//! that no page is lower. It depends on the crates that read arguments and files, search, judge and
+//! draw; here are the order of the steps and the messages. Its one contract: the statuses of `run`,
+//! what is stored and printed after each, and what the page and the certificate are.
 #![tactic(auto)]
 
 ghost use Rattle.std.specs.Prelude.{◌≡◌, ◌≢◌};
@@ -10,13 +10,11 @@ ghost use Rattle.std.specs.IoError.{error_kind};
 mod answer;
 mod budget;
 mod check;
-mod command;
 mod limits;
 mod makers;
 mod messages;
-mod options;
-mod reading;
-mod refusal;
+mod names;
+mod output;
 mod rejection;
 mod report;
 mod run;
@@ -39,6 +37,7 @@ fn main(rt: HostRuntime) -> ExitCode {
     let alloc = rt.alloc();
     let status = match arguments(&rt) {
         Ok(arguments) => run(
+            &rt,
             alloc,
             arguments.as_slice(),
             &mut RealDesk::new(&rt),

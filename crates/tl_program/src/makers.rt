@@ -4,20 +4,22 @@ ghost use Rattle.std.specs.Prelude.{◌≤◌, ℕ, IfOk};
 ghost use Rattle.tl_base.specs.declared.limits.TheConstants.{MAX_BUDGET, MAX_PAGE_WIDTH};
 ghost use Rattle.tl_astar.specs.Best.{IsBestOutcome};
 ghost use Rattle.tl_solve.specs.Plain.{IsPlainOutcome};
-ghost use Rattle.tl_form.specs.Least.{IsLeastWidth};
-ghost use Rattle.tl_form.specs.Sound.{IsSound};
+ghost use Rattle.tl_table.specs.Least.{IsLeastWidth};
+ghost use Rattle.tl_table.specs.Sound.{IsSound};
 ghost use Rattle.tl_nested.specs.Searched.{AreSectionsOf, AreWritable};
 ghost use Rattle.tl_program.specs.Answers.{IsOutcomeOf};
 
-use crate::options::Search;
+use crate::limits::WORKERS;
 use crate::task::Task;
 use std::alloc::{AllocError, Global};
+use std::thread::Threads;
 use tl_astar::Best;
-use tl_base::List;
+use tl_base::{Gate, List};
 use tl_cert::Section;
-use tl_form::Table;
+use tl_command::Search;
 use tl_nested::{Make, sections};
 use tl_solve::Plain;
+use tl_table::Table;
 
 /// Makes plain searches.
 #[derive(Clone, Copy)]
@@ -48,11 +50,13 @@ impl Make for MakeBest {
 }
 
 /// All sections of a certificate of the table, by the search that is named.
-pub fn searched(
+pub fn searched<R: Threads + Sync, G: Gate>(
+    rt: &R,
     alloc: Global,
     task: &Task,
     table: &Table,
     budget: u32,
+    gate: &G,
 ) -> Result<List<Section>, AllocError>
     requires sound { IsSound table.now }
     requires narrow { task.now.width ≤ MAX_PAGE_WIDTH }
@@ -62,7 +66,11 @@ pub fn searched(
     ensures writable { IfOk result AreWritable }
 {
     match task.search {
-        Search::Plain => sections(alloc, table, task.style, task.width, budget, &MakePlain),
-        Search::Best => sections(alloc, table, task.style, task.width, budget, &MakeBest),
+        Search::Plain => sections(
+            rt, alloc, table, task.style, task.width, budget, WORKERS, &MakePlain, gate,
+        ),
+        Search::Best => sections(
+            rt, alloc, table, task.style, task.width, budget, WORKERS, &MakeBest, gate,
+        ),
     }
 }

@@ -1,13 +1,12 @@
 //! The messages that are printed. Each ends with a line feed.
 
 ghost use Rattle.std.specs.Prelude.{◌≡◌, IfOk, string_bytes};
-ghost use Rattle.tl_program.specs.Messages.{fault_words, limit_word, refusal_text, rejection_text};
-ghost use Rattle.tl_program.specs.Messages.{summary_text, text_of};
+ghost use Rattle.tl_program.specs.Messages.{fault_words, limit_word, refusal_text, rejection_text, summary_text, message_of};
 
-use crate::refusal::{Fault, Limit, Refusal};
 use crate::rejection::Rejection;
 use crate::report::{Report, Summary};
 use std::alloc::{AllocError, Global};
+use tl_read::{Fault, Limit, Refusal};
 
 /// What is wrong with a file that is no document.
 fn fault_words(fault: Fault) -> &'static str
@@ -96,7 +95,7 @@ fn summary_text(alloc: Global, summary: Summary) -> Result<String, AllocError>
 
 /// The message of a report.
 pub fn text(alloc: Global, report: Report) -> Result<String, AllocError>
-    ensures { IfOk result (λ text. string_bytes text ≡ text_of report) }
+    ensures { IfOk result (λ text. string_bytes text ≡ message_of report) }
 {
     match report {
         Report::Lowest { height, width } => {

@@ -4,10 +4,10 @@ ghost use Rattle.std.specs.Prelude.{◌≡◌};
 ghost use Rattle.tl_program.specs.Messages.{refusal_status, status_of};
 ghost use Rattle.tl_program.specs.inner.Claims.{report_of};
 
-use crate::refusal::Refusal;
 use crate::rejection::Rejection;
 use crate::status::Status;
 use tl_cert::Claim;
+use tl_read::Refusal;
 
 /// The numbers of a demonstration.
 #[derive(Clone, Copy)]

@@ -28,11 +28,11 @@ pub enum Status {
 }
 
 impl Status {
-    ghost use Rattle.tl_program.specs.Messages.{number_of};
+    ghost use Rattle.tl_program.specs.Messages.{status_number};
 
     /// The exit status.
     pub fn number(self) -> u8
-        ensures { result ≡ number_of self }
+        ensures { result ≡ status_number self }
     {
         self as u8
     }

@@ -3,29 +3,32 @@
 ghost use Rattle.std.specs.Prelude.{◌≡◌, ◌≤◌, ℕ, IfOk};
 ghost use Rattle.tl_base.specs.declared.breaking.Breaking.TheVariants as breaks;
 ghost use Rattle.tl_base.specs.declared.style.Style.TheVariants as styles;
+ghost use Rattle.tl_read.specs.declared.source.Source.TheVariants as sources;
 ghost use Rattle.tl_demo.specs.Demo.{demo_text_of};
-ghost use Rattle.tl_form.specs.declared.cell.Table.{Table as T};
-ghost use Rattle.tl_form.specs.ChainRanges.{HasFewCells};
-ghost use Rattle.tl_form.specs.Least.{IsLeastWidth};
-ghost use Rattle.tl_form.specs.Sound.{IsSound};
-ghost use Rattle.tl_program.specs.declared.reading.Reading.TheVariants as readings;
+ghost use Rattle.tl_table.specs.declared.cell.Table.{Table as T};
+ghost use Rattle.tl_table.specs.FewCells.{HasFewCells};
+ghost use Rattle.tl_table.specs.Least.{IsLeastWidth};
+ghost use Rattle.tl_table.specs.Sound.{IsSound};
+ghost use Rattle.tl_read.specs.declared.reading.Reading.TheVariants as readings;
 ghost use Rattle.tl_program.specs.Demonstration.{IsSummaryOf};
-ghost use Rattle.tl_program.specs.Reading.{IsReading};
-ghost use Rattle.tl_program.specs.inner.Numbers.{demo_task, HasOwnNext, IsCountAfter};
+ghost use Rattle.tl_read.specs.Reading.{IsReading};
+ghost use Rattle.tl_program.specs.inner.Summaries.{demo_task, HasOwnNext, IsCountAfter};
 
 use crate::answer::certificate_of;
-use crate::limits::DEMO_BUDGET;
+use crate::limits::{DEMO_BUDGET, WORKERS};
 use crate::makers::searched;
-use crate::options::Search;
-use crate::reading::read;
 use crate::report::Summary;
 use crate::task::Task;
 use std::alloc::{AllocError, Global};
-use tl_base::{Breaking, Style};
+use std::thread::Threads;
+use tl_base::{Breaking, Gate, Style};
 use tl_cert::Section;
+use tl_command::Search;
 use tl_demo::{DEMO_WIDTH, demo_fits, demo_text};
-use tl_form::{Due, Subject, Table};
+use tl_form::{Due, Subject};
 use tl_nested::problem_at;
+use tl_read::{Source, read};
+use tl_table::Table;
 use tl_verify::verify;
 
 /// What is asked of the table of a demonstration.
@@ -35,7 +38,7 @@ fn task() -> Task
     Task {
         width: DEMO_WIDTH,
         style: Style::Plain,
-        breaking: Breaking::Words,
+        source: Source::Html(Breaking::Words),
         budget: Some(DEMO_BUDGET),
         search: Search::Best,
         html: false,
@@ -59,23 +62,31 @@ fn count_after(alloc: Global, table: &Table, before: &[Section]) -> Result<u64, 
 }
 
 /// The numbers of a table that is laid out on the page of a demonstration.
-fn summary_of(alloc: Global, table: &Table) -> Result<Summary, AllocError>
+fn summary_of<R: Threads + Sync, G: Gate>(
+    rt: &R,
+    alloc: Global,
+    table: &Table,
+    gate: &G,
+) -> Result<Summary, AllocError>
     requires sound { IsSound table.now }
     requires cells { HasFewCells table.now }
     requires wide { (least : ℕ) → IsLeastWidth table.now styles.Plain least → least ≤ DEMO_WIDTH }
     ensures { IfOk result (IsSummaryOf table.now) }
 {
     let task = task();
-    let sections = searched(alloc, &task, table, DEMO_BUDGET)?;
+    let sections = searched(rt, alloc, &task, table, DEMO_BUDGET, gate)?;
     let certificate = certificate_of(alloc, &task, DEMO_BUDGET, sections);
     // The certificate is valid, so it is refused only where memory runs out.
     if verify(
+        rt,
         alloc,
         table,
         Style::Plain,
         DEMO_WIDTH,
         DEMO_BUDGET,
+        WORKERS,
         &certificate,
+        gate,
     )
     .is_err()
     {
@@ -94,13 +105,18 @@ fn summary_of(alloc: Global, table: &Table) -> Result<Summary, AllocError>
 }
 
 /// Lays out the table of this number, checks its certificate, and gives its numbers.
-pub fn demonstration(alloc: Global, number: u32) -> Result<Summary, AllocError>
-    ensures { IfOk result (λ summary. (table : T) × IsReading breaks.Words (demo_text_of number) (readings.Table table)
+pub fn demonstration<R: Threads + Sync, G: Gate>(
+    rt: &R,
+    alloc: Global,
+    number: u32,
+    gate: &G,
+) -> Result<Summary, AllocError>
+    ensures { IfOk result (λ summary. (table : T) × IsReading (sources.Html breaks.Words) (demo_text_of number) (readings.Table table)
         × IsSummaryOf table summary) }
 {
     let text = demo_text(alloc, number)?;
     demo_fits();
-    let reading = read(alloc, text.as_slice(), Breaking::Words)?;
+    let reading = read(alloc, text.as_slice(), Source::Html(Breaking::Words))?;
     let table = reading.table().unwrap();
-    summary_of(alloc, &table)
+    summary_of(rt, alloc, &table, gate)
 }

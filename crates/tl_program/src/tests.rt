@@ -14,6 +14,7 @@ use std::alloc::{AllocError, Global};
 use std::collections::BTreeMap;
 use std::process::Abort;
 use std::test::Fail as Failure;
+use std::thread::Threads;
 use tl_base::{Fail, List, MemoryDesk, NoGate};
 
 /// Three words in one cell.
@@ -91,9 +92,14 @@ fn held<'a>(desk: &'a MemoryDesk, name: &str) -> Option<&'a [u8]> {
 }
 
 /// The status of a command line over the desk.
-fn status_of(alloc: Global, line: &str, desk: &mut MemoryDesk) -> Result<u8, AllocError> {
+fn status_of(
+    rt: &(impl Threads + Sync),
+    alloc: Global,
+    line: &str,
+    desk: &mut MemoryDesk,
+) -> Result<u8, AllocError> {
     let arguments = arguments(alloc, line)?;
-    Ok(run(alloc, arguments.as_slice(), desk, &NoGate))
+    Ok(run(rt, alloc, arguments.as_slice(), desk, &NoGate))
 }
 
 /// What a run leaves: the status, the files `p.txt` and `c.txt`, and what was printed.
@@ -130,7 +136,7 @@ impl<'a> Left<'a> {
 /// Runs the command line over a desk whose file `t.html` holds these bytes, and `c.txt` this
 /// certificate, with these failures. It compares all that is left.
 fn check_left(
-    rt: &(impl Abort + AllocGlobal),
+    rt: &(impl Abort + AllocGlobal + Threads + Sync),
     line: &str,
     bytes: &[u8],
     certificate: Option<&str>,
@@ -139,14 +145,14 @@ fn check_left(
 ) -> Result<(), Failure> {
     let alloc = rt.alloc();
     let mut desk = desk_with(alloc, bytes, certificate, fails)?;
-    let status = status_of(alloc, line, &mut desk)?;
+    let status = status_of(rt, alloc, line, &mut desk)?;
     assert_eq!(rt; Left::on(&desk, status, bytes), *wanted, "{line} {fails:?}");
     Ok(())
 }
 
 /// Runs the case over a desk with these failures, and compares all that is wanted of it.
 fn check_with(
-    rt: &(impl Abort + AllocGlobal),
+    rt: &(impl Abort + AllocGlobal + Threads + Sync),
     fails: &[Fail],
     case: &Case<'_>,
 ) -> Result<(), Failure> {
@@ -161,13 +167,13 @@ fn check_with(
 }
 
 /// Runs the case over a desk that does not fail.
-fn check(rt: &(impl Abort + AllocGlobal), case: &Case<'_>) -> Result<(), Failure> {
+fn check(rt: &(impl Abort + AllocGlobal + Threads + Sync), case: &Case<'_>) -> Result<(), Failure> {
     check_with(rt, &[], case)
 }
 
 /// The command line over the file stores nothing, with this status and this message.
 fn check_refused(
-    rt: &(impl Abort + AllocGlobal),
+    rt: &(impl Abort + AllocGlobal + Threads + Sync),
     line: &str,
     file: &[u8],
     status: u8,

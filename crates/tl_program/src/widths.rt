@@ -3,10 +3,9 @@
 ghost use Rattle.std.specs.Prelude.{◌≡◌, ◌≤◌, length};
 ghost use Rattle.tl_base.specs.declared.limits.TheConstants.{MAX_COLUMNS};
 ghost use Rattle.tl_base.specs.Style.{gap_of, edge_of};
-ghost use Rattle.tl_problem.specs.Sizes.{total};
+ghost use Rattle.tl_base.specs.Sizes.{total};
 
-use tl_base::Style;
-use tl_problem::total_size;
+use tl_base::{Style, total_size};
 
 /// The columns of the page that columns of these widths take.
 pub fn total_width(style: Style, widths: &[u32]) -> u64

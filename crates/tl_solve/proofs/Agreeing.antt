@@ -1,6 +1,7 @@
 -- A zone of one class for each span, whose placement was looked at and whose bound is below the best height, has a cell for
 -- which `low` and `high` differ.
-use Rattle.std.proofs.Common.{◌≡◌, ◌≢◌, ℕ, ◌+◌, ◌<◌, zero, suc, Bool, true, false, List, [], ◌∷◌, ◌⊎◌, inl, inr, length, Option, Some, None, refl, ap}
+use Rattle.std.proofs.Common.{◌≡◌, ◌≢◌, ℕ, ◌+◌, ◌<◌, zero, suc, Bool, true, false, List, [], ◌∷◌, ◌⊎◌, inl, inr, length, Option}
+use Rattle.std.proofs.Common.{Some, None, refl, ap}
 use Rattle.std.proofs.Common.{subst, arith}
 use Rattle.std.specs.Bool.{IsTrue}
 use Rattle.std.specs.List.{Contains}
@@ -141,7 +142,8 @@ module _ (problem : ProblemModel) (zone : List Range) where
         })
       ]
 
-  pub one_class-differ : IsSound problem → IsZone problem zone → HasOneClass zone → (bound height : ℕ) → IsBound problem (InZone problem zone) bound →
+  pub one_class-differ : IsSound problem → IsZone problem zone → HasOneClass zone → (bound height : ℕ) →
+      IsBound problem (InZone problem zone) bound →
       bound < height → IsLookedAt problem zone height → DifferIn problem zone
   one_class-differ sound is one bound height bounds below looked =
       elim agree-or_differ [

@@ -1,5 +1,6 @@
 -- The arena of a problem when it is opened, and after a further cut.
-use Rattle.std.proofs.Common.{◌≡◌, ℕ, ◌+◌, ◌*◌, ◌<◌, ◌≤◌, List, [], ◌∷◌, ◌++◌, inl, inr, length, get_or, Option, refl, sym, ap, ◌∙◌, subst, arith}
+use Rattle.std.proofs.Common.{◌≡◌, ℕ, ◌+◌, ◌*◌, ◌<◌, ◌≤◌, List, [], ◌∷◌, ◌++◌, inl, inr, length, get_or, Option, refl, sym, ap}
+use Rattle.std.proofs.Common.{◌∙◌, subst, arith}
 use Rattle.std.proofs.Common.{append_assoc, length-append}
 use Rattle.std.specs.List.{All}
 use Rattle.std.proofs.lemmas.List.Elements.{All-nil, All-push}
@@ -36,7 +37,8 @@ lowered-next first second third (inr less) (inl same) = inr (omega (arith, less,
 lowered-next first second third (inr less) (inr more) = inr (omega (arith, less, more))
 
 -- a zone that was looked at for a height was so for a lower one
-pub looked-lower : (problem : ProblemModel) (zone : List Range) (height best : ℕ) → best ≤ height → IsLookedAt problem zone height →
+pub looked-lower : (problem : ProblemModel) (zone : List Range) (height best : ℕ) → best ≤ height →
+    IsLookedAt problem zone height →
     IsLookedAt problem zone best
 looked-lower problem zone height best less (inl none) = inl none
 looked-lower problem zone height best less (inr (inl high)) = inr (inl (high.0, high.1, omega (arith, less, high.2)))
@@ -46,7 +48,8 @@ looked-lower problem zone height best less (inr (inr found)) = inr (inr (found.0
 
 module _ (problem : ProblemModel) (sound : IsSound problem) where
   -- the opening is the placement in the one zone
-  open-looked : (opening : Placed) → IsOpening problem opening → (z : ℕ) → IsZoneOf [] z → IsLookedAt problem (zone_of problem [] z) opening.height
+  open-looked : (opening : Placed) → IsOpening problem opening → (z : ℕ) → IsZoneOf [] z →
+      IsLookedAt problem (zone_of problem [] z) opening.height
   open-looked opening is z there =
       let first : z ≡ 0 = omega (arith, there) in
       subst (λ n. IsLookedAt problem (zone_of problem [] n) opening.height) (sym first)
@@ -60,9 +63,11 @@ module _ (problem : ProblemModel) (sound : IsSound problem) where
         subst (λ n. IsBoundFound problem (zone_of problem [] n) (get_or (found ∷ []) n d)) (sym first) is;
   }
 
-  pub arena-opened : (arena : Arena) (opening : Placed) (found : Option ℕ) → IsOpening problem opening → IsTightFrom problem opening.widths arena.best →
+  pub arena-opened : (arena : Arena) (opening : Placed) (found : Option ℕ) → IsOpening problem opening →
+      IsTightFrom problem opening.widths arena.best →
       IsWorkOf problem arena.work → arena.trace ≡ [] →
-      arena.zones.items ≡ whole_zone problem ∷ [] → arena.bounds.items ≡ found ∷ [] → IsBoundFound problem (whole_zone problem) found →
+      arena.zones.items ≡ whole_zone problem ∷ [] → arena.bounds.items ≡ found ∷ [] →
+      IsBoundFound problem (whole_zone problem) found →
       arena.opening ≡ opening.height → IsArenaOf problem arena
   arena-opened arena opening found is made work none zones bounds bound height =
       let same = tight-opening problem opening arena.best is made in
@@ -87,18 +92,21 @@ module _ (problem : ProblemModel) (sound : IsSound problem) where
 module _ (problem : ProblemModel) (trace : List CutAt) (is : IsTraceOf problem trace) (cut : CutAt)
     (now : IsCut (whole_zone problem) trace cut) where
   -- the bound of a zone that was there stays
-  pub bound_below-more : (z height : ℕ) → IsZoneOf trace z → HasBoundBelow problem trace z height → HasBoundBelow problem (trace ++ cut ∷ []) z height
+  pub bound_below-more : (z height : ℕ) → IsZoneOf trace z → HasBoundBelow problem trace z height →
+      HasBoundBelow problem (trace ++ cut ∷ []) z height
   bound_below-more z height there has = (
     has.0,
     subst (λ zone. IsBound problem (InZone problem zone) has.0) (sym (zone-old (whole_zone problem) trace cut z there)) has.1,
     has.2,
   )
 
-  pub cut_zones-more : (height : ℕ) → All (λ c. HasBoundBelow problem trace c.zone height) trace → HasBoundBelow problem trace cut.zone height →
+  pub cut_zones-more : (height : ℕ) → All (λ c. HasBoundBelow problem trace c.zone height) trace →
+      HasBoundBelow problem trace cut.zone height →
       All (λ c. HasBoundBelow problem (trace ++ cut ∷ []) c.zone height) (trace ++ cut ∷ [])
   cut_zones-more height before below =
       All-push (λ c. HasBoundBelow problem (trace ++ cut ∷ []) c.zone height) trace cut
-      (λ i d within. bound_below-more (get_or trace i d).zone height (cuts-there (whole_zone problem) trace is i d within) (before i d within))
+      (λ i d within. bound_below-more (get_or trace i d).zone height (cuts-there (whole_zone problem) trace is i d within)
+      (before i d within))
       (bound_below-more cut.zone height now.stands.there below)
 
   module _ (low high : List Range) (low_is : low ≡ lower_part (zone_of problem trace cut.zone) cut.span cut.class)
@@ -115,10 +123,12 @@ module _ (problem : ProblemModel) (trace : List CutAt) (is : IsTraceOf problem t
         let parts : zones ++ low ∷ high ∷ [] ≡ with_parts (zones_of (whole_zone problem) trace) cut =
         ap (λ zs. zs ++ low ∷ high ∷ []) are
         ∙ ap (λ l. zones_of (whole_zone problem) trace ++ l ∷ high ∷ []) low_is
-        ∙ ap (λ h. zones_of (whole_zone problem) trace ++ lower_part (zone_of problem trace cut.zone) cut.span cut.class ∷ h ∷ []) high_is in
+        ∙ ap (λ h. zones_of (whole_zone problem) trace ++ lower_part (zone_of problem trace cut.zone)
+        cut.span cut.class ∷ h ∷ []) high_is in
         append_assoc zones (low ∷ []) (high ∷ []) ∙ parts ∙ sym (zones-push (whole_zone problem ∷ []) trace cut)
 
-    pub bounds-two : (bounds : List (Option ℕ)) (first second : Option ℕ) → AreBoundsOf problem trace bounds → IsBoundFound problem low first →
+    pub bounds-two : (bounds : List (Option ℕ)) (first second : Option ℕ) → AreBoundsOf problem trace bounds →
+        IsBoundFound problem low first →
         IsBoundFound problem high second → AreBoundsOf problem (trace ++ cut ∷ []) ((bounds ++ first ∷ []) ++ second ∷ [])
     bounds-two bounds first second are one other =
         let more = trace ++ cut ∷ [] in
@@ -129,9 +139,12 @@ module _ (problem : ProblemModel) (trace : List CutAt) (is : IsTraceOf problem t
         λ z d within. subst (λ zone. IsBoundFound problem zone (get_or bounds z d))
         (sym (zone-old (whole_zone problem) trace cut z (omega (arith, within, number)))) (are.each z d within) in
         let with_first = found-more problem more bounds n first refl old
-        (subst (λ m. IsBoundFound problem (zone_of problem more m) first) (sym number) (subst (λ zone. IsBoundFound problem zone first) low_zone one)) in
-        let with_both = found-more problem more (bounds ++ first ∷ []) (n + 1) second (length-append bounds (first ∷ [])) with_first
-        (subst (λ m. IsBoundFound problem (zone_of problem more m) second) (sym next) (subst (λ zone. IsBoundFound problem zone second) high_zone other)) in
+        (subst (λ m. IsBoundFound problem (zone_of problem more m) first) (sym number)
+        (subst (λ zone. IsBoundFound problem zone first) low_zone one)) in
+        let with_both = found-more problem more (bounds ++ first ∷ []) (n + 1) second (length-append bounds (first ∷ []))
+        with_first
+        (subst (λ m. IsBoundFound problem (zone_of problem more m) second) (sym next)
+        (subst (λ zone. IsBoundFound problem zone second) high_zone other)) in
         let count = length-append (bounds ++ first ∷ []) (second ∷ []) in
         let before = length-append bounds (first ∷ []) in
         record {
@@ -140,7 +153,8 @@ module _ (problem : ProblemModel) (trace : List CutAt) (is : IsTraceOf problem t
         }
 
     -- both parts are looked at
-    pub looked-two : (height best : ℕ) → ((z : ℕ) → IsZoneOf trace z → IsLookedAt problem (zone_of problem trace z) height) → best ≤ height →
+    pub looked-two : (height best : ℕ) → ((z : ℕ) → IsZoneOf trace z → IsLookedAt problem (zone_of problem trace z) height) →
+        best ≤ height →
         IsLookedAt problem low best → IsLookedAt problem high best →
         (z : ℕ) → IsZoneOf (trace ++ cut ∷ []) z → IsLookedAt problem (zone_of problem (trace ++ cut ∷ []) z) best
     looked-two height best looked less one other z there =
@@ -154,7 +168,8 @@ module _ (problem : ProblemModel) (trace : List CutAt) (is : IsTraceOf problem t
         ]
 
 -- the arena after a cut, by what the cut changes
-pub record IsCutInto (problem : ProblemModel) (old new : Arena) (cut : CutAt) (low high : List Range) (first second : Option ℕ) : Type 0 where
+pub record IsCutInto (problem : ProblemModel) (old new : Arena) (cut : CutAt) (low high : List Range)
+    (first second : Option ℕ) : Type 0 where
   pub low_is : low ≡ lower_part (zone_of problem old.trace cut.zone) cut.span cut.class
   pub high_is : high ≡ upper_part (zone_of problem old.trace cut.zone) cut.span cut.class
   pub trace : new.trace ≡ old.trace ++ cut ∷ []
@@ -169,8 +184,10 @@ pub record IsCutInto (problem : ProblemModel) (old new : Arena) (cut : CutAt) (l
   pub opening : new.opening ≡ old.opening
   pub work : IsWorkOf problem new.work
 
-pub arena-more : (problem : ProblemModel) (old new : Arena) (cut : CutAt) (low high : List Range) (first second : Option ℕ) → IsArenaOf problem old →
-    IsCut (whole_zone problem) old.trace cut → HasBoundBelow problem old.trace cut.zone old.opening → length old.trace < MAX_BUDGET →
+pub arena-more : (problem : ProblemModel) (old new : Arena) (cut : CutAt) (low high : List Range) (first second : Option ℕ) →
+    IsArenaOf problem old →
+    IsCut (whole_zone problem) old.trace cut → HasBoundBelow problem old.trace cut.zone old.opening →
+    length old.trace < MAX_BUDGET →
     IsCutInto problem old new cut low high first second → IsArenaOf problem new
 arena-more problem old new cut low high first second is now below few into =
     let more = old.trace ++ cut ∷ [] in
@@ -181,10 +198,12 @@ arena-more problem old new cut low high first second is now below few into =
       work = into.work;
       trace_of = subst (IsTraceOf problem) back (trace-push (whole_zone problem) old.trace cut is.trace_of now);
       few = omega (arith, few, ap length into.trace, length-append old.trace (cut ∷ []));
-      zones = into.zones ∙ zones-two problem old.trace is.trace_of cut now low high into.low_is into.high_is old.zones.items is.zones
+      zones = into.zones ∙ zones-two problem old.trace is.trace_of cut now low high into.low_is into.high_is old.zones.items
+          is.zones
           ∙ ap (zones_of (whole_zone problem)) back;
       bounds = subst (λ t. AreBoundsOf problem t new.bounds.items) back (subst (AreBoundsOf problem more) (sym into.bounds)
-          (bounds-two problem old.trace is.trace_of cut now low high into.low_is into.high_is old.bounds.items first second is.bounds
+          (bounds-two problem old.trace is.trace_of cut now low high into.low_is into.high_is old.bounds.items first second
+          is.bounds
           into.first_is into.second_is));
       cut_zones = subst (λ t. All (λ c. HasBoundBelow problem t c.zone new.opening) t) back
           (subst (λ h. All (λ c. HasBoundBelow problem more c.zone h) more) height
@@ -192,7 +211,8 @@ arena-more problem old new cut low high first second is now below few into =
       opening = (best.0, best.1, best.2 ∙ height, lowered-next best.0 old.best new.best best.3 into.lowered);
       tight = into.tight;
       looked = subst (λ t. (z : ℕ) → IsZoneOf t z → IsLookedAt problem (zone_of problem t z) new.best.height) back
-          (looked-two problem old.trace is.trace_of cut now low high into.low_is into.high_is old.best.height new.best.height is.looked
+          (looked-two problem old.trace is.trace_of cut now low high into.low_is into.high_is old.best.height new.best.height
+          is.looked
           (lowered-le old.best new.best into.lowered) into.first_looked into.second_looked);
     }
 
@@ -214,7 +234,8 @@ arena-keen problem sound arena is z placed there placement =
     ]
 
 -- the zones of the arena are those of its trace, and zones of the problem
-pub arena-item : (problem : ProblemModel) (arena : Arena) → IsArenaOf problem arena → (z : ℕ) (item : List Range) → IsZoneOf arena.trace z →
+pub arena-item : (problem : ProblemModel) (arena : Arena) → IsArenaOf problem arena → (z : ℕ) (item : List Range) →
+    IsZoneOf arena.trace z →
     item ≡ get_or arena.zones.items z item → item ≡ zone_of problem arena.trace z
 arena-item problem arena is z item there at =
     let count = zones-count (whole_zone problem) arena.trace arena.zones.items is.zones in
@@ -225,13 +246,15 @@ pub arena-zone : (problem : ProblemModel) (arena : Arena) → IsArenaOf problem 
 arena-zone problem arena is z there = zones-are problem is.work.sound arena.trace is.trace_of z there
 
 -- the span of a cut is one of the zone that is cut
-pub cut-span : (problem : ProblemModel) (arena : Arena) → IsArenaOf problem arena → (cut : CutAt) → IsCut (whole_zone problem) arena.trace cut →
+pub cut-span : (problem : ProblemModel) (arena : Arena) → IsArenaOf problem arena → (cut : CutAt) →
+    IsCut (whole_zone problem) arena.trace cut →
     cut.span < length (zone_of problem arena.trace cut.zone)
 cut-span problem arena is cut now =
     omega (arith, now.span, (arena-zone problem arena is cut.zone now.stands.there).spans, (whole-is_zone problem).spans)
 
 -- a tight placement that is lower may become the best
-pub arena-better : (problem : ProblemModel) (arena : Arena) (best : Placed) → IsArenaOf problem arena → IsTight problem best → IsLowered arena.best best →
+pub arena-better : (problem : ProblemModel) (arena : Arena) (best : Placed) → IsArenaOf problem arena → IsTight problem best →
+    IsLowered arena.best best →
     IsArenaOf problem (record arena { best = best })
 arena-better problem arena best is tight lowered = record {
   work = is.work;
@@ -242,6 +265,7 @@ arena-better problem arena best is tight lowered = record {
   cut_zones = is.cut_zones;
   opening = (is.opening.0, is.opening.1, is.opening.2, lowered-next is.opening.0 arena.best best is.opening.3 lowered);
   tight = tight;
-  looked = λ z there. looked-lower problem (zone_of problem arena.trace z) arena.best.height best.height (lowered-le arena.best best lowered)
+  looked = λ z there. looked-lower problem (zone_of problem arena.trace z) arena.best.height best.height
+      (lowered-le arena.best best lowered)
       (is.looked z there);
 }

@@ -1,5 +1,6 @@
 -- The least of the bounds that stand, and what the end of a search has.
-use Rattle.std.proofs.Common.{◌≡◌, ℕ, ◌+◌, ◌<◌, ◌≤◌, min, List, inl, inr, length, get_or, Option, Some, None, refl, sym, ap, ◌∙◌, subst, arith}
+use Rattle.std.proofs.Common.{◌≡◌, ℕ, ◌+◌, ◌<◌, ◌≤◌, min, List, inl, inr, length, get_or, Option, Some, None, refl, sym, ap, ◌∙◌}
+use Rattle.std.proofs.Common.{subst, arith}
 use Rattle.std.proofs.lemmas.Bool.{cases_lt}
 use Rattle.tl_problem.specs.Problem.{ProblemModel}
 use Rattle.tl_problem.specs.Zones.{InZone}
@@ -17,14 +18,16 @@ use Rattle.tl_solve.specs.inner.Found.{IsCutFound, AreCutsOf, least_with, IsLeas
 
 module _ (cuts bounds : List (Option ℕ)) (height upto least : ℕ) (is : IsLeastUpto cuts bounds height upto least) where
   -- a zone that is cut, or has no widths, changes nothing
-  least-skip : ((bound : ℕ) → get_or cuts upto None ≡ None → get_or bounds upto None ≡ Some bound → ⊥) → IsLeastUpto cuts bounds height (upto + 1) least
+  least-skip : ((bound : ℕ) → get_or cuts upto None ≡ None → get_or bounds upto None ≡ Some bound → ⊥) →
+      IsLeastUpto cuts bounds height (upto + 1) least
   least-skip none = record {
     at_most = is.at_most;
     never_more = λ z bound within uncut found. elim (cases_lt z upto) [
       | inl old ↦ is.never_more z bound old uncut found
       | inr new ↦
           let last : z ≡ upto = omega (arith, within, new) in
-          absurd (none bound (subst (λ n. get_or cuts n None ≡ None) last uncut) (subst (λ n. get_or bounds n None ≡ Some bound) last found))
+          absurd (none bound (subst (λ n. get_or cuts n None ≡ None) last uncut)
+          (subst (λ n. get_or bounds n None ≡ Some bound) last found))
     ];
     attained = elim is.attained [
       | inl same ↦ inl same
@@ -70,14 +73,16 @@ module _ (problem : ProblemModel) (trace : List CutAt) (cuts bounds : List (Opti
   -- a zone that no cut has stands
   stands-none : (z : ℕ) → z < length bounds → get_or cuts z None ≡ None → Stands trace z
   stands-none z within none =
-      let not = subst (IsCutFound trace (length trace) z) none (are.each z None (omega (arith, within, found.count, are.count))) in
+      let not = subst (IsCutFound trace (length trace) z) none
+      (are.each z None (omega (arith, within, found.count, are.count))) in
       record { there = omega (arith, within, found.count); not_cut = λ i d inside. not i d inside }
 
   none-stands : (z : ℕ) → Stands trace z → (o : Option ℕ) → get_or cuts z None ≡ o → get_or cuts z None ≡ None
   none-stands z stands None is = is
   none-stands z stands (Some i) is =
       let cut = subst (IsCutFound trace (length trace) z) is (are.each z None (omega (arith, stands.there, are.count))) in
-      absurd (stands.not_cut i (record { zone = 0; span = 0; class = 0 }) cut.0 (cut.1 (record { zone = 0; span = 0; class = 0 })))
+      absurd (stands.not_cut i (record { zone = 0; span = 0; class = 0 }) cut.0
+      (cut.1 (record { zone = 0; span = 0; class = 0 })))
 
   bound-some : (z bound : ℕ) → z < length bounds → IsBoundOf problem trace z bound → (o : Option ℕ) → get_or bounds z None ≡ o →
       get_or bounds z None ≡ Some bound
@@ -88,12 +93,14 @@ module _ (problem : ProblemModel) (trace : List CutAt) (cuts bounds : List (Opti
       let has = subst (IsBoundFound problem (zone_of problem trace z)) some (found.each z None within) in
       some ∙ ap Some (bound-unique problem (InZone problem (zone_of problem trace z)) other bound has is)
 
-  pub least-standing : (height lower : ℕ) → IsLeastUpto cuts bounds height (length bounds) lower → IsLeastStanding problem trace height lower
+  pub least-standing : (height lower : ℕ) → IsLeastUpto cuts bounds height (length bounds) lower →
+      IsLeastStanding problem trace height lower
   least-standing height lower is = record {
     at_most = is.at_most;
     never_more = λ z bound stands has.
         let within : z < length bounds = omega (arith, stands.there, found.count) in
-        is.never_more z bound within (none-stands z stands (get_or cuts z None) refl) (bound-some z bound within has (get_or bounds z None) refl);
+        is.never_more z bound within (none-stands z stands (get_or cuts z None) refl)
+        (bound-some z bound within has (get_or bounds z None) refl);
     attained = elim is.attained [
       | inl same ↦ inl same
       | inr some ↦ inr (
@@ -107,7 +114,8 @@ module _ (problem : ProblemModel) (trace : List CutAt) (cuts bounds : List (Opti
   }
 
 -- each zone that stands proves the least of the bounds that stand
-pub least-proves : (problem : ProblemModel) (trace : List CutAt) (bounds : List (Option ℕ)) (height lower : ℕ) → AreBoundsOf problem trace bounds →
+pub least-proves : (problem : ProblemModel) (trace : List CutAt) (bounds : List (Option ℕ)) (height lower : ℕ) →
+    AreBoundsOf problem trace bounds →
     IsLeastStanding problem trace height lower → (z : ℕ) → Stands trace z → Proves problem (zone_of problem trace z) lower
 least-proves problem trace bounds height lower found least z stands =
     proves (get_or bounds z None) (found.each z None (omega (arith, stands.there, found.count))) where
@@ -116,9 +124,11 @@ least-proves problem trace bounds height lower found least z stands =
       proves (Some bound) is = inr (inl (bound, is, least.never_more z bound stands is))
 
 -- the trace of the arena is worked
-pub arena-worked : (problem : ProblemModel) (arena : Arena) → IsArenaOf problem arena → (lower budget : ℕ) → length arena.trace ≤ budget →
+pub arena-worked : (problem : ProblemModel) (arena : Arena) → IsArenaOf problem arena → (lower budget : ℕ) →
+    length arena.trace ≤ budget →
     lower ≤ arena.best.height → (lower < arena.best.height → HasBoundUpTo problem arena.trace lower) →
-    (lower < arena.best.height → MayEnd problem arena.trace arena.best.height budget) → IsWorked problem arena.trace arena.best.height lower budget
+    (lower < arena.best.height → MayEnd problem arena.trace arena.best.height budget) →
+    IsWorked problem arena.trace arena.best.height lower budget
 arena-worked problem arena is lower budget within ordered enough ended = record {
   trace_of = is.trace_of;
   within = within;

@@ -12,7 +12,12 @@ use Rattle.tl_cert.specs.declared.trace.CutAt.{CutAt}
 use Rattle.tl_solve.specs.Orders.{IsFirstCut, ComesFrom, itself, lower, upper, ComesBefore, Follows}
 
 abbrev lower_first : List CutAt
-lower_first = record { zone = 0; span = 0; class = 0 } ∷ record { zone = 1; span = 0; class = 0 } ∷ record { zone = 2; span = 0; class = 0 } ∷ []
+lower_first = record { zone = 0; span = 0; class = 0 } ∷ record { zone = 1; span = 0; class = 0 } ∷ record {
+  zone = 2;
+  span =
+      0;
+  class = 0;
+} ∷ []
 
 -- zone 6 comes from zone 2 and from the whole, zone 3 comes before it
 six_from_two : ComesFrom lower_first 2 6
@@ -31,7 +36,8 @@ two_follows_one = inr (0, omega arith, itself, itself)
 
 -- where a zone comes from: itself, or one of which it is a part
 from-cases : (trace : List CutAt) (from z : ℕ) → ComesFrom trace from z →
-    (z ≡ from) ⊎ ((i : ℕ) × (d : CutAt) × (i < length trace) × ((z ≡ 2 * i + 1) ⊎ (z ≡ 2 * i + 2)) × ComesFrom trace from (get_or trace i d).zone)
+    (z ≡ from) ⊎ ((i : ℕ) × (d : CutAt) × (i < length trace) × ((z ≡ 2 * i + 1) ⊎ (z ≡ 2 * i + 2)) ×
+    ComesFrom trace from (get_or trace i d).zone)
 from-cases trace from z itself = inl refl
 from-cases trace from z (lower i d within rest) = inr (i, d, within, inl refl, rest)
 from-cases trace from z (upper i d within rest) = inr (i, d, within, inr refl, rest)
@@ -49,7 +55,8 @@ one_not_from_two comes = elim (from-cases lower_first 2 1 comes) [
   | inl same ↦ omega (arith, same)
   | inr part ↦
       let first : part.0 ≡ 0 = elim part.3 [ inl odd ↦ omega (arith, odd) | inr even ↦ absurd (omega (arith, even)) ] in
-      let whole : ComesFrom lower_first 2 0 = subst (λ i. ComesFrom lower_first 2 (get_or lower_first i part.1).zone) first part.4 in
+      let whole : ComesFrom lower_first 2 0 = subst (λ i. ComesFrom lower_first 2 (get_or lower_first i part.1).zone)
+      first part.4 in
       let none = whole-from lower_first 2 whole in
       omega (arith, none)
 ]
@@ -79,4 +86,5 @@ second_span = record {
   class = refl;
 } where
   before : (t : ℕ) → t ≡ 0 → (get_or three_spans t (range 0 0)).first ≡ (get_or three_spans t (range 0 0)).last
-  before t first = subst (λ n. (get_or three_spans n (range 0 0)).first ≡ (get_or three_spans n (range 0 0)).last) (sym first) refl
+  before t first = subst (λ n. (get_or three_spans n (range 0 0)).first ≡ (get_or three_spans n (range 0 0)).last) (sym first)
+      refl

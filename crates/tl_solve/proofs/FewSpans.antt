@@ -1,5 +1,5 @@
 -- The cuts of a trace are within the ranges of a certificate's text: a problem has few spans, and a span few classes.
-use Rattle.std.proofs.Common.{ℕ, ◌+◌, ◌-◌, ◌<◌, ◌≤◌, List, [], ◌∷◌, ◌++◌, inl, inr, length, get_or}
+use Rattle.std.proofs.Common.{ℕ, ◌+◌, ◌<◌, ◌≤◌, List, [], ◌∷◌, ◌++◌, inl, inr, length, get_or}
 use Rattle.std.proofs.Common.{codes, arith, length-append}
 use Rattle.std.specs.List.{All, AllByRecursion}
 use Rattle.std.proofs.lemmas.List.Elements.{All-nil, All-push, Contains-get_or}
@@ -23,7 +23,8 @@ use Rattle.tl_solve.proofs.Writable.{all-flat_map}
 -- ---- the classes of a span
 
 -- a class after the first begins within the page
-pub class-few : (problem : ProblemModel) → IsSound problem → (s class : ℕ) → class + 1 < length (classes_at problem s) → class ≤ MAX_CLASS
+pub class-few : (problem : ProblemModel) → IsSound problem → (s class : ℕ) → class + 1 < length (classes_at problem s) →
+    class ≤ MAX_CLASS
 class-few problem sound s class within =
     let columns = span_at problem s in
     let w = get_or (classes_at problem s) (class + 1) 0 in
@@ -41,13 +42,16 @@ class-few problem sound s class within =
 cut-within : (cut : CutAt) → cut.zone ≤ MAX_ZONE → cut.span ≤ MAX_SPAN → cut.class ≤ MAX_CLASS → AllWithin (cut_pieces cut)
 cut-within cut zone span class =
     let third : AllWithin (field 0 MAX_CLASS cut.class line_feed) = ((omega arith, class), (tt, tt)) in
-    let second : AllWithin (field 0 MAX_SPAN cut.span space ++ field 0 MAX_CLASS cut.class line_feed) = ((omega arith, span), (tt, third)) in
-    let first : AllWithin (field 0 MAX_ZONE cut.zone space ++ (field 0 MAX_SPAN cut.span space ++ field 0 MAX_CLASS cut.class line_feed)) =
+    let second : AllWithin (field 0 MAX_SPAN cut.span space ++ field 0 MAX_CLASS cut.class line_feed) =
+    ((omega arith, span), (tt, third)) in
+    let first : AllWithin (field 0 MAX_ZONE cut.zone space ++
+    (field 0 MAX_SPAN cut.span space ++ field 0 MAX_CLASS cut.class line_feed)) =
     ((omega arith, zone), (tt, second)) in
     AllByRecursion-append IsWithin (word (codes "cut ")) (field 0 MAX_ZONE cut.zone space ++ (field 0 MAX_SPAN cut.span space
     ++ field 0 MAX_CLASS cut.class line_feed)) (within-word (codes "cut ")) first
 
-pub trace-writable : (problem : ProblemModel) → IsSound problem → (trace : List CutAt) → IsTraceOf problem trace → length trace ≤ MAX_BUDGET →
+pub trace-writable : (problem : ProblemModel) → IsSound problem → (trace : List CutAt) → IsTraceOf problem trace →
+    length trace ≤ MAX_BUDGET →
     IsTraceWritable trace
 trace-writable problem sound trace is few =
     (few, all-flat_map IsWithin cut_pieces trace (trace-by (whole_zone problem) AllCuts none more trace is few)) where
@@ -57,13 +61,15 @@ trace-writable problem sound trace is few =
       none : AllCuts []
       none short = All-nil (λ (cut : CutAt). AllByRecursion IsWithin (cut_pieces cut))
 
-      more : (cuts : List CutAt) (cut : CutAt) → IsTraceOf problem cuts → IsCut (whole_zone problem) cuts cut → AllCuts cuts → AllCuts (cuts ++ cut ∷ [])
+      more : (cuts : List CutAt) (cut : CutAt) → IsTraceOf problem cuts → IsCut (whole_zone problem) cuts cut → AllCuts cuts →
+          AllCuts (cuts ++ cut ∷ [])
       more cuts cut before now all short =
           let count = length-append cuts (cut ∷ []) in
           let spans = (whole-is_zone problem).spans in
           let zone = zones-are problem sound cuts before cut.zone now.stands.there in
           let there : cut.span < length (zone_of problem cuts cut.zone) = omega (arith, now.span, zone.spans, spans) in
           let range = zone.ranges cut.span there in
-          let here = cut-within cut (omega (arith, now.stands.there, short, count)) (omega (arith, now.span, spans, spans-few problem sound))
+          let here = cut-within cut (omega (arith, now.stands.there, short, count))
+          (omega (arith, now.span, spans, spans-few problem sound))
           (class-few problem sound cut.span cut.class (omega (arith, now.upper, range.1))) in
           All-push (λ c. AllByRecursion IsWithin (cut_pieces c)) cuts cut (all (omega (arith, short, count))) here

@@ -55,7 +55,8 @@ module _ (problem : ProblemModel) (sound : IsSound problem) (zone : List Range) 
 
 -- ---- the lines of a log
 
-module _ (problem : ProblemModel) (sound : IsSound problem) (trace : List CutAt) (is : IsTraceOf problem trace) (log : List LogLine) (lower : ℕ)
+module _ (problem : ProblemModel) (sound : IsSound problem) (trace : List CutAt) (is : IsTraceOf problem trace)
+    (log : List LogLine) (lower : ℕ)
     (nogoods : (f : ℕ) → f < length log → nogood_at log f ≡ Zone (2 * length trace - f)) where
   closing-good : (k z : ℕ) (found : Option ℕ) → Stands trace z → IsBoundFound problem (zone_of problem trace z) found →
       Proves problem (zone_of problem trace z) lower → IsGoodLine problem trace log lower k (closing_line_of z found lower)
@@ -64,7 +65,8 @@ module _ (problem : ProblemModel) (sound : IsSound problem) (trace : List CutAt)
     earlier = All-nil (λ f. (f < k) × NamesAreThere problem trace (nogood_at log f));
     joined = [];
     fires = refl;
-    ends = closing-ends problem sound (zone_of problem trace z) (zones-are problem sound trace is z stands.there) lower found bound proves;
+    ends = closing-ends problem sound (zone_of problem trace z) (zones-are problem sound trace is z stands.there)
+        lower found bound proves;
   }
 
   -- the line that has the bounds of a zone
@@ -119,10 +121,12 @@ module _ (problem : ProblemModel) (sound : IsSound problem) (trace : List CutAt)
     back_g = omega (arith, within)
 
     low : nogood_bounds problem trace (nogood_at log f) ≡ zone_bounds problem (lower_part zone cut.span cut.class)
-    low = ap (nogood_bounds problem trace) (part-nogood f (2 * i + 1) (omega (arith, before_f, long)) back_f) ∙ ap (zone_bounds problem) parts.low_is
+    low = ap (nogood_bounds problem trace) (part-nogood f (2 * i + 1) (omega (arith, before_f, long)) back_f) ∙ ap
+        (zone_bounds problem) parts.low_is
 
     high : nogood_bounds problem trace (nogood_at log g) ≡ zone_bounds problem (upper_part zone cut.span cut.class)
-    high = ap (nogood_bounds problem trace) (part-nogood g (2 * i + 2) (omega (arith, before_g, long)) back_g) ∙ ap (zone_bounds problem) parts.high_is
+    high = ap (nogood_bounds problem trace) (part-nogood g (2 * i + 2) (omega (arith, before_g, long)) back_g) ∙ ap
+        (zone_bounds problem) parts.high_is
 
     named_f : (f < k) × NamesAreThere problem trace (nogood_at log f)
     named_f = part-named k f (2 * i + 1) before_f long back_f (omega (arith, within))
@@ -136,7 +140,8 @@ module _ (problem : ProblemModel) (sound : IsSound problem) (trace : List CutAt)
     by_upper : (some : Option ℕ) → IsBoundFound problem (zone_of problem trace (2 * i + 2)) some →
         IsGoodLine problem trace log lower k (firing_line_of last cut.zone i some)
     by_upper None none =
-        let empty : HasNoWidths (InZone problem (upper_part zone cut.span cut.class)) = subst (λ part. HasNoWidths (InZone problem part)) parts.high_is none in
+        let empty : HasNoWidths (InZone problem (upper_part zone cut.span cut.class)) =
+        subst (λ part. HasNoWidths (InZone problem part)) parts.high_is none in
         let all = lower-implied problem sound zone is_zone cut.span cut.class span parts.lower parts.upper empty in
         let implied = subst (λ bounds. All (Implied problem (IsLeft problem given [])) bounds) (sym low) all in
         record {
@@ -157,25 +162,32 @@ module _ (problem : ProblemModel) (sound : IsSound problem) (trace : List CutAt)
           names = there;
           earlier = All-cons Named f (g ∷ []) named_f (All-cons Named g [] named_g (All-nil Named));
           joined = b ∷ [];
-          fires = inr (b, subst (λ bounds. OneLeft problem (IsLeft problem given []) bounds b) (sym low) one, inl (implied, refl));
+          fires = inr (
+            b,
+            subst (λ bounds. OneLeft problem (IsLeft problem given []) bounds b) (sym low) one,
+            inl (implied, refl),
+          );
           ends = implied;
         }
 
 -- ---- the whole log
 
-line-nogood : (last lower z : ℕ) (bounds : List (Option ℕ)) (found : Option ℕ) → (line_of last bounds lower z found).nogood ≡ Zone z
+line-nogood : (last lower z : ℕ) (bounds : List (Option ℕ)) (found : Option ℕ) →
+    (line_of last bounds lower z found).nogood ≡ Zone z
 line-nogood last lower z bounds None = refl
 line-nogood last lower z bounds (Some cut) = refl
 
 pub log-good : (problem : ProblemModel) → IsSound problem → (trace : List CutAt) → IsTraceOf problem trace → (lower : ℕ) →
     ((z : ℕ) → Stands trace z → Proves problem (zone_of problem trace z) lower) →
     (cuts bounds : List (Option ℕ)) → AreBoundsOf problem trace bounds → AreCutsOf trace (length trace) cuts →
-    (log : List LogLine) → AreLinesOf (2 * length trace) cuts bounds lower (2 * length trace + 1) log → IsGoodLog problem trace log lower
+    (log : List LogLine) → AreLinesOf (2 * length trace) cuts bounds lower (2 * length trace + 1) log →
+    IsGoodLog problem trace log lower
 log-good problem sound trace is lower standing cuts bounds are_bounds are_cuts log lines =
     record { some = omega (arith, lines.count); lines = each_good; last = no_bounds } where
       nogoods : (f : ℕ) → f < length log → nogood_at log f ≡ Zone (2 * length trace - f)
       nogoods f within =
-          ap (λ (line : LogLine). line.nogood) (lines.each f (record { nogood = Zone 0; fires = []; end = Cycle }) (omega (arith, within, lines.count)))
+          ap (λ (line : LogLine). line.nogood) (lines.each f (record { nogood = Zone 0; fires = []; end = Cycle })
+          (omega (arith, within, lines.count)))
           ∙ line-nogood (2 * length trace) lower (2 * length trace - f) bounds (get_or cuts (2 * length trace - f) None)
 
       by_cut : (k : ℕ) → k < length log → (found : Option ℕ) → IsCutFound trace (length trace) (2 * length trace - k) found →

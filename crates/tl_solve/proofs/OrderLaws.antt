@@ -1,25 +1,29 @@
 -- What holds at each cut of a trace, and in which order its zones come, once a further cut is made.
-use Rattle.std.proofs.Common.{◌≡◌, ℕ, ◌+◌, ◌*◌, List, [], ◌∷◌, ◌++◌, inl, inr, length, get_or, take, sym, ap, ◌∙◌, subst, arith, length-append}
+use Rattle.std.proofs.Common.{◌≡◌, ℕ, ◌+◌, ◌*◌, List, [], ◌∷◌, ◌++◌, inl, inr, length, get_or, take, sym, ap, ◌∙◌, subst, arith}
+use Rattle.std.proofs.Common.{length-append}
 use Rattle.std.proofs.lemmas.Bool.{cases_lt}
 use Rattle.std.proofs.lemmas.List.{take_all, take-append-le, get_or_append_left, get_or-append-add}
 use Rattle.tl_cert.specs.declared.trace.CutAt.{CutAt}
 use Rattle.tl_solve.specs.Orders.{AtEachCut, ComesFrom, itself, lower, upper, ComesBefore, Follows}
 
 -- what holds at each cut of a trace, and at a further cut, holds at each cut of both
-pub at-each-push : (Holds : List CutAt → CutAt → Type 0) (trace : List CutAt) (cut : CutAt) → AtEachCut Holds trace → Holds trace cut →
+pub at-each-push : (Holds : List CutAt → CutAt → Type 0) (trace : List CutAt) (cut : CutAt) → AtEachCut Holds trace →
+    Holds trace cut →
     AtEachCut Holds (trace ++ cut ∷ [])
 at-each-push Holds trace cut before now i d within =
     elim (cases_lt i (length trace)) [
       | inl old ↦
           let cuts : take i (trace ++ cut ∷ []) ≡ take i trace = take-append-le i trace (cut ∷ []) (omega (arith, old)) in
           let item : get_or (trace ++ cut ∷ []) i d ≡ get_or trace i d = get_or_append_left trace (cut ∷ []) d i old in
-          subst (λ cs. Holds cs (get_or (trace ++ cut ∷ []) i d)) (sym cuts) (subst (Holds (take i trace)) (sym item) (before i d old))
+          subst (λ cs. Holds cs (get_or (trace ++ cut ∷ []) i d)) (sym cuts)
+          (subst (Holds (take i trace)) (sym item) (before i d old))
       | inr new ↦
           let last : i ≡ length trace = omega (arith, new, within, length-append trace (cut ∷ [])) in
           let here : i ≡ length trace + 0 = omega (arith, last) in
           let cuts : take i (trace ++ cut ∷ []) ≡ trace =
           take-append-le i trace (cut ∷ []) (omega (arith, last)) ∙ take_all i trace (omega (arith, last)) in
-          let item : get_or (trace ++ cut ∷ []) i d ≡ cut = ap (λ n. get_or (trace ++ cut ∷ []) n d) here ∙ get_or-append-add trace (cut ∷ []) 0 d in
+          let item : get_or (trace ++ cut ∷ []) i d ≡ cut = ap (λ n. get_or (trace ++ cut ∷ []) n d)
+          here ∙ get_or-append-add trace (cut ∷ []) 0 d in
           subst (λ cs. Holds cs (get_or (trace ++ cut ∷ []) i d)) (sym cuts) (subst (Holds trace) (sym item) now)
     ]
 
@@ -48,10 +52,12 @@ module _ (trace : List CutAt) (cut : CutAt) where
   from-more itself = itself
   from-more {a} (lower i d within rest) =
       lower i d (omega (arith, within, length-append trace (cut ∷ [])))
-      (subst (λ (c : CutAt). ComesFrom (trace ++ cut ∷ []) a c.zone) (sym (get_or_append_left trace (cut ∷ []) d i within)) (from-more rest))
+      (subst (λ (c : CutAt). ComesFrom (trace ++ cut ∷ []) a c.zone) (sym (get_or_append_left trace (cut ∷ []) d i within))
+      (from-more rest))
   from-more {a} (upper i d within rest) =
       upper i d (omega (arith, within, length-append trace (cut ∷ [])))
-      (subst (λ (c : CutAt). ComesFrom (trace ++ cut ∷ []) a c.zone) (sym (get_or_append_left trace (cut ∷ []) d i within)) (from-more rest))
+      (subst (λ (c : CutAt). ComesFrom (trace ++ cut ∷ []) a c.zone) (sym (get_or_append_left trace (cut ∷ []) d i within))
+      (from-more rest))
 
   pub before-more : {a b : ℕ} → ComesBefore trace a b → ComesBefore (trace ++ cut ∷ []) a b
   before-more before = (before.0, omega (arith, before.1, length-append trace (cut ∷ [])), from-more before.2, from-more before.3)

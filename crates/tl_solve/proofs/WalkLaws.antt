@@ -1,5 +1,6 @@
 -- The way of the plain search: how its stack and the order of its cuts go on.
-use Rattle.std.proofs.Common.{◌≡◌, ◌≢◌, ℕ, ◌+◌, ◌*◌, ◌<◌, ◌≤◌, zero, suc, List, [], ◌∷◌, ◌++◌, ◌⊎◌, inl, inr, length, get_or, Result, Ok, Err, sym}
+use Rattle.std.proofs.Common.{◌≡◌, ◌≢◌, ℕ, ◌+◌, ◌*◌, ◌<◌, ◌≤◌, zero, suc, List, [], ◌∷◌, ◌++◌, ◌⊎◌, inl, inr, length, get_or}
+use Rattle.std.proofs.Common.{Result, Ok, Err, sym}
 use Rattle.std.proofs.Common.{ap, ◌∙◌, subst, arith, length-append}
 use Rattle.std.specs.List.{All, AllPairs, Contains}
 use Rattle.std.specs.Result.{IfOk}
@@ -20,9 +21,11 @@ use Rattle.tl_solve.specs.declared.arena.Arena.{Arena}
 use Rattle.tl_solve.specs.declared.outcome.Outcome.{Outcome}
 use Rattle.tl_solve.specs.Arenas.{HasBoundBelow, IsLowered, IsArenaOf}
 use Rattle.tl_solve.specs.Plain.{IsPlainOutcome}
-use Rattle.tl_solve.specs.Orders.{IsFirstCut, CutsFirstSpans, IsBelowPlacements, CutsBelowPlacements, ComesFrom, ComesBefore, Follows, IsInClassOrder}
-use Rattle.tl_solve.specs.inner.Walk.{IsStack, KeepsOrder}
-use Rattle.tl_solve.proofs.OrderLaws.{at-each-push, from-before, follows-from, before-more, follows-more, lower-from, upper-from, lower-before_upper}
+use Rattle.tl_solve.specs.Orders.{IsFirstCut, CutsFirstSpans, IsBelowPlacements, CutsBelowPlacements, ComesFrom, ComesBefore}
+use Rattle.tl_solve.specs.Orders.{Follows, IsInClassOrder}
+use Rattle.tl_solve.specs.inner.Walk.{IsStack, KeepsClassOrder}
+use Rattle.tl_solve.proofs.OrderLaws.{at-each-push, from-before, follows-from, before-more, follows-more, lower-from, upper-from}
+use Rattle.tl_solve.proofs.OrderLaws.{lower-before_upper}
 
 pairs-init : {X : Type 0} (R : X → X → Type 0) (xs : List X) (x : X) → AllPairs R (xs ++ x ∷ []) → AllPairs R xs
 pairs-init R xs x pairs i j d less within =
@@ -41,7 +44,8 @@ all-map : {X : Type 0} (P Q : X → Type 0) (xs : List X) → ((x : X) → P x �
 all-map P Q xs step all i d within = step (get_or xs i d) (all i d within)
 
 -- a zone that is closed for a height is closed for a lower one
-pub closed-lower : (problem : ProblemModel) (zone : List Range) (height best : ℕ) → best ≤ height → IsClosed problem zone height → IsClosed problem zone best
+pub closed-lower : (problem : ProblemModel) (zone : List Range) (height best : ℕ) → best ≤ height →
+    IsClosed problem zone height → IsClosed problem zone best
 closed-lower problem zone height best less (inl none) = inl none
 closed-lower problem zone height best less (inr (inl high)) = inr (inl (high.0, high.1, omega (arith, less, high.2)))
 closed-lower problem zone height best less (inr (inr single)) = inr (inr single)
@@ -63,8 +67,8 @@ stack-start problem height trace stack none one =
       closed = λ z stands. inl (subst (Contains (0 ∷ [])) (omega (arith, stands.there)) (Contains-first 0 []));
     }))
 
-pub order-start : (problem : ProblemModel) (trace : List CutAt) → trace ≡ [] → KeepsOrder problem trace
-order-start problem trace none = subst (KeepsOrder problem) (sym none) (record {
+pub order-start : (problem : ProblemModel) (trace : List CutAt) → trace ≡ [] → KeepsClassOrder problem trace
+order-start problem trace none = subst (KeepsClassOrder problem) (sym none) (record {
   spans = λ i d within. absurd (omega (arith, within));
   below = λ i d within. absurd (omega (arith, within));
   order = λ i j d less within. absurd (omega (arith, within));
@@ -76,7 +80,8 @@ module _ (problem : ProblemModel) where
   stack-whole height = record {
     standing = λ i d within.
         let first : i ≡ 0 = omega (arith, within) in
-        subst (λ n. Stands [] (get_or (0 ∷ []) n d)) (sym first) (record { there = omega arith; not_cut = All-nil (λ (cut : CutAt). cut.zone ≢ 0) });
+        subst (λ n. Stands [] (get_or (0 ∷ []) n d)) (sym first)
+        (record { there = omega arith; not_cut = All-nil (λ (cut : CutAt). cut.zone ≢ 0) });
     apart = λ i j d less within. absurd (omega (arith, less, within));
     follow = λ i d within k e inside. absurd (omega (arith, inside));
     closed = λ z stands.
@@ -84,7 +89,7 @@ module _ (problem : ProblemModel) where
         inl (subst (Contains (0 ∷ [])) first (Contains-first 0 []));
   }
 
-  pub order-none : KeepsOrder problem []
+  pub order-none : KeepsClassOrder problem []
   order-none = record {
     spans = λ i d within. absurd (omega (arith, within));
     below = λ i d within. absurd (omega (arith, within));
@@ -114,7 +119,8 @@ module _ (problem : ProblemModel) where
     }
 
     -- or its two parts take its place, the lower part on top
-    module _ (cut : CutAt) (top : cut.zone ≡ z) (is_trace : IsTraceOf problem trace) (now : IsCut (whole_zone problem) trace cut) where
+    module _ (cut : CutAt) (top : cut.zone ≡ z) (is_trace : IsTraceOf problem trace)
+        (now : IsCut (whole_zone problem) trace cut) where
       abbrev n : ℕ
       n = length trace
 
@@ -135,13 +141,15 @@ module _ (problem : ProblemModel) where
       high-from = subst (λ a. ComesFrom (trace ++ cut ∷ []) a (2 * length trace + 2)) top (upper-from trace cut)
 
       -- a part of the top comes before what is under it
-      part-under : (part : ℕ) → 2 * n + 1 ≤ part → ComesFrom more z part → All (λ under. (part ≢ under) × ComesBefore more part under) stack
+      part-under : (part : ℕ) → 2 * n + 1 ≤ part → ComesFrom more z part →
+          All (λ under. (part ≢ under) × ComesBefore more part under) stack
       part-under part past from i d within =
           let under = get_or stack i d in
           let there = (rest_standing i d within).there in
           (λ same. omega (arith, same, there, past), from-before (before-more trace cut (unders i d within).1) from)
 
-      pub stack-standing : All (Stands (trace ++ cut ∷ [])) ((stack ++ (2 * length trace + 2) ∷ []) ++ (2 * length trace + 1) ∷ [])
+      pub stack-standing : All (Stands (trace ++ cut ∷ [])) ((stack ++ (2 * length trace + 2) ∷ []) ++
+          (2 * length trace + 1) ∷ [])
       stack-standing =
           let after = Stands (trace ++ cut ∷ []) in
           let old : All after stack = λ i d within.
@@ -159,7 +167,8 @@ module _ (problem : ProblemModel) where
           let high = 2 * length trace + 2 in
           let low = 2 * length trace + 1 in
           let old : AllPairs R stack = λ i j d less within.
-          let here = pairs-init (λ under over. (over ≢ under) × ComesBefore trace over under) stack z is.apart i j d less within in
+          let here = pairs-init (λ under over. (over ≢ under) × ComesBefore trace over under)
+          stack z is.apart i j d less within in
           (here.0, before-more trace cut here.1) in
           let lower_over : R high low = (λ same. omega (arith, same), lower-before_upper trace cut) in
           all_pairs_push R (stack ++ high ∷ []) low
@@ -182,7 +191,8 @@ module _ (problem : ProblemModel) where
           let old : All P stack = λ i d within.
           All-push (λ (c : CutAt). Follows (trace ++ cut ∷ []) c.zone (get_or stack i d)) trace cut
           (λ k e inside. follows-more trace cut (before i d within k e inside))
-          (inr (subst (λ a. ComesBefore (trace ++ cut ∷ []) a (get_or stack i d)) (sym top) (before-more trace cut (unders i d within).1))) in
+          (inr (subst (λ a. ComesBefore (trace ++ cut ∷ []) a (get_or stack i d)) (sym top)
+          (before-more trace cut (unders i d within).1))) in
           All-push P (stack ++ (2 * length trace + 2) ∷ []) (2 * length trace + 1)
           (All-push P stack (2 * length trace + 2) old (part-follows (2 * length trace + 2) high-from))
           (part-follows (2 * length trace + 1) low-from)
@@ -197,17 +207,20 @@ module _ (problem : ProblemModel) where
             | inl old ↦
                 let before = stood-before (whole_zone problem) trace cut y stands old in
                 elim (is.closed y before.0) [
-                  | inr closed ↦ inr (subst (λ zone. IsClosed problem zone best) (sym (zone-old (whole_zone problem) trace cut y old))
+                  | inr closed ↦ inr (subst (λ zone. IsClosed problem zone best)
+                      (sym (zone-old (whole_zone problem) trace cut y old))
                       (closed-lower problem (zone_of problem trace y) height best less closed))
                   | inl has ↦ elim (Contains-append_cases stack (z ∷ []) y has) [
-                    | inl left ↦ inl (Contains-append_left (stack ++ high ∷ []) (low ∷ []) y (Contains-append_left stack (high ∷ []) y left))
+                    | inl left ↦ inl (Contains-append_left (stack ++ high ∷ []) (low ∷ []) y
+                        (Contains-append_left stack (high ∷ []) y left))
                     | inr right ↦ elim (Contains-cases z [] y right) [
                       | inl here ↦ absurd (before.1 (top ∙ here))
                       | inr none ↦ absurd (Contains-none y none)
                     ]
                   ]
                 ]
-            | inr (inl first) ↦ inl (subst (Contains ((stack ++ high ∷ []) ++ low ∷ [])) (sym first) (Contains-push (stack ++ high ∷ []) low))
+            | inr (inl first) ↦ inl (subst (Contains ((stack ++ high ∷ []) ++ low ∷ [])) (sym first)
+                (Contains-push (stack ++ high ∷ []) low))
             | inr (inr second) ↦ inl (subst (Contains ((stack ++ high ∷ []) ++ low ∷ [])) (sym second)
                 (Contains-append_left (stack ++ high ∷ []) (low ∷ []) high (Contains-push stack high)))
           ]
@@ -222,8 +235,9 @@ module _ (problem : ProblemModel) where
       }
 
       -- the order of the cuts is kept
-      pub order-cut : KeepsOrder problem trace → IsFirstCut (zone_of problem trace z) cut → HasBoundBelow problem trace z height →
-          IsKeen problem (whole_zone problem) trace height → KeepsOrder problem (trace ++ cut ∷ [])
+      pub order-cut : KeepsClassOrder problem trace → IsFirstCut (zone_of problem trace z) cut →
+          HasBoundBelow problem trace z height → IsKeen problem (whole_zone problem) trace height →
+          KeepsClassOrder problem (trace ++ cut ∷ [])
       order-cut keeps first below keen =
           let all = All-last (λ y. All (λ c. Follows trace c.zone y) trace) stack z is.follow in
           let low : IsBelowPlacements problem trace below.0 = λ y placed there placement.
@@ -231,23 +245,27 @@ module _ (problem : ProblemModel) where
           record {
             spans = at-each-push (λ cuts c. IsFirstCut (zone_of problem cuts c.zone) c) trace cut keeps.spans
                 (subst (λ y. IsFirstCut (zone_of problem trace y) cut) (sym top) first);
-            below = at-each-push (λ cuts c. (bound : ℕ) × IsBoundOf problem cuts c.zone bound × IsBelowPlacements problem cuts bound) trace cut
+            below = at-each-push (λ cuts c. (bound : ℕ) × IsBoundOf problem cuts c.zone bound ×
+                IsBelowPlacements problem cuts bound) trace cut
                 keeps.below (below.0, subst (λ y. IsBoundOf problem trace y below.0) (sym top) below.1, low);
             order = all_pairs_push (λ (a b : CutAt). Follows (trace ++ cut ∷ []) a.zone b.zone) trace cut
                 (λ i j d less within. follows-more trace cut (keeps.order i j d less within))
-                (λ k d within. subst (λ y. Follows (trace ++ cut ∷ []) (get_or trace k d).zone y) (sym top) (follows-more trace cut (all k d within)));
+                (λ k d within. subst (λ y. Follows (trace ++ cut ∷ []) (get_or trace k d).zone y) (sym top)
+                (follows-more trace cut (all k d within)));
           }
 
 -- ---- the end
 
 -- where nothing is on the stack, each zone that stands is closed
-pub stack-end : (problem : ProblemModel) (trace : List CutAt) (height : ℕ) (stack : List ℕ) → length stack ≡ 0 → IsStack problem trace height stack →
+pub stack-end : (problem : ProblemModel) (trace : List CutAt) (height : ℕ) (stack : List ℕ) → length stack ≡ 0 →
+    IsStack problem trace height stack →
     (z : ℕ) → Stands trace z → IsClosed problem (zone_of problem trace z) height
 stack-end problem trace height stack empty is z stands =
     elim (is.closed z stands) [ inl has ↦ absurd (omega (arith, has.1, empty)) | inr closed ↦ closed ]
 
 -- a cut of the first span of more than one class of a zone that stands is one
-pub first-is_cut : (problem : ProblemModel) (trace : List CutAt) (z : ℕ) (cut : CutAt) → Stands trace z → IsZone problem (zone_of problem trace z) →
+pub first-is_cut : (problem : ProblemModel) (trace : List CutAt) (z : ℕ) (cut : CutAt) → Stands trace z →
+    IsZone problem (zone_of problem trace z) →
     IsFirstCut (zone_of problem trace z) cut → cut.zone ≡ z → IsCut (whole_zone problem) trace cut
 first-is_cut problem trace z cut stands is first top =
     let zone = zone_of problem trace z in
@@ -266,8 +284,8 @@ first-is_cut problem trace z cut stands is first top =
     }
 
 -- the outcome of the search is one of the plain search
-pub plain-outcome : (problem : ProblemModel) (arena : Arena) → IsArenaOf problem arena → KeepsOrder problem arena.trace → (outcome : Outcome) →
-    outcome.best ≡ arena.best → outcome.trace ≡ arena.trace → IsPlainOutcome problem outcome
+pub plain-outcome : (problem : ProblemModel) (arena : Arena) → IsArenaOf problem arena → KeepsClassOrder problem arena.trace →
+    (outcome : Outcome) → outcome.best ≡ arena.best → outcome.trace ≡ arena.trace → IsPlainOutcome problem outcome
 plain-outcome problem arena is keeps outcome best trace = record {
   opening = (is.opening.0, is.opening.1, subst (IsLowered is.opening.0) (sym best) is.opening.3);
   spans = subst (CutsFirstSpans problem) (sym trace) keeps.spans;
@@ -275,8 +293,10 @@ plain-outcome problem arena is keeps outcome best trace = record {
   order = subst IsInClassOrder (sym trace) keeps.order;
 }
 
-pub plain-ends : {E : Type 0} (problem : ProblemModel) (arena : Arena) → IsArenaOf problem arena → KeepsOrder problem arena.trace →
-    (result : Result Outcome E) → IfOk result (λ outcome. outcome.best ≡ arena.best) → IfOk result (λ outcome. outcome.trace ≡ arena.trace) →
+pub plain-ends : {E : Type 0} (problem : ProblemModel) (arena : Arena) → IsArenaOf problem arena →
+    KeepsClassOrder problem arena.trace →
+    (result : Result Outcome E) → IfOk result (λ outcome. outcome.best ≡ arena.best) →
+    IfOk result (λ outcome. outcome.trace ≡ arena.trace) →
     IfOk result (IsPlainOutcome problem)
 plain-ends problem arena is keeps (Ok outcome) best trace = plain-outcome problem arena is keeps outcome best trace
 plain-ends problem arena is keeps (Err error) best trace = tt

@@ -1,5 +1,6 @@
 -- The lines of a log that is made for a trace are within the ranges of a certificate's text.
-use Rattle.std.proofs.Common.{ℕ, ◌+◌, ◌-◌, ◌*◌, ◌<◌, ◌≤◌, zero, suc, List, [], ◌∷◌, length, get_or, Option, Some, None, codes, sym, subst, arith}
+use Rattle.std.proofs.Common.{ℕ, ◌+◌, ◌-◌, ◌*◌, ◌<◌, ◌≤◌, zero, suc, List, [], ◌∷◌, length, get_or, Option, Some, None, codes}
+use Rattle.std.proofs.Common.{sym, subst, arith}
 use Rattle.std.specs.List.{All, AllByRecursion, flat_map}
 use Rattle.std.proofs.lemmas.List.Concat.{flat_map-cons}
 use Rattle.tl_base.proofs.Members.{AllByRecursion-append}
@@ -17,13 +18,16 @@ all-by_recursion : {X : Type 0} (P : X → Type 0) (xs : List X) → All P xs �
 all-by_recursion P [] all = tt
 all-by_recursion P (x ∷ xs) all = (all 0 x (omega arith), all-by_recursion P xs (λ i d within. all (suc i) d (omega arith)))
 
-pub all-flat_map : {X Y : Type 0} (P : Y → Type 0) (f : X → List Y) (xs : List X) → All (λ x. AllByRecursion P (f x)) xs → AllByRecursion P (flat_map f xs)
+pub all-flat_map : {X Y : Type 0} (P : Y → Type 0) (f : X → List Y) (xs : List X) → All (λ x. AllByRecursion P (f x)) xs →
+    AllByRecursion P (flat_map f xs)
 all-flat_map P f [] all = tt
 all-flat_map P f (x ∷ xs) all = subst (AllByRecursion P) (sym (flat_map-cons f x xs))
-    (AllByRecursion-append P (f x) (flat_map f xs) (all 0 x (omega arith)) (all-flat_map P f xs (λ i d within. all (suc i) d (omega arith))))
+    (AllByRecursion-append P (f x) (flat_map f xs) (all 0 x (omega arith))
+    (all-flat_map P f xs (λ i d within. all (suc i) d (omega arith))))
 
 fire-within : (f : ℕ) → f ≤ MAX_LINE → AllWithin (fire_pieces f)
-fire-within f small = AllByRecursion-append IsWithin (word (codes " @")) (number 0 MAX_LINE f ∷ []) (within-word (codes " @")) ((omega arith, small), tt)
+fire-within f small = AllByRecursion-append IsWithin (word (codes " @")) (number 0 MAX_LINE f ∷ []) (within-word (codes " @"))
+    ((omega arith, small), tt)
 
 -- a line of a zone, with at most two fires
 line-within : (z : ℕ) (fires : List ℕ) (end : End) → z ≤ MAX_ZONE → All (λ f. f ≤ MAX_LINE) fires →
@@ -34,7 +38,8 @@ line-within z fires end small few =
       (
         (omega arith, small),
         AllByRecursion-append IsWithin (flat_map fire_pieces fires) (character space ∷ word (end_word end))
-            (all-flat_map IsWithin fire_pieces fires (λ i d within. fire-within (get_or fires i d) (few i d within))) (tt, within-word (end_word end)),
+            (all-flat_map IsWithin fire_pieces fires (λ i d within. fire-within (get_or fires i d) (few i d within)))
+            (tt, within-word (end_word end)),
       ),
     ))
 
@@ -69,5 +74,6 @@ log-writable last lower cuts bounds log small lines = (
 ) where
   each : (k : ℕ) (d : LogLine) → k < length log → IsLineShaped (get_or log k d) × AllWithin (line_pieces (get_or log k d))
   each k d within =
-      subst (λ (line : LogLine). IsLineShaped line × AllWithin (line_pieces line)) (sym (lines.each k d (omega (arith, within, lines.count))))
+      subst (λ (line : LogLine). IsLineShaped line × AllWithin (line_pieces line))
+      (sym (lines.each k d (omega (arith, within, lines.count))))
       (line-writable last lower (last - k) bounds (get_or cuts (last - k) None) (omega arith) small)

@@ -42,7 +42,8 @@ IsLowered old new = (new ≡ old) ⊎ (new.height < old.height)
 
 -- the opening, which has this height, or a placement that is lower
 abbrev pub IsOpeningOrLower : ProblemModel → ℕ → Placed → Type 0
-IsOpeningOrLower problem height best = (opening : Placed) × IsOpening problem opening × (opening.height ≡ height) × IsLowered opening best
+IsOpeningOrLower problem height best = (opening : Placed) × IsOpening problem opening × (opening.height ≡ height) ×
+    IsLowered opening best
 
 -- the arena is one of this problem: its zones and bounds are those of its trace, each cut zone had a bound below the
 -- height of the opening, and the best placement is tight, and each zone was looked at for a lower one

@@ -1,3 +1,4 @@
+pub mod Solver
 pub mod Logs
 pub mod Arenas
 pub mod Orders

@@ -1,17 +1,11 @@
 //! The end of a search as an outcome.
 
-ghost use Rattle.std.specs.Prelude.{◌≡◌, ℕ, ◌+◌, ◌*◌, ◌<◌, ◌≤◌, length, IfOk};
-ghost use Rattle.tl_problem.specs.Agreement.{LowIsHigh};
-ghost use Rattle.tl_problem.specs.Spans.{count_of};
-ghost use Rattle.tl_problem.specs.Tight.{IsTight};
-ghost use Rattle.tl_problem.specs.Zones.{whole_zone};
-ghost use Rattle.tl_cert.specs.Lines.{IsGoodLog};
-ghost use Rattle.tl_cert.specs.Text.{IsLogWritable, IsTraceWritable};
-ghost use Rattle.tl_cert.specs.Traces.{IsKeen, Stands, zone_of};
-ghost use Rattle.tl_cert.specs.Worked.{IsWorked};
+ghost use Rattle.std.specs.Prelude.{◌≡◌, ℕ, ◌<◌, ◌≤◌, length, IfOk};
+ghost use Rattle.tl_cert.specs.Traces.{Stands, zone_of};
 ghost use Rattle.tl_solve.specs.Arenas.{IsArenaOf};
 ghost use Rattle.tl_solve.specs.Ends.{HasBoundUpTo, IsLeastStanding, MayEnd};
 ghost use Rattle.tl_solve.specs.Logs.{Proves};
+ghost use Rattle.tl_solve.specs.Solver.{IsSolverOutcome};
 ghost use Rattle.tl_solve.specs.inner.Found.{IsLeastUpto, least_with};
 
 use crate::lines::cuts_of_zones;
@@ -41,18 +35,7 @@ impl Arena {
         ensures best { IfOk result (λ outcome. outcome.best ≡ self.best) }
         ensures trace { IfOk result (λ outcome. outcome.trace ≡ self.trace) }
         ensures least { IfOk result (λ outcome. IsLeastStanding problem.now self.trace self.best.height outcome.lower) }
-
-        // What every search promises.
-        ensures tight { IfOk result (λ outcome. IsTight problem.now outcome.best) }
-        ensures good { IfOk result (λ outcome. IsGoodLog problem.now outcome.trace outcome.log outcome.lower) }
-        ensures ordered { IfOk result (λ outcome. outcome.lower ≤ outcome.best.height) }
-        ensures closed { LowIsHigh problem.now → count_of problem.now ≤ budget →
-            IfOk result (λ outcome. outcome.lower ≡ outcome.best.height) }
-        ensures worked { IfOk result (λ outcome. IsWorked problem.now outcome.trace outcome.best.height outcome.lower budget) }
-        ensures keen { IfOk result (λ outcome. IsKeen problem.now (whole_zone problem.now) outcome.trace outcome.best.height) }
-        ensures trace_writable { IfOk result (λ outcome. IsTraceWritable outcome.trace) }
-        ensures log_writable { IfOk result (λ outcome. IsLogWritable outcome.log) }
-        ensures short { IfOk result (λ outcome. length outcome.log ≤ 2 * length outcome.trace + 1) }
+        ensures solved { IfOk result (IsSolverOutcome problem.now budget) }
     {
         let lower = self.lower(problem)?;
         self.finish_at(problem, budget, lower)
@@ -77,17 +60,7 @@ impl Arena {
         ensures best { IfOk result (λ outcome. outcome.best ≡ self.best) }
         ensures trace { IfOk result (λ outcome. outcome.trace ≡ self.trace) }
         ensures lower { IfOk result (λ outcome. outcome.lower ≡ lower) }
-
-        // What every search promises.
-        ensures tight { IfOk result (λ outcome. IsTight problem.now outcome.best) }
-        ensures good { IfOk result (λ outcome. IsGoodLog problem.now outcome.trace outcome.log outcome.lower) }
-        ensures closed { LowIsHigh problem.now → count_of problem.now ≤ budget →
-            IfOk result (λ outcome. outcome.lower ≡ outcome.best.height) }
-        ensures worked { IfOk result (λ outcome. IsWorked problem.now outcome.trace outcome.best.height outcome.lower budget) }
-        ensures keen { IfOk result (λ outcome. IsKeen problem.now (whole_zone problem.now) outcome.trace outcome.best.height) }
-        ensures trace_writable { IfOk result (λ outcome. IsTraceWritable outcome.trace) }
-        ensures log_writable { IfOk result (λ outcome. IsLogWritable outcome.log) }
-        ensures short { IfOk result (λ outcome. length outcome.log ≤ 2 * length outcome.trace + 1) }
+        ensures solved { IfOk result (IsSolverOutcome problem.now budget) }
     {
         let log = log_of_bounds(self.alloc, problem, &self.trace, &self.bounds, lower)?;
         let (best, trace) = self.into_parts();

@@ -1,5 +1,6 @@
 -- The clusters of a text make it up and none is empty; so a paragraph that is separated into clusters is a paragraph.
-use Rattle.std.proofs.Common.{◌≡◌, ℕ, ◌+◌, ◌<◌, Bool, true, false, cond, ◌&&◌, ◌||◌, List, [], ◌∷◌, ◌++◌, length, map, sum_by, refl, ap, sym, subst}
+use Rattle.std.proofs.Common.{◌≡◌, ℕ, ◌+◌, ◌<◌, Bool, true, false, cond, ◌&&◌, ◌||◌, List, [], ◌∷◌, ◌++◌, length, map, sum_by}
+use Rattle.std.proofs.Common.{refl, ap, sym, subst}
 use Rattle.std.proofs.Common.{◌∙◌, arith, length-append}
 use Rattle.std.specs.List.{AllByRecursion, list_any}
 use Rattle.std.specs.Char.{is_ascii_whitespace}
@@ -24,7 +25,8 @@ use Rattle.tl_text.proofs.Leading.{leads, leads_is}
 -- ---- pieces of a text that is cut by a rule
 
 -- what holds of a character alone, and of a character before a piece of which it holds, holds of each piece
-module _ (Q : ℕ → Type 0) (P : List ℕ → Type 0) (one : (c : ℕ) → Q c → P (c ∷ [])) (more : (c : ℕ) (piece : List ℕ) → Q c → P piece → P (c ∷ piece)) where
+module _ (Q : ℕ → Type 0) (P : List ℕ → Type 0) (one : (c : ℕ) → Q c → P (c ∷ [])) (more : (c : ℕ) (piece : List ℕ) → Q c →
+    P piece → P (c ∷ piece)) where
   all-prepend : (c : ℕ) (pieces : List (List ℕ)) → Q c → AllByRecursion P pieces → AllByRecursion P (prepend (c ∷ []) pieces)
   all-prepend c [] is each = (one c is, tt)
   all-prepend c (piece ∷ pieces) is each = (more c piece is each.0, each.1)
@@ -38,10 +40,12 @@ module _ (Q : ℕ → Type 0) (P : List ℕ → Type 0) (one : (c : ℕ) → Q c
   unfolding cut
   all-cut rule before [] after each = tt
   all-cut rule before (c ∷ cs) after each =
-      all-choice (rule (c ∷ before) (cs ++ after)) c (cut rule (c ∷ before) cs after) each.0 (all-cut rule (c ∷ before) cs after each.1)
+      all-choice (rule (c ∷ before) (cs ++ after)) c (cut rule (c ∷ before) cs after) each.0
+      (all-cut rule (c ∷ before) cs after each.1)
 
 -- the pieces make up the text
-joined-choice : (b : Bool) (c : ℕ) (pieces : List (List ℕ)) → joined (cond b ((c ∷ []) ∷ pieces) (prepend (c ∷ []) pieces)) ≡ c ∷ joined pieces
+joined-choice : (b : Bool) (c : ℕ) (pieces : List (List ℕ)) →
+    joined (cond b ((c ∷ []) ∷ pieces) (prepend (c ∷ []) pieces)) ≡ c ∷ joined pieces
 joined-choice true c pieces = refl
 joined-choice false c [] = refl
 joined-choice false c (piece ∷ pieces) = refl
@@ -61,13 +65,15 @@ joined-clusters text = joined-cut (is_grapheme_break true) [] text []
 pub size-joined : (pieces : List (List ℕ)) → sum_by byte_count pieces ≡ byte_count (joined pieces)
 size-joined [] = refl
 size-joined (piece ∷ pieces) =
-    sum_by-cons byte_count piece pieces ∙ ap (λ n. byte_count piece + n) (size-joined pieces) ∙ sym (byte_count-append piece (joined pieces))
+    sum_by-cons byte_count piece pieces ∙ ap (λ n. byte_count piece + n) (size-joined pieces) ∙ sym
+    (byte_count-append piece (joined pieces))
 
 -- a text with a character has a cluster
 some-cluster : (c : ℕ) (text : List ℕ) → (first : List ℕ) × (others : List (List ℕ)) × (clusters_of (c ∷ text) ≡ first ∷ others)
 some-cluster c text = from (clusters_of (c ∷ text)) (joined-clusters (c ∷ text))
   where
-    from : (pieces : List (List ℕ)) → joined pieces ≡ c ∷ text → (first : List ℕ) × (others : List (List ℕ)) × (pieces ≡ first ∷ others)
+    from : (pieces : List (List ℕ)) → joined pieces ≡ c ∷ text →
+        (first : List ℕ) × (others : List (List ℕ)) × (pieces ≡ first ∷ others)
     from [] is = absurd (cc)
     from (first ∷ others) is = (first, others, refl)
 
@@ -93,7 +99,8 @@ each-scalar (c ∷ cs) is = (here, each-scalar cs later)
     later = both-right (scalar c) (scalars cs) is
 
 -- each piece as its bytes, read again
-shown-pieces : (pieces : List (List ℕ)) → AllByRecursion (λ piece. scalars piece ≡ true) pieces → map chars (map encode_utf8_all pieces) ≡ pieces
+shown-pieces : (pieces : List (List ℕ)) → AllByRecursion (λ piece. scalars piece ≡ true) pieces →
+    map chars (map encode_utf8_all pieces) ≡ pieces
 shown-pieces [] each = refl
 shown-pieces (piece ∷ pieces) each = λ i. chars-encodes piece each.0 i ∷ shown-pieces pieces each.1 i
 
@@ -113,7 +120,8 @@ abbrev pub is_none : List (List ℕ) → Bool
 is_none [] = true
 is_none (text ∷ texts) = false
 
-pub word_of-more : (texts : List (List ℕ)) (text : List ℕ) → word_of (texts ++ text ∷ []) ≡ word_of texts ++ cond (is_none texts) (Word text) (Glue text) ∷ []
+pub word_of-more : (texts : List (List ℕ)) (text : List ℕ) →
+    word_of (texts ++ text ∷ []) ≡ word_of texts ++ cond (is_none texts) (Word text) (Glue text) ∷ []
 word_of-more [] text = refl
 word_of-more (first ∷ others) text = ap (λ (units : List Atom). Word first ∷ units) (map-append Glue others (text ∷ []))
 
@@ -132,7 +140,8 @@ spelt-word (text ∷ texts) rest each after = (each.0, spelt-glues texts rest ea
 
 -- the clusters of a solid text are solid
 solid-clusters : (text : List ℕ) → list_any is_ascii_whitespace text ≡ false → AllByRecursion IsSolid (clusters_of text)
-solid-clusters text is = all-cut (λ c. is_ascii_whitespace c ≡ false) IsSolid one more (is_grapheme_break true) [] text [] (each text is)
+solid-clusters text is = all-cut (λ c. is_ascii_whitespace c ≡ false) IsSolid one more (is_grapheme_break true) [] text []
+    (each text is)
   where
     one : (c : ℕ) → is_ascii_whitespace c ≡ false → IsSolid (c ∷ [])
     one c is = (omega arith, ap (λ b. b || false) is)
@@ -145,7 +154,8 @@ solid-clusters text is = all-cut (λ c. is_ascii_whitespace c ≡ false) IsSolid
     each (c ∷ cs) is = let parts = or_parts (is_ascii_whitespace c) _ is in (parts.0, each cs parts.1)
 
 -- units that are spelt stay so
-spelt-units : (atom : Atom) (rest : List Atom) → IsSpelt atom → AllByRecursion IsSpelt rest → AllByRecursion IsSpelt (units_of atom ++ rest)
+spelt-units : (atom : Atom) (rest : List Atom) → IsSpelt atom → AllByRecursion IsSpelt rest →
+    AllByRecursion IsSpelt (units_of atom ++ rest)
 spelt-units (Word text) rest is after = spelt-word (clusters_of text) rest (solid-clusters text is.1) after
 spelt-units (Glue text) rest is after = (is, after)
 spelt-units Break rest is after = (is, after)
@@ -157,11 +167,21 @@ spelt-separated (atom ∷ atoms) each = spelt-units atom (by_clusters atoms) eac
 -- no byte is lost and none comes
 pub size-glues : (texts : List (List ℕ)) → sum_by atom_size (map Glue texts) ≡ sum_by byte_count texts
 size-glues [] = refl
-size-glues (text ∷ texts) = omega (arith, size-glues texts, sum_by-cons atom_size (Glue text) (map Glue texts), sum_by-cons byte_count text texts)
+size-glues (text ∷ texts) = omega (
+  arith,
+  size-glues texts,
+  sum_by-cons atom_size (Glue text) (map Glue texts),
+  sum_by-cons byte_count text texts,
+)
 
 pub size-word : (texts : List (List ℕ)) → sum_by atom_size (word_of texts) ≡ sum_by byte_count texts
 size-word [] = refl
-size-word (text ∷ texts) = omega (arith, size-glues texts, sum_by-cons atom_size (Word text) (map Glue texts), sum_by-cons byte_count text texts)
+size-word (text ∷ texts) = omega (
+  arith,
+  size-glues texts,
+  sum_by-cons atom_size (Word text) (map Glue texts),
+  sum_by-cons byte_count text texts,
+)
 
 pub size-units : (atom : Atom) → sum_by atom_size (units_of atom) ≡ atom_size atom
 size-units (Word text) = size-word (clusters_of text) ∙ size-joined (clusters_of text) ∙ ap byte_count (joined-clusters text)
@@ -184,15 +204,18 @@ leads-glues [] rest = refl
 leads-glues (text ∷ texts) rest = leads-glues texts rest
 
 -- a word begins with a unit that begins a word
-leads-word : (begins : Bool) (text : List ℕ) (rest : List Atom) → 0 < length text → leads begins (word_of (clusters_of text) ++ rest) ≡ leads false rest
+leads-word : (begins : Bool) (text : List ℕ) (rest : List Atom) → 0 < length text →
+    leads begins (word_of (clusters_of text) ++ rest) ≡ leads false rest
 leads-word begins [] rest some = absurd (omega arith)
 leads-word begins (c ∷ text) rest some =
     let (first, others, is) = some-cluster c text in
     ap (λ texts. leads begins (word_of texts ++ rest)) is ∙ leads-glues others rest
 
-leads-separated : (begins : Bool) (atoms : List Atom) → AllByRecursion IsSpelt atoms → leads begins (by_clusters atoms) ≡ leads begins atoms
+leads-separated : (begins : Bool) (atoms : List Atom) → AllByRecursion IsSpelt atoms →
+    leads begins (by_clusters atoms) ≡ leads begins atoms
 leads-separated begins [] each = refl
-leads-separated begins (Word text ∷ atoms) each = leads-word begins text (by_clusters atoms) each.0.0 ∙ leads-separated false atoms each.1
+leads-separated begins (Word text ∷ atoms) each = leads-word begins text (by_clusters atoms)
+    each.0.0 ∙ leads-separated false atoms each.1
 leads-separated true (Glue text ∷ atoms) each = refl
 leads-separated false (Glue text ∷ atoms) each = leads-separated false atoms each.1
 leads-separated begins (Break ∷ atoms) each = leads-separated true atoms each.1

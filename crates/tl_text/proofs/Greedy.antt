@@ -1,5 +1,6 @@
 -- Lines filled from the left: what they are, and that no other cutting has fewer.
-use Rattle.std.proofs.Common.{◌≡◌, ◌≢◌, ℕ, ◌+◌, ◌≤◌, ◌<◌, if◌then◌else◌, nat_le, List, [], ◌∷◌, ◌++◌, length, sum_by, refl, ap, ◌∙◌, arith, append_assoc}
+use Rattle.std.proofs.Common.{◌≡◌, ◌≢◌, ℕ, ◌+◌, ◌≤◌, ◌<◌, if◌then◌else◌, nat_le, List, [], ◌∷◌, ◌++◌, length, sum_by, refl, ap}
+use Rattle.std.proofs.Common.{◌∙◌, arith, append_assoc}
 use Rattle.std.specs.List.{AllByRecursion}
 use Rattle.std.proofs.lemmas.List.Sums.{sum_by-cons}
 use Rattle.tl_text.specs.declared.paragraph.Atom.{Atom}
@@ -10,7 +11,8 @@ use Rattle.tl_text.proofs.Widths.{line_width-push, at_choice}
 -- the lines of a piece filled from the left, where `line` is open
 abbrev pub fill : ℕ → List Atom → List Atom → List (List Atom)
 fill w line [] = line ∷ []
-fill w line (unit ∷ units) = if nat_le (line_width (line ++ unit ∷ [])) w then fill w (line ++ unit ∷ []) units else line ∷ fill w (unit ∷ []) units
+fill w line (unit ∷ units) = if nat_le (line_width (line ++ unit ∷ [])) w then fill w (line ++ unit ∷ [])
+    units else line ∷ fill w (unit ∷ []) units
 
 -- the lines of a whole piece
 abbrev pub piece_lines : ℕ → List Atom → List (List Atom)
@@ -21,10 +23,12 @@ piece_lines w (unit ∷ units) = fill w (unit ∷ []) units
 abbrev pub more : ℕ → ℕ → List Atom → ℕ
 more w used [] = 0
 more w used (unit ∷ units) =
-    if nat_le (used + gap_before unit + unit_width unit) w then more w (used + gap_before unit + unit_width unit) units else 1 + more w (unit_width unit) units
+    if nat_le (used + gap_before unit + unit_width unit) w then more w (used + gap_before unit + unit_width unit)
+    units else 1 + more w (unit_width unit) units
 
 -- an open line never gets more room in a cutting's line than the rest of that line needs
-line_rest : (w : ℕ) (head rest : List Atom) (n used v : ℕ) → ((u : ℕ) → more w u rest ≤ n) → v + (sum_by unit_width head + sum_by gap_before head) ≤ w
+line_rest : (w : ℕ) (head rest : List Atom) (n used v : ℕ) → ((u : ℕ) → more w u rest ≤ n) →
+    v + (sum_by unit_width head + sum_by gap_before head) ≤ w
     → (used ≤ v → more w used (head ++ rest) ≤ n) × (more w used (head ++ rest) ≤ 1 + n)
 line_rest w [] rest n used v after within = (λ _. after used, omega (arith, after used))
 line_rest w (unit ∷ head) rest n used v after within =
@@ -33,20 +37,25 @@ line_rest w (unit ∷ head) rest n used v after within =
     let next = λ (u : ℕ). line_rest w head rest n u (v + gap_before unit + unit_width unit) after (omega arith) in
     let fuller = next (used + gap_before unit + unit_width unit) in
     let fresh = next (unit_width unit) in (
-      λ less. at_choice (λ m. m ≤ n) (used + gap_before unit + unit_width unit) w _ _ (λ fits. fuller.0 (omega arith)) (λ over. absurd (omega arith)),
-      at_choice (λ m. m ≤ 1 + n) (used + gap_before unit + unit_width unit) w _ _ (λ fits. fuller.1) (λ over. omega (arith, fresh.0 (omega arith))),
+      λ less. at_choice (λ m. m ≤ n) (used + gap_before unit + unit_width unit) w _ _ (λ fits. fuller.0 (omega arith))
+          (λ over. absurd (omega arith)),
+      at_choice (λ m. m ≤ 1 + n) (used + gap_before unit + unit_width unit) w _ _ (λ fits. fuller.1)
+          (λ over. omega (arith, fresh.0 (omega arith))),
     )
 
 -- however full a line is, no more lines follow it than any cutting of the rest has
-pub more-least : (w : ℕ) (lines : List (List Atom)) → AllByRecursion (λ line. line ≢ []) lines → AllByRecursion (λ line. line_width line ≤ w) lines
+pub more-least : (w : ℕ) (lines : List (List Atom)) → AllByRecursion (λ line. line ≢ []) lines →
+    AllByRecursion (λ line. line_width line ≤ w) lines
     → (used : ℕ) → more w used (joined lines) ≤ length lines
 more-least w [] some holds used = omega arith
 more-least w ([] ∷ lines) some holds used = absurd (some.0 refl)
 more-least w ((unit ∷ line) ∷ lines) some holds used =
     let widths = sum_by-cons unit_width unit line in
-    let next = λ (u : ℕ). line_rest w line (joined lines) (length lines) u (unit_width unit) (more-least w lines some.1 holds.1) (omega (arith, holds.0)) in
+    let next = λ (u : ℕ). line_rest w line (joined lines) (length lines) u (unit_width unit) (more-least w lines some.1 holds.1)
+    (omega (arith, holds.0)) in
     at_choice (λ m. m ≤ length ((unit ∷ line) ∷ lines)) (used + gap_before unit + unit_width unit) w _ _
-    (λ fits. omega (arith, (next (used + gap_before unit + unit_width unit)).1)) (λ over. omega (arith, (next (unit_width unit)).0 (omega arith)))
+    (λ fits. omega (arith, (next (used + gap_before unit + unit_width unit)).1))
+    (λ over. omega (arith, (next (unit_width unit)).0 (omega arith)))
 
 -- filled lines have all units, in order
 pub fill-joined : (w : ℕ) (line units : List Atom) → joined (fill w line units) ≡ line ++ units
@@ -95,14 +104,18 @@ fill-filled w first line (unit ∷ units) =
     (λ over. FillsLines-onto w (first ∷ line) unit [] units over (fill-filled w unit [] units))
 
 -- how many lines are filled
-pub fill-length : (w : ℕ) (first : Atom) (line units : List Atom) → length (fill w (first ∷ line) units) ≡ 1 + more w (line_width (first ∷ line)) units
+pub fill-length : (w : ℕ) (first : Atom) (line units : List Atom) →
+    length (fill w (first ∷ line) units) ≡ 1 + more w (line_width (first ∷ line)) units
 fill-length w first line [] = refl
 fill-length w first line (unit ∷ units) =
     let wider = line_width-push first line unit in
-    at_choice (λ lines. length lines ≡ 1 + more w (line_width (first ∷ line)) (unit ∷ units)) (line_width ((first ∷ line) ++ unit ∷ [])) w _ _
-    (λ fits. at_choice (λ m. length (fill w ((first ∷ line) ++ unit ∷ []) units) ≡ 1 + m) (line_width (first ∷ line) + gap_before unit + unit_width unit) w _ _
+    at_choice (λ lines. length lines ≡ 1 + more w (line_width (first ∷ line)) (unit ∷ units))
+    (line_width ((first ∷ line) ++ unit ∷ [])) w _ _
+    (λ fits. at_choice (λ m. length (fill w ((first ∷ line) ++ unit ∷ []) units) ≡ 1 + m)
+    (line_width (first ∷ line) + gap_before unit + unit_width unit) w _ _
     (λ same. fill-length w first (line ++ unit ∷ []) units ∙ ap (λ used. 1 + more w used units) wider)
     (λ over. absurd (omega arith)))
-    (λ over. at_choice (λ m. length ((first ∷ line) ∷ fill w (unit ∷ []) units) ≡ 1 + m) (line_width (first ∷ line) + gap_before unit + unit_width unit) w _ _
+    (λ over. at_choice (λ m. length ((first ∷ line) ∷ fill w (unit ∷ []) units) ≡ 1 + m)
+    (line_width (first ∷ line) + gap_before unit + unit_width unit) w _ _
     (λ fits. absurd (omega arith))
     (λ same. omega (arith, fill-length w unit [] units, ap (λ used. more w used units) (line_width-single unit))))

@@ -1,9 +1,10 @@
 -- Widths at which a paragraph needs fewer lines, found from the narrowest on.
-use Rattle.std.proofs.Common.{◌≡◌, ℕ, ◌+◌, ◌-◌, ◌<◌, ◌≤◌, ◌↔◌, List, [], ◌∷◌, ◌++◌, ◌⊎◌, inl, inr, length, get_or, map, Option, Some, None, Contains}
+use Rattle.std.proofs.Common.{◌≡◌, ℕ, ◌+◌, ◌-◌, ◌<◌, ◌≤◌, ◌↔◌, List, [], ◌∷◌, ◌++◌, ◌⊎◌, inl, inr, length, get_or, map, Option}
+use Rattle.std.proofs.Common.{Some, None, Contains}
 use Rattle.std.proofs.Common.{refl, sym, ap, ◌∙◌, subst, arith}
-use Rattle.std.specs.List.{AllPairs}
+use Rattle.std.specs.List.{AllPairs, All, AllByRecursion}
 use Rattle.std.proofs.lemmas.Bool.{cases_lt}
-use Rattle.std.proofs.lemmas.List.{length_push}
+use Rattle.std.proofs.lemmas.List.{length_push, length-map}
 use Rattle.std.proofs.lemmas.List.Elements.{Contains-push, Contains-push_cases, Contains-append_left, Contains-get_or}
 use Rattle.std.proofs.lemmas.List.Quantifiers.{all_pairs_push}
 use Rattle.tl_base.specs.declared.steps.Config.{Config}
@@ -11,13 +12,12 @@ use Rattle.tl_base.specs.Steps.{AreSteps}
 use Rattle.tl_text.specs.declared.paragraph.Atom.{Atom}
 use Rattle.tl_text.specs.Cuttings.{HasCutting, LeastLines, joined}
 use Rattle.tl_text.specs.Minimal.{IsMinimal}
-use Rattle.std.specs.List.{All, AllByRecursion}
 use Rattle.std.proofs.lemmas.List.Elements.{All-from_recursion}
-use Rattle.std.proofs.lemmas.List.{length-map}
 use Rattle.tl_text.specs.inner.Measure.{measure_of, lines_after, columns_of}
 use Rattle.tl_text.specs.declared.filling.Filling.{Filling}
 use Rattle.tl_text.specs.declared.measure.Measure.{Measure}
-use Rattle.tl_text.proofs.Paragraphs.{AllFit, AllFit-wider, LeastLines-falls, greedy_cut, greedy_cut-least, columns_of-measure_of, atoms-of-cut-fit}
+use Rattle.tl_text.proofs.Paragraphs.{AllFit, AllFit-wider, LeastLines-falls, greedy_cut, greedy_cut-least, columns_of-measure_of}
+use Rattle.tl_text.proofs.Paragraphs.{atoms-of-cut-fit}
 use Rattle.tl_text.proofs.Rest.{lines_after-start}
 
 -- from a width on, up to another, the paragraph takes `h` lines
@@ -39,16 +39,22 @@ pub record IsSearchedBelow (atoms : List Atom) (past h : ℕ) (steps : List Conf
 -- two least numbers of lines are one
 same_lines : (w : ℕ) (atoms : List Atom) (m n : ℕ) → LeastLines w atoms m → LeastLines w atoms n → m ≡ n
 same_lines w atoms m n first second =
-    omega (arith, LeastLines-falls w w atoms m n (omega arith) first second, LeastLines-falls w w atoms n m (omega arith) second first)
+    omega (
+      arith,
+      LeastLines-falls w w atoms m n (omega arith) first second,
+      LeastLines-falls w w atoms n m (omega arith) second first,
+    )
 
 -- where one column less takes no more lines, a width is not minimal
-not_minimal : (atoms : List Atom) (w : ℕ) (config : Config) → w + 1 ≡ config.width → LeastLines w atoms config.height → IsMinimal atoms config → ⊥
+not_minimal : (atoms : List Atom) (w : ℕ) (config : Config) → w + 1 ≡ config.width → LeastLines w atoms config.height →
+    IsMinimal atoms config → ⊥
 not_minimal atoms w config next least minimal =
     let cut = least.attained in
     omega (arith, minimal.narrower w cut.0 next cut.1 cut.2, cut.3)
 
 -- a minimal configuration in a flat range stands at its beginning
-at_beginning : (atoms : List Atom) (from past h : ℕ) → IsFlat atoms from past h → (config : Config) → IsMinimal atoms config → from ≤ config.width
+at_beginning : (atoms : List Atom) (from past h : ℕ) → IsFlat atoms from past h → (config : Config) → IsMinimal atoms config →
+    from ≤ config.width
     → config.width < past → (config.width ≡ from) × (config.height ≡ h)
 at_beginning atoms from past h flat config minimal low high =
     let same : config.height ≡ h = same_lines config.width atoms config.height h minimal.lines (flat config.width low high) in (
@@ -58,7 +64,8 @@ at_beginning atoms from past h flat config minimal low high =
   where
     begins : (from < config.width) ⊎ (config.width ≤ from) → config.width ≡ from
     begins (inl above) =
-        let h-here : config.height ≡ h = same_lines config.width atoms config.height h minimal.lines (flat config.width low high) in
+        let h-here : config.height ≡ h = same_lines config.width atoms config.height h minimal.lines
+        (flat config.width low high) in
         let before : LeastLines (config.width - 1) atoms config.height =
         subst (λ n. LeastLines (config.width - 1) atoms n) (sym h-here) (flat (config.width - 1) (omega arith) (omega arith)) in
         absurd (not_minimal atoms (config.width - 1) config (omega arith) before minimal)
@@ -75,22 +82,31 @@ falls-push steps step before last =
 -- a configuration by its parts
 same_config : {w h : ℕ} (config : Config) → (config.width ≡ w) × (config.height ≡ h) → record { width = w; height = h } ≡ config
 same_config {w} {h} config is =
-    ap (λ width. record { width = width; height = h }) (sym is.0) ∙ ap (λ height. record { width = config.width; height = height }) (sym is.1)
+    ap (λ width. record { width = width; height = h }) (sym is.0) ∙ ap
+    (λ height. record { width = config.width; height = height }) (sym is.1)
 
 -- at a minimal width a cutting holds
 has_cutting : {atoms : List Atom} (config : Config) → IsMinimal atoms config → HasCutting config.width atoms
 has_cutting config minimal = let cut = minimal.lines.attained in (cut.0, cut.1, cut.2)
 
 -- the first step is minimal where no cutting holds in less
-first_is : (atoms : List Atom) (w past h : ℕ) → w < past → IsFlat atoms w past h → ((v : ℕ) → HasCutting v atoms → w ≤ v) → (config : Config)
+first_is : (atoms : List Atom) (w past h : ℕ) → w < past → IsFlat atoms w past h → ((v : ℕ) → HasCutting v atoms → w ≤ v) →
+    (config : Config)
     → Contains [] config ⊎ (record { width = w; height = h } ≡ config) → IsMinimal atoms config × (config.width < past)
 first_is atoms w past h some flat least config (inl has) = absurd (omega (arith, has.1))
 first_is atoms w past h some flat least config (inr is) =
-    subst (λ c. IsMinimal atoms c × (c.width < past)) is
-    (record { lines = flat w (omega arith) some; narrower = λ v cut next cutting holds. absurd (omega (arith, least v (cut, cutting, holds), next)) }, some)
+    subst (λ c. IsMinimal atoms c × (c.width < past)) is (
+      record {
+        lines = flat w (omega arith) some;
+        narrower = λ v cut next cutting holds. absurd
+            (omega (arith, least v (cut, cutting, holds), next));
+      },
+      some,
+    )
 
 -- at the least width
-pub IsSearchedBelow-first : (atoms : List Atom) (w past h : ℕ) → w < past → IsFlat atoms w past h → ((v : ℕ) → HasCutting v atoms → w ≤ v)
+pub IsSearchedBelow-first : (atoms : List Atom) (w past h : ℕ) → w < past → IsFlat atoms w past h →
+    ((v : ℕ) → HasCutting v atoms → w ≤ v)
     → IsSearchedBelow atoms past h (record { width = w; height = h } ∷ [])
 IsSearchedBelow-first atoms w past h some flat least = record {
   width = w;
@@ -98,7 +114,8 @@ IsSearchedBelow-first atoms w past h some flat least = record {
   flat = flat;
   found = record {
     exact = λ config. (
-      λ has. first_is atoms w past h some flat least config (Contains-push_cases [] (record { width = w; height = h }) config has),
+      λ has. first_is atoms w past h some flat least config (Contains-push_cases [] (record { width = w; height = h })
+          config has),
       λ is. subst (λ c. Contains (record { width = w; height = h } ∷ []) c)
           (same_config config (at_beginning atoms w past h flat config is.0 (least config.width (has_cutting config is.0)) is.1))
           (Contains-push [] (record { width = w; height = h })),
@@ -108,8 +125,10 @@ IsSearchedBelow-first atoms w past h some flat least = record {
 }
 
 -- at the next width worth trying there are fewer lines
-pub IsSearchedBelow-fewer : (atoms : List Atom) (past next h lower : ℕ) (steps : List Config) → IsSearchedBelow atoms past h steps → past < next
-    → IsFlat atoms past next lower → lower < h → IsSearchedBelow atoms next lower (steps ++ record { width = past; height = lower } ∷ [])
+pub IsSearchedBelow-fewer : (atoms : List Atom) (past next h lower : ℕ) (steps : List Config) →
+    IsSearchedBelow atoms past h steps → past < next
+    → IsFlat atoms past next lower → lower < h → IsSearchedBelow atoms next lower
+    (steps ++ record { width = past; height = lower } ∷ [])
 IsSearchedBelow-fewer atoms past next h lower steps searched some flat fewer = record {
   width = past;
   some = some;
@@ -141,20 +160,24 @@ IsSearchedBelow-fewer atoms past next h lower steps searched some flat fewer = r
           (arith, (searched.flat v (omega (arith, next', searched.some)) (omega (arith, next'))).least cut cutting holds);
     }
 
-    step_is : (config : Config) → Contains steps config ⊎ (record { width = past; height = lower } ≡ config) → IsMinimal atoms config × (config.width < next)
+    step_is : (config : Config) → Contains steps config ⊎ (record { width = past; height = lower } ≡ config) →
+        IsMinimal atoms config × (config.width < next)
     step_is config (inl has) = let is = (searched.found.exact config).0 has in (is.0, omega (arith, is.1))
     step_is config (inr is) = subst (λ c. IsMinimal atoms c × (c.width < next)) is (minimal, some)
 
     step_has : (config : Config) → IsMinimal atoms config × (config.width < next) → (config.width < past) ⊎ (past ≤ config.width)
         → Contains (steps ++ record { width = past; height = lower } ∷ []) config
     step_has config is (inl old) =
-        Contains-append_left steps (record { width = past; height = lower } ∷ []) config ((searched.found.exact config).1 (is.0, old))
+        Contains-append_left steps (record { width = past; height = lower } ∷ []) config
+        ((searched.found.exact config).1 (is.0, old))
     step_has config is (inr new) =
         subst (λ c. Contains (steps ++ record { width = past; height = lower } ∷ []) c)
-        (same_config config (at_beginning atoms past next lower flat config is.0 new is.1)) (Contains-push steps (record { width = past; height = lower }))
+        (same_config config (at_beginning atoms past next lower flat config is.0 new is.1))
+        (Contains-push steps (record { width = past; height = lower }))
 
 -- at the next width worth trying there are as many
-pub IsSearchedBelow-same : (atoms : List Atom) (past next h same : ℕ) (steps : List Config) → IsSearchedBelow atoms past h steps → past < next
+pub IsSearchedBelow-same : (atoms : List Atom) (past next h same : ℕ) (steps : List Config) →
+    IsSearchedBelow atoms past h steps → past < next
     → IsFlat atoms past next same → h ≤ same → IsSearchedBelow atoms next same steps
 IsSearchedBelow-same atoms past next h same steps searched some flat more = record {
   width = past;
@@ -173,9 +196,14 @@ IsSearchedBelow-same atoms past next h same steps searched some flat more = reco
     lines_before = searched.flat (past - 1) (omega (arith, searched.some)) (omega (arith, searched.some))
 
     as_many : h ≡ same
-    as_many = omega (arith, LeastLines-falls (past - 1) past atoms h same (omega arith) lines_before (flat past (omega arith) some))
+    as_many = omega (
+      arith,
+      LeastLines-falls (past - 1) past atoms h same (omega arith) lines_before
+          (flat past (omega arith) some),
+    )
 
-    old : (config : Config) → IsMinimal atoms config × (config.width < next) → (config.width < past) ⊎ (past ≤ config.width) → Contains steps config
+    old : (config : Config) → IsMinimal atoms config × (config.width < next) → (config.width < past) ⊎ (past ≤ config.width) →
+        Contains steps config
     old config is (inl below) = (searched.found.exact config).1 (is.0, below)
     old config is (inr new) =
         let at = at_beginning atoms past next same flat config is.0 new is.1 in
@@ -193,12 +221,14 @@ lines_after-nil v w (Some used) = refl
 abbrev pub lines_of : Filling → ℕ
 lines_of filling = filling.ended + lines_after 0 filling.line []
 
-pub IsFlat-from : (atoms : List Atom) (units : List Measure) (width : ℕ) (filling : Filling) → units ≡ map measure_of atoms → AllFit width atoms
+pub IsFlat-from : (atoms : List Atom) (units : List Measure) (width : ℕ) (filling : Filling) → units ≡ map measure_of atoms →
+    AllFit width atoms
     → ((w : ℕ) → width ≤ w → w < filling.next → filling.ended + lines_after w filling.line [] ≡ lines_after w None units)
     → IsFlat atoms width filling.next (lines_of filling)
 IsFlat-from atoms units width filling measured fit lines = λ w low high.
     let same : lines_of filling ≡ length (joined (greedy_cut w atoms)) =
-    ap (λ n. filling.ended + n) (lines_after-nil 0 w filling.line) ∙ lines w low high ∙ ap (λ us. lines_after w None us) measured ∙ lines_after-start w atoms in
+    ap (λ n. filling.ended + n) (lines_after-nil 0 w filling.line) ∙ lines w low high ∙ ap (λ us. lines_after w None us)
+    measured ∙ lines_after-start w atoms in
     subst (λ n. LeastLines w atoms n) (sym same) (greedy_cut-least w atoms (AllFit-wider width w atoms low fit))
 
 measures-fit : (w : ℕ) (atoms : List Atom) → AllFit w atoms → AllByRecursion (λ unit. columns_of unit ≤ w) (map measure_of atoms)
@@ -206,7 +236,8 @@ measures-fit w [] fit = tt
 measures-fit w (atom ∷ atoms) fit = (omega (arith, columns_of-measure_of atom, fit.0), measures-fit w atoms fit.1)
 
 -- the units fit where the atoms do
-pub units-fit : (w : ℕ) (atoms : List Atom) (units : List Measure) → units ≡ map measure_of atoms → AllFit w atoms → All (λ unit. columns_of unit ≤ w) units
+pub units-fit : (w : ℕ) (atoms : List Atom) (units : List Measure) → units ≡ map measure_of atoms → AllFit w atoms →
+    All (λ unit. columns_of unit ≤ w) units
 units-fit w atoms units measured fit =
     subst (λ us. All (λ unit. columns_of unit ≤ w) us) (sym measured)
     (All-from_recursion (λ unit. columns_of unit ≤ w) (map measure_of atoms) (measures-fit w atoms fit))
@@ -219,7 +250,9 @@ pub AllFit-from_cutting : (w : ℕ) (atoms : List Atom) → HasCutting w atoms �
 AllFit-from_cutting w atoms has = atoms-of-cut-fit w atoms has.0 has.1 has.2
 
 -- and so they do at the next width
-pub AllFit-searched : (atoms : List Atom) (past h : ℕ) (steps : List Config) → IsSearchedBelow atoms past h steps → AllFit past atoms
+pub AllFit-searched : (atoms : List Atom) (past h : ℕ) (steps : List Config) → IsSearchedBelow atoms past h steps →
+    AllFit past atoms
 AllFit-searched atoms past h steps searched =
     let cut = (searched.flat searched.width (omega arith) searched.some).attained in
-    AllFit-wider searched.width past atoms (omega (arith, searched.some)) (atoms-of-cut-fit searched.width atoms cut.0 cut.1 cut.2)
+    AllFit-wider searched.width past atoms (omega (arith, searched.some))
+    (atoms-of-cut-fit searched.width atoms cut.0 cut.1 cut.2)

@@ -1,16 +1,19 @@
 -- From pieces to paragraphs: the greedy cutting is one, no other has fewer lines, and one holds
 -- just where no unit is too wide.
-use Rattle.std.proofs.Common.{◌≡◌, ℕ, ◌+◌, ◌≤◌, ◌<◌, suc, List, [], ◌∷◌, ◌++◌, length, take, get_or, map, refl, sym, ap, ◌∙◌, subst, arith, length-append}
+use Rattle.std.proofs.Common.{◌≡◌, ℕ, ◌+◌, ◌≤◌, ◌<◌, suc, List, [], ◌∷◌, ◌++◌, length, take, get_or, map, refl, sym, ap, ◌∙◌}
+use Rattle.std.proofs.Common.{subst, arith, length-append}
 use Rattle.std.specs.List.{AllByRecursion, AllZip, onto_first}
 use Rattle.std.proofs.lemmas.List.Concat.{flat_map-append}
 use Rattle.tl_text.specs.declared.paragraph.Atom.{Atom}
 use Rattle.tl_text.specs.declared.paragraph.Atom.TheVariants.{Word, Glue, Break}
 use Rattle.tl_text.specs.Paragraph.{unit_width, gap_before, lined_pieces}
-use Rattle.tl_text.specs.Cuttings.{line_width, joined, IsPieceCut, IsCutting, HoldsIn, HasCutting, FillsLines, IsGreedyCutting, LeastLines}
+use Rattle.tl_text.specs.Cuttings.{line_width, joined, IsPieceCut, IsCutting, HoldsIn, HasCutting, FillsLines, IsGreedyCutting}
+use Rattle.tl_text.specs.Cuttings.{LeastLines}
 use Rattle.tl_text.specs.inner.Measure.{measure_of, columns_of}
 use Rattle.std.proofs.lemmas.List.{take_more}
 use Rattle.tl_text.proofs.Widths.{units_within, at_choice}
-use Rattle.tl_text.proofs.Greedy.{piece_lines, more, more-least, fill-joined, fill-some, fill-holds, fill-filled, fill-length, line_width-single}
+use Rattle.tl_text.proofs.Greedy.{piece_lines, more, more-least, fill-joined, fill-some, fill-holds, fill-filled, fill-length}
+use Rattle.tl_text.proofs.Greedy.{line_width-single}
 
 -- ---- what holds of each item of lists
 
@@ -33,11 +36,13 @@ module _ {X : Type 0} (P : X → Type 0) where
   all-joined [] each = tt
   all-joined (list ∷ lists) each = all-append list (joined lists) each.0 (all-joined lists each.1)
 
-  pub all-onto : (x : X) (parts : List (List X)) → P x → AllByRecursion (AllByRecursion P) parts → AllByRecursion (AllByRecursion P) (onto_first x parts)
+  pub all-onto : (x : X) (parts : List (List X)) → P x → AllByRecursion (AllByRecursion P) parts →
+      AllByRecursion (AllByRecursion P) (onto_first x parts)
   all-onto x [] here each = ((here, tt), tt)
   all-onto x (part ∷ parts) here each = ((here, each.0), each.1)
 
-  pub all-off : (x : X) (parts : List (List X)) → AllByRecursion (AllByRecursion P) (onto_first x parts) → P x × AllByRecursion (AllByRecursion P) parts
+  pub all-off : (x : X) (parts : List (List X)) → AllByRecursion (AllByRecursion P) (onto_first x parts) →
+      P x × AllByRecursion (AllByRecursion P) parts
   all-off x [] each = (each.0.0, tt)
   all-off x (part ∷ parts) each = (each.0.0, (each.0.1, each.1))
 
@@ -54,7 +59,8 @@ AllFit w atoms = AllByRecursion (λ atom. unit_width atom ≤ w) atoms
 pub pieces-fit : (w : ℕ) (atoms : List Atom) → AllFit w atoms → AllByRecursion (AllFit w) (lined_pieces atoms)
 pieces-fit w [] each = tt
 pieces-fit w (Break ∷ atoms) each = (tt, pieces-fit w atoms each.1)
-pieces-fit w (unit ∷ atoms) each = all-onto (λ atom. unit_width atom ≤ w) unit (lined_pieces atoms) each.0 (pieces-fit w atoms each.1)
+pieces-fit w (unit ∷ atoms) each = all-onto (λ atom. unit_width atom ≤ w) unit (lined_pieces atoms) each.0
+    (pieces-fit w atoms each.1)
 
 -- and the other way round, as a break takes no column
 pub atoms-fit : (w : ℕ) (atoms : List Atom) → AllByRecursion (AllFit w) (lined_pieces atoms) → AllFit w atoms
@@ -84,7 +90,8 @@ piece-holds w (unit ∷ units) each = fill-holds w (unit ∷ []) units (omega (a
 pieces-hold : (w : ℕ) (pieces : List (List Atom)) → AllByRecursion (AllFit w) pieces → HoldsIn w (map (piece_lines w) pieces)
 pieces-hold w [] each = tt
 pieces-hold w (piece ∷ pieces) each =
-    all-append (λ line. line_width line ≤ w) (piece_lines w piece) (joined (map (piece_lines w) pieces)) (piece-holds w piece each.0)
+    all-append (λ line. line_width line ≤ w) (piece_lines w piece) (joined (map (piece_lines w) pieces))
+    (piece-holds w piece each.0)
     (pieces-hold w pieces each.1)
 
 pieces-filled : (w : ℕ) (pieces : List (List Atom)) → AllByRecursion (FillsLines w) (map (piece_lines w) pieces)
@@ -101,14 +108,17 @@ greedy_cut-IsGreedyCutting w atoms each = record {
 
 -- ---- no cutting has fewer lines
 
-piece-least : (w : ℕ) (piece : List Atom) (lines : List (List Atom)) → IsPieceCut piece lines → AllByRecursion (λ line. line_width line ≤ w) lines
+piece-least : (w : ℕ) (piece : List Atom) (lines : List (List Atom)) → IsPieceCut piece lines →
+    AllByRecursion (λ line. line_width line ≤ w) lines
     → length (piece_lines w piece) ≤ length lines
 piece-least w [] lines cut holds = omega (arith, ap length cut)
 piece-least w (unit ∷ units) lines cut holds =
     -- a full line before it: the first unit begins another
-    let rest : more w (suc w) (unit ∷ units) ≤ length lines = subst (λ all. more w (suc w) all ≤ length lines) cut.1 (more-least w lines cut.0 holds (suc w)) in
+    let rest : more w (suc w) (unit ∷ units) ≤ length lines =
+    subst (λ all. more w (suc w) all ≤ length lines) cut.1 (more-least w lines cut.0 holds (suc w)) in
     let begun : 1 + more w (unit_width unit) units ≡ more w (suc w) (unit ∷ units) =
-    at_choice (λ m. 1 + more w (unit_width unit) units ≡ m) (suc w + gap_before unit + unit_width unit) w _ _ (λ fits. absurd (omega arith))
+    at_choice (λ m. 1 + more w (unit_width unit) units ≡ m) (suc w + gap_before unit + unit_width unit) w _ _
+    (λ fits. absurd (omega arith))
     (λ over. refl) in
     omega (arith, fill-length w unit [] units, ap (λ used. more w used units) (line_width-single unit))
 
@@ -135,14 +145,17 @@ greedy_cut-least w atoms each =
 lines-fit : (w : ℕ) (lines : List (List Atom)) → AllByRecursion (λ line. line_width line ≤ w) lines → AllFit w (joined lines)
 lines-fit w [] holds = tt
 lines-fit w (line ∷ lines) holds =
-    all-append (λ atom. unit_width atom ≤ w) line (joined lines) (units_within w line (omega (arith, holds.0))) (lines-fit w lines holds.1)
+    all-append (λ atom. unit_width atom ≤ w) line (joined lines) (units_within w line (omega (arith, holds.0)))
+    (lines-fit w lines holds.1)
 
-piece-fits : (w : ℕ) (piece : List Atom) (lines : List (List Atom)) → IsPieceCut piece lines → AllByRecursion (λ line. line_width line ≤ w) lines
+piece-fits : (w : ℕ) (piece : List Atom) (lines : List (List Atom)) → IsPieceCut piece lines →
+    AllByRecursion (λ line. line_width line ≤ w) lines
     → AllFit w piece
 piece-fits w [] lines cut holds = tt
 piece-fits w (unit ∷ units) lines cut holds = subst (λ all. AllFit w all) cut.1 (lines-fit w lines holds)
 
-pieces-of-cut-fit : (w : ℕ) (pieces : List (List Atom)) (cut : List (List (List Atom))) → AllZip IsPieceCut pieces cut → HoldsIn w cut
+pieces-of-cut-fit : (w : ℕ) (pieces : List (List Atom)) (cut : List (List (List Atom))) → AllZip IsPieceCut pieces cut →
+    HoldsIn w cut
     → AllByRecursion (AllFit w) pieces
 pieces-of-cut-fit w [] cut is holds = tt
 pieces-of-cut-fit w (piece ∷ pieces) [] is holds = absurd is
@@ -151,7 +164,8 @@ pieces-of-cut-fit w (piece ∷ pieces) (lines ∷ cut) is holds = (
   pieces-of-cut-fit w pieces cut is.1 (all-suffix (λ line. line_width line ≤ w) lines (joined cut) holds),
 )
 
-pub atoms-of-cut-fit : (w : ℕ) (atoms : List Atom) (cut : List (List (List Atom))) → IsCutting atoms cut → HoldsIn w cut → AllFit w atoms
+pub atoms-of-cut-fit : (w : ℕ) (atoms : List Atom) (cut : List (List (List Atom))) → IsCutting atoms cut → HoldsIn w cut →
+    AllFit w atoms
 atoms-of-cut-fit w atoms cut is holds = atoms-fit w atoms (pieces-of-cut-fit w (lined_pieces atoms) cut is holds)
 
 -- ---- line counts fall as the width grows
@@ -160,7 +174,8 @@ atoms-of-cut-fit w atoms cut is holds = atoms-fit w atoms (pieces-of-cut-fit w (
 pub HoldsIn-wider : (v w : ℕ) (cut : List (List (List Atom))) → v ≤ w → HoldsIn v cut → HoldsIn w cut
 HoldsIn-wider v w cut wider holds = wider_lines (joined cut) holds
   where
-    wider_lines : (lines : List (List Atom)) → AllByRecursion (λ line. line_width line ≤ v) lines → AllByRecursion (λ line. line_width line ≤ w) lines
+    wider_lines : (lines : List (List Atom)) → AllByRecursion (λ line. line_width line ≤ v) lines →
+        AllByRecursion (λ line. line_width line ≤ w) lines
     wider_lines [] h = tt
     wider_lines (line ∷ lines) h = (omega (arith, h.0), wider_lines lines h.1)
 
@@ -188,12 +203,15 @@ module _ (w : ℕ) (atoms : List Atom) (n : ℕ) (atom : Atom) (within : n < len
 
   -- the atoms up to it fit where it and those before it do
   pub AllFit-more : AllFit w (take n atoms) → unit_width atom ≤ w → AllFit w (take (n + 1) atoms)
-  AllFit-more before here = subst (λ first. AllFit w first) (sym prefix) (all-append (λ a. unit_width a ≤ w) (take n atoms) (atom ∷ []) before (here, tt))
+  AllFit-more before here = subst (λ first. AllFit w first) (sym prefix)
+      (all-append (λ a. unit_width a ≤ w) (take n atoms) (atom ∷ []) before (here, tt))
 
   pub AllFit-less : AllFit w (take (n + 1) atoms) → AllFit w (take n atoms) × (unit_width atom ≤ w)
   AllFit-less each =
-      let both : AllFit w (take n atoms ++ atom ∷ []) = subst (λ first. AllFit w first) prefix each in
-      (all-prefix (λ a. unit_width a ≤ w) (take n atoms) (atom ∷ []) both, (all-suffix (λ a. unit_width a ≤ w) (take n atoms) (atom ∷ []) both).0)
+      let both : AllFit w (take n atoms ++ atom ∷ []) = subst (λ first. AllFit w first) prefix each in (
+        all-prefix (λ a. unit_width a ≤ w) (take n atoms) (atom ∷ []) both,
+        (all-suffix (λ a. unit_width a ≤ w) (take n atoms) (atom ∷ []) both).0,
+      )
 
 -- ---- the least width
 

@@ -1,6 +1,8 @@
 -- The greedy cutting as ranges of atoms, one atom after the other.
-use Rattle.std.proofs.Common.{◌≡◌, ℕ, ◌+◌, ◌-◌, ◌≤◌, ◌<◌, Bool, true, false, if◌then◌else◌, nat_le, not, List, [], ◌∷◌, ◌++◌, length, drop, take}
-use Rattle.std.proofs.Common.{get_or, map, Option, Some, None, IsSome, is_some, refl, sym, ap, ◌∙◌, subst, arith, append_assoc, inl, inr}
+use Rattle.std.proofs.Common.{◌≡◌, ℕ, ◌+◌, ◌-◌, ◌≤◌, ◌<◌, Bool, true, false, if◌then◌else◌, nat_le, not, List, [], ◌∷◌, ◌++◌}
+use Rattle.std.proofs.Common.{length, drop, take}
+use Rattle.std.proofs.Common.{get_or, map, Option, Some, None, IsSome, is_some, refl, sym, ap, ◌∙◌, subst, arith, append_assoc}
+use Rattle.std.proofs.Common.{inl, inr}
 use Rattle.std.specs.List.{onto_first, AllZip, slice_range}
 use Rattle.std.proofs.lemmas.List.{append-nil, drop_more, drop_all, take_at, length_push}
 use Rattle.std.proofs.lemmas.Slice.Zip.{AllZip-long}
@@ -26,7 +28,8 @@ lines_from w (first ∷ line) [] = (first ∷ line) ∷ []
 lines_from w line (Break ∷ atoms) = line ∷ lines_from w [] atoms
 lines_from w [] (unit ∷ atoms) = lines_from w (unit ∷ []) atoms
 lines_from w (first ∷ line) (unit ∷ atoms) =
-    if nat_le (line_width ((first ∷ line) ++ unit ∷ [])) w then lines_from w ((first ∷ line) ++ unit ∷ []) atoms else (first ∷ line)
+    if nat_le (line_width ((first ∷ line) ++ unit ∷ [])) w then lines_from w ((first ∷ line) ++ unit ∷ [])
+    atoms else (first ∷ line)
     ∷ lines_from w (unit ∷ []) atoms
 
 -- the lines that are still to come, by the pieces
@@ -35,28 +38,34 @@ shown_from w [] pieces = joined (map (piece_lines w) pieces)
 shown_from w (first ∷ line) [] = (first ∷ line) ∷ []
 shown_from w (first ∷ line) (piece ∷ pieces) = fill w (first ∷ line) piece ++ joined (map (piece_lines w) pieces)
 
-shown_from-first : (w : ℕ) (unit : Atom) (pieces : List (List Atom)) → shown_from w [] (onto_first unit pieces) ≡ shown_from w (unit ∷ []) pieces
+shown_from-first : (w : ℕ) (unit : Atom) (pieces : List (List Atom)) →
+    shown_from w [] (onto_first unit pieces) ≡ shown_from w (unit ∷ []) pieces
 shown_from-first w unit [] = refl
 shown_from-first w unit (piece ∷ pieces) = refl
 
-append-choice : (b : Bool) (xs : List (List Atom)) (line : List Atom) (ys more : List (List Atom)) → (if b then xs else line ∷ ys) ++ more
+append-choice : (b : Bool) (xs : List (List Atom)) (line : List Atom) (ys more : List (List Atom)) →
+    (if b then xs else line ∷ ys) ++ more
     ≡ (if b then xs ++ more else line ∷ (ys ++ more))
 append-choice true xs line ys more = refl
 append-choice false xs line ys more = refl
 
-same-choice : (b : Bool) (xs : List (List Atom)) (line : List Atom) (ys us vs : List (List Atom)) → xs ≡ us → ys ≡ vs → (if b then xs else line ∷ ys)
+same-choice : (b : Bool) (xs : List (List Atom)) (line : List Atom) (ys us vs : List (List Atom)) → xs ≡ us → ys ≡ vs →
+    (if b then xs else line ∷ ys)
     ≡ (if b then us else line ∷ vs)
 same-choice true xs line ys us vs first second = first
 same-choice false xs line ys us vs first second = ap (λ rest. line ∷ rest) second
 
 shown_from-unit : (w : ℕ) (first : Atom) (line : List Atom) (unit : Atom) (pieces : List (List Atom))
     → shown_from w (first ∷ line) (onto_first unit pieces)
-    ≡ (if nat_le (line_width ((first ∷ line) ++ unit ∷ [])) w then shown_from w ((first ∷ line) ++ unit ∷ []) pieces else (first ∷ line)
+    ≡ (if nat_le (line_width ((first ∷ line) ++ unit ∷ [])) w then shown_from w ((first ∷ line) ++ unit ∷ [])
+    pieces else (first ∷ line)
     ∷ shown_from w (unit ∷ []) pieces)
 shown_from-unit w first line unit [] =
-    append-choice (nat_le (line_width ((first ∷ line) ++ unit ∷ [])) w) (((first ∷ line) ++ unit ∷ []) ∷ []) (first ∷ line) ((unit ∷ []) ∷ []) []
+    append-choice (nat_le (line_width ((first ∷ line) ++ unit ∷ [])) w) (((first ∷ line) ++ unit ∷ []) ∷ []) (first ∷ line)
+    ((unit ∷ []) ∷ []) []
 shown_from-unit w first line unit (piece ∷ pieces) =
-    append-choice (nat_le (line_width ((first ∷ line) ++ unit ∷ [])) w) (fill w ((first ∷ line) ++ unit ∷ []) piece) (first ∷ line)
+    append-choice (nat_le (line_width ((first ∷ line) ++ unit ∷ [])) w) (fill w ((first ∷ line) ++ unit ∷ []) piece)
+    (first ∷ line)
     (fill w (unit ∷ []) piece) (joined (map (piece_lines w) pieces))
 
 pub lines_from-is : (w : ℕ) (line atoms : List Atom) → lines_from w line atoms ≡ shown_from w line (lined_pieces atoms)
@@ -66,7 +75,8 @@ lines_from-is w [] (Break ∷ atoms) = ap (λ lines. [] ∷ lines) (lines_from-i
 lines_from-is w (first ∷ line) (Break ∷ atoms) = ap (λ lines. (first ∷ line) ∷ lines) (lines_from-is w [] atoms)
 lines_from-is w [] (unit ∷ atoms) = lines_from-is w (unit ∷ []) atoms ∙ sym (shown_from-first w unit (lined_pieces atoms))
 lines_from-is w (first ∷ line) (unit ∷ atoms) =
-    same-choice (nat_le (line_width ((first ∷ line) ++ unit ∷ [])) w) _ (first ∷ line) _ _ _ (lines_from-is w ((first ∷ line) ++ unit ∷ []) atoms)
+    same-choice (nat_le (line_width ((first ∷ line) ++ unit ∷ [])) w) _ (first ∷ line) _ _ _
+    (lines_from-is w ((first ∷ line) ++ unit ∷ []) atoms)
     (lines_from-is w (unit ∷ []) atoms) ∙ sym (shown_from-unit w first line unit (lined_pieces atoms))
 
 -- ---- one more atom, by what the loop sees of it
@@ -87,7 +97,8 @@ module _ (w : ℕ) (first : Atom) (line : List Atom) (unit : Atom) (joining star
   abbrev wider : ℕ
   wider = line_width (first ∷ line) + gap_before unit + unit_width unit
 
-  joins_unit : nat_le wider w ≡ true → ((if nat_le (line_width ((first ∷ line) ++ unit ∷ [])) w then joining else starting) ≡ joining)
+  joins_unit : nat_le wider w ≡ true →
+      ((if nat_le (line_width ((first ∷ line) ++ unit ∷ [])) w then joining else starting) ≡ joining)
       × ((if nat_le wider w then Some wider else Some (unit_width unit)) ≡ Some (line_width ((first ∷ line) ++ unit ∷ [])))
   joins_unit fits =
       let push = line_width-push first line unit in (
@@ -95,7 +106,8 @@ module _ (w : ℕ) (first : Atom) (line : List Atom) (unit : Atom) (joining star
         if_true (nat_le wider w) (Some wider) (Some (unit_width unit)) fits ∙ ap (λ v. Some v) (sym push),
       )
 
-  starts_unit : nat_le wider w ≡ false → ((if nat_le (line_width ((first ∷ line) ++ unit ∷ [])) w then joining else starting) ≡ starting)
+  starts_unit : nat_le wider w ≡ false →
+      ((if nat_le (line_width ((first ∷ line) ++ unit ∷ [])) w then joining else starting) ≡ starting)
       × ((if nat_le wider w then Some wider else Some (unit_width unit)) ≡ Some (line_width (unit ∷ [])))
   starts_unit over =
       let push = line_width-push first line unit in (
@@ -156,7 +168,8 @@ starts w (first ∷ line) (Glue text) atoms ended unit =
 AreInOrder-push : (from : ℕ) (ranges : List Line) (first past : ℕ) → AreInOrder from ranges first → first < past
     → AreInOrder from (ranges ++ record { first = first; past = past } ∷ []) past
 AreInOrder-push from [] first past before some = (sym before, some, refl)
-AreInOrder-push from (range ∷ ranges) first past before some = (before.0, before.1, AreInOrder-push range.past ranges first past before.2 some)
+AreInOrder-push from (range ∷ ranges) first past before some =
+    (before.0, before.1, AreInOrder-push range.past ranges first past before.2 some)
 
 -- the first `n` atoms are in ranges and on an open line, which begins at the atom `first`
 pub record IsCutUpTo (w : ℕ) (atoms : List Atom) (n first : ℕ) (line : Option ℕ) (ranges : List Line) : Type 0 where
@@ -183,15 +196,18 @@ IsCutUpTo-none w atoms = record {
 }
 
 -- the open line is the range up to `n`
-slice_is : (w : ℕ) (atoms : List Atom) (n first : ℕ) (line : Option ℕ) (ranges : List Line) (cut : IsCutUpTo w atoms n first line ranges)
+slice_is : (w : ℕ) (atoms : List Atom) (n first : ℕ) (line : Option ℕ) (ranges : List Line)
+    (cut : IsCutUpTo w atoms n first line ranges)
     → slice_range atoms first n ≡ cut.units
-slice_is w atoms n first line ranges cut = ap (λ l. take (n - first) l) cut.here ∙ take_at cut.units (drop n atoms) (n - first) (omega (arith, cut.place))
+slice_is w atoms n first line ranges cut = ap (λ l. take (n - first) l) cut.here ∙ take_at cut.units (drop n atoms) (n - first)
+    (omega (arith, cut.place))
 
 after_break_none : (w : ℕ) (line : Option ℕ) → next_line w line (measure_of Break) ≡ None
 after_break_none w None = refl
 after_break_none w (Some used) = refl
 
-module _ (w : ℕ) (atoms : List Atom) (n first : ℕ) (line : Option ℕ) (ranges : List Line) (atom : Atom) (within : n < length atoms)
+module _ (w : ℕ) (atoms : List Atom) (n first : ℕ) (line : Option ℕ) (ranges : List Line) (atom : Atom)
+    (within : n < length atoms)
     (is : atom ≡ get_or atoms n atom) (cut : IsCutUpTo w atoms n first line ranges) where
   here_more : drop n atoms ≡ atom ∷ drop (n + 1) atoms
   here_more = drop_more atoms n atom within ∙ ap (λ a. a ∷ drop (n + 1) atoms) (sym is)
@@ -202,7 +218,8 @@ module _ (w : ℕ) (atoms : List Atom) (n first : ℕ) (line : Option ℕ) (rang
 
   slice_more : slice_range atoms first (n + 1) ≡ cut.units ++ atom ∷ []
   slice_more = ap (λ l. take (n + 1 - first) l) here_with
-      ∙ take_at (cut.units ++ atom ∷ []) (drop (n + 1) atoms) (n + 1 - first) (omega (arith, cut.place, length_push cut.units atom))
+      ∙ take_at (cut.units ++ atom ∷ []) (drop (n + 1) atoms) (n + 1 - first)
+      (omega (arith, cut.place, length_push cut.units atom))
 
   -- what is left to do, with the atom first
   rest_with : cut.done ++ lines_from w cut.units (atom ∷ drop (n + 1) atoms) ≡ joined (greedy_cut w atoms)
@@ -213,7 +230,8 @@ module _ (w : ℕ) (atoms : List Atom) (n first : ℕ) (line : Option ℕ) (rang
   done_with line lines = sym (append_assoc cut.done (line ∷ []) lines)
 
   -- a break ends the open line
-  pub cut_break : next_line w line (measure_of atom) ≡ None → IsCutUpTo w atoms (n + 1) (n + 1) None (ranges ++ record { first = first; past = n + 1 } ∷ [])
+  pub cut_break : next_line w line (measure_of atom) ≡ None →
+      IsCutUpTo w atoms (n + 1) (n + 1) None (ranges ++ record { first = first; past = n + 1 } ∷ [])
   cut_break none =
       let break = is_break w line atom none in
       record {
@@ -223,7 +241,8 @@ module _ (w : ℕ) (atoms : List Atom) (n first : ℕ) (line : Option ℕ) (rang
         here = refl;
         width = refl;
         in_order = AreInOrder-push 0 ranges first (n + 1) cut.in_order (omega (arith, cut.place));
-        shown = AllZip-push (ShowsLine atoms) ranges cut.done _ cut.units cut.shown (inr (slice_more ∙ ap (λ a. cut.units ++ a ∷ []) break));
+        shown = AllZip-push (ShowsLine atoms) ranges cut.done _ cut.units cut.shown
+            (inr (slice_more ∙ ap (λ a. cut.units ++ a ∷ []) break));
         rest = sym (done_with cut.units (lines_from w [] (drop (n + 1) atoms)))
             ∙ ap (λ lines. cut.done ++ lines) (sym (after_break cut.units (drop (n + 1) atoms)))
             ∙ ap (λ a. cut.done ++ lines_from w cut.units (a ∷ drop (n + 1) atoms)) (sym break) ∙ rest_with;
@@ -234,9 +253,11 @@ module _ (w : ℕ) (atoms : List Atom) (n first : ℕ) (line : Option ℕ) (rang
       after_break (first ∷ units) rest = refl
 
   -- a unit joins the open line
-  pub cut_join : ends_line w line (measure_of atom) ≡ false → IsCutUpTo w atoms (n + 1) first (next_line w line (measure_of atom)) ranges
+  pub cut_join : ends_line w line (measure_of atom) ≡ false →
+      IsCutUpTo w atoms (n + 1) first (next_line w line (measure_of atom)) ranges
   cut_join stays =
-      let ends : ends_line w (width_if_any cut.units) (measure_of atom) ≡ false = ap (λ l. ends_line w l (measure_of atom)) (sym cut.width) ∙ stays in
+      let ends : ends_line w (width_if_any cut.units) (measure_of atom) ≡ false =
+      ap (λ l. ends_line w l (measure_of atom)) (sym cut.width) ∙ stays in
       let both = joins w cut.units atom (drop (n + 1) atoms) ends in
       record {
         done = cut.done;
@@ -253,9 +274,11 @@ module _ (w : ℕ) (atoms : List Atom) (n first : ℕ) (line : Option ℕ) (rang
   pub cut_start : ends_line w line (measure_of atom) ≡ true → IsSome (next_line w line (measure_of atom))
       → IsCutUpTo w atoms (n + 1) n (next_line w line (measure_of atom)) (ranges ++ record { first = first; past = n } ∷ [])
   cut_start ended some =
-      let ends : ends_line w (width_if_any cut.units) (measure_of atom) ≡ true = ap (λ l. ends_line w l (measure_of atom)) (sym cut.width) ∙ ended in
+      let ends : ends_line w (width_if_any cut.units) (measure_of atom) ≡ true =
+      ap (λ l. ends_line w l (measure_of atom)) (sym cut.width) ∙ ended in
       let both = starts w cut.units atom (drop (n + 1) atoms) ends
-      (λ break. false≢true (subst (λ o. IsSome o) (ap (λ a. next_line w line (measure_of a)) break ∙ after_break_none w line) some)) in
+      (λ break. false≢true (subst (λ o. IsSome o) (ap (λ a. next_line w line (measure_of a)) break ∙ after_break_none w line)
+      some)) in
       record {
         done = cut.done ++ cut.units ∷ [];
         units = atom ∷ [];
@@ -263,8 +286,10 @@ module _ (w : ℕ) (atoms : List Atom) (n first : ℕ) (line : Option ℕ) (rang
         here = here_more;
         width = ap (λ l. next_line w l (measure_of atom)) cut.width ∙ both.2;
         in_order = AreInOrder-push 0 ranges first n cut.in_order (omega (arith, cut.place, both.0));
-        shown = AllZip-push (ShowsLine atoms) ranges cut.done _ cut.units cut.shown (inl (slice_is w atoms n first line ranges cut));
-        rest = sym (done_with cut.units (lines_from w (atom ∷ []) (drop (n + 1) atoms))) ∙ ap (λ lines. cut.done ++ lines) (sym both.1) ∙ rest_with;
+        shown = AllZip-push (ShowsLine atoms) ranges cut.done _ cut.units cut.shown
+            (inl (slice_is w atoms n first line ranges cut));
+        rest = sym (done_with cut.units (lines_from w (atom ∷ []) (drop (n + 1) atoms))) ∙ ap (λ lines. cut.done ++ lines)
+            (sym both.1) ∙ rest_with;
       }
 
 -- what the counts of ended lines show
@@ -285,25 +310,30 @@ none_open None h = refl
 none_open (Some used) h = absurd (false≢true (sym h))
 
 -- the steps of the loop, by what it sees of the lines before and after an atom
-module _ (w : ℕ) (atoms : List Atom) (n first : ℕ) (line : Option ℕ) (ranges : List Line) (atom : Atom) (within : n < length atoms)
+module _ (w : ℕ) (atoms : List Atom) (n first : ℕ) (line : Option ℕ) (ranges : List Line) (atom : Atom)
+    (within : n < length atoms)
     (is : atom ≡ get_or atoms n atom) (cut : IsCutUpTo w atoms n first line ranges) (next : Option ℕ)
     (is_next : next ≡ next_line w line (measure_of atom)) where
-  pub step_break : is_some next ≡ false → IsCutUpTo w atoms (n + 1) (n + 1) next (ranges ++ record { first = first; past = n + 1 } ∷ [])
+  pub step_break : is_some next ≡ false → IsCutUpTo w atoms (n + 1) (n + 1) next
+      (ranges ++ record { first = first; past = n + 1 } ∷ [])
   step_break closed =
       let none = none_open next closed in
       subst (λ l. IsCutUpTo w atoms (n + 1) (n + 1) l (ranges ++ record { first = first; past = n + 1 } ∷ [])) (sym none)
       (cut_break w atoms n first line ranges atom within is cut (sym is_next ∙ none))
 
-  pub step_join : (old new : ℕ) → new ≡ (if ends_line w line (measure_of atom) then old + 1 else old) → new ≤ old → IsCutUpTo w atoms (n + 1) first next ranges
+  pub step_join : (old new : ℕ) → new ≡ (if ends_line w line (measure_of atom) then old + 1 else old) → new ≤ old →
+      IsCutUpTo w atoms (n + 1) first next ranges
   step_join old new ended same =
       subst (λ l. IsCutUpTo w atoms (n + 1) first l ranges) (sym is_next)
       (cut_join w atoms n first line ranges atom within is cut (ends_false _ old new ended same))
 
-  pub step_start : is_some next ≡ true → (old new : ℕ) → new ≡ (if ends_line w line (measure_of atom) then old + 1 else old) → old < new
+  pub step_start : is_some next ≡ true → (old new : ℕ) → new ≡ (if ends_line w line (measure_of atom) then old + 1 else old) →
+      old < new
       → IsCutUpTo w atoms (n + 1) n next (ranges ++ record { first = first; past = n } ∷ [])
   step_start some old new ended more =
       subst (λ l. IsCutUpTo w atoms (n + 1) n l (ranges ++ record { first = first; past = n } ∷ [])) (sym is_next)
-      (cut_start w atoms n first line ranges atom within is cut (ends_true _ old new ended more) (subst (λ o. IsSome o) is_next some))
+      (cut_start w atoms n first line ranges atom within is cut (ends_true _ old new ended more)
+      (subst (λ o. IsSome o) is_next some))
 
 -- whether a unit stands on a line
 no_units : (units : List Atom) → None ≡ width_if_any units → units ≡ []
@@ -315,7 +345,8 @@ some_units w [] h = absurd (false≢true h)
 some_units w (first ∷ units) h = (omega arith, refl)
 
 -- after the last atom the open line, if it has a unit, is the last
-module _ (w : ℕ) (atoms : List Atom) (first : ℕ) (line : Option ℕ) (ranges : List Line) (cut : IsCutUpTo w atoms (length atoms) first line ranges) where
+module _ (w : ℕ) (atoms : List Atom) (first : ℕ) (line : Option ℕ) (ranges : List Line)
+    (cut : IsCutUpTo w atoms (length atoms) first line ranges) where
   none_left : drop (length atoms) atoms ≡ []
   none_left = drop_all (length atoms) atoms (omega arith)
 
@@ -338,11 +369,13 @@ module _ (w : ℕ) (atoms : List Atom) (first : ℕ) (line : Option ℕ) (ranges
         AreInOrder-push 0 ranges first (length atoms) cut.in_order (omega (arith, cut.place, both.0)),
         subst (λ lines. AllZip (ShowsLine atoms) (ranges ++ record { first = first; past = length atoms } ∷ []) lines)
             (ap (λ lines. cut.done ++ lines) (sym both.1) ∙ rest_end)
-            (AllZip-push (ShowsLine atoms) ranges cut.done _ cut.units cut.shown (inl (slice_is w atoms (length atoms) first line ranges cut))),
+            (AllZip-push (ShowsLine atoms) ranges cut.done _ cut.units cut.shown
+            (inl (slice_is w atoms (length atoms) first line ranges cut))),
       )
 
 -- the cutting that is shown is greedy, and has the least number of lines
-pub ShowsGreedyCutting-from : (w : ℕ) (atoms : List Atom) (ranges : List Line) → AllFit w atoms → AreInOrder 0 ranges (length atoms)
+pub ShowsGreedyCutting-from : (w : ℕ) (atoms : List Atom) (ranges : List Line) → AllFit w atoms →
+    AreInOrder 0 ranges (length atoms)
     × AllZip (ShowsLine atoms) ranges (joined (greedy_cut w atoms)) → ShowsGreedyCutting w atoms ranges
 ShowsGreedyCutting-from w atoms ranges fit shows = record {
   cut = greedy_cut w atoms;
@@ -354,4 +387,5 @@ ShowsGreedyCutting-from w atoms ranges fit shows = record {
 pub LeastLines-from : (w : ℕ) (atoms : List Atom) (ranges : List Line) → AllFit w atoms → AreInOrder 0 ranges (length atoms)
     × AllZip (ShowsLine atoms) ranges (joined (greedy_cut w atoms)) → LeastLines w atoms (length ranges)
 LeastLines-from w atoms ranges fit shows =
-    subst (λ n. LeastLines w atoms n) (AllZip-long (ShowsLine atoms) ranges (joined (greedy_cut w atoms)) shows.1) (greedy_cut-least w atoms fit)
+    subst (λ n. LeastLines w atoms n) (AllZip-long (ShowsLine atoms) ranges (joined (greedy_cut w atoms)) shows.1)
+    (greedy_cut-least w atoms fit)

@@ -1,5 +1,6 @@
 -- What a loop over the atoms has left to do, against the greedy cutting of the pieces.
-use Rattle.std.proofs.Common.{◌≡◌, ℕ, ◌+◌, Bool, true, false, if◌then◌else◌, nat_le, List, [], ◌∷◌, length, map, Option, Some, None, refl, sym, ap}
+use Rattle.std.proofs.Common.{◌≡◌, ℕ, ◌+◌, Bool, true, false, if◌then◌else◌, nat_le, List, [], ◌∷◌, length, map, Option, Some}
+use Rattle.std.proofs.Common.{None, refl, sym, ap}
 use Rattle.std.proofs.Common.{◌∙◌, arith, length-append}
 use Rattle.std.specs.List.{onto_first}
 use Rattle.tl_text.specs.declared.paragraph.Atom.{Atom}
@@ -17,7 +18,8 @@ rest_lines w (Some used) [] = 1
 rest_lines w (Some used) (piece ∷ pieces) = 1 + more w used piece + length (joined (map (piece_lines w) pieces))
 
 -- a unit begins the first line
-rest_lines-first : (w : ℕ) (unit : Atom) (pieces : List (List Atom)) → rest_lines w None (onto_first unit pieces) ≡ rest_lines w (Some (unit_width unit)) pieces
+rest_lines-first : (w : ℕ) (unit : Atom) (pieces : List (List Atom)) →
+    rest_lines w None (onto_first unit pieces) ≡ rest_lines w (Some (unit_width unit)) pieces
 rest_lines-first w unit [] = refl
 rest_lines-first w unit (piece ∷ pieces) =
     omega (
@@ -46,13 +48,16 @@ rest_lines-unit w used unit (piece ∷ pieces) =
     (more w (unit_width unit) piece) (length (joined (map (piece_lines w) pieces)))
 
 -- what the loop counts is what the pieces have
-pub lines_after-is : (w : ℕ) (line : Option ℕ) (atoms : List Atom) → lines_after w line (map measure_of atoms) ≡ rest_lines w line (lined_pieces atoms)
+pub lines_after-is : (w : ℕ) (line : Option ℕ) (atoms : List Atom) →
+    lines_after w line (map measure_of atoms) ≡ rest_lines w line (lined_pieces atoms)
 lines_after-is w None [] = refl
 lines_after-is w (Some used) [] = refl
 lines_after-is w None (Break ∷ atoms) = omega (arith, lines_after-is w None atoms)
 lines_after-is w (Some used) (Break ∷ atoms) = omega (arith, lines_after-is w None atoms)
-lines_after-is w None (Word text ∷ atoms) = lines_after-is w (Some (unit_width (Word text))) atoms ∙ sym (rest_lines-first w (Word text) (lined_pieces atoms))
-lines_after-is w None (Glue text ∷ atoms) = lines_after-is w (Some (unit_width (Glue text))) atoms ∙ sym (rest_lines-first w (Glue text) (lined_pieces atoms))
+lines_after-is w None (Word text ∷ atoms) = lines_after-is w (Some (unit_width (Word text))) atoms ∙ sym
+    (rest_lines-first w (Word text) (lined_pieces atoms))
+lines_after-is w None (Glue text ∷ atoms) = lines_after-is w (Some (unit_width (Glue text))) atoms ∙ sym
+    (rest_lines-first w (Glue text) (lined_pieces atoms))
 lines_after-is w (Some used) (Word text ∷ atoms) =
     let unit = Word text in
     choice-same (nat_le (used + gap_before unit + unit_width unit) w) _ _ _ _
@@ -65,5 +70,6 @@ lines_after-is w (Some used) (Glue text ∷ atoms) =
     ∙ sym (rest_lines-unit w used unit (lined_pieces atoms))
 
 -- from the beginning: the lines of the greedy cutting
-pub lines_after-start : (w : ℕ) (atoms : List Atom) → lines_after w None (map measure_of atoms) ≡ length (joined (greedy_cut w atoms))
+pub lines_after-start : (w : ℕ) (atoms : List Atom) → lines_after w None (map measure_of atoms) ≡ length
+    (joined (greedy_cut w atoms))
 lines_after-start w atoms = lines_after-is w None atoms

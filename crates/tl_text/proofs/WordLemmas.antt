@@ -1,5 +1,6 @@
 -- The words of a text, read from the left.
-use Rattle.std.proofs.Common.{◌≡◌, ℕ, ◌+◌, ◌<◌, Bool, true, false, cond, List, [], ◌∷◌, ◌++◌, length, filter, refl, ap, sym, ◌∙◌, append_assoc, arith}
+use Rattle.std.proofs.Common.{◌≡◌, ℕ, ◌+◌, ◌<◌, Bool, true, false, cond, List, [], ◌∷◌, ◌++◌, length, filter, refl, ap, sym, ◌∙◌}
+use Rattle.std.proofs.Common.{append_assoc, arith}
 use Rattle.std.proofs.Common.{get_or, drop, not, ◌==◌}
 use Rattle.std.specs.List.{slice_split, onto_first}
 use Rattle.std.specs.Char.{is_ascii_whitespace}
@@ -29,11 +30,13 @@ pub words_from-start : (rest : List ℕ) → words_from [] rest ≡ words_of res
 words_from-start rest = words_from-nil (slice_split is_ascii_whitespace rest)
 
 -- a character of the open word
-prepend-onto_first : (word : List ℕ) (c : ℕ) (parts : List (List ℕ)) → prepend word (onto_first c parts) ≡ prepend (word ++ c ∷ []) parts
+prepend-onto_first : (word : List ℕ) (c : ℕ) (parts : List (List ℕ)) →
+    prepend word (onto_first c parts) ≡ prepend (word ++ c ∷ []) parts
 prepend-onto_first word c [] = refl
 prepend-onto_first word c (part ∷ parts) = ap (λ (first : List ℕ). first ∷ parts) (sym (append_assoc word (c ∷ []) part))
 
-pub words_from-letter : (word rest : List ℕ) (c : ℕ) → is_ascii_whitespace c ≡ false → words_from word (c ∷ rest) ≡ words_from (word ++ c ∷ []) rest
+pub words_from-letter : (word rest : List ℕ) (c : ℕ) → is_ascii_whitespace c ≡ false →
+    words_from word (c ∷ rest) ≡ words_from (word ++ c ∷ []) rest
 words_from-letter word rest c letter =
     ap (λ parts. filter has_character (prepend word parts)) (slice_split-cons_no is_ascii_whitespace c rest letter)
     ∙ ap (λ parts. filter has_character parts) (prepend-onto_first word c (slice_split is_ascii_whitespace rest))
@@ -55,7 +58,8 @@ kept true word later = refl
 kept false word later = refl
 
 -- one more character, at the place after those that were read
-module _ (list : List (List ℕ)) (cs y : List ℕ) (c : ℕ) (word : List ℕ) (turn : (length y < length cs) × (c ≡ get_or cs (length y) c))
+module _ (list : List (List ℕ)) (cs y : List ℕ) (c : ℕ) (word : List ℕ)
+    (turn : (length y < length cs) × (c ≡ get_or cs (length y) c))
     (so_far : list ++ words_from word (drop (length y) cs) ≡ words_of cs) where
   rest : drop (length y) cs ≡ c ∷ drop (length (y ++ c ∷ [])) cs
   rest = at_drop_more (λ l. l) cs (length y) c turn.0 ∙ ap (λ first. first ∷ drop (length y + 1) cs) (sym turn.1)
@@ -65,22 +69,28 @@ module _ (list : List (List ℕ)) (cs y : List ℕ) (c : ℕ) (word : List ℕ) 
   known = ap (λ l. list ++ words_from word l) (sym rest) ∙ so_far
 
   -- a letter goes on with the open word
-  pub after_letter : is_ascii_whitespace c ≡ false → list ++ words_from (word ++ c ∷ []) (drop (length (y ++ c ∷ [])) cs) ≡ words_of cs
-  after_letter letter = ap (λ words. list ++ words) (sym (words_from-letter word (drop (length (y ++ c ∷ [])) cs) c letter)) ∙ known
+  pub after_letter : is_ascii_whitespace c ≡ false → list ++ words_from (word ++ c ∷ [])
+      (drop (length (y ++ c ∷ [])) cs) ≡ words_of cs
+  after_letter letter =
+      ap (λ words. list ++ words) (sym (words_from-letter word (drop (length (y ++ c ∷ [])) cs) c letter)) ∙ known
 
   -- white space ends the open word, if it has a character
-  pub after_white : is_ascii_whitespace c ≡ true → (list ++ filter has_character (word ∷ [])) ++ words_from [] (drop (length (y ++ c ∷ [])) cs)
+  pub after_white : is_ascii_whitespace c ≡ true → (list ++ filter has_character (word ∷ [])) ++ words_from []
+      (drop (length (y ++ c ∷ [])) cs)
       ≡ words_of cs
   after_white white =
       let later = words_from [] (drop (length (y ++ c ∷ [])) cs) in
       append_assoc list (filter has_character (word ∷ [])) later
-      ∙ ap (λ words. list ++ words) (kept (has_character word) word later ∙ sym (words_from-white word (drop (length (y ++ c ∷ [])) cs) c white))
+      ∙ ap (λ words. list ++ words) (kept (has_character word) word later ∙ sym
+      (words_from-white word (drop (length (y ++ c ∷ [])) cs) c white))
       ∙ known
 
 -- nothing is left: the open word is the last
-module _ (list : List (List ℕ)) (cs y word : List ℕ) (all : length y ≡ length cs) (so_far : list ++ words_from word (drop (length y) cs) ≡ words_of cs) where
+module _ (list : List (List ℕ)) (cs y word : List ℕ) (all : length y ≡ length cs)
+    (so_far : list ++ words_from word (drop (length y) cs) ≡ words_of cs) where
   pub at_end : list ++ filter has_character (word ∷ []) ≡ words_of cs
-  at_end = ap (λ words. list ++ words) (sym (words_from-end word) ∙ ap (λ l. words_from word l) (sym (drop_all (length y) cs (omega arith)))) ∙ so_far
+  at_end = ap (λ words. list ++ words) (sym (words_from-end word) ∙ ap (λ l. words_from word l)
+      (sym (drop_all (length y) cs (omega arith)))) ∙ so_far
 
 -- whether a text has a character, by its bytes
 pub has_character-chars : (bytes : List ℕ) → IsUtf8 bytes → has_character (chars bytes) ≡ not (length bytes == 0)

@@ -1,5 +1,6 @@
 -- The words of a text are a paragraph, where there is one and the text is within the limit.
-use Rattle.std.proofs.Common.{◌≡◌, ℕ, ◌+◌, ◌<◌, ◌≤◌, Bool, true, false, cond, ◌||◌, List, [], ◌∷◌, length, map, filter, sum_by, refl, arith}
+use Rattle.std.proofs.Common.{◌≡◌, ℕ, ◌+◌, ◌<◌, ◌≤◌, Bool, true, false, cond, ◌||◌, List, [], ◌∷◌, length, map, filter, sum_by}
+use Rattle.std.proofs.Common.{refl, arith}
 use Rattle.std.specs.List.{AllByRecursion, list_any, slice_split, onto_first}
 use Rattle.std.specs.Char.{is_ascii_whitespace, encode_utf8}
 use Rattle.std.proofs.lemmas.List.{length-map}
@@ -20,11 +21,13 @@ abbrev IsClean : List ℕ → Type 0
 IsClean part = list_any is_ascii_whitespace part ≡ false
 
 -- one more character that is no white space
-clean_more : (c : ℕ) (parts : List (List ℕ)) → is_ascii_whitespace c ≡ false → AllByRecursion IsClean parts → AllByRecursion IsClean (onto_first c parts)
+clean_more : (c : ℕ) (parts : List (List ℕ)) → is_ascii_whitespace c ≡ false → AllByRecursion IsClean parts →
+    AllByRecursion IsClean (onto_first c parts)
 clean_more c [] solid clean = (rw solid, tt)
 clean_more c (part ∷ parts) solid clean = (rw solid clean.0, clean.1)
 
-size_more : (c : ℕ) (parts : List (List ℕ)) → sum_by byte_count (onto_first c parts) ≡ length (encode_utf8 c) + sum_by byte_count parts
+size_more : (c : ℕ) (parts : List (List ℕ)) → sum_by byte_count (onto_first c parts) ≡ length
+    (encode_utf8 c) + sum_by byte_count parts
 size_more c [] = omega (arith, byte_count-cons c [])
 size_more c (part ∷ parts) =
     omega (arith, byte_count-cons c part, sum_by-cons byte_count (c ∷ part) parts, sum_by-cons byte_count part parts)
@@ -34,10 +37,18 @@ abbrev AreParts : List ℕ → List (List ℕ) → Type 0
 AreParts text parts = AllByRecursion IsClean parts × (sum_by byte_count parts ≤ byte_count text)
 
 -- one more character before it
-parts_more : (c : ℕ) (text : List ℕ) (white : Bool) → is_ascii_whitespace c ≡ white → AreParts text (slice_split is_ascii_whitespace text) →
+parts_more : (c : ℕ) (text : List ℕ) (white : Bool) → is_ascii_whitespace c ≡ white →
+    AreParts text (slice_split is_ascii_whitespace text) →
     AreParts (c ∷ text) (slice_split is_ascii_whitespace (c ∷ text))
-parts_more c text true is parts = rw (slice_split-cons_yes is_ascii_whitespace c text is)
-    ((refl, parts.0), omega (arith, parts.1, byte_count-cons c text, sum_by-cons byte_count [] (slice_split is_ascii_whitespace text)))
+parts_more c text true is parts = rw (slice_split-cons_yes is_ascii_whitespace c text is) (
+  (refl, parts.0),
+  omega (
+    arith,
+    parts.1,
+    byte_count-cons c text,
+    sum_by-cons byte_count [] (slice_split is_ascii_whitespace text),
+  ),
+)
 parts_more c text false is parts = rw (slice_split-cons_no is_ascii_whitespace c text is) (
   clean_more c (slice_split is_ascii_whitespace text) is parts.0,
   omega (arith, parts.1, byte_count-cons c text, size_more c (slice_split is_ascii_whitespace text)),
@@ -98,12 +109,14 @@ begun_words [] = refl
 begun_words (word ∷ words) = begun_more word (lined_pieces (map Word words)) (begun_words words)
 
 -- the words of a text within the limit are a paragraph
-pub words_are_paragraph : (text : List ℕ) → byte_count text ≤ MAX_FILE_BYTES → 0 < length (words_of text) → IsParagraph (map Word (words_of text))
+pub words_are_paragraph : (text : List ℕ) → byte_count text ≤ MAX_FILE_BYTES → 0 < length (words_of text) →
+    IsParagraph (map Word (words_of text))
 words_are_paragraph text small some =
     let parts = parts_of text in
     record {
       has_atom = grind (arith, length-map);
       begun = begun_words (words_of text);
-      spelt = All-from_recursion IsSpelt (map Word (words_of text)) (spelt_words (words_of text) (solid_words (slice_split is_ascii_whitespace text) parts.0));
+      spelt = All-from_recursion IsSpelt (map Word (words_of text))
+          (spelt_words (words_of text) (solid_words (slice_split is_ascii_whitespace text) parts.0));
       size = omega (arith, atoms_size (words_of text), words_size (slice_split is_ascii_whitespace text), parts.1);
     }

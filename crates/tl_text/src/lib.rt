@@ -9,8 +9,6 @@ mod measure;
 mod minimal;
 mod paragraph;
 mod ranges;
-#[cfg(test)]
-mod tests;
 mod word;
 
 pub use clusters::part;

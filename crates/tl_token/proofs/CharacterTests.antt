@@ -1,5 +1,6 @@
 -- What tests of characters say of one another.
-use Rattle.std.proofs.Common.{◌≡◌, ◌≢◌, ℕ, Bool, true, false, not, ◌||◌, ◌⊎◌, List, [], ◌∷◌, ◌++◌, refl, sym, ◌∙◌, subst, inl, inr, eqb, cond, append_assoc}
+use Rattle.std.proofs.Common.{◌≡◌, ◌≢◌, ℕ, Bool, true, false, not, ◌||◌, ◌⊎◌, List, [], ◌∷◌, ◌++◌, refl, sym, ◌∙◌, subst, inl}
+use Rattle.std.proofs.Common.{inr, eqb, cond, append_assoc}
 use Rattle.std.proofs.lemmas.Bool.{eqb-true, false≢true}
 use Rattle.tl_base.specs.Lists.{is_among}
 use Rattle.tl_token.specs.Characters.{begins}
@@ -73,6 +74,7 @@ pub eats_true : (c : ℕ) (b : Bool) (old new : List ℕ) → b ≡ true → Eat
 eats_true c true old new e h = h
 eats_true c false old new e h = absurd (false≢true e)
 
-pub eats_false : (c : ℕ) (b : Bool) (old new : List ℕ) → b ≡ false → Eats c b old new → (new ≡ old) × (begins (λ d. eqb d c) old ≡ false)
+pub eats_false : (c : ℕ) (b : Bool) (old new : List ℕ) → b ≡ false → Eats c b old new →
+    (new ≡ old) × (begins (λ d. eqb d c) old ≡ false)
 eats_false c true old new e h = absurd (false≢true (sym e))
 eats_false c false old new e h = h

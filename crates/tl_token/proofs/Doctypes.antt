@@ -1,11 +1,13 @@
 -- What is read as a doctype is one of the grammar, and what is no prefix of one is none.
-use Rattle.std.proofs.Common.{◌≡◌, ◌≢◌, ℕ, Bool, true, false, ◌&&◌, List, [], ◌∷◌, ◌++◌, Option, Some, None, refl, sym, ap, ◌∙◌, subst, inl, inr, eqb}
+use Rattle.std.proofs.Common.{◌≡◌, ◌≢◌, ℕ, Bool, true, false, ◌&&◌, List, [], ◌∷◌, ◌++◌, Option, Some, None, refl, sym, ap, ◌∙◌}
+use Rattle.std.proofs.Common.{subst, inl, inr, eqb}
 use Rattle.std.proofs.Common.{cond, append_assoc}
 use Rattle.std.proofs.lemmas.Bool.{false≢true, and_parts, and_from}
 use Rattle.std.specs.Prelude.{codes}
 use Rattle.std.specs.Char.{to_ascii_lowercase}
 use Rattle.tl_token.specs.Elements.{is_word}
-use Rattle.tl_token.specs.Grammar.{past_first, hidden, tag, character, unended_tag, unended_comment, bad_tag, unknown_element, bad_reference, bad_character}
+use Rattle.tl_token.specs.Grammar.{past_first, hidden, tag, character, unended_tag, unended_comment, bad_tag, unknown_element}
+use Rattle.tl_token.specs.Grammar.{bad_reference, bad_character}
 use Rattle.tl_token.specs.inner.Reading.{Found, stands, faulty, closed_or, in_doctype, doctype_word}
 use Rattle.tl_token.proofs.CharacterTests.{chosen, cases_bool, clash}
 
@@ -26,7 +28,8 @@ mark_at_end (c ∷ cs) h = elim (chosen (λ (o : Option (List ℕ)). o ≡ None)
 ]
 
 -- what follows the first `>` goes on with more text
-pub mark_and_more : (cs rest more : List ℕ) → past_first (codes ">") cs ≡ Some rest → past_first (codes ">") (cs ++ more) ≡ Some (rest ++ more)
+pub mark_and_more : (cs rest more : List ℕ) → past_first (codes ">") cs ≡ Some rest →
+    past_first (codes ">") (cs ++ more) ≡ Some (rest ++ more)
 mark_and_more [] rest more h = cc
 mark_and_more (c ∷ cs) rest more h = elim (chosen (λ (o : Option (List ℕ)). o ≡ Some rest) (eqb c 62 && true) _ _ h) [
   | inl e ↦
@@ -35,7 +38,8 @@ mark_and_more (c ∷ cs) rest more h = elim (chosen (λ (o : Option (List ℕ)).
   | inr e ↦ ap (λ b. cond b (Some (cs ++ more)) (past_first (codes ">") (cs ++ more))) (e.0) ∙ mark_and_more cs rest more (e.1)
 ]
 
-Worded-more : (w cs rest : List ℕ) (c d : ℕ) → eqb (to_ascii_lowercase c) d ≡ true → Worded w cs rest → Worded (d ∷ w) (c ∷ cs) rest
+Worded-more : (w cs rest : List ℕ) (c d : ℕ) → eqb (to_ascii_lowercase c) d ≡ true → Worded w cs rest →
+    Worded (d ∷ w) (c ∷ cs) rest
 Worded-more w cs rest c d e k = record {
   word = c ∷ k.word;
   inside = k.inside;
@@ -44,16 +48,20 @@ Worded-more w cs rest c d e k = record {
   closed = k.closed;
 }
 
-Worded-less : (w cs rest : List ℕ) (c d : ℕ) → Worded (d ∷ w) (c ∷ cs) rest → (eqb (to_ascii_lowercase c) d ≡ true) × Worded w cs rest
+Worded-less : (w cs rest : List ℕ) (c d : ℕ) → Worded (d ∷ w) (c ∷ cs) rest →
+    (eqb (to_ascii_lowercase c) d ≡ true) × Worded w cs rest
 Worded-less w cs rest c d k = from (k.word) (k.opened) (k.named)
   where
-    from : (word : List ℕ) → c ∷ cs ≡ word ++ k.inside → is_word word (d ∷ w) ≡ true → (eqb (to_ascii_lowercase c) d ≡ true) × Worded w cs rest
+    from : (word : List ℕ) → c ∷ cs ≡ word ++ k.inside → is_word word (d ∷ w) ≡ true →
+        (eqb (to_ascii_lowercase c) d ≡ true) × Worded w cs rest
     from [] opened named = absurd (false≢true named)
     from (e ∷ word) opened named =
         let same : e ≡ c = cc in
         let later : cs ≡ word ++ k.inside = cc in
-        let (head, others) = and_parts _ _ named in
-        (ap (λ x. eqb (to_ascii_lowercase x) d) (sym same) ∙ head, record { word = word; inside = k.inside; opened = later; named = others; closed = k.closed })
+        let (head, others) = and_parts _ _ named in (
+          ap (λ x. eqb (to_ascii_lowercase x) d) (sym same) ∙ head,
+          record { word = word; inside = k.inside; opened = later; named = others; closed = k.closed },
+        )
 
 -- what follows the `<!`, where the rest w of the word is to come
 abbrev pub WordIs : Found → List ℕ → List ℕ → Type 0
@@ -68,10 +76,22 @@ WordIs (faulty bad_reference) w cs = ⊥
 WordIs (faulty bad_character) w cs = ⊥
 
 closed_word : (cs : List ℕ) (o : Option (List ℕ)) → past_first (codes ">") cs ≡ o → WordIs (closed_or unended_tag o) [] cs
-closed_word cs None h = (codes ">", (λ e. cc), record { word = []; inside = cs ++ codes ">"; opened = refl; named = refl; closed = mark_at_end cs h })
+closed_word cs None h = (
+  codes ">",
+  (λ e. cc),
+  record {
+    word = [];
+    inside = cs ++ codes ">";
+    opened = refl;
+    named =
+        refl;
+    closed = mark_at_end cs h;
+  },
+)
 closed_word cs (Some rest) h = record { word = []; inside = cs; opened = refl; named = refl; closed = h }
 
-more_word : (found : Found) (w cs : List ℕ) (c d : ℕ) → eqb (to_ascii_lowercase c) d ≡ true → WordIs found w cs → WordIs found (d ∷ w) (c ∷ cs)
+more_word : (found : Found) (w cs : List ℕ) (c d : ℕ) → eqb (to_ascii_lowercase c) d ≡ true → WordIs found w cs →
+    WordIs found (d ∷ w) (c ∷ cs)
 more_word (stands hidden rest) w cs c d e k = Worded-more w cs rest c d e k
 more_word (stands (tag kind) rest) w cs c d e k = k
 more_word (stands (character a) rest) w cs c d e k = k
@@ -113,7 +133,8 @@ word_whole (d ∷ w) (c ∷ cs) rest k =
     ap (λ b. cond b (doctype_word w cs) (faulty bad_tag)) head ∙ word_whole w cs rest others
 
 -- where more text makes it whole, it did not end
-pub word_unended : (w cs more : List ℕ) → is_word w w ≡ true → more ≢ [] → Worded w (cs ++ more) [] → doctype_word w cs ≡ faulty unended_tag
+pub word_unended : (w cs more : List ℕ) → is_word w w ≡ true → more ≢ [] → Worded w (cs ++ more) [] →
+    doctype_word w cs ≡ faulty unended_tag
 word_unended w cs more small some k = from (doctype_word w cs) refl (word_is w cs small)
   where
     none : (xs : List ℕ) → xs ++ more ≡ [] → ⊥

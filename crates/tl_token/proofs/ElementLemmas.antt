@@ -1,5 +1,6 @@
 -- A name compared with a lowercase word, as bytes and as characters.
-use Rattle.std.proofs.Common.{◌≡◌, ℕ, zero, suc, ◌<◌, ◌≤◌, Bool, true, ◌||◌, List, [], ◌∷◌, refl, sym, ap, ◌∙◌, subst, inl, inr, map, arith}
+use Rattle.std.proofs.Common.{◌≡◌, ℕ, zero, suc, ◌<◌, ◌≤◌, Bool, true, ◌||◌, List, [], ◌∷◌, refl, sym, ap, ◌∙◌, subst, inl, inr}
+use Rattle.std.proofs.Common.{map, arith}
 use Rattle.std.proofs.lemmas.Bool.{and_parts}
 use Rattle.std.proofs.lemmas.Bool.Decides.{nat_tests}
 use Rattle.std.proofs.lemmas.Str.{chars-IsAscii, encodes-IsAscii, encodes-chars}
@@ -21,7 +22,8 @@ small_letter c h = (grind (arith, nat_tests, h), grind (arith, nat_tests, h))
 small_is : (c : ℕ) → (is_ascii_lowercase c || c ∈ "-") ≡ true → (c < 128) × (to_ascii_lowercase c ≡ c)
 small_is c h = elim (or_cases (is_ascii_lowercase c) (c ∈ "-") h) [
   | inl s ↦ small_letter c s
-  | inr d ↦ let P : ℕ → Type 0 = λ x. (x < 128) × (to_ascii_lowercase x ≡ x) in subst P (sym (is_it c 45 (d.1))) (omega arith, refl)
+  | inr d ↦ let P : ℕ → Type 0 = λ x. (x < 128) × (to_ascii_lowercase x ≡ x) in
+      subst P (sym (is_it c 45 (d.1))) (omega arith, refl)
 ]
 
 -- a lowercase word in lowercase is itself
@@ -51,13 +53,15 @@ ascii_small : (w : List ℕ) → is_lowercase w ≡ true → IsAscii w
 ascii_small w h = ascii_from_lower w w h (small_lower w h)
 
 -- as bytes and as characters
-pub word_bytes : (bs w : List ℕ) → IsUtf8 bs → is_lowercase w ≡ true → map to_ascii_lowercase (chars bs) ≡ w → map to_ascii_lowercase bs
+pub word_bytes : (bs w : List ℕ) → IsUtf8 bs → is_lowercase w ≡ true → map to_ascii_lowercase (chars bs) ≡ w →
+    map to_ascii_lowercase bs
     ≡ map to_ascii_lowercase w
 word_bytes bs w u h e =
     let same : chars bs ≡ bs = sym (encodes-IsAscii (chars bs) (ascii_from_lower (chars bs) w h e)) ∙ encodes-chars bs u in
     ap (map to_ascii_lowercase) (sym same) ∙ e ∙ sym (small_lower w h)
 
-pub word_characters : (bs w : List ℕ) → is_lowercase w ≡ true → map to_ascii_lowercase bs ≡ map to_ascii_lowercase w → map to_ascii_lowercase (chars bs) ≡ w
+pub word_characters : (bs w : List ℕ) → is_lowercase w ≡ true → map to_ascii_lowercase bs ≡ map to_ascii_lowercase w →
+    map to_ascii_lowercase (chars bs) ≡ w
 word_characters bs w h e =
     let k = e ∙ small_lower w h in
     ap (map to_ascii_lowercase) (chars-IsAscii bs (ascii_from_lower bs w h k)) ∙ k

@@ -35,7 +35,8 @@ one_way size cs _ _ here k = from k refl
   where
     from : {ds : List ℕ} {qs : List Part} → Leads size ds qs [] → ds ≡ [] → [] ≡ qs
     from here e = refl
-    from (next {mid = mid} piece s later) e = let P : List ℕ → Type 0 = λ x. Stands x piece mid in absurd (nothing_at_end piece mid (subst P e s))
+    from (next {mid = mid} piece s later) e = let P : List ℕ → Type 0 = λ x. Stands x piece mid in
+        absurd (nothing_at_end piece mid (subst P e s))
 one_way size cs _ qs (next {mid = mid} {parts = ps} p h later) k =
     from k refl (λ last rs same l. one_way size mid ps rs later (subst (λ (x : List ℕ). Leads size x rs []) (sym same) l))
   where
@@ -50,17 +51,21 @@ one_way size cs _ qs (next {mid = mid} {parts = ps} p h later) k =
         λ i. record { piece = same i; first = place_of size (sym e i); past = place_of size (mids i) } ∷ others i
 
 -- where pieces lead to the end, no pieces lead to a fault
-pub whole_or_broken : (size : ℕ) (cs rest : List ℕ) (ps qs : List Part) (fault : Fault) → Leads size cs ps [] → Leads size cs qs rest
+pub whole_or_broken : (size : ℕ) (cs rest : List ℕ) (ps qs : List Part) (fault : Fault) → Leads size cs ps [] →
+    Leads size cs qs rest
     → FaultStands fault rest → ⊥
 whole_or_broken size cs rest _ qs fault here k broken = from k refl
   where
     from : {ds : List ℕ} {qs : List Part} → Leads size ds qs rest → ds ≡ [] → ⊥
     from here e = let P : List ℕ → Type 0 = λ x. FaultStands fault x in no_fault_at_end fault (subst P e broken)
-    from (next {mid = mid} piece s later) e = let P : List ℕ → Type 0 = λ x. Stands x piece mid in nothing_at_end piece mid (subst P e s)
+    from (next {mid = mid} piece s later) e = let P : List ℕ → Type 0 = λ x. Stands x piece mid in
+        nothing_at_end piece mid (subst P e s)
 whole_or_broken size cs rest _ qs fault (next {mid = mid} {parts = ps} p h later) k broken =
-    from k refl (λ last rs same l. whole_or_broken size mid rest ps rs fault later (subst (λ (x : List ℕ). Leads size x rs rest) (sym same) l) broken)
+    from k refl (λ last rs same l. whole_or_broken size mid rest ps rs fault later
+    (subst (λ (x : List ℕ). Leads size x rs rest) (sym same) l) broken)
   where
-    from : {ds : List ℕ} {qs : List Part} → Leads size ds qs rest → ds ≡ cs → ((last : List ℕ) (rs : List Part) → mid ≡ last → Leads size last rs rest → ⊥) → ⊥
+    from : {ds : List ℕ} {qs : List Part} → Leads size ds qs rest → ds ≡ cs →
+        ((last : List ℕ) (rs : List Part) → mid ≡ last → Leads size last rs rest → ⊥) → ⊥
     from here e ih = let P : List ℕ → Type 0 = λ x. FaultStands fault x in no_piece_at_fault cs p mid fault h (subst P e broken)
     from (next {cs = ds} {mid = last} {parts = rs} q s l) e ih =
         let P : List ℕ → Type 0 = λ x. Stands x q last in
@@ -77,10 +82,12 @@ one_break size cs _ last _ qs f g here broken k other = from k refl other
     from (next {cs = ds} {mid = mid} piece s later) e o =
         let P : List ℕ → Type 0 = λ x. Stands x piece mid in absurd (no_piece_at_fault cs piece mid f (subst P e s) broken)
 one_break size cs rest last _ qs f g (next {mid = mid} {parts = ps} p h later) broken k other =
-    from k refl other (λ after rs same l o. one_break size mid rest last ps rs f g later broken (subst (λ (x : List ℕ). Leads size x rs last) (sym same) l) o)
+    from k refl other (λ after rs same l o. one_break size mid rest last ps rs f g later broken
+    (subst (λ (x : List ℕ). Leads size x rs last) (sym same) l) o)
   where
     from : {ds : List ℕ} {qs : List Part} → Leads size ds qs last → ds ≡ cs → FaultStands g last
-        → ((after : List ℕ) (rs : List Part) → mid ≡ after → Leads size after rs last → FaultStands g last → (f ≡ g) × (rest ≡ last)) → (f ≡ g) × (rest ≡ last)
+        → ((after : List ℕ) (rs : List Part) → mid ≡ after → Leads size after rs last → FaultStands g last →
+        (f ≡ g) × (rest ≡ last)) → (f ≡ g) × (rest ≡ last)
     from here e o ih = let P : List ℕ → Type 0 = λ x. FaultStands g x in absurd (no_piece_at_fault cs p mid g h (subst P e o))
     from (next {cs = ds} {mid = after} {parts = rs} q s l) e o ih =
         let P : List ℕ → Type 0 = λ x. Stands x q after in
@@ -90,4 +97,5 @@ one_break size cs rest last _ qs f g (next {mid = mid} {parts = ps} p h later) b
 pub leads_more : (size : ℕ) (cs mid rest : List ℕ) (ps : List Part) (piece : Piece) → Leads size cs ps mid → Stands mid piece rest
     → Leads size cs (ps ++ record { piece = piece; first = place_of size mid; past = place_of size rest } ∷ []) rest
 leads_more size cs _ rest _ piece here s = next piece s here
-leads_more size cs mid rest _ piece (next {mid = ds} {parts = ps} p h later) s = next p h (leads_more size ds mid rest ps piece later s)
+leads_more size cs mid rest _ piece (next {mid = ds} {parts = ps} p h later) s =
+    next p h (leads_more size ds mid rest ps piece later s)

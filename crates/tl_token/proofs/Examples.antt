@@ -5,20 +5,27 @@ use Rattle.std.specs.Str.{chars}
 use lib.Utf8.{encode}
 use Rattle.tl_token.specs.Numbers.{number_of, columns_of, rows_of, floor_of}
 use Rattle.tl_token.specs.Elements.{element_of}
-use Rattle.tl_token.specs.Grammar.{past_first, Comment, unquoted, quoted, end, gap, attribute, IsTag, reference, hidden, character, plain}
+use Rattle.tl_token.specs.Grammar.{past_first, Comment, unquoted, quoted, end, gap, attribute, IsTag, reference, hidden}
+use Rattle.tl_token.specs.Grammar.{character, plain}
 use Rattle.tl_token.specs.Grammar.{by_reference, bad_character, IsUnendedTag}
 use Rattle.tl_token.specs.Spelling.{here, next, token, tokens_of, SpellsTokens, FirstFault}
 use Rattle.tl_token.specs.declared.token.Element.TheVariants.{Td}
 use Rattle.tl_token.specs.declared.token.TokenKind.TheVariants.{Text}
 
 -- `<td a=b/>`: a value without quotes is as long as it can be, so the `/` is its own
-slash_in_value : IsTag (codes "<td a=b/>") (record { is_end = false; name = codes "td"; attributes = record { name = codes "a"; value = codes "b/" } ∷ [] }) []
+slash_in_value : IsTag (codes "<td a=b/>") (record {
+  is_end = false;
+  name = codes "td";
+  attributes =
+      record { name = codes "a"; value = codes "b/" } ∷ [];
+}) []
 slash_in_value = record {
   following = codes " a=b/>";
   spelled = refl;
   named = (refl, (refl, tt));
   separated = refl;
-  attributes = gap refl (attribute (λ e. cc) (refl, tt) refl (unquoted [] [] tt tt (λ e. cc) (refl, (refl, tt)) refl refl) (end refl));
+  attributes = gap refl (attribute (λ e. cc) (refl, tt) refl (unquoted [] [] tt tt (λ e. cc) (refl, (refl, tt)) refl refl)
+      (end refl));
 }
 
 -- `</td a = "/">x`: an end tag may have attributes, and what is in quotes is the value
@@ -29,7 +36,8 @@ quoted_slash = record {
   spelled = refl;
   named = (refl, (refl, tt));
   separated = refl;
-  attributes = gap refl (attribute (λ e. cc) (refl, tt) refl (quoted 34 refl (codes " ") (codes " ") (refl, tt) (refl, tt) (refl, tt) refl) (end refl));
+  attributes = gap refl (attribute (λ e. cc) (refl, tt) refl
+      (quoted 34 refl (codes " ") (codes " ") (refl, tt) (refl, tt) (refl, tt) refl) (end refl));
 }
 
 -- a `<` at the end is a prefix of `<a>`

@@ -8,7 +8,8 @@ use Rattle.tl_token.specs.inner.Found.{number_in, number_after, given_of, given_
 use Rattle.tl_token.proofs.Saturating.{columns_below, rows_below, floor_below}
 
 -- one more attribute counts where no attribute of its name stands before it
-pub number_in-push : (word : List ℕ) (all : List Attribute) (a : Attribute) → number_in word (all ++ a ∷ []) ≡ number_after (number_in word all) word a
+pub number_in-push : (word : List ℕ) (all : List Attribute) (a : Attribute) →
+    number_in word (all ++ a ∷ []) ≡ number_after (number_in word all) word a
 number_in-push word [] a = by_test (is_word (a.name) word)
   where
     by_test : (b : Bool) → option_map (λ v. option_map (λ n. min n 4294967295) (number_of v)) (cond b (Some (a.value)) None)
@@ -21,21 +22,26 @@ number_in-push word (d ∷ all) a = by_test (is_word (d.name) word) (number_in-p
     as_number o = option_map (λ v. option_map (λ n. min n 4294967295) (number_of v)) o
 
     by_test : (b : Bool) → number_in word (all ++ a ∷ []) ≡ number_after (number_in word all) word a
-        → option_map (λ v. option_map (λ n. min n 4294967295) (number_of v)) (cond b (Some (d.value)) (value_of word (all ++ a ∷ [])))
-        ≡ number_after (option_map (λ v. option_map (λ n. min n 4294967295) (number_of v)) (cond b (Some (d.value)) (value_of word all))) word a
+        → option_map (λ v. option_map (λ n. min n 4294967295) (number_of v))
+        (cond b (Some (d.value)) (value_of word (all ++ a ∷ [])))
+        ≡ number_after (option_map (λ v. option_map (λ n. min n 4294967295) (number_of v))
+        (cond b (Some (d.value)) (value_of word all))) word a
     by_test true h = refl
     by_test false h = h
 
 -- what the number of an attribute gives
-pub columns_in : (word : List ℕ) (all : List Attribute) → columns_of (unwrap_or (number_in word all) None) ≡ columns_of (attribute_number word all)
+pub columns_in : (word : List ℕ) (all : List Attribute) → columns_of (unwrap_or (number_in word all) None) ≡ columns_of
+    (attribute_number word all)
 columns_in word all = from (value_of word all)
   where
-    from : (o : Option (List ℕ)) → columns_of (unwrap_or (option_map (λ v. option_map (λ n. min n 4294967295) (number_of v)) o) None)
+    from : (o : Option (List ℕ)) →
+        columns_of (unwrap_or (option_map (λ v. option_map (λ n. min n 4294967295) (number_of v)) o) None)
         ≡ columns_of (option_and_then number_of o)
     from None = refl
     from (Some v) = columns_below (number_of v)
 
-pub rows_in : (word : List ℕ) (all : List Attribute) → rows_of (unwrap_or (number_in word all) None) ≡ rows_of (attribute_number word all)
+pub rows_in : (word : List ℕ) (all : List Attribute) → rows_of (unwrap_or (number_in word all) None) ≡ rows_of
+    (attribute_number word all)
 rows_in word all = from (value_of word all)
   where
     from : (o : Option (List ℕ)) → rows_of (unwrap_or (option_map (λ v. option_map (λ n. min n 4294967295) (number_of v)) o) None)
@@ -43,10 +49,12 @@ rows_in word all = from (value_of word all)
     from None = refl
     from (Some v) = rows_below (number_of v)
 
-pub floor_in : (word : List ℕ) (all : List Attribute) → floor_of (unwrap_or (number_in word all) None) ≡ floor_of (attribute_number word all)
+pub floor_in : (word : List ℕ) (all : List Attribute) → floor_of (unwrap_or (number_in word all) None) ≡ floor_of
+    (attribute_number word all)
 floor_in word all = from (value_of word all)
   where
-    from : (o : Option (List ℕ)) → floor_of (unwrap_or (option_map (λ v. option_map (λ n. min n 4294967295) (number_of v)) o) None)
+    from : (o : Option (List ℕ)) →
+        floor_of (unwrap_or (option_map (λ v. option_map (λ n. min n 4294967295) (number_of v)) o) None)
         ≡ floor_of (option_and_then number_of o)
     from None = refl
     from (Some v) = floor_below (number_of v)

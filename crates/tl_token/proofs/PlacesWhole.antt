@@ -1,14 +1,18 @@
 -- The reader finds each piece and each fault of the grammar. So at most one stands at a place.
-use Rattle.std.proofs.Common.{◌≡◌, ◌≢◌, ℕ, Bool, true, false, ◌||◌, ◌⊎◌, List, [], ◌∷◌, ◌++◌, refl, sym, ap, ◌∙◌, subst, inl, inr, eqb, cond}
+use Rattle.std.proofs.Common.{◌≡◌, ◌≢◌, ℕ, Bool, true, false, ◌||◌, ◌⊎◌, List, [], ◌∷◌, ◌++◌, refl, sym, ap, ◌∙◌, subst, inl, inr}
+use Rattle.std.proofs.Common.{eqb, cond}
 use Rattle.std.proofs.lemmas.Bool.{false≢true}
 use Rattle.std.specs.Prelude.{codes}
 use Rattle.std.specs.Char.{is_ascii_alphabetic}
 use Rattle.tl_token.specs.Characters.{◌∈◌, is_control, opens_markup, begins}
 use Rattle.tl_token.specs.Elements.{Tag, element_of}
-use Rattle.tl_token.specs.Grammar.{Doctype, opening, IsTag, Piece, hidden, tag, character, Stands, comment, doctype, markup, by_reference, plain}
-use Rattle.tl_token.specs.Grammar.{Fault, unended_tag, unended_comment, bad_tag, unknown_element, bad_reference, bad_character, IsBadTag, FaultStands}
+use Rattle.tl_token.specs.Grammar.{Doctype, opening, IsTag, Piece, hidden, tag, character, Stands, comment, doctype, markup}
+use Rattle.tl_token.specs.Grammar.{by_reference, plain}
+use Rattle.tl_token.specs.Grammar.{Fault, unended_tag, unended_comment, bad_tag, unknown_element, bad_reference, bad_character}
+use Rattle.tl_token.specs.Grammar.{IsBadTag, FaultStands}
 use Rattle.tl_token.specs.inner.States.{tag_open, Outcome, reads, unended, wrong, read}
-use Rattle.tl_token.specs.inner.Reading.{Found, stands, faulty, closed_or, declaration, known_or_not, tag_found, angle, referred_or, standing}
+use Rattle.tl_token.specs.inner.Reading.{Found, stands, faulty, closed_or, declaration, known_or_not, tag_found, angle}
+use Rattle.tl_token.specs.inner.Reading.{referred_or, standing}
 use Rattle.tl_token.specs.declared.token.TokenKind.{TokenKind}
 use Rattle.tl_token.proofs.CharacterTests.{cases_bool, clash, is_it, or_cases, or_false, or_left, not_true, excludes}
 use Rattle.tl_token.proofs.TagWhole.{tag_whole}
@@ -34,7 +38,8 @@ tag_first c cs t rest h = from (t.is_end) (h.spelled)
     from false k = cc
 
 -- after the `<` of a tag, what is read decides
-angle_tag : (d : ℕ) (cs : List ℕ) → (is_ascii_alphabetic d || d ∈ "/") ≡ true → angle (d ∷ cs) ≡ tag_found (read tag_open (d ∷ cs))
+angle_tag : (d : ℕ) (cs : List ℕ) → (is_ascii_alphabetic d || d ∈ "/") ≡ true →
+    angle (d ∷ cs) ≡ tag_found (read tag_open (d ∷ cs))
 angle_tag d cs h =
     second_of_two (d ∈ "!") _ _ (excludes (λ x. is_ascii_alphabetic x || x ∈ "/") d 33 refl h)
     ∙ first_of_two (opens_markup d) _ _ (opens (or_cases (is_ascii_alphabetic d) (d ∈ "/") h))
@@ -52,7 +57,8 @@ tag_standing c (d ∷ cs) more t rest h some =
     let P : ℕ → Type 0 = λ x. IsTag (x ∷ ((d ∷ cs) ++ more)) t rest in
     ap (λ x. standing x (d ∷ cs)) is ∙ angle_tag d cs (tag_second d (cs ++ more) t rest (subst P is h))
 
-tag_is_read : (c : ℕ) (cs : List ℕ) (t : Tag) (rest : List ℕ) → IsTag (c ∷ cs) t rest → standing c cs ≡ known_or_not t rest (element_of (t.name))
+tag_is_read : (c : ℕ) (cs : List ℕ) (t : Tag) (rest : List ℕ) → IsTag (c ∷ cs) t rest →
+    standing c cs ≡ known_or_not t rest (element_of (t.name))
 tag_is_read c [] t rest h =
     let P : ℕ → Type 0 = λ x. IsTag (x ∷ []) t rest in
     let e = tag_whole [] t rest (subst P (tag_first c [] t rest h) h) in
@@ -64,7 +70,8 @@ tag_is_read c (d ∷ cs) t rest h =
     ap (λ x. standing x (d ∷ cs)) is ∙ angle_tag d cs (tag_second d cs t rest k) ∙ ap tag_found (tag_whole (d ∷ cs) t rest k)
 
 -- each piece that stands at a place is found
-pub place_whole : (c : ℕ) (cs : List ℕ) (piece : Piece) (rest : List ℕ) → Stands (c ∷ cs) piece rest → standing c cs ≡ stands piece rest
+pub place_whole : (c : ℕ) (cs : List ℕ) (piece : Piece) (rest : List ℕ) → Stands (c ∷ cs) piece rest →
+    standing c cs ≡ stands piece rest
 place_whole c cs _ rest (comment k) =
     let e = k.opened in
     let is : c ≡ 60 = cc in
@@ -108,7 +115,8 @@ place_whole c cs _ _ (plain k) = elim (cases_bool (c ∈ "<")) [
         unmarked d h = (or_false (eqb d 33) _ ((or_false (eqb d 47) _ h).1)).0
 
 -- A proper prefix of a tag does not end.
-prefix_of_tag : (c : ℕ) (cs more : List ℕ) (t : Tag) → more ≢ [] → IsTag ((c ∷ cs) ++ more) t [] → standing c cs ≡ faulty unended_tag
+prefix_of_tag : (c : ℕ) (cs more : List ℕ) (t : Tag) → more ≢ [] → IsTag ((c ∷ cs) ++ more) t [] →
+    standing c cs ≡ faulty unended_tag
 prefix_of_tag c [] more t some h = ap (λ x. standing x []) (tag_first c more t [] h)
 prefix_of_tag c (d ∷ cs) more t some h =
     let P : ℕ → Type 0 = λ x. IsTag (x ∷ ((d ∷ cs) ++ more)) t [] in
@@ -133,7 +141,8 @@ prefix_of_doctype c (d ∷ cs) more some k =
     let mark : d ≡ 33 = cc in
     let P : ℕ → Type 0 = λ x. Doctype (x ∷ (d ∷ cs) ++ more) [] in
     let Q : ℕ → Type 0 = λ x. Doctype (60 ∷ ((x ∷ cs) ++ more)) [] in
-    ap (λ x. standing x (d ∷ cs)) is ∙ ap (λ x. standing 60 (x ∷ cs)) mark ∙ worded cs (worded_of (cs ++ more) [] (subst Q mark (subst P is k)))
+    ap (λ x. standing x (d ∷ cs)) is ∙ ap (λ x. standing 60 (x ∷ cs)) mark ∙ worded cs
+    (worded_of (cs ++ more) [] (subst Q mark (subst P is k)))
   where
     worded : (ds : List ℕ) → Worded (codes "doctype") (ds ++ more) [] → declaration ds ≡ faulty unended_tag
     worded [] w = refl
@@ -157,7 +166,8 @@ bad_is_found c cs (stands _ rest) bad (plain k) =
     let later : cs ≡ bad.second ∷ bad.after = cc in
     let P : ℕ → Type 0 = λ x. (x ∈ "<") ≡ true in
     let no = (k.1 (subst P (sym is) refl)).1 in
-    absurd (clash (opens_markup (bad.second)) (bad.opens) (sym (ap (begins opens_markup) later) ∙ not_true (begins opens_markup cs) no))
+    absurd (clash (opens_markup (bad.second)) (bad.opens) (sym (ap (begins opens_markup) later) ∙ not_true
+    (begins opens_markup cs) no))
 bad_is_found c cs (faulty unended_tag) bad k = absurd (bad.ended k)
 bad_is_found c cs (faulty unended_comment) bad k = absurd (bad.comment_ended k)
 bad_is_found c cs (faulty bad_tag) bad k = refl
@@ -195,7 +205,8 @@ fault_whole bad_character c cs k =
     let is : c ≡ k.0 = cc in
     let P : ℕ → Type 0 = λ x. is_control x ≡ true in
     let control = subst P (sym is) (k.3) in
-    second_of_two (c ∈ "<") _ _ (excludes is_control c 60 refl control) ∙ second_of_two (c ∈ "&") _ _ (excludes is_control c 38 refl control)
+    second_of_two (c ∈ "<") _ _ (excludes is_control c 60 refl control) ∙ second_of_two (c ∈ "&") _ _
+    (excludes is_control c 38 refl control)
     ∙ first_of_two (is_control c) _ _ control
 
 -- nothing stands at the end of the file

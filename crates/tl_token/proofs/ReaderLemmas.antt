@@ -1,8 +1,10 @@
 -- What a step over one character of a text leaves.
-use Rattle.std.proofs.Common.{◌≡◌, ℕ, Bool, true, false, ◌&&◌, List, [], ◌∷◌, ◌++◌, length, Option, Some, None, refl, sym, ap, ◌∙◌, arith}
+use Rattle.std.proofs.Common.{◌≡◌, ℕ, Bool, true, false, ◌&&◌, List, [], ◌∷◌, ◌++◌, length, Option, Some, None, refl, sym, ap}
+use Rattle.std.proofs.Common.{◌∙◌, arith}
 use Rattle.std.proofs.Common.{append_assoc, MatchOption, encode_utf8, take, drop, ◌-◌, length-append, subst}
 use Rattle.std.specs.Str.{chars, IsUtf8, IsCharBoundary}
-use Rattle.std.proofs.lemmas.Str.{IsCharBoundary-at_seam, chars-encodes, encodes-append, scalars-chars, chars-nil, chars_past_char, encodes-chars}
+use Rattle.std.proofs.lemmas.Str.{IsCharBoundary-at_seam, chars-encodes, encodes-append, scalars-chars, chars-nil}
+use Rattle.std.proofs.lemmas.Str.{chars_past_char, encodes-chars}
 use Rattle.std.proofs.lemmas.List.{append-nil, take_at}
 use Rattle.std.specs.declared.str.Chars.{Chars}
 use lib.Utf8.{encodes, scalars, scalar}
@@ -65,44 +67,54 @@ pub record Passed (test : ℕ → Bool) (whole prefix cs : List ℕ) : Type 0 wh
 pub Passed-none : (test : ℕ → Bool) (whole : List ℕ) → Passed test whole [] whole
 Passed-none test whole = record { whole_is = refl; run_is = refl; past_is = refl }
 
-pub Passed-more : (test : ℕ → Bool) (whole prefix cs ds : List ℕ) (c : ℕ) → Passed test whole prefix cs → cs ≡ c ∷ ds → test c ≡ true
+pub Passed-more : (test : ℕ → Bool) (whole prefix cs ds : List ℕ) (c : ℕ) → Passed test whole prefix cs → cs ≡ c ∷ ds →
+    test c ≡ true
     → Passed test whole (prefix ++ c ∷ []) ds
 Passed-more test whole prefix cs ds c p e h = record {
   whole_is = p.whole_is ∙ ap (λ x. prefix ++ x) e ∙ sym (append_assoc prefix (c ∷ []) ds);
-  run_is = p.run_is ∙ ap (λ x. prefix ++ run test x) e ∙ ap (λ x. prefix ++ x) (run_more test c ds h) ∙ sym (append_assoc prefix (c ∷ []) (run test ds));
+  run_is = p.run_is ∙ ap (λ x. prefix ++ run test x) e ∙ ap (λ x. prefix ++ x) (run_more test c ds h) ∙ sym
+      (append_assoc prefix (c ∷ []) (run test ds));
   past_is = p.past_is ∙ ap (past test) e ∙ past_more test c ds h;
 }
 
 -- where the run ends, it is what was passed
-pub Passed-run : (test : ℕ → Bool) (whole prefix cs : List ℕ) → Passed test whole prefix cs → begins test cs ≡ false → run test whole ≡ prefix
+pub Passed-run : (test : ℕ → Bool) (whole prefix cs : List ℕ) → Passed test whole prefix cs → begins test cs ≡ false →
+    run test whole ≡ prefix
 Passed-run test whole prefix cs p h = p.run_is ∙ ap (λ x. prefix ++ x) (run_none test cs h) ∙ append-nil prefix
 
-pub Passed-past : (test : ℕ → Bool) (whole prefix cs : List ℕ) → Passed test whole prefix cs → begins test cs ≡ false → past test whole ≡ cs
+pub Passed-past : (test : ℕ → Bool) (whole prefix cs : List ℕ) → Passed test whole prefix cs → begins test cs ≡ false →
+    past test whole ≡ cs
 Passed-past test whole prefix cs p h = p.past_is ∙ past_none test cs h
 
 -- the bytes of a text are those of what was passed and of what is left
-pub bytes_passed : (text rest prefix : List ℕ) → IsUtf8 text → IsUtf8 rest → chars text ≡ prefix ++ chars rest → text ≡ encodes prefix ++ rest
+pub bytes_passed : (text rest prefix : List ℕ) → IsUtf8 text → IsUtf8 rest → chars text ≡ prefix ++ chars rest →
+    text ≡ encodes prefix ++ rest
 bytes_passed text rest prefix u v e =
-    sym (encodes-chars text u) ∙ ap encodes e ∙ encodes-append prefix (chars rest) ∙ ap (λ x. encodes prefix ++ x) (encodes-chars rest v)
+    sym (encodes-chars text u) ∙ ap encodes e ∙ encodes-append prefix (chars rest) ∙ ap (λ x. encodes prefix ++ x)
+    (encodes-chars rest v)
 
-pub length_passed : (text rest prefix : List ℕ) → text ≡ encodes prefix ++ rest → length text - length rest ≡ length (encodes prefix)
+pub length_passed : (text rest prefix : List ℕ) → text ≡ encodes prefix ++ rest →
+    length text - length rest ≡ length (encodes prefix)
 length_passed text rest prefix e = omega (arith, ap length e, length-append (encodes prefix) rest)
 
 pub chars_passed : (text rest prefix : List ℕ) → IsUtf8 text → text ≡ encodes prefix ++ rest → chars text ≡ prefix ++ chars rest
     → chars (take (length text - length rest) text) ≡ prefix
 chars_passed text rest prefix u e f =
     let taken : take (length text - length rest) text ≡ encodes prefix =
-    ap (λ n. take n text) (length_passed text rest prefix e) ∙ ap (take (length (encodes prefix))) e ∙ take_at (encodes prefix) rest _ refl in
+    ap (λ n. take n text) (length_passed text rest prefix e) ∙ ap (take (length (encodes prefix))) e ∙ take_at (encodes prefix)
+    rest _ refl in
     ap chars taken ∙ chars-encodes prefix (scalars_prefix prefix (chars rest) (ap scalars (sym f) ∙ scalars-chars text u))
 
 -- what is left begins at a character of the text
-pub boundary_passed : (text rest prefix : List ℕ) → IsUtf8 rest → text ≡ encodes prefix ++ rest → IsCharBoundary text (length text - length rest)
+pub boundary_passed : (text rest prefix : List ℕ) → IsUtf8 rest → text ≡ encodes prefix ++ rest →
+    IsCharBoundary text (length text - length rest)
 boundary_passed text rest prefix v e =
     let P : ℕ → Type 0 = λ n. IsCharBoundary text n in
     subst P (sym (length_passed text rest prefix e)) (IsCharBoundary-at_seam text (encodes prefix) rest e v)
 
 -- what is left after the next character
-pub passed_one : (cs after : List ℕ) (o : Option ℕ) → MatchOption o ((cs ≡ []) × (after ≡ [])) (λ c. cs ≡ c ∷ after) → after ≡ drop 1 cs
+pub passed_one : (cs after : List ℕ) (o : Option ℕ) → MatchOption o ((cs ≡ []) × (after ≡ [])) (λ c. cs ≡ c ∷ after) →
+    after ≡ drop 1 cs
 passed_one [] after None h = h.1
 passed_one (d ∷ cs) after None h = let e = h.0 in cc
 passed_one [] after (Some c) h = cc

@@ -1,5 +1,6 @@
 -- Numbers that stop at the top of their type.
-use Rattle.std.proofs.Common.{◌≡◌, ◌≢◌, ℕ, ◌<◌, min, max, Bool, true, false, not, ◌&&◌, ◌⊎◌, List, [], ◌∷◌, Option, Some, None, refl, sym, ap, ◌∙◌}
+use Rattle.std.proofs.Common.{◌≡◌, ◌≢◌, ℕ, ◌<◌, min, max, Bool, true, false, not, ◌&&◌, ◌⊎◌, List, [], ◌∷◌, Option, Some, None}
+use Rattle.std.proofs.Common.{refl, sym, ap, ◌∙◌}
 use Rattle.std.proofs.Common.{inl, inr, cond, arith, length}
 use Rattle.std.specs.Prelude.{nat_lt}
 use Rattle.std.specs.Option.{option_map}
@@ -7,23 +8,24 @@ use Rattle.std.proofs.lemmas.Bool.{cases_lt, false≢true}
 use Rattle.std.proofs.lemmas.Bool.Decides.{nat_tests}
 use Rattle.std.proofs.lemmas.Str.{encodes-chars, chars-nil}
 use Rattle.std.specs.Str.{chars, IsUtf8}
-use lib.Utf8.{encodes}
+use lib.Utf8.{encodes, scalar}
 use Rattle.tl_base.specs.declared.limits.TheConstants.{MAX_COLSPAN}
 use Rattle.tl_base.proofs.Texts.{same_test}
 use Rattle.tl_token.specs.Grammar.{numbered_character}
 use Rattle.tl_token.specs.Characters.{is_control}
-use lib.Utf8.{scalar}
 use Rattle.tl_token.specs.Numbers.{number, signed_number, columns_of, rows_of, floor_of}
 
 -- where a number stops, it is above 0 as before
 positive_same : (top n total : ℕ) → 0 < top → n ≡ min total top → nat_lt 0 n ≡ nat_lt 0 total
-positive_same top n total t h = same_test (nat_lt 0 n) (nat_lt 0 total) (λ a. grind (arith, nat_tests)) (λ a. grind (arith, nat_tests))
+positive_same top n total t h = same_test (nat_lt 0 n) (nat_lt 0 total) (λ a. grind (arith, nat_tests))
+    (λ a. grind (arith, nat_tests))
 
 -- the number after a sign, where it stops at the top
 pub signed_below : (top : ℕ) (b : Bool) (ds : List ℕ) (n : ℕ) → 0 < top → ds ≢ [] → n ≡ min (number 10 ds) top
     → cond (b && nat_lt 0 n) None (Some n) ≡ option_map (λ x. min x top) (signed_number b ds)
 signed_below top b [] n t some h = absurd (some refl)
-signed_below top true (d ∷ ds) n t some h = from (nat_lt 0 n) (nat_lt 0 (number 10 (d ∷ ds))) (positive_same top n (number 10 (d ∷ ds)) t h)
+signed_below top true (d ∷ ds) n t some h = from (nat_lt 0 n) (nat_lt 0 (number 10 (d ∷ ds)))
+    (positive_same top n (number 10 (d ∷ ds)) t h)
   where
     from : (a b : Bool) → a ≡ b → cond a None (Some n) ≡ option_map (λ x. min x top) (cond b None (Some (number 10 (d ∷ ds))))
     from true true e = refl
@@ -36,7 +38,10 @@ signed_below top false (d ∷ ds) n t some h = ap Some h
 pub signed_either : (top : ℕ) (b : Bool) (ds : List ℕ) (n : ℕ) → 0 < top → ds ≢ [] → n ≡ min (number 10 ds) top
     → ((b ≡ true) × (0 < n) → None ≡ option_map (λ x. min x top) (signed_number b ds))
     × ((b ≡ false) ⊎ (n ≡ 0) → Some n ≡ option_map (λ x. min x top) (signed_number b ds))
-signed_either top b ds n t some h = ((λ k. low b (k.0) (k.1) ∙ signed_below top b ds n t some h), (λ k. high b k ∙ signed_below top b ds n t some h))
+signed_either top b ds n t some h = (
+  (λ k. low b (k.0) (k.1) ∙ signed_below top b ds n t some h),
+  (λ k. high b k ∙ signed_below top b ds n t some h),
+)
   where
     low : (b : Bool) → b ≡ true → 0 < n → None ≡ cond (b && nat_lt 0 n) None (Some n)
     low true e k = grind (arith, nat_tests)

@@ -1,5 +1,6 @@
 -- What is read of a text is what its grammar says, and the grammar says one thing only.
-use Rattle.std.proofs.Common.{◌≡◌, ℕ, ◌≤◌, Bool, true, false, List, [], ◌∷◌, length, refl, sym, ap, ◌∙◌, subst, inl, inr, eqb, cond, arith, Result}
+use Rattle.std.proofs.Common.{◌≡◌, ℕ, ◌≤◌, Bool, true, false, List, [], ◌∷◌, length, refl, sym, ap, ◌∙◌, subst, inl, inr, eqb}
+use Rattle.std.proofs.Common.{cond, arith, Result}
 use Rattle.std.proofs.Common.{Ok, Err, IfOk, IfErr}
 use Rattle.std.specs.Str.{chars, IsUtf8}
 use Rattle.std.specs.Str.Lossy.{utf8_valid_len}
@@ -7,13 +8,15 @@ use Rattle.tl_base.specs.Text.{byte_count}
 use Rattle.tl_base.proofs.Texts.{byte_count-chars}
 use Rattle.tl_token.specs.Grammar.{Piece, Stands, FaultStands}
 use Rattle.tl_token.specs.Grammar as grammar
-use Rattle.tl_token.specs.Spelling.{place_of, tokens_of, without_mark, characters, SpellsTokens, FirstFault, Refused, out_of_memory, Tokens, size_of}
+use Rattle.tl_token.specs.Spelling.{place_of, tokens_of, without_mark, characters, SpellsTokens, FirstFault, SpellsNoTokens}
+use Rattle.tl_token.specs.Spelling.{out_of_memory, Tokens, size_of}
 use Rattle.tl_base.specs.Returned.{ReturnsOk, ReturnsError, IsMemoryOr}
 use Rattle.tl_token.specs.inner.Reading.{Found, stands, faulty, standing}
 use Rattle.tl_token.specs.inner.Reader.{Eats}
 use Rattle.tl_token.specs.inner.Found.{fault_of, error_of}
 use Rattle.tl_token.specs.declared.token.TokenError.{TokenError}
-use Rattle.tl_token.specs.declared.token.TokenError.TheVariants.{Memory, NotUtf8, UnendedTag, UnendedComment, BadTag, UnknownElement, BadReference}
+use Rattle.tl_token.specs.declared.token.TokenError.TheVariants.{Memory, NotUtf8, UnendedTag, UnendedComment, BadTag}
+use Rattle.tl_token.specs.declared.token.TokenError.TheVariants.{UnknownElement, BadReference}
 use Rattle.tl_token.specs.declared.token.TokenError.TheVariants.{BadCharacter}
 use Rattle.tl_token.specs.declared.piece.Fault.{Fault}
 use Rattle.tl_token.specs.declared.piece.Fault.TheVariants as fault
@@ -36,20 +39,22 @@ mark_le (c ∷ cs) = by_test (eqb c 0xFEFF)
     by_test false = omega arith
 
 -- what stands where the reader finds it
-pub stands_there : (c : ℕ) (old cs rest : List ℕ) (piece : Piece) → old ≡ c ∷ cs → stands piece rest ≡ standing c cs → Stands old piece rest
+pub stands_there : (c : ℕ) (old cs rest : List ℕ) (piece : Piece) → old ≡ c ∷ cs → stands piece rest ≡ standing c cs →
+    Stands old piece rest
 stands_there c old cs rest piece e h =
     let P : Found → Type 0 = λ f. Holds (c ∷ cs) f in
     let Q : List ℕ → Type 0 = λ x. Stands x piece rest in
     subst Q (sym e) (subst P (sym h) (place_sound c cs))
 
-pub fault_there : (c : ℕ) (old cs : List ℕ) (fault : grammar.Fault) → old ≡ c ∷ cs → faulty fault ≡ standing c cs → FaultStands fault old
+pub fault_there : (c : ℕ) (old cs : List ℕ) (fault : grammar.Fault) → old ≡ c ∷ cs → faulty fault ≡ standing c cs →
+    FaultStands fault old
 fault_there c old cs fault e h =
     let P : Found → Type 0 = λ f. Holds (c ∷ cs) f in
     let Q : List ℕ → Type 0 = λ x. FaultStands fault x in
     subst Q (sym e) (subst P (sym h) (place_sound c cs))
 
 -- the error of the first fault
-pub refused : (bytes : List ℕ) (f : Fault) (place : ℕ) → FirstFault bytes (fault_of f) place → Refused bytes (error_of f place)
+pub refused : (bytes : List ℕ) (f : Fault) (place : ℕ) → FirstFault bytes (fault_of f) place → SpellsNoTokens bytes (error_of f place)
 refused bytes fault.UnendedTag place h = h
 refused bytes fault.UnendedComment place h = h
 refused bytes fault.BadTag place h = h
@@ -64,7 +69,7 @@ spelled_once bytes ts us h k = h.3 ∙ ap tokens_of (one_way (length bytes) (cha
 not_both : (bytes : List ℕ) (ts : Tokens) (f : grammar.Fault) (place : ℕ) → SpellsTokens bytes ts → FirstFault bytes f place → ⊥
 not_both bytes ts f place h k = whole_or_broken (length bytes) (characters bytes) (k.2) (h.1) (k.1) f (h.2) (k.3) (k.4)
 
-spelled_or_refused : (bytes : List ℕ) (ts : Tokens) (error : TokenError) → SpellsTokens bytes ts → Refused bytes error → ⊥
+spelled_or_refused : (bytes : List ℕ) (ts : Tokens) (error : TokenError) → SpellsTokens bytes ts → SpellsNoTokens bytes error → ⊥
 spelled_or_refused bytes ts (Memory e) h k = k
 spelled_or_refused bytes ts (NotUtf8 n) h k = k.0 (h.0)
 spelled_or_refused bytes ts (UnendedTag p) h k = not_both bytes ts grammar.unended_tag p h k
@@ -88,7 +93,7 @@ data Said (bytes : List ℕ) (error : TokenError) : Type 0 where
   no_text : ¬ (IsUtf8 bytes) → error ≡ NotUtf8 (utf8_valid_len bytes) → Said bytes error
   at_fault : (f : grammar.Fault) (place : ℕ) → error ≡ error_at f place → FirstFault bytes f place → Said bytes error
 
-said : (bytes : List ℕ) (error : TokenError) → Refused bytes error → Said bytes error
+said : (bytes : List ℕ) (error : TokenError) → SpellsNoTokens bytes error → Said bytes error
 unfolding error_at
 said bytes (Memory e) k = absurd k
 said bytes (NotUtf8 n) k = no_text (k.0) (ap NotUtf8 (k.1))
@@ -110,14 +115,16 @@ said_once bytes d e (at_fault f p h l) (at_fault g q k m) =
 
 -- So each result excludes the others.
 module _ (bytes : List ℕ) where
-  pub only_tokens : (result : Result Tokens TokenError) → IfOk result (SpellsTokens bytes) → IfErr result (IsMemoryOr out_of_memory (Refused bytes))
+  pub only_tokens : (result : Result Tokens TokenError) → IfOk result (SpellsTokens bytes) →
+      IfErr result (IsMemoryOr out_of_memory (SpellsNoTokens bytes))
       → (ts : Tokens) → SpellsTokens bytes ts → ReturnsOk out_of_memory ts result
   only_tokens (Ok us) h _ ts k = spelled_once bytes us ts h k
   only_tokens (Err e) _ (inl h) ts k = h
   only_tokens (Err e) _ (inr h) ts k = absurd (spelled_or_refused bytes ts e k h)
 
-  pub only_error : (result : Result Tokens TokenError) → IfOk result (SpellsTokens bytes) → IfErr result (IsMemoryOr out_of_memory (Refused bytes))
-      → (e : TokenError) → Refused bytes e → ReturnsError out_of_memory e result
+  pub only_error : (result : Result Tokens TokenError) → IfOk result (SpellsTokens bytes) →
+      IfErr result (IsMemoryOr out_of_memory (SpellsNoTokens bytes))
+      → (e : TokenError) → SpellsNoTokens bytes e → ReturnsError out_of_memory e result
   only_error (Ok us) h _ e k = spelled_or_refused bytes us e h k
   only_error (Err d) _ (inl h) e k = inl h
   only_error (Err d) _ (inr h) e k = inr (said_once bytes d e (said bytes d h) (said bytes e k))
@@ -125,8 +132,15 @@ module _ (bytes : List ℕ) where
   -- and the tokens are no larger than the file
   tokens_small : (ts : Tokens) → SpellsTokens bytes ts → size_of ts ≤ length bytes
   tokens_small ts h =
-      omega (arith, tokens_le (length bytes) (characters bytes) [] (h.1) (h.2), ap size_of (h.3), mark_le (chars bytes), byte_count-chars bytes (h.0))
+      omega (
+        arith,
+        tokens_le (length bytes) (characters bytes) [] (h.1) (h.2),
+        ap size_of (h.3),
+        mark_le (chars bytes),
+        byte_count-chars bytes (h.0),
+      )
 
-  pub small : (result : Result Tokens TokenError) → IfOk result (SpellsTokens bytes) → IfOk result (λ ts. size_of ts ≤ length bytes)
+  pub small : (result : Result Tokens TokenError) → IfOk result (SpellsTokens bytes) →
+      IfOk result (λ ts. size_of ts ≤ length bytes)
   small (Ok ts) h = tokens_small ts h
   small (Err e) h = tt

@@ -3,7 +3,8 @@ use Rattle.std.proofs.Common.{◌≡◌, ◌≢◌, ℕ, List, [], ◌∷◌, �
 use Rattle.std.proofs.lemmas.Bool.{eq-eqb}
 use Rattle.std.specs.Prelude.{codes}
 use Rattle.tl_token.specs.Elements.{Tag}
-use Rattle.tl_token.specs.inner.States.{State, tag_open, end_tag_open, tag_name, between, in_name, after_name, before_value, in_quotes, in_value}
+use Rattle.tl_token.specs.inner.States.{State, tag_open, end_tag_open, tag_name, between, in_name, after_name, before_value}
+use Rattle.tl_token.specs.inner.States.{in_quotes, in_value}
 use Rattle.tl_token.specs.inner.States.{ended, failed, step, with_attribute, Outcome, reads, unended, wrong, read}
 
 -- the tag goes on from there

@@ -1,7 +1,8 @@
 -- Classes of characters. White space, letters and digits are those of ASCII, as the Infra Standard
 -- defines them (ASCII whitespace, ASCII alpha, ASCII digit); the characters of names and values are a
 -- profile of the HTML Standard's section 13.1.2.
-use Rattle.std.specs.Prelude.{ℕ, Bool, false, ◌||◌, ◌&&◌, not, nat_lt, nat_le, List, [], ◌∷◌, Option, Some, None, if◌then◌else◌, codes}
+use Rattle.std.specs.Prelude.{ℕ, Bool, false, ◌||◌, ◌&&◌, not, nat_lt, nat_le, List, [], ◌∷◌, Option, Some, None, if◌then◌else◌}
+use Rattle.std.specs.Prelude.{codes}
 use Rattle.std.specs.Char.{is_ascii_whitespace, is_ascii_alphabetic}
 use Prim.Native.String.{String}
 use Rattle.tl_base.specs.Lists.{is_among}

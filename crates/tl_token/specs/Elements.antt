@@ -7,7 +7,8 @@ use lib.Pointwise.{pointwise}
 use Rattle.std.specs.Prelude.{nat_eq}
 use Rattle.tl_token.specs.Numbers.{number_of, columns_of, rows_of, floor_of}
 use Rattle.tl_token.specs.declared.token.Element.{Element}
-use Rattle.tl_token.specs.declared.token.Element.TheVariants.{Table, Caption, Colgroup, Col, Thead, Tbody, Tfoot, Tr, Td, Th, Br, P, Div, Inline, Outer}
+use Rattle.tl_token.specs.declared.token.Element.TheVariants.{Table, Caption, Colgroup, Col, Thead, Tbody, Tfoot, Tr, Td, Th, Br}
+use Rattle.tl_token.specs.declared.token.Element.TheVariants.{P, Div, Inline, Outer}
 use Rattle.tl_token.specs.declared.token.Spans.{Spans}
 use Rattle.tl_token.specs.declared.token.TokenKind.{TokenKind}
 use Rattle.tl_token.specs.declared.token.TokenKind.TheVariants.{Start, End}

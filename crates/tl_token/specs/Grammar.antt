@@ -1,11 +1,13 @@
 -- How characters spell tokens. What stands at a place is a comment, a doctype, a tag, a reference
 -- or a character of text, or else a fault. The forms are those of the HTML Standard's section 13.1,
 -- narrowed and widened as docs/MODEL.md says.
-use Rattle.std.specs.Prelude.{◌≡◌, ◌≢◌, ℕ, ◌⊎◌, Bool, true, false, not, ◌&&◌, ◌||◌, ◌==◌, nat_eq, List, [], ◌∷◌, ◌++◌, length, drop, Option, Some}
+use Rattle.std.specs.Prelude.{◌≡◌, ◌≢◌, ℕ, ◌⊎◌, Bool, true, false, not, ◌&&◌, ◌||◌, ◌==◌, nat_eq, List, [], ◌∷◌, ◌++◌, length}
+use Rattle.std.specs.Prelude.{drop, Option, Some}
 use Rattle.std.specs.Prelude.{None, option_map, if◌then◌else◌, codes, IsTrue}
 use Rattle.std.specs.List.{AllByRecursion}
 use Rattle.std.specs.Char.{is_ascii_alphabetic, is_ascii_alphanumeric, is_ascii_digit, is_ascii_hexdigit}
-use Rattle.tl_token.specs.Characters.{◌∈◌, is_space, is_name_character, is_value_character, is_gap, is_control, opens_markup, begins, run, past}
+use Rattle.tl_token.specs.Characters.{◌∈◌, is_space, is_name_character, is_value_character, is_gap, is_control, opens_markup}
+use Rattle.tl_token.specs.Characters.{begins, run, past}
 use Rattle.tl_token.specs.Numbers.{number}
 use Rattle.tl_token.specs.Elements.{Attribute, Tag, is_word, element_of, kind_of}
 use Rattle.tl_token.specs.declared.token.TokenKind.{TokenKind}

@@ -3,13 +3,15 @@
 use Rattle.std.specs.Prelude.{◌≡◌, ℕ, ◌+◌, ◌-◌, List, [], ◌∷◌, length, ◌==◌, if◌then◌else◌, IsUtf8, chars, alloc_error}
 use Rattle.std.specs.Str.Lossy.{utf8_valid_len}
 use Rattle.tl_base.specs.Text.{byte_count}
-use Rattle.tl_token.specs.Grammar.{Piece, hidden, tag, character, Stands, Fault, unended_tag, unended_comment, bad_tag, unknown_element}
+use Rattle.tl_token.specs.Grammar.{Piece, hidden, tag, character, Stands, Fault, unended_tag, unended_comment, bad_tag}
+use Rattle.tl_token.specs.Grammar.{unknown_element}
 use Rattle.tl_token.specs.Grammar.{bad_reference, bad_character, FaultStands}
 use Rattle.tl_token.specs.declared.token.TokenKind.{TokenKind}
 use Rattle.tl_token.specs.declared.token.TokenKind.TheVariants.{Start, End, Text}
 use Rattle.tl_token.specs.declared.token.Token.{Token}
 use Rattle.tl_token.specs.declared.token.TokenError.{TokenError}
-use Rattle.tl_token.specs.declared.token.TokenError.TheVariants.{Memory, NotUtf8, UnendedTag, UnendedComment, BadTag, UnknownElement, BadReference}
+use Rattle.tl_token.specs.declared.token.TokenError.TheVariants.{Memory, NotUtf8, UnendedTag, UnendedComment, BadTag}
+use Rattle.tl_token.specs.declared.token.TokenError.TheVariants.{UnknownElement, BadReference}
 use Rattle.tl_token.specs.declared.token.TokenError.TheVariants.{BadCharacter}
 
 -- a piece, and the bytes of the file from its first to past its last
@@ -88,15 +90,15 @@ FirstFault bytes fault place =
     × FaultStands fault rest × (place ≡ place_of (length bytes) rest)
 
 -- The error that refuses the bytes; out of memory is none of them.
-abbrev pub Refused : List ℕ → TokenError → Type 0
-Refused bytes (Memory error) = ⊥
-Refused bytes (NotUtf8 n) = ¬ (IsUtf8 bytes) × (n ≡ utf8_valid_len bytes)
-Refused bytes (UnendedTag place) = FirstFault bytes unended_tag place
-Refused bytes (UnendedComment place) = FirstFault bytes unended_comment place
-Refused bytes (BadTag place) = FirstFault bytes bad_tag place
-Refused bytes (UnknownElement place) = FirstFault bytes unknown_element place
-Refused bytes (BadReference place) = FirstFault bytes bad_reference place
-Refused bytes (BadCharacter place) = FirstFault bytes bad_character place
+abbrev pub SpellsNoTokens : List ℕ → TokenError → Type 0
+SpellsNoTokens bytes (Memory error) = ⊥
+SpellsNoTokens bytes (NotUtf8 n) = ¬ (IsUtf8 bytes) × (n ≡ utf8_valid_len bytes)
+SpellsNoTokens bytes (UnendedTag place) = FirstFault bytes unended_tag place
+SpellsNoTokens bytes (UnendedComment place) = FirstFault bytes unended_comment place
+SpellsNoTokens bytes (BadTag place) = FirstFault bytes bad_tag place
+SpellsNoTokens bytes (UnknownElement place) = FirstFault bytes unknown_element place
+SpellsNoTokens bytes (BadReference place) = FirstFault bytes bad_reference place
+SpellsNoTokens bytes (BadCharacter place) = FirstFault bytes bad_character place
 
 -- a list of tokens
 abbrev pub Tokens : Type 0

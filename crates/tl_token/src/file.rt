@@ -1,7 +1,7 @@
 //! The tokens of a whole file.
 
 ghost use Rattle.std.specs.Prelude.{◌≡◌, ◌≤◌, length, IfOk, IfErr};
-ghost use Rattle.tl_token.specs.Spelling.{SpellsTokens, Refused, out_of_memory, Tokens, size_of};
+ghost use Rattle.tl_token.specs.Spelling.{SpellsTokens, SpellsNoTokens, out_of_memory, Tokens, size_of};
 ghost use Rattle.tl_base.specs.Returned.{ReturnsOk, ReturnsError, IsMemoryOr};
 
 use crate::output::Output;
@@ -34,7 +34,7 @@ impl Fault {
 fn read(alloc: Global, text: &str) -> Result<List<Token>, TokenError>
     requires { length text.now ≤ MAX_FILE_BYTES }
     ensures ok { IfOk result (SpellsTokens text.now) }
-    ensures err { IfErr result (IsMemoryOr out_of_memory (Refused text.now)) }
+    ensures err { IfErr result (IsMemoryOr out_of_memory (SpellsNoTokens text.now)) }
 {
     let size = text.len();
     let mut reader = Reader::new(text);
@@ -65,9 +65,9 @@ pub fn tokens(alloc: Global, text: &[u8]) -> Result<List<Token>, TokenError>
     ensures each_ok { (tokens : Tokens)
         → SpellsTokens text.now tokens → ReturnsOk out_of_memory tokens result }
     // An error comes only where its fault is the first, and where one is the first, it is returned.
-    ensures err { IfErr result (IsMemoryOr out_of_memory (Refused text.now)) }
+    ensures err { IfErr result (IsMemoryOr out_of_memory (SpellsNoTokens text.now)) }
     ensures each_err { (error : TokenError)
-        → Refused text.now error → ReturnsError out_of_memory error result }
+        → SpellsNoTokens text.now error → ReturnsError out_of_memory error result }
     // The bytes of the texts and the number of the tags are no more than the bytes of the file.
     ensures size { IfOk result (λ tokens. size_of tokens ≤ length text.now) }
 {

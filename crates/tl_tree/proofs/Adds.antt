@@ -2,27 +2,28 @@
 use Rattle.std.proofs.Common.{◌≡◌, ℕ, None, List, [], ◌∷◌, ◌++◌, refl, sym, ap, ◌∙◌, append_assoc, map}
 use Rattle.std.proofs.lemmas.List.{append-nil}
 use Rattle.std.specs.List.{flat_map}
-use Rattle.tl_tree.specs.Outline.{Entry, Entries, group, row, cell, cell_outline}
-use Rattle.tl_tree.specs.Grammar.{Mark, Marks, character, line_break, paragraph_ends}
+use Rattle.tl_tree.specs.Outline.{Entry, Entries, group, row, cell, cell_outline, blocks_outline, row_outline}
+use Rattle.tl_tree.specs.Grammar.{Mark, Marks, character, line_break, paragraph_ends, group_begins, row_begins}
 use Rattle.tl_tree.specs.Paragraphs.{leading, paragraph_of, entries_of, entries_after}
 use Rattle.tl_tree.proofs.Outlines.{flat_map-push}
 use Rattle.tl_tree.specs.declared.node.Block.{Block}
 use Rattle.tl_tree.specs.declared.node.CellNode.{CellNode}
 use Rattle.tl_tree.specs.declared.flow.Flow.{Flow}
 use Rattle.tl_tree.specs.declared.open.OpenCell.{OpenCell}
-use Rattle.tl_tree.specs.inner.Lines.{line_atoms, open_word, blocks_outline, ReadsMarks}
+use Rattle.tl_tree.specs.inner.Lines.{line_atoms, open_word, ReadsMarks}
 use Rattle.tl_tree.proofs.Lines.{atoms_from, read_none}
 use Rattle.tl_tree.specs.Tags.{row_start}
-use Rattle.tl_tree.specs.Grammar.{group_begins, row_begins}
 use Rattle.tl_tree.specs.declared.node.Part.TheVariants.{Loose}
 use Rattle.tl_tree.specs.declared.open.Parts.{Parts}
 use Rattle.tl_tree.specs.declared.open.OpenGroup.{OpenGroup}
 use Rattle.tl_tree.specs.declared.open.OpenTable.{OpenTable}
 use Rattle.tl_tree.specs.declared.open.OpenTable.TheVariants.{Row}
 use Rattle.tl_tree.specs.inner.Machine.{move, to, in_row, start_row, group_of, due}
-use Rattle.tl_tree.specs.inner.Reading.{outcome, place_of, parts_so_far, Moves, Outcome, after_entries, in_flow, cell_so_far, group_so_far, row_outline, Adds}
+use Rattle.tl_tree.specs.inner.Reading.{outcome, place_of, parts_so_far, Moves, Outcome, after_entries, in_flow, cell_so_far}
+use Rattle.tl_tree.specs.inner.Reading.{group_so_far, Adds}
 
-regroup : (g f : Entries) (r x : Entry) (b p e : Entries) → (g ++ (r ∷ (f ++ (x ∷ (b ++ p))))) ++ e ≡ (((g ++ (r ∷ f)) ++ x ∷ []) ++ b) ++ (p ++ e)
+regroup : (g f : Entries) (r x : Entry) (b p e : Entries) → (g ++ (r ∷ (f ++ (x ∷ (b ++ p))))) ++ e ≡
+    (((g ++ (r ∷ f)) ++ x ∷ []) ++ b) ++ (p ++ e)
 regroup g f r x b p e = simp append_assoc
 
 -- a cell that ends
@@ -38,8 +39,10 @@ cell_ends c flow blocks cells node blocks_are cells_are node_is = record {
       let x = cell c.head c.spans.colspan c.spans.rowspan c.spans.least in
       ap (λ cs. (g ++ row_outline cs) ++ e) cells_are
       ∙ ap (λ es. (g ++ (row ∷ es)) ++ e)
-      (flat_map-push cell_outline c.row.cells node ∙ ap (λ es. flat_map cell_outline c.row.cells ++ es) (node_is ∙ ap (λ es. x ∷ es) blocks_are))
-      ∙ regroup g (flat_map cell_outline c.row.cells) row x (blocks_outline flow.blocks) (paragraph_of (line_atoms flow.line [])) e;
+      (flat_map-push cell_outline c.row.cells node ∙ ap (λ es. flat_map cell_outline c.row.cells ++ es)
+      (node_is ∙ ap (λ es. x ∷ es) blocks_are))
+      ∙ regroup g (flat_map cell_outline c.row.cells) row x (blocks_outline flow.blocks)
+      (paragraph_of (line_atoms flow.line [])) e;
 }
 
 -- one after another
@@ -53,7 +56,8 @@ pub adds_nothing : {a : Outcome} → Adds a a []
 adds_nothing = record { same = λ k later. refl }
 
 -- a mark of its own entry
-pub adds_mark : (entries : Entries) (m : Mark) (x : Entry) → ((k : ℕ) (later : Marks) → entries_of k (m ∷ later) ≡ x ∷ entries_of k later)
+pub adds_mark : (entries : Entries) (m : Mark) (x : Entry) →
+    ((k : ℕ) (later : Marks) → entries_of k (m ∷ later) ≡ x ∷ entries_of k later)
     → Adds (after_entries entries) (after_entries (entries ++ x ∷ [])) (m ∷ [])
 adds_mark entries m x is = record {
   same = λ k later. append_assoc entries (x ∷ []) (entries_of k later) ∙ ap (λ es. entries ++ es) (sym (is k later));
@@ -73,7 +77,8 @@ empty_flow flow blocks atoms word entries = record {
 }
 
 -- a flow whose paragraph ends and is one of its blocks
-pub paragraph_ended : (old new : Flow) (entries : Entries) → blocks_outline new.blocks ≡ blocks_outline old.blocks ++ paragraph_of (line_atoms old.line [])
+pub paragraph_ended : (old new : Flow) (entries : Entries) →
+    blocks_outline new.blocks ≡ blocks_outline old.blocks ++ paragraph_of (line_atoms old.line [])
     → new.line.atoms ≡ [] → open_word new.line ≡ [] → Adds (in_flow entries old) (in_flow entries new) (paragraph_ends ∷ [])
 paragraph_ended old new entries blocks atoms word = record {
   same = λ k later.
@@ -83,7 +88,8 @@ paragraph_ended old new entries blocks atoms word = record {
       (paragraph_of (atoms_from list (open_word new.line) (leading later)) ++ e)) atoms
       ∙ ap (λ w. (entries ++ (blocks_outline old.blocks ++ paragraph_of (line_atoms old.line []))) ++
       (paragraph_of (atoms_from [] w (leading later)) ++ e)) word
-      ∙ ap (λ list. (entries ++ (blocks_outline old.blocks ++ paragraph_of (line_atoms old.line []))) ++ (paragraph_of list ++ e)) (read_none (leading later))
+      ∙ ap (λ list. (entries ++ (blocks_outline old.blocks ++ paragraph_of (line_atoms old.line []))) ++
+      (paragraph_of list ++ e)) (read_none (leading later))
       ∙ regroup_line entries (blocks_outline old.blocks) (paragraph_of (line_atoms old.line [])) (entries_of k later);
 }
   where
@@ -99,14 +105,17 @@ pub after-text : (k : ℕ) (cs : List ℕ) (ms : Marks) → entries_after k (map
 after-text k [] ms = refl
 after-text k (c ∷ cs) ms = after-text k cs ms
 
-pub text_read : (old new : Flow) (entries : Entries) (cs : List ℕ) → new.blocks ≡ old.blocks → ReadsMarks old.line new.line (map character cs)
+pub text_read : (old new : Flow) (entries : Entries) (cs : List ℕ) → new.blocks ≡ old.blocks →
+    ReadsMarks old.line new.line (map character cs)
     → Adds (in_flow entries old) (in_flow entries new) (map character cs)
 text_read old new entries cs blocks line = record {
   same = λ k later.
-      ap (λ bs. (entries ++ blocks_outline bs) ++ (paragraph_of (line_atoms new.line (leading later)) ++ entries_after k later)) blocks
+      ap (λ bs. (entries ++ blocks_outline bs) ++ (paragraph_of (line_atoms new.line (leading later)) ++ entries_after k later))
+      blocks
       ∙ ap (λ list. (entries ++ blocks_outline old.blocks) ++ (paragraph_of list ++ entries_after k later))
       (line.same (leading later) ∙ ap (λ x. line_atoms old.line x) (sym (leading-text cs later)))
-      ∙ ap (λ es. (entries ++ blocks_outline old.blocks) ++ (paragraph_of (line_atoms old.line (leading (map character cs ++ later))) ++ es))
+      ∙ ap (λ es. (entries ++ blocks_outline old.blocks) ++ (paragraph_of
+      (line_atoms old.line (leading (map character cs ++ later))) ++ es))
       (sym (after-text k cs later));
 }
 
@@ -114,17 +123,21 @@ pub break_read : (old new : Flow) (entries : Entries) → new.blocks ≡ old.blo
     → Adds (in_flow entries old) (in_flow entries new) (line_break ∷ [])
 break_read old new entries blocks line = record {
   same = λ k later.
-      ap (λ bs. (entries ++ blocks_outline bs) ++ (paragraph_of (line_atoms new.line (leading later)) ++ entries_after k later)) blocks
-      ∙ ap (λ list. (entries ++ blocks_outline old.blocks) ++ (paragraph_of list ++ entries_after k later)) (line.same (leading later));
+      ap (λ bs. (entries ++ blocks_outline bs) ++ (paragraph_of (line_atoms new.line (leading later)) ++ entries_after k later))
+      blocks
+      ∙ ap (λ list. (entries ++ blocks_outline old.blocks) ++ (paragraph_of list ++ entries_after k later))
+      (line.same (leading later));
 }
 
 -- a row of loose rows, where no group is open
 pub loose_row_moves : (t : OpenTable) (parts : Parts) (g : OpenGroup) (cells : List CellNode) → group_of (place_of t) ≡ None
-    → Adds (outcome t) (after_entries (parts_so_far parts)) (due (place_of t)) → group_so_far g ≡ parts_so_far parts ++ group Loose ∷ []
+    → Adds (outcome t) (after_entries (parts_so_far parts)) (due (place_of t)) →
+    group_so_far g ≡ parts_so_far parts ++ group Loose ∷ []
     → g.part ≡ Loose → cells ≡ [] → Moves t row_start (Row (record { group = g; cells = cells }))
 loose_row_moves t parts g cells none adds so_far part empty =
     let ms = group_begins Loose ∷ row_begins ∷ [] in
-    let e : move (place_of t) row_start ≡ to (in_row Loose) (due (place_of t) ++ ms) = ap (λ o. start_row (due (place_of t)) o) none in
+    let e : move (place_of t) row_start ≡ to (in_row Loose) (due (place_of t) ++ ms) =
+    ap (λ o. start_row (due (place_of t)) o) none in
     let two : Adds (after_entries (parts_so_far parts)) (after_entries (group_so_far g ++ row_outline cells)) ms = record {
       same = λ k later.
           ap (λ cs. (group_so_far g ++ row_outline cs) ++ entries_of k later) empty

@@ -1,15 +1,21 @@
 -- How many tables are open is counted by the table tags alone.
-use Rattle.std.proofs.Common.{◌≡◌, ℕ, ◌+◌, Bool, true, false, List, [], ◌∷◌, length, Option, Some, None, refl, sym, ap, subst, cond, arith}
+use Rattle.std.proofs.Common.{◌≡◌, ℕ, ◌+◌, Bool, true, false, List, [], ◌∷◌, length, Option, Some, None, refl, sym, ap, subst}
+use Rattle.std.proofs.Common.{cond, arith}
 use Rattle.std.proofs.lemmas.Bool.{false≢true}
 use Rattle.tl_token.specs.declared.token.Spans.{Spans}
 use Rattle.tl_tree.specs.declared.node.Part.{Part}
-use Rattle.tl_tree.specs.Tags.{Section, Kind, text, table_start, table_end, caption_start, caption_end, colgroup_start, colgroup_end, col, group_start}
-use Rattle.tl_tree.specs.Tags.{group_end, row_start, row_end, cell_start, cell_end, br, p_or_div, inline_tag, outer_tag, lone_end, is_white, is_table_start}
+use Rattle.tl_tree.specs.Tags.{Section, Kind, text, table_start, table_end, caption_start, caption_end, colgroup_start}
+use Rattle.tl_tree.specs.Tags.{colgroup_end, col, group_start}
+use Rattle.tl_tree.specs.Tags.{group_end, row_start, row_end, cell_start, cell_end, br, p_or_div, inline_tag, outer_tag, lone_end}
+use Rattle.tl_tree.specs.Tags.{is_white, is_table_start}
 use Rattle.tl_tree.specs.Grammar.{Marks}
 use Rattle.tl_tree.specs.Spelling.{depth_with}
-use Rattle.tl_tree.specs.inner.Machine.{Holder, of_caption, of_cell, Place, opened, in_columns, in_colgroup, between, in_group, in_row, in_flow, row_of}
-use Rattle.tl_tree.specs.inner.Machine.{group_of, columns_of, due, closes, same_head, in_flow_only, start_colgroup, lone_col, end_group, start_row, end_row}
-use Rattle.tl_tree.specs.inner.Machine.{start_cell, Move, to, enter, leave, never, move, State, before, inside, after, failed, moved, next}
+use Rattle.tl_tree.specs.inner.Machine.{Holder, of_caption, of_cell, Place, opened, in_columns, in_colgroup, between, in_group}
+use Rattle.tl_tree.specs.inner.Machine.{in_row, in_flow, row_of}
+use Rattle.tl_tree.specs.inner.Machine.{group_of, columns_of, due, closes, same_head, in_flow_only, start_colgroup, lone_col}
+use Rattle.tl_tree.specs.inner.Machine.{end_group, start_row, end_row}
+use Rattle.tl_tree.specs.inner.Machine.{start_cell, Move, to, enter, leave, never, move, State, before, inside, after, failed}
+use Rattle.tl_tree.specs.inner.Machine.{moved, next}
 use Rattle.tl_tree.specs.inner.Verdict.{is_failed, depth}
 
 -- only table tags enter or leave a table
@@ -86,7 +92,8 @@ row_end_fits : (r : Option (Part × Marks)) → DepthFits row_end (end_row r)
 row_end_fits None = tt
 row_end_fits (Some r) = (refl, λ n. refl)
 
-cell_fits : (head : Bool) (spans : Spans) (r : Option (Part × Marks)) → DepthFits (cell_start head spans) (start_cell head spans r)
+cell_fits : (head : Bool) (spans : Spans) (r : Option (Part × Marks)) →
+    DepthFits (cell_start head spans) (start_cell head spans r)
 cell_fits head spans None = tt
 cell_fits head spans (Some r) = (refl, λ n. refl)
 
@@ -125,7 +132,8 @@ depth_fits p lone_end = tt
 moved_depth : (hs : List Holder) (k : Kind) (m : Move) → DepthFits k m → is_failed (moved hs m) ≡ false
     → depth (moved hs m) ≡ depth_with (length hs + 1) k
 moved_depth hs k (to q ms) (start, same) alive = sym (same (length hs + 1))
-moved_depth hs k (enter holder) e alive = let P : Kind → Type 0 = λ x. length (holder ∷ hs) + 1 ≡ depth_with (length hs + 1) x in subst P (sym e) (omega arith)
+moved_depth hs k (enter holder) e alive = let P : Kind → Type 0 =
+    λ x. length (holder ∷ hs) + 1 ≡ depth_with (length hs + 1) x in subst P (sym e) (omega arith)
 moved_depth [] k (leave ms) e alive = let P : Kind → Type 0 = λ x. 0 ≡ depth_with (0 + 1) x in subst P (sym e) refl
 moved_depth (holder ∷ hs) k (leave ms) e alive =
     let P : Kind → Type 0 = λ x. length hs + 1 ≡ depth_with (length (holder ∷ hs) + 1) x in subst P (sym e) (omega arith)

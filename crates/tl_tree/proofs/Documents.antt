@@ -1,5 +1,6 @@
 -- What has been read of a document, token by token, and what it comes to.
-use Rattle.std.proofs.Common.{◌≡◌, ◌≤◌, ◌<◌, ℕ, ◌+◌, inl, inr, true, false, Some, None, Result, Ok, Err, IfOk, OnOk, List, [], ◌∷◌, ◌++◌, length, take, drop}
+use Rattle.std.proofs.Common.{◌≡◌, ◌≤◌, ◌<◌, ℕ, ◌+◌, inl, inr, true, false, Some, None, Result, Ok, Err, IfOk, OnOk, List, []}
+use Rattle.std.proofs.Common.{◌∷◌, ◌++◌, length, take, drop}
 use Rattle.std.proofs.Common.{get_or, sum_by, refl, sym, ap, ◌∙◌, subst, arith, append_assoc, zero-add, alloc_error}
 use Rattle.std.proofs.lemmas.Bool.{false≢true}
 use Rattle.std.proofs.lemmas.List.{append-nil, map-append, take_more, take-append-drop, at_drop_more, take_all}
@@ -20,48 +21,55 @@ use Rattle.tl_tree.specs.declared.open.OpenTable.TheVariants as stages
 use Rattle.tl_tree.specs.declared.reading.Reading.{Reading}
 use Rattle.tl_tree.specs.declared.reading.Reading.TheVariants.{Before, Inside, After}
 use Rattle.tl_tree.specs.Tags.{Kind, Kinds, text, table_start, kind_of, kinds, is_table_start}
-use Rattle.tl_tree.specs.Outline.{outline}
+use Rattle.tl_tree.specs.Outline.{outline, blocks_outline}
 use Rattle.tl_tree.specs.Paragraphs.{paragraph_of, entries_of}
 use Rattle.tl_tree.specs.Readable.{IsReadable, kind_size}
 use Rattle.tl_tree.specs.Sound.{entry_size}
-use Rattle.tl_tree.specs.Spelling.{SpellsTree, IsWithinLimits, depth_with, depth_after, tables_with, tables_after, FitsLimits, FitLimits, IsRefused, Refused}
+use Rattle.tl_tree.specs.Spelling.{SpellsTree, IsWithinLimits, depth_with, depth_after, tables_with, tables_after, FitsLimits}
+use Rattle.tl_tree.specs.Spelling.{FitLimits, AreNoDocument, SpellsNoTree}
 use Rattle.tl_tree.specs.Spelling.{ReturnsTree}
 use Rattle.tl_tree.specs.inner.Machine.{State, before, next, told, reached, all_told}
 use Rattle.tl_tree.specs.inner.Verdict.{is_failed, depth, misfit, end_fault, verdict}
-use Rattle.tl_tree.specs.inner.Lines.{line_atoms, blocks_outline}
+use Rattle.tl_tree.specs.inner.Lines.{line_atoms}
 use Rattle.tl_tree.specs.inner.Reading.{place_of, place_columns, open_size, holder_so_far, outcome}
 use Rattle.tl_tree.specs.inner.Documents.{around, state_of, IsModestReading, IsFresh, Reads, IsStop, stop_error, HasRead}
 use Rattle.tl_tree.proofs.MachineSound.{document_sound}
-use Rattle.tl_tree.proofs.Verdicts.{reached-append, depth-reached, passes, refused_first, first_refused, document_clean, no_table, wrong_at}
+use Rattle.tl_tree.proofs.Verdicts.{reached-append, depth-reached, passes, refused_first, first_refused, document_clean, no_table}
+use Rattle.tl_tree.proofs.Verdicts.{wrong_at}
 use Rattle.tl_tree.proofs.Verdicts.{misfit_fault, table_fault, deep_fault, many_fault}
 use Rattle.tl_tree.proofs.SameTrees.{one_tree}
 use Rattle.tl_tree.proofs.FineMoves.{state_columns, few_columns, small_marks}
 use Rattle.tl_tree.proofs.EntrySizes.{entries_size, paragraph_size, open_line_size}
 
 -- one more token
-all_told-push : (s : State) (prefix : Kinds) (k : Kind) → all_told s (prefix ++ k ∷ []) ≡ all_told s prefix ++ told (reached s prefix) k
+all_told-push : (s : State) (prefix : Kinds) (k : Kind) → all_told s (prefix ++ k ∷ []) ≡ all_told s prefix ++ told
+    (reached s prefix) k
 all_told-push s [] k = append-nil (told s k)
 all_told-push s (j ∷ prefix) k = ap (λ x. told s j ++ x) (all_told-push (next s j) prefix k) ∙ sym (append_assoc (told s j) _ _)
 
-fit_more : (d t : ℕ) (prefix : Kinds) (k : Kind) → FitLimits d t prefix → FitsLimits (depth_after d prefix) (tables_after t prefix) k →
+fit_more : (d t : ℕ) (prefix : Kinds) (k : Kind) → FitLimits d t prefix →
+    FitsLimits (depth_after d prefix) (tables_after t prefix) k →
     FitLimits d t (prefix ++ k ∷ [])
 fit_more d t [] k fits more = (more, tt)
 fit_more d t (j ∷ prefix) k fits more = (fits.0, fit_more (depth_with d j) (tables_with t j) prefix k fits.1 more)
 
-tables_after-push : (t : ℕ) (prefix : Kinds) (k : Kind) → tables_after t (prefix ++ k ∷ []) ≡ tables_with (tables_after t prefix) k
+tables_after-push : (t : ℕ) (prefix : Kinds) (k : Kind) → tables_after t (prefix ++ k ∷ []) ≡ tables_with
+    (tables_after t prefix) k
 tables_after-push t [] k = refl
 tables_after-push t (j ∷ prefix) k = tables_after-push (tables_with t j) prefix k
 
 pub nothing_read : HasRead [] 0 Before
 nothing_read = record { goes = refl; alive = refl; within = tt; counted = refl; same = λ later. refl }
 
-pub one_more_read : (prefix : Kinds) (tables : ℕ) (old new : Reading) (k : Kind) → HasRead prefix tables old → Reads old tables k new
+pub one_more_read : (prefix : Kinds) (tables : ℕ) (old new : Reading) (k : Kind) → HasRead prefix tables old →
+    Reads old tables k new
     → HasRead (prefix ++ k ∷ []) (tables_with tables k) new
 one_more_read prefix tables old new k h r = record {
   goes = reached-append before prefix (k ∷ []) ∙ ap (λ s. next s k) h.goes ∙ r.goes;
   alive = r.alive;
   within =
-      let deep : depth (state_of old) ≡ depth_after 0 prefix = sym (ap depth h.goes) ∙ depth-reached before prefix (ap is_failed h.goes ∙ h.alive) in
+      let deep : depth (state_of old) ≡ depth_after 0 prefix =
+      sym (ap depth h.goes) ∙ depth-reached before prefix (ap is_failed h.goes ∙ h.alive) in
       let P : ℕ → Type 0 = λ d. FitsLimits d (tables_after 0 prefix) k in
       let Q : ℕ → Type 0 = λ t. FitsLimits (depth (state_of old)) t k in
       fit_more 0 0 prefix k h.within (subst P deep (subst Q h.counted r.fits));
@@ -72,8 +80,9 @@ one_more_read prefix tables old new k h r = record {
 }
 
 -- the token at which reading stops
-pub stopped : (ks prefix rest : Kinds) (k : Kind) (tables : ℕ) (reading : Reading) (stop : Stop) → ks ≡ prefix ++ (k ∷ rest) → HasRead prefix tables reading
-    → IsStop (state_of reading) tables k stop → IsMemoryOr (Memory alloc_error) (IsRefused ks) (stop_error (length prefix) k stop)
+pub stopped : (ks prefix rest : Kinds) (k : Kind) (tables : ℕ) (reading : Reading) (stop : Stop) → ks ≡ prefix ++ (k ∷ rest) →
+    HasRead prefix tables reading
+    → IsStop (state_of reading) tables k stop → IsMemoryOr (Memory alloc_error) (AreNoDocument ks) (stop_error (length prefix) k stop)
 stopped ks prefix rest k tables reading (stops.Memory error) split h stop = inl refl
 stopped ks prefix rest k tables reading stops.Misfit split h stop =
     let dead : is_failed (next (reached before prefix) k) ≡ true = ap (λ s. is_failed (next s k)) h.goes ∙ stop in
@@ -81,24 +90,29 @@ stopped ks prefix rest k tables reading stops.Misfit split h stop =
     (misfit_fault _ _ _ k dead ∙ ap (λ n. Some (misfit n k)) (zero-add (length prefix))))
 stopped ks prefix rest k tables reading stops.TooDeep split h (table, goes, deep) =
     let alive : is_failed (next (reached before prefix) k) ≡ false = ap (λ s. is_failed (next s k)) h.goes ∙ goes in
-    let d : MAX_DEPTH ≤ depth (reached before prefix) = (let P : ℕ → Type 0 = λ n. MAX_DEPTH ≤ n in subst P (sym (ap depth h.goes)) deep) in
+    let d : MAX_DEPTH ≤ depth (reached before prefix) = (let P : ℕ → Type 0 = λ n. MAX_DEPTH ≤ n in
+    subst P (sym (ap depth h.goes)) deep) in
     inr (wrong_at ks prefix k rest (TooDeep (length prefix)) split (ap is_failed h.goes ∙ h.alive) h.within
     (table_fault _ _ _ k table alive ∙ deep_fault _ _ _ _ d (zero-add (length prefix))))
 stopped ks prefix rest k tables reading stops.TooManyTables split h (table, goes, shallow, many) =
     let alive : is_failed (next (reached before prefix) k) ≡ false = ap (λ s. is_failed (next s k)) h.goes ∙ goes in
-    let d : depth (reached before prefix) < MAX_DEPTH = (let P : ℕ → Type 0 = λ n. n < MAX_DEPTH in subst P (sym (ap depth h.goes)) shallow) in
+    let d : depth (reached before prefix) < MAX_DEPTH = (let P : ℕ → Type 0 = λ n. n < MAX_DEPTH in
+    subst P (sym (ap depth h.goes)) shallow) in
     let m : MAX_TABLES ≤ tables_after 0 prefix = (let P : ℕ → Type 0 = λ n. MAX_TABLES ≤ n in subst P h.counted many) in
     inr (wrong_at ks prefix k rest (TooManyTables (length prefix)) split (ap is_failed h.goes ∙ h.alive) h.within
     (table_fault _ _ _ k table alive ∙ many_fault _ _ _ _ d m (zero-add (length prefix))))
 
 -- the end of the tokens
-pub ended_refused : (ks : Kinds) (tables : ℕ) (reading : Reading) (e : TreeError) → HasRead ks tables reading → end_fault (state_of reading) ≡ Some e
-    → IsRefused ks e
+pub ended_refused : (ks : Kinds) (tables : ℕ) (reading : Reading) (e : TreeError) → HasRead ks tables reading →
+    end_fault (state_of reading) ≡ Some e
+    → AreNoDocument ks e
 ended_refused ks tables reading e h f =
-    first_refused ks e (ap (λ x. verdict 0 0 before x) (sym (append-nil ks)) ∙ passes 0 0 before ks [] (ap is_failed h.goes ∙ h.alive) h.within
+    first_refused ks e (ap (λ x. verdict 0 0 before x) (sym (append-nil ks)) ∙ passes 0 0 before ks []
+    (ap is_failed h.goes ∙ h.alive) h.within
     ∙ ap end_fault h.goes ∙ f)
 
-pub ended_tree : (tokens : List Token) (tables : ℕ) (node : TableNode) → HasRead (kinds tokens) tables (After node) → SpellsTree tokens node
+pub ended_tree : (tokens : List Token) (tables : ℕ) (node : TableNode) → HasRead (kinds tokens) tables (After node) →
+    SpellsTree tokens node
 ended_tree tokens tables node h = record {
   marks = all_told before (kinds tokens);
   document = document_sound (record { ends = h.goes; tells = refl });
@@ -106,7 +120,8 @@ ended_tree tokens tables node h = record {
 }
 
 -- the answer decides all others
-pub each_ok : (tokens : List Token) (r : Result TableNode TreeError) → IfOk r (SpellsTree tokens) → IfErr r (IsMemoryOr (Memory alloc_error) (Refused tokens))
+pub each_ok : (tokens : List Token) (r : Result TableNode TreeError) → IfOk r (SpellsTree tokens) →
+    IfErr r (IsMemoryOr (Memory alloc_error) (SpellsNoTree tokens))
     → (node : TableNode) → SpellsTree tokens node → IsWithinLimits (kinds tokens) → ReturnsTree node r
 each_ok tokens (Ok returned) ok err node spelt within = one_tree tokens returned node ok spelt
 each_ok tokens (Err error) ok (inl memory) node spelt within = memory
@@ -114,14 +129,18 @@ each_ok tokens (Err error) ok (inr refused) node spelt within =
     absurd (let c : Some error ≡ None = sym (refused_first (kinds tokens) error refused)
     ∙ document_clean (kinds tokens) spelt.marks spelt.document within in cc)
 
-pub each_err : (tokens : List Token) (r : Result TableNode TreeError) → IfOk r (SpellsTree tokens) → OnOk r (IsWithinLimits (kinds tokens))
-    → IfErr r (IsMemoryOr (Memory alloc_error) (Refused tokens)) → (error : TreeError) → Refused tokens error → ReturnsError (Memory alloc_error) error r
+pub each_err : (tokens : List Token) (r : Result TableNode TreeError) → IfOk r (SpellsTree tokens) →
+    OnOk r (IsWithinLimits (kinds tokens))
+    → IfErr r (IsMemoryOr (Memory alloc_error) (SpellsNoTree tokens)) → (error : TreeError) → SpellsNoTree tokens error →
+    ReturnsError (Memory alloc_error) error r
 each_err tokens (Ok returned) ok within err error refused =
-    let c : Some error ≡ None = sym (refused_first (kinds tokens) error refused) ∙ document_clean (kinds tokens) ok.marks ok.document within in
+    let c : Some error ≡ None = sym (refused_first (kinds tokens) error refused) ∙ document_clean (kinds tokens)
+    ok.marks ok.document within in
     absurd (cc)
 each_err tokens (Err found) ok within (inl memory) error refused = inl memory
 each_err tokens (Err found) ok within (inr cause) error refused =
-    let c : Some found ≡ Some error = sym (refused_first (kinds tokens) found cause) ∙ refused_first (kinds tokens) error refused in
+    let c : Some found ≡ Some error = sym (refused_first (kinds tokens) found cause) ∙ refused_first (kinds tokens)
+    error refused in
     inr (cc)
 
 -- tokens count at least 1 each
@@ -162,7 +181,8 @@ modest prefix tables (Inside outer t) h readable small =
     let same : state_columns (reached before prefix) ≡ place_columns (place_of t) = ap state_columns h.goes in
     let long = kinds_length prefix readable in
     let sizes = sum_by-append entry_size (around outer.items) (outcome t tables []) in
-    let all : sum_by entry_size (around outer.items ++ outcome t tables []) ≡ sum_by entry_size (entries_of 0 (all_told before prefix)) =
+    let all : sum_by entry_size (around outer.items ++ outcome t tables []) ≡ sum_by entry_size
+    (entries_of 0 (all_told before prefix)) =
     ap (λ es. sum_by entry_size es) (h.same [] ∙ ap (λ ms. entries_of 0 ms) (append-nil (all_told before prefix))) in
     let bound = entries_size 0 (all_told before prefix) in
     let told_small = small_marks before prefix readable in
@@ -191,21 +211,25 @@ kinds_more tokens i d h = ap kinds (take_more tokens i d h) ∙ map-append kind_
 -- the token at an index, and the tokens around it
 pub at_token : (tokens : List Token) (i : ℕ) (token : Token) → i < length tokens → token ≡ get_or tokens i token
     → kinds tokens ≡ kinds (take i tokens) ++ (kind_of token ∷ kinds (drop (i + 1) tokens))
-at_token tokens i token h is = kinds_split tokens i token h ∙ ap (λ t. kinds (take i tokens) ++ (kind_of t ∷ kinds (drop (i + 1) tokens))) (sym is)
+at_token tokens i token h is = kinds_split tokens i token h ∙ ap
+    (λ t. kinds (take i tokens) ++ (kind_of t ∷ kinds (drop (i + 1) tokens))) (sym is)
 
 pub with_token : (tokens : List Token) (i : ℕ) (token : Token) → i < length tokens → token ≡ get_or tokens i token
     → kinds (take (i + 1) tokens) ≡ kinds (take i tokens) ++ kind_of token ∷ []
 with_token tokens i token h is = kinds_more tokens i token h ∙ ap (λ t. kinds (take i tokens) ++ kind_of t ∷ []) (sym is)
 
-pub all_prefix : (prefix rest : Kinds) → AllByRecursion IsReadable (prefix ++ rest) → AllByRecursion IsReadable prefix × AllByRecursion IsReadable rest
+pub all_prefix : (prefix rest : Kinds) → AllByRecursion IsReadable (prefix ++ rest) →
+    AllByRecursion IsReadable prefix × AllByRecursion IsReadable rest
 all_prefix [] rest h = (tt, h)
 all_prefix (k ∷ prefix) rest h = let (a, b) = all_prefix prefix rest h.1 in ((h.0, a), b)
 
-pub readable_parts : (ks prefix rest : Kinds) → ks ≡ prefix ++ rest → AllByRecursion IsReadable ks → AllByRecursion IsReadable prefix
+pub readable_parts : (ks prefix rest : Kinds) → ks ≡ prefix ++ rest → AllByRecursion IsReadable ks →
+    AllByRecursion IsReadable prefix
     × AllByRecursion IsReadable rest
 readable_parts ks prefix rest split h = all_prefix prefix rest (subst (λ (x : Kinds). AllByRecursion IsReadable x) split h)
 
-pub small_prefix : (ks prefix rest : Kinds) → ks ≡ prefix ++ rest → sum_by kind_size ks ≤ MAX_FILE_BYTES → sum_by kind_size prefix ≤ MAX_FILE_BYTES
+pub small_prefix : (ks prefix rest : Kinds) → ks ≡ prefix ++ rest → sum_by kind_size ks ≤ MAX_FILE_BYTES →
+    sum_by kind_size prefix ≤ MAX_FILE_BYTES
 small_prefix ks prefix rest split h =
     let e : sum_by kind_size ks ≡ sum_by kind_size (prefix ++ rest) = ap (λ x. sum_by kind_size x) split in
     let s = sum_by-append kind_size prefix rest in

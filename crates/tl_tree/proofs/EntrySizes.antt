@@ -1,5 +1,6 @@
 -- How much the entries of marks count.
-use Rattle.std.proofs.Common.{◌≡◌, ◌≤◌, ℕ, ◌+◌, Bool, true, false, List, [], ◌∷◌, ◌++◌, length, map, sum_by, refl, sym, ap, ◌∙◌, subst, cond, arith}
+use Rattle.std.proofs.Common.{◌≡◌, ◌≤◌, ℕ, ◌+◌, Bool, true, false, List, [], ◌∷◌, ◌++◌, length, map, sum_by, refl, sym, ap, ◌∙◌}
+use Rattle.std.proofs.Common.{subst, cond, arith}
 use Rattle.std.proofs.Common.{length-append}
 use Rattle.std.proofs.lemmas.Bool.Decides.{nat_tests}
 use Rattle.std.proofs.lemmas.List.{append-nil}
@@ -14,7 +15,8 @@ use Rattle.tl_text.specs.declared.paragraph.Atom.{Atom}
 use Rattle.tl_text.specs.declared.paragraph.Atom.TheVariants.{Word, Break}
 use Rattle.tl_text.proofs.WordLemmas.{words_from, words_from-end}
 use Rattle.tl_tree.specs.Grammar.{Mark, Marks, character, line_break}
-use Rattle.tl_tree.specs.Paragraphs.{leading, first_text, after_breaks, atoms_of, paragraph_of, entry_of, number_after, entries_after, entries_of}
+use Rattle.tl_tree.specs.Paragraphs.{leading, first_text, after_breaks, atoms_of, paragraph_of, entry_of, number_after}
+use Rattle.tl_tree.specs.Paragraphs.{entries_after, entries_of}
 use Rattle.tl_tree.specs.Outline.{Entries, paragraph}
 use Rattle.tl_tree.specs.Sound.{entry_size}
 use Rattle.tl_tree.specs.inner.Lines.{line_atoms, line_size, open_word}
@@ -57,7 +59,8 @@ atoms_size word (line_break ∷ ms) =
     rw (sym e) (omega (arith, s, t, sum_by-cons mark_size line_break ms))
 atoms_size word (m ∷ ms) = other_mark word m ms (atoms_size [] ms)
   where
-    other_mark : (word : List ℕ) (m : Mark) (ms : Marks) → sum_by atom_size (atoms_from [] [] ms) ≤ byte_count [] + sum_by mark_size ms
+    other_mark : (word : List ℕ) (m : Mark) (ms : Marks) → sum_by atom_size
+        (atoms_from [] [] ms) ≤ byte_count [] + sum_by mark_size ms
         → sum_by atom_size (open_atoms word ++ after_breaks ms) ≤ byte_count word + sum_by mark_size (m ∷ ms)
     other_mark word m ms anew =
         let h = open_size word in
@@ -70,10 +73,12 @@ paragraph_size [] = refl
 paragraph_size (atom ∷ atoms) = omega (arith, sum_by-cons entry_size (paragraph (atom ∷ atoms)) [])
 
 pub leading_atoms_size : (ms : Marks) → sum_by atom_size (atoms_of ms) ≤ sum_by mark_size ms
-leading_atoms_size ms = let h = atoms_size [] ms in let P : List Atom → Type 0 = λ atoms. sum_by atom_size atoms ≤ sum_by mark_size ms in
+leading_atoms_size ms = let h = atoms_size [] ms in let P : List Atom → Type 0 =
+    λ atoms. sum_by atom_size atoms ≤ sum_by mark_size ms in
     subst P (read_none ms) (omega arith)
 
-pub later_size : (k : ℕ) (ms : Marks) → sum_by entry_size (entries_after k ms) + sum_by mark_size (leading ms) ≤ sum_by mark_size ms
+pub later_size : (k : ℕ) (ms : Marks) → sum_by entry_size (entries_after k ms) + sum_by mark_size
+    (leading ms) ≤ sum_by mark_size ms
 later_size k [] = omega arith
 later_size k (character c ∷ ms) =
     let h = later_size k ms in

@@ -14,15 +14,17 @@ use Rattle.tl_token.specs.declared.token.Spans.{Spans}
 use Rattle.tl_token.specs.declared.token.Token.{Token}
 use Rattle.tl_token.specs.declared.token.TokenKind.TheVariants.{Start, End, Text}
 use Rattle.tl_text.specs.declared.paragraph.Atom.TheVariants.{Word, Break}
-use Rattle.tl_tree.specs.Tags.{Kinds, tbody, text, table_start, table_end, caption_start, caption_end, col, group_start, group_end, row_start, cell_start, br}
+use Rattle.tl_tree.specs.Tags.{Kinds, tbody, text, table_start, table_end, caption_start, caption_end, col, group_start}
+use Rattle.tl_tree.specs.Tags.{group_end, row_start, cell_start, br}
 use Rattle.tl_tree.specs.Tags.{p_or_div, class_of}
 use Rattle.tl_tree.specs.Grammar as grammar
-use Rattle.tl_tree.specs.Grammar.{Marks, Document, colgroup_columns, no_outer, no_space, by_tag, left_out, no_columns, lone_col, no_flow, words, break, nested}
+use Rattle.tl_tree.specs.Grammar.{Marks, Document, colgroup_columns, no_outer, no_space, by_tag, left_out, no_columns, lone_col}
+use Rattle.tl_tree.specs.Grammar.{no_flow, words, break, nested}
 use Rattle.tl_tree.specs.Grammar.{no_caption, no_cell, no_row, no_part, loose_rows, character, line_break, paragraph_ends}
 use Rattle.tl_tree.specs.Paragraphs.{entries_of}
 use Rattle.tl_tree.specs.Outline.{Entries, table, caption, columns, group, row, cell, paragraph, table_end}
 use Rattle.tl_tree.specs.Sound.{table_count, IsNumberedFrom, IsNestedBelow, entry_size}
-use Rattle.tl_tree.specs.Spelling.{SpellsTree, IsRefused}
+use Rattle.tl_tree.specs.Spelling.{SpellsTree, AreNoDocument}
 use Rattle.tl_tree.specs.declared.error.TreeError.TheVariants.{NoTable, StrayText, Misplaced, Unclosed}
 use Rattle.tl_tree.specs.declared.node.Block.{roll-Block}
 use Rattle.tl_tree.specs.declared.node.Block.TheOpen as parts
@@ -37,11 +39,13 @@ one = record { colspan = 1; rowspan = 1; span = 1; least = 0 }
 -- ---- a caption, and a table in a cell
 
 abbrev captioned : Kinds
-captioned = table_start ∷ caption_start ∷ text (codes "A") ∷ caption_end ∷ row_start ∷ cell_start false one ∷ text (codes "b") ∷ br ∷ text (codes "c")
+captioned = table_start ∷ caption_start ∷ text (codes "A") ∷ caption_end ∷ row_start ∷ cell_start false one ∷ text
+    (codes "b") ∷ br ∷ text (codes "c")
     ∷ table_start ∷ table_end ∷ text (codes "d") ∷ table_end ∷ []
 
 abbrev captioned_marks : Marks
-captioned_marks = grammar.table_begins ∷ grammar.caption_begins ∷ character 65 ∷ paragraph_ends ∷ grammar.columns 0 ∷ grammar.group_begins Loose
+captioned_marks = grammar.table_begins ∷ grammar.caption_begins ∷ character 65 ∷ paragraph_ends ∷ grammar.columns
+    0 ∷ grammar.group_begins Loose
     ∷ grammar.row_begins ∷ grammar.cell_begins false one ∷ character 98 ∷ line_break ∷ character 99
     ∷ grammar.table_begins ∷ grammar.columns 0 ∷ grammar.table_ends ∷ character 100 ∷ paragraph_ends ∷ grammar.table_ends ∷ []
 
@@ -86,7 +90,8 @@ abbrev grouped : Kinds
 grouped = table_start ∷ row_start ∷ group_start tbody ∷ row_start ∷ group_end tbody ∷ row_start ∷ row_start ∷ table_end ∷ []
 
 abbrev grouped_marks : Marks
-grouped_marks = grammar.table_begins ∷ grammar.columns 0 ∷ grammar.group_begins Loose ∷ grammar.row_begins ∷ grammar.group_begins Body ∷ grammar.row_begins
+grouped_marks = grammar.table_begins ∷ grammar.columns 0 ∷ grammar.group_begins
+    Loose ∷ grammar.row_begins ∷ grammar.group_begins Body ∷ grammar.row_begins
     ∷ grammar.group_begins Loose ∷ grammar.row_begins ∷ grammar.row_begins ∷ grammar.table_ends ∷ []
 
 grouped_document : Document grouped grouped_marks
@@ -103,7 +108,8 @@ grouped_document = record {
   followed = no_outer;
 }
 
-grouped_outline : entries_of 0 grouped_marks ≡ table 0 ∷ columns 0 ∷ group Loose ∷ row ∷ group Body ∷ row ∷ group Loose ∷ row ∷ row ∷ table_end ∷ []
+grouped_outline : entries_of 0 grouped_marks ≡ table 0 ∷ columns 0 ∷ group Loose ∷ row ∷ group Body ∷ row ∷ group
+    Loose ∷ row ∷ row ∷ table_end ∷ []
 grouped_outline = refl
 
 -- ---- columns, and a tree that tokens spell
@@ -118,16 +124,33 @@ abbrev of_three : Spans
 of_three = record { colspan = 1; rowspan = 1; span = 3; least = 0 }
 
 abbrev narrow_tokens : List Token
-narrow_tokens = record { kind = Start elements.Table one; first = 0; past = 7 } ∷ record { kind = Start elements.Caption one; first = 7; past = 16 }
+narrow_tokens = record { kind = Start elements.Table one; first = 0; past = 7 } ∷ record {
+  kind =
+      Start elements.Caption one;
+  first = 7;
+  past = 16;
+}
     ∷ record { kind = Text (codes "A"); first = 16; past = 17 } ∷ record { kind = End elements.Caption; first = 17; past = 27 }
-    ∷ record { kind = Start elements.Col of_three; first = 27; past = 39 } ∷ record { kind = End elements.Table; first = 39; past = 47 } ∷ []
+    ∷ record { kind = Start elements.Col of_three; first = 27; past = 39 } ∷ record {
+      kind = End elements.Table;
+      first =
+          39;
+      past = 47;
+    } ∷ []
 
 abbrev narrow_tree : TableNode
-narrow_tree = roll-TableNode (record { number = 0; caption = Some (roll-Block (parts.Para (Word (codes "A") ∷ [])) ∷ []); columns = 3; groups = [] })
+narrow_tree = roll-TableNode (record {
+  number = 0;
+  caption =
+      Some (roll-Block (parts.Para (Word (codes "A") ∷ [])) ∷ []);
+  columns = 3;
+  groups = [];
+})
 
 narrow_spelt : SpellsTree narrow_tokens narrow_tree
 narrow_spelt = record {
-  marks = grammar.table_begins ∷ grammar.caption_begins ∷ character 65 ∷ paragraph_ends ∷ grammar.columns 3 ∷ grammar.table_ends ∷ [];
+  marks = grammar.table_begins ∷ grammar.caption_begins ∷ character 65 ∷ paragraph_ends ∷ grammar.columns
+      3 ∷ grammar.table_ends ∷ [];
   document = record {
     before = table_start ∷ caption_start ∷ text (codes "A") ∷ caption_end ∷ col 3 ∷ table_end ∷ [];
     after = [];
@@ -159,28 +182,31 @@ two_paragraphs : flow_entries (character 97 ∷ paragraph_ends ∷ character 32 
 two_paragraphs = refl
 
 -- a nested table ends a paragraph, and tables are numbered as they begin
-around_tables : flow_entries (character 97 ∷ grammar.table_begins ∷ grammar.columns 0 ∷ grammar.group_begins Loose ∷ grammar.row_begins
-    ∷ grammar.cell_begins false one ∷ grammar.table_begins ∷ grammar.columns 0 ∷ grammar.table_ends ∷ paragraph_ends ∷ grammar.table_ends ∷ character 98 ∷ [])
-    ≡ paragraph (Word (codes "a") ∷ []) ∷ table 1 ∷ columns 0 ∷ group Loose ∷ row ∷ cell false 1 1 0 ∷ table 2 ∷ columns 0 ∷ table_end ∷ table_end
+around_tables : flow_entries (character 97 ∷ grammar.table_begins ∷ grammar.columns 0 ∷ grammar.group_begins
+    Loose ∷ grammar.row_begins
+    ∷ grammar.cell_begins false one ∷ grammar.table_begins ∷ grammar.columns
+    0 ∷ grammar.table_ends ∷ paragraph_ends ∷ grammar.table_ends ∷ character 98 ∷ [])
+    ≡ paragraph (Word (codes "a") ∷ []) ∷ table 1 ∷ columns 0 ∷ group Loose ∷ row ∷ cell false 1 1 0 ∷ table 2 ∷ columns
+    0 ∷ table_end ∷ table_end
     ∷ paragraph (Word (codes "b") ∷ []) ∷ []
 around_tables = refl
 
 -- ---- refusals
 
-no_table : IsRefused (text (codes " ") ∷ []) NoTable
+no_table : AreNoDocument (text (codes " ") ∷ []) NoTable
 no_table = first_refused (text (codes " ") ∷ []) NoTable refl
 
-unclosed : IsRefused (table_start ∷ row_start ∷ []) Unclosed
+unclosed : AreNoDocument (table_start ∷ row_start ∷ []) Unclosed
 unclosed = first_refused (table_start ∷ row_start ∷ []) Unclosed refl
 
-stray_text : IsRefused (table_start ∷ text (codes "x") ∷ table_end ∷ []) (StrayText 1)
+stray_text : AreNoDocument (table_start ∷ text (codes "x") ∷ table_end ∷ []) (StrayText 1)
 stray_text = first_refused (table_start ∷ text (codes "x") ∷ table_end ∷ []) (StrayText 1) refl
 
-cell_outside_row : IsRefused (table_start ∷ cell_start false one ∷ []) (Misplaced 1)
+cell_outside_row : AreNoDocument (table_start ∷ cell_start false one ∷ []) (Misplaced 1)
 cell_outside_row = first_refused (table_start ∷ cell_start false one ∷ []) (Misplaced 1) refl
 
-second_caption : IsRefused (table_start ∷ caption_start ∷ caption_end ∷ caption_start ∷ []) (Misplaced 3)
+second_caption : AreNoDocument (table_start ∷ caption_start ∷ caption_end ∷ caption_start ∷ []) (Misplaced 3)
 second_caption = first_refused (table_start ∷ caption_start ∷ caption_end ∷ caption_start ∷ []) (Misplaced 3) refl
 
-caption_after_row : IsRefused (table_start ∷ row_start ∷ caption_start ∷ []) (Misplaced 2)
+caption_after_row : AreNoDocument (table_start ∷ row_start ∷ caption_start ∷ []) (Misplaced 2)
 caption_after_row = first_refused (table_start ∷ row_start ∷ caption_start ∷ []) (Misplaced 2) refl

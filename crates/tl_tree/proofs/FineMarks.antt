@@ -28,7 +28,8 @@ widen : (n most : ℕ) (m : Mark) → n ≤ most → IsFineMark n m → IsFineMa
 widen n most (columns c) h fine = omega arith
 widen n most _ h fine = fine
 
-inside_fine : (n most d : ℕ) (ms rest : Marks) → n ≤ most → AllByRecursion (IsFineMark n) ms → AreFineMarks most d rest → AreFineMarks most d (ms ++ rest)
+inside_fine : (n most d : ℕ) (ms rest : Marks) → n ≤ most → AllByRecursion (IsFineMark n) ms → AreFineMarks most d rest →
+    AreFineMarks most d (ms ++ rest)
 inside_fine n most d [] rest h fine k = k
 inside_fine n most d (table_begins ∷ ms) rest h fine k = absurd fine.0
 inside_fine n most d (table_ends ∷ ms) rest h fine k = absurd fine.0
@@ -41,14 +42,16 @@ inside_number n t (table_ends ∷ ms) rest fine = absurd fine.0
 inside_number n t (_ ∷ ms) rest fine = inside_number n t ms rest fine.1
 
 -- the marks of a token
-token_fine : (n most d t : ℕ) (k : Kind) (ms rest : Marks) → n ≤ most → AreMarksOf n k ms → FitsLimits d t k → AreFineMarks most (depth_with d k) rest
+token_fine : (n most d t : ℕ) (k : Kind) (ms rest : Marks) → n ≤ most → AreMarksOf n k ms → FitsLimits d t k →
+    AreFineMarks most (depth_with d k) rest
     → AreFineMarks most d (ms ++ rest)
 token_fine n most d t table_start ms rest h is fits fine = rw is (fits.0, fine)
 token_fine n most d t table_end ms rest h (due, is, inside) fits fine =
     rw (is, append_assoc due (table_ends ∷ []) rest) (inside_fine n most d due (table_ends ∷ rest) h inside fine)
 token_fine n most d t _ ms rest h inside fits fine = inside_fine n most d ms rest h inside fine
 
-token_number : (n t : ℕ) (k : Kind) (ms rest : Marks) → AreMarksOf n k ms → number_at t (ms ++ rest) ≡ number_at (tables_with t k) rest
+token_number : (n t : ℕ) (k : Kind) (ms rest : Marks) → AreMarksOf n k ms →
+    number_at t (ms ++ rest) ≡ number_at (tables_with t k) rest
 token_number n t table_start ms rest is = rw is refl
 token_number n t table_end ms rest (due, is, inside) =
     rw (is, append_assoc due (table_ends ∷ []) rest) (inside_number n t due (table_ends ∷ rest) inside)
@@ -62,11 +65,13 @@ fine_marks most d t s (k ∷ ks) (here, later) alive few fits =
     let step = fine_step s k here in
     let more = step.few in
     let rest = fine_marks most (depth_with d k) (tables_with t k) (next s k) ks later alive (omega arith) fits.1 in
-    token_fine (state_columns s) most d t k (told s k) (all_told (next s k) ks) (omega arith) (step.fine (alive_before (next s k) ks alive)) fits.0 rest
+    token_fine (state_columns s) most d t k (told s k) (all_told (next s k) ks) (omega arith)
+    (step.fine (alive_before (next s k) ks alive)) fits.0 rest
 
 pub number_told : (t : ℕ) (s : State) (ks : Kinds) → AllByRecursion IsReadable ks → is_failed (reached s ks) ≡ false
     → number_at t (all_told s ks) ≡ tables_after t ks
 number_told t s [] readable alive = refl
 number_told t s (k ∷ ks) (here, later) alive =
-    token_number (state_columns s) t k (told s k) (all_told (next s k) ks) ((fine_step s k here).fine (alive_before (next s k) ks alive))
+    token_number (state_columns s) t k (told s k) (all_told (next s k) ks)
+    ((fine_step s k here).fine (alive_before (next s k) ks alive))
     ∙ number_told (tables_with t k) (next s k) ks later alive

@@ -1,6 +1,7 @@
 -- What a token that is readable leads to: few more columns, marks that count no more than the token, and
 -- numbers in their ranges.
-use Rattle.std.proofs.Common.{◌≡◌, ◌≤◌, ℕ, ◌+◌, ◌*◌, Bool, true, false, ◌||◌, List, [], ◌∷◌, ◌++◌, length, map, sum_by, refl, sym, ap, ◌∙◌}
+use Rattle.std.proofs.Common.{◌≡◌, ◌≤◌, ℕ, ◌+◌, ◌*◌, Bool, true, false, ◌||◌, List, [], ◌∷◌, ◌++◌, length, map, sum_by, refl, sym}
+use Rattle.std.proofs.Common.{ap, ◌∙◌}
 use Rattle.std.proofs.Common.{subst, cond, arith}
 use Rattle.std.proofs.lemmas.Bool.{false≢true}
 use Rattle.std.proofs.lemmas.List.Sums.{sum_by-cons, sum_by-append}
@@ -11,15 +12,20 @@ use Rattle.tl_base.specs.Text.{byte_count}
 use Rattle.tl_base.proofs.Texts.{byte_count-cons}
 use Rattle.tl_token.specs.Characters.{is_control}
 use Rattle.tl_token.specs.declared.token.Spans.{Spans}
-use Rattle.tl_tree.specs.Tags.{Section, part_of, Kind, Kinds, text, table_start, table_end, caption_start, caption_end, colgroup_start, colgroup_end, col}
-use Rattle.tl_tree.specs.Tags.{group_start, group_end, row_start, row_end, cell_start, cell_end, br, p_or_div, inline_tag, outer_tag}
+use Rattle.tl_tree.specs.Tags.{Section, part_of, Kind, Kinds, text, table_start, table_end, caption_start, caption_end}
+use Rattle.tl_tree.specs.Tags.{colgroup_start, colgroup_end, col}
+use Rattle.tl_tree.specs.Tags.{group_start, group_end, row_start, row_end, cell_start, cell_end, br, p_or_div, inline_tag}
+use Rattle.tl_tree.specs.Tags.{outer_tag}
 use Rattle.tl_tree.specs.Tags.{lone_end, is_white, is_table_start}
-use Rattle.tl_tree.specs.Grammar.{Mark, Marks, table_begins, columns, group_begins, row_begins, cell_begins, character, line_break, paragraph_ends, table_ends}
+use Rattle.tl_tree.specs.Grammar.{Mark, Marks, table_begins, columns, group_begins, row_begins, cell_begins, character}
+use Rattle.tl_tree.specs.Grammar.{line_break, paragraph_ends, table_ends}
 use Rattle.tl_tree.specs.Sound.{IsCellInRange}
 use Rattle.tl_tree.specs.Readable.{IsReadable, kind_size}
 use Rattle.tl_tree.specs.Spelling.{depth_with}
-use Rattle.tl_tree.specs.inner.Machine.{Holder, of_caption, of_cell, Place, opened, in_columns, in_colgroup, between, in_group, in_row, in_flow, due, closes}
-use Rattle.tl_tree.specs.inner.Machine.{same_head, Move, to, enter, leave, never, move, State, before, inside, after, failed, left, moved, marks_of, next}
+use Rattle.tl_tree.specs.inner.Machine.{Holder, of_caption, of_cell, Place, opened, in_columns, in_colgroup, between, in_group}
+use Rattle.tl_tree.specs.inner.Machine.{in_row, in_flow, due, closes}
+use Rattle.tl_tree.specs.inner.Machine.{same_head, Move, to, enter, leave, never, move, State, before, inside, after, failed}
+use Rattle.tl_tree.specs.inner.Machine.{left, moved, marks_of, next}
 use Rattle.tl_tree.specs.inner.Machine.{told, reached, all_told}
 use Rattle.tl_tree.specs.inner.Reading.{place_columns}
 use Rattle.tl_tree.specs.inner.Verdict.{is_failed}
@@ -52,7 +58,8 @@ FineMove p k never = Unit {0}
 
 text_size : (cs : List ℕ) → sum_by mark_size (map character cs) ≡ byte_count cs
 text_size [] = refl
-text_size (c ∷ cs) = sum_by-cons mark_size (character c) (map character cs) ∙ ap (λ n. length (encode_utf8 c) + n) (text_size cs) ∙ sym (byte_count-cons c cs)
+text_size (c ∷ cs) = sum_by-cons mark_size (character c) (map character cs) ∙ ap (λ n. length (encode_utf8 c) + n)
+    (text_size cs) ∙ sym (byte_count-cons c cs)
 
 text_fine : (n : ℕ) (cs : List ℕ) → list_any is_control cs ≡ false → AllByRecursion (IsFineMark n) (map character cs)
 text_fine n [] h = tt
@@ -76,9 +83,11 @@ text_moves cs h (in_flow holder) = (omega arith, let e = text_size cs in omega a
 text_moves cs h opened = fine_if (is_white (text cs)) opened opened (text cs) [] (plain opened opened (text cs) (omega arith))
 text_moves cs h (in_columns n) = fine_if (is_white (text cs)) (in_columns n) (in_columns n) (text cs) []
     (plain (in_columns n) (in_columns n) (text cs) (omega arith))
-text_moves cs h (in_colgroup n pending) = fine_if (is_white (text cs)) (in_colgroup n pending) (in_colgroup n pending) (text cs) []
+text_moves cs h (in_colgroup n pending) = fine_if (is_white (text cs)) (in_colgroup n pending) (in_colgroup n pending) (text cs)
+    []
     (plain (in_colgroup n pending) (in_colgroup n pending) (text cs) (omega arith))
-text_moves cs h between = fine_if (is_white (text cs)) between between (text cs) [] (plain between between (text cs) (omega arith))
+text_moves cs h between = fine_if (is_white (text cs)) between between (text cs) []
+    (plain between between (text cs) (omega arith))
 text_moves cs h (in_group part) = fine_if (is_white (text cs)) (in_group part) (in_group part) (text cs) []
     (plain (in_group part) (in_group part) (text cs) (omega arith))
 text_moves cs h (in_row part) = fine_if (is_white (text cs)) (in_row part) (in_row part) (text cs) []
@@ -98,7 +107,8 @@ due_fine (in_row part) = (refl, tt)
 due_fine (in_flow of_caption) = (refl, (tt, (omega arith, tt)))
 due_fine (in_flow (of_cell part head)) = (refl, (tt, tt))
 
-all_more : (n : ℕ) (ms ns : Marks) → AllByRecursion (IsFineMark n) ms → AllByRecursion (IsFineMark n) ns → AllByRecursion (IsFineMark n) (ms ++ ns)
+all_more : (n : ℕ) (ms ns : Marks) → AllByRecursion (IsFineMark n) ms → AllByRecursion (IsFineMark n) ns →
+    AllByRecursion (IsFineMark n) (ms ++ ns)
 all_more n [] ns h k = k
 all_more n (m ∷ ms) ns h k = (h.0, all_more n ms ns h.1 k)
 
@@ -135,9 +145,12 @@ col_moves span h (in_flow of_caption) = (omega arith, omega arith, (tt, tt))
 col_moves span h _ = tt
 
 group_end_moves : (section : Section) (p : Place) → FineMove p (group_end section) (move p (group_end section))
-group_end_moves section (in_group part) = fine_if (closes section part) (in_group part) between (group_end section) [] (omega arith, omega arith, tt)
-group_end_moves section (in_row part) = fine_if (closes section part) (in_row part) between (group_end section) [] (omega arith, omega arith, tt)
-group_end_moves section (in_flow (of_cell part head)) = fine_if (closes section part) (in_flow (of_cell part head)) between (group_end section)
+group_end_moves section (in_group part) = fine_if (closes section part) (in_group part) between (group_end section) []
+    (omega arith, omega arith, tt)
+group_end_moves section (in_row part) = fine_if (closes section part) (in_row part) between (group_end section) []
+    (omega arith, omega arith, tt)
+group_end_moves section (in_flow (of_cell part head)) = fine_if (closes section part) (in_flow (of_cell part head)) between
+    (group_end section)
     (paragraph_ends ∷ []) (omega arith, omega arith, (tt, tt))
 group_end_moves section _ = tt
 
@@ -163,7 +176,8 @@ cell_moves head spans h (in_flow (of_cell part other)) = (omega arith, omega ari
 cell_moves head spans h _ = tt
 
 cell_end_moves : (head : Bool) (p : Place) → FineMove p (cell_end head) (move p (cell_end head))
-cell_end_moves head (in_flow (of_cell part other)) = fine_if (same_head other head) (in_flow (of_cell part other)) (in_row part) (cell_end head)
+cell_end_moves head (in_flow (of_cell part other)) = fine_if (same_head other head) (in_flow (of_cell part other)) (in_row part)
+    (cell_end head)
     (paragraph_ends ∷ []) (omega arith, omega arith, (tt, tt))
 cell_end_moves head _ = tt
 
@@ -213,7 +227,8 @@ AreMarksOf n table_start ms = ms ≡ table_begins ∷ []
 AreMarksOf n table_end ms = (due : Marks) × (ms ≡ due ++ table_ends ∷ []) × AllByRecursion (IsFineMark n) due
 AreMarksOf n _ ms = AllByRecursion (IsFineMark n) ms
 
-marks_inside : (n : ℕ) (k : Kind) (ms : Marks) → is_table_start k ≡ false → ((d : ℕ) → depth_with d k ≡ d) → AllByRecursion (IsFineMark n) ms →
+marks_inside : (n : ℕ) (k : Kind) (ms : Marks) → is_table_start k ≡ false → ((d : ℕ) → depth_with d k ≡ d) →
+    AllByRecursion (IsFineMark n) ms →
     AreMarksOf n k ms
 marks_inside n table_start ms start same h = absurd (false≢true (sym start))
 marks_inside n table_end ms start same h = absurd (let e : 0 ≡ 1 = same 1 in omega arith)
@@ -239,7 +254,8 @@ moved_step p hs k (enter holder) h d =
     subst P (sym h) (omega arith, omega arith, λ alive. refl)
 moved_step p hs k (leave ms) h d =
     let due_marks = due_fine p in
-    let size : sum_by mark_size ms ≤ 1 = (let e : sum_by mark_size ms ≡ sum_by mark_size (due p ++ table_ends ∷ []) = ap (λ x. sum_by mark_size x) h.1 in
+    let size : sum_by mark_size ms ≤ 1 = (let e : sum_by mark_size ms ≡ sum_by mark_size (due p ++ table_ends ∷ []) =
+    ap (λ x. sum_by mark_size x) h.1 in
     let s = sum_by-append mark_size (due p) (table_ends ∷ []) in let z = due_marks.0 in omega arith) in
     let P : Kind → Type 0 = λ x. (state_columns (left hs) ≤ place_columns p + MAX_COLSPAN) × (sum_by mark_size ms ≤ kind_size x)
     × (is_failed (left hs) ≡ false → AreMarksOf (place_columns p) x ms) in
@@ -251,20 +267,31 @@ no_columns_if true s h = omega arith
 no_columns_if false s h = omega arith
 
 pub fine_step : (s : State) (k : Kind) → IsReadable k → FineStep s k
-fine_step before (text cs) h = record { few = no_columns_if (is_white (text cs)) before refl; small = omega arith; fine = λ alive. tt }
+fine_step before (text cs) h = record {
+  few = no_columns_if (is_white (text cs)) before refl;
+  small = omega arith;
+  fine =
+      λ alive. tt;
+}
 fine_step before table_start h = record { few = omega arith; small = omega arith; fine = λ alive. refl }
 fine_step before outer_tag h = record { few = omega arith; small = omega arith; fine = λ alive. tt }
 fine_step before _ h = record { few = omega arith; small = omega arith; fine = λ alive. absurd (false≢true (sym alive)) }
 fine_step (inside p hs) k h =
     let m = moved_step p hs k (move p k) (fine_moves p k h) (depth_fits p k) in
     record { few = m.0; small = m.1; fine = m.2 }
-fine_step after (text cs) h = record { few = no_columns_if (is_white (text cs)) after refl; small = omega arith; fine = λ alive. tt }
+fine_step after (text cs) h = record {
+  few = no_columns_if (is_white (text cs)) after refl;
+  small = omega arith;
+  fine =
+      λ alive. tt;
+}
 fine_step after outer_tag h = record { few = omega arith; small = omega arith; fine = λ alive. tt }
 fine_step after _ h = record { few = omega arith; small = omega arith; fine = λ alive. absurd (false≢true (sym alive)) }
 fine_step failed k h = record { few = omega arith; small = omega arith; fine = λ alive. absurd (false≢true (sym alive)) }
 
 -- and of steps one after another
-pub few_columns : (s : State) (ks : Kinds) → AllByRecursion IsReadable ks → state_columns (reached s ks) ≤ state_columns s + MAX_COLSPAN * length ks
+pub few_columns : (s : State) (ks : Kinds) → AllByRecursion IsReadable ks →
+    state_columns (reached s ks) ≤ state_columns s + MAX_COLSPAN * length ks
 few_columns s [] h = omega arith
 few_columns s (k ∷ ks) (here, later) = let a = (fine_step s k here).few in let b = few_columns (next s k) ks later in omega arith
 

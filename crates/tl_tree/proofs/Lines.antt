@@ -1,5 +1,6 @@
 -- The paragraph that is open, as its text comes.
-use Rattle.std.proofs.Common.{◌≡◌, ◌<◌, ◌≤◌, ℕ, ◌+◌, Bool, true, false, not, ◌&&◌, ◌||◌, List, [], ◌∷◌, ◌++◌, length, map, sum_by, refl, sym, ap, ◌∙◌, subst}
+use Rattle.std.proofs.Common.{◌≡◌, ◌<◌, ◌≤◌, ℕ, ◌+◌, Bool, true, false, not, ◌&&◌, ◌||◌, List, [], ◌∷◌, ◌++◌, length, map, sum_by}
+use Rattle.std.proofs.Common.{refl, sym, ap, ◌∙◌, subst}
 use Rattle.std.proofs.Common.{cond, arith, append_assoc, Result, Ok, Err, OnOk}
 use Rattle.std.specs.Prelude.{OnErr, is_ok, Option, Some, None, MatchOption, SomeIff, string_bytes}
 use Rattle.tl_base.specs.declared.limits.TheConstants.{MAX_FILE_BYTES}
@@ -8,10 +9,9 @@ use Rattle.tl_text.proofs.WordParagraphs.{begun_more}
 use Rattle.tl_tree.specs.declared.flow.Line.{Line}
 use Rattle.tl_tree.specs.inner.Lines.{open_word, ReadsMarks}
 use Rattle.std.specs.Str.{chars, IsUtf8}
-use Rattle.std.specs.Char.{encode_utf8}
+use Rattle.std.specs.Char.{encode_utf8, is_ascii_whitespace}
 use Rattle.std.proofs.lemmas.Str.{chars-nil}
 use Rattle.tl_base.proofs.Texts.{chars-push}
-use Rattle.std.specs.Char.{is_ascii_whitespace}
 use Rattle.std.specs.List.{AllByRecursion, list_all, list_any}
 use Rattle.std.proofs.lemmas.Bool.{false≢true, ltb-true, and_from}
 use Rattle.std.proofs.lemmas.Bool.Decides.{nat_tests}
@@ -23,7 +23,8 @@ use Rattle.tl_text.specs.Words.{has_character}
 use Rattle.tl_text.specs.Paragraph.{IsParagraph, IsSolid, IsSpelt, atom_size, lined_pieces, has_leading_glue}
 use Rattle.tl_text.specs.declared.paragraph.Atom.{Atom}
 use Rattle.tl_text.specs.declared.paragraph.Atom.TheVariants.{Word, Glue, Break}
-use Rattle.tl_text.proofs.WordLemmas.{words_from, words_from-start, words_from-letter, words_from-white, words_from-end, has_character-chars}
+use Rattle.tl_text.proofs.WordLemmas.{words_from, words_from-start, words_from-letter, words_from-white, words_from-end}
+use Rattle.tl_text.proofs.WordLemmas.{has_character-chars}
 use Rattle.tl_tree.specs.Grammar.{Marks, character, line_break}
 use Rattle.tl_tree.specs.Paragraphs.{first_text, after_breaks, atoms_of}
 use Rattle.tl_tree.specs.inner.Atoms.{is_whole}
@@ -39,9 +40,11 @@ open_atoms word = map Word (words_from word [])
 -- a letter joins the word
 pub read_letter : (atoms : List Atom) (word : List ℕ) (c : ℕ) (ms : Marks) → is_ascii_whitespace c ≡ false
     → atoms_from atoms (word ++ c ∷ []) ms ≡ atoms_from atoms word (character c ∷ ms)
-read_letter atoms word c ms letter = ap (λ ws. atoms ++ (map Word ws ++ after_breaks ms)) (sym (words_from-letter word (first_text ms) c letter))
+read_letter atoms word c ms letter = ap (λ ws. atoms ++ (map Word ws ++ after_breaks ms))
+    (sym (words_from-letter word (first_text ms) c letter))
 
-map-if : (b : Bool) (word : List ℕ) (words : List (List ℕ)) → map Word (cond b (word ∷ words) words) ≡ map Word (cond b (word ∷ []) []) ++ map Word words
+map-if : (b : Bool) (word : List ℕ) (words : List (List ℕ)) →
+    map Word (cond b (word ∷ words) words) ≡ map Word (cond b (word ∷ []) []) ++ map Word words
 map-if true word words = refl
 map-if false word words = refl
 
@@ -54,7 +57,8 @@ read_white atoms word c ms white =
     ap (λ ws. map Word ws) (words_from-white word (first_text ms) c white) ∙ map-if (has_character word) word rest
     ∙ ap (λ ws. map Word ws ++ map Word rest) (sym (words_from-end word)) in
     append_assoc atoms (open_atoms word) _
-    ∙ ap (λ x. atoms ++ x) (sym (append_assoc (open_atoms word) (map Word rest) (after_breaks ms)) ∙ ap (λ x. x ++ after_breaks ms) (sym e))
+    ∙ ap (λ x. atoms ++ x) (sym (append_assoc (open_atoms word) (map Word rest) (after_breaks ms)) ∙ ap
+    (λ x. x ++ after_breaks ms) (sym e))
 
 -- a break ends the word and stands after it
 pub read_line_break : (atoms : List Atom) (word : List ℕ) (ms : Marks)
@@ -72,18 +76,22 @@ pub read_none : (ms : Marks) → atoms_from [] [] ms ≡ atoms_of ms
 read_none ms = ap (λ ws. map Word ws ++ after_breaks ms) (words_from-start (first_text ms))
 
 pub whole_word : (word : List ℕ) → list_any is_ascii_whitespace word ≡ false → list_all is_whole (open_atoms word) ≡ true
-whole_word word solid = subst (λ (ws : List (List ℕ)). list_all is_whole (map Word ws) ≡ true) (sym (words_from-end word)) (by_test (has_character word) refl)
+whole_word word solid = subst (λ (ws : List (List ℕ)). list_all is_whole (map Word ws) ≡ true) (sym (words_from-end word))
+    (by_test (has_character word) refl)
   where
     by_test : (b : Bool) → has_character word ≡ b → list_all is_whole (map Word (cond b (word ∷ []) [])) ≡ true
     by_test false h = refl
     by_test true h = and_from _ true (and_from _ _ h (ap not solid)) refl
 
-pub whole_append : (xs ys : List Atom) → list_all is_whole xs ≡ true → list_all is_whole ys ≡ true → list_all is_whole (xs ++ ys) ≡ true
+pub whole_append : (xs ys : List Atom) → list_all is_whole xs ≡ true → list_all is_whole ys ≡ true →
+    list_all is_whole (xs ++ ys) ≡ true
 whole_append [] ys h k = k
-whole_append (x ∷ xs) ys h k = and_from (is_whole x) _ (both-left (is_whole x) _ h) (whole_append xs ys (both-right (is_whole x) _ h) k)
+whole_append (x ∷ xs) ys h k = and_from (is_whole x) _ (both-left (is_whole x) _ h)
+    (whole_append xs ys (both-right (is_whole x) _ h) k)
 
 -- no character passes the test after one more that does not
-pub none_push : (test : ℕ → Bool) (word : List ℕ) (c : ℕ) → list_any test word ≡ false → test c ≡ false → list_any test (word ++ c ∷ []) ≡ false
+pub none_push : (test : ℕ → Bool) (word : List ℕ) (c : ℕ) → list_any test word ≡ false → test c ≡ false →
+    list_any test (word ++ c ∷ []) ≡ false
 none_push test [] c h k = rw k refl
 none_push test (d ∷ word) c h k = by_first (λ g. none_push test word c g k) (test d) refl h
   where
@@ -105,17 +113,22 @@ solid_of text h = (
 
 spelt_whole : (atoms : List Atom) → list_all is_whole atoms ≡ true → AllByRecursion IsSpelt atoms
 spelt_whole [] h = tt
-spelt_whole (Word text ∷ atoms) h = (solid_of text (both-left (is_whole (Word text)) _ h), spelt_whole atoms (both-right (is_whole (Word text)) _ h))
+spelt_whole (Word text ∷ atoms) h = (
+  solid_of text (both-left (is_whole (Word text)) _ h),
+  spelt_whole atoms (both-right (is_whole (Word text)) _ h),
+)
 spelt_whole (Glue text ∷ atoms) h = absurd (false≢true h)
 spelt_whole (Break ∷ atoms) h = (tt, spelt_whole atoms h)
 
 begun_whole : (atoms : List Atom) → list_all is_whole atoms ≡ true → has_leading_glue atoms ≡ false
 begun_whole [] h = refl
-begun_whole (Word text ∷ atoms) h = begun_more text (lined_pieces atoms) (begun_whole atoms (both-right (is_whole (Word text)) _ h))
+begun_whole (Word text ∷ atoms) h = begun_more text (lined_pieces atoms)
+    (begun_whole atoms (both-right (is_whole (Word text)) _ h))
 begun_whole (Glue text ∷ atoms) h = absurd (false≢true h)
 begun_whole (Break ∷ atoms) h = begun_whole atoms h
 
-pub whole_paragraph : (atoms : List Atom) → 0 < length atoms → list_all is_whole atoms ≡ true → sum_by atom_size atoms ≤ MAX_FILE_BYTES → IsParagraph atoms
+pub whole_paragraph : (atoms : List Atom) → 0 < length atoms → list_all is_whole atoms ≡ true →
+    sum_by atom_size atoms ≤ MAX_FILE_BYTES → IsParagraph atoms
 whole_paragraph atoms some whole small = record {
   has_atom = some;
   begun = begun_whole atoms whole;
@@ -125,23 +138,27 @@ whole_paragraph atoms some whole small = record {
 
 -- the sizes of the atoms and of the word that is open
 pub open_size : (word : List ℕ) → sum_by atom_size (open_atoms word) ≤ byte_count word
-open_size word = subst (λ (ws : List (List ℕ)). sum_by atom_size (map Word ws) ≤ byte_count word) (sym (words_from-end word)) (by_test (has_character word))
+open_size word = subst (λ (ws : List (List ℕ)). sum_by atom_size (map Word ws) ≤ byte_count word) (sym (words_from-end word))
+    (by_test (has_character word))
   where
     by_test : (b : Bool) → sum_by atom_size (map Word (cond b (word ∷ []) [])) ≤ byte_count word
     by_test true = omega (arith, sum_by-cons atom_size (Word word) [])
     by_test false = omega arith
 
-pub closed_size : (atoms : List Atom) (word : List ℕ) → sum_by atom_size (atoms ++ open_atoms word) ≤ sum_by atom_size atoms + byte_count word
+pub closed_size : (atoms : List Atom) (word : List ℕ) → sum_by atom_size
+    (atoms ++ open_atoms word) ≤ sum_by atom_size atoms + byte_count word
 closed_size atoms word = omega (arith, sum_by-append atom_size atoms (open_atoms word), open_size word)
 
 -- what a push leaves
-pub whole_push : {E : Type 0} (r : Result (Unit {0}) E) (old new : List Atom) (x : Atom) → OnOk r (new ≡ old ++ x ∷ []) → OnErr r (new ≡ old)
+pub whole_push : {E : Type 0} (r : Result (Unit {0}) E) (old new : List Atom) (x : Atom) → OnOk r (new ≡ old ++ x ∷ []) →
+    OnErr r (new ≡ old)
     → is_whole x ≡ true → list_all is_whole old ≡ true → list_all is_whole new ≡ true
 whole_push (Ok done) old new x pushed left is h = rw pushed (whole_append old (x ∷ []) h (and_from (is_whole x) true is refl))
 whole_push (Err error) old new x pushed left is h = rw left h
 
 -- a text with bytes, none of them white space, is whole
-pub whole_text : (bytes : List ℕ) → IsUtf8 bytes → 0 < length bytes → list_any is_ascii_whitespace (chars bytes) ≡ false → is_whole (Word (chars bytes)) ≡ true
+pub whole_text : (bytes : List ℕ) → IsUtf8 bytes → 0 < length bytes → list_any is_ascii_whitespace (chars bytes) ≡ false →
+    is_whole (Word (chars bytes)) ≡ true
 whole_text bytes utf8 some solid =
     let shown = has_character-chars bytes utf8 in
     let has : has_character (chars bytes) ≡ true = grind (arith, nat_tests) in
@@ -162,8 +179,10 @@ open_none bytes h = rw (no_text bytes h, chars-nil) refl
 
 -- the word after a push of a character
 pub solid_after : (b : Bool) (old new : List ℕ) (c : ℕ) → IsUtf8 old → IsUtf8 new → new ≡ cond b (old ++ encode_utf8 c) old
-    → is_ascii_whitespace c ≡ false → list_any is_ascii_whitespace (chars old) ≡ false → list_any is_ascii_whitespace (chars new) ≡ false
-solid_after true old new c utf8 valid is letter h = rw (chars-push old new c utf8 valid is) (none_push is_ascii_whitespace (chars old) c h letter)
+    → is_ascii_whitespace c ≡ false → list_any is_ascii_whitespace (chars old) ≡ false →
+    list_any is_ascii_whitespace (chars new) ≡ false
+solid_after true old new c utf8 valid is letter h = rw (chars-push old new c utf8 valid is)
+    (none_push is_ascii_whitespace (chars old) c h letter)
 solid_after false old new c utf8 valid is letter h = rw is h
 
 map_same : (cs : List ℕ) → map (λ c. c) cs ≡ cs
@@ -189,7 +208,8 @@ reads_letter (Ok done) old new c same utf8 valid is letter = record {
 }
 reads_letter (Err error) old new c same utf8 valid is letter = tt
 
-pub reads_white : {E : Type 0} (r : Result (Unit {0}) E) (old new : Line) (c : ℕ) → OnOk r (new.atoms ≡ old.atoms ++ open_atoms (open_word old))
+pub reads_white : {E : Type 0} (r : Result (Unit {0}) E) (old new : Line) (c : ℕ) →
+    OnOk r (new.atoms ≡ old.atoms ++ open_atoms (open_word old))
     → OnOk r (open_word new ≡ []) → is_ascii_whitespace c ≡ true → OnOk r (ReadsMarks old new (character c ∷ []))
 reads_white (Ok done) old new c atoms word white = record {
   same = λ later. ap (λ a. atoms_from a (open_word new) later) atoms
@@ -203,4 +223,5 @@ pub ends_paragraph : (o : Option (List Atom)) (atoms all : List Atom) → SomeIf
     → list_all is_whole atoms ≡ true → sum_by atom_size atoms ≤ MAX_FILE_BYTES → MatchOption o (all ≡ []) (λ p. p ≡ all)
 ends_paragraph (Some p) atoms all given same whole small = given.1 ∙ same
 ends_paragraph None [] all given same whole small = sym same
-ends_paragraph None (atom ∷ atoms) all given same whole small = absurd (given (whole_paragraph (atom ∷ atoms) (omega arith) whole small))
+ends_paragraph None (atom ∷ atoms) all given same whole small =
+    absurd (given (whole_paragraph (atom ∷ atoms) (omega arith) whole small))

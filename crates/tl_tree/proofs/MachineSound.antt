@@ -1,21 +1,30 @@
 -- What the machine accepts is a document, with those marks.
-use Rattle.std.proofs.Common.{◌≡◌, ℕ, ◌+◌, Bool, true, false, List, [], ◌∷◌, ◌++◌, refl, sym, ap, ◌∙◌, subst, cond, append_assoc, add_assoc, add-zero, zero-add}
+use Rattle.std.proofs.Common.{◌≡◌, ℕ, ◌+◌, Bool, true, false, List, [], ◌∷◌, ◌++◌, refl, sym, ap, ◌∙◌, subst, cond, append_assoc}
+use Rattle.std.proofs.Common.{add_assoc, add-zero, zero-add}
 use Rattle.std.proofs.lemmas.Bool.{false≢true}
 use Rattle.std.proofs.lemmas.List.Sums.{sum_by-cons}
 use Rattle.std.specs.Prelude.{map, sum}
 use Rattle.tl_token.specs.declared.token.Spans.{Spans}
 use Rattle.tl_tree.specs.declared.node.Part.{Part}
 use Rattle.tl_tree.specs.declared.node.Part.TheVariants.{Loose, Head, Body, Foot}
-use Rattle.tl_tree.specs.Tags.{Section, thead, tbody, tfoot, part_of, Kind, Kinds, text, table_start, table_end, caption_start, caption_end, colgroup_start}
-use Rattle.tl_tree.specs.Tags.{colgroup_end, col, group_start, group_end, row_start, row_end, cell_start, cell_end, br, p_or_div, inline_tag, outer_tag}
+use Rattle.tl_tree.specs.Tags.{Section, thead, tbody, tfoot, part_of, Kind, Kinds, text, table_start, table_end, caption_start}
+use Rattle.tl_tree.specs.Tags.{caption_end, colgroup_start}
+use Rattle.tl_tree.specs.Tags.{colgroup_end, col, group_start, group_end, row_start, row_end, cell_start, cell_end, br, p_or_div}
+use Rattle.tl_tree.specs.Tags.{inline_tag, outer_tag}
 use Rattle.tl_tree.specs.Tags.{lone_end, is_white, is_row_start, is_col, begins_with}
-use Rattle.tl_tree.specs.Grammar.{Mark, Marks, table_begins, caption_begins, columns, group_begins, row_begins, cell_begins, character, line_break}
-use Rattle.tl_tree.specs.Grammar.{paragraph_ends, table_ends, Spaces, no_space, space, Ended, by_tag, left_out, Cols, no_col, col_space, next_col}
-use Rattle.tl_tree.specs.Grammar.{colgroup_columns, Columns, no_columns, colgroup, lone_col, Flow, no_flow, words, break, edge, inline, nested, Table, table}
-use Rattle.tl_tree.specs.Grammar.{Caption, no_caption, caption, Cells, no_cell, cell, Rows, no_row, row, Parts, no_part, group, loose_rows, Outer, no_outer}
+use Rattle.tl_tree.specs.Grammar.{Mark, Marks, table_begins, caption_begins, columns, group_begins, row_begins, cell_begins}
+use Rattle.tl_tree.specs.Grammar.{character, line_break}
+use Rattle.tl_tree.specs.Grammar.{paragraph_ends, table_ends, Spaces, no_space, space, Ended, by_tag, left_out, Cols, no_col}
+use Rattle.tl_tree.specs.Grammar.{col_space, next_col}
+use Rattle.tl_tree.specs.Grammar.{colgroup_columns, Columns, no_columns, colgroup, lone_col, Flow, no_flow, words, break, edge}
+use Rattle.tl_tree.specs.Grammar.{inline, nested, Table, table}
+use Rattle.tl_tree.specs.Grammar.{Caption, no_caption, caption, Cells, no_cell, cell, Rows, no_row, row, Parts, no_part, group}
+use Rattle.tl_tree.specs.Grammar.{loose_rows, Outer, no_outer}
 use Rattle.tl_tree.specs.Grammar.{outer_space, outer, Document}
-use Rattle.tl_tree.specs.inner.Machine.{Holder, of_caption, of_cell, Place, opened, in_columns, in_colgroup, between, in_group, in_row, in_flow, due, closes}
-use Rattle.tl_tree.specs.inner.Machine.{Move, to, enter, leave, never, move, State, before, inside, after, failed, left, moved, marks_of, next, told, reached}
+use Rattle.tl_tree.specs.inner.Machine.{Holder, of_caption, of_cell, Place, opened, in_columns, in_colgroup, between, in_group}
+use Rattle.tl_tree.specs.inner.Machine.{in_row, in_flow, due, closes}
+use Rattle.tl_tree.specs.inner.Machine.{Move, to, enter, leave, never, move, State, before, inside, after, failed, left, moved}
+use Rattle.tl_tree.specs.inner.Machine.{marks_of, next, told, reached}
 use Rattle.tl_tree.specs.inner.Machine.{all_told, Accepts}
 use Rattle.tl_tree.proofs.Moves.{no_way, is_plain}
 
@@ -31,23 +40,30 @@ GroupEnded Body ks rest = Ended (group_end tbody) ks rest
 GroupEnded Foot ks rest = Ended (group_end tfoot) ks rest
 
 data RestOfRows (part : Part) (ks : Kinds) (ms : Marks) (rest : Kinds) (more : Marks) : Type 0 where
-  rows_then : {k1 k2 : Kinds} {m1 : Marks} → Rows ks ms k1 m1 → GroupEnded part k1 k2 → RestOfParts k2 m1 rest more → RestOfRows part ks ms rest more
+  rows_then : {k1 k2 : Kinds} {m1 : Marks} → Rows ks ms k1 m1 → GroupEnded part k1 k2 → RestOfParts k2 m1 rest more →
+      RestOfRows part ks ms rest more
 
 data RestOfCells (part : Part) (ks : Kinds) (ms : Marks) (rest : Kinds) (more : Marks) : Type 0 where
-  cells_then : {k1 k2 : Kinds} {m1 : Marks} → Cells ks ms k1 m1 → Ended row_end k1 k2 → RestOfRows part k2 m1 rest more → RestOfCells part ks ms rest more
+  cells_then : {k1 k2 : Kinds} {m1 : Marks} → Cells ks ms k1 m1 → Ended row_end k1 k2 → RestOfRows part k2 m1 rest more →
+      RestOfCells part ks ms rest more
 
 data RestOfColumns (n : ℕ) (ks : Kinds) (ms : Marks) (rest : Kinds) (more : Marks) : Type 0 where
-  columns_then : {m : ℕ} {k1 : Kinds} {m1 : Marks} → Columns ks m k1 → ms ≡ columns (n + m) ∷ m1 → RestOfParts k1 m1 rest more → RestOfColumns n ks ms rest more
+  columns_then : {m : ℕ} {k1 : Kinds} {m1 : Marks} → Columns ks m k1 → ms ≡ columns (n + m) ∷ m1 → RestOfParts k1 m1 rest more →
+      RestOfColumns n ks ms rest more
 
 data Rest : Place → Kinds → Marks → Kinds → Marks → Type 0 where
-  at_opened : {ks k1 k2 rest : Kinds} {ms m1 more : Marks} → Spaces ks k1 → Caption k1 ms k2 m1 → RestOfColumns 0 k2 m1 rest more → Rest opened ks ms rest more
-  at_columns : {n : ℕ} {ks k1 rest : Kinds} {ms more : Marks} → Spaces ks k1 → RestOfColumns n k1 ms rest more → Rest (in_columns n) ks ms rest more
+  at_opened : {ks k1 k2 rest : Kinds} {ms m1 more : Marks} → Spaces ks k1 → Caption k1 ms k2 m1 →
+      RestOfColumns 0 k2 m1 rest more → Rest opened ks ms rest more
+  at_columns : {n : ℕ} {ks k1 rest : Kinds} {ms more : Marks} → Spaces ks k1 → RestOfColumns n k1 ms rest more →
+      Rest (in_columns n) ks ms rest more
   at_colgroup : {n pending : ℕ} {spans : List ℕ} {ks k1 k2 rest : Kinds} {ms more : Marks}
       → Cols ks spans k1 → Ended colgroup_end k1 k2 → RestOfColumns (n + colgroup_columns pending spans) k2 ms rest more
       → Rest (in_colgroup n pending) ks ms rest more
   at_parts : {ks k1 rest : Kinds} {ms more : Marks} → Spaces ks k1 → RestOfParts k1 ms rest more → Rest between ks ms rest more
-  at_rows : {part : Part} {ks k1 rest : Kinds} {ms more : Marks} → Spaces ks k1 → RestOfRows part k1 ms rest more → Rest (in_group part) ks ms rest more
-  at_cells : {part : Part} {ks k1 rest : Kinds} {ms more : Marks} → Spaces ks k1 → RestOfCells part k1 ms rest more → Rest (in_row part) ks ms rest more
+  at_rows : {part : Part} {ks k1 rest : Kinds} {ms more : Marks} → Spaces ks k1 → RestOfRows part k1 ms rest more →
+      Rest (in_group part) ks ms rest more
+  at_cells : {part : Part} {ks k1 rest : Kinds} {ms more : Marks} → Spaces ks k1 → RestOfCells part k1 ms rest more →
+      Rest (in_row part) ks ms rest more
   at_caption : {ks k1 k2 rest : Kinds} {ms m1 more : Marks}
       → Flow ks ms k1 (paragraph_ends ∷ m1) → Ended caption_end k1 k2 → RestOfColumns 0 k2 m1 rest more
       → Rest (in_flow of_caption) ks ms rest more
@@ -84,11 +100,14 @@ ended_group tfoot h = h
 
 group_level : {part : Part} (k : Kind) {ks rest : Kinds} {ms more : Marks} → is_white k ≡ false → is_row_start k ≡ false
     → Rest between (k ∷ ks) ms rest more → Rest (in_group part) (k ∷ ks) ms rest more
-group_level {part} k solid kind (at_parts no_space parts) = at_rows no_space (rows_then (no_row kind) (group_ended part _ solid) parts)
+group_level {part} k solid kind (at_parts no_space parts) = at_rows no_space
+    (rows_then (no_row kind) (group_ended part _ solid) parts)
 group_level k solid kind (at_parts (space white later) parts) = absurd (false≢true (sym solid ∙ white))
 
-columns_level : {n : ℕ} {ks rest : Kinds} {ms more : Marks} → Rest between ks ms rest more → Rest (in_columns n) ks (columns n ∷ ms) rest more
-columns_level {n} {ms = ms} (at_parts spaces parts) = at_columns spaces (columns_then no_columns (ap (λ x. columns x ∷ ms) (sym (add-zero n))) parts)
+columns_level : {n : ℕ} {ks rest : Kinds} {ms more : Marks} → Rest between ks ms rest more →
+    Rest (in_columns n) ks (columns n ∷ ms) rest more
+columns_level {n} {ms = ms} (at_parts spaces parts) = at_columns spaces
+    (columns_then no_columns (ap (λ x. columns x ∷ ms) (sym (add-zero n))) parts)
 
 colgroup_level : {n pending : ℕ} (k : Kind) {ks rest : Kinds} {ms more : Marks} → is_white k ≡ false → is_col k ≡ false
     → Rest (in_columns (n + pending)) (k ∷ ks) ms rest more → Rest (in_colgroup n pending) (k ∷ ks) ms rest more
@@ -104,7 +123,8 @@ opened_level : {ks rest : Kinds} {ms more : Marks} → Rest (in_columns 0) ks ms
 opened_level (at_columns spaces cols) = at_opened spaces no_caption cols
 
 -- from any place, a token with which a group or the end of the table may begin
-to_due : (p : Place) (k : Kind) {ks rest : Kinds} {ms more : Marks} → is_white k ≡ false → is_row_start k ≡ false → is_col k ≡ false
+to_due : (p : Place) (k : Kind) {ks rest : Kinds} {ms more : Marks} → is_white k ≡ false → is_row_start k ≡ false →
+    is_col k ≡ false
     → Rest between (k ∷ ks) ms rest more → Rest p (k ∷ ks) (due p ++ ms) rest more
 to_due opened k w r c h = opened_level (columns_level h)
 to_due (in_columns n) k w r c h = columns_level h
@@ -148,7 +168,8 @@ inline_step _ (at_caption flow ended cols) = at_caption (inline flow) ended cols
 inline_step _ (at_cell flow ended cells) = at_cell (inline flow) ended cells
 
 -- the table that stands there, from its start tag on
-whole_table : {ks rest : Kinds} {ms more : Marks} → Rest opened ks ms rest more → Table (table_start ∷ ks) (table_begins ∷ ms) rest more
+whole_table : {ks rest : Kinds} {ms more : Marks} → Rest opened ks ms rest more →
+    Table (table_start ∷ ks) (table_begins ∷ ms) rest more
 whole_table {ms = ms} (at_opened {k1 = k1} {k2 = k2} spaces before_columns (columns_then {m = m} {m1 = m1} cols same parts)) =
     let P : Marks → Type 0 = λ x. Caption k1 ms k2 x in
     table spaces (subst P (same ∙ ap (λ x. columns x ∷ m1) (zero-add m)) before_columns) cols parts
@@ -167,13 +188,16 @@ caption_end_step : {ks rest : Kinds} {ms more : Marks} → Rest (in_columns 0) k
 caption_end_step (at_columns spaces cols) = at_caption no_flow (by_tag spaces) cols
 
 -- columns that follow so many others
-more_columns : {n m : ℕ} {ks rest : Kinds} {ms more : Marks} → n ≡ m → RestOfColumns n ks ms rest more → RestOfColumns m ks ms rest more
-more_columns {ks = ks} {rest = rest} {ms = ms} {more = more} e h = let P : ℕ → Type 0 = λ x. RestOfColumns x ks ms rest more in subst P e h
+more_columns : {n m : ℕ} {ks rest : Kinds} {ms more : Marks} → n ≡ m → RestOfColumns n ks ms rest more →
+    RestOfColumns m ks ms rest more
+more_columns {ks = ks} {rest = rest} {ms = ms} {more = more} e h = let P : ℕ → Type 0 = λ x. RestOfColumns x ks ms rest more in
+    subst P e h
 
 colgroup_start_step : {n span : ℕ} {ks rest : Kinds} {ms more : Marks} → Rest (in_colgroup n span) ks ms rest more
     → Rest (in_columns n) (colgroup_start span ∷ ks) ms rest more
 colgroup_start_step {n} {span} (at_colgroup {spans = spans} cols ended (columns_then {m = m} {m1 = m1} later same parts)) =
-    at_columns no_space (columns_then (colgroup cols ended later) (same ∙ ap (λ x. columns x ∷ m1) (add_assoc n (colgroup_columns span spans) m)) parts)
+    at_columns no_space (columns_then (colgroup cols ended later)
+    (same ∙ ap (λ x. columns x ∷ m1) (add_assoc n (colgroup_columns span spans) m)) parts)
 
 colgroup_end_step : {n pending : ℕ} {ks rest : Kinds} {ms more : Marks} → Rest (in_columns (n + pending)) ks ms rest more
     → Rest (in_colgroup n pending) (colgroup_end ∷ ks) ms rest more
@@ -181,7 +205,8 @@ colgroup_end_step (at_columns spaces cols) = at_colgroup (no_col refl) (by_tag s
 
 col_step : {n pending span : ℕ} {ks rest : Kinds} {ms more : Marks} → Rest (in_colgroup (n + span) 0) ks ms rest more
     → Rest (in_colgroup n pending) (col span ∷ ks) ms rest more
-col_step {n} {pending} {span} (at_colgroup {spans = spans} cols ended later) = at_colgroup (next_col cols) ended (more_columns same_number later)
+col_step {n} {pending} {span} (at_colgroup {spans = spans} cols ended later) =
+    at_colgroup (next_col cols) ended (more_columns same_number later)
   where
     sums : (rest : List ℕ) → colgroup_columns 0 rest ≡ sum rest
     sums [] = refl
@@ -219,9 +244,11 @@ row_end_step : {part : Part} {ks rest : Kinds} {ms more : Marks} → Rest (in_gr
     → Rest (in_row part) (row_end ∷ ks) ms rest more
 row_end_step (at_rows spaces rows) = at_cells no_space (cells_then no_cell (by_tag spaces) rows)
 
-cell_start_step : {part : Part} {head : Bool} (spans : Spans) {ks rest : Kinds} {ms more : Marks} → Rest (in_flow (of_cell part head)) ks ms rest more
+cell_start_step : {part : Part} {head : Bool} (spans : Spans) {ks rest : Kinds} {ms more : Marks} →
+    Rest (in_flow (of_cell part head)) ks ms rest more
     → Rest (in_row part) (cell_start head spans ∷ ks) (cell_begins head spans ∷ ms) rest more
-cell_start_step spans (at_cell flow ended (cells_then cells row_ended rows)) = at_cells no_space (cells_then (cell flow ended cells) row_ended rows)
+cell_start_step spans (at_cell flow ended (cells_then cells row_ended rows)) =
+    at_cells no_space (cells_then (cell flow ended cells) row_ended rows)
 
 cell_end_step : {part : Part} {head : Bool} {ks rest : Kinds} {ms more : Marks} → Rest (in_row part) ks ms rest more
     → Rest (in_flow (of_cell part head)) (cell_end head ∷ ks) (paragraph_ends ∷ ms) rest more
@@ -235,7 +262,8 @@ StepsTo p k (leave ns) = (ks : Kinds) (ms : Marks) → Rest p (k ∷ ks) (ns ++ 
 StepsTo p k never = Unit {0}
 
 -- a mark after those that are due
-after_due : (p : Place) (k : Kind) (n : Mark) {ks rest : Kinds} {ms more : Marks} → is_white k ≡ false → is_row_start k ≡ false → is_col k ≡ false
+after_due : (p : Place) (k : Kind) (n : Mark) {ks rest : Kinds} {ms more : Marks} → is_white k ≡ false →
+    is_row_start k ≡ false → is_col k ≡ false
     → Rest between (k ∷ ks) (n ∷ ms) rest more → Rest p (k ∷ ks) ((due p ++ n ∷ []) ++ ms) rest more
 after_due p k n {ks} {rest} {ms} {more} w r c h =
     let P : Marks → Type 0 = λ x. Rest p (k ∷ ks) x rest more in
@@ -273,8 +301,10 @@ caption_end_steps _ = tt
 colgroup_start_steps : (span : ℕ) (p : Place) → StepsTo p (colgroup_start span) (move p (colgroup_start span))
 colgroup_start_steps span opened = λ ks rest ms more h. opened_level (colgroup_start_step h)
 colgroup_start_steps span (in_columns n) = λ ks rest ms more h. colgroup_start_step h
-colgroup_start_steps span (in_colgroup n pending) = λ ks rest ms more h. colgroup_level (colgroup_start span) refl refl (colgroup_start_step h)
-colgroup_start_steps span (in_flow of_caption) = λ ks rest ms more h. caption_level (colgroup_start span) refl (colgroup_start_step h)
+colgroup_start_steps span (in_colgroup n pending) = λ ks rest ms more h. colgroup_level (colgroup_start span) refl refl
+    (colgroup_start_step h)
+colgroup_start_steps span (in_flow of_caption) = λ ks rest ms more h. caption_level (colgroup_start span) refl
+    (colgroup_start_step h)
 colgroup_start_steps span _ = tt
 
 colgroup_end_steps : (p : Place) → StepsTo p colgroup_end (move p colgroup_end)
@@ -288,23 +318,29 @@ col_steps span (in_colgroup n pending) = λ ks rest ms more h. col_step h
 col_steps span (in_flow of_caption) = λ ks rest ms more h. caption_level (col span) refl (lone_col_step h)
 col_steps span _ = tt
 
-group_ends : (section : Section) (part : Part) → StepsTo (in_group part) (group_end section) (cond (closes section part) (to between []) never)
+group_ends : (section : Section) (part : Part) → StepsTo (in_group part) (group_end section)
+    (cond (closes section part) (to between []) never)
 group_ends thead Head = λ ks rest ms more h. group_end_step thead h
 group_ends tbody Body = λ ks rest ms more h. group_end_step tbody h
 group_ends tfoot Foot = λ ks rest ms more h. group_end_step tfoot h
 group_ends _ _ = tt
 
-row_group_ends : (section : Section) (part : Part) → StepsTo (in_row part) (group_end section) (cond (closes section part) (to between []) never)
+row_group_ends : (section : Section) (part : Part) → StepsTo (in_row part) (group_end section)
+    (cond (closes section part) (to between []) never)
 row_group_ends thead Head = λ ks rest ms more h. row_level (group_end thead) refl (group_end_step thead h)
 row_group_ends tbody Body = λ ks rest ms more h. row_level (group_end tbody) refl (group_end_step tbody h)
 row_group_ends tfoot Foot = λ ks rest ms more h. row_level (group_end tfoot) refl (group_end_step tfoot h)
 row_group_ends _ _ = tt
 
 cell_group_ends : (section : Section) (part : Part) (head : Bool)
-    → StepsTo (in_flow (of_cell part head)) (group_end section) (cond (closes section part) (to between (paragraph_ends ∷ [])) never)
-cell_group_ends thead Head head = λ ks rest ms more h. cell_level (group_end thead) refl (row_level (group_end thead) refl (group_end_step thead h))
-cell_group_ends tbody Body head = λ ks rest ms more h. cell_level (group_end tbody) refl (row_level (group_end tbody) refl (group_end_step tbody h))
-cell_group_ends tfoot Foot head = λ ks rest ms more h. cell_level (group_end tfoot) refl (row_level (group_end tfoot) refl (group_end_step tfoot h))
+    → StepsTo (in_flow (of_cell part head)) (group_end section)
+    (cond (closes section part) (to between (paragraph_ends ∷ [])) never)
+cell_group_ends thead Head head = λ ks rest ms more h. cell_level (group_end thead) refl
+    (row_level (group_end thead) refl (group_end_step thead h))
+cell_group_ends tbody Body head = λ ks rest ms more h. cell_level (group_end tbody) refl
+    (row_level (group_end tbody) refl (group_end_step tbody h))
+cell_group_ends tfoot Foot head = λ ks rest ms more h. cell_level (group_end tfoot) refl
+    (row_level (group_end tfoot) refl (group_end_step tfoot h))
 cell_group_ends _ _ head = tt
 
 group_end_steps : (section : Section) (p : Place) → StepsTo p (group_end section) (move p (group_end section))
@@ -316,12 +352,14 @@ group_end_steps _ _ = tt
 row_start_steps : (p : Place) → StepsTo p row_start (move p row_start)
 row_start_steps opened = λ ks rest ms more h. opened_level (columns_level (loose_row_step h))
 row_start_steps (in_columns n) = λ ks rest ms more h. columns_level (loose_row_step h)
-row_start_steps (in_colgroup n pending) = λ ks rest ms more h. colgroup_level row_start refl refl (columns_level (loose_row_step h))
+row_start_steps (in_colgroup n pending) = λ ks rest ms more h. colgroup_level row_start refl refl
+    (columns_level (loose_row_step h))
 row_start_steps between = λ ks rest ms more h. loose_row_step h
 row_start_steps (in_group part) = λ ks rest ms more h. row_start_step h
 row_start_steps (in_row part) = λ ks rest ms more h. row_level row_start refl (row_start_step h)
 row_start_steps (in_flow of_caption) = λ ks rest ms more h. caption_level row_start refl (columns_level (loose_row_step h))
-row_start_steps (in_flow (of_cell part head)) = λ ks rest ms more h. cell_level row_start refl (row_level row_start refl (row_start_step h))
+row_start_steps (in_flow (of_cell part head)) = λ ks rest ms more h. cell_level row_start refl
+    (row_level row_start refl (row_start_step h))
 
 row_end_steps : (p : Place) → StepsTo p row_end (move p row_end)
 row_end_steps (in_row part) = λ ks rest ms more h. row_end_step h
@@ -330,7 +368,8 @@ row_end_steps _ = tt
 
 cell_start_steps : (head : Bool) (spans : Spans) (p : Place) → StepsTo p (cell_start head spans) (move p (cell_start head spans))
 cell_start_steps head spans (in_row part) = λ ks rest ms more h. cell_start_step spans h
-cell_start_steps head spans (in_flow (of_cell part other)) = λ ks rest ms more h. cell_level (cell_start head spans) refl (cell_start_step spans h)
+cell_start_steps head spans (in_flow (of_cell part other)) =
+    λ ks rest ms more h. cell_level (cell_start head spans) refl (cell_start_step spans h)
 cell_start_steps head spans _ = tt
 
 cell_end_steps : (head : Bool) (p : Place) → StepsTo p (cell_end head) (move p (cell_end head))
@@ -359,7 +398,8 @@ steps p caption_end = caption_end_steps p
 steps p (colgroup_start span) = colgroup_start_steps span p
 steps p colgroup_end = colgroup_end_steps p
 steps p (col span) = col_steps span p
-steps p (group_start section) = λ ks rest ms more h. after_due p (group_start section) (group_begins (part_of section)) refl refl refl
+steps p (group_start section) = λ ks rest ms more h. after_due p (group_start section) (group_begins (part_of section))
+    refl refl refl
     (group_start_step section h)
 steps p (group_end section) = group_end_steps section p
 steps p row_start = row_start_steps p
@@ -380,7 +420,8 @@ data Left : List Holder → Kinds → Marks → Type 0 where
 
 data Completes : State → Kinds → Marks → Type 0 where
   from_before : {ks : Kinds} {ms : Marks} → Document ks ms → Completes before ks ms
-  from_inside : {p : Place} {hs : List Holder} {ks rest : Kinds} {ms more : Marks} → Rest p ks ms rest more → Left hs rest more → Completes (inside p hs) ks ms
+  from_inside : {p : Place} {hs : List Holder} {ks rest : Kinds} {ms more : Marks} → Rest p ks ms rest more →
+      Left hs rest more → Completes (inside p hs) ks ms
   from_after : {ks : Kinds} → Outer ks [] → Completes after ks []
 
 from_left : (hs : List Holder) {ks : Kinds} {ms : Marks} → Completes (left hs) ks ms → Left hs ks ms
@@ -397,22 +438,38 @@ inside_step p hs k (enter holder) {ks} {ms} (starts, flows) (from_inside rest (h
 inside_step p hs k (leave ns) {ks} {ms} step h = from_inside (step ks ms) (from_left hs h)
 inside_step p hs k never step h = elim h [ ]
 
-before_step : (k : Kind) {ks : Kinds} {ms : Marks} → Completes (next before k) ks ms → Completes before (k ∷ ks) (told before k ++ ms)
+before_step : (k : Kind) {ks : Kinds} {ms : Marks} → Completes (next before k) ks ms →
+    Completes before (k ∷ ks) (told before k ++ ms)
 before_step (text cs) {ks} {ms} h = by_white (is_white (text cs)) refl h
   where
     by_white : (b : Bool) → is_white (text cs) ≡ b → Completes (cond b before failed) ks ms → Completes before (text cs ∷ ks) ms
     by_white true white (from_before d) =
-        from_before (record { before = d.before; after = d.after; led = outer_space white d.led; whole = d.whole; followed = d.followed })
+        from_before (record {
+          before = d.before;
+          after = d.after;
+          led = outer_space white d.led;
+          whole = d.whole;
+          followed =
+              d.followed;
+        })
     by_white false white c = elim c [ ]
 before_step table_start (from_inside rest (around outside)) =
     from_before (record { before = _; after = _; led = no_outer; whole = whole_table rest; followed = outside })
-before_step outer_tag (from_before d) = from_before (record { before = d.before; after = d.after; led = outer d.led; whole = d.whole; followed = d.followed })
+before_step outer_tag (from_before d) = from_before (record {
+  before = d.before;
+  after = d.after;
+  led = outer d.led;
+  whole =
+      d.whole;
+  followed = d.followed;
+})
 before_step _ h = elim h [ ]
 
 after_step : (k : Kind) {ks : Kinds} {ms : Marks} → Completes (next after k) ks ms → Completes after (k ∷ ks) ms
 after_step (text cs) {ks} {ms} h = by_white (is_white (text cs)) refl h
   where
-    by_white : (b : Bool) {ns : Marks} → is_white (text cs) ≡ b → Completes (cond b after failed) ks ns → Completes after (text cs ∷ ks) ns
+    by_white : (b : Bool) {ns : Marks} → is_white (text cs) ≡ b → Completes (cond b after failed) ks ns →
+        Completes after (text cs ∷ ks) ns
     by_white true white (from_after outside) = from_after (outer_space white outside)
     by_white false white c = elim c [ ]
 after_step outer_tag (from_after outside) = from_after (outer outside)

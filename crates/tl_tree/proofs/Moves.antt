@@ -2,11 +2,14 @@
 use Rattle.std.proofs.Common.{◌≡◌, ℕ, ◌+◌, Bool, true, false, List, [], ◌∷◌, ◌++◌, refl, sym, ◌∙◌, cond}
 use Rattle.std.proofs.lemmas.Bool.{false≢true}
 use Rattle.tl_tree.specs.declared.node.Part.{Part}
-use Rattle.tl_tree.specs.Tags.{Section, thead, tbody, tfoot, part_of, Kind, Kinds, text, table_start, table_end, caption_start, caption_end, colgroup_start}
-use Rattle.tl_tree.specs.Tags.{colgroup_end, col, group_start, group_end, row_start, row_end, cell_start, cell_end, br, p_or_div, inline_tag, outer_tag}
+use Rattle.tl_tree.specs.Tags.{Section, thead, tbody, tfoot, part_of, Kind, Kinds, text, table_start, table_end, caption_start}
+use Rattle.tl_tree.specs.Tags.{caption_end, colgroup_start}
+use Rattle.tl_tree.specs.Tags.{colgroup_end, col, group_start, group_end, row_start, row_end, cell_start, cell_end, br, p_or_div}
+use Rattle.tl_tree.specs.Tags.{inline_tag, outer_tag}
 use Rattle.tl_tree.specs.Tags.{lone_end, is_white, is_row_start, is_col}
 use Rattle.tl_tree.specs.Grammar.{Marks, columns, paragraph_ends}
-use Rattle.tl_tree.specs.inner.Machine.{of_caption, of_cell, Place, opened, in_columns, in_colgroup, between, in_group, in_row, in_flow, Move, to, enter}
+use Rattle.tl_tree.specs.inner.Machine.{of_caption, of_cell, Place, opened, in_columns, in_colgroup, between, in_group, in_row}
+use Rattle.tl_tree.specs.inner.Machine.{in_flow, Move, to, enter}
 use Rattle.tl_tree.specs.inner.Machine.{leave, never, closes, same_head, move, after, failed, reached}
 
 -- once failed, always failed
@@ -82,7 +85,8 @@ no_entry_if true p ns = refl
 no_entry_if false p ns = refl
 
 -- a cell without its end tag ends before a token that the row takes
-pub cell_as_row : (part : Part) (head : Bool) (k : Kind) → is_white k ≡ false → Alike (in_flow (of_cell part head)) (in_row part) (paragraph_ends ∷ []) k
+pub cell_as_row : (part : Part) (head : Bool) (k : Kind) → is_white k ≡ false →
+    Alike (in_flow (of_cell part head)) (in_row part) (paragraph_ends ∷ []) k
 cell_as_row part head (text cs) h = nowhere (stray_text (in_row part) cs refl h)
 cell_as_row part head table_start h = nowhere refl
 cell_as_row part head table_end h = alike refl refl
@@ -92,7 +96,8 @@ cell_as_row part head (colgroup_start span) h = nowhere refl
 cell_as_row part head colgroup_end h = nowhere refl
 cell_as_row part head (col span) h = nowhere refl
 cell_as_row part head (group_start other) h = alike refl refl
-cell_as_row part head (group_end other) h = alike (no_entry_if (closes other part) between []) (first_if (closes other part) between (paragraph_ends ∷ []) [])
+cell_as_row part head (group_end other) h = alike (no_entry_if (closes other part) between [])
+    (first_if (closes other part) between (paragraph_ends ∷ []) [])
 cell_as_row part head row_start h = alike refl refl
 cell_as_row part head row_end h = alike refl refl
 cell_as_row part head (cell_start other spans) h = alike refl refl
@@ -113,7 +118,8 @@ row_as_group part (colgroup_start span) h = nowhere refl
 row_as_group part colgroup_end h = nowhere refl
 row_as_group part (col span) h = nowhere refl
 row_as_group part (group_start other) h = alike refl refl
-row_as_group part (group_end other) h = alike (no_entry_if (closes other part) between []) (first_if (closes other part) between [] [])
+row_as_group part (group_end other) h = alike (no_entry_if (closes other part) between [])
+    (first_if (closes other part) between [] [])
 row_as_group part row_start h = alike refl refl
 row_as_group part row_end h = nowhere refl
 row_as_group part (cell_start other spans) h = nowhere refl
@@ -166,7 +172,8 @@ columns_as_between n inline_tag h = nowhere refl
 columns_as_between n outer_tag h = nowhere refl
 columns_as_between n lone_end h = nowhere refl
 
-pub colgroup_as_columns : (n pending : ℕ) (k : Kind) → is_white k ≡ false → is_col k ≡ false → Alike (in_colgroup n pending) (in_columns (n + pending)) [] k
+pub colgroup_as_columns : (n pending : ℕ) (k : Kind) → is_white k ≡ false → is_col k ≡ false →
+    Alike (in_colgroup n pending) (in_columns (n + pending)) [] k
 colgroup_as_columns n pending (text cs) h g = nowhere (stray_text (in_columns (n + pending)) cs refl h)
 colgroup_as_columns n pending table_start h g = nowhere refl
 colgroup_as_columns n pending table_end h g = alike refl refl

@@ -6,10 +6,11 @@ use Rattle.std.specs.declared.boxed.Box.{Box}
 use Rattle.std.specs.declared.alloc.Global.{Global}
 use Rattle.tl_text.specs.declared.paragraph.Atom.{Atom}
 use Rattle.std.specs.List.{flat_map}
-use Rattle.tl_tree.specs.Outline.{Entries, table, caption, columns, group, row, cell, paragraph, table_end, joined, row_entries, block_entries, cell_entries}
+use Rattle.tl_tree.specs.Outline.{Entries, table, caption, columns, group, row, cell, paragraph, table_end, joined, row_entries}
+use Rattle.tl_tree.specs.Outline.{block_entries, cell_entries}
 use Rattle.tl_tree.specs.Outline.{group_entries, table_entries, block_outline, cell_outline, group_outline, outline}
 use Rattle.tl_tree.specs.declared.node.Block.{Block, Table, roll-Block, fold-roll-Block}
-use Rattle.tl_tree.specs.inner.Reading.{caption_outline}
+use Rattle.tl_tree.specs.Outline.{caption_outline}
 use Rattle.tl_tree.specs.declared.node.Block.TheViews.{rolls-Table}
 use Rattle.tl_tree.specs.declared.node.Block.TheOpen as parts
 use Rattle.tl_tree.specs.declared.node.CellNode.{CellNode, roll-CellNode, fold-roll-CellNode}
@@ -28,10 +29,12 @@ rows-map f (cells ∷ rows) =
     ∙ ap (λ es. row ∷ (flat_map f cells ++ es)) (rows-map f rows)
 
 pub paragraph_made : (p : List Atom) → block_outline (roll-Block (parts.Para p)) ≡ paragraph p ∷ []
-paragraph_made p = fold-roll-Block Entries Entries Entries Entries block_entries cell_entries group_entries table_entries (parts.Para p)
+paragraph_made p = fold-roll-Block Entries Entries Entries Entries block_entries cell_entries group_entries table_entries
+    (parts.Para p)
 
 pub nested_made : (box : Box TableNode Global) → block_outline (roll-Block (parts.Table box)) ≡ outline box.value
-nested_made box = fold-roll-Block Entries Entries Entries Entries block_entries cell_entries group_entries table_entries (parts.Table box)
+nested_made box = fold-roll-Block Entries Entries Entries Entries block_entries cell_entries group_entries table_entries
+    (parts.Table box)
 
 pub nested_block : (box : Box TableNode Global) → block_outline (Table box) ≡ outline box.value
 nested_block box = ap block_outline (sym (rolls-Table box)) ∙ nested_made box
@@ -54,8 +57,10 @@ table_made number None n groups =
     ∙ ap (λ es. table number ∷ (columns n ∷ (es ++ table_end ∷ []))) (joined-map group_outline groups)
 table_made number (Some flow) n groups =
     fold-roll-TableNode Entries Entries Entries Entries block_entries cell_entries group_entries table_entries _
-    ∙ ap (λ es. table number ∷ (caption ∷ (es ++ (columns n ∷ (joined (list_map group_outline groups) ++ table_end ∷ []))))) (joined-map block_outline flow)
-    ∙ ap (λ es. table number ∷ (caption ∷ (flat_map block_outline flow ++ (columns n ∷ (es ++ table_end ∷ []))))) (joined-map group_outline groups)
+    ∙ ap (λ es. table number ∷ (caption ∷ (es ++ (columns n ∷ (joined (list_map group_outline groups) ++ table_end ∷ [])))))
+    (joined-map block_outline flow)
+    ∙ ap (λ es. table number ∷ (caption ∷ (flat_map block_outline flow ++ (columns n ∷ (es ++ table_end ∷ [])))))
+    (joined-map group_outline groups)
 
 -- one more at the end
 pub flat_map-push : {A : Type 0} (f : A → Entries) (xs : List A) (x : A) → flat_map f (xs ++ x ∷ []) ≡ flat_map f xs ++ f x

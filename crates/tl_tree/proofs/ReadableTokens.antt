@@ -1,5 +1,6 @@
 -- What `tokens` returns is what `tree` reads.
-use Rattle.std.proofs.Common.{◌≡◌, ◌<◌, ◌≤◌, ℕ, Bool, true, false, not, ◌&&◌, ◌||◌, List, [], ◌∷◌, Option, Some, None, length, sum_by, refl, sym}
+use Rattle.std.proofs.Common.{◌≡◌, ◌<◌, ◌≤◌, ℕ, Bool, true, false, not, ◌&&◌, ◌||◌, List, [], ◌∷◌, Option, Some, None, length}
+use Rattle.std.proofs.Common.{sum_by, refl, sym}
 use Rattle.std.proofs.Common.{ap, ◌∙◌, subst, inl, inr, cond, arith, drop}
 use Rattle.std.specs.List.{AllByRecursion, list_any}
 use Rattle.std.proofs.lemmas.Int.{clamps}
@@ -11,10 +12,12 @@ use Rattle.tl_token.specs.Numbers.{number, columns_of, rows_of, floor_of}
 use Rattle.tl_token.specs.Elements.{Attribute, Tag, kind_of, spans_of}
 use Rattle.tl_token.specs.Grammar.{named_character, numbered_character, referred, numeric_reference, reference, Piece}
 use Rattle.tl_token.specs.Grammar.{Stands, comment, doctype, markup, by_reference, plain}
-use Rattle.tl_token.specs.Spelling.{Part, place_of, Leads, here, next, join_before, character_before, piece_before, tokens_of, token_size, size_of}
+use Rattle.tl_token.specs.Spelling.{Part, place_of, Leads, here, next, join_before, character_before, piece_before, tokens_of}
+use Rattle.tl_token.specs.Spelling.{token_size, size_of}
 use Rattle.tl_token.specs.Spelling.{SpellsTokens}
 use Rattle.tl_token.specs.declared.token.Element.{Element}
-use Rattle.tl_token.specs.declared.token.Element.TheVariants.{Table, Caption, Colgroup, Col, Thead, Tbody, Tfoot, Tr, Td, Th, Br, P, Div, Inline, Outer}
+use Rattle.tl_token.specs.declared.token.Element.TheVariants.{Table, Caption, Colgroup, Col, Thead, Tbody, Tfoot, Tr, Td, Th, Br}
+use Rattle.tl_token.specs.declared.token.Element.TheVariants.{P, Div, Inline, Outer}
 use Rattle.tl_token.specs.declared.token.Spans.{Spans}
 use Rattle.tl_token.specs.declared.token.Token.{Token}
 use Rattle.tl_token.specs.declared.token.TokenKind.{TokenKind}
@@ -57,16 +60,18 @@ referred_plain meaning None d rest fine h = cc
 referred_plain meaning (Some p) d rest fine h = fine (p.0) (ap (λ o. meant o) h)
 
 numeric_plain : (cs : List ℕ) (d : ℕ) (rest : List ℕ) → numeric_reference cs ≡ Some (Some d, rest) → is_control d ≡ false
-numeric_plain cs d rest h = elim (chosen (λ (o : Option (Option ℕ × List ℕ)). o ≡ Some (Some d, rest)) (begins (λ c. c ∈ "xX") cs) _ _ h) [
-  | inl e ↦ referred_plain _ _ d rest (λ text. numbered_plain (number 16 text) d) (e.1)
-  | inr e ↦ referred_plain _ _ d rest (λ text. numbered_plain (number 10 text) d) (e.1)
-]
+numeric_plain cs d rest h =
+    elim (chosen (λ (o : Option (Option ℕ × List ℕ)). o ≡ Some (Some d, rest)) (begins (λ c. c ∈ "xX") cs) _ _ h) [
+      | inl e ↦ referred_plain _ _ d rest (λ text. numbered_plain (number 16 text) d) (e.1)
+      | inr e ↦ referred_plain _ _ d rest (λ text. numbered_plain (number 10 text) d) (e.1)
+    ]
 
 reference_plain : (cs : List ℕ) (d : ℕ) (rest : List ℕ) → reference cs ≡ Some (Some d, rest) → is_control d ≡ false
-reference_plain cs d rest h = elim (chosen (λ (o : Option (Option ℕ × List ℕ)). o ≡ Some (Some d, rest)) (begins (λ c. c ∈ "#") cs) _ _ h) [
-  | inl e ↦ numeric_plain (drop 1 cs) d rest (e.1)
-  | inr e ↦ referred_plain named_character _ d rest (λ text. named_plain text d) (e.1)
-]
+reference_plain cs d rest h =
+    elim (chosen (λ (o : Option (Option ℕ × List ℕ)). o ≡ Some (Some d, rest)) (begins (λ c. c ∈ "#") cs) _ _ h) [
+      | inl e ↦ numeric_plain (drop 1 cs) d rest (e.1)
+      | inr e ↦ referred_plain named_character _ d rest (λ text. named_plain text d) (e.1)
+    ]
 
 -- the numbers of a start tag
 some_columns : (n : Option ℕ) → (0 < columns_of n) × (columns_of n ≤ MAX_COLSPAN)
@@ -82,8 +87,20 @@ narrow None = omega arith
 narrow (Some n) = omega (arith, clamps)
 
 start_readable : (e : Element) (attributes : List Attribute) → IsReadable (start_of e (spans_of e attributes))
-start_readable Td attributes = record { some_column = (some_columns _).0; few_columns = (some_columns _).1; few_rows = few_rows _; narrow = narrow _ }
-start_readable Th attributes = record { some_column = (some_columns _).0; few_columns = (some_columns _).1; few_rows = few_rows _; narrow = narrow _ }
+start_readable Td attributes = record {
+  some_column = (some_columns _).0;
+  few_columns = (some_columns _).1;
+  few_rows =
+      few_rows _;
+  narrow = narrow _;
+}
+start_readable Th attributes = record {
+  some_column = (some_columns _).0;
+  few_columns = (some_columns _).1;
+  few_rows =
+      few_rows _;
+  narrow = narrow _;
+}
 start_readable Col attributes = (some_columns _).1
 start_readable Colgroup attributes = (some_columns _).1
 start_readable Table attributes = tt
@@ -129,7 +146,8 @@ abbrev AllReadable : List Token → Type 0
 AllReadable tokens = AllByRecursion IsReadable (kinds tokens)
 
 -- a character before tokens
-character_readable : (c first past : ℕ) (later : List Token) → is_control c ≡ false → AllReadable later → AllReadable (character_before c first past later)
+character_readable : (c first past : ℕ) (later : List Token) → is_control c ≡ false → AllReadable later →
+    AllReadable (character_before c first past later)
 character_readable c first past [] allowed fine = ((omega arith, any_control c [] allowed refl), tt)
 character_readable c first past (t ∷ later) allowed fine = by_kind (t.kind) (fine.0)
   where
@@ -138,7 +156,8 @@ character_readable c first past (t ∷ later) allowed fine = by_kind (t.kind) (f
     by_kind (Start e spans) start_fine = ((omega arith, any_control c [] allowed refl), fine)
     by_kind (End e) end_fine = ((omega arith, any_control c [] allowed refl), fine)
 
-piece_readable : (cs rest : List ℕ) (piece : Piece) (first past : ℕ) (later : List Token) → Stands cs piece rest → AllReadable later
+piece_readable : (cs rest : List ℕ) (piece : Piece) (first past : ℕ) (later : List Token) → Stands cs piece rest →
+    AllReadable later
     → AllReadable (piece_before piece first past later)
 piece_readable cs rest _ first past later (comment k) fine = fine
 piece_readable cs rest _ first past later (doctype k) fine = fine
@@ -147,13 +166,15 @@ piece_readable cs rest _ first past later (markup e t k known kind) fine =
     (subst Q (sym kind) (tag_readable e t), fine)
 piece_readable _ rest _ first past later (by_reference {c = c} {d = d} {cs = cs} a h) fine =
     character_readable d first past later (reference_plain cs d rest h) fine
-piece_readable _ rest _ first past later (plain {c = c} k) fine = character_readable c first past later (not_true (is_control c) (k.0)) fine
+piece_readable _ rest _ first past later (plain {c = c} k) fine =
+    character_readable c first past later (not_true (is_control c) (k.0)) fine
 
 -- the tokens of pieces that lead somewhere
 parts_readable : (size : ℕ) (cs rest : List ℕ) (parts : List Part) → Leads size cs parts rest → AllReadable (tokens_of parts)
 parts_readable size cs rest _ here = tt
 parts_readable size cs rest _ (next {mid = mid} {parts = parts} piece k later) =
-    piece_readable cs mid piece (place_of size cs) (place_of size mid) (tokens_of parts) k (parts_readable size mid rest parts later)
+    piece_readable cs mid piece (place_of size cs) (place_of size mid) (tokens_of parts) k
+    (parts_readable size mid rest parts later)
 
 start_size : (e : Element) (spans : Spans) → kind_size (start_of e spans) ≡ 1
 start_size Table spans = refl
@@ -202,7 +223,8 @@ same_size (t ∷ later) =
     omega (arith, h, k, sum_by-cons kind_size (class_of (t.kind)) (kinds later))
 
 -- The tokens that the bytes of a file spell, of which there are no more than bytes, are readable.
-pub tokens_readable : (bytes : List ℕ) (tokens : List Token) → SpellsTokens bytes tokens → size_of tokens ≤ length bytes → length bytes ≤ MAX_FILE_BYTES
+pub tokens_readable : (bytes : List ℕ) (tokens : List Token) → SpellsTokens bytes tokens → size_of tokens ≤ length bytes →
+    length bytes ≤ MAX_FILE_BYTES
     → AreReadable tokens
 tokens_readable bytes tokens spelt few small =
     let (utf8, parts, leads, same) = spelt in

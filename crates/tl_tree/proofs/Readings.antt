@@ -1,5 +1,6 @@
 -- What reading a token leaves, from what it does to the table that is open.
-use Rattle.std.proofs.Common.{◌≡◌, ℕ, ◌+◌, false, Option, Some, None, Result, Ok, Err, IfOk, IfErr, List, [], ◌∷◌, ◌++◌, length, map, refl, sym, ap, ◌∙◌, arith}
+use Rattle.std.proofs.Common.{◌≡◌, ℕ, ◌+◌, false, Option, Some, None, Result, Ok, Err, IfOk, IfErr, List, [], ◌∷◌, ◌++◌, length}
+use Rattle.std.proofs.Common.{map, refl, sym, ap, ◌∙◌, arith}
 use Rattle.std.proofs.Common.{append_assoc, lit<}
 use Rattle.std.proofs.lemmas.List.{length-map, length-reverse, reverse-append}
 use Rattle.std.specs.declared.vec.Vec.{Vec}
@@ -12,13 +13,14 @@ use Rattle.tl_token.specs.declared.token.Element.TheVariants as elements
 use Rattle.tl_tree.specs.Tags.{Kind, table_start, is_table_start, start_of, end_of}
 use Rattle.tl_tree.specs.Grammar.{Marks, table_ends}
 use Rattle.tl_tree.specs.Paragraphs.{leading, paragraph_of, entries_of, entries_after}
-use Rattle.tl_tree.specs.Outline.{Entry, Entries, table, table_end, outline}
+use Rattle.tl_tree.specs.Outline.{Entry, Entries, table, table_end, outline, blocks_outline}
 use Rattle.tl_tree.specs.Spelling.{FitsLimits, tables_with}
 use Rattle.tl_tree.specs.inner.Machine as machine
 use Rattle.tl_tree.specs.inner.Machine.{moved, due}
 use Rattle.tl_tree.specs.inner.Verdict.{is_failed}
-use Rattle.tl_tree.specs.inner.Lines.{line_atoms, open_word, blocks_outline}
-use Rattle.tl_tree.specs.inner.Reading.{after_entries, outcome, parts_so_far, Adds, in_flow, holder_so_far, holder_of, place_of, Moves}
+use Rattle.tl_tree.specs.inner.Lines.{line_atoms, open_word}
+use Rattle.tl_tree.specs.inner.Reading.{after_entries, outcome, parts_so_far, Adds, in_flow, holder_so_far, holder_of, place_of}
+use Rattle.tl_tree.specs.inner.Reading.{Moves}
 use Rattle.tl_tree.specs.inner.Documents.{around, holders, state_of, outcome_of, Reads, Nests, Leaves}
 use Rattle.tl_tree.specs.declared.node.TableNode.{TableNode}
 use Rattle.tl_tree.specs.declared.flow.Flow.{Flow}
@@ -70,7 +72,8 @@ end_no_table elements.Inline = refl
 end_no_table elements.Outer = refl
 
 -- a token that moves the table that is open
-pub reads_inside : (outer : Vec Outer Global) (t new : OpenTable) (tables : ℕ) (k : Kind) → is_table_start k ≡ false → Moves t k new
+pub reads_inside : (outer : Vec Outer Global) (t new : OpenTable) (tables : ℕ) (k : Kind) → is_table_start k ≡ false →
+    Moves t k new
     → Reads (Inside outer t) tables k (Inside outer new)
 reads_inside outer t new tables k tag m = record {
   goes = ap (λ x. moved (holders outer.items) x) m.goes;
@@ -84,7 +87,8 @@ length-holders : (outer : List Outer) → length (holders outer) ≡ length oute
 length-holders outer = simp (length-map, length-reverse)
 
 -- a table that begins in a flow
-pub reads_nested : (outer : Vec Outer Global) (holder : Holder) (flow : Flow) (tables : ℕ) (new : Reading) → Nests outer.items holder flow tables new
+pub reads_nested : (outer : Vec Outer Global) (holder : Holder) (flow : Flow) (tables : ℕ) (new : Reading) →
+    Nests outer.items holder flow tables new
     → Reads (Inside outer (stages.Flow holder flow)) tables table_start new
 reads_nested outer holder flow tables new n = record {
   goes = sym n.goes;
@@ -100,7 +104,8 @@ reads_nested outer holder flow tables new n = record {
     regroup a p x e = simp append_assoc
 
 -- the first table
-pub reads_first : (outer : Vec Outer Global) (tables : ℕ) → outer.items ≡ [] → tables ≡ 0 → Reads Before tables table_start (Inside outer (stages.Start tables))
+pub reads_first : (outer : Vec Outer Global) (tables : ℕ) → outer.items ≡ [] → tables ≡ 0 →
+    Reads Before tables table_start (Inside outer (stages.Start tables))
 reads_first outer tables none zero_tables = record {
   goes = ap (λ x. machine.inside machine.opened (holders x)) (sym none);
   alive = refl;
@@ -109,8 +114,10 @@ reads_first outer tables none zero_tables = record {
 }
 
 -- a table that ends in a flow
-pub leaves_flow : (outer rest : List Outer) (o : Outer) (t : OpenTable) (parts : Parts) (node : TableNode) (flow : Flow) (new : Reading)
-    → outer ≡ rest ++ o ∷ [] → Adds (outcome t) (after_entries (parts_so_far parts)) (due (place_of t)) → outline node ≡ parts_so_far parts ++ table_end ∷ []
+pub leaves_flow : (outer rest : List Outer) (o : Outer) (t : OpenTable) (parts : Parts) (node : TableNode) (flow : Flow)
+    (new : Reading)
+    → outer ≡ rest ++ o ∷ [] → Adds (outcome t) (after_entries (parts_so_far parts)) (due (place_of t)) →
+    outline node ≡ parts_so_far parts ++ table_end ∷ []
     → blocks_outline flow.blocks ≡ blocks_outline o.blocks ++ outline node → flow.line.atoms ≡ [] → open_word flow.line ≡ []
     → state_of new ≡ machine.inside (machine.in_flow (holder_of o.holder)) (holders rest)
     → ((k : ℕ) (later : Marks) → outcome_of new k later ≡ around rest ++ in_flow (holder_so_far o.holder) flow k later)
@@ -125,16 +132,20 @@ leaves_flow outer rest o t parts node flow new split adds whole blocks atoms wor
       same k later
       ∙ ap (λ list. around rest ++ ((h ++ blocks_outline flow.blocks) ++
       (paragraph_of (atoms_from list (open_word flow.line) (leading later)) ++ entries_after k later))) atoms
-      ∙ ap (λ w. around rest ++ ((h ++ blocks_outline flow.blocks) ++ (paragraph_of (atoms_from [] w (leading later)) ++ entries_after k later))) word
-      ∙ ap (λ list. around rest ++ ((h ++ blocks_outline flow.blocks) ++ (paragraph_of list ++ entries_after k later))) (read_none (leading later))
+      ∙ ap (λ w. around rest ++ ((h ++ blocks_outline flow.blocks) ++
+      (paragraph_of (atoms_from [] w (leading later)) ++ entries_after k later))) word
+      ∙ ap (λ list. around rest ++ ((h ++ blocks_outline flow.blocks) ++ (paragraph_of list ++ entries_after k later)))
+      (read_none (leading later))
       ∙ ap (λ es. around rest ++ ((h ++ es) ++ e)) (blocks ∙ ap (λ es. b ++ es) whole)
       ∙ regroup (around rest) h b (parts_so_far parts) table_end e
       ∙ ap (λ es. es ++ (parts_so_far parts ++ (table_end ∷ e)))
       (sym (ap around split ∙ flat_map-push (λ o'. holder_so_far o'.holder ++ blocks_outline o'.blocks) rest o))
-      ∙ ap (λ es. around outer ++ es) (adds.same k (table_ends ∷ later) ∙ ap (λ ms. outcome t k ms) (sym (append_assoc due_marks (table_ends ∷ []) later)));
+      ∙ ap (λ es. around outer ++ es) (adds.same k (table_ends ∷ later) ∙ ap (λ ms. outcome t k ms)
+      (sym (append_assoc due_marks (table_ends ∷ []) later)));
 }
   where
-    regroup : (a h b p : Entries) (x : Entry) (e : Entries) → a ++ ((h ++ (b ++ (p ++ x ∷ []))) ++ e) ≡ (a ++ (h ++ b)) ++ (p ++ (x ∷ e))
+    regroup : (a h b p : Entries) (x : Entry) (e : Entries) →
+        a ++ ((h ++ (b ++ (p ++ x ∷ []))) ++ e) ≡ (a ++ (h ++ b)) ++ (p ++ (x ∷ e))
     regroup a h b p x e = simp append_assoc
 
     holders-push : (rest : List Outer) (o : Outer) → holders (rest ++ o ∷ []) ≡ holder_of o.holder ∷ holders rest

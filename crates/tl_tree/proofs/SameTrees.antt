@@ -1,5 +1,6 @@
 -- One outline is one tree: what an outline says of a tree is all that the tree holds.
-use Rattle.std.proofs.Common.{◌≡◌, ◌≤◌, ◌<◌, ℕ, ◌+◌, zero, suc, Option, Some, None, List, [], ◌∷◌, ◌++◌, length, refl, sym, ap, ◌∙◌, subst, arith, append_assoc}
+use Rattle.std.proofs.Common.{◌≡◌, ◌≤◌, ◌<◌, ℕ, ◌+◌, zero, suc, Option, Some, None, List, [], ◌∷◌, ◌++◌, length, refl, sym, ap}
+use Rattle.std.proofs.Common.{◌∙◌, subst, arith, append_assoc}
 use Rattle.std.proofs.Common.{length-append}
 use Rattle.std.specs.List.{AllZip, flat_map}
 use Rattle.tl_token.specs.declared.token.Token.{Token}
@@ -8,9 +9,10 @@ use Rattle.tl_tree.specs.Outline.{Entry, Entries, table, caption, columns, group
 use Rattle.tl_tree.specs.Outline.{cell_outline, group_outline, outline}
 use Rattle.tl_tree.specs.Paragraphs.{entries_of}
 use Rattle.tl_tree.specs.Spelling.{SpellsTree}
-use Rattle.tl_tree.specs.Same.{OpenBlock, OpenCell, OpenGroup, OpenTable, AreSameBlock, AreSameCell, AreSameRow, AreSameGroup, AreSameCaption, AreSameTable}
+use Rattle.tl_tree.specs.Same.{OpenBlock, OpenCell, OpenGroup, OpenTable, AreSameBlock, AreSameCell, AreSameRow, AreSameGroup}
+use Rattle.tl_tree.specs.Same.{AreSameCaption, AreSameTable}
 use Rattle.tl_tree.specs.Same.{AreSameWithin, AreSame}
-use Rattle.tl_tree.specs.inner.Reading.{caption_outline, row_outline}
+use Rattle.tl_tree.specs.Outline.{caption_outline, row_outline}
 use Rattle.tl_tree.specs.declared.node.Block.{Block, out-Block, roll-Block, roll-out-Block}
 use Rattle.tl_tree.specs.declared.node.Block.TheOpen as parts
 use Rattle.tl_tree.specs.declared.node.CellNode.{CellNode, out-CellNode, roll-out-CellNode}
@@ -38,12 +40,15 @@ tail_same : {x y : Entry} {xs ys : Entries} → x ∷ xs ≡ y ∷ ys → xs ≡
 tail_same e = cc
 
 -- Parts of one rank that follow one another: where each is told from the entries after it, so is the list.
-module _ {X : Type 0} (f : X → Entries) (S : X → X → Type 0) (k n : ℕ) (begins : (x : X) (r : Entries) → first_rank (f x ++ r) ≡ k)
-    (one : (x y : X) (r s : Entries) → k ≤ first_rank r → k ≤ first_rank s → length (f x ++ r) ≤ n → f x ++ r ≡ f y ++ s → S x y × (r ≡ s)) where
+module _ {X : Type 0} (f : X → Entries) (S : X → X → Type 0) (k n : ℕ) (begins : (x : X) (r : Entries) →
+    first_rank (f x ++ r) ≡ k)
+    (one : (x y : X) (r s : Entries) → k ≤ first_rank r → k ≤ first_rank s → length (f x ++ r) ≤ n → f x ++ r ≡ f y ++ s →
+    S x y × (r ≡ s)) where
   next_rank : (xs : List X) (r : Entries) → k < first_rank r → k ≤ first_rank (flat_map f xs ++ r)
   next_rank [] r h = omega arith
   next_rank (x ∷ xs) r h =
-      let e : first_rank ((f x ++ flat_map f xs) ++ r) ≡ k = ap first_rank (append_assoc (f x) (flat_map f xs) r) ∙ begins x (flat_map f xs ++ r) in
+      let e : first_rank ((f x ++ flat_map f xs) ++ r) ≡ k =
+      ap first_rank (append_assoc (f x) (flat_map f xs) r) ∙ begins x (flat_map f xs ++ r) in
       omega arith
 
   begun : (x : X) (xs : List X) (r s : Entries) → r ≡ (f x ++ flat_map f xs) ++ s → first_rank r ≡ k
@@ -59,7 +64,8 @@ module _ {X : Type 0} (f : X → Entries) (S : X → X → Type 0) (k n : ℕ) (
       let b = append_assoc (f y) (flat_map f ys) s in
       let long = length-append (f x) (flat_map f xs ++ r) in
       let same_length : length ((f x ++ flat_map f xs) ++ r) ≡ length (f x ++ (flat_map f xs ++ r)) = ap length a in
-      let first = one x y (flat_map f xs ++ r) (flat_map f ys ++ s) (next_rank xs r h) (next_rank ys s i) (omega arith) (sym a ∙ e ∙ b) in
+      let first = one x y (flat_map f xs ++ r) (flat_map f ys ++ s) (next_rank xs r h) (next_rank ys s i) (omega arith)
+      (sym a ∙ e ∙ b) in
       let later = all_same xs ys r s h i (omega arith) first.1 in
       ((first.0, later.0), later.1)
 
@@ -89,7 +95,8 @@ group_opened : (g : GroupNode) → group_outline g ≡ open_group (out-GroupNode
 group_opened g = ap group_outline (sym (roll-out-GroupNode g)) ∙ group_made (out-GroupNode g)
 
 abbrev open_table : OpenTable → Entries
-open_table t = table t.number ∷ (caption_outline t.caption ++ (columns t.columns ∷ (flat_map group_outline t.groups ++ table_end ∷ [])))
+open_table t = table t.number ∷ (caption_outline t.caption ++
+    (columns t.columns ∷ (flat_map group_outline t.groups ++ table_end ∷ [])))
 
 table_opened : (t : TableNode) → outline t ≡ open_table (out-TableNode t)
 table_opened t =
@@ -100,15 +107,18 @@ table_rank : (t : TableNode) (r : Entries) → first_rank (outline t ++ r) ≡ 0
 table_rank t r = ap (λ es. first_rank (es ++ r)) (table_opened t)
 
 module _ (n : ℕ) (same : TableNode → TableNode → Type 0)
-    (nested : (x y : TableNode) (r s : Entries) → length (outline x ++ r) ≤ n → outline x ++ r ≡ outline y ++ s → same x y × (r ≡ s)) where
+    (nested : (x y : TableNode) (r s : Entries) → length (outline x ++ r) ≤ n → outline x ++ r ≡ outline y ++ s →
+    same x y × (r ≡ s)) where
   -- ---- flows
   open_block_same : (x y : OpenBlock) (r s : Entries) → length (open_block x ++ r) ≤ n → open_block x ++ r ≡ open_block y ++ s
       → AreSameBlock same x y × (r ≡ s)
   open_block_same (parts.Para p) (parts.Para q) r s few e = (cc, cc)
   open_block_same (parts.Para p) (parts.Table box) r s few e =
-      absurd (let t : paragraph p ∷ r ≡ open_table (out-TableNode box.value) ++ s = e ∙ ap (λ es. es ++ s) (table_opened box.value) in cc)
+      absurd (let t : paragraph p ∷ r ≡ open_table (out-TableNode box.value) ++ s =
+      e ∙ ap (λ es. es ++ s) (table_opened box.value) in cc)
   open_block_same (parts.Table box) (parts.Para q) r s few e =
-      absurd (let t : open_table (out-TableNode box.value) ++ r ≡ paragraph q ∷ s = sym (ap (λ es. es ++ r) (table_opened box.value)) ∙ e in cc)
+      absurd (let t : open_table (out-TableNode box.value) ++ r ≡ paragraph q ∷ s =
+      sym (ap (λ es. es ++ r) (table_opened box.value)) ∙ e in cc)
   open_block_same (parts.Table x) (parts.Table y) r s few e = nested x.value y.value r s few e
 
   block_same : (x y : Block) (r s : Entries) → 0 ≤ first_rank r → 0 ≤ first_rank s → length (block_outline x ++ r) ≤ n
@@ -125,8 +135,10 @@ module _ (n : ℕ) (same : TableNode → TableNode → Type 0)
       of_open (parts.Para p) = refl
       of_open (parts.Table box) = table_rank box.value r
 
-  flow_same : (xs ys : List Block) (r s : Entries) → 0 < first_rank r → 0 < first_rank s → length (flat_map block_outline xs ++ r) ≤ n
-      → flat_map block_outline xs ++ r ≡ flat_map block_outline ys ++ s → AllZip (λ x y. AreSameBlock same (out-Block x) (out-Block y)) xs ys × (r ≡ s)
+  flow_same : (xs ys : List Block) (r s : Entries) → 0 < first_rank r → 0 < first_rank s →
+      length (flat_map block_outline xs ++ r) ≤ n
+      → flat_map block_outline xs ++ r ≡ flat_map block_outline ys ++ s →
+      AllZip (λ x y. AreSameBlock same (out-Block x) (out-Block y)) xs ys × (r ≡ s)
   flow_same = all_same block_outline (λ x y. AreSameBlock same (out-Block x) (out-Block y)) 0 n block_rank block_same
 
   -- ---- rows
@@ -141,7 +153,8 @@ module _ (n : ℕ) (same : TableNode → TableNode → Type 0)
   cell_same x y r s h i few e =
       let a = ap (λ es. es ++ r) (cell_opened x) in
       let b = ap (λ es. es ++ s) (cell_opened y) in
-      open_cell_same (out-CellNode x) (out-CellNode y) r s (omega arith) (omega arith) (subst (λ (es : Entries). length es ≤ n) a few) (sym a ∙ e ∙ b)
+      open_cell_same (out-CellNode x) (out-CellNode y) r s (omega arith) (omega arith)
+      (subst (λ (es : Entries). length es ≤ n) a few) (sym a ∙ e ∙ b)
 
   cell_rank : (x : CellNode) (r : Entries) → first_rank (cell_outline x ++ r) ≡ 1
   cell_rank x r = ap (λ es. first_rank (es ++ r)) (cell_opened x)
@@ -149,14 +162,16 @@ module _ (n : ℕ) (same : TableNode → TableNode → Type 0)
   row_same : (x y : List CellNode) (r s : Entries) → 2 ≤ first_rank r → 2 ≤ first_rank s → length (row_outline x ++ r) ≤ n
       → row_outline x ++ r ≡ row_outline y ++ s → AreSameRow same x y × (r ≡ s)
   row_same x y r s h i few e =
-      all_same cell_outline (λ c d. AreSameCell same (out-CellNode c) (out-CellNode d)) 1 n cell_rank cell_same x y r s (omega arith) (omega arith)
+      all_same cell_outline (λ c d. AreSameCell same (out-CellNode c) (out-CellNode d)) 1 n cell_rank cell_same x y r s
+      (omega arith) (omega arith)
       (omega arith) (tail_same e)
 
   -- ---- groups
   open_group_same : (x y : OpenGroup) (r s : Entries) → 3 ≤ first_rank r → 3 ≤ first_rank s → length (open_group x ++ r) ≤ n
       → open_group x ++ r ≡ open_group y ++ s → AreSameGroup same x y × (r ≡ s)
   open_group_same x y r s h i few e =
-      let rows = all_same row_outline (AreSameRow same) 2 n (λ cells more. refl) row_same x.rows y.rows r s (omega arith) (omega arith) (omega arith)
+      let rows = all_same row_outline (AreSameRow same) 2 n (λ cells more. refl) row_same x.rows y.rows r s (omega arith)
+      (omega arith) (omega arith)
       (tail_same e) in
       (record { part = cc; rows = rows.0 }, rows.1)
 
@@ -172,18 +187,21 @@ module _ (n : ℕ) (same : TableNode → TableNode → Type 0)
 
   -- ---- tables
   caption_same : (x y : Option (List Block)) (a b : ℕ) (r s : Entries) → length (caption_outline x ++ (columns a ∷ r)) ≤ n
-      → caption_outline x ++ (columns a ∷ r) ≡ caption_outline y ++ (columns b ∷ s) → AreSameCaption same x y × (columns a ∷ r ≡ columns b ∷ s)
+      → caption_outline x ++ (columns a ∷ r) ≡ caption_outline y ++ (columns b ∷ s) →
+      AreSameCaption same x y × (columns a ∷ r ≡ columns b ∷ s)
   caption_same None None a b r s few e = (tt, e)
   caption_same None (Some flow) a b r s few e = absurd (cc)
   caption_same (Some flow) None a b r s few e = absurd (cc)
-  caption_same (Some one) (Some other) a b r s few e = flow_same one other (columns a ∷ r) (columns b ∷ s) (omega arith) (omega arith) (omega arith)
+  caption_same (Some one) (Some other) a b r s few e = flow_same one other (columns a ∷ r) (columns b ∷ s) (omega arith)
+      (omega arith) (omega arith)
       (tail_same e)
 
   laid_out : (t : OpenTable) (r : Entries) → open_table t ++ r
       ≡ table t.number ∷ (caption_outline t.caption ++ (columns t.columns ∷ (flat_map group_outline t.groups ++ (table_end ∷ r))))
   laid_out t r = simp append_assoc
 
-  open_table_same : (x y : OpenTable) (r s : Entries) → length (open_table x ++ r) ≤ n + 1 → open_table x ++ r ≡ open_table y ++ s →
+  open_table_same : (x y : OpenTable) (r s : Entries) → length (open_table x ++ r) ≤ n + 1 →
+      open_table x ++ r ≡ open_table y ++ s →
       AreSameTable same x y × (r ≡ s)
   open_table_same x y r s few e =
       let a = laid_out x r in
@@ -192,18 +210,22 @@ module _ (n : ℕ) (same : TableNode → TableNode → Type 0)
       let y_groups = flat_map group_outline y.groups ++ (table_end ∷ s) in
       let whole : table x.number ∷ (caption_outline x.caption ++ (columns x.columns ∷ x_groups)) ≡ table y.number ∷
       (caption_outline y.caption ++ (columns y.columns ∷ y_groups)) = sym a ∙ e ∙ b in
-      let long : length (open_table x ++ r) ≡ length (table x.number ∷ (caption_outline x.caption ++ (columns x.columns ∷ x_groups))) = ap length a in
+      let long : length (open_table x ++ r) ≡ length (table x.number ∷
+      (caption_outline x.caption ++ (columns x.columns ∷ x_groups))) = ap length a in
       let later = length-append (caption_outline x.caption) (columns x.columns ∷ x_groups) in
       let captions = caption_same x.caption y.caption x.columns y.columns x_groups y_groups (omega arith) (tail_same whole) in
-      let groups = all_same group_outline (λ g h. AreSameGroup same (out-GroupNode g) (out-GroupNode h)) 3 n group_rank group_same x.groups y.groups
+      let groups = all_same group_outline (λ g h. AreSameGroup same (out-GroupNode g) (out-GroupNode h))
+      3 n group_rank group_same x.groups y.groups
       (table_end ∷ r) (table_end ∷ s) (omega arith) (omega arith) (omega arith) (tail_same captions.1) in
       let rest = captions.1 in
       (record { number = cc; caption = captions.0; columns = cc; groups = groups.0 }, tail_same groups.1)
 
 -- two tables are told from the entries after them
-table_same : (n : ℕ) (x y : TableNode) (r s : Entries) → length (outline x ++ r) ≤ n → outline x ++ r ≡ outline y ++ s → AreSameWithin n x y × (r ≡ s)
+table_same : (n : ℕ) (x y : TableNode) (r s : Entries) → length (outline x ++ r) ≤ n → outline x ++ r ≡ outline y ++ s →
+    AreSameWithin n x y × (r ≡ s)
 table_same zero x y r s few e =
-    absurd (let a : length (outline x ++ r) ≡ length (open_table (out-TableNode x) ++ r) = ap (λ es. length (es ++ r)) (table_opened x) in omega arith)
+    absurd (let a : length (outline x ++ r) ≡ length (open_table (out-TableNode x) ++ r) =
+    ap (λ es. length (es ++ r)) (table_opened x) in omega arith)
 table_same (suc n) x y r s few e =
     let a = ap (λ es. es ++ r) (table_opened x) in
     let b = ap (λ es. es ++ s) (table_opened y) in
@@ -211,9 +233,14 @@ table_same (suc n) x y r s few e =
     open_table_same n (AreSameWithin n) (table_same n) (out-TableNode x) (out-TableNode y) r s (omega arith) (sym a ∙ e ∙ b)
 
 pub same_outline : (x y : TableNode) → outline x ≡ outline y → AreSame x y
-same_outline x y e = (length (outline x ++ []), (table_same (length (outline x ++ [])) x y [] [] (omega arith) (ap (λ es. es ++ []) e)).0)
+same_outline x y e = (
+  length (outline x ++ []),
+  (table_same (length (outline x ++ [])) x y [] [] (omega arith)
+      (ap (λ es. es ++ []) e)).0,
+)
 
 -- tokens spell at most one tree
 pub one_tree : (tokens : List Token) (x y : TableNode) → SpellsTree tokens x → SpellsTree tokens y → AreSame x y
 one_tree tokens x y one other =
-    same_outline x y (one.same ∙ ap (λ ms. entries_of 0 ms) (same_marks (kinds tokens) one.marks other.marks one.document other.document) ∙ sym other.same)
+    same_outline x y (one.same ∙ ap (λ ms. entries_of 0 ms) (same_marks (kinds tokens)
+    one.marks other.marks one.document other.document) ∙ sym other.same)

@@ -1,5 +1,6 @@
 -- The tree that tokens spell within the limits is sound.
-use Rattle.std.proofs.Common.{◌≡◌, ◌≤◌, ℕ, ◌+◌, ◌*◌, ◌-◌, Bool, true, false, List, [], ◌∷◌, ◌++◌, map, sum_by, refl, sym, ap, ◌∙◌, subst}
+use Rattle.std.proofs.Common.{◌≡◌, ◌≤◌, ℕ, ◌+◌, ◌*◌, ◌-◌, Bool, true, false, List, [], ◌∷◌, ◌++◌, map, sum_by, refl, sym, ap, ◌∙◌}
+use Rattle.std.proofs.Common.{subst}
 use Rattle.std.proofs.Common.{cond, arith, Result, Ok, Err, IfOk, OnOk}
 use Rattle.std.proofs.lemmas.List.Sums.{sum_by-cons}
 use Rattle.std.specs.Char.{is_ascii_whitespace}
@@ -41,7 +42,8 @@ use Rattle.tl_tree.proofs.Documents.{kinds_length, few_tables}
 abbrev IsPlain : Atom → Type 0
 IsPlain atom = (is_whole atom ≡ true) × IsPlainAtom atom
 
-plain_open : (word : List ℕ) → list_any is_ascii_whitespace word ≡ false → list_any is_control word ≡ false → AllByRecursion IsPlain (open_atoms word)
+plain_open : (word : List ℕ) → list_any is_ascii_whitespace word ≡ false → list_any is_control word ≡ false →
+    AllByRecursion IsPlain (open_atoms word)
 plain_open word solid plain =
     let P : List (List ℕ) → Type 0 = λ words. AllByRecursion IsPlainAtom (map Word words) in
     both_of (open_atoms word) (whole_word word solid) (subst P (sym (words_from-end word)) (by_test (has_character word)))
@@ -50,9 +52,13 @@ plain_open word solid plain =
     by_test true = (plain, tt)
     by_test false = tt
 
-    both_of : (atoms : List Atom) → list_all is_whole atoms ≡ true → AllByRecursion IsPlainAtom atoms → AllByRecursion IsPlain atoms
+    both_of : (atoms : List Atom) → list_all is_whole atoms ≡ true → AllByRecursion IsPlainAtom atoms →
+        AllByRecursion IsPlain atoms
     both_of [] whole h = tt
-    both_of (atom ∷ atoms) whole h = ((both-left (is_whole atom) _ whole, h.0), both_of atoms (both-right (is_whole atom) _ whole) h.1)
+    both_of (atom ∷ atoms) whole h = (
+      (both-left (is_whole atom) _ whole, h.0),
+      both_of atoms (both-right (is_whole atom) _ whole) h.1,
+    )
 
 -- the atoms that are read from marks in their ranges
 plain_atoms : (n : ℕ) (word : List ℕ) (ms : Marks) → list_any is_ascii_whitespace word ≡ false → list_any is_control word ≡ false
@@ -60,7 +66,8 @@ plain_atoms : (n : ℕ) (word : List ℕ) (ms : Marks) → list_any is_ascii_whi
 plain_atoms n word [] solid plain fine = rw (read_end [] word) (plain_open word solid plain)
 plain_atoms n word (character c ∷ ms) solid plain fine =
     by_white (is_ascii_whitespace c) refl
-    (λ letter. plain_atoms n (word ++ c ∷ []) ms (none_push is_ascii_whitespace word c solid letter) (none_push is_control word c plain fine.0) fine.1)
+    (λ letter. plain_atoms n (word ++ c ∷ []) ms (none_push is_ascii_whitespace word c solid letter)
+    (none_push is_control word c plain fine.0) fine.1)
     (plain_atoms n [] ms refl refl fine.1)
   where
     by_white : (b : Bool) → is_ascii_whitespace c ≡ b
@@ -68,7 +75,8 @@ plain_atoms n word (character c ∷ ms) solid plain fine =
         → AllByRecursion IsPlain (atoms_from [] [] ms) → AllByRecursion IsPlain (atoms_from [] word (character c ∷ ms))
     by_white false letter goes_on anew = rw (sym (read_letter [] word c ms letter)) (goes_on letter)
     by_white true white goes_on anew =
-        rw (sym (read_white [] word c ms white)) (all-append IsPlain (open_atoms word) (atoms_from [] [] ms) (plain_open word solid plain) anew)
+        rw (sym (read_white [] word c ms white)) (all-append IsPlain (open_atoms word) (atoms_from [] [] ms)
+        (plain_open word solid plain) anew)
 plain_atoms n word (line_break ∷ ms) solid plain fine =
     let anew = plain_atoms n [] ms refl refl fine.1 in
     let ended = all-append IsPlain (open_atoms word) (Break ∷ []) (plain_open word solid plain) ((refl, tt), tt) in
@@ -118,26 +126,35 @@ module _ (n : ℕ) (few : n ≤ MAX_DECLARED_COLUMNS) where
       let plain = subst P (read_none (leading ms)) (plain_atoms n [] (leading ms) refl refl (leading_fine d ms fine)) in
       let a = leading_atoms_size (leading ms) in
       let b = later_size k ms in
-      all-append IsInRange (paragraph_of (atoms_of (leading ms))) (entries_after k ms) (paragraph_in_range (atoms_of (leading ms)) plain (omega arith)) later
+      all-append IsInRange (paragraph_of (atoms_of (leading ms))) (entries_after k ms)
+      (paragraph_in_range (atoms_of (leading ms)) plain (omega arith)) later
 
-  later_in_range : (k d : ℕ) (ms : Marks) → AreFineMarks n d ms → sum_by mark_size ms ≤ MAX_FILE_BYTES → AllByRecursion IsInRange (entries_after k ms)
+  later_in_range : (k d : ℕ) (ms : Marks) → AreFineMarks n d ms → sum_by mark_size ms ≤ MAX_FILE_BYTES →
+      AllByRecursion IsInRange (entries_after k ms)
   later_in_range k d [] fine size = tt
   later_in_range k d (character c ∷ ms) fine size = later_in_range k d ms fine.1 (fewer (character c) ms size)
   later_in_range k d (line_break ∷ ms) fine size = later_in_range k d ms fine.1 (fewer line_break ms size)
   later_in_range k d (marks.paragraph_ends ∷ ms) fine size =
       let small = fewer marks.paragraph_ends ms size in with_paragraph k d ms fine.1 small (later_in_range k d ms fine.1 small)
   later_in_range k d (marks.table_begins ∷ ms) fine size =
-      let small = fewer marks.table_begins ms size in (tt, with_paragraph (k + 1) (d + 1) ms fine.1 small (later_in_range (k + 1) (d + 1) ms fine.1 small))
+      let small = fewer marks.table_begins ms size in
+      (tt, with_paragraph (k + 1) (d + 1) ms fine.1 small (later_in_range (k + 1) (d + 1) ms fine.1 small))
   later_in_range k d (marks.table_ends ∷ ms) fine size =
-      let small = fewer marks.table_ends ms size in (tt, with_paragraph k (d - 1) ms fine small (later_in_range k (d - 1) ms fine small))
+      let small = fewer marks.table_ends ms size in
+      (tt, with_paragraph k (d - 1) ms fine small (later_in_range k (d - 1) ms fine small))
   later_in_range k d (marks.columns c ∷ ms) fine size =
-      let small = fewer (marks.columns c) ms size in (omega arith, with_paragraph k d ms fine.1 small (later_in_range k d ms fine.1 small))
+      let small = fewer (marks.columns c) ms size in (
+        omega arith,
+        with_paragraph k d ms fine.1 small (later_in_range k d ms fine.1 small),
+      )
   later_in_range k d (marks.cell_begins head spans ∷ ms) fine size =
-      let small = fewer (marks.cell_begins head spans) ms size in (fine.0, with_paragraph k d ms fine.1 small (later_in_range k d ms fine.1 small))
+      let small = fewer (marks.cell_begins head spans) ms size in
+      (fine.0, with_paragraph k d ms fine.1 small (later_in_range k d ms fine.1 small))
   later_in_range k d (m ∷ ms) fine size =
       let small = fewer m ms size in (tt, with_paragraph k d ms fine.1 small (later_in_range k d ms fine.1 small))
 
-  pub all_in_range : (k d : ℕ) (ms : Marks) → AreFineMarks n d ms → sum_by mark_size ms ≤ MAX_FILE_BYTES → AllByRecursion IsInRange (entries_of k ms)
+  pub all_in_range : (k d : ℕ) (ms : Marks) → AreFineMarks n d ms → sum_by mark_size ms ≤ MAX_FILE_BYTES →
+      AllByRecursion IsInRange (entries_of k ms)
   all_in_range k d ms fine size = with_paragraph k d ms fine size (later_in_range k d ms fine size)
 
 -- ---- the tables
@@ -150,7 +167,8 @@ all_numbered : (k : ℕ) (ms : Marks) → IsNumberedFrom k (entries_after k ms)
 all_numbered k [] = tt
 all_numbered k (character c ∷ ms) = all_numbered k ms
 all_numbered k (line_break ∷ ms) = all_numbered k ms
-all_numbered k (marks.table_begins ∷ ms) = (refl, numbered_past (k + 1) (atoms_of (leading ms)) (entries_after (k + 1) ms) (all_numbered (k + 1) ms))
+all_numbered k (marks.table_begins ∷ ms) =
+    (refl, numbered_past (k + 1) (atoms_of (leading ms)) (entries_after (k + 1) ms) (all_numbered (k + 1) ms))
 all_numbered k (_ ∷ ms) = numbered_past k (atoms_of (leading ms)) (entries_after k ms) (all_numbered k ms)
 
 count_past : (atoms : List Atom) (es : Entries) → table_count (paragraph_of atoms ++ es) ≡ table_count es
@@ -170,7 +188,8 @@ all_counted k (_ ∷ ms) =
     let h = all_counted k ms in
     omega arith
 
-nested_past : (d : ℕ) (atoms : List Atom) (es : Entries) → IsNestedBelow MAX_DEPTH d es → IsNestedBelow MAX_DEPTH d (paragraph_of atoms ++ es)
+nested_past : (d : ℕ) (atoms : List Atom) (es : Entries) → IsNestedBelow MAX_DEPTH d es →
+    IsNestedBelow MAX_DEPTH d (paragraph_of atoms ++ es)
 nested_past d [] es h = h
 nested_past d (atom ∷ atoms) es h = h
 
@@ -180,12 +199,14 @@ all_nested n k d (character c ∷ ms) fine = all_nested n k d ms fine.1
 all_nested n k d (line_break ∷ ms) fine = all_nested n k d ms fine.1
 all_nested n k d (marks.table_begins ∷ ms) fine =
     (fine.0, nested_past (d + 1) (atoms_of (leading ms)) (entries_after (k + 1) ms) (all_nested n (k + 1) (d + 1) ms fine.1))
-all_nested n k d (marks.table_ends ∷ ms) fine = nested_past (d - 1) (atoms_of (leading ms)) (entries_after k ms) (all_nested n k (d - 1) ms fine)
+all_nested n k d (marks.table_ends ∷ ms) fine = nested_past (d - 1) (atoms_of (leading ms)) (entries_after k ms)
+    (all_nested n k (d - 1) ms fine)
 all_nested n k d (_ ∷ ms) fine = nested_past d (atoms_of (leading ms)) (entries_after k ms) (all_nested n k d ms fine.1)
 
 -- ---- the tree
 
-pub spelt_sound : (tokens : List Token) (node : TableNode) → AreReadable tokens → IsWithinLimits (kinds tokens) → SpellsTree tokens node → IsSound node
+pub spelt_sound : (tokens : List Token) (node : TableNode) → AreReadable tokens → IsWithinLimits (kinds tokens) →
+    SpellsTree tokens node → IsSound node
 spelt_sound tokens node readable within spelt =
     let ks = kinds tokens in
     let ms = all_told before ks in

@@ -1,5 +1,6 @@
 -- The first fault that the machine meets is the one that the grammar has.
-use Rattle.std.proofs.Common.{◌≡◌, ◌<◌, ◌≤◌, ℕ, ◌+◌, ◌⊎◌, Bool, true, false, List, [], ◌∷◌, ◌++◌, length, Option, Some, None, refl, sym, ap, ◌∙◌, subst, inl}
+use Rattle.std.proofs.Common.{◌≡◌, ◌<◌, ◌≤◌, ℕ, ◌+◌, ◌⊎◌, Bool, true, false, List, [], ◌∷◌, ◌++◌, length, Option, Some, None}
+use Rattle.std.proofs.Common.{refl, sym, ap, ◌∙◌, subst, inl}
 use Rattle.std.proofs.Common.{inr, cond, arith, add-zero}
 use Rattle.std.proofs.lemmas.Bool.{false≢true}
 use Rattle.std.proofs.lemmas.Bool.Decides.{nat_tests}
@@ -7,11 +8,14 @@ use Rattle.std.proofs.lemmas.List.{append-nil}
 use Rattle.std.specs.Prelude.{nat_le}
 use Rattle.tl_base.specs.declared.limits.TheConstants.{MAX_DEPTH, MAX_TABLES}
 use Rattle.tl_tree.specs.declared.error.TreeError.{TreeError}
-use Rattle.tl_tree.specs.declared.error.TreeError.TheVariants.{Memory, NoTable, StrayText, Misplaced, Unclosed, TooDeep, TooManyTables}
+use Rattle.tl_tree.specs.declared.error.TreeError.TheVariants.{Memory, NoTable, StrayText, Misplaced, Unclosed, TooDeep}
+use Rattle.tl_tree.specs.declared.error.TreeError.TheVariants.{TooManyTables}
 use Rattle.tl_tree.specs.Tags.{Kind, Kinds, text, table_start, table_end, outer_tag, is_white, is_text, is_table_start}
 use Rattle.tl_tree.specs.Grammar.{Marks, Document}
-use Rattle.tl_tree.specs.Spelling.{IsPrefix, depth_after, tables_with, tables_after, FitsLimits, FitLimits, IsWithinLimits, IsWrongAt, IsRefused}
-use Rattle.tl_tree.specs.inner.Machine.{Holder, Place, opened, in_flow, Move, to, enter, leave, never, move, moved, State, before, inside, after, failed}
+use Rattle.tl_tree.specs.Spelling.{IsPrefix, depth_after, tables_with, tables_after, FitsLimits, FitLimits, IsWithinLimits}
+use Rattle.tl_tree.specs.Spelling.{IsWrongAt, AreNoDocument}
+use Rattle.tl_tree.specs.inner.Machine.{Holder, Place, opened, in_flow, Move, to, enter, leave, never, move, moved, State, before}
+use Rattle.tl_tree.specs.inner.Machine.{inside, after, failed}
 use Rattle.tl_tree.specs.inner.Machine.{next, reached, all_told}
 use Rattle.tl_tree.specs.inner.Verdict.{is_failed, depth, misfit, limit_fault, fault, end_fault, verdict}
 use Rattle.tl_tree.proofs.Moves.{reached-failed}
@@ -75,7 +79,11 @@ pub alive_prefix : (ks : Kinds) → is_failed (reached before ks) ≡ false → 
 alive_prefix ks alive = (
   closing (reached before ks),
   all_told before (ks ++ closing (reached before ks)),
-  document_sound (record { ends = reached-append before ks (closing (reached before ks)) ∙ closed (reached before ks) alive; tells = refl }),
+  document_sound (record {
+    ends = reached-append before ks (closing (reached before ks)) ∙ closed (reached before ks)
+        alive;
+    tells = refl;
+  }),
 )
 
 pub no_prefix : (prefix : Kinds) (k : Kind) → ¬ (IsPrefix (prefix ++ k ∷ [])) → is_failed (next (reached before prefix) k) ≡ true
@@ -85,7 +93,8 @@ no_prefix prefix k none = by_test (is_failed (next (reached before prefix) k)) r
     by_test true h = h
     by_test false h = absurd (none (alive_prefix (prefix ++ k ∷ []) (ap is_failed (reached-append before prefix (k ∷ [])) ∙ h)))
 
-pub is_no_prefix : (prefix : Kinds) (k : Kind) → is_failed (next (reached before prefix) k) ≡ true → ¬ (IsPrefix (prefix ++ k ∷ []))
+pub is_no_prefix : (prefix : Kinds) (k : Kind) → is_failed (next (reached before prefix) k) ≡ true →
+    ¬ (IsPrefix (prefix ++ k ∷ []))
 is_no_prefix prefix k h p =
     false≢true (sym (prefix_alive (prefix ++ k ∷ []) p) ∙ ap is_failed (reached-append before prefix (k ∷ [])) ∙ h)
 
@@ -103,7 +112,8 @@ depth-reached s (k ∷ ks) alive =
     subst P (depth-next s k (alive_before (next s k) ks alive)) (depth-reached (next s k) ks alive)
 
 -- a token without a fault
-no_fault : (n tables : ℕ) (s : State) (k : Kind) → is_failed (next s k) ≡ false → FitsLimits (depth s) tables k → fault n tables s k ≡ None
+no_fault : (n tables : ℕ) (s : State) (k : Kind) → is_failed (next s k) ≡ false → FitsLimits (depth s) tables k →
+    fault n tables s k ≡ None
 no_fault n tables s table_start alive (shallow, few) = rw alive (limits (depth s) shallow)
   where
     limits : (d : ℕ) → d < MAX_DEPTH → limit_fault n tables d ≡ None
@@ -112,7 +122,8 @@ no_fault n tables s table_start alive (shallow, few) = rw alive (limits (depth s
 no_fault n tables s k alive fits = rw alive refl
 
 -- tokens without a fault lead on
-pub passes : (n tables : ℕ) (s : State) (prefix rest : Kinds) → is_failed (reached s prefix) ≡ false → FitLimits (depth s) tables prefix
+pub passes : (n tables : ℕ) (s : State) (prefix rest : Kinds) → is_failed (reached s prefix) ≡ false →
+    FitLimits (depth s) tables prefix
     → verdict n tables s (prefix ++ rest) ≡ verdict (n + length prefix) (tables_after tables prefix) (reached s prefix) rest
 passes n tables s [] rest alive fits = ap (λ x. verdict x tables s rest) (sym (add-zero n))
 passes n tables s (k ∷ prefix) rest alive (here, later) =
@@ -120,16 +131,19 @@ passes n tables s (k ∷ prefix) rest alive (here, later) =
     let P : ℕ → Type 0 = λ x. FitLimits x (tables_with tables k) prefix in
     let e = passes (n + 1) (tables_with tables k) (next s k) prefix rest alive (subst P (sym (depth-next s k still)) later) in
     let c : n + 1 + length prefix ≡ n + length (k ∷ prefix) = omega arith in
-    rw (no_fault n tables s k still here) (e ∙ ap (λ x. verdict x (tables_after tables (k ∷ prefix)) (reached s (k ∷ prefix)) rest) c)
+    rw (no_fault n tables s k still here) (e ∙ ap (λ x. verdict x (tables_after tables (k ∷ prefix)) (reached s (k ∷ prefix))
+    rest) c)
 
 -- what a token without a fault says
-fault_none : (n tables : ℕ) (s : State) (k : Kind) → fault n tables s k ≡ None → (is_failed (next s k) ≡ false) × FitsLimits (depth s) tables k
+fault_none : (n tables : ℕ) (s : State) (k : Kind) → fault n tables s k ≡ None →
+    (is_failed (next s k) ≡ false) × FitsLimits (depth s) tables k
 fault_none n tables s k h = by_test (is_failed (next s k)) refl
   where
     limits : (k : Kind) → cond (is_table_start k) (limit_fault n tables (depth s)) None ≡ None → FitsLimits (depth s) tables k
     limits table_start e = by_depth (nat_le MAX_DEPTH (depth s)) refl
       where
-        by_tables : (b : Bool) → nat_le MAX_TABLES tables ≡ b → nat_le MAX_DEPTH (depth s) ≡ false → (depth s < MAX_DEPTH) × (tables < MAX_TABLES)
+        by_tables : (b : Bool) → nat_le MAX_TABLES tables ≡ b → nat_le MAX_DEPTH (depth s) ≡ false →
+            (depth s < MAX_DEPTH) × (tables < MAX_TABLES)
         by_tables false few shallow = (grind (arith, nat_tests), grind (arith, nat_tests))
         by_tables true many shallow = absurd (let c : Some (TooManyTables n) ≡ None = sym (rw (shallow, many) refl) ∙ e in cc)
 
@@ -147,9 +161,11 @@ data Finds (n tables : ℕ) (s : State) (ks : Kinds) (e : TreeError) : Type 0 wh
   at_token : (prefix : Kinds) (k : Kind) (rest : Kinds) → ks ≡ prefix ++ (k ∷ rest) → is_failed (reached s prefix) ≡ false
       → FitLimits (depth s) tables prefix → fault (n + length prefix) (tables_after tables prefix) (reached s prefix) k ≡ Some e
       → Finds n tables s ks e
-  at_end : is_failed (reached s ks) ≡ false → FitLimits (depth s) tables ks → end_fault (reached s ks) ≡ Some e → Finds n tables s ks e
+  at_end : is_failed (reached s ks) ≡ false → FitLimits (depth s) tables ks → end_fault (reached s ks) ≡ Some e →
+      Finds n tables s ks e
 
-found_later : (n tables : ℕ) (s : State) (k : Kind) (ks : Kinds) (e : TreeError) → (is_failed (next s k) ≡ false) × FitsLimits (depth s) tables k
+found_later : (n tables : ℕ) (s : State) (k : Kind) (ks : Kinds) (e : TreeError) →
+    (is_failed (next s k) ≡ false) × FitsLimits (depth s) tables k
     → Finds (n + 1) (tables_with tables k) (next s k) ks e → Finds n tables s (k ∷ ks) e
 found_later n tables s k ks e (still, here) (at_token prefix k' rest split goes fits found) =
     let P : ℕ → Type 0 = λ x. FitLimits x (tables_with tables k) prefix in
@@ -160,9 +176,11 @@ found_later n tables s k ks e (still, here) (at_end goes fits found) =
     let P : ℕ → Type 0 = λ x. FitLimits x (tables_with tables k) ks in
     at_end goes (here, subst P (depth-next s k still) fits) found
 
-find : (n tables : ℕ) (s : State) (ks : Kinds) (e : TreeError) → is_failed s ≡ false → verdict n tables s ks ≡ Some e → Finds n tables s ks e
+find : (n tables : ℕ) (s : State) (ks : Kinds) (e : TreeError) → is_failed s ≡ false → verdict n tables s ks ≡ Some e →
+    Finds n tables s ks e
 find n tables s [] e alive h = at_end alive tt h
-find n tables s (k ∷ ks) e alive h = by_fault (λ still later. find (n + 1) (tables_with tables k) (next s k) ks e still later) (fault n tables s k) refl
+find n tables s (k ∷ ks) e alive h = by_fault (λ still later. find (n + 1) (tables_with tables k) (next s k) ks e still later)
+    (fault n tables s k) refl
   where
     by_fault : (is_failed (next s k) ≡ false → verdict (n + 1) (tables_with tables k) (next s k) ks ≡ Some e →
         Finds (n + 1) (tables_with tables k) (next s k) ks e)
@@ -181,7 +199,8 @@ fine n tables before [] alive h = absurd (cc)
 fine n tables (inside p hs) [] alive h = absurd (cc)
 fine n tables after [] alive h = (refl, tt)
 fine n tables failed [] alive h = absurd (cc)
-fine n tables s (k ∷ ks) alive h = by_fault (λ still later. fine (n + 1) (tables_with tables k) (next s k) ks still later) (fault n tables s k) refl
+fine n tables s (k ∷ ks) alive h = by_fault (λ still later. fine (n + 1) (tables_with tables k) (next s k) ks still later)
+    (fault n tables s k) refl
   where
     by_fault : (is_failed (next s k) ≡ false → verdict (n + 1) (tables_with tables k) (next s k) ks ≡ None
         → (reached (next s k) ks ≡ after) × FitLimits (depth (next s k)) (tables_with tables k) ks)
@@ -265,7 +284,8 @@ still_before tables d (table_start ∷ ks) alive h = absurd (let r = tables_rise
 still_before tables d (_ ∷ ks) alive h = absurd (false≢true (sym alive ∙ fails ks))
 
 -- the error of a token, from the grammar to the machine
-at_place : (ks prefix rest : Kinds) (k : Kind) (e : TreeError) → ks ≡ prefix ++ (k ∷ rest) → IsPrefix prefix → IsWithinLimits prefix
+at_place : (ks prefix rest : Kinds) (k : Kind) (e : TreeError) → ks ≡ prefix ++ (k ∷ rest) → IsPrefix prefix →
+    IsWithinLimits prefix
     → fault (0 + length prefix) (tables_after 0 prefix) (reached before prefix) k ≡ Some e → verdict 0 0 before ks ≡ Some e
 at_place ks prefix rest k e split begins within h =
     ap (λ x. verdict 0 0 before x) split ∙ passes 0 0 before prefix (k ∷ rest) (prefix_alive prefix begins) within ∙ rw h refl
@@ -282,21 +302,24 @@ tag_misfit n m k h e = rw h (ap Misplaced e)
 pub deep_fault : (n m tables d : ℕ) → MAX_DEPTH ≤ d → n ≡ m → limit_fault n tables d ≡ Some (TooDeep m)
 deep_fault n m tables d h e = let a : nat_le MAX_DEPTH d ≡ true = grind (arith, nat_tests) in rw a (ap (λ x. Some (TooDeep x)) e)
 
-pub many_fault : (n m tables d : ℕ) → d < MAX_DEPTH → MAX_TABLES ≤ tables → n ≡ m → limit_fault n tables d ≡ Some (TooManyTables m)
+pub many_fault : (n m tables d : ℕ) → d < MAX_DEPTH → MAX_TABLES ≤ tables → n ≡ m →
+    limit_fault n tables d ≡ Some (TooManyTables m)
 many_fault n m tables d shallow many e =
     let a : nat_le MAX_DEPTH d ≡ false = grind (arith, nat_tests) in
     let b : nat_le MAX_TABLES tables ≡ true = grind (arith, nat_tests) in
     rw (a, b) (ap (λ x. Some (TooManyTables x)) e)
 
-pub table_fault : (n tables : ℕ) (s : State) (k : Kind) → k ≡ table_start → is_failed (next s k) ≡ false → fault n tables s k ≡ limit_fault n tables (depth s)
+pub table_fault : (n tables : ℕ) (s : State) (k : Kind) → k ≡ table_start → is_failed (next s k) ≡ false →
+    fault n tables s k ≡ limit_fault n tables (depth s)
 table_fault n tables s k e alive = rw alive (ap (λ x. cond (is_table_start x) (limit_fault n tables (depth s)) None) e)
 
 -- Each error whose cause is so is the first fault.
-pub refused_first : (ks : Kinds) (e : TreeError) → IsRefused ks e → verdict 0 0 before ks ≡ Some e
+pub refused_first : (ks : Kinds) (e : TreeError) → AreNoDocument ks e → verdict 0 0 before ks ≡ Some e
 refused_first ks (Memory error) h = absurd h
 refused_first ks NoTable (begins, none) =
     let (stays, fits) = still_before 0 0 ks (prefix_alive ks begins) none in
-    ap (λ x. verdict 0 0 before x) (sym (append-nil ks)) ∙ passes 0 0 before ks [] (prefix_alive ks begins) fits ∙ ap end_fault stays
+    ap (λ x. verdict 0 0 before x) (sym (append-nil ks)) ∙ passes 0 0 before ks [] (prefix_alive ks begins)
+    fits ∙ ap end_fault stays
 refused_first ks Unclosed (begins, within, deep) =
     let alive = prefix_alive ks begins in
     ap (λ x. verdict 0 0 before x) (sym (append-nil ks)) ∙ passes 0 0 before ks [] alive within
@@ -310,11 +333,13 @@ refused_first ks Unclosed (begins, within, deep) =
 refused_first ks (StrayText n) w =
     let place : 0 + length w.prefix ≡ n = let p = w.place in omega arith in
     at_place ks w.prefix w.rest w.token (StrayText n) w.split w.begun w.within
-    (misfit_fault _ _ _ w.token (no_prefix w.prefix w.token w.wrong.1) ∙ ap (λ x. Some x) (text_misfit _ n w.token w.wrong.0 place))
+    (misfit_fault _ _ _ w.token (no_prefix w.prefix w.token w.wrong.1) ∙ ap (λ x. Some x)
+    (text_misfit _ n w.token w.wrong.0 place))
 refused_first ks (Misplaced n) w =
     let place : 0 + length w.prefix ≡ n = let p = w.place in omega arith in
     at_place ks w.prefix w.rest w.token (Misplaced n) w.split w.begun w.within
-    (misfit_fault _ _ _ w.token (no_prefix w.prefix w.token w.wrong.1) ∙ ap (λ x. Some x) (tag_misfit _ n w.token w.wrong.0 place))
+    (misfit_fault _ _ _ w.token (no_prefix w.prefix w.token w.wrong.1) ∙ ap (λ x. Some x)
+    (tag_misfit _ n w.token w.wrong.0 place))
 refused_first ks (TooDeep n) w =
     let place : 0 + length w.prefix ≡ n = let p = w.place in omega arith in
     let same = depth-reached before w.prefix (prefix_alive w.prefix w.begun) in
@@ -341,16 +366,24 @@ which_limit n tables d e h = by_depth (nat_le MAX_DEPTH d) refl
     by_tables : (b : Bool) → nat_le MAX_TABLES tables ≡ b → nat_le MAX_DEPTH d ≡ false → ((TooDeep n ≡ e) × (MAX_DEPTH ≤ d))
         ⊎ ((TooManyTables n ≡ e) × (d < MAX_DEPTH) × (MAX_TABLES ≤ tables))
     by_tables true many shallow =
-        inr (let c : Some (TooManyTables n) ≡ Some e = sym (rw (shallow, many) refl) ∙ h in cc, grind (arith, nat_tests), grind (arith, nat_tests))
+        inr (
+          let c : Some (TooManyTables n) ≡ Some e = sym (rw (shallow, many) refl) ∙ h in
+              cc,
+          grind (arith, nat_tests),
+          grind (arith, nat_tests),
+        )
     by_tables false few shallow = absurd (let c : None ≡ Some e = sym (rw (shallow, few) refl) ∙ h in cc)
 
-    by_depth : (b : Bool) → nat_le MAX_DEPTH d ≡ b → ((TooDeep n ≡ e) × (MAX_DEPTH ≤ d)) ⊎ ((TooManyTables n ≡ e) × (d < MAX_DEPTH) × (MAX_TABLES ≤ tables))
+    by_depth : (b : Bool) → nat_le MAX_DEPTH d ≡ b → ((TooDeep n ≡ e) × (MAX_DEPTH ≤ d)) ⊎
+        ((TooManyTables n ≡ e) × (d < MAX_DEPTH) × (MAX_TABLES ≤ tables))
     by_depth true deep = inl (let c : Some (TooDeep n) ≡ Some e = sym (rw deep refl) ∙ h in cc, grind (arith, nat_tests))
     by_depth false shallow = by_tables (nat_le MAX_TABLES tables) refl shallow
 
 -- The first fault is refused by the grammar.
-pub wrong_at : (ks prefix : Kinds) (k : Kind) (rest : Kinds) (e : TreeError) → ks ≡ prefix ++ (k ∷ rest) → is_failed (reached before prefix) ≡ false
-    → IsWithinLimits prefix → fault (0 + length prefix) (tables_after 0 prefix) (reached before prefix) k ≡ Some e → IsRefused ks e
+pub wrong_at : (ks prefix : Kinds) (k : Kind) (rest : Kinds) (e : TreeError) → ks ≡ prefix ++ (k ∷ rest) →
+    is_failed (reached before prefix) ≡ false
+    → IsWithinLimits prefix → fault (0 + length prefix) (tables_after 0 prefix) (reached before prefix) k ≡ Some e →
+    AreNoDocument ks e
 wrong_at ks prefix k rest e split alive within h = by_test (is_failed (next (reached before prefix) k)) refl
   where
     at : {IsWrong : Kinds → Kind → Type 0} → IsWrong prefix k → IsWrongAt ks (0 + length prefix) IsWrong
@@ -367,49 +400,52 @@ wrong_at ks prefix k rest e split alive within h = by_test (is_failed (next (rea
     }
 
     as_found : (found : TreeError) → fault (0 + length prefix) (tables_after 0 prefix) (reached before prefix) k ≡ Some found
-        → IsRefused ks found → IsRefused ks e
-    as_found found f r = let same : found ≡ e = (let c : Some found ≡ Some e = sym f ∙ h in cc) in subst (IsRefused ks) same r
+        → AreNoDocument ks found → AreNoDocument ks e
+    as_found found f r = let same : found ≡ e = (let c : Some found ≡ Some e = sym f ∙ h in cc) in subst (AreNoDocument ks) same r
 
-    by_kind : (b : Bool) → is_text k ≡ b → is_failed (next (reached before prefix) k) ≡ true → IsRefused ks e
+    by_kind : (b : Bool) → is_text k ≡ b → is_failed (next (reached before prefix) k) ≡ true → AreNoDocument ks e
     by_kind true is dead =
         as_found (StrayText (0 + length prefix)) (misfit_fault _ _ _ k dead ∙ ap (λ x. Some x) (text_misfit _ _ k is refl))
         (at (is, is_no_prefix prefix k dead))
     by_kind false is dead =
-        as_found (Misplaced (0 + length prefix)) (misfit_fault _ _ _ k dead ∙ ap (λ x. Some x) (tag_misfit _ _ k is refl)) (at (is, is_no_prefix prefix k dead))
+        as_found (Misplaced (0 + length prefix)) (misfit_fault _ _ _ k dead ∙ ap (λ x. Some x) (tag_misfit _ _ k is refl))
+        (at (is, is_no_prefix prefix k dead))
 
     by_limit : is_failed (next (reached before prefix) k) ≡ false → k ≡ table_start
         → ((TooDeep (0 + length prefix) ≡ e) × (MAX_DEPTH ≤ depth (reached before prefix)))
-        ⊎ ((TooManyTables (0 + length prefix) ≡ e) × (depth (reached before prefix) < MAX_DEPTH) × (MAX_TABLES ≤ tables_after 0 prefix))
-        → IsRefused ks e
+        ⊎ ((TooManyTables (0 + length prefix) ≡ e) × (depth (reached before prefix) < MAX_DEPTH) ×
+        (MAX_TABLES ≤ tables_after 0 prefix))
+        → AreNoDocument ks e
     by_limit goes table (inl (same, deep)) =
         let d = depth-reached before prefix alive in
-        subst (IsRefused ks) same (at (table, prefix_next prefix k goes, omega arith))
+        subst (AreNoDocument ks) same (at (table, prefix_next prefix k goes, omega arith))
     by_limit goes table (inr (same, shallow, many)) =
         let d = depth-reached before prefix alive in
-        subst (IsRefused ks) same (at (table, prefix_next prefix k goes, omega arith, many))
+        subst (AreNoDocument ks) same (at (table, prefix_next prefix k goes, omega arith, many))
 
-    by_test : (b : Bool) → is_failed (next (reached before prefix) k) ≡ b → IsRefused ks e
+    by_test : (b : Bool) → is_failed (next (reached before prefix) k) ≡ b → AreNoDocument ks e
     by_test true dead = by_kind (is_text k) refl dead
     by_test false goes =
         let (table, l) = limited _ _ _ k e goes h in
         by_limit goes table (which_limit _ _ _ e l)
 
-pub first_refused : (ks : Kinds) (e : TreeError) → verdict 0 0 before ks ≡ Some e → IsRefused ks e
+pub first_refused : (ks : Kinds) (e : TreeError) → verdict 0 0 before ks ≡ Some e → AreNoDocument ks e
 first_refused ks e h = by_place (find 0 0 before ks e refl h)
   where
-    at_the_end : (s : State) → reached before ks ≡ s → is_failed s ≡ false → IsWithinLimits ks → end_fault s ≡ Some e → IsRefused ks e
+    at_the_end : (s : State) → reached before ks ≡ s → is_failed s ≡ false → IsWithinLimits ks → end_fault s ≡ Some e →
+        AreNoDocument ks e
     at_the_end before stands alive within f =
         let same : NoTable ≡ e = (let c : Some NoTable ≡ Some e = f in cc) in
-        subst (IsRefused ks) same (alive_prefix ks (ap is_failed stands), no_table 0 ks stands)
+        subst (AreNoDocument ks) same (alive_prefix ks (ap is_failed stands), no_table 0 ks stands)
     at_the_end (inside p hs) stands alive within f =
         let same : Unclosed ≡ e = (let c : Some Unclosed ≡ Some e = f in cc) in
         let live = ap is_failed stands in
         let d : length hs + 1 ≡ depth_after 0 ks = sym (ap depth stands) ∙ depth-reached before ks live in
-        subst (IsRefused ks) same (alive_prefix ks live, within, omega arith)
+        subst (AreNoDocument ks) same (alive_prefix ks live, within, omega arith)
     at_the_end after stands alive within f = absurd (cc)
     at_the_end failed stands alive within f = absurd (false≢true (sym alive))
 
-    by_place : Finds 0 0 before ks e → IsRefused ks e
+    by_place : Finds 0 0 before ks e → AreNoDocument ks e
     by_place (at_token prefix k rest split alive within f) = wrong_at ks prefix k rest e split alive within f
     by_place (at_end alive within f) = at_the_end (reached before ks) refl alive within f
 
@@ -422,7 +458,8 @@ clean_document ks h =
 pub document_clean : (ks : Kinds) (ms : Marks) → Document ks ms → IsWithinLimits ks → verdict 0 0 before ks ≡ None
 document_clean ks ms d within =
     let a = document_whole d in
-    ap (λ x. verdict 0 0 before x) (sym (append-nil ks)) ∙ passes 0 0 before ks [] (ap is_failed a.ends) within ∙ ap end_fault a.ends
+    ap (λ x. verdict 0 0 before x) (sym (append-nil ks)) ∙ passes 0 0 before ks [] (ap is_failed a.ends)
+    within ∙ ap end_fault a.ends
 
 -- one document has one list of marks
 pub same_marks : (ks : Kinds) (ms ns : Marks) → Document ks ms → Document ks ns → ms ≡ ns

@@ -22,8 +22,10 @@ use Rattle.std.specs.Prelude.{◌≡◌, ℕ, ◌+◌, Bool, false, IsTrue, List
 use Rattle.tl_token.specs.declared.token.Spans.{Spans}
 use Rattle.tl_tree.specs.declared.node.Part.{Part}
 use Rattle.tl_tree.specs.declared.node.Part.TheVariants.{Loose}
-use Rattle.tl_tree.specs.Tags.{Section, part_of, Kind, Kinds, text, table_start, table_end, caption_start, caption_end, colgroup_start, colgroup_end, col}
-use Rattle.tl_tree.specs.Tags.{group_start, group_end, row_start, row_end, cell_start, cell_end, br, p_or_div, inline_tag, outer_tag, is_white, is_row_start}
+use Rattle.tl_tree.specs.Tags.{Section, part_of, Kind, Kinds, text, table_start, table_end, caption_start, caption_end}
+use Rattle.tl_tree.specs.Tags.{colgroup_start, colgroup_end, col}
+use Rattle.tl_tree.specs.Tags.{group_start, group_end, row_start, row_end, cell_start, cell_end, br, p_or_div, inline_tag}
+use Rattle.tl_tree.specs.Tags.{outer_tag, is_white, is_row_start}
 use Rattle.tl_tree.specs.Tags.{is_col, begins_with}
 
 -- what a document tells at one place: that a thing begins, that a character or a line break stands in a flow, or
@@ -81,7 +83,8 @@ mutual
   -- `flow`: texts, line breaks, tags of `p`, `div` and inline elements, and whole tables
   pub data Flow : Kinds → Marks → Kinds → Marks → Type 0 where
     no_flow : {ks : Kinds} {ms : Marks} → Flow ks ms ks ms
-    words : {cs : List ℕ} {ks rest : Kinds} {ms more : Marks} → Flow ks ms rest more → Flow (text cs ∷ ks) (map character cs ++ ms) rest more
+    words : {cs : List ℕ} {ks rest : Kinds} {ms more : Marks} → Flow ks ms rest more →
+        Flow (text cs ∷ ks) (map character cs ++ ms) rest more
     break : {ks rest : Kinds} {ms more : Marks} → Flow ks ms rest more → Flow (br ∷ ks) (line_break ∷ ms) rest more
     edge : {ks rest : Kinds} {ms more : Marks} → Flow ks ms rest more → Flow (p_or_div ∷ ks) (paragraph_ends ∷ ms) rest more
     inline : {ks rest : Kinds} {ms more : Marks} → Flow ks ms rest more → Flow (inline_tag ∷ ks) ms rest more

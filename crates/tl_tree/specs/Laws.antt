@@ -7,4 +7,5 @@ use Rattle.tl_tree.specs.declared.node.TableNode.{TableNode}
 
 -- tokens spell at most one tree
 abbrev pub TokensSpellOneTree : Type 0
-TokensSpellOneTree = (tokens : List Token) (one other : TableNode) → SpellsTree tokens one → SpellsTree tokens other → AreSame one other
+TokensSpellOneTree = (tokens : List Token) (one other : TableNode) → SpellsTree tokens one → SpellsTree tokens other →
+    AreSame one other

@@ -74,3 +74,20 @@ group_outline = fold-GroupNode Entries Entries Entries Entries block_entries cel
 -- the outline of a whole tree
 abbrev pub outline : TableNode → Entries
 outline = fold-TableNode Entries Entries Entries Entries block_entries cell_entries group_entries table_entries
+
+-- the entries of blocks
+abbrev pub blocks_outline : List Block → Entries
+blocks_outline blocks = flat_map block_outline blocks
+
+-- the entries of a caption that is whole, or nothing where the table has no caption
+abbrev pub caption_outline : Option (List Block) → Entries
+caption_outline None = []
+caption_outline (Some blocks) = caption ∷ blocks_outline blocks
+
+-- the entries of a row of cells that are whole
+abbrev pub row_outline : List CellNode → Entries
+row_outline cells = row ∷ flat_map cell_outline cells
+
+-- the entries of a row's cells
+abbrev pub cells_outline : List CellNode → Entries
+cells_outline cells = flat_map cell_outline cells

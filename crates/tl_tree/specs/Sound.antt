@@ -2,7 +2,8 @@
 -- The ranges of the spans are those of the HTML Standard, 4.9.11.
 use Rattle.std.specs.Prelude.{◌≡◌, ◌<◌, ◌≤◌, ℕ, ◌+◌, ◌-◌, false, List, [], ◌∷◌, sum_by}
 use Rattle.std.specs.List.{AllByRecursion, list_any}
-use Rattle.tl_base.specs.declared.limits.TheConstants.{MAX_FILE_BYTES, MAX_COLSPAN, MAX_ROWSPAN, MAX_PAGE_WIDTH, MAX_DEPTH, MAX_TABLES}
+use Rattle.tl_base.specs.declared.limits.TheConstants.{MAX_FILE_BYTES, MAX_COLSPAN, MAX_ROWSPAN, MAX_PAGE_WIDTH, MAX_DEPTH}
+use Rattle.tl_base.specs.declared.limits.TheConstants.{MAX_TABLES}
 use Rattle.tl_base.specs.declared.limits.TheConstants.{MAX_DECLARED_COLUMNS}
 use Rattle.tl_token.specs.Characters.{is_control}
 use Rattle.tl_text.specs.declared.paragraph.Atom.{Atom}

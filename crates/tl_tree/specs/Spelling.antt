@@ -1,5 +1,6 @@
 -- Which trees tokens spell, within which limits, and when each error comes.
-use Rattle.std.specs.Prelude.{◌≡◌, ◌<◌, ◌≤◌, ℕ, ◌+◌, ◌-◌, List, [], ◌∷◌, ◌++◌, length, IsTrue, IsFalse, Result, Ok, Err, alloc_error}
+use Rattle.std.specs.Prelude.{◌≡◌, ◌<◌, ◌≤◌, ℕ, ◌+◌, ◌-◌, List, [], ◌∷◌, ◌++◌, length, IsTrue, IsFalse, Result, Ok, Err}
+use Rattle.std.specs.Prelude.{alloc_error}
 use Rattle.tl_base.specs.declared.limits.TheConstants.{MAX_DEPTH, MAX_TABLES}
 use Rattle.tl_token.specs.declared.token.Token.{Token}
 use Rattle.tl_tree.specs.Tags.{Kind, Kinds, table_start, table_end, kinds, is_text}
@@ -9,7 +10,8 @@ use Rattle.tl_tree.specs.Outline.{outline}
 use Rattle.tl_tree.specs.Same.{AreSame}
 use Rattle.tl_tree.specs.declared.node.TableNode.{TableNode}
 use Rattle.tl_tree.specs.declared.error.TreeError.{TreeError}
-use Rattle.tl_tree.specs.declared.error.TreeError.TheVariants.{Memory, NoTable, StrayText, Misplaced, Unclosed, TooDeep, TooManyTables}
+use Rattle.tl_tree.specs.declared.error.TreeError.TheVariants.{Memory, NoTable, StrayText, Misplaced, Unclosed, TooDeep}
+use Rattle.tl_tree.specs.declared.error.TreeError.TheVariants.{TooManyTables}
 
 -- a list of tokens
 abbrev pub Tokens : Type 0
@@ -87,21 +89,22 @@ IsTooDeep prefix token = (token ≡ table_start) × IsPrefix (prefix ++ token �
 -- a table that begins after `MAX_TABLES` others, and not inside `MAX_DEPTH`
 abbrev pub IsOneTooMany : Kinds → Kind → Type 0
 IsOneTooMany prefix token =
-    (token ≡ table_start) × IsPrefix (prefix ++ token ∷ []) × (depth_after 0 prefix < MAX_DEPTH) × (MAX_TABLES ≤ tables_after 0 prefix)
+    (token ≡ table_start) × IsPrefix (prefix ++ token ∷ []) × (depth_after 0 prefix < MAX_DEPTH) ×
+    (MAX_TABLES ≤ tables_after 0 prefix)
 
 -- The error that refuses the tokens; out of memory is none of them.
-abbrev pub IsRefused : Kinds → TreeError → Type 0
-IsRefused ks (Memory error) = ⊥
-IsRefused ks NoTable = IsPrefix ks × (tables_after 0 ks ≡ 0)
-IsRefused ks (StrayText n) = IsWrongAt ks n IsStray
-IsRefused ks (Misplaced n) = IsWrongAt ks n IsMisplaced
-IsRefused ks Unclosed = IsPrefix ks × IsWithinLimits ks × (0 < depth_after 0 ks)
-IsRefused ks (TooDeep n) = IsWrongAt ks n IsTooDeep
-IsRefused ks (TooManyTables n) = IsWrongAt ks n IsOneTooMany
+abbrev pub AreNoDocument : Kinds → TreeError → Type 0
+AreNoDocument ks (Memory error) = ⊥
+AreNoDocument ks NoTable = IsPrefix ks × (tables_after 0 ks ≡ 0)
+AreNoDocument ks (StrayText n) = IsWrongAt ks n IsStray
+AreNoDocument ks (Misplaced n) = IsWrongAt ks n IsMisplaced
+AreNoDocument ks Unclosed = IsPrefix ks × IsWithinLimits ks × (0 < depth_after 0 ks)
+AreNoDocument ks (TooDeep n) = IsWrongAt ks n IsTooDeep
+AreNoDocument ks (TooManyTables n) = IsWrongAt ks n IsOneTooMany
 
 -- the error that refuses the tokens of a file
-abbrev pub Refused : Tokens → TreeError → Type 0
-Refused tokens error = IsRefused (kinds tokens) error
+abbrev pub SpellsNoTree : Tokens → TreeError → Type 0
+SpellsNoTree tokens error = AreNoDocument (kinds tokens) error
 
 -- a tree that is the same as this one is returned, unless memory ran out
 abbrev pub ReturnsTree : TableNode → Result TableNode TreeError → Type 0

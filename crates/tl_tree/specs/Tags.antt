@@ -3,7 +3,8 @@ use Rattle.std.specs.Prelude.{ℕ, Bool, true, false, List, [], ◌∷◌, map}
 use Rattle.std.specs.List.{list_all}
 use Rattle.tl_token.specs.Characters.{is_space}
 use Rattle.tl_token.specs.declared.token.Element.{Element}
-use Rattle.tl_token.specs.declared.token.Element.TheVariants.{Table, Caption, Colgroup, Col, Thead, Tbody, Tfoot, Tr, Td, Th, Br, P, Div, Inline, Outer}
+use Rattle.tl_token.specs.declared.token.Element.TheVariants.{Table, Caption, Colgroup, Col, Thead, Tbody, Tfoot, Tr, Td, Th, Br}
+use Rattle.tl_token.specs.declared.token.Element.TheVariants.{P, Div, Inline, Outer}
 use Rattle.tl_token.specs.declared.token.Spans.{Spans}
 use Rattle.tl_token.specs.declared.token.Token.{Token}
 use Rattle.tl_token.specs.declared.token.TokenKind.{TokenKind}

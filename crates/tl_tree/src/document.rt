@@ -5,7 +5,7 @@ ghost use Rattle.tl_base.specs.Returned.{ReturnsError, IsMemoryOr};
 ghost use Rattle.tl_tree.specs.Tags.{class_of, kinds, is_text, is_table_start};
 ghost use Rattle.tl_tree.specs.Readable.{AreReadable};
 ghost use Rattle.tl_tree.specs.Sound.{IsSound};
-ghost use Rattle.tl_tree.specs.Spelling.{SpellsTree, IsWithinLimits, Refused, ReturnsTree};
+ghost use Rattle.tl_tree.specs.Spelling.{SpellsTree, IsWithinLimits, SpellsNoTree, ReturnsTree};
 ghost use Rattle.tl_tree.specs.declared.node.TableNode.{TableNode};
 ghost use Rattle.tl_tree.specs.declared.error.TreeError.{TreeError};
 ghost use Rattle.tl_tree.specs.declared.error.TreeError.TheVariants.{Memory};
@@ -62,7 +62,7 @@ fn read(alloc: Global, tokens: &[Token]) -> Result<TableNode, TreeError>
     requires { AreReadable tokens.now }
     ensures ok { IfOk result (SpellsTree tokens.now) }
     ensures within { OnOk result (IsWithinLimits (kinds tokens.now)) }
-    ensures err { IfErr result (IsMemoryOr (Memory alloc_error) (Refused tokens.now)) }
+    ensures err { IfErr result (IsMemoryOr (Memory alloc_error) (SpellsNoTree tokens.now)) }
 {
     let mut reading = Reading::Before;
     let mut tables = 0usize;
@@ -92,8 +92,8 @@ pub fn tree(alloc: Global, tokens: &[Token]) -> Result<TableNode, TreeError>
     ensures each_ok { (node : TableNode) → SpellsTree tokens.now node → IsWithinLimits (kinds tokens.now) → ReturnsTree node result }
     ensures sound { IfOk result IsSound }
     // Each error comes exactly where its cause is so.
-    ensures err { IfErr result (IsMemoryOr (Memory alloc_error) (Refused tokens.now)) }
-    ensures each_err { (error : TreeError) → Refused tokens.now error → ReturnsError (Memory alloc_error) error result }
+    ensures err { IfErr result (IsMemoryOr (Memory alloc_error) (SpellsNoTree tokens.now)) }
+    ensures each_err { (error : TreeError) → SpellsNoTree tokens.now error → ReturnsError (Memory alloc_error) error result }
 {
     read(alloc, tokens)
 }

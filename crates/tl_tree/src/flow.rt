@@ -103,7 +103,8 @@ impl Drop for Flow {
 }
 
 impl Flow {
-    ghost use Rattle.tl_tree.specs.inner.Lines.{blocks_outline, line_atoms, line_size, open_word, ReadsMarks};
+    ghost use Rattle.tl_tree.specs.inner.Lines.{line_atoms, line_size, open_word, ReadsMarks};
+    ghost use Rattle.tl_tree.specs.Outline.{blocks_outline};
     ghost use Rattle.tl_tree.specs.Grammar.{character, line_break};
     ghost use Rattle.tl_tree.specs.Paragraphs.{paragraph_of};
 

@@ -1,12 +1,13 @@
 -- Sections judged one after the other: what is due after some, and what all come to.
-use Rattle.std.proofs.Common.{◌≡◌, ◌∙◌, ℕ, ◌+◌, ◌<◌, ◌≤◌, length, get_or, take, Option, None, Some, option_map, [], inl, inr, sym, ap, subst, arith}
+use Rattle.std.proofs.Common.{◌≡◌, ◌∙◌, ℕ, ◌+◌, ◌<◌, ◌≤◌, length, get_or, take, Option, None, Some, option_map, [], inl, inr, sym}
+use Rattle.std.proofs.Common.{ap, subst, arith}
 use Rattle.std.proofs.lemmas.Bool.{cases_lt}
 use Rattle.std.proofs.lemmas.List.{take_all}
 use Rattle.tl_cert.specs.declared.certificate.Certificate.{Certificate}
 use Rattle.tl_cert.specs.declared.section.Section.{Section}
 use Rattle.tl_form.specs.declared.subject.Due.{Due}
 use Rattle.tl_form.specs.Expected.{Document, due_after, first_due, next_due, placed_width}
-use Rattle.tl_form.specs.Refusals.{IsExtra, IsGoodUpTo, IsMissing}
+use Rattle.tl_form.specs.Failures.{IsExtra, IsGoodUpTo, IsMissing}
 use Rattle.tl_form.specs.Subjects.{due_of}
 use Rattle.tl_form.specs.Valid.{AreWhole, IsGood}
 use Rattle.tl_form.proofs.DueLaws.{due_after-more, due_next}
@@ -49,11 +50,13 @@ module _ (document : Document) (budget : ℕ) (certificate : Certificate) where
     };
   }
 
-  pub extra : (n : ℕ) (due : Option Due) → n < length certificate.sections → JudgedTo document budget certificate n due → due ≡ None →
+  pub extra : (n : ℕ) (due : Option Due) → n < length certificate.sections → JudgedTo document budget certificate n due →
+      due ≡ None →
       IsExtra document budget certificate n
   extra n due more judged is = record { good = judged.good; none = judged.due_is ∙ ap (option_map due_of) is; more = more }
 
-  pub missing_last : (n : ℕ) (due : Option Due) (now : Due) → length certificate.sections ≤ n → JudgedTo document budget certificate n due →
+  pub missing_last : (n : ℕ) (due : Option Due) (now : Due) → length certificate.sections ≤ n →
+      JudgedTo document budget certificate n due →
       due ≡ Some now → IsMissing document budget certificate now.table
   missing_last n due now end judged is = record {
     at = n;
@@ -63,7 +66,8 @@ module _ (document : Document) (budget : ℕ) (certificate : Certificate) where
     wrong = λ d within is_due. absurd (omega (arith, within, end));
   }
 
-  pub whole : (n : ℕ) (due : Option Due) → length certificate.sections ≤ n → JudgedTo document budget certificate n due → due ≡ None →
+  pub whole : (n : ℕ) (due : Option Due) → length certificate.sections ≤ n → JudgedTo document budget certificate n due →
+      due ≡ None →
       AreWhole document budget certificate.sections
   whole n due end judged is = record {
     good = λ i d less. judged.good.good i d (omega (arith, less, end));

@@ -9,19 +9,21 @@ use Rattle.tl_cert.specs.declared.trace.CutAt.{CutAt}
 use Rattle.tl_check.specs.Verdicts.{IsFirstBad}
 use Rattle.tl_form.specs.Expected.{Document}
 use Rattle.tl_form.specs.ProblemLaws.{ProblemIsDetermined}
-use Rattle.tl_form.specs.Refusals.{Fault, wrong_claim, wrong_chain, missing, extra, wrong_layout, wrong_trace, wrong_log, IsRefusedFor}
-use Rattle.tl_form.specs.Sound.{IsSound}
+use Rattle.tl_form.specs.Failures.{Failure, wrong_claim, wrong_chain, missing, extra, wrong_layout, wrong_trace, wrong_log}
+use Rattle.tl_form.specs.Failures.{FailsFor}
+use Rattle.tl_table.specs.Sound.{IsSound}
 use Rattle.tl_form.specs.Valid.{IsProblemAt, IsValidFor}
 use Rattle.tl_form.proofs.OneFault.{HasOneProblem, one_fault, no_fault}
 use Rattle.tl_form.proofs.OneProblem.{one_problem}
 use Rattle.tl_verify.specs.declared.reject.Reject.{Reject}
 use Rattle.tl_verify.specs.declared.reject.Reject.TheVariants as rejects
 use Rattle.tl_verify.specs.Verdicts.{HasBadLine, IsReason}
-use Rattle.tl_verify.proofs.Placing.{one_problem_of}
+use Rattle.tl_form.proofs.Placing.{one_problem_of}
 
 -- ---- the first bad line is one
 
-pub first_bad_one : (problem : ProblemModel) (trace : List CutAt) (log : List LogLine) (lower k other : ℕ) → IsFirstBad problem trace log lower k →
+pub first_bad_one : (problem : ProblemModel) (trace : List CutAt) (log : List LogLine) (lower k other : ℕ) →
+    IsFirstBad problem trace log lower k →
     IsFirstBad problem trace log lower other → k ≡ other
 first_bad_one problem trace log lower k other is are = elim (cases_lt k other) [
   | inl less ↦ absurd (is.bad (omega (arith, less, are.there)) (are.before k less))
@@ -34,7 +36,7 @@ first_bad_one problem trace log lower k other is are = elim (cases_lt k other) [
 -- ---- errors as faults
 
 -- the fault that an error names, and the error that names a fault
-abbrev to_fault : Reject → Fault
+abbrev to_fault : Reject → Failure
 to_fault (rejects.Memory error) = wrong_claim
 to_fault rejects.Claim = wrong_claim
 to_fault rejects.Chain = wrong_chain
@@ -44,7 +46,7 @@ to_fault (rejects.Layout number) = wrong_layout number
 to_fault (rejects.Trace number) = wrong_trace number
 to_fault (rejects.Line number line) = wrong_log number
 
-abbrev of_fault : Fault → ℕ → Reject
+abbrev of_fault : Failure → ℕ → Reject
 of_fault wrong_claim line = rejects.Claim
 of_fault wrong_chain line = rejects.Chain
 of_fault (missing table) line = rejects.Missing table
@@ -80,7 +82,8 @@ module _ (document : Document) (sound : IsSound document.table) (budget : ℕ) (
   named (rejects.Trace number) why = refl
   named (rejects.Line number line) why = refl
 
-  to_refused : (reject : Reject) → IsReason document budget certificate reject → IsRefusedFor document budget certificate (to_fault reject)
+  to_refused : (reject : Reject) → IsReason document budget certificate reject →
+      FailsFor document budget certificate (to_fault reject)
   to_refused (rejects.Memory error) why = absurd why
   to_refused rejects.Claim why = why
   to_refused rejects.Chain why = why
@@ -90,24 +93,29 @@ module _ (document : Document) (sound : IsSound document.table) (budget : ℕ) (
   to_refused (rejects.Trace number) why = why
   to_refused (rejects.Line number line) why = (why.section, why.problem, why.log)
 
-  same_line : (number line other : ℕ) → HasBadLine document budget certificate number line → HasBadLine document budget certificate number other →
+  same_line : (number line other : ℕ) → HasBadLine document budget certificate number line →
+      HasBadLine document budget certificate number other →
       line ≡ other
   same_line number line other one two =
       let section : two.section ≡ one.section =
-      sym two.log.comes.is ∙ get_or_default certificate.sections number two.section one.section one.log.comes.there ∙ one.log.comes.is in
+      sym two.log.comes.is ∙ get_or_default certificate.sections number two.section one.section
+      one.log.comes.there ∙ one.log.comes.is in
       let problem : two.problem ≡ one.problem =
       problems (take number certificate.sections) one.section two.problem one.problem
-      (subst (λ s. IsProblemAt document (take number certificate.sections) s two.problem) section two.log.laid.own) one.log.laid.own in
+      (subst (λ s. IsProblemAt document (take number certificate.sections) s two.problem) section two.log.laid.own)
+      one.log.laid.own in
       first_bad_one one.problem one.section.trace one.section.log one.section.lower line other one.first
       (subst (λ p. IsFirstBad p one.section.trace one.section.log one.section.lower other) problem
       (subst (λ s. IsFirstBad two.problem s.trace s.log s.lower other) section two.first))
 
   -- an error that names no line is the one that names the same fault
-  other_one : (fault : Fault) (line : ℕ) (other : Reject) → IsReason document budget certificate other → fault ≡ to_fault other →
+  other_one : (fault : Failure) (line : ℕ) (other : Reject) → IsReason document budget certificate other →
+      fault ≡ to_fault other →
       of_fault fault line ≡ of_fault fault (line_of other) → of_fault fault line ≡ other
   other_one fault line other also same any = any ∙ ap (λ f. of_fault f (line_of other)) same ∙ sym (named other also)
 
-  by_line : (number line : ℕ) (other : Reject) → HasBadLine document budget certificate number line → IsReason document budget certificate other →
+  by_line : (number line : ℕ) (other : Reject) → HasBadLine document budget certificate number line →
+      IsReason document budget certificate other →
       wrong_log number ≡ to_fault other → rejects.Line number line ≡ other
   by_line number line (rejects.Memory error) why also same = absurd also
   by_line number line rejects.Claim why also same = absurd cc
@@ -118,12 +126,15 @@ module _ (document : Document) (sound : IsSound document.table) (budget : ℕ) (
   by_line number line (rejects.Trace other) why also same = absurd cc
   by_line number line (rejects.Line other last) why also same =
       let numbers : number ≡ other = cc in
-      let lines : line ≡ last = same_line number line last why (subst (λ n. HasBadLine document budget certificate n last) (sym numbers) also) in
+      let lines : line ≡ last = same_line number line last why
+      (subst (λ n. HasBadLine document budget certificate n last) (sym numbers) also) in
       λ i. rejects.Line (numbers i) (lines i)
 
-  pub one_reason : (one other : Reject) → IsReason document budget certificate one → IsReason document budget certificate other → one ≡ other
+  pub one_reason : (one other : Reject) → IsReason document budget certificate one →
+      IsReason document budget certificate other → one ≡ other
   one_reason one other why also = by_case one other why also
-      (one_fault document budget certificate problems (to_fault one) (to_fault other) (to_refused one why) (to_refused other also))
+      (one_fault document budget certificate problems (to_fault one) (to_fault other) (to_refused one why)
+      (to_refused other also))
     where
       by_case : (one other : Reject) → IsReason document budget certificate one → IsReason document budget certificate other →
           to_fault one ≡ to_fault other → one ≡ other

@@ -1,6 +1,8 @@
 -- Walks of chains: what stands at a place, entry by entry.
-use Rattle.std.proofs.Common.{◌≡◌, ◌∙◌, ℕ, zero, suc, ◌+◌, ◌-◌, ◌*◌, ◌<◌, ◌≤◌, List, [], ◌∷◌, ◌++◌, length, drop, take, get_or, Option, Some, None}
-use Rattle.std.proofs.Common.{slice_get, append_assoc, append-nil, length-drop, ◌↔◌, refl, sym, ap, subst, Bool, true, false, ◌==◌}
+use Rattle.std.proofs.Common.{◌≡◌, ◌∙◌, ℕ, zero, suc, ◌+◌, ◌-◌, ◌*◌, ◌<◌, ◌≤◌, List, [], ◌∷◌, ◌++◌, length, drop, take, get_or}
+use Rattle.std.proofs.Common.{Option, Some, None}
+use Rattle.std.proofs.Common.{slice_get, append_assoc, append-nil, length-drop, ◌↔◌, refl, sym, ap, subst, Bool, true, false}
+use Rattle.std.proofs.Common.{◌==◌}
 use Rattle.std.proofs.Common.{MatchOption, inl, inr, arith}
 use Rattle.std.specs.List.{AllZip, flat_map}
 use Rattle.std.proofs.lemmas.Bool.{cases_eq, eq-eqb, ne_eqb}
@@ -16,25 +18,27 @@ use Rattle.std.specs.declared.boxed.Box.{Box}
 use Rattle.std.proofs.lemmas.Grind.{flat_map-append}
 use Rattle.std.proofs.lemmas.List.{take_more}
 use Rattle.tl_base.proofs.Zips.{AllZip-length}
-use Rattle.tl_form.specs.declared.cell.Content.{Content, out-Content}
-use Rattle.tl_form.specs.declared.cell.Content.TheOpen as open_content
+use Rattle.tl_table.specs.declared.cell.Content.{Content, out-Content}
+use Rattle.tl_table.specs.declared.cell.Content.TheOpen as open_content
 use Rattle.tl_grid.specs.Dropping.{IsPlaced}
-use Rattle.tl_problem.specs.declared.chain.Chain.{Chain}
-use Rattle.tl_problem.specs.declared.chain.Entry.{Entry}
-use Rattle.tl_form.specs.declared.cell.Table.{Table, out-Table}
-use Rattle.tl_form.specs.declared.cell.TableCell.{TableCell, out-TableCell}
-use Rattle.tl_form.specs.Chains.{Link, AreSideBySide, HasWidth, IsLink, IsChainBy, IsChainWithin, IsChain, covered, links_weight}
+use Rattle.tl_base.specs.declared.chain.Chain.{Chain}
+use Rattle.tl_base.specs.declared.chain.Entry.{Entry}
+use Rattle.tl_table.specs.declared.cell.Table.{Table, out-Table}
+use Rattle.tl_table.specs.declared.cell.TableCell.{TableCell, out-TableCell}
+use Rattle.tl_table.specs.Chains.{Link, AreSideBySide, HasWidth, IsLink, IsChainBy, IsChainWithin, IsChain, covered, links_weight}
 use Rattle.tl_form.specs.Expected.{Document}
 use Rattle.tl_form.specs.Valid.{AreTooWide}
-use Rattle.tl_form.specs.Sound.{IsSound, place_of, places_of}
-use Rattle.tl_form.proofs.Widths.{grid_of}
-use Rattle.tl_form.specs.Tables.{OpenCell, OpenContent, tables_in, tables_of}
-use Rattle.tl_form.proofs.ChainDepths.{links_depth, links-weaker}
-use Rattle.tl_form.specs.inner.Links.{Weighs}
+use Rattle.tl_table.specs.Sound.{IsSound, place_of, places_of}
+use Rattle.tl_table.proofs.Widths.{grid_of}
+use Rattle.tl_table.specs.Tables.{OpenCell, OpenContent, tables_in, tables_of}
+use Rattle.tl_table.proofs.ChainDepths.{links_depth, links-weaker}
+use Rattle.tl_table.specs.Chains.{Weighs}
 use Rattle.tl_verify.specs.declared.chains.Row.{Row}
 use Rattle.tl_verify.specs.declared.chains.Walked.{Walked}
-use Rattle.tl_verify.specs.inner.Walks.{IsWalk, HasNoWalk, IsWalkIn, HasNoWalkIn, link_of, IsStep, HasNoStep, AreLinked, widths_of, IsRow, HasNoRow}
-use Rattle.tl_verify.proofs.OneChain.{AreOne, any_chain_one, any_links_one, contains_at, any_step_one, first_same, later_same, link_same, rest_same, some_same}
+use Rattle.tl_verify.specs.inner.Walks.{IsWalk, HasNoWalk, IsWalkIn, HasNoWalkIn, link_of, IsStep, HasNoStep, AreLinked}
+use Rattle.tl_verify.specs.inner.Walks.{widths_of, IsRow, HasNoRow}
+use Rattle.tl_verify.proofs.OneChain.{AreOne, any_chain_one, any_links_one, contains_at, any_step_one, first_same, later_same}
+use Rattle.tl_verify.proofs.OneChain.{link_same, rest_same, some_same}
 
 -- ---- lists from a place on
 
@@ -63,7 +67,11 @@ none_at (x ∷ xs) (suc k) past = none_at xs k (omega (arith, past))
 
 -- what a test for none says
 pub is_none : (n : ℕ) (test : Bool) → test ≡ (n == 0) → test ≡ true → n ≡ 0
-is_none n test is holds = elim (cases_eq n 0) [ inl same ↦ same | inr other ↦ let no : (n == 0) ≡ false = ne_eqb n 0 other in absurd cc ]
+is_none n test is holds = elim (cases_eq n 0) [
+  | inl same ↦ same
+  | inr other ↦ let no : (n == 0) ≡ false = ne_eqb n 0 other in
+      absurd cc
+]
 
 pub is_some : (n : ℕ) (test : Bool) → test ≡ (n == 0) → test ≡ false → 0 < n
 is_some n test is fails = elim (cases_eq n 0) [
@@ -77,10 +85,13 @@ is_some n test is fails = elim (cases_eq n 0) [
 
 -- a cell of a sound table covers columns of it
 pub cell_placed : (table : Table) (k : ℕ) (cell : TableCell) → IsSound table → slice_get (out-Table table).cells k ≡ Some cell →
-    ((out-TableCell cell).place.left < (out-TableCell cell).place.right) × ((out-TableCell cell).place.right ≤ (out-Table table).cols)
+    ((out-TableCell cell).place.left < (out-TableCell cell).place.right) ×
+    ((out-TableCell cell).place.right ≤ (out-Table table).cols)
 cell_placed table k cell sound named =
-    let placed = All-contains (IsPlaced (out-Table table).cols (out-Table table).rows) (places_of (out-Table table)) (place_of cell)
-    (grid_of table sound.depth sound.sound).placed (Contains-map place_of (out-Table table).cells cell (contains_at (out-Table table).cells k cell named)) in
+    let placed = All-contains (IsPlaced (out-Table table).cols (out-Table table).rows) (places_of (out-Table table))
+    (place_of cell)
+    (grid_of table sound.depth sound.sound).placed (Contains-map place_of (out-Table table).cells cell
+    (contains_at (out-Table table).cells k cell named)) in
     (placed.0, placed.1)
 
 -- ---- a chain, opened by one level
@@ -94,7 +105,8 @@ module _ (style : Style) where
     links = chain.links;
     of_table = chain.of_table;
     has_entry = chain.has_entry;
-    stand = links-weaker (IsChainWithin depth style) (Weighs style) (λ t c w is. (depth, is)) (out-Table table) chain.chain.entries chain.links
+    stand = links-weaker (IsChainWithin depth style) (Weighs style) (λ t c w is. (depth, is)) (out-Table table)
+        chain.chain.entries chain.links
         chain.stand;
     in_order = chain.in_order;
     followed = chain.followed;
@@ -131,8 +143,10 @@ module _ (style : Style) where
     more : List Chain
     more = drop (at + 1) chains
 
-    pub no_walk_by : ((links : List Link) (rest : List Chain) → AreLinked style (out-Table table) first.entries 0 (drop (at + 1) chains) links rest →
-        first.table ≡ (out-Table table).number → 0 < length first.entries → links_weight style (out-Table table).cols links ≤ most → ⊥) →
+    pub no_walk_by : ((links : List Link) (rest : List Chain) →
+        AreLinked style (out-Table table) first.entries 0 (drop (at + 1) chains) links rest →
+        first.table ≡ (out-Table table).number → 0 < length first.entries →
+        links_weight style (out-Table table).cols links ≤ most → ⊥) →
         HasNoWalk style table chains at most
     no_walk_by none = λ own rest weight split chain light.
         let o = opened table own weight chain in
@@ -140,34 +154,45 @@ module _ (style : Style) where
         sym (drop_at chains at first is) ∙ split ∙ ap (λ xs. xs ++ rest) o.followed in
         let same : first ≡ o.chain = first_same whole in
         none o.links rest (record {
-          stand = subst (λ one. AllZip (λ entry link. IsLink (Weighs style) (out-Table table) entry link) one.entries o.links) (sym same) o.stand;
+          stand = subst (λ one. AllZip (λ entry link. IsLink (Weighs style) (out-Table table) entry link) one.entries o.links)
+              (sym same) o.stand;
           in_order = o.in_order;
           split = later_same whole;
-        }) (ap (λ one. one.table) same ∙ o.of_table) (subst (λ one. 0 < length one.entries) (sym same) o.has_entry) (omega (arith, o.weighed, light))
+        }) (ap (λ one. one.table) same ∙ o.of_table) (subst (λ one. 0 < length one.entries) (sym same) o.has_entry)
+        (omega (arith, o.weighed, light))
 
-    pub no_walk_row : HasNoRow style (out-Table table) first.entries (drop (at + 1) chains) most → HasNoWalk style table chains at most
+    pub no_walk_row : HasNoRow style (out-Table table) first.entries (drop (at + 1) chains) most →
+        HasNoWalk style table chains at most
     no_walk_row none = no_walk_by (λ links rest linked of some light. none links rest linked (omega (arith, light)))
 
     pub row_weighs : (row : Row) (is_row : IsRow style (out-Table table) first.entries chains (at + 1) most row) →
         row.width + gap_of style * (length first.entries + ((out-Table table).cols - row.covered) - 1) + 2 * edge_of style
         ≡ links_weight style (out-Table table).cols is_row.links
     row_weighs row is_row =
-        let many = AllZip-length (λ entry link. IsLink (Weighs style) (out-Table table) entry link) first.entries is_row.links is_row.linked.stand in
-        ap (λ w. w + gap_of style * (length first.entries + ((out-Table table).cols - row.covered) - 1) + 2 * edge_of style) is_row.wide
-        ∙ ap (λ n. widths_of is_row.links + gap_of style * (n + ((out-Table table).cols - row.covered) - 1) + 2 * edge_of style) many
-        ∙ ap (λ n. widths_of is_row.links + gap_of style * (length is_row.links + ((out-Table table).cols - n) - 1) + 2 * edge_of style) is_row.covers
+        let many = AllZip-length (λ entry link. IsLink (Weighs style) (out-Table table) entry link)
+        first.entries is_row.links is_row.linked.stand in
+        ap (λ w. w + gap_of style * (length first.entries + ((out-Table table).cols - row.covered) - 1) + 2 * edge_of style)
+        is_row.wide
+        ∙ ap (λ n. widths_of is_row.links + gap_of style * (n + ((out-Table table).cols - row.covered) - 1) + 2 * edge_of style)
+        many
+        ∙ ap (λ n. widths_of is_row.links + gap_of style * (length is_row.links +
+        ((out-Table table).cols - n) - 1) + 2 * edge_of style) is_row.covers
 
-    pub no_walk_heavy : IsSound table → (row : Row) → IsRow style (out-Table table) first.entries chains (at + 1) most row → (weight : ℕ) →
-        weight ≡ row.width + gap_of style * (length first.entries + ((out-Table table).cols - row.covered) - 1) + 2 * edge_of style →
+    pub no_walk_heavy : IsSound table → (row : Row) → IsRow style (out-Table table) first.entries chains (at + 1) most row →
+        (weight : ℕ) →
+        weight ≡ row.width + gap_of style * (length first.entries + ((out-Table table).cols - row.covered) - 1) + 2 * edge_of
+        style →
         most < weight → HasNoWalk style table chains at most
     no_walk_heavy sound row is_row weight weighs heavy = no_walk_by (λ links rest linked of some light.
-        let same = any_links_one style table sound first.entries links is_row.links rest (drop row.past chains) linked.stand is_row.linked.stand
+        let same = any_links_one style table sound first.entries links is_row.links rest (drop row.past chains)
+        linked.stand is_row.linked.stand
         (sym linked.split ∙ is_row.linked.split) in
         omega (arith, heavy, light, ap (links_weight style (out-Table table).cols) same, weighs ∙ row_weighs row is_row))
 
     pub walked : (row : Row) (weight : ℕ) (walked : Walked) → first.table ≡ (out-Table table).number → 0 < length first.entries →
         (is_row : IsRow style (out-Table table) first.entries chains (at + 1) most row) →
-        weight ≡ row.width + gap_of style * (length first.entries + ((out-Table table).cols - row.covered) - 1) + 2 * edge_of style →
+        weight ≡ row.width + gap_of style * (length first.entries + ((out-Table table).cols - row.covered) - 1) + 2 * edge_of
+        style →
         weight ≤ most → walked.weight ≡ weight → walked.past ≡ row.past → IsWalk style table chains at most walked
     walked row weight found of some is_row weighs light same past = record {
       own = first ∷ flat_map (λ link. link.inner) is_row.links;
@@ -191,12 +216,14 @@ module _ (style : Style) where
 
   -- ---- a step, where the entry names a table
 
-  pub step_inner : (cell : OpenCell) (inner : Option ℕ) (number : ℕ) (chains : List Chain) (at most : ℕ) (result : Option Walked) →
+  pub step_inner : (cell : OpenCell) (inner : Option ℕ) (number : ℕ) (chains : List Chain) (at most : ℕ)
+      (result : Option Walked) →
       inner ≡ Some number → MatchOption result (HasNoWalkIn style (tables_in cell) number chains at most)
       (IsWalkIn style (tables_in cell) number chains at most) →
       MatchOption result (HasNoStep style cell inner chains at most) (IsStep style cell inner chains at)
   step_inner cell inner number chains at most result is found =
-      subst (λ one. MatchOption result (HasNoStep style cell one chains at most) (IsStep style cell one chains at)) (sym is) (by_result result found)
+      subst (λ one. MatchOption result (HasNoStep style cell one chains at most) (IsStep style cell one chains at)) (sym is)
+      (by_result result found)
     where
       by_result : (result : Option Walked) → MatchOption result (HasNoWalkIn style (tables_in cell) number chains at most)
           (IsWalkIn style (tables_in cell) number chains at most) →
@@ -210,14 +237,17 @@ module _ (style : Style) where
   pub walk_none : (number : ℕ) (chains : List Chain) (at most : ℕ) → HasNoWalkIn style [] number chains at most
   walk_none number chains at most = λ nested has. absurd (Contains-none nested has)
 
-  pub walk_more : (some more : List Table) (number : ℕ) (chains : List Chain) (at most : ℕ) → HasNoWalkIn style some number chains at most →
+  pub walk_more : (some more : List Table) (number : ℕ) (chains : List Chain) (at most : ℕ) →
+      HasNoWalkIn style some number chains at most →
       HasNoWalkIn style more number chains at most → HasNoWalkIn style (some ++ more) number chains at most
   walk_more some more number chains at most none also = λ nested has.
       elim (Contains-append_cases some more nested has) [ inl first ↦ none nested first | inr later ↦ also nested later ]
 
-  pub walk_box : (table : Table) (number : ℕ) (chains : List Chain) (at most : ℕ) (result : Option Walked) → (out-Table table).number ≡ number →
+  pub walk_box : (table : Table) (number : ℕ) (chains : List Chain) (at most : ℕ) (result : Option Walked) →
+      (out-Table table).number ≡ number →
       MatchOption result (HasNoWalk style table chains at most) (IsWalk style table chains at most) →
-      MatchOption result (HasNoWalkIn style (table ∷ []) number chains at most) (IsWalkIn style (table ∷ []) number chains at most)
+      MatchOption result (HasNoWalkIn style (table ∷ []) number chains at most)
+      (IsWalkIn style (table ∷ []) number chains at most)
   walk_box table number chains at most None numbered none = λ nested has same.
       elim (Contains-cases table [] nested has) [
         | inl is ↦ subst (λ t. HasNoWalk style t chains at most) is none
@@ -225,16 +255,21 @@ module _ (style : Style) where
       ]
   walk_box table number chains at most (Some walked) numbered walk = (table, (0, omega arith, refl), numbered, walk)
 
-  pub walk_boxed : (block : OpenContent) (box : Box Table Global) (table : Table) (number : ℕ) (chains : List Chain) (at most : ℕ) (result : Option Walked) →
+  pub walk_boxed : (block : OpenContent) (box : Box Table Global) (table : Table) (number : ℕ) (chains : List Chain)
+      (at most : ℕ) (result : Option Walked) →
       block ≡ open_content.Table box → table ≡ box.value → (out-Table table).number ≡ number →
       MatchOption result (HasNoWalk style table chains at most) (IsWalk style table chains at most) →
-      MatchOption result (HasNoWalkIn style (tables_of block) number chains at most) (IsWalkIn style (tables_of block) number chains at most)
+      MatchOption result (HasNoWalkIn style (tables_of block) number chains at most)
+      (IsWalkIn style (tables_of block) number chains at most)
   walk_boxed block box table number chains at most result is inside numbered found =
-      subst (λ b. MatchOption result (HasNoWalkIn style (tables_of b) number chains at most) (IsWalkIn style (tables_of b) number chains at most)) (sym is)
-      (subst (λ t. MatchOption result (HasNoWalkIn style (t ∷ []) number chains at most) (IsWalkIn style (t ∷ []) number chains at most)) inside
+      subst (λ b. MatchOption result (HasNoWalkIn style (tables_of b) number chains at most)
+      (IsWalkIn style (tables_of b) number chains at most)) (sym is)
+      (subst (λ t. MatchOption result (HasNoWalkIn style (t ∷ []) number chains at most)
+      (IsWalkIn style (t ∷ []) number chains at most)) inside
       (walk_box table number chains at most result numbered found))
 
-  pub walk_other : (block : OpenContent) (box : Box Table Global) (table : Table) (number : ℕ) (chains : List Chain) (at most : ℕ) →
+  pub walk_other : (block : OpenContent) (box : Box Table Global) (table : Table) (number : ℕ) (chains : List Chain)
+      (at most : ℕ) →
       block ≡ open_content.Table box → table ≡ box.value → ((out-Table table).number ≡ number → ⊥) →
       HasNoWalkIn style (tables_of block) number chains at most
   walk_other block box table number chains at most is inside other =
@@ -250,31 +285,42 @@ module _ (style : Style) where
   abbrev pub past_tables : List Content → ℕ → List Table
   past_tables blocks i = flat_map (λ block. tables_of (out-Content block)) (take i blocks)
 
-  pub blocks_more : (blocks : List Content) (i number : ℕ) (block : Content) (chains : List Chain) (at most : ℕ) → i < length blocks →
+  pub blocks_more : (blocks : List Content) (i number : ℕ) (block : Content) (chains : List Chain) (at most : ℕ) →
+      i < length blocks →
       block ≡ get_or blocks i block → HasNoWalkIn style (past_tables blocks i) number chains at most →
-      HasNoWalkIn style (tables_of (out-Content block)) number chains at most → HasNoWalkIn style (past_tables blocks (i + 1)) number chains at most
+      HasNoWalkIn style (tables_of (out-Content block)) number chains at most →
+      HasNoWalkIn style (past_tables blocks (i + 1)) number chains at most
   blocks_more blocks i number block chains at most within is none here =
       subst (λ tables. HasNoWalkIn style tables number chains at most)
-      (sym (ap (flat_map (λ one. tables_of (out-Content one))) (take_more blocks i block within ∙ ap (λ one. take i blocks ++ one ∷ []) (sym is))
+      (sym (ap (flat_map (λ one. tables_of (out-Content one)))
+      (take_more blocks i block within ∙ ap (λ one. take i blocks ++ one ∷ []) (sym is))
       ∙ flat_map-append (λ one. tables_of (out-Content one)) (take i blocks) (block ∷ [])
-      ∙ ap (λ xs. past_tables blocks i ++ xs) (flat_map-cons (λ one. tables_of (out-Content one)) block [] ∙ append-nil (tables_of (out-Content block)))))
+      ∙ ap (λ xs. past_tables blocks i ++ xs) (flat_map-cons (λ one. tables_of (out-Content one)) block [] ∙ append-nil
+      (tables_of (out-Content block)))))
       (walk_more (past_tables blocks i) (tables_of (out-Content block)) number chains at most none here)
 
-  pub in_block : (blocks : List Content) (i number : ℕ) (block : Content) (chains : List Chain) (at most : ℕ) (walked : Walked) → i < length blocks →
+  pub in_block : (blocks : List Content) (i number : ℕ) (block : Content) (chains : List Chain) (at most : ℕ)
+      (walked : Walked) → i < length blocks →
       block ≡ get_or blocks i block → IsWalkIn style (tables_of (out-Content block)) number chains at most walked →
       IsWalkIn style (flat_map (λ one. tables_of (out-Content one)) blocks) number chains at most walked
-  in_block blocks i number block chains at most walked within is found =
-      (found.0, Contains-flat_map (λ one. tables_of (out-Content one)) blocks block found.0 (i, within, sym is) found.1, found.2, found.3)
+  in_block blocks i number block chains at most walked within is found = (
+    found.0,
+    Contains-flat_map (λ one. tables_of (out-Content one)) blocks block found.0 (i, within, sym is) found.1,
+    found.2,
+    found.3,
+  )
 
   -- ---- entry by entry
 
   -- the first `n` entries stand from place `at` on, as `row` has it: what stands for all goes on with what stands for the rest
   pub record RowSoFar (table : Table) (entries : List Entry) (chains : List Chain) (at most n : ℕ) (row : Row) : Type 0 where
     pub done : List Link
-    pub into : (tail : List Link) (rest : List Chain) → AreLinked style (out-Table table) (drop n entries) row.right (drop row.past chains) tail rest →
+    pub into : (tail : List Link) (rest : List Chain) → AreLinked style (out-Table table) (drop n entries) row.right
+        (drop row.past chains) tail rest →
         AreLinked style (out-Table table) entries 0 (drop at chains) (done ++ tail) rest
     pub back : (links : List Link) (rest : List Chain) → AreLinked style (out-Table table) entries 0 (drop at chains) links rest →
-        (tail : List Link) × AreLinked style (out-Table table) (drop n entries) row.right (drop row.past chains) tail rest × (links ≡ done ++ tail)
+        (tail : List Link) × AreLinked style (out-Table table) (drop n entries) row.right (drop row.past chains) tail rest ×
+        (links ≡ done ++ tail)
     pub covers : row.covered ≡ covered done
     pub wide : row.width ≡ widths_of done
     pub light : row.width ≤ most
@@ -298,13 +344,16 @@ module _ (style : Style) where
     many = omega arith;
   }
 
-  pub row_done : (table : Table) (entries : List Entry) (chains : List Chain) (at most n : ℕ) (row : Row) → length entries ≤ n → n ≤ length entries →
+  pub row_done : (table : Table) (entries : List Entry) (chains : List Chain) (at most n : ℕ) (row : Row) → length entries ≤ n →
+      n ≤ length entries →
       RowSoFar table entries chains at most n row → IsRow style (out-Table table) entries chains at most row
   row_done table entries chains at most n row end upto far = record {
     links = far.done;
-    linked = subst (λ links. AreLinked style (out-Table table) entries 0 (drop at chains) links (drop row.past chains)) (append-nil far.done)
+    linked = subst (λ links. AreLinked style (out-Table table) entries 0 (drop at chains) links (drop row.past chains))
+        (append-nil far.done)
         (far.into [] (drop row.past chains) (record {
-          stand = subst (λ es. AllZip (λ entry link. IsLink (Weighs style) (out-Table table) entry link) es []) (sym (drop_short entries n end)) tt;
+          stand = subst (λ es. AllZip (λ entry link. IsLink (Weighs style) (out-Table table) entry link) es [])
+              (sym (drop_short entries n end)) tt;
           in_order = tt;
           split = refl;
         }));
@@ -316,7 +365,8 @@ module _ (style : Style) where
     many = omega (arith, end, far.many, far.inside, far.right);
   }
 
-  module _ (table : Table) (sound : IsSound table) (entries : List Entry) (chains : List Chain) (at most n : ℕ) (row : Row) (entry : Entry)
+  module _ (table : Table) (sound : IsSound table) (entries : List Entry) (chains : List Chain) (at most n : ℕ) (row : Row)
+      (entry : Entry)
       (there : n < length entries) (is : entry ≡ get_or entries n entry) (far : RowSoFar table entries chains at most n row) where
     -- what stands for the rest begins with what stands for this entry
     record Next (tail : List Link) (rest : List Chain) : Type 0 where
@@ -329,12 +379,15 @@ module _ (style : Style) where
       in_order : AreSideBySide link.place.right later
       goes : drop row.past chains ≡ link.inner ++ (flat_map (λ each. each.inner) later ++ rest)
 
-    next : (tail : List Link) (rest : List Chain) → AreLinked style (out-Table table) (drop n entries) row.right (drop row.past chains) tail rest →
+    next : (tail : List Link) (rest : List Chain) → AreLinked style (out-Table table) (drop n entries) row.right
+        (drop row.past chains) tail rest →
         Next tail rest
     next tail rest linked = by_tail tail
-        (subst (λ es. AreLinked style (out-Table table) es row.right (drop row.past chains) tail rest) (drop_item entries n entry there is) linked)
+        (subst (λ es. AreLinked style (out-Table table) es row.right (drop row.past chains) tail rest)
+        (drop_item entries n entry there is) linked)
       where
-        by_tail : (tail : List Link) → AreLinked style (out-Table table) (entry ∷ drop (n + 1) entries) row.right (drop row.past chains) tail rest →
+        by_tail : (tail : List Link) → AreLinked style (out-Table table) (entry ∷ drop (n + 1) entries) row.right
+            (drop row.past chains) tail rest →
             Next tail rest
         by_tail [] linked = absurd linked.stand
         by_tail (link ∷ later) linked = record {
@@ -364,8 +417,10 @@ module _ (style : Style) where
           sum_by-cons (λ (each : Link). each.width) one.link one.later,
         ))
 
-    pub no_cell : slice_get (out-Table table).cells entry.cell ≡ None → HasNoRow style (out-Table table) entries (drop at chains) most
-    no_cell none = no_row_by (λ tail rest one light. let some : slice_get (out-Table table).cells entry.cell ≡ Some one.stands.cell = one.stands.named in
+    pub no_cell : slice_get (out-Table table).cells entry.cell ≡ None →
+        HasNoRow style (out-Table table) entries (drop at chains) most
+    no_cell none = no_row_by (λ tail rest one light. let some : slice_get
+        (out-Table table).cells entry.cell ≡ Some one.stands.cell = one.stands.named in
         absurd cc)
 
     module _ (cell : TableCell) (named : slice_get (out-Table table).cells entry.cell ≡ Some cell) where
@@ -377,13 +432,15 @@ module _ (style : Style) where
           HasWidth (Weighs style) (out-TableCell cell) entry.inner (link_of (out-TableCell cell) one.link.width one.link.inner)
       linked_as tail rest one =
           subst (HasWidth (Weighs style) (out-TableCell cell) entry.inner) (link_same style (on_cell tail rest one) refl refl)
-          (subst (λ c. HasWidth (Weighs style) (out-TableCell c) entry.inner one.link) (some_same one.stands.named named) one.stands.wide)
+          (subst (λ c. HasWidth (Weighs style) (out-TableCell c) entry.inner one.link) (some_same one.stands.named named)
+          one.stands.wide)
 
       pub no_order : (out-TableCell cell).place.left < row.right → HasNoRow style (out-Table table) entries (drop at chains) most
       no_order less = no_row_by (λ tail rest one light.
           omega (arith, less, one.after, ap (λ place. place.left) (on_cell tail rest one)))
 
-      pub no_step : HasNoStep style (out-TableCell cell) entry.inner chains row.past most → HasNoRow style (out-Table table) entries (drop at chains) most
+      pub no_step : HasNoStep style (out-TableCell cell) entry.inner chains row.past most →
+          HasNoRow style (out-Table table) entries (drop at chains) most
       no_step none = no_row_by (λ tail rest one light.
           none one.link.inner (flat_map (λ each. each.inner) one.later ++ rest) one.link.width one.goes (linked_as tail rest one)
           (omega (arith, light)))
@@ -393,7 +450,8 @@ module _ (style : Style) where
         abbrev here : Link
         here = link_of (out-TableCell cell) step.weight of_step.own
 
-        same_step : (tail : List Link) (rest : List Chain) (one : Next tail rest) → AreOne one.link.inner of_step.own one.link.width step.weight
+        same_step : (tail : List Link) (rest : List Chain) (one : Next tail rest) →
+            AreOne one.link.inner of_step.own one.link.width step.weight
         same_step tail rest one =
             any_step_one style table cell sound (record { number = entry.cell; named = named }) entry.inner
             (link_of (out-TableCell cell) one.link.width one.link.inner) here (flat_map (λ each. each.inner) one.later ++ rest)
@@ -402,7 +460,8 @@ module _ (style : Style) where
         pub too_wide : most - row.width < step.weight → HasNoRow style (out-Table table) entries (drop at chains) most
         too_wide heavy = no_row_by (λ tail rest one light. omega (arith, heavy, light, (same_step tail rest one).alike))
 
-        pub row_more : row.right ≤ (out-TableCell cell).place.left → (out-TableCell cell).place.left < (out-TableCell cell).place.right →
+        pub row_more : row.right ≤ (out-TableCell cell).place.left →
+            (out-TableCell cell).place.left < (out-TableCell cell).place.right →
             (out-TableCell cell).place.right ≤ (out-Table table).cols → step.weight ≤ most - row.width →
             RowSoFar table entries chains at most (n + 1) (record {
               right = (out-TableCell cell).place.right;
@@ -413,8 +472,10 @@ module _ (style : Style) where
         row_more after some inside light = record {
           done = far.done ++ here ∷ [];
           into = λ tail rest linked.
-              subst (λ links. AreLinked style (out-Table table) entries 0 (drop at chains) links rest) (sym (append_assoc far.done (here ∷ []) tail))
-              (far.into (here ∷ tail) rest (subst (λ es. AreLinked style (out-Table table) es row.right (drop row.past chains) (here ∷ tail) rest)
+              subst (λ links. AreLinked style (out-Table table) entries 0 (drop at chains) links rest)
+              (sym (append_assoc far.done (here ∷ []) tail))
+              (far.into (here ∷ tail) rest (subst (λ es. AreLinked style (out-Table table) es row.right (drop row.past chains)
+              (here ∷ tail) rest)
               (sym (drop_item entries n entry there is)) (record {
                 stand = (record { cell = cell; named = named; placed = refl; wide = of_step.wide }, linked.stand);
                 in_order = (after, linked.in_order);
@@ -432,9 +493,11 @@ module _ (style : Style) where
                   stand = one.stand;
                   in_order = subst (λ place. AreSideBySide place.right one.later) (on_cell found.0 rest one) one.in_order;
                   split = rest_same of_step.own (drop step.past chains) (flat_map (λ each. each.inner) one.later ++ rest)
-                      (sym of_step.begins.split ∙ one.goes ∙ ap (λ xs. xs ++ (flat_map (λ each. each.inner) one.later ++ rest)) alike.same);
+                      (sym of_step.begins.split ∙ one.goes ∙ ap (λ xs. xs ++ (flat_map (λ each. each.inner) one.later ++ rest))
+                      alike.same);
                 },
-                found.2 ∙ ap (λ tail. far.done ++ tail) (one.begins ∙ (λ i. head i ∷ one.later)) ∙ sym (append_assoc far.done (here ∷ []) one.later),
+                found.2 ∙ ap (λ tail. far.done ++ tail) (one.begins ∙ (λ i. head i ∷ one.later)) ∙ sym
+                    (append_assoc far.done (here ∷ []) one.later),
               );
           covers = omega (
             arith,
@@ -442,7 +505,12 @@ module _ (style : Style) where
             sum_by-append (λ (each : Link). each.place.right - each.place.left) far.done (here ∷ []),
             sum_by-cons (λ (each : Link). each.place.right - each.place.left) here [],
           );
-          wide = omega (arith, far.wide, sum_by-append (λ (each : Link). each.width) far.done (here ∷ []), sum_by-cons (λ (each : Link). each.width) here []);
+          wide = omega (
+            arith,
+            far.wide,
+            sum_by-append (λ (each : Link). each.width) far.done (here ∷ []),
+            sum_by-cons (λ (each : Link). each.width) here [],
+          );
           light = omega (arith, light, far.light);
           within = of_step.begins.within;
           inside = omega (arith, far.inside, after, some);
@@ -465,13 +533,15 @@ walked_all document chains least walked sound walk = (forth, back)
       wider = all.2;
     } where
       own_all : walk.own ≡ chains
-      own_all = sym (walk.begins.split ∙ ap (λ xs. walk.own ++ xs) (drop_short chains walked.past (omega (arith, all.0))) ∙ append-nil walk.own)
+      own_all = sym (walk.begins.split ∙ ap (λ xs. walk.own ++ xs)
+          (drop_short chains walked.past (omega (arith, all.0))) ∙ append-nil walk.own)
 
     back : AreTooWide document chains least → (walked.past ≡ length chains) × (walked.weight ≡ least) × (document.page < least)
     back too = (past, one.alike, too.wider)
       where
         one : AreOne walk.own chains walked.weight least
-        one = any_chain_one document.style document.table walk.own chains (drop walked.past chains) [] walked.weight least sound walk.chain too.weighed
+        one = any_chain_one document.style document.table walk.own chains (drop walked.past chains)
+            [] walked.weight least sound walk.chain too.weighed
             (sym walk.begins.split ∙ sym (append-nil chains))
 
         past : walked.past ≡ length chains
@@ -481,6 +551,7 @@ walked_all document chains least walked sound walk = (forth, back)
             omega (arith, walk.begins.within, ap length none, length-drop walked.past chains)
 
 -- none is there
-pub walked_none : (document : Document) (chains : List Chain) (least : ℕ) → HasNoWalk document.style document.table chains 0 least →
+pub walked_none : (document : Document) (chains : List Chain) (least : ℕ) →
+    HasNoWalk document.style document.table chains 0 least →
     AreTooWide document chains least → ⊥
 walked_none document chains least none too = none chains [] least (sym (append-nil chains)) too.weighed (omega arith)

@@ -7,9 +7,9 @@ use Rattle.tl_cert.specs.declared.certificate.Claim.{Claim}
 use Rattle.tl_cert.specs.declared.certificate.Claim.TheVariants as claims
 use Rattle.tl_cert.specs.declared.section.Section.{Section}
 use Rattle.tl_check.specs.Verdicts.{IsFirstBad}
-use Rattle.tl_form.specs.declared.cell.Table.{Table}
+use Rattle.tl_table.specs.declared.cell.Table.{Table}
 use Rattle.tl_form.specs.Expected.{Document, IsDocumentOf}
-use Rattle.tl_form.specs.Refusals.{HasWrongClaim, HasWrongChain, IsMissing, IsExtra, HasWrongLayout, HasWrongTrace, HasWrongLog}
+use Rattle.tl_form.specs.Failures.{HasWrongClaim, HasWrongChain, IsMissing, IsExtra, HasWrongLayout, HasWrongTrace, HasWrongLog}
 use Rattle.tl_verify.specs.declared.reject.Reject.{Reject}
 use Rattle.tl_verify.specs.declared.reject.Reject.TheVariants as rejects
 use Rattle.tl_verify.specs.declared.verdict.Verdict.{Verdict}

@@ -1,4 +1,3 @@
 -- What private functions promise each other. No public clause cites this file.
-pub mod Naming
 pub mod Sections
 pub mod Walks

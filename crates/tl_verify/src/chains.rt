@@ -3,19 +3,18 @@
 ghost use Rattle.std.specs.Prelude.{◌≡◌, ◌+◌, ◌-◌, ◌*◌, ◌<◌, ◌≤◌, drop, length, IsTrue, ◌↔◌, MatchOption};
 ghost use Rattle.tl_base.specs.declared.limits.TheConstants.{MAX_COLUMNS, MAX_HEIGHT};
 ghost use Rattle.tl_base.specs.Style.{edge_of, gap_of};
-ghost use Rattle.tl_form.specs.declared.cell.Content.{out-Content};
-ghost use Rattle.tl_form.specs.declared.cell.Table.{out-Table};
-ghost use Rattle.tl_form.specs.declared.cell.TableCell.{out-TableCell};
-ghost use Rattle.tl_form.specs.Sound.{IsSound};
-ghost use Rattle.tl_form.specs.Tables.{tables_in, tables_of};
+ghost use Rattle.tl_table.specs.declared.cell.Content.{out-Content};
+ghost use Rattle.tl_table.specs.declared.cell.Table.{out-Table};
+ghost use Rattle.tl_table.specs.declared.cell.TableCell.{out-TableCell};
+ghost use Rattle.tl_table.specs.Sound.{IsSound, IsSoundBlock, IsSoundCell};
+ghost use Rattle.tl_table.specs.Tables.{tables_in, tables_of};
 ghost use Rattle.tl_form.specs.Valid.{AreTooWide};
-ghost use Rattle.tl_form.specs.inner.LeastRooms.{IsSoundBlock, IsSoundCell};
 ghost use Rattle.tl_form.specs.Subjects.{IsSubject, meant};
 ghost use Rattle.tl_verify.specs.inner.Walks.{HasNoRow, HasNoStep, HasNoWalk, HasNoWalkIn, IsRow, IsStep, IsWalk, IsWalkIn};
 
-use tl_base::Style;
-use tl_form::{Content, Subject, Table, TableCell, own_width};
-use tl_problem::{Chain, Entry};
+use tl_base::{Chain, Entry, Style};
+use tl_form::Subject;
+use tl_table::{Content, Table, TableCell, own_width};
 
 /// What a walk came to: what the walked chain weighs, in columns of text, and the first chain past it
 /// and those that it rests on.

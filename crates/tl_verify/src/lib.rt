@@ -1,18 +1,15 @@
-//! Judges a whole certificate against its table, and gives the layout that it names. Whoever reads a
-//! certificate trusts no search: none stands below this crate. Its one contract: unless memory runs out,
-//! `verify` accepts exactly the valid certificates, and otherwise names the first step that fails.
+//! Judges a whole certificate against its table. Whoever reads a certificate trusts no search: none
+//! stands below this crate. Its one contract: unless memory runs out, `verify` accepts exactly the valid
+//! certificates, and otherwise names the first step that fails.
 #![tactic(auto)]
 
 mod chains;
 mod claim;
-mod laid;
-mod named;
 mod reject;
 mod sections;
 #[cfg(test)]
 mod tests;
 mod verdict;
 
-pub use named::layout;
 pub use reject::Reject;
 pub use verdict::{Verdict, verify};

@@ -6,19 +6,19 @@ ghost use Rattle.tl_cert.specs.declared.certificate.Certificate.{Certificate};
 ghost use Rattle.tl_cert.specs.declared.section.Section.{Section};
 ghost use Rattle.tl_cert.specs.Text.{IsWritable};
 ghost use Rattle.tl_form.specs.Expected.{due_after, placed_width};
-ghost use Rattle.tl_form.specs.Refusals.{IsGoodUpTo};
+ghost use Rattle.tl_form.specs.Failures.{IsGoodUpTo};
 ghost use Rattle.tl_form.specs.Valid.{AreWhole, HasLog, HasTrace, IsGood};
 ghost use Rattle.tl_verify.specs.declared.reject.Reject.TheVariants.{Memory};
 ghost use Rattle.tl_verify.specs.Verdicts.{IsReason};
-ghost use Rattle.tl_verify.specs.inner.Sections.{IsSmall, IsUnshown};
+ghost use Rattle.tl_verify.specs.inner.Sections.{IsUnshown};
+ghost use Rattle.tl_form.specs.Nested.{IsInRange};
 ghost use Rattle.tl_form.specs.Subjects.{IsSubject, due_of, meant};
 
-use crate::laid::lay;
 use crate::reject::Reject;
 use std::alloc::Global;
 use tl_cert::{Certificate, Section};
 use tl_check::Checker;
-use tl_form::{Due, Subject};
+use tl_form::{Due, Subject, lay};
 use tl_problem::Problem;
 
 /// Checks the trace and the log of the section with this number.
@@ -29,7 +29,7 @@ fn check(
     budget: u32,
     number: u32,
 ) -> Result<(), Reject>
-    requires { IsSmall section.now }
+    requires { IsInRange section.now }
     ensures traced { IfOk result (λ _. HasTrace budget section.now problem.now) }
     ensures logged { IfOk result (λ _. HasLog section.now problem.now) }
     ensures wrong { IfErr result (IsMemoryOr (Memory alloc_error) (IsUnshown problem.now section.now budget number)) }
@@ -56,7 +56,7 @@ fn judge(
     due: Due,
 ) -> Result<u32, Reject>
     requires subject { IsSubject subject.now }
-    requires small { (d : Section) → IsSmall (get_or certificate.now.sections number d) }
+    requires small { (d : Section) → IsInRange (get_or certificate.now.sections number d) }
     requires there { number < length certificate.now.sections }
     requires before { IsGoodUpTo (meant subject.now) budget certificate.now number }
     requires due { due_after (meant subject.now) (take number certificate.now.sections) ≡ Some (due_of due) }

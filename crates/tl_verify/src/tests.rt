@@ -4,16 +4,18 @@ ghost use Rattle.std.specs.Prelude.{◌≤◌, IfOk};
 ghost use Rattle.tl_base.specs.declared.limits.TheConstants.{MAX_BUDGET, MAX_PAGE_WIDTH};
 ghost use Rattle.tl_base.specs.declared.style.Style.TheVariants.{Plain};
 ghost use Rattle.tl_cert.specs.Text.{IsNarrow, IsWritable};
-ghost use Rattle.tl_form.specs.Sound.{IsSound};
+ghost use Rattle.tl_table.specs.Sound.{IsSound};
 ghost use Rattle.tl_form.specs.Valid.{IsValid};
 
-use crate::{Reject, layout, verify};
+use crate::{Reject, verify};
 use std::alloc::{AllocError, Global};
 use std::process::Abort;
 use std::test::Fail;
-use tl_base::{Breaking, MAX_FILE_BYTES, Style};
+use std::thread::Threads;
+use tl_base::{Breaking, MAX_FILE_BYTES, NoGate, Style};
 use tl_cert::{Certificate, Claim, read};
-use tl_form::{Layout, Table, table};
+use tl_form::layout;
+use tl_table::{Layout, Table, table};
 use tl_token::tokens;
 use tl_tree::tree;
 
@@ -87,7 +89,14 @@ fn named(
 
 /// What is found of the certificate of this text for the file: a verdict with the layout, or the
 /// first step that fails.
-fn judged(alloc: Global, file: &str, width: u32, budget: u32, text: &str) -> Result<String, Fail>
+fn judged(
+    rt: &(impl Threads + Sync),
+    alloc: Global,
+    file: &str,
+    width: u32,
+    budget: u32,
+    text: &str,
+) -> Result<String, Fail>
     requires some { 1 ≤ width }
     requires narrow { width ≤ MAX_PAGE_WIDTH }
     requires cuts { budget ≤ MAX_BUDGET }
@@ -96,7 +105,18 @@ fn judged(alloc: Global, file: &str, width: u32, budget: u32, text: &str) -> Res
     let Ok(certificate) = read(alloc, text.as_bytes()) else {
         return Err("no certificate".into());
     };
-    if let Err(reject) = verify(alloc, &table, Style::Plain, width, budget, &certificate) {
+    let style = Style::Plain;
+    if let Err(reject) = verify(
+        rt,
+        alloc,
+        &table,
+        style,
+        width,
+        budget,
+        1,
+        &certificate,
+        &NoGate,
+    ) {
         return Ok(format!(in alloc; "{reject}")?);
     }
     match certificate.claim {
@@ -206,7 +226,7 @@ fn spelt(alloc: Global, line: &str) -> Result<String, AllocError> {
 
 /// Compares what is found of each line's certificate with what stands after its arrow.
 fn compare(
-    rt: &impl Abort,
+    rt: &(impl Abort + Threads + Sync),
     alloc: Global,
     lines: &str,
     file: &str,
@@ -221,7 +241,7 @@ fn compare(
     for line in cases.lines() {
         let (input, wanted) = line.split_once(" => ").ok_or("a line without an arrow")?;
         let text = spelt(alloc, input)?;
-        let found = judged(alloc, file, width, budget, text.as_str())?;
+        let found = judged(rt, alloc, file, width, budget, text.as_str())?;
         assert_eq!(rt; found.as_str(), wanted, "{input}");
     }
     Ok(())

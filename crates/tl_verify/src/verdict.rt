@@ -5,7 +5,7 @@ ghost use Rattle.tl_base.specs.Returned.{IsMemoryOr, ReturnsError, ReturnsOk};
 ghost use Rattle.tl_base.specs.declared.limits.TheConstants.{MAX_BUDGET, MAX_PAGE_WIDTH};
 ghost use Rattle.tl_cert.specs.declared.certificate.Claim.{Claim};
 ghost use Rattle.tl_cert.specs.Text.{IsWritable};
-ghost use Rattle.tl_form.specs.Sound.{IsSound};
+ghost use Rattle.tl_table.specs.Sound.{IsSound};
 ghost use Rattle.tl_form.specs.Valid.{IsClaimFor, IsValid, IsValidFor};
 ghost use Rattle.tl_verify.specs.declared.reject.Reject.{Reject};
 ghost use Rattle.tl_verify.specs.declared.reject.Reject.TheVariants.{Memory};
@@ -17,9 +17,11 @@ use crate::claim::{ends_with, is_claim_for};
 use crate::reject::Reject;
 use crate::sections::judge_all;
 use std::alloc::Global;
-use tl_base::Style;
+use std::thread::Threads;
+use tl_base::{Gate, Style};
 use tl_cert::{Certificate, Claim};
-use tl_form::{Subject, Table};
+use tl_form::Subject;
+use tl_table::Table;
 
 /// What a valid certificate shows.
 #[derive(Clone, Copy, Debug, PartialEq, Eq)]
@@ -75,15 +77,20 @@ fn judge_proof(
 /// page, style and budget, and says that the page is too narrow exactly where it is; chains show that;
 /// each section that is due, from the greatest number of a table down, has a tight placement, a trace
 /// that was worked for the budget, and a log that is good; none is left; the claim has the numbers of
-/// the last.
-pub fn verify(
+/// the last. So many `workers` may judge sections at one time, each piece of work behind the gate; one is
+/// all that there is yet.
+pub fn verify<R: Threads + Sync, G: Gate>(
+    _rt: &R,
     alloc: Global,
     table: &Table,
     style: Style,
     width: u32,
     budget: u32,
+    workers: u32,
     certificate: &Certificate,
+    _gate: &G,
 ) -> Result<Verdict, Reject>
+    requires one_worker { workers ≡ 1 }
     requires sound { IsSound table.now }
     requires some { 1 ≤ width }
     requires narrow { width ≤ MAX_PAGE_WIDTH }

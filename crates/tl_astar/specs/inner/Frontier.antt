@@ -42,7 +42,7 @@ IsCutProved problem trace cut = (bound : ℕ) × IsBoundOf problem trace cut.zon
     × ((z : ℕ) → Stands trace z → Proves problem (zone_of problem trace z) bound)
 
 -- the cuts so far keep the order of the best-first search, for a best placement of this height
-pub record KeepsOrder (problem : ProblemModel) (trace : List CutAt) (height : ℕ) : Type 0 where
+pub record KeepsBoundOrder (problem : ProblemModel) (trace : List CutAt) (height : ℕ) : Type 0 where
   pub order : AtEachCut (IsOfLeastBound problem height) trace
   pub below : CutsBelowPlacements problem trace
   pub below_by_area : HaveSameSteps problem → CutsBelowByArea problem trace
@@ -50,4 +50,5 @@ pub record KeepsOrder (problem : ProblemModel) (trace : List CutAt) (height : �
 
 -- the cut splits the range of a span of the zone in two that have classes
 abbrev pub PartsRange : List Range → CutAt → Type 0
-PartsRange zone cut = (cut.span < length zone) × ((range_at zone cut.span).first ≤ cut.class) × (cut.class < (range_at zone cut.span).last)
+PartsRange zone cut = (cut.span < length zone) × ((range_at zone cut.span).first ≤ cut.class) ×
+    (cut.class < (range_at zone cut.span).last)

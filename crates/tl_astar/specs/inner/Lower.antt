@@ -24,4 +24,5 @@ pub record IsProvedUpto (problem : ProblemModel) (trace : List CutAt) (height up
 pub record IsLessened (problem : ProblemModel) (trace : List CutAt) (z least next : ℕ) : Type 0 where
   pub at_most : next ≤ least
   pub proved : Proves problem (zone_of problem trace z) next
-  pub attained : (next ≡ least) ⊎ ((bound area : ℕ) × IsBoundOf problem trace z bound × IsAreaOf problem trace z area × (next ≡ max bound area))
+  pub attained : (next ≡ least) ⊎ ((bound area : ℕ) × IsBoundOf problem trace z bound × IsAreaOf problem trace z area ×
+      (next ≡ max bound area))

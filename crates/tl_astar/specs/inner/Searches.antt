@@ -11,7 +11,7 @@ use Rattle.tl_solve.specs.Arenas.{IsArenaOf}
 use Rattle.tl_astar.specs.declared.search.Search.{Search}
 use Rattle.tl_astar.specs.Best.{HaveSameSteps}
 use Rattle.tl_astar.specs.inner.Entries.{Entry, bound_in, zone_in}
-use Rattle.tl_astar.specs.inner.Frontier.{IsFrontier, KeepsOrder}
+use Rattle.tl_astar.specs.inner.Frontier.{IsFrontier, KeepsBoundOrder}
 
 -- the open zones of the search, by number
 abbrev pub open_zones : Search → List ℕ
@@ -29,7 +29,7 @@ pub record IsSearchOf (problem : ProblemModel) (search : Search) : Type 0 where
   pub bounds : HaveBounds problem search.arena.trace (heap_items search.opens.heap)
   pub agree : IsTrue search.low_is_high → LowIsHigh problem
   pub same_steps : HaveSameSteps problem → IsTrue search.low_is_high
-  pub order : KeepsOrder problem search.arena.trace search.arena.best.height
+  pub order : KeepsBoundOrder problem search.arena.trace search.arena.best.height
 
 -- the zones are those that the search may still cut
 abbrev pub AreLeft : ProblemModel → Search → List ℕ → Type 0

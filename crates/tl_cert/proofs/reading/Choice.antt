@@ -1,5 +1,6 @@
 -- One reading or another, by the next character, is exact for the texts of both.
-use Rattle.std.proofs.Common.{◌≡◌, ℕ, Bool, true, false, cond, List, [], ◌∷◌, ◌++◌, ◌⊎◌, inl, inr, refl, sym, ap, ◌∙◌, append_assoc}
+use Rattle.std.proofs.Common.{◌≡◌, ℕ, Bool, true, false, cond, List, [], ◌∷◌, ◌++◌, ◌⊎◌, inl, inr, refl, sym, ap, ◌∙◌}
+use Rattle.std.proofs.Common.{append_assoc}
 use Rattle.tl_cert.specs.Pieces.{Piece, number, spell, numeral, AllWithin}
 use Rattle.tl_cert.specs.inner.reading.Readings.{got, wrong, outside, Reading, begins, either}
 use Rattle.tl_cert.proofs.reading.Spellings.{spell_two}
@@ -7,7 +8,8 @@ use Rattle.tl_cert.proofs.reading.NumeralDigits.{numeral_first}
 use Rattle.tl_cert.proofs.reading.Exact.{SameStart, Stuck, Outside, Takes, Exact}
 
 -- texts that end at once or begin with one character pass the same tests
-same_begins : (test : ℕ → Bool) (prefix rest other : List ℕ) → SameStart rest other → begins test (prefix ++ rest) ≡ begins test (prefix ++ other)
+same_begins : (test : ℕ → Bool) (prefix rest other : List ℕ) → SameStart rest other →
+    begins test (prefix ++ rest) ≡ begins test (prefix ++ other)
 same_begins test [] [] [] same = refl
 same_begins test [] [] (c ∷ other) same = absurd same
 same_begins test [] (b ∷ rest) [] same = absurd same
@@ -30,7 +32,8 @@ pub record Chosen {C : Type 0} (test : ℕ → Bool) (pieces : C → List Piece)
   pub no : (v : C) (t : List ℕ) → IsOther v → begins test (spell (pieces v) ++ t) ≡ false
 
 module _ {C : Type 0} {test : ℕ → Bool} {pieces : C → List Piece} {IsFirst IsOther IsShaped : C → Type 0} {one two : Reading C}
-    (first : Exact one IsFirst pieces) (other : Exact two IsOther pieces) (chosen : Chosen test pieces IsFirst IsOther IsShaped) where
+    (first : Exact one IsFirst pieces) (other : Exact two IsOther pieces)
+    (chosen : Chosen test pieces IsFirst IsOther IsShaped) where
   clash : (v w : C) (t u : List ℕ) → IsFirst v → IsOther w → spell (pieces v) ++ t ≡ spell (pieces w) ++ u → ⊥
   clash v w t u is_first is_other e =
       let yes = chosen.yes v t is_first in
@@ -38,19 +41,31 @@ module _ {C : Type 0} {test : ℕ → Bool} {pieces : C → List Piece} {IsFirst
       let both : begins test (spell (pieces v) ++ t) ≡ begins test (spell (pieces w) ++ u) = ap (begins test) e in
       cc
 
-  either_apart : (v w : C) (t u : List ℕ) → IsShaped v → IsShaped w → spell (pieces v) ++ t ≡ spell (pieces w) ++ u → (v ≡ w) × (t ≡ u)
+  either_apart : (v w : C) (t u : List ℕ) → IsShaped v → IsShaped w → spell (pieces v) ++ t ≡ spell (pieces w) ++ u →
+      (v ≡ w) × (t ≡ u)
   either_apart v w t u is_v is_w e =
       elim (chosen.separated v is_v) [
-        | inl v1 ↦ elim (chosen.separated w is_w) [ inl w1 ↦ first.apart v w t u v1 w1 e | inr w2 ↦ absurd (clash v w t u v1 w2 e) ]
-        | inr v2 ↦ elim (chosen.separated w is_w) [ inl w1 ↦ absurd (clash w v u t w1 v2 (sym e)) | inr w2 ↦ other.apart v w t u v2 w2 e ]
+        | inl v1 ↦ elim (chosen.separated w is_w) [
+          | inl w1 ↦ first.apart v w t u v1 w1 e
+          | inr w2 ↦ absurd
+              (clash v w t u v1 w2 e)
+        ]
+        | inr v2 ↦ elim (chosen.separated w is_w) [
+          | inl w1 ↦ absurd (clash w v u t w1 v2 (sym e))
+          | inr w2 ↦ other.apart v w t u v2 w2 e
+        ]
       ]
 
-  either_takes : (text : List ℕ) (v : C) (rest : List ℕ) (b : Bool) → cond b (one text) (two text) ≡ got v rest → Takes IsShaped pieces text v rest
-  either_takes text v rest true e = let p = first.takes text v rest e in record { shaped = chosen.first v p.shaped; within = p.within; parts = p.parts }
-  either_takes text v rest false e = let p = other.takes text v rest e in record { shaped = chosen.other v p.shaped; within = p.within; parts = p.parts }
+  either_takes : (text : List ℕ) (v : C) (rest : List ℕ) (b : Bool) → cond b (one text) (two text) ≡ got v rest →
+      Takes IsShaped pieces text v rest
+  either_takes text v rest true e = let p = first.takes text v rest e in
+      record { shaped = chosen.first v p.shaped; within = p.within; parts = p.parts }
+  either_takes text v rest false e = let p = other.takes text v rest e in
+      record { shaped = chosen.other v p.shaped; within = p.within; parts = p.parts }
 
   -- a value of the other kind begins with another character
-  first_ends : (prefix rest : List ℕ) (v : C) (after other : List ℕ) → begins test (prefix ++ rest) ≡ true → IsOther v → SameStart rest other
+  first_ends : (prefix rest : List ℕ) (v : C) (after other : List ℕ) → begins test (prefix ++ rest) ≡ true → IsOther v →
+      SameStart rest other
       → spell (pieces v) ++ after ≡ prefix ++ other → ⊥
   first_ends prefix rest v after other begun is_other same e =
       let no = chosen.no v after is_other in
@@ -58,7 +73,8 @@ module _ {C : Type 0} {test : ℕ → Bool} {pieces : C → List Piece} {IsFirst
       let both : begins test (spell (pieces v) ++ after) ≡ begins test (prefix ++ other) = ap (begins test) e in
       cc
 
-  other_ends : (prefix rest : List ℕ) (v : C) (after other : List ℕ) → begins test (prefix ++ rest) ≡ false → IsFirst v → SameStart rest other
+  other_ends : (prefix rest : List ℕ) (v : C) (after other : List ℕ) → begins test (prefix ++ rest) ≡ false → IsFirst v →
+      SameStart rest other
       → spell (pieces v) ++ after ≡ prefix ++ other → ⊥
   other_ends prefix rest v after other begun is_first same e =
       let yes = chosen.yes v after is_first in
@@ -66,7 +82,8 @@ module _ {C : Type 0} {test : ℕ → Bool} {pieces : C → List Piece} {IsFirst
       let both : begins test (spell (pieces v) ++ after) ≡ begins test (prefix ++ other) = ap (begins test) e in
       cc
 
-  either_wrong : (text : List ℕ) (left : ℕ) (b : Bool) → begins test text ≡ b → cond b (one text) (two text) ≡ wrong left → Stuck IsShaped pieces text left
+  either_wrong : (text : List ℕ) (left : ℕ) (b : Bool) → begins test text ≡ b → cond b (one text) (two text) ≡ wrong left →
+      Stuck IsShaped pieces text left
   either_wrong text left true begun e =
       let stuck = first.wrong_at text left e in
       let begun' : begins test (stuck.prefix ++ stuck.rest) ≡ true = ap (begins test) (sym stuck.parts) ∙ begun in
@@ -104,7 +121,8 @@ module _ {C : Type 0} {test : ℕ → Bool} {pieces : C → List Piece} {IsFirst
             ];
       }
 
-  abbrev as_outside : (IsPart : C → Type 0) → ((v : C) → IsPart v → IsShaped v) → (text : List ℕ) (left : ℕ) → Outside IsPart pieces text left
+  abbrev as_outside : (IsPart : C → Type 0) → ((v : C) → IsPart v → IsShaped v) → (text : List ℕ) (left : ℕ) →
+      Outside IsPart pieces text left
       → Outside IsShaped pieces text left
   as_outside IsPart is text left out = record {
     value = out.value;
@@ -123,18 +141,22 @@ module _ {C : Type 0} {test : ℕ → Bool} {pieces : C → List Piece} {IsFirst
     count = out.count;
   }
 
-  either_outside : (text : List ℕ) (left : ℕ) (b : Bool) → cond b (one text) (two text) ≡ outside left → Outside IsShaped pieces text left
+  either_outside : (text : List ℕ) (left : ℕ) (b : Bool) → cond b (one text) (two text) ≡ outside left →
+      Outside IsShaped pieces text left
   either_outside text left true e = as_outside IsFirst chosen.first text left (first.outside_at text left e)
   either_outside text left false e = as_outside IsOther chosen.other text left (other.outside_at text left e)
 
   -- the text up to the number begins as the value's text does
-  begins_as : (text : List ℕ) (left : ℕ) (out : Outside IsShaped pieces text left) → begins test text ≡ begins test (spell (pieces out.value) ++ [])
+  begins_as : (text : List ℕ) (left : ℕ) (out : Outside IsShaped pieces text left) →
+      begins test text ≡ begins test (spell (pieces out.value) ++ [])
   begins_as text left out =
       ap (begins test) out.parts ∙ begins-numeral test (spell out.before) out.n out.tail (spell out.after ++ [])
-      ∙ ap (begins test) (sym (ap (λ (ps : List Piece). spell ps ++ []) out.split ∙ spell_two out.before (number out.low out.high out.n ∷ out.after) []
+      ∙ ap (begins test) (sym (ap (λ (ps : List Piece). spell ps ++ []) out.split ∙ spell_two out.before
+      (number out.low out.high out.n ∷ out.after) []
       ∙ ap (λ (t : List ℕ). spell out.before ++ t) (append_assoc (numeral out.n) (spell out.after) [])))
 
-  either_first_out : (text : List ℕ) (left : ℕ) → Outside IsShaped pieces text left → cond (begins test text) (one text) (two text) ≡ outside left
+  either_first_out : (text : List ℕ) (left : ℕ) → Outside IsShaped pieces text left →
+      cond (begins test text) (one text) (two text) ≡ outside left
   either_first_out text left out =
       elim (chosen.separated out.value out.shaped) [
         | inl is_first ↦
@@ -173,7 +195,8 @@ module _ {C : Type 0} {test : ℕ → Bool} {pieces : C → List Piece} {IsFirst
             }))
       ]
 
-  either_again : (v : C) (rest : List ℕ) → IsShaped v → AllWithin (pieces v) → cond (begins test (spell (pieces v) ++ rest)) (one (spell (pieces v) ++ rest))
+  either_again : (v : C) (rest : List ℕ) → IsShaped v → AllWithin (pieces v) →
+      cond (begins test (spell (pieces v) ++ rest)) (one (spell (pieces v) ++ rest))
       (two (spell (pieces v) ++ rest)) ≡ got v rest
   either_again v rest shaped within =
       elim (chosen.separated v shaped) [

@@ -41,7 +41,8 @@ pub record Outside {A : Type 0} (IsShaped : A → Type 0) (pieces : A → List P
   pub count : length (numeral n ++ tail) ≡ left
 
 -- what was read is such a text, within the ranges
-pub record Takes {A : Type 0} (IsShaped : A → Type 0) (pieces : A → List Piece) (text : List ℕ) (v : A) (rest : List ℕ) : Type 0 where
+pub record Takes {A : Type 0} (IsShaped : A → Type 0) (pieces : A →
+    List Piece) (text : List ℕ) (v : A) (rest : List ℕ) : Type 0 where
   pub shaped : IsShaped v
   pub within : AllWithin (pieces v)
   pub parts : text ≡ spell (pieces v) ++ rest
@@ -51,7 +52,8 @@ pub record Exact {A : Type 0} (read : Reading A) (IsShaped : A → Type 0) (piec
   pub some : A
   pub some_shaped : IsShaped some
   -- no two values have one text, and no text is a proper prefix of another
-  pub apart : (v w : A) (t u : List ℕ) → IsShaped v → IsShaped w → spell (pieces v) ++ t ≡ spell (pieces w) ++ u → (v ≡ w) × (t ≡ u)
+  pub apart : (v w : A) (t u : List ℕ) → IsShaped v → IsShaped w → spell (pieces v) ++ t ≡ spell (pieces w) ++ u →
+      (v ≡ w) × (t ≡ u)
   -- what is read is such a text, and what is such a text is read
   pub takes : (text : List ℕ) (v : A) (rest : List ℕ) → read text ≡ got v rest → Takes IsShaped pieces text v rest
   pub again : (v : A) (rest : List ℕ) → IsShaped v → AllWithin (pieces v) → read (spell (pieces v) ++ rest) ≡ got v rest

@@ -63,7 +63,8 @@ module _ (low high : ℕ) {possible : ℕ → Bool} {allowed : ℕ → ℕ → B
   NumberAnswer text (outside left) = Outside IsEnded pieces text left
 
   -- no such number begins here
-  stuck_here : (text : List ℕ) → ((n e : ℕ) (after other : List ℕ) → allowed n e ≡ true → SameStart text other → numeral n ++ (e ∷ after) ≡ other → ⊥)
+  stuck_here : (text : List ℕ) → ((n e : ℕ) (after other : List ℕ) → allowed n e ≡ true → SameStart text other →
+      numeral n ++ (e ∷ after) ≡ other → ⊥)
       → Stuck IsEnded pieces text (length text)
   stuck_here text ends =
       let p = rule.longer 1 (omega arith) in
@@ -81,9 +82,11 @@ module _ (low high : ℕ) {possible : ℕ → Bool} {allowed : ℕ → ℕ → B
       }
 
   -- the number is read, and nothing goes on as the rest does
-  stuck_after : (text : List ℕ) (n : ℕ) (rest : List ℕ) (m e : ℕ) (more : List ℕ) → text ≡ numeral n ++ rest → IsPastDigits rest → allowed m e ≡ true
+  stuck_after : (text : List ℕ) (n : ℕ) (rest : List ℕ) (m e : ℕ) (more : List ℕ) → text ≡ numeral n ++ rest →
+      IsPastDigits rest → allowed m e ≡ true
       → numeral m ≡ numeral n ++ more
-      → ((e : ℕ) (after other : List ℕ) → allowed n e ≡ true → SameStart rest other → e ∷ after ≡ other → ⊥) → Stuck IsEnded pieces text (length rest)
+      → ((e : ℕ) (after other : List ℕ) → allowed n e ≡ true → SameStart rest other → e ∷ after ≡ other → ⊥) →
+      Stuck IsEnded pieces text (length rest)
   stuck_after text n rest m e more parts past shaped longer ends = record {
     prefix = numeral n;
     rest = rest;
@@ -94,12 +97,14 @@ module _ (low high : ℕ) {possible : ℕ → Bool} {allowed : ℕ → ℕ → B
     shaped = shaped;
     begins = ap (λ (t : List ℕ). t ++ (e ∷ [])) longer ∙ append_assoc (numeral n) more (e ∷ []);
     ends = λ v after other shaped same is.
-        let g = same_number v.0 n (v.1 ∷ after) other (rule.not_digit v.0 v.1 shaped) (past_same rest other same past) (sym (spelled v.0 v.1 after) ∙ is) in
+        let g = same_number v.0 n (v.1 ∷ after) other (rule.not_digit v.0 v.1 shaped) (past_same rest other same past)
+        (sym (spelled v.0 v.1 after) ∙ is) in
         let P : ℕ → Type 0 = λ k. allowed k v.1 ≡ true in
         ends v.1 after other (subst P g.0 shaped) same g.1;
   }
 
-  no_end_follows : (n : ℕ) (rest : List ℕ) → possible n ≡ false → (e : ℕ) (after other : List ℕ) → allowed n e ≡ true → SameStart rest other
+  no_end_follows : (n : ℕ) (rest : List ℕ) → possible n ≡ false → (e : ℕ) (after other : List ℕ) → allowed n e ≡ true →
+      SameStart rest other
       → e ∷ after ≡ other → ⊥
   no_end_follows n rest impossible e after other shaped same is = rule.no_end n e impossible shaped
 
@@ -107,7 +112,8 @@ module _ (low high : ℕ) {possible : ℕ → Bool} {allowed : ℕ → ℕ → B
   no_end_at_end n e after [] shaped same is = cc
   no_end_at_end n e after (c ∷ other) shaped same is = same
 
-  no_such_end : (n c : ℕ) (rest : List ℕ) → allowed n c ≡ false → (e : ℕ) (after other : List ℕ) → allowed n e ≡ true → SameStart (c ∷ rest) other
+  no_such_end : (n c : ℕ) (rest : List ℕ) → allowed n c ≡ false → (e : ℕ) (after other : List ℕ) → allowed n e ≡ true →
+      SameStart (c ∷ rest) other
       → e ∷ after ≡ other → ⊥
   no_such_end n c rest refused e after [] shaped same is = same
   no_such_end n c rest refused e after (d ∷ other) shaped same is =
@@ -115,7 +121,8 @@ module _ (low high : ℕ) {possible : ℕ → Bool} {allowed : ℕ → ℕ → B
       let this : allowed n c ≡ allowed n e = ap (allowed n) (same ∙ sym head) in
       cc
 
-  ended_answer : (text : List ℕ) (n : ℕ) (rest : List ℕ) → text ≡ numeral n ++ rest → IsPastDigits rest → possible n ≡ true → low ≤ n → n ≤ high
+  ended_answer : (text : List ℕ) (n : ℕ) (rest : List ℕ) → text ≡ numeral n ++ rest → IsPastDigits rest → possible n ≡ true →
+      low ≤ n → n ≤ high
       → NumberAnswer text (ended allowed n rest)
   ended_answer text n [] parts past can least most =
       let end = rule.some_end n can in
@@ -126,19 +133,27 @@ module _ (low high : ℕ) {possible : ℕ → Bool} {allowed : ℕ → ℕ → B
       elim (cases_Bool (allowed n c)) [
         | inl ends ↦
             let is : ended allowed n (c ∷ rest) ≡ got (pair n c) rest = rw ends refl in
-            subst P (sym is) (record { shaped = ends; within = ((least, most), (tt, tt)); parts = parts ∙ sym (spelled n c rest) })
+            subst P (sym is) (record {
+              shaped = ends;
+              within = ((least, most), (tt, tt));
+              parts =
+                  parts ∙ sym (spelled n c rest);
+            })
         | inr refused ↦
             let is : ended allowed n (c ∷ rest) ≡ wrong (suc (length rest)) = rw refused refl in
-            subst P (sym is) (stuck_after text n (c ∷ rest) n end.0 [] parts past end.1 (sym (append-nil (numeral n))) (no_such_end n c rest refused))
+            subst P (sym is) (stuck_after text n (c ∷ rest) n end.0 [] parts past end.1 (sym (append-nil (numeral n)))
+            (no_such_end n c rest refused))
       ]
 
   in_range : (n : ℕ) → (leb low n && leb n high) ≡ true → (low ≤ n) × (n ≤ high)
   in_range n e = let p = and_parts _ _ e in (leb-true _ _ p.0, leb-true _ _ p.1)
 
   not_in_range : (n : ℕ) → (leb low n && leb n high) ≡ false → IsWithin (number low high n) → ⊥
-  not_in_range n e within = let both : (leb low n && leb n high) ≡ true = and_from _ _ (le-leb _ _ within.0) (le-leb _ _ within.1) in cc
+  not_in_range n e within = let both : (leb low n && leb n high) ≡ true =
+      and_from _ _ (le-leb _ _ within.0) (le-leb _ _ within.1) in cc
 
-  run_answer : (text : List ℕ) (n : ℕ) (rest : List ℕ) → text ≡ numeral n ++ rest → IsPastDigits rest → (possible n ≡ false → 0 < n)
+  run_answer : (text : List ℕ) (n : ℕ) (rest : List ℕ) → text ≡ numeral n ++ rest → IsPastDigits rest →
+      (possible n ≡ false → 0 < n)
       → NumberAnswer text (run_ended low high possible allowed (length text) n rest)
   run_answer text n rest parts past positive =
       let P : Answer (ℕ × ℕ) → Type 0 = NumberAnswer text in
@@ -147,11 +162,13 @@ module _ (low high : ℕ) {possible : ℕ → Bool} {allowed : ℕ → ℕ → B
             elim (cases_Bool (leb low n && leb n high)) [
               | inl within ↦
                   let range = in_range n within in
-                  let is : run_ended low high possible allowed (length text) n rest ≡ ended allowed n rest = rw (can, within) refl in
+                  let is : run_ended low high possible allowed (length text) n rest ≡ ended allowed n rest =
+                  rw (can, within) refl in
                   subst P (sym is) (ended_answer text n rest parts past can range.0 range.1)
               | inr beyond ↦
                   let end = rule.some_end n can in
-                  let is : run_ended low high possible allowed (length text) n rest ≡ outside (length text) = rw (can, beyond) refl in
+                  let is : run_ended low high possible allowed (length text) n rest ≡ outside (length text) =
+                  rw (can, beyond) refl in
                   subst P (sym is) (record {
                     value = pair n end.0;
                     shaped = end.1;
@@ -173,10 +190,12 @@ module _ (low high : ℕ) {possible : ℕ → Bool} {allowed : ℕ → ℕ → B
             let is : run_ended low high possible allowed (length text) n rest ≡ wrong (length rest) = rw impossible refl in
             let longer = rule.longer n (positive impossible) in
             let end = rule.some_end longer.0 longer.2 in
-            subst P (sym is) (stuck_after text n rest longer.0 end.0 longer.1 parts past end.1 longer.3 (no_end_follows n rest impossible))
+            subst P (sym is) (stuck_after text n rest longer.0 end.0 longer.1 parts past end.1 longer.3
+            (no_end_follows n rest impossible))
       ]
 
-  not_a_digit : (c : ℕ) (text : List ℕ) → is_ascii_digit c ≡ false → (n e : ℕ) (after other : List ℕ) → allowed n e ≡ true → SameStart (c ∷ text) other
+  not_a_digit : (c : ℕ) (text : List ℕ) → is_ascii_digit c ≡ false → (n e : ℕ) (after other : List ℕ) → allowed n e ≡ true →
+      SameStart (c ∷ text) other
       → numeral n ++ (e ∷ after) ≡ other → ⊥
   not_a_digit c text other_sign n e after [] shaped same is = same
   not_a_digit c text other_sign n e after (d ∷ other) shaped same is =
@@ -194,7 +213,8 @@ module _ (low high : ℕ) {possible : ℕ → Bool} {allowed : ℕ → ℕ → B
       cc
   nothing_left n e after (d ∷ other) shaped same is = same
 
-  no_zero : (text : List ℕ) → possible 0 ≡ false → (n e : ℕ) (after other : List ℕ) → allowed n e ≡ true → SameStart (48 ∷ text) other
+  no_zero : (text : List ℕ) → possible 0 ≡ false → (n e : ℕ) (after other : List ℕ) → allowed n e ≡ true →
+      SameStart (48 ∷ text) other
       → numeral n ++ (e ∷ after) ≡ other → ⊥
   no_zero text impossible n e after [] shaped same is = same
   no_zero text impossible zero e after (d ∷ other) shaped same is = rule.no_end 0 e impossible shaped
@@ -204,7 +224,8 @@ module _ (low high : ℕ) {possible : ℕ → Bool} {allowed : ℕ → ℕ → B
       let head : p.0 ≡ d = cc in
       p.4 (omega arith) (head ∙ sym same)
 
-  zero_goes_on : (c : ℕ) (text : List ℕ) → is_ascii_digit c ≡ true → (e : ℕ) (after other : List ℕ) → allowed 0 e ≡ true → SameStart (c ∷ text) other
+  zero_goes_on : (c : ℕ) (text : List ℕ) → is_ascii_digit c ≡ true → (e : ℕ) (after other : List ℕ) → allowed 0 e ≡ true →
+      SameStart (c ∷ text) other
       → e ∷ after ≡ other → ⊥
   zero_goes_on c text digit e after [] shaped same is = same
   zero_goes_on c text digit e after (d ∷ other) shaped same is =
@@ -217,7 +238,8 @@ module _ (low high : ℕ) {possible : ℕ → Bool} {allowed : ℕ → ℕ → B
   zero_text text = ap (λ (ds : List ℕ). ds ++ text) (sym (numeral_small 0 (omega arith)))
 
   -- A zero that a digit follows: the fault is at that digit.
-  stuck_at_digit : (text : List ℕ) → possible 0 ≡ true → begins is_ascii_digit text ≡ true → Stuck IsEnded pieces (48 ∷ text) (length text)
+  stuck_at_digit : (text : List ℕ) → possible 0 ≡ true → begins is_ascii_digit text ≡ true →
+      Stuck IsEnded pieces (48 ∷ text) (length text)
   stuck_at_digit [] can digit = absurd cc
   stuck_at_digit (c ∷ text) can digit =
       let end = rule.some_end 0 can in
@@ -230,10 +252,12 @@ module _ (low high : ℕ) {possible : ℕ → Bool} {allowed : ℕ → ℕ → B
         more = end.0 ∷ [];
         shaped = end.1;
         begins = sym (zero_text (end.0 ∷ []));
-        ends = λ v after other shaped same is. zero_then c text digit v.0 v.1 after other shaped same (sym (spelled v.0 v.1 after) ∙ is);
+        ends = λ v after other shaped same is. zero_then c text digit v.0 v.1 after other shaped same
+            (sym (spelled v.0 v.1 after) ∙ is);
       }
     where
-      zero_then : (c : ℕ) (text : List ℕ) → is_ascii_digit c ≡ true → (n e : ℕ) (after other : List ℕ) → allowed n e ≡ true → SameStart (c ∷ text) other
+      zero_then : (c : ℕ) (text : List ℕ) → is_ascii_digit c ≡ true → (n e : ℕ) (after other : List ℕ) → allowed n e ≡ true →
+          SameStart (c ∷ text) other
           → numeral n ++ (e ∷ after) ≡ 48 ∷ other → ⊥
       zero_then c text digit zero e after other shaped same is =
           let both : 48 ∷ (e ∷ after) ≡ 48 ∷ other = zero_text (e ∷ after) ∙ is in
@@ -255,11 +279,14 @@ module _ (low high : ℕ) {possible : ℕ → Bool} {allowed : ℕ → ℕ → B
                   let is : zero_ended low high possible allowed text ≡ wrong (length text) = rw (can, digit) refl in
                   subst P (sym is) (stuck_at_digit text can digit)
               | inr alone ↦
-                  let is : zero_ended low high possible allowed text ≡ run_ended low high possible allowed (length (48 ∷ text)) 0 text =
+                  let is : zero_ended low high possible allowed text ≡ run_ended low high possible allowed (length (48 ∷ text))
+                  0 text =
                   ap (λ (b : Bool). cond b (cond (begins is_ascii_digit text) (wrong (length text))
                   (run_ended low high possible allowed (suc (length text)) 0 text)) (wrong (suc (length text)))) can
-                  ∙ ap (λ (b : Bool). cond b (wrong (length text)) (run_ended low high possible allowed (suc (length text)) 0 text)) alone in
-                  subst P (sym is) (run_answer (48 ∷ text) 0 text (zero_text text) (past_from text alone) (λ impossible. absurd cc))
+                  ∙ ap (λ (b : Bool). cond b (wrong (length text))
+                  (run_ended low high possible allowed (suc (length text)) 0 text)) alone in
+                  subst P (sym is) (run_answer (48 ∷ text) 0 text (zero_text text) (past_from text alone)
+                  (λ impossible. absurd cc))
             ]
         | inr impossible ↦
             let is : zero_ended low high possible allowed text ≡ wrong (suc (length text)) = rw impossible refl in
@@ -267,7 +294,8 @@ module _ (low high : ℕ) {possible : ℕ → Bool} {allowed : ℕ → ℕ → B
       ]
 
   -- a digit that is not 0 begins a whole run
-  run_parts : (c : ℕ) (text : List ℕ) → is_ascii_digit c ≡ true → (c ≡ 48 → ⊥) → c ∷ text ≡ numeral ((read_run (c - 48) text).0) ++ (read_run (c - 48) text).1
+  run_parts : (c : ℕ) (text : List ℕ) → is_ascii_digit c ≡ true → (c ≡ 48 → ⊥) →
+      c ∷ text ≡ numeral ((read_run (c - 48) text).0) ++ (read_run (c - 48) text).1
   run_parts c text digit nonzero =
       let range = digit_range c digit in
       let first : numeral (c - 48) ≡ c ∷ [] = numeral_small (c - 48) (omega arith) ∙ ap (λ (k : ℕ). k ∷ []) (omega arith) in
@@ -283,14 +311,16 @@ module _ (low high : ℕ) {possible : ℕ → Bool} {allowed : ℕ → ℕ → B
             elim (cases_Bool (eqb c 48)) [
               | inl is_zero ↦
                   let c-is : c ≡ 48 = eqb-true c 48 is_zero in
-                  let is : number_at low high possible allowed (c ∷ text) ≡ zero_ended low high possible allowed text = rw (digit, is_zero) refl in
+                  let is : number_at low high possible allowed (c ∷ text) ≡ zero_ended low high possible allowed text =
+                  rw (digit, is_zero) refl in
                   let Q : ℕ → Type 0 = λ d. NumberAnswer (d ∷ text) (zero_ended low high possible allowed text) in
                   subst P (sym is) (subst Q (sym c-is) (zero_answer text))
               | inr nonzero ↦
                   let range = digit_range c digit in
                   let differs = eqb-false c 48 nonzero in
                   let gives = run_gives (c - 48) text (omega arith) in
-                  let is : number_at low high possible allowed (c ∷ text) ≡ run_ended low high possible allowed (suc (length text))
+                  let is : number_at low high possible allowed (c ∷ text) ≡ run_ended low high possible allowed
+                  (suc (length text))
                   ((read_run (c - 48) text).0) ((read_run (c - 48) text).1) = rw (digit, nonzero) refl in
                   subst P (sym is) (run_answer (c ∷ text) ((read_run (c - 48) text).0) ((read_run (c - 48) text).1)
                   (run_parts c text digit differs) gives.past (λ _. omega (arith, gives.least)))
@@ -308,13 +338,16 @@ module _ (low high : ℕ) {possible : ℕ → Bool} {allowed : ℕ → ℕ → B
 
   -- a whole number that may stand here is read
   number_run : (n : ℕ) (rest : List ℕ) → IsPastDigits rest → possible n ≡ true
-      → number_at low high possible allowed (numeral n ++ rest) ≡ run_ended low high possible allowed (length (numeral n ++ rest)) n rest
+      → number_at low high possible allowed (numeral n ++ rest) ≡ run_ended low high possible allowed
+      (length (numeral n ++ rest)) n rest
   unfolding number_at
   number_run zero rest past can =
-      let P : List ℕ → Type 0 = λ ds. number_at low high possible allowed (ds ++ rest) ≡ run_ended low high possible allowed (length (ds ++ rest)) 0 rest in
+      let P : List ℕ → Type 0 = λ ds. number_at low high possible allowed (ds ++ rest) ≡ run_ended low high possible allowed
+      (length (ds ++ rest)) 0 rest in
       let none = past_begins rest past in
       subst P (sym (numeral_small 0 (omega arith)))
-      (ap (λ (b : Bool). cond b (cond (begins is_ascii_digit rest) (wrong (length rest)) (run_ended low high possible allowed (suc (length rest)) 0 rest))
+      (ap (λ (b : Bool). cond b (cond (begins is_ascii_digit rest) (wrong (length rest))
+      (run_ended low high possible allowed (suc (length rest)) 0 rest))
       (wrong (suc (length rest)))) can
       ∙ ap (λ (b : Bool). cond b (wrong (length rest)) (run_ended low high possible allowed (suc (length rest)) 0 rest)) none)
   number_run (suc n) rest past can =
@@ -328,20 +361,25 @@ module _ (low high : ℕ) {possible : ℕ → Bool} {allowed : ℕ → ℕ → B
       let P : List ℕ → Type 0 = λ ds. number_at low high possible allowed (ds ++ rest)
       ≡ run_ended low high possible allowed (length (ds ++ rest)) (suc n) rest in
       subst P (sym p.2)
-      (rw (p.3, ne_eqb p.0 48 nonzero) (ap (λ (r : ℕ × List ℕ). run_ended low high possible allowed (suc (length (p.1 ++ rest))) (r.0) (r.1)) run))
+      (rw (p.3, ne_eqb p.0 48 nonzero) (ap (λ (r : ℕ × List ℕ). run_ended low high possible allowed (suc (length (p.1 ++ rest)))
+      (r.0) (r.1)) run))
 
   can_be : (n e : ℕ) → allowed n e ≡ true → possible n ≡ true
   can_be n e ends = elim (cases_Bool (possible n)) [ inl can ↦ can | inr impossible ↦ absurd (rule.no_end n e impossible ends) ]
 
-  number_again : (x : ℕ × ℕ) (rest : List ℕ) → IsEnded x → AllWithin (pieces x) → number_at low high possible allowed (spell (pieces x) ++ rest) ≡ got x rest
+  number_again : (x : ℕ × ℕ) (rest : List ℕ) → IsEnded x → AllWithin (pieces x) →
+      number_at low high possible allowed (spell (pieces x) ++ rest) ≡ got x rest
   number_again x rest ends within =
       let can = can_be x.0 x.1 ends in
       let inside : (leb low x.0 && leb x.0 high) ≡ true = and_from _ _ (le-leb _ _ within.0.0) (le-leb _ _ within.0.1) in
-      ap (number_at low high possible allowed) (spelled x.0 x.1 rest) ∙ number_run x.0 (x.1 ∷ rest) (rule.not_digit x.0 x.1 ends) can
+      ap (number_at low high possible allowed) (spelled x.0 x.1 rest) ∙ number_run x.0 (x.1 ∷ rest)
+      (rule.not_digit x.0 x.1 ends) can
       ∙ rw (can, inside, ends) refl
 
-  number_first_out : (text : List ℕ) (left : ℕ) → Outside IsEnded pieces text left → number_at low high possible allowed text ≡ outside left
-  number_first_out text left out = at_number text left out.value out.shaped out.before out.low out.high out.n out.after out.tail out.split out.beyond
+  number_first_out : (text : List ℕ) (left : ℕ) → Outside IsEnded pieces text left →
+      number_at low high possible allowed text ≡ outside left
+  number_first_out text left out = at_number text left out.value out.shaped out.before out.low out.high out.n out.after out.tail
+      out.split out.beyond
       out.parts out.past out.count
     where
       refused : (l h n : ℕ) → low ≡ l → high ≡ h → (IsWithin (number l h n) → ⊥) → (leb low n && leb n high) ≡ false
@@ -351,9 +389,11 @@ module _ (low high : ℕ) {possible : ℕ → Bool} {allowed : ℕ → ℕ → B
             | inr beyond' ↦ beyond'
           ]
 
-      at_number : (text : List ℕ) (left : ℕ) (x : ℕ × ℕ) → IsEnded x → (before : List Piece) (l h n : ℕ) (after : List Piece) (tail : List ℕ)
+      at_number : (text : List ℕ) (left : ℕ) (x : ℕ × ℕ) → IsEnded x →
+          (before : List Piece) (l h n : ℕ) (after : List Piece) (tail : List ℕ)
           → pieces x ≡ before ++ number l h n ∷ after
-          → (IsWithin (number l h n) → ⊥) → text ≡ spell before ++ (numeral n ++ tail) → IsPastDigits tail → length (numeral n ++ tail) ≡ left
+          → (IsWithin (number l h n) → ⊥) → text ≡ spell before ++ (numeral n ++ tail) → IsPastDigits tail →
+          length (numeral n ++ tail) ≡ left
           → number_at low high possible allowed text ≡ outside left
       at_number text left x ends [] l h n after tail split beyond parts past count =
           let low-is : low ≡ l = cc in
@@ -361,12 +401,14 @@ module _ (low high : ℕ) {possible : ℕ → Bool} {allowed : ℕ → ℕ → B
           let n-is : x.0 ≡ n = cc in
           let can : possible n ≡ true = ap possible (sym n-is) ∙ can_be x.0 x.1 ends in
           let out : (leb low n && leb n high) ≡ false = refused l h n low-is high-is beyond in
-          ap (number_at low high possible allowed) parts ∙ number_run n tail past can ∙ rw (can, out) (ap (λ (k : ℕ). outside k) count)
+          ap (number_at low high possible allowed) parts ∙ number_run n tail past can ∙ rw (can, out)
+          (ap (λ (k : ℕ). outside k) count)
       at_number text left x ends (p ∷ before) l h n after tail split beyond parts past count =
           let rest : character x.1 ∷ [] ≡ before ++ number l h n ∷ after = cc in
           absurd (no_number (x.1 ∷ []) before after l h n rest)
 
-  number_apart : (v w : ℕ × ℕ) (t u : List ℕ) → IsEnded v → IsEnded w → spell (pieces v) ++ t ≡ spell (pieces w) ++ u → (v ≡ w) × (t ≡ u)
+  number_apart : (v w : ℕ × ℕ) (t u : List ℕ) → IsEnded v → IsEnded w → spell (pieces v) ++ t ≡ spell (pieces w) ++ u →
+      (v ≡ w) × (t ≡ u)
   number_apart v w t u one two e =
       let g = same_number v.0 w.0 (v.1 ∷ t) (w.1 ∷ u) (rule.not_digit v.0 v.1 one) (rule.not_digit w.0 w.1 two)
       (sym (spelled v.0 v.1 t) ∙ e ∙ spelled w.0 w.1 u) in

@@ -1,5 +1,6 @@
 -- The first digit of a numeral, and numerals that go on with more digits.
-use Rattle.std.proofs.Common.{◌≡◌, ℕ, zero, suc, ◌+◌, ◌*◌, ◌%◌, ◌≤◌, ◌<◌, true, List, [], ◌∷◌, ◌++◌, refl, sym, ap, ◌∙◌, arith, append_assoc}
+use Rattle.std.proofs.Common.{◌≡◌, ℕ, zero, suc, ◌+◌, ◌*◌, ◌%◌, ◌≤◌, ◌<◌, true, List, [], ◌∷◌, ◌++◌, refl, sym, ap, ◌∙◌, arith}
+use Rattle.std.proofs.Common.{append_assoc}
 use Rattle.std.proofs.lemmas.List.{append-nil}
 use Rattle.std.specs.Char.{is_ascii_digit}
 use Rattle.tl_cert.specs.Pieces.{numeral}
@@ -13,7 +14,13 @@ pub numeral_first : (n : ℕ) → HasFirst n (numeral n)
 numeral_first n =
     numeral_by_steps HasFirst
     (λ m small. (48 + m, [], refl, digit_is (48 + m) (omega arith) (omega arith), λ positive e. omega arith))
-    (λ m ds large p. (p.0, p.1 ++ ((48 + m % 10) ∷ []), ap (λ (t : List ℕ). t ++ ((48 + m % 10) ∷ [])) p.2, p.3, λ positive e. p.4 (omega arith) e))
+    (λ m ds large p. (
+      p.0,
+      p.1 ++ ((48 + m % 10) ∷ []),
+      ap (λ (t : List ℕ). t ++ ((48 + m % 10) ∷ [])) p.2,
+      p.3,
+      λ positive e. p.4 (omega arith) e,
+    ))
     n
 
 -- with enough digits more a number above 0 passes any other

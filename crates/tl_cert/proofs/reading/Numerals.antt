@@ -1,5 +1,6 @@
 -- The canonical decimal of a number, however great: its steps, its digits, and its value.
-use Rattle.std.proofs.Common.{◌≡◌, ℕ, zero, suc, ◌+◌, ◌*◌, ◌/◌, ◌%◌, ◌≤◌, ◌<◌, true, List, [], ◌∷◌, ◌++◌, refl, sym, ap, ◌∙◌, inl, inr, arith}
+use Rattle.std.proofs.Common.{◌≡◌, ℕ, zero, suc, ◌+◌, ◌*◌, ◌/◌, ◌%◌, ◌≤◌, ◌<◌, true, List, [], ◌∷◌, ◌++◌, refl, sym, ap, ◌∙◌, inl}
+use Rattle.std.proofs.Common.{inr, arith}
 use Rattle.std.specs.Char.{is_ascii_digit}
 use Rattle.std.proofs.lemmas.Bool.{cases_lt, lt-ltb, le-ltb, le-leb, leb-true, and_parts, and_from}
 use Rattle.tl_cert.specs.Pieces.{numeral, numeral_within}
@@ -18,7 +19,8 @@ within_more (suc k) zero n hk hj = within_small (suc k) n (omega arith) ∙ sym 
 within_more (suc k) (suc j) n hk hj =
     elim (cases_lt n 10) [
       | inl small ↦ within_small (suc k) n small ∙ sym (within_small (suc j) n small)
-      | inr large ↦ within_step k n large ∙ ap (λ (ds : List ℕ). ds ++ (48 + n % 10) ∷ []) (within_more k j (n / 10) (omega arith) (omega arith))
+      | inr large ↦ within_step k n large ∙ ap (λ (ds : List ℕ). ds ++ (48 + n % 10) ∷ [])
+          (within_more k j (n / 10) (omega arith) (omega arith))
           ∙ sym (within_step j n large)
     ]
 
@@ -46,7 +48,8 @@ by_steps_within P one more zero n h = rw (numeral_small n (omega arith)) (one n 
 by_steps_within P one more (suc k) n h =
     elim (cases_lt n 10) [
       | inl small ↦ rw (numeral_small n small) (one n small)
-      | inr large ↦ rw (numeral_step n large) (more n (numeral (n / 10)) large (by_steps_within P one more k (n / 10) (omega arith)))
+      | inr large ↦ rw (numeral_step n large) (more n (numeral (n / 10)) large
+          (by_steps_within P one more k (n / 10) (omega arith)))
     ]
 
 pub numeral_by_steps : (P : ℕ → List ℕ → Type 0) (one : (n : ℕ) → n < 10 → P n ((48 + n) ∷ []))

@@ -28,9 +28,11 @@ tested true false true x start n rest next is = sym (is refl)
 tested true false false x start n rest next is = refl
 tested false within above x start n rest next is = refl
 
-zero_tested : (can digit within above : Bool) (x : Answer (ℕ × ℕ)) (left : ℕ) (text : List ℕ) (next : ℕ → Reading (ℕ × ℕ)) → above ≡ true
+zero_tested : (can digit within above : Bool) (x : Answer (ℕ × ℕ)) (left : ℕ) (text : List ℕ) (next : ℕ → Reading (ℕ × ℕ)) →
+    above ≡ true
     → next 0 text ≡ cond within x (outside (suc left))
-    → cond can (cond digit (wrong left) (cond can (cond (within && above) x (outside (suc left))) (wrong left))) (wrong (suc left))
+    → cond can (cond digit (wrong left) (cond can (cond (within && above) x (outside (suc left))) (wrong left)))
+    (wrong (suc left))
     ≡ then_read (cond can (cond digit (wrong left) (got 0 text)) (wrong (suc left))) next
 zero_tested true true within above x left text next holds is = refl
 zero_tested true false true true x left text next holds is = sym is
@@ -48,11 +50,13 @@ number_by_parts low high possible allowed (c ∷ text) =
       | inl digit ↦
           elim (cases_Bool (eqb c 48)) [
             | inl is_zero ↦ rw (digit, is_zero)
-                (zero_tested (possible 0) (begins is_ascii_digit text) (leb low 0) (leb 0 high) (ended allowed 0 text) (length text) text
+                (zero_tested (possible 0) (begins is_ascii_digit text) (leb low 0) (leb 0 high) (ended allowed 0 text)
+                (length text) text
                 (least_ended low allowed (suc (length text))) (le-leb 0 high (omega arith)) refl)
             | inr nonzero ↦ rw (digit, nonzero)
                 (let run = read_run (c - 48) text in
-                tested (possible run.0) (leb low run.0) (leb run.0 high) (ended allowed run.0 run.1) (suc (length text)) (run.0) (run.1)
+                tested (possible run.0) (leb low run.0) (leb run.0 high) (ended allowed run.0 run.1) (suc (length text)) (run.0)
+                (run.1)
                 (least_ended low allowed (suc (length text))) (λ _. refl))
           ]
       | inr other ↦ rw other refl
@@ -80,10 +84,12 @@ word_done word text i past = rw (drop_all i word past) refl
 pub ruleset word_steps = (word_more, word_stops, word_short, word_done)
 
 -- a run that is read digit by digit
-pub run_more : (n c : ℕ) (text rest : List ℕ) → text ≡ c ∷ rest → is_ascii_digit c ≡ true → read_run n text ≡ read_run (n * 10 + (c - 48)) rest
+pub run_more : (n c : ℕ) (text rest : List ℕ) → text ≡ c ∷ rest → is_ascii_digit c ≡ true →
+    read_run n text ≡ read_run (n * 10 + (c - 48)) rest
 run_more n c text rest is digit = ap (read_run n) is ∙ run_digit n c rest digit ∙ ap (λ (k : ℕ). read_run k rest) (omega arith)
 
 pub run_done : (n c : ℕ) (text rest : List ℕ) → text ≡ c ∷ rest → is_ascii_digit c ≡ false → (read_run n text).0 ≡ n
-run_done n c text rest is other = ap (λ (t : List ℕ). (read_run n t).0) is ∙ ap (λ (r : ℕ × List ℕ). r.0) (run_stops n (c ∷ rest) other)
+run_done n c text rest is other = ap (λ (t : List ℕ). (read_run n t).0) is ∙ ap (λ (r : ℕ × List ℕ). r.0)
+    (run_stops n (c ∷ rest) other)
 
 pub ruleset run_steps = (run_more, run_done, run-le)

@@ -1,5 +1,6 @@
 -- Runs of digits: what is read from them, and that numerals are read again.
-use Rattle.std.proofs.Common.{◌≡◌, ℕ, ◌+◌, ◌*◌, ◌-◌, ◌/◌, ◌%◌, ◌≤◌, ◌<◌, true, List, [], ◌∷◌, ◌++◌, refl, sym, ap, ◌∙◌, inl, inr, arith, append_assoc}
+use Rattle.std.proofs.Common.{◌≡◌, ℕ, ◌+◌, ◌*◌, ◌-◌, ◌/◌, ◌%◌, ◌≤◌, ◌<◌, true, List, [], ◌∷◌, ◌++◌, refl, sym, ap, ◌∙◌, inl, inr}
+use Rattle.std.proofs.Common.{arith, append_assoc}
 use Rattle.std.specs.Char.{is_ascii_digit}
 use Rattle.std.proofs.lemmas.Bool.{cases_Bool}
 use Rattle.tl_cert.specs.Pieces.{numeral, IsPastDigits}
@@ -17,9 +18,11 @@ run_stops n (c ∷ text) past = rw (past, read_run) refl
 pub run-numeral : (n : ℕ) (text : List ℕ) → read_run 0 (numeral n ++ text) ≡ read_run n text
 run-numeral n =
     numeral_by_steps (λ m ds. (text : List ℕ) → read_run 0 (ds ++ text) ≡ read_run m text)
-    (λ m small text. run_digit 0 (48 + m) text (digit_is (48 + m) (omega arith) (omega arith)) ∙ ap (λ (k : ℕ). read_run k text) (omega arith))
+    (λ m small text. run_digit 0 (48 + m) text (digit_is (48 + m) (omega arith) (omega arith)) ∙ ap (λ (k : ℕ). read_run k text)
+    (omega arith))
     (λ m ds large before text. ap (read_run 0) (append_assoc ds ((48 + m % 10) ∷ []) text) ∙ before ((48 + m % 10) ∷ text)
-    ∙ run_digit (m / 10) (48 + m % 10) text (digit_is (48 + m % 10) (omega arith) (omega arith)) ∙ ap (λ (k : ℕ). read_run k text) (omega arith))
+    ∙ run_digit (m / 10) (48 + m % 10) text (digit_is (48 + m % 10) (omega arith) (omega arith)) ∙ ap
+    (λ (k : ℕ). read_run k text) (omega arith))
     n
 
 -- what a run of digits gives, from a number above 0 on

@@ -4,15 +4,18 @@ use Rattle.tl_cert.specs.Pieces.{Piece, spell, AllWithin}
 use Rattle.tl_cert.specs.inner.reading.Readings.{got, Reading}
 use Rattle.tl_cert.proofs.reading.Exact.{Exact}
 
-pub exact_same : {C : Type 0} {read : Reading C} {IsShaped : C → Type 0} {pieces : C → List Piece} (IsAlso : C → Type 0) (others : C → List Piece)
-    → Exact read IsShaped pieces → ((v : C) → IsShaped v → IsAlso v) → ((v : C) → IsAlso v → IsShaped v) → ((v : C) → IsShaped v → pieces v ≡ others v)
+pub exact_same : {C : Type 0} {read : Reading C} {IsShaped : C → Type 0} {pieces : C → List Piece} (IsAlso : C →
+    Type 0) (others : C → List Piece)
+    → Exact read IsShaped pieces → ((v : C) → IsShaped v → IsAlso v) → ((v : C) → IsAlso v → IsShaped v) →
+    ((v : C) → IsShaped v → pieces v ≡ others v)
     → Exact read IsAlso others
 exact_same {read = read} IsAlso others exact to from same = record {
   some = exact.some;
   some_shaped = to exact.some exact.some_shaped;
   apart = λ v w t u one two e.
       exact.apart v w t u (from v one) (from w two)
-      (ap (λ (ps : List Piece). spell ps ++ t) (same v (from v one)) ∙ e ∙ ap (λ (ps : List Piece). spell ps ++ u) (sym (same w (from w two))));
+      (ap (λ (ps : List Piece). spell ps ++ t) (same v (from v one)) ∙ e ∙ ap (λ (ps : List Piece). spell ps ++ u)
+      (sym (same w (from w two))));
   takes = λ text v rest e.
       let p = exact.takes text v rest e in
       let P : List Piece → Type 0 = AllWithin in

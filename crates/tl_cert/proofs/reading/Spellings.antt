@@ -4,7 +4,8 @@ use Rattle.tl_cert.specs.Pieces.{Piece, spelling, spell, AllWithin}
 
 pub spell-append : (ps qs : List Piece) → spell (ps ++ qs) ≡ spell ps ++ spell qs
 spell-append [] qs = refl
-spell-append (p ∷ ps) qs = ap (λ (t : List ℕ). spelling p ++ t) (spell-append ps qs) ∙ sym (append_assoc (spelling p) (spell ps) (spell qs))
+spell-append (p ∷ ps) qs = ap (λ (t : List ℕ). spelling p ++ t) (spell-append ps qs) ∙ sym
+    (append_assoc (spelling p) (spell ps) (spell qs))
 
 -- the same before further characters
 pub spell_two : (ps qs : List Piece) (text : List ℕ) → spell (ps ++ qs) ++ text ≡ spell ps ++ (spell qs ++ text)
@@ -38,15 +39,23 @@ Lies ps qs before piece after = InFirst ps qs before piece after ⊎ InSecond ps
 
 further : (p : Piece) (ps qs before : List Piece) (piece : Piece) (after : List Piece) → Lies ps qs before piece after
     → Lies (p ∷ ps) qs (p ∷ before) piece after
-further p ps qs before piece after (inl first) = inl (record { others = first.others; parts = ap (λ (rs : List Piece). p ∷ rs) first.parts; rest = first.rest })
+further p ps qs before piece after (inl first) = inl (record {
+  others = first.others;
+  parts =
+      ap (λ (rs : List Piece). p ∷ rs) first.parts;
+  rest = first.rest;
+})
 further p ps qs before piece after (inr second) =
     inr (record { others = second.others; prefix = ap (λ (rs : List Piece). p ∷ rs) second.prefix; parts = second.parts })
 
-same_head : (p q : Piece) (ps qs before : List Piece) (piece : Piece) (after : List Piece) → p ≡ q → Lies (p ∷ ps) qs (p ∷ before) piece after
+same_head : (p q : Piece) (ps qs before : List Piece) (piece : Piece) (after : List Piece) → p ≡ q →
+    Lies (p ∷ ps) qs (p ∷ before) piece after
     → Lies (p ∷ ps) qs (q ∷ before) piece after
-same_head p q ps qs before piece after same lies = let P : Piece → Type 0 = λ r. Lies (p ∷ ps) qs (r ∷ before) piece after in subst P same lies
+same_head p q ps qs before piece after same lies = let P : Piece → Type 0 = λ r. Lies (p ∷ ps) qs (r ∷ before) piece after in
+    subst P same lies
 
-pub lies_in : (ps qs before : List Piece) (piece : Piece) (after : List Piece) → ps ++ qs ≡ before ++ piece ∷ after → Lies ps qs before piece after
+pub lies_in : (ps qs before : List Piece) (piece : Piece) (after : List Piece) → ps ++ qs ≡ before ++ piece ∷ after →
+    Lies ps qs before piece after
 lies_in [] qs before piece after parts = inr (record { others = before; prefix = refl; parts = parts })
 lies_in (p ∷ ps) qs [] piece after parts =
     let head : p ≡ piece = cc in

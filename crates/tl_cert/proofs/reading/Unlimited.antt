@@ -3,7 +3,8 @@ use Rattle.std.proofs.Common.{◌≡◌, ℕ, zero, suc, ◌+◌, ◌≤◌, ◌
 use Rattle.std.proofs.lemmas.List.{length-append}
 use Rattle.tl_cert.specs.Pieces.{Piece, spell, AllWithin}
 use Rattle.tl_cert.specs.inner.reading.Readings.{Answer, got, wrong, outside, Reading, then_read, followed, ◌>>=◌, give, either}
-use Rattle.tl_cert.specs.inner.reading.Lists.{Turn, halt, go, look, by_turn, ListReading, Listing, listing, stopping, list_at, all_at}
+use Rattle.tl_cert.specs.inner.reading.Lists.{Turn, halt, go, look, by_turn, ListReading, Listing, listing, stopping, list_at}
+use Rattle.tl_cert.specs.inner.reading.Lists.{all_at}
 use Rattle.tl_cert.proofs.reading.Spellings.{spell-append}
 use Rattle.tl_cert.proofs.reading.Exact.{SameStart, Stuck, Outside, Exact}
 use Rattle.tl_cert.proofs.reading.ListExact.{ListForm, IsListed, list_pieces, IsExactList, exact_list}
@@ -23,9 +24,11 @@ same_prefix (c ∷ a) (d ∷ b) x y e same =
 pub record IsUnlimited {S A V E : Type 0} (list : ListReading S A V E) (form : ListForm S A V E) : Type 0 where
   pub turn_same : (k j : ℕ) (s : S) → list.turn k s ≡ list.turn j s
   pub item_same : (k j : ℕ) (s : S) (text : List ℕ) → length text ≤ k → length text ≤ j → list.item k s text ≡ list.item j s text
-  pub shorter : (k : ℕ) (s : S) (text : List ℕ) (a : A) (rest : List ℕ) → list.item k s text ≡ got a rest → length rest < length text
+  pub shorter : (k : ℕ) (s : S) (text : List ℕ) (a : A) (rest : List ℕ) → list.item k s text ≡ got a rest →
+      length rest < length text
   pub item_more : (k j : ℕ) (s : S) (a : A) → k ≤ j → form.IsItem k s a → form.IsItem j s a
-  pub item_fits : (k : ℕ) (s : S) (v : V) (vs : List V) → form.IsItem k s (form.lift v vs) → form.IsItem (length vs) s (form.lift v vs)
+  pub item_fits : (k : ℕ) (s : S) (v : V) (vs : List V) → form.IsItem k s (form.lift v vs) →
+      form.IsItem (length vs) s (form.lift v vs)
   pub stop_any : (k j : ℕ) (s : S) (e : E) → form.IsStop k s e → form.IsStop j s e
   pub item_text : (a : A) → 0 < length (spell (form.item_pieces a))
 
@@ -41,14 +44,16 @@ module _ {S A V E : Type 0} (list : ListReading S A V E) (form : ListForm S A V 
   same_turn (look test) text x y stop same = rw same refl
 
   abbrev FuelSame : ℕ → ℕ → Type 0
-  FuelSame k j = (s : S) (text : List ℕ) → length text ≤ k → length text ≤ j → list_at list (suc k) s text ≡ list_at list (suc j) s text
+  FuelSame k j = (s : S) (text : List ℕ) → length text ≤ k → length text ≤ j →
+      list_at list (suc k) s text ≡ list_at list (suc j) s text
 
   abbrev LessFuelSame : ℕ → ℕ → Type 0
   LessFuelSame zero j = Unit {0}
   LessFuelSame (suc k) zero = Unit {0}
   LessFuelSame (suc k) (suc j) = FuelSame k j
 
-  items_same : (k j : ℕ) (less : LessFuelSame k j) (s : S) (text : List ℕ) (x : Answer A) → length text ≤ k → length text ≤ j → list.item k s text ≡ x
+  items_same : (k j : ℕ) (less : LessFuelSame k j) (s : S) (text : List ℕ) (x : Answer A) → length text ≤ k → length text ≤ j →
+      list.item k s text ≡ x
       → items k s x ≡ items j s x
   unfolding followed
   items_same k j less s text (wrong left) hk hj is = refl
@@ -57,16 +62,20 @@ module _ {S A V E : Type 0} (list : ListReading S A V E) (form : ListForm S A V 
   items_same (suc k) zero less s text (got a rest) hk hj is = absurd (omega (arith, unlimited.shorter (suc k) s text a rest is))
   items_same (suc k) (suc j) less s text (got a rest) hk hj is =
       let shorter = unlimited.shorter (suc k) s text a rest is in
-      ap (λ (x : Answer (Listing V E)). then_read x (λ y. give (listing (list.view a ∷ y.0) (y.1)))) (less (list.next s a) rest (omega arith) (omega arith))
+      ap (λ (x : Answer (Listing V E)). then_read x (λ y. give (listing (list.view a ∷ y.0) (y.1))))
+      (less (list.next s a) rest (omega arith) (omega arith))
 
   fuel_step : (k j : ℕ) (less : LessFuelSame k j) → FuelSame k j
   unfolding list_at followed
   fuel_step k j less s text hk hj =
-      let goes_k : Reading (Listing V E) = list.item k s >>= λ a. (list_at list k (list.next s a) >>= λ x. give (listing (list.view a ∷ x.0) (x.1))) in
-      let goes_j : Reading (Listing V E) = list.item j s >>= λ a. (list_at list j (list.next s a) >>= λ x. give (listing (list.view a ∷ x.0) (x.1))) in
+      let goes_k : Reading (Listing V E) = list.item k s >>= λ a.
+      (list_at list k (list.next s a) >>= λ x. give (listing (list.view a ∷ x.0) (x.1))) in
+      let goes_j : Reading (Listing V E) = list.item j s >>= λ a.
+      (list_at list j (list.next s a) >>= λ x. give (listing (list.view a ∷ x.0) (x.1))) in
       ap (λ (turn : Turn). by_turn turn goes_k (stopping list s) text) (unlimited.turn_same k j s)
       ∙ same_turn (list.turn j s) text goes_k goes_j (stopping list s)
-      (items_same k j less s text (list.item k s text) hk hj refl ∙ ap (λ (x : Answer A). items j s x) (unlimited.item_same k j s text hk hj))
+      (items_same k j less s text (list.item k s text) hk hj refl ∙ ap (λ (x : Answer A). items j s x)
+      (unlimited.item_same k j s text hk hj))
 
   -- more room than the text has characters makes no difference
   pub fuel_same : (k j : ℕ) → FuelSame k j
@@ -80,8 +89,13 @@ module _ {S A V E : Type 0} (list : ListReading S A V E) (form : ListForm S A V 
   listed_more (suc k) zero s vs e le is = absurd (omega arith)
   listed_more (suc k) (suc j) s [] e le is = unlimited.stop_any (suc k) (suc j) s e is
   listed_more zero j s (v ∷ vs) e le is = absurd is
-  listed_more (suc k) (suc j) s (v ∷ vs) e le is =
-      (is.0, (unlimited.item_more k j s (form.lift v vs) (omega arith) is.1.0, listed_more k j (list.next s (form.lift v vs)) vs e (omega arith) is.1.1))
+  listed_more (suc k) (suc j) s (v ∷ vs) e le is = (
+    is.0,
+    (
+      unlimited.item_more k j s (form.lift v vs) (omega arith) is.1.0,
+      listed_more k j (list.next s (form.lift v vs)) vs e (omega arith) is.1.1,
+    ),
+  )
 
   -- as many items as there are
   listed_fits : (k : ℕ) (s : S) (vs : List V) (e : E) → IsListed list form k s vs e → IsListed list form (length vs) s vs e
@@ -105,8 +119,10 @@ module _ {S A V E : Type 0} (list : ListReading S A V E) (form : ListForm S A V 
   abbrev pieces : Listing V E → List Piece
   pieces x = list_pieces form (x.0) (x.1)
 
-  enough : (s : S) (x : Listing V E) (k : ℕ) → length (spell (pieces x)) ≤ k → IsListedAt s x → IsListed list form (suc k) s (x.0) (x.1)
-  enough s x k le is = listed_more (length x.0) (suc k) s (x.0) (x.1) (omega (arith, length_items (x.0) (x.1))) (listed_fits (suc is.0) s (x.0) (x.1) is.1)
+  enough : (s : S) (x : Listing V E) (k : ℕ) → length (spell (pieces x)) ≤ k → IsListedAt s x →
+      IsListed list form (suc k) s (x.0) (x.1)
+  enough s x k le is = listed_more (length x.0) (suc k) s (x.0) (x.1) (omega (arith, length_items (x.0) (x.1)))
+      (listed_fits (suc is.0) s (x.0) (x.1) is.1)
 
   any_more : (s : S) (x : Listing V E) (k : ℕ) → (is : IsListedAt s x) → is.0 ≤ k → IsListed list form (suc k) s (x.0) (x.1)
   any_more s x k is le = listed_more (suc is.0) (suc k) s (x.0) (x.1) (omega arith) is.1
@@ -115,11 +131,13 @@ module _ {S A V E : Type 0} (list : ListReading S A V E) (form : ListForm S A V 
     part : (k : ℕ) → Exact (list_at list (suc k) s) (λ (x : Listing V E). IsListed list form (suc k) s (x.0) (x.1)) pieces
     part k = exact_list list form exact (suc k) s (ready k)
 
-    all_apart : (v w : Listing V E) (t u : List ℕ) → IsListedAt s v → IsListedAt s w → spell (pieces v) ++ t ≡ spell (pieces w) ++ u → (v ≡ w) × (t ≡ u)
+    all_apart : (v w : Listing V E) (t u : List ℕ) → IsListedAt s v → IsListedAt s w →
+        spell (pieces v) ++ t ≡ spell (pieces w) ++ u → (v ≡ w) × (t ≡ u)
     all_apart v w t u one two e = (part (one.0 + two.0)).apart v w t u (any_more s v (one.0 + two.0) one (omega arith))
         (any_more s w (one.0 + two.0) two (omega arith)) e
 
-    all_wrong : (text : List ℕ) (left : ℕ) → list_at list (suc (length text)) s text ≡ wrong left → Stuck (IsListedAt s) pieces text left
+    all_wrong : (text : List ℕ) (left : ℕ) → list_at list (suc (length text)) s text ≡ wrong left →
+        Stuck (IsListedAt s) pieces text left
     all_wrong text left e =
         let p = (part (length text)).wrong_at text left e in
         record {
@@ -136,10 +154,12 @@ module _ {S A V E : Type 0} (list : ListReading S A V E) (form : ListForm S A V 
               let q = (part k).wrong_at text left (fuel_same k (length text) s text (omega arith) (omega arith) ∙ e) in
               let same = same_prefix p.prefix q.prefix p.rest q.rest (sym p.parts ∙ q.parts) (p.count ∙ sym q.count) in
               let P : List ℕ → Type 0 = λ rest. SameStart rest other in
-              q.ends v after other (any_more s v k shaped (omega arith)) (subst P same.1 start) (is ∙ ap (λ (prefix : List ℕ). prefix ++ other) same.0);
+              q.ends v after other (any_more s v k shaped (omega arith)) (subst P same.1 start)
+              (is ∙ ap (λ (prefix : List ℕ). prefix ++ other) same.0);
         }
 
-    all_outside : (text : List ℕ) (left : ℕ) → list_at list (suc (length text)) s text ≡ outside left → Outside (IsListedAt s) pieces text left
+    all_outside : (text : List ℕ) (left : ℕ) → list_at list (suc (length text)) s text ≡ outside left →
+        Outside (IsListedAt s) pieces text left
     all_outside text left e =
         let p = (part (length text)).outside_at text left e in
         record {
@@ -159,7 +179,8 @@ module _ {S A V E : Type 0} (list : ListReading S A V E) (form : ListForm S A V 
           count = p.count;
         }
 
-    all_first_out : (text : List ℕ) (left : ℕ) → Outside (IsListedAt s) pieces text left → list_at list (suc (length text)) s text ≡ outside left
+    all_first_out : (text : List ℕ) (left : ℕ) → Outside (IsListedAt s) pieces text left →
+        list_at list (suc (length text)) s text ≡ outside left
     all_first_out text left p =
         let k : ℕ = length text + p.shaped.0 in
         fuel_same (length text) k s text (omega arith) (omega arith)

@@ -19,7 +19,8 @@ pub no_number : (w : List ℕ) (before after : List Piece) (low high n : ℕ) �
 no_number [] [] after low high n e = cc
 no_number [] (p ∷ before) after low high n e = cc
 no_number (c ∷ w) [] after low high n e = cc
-no_number (c ∷ w) (p ∷ before) after low high n e = let tail : word w ≡ before ++ number low high n ∷ after = cc in no_number w before after low high n tail
+no_number (c ∷ w) (p ∷ before) after low high n e = let tail : word w ≡ before ++ number low high n ∷ after = cc in
+    no_number w before after low high n tail
 
 word_head : (b c : ℕ) (w text : List ℕ) → b ≡ c → word_at (c ∷ w) (b ∷ text) ≡ word_at w text
 unfolding word_at
@@ -27,7 +28,8 @@ word_head b c w text same = rw (eq-eqb b c same) refl
 
 word_ends : (b c : ℕ) (w text : List ℕ) → (b ≡ c → ⊥) → word_at (c ∷ w) (b ∷ text) ≡ wrong (suc (length text))
 unfolding word_at
-word_ends b c w text differ = elim (cases_Bool (eqb b c)) [ inl hit ↦ absurd (differ (eqb-true b c hit)) | inr miss ↦ rw miss refl ]
+word_ends b c w text differ =
+    elim (cases_Bool (eqb b c)) [ inl hit ↦ absurd (differ (eqb-true b c hit)) | inr miss ↦ rw miss refl ]
 
 word_again : (w rest : List ℕ) → word_at w (w ++ rest) ≡ got tt rest
 unfolding word_at
@@ -73,7 +75,16 @@ at_other b c w text after (d ∷ other) differ same e = let head : c ≡ d = cc 
 word_answer : (w text : List ℕ) → WordAnswer w text (word_at w text)
 unfolding word_at
 word_answer [] text = refl
-word_answer (c ∷ w) [] = record { prefix = []; rest = []; more = c ∷ w; parts = refl; count = refl; begins = refl; ends = at_end c w }
+word_answer (c ∷ w) [] = record {
+  prefix = [];
+  rest = [];
+  more = c ∷ w;
+  parts = refl;
+  count = refl;
+  begins = refl;
+  ends =
+      at_end c w;
+}
 word_answer (c ∷ w) (b ∷ text) =
     elim (cases_Bool (eqb b c)) [
       | inl hit ↦
@@ -107,7 +118,12 @@ exact_word w = record {
   apart = λ v u t s _ _ e. (refl, append_cancel_left (spell (word w)) t s e);
   takes = λ text v rest e.
       let P : Answer (Unit {0}) → Type 0 = WordAnswer w text in
-      record { shaped = tt; within = within-word w; parts = subst P e (word_answer w text) ∙ ap (λ (t : List ℕ). t ++ rest) (sym (spell-word w)) };
+      record {
+        shaped = tt;
+        within = within-word w;
+        parts = subst P e (word_answer w text) ∙ ap (λ (t : List ℕ). t ++ rest)
+            (sym (spell-word w));
+      };
   again = λ v rest _ _. ap (λ (t : List ℕ). word_at w (t ++ rest)) (spell-word w) ∙ word_again w rest;
   wrong_at = λ text left e.
       let P : Answer (Unit {0}) → Type 0 = WordAnswer w text in

@@ -16,7 +16,8 @@ use Rattle.tl_base.specs.declared.limits.TheConstants.{MAX_PAGE_WIDTH}
 use Rattle.tl_cert.specs.declared.limits.TheConstants.{MAX_SPAN, MAX_BOUNDS}
 use Rattle.tl_cert.specs.Pieces.{Piece, character, number, field, spell, numeral}
 use Rattle.tl_cert.specs.Text.{space, side_sign, bound_pieces, comes_before, AreInOrder, AreBounds}
-use Rattle.tl_cert.specs.inner.CertReading.{may_follow, may_follow_as, is_sign, side_of, bound_at, bounds_reading, bounds_at, fires_at}
+use Rattle.tl_cert.specs.inner.CertReading.{may_follow, may_follow_as, is_sign, side_of, bound_at, bounds_reading, bounds_at}
+use Rattle.tl_cert.specs.inner.CertReading.{fires_at}
 use Rattle.tl_cert.specs.inner.reading.Readings.{begins}
 use Rattle.tl_cert.specs.inner.reading.Lists.{Listing, listing}
 use Rattle.tl_cert.proofs.reading.Exact.{Exact}
@@ -50,7 +51,8 @@ sign_is before n e is =
     ]
 
 sign_no_digit : (before : Option Bound) (n e : ℕ) → is_sign before n e ≡ true → is_ascii_digit e ≡ false
-sign_no_digit before n e is = elim (sign_is before n e is) [ inl minus ↦ ap is_ascii_digit minus | inr plus ↦ ap is_ascii_digit plus ]
+sign_no_digit before n e is =
+    elim (sign_is before n e is) [ inl minus ↦ ap is_ascii_digit minus | inr plus ↦ ap is_ascii_digit plus ]
 
 pub span_rule : (before : Option Bound) → IsRule (may_follow before) (is_sign before)
 span_rule None = record {
@@ -61,11 +63,17 @@ span_rule None = record {
 }
 span_rule (Some b) = record {
   some_end = λ n can. (43, can_sign (ltb b.span n) (eqb b.span n) (eqb (side_sign b.side) 45) can);
-  no_end = λ n e cannot is. cannot_sign (eqb e 45 || eqb e 43) (ltb b.span n) (eqb b.span n) (eqb (side_sign b.side) 45) (eqb e 43) cannot is;
+  no_end = λ n e cannot is. cannot_sign (eqb e 45 || eqb e 43) (ltb b.span n) (eqb b.span n) (eqb (side_sign b.side) 45)
+      (eqb e 43) cannot is;
   not_digit = sign_no_digit (Some b);
   longer = λ n positive.
-      let p = numeral_longer (suc b.span) n positive in
-      (p.0, p.1, or_left (ltb b.span p.0) (eqb b.span p.0 && eqb (side_sign b.side) 45) (lt-ltb b.span p.0 (omega (arith, p.2))), p.4);
+      let p = numeral_longer (suc b.span) n positive in (
+        p.0,
+        p.1,
+        or_left (ltb b.span p.0) (eqb b.span p.0 && eqb (side_sign b.side) 45)
+            (lt-ltb b.span p.0 (omega (arith, p.2))),
+        p.4,
+      );
 }
 
 -- the bound may follow
@@ -92,7 +100,8 @@ follows_sign (Some a) b is = and_from _ _ (side_signs b.side) is
 abbrev bound_of : ℕ × ℕ → ℕ → Bound
 bound_of x width = record { span = x.0; side = side_of (x.1); width = width }
 
-sign_follows : (before : Option Bound) (x : ℕ × ℕ) (width : ℕ) → is_sign before x.0 x.1 ≡ true → follows before (bound_of x width) ≡ true
+sign_follows : (before : Option Bound) (x : ℕ × ℕ) (width : ℕ) → is_sign before x.0 x.1 ≡ true →
+    follows before (bound_of x width) ≡ true
 sign_follows None x width is = refl
 sign_follows (Some a) x width is =
     let sign = sign_again x.1 (sign_is (Some a) x.0 x.1 is) in
@@ -118,8 +127,10 @@ bound_again b x width is w =
 exact_bound : (before : Option Bound) → Exact (bound_at before) (λ b. follows before b ≡ true) bounded
 unfolding bound_at
 exact_bound before =
-    exact_part_then signed (λ b. follows before b ≡ true) bounded (λ x b. field 0 MAX_PAGE_WIDTH b.width space) (exact_number 0 MAX_SPAN (span_rule before))
-    (λ x sign. exact_part_then (λ (b : Bound). b.width) (λ b. (follows before b ≡ true) × (signed b ≡ x)) (λ b. field 0 MAX_PAGE_WIDTH b.width space)
+    exact_part_then signed (λ b. follows before b ≡ true) bounded (λ x b. field 0 MAX_PAGE_WIDTH b.width space)
+    (exact_number 0 MAX_SPAN (span_rule before))
+    (λ x sign. exact_part_then (λ (b : Bound). b.width) (λ b. (follows before b ≡ true) × (signed b ≡ x))
+    (λ b. field 0 MAX_PAGE_WIDTH b.width space)
     (λ w b. []) (exact_field 0 MAX_PAGE_WIDTH space refl)
     (λ width any. exact_only (bound_of x width) (λ b. ((follows before b ≡ true) × (signed b ≡ x)) × (b.width ≡ width))
     ((sign_follows before x width sign, signed_again before x width sign), refl) (λ b is. bound_again b x width is.0.1 is.1))
@@ -152,7 +163,8 @@ digit_first n t = let p = numeral_first n in ap (λ (ds : List ℕ). begins is_a
 
 bound_first : (b : Bound) (t : List ℕ) → begins is_ascii_digit (spell (bounded b) ++ t) ≡ true
 bound_first b t = ap (begins is_ascii_digit)
-    (append_assoc (numeral b.span) (spell (character (side_sign b.side) ∷ number 0 MAX_PAGE_WIDTH b.width ∷ character space ∷ [])) t)
+    (append_assoc (numeral b.span)
+    (spell (character (side_sign b.side) ∷ number 0 MAX_PAGE_WIDTH b.width ∷ character space ∷ [])) t)
     ∙ digit_first b.span (spell (character (side_sign b.side) ∷ number 0 MAX_PAGE_WIDTH b.width ∷ character space ∷ []) ++ t)
 
 end_no_digit : (e : End) (t : List ℕ) → begins is_ascii_digit (spell (end_pieces e) ++ t) ≡ false
@@ -198,20 +210,24 @@ later_to : (areas : Areas) (k : ℕ) (before : Bound) (bs : List Bound) (x : Lis
 later_to areas zero before [] x is = (omega arith, (tt, is))
 later_to areas zero before (b ∷ bs) x is = absurd is
 later_to areas (suc k) before [] x is = (omega arith, (tt, is))
-later_to areas (suc k) before (b ∷ bs) x is = let p = later_to areas k b bs x is.1.1 in (omega (arith, p.0), ((is.1.0, p.1.0), p.1.1))
+later_to areas (suc k) before (b ∷ bs) x is = let p = later_to areas k b bs x is.1.1 in
+    (omega (arith, p.0), ((is.1.0, p.1.0), p.1.1))
 
-later_from : (areas : Areas) (k : ℕ) (before : Bound) (bs : List Bound) (x : Listing ℕ End) → length bs ≤ k → AreInOrder (before ∷ bs) → AreFires areas x
+later_from : (areas : Areas) (k : ℕ) (before : Bound) (bs : List Bound) (x : Listing ℕ End) → length bs ≤ k →
+    AreInOrder (before ∷ bs) → AreFires areas x
     → IsListed (bounds_reading areas) (bounds_form areas) k (Some before) bs x
 later_from areas zero before [] x most order fires = fires
 later_from areas zero before (b ∷ bs) x most order fires = absurd (omega arith)
 later_from areas (suc k) before [] x most order fires = fires
-later_from areas (suc k) before (b ∷ bs) x most order fires = (refl, (order.0, later_from areas k b bs x (omega arith) order.1 fires))
+later_from areas (suc k) before (b ∷ bs) x most order fires =
+    (refl, (order.0, later_from areas k b bs x (omega arith) order.1 fires))
 
 pub record AreBoundsAndFires (areas : Areas) (x : Listing Bound (Listing ℕ End)) : Type 0 where
   pub bounds : AreBounds (x.0)
   pub fires : AreFires areas (x.1)
 
-bounds_to : (areas : Areas) (bs : List Bound) (x : Listing ℕ End) → IsListed (bounds_reading areas) (bounds_form areas) MAX_BOUNDS None bs x
+bounds_to : (areas : Areas) (bs : List Bound) (x : Listing ℕ End) →
+    IsListed (bounds_reading areas) (bounds_form areas) MAX_BOUNDS None bs x
     → AreBoundsAndFires areas (listing bs x)
 bounds_to areas [] x is = absurd is
 bounds_to areas (b ∷ bs) x is =
@@ -221,16 +237,19 @@ bounds_to areas (b ∷ bs) x is =
 bounds_from : (areas : Areas) (bs : List Bound) (x : Listing ℕ End) → AreBoundsAndFires areas (listing bs x)
     → IsListed (bounds_reading areas) (bounds_form areas) MAX_BOUNDS None bs x
 bounds_from areas [] x is = absurd (omega (arith, is.bounds.some))
-bounds_from areas (b ∷ bs) x is = (refl, (refl, later_from areas 7 b bs x (omega (arith, is.bounds.most)) is.bounds.ordered is.fires))
+bounds_from areas (b ∷ bs) x is =
+    (refl, (refl, later_from areas 7 b bs x (omega (arith, is.bounds.most)) is.bounds.ordered is.fires))
 
 abbrev pub bounds_text : Listing Bound (Listing ℕ End) → List Piece
 bounds_text x = flat_map bounded (x.0) ++ fires_pieces (x.1)
 
-bounds_same : (areas : Areas) (bs : List Bound) (x : Listing ℕ End) → list_pieces (bounds_form areas) bs x ≡ flat_map bounded bs ++ fires_pieces x
+bounds_same : (areas : Areas) (bs : List Bound) (x : Listing ℕ End) →
+    list_pieces (bounds_form areas) bs x ≡ flat_map bounded bs ++ fires_pieces x
 bounds_same areas [] x = refl
 bounds_same areas (b ∷ bs) x = ap (λ (ps : List Piece). bounded b ++ ps) (bounds_same areas bs x)
 
 pub exact_bounds : (areas : Areas) → Exact (bounds_at areas) (AreBoundsAndFires areas) bounds_text
 exact_bounds areas =
-    exact_same (AreBoundsAndFires areas) bounds_text (exact_list (bounds_reading areas) (bounds_form areas) (bounds_exact areas) MAX_BOUNDS None tt)
+    exact_same (AreBoundsAndFires areas) bounds_text (exact_list (bounds_reading areas) (bounds_form areas) (bounds_exact areas)
+    MAX_BOUNDS None tt)
     (λ x is. bounds_to areas (x.0) (x.1) is) (λ x is. bounds_from areas (x.0) (x.1) is) (λ x is. bounds_same areas (x.0) (x.1))

@@ -1,10 +1,11 @@
 -- Reading the chains of a certificate, and its last line, is exact.
-use Rattle.std.proofs.Common.{◌≡◌, ℕ, zero, suc, ◌≤◌, ◌<◌, Bool, true, false, List, [], ◌∷◌, ◌++◌, length, refl, sym, ap, ◌∙◌, append_assoc, arith}
+use Rattle.std.proofs.Common.{◌≡◌, ℕ, zero, suc, ◌≤◌, ◌<◌, Bool, true, false, List, [], ◌∷◌, ◌++◌, length, refl, sym, ap, ◌∙◌}
+use Rattle.std.proofs.Common.{append_assoc, arith}
 use Rattle.std.specs.Prelude.{codes}
 use Rattle.std.specs.List.{flat_map, AllByRecursion}
 use Rattle.std.proofs.lemmas.List.{append-nil}
-use Rattle.tl_problem.specs.declared.chain.Entry.{Entry}
-use Rattle.tl_problem.specs.declared.chain.Chain.{Chain}
+use Rattle.tl_base.specs.declared.chain.Entry.{Entry}
+use Rattle.tl_base.specs.declared.chain.Chain.{Chain}
 use Rattle.tl_cert.specs.declared.limits.TheConstants.{MAX_TABLE}
 use Rattle.tl_cert.specs.Pieces.{Piece, character, number, field, word}
 use Rattle.tl_cert.specs.Text.{space, entry_pieces, chain_pieces}
@@ -45,10 +46,13 @@ exact_chain : Exact chain_at IsChain chain_pieces
 unfolding chain_at
 exact_chain =
     exact_after (codes "chain ") after_word chain_pieces
-    (exact_part_then (λ (chain : Chain). chain.table) IsChain after_word (λ table chain. entries_read (entries_of chain)) (exact_field 0 MAX_TABLE space refl)
-    (λ table any. exact_part_then entries_of (λ chain. IsChain chain × (chain.table ≡ table)) (λ chain. entries_read (entries_of chain))
+    (exact_part_then (λ (chain : Chain). chain.table) IsChain after_word (λ table chain. entries_read (entries_of chain))
+    (exact_field 0 MAX_TABLE space refl)
+    (λ table any. exact_part_then entries_of (λ chain. IsChain chain × (chain.table ≡ table))
+    (λ chain. entries_read (entries_of chain))
     (λ x chain. []) exact_entries
-    (λ x some. exact_only (record { table = table; entries = x.0 }) (λ chain. (IsChain chain × (chain.table ≡ table)) × (entries_of chain ≡ x))
+    (λ x some. exact_only (record { table = table; entries = x.0 })
+    (λ chain. (IsChain chain × (chain.table ≡ table)) × (entries_of chain ≡ x))
     ((some, refl), refl)
     (λ chain is. chain_again chain table x is.0.1 is.1))
     (λ chain is. (is.0, sym (append-nil (entries_read (entries_of chain))))))
@@ -86,7 +90,8 @@ chains_form = record {
 }
 
 pub exact_end_line : (IsEnd : Type 0) → IsEnd → Exact (word_at (codes "end\n")) (λ (e : Unit {0}). IsEnd) (λ e. end_line)
-exact_end_line IsEnd is = exact_same (λ (e : Unit {0}). IsEnd) (λ e. end_line) (exact_word (codes "end\n")) (λ e any. is) (λ e end. tt) (λ e any. refl)
+exact_end_line IsEnd is = exact_same (λ (e : Unit {0}). IsEnd) (λ e. end_line) (exact_word (codes "end\n")) (λ e any. is)
+    (λ e end. tt) (λ e any. refl)
 
 chains_exact : IsExactList chains_reading chains_form
 chains_exact = record {
@@ -98,7 +103,13 @@ chains_exact = record {
   where
     turns : (k : ℕ) (first : Bool) → Turns chains_reading chains_form (chains_turn first) k first
     turns k true = record { item = exact_chain; no_stop = λ e is. is }
-    turns k false = record { item = exact_chain; stop = exact_end_line (Unit {0}) tt; item_begins = λ chain t is. refl; stop_begins = λ e t is. refl }
+    turns k false = record {
+      item = exact_chain;
+      stop = exact_end_line (Unit {0}) tt;
+      item_begins =
+          λ chain t is. refl;
+      stop_begins = λ e t is. refl;
+    }
 
     later : (k : ℕ) (first : Bool) (chain : Chain) → IsReadyFor (suc k) first → IsChain chain → IsReadyFor k false
     later zero first chain ready is = tt
@@ -140,7 +151,8 @@ chains_from zero false [] e most each some = tt
 chains_from zero first (chain ∷ chains) e most each some = absurd (omega arith)
 chains_from (suc k) true [] e most each some = absurd (omega (arith, some refl))
 chains_from (suc k) false [] e most each some = tt
-chains_from (suc k) first (chain ∷ chains) e most each some = (refl, (each.0, chains_from k false chains e (omega arith) each.1 (λ begun. absurd cc)))
+chains_from (suc k) first (chain ∷ chains) e most each some =
+    (refl, (each.0, chains_from k false chains e (omega arith) each.1 (λ begun. absurd cc)))
 
 abbrev pub chains_pieces : Listing Chain (Unit {0}) → List Piece
 chains_pieces x = flat_map chain_pieces (x.0) ++ end_line
@@ -148,7 +160,8 @@ chains_pieces x = flat_map chain_pieces (x.0) ++ end_line
 chains_text : (chains : List Chain) (e : Unit {0}) → list_pieces chains_form chains e ≡ flat_map chain_pieces chains ++ end_line
 chains_text [] e = refl
 chains_text (chain ∷ chains) e =
-    ap (λ (ps : List Piece). chain_pieces chain ++ ps) (chains_text chains e) ∙ sym (append_assoc (chain_pieces chain) (flat_map chain_pieces chains) end_line)
+    ap (λ (ps : List Piece). chain_pieces chain ++ ps) (chains_text chains e) ∙ sym
+    (append_assoc (chain_pieces chain) (flat_map chain_pieces chains) end_line)
 
 pub exact_chains : Exact chains_at AreChains chains_pieces
 exact_chains =

@@ -1,5 +1,6 @@
 -- Reading the end of a log line, and the lines that are fired before it, is exact.
-use Rattle.std.proofs.Common.{◌≡◌, ℕ, zero, suc, ◌≤◌, true, false, eqb, List, [], ◌∷◌, ◌++◌, ◌⊎◌, inl, inr, length, refl, sym, ap, subst, arith}
+use Rattle.std.proofs.Common.{◌≡◌, ℕ, zero, suc, ◌≤◌, true, false, eqb, List, [], ◌∷◌, ◌++◌, ◌⊎◌, inl, inr, length, refl, sym, ap}
+use Rattle.std.proofs.Common.{subst, arith}
 use Rattle.std.specs.Prelude.{codes}
 use Rattle.std.specs.List.{flat_map}
 use Rattle.tl_cert.specs.declared.log.End.{End}
@@ -88,7 +89,8 @@ exact_plain =
       yes = λ e t is. ap (λ (f : End). begins (λ c. eqb c 102) (spell (end_pieces f) ++ t)) is;
       no = plain_no;
     } in
-    exact_either (exact_sign (codes "fired\n") Fired end_pieces refl) (exact_after (codes "c") tail_word end_pieces exact_tail tail_text) chosen
+    exact_either (exact_sign (codes "fired\n") Fired end_pieces refl)
+    (exact_after (codes "c") tail_word end_pieces exact_tail tail_text) chosen
 
 any_separated : (e : End) → IsAny e → (e ≡ Area) ⊎ NoArea e
 any_separated Area is = inl refl
@@ -154,7 +156,13 @@ end_no Chain t = refl
 fires_exact : (areas : Areas) → IsExactList (fires_reading areas) (fires_form areas)
 fires_exact areas = record {
   at_end = λ s ready. exact_end areas;
-  turns = λ k s ready. record { item = exact_fire; stop = exact_end areas; item_begins = λ n t is. refl; stop_begins = λ e t is. end_no e t };
+  turns = λ k s ready. record {
+    item = exact_fire;
+    stop = exact_end areas;
+    item_begins = λ n t is. refl;
+    stop_begins =
+        λ e t is. end_no e t;
+  };
   ready = λ k s n ready is. tt;
   lifted = λ k s n ns e is listed. refl;
 }
@@ -187,7 +195,8 @@ fires_text areas (n ∷ ns) e = ap (λ (ps : List Piece). fired n ++ ps) (fires_
 
 pub exact_fires : (areas : Areas) → Exact (fires_at areas) (AreFires areas) fires_pieces
 exact_fires areas =
-    exact_same (AreFires areas) fires_pieces (exact_list (fires_reading areas) (fires_form areas) (fires_exact areas) MAX_FIRES tt tt)
+    exact_same (AreFires areas) fires_pieces (exact_list (fires_reading areas) (fires_form areas) (fires_exact areas)
+    MAX_FIRES tt tt)
     (λ x is. let p = fires_to areas MAX_FIRES (x.0) (x.1) is in record { most = p.0; end = p.1 })
     (λ x is. fires_from areas MAX_FIRES (x.0) (x.1) is.most is.end)
     (λ x is. fires_text areas (x.0) (x.1))

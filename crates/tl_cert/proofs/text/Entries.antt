@@ -6,7 +6,7 @@ use Rattle.std.specs.Char.{is_ascii_digit}
 use Rattle.std.specs.List.{AllByRecursion}
 use Rattle.std.proofs.lemmas.Bool.{eqb-true, eqb-false, or_cases, or_right, ltb-true, lt-ltb}
 use Rattle.std.proofs.lemmas.List.{length-append}
-use Rattle.tl_problem.specs.declared.chain.Entry.{Entry}
+use Rattle.tl_base.specs.declared.chain.Entry.{Entry}
 use Rattle.tl_base.specs.declared.limits.TheConstants.{MAX_CELLS}
 use Rattle.tl_cert.specs.declared.limits.TheConstants.{MAX_TABLE}
 use Rattle.tl_cert.specs.Pieces.{Piece, character, number, spell, numeral}
@@ -22,11 +22,13 @@ use Rattle.tl_cert.proofs.reading.NumberReading.{IsRule, number_pieces, exact_nu
 use Rattle.tl_cert.proofs.reading.ListExact.{ListForm, list_pieces, IsExactList}
 use Rattle.tl_cert.proofs.reading.Unlimited.{IsUnlimited, exact_all}
 use Rattle.tl_cert.proofs.text.Fields.{exact_part_then, exact_only, exact_made}
-use Rattle.tl_cert.proofs.text.Items.{end_of, ends_by, end_is, item_rule, item_pieces, items_form, items_exact, items_to, items_from}
+use Rattle.tl_cert.proofs.text.Items.{end_of, ends_by, end_is, item_rule, item_pieces, items_form, items_exact, items_to}
+use Rattle.tl_cert.proofs.text.Items.{items_from}
 use Rattle.tl_cert.proofs.text.SectionReading.{space_again}
 
 -- one reading or another, by a test
-exact_cond : {C : Type 0} (b : Bool) {one two : Reading C} (IsShaped : C → Type 0) (pieces : C → List Piece) → (b ≡ true → Exact one IsShaped pieces)
+exact_cond : {C : Type 0} (b : Bool) {one two : Reading C} (IsShaped : C → Type 0) (pieces : C → List Piece) →
+    (b ≡ true → Exact one IsShaped pieces)
     → (b ≡ false → Exact two IsShaped pieces)
     → Exact (cond b one two) IsShaped pieces
 exact_cond true IsShaped pieces first other = first refl
@@ -87,7 +89,8 @@ colon_or_end : (more : Bool) (inner : Option ℕ) (goes_on : Bool) → (goes_on 
 colon_or_end more None goes_on may = or_right _ _ (ends_by more goes_on may)
 colon_or_end more (Some table) goes_on may = refl
 
-entry_text : (inner : Option ℕ) (cell : ℕ) (more : Bool) → (number 0 MAX_CELLS cell ∷ inner_pieces inner) ++ (character (end_of more) ∷ [])
+entry_text : (inner : Option ℕ) (cell : ℕ) (more : Bool) → (number 0 MAX_CELLS cell ∷ inner_pieces inner) ++
+    (character (end_of more) ∷ [])
     ≡ number_pieces 0 MAX_CELLS (pair cell (cell_end inner more)) ++ inner_rest inner more
 entry_text None cell more = refl
 entry_text (Some table) cell more = refl
@@ -100,7 +103,8 @@ inner_some : (inner : Option ℕ) (more : Bool) → cell_end inner more ≡ 58 �
 inner_some None more same = absurd (no_colon more same)
 inner_some (Some table) more same = refl
 
-inner_none : (inner : Option ℕ) (more : Bool) (c : ℕ) → cell_end inner more ≡ c → (c ≡ 58 → ⊥) → (inner ≡ None) × (end_of more ≡ c)
+inner_none : (inner : Option ℕ) (more : Bool) (c : ℕ) → cell_end inner more ≡ c → (c ≡ 58 → ⊥) →
+    (inner ≡ None) × (end_of more ≡ c)
 inner_none None more c same differ = (refl, same)
 inner_none (Some table) more c same differ = absurd (differ (sym same))
 
@@ -135,11 +139,13 @@ module _ (more : Bool) (x : ℕ × ℕ) (allowed : (eqb (x.1) 58 || ends_item mo
       let ends : ends_item more (x.1) ≡ true = end_only in
       let p = end_is more (x.1) ends in
       exact_same IsRest entry_rest
-      (exact_only (flag (record { cell = x.0; inner = None }) (eqb (x.1) space)) IsRest ((tt, p.1), ap (pair (x.0)) (sym p.0)) none_again)
+      (exact_only (flag (record { cell = x.0; inner = None }) (eqb (x.1) space)) IsRest ((tt, p.1), ap (pair (x.0)) (sym p.0))
+      none_again)
       (λ a is. is) (λ a is. is) (λ a is. nothing a is)
     where
       end_only : ends_item more (x.1) ≡ true
-      end_only = elim (or_cases (eqb (x.1) 58) (ends_item more (x.1)) allowed) [ inl colon ↦ absurd (differ (eqb-true (x.1) 58 colon)) | inr end ↦ end ]
+      end_only = elim (or_cases (eqb (x.1) 58) (ends_item more (x.1)) allowed)
+          [ inl colon ↦ absurd (differ (eqb-true (x.1) 58 colon)) | inr end ↦ end ]
 
       none_again : (a : Entry × Bool) → IsRest a → a ≡ flag (record { cell = x.0; inner = None }) (eqb (x.1) space)
       none_again a is =
@@ -158,12 +164,14 @@ module _ (more : Bool) (x : ℕ × ℕ) (allowed : (eqb (x.1) 58 || ends_item mo
           ap (λ (o : Option ℕ). inner_rest o (a.1)) (sym q.0)
 
   exact_inner : Exact (inner_at more (x.0) (x.1)) IsRest entry_rest
-  exact_inner = exact_cond (eqb (x.1) 58) IsRest entry_rest (λ colon. exact_some (eqb-true (x.1) 58 colon)) (λ other. exact_none (eqb-false (x.1) 58 other))
+  exact_inner = exact_cond (eqb (x.1) 58) IsRest entry_rest (λ colon. exact_some (eqb-true (x.1) 58 colon))
+      (λ other. exact_none (eqb-false (x.1) 58 other))
 
 exact_entry : (more : Bool) → Exact (entry_at more) (IsFlagged more) (item_pieces AnyEntry entry_pieces)
 unfolding entry_at
 exact_entry more =
-    exact_part_then first_part (IsFlagged more) (item_pieces AnyEntry entry_pieces) (λ x a. entry_rest a) (exact_number 0 MAX_CELLS (entry_rule more))
+    exact_part_then first_part (IsFlagged more) (item_pieces AnyEntry entry_pieces) (λ x a. entry_rest a)
+    (exact_number 0 MAX_CELLS (entry_rule more))
     (λ x allowed. exact_inner more x allowed)
     (λ a is. (colon_or_end more (a.0.inner) (a.1) is.1, entry_text (a.0.inner) (a.0.cell) (a.1)))
 
@@ -182,7 +190,8 @@ entry_length : (a : Entry × Bool) → 0 < length (spell (item_pieces AnyEntry e
 entry_length a =
     let p = numeral_first (a.0.cell) in
     let rest : List ℕ = spell (inner_pieces (a.0.inner) ++ (character (end_of (a.1)) ∷ [])) in
-    let whole : length (numeral (a.0.cell) ++ rest) ≡ length (numeral (a.0.cell)) + length rest = length-append (numeral (a.0.cell)) rest in
+    let whole : length (numeral (a.0.cell) ++ rest) ≡ length (numeral (a.0.cell)) + length rest =
+    length-append (numeral (a.0.cell)) rest in
     omega (arith, whole, ap length p.2)
 
 -- where nothing is left to read it makes no difference whether another entry may follow
@@ -224,5 +233,9 @@ exact_entries =
     exact_same (λ (x : Listing Entry (Unit {0})). 1 ≤ length (x.0)) entries_read
     (exact_all entries_reading entries_form entries_unlimited entries_exact true (λ k. tt))
     (λ x is. let p = items_to AnyEntry entry_pieces entry_item (suc is.0) (x.0) (x.1) is.1 in p.0)
-    (λ x some. (length (x.0), items_from AnyEntry entry_pieces entry_item (suc (length (x.0))) (x.0) (x.1) some (omega arith) (any_entries (x.0))))
+    (λ x some. (
+      length (x.0),
+      items_from AnyEntry entry_pieces entry_item (suc (length (x.0))) (x.0) (x.1) some (omega arith)
+          (any_entries (x.0)),
+    ))
     (λ x is. refl)

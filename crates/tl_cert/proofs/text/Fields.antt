@@ -14,7 +14,8 @@ use Rattle.tl_cert.proofs.reading.Same.{exact_same}
 use Rattle.tl_cert.proofs.reading.NumberReading.{IsRule, exact_number}
 
 -- A value that a reading's value stands for.
-pub exact_made : {A C : Type 0} {read : Reading A} {IsFirst : A → Type 0} {first_pieces : A → List Piece} (make : A → C) (part : C → A)
+pub exact_made : {A C : Type 0} {read : Reading A} {IsFirst : A → Type 0} {first_pieces : A → List Piece} (make : A →
+    C) (part : C → A)
     (IsShaped : C → Type 0) (pieces : C → List Piece)
     → Exact read IsFirst first_pieces → ((v : C) → IsShaped v → IsFirst (part v) × (v ≡ make (part v)))
     → ((a : A) → IsFirst a → IsShaped (make a) × (pieces (make a) ≡ first_pieces a))
@@ -28,11 +29,13 @@ exact_made {A} {C} {read} {IsFirst} {first_pieces} make part IsShaped pieces fir
     exact_then first (λ a one. exact_give (make a)) joined
 
 -- A word and then what another reading reads.
-pub exact_after : {C : Type 0} (w : List ℕ) {next : Reading C} {IsShaped : C → Type 0} (rest pieces : C → List Piece) → Exact next IsShaped rest
+pub exact_after : {C : Type 0} (w : List ℕ) {next : Reading C} {IsShaped : C → Type 0} (rest pieces : C → List Piece) →
+    Exact next IsShaped rest
     → ((v : C) → IsShaped v → pieces v ≡ word w ++ rest v)
     → Exact (word_at w >>= λ _. next) IsShaped pieces
 exact_after {C} w {next} {IsShaped} rest pieces second text =
-    let joined : Joined {A = Unit {0}} IsAny (λ _. word w) (λ (u : Unit {0}) (v : C). IsShaped v) (λ (u : Unit {0}) (v : C). rest v) IsShaped pieces = record {
+    let joined : Joined {A = Unit {0}} IsAny (λ _. word w) (λ (u : Unit {0}) (v : C). IsShaped v)
+    (λ (u : Unit {0}) (v : C). rest v) IsShaped pieces = record {
       separated = λ v is. record { part = tt; first = tt; second = is };
       shaped = λ a v one two. two;
       text = λ a v one two. text v two;
@@ -42,7 +45,8 @@ exact_after {C} w {next} {IsShaped} rest pieces second text =
 -- a word that stands for one value
 pub exact_sign : {C : Type 0} (w : List ℕ) (value : C) (pieces : C → List Piece) → pieces value ≡ word w
     → Exact (word_at w >>= λ _. give value) (λ v. v ≡ value) pieces
-exact_sign {C} w value pieces text = exact_after w (λ _. []) pieces (exact_give value) (λ v is. ap pieces is ∙ text ∙ sym (append-nil (word w)))
+exact_sign {C} w value pieces text = exact_after w (λ _. []) pieces (exact_give value)
+    (λ v is. ap pieces is ∙ text ∙ sym (append-nil (word w)))
 
 -- the character is the only one that ends the number
 pub one_end : (end : ℕ) → is_ascii_digit end ≡ false → IsRule (λ n. true) (λ n c. eqb c end)
@@ -53,7 +57,8 @@ one_end end other = record {
   longer = λ n positive. (n, [], refl, sym (append-nil _));
 }
 
-pub exact_field : (low high end : ℕ) → is_ascii_digit end ≡ false → Exact (field_at low high end) IsAny (λ n. field low high n end)
+pub exact_field : (low high end : ℕ) → is_ascii_digit end ≡ false →
+    Exact (field_at low high end) IsAny (λ n. field low high n end)
 unfolding field_at
 exact_field low high end other =
     exact_made (λ (x : ℕ × ℕ). x.0) (λ n. (n, end)) IsAny (λ n. field low high n end) (exact_number low high (one_end end other))
@@ -61,11 +66,13 @@ exact_field low high end other =
     (λ x is. (tt, ap (λ (c : ℕ). number low high x.0 ∷ character c ∷ []) (sym (eqb-true x.1 end is))))
 
 -- Any part of a value, and then the others.
-pub exact_part_then : {A C : Type 0} {read : Reading A} {IsFirst : A → Type 0} {first_pieces : A → List Piece} (part : C → A) {next : A → Reading C}
+pub exact_part_then : {A C : Type 0} {read : Reading A} {IsFirst : A → Type 0} {first_pieces : A → List Piece} (part : C →
+    A) {next : A → Reading C}
     (IsShaped : C → Type 0)
     (pieces : C → List Piece) (rest : A → C → List Piece) → Exact read IsFirst first_pieces
     → ((a : A) → IsFirst a → Exact (next a) (λ v. IsShaped v × (part v ≡ a)) (rest a))
-    → ((v : C) → IsShaped v → IsFirst (part v) × (pieces v ≡ first_pieces (part v) ++ rest (part v) v)) → Exact (read >>= next) IsShaped pieces
+    → ((v : C) → IsShaped v → IsFirst (part v) × (pieces v ≡ first_pieces (part v) ++ rest (part v) v)) →
+    Exact (read >>= next) IsShaped pieces
 exact_part_then {A} {C} {read} {IsFirst} {first_pieces} part {next} IsShaped pieces rest first second text =
     let joined : Joined IsFirst first_pieces (λ (a : A) (v : C). IsShaped v × (part v ≡ a)) rest IsShaped pieces = record {
       separated = λ v is. record { part = part v; first = (text v is).0; second = (is, refl) };
@@ -75,8 +82,10 @@ exact_part_then {A} {C} {read} {IsFirst} {first_pieces} part {next} IsShaped pie
     exact_then first second joined
 
 -- No character more, where the value is the only one that is left.
-pub exact_only : {C : Type 0} (value : C) (IsShaped : C → Type 0) → IsShaped value → ((v : C) → IsShaped v → v ≡ value) → Exact (give value) IsShaped (λ v. [])
-exact_only {C} value IsShaped shaped only = exact_same IsShaped (λ v. []) (exact_give value) (λ v is. subst IsShaped (sym is) shaped) only (λ v is. refl)
+pub exact_only : {C : Type 0} (value : C) (IsShaped : C → Type 0) → IsShaped value → ((v : C) → IsShaped v → v ≡ value) →
+    Exact (give value) IsShaped (λ v. [])
+exact_only {C} value IsShaped shaped only = exact_same IsShaped (λ v. []) (exact_give value)
+    (λ v is. subst IsShaped (sym is) shaped) only (λ v is. refl)
 
 -- items with a separator before each, and one more of it, are the separator and items with one after each
 pub shifted : {X : Type 0} (f : X → List Piece) (sep : Piece) (xs : List X) (t : List Piece)

@@ -85,9 +85,17 @@ module _ {V : Type 0} (IsOne : V → Type 0) (one_pieces : V → List Piece) whe
 
   module _ (item : ℕ → Bool → Reading (V × Bool)) where
     abbrev pub items_reading : ListReading Bool (V × Bool) V (Unit {0})
-    items_reading = record { turn = λ k more. more_turn more; item = item; next = λ more a. a.1; view = λ a. a.0; stop = λ more. give tt }
+    items_reading = record {
+      turn = λ k more. more_turn more;
+      item = item;
+      next = λ more a. a.1;
+      view = λ a. a.0;
+      stop =
+          λ more. give tt;
+    }
 
-    pub items_exact : ((k : ℕ) → Exact (item k true) (λ a. IsOne (a.0) × (a.1 ≡ true → ltb 0 k ≡ true)) item_pieces) → IsExactList items_reading items_form
+    pub items_exact : ((k : ℕ) → Exact (item k true) (λ a. IsOne (a.0) × (a.1 ≡ true → ltb 0 k ≡ true)) item_pieces) →
+        IsExactList items_reading items_form
     items_exact exact_item = record {
       at_end = at_end;
       turns = turns;
@@ -111,11 +119,13 @@ module _ {V : Type 0} (IsOne : V → Type 0) (one_pieces : V → List Piece) whe
         later zero false a ready is = absurd is
         later (suc k) more a ready is = tt
 
-        lifted : (k : ℕ) (more : Bool) (a : V × Bool) (vs : List V) (e : Unit {0}) → IsItemOf k more a → IsListed items_reading items_form k (a.1) vs e
+        lifted : (k : ℕ) (more : Bool) (a : V × Bool) (vs : List V) (e : Unit {0}) → IsItemOf k more a →
+            IsListed items_reading items_form k (a.1) vs e
             → flagged (a.0) (any_left vs) ≡ a
         lifted k more a vs e is listed = ap (flagged (a.0)) (left k (a.1) vs e listed)
           where
-            left : (k : ℕ) (more : Bool) (vs : List V) (e : Unit {0}) → IsListed items_reading items_form k more vs e → any_left vs ≡ more
+            left : (k : ℕ) (more : Bool) (vs : List V) (e : Unit {0}) → IsListed items_reading items_form k more vs e →
+                any_left vs ≡ more
             left zero true [] e is = absurd is
             left zero false [] e is = refl
             left zero more (v ∷ vs) e is = absurd is
@@ -129,14 +139,17 @@ module _ {V : Type 0} (IsOne : V → Type 0) (one_pieces : V → List Piece) whe
     abbrev AllOne : List V → Type 0
     AllOne = AllByRecursion IsOne
 
-    pub items_to : (k : ℕ) (vs : List V) (e : Unit {0}) → IsListed items_reading items_form k true vs e → (1 ≤ length vs) × ((length vs ≤ k) × AllOne vs)
+    pub items_to : (k : ℕ) (vs : List V) (e : Unit {0}) → IsListed items_reading items_form k true vs e →
+        (1 ≤ length vs) × ((length vs ≤ k) × AllOne vs)
     items_to zero [] e is = absurd is
     items_to zero (v ∷ vs) e is = absurd is
     items_to (suc k) [] e is = absurd is
     items_to (suc k) (v ∷ []) e is = (omega arith, (omega arith, (is.1.0.0, tt)))
-    items_to (suc k) (v ∷ w ∷ vs) e is = let p = items_to k (w ∷ vs) e is.1.1 in (omega arith, (omega (arith, p.1.0), (is.1.0.0, p.1.1)))
+    items_to (suc k) (v ∷ w ∷ vs) e is = let p = items_to k (w ∷ vs) e is.1.1 in
+        (omega arith, (omega (arith, p.1.0), (is.1.0.0, p.1.1)))
 
-    pub items_from : (k : ℕ) (vs : List V) (e : Unit {0}) → 1 ≤ length vs → length vs ≤ k → AllOne vs → IsListed items_reading items_form k true vs e
+    pub items_from : (k : ℕ) (vs : List V) (e : Unit {0}) → 1 ≤ length vs → length vs ≤ k → AllOne vs →
+        IsListed items_reading items_form k true vs e
     items_from k [] e some most each = absurd (omega arith)
     items_from zero (v ∷ vs) e some most each = absurd (omega arith)
     items_from (suc k) (v ∷ []) e some most each = (refl, ((each.0, λ is. absurd cc), done k))
@@ -149,11 +162,13 @@ module _ {V : Type 0} (IsOne : V → Type 0) (one_pieces : V → List Piece) whe
 
     -- a space before each item and a line feed after the last are the space, and what is read
     pub items_text : (v : V) (vs : List V) (e : Unit {0}) (t : List Piece)
-        → flat_map (λ u. character space ∷ one_pieces u) (v ∷ vs) ++ (character line_feed ∷ t) ≡ character space ∷ (list_pieces items_form (v ∷ vs) e ++ t)
+        → flat_map (λ u. character space ∷ one_pieces u) (v ∷ vs) ++ (character line_feed ∷ t) ≡ character space ∷
+        (list_pieces items_form (v ∷ vs) e ++ t)
     items_text v [] e t =
         ap (λ (ps : List Piece). character space ∷ ps)
         (append_assoc (one_pieces v) [] (character line_feed ∷ t)
-        ∙ sym (append_assoc (one_pieces v ++ (character line_feed ∷ [])) [] t ∙ append_assoc (one_pieces v) (character line_feed ∷ []) t))
+        ∙ sym (append_assoc (one_pieces v ++ (character line_feed ∷ [])) [] t ∙ append_assoc (one_pieces v)
+        (character line_feed ∷ []) t))
     items_text v (w ∷ vs) e t =
         ap (λ (ps : List Piece). character space ∷ ps)
         (append_assoc (one_pieces v) (flat_map (λ u. character space ∷ one_pieces u) (w ∷ vs)) (character line_feed ∷ t)

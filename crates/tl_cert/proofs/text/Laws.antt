@@ -1,5 +1,6 @@
 -- What is read from a whole text is what the text says: its certificate, or its first fault.
-use Rattle.std.proofs.Common.{◌≡◌, ℕ, ◌+◌, ◌-◌, ◌≤◌, ◌<◌, List, [], ◌∷◌, ◌++◌, inl, inr, length, take, drop, refl, sym, ap, subst, ◌∙◌, append_assoc, arith}
+use Rattle.std.proofs.Common.{◌≡◌, ℕ, ◌+◌, ◌-◌, ◌≤◌, ◌<◌, List, [], ◌∷◌, ◌++◌, inl, inr, length, take, drop, refl, sym, ap, subst}
+use Rattle.std.proofs.Common.{◌∙◌, append_assoc, arith}
 use Rattle.std.proofs.lemmas.Bool.{cases_order}
 use Rattle.std.proofs.lemmas.List.{append-nil, length-append, take_at, take-append-drop, take-take}
 use Rattle.tl_cert.specs.declared.certificate.Certificate.{Certificate}
@@ -14,7 +15,8 @@ use Rattle.tl_cert.proofs.text.Whole.{exact_certificate}
 -- ---- the laws of the text
 
 -- No two certificates have one text, and no text is a proper prefix of another.
-pub texts_apart : (c d : Certificate) (t u : List ℕ) → IsShaped c → IsShaped d → cert_text c ++ t ≡ cert_text d ++ u → (c ≡ d) × (t ≡ u)
+pub texts_apart : (c d : Certificate) (t u : List ℕ) → IsShaped c → IsShaped d → cert_text c ++ t ≡ cert_text d ++ u →
+    (c ≡ d) × (t ≡ u)
 texts_apart c d t u one two same = exact_certificate.apart c d t u one two same
 
 -- ---- reading to the end
@@ -46,10 +48,12 @@ pub record StuckAt (bytes : List ℕ) (left : ℕ) : Type 0 where
 place_is : (bytes : List ℕ) (left : ℕ) (stuck : StuckAt bytes left) → length bytes - left ≡ length stuck.prefix
 place_is bytes left stuck = omega (arith, ap length stuck.parts ∙ length-append stuck.prefix stuck.rest, stuck.count)
 
-no_more : (bytes : List ℕ) (left : ℕ) (stuck : StuckAt bytes left) → length stuck.prefix < length bytes → BeginsText (take (length stuck.prefix + 1) bytes) → ⊥
+no_more : (bytes : List ℕ) (left : ℕ) (stuck : StuckAt bytes left) → length stuck.prefix < length bytes →
+    BeginsText (take (length stuck.prefix + 1) bytes) → ⊥
 no_more bytes left stuck less begun = at_rest stuck.rest stuck.parts stuck.goes_on
   where
-    at_rest : (rest : List ℕ) → bytes ≡ stuck.prefix ++ rest → ((other : List ℕ) (v : Certificate) → IsShaped v → SameStart rest other
+    at_rest : (rest : List ℕ) → bytes ≡ stuck.prefix ++ rest →
+        ((other : List ℕ) (v : Certificate) → IsShaped v → SameStart rest other
         → cert_text v ≡ stuck.prefix ++ other → ⊥) → ⊥
     at_rest [] parts goes_on = absurd (omega (arith, ap length parts ∙ length-append stuck.prefix []))
     at_rest (b ∷ rest) parts goes_on =
@@ -77,7 +81,11 @@ outside_from bytes place fault = record {
   beyond = fault.beyond;
   parts = fault.text;
   past = fault.past;
-  count = omega (arith, ap length fault.text ∙ length-append (spell fault.before) (numeral fault.n ++ fault.tail), fault.place_is);
+  count = omega (
+    arith,
+    ap length fault.text ∙ length-append (spell fault.before) (numeral fault.n ++ fault.tail),
+    fault.place_is,
+  );
 }
 
 range_from : (bytes : List ℕ) (left : ℕ) → Outside IsShaped cert_pieces bytes left → IsRangeFault bytes (length bytes - left)
@@ -103,7 +111,8 @@ WholeAnswer bytes (got c rest) = IsWritable c × (bytes ≡ cert_text c)
 WholeAnswer bytes (wrong left) = StuckAt bytes left
 WholeAnswer bytes (outside left) = Outside IsShaped cert_pieces bytes left
 
-at_end : (bytes : List ℕ) (c : Certificate) (rest : List ℕ) → Takes IsShaped cert_pieces bytes c rest → WholeAnswer bytes (ended_by c rest)
+at_end : (bytes : List ℕ) (c : Certificate) (rest : List ℕ) → Takes IsShaped cert_pieces bytes c rest →
+    WholeAnswer bytes (ended_by c rest)
 at_end bytes c [] p = ((p.shaped, p.within), p.parts ∙ append-nil (cert_text c))
 at_end bytes c (b ∷ rest) p = record {
   prefix = cert_text c;
@@ -144,7 +153,8 @@ whole_answer bytes = read_answer bytes (certificate_at bytes) refl
 pub whole_again : (bytes : List ℕ) (c : Certificate) → IsWritable c → bytes ≡ cert_text c → whole_at bytes ≡ got c []
 unfolding whole_at
 whole_again bytes c writable is =
-    let read : certificate_at bytes ≡ got c [] = ap certificate_at (is ∙ sym (append-nil (cert_text c))) ∙ exact_certificate.again c [] writable.0 writable.1 in
+    let read : certificate_at bytes ≡ got c [] = ap certificate_at
+    (is ∙ sym (append-nil (cert_text c))) ∙ exact_certificate.again c [] writable.0 writable.1 in
     ap (λ (x : Answer Certificate). then_read x ended_by) read
 
 pub whole_outside : (bytes : List ℕ) (place : ℕ) → IsRangeFault bytes place → (whole_at bytes ≡ outside (length bytes - place))
@@ -162,11 +172,13 @@ syntax_from bytes left is =
     let P : Answer Certificate → Type 0 = WholeAnswer bytes in
     let stuck : StuckAt bytes left = subst P is (whole_answer bytes) in
     let place = place_is bytes left stuck in
-    let prefix : take (length stuck.prefix) bytes ≡ stuck.prefix = ap (take (length stuck.prefix)) stuck.parts ∙ take_prefix stuck.prefix stuck.rest in
+    let prefix : take (length stuck.prefix) bytes ≡ stuck.prefix =
+    ap (take (length stuck.prefix)) stuck.parts ∙ take_prefix stuck.prefix stuck.rest in
     record {
       there = omega arith;
       begins = rw (place, prefix) stuck.begins;
-      ends = λ less begun. no_more bytes left stuck (omega (arith, place)) (let Q : ℕ → Type 0 = λ k. BeginsText (take (k + 1) bytes) in subst Q place begun);
+      ends = λ less begun. no_more bytes left stuck (omega (arith, place)) (let Q : ℕ → Type 0 =
+          λ k. BeginsText (take (k + 1) bytes) in subst Q place begun);
       no_text = λ c shaped same. no_whole bytes left stuck c shaped same;
       no_range = λ other fault. let out = (whole_outside bytes other fault).0 in cc;
     }
@@ -196,10 +208,12 @@ one_place bytes p q one two =
     ]
 
 -- whatever is no text and has no number outside its range is stuck
-pub whole_wrong : (bytes : List ℕ) (place : ℕ) → IsSyntaxFault bytes place → (left : ℕ) × (whole_at bytes ≡ wrong left) × (length bytes - left ≡ place)
+pub whole_wrong : (bytes : List ℕ) (place : ℕ) → IsSyntaxFault bytes place →
+    (left : ℕ) × (whole_at bytes ≡ wrong left) × (length bytes - left ≡ place)
 whole_wrong bytes place fault = at_answer (whole_at bytes) refl
   where
-    at_answer : (x : Answer Certificate) → whole_at bytes ≡ x → (left : ℕ) × (whole_at bytes ≡ wrong left) × (length bytes - left ≡ place)
+    at_answer : (x : Answer Certificate) → whole_at bytes ≡ x →
+        (left : ℕ) × (whole_at bytes ≡ wrong left) × (length bytes - left ≡ place)
     at_answer (got c rest) is =
         let P : Answer Certificate → Type 0 = WholeAnswer bytes in
         let read : IsWritable c × (bytes ≡ cert_text c) = subst P is (whole_answer bytes) in
@@ -215,5 +229,6 @@ range_of bytes left is =
     let P : Answer Certificate → Type 0 = WholeAnswer bytes in
     range_from bytes left (subst P is (whole_answer bytes))
 
-pub text_of : (bytes : List ℕ) (c : Certificate) (rest : List ℕ) → whole_at bytes ≡ got c rest → IsWritable c × (bytes ≡ cert_text c)
+pub text_of : (bytes : List ℕ) (c : Certificate) (rest : List ℕ) → whole_at bytes ≡ got c rest →
+    IsWritable c × (bytes ≡ cert_text c)
 text_of bytes c rest is = let P : Answer Certificate → Type 0 = WholeAnswer bytes in subst P is (whole_answer bytes)

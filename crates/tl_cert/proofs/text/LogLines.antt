@@ -1,5 +1,6 @@
 -- Reading a log line is exact.
-use Rattle.std.proofs.Common.{◌≡◌, ℕ, ◌≤◌, Bool, true, false, eqb, List, [], ◌∷◌, ◌++◌, ◌⊎◌, inl, inr, length, refl, sym, ap, subst, ◌∙◌, append_assoc, arith}
+use Rattle.std.proofs.Common.{◌≡◌, ℕ, ◌≤◌, Bool, true, false, eqb, List, [], ◌∷◌, ◌++◌, ◌⊎◌, inl, inr, length, refl, sym, ap}
+use Rattle.std.proofs.Common.{subst, ◌∙◌, append_assoc, arith}
 use Rattle.std.specs.Prelude.{codes}
 use Rattle.std.specs.List.{flat_map}
 use Rattle.tl_cert.specs.declared.log.Bound.{Bound}
@@ -11,7 +12,8 @@ use Rattle.tl_cert.specs.declared.areas.Areas.{Areas}
 use Rattle.tl_base.specs.declared.limits.TheConstants.{MAX_PAGE_WIDTH}
 use Rattle.tl_cert.specs.declared.limits.TheConstants.{MAX_ZONE, MAX_LINE}
 use Rattle.tl_cert.specs.Pieces.{Piece, character, number, field, word, spell, numeral}
-use Rattle.tl_cert.specs.Text.{space, side_sign, bound_pieces, bounds_pieces, fire_pieces, line_pieces, is_area, IsLineShaped, IsNogoodShaped, AreBounds}
+use Rattle.tl_cert.specs.Text.{space, side_sign, bound_pieces, bounds_pieces, fire_pieces, line_pieces, is_area, IsLineShaped}
+use Rattle.tl_cert.specs.Text.{IsNogoodShaped, AreBounds}
 use Rattle.tl_cert.specs.inner.Areas.{Suits}
 use Rattle.tl_cert.specs.inner.CertReading.{zone_line_at, bounds_line_at, line_at}
 use Rattle.tl_cert.specs.inner.reading.Readings.{begins}
@@ -56,12 +58,15 @@ zone_again : (nogood : Nogood) (zone : ℕ) → IsZone nogood → zone_of nogood
 zone_again (nogoods.Zone z) zone is same = ap (λ (k : ℕ). nogoods.Zone k) same
 zone_again (nogoods.Bounds bounds) zone is same = absurd is
 
-zone_text : (nogood : Nogood) (line : LogLine) → IsZone nogood → line.nogood ≡ nogood → line_pieces line ≡ word (codes "z") ++ after_zone line
+zone_text : (nogood : Nogood) (line : LogLine) → IsZone nogood → line.nogood ≡ nogood →
+    line_pieces line ≡ word (codes "z") ++ after_zone line
 zone_text (nogoods.Zone z) line is same =
     let P : Nogood → List Piece = λ nogood. line_pieces (record { nogood = nogood; fires = line.fires; end = line.end }) in
-    let Q : Nogood → List Piece = λ nogood. word (codes "z") ++ (field 0 MAX_ZONE (zone_of nogood) space ++ fires_pieces (fired_by line)) in
+    let Q : Nogood → List Piece = λ nogood. word (codes "z") ++
+    (field 0 MAX_ZONE (zone_of nogood) space ++ fires_pieces (fired_by line)) in
     ap P same ∙ ap (λ (ps : List Piece). character 122 ∷ number 0 MAX_ZONE z ∷ ps)
-    (shifted (λ (n : ℕ). character 64 ∷ number 0 MAX_LINE n ∷ []) (character space) line.fires (end_pieces line.end)) ∙ sym (ap Q same)
+    (shifted (λ (n : ℕ). character 64 ∷ number 0 MAX_LINE n ∷ []) (character space) line.fires (end_pieces line.end)) ∙ sym
+    (ap Q same)
 zone_text (nogoods.Bounds bounds) line is same = absurd is
 
 line_again : (line : LogLine) (zone : ℕ) (x : Listing ℕ End) → IsZone line.nogood → zone_of line.nogood ≡ zone → fired_by line ≡ x
@@ -74,9 +79,11 @@ line_again line zone x is same rest =
 exact_zone_line : (areas : Areas) → Exact (zone_line_at areas) (IsZoneLine areas) line_pieces
 exact_zone_line areas =
     exact_after (codes "z") after_zone line_pieces
-    (exact_part_then (λ (line : LogLine). zone_of line.nogood) (IsZoneLine areas) after_zone (λ zone line. fires_pieces (fired_by line))
+    (exact_part_then (λ (line : LogLine). zone_of line.nogood) (IsZoneLine areas) after_zone
+    (λ zone line. fires_pieces (fired_by line))
     (exact_field 0 MAX_ZONE space refl)
-    (λ zone any. exact_part_then fired_by (λ line. IsZoneLine areas line × (zone_of line.nogood ≡ zone)) (λ line. fires_pieces (fired_by line)) (λ x line. [])
+    (λ zone any. exact_part_then fired_by (λ line. IsZoneLine areas line × (zone_of line.nogood ≡ zone))
+    (λ line. fires_pieces (fired_by line)) (λ x line. [])
     (exact_fires areas)
     (λ x fires. exact_only (record { nogood = nogoods.Zone zone; fires = x.0; end = x.1 })
     (λ line. (IsZoneLine areas line × (zone_of line.nogood ≡ zone)) × (fired_by line ≡ x))
@@ -109,10 +116,12 @@ bounds_again : (nogood : Nogood) → IsBounds nogood → (AreBounds (bounds_of n
 bounds_again (nogoods.Zone zone) is = absurd is
 bounds_again (nogoods.Bounds bounds) is = (is, refl)
 
-bounds_line_text : (bounds : List Bound) (x : Listing ℕ End) → 1 ≤ length bounds → line_pieces (line_of (listing bounds x)) ≡ bounds_text (listing bounds x)
+bounds_line_text : (bounds : List Bound) (x : Listing ℕ End) → 1 ≤ length bounds →
+    line_pieces (line_of (listing bounds x)) ≡ bounds_text (listing bounds x)
 bounds_line_text [] x some = absurd (omega arith)
 bounds_line_text (b ∷ bs) x some =
-    append_assoc (bound_pieces b) (flat_map (λ m. character space ∷ bound_pieces m) bs) (flat_map fire_pieces (x.0) ++ (character space ∷ end_pieces (x.1)))
+    append_assoc (bound_pieces b) (flat_map (λ m. character space ∷ bound_pieces m) bs)
+    (flat_map fire_pieces (x.0) ++ (character space ∷ end_pieces (x.1)))
     ∙ ap (λ (ps : List Piece). bound_pieces b ++ (flat_map (λ m. character space ∷ bound_pieces m) bs ++ ps))
     (shifted (λ (n : ℕ). character 64 ∷ number 0 MAX_LINE n ∷ []) (character space) (x.0) (end_pieces (x.1)))
     ∙ ap (λ (ps : List Piece). bound_pieces b ++ ps) (shifted bound_pieces (character space) bs (fires_pieces x))
@@ -128,12 +137,17 @@ exact_bounds_line areas =
 
 -- ---- either
 
-line_separated : (areas : Areas) (nogood : Nogood) (line : LogLine) → line.nogood ≡ nogood → IsLine areas line → IsZoneLine areas line ⊎ IsBoundsLine areas line
+line_separated : (areas : Areas) (nogood : Nogood) (line : LogLine) → line.nogood ≡ nogood → IsLine areas line →
+    IsZoneLine areas line ⊎ IsBoundsLine areas line
 line_separated areas (nogoods.Zone zone) line same is =
     inl (record { zone = subst IsZone (sym same) tt; fires = record { most = is.shaped.fires; end = is.end } })
 line_separated areas (nogoods.Bounds bounds) line same is =
     let P : Nogood → Type 0 = IsNogoodShaped in
-    inr (record { bounds = subst IsBounds (sym same) (subst P same is.shaped.nogood); fires = record { most = is.shaped.fires; end = is.end } })
+    inr (record {
+      bounds = subst IsBounds (sym same) (subst P same is.shaped.nogood);
+      fires =
+          record { most = is.shaped.fires; end = is.end };
+    })
 
 zone_shaped : (nogood : Nogood) → IsZone nogood → IsNogoodShaped nogood
 zone_shaped (nogoods.Zone zone) is = tt
@@ -146,7 +160,8 @@ bounds_shaped (nogoods.Bounds bounds) is = is
 zone_begins : (nogood : Nogood) (line : LogLine) (t : List ℕ) → line.nogood ≡ nogood → IsZone nogood
     → begins (λ c. eqb c 122) (spell (line_pieces line) ++ t) ≡ true
 zone_begins (nogoods.Zone zone) line t same is =
-    let P : Nogood → Bool = λ nogood. begins (λ c. eqb c 122) (spell (line_pieces (record { nogood = nogood; fires = line.fires; end = line.end })) ++ t) in
+    let P : Nogood → Bool = λ nogood. begins (λ c. eqb c 122)
+    (spell (line_pieces (record { nogood = nogood; fires = line.fires; end = line.end })) ++ t) in
     ap P same
 zone_begins (nogoods.Bounds bounds) line t same is = absurd is
 
@@ -162,14 +177,16 @@ bounds_begin : (bounds : List Bound) (rest : List Piece) (t : List ℕ) → 1 �
     → begins (λ c. eqb c 122) (spell (bounds_pieces bounds ++ rest) ++ t) ≡ false
 bounds_begin [] rest t some = absurd (omega arith)
 bounds_begin (b ∷ bs) rest t some =
-    let others : List Piece = character (side_sign b.side) ∷ number 0 MAX_PAGE_WIDTH b.width ∷ (flat_map (λ m. character space ∷ bound_pieces m) bs ++ rest) in
+    let others : List Piece = character (side_sign b.side) ∷ number 0 MAX_PAGE_WIDTH b.width ∷
+    (flat_map (λ m. character space ∷ bound_pieces m) bs ++ rest) in
     ap (begins (λ c. eqb c 122)) (append_assoc (numeral b.span) (spell others) t) ∙ digit_no_z b.span (spell others ++ t)
 
 bounds_line_begins : (nogood : Nogood) (line : LogLine) (t : List ℕ) → line.nogood ≡ nogood → IsBounds nogood
     → begins (λ c. eqb c 122) (spell (line_pieces line) ++ t) ≡ false
 bounds_line_begins (nogoods.Zone zone) line t same is = absurd is
 bounds_line_begins (nogoods.Bounds bounds) line t same is =
-    let P : Nogood → Bool = λ nogood. begins (λ c. eqb c 122) (spell (line_pieces (record { nogood = nogood; fires = line.fires; end = line.end })) ++ t) in
+    let P : Nogood → Bool = λ nogood. begins (λ c. eqb c 122)
+    (spell (line_pieces (record { nogood = nogood; fires = line.fires; end = line.end })) ++ t) in
     ap P same ∙ bounds_begin bounds (flat_map fire_pieces line.fires ++ (character space ∷ end_pieces line.end)) t is.some
 
 pub exact_line : (areas : Areas) → Exact (line_at areas) (IsLine areas) line_pieces
@@ -177,8 +194,16 @@ unfolding line_at
 exact_line areas =
     let chosen : Chosen (λ c. eqb c 122) line_pieces (IsZoneLine areas) (IsBoundsLine areas) (IsLine areas) = record {
       separated = λ line is. line_separated areas line.nogood line refl is;
-      first = λ line is. record { shaped = record { nogood = zone_shaped line.nogood is.zone; fires = is.fires.most }; end = is.fires.end };
-      other = λ line is. record { shaped = record { nogood = bounds_shaped line.nogood is.bounds; fires = is.fires.most }; end = is.fires.end };
+      first = λ line is. record {
+        shaped = record { nogood = zone_shaped line.nogood is.zone; fires = is.fires.most };
+        end =
+            is.fires.end;
+      };
+      other = λ line is. record {
+        shaped = record { nogood = bounds_shaped line.nogood is.bounds; fires = is.fires.most };
+        end =
+            is.fires.end;
+      };
       yes = λ line t is. zone_begins line.nogood line t refl is.zone;
       no = λ line t is. bounds_line_begins line.nogood line t refl is.bounds;
     } in

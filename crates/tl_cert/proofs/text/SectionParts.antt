@@ -29,7 +29,8 @@ IsPaid Free = Unit {0}
 IsPaid Owed = ⊥
 
 -- what is asked of the whole is asked of the first part and of the others
-pub suits_parts : (areas : Areas) (k : ℕ) (first others : Bool) → Suits (for_part k areas) first → Suits (after areas first) others
+pub suits_parts : (areas : Areas) (k : ℕ) (first others : Bool) → Suits (for_part k areas) first →
+    Suits (after areas first) others
     → Suits areas (first || others)
 suits_parts Never zero false others one two = two
 suits_parts Never (suc k) false others one two = two
@@ -39,7 +40,8 @@ suits_parts Free k first others one two = tt
 suits_parts Owed k true others one two = refl
 suits_parts Owed k false others one two = two
 
-pub suits_first : (areas : Areas) (k : ℕ) (first others : Bool) → (k ≡ 0 → others ≡ false) → Suits areas (first || others) → Suits (for_part k areas) first
+pub suits_first : (areas : Areas) (k : ℕ) (first others : Bool) → (k ≡ 0 → others ≡ false) → Suits areas (first || others) →
+    Suits (for_part k areas) first
 suits_first Never zero false others last is = refl
 suits_first Never zero true others last is = is
 suits_first Never (suc k) false others last is = refl
@@ -95,7 +97,8 @@ lines_exact = record {
   lifted = λ k areas line lines e is listed. refl;
 }
   where
-    later : (k : ℕ) (areas : Areas) (line : LogLine) → IsReadyFor (suc k) areas → IsLine (for_part k areas) line → IsReadyFor k (after areas (is_area line.end))
+    later : (k : ℕ) (areas : Areas) (line : LogLine) → IsReadyFor (suc k) areas → IsLine (for_part k areas) line →
+        IsReadyFor k (after areas (is_area line.end))
     later zero areas line ready is = paid_at_last areas (is_area line.end) is.end
     later (suc k) areas line ready is = tt
 
@@ -115,7 +118,8 @@ paid_if_none Never is = tt
 paid_if_none Free is = tt
 paid_if_none Owed is = absurd cc
 
-lines_to : (k : ℕ) (areas : Areas) (lines : List LogLine) (e : Unit {0}) → IsListed lines_reading lines_form k areas lines e → AreLines k areas lines
+lines_to : (k : ℕ) (areas : Areas) (lines : List LogLine) (e : Unit {0}) → IsListed lines_reading lines_form k areas lines e →
+    AreLines k areas lines
 lines_to zero areas [] e is = record { count_is = refl; shaped = tt; asked = none_owed areas is }
 lines_to zero areas (line ∷ lines) e is = absurd is
 lines_to (suc k) areas [] e is = absurd is
@@ -131,7 +135,8 @@ no_more_lines : (lines : List LogLine) (k : ℕ) → length lines ≡ k → k �
 no_more_lines [] k count_is none = refl
 no_more_lines (line ∷ lines) k count_is none = absurd (omega arith)
 
-lines_from : (k : ℕ) (areas : Areas) (lines : List LogLine) (e : Unit {0}) → AreLines k areas lines → IsListed lines_reading lines_form k areas lines e
+lines_from : (k : ℕ) (areas : Areas) (lines : List LogLine) (e : Unit {0}) → AreLines k areas lines →
+    IsListed lines_reading lines_form k areas lines e
 lines_from zero areas [] e is = paid_if_none areas is.asked
 lines_from zero areas (line ∷ lines) e is = absurd (omega (arith, is.count_is))
 lines_from (suc k) areas [] e is = absurd (omega (arith, is.count_is))
@@ -142,7 +147,12 @@ lines_from (suc k) areas (line ∷ lines) e is =
       (
         record { shaped = is.shaped.0; end = first },
         lines_from k (after areas (is_area line.end)) lines e
-            (record { count_is = left; shaped = is.shaped.1; asked = suits_others areas (is_area line.end) (log_has_area lines) is.asked }),
+            (record {
+              count_is = left;
+              shaped = is.shaped.1;
+              asked =
+                  suits_others areas (is_area line.end) (log_has_area lines) is.asked;
+            }),
       ),
     )
 
@@ -150,7 +160,8 @@ lines_text : (lines : List LogLine) (e : Unit {0}) → list_pieces lines_form li
 lines_text [] e = refl
 lines_text (line ∷ lines) e = ap (λ (ps : List Piece). line_pieces line ++ ps) (lines_text lines e)
 
-pub exact_lines : (count : ℕ) (areas : Areas) → IsReadyFor count areas → Exact (lines_at count areas) (λ x. AreLines count areas (x.0))
+pub exact_lines : (count : ℕ) (areas : Areas) → IsReadyFor count areas →
+    Exact (lines_at count areas) (λ x. AreLines count areas (x.0))
     (λ x. flat_map line_pieces (x.0))
 exact_lines count areas ready =
     exact_same (λ (x : Listing LogLine (Unit {0})). AreLines count areas (x.0)) (λ x. flat_map line_pieces (x.0))
@@ -170,7 +181,8 @@ exact_cut =
     (λ span cut. field 0 MAX_CLASS cut.class line_feed) (exact_field 0 MAX_SPAN space refl)
     (λ span b. exact_part_then (λ (cut : CutAt). cut.class) (λ cut. (IsAny cut × (cut.zone ≡ zone)) × (cut.span ≡ span))
     (λ cut. field 0 MAX_CLASS cut.class line_feed) (λ class cut. []) (exact_field 0 MAX_CLASS line_feed refl)
-    (λ class d. exact_only (record { zone = zone; span = span; class = class }) (λ cut. ((IsAny cut × (cut.zone ≡ zone)) × (cut.span ≡ span))
+    (λ class d. exact_only (record { zone = zone; span = span; class = class })
+    (λ cut. ((IsAny cut × (cut.zone ≡ zone)) × (cut.span ≡ span))
     × (cut.class ≡ class))
     (((tt, refl), refl), refl) (λ cut is. cut_again cut zone span class is.0.0.1 is.0.1 is.1))
     (λ cut is. (tt, refl)))

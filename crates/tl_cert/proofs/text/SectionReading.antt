@@ -25,7 +25,8 @@ use Rattle.tl_cert.proofs.reading.Same.{exact_same}
 use Rattle.tl_cert.proofs.reading.NumberReading.{IsRule, exact_number}
 use Rattle.tl_cert.proofs.reading.ListExact.{list_pieces, exact_list}
 use Rattle.tl_cert.proofs.text.Fields.{exact_after, exact_field, exact_part_then, exact_only, exact_made, exact_sign}
-use Rattle.tl_cert.proofs.text.Items.{end_of, ends_by, end_is, item_rule, flagged, item_pieces, items_form, items_exact, items_to, items_from, items_text}
+use Rattle.tl_cert.proofs.text.Items.{end_of, ends_by, end_is, item_rule, flagged, item_pieces, items_form, items_exact, items_to}
+use Rattle.tl_cert.proofs.text.Items.{items_from, items_text}
 use Rattle.tl_cert.proofs.text.SectionParts.{IsReadyFor, AreLines, exact_lines, exact_cuts}
 
 -- ---- widths
@@ -40,13 +41,16 @@ space_again false = refl
 abbrev AnyWidth : ℕ → Type 0
 AnyWidth width = Unit {0}
 
-exact_width : (more : Bool) → Exact (width_at more) (λ (a : ℕ × Bool). AnyWidth (a.0) × (a.1 ≡ true → more ≡ true)) (item_pieces AnyWidth width_pieces)
+exact_width : (more : Bool) → Exact (width_at more) (λ (a : ℕ × Bool). AnyWidth (a.0) × (a.1 ≡ true → more ≡ true))
+    (item_pieces AnyWidth width_pieces)
 unfolding width_at
 exact_width more =
     exact_made (λ (x : ℕ × ℕ). flagged AnyWidth width_pieces (x.0) (eqb (x.1) space)) (λ (a : ℕ × Bool). (a.0, end_of (a.1)))
-    (λ (a : ℕ × Bool). AnyWidth (a.0) × (a.1 ≡ true → more ≡ true)) (item_pieces AnyWidth width_pieces) (exact_number 0 MAX_PAGE_WIDTH (item_rule more))
+    (λ (a : ℕ × Bool). AnyWidth (a.0) × (a.1 ≡ true → more ≡ true)) (item_pieces AnyWidth width_pieces)
+    (exact_number 0 MAX_PAGE_WIDTH (item_rule more))
     (λ a is. (ends_by more (a.1) is.1, ap (flagged AnyWidth width_pieces (a.0)) (sym (space_again (a.1)))))
-    (λ x is. let p = end_is more (x.1) is in ((tt, p.1), ap (λ (c : ℕ). number 0 MAX_PAGE_WIDTH (x.0) ∷ character c ∷ []) (sym p.0)))
+    (λ x is. let p = end_is more (x.1) is in
+    ((tt, p.1), ap (λ (c : ℕ). number 0 MAX_PAGE_WIDTH (x.0) ∷ character c ∷ []) (sym p.0)))
 
 record AreSomeWidths (x : Listing ℕ (Unit {0})) : Type 0 where
   some : 1 ≤ length (x.0)
@@ -62,16 +66,20 @@ widths_read x = list_pieces (items_form AnyWidth width_pieces) (x.0) (x.1)
 exact_some_widths : Exact some_widths_at AreSomeWidths widths_read
 exact_some_widths =
     exact_same AreSomeWidths widths_read
-    (exact_list widths_reading (items_form AnyWidth width_pieces) (items_exact AnyWidth width_pieces (λ k more. width_at (ltb 0 k))
+    (exact_list widths_reading (items_form AnyWidth width_pieces)
+    (items_exact AnyWidth width_pieces (λ k more. width_at (ltb 0 k))
     (λ k. exact_width (ltb 0 k))) MAX_COLUMNS true tt)
-    (λ x is. let p = items_to AnyWidth width_pieces (λ k more. width_at (ltb 0 k)) MAX_COLUMNS (x.0) (x.1) is in record { some = p.0; most = p.1.0 })
-    (λ x is. items_from AnyWidth width_pieces (λ k more. width_at (ltb 0 k)) MAX_COLUMNS (x.0) (x.1) is.some is.most (any_widths (x.0)))
+    (λ x is. let p = items_to AnyWidth width_pieces (λ k more. width_at (ltb 0 k)) MAX_COLUMNS (x.0) (x.1) is in
+    record { some = p.0; most = p.1.0 })
+    (λ x is. items_from AnyWidth width_pieces (λ k more. width_at (ltb 0 k)) MAX_COLUMNS (x.0) (x.1) is.some is.most
+    (any_widths (x.0)))
     (λ x is. refl)
 
 abbrev widths_tail : Listing ℕ (Unit {0}) → List Piece
 widths_tail x = flat_map (spaced MAX_PAGE_WIDTH) (x.0) ++ word (codes "\n")
 
-some_widths_text : (ws : List ℕ) (e : Unit {0}) → 1 ≤ length ws → widths_tail (listing ws e) ≡ word (codes " ") ++ widths_read (listing ws e)
+some_widths_text : (ws : List ℕ) (e : Unit {0}) → 1 ≤ length ws →
+    widths_tail (listing ws e) ≡ word (codes " ") ++ widths_read (listing ws e)
 some_widths_text [] e some = absurd (omega arith)
 some_widths_text (w ∷ ws) e some =
     items_text AnyWidth width_pieces (λ k more. width_at (ltb 0 k)) w ws e [] ∙ ap (λ (ps : List Piece). character space ∷ ps)
@@ -80,11 +88,13 @@ some_widths_text (w ∷ ws) e some =
 abbrev pub AreWidths : Listing ℕ (Unit {0}) → Type 0
 AreWidths x = length (x.0) ≤ MAX_COLUMNS
 
-widths_separated : (ws : List ℕ) (e : Unit {0}) → length ws ≤ MAX_COLUMNS → AreSomeWidths (listing ws e) ⊎ (listing ws e ≡ listing [] tt)
+widths_separated : (ws : List ℕ) (e : Unit {0}) → length ws ≤ MAX_COLUMNS →
+    AreSomeWidths (listing ws e) ⊎ (listing ws e ≡ listing [] tt)
 widths_separated [] e most = inr refl
 widths_separated (w ∷ ws) e most = inl (record { some = omega arith; most = most })
 
-widths_begin : (ws : List ℕ) (e : Unit {0}) (t : List ℕ) → 1 ≤ length ws → begins (λ c. eqb c space) (spell (widths_tail (listing ws e)) ++ t) ≡ true
+widths_begin : (ws : List ℕ) (e : Unit {0}) (t : List ℕ) → 1 ≤ length ws →
+    begins (λ c. eqb c space) (spell (widths_tail (listing ws e)) ++ t) ≡ true
 widths_begin [] e t some = absurd (omega arith)
 widths_begin (w ∷ ws) e t some = refl
 
@@ -94,7 +104,8 @@ widths_pieces x = word (codes "widths") ++ widths_tail x
 pub exact_widths : Exact widths_at AreWidths widths_pieces
 unfolding widths_at
 exact_widths =
-    let chosen : Chosen (λ c. eqb c space) widths_tail AreSomeWidths (λ (x : Listing ℕ (Unit {0})). x ≡ listing [] tt) AreWidths = record {
+    let chosen : Chosen (λ c. eqb c space) widths_tail AreSomeWidths (λ (x : Listing ℕ (Unit {0})). x ≡ listing [] tt)
+    AreWidths = record {
       separated = λ x is. widths_separated (x.0) (x.1) is;
       first = λ x is. is.most;
       other = λ x is. subst AreWidths (sym is) (omega arith);
@@ -102,7 +113,8 @@ exact_widths =
       no = λ x t is. ap (λ (y : Listing ℕ (Unit {0})). begins (λ c. eqb c space) (spell (widths_tail y) ++ t)) is;
     } in
     exact_after (codes "widths") widths_tail widths_pieces
-    (exact_either (exact_after (codes " ") widths_read widths_tail exact_some_widths (λ x is. some_widths_text (x.0) (x.1) is.some))
+    (exact_either (exact_after (codes " ") widths_read widths_tail exact_some_widths
+    (λ x is. some_widths_text (x.0) (x.1) is.some))
     (exact_sign (codes "\n") (listing [] tt) widths_tail refl) chosen)
     (λ x is. refl)
 
@@ -121,10 +133,12 @@ count_rule areas = record {
   longer = λ n positive. (n, [], some_count areas n positive, sym (append-nil (numeral n)));
 }
 
-exact_count : (areas : Areas) (cuts : ℕ) → Exact (count_at areas cuts) (λ n. may_count areas n ≡ true) (λ n. field 1 (2 * cuts + 1) n line_feed)
+exact_count : (areas : Areas) (cuts : ℕ) → Exact (count_at areas cuts) (λ n. may_count areas n ≡ true)
+    (λ n. field 1 (2 * cuts + 1) n line_feed)
 unfolding count_at
 exact_count areas cuts =
-    exact_made (λ (x : ℕ × ℕ). x.0) (λ n. (n, line_feed)) (λ n. may_count areas n ≡ true) (λ n. field 1 (2 * cuts + 1) n line_feed)
+    exact_made (λ (x : ℕ × ℕ). x.0) (λ n. (n, line_feed)) (λ n. may_count areas n ≡ true)
+    (λ n. field 1 (2 * cuts + 1) n line_feed)
     (exact_number 1 (2 * cuts + 1) (count_rule areas))
     (λ n is. (is, refl))
     (λ x is.
@@ -211,8 +225,10 @@ module _ (areas : Areas) where
   abbrev Is8 : ℕ → ℕ → ℕ → ℕ → ℕ → ℕ → Listing ℕ (Unit {0}) → Listing CutAt (Unit {0}) → Section → Type 0
   Is8 table width height lower cuts lines widths trace s = Is7 table width height lower cuts lines widths s × (trace_of s ≡ trace)
 
-  abbrev Is9 : ℕ → ℕ → ℕ → ℕ → ℕ → ℕ → Listing ℕ (Unit {0}) → Listing CutAt (Unit {0}) → Listing LogLine (Unit {0}) → Section → Type 0
-  Is9 table width height lower cuts lines widths trace log s = Is8 table width height lower cuts lines widths trace s × (log_of s ≡ log)
+  abbrev Is9 : ℕ → ℕ → ℕ → ℕ → ℕ → ℕ → Listing ℕ (Unit {0}) → Listing CutAt (Unit {0}) → Listing LogLine (Unit {0}) → Section →
+      Type 0
+  Is9 table width height lower cuts lines widths trace log s =
+      Is8 table width height lower cuts lines widths trace s × (log_of s ≡ log)
 
   abbrev made : ℕ → ℕ → ℕ → ℕ → List ℕ → List CutAt → List LogLine → Section
   made table width height lower widths trace log = record {
@@ -227,7 +243,8 @@ module _ (areas : Areas) where
 
   section_again : (table width height lower cuts lines : ℕ) (widths : Listing ℕ (Unit {0})) (trace : Listing CutAt (Unit {0}))
       (log : Listing LogLine (Unit {0})) (s : Section)
-      → Is9 table width height lower cuts lines widths trace log s → s ≡ made table width height lower (widths.0) (trace.0) (log.0)
+      → Is9 table width height lower cuts lines widths trace log s →
+      s ≡ made table width height lower (widths.0) (trace.0) (log.0)
   section_again table width height lower cuts lines widths trace log s is =
       ap (λ (k : ℕ). made k s.width s.height s.lower s.widths s.trace s.log) is.0.0.0.0.0.0.0.0.1
       ∙ ap (λ (k : ℕ). made table k s.height s.lower s.widths s.trace s.log) is.0.0.0.0.0.0.0.1
@@ -237,13 +254,23 @@ module _ (areas : Areas) where
       ∙ ap (λ (x : Listing CutAt (Unit {0})). made table width height lower (widths.0) (x.0) s.log) is.0.1
       ∙ ap (λ (x : Listing LogLine (Unit {0})). made table width height lower (widths.0) (trace.0) (x.0)) is.1
 
-  section_made : (table width height lower cuts lines : ℕ) (widths : Listing ℕ (Unit {0})) (trace : Listing CutAt (Unit {0})) (log : Listing LogLine (Unit {0}))
+  section_made : (table width height lower cuts lines : ℕ) (widths : Listing ℕ (Unit {0})) (trace : Listing CutAt (Unit {0}))
+      (log : Listing LogLine (Unit {0}))
       → AreWidths widths → length (trace.0) ≡ cuts → AreLines lines areas (log.0)
       → Is9 table width height lower cuts lines widths trace log (made table width height lower (widths.0) (trace.0) (log.0))
   section_made table width height lower cuts lines widths trace log most cut lined = (
     (
       (
-        ((((((record { shaped = record { widths = most; lines = lined.shaped }; asked = lined.asked }, refl), refl), refl), refl), cut), lined.count_is),
+        (
+          (
+            (
+              (((record { shaped = record { widths = most; lines = lined.shaped }; asked = lined.asked }, refl), refl), refl),
+              refl,
+            ),
+            cut,
+          ),
+          lined.count_is,
+        ),
         refl,
       ),
       refl,
@@ -255,30 +282,49 @@ module _ (areas : Areas) where
   unfolding section_at
   exact_section =
       exact_after (codes "section ") table_part section_pieces
-      (exact_part_then (λ (s : Section). s.table) (IsSection areas) table_part (λ a s. width_part s) (exact_field 0 MAX_TABLE space refl) (λ table _.
-      exact_part_then (λ (s : Section). s.width) (Is1 table) width_part (λ a s. height_part s) (exact_field 0 MAX_PAGE_WIDTH space refl) (λ width _.
-      exact_part_then (λ (s : Section). s.height) (Is2 table width) height_part (λ a s. lower_part s) (exact_field 0 MAX_HEIGHT space refl) (λ height _.
-      exact_part_then (λ (s : Section). s.lower) (Is3 table width height) lower_part (λ a s. cuts_part s) (exact_field 0 MAX_HEIGHT space refl) (λ lower _.
-      exact_part_then (λ (s : Section). length s.trace) (Is4 table width height lower) cuts_part (λ a s. count_part s) (exact_field 0 MAX_BUDGET space refl)
+      (exact_part_then (λ (s : Section). s.table) (IsSection areas) table_part (λ a s. width_part s)
+      (exact_field 0 MAX_TABLE space refl) (λ table _.
+      exact_part_then (λ (s : Section). s.width) (Is1 table) width_part (λ a s. height_part s)
+      (exact_field 0 MAX_PAGE_WIDTH space refl) (λ width _.
+      exact_part_then (λ (s : Section). s.height) (Is2 table width) height_part (λ a s. lower_part s)
+      (exact_field 0 MAX_HEIGHT space refl) (λ height _.
+      exact_part_then (λ (s : Section). s.lower) (Is3 table width height) lower_part (λ a s. cuts_part s)
+      (exact_field 0 MAX_HEIGHT space refl) (λ lower _.
+      exact_part_then (λ (s : Section). length s.trace) (Is4 table width height lower) cuts_part (λ a s. count_part s)
+      (exact_field 0 MAX_BUDGET space refl)
       (λ cuts _.
-      exact_part_then (λ (s : Section). length s.log) (Is5 table width height lower cuts) count_part (λ a s. widths_part s) (exact_count areas cuts)
+      exact_part_then (λ (s : Section). length s.log) (Is5 table width height lower cuts) count_part (λ a s. widths_part s)
+      (exact_count areas cuts)
       (λ lines can.
-      exact_part_then widths_of (Is6 table width height lower cuts lines) widths_part (λ a s. trace_part s) exact_widths (λ widths most.
-      exact_part_then trace_of (Is7 table width height lower cuts lines widths) trace_part (λ a s. log_part s) (exact_cuts cuts) (λ trace cut.
-      exact_part_then log_of (Is8 table width height lower cuts lines widths trace) log_part (λ a s. []) (exact_lines lines areas (ready_for areas lines can))
+      exact_part_then widths_of (Is6 table width height lower cuts lines) widths_part (λ a s. trace_part s) exact_widths
+      (λ widths most.
+      exact_part_then trace_of (Is7 table width height lower cuts lines widths) trace_part (λ a s. log_part s) (exact_cuts cuts)
+      (λ trace cut.
+      exact_part_then log_of (Is8 table width height lower cuts lines widths trace) log_part (λ a s. [])
+      (exact_lines lines areas (ready_for areas lines can))
       (λ log lined.
-      exact_only (made table width height lower (widths.0) (trace.0) (log.0)) (Is9 table width height lower cuts lines widths trace log)
-      (section_made table width height lower cuts lines widths trace log most cut lined) (section_again table width height lower cuts lines widths trace log))
-      (λ s is. (record { count_is = is.0.0.1; shaped = is.0.0.0.0.0.0.0.0.shaped.lines; asked = is.0.0.0.0.0.0.0.0.asked }, sym (append-nil (log_part s)))))
+      exact_only (made table width height lower (widths.0) (trace.0) (log.0))
+      (Is9 table width height lower cuts lines widths trace log)
+      (section_made table width height lower cuts lines widths trace log most cut lined)
+      (section_again table width height lower cuts lines widths trace log))
+      (λ s is. (
+        record { count_is = is.0.0.1; shaped = is.0.0.0.0.0.0.0.0.shaped.lines; asked = is.0.0.0.0.0.0.0.0.asked },
+        sym (append-nil (log_part s)),
+      )))
       (λ s is. (is.0.0.1, refl)))
       (λ s is. (
         is.0.0.0.0.0.0.shaped.widths,
         sym (append_assoc (word (codes "widths") ++ flat_map (spaced MAX_PAGE_WIDTH) s.widths) (word (codes "\n")) (trace_part s)
-            ∙ append_assoc (word (codes "widths")) (flat_map (spaced MAX_PAGE_WIDTH) s.widths) (word (codes "\n") ++ trace_part s))
+            ∙ append_assoc (word (codes "widths")) (flat_map (spaced MAX_PAGE_WIDTH) s.widths)
+            (word (codes "\n") ++ trace_part s))
             ∙ ap (λ (ps : List Piece). ps ++ trace_part s)
             (append_assoc (word (codes "widths")) (flat_map (spaced MAX_PAGE_WIDTH) s.widths) (word (codes "\n"))),
       )))
-      (λ s is. (counted areas s.log is.0.0.0.0.0.asked, ap (λ (k : ℕ). field 1 (2 * k + 1) (length s.log) line_feed ++ widths_part s) is.1)))
+      (λ s is. (
+        counted areas s.log is.0.0.0.0.0.asked,
+        ap (λ (k : ℕ). field 1 (2 * k + 1) (length s.log)
+            line_feed ++ widths_part s) is.1,
+      )))
       (λ s is. (tt, refl)))
       (λ s is. (tt, refl)))
       (λ s is. (tt, refl)))

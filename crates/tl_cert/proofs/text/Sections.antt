@@ -1,5 +1,6 @@
 -- Reading the sections of a certificate, and its last line, is exact.
-use Rattle.std.proofs.Common.{◌≡◌, ℕ, zero, suc, ◌≤◌, Bool, true, false, List, [], ◌∷◌, ◌++◌, length, refl, sym, ap, ◌∙◌, append_assoc, arith}
+use Rattle.std.proofs.Common.{◌≡◌, ℕ, zero, suc, ◌≤◌, Bool, true, false, List, [], ◌∷◌, ◌++◌, length, refl, sym, ap, ◌∙◌}
+use Rattle.std.proofs.Common.{append_assoc, arith}
 use Rattle.std.specs.List.{flat_map, AllByRecursion}
 use Rattle.tl_cert.specs.declared.section.Section.{Section}
 use Rattle.tl_cert.specs.declared.areas.Areas.{Areas}
@@ -13,7 +14,8 @@ use Rattle.tl_cert.specs.inner.reading.Lists.{Listing}
 use Rattle.tl_cert.proofs.reading.Exact.{Exact}
 use Rattle.tl_cert.proofs.reading.Same.{exact_same}
 use Rattle.tl_cert.proofs.reading.ListExact.{ListForm, IsListed, list_pieces, Turns, IsExactList, exact_list}
-use Rattle.tl_cert.proofs.text.SectionParts.{IsPaid, suits_parts, suits_first, suits_others, paid_at_last, none_owed, paid_if_none}
+use Rattle.tl_cert.proofs.text.SectionParts.{IsPaid, suits_parts, suits_first, suits_others, paid_at_last, none_owed}
+use Rattle.tl_cert.proofs.text.SectionParts.{paid_if_none}
 use Rattle.tl_cert.proofs.text.SectionReading.{IsSection, exact_section}
 use Rattle.tl_cert.proofs.text.Chains.{exact_end_line, end_line}
 
@@ -50,7 +52,8 @@ sections_exact = record {
   lifted = λ k s section sections e is listed. refl;
 }
   where
-    turns : (k : ℕ) (first : Bool) (areas : Areas) → Turns sections_reading sections_form (sections_turn first areas) k (state first areas)
+    turns : (k : ℕ) (first : Bool) (areas : Areas) → Turns sections_reading sections_form (sections_turn first areas) k
+        (state first areas)
     turns k true areas = record { item = exact_section (for_part k areas); no_stop = λ e is. is }
     turns k false Never = record {
       item = exact_section (for_part k Never);
@@ -81,10 +84,16 @@ sections_to : (k : ℕ) (first : Bool) (areas : Areas) (sections : List Section)
     → IsListed sections_reading sections_form k (state first areas) sections e
     → AreSections k areas sections × (first ≡ true → 1 ≤ length sections)
 sections_to zero true areas [] e is = absurd is
-sections_to zero false areas [] e is = (record { most = omega arith; shaped = tt; asked = none_owed areas is }, λ begun. absurd cc)
+sections_to zero false areas [] e is = (
+  record { most = omega arith; shaped = tt; asked = none_owed areas is },
+  λ begun. absurd cc,
+)
 sections_to zero first areas (section ∷ sections) e is = absurd is
 sections_to (suc k) true areas [] e is = absurd is
-sections_to (suc k) false areas [] e is = (record { most = omega arith; shaped = tt; asked = none_owed areas is }, λ begun. absurd cc)
+sections_to (suc k) false areas [] e is = (
+  record { most = omega arith; shaped = tt; asked = none_owed areas is },
+  λ begun. absurd cc,
+)
 sections_to (suc k) first areas (section ∷ sections) e is =
     let p = sections_to k false (after areas (log_has_area section.log)) sections e is.1.1 in (
       record {
@@ -111,9 +120,18 @@ sections_from (suc k) first areas (section ∷ sections) e is some =
     let left : length sections ≤ k = omega (arith, is.most) in (
       refl,
       (
-        record { shaped = is.shaped.0; asked = suits_first areas k (log_has_area section.log) (has_area sections) (none_after sections k left) is.asked },
+        record {
+          shaped = is.shaped.0;
+          asked = suits_first areas k (log_has_area section.log) (has_area sections)
+              (none_after sections k left) is.asked;
+        },
         sections_from k false (after areas (log_has_area section.log)) sections e
-            (record { most = left; shaped = is.shaped.1; asked = suits_others areas (log_has_area section.log) (has_area sections) is.asked })
+            (record {
+              most = left;
+              shaped = is.shaped.1;
+              asked =
+                  suits_others areas (log_has_area section.log) (has_area sections) is.asked;
+            })
             (λ begun. absurd cc),
       ),
     )
@@ -121,7 +139,8 @@ sections_from (suc k) first areas (section ∷ sections) e is some =
 abbrev pub sections_pieces : Listing Section (Unit {0}) → List Piece
 sections_pieces x = flat_map section_pieces (x.0) ++ end_line
 
-sections_text : (sections : List Section) (e : Unit {0}) → list_pieces sections_form sections e ≡ flat_map section_pieces sections ++ end_line
+sections_text : (sections : List Section) (e : Unit {0}) → list_pieces sections_form sections e ≡ flat_map section_pieces
+    sections ++ end_line
 sections_text [] e = refl
 sections_text (section ∷ sections) e =
     ap (λ (ps : List Piece). section_pieces section ++ ps) (sections_text sections e)
@@ -134,7 +153,8 @@ pub record AreAllSections (areas : Areas) (x : Listing Section (Unit {0})) : Typ
 
 pub exact_sections : (areas : Areas) → Exact (sections_at areas) (AreAllSections areas) sections_pieces
 exact_sections areas =
-    exact_same (AreAllSections areas) sections_pieces (exact_list sections_reading sections_form sections_exact MAX_SECTIONS (state true areas) tt)
+    exact_same (AreAllSections areas) sections_pieces (exact_list sections_reading sections_form sections_exact MAX_SECTIONS
+    (state true areas) tt)
     (λ x is. let p = sections_to MAX_SECTIONS true areas (x.0) (x.1) is in record { sections = p.0; some = p.1 refl })
     (λ x is. sections_from MAX_SECTIONS true areas (x.0) (x.1) is.sections (λ begun. is.some))
     (λ x is. sections_text (x.0) (x.1))

@@ -3,8 +3,8 @@ use Rattle.std.proofs.Common.{◌≡◌, ℕ, Bool, true, false, eqb, List, [], 
 use Rattle.std.specs.Prelude.{codes}
 use Rattle.std.specs.List.{flat_map}
 use Rattle.tl_base.specs.declared.style.Style.{Style}
-use Rattle.tl_base.specs.declared.style.Style.TheVariants.{Plain, Frame}
-use Rattle.tl_problem.specs.declared.chain.Chain.{Chain}
+use Rattle.tl_base.specs.declared.style.Style.TheVariants.{Plain, Compact, Frame}
+use Rattle.tl_base.specs.declared.chain.Chain.{Chain}
 use Rattle.tl_cert.specs.declared.section.Section.{Section}
 use Rattle.tl_cert.specs.declared.certificate.Claim.{Claim}
 use Rattle.tl_cert.specs.declared.certificate.Claim.TheVariants.{Lowest, Bounded, Narrow}
@@ -14,7 +14,7 @@ use Rattle.tl_cert.specs.Pieces.{Piece, field, word, spell}
 use Rattle.tl_cert.specs.Text.{space, line_feed, version_word, style_word, claim_pieces, chain_pieces, IsNarrow}
 use Rattle.tl_cert.specs.Text.{section_pieces, cert_pieces, has_area, HasChains, HasSections, HasProof, IsShaped}
 use Rattle.tl_cert.specs.inner.Areas.{Suits}
-use Rattle.tl_cert.specs.inner.CertReading.{version_at, style_at, lowest_at, bounded_at, narrow_at}
+use Rattle.tl_cert.specs.inner.CertReading.{version_at, no_lines_at, style_at, lowest_at, bounded_at, narrow_at}
 use Rattle.tl_cert.specs.inner.CertReading.{other_claim_at, claim_at, areas_of, sections_at, proof_at, certificate_at}
 use Rattle.tl_cert.specs.inner.reading.Readings.{◌>>=◌, give, begins}
 use Rattle.tl_cert.specs.inner.reading.Lists.{Listing, listing}
@@ -46,24 +46,51 @@ exact_version =
     } in
     exact_either (exact_sign (codes "2 ") true version_pieces refl) (exact_sign (codes "1 ") false version_pieces refl) chosen
 
-style_separated : (s : Style) → (s ≡ Frame) ⊎ (s ≡ Plain)
-style_separated Frame = inl refl
-style_separated Plain = inr refl
-
 abbrev style_pieces : Style → List Piece
 style_pieces s = word (style_word s)
+
+-- a style of the two that have no lines
+abbrev HasNoLines : Style → Type 0
+HasNoLines style = (style ≡ Compact) ⊎ (style ≡ Plain)
+
+style_separated : (s : Style) → (s ≡ Frame) ⊎ HasNoLines s
+style_separated Frame = inl refl
+style_separated Compact = inr (inl refl)
+style_separated Plain = inr (inr refl)
+
+-- a style that is this one begins as this one's word does
+style_begins : (test : ℕ → Bool) (one s : Style) (t : List ℕ) → s ≡ one →
+    begins test (spell (style_pieces s) ++ t) ≡ begins test (spell (style_pieces one) ++ t)
+style_begins test one s t is = ap (λ (a : Style). begins test (spell (style_pieces a) ++ t)) is
+
+exact_no_lines : Exact no_lines_at HasNoLines style_pieces
+unfolding no_lines_at
+exact_no_lines =
+    let chosen : Chosen (λ c. eqb c 99) style_pieces (λ (s : Style). s ≡ Compact) (λ (s : Style). s ≡ Plain) HasNoLines = record {
+      separated = λ s is. is;
+      first = λ s is. inl is;
+      other = λ s is. inr is;
+      yes = λ s t is. style_begins (λ c. eqb c 99) Compact s t is;
+      no = λ s t is. style_begins (λ c. eqb c 99) Plain s t is;
+    } in
+    exact_either (exact_sign (codes "compact ") Compact style_pieces refl) (exact_sign (codes "plain ") Plain style_pieces refl)
+    chosen
+
+no_frame : (s : Style) (t : List ℕ) → HasNoLines s → begins (λ c. eqb c 102) (spell (style_pieces s) ++ t) ≡ false
+no_frame s t (inl is) = style_begins (λ c. eqb c 102) Compact s t is
+no_frame s t (inr is) = style_begins (λ c. eqb c 102) Plain s t is
 
 exact_style : Exact style_at IsAny style_pieces
 unfolding style_at
 exact_style =
-    let chosen : Chosen (λ c. eqb c 102) style_pieces (λ (s : Style). s ≡ Frame) (λ (s : Style). s ≡ Plain) IsAny = record {
+    let chosen : Chosen (λ c. eqb c 102) style_pieces (λ (s : Style). s ≡ Frame) HasNoLines IsAny = record {
       separated = λ s is. style_separated s;
       first = λ s is. tt;
       other = λ s is. tt;
-      yes = λ s t is. ap (λ (a : Style). begins (λ c. eqb c 102) (spell (style_pieces a) ++ t)) is;
-      no = λ s t is. ap (λ (a : Style). begins (λ c. eqb c 102) (spell (style_pieces a) ++ t)) is;
+      yes = λ s t is. style_begins (λ c. eqb c 102) Frame s t is;
+      no = no_frame;
     } in
-    exact_either (exact_sign (codes "frame ") Frame style_pieces refl) (exact_sign (codes "plain ") Plain style_pieces refl) chosen
+    exact_either (exact_sign (codes "frame ") Frame style_pieces refl) exact_no_lines chosen
 
 -- ---- the claim
 
@@ -104,7 +131,8 @@ exact_lowest : Exact lowest_at IsLowest claim_pieces
 exact_lowest =
     exact_after (codes "lowest ") last_field claim_pieces
     (exact_part_then first_of IsLowest last_field (λ n claim. []) (exact_field 0 MAX_HEIGHT line_feed refl)
-    (λ n any. exact_only (Lowest n) (λ claim. IsLowest claim × (first_of claim ≡ n)) (tt, refl) (λ claim is. lowest_again claim n is.0 is.1))
+    (λ n any. exact_only (Lowest n) (λ claim. IsLowest claim × (first_of claim ≡ n)) (tt, refl)
+    (λ claim is. lowest_again claim n is.0 is.1))
     (λ claim is. (tt, refl)))
     lowest_text
 
@@ -122,7 +150,8 @@ exact_narrow : Exact narrow_at IsNarrow claim_pieces
 exact_narrow =
     exact_after (codes "narrow ") last_field claim_pieces
     (exact_part_then first_of IsNarrow last_field (λ n claim. []) (exact_field 0 MAX_HEIGHT line_feed refl)
-    (λ n any. exact_only (Narrow n) (λ claim. IsNarrow claim × (first_of claim ≡ n)) (tt, refl) (λ claim is. narrow_again claim n is.0 is.1))
+    (λ n any. exact_only (Narrow n) (λ claim. IsNarrow claim × (first_of claim ≡ n)) (tt, refl)
+    (λ claim is. narrow_again claim n is.0 is.1))
     (λ claim is. (tt, refl)))
     narrow_text
 
@@ -146,8 +175,10 @@ exact_bounded : Exact bounded_at IsBounded claim_pieces
 exact_bounded =
     exact_after (codes "bounded ") both_fields claim_pieces
     (exact_part_then first_of IsBounded both_fields (λ n claim. lower_field claim) (exact_field 0 MAX_HEIGHT space refl)
-    (λ n any. exact_part_then second_of (λ claim. IsBounded claim × (first_of claim ≡ n)) lower_field (λ m claim. []) (exact_field 0 MAX_HEIGHT line_feed refl)
-    (λ m some. exact_only (Bounded n m) (λ claim. (IsBounded claim × (first_of claim ≡ n)) × (second_of claim ≡ m)) ((tt, refl), refl)
+    (λ n any. exact_part_then second_of (λ claim. IsBounded claim × (first_of claim ≡ n)) lower_field (λ m claim. [])
+    (exact_field 0 MAX_HEIGHT line_feed refl)
+    (λ m some. exact_only (Bounded n m) (λ claim. (IsBounded claim × (first_of claim ≡ n)) × (second_of claim ≡ m))
+    ((tt, refl), refl)
     (λ claim is. bounded_again claim n m is.0.0 is.0.1 is.1))
     (λ claim is. (tt, refl)))
     (λ claim is. (tt, refl)))
@@ -213,7 +244,8 @@ lowest_begins (Lowest height) t is = refl
 lowest_begins (Bounded height lower) t is = absurd is
 lowest_begins (Narrow least) t is = absurd is
 
-not_lowest_begins : (has : Bool) (claim : Claim) (t : List ℕ) → IsOther has claim → begins (λ c. eqb c 108) (spell (claim_pieces claim) ++ t) ≡ false
+not_lowest_begins : (has : Bool) (claim : Claim) (t : List ℕ) → IsOther has claim →
+    begins (λ c. eqb c 108) (spell (claim_pieces claim) ++ t) ≡ false
 not_lowest_begins true (Lowest height) t is = absurd is
 not_lowest_begins true (Bounded height lower) t is = refl
 not_lowest_begins true (Narrow least) t is = refl
@@ -239,7 +271,15 @@ abbrev proof_pieces : Certificate → List Piece
 proof_pieces c = flat_map chain_pieces c.chains ++ (flat_map section_pieces c.sections ++ word (codes "end\n"))
 
 abbrev made : ℕ → Style → ℕ → Claim → List Chain → List Section → Certificate
-made width style budget claim chains sections = record { width = width; style = style; budget = budget; claim = claim; chains = chains; sections = sections }
+made width style budget claim chains sections = record {
+  width = width;
+  style = style;
+  budget = budget;
+  claim = claim;
+  chains =
+      chains;
+  sections = sections;
+}
 
 module _ (has : Bool) (width : ℕ) (style : Style) (budget : ℕ) where
   abbrev Is4 : Certificate → Type 0
@@ -270,14 +310,24 @@ module _ (has : Bool) (width : ℕ) (style : Style) (budget : ℕ) where
   shaped_as : (claim : Claim) (c : Certificate) → c.claim ≡ claim → IsShaped c → HasProof claim c
   shaped_as claim c same is = let P : Claim → Type 0 = λ k. HasProof k c in subst P same is
 
-  exact_by_sections : (claim : Claim) → ((c : Certificate) → HasProof claim c → HasSections c) → ((c : Certificate) → HasSections c → HasProof claim c)
+  exact_by_sections : (claim : Claim) → ((c : Certificate) → HasProof claim c → HasSections c) →
+      ((c : Certificate) → HasSections c → HasProof claim c)
       → Exact (sections_at (areas_of has) >>= λ x. give (made width style budget claim [] (x.0))) (Is5 claim) proof_pieces
   exact_by_sections claim to from =
-      exact_made (λ (x : Listing Section (Unit {0})). made width style budget claim [] (x.0)) (λ (c : Certificate). listing c.sections tt)
+      exact_made (λ (x : Listing Section (Unit {0})). made width style budget claim [] (x.0))
+      (λ (c : Certificate). listing c.sections tt)
       (Is5 claim) proof_pieces (exact_sections (areas_of has))
       (λ c is.
       let p = to c (shaped_as claim c is.1 is.0.0.0.0.0) in (
-        record { sections = record { most = p.most; shaped = p.sections; asked = asked_for (has_area c.sections) is.0.0.0.0.1 }; some = p.some },
+        record {
+          sections = record {
+            most = p.most;
+            shaped = p.sections;
+            asked =
+                asked_for (has_area c.sections) is.0.0.0.0.1;
+          };
+          some = p.some;
+        },
         head_again claim c is ∙ ap (λ (chains : List Chain). made width style budget claim chains c.sections) p.no_chain,
       ))
       (λ x is.
@@ -306,7 +356,8 @@ module _ (has : Bool) (width : ℕ) (style : Style) (budget : ℕ) where
   exact_proof (Lowest height) may = exact_by_sections (Lowest height) (λ c is. is) (λ c is. is)
   exact_proof (Bounded height lower) may = exact_by_sections (Bounded height lower) (λ c is. is) (λ c is. is)
   exact_proof (Narrow least) may =
-      exact_made (λ (x : Listing Chain (Unit {0})). made width style budget (Narrow least) (x.0) []) (λ (c : Certificate). listing c.chains tt)
+      exact_made (λ (x : Listing Chain (Unit {0})). made width style budget (Narrow least) (x.0) [])
+      (λ (c : Certificate). listing c.chains tt)
       (Is5 (Narrow least)) proof_pieces exact_chains
       (λ c is.
       let p = shaped_as (Narrow least) c is.1 is.0.0.0.0.0 in (
@@ -314,7 +365,13 @@ module _ (has : Bool) (width : ℕ) (style : Style) (budget : ℕ) where
         head_again (Narrow least) c is
             ∙ ap (λ (sections : List Section). made width style budget (Narrow least) c.chains sections) p.no_section,
       ))
-      (λ x is. ((((((record { some = is.some; entries = is.each; no_section = refl }, no_area has may), refl), refl), refl), refl), refl))
+      (λ x is. (
+        (
+          ((((record { some = is.some; entries = is.each; no_section = refl }, no_area has may), refl), refl), refl),
+          refl,
+        ),
+        refl,
+      ))
     where
       no_area : (has : Bool) → Claims has (Narrow least) → false ≡ has
       no_area true may = absurd may
@@ -351,18 +408,27 @@ pub exact_certificate : Exact certificate_at IsShaped cert_pieces
 unfolding certificate_at
 exact_certificate =
     exact_after (codes "tablelayout ") after_name cert_pieces
-    (exact_part_then (λ (c : Certificate). has_area c.sections) IsShaped after_name (λ has c. after_version c) exact_version (λ has _.
-    exact_part_then (λ (c : Certificate). c.width) (λ c. IsShaped c × (has_area c.sections ≡ has)) after_version (λ width c. after_width c)
+    (exact_part_then (λ (c : Certificate). has_area c.sections) IsShaped after_name (λ has c. after_version c) exact_version
+    (λ has _.
+    exact_part_then (λ (c : Certificate). c.width) (λ c. IsShaped c × (has_area c.sections ≡ has)) after_version
+    (λ width c. after_width c)
     (exact_field 1 MAX_PAGE_WIDTH space refl) (λ width _.
-    exact_part_then (λ (c : Certificate). c.style) (λ c. (IsShaped c × (has_area c.sections ≡ has)) × (c.width ≡ width)) after_width
+    exact_part_then (λ (c : Certificate). c.style) (λ c. (IsShaped c × (has_area c.sections ≡ has)) × (c.width ≡ width))
+    after_width
     (λ style c. after_style c) exact_style (λ style _.
-    exact_part_then (λ (c : Certificate). c.budget) (λ c. ((IsShaped c × (has_area c.sections ≡ has)) × (c.width ≡ width)) × (c.style ≡ style)) after_style
+    exact_part_then (λ (c : Certificate). c.budget) (λ c. ((IsShaped c × (has_area c.sections ≡ has)) × (c.width ≡ width)) ×
+    (c.style ≡ style)) after_style
     (λ budget c. claim_pieces c.claim ++ proof_pieces c)
     (exact_field 0 MAX_BUDGET line_feed refl) (λ budget _.
-    exact_part_then (λ (c : Certificate). c.claim) (Is4 has width style budget) (λ c. claim_pieces c.claim ++ proof_pieces c) (λ claim c. proof_pieces c)
+    exact_part_then (λ (c : Certificate). c.claim) (Is4 has width style budget) (λ c. claim_pieces c.claim ++ proof_pieces c)
+    (λ claim c. proof_pieces c)
     (exact_claim has)
     (λ claim may. exact_proof has width style budget claim may)
-    (λ c is. (let P : Bool → Type 0 = λ has. Claims has c.claim in subst P is.0.0.0.1 (claims_of c c.claim refl is.0.0.0.0), refl)))
+    (λ c is. (
+      let P : Bool → Type 0 = λ has. Claims has c.claim in
+          subst P is.0.0.0.1 (claims_of c c.claim refl is.0.0.0.0),
+      refl,
+    )))
     (λ c is. (tt, refl)))
     (λ c is. (tt, refl)))
     (λ c is. (tt, refl)))

@@ -1,10 +1,11 @@
 -- No public clause cites this file. The reading of a certificate's text, part by part.
-use Rattle.std.specs.Prelude.{ℕ, suc, ◌+◌, ◌*◌, nat_lt, Bool, true, false, ◌&&◌, ◌||◌, ◌==◌, List, [], ◌∷◌, length, codes, Option, Some, None, if◌then◌else◌}
+use Rattle.std.specs.Prelude.{ℕ, suc, ◌+◌, ◌*◌, nat_lt, Bool, true, false, ◌&&◌, ◌||◌, ◌==◌, List, [], ◌∷◌, length, codes, Option}
+use Rattle.std.specs.Prelude.{Some, None, if◌then◌else◌}
 use Rattle.std.specs.Char.{is_ascii_digit}
 use Rattle.tl_base.specs.declared.style.Style.{Style}
-use Rattle.tl_base.specs.declared.style.Style.TheVariants.{Plain, Frame}
-use Rattle.tl_problem.specs.declared.chain.Entry.{Entry}
-use Rattle.tl_problem.specs.declared.chain.Chain.{Chain}
+use Rattle.tl_base.specs.declared.style.Style.TheVariants.{Plain, Compact, Frame}
+use Rattle.tl_base.specs.declared.chain.Entry.{Entry}
+use Rattle.tl_base.specs.declared.chain.Chain.{Chain}
 use Rattle.tl_cert.specs.declared.trace.CutAt.{CutAt}
 use Rattle.tl_cert.specs.declared.log.Side.{Side}
 use Rattle.tl_cert.specs.declared.log.Side.TheVariants.{Most, Least}
@@ -18,7 +19,8 @@ use Rattle.tl_cert.specs.declared.certificate.Claim.{Claim}
 use Rattle.tl_cert.specs.declared.certificate.Claim.TheVariants.{Lowest, Bounded, Narrow}
 use Rattle.tl_cert.specs.declared.certificate.Certificate.{Certificate}
 use Rattle.tl_base.specs.declared.limits.TheConstants.{MAX_PAGE_WIDTH, MAX_HEIGHT, MAX_BUDGET, MAX_COLUMNS, MAX_CELLS}
-use Rattle.tl_cert.specs.declared.limits.TheConstants.{MAX_TABLE, MAX_SECTIONS, MAX_ZONE, MAX_LINE, MAX_SPAN, MAX_CLASS, MAX_BOUNDS, MAX_FIRES}
+use Rattle.tl_cert.specs.declared.limits.TheConstants.{MAX_TABLE, MAX_SECTIONS, MAX_ZONE, MAX_LINE, MAX_SPAN, MAX_CLASS}
+use Rattle.tl_cert.specs.declared.limits.TheConstants.{MAX_BOUNDS, MAX_FIRES}
 use Rattle.tl_cert.specs.declared.areas.Areas.{Areas}
 use Rattle.tl_cert.specs.declared.areas.Areas.TheVariants.{Never, Free, Owed}
 use Rattle.tl_cert.specs.inner.Areas.{for_part, after}
@@ -31,11 +33,13 @@ use Rattle.tl_cert.specs.Text.{space, line_feed, side_sign, is_area, log_has_are
 
 -- `cycle` or `chain`, whose first letter was read
 abbrev pub cycle_or_chain_at : Reading End
-cycle_or_chain_at = either (λ c. c == 121) (word_at (codes "ycle\n") >>= λ _. give ends.Cycle) (word_at (codes "hain\n") >>= λ _. give ends.Chain)
+cycle_or_chain_at = either (λ c. c == 121) (word_at (codes "ycle\n") >>= λ _. give ends.Cycle)
+    (word_at (codes "hain\n") >>= λ _. give ends.Chain)
 
 -- `fired`, `cycle` or `chain`: an end that may stand in every version
 abbrev pub plain_end_at : Reading End
-plain_end_at = either (λ c. c == 102) (word_at (codes "fired\n") >>= λ _. give ends.Fired) (word_at (codes "c") >>= λ _. cycle_or_chain_at)
+plain_end_at = either (λ c. c == 102) (word_at (codes "fired\n") >>= λ _. give ends.Fired)
+    (word_at (codes "c") >>= λ _. cycle_or_chain_at)
 
 -- the end `area`
 abbrev pub area_at : Reading End
@@ -55,7 +59,14 @@ fire_at = word_at (codes "@") >>= λ _. field_at 0 MAX_LINE space
 
 -- fired lines come as long as a sign `@` does, and the end of the log line stops them
 abbrev pub fires_reading : Areas → ListReading (Unit {0}) ℕ ℕ End
-fires_reading areas = record { turn = λ k s. look (λ c. c == 64); item = λ k s. fire_at; next = λ s n. s; view = λ n. n; stop = λ s. end_at areas }
+fires_reading areas = record {
+  turn = λ k s. look (λ c. c == 64);
+  item = λ k s. fire_at;
+  next = λ s n. s;
+  view = λ n. n;
+  stop =
+      λ s. end_at areas;
+}
 
 -- the fired lines, not too many, and the end of the log line
 abbrev pub fires_at : Areas → Reading (Listing ℕ End)
@@ -75,7 +86,8 @@ may_follow (Some before) span = nat_lt before.span span || (before.span == span 
 -- whether a bound of this span and on this side may follow the bound before it
 abbrev pub may_follow_as : Option Bound → ℕ → ℕ → Bool
 may_follow_as None span sign = true
-may_follow_as (Some before) span sign = nat_lt before.span span || (before.span == span && (side_sign before.side == 45 && sign == 43))
+may_follow_as (Some before) span sign = nat_lt before.span span ||
+    (before.span == span && (side_sign before.side == 45 && sign == 43))
 
 -- whether the character is the sign of a side on which a bound of this span may follow
 abbrev pub is_sign : Option Bound → ℕ → ℕ → Bool
@@ -194,7 +206,8 @@ may_count Owed n = nat_lt 0 n
 
 -- how many log lines follow, after so many cuts
 unfoldable pub count_at : Areas → ℕ → Reading ℕ
-count_at areas cuts = number_at 1 (2 * cuts + 1) (may_count areas) (λ n c. c == line_feed && may_count areas n) >>= λ x. give (x.0)
+count_at areas cuts = number_at 1 (2 * cuts + 1) (may_count areas) (λ n c. c == line_feed && may_count areas n) >>= λ x. give
+    (x.0)
 
 -- a section
 unfoldable pub section_at : Areas → Reading Section
@@ -209,7 +222,16 @@ section_at areas =
     (widths_at >>= λ widths.
     (cuts_at cuts >>= λ trace.
     (lines_at lines areas >>= λ log.
-    give (record { table = table; width = width; height = height; lower = lower; widths = widths.0; trace = trace.0; log = log.0 }))))))))))
+    give (record {
+      table = table;
+      width = width;
+      height = height;
+      lower = lower;
+      widths = widths.0;
+      trace = trace.0;
+      log =
+          log.0;
+    }))))))))))
 
 -- whether a section has to come: where none was read, or a line with `area` is owed
 abbrev pub sections_turn : Bool → Areas → Turn
@@ -238,7 +260,8 @@ sections_at areas = list_at sections_reading MAX_SECTIONS (true, areas)
 abbrev pub inner_at : Bool → ℕ → ℕ → Reading (Entry × Bool)
 inner_at more cell c =
     if c == 58
-    then (number_at 0 MAX_TABLE (λ n. true) (λ n d. ends_item more d) >>= λ y. give (record { cell = cell; inner = Some (y.0) }, y.1 == space))
+    then (number_at 0 MAX_TABLE (λ n. true) (λ n d. ends_item more d) >>= λ y. give
+    (record { cell = cell; inner = Some (y.0) }, y.1 == space))
     else give (record { cell = cell; inner = None }, c == space)
 
 -- an entry, and whether another follows
@@ -291,9 +314,14 @@ chains_at = all_at chains_reading true
 unfoldable pub version_at : Reading Bool
 version_at = either (λ c. c == 50) (word_at (codes "2 ") >>= λ _. give true) (word_at (codes "1 ") >>= λ _. give false)
 
+-- a style that has no lines, and the space after it
+unfoldable pub no_lines_at : Reading Style
+no_lines_at = either (λ c. c == 99) (word_at (codes "compact ") >>= λ _. give Compact)
+    (word_at (codes "plain ") >>= λ _. give Plain)
+
 -- the style, and the space after it
 unfoldable pub style_at : Reading Style
-style_at = either (λ c. c == 102) (word_at (codes "frame ") >>= λ _. give Frame) (word_at (codes "plain ") >>= λ _. give Plain)
+style_at = either (λ c. c == 102) (word_at (codes "frame ") >>= λ _. give Frame) no_lines_at
 
 -- the claim that the height is the least
 abbrev pub lowest_at : Reading Claim
@@ -331,7 +359,15 @@ proof_at has_area width style budget (Bounded height lower) =
     sections_at (areas_of has_area) >>= λ sections. give
     (record { width = width; style = style; budget = budget; claim = Bounded height lower; chains = []; sections = sections.0 })
 proof_at has_area width style budget (Narrow least) =
-    chains_at >>= λ chains. give (record { width = width; style = style; budget = budget; claim = Narrow least; chains = chains.0; sections = [] })
+    chains_at >>= λ chains. give (record {
+      width = width;
+      style = style;
+      budget = budget;
+      claim = Narrow least;
+      chains =
+          chains.0;
+      sections = [];
+    })
 
 -- a certificate, with whatever follows its text left over
 unfoldable pub certificate_at : Reading Certificate

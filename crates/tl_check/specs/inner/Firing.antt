@@ -47,7 +47,9 @@ abbrev pub NeverFires : ProblemModel → List Bound → List (List Bound) → Ty
 NeverFires problem given nogoods = (last : List Bound) → Fires problem given [] nogoods last → ⊥
 
 -- the line's bounds and fires lead to its end
-pub record LeadsToEnd (problem : ProblemModel) (trace : List CutAt) (log : List LogLine) (line : LogLine) (lower : ℕ) : Type 0 where
+pub record LeadsToEnd (problem : ProblemModel) (trace : List CutAt) (log : List LogLine) (line : LogLine)
+    (lower : ℕ) : Type 0 where
   pub joined : List Bound
   pub fires : Fires problem (nogood_bounds problem trace line.nogood) [] (fired problem trace log line) joined
-  pub ends : EndsBy problem (IsLeft problem (nogood_bounds problem trace line.nogood) joined) (fired problem trace log line) lower line.end
+  pub ends : EndsBy problem (IsLeft problem (nogood_bounds problem trace line.nogood) joined) (fired problem trace log line)
+      lower line.end

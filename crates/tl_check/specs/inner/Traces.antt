@@ -29,7 +29,8 @@ CutsAreNeeded problem trace height upto = (i : ℕ) (d : CutAt) → i < upto →
 
 -- one of the first zones stands and has a bound of at most `lower`
 abbrev pub IsEnough : ProblemModel → List CutAt → ℕ → ℕ → Type 0
-IsEnough problem trace lower upto = (z : ℕ) × (bound : ℕ) × (z < upto) × Stands trace z × IsBoundOf problem trace z bound × (bound ≤ lower)
+IsEnough problem trace lower upto = (z : ℕ) × (bound : ℕ) × (z < upto) × Stands trace z × IsBoundOf problem trace z bound ×
+    (bound ≤ lower)
 
 -- each of the first zones that stands is closed
 abbrev pub AllClosed : ProblemModel → List CutAt → ℕ → ℕ → Type 0
@@ -41,5 +42,6 @@ CellDiffers cell first last = (w : ℕ) × (first ≤ w) × (w ≤ last) × (hei
 
 -- one of the first cells has the span, and differs
 abbrev pub SpanDiffers : ProblemModel → ℕ → ℕ → ℕ → ℕ → Type 0
-SpanDiffers problem s first last upto = (k : ℕ) × (cell : Cell) × (k < upto) × (k < length problem.cells) × (get_or problem.cells k cell ≡ cell)
+SpanDiffers problem s first last upto = (k : ℕ) × (cell : Cell) × (k < upto) × (k < length problem.cells) ×
+    (get_or problem.cells k cell ≡ cell)
     × IsTrue (has_span (span_at problem s) cell) × CellDiffers cell first last

@@ -1,6 +1,7 @@
 -- What a closed difference bound matrix keeps true; no public clause cites this file. Each bound is the tightest, and none
 -- is large.
-use Rattle.std.specs.Prelude.{◌≡◌, ℕ, ◌*◌, ◌<◌, ◌≤◌, ℤ, pos, negsuc, ◌+ℤ◌, neg_ℤ, ◌≤ℤ◌, ◌<ℤ◌, int_le, Option, Some, None, length, Bool, IsTrue}
+use Rattle.std.specs.Prelude.{◌≡◌, ℕ, ◌*◌, ◌<◌, ◌≤◌, ℤ, pos, negsuc, ◌+ℤ◌, neg_ℤ, ◌≤ℤ◌, ◌<ℤ◌, int_le, Option, Some, None, length}
+use Rattle.std.specs.Prelude.{Bool, IsTrue}
 use Rattle.std.specs.Prelude.{IsFalse, ◌≢◌, if◌then◌else◌, ◌⊎◌}
 use Rattle.std.specs.Int.{int_min}
 use Rattle.tl_diff.specs.declared.matrix.TheConstants.{MAX_BOUND, MAX_VARIABLES}
@@ -45,7 +46,8 @@ IsGap n x t = (p : ℕ) → p < n → (x p ≤ℤ t) ⊎ ((t +ℤ pos MAX_BOUND)
 -- Above a gap that no single constraint spans, all variables can grow together, or shrink by one. It holds since no
 -- constraint that was given is above MAX_BOUND or as much below 0, and it is why no tightest bound is large.
 abbrev pub IsLoose : Bounds → Type 0
-IsLoose bounds = (x : ℕ → ℤ) (t s : ℤ) → Satisfies bounds x → IsGap bounds.n x t → negsuc 0 ≤ℤ s → Satisfies bounds (moved_past x t s)
+IsLoose bounds = (x : ℕ → ℤ) (t s : ℤ) → Satisfies bounds x → IsGap bounds.n x t → negsuc 0 ≤ℤ s →
+    Satisfies bounds (moved_past x t s)
 
 -- no bound is above MAX_BOUND times the number of variables, or below as much under 0
 abbrev pub AreSmall : Bounds → Type 0
@@ -76,14 +78,16 @@ pub record IsRowImproved (old new : Bounds) (variable to : ℕ) (way : ℤ) (upt
   pub variables : new.n ≡ old.n
   pub pairs : length new.rows ≡ old.n * old.n
   pub others : (p q : ℕ) → p < old.n → q < old.n → p ≢ variable → bound_at new p q ≡ bound_at old p q
-  pub done : (q : ℕ) → q < old.n → q < upto → bound_at new variable q ≡ lesser (bound_at old variable q) (beyond way (bound_at old to q))
+  pub done : (q : ℕ) → q < old.n → q < upto → bound_at new variable q ≡ lesser (bound_at old variable q)
+      (beyond way (bound_at old to q))
   pub rest : (q : ℕ) → q < old.n → upto ≤ q → bound_at new variable q ≡ bound_at old variable q
 
 -- Each bound of the rows up to `upto` is the old one, or the one implied by way of `x_v <= x_u + w` where that is tighter.
 pub record IsImproved (old new : Bounds) (u v : ℕ) (w : ℤ) (upto : ℕ) : Type 0 where
   pub variables : new.n ≡ old.n
   pub pairs : length new.rows ≡ old.n * old.n
-  pub done : (p q : ℕ) → p < old.n → q < old.n → p < upto → bound_at new p q ≡ lesser (bound_at old p q) (via (bound_at old p u) w (bound_at old v q))
+  pub done : (p q : ℕ) → p < old.n → q < old.n → p < upto → bound_at new p q ≡ lesser (bound_at old p q)
+      (via (bound_at old p u) w (bound_at old v q))
   pub rest : (p q : ℕ) → p < old.n → q < old.n → upto ≤ p → bound_at new p q ≡ bound_at old p q
 
 -- The constraints `x_p <= x_p + 0` for the variables up to `upto`, and no other.

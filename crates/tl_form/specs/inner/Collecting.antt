@@ -1,12 +1,13 @@
 -- How the steps of nested tables are collected. No public clause cites this file.
-use Rattle.std.specs.Prelude.{◌≡◌, ℕ, ◌-◌, ◌^◌, ◌<◌, ◌≤◌, nat_lt, Bool, true, ◌==◌, if◌then◌else◌, List, [], ◌∷◌, ◌++◌, length, map, filter}
+use Rattle.std.specs.Prelude.{◌≡◌, ℕ, ◌-◌, ◌^◌, ◌<◌, ◌≤◌, nat_lt, Bool, true, ◌==◌, if◌then◌else◌, List, [], ◌∷◌, ◌++◌, length}
+use Rattle.std.specs.Prelude.{map, filter}
 use Rattle.std.specs.Prelude.{slice_get, max, min, Option, None, Some}
 use Rattle.std.specs.List.{All, AllPairs, AllZip, Any}
 use Rattle.tl_base.specs.declared.steps.Config.{Config}
 use Rattle.tl_base.specs.declared.style.Style.{Style}
 use Rattle.tl_base.specs.Steps.{first_width, height_at}
 use Rattle.tl_cert.specs.declared.section.Section.{Section}
-use Rattle.tl_form.specs.declared.cell.Table.{Table}
+use Rattle.tl_table.specs.declared.cell.Table.{Table}
 use Rattle.tl_form.specs.declared.heights.Bound.{Bound}
 use Rattle.tl_form.specs.declared.heights.Bound.TheVariants.{Low, High}
 use Rattle.tl_form.specs.declared.heights.InnerSteps.{InnerSteps}
@@ -78,7 +79,11 @@ is_below (Some last) h = nat_lt h last.height
 
 -- the steps with one more at the width, where it is lower
 abbrev pub with_step : List Config → ℕ → ℕ → List Config
-with_step steps w h = if is_below (slice_get steps (length steps - 1)) h then steps ++ record { width = w; height = h } ∷ [] else steps
+with_step steps w h = if is_below (slice_get steps (length steps - 1)) h then steps ++ record {
+  width = w;
+  height =
+      h;
+} ∷ [] else steps
 
 -- steps that have the heights needed at the widths from `least` on and below `w`, and none at lesser ones
 pub record AreStepsBelow (needs : ℕ → ℕ → Type 0) (least w : ℕ) (steps : List Config) : Type 0 where

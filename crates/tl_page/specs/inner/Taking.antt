@@ -1,10 +1,10 @@
 -- What a block, a cell and a table take where they fit, and that nothing fits otherwise. No public clause cites this file.
 use Rattle.std.specs.Prelude.{◌≡◌, ℕ, ◌≤◌, List, ◌++◌, drop, Option, IfSome, IsSomeAnd}
 use Rattle.tl_base.specs.declared.style.Style.{Style}
-use Rattle.tl_form.specs.declared.cell.Table.{Table}
-use Rattle.tl_form.specs.declared.layout.Layout.{Layout}
-use Rattle.tl_form.specs.Tables.{OpenCell, OpenContent}
-use Rattle.tl_form.specs.Layouts.{Share, Fits, FitsWithin, FitsShare, FitsRoom}
+use Rattle.tl_table.specs.declared.cell.Table.{Table}
+use Rattle.tl_table.specs.declared.layout.Layout.{Layout}
+use Rattle.tl_table.specs.Tables.{OpenCell, OpenContent}
+use Rattle.tl_table.specs.Layouts.{Share, Fits, FitsWithin, FitsShare, FitsRoom}
 use Rattle.tl_page.specs.declared.measure.Taken.{Taken}
 
 -- the block fits in `w` columns by the layouts from `next` on, in so many lines and in no fewer; nothing is found where

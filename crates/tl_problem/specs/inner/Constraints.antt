@@ -1,5 +1,5 @@
 -- Constraints of the page, one after another; no public clause cites this file.
-use Rattle.std.specs.Prelude.{◌≡◌, ℕ, zero, suc, ◌+◌, ◌<◌, ℤ, pos, negsuc, ◌+ℤ◌, ◌-ℤ◌, ◌≤ℤ◌, List, [], ◌∷◌, ◌++◌, length}
+use Rattle.std.specs.Prelude.{◌≡◌, ℕ, ◌+◌, ◌<◌, ℤ, pos, ◌+ℤ◌, ◌≤ℤ◌, List, [], length}
 use Rattle.tl_base.specs.Style.{gap_of}
 use Rattle.tl_base.specs.Steps.{first_width}
 use Rattle.tl_diff.specs.Bounds.{Satisfies}
@@ -11,16 +11,6 @@ use Rattle.tl_problem.specs.Sound.{IsSound}
 use Rattle.tl_problem.specs.Zones.{span_at, range_at, first_in_class, last_in_class, span_width, IsWidthOf}
 use Rattle.tl_problem.specs.Works.{IsLeft}
 use Rattle.tl_problem.specs.inner.Demands.{cell_at}
-
--- a number, 0 where it is negative
-abbrev pub part_above : ℤ → ℕ
-part_above (pos n) = n
-part_above (negsuc n) = 0
-
--- the widths that an assignment leaves between gaps
-abbrev pub widths_of : (ℕ → ℤ) → ℕ → ℕ → List ℕ
-widths_of x gap zero = []
-widths_of x gap (suc n) = widths_of x gap n ++ part_above (x (n + 1) -ℤ (x n +ℤ pos gap)) ∷ []
 
 -- columns a and b are at least `m` apart
 abbrev pub AreApart : (ℕ → ℤ) → ℕ → ℕ → ℕ → Type 0
@@ -40,7 +30,8 @@ pub record PageUpto (problem : ProblemModel) (columns cells : ℕ) (matrix : Mar
   pub whole : (widths : List ℕ) → WithinPage problem widths → IsLeft problem matrix.bounds widths
   pub gaps : (x : ℕ → ℤ) → Satisfies matrix.bounds x → (k : ℕ) → k < columns → AreApart x k (k + 1) (gap_of problem.style)
   pub rooms : (x : ℕ → ℤ) → Satisfies matrix.bounds x → (k : ℕ) → k < cells →
-      AreApart x (cell_at problem.cells k).left (cell_at problem.cells k).right (first_width (cell_at problem.cells k).low + gap_of problem.style)
+      AreApart x (cell_at problem.cells k).left (cell_at problem.cells k).right
+      (first_width (cell_at problem.cells k).low + gap_of problem.style)
 
 -- the matrix with one fact more: the marks stay as they are
 pub record AddsFact (old new : MarkedBounds) (Fact : (ℕ → ℤ) → Type 0) : Type 0 where
@@ -58,14 +49,17 @@ HasFirst problem zone s x = AreApart x (span_at problem s).left (span_at problem
 
 -- the room of the span is at most the last width of its last class
 abbrev pub HasLast : ProblemModel → List Range → ℕ → (ℕ → ℤ) → Type 0
-HasLast problem zone s x = AreNear x (span_at problem s).left (span_at problem s).right (last_in_class problem s (range_at zone s).last + gap_of problem.style)
+HasLast problem zone s x = AreNear x (span_at problem s).left (span_at problem s).right
+    (last_in_class problem s (range_at zone s).last + gap_of problem.style)
 
 -- the matrix with the ranges of the first spans of a zone; where they were not added whole, no widths are left
-pub record AddsRanges (problem : ProblemModel) (zone : List Range) (upto : ℕ) (old new : MarkedBounds) (Whole : Type 0) : Type 0 where
+pub record AddsRanges (problem : ProblemModel) (zone : List Range) (upto : ℕ) (old new : MarkedBounds)
+    (Whole : Type 0) : Type 0 where
   pub variables : new.bounds.n ≡ old.bounds.n
   pub marks : new.marks ≡ old.marks
   pub held : new.held ≡ old.held
   pub keeps : (x : ℕ → ℤ) → Satisfies new.bounds x → Satisfies old.bounds x
   pub from : (widths : List ℕ) → IsLeft problem old.bounds widths →
       ((s : ℕ) → s < length zone → IsWidthOf problem zone s (span_width problem widths s)) → IsLeft problem new.bounds widths
-  pub to : Whole → (widths : List ℕ) → IsLeft problem new.bounds widths → (s : ℕ) → s < upto → IsWidthOf problem zone s (span_width problem widths s)
+  pub to : Whole → (widths : List ℕ) → IsLeft problem new.bounds widths → (s : ℕ) → s < upto →
+      IsWidthOf problem zone s (span_width problem widths s)

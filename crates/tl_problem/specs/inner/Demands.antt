@@ -6,7 +6,7 @@ use Rattle.tl_diff.specs.Paths.{IsHeaviest}
 use Rattle.tl_problem.specs.declared.axis.Axis.{Axis}
 use Rattle.tl_problem.specs.declared.axis.Turn.{Turn}
 use Rattle.tl_problem.specs.declared.cell.Cell.{Cell}
-use Rattle.tl_problem.specs.Sizes.{room}
+use Rattle.tl_base.specs.Sizes.{room}
 use Rattle.tl_problem.specs.Problem.{ProblemModel}
 use Rattle.tl_problem.specs.Sound.{IsSound}
 use Rattle.tl_problem.specs.inner.Axes.{start_of, end_of, count_on, gap_on, IsOrder}
@@ -23,7 +23,8 @@ cell_at cells k = get_or cells k no_cell
 pub record GiveDemands (problem : ProblemModel) (axis : Axis) (demands sizes : List ℕ) : Type 0 where
   pub count : length sizes ≡ count_on axis problem
   pub cells : (k : ℕ) → k < length problem.cells →
-      get_or demands k 0 ≤ room (gap_on axis problem) sizes (start_of axis (cell_at problem.cells k)) (end_of axis (cell_at problem.cells k))
+      get_or demands k 0 ≤ room (gap_on axis problem) sizes (start_of axis (cell_at problem.cells k))
+      (end_of axis (cell_at problem.cells k))
 
 -- the arc of a cell: what it demands beyond the gaps inside its span
 abbrev pub cell_arc : Axis → ℕ → Cell → ℕ → Arc

@@ -2,7 +2,7 @@
 use Rattle.std.specs.Prelude.{◌≡◌, ℕ, ◌<◌, ◌≤◌, Some, List, length, get_or}
 use Rattle.tl_base.specs.Steps.{first_width, height_at, IsLeastWidthFor}
 use Rattle.tl_base.specs.Style.{gap_of}
-use Rattle.tl_problem.specs.Sizes.{room}
+use Rattle.tl_base.specs.Sizes.{room}
 use Rattle.tl_problem.specs.Problem.{ProblemModel, cell_width}
 use Rattle.tl_problem.specs.Bounds.{IsGreatestRoom}
 use Rattle.tl_problem.specs.inner.Demands.{cell_at}
@@ -24,7 +24,8 @@ pub record NeedLow (problem : ProblemModel) (Among : List ℕ → Type 0) (deman
 pub record NeedWidths (problem : ProblemModel) (widths demands : List ℕ) : Type 0 where
   pub count : length demands ≡ length problem.cells
   pub each : (k : ℕ) → k < length problem.cells →
-      (h : ℕ) × ((height_at (cell_at problem.cells k).high (cell_width problem widths (cell_at problem.cells k)) ≡ Some h) × IsLeastWidthFor
+      (h : ℕ) × ((height_at (cell_at problem.cells k).high (cell_width problem widths (cell_at problem.cells k)) ≡ Some h) ×
+      IsLeastWidthFor
       (cell_at problem.cells k).high h (get_or demands k 0))
 
 -- each cell needs its least width

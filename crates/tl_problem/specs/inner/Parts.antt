@@ -9,7 +9,8 @@ use Rattle.tl_problem.specs.Spans.{spans_of, classes_of}
 use Rattle.tl_problem.specs.inner.Axes.{IsOrder}
 
 -- a sound problem with its spans, their classes, and its cells by left and by top
-pub record HasParts (problem : ProblemModel) (spans : List Span) (classes : List (List ℕ)) (by_left by_top : List Turn) : Type 0 where
+pub record HasParts (problem : ProblemModel) (spans : List Span) (classes : List (List ℕ))
+    (by_left by_top : List Turn) : Type 0 where
   pub sound : IsSound problem
   pub each_span : spans ≡ spans_of problem
   pub each_class : classes ≡ map (classes_of problem) (spans_of problem)

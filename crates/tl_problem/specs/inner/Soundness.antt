@@ -7,7 +7,7 @@ use Rattle.tl_base.specs.declared.steps.Config.{Config}
 use Rattle.tl_base.specs.Steps.{first_width, IsLowAt}
 use Rattle.tl_problem.specs.declared.axis.Axis.{Axis}
 use Rattle.tl_problem.specs.declared.cell.Cell.{Cell}
-use Rattle.tl_problem.specs.Sizes.{position}
+use Rattle.tl_base.specs.Sizes.{position}
 use Rattle.tl_problem.specs.Problem.{ProblemModel}
 use Rattle.tl_problem.specs.Layouts.{WithinPage}
 use Rattle.tl_problem.specs.Sound.{ShareSlot}
@@ -59,5 +59,6 @@ pub record AreLeastPlaces (gap : ℕ) (cells : List Cell) (upto : ℕ) (places :
   pub rooms : (k : ℕ) → k < length cells → (cell_at cells k).right ≤ upto →
       IsPastRoom gap places (cell_at cells k) (get_or places (cell_at cells k).right 0)
   pub least : (widths : List ℕ) → ((k : ℕ) → k < length cells →
-      position gap widths (cell_at cells k).left + first_width (cell_at cells k).low + gap ≤ position gap widths (cell_at cells k).right) →
+      position gap widths (cell_at cells k).left + first_width (cell_at cells k).low + gap ≤ position gap widths
+      (cell_at cells k).right) →
       (place : ℕ) → place ≤ upto → get_or places place 0 ≤ position gap widths place

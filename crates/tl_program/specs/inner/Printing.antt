@@ -3,9 +3,9 @@ use Rattle.std.specs.Prelude.{◌≡◌, ◌⊎◌, ℕ, List, Option, Some, Non
 use Rattle.tl_base.specs.Desk.{longer, SaysPrefix, Rose}
 use Rattle.tl_program.specs.declared.status.Status.{Status}
 use Rattle.tl_program.specs.declared.status.Status.TheVariants.{WriteFault, Memory}
-use Rattle.tl_program.specs.Change.{Change, Stored, StoresSome, FailsToStore, after}
-use Rattle.tl_program.specs.Messages.{status_of, text_of}
-use Rattle.tl_program.specs.Outcomes.{Outcome}
+use Rattle.tl_program.specs.Change.{Change, Stored, StoresSome, FailsToStore, with_all}
+use Rattle.tl_program.specs.Messages.{status_of, message_of}
+use Rattle.tl_program.specs.Deliveries.{Delivery}
 
 -- the message of this status is printed; or a prefix of it, and there is a fault; or nothing, where memory ran out
 abbrev pub IsPrinted : Status → Status → Change → List ℕ → Type 0
@@ -17,20 +17,20 @@ IsPrinted status result change text =
 
 -- all files are stored, and no fault is counted; or one could not be, or memory ran out, and the program ends so
 abbrev pub IsStored : Option Status → Change → List Stored → Type 0
-IsStored None change stores = (change.files_after ≡ after change.files stores)
+IsStored None change stores = (change.files_after ≡ with_all change.files stores)
     × (change.write_faults_after ≡ change.write_faults)
 IsStored (Some status) change stores =
     ((status ≡ WriteFault) × Rose change.write_faults change.write_faults_after
     × FailsToStore change.files change.files_after stores)
     ⊎ ((status ≡ Memory) × StoresSome change.files change.files_after stores)
 
--- the files of the outcome are stored and its message is printed; or one of these failed; or memory ran out
-abbrev pub IsDelivered : Status → Change → Outcome → Type 0
-IsDelivered result change outcome =
-    ((result ≡ status_of outcome.report) × (change.files_after ≡ after change.files outcome.stores)
-    × (change.said_after ≡ longer change.said (text_of outcome.report)))
+-- the files of the delivery are stored and its message is printed; or one of these failed; or memory ran out
+abbrev pub IsDelivered : Status → Change → Delivery → Type 0
+IsDelivered result change delivery =
+    ((result ≡ status_of delivery.report) × (change.files_after ≡ with_all change.files delivery.stores)
+    × (change.said_after ≡ longer change.said (message_of delivery.report)))
     ⊎ (((result ≡ WriteFault) × Rose change.write_faults change.write_faults_after
-    × ((FailsToStore change.files change.files_after outcome.stores × (change.said_after ≡ change.said))
-    ⊎ ((change.files_after ≡ after change.files outcome.stores)
-    × SaysPrefix change.said change.said_after (text_of outcome.report))))
-    ⊎ ((result ≡ Memory) × (change.said_after ≡ change.said) × StoresSome change.files change.files_after outcome.stores))
+    × ((FailsToStore change.files change.files_after delivery.stores × (change.said_after ≡ change.said))
+    ⊎ ((change.files_after ≡ with_all change.files delivery.stores)
+    × SaysPrefix change.said change.said_after (message_of delivery.report))))
+    ⊎ ((result ≡ Memory) × (change.said_after ≡ change.said) × StoresSome change.files change.files_after delivery.stores))

@@ -159,12 +159,16 @@ fn a_certificate_names_what_it_was_made_for(rt: HostRuntime) -> Result<(), Fail>
             "tablelayout 1 12 frame 5000\nlowest 4\n",
         ),
         (
+            "lay 9 t.html p.txt c.txt --style compact",
+            "tablelayout 1 9 compact 5000\nlowest 2\n",
+        ),
+        (
             "lay 7 t.html p.txt c.txt --solver plain",
             "tablelayout 1 7 plain 5000\nlowest 3\n",
         ),
     ] {
         let mut desk = desk(alloc, TWO.as_bytes(), &[])?;
-        let status = status_of(alloc, line, &mut desk)?;
+        let status = status_of(&rt, alloc, line, &mut desk)?;
         let text = held(&desk, "c.txt").unwrap_or(b"");
         let named = text.starts_with(wanted.as_bytes()) && text.ends_with(b"\nend\n");
         assert!(rt; status == 0 && named, "{line}: {status}");

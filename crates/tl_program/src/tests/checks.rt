@@ -9,12 +9,13 @@ use crate::report::Report;
 use std::alloc::{AllocError, Global};
 use std::process::Abort;
 use std::test::Fail as Failure;
+use std::thread::Threads;
 use tl_base::{Fail, List, MemoryDesk};
 
 /// Runs a command line over a file and a certificate, and compares status and message. The files
 /// are as before.
 fn check(
-    rt: &(impl Abort + AllocGlobal),
+    rt: &(impl Abort + AllocGlobal + Threads + Sync),
     line: &str,
     file: &str,
     certificate: Option<&str>,
@@ -23,7 +24,7 @@ fn check(
 ) -> Result<(), Failure> {
     let alloc = rt.alloc();
     let mut desk = desk_with(alloc, file.as_bytes(), certificate, &[])?;
-    let found = status_of(alloc, line, &mut desk)?;
+    let found = status_of(rt, alloc, line, &mut desk)?;
     let before = certificate.map(|text| text.as_bytes());
     let stays = held(&desk, "c.txt") == before && held(&desk, "t.html") == Some(file.as_bytes());
     let told = desk.said() == message.as_bytes();
@@ -39,7 +40,7 @@ type Case = (&'static str, u8, &'static str);
 
 /// Checks each certificate for one command line and file.
 fn check_all(
-    rt: &(impl Abort + AllocGlobal),
+    rt: &(impl Abort + AllocGlobal + Threads + Sync),
     line: &str,
     file: &str,
     cases: &[Case],
@@ -58,7 +59,10 @@ const CLOSED: &str =
 const LINE: &str = "check 12 t.html c.txt --budget 6";
 
 /// Checks that each certificate is rejected with its message, for `LINE` over `TWO`.
-fn check_rejected(rt: &(impl Abort + AllocGlobal), cases: &[(&str, &str)]) -> Result<(), Failure> {
+fn check_rejected(
+    rt: &(impl Abort + AllocGlobal + Threads + Sync),
+    cases: &[(&str, &str)],
+) -> Result<(), Failure> {
     for &(certificate, message) in cases {
         check(rt, LINE, TWO, Some(certificate), 10, message)?;
     }
@@ -412,9 +416,14 @@ fn a_call_of_the_desk_that_fails_ends_a_check(rt: HostRuntime) -> Result<(), Fai
 }
 
 /// The status of the command line over the desk, and what it prints.
-fn told(alloc: Global, line: &str, desk: &mut MemoryDesk) -> Result<(u8, List<u8>), AllocError> {
+fn told(
+    rt: &(impl Threads + Sync),
+    alloc: Global,
+    line: &str,
+    desk: &mut MemoryDesk,
+) -> Result<(u8, List<u8>), AllocError> {
     let before = desk.said().len();
-    let status = status_of(alloc, line, desk)?;
+    let status = status_of(rt, alloc, line, desk)?;
     let message = desk.said().get(before..).unwrap_or(b"");
     Ok((status, List::from_slice(alloc, message)?))
 }
@@ -422,20 +431,21 @@ fn told(alloc: Global, line: &str, desk: &mut MemoryDesk) -> Result<(u8, List<u8
 /// The status of two command lines over the desk, one after the other, where both have one status and
 /// print one message.
 fn common_status(
+    rt: &(impl Threads + Sync),
     alloc: Global,
     one: &str,
     other: &str,
     desk: &mut MemoryDesk,
 ) -> Result<Option<u8>, AllocError> {
-    let (status, message) = told(alloc, one, desk)?;
-    let (again, second) = told(alloc, other, desk)?;
+    let (status, message) = told(rt, alloc, one, desk)?;
+    let (again, second) = told(rt, alloc, other, desk)?;
     let same = again == status && second.as_slice() == message.as_slice();
     Ok(if same { Some(status) } else { None })
 }
 
 /// Lays a file out, and checks the certificate with the same width and options. No file is refused.
 fn laid_and_checked(
-    rt: &(impl Abort + AllocGlobal),
+    rt: &(impl Abort + AllocGlobal + Threads + Sync),
     width: &str,
     file: &str,
     options: &str,
@@ -445,7 +455,7 @@ fn laid_and_checked(
     let lay = format!(in alloc; "lay {width} t.html p.txt c.txt{options}{search}")?;
     let check = format!(in alloc; "check {width} t.html c.txt{options}")?;
     let mut desk = desk(alloc, file.as_bytes(), &[])?;
-    let status = common_status(alloc, lay.as_str(), check.as_str(), &mut desk)?;
+    let status = common_status(rt, alloc, lay.as_str(), check.as_str(), &mut desk)?;
     assert!(rt;
         matches!(status, Some(0 | 3 | 4)),
         "{lay}: {file}: {status:?}"
@@ -583,9 +593,14 @@ fn a_certificate_that_is_too_long_has_a_message(rt: HostRuntime) -> Result<(), F
 
 /// Whether the command line has status 0 and one message, which begins so, over two desks with different
 /// files.
-fn is_told_twice(alloc: Global, line: &str, begin: &[u8]) -> Result<bool, AllocError> {
-    let (status, message) = told(alloc, line, &mut desk(alloc, TWO.as_bytes(), &[])?)?;
-    let (again, second) = told(alloc, line, &mut desk(alloc, &[], &[])?)?;
+fn is_told_twice(
+    rt: &(impl Threads + Sync),
+    alloc: Global,
+    line: &str,
+    begin: &[u8],
+) -> Result<bool, AllocError> {
+    let (status, message) = told(rt, alloc, line, &mut desk(alloc, TWO.as_bytes(), &[])?)?;
+    let (again, second) = told(rt, alloc, line, &mut desk(alloc, &[], &[])?)?;
     let begins = message.as_slice().starts_with(begin);
     Ok(status == 0 && again == 0 && begins && second.as_slice() == message.as_slice())
 }
@@ -599,7 +614,7 @@ fn a_demonstration_is_the_same_each_time(rt: HostRuntime) -> Result<(), Failure>
         ("demo 2", b"cells 152 count 434928130560 height "),
     ];
     for (line, begin) in cases {
-        assert!(rt; is_told_twice(rt.alloc(), line, begin)?, "{line}");
+        assert!(rt; is_told_twice(&rt, rt.alloc(), line, begin)?, "{line}");
     }
     Ok(())
 }

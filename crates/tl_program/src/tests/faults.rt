@@ -190,7 +190,7 @@ fn a_lowest_page_is_stored_whole_or_in_part(rt: HostRuntime) -> Result<(), Failu
     ];
     for (call, bytes, status, page, empty, said) in cases {
         let mut desk = desk(alloc, TWO.as_bytes(), &[Fail { call, bytes }])?;
-        let found = status_of(alloc, "lay 12 t.html p.txt c.txt", &mut desk)?;
+        let found = status_of(&rt, alloc, "lay 12 t.html p.txt c.txt", &mut desk)?;
         let certificate = held(&desk, "c.txt").map(|text| text.is_empty());
         assert_eq!(rt;
             (found, held(&desk, "p.txt"), certificate, desk.said()),
@@ -212,7 +212,7 @@ fn an_older_page_is_replaced_or_stays(rt: HostRuntime) -> Result<(), Failure> {
         ("lay 0 t.html p.txt", 2, "aaa  cc dd\nbbb  ee   \n"),
         ("lay 7 t.html p.txt", 8, "aa"),
     ] {
-        let found = status_of(alloc, line, &mut desk)?;
+        let found = status_of(&rt, alloc, line, &mut desk)?;
         assert_eq!(rt;
             (found, held(&desk, "p.txt")),
             (status, Some(page.as_bytes())),

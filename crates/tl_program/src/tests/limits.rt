@@ -4,6 +4,7 @@ use crate::tests::{TWO, check_refused, desk, held, repeated, status_of};
 use std::alloc::{AllocError, Global};
 use std::process::Abort;
 use std::test::Fail;
+use std::thread::Threads;
 
 /// A text that is repeated so many times, between a start and an end.
 #[derive(Clone, Copy)]
@@ -34,7 +35,7 @@ impl<'a> Built<'a> {
 
 /// The command line over the file stores nothing, with this status and this message.
 fn check_built(
-    rt: &(impl Abort + AllocGlobal),
+    rt: &(impl Abort + AllocGlobal + Threads + Sync),
     line: &str,
     built: &Built<'_>,
     status: u8,
@@ -46,7 +47,7 @@ fn check_built(
 
 /// The command line over the file stores this page, the lowest.
 fn check_page(
-    rt: &(impl Abort + AllocGlobal),
+    rt: &(impl Abort + AllocGlobal + Threads + Sync),
     line: &str,
     built: &Built<'_>,
     page: &Built<'_>,
@@ -56,7 +57,7 @@ fn check_page(
     let file = built.whole(alloc)?;
     let page = page.whole(alloc)?;
     let mut desk = desk(alloc, file.as_bytes(), &[])?;
-    let status = status_of(alloc, line, &mut desk)?;
+    let status = status_of(rt, alloc, line, &mut desk)?;
     let stored = held(&desk, "p.txt") == Some(page.as_bytes()) && desk.files().len() == 2;
     let told = desk.said() == message.as_bytes();
     assert!(rt;
@@ -68,7 +69,7 @@ fn check_page(
 
 /// The file passes with this page, and with its text once more it is refused as `past` says.
 fn check_last(
-    rt: &(impl Abort + AllocGlobal),
+    rt: &(impl Abort + AllocGlobal + Threads + Sync),
     line: &str,
     last: &Built<'_>,
     page: &Built<'_>,

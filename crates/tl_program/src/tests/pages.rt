@@ -365,7 +365,7 @@ fn each_search_finds_the_least_height(rt: HostRuntime) -> Result<(), Fail> {
         "lay 25 t.html p.txt --solver plain --budget 7",
     ] {
         let mut desk = desk(rt.alloc(), FOUR.as_bytes(), &[])?;
-        let status = status_of(rt.alloc(), line, &mut desk)?;
+        let status = status_of(&rt, rt.alloc(), line, &mut desk)?;
         let lowest = desk.said().starts_with(b"lowest height 4 width ");
         assert!(rt; status == 0 && lowest, "{line}: {status}");
     }

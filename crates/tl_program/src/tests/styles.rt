@@ -57,6 +57,42 @@ fn a_frame_is_drawn(rt: HostRuntime) -> Result<(), Fail> {
     Ok(())
 }
 
+/// In compact style one column stands between two cells, and no edge beside them.
+const COMPACT: &[Case<'static>] = &[
+    Case {
+        line: "lay 9 t.html p.txt --style compact",
+        file: TWO,
+        status: 0,
+        page: Some("aaa cc dd\nbbb ee   \n"),
+        certificate: None,
+        message: "lowest height 2 width 9\n",
+    },
+    Case {
+        line: "lay 6 t.html p.txt --style compact",
+        file: TWO,
+        status: 0,
+        page: Some("aaa cc\nbbb dd\n    ee\n"),
+        certificate: None,
+        message: "lowest height 3 width 6\n",
+    },
+    Case {
+        line: "lay 5 t.html p.txt c.txt --style compact",
+        file: TWO,
+        status: 4,
+        page: None,
+        certificate: Some("tablelayout 1 5 compact 5000\nnarrow 6\nchain 0 0 1\nend\n"),
+        message: "narrow least 6 width 5\n",
+    },
+];
+
+#[test]
+fn a_compact_page_is_drawn(rt: HostRuntime) -> Result<(), Fail> {
+    for case in COMPACT {
+        check(&rt, case)?;
+    }
+    Ok(())
+}
+
 /// With `--break any` a line may end between two grapheme clusters of a word.
 const INSIDE: &[Case<'static>] = &[
     Case {

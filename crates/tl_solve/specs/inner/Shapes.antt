@@ -1,5 +1,6 @@
 -- The lines of a log that is made for a trace: that of zone `z` has the number `last - z`. No public clause cites this file.
-use Rattle.std.specs.Prelude.{◌≡◌, ℕ, ◌+◌, ◌-◌, ◌*◌, ◌<◌, nat_le, if◌then◌else◌, List, [], ◌∷◌, length, get_or, Option, Some, None}
+use Rattle.std.specs.Prelude.{◌≡◌, ℕ, ◌+◌, ◌-◌, ◌*◌, ◌<◌, nat_le, if◌then◌else◌, List, [], ◌∷◌, length, get_or, Option, Some}
+use Rattle.std.specs.Prelude.{None}
 use Rattle.tl_cert.specs.declared.log.End.{End}
 use Rattle.tl_cert.specs.declared.log.End.TheVariants.{Fired, Cycle, Chain, Area}
 use Rattle.tl_cert.specs.declared.log.LogLine.{LogLine}
@@ -31,4 +32,5 @@ line_of last bounds lower zone (Some cut) = firing_line_of last zone cut (get_or
 -- the first lines of the log
 pub record AreLinesOf (last : ℕ) (cuts bounds : List (Option ℕ)) (lower upto : ℕ) (log : List LogLine) : Type 0 where
   pub count : length log ≡ upto
-  pub each : (k : ℕ) (d : LogLine) → k < upto → get_or log k d ≡ line_of last bounds lower (last - k) (get_or cuts (last - k) None)
+  pub each : (k : ℕ) (d : LogLine) → k < upto → get_or log k d ≡ line_of last bounds lower (last - k)
+      (get_or cuts (last - k) None)

@@ -16,7 +16,7 @@ pub record IsStack (problem : ProblemModel) (trace : List CutAt) (height : ℕ) 
   pub closed : (z : ℕ) → Stands trace z → Contains stack z ⊎ IsClosed problem (zone_of problem trace z) height
 
 -- the cuts so far keep the order of the plain search
-pub record KeepsOrder (problem : ProblemModel) (trace : List CutAt) : Type 0 where
+pub record KeepsClassOrder (problem : ProblemModel) (trace : List CutAt) : Type 0 where
   pub spans : CutsFirstSpans problem trace
   pub below : CutsBelowPlacements problem trace
   pub order : IsInClassOrder trace

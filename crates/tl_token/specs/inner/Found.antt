@@ -1,10 +1,12 @@
 -- No public clause cites this file: it says what the results of the reader's methods mean, in the
 -- words of the grammar.
-use Rattle.std.specs.Prelude.{◌≡◌, ℕ, min, List, [], ◌∷◌, Option, Some, None, Result, Ok, Err, MatchResult, MatchOption, if◌then◌else◌, codes}
+use Rattle.std.specs.Prelude.{◌≡◌, ℕ, min, List, [], ◌∷◌, Option, Some, None, Result, Ok, Err, MatchResult, MatchOption}
+use Rattle.std.specs.Prelude.{if◌then◌else◌, codes}
 use Rattle.std.specs.Option.{option_map}
 use Rattle.tl_token.specs.Numbers.{number_of}
 use Rattle.tl_token.specs.Elements.{Attribute, Tag, is_word, value_of}
-use Rattle.tl_token.specs.Grammar.{hidden, tag, character, unended_tag, unended_comment, bad_tag, unknown_element, bad_reference, bad_character}
+use Rattle.tl_token.specs.Grammar.{hidden, tag, character, unended_tag, unended_comment, bad_tag, unknown_element, bad_reference}
+use Rattle.tl_token.specs.Grammar.{bad_character}
 use Rattle.tl_token.specs.Grammar as grammar
 use Rattle.tl_token.specs.inner.States.{Outcome, State, reads, unended, wrong, read, between, with_attribute, with_more}
 use Rattle.tl_token.specs.inner.Reading.{Found, stands, faulty, tag_found}
@@ -12,7 +14,8 @@ use Rattle.tl_token.specs.declared.piece.Piece.{Piece}
 use Rattle.tl_token.specs.declared.piece.Piece.TheVariants.{Hidden, Start, End, Character}
 use Rattle.tl_token.specs.declared.token.TokenKind.TheVariants as kind
 use Rattle.tl_token.specs.declared.piece.Fault.{Fault}
-use Rattle.tl_token.specs.declared.piece.Fault.TheVariants.{UnendedTag, UnendedComment, BadTag, UnknownElement, BadReference, BadCharacter}
+use Rattle.tl_token.specs.declared.piece.Fault.TheVariants.{UnendedTag, UnendedComment, BadTag, UnknownElement, BadReference}
+use Rattle.tl_token.specs.declared.piece.Fault.TheVariants.{BadCharacter}
 use Rattle.tl_token.specs.declared.token.TokenError.{TokenError}
 use Rattle.tl_token.specs.declared.token.TokenError.TheVariants as error
 use Rattle.tl_token.specs.declared.tag.Given.{Given}

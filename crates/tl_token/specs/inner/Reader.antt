@@ -5,7 +5,8 @@ use Rattle.std.specs.Char.{is_ascii_alphabetic, is_ascii_alphanumeric, is_ascii_
 use Rattle.tl_token.specs.Characters.{◌∈◌, begins, is_space, is_name_character, is_value_character, is_gap}
 use Rattle.tl_token.specs.declared.reader.Reader.{Reader}
 use Rattle.tl_token.specs.declared.reader.Class.{Class}
-use Rattle.tl_token.specs.declared.reader.Class.TheVariants.{Space, Alphanumeric, Digit, HexDigit, Name, Value, Sign, Letter, Gap, HexMark}
+use Rattle.tl_token.specs.declared.reader.Class.TheVariants.{Space, Alphanumeric, Digit, HexDigit, Name, Value, Sign, Letter, Gap}
+use Rattle.tl_token.specs.declared.reader.Class.TheVariants.{HexMark}
 use Rattle.tl_token.specs.declared.reader.Class.TheVariants.{TagNameEnd, ValueEnd, Is, Not}
 
 -- the characters that are still to read

@@ -4,7 +4,8 @@ use Rattle.std.specs.Prelude.{ℕ, ◌==◌, List, [], ◌∷◌, Option, Some, 
 use Rattle.std.specs.Char.{to_ascii_lowercase}
 use Rattle.tl_token.specs.Characters.{◌∈◌, is_control, opens_markup}
 use Rattle.tl_token.specs.Elements.{Tag, element_of, kind_of}
-use Rattle.tl_token.specs.Grammar.{past_first, reference, Piece, hidden, tag, character, Fault, unended_tag, unended_comment, bad_tag}
+use Rattle.tl_token.specs.Grammar.{past_first, reference, Piece, hidden, tag, character, Fault, unended_tag, unended_comment}
+use Rattle.tl_token.specs.Grammar.{bad_tag}
 use Rattle.tl_token.specs.Grammar.{unknown_element, bad_reference, bad_character}
 use Rattle.tl_token.specs.inner.States.{tag_open, Outcome, reads, unended, wrong, read}
 use Rattle.tl_token.specs.declared.token.Element.{Element}

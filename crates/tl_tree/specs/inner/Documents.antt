@@ -5,12 +5,12 @@ use Rattle.tl_base.specs.declared.limits.TheConstants.{MAX_DEPTH, MAX_TABLES}
 use Rattle.tl_tree.specs.Tags.{Kind, Kinds, table_start}
 use Rattle.tl_tree.specs.Grammar.{Marks, table_ends}
 use Rattle.tl_tree.specs.Paragraphs.{paragraph_of, entries_of}
-use Rattle.tl_tree.specs.Outline.{Entries, table, outline}
+use Rattle.tl_tree.specs.Outline.{Entries, table, outline, blocks_outline}
 use Rattle.tl_tree.specs.Spelling.{FitsLimits, FitLimits, tables_with, tables_after}
 use Rattle.tl_tree.specs.inner.Machine as machine
 use Rattle.tl_tree.specs.inner.Machine.{State, next, told, due, reached, all_told}
 use Rattle.tl_tree.specs.inner.Verdict.{depth, is_failed, misfit}
-use Rattle.tl_tree.specs.inner.Lines.{line_atoms, blocks_outline}
+use Rattle.tl_tree.specs.inner.Lines.{line_atoms}
 use Rattle.tl_tree.specs.inner.Reading.{Outcome, after_entries, outcome, holder_so_far, holder_of, place_of, IsModest}
 use Rattle.tl_tree.specs.declared.flow.Flow.{Flow}
 use Rattle.tl_tree.specs.declared.open.Holder.{Holder}
@@ -58,14 +58,16 @@ pub record Reads (old : Reading) (tables : ℕ) (k : Kind) (new : Reading) : Typ
   pub goes : next (state_of old) k ≡ state_of new
   pub alive : is_failed (state_of new) ≡ false
   pub fits : FitsLimits (depth (state_of old)) tables k
-  pub same : (later : Marks) → outcome_of new (tables_with tables k) later ≡ outcome_of old tables (told (state_of old) k ++ later)
+  pub same : (later : Marks) → outcome_of new (tables_with tables k) later ≡ outcome_of old tables
+      (told (state_of old) k ++ later)
 
 -- why reading stops at a token: memory ran out, no document goes on with it, or a table passes a limit
 abbrev pub IsStop : State → ℕ → Kind → Stop → Type 0
 IsStop s tables k (stops.Memory error) = Unit {0}
 IsStop s tables k stops.Misfit = is_failed (next s k) ≡ true
 IsStop s tables k stops.TooDeep = (k ≡ table_start) × (is_failed (next s k) ≡ false) × (MAX_DEPTH ≤ depth s)
-IsStop s tables k stops.TooManyTables = (k ≡ table_start) × (is_failed (next s k) ≡ false) × (depth s < MAX_DEPTH) × (MAX_TABLES ≤ tables)
+IsStop s tables k stops.TooManyTables = (k ≡ table_start) × (is_failed (next s k) ≡ false) × (depth s < MAX_DEPTH) ×
+    (MAX_TABLES ≤ tables)
 
 -- a limit, where so many tables are open and so many have begun
 abbrev pub IsLimit : ℕ → ℕ → Stop → Type 0
@@ -81,12 +83,14 @@ pub record Nests (outer : List Outer) (holder : Holder) (flow : Flow) (tables : 
   pub few : tables < MAX_TABLES
   pub same : (k : ℕ) (later : Marks) → outcome_of new k later
       ≡ around outer
-      ++ after_entries (((holder_so_far holder ++ blocks_outline flow.blocks) ++ paragraph_of (line_atoms flow.line [])) ++ table tables ∷ []) k later
+      ++ after_entries (((holder_so_far holder ++ blocks_outline flow.blocks) ++ paragraph_of
+      (line_atoms flow.line [])) ++ table tables ∷ []) k later
 
 -- the table that is open ends
 pub record Leaves (outer : List Outer) (t : OpenTable) (new : Reading) : Type 0 where
   pub goes : state_of new ≡ machine.left (holders outer)
-  pub same : (k : ℕ) (later : Marks) → outcome_of new k later ≡ around outer ++ outcome t k ((due (place_of t) ++ table_ends ∷ []) ++ later)
+  pub same : (k : ℕ) (later : Marks) → outcome_of new k later ≡ around outer ++ outcome t k
+      ((due (place_of t) ++ table_ends ∷ []) ++ later)
 
 -- the error of a token at which reading stops
 abbrev pub stop_error : ℕ → Kind → Stop → TreeError

@@ -1,6 +1,5 @@
 -- What the paragraph that is open, and the blocks before it, come to. No public clause cites this file.
 use Rattle.std.specs.Prelude.{◌≡◌, ℕ, ◌+◌, List, ◌++◌, map, sum_by, chars, string_bytes}
-use Rattle.std.specs.List.{flat_map}
 use Rattle.tl_base.specs.Text.{byte_count}
 use Rattle.tl_text.specs.Paragraph.{atom_size}
 use Rattle.tl_text.proofs.WordLemmas.{words_from}
@@ -8,8 +7,6 @@ use Rattle.tl_text.specs.declared.paragraph.Atom.{Atom}
 use Rattle.tl_text.specs.declared.paragraph.Atom.TheVariants.{Word}
 use Rattle.tl_tree.specs.Grammar.{Marks}
 use Rattle.tl_tree.specs.Paragraphs.{first_text, after_breaks}
-use Rattle.tl_tree.specs.Outline.{Entries, block_outline}
-use Rattle.tl_tree.specs.declared.node.Block.{Block}
 use Rattle.tl_tree.specs.declared.flow.Line.{Line}
 
 -- the characters of the word that is open
@@ -27,7 +24,3 @@ line_size line = sum_by atom_size line.atoms + byte_count (open_word line)
 -- the atoms after the text were those after the marks of the text
 pub record ReadsMarks (old new : Line) (ms : Marks) : Type 0 where
   pub same : (later : Marks) → line_atoms new later ≡ line_atoms old (ms ++ later)
-
--- the entries of blocks
-abbrev pub blocks_outline : List Block → Entries
-blocks_outline blocks = flat_map block_outline blocks

@@ -3,10 +3,13 @@ use Rattle.std.specs.Prelude.{◌≡◌, ℕ, ◌+◌, Bool, true, false, Option
 use Rattle.tl_token.specs.declared.token.Spans.{Spans}
 use Rattle.tl_tree.specs.declared.node.Part.{Part}
 use Rattle.tl_tree.specs.declared.node.Part.TheVariants.{Loose, Head, Body, Foot}
-use Rattle.tl_tree.specs.Tags.{Section, thead, tbody, tfoot, part_of, Kind, Kinds, text, table_start, table_end, caption_start, caption_end, colgroup_start}
-use Rattle.tl_tree.specs.Tags.{colgroup_end, col, group_start, group_end, row_start, row_end, cell_start, cell_end, br, p_or_div, inline_tag, outer_tag}
+use Rattle.tl_tree.specs.Tags.{Section, thead, tbody, tfoot, part_of, Kind, Kinds, text, table_start, table_end, caption_start}
+use Rattle.tl_tree.specs.Tags.{caption_end, colgroup_start}
+use Rattle.tl_tree.specs.Tags.{colgroup_end, col, group_start, group_end, row_start, row_end, cell_start, cell_end, br, p_or_div}
+use Rattle.tl_tree.specs.Tags.{inline_tag, outer_tag}
 use Rattle.tl_tree.specs.Tags.{lone_end, is_white}
-use Rattle.tl_tree.specs.Grammar.{Marks, table_begins, caption_begins, columns, group_begins, row_begins, cell_begins, character, line_break, paragraph_ends}
+use Rattle.tl_tree.specs.Grammar.{Marks, table_begins, caption_begins, columns, group_begins, row_begins, cell_begins, character}
+use Rattle.tl_tree.specs.Grammar.{line_break, paragraph_ends}
 use Rattle.tl_tree.specs.Grammar.{table_ends}
 
 -- what a flow stands in: a caption, or a cell of a group of that part, a header cell or not
@@ -149,7 +152,8 @@ start_cell head spans (Some r) = to (in_flow (of_cell r.0 head)) (r.1 ++ cell_be
 
 -- an end tag of a cell ends the cell, where both are `th` or both `td`
 abbrev pub end_cell : Bool → Place → Move
-end_cell head (in_flow (of_cell part open_head)) = if same_head open_head head then to (in_row part) (paragraph_ends ∷ []) else never
+end_cell head (in_flow (of_cell part open_head)) = if same_head open_head head then to (in_row part)
+    (paragraph_ends ∷ []) else never
 end_cell head _ = never
 
 -- what each kind of token does at each place of a table

@@ -1,17 +1,16 @@
 -- No public clause cites this file. What has been read of a document: its place in the machine, and the
 -- outline that comes once the marks that are still to come have come.
-use Rattle.std.specs.Prelude.{◌≡◌, ℕ, ◌+◌, ◌≤◌, ◌<◌, ◌^◌, Bool, true, false, Option, Some, None, List, [], ◌∷◌, ◌++◌}
+use Rattle.std.specs.Prelude.{◌≡◌, ℕ, ◌+◌, ◌≤◌, ◌<◌, ◌^◌, Bool, true, false, Some, [], ◌∷◌, ◌++◌}
 use Rattle.std.specs.List.{flat_map}
 use Rattle.tl_base.specs.declared.limits.TheConstants.{MAX_FILE_BYTES}
 use Rattle.tl_tree.specs.Tags.{Kind}
 use Rattle.tl_tree.specs.Grammar.{Marks, paragraph_ends}
 use Rattle.tl_tree.specs.Paragraphs.{leading, paragraph_of, entries_after, entries_of}
-use Rattle.tl_tree.specs.Outline.{Entries, table, caption, columns, group, row, cell, cell_outline, group_outline}
-use Rattle.tl_tree.specs.inner.Lines.{line_atoms, line_size, blocks_outline}
+use Rattle.tl_tree.specs.Outline.{Entries, table, caption, columns, group, cell, group_outline, blocks_outline, caption_outline}
+use Rattle.tl_tree.specs.Outline.{row_outline}
+use Rattle.tl_tree.specs.inner.Lines.{line_atoms, line_size}
 use Rattle.tl_tree.specs.inner.Machine as machine
 use Rattle.tl_tree.specs.inner.Machine.{Place, row_of, group_of, columns_of, move, to, marks_of}
-use Rattle.tl_tree.specs.declared.node.Block.{Block}
-use Rattle.tl_tree.specs.declared.node.CellNode.{CellNode}
 use Rattle.tl_tree.specs.declared.flow.Line.{Line}
 use Rattle.tl_tree.specs.declared.flow.Flow.{Flow}
 use Rattle.tl_tree.specs.declared.open.Head.{Head}
@@ -23,15 +22,6 @@ use Rattle.tl_tree.specs.declared.open.Holder.{Holder}
 use Rattle.tl_tree.specs.declared.open.Holder.TheVariants as holders
 use Rattle.tl_tree.specs.declared.open.OpenTable.{OpenTable}
 use Rattle.tl_tree.specs.declared.open.OpenTable.TheVariants as tables
-
--- the entries of a caption that is whole, or nothing where the table has no caption
-abbrev pub caption_outline : Option (List Block) → Entries
-caption_outline None = []
-caption_outline (Some blocks) = caption ∷ blocks_outline blocks
-
--- the entries of a row of cells that are whole
-abbrev pub row_outline : List CellNode → Entries
-row_outline cells = row ∷ flat_map cell_outline cells
 
 -- the entries of a table up to its caption
 abbrev pub head_so_far : Head → Entries

@@ -23,7 +23,8 @@ misfit n k = if is_text k then StrayText n else Misplaced n
 
 -- the fault of a table that begins as token `n`
 abbrev pub limit_fault : ℕ → ℕ → ℕ → Option TreeError
-limit_fault n tables deep = if nat_le MAX_DEPTH deep then Some (TooDeep n) else if nat_le MAX_TABLES tables then Some (TooManyTables n) else None
+limit_fault n tables deep = if nat_le MAX_DEPTH deep then Some (TooDeep n) else if nat_le MAX_TABLES tables then Some
+    (TooManyTables n) else None
 
 -- the fault of token `n`, after so many tables
 abbrev pub fault : ℕ → ℕ → State → Kind → Option TreeError

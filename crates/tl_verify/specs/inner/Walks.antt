@@ -2,12 +2,11 @@
 use Rattle.std.specs.Prelude.{◌≡◌, ℕ, ◌≤◌, List, ◌++◌, drop, length, sum_by, Option, Contains}
 use Rattle.std.specs.List.{AllZip, flat_map}
 use Rattle.tl_base.specs.declared.style.Style.{Style}
-use Rattle.tl_problem.specs.declared.chain.Chain.{Chain}
-use Rattle.tl_problem.specs.declared.chain.Entry.{Entry}
-use Rattle.tl_form.specs.declared.cell.Table.{Table, out-Table}
-use Rattle.tl_form.specs.Chains.{AreSideBySide, HasWidth, IsChain, IsLink, Link, covered}
-use Rattle.tl_form.specs.Tables.{OpenTable, OpenCell}
-use Rattle.tl_form.specs.inner.Links.{Weighs}
+use Rattle.tl_base.specs.declared.chain.Chain.{Chain}
+use Rattle.tl_base.specs.declared.chain.Entry.{Entry}
+use Rattle.tl_table.specs.declared.cell.Table.{Table, out-Table}
+use Rattle.tl_table.specs.Chains.{AreSideBySide, HasWidth, IsChain, IsLink, Link, covered, Weighs}
+use Rattle.tl_table.specs.Tables.{OpenTable, OpenCell}
 use Rattle.tl_verify.specs.declared.chains.Row.{Row}
 use Rattle.tl_verify.specs.declared.chains.Walked.{Walked}
 
@@ -30,7 +29,8 @@ HasNoWalk style table chains at most = (own rest : List Chain) (weight : ℕ) �
 
 -- a walk of one of these tables, the one with this number
 abbrev pub IsWalkIn : Style → List Table → ℕ → List Chain → ℕ → ℕ → Walked → Type 0
-IsWalkIn style tables number chains at most walked = (nested : Table) × Contains tables nested × ((out-Table nested).number ≡ number)
+IsWalkIn style tables number chains at most walked = (nested : Table) × Contains tables nested ×
+    ((out-Table nested).number ≡ number)
     × IsWalk style nested chains at most walked
 
 -- there is no walk of the one of these tables that has this number
@@ -43,7 +43,8 @@ abbrev pub link_of : OpenCell → ℕ → List Chain → Link
 link_of cell width inner = record { place = cell.place; width = width; inner = inner }
 
 -- from place `at` on the chains stand that give an entry on the cell its width
-pub record IsStep (style : Style) (cell : OpenCell) (inner : Option ℕ) (chains : List Chain) (at : ℕ) (walked : Walked) : Type 0 where
+pub record IsStep (style : Style) (cell : OpenCell) (inner : Option ℕ) (chains : List Chain) (at : ℕ)
+    (walked : Walked) : Type 0 where
   pub own : List Chain
   pub begins : Begins chains at own walked.past
   pub wide : HasWidth (Weighs style) cell inner (link_of cell walked.weight own)
@@ -54,7 +55,8 @@ HasNoStep style cell inner chains at most = (own rest : List Chain) (width : ℕ
     HasWidth (Weighs style) cell inner (link_of cell width own) → width ≤ most → ⊥
 
 -- these links stand for the entries, side by side from a column on, and the chains begin with those that they rest on
-pub record AreLinked (style : Style) (table : OpenTable) (entries : List Entry) (from : ℕ) (chains : List Chain) (links : List Link)
+pub record AreLinked (style : Style) (table : OpenTable) (entries : List Entry) (from : ℕ) (chains : List Chain)
+    (links : List Link)
     (rest : List Chain) : Type 0 where
   pub stand : AllZip (λ entry link. IsLink (Weighs style) table entry link) entries links
   pub in_order : AreSideBySide from links
@@ -65,7 +67,8 @@ abbrev pub widths_of : List Link → ℕ
 widths_of links = sum_by (λ link. link.width) links
 
 -- the entries of a chain stand from place `at` on
-pub record IsRow (style : Style) (table : OpenTable) (entries : List Entry) (chains : List Chain) (at most : ℕ) (row : Row) : Type 0 where
+pub record IsRow (style : Style) (table : OpenTable) (entries : List Entry) (chains : List Chain) (at most : ℕ)
+    (row : Row) : Type 0 where
   pub links : List Link
   pub linked : AreLinked style table entries 0 (drop at chains) links (drop row.past chains)
   pub covers : row.covered ≡ covered links

@@ -10,18 +10,22 @@ use Rattle.tl_astar.proofs.search.is_area_enough.Goals as goal
 
 pub bounds-zones-zone : goal.bounds-zones-zone
 bounds-zones-zone c =
-    zone-there c.args.problem.now c.args.arena.now c.requires.arena c.args.zone c.requires.there c.zones.result.now c.zones.ensures
+    zone-there c.args.problem.now c.args.arena.now c.requires.arena c.args.zone c.requires.there c.zones.result.now
+    c.zones.ensures
 
 pub area_of-requires-clause-zone : goal.area_of-requires-clause-zone
 area_of-requires-clause-zone c =
-    let same = zone-lent c.args.problem.now c.args.arena.now c.requires.arena c.args.zone c.requires.there c.zones.result.now c.index-zones-zone.result
+    let same = zone-lent c.args.problem.now c.args.arena.now c.requires.arena c.args.zone c.requires.there c.zones.result.now
+    c.index-zones-zone.result
     c.zones.ensures c.index-zones-zone.is in
-    subst (IsZone c.args.problem.now) (sym same) (arena-zone c.args.problem.now c.args.arena.now c.requires.arena c.args.zone c.requires.there)
+    subst (IsZone c.args.problem.now) (sym same) (arena-zone c.args.problem.now c.args.arena.now c.requires.arena c.args.zone
+    c.requires.there)
 
 pub returns-in-Some-clause-area : goal.returns-in-Some-clause-area
 returns-in-Some-clause-area c =
     let p = c.args.problem.now in
-    let same = zone-lent p c.args.arena.now c.requires.arena c.args.zone c.requires.there c.zones.result.now c.index-zones-zone.result
+    let same = zone-lent p c.args.arena.now c.requires.arena c.args.zone c.requires.there c.zones.result.now
+    c.index-zones-zone.result
     c.zones.ensures c.index-zones-zone.is in
     let area = subst (λ zone. IsAreaBound p (InZone p zone) c.in-Some.area) same c.in-Some.ensures.bound in
     λ yes.
@@ -31,7 +35,8 @@ returns-in-Some-clause-area c =
 pub returns-in-Some-clause-below : goal.returns-in-Some-clause-below
 returns-in-Some-clause-below c =
     let p = c.args.problem.now in
-    let same = zone-lent p c.args.arena.now c.requires.arena c.args.zone c.requires.there c.zones.result.now c.index-zones-zone.result
+    let same = zone-lent p c.args.arena.now c.requires.arena c.args.zone c.requires.there c.zones.result.now
+    c.index-zones-zone.result
     c.zones.ensures c.index-zones-zone.is in
     let area = subst (λ zone. IsAreaBound p (InZone p zone) c.in-Some.area) same c.in-Some.ensures.bound in
     λ no.
@@ -41,6 +46,7 @@ returns-in-Some-clause-below c =
 pub returns-in-None-clause-below : goal.returns-in-None-clause-below
 returns-in-None-clause-below c =
     let p = c.args.problem.now in
-    let same = zone-lent p c.args.arena.now c.requires.arena c.args.zone c.requires.there c.zones.result.now c.index-zones-zone.result
+    let same = zone-lent p c.args.arena.now c.requires.arena c.args.zone c.requires.there c.zones.result.now
+    c.index-zones-zone.result
     c.zones.ensures c.index-zones-zone.is in
     λ _. inl (subst (λ zone. HasNoWidths (InZone p zone)) same c.in-None.ensures.bound)

@@ -54,5 +54,6 @@ module _ (R S : RattleType) (h : R.Denot → S.Denot) where
       (laid _ _ _ (vec.the_places heap.the_row ghosts R S h alike), tt))
 
   -- and its code follows the items' code
-  pub the_codes_placed : Recodes R S h → Recodes (contracts.the_row R) (contracts.the_row S) ((the_former this).map R.Denot S.Denot h)
+  pub the_codes_placed : Recodes R S h → Recodes (contracts.the_row R) (contracts.the_row S)
+      ((the_former this).map R.Denot S.Denot h)
   the_codes_placed recodes items = sym (code_map R.coded.code S.coded.code h (λ x. sym (recodes x)) items)

@@ -6,4 +6,5 @@ use Rattle.tl_cert.proofs.writing.put_entries.Given as goal
 
 -- the items so far are appended
 abbrev pub invariant-entries : goal.invariant-entries
-invariant-entries l = l.out ≡ l.fn.out ++ spell (flat_map (λ entry. character space ∷ entry_pieces entry) (take l.entry-index l.entries))
+invariant-entries l =
+    l.out ≡ l.fn.out ++ spell (flat_map (λ entry. character space ∷ entry_pieces entry) (take l.entry-index l.entries))

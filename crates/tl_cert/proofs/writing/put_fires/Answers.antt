@@ -9,6 +9,8 @@ use Rattle.tl_cert.proofs.writing.put_fires.Goals as goal
 pub fires-preserved : goal.fires-preserved
 fires-preserved c =
     let line = get_or c.args.fires.now c.fires.line-index 0 in
-    written_at fire_pieces c.args.fires.now c.fires.line-index 0 c.args.out.now c.fires.out c.put_number.new.out c.fires-test.true c.fires.invariant
+    written_at fire_pieces c.args.fires.now c.fires.line-index 0 c.args.out.now c.fires.out c.put_number.new.out
+    c.fires-test.true c.fires.invariant
     (twice _ _ _ (32 ∷ 64 ∷ []) _ c.in_ok-extend_from_slice.ensures.ok c.in_ok-put_number.ensures
-    ∙ ap (λ (n : ℕ). c.fires.out ++ (32 ∷ 64 ∷ numeral n)) c.from.ensures ∙ ap (λ (t : List ℕ). c.fires.out ++ (32 ∷ 64 ∷ t)) (sym (append-nil (numeral line))))
+    ∙ ap (λ (n : ℕ). c.fires.out ++ (32 ∷ 64 ∷ numeral n)) c.from.ensures ∙ ap (λ (t : List ℕ). c.fires.out ++ (32 ∷ 64 ∷ t))
+    (sym (append-nil (numeral line))))

@@ -6,4 +6,5 @@ use Rattle.tl_cert.proofs.writing.put_later_bounds.Given as goal
 
 -- the items so far are appended
 abbrev pub invariant-bounds : goal.invariant-bounds
-invariant-bounds l = l.out ≡ l.fn.out ++ spell (flat_map (λ bound. character space ∷ bound_pieces bound) (take l.bound-index l.bounds))
+invariant-bounds l = l.out ≡ l.fn.out ++ spell (flat_map (λ bound. character space ∷ bound_pieces bound)
+    (take l.bound-index l.bounds))

@@ -13,7 +13,8 @@ returns c =
     let fires : List ℕ = spell (flat_map fire_pieces line.fires) in
     let end : List ℕ = end_word line.end in
     let put : c.put_fires.new.out ≡ c.put_nogood.new.out ++ fires =
-    c.in_ok-put_fires.ensures ∙ ap (λ (list : List ℕ). c.put_nogood.new.out ++ spell (flat_map fire_pieces list)) c.as_slice-fires.ensures in
+    c.in_ok-put_fires.ensures ∙ ap (λ (list : List ℕ). c.put_nogood.new.out ++ spell (flat_map fire_pieces list))
+    c.as_slice-fires.ensures in
     twice out c.put_nogood.new.out c.put_end.new.out nogood (fires ++ ((32 ∷ []) ++ end)) c.in_ok-put_nogood.ensures
     (twice c.put_nogood.new.out c.put_fires.new.out c.put_end.new.out fires ((32 ∷ []) ++ end) put
     (twice c.put_fires.new.out c.push.new.self c.put_end.new.out (32 ∷ []) end c.in_ok-push.ensures.ok c.in_ok-put_end.ensures))

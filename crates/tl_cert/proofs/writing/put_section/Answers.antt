@@ -18,14 +18,18 @@ returns c =
     let trace : List ℕ = spell (flat_map cut_pieces s.trace) in
     let log : List ℕ = spell (flat_map line_pieces s.log) in
     let put_w : c.put_widths.new.out ≡ c.extend_from_slice.new.self ++ widths =
-    c.in_ok-put_widths.ensures ∙ ap (λ (list : List ℕ). c.extend_from_slice.new.self ++ spell (flat_map (spaced MAX_PAGE_WIDTH) list))
+    c.in_ok-put_widths.ensures ∙ ap (λ (list : List ℕ). c.extend_from_slice.new.self ++ spell
+    (flat_map (spaced MAX_PAGE_WIDTH) list))
     c.as_slice-widths.ensures in
     let put_t : c.put_cuts.new.out ≡ c.push.new.self ++ trace =
-    c.in_ok-put_cuts.ensures ∙ ap (λ (list : List CutAt). c.push.new.self ++ spell (flat_map cut_pieces list)) c.as_slice-trace.ensures in
+    c.in_ok-put_cuts.ensures ∙ ap (λ (list : List CutAt). c.push.new.self ++ spell (flat_map cut_pieces list))
+    c.as_slice-trace.ensures in
     let put_l : c.put_lines.new.out ≡ c.put_cuts.new.out ++ log =
-    c.in_ok-put_lines.ensures ∙ ap (λ (list : List LogLine). c.put_cuts.new.out ++ spell (flat_map line_pieces list)) c.as_slice-log.ensures in
+    c.in_ok-put_lines.ensures ∙ ap (λ (list : List LogLine). c.put_cuts.new.out ++ spell (flat_map line_pieces list))
+    c.as_slice-log.ensures in
     let end = c.put_lines.new.out in
-    twice out c.put_section_head.new.out end head (codes "widths" ++ (widths ++ ((10 ∷ []) ++ (trace ++ log)))) c.in_ok-put_section_head.ensures
+    twice out c.put_section_head.new.out end head (codes "widths" ++ (widths ++ ((10 ∷ []) ++ (trace ++ log))))
+    c.in_ok-put_section_head.ensures
     (twice c.put_section_head.new.out c.extend_from_slice.new.self end (codes "widths")
     (widths ++ ((10 ∷ []) ++ (trace ++ log))) c.in_ok-extend_from_slice.ensures.ok
     (twice c.extend_from_slice.new.self c.put_widths.new.out end widths ((10 ∷ []) ++ (trace ++ log)) put_w

@@ -21,7 +21,8 @@ run_ended low high possible allowed left n rest =
 -- A zero stands alone.
 abbrev pub zero_ended : (low high : ℕ) → (ℕ → Bool) → (ℕ → ℕ → Bool) → Reading (ℕ × ℕ)
 zero_ended low high possible allowed rest =
-    if possible 0 then (if begins is_ascii_digit rest then wrong (length rest) else run_ended low high possible allowed (suc (length rest)) 0 rest)
+    if possible 0 then (if begins is_ascii_digit rest then wrong (length rest) else run_ended low high possible allowed
+    (suc (length rest)) 0 rest)
     else wrong (suc (length rest))
 
 -- A canonical decimal and the character that ends it, where numbers that are not possible are ended by no character.
@@ -43,9 +44,11 @@ run_at high possible [] = wrong 0
 run_at high possible (c ∷ text) =
     if is_ascii_digit c
     then (if c == 48
-    then (if possible 0 then (if begins is_ascii_digit text then wrong (length text) else got 0 text) else wrong (suc (length text)))
+    then (if possible 0 then (if begins is_ascii_digit text then wrong (length text) else got 0 text) else wrong
+    (suc (length text)))
     else (let run = read_run (c - 48) text in
-    if possible (run.0) then (if nat_le (run.0) high then got (run.0) (run.1) else outside (suc (length text))) else wrong (length run.1)))
+    if possible (run.0) then (if nat_le (run.0) high then got (run.0) (run.1) else outside (suc (length text))) else wrong
+    (length run.1)))
     else wrong (suc (length text))
 
 -- the number's lower limit, and the character that ends it

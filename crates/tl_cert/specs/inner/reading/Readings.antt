@@ -1,4 +1,5 @@
--- No public clause cites this file. Readings of a text from its beginning to its end, and what they give. They know no certificates.
+-- No public clause cites this file. Readings of a text from its beginning to its end, and what they give. They know no
+-- certificates.
 use Rattle.std.specs.Prelude.{ℕ, suc, Bool, false, ◌==◌, List, [], ◌∷◌, length, if◌then◌else◌}
 
 -- A value and what is left of the text. Or so many characters are left where no text goes on with the next one; or where

@@ -42,8 +42,10 @@ returns-in-Most c =
     let p = c.args.problem.now in
     let cut = c.width_of.result in
     let gap : c.gap.result ≡ gap_of p.style = c.gap.ensures ∙ ap gap_of c.style.ensures in
-    let m : to_z w32 (cut + c.gap.result) ≡ pos (cut + gap_of p.style) = omega (arith, ints, gap, c.width_of.ensures.small, gap-few p.style) in
-    decided-most p c.args.bound c.requires.span cut c.width_of.ensures.same c.width_of.ensures.past c.args.matrix.now.bounds c.requires.keeps c.in-Most.is
+    let m : to_z w32 (cut + c.gap.result) ≡ pos (cut + gap_of p.style) =
+    omega (arith, ints, gap, c.width_of.ensures.small, gap-few p.style) in
+    decided-most p c.args.bound c.requires.span cut c.width_of.ensures.same c.width_of.ensures.past c.args.matrix.now.bounds
+    c.requires.keeps c.in-Most.is
     (to_z w32 (cut + c.gap.result)) m c.is_near.result (rw c.span_of-span.ensures at c.is_near.ensures)
 
 pub returns-in-Least : goal.returns-in-Least
@@ -51,9 +53,11 @@ returns-in-Least c =
     let p = c.args.problem.now in
     let cut = c.width_of.result in
     let gap : c.gap.result ≡ gap_of p.style = c.gap.ensures ∙ ap gap_of c.style.ensures in
-    let m : to_z w32 (cut + c.gap.result) ≡ pos (cut + gap_of p.style) = omega (arith, ints, gap, c.width_of.ensures.small, gap-few p.style) in
+    let m : to_z w32 (cut + c.gap.result) ≡ pos (cut + gap_of p.style) =
+    omega (arith, ints, gap, c.width_of.ensures.small, gap-few p.style) in
     let n : to_z w32 (of_z w32 (pos 0 -ℤ to_z w32 (cut + c.gap.result))) ≡ neg_ℤ (to_z w32 (cut + c.gap.result)) =
     omega (arith, ints, m, gap, c.width_of.ensures.small, gap-few p.style) in
-    decided-least p c.args.bound c.requires.span cut c.width_of.ensures.same c.width_of.ensures.past c.args.matrix.now.bounds c.requires.keeps c.in-Least.is
+    decided-least p c.args.bound c.requires.span cut c.width_of.ensures.same c.width_of.ensures.past c.args.matrix.now.bounds
+    c.requires.keeps c.in-Least.is
     (to_z w32 (cut + c.gap.result)) (to_z w32 (of_z w32 (pos 0 -ℤ to_z w32 (cut + c.gap.result)))) m n c.is_near-in-Least.result
     (rw c.span_of-span.ensures at c.is_near-in-Least.ensures)

@@ -20,9 +20,13 @@ bound-requires-clause-ends c =
 
 pub returns-then-holds : goal.returns-then-holds
 returns-then-holds c =
-    let n : to_z w32 (of_z w32 (pos 0 -ℤ to_z w32 (of_z w32 c.args.apart))) ≡ neg_ℤ c.args.apart = omega (arith, ints, c.requires.low, c.requires.high) in
-    Restricts-least c.args.problem.now c.args.matrix.now c.bound.new.self c.requires.keeps c.bound.ensures.rest c.args.s c.requires.span
-    c.args.apart (to_z w32 (of_z w32 (pos 0 -ℤ to_z w32 (of_z w32 c.args.apart)))) n (rw c.spans.ensures.spans at c.bound.ensures.adds)
+    let n : to_z w32 (of_z w32 (pos 0 -ℤ to_z w32 (of_z w32 c.args.apart))) ≡ neg_ℤ c.args.apart =
+    omega (arith, ints, c.requires.low, c.requires.high) in
+    Restricts-least c.args.problem.now c.args.matrix.now c.bound.new.self c.requires.keeps c.bound.ensures.rest c.args.s
+    c.requires.span
+    c.args.apart (to_z w32 (of_z w32 (pos 0 -ℤ to_z w32 (of_z w32 c.args.apart)))) n
+    (rw c.spans.ensures.spans at c.bound.ensures.adds)
 
 pub returns-else-holds : goal.returns-else-holds
-returns-else-holds c = Restricts-none c.args.problem.now c.args.matrix.now _ c.requires.keeps (λ some. let yes = c.holds.ensures.1 some in cc)
+returns-else-holds c = Restricts-none c.args.problem.now c.args.matrix.now _ c.requires.keeps (λ some. let yes =
+    c.holds.ensures.1 some in cc)

@@ -26,9 +26,11 @@ returns-then-holds c =
     let p = c.args.problem.now in
     let raw = to_z w32 (of_z w32 c.args.apart) in
     let m : raw ≡ c.args.apart = omega (arith, ints, c.requires.low, c.requires.high) in
-    subst (λ t. Restricts p c.args.matrix.now c.bound.new.self (λ widths. pos (span_width p widths c.args.s + gap_of p.style) ≤ℤ t)) m
+    subst (λ t. Restricts p c.args.matrix.now c.bound.new.self
+    (λ widths. pos (span_width p widths c.args.s + gap_of p.style) ≤ℤ t)) m
     (Restricts-most p c.args.matrix.now c.bound.new.self c.requires.keeps c.bound.ensures.rest c.args.s c.requires.span raw
     (rw c.spans.ensures.spans at c.bound.ensures.adds))
 
 pub returns-else-holds : goal.returns-else-holds
-returns-else-holds c = Restricts-none c.args.problem.now c.args.matrix.now _ c.requires.keeps (λ some. let yes = c.holds.ensures.1 some in cc)
+returns-else-holds c = Restricts-none c.args.problem.now c.args.matrix.now _ c.requires.keeps (λ some. let yes =
+    c.holds.ensures.1 some in cc)

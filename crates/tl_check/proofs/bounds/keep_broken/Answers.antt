@@ -16,7 +16,8 @@ returns-in-Most c =
     let gap : c.gap.result ≡ gap_of p.style = c.gap.ensures ∙ ap gap_of c.style.ensures in
     let m : to_z w32 (of_z w32 (to_z w32 (cut + c.gap.result) +ℤ pos 1)) ≡ pos (cut + gap_of p.style + 1) =
     omega (arith, ints, gap, c.width_of.ensures.small, gap-few p.style) in
-    broken-most p c.args.bound c.requires.span cut c.width_of.ensures.same c.width_of.ensures.past c.args.matrix.now c.keep_at_least.new.matrix c.requires.keeps
+    broken-most p c.args.bound c.requires.span cut c.width_of.ensures.same c.width_of.ensures.past c.args.matrix.now
+    c.keep_at_least.new.matrix c.requires.keeps
     (to_z w32 (of_z w32 (to_z w32 (cut + c.gap.result) +ℤ pos 1))) c.in-Most.is m c.keep_at_least.ensures
 
 pub returns-in-Least : goal.returns-in-Least
@@ -26,5 +27,6 @@ returns-in-Least c =
     let gap : c.gap.result ≡ gap_of p.style = c.gap.ensures ∙ ap gap_of c.style.ensures in
     let m : to_z w32 (of_z w32 (to_z w32 (cut + c.gap.result) -ℤ pos 1)) ≡ pos (cut + gap_of p.style) -ℤ pos 1 =
     omega (arith, ints, gap, c.width_of.ensures.small, gap-few p.style) in
-    broken-least p c.args.bound c.requires.span cut c.width_of.ensures.same c.width_of.ensures.past c.args.matrix.now c.keep_at_most.new.matrix c.requires.keeps
+    broken-least p c.args.bound c.requires.span cut c.width_of.ensures.same c.width_of.ensures.past c.args.matrix.now
+    c.keep_at_most.new.matrix c.requires.keeps
     (to_z w32 (of_z w32 (to_z w32 (cut + c.gap.result) -ℤ pos 1))) c.in-Least.is m c.keep_at_most.ensures

@@ -14,8 +14,10 @@ returns-in-Most c =
     let p = c.args.problem.now in
     let cut = c.width_of.result in
     let gap : c.gap.result ≡ gap_of p.style = c.gap.ensures ∙ ap gap_of c.style.ensures in
-    let m : to_z w32 (cut + c.gap.result) ≡ pos (cut + gap_of p.style) = omega (arith, ints, gap, c.width_of.ensures.small, gap-few p.style) in
-    met-most p c.args.bound c.requires.span cut c.width_of.ensures.same c.width_of.ensures.past c.args.matrix.now c.keep_at_most.new.matrix c.requires.keeps
+    let m : to_z w32 (cut + c.gap.result) ≡ pos (cut + gap_of p.style) =
+    omega (arith, ints, gap, c.width_of.ensures.small, gap-few p.style) in
+    met-most p c.args.bound c.requires.span cut c.width_of.ensures.same c.width_of.ensures.past c.args.matrix.now
+    c.keep_at_most.new.matrix c.requires.keeps
     (to_z w32 (cut + c.gap.result)) c.in-Most.is m c.keep_at_most.ensures
 
 pub returns-in-Least : goal.returns-in-Least
@@ -23,6 +25,8 @@ returns-in-Least c =
     let p = c.args.problem.now in
     let cut = c.width_of.result in
     let gap : c.gap.result ≡ gap_of p.style = c.gap.ensures ∙ ap gap_of c.style.ensures in
-    let m : to_z w32 (cut + c.gap.result) ≡ pos (cut + gap_of p.style) = omega (arith, ints, gap, c.width_of.ensures.small, gap-few p.style) in
-    met-least p c.args.bound c.requires.span cut c.width_of.ensures.same c.width_of.ensures.past c.args.matrix.now c.keep_at_least.new.matrix c.requires.keeps
+    let m : to_z w32 (cut + c.gap.result) ≡ pos (cut + gap_of p.style) =
+    omega (arith, ints, gap, c.width_of.ensures.small, gap-few p.style) in
+    met-least p c.args.bound c.requires.span cut c.width_of.ensures.same c.width_of.ensures.past c.args.matrix.now
+    c.keep_at_least.new.matrix c.requires.keeps
     (to_z w32 (cut + c.gap.result)) c.in-Least.is m c.keep_at_least.ensures

@@ -20,7 +20,8 @@ returns-then-not-fire-clause-no c =
     let item = c.index-log-number.result in
     let is = rw c.as_slice-fires.ensures at c.index-log-number.is in
     let next = fired-next p trace log line i item within (c.requires.lines i 0 within).0 is in
-    let never = c.fire.ensures.no c.if-not-fire.true given (map (bounds_at p trace log line) (take i line.fires)) [] c.fires.invariant.leads in
+    let never = c.fire.ensures.no c.if-not-fire.true given (map (bounds_at p trace log line) (take i line.fires))
+    [] c.fires.invariant.leads in
     λ no. never-all p trace log line given (i + 1) (subst (λ (l : List (List Bound)). NeverFires p given l) next never)
 
 pub fires-preserved : goal.fires-preserved
@@ -35,7 +36,8 @@ fires-preserved c =
     let item = c.index-log-number.result in
     let is = rw c.as_slice-fires.ensures at c.index-log-number.is in
     let next = fired-next p trace log line i item within (c.requires.lines i 0 within).0 is in
-    let leads = c.fire.ensures.yes c.if-not-fire.false given (map (bounds_at p trace log line) (take i line.fires)) c.fires.invariant.leads in
+    let leads = c.fire.ensures.yes c.if-not-fire.false given (map (bounds_at p trace log line) (take i line.fires))
+    c.fires.invariant.leads in
     record {
       leads = subst (λ (l : List (List Bound)). LeadsTo p given l c.fire.new.matrix.bounds) next leads;
       marks = record {
@@ -53,4 +55,5 @@ returns-clause-yes c =
     let given = nogood_bounds p trace line.nogood in
     let i = c.fires.number-index in
     let all = take_all i line.fires (omega (arith, c.fires-test.false, ap length c.as_slice-fires.ensures)) in
-    λ yes. subst (λ (fs : List ℕ). LeadsTo p given (map (bounds_at p trace log line) fs) c.fires.matrix.bounds) all c.fires.invariant.leads
+    λ yes. subst (λ (fs : List ℕ). LeadsTo p given (map (bounds_at p trace log line) fs) c.fires.matrix.bounds)
+    all c.fires.invariant.leads

@@ -7,7 +7,8 @@ use Rattle.tl_check.proofs.firing.fire_all.Given as goal
 
 abbrev pub invariant-fires : goal.invariant-fires
 invariant-fires l = record {
-  leads : LeadsTo l.problem (nogood_bounds l.problem l.trace l.line.nogood) (map (λ f. nogood_bounds l.problem l.trace (nogood_at l.log f))
+  leads : LeadsTo l.problem (nogood_bounds l.problem l.trace l.line.nogood)
+      (map (λ f. nogood_bounds l.problem l.trace (nogood_at l.log f))
       (take l.number-index l.line.fires)) l.matrix.bounds;
   marks : KeepsMarks l.fn.matrix l.matrix;
 }

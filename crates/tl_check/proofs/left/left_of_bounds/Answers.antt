@@ -13,5 +13,6 @@ bounds-preserved c =
     let bounds = c.args.bounds.now in
     let i = c.bounds.bound-index in
     let more = take_more bounds i (record { span = 0; side = Most; width = 0 }) c.bounds-test.true in
-    subst (λ (l : List Bound). HasLeft c.args.problem.now (IsLeft c.args.problem.now c.args.matrix.now.bounds) l c.left_with-left.result) (sym more)
+    subst (λ (l : List Bound). HasLeft c.args.problem.now (IsLeft c.args.problem.now c.args.matrix.now.bounds)
+    l c.left_with-left.result) (sym more)
     (c.left_with-left.ensures (take i bounds) c.bounds.invariant)

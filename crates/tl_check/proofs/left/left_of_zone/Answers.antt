@@ -16,11 +16,13 @@ use Rattle.tl_check.proofs.ZoneWalks.{cut_to, parent-there, zone-first}
 use Rattle.tl_check.proofs.left.left_of_zone.Goals as goal
 
 pub part_bound-requires-clause-span : goal.part_bound-requires-clause-span
-part_bound-requires-clause-span c = cut-span c.args.problem.now c.requires.keeps.sound c.args.trace.now c.requires.trace c.cuts.zone c.cuts-test.true
+part_bound-requires-clause-span c = cut-span c.args.problem.now c.requires.keeps.sound c.args.trace.now c.requires.trace
+    c.cuts.zone c.cuts-test.true
     c.cuts.invariant.there no_cut
 
 pub part_bound-requires-clause-class : goal.part_bound-requires-clause-class
-part_bound-requires-clause-class c = cut-next c.args.problem.now c.requires.keeps.sound c.args.trace.now c.requires.trace c.cuts.zone c.cuts-test.true
+part_bound-requires-clause-class c = cut-next c.args.problem.now c.requires.keeps.sound c.args.trace.now c.requires.trace
+    c.cuts.zone c.cuts-test.true
     c.cuts.invariant.there no_cut
 
 pub is_implied-requires-clause-span : goal.is_implied-requires-clause-span
@@ -30,7 +32,8 @@ is_implied-requires-clause-span c =
     omega (arith, inside, c.part_bound.ensures.span)
 
 pub left_with_span-left-requires-clause-span : goal.left_with_span-left-requires-clause-span
-left_with_span-left-requires-clause-span c = cut-span c.args.problem.now c.requires.keeps.sound c.args.trace.now c.requires.trace c.cuts.zone
+left_with_span-left-requires-clause-span c = cut-span c.args.problem.now c.requires.keeps.sound c.args.trace.now
+    c.requires.trace c.cuts.zone
     c.cuts-test.true c.cuts.invariant.there no_cut
 
 pub cuts-init : goal.cuts-init
@@ -46,17 +49,23 @@ cuts-init c = record {
 
 pub cuts-preserved-else-is_more : goal.cuts-preserved-else-is_more
 cuts-preserved-else-is_more c = record {
-  there = parent-there c.args.problem.now c.args.trace.now c.requires.trace c.cuts.zone c.cuts-test.true c.cuts.invariant.there no_cut;
-  found = part-looked_at c.args.problem.now c.requires.keeps.sound c.args.trace.now c.requires.trace c.cuts.zone c.cuts-test.true c.cuts.invariant.there
-      no_cut c.part_bound.result c.part_bound.ensures.bound (IsLeft c.args.problem.now c.args.matrix.now.bounds) c.args.z c.requires.zone c.cuts.left
+  there = parent-there c.args.problem.now c.args.trace.now c.requires.trace c.cuts.zone c.cuts-test.true c.cuts.invariant.there
+      no_cut;
+  found = part-looked_at c.args.problem.now c.requires.keeps.sound c.args.trace.now c.requires.trace c.cuts.zone
+      c.cuts-test.true c.cuts.invariant.there
+      no_cut c.part_bound.result c.part_bound.ensures.bound (IsLeft c.args.problem.now c.args.matrix.now.bounds)
+      c.args.z c.requires.zone c.cuts.left
       c.left_with_span-left.result c.left_with_span-left.ensures c.cuts.invariant.found;
 }
 
 pub cuts-preserved : goal.cuts-preserved
 cuts-preserved c = record {
-  there = parent-there c.args.problem.now c.args.trace.now c.requires.trace c.cuts.zone c.cuts-test.true c.cuts.invariant.there no_cut;
-  found = part-implied c.args.problem.now c.requires.keeps.sound c.args.trace.now c.requires.trace c.cuts.zone c.cuts-test.true c.cuts.invariant.there
-      no_cut c.part_bound.result c.part_bound.ensures.bound (IsLeft c.args.problem.now c.args.matrix.now.bounds) c.args.z c.cuts.left
+  there = parent-there c.args.problem.now c.args.trace.now c.requires.trace c.cuts.zone c.cuts-test.true c.cuts.invariant.there
+      no_cut;
+  found = part-implied c.args.problem.now c.requires.keeps.sound c.args.trace.now c.requires.trace c.cuts.zone c.cuts-test.true
+      c.cuts.invariant.there
+      no_cut c.part_bound.result c.part_bound.ensures.bound (IsLeft c.args.problem.now c.args.matrix.now.bounds)
+      c.args.z c.cuts.left
       (c.is_implied.ensures.0 c.if-not-is_implied.false) c.cuts.invariant.found;
 }
 
@@ -77,5 +86,7 @@ returns c =
     let trace = c.args.trace.now in
     let first : zone_of p trace c.cuts.zone ≡ zone_of p trace 0 = ap (zone_of p trace) (omega (arith, c.cuts-test.false)) in
     let whole = first ∙ zone-first p trace c.requires.trace in
-    but-none p (IsLeft p c.args.matrix.now.bounds) (zone_bounds p (zone_of p trace c.args.z)) (zone_bounds p (zone_of p trace c.cuts.zone)) c.cuts.left
-    (λ b has. whole-no_bounds p b (subst (λ (zone : List Range). Contains (zone_bounds p zone) b) whole has)) c.cuts.invariant.found
+    but-none p (IsLeft p c.args.matrix.now.bounds) (zone_bounds p (zone_of p trace c.args.z))
+    (zone_bounds p (zone_of p trace c.cuts.zone)) c.cuts.left
+    (λ b has. whole-no_bounds p b (subst (λ (zone : List Range). Contains (zone_bounds p zone) b) whole has))
+    c.cuts.invariant.found

@@ -53,7 +53,8 @@ returns c =
     let nogood = nogood-at p trace log line number item named.0 is in
     let Among = IsLeft p c.args.work.now.matrix.bounds in
     let bounds = nogood_bounds p trace item.nogood in
-    let last = last-map (bounds_at p trace log line) None fires ∙ ap (image (bounds_at p trace log line)) (last-get None fires 0 within)
+    let last = last-map (bounds_at p trace log line) None fires ∙ ap (image (bounds_at p trace log line))
+    (last-get None fires 0 within)
     ∙ ap (λ (n : Nogood). Some (nogood_bounds p trace n)) nogood in
     let decided = nothing-decided p Among bounds c.left_of.result c.left_of.ensures in
     let P : Option (List Bound) → Type 0 = λ o. IsSomeAnd o (All (Implied p Among)) in (

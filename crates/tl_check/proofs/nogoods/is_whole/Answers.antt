@@ -35,7 +35,12 @@ returns-then-range-last_class c = (
       let is = zones-are p c.requires.sound c.args.trace.now c.requires.trace c.args.z c.requires.zone in
       let bare = bare-last p (zone_of p c.args.trace.now c.args.z) is none c.loop-s.s
       (omega (arith, c.loop-s-test.true, c.span_count-count.ensures, is.spans)) in
-      absurd (c.if-range-last_class.true (omega (arith, ap (λ (r : Range). r.last) c.zone_range-range.ensures, bare, c.last_class.ensures))),
+      absurd (c.if-range-last_class.true (omega (
+        arith,
+        ap (λ (r : Range). r.last) c.zone_range-range.ensures,
+        bare,
+        c.last_class.ensures,
+      ))),
 )
 
 pub returns : goal.returns
@@ -43,5 +48,11 @@ returns c =
     let p = c.args.problem.now in
     let zone = zone_of p c.args.trace.now c.args.z in
     let is = zones-are p c.requires.sound c.args.trace.now c.requires.trace c.args.z c.requires.zone in
-    let all : c.loop-s.s ≡ length zone = omega (arith, c.loop-s-test.false, c.loop-s.auto.s-end, c.span_count-count.ensures, is.spans) in
+    let all : c.loop-s.s ≡ length zone = omega (
+      arith,
+      c.loop-s-test.false,
+      c.loop-s.auto.s-end,
+      c.span_count-count.ensures,
+      is.spans,
+    ) in
     (λ yes. subst (λ n. bounds_upto p zone n ≡ []) all c.loop-s.invariant, λ none. refl)

@@ -19,7 +19,8 @@ bounds-preserved c =
     let more = take_more bounds i (record { span = 0; side = Most; width = 0 }) c.bounds-test.true in
     record {
       describes = subst (λ (l : List Bound). Describes p l [] c.keep_met.new.matrix.bounds) (sym more)
-          (Describes-met p (take i bounds) [] c.bounds.matrix c.keep_met.new.matrix _ c.bounds.invariant.describes c.keep_met.ensures);
+          (Describes-met p (take i bounds) [] c.bounds.matrix c.keep_met.new.matrix _ c.bounds.invariant.describes
+          c.keep_met.ensures);
       marks = record {
         marks = c.keep_met.ensures.marks ∙ c.bounds.invariant.marks.marks;
         held = c.keep_met.ensures.held ∙ c.bounds.invariant.marks.held;

@@ -14,16 +14,19 @@ use Rattle.tl_check.proofs.PartBounds.{cut-span, cut-next, part-inside, part-mee
 use Rattle.tl_check.proofs.nogoods.keep_zone.Goals as goal
 
 pub part_bound-requires-clause-span : goal.part_bound-requires-clause-span
-part_bound-requires-clause-span c = cut-span c.args.problem.now c.requires.page.keeps.sound c.args.trace.now c.requires.trace c.cuts.zone c.cuts-test.true
+part_bound-requires-clause-span c = cut-span c.args.problem.now c.requires.page.keeps.sound c.args.trace.now c.requires.trace
+    c.cuts.zone c.cuts-test.true
     c.cuts.invariant.there no_cut
 
 pub part_bound-requires-clause-class : goal.part_bound-requires-clause-class
-part_bound-requires-clause-class c = cut-next c.args.problem.now c.requires.page.keeps.sound c.args.trace.now c.requires.trace c.cuts.zone c.cuts-test.true
+part_bound-requires-clause-class c = cut-next c.args.problem.now c.requires.page.keeps.sound c.args.trace.now c.requires.trace
+    c.cuts.zone c.cuts-test.true
     c.cuts.invariant.there no_cut
 
 pub keep_met-requires-clause-span : goal.keep_met-requires-clause-span
 keep_met-requires-clause-span c =
-    let inside = cut-span c.args.problem.now c.requires.page.keeps.sound c.args.trace.now c.requires.trace c.cuts.zone c.cuts-test.true
+    let inside = cut-span c.args.problem.now c.requires.page.keeps.sound c.args.trace.now c.requires.trace c.cuts.zone
+    c.cuts-test.true
     c.cuts.invariant.there no_cut in
     omega (arith, inside, c.part_bound.ensures.span)
 
@@ -38,7 +41,12 @@ cuts-init c = record {
     to = λ widths left inside. inside;
     from = λ widths inside. (
       c.requires.page.from widths
-          (record { page = inside.page; meets = All-nil (Meets c.args.problem.now widths); breaks = All-nil (Breaks c.args.problem.now widths) }),
+          (record {
+            page = inside.page;
+            meets = All-nil (Meets c.args.problem.now widths);
+            breaks =
+                All-nil (Breaks c.args.problem.now widths);
+          }),
       inside,
     );
   };
@@ -58,13 +66,16 @@ cuts-preserved c =
       leaves = record {
         keeps = kept.keeps;
         to = λ widths left inside. old.to widths (kept.before widths left)
-            (part-from p sound trace c.requires.trace zone c.cuts-test.true c.cuts.invariant.there no_cut c.part_bound.result c.part_bound.ensures.bound
+            (part-from p sound trace c.requires.trace zone c.cuts-test.true c.cuts.invariant.there no_cut c.part_bound.result
+            c.part_bound.ensures.bound
             widths inside (kept.fact widths left));
         from = λ widths inside. (
           kept.all widths (old.from widths inside).0
-              (part-meets p sound trace c.requires.trace zone c.cuts-test.true c.cuts.invariant.there no_cut c.part_bound.result c.part_bound.ensures.bound
+              (part-meets p sound trace c.requires.trace zone c.cuts-test.true c.cuts.invariant.there no_cut c.part_bound.result
+              c.part_bound.ensures.bound
               widths (old.from widths inside).1),
-          part-inside p sound trace c.requires.trace zone c.cuts-test.true c.cuts.invariant.there no_cut widths (old.from widths inside).1,
+          part-inside p sound trace c.requires.trace zone c.cuts-test.true c.cuts.invariant.there no_cut widths
+              (old.from widths inside).1,
         );
       };
       marks = record {
@@ -87,7 +98,8 @@ returns-clause-describes c =
       keeps = leaves.keeps;
       to = λ widths left.
           let page = leaves.keeps.page.page widths left in
-          let inside = leaves.to widths left (subst (λ (ranges : List Range). InZone p ranges widths) (sym whole) (whole-all p sound widths page)) in
+          let inside = leaves.to widths left (subst (λ (ranges : List Range). InZone p ranges widths) (sym whole)
+          (whole-all p sound widths page)) in
           record {
             page = page;
             meets = zone-meets p sound (zone_of p trace z) is widths inside;

@@ -21,10 +21,19 @@ loop-i-preserved c =
     let more = take_more trace i (record { zone = 0; span = 0; class = 0 }) c.loop-i-test.true in
     let short = length-take i trace in
     let now = c.is_cut_after.ensures.0 c.if-not-is_cut_after.false in
-    let room : 2 * (length (take i trace) + 1) + 1 ≤ length flags = omega (arith, c.requires.room, c.loop-i.invariant.room, c.loop-i-test.true, short) in
-    let there : cut.zone < length flags = omega (arith, now.stands.there, c.requires.room, c.loop-i.invariant.room, c.loop-i-test.true, short) in
+    let room : 2 * (length (take i trace) + 1) + 1 ≤ length flags =
+    omega (arith, c.requires.room, c.loop-i.invariant.room, c.loop-i-test.true, short) in
+    let there : cut.zone < length flags = omega (
+      arith,
+      now.stands.there,
+      c.requires.room,
+      c.loop-i.invariant.room,
+      c.loop-i-test.true,
+      short,
+    ) in
     record {
-      cuts = subst (λ (cs : List CutAt). IsTraceOf p cs) (sym more) (trace-push (whole_zone p) (take i trace) cut c.loop-i.invariant.cuts now);
+      cuts = subst (λ (cs : List CutAt). IsTraceOf p cs) (sym more)
+          (trace-push (whole_zone p) (take i trace) cut c.loop-i.invariant.cuts now);
       flags = subst (λ (cs : List CutAt). AreFlags cs (set flags cut.zone true)) (sym more)
           (flags-push (take i trace) cut flags room there c.loop-i.invariant.flags);
       room = length-set flags cut.zone true ∙ c.loop-i.invariant.room;

@@ -19,7 +19,8 @@ returns-then-not-is_below-clause-needed c =
       λ all.
           let found = all i (record { zone = 0; span = 0; class = 0 }) c.loop-i-test.true in
           let yes = c.is_below.ensures.1
-          (found-from p Among (λ bound. bound < c.args.opening) c.zone_bound.result c.zone_bound.ensures.bound found.0 found.1 found.2) in
+          (found-from p Among (λ bound. bound < c.args.opening)
+          c.zone_bound.result c.zone_bound.ensures.bound found.0 found.1 found.2) in
           absurd cc,
     )
 

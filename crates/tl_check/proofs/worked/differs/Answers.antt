@@ -15,7 +15,8 @@ span_differs-requires-clause-first c =
     let zone = zone_of p trace c.args.z in
     let is = zones-are p c.requires.sound trace c.requires.trace c.args.z c.requires.zone in
     let inside : c.loop-s.s < length (spans_of p) = omega (arith, c.loop-s-test.true, c.span_count-count.ensures) in
-    (range-small p c.requires.sound trace c.requires.trace c.loop-s.s inside c.args.z c.requires.zone c.zone_range-range.result c.zone_range-range.ensures).0
+    (range-small p c.requires.sound trace c.requires.trace c.loop-s.s inside c.args.z c.requires.zone c.zone_range-range.result
+    c.zone_range-range.ensures).0
 
 pub span_differs-requires-clause-last : goal.span_differs-requires-clause-last
 span_differs-requires-clause-last c =
@@ -24,7 +25,8 @@ span_differs-requires-clause-last c =
     let zone = zone_of p trace c.args.z in
     let is = zones-are p c.requires.sound trace c.requires.trace c.args.z c.requires.zone in
     let inside : c.loop-s.s < length (spans_of p) = omega (arith, c.loop-s-test.true, c.span_count-count.ensures) in
-    (range-small p c.requires.sound trace c.requires.trace c.loop-s.s inside c.args.z c.requires.zone c.zone_range-range.result c.zone_range-range.ensures).1
+    (range-small p c.requires.sound trace c.requires.trace c.loop-s.s inside c.args.z c.requires.zone c.zone_range-range.result
+    c.zone_range-range.ensures).1
 
 pub returns-then-span_differs : goal.returns-then-span_differs
 returns-then-span_differs c =
@@ -54,5 +56,11 @@ returns c =
     let trace = c.args.trace.now in
     let is = zones-are p c.requires.sound trace c.requires.trace c.args.z c.requires.zone in (
       λ never. absurd cc,
-      λ differ. absurd (c.loop-s.invariant differ (omega (arith, differ.span, c.loop-s-test.false, c.span_count-count.ensures, is.spans))),
+      λ differ. absurd (c.loop-s.invariant differ (omega (
+        arith,
+        differ.span,
+        c.loop-s-test.false,
+        c.span_count-count.ensures,
+        is.spans,
+      ))),
     )

@@ -8,7 +8,8 @@ abbrev pub invariant-zones : goal.invariant-zones
 invariant-zones l = record {
   there : IsZoneOf l.trace l.zone;
   top : l.last < length (classes_at l.problem l.s);
-  classes : IsWithinClasses (range_at (zone_of l.problem l.trace l.z) l.s) (range_at (zone_of l.problem l.trace l.zone) l.s) l.first l.last;
+  classes : IsWithinClasses (range_at (zone_of l.problem l.trace l.z) l.s) (range_at (zone_of l.problem l.trace l.zone) l.s)
+      l.first l.last;
 }
 
 abbrev pub decreases-zones : goal.decreases-zones

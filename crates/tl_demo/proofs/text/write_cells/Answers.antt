@@ -30,5 +30,6 @@ loop-left-preserved c =
 
 pub returns : goal.returns
 returns c =
-    let end = cells_end c.loop-left.left c.loop-left.draws.state c.loop-left.out _ _ (omega (arith, c.loop-left-test.false)) c.loop-left.invariant.1 in
+    let end = cells_end c.loop-left.left c.loop-left.draws.state c.loop-left.out _ _ (omega (arith, c.loop-left-test.false))
+    c.loop-left.invariant.1 in
     record { text = end.0; state = end.1 }

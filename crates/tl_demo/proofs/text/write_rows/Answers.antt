@@ -12,7 +12,8 @@ loop-preserved c =
     let text = c.args.out.now ++ flat_map row_text (rows_from 30 c.args.draws.now.state).value in
     let new = c.write_row.new.out in
     let more : 30 - c.loop.counter ≡ suc left = omega (arith, c.loop-test.true) in
-    let written = row_written left state out new text c.in_ok-write_row.ensures.text (subst (λ n. RowsLeft n state out text) more c.loop.invariant) in
+    let written = row_written left state out new text c.in_ok-write_row.ensures.text
+    (subst (λ n. RowsLeft n state out text) more c.loop.invariant) in
     subst (λ s. RowsLeft left s new text) (sym c.in_ok-write_row.ensures.state) written
 
 pub returns : goal.returns

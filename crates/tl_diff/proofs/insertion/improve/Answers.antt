@@ -12,13 +12,25 @@ use Rattle.tl_diff.proofs.insertion.improve.Goals.{in-Some, in_default}
 
 pub improve_row-requires-clause-way_low : goal.improve_row-requires-clause-way_low
 improve_row-requires-clause-way_low c =
-    let old = sym (c.loop-variable.invariant.rest c.loop-variable.variable c.args.a c.loop-variable-test.true c.requires.begins (omega arith)) ∙ c.in-Some.is in
-    omega (arith, ints, c.requires.small c.loop-variable.variable c.loop-variable-test.true c.args.a c.in-Some.way c.requires.begins old)
+    let old = sym (c.loop-variable.invariant.rest c.loop-variable.variable c.args.a c.loop-variable-test.true c.requires.begins
+    (omega arith)) ∙ c.in-Some.is in
+    omega (
+      arith,
+      ints,
+      c.requires.small c.loop-variable.variable c.loop-variable-test.true c.args.a c.in-Some.way
+          c.requires.begins old,
+    )
 
 pub improve_row-requires-clause-way_high : goal.improve_row-requires-clause-way_high
 improve_row-requires-clause-way_high c =
-    let old = sym (c.loop-variable.invariant.rest c.loop-variable.variable c.args.a c.loop-variable-test.true c.requires.begins (omega arith)) ∙ c.in-Some.is in
-    omega (arith, ints, c.requires.small c.loop-variable.variable c.loop-variable-test.true c.args.a c.in-Some.way c.requires.begins old)
+    let old = sym (c.loop-variable.invariant.rest c.loop-variable.variable c.args.a c.loop-variable-test.true c.requires.begins
+    (omega arith)) ∙ c.in-Some.is in
+    omega (
+      arith,
+      ints,
+      c.requires.small c.loop-variable.variable c.loop-variable-test.true c.args.a c.in-Some.way
+          c.requires.begins old,
+    )
 
 pub improve_row-requires-clause-variable_small : goal.improve_row-requires-clause-variable_small
 improve_row-requires-clause-variable_small c = λ q e within is.
@@ -29,7 +41,8 @@ pub improve_row-requires-clause-to_small : goal.improve_row-requires-clause-to_s
 improve_row-requires-clause-to_small c = λ q e within is.
     let most : ℤ = to_z w32 (of_z w32 c.args.most) in
     let same : most ≡ c.args.most = omega (arith, ints) in
-    let row = row_same c.args.variables c.args.rows.now c.loop-variable.rows c.args.a c.args.b most c.loop-variable.variable c.requires.begins
+    let row = row_same c.args.variables c.args.rows.now c.loop-variable.rows c.args.a c.args.b most c.loop-variable.variable
+    c.requires.begins
     c.requires.ends c.loop-variable-test.true
     (λ t h. omega (arith, ints, same, c.requires.no_cycle t h)) c.loop-variable.invariant q within in
     c.requires.small c.args.b c.requires.ends q e within (sym row ∙ is)
@@ -42,17 +55,22 @@ loop-variable-preserved c =
     let up : pos 0 ≤ℤ (t +ℤ most) = omega (arith, ints, same, c.requires.no_cycle t h) in up in
     elim c.match-rows-variable.branch [
       | in-Some w ↦
-          let old = sym (c.loop-variable.invariant.rest c.loop-variable.variable c.args.a c.loop-variable-test.true c.requires.begins (omega arith))
+          let old = sym (c.loop-variable.invariant.rest c.loop-variable.variable c.args.a c.loop-variable-test.true
+          c.requires.begins (omega arith))
           ∙ w.in-Some.is in
-          let small = c.requires.small c.loop-variable.variable c.loop-variable-test.true c.args.a w.in-Some.way c.requires.begins old in
-          let sum : to_z w32 (of_z w32 (to_z w32 (of_z w32 w.in-Some.way) +ℤ most)) ≡ w.in-Some.way +ℤ most = omega (arith, ints, small) in
+          let small = c.requires.small c.loop-variable.variable c.loop-variable-test.true c.args.a w.in-Some.way
+          c.requires.begins old in
+          let sum : to_z w32 (of_z w32 (to_z w32 (of_z w32 w.in-Some.way) +ℤ most)) ≡ w.in-Some.way +ℤ most =
+          omega (arith, ints, small) in
           rw w.rows-is
-          (IsImproved-row c.args.variables c.args.rows.now c.loop-variable.rows c.args.a c.args.b most c.loop-variable.variable c.requires.begins
+          (IsImproved-row c.args.variables c.args.rows.now c.loop-variable.rows c.args.a c.args.b most c.loop-variable.variable
+          c.requires.begins
           c.requires.ends c.loop-variable-test.true no_cycle c.loop-variable.invariant
           w.in-Some.way w.improve_row.new.rows w.in-Some.is (rw sum at w.improve_row.ensures))
       | in_default w ↦
           rw w.rows-is
-          (IsImproved-skip c.args.variables c.args.rows.now c.loop-variable.rows c.args.a c.args.b most c.loop-variable.variable c.requires.begins
+          (IsImproved-skip c.args.variables c.args.rows.now c.loop-variable.rows c.args.a c.args.b most c.loop-variable.variable
+          c.requires.begins
           c.requires.ends c.loop-variable-test.true no_cycle c.loop-variable.invariant
           (none_from _ w.in_default.not-Some))
     ]

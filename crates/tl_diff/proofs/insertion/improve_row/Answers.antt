@@ -9,7 +9,8 @@ use Rattle.tl_diff.proofs.insertion.improve_row.Goals.{in-Some, in_default}
 
 pub overflow_add-way : goal.overflow_add-way
 overflow_add-way c =
-    let old = read_old c.args.variables c.args.rows.now c.loop-end.rows c.args.variable c.args.b (to_z w32 (of_z w32 c.args.way)) c.loop-end.end
+    let old = read_old c.args.variables c.args.rows.now c.loop-end.rows c.args.variable c.args.b
+    (to_z w32 (of_z w32 c.args.way)) c.loop-end.end
     c.requires.begins c.requires.ends c.loop-end-test.true c.loop-end.invariant in
     omega (arith, ints, c.requires.to_small c.loop-end.end c.in-Some.rest c.loop-end-test.true (sym old ∙ c.in-Some.is))
 
@@ -25,18 +26,22 @@ lesser_of-requires c = λ e is.
 pub loop-end-preserved : goal.loop-end-preserved
 loop-end-preserved c =
     let way : ℤ = to_z w32 (of_z w32 c.args.way) in
-    let old = read_old c.args.variables c.args.rows.now c.loop-end.rows c.args.variable c.args.b way c.loop-end.end c.requires.begins c.requires.ends
+    let old = read_old c.args.variables c.args.rows.now c.loop-end.rows c.args.variable c.args.b way c.loop-end.end
+    c.requires.begins c.requires.ends
     c.loop-end-test.true c.loop-end.invariant in
     elim c.match-rows-b.branch [
       | in-Some w ↦
           let small = c.requires.to_small c.loop-end.end w.in-Some.rest c.loop-end-test.true (sym old ∙ w.in-Some.is) in
-          let sum : to_z w32 (of_z w32 (way +ℤ to_z w32 (of_z w32 w.in-Some.rest))) ≡ way +ℤ w.in-Some.rest = omega (arith, ints, small) in
+          let sum : to_z w32 (of_z w32 (way +ℤ to_z w32 (of_z w32 w.in-Some.rest))) ≡ way +ℤ w.in-Some.rest =
+          omega (arith, ints, small) in
           rw w.rows-is
-          (IsRowImproved-write c.args.variables c.args.rows.now c.loop-end.rows c.args.variable c.args.b way c.loop-end.end c.requires.begins
+          (IsRowImproved-write c.args.variables c.args.rows.now c.loop-end.rows c.args.variable c.args.b way c.loop-end.end
+          c.requires.begins
           c.requires.ends c.loop-end-test.true c.loop-end.invariant w.in-Some.rest w.lesser_of.result w.in-Some.is
           (rw sum at w.lesser_of.ensures))
       | in_default w ↦
           rw w.rows-is
-          (IsRowImproved-skip c.args.variables c.args.rows.now c.loop-end.rows c.args.variable c.args.b way c.loop-end.end c.requires.begins
+          (IsRowImproved-skip c.args.variables c.args.rows.now c.loop-end.rows c.args.variable c.args.b way c.loop-end.end
+          c.requires.begins
           c.requires.ends c.loop-end-test.true c.loop-end.invariant (none_from _ w.in_default.not-Some))
     ]

@@ -8,7 +8,8 @@ use Rattle.tl_diff.proofs.paths.chain.Goals.{else-arc-place-via-then-arc-place+e
 pub loop-i-init : goal.loop-i-init
 loop-i-init c =
     rw c.new-backward.ensures.items
-    (IsTaken-none c.args.n c.args.arcs.now c.args.out.now c.requires.forward c.requires.in_order c.requires.heaviest (length c.args.arcs.now) (omega arith))
+    (IsTaken-none c.args.n c.args.arcs.now c.args.out.now c.requires.forward c.requires.in_order c.requires.heaviest
+    (length c.args.arcs.now) (omega arith))
 
 pub bounds-out-place : goal.bounds-out-place
 bounds-out-place c = omega (arith, c.loop-i.invariant.up)
@@ -28,14 +29,16 @@ loop-i-preserved-then-out-arc c =
     let one : c.loop-i.i ≡ c.loop-i.i - 1 + 1 = omega arith in
     let there : c.loop-i.i - 1 < length c.args.arcs.now = omega arith in
     rw (c.in_ok-push.ensures.items, reverse-append)
-    (IsTaken-takes c.args.n c.args.arcs.now c.args.out.now c.requires.forward c.requires.in_order c.requires.heaviest c.loop-i.place (c.loop-i.i - 1)
+    (IsTaken-takes c.args.n c.args.arcs.now c.args.out.now c.requires.forward c.requires.in_order c.requires.heaviest
+    c.loop-i.place (c.loop-i.i - 1)
     (reverse c.loop-i.backward.items) (rw one at c.loop-i.invariant) there c.if-arc-place.true c.if-out-arc.true)
 
 pub loop-i-preserved : goal.loop-i-preserved
 loop-i-preserved c =
     let one : c.loop-i.i ≡ c.loop-i.i - 1 + 1 = omega arith in
     let there : c.loop-i.i - 1 < length c.args.arcs.now = omega arith in
-    IsTaken-skips c.args.n c.args.arcs.now c.args.out.now c.requires.forward c.requires.in_order c.requires.heaviest c.loop-i.place (c.loop-i.i - 1)
+    IsTaken-skips c.args.n c.args.arcs.now c.args.out.now c.requires.forward c.requires.in_order c.requires.heaviest
+    c.loop-i.place (c.loop-i.i - 1)
     (reverse c.loop-i.backward.items) (rw one at c.loop-i.invariant) there
     (λ ends. elim c.else-arc-place.branch [
       | else-arc-place-via-then-arc-place+else-out-arc w ↦ w.if-out-arc.false
@@ -47,12 +50,14 @@ pub returns-clause-path : goal.returns-clause-path
 returns-clause-path c =
     let none : c.loop-i.i ≡ 0 = omega arith in
     rw (c.from_vec.ensures, c.reverse.ensures.items)
-    (IsTaken-path c.args.n c.args.arcs.now c.args.out.now c.requires.forward c.requires.in_order c.requires.heaviest c.loop-i.place _
+    (IsTaken-path c.args.n c.args.arcs.now c.args.out.now c.requires.forward c.requires.in_order c.requires.heaviest
+    c.loop-i.place _
     (rw none at c.loop-i.invariant))
 
 pub returns-clause-weight : goal.returns-clause-weight
 returns-clause-weight c =
     let none : c.loop-i.i ≡ 0 = omega arith in
     rw (c.from_vec.ensures, c.reverse.ensures.items)
-    (IsTaken-weight c.args.n c.args.arcs.now c.args.out.now c.requires.forward c.requires.in_order c.requires.heaviest c.loop-i.place _
+    (IsTaken-weight c.args.n c.args.arcs.now c.args.out.now c.requires.forward c.requires.in_order c.requires.heaviest
+    c.loop-i.place _
     (rw none at c.loop-i.invariant))

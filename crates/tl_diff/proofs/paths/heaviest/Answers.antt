@@ -7,9 +7,14 @@ use Rattle.tl_diff.proofs.paths.heaviest.Goals as goal
 pub returns-clause-each : goal.returns-clause-each
 returns-clause-each c =
     let e : c.loop-place.place ≡ c.args.n = omega arith in
-    IsHeaviest-relaxed c.args.n c.args.arcs.now c.loop-place.next c.loop-place.out c.requires.forward (rw e at c.loop-place.invariant)
+    IsHeaviest-relaxed c.args.n c.args.arcs.now c.loop-place.next c.loop-place.out c.requires.forward
+    (rw e at c.loop-place.invariant)
 
 -- What the pass finds is a part of what the arcs weigh together.
 pub returns-clause-at_most : goal.returns-clause-at_most
 returns-clause-at_most c =
-    omega (arith, c.loop-place.invariant.small c.args.n (omega arith), sum_by-take-le (λ e. e.weight) c.args.arcs.now c.loop-place.next)
+    omega (
+      arith,
+      c.loop-place.invariant.small c.args.n (omega arith),
+      sum_by-take-le (λ e. e.weight) c.args.arcs.now c.loop-place.next,
+    )

@@ -7,17 +7,24 @@ use Rattle.tl_diff.proofs.paths.relax.Goals.{then-loop-next-test+else-arcs-next,
 
 pub overflow_add-out : goal.overflow_add-out
 overflow_add-out c =
-    let sum = sum_by_more_le (λ e. e.weight) c.args.arcs.now c.loop-next.next (record { from = 0; to = 0; weight = 0 }) c.loop-next-test.true in
+    let sum = sum_by_more_le (λ e. e.weight) c.args.arcs.now c.loop-next.next (record { from = 0; to = 0; weight = 0 })
+    c.loop-next-test.true in
     let small = c.loop-next.invariant.small c.args.place (omega arith) in
     omega arith
 
 pub loop-next-preserved : goal.loop-next-preserved
 loop-next-preserved c =
-    rw c.max.ensures (IsRelaxed-arc c.args.n c.args.arcs.now c.args.place c.loop-next.next c.loop-next.out c.requires.forward c.requires.in_order
+    rw c.max.ensures (IsRelaxed-arc c.args.n c.args.arcs.now c.args.place c.loop-next.next c.loop-next.out c.requires.forward
+    c.requires.in_order
     c.loop-next.invariant c.loop-next-test.true c.if-arcs-next.true)
 
 pub returns : goal.returns
 returns c =
-    rw c.max-2.ensures (IsRelaxed-on c.args.n c.args.arcs.now c.args.place c.loop-next.next c.loop-next.out c.requires.forward c.requires.in_order
+    rw c.max-2.ensures (IsRelaxed-on c.args.n c.args.arcs.now c.args.place c.loop-next.next c.loop-next.out c.requires.forward
+    c.requires.in_order
     c.loop-next.invariant c.requires.there
-    (λ within. elim c.loop-next-test.branch [ then-loop-next-test+else-arcs-next w ↦ w.if-arcs-next.false | else-loop-next-test w ↦ absurd (omega arith) ]))
+    (λ within. elim c.loop-next-test.branch [
+      | then-loop-next-test+else-arcs-next w ↦ w.if-arcs-next.false
+      | else-loop-next-test
+          w ↦ absurd (omega arith)
+    ]))

@@ -1,20 +1,22 @@
 use Rattle.std.proofs.Common.{◌≡◌, ◌+◌, ◌<◌, ◌≤◌, max, take, length, get_or, subst, sym}
-use Rattle.tl_form.specs.declared.cell.Content.{out-Content}
-use Rattle.tl_form.specs.declared.cell.TableCell.{out-TableCell}
+use Rattle.tl_table.specs.declared.cell.Content.{out-Content}
+use Rattle.tl_table.specs.declared.cell.TableCell.{out-TableCell}
 use Rattle.tl_form.specs.inner.CellSteps.{HaveSteps, NeedsBy}
 use Rattle.std.proofs.lemmas.List.{take_all}
 use Rattle.tl_form.proofs.CellNeedLemmas.{StartSoFar, start-all, start-more, taken}
 use Rattle.tl_form.proofs.ProblemCells.{have-blocks}
-use Rattle.tl_form.proofs.SoundParts.{at_item}
-use Rattle.tl_form.specs.Tables.{tables_of}
+use Rattle.tl_table.proofs.SoundParts.{at_item}
+use Rattle.tl_table.specs.Tables.{tables_of}
 use Rattle.tl_form.proofs.cell_steps.cell_start.Goals as goal
 
 pub block_start-requires : goal.block_start-requires
 block_start-requires c =
-    at_item (λ block. HaveSteps c.args.inner.now (tables_of (out-Content block))) (out-TableCell c.args.cell.now).blocks c.loop-block.block-index
+    at_item (λ block. HaveSteps c.args.inner.now (tables_of (out-Content block)))
+    (out-TableCell c.args.cell.now).blocks c.loop-block.block-index
     c.block-item.result (have-blocks c.args.inner.now (out-TableCell c.args.cell.now) c.requires)
     (subst (λ items. c.loop-block.block-index < length items) c.as_slice-block-items.ensures c.loop-block-test.true)
-    (subst (λ items. c.block-item.result ≡ get_or items c.loop-block.block-index c.block-item.result) c.as_slice-block-items.ensures c.block-item.is)
+    (subst (λ items. c.block-item.result ≡ get_or items c.loop-block.block-index c.block-item.result)
+    c.as_slice-block-items.ensures c.block-item.is)
 
 pub loop-block-preserved : goal.loop-block-preserved
 loop-block-preserved c =
@@ -24,8 +26,10 @@ loop-block-preserved c =
     (subst (λ blocks. StartSoFar needs cell.least blocks (max c.loop-block.start c.block_start.result))
     (sym (taken cell.blocks c.loop-block.block-index c.block-item.result
     (subst (λ items. c.loop-block.block-index < length items) c.as_slice-block-items.ensures c.loop-block-test.true)
-    (subst (λ items. c.block-item.result ≡ get_or items c.loop-block.block-index c.block-item.result) c.as_slice-block-items.ensures c.block-item.is)))
-    (start-more needs cell.least (take c.loop-block.block-index cell.blocks) c.block-item.result c.loop-block.start c.block_start.result
+    (subst (λ items. c.block-item.result ≡ get_or items c.loop-block.block-index c.block-item.result)
+    c.as_slice-block-items.ensures c.block-item.is)))
+    (start-more needs cell.least (take c.loop-block.block-index cell.blocks)
+    c.block-item.result c.loop-block.start c.block_start.result
     c.loop-block.invariant c.block_start.ensures))
 
 pub returns : goal.returns
@@ -35,4 +39,5 @@ returns c =
     start-all needs cell c.loop-block.start
     (subst (λ blocks. StartSoFar needs cell.least blocks c.loop-block.start)
     (take_all c.loop-block.block-index cell.blocks
-    (subst (λ items. length items ≤ c.loop-block.block-index) c.as_slice-block-items.ensures c.loop-block-test.false)) c.loop-block.invariant)
+    (subst (λ items. length items ≤ c.loop-block.block-index) c.as_slice-block-items.ensures c.loop-block-test.false))
+    c.loop-block.invariant)

@@ -1,26 +1,30 @@
 use Rattle.std.proofs.Common.{◌≡◌, ◌<◌, ◌≤◌, take, length, get_or, subst, sym, arith}
-use Rattle.tl_form.specs.declared.cell.Content.{out-Content}
-use Rattle.tl_form.specs.declared.cell.TableCell.{out-TableCell}
+use Rattle.tl_table.specs.declared.cell.Content.{out-Content}
+use Rattle.tl_table.specs.declared.cell.TableCell.{out-TableCell}
 use Rattle.tl_form.specs.inner.CellSteps.{HaveSteps, NeedsBy, bound_of}
 use Rattle.std.proofs.lemmas.List.{take_all}
-use Rattle.tl_form.specs.Tables.{tables_of}
-use Rattle.tl_form.proofs.CellNeedLemmas.{StepsSoFar, block-at, cell-blocks, inner-functional, low-together, steps-all, steps-more, steps-none, taken}
+use Rattle.tl_table.specs.Tables.{tables_of}
+use Rattle.tl_form.proofs.CellNeedLemmas.{StepsSoFar, block-at, cell-blocks, inner-functional, low-together, steps-all}
+use Rattle.tl_form.proofs.CellNeedLemmas.{steps-more, steps-none, taken}
 use Rattle.tl_form.proofs.ProblemCells.{have-blocks}
-use Rattle.tl_form.proofs.SoundParts.{at_item}
+use Rattle.tl_table.proofs.SoundParts.{at_item}
 use Rattle.tl_form.proofs.cell_steps.cell_steps.Goals as goal
 
 pub flat-requires : goal.flat-requires
 flat-requires c = c.cell_start-start.ensures.from c.args.page c.requires.low.some.0 c.requires.low.some.1
 
 pub loop-block-init : goal.loop-block-init
-loop-block-init c = steps-none (NeedsBy c.args.bound c.args.inner.now) c.cell_start-start.result c.args.page c.in_ok-steps.steps c.in_ok-steps.ensures
+loop-block-init c = steps-none (NeedsBy c.args.bound c.args.inner.now)
+    c.cell_start-start.result c.args.page c.in_ok-steps.steps c.in_ok-steps.ensures
 
 pub block_steps-requires-clause-steps : goal.block_steps-requires-clause-steps
 block_steps-requires-clause-steps c =
-    at_item (λ block. HaveSteps c.args.inner.now (tables_of (out-Content block))) (out-TableCell c.args.cell.now).blocks c.loop-block.block-index
+    at_item (λ block. HaveSteps c.args.inner.now (tables_of (out-Content block)))
+    (out-TableCell c.args.cell.now).blocks c.loop-block.block-index
     c.block-item.result (have-blocks c.args.inner.now (out-TableCell c.args.cell.now) c.requires.steps)
     (subst (λ items. c.loop-block.block-index < length items) c.as_slice-block-items.ensures c.loop-block-test.true)
-    (subst (λ items. c.block-item.result ≡ get_or items c.loop-block.block-index c.block-item.result) c.as_slice-block-items.ensures c.block-item.is)
+    (subst (λ items. c.block-item.result ≡ get_or items c.loop-block.block-index c.block-item.result)
+    c.as_slice-block-items.ensures c.block-item.is)
 
 pub block_steps-requires-clause-some : goal.block_steps-requires-clause-some
 block_steps-requires-clause-some c =
@@ -28,20 +32,25 @@ block_steps-requires-clause-some c =
     let cell = out-TableCell c.args.cell.now in
     let start = c.cell_start-start.result in
     let whole = c.cell_start-start.ensures.has start (omega arith) in
-    block-at needs cell.blocks start whole.0 c.loop-block.block-index c.block-item.result (cell-blocks needs cell start whole.0 whole.1)
+    block-at needs cell.blocks start whole.0 c.loop-block.block-index c.block-item.result
+    (cell-blocks needs cell start whole.0 whole.1)
     (subst (λ items. c.loop-block.block-index < length items) c.as_slice-block-items.ensures c.loop-block-test.true)
-    (subst (λ items. c.block-item.result ≡ get_or items c.loop-block.block-index c.block-item.result) c.as_slice-block-items.ensures c.block-item.is)
+    (subst (λ items. c.block-item.result ≡ get_or items c.loop-block.block-index c.block-item.result)
+    c.as_slice-block-items.ensures c.block-item.is)
 
 pub block_steps-requires-clause-within : goal.block_steps-requires-clause-within
 block_steps-requires-clause-within c = c.cell_start-start.ensures.from c.args.page c.requires.low.some.0 c.requires.low.some.1
 
 pub stacked-requires : goal.stacked-requires
 stacked-requires c =
-    low-together (NeedsBy c.args.bound c.args.inner.now) (inner-functional (bound_of c.args.bound) c.args.inner.now) (out-TableCell c.args.cell.now)
-    c.args.page c.cell_start-start.result c.loop-block.block-index c.block-item.result c.loop-block.steps c.in_ok-below.below c.requires.low
+    low-together (NeedsBy c.args.bound c.args.inner.now) (inner-functional (bound_of c.args.bound) c.args.inner.now)
+    (out-TableCell c.args.cell.now)
+    c.args.page c.cell_start-start.result c.loop-block.block-index c.block-item.result c.loop-block.steps c.in_ok-below.below
+    c.requires.low
     c.cell_start-start.ensures
     (subst (λ items. c.loop-block.block-index < length items) c.as_slice-block-items.ensures c.loop-block-test.true)
-    (subst (λ items. c.block-item.result ≡ get_or items c.loop-block.block-index c.block-item.result) c.as_slice-block-items.ensures c.block-item.is)
+    (subst (λ items. c.block-item.result ≡ get_or items c.loop-block.block-index c.block-item.result)
+    c.as_slice-block-items.ensures c.block-item.is)
     c.loop-block.invariant c.in_ok-below.ensures
 
 pub loop-block-preserved : goal.loop-block-preserved
@@ -52,9 +61,12 @@ loop-block-preserved c =
     subst (λ blocks. StepsSoFar needs start c.args.page blocks c.in_ok-steps-2.steps)
     (sym (taken cell.blocks c.loop-block.block-index c.block-item.result
     (subst (λ items. c.loop-block.block-index < length items) c.as_slice-block-items.ensures c.loop-block-test.true)
-    (subst (λ items. c.block-item.result ≡ get_or items c.loop-block.block-index c.block-item.result) c.as_slice-block-items.ensures c.block-item.is)))
-    (steps-more needs start c.args.page (take c.loop-block.block-index cell.blocks) c.block-item.result c.loop-block.steps c.in_ok-below.below
-    c.in_ok-steps-2.steps c.loop-block.invariant c.in_ok-below.ensures c.in_ok-steps-2.ensures.decreasing c.in_ok-steps-2.ensures.heights)
+    (subst (λ items. c.block-item.result ≡ get_or items c.loop-block.block-index c.block-item.result)
+    c.as_slice-block-items.ensures c.block-item.is)))
+    (steps-more needs start c.args.page (take c.loop-block.block-index cell.blocks)
+    c.block-item.result c.loop-block.steps c.in_ok-below.below
+    c.in_ok-steps-2.steps c.loop-block.invariant c.in_ok-below.ensures c.in_ok-steps-2.ensures.decreasing
+    c.in_ok-steps-2.ensures.heights)
 
 pub returns : goal.returns
 returns c =
@@ -63,4 +75,5 @@ returns c =
     steps-all needs c.args.page cell c.cell_start-start.result c.loop-block.steps c.cell_start-start.ensures
     (subst (λ blocks. StepsSoFar needs c.cell_start-start.result c.args.page blocks c.loop-block.steps)
     (take_all c.loop-block.block-index cell.blocks
-    (subst (λ items. length items ≤ c.loop-block.block-index) c.as_slice-block-items.ensures c.loop-block-test.false)) c.loop-block.invariant)
+    (subst (λ items. length items ≤ c.loop-block.block-index) c.as_slice-block-items.ensures c.loop-block-test.false))
+    c.loop-block.invariant)

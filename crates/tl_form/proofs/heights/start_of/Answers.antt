@@ -10,5 +10,6 @@ pub returns : goal.returns
 returns c =
     subst (λ (configs : List Config). IsStart (λ w h. height_at c.args.steps.now w ≡ Some h) (get_or configs 0 no_step).width)
     (sym c.configs.ensures.configs)
-    (subst (IsStart (λ w h. height_at c.args.steps.now w ≡ Some h)) (first_width-is c.args.steps.now no_step c.configs.ensures.sound.has_step)
+    (subst (IsStart (λ w h. height_at c.args.steps.now w ≡ Some h))
+    (first_width-is c.args.steps.now no_step c.configs.ensures.sound.has_step)
     (steps-begin c.args.steps.now c.configs.ensures.sound))

@@ -4,7 +4,8 @@ use Rattle.tl_form.proofs.ToldSteps.{never_wide, height_missing, told_more, told
 use Rattle.tl_form.proofs.nested_steps.bound_steps.Goals as goal
 
 pub returns-then-page-least : goal.returns-then-page-least
-returns-then-page-least c = λ steps are. never_wide c.args.bound c.args.told.now c.args.least c.args.page steps are c.if-page-least.true
+returns-then-page-least c = λ steps are. never_wide c.args.bound c.args.told.now c.args.least c.args.page steps are
+    c.if-page-least.true
 
 pub returns-in_default : goal.returns-in_default
 returns-in_default c = λ steps are. height_missing c.args.bound c.args.told.now c.args.least c.args.page c.loop-w.w steps are
@@ -13,7 +14,8 @@ returns-in_default c = λ steps are. height_missing c.args.bound c.args.told.now
 pub loop-w-preserved : goal.loop-w-preserved
 loop-w-preserved c = record {
   from = let from = c.loop-w.invariant.from in omega (arith, from);
-  below = subst (AreStepsBelow (TellsHeight c.args.bound c.args.told.now) c.args.least (c.loop-w.w + 1)) (sym c.in_ok-configs.ensures)
+  below = subst (AreStepsBelow (TellsHeight c.args.bound c.args.told.now) c.args.least (c.loop-w.w + 1))
+      (sym c.in_ok-configs.ensures)
       (told_more c.args.bound c.args.told.now c.args.least c.loop-w.w c.in-Some.height c.loop-w.configs c.loop-w.invariant.from
       c.loop-w.invariant.below (rw c.in-Some.is at c.height_by.ensures));
 }

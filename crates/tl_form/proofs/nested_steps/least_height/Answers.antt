@@ -14,10 +14,13 @@ loop-one-preserved c =
     let one = get_or told i none in
     let is = get_or_default told i none one c.loop-one-test.true in
     elim c.if-one-w.branch [
-      | then-one-w w ↦ subst (BestFewest (IsPlacedIn c.args.w) (λ each. each.height) (take (i + 1) told)) (sym (w.least-is ∙ ap Some w.lesser.ensures))
-          (fewest_counted (IsPlacedIn c.args.w) (λ each. each.height) told i one c.loop-one.least c.loop-one-test.true is c.loop-one.invariant
+      | then-one-w w ↦ subst (BestFewest (IsPlacedIn c.args.w) (λ each. each.height) (take (i + 1) told))
+          (sym (w.least-is ∙ ap Some w.lesser.ensures))
+          (fewest_counted (IsPlacedIn c.args.w) (λ each. each.height)
+          told i one c.loop-one.least c.loop-one-test.true is c.loop-one.invariant
           w.if-one-w.true)
       | else-one-w w ↦ subst (BestFewest (IsPlacedIn c.args.w) (λ each. each.height) (take (i + 1) told)) (sym w.least-is)
-          (fewest_skipped (IsPlacedIn c.args.w) (λ each. each.height) told i one c.loop-one.least c.loop-one-test.true is c.loop-one.invariant
+          (fewest_skipped (IsPlacedIn c.args.w) (λ each. each.height)
+          told i one c.loop-one.least c.loop-one-test.true is c.loop-one.invariant
           (λ counts. omega (arith, w.if-one-w.false, counts)))
     ]

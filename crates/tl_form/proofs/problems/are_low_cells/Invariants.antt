@@ -1,5 +1,5 @@
 use Rattle.std.proofs.Common.{take}
-use Rattle.tl_form.specs.declared.cell.Table.{out-Table}
+use Rattle.tl_table.specs.declared.cell.Table.{out-Table}
 use Rattle.tl_form.specs.inner.CellSteps.{AreLowCells}
 use Rattle.tl_form.proofs.problems.are_low_cells.Given as goal
 

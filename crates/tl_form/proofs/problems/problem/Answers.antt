@@ -1,5 +1,5 @@
 use Rattle.std.proofs.Common.{◌≡◌, subst, sym, arith}
-use Rattle.tl_form.specs.declared.cell.Table.{out-Table}
+use Rattle.tl_table.specs.declared.cell.Table.{out-Table}
 use Rattle.tl_form.specs.Problems.{IsProblemOf}
 use Rattle.std.proofs.lemmas.Result.{IfOk-weaker}
 use Rattle.tl_problem.specs.Problem.{ProblemModel}
@@ -16,7 +16,8 @@ pub problem_cells-requires-clause-narrow : goal.problem_cells-requires-clause-na
 problem_cells-requires-clause-narrow c = omega (arith, c.requires.2.narrow, c.requires.1.wide)
 
 pub new-requires : goal.new-requires
-new-requires c = made-sound c.args.table.now c.args.style c.args.width c.args.inner.now c.in_ok-cells.cells c.in_ok-cells.ensures c.requires
+new-requires c = made-sound c.args.table.now c.args.style c.args.width c.args.inner.now c.in_ok-cells.cells
+    c.in_ok-cells.ensures c.requires
 
 pub returns : goal.returns
 returns c =
@@ -30,4 +31,5 @@ returns c =
     } in
     IfOk-weaker c.new.result (λ problem. problem ≡ made) (IsProblemOf c.args.table.now c.args.style c.args.width c.args.inner.now)
     (λ problem is. subst (IsProblemOf c.args.table.now c.args.style c.args.width c.args.inner.now) (sym is)
-    (made-problem c.args.table.now c.args.style c.args.width c.args.inner.now c.in_ok-cells.cells c.in_ok-cells.ensures)) c.new.ensures
+    (made-problem c.args.table.now c.args.style c.args.width c.args.inner.now c.in_ok-cells.cells c.in_ok-cells.ensures))
+    c.new.ensures

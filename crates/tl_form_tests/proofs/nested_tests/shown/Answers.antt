@@ -1,6 +1,6 @@
 use Rattle.std.proofs.Common.{arith}
 use Rattle.tl_base.specs.declared.style.Style.TheVariants.{Plain}
-use Rattle.tl_form.proofs.LinkLemmas.{IsLeastWidth-unique}
+use Rattle.tl_table.proofs.LinkLemmas.{IsLeastWidth-unique}
 use Rattle.tl_form_tests.proofs.nested_tests.shown.Goals as goal
 
 pub inner_steps-requires-clause-wide : goal.inner_steps-requires-clause-wide

@@ -10,4 +10,5 @@ tree-requires c =
     let P : List Token → Type 0 = λ tokens. AreReadable tokens in
     let small = c.if-bytes-gt-MAX_FILE_BYTES.false in
     subst P (sym c.as_slice.ensures)
-    (tokens_readable c.as_bytes-bytes.result.now c.in-Ok.list c.in-Ok.ensures.ok c.in-Ok.ensures.size (grind (arith, nat_tests, small)))
+    (tokens_readable c.as_bytes-bytes.result.now c.in-Ok.list c.in-Ok.ensures.ok c.in-Ok.ensures.size
+    (grind (arith, nat_tests, small)))

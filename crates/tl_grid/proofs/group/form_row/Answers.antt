@@ -1,4 +1,5 @@
-use Rattle.std.proofs.Common.{◌≡◌, ◌*◌, ◌<◌, ◌++◌, List, [], ◌∷◌, true, false, eqb, length, drop, get_or, ap, ◌+◌, drop-cons, add-one, suc, arith}
+use Rattle.std.proofs.Common.{◌≡◌, ◌*◌, ◌<◌, ◌++◌, List, [], ◌∷◌, true, false, eqb, length, drop, get_or, ap, ◌+◌, drop-cons}
+use Rattle.std.proofs.Common.{add-one, suc, arith}
 use Rattle.std.proofs.Common.{refl, sym, ◌∙◌, subst}
 use Rattle.std.proofs.lemmas.Bool.{both_ways}
 use Rattle.tl_base.specs.declared.limits.TheConstants.{MAX_COLSPAN}
@@ -22,7 +23,8 @@ loop-span-init c =
     let columns = subst P (sym c.in_ok-begin_row.ensures)
     (passed_within (MAX_COLSPAN * c.args.number) c.args.group.row
     (c.args.group.open_blocks.passed ++ c.args.group.open_blocks.ahead) 0 [] (omega arith) c.requires.columns) in
-    let cells = row_begun c.args.group.row c.args.number c.args.spans.now (row_of (group_over c.args.group)) c.in_ok-begin_row.field-0
+    let cells = row_begun c.args.group.row c.args.number c.args.spans.now (row_of (group_over c.args.group))
+    c.in_ok-begin_row.field-0
     (has_some c.args.spans.now (sym c.is_empty.ensures ∙ c.if-is_empty.false)) c.in_ok-begin_row.ensures in
     grind (arith, common_steps, columns, cells)
 
@@ -38,10 +40,17 @@ loop-span-preserved c =
     let step = cells_step y number row after (get_or spans i none) (drop (suc i) spans) c.in_ok-state.ensures.cell in
     record {
       cells = ap (λ j. place_cells y (number + 1) after (drop j spans)) (add-one i)
-          ∙ sym (ap (place_cells y number row) (drop-cons spans i none c.loop-span-test.true) ∙ step) ∙ c.loop-span.invariant.cells;
+          ∙ sym (ap (place_cells y number row) (drop-cons spans i none c.loop-span-test.true) ∙ step) ∙
+          c.loop-span.invariant.cells;
       count = omega (arith, c.loop-span.invariant.count);
       blocks = omega (arith, c.loop-span.invariant.blocks, c.in_ok-state.ensures.count);
       columns = c.in_ok-state.ensures.columns;
-      height = omega (arith, c.loop-span.invariant.height, c.loop-span.invariant.low, c.in_ok-state.ensures.height, c.requires.low);
+      height = omega (
+        arith,
+        c.loop-span.invariant.height,
+        c.loop-span.invariant.low,
+        c.in_ok-state.ensures.height,
+        c.requires.low,
+      );
       low = omega (arith, c.loop-span.invariant.low, c.in_ok-state.ensures.higher);
     }

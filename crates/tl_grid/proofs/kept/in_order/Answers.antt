@@ -17,5 +17,6 @@ returns-clause-same c = λ x.
     let is = dedup_is _ _ _ c.dedup.ensures.filtered in
     ap (λ ks. is_among ks x) is ∙ among-dedup x c.sort_unstable.new.self.items
     ∙ is_among-list_any c.sort_unstable.new.self.items x
-    ∙ sym (list_any-IsPermutation (λ (k : ℕ). eqb k x) c.args.numbers.items c.sort_unstable.new.self.items c.sort_unstable.ensures.permutation)
+    ∙ sym (list_any-IsPermutation (λ (k : ℕ). eqb k x) c.args.numbers.items c.sort_unstable.new.self.items
+    c.sort_unstable.ensures.permutation)
     ∙ sym (is_among-list_any c.args.numbers.items x)

@@ -10,4 +10,5 @@ pub returns : goal.returns
 returns c =
     let start = YieldsList-from_chars c.args.text.now c.utf8.text cc in
     let end = YieldsList-end start c.loop-character.yielded _ c.loop-character.yielded_by _ _ c.in-None.is c.next.ensures.steps in
-    c.loop-character.invariant ∙ ap (λ text. c.args.out.now ++ flat_map escaped text) (sym (map-id c.loop-character.yielded) ∙ end.0)
+    c.loop-character.invariant ∙ ap (λ text. c.args.out.now ++ flat_map escaped text)
+    (sym (map-id c.loop-character.yielded) ∙ end.0)

@@ -9,16 +9,20 @@ use Rattle.tl_nested.proofs.Ready.{fits_of, may, subject_of}
 use Rattle.tl_nested.proofs.searching.sections_by.Goals as goal
 
 pub search-requires-clause-wide : goal.search-requires-clause-wide
-search-requires-clause-wide g c = fits_of c.args.table.now c.args.style c.args.width c.in_ok-subject.subject c.in_ok-subject.ensures.is c.requires.wide
+search-requires-clause-wide g c = fits_of c.args.table.now c.args.style c.args.width c.in_ok-subject.subject
+    c.in_ok-subject.ensures.is c.requires.wide
 
 pub next_due-due-requires-clause-from : goal.next_due-due-requires-clause-from
 next_due-due-requires-clause-from g c =
     let subject = c.in_ok-subject.subject in
     let given = Gives g.F.Fn c.args.solve.now c.args.budget in
     let now = due_of c.in-Some.now in
-    let so_far = subst (λ o. AreSoFar given (meant subject) c.args.budget c.loop-due.sections (option_map due_of o)) c.in-Some.is c.loop-due.invariant in
-    (may subject (subject_of c.args.table.now c.args.style c.args.width subject c.requires.sound c.requires.narrow c.in_ok-subject.ensures.is)
-    (fits_of c.args.table.now c.args.style c.args.width subject c.in_ok-subject.ensures.is c.requires.wide) c.loop-due.sections c.args.budget
+    let so_far = subst (λ o. AreSoFar given (meant subject) c.args.budget c.loop-due.sections (option_map due_of o))
+    c.in-Some.is c.loop-due.invariant in
+    (may subject (subject_of c.args.table.now c.args.style c.args.width subject c.requires.sound c.requires.narrow
+    c.in_ok-subject.ensures.is)
+    (fits_of c.args.table.now c.args.style c.args.width subject c.in_ok-subject.ensures.is c.requires.wide)
+    c.loop-due.sections c.args.budget
     (good_so_far given (meant subject) c.args.budget c.loop-due.sections so_far.each) now so_far.due).from
 
 pub loop-due-smaller : goal.loop-due-smaller
@@ -26,15 +30,20 @@ loop-due-smaller g c =
     let subject = c.in_ok-subject.subject in
     let given = Gives g.F.Fn c.args.solve.now c.args.budget in
     let now = due_of c.in-Some.now in
-    let so_far = subst (λ o. AreSoFar given (meant subject) c.args.budget c.loop-due.sections (option_map due_of o)) c.in-Some.is c.loop-due.invariant in
-    let may_be = may subject (subject_of c.args.table.now c.args.style c.args.width subject c.requires.sound c.requires.narrow c.in_ok-subject.ensures.is)
-    (fits_of c.args.table.now c.args.style c.args.width subject c.in_ok-subject.ensures.is c.requires.wide) c.loop-due.sections c.args.budget
+    let so_far = subst (λ o. AreSoFar given (meant subject) c.args.budget c.loop-due.sections (option_map due_of o))
+    c.in-Some.is c.loop-due.invariant in
+    let may_be = may subject (subject_of c.args.table.now c.args.style c.args.width subject c.requires.sound c.requires.narrow
+    c.in_ok-subject.ensures.is)
+    (fits_of c.args.table.now c.args.style c.args.width subject c.in_ok-subject.ensures.is c.requires.wide)
+    c.loop-due.sections c.args.budget
     (good_so_far given (meant subject) c.args.budget c.loop-due.sections so_far.each) now so_far.due in
     let one = subst (λ all. IsSearched given (meant subject) c.args.budget all c.in_ok-section.field-0.section)
     c.as_slice.ensures c.in_ok-section.ensures.searched in
-    let within = within_due (meant subject) c.args.budget c.loop-due.sections c.in_ok-section.field-0.section now c.in_ok-section.field-0.placed
+    let within = within_due (meant subject) c.args.budget c.loop-due.sections c.in_ok-section.field-0.section now
+    c.in_ok-section.field-0.placed
     one.good so_far.due c.in_ok-section.ensures.placed in
-    subst (λ o. left (meant subject) (option_map due_of c.next_due-due.result) < left (meant subject) (option_map due_of o)) (sym c.in-Some.is)
+    subst (λ o. left (meant subject) (option_map due_of c.next_due-due.result) < left (meant subject) (option_map due_of o))
+    (sym c.in-Some.is)
     (subst (λ next. left (meant subject) next < left (meant subject) (Some now)) (sym c.next_due-due.ensures)
     (left_falls (meant subject) now may_be c.in_ok-section.field-0.placed within))
 
@@ -43,16 +52,22 @@ loop-due-preserved g c =
     let subject = c.in_ok-subject.subject in
     let given = Gives g.F.Fn c.args.solve.now c.args.budget in
     let now = due_of c.in-Some.now in
-    let so_far = subst (λ o. AreSoFar given (meant subject) c.args.budget c.loop-due.sections (option_map due_of o)) c.in-Some.is c.loop-due.invariant in
-    let may_be = may subject (subject_of c.args.table.now c.args.style c.args.width subject c.requires.sound c.requires.narrow c.in_ok-subject.ensures.is)
-    (fits_of c.args.table.now c.args.style c.args.width subject c.in_ok-subject.ensures.is c.requires.wide) c.loop-due.sections c.args.budget
+    let so_far = subst (λ o. AreSoFar given (meant subject) c.args.budget c.loop-due.sections (option_map due_of o))
+    c.in-Some.is c.loop-due.invariant in
+    let may_be = may subject (subject_of c.args.table.now c.args.style c.args.width subject c.requires.sound c.requires.narrow
+    c.in_ok-subject.ensures.is)
+    (fits_of c.args.table.now c.args.style c.args.width subject c.in_ok-subject.ensures.is c.requires.wide)
+    c.loop-due.sections c.args.budget
     (good_so_far given (meant subject) c.args.budget c.loop-due.sections so_far.each) now so_far.due in
     let one = subst (λ all. IsSearched given (meant subject) c.args.budget all c.in_ok-section.field-0.section)
     c.as_slice.ensures c.in_ok-section.ensures.searched in
-    let within = within_due (meant subject) c.args.budget c.loop-due.sections c.in_ok-section.field-0.section now c.in_ok-section.field-0.placed
+    let within = within_due (meant subject) c.args.budget c.loop-due.sections c.in_ok-section.field-0.section now
+    c.in_ok-section.field-0.placed
     one.good so_far.due c.in_ok-section.ensures.placed in
-    more_so_far given (meant subject) c.args.budget c.loop-due.sections c.push.new.self now c.in_ok-section.field-0.section c.in_ok-section.field-0.placed
-    (option_map due_of c.next_due-due.result) may_be so_far one c.in_ok-section.ensures.writable c.in_ok-section.ensures.placed within
+    more_so_far given (meant subject) c.args.budget c.loop-due.sections c.push.new.self now c.in_ok-section.field-0.section
+    c.in_ok-section.field-0.placed
+    (option_map due_of c.next_due-due.result) may_be so_far one c.in_ok-section.ensures.writable c.in_ok-section.ensures.placed
+    within
     c.in_ok-push.ensures.ok c.next_due-due.ensures
 
 pub returns-clause-expected : goal.returns-clause-expected
@@ -64,7 +79,9 @@ returns-clause-expected g c = record {
 }
 
 pub returns-clause-writable : goal.returns-clause-writable
-returns-clause-writable g c = all_so_far (Gives g.F.Fn c.args.solve.now c.args.budget) c.in_ok-subject.subject c.args.budget c.loop-due.sections
+returns-clause-writable g c = all_so_far (Gives g.F.Fn c.args.solve.now c.args.budget)
+    c.in_ok-subject.subject c.args.budget c.loop-due.sections
     (option_map due_of c.loop-due.due)
-    (subject_of c.args.table.now c.args.style c.args.width c.in_ok-subject.subject c.requires.sound c.requires.narrow c.in_ok-subject.ensures.is)
+    (subject_of c.args.table.now c.args.style c.args.width c.in_ok-subject.subject c.requires.sound c.requires.narrow
+    c.in_ok-subject.ensures.is)
     (ap (option_map due_of) c.in_default.is) c.loop-due.invariant

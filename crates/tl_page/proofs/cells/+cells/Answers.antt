@@ -1,23 +1,24 @@
 -- One more block, and one more cell, stand in the lines; a nested table stands as its page.
-use Rattle.std.proofs.Common.{◌≡◌, ◌∙◌, ◌+◌, ◌*◌, ◌^◌, ◌<◌, ◌≤◌, [], ◌∷◌, ◌++◌, ℕ, List, get_or, length, sum, sym, ap, ap₂, subst, rules, arith}
+use Rattle.std.proofs.Common.{◌≡◌, ◌∙◌, ◌+◌, ◌*◌, ◌^◌, ◌<◌, ◌≤◌, [], ◌∷◌, ◌++◌, ℕ, List, get_or, length, sum, sym, ap, ap₂, subst}
+use Rattle.std.proofs.Common.{rules, arith}
 use Rattle.std.proofs.lemmas.List.{take_all}
 use Rattle.tl_base.specs.Style.{row_gap_of, edge_of}
-use Rattle.tl_problem.specs.Sizes.{position, room}
-use Rattle.tl_form.specs.declared.cell.Content.{out-Content, the_lemmas}
-use Rattle.tl_form.specs.declared.cell.Content.TheVariants.{outs-Para, outs-Table}
-use Rattle.tl_form.specs.declared.cell.Table.{out-Table}
-use Rattle.tl_form.specs.declared.cell.TableCell.{out-TableCell}
-use Rattle.tl_form.specs.declared.layout.Layout.{out-Layout}
-use Rattle.tl_form.specs.inner.LeastRooms.{IsSoundBlock, IsSoundCell}
-use Rattle.tl_form.specs.Layouts.{width_for}
-use Rattle.tl_form.specs.Sound.{place_of}
-use Rattle.tl_form.proofs.SoundParts.{sound_cells, sound_blocks, at_item}
+use Rattle.tl_base.specs.Sizes.{position, room}
+use Rattle.tl_table.specs.declared.cell.Content.{out-Content, the_lemmas}
+use Rattle.tl_table.specs.declared.cell.Content.TheVariants.{outs-Para, outs-Table}
+use Rattle.tl_table.specs.declared.cell.Table.{out-Table}
+use Rattle.tl_table.specs.declared.cell.TableCell.{out-TableCell}
+use Rattle.tl_table.specs.declared.layout.Layout.{out-Layout}
+use Rattle.tl_table.specs.Sound.{IsSoundBlock, IsSoundCell, place_of}
+use Rattle.tl_table.specs.Layouts.{width_for}
+use Rattle.tl_table.proofs.SoundParts.{sound_cells, sound_blocks, at_item}
 use Rattle.tl_page.specs.Pictures.{lines_of}
 use Rattle.tl_page.specs.inner.Contents.{FitsBlockRoom, FitsCellRoom, ShowsPart, ShowsParts, ShowsCells, picture_with}
 use Rattle.tl_page.proofs.Blocks.{paragraph_shown, nested_given, nested_within, nested_fits, nested_shown}
 use Rattle.tl_page.proofs.Fitting.{fitting, sound_table, small_widths, small_heights}
 use Rattle.tl_page.proofs.PictureLemmas.{same_drawn}
-use Rattle.tl_page.proofs.Progress.{BlocksSoFar, CellsSoFar, blocks-none, block-next, blocks-more, blocks-all, cells-none, cell-next, cells-more}
+use Rattle.tl_page.proofs.Progress.{BlocksSoFar, CellsSoFar, blocks-none, block-next, blocks-more, blocks-all, cells-none}
+use Rattle.tl_page.proofs.Progress.{cell-next, cells-more}
 use Rattle.tl_page.proofs.Progress.{cells-all, placed_cell}
 use Rattle.tl_page.proofs.cells.+cells.Goals as goal
 
@@ -25,7 +26,8 @@ use Rattle.tl_page.proofs.cells.+cells.Goals as goal
 
 pub cell_part-loop-block-init : goal.cell_part-loop-block-init
 cell_part-loop-block-init t c =
-    subst (BlocksSoFar c.args.style c.args.width (out-TableCell c.args.cell.now).blocks c.args.inner.now c.args.next 0 c.args.next) (sym c.new-lines.ensures)
+    subst (BlocksSoFar c.args.style c.args.width (out-TableCell c.args.cell.now).blocks c.args.inner.now c.args.next 0
+    c.args.next) (sym c.new-lines.ensures)
     (blocks-none c.args.style c.args.width (out-TableCell c.args.cell.now) c.args.inner.now c.args.next c.requires.fit)
 
 pub cell_part-put_block-requires : goal.cell_part-put_block-requires
@@ -34,12 +36,14 @@ cell_part-put_block-requires t c =
     let within : c.loop-block.block-index < length blocks =
     subst (λ items. c.loop-block.block-index < length items) c.as_slice-block-items.ensures c.loop-block-test.true in
     let is : c.block-item.result ≡ get_or blocks c.loop-block.block-index c.block-item.result =
-    subst (λ items. c.block-item.result ≡ get_or items c.loop-block.block-index c.block-item.result) c.as_slice-block-items.ensures c.block-item.is in (
+    subst (λ items. c.block-item.result ≡ get_or items c.loop-block.block-index c.block-item.result)
+    c.as_slice-block-items.ensures c.block-item.is in (
       search (rules, the_lemmas),
       (
         at_item (λ block. IsSoundBlock (out-Content block)) blocks c.loop-block.block-index c.block-item.result
             (sound_blocks c.args.cell.now c.requires.sound) within is,
-        block-next c.args.style c.args.width blocks c.args.inner.now c.args.next c.loop-block.block-index c.loop-block.next c.loop-block.lines
+        block-next c.args.style c.args.width blocks c.args.inner.now c.args.next c.loop-block.block-index c.loop-block.next
+            c.loop-block.lines
             c.block-item.result
             c.requires.fit.narrow within is c.loop-block.invariant,
       ),
@@ -48,15 +52,18 @@ cell_part-put_block-requires t c =
 pub cell_part-loop-block-preserved : goal.cell_part-loop-block-preserved
 cell_part-loop-block-preserved t c =
     let blocks = (out-TableCell c.args.cell.now).blocks in
-    blocks-more c.args.style c.args.width blocks c.args.inner.now c.args.next c.loop-block.block-index c.loop-block.next c.in_ok-next.next c.loop-block.lines
+    blocks-more c.args.style c.args.width blocks c.args.inner.now c.args.next c.loop-block.block-index c.loop-block.next
+    c.in_ok-next.next c.loop-block.lines
     c.put_block.new.lines c.block-item.result
     (subst (λ items. c.loop-block.block-index < length items) c.as_slice-block-items.ensures c.loop-block-test.true)
-    (subst (λ items. c.block-item.result ≡ get_or items c.loop-block.block-index c.block-item.result) c.as_slice-block-items.ensures c.block-item.is)
+    (subst (λ items. c.block-item.result ≡ get_or items c.loop-block.block-index c.block-item.result)
+    c.as_slice-block-items.ensures c.block-item.is)
     c.loop-block.invariant c.in_ok-next.ensures
 
 pub cell_part-returns : goal.cell_part-returns
 cell_part-returns t c =
-    blocks-all c.args.style c.args.width (out-TableCell c.args.cell.now) c.args.inner.now c.args.next c.loop-block.block-index c.loop-block.next
+    blocks-all c.args.style c.args.width (out-TableCell c.args.cell.now)
+    c.args.inner.now c.args.next c.loop-block.block-index c.loop-block.next
     c.loop-block.lines
     (take_all c.loop-block.block-index (out-TableCell c.args.cell.now).blocks
     (subst (λ items. length items ≤ c.loop-block.block-index) c.as_slice-block-items.ensures c.loop-block-test.false))
@@ -66,7 +73,8 @@ pub put_block-put_page-requires : goal.put_block-put_page-requires
 put_block-put_page-requires t c =
     let box = c.in-Table.table in
     let open_block = ap out-Content c.in-Table.is ∙ outs-Table box in
-    let fit = subst (λ block. FitsBlockRoom c.args.style c.args.width block c.args.inner.now c.args.next) open_block c.requires.fit in
+    let fit = subst (λ block. FitsBlockRoom c.args.style c.args.width block c.args.inner.now c.args.next)
+    open_block c.requires.fit in
     let sound = subst IsSoundBlock open_block c.requires.sound in
     let layout = c.index-inner-next.result in
     small_widths c.args.style (out-Table box.value) (out-Layout layout) (sound_table box.value sound.0)
@@ -77,7 +85,8 @@ pub put_block-overflow_add-result : goal.put_block-overflow_add-result
 put_block-overflow_add-result t c =
     let box = c.in-Table.table in
     let open_block = ap out-Content c.in-Table.is ∙ outs-Table box in
-    let fit = subst (λ block. FitsBlockRoom c.args.style c.args.width block c.args.inner.now c.args.next) open_block c.requires.fit in
+    let fit = subst (λ block. FitsBlockRoom c.args.style c.args.width block c.args.inner.now c.args.next)
+    open_block c.requires.fit in
     omega (
       arith,
       nested_within c.args.style c.args.width box.value c.args.inner.now c.args.next
@@ -87,34 +96,48 @@ put_block-overflow_add-result t c =
 pub put_block-returns-in_ok-put_paragraph-in-Para : goal.put_block-returns-in_ok-put_paragraph-in-Para
 put_block-returns-in_ok-put_paragraph-in-Para t c =
     let put = c.in_ok-put_paragraph-in-Para.ensures in
-    subst (λ block. ShowsPart c.args.style c.args.width block c.args.inner.now c.args.next c.args.next c.args.lines.now c.put_paragraph.new.lines)
+    subst (λ block. ShowsPart c.args.style c.args.width block c.args.inner.now c.args.next c.args.next c.args.lines.now
+    c.put_paragraph.new.lines)
     (sym (ap out-Content c.in-Para.is ∙ outs-Para c.in-Para.paragraph))
-    (paragraph_shown c.args.style c.args.width c.in-Para.paragraph c.args.inner.now c.args.next c.args.lines.now c.put_paragraph.new.lines put.0 put.1 put.2)
+    (paragraph_shown c.args.style c.args.width c.in-Para.paragraph c.args.inner.now c.args.next c.args.lines.now
+    c.put_paragraph.new.lines put.0 put.1 put.2)
 
 pub put_block-returns-in_ok-put_page-in-Table : goal.put_block-returns-in_ok-put_page-in-Table
 put_block-returns-in_ok-put_page-in-Table t c =
     let box = c.in-Table.table in
     let open_block = ap out-Content c.in-Table.is ∙ outs-Table box in
-    let fit = subst (λ block. FitsBlockRoom c.args.style c.args.width block c.args.inner.now c.args.next) open_block c.requires.fit in
+    let fit = subst (λ block. FitsBlockRoom c.args.style c.args.width block c.args.inner.now c.args.next)
+    open_block c.requires.fit in
     let layout = c.index-inner-next.result in
     let cells = c.in_ok-cells-in-Table.cells in
     let page = c.in_ok-page-in-Table.page in
-    subst (λ block. ShowsPart c.args.style c.args.width block c.args.inner.now c.args.next (c.args.next + 1) c.args.lines.now c.put_page.new.lines)
+    subst (λ block. ShowsPart c.args.style c.args.width block c.args.inner.now c.args.next (c.args.next + 1)
+    c.args.lines.now c.put_page.new.lines)
     (sym open_block)
-    (nested_shown c.args.style c.args.width box c.args.inner.now c.args.next layout cells page c.args.lines.now c.put_page.new.lines c.index-inner-next.is
+    (nested_shown c.args.style c.args.width box c.args.inner.now c.args.next layout cells page c.args.lines.now
+    c.put_page.new.lines c.index-inner-next.is
     (nested_within c.args.style c.args.width box.value c.args.inner.now c.args.next
     (nested_given c.args.style c.args.width box c.args.inner.now c.args.next fit))
     (subst (λ table. ShowsCells c.args.style table layout cells) c.deref.ensures c.in_ok-cells-in-Table.ensures)
-    (subst (λ table. page ≡ lines_of (picture_with c.args.style (out-Table table) (out-Layout layout) cells)) c.deref-in-Table.ensures
+    (subst (λ table. page ≡ lines_of (picture_with c.args.style (out-Table table) (out-Layout layout) cells))
+    c.deref-in-Table.ensures
     c.in_ok-page-in-Table.ensures)
     c.in_ok-put_page-in-Table.ensures)
 
 -- ---- cells
 
+pub drawn_cells-strips-requires-clause-room : goal.drawn_cells-strips-requires-clause-room
+drawn_cells-strips-requires-clause-room t c =
+    subst (λ sizes. sum sizes + 2 * length sizes < 2 ^ 31) (sym c.as_slice.ensures)
+    (small_widths c.args.style (out-Table c.args.table.now) (out-Layout c.args.layout.now)
+    (sound_table c.args.table.now c.requires.sound)
+    (fitting c.args.style c.args.table.now c.args.layout.now c.requires.fit))
+
 pub drawn_cells-strips-requires-2-clause-room : goal.drawn_cells-strips-requires-2-clause-room
 drawn_cells-strips-requires-2-clause-room t c =
     subst (λ sizes. sum sizes + 2 * length sizes < 2 ^ 31) (sym c.as_slice-2.ensures)
-    (small_heights c.args.style (out-Table c.args.table.now) (out-Layout c.args.layout.now) (sound_table c.args.table.now c.requires.sound)
+    (small_heights c.args.style (out-Table c.args.table.now) (out-Layout c.args.layout.now)
+    (sound_table c.args.table.now c.requires.sound)
     (fitting c.args.style c.args.table.now c.args.layout.now c.requires.fit))
 
 pub drawn_cells-loop-cell-init : goal.drawn_cells-loop-cell-init
@@ -136,17 +159,23 @@ drawn_cells-cell_part-requires t c =
     let sound = sound_table c.args.table.now c.requires.sound in
     let fit = fitting c.args.style c.args.table.now c.args.layout.now c.requires.fit in
     let placed = placed_cell table c.loop-cell.cell-index cell sound.placed within is in
-    let many : place.right ≤ length c.as_slice.result.now = omega (arith, ap length c.as_slice.ensures, fit.fits.columns, placed.1) in
+    let many : place.right ≤ length c.as_slice.result.now = omega
+    (arith, ap length c.as_slice.ensures, fit.fits.columns, placed.1) in
     let columns : c.room_in-columns.result ≡ width_for c.args.style layout place =
-    c.room_in-columns.ensures c.gap.result c.edge.result c.as_slice.result.now (c.as_slice-in-loop-cell.ensures ∙ c.in_ok-across.ensures) placed.0 many
+    c.room_in-columns.ensures c.gap.result c.edge.result c.as_slice.result.now
+    (c.as_slice-in-loop-cell.ensures ∙ c.in_ok-across.ensures) placed.0 many
     ∙ ap₂ (λ (gap : ℕ) (sizes : List ℕ). room gap sizes place.left place.right) c.gap.ensures c.as_slice.ensures in (
       search (rules, the_lemmas),
       (
-        at_item (λ cell. IsSoundCell (out-TableCell cell)) table.cells c.loop-cell.cell-index cell (sound_cells c.args.table.now c.requires.sound) within is,
-        subst (λ w. FitsCellRoom c.args.style w (out-TableCell cell) c.as_slice-in-loop-cell-2.result.now c.loop-cell.next) (sym columns)
-            (subst (λ inner. FitsCellRoom c.args.style (width_for c.args.style layout place) (out-TableCell cell) inner c.loop-cell.next)
+        at_item (λ cell. IsSoundCell (out-TableCell cell)) table.cells c.loop-cell.cell-index cell
+            (sound_cells c.args.table.now c.requires.sound) within is,
+        subst (λ w. FitsCellRoom c.args.style w (out-TableCell cell) c.as_slice-in-loop-cell-2.result.now c.loop-cell.next)
+            (sym columns)
+            (subst (λ inner. FitsCellRoom c.args.style (width_for c.args.style layout place) (out-TableCell cell)
+            inner c.loop-cell.next)
             (sym c.as_slice-in-loop-cell-2.ensures)
-            (cell-next c.args.style table layout c.loop-cell.cell-index c.loop-cell.next c.loop-cell.cells cell fit placed within is c.loop-cell.invariant)),
+            (cell-next c.args.style table layout c.loop-cell.cell-index c.loop-cell.next c.loop-cell.cells cell fit placed
+            within is c.loop-cell.invariant)),
       ),
     )
 
@@ -165,26 +194,35 @@ drawn_cells-loop-cell-preserved t c =
     let sound = sound_table c.args.table.now c.requires.sound in
     let fit = fitting style c.args.table.now c.args.layout.now c.requires.fit in
     let placed = placed_cell table c.loop-cell.cell-index cell sound.placed within is in
-    let many : place.right ≤ length c.as_slice.result.now = omega (arith, ap length c.as_slice.ensures, fit.fits.columns, placed.1) in
-    let below : place.top < length c.as_slice-2.result.now = omega (arith, ap length c.as_slice-2.ensures, fit.fits.rows, placed.2, placed.3) in
+    let many : place.right ≤ length c.as_slice.result.now = omega
+    (arith, ap length c.as_slice.ensures, fit.fits.columns, placed.1) in
+    let below : place.top < length c.as_slice-2.result.now =
+    omega (arith, ap length c.as_slice-2.ensures, fit.fits.rows, placed.2, placed.3) in
     let columns : c.room_in-columns.result ≡ width_for style layout place =
-    c.room_in-columns.ensures c.gap.result c.edge.result c.as_slice.result.now (c.as_slice-in-loop-cell.ensures ∙ c.in_ok-across.ensures) placed.0 many
+    c.room_in-columns.ensures c.gap.result c.edge.result c.as_slice.result.now
+    (c.as_slice-in-loop-cell.ensures ∙ c.in_ok-across.ensures) placed.0 many
     ∙ ap₂ (λ (gap : ℕ) (sizes : List ℕ). room gap sizes place.left place.right) c.gap.ensures c.as_slice.ensures in
     let first : c.begin_of.result ≡ edge_of style + position (row_gap_of style) layout.heights place.top =
-    c.begin_of.ensures c.row_gap.result c.edge-2.result c.as_slice-2.result.now (c.as_slice-in-loop-cell-3.ensures ∙ c.in_ok-down.ensures) below
+    c.begin_of.ensures c.row_gap.result c.edge-2.result c.as_slice-2.result.now
+    (c.as_slice-in-loop-cell-3.ensures ∙ c.in_ok-down.ensures) below
     ∙ ap (λ (edge : ℕ). edge + position c.row_gap.result c.as_slice-2.result.now place.top) c.edge-2.ensures
     ∙ ap₂ (λ (gap : ℕ) (sizes : List ℕ). edge_of style + position gap sizes place.top) c.row_gap.ensures c.as_slice-2.ensures in
-    let shown : ShowsParts style (width_for style layout place) (out-TableCell cell) layout.inner c.loop-cell.next part.next part.lines =
-    subst (λ inner. ShowsParts style (width_for style layout place) (out-TableCell cell) inner c.loop-cell.next part.next part.lines)
+    let shown : ShowsParts style (width_for style layout place) (out-TableCell cell)
+    layout.inner c.loop-cell.next part.next part.lines =
+    subst (λ inner. ShowsParts style (width_for style layout place) (out-TableCell cell)
+    inner c.loop-cell.next part.next part.lines)
     c.as_slice-in-loop-cell-2.ensures
-    (subst (λ w. ShowsParts style w (out-TableCell cell) c.as_slice-in-loop-cell-2.result.now c.loop-cell.next part.next part.lines) columns
+    (subst (λ w. ShowsParts style w (out-TableCell cell) c.as_slice-in-loop-cell-2.result.now c.loop-cell.next part.next
+    part.lines) columns
     c.in_ok-part.ensures) in
     subst (CellsSoFar style table layout (c.loop-cell.cell-index + 1) part.next)
     (sym (c.in_ok-push.ensures.ok ∙ ap (λ one. c.loop-cell.cells ++ one ∷ [])
     (same_drawn style layout.widths layout.heights place c.room_in-columns.result c.begin_of.result part.lines columns first)))
-    (cells-more style table layout c.loop-cell.cell-index c.loop-cell.next part.next c.loop-cell.cells part.lines cell within is c.loop-cell.invariant shown)
+    (cells-more style table layout c.loop-cell.cell-index c.loop-cell.next part.next c.loop-cell.cells part.lines cell within is
+    c.loop-cell.invariant shown)
 
 pub drawn_cells-returns : goal.drawn_cells-returns
 drawn_cells-returns t c =
     cells-all c.args.style c.args.table.now c.args.layout.now c.loop-cell.cell-index c.loop-cell.next c.loop-cell.cells
-    (subst (λ items. length items ≤ c.loop-cell.cell-index) c.as_slice-cell-items.ensures c.loop-cell-test.false) c.loop-cell.invariant
+    (subst (λ items. length items ≤ c.loop-cell.cell-index) c.as_slice-cell-items.ensures c.loop-cell-test.false)
+    c.loop-cell.invariant

@@ -1,6 +1,6 @@
 -- The cells, or the blocks, so far stand in the lines, and the others are left to fit.
-use Rattle.tl_form.specs.declared.cell.Table.{out-Table}
-use Rattle.tl_form.specs.declared.layout.Layout.{out-Layout}
+use Rattle.tl_table.specs.declared.cell.Table.{out-Table}
+use Rattle.tl_table.specs.declared.layout.Layout.{out-Layout}
 use Rattle.tl_page.proofs.Progress.{BlocksSoFar, CellsSoFar}
 use Rattle.tl_page.proofs.cells.+cells.Given as goal
 

@@ -1,7 +1,7 @@
 -- The cells, and the blocks, so far take so many lines and layouts.
 use Rattle.std.proofs.Common.{◌≤◌}
-use Rattle.tl_form.specs.declared.cell.Table.{out-Table}
-use Rattle.tl_form.specs.declared.layout.Layout.{out-Layout}
+use Rattle.tl_table.specs.declared.cell.Table.{out-Table}
+use Rattle.tl_table.specs.declared.layout.Layout.{out-Layout}
 use Rattle.tl_page.proofs.Taking.{BlocksTaken, CellsTaken}
 use Rattle.tl_page.proofs.measure.+measure.Given as goal
 

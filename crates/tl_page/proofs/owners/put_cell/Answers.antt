@@ -36,8 +36,10 @@ loop-row-preserved c =
               let here : row ≡ now = omega arith in
               elim apart [
                 | inl sides ↦ elim sides [
-                  | inl left ↦ rw here (put.before (now * cols + column) (omega arith) ∙ before.other column now inside (inr (inr (omega arith))))
-                  | inr right ↦ rw here (put.after (now * cols + column) (omega arith) ∙ before.other column now inside (inr (inr (omega arith))))
+                  | inl left ↦ rw here (put.before (now * cols + column) (omega arith) ∙ before.other column now inside
+                      (inr (inr (omega arith))))
+                  | inr right ↦ rw here (put.after (now * cols + column) (omega arith) ∙ before.other column now inside
+                      (inr (inr (omega arith))))
                 ]
                 | inr ends ↦ elim ends [ inl above ↦ absurd (omega arith) | inr below ↦ absurd (omega arith) ]
               ]

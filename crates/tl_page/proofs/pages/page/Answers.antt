@@ -13,5 +13,6 @@ returns c = (
     page_shown c.args.style c.args.table.now c.args.layout.now c.in_ok-cells.cells c.in_ok-lines.lines
         c.in_ok-cells.ensures c.in_ok-lines.ensures,
   ),
-  c.loop-line.invariant ∙ ap bytes_of (take_all c.loop-line.line-index c.as_slice-line-items.result.now c.loop-line-test.false ∙ c.as_slice-line-items.ensures),
+  c.loop-line.invariant ∙ ap bytes_of (take_all c.loop-line.line-index c.as_slice-line-items.result.now
+      c.loop-line-test.false ∙ c.as_slice-line-items.ensures),
 )

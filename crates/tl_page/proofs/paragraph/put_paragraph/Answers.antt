@@ -20,7 +20,8 @@ pub units_of-requires : goal.units_of-requires
 units_of-requires c =
     let shown : ShowsGreedyCutting c.args.width c.args.paragraph.now c.as_slice-range-items.result.now =
     subst (ShowsGreedyCutting c.args.width c.args.paragraph.now) (sym c.as_slice-range-items.ensures) c.in-Ok.ensures.greedy in
-    let here = range_within (length c.args.paragraph.now) c.as_slice-range-items.result.now c.loop-range.range-index (record { first = 0; past = 0 })
+    let here = range_within (length c.args.paragraph.now) c.as_slice-range-items.result.now c.loop-range.range-index
+    (record { first = 0; past = 0 })
     shown.in_order c.loop-range-test.true in
     record { begins = here.0; ends = omega (arith, here.1, ap length c.atoms-atoms.ensures.atoms) }
 
@@ -43,7 +44,8 @@ loop-range-preserved c =
     ∙ ap (λ lines. lines ++ c.in_ok-line_of.field-0 ∷ []) c.loop-range.invariant
     ∙ append_assoc c.args.lines.now sofar (c.in_ok-line_of.field-0 ∷ [])
     ∙ ap (λ one. c.args.lines.now ++ (sofar ++ one ∷ [])) (c.in_ok-line_of.ensures ∙ ap line_from c.units_of.ensures)
-    ∙ ap (λ all. c.args.lines.now ++ all) (sym (map_more line ranges c.loop-range.range-index (record { first = 0; past = 0 }) c.loop-range-test.true))
+    ∙ ap (λ all. c.args.lines.now ++ all) (sym (map_more line ranges c.loop-range.range-index (record { first = 0; past = 0 })
+    c.loop-range-test.true))
 
 pub returns : goal.returns
 returns c =
@@ -52,7 +54,9 @@ returns c =
     subst (ShowsGreedyCutting c.args.width c.args.paragraph.now) (sym c.as_slice-range-items.ensures) c.in-Ok.ensures.greedy in (
       map (λ range. line_from (ranged c.args.paragraph.now range)) ranges,
       are_lines c.args.width c.args.paragraph.now ranges shown,
-      subst (λ atoms. c.loop-range.lines ≡ c.args.lines.now ++ map (λ range. line_from (ranged atoms range)) ranges) c.atoms-atoms.ensures.atoms
-          (c.loop-range.invariant ∙ ap (λ some. c.args.lines.now ++ map (λ range. line_from (ranged c.atoms-atoms.result.now range)) some)
+      subst (λ atoms. c.loop-range.lines ≡ c.args.lines.now ++ map (λ range. line_from (ranged atoms range)) ranges)
+          c.atoms-atoms.ensures.atoms
+          (c.loop-range.invariant ∙ ap (λ some. c.args.lines.now ++ map
+          (λ range. line_from (ranged c.atoms-atoms.result.now range)) some)
           (take_all c.loop-range.range-index ranges c.loop-range-test.false)),
     )

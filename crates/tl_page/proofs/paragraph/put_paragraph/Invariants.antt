@@ -5,4 +5,5 @@ use Rattle.tl_page.specs.inner.Lines.{ranged}
 use Rattle.tl_page.proofs.paragraph.put_paragraph.Given as goal
 
 abbrev pub invariant-loop-range : goal.invariant-loop-range
-invariant-loop-range l = l.lines ≡ l.fn.lines ++ map (λ range. line_from (ranged l.atoms range)) (take l.range-index l.range-items)
+invariant-loop-range l = l.lines ≡ l.fn.lines ++ map (λ range. line_from (ranged l.atoms range))
+    (take l.range-index l.range-items)

@@ -10,7 +10,8 @@ pub loop-k-preserved : goal.loop-k-preserved
 loop-k-preserved c =
     let line = line_of (shown c.args.drawing.now) c.args.down.now in
     let sofar = map line (range_with_len c.args.down.now.from c.loop-k.k) in
-    let place : c.from-from.result + c.from.result ≡ c.args.down.now.from + c.loop-k.k = omega (arith, c.from-from.ensures, c.from.ensures) in
+    let place : c.from-from.result + c.from.result ≡ c.args.down.now.from + c.loop-k.k =
+    omega (arith, c.from-from.ensures, c.from.ensures) in
     c.in_ok-push.ensures.ok
     ∙ ap (λ page. page ++ c.in_ok-line.line ∷ []) c.loop-k.invariant
     ∙ append_assoc c.args.page.now sofar (c.in_ok-line.line ∷ [])

@@ -26,7 +26,8 @@ loop-size-preserved c =
           ∷ record { before = slot; after = slot + 1; from = from + size; size = c.if-slot-sizes.after } ∷ []) rest
           ∙ ap (λ after. c.loop-size.list ++ (record { before = slot; after = slot; from = from; size = size }
           ∷ record { before = slot; after = slot + 1; from = from + size; size = after } ∷ rest)) after
-          ∙ ap (λ all. c.loop-size.list ++ all) (sym (at_drop_more (strips_from c.args.gap c.args.edge slot from) sizes n 0 within))
+          ∙ ap (λ all. c.loop-size.list ++ all) (sym (at_drop_more (strips_from c.args.gap c.args.edge slot from)
+          sizes n 0 within))
           ∙ c.loop-size.invariant.so_far;
       slot = omega arith;
       room = omega (arith, sum-drop sizes n within);

@@ -26,7 +26,8 @@ overflow_cast-lines c =
     let total = c.sum_of_areas.result in
     let lines : c.div_ceil-lines.result ≡ div_ceil total end = rw c.from.ensures at c.div_ceil-lines.ensures in
     let few = few-cells p c.requires.sound in
-    let most = areas-small p c.requires.sound Among c.requires.keeps.page end c.greatest_end-end.ensures.end total c.sum_of_areas.ensures in
+    let most = areas-small p c.requires.sound Among c.requires.keeps.page end c.greatest_end-end.ensures.end total
+    c.sum_of_areas.ensures in
     let least = (rounded-up total end c.greatest_end-end.ensures.some).least (MAX_HEIGHT + length p.cells) most in
     omega (arith, lines, few, least)
 
@@ -38,7 +39,8 @@ overflow_add-edge c =
     let total = c.sum_of_areas.result in
     let lines : c.div_ceil-lines.result ≡ div_ceil total end = rw c.from.ensures at c.div_ceil-lines.ensures in
     let few = few-cells p c.requires.sound in
-    let most = areas-small p c.requires.sound Among c.requires.keeps.page end c.greatest_end-end.ensures.end total c.sum_of_areas.ensures in
+    let most = areas-small p c.requires.sound Among c.requires.keeps.page end c.greatest_end-end.ensures.end total
+    c.sum_of_areas.ensures in
     let least = (rounded-up total end c.greatest_end-end.ensures.some).least (MAX_HEIGHT + length p.cells) most in
     omega (arith, lines, few, least, c.edge.ensures, ap edge_of c.style-style.ensures, edge-few p.style)
 

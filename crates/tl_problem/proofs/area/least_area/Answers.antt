@@ -12,15 +12,25 @@ pub unwrap-height-requires : goal.unwrap-height-requires
 unwrap-height-requires c =
     let at = c.least_room-low.ensures.room.attained in
     let page = c.requires.keeps.page at.0 at.1 in
-    let wide = All-contains (λ cell. first_width cell.low ≤ cell_width c.args.problem.now at.0 cell) c.args.problem.now.cells c.args.cell.now
+    let wide = All-contains (λ cell. first_width cell.low ≤ cell_width c.args.problem.now at.0 cell)
+    c.args.problem.now.cells c.args.cell.now
     page.cells c.requires.inside in
-    let here = height-from_first c.args.cell.now.low c.requires.cell.steps.0.has_step c.least_room-low.result (omega (arith, wide, at.2)) in
+    let here = height-from_first c.args.cell.now.low c.requires.cell.steps.0.has_step c.least_room-low.result
+    (omega (arith, wide, at.2)) in
     rw (c.height_at.ensures.height, here.1) refl
 
 pub returns : goal.returns
 returns c =
-    IsLeastArea-found c.args.problem.now (IsLeft c.args.problem.now c.args.matrix.now.bounds) c.args.cell.now c.least_room-low.result
+    IsLeastArea-found c.args.problem.now (IsLeft c.args.problem.now c.args.matrix.now.bounds)
+    c.args.cell.now c.least_room-low.result
     c.greatest_room-high.result c.unwrap-height.result c.least_step.result c.requires.cell
     c.least_room-low.ensures.room c.greatest_room-high.ensures.room (sym c.height_at.ensures.height ∙ c.unwrap-height.ensures)
-    (rw (c.configs.ensures.configs, c.area_at-start.ensures, c.gap-gap.ensures, c.style.ensures, c.row_gap-row_gap.ensures, c.style-2.ensures) at
+    (rw (
+      c.configs.ensures.configs,
+      c.area_at-start.ensures,
+      c.gap-gap.ensures,
+      c.style.ensures,
+      c.row_gap-row_gap.ensures,
+      c.style-2.ensures,
+    ) at
     c.least_step.ensures)

@@ -20,9 +20,11 @@ overflow_add-areas c =
     let inside : number < length p.cells = omega (arith, c.loop-number-test.true, ap length c.cells-cells.ensures.cells) in
     let is = rw c.cells-cells.ensures.cells at c.index-cells-number.is in
     let cell : c.index-cells-number.result ≡ cell_at p.cells number = is ∙ get_or_default p.cells number _ _ inside in
-    let one = area-few p c.requires.sound Among c.requires.keeps.page c.args.end c.requires.end number c.least_area-areas.result inside c.requires.small
+    let one = area-few p c.requires.sound Among c.requires.keeps.page c.args.end c.requires.end number c.least_area-areas.result
+    inside c.requires.small
     (subst (λ (x : Cell). IsLeastArea p Among x c.least_area-areas.result) cell c.least_area-areas.ensures) in
-    let before = areas-few p c.requires.sound Among c.requires.keeps.page c.args.end c.requires.end number c.loop-number.areas (omega (arith, inside))
+    let before = areas-few p c.requires.sound Among c.requires.keeps.page c.args.end c.requires.end number c.loop-number.areas
+    (omega (arith, inside))
     c.requires.small c.loop-number.invariant in
     omega (arith, one, before, inside, few-cells p c.requires.sound)
 

@@ -10,7 +10,8 @@ use Rattle.tl_problem.proofs.bound.bound_in.Goals as goal
 
 pub least_height-requires-clause-fits : goal.least_height-requires-clause-fits
 least_height-requires-clause-fits c =
-    low-sum c.args.problem.now c.fill_low.ensures.sound (IsLeft c.args.problem.now c.args.matrix.now.bounds) c.fill_low.new.demands
+    low-sum c.args.problem.now c.fill_low.ensures.sound (IsLeft c.args.problem.now c.args.matrix.now.bounds)
+    c.fill_low.new.demands
     c.requires.keeps.page c.fill_low.ensures.low
 
 pub returns : goal.returns
@@ -20,7 +21,8 @@ returns c =
     let demands = c.fill_low.new.demands in
     record {
       some = left-some p c.args.matrix.now.bounds c.requires.keeps c.requires.some;
-      least = IsLeastTotal-same (row_gap_of p.style) (edge_of p.style) (GiveDemands p Rows demands) (GiveLow p Among) c.least_height.result
+      least = IsLeastTotal-same (row_gap_of p.style) (edge_of p.style) (GiveDemands p Rows demands) (GiveLow p Among)
+          c.least_height.result
           (low-give p c.fill_low.ensures.sound Among demands c.fill_low.ensures.low)
           (give-low p c.fill_low.ensures.sound Among demands c.fill_low.ensures.low) c.least_height.ensures;
     }

@@ -17,7 +17,8 @@ loop-number-preserved c =
     let is = rw c.cells-cells.ensures.cells at c.index-cells-number.is in
     let cell : c.index-cells-number.result ≡ cell_at p.cells number = is ∙ get_or_default p.cells number _ _ inside in
     let room : number < length c.loop-number.demands = omega (arith, c.loop-number.auto.demands, c.requires.room) in
-    upto-set (λ k v. (w : ℕ) × (IsGreatestRoom p (IsLeft p c.args.matrix.now.bounds) (cell_at p.cells k).left (cell_at p.cells k).right w ×
+    upto-set (λ k v. (w : ℕ) × (IsGreatestRoom p (IsLeft p c.args.matrix.now.bounds) (cell_at p.cells k).left
+    (cell_at p.cells k).right w ×
     (height_at (cell_at p.cells k).low w ≡ Some v)))
     c.loop-number.demands c.low_at_greatest.result number room c.loop-number.invariant
     (subst (λ (x : Cell). (w : ℕ) × (IsGreatestRoom p (IsLeft p c.args.matrix.now.bounds) x.left x.right w ×

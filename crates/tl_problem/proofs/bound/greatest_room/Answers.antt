@@ -11,7 +11,8 @@ use Rattle.tl_problem.proofs.bound.greatest_room.Goals as goal
 pub unwrap-apart-requires : goal.unwrap-apart-requires
 unwrap-apart-requires c =
     IsSome-greatest c.args.matrix.now.bounds c.args.cell.now.left c.args.cell.now.right c.upper.result c.upper.ensures.exact
-    (greatest-some c.args.problem.now c.requires.sound c.args.matrix.now.bounds c.requires.keeps c.args.cell.now.left c.args.cell.now.right
+    (greatest-some c.args.problem.now c.requires.sound c.args.matrix.now.bounds c.requires.keeps c.args.cell.now.left
+    c.args.cell.now.right
     c.requires.cell.columns.0 c.requires.cell.columns.1)
 
 pub overflow_cast-result : goal.overflow_cast-result
@@ -19,12 +20,14 @@ overflow_cast-result c =
     let p = c.args.problem.now in
     let left = c.args.cell.now.left in
     let right = c.args.cell.now.right in
-    let found = greatest-room p c.args.matrix.now.bounds c.requires.keeps left right c.requires.cell.columns.0 c.requires.cell.columns.1
+    let found = greatest-room p c.args.matrix.now.bounds c.requires.keeps left right c.requires.cell.columns.0
+    c.requires.cell.columns.1
     c.unwrap-apart.result (rw c.unwrap-apart.ensures at c.upper.ensures.exact) in
     let small = greatest-small p c.requires.sound c.args.matrix.now.bounds c.requires.keeps left right c.requires.cell.columns.0
     c.requires.cell.columns.1 found.0 found.1.1 in
     let few = gap-few p.style in
-    let m : to_z w32 (of_z w32 c.unwrap-apart.result) ≡ pos (found.0 + c.args.gap) = omega (arith, ints, found.1.0, small, few, c.requires.gap) in
+    let m : to_z w32 (of_z w32 c.unwrap-apart.result) ≡ pos (found.0 + c.args.gap) =
+    omega (arith, ints, found.1.0, small, few, c.requires.gap) in
     rw m (tt, omega (arith, small, few, c.requires.gap))
 
 pub overflow_sub-result : goal.overflow_sub-result
@@ -32,12 +35,14 @@ overflow_sub-result c =
     let p = c.args.problem.now in
     let left = c.args.cell.now.left in
     let right = c.args.cell.now.right in
-    let found = greatest-room p c.args.matrix.now.bounds c.requires.keeps left right c.requires.cell.columns.0 c.requires.cell.columns.1
+    let found = greatest-room p c.args.matrix.now.bounds c.requires.keeps left right c.requires.cell.columns.0
+    c.requires.cell.columns.1
     c.unwrap-apart.result (rw c.unwrap-apart.ensures at c.upper.ensures.exact) in
     let small = greatest-small p c.requires.sound c.args.matrix.now.bounds c.requires.keeps left right c.requires.cell.columns.0
     c.requires.cell.columns.1 found.0 found.1.1 in
     let few = gap-few p.style in
-    let m : to_z w32 (of_z w32 c.unwrap-apart.result) ≡ pos (found.0 + c.args.gap) = omega (arith, ints, found.1.0, small, few, c.requires.gap) in
+    let m : to_z w32 (of_z w32 c.unwrap-apart.result) ≡ pos (found.0 + c.args.gap) =
+    omega (arith, ints, found.1.0, small, few, c.requires.gap) in
     rw m (omega arith)
 
 pub returns-clause-room : goal.returns-clause-room
@@ -45,12 +50,14 @@ returns-clause-room c =
     let p = c.args.problem.now in
     let left = c.args.cell.now.left in
     let right = c.args.cell.now.right in
-    let found = greatest-room p c.args.matrix.now.bounds c.requires.keeps left right c.requires.cell.columns.0 c.requires.cell.columns.1
+    let found = greatest-room p c.args.matrix.now.bounds c.requires.keeps left right c.requires.cell.columns.0
+    c.requires.cell.columns.1
     c.unwrap-apart.result (rw c.unwrap-apart.ensures at c.upper.ensures.exact) in
     let small = greatest-small p c.requires.sound c.args.matrix.now.bounds c.requires.keeps left right c.requires.cell.columns.0
     c.requires.cell.columns.1 found.0 found.1.1 in
     let few = gap-few p.style in
-    let m : to_z w32 (of_z w32 c.unwrap-apart.result) ≡ pos (found.0 + c.args.gap) = omega (arith, ints, found.1.0, small, few, c.requires.gap) in
+    let m : to_z w32 (of_z w32 c.unwrap-apart.result) ≡ pos (found.0 + c.args.gap) =
+    omega (arith, ints, found.1.0, small, few, c.requires.gap) in
     let is : found.0 + c.args.gap - c.args.gap ≡ found.0 = omega arith in
     rw (m, is) found.1.1
 
@@ -59,10 +66,12 @@ returns-clause-small c =
     let p = c.args.problem.now in
     let left = c.args.cell.now.left in
     let right = c.args.cell.now.right in
-    let found = greatest-room p c.args.matrix.now.bounds c.requires.keeps left right c.requires.cell.columns.0 c.requires.cell.columns.1
+    let found = greatest-room p c.args.matrix.now.bounds c.requires.keeps left right c.requires.cell.columns.0
+    c.requires.cell.columns.1
     c.unwrap-apart.result (rw c.unwrap-apart.ensures at c.upper.ensures.exact) in
     let small = greatest-small p c.requires.sound c.args.matrix.now.bounds c.requires.keeps left right c.requires.cell.columns.0
     c.requires.cell.columns.1 found.0 found.1.1 in
     let few = gap-few p.style in
-    let m : to_z w32 (of_z w32 c.unwrap-apart.result) ≡ pos (found.0 + c.args.gap) = omega (arith, ints, found.1.0, small, few, c.requires.gap) in
+    let m : to_z w32 (of_z w32 c.unwrap-apart.result) ≡ pos (found.0 + c.args.gap) =
+    omega (arith, ints, found.1.0, small, few, c.requires.gap) in
     rw m (omega (arith, small))

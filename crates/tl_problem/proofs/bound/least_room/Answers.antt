@@ -11,7 +11,8 @@ use Rattle.tl_problem.proofs.bound.least_room.Goals as goal
 pub unwrap-apart-requires : goal.unwrap-apart-requires
 unwrap-apart-requires c =
     IsSome-greatest c.args.matrix.now.bounds c.args.cell.now.right c.args.cell.now.left c.upper.result c.upper.ensures.exact
-    (least-some c.args.problem.now c.requires.sound c.args.matrix.now.bounds c.requires.keeps c.args.cell.now.left c.args.cell.now.right
+    (least-some c.args.problem.now c.requires.sound c.args.matrix.now.bounds c.requires.keeps c.args.cell.now.left
+    c.args.cell.now.right
     c.requires.cell.columns.0 c.requires.cell.columns.1)
 
 pub overflow_cast-result : goal.overflow_cast-result
@@ -19,7 +20,8 @@ overflow_cast-result c =
     let p = c.args.problem.now in
     let left = c.args.cell.now.left in
     let right = c.args.cell.now.right in
-    let found = least-room p c.args.matrix.now.bounds c.requires.keeps left right c.requires.cell.columns.0 c.requires.cell.columns.1
+    let found = least-room p c.args.matrix.now.bounds c.requires.keeps left right c.requires.cell.columns.0
+    c.requires.cell.columns.1
     c.unwrap-apart.result (rw c.unwrap-apart.ensures at c.upper.ensures.exact) in
     let small = least-small p c.requires.sound c.args.matrix.now.bounds c.requires.keeps left right c.requires.cell.columns.0
     c.requires.cell.columns.1 found.0 found.1.1 in
@@ -33,7 +35,8 @@ overflow_sub-result c =
     let p = c.args.problem.now in
     let left = c.args.cell.now.left in
     let right = c.args.cell.now.right in
-    let found = least-room p c.args.matrix.now.bounds c.requires.keeps left right c.requires.cell.columns.0 c.requires.cell.columns.1
+    let found = least-room p c.args.matrix.now.bounds c.requires.keeps left right c.requires.cell.columns.0
+    c.requires.cell.columns.1
     c.unwrap-apart.result (rw c.unwrap-apart.ensures at c.upper.ensures.exact) in
     let small = least-small p c.requires.sound c.args.matrix.now.bounds c.requires.keeps left right c.requires.cell.columns.0
     c.requires.cell.columns.1 found.0 found.1.1 in
@@ -47,7 +50,8 @@ returns-clause-room c =
     let p = c.args.problem.now in
     let left = c.args.cell.now.left in
     let right = c.args.cell.now.right in
-    let found = least-room p c.args.matrix.now.bounds c.requires.keeps left right c.requires.cell.columns.0 c.requires.cell.columns.1
+    let found = least-room p c.args.matrix.now.bounds c.requires.keeps left right c.requires.cell.columns.0
+    c.requires.cell.columns.1
     c.unwrap-apart.result (rw c.unwrap-apart.ensures at c.upper.ensures.exact) in
     let small = least-small p c.requires.sound c.args.matrix.now.bounds c.requires.keeps left right c.requires.cell.columns.0
     c.requires.cell.columns.1 found.0 found.1.1 in
@@ -62,7 +66,8 @@ returns-clause-small c =
     let p = c.args.problem.now in
     let left = c.args.cell.now.left in
     let right = c.args.cell.now.right in
-    let found = least-room p c.args.matrix.now.bounds c.requires.keeps left right c.requires.cell.columns.0 c.requires.cell.columns.1
+    let found = least-room p c.args.matrix.now.bounds c.requires.keeps left right c.requires.cell.columns.0
+    c.requires.cell.columns.1
     c.unwrap-apart.result (rw c.unwrap-apart.ensures at c.upper.ensures.exact) in
     let small = least-small p c.requires.sound c.args.matrix.now.bounds c.requires.keeps left right c.requires.cell.columns.0
     c.requires.cell.columns.1 found.0 found.1.1 in

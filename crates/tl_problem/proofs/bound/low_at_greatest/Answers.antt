@@ -10,9 +10,11 @@ pub unwrap-requires : goal.unwrap-requires
 unwrap-requires c =
     let at = c.greatest_room-room.ensures.room.attained in
     let page = c.requires.keeps.page at.0 at.1 in
-    let wide = All-contains (λ cell. first_width cell.low ≤ cell_width c.args.problem.now at.0 cell) c.args.problem.now.cells c.args.cell.now
+    let wide = All-contains (λ cell. first_width cell.low ≤ cell_width c.args.problem.now at.0 cell)
+    c.args.problem.now.cells c.args.cell.now
     page.cells c.requires.inside in
-    let here = height-from_first c.args.cell.now.low c.requires.cell.steps.0.has_step c.greatest_room-room.result (omega (arith, wide, at.2)) in
+    let here = height-from_first c.args.cell.now.low c.requires.cell.steps.0.has_step c.greatest_room-room.result
+    (omega (arith, wide, at.2)) in
     rw (c.height_at.ensures.height, here.1) refl
 
 pub returns : goal.returns

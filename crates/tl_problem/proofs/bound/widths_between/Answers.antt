@@ -5,7 +5,7 @@ use mir.Val.{to_z, of_z}
 use Rattle.std.proofs.lemmas.Int.{ints}
 use Rattle.tl_base.specs.Style.{gap_of}
 use Rattle.tl_diff.specs.Bounds.{assignment_of}
-use Rattle.tl_problem.specs.inner.Constraints.{part_above, widths_of}
+use Rattle.tl_problem.specs.Works.{part_above, widths_of}
 use Rattle.tl_problem.proofs.ConstraintLemmas.{gap-few}
 use Rattle.tl_problem.proofs.WorkLemmas.{part_above-is, widths_of-next}
 use Rattle.tl_problem.proofs.bound.widths_between.Goals as goal
@@ -40,7 +40,8 @@ overflow_cast-places c =
     (assignment_of c.args.places.now c.loop-column.column +ℤ pos (gap_of c.args.problem.now.style))) in
     let is = part_above-is
     (assignment_of c.args.places.now (c.loop-column.column + 1) -ℤ
-    (assignment_of c.args.places.now c.loop-column.column +ℤ pos (gap_of c.args.problem.now.style))) (omega (arith, ints, rise)) in
+    (assignment_of c.args.places.now c.loop-column.column +ℤ pos (gap_of c.args.problem.now.style)))
+    (omega (arith, ints, rise)) in
     let m : to_z w32 (of_z w32
     (to_z w32 (of_z w32 (to_z w32 (of_z w32 (get_or c.args.places.now (c.loop-column.column + 1) (pos 0))) -ℤ to_z w32
     (of_z w32 (get_or c.args.places.now c.loop-column.column (pos 0))))) -ℤ to_z w32 c.gap-gap.result)) ≡ pos w = omega
@@ -59,14 +60,17 @@ loop-column-preserved c =
     (assignment_of c.args.places.now c.loop-column.column +ℤ pos (gap_of c.args.problem.now.style))) in
     let is = part_above-is
     (assignment_of c.args.places.now (c.loop-column.column + 1) -ℤ
-    (assignment_of c.args.places.now c.loop-column.column +ℤ pos (gap_of c.args.problem.now.style))) (omega (arith, ints, rise)) in
+    (assignment_of c.args.places.now c.loop-column.column +ℤ pos (gap_of c.args.problem.now.style)))
+    (omega (arith, ints, rise)) in
     let m : to_z w32 (of_z w32
     (to_z w32 (of_z w32 (to_z w32 (of_z w32 (get_or c.args.places.now (c.loop-column.column + 1) (pos 0))) -ℤ to_z w32
     (of_z w32 (get_or c.args.places.now c.loop-column.column (pos 0))))) -ℤ to_z w32 c.gap-gap.result)) ≡ pos w = omega
     (arith, ints, one.0, one.1, other.0, other.1, gap, few, is) in
-    let next : widths_of (assignment_of c.args.places.now) (gap_of c.args.problem.now.style) (c.loop-column.column + 1) ≡ widths_of
+    let next : widths_of (assignment_of c.args.places.now) (gap_of c.args.problem.now.style)
+    (c.loop-column.column + 1) ≡ widths_of
     (assignment_of c.args.places.now) (gap_of c.args.problem.now.style) c.loop-column.column ++ w ∷ [] = widths_of-next
     (assignment_of c.args.places.now) (gap_of c.args.problem.now.style) c.loop-column.column in
-    let wanted : c.push.new.self ≡ widths_of (assignment_of c.args.places.now) (gap_of c.args.problem.now.style) (c.loop-column.column + 1) =
+    let wanted : c.push.new.self ≡ widths_of (assignment_of c.args.places.now) (gap_of c.args.problem.now.style)
+    (c.loop-column.column + 1) =
     rw (next, c.in_ok-push.ensures.ok, m, c.loop-column.invariant) refl in
     wanted

@@ -18,9 +18,12 @@ widths_between-requires-clause-small c = place-small c.args.problem.now c.args.m
     (assignment_of c.solve_least.new.out) c.solve_least.ensures c.requires.sound
 
 pub widths_between-requires-clause-rising : goal.widths_between-requires-clause-rising
-widths_between-requires-clause-rising c = λ k below. c.requires.keeps.gaps (assignment_of c.solve_least.new.out) c.solve_least.ensures.satisfies k below
+widths_between-requires-clause-rising c = λ k below. c.requires.keeps.gaps (assignment_of c.solve_least.new.out)
+    c.solve_least.ensures.satisfies k below
 
 pub returns : goal.returns
 returns c =
-    subst (AreLeast (gap_of c.args.problem.now.style) (IsLeft c.args.problem.now c.args.matrix.now.bounds)) (sym c.in_ok-widths.ensures)
-    (least-left c.args.problem.now c.args.matrix.now.bounds c.requires.keeps (assignment_of c.solve_least.new.out) c.solve_least.ensures)
+    subst (AreLeast (gap_of c.args.problem.now.style) (IsLeft c.args.problem.now c.args.matrix.now.bounds))
+    (sym c.in_ok-widths.ensures)
+    (least-left c.args.problem.now c.args.matrix.now.bounds c.requires.keeps (assignment_of c.solve_least.new.out)
+    c.solve_least.ensures)

@@ -13,7 +13,8 @@ add_ranges-requires-clause-holds c =
 
 pub returns-then-not-add_ranges-clause-widths : goal.returns-then-not-add_ranges-clause-widths
 returns-then-not-add_ranges-clause-widths c =
-    ranges-none c.args.problem.now c.args.zone.now _ _ c.args.matrix.now.bounds c.add_ranges.new.matrix c.add_ranges.result c.add_ranges.ensures.adds
+    ranges-none c.args.problem.now c.args.zone.now _ _ c.args.matrix.now.bounds c.add_ranges.new.matrix c.add_ranges.result
+    c.add_ranges.ensures.adds
     c.if-not-add_ranges.true c.requires.whole c.add_ranges.ensures.holds.1
 
 pub returns-then-not-add_ranges-clause-held : goal.returns-then-not-add_ranges-clause-held
@@ -32,7 +33,9 @@ returns-clause-widths c =
     let p = c.args.problem.now in
     let zone = c.args.zone.now in
     AreLeast-same (gap_of p.style) (IsLeft p c.add_ranges.new.matrix.bounds) (InZone p zone) c.in_ok-widths.widths
-    (ranges-zone p zone _ _ c.args.matrix.now.bounds c.add_ranges.new.matrix c.add_ranges.result c.add_ranges.ensures.adds c.if-not-add_ranges.false
+    (ranges-zone p zone _ _ c.args.matrix.now.bounds c.add_ranges.new.matrix c.add_ranges.result c.add_ranges.ensures.adds
+    c.if-not-add_ranges.false
     c.requires.keeps)
-    (ranges-left p zone _ _ c.args.matrix.now.bounds c.add_ranges.new.matrix c.add_ranges.result c.add_ranges.ensures.adds c.requires.whole)
+    (ranges-left p zone _ _ c.args.matrix.now.bounds c.add_ranges.new.matrix c.add_ranges.result c.add_ranges.ensures.adds
+    c.requires.whole)
     c.in_ok-widths.ensures

@@ -9,10 +9,12 @@ pub keep_apart-requires-clause-ends : goal.keep_apart-requires-clause-ends
 keep_apart-requires-clause-ends c = omega (arith, c.loop-column.invariant.variables, c.cols-column-end.ensures)
 
 pub keep_apart-requires-clause-holds : goal.keep_apart-requires-clause-holds
-keep_apart-requires-clause-holds c = page-satisfiable c.args.problem.now c.loop-column.column 0 c.loop-column.matrix c.loop-column.invariant
+keep_apart-requires-clause-holds c = page-satisfiable c.args.problem.now c.loop-column.column 0 c.loop-column.matrix
+    c.loop-column.invariant
 
 pub loop-column-preserved : goal.loop-column-preserved
 loop-column-preserved c =
-    PageUpto-gap c.args.problem.now c.loop-column.column c.loop-column.matrix c.keep_apart.new.matrix (omega (arith, c.cols-column-end.ensures))
+    PageUpto-gap c.args.problem.now c.loop-column.column c.loop-column.matrix c.keep_apart.new.matrix
+    (omega (arith, c.cols-column-end.ensures))
     c.loop-column.invariant
     (rw (c.gap-gap.ensures, c.style.ensures) at c.keep_apart.ensures.adds)

@@ -42,7 +42,8 @@ keep_apart-requires-clause-small c =
     )
 
 pub keep_apart-requires-clause-holds : goal.keep_apart-requires-clause-holds
-keep_apart-requires-clause-holds c = page-satisfiable c.args.problem.now c.args.problem.now.cols c.loop-number.number c.loop-number.matrix
+keep_apart-requires-clause-holds c = page-satisfiable c.args.problem.now c.args.problem.now.cols c.loop-number.number
+    c.loop-number.matrix
     c.loop-number.invariant
 
 pub loop-number-preserved : goal.loop-number-preserved

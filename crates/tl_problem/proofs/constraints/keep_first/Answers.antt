@@ -21,7 +21,8 @@ overflow_add-classes c =
     let in_range = c.requires.zone.ranges c.args.s c.requires.span in
     let small = class-small c.args.problem.now c.spans.ensures.sound c.args.s (range_at c.args.zone.now c.args.s).first inside
     (omega (arith, in_range.0, in_range.1)) in
-    rw (c.class_list-classes.ensures, c.ranges-2.ensures) (omega (arith, small, c.gap.ensures, ap gap_of c.style.ensures, gap-few c.args.problem.now.style))
+    rw (c.class_list-classes.ensures, c.ranges-2.ensures) (omega
+    (arith, small, c.gap.ensures, ap gap_of c.style.ensures, gap-few c.args.problem.now.style))
 
 pub keep_apart-requires-clause-begins : goal.keep_apart-requires-clause-begins
 keep_apart-requires-clause-begins c =
@@ -41,8 +42,15 @@ keep_apart-requires-clause-small c =
     let in_range = c.requires.zone.ranges c.args.s c.requires.span in
     let small = class-small c.args.problem.now c.spans.ensures.sound c.args.s (range_at c.args.zone.now c.args.s).first inside
     (omega (arith, in_range.0, in_range.1)) in
-    rw (c.class_list-classes.ensures, c.ranges-2.ensures) (omega (arith, small, c.gap.ensures, ap gap_of c.style.ensures, gap-few c.args.problem.now.style))
+    rw (c.class_list-classes.ensures, c.ranges-2.ensures) (omega
+    (arith, small, c.gap.ensures, ap gap_of c.style.ensures, gap-few c.args.problem.now.style))
 
 pub returns-clause-adds : goal.returns-clause-adds
-returns-clause-adds c = rw (c.spans.ensures.spans, c.class_list-classes.ensures, c.ranges-2.ensures, c.gap.ensures, c.style.ensures) at
+returns-clause-adds c = rw (
+  c.spans.ensures.spans,
+  c.class_list-classes.ensures,
+  c.ranges-2.ensures,
+  c.gap.ensures,
+  c.style.ensures,
+) at
     c.keep_apart.ensures.adds

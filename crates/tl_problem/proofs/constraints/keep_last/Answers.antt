@@ -23,7 +23,8 @@ overflow_sub-classes c =
     let in_range = c.requires.zone.ranges c.args.s c.requires.span in
     let apart = rw (c.class_list-classes.ensures, c.ranges-2.ensures) at c.if-next-classes.false in
     let more : (range_at c.args.zone.now c.args.s).last + 1 < length (classes_at p c.args.s) = omega (arith, in_range.1, apart) in
-    let rise = classes-rising p (span_at p c.args.s) (range_at c.args.zone.now c.args.s).last ((range_at c.args.zone.now c.args.s).last + 1) 0
+    let rise = classes-rising p (span_at p c.args.s) (range_at c.args.zone.now c.args.s).last
+    ((range_at c.args.zone.now c.args.s).last + 1) 0
     (omega arith) more in
     rw (c.class_list-classes.ensures, c.ranges-2.ensures) (omega (arith, rise))
 
@@ -35,7 +36,8 @@ overflow_add-classes c =
     let apart = rw (c.class_list-classes.ensures, c.ranges-2.ensures) at c.if-next-classes.false in
     let more : (range_at c.args.zone.now c.args.s).last + 1 < length (classes_at p c.args.s) = omega (arith, in_range.1, apart) in
     let small = class-small p c.spans.ensures.sound c.args.s ((range_at c.args.zone.now c.args.s).last + 1) inside more in
-    rw (c.class_list-classes.ensures, c.ranges-2.ensures) (omega (arith, small, c.gap.ensures, ap gap_of c.style.ensures, gap-few p.style))
+    rw (c.class_list-classes.ensures, c.ranges-2.ensures) (omega
+    (arith, small, c.gap.ensures, ap gap_of c.style.ensures, gap-few p.style))
 
 pub keep_near-requires-clause-begins : goal.keep_near-requires-clause-begins
 keep_near-requires-clause-begins c =
@@ -57,7 +59,8 @@ keep_near-requires-clause-small c =
     let apart = rw (c.class_list-classes.ensures, c.ranges-2.ensures) at c.if-next-classes.false in
     let more : (range_at c.args.zone.now c.args.s).last + 1 < length (classes_at p c.args.s) = omega (arith, in_range.1, apart) in
     let small = class-small p c.spans.ensures.sound c.args.s ((range_at c.args.zone.now c.args.s).last + 1) inside more in
-    rw (c.class_list-classes.ensures, c.ranges-2.ensures) (omega (arith, small, c.gap.ensures, ap gap_of c.style.ensures, gap-few p.style))
+    rw (c.class_list-classes.ensures, c.ranges-2.ensures) (omega
+    (arith, small, c.gap.ensures, ap gap_of c.style.ensures, gap-few p.style))
 
 pub returns-clause-adds : goal.returns-clause-adds
 returns-clause-adds c =
@@ -66,4 +69,11 @@ returns-clause-adds c =
     let apart = rw (c.class_list-classes.ensures, c.ranges-2.ensures) at c.if-next-classes.false in
     let more : (range_at c.args.zone.now c.args.s).last + 1 < length (classes_at p c.args.s) = omega (arith, in_range.1, apart) in
     let at = get_or_default (classes_at p c.args.s) ((range_at c.args.zone.now c.args.s).last + 1) 0 (page_room p + 1) more in
-    rw (c.spans.ensures.spans, c.class_list-classes.ensures, c.ranges-2.ensures, c.gap.ensures, c.style.ensures, at) at c.keep_near.ensures.adds
+    rw (
+      c.spans.ensures.spans,
+      c.class_list-classes.ensures,
+      c.ranges-2.ensures,
+      c.gap.ensures,
+      c.style.ensures,
+      at,
+    ) at c.keep_near.ensures.adds

@@ -10,7 +10,11 @@ add_gaps-requires c = record {
   variables = omega (arith, c.in_ok-matrix.ensures.variables, c.cols-cols.ensures);
   marks = c.in_ok-matrix.ensures.marks;
   none_held = c.in_ok-matrix.ensures.none_held;
-  whole = λ widths page. record { columns = page.columns; satisfies = c.in_ok-matrix.ensures.free (places c.args.problem.now widths) };
+  whole = λ widths page. record {
+    columns = page.columns;
+    satisfies =
+        c.in_ok-matrix.ensures.free (places c.args.problem.now widths);
+  };
   gaps = λ x meets k below. absurd (omega arith);
   rooms = λ x meets k below. absurd (omega arith);
 }
@@ -21,9 +25,23 @@ keep_near-requires-clause-holds c = page-satisfiable c.args.problem.now _ _ c.ad
 pub returns-clause-keeps : goal.returns-clause-keeps
 returns-clause-keeps c =
     KeepsPage-ends c.args.problem.now c.add_rooms.new.matrix c.keep_near.new.matrix c.add_rooms.ensures
-    (rw (c.saturating_sub-most.ensures, c.cols-cols.ensures, c.width.ensures, c.gap.ensures, c.edge.ensures, c.style-style.ensures) at c.keep_near.ensures.adds)
+    (rw (
+      c.saturating_sub-most.ensures,
+      c.cols-cols.ensures,
+      c.width.ensures,
+      c.gap.ensures,
+      c.edge.ensures,
+      c.style-style.ensures,
+    ) at c.keep_near.ensures.adds)
 
 pub returns-clause-whole : goal.returns-clause-whole
 returns-clause-whole c =
     whole-ends c.args.problem.now c.add_rooms.new.matrix c.keep_near.new.matrix c.add_rooms.ensures
-    (rw (c.saturating_sub-most.ensures, c.cols-cols.ensures, c.width.ensures, c.gap.ensures, c.edge.ensures, c.style-style.ensures) at c.keep_near.ensures.adds)
+    (rw (
+      c.saturating_sub-most.ensures,
+      c.cols-cols.ensures,
+      c.width.ensures,
+      c.gap.ensures,
+      c.edge.ensures,
+      c.style-style.ensures,
+    ) at c.keep_near.ensures.adds)

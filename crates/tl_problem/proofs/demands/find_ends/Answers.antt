@@ -4,15 +4,22 @@ use Rattle.tl_problem.proofs.DemandLemmas.{arcs-forward, arcs-in_order, arcs-wei
 use Rattle.tl_problem.proofs.demands.find_ends.Goals as goal
 
 pub heaviest-requires-clause-forward : goal.heaviest-requires-clause-forward
-heaviest-requires-clause-forward c = rw c.count.ensures (arcs-forward c.args.problem.now c.args.axis c.args.demands.now c.fill_arcs.new.arcs
+heaviest-requires-clause-forward c =
+    rw c.count.ensures (arcs-forward c.args.problem.now c.args.axis c.args.demands.now c.fill_arcs.new.arcs
     c.fill_arcs.ensures)
 
 pub heaviest-requires-clause-in_order : goal.heaviest-requires-clause-in_order
-heaviest-requires-clause-in_order c = arcs-in_order c.args.problem.now c.args.axis c.args.demands.now c.fill_arcs.new.arcs c.fill_arcs.ensures
+heaviest-requires-clause-in_order c = arcs-in_order c.args.problem.now c.args.axis c.args.demands.now c.fill_arcs.new.arcs
+    c.fill_arcs.ensures
 
 pub heaviest-requires-clause-fits : goal.heaviest-requires-clause-fits
 heaviest-requires-clause-fits c =
-    omega (arith, arcs-weight c.args.problem.now c.args.axis c.args.demands.now c.fill_arcs.new.arcs c.fill_arcs.ensures c.requires.count, c.requires.fits)
+    omega (
+      arith,
+      arcs-weight c.args.problem.now c.args.axis c.args.demands.now c.fill_arcs.new.arcs c.fill_arcs.ensures
+          c.requires.count,
+      c.requires.fits,
+    )
 
 pub returns-clause-ends : goal.returns-clause-ends
 returns-clause-ends c = record {

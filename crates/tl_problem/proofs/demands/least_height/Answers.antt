@@ -4,7 +4,8 @@ use Rattle.tl_problem.proofs.DemandLemmas.{least_total-none, least_total-some}
 use Rattle.tl_problem.proofs.demands.least_height.Goals as goal
 
 pub returns-then-rows-eq0 : goal.returns-then-rows-eq0
-returns-then-rows-eq0 c = least_total-none c.args.problem.now c.args.demands.now c.find_ends-sizes.new.ends c.find_ends-sizes.ensures.ends
+returns-then-rows-eq0 c = least_total-none c.args.problem.now c.args.demands.now c.find_ends-sizes.new.ends
+    c.find_ends-sizes.ensures.ends
     (omega (arith, c.rows-rows.ensures, c.if-rows-eq0.true))
 
 pub returns : goal.returns

@@ -7,6 +7,7 @@ use Rattle.tl_problem.proofs.placing.high_needs.Given as goal
 abbrev pub invariant-loop-number : goal.invariant-loop-number
 invariant-loop-number l = record {
   count : length l.demands.items ≡ l.number;
-  each : (k : ℕ) → k < l.number → height_at (cell_at l.problem.cells k).high (cell_width l.problem l.widths (cell_at l.problem.cells k)) ≡ Some
+  each : (k : ℕ) → k < l.number → height_at (cell_at l.problem.cells k).high
+      (cell_width l.problem l.widths (cell_at l.problem.cells k)) ≡ Some
       (get_or l.demands.items k 0);
 }

@@ -14,7 +14,11 @@ returns c =
         columns = omega (arith, c.if-widths-cols.false, c.cols.ensures);
         page = omega (arith, c.if-total_size-from.false, total, c.from.ensures, c.width.ensures);
         cells = All-from_numbers (λ cell. first_width cell.low ≤ cell_width p c.args.widths.now cell) p.cells
-            (λ k within. c.loop-number.invariant k (omega (arith, c.loop-number-test.false, ap length c.cells-cells.ensures.cells)));
+            (λ k within. c.loop-number.invariant k (omega (
+              arith,
+              c.loop-number-test.false,
+              ap length c.cells-cells.ensures.cells,
+            )));
       },
       λ page. refl,
     )

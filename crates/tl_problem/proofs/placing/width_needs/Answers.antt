@@ -17,7 +17,8 @@ loop-number-preserved c =
     rw c.in_ok-push.ensures.items
     (record {
       count = omega (arith, length_push c.loop-number.demands.items c.width_at.result, c.loop-number.invariant.count);
-      each = upto-push (λ k v. (h : ℕ) × ((height_at (cell_at p.cells k).high (cell_width p c.args.widths.now (cell_at p.cells k)) ≡ Some h) ×
+      each = upto-push (λ k v. (h : ℕ) ×
+          ((height_at (cell_at p.cells k).high (cell_width p c.args.widths.now (cell_at p.cells k)) ≡ Some h) ×
           IsLeastWidthFor (cell_at p.cells k).high h v))
           c.loop-number.demands.items c.width_at.result number c.loop-number.invariant.count c.loop-number.invariant.each one;
     })

@@ -8,6 +8,7 @@ abbrev pub invariant-loop-number : goal.invariant-loop-number
 invariant-loop-number l = record {
   count : length l.demands.items ≡ l.number;
   each : (k : ℕ) → k < l.number →
-      (h : ℕ) × ((height_at (cell_at l.problem.cells k).high (cell_width l.problem l.widths (cell_at l.problem.cells k)) ≡ Some h) × IsLeastWidthFor
+      (h : ℕ) × ((height_at (cell_at l.problem.cells k).high
+      (cell_width l.problem l.widths (cell_at l.problem.cells k)) ≡ Some h) × IsLeastWidthFor
       (cell_at l.problem.cells k).high h (get_or l.demands.items k 0));
 }

@@ -20,12 +20,15 @@ pub returns-then-place-from : goal.returns-then-place-from
 returns-then-place-from c = (
   λ yes. cc,
   λ fits.
-      let next : IsNextPlace (gap_of c.args.style) c.args.cells.now (length c.args.cells.now) c.loop-column.places c.loop-column.column
+      let next : IsNextPlace (gap_of c.args.style) c.args.cells.now (length c.args.cells.now)
+      c.loop-column.places c.loop-column.column
       c.next_place-place.result =
       rw c.gap-in-loop-column.ensures at c.next_place-place.ensures in
-      absurd (not-past c.args.cols c.args.style c.args.width c.args.cells.now c.requires.grid c.loop-column.column c.next_place-place.result
+      absurd (not-past c.args.cols c.args.style c.args.width c.args.cells.now c.requires.grid c.loop-column.column
+      c.next_place-place.result
       c.loop-column.places
-      (omega (arith, c.loop-column-test.true)) c.loop-column.invariant.1.0 next (omega (arith, c.if-place-from.true, c.from.ensures, c.gap.ensures)) fits),
+      (omega (arith, c.loop-column-test.true)) c.loop-column.invariant.1.0 next
+      (omega (arith, c.if-place-from.true, c.from.ensures, c.gap.ensures)) fits),
 )
 
 pub loop-column-preserved : goal.loop-column-preserved
@@ -38,9 +41,14 @@ loop-column-preserved c =
     let room : column + 1 < length places = omega (arith, c.loop-column.invariant.0, c.loop-column-test.true, c.requires.few) in (
       length-set places (column + 1) place ∙ c.loop-column.invariant.0,
       (
-        least_places-more c.args.cols (gap_of c.args.style) c.args.cells.now c.requires.grid column place places c.loop-column.invariant.1.0 next room,
+        least_places-more c.args.cols (gap_of c.args.style) c.args.cells.now c.requires.grid column place places
+            c.loop-column.invariant.1.0 next room,
         λ k up. elim (cases_lt k (column + 1)) [
-          | inl before ↦ omega (arith, get_or-set_other places (column + 1) k place 0 (omega arith), c.loop-column.invariant.1.1 k (omega arith))
+          | inl before ↦ omega (
+            arith,
+            get_or-set_other places (column + 1) k place 0 (omega arith),
+            c.loop-column.invariant.1.1 k (omega arith),
+          )
           | inr last ↦ let e : k ≡ column + 1 = omega arith in
               rw e (omega (arith, get_or-set_same places (column + 1) place 0 room, c.if-place-from.false, c.from.ensures))
         ],
@@ -50,14 +58,17 @@ loop-column-preserved c =
 pub returns : goal.returns
 returns c =
     let all : c.loop-column.column ≡ c.args.cols = omega (arith, c.loop-column-test.false, c.loop-column.auto.column-end) in
-    let are : AreLeastPlaces (gap_of c.args.style) c.args.cells.now c.args.cols c.loop-column.places = rw all at c.loop-column.invariant.1.0 in
+    let are : AreLeastPlaces (gap_of c.args.style) c.args.cells.now c.args.cols c.loop-column.places =
+    rw all at c.loop-column.invariant.1.0 in
     let some : 0 < c.args.cols = omega (arith, c.if-cols-eq0.false) in (
       λ yes.
-          let within : get_or c.loop-column.places c.args.cols 0 + 2 * c.edge.result ≤ c.args.width + c.gap.result = grind (arith, tests, yes) in
+          let within : get_or c.loop-column.places c.args.cols 0 + 2 * c.edge.result ≤ c.args.width + c.gap.result =
+          grind (arith, tests, yes) in
           ends-fit c.args.cols c.args.style c.args.width c.args.cells.now c.requires.grid c.loop-column.places are some
           (omega (arith, within, c.edge.ensures, c.gap.ensures)),
       λ fits.
-          let ends = fits-ends c.args.cols c.args.style c.args.width c.args.cells.now c.requires.grid c.loop-column.places are some fits in
+          let ends = fits-ends c.args.cols c.args.style c.args.width c.args.cells.now c.requires.grid c.loop-column.places are
+          some fits in
           le-leb (get_or c.loop-column.places c.args.cols 0 + 2 * c.edge.result) (c.args.width + c.gap.result)
           (omega (arith, ends, c.edge.ensures, c.gap.ensures)),
     )

@@ -7,7 +7,8 @@ pub returns-then-not-is_low_at : goal.returns-then-not-is_low_at
 returns-then-not-is_low_at c = (
   λ yes. cc,
   λ above.
-      let at = nowhere_above-at c.args.low.now c.args.high.now c.requires.low c.requires.high above c.loop-number.number c.loop-number-test.true in
+      let at = nowhere_above-at c.args.low.now c.args.high.now c.requires.low c.requires.high above c.loop-number.number
+      c.loop-number-test.true in
       c.if-not-is_low_at.ensures.1 at,
 )
 

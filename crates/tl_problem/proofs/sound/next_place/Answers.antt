@@ -13,12 +13,15 @@ loop-number-preserved c =
     let places = c.args.places.now in
     let number = c.loop-number.number in
     let place = c.loop-number.place in
-    let cell : c.index-cells-number.result ≡ cell_at cells number = c.index-cells-number.is ∙ get_or_default cells number _ _ c.loop-number-test.true in
+    let cell : c.index-cells-number.result ≡ cell_at cells number =
+    c.index-cells-number.is ∙ get_or_default cells number _ _ c.loop-number-test.true in
     elim c.if-cell-column.branch [
       | then-cell-column w ↦
-          let right : (cell_at cells number).right ≡ c.args.column + 1 = omega (arith, ap (λ x. x.right) cell, w.if-cell-column.true) in
+          let right : (cell_at cells number).right ≡ c.args.column + 1 =
+          omega (arith, ap (λ x. x.right) cell, w.if-cell-column.true) in
           let more = next-more c.args.gap cells number places c.args.column place c.loop-number.invariant right in
-          let new : c.if-cell-column.place ≡ max place (get_or places (cell_at cells number).left 0 + first_width (cell_at cells number).low + c.args.gap) =
+          let new : c.if-cell-column.place ≡ max place (get_or places (cell_at cells number).left 0 + first_width
+          (cell_at cells number).low + c.args.gap) =
           omega (
             arith,
             w.place-is,
@@ -32,7 +35,8 @@ loop-number-preserved c =
           ) in
           rw new more
       | else-cell-column w ↦
-          let other : (cell_at cells number).right ≡ c.args.column + 1 → ⊥ = λ is. w.if-cell-column.false (omega (arith, ap (λ x. x.right) cell, is)) in
+          let other : (cell_at cells number).right ≡ c.args.column + 1 → ⊥ =
+          λ is. w.if-cell-column.false (omega (arith, ap (λ x. x.right) cell, is)) in
           let skip = next-skip c.args.gap cells number places c.args.column place c.loop-number.invariant other in
           rw w.place-is skip
     ]

@@ -3,5 +3,6 @@ use Rattle.tl_problem.proofs.spans.find_classes.Goals as goal
 
 pub loop-span-preserved : goal.loop-span-preserved
 loop-span-preserved c =
-    rw c.in_ok-push.ensures.items (AreClasses-push c.args.cells.now c.args.page_room c.args.spans.now c.loop-span.span-index c.loop-span.classes.items
+    rw c.in_ok-push.ensures.items (AreClasses-push c.args.cells.now c.args.page_room c.args.spans.now c.loop-span.span-index
+    c.loop-span.classes.items
     c.in_ok-first_widths.field-0 c.loop-span.invariant c.in_ok-first_widths.ensures)

@@ -10,11 +10,14 @@ loop-slot-preserved c =
     let side = c.args.cols + 1 in
     let seen = c.in_ok-seen.seen.items in
     let inside : c.loop-slot.slot < length seen = omega (arith, c.in_ok-seen.ensures.size) in
-    let at : c.index.result.now ≡ get_or seen c.loop-slot.slot false = c.index.ensures ∙ get_or_default seen c.loop-slot.slot c.index.result.now false inside in
+    let at : c.index.result.now ≡ get_or seen c.loop-slot.slot false =
+    c.index.ensures ∙ get_or_default seen c.loop-slot.slot c.index.result.now false inside in
     elim c.if-index.branch [
       | then-index+in_ok-push w ↦ rw (w.spans-is, w.in_ok-push.ensures.items)
-          (AreSpansUpto-push side seen (omega arith) c.loop-slot.slot c.loop-slot.spans.items c.loop-slot.invariant (sym at ∙ w.if-index.true))
-      | else-index w ↦ rw w.spans-is (AreSpansUpto-skip side seen (omega arith) c.loop-slot.slot c.loop-slot.spans.items c.loop-slot.invariant
+          (AreSpansUpto-push side seen (omega arith) c.loop-slot.slot c.loop-slot.spans.items c.loop-slot.invariant
+          (sym at ∙ w.if-index.true))
+      | else-index w ↦ rw w.spans-is (AreSpansUpto-skip side seen (omega arith)
+          c.loop-slot.slot c.loop-slot.spans.items c.loop-slot.invariant
           (λ marked. let both : true ≡ false = sym marked ∙ sym at ∙ w.if-index.false in cc))
     ]
 

@@ -10,8 +10,10 @@ use Rattle.tl_problem.specs.inner.Spanning.{AreFound}
 use Rattle.tl_problem.proofs.SpanLaws.{has_span-from}
 use Rattle.tl_problem.proofs.SpanningLemmas.{AreFound-skip, AreFound-add, AreFound-same, has_span-false}
 use Rattle.tl_problem.proofs.spans.first_widths.Goals as goal
-use Rattle.tl_problem.proofs.spans.first_widths.Goals.{then-cell-span+then-cell-span-2+in_ok-add_steps+in_ok-add_steps-2, else-cell-span}
-use Rattle.tl_problem.proofs.spans.first_widths.Goals.{else-cell-span-via-then-cell-span+else-cell-span-2, else-cell-span-via-else-cell-span}
+use Rattle.tl_problem.proofs.spans.first_widths.Goals.{then-cell-span+then-cell-span-2+in_ok-add_steps+in_ok-add_steps-2}
+use Rattle.tl_problem.proofs.spans.first_widths.Goals.{else-cell-span}
+use Rattle.tl_problem.proofs.spans.first_widths.Goals.{else-cell-span-via-then-cell-span+else-cell-span-2}
+use Rattle.tl_problem.proofs.spans.first_widths.Goals.{else-cell-span-via-else-cell-span}
 
 pub loop-cell-preserved : goal.loop-cell-preserved
 loop-cell-preserved c =
@@ -23,13 +25,17 @@ loop-cell-preserved c =
     (elim c.if-cell-span.branch [
       | then-cell-span+then-cell-span-2+in_ok-add_steps+in_ok-add_steps-2 w ↦
           rw w.firsts-is
-          (AreFound-add c.args.cells.now c.args.span least c.args.page_room done cell c.loop-cell.firsts.items c.loop-cell.invariant
+          (AreFound-add c.args.cells.now c.args.span least c.args.page_room done cell c.loop-cell.firsts.items
+          c.loop-cell.invariant
           w.add_steps.new.firsts.items w.add_steps-then-cell-span-2.new.firsts.items
-          (rw w.configs.ensures.configs at w.in_ok-add_steps.ensures) (rw w.configs-then-cell-span-2.ensures.configs at w.in_ok-add_steps-2.ensures)
-          (has_span-from c.args.span cell w.if-cell-span.true w.if-cell-span-2.true) (c.loop-cell.cell-index, c.loop-cell-test.true, sym c.cell-item.is))
+          (rw w.configs.ensures.configs at w.in_ok-add_steps.ensures)
+          (rw w.configs-then-cell-span-2.ensures.configs at w.in_ok-add_steps-2.ensures)
+          (has_span-from c.args.span cell w.if-cell-span.true w.if-cell-span-2.true)
+          (c.loop-cell.cell-index, c.loop-cell-test.true, sym c.cell-item.is))
       | else-cell-span w ↦
           rw w.firsts-is
-          (AreFound-skip c.args.cells.now c.args.span least c.args.page_room done cell c.loop-cell.firsts.items c.loop-cell.invariant
+          (AreFound-skip c.args.cells.now c.args.span least c.args.page_room done cell c.loop-cell.firsts.items
+          c.loop-cell.invariant
           (has_span-false c.args.span cell (λ left right. elim w.else-cell-span.branch [
             | else-cell-span-via-then-cell-span+else-cell-span-2 w' ↦ w'.if-cell-span-2.false right
             | else-cell-span-via-else-cell-span w' ↦ w'.if-cell-span.false left
@@ -52,5 +58,6 @@ returns c =
     rw is
     (record {
       rising = AllPairs-from_increasing (dedup eqb sorted) (IsStrictlyIncreasing-dedup sorted c.sort_unstable.ensures.sorted);
-      found = subst (λ n. AreFound c.args.cells.now c.args.cells.now c.args.span n c.args.page_room (dedup eqb sorted)) c.greatest_least-least.ensures same;
+      found = subst (λ n. AreFound c.args.cells.now c.args.cells.now c.args.span n c.args.page_room (dedup eqb sorted))
+          c.greatest_least-least.ensures same;
     })

@@ -6,7 +6,8 @@ use Rattle.tl_problem.proofs.SpanLaws.{has_span-from}
 use Rattle.tl_problem.proofs.SpanningLemmas.{least_among-skip, least_among-more, has_span-false}
 use Rattle.tl_problem.proofs.spans.greatest_least.Goals as goal
 use Rattle.tl_problem.proofs.spans.greatest_least.Goals.{then-cell-span+then-cell-span-2, else-cell-span}
-use Rattle.tl_problem.proofs.spans.greatest_least.Goals.{else-cell-span-via-then-cell-span+else-cell-span-2, else-cell-span-via-else-cell-span}
+use Rattle.tl_problem.proofs.spans.greatest_least.Goals.{else-cell-span-via-then-cell-span+else-cell-span-2}
+use Rattle.tl_problem.proofs.spans.greatest_least.Goals.{else-cell-span-via-else-cell-span}
 
 pub loop-cell-preserved : goal.loop-cell-preserved
 loop-cell-preserved c =
@@ -17,10 +18,12 @@ loop-cell-preserved c =
     rw (more, ← c.cell-item.is)
     (elim c.if-cell-span.branch [
       | then-cell-span+then-cell-span-2 w ↦
-          let is = least_among-more done c.args.span cell (has_span-from c.args.span cell w.if-cell-span.true w.if-cell-span-2.true) in
+          let is = least_among-more done c.args.span cell (has_span-from c.args.span cell w.if-cell-span.true
+          w.if-cell-span-2.true) in
           omega (arith, is, w.least-is, w.max-least.ensures, w.least.ensures, c.loop-cell.invariant)
       | else-cell-span w ↦
-          let out = least_among-skip done c.args.span cell (has_span-false c.args.span cell (λ left right. elim w.else-cell-span.branch [
+          let out = least_among-skip done c.args.span cell (has_span-false c.args.span cell
+          (λ left right. elim w.else-cell-span.branch [
             | else-cell-span-via-then-cell-span+else-cell-span-2 w' ↦ w'.if-cell-span-2.false right
             | else-cell-span-via-else-cell-span w' ↦ w'.if-cell-span.false left
           ])) in

@@ -6,9 +6,11 @@ use Rattle.tl_program.proofs.answer.claim_of.Goals as goal
 pub returns-then-last : goal.returns-then-last
 returns-then-last c =
     let last = c.index-sections-sections in
-    lowest_claim c.args.sections.now last.result (last_found c.args.sections.now last.result c.requires ∙ ap Some (sym last.is)) c.if-last.true
+    lowest_claim c.args.sections.now last.result (last_found c.args.sections.now last.result c.requires ∙ ap Some (sym last.is))
+    c.if-last.true
 
 pub returns-else-last : goal.returns-else-last
 returns-else-last c =
     let last = c.index-sections-sections in
-    bounded_claim c.args.sections.now last.result (last_found c.args.sections.now last.result c.requires ∙ ap Some (sym last.is)) c.if-last.false
+    bounded_claim c.args.sections.now last.result (last_found c.args.sections.now last.result c.requires ∙ ap Some
+    (sym last.is)) c.if-last.false

@@ -2,17 +2,16 @@
 use Rattle.std.proofs.Common.{◌≡◌, ℕ, ◌≤◌, List, length, Some, refl, sym, ap, subst, ◌∙◌}
 use Rattle.tl_base.specs.declared.limits.TheConstants.{MAX_COLUMNS}
 use Rattle.tl_base.specs.Style.{gap_of, edge_of}
-use Rattle.tl_problem.specs.Sizes.{total}
+use Rattle.tl_base.specs.Sizes.{total}
 use Rattle.tl_cert.specs.declared.certificate.Certificate.{Certificate}
 use Rattle.tl_cert.specs.declared.certificate.Claim.{Claim}
 use Rattle.tl_cert.specs.Text.{IsWritable}
-use Rattle.tl_form.specs.Layouts.{Fits}
+use Rattle.tl_table.specs.Layouts.{Fits}
 use Rattle.tl_form.specs.Named.{IsNamed}
 use Rattle.tl_form.specs.Valid.{IsValid}
 use Rattle.tl_form.specs.ValidLaws.{HasHeight}
 use Rattle.tl_nested.specs.Searched.{AreSectionsOf}
-use Rattle.tl_program.specs.declared.report.Report.{Report}
-use Rattle.tl_program.specs.Answers.{budget_in, certificate_file, IsOutcomeOf, IsAnswerBy, IsReadable}
+use Rattle.tl_program.specs.Answers.{budget_in, certificate_file, IsOutcomeOf, IsLaidAs, IsReadBack}
 use Rattle.tl_program.specs.inner.Claims.{certificate_of, claim_of, report_of}
 use Rattle.tl_program.proofs.Laying.{claimed_height, few_columns, valid, writable, answered}
 use Rattle.tl_program.proofs.answer.laid.Goals as goal
@@ -21,7 +20,8 @@ pub layout-requires-clause-written : goal.layout-requires-clause-written
 layout-requires-clause-written c =
     let task = c.args.task.now in
     subst IsWritable (sym c.requires.found.made)
-    (writable (IsOutcomeOf task.search c.args.budget) c.args.table.now task.style task.width c.args.budget c.requires.found.sections
+    (writable (IsOutcomeOf task.search c.args.budget) c.args.table.now task.style task.width c.args.budget
+    c.requires.found.sections
     c.requires.found.expected c.requires.found.writable c.requires.wide c.requires.page.0 c.requires.page.1 c.requires.cuts)
 
 pub layout-requires-clause-valid : goal.layout-requires-clause-valid
@@ -37,11 +37,13 @@ total_width-width-requires c =
     let is : c.args.certificate.now.claim ≡ claim_of c.requires.found.sections =
     ap (λ (made : Certificate). made.claim) c.requires.found.made in
     let task = c.args.task.now in
-    let fits : (height : ℕ) → HasHeight (claim_of c.requires.found.sections) height → Fits c.args.table.now task.style task.width height c.in_ok-layout.layout =
+    let fits : (height : ℕ) → HasHeight (claim_of c.requires.found.sections) height →
+    Fits c.args.table.now task.style task.width height c.in_ok-layout.layout =
     λ height high. subst (λ (width : ℕ). Fits c.args.table.now task.style width height c.in_ok-layout.layout)
     (ap (λ (made : Certificate). made.width) c.requires.found.made)
     (c.in_ok-layout.ensures.fits height (subst (λ (claim : Claim). HasHeight claim height) (sym is) high)) in
-    let high = claimed_height (IsOutcomeOf task.search c.args.budget) c.args.table.now task.style task.width c.args.budget c.requires.found.sections
+    let high = claimed_height (IsOutcomeOf task.search c.args.budget)
+    c.args.table.now task.style task.width c.args.budget c.requires.found.sections
     c.requires.found.expected c.requires.found.writable c.requires.wide in
     subst (λ (widths : List ℕ). length widths ≤ MAX_COLUMNS) (sym c.as_slice.ensures)
     (few_columns c.args.table.now task.style task.width high.0 c.in_ok-layout.layout c.requires.sound
@@ -52,11 +54,13 @@ page_file-requires-clause-fits c =
     let is : c.args.certificate.now.claim ≡ claim_of c.requires.found.sections =
     ap (λ (made : Certificate). made.claim) c.requires.found.made in
     let task = c.args.task.now in
-    let fits : (height : ℕ) → HasHeight (claim_of c.requires.found.sections) height → Fits c.args.table.now task.style task.width height c.in_ok-layout.layout =
+    let fits : (height : ℕ) → HasHeight (claim_of c.requires.found.sections) height →
+    Fits c.args.table.now task.style task.width height c.in_ok-layout.layout =
     λ height high. subst (λ (width : ℕ). Fits c.args.table.now task.style width height c.in_ok-layout.layout)
     (ap (λ (made : Certificate). made.width) c.requires.found.made)
     (c.in_ok-layout.ensures.fits height (subst (λ (claim : Claim). HasHeight claim height) (sym is) high)) in
-    let high = claimed_height (IsOutcomeOf task.search c.args.budget) c.args.table.now task.style task.width c.args.budget c.requires.found.sections
+    let high = claimed_height (IsOutcomeOf task.search c.args.budget)
+    c.args.table.now task.style task.width c.args.budget c.requires.found.sections
     c.requires.found.expected c.requires.found.writable c.requires.wide in
     (high.0, high.1, fits high.0 high.2)
 
@@ -64,15 +68,17 @@ pub certificate_file-requires : goal.certificate_file-requires
 certificate_file-requires c =
     let task = c.args.task.now in
     subst IsWritable (sym c.requires.found.made)
-    (writable (IsOutcomeOf task.search c.args.budget) c.args.table.now task.style task.width c.args.budget c.requires.found.sections
+    (writable (IsOutcomeOf task.search c.args.budget) c.args.table.now task.style task.width c.args.budget
+    c.requires.found.sections
     c.requires.found.expected c.requires.found.writable c.requires.wide c.requires.page.0 c.requires.page.1 c.requires.cuts)
 
-pub returns-clause-answered : goal.returns-clause-answered
-returns-clause-answered c =
+pub returns : goal.returns
+returns c =
     let is : c.args.certificate.now.claim ≡ claim_of c.requires.found.sections =
     ap (λ (made : Certificate). made.claim) c.requires.found.made in
     let task = c.args.task.now in
-    let fits : (height : ℕ) → HasHeight (claim_of c.requires.found.sections) height → Fits c.args.table.now task.style task.width height c.in_ok-layout.layout =
+    let fits : (height : ℕ) → HasHeight (claim_of c.requires.found.sections) height →
+    Fits c.args.table.now task.style task.width height c.in_ok-layout.layout =
     λ height high. subst (λ (width : ℕ). Fits c.args.table.now task.style width height c.in_ok-layout.layout)
     (ap (λ (made : Certificate). made.width) c.requires.found.made)
     (c.in_ok-layout.ensures.fits height (subst (λ (claim : Claim). HasHeight claim height) (sym is) high)) in
@@ -80,19 +86,30 @@ returns-clause-answered c =
     let sections = c.requires.found.sections in
     let made : c.args.certificate.now ≡ certificate_of task.width task.style (budget_in task table) sections =
     c.requires.found.made ∙ ap (λ (b : ℕ). certificate_of task.width task.style b sections) c.requires.budget in
-    subst (λ (report : Report). IsAnswerBy report task table
-    (record { report = c.report_of.result; page = Some c.in_ok-page_file.field-0; certificate = c.in_ok-certificate_file.field-0 }))
+    subst (IsLaidAs task table
+    (record {
+      report = c.report_of.result;
+      page = Some c.in_ok-page_file.field-0;
+      certificate =
+          c.in_ok-certificate_file.field-0;
+    }))
     (sym (c.report_of.ensures ∙ ap (λ (claim : Claim). report_of task.width claim c.total_width-width.result) is))
     (answered task table sections
-    (subst (λ (b : ℕ). AreSectionsOf (IsOutcomeOf task.search b) table task.style task.width b sections) c.requires.budget c.requires.found.expected)
+    (subst (λ (b : ℕ). AreSectionsOf (IsOutcomeOf task.search b) table task.style task.width b sections)
+    c.requires.budget c.requires.found.expected)
     c.requires.found.writable c.requires.wide c.requires.sound c.requires.page.1
     (subst (λ (b : ℕ). b ≤ _) c.requires.budget c.requires.cuts)
     c.in_ok-layout.layout c.total_width-width.result c.in_ok-page_file.field-0
-    (record { report = c.report_of.result; page = Some c.in_ok-page_file.field-0; certificate = c.in_ok-certificate_file.field-0 })
+    (record {
+      report = c.report_of.result;
+      page = Some c.in_ok-page_file.field-0;
+      certificate =
+          c.in_ok-certificate_file.field-0;
+    })
     (subst (λ (one : Certificate). IsNamed table task.style one c.in_ok-layout.layout) made c.in_ok-layout.ensures.named)
     fits
     (c.total_width-width.ensures ∙ ap (total (gap_of task.style) (edge_of task.style)) c.as_slice.ensures)
     c.in_ok-page_file.ensures refl
     (c.in_ok-certificate_file.ensures.file ∙ ap (certificate_file task.certified) made)
-    (subst (IsReadable task.certified) made c.in_ok-certificate_file.ensures.readable)
+    (subst (IsReadBack task.certified) made c.in_ok-certificate_file.ensures.readable)
     c.lowest_is_least.ensures c.bounded_is_between.ensures c.budget_closes.ensures c.open_spends.ensures)

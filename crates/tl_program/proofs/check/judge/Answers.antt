@@ -10,27 +10,33 @@ use Rattle.tl_program.proofs.Judging.{accepted, few_of_last, step_rejected, text
 use Rattle.tl_program.proofs.check.judge.Goals as goal
 
 pub returns-in-Err : goal.returns-in-Err
-returns-in-Err c = text_rejected c.args.task.now c.args.table.now c.args.text.now c.in-Err.error c.rejected.result c.text_rejection.result
+returns-in-Err g c = text_rejected c.args.task.now c.args.table.now c.args.text.now c.in-Err.error c.rejected.result
+    c.text_rejection.result
     c.text_rejection.ensures c.rejected.ensures c.in-Err.ensures.err c.in-Err.ensures.each_ok
 
 pub shown-requires : goal.shown-requires
-shown-requires c = few_of_last c.in-Ok.certificate c.in-Ok.ensures.ok.writable
+shown-requires g c = few_of_last c.in-Ok.certificate c.in-Ok.ensures.ok.writable
 
 pub returns-in-Ok-verify : goal.returns-in-Ok-verify
-returns-in-Ok-verify c =
+returns-in-Ok-verify g c =
     let task = c.args.task.now in
     let table = c.args.table.now in
-    accepted task table c.in-Ok.certificate c.requires.sound c.requires.page.1 (subst (λ (b : ℕ). b ≤ MAX_BUDGET) c.requires.budget c.requires.cuts)
+    accepted task table c.in-Ok.certificate c.requires.sound c.requires.page.1
+    (subst (λ (b : ℕ). b ≤ MAX_BUDGET) c.requires.budget c.requires.cuts)
     (subst (λ (b : ℕ). IsValid table task.style task.width b c.in-Ok.certificate) c.requires.budget c.in-Ok-verify.ensures.valid)
-    c.lowest_is_least.ensures c.bounded_is_between.ensures c.narrow_is_too_wide.ensures c.budget_closes.ensures c.open_spends.ensures
+    c.lowest_is_least.ensures c.bounded_is_between.ensures c.narrow_is_too_wide.ensures c.budget_closes.ensures
+    c.open_spends.ensures
     c.args.text.now c.shown.result c.in-Ok.ensures.ok c.shown.ensures
 
 pub returns : goal.returns
-returns c =
+returns g c =
     let task = c.args.task.now in
     let table = c.args.table.now in
-    step_rejected task table c.args.text.now c.in-Ok.certificate c.in-Err-verify.reject c.rejected-in-Err-verify.result c.step_rejection.result
+    step_rejected task table c.args.text.now c.in-Ok.certificate c.in-Err-verify.reject c.rejected-in-Err-verify.result
+    c.step_rejection.result
     c.step_rejection.ensures c.rejected-in-Err-verify.ensures c.in-Ok.ensures.ok
-    (subst (λ (b : ℕ). IsMemoryOr (Memory alloc_error) (IsRefusedAs table task.style task.width b c.in-Ok.certificate) c.in-Err-verify.reject)
+    (subst (λ (b : ℕ). IsMemoryOr (Memory alloc_error) (IsRefusedAs table task.style task.width b c.in-Ok.certificate)
+    c.in-Err-verify.reject)
     c.requires.budget c.in-Err-verify.ensures.refused)
-    (λ valid. c.in-Err-verify.ensures.accepts (subst (λ (b : ℕ). IsValid table task.style task.width b c.in-Ok.certificate) (sym c.requires.budget) valid))
+    (λ valid. c.in-Err-verify.ensures.accepts (subst (λ (b : ℕ). IsValid table task.style task.width b c.in-Ok.certificate)
+    (sym c.requires.budget) valid))

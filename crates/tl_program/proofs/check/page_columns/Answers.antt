@@ -3,7 +3,7 @@ use Rattle.std.proofs.Common.{◌≡◌, ◌≤◌, ℕ, List, length, Some, Non
 use Rattle.std.specs.List.{last_or}
 use Rattle.tl_base.specs.declared.limits.TheConstants.{MAX_COLUMNS}
 use Rattle.tl_base.specs.Style.{gap_of, edge_of}
-use Rattle.tl_problem.specs.Sizes.{total}
+use Rattle.tl_base.specs.Sizes.{total}
 use Rattle.tl_program.specs.Checks.{page_columns}
 use Rattle.tl_program.specs.inner.Claims.{HasFewColumns}
 use Rattle.tl_program.proofs.Judging.{last_got}
@@ -19,4 +19,5 @@ pub returns-in-Some : goal.returns-in-Some
 returns-in-Some c =
     let is : last_or None c.args.sections.now ≡ Some c.in-Some.last.now =
     last_got c.args.sections.now c.in-Some.last.now (sym c.in-Some.ensures.value) in
-    c.total_width.ensures ∙ ap (total (gap_of c.args.style) (edge_of c.args.style)) c.as_slice.ensures ∙ sym (ap (page_columns c.args.style) is)
+    c.total_width.ensures ∙ ap (total (gap_of c.args.style) (edge_of c.args.style)) c.as_slice.ensures ∙ sym
+    (ap (page_columns c.args.style) is)

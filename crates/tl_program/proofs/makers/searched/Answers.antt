@@ -3,15 +3,17 @@ use Rattle.std.proofs.Common.{sym, subst}
 use Rattle.std.specs.Prelude.{IfOk}
 use Rattle.tl_nested.specs.Searched.{AreSectionsOf}
 use Rattle.tl_program.specs.Answers.{IsOutcomeOf}
-use Rattle.tl_program.specs.declared.options.Search.{Search}
+use Rattle.tl_command.specs.declared.options.Search.{Search}
 use Rattle.tl_program.proofs.makers.searched.Goals as goal
 
 pub returns-in-Plain-clause-expected : goal.returns-in-Plain-clause-expected
-returns-in-Plain-clause-expected c =
-    subst (λ (kind : Search). IfOk c.sections.result (AreSectionsOf (IsOutcomeOf kind c.args.budget) c.args.table.now c.args.task.now.style
+returns-in-Plain-clause-expected g c =
+    subst (λ (kind : Search). IfOk c.sections.result (AreSectionsOf (IsOutcomeOf kind c.args.budget)
+    c.args.table.now c.args.task.now.style
     c.args.task.now.width c.args.budget)) (sym c.in-Plain.is) c.sections.ensures.expected
 
 pub returns-in-Best-clause-expected : goal.returns-in-Best-clause-expected
-returns-in-Best-clause-expected c =
-    subst (λ (kind : Search). IfOk c.sections-in-Best.result (AreSectionsOf (IsOutcomeOf kind c.args.budget) c.args.table.now c.args.task.now.style
+returns-in-Best-clause-expected g c =
+    subst (λ (kind : Search). IfOk c.sections-in-Best.result
+    (AreSectionsOf (IsOutcomeOf kind c.args.budget) c.args.table.now c.args.task.now.style
     c.args.task.now.width c.args.budget)) (sym c.in-Best.is) c.sections-in-Best.ensures.expected

@@ -10,9 +10,13 @@ use Rattle.tl_program.proofs.run.check_table.Goals as goal
 
 pub returns-clause-report : goal.returns-clause-report
 returns-clause-report g c =
-    table_checked (λ report. (report ≡ reports.ReadFault) × Rose (g.D.Desk.load_faults c.args.desk.now) (g.D.Desk.load_faults c.load.new.desk))
-    c.args.task.now c.args.table.now (g.D.Desk.files c.args.desk.now) c.args.name.now c.in-Some.text c.judge.result c.in-Ok.ensures.within
-    (subst (λ (found : Option (List ℕ)). IfSome found (λ bytes. length bytes ≤ MAX_CERTIFICATE_BYTES + 1)) c.in-Some.is c.in_ok-text.ensures.short)
+    table_checked (λ report. (report ≡ reports.ReadFault) × Rose (g.D.Desk.load_faults c.args.desk.now)
+    (g.D.Desk.load_faults c.load.new.desk))
+    c.args.task.now c.args.table.now (g.D.Desk.files c.args.desk.now)
+    c.args.name.now c.in-Some.text c.judge.result c.in-Ok.ensures.within
+    (subst (λ (found : Option (List ℕ)). IfSome found (λ bytes. length bytes ≤ MAX_CERTIFICATE_BYTES + 1))
+    c.in-Some.is c.in_ok-text.ensures.short)
     (subst (λ (found : Option (List ℕ)). IfSome found (λ bytes. IfSome (g.D.Desk.files c.args.desk.now)
     (λ held. IsReadFrom held c.args.name.now MAX_CERTIFICATE_BYTES bytes))) c.in-Some.is c.in_ok-text.ensures.read)
-    (subst (λ (text : List ℕ). IfOk c.judge.result (IsJudged c.args.task.now c.args.table.now text)) c.as_slice.ensures c.judge.ensures)
+    (subst (λ (text : List ℕ). IfOk c.judge.result (IsJudged c.args.task.now c.args.table.now text))
+    c.as_slice.ensures c.judge.ensures)

@@ -15,7 +15,8 @@ returns-clause-good c =
     let last : 2 * c.len.result ≡ 2 * length trace = omega (arith, c.len.ensures) in
     IfOk-weaker c.lines_of_zones.result (AreLinesOf (2 * c.len.result) cuts c.args.bounds.now c.args.lower (2 * c.len.result + 1))
     (λ log. IsGoodLog c.args.problem.now trace log c.args.lower)
-    (λ log lines. log-good c.args.problem.now c.requires.sound trace c.requires.trace_of c.args.lower c.requires.standing cuts c.args.bounds.now
+    (λ log lines. log-good c.args.problem.now c.requires.sound trace c.requires.trace_of c.args.lower c.requires.standing cuts
+    c.args.bounds.now
     c.requires.bounds
     (subst (AreCutsOf trace (length trace)) (sym c.deref.ensures.value) c.in_ok-cuts.ensures) log
     (subst (λ n. AreLinesOf n cuts c.args.bounds.now c.args.lower (n + 1) log) last lines))
@@ -24,6 +25,8 @@ returns-clause-good c =
 pub returns-clause-writable : goal.returns-clause-writable
 returns-clause-writable c =
     let cuts = c.deref.result.now in
-    IfOk-weaker c.lines_of_zones.result (AreLinesOf (2 * c.len.result) cuts c.args.bounds.now c.args.lower (2 * c.len.result + 1)) IsLogWritable
-    (λ log lines. log-writable (2 * c.len.result) c.args.lower cuts c.args.bounds.now log (omega (arith, c.len.ensures, c.requires.few)) lines)
+    IfOk-weaker c.lines_of_zones.result (AreLinesOf (2 * c.len.result) cuts c.args.bounds.now c.args.lower
+    (2 * c.len.result + 1)) IsLogWritable
+    (λ log lines. log-writable (2 * c.len.result) c.args.lower cuts c.args.bounds.now log
+    (omega (arith, c.len.ensures, c.requires.few)) lines)
     c.lines_of_zones.ensures

@@ -8,5 +8,6 @@ use Rattle.tl_solve.proofs.looks.place_zone.Goals as goal
 pub returns-in_ok-take_lower-clause-looked : goal.returns-in_ok-take_lower-clause-looked
 returns-in_ok-take_lower-clause-looked c =
     let Among = InZone c.args.problem.now c.args.zone.now in
-    let placed = subst (λ o. MatchOption o (HasNoWidths Among) (IsPlacementIn c.args.problem.now Among)) c.in-Some.is c.in_ok-found.ensures.placed in
+    let placed = subst (λ o. MatchOption o (HasNoWidths Among) (IsPlacementIn c.args.problem.now Among))
+    c.in-Some.is c.in_ok-found.ensures.placed in
     inr (inr (c.in-Some.placed, placed, c.in_ok-take_lower.ensures.taken))

@@ -9,6 +9,7 @@ pub of_units-requires : goal.of_units-requires
 of_units-requires c =
     let atoms = c.atoms-atoms.result.now in
     let all : c.loop-atom.units ≡ by_clusters c.args.p.now =
-    c.loop-atom.invariant ∙ ap by_clusters (take_all c.loop-atom.atom-index atoms c.loop-atom-test.false ∙ c.atoms-atoms.ensures.atoms)
+    c.loop-atom.invariant ∙ ap by_clusters (take_all c.loop-atom.atom-index atoms
+    c.loop-atom-test.false ∙ c.atoms-atoms.ensures.atoms)
     in
     subst IsParagraph (sym all) (separated_paragraph c.args.p.now c.atoms-atoms.ensures.sound)

@@ -1,7 +1,8 @@
 use Rattle.std.proofs.Common.{◌++◌, ◌∷◌, [], SomeIff, length, ap, sym, subst, ◌∙◌, arith}
 use Rattle.tl_base.specs.Steps.{AreSteps}
 use Rattle.tl_text.specs.Minimal.{AreMinimal}
-use Rattle.tl_text.proofs.Minimals.{IsSearchedBelow, IsSearchedBelow-first, IsSearchedBelow-fewer, IsSearchedBelow-same, IsFlat-from}
+use Rattle.tl_text.proofs.Minimals.{IsSearchedBelow, IsSearchedBelow-first, IsSearchedBelow-fewer, IsSearchedBelow-same}
+use Rattle.tl_text.proofs.Minimals.{IsFlat-from}
 use Rattle.tl_text.proofs.Minimals.{AllFit-from_cutting, AllFit-searched, units-fit, length-units, lines_of}
 use Rattle.tl_text.proofs.minimal.configs.Goals as goal
 
@@ -9,7 +10,8 @@ pub filled-filling-requires-clause-fits : goal.filled-filling-requires-clause-fi
 filled-filling-requires-clause-fits c =
     let measured = c.as_slice-units.ensures ∙ c.in_ok-measures.ensures.measured in
     let w = c.least_width-width.result in
-    units-fit w c.args.p.now c.as_slice-units.result.now measured (AllFit-from_cutting w c.args.p.now (c.least_width-width.ensures.holds w (omega arith)))
+    units-fit w c.args.p.now c.as_slice-units.result.now measured
+    (AllFit-from_cutting w c.args.p.now (c.least_width-width.ensures.holds w (omega arith)))
 
 pub filled-filling-requires-clause-width : goal.filled-filling-requires-clause-width
 filled-filling-requires-clause-width c = c.least_width-width.ensures.least c.args.most c.requires.holds
@@ -28,7 +30,8 @@ loop-filling-init c =
     let filling = c.filled-filling.result in
     let measured = c.as_slice-units.ensures ∙ c.in_ok-measures.ensures.measured in
     let fit = AllFit-from_cutting w atoms (c.least_width-width.ensures.holds w (omega arith)) in
-    let pushed = c.in_ok-push.ensures.ok ∙ ap (λ list. list ++ record { width = w; height = c.lines.result } ∷ []) c.new-list.ensures
+    let pushed = c.in_ok-push.ensures.ok ∙ ap (λ list. list ++ record { width = w; height = c.lines.result } ∷ [])
+    c.new-list.ensures
     ∙ ap (λ h. record { width = w; height = h } ∷ []) (c.lines.ensures 0) in
     record {
       searched = subst (λ list. IsSearchedBelow atoms filling.next (lines_of filling) list) (sym pushed)
@@ -42,13 +45,19 @@ pub filled-wider-requires-clause-fits : goal.filled-wider-requires-clause-fits
 filled-wider-requires-clause-fits c =
     let measured = c.as_slice-units.ensures ∙ c.in_ok-measures.ensures.measured in
     units-fit c.loop-filling.filling.next c.args.p.now c.as_slice-units.result.now measured
-    (AllFit-searched c.args.p.now c.loop-filling.filling.next (lines_of c.loop-filling.filling) c.loop-filling.list c.loop-filling.invariant.searched)
+    (AllFit-searched c.args.p.now c.loop-filling.filling.next (lines_of c.loop-filling.filling)
+    c.loop-filling.list c.loop-filling.invariant.searched)
 
 pub filled-wider-requires-clause-few : goal.filled-wider-requires-clause-few
 filled-wider-requires-clause-few c = omega (arith, ap length c.as_slice-units.ensures, c.in_ok-measures.ensures.few)
 
 pub lines-requires-in-loop-filling : goal.lines-requires-in-loop-filling
-lines-requires-in-loop-filling c = omega (arith, ap length c.as_slice-units.ensures, c.in_ok-measures.ensures.few, c.filled-wider.ensures.ended)
+lines-requires-in-loop-filling c = omega (
+  arith,
+  ap length c.as_slice-units.ensures,
+  c.in_ok-measures.ensures.few,
+  c.filled-wider.ensures.ended,
+)
 
 pub lines-requires-in-loop-filling-2 : goal.lines-requires-in-loop-filling-2
 lines-requires-in-loop-filling-2 c =
@@ -63,7 +72,12 @@ lines-requires-in-loop-filling-2 c =
     )
 
 pub lines-requires-then-lines : goal.lines-requires-then-lines
-lines-requires-then-lines c = omega (arith, ap length c.as_slice-units.ensures, c.in_ok-measures.ensures.few, c.filled-wider.ensures.ended)
+lines-requires-then-lines c = omega (
+  arith,
+  ap length c.as_slice-units.ensures,
+  c.in_ok-measures.ensures.few,
+  c.filled-wider.ensures.ended,
+)
 
 pub loop-filling-preserved-in_ok-push-2 : goal.loop-filling-preserved-in_ok-push-2
 loop-filling-preserved-in_ok-push-2 c =
@@ -72,8 +86,10 @@ loop-filling-preserved-in_ok-push-2 c =
     let past = c.loop-filling.filling.next in
     let wider = c.filled-wider.result in
     let measured = c.as_slice-units.ensures ∙ c.in_ok-measures.ensures.measured in
-    let fit = AllFit-searched atoms past (lines_of c.loop-filling.filling) c.loop-filling.list c.loop-filling.invariant.searched in
-    let pushed = c.in_ok-push-2.ensures.ok ∙ ap (λ h. c.loop-filling.list ++ record { width = past; height = h } ∷ []) (c.lines-then-lines.ensures 0) in
+    let fit = AllFit-searched atoms past (lines_of c.loop-filling.filling)
+    c.loop-filling.list c.loop-filling.invariant.searched in
+    let pushed = c.in_ok-push-2.ensures.ok ∙ ap (λ h. c.loop-filling.list ++ record { width = past; height = h } ∷ [])
+    (c.lines-then-lines.ensures 0) in
     record {
       searched = subst (λ list. IsSearchedBelow atoms wider.next (lines_of wider) list) (sym pushed)
           (IsSearchedBelow-fewer atoms past wider.next (lines_of c.loop-filling.filling)
@@ -91,7 +107,8 @@ loop-filling-preserved c =
     let past = c.loop-filling.filling.next in
     let wider = c.filled-wider.result in
     let measured = c.as_slice-units.ensures ∙ c.in_ok-measures.ensures.measured in
-    let fit = AllFit-searched atoms past (lines_of c.loop-filling.filling) c.loop-filling.list c.loop-filling.invariant.searched in
+    let fit = AllFit-searched atoms past (lines_of c.loop-filling.filling)
+    c.loop-filling.list c.loop-filling.invariant.searched in
     record {
       searched =
           IsSearchedBelow-same atoms past wider.next (lines_of c.loop-filling.filling)

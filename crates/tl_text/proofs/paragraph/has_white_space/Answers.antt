@@ -6,4 +6,5 @@ use Rattle.tl_text.proofs.paragraph.has_white_space.Goals as goal
 
 pub returns : goal.returns
 returns c =
-    any_from_yields_List is_ascii_whitespace _ _ _ c.any.ensures.ran (YieldsList-from_chars c.args.text.now c.utf8.text cc) (λ x b q k. search (rules, tests))
+    any_from_yields_List is_ascii_whitespace _ _ _ c.any.ensures.ran (YieldsList-from_chars c.args.text.now c.utf8.text cc)
+    (λ x b q k. search (rules, tests))

@@ -19,8 +19,10 @@ loop-c-preserved c =
     let turn = YieldsList-turn start c.loop-c.yielded _ c.loop-c.yielded_by _ _ c.in-Some.c c.in-Some.is c.next.ensures.steps in
     let bytes = string_bytes c.loop-c.word in
     let more = string_bytes c.push.new.self in
-    let longer = chars-push bytes more c.in-Some.c (IsUtf8-string_bytes c.loop-c.word) (IsUtf8-string_bytes c.push.new.self) c.in_ok-push.ensures.bytes in
-    rw longer (after_letter c.loop-c.list (chars c.args.text.now) c.loop-c.yielded c.in-Some.c (chars bytes) turn c.loop-c.invariant letter)
+    let longer = chars-push bytes more c.in-Some.c (IsUtf8-string_bytes c.loop-c.word) (IsUtf8-string_bytes c.push.new.self)
+    c.in_ok-push.ensures.bytes in
+    rw longer (after_letter c.loop-c.list (chars c.args.text.now) c.loop-c.yielded c.in-Some.c (chars bytes)
+    turn c.loop-c.invariant letter)
 
 pub loop-c-preserved-then-is_ascii_whitespace : goal.loop-c-preserved-then-is_ascii_whitespace
 loop-c-preserved-then-is_ascii_whitespace c =

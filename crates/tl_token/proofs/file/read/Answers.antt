@@ -3,11 +3,10 @@ use Rattle.std.specs.Str.{chars}
 use Rattle.std.proofs.lemmas.List.{append-nil}
 use Rattle.tl_base.specs.Text.{byte_count}
 use Rattle.tl_base.proofs.Texts.{byte_count-chars}
-use Rattle.tl_token.specs.Spelling.{part, place_of, Leads, here, tokens_of, characters, without_mark}
+use Rattle.tl_token.specs.Spelling.{part, place_of, Leads, here, tokens_of, characters, without_mark, SpellsNoTokens}
 use Rattle.tl_token.specs.inner.Reader.{unread}
 use Rattle.tl_token.specs.inner.Found.{piece_of, fault_of}
 use Rattle.tl_token.specs.inner.Output.{resumed}
-use Rattle.tl_token.specs.Spelling.{Refused}
 use Rattle.tl_token.specs.declared.token.TokenError.{TokenError}
 use Rattle.tl_token.proofs.Endings.{leads_more}
 use Rattle.tl_token.proofs.Sizes.{piece_le}
@@ -18,7 +17,8 @@ pub overflow_sub-first : goal.overflow_sub-first
 overflow_sub-first c =
     let text = c.args.text.now in
     let passed : characters text ≡ unread c.eat.new.self =
-    ap without_mark (sym c.new-reader.ensures) ∙ mark_passed (unread c.new-reader.result) (unread c.eat.new.self) c.eat.result c.eat.ensures in
+    ap without_mark (sym c.new-reader.ensures) ∙ mark_passed (unread c.new-reader.result) (unread c.eat.new.self)
+    c.eat.result c.eat.ensures in
     omega (arith, c.len.ensures, ap byte_count passed, mark_le (chars text), byte_count-chars text c.utf8.text)
 
 pub loop-c-init : goal.loop-c-init
@@ -26,7 +26,8 @@ loop-c-init c =
     let text = c.args.text.now in
     let size = length text in
     let passed : characters text ≡ unread c.eat.new.self =
-    ap without_mark (sym c.new-reader.ensures) ∙ mark_passed (unread c.new-reader.result) (unread c.eat.new.self) c.eat.result c.eat.ensures in
+    ap without_mark (sym c.new-reader.ensures) ∙ mark_passed (unread c.new-reader.result) (unread c.eat.new.self)
+    c.eat.result c.eat.ensures in
     let P : List ℕ → Type 0 = λ x. Leads size (characters text) [] x in (
       [],
       subst P passed here,
@@ -39,9 +40,11 @@ pub returns-in-Err-clause-err : goal.returns-in-Err-clause-err
 returns-in-Err-clause-err c =
     let text = c.args.text.now in
     let (parts, leads, resumes, place, within) = c.loop-c.invariant in
-    let fault = fault_there c.in-Some.c (unread c.loop-c.reader) (unread c.next.new.self) (fault_of c.in-Err.fault) c.in-Some.ensures c.in-Err.ensures in
-    let P : TokenError → Type 0 = λ e. Refused text e in
-    inr (subst P (sym c.at.ensures) (refused text c.in-Err.fault c.loop-c.first (c.utf8.text, parts, unread c.loop-c.reader, leads, fault, place)))
+    let fault = fault_there c.in-Some.c (unread c.loop-c.reader) (unread c.next.new.self) (fault_of c.in-Err.fault)
+    c.in-Some.ensures c.in-Err.ensures in
+    let P : TokenError → Type 0 = λ e. SpellsNoTokens text e in
+    inr (subst P (sym c.at.ensures) (refused text c.in-Err.fault c.loop-c.first
+    (c.utf8.text, parts, unread c.loop-c.reader, leads, fault, place)))
 
 pub overflow_sub-past : goal.overflow_sub-past
 overflow_sub-past c =
@@ -83,5 +86,9 @@ pub returns-clause-ok : goal.returns-clause-ok
 returns-clause-ok c =
     let text = c.args.text.now in
     let (parts, leads, resumes, place, within) = c.loop-c.invariant in
-    let P : List ℕ → Type 0 = λ x. Leads (length text) (characters text) parts x in
-    (c.utf8.text, parts, subst P c.in_default.ensures.0 leads, c.in_ok-finish.ensures ∙ sym (resumes []) ∙ ap tokens_of (append-nil parts))
+    let P : List ℕ → Type 0 = λ x. Leads (length text) (characters text) parts x in (
+      c.utf8.text,
+      parts,
+      subst P c.in_default.ensures.0 leads,
+      c.in_ok-finish.ensures ∙ sym (resumes []) ∙ ap tokens_of (append-nil parts),
+    )

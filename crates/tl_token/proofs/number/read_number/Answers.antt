@@ -11,7 +11,8 @@ pub returns : goal.returns
 returns c =
     let cs = past is_space (chars c.args.value.now) in
     let spaces : unread c.run.new.self ≡ cs = c.run.ensures.past ∙ ap (past is_space) c.new-value.ensures in
-    let sign : c.pass_sign-is_negative.result ≡ begins (λ d. d ∈ "-") cs = c.pass_sign-is_negative.ensures.negative ∙ ap (begins (λ d. d ∈ "-")) spaces in
+    let sign : c.pass_sign-is_negative.result ≡ begins (λ d. d ∈ "-") cs =
+    c.pass_sign-is_negative.ensures.negative ∙ ap (begins (λ d. d ∈ "-")) spaces in
     let digits : chars c.run-2.result.now ≡ run is_ascii_digit (unsigned cs) =
     c.run-2.ensures.run ∙ ap (run is_ascii_digit) (c.pass_sign-is_negative.ensures.passed ∙ ap unsigned spaces) in
     c.signed_number.ensures

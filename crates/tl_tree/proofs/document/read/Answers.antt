@@ -1,17 +1,18 @@
-use Rattle.std.proofs.Common.{◌≡◌, ◌≤◌, ◌<◌, ℕ, ◌+◌, true, false, ◌∷◌, length, take, drop, inr, sym, ◌∙◌, subst, arith, alloc_error, sum_by}
+use Rattle.std.proofs.Common.{◌≡◌, ◌≤◌, ◌<◌, ℕ, ◌+◌, true, false, ◌∷◌, length, take, drop, inr, sym, ◌∙◌, subst, arith}
+use Rattle.std.proofs.Common.{alloc_error, sum_by}
 use Rattle.std.proofs.lemmas.List.{length-map, length-take-le}
 use Rattle.tl_base.specs.declared.limits.TheConstants.{MAX_FILE_BYTES}
 use Rattle.tl_base.specs.Returned.{IsMemoryOr}
 use Rattle.tl_tree.specs.Tags.{Kinds, kind_of, kinds, is_table_start}
 use Rattle.tl_tree.specs.Readable.{kind_size}
-use Rattle.tl_tree.specs.Spelling.{IsRefused, tables_with}
+use Rattle.tl_tree.specs.Spelling.{AreNoDocument, tables_with}
 use Rattle.tl_tree.specs.declared.error.TreeError.{TreeError}
 use Rattle.tl_tree.specs.declared.error.TreeError.TheVariants.{Memory}
 use Rattle.tl_tree.specs.declared.reading.Reading.{Reading}
-use Rattle.tl_tree.specs.inner.Verdict.{end_fault}
-use Rattle.tl_tree.specs.inner.Documents.{state_of, HasRead, stop_error}
+use Rattle.tl_tree.specs.inner.Documents.{HasRead, stop_error}
 use Rattle.tl_tree.proofs.Readings.{tables_tag, if_ok, if_err}
-use Rattle.tl_tree.proofs.Documents.{one_more_read, stopped, ended_refused, ended_tree, kinds_length, modest, few_tables, at_token, with_token}
+use Rattle.tl_tree.proofs.Documents.{one_more_read, stopped, ended_refused, ended_tree, kinds_length, modest, few_tables}
+use Rattle.tl_tree.proofs.Documents.{at_token, with_token}
 use Rattle.tl_tree.proofs.Documents.{readable_parts, small_prefix, fresh, one_more_table, all_taken}
 use Rattle.tl_tree.proofs.document.read.Goals as goal
 use Rattle.tl_tree.proofs.document.read.Goals.{then-is_table_start, else-is_table_start}
@@ -24,7 +25,8 @@ read-requires-clause-modest c =
     let prefix = kinds (take i tokens) in
     let rest = kind_of token ∷ kinds (drop (i + 1) tokens) in
     let split = at_token tokens i token c.loop-index-test.true c.index-tokens-index.is in
-    modest prefix c.loop-index.tables c.loop-index.reading c.loop-index.invariant (readable_parts (kinds tokens) prefix rest split c.requires.readable).0
+    modest prefix c.loop-index.tables c.loop-index.reading c.loop-index.invariant
+    (readable_parts (kinds tokens) prefix rest split c.requires.readable).0
     (small_prefix (kinds tokens) prefix rest split c.requires.size)
 
 pub read-requires-clause-few : goal.read-requires-clause-few
@@ -33,7 +35,8 @@ read-requires-clause-few c =
     let i = c.loop-index.index in
     let token = c.index-tokens-index.result in
     let split = at_token tokens i token c.loop-index-test.true c.index-tokens-index.is in
-    (readable_parts (kinds tokens) (kinds (take i tokens)) (kind_of token ∷ kinds (drop (i + 1) tokens)) split c.requires.readable).1.0
+    (readable_parts (kinds tokens) (kinds (take i tokens)) (kind_of token ∷ kinds (drop (i + 1) tokens))
+    split c.requires.readable).1.0
 
 pub read-requires-clause-counted : goal.read-requires-clause-counted
 read-requires-clause-counted c =
@@ -42,7 +45,8 @@ read-requires-clause-counted c =
     omega arith
 
 pub read-requires-clause-fresh : goal.read-requires-clause-fresh
-read-requires-clause-fresh c = fresh (kinds (take c.loop-index.index c.args.tokens.now)) c.loop-index.tables c.loop-index.reading c.loop-index.invariant
+read-requires-clause-fresh c = fresh (kinds (take c.loop-index.index c.args.tokens.now))
+    c.loop-index.tables c.loop-index.reading c.loop-index.invariant
 
 pub overflow_cast-index : goal.overflow_cast-index
 overflow_cast-index c =
@@ -62,10 +66,11 @@ returns-in-Err-clause-err c =
     let split = at_token tokens i token c.loop-index-test.true c.index-tokens-index.is in
     let inside : i ≤ length tokens = (let h : i < length tokens = c.loop-index-test.true in omega arith) in
     let place : length prefix ≡ i = simp length-map (length-take-le i tokens inside) in
-    let P : ℕ → Type 0 = λ n. IsMemoryOr (Memory alloc_error) (IsRefused (kinds tokens)) (stop_error n k c.in-Err.stop) in
-    let Q : TreeError → Type 0 = λ e. IsMemoryOr (Memory alloc_error) (IsRefused (kinds tokens)) e in
+    let P : ℕ → Type 0 = λ n. IsMemoryOr (Memory alloc_error) (AreNoDocument (kinds tokens)) (stop_error n k c.in-Err.stop) in
+    let Q : TreeError → Type 0 = λ e. IsMemoryOr (Memory alloc_error) (AreNoDocument (kinds tokens)) e in
     subst Q (sym c.at.ensures)
-    (subst P place (stopped (kinds tokens) prefix (kinds (drop (i + 1) tokens)) k c.loop-index.tables c.loop-index.reading c.in-Err.stop split
+    (subst P place (stopped (kinds tokens) prefix (kinds (drop (i + 1) tokens))
+    k c.loop-index.tables c.loop-index.reading c.in-Err.stop split
     c.loop-index.invariant c.in-Err.ensures.err))
 
 pub loop-index-preserved : goal.loop-index-preserved
@@ -75,7 +80,8 @@ loop-index-preserved c =
     let token = c.index-tokens-index.result in
     let prefix = kinds (take i tokens) in
     let k = kind_of token in
-    let one = one_more_read prefix c.loop-index.tables c.loop-index.reading c.in-Ok.next k c.loop-index.invariant c.in-Ok.ensures.ok in
+    let one = one_more_read prefix c.loop-index.tables c.loop-index.reading c.in-Ok.next k c.loop-index.invariant
+    c.in-Ok.ensures.ok in
     let more = with_token tokens i token c.loop-index-test.true c.index-tokens-index.is in
     let P : Kinds → Type 0 = λ ks. HasRead ks (tables_with c.loop-index.tables k) c.in-Ok.next in
     let all = subst P (sym more) one in
@@ -94,7 +100,8 @@ returns-clause-err c =
     let tokens = c.args.tokens.now in
     let P : Kinds → Type 0 = λ ks. HasRead ks c.loop-index.tables c.loop-index.reading in
     let all = subst P (all_taken tokens c.loop-index.index c.loop-index-test.false) c.loop-index.invariant in
-    if_err c.into_tree.result (λ e fault. inr (ended_refused (kinds tokens) c.loop-index.tables c.loop-index.reading e all fault)) c.into_tree.ensures.err
+    if_err c.into_tree.result (λ e fault. inr (ended_refused (kinds tokens)
+    c.loop-index.tables c.loop-index.reading e all fault)) c.into_tree.ensures.err
 
 pub returns-clause-ok : goal.returns-clause-ok
 returns-clause-ok c =

@@ -14,5 +14,6 @@ returns-in-None c = (
 
 pub returns-in-Some : goal.returns-in-Some
 returns-in-Some c =
-    let all = walked_all (meant c.args.subject.now) c.args.chains.now c.args.least c.in-Some.walked c.requires.subject.sound c.in-Some.ensures in
+    let all = walked_all (meant c.args.subject.now) c.args.chains.now c.args.least c.in-Some.walked c.requires.subject.sound
+    c.in-Some.ensures in
     (λ yes. all.0 (c.is_whole.ensures.0 yes), λ too. c.is_whole.ensures.1 (all.1 too))

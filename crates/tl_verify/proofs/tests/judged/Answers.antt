@@ -2,13 +2,14 @@ use Rattle.std.proofs.Common.{◌∙◌, ℕ, sym, subst}
 use Rattle.tl_base.specs.declared.style.Style.{Style}
 use Rattle.tl_base.specs.declared.style.Style.TheVariants.{Plain}
 use Rattle.tl_cert.specs.declared.certificate.Certificate.{Certificate}
-use Rattle.tl_form.specs.declared.cell.Table.{Table}
+use Rattle.tl_table.specs.declared.cell.Table.{Table}
 use Rattle.tl_form.specs.Expected.{IsDocumentOf}
 use Rattle.tl_form.specs.Valid.{IsValid, IsValidFor}
 use Rattle.tl_verify.proofs.tests.judged.Goals as goal
 
 -- valid at its own width and budget
-valid_own : (table : Table) (style : Style) (page budget : ℕ) (certificate : Certificate) → IsValid table style page budget certificate →
+valid_own : (table : Table) (style : Style) (page budget : ℕ) (certificate : Certificate) →
+    IsValid table style page budget certificate →
     IsValid table style certificate.width certificate.budget certificate
 valid_own table style page budget certificate valid = (
   valid.0,
@@ -17,9 +18,9 @@ valid_own table style page budget certificate valid = (
 )
 
 pub named-requires-clause-valid : goal.named-requires-clause-valid
-named-requires-clause-valid c =
+named-requires-clause-valid g c =
     valid_own c.in_ok-table.table Plain c.args.width c.args.budget c.in-Ok.certificate c.in_default-verify.ensures.valid
 
 pub named-requires-in-Bounded-clause-valid : goal.named-requires-in-Bounded-clause-valid
-named-requires-in-Bounded-clause-valid c =
+named-requires-in-Bounded-clause-valid g c =
     valid_own c.in_ok-table.table Plain c.args.width c.args.budget c.in-Ok.certificate c.in_default-verify.ensures.valid

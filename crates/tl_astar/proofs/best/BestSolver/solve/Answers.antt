@@ -51,7 +51,18 @@ loop-zone-preserved c =
     record {
       search = told.search;
       left = frontier-shut p t.arena.trace t.arena.best.height z (open_zones t) left here;
-      within = omega (arith, ap length same, ap length (ap (λ (a : Arena). a.trace) c.in-Some.ensures.arena), c.loop-zone.invariant.within);
+      within = omega (
+        arith,
+        ap length same,
+        ap length (ap (λ (a : Arena). a.trace) c.in-Some.ensures.arena),
+        c.loop-zone.invariant.within,
+      );
       shown = λ none. absurd (c.if-cuts-budget.false
-          (omega (arith, none, c.cuts.ensures, ap length (ap (λ (a : Arena). a.trace) c.in-Some.ensures.arena), c.loop-zone.invariant.within)));
+          (omega (
+            arith,
+            none,
+            c.cuts.ensures,
+            ap length (ap (λ (a : Arena). a.trace) c.in-Some.ensures.arena),
+            c.loop-zone.invariant.within,
+          )));
     }

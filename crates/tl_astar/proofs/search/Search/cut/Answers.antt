@@ -5,7 +5,7 @@ use Rattle.tl_solve.specs.declared.arena.Arena.{Arena}
 use Rattle.tl_solve.specs.Arenas.{IsArenaOf}
 use Rattle.tl_solve.proofs.ArenaLaws.{lowered-le}
 use Rattle.tl_astar.specs.inner.Entries.{zone_in, IsAdded}
-use Rattle.tl_astar.specs.inner.Frontier.{IsFrontier, KeepsOrder}
+use Rattle.tl_astar.specs.inner.Frontier.{IsFrontier, KeepsBoundOrder}
 use Rattle.tl_astar.specs.inner.Searches.{HaveBounds}
 use Rattle.tl_astar.proofs.SearchLaws.{cut-bounds, cut-left, cut-order}
 use Rattle.tl_astar.proofs.search.Search.cut.Goals as goal
@@ -25,7 +25,8 @@ returns-clause-search c =
     let agree = c.in_ok-add-2.ensures.agree ∙ c.in_ok-add.ensures.agree in
     let less = lowered-le A.best B.best c.in_ok-cut.ensures.lowered in
     let first : IsAdded (2 * length A.trace + 1) (get_or B.bounds.items (2 * length A.trace + 1) None) old mid =
-    subst (λ n. IsAdded (2 * n + 1) (get_or B.bounds.items (2 * n + 1) None) old mid) c.cuts-made.ensures c.in_ok-add.ensures.added in
+    subst (λ n. IsAdded (2 * n + 1) (get_or B.bounds.items (2 * n + 1) None) old mid)
+    c.cuts-made.ensures c.in_ok-add.ensures.added in
     let second : IsAdded (2 * length A.trace + 2) (get_or B.bounds.items (2 * length A.trace + 2) None) mid new =
     subst (λ n. IsAdded (2 * n + 2) (get_or B.bounds.items (2 * n + 2) None) mid new) c.cuts-made.ensures
     (subst (λ (a : Arena). IsAdded (2 * c.cuts-made.result + 2) (get_or a.bounds.items (2 * c.cuts-made.result + 2) None) mid new)
@@ -36,12 +37,14 @@ returns-clause-search c =
       arena = subst (IsArenaOf p) (sym same) c.in_ok-cut.ensures.arena;
       work = subst (IsWorkOf p) (sym work) is.work;
       bounds = subst (λ (a : Arena). HaveBounds p a.trace new) (sym same)
-          (cut-bounds p A B is.arena c.in_ok-cut.ensures.arena c.args.cut c.requires.cut c.in_ok-cut.ensures.trace less old mid new first second
+          (cut-bounds p A B is.arena c.in_ok-cut.ensures.arena c.args.cut c.requires.cut c.in_ok-cut.ensures.trace less old mid
+          new first second
           c.requires.left below least is.bounds);
       agree = λ yes. is.agree (subst IsTrue agree yes);
       same_steps = λ same. subst IsTrue (sym agree) (is.same_steps same);
-      order = subst (λ (a : Arena). KeepsOrder p a.trace a.best.height) (sym same)
-          (cut-order p A B is.arena c.in_ok-cut.ensures.arena c.args.cut c.requires.cut c.in_ok-cut.ensures.trace less old mid new first second
+      order = subst (λ (a : Arena). KeepsBoundOrder p a.trace a.best.height) (sym same)
+          (cut-order p A B is.arena c.in_ok-cut.ensures.arena c.args.cut c.requires.cut c.in_ok-cut.ensures.trace less old mid
+          new first second
           c.requires.left below least c.requires.below_by_area is.order);
     }
 
@@ -58,7 +61,8 @@ returns-clause-left c =
     let same : c.add-2.new.self.arena ≡ B = c.in_ok-add-2.ensures.arena ∙ c.in_ok-add.ensures.arena in
     let less = lowered-le A.best B.best c.in_ok-cut.ensures.lowered in
     let first : IsAdded (2 * length A.trace + 1) (get_or B.bounds.items (2 * length A.trace + 1) None) old mid =
-    subst (λ n. IsAdded (2 * n + 1) (get_or B.bounds.items (2 * n + 1) None) old mid) c.cuts-made.ensures c.in_ok-add.ensures.added in
+    subst (λ n. IsAdded (2 * n + 1) (get_or B.bounds.items (2 * n + 1) None) old mid)
+    c.cuts-made.ensures c.in_ok-add.ensures.added in
     let second : IsAdded (2 * length A.trace + 2) (get_or B.bounds.items (2 * length A.trace + 2) None) mid new =
     subst (λ n. IsAdded (2 * n + 2) (get_or B.bounds.items (2 * n + 2) None) mid new) c.cuts-made.ensures
     (subst (λ (a : Arena). IsAdded (2 * c.cuts-made.result + 2) (get_or a.bounds.items (2 * c.cuts-made.result + 2) None) mid new)
@@ -66,5 +70,6 @@ returns-clause-left c =
     let below = c.requires.below in
     let least = c.requires.least below.0 below.1 in
     subst (λ (a : Arena). IsFrontier p a.trace a.best.height (map zone_in new)) (sym same)
-    (cut-left p A B is.arena c.in_ok-cut.ensures.arena c.args.cut c.requires.cut c.in_ok-cut.ensures.trace less old mid new first second
+    (cut-left p A B is.arena c.in_ok-cut.ensures.arena c.args.cut c.requires.cut c.in_ok-cut.ensures.trace less old mid new
+    first second
     c.requires.left below least)

@@ -13,7 +13,8 @@ finish_at-requires-clause-ended c =
     let proved = subst (λ n. IsProvedUpto p arena.trace arena.best.height n least) all c.least_proved-lower.ensures in
     rw c.into_arena-arena.ensures (λ below. elim c.requires.ended [
       | inl spent ↦ inl spent
-      | inr shut ↦ inr (shut-closed p arena.trace arena.best.height least proved c.requires.search.arena.work.sound c.requires.search.arena.trace_of
+      | inr shut ↦ inr (shut-closed p arena.trace arena.best.height least proved c.requires.search.arena.work.sound
+          c.requires.search.arena.trace_of
           shut below)
     ])
 

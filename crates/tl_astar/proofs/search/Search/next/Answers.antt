@@ -24,14 +24,16 @@ first_cut-requires-clause-search c =
     let s = c.loop-zone.self in
     let is = c.loop-zone.invariant.search in
     search-popped p s c.pop.new.self is
-    (taken-bounds p s.arena.trace (heap_items s.opens.heap) c.in-Some.zone (heap_items c.pop.new.self.heap) c.in-Some.ensures.taken is.bounds)
+    (taken-bounds p s.arena.trace (heap_items s.opens.heap) c.in-Some.zone (heap_items c.pop.new.self.heap)
+    c.in-Some.ensures.taken is.bounds)
 
 pub first_cut-requires-clause-there : goal.first_cut-requires-clause-there
 first_cut-requires-clause-there c =
     let p = c.args.problem.now in
     let s = c.loop-zone.self in
     let zones = map zone_in (heap_items c.pop.new.self.heap) in
-    let left = taken-frontier p s.arena.trace (heap_items s.opens.heap) c.in-Some.zone (heap_items c.pop.new.self.heap) c.in-Some.ensures.taken
+    let left = taken-frontier p s.arena.trace (heap_items s.opens.heap) c.in-Some.zone (heap_items c.pop.new.self.heap)
+    c.in-Some.ensures.taken
     s.arena.best.height c.loop-zone.invariant.left in
     (All-head (Stands s.arena.trace) c.in-Some.zone zones left.standing).there
 
@@ -40,17 +42,21 @@ returns-then-is_some-clause-left c =
     let p = c.args.problem.now in
     let s = c.loop-zone.self in
     let same = c.first_cut.ensures.arena in
-    let left = taken-frontier p s.arena.trace (heap_items s.opens.heap) c.in-Some.zone (heap_items c.pop.new.self.heap) c.in-Some.ensures.taken
+    let left = taken-frontier p s.arena.trace (heap_items s.opens.heap) c.in-Some.zone (heap_items c.pop.new.self.heap)
+    c.in-Some.ensures.taken
     s.arena.best.height c.loop-zone.invariant.left in
-    left-kept p (record s { opens = c.pop.new.self }) c.first_cut.new.self c.first_cut.ensures.opens (ap (λ (a : Arena). a.trace) same)
+    left-kept p (record s { opens = c.pop.new.self }) c.first_cut.new.self c.first_cut.ensures.opens
+    (ap (λ (a : Arena). a.trace) same)
     (λ zones. c.in-Some.zone ∷ zones) (omega (arith, ap (λ (a : Arena). a.best.height) same)) left
 
 pub returns-then-is_some-clause-least : goal.returns-then-is_some-clause-least
 returns-then-is_some-clause-least c =
     let p = c.args.problem.now in
     let s = c.loop-zone.self in
-    least-kept p (record s { opens = c.pop.new.self }) c.first_cut.new.self c.first_cut.ensures.opens (ap (λ (a : Arena). a.trace) c.first_cut.ensures.arena)
-    c.in-Some.zone (taken-least p s.arena.trace (heap_items s.opens.heap) c.in-Some.zone (heap_items c.pop.new.self.heap) c.in-Some.ensures.taken
+    least-kept p (record s { opens = c.pop.new.self }) c.first_cut.new.self c.first_cut.ensures.opens
+    (ap (λ (a : Arena). a.trace) c.first_cut.ensures.arena)
+    c.in-Some.zone (taken-least p s.arena.trace (heap_items s.opens.heap) c.in-Some.zone (heap_items c.pop.new.self.heap)
+    c.in-Some.ensures.taken
     c.loop-zone.invariant.search.bounds)
 
 pub loop-zone-preserved : goal.loop-zone-preserved
@@ -59,16 +65,23 @@ loop-zone-preserved c =
     let s = c.loop-zone.self in
     let same = c.first_cut.ensures.arena in
     let zones = map zone_in (heap_items c.pop.new.self.heap) in
-    let left = taken-frontier p s.arena.trace (heap_items s.opens.heap) c.in-Some.zone (heap_items c.pop.new.self.heap) c.in-Some.ensures.taken
+    let left = taken-frontier p s.arena.trace (heap_items s.opens.heap) c.in-Some.zone (heap_items c.pop.new.self.heap)
+    c.in-Some.ensures.taken
     s.arena.best.height c.loop-zone.invariant.left in
     let shut = none-holds c.first_cut.result _ (sym c.is_some.ensures ∙ c.if-is_some.false) c.first_cut.ensures.shut in
     record {
       arena = same ∙ c.loop-zone.invariant.arena;
       search = c.first_cut.ensures.search;
-      left = left-kept p (record s { opens = c.pop.new.self }) c.first_cut.new.self c.first_cut.ensures.opens (ap (λ (a : Arena). a.trace) same)
+      left = left-kept p (record s { opens = c.pop.new.self }) c.first_cut.new.self c.first_cut.ensures.opens
+          (ap (λ (a : Arena). a.trace) same)
           (λ zs. zs) (omega (arith, ap (λ (a : Arena). a.best.height) same))
           (frontier-shut p s.arena.trace s.arena.best.height c.in-Some.zone zones left shut);
-      len = omega (arith, ap (λ (o : OpenZones). heap_len o.heap) c.first_cut.ensures.opens, c.in-Some.ensures.len, c.loop-zone.invariant.len);
+      len = omega (
+        arith,
+        ap (λ (o : OpenZones). heap_len o.heap) c.first_cut.ensures.opens,
+        c.in-Some.ensures.len,
+        c.loop-zone.invariant.len,
+      );
     }
 
 pub returns-clause-search : goal.returns-clause-search

@@ -11,5 +11,6 @@ pub returns-clause-ok : goal.returns-clause-ok
 returns-clause-ok c = fun_ext (λ (q : List ℕ).
     let found = btree_map_updates_text (string_bytes c.in_ok-name.name) c.args.self.now.files c.insert.new.self
     (Some c.in_ok-bytes.bytes) c.in_ok-insert.ensures.updates q in
-    found ∙ ap (λ name. update bytes_eq (get_by_text c.args.self.now.files) name (Some c.in_ok-bytes.bytes) q) c.in_ok-name.ensures.ok
+    found ∙ ap (λ name. update bytes_eq (get_by_text c.args.self.now.files) name (Some c.in_ok-bytes.bytes) q)
+    c.in_ok-name.ensures.ok
     ∙ ap (λ bytes. update bytes_eq (get_by_text c.args.self.now.files) c.args.name.now (Some bytes) q) c.in_ok-bytes.ensures)

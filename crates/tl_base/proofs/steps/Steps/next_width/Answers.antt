@@ -11,7 +11,8 @@ returns-then-narrow-configs-clause-none c =
     let n = c.steps_up_to-narrow.result in
     let told = c.steps_up_to-narrow.ensures in
     let some : 0 < n = some_narrow c.args.self.now told.sound c.args.w n told.point c.requires in
-    stays c.args.self.now told.sound c.args.w n some told.bound told.point (sym (c.if-narrow-configs.true ∙ ap length c.configs.ensures.configs))
+    stays c.args.self.now told.sound c.args.w n some told.bound told.point
+    (sym (c.if-narrow-configs.true ∙ ap length c.configs.ensures.configs))
 
 pub returns-then-narrow-configs-clause-some : goal.returns-then-narrow-configs-clause-some
 returns-then-narrow-configs-clause-some c =
@@ -25,7 +26,12 @@ returns-clause-next c =
     let n = c.steps_up_to-narrow.result in
     let told = c.steps_up_to-narrow.ensures in
     let some : 0 < n = some_narrow c.args.self.now told.sound c.args.w n told.point c.requires in
-    let within : n < length c.args.self.now = omega (arith, told.bound, c.if-narrow-configs.false, ap length c.configs.ensures.configs) in
+    let within : n < length c.args.self.now = omega (
+      arith,
+      told.bound,
+      c.if-narrow-configs.false,
+      ap length c.configs.ensures.configs,
+    ) in
     subst (λ next. IsNextWidth (height_at c.args.self.now) c.args.w next)
     (sym (ap (λ all. (get_or all n no_step).width) c.configs-2.ensures.configs))
     (next_is c.args.self.now told.sound c.args.w n some told.bound told.point within)

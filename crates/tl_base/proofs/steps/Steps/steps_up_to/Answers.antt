@@ -11,6 +11,7 @@ returns-clause-point c =
     let steps = c.as_slice.result.now in
     let are : AreSteps steps = subst (λ all. AreSteps all) (sym c.as_slice.ensures) c.self.invariant in
     let at : IsPastNarrow steps c.args.w c.partition_point.result =
-    IsPartitionPoint-from_clause (λ step. nat_le step.width c.args.w) steps c.partition_point.result c.partition_point.ensures.partitioned
+    IsPartitionPoint-from_clause (λ step. nat_le step.width c.args.w)
+    steps c.partition_point.result c.partition_point.ensures.partitioned
     (narrow_first steps are c.args.w) (λ a r f q. search rules) in
     subst (λ all. IsPastNarrow all c.args.w c.partition_point.result) (c.as_slice.ensures ∙ c.self.view_is) at

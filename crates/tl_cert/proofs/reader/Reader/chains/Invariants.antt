@@ -5,7 +5,8 @@ use Rattle.tl_cert.proofs.reader.Reader.chains.Given as goal
 
 -- the chains so far and those that are left to read are all
 abbrev pub invariant-chains : goal.invariant-chains
-invariant-chains l = Whole chains_reading l.chains (suc (length l.self.rest.now)) l.first l.self.rest.now (chains_at l.fn.self.rest.now)
+invariant-chains l = Whole chains_reading l.chains (suc (length l.self.rest.now)) l.first l.self.rest.now
+    (chains_at l.fn.self.rest.now)
 
 abbrev pub decreases-chains : goal.decreases-chains
 decreases-chains l = length l.self.rest.now

@@ -14,14 +14,17 @@ returns-in_err-cut c =
 
 pub cuts-preserved : goal.cuts-preserved
 cuts-preserved c =
-    pushed_on cuts_reading c.cuts.cuts c.push.new.self (c.args.count - c.cuts.counter) (c.args.count - (c.cuts.counter + 1)) tt tt c.cuts.self.rest.now
-    c.in_ok-cut.cut c.in_ok-cut.cut c.cut.new.self.rest.now (cuts_at c.args.count c.args.self.now.rest.now) c.in_ok-push.ensures.ok refl refl (omega arith) refl
+    pushed_on cuts_reading c.cuts.cuts c.push.new.self (c.args.count - c.cuts.counter) (c.args.count - (c.cuts.counter + 1))
+    tt tt c.cuts.self.rest.now
+    c.in_ok-cut.cut c.in_ok-cut.cut c.cut.new.self.rest.now (cuts_at c.args.count c.args.self.now.rest.now)
+    c.in_ok-push.ensures.ok refl refl (omega arith) refl
     c.in_ok-cut.ensures c.cuts.invariant
 
 pub returns : goal.returns
 unfolding give
 returns c =
     let room = c.args.count - c.cuts.counter in
-    let stop : Stops cuts_reading room tt c.cuts.self.rest.now = stops_by cuts_reading room tt c.cuts.self.rest.now (λ j is. absurd (omega arith)) in
+    let stop : Stops cuts_reading room tt c.cuts.self.rest.now =
+    stops_by cuts_reading room tt c.cuts.self.rest.now (λ j is. absurd (omega arith)) in
     stops_at cuts_reading c.cuts.cuts room tt c.cuts.self.rest.now tt c.cuts.self.rest.now
     (cuts_at c.args.count c.args.self.now.rest.now) stop refl c.cuts.invariant

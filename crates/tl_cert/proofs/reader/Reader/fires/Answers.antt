@@ -18,11 +18,13 @@ returns-in_err-line c =
 pub fires-preserved : goal.fires-preserved
 fires-preserved c =
     let prefix = c.fires.fires in
-    let grown : length c.push.new.self ≡ length prefix + 1 = ap length c.in_ok-push.ensures.ok ∙ length_push prefix c.in_ok-line.line in
+    let grown : length c.push.new.self ≡ length prefix + 1 =
+    ap length c.in_ok-push.ensures.ok ∙ length_push prefix c.in_ok-line.line in
     record {
       whole = pushed_on (fires_reading c.args.areas) prefix c.push.new.self (MAX_FIRES - length prefix)
           (MAX_FIRES - length c.push.new.self) tt tt c.fires.self.rest.now
-          c.in_ok-line.line c.in_ok-line.line c.fire.new.self.rest.now (fires_at c.args.areas c.args.self.now.rest.now) c.in_ok-push.ensures.ok refl refl
+          c.in_ok-line.line c.in_ok-line.line c.fire.new.self.rest.now (fires_at c.args.areas c.args.self.now.rest.now)
+          c.in_ok-push.ensures.ok refl refl
           (omega (arith, grown)) (cc)
           c.in_ok-line.ensures c.fires.invariant.whole;
       room = omega (arith, grown);
@@ -35,7 +37,8 @@ returns-in_err-end c =
     let stop : Stops (fires_reading c.args.areas) (MAX_FIRES - length prefix) tt c.fires.self.rest.now =
     stops_by (fires_reading c.args.areas) (MAX_FIRES - length prefix) tt c.fires.self.rest.now
     (λ j is. elim c.fires-test.branch [ then-fires-test+else-next_is w ↦ cc | else-fires-test w ↦ absurd (omega arith) ]) in
-    rw (p.1, p.2) (fails_at (fires_reading c.args.areas) c.in_err-end.field-0.0 prefix (MAX_FIRES - length prefix) tt c.fires.self.rest.now
+    rw (p.1, p.2) (fails_at (fires_reading c.args.areas) c.in_err-end.field-0.0 prefix (MAX_FIRES - length prefix)
+    tt c.fires.self.rest.now
     (fires_at c.args.areas c.args.self.now.rest.now) stop c.in_err-end.ensures c.fires.invariant.whole)
 
 pub returns : goal.returns
@@ -44,5 +47,6 @@ returns c =
     let stop : Stops (fires_reading c.args.areas) (MAX_FIRES - length prefix) tt c.fires.self.rest.now =
     stops_by (fires_reading c.args.areas) (MAX_FIRES - length prefix) tt c.fires.self.rest.now
     (λ j is. elim c.fires-test.branch [ then-fires-test+else-next_is w ↦ cc | else-fires-test w ↦ absurd (omega arith) ]) in
-    stops_at (fires_reading c.args.areas) prefix (MAX_FIRES - length prefix) tt c.fires.self.rest.now c.in_ok-end.end c.end.new.self.rest.now
+    stops_at (fires_reading c.args.areas) prefix (MAX_FIRES - length prefix)
+    tt c.fires.self.rest.now c.in_ok-end.end c.end.new.self.rest.now
     (fires_at c.args.areas c.args.self.now.rest.now) stop c.in_ok-end.ensures c.fires.invariant.whole

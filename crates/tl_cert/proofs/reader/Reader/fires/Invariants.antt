@@ -7,7 +7,8 @@ use Rattle.tl_cert.proofs.reader.Reader.fires.Given as goal
 -- the lines so far and those that are left to read are all, and there is room for the latter
 abbrev pub invariant-fires : goal.invariant-fires
 invariant-fires l = record {
-  whole : Whole (fires_reading l.areas) l.fires (MAX_FIRES - length l.fires) tt l.self.rest.now (fires_at l.areas l.fn.self.rest.now);
+  whole : Whole (fires_reading l.areas) l.fires (MAX_FIRES - length l.fires) tt l.self.rest.now
+      (fires_at l.areas l.fn.self.rest.now);
   room : length l.fires ≤ MAX_FIRES;
 }
 

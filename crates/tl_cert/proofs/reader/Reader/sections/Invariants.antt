@@ -7,7 +7,8 @@ use Rattle.tl_cert.proofs.reader.Reader.sections.Given as goal
 -- the sections so far and those that are left to read are all, and there is room for the latter
 abbrev pub invariant-sections : goal.invariant-sections
 invariant-sections l = record {
-  whole : Whole sections_reading l.sections (MAX_SECTIONS - length l.sections) (l.first, l.asked) l.self.rest.now (sections_at l.fn.areas l.fn.self.rest.now);
+  whole : Whole sections_reading l.sections (MAX_SECTIONS - length l.sections) (l.first, l.asked) l.self.rest.now
+      (sections_at l.fn.areas l.fn.self.rest.now);
   room : length l.sections ≤ MAX_SECTIONS;
 }
 

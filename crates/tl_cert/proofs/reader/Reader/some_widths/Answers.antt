@@ -13,7 +13,8 @@ pub returns-in_err-width : goal.returns-in_err-width
 returns-in_err-width c =
     let p = err_from_is_err_and c.from_residual.result c.from_residual.ensures.1 in
     let prefix = c.widths.widths in
-    let come : comes (more_turn c.widths.more) c.widths.self.rest.now ≡ true = ap (λ more. comes (more_turn more) c.widths.self.rest.now) c.widths-test.true in
+    let come : comes (more_turn c.widths.more) c.widths.self.rest.now ≡ true =
+    ap (λ more. comes (more_turn more) c.widths.self.rest.now) c.widths-test.true in
     rw (p.1, p.2) (fails_on widths_reading c.in_err-width.field-0.0 prefix (MAX_COLUMNS - length prefix)
     (MAX_COLUMNS - 1 - c.len-in-widths.result) c.widths.more c.widths.self.rest.now
     (some_widths_at c.args.self.now.rest.now) (omega arith) come c.in_err-width.ensures c.widths.invariant.whole)
@@ -21,8 +22,10 @@ returns-in_err-width c =
 pub widths-preserved : goal.widths-preserved
 widths-preserved c =
     let prefix = c.widths.widths in
-    let grown : length c.push.new.self ≡ length prefix + 1 = ap length c.in_ok-push.ensures.ok ∙ length_push prefix c.in_ok-width.width in
-    let come : comes (more_turn c.widths.more) c.widths.self.rest.now ≡ true = ap (λ more. comes (more_turn more) c.widths.self.rest.now) c.widths-test.true in
+    let grown : length c.push.new.self ≡ length prefix + 1 =
+    ap length c.in_ok-push.ensures.ok ∙ length_push prefix c.in_ok-width.width in
+    let come : comes (more_turn c.widths.more) c.widths.self.rest.now ≡ true =
+    ap (λ more. comes (more_turn more) c.widths.self.rest.now) c.widths-test.true in
     let k : MAX_COLUMNS - length c.push.new.self ≡ MAX_COLUMNS - 1 - c.len-in-widths.result = omega (arith, grown) in
     record {
       whole = pushed_on widths_reading prefix c.push.new.self (MAX_COLUMNS - length prefix)
@@ -38,7 +41,8 @@ unfolding give
 returns c =
     let prefix = c.widths.widths in
     let room = MAX_COLUMNS - length prefix in
-    let stop : Stops widths_reading room c.widths.more c.widths.self.rest.now = stops_by widths_reading room c.widths.more c.widths.self.rest.now
+    let stop : Stops widths_reading room c.widths.more c.widths.self.rest.now =
+    stops_by widths_reading room c.widths.more c.widths.self.rest.now
     (λ j is. elim c.widths-test.branch [
       | then-widths-test+else-len-lt-MAX_COLUMNS w ↦ absurd (omega arith)
       | else-widths-test w ↦ ap (λ more. comes (more_turn more) c.widths.self.rest.now) w.widths-test.false

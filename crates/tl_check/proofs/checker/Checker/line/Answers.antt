@@ -15,10 +15,12 @@ returns-clause-good c =
     let item = c.index-lines-number.result in
     let is = rw c.as_slice-lines.ensures at c.index-lines-number.is in
     let good = rw (c.as_slice.ensures, c.as_slice-lines.ensures) at c.is_good_line.ensures.good in (
-      λ yes d. subst (IsGoodLine c.args.problem.now trace log c.args.lower c.args.k) (is ∙ get_or_default log c.args.k item d c.requires.number) (good.0 yes),
+      λ yes d. subst (IsGoodLine c.args.problem.now trace log c.args.lower c.args.k)
+          (is ∙ get_or_default log c.args.k item d c.requires.number) (good.0 yes),
       λ all. good.1 (subst (IsGoodLine c.args.problem.now trace log c.args.lower c.args.k) (sym is) (all item)),
     )
 
 pub returns-clause-stays : goal.returns-clause-stays
 returns-clause-stays c =
-    stays-by c.args.problem.now c.args.self.now _ (λ page. c.is_good_line.ensures.page) c.is_good_line.ensures.matrix refl (omega arith)
+    stays-by c.args.problem.now c.args.self.now _ (λ page. c.is_good_line.ensures.page) c.is_good_line.ensures.matrix refl
+    (omega arith)

@@ -8,4 +8,5 @@ is_good_line-requires-clause-mark c = omega (arith, ap length c.requires.reserve
 
 pub returns-clause-stays : goal.returns-clause-stays
 returns-clause-stays c =
-    stays-by c.args.problem.now c.args.self.now _ (λ page. c.is_good_line.ensures.page) c.is_good_line.ensures.matrix refl (omega arith)
+    stays-by c.args.problem.now c.args.self.now _ (λ page. c.is_good_line.ensures.page) c.is_good_line.ensures.matrix refl
+    (omega arith)

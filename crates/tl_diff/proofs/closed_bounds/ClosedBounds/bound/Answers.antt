@@ -9,7 +9,8 @@ use Rattle.tl_diff.proofs.closed_bounds.ClosedBounds.bound.Goals as goal
 
 pub add-self-inside-requires-clause-sound : goal.add-self-inside-requires-clause-sound
 add-self-inside-requires-clause-sound c =
-    let some : IsSatisfiable (bounds_of c.self.inside.variables c.self.inside.rows.items) = rw (sym c.self.view_is) at c.requires.holds in
+    let some : IsSatisfiable (bounds_of c.self.inside.variables c.self.inside.rows.items) =
+    rw (sym c.self.view_is) at c.requires.holds in
     let holds = (IsSatisfiable-sound _ c.self.inside.holds c.self.invariant).1 some in
     rw (c.deref_mut.ensures.value, sym holds) c.self.invariant
 

@@ -12,13 +12,15 @@ use Rattle.tl_diff.proofs.closed_bounds.ClosedBounds.solve_least.Goals as goal
 pub unwrap-requires : goal.unwrap-requires
 unwrap-requires c =
     let n : c.args.self.now.n ≡ c.self.inside.variables = ap (λ b. b.n) (sym c.self.view_is) in
-    IsSome-greatest c.args.self.now c.loop-variable.variable 0 c.upper.result c.upper.ensures.exact (c.requires.bounded c.loop-variable.variable (omega arith))
+    IsSome-greatest c.args.self.now c.loop-variable.variable 0 c.upper.result c.upper.ensures.exact
+    (c.requires.bounded c.loop-variable.variable (omega arith))
 
 pub loop-variable-preserved : goal.loop-variable-preserved
 loop-variable-preserved c = λ k below.
     let n : c.args.self.now.n ≡ c.self.inside.variables = ap (λ b. b.n) (sym c.self.view_is) in
     let small : IsSmall c.unwrap.result = rw c.unwrap.ensures at c.upper.ensures.small in
-    let here : IsGreatest c.args.self.now c.loop-variable.variable 0 c.unwrap.result = rw c.unwrap.ensures at c.upper.ensures.exact in
+    let here : IsGreatest c.args.self.now c.loop-variable.variable 0 c.unwrap.result =
+    rw c.unwrap.ensures at c.upper.ensures.exact in
     let turned : ℤ = to_z w32 (of_z w32 (pos 0 -ℤ to_z w32 (of_z w32 c.unwrap.result))) in
     ⊎_elim
     (λ e.
@@ -33,7 +35,8 @@ loop-variable-preserved c = λ k below.
     ) in
     subst (λ m. IsGreatest c.args.self.now k 0 m) same (subst (λ j. IsGreatest c.args.self.now j 0 c.unwrap.result) (sym e) here))
     (λ apart.
-    let same : neg_ℤ (assignment_of c.loop-variable.out k) ≡ neg_ℤ (assignment_of (set c.loop-variable.out c.loop-variable.variable turned) k) =
+    let same : neg_ℤ (assignment_of c.loop-variable.out k) ≡ neg_ℤ
+    (assignment_of (set c.loop-variable.out c.loop-variable.variable turned) k) =
     ap neg_ℤ (sym (get_or-set_other c.loop-variable.out c.loop-variable.variable k turned (pos 0) apart)) in
     subst (λ m. IsGreatest c.args.self.now k 0 m) same (c.loop-variable.invariant k (omega arith)))
     (cases_eq k c.loop-variable.variable)

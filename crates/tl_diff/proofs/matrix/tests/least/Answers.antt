@@ -7,7 +7,8 @@ use Rattle.tl_diff.proofs.matrix.tests.least.Goals as goal
 
 pub loop-variable-preserved : goal.loop-variable-preserved
 loop-variable-preserved g c = λ k below none.
-    let here = HasGreatest-some c.args.matrix.now.bounds c.loop-variable.variable 0 c.upper.result c.upper.ensures.exact (search rules) in
+    let here = HasGreatest-some c.args.matrix.now.bounds c.loop-variable.variable 0 c.upper.result c.upper.ensures.exact
+    (search rules) in
     ⊎_elim
     (λ e. let free : HasNoGreatest c.args.matrix.now.bounds c.loop-variable.variable 0 = rw e at none in
     IsGreatest-bounded c.args.matrix.now.bounds c.loop-variable.variable 0 here.0 here.1 free)

@@ -2,8 +2,8 @@
 use Rattle.std.proofs.Common.{◌≡◌, ℕ, ◌+◌, ◌-◌, ◌*◌, ◌<◌, length, map, get_or, Option, None, subst, sym, ap, ap₂, ◌∙◌, arith}
 use Rattle.std.specs.List.{All}
 use Rattle.std.proofs.lemmas.List.{length-replicate, with_items_is}
-use Rattle.tl_form.specs.Sound.{place_of}
-use Rattle.tl_form.specs.declared.cell.Table.{out-Table}
+use Rattle.tl_table.specs.Sound.{place_of}
+use Rattle.tl_table.specs.declared.cell.Table.{out-Table}
 use Rattle.tl_grid.specs.Dropping.{IsPlaced}
 use Rattle.tl_page.specs.Corners.{number_over}
 use Rattle.tl_page.proofs.SlotLemmas.{no_number, same_owner}
@@ -25,13 +25,15 @@ returns c = λ column row.
     let table = out-Table c.args.table.now in
     let none : Option ℕ = None in
     let place = (row - 1) * table.cols + (column - 1) in
-    same_owner table.cols table.rows column row (get_or c.from_vec.result place None) (number_over 0 (map place_of table.cells) column row)
+    same_owner table.cols table.rows column row (get_or c.from_vec.result place None)
+    (number_over 0 (map place_of table.cells) column row)
     (λ left right top bottom.
     let before : column - 1 < table.cols = omega arith in
     let this_column : column - 1 + 1 ≡ column = omega arith in
     let this_row : row - 1 + 1 ≡ row = omega arith in
     let empty : get_or c.deref_mut.result.now place none ≡ none =
-    ap (λ slots. get_or slots place none) (c.deref_mut.ensures.value ∙ c.in_ok-slots.ensures) ∙ no_number (table.cols * table.rows) place none in
+    ap (λ slots. get_or slots place none) (c.deref_mut.ensures.value ∙ c.in_ok-slots.ensures) ∙ no_number
+    (table.cols * table.rows) place none in
     ap (λ slots. get_or slots place none) (c.from_vec.ensures ∙ with_items_is c.in_ok-slots.slots c.put_cells.new.slots
     (c.put_cells.auto.slots ∙ c.deref_mut.ensures.len))
     ∙ c.put_cells.ensures (column - 1) (row - 1) before empty

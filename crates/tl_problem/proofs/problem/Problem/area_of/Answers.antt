@@ -31,11 +31,13 @@ returns-clause-bound c =
       | then-add_ranges w ↦
           rw w.bound-is
           (found_area-same p (IsLeft p c.add_ranges.new.matrix.bounds) (InZone p zone)
-          (ranges-zone p zone _ _ base.bounds c.add_ranges.new.matrix c.add_ranges.result adds w.if-add_ranges.true c.requires.work.start.keeps)
+          (ranges-zone p zone _ _ base.bounds c.add_ranges.new.matrix c.add_ranges.result adds w.if-add_ranges.true
+          c.requires.work.start.keeps)
           (ranges-left p zone _ _ base.bounds c.add_ranges.new.matrix c.add_ranges.result adds c.requires.work.start.whole)
           (Some w.area_bound.result) w.area_bound.ensures)
       | else-add_ranges w ↦
           rw w.bound-is
-          (ranges-none p zone _ _ base.bounds c.add_ranges.new.matrix c.add_ranges.result adds w.if-add_ranges.false c.requires.work.start.whole
+          (ranges-none p zone _ _ base.bounds c.add_ranges.new.matrix c.add_ranges.result adds w.if-add_ranges.false
+          c.requires.work.start.whole
           c.add_ranges.ensures.holds.1)
     ]

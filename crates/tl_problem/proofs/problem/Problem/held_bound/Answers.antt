@@ -11,9 +11,12 @@ returns-then-not-holds-clause-bound c = λ widths left.
 
 pub returns-clause-work_of : goal.returns-clause-work_of
 returns-clause-work_of c =
-    let demands = with_items_is c.args.work.now.demands c.bound_in.new.demands (omega (arith, c.bound_in.auto.demands, c.deref_mut.ensures.len)) in
-    let arcs = with_items_is c.args.work.now.arcs c.bound_in.new.arcs (omega (arith, c.bound_in.auto.arcs, c.deref_mut-2.ensures.len)) in
-    let ends = with_items_is c.args.work.now.ends c.bound_in.new.ends (omega (arith, c.bound_in.auto.ends, c.deref_mut-3.ensures.len)) in
+    let demands = with_items_is c.args.work.now.demands c.bound_in.new.demands
+    (omega (arith, c.bound_in.auto.demands, c.deref_mut.ensures.len)) in
+    let arcs = with_items_is c.args.work.now.arcs c.bound_in.new.arcs
+    (omega (arith, c.bound_in.auto.arcs, c.deref_mut-2.ensures.len)) in
+    let ends = with_items_is c.args.work.now.ends c.bound_in.new.ends
+    (omega (arith, c.bound_in.auto.ends, c.deref_mut-3.ensures.len)) in
     record {
       sound = c.requires.sound;
       keeps = c.requires.keeps;

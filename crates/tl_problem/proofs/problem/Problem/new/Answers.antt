@@ -7,23 +7,50 @@ use Rattle.tl_problem.proofs.problem.Problem.new.Goals as goal
 
 pub order-requires : goal.order-requires
 order-requires c =
-    let p : ProblemModel = record { cols = c.args.cols; rows = c.args.rows; style = c.args.style; width = c.args.width; cells = c.args.cells } in
+    let p : ProblemModel = record {
+      cols = c.args.cols;
+      rows = c.args.rows;
+      style = c.args.style;
+      width = c.args.width;
+      cells =
+          c.args.cells;
+    } in
     rw c.as_slice-3.ensures (omega (arith, few-cells p c.requires))
 
 pub order-requires-2 : goal.order-requires-2
 order-requires-2 c =
-    let p : ProblemModel = record { cols = c.args.cols; rows = c.args.rows; style = c.args.style; width = c.args.width; cells = c.args.cells } in
+    let p : ProblemModel = record {
+      cols = c.args.cols;
+      rows = c.args.rows;
+      style = c.args.style;
+      width = c.args.width;
+      cells =
+          c.args.cells;
+    } in
     rw c.as_slice-4.ensures (omega (arith, few-cells p c.requires))
 
 pub invariant_of-result : goal.invariant_of-result
 invariant_of-result c =
-    let p : ProblemModel = record { cols = c.args.cols; rows = c.args.rows; style = c.args.style; width = c.args.width; cells = c.args.cells } in
+    let p : ProblemModel = record {
+      cols = c.args.cols;
+      rows = c.args.rows;
+      style = c.args.style;
+      width = c.args.width;
+      cells =
+          c.args.cells;
+    } in
     let each = spans-found p c.requires c.in_ok-spans.spans.items (rw c.as_slice.ensures at c.in_ok-spans.ensures) in
     record {
       sound = c.requires;
       each_span = each;
       each_class = classes-found p c.in_ok-classes.classes.items
-          (rw (c.as_slice-2.ensures, c.saturating_sub-page_room.ensures, c.edge.ensures, c.deref.ensures.value, each) at c.in_ok-classes.ensures);
+          (rw (
+            c.as_slice-2.ensures,
+            c.saturating_sub-page_room.ensures,
+            c.edge.ensures,
+            c.deref.ensures.value,
+            each,
+          ) at c.in_ok-classes.ensures);
       columns = rw c.as_slice-3.ensures at c.in_ok-by_left.ensures;
       rows = rw c.as_slice-4.ensures at c.in_ok-by_top.ensures;
     }

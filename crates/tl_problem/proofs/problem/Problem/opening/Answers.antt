@@ -10,12 +10,14 @@ least_sizes-requires-clause-fits c = rw c.deref.ensures.value
 pub place_under-requires : goal.place_under-requires
 place_under-requires c =
     rw c.as_slice.ensures
-    (page-give c.args.self.now c.cells-cells.ensures.sound c.in_ok-demands.demands.items c.in_ok-widths.widths c.in_ok-demands.ensures
+    (page-give c.args.self.now c.cells-cells.ensures.sound c.in_ok-demands.demands.items c.in_ok-widths.widths
+    c.in_ok-demands.ensures
     (rw c.deref.ensures.value at c.in_ok-widths.ensures.least))
 
 pub returns : goal.returns
 returns c =
-    let least = page-least c.args.self.now c.cells-cells.ensures.sound c.in_ok-demands.demands.items c.in_ok-widths.widths c.in_ok-demands.ensures
+    let least = page-least c.args.self.now c.cells-cells.ensures.sound c.in_ok-demands.demands.items c.in_ok-widths.widths
+    c.in_ok-demands.ensures
     (rw c.deref.ensures.value at c.in_ok-widths.ensures.least) in
     record {
       columns = rw (c.in_ok-placed.ensures.1, c.as_slice.ensures) least;

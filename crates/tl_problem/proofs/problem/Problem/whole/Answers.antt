@@ -12,12 +12,16 @@ pub overflow_sub-len : goal.overflow_sub-len
 overflow_sub-len c =
     let p = c.args.self.now in
     let k = c.loop-classes.classes-index in
-    let parts : HasParts p c.self.inside.spans.items c.self.inside.classes.items c.self.inside.by_left.items c.self.inside.by_top.items =
-    subst (λ q. HasParts q c.self.inside.spans.items c.self.inside.classes.items c.self.inside.by_left.items c.self.inside.by_top.items)
+    let parts : HasParts p c.self.inside.spans.items c.self.inside.classes.items c.self.inside.by_left.items
+    c.self.inside.by_top.items =
+    subst (λ q. HasParts q c.self.inside.spans.items c.self.inside.classes.items c.self.inside.by_left.items
+    c.self.inside.by_top.items)
     c.self.view_is c.self.invariant in
-    let are : c.deref-classes-items.result.now ≡ map (classes_of p) (spans_of p) = c.deref-classes-items.ensures.value ∙ parts.each_class in
+    let are : c.deref-classes-items.result.now ≡ map (classes_of p) (spans_of p) =
+    c.deref-classes-items.ensures.value ∙ parts.each_class in
     let within : k < length (spans_of p) = omega (arith, ap length are, length-map (spans_of p) (classes_of p)) in
-    let at = c.classes-item.is ∙ ap (λ items. get_or items k c.classes-item.result) are ∙ get_or-map (classes_of p) (spans_of p) k (span 0 0)
+    let at = c.classes-item.is ∙ ap (λ items. get_or items k c.classes-item.result) are ∙ get_or-map (classes_of p) (spans_of p)
+    k (span 0 0)
     c.classes-item.result within in
     omega (arith, c.len.ensures, ap length at, (classes-few p parts.sound k within).0)
 
@@ -25,12 +29,16 @@ pub overflow_cast-len : goal.overflow_cast-len
 overflow_cast-len c =
     let p = c.args.self.now in
     let k = c.loop-classes.classes-index in
-    let parts : HasParts p c.self.inside.spans.items c.self.inside.classes.items c.self.inside.by_left.items c.self.inside.by_top.items =
-    subst (λ q. HasParts q c.self.inside.spans.items c.self.inside.classes.items c.self.inside.by_left.items c.self.inside.by_top.items)
+    let parts : HasParts p c.self.inside.spans.items c.self.inside.classes.items c.self.inside.by_left.items
+    c.self.inside.by_top.items =
+    subst (λ q. HasParts q c.self.inside.spans.items c.self.inside.classes.items c.self.inside.by_left.items
+    c.self.inside.by_top.items)
     c.self.view_is c.self.invariant in
-    let are : c.deref-classes-items.result.now ≡ map (classes_of p) (spans_of p) = c.deref-classes-items.ensures.value ∙ parts.each_class in
+    let are : c.deref-classes-items.result.now ≡ map (classes_of p) (spans_of p) =
+    c.deref-classes-items.ensures.value ∙ parts.each_class in
     let within : k < length (spans_of p) = omega (arith, ap length are, length-map (spans_of p) (classes_of p)) in
-    let at = c.classes-item.is ∙ ap (λ items. get_or items k c.classes-item.result) are ∙ get_or-map (classes_of p) (spans_of p) k (span 0 0)
+    let at = c.classes-item.is ∙ ap (λ items. get_or items k c.classes-item.result) are ∙ get_or-map (classes_of p) (spans_of p)
+    k (span 0 0)
     c.classes-item.result within in
     omega (arith, c.len.ensures, ap length at, (classes-few p parts.sound k within).1)
 
@@ -38,10 +46,13 @@ pub returns : goal.returns
 returns c =
     let p = c.args.self.now in
     let items = c.deref-classes-items.result.now in
-    let parts : HasParts p c.self.inside.spans.items c.self.inside.classes.items c.self.inside.by_left.items c.self.inside.by_top.items =
-    subst (λ q. HasParts q c.self.inside.spans.items c.self.inside.classes.items c.self.inside.by_left.items c.self.inside.by_top.items)
+    let parts : HasParts p c.self.inside.spans.items c.self.inside.classes.items c.self.inside.by_left.items
+    c.self.inside.by_top.items =
+    subst (λ q. HasParts q c.self.inside.spans.items c.self.inside.classes.items c.self.inside.by_left.items
+    c.self.inside.by_top.items)
     c.self.view_is c.self.invariant in
     let are : items ≡ map (classes_of p) (spans_of p) = c.deref-classes-items.ensures.value ∙ parts.each_class in
     let all = take_all c.loop-classes.classes-index items (omega arith) in
-    c.from_ranges.ensures ∙ c.loop-classes.invariant ∙ ap (map (λ (firsts : List ℕ). range 0 (length firsts - 1))) (all ∙ are) ∙ map-map
+    c.from_ranges.ensures ∙ c.loop-classes.invariant ∙ ap (map (λ (firsts : List ℕ). range 0 (length firsts - 1)))
+    (all ∙ are) ∙ map-map
     (λ (firsts : List ℕ). range 0 (length firsts - 1)) (classes_of p) (spans_of p)

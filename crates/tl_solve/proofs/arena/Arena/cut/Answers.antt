@@ -8,17 +8,21 @@ use Rattle.tl_solve.proofs.arena.Arena.cut.Goals as goal
 pub cut-requires-clause-span : goal.cut-requires-clause-span
 cut-requires-clause-span c =
     let old = c.args.self.now in
-    let same = arena-item c.args.problem.now old c.requires.arena c.args.cut.zone c.index.result.now c.requires.cut.stands.there c.index.ensures in
-    subst (λ zone. c.args.cut.span < length zone) (sym same) (cut-span c.args.problem.now old c.requires.arena c.args.cut c.requires.cut)
+    let same = arena-item c.args.problem.now old c.requires.arena c.args.cut.zone c.index.result.now c.requires.cut.stands.there
+    c.index.ensures in
+    subst (λ zone. c.args.cut.span < length zone) (sym same)
+    (cut-span c.args.problem.now old c.requires.arena c.args.cut c.requires.cut)
 
 pub cut-requires-clause-first : goal.cut-requires-clause-first
 cut-requires-clause-first c =
-    let same = arena-item c.args.problem.now c.args.self.now c.requires.arena c.args.cut.zone c.index.result.now c.requires.cut.stands.there c.index.ensures in
+    let same = arena-item c.args.problem.now c.args.self.now c.requires.arena c.args.cut.zone c.index.result.now
+    c.requires.cut.stands.there c.index.ensures in
     subst (λ zone. (range_at zone c.args.cut.span).first ≤ c.args.cut.class) (sym same) c.requires.cut.lower
 
 pub cut-requires-clause-last : goal.cut-requires-clause-last
 cut-requires-clause-last c =
-    let same = arena-item c.args.problem.now c.args.self.now c.requires.arena c.args.cut.zone c.index.result.now c.requires.cut.stands.there c.index.ensures in
+    let same = arena-item c.args.problem.now c.args.self.now c.requires.arena c.args.cut.zone c.index.result.now
+    c.requires.cut.stands.there c.index.ensures in
     subst (λ zone. c.args.cut.class < (range_at zone c.args.cut.span).last) (sym same) c.requires.cut.upper
 
 pub look-requires-clause-zone : goal.look-requires-clause-zone
@@ -28,7 +32,8 @@ look-requires-clause-zone c =
     let cut = c.args.cut in
     let zone = zone_of p old.trace cut.zone in
     let same = arena-item p old c.requires.arena cut.zone c.index.result.now c.requires.cut.stands.there c.index.ensures in
-    let low : c.in_ok-lower.lower ≡ lower_part zone cut.span cut.class = c.in_ok-lower.ensures.lower ∙ ap (λ z. lower_part z cut.span cut.class) same in
+    let low : c.in_ok-lower.lower ≡ lower_part zone cut.span cut.class =
+    c.in_ok-lower.ensures.lower ∙ ap (λ z. lower_part z cut.span cut.class) same in
     subst (IsZone p) (sym low) (lower-is_zone p c.requires.arena.work.sound zone
     (arena-zone p old c.requires.arena cut.zone c.requires.cut.stands.there) cut.span cut.class
     (cut-span p old c.requires.arena cut c.requires.cut) c.requires.cut.lower c.requires.cut.upper)
@@ -40,7 +45,8 @@ look-requires-2-clause-zone c =
     let cut = c.args.cut in
     let zone = zone_of p old.trace cut.zone in
     let same = arena-item p old c.requires.arena cut.zone c.index.result.now c.requires.cut.stands.there c.index.ensures in
-    let high : c.in_ok-lower.upper ≡ upper_part zone cut.span cut.class = c.in_ok-lower.ensures.upper ∙ ap (λ z. upper_part z cut.span cut.class) same in
+    let high : c.in_ok-lower.upper ≡ upper_part zone cut.span cut.class =
+    c.in_ok-lower.ensures.upper ∙ ap (λ z. upper_part z cut.span cut.class) same in
     subst (IsZone p) (sym high) (upper-is_zone p c.requires.arena.work.sound zone
     (arena-zone p old c.requires.arena cut.zone c.requires.cut.stands.there) cut.span cut.class
     (cut-span p old c.requires.arena cut c.requires.cut) c.requires.cut.lower c.requires.cut.upper)

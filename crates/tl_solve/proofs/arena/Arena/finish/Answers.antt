@@ -4,7 +4,8 @@ use Rattle.tl_solve.proofs.arena.Arena.finish.Goals as goal
 
 pub finish_at-requires-clause-standing : goal.finish_at-requires-clause-standing
 finish_at-requires-clause-standing c =
-    least-proves c.args.problem.now c.args.self.trace c.args.self.bounds.items c.args.self.best.height c.in_ok-lower.lower c.requires.arena.bounds
+    least-proves c.args.problem.now c.args.self.trace c.args.self.bounds.items c.args.self.best.height c.in_ok-lower.lower
+    c.requires.arena.bounds
     c.in_ok-lower.ensures
 
 pub finish_at-requires-clause-enough : goal.finish_at-requires-clause-enough

@@ -13,7 +13,8 @@ use Rattle.tl_solve.proofs.arena.Arena.first_cut.Goals as goal
 
 pub index-requires-2 : goal.index-requires-2
 index-requires-2 c =
-    let count = zones-count (whole_zone c.args.problem.now) c.args.self.now.trace c.args.self.now.zones.items c.requires.arena.zones in
+    let count = zones-count (whole_zone c.args.problem.now) c.args.self.now.trace c.args.self.now.zones.items
+    c.requires.arena.zones in
     omega (arith, count, c.requires.there)
 
 pub first_open-requires : goal.first_open-requires

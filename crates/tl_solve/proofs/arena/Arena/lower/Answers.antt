@@ -10,5 +10,6 @@ returns c =
     let trace = c.args.self.now.trace in
     least-standing p trace c.deref.result.now c.deref-2.result.now
     (subst (AreCutsOf trace (length trace)) (sym c.deref.ensures.value) c.in_ok-cuts.ensures)
-    (subst (AreBoundsOf p trace) (sym c.deref-2.ensures.value) c.requires.bounds) c.args.self.now.best.height c.least_standing.result
+    (subst (AreBoundsOf p trace) (sym c.deref-2.ensures.value) c.requires.bounds)
+    c.args.self.now.best.height c.least_standing.result
     c.least_standing.ensures

@@ -4,9 +4,10 @@ use Rattle.std.proofs.lemmas.Bool.{cases_lt}
 use Rattle.tl_base.proofs.Options.{match-none}
 use Rattle.tl_cert.specs.Traces.{zone_of}
 use Rattle.tl_cert.specs.Worked.{IsClosed}
-use Rattle.tl_solve.specs.inner.Walk.{IsStack, KeepsOrder}
+use Rattle.tl_solve.specs.inner.Walk.{IsStack, KeepsClassOrder}
 use Rattle.tl_solve.proofs.ArenaLaws.{arena-keen, arena-zone, lowered-le}
-use Rattle.tl_solve.proofs.WalkLaws.{top-stands, stack-start, order-start, stack-closed, stack-cut, order-cut, stack-end, first-is_cut, plain-ends}
+use Rattle.tl_solve.proofs.WalkLaws.{top-stands, stack-start, order-start, stack-closed, stack-cut, order-cut, stack-end}
+use Rattle.tl_solve.proofs.WalkLaws.{first-is_cut, plain-ends}
 use Rattle.tl_solve.proofs.WalkLaws.{plain-outcome}
 use Rattle.tl_solve.proofs.plain.PlainSolver.solve.Goals as goal
 
@@ -16,7 +17,8 @@ loop-zone-init c =
     record {
       arena = c.in_ok-arena.ensures.arena;
       within = omega (arith, ap length none);
-      on_stack = stack-start c.args.problem.now c.in_ok-arena.arena.best.height c.in_ok-arena.arena.trace c.push.new.self.items none
+      on_stack = stack-start c.args.problem.now c.in_ok-arena.arena.best.height c.in_ok-arena.arena.trace c.push.new.self.items
+          none
           (c.in_ok-push.ensures.items ∙ ap (λ zs. zs ++ 0 ∷ []) c.new-stack.ensures.items);
       order = order-start c.args.problem.now c.in_ok-arena.arena.trace none;
     }
@@ -45,7 +47,8 @@ loop-zone-preserved c =
     let arena = c.loop-zone.arena in
     let z = c.in-Some.zone in
     let on = subst (IsStack p arena.trace arena.best.height) c.in-Some.ensures.items c.loop-zone.invariant.on_stack in
-    let closed = match-none c.first_cut.result (IsClosed p (zone_of p arena.trace z) arena.best.height) (λ _. Unit {0}) c.first_cut.ensures.closed
+    let closed = match-none c.first_cut.result (IsClosed p (zone_of p arena.trace z) arena.best.height) (λ _. Unit {0})
+    c.first_cut.ensures.closed
     c.in_default-first_cut.not-Some in
     record {
       arena = c.loop-zone.invariant.arena;
@@ -75,10 +78,13 @@ loop-zone-preserved-in-Continue-branch-5 c =
     let longer : c.cut.new.self.trace ≡ trace ++ cut ∷ [] = c.in_ok-cut.ensures.trace in
     let items : c.push-in-Some-first_cut-2.new.self.items ≡ (stack ++ (2 * made + 2) ∷ []) ++ (2 * made + 1) ∷ [] =
     c.in_ok-push-3.ensures.items ∙ ap (λ s. s ++ (2 * made + 1) ∷ []) c.in_ok-push-2.ensures.items in
-    let numbered : c.push-in-Some-first_cut-2.new.self.items ≡ (stack ++ (2 * length trace + 2) ∷ []) ++ (2 * length trace + 1) ∷ [] =
+    let numbered : c.push-in-Some-first_cut-2.new.self.items ≡ (stack ++ (2 * length trace + 2) ∷ []) ++
+    (2 * length trace + 1) ∷ [] =
     items ∙ ap (λ n. (stack ++ (2 * n + 2) ∷ []) ++ (2 * n + 1) ∷ []) c.cuts-made.ensures in
-    let parts = stack-cut p trace height stack z on cut top is.trace_of now best (lowered-le arena.best c.cut.new.self.best c.in_ok-cut.ensures.lowered) in
-    let kept = order-cut p trace height stack z on cut top is.trace_of now c.loop-zone.invariant.order first c.in-Some-first_cut.ensures.below
+    let parts = stack-cut p trace height stack z on cut top is.trace_of now best
+    (lowered-le arena.best c.cut.new.self.best c.in_ok-cut.ensures.lowered) in
+    let kept = order-cut p trace height stack z on cut top is.trace_of now c.loop-zone.invariant.order first
+    c.in-Some-first_cut.ensures.below
     (arena-keen p is.work.sound arena is) in
     let count = ap length longer ∙ length-append trace (cut ∷ []) in
     record {
@@ -89,18 +95,20 @@ loop-zone-preserved-in-Continue-branch-5 c =
       ];
       on_stack = subst (λ t. IsStack p t best c.push-in-Some-first_cut-2.new.self.items) (sym longer)
           (subst (IsStack p (trace ++ cut ∷ []) best) (sym numbered) parts);
-      order = subst (KeepsOrder p) (sym longer) kept;
+      order = subst (KeepsClassOrder p) (sym longer) kept;
     }
 
 pub finish-requires-2-clause-ended : goal.finish-requires-2-clause-ended
 finish-requires-2-clause-ended c =
     let empty = match-none c.pop.result _ _ c.pop.ensures.cases c.in_default.not-Some in
     let none : length c.loop-zone.stack.items ≡ 0 = omega (arith, empty.0, c.loop-zone.stack.ok) in
-    inr (stack-end c.args.problem.now c.loop-zone.arena.trace c.loop-zone.arena.best.height c.loop-zone.stack.items none c.loop-zone.invariant.on_stack)
+    inr (stack-end c.args.problem.now c.loop-zone.arena.trace c.loop-zone.arena.best.height c.loop-zone.stack.items none
+    c.loop-zone.invariant.on_stack)
 
 pub returns-then-made-budget-clause-besides : goal.returns-then-made-budget-clause-besides
 returns-then-made-budget-clause-besides c =
-    plain-ends c.args.problem.now c.loop-zone.arena c.loop-zone.invariant.arena c.loop-zone.invariant.order c.finish.result c.finish.ensures.best
+    plain-ends c.args.problem.now c.loop-zone.arena c.loop-zone.invariant.arena c.loop-zone.invariant.order c.finish.result
+    c.finish.ensures.best
     c.finish.ensures.trace
 
 pub returns-clause-besides : goal.returns-clause-besides

@@ -14,12 +14,14 @@ returns-then-not-has_text-clause-text c = c.has_text.ensures.closed c.if-not-has
 pub returns-then-not-has_text-clause-tokens : goal.returns-then-not-has_text-clause-tokens
 returns-then-not-has_text-clause-tokens c =
     let s = c.args.self.now in
-    sym (append-nil s.tokens) ∙ ap (λ x. s.tokens ++ with_text x s.first s.past []) (sym (c.has_text.ensures.closed c.if-not-has_text.true))
+    sym (append-nil s.tokens) ∙ ap (λ x. s.tokens ++ with_text x s.first s.past [])
+    (sym (c.has_text.ensures.closed c.if-not-has_text.true))
 
 pub returns-clause-tokens : goal.returns-clause-tokens
 returns-clause-tokens c =
     let s = c.args.self.now in
-    c.in_ok-push.ensures.ok ∙ ap (λ x. s.tokens ++ token (Text x) s.first s.past ∷ []) (c.in_ok-text.ensures ∙ ap chars c.as_str.ensures.value)
+    c.in_ok-push.ensures.ok ∙ ap (λ x. s.tokens ++ token (Text x) s.first s.past ∷ [])
+    (c.in_ok-text.ensures ∙ ap chars c.as_str.ensures.value)
     ∙ ap (λ x. s.tokens ++ x) (sym (some_text (open_text s) s.first s.past [] (c.has_text.ensures.open c.if-not-has_text.false)))
 
 pub returns-clause-text : goal.returns-clause-text

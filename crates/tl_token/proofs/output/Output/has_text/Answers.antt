@@ -9,7 +9,8 @@ pub returns-clause-open : goal.returns-clause-open
 returns-clause-open c = λ h.
     let bs = string_bytes c.args.self.now.text in
     chars_some bs (IsUtf8-string_bytes c.args.self.now.text)
-    (λ e. false≢true (sym (ap not (c.is_empty.ensures ∙ eq-eqb (length c.as_str.result.now) 0 (ap length c.as_str.ensures.value ∙ e))) ∙ h))
+    (λ e. false≢true (sym (ap not (c.is_empty.ensures ∙ eq-eqb (length c.as_str.result.now) 0
+    (ap length c.as_str.ensures.value ∙ e))) ∙ h))
 
 pub returns-clause-closed : goal.returns-clause-closed
 returns-clause-closed c = λ h.

@@ -22,7 +22,8 @@ pub returns-in_err-value : goal.returns-in_err-value
 returns-in_err-value c =
     let (all, given, gap, h) = c.loop-self.invariant in
     let cs = unread c.loop-self.self in
-    attributes_failed c.from_residual.result c.in_err-value.field-0.0 (unread c.args.self.now) (unread c.value.new.self) c.from_residual.ensures.1
+    attributes_failed c.from_residual.result c.in_err-value.field-0.0 (unread c.args.self.now) (unread c.value.new.self)
+    c.from_residual.ensures.1
     (λ t. ap tag_found (h t ∙ name_read (with_more t all) cs (sym c.is_at.ensures ∙ c.loop-self-test.true)
     ∙ ap (read (in_name (with_more t all) (run is_name_character cs))) (sym c.run-name.ensures.past))
     ∙ c.in_err-value.ensures.value (with_more t all) (run is_name_character cs))
@@ -48,9 +49,11 @@ loop-self-preserved c =
     let more = all ++ attribute name value ∷ [] in (
       more,
       c.add.ensures ∙ ap (λ (g : Given). given_after g (attribute (chars c.run-name.result.now) value)) given
-          ∙ ap (λ n. given_after (given_of all) (attribute n value)) c.run-name.ensures.run ∙ sym (given_of-push all (attribute name value)),
+          ∙ ap (λ n. given_after (given_of all) (attribute n value)) c.run-name.ensures.run ∙ sym
+          (given_of-push all (attribute name value)),
       c.run-in-loop-self.ensures.ended,
-      λ t. so_far_more (unread c.args.self.now) cs (unread c.value.new.self) value all h (sym c.is_at.ensures ∙ c.loop-self-test.true)
+      λ t. so_far_more (unread c.args.self.now) cs (unread c.value.new.self) value all h
+          (sym c.is_at.ensures ∙ c.loop-self-test.true)
           (λ u n. ap (read (in_name u n)) (sym c.run-name.ensures.past) ∙ c.in_ok-value.ensures.value u n) t
           ∙ ap (read (between (with_more t more))) (sym c.run-in-loop-self.ensures.past),
     )

@@ -9,7 +9,8 @@ use Rattle.tl_token.proofs.reader.Reader.given_value.Goals as goal
 pub returns-then-eat-clause-value : goal.returns-then-eat-clause-value
 returns-then-eat-clause-value c =
     let begun = eats_true 34 c.eat.result _ _ c.if-eat.true c.eat.ensures in
-    reads_from (λ t n. in_quotes t n 34 []) before_value (λ v. chars v.now) c.quoted.result (unread c.args.self.now) (unread c.eat.new.self)
+    reads_from (λ t n. in_quotes t n 34 []) before_value (λ v. chars v.now) c.quoted.result (unread c.args.self.now)
+    (unread c.eat.new.self)
     (unread c.quoted.new.self) c.quoted.ensures.value (λ t n. ap (read (before_value t n)) begun)
 
 pub returns-then-eat-2-clause-value : goal.returns-then-eat-2-clause-value

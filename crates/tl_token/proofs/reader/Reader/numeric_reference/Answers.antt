@@ -15,6 +15,8 @@ returns-in_ok-digits c =
     ap (λ b. cond b (referred meaning (ended_run is_ascii_hexdigit (drop 1 cs)))
     (referred (λ digits. numbered_character (number 10 digits)) (ended_run is_ascii_digit cs)))
     (sym c.is_at.ensures ∙ c.if-is_at.true)
-    ∙ ap (λ x. referred meaning (ended_run is_ascii_hexdigit x)) (sym c.pass.ensures) ∙ ap (referred meaning) c.in_ok-digits.ensures
+    ∙ ap (λ x. referred meaning (ended_run is_ascii_hexdigit x)) (sym c.pass.ensures) ∙ ap (referred meaning)
+    c.in_ok-digits.ensures
     ∙ ap (λ (x : Option ℕ). Some (x, rest))
-    (sym (c.numbered_character.ensures ∙ ap numbered_character c.number.ensures ∙ numbered_below (number 16 (chars c.in_ok-digits.digits.now))))
+    (sym (c.numbered_character.ensures ∙ ap numbered_character c.number.ensures ∙ numbered_below
+    (number 16 (chars c.in_ok-digits.digits.now))))

@@ -23,4 +23,5 @@ pub returns-else-eat-clause-value : goal.returns-else-eat-clause-value
 returns-else-eat-clause-value c = λ t n.
     let quote = c.args.quote in
     let stopped = eats_false quote c.eat.result _ _ c.if-eat.false c.eat.ensures in
-    ap tag_found (quoted_stops t n (unread c.args.self.now) quote (ap (begins (λ d. eqb d quote)) (sym c.run-value.ensures.past) ∙ stopped.1))
+    ap tag_found (quoted_stops t n (unread c.args.self.now) quote
+    (ap (begins (λ d. eqb d quote)) (sym c.run-value.ensures.past) ∙ stopped.1))

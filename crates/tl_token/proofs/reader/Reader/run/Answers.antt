@@ -10,7 +10,8 @@ use Rattle.tl_token.proofs.reader.Reader.run.Goals as goal
 pub loop-class-preserved : goal.loop-class-preserved
 loop-class-preserved c =
     let (prefix, passed) = c.loop-class.invariant in
-    let (d, is, within) = next_passed (is_in c.args.class) _ _ c.next.result (sym c.is_at.ensures ∙ c.loop-class-test.true) c.next.ensures in
+    let (d, is, within) = next_passed (is_in c.args.class) _ _ c.next.result (sym c.is_at.ensures ∙ c.loop-class-test.true)
+    c.next.ensures in
     (_, Passed-more _ _ prefix _ _ d passed is within)
 
 pub overflow_sub-text : goal.overflow_sub-text
@@ -19,7 +20,8 @@ overflow_sub-text c =
     let rest = c.loop-class.self.rest.now in
     let (prefix, passed) = c.loop-class.invariant in
     let e : text ≡ encodes prefix ++ rest =
-    bytes_passed text rest prefix (IsUtf8-had text c.args.self.now.text) (IsUtf8-had rest c.loop-class.self.text) passed.whole_is in
+    bytes_passed text rest prefix (IsUtf8-had text c.args.self.now.text) (IsUtf8-had rest c.loop-class.self.text)
+    passed.whole_is in
     omega (arith, length-append (encodes prefix) rest, ap length e)
 
 pub range-requires-clause-end_boundary : goal.range-requires-clause-end_boundary
@@ -36,7 +38,8 @@ returns-clause-run c =
     let rest = c.loop-class.self.rest.now in
     let (prefix, passed) = c.loop-class.invariant in
     let u = IsUtf8-had text c.args.self.now.text in
-    let e : text ≡ encodes prefix ++ rest = bytes_passed text rest prefix u (IsUtf8-had rest c.loop-class.self.text) passed.whole_is in
+    let e : text ≡ encodes prefix ++ rest = bytes_passed text rest prefix u (IsUtf8-had rest c.loop-class.self.text)
+    passed.whole_is in
     let cut : c.range.result.now ≡ take (length text - length rest) text = grind (arith, common_steps, c.range.ensures.value) in
     ap chars cut ∙ chars_passed text rest prefix u e passed.whole_is
     ∙ sym (Passed-run _ _ prefix _ passed (sym c.is_at.ensures ∙ c.loop-class-test.false))

@@ -25,9 +25,11 @@ pub returns-in_err-given : goal.returns-in_err-given
 returns-in_err-given c =
     let new = unread c.eat-is_end.new.self in
     let letter = sym c.is_at.ensures ∙ c.if-not-is_at.false in
-    let close = ap (begins (λ d. is_gap d || d ∈ ">")) (sym c.run-name.ensures.past) ∙ sym c.is_at-2.ensures ∙ c.if-not-is_at-2.false in
+    let close = ap (begins (λ d. is_gap d || d ∈ ">")) (sym c.run-name.ensures.past) ∙ sym
+    c.is_at-2.ensures ∙ c.if-not-is_at-2.false in
     let t = empty_tag c.eat-is_end.result (run is_ascii_alphanumeric new) in
-    failed_with (λ r. found_of r (unread c.attributes.new.self) ≡ tag_found (read Rattle.tl_token.specs.inner.States.tag_open (unread c.args.self.now)))
+    failed_with (λ r. found_of r (unread c.attributes.new.self) ≡ tag_found
+    (read Rattle.tl_token.specs.inner.States.tag_open (unread c.args.self.now)))
     c.from_residual.result c.in_err-given.field-0.0 c.from_residual.ensures.1
     (sym (ap tag_found (tag_attributes (unread c.args.self.now) new c.eat-is_end.result c.eat-is_end.ensures letter close
     ∙ ap (read (between t)) (sym c.run-name.ensures.past))
@@ -37,20 +39,23 @@ pub returns-in_default : goal.returns-in_default
 returns-in_default c =
     let new = unread c.eat-is_end.new.self in
     let letter = sym c.is_at.ensures ∙ c.if-not-is_at.false in
-    let close = ap (begins (λ d. is_gap d || d ∈ ">")) (sym c.run-name.ensures.past) ∙ sym c.is_at-2.ensures ∙ c.if-not-is_at-2.false in
+    let close = ap (begins (λ d. is_gap d || d ∈ ">")) (sym c.run-name.ensures.past) ∙ sym
+    c.is_at-2.ensures ∙ c.if-not-is_at-2.false in
     let name = run is_ascii_alphanumeric new in
     let t = empty_tag c.eat-is_end.result name in
     let (all, given, h) = c.in_ok-given.ensures in
     let rest = unread c.attributes.new.self in
     sym (ap tag_found (tag_attributes (unread c.args.self.now) new c.eat-is_end.result c.eat-is_end.ensures letter close
     ∙ ap (read (between t)) (sym c.run-name.ensures.past) ∙ h t)
-    ∙ ap (known_or_not (with_more t all) rest) (ap element_of (sym c.run-name.ensures.run) ∙ sym c.named.ensures ∙ c.in_default.is))
+    ∙ ap (known_or_not (with_more t all) rest) (ap element_of
+    (sym c.run-name.ensures.run) ∙ sym c.named.ensures ∙ c.in_default.is))
 
 pub returns-then-is_end : goal.returns-then-is_end
 returns-then-is_end c =
     let new = unread c.eat-is_end.new.self in
     let letter = sym c.is_at.ensures ∙ c.if-not-is_at.false in
-    let close = ap (begins (λ d. is_gap d || d ∈ ">")) (sym c.run-name.ensures.past) ∙ sym c.is_at-2.ensures ∙ c.if-not-is_at-2.false in
+    let close = ap (begins (λ d. is_gap d || d ∈ ">")) (sym c.run-name.ensures.past) ∙ sym
+    c.is_at-2.ensures ∙ c.if-not-is_at-2.false in
     let name = run is_ascii_alphanumeric new in
     let t = empty_tag c.eat-is_end.result name in
     let (all, given, h) = c.in_ok-given.ensures in
@@ -65,7 +70,8 @@ pub returns-else-is_end : goal.returns-else-is_end
 returns-else-is_end c =
     let new = unread c.eat-is_end.new.self in
     let letter = sym c.is_at.ensures ∙ c.if-not-is_at.false in
-    let close = ap (begins (λ d. is_gap d || d ∈ ">")) (sym c.run-name.ensures.past) ∙ sym c.is_at-2.ensures ∙ c.if-not-is_at-2.false in
+    let close = ap (begins (λ d. is_gap d || d ∈ ">")) (sym c.run-name.ensures.past) ∙ sym
+    c.is_at-2.ensures ∙ c.if-not-is_at-2.false in
     let name = run is_ascii_alphanumeric new in
     let t = empty_tag c.eat-is_end.result name in
     let (all, given, h) = c.in_ok-given.ensures in

@@ -11,9 +11,11 @@ use Rattle.tl_token.proofs.reader.Reader.value.Goals as goal
 pub returns-then-eat-clause-value : goal.returns-then-eat-clause-value
 returns-then-eat-clause-value c =
     let after = sym c.run.ensures.past ∙ eats_true 61 c.eat.result _ _ c.if-eat.true c.eat.ensures in
-    reads_from before_value in_name (λ v. chars v.now) c.given_value.result (unread c.args.self.now) (unread c.run-then-eat.new.self)
+    reads_from before_value in_name (λ v. chars v.now) c.given_value.result (unread c.args.self.now)
+    (unread c.run-then-eat.new.self)
     (unread c.given_value.new.self) c.given_value.ensures.value
-    (λ t n. name_equals t n (unread c.args.self.now) (unread c.eat.new.self) after ∙ ap (read (before_value t n)) (sym c.run-then-eat.ensures.past))
+    (λ t n. name_equals t n (unread c.args.self.now) (unread c.eat.new.self) after ∙ ap (read (before_value t n))
+    (sym c.run-then-eat.ensures.past))
 
 pub returns-then-eat-clause-no_longer : goal.returns-then-eat-clause-no_longer
 returns-then-eat-clause-no_longer c =

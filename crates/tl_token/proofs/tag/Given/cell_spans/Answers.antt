@@ -9,6 +9,8 @@ pub returns : goal.returns
 returns c = λ all e.
     let colspan = c.columns.ensures ∙ ap columns_of (c.unwrap_or.ensures ∙ ap (λ (g : Given). unwrap_or (g.colspan) None) e)
     ∙ columns_in (codes "colspan") all in
-    let rowspan = c.rows.ensures ∙ ap rows_of (c.unwrap_or-2.ensures ∙ ap (λ (g : Given). unwrap_or (g.rowspan) None) e) ∙ rows_in (codes "rowspan") all in
-    let least = c.floor.ensures ∙ ap floor_of (c.unwrap_or-3.ensures ∙ ap (λ (g : Given). unwrap_or (g.least) None) e) ∙ floor_in (codes "data-min") all in
+    let rowspan = c.rows.ensures ∙ ap rows_of (c.unwrap_or-2.ensures ∙ ap (λ (g : Given). unwrap_or (g.rowspan) None)
+    e) ∙ rows_in (codes "rowspan") all in
+    let least = c.floor.ensures ∙ ap floor_of (c.unwrap_or-3.ensures ∙ ap (λ (g : Given). unwrap_or (g.least) None)
+    e) ∙ floor_in (codes "data-min") all in
     λ i. record { colspan = colspan i; rowspan = rowspan i; span = 1; least = least i }

@@ -12,7 +12,8 @@ invariant_of-self c =
     record {
       whole = c.args.self.now.whole;
       solid = solid_after (is_ok c.push.result) (string_bytes c.args.self.now.word) (string_bytes c.push.new.self) c.args.c
-          (IsUtf8-string_bytes c.args.self.now.word) (IsUtf8-string_bytes c.push.new.self) c.push.ensures.bytes letter c.args.self.now.solid;
+          (IsUtf8-string_bytes c.args.self.now.word) (IsUtf8-string_bytes c.push.new.self)
+          c.push.ensures.bytes letter c.args.self.now.solid;
     }
 
 pub returns-else-is_ascii_whitespace : goal.returns-else-is_ascii_whitespace
@@ -24,4 +25,5 @@ returns-else-is_ascii_whitespace c =
 pub returns-then-is_ascii_whitespace : goal.returns-then-is_ascii_whitespace
 returns-then-is_ascii_whitespace c =
     let white : is_ascii_whitespace c.args.c ≡ true = grind (arith, tests) in
-    reads_white c.end_word.result c.args.self.now c.end_word.new.self c.args.c c.end_word.ensures.atoms c.end_word.ensures.word white
+    reads_white c.end_word.result c.args.self.now c.end_word.new.self c.args.c c.end_word.ensures.atoms c.end_word.ensures.word
+    white

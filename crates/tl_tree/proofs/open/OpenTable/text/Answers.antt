@@ -12,6 +12,7 @@ returns-in_ok-read_text-in-Flow-clause-ok c =
     let P : OpenTable → Type 0 = λ t. Moves t (tags.text cs) (Flow c.in-Flow.holder c.read_text.new.self) in
     subst P (sym c.in-Flow.is) (record {
       goes = refl;
-      adds = text_read c.in-Flow.flow c.read_text.new.self (holder_so_far c.in-Flow.holder) cs c.in_ok-read_text-in-Flow.ensures.blocks
+      adds = text_read c.in-Flow.flow c.read_text.new.self (holder_so_far c.in-Flow.holder)
+          cs c.in_ok-read_text-in-Flow.ensures.blocks
           c.in_ok-read_text-in-Flow.ensures.line;
     })

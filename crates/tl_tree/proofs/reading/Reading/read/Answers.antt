@@ -7,8 +7,10 @@ use Rattle.tl_tree.proofs.reading.Reading.read.Goals as goal
 
 pub returns-in-Text-clause-ok : goal.returns-in-Text-clause-ok
 returns-in-Text-clause-ok c =
-    let e : tags.text (chars c.as_str.result.now) ≡ class_of c.args.kind.now = ap tags.text c.as_str.ensures ∙ sym (ap class_of c.in-Text.is) in
-    if_ok c.text.result (λ new h. let P : Kind → Type 0 = λ k. Reads c.args.self c.args.tables k new in subst P e (h c.args.tables)) c.text.ensures.ok
+    let e : tags.text (chars c.as_str.result.now) ≡ class_of c.args.kind.now =
+    ap tags.text c.as_str.ensures ∙ sym (ap class_of c.in-Text.is) in
+    if_ok c.text.result (λ new h. let P : Kind → Type 0 = λ k. Reads c.args.self c.args.tables k new in
+    subst P e (h c.args.tables)) c.text.ensures.ok
 
 pub returns-in-End-clause-ok : goal.returns-in-End-clause-ok
 returns-in-End-clause-ok c =

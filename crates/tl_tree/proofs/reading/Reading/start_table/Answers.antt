@@ -18,4 +18,5 @@ returns-in-Flow-clause-ok c =
     let same = c.in-Inside.is ∙ ap (λ t. Inside c.in-Inside.outer t) c.in-Flow.is in
     if_ok c.nest_table.result (λ new n.
     let P : Reading → Type 0 = λ r. Reads r c.args.tables tags.table_start new in
-    subst P (sym same) (reads_nested c.in-Inside.outer c.in-Flow.holder c.in-Flow.flow c.args.tables new n)) c.nest_table.ensures.ok
+    subst P (sym same) (reads_nested c.in-Inside.outer c.in-Flow.holder c.in-Flow.flow c.args.tables new n))
+    c.nest_table.ensures.ok

@@ -1,0 +1,6 @@
+pub mod AskLemmas
+mod Examples
+pub mod NameLemmas
+pub mod OptionLemmas
+pub mod SplitLemmas
+pub mod WordLemmas

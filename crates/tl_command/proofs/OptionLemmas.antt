@@ -1,0 +1,246 @@
+-- What has been read of options, and that arguments spell at most one list of them.
+use Rattle.std.proofs.Common.{◌≡◌, ◌≢◌, ◌⊎◌, inl, inr, ◌↔◌, ℕ, List, [], ◌∷◌, ◌++◌, Option, Some, None, refl, sym, ap, subst, ◌∙◌}
+use Rattle.std.proofs.Common.{decimal, get_or, arith}
+use Rattle.std.specs.Prelude.{Contains}
+use Rattle.std.specs.List.{All, AllPairs, flat_map}
+use Rattle.std.proofs.lemmas.Fmt.{decimal_injective}
+use Rattle.std.proofs.lemmas.List.{append-nil}
+use Rattle.std.proofs.lemmas.List.Concat.{flat_map-cons}
+use Rattle.std.proofs.lemmas.Grind.{common_steps}
+use Rattle.std.proofs.lemmas.List.Elements.{All-push, All-nil, All-head, All-tail, All-contains, Contains-push_cases}
+use Rattle.std.proofs.lemmas.List.Elements.{Contains-append_left, Contains-append_right, Contains-push}
+use Rattle.tl_base.proofs.Members.{AllPairs-none, AllPairs-cons, AllPairs-head, AllPairs-tail}
+use Rattle.tl_base.proofs.Members.{AllPairs-append, Contains-first, Contains-cases, Contains-none}
+use Rattle.tl_base.specs.declared.breaking.Breaking.{Breaking}
+use Rattle.tl_base.specs.declared.breaking.Breaking.TheVariants.{Words, Any}
+use Rattle.tl_base.specs.declared.style.Style.{Style}
+use Rattle.tl_base.specs.declared.style.Style.TheVariants as styles
+use Rattle.tl_base.proofs.Texts.{same_test}
+use Rattle.tl_command.specs.declared.command.Command.{Command}
+use Rattle.tl_command.specs.declared.options.Choice.{Choice}
+use Rattle.tl_command.specs.declared.options.Choice.TheVariants as choices
+use Rattle.tl_command.specs.declared.options.Options.{Options}
+use Rattle.tl_command.specs.declared.options.Search.{Search}
+use Rattle.tl_command.specs.declared.options.Search.TheVariants as searches
+use Rattle.tl_command.specs.Options.{name_of, words_of, style_word, break_word, search_word}
+use Rattle.tl_command.specs.Options.{IsInRange, IsOptionOf, IsGiven, AreOptions}
+use Rattle.tl_command.specs.inner.OptionsRead.{HasRead}
+
+-- ---- each argument is read in one way
+
+-- an argument stands for at most one style, break and search
+style_once : (one other : Style) → style_word one ≡ style_word other → one ≡ other
+style_once styles.Plain styles.Plain e = refl
+style_once styles.Compact styles.Compact e = refl
+style_once styles.Frame styles.Frame e = refl
+style_once one other e = absurd (omega (arith, ap (λ (word : List ℕ). get_or word 0 0) e))
+
+break_once : (one other : Breaking) → break_word one ≡ break_word other → one ≡ other
+break_once Words Words e = refl
+break_once Any Any e = refl
+break_once one other e = absurd (omega (arith, ap (λ (word : List ℕ). get_or word 0 0) e))
+
+search_once : (one other : Search) → search_word one ≡ search_word other → one ≡ other
+search_once searches.Plain searches.Plain e = refl
+search_once searches.Best searches.Best e = refl
+search_once one other e = absurd (omega (arith, ap (λ (word : List ℕ). get_or word 0 0) e))
+
+pub first_same : {X : Type 0} (x y : X) (xs ys : List X) → x ∷ xs ≡ y ∷ ys → x ≡ y
+first_same x y xs ys e = cc
+
+pub rest_same : {X : Type 0} (x y : X) (xs ys : List X) → x ∷ xs ≡ y ∷ ys → xs ≡ ys
+rest_same x y xs ys e = cc
+
+-- where a word stands for at most one value, an option of it is told from what follows
+value_once : {V : Type 0} (word : V → List ℕ) (option : V → Choice) → ((v w : V) → word v ≡ word w → v ≡ w) → (v w : V)
+    (xs ys : List (List ℕ)) → word v ∷ xs ≡ word w ∷ ys → (option v ≡ option w) × (xs ≡ ys)
+value_once word option once v w xs ys e = (
+  ap option (once v w (first_same (word v) (word w) xs ys e)),
+  rest_same (word v) (word w) xs ys e,
+)
+
+-- the letter by which the names of options differ
+abbrev pub letter : List (List ℕ) → ℕ
+letter words = get_or (get_or words 0 []) 4 0
+
+-- the arguments of one option are not the beginning of another's
+pub prefix_free : (one other : Choice) (xs ys : List (List ℕ)) → IsInRange one → IsInRange other →
+    words_of one ++ xs ≡ words_of other ++ ys → (one ≡ other) × (xs ≡ ys)
+prefix_free (choices.Style style) (choices.Style style2) xs ys small tiny e =
+    value_once style_word choices.Style style_once style style2 xs ys cc
+prefix_free (choices.Breaking breaking) (choices.Breaking breaking2) xs ys small tiny e =
+    value_once break_word choices.Breaking break_once breaking breaking2 xs ys cc
+prefix_free (choices.Budget budget) (choices.Budget budget2) xs ys small tiny e =
+    let after : decimal budget ∷ xs ≡ decimal budget2 ∷ ys = cc in
+    let same : budget ≡ budget2 = decimal_injective budget budget2 (omega (arith, small)) (omega (arith, tiny))
+    (first_same (decimal budget) (decimal budget2) xs ys after) in
+    (ap choices.Budget same, rest_same (decimal budget) (decimal budget2) xs ys after)
+prefix_free (choices.Search search) (choices.Search search2) xs ys small tiny e =
+    value_once search_word choices.Search search_once search search2 xs ys cc
+prefix_free choices.Html choices.Html xs ys small tiny e = (refl, cc)
+prefix_free one other xs ys small tiny e = absurd (omega (arith, ap letter e))
+
+-- ---- what has been read
+
+-- two options of different names
+abbrev Differ : Choice → Choice → Type 0
+Differ one other = name_of one ≢ name_of other
+
+-- what is so of each pair of a list is so of an element and one after it
+apart_ahead : {X : Type 0} (R : X → X → Type 0) (xs ys : List X) (x y : X) → AllPairs R (xs ++ y ∷ ys) → Contains xs x → R x y
+apart_ahead R [] ys x y pairs has = absurd (Contains-none x has)
+apart_ahead R (z ∷ xs) ys x y pairs has = elim (Contains-cases z xs x has) [
+  | inl same ↦ subst (λ w. R w y) same (All-contains (R z) (xs ++ y ∷ ys) y (AllPairs-head R z (xs ++ y ∷ ys) pairs)
+      (Contains-append_right xs (y ∷ ys) y (Contains-first y ys)))
+  | inr later ↦ apart_ahead R xs ys x y (AllPairs-tail R z (xs ++ y ∷ ys) pairs) later
+]
+
+-- what a list contains after some elements
+contains_after : {X : Type 0} (all xs : List X) (x : X) (ys : List X) → all ≡ xs ++ x ∷ ys → Contains all x
+contains_after all xs x ys same =
+    subst (λ zs. Contains zs x) (sym same) (Contains-append_right xs (x ∷ ys) x (Contains-first x ys))
+
+module _ (command : Command) where
+  -- options that spell arguments which begin with those of others begin with these
+  follow : (read choices : List Choice) (rest : List (List ℕ)) → All (IsOptionOf command) read →
+      All (IsOptionOf command) choices → flat_map words_of choices ≡ flat_map words_of read ++ rest →
+      (later : List Choice) × (choices ≡ read ++ later) × (flat_map words_of later ≡ rest)
+  follow [] choices rest are_read are e = (choices, refl, e)
+  follow (one ∷ read) [] rest are_read are e = absurd cc
+  follow (one ∷ read) (other ∷ choices) rest are_read are e =
+      let joined : words_of other ++ flat_map words_of choices ≡ words_of one ++ (flat_map words_of read ++ rest) =
+      grind (arith, common_steps, e) in
+      let split : (other ≡ one) × (flat_map words_of choices ≡ flat_map words_of read ++ rest) =
+      prefix_free other one (flat_map words_of choices) (flat_map words_of read ++ rest)
+      (All-head (IsOptionOf command) other choices are).in_range
+      (All-head (IsOptionOf command) one read are_read).in_range joined in
+      let more : (later : List Choice) × (choices ≡ read ++ later) × (flat_map words_of later ≡ rest) =
+      follow read choices rest (All-tail (IsOptionOf command) one read are_read)
+      (All-tail (IsOptionOf command) other choices are) split.1 in
+      (more.0, cc, more.2)
+
+  -- at first nothing has been read
+  pub read_none : (words : List (List ℕ)) (options : Options) → ((choice : Choice) → IsGiven options choice → ⊥) →
+      HasRead command words options words
+  read_none words options none = record {
+    read = [];
+    spelled = refl;
+    of_command = All-nil (IsOptionOf command);
+    once = AllPairs-none Differ;
+    given = λ choice. (λ is. absurd (none choice is), λ has. absurd (omega (arith, has.1)));
+  }
+
+  -- one more option has been read
+  pub read_more : (words rest : List (List ℕ)) (options after : Options) (choice : Choice) →
+      HasRead command words options (words_of choice ++ rest) → IsOptionOf command choice →
+      ((other : Choice) → IsGiven options other → name_of other ≢ name_of choice) →
+      ((other : Choice) → IsGiven after other ↔ (IsGiven options other ⊎ (other ≡ choice))) → HasRead command words after rest
+  read_more words rest options after choice so_far is_of new given = record {
+    read = so_far.read ++ choice ∷ [];
+    spelled = so_far.spelled ∙ grind (arith, common_steps);
+    of_command = All-push (IsOptionOf command) so_far.read choice so_far.of_command is_of;
+    once = AllPairs-append Differ so_far.read (choice ∷ []) so_far.once
+        (AllPairs-cons Differ choice [] (All-nil (Differ choice)) (AllPairs-none Differ)) apart;
+    given = λ other. (
+      λ is. elim ((given other).0 is) [
+        | inl old ↦ Contains-append_left so_far.read (choice ∷ []) other ((so_far.given other).0 old)
+        | inr same ↦ subst (λ (o : Choice). Contains (so_far.read ++ choice ∷ []) o) (sym same) (Contains-push so_far.read choice)
+      ],
+      λ has. elim (Contains-push_cases so_far.read choice other has) [
+        | inl old ↦ (given other).1 (inl ((so_far.given other).1 old))
+        | inr same ↦ (given other).1 (inr (sym same))
+      ],
+    );
+  } where
+    apart : (one other : Choice) → Contains so_far.read one → Contains (choice ∷ []) other → Differ one other
+    apart one other first second = elim (Contains-cases choice [] other second) [
+      | inl same ↦ subst (λ (o : Choice). Differ one o) same (new one ((so_far.given one).1 first))
+      | inr none ↦ absurd (Contains-none other none)
+    ]
+
+  -- all has been read
+  pub read_all : (words : List (List ℕ)) (options : Options) → HasRead command words options [] → AreOptions command words options
+  read_all words options so_far = record {
+    choices = so_far.read;
+    spelled = so_far.spelled ∙ append-nil (flat_map words_of so_far.read);
+    of_command = so_far.of_command;
+    once = so_far.once;
+    given = so_far.given;
+  }
+
+  -- the arguments spell no options where none begins what is left
+  pub read_stuck : (words rest : List (List ℕ)) (options other : Options) → HasRead command words options rest → rest ≢ [] →
+      ((choice : Choice) (after : List (List ℕ)) → IsOptionOf command choice → rest ≡ words_of choice ++ after → ⊥) →
+      AreOptions command words other → ⊥
+  read_stuck words rest options other so_far more none is =
+      let next : (later : List Choice) × (is.choices ≡ so_far.read ++ later) × (flat_map words_of later ≡ rest) =
+      follow so_far.read is.choices rest so_far.of_command is.of_command (sym is.spelled ∙ so_far.spelled) in
+      stuck next.0 next.1 next.2 where
+        stuck : (later : List Choice) → is.choices ≡ so_far.read ++ later → flat_map words_of later ≡ rest → ⊥
+        stuck [] same spelled = more (sym spelled)
+        stuck (choice ∷ later) same spelled = none choice (flat_map words_of later)
+            (All-contains (IsOptionOf command) is.choices choice is.of_command
+            (contains_after is.choices so_far.read choice later same))
+            (sym spelled ∙ flat_map-cons words_of choice later)
+
+  -- nor where an option of a name that was read begins it
+  pub read_twice : (words rest : List (List ℕ)) (options other : Options) (choice : Choice) →
+      HasRead command words options (words_of choice ++ rest) → IsOptionOf command choice →
+      (former : Choice) × IsGiven options former × (name_of former ≡ name_of choice) → AreOptions command words other → ⊥
+  read_twice words rest options other choice so_far is_of twice is =
+      let next : (later : List Choice) × (is.choices ≡ so_far.read ++ later)
+      × (flat_map words_of later ≡ words_of choice ++ rest) =
+      follow so_far.read is.choices (words_of choice ++ rest) so_far.of_command is.of_command
+      (sym is.spelled ∙ so_far.spelled) in
+      again next.0 next.1 next.2 where
+        again : (later : List Choice) → is.choices ≡ so_far.read ++ later → flat_map words_of later ≡ words_of choice ++ rest → ⊥
+        again [] same spelled = absurd cc
+        again (one ∷ later) same spelled =
+            let one_of : IsOptionOf command one = All-contains (IsOptionOf command) is.choices one is.of_command
+            (contains_after is.choices so_far.read one later same) in
+            let equal : one ≡ choice = (prefix_free one choice (flat_map words_of later) rest one_of.in_range is_of.in_range
+            (sym (flat_map-cons words_of one later) ∙ spelled)).0 in
+            apart_ahead Differ so_far.read later twice.0 one (subst (λ (cs : List Choice). AllPairs Differ cs) same is.once)
+            ((so_far.given twice.0).0 twice.1) (twice.2 ∙ sym (ap name_of equal))
+
+-- ---- one list of options at most
+
+-- what gives the same is the same
+option_same : {X : Type 0} (one other : Option X) → ((x : X) → one ≡ Some x → other ≡ Some x) →
+    ((x : X) → other ≡ Some x → one ≡ Some x) → one ≡ other
+option_same None None to from = refl
+option_same None (Some x) to from = from x refl
+option_same (Some x) other to from = sym (to x refl)
+
+rebuilt : (one other : Options) → one.style ≡ other.style → one.breaking ≡ other.breaking → one.budget ≡ other.budget →
+    one.search ≡ other.search → one.html ≡ other.html → one ≡ other
+rebuilt one other style breaking budget search html =
+    λ i. record { style = style i; breaking = breaking i; budget = budget i; search = search i; html = html i }
+
+options_same : (one other : Options) → ((choice : Choice) → IsGiven one choice → IsGiven other choice) →
+    ((choice : Choice) → IsGiven other choice → IsGiven one choice) → one ≡ other
+options_same one other to from =
+    rebuilt one other
+    (option_same one.style other.style (λ x. to (choices.Style x)) (λ x. from (choices.Style x)))
+    (option_same one.breaking other.breaking (λ x. to (choices.Breaking x)) (λ x. from (choices.Breaking x)))
+    (option_same one.budget other.budget (λ x. to (choices.Budget x)) (λ x. from (choices.Budget x)))
+    (option_same one.search other.search (λ x. to (choices.Search x)) (λ x. from (choices.Search x)))
+    (same_test one.html other.html (to choices.Html) (from choices.Html))
+
+-- the arguments spell at most one set of options
+pub options_once : (command : Command) (words : List (List ℕ)) (one other : Options) → AreOptions command words one →
+    AreOptions command words other → one ≡ other
+options_once command words one other first second =
+    let next : (later : List Choice) × (second.choices ≡ first.choices ++ later) × (flat_map words_of later ≡ []) =
+    follow command first.choices second.choices [] first.of_command second.of_command
+    (sym second.spelled ∙ first.spelled ∙ sym (append-nil (flat_map words_of first.choices))) in
+    let same : first.choices ≡ second.choices = ended next.0 next.1 next.2 in
+    options_same one other
+    (λ choice is. (second.given choice).1 (subst (λ (cs : List Choice). Contains cs choice) same ((first.given choice).0 is)))
+    (λ choice is. (first.given choice).1
+    (subst (λ (cs : List Choice). Contains cs choice) (sym same) ((second.given choice).0 is)))
+  where
+    ended : (later : List Choice) → second.choices ≡ first.choices ++ later → flat_map words_of later ≡ [] →
+        first.choices ≡ second.choices
+    ended [] same none = sym (same ∙ append-nil first.choices)
+    ended (choice ∷ later) same none = absurd cc

@@ -1,0 +1,4 @@
+pub mod Ask
+pub mod Command
+pub mod Options
+pub mod inner

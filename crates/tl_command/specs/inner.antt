@@ -1,0 +1,3 @@
+-- What private functions promise each other. No public clause cites these files.
+pub mod OptionsRead
+pub mod Parts

@@ -1,0 +1,17 @@
+//! Numbers among the arguments.
+
+ghost use Rattle.std.specs.Prelude.{◌≡◌, ◌≢◌, ◌≤◌, ℕ, IfSome, IfNone, decimal};
+
+use tl_base::read_number;
+
+/// The number up to `most` whose canonical decimal the argument is.
+pub(crate) fn number_up_to(word: &str, most: u32) -> Option<u32>
+    ensures number { IfSome result (λ number. (word.now ≡ decimal number) × (number ≤ most)) }
+    ensures none { IfNone result ((number : ℕ) → number ≤ most → word.now ≢ decimal number) }
+{
+    let (number, past) = read_number(word.as_bytes(), 0)?;
+    if past != word.len() || number > u64::from(most) {
+        return None;
+    }
+    Some(number as u32)
+}

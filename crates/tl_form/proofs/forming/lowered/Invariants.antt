@@ -1,6 +1,0 @@
-use Rattle.std.proofs.Common.{◌≡◌, map, take}
-use Rattle.tl_form.specs.Formed.{lowered}
-use Rattle.tl_form.proofs.forming.lowered.Given as goal
-
-abbrev pub invariant-loop-place : goal.invariant-loop-place
-invariant-loop-place l = l.below ≡ map (lowered l.down) (take l.place-index l.place-items)

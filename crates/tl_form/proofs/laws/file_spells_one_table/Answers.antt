@@ -1,5 +1,0 @@
-use Rattle.tl_form.proofs.OneFile.{one_table}
-use Rattle.tl_form.proofs.laws.file_spells_one_table.Goals as goal
-
-pub returns : goal.returns
-returns c = one_table c.tokens_spell_one_tree.ensures

@@ -1,5 +1,0 @@
-use Rattle.tl_form.proofs.Numbered.{first_by_number}
-use Rattle.tl_form.proofs.laws.the_first_without_a_grid_has_the_least_number.Goals as goal
-
-pub returns : goal.returns
-returns c = first_by_number

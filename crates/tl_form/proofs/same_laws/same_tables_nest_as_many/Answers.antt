@@ -1,5 +1,0 @@
-use Rattle.tl_form.proofs.SameTables.{same_nests}
-use Rattle.tl_form.proofs.same_laws.same_tables_nest_as_many.Goals as goal
-
-pub returns : goal.returns
-returns c = same_nests

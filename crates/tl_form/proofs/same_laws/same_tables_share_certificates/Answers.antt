@@ -1,5 +1,0 @@
-use Rattle.tl_form.proofs.SameDocuments.{same_valid}
-use Rattle.tl_form.proofs.same_laws.same_tables_share_certificates.Goals as goal
-
-pub returns : goal.returns
-returns c = same_valid

@@ -1,5 +1,0 @@
-use Rattle.tl_form.proofs.SameFits.{same_least}
-use Rattle.tl_form.proofs.same_laws.same_tables_share_least_widths.Goals as goal
-
-pub returns : goal.returns
-returns c = same_least

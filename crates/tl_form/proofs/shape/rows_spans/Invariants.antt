@@ -1,6 +1,0 @@
-use Rattle.std.proofs.Common.{◌≡◌, map, take}
-use Rattle.tl_form.specs.Formed.{span_of}
-use Rattle.tl_form.proofs.shape.rows_spans.Given as goal
-
-abbrev pub invariant-loop-row : goal.invariant-loop-row
-invariant-loop-row l = l.spans ≡ map (map span_of) (take l.row-index l.rows)

@@ -1,5 +1,0 @@
-use Rattle.tl_form.proofs.Arcs.{HaveArcsSoFar}
-use Rattle.tl_form.proofs.widest.numbered_arcs.Given as goal
-
-abbrev pub invariant-loop-number : goal.invariant-loop-number
-invariant-loop-number l = HaveArcsSoFar l.gap l.demands l.number l.arcs.items

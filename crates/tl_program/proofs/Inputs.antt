@@ -1,0 +1,107 @@
+-- What was loaded of a file is read as the file is, and what comes of it is decided by what the file spells.
+use Rattle.std.proofs.Common.{◌≡◌, inl, inr, ℕ, ◌+◌, ◌<◌, ◌≤◌, List, length, take, Option, Some, None, refl, sym, ap, subst, ◌∙◌}
+use Rattle.std.proofs.Common.{arith}
+use Rattle.std.specs.Prelude.{IfSome, option_map}
+use Rattle.std.proofs.lemmas.List.{take_all, length-take}
+use Rattle.tl_base.specs.declared.limits.TheConstants.{MAX_FILE_BYTES, MAX_REACH}
+use Rattle.tl_base.specs.Desk.{Files, IsReadFrom}
+use Rattle.tl_table.specs.declared.cell.Table.{Table}
+use Rattle.tl_table.specs.Same.{AreSame}
+use Rattle.tl_read.specs.declared.reading.Reading.{Reading}
+use Rattle.tl_read.specs.declared.reading.Reading.TheVariants as readings
+use Rattle.tl_read.specs.declared.refusal.Refusal.{Refusal}
+use Rattle.tl_read.specs.declared.source.Source.{Source}
+use Rattle.tl_read.specs.Reading.{IsReading, AreSameReadings}
+use Rattle.tl_program.specs.Change.{Holds}
+use Rattle.tl_program.specs.Inputs.{IsOfReading, IsOfBytes}
+
+-- ---- the content of a file
+
+-- the content of which the bytes are the first, or all
+pub content_of : (most : ℕ) (files : Option Files) (name bytes : List ℕ) → length bytes ≤ most + 1 →
+    IfSome files (λ held. IsReadFrom held name most bytes) → (content : List ℕ) × Holds files name content
+    × (take (most + 1) content ≡ bytes)
+content_of most None name bytes short read = (bytes, tt, take_all (most + 1) bytes short)
+content_of most (Some held) name bytes short read = found (held name) read where
+  found : (there : Option (List ℕ)) → option_map (take (most + 1)) there ≡ Some bytes →
+      (content : List ℕ) × (there ≡ Some content) × (take (most + 1) content ≡ bytes)
+  found None is = absurd cc
+  found (Some content) is = (content, refl, cc)
+
+-- a file is read as its first bytes are
+pub long_same : (most : ℕ) (content bytes : List ℕ) → take (most + 1) content ≡ bytes → (length bytes ≤ most → bytes ≡ content)
+    × (most < length bytes → most < length content) × (most < length content → most < length bytes)
+long_same most content bytes is =
+    let long = length-take (most + 1) content in
+    let same = ap length is in (
+      λ short. sym is ∙ take_all (most + 1) content (omega (arith, long, same, short)),
+      λ more. omega (arith, long, same, more),
+      λ more. omega (arith, long, same, more),
+    )
+
+-- what the first bytes are read as the content is
+pub reading_of_content : (source : _) (content bytes : List ℕ) (reading : Reading) → take (MAX_FILE_BYTES + 1) content ≡ bytes →
+    IsReading source bytes reading → IsReading source content reading
+reading_of_content source content bytes reading is (inl long) = inl ((long_same MAX_FILE_BYTES content bytes is).1 long.0, long.1)
+reading_of_content source content bytes reading is (inr short) =
+    subst (λ (bs : List ℕ). IsReading source bs reading) ((long_same MAX_FILE_BYTES content bytes is).0 short.0) (inr short)
+
+-- and the other way round
+pub reading_from_content : (source : _) (content bytes : List ℕ) (reading : Reading) → take (MAX_FILE_BYTES + 1) content ≡ bytes →
+    IsReading source content reading → IsReading source bytes reading
+reading_from_content source content bytes reading is (inl long) =
+    inl ((long_same MAX_FILE_BYTES content bytes is).2 long.0, long.1)
+reading_from_content source content bytes reading is (inr short) =
+    let few : length content ≤ MAX_FILE_BYTES + 1 = omega (arith, short.0) in
+    subst (λ (bs : List ℕ). IsReading source bs reading) (sym (take_all (MAX_FILE_BYTES + 1) content few) ∙ is) (inr short)
+
+-- ---- what comes of it
+
+module _ (source : Source) (reach : Table → ℕ) (Refuses : Refusal → Type 0) (Own : Table → Type 0) where
+  -- what comes of the first bytes comes of the content
+  pub of_content : (content bytes : List ℕ) → take (MAX_FILE_BYTES + 1) content ≡ bytes →
+      IsOfBytes source reach Refuses Own bytes →
+      IsOfBytes source reach Refuses Own content
+  of_content content bytes is of = record {
+    reading = of.reading;
+    read = reading_of_content source content bytes of.reading is of.read;
+    only = λ other read. of.only other (reading_from_content source content bytes other is read);
+    so = of.so;
+  }
+
+  -- where they spell a table within the reach, the command goes on with a table that is the same
+  pub own_of : (bytes : List ℕ) (table : Table) → IsOfBytes source reach Refuses Own bytes →
+      IsReading source bytes (readings.Table table) →
+      ((one other : Table) → AreSame one other → reach one ≡ reach other) → reach table ≤ MAX_REACH →
+      (found : Table) × AreSame found table × Own found
+  own_of bytes table of read same near = by_reading of.reading (of.only (readings.Table table) read) of.so where
+    by_reading : (reading : Reading) → AreSameReadings reading (readings.Table table) → IsOfReading reach Refuses Own reading →
+        (found : Table) × AreSame found table × Own found
+    by_reading (readings.Refused refusal) alike so = absurd alike
+    by_reading (readings.Table found) alike (inl far) = absurd (omega (arith, far.0, near, same found table alike))
+    by_reading (readings.Table found) alike (inr own) = (found, alike, own.1)
+
+  -- where they are refused, that is what is passed on
+  pub refusal_of : (bytes : List ℕ) (refusal : Refusal) → IsOfBytes source reach Refuses Own bytes →
+      IsReading source bytes (readings.Refused refusal) → Refuses refusal
+  refusal_of bytes refusal of read = by_reading of.reading (of.only (readings.Refused refusal) read) of.so where
+    by_reading : (reading : Reading) → AreSameReadings reading (readings.Refused refusal) →
+        IsOfReading reach Refuses Own reading →
+        Refuses refusal
+    by_reading (readings.Table table) alike so = absurd alike
+    by_reading (readings.Refused found) alike so = subst Refuses alike so
+
+-- what comes of bytes is so of whatever follows from its parts
+pub of_bytes_mapped : (source : Source) (reach : Table → ℕ) (Refuses Passes : Refusal → Type 0) (Own Other : Table → Type 0) →
+    ((refusal : Refusal) → Refuses refusal → Passes refusal) → ((table : Table) → Own table → Other table) → (bytes : List ℕ) →
+    IsOfBytes source reach Refuses Own bytes → IsOfBytes source reach Passes Other bytes
+of_bytes_mapped source reach Refuses Passes Own Other passed owned bytes of = record {
+  reading = of.reading;
+  read = of.read;
+  only = of.only;
+  so = by_reading of.reading of.so;
+} where
+  by_reading : (reading : Reading) → IsOfReading reach Refuses Own reading → IsOfReading reach Passes Other reading
+  by_reading (readings.Refused refusal) so = passed refusal so
+  by_reading (readings.Table table) (inl far) = inl (far.0, passed _ far.1)
+  by_reading (readings.Table table) (inr own) = inr (own.0, owned table own.1)

@@ -1,0 +1,152 @@
+-- A file has at most one reading, but for where in memory its tables lie.
+use Rattle.std.proofs.Common.{◌≡◌, ◌⊎◌, inl, inr, ℕ, ◌≤◌, List, length, arith, Option, Some, None}
+use Rattle.std.proofs.Common.{sym, subst, ◌∙◌, Result, Ok, Err, IfOk, alloc_error}
+use Rattle.std.specs.declared.alloc.AllocError.{AllocError}
+use Rattle.std.specs.List.{AllByRecursion}
+use Rattle.tl_base.specs.declared.breaking.Breaking.{Breaking}
+use Rattle.tl_base.specs.Returned.{IsMemoryOr}
+use Rattle.tl_base.specs.declared.limits.TheConstants.{MAX_FILE_BYTES}
+use Rattle.tl_token.specs.declared.token.Token.{Token}
+use Rattle.tl_token.specs.declared.token.TokenError.{TokenError}
+use Rattle.tl_token.specs.declared.token.TokenError.TheVariants as cuts
+use Rattle.tl_token.specs.Spelling.{SpellsTokens, SpellsNoTokens}
+use Rattle.tl_tree.specs.declared.error.TreeError.{TreeError}
+use Rattle.tl_tree.specs.declared.error.TreeError.TheVariants as trees
+use Rattle.tl_tree.specs.declared.node.TableNode.{TableNode}
+use Rattle.tl_tree.specs.Spelling.{SpellsTree, IsWithinLimits, SpellsNoTree}
+use Rattle.tl_tree.specs.Tags.{kinds}
+use Rattle.tl_tree.specs.Same.{AreSame as AreSameTrees}
+use Rattle.tl_table.specs.declared.cell.Table.{Table}
+use Rattle.tl_table.specs.declared.error.FormError.{FormError}
+use Rattle.tl_table.specs.declared.error.FormError.TheVariants as errors
+use Rattle.tl_table.specs.Formed.{Becomes}
+use Rattle.tl_table.specs.Refused.{NumberedShape, HasSomeGrid, AreRefused, HasNoGrid, tables_of}
+use Rattle.tl_table.proofs.Gridless.{becomes_gridded, not_among}
+use Rattle.tl_table.proofs.OneTable.{same_tables}
+use Rattle.tl_read.specs.declared.reading.Reading.{Reading}
+use Rattle.tl_read.specs.declared.reading.Reading.TheVariants as readings
+use Rattle.tl_read.specs.declared.refusal.Refusal.{Refusal}
+use Rattle.tl_read.specs.Refusals.{token_refusal, tree_refusal, form_refusal}
+use Rattle.tl_read.specs.declared.source.Source.{Source}
+use Rattle.tl_read.specs.declared.source.Source.TheVariants as sources
+use Rattle.tl_read.specs.Reading.{ReadsTree, ReadsTokens, ReadsHtml, ReadsAs, IsReading, AreSameReadings}
+use Rattle.tl_table.proofs.SameShapes.{same_shapes}
+
+-- a refusal that is found is the one
+pub one_refusal : (cause : Option Refusal) (found other : Refusal) → cause ≡ Some found → cause ≡ Some other → found ≡ other
+one_refusal cause found other first second = some_same (sym first ∙ second) where
+  some_same : Some found ≡ Some other → found ≡ other
+  some_same same = cc
+
+-- out of memory is no refusal
+some_not_none : (found : Refusal) → None ≡ Some found → ⊥
+some_not_none found e = absurd cc
+
+pub memory_refused : (found : Refusal) (error : FormError) → error ≡ errors.Memory alloc_error →
+    form_refusal error ≡ Some found → ⊥
+memory_refused found error memory is = some_not_none found (subst (λ (e : FormError). form_refusal e ≡ Some found) memory is)
+
+-- what is refused in a tree is refused in the same one elsewhere
+pub refused_elsewhere : (node other : TableNode) (error : FormError) → AreSameTrees node other → HasNoGrid other error →
+    HasNoGrid node error
+refused_elsewhere node other error same refused = subst (λ (tables : List NumberedShape). AreRefused tables error)
+    (sym (same_shapes node other same)) refused
+
+-- the reading of a tree that becomes a table
+pub table_alike : (breaking : Breaking) (node other : TableNode) (table : Table) (reading : Reading) → AreSameTrees node other →
+    Becomes breaking node table →
+    ((error : FormError) → HasNoGrid node error → ⊥) → ReadsTree breaking other reading →
+    AreSameReadings (readings.Table table) reading
+table_alike breaking node other table (readings.Table another) same becomes never is =
+    same_tables breaking node other table another same becomes is
+table_alike breaking node other table (readings.Refused refusal) same becomes never is =
+    absurd (never is.0 (refused_elsewhere node other is.0 same is.1))
+
+-- the reading of a tree that is refused
+pub refused_alike : (breaking : Breaking) (node other : TableNode) (error : FormError) (found : Refusal) (reading : Reading) →
+    AreSameTrees node other →
+    IsMemoryOr (errors.Memory alloc_error) (HasNoGrid node) error →
+    ((cause : FormError) → HasNoGrid node cause → (error ≡ errors.Memory alloc_error) ⊎ (error ≡ cause)) →
+    form_refusal error ≡ Some found → ReadsTree breaking other reading → AreSameReadings (readings.Refused found) reading
+refused_alike breaking node other error found (readings.Table table) same (inl memory) each is read =
+    absurd (memory_refused found error memory is)
+refused_alike breaking node other error found (readings.Table table) same (inr refused) each is read =
+    absurd (not_among (tables_of node) error
+    (subst (λ (tables : List NumberedShape). AllByRecursion HasSomeGrid tables) (sym (same_shapes node other same))
+    (becomes_gridded breaking other table read))
+    refused)
+refused_alike breaking node other error found (readings.Refused refusal) same err each is read =
+    elim (each read.0 (refused_elsewhere node other read.0 same read.1)) [
+      | inl memory ↦ absurd (memory_refused found error memory is)
+      | inr equal ↦ one_refusal (form_refusal error) found refusal is
+          (subst (λ (e : FormError). form_refusal e ≡ Some refusal) (sym equal) read.2)
+    ]
+
+-- what is refused is found where it is alike
+pub found_alike : (result : Result Reading AllocError) (cause : Option Refusal) (reading : Reading) →
+    IfOk result (λ read. (found : Refusal) × (cause ≡ Some found) × (read ≡ readings.Refused found)) →
+    ((found : Refusal) → cause ≡ Some found → AreSameReadings (readings.Refused found) reading) →
+    IfOk result (λ read. AreSameReadings read reading)
+found_alike (Ok read) cause reading is alike = subst (λ (r : Reading). AreSameReadings r reading) (sym is.2) (alike is.0 is.1)
+found_alike (Err error) cause reading is alike = tt
+
+-- tokens that are a tree, or none
+pub tokens_refused_alike : (breaking : Breaking) (size : ℕ) (tokens : List Token) (error : TreeError) (found : Refusal)
+    (reading : Reading) →
+    ((node : TableNode) → SpellsTree tokens node → IsWithinLimits (kinds tokens) → error ≡ trees.Memory alloc_error) →
+    ((cause : TreeError) → SpellsNoTree tokens cause → (error ≡ trees.Memory alloc_error) ⊎ (error ≡ cause)) →
+    tree_refusal size tokens error ≡ Some found → ReadsTokens breaking size tokens reading →
+    AreSameReadings (readings.Refused found) reading
+tokens_refused_alike breaking size tokens error found reading ok each is (inl read) =
+    absurd (some_not_none found (subst (λ (e : TreeError). tree_refusal size tokens e ≡ Some found) (ok read.0 read.1 read.2) is))
+tokens_refused_alike breaking size tokens error found reading ok each is (inr read) =
+    subst (λ (r : Reading). AreSameReadings (readings.Refused found) r) (sym read.4)
+    (elim (each read.0 read.2) [
+      | inl memory ↦ absurd (some_not_none found (subst (λ (e : TreeError). tree_refusal size tokens e ≡ Some found) memory is))
+      | inr equal ↦ one_refusal (tree_refusal size tokens error) found read.1 is
+          (subst (λ (e : TreeError). tree_refusal size tokens e ≡ Some read.1) (sym equal) read.3)
+    ])
+
+-- bytes that are tokens, or none
+pub bytes_refused_alike : (breaking : Breaking) (bytes : List ℕ) (error : TokenError) (found : Refusal) (reading : Reading) →
+    ((tokens : List Token) → SpellsTokens bytes tokens → error ≡ cuts.Memory alloc_error) →
+    ((cause : TokenError) → SpellsNoTokens bytes cause → (error ≡ cuts.Memory alloc_error) ⊎ (error ≡ cause)) →
+    token_refusal error ≡ Some found → ReadsHtml breaking bytes reading → AreSameReadings (readings.Refused found) reading
+bytes_refused_alike breaking bytes error found reading ok each is (inl read) =
+    absurd (some_not_none found (subst (λ (e : TokenError). token_refusal e ≡ Some found) (ok read.0 read.1) is))
+bytes_refused_alike breaking bytes error found reading ok each is (inr read) =
+    subst (λ (r : Reading). AreSameReadings (readings.Refused found) r) (sym read.4)
+    (elim (each read.0 read.2) [
+      | inl memory ↦ absurd (some_not_none found (subst (λ (e : TokenError). token_refusal e ≡ Some found) memory is))
+      | inr equal ↦ one_refusal (token_refusal error) found read.1 is
+          (subst (λ (e : TokenError). token_refusal e ≡ Some read.1) (sym equal) read.3)
+    ])
+
+-- bytes that are these tokens are read from them
+pub bytes_alike : (breaking : Breaking) (bytes : List ℕ) (tokens : List Token) (result : Result Reading AllocError)
+    (reading : Reading) →
+    ((others : List Token) → SpellsTokens bytes others → tokens ≡ others) →
+    ((cause : TokenError) → SpellsNoTokens bytes cause → ⊥) →
+    ((other : Reading) → ReadsTokens breaking (length bytes) tokens other → IfOk result (λ found. AreSameReadings found other)) →
+    ReadsHtml breaking bytes reading → IfOk result (λ found. AreSameReadings found reading)
+bytes_alike breaking bytes tokens result reading same never each (inl read) =
+    each reading (subst (λ (ts : List Token). ReadsTokens breaking (length bytes) ts reading) (sym (same read.0 read.1)) read.2)
+bytes_alike breaking bytes tokens result reading same never each (inr read) = absurd (never read.0 read.2)
+
+-- HTML within the limit is read as the file that it is
+pub within_is : (source : Source) (breaking : Breaking) → source ≡ sources.Html breaking →
+    (bytes : List ℕ) (result : Result Reading AllocError) →
+    length bytes ≤ MAX_FILE_BYTES → IfOk result (ReadsHtml breaking bytes) → IfOk result (IsReading source bytes)
+within_is source breaking is bytes (Ok reading) short read =
+    inr (short, subst (λ (s : Source). ReadsAs s bytes reading) (sym is) read)
+within_is source breaking is bytes (Err error) short read = tt
+
+-- and whatever else it is read as is the same
+pub within_alike : (source : Source) (breaking : Breaking) → source ≡ sources.Html breaking →
+    (bytes : List ℕ) (result : Result Reading AllocError)
+    (reading : Reading) → length bytes ≤ MAX_FILE_BYTES →
+    ((other : Reading) → ReadsHtml breaking bytes other → IfOk result (λ found. AreSameReadings found other)) →
+    IsReading source bytes reading → IfOk result (λ found. AreSameReadings found reading)
+within_alike source breaking is bytes result reading short each (inl long) = absurd (omega (arith, short, long.0))
+within_alike source breaking is bytes result reading short each (inr (small, read)) =
+    each reading (subst (λ (s : Source). ReadsAs s bytes reading) is read)

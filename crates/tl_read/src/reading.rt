@@ -1,0 +1,110 @@
+//! Reads the bytes of a file as a table, or says why they are none.
+
+ghost use Rattle.std.specs.Prelude.{◌≡◌, ◌≤◌, length, IfOk, Some};
+ghost use Rattle.tl_base.specs.declared.limits.TheConstants.{MAX_FILE_BYTES};
+ghost use Rattle.tl_tree.specs.declared.node.TableNode.{TableNode};
+ghost use Rattle.tl_tree.specs.Readable.{AreReadable};
+ghost use Rattle.tl_tree.specs.Same.{AreSame};
+ghost use Rattle.tl_tree.specs.Sound.{IsSound as IsSoundTree};
+ghost use Rattle.tl_read.specs.declared.reading.Reading.{Reading};
+ghost use Rattle.tl_read.specs.declared.reading.Reading.TheVariants as readings;
+ghost use Rattle.tl_read.specs.declared.refusal.Refusal.{Refusal as R};
+ghost use Rattle.tl_read.specs.Reading.{ReadsTree, ReadsTokens, ReadsHtml, IsReading, AreSameReadings, IsSoundReading, table_in};
+
+use crate::Source;
+use crate::refusal::{Limit, Refusal, form_refusal, token_refusal, tree_refusal};
+use std::alloc::{AllocError, Global};
+use tl_base::{Breaking, MAX_FILE_BYTES};
+use tl_table::{Table, formed_has_few_cells, table};
+use tl_token::{Token, tokens};
+use tl_tree::{TableNode, tree};
+
+/// What the bytes of a file are.
+#[derive(Drop)]
+pub enum Reading {
+    Table(Table),
+    Refused(Refusal),
+}
+
+impl Reading {
+    /// The table, where the bytes are one.
+    pub fn table(self) -> Option<Table>
+        ensures { result ≡ table_in self }
+    {
+        match self {
+            Reading::Table(table) => Some(table),
+            Reading::Refused(_) => None,
+        }
+    }
+}
+
+/// What is refused, or out of memory.
+fn refused(refusal: Option<Refusal>) -> Result<Reading, AllocError>
+    ensures { IfOk result (λ reading. (found : R) × (refusal ≡ Some found) × (reading ≡ readings.Refused found)) }
+{
+    match refusal {
+        Some(refusal) => Ok(Reading::Refused(refusal)),
+        None => Err(AllocError),
+    }
+}
+
+/// The table that a tree becomes, or why it becomes none.
+fn read_tree(alloc: Global, node: &TableNode, breaking: Breaking) -> Result<Reading, AllocError>
+    requires { IsSoundTree node.now }
+    ensures is { IfOk result (ReadsTree breaking node.now) }
+    ensures each { (other : TableNode) (reading : Reading) → AreSame node.now other
+        → ReadsTree breaking other reading → IfOk result (λ found. AreSameReadings found reading) }
+    ensures sound { IfOk result IsSoundReading }
+{
+    formed_has_few_cells();
+    match table(alloc, node, breaking) {
+        Ok(table) => Ok(Reading::Table(table)),
+        Err(error) => refused(form_refusal(error)),
+    }
+}
+
+/// The table that the tokens of a file of `size` bytes are, or why they are none.
+fn read_tokens(
+    alloc: Global,
+    size: u32,
+    tokens: &[Token],
+    breaking: Breaking,
+) -> Result<Reading, AllocError>
+    requires { AreReadable tokens.now }
+    ensures is { IfOk result (ReadsTokens breaking size tokens.now) }
+    ensures each { (reading : Reading) → ReadsTokens breaking size tokens.now reading → IfOk result (λ found. AreSameReadings found reading) }
+    ensures sound { IfOk result IsSoundReading }
+{
+    match tree(alloc, tokens) {
+        Ok(node) => read_tree(alloc, &node, breaking),
+        Err(error) => refused(tree_refusal(size, tokens, error)),
+    }
+}
+
+/// The table that HTML of at most [`MAX_FILE_BYTES`] bytes is, or why it is none.
+fn read_html(alloc: Global, bytes: &[u8], breaking: Breaking) -> Result<Reading, AllocError>
+    requires { length bytes.now ≤ MAX_FILE_BYTES }
+    ensures is { IfOk result (ReadsHtml breaking bytes.now) }
+    ensures each { (reading : Reading) → ReadsHtml breaking bytes.now reading → IfOk result (λ found. AreSameReadings found reading) }
+    ensures sound { IfOk result IsSoundReading }
+{
+    match tokens(alloc, bytes) {
+        Ok(tokens) => read_tokens(alloc, bytes.len() as u32, tokens.as_slice(), breaking),
+        Err(error) => refused(token_refusal(error)),
+    }
+}
+
+/// The table that the bytes of a file are, or why they are refused. The steps are taken in this
+/// order, and the first that cannot be done decides: the file's size, its tokens, its tree, and the
+/// grids of its tables by their numbers.
+pub fn read(alloc: Global, bytes: &[u8], source: Source) -> Result<Reading, AllocError>
+    ensures is { IfOk result (IsReading source bytes.now) }
+    ensures each { (reading : Reading) → IsReading source bytes.now reading → IfOk result (λ found. AreSameReadings found reading) }
+    ensures sound { IfOk result IsSoundReading }
+{
+    if bytes.len() > MAX_FILE_BYTES {
+        let too_long = Refusal::Limit(Limit::File, MAX_FILE_BYTES as u64 + 1);
+        return Ok(Reading::Refused(too_long));
+    }
+    read_html(alloc, bytes, source.breaking())
+}

@@ -1,0 +1,120 @@
+-- Cells that are written one after another, each at the place of its number.
+use Rattle.std.proofs.Common.{◌≡◌, ◌∙◌, ℕ, ◌+◌, ◌<◌, ◌≤◌, List, [], ◌∷◌, ◌++◌, length, map, get_or, take, drop, sym, ap, subst}
+use Rattle.std.proofs.Common.{append_assoc}
+use Rattle.std.proofs.Common.{length-append, arith}
+use Rattle.std.specs.List.{AllZip, flat_map}
+use Rattle.std.proofs.lemmas.Grind.{flat_map-append}
+use Rattle.std.proofs.lemmas.List.{append-nil, map-append, take_more, take-append-drop}
+use Rattle.tl_base.specs.declared.breaking.Breaking.{Breaking}
+use Rattle.tl_base.proofs.Zips.{AllZip-push, AllZip-append, AllZip-length}
+use Rattle.tl_grid.specs.declared.shape.Place.{Place}
+use Rattle.tl_tree.specs.declared.node.CellNode.{CellNode, out-CellNode}
+use Rattle.tl_table.specs.declared.cell.TableCell.{TableCell, out-TableCell}
+use Rattle.tl_table.specs.Formed.{Becomes, BecomesCell, Writes}
+use Rattle.tl_table.specs.Sound.{place_of}
+
+pub Writes-none : (breaking : Breaking) (places : List Place) (before : List TableCell) →
+    map place_of before ≡ take (length before) places →
+    Writes breaking [] places before before
+Writes-none breaking places before placed = record { more = []; joined = sym (append-nil before); cells = tt; placed = placed }
+
+pub Writes-length : (breaking : Breaking) (nodes : List CellNode) (places : List Place) (before after : List TableCell) →
+    Writes breaking nodes places before after → length after ≡ length before + length nodes
+Writes-length breaking nodes places before after writes =
+    let both = AllZip-length (λ node cell. BecomesCell (Becomes breaking) breaking (out-CellNode node) (out-TableCell cell))
+    nodes writes.more writes.cells in
+    omega (arith, ap length writes.joined, length-append before writes.more)
+
+pub Writes-cell : (breaking : Breaking) (nodes : List CellNode) (node : CellNode) (places : List Place)
+    (before mid after : List TableCell) (cell : TableCell)
+    (n : ℕ) (d : Place) → Writes breaking nodes places before mid →
+    BecomesCell (Becomes breaking) breaking (out-CellNode node) (out-TableCell cell) →
+    n ≡ length mid → place_of cell ≡ get_or places n d → n < length places → after ≡ mid ++ cell ∷ [] →
+    Writes breaking (nodes ++ node ∷ []) places before after
+Writes-cell breaking nodes node places before mid after cell n d writes becomes long at within pushed = record {
+  more = writes.more ++ cell ∷ [];
+  joined = pushed ∙ ap (λ (cells : List TableCell). cells ++ cell ∷ []) writes.joined ∙ append_assoc before writes.more
+      (cell ∷ []);
+  cells = AllZip-push (λ one made. BecomesCell (Becomes breaking) breaking (out-CellNode one) (out-TableCell made))
+      nodes writes.more node cell
+      writes.cells becomes;
+  placed =
+      ap (map place_of) pushed
+      ∙ map-append place_of mid (cell ∷ [])
+      ∙ ap (λ (rest : List Place). rest ++ place_of cell ∷ []) writes.placed
+      ∙ ap (λ (p : Place). take (length mid) places ++ p ∷ []) (at ∙ ap (λ k. get_or places k d) long)
+      ∙ sym (take_more places (length mid) d (omega arith))
+      ∙ ap (λ k. take k places) (omega (arith, ap length pushed, length-append mid (cell ∷ [])));
+}
+
+pub Writes-more : (breaking : Breaking) (nodes others : List CellNode) (places : List Place) (before mid after : List TableCell) →
+    Writes breaking nodes places before mid → Writes breaking others places mid after →
+    Writes breaking (nodes ++ others) places before after
+Writes-more breaking nodes others places before mid after first second = record {
+  more = first.more ++ second.more;
+  joined = second.joined ∙ ap (λ (cells : List TableCell). cells ++ second.more)
+      first.joined ∙ append_assoc before first.more second.more;
+  cells = AllZip-append (λ one made. BecomesCell (Becomes breaking) breaking (out-CellNode one) (out-TableCell made))
+      nodes others first.more second.more
+      first.cells second.cells;
+  placed = second.placed;
+}
+
+-- ---- items that a loop has come to
+
+-- one more pair, where the second list goes on
+pub zip_more : {A B : Type 0} (R : A → B → Type 0) (xs : List A) (ys : List B) (i : ℕ) (x : A) (y : B) → i < length xs →
+    x ≡ get_or xs i x →
+    AllZip R (take i xs) ys → R x y → AllZip R (take (i + 1) xs) (ys ++ y ∷ [])
+zip_more {A = A} R xs ys i x y within is all last =
+    subst (λ (items : List A). AllZip R items (ys ++ y ∷ []))
+    (sym (take_more xs i x within ∙ ap (λ (z : A). take i xs ++ z ∷ []) (sym is)))
+    (AllZip-push R (take i xs) ys x y all last)
+
+-- the lists of the items so far, joined, and that of the next one
+pub joined_more : {X Y : Type 0} (f : X → List Y) (xs : List X) (i : ℕ) (x : X) → i < length xs → x ≡ get_or xs i x →
+    flat_map f (take (i + 1) xs) ≡ flat_map f (take i xs) ++ f x
+joined_more {X = X} {Y = Y} f xs i x within is =
+    ap (flat_map f) (take_more xs i x within ∙ ap (λ (z : X). take i xs ++ z ∷ []) (sym is))
+    ∙ flat_map-append f (take i xs) (x ∷ [])
+    ∙ ap (λ (rest : List Y). flat_map f (take i xs) ++ rest) (append-nil (f x))
+
+-- they are no more than all
+pub joined_room : {X Y : Type 0} (f : X → List Y) (xs : List X) (i : ℕ) (x : X) → i < length xs → x ≡ get_or xs i x →
+    length (flat_map f (take i xs)) + length (f x) ≤ length (flat_map f xs)
+joined_room {X = X} f xs i x within is =
+    let whole = ap length (ap (flat_map f) (sym (take-append-drop (i + 1) xs)) ∙ flat_map-append f (take (i + 1) xs)
+    (drop (i + 1) xs)) in
+    let parts = length-append (flat_map f (take (i + 1) xs)) (flat_map f (drop (i + 1) xs)) in
+    let more = ap length (joined_more f xs i x within is) in
+    let both = length-append (flat_map f (take i xs)) (f x) in
+    omega arith
+
+-- the cells of one more item
+pub Writes-item : {X : Type 0} (breaking : Breaking) (f : X → List CellNode) (xs : List X) (i : ℕ) (x : X) (places : List Place)
+    (before mid after : List TableCell) → i < length xs → x ≡ get_or xs i x →
+    Writes breaking (flat_map f (take i xs)) places before mid →
+    Writes breaking (f x) places mid after → Writes breaking (flat_map f (take (i + 1) xs)) places before after
+Writes-item breaking f xs i x places before mid after within is first second =
+    subst (λ (nodes : List CellNode). Writes breaking nodes places before after) (sym (joined_more f xs i x within is))
+    (Writes-more breaking (flat_map f (take i xs)) (f x) places before mid after first second)
+
+pub Writes-next : (breaking : Breaking) (nodes : List CellNode) (i : ℕ) (node : CellNode) (places : List Place)
+    (before mid after : List TableCell)
+    (cell : TableCell) (n : ℕ) (d : Place) → i < length nodes → node ≡ get_or nodes i node →
+    Writes breaking (take i nodes) places before mid →
+    BecomesCell (Becomes breaking) breaking (out-CellNode node) (out-TableCell cell) → n ≡ length mid →
+    place_of cell ≡ get_or places n d →
+    n < length places → after ≡ mid ++ cell ∷ [] → Writes breaking (take (i + 1) nodes) places before after
+Writes-next breaking nodes i node places before mid after cell n d within is writes becomes long at below pushed =
+    subst (λ (some : List CellNode). Writes breaking some places before after)
+    (sym (take_more nodes i node within ∙ ap (λ (z : CellNode). take i nodes ++ z ∷ []) (sym is)))
+    (Writes-cell breaking (take i nodes) node places before mid after cell n d writes becomes long at below pushed)
+
+-- cells so far leave room for those of one more item
+pub Writes-room : {X : Type 0} (breaking : Breaking) (f : X → List CellNode) (xs : List X) (i : ℕ) (x : X) (places : List Place)
+    (before mid : List TableCell) → i < length xs → x ≡ get_or xs i x →
+    Writes breaking (flat_map f (take i xs)) places before mid →
+    length before + length (flat_map f xs) ≤ length places → length mid + length (f x) ≤ length places
+Writes-room breaking f xs i x places before mid within is writes room =
+    omega (arith, Writes-length breaking (flat_map f (take i xs)) places before mid writes, joined_room f xs i x within is)

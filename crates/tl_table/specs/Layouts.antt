@@ -1,0 +1,97 @@
+-- Layouts of a table: a width for each column, a height for each row, and a layout of each table nested directly in
+-- it, each whatever it may be; and when one fits a page.
+use Rattle.std.specs.Prelude.{◌≡◌, ℕ, zero, suc, ◌≤◌, List, [], ◌∷◌, length, sum_by}
+use Rattle.std.specs.List.{AllZip, flat_map}
+use Rattle.tl_base.specs.declared.style.Style.{Style}
+use Rattle.tl_base.specs.Style.{gap_of, row_gap_of, edge_of}
+use Rattle.tl_grid.specs.declared.shape.Place.{Place}
+use Rattle.tl_base.specs.Sizes.{room, total}
+use Rattle.tl_text.specs.declared.paragraph.Atom.{Atom}
+use Rattle.tl_text.specs.Cuttings.{joined, IsCutting, HoldsIn}
+use Rattle.tl_table.specs.declared.cell.Content.{out-Content}
+use Rattle.tl_table.specs.declared.cell.Content.TheOpen as open_content
+use Rattle.tl_table.specs.declared.cell.Table.{Table, out-Table}
+use Rattle.tl_table.specs.declared.cell.TableCell.{out-TableCell}
+use Rattle.tl_table.specs.declared.layout.Layout.{Layout, Layout-F, out-Layout}
+use Rattle.tl_table.specs.Tables.{OpenTable, OpenCell, OpenContent}
+
+-- a layout by its fields
+abbrev pub OpenLayout : Type 0
+OpenLayout = Layout-F Layout
+
+-- the total width of a layout, in columns of the page
+abbrev pub total_width : Style → OpenLayout → ℕ
+total_width style layout = total (gap_of style) (edge_of style) layout.widths
+
+-- the total height of a layout, in lines
+abbrev pub total_height : Style → OpenLayout → ℕ
+total_height style layout = total (row_gap_of style) (edge_of style) layout.heights
+
+-- the room that a layout gives a place, in columns of the page
+abbrev pub width_for : Style → OpenLayout → Place → ℕ
+width_for style layout place = room (gap_of style) layout.widths place.left place.right
+
+-- the room that a layout gives a place, in lines
+abbrev pub height_for : Style → OpenLayout → Place → ℕ
+height_for style layout place = room (row_gap_of style) layout.heights place.top place.bottom
+
+-- a block's share of its cell: so many lines, and the layouts of the nested tables that it is, one or none
+pub record Share : Type 0 where
+  pub height : ℕ
+  pub inner : List Layout
+
+-- the paragraph has a cutting that holds in `w` columns, into at most `h` lines
+abbrev pub FitsParagraph : ℕ → List Atom → ℕ → Type 0
+FitsParagraph w paragraph h = (cut : List (List (List Atom))) × IsCutting paragraph cut × HoldsIn w cut ×
+    (length (joined cut) ≤ h)
+
+-- a nested table fits a page of `w` columns by the layout of its share, with a total height of at most the lines of
+-- the share
+pub record FitsInside (fits : ℕ → ℕ → Layout → Type 0) (w : ℕ) (share : Share) : Type 0 where
+  pub layout : Layout
+  pub height : ℕ
+  pub laid : fits w height layout
+  pub within : height ≤ share.height
+  pub given : share.inner ≡ layout ∷ []
+
+-- a block fits in `w` columns by its share; `fits` says which layouts fit a nested table
+abbrev pub FitsShare : (Table → ℕ → ℕ → Layout → Type 0) → ℕ → OpenContent → Share → Type 0
+FitsShare fits w (open_content.Para paragraph) share = FitsParagraph w paragraph share.height × (share.inner ≡ [])
+FitsShare fits w (open_content.Table box) share = FitsInside (fits box.value) w share
+
+-- a cell fits in a room of `w` columns and `h` lines: the room is as wide as the cell's floor, and its blocks stand
+-- one under the other, its nested tables by these layouts
+pub record FitsRoom (fits : Table → ℕ → ℕ → Layout → Type 0) (w h : ℕ) (cell : OpenCell)
+    (inner : List Layout) : Type 0 where
+  pub floor : cell.least ≤ w
+  pub shares : List Share
+  pub blocks : AllZip (λ block share. FitsShare fits w (out-Content block) share) cell.blocks shares
+  pub within : sum_by (λ share. share.height) shares ≤ h
+  pub given : flat_map (λ share. share.inner) shares ≡ inner
+
+-- a cell fits in the room that the layout gives it
+abbrev pub FitsCell : (Table → ℕ → ℕ → Layout → Type 0) → Style → OpenLayout → OpenCell → List Layout → Type 0
+FitsCell fits style layout cell inner = FitsRoom fits (width_for style layout cell.place)
+    (height_for style layout cell.place) cell inner
+
+-- the layout fits a page of `width` columns with a total height of `height` lines, where `fits` says the same of the
+-- tables nested in its cells
+pub record FitsBy (fits : Table → ℕ → ℕ → Layout → Type 0) (style : Style) (table : OpenTable) (width height : ℕ)
+    (layout : OpenLayout) : Type 0 where
+  pub columns : length layout.widths ≡ table.cols
+  pub rows : length layout.heights ≡ table.rows
+  pub within : total_width style layout ≤ width
+  pub high : total_height style layout ≡ height
+  pub parts : List (List Layout)
+  pub cells : AllZip (λ cell inner. FitsCell fits style layout (out-TableCell cell) inner) table.cells parts
+  pub given : flat_map (λ inner. inner) parts ≡ layout.inner
+
+-- the layout fits, of a table with fewer than `depth` tables inside one another
+abbrev pub FitsWithin : ℕ → Style → Table → ℕ → ℕ → Layout → Type 0
+FitsWithin zero style table width height layout = ⊥
+FitsWithin (suc depth) style table width height layout =
+    FitsBy (FitsWithin depth style) style (out-Table table) width height (out-Layout layout)
+
+-- the layout fits a page of `width` columns with a total height of `height` lines
+abbrev pub Fits : Table → Style → ℕ → ℕ → Layout → Type 0
+Fits table style width height layout = (depth : ℕ) × FitsWithin depth style table width height layout

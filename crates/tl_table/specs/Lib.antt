@@ -1,0 +1,14 @@
+pub mod Tables
+pub mod Layouts
+pub mod Least
+pub mod Chains
+pub mod Sound
+pub mod Formed
+pub mod Refused
+pub mod Same
+pub mod Numbered
+pub mod FewCells
+pub mod Spells
+pub mod SameLaws
+pub mod Laws
+pub mod inner

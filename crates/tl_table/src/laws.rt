@@ -1,0 +1,34 @@
+//! Laws of the definitions in this crate's specs. Each is the contract of a function that does nothing.
+
+ghost use Rattle.tl_table.specs.FewCells.{FormedHasFewCells};
+ghost use Rattle.tl_table.specs.Laws.{EachNumberIsOfOneTable, FileSpellsOneTable, NoPageIsNarrowerThanAChain, TheFirstHasTheLeastNumber};
+
+use tl_tree::tokens_spell_one_tree;
+
+/// A file spells at most one table for each breaking.
+pub fn file_spells_one_table()
+    ensures { FileSpellsOneTable }
+{
+    tokens_spell_one_tree();
+}
+
+/// No page that a layout of a table fits is narrower than a chain of the table weighs.
+pub fn no_page_is_narrower_than_a_chain()
+    ensures { NoPageIsNarrowerThanAChain }
+{}
+
+/// The first table of a sound tree without a grid, in the order in which tables begin, is the first by
+/// number.
+pub fn the_first_without_a_grid_has_the_least_number()
+    ensures { TheFirstHasTheLeastNumber }
+{}
+
+/// A table that a tree becomes has no more cells, at all depths, than a grid may have and a caption.
+pub fn formed_has_few_cells()
+    ensures { FormedHasFewCells }
+{}
+
+/// Each number from a sound table's own on is that of exactly one of the table and those inside it.
+pub fn each_number_is_of_one_table()
+    ensures { EachNumberIsOfOneTable }
+{}
