@@ -6,10 +6,9 @@
 `rt` locks a crate and all those below it while it works in a checkout. So each library is proved in a
 copy of its own, which has the libraries below it as links; what the copy keeps in out/ goes to the
 checkout when it ends, so that a run that is stopped goes on from there. The library that the longest
-chain of others waits for goes first, by its priority, and gets all jobs but one, or all where no other
-library is ready; the others share what it leaves. Prints a line for each library as it begins, and one
-with its seconds as it ends, elapsed and of processors. Where one is not proved it prints the end of what
-`rt` said, and ends with 1.
+chain of others waits for goes first, by its priority. Prints a line for each library as it begins, and
+one with its seconds as it ends, elapsed and of processors. Where one is not proved it prints the end of
+what `rt` said, and ends with 1.
 """
 import contextlib
 import os
@@ -22,7 +21,12 @@ from pathlib import Path
 
 TOP = Path(__file__).resolve().parent.parent
 COPIES = TOP / "out" / "proving"
-LANES = len(os.sched_getaffinity(0))
+PROCESSORS = len(os.sched_getaffinity(0))
+# More jobs for one library cost more processor seconds, and fewer leave processors idle where one library waits for
+# another.
+JOBS = min(2, PROCESSORS)
+# One more than the processors have work for, since each library begins with a part that uses one processor alone.
+LANES = PROCESSORS // JOBS + 1
 PARTS = ("src", "specs", "proofs")
 LOW_PRIORITY = 10
 
@@ -119,14 +123,10 @@ def prove(target):
             ready = [it for it in waiting if proved.issuperset(depends_on[it])]
             if ready and len(running) < LANES:
                 name = max(ready, key=length.get)
-                is_first = all(length[it.name] < length[name] for it in running.values())
-                share = (LANES - len(running)) // len(ready)
-                # More jobs for one library cost more processor seconds: all only where no other can use them.
                 alone = not running and len(ready) == 1
-                jobs = max(1, LANES if alone else max(LANES - 1, share) if is_first else share)
                 waiting.remove(name)
                 say(f"{name} ({len(length) - len(waiting)} of {len(length) + 1})")
-                it = Proving(name, lines, closure(name, depends_on), jobs)
+                it = Proving(name, lines, closure(name, depends_on), PROCESSORS if alone else JOBS)
                 running[it.process.pid] = it
             else:
                 pid, status, used = os.wait4(-1, 0)
