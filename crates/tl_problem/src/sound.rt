@@ -1,12 +1,12 @@
 //! The test for a sound problem.
 
-ghost use Rattle.std.specs.Prelude.{◌≡◌, ◌+◌, ◌<◌, ◌≤◌, ◌↔◌, length, sum_by, IsTrue};
+ghost use Rattle.std.specs.Prelude.{◌≡◌, ◌+◌, ◌<◌, ◌≤◌, ◌↔◌, length, sum_by, IfNone, IfSome, IsTrue};
 ghost use Rattle.std.specs.List.{All, Any};
 ghost use Rattle.tl_base.specs.Steps.{AreSteps, IsLowAt, first_height};
 ghost use Rattle.tl_problem.specs.Layouts.{WithinPage};
 ghost use Rattle.tl_problem.specs.Sound.{IsSound, IsSoundCell, ShareSlot};
 ghost use Rattle.tl_problem.specs.inner.Axes.{start_of};
-ghost use Rattle.tl_problem.specs.inner.Soundness.{AreSeparate, EachBegins, Fits, IsNextPlace, IsNowhereAbove, IsSeparate, grid};
+ghost use Rattle.tl_problem.specs.inner.Soundness.{AreByTop, AreSeparate, BeginsNowhere, EachBegins, Fits, IsNextPlace, IsNowhereAbove, IsSeparate, grid};
 ghost use Rattle.tl_problem.specs.inner.Spanning.{IsInGrid};
 
 use crate::axis::Axis;
@@ -19,8 +19,9 @@ const PLACES: usize = MAX_COLUMNS + 1;
 impl Problem {
     /// Whether these are a sound problem's columns, rows, style, width and cells, so that
     /// `Problem::new` may be called with them: in the limits, no two cells over one slot, a cell that
-    /// begins in each column and row, and a layout within the page. No memory is taken. Each cell is
-    /// compared with each later one, so the time grows with the square of their number.
+    /// begins in each column and row, and a layout within the page. No memory is taken. If the cells stand
+    /// by their tops, each is compared with the later ones that begin beside it alone; in another order with
+    /// all later ones, and the time grows with the square of their number.
     pub fn is_sound(cols: u32, rows: u32, style: Style, width: u32, cells: &[Cell]) -> bool
         ensures { IsTrue result ↔ IsSound (record { cols = cols; rows = rows; style = style; width = width; cells = cells.now }) }
     {
@@ -94,20 +95,38 @@ fn is_low_at(low: &Steps, step: Config) -> bool
 fn are_separate(cells: &[Cell]) -> bool
     ensures { IsTrue result ↔ AreSeparate cells.now }
 {
+    let by_top = are_by_top(cells);
     for number in 0..cells.len() {
-        if !is_separate(cells, number) {
+        if !is_separate(cells, number, by_top) {
             return false;
         }
     }
     true
 }
 
-/// Whether the cell with this number covers no slot that a later one covers.
-fn is_separate(cells: &[Cell], number: usize) -> bool
-    requires { number < length cells.now }
+/// Whether no cell begins above the one before it.
+fn are_by_top(cells: &[Cell]) -> bool
+    ensures { IsTrue result → AreByTop cells.now }
+{
+    for number in 1..cells.len() {
+        if cells[number].top < cells[number - 1].top {
+            return false;
+        }
+    }
+    true
+}
+
+/// Whether the cell with this number covers no slot that a later one covers. If the cells stand by their
+/// tops, the first that begins below this one ends the comparing.
+fn is_separate(cells: &[Cell], number: usize, by_top: bool) -> bool
+    requires within { number < length cells.now }
+    requires order { IsTrue by_top → AreByTop cells.now }
     ensures { IsTrue result ↔ IsSeparate cells.now number }
 {
     for later in number + 1..cells.len() {
+        if by_top && cells[number].bottom <= cells[later].top {
+            return true;
+        }
         if share_slot(&cells[number], &cells[later]) {
             return false;
         }
@@ -126,24 +145,49 @@ fn share_slot(a: &Cell, b: &Cell) -> bool
 fn each_begins(cells: &[Cell], axis: Axis, count: u32) -> bool
     ensures { IsTrue result ↔ EachBegins axis count cells.now }
 {
+    let mut number = 0;
     for place in 0..count {
-        if !begins_at(cells, axis, place) {
-            return false;
+        match beginning_at(cells, axis, place, number) {
+            Some(found) => number = found,
+            None => return false,
         }
     }
     true
 }
 
-/// Whether a cell begins in this column, or row.
-fn begins_at(cells: &[Cell], axis: Axis, place: u32) -> bool
-    ensures { IsTrue result ↔ Any (λ cell. start_of axis cell ≡ place) cells.now }
+/// The number of a cell that begins in this column, or row: of those from `from` on the first, or else of
+/// those before.
+fn beginning_at(cells: &[Cell], axis: Axis, place: u32, from: usize) -> Option<usize>
+    requires { from ≤ length cells.now }
+    ensures some { IfSome result (λ number. number < length cells.now) }
+    ensures there { IfSome result (λ _. Any (λ cell. start_of axis cell ≡ place) cells.now) }
+    ensures none { IfNone result (Any (λ cell. start_of axis cell ≡ place) cells.now → ⊥) }
 {
-    for number in 0..cells.len() {
+    match beginning_between(cells, axis, place, from, cells.len()) {
+        Some(number) => Some(number),
+        None => beginning_between(cells, axis, place, 0, from),
+    }
+}
+
+/// The number of the first cell that begins in this column, or row, of those from `first` to before `past`.
+fn beginning_between(
+    cells: &[Cell],
+    axis: Axis,
+    place: u32,
+    first: usize,
+    past: usize,
+) -> Option<usize>
+    requires { past ≤ length cells.now }
+    ensures some { IfSome result (λ number. number < length cells.now) }
+    ensures there { IfSome result (λ _. Any (λ cell. start_of axis cell ≡ place) cells.now) }
+    ensures none { IfNone result (BeginsNowhere axis place cells.now first past) }
+{
+    for number in first..past {
         if axis.start(&cells[number]) == place {
-            return true;
+            return Some(number);
         }
     }
-    false
+    None
 }
 
 /// Whether the greatest heights of the cells sum to a height in the limits.

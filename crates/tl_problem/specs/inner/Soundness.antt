@@ -31,6 +31,15 @@ abbrev pub IsSeparate : List Cell → ℕ → Type 0
 IsSeparate cells number = (later : ℕ) → number < later → later < length cells →
     ShareSlot (cell_at cells number) (cell_at cells later) → ⊥
 
+-- no cell begins above one before it
+abbrev pub AreByTop : List Cell → Type 0
+AreByTop cells = (number later : ℕ) → number ≤ later → later < length cells →
+    (cell_at cells number).top ≤ (cell_at cells later).top
+
+-- no cell from `first` to before `past` begins in this column, or row
+abbrev pub BeginsNowhere : Axis → ℕ → List Cell → ℕ → ℕ → Type 0
+BeginsNowhere axis place cells first past = (k : ℕ) → first ≤ k → k < past → start_of axis (cell_at cells k) ≡ place → ⊥
+
 -- in each column, or row, a cell begins
 abbrev pub EachBegins : Axis → ℕ → List Cell → Type 0
 EachBegins axis count cells = (place : ℕ) → place < count → Any (λ cell. start_of axis cell ≡ place) cells
