@@ -3,8 +3,13 @@
 --       0            zone 1: bound 3, area bound 6
 --      / \           zone 2: bound 4, area bound 2
 --     1   2
-use Rattle.std.proofs.Common.{◌≡◌, ℕ, List, [], ◌∷◌, ◌⊎◌, inl, inr, get_or, refl, subst, arith}
+use Rattle.std.proofs.Common.{◌≡◌, ℕ, List, [], ◌∷◌, ◌⊎◌, inl, inr, length, get_or, refl, ap, subst}
+use Rattle.std.proofs.Common.{arith}
 use Rattle.std.proofs.lemmas.Bool.{cases_lt}
+use Rattle.tl_base.specs.declared.style.Style.TheVariants.{Plain}
+use Rattle.tl_base.specs.Steps.{height_at}
+use Rattle.tl_base.proofs.Members.{Contains-cases, Contains-none}
+use Rattle.tl_problem.specs.declared.cell.Cell.{Cell}
 use Rattle.tl_problem.specs.declared.placed.Placed.{Placed}
 use Rattle.tl_problem.specs.Problem.{ProblemModel}
 use Rattle.tl_problem.specs.Placements.{IsPlacementIn}
@@ -12,10 +17,11 @@ use Rattle.tl_problem.specs.Zones.{InZone}
 use Rattle.tl_problem.specs.Agreement.{HasOneClass, LowIsHigh}
 use Rattle.tl_problem.proofs.AreaLaws.{area-unique}
 use Rattle.tl_problem.proofs.BoundLaws.{bound-unique}
+use Rattle.tl_problem.proofs.Heights.{test_le, test_le_false}
 use Rattle.tl_cert.specs.declared.trace.CutAt.{CutAt}
 use Rattle.tl_cert.specs.Traces.{Stands, zone_of}
 use Rattle.tl_cert.specs.Worked.{IsBoundOf}
-use Rattle.tl_astar.specs.Best.{CutsBelowByArea, MayBeLower, IsOfLeastBound, IsAreaOf, IsLeastProved}
+use Rattle.tl_astar.specs.Best.{CutsBelowByArea, HaveSameSteps, IsShut, MayBeLower, IsOfLeastBound, IsAreaOf, IsLeastProved}
 
 abbrev cut_of : ℕ → CutAt
 cut_of z = record { zone = z; span = 0; class = 0 }
@@ -86,23 +92,44 @@ module _ (problem : ProblemModel) (first : IsBoundOf problem one_cut 1 3) (secon
   two_not_first is =
       let four = bound-unique problem (InZone problem (zone_of problem one_cut 2)) is.0 4 is.1 second in
       let may : MayBeLower problem (zone_of problem one_cut 1) 9 =
-      record { classes = several; area = λ low. (6, first_area, omega arith) } in
+      record { classes = several; area = λ same. (6, first_area, omega arith) } in
       let below = is.2 1 3 first_stands first may in
       omega (arith, four, below)
 
-  -- but where it has five, and `low` is `high`, zone 1 holds nothing lower, and zone 2 may
-  two_alone : LowIsHigh problem → IsOfLeastBound problem 5 one_cut (cut_of 2)
-  two_alone low = (
+  -- but where it has five, and the steps are the same, zone 1 holds nothing lower, and zone 2 may
+  two_alone : HaveSameSteps problem → IsOfLeastBound problem 5 one_cut (cut_of 2)
+  two_alone same = (
     4,
     second,
     λ z other stands has may. elim (bound_at z other stands has) [
       | inr two ↦ omega (arith, two.1)
       | inl one ↦
-          let area = (subst (λ n. MayBeLower problem (zone_of problem one_cut n) 5) one.0 may).area low in
+          let area = (subst (λ n. MayBeLower problem (zone_of problem one_cut n) 5) one.0 may).area same in
           let six = area-unique problem (InZone problem (zone_of problem one_cut 1)) area.0 6 area.1 first_area in
           absurd (omega (arith, six, area.2))
     ],
   )
+
+  -- where they are not, its area bound excuses no zone
+  two_not_alone : (HaveSameSteps problem → ⊥) → IsOfLeastBound problem 5 one_cut (cut_of 2) → ⊥
+  two_not_alone differ is =
+      let four = bound-unique problem (InZone problem (zone_of problem one_cut 2)) is.0 4 is.1 second in
+      let may : MayBeLower problem (zone_of problem one_cut 1) 5 =
+      record { classes = several; area = λ same. absurd (differ same) } in
+      let below = is.2 1 3 first_stands first may in
+      omega (arith, four, below)
+
+  -- so a search may end with zone 1 uncut if the steps are the same, and may not if they are not
+  one_shut : HaveSameSteps problem → IsShut problem (zone_of problem one_cut 1) 5
+  one_shut same = inr (same, (6, first_area, omega arith))
+
+  one_open : (HaveSameSteps problem → ⊥) → IsShut problem (zone_of problem one_cut 1) 5 → ⊥
+  one_open differ (inl (inl none)) = none first.some.0 first.some.1
+  one_open differ (inl (inr (inl high))) =
+      let three = bound-unique problem (InZone problem (zone_of problem one_cut 1)) high.0 3 high.1 first in
+      omega (arith, three, high.2)
+  one_open differ (inl (inr (inr single))) = several single.0
+  one_open differ (inr shut) = differ shut.0
 
   -- where the placement in zone 2 has five lines, zone 1, whose area bound is six, may not be cut
   one_not_by_area : (placed : Placed) → IsPlacementIn problem (InZone problem (zone_of problem one_cut 2)) placed →
@@ -142,3 +169,33 @@ module _ (problem : ProblemModel) (first : IsBoundOf problem one_cut 1 3) (secon
               omega (arith, six, some.6)
         ]
       ]
+
+-- ---- the same steps, and the same needs on the page
+
+-- a cell of two lines, which by `low` would have one from nine columns on, on a page of five
+abbrev past_the_page : Cell
+past_the_page = record {
+  left = 0;
+  right = 1;
+  top = 0;
+  bottom = 1;
+  low = record { width = 1; height = 2 } ∷ record { width = 9; height = 1 } ∷ [];
+  high = record { width = 1; height = 2 } ∷ [];
+}
+
+abbrev narrow : ProblemModel
+narrow = record { cols = 1; rows = 1; style = Plain; width = 5; cells = past_the_page ∷ [] }
+
+-- `low` is `high` at each width of the page
+low_is_high : LowIsHigh narrow
+low_is_high cell has w within = elim (Contains-cases past_the_page [] cell has) [
+  | inr none ↦ absurd (Contains-none cell none)
+  | inl same ↦ subst (λ (c : Cell). height_at c.low w ≡ height_at c.high w) same (elim (cases_lt w 1) [
+    | inl none ↦ rw (test_le_false 1 w none, test_le_false 9 w (omega arith)) refl
+    | inr some ↦ rw (test_le 1 w some, test_le_false 9 w (omega arith)) refl
+  ])
+]
+
+-- and yet the steps are not the same
+not_same : HaveSameSteps narrow → ⊥
+not_same same = let steps = same 0 past_the_page (omega arith) in omega (arith, ap length steps)

@@ -20,7 +20,8 @@ use Rattle.tl_cert.specs.Worked.{IsBoundOf}
 use Rattle.tl_cert.proofs.TraceLaws.{zone-old, zone-lower, zone-upper, zone-cases, stands-old, stood-before, stands-new}
 use Rattle.tl_cert.proofs.TraceLaws.{cuts-there, zones-are}
 use Rattle.tl_solve.proofs.WalkLaws.{closed-lower}
-use Rattle.tl_astar.specs.inner.Frontier.{IsShut, AreShut, IsUnderBounds, IsFrontier}
+use Rattle.tl_astar.specs.Best.{IsShut, AreShut}
+use Rattle.tl_astar.specs.inner.Frontier.{IsUnderBounds, IsFrontier}
 use Rattle.tl_astar.proofs.Lists.{apart-permuted}
 
 -- a zone that is shut for a height is shut for a lower one

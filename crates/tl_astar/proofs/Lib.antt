@@ -1,3 +1,4 @@
+mod Agreeing
 mod CoverLaws
 mod Examples
 mod FrontierLaws

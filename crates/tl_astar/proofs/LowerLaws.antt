@@ -1,5 +1,5 @@
 -- The lower bound that the zones of a trace prove, and the outcome that has it.
-use Rattle.std.proofs.Common.{◌≡◌, ℕ, ◌+◌, ◌*◌, ◌<◌, ◌≤◌, min, max, List, inl, inr, length, sym, subst, arith}
+use Rattle.std.proofs.Common.{◌≡◌, ℕ, ◌+◌, ◌*◌, ◌<◌, ◌≤◌, min, max, List, ◌⊎◌, inl, inr, length, sym, subst, arith}
 use Rattle.std.proofs.lemmas.Bool.{cases_lt}
 use Rattle.tl_problem.specs.Problem.{ProblemModel}
 use Rattle.tl_problem.specs.Sound.{IsSound}
@@ -19,10 +19,12 @@ use Rattle.tl_solve.specs.Arenas.{IsArenaOf, IsLowered}
 use Rattle.tl_solve.specs.Ends.{HasBoundUpTo}
 use Rattle.tl_solve.specs.Logs.{Proves}
 use Rattle.tl_solve.specs.Orders.{AtEachCut, CutsBelowPlacements}
-use Rattle.tl_astar.specs.Best.{IsOfLeastBound, CutsBelowByArea, CutsUpTo, IsAreaOf, IsLeastProved, IsBestOutcome}
-use Rattle.tl_astar.specs.inner.Frontier.{AreShut, KeepsBoundOrder}
+use Rattle.tl_solve.specs.TraceLogs.{IsTraceLog}
+use Rattle.tl_astar.specs.Best.{AreShut, IsOfLeastBound, CutsBelowByArea, CutsUpTo, IsAreaOf, IsLeastProved, IsBestOutcome}
+use Rattle.tl_astar.specs.inner.Frontier.{KeepsBoundOrder}
 use Rattle.tl_astar.specs.inner.Lower.{IsProvedUpto, IsLessened}
 use Rattle.tl_astar.proofs.CoverLaws.{proved-below_placement}
+use Rattle.tl_astar.proofs.Agreeing.{same-agree}
 use Rattle.tl_astar.proofs.OrderLaws.{proves-less}
 
 module _ (problem : ProblemModel) (trace : List CutAt) (height : ℕ) where
@@ -124,7 +126,7 @@ module _ (problem : ProblemModel) (trace : List CutAt) (height : ℕ) where
               | inl (inr (inr single)) ↦
                   absurd (agree-everywhere problem sound (zone_of problem trace some.0)
                   (zones-are problem sound trace trace_of some.0 some.3.there)
-                  area.0 single.1)
+                  (same-agree problem area.0) single.1)
               | inr high ↦
                   let same = area-unique problem Among high.1.0 some.2 high.1.1 some.5 in
                   absurd (omega (arith, same, high.1.2, some.6, below))
@@ -147,9 +149,10 @@ pub best-outcome : (problem : ProblemModel) → IsSound problem → (budget : �
     (least : ℕ) →
     IsProvedUpto problem arena.trace arena.best.height (2 * length arena.trace + 1) least →
     KeepsBoundOrder problem arena.trace arena.best.height →
-    (budget ≡ 0 → IsOpening problem arena.best) → (outcome : Outcome) → outcome.best ≡ arena.best → outcome.trace ≡ arena.trace →
-    outcome.lower ≡ least → IsBestOutcome problem budget outcome
-best-outcome problem sound budget arena is least proved keeps shown outcome best trace lower =
+    (budget ≡ 0 → IsOpening problem arena.best) →
+    (length arena.trace ≡ budget) ⊎ AreShut problem arena.trace arena.best.height → (outcome : Outcome) → outcome.best ≡ arena.best → outcome.trace ≡ arena.trace →
+    outcome.lower ≡ least → IsTraceLog problem outcome.trace outcome.lower outcome.log → IsBestOutcome problem budget outcome
+best-outcome problem sound budget arena is least proved keeps shown ended outcome best trace lower lines =
     let height = arena.best.height in
     let up_to : LowIsHigh problem → CutsUpTo problem arena.trace least = λ agree i d within.
     let cut = keeps.proved agree i d within in
@@ -167,4 +170,7 @@ best-outcome problem sound budget arena is least proved keeps shown outcome best
           (subst (IsLeastProved problem arena.trace height) (sym lower) (least-proved problem arena.trace height least proved)));
       up_to = λ agree. subst (λ t. CutsUpTo problem t outcome.lower) (sym trace)
           (subst (CutsUpTo problem arena.trace) (sym lower) (up_to agree));
+      ended = subst (λ p. (length outcome.trace ≡ budget) ⊎ AreShut problem outcome.trace p.height) (sym best)
+          (subst (λ t. (length t ≡ budget) ⊎ AreShut problem t height) (sym trace) ended);
+      log = lines;
     }

@@ -155,7 +155,6 @@ search-popped problem search opens is bounds = record {
   arena = is.arena;
   work = is.work;
   bounds = bounds;
-  agree = is.agree;
   same_steps = is.same_steps;
   order = is.order;
 }
@@ -250,7 +249,6 @@ search-offered problem search arena is offered trace less = record {
   arena = offered;
   work = is.work;
   bounds = subst (λ t. HaveBounds problem t (heap_items search.opens.heap)) (sym trace) is.bounds;
-  agree = is.agree;
   same_steps = is.same_steps;
   order = subst (λ t. KeepsBoundOrder problem t arena.best.height) (sym trace)
       (order-lower problem search.arena.trace search.arena.best.height arena.best.height less is.order);

@@ -1,5 +1,5 @@
 -- What the best-first search promises besides what every search does: which zones it cuts, and its lower bound.
-use Rattle.std.specs.Prelude.{◌≡◌, ℕ, ◌<◌, ◌≤◌, max, ◌⊎◌, List}
+use Rattle.std.specs.Prelude.{◌≡◌, ℕ, ◌<◌, ◌≤◌, max, ◌⊎◌, List, length}
 use Rattle.std.specs.List.{All}
 use Rattle.tl_problem.specs.declared.placed.Placed.{Placed}
 use Rattle.tl_problem.specs.declared.zone.Range.{Range}
@@ -10,18 +10,24 @@ use Rattle.tl_problem.specs.Placements.{IsOpening}
 use Rattle.tl_problem.specs.Zones.{InZone}
 use Rattle.tl_cert.specs.declared.trace.CutAt.{CutAt}
 use Rattle.tl_cert.specs.Traces.{Stands, zone_of}
-use Rattle.tl_cert.specs.Worked.{IsBoundOf}
+use Rattle.tl_cert.specs.Worked.{IsBoundOf, IsClosed}
 use Rattle.tl_solve.specs.declared.outcome.Outcome.{Outcome}
 use Rattle.tl_solve.specs.Arenas.{IsLowered}
+use Rattle.tl_solve.specs.Logs.{HasAreaFrom}
 use Rattle.tl_solve.specs.Orders.{AtEachCut, CutsBelowPlacements, IsBelowPlacements}
+use Rattle.tl_solve.specs.TraceLogs.{IsTraceLog}
 
 -- ---- which zone is cut
 
--- the zone may still hold a layout that is lower: some span has more than one class and, where `low` is `high`, the area
--- bound is below the height
+-- each cell has the same steps by `low` and by `high`, those past the page too
+abbrev pub HaveSameSteps : ProblemModel → Type 0
+HaveSameSteps problem = All (λ cell. cell.low ≡ cell.high) problem.cells
+
+-- the zone may still hold a layout that is lower: some span has more than one class and, if each cell has the same steps by
+-- `low` and by `high`, the area bound is below the height
 pub record MayBeLower (problem : ProblemModel) (zone : List Range) (height : ℕ) : Type 0 where
   pub classes : HasOneClass zone → ⊥
-  pub area : LowIsHigh problem → (bound : ℕ) × IsAreaBound problem (InZone problem zone) bound × (bound < height)
+  pub area : HaveSameSteps problem → (bound : ℕ) × IsAreaBound problem (InZone problem zone) bound × (bound < height)
 
 -- the zone that is cut has a bound that is at most that of each zone that stands then, has widths and may hold a layout
 -- below the height
@@ -43,9 +49,16 @@ abbrev pub CutsBelowByArea : ProblemModel → List CutAt → Type 0
 CutsBelowByArea problem trace =
     AtEachCut (λ cuts cut. (area : ℕ) × IsAreaOf problem cuts cut.zone area × IsBelowPlacements problem cuts area) trace
 
--- each cell has the same steps by `low` and by `high`
-abbrev pub HaveSameSteps : ProblemModel → Type 0
-HaveSameSteps problem = All (λ cell. cell.low ≡ cell.high) problem.cells
+-- ---- when a search may end
+
+-- the zone needs no cut: it is closed for the height or, if each cell has the same steps by `low` and by `high`, its area
+-- bound is at least the height
+abbrev pub IsShut : ProblemModel → List Range → ℕ → Type 0
+IsShut problem zone height = IsClosed problem zone height ⊎ (HaveSameSteps problem × HasAreaFrom problem zone height)
+
+-- no zone that stands needs a cut
+abbrev pub AreShut : ProblemModel → List CutAt → ℕ → Type 0
+AreShut problem trace height = (z : ℕ) → Stands trace z → IsShut problem (zone_of problem trace z) height
 
 -- ---- the lower bound
 
@@ -61,9 +74,10 @@ pub record IsLeastProved (problem : ProblemModel) (trace : List CutAt) (height l
 
 -- The search began with the opening, replaced it only by lower placements, and not at all for a budget of no cuts. Each
 -- zone that it cut had the least bound of those that may hold a layout below the best, and a bound below the height of
--- the placement in every zone that was made by then; so was its area bound, where each cell has the same steps by `low`
--- and by `high`. Its lower bound is the least that the zones prove; where `low` is `high`, no zone was cut whose bound is
--- above it.
+-- the placement in every zone that was made by then; so was its area bound, if each cell has the same steps by `low` and
+-- by `high`. Its lower bound is the least that the zones prove; if `low` is `high` on the page, no zone was cut whose bound
+-- is above it. It ended with all cuts of its budget made, or with no zone that needs one. Its log is the one that is made
+-- for its trace.
 pub record IsBestOutcome (problem : ProblemModel) (budget : ℕ) (outcome : Outcome) : Type 0 where
   pub opening : (placed : Placed) × IsOpening problem placed × IsLowered placed outcome.best
   pub shown : budget ≡ 0 → IsOpening problem outcome.best
@@ -72,3 +86,5 @@ pub record IsBestOutcome (problem : ProblemModel) (budget : ℕ) (outcome : Outc
   pub below_by_area : HaveSameSteps problem → CutsBelowByArea problem outcome.trace
   pub lower : IsLeastProved problem outcome.trace outcome.best.height outcome.lower
   pub up_to : LowIsHigh problem → CutsUpTo problem outcome.trace outcome.lower
+  pub ended : (length outcome.trace ≡ budget) ⊎ AreShut problem outcome.trace outcome.best.height
+  pub log : IsTraceLog problem outcome.trace outcome.lower outcome.log

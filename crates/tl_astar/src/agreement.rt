@@ -1,16 +1,14 @@
-//! Whether `low` is `high` for every cell of a problem.
+//! Whether `low` and `high` have the same steps for every cell of a problem.
 
-ghost use Rattle.std.specs.Prelude.{◌≡◌, IsTrue};
-ghost use Rattle.tl_problem.specs.Agreement.{LowIsHigh};
+ghost use Rattle.std.specs.Prelude.{◌≡◌, ◌↔◌, IsTrue};
 ghost use Rattle.tl_astar.specs.Best.{HaveSameSteps};
 
 use tl_base::Config;
 use tl_problem::Problem;
 
 /// Whether each cell has the same steps by `low` and by `high`.
-pub(crate) fn is_low_high(problem: &Problem) -> bool
-    ensures low { IsTrue result → LowIsHigh problem.now }
-    ensures same { HaveSameSteps problem.now → IsTrue result }
+pub(crate) fn have_same_steps(problem: &Problem) -> bool
+    ensures { IsTrue result ↔ HaveSameSteps problem.now }
 {
     let cells = problem.cells();
     for number in 0..cells.len() {
@@ -23,8 +21,7 @@ pub(crate) fn is_low_high(problem: &Problem) -> bool
 
 /// Whether the steps are the same.
 fn are_same(first: &[Config], second: &[Config]) -> bool
-    ensures same { IsTrue result → first.now ≡ second.now }
-    ensures all { first.now ≡ second.now → IsTrue result }
+    ensures { IsTrue result ↔ (first.now ≡ second.now) }
 {
     if first.len() != second.len() {
         return false;

@@ -4,8 +4,8 @@ ghost use Rattle.std.specs.Prelude.{◌≡◌, ◌≤◌, IfOk, IfSome, MatchOpt
 ghost use Rattle.tl_problem.specs.Zones.{whole_zone};
 ghost use Rattle.tl_cert.specs.Traces.{IsCut, Stands, zone_of};
 ghost use Rattle.tl_solve.specs.Arenas.{HasBoundBelow};
-ghost use Rattle.tl_astar.specs.Best.{HaveSameSteps};
-ghost use Rattle.tl_astar.specs.inner.Frontier.{HasAreaBelow, IsShut, PartsRange};
+ghost use Rattle.tl_astar.specs.Best.{HaveSameSteps, IsShut};
+ghost use Rattle.tl_astar.specs.inner.Frontier.{HasAreaBelow, PartsRange};
 ghost use Rattle.tl_astar.specs.inner.Searches.{IsSearchOf};
 
 use crate::columns::{column_places, widths_between};
@@ -41,7 +41,7 @@ impl Search {
     {
         let cells = problem.cells();
         let ranges = self.arena.zones()[zone as usize].ranges();
-        let sight = Sight::of_zone(self.alloc, &self.shape, cells, ranges, self.low_is_high)?;
+        let sight = Sight::of_zone(self.alloc, &self.shape, cells, ranges, self.same_steps)?;
         self.offer_fit(problem, &sight)?;
         self.offer_greedy(problem, &sight)?;
         let Some(first) = self.first_cut(problem, zone) else {

@@ -8,6 +8,7 @@ mod best;
 mod choosing;
 mod columns;
 mod greedy;
+mod laws;
 mod lower;
 mod opens;
 mod parts;
@@ -17,3 +18,4 @@ mod sight;
 mod spread;
 
 pub use best::Best;
+pub use laws::same_steps_agree;

@@ -7,8 +7,7 @@ ghost use Rattle.tl_cert.specs.declared.trace.CutAt.{CutAt};
 ghost use Rattle.tl_cert.specs.Traces.{IsZoneOf};
 ghost use Rattle.tl_solve.specs.Arenas.{IsArenaOf};
 ghost use Rattle.tl_solve.specs.Solver.{IsSolverOutcome};
-ghost use Rattle.tl_astar.specs.Best.{IsBestOutcome};
-ghost use Rattle.tl_astar.specs.inner.Frontier.{AreShut};
+ghost use Rattle.tl_astar.specs.Best.{AreShut, IsBestOutcome};
 ghost use Rattle.tl_astar.specs.inner.Lower.{AreUncut, IsLessened, IsProvedUpto};
 ghost use Rattle.tl_astar.specs.inner.Searches.{IsSearchOf};
 

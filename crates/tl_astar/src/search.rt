@@ -12,12 +12,12 @@ ghost use Rattle.tl_cert.specs.Worked.{IsBoundOf};
 ghost use Rattle.tl_solve.specs.Arenas.{HasBoundBelow, IsArenaOf};
 ghost use Rattle.tl_solve.specs.Logs.{HasAreaFrom};
 ghost use Rattle.tl_solve.specs.Orders.{IsFirstCut};
-ghost use Rattle.tl_astar.specs.Best.{HaveSameSteps};
+ghost use Rattle.tl_astar.specs.Best.{AreShut, HaveSameSteps, IsShut};
 ghost use Rattle.tl_astar.specs.inner.Entries.{IsAdded};
-ghost use Rattle.tl_astar.specs.inner.Frontier.{AreShut, HasAreaBelow, IsShut, IsUnderBounds};
+ghost use Rattle.tl_astar.specs.inner.Frontier.{HasAreaBelow, IsUnderBounds};
 ghost use Rattle.tl_astar.specs.inner.Searches.{AreLeft, IsSearchOf, open_zones};
 
-use crate::agreement::is_low_high;
+use crate::agreement::have_same_steps;
 use crate::opens::OpenZones;
 use crate::shape::Shape;
 use std::alloc::{AllocError, Global};
@@ -32,8 +32,8 @@ pub(crate) struct Search {
     pub(crate) arena: Arena,
     pub(crate) work: Work,
     pub(crate) opens: OpenZones,
-    /// Whether `low` is `high` for every cell: only then a zone is closed by its area bound.
-    pub(crate) low_is_high: bool,
+    /// Whether each cell has the same steps by `low` and by `high`: only then an area bound closes a zone.
+    pub(crate) same_steps: bool,
     pub(crate) shape: Shape,
     /// At how many cuts a low placement is looked for again.
     pub(crate) next_greedy: u32,
@@ -46,7 +46,7 @@ impl Drop for Search {
             arena: _arena,
             work: _work,
             opens: _opens,
-            low_is_high: _low_is_high,
+            same_steps: _same_steps,
             shape: _shape,
             next_greedy: _next_greedy,
         } = self;
@@ -70,7 +70,7 @@ impl Search {
             arena,
             work,
             opens,
-            low_is_high: is_low_high(problem),
+            same_steps: have_same_steps(problem),
             shape,
             next_greedy: 0,
         };
@@ -83,7 +83,7 @@ impl Search {
         requires { zone < length self.old.arena.bounds.items }
         ensures arena { self.new.arena ≡ self.old.arena }
         ensures work { self.new.work ≡ self.old.work }
-        ensures agree { self.new.low_is_high ≡ self.old.low_is_high }
+        ensures same_steps { self.new.same_steps ≡ self.old.same_steps }
         ensures added { OnOk result (IsAdded zone (get_or self.old.arena.bounds.items zone None)
             (heap_items self.old.opens.heap) (heap_items self.new.opens.heap)) }
         ensures len { OnOk result (heap_len self.new.opens.heap ≤ heap_len self.old.opens.heap + 1) }
@@ -131,7 +131,7 @@ impl Search {
             HasAreaBelow problem.now self.old.arena.trace zone self.old.arena.best.height) }
     {
         let cut = self.arena.first_cut(problem, zone)?;
-        if self.low_is_high && is_area_enough(problem, &self.arena, &mut self.work, zone) {
+        if self.same_steps && is_area_enough(problem, &self.arena, &mut self.work, zone) {
             return None;
         }
         Some(cut)
@@ -169,7 +169,7 @@ impl Search {
             arena,
             work: _work,
             opens: _opens,
-            low_is_high: _,
+            same_steps: _,
             shape: _shape,
             next_greedy: _,
         } = self;

@@ -34,13 +34,14 @@ impl Drop for Sight {
 }
 
 impl Sight {
-    /// What is seen of the zone with these ranges. Where `low` is not `high`, a span wants its last class.
+    /// What is seen of the zone with these ranges. Unless each cell has the same steps by `low` and by `high`,
+    /// a span wants its last class.
     pub(crate) fn of_zone(
         alloc: Global,
         shape: &Shape,
         cells: &[Cell],
         ranges: &[Range],
-        low_is_high: bool,
+        same_steps: bool,
     ) -> Result<Sight, AllocError> {
         let spread = spread_of(alloc, shape, ranges)?;
         let gap = signed(shape.style.gap());
@@ -54,7 +55,7 @@ impl Sight {
         }
         let last = last_classes(alloc, shape, &most)?;
         let heights = heights_at(alloc, shape, cells, &most)?;
-        let wanted = if low_is_high {
+        let wanted = if same_steps {
             rooms_for(alloc, shape, cells, &least, &heights)?
         } else {
             greater_rooms(alloc, &least, &last)?

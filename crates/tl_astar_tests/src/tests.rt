@@ -10,6 +10,13 @@ use tl_cert::{End, Log, Nogood};
 use tl_problem::{Cell, Problem};
 use tl_solve::{Outcome, Solver};
 
+fn share<T: Send + Sync + Drop>(_value: T) {}
+
+#[test]
+fn a_best_first_search_may_go_to_other_threads() {
+    share::<Option<Best>>(None);
+}
+
 fn config(width: u32, height: u32) -> Config {
     Config { width, height }
 }
@@ -175,11 +182,11 @@ fn two_cells_need_three_lines_on_nine_columns(rt: HostRuntime) -> Result<(), Fai
     Ok(())
 }
 
-/// `a a` beside `b b` on a page of 7. The first cell's `high` has these steps.
-fn two_pairs(alloc: Global, high: &[Config]) -> Result<Problem, Fail> {
+/// `a a` beside `b b` on a page of 7. The first cell has these steps by `low` and by `high`.
+fn two_pairs(alloc: Global, low: &[Config], high: &[Config]) -> Result<Problem, Fail> {
     let pair = [config(1, 2), config(3, 1)];
     let mut cells = List::new(alloc);
-    cells.push(cell(alloc, (0, 1), 0, &pair, high)?)?;
+    cells.push(cell(alloc, (0, 1), 0, low, high)?)?;
     cells.push(cell(alloc, (1, 2), 0, &pair, &pair)?)?;
     problem(alloc, 2, 1, 7, cells)
 }
@@ -188,7 +195,8 @@ fn two_pairs(alloc: Global, high: &[Config]) -> Result<Problem, Fail> {
 #[test]
 fn an_area_bound_closes_two_pairs_without_cuts(rt: HostRuntime) -> Result<(), Fail> {
     let alloc = rt.alloc();
-    let problem = two_pairs(alloc, &[config(1, 2), config(3, 1)])?;
+    let pair = [config(1, 2), config(3, 1)];
+    let problem = two_pairs(alloc, &pair, &pair)?;
     let outcome = Best::new(alloc).solve(&problem, 0)?;
     assert_eq!(rt; (outcome.best.height, outcome.lower), (2, 2));
     assert_eq!(rt; outcome.best.width, 4);
@@ -202,7 +210,8 @@ fn an_area_bound_closes_two_pairs_without_cuts(rt: HostRuntime) -> Result<(), Fa
 #[test]
 fn a_zone_that_its_area_bound_closes_is_not_cut(rt: HostRuntime) -> Result<(), Fail> {
     let alloc = rt.alloc();
-    let problem = two_pairs(alloc, &[config(1, 2), config(3, 1)])?;
+    let pair = [config(1, 2), config(3, 1)];
+    let problem = two_pairs(alloc, &pair, &pair)?;
     let outcome = Best::new(alloc).solve(&problem, 100)?;
     assert_eq!(rt; numbers(&outcome), (2, 2, 0));
     Ok(())
@@ -213,11 +222,29 @@ fn a_zone_that_its_area_bound_closes_is_not_cut(rt: HostRuntime) -> Result<(), F
 #[test]
 fn a_zone_is_cut_for_all_its_area_bound_where_low_is_not_high(rt: HostRuntime) -> Result<(), Fail> {
     let alloc = rt.alloc();
-    let problem = two_pairs(alloc, &[config(1, 2), config(4, 1)])?;
+    let low = [config(1, 2), config(3, 1)];
+    let high = [config(1, 2), config(4, 1)];
+    let problem = two_pairs(alloc, &low, &high)?;
     let mut best = Best::new(alloc);
     let outcome = best.solve(&problem, 0)?;
     assert_eq!(rt; (outcome.best.height, outcome.lower), (2, 2));
     let outcome = best.solve(&problem, MAX_BUDGET)?;
+    assert_eq!(rt; (outcome.best.height, outcome.lower), (2, 2));
+    assert!(rt; !outcome.trace.is_empty());
+    Ok(())
+}
+
+// From 9 columns on, which the page does not have, the first cell needs no line by `low`. The steps are not
+// the same, and so the area bound closes no zone.
+#[test]
+fn a_zone_is_cut_for_all_its_area_bound_where_steps_differ_past_the_page(
+    rt: HostRuntime,
+) -> Result<(), Fail> {
+    let alloc = rt.alloc();
+    let low = [config(1, 2), config(3, 1), config(9, 0)];
+    let high = [config(1, 2), config(3, 1)];
+    let problem = two_pairs(alloc, &low, &high)?;
+    let outcome = Best::new(alloc).solve(&problem, MAX_BUDGET)?;
     assert_eq!(rt; (outcome.best.height, outcome.lower), (2, 2));
     assert!(rt; !outcome.trace.is_empty());
     Ok(())

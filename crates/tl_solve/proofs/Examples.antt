@@ -9,7 +9,7 @@ use Rattle.std.proofs.Common.{◌≡◌, ℕ, ◌+◌, ◌*◌, ◌<◌, List, [
 use Rattle.tl_problem.specs.declared.zone.Range.{Range}
 use Rattle.tl_problem.specs.Zones.{range}
 use Rattle.tl_cert.specs.declared.trace.CutAt.{CutAt}
-use Rattle.tl_solve.specs.Orders.{IsFirstCut, ComesFrom, itself, lower, upper, ComesBefore, Follows}
+use Rattle.tl_solve.specs.Orders.{IsFirstCut, ComesFrom, itself, lower, upper, ZoneComesBefore, Follows}
 
 abbrev lower_first : List CutAt
 lower_first = record { zone = 0; span = 0; class = 0 } ∷ record { zone = 1; span = 0; class = 0 } ∷ record {
@@ -27,7 +27,7 @@ six_from_whole : ComesFrom lower_first 0 6
 six_from_whole = upper 2 (record { zone = 0; span = 0; class = 0 }) (omega arith)
     (upper 0 (record { zone = 0; span = 0; class = 0 }) (omega arith) itself)
 
-three_before_six : ComesBefore lower_first 3 6
+three_before_six : ZoneComesBefore lower_first 3 6
 three_before_six = (0, omega arith, lower 1 (record { zone = 0; span = 0; class = 0 }) (omega arith) itself, six_from_two)
 
 -- so the cut of zone 2 follows that of zone 1
@@ -61,7 +61,7 @@ one_not_from_two comes = elim (from-cases lower_first 2 1 comes) [
       omega (arith, none)
 ]
 
-two_not_before_one : ComesBefore lower_first 2 1 → ⊥
+two_not_before_one : ZoneComesBefore lower_first 2 1 → ⊥
 two_not_before_one before = elim (from-cases lower_first (2 * before.0 + 1) 2 before.2) [
   | inl same ↦ omega (arith, same)
   | inr part ↦

@@ -78,13 +78,13 @@ module _ (problem : ProblemModel) (sound : IsSound problem) (zone : List Range) 
       omega (arith, same, rise)
 
   -- widths in a part give the span a room of that part
-  low_room : (widths : List ℕ) → InZone problem (lower_part zone s class) widths →
+  pub low_room : (widths : List ℕ) → InZone problem (lower_part zone s class) widths →
       span_width problem widths s ≤ last_in_class problem s class
   low_room widths low =
       let here = low.ranges s (omega (arith, there, length-set zone s (range (range_at zone s).first class))) in
       omega (arith, here.1, ap (λ r. last_in_class problem s r.last) lower_at)
 
-  high_room : (widths : List ℕ) → InZone problem (upper_part zone s class) widths →
+  pub high_room : (widths : List ℕ) → InZone problem (upper_part zone s class) widths →
       last_in_class problem s class + 1 ≤ span_width problem widths s
   high_room widths high =
       let here = high.ranges s (omega (arith, there, length-set zone s (range (class + 1) (range_at zone s).last))) in

@@ -1,7 +1,9 @@
 mod Examples
+mod LogExamples
 mod Firing
 mod GoodLines
 mod Writable
+mod TraceLogLaws
 mod Cuts
 mod ZoneLists
 mod FewSpans

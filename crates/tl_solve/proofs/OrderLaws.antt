@@ -4,7 +4,7 @@ use Rattle.std.proofs.Common.{length-append}
 use Rattle.std.proofs.lemmas.Bool.{cases_lt}
 use Rattle.std.proofs.lemmas.List.{take_all, take-append-le, get_or_append_left, get_or-append-add}
 use Rattle.tl_cert.specs.declared.trace.CutAt.{CutAt}
-use Rattle.tl_solve.specs.Orders.{AtEachCut, ComesFrom, itself, lower, upper, ComesBefore, Follows}
+use Rattle.tl_solve.specs.Orders.{AtEachCut, ComesFrom, itself, lower, upper, ZoneComesBefore, Follows}
 
 -- what holds at each cut of a trace, and at a further cut, holds at each cut of both
 pub at-each-push : (Holds : List CutAt → CutAt → Type 0) (trace : List CutAt) (cut : CutAt) → AtEachCut Holds trace →
@@ -36,10 +36,10 @@ from-next first (lower i d within rest) = lower i d within (from-next first rest
 from-next first (upper i d within rest) = upper i d within (from-next first rest)
 
 -- what comes from the upper zone comes after the lower, and so on
-pub before-from : {trace : List CutAt} {a b c : ℕ} → ComesBefore trace a b → ComesFrom trace b c → ComesBefore trace a c
+pub before-from : {trace : List CutAt} {a b c : ℕ} → ZoneComesBefore trace a b → ComesFrom trace b c → ZoneComesBefore trace a c
 before-from before from = (before.0, before.1, before.2, from-next before.3 from)
 
-pub from-before : {trace : List CutAt} {a b c : ℕ} → ComesBefore trace a b → ComesFrom trace a c → ComesBefore trace c b
+pub from-before : {trace : List CutAt} {a b c : ℕ} → ZoneComesBefore trace a b → ComesFrom trace a c → ZoneComesBefore trace c b
 from-before before from = (before.0, before.1, from-next before.2 from, before.3)
 
 pub follows-from : {trace : List CutAt} {a b c : ℕ} → Follows trace a b → ComesFrom trace b c → Follows trace a c
@@ -59,7 +59,7 @@ module _ (trace : List CutAt) (cut : CutAt) where
       (subst (λ (c : CutAt). ComesFrom (trace ++ cut ∷ []) a c.zone) (sym (get_or_append_left trace (cut ∷ []) d i within))
       (from-more rest))
 
-  pub before-more : {a b : ℕ} → ComesBefore trace a b → ComesBefore (trace ++ cut ∷ []) a b
+  pub before-more : {a b : ℕ} → ZoneComesBefore trace a b → ZoneComesBefore (trace ++ cut ∷ []) a b
   before-more before = (before.0, omega (arith, before.1, length-append trace (cut ∷ [])), from-more before.2, from-more before.3)
 
   pub follows-more : {a b : ℕ} → Follows trace a b → Follows (trace ++ cut ∷ []) a b
@@ -80,5 +80,5 @@ module _ (trace : List CutAt) (cut : CutAt) where
   upper-from = upper (length trace) cut (omega (arith, length-append trace (cut ∷ [])))
       (subst (λ (c : CutAt). ComesFrom (trace ++ cut ∷ []) cut.zone c.zone) (sym (last-cut cut)) itself)
 
-  pub lower-before_upper : ComesBefore (trace ++ cut ∷ []) (2 * length trace + 1) (2 * length trace + 2)
+  pub lower-before_upper : ZoneComesBefore (trace ++ cut ∷ []) (2 * length trace + 1) (2 * length trace + 2)
   lower-before_upper = (length trace, omega (arith, length-append trace (cut ∷ [])), itself, itself)

@@ -21,7 +21,8 @@ use Rattle.tl_solve.specs.declared.arena.Arena.{Arena}
 use Rattle.tl_solve.specs.declared.outcome.Outcome.{Outcome}
 use Rattle.tl_solve.specs.Arenas.{HasBoundBelow, IsLowered, IsArenaOf}
 use Rattle.tl_solve.specs.Plain.{IsPlainOutcome}
-use Rattle.tl_solve.specs.Orders.{IsFirstCut, CutsFirstSpans, IsBelowPlacements, CutsBelowPlacements, ComesFrom, ComesBefore}
+use Rattle.tl_solve.specs.TraceLogs.{IsTraceLog}
+use Rattle.tl_solve.specs.Orders.{IsFirstCut, CutsFirstSpans, IsBelowPlacements, CutsBelowPlacements, ComesFrom, ZoneComesBefore}
 use Rattle.tl_solve.specs.Orders.{Follows, IsInClassOrder}
 use Rattle.tl_solve.specs.inner.Walk.{IsStack, KeepsClassOrder}
 use Rattle.tl_solve.proofs.OrderLaws.{at-each-push, from-before, follows-from, before-more, follows-more, lower-from, upper-from}
@@ -104,7 +105,7 @@ module _ (problem : ProblemModel) where
     pub stack-closed : IsClosed problem (zone_of problem trace z) height → IsStack problem trace height stack
     stack-closed done = record {
       standing = All-prefix (Stands trace) stack z is.standing;
-      apart = pairs-init (λ under over. (over ≢ under) × ComesBefore trace over under) stack z is.apart;
+      apart = pairs-init (λ under over. (over ≢ under) × ZoneComesBefore trace over under) stack z is.apart;
       follow = All-prefix (λ y. All (λ cut. Follows trace cut.zone y) trace) stack z is.follow;
       closed = λ y stands. elim (is.closed y stands) [
         | inr closed ↦ inr closed
@@ -128,8 +129,8 @@ module _ (problem : ProblemModel) where
       more = trace ++ cut ∷ []
 
       -- the zones under the top stand apart from it, and it comes before them
-      unders : All (λ under. (z ≢ under) × ComesBefore trace z under) stack
-      unders = pairs-last (λ under over. (over ≢ under) × ComesBefore trace over under) stack z is.apart
+      unders : All (λ under. (z ≢ under) × ZoneComesBefore trace z under) stack
+      unders = pairs-last (λ under over. (over ≢ under) × ZoneComesBefore trace over under) stack z is.apart
 
       rest_standing : All (Stands trace) stack
       rest_standing = All-prefix (Stands trace) stack z is.standing
@@ -142,7 +143,7 @@ module _ (problem : ProblemModel) where
 
       -- a part of the top comes before what is under it
       part-under : (part : ℕ) → 2 * n + 1 ≤ part → ComesFrom more z part →
-          All (λ under. (part ≢ under) × ComesBefore more part under) stack
+          All (λ under. (part ≢ under) × ZoneComesBefore more part under) stack
       part-under part past from i d within =
           let under = get_or stack i d in
           let there = (rest_standing i d within).there in
@@ -160,14 +161,14 @@ module _ (problem : ProblemModel) where
           (All-push after stack (2 * length trace + 2) old (part (2 * length trace + 2) (omega arith) (omega arith)))
           (part (2 * length trace + 1) (omega arith) (omega arith))
 
-      pub stack-apart : AllPairs (λ under over. (over ≢ under) × ComesBefore (trace ++ cut ∷ []) over under)
+      pub stack-apart : AllPairs (λ under over. (over ≢ under) × ZoneComesBefore (trace ++ cut ∷ []) over under)
           ((stack ++ (2 * length trace + 2) ∷ []) ++ (2 * length trace + 1) ∷ [])
       stack-apart =
-          let R = λ (under over : ℕ). (over ≢ under) × ComesBefore (trace ++ cut ∷ []) over under in
+          let R = λ (under over : ℕ). (over ≢ under) × ZoneComesBefore (trace ++ cut ∷ []) over under in
           let high = 2 * length trace + 2 in
           let low = 2 * length trace + 1 in
           let old : AllPairs R stack = λ i j d less within.
-          let here = pairs-init (λ under over. (over ≢ under) × ComesBefore trace over under)
+          let here = pairs-init (λ under over. (over ≢ under) × ZoneComesBefore trace over under)
           stack z is.apart i j d less within in
           (here.0, before-more trace cut here.1) in
           let lower_over : R high low = (λ same. omega (arith, same), lower-before_upper trace cut) in
@@ -191,7 +192,7 @@ module _ (problem : ProblemModel) where
           let old : All P stack = λ i d within.
           All-push (λ (c : CutAt). Follows (trace ++ cut ∷ []) c.zone (get_or stack i d)) trace cut
           (λ k e inside. follows-more trace cut (before i d within k e inside))
-          (inr (subst (λ a. ComesBefore (trace ++ cut ∷ []) a (get_or stack i d)) (sym top)
+          (inr (subst (λ a. ZoneComesBefore (trace ++ cut ∷ []) a (get_or stack i d)) (sym top)
           (before-more trace cut (unders i d within).1))) in
           All-push P (stack ++ (2 * length trace + 2) ∷ []) (2 * length trace + 1)
           (All-push P stack (2 * length trace + 2) old (part-follows (2 * length trace + 2) high-from))
@@ -285,18 +286,21 @@ first-is_cut problem trace z cut stands is first top =
 
 -- the outcome of the search is one of the plain search
 pub plain-outcome : (problem : ProblemModel) (arena : Arena) → IsArenaOf problem arena → KeepsClassOrder problem arena.trace →
-    (outcome : Outcome) → outcome.best ≡ arena.best → outcome.trace ≡ arena.trace → IsPlainOutcome problem outcome
-plain-outcome problem arena is keeps outcome best trace = record {
+    (outcome : Outcome) → outcome.best ≡ arena.best → outcome.trace ≡ arena.trace →
+    IsTraceLog problem outcome.trace outcome.lower outcome.log → IsPlainOutcome problem outcome
+plain-outcome problem arena is keeps outcome best trace lines = record {
   opening = (is.opening.0, is.opening.1, subst (IsLowered is.opening.0) (sym best) is.opening.3);
   spans = subst (CutsFirstSpans problem) (sym trace) keeps.spans;
   below = subst (CutsBelowPlacements problem) (sym trace) keeps.below;
   order = subst IsInClassOrder (sym trace) keeps.order;
+  log = lines;
 }
 
 pub plain-ends : {E : Type 0} (problem : ProblemModel) (arena : Arena) → IsArenaOf problem arena →
     KeepsClassOrder problem arena.trace →
     (result : Result Outcome E) → IfOk result (λ outcome. outcome.best ≡ arena.best) →
     IfOk result (λ outcome. outcome.trace ≡ arena.trace) →
+    IfOk result (λ outcome. IsTraceLog problem outcome.trace outcome.lower outcome.log) →
     IfOk result (IsPlainOutcome problem)
-plain-ends problem arena is keeps (Ok outcome) best trace = plain-outcome problem arena is keeps outcome best trace
-plain-ends problem arena is keeps (Err error) best trace = tt
+plain-ends problem arena is keeps (Ok outcome) best trace lines = plain-outcome problem arena is keeps outcome best trace lines
+plain-ends problem arena is keeps (Err error) best trace lines = tt

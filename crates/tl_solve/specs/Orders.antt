@@ -52,12 +52,12 @@ pub data ComesFrom (trace : List CutAt) (from : ℕ) : ℕ → Type 0 where
   upper : (i : ℕ) (d : CutAt) → i < length trace → ComesFrom trace from (get_or trace i d).zone → ComesFrom trace from (2 * i + 2)
 
 -- zone `a` comes before zone `b`: of the two parts of some cut it comes from the lower one, and `b` from the upper one
-abbrev pub ComesBefore : List CutAt → ℕ → ℕ → Type 0
-ComesBefore trace a b = (i : ℕ) × (i < length trace) × ComesFrom trace (2 * i + 1) a × ComesFrom trace (2 * i + 2) b
+abbrev pub ZoneComesBefore : List CutAt → ℕ → ℕ → Type 0
+ZoneComesBefore trace a b = (i : ℕ) × (i < length trace) × ComesFrom trace (2 * i + 1) a × ComesFrom trace (2 * i + 2) b
 
 -- zone `b` follows zone `a` in the order of classes: it comes from it, or `a` comes before it
 abbrev pub Follows : List CutAt → ℕ → ℕ → Type 0
-Follows trace a b = ComesFrom trace a b ⊎ ComesBefore trace a b
+Follows trace a b = ComesFrom trace a b ⊎ ZoneComesBefore trace a b
 
 -- each zone that was cut follows those that were cut before it: the lower part of a cut is cut, with all that comes from it,
 -- before the upper part

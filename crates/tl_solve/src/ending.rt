@@ -6,6 +6,7 @@ ghost use Rattle.tl_solve.specs.Arenas.{IsArenaOf};
 ghost use Rattle.tl_solve.specs.Ends.{HasBoundUpTo, IsLeastStanding, MayEnd};
 ghost use Rattle.tl_solve.specs.Logs.{Proves};
 ghost use Rattle.tl_solve.specs.Solver.{IsSolverOutcome};
+ghost use Rattle.tl_solve.specs.TraceLogs.{IsTraceLog};
 ghost use Rattle.tl_solve.specs.inner.Found.{IsLeastUpto, least_with};
 
 use crate::lines::cuts_of_zones;
@@ -35,6 +36,7 @@ impl Arena {
         ensures best { IfOk result (λ outcome. outcome.best ≡ self.best) }
         ensures trace { IfOk result (λ outcome. outcome.trace ≡ self.trace) }
         ensures least { IfOk result (λ outcome. IsLeastStanding problem.now self.trace self.best.height outcome.lower) }
+        ensures lines { IfOk result (λ outcome. IsTraceLog problem.now outcome.trace outcome.lower outcome.log) }
         ensures solved { IfOk result (IsSolverOutcome problem.now budget) }
     {
         let lower = self.lower(problem)?;
@@ -60,6 +62,7 @@ impl Arena {
         ensures best { IfOk result (λ outcome. outcome.best ≡ self.best) }
         ensures trace { IfOk result (λ outcome. outcome.trace ≡ self.trace) }
         ensures lower { IfOk result (λ outcome. outcome.lower ≡ lower) }
+        ensures lines { IfOk result (λ outcome. IsTraceLog problem.now outcome.trace outcome.lower outcome.log) }
         ensures solved { IfOk result (IsSolverOutcome problem.now budget) }
     {
         let log = log_of_bounds(self.alloc, problem, &self.trace, &self.bounds, lower)?;

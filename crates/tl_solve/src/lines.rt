@@ -24,8 +24,8 @@ pub(crate) fn cuts_of_zones(alloc: Global, trace: &Trace) -> Result<Vec<Option<u
     Ok(cuts)
 }
 
-/// The line of a zone that stands: it ends by `cycle` where the zone has no widths, by `chain` where
-/// its bound is at least `lower`, and else by `area`.
+/// The line of a zone that stands: it ends by `cycle` if the zone has no widths, by `chain` if its bound is
+/// at least `lower`, and otherwise by `area`.
 pub(crate) fn closing_line(alloc: Global, zone: u32, bound: Option<u32>, lower: u32) -> LogLine
     ensures { result ≡ closing_line_of zone bound lower }
 {
@@ -46,8 +46,8 @@ pub(crate) fn closing_line(alloc: Global, zone: u32, bound: Option<u32>, lower: 
     }
 }
 
-/// The line of a zone that is cut: it fires the lower part, which is enough where the upper part has no
-/// widths, and else the upper part after it.
+/// The line of a zone that is cut: it fires the lower part, and after it the upper part if that has widths.
+/// If it has none, all bounds of the lower part are implied, and that line is enough.
 pub(crate) fn firing_line(
     alloc: Global,
     last: u32,

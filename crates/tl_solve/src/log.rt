@@ -6,6 +6,7 @@ ghost use Rattle.tl_cert.specs.Lines.{IsGoodLog};
 ghost use Rattle.tl_cert.specs.Text.{IsLogWritable, IsTraceWritable};
 ghost use Rattle.tl_cert.specs.Traces.{IsTraceOf, Stands, zone_of};
 ghost use Rattle.tl_solve.specs.Logs.{Proves};
+ghost use Rattle.tl_solve.specs.TraceLogs.{IsTraceLog};
 ghost use Rattle.tl_solve.specs.Arenas.{AreBoundsOf};
 ghost use Rattle.tl_solve.specs.inner.Found.{ArePartsThere};
 ghost use Rattle.tl_solve.specs.inner.Shapes.{AreLinesOf};
@@ -17,10 +18,9 @@ use tl_base::{List, MAX_BUDGET};
 use tl_cert::{Log, MAX_ZONE, Trace};
 use tl_problem::Problem;
 
-/// The log of the trace for `lower`, a line for each zone, parts before what was cut: a zone that stands
-/// has no widths, or a bound or an area bound of at least `lower`, and its line ends by `cycle`, `chain`
-/// or `area`; a zone that is cut fires the lines of its parts, or that of the lower part alone where all
-/// its widths lie in it. It takes the time of a bound for each zone.
+/// The log of the trace for `lower`: a line for each zone, the parts of a cut before the zone that is cut.
+/// The line of a zone that stands ends by what the zone proves; that of a zone that is cut fires the lines
+/// of both parts, or that of the lower part alone. It takes the time of a bound for each zone.
 pub fn trace_log(
     alloc: Global,
     problem: &Problem,
@@ -31,6 +31,7 @@ pub fn trace_log(
     requires writable { IsTraceWritable trace.now }
     requires standing { (z : ℕ) → Stands trace.now z → Proves problem.now (zone_of problem.now trace.now z) lower }
     ensures good { IfOk result (λ log. IsGoodLog problem.now trace.now log lower) }
+    ensures lines { IfOk result (IsTraceLog problem.now trace.now lower) }
     ensures writable { IfOk result IsLogWritable }
     ensures short { IfOk result (λ log. length log ≤ 2 * length trace.now + 1) }
 {
@@ -55,6 +56,7 @@ pub(crate) fn log_of_bounds(
     requires standing { (z : ℕ) → Stands trace.now z → Proves problem.now (zone_of problem.now trace.now z) lower }
     requires bounds { AreBoundsOf problem.now trace.now bounds.now }
     ensures good { IfOk result (λ log. IsGoodLog problem.now trace.now log lower) }
+    ensures lines { IfOk result (IsTraceLog problem.now trace.now lower) }
     ensures writable { IfOk result IsLogWritable }
     ensures short { IfOk result (λ log. length log ≤ 2 * length trace.now + 1) }
 {

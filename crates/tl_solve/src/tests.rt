@@ -11,10 +11,12 @@ use tl_problem::{Cell, Problem};
 
 fn share<T: Send + Sync + Drop>(_value: T) {}
 
-// An outcome may be shared by threads and sent between them.
+// Each of the types may be shared by threads and sent between them.
 #[test]
-fn an_outcome_goes_to_other_threads() {
+fn a_search_its_arena_and_its_outcome_may_go_to_other_threads() {
     share::<Option<Outcome>>(None);
+    share::<Option<Arena>>(None);
+    share::<Option<Plain>>(None);
 }
 
 fn config(width: u32, height: u32) -> Config {

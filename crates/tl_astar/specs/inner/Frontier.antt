@@ -7,18 +7,10 @@ use Rattle.tl_problem.specs.Zones.{range_at}
 use Rattle.tl_problem.specs.Agreement.{LowIsHigh}
 use Rattle.tl_cert.specs.declared.trace.CutAt.{CutAt}
 use Rattle.tl_cert.specs.Traces.{Stands, zone_of}
-use Rattle.tl_cert.specs.Worked.{IsClosed, IsBoundOf}
-use Rattle.tl_solve.specs.Logs.{HasAreaFrom, Proves}
+use Rattle.tl_cert.specs.Worked.{IsBoundOf}
+use Rattle.tl_solve.specs.Logs.{Proves}
 use Rattle.tl_solve.specs.Orders.{AtEachCut, CutsBelowPlacements}
-use Rattle.tl_astar.specs.Best.{CutsBelowByArea, HaveSameSteps, IsAreaOf, IsOfLeastBound}
-
--- the zone needs no cut: it is closed for the height or, where `low` is `high`, its area bound is at least the height
-abbrev pub IsShut : ProblemModel → List Range → ℕ → Type 0
-IsShut problem zone height = IsClosed problem zone height ⊎ (LowIsHigh problem × HasAreaFrom problem zone height)
-
--- each zone that stands is shut
-abbrev pub AreShut : ProblemModel → List CutAt → ℕ → Type 0
-AreShut problem trace height = (z : ℕ) → Stands trace z → IsShut problem (zone_of problem trace z) height
+use Rattle.tl_astar.specs.Best.{CutsBelowByArea, HaveSameSteps, IsAreaOf, IsOfLeastBound, IsShut}
 
 -- the number is at most the bound of each of these zones that has one
 abbrev pub IsUnderBounds : ProblemModel → List CutAt → ℕ → List ℕ → Type 0

@@ -4,7 +4,8 @@ use Rattle.std.proofs.lemmas.Option.{MatchOption-at_some}
 use Rattle.tl_base.proofs.Options.{match-none}
 use Rattle.tl_cert.specs.declared.trace.CutAt.{CutAt}
 use Rattle.tl_cert.specs.Traces.{Stands, zone_of}
-use Rattle.tl_astar.specs.inner.Frontier.{IsShut, IsUnderBounds}
+use Rattle.tl_astar.specs.Best.{IsShut}
+use Rattle.tl_astar.specs.inner.Frontier.{IsUnderBounds}
 use Rattle.tl_cert.specs.Worked.{IsBoundOf}
 use Rattle.tl_solve.specs.declared.arena.Arena.{Arena}
 use Rattle.tl_astar.specs.inner.Searches.{AreLeft, open_zones}

@@ -1,8 +1,9 @@
-use Rattle.std.proofs.Common.{◌∷◌, [], IsTrue, length, get_or, map, None, sym, subst, ap, arith}
+use Rattle.std.proofs.Common.{◌∷◌, [], IsTrue, ◌↔◌, length, get_or, map, None, sym, subst, ap, arith}
 use Rattle.std.specs.BinaryHeap.{heap_items}
 use Rattle.tl_problem.specs.Works.{IsWorkOf}
 use Rattle.tl_solve.specs.declared.arena.Arena.{Arena}
 use Rattle.tl_solve.specs.Arenas.{IsArenaOf}
+use Rattle.tl_astar.specs.Best.{HaveSameSteps}
 use Rattle.tl_astar.specs.inner.Entries.{zone_in}
 use Rattle.tl_astar.specs.inner.Frontier.{IsFrontier, KeepsBoundOrder}
 use Rattle.tl_astar.specs.inner.Searches.{HaveBounds}
@@ -26,8 +27,7 @@ returns-clause-search c =
           new c.in_ok-add.ensures.added
           (found.each 0 None (omega (arith, found.count)))
           (λ k d within. absurd (omega (arith, within, ap length c.new-opens.ensures))));
-      agree = λ yes. c.is_low_high.ensures.low (subst IsTrue c.in_ok-add.ensures.agree yes);
-      same_steps = λ same. subst IsTrue (sym c.in_ok-add.ensures.agree) (c.is_low_high.ensures.same same);
+      same_steps = subst (λ b. IsTrue b ↔ HaveSameSteps p) (sym c.in_ok-add.ensures.same_steps) c.have_same_steps.ensures;
       order = subst (λ (a : Arena). KeepsBoundOrder p a.trace a.best.height) (sym same)
           (subst (λ t. KeepsBoundOrder p t arena.best.height) (sym c.in_ok-arena.ensures.no_cut)
           (order-none p arena.best.height));

@@ -4,7 +4,8 @@ use Rattle.tl_cert.specs.Traces.{IsZoneOf, zone_of}
 use Rattle.tl_solve.specs.declared.arena.Arena.{Arena}
 use Rattle.tl_solve.specs.Orders.{IsFirstCut}
 use Rattle.tl_solve.proofs.ArenaLaws.{arena-zone}
-use Rattle.tl_astar.specs.inner.Frontier.{IsShut, PartsRange}
+use Rattle.tl_astar.specs.Best.{IsShut}
+use Rattle.tl_astar.specs.inner.Frontier.{PartsRange}
 use Rattle.tl_astar.proofs.SearchLaws.{zone-there, zone-lent, first-parts, parts-cut}
 use Rattle.tl_astar.proofs.search.Search.choose.Goals as goal
 

@@ -1,9 +1,10 @@
-use Rattle.std.proofs.Common.{◌≡◌, ◌+◌, ◌*◌, IsTrue, length, get_or, map, None, sym, ◌∙◌, subst}
+use Rattle.std.proofs.Common.{◌≡◌, ◌+◌, ◌*◌, IsTrue, ◌↔◌, length, get_or, map, None, sym, ◌∙◌, subst}
 use Rattle.std.specs.BinaryHeap.{heap_items}
 use Rattle.tl_problem.specs.Works.{IsWorkOf}
 use Rattle.tl_solve.specs.declared.arena.Arena.{Arena}
 use Rattle.tl_solve.specs.Arenas.{IsArenaOf}
 use Rattle.tl_solve.proofs.ArenaLaws.{lowered-le}
+use Rattle.tl_astar.specs.Best.{HaveSameSteps}
 use Rattle.tl_astar.specs.inner.Entries.{zone_in, IsAdded}
 use Rattle.tl_astar.specs.inner.Frontier.{IsFrontier, KeepsBoundOrder}
 use Rattle.tl_astar.specs.inner.Searches.{HaveBounds}
@@ -22,7 +23,7 @@ returns-clause-search c =
     let new = heap_items c.add-2.new.self.opens.heap in
     let same : c.add-2.new.self.arena ≡ B = c.in_ok-add-2.ensures.arena ∙ c.in_ok-add.ensures.arena in
     let work = c.in_ok-add-2.ensures.work ∙ c.in_ok-add.ensures.work in
-    let agree = c.in_ok-add-2.ensures.agree ∙ c.in_ok-add.ensures.agree in
+    let same_steps = c.in_ok-add-2.ensures.same_steps ∙ c.in_ok-add.ensures.same_steps in
     let less = lowered-le A.best B.best c.in_ok-cut.ensures.lowered in
     let first : IsAdded (2 * length A.trace + 1) (get_or B.bounds.items (2 * length A.trace + 1) None) old mid =
     subst (λ n. IsAdded (2 * n + 1) (get_or B.bounds.items (2 * n + 1) None) old mid)
@@ -40,8 +41,7 @@ returns-clause-search c =
           (cut-bounds p A B is.arena c.in_ok-cut.ensures.arena c.args.cut c.requires.cut c.in_ok-cut.ensures.trace less old mid
           new first second
           c.requires.left below least is.bounds);
-      agree = λ yes. is.agree (subst IsTrue agree yes);
-      same_steps = λ same. subst IsTrue (sym agree) (is.same_steps same);
+      same_steps = subst (λ b. IsTrue b ↔ HaveSameSteps p) (sym same_steps) is.same_steps;
       order = subst (λ (a : Arena). KeepsBoundOrder p a.trace a.best.height) (sym same)
           (cut-order p A B is.arena c.in_ok-cut.ensures.arena c.args.cut c.requires.cut c.in_ok-cut.ensures.trace less old mid
           new first second

@@ -12,7 +12,7 @@ returns-in_err-cut-clause-shut c = if_none c.from_residual.result _ (inl c.in_er
 
 pub returns-then-is_area_enough-clause-shut : goal.returns-then-is_area_enough-clause-shut
 returns-then-is_area_enough-clause-shut c =
-    inr (c.requires.search.agree (search rules), c.if-is_area_enough.ensures.area (search rules))
+    inr (c.requires.search.same_steps.0 (search rules), c.if-is_area_enough.ensures.area (search rules))
 
 pub returns-clause-search : goal.returns-clause-search
 returns-clause-search c =
@@ -22,7 +22,6 @@ returns-clause-search c =
         arena = is.arena;
         work = w.is_area_enough.ensures.work;
         bounds = is.bounds;
-        agree = is.agree;
         same_steps = is.same_steps;
         order = is.order;
       })
@@ -37,5 +36,5 @@ returns-clause-below_by_area c = λ same.
         | inl none ↦ absurd (none bound.1.some.0 bound.1.some.1)
         | inr area ↦ area
       ]
-      | else-self-via-else-self w ↦ absurd (not-true (subst IsTrue w.if-self.false (c.requires.search.same_steps same)))
+      | else-self-via-else-self w ↦ absurd (not-true (subst IsTrue w.if-self.false (c.requires.search.same_steps.1 same)))
     ]

@@ -26,3 +26,6 @@ returns-clause-solved c =
       log_writable = c.in_ok-log.ensures.writable;
       short = c.in_ok-log.ensures.short;
     })
+
+pub returns-clause-lines : goal.returns-clause-lines
+returns-clause-lines c = rw c.into_parts-best.ensures.trace c.in_ok-log.ensures.lines

@@ -109,9 +109,9 @@ pub returns-then-made-budget-clause-besides : goal.returns-then-made-budget-clau
 returns-then-made-budget-clause-besides c =
     plain-ends c.args.problem.now c.loop-zone.arena c.loop-zone.invariant.arena c.loop-zone.invariant.order c.finish.result
     c.finish.ensures.best
-    c.finish.ensures.trace
+    c.finish.ensures.trace c.finish.ensures.lines
 
 pub returns-clause-besides : goal.returns-clause-besides
 returns-clause-besides c =
     plain-outcome c.args.problem.now c.loop-zone.arena c.loop-zone.invariant.arena c.loop-zone.invariant.order c.in_ok-found.found
-    c.in_ok-found.ensures.best c.in_ok-found.ensures.trace
+    c.in_ok-found.ensures.best c.in_ok-found.ensures.trace c.in_ok-found.ensures.lines
