@@ -16,9 +16,9 @@ use Rattle.tl_cert.specs.declared.section.Section.{Section}
 use Rattle.tl_cert.proofs.WorkedLaws.{worked-lower}
 use Rattle.tl_table.specs.declared.cell.Table.{Table, out-Table}
 use Rattle.tl_form.specs.declared.heights.InnerSteps.{InnerSteps}
-use Rattle.tl_form.specs.ClosedLaws.{IsClosed, IsWideDocument, IsKnownAt, ClosedTellLeast, BudgetCloses}
+use Rattle.tl_form.specs.ClosedLaws.{IsClosed, IsKnownAt, ClosedTellLeast, BudgetCloses}
 use Rattle.tl_form.specs.CountLaws.{CountsRise}
-use Rattle.tl_form.specs.Expected.{Document, IsTableOf, own_number, least_of, placed_width, due_after}
+use Rattle.tl_form.specs.Expected.{Document, IsTableOf, least_of, placed_width, due_after}
 use Rattle.tl_table.specs.declared.layout.Layout.{Layout}
 use Rattle.tl_table.specs.Layouts.{Fits}
 use Rattle.tl_table.specs.Least.{IsLeastWidth}
@@ -26,11 +26,10 @@ use Rattle.tl_form.specs.Nested.{IsAsWide, IsWithin, IsGreatestLower, IsLeastFou
 use Rattle.tl_form.specs.ProblemLaws.{BoundsMeet, LayoutsAreByLow, LayoutsByHighFit, TrueWhereBoundsMeet}
 use Rattle.tl_form.specs.Problems.{InnerNeeds, IsCountAll, IsTrueProblem}
 use Rattle.tl_table.specs.Tables.{IsAmong, inner_tables}
-use Rattle.tl_table.specs.Sound.{IsSound}
 use Rattle.tl_form.specs.Valid.{AreGoodBelow, IsGood}
 use Rattle.tl_form.proofs.CoveredSteps.{lower_told, height_told}
 use Rattle.tl_form.proofs.Coverage.{AreTold, Stands, stands}
-use Rattle.tl_form.proofs.DueProblems.{IsOnPage, leasts, some_number, good_follows}
+use Rattle.tl_form.proofs.DueProblems.{IsOnPage, leasts, on_page, some_number, good_follows}
 use Rattle.tl_table.proofs.LinkLemmas.{IsLeastWidth-unique}
 use Rattle.tl_form.proofs.ProblemTruth.{true-low-is-high}
 use Rattle.tl_form.proofs.SectionHeights.{any_all, any_item}
@@ -214,23 +213,6 @@ module _ (by_low : LayoutsAreByLow) (by_high : LayoutsByHighFit) (meet : TrueWhe
       (next_closes (take n sections) told before section stood is)) i d less
 
 -- ---- for a table
-
-on_page : (table : Table) (style : Style) (page : ℕ) (document : Document) → IsWideDocument table style page document →
-    IsOnPage document
-on_page table style page document is = record {
-  sound = subst IsSound (sym is.of.same) is.sound;
-  numbers = is.of.numbers;
-  least = is.of.least;
-  wide = omega (
-    arith,
-    is.wide (least_of document (own_number document))
-        (subst (λ s. IsLeastWidth table s (least_of document (own_number document))) is.of.drawn
-        (subst (λ t. IsLeastWidth t document.style (least_of document (own_number document))) is.of.same
-        (is.of.least document.table (inl refl)))),
-    is.of.wide,
-  );
-  narrow = omega (arith, is.narrow, is.of.wide);
-}
 
 pub budget_closes : LayoutsAreByLow → LayoutsByHighFit → TrueWhereBoundsMeet → CountsRise → BudgetCloses
 budget_closes by_low by_high meet rise table style page budget most n document sections is all enough small within good =

@@ -1,5 +1,5 @@
 -- Where the sections so far are good, the next one that is due has a problem: the tables nested in its own have steps by the
--- sections, and the problem with them is sound.
+-- sections, and each problem with them is sound.
 use Rattle.std.proofs.Common.{◌≡◌, ◌∙◌, ℕ, zero, suc, ◌+◌, ◌*◌, ◌<◌, ◌≤◌, List, inl, inr, length, get_or, take}
 use Rattle.std.proofs.Common.{Some, Contains, refl, sym, ap, subst, arith}
 use Rattle.std.specs.List.{All, AllByRecursion}
@@ -15,6 +15,7 @@ use Rattle.tl_base.proofs.Zips.{AllZip-Contains}
 use Rattle.tl_base.proofs.Stacking.{first_width-within}
 use Rattle.tl_grid.specs.Dropping.{IsPlaced}
 use Rattle.tl_problem.specs.Problem.{total_width}
+use Rattle.tl_problem.specs.Sound.{IsSound as IsSoundProblem}
 use Rattle.tl_base.specs.Sizes.{total}
 use Rattle.tl_problem.proofs.Heights.{height-from_low}
 use Rattle.tl_base.proofs.SizeLaws.{room-total}
@@ -27,15 +28,18 @@ use Rattle.tl_form.specs.Expected.{Document, Due, IsTableOf, own_number, least_o
 use Rattle.tl_table.specs.Layouts.{FitsWithin, FitsCell, width_for, height_for}
 use Rattle.tl_table.specs.Least.{IsLeastWidth}
 use Rattle.tl_form.specs.Nested.{AreStepsBy, AreInnerSteps, IsLeastFound}
-use Rattle.tl_form.specs.ProblemLaws.{LayoutsAreByLow, LayoutsByHighFit}
-use Rattle.tl_form.specs.Problems.{HasSoundProblem, steps_for}
+use Rattle.tl_form.specs.ClosedLaws.{IsWideDocument}
+use Rattle.tl_form.specs.DueProblems.{GivesSoundProblem, SectionsGiveSoundProblems}
+use Rattle.tl_form.specs.ProblemLaws.{LayoutsAreByLow, LayoutsByHighFit, ProblemIsDetermined}
+use Rattle.tl_form.specs.Problems.{steps_for}
 use Rattle.tl_table.specs.Tables.{IsAmong, IsInsideWithin, inner_tables, tables_in}
 use Rattle.tl_table.specs.Sound.{IsSound, IsSoundWithin, nested_in_table, place_of, places_of, table_size}
-use Rattle.tl_form.specs.SoundProblems.{AreSoundSteps, SoundProblemsAlone, PlacementsAreLow}
+use Rattle.tl_form.specs.SoundProblems.{AreSoundPremises, AreSoundSteps, SoundProblemsAlone, PlacementsAreLow}
 use Rattle.tl_form.specs.Valid.{IsGood, AreGoodBelow}
 use Rattle.tl_form.proofs.Coverage.{Stands, Follows, stands}
 use Rattle.tl_form.proofs.CoveredSteps.{steps_by, inner_by}
 use Rattle.tl_form.proofs.NeedSteps.{height-first}
+use Rattle.tl_table.proofs.LinkLemmas.{IsLeastWidth-unique}
 use Rattle.tl_table.proofs.OwnWidths.{tables_in-fit}
 use Rattle.tl_table.proofs.TableNumbers.{one_of_number, table_of_number, number_within, inside_greater, sound_among}
 use Rattle.tl_form.proofs.Truth.{Fits-wider, IsTrue, all_true, height_from, nested_among, steps_found}
@@ -93,6 +97,24 @@ pub record IsOnPage (document : Document) : Type 0 where
       (least_of document (out-Table one).number)
   pub wide : least_of document (own_number document) ≤ document.page
   pub narrow : document.page ≤ MAX_PAGE_WIDTH
+
+-- a page that some layout of the document's table fits is wide enough
+pub on_page : (table : Table) (style : Style) (page : ℕ) (document : Document) → IsWideDocument table style page document →
+    IsOnPage document
+on_page table style page document is = record {
+  sound = subst IsSound (sym is.of.same) is.sound;
+  numbers = is.of.numbers;
+  least = is.of.least;
+  wide = omega (
+    arith,
+    is.wide (least_of document (own_number document))
+        (subst (λ s. IsLeastWidth table s (least_of document (own_number document))) is.of.drawn
+        (subst (λ t. IsLeastWidth t document.style (least_of document (own_number document))) is.of.same
+        (is.of.least document.table (inl refl)))),
+    is.of.wide,
+  );
+  narrow = omega (arith, is.narrow, is.of.wide);
+}
 
 -- a section is no higher than twice the size of its table
 abbrev pub IsSmall : Document → Section → Type 0
@@ -181,7 +203,7 @@ module _ (document : Document) (on : IsOnPage document) (before : List Section) 
         let found = found_at (first_width steps.high) (first_height steps.high) least.1 in
         omega (arith, found.3, found.5 nested (named found.0 found.1))
 
-  pub have_sound_steps : (one : Table) → IsAmong document.table one → (page : ℕ) (inner : List InnerSteps) →
+  have_sound_steps : (one : Table) → IsAmong document.table one → (page : ℕ) (inner : List InnerSteps) →
       AreInnerSteps one document.style page before inner →
       AllByRecursion (λ nested. IsSomeAnd (steps_for inner (out-Table nested).number) (AreSoundSteps document.style page nested))
       (inner_tables (out-Table one))
@@ -237,17 +259,17 @@ module _ (by_low : LayoutsAreByLow) (by_high : LayoutsByHighFit) (sound_alone : 
       subst (λ t. section.height ≤ 2 * table_size t) same (omega (arith, low, good.laid.placement.high))
 
   module _ (sections : List Section) (good : AreGoodBelow document budget sections (length sections)) where
-    pub all_stand : (n : ℕ) → n ≤ length sections → (now : Due) → due_after document (take n sections) ≡ Some now →
+    all_stand : (n : ℕ) → n ≤ length sections → (now : Due) → due_after document (take n sections) ≡ Some now →
         Stands document (take n sections) now
     all_stand n within = stands document (some_number document on) (leasts document on) sections n within
         (λ i d less. good_follows document budget (take i sections) (get_or sections i d)
         (good i d (omega (arith, less, within))))
 
-    pub all_are_true : (n : ℕ) → n ≤ length sections → All (IsTrue document) (take n sections)
+    all_are_true : (n : ℕ) → n ≤ length sections → All (IsTrue document) (take n sections)
     all_are_true n within = all_true by_low by_high document on.sound budget sections n within
         (λ i d less. good i d (omega (arith, less, within)))
 
-    pub all_small : (n : ℕ) → n ≤ length sections → All (IsSmall document) (take n sections)
+    all_small : (n : ℕ) → n ≤ length sections → All (IsSmall document) (take n sections)
     all_small zero within = All-nil (IsSmall document)
     all_small (suc n) within = λ i d less.
         let same : n + 1 ≡ suc n = omega arith in
@@ -297,7 +319,7 @@ module _ (by_low : LayoutsAreByLow) (by_high : LayoutsByHighFit) (sound_alone : 
           (λ w wide upto. stood.covered.above (out-Table nested).number w (omega (arith, greater, named.numbered))
           (omega (arith, within.1, on.numbers)) wide (omega (arith, upto, stood.covered.upto)))
 
-      pub due_inner : (inner : List InnerSteps) × AreInnerSteps one document.style now.width sections inner
+      due_inner : (inner : List InnerSteps) × AreInnerSteps one document.style now.width sections inner
       due_inner = inner_by document.style now.width sections (inner_tables (out-Table one))
           (recursion_from_All (λ nested. (steps : InnerSteps) × AreStepsBy document.style now.width sections nested steps)
           (inner_tables (out-Table one))
@@ -305,16 +327,36 @@ module _ (by_low : LayoutsAreByLow) (by_high : LayoutsByHighFit) (sound_alone : 
           (inner_tables (out-Table one))
           nested_steps))
 
-      pub due_sound : (inner : List InnerSteps) → AreInnerSteps one document.style now.width sections inner →
-          HasSoundProblem one document.style now.width inner
-      due_sound inner steps = sound_alone one document.style now.width inner (record {
+      premises : (inner : List InnerSteps) → AreInnerSteps one document.style now.width sections inner →
+          AreSoundPremises one document.style now.width inner
+      premises inner steps = record {
         sound = own_sound;
         narrow = omega (arith, stood.covered.upto, on.narrow);
         least = least_of document now.table;
         is_least = own_least;
         wide = stood.covered.from;
         each = have_sound_steps document on sections told_true told_small one named.among now.width inner steps;
-      })
+      }
 
-      pub due_range : (least_of document now.table ≤ now.width) × (now.width ≤ document.page)
-      due_range = (stood.covered.from, stood.covered.upto)
+      pub gives : ProblemIsDetermined → GivesSoundProblem document sections now one
+      gives determined = record {
+        wide = λ least is_least. omega (
+          arith,
+          IsLeastWidth-unique one document.style least (least_of document now.table) is_least own_least,
+          stood.covered.from,
+        );
+        within = stood.covered.upto;
+        some = let has = sound_alone one document.style now.width due_inner.0 (premises due_inner.0 due_inner.1) in
+            (has.0, record { inner = due_inner.0; steps = due_inner.1; made = has.1; sound = has.2 });
+        alone = λ inner problem steps made.
+            let has = sound_alone one document.style now.width inner (premises inner steps) in
+            subst IsSoundProblem (determined one document.style now.width inner has.0 problem has.1 made) has.2;
+        low = λ problem placed own placement.
+            are_low one document.style now.width own.inner problem placed (premises own.inner own.steps) own.made placement;
+      }
+
+pub sections_give : LayoutsAreByLow → LayoutsByHighFit → ProblemIsDetermined → SoundProblemsAlone → PlacementsAreLow →
+    SectionsGiveSoundProblems
+sections_give by_low by_high determined sound_alone are_low document budget before now one next =
+    gives by_low by_high sound_alone are_low document (on_page document.table document.style document.page document next.wide)
+    budget before next.good now next.due one next.named determined

@@ -1,6 +1,6 @@
 -- The first section of a document that is open has made all cuts of the budget: its problem is the true one, in which `low`
 -- is `high`, so that no zone of it is closed by their difference.
-use Rattle.std.proofs.Common.{◌≡◌, ◌∙◌, ℕ, zero, suc, ◌+◌, ◌<◌, ◌≤◌, ◌⊎◌, inl, inr, List, length, get_or, take, refl, sym, ap}
+use Rattle.std.proofs.Common.{◌≡◌, ◌∙◌, ℕ, zero, suc, ◌+◌, ◌<◌, ◌≤◌, ◌⊎◌, inl, inr, List, length, get_or, take, sym, ap}
 use Rattle.std.proofs.Common.{subst, arith, length-take}
 use Rattle.std.specs.List.{All, Any}
 use Rattle.std.proofs.lemmas.Bool.{cases_lt}
@@ -19,15 +19,13 @@ use Rattle.tl_cert.specs.Worked.{IsWorked}
 use Rattle.tl_cert.proofs.TraceLaws.{zones-are}
 use Rattle.tl_cert.proofs.WorkedLaws.{agree-everywhere}
 use Rattle.tl_form.specs.ClosedLaws.{IsClosed}
-use Rattle.tl_form.specs.Expected.{Document, least_of, own_number}
-use Rattle.tl_table.specs.Least.{IsLeastWidth}
+use Rattle.tl_form.specs.Expected.{Document}
 use Rattle.tl_form.specs.OpenLaws.{IsSpent, OpenSpends}
 use Rattle.tl_form.specs.ProblemLaws.{LayoutsAreByLow, LayoutsByHighFit, TrueWhereBoundsMeet}
-use Rattle.tl_table.specs.Sound.{IsSound}
 use Rattle.tl_form.specs.Valid.{AreGoodBelow, IsGood}
 use Rattle.tl_form.proofs.ClosedLaws.{bounds_meet}
 use Rattle.tl_form.proofs.Coverage.{Stands, stands}
-use Rattle.tl_form.proofs.DueProblems.{IsOnPage, leasts, some_number, good_follows}
+use Rattle.tl_form.proofs.DueProblems.{IsOnPage, leasts, on_page, some_number, good_follows}
 use Rattle.tl_form.proofs.ProblemTruth.{true-low-is-high}
 use Rattle.tl_form.proofs.Truth.{IsTrue, all_true, high_is_above, low_is_below}
 
@@ -136,17 +134,4 @@ module _ (by_low : LayoutsAreByLow) (by_high : LayoutsByHighFit) (meet : TrueWhe
 
 pub open_spends : LayoutsAreByLow → LayoutsByHighFit → TrueWhereBoundsMeet → OpenSpends
 open_spends by_low by_high meet table style page budget n document sections is within good i d inside below =
-    open_spent by_low by_high meet document (record {
-      sound = subst IsSound (sym is.of.same) is.sound;
-      numbers = is.of.numbers;
-      least = is.of.least;
-      wide = omega (
-        arith,
-        is.wide (least_of document (own_number document))
-            (subst (λ s. IsLeastWidth table s (least_of document (own_number document))) is.of.drawn
-            (subst (λ t. IsLeastWidth t document.style (least_of document (own_number document))) is.of.same
-            (is.of.least document.table (inl refl)))),
-        is.of.wide,
-      );
-      narrow = omega (arith, is.narrow, is.of.wide);
-    }) budget sections n within good i d inside below
+    open_spent by_low by_high meet document (on_page table style page document is) budget sections n within good i d inside below

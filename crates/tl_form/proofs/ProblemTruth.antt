@@ -21,7 +21,7 @@ use Rattle.tl_table.specs.Tables.{OpenTable, OpenCell, OpenContent, inner_tables
 use Rattle.tl_table.specs.Layouts.{OpenLayout, Fits, FitsWithin}
 use Rattle.tl_table.specs.Least.{IsLeastHeight}
 use Rattle.tl_form.specs.Problems.{BlockNeeds, CellNeeds, InnerNeeds, IsCellBy, IsProblemBy, IsProblemOf, IsTrueProblem}
-use Rattle.tl_form.specs.ProblemLaws.{IsBelowLayouts, IsAboveLayouts, LowIsBelow, HighIsAbove, BoundsMeet, IsBetween}
+use Rattle.tl_form.specs.ProblemLaws.{IsBelowLayouts, IsAboveLayouts, LowIsBelow, HighIsAbove, BoundsMeet, CellIsBetween}
 use Rattle.tl_form.specs.ProblemLaws.{IsLeastByHigh}
 use Rattle.tl_form.proofs.CellNeedLemmas.{IsFunctional, cell-functional, inner-functional}
 use Rattle.tl_form.proofs.NeedSteps.{AreStepsOf-same, AreStepsOf-unique}
@@ -176,7 +176,7 @@ module _ (lows highs : Table → ℕ → ℕ → Type 0) (style : Style) (page :
   between-cell : (cell : OpenCell) (made real : Cell) → IsCellBy lows highs page cell made → IsCellBy Real Real page cell real →
       AllByRecursion (IsBelowLayouts lows style page) (tables_in cell) →
       AllByRecursion (IsAboveLayouts highs style page) (tables_in cell) →
-      IsBetween page made real
+      CellIsBetween page made real
   between-cell cell made real of true below above = record {
     low = λ w h within is.
         let need = (true.low.each w h within).0 is in
@@ -208,7 +208,7 @@ module _ (lows highs : Table → ℕ → ℕ → Type 0) (style : Style) (page :
       AllZip (λ cell one. IsCellBy Real Real page (out-TableCell cell) one) cells real →
       AllByRecursion (λ cell. AllByRecursion (IsBelowLayouts lows style page) (tables_in (out-TableCell cell))) cells →
       AllByRecursion (λ cell. AllByRecursion (IsAboveLayouts highs style page) (tables_in (out-TableCell cell))) cells →
-      AllZip (IsBetween page) made real
+      AllZip (CellIsBetween page) made real
   between-cells [] [] [] of true below above = tt
   between-cells [] [] (b ∷ real) of true below above = absurd true
   between-cells [] (a ∷ made) real of true below above = absurd of
@@ -221,7 +221,7 @@ module _ (lows highs : Table → ℕ → ℕ → Type 0) (style : Style) (page :
 
 pub steps-between : (table : Table) (style : Style) (page : ℕ) (inner : List InnerSteps) (problem real : ProblemModel) →
     IsProblemOf table style page inner problem → IsTrueProblem table style page real → LowIsBelow table style page inner →
-    HighIsAbove table style page inner → AllZip (IsBetween page) problem.cells real.cells
+    HighIsAbove table style page inner → AllZip (CellIsBetween page) problem.cells real.cells
 steps-between table style page inner problem real of true below above =
     between-cells (InnerNeeds (λ one. one.low) inner) (InnerNeeds (λ one. one.high) inner) style page
     (out-Table table).cells problem.cells real.cells

@@ -1,5 +1,5 @@
--- Laws of least heights, true problems and counts: where a layout fits there are all of these, and counts rise with the
--- page. Each is the contract of a function of `problem_laws`.
+-- Laws of least heights, true problems and counts: where a layout fits there are all of these; with the page counts rise and
+-- least heights fall. Each is the contract of a function of `problem_laws`.
 use Rattle.std.specs.Prelude.{ℕ, ◌≤◌}
 use Rattle.tl_base.specs.declared.style.Style.{Style}
 use Rattle.tl_problem.specs.Problem.{ProblemModel}
@@ -29,3 +29,16 @@ TrueProblemsExist = (table : Table) (style : Style) (page height : ℕ) (layout 
 abbrev pub CountsExist : Type 0
 CountsExist = (table : Table) (style : Style) (page height : ℕ) (layout : Layout) → IsSound table →
     Fits table style page height layout → (most : ℕ) × IsCountAll table style page most
+
+-- on a wider page the greatest count of a table and of all tables nested in it is at least as great; so on one page there is
+-- only one
+abbrev pub AllCountsRise : Type 0
+AllCountsRise = (table : Table) (style : Style) (narrow wide few many : ℕ) → narrow ≤ wide →
+    IsCountAll table style narrow few →
+    IsCountAll table style wide many → few ≤ many
+
+-- on a wider page the least height of a table is no greater
+abbrev pub LeastHeightsFall : Type 0
+LeastHeightsFall = (table : Table) (style : Style) (narrow wide high low : ℕ) → narrow ≤ wide →
+    IsLeastHeight table style narrow high →
+    IsLeastHeight table style wide low → low ≤ high

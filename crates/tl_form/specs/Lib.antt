@@ -12,4 +12,5 @@ pub mod Named
 pub mod ValidLaws
 pub mod ClosedLaws
 pub mod OpenLaws
+pub mod DueProblems
 pub mod inner

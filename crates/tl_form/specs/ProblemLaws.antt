@@ -63,7 +63,7 @@ LayoutsByHighFit = (table : Table) (style : Style) (page : ℕ) (inner : List In
     × ((out-Layout layout).widths ≡ widths) × ((out-Layout layout).heights ≡ heights)
 
 -- at each width up to the page's the `low` of a cell is at most what it needs truly, and its `high` at least that
-pub record IsBetween (page : ℕ) (cell real : Cell) : Type 0 where
+pub record CellIsBetween (page : ℕ) (cell real : Cell) : Type 0 where
   pub low : (w h : ℕ) → w ≤ page → height_at real.low w ≡ Some h → IsLowAt cell.low h w
   pub high : (w h k : ℕ) → w ≤ page → height_at real.high w ≡ Some h → height_at cell.high w ≡ Some k → h ≤ k
 
@@ -72,7 +72,7 @@ pub record IsBetween (page : ℕ) (cell real : Cell) : Type 0 where
 abbrev pub TrueStepsLieBetween : Type 0
 TrueStepsLieBetween = (table : Table) (style : Style) (page : ℕ) (inner : List InnerSteps) (problem real : ProblemModel) →
     IsProblemOf table style page inner problem → IsTrueProblem table style page real → LowIsBelow table style page inner →
-    HighIsAbove table style page inner → AllZip (IsBetween page) problem.cells real.cells
+    HighIsAbove table style page inner → AllZip (CellIsBetween page) problem.cells real.cells
 
 -- `low` and `high` of each nested table are the same up to the page's width
 abbrev pub BoundsMeet : Table → ℕ → List InnerSteps → Type 0

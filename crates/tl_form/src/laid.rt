@@ -9,8 +9,8 @@ ghost use Rattle.tl_table.specs.Sound.{IsSound};
 ghost use Rattle.tl_form.specs.Valid.{HasPlacement};
 ghost use Rattle.tl_form.specs.Nested.{IsProblemFor};
 
-use crate::nested_steps::inner_steps;
-use crate::problems::problem;
+use crate::nested_steps::collected_steps;
+use crate::problems::sound_problem;
 use std::alloc::{AllocError, Global};
 use tl_base::Style;
 use tl_cert::Section;
@@ -61,11 +61,10 @@ pub fn problem_for(
         ((problem : ProblemModel) → IsProblemFor table.now style width before.now problem → ⊥)
         (IsProblemFor table.now style width before.now)) }
 {
-    let Some(inner) = inner_steps(alloc, table, style, width, before)? else {
+    let Some(inner) = collected_steps(alloc, table, style, width, before)? else {
         return Ok(None);
     };
-    let problem = problem(alloc, table, style, width, inner.as_slice())?;
-    Ok(Some(problem))
+    sound_problem(alloc, table, style, width, inner.as_slice())
 }
 
 /// Whether the placement has the widths and the height of the section.

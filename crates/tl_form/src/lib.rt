@@ -7,6 +7,7 @@
 mod cell_steps;
 mod chain_laws;
 mod closed_laws;
+mod due_laws;
 mod heights;
 mod laid;
 mod named;
@@ -19,17 +20,18 @@ mod valid_laws;
 
 pub use chain_laws::chains_are_writable;
 pub use closed_laws::{budget_closes, closed_tell_least};
+pub use due_laws::sections_give_sound_problems;
 pub use heights::InnerSteps;
 pub use laid::{Laid, lay, problem_for};
 pub use named::layout;
 pub use nested_steps::inner_steps;
 pub use open_laws::open_spends;
 pub use problem_laws::{
-    counts_exist, counts_rise, layouts_are_by_low, layouts_by_high_fit, least_heights_exist,
-    placements_are_low, problem_is_determined, sound_problems_alone, true_problems_exist,
-    true_steps_lie_between, true_where_bounds_meet,
+    all_counts_rise, counts_exist, counts_rise, layouts_are_by_low, layouts_by_high_fit,
+    least_heights_exist, least_heights_fall, placements_are_low, problem_is_determined,
+    sound_problems_alone, true_problems_exist, true_steps_lie_between, true_where_bounds_meet,
 };
-pub use problems::{has_sound_problem, problem};
+pub use problems::{has_sound_problem, problem, sound_problem};
 pub use subject::{Due, Subject};
 pub use tl_table::{
     Content, FormError, Kind, Layout, Table, TableCell, each_number_is_of_one_table,

@@ -243,7 +243,7 @@ fn steps_in_cell(
 
 /// The steps of the tables nested directly in a table, in the order of its cells and their blocks.
 /// `None` exactly where one of them has none.
-fn collected_steps(
+pub(crate) fn collected_steps(
     alloc: Global,
     table: &Table,
     style: Style,

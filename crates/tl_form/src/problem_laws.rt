@@ -1,6 +1,6 @@
 //! Laws of the problem of a table. Each is the contract of a function that does nothing.
 
-ghost use Rattle.tl_form.specs.CountLaws.{CountsExist, CountsRise, LeastHeightsExist, TrueProblemsExist};
+ghost use Rattle.tl_form.specs.CountLaws.{AllCountsRise, CountsExist, CountsRise, LeastHeightsExist, LeastHeightsFall, TrueProblemsExist};
 ghost use Rattle.tl_form.specs.ProblemLaws.{LayoutsAreByLow, LayoutsByHighFit, ProblemIsDetermined, TrueStepsLieBetween, TrueWhereBoundsMeet};
 ghost use Rattle.tl_form.specs.SoundProblems.{PlacementsAreLow, SoundProblemsAlone};
 
@@ -62,4 +62,17 @@ pub fn true_problems_exist()
 /// For a sound table that fits a page there is a greatest count of it and of all tables nested in it.
 pub fn counts_exist()
     ensures { CountsExist }
+{}
+
+/// On a wider page the greatest count of a table and of all tables nested in it is at least as great. So
+/// there is only one on each page.
+pub fn all_counts_rise()
+    ensures { AllCountsRise }
+{
+    counts_rise();
+}
+
+/// On a wider page the least height of a table is no greater.
+pub fn least_heights_fall()
+    ensures { LeastHeightsFall }
 {}

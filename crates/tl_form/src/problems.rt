@@ -1,9 +1,10 @@
 //! The problem of a table: its grid, and the heights that its cells need at each width.
 
-ghost use Rattle.std.specs.Prelude.{◌≤◌, ◌↔◌, IfOk, IsTrue};
+ghost use Rattle.std.specs.Prelude.{◌≤◌, ◌↔◌, IfOk, IsTrue, MatchOption};
 ghost use Rattle.std.specs.List.{AllZip};
 ghost use Rattle.tl_table.specs.declared.cell.Table.{out-Table};
 ghost use Rattle.tl_table.specs.declared.cell.TableCell.{out-TableCell};
+ghost use Rattle.tl_problem.specs.Sound.{IsSound};
 ghost use Rattle.tl_form.specs.Problems.{HasSoundProblem, IsCellBy, IsProblemOf};
 ghost use Rattle.tl_table.specs.Tables.{inner_tables, tables_in};
 ghost use Rattle.tl_form.specs.inner.CellSteps.{AreLowCells, HaveSteps, IsLowByBoth, IsLowCell, NeedsBy};
@@ -110,9 +111,37 @@ pub fn problem(
     Problem::new(alloc, table.cols, table.rows, style, width, cells)
 }
 
+/// The problem of the table on a page of `width` columns, with these heights for the tables nested
+/// directly in it. `None` exactly where it has no sound one.
+pub fn sound_problem(
+    alloc: Global,
+    table: &Table,
+    style: Style,
+    width: u32,
+    inner: &[InnerSteps],
+) -> Result<Option<Problem>, AllocError>
+    ensures { IfOk result (λ found. MatchOption found (HasSoundProblem table.now style width inner.now → ⊥)
+        (λ problem. IsProblemOf table.now style width inner.now problem × IsSound problem)) }
+{
+    if width > MAX_PAGE_WIDTH {
+        return Ok(None);
+    }
+    if !have_steps(table, inner) {
+        return Ok(None);
+    }
+    if !are_low_cells(table, width, inner) {
+        return Ok(None);
+    }
+    let cells = problem_cells(alloc, table, width, inner)?;
+    if !Problem::is_sound(table.cols, table.rows, style, width, cells.as_slice()) {
+        return Ok(None);
+    }
+    let problem = Problem::new(alloc, table.cols, table.rows, style, width, cells)?;
+    Ok(Some(problem))
+}
+
 /// Whether the table has a sound problem on a page of `width` columns, with these heights for the
-/// tables nested directly in it, so that `problem` may be called with them. Each cell is compared
-/// with each later one, so the time grows with the square of their number.
+/// tables nested directly in it, so that `problem` may be called with them.
 pub fn has_sound_problem(
     alloc: Global,
     table: &Table,
@@ -122,15 +151,6 @@ pub fn has_sound_problem(
 ) -> Result<bool, AllocError>
     ensures { IfOk result (λ sound. IsTrue sound ↔ HasSoundProblem table.now style width inner.now) }
 {
-    if width > MAX_PAGE_WIDTH {
-        return Ok(false);
-    }
-    if !have_steps(table, inner) {
-        return Ok(false);
-    }
-    if !are_low_cells(table, width, inner) {
-        return Ok(false);
-    }
-    let cells = problem_cells(alloc, table, width, inner)?;
-    Ok(Problem::is_sound(table.cols, table.rows, style, width, cells.as_slice()))
+    let problem = sound_problem(alloc, table, style, width, inner)?;
+    Ok(problem.is_some())
 }

@@ -19,6 +19,7 @@ use Rattle.tl_cert.specs.declared.section.Section.{Section}
 use Rattle.tl_cert.specs.Text.{IsSectionWritable}
 use Rattle.tl_table.specs.declared.cell.Table.{Table}
 use Rattle.tl_form.specs.declared.subject.Subject.{Subject}
+use Rattle.tl_form.specs.DueProblems.{SectionsGiveSoundProblems}
 use Rattle.tl_form.specs.Expected.{Document, Due, own_number, placed_width, first_due, next_due, due_after}
 use Rattle.tl_table.specs.Sound.{table_size}
 use Rattle.tl_form.specs.Subjects.{IsSubject, meant}
@@ -27,11 +28,11 @@ use Rattle.tl_form.proofs.DueLaws.{MayBeDue, due_next, due_from-push}
 use Rattle.tl_form.proofs.DueProblems.{good_follows}
 use Rattle.tl_solve.specs.declared.outcome.Outcome.{Outcome}
 use Rattle.tl_solve.specs.Solver.{IsSolverOutcome}
-use Rattle.tl_nested.specs.Searched.{FitsPage, AreSectionsOf, AreWritable, EachIsSearched, IsSearched}
-use Rattle.tl_nested.specs.Solved.{Gives, SolvesEach}
+use Rattle.tl_nested.specs.Searched.{IsWideEnough, AreSectionsOf, AreWritable, EachIsSearched, IsSearched}
+use Rattle.tl_nested.specs.Solved.{GivesOutcome, SolvesEach}
 use Rattle.tl_nested.specs.inner.SoFar.{AreSoFar, left}
 use Rattle.tl_nested.proofs.Counted.{few_enough, left_falls}
-use Rattle.tl_nested.proofs.Ready.{may, narrow, small, sound_one}
+use Rattle.tl_nested.proofs.Ready.{by_law, may, narrow, sound_one}
 use Rattle.tl_nested.proofs.Written.{total_within, written}
 
 -- the section of an outcome
@@ -46,7 +47,7 @@ section_of now outcome = record {
   log = outcome.log;
 }
 
-module _ (subject : Subject) (is : IsSubject subject) (fits : FitsPage subject) (before : List Section) (budget : ℕ)
+module _ (subject : Subject) (is : IsSubject subject) (fits : IsWideEnough subject) (before : List Section) (budget : ℕ)
     (good : AreGoodBelow (meant subject) budget before (length before)) (now : Due)
     (due : due_after (meant subject) before ≡ Some now)
     (outcome : Outcome) (problem : ProblemModel) (at : IsProblemAt (meant subject) before (section_of now outcome) problem)
@@ -75,12 +76,13 @@ module _ (subject : Subject) (is : IsSubject subject) (fits : FitsPage subject) 
       solved.tight.placement.width
       ∙ ap (λ style. total (gap_of style) (edge_of style) outcome.best.widths) at.made.drawn
 
-  pub writable : IsSectionWritable (section_of now outcome)
-  writable =
+  pub writable : SectionsGiveSoundProblems → IsSectionWritable (section_of now outcome)
+  writable law =
       let placement = solved.tight.placement in
-      let low = small subject is fits before budget good now due at.one at.named at.inner at.steps problem at.made outcome.best
-      placement in
-      let narrow_page = narrow subject is fits before budget good now due at.one at.named in
+      let next = by_law subject is fits before budget good now due at.one at.named law in
+      let low = next.low problem outcome.best
+      (record { inner = at.inner; steps = at.steps; made = at.made; sound = at.sound }) placement in
+      let narrow_page = narrow subject is fits before budget good now due at.one at.named law in
       let one_small = at_size in
       written (section_of now outcome) (record {
         table = omega (arith, (may subject is fits before budget good now due).upto, is.document.numbers, is.sound.few_tables);
@@ -105,7 +107,7 @@ pub solved_by : {F : Type 0} (g : Shared F (Bor ProblemModel × (ℕ × Unit {0}
     (p : Bor ProblemModel)
     (budget : ℕ) (result : Result Outcome AllocError) (outcome : Outcome) → SolvesEach g f budget →
     problem_sound.IsSound p.now → result ≡ Ok outcome →
-    g.post f (p, (budget, tt)) result → IsSolverOutcome p.now budget outcome × Gives g f budget p.now outcome
+    g.post f (p, (budget, tt)) result → IsSolverOutcome p.now budget outcome × GivesOutcome g f budget p.now outcome
 solved_by g f p budget result outcome solves sound is post =
     let call = subst (λ r. g.post f (p, (budget, tt)) r) is post in
     (solves p outcome sound call, record { argument = p; argument_is = refl; call = call })

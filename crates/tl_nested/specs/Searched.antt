@@ -16,8 +16,8 @@ use Rattle.tl_solve.specs.declared.outcome.Outcome.{Outcome}
 use Rattle.tl_solve.specs.Solver.{IsSolverOutcome}
 
 -- the page is at least as wide as the least width of the document's own table
-abbrev pub FitsPage : Subject → Type 0
-FitsPage subject = least_of (meant subject) (own_number (meant subject)) ≤ subject.page
+abbrev pub IsWideEnough : Subject → Type 0
+IsWideEnough subject = least_of (meant subject) (own_number (meant subject)) ≤ subject.page
 
 -- the section has the height, the lower bound, the widths, the trace and the log of the outcome
 pub record IsSectionOf (outcome : Outcome) (section : Section) : Type 0 where

@@ -10,7 +10,7 @@ use Rattle.tl_solve.specs.Solver.{IsSolverOutcome}
 
 module _ {F : Type 0} (g : Shared F (Bor ProblemModel × (ℕ × Unit {0})) (Result Outcome AllocError)) (f : F) where
   -- a call of `f` with the problem and the budget may give the outcome
-  pub record Gives (budget : ℕ) (problem : ProblemModel) (outcome : Outcome) : Type 0 where
+  pub record GivesOutcome (budget : ℕ) (problem : ProblemModel) (outcome : Outcome) : Type 0 where
     pub argument : Bor ProblemModel
     pub argument_is : argument.now ≡ problem
     pub call : g.post f (argument, (budget, tt)) (Ok outcome)

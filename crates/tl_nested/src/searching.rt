@@ -9,13 +9,13 @@ ghost use Rattle.tl_table.specs.Least.{IsLeastWidth};
 ghost use Rattle.tl_table.specs.Sound.{IsSound};
 ghost use Rattle.tl_form.specs.Subjects.{IsSubject, due_of, meant};
 ghost use Rattle.tl_form.specs.Valid.{AreGoodBelow, IsProblemAt};
-ghost use Rattle.tl_nested.specs.Searched.{AreSectionsOf, AreWritable, FitsPage, IsSearched};
-ghost use Rattle.tl_nested.specs.Solved.{Gives, SearchesEach, SolvesEach};
+ghost use Rattle.tl_nested.specs.Searched.{AreSectionsOf, AreWritable, IsWideEnough, IsSearched};
+ghost use Rattle.tl_nested.specs.Solved.{GivesOutcome, SearchesEach, SolvesEach};
 
 use std::alloc::{AllocError, Global};
 use tl_base::{List, Style};
 use tl_cert::Section;
-use tl_form::{Due, Subject, problem_for};
+use tl_form::{Due, Subject, problem_for, sections_give_sound_problems};
 use tl_problem::{Placed, Problem};
 use tl_solve::Outcome;
 use tl_table::Table;
@@ -37,12 +37,13 @@ pub fn problem_at(
     before: &[Section],
 ) -> Result<Problem, AllocError>
     requires subject { IsSubject subject.now }
-    requires wide { FitsPage subject.now }
+    requires wide { IsWideEnough subject.now }
     requires good { (budget : ℕ) × AreGoodBelow (meant subject.now) budget before.now (length before.now) }
     requires next { due_after (meant subject.now) before.now ≡ Some (due_of due) }
     ensures { IfOk result (λ problem. (section : Section) → section.table ≡ due.table → section.width ≡ due.width →
         IsProblemAt (meant subject.now) before.now section problem) }
 {
+    sections_give_sound_problems();
     let table = subject.table_of(due.table);
     let problem = problem_for(alloc, table, subject.style, due.width, before)?.unwrap();
     Ok(problem)
@@ -58,17 +59,18 @@ fn search<F: Fn(&Problem, u32) -> Result<Outcome, AllocError>>(
     before: &[Section],
 ) -> Result<Found, AllocError>
     requires subject { IsSubject subject.now }
-    requires wide { FitsPage subject.now }
+    requires wide { IsWideEnough subject.now }
     requires cuts { budget ≤ MAX_BUDGET }
     requires good { AreGoodBelow (meant subject.now) budget before.now (length before.now) }
     requires next { due_after (meant subject.now) before.now ≡ Some (due_of due) }
     requires callable { SearchesEach F.Fn solve.now budget }
     requires solves { SolvesEach F.Fn solve.now budget }
-    ensures searched { IfOk result (λ found. IsSearched (Gives F.Fn solve.now budget) (meant subject.now) budget before.now
+    ensures searched { IfOk result (λ found. IsSearched (GivesOutcome F.Fn solve.now budget) (meant subject.now) budget before.now
         found.section) }
     ensures placed { IfOk result (λ found. found.placed ≡ placed_width subject.now.style found.section) }
     ensures writable { IfOk result (λ found. IsSectionWritable found.section) }
 {
+    sections_give_sound_problems();
     let problem = problem_at(alloc, subject, due, before)?;
     let Outcome {
         best,
@@ -112,7 +114,7 @@ pub fn sections_by<F: Fn(&Problem, u32) -> Result<Outcome, AllocError>>(
     requires cuts { budget ≤ MAX_BUDGET }
     requires callable { SearchesEach F.Fn solve.now budget }
     requires solves { SolvesEach F.Fn solve.now budget }
-    ensures expected { IfOk result (AreSectionsOf (Gives F.Fn solve.now budget) table.now style width budget) }
+    ensures expected { IfOk result (AreSectionsOf (GivesOutcome F.Fn solve.now budget) table.now style width budget) }
     ensures writable { IfOk result AreWritable }
 {
     let subject = Subject::of(alloc, table, style, width)?;

@@ -3,7 +3,7 @@ use Rattle.tl_problem.specs.Problem.{ProblemModel}
 use Rattle.tl_form.specs.Nested.{IsProblemFor}
 use Rattle.tl_form.specs.Subjects.{due_of}
 use Rattle.tl_form.proofs.SubjectLemmas.{it_is}
-use Rattle.tl_nested.proofs.Ready.{may, narrow, problem_due, some, sound_one, wide}
+use Rattle.tl_nested.proofs.Ready.{by_law, may, narrow, problem_due, some, sound_one}
 use Rattle.tl_nested.proofs.searching.problem_at.Goals as goal
 
 pub table_of-table-requires-clause-from : goal.table_of-table-requires-clause-from
@@ -25,17 +25,19 @@ problem_for-requires-clause-sound c = sound_one c.args.subject.now c.requires.su
 pub problem_for-requires-clause-narrow : goal.problem_for-requires-clause-narrow
 problem_for-requires-clause-narrow c = narrow c.args.subject.now c.requires.subject c.requires.wide c.args.before.now
     c.requires.good.0 c.requires.good.1
-    (due_of c.args.due) c.requires.next c.table_of-table.result.now c.table_of-table.ensures
+    (due_of c.args.due) c.requires.next c.table_of-table.result.now c.table_of-table.ensures c.sections_give_sound_problems.ensures
 
 pub problem_for-requires-clause-wide : goal.problem_for-requires-clause-wide
-problem_for-requires-clause-wide c = wide c.args.subject.now c.requires.subject c.requires.wide c.args.before.now
+problem_for-requires-clause-wide c = (by_law c.args.subject.now c.requires.subject c.requires.wide c.args.before.now
     c.requires.good.0 c.requires.good.1
     (due_of c.args.due) c.requires.next c.table_of-table.result.now c.table_of-table.ensures
+    c.sections_give_sound_problems.ensures).wide
 
 pub unwrap-problem-requires : goal.unwrap-problem-requires
 unwrap-problem-requires c = some c.args.subject.now c.requires.subject c.requires.wide c.args.before.now c.requires.good.0
     c.requires.good.1
-    (due_of c.args.due) c.requires.next c.table_of-table.result.now c.table_of-table.ensures c.in_ok-problem_for.field-0 _
+    (due_of c.args.due) c.requires.next c.table_of-table.result.now c.table_of-table.ensures c.sections_give_sound_problems.ensures
+    c.in_ok-problem_for.field-0 _
     c.in_ok-problem_for.ensures
 
 pub returns : goal.returns

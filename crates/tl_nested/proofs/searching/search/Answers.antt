@@ -1,6 +1,6 @@
 use Rattle.std.proofs.Common.{refl}
 use Rattle.tl_form.specs.Subjects.{due_of}
-use Rattle.tl_nested.specs.Solved.{Gives}
+use Rattle.tl_nested.specs.Solved.{GivesOutcome}
 use Rattle.tl_nested.proofs.Made.{placed_as, searched, section_of, solved_by, writable}
 use Rattle.tl_nested.proofs.searching.search.Goals as goal
 
@@ -12,7 +12,7 @@ returns-clause-searched g c =
     c.in_ok-best.was c.solve.ensures in
     searched c.args.subject.now c.requires.subject c.requires.wide c.args.before.now c.args.budget c.requires.good
     (due_of c.args.due) c.requires.next
-    outcome c.in_ok-problem.problem at both.0 (Gives g.F.Fn c.args.solve.now c.args.budget) both.1
+    outcome c.in_ok-problem.problem at both.0 (GivesOutcome g.F.Fn c.args.solve.now c.args.budget) both.1
 
 pub returns-clause-placed : goal.returns-clause-placed
 returns-clause-placed g c =
@@ -32,4 +32,4 @@ returns-clause-writable g c =
     c.in_ok-best.was c.solve.ensures in
     writable c.args.subject.now c.requires.subject c.requires.wide c.args.before.now c.args.budget c.requires.good
     (due_of c.args.due) c.requires.next
-    outcome c.in_ok-problem.problem at both.0
+    outcome c.in_ok-problem.problem at both.0 c.sections_give_sound_problems.ensures

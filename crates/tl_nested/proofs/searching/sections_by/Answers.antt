@@ -1,7 +1,7 @@
 use Rattle.std.proofs.Common.{◌∙◌, ◌<◌, Some, option_map, ap, subst, sym}
 use Rattle.tl_form.specs.Subjects.{due_of, meant}
 use Rattle.tl_nested.specs.Searched.{IsSearched}
-use Rattle.tl_nested.specs.Solved.{Gives}
+use Rattle.tl_nested.specs.Solved.{GivesOutcome}
 use Rattle.tl_nested.specs.inner.SoFar.{AreSoFar, left}
 use Rattle.tl_nested.proofs.Counted.{left_falls}
 use Rattle.tl_nested.proofs.Made.{all_so_far, good_so_far, more_so_far, within_due}
@@ -15,7 +15,7 @@ search-requires-clause-wide g c = fits_of c.args.table.now c.args.style c.args.w
 pub next_due-due-requires-clause-from : goal.next_due-due-requires-clause-from
 next_due-due-requires-clause-from g c =
     let subject = c.in_ok-subject.subject in
-    let given = Gives g.F.Fn c.args.solve.now c.args.budget in
+    let given = GivesOutcome g.F.Fn c.args.solve.now c.args.budget in
     let now = due_of c.in-Some.now in
     let so_far = subst (λ o. AreSoFar given (meant subject) c.args.budget c.loop-due.sections (option_map due_of o))
     c.in-Some.is c.loop-due.invariant in
@@ -28,7 +28,7 @@ next_due-due-requires-clause-from g c =
 pub loop-due-smaller : goal.loop-due-smaller
 loop-due-smaller g c =
     let subject = c.in_ok-subject.subject in
-    let given = Gives g.F.Fn c.args.solve.now c.args.budget in
+    let given = GivesOutcome g.F.Fn c.args.solve.now c.args.budget in
     let now = due_of c.in-Some.now in
     let so_far = subst (λ o. AreSoFar given (meant subject) c.args.budget c.loop-due.sections (option_map due_of o))
     c.in-Some.is c.loop-due.invariant in
@@ -50,7 +50,7 @@ loop-due-smaller g c =
 pub loop-due-preserved : goal.loop-due-preserved
 loop-due-preserved g c =
     let subject = c.in_ok-subject.subject in
-    let given = Gives g.F.Fn c.args.solve.now c.args.budget in
+    let given = GivesOutcome g.F.Fn c.args.solve.now c.args.budget in
     let now = due_of c.in-Some.now in
     let so_far = subst (λ o. AreSoFar given (meant subject) c.args.budget c.loop-due.sections (option_map due_of o))
     c.in-Some.is c.loop-due.invariant in
@@ -79,7 +79,7 @@ returns-clause-expected g c = record {
 }
 
 pub returns-clause-writable : goal.returns-clause-writable
-returns-clause-writable g c = all_so_far (Gives g.F.Fn c.args.solve.now c.args.budget)
+returns-clause-writable g c = all_so_far (GivesOutcome g.F.Fn c.args.solve.now c.args.budget)
     c.in_ok-subject.subject c.args.budget c.loop-due.sections
     (option_map due_of c.loop-due.due)
     (subject_of c.args.table.now c.args.style c.args.width c.in_ok-subject.subject c.requires.sound c.requires.narrow

@@ -1,0 +1,31 @@
+-- A table that has a sound problem passes each test.
+use Rattle.std.proofs.Common.{◌≡◌, ◌∙◌, true, false, sym, subst}
+use Rattle.tl_table.specs.declared.cell.Table.{out-Table}
+use Rattle.tl_problem.specs.Sound.{IsSound}
+use Rattle.tl_form.proofs.ProblemCells.{are-low, have-steps, made-sound}
+use Rattle.tl_form.proofs.problems.sound_problem.Goals as goal
+
+passed : false ≡ true → ⊥
+passed equal = cc
+
+pub returns-then-not-have_steps : goal.returns-then-not-have_steps
+returns-then-not-have_steps c = λ has. passed (sym c.if-not-have_steps.true ∙ c.have_steps.ensures.1
+    (have-steps c.args.table.now c.args.style c.args.width c.args.inner.now has))
+
+pub returns-then-not-are_low_cells : goal.returns-then-not-are_low_cells
+returns-then-not-are_low_cells c = λ has. passed (sym c.if-not-are_low_cells.true ∙ c.are_low_cells.ensures.1
+    (are-low c.args.table.now c.args.style c.args.width c.args.inner.now has))
+
+pub returns-then-not-is_sound : goal.returns-then-not-is_sound
+returns-then-not-is_sound c = λ has.
+    let table = out-Table c.args.table.now in
+    passed (sym c.if-not-is_sound.true ∙ c.is_sound.ensures.1
+    (subst (λ made. IsSound (record {
+      cols = table.cols;
+      rows = table.rows;
+      style = c.args.style;
+      width = c.args.width;
+      cells = made;
+    }))
+    (sym c.as_slice.ensures)
+    (made-sound c.args.table.now c.args.style c.args.width c.args.inner.now c.in_ok-cells.cells c.in_ok-cells.ensures has)))
