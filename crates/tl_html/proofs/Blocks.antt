@@ -14,9 +14,9 @@ use Rattle.tl_text.specs.declared.paragraph.Atom.{Atom}
 use Rattle.tl_text.specs.Paragraph.{IsSpelt}
 use Rattle.tl_tree.specs.Grammar.{Marks, character, nested, words}
 use Rattle.tl_tree.specs.Grammar as grammar
-use Rattle.tl_tree.specs.Outline.{Entries, paragraph, block_outline, outline, blocks_outline}
+use Rattle.tl_tree.specs.Outline.{Entries, block_outline, outline, blocks_outline}
 use Rattle.tl_tree.specs.Paragraphs.{atoms_of, paragraph_of, entries_after, entries_of}
-use Rattle.tl_tree.specs.Sound.{AreSound, IsPlainAtom}
+use Rattle.tl_tree.specs.Sound.{IsPlainAtom, IsPlainParagraph}
 use Rattle.tl_tree.specs.Tags.{Kinds, table_end, text}
 use Rattle.tl_tree.specs.declared.node.Block.{Block, out-Block, roll-Block, out-roll-Block}
 use Rattle.tl_tree.specs.declared.node.Block.TheOpen as open_block
@@ -31,10 +31,10 @@ use Rattle.tl_table.specs.declared.layout.Layout.{Layout}
 use Rattle.tl_table.specs.Tables.{OpenContent, tables_of}
 use Rattle.tl_table.specs.Formed.{OpenBlock, BecomesContent, BecomeContents, broken}
 use Rattle.tl_table.specs.Same.{AreSameContent}
-use Rattle.tl_table.proofs.SoundNodes.{open_outline, block_outline-out}
 use Rattle.tl_html.specs.Html.{paragraph_html, Flow, Cell, blocks_html, block_page, table_page, cell_page, flow_of, cell_of}
 use Rattle.tl_html.specs.Html.{html_of}
 use Rattle.tl_html.specs.Html as html
+use Rattle.tl_html.specs.Spellable.{AreSpellableBlocks, IsSpellableBlock}
 use Rattle.tl_html.proofs.Items.{Item, item_text, items_text, IsItem}
 use Rattle.tl_html.proofs.PageTags as page_tags
 use Rattle.tl_html.proofs.PageWords.{paragraph_items, paragraph_written, clusters_items, paragraph_is_items, paragraph_marks}
@@ -96,9 +96,7 @@ pub record TableBack (forms : TableNode → Table → Type 0) (alike : Table →
 
 module _ (breaking : Breaking) (forms : TableNode → Table → Type 0) (alike : Table → Table → Type 0) (has : Table → Layout →
     Type 0)
-    (inside : (node : TableNode) (table : Table) (layout : Layout) (k : ℕ) → forms node table → AreSound (outline node) →
-    has table layout →
-    TableBack forms alike table layout k) where
+    (inside : (table : Table) (layout : Layout) (k : ℕ) → has table layout → TableBack forms alike table layout k) where
   -- a block
   record BlockBack (block : Content) (inner : List Layout) (others : List Table) (k : ℕ) : Type 0 where
     items : List Item
@@ -142,9 +140,8 @@ module _ (breaking : Breaking) (forms : TableNode → Table → Type 0) (alike :
 
   para_back : (block : Content) (inner : List Layout) (others : List Table) (k : ℕ) (units atoms : List Atom) →
       out-Content block ≡ open_content.Para units →
-      units ≡ broken breaking atoms → AreSound (paragraph atoms ∷ []) → AllZip has others inner → BlockBack block inner others k
-  para_back block inner others k units atoms opened is sound left =
-      let range = sound.in_range.0 in
+      units ≡ broken breaking atoms → IsPlainParagraph atoms → AllZip has others inner → BlockBack block inner others k
+  para_back block inner others k units atoms opened is range left =
       let spelt : AllByRecursion IsSpelt atoms = recursion_from_All IsSpelt atoms range.is_paragraph.spelt in
       let flow : flow_of block inner ≡ open_flow (open_content.Para units) inner = flow_of-out block inner
       ∙ ap (λ (c : OpenContent). open_flow c inner) opened in
@@ -177,16 +174,14 @@ module _ (breaking : Breaking) (forms : TableNode → Table → Type 0) (alike :
       ∙ ap (λ (atoms : List Atom). paragraph_of atoms ++ entries_after k later) nothing_there
 
   nested_back : (block : Content) (layout : Layout) (inner : List Layout) (others : List Table) (k : ℕ)
-      (nbox : Box TableNode Global)
       (box : Box Table Global) →
-      out-Content block ≡ open_content.Table box → forms nbox.value box.value → AreSound (outline nbox.value) →
-      has box.value layout →
+      out-Content block ≡ open_content.Table box → has box.value layout →
       AllZip has others inner → BlockBack block (layout ∷ inner) others k
-  nested_back block layout inner others k nbox box opened becomes sound fits left =
-      let t = inside nbox.value box.value layout k becomes sound fits in
+  nested_back block layout inner others k box opened fits left =
+      let t = inside box.value layout k fits in
       let flow : flow_of block (layout ∷ inner) ≡ open_flow (open_content.Table box) (layout ∷ inner) =
       flow_of-out block (layout ∷ inner) ∙ ap (λ (c : OpenContent). open_flow c (layout ∷ inner)) opened in
-      let nbox' : Box TableNode Global = record nbox { value = t.node } in
+      let nbox' : Box TableNode Global = record { ptr = box.ptr; alloc = box.alloc; value = t.node } in
       let box' : Box Table Global = record box { value = t.back } in
       let made : Block = roll-Block (open_block.Table nbox') in
       let back : Content = roll-Content (open_content.Table box') in
@@ -224,26 +219,22 @@ module _ (breaking : Breaking) (forms : TableNode → Table → Type 0) (alike :
             (sym (out-roll-Content (open_content.Table box'))) t.same);
       }
 
-  block_back : (o : OpenBlock) (d : OpenContent) (block : Content) (inner : List Layout) (others : List Table) (k : ℕ) →
+  block_back : (d : OpenContent) (block : Content) (inner : List Layout) (others : List Table) (k : ℕ) →
       out-Content block ≡ d →
-      BecomesContent forms breaking o d → AreSound (open_outline o) → AllZip has (tables_of d ++ others) inner →
-      BlockBack block inner others k
-  block_back (open_block.Para atoms) (open_content.Para units) block inner others k opened becomes sound fits =
-      para_back block inner others k units atoms opened becomes sound fits
-  block_back (open_block.Para atoms) (open_content.Table box) block inner others k opened becomes sound fits = absurd becomes
-  block_back (open_block.Table nbox) (open_content.Para units) block inner others k opened becomes sound fits = absurd becomes
-  block_back (open_block.Table nbox) (open_content.Table box) block [] others k opened becomes sound fits = absurd fits
-  block_back (open_block.Table nbox) (open_content.Table box) block (layout ∷ inner) others k opened becomes sound fits =
-      nested_back block layout inner others k nbox box opened becomes sound fits.0 fits.1
+      IsSpellableBlock breaking d → AllZip has (tables_of d ++ others) inner → BlockBack block inner others k
+  block_back (open_content.Para units) block inner others k opened spelt fits =
+      para_back block inner others k units spelt.0 opened spelt.2 spelt.1 fits
+  block_back (open_content.Table box) block [] others k opened spelt fits = absurd fits
+  block_back (open_content.Table box) block (layout ∷ inner) others k opened spelt fits =
+      nested_back block layout inner others k box opened fits.0 fits.1
 
   abbrev pub tables_among : List Content → List Table
   tables_among blocks = flat_map (λ block. tables_of (out-Content block)) blocks
 
-  pub flow_back : (flow : List Block) (blocks : List Content) (inner : List Layout) (others : List Table) (k : ℕ) →
-      BecomeContents forms breaking flow blocks →
-      AllByRecursion (λ block. AreSound (block_outline block)) flow → AllZip has (tables_among blocks ++ others) inner →
+  pub flow_back : (blocks : List Content) (inner : List Layout) (others : List Table) (k : ℕ) →
+      AreSpellableBlocks breaking blocks → AllZip has (tables_among blocks ++ others) inner →
       FlowBack blocks inner others k
-  flow_back [] [] inner others k become sound fits = record {
+  flow_back [] inner others k spelt fits = record {
     items = [];
     are = tt;
     written = refl;
@@ -257,14 +248,11 @@ module _ (breaking : Breaking) (forms : TableNode → Table → Type 0) (alike :
     become = tt;
     same = tt;
   }
-  flow_back [] (block ∷ blocks) inner others k become sound fits = absurd become
-  flow_back (node ∷ flow) [] inner others k become sound fits = absurd become
-  flow_back (node ∷ flow) (block ∷ blocks) inner others k become sound fits =
-      let one = block_back (out-Block node) (out-Content block) block inner (tables_among blocks ++ others) k refl become.0
-      (subst AreSound (block_outline-out node) sound.0)
+  flow_back (block ∷ blocks) inner others k spelt fits =
+      let one = block_back (out-Content block) block inner (tables_among blocks ++ others) k refl spelt.0
       (subst (λ (tables : List Table). AllZip has tables inner)
       (append_assoc (tables_of (out-Content block)) (tables_among blocks) others) fits) in
-      let rest = flow_back flow blocks (flow_of block inner).rest others one.next become.1 sound.1 one.left in
+      let rest = flow_back blocks (flow_of block inner).rest others one.next spelt.1 one.left in
       record {
         items = one.items ++ rest.items;
         are = AllByRecursion-append IsItem one.items rest.items one.are rest.are;

@@ -9,7 +9,7 @@ use Rattle.tl_base.specs.declared.breaking.Breaking.{Breaking}
 use Rattle.tl_base.specs.declared.limits.TheConstants.{MAX_COLSPAN, MAX_ROWSPAN, MAX_PAGE_WIDTH}
 use Rattle.tl_base.proofs.Zips.{AllZip-append}
 use Rattle.tl_base.proofs.Members.{AllByRecursion-append}
-use Rattle.tl_tree.specs.Outline.{blocks_outline, Entries, cell, row, cell_outline, block_outline, outline, cells_outline}
+use Rattle.tl_tree.specs.Outline.{blocks_outline, Entries, cell, row, cell_outline, cells_outline}
 use Rattle.tl_grid.specs.declared.shape.Place.{Place}
 use Rattle.tl_grid.specs.declared.shape.SpanOf.{SpanOf}
 use Rattle.tl_token.specs.Elements.{no_spans}
@@ -18,7 +18,6 @@ use Rattle.tl_token.specs.declared.token.Element.TheVariants as elements
 use Rattle.tl_tree.specs.Grammar.{Marks, Cells, Rows, no_flow, no_cell, no_space, space, by_tag}
 use Rattle.tl_tree.specs.Grammar as grammar
 use Rattle.tl_tree.specs.Paragraphs.{leading, atoms_of, paragraph_of, entries_after}
-use Rattle.tl_tree.specs.Sound.{AreSound}
 use Rattle.tl_tree.specs.Tags.{Kinds, cell_start, cell_end, row_start, row_end, text}
 use Rattle.tl_tree.specs.declared.node.CellNode.{CellNode, out-CellNode, roll-CellNode, out-roll-CellNode}
 use Rattle.tl_tree.specs.declared.node.TableNode.{TableNode}
@@ -32,11 +31,12 @@ use Rattle.tl_table.specs.Tables.{OpenCell, tables_in}
 use Rattle.tl_table.specs.Formed.{OpenCellNode, BecomesCell, BecomeCells, kind_of, span_of}
 use Rattle.tl_table.specs.Same.{AreSameCell}
 use Rattle.tl_table.specs.Sound.{place_of}
-use Rattle.tl_table.proofs.SoundNodes.{cell_outline-out, cell_flow, sound_each, rows_outline}
+use Rattle.tl_table.proofs.SoundNodes.{rows_outline}
 use Rattle.tl_html.specs.declared.filled.Filled.{Filled}
 use Rattle.tl_html.specs.Html.{Cell, fill, blocks_html, block_page, table_page, cell_page, flow_of, cell_of, cell_html}
 use Rattle.tl_html.specs.Html.{is_caption, line}
 use Rattle.tl_html.specs.Html as html
+use Rattle.tl_html.specs.Spellable.{AreSpellableBlocks}
 use Rattle.tl_html.proofs.Items.{Item, item_text, items_text, IsItem}
 use Rattle.tl_html.proofs.PageTags.{numbers, attributes_text, plain_start, head_start, plain_end, head_end}
 use Rattle.tl_html.proofs.PageTags as page_tags
@@ -212,21 +212,20 @@ pub cell_of-out : (c : TableCell) → let o = out-TableCell c in
     } in made)
 cell_of-out c = fold_out-TableCell html.Block (Layout → List ℕ) Cell block_page table_page cell_page c
 
+-- a cell below the caption: what it is, how large, and that its paragraphs can be spelt
+pub record IsBelow (breaking : Breaking) (c : TableCell) : Type 0 where
+  pub head : Bool
+  pub kind : (out-TableCell c).kind ≡ kind_of head
+  pub narrow : (out-TableCell c).least ≤ MAX_PAGE_WIDTH
+  pub words : AreSpellableBlocks breaking (out-TableCell c).blocks
+  pub wide : (place_of c).left < (place_of c).right
+  pub few_columns : (place_of c).right - (place_of c).left ≤ MAX_COLSPAN
+  pub high : (place_of c).top < (place_of c).bottom
+  pub few_rows : (place_of c).bottom - (place_of c).top ≤ MAX_ROWSPAN
+
 module _ (breaking : Breaking) (forms : TableNode → Table → Type 0) (alike : Table → Table → Type 0) (has : Table → Layout →
     Type 0)
-    (inside : (node : TableNode) (table : Table) (layout : Layout) (k : ℕ) → forms node table → AreSound (outline node) →
-    has table layout →
-    TableBack forms alike table layout k) where
-  -- a cell below the caption: what cell of a tree it comes from, and how large it is
-  pub record IsBelow (c : TableCell) : Type 0 where
-    pub node : CellNode
-    pub becomes : BecomesCell forms breaking (out-CellNode node) (out-TableCell c)
-    pub sound : AreSound (cell_outline node)
-    pub wide : (place_of c).left < (place_of c).right
-    pub few_columns : (place_of c).right - (place_of c).left ≤ MAX_COLSPAN
-    pub high : (place_of c).top < (place_of c).bottom
-    pub few_rows : (place_of c).bottom - (place_of c).top ≤ MAX_ROWSPAN
-
+    (inside : (table : Table) (layout : Layout) (k : ℕ) → has table layout → TableBack forms alike table layout k) where
   pub record CellsBack (cells : List TableCell) (inner : List Layout) (others : List Table) (k : ℕ) : Type 0 where
     pub items : List Item
     pub are : AllByRecursion IsItem items
@@ -251,7 +250,8 @@ module _ (breaking : Breaking) (forms : TableNode → Table → Type 0) (alike :
   abbrev pub tables_below : List TableCell → List Table
   tables_below cells = flat_map (λ c. tables_in (out-TableCell c)) cells
 
-  pub cells_back : (cells : List TableCell) (inner : List Layout) (others : List Table) (k : ℕ) → AllByRecursion IsBelow cells →
+  pub cells_back : (cells : List TableCell) (inner : List Layout) (others : List Table) (k : ℕ) →
+      AllByRecursion (IsBelow breaking) cells →
       AllZip has (tables_below cells ++ others) inner → CellsBack cells inner others k
   cells_back [] inner others k below fits = record {
     items = [];
@@ -277,20 +277,16 @@ module _ (breaking : Breaking) (forms : TableNode → Table → Type 0) (alike :
   cells_back (c ∷ cells) inner others k below fits =
       let o = out-TableCell c in
       let is = below.0 in
-      let n = out-CellNode is.node in
       let place = place_of c in
       let colspan = place.right - place.left in
       let rowspan = place.bottom - place.top in
-      let range = (subst AreSound (cell_outline-out is.node) is.sound).in_range.0 in
-      let flow = flow_back breaking forms alike has inside n.flow o.blocks inner (tables_below cells ++ others)
-      k is.becomes.blocks
-      (sound_each block_outline n.flow (cell_flow is.node is.sound))
+      let flow = flow_back breaking forms alike has inside o.blocks inner (tables_below cells ++ others) k is.words
       (subst (λ (tables : List Table). AllZip has tables inner) (append_assoc (tables_in o) (tables_below cells) others) fits) in
       let found = blocks_html (map flow_of o.blocks) inner in
       let one : Filled = record { kind = o.kind; place = place; least = o.least; text = found.text } in
-      let items = start_item n.head colspan rowspan o.least ∷ (flow.items ++ end_item n.head ∷ []) in
+      let items = start_item is.head colspan rowspan o.least ∷ (flow.items ++ end_item is.head ∷ []) in
       let node' : OpenCellNode = record {
-        head = n.head;
+        head = is.head;
         colspan = colspan;
         rowspan = rowspan;
         least = o.least;
@@ -302,14 +298,14 @@ module _ (breaking : Breaking) (forms : TableNode → Table → Type 0) (alike :
       let twin : TableCell = roll-TableCell twin' in
       let open_node : out-CellNode made ≡ node' = out-roll-CellNode node' in
       let open_twin : out-TableCell twin ≡ twin' = out-roll-TableCell twin' in
-      let marks = cell_marks n.head colspan rowspan o.least flow.ms in
+      let marks = cell_marks is.head colspan rowspan o.least flow.ms in
       let rest = cells_back cells found.rest others flow.next below.1 flow.left in
       record {
         items = items ++ rest.items;
         are = AllByRecursion-append IsItem items rest.items (
-          start_is n.head colspan rowspan o.least (omega (arith, is.wide)) is.few_columns (omega (arith, is.high)) is.few_rows
-              (omega (arith, is.becomes.least, range.narrow)),
-          AllByRecursion-append IsItem flow.items (end_item n.head ∷ []) flow.are (end_is n.head, tt),
+          start_is is.head colspan rowspan o.least (omega (arith, is.wide)) is.few_columns (omega (arith, is.high)) is.few_rows
+              is.narrow,
+          AllByRecursion-append IsItem flow.items (end_item is.head ∷ []) flow.are (end_is is.head, tt),
         )
             rest.are;
         filled = one ∷ rest.filled;
@@ -319,33 +315,33 @@ module _ (breaking : Breaking) (forms : TableNode → Table → Type 0) (alike :
             ∙ ap (λ (fs : List Filled). one ∷ fs) (rest.fills more);
         left = rest.left;
         at = ap (λ (ps : List Place). place ∷ ps) rest.at;
-        plain = (ap html.is_caption_kind is.becomes.kind ∙ no_caption_kind n.head, rest.plain);
+        plain = (ap html.is_caption_kind is.kind ∙ no_caption_kind is.head, rest.plain);
         written = ap (λ (kind : Kind). cell_html (record {
           kind = kind;
           place = place;
           least = o.least;
           text =
               found.text;
-        }) ++ flat_map cell_html rest.filled) is.becomes.kind
+        }) ++ flat_map cell_html rest.filled) is.kind
             ∙ ap (λ (cs : List ℕ). cs ++ flat_map cell_html rest.filled)
-            (cell_written n.head place o.least found.text flow.items flow.written)
+            (cell_written is.head place o.least found.text flow.items flow.written)
             ∙ ap (λ (cs : List ℕ). items_text items ++ cs) rest.written
             ∙ sym (flat_map-append item_text items rest.items);
         ms = marks ++ rest.ms;
         goes = subst (λ (ks : Kinds). CellsGo ks (marks ++ rest.ms)) (sym (kinds_append items rest.items))
             (cells_append (grammar_kinds items) (grammar_kinds rest.items) marks rest.ms
-            (cell_goes n.head colspan rowspan o.least flow.items flow.ms flow.goes) rest.goes);
+            (cell_goes is.head colspan rowspan o.least flow.items flow.ms flow.goes) rest.goes);
         next = rest.next;
         nodes = made ∷ rest.nodes;
         stand = stand_append k flow.next rest.next marks rest.ms (cell_outline made) (cells_outline rest.nodes)
             (subst (λ (es : Entries). StandFor k marks es flow.next) (sym (cell_made node'))
-            (cell_stands k flow.next n.head colspan rowspan o.least flow.ms (blocks_outline flow.flow) flow.stand))
+            (cell_stands k flow.next is.head colspan rowspan o.least flow.ms (blocks_outline flow.flow) flow.stand))
             rest.stand;
         back = twin ∷ rest.back;
         become = (
           subst (λ (d : OpenCellNode). BecomesCell forms breaking d (out-TableCell twin)) (sym open_node)
               (subst (λ (d : OpenCell). BecomesCell forms breaking node' d) (sym open_twin)
-              (record { kind = is.becomes.kind; least = refl; blocks = flow.become })),
+              (record { kind = is.kind; least = refl; blocks = flow.become })),
           rest.become,
         );
         same = (
@@ -412,7 +408,7 @@ module _ (breaking : Breaking) (forms : TableNode → Table → Type 0) (alike :
     pub spans : map (map span_of) nodes ≡ map (map (λ c. span_at (place_of c))) rows
 
   pub rows_back : (rows : List (List TableCell)) (inner : List Layout) (others : List Table) (k : ℕ) →
-      AllByRecursion (AllByRecursion IsBelow) rows →
+      AllByRecursion (AllByRecursion (IsBelow breaking)) rows →
       AllZip has (tables_below (joined rows) ++ others) inner → RowsBack rows inner others k
   rows_back [] inner others k below fits = record {
     items = [];

@@ -1,6 +1,6 @@
 -- The page of a table spells the table again, with tables nested to any depth.
 use Rattle.std.proofs.Common.{◌≡◌, ◌∙◌, ℕ, zero, suc, List, [], ◌∷◌, ◌++◌, map, refl, sym, ap, subst, append-nil}
-use Rattle.std.specs.List.{AllByRecursion}
+use Rattle.std.specs.List.{AllByRecursion, AllZip}
 use Rattle.tl_base.specs.declared.breaking.Breaking.{Breaking}
 use Rattle.tl_base.proofs.Members.{AllByRecursion-append}
 use Rattle.tl_token.specs.Spelling.{without_mark}
@@ -9,32 +9,47 @@ use Rattle.tl_tree.specs.Grammar.{Marks, no_outer, outer_space}
 use Rattle.tl_tree.specs.Grammar as grammar
 use Rattle.tl_tree.specs.Outline.{outline}
 use Rattle.tl_tree.specs.Paragraphs.{leading, atoms_of, paragraph_of, entries_after, entries_of}
-use Rattle.tl_tree.specs.Sound.{AreSound}
 use Rattle.tl_tree.specs.Tags.{Kinds, class_of, kinds, table_end, text}
-use Rattle.tl_tree.specs.declared.node.TableNode.{TableNode}
-use Rattle.tl_table.specs.declared.cell.Table.{Table, fold_out-Table}
-use Rattle.tl_table.specs.declared.layout.Layout.{Layout}
+use Rattle.tl_table.specs.declared.cell.Table.{Table, out-Table, fold_out-Table}
+use Rattle.tl_table.specs.declared.layout.Layout.{Layout, out-Layout}
 use Rattle.tl_table.specs.Formed.{BecomesWithin}
+use Rattle.tl_table.specs.Sound.{IsSoundWithin}
+use Rattle.tl_table.specs.Tables.{inner_tables}
 use Rattle.tl_html.specs.Alike.{AreAlikeWithin}
 use Rattle.tl_html.specs.Html.{Block, Cell, block_page, table_page, cell_page, html_of}
 use Rattle.tl_html.specs.Laws.{PageReadsBack}
 use Rattle.tl_html.specs.Readable.{HasColumnsWithin}
+use Rattle.tl_html.specs.Spellable.{IsSpellableWithin}
 use Rattle.tl_html.proofs.Items.{Item, IsItem, kind_of, items_spelt}
 use Rattle.tl_html.proofs.PageTags as page_tags
 use Rattle.tl_html.proofs.PageWords.{grammar_kinds, kinds_append}
 use Rattle.tl_html.proofs.Blocks.{TableBack, last_item}
 use Rattle.tl_html.proofs.TableAgain.{table_again}
 
+-- each of the tables is so, and each of its layouts is one of it
+zip_both : {X Y : Type 0} (A B : X → Type 0) (R : X → Y → Type 0) (xs : List X) (ys : List Y) → AllByRecursion A xs →
+    AllByRecursion B xs → AllZip R xs ys → AllZip (λ x y. A x × B x × R x y) xs ys
+zip_both A B R [] [] one other zip = tt
+zip_both A B R [] (y ∷ ys) one other zip = absurd zip
+zip_both A B R (x ∷ xs) [] one other zip = absurd zip
+zip_both A B R (x ∷ xs) (y ∷ ys) one other zip = ((one.0, other.0, zip.0), zip_both A B R xs ys one.1 other.1 zip.1)
+
 -- a table with others nested in it
-within_back : (depth deep : ℕ) (breaking : Breaking) (node : TableNode) (table : Table) (layout : Layout) (k : ℕ) →
-    BecomesWithin depth breaking node table →
-    AreSound (outline node) → HasColumnsWithin deep table layout →
+within_back : (depth deep wide : ℕ) (breaking : Breaking) (table : Table) (layout : Layout) (k : ℕ) →
+    IsSoundWithin depth table → IsSpellableWithin deep breaking table → HasColumnsWithin wide table layout →
     TableBack (BecomesWithin depth breaking) (AreAlikeWithin depth) table layout k
-within_back zero deep breaking node table layout k becomes sound fits = absurd becomes
-within_back (suc depth) zero breaking node table layout k becomes sound fits = absurd fits
-within_back (suc depth) (suc deep) breaking node table layout k becomes sound fits =
-    table_again breaking (BecomesWithin depth breaking) (AreAlikeWithin depth) (HasColumnsWithin deep)
-    (λ n t l number b s f. within_back depth deep breaking n t l number b s f) node table layout k becomes sound fits
+within_back zero deep wide breaking table layout k sound spelt fits = absurd sound
+within_back (suc depth) zero wide breaking table layout k sound spelt fits = absurd spelt
+within_back (suc depth) (suc deep) zero breaking table layout k sound spelt fits = absurd fits
+within_back (suc depth) (suc deep) (suc wide) breaking table layout k sound spelt fits =
+    table_again breaking (BecomesWithin depth breaking) (AreAlikeWithin depth)
+    (λ t l. IsSoundWithin depth t × IsSpellableWithin deep breaking t × HasColumnsWithin wide t l)
+    (λ t l number is. within_back depth deep wide breaking t l number is.0 is.1 is.2)
+    (IsSoundWithin depth) (IsSpellableWithin deep breaking) table layout k sound spelt (record {
+      columns = fits.columns;
+      inner = zip_both (IsSoundWithin depth) (IsSpellableWithin deep breaking) (HasColumnsWithin wide)
+          (inner_tables (out-Table table)) (out-Layout layout).inner sound.inner spelt.inner fits.inner;
+    })
 
 -- a page begins with a tag
 begins : (table : Table) (layout : Layout) → (rest : List ℕ) × (html_of table layout ≡ 0x3C ∷ rest)
@@ -49,8 +64,8 @@ kinds_are [] = refl
 kinds_are (t ∷ tokens) = ap (λ (ks : Kinds). class_of t.kind ∷ ks) (kinds_are tokens)
 
 pub reads_back : PageReadsBack
-reads_back table layout bytes page breaking node tree becomes columns =
-    let t = within_back becomes.0 columns.0 breaking node table layout 0 becomes.1 tree.sound columns.1 in
+reads_back table layout bytes page breaking sound spelt columns =
+    let t = within_back sound.depth spelt.0 columns.0 breaking table layout 0 sound.sound spelt.1 columns.1 in
     let items : List Item = t.prefix ++ last_item ∷ [] in
     let all : AllByRecursion IsItem items = AllByRecursion-append IsItem t.prefix (last_item ∷ []) t.are
     ((page_tags.table_end, (refl, tt)), tt) in
@@ -85,7 +100,7 @@ reads_back table layout bytes page breaking node tree becomes columns =
           };
           same = sym same;
         };
-        formed = (becomes.0, t.become);
+        formed = (sound.depth, t.become);
       },
-      (becomes.0, t.same),
+      (sound.depth, t.same),
     )

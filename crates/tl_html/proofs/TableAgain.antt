@@ -1,15 +1,15 @@
 -- A table on a page, and the same table read back, where the tables nested in it are read back.
-use Rattle.std.proofs.Common.{◌≡◌, ◌∙◌, ℕ, zero, suc, ◌+◌, ◌-◌, ◌<◌, ◌≤◌, max, false, Option, Some, None, List, [], ◌∷◌, ◌++◌}
+use Rattle.std.proofs.Common.{◌≡◌, ◌∙◌, ℕ, zero, suc, ◌+◌, ◌-◌, ◌<◌, ◌≤◌, max, false, List, [], ◌∷◌, ◌++◌}
 use Rattle.std.proofs.Common.{map, length, Contains}
-use Rattle.std.proofs.Common.{refl, sym, ap, subst, inl, inr, arith, append_assoc, append-nil, codes}
+use Rattle.std.proofs.Common.{refl, sym, ap, subst, arith, append_assoc, append-nil, codes}
 use Rattle.std.specs.List.{AllByRecursion, AllPairs, AllZip, flat_map, range_with_len}
-use Rattle.std.proofs.lemmas.List.{map-append, length-map, length-append}
+use Rattle.std.proofs.lemmas.List.{map-append, length-map}
 use Rattle.std.proofs.lemmas.List.Concat.{flat_map-append}
-use Rattle.std.proofs.lemmas.List.Elements.{recursion_from_All}
-use Rattle.std.proofs.lemmas.List.Sorted.{IsPermutation-refl, length_permutation}
+use Rattle.std.proofs.lemmas.List.Elements.{recursion_from_All, All-contains, All-from_recursion, Contains-append_right}
+use Rattle.std.proofs.lemmas.List.Sorted.{IsPermutation-refl}
 use Rattle.tl_base.specs.declared.breaking.Breaking.{Breaking}
-use Rattle.tl_base.specs.declared.limits.TheConstants.{MAX_COLUMNS, MAX_ROWS, MAX_CELLS}
-use Rattle.tl_base.proofs.Members.{All-from_Contains, Contains-cases, Contains-none, AllByRecursion-append}
+use Rattle.tl_base.specs.declared.limits.TheConstants.{MAX_COLUMNS, MAX_ROWS, MAX_CELLS, MAX_PAGE_WIDTH}
+use Rattle.tl_base.proofs.Members.{All-from_Contains, AllByRecursion-append}
 use Rattle.tl_base.proofs.Zips.{AllZip-append}
 use Rattle.tl_grid.specs.declared.shape.Grid.{Grid}
 use Rattle.tl_grid.specs.declared.shape.Place.{Place}
@@ -18,17 +18,16 @@ use Rattle.tl_grid.specs.declared.shape.ShapeGroup.{ShapeGroup}
 use Rattle.tl_grid.specs.declared.shape.SpanOf.{SpanOf}
 use Rattle.tl_grid.specs.Dropping.{IsPlaced, count_below}
 use Rattle.tl_grid.specs.Form.{HasGrid}
+use Rattle.tl_grid.specs.Slots.{HasAnchorInColumn, HasAnchorInRow}
 use Rattle.tl_token.specs.Elements.{no_spans}
 use Rattle.tl_token.specs.declared.token.Element.TheVariants as elements
 use Rattle.tl_tree.specs.Grammar.{Marks, no_space, space}
 use Rattle.tl_tree.specs.Grammar as grammar
-use Rattle.tl_tree.specs.Outline.{Entries, columns, cell_outline, outline, caption_outline}
+use Rattle.tl_tree.specs.Outline.{Entries, columns, outline, caption_outline}
 use Rattle.tl_tree.specs.Outline as entries
 use Rattle.tl_tree.specs.Paragraphs.{leading, atoms_of, paragraph_of, entries_after, entries_of}
-use Rattle.tl_tree.specs.Sound.{AreSound}
 use Rattle.tl_tree.specs.Tags.{Kinds, table_start, table_end, text}
-use Rattle.tl_tree.specs.declared.node.Block.{Block}
-use Rattle.tl_tree.specs.declared.node.CellNode.{CellNode, out-CellNode}
+use Rattle.tl_tree.specs.declared.node.CellNode.{CellNode}
 use Rattle.tl_tree.specs.declared.node.GroupNode.{GroupNode, out-GroupNode, out-roll-GroupNode}
 use Rattle.tl_tree.specs.declared.node.Part.TheVariants as parts
 use Rattle.tl_tree.specs.declared.node.TableNode.{TableNode, out-TableNode, roll-TableNode, out-roll-TableNode}
@@ -38,14 +37,13 @@ use Rattle.tl_table.specs.declared.cell.TableCell.{TableCell, out-TableCell}
 use Rattle.tl_table.specs.declared.layout.Layout.{Layout, out-Layout}
 use Rattle.tl_table.specs.Layouts.{OpenLayout}
 use Rattle.tl_table.specs.Tables.{OpenTable, tables_in}
-use Rattle.tl_table.specs.Formed.{OpenNode, OpenGroup, BecomesCell, BecomeCells, BecomesBy, caption_rows, cells_of_group}
-use Rattle.tl_table.specs.Formed.{cells_written, group_shape}
+use Rattle.tl_table.specs.Formed.{OpenNode, OpenGroup, BecomeCells, BecomesBy, cells_of_group}
+use Rattle.tl_table.specs.Formed.{group_shape}
 use Rattle.tl_table.specs.Formed.{is_foot, lowered, span_of}
 use Rattle.tl_table.specs.Same.{AreSameCell}
-use Rattle.tl_table.specs.Sound.{ComesBefore, place_of, places_of}
+use Rattle.tl_table.specs.Sound.{ComesBefore, IsSoundBy, place_of, places_of}
 use Rattle.tl_table.proofs.SoundParts.{each_joined}
-use Rattle.tl_table.proofs.SoundNodes.{table_groups, table_caption, groups_outline}
-use Rattle.tl_table.proofs.SoundFormed.{flat_groups}
+use Rattle.tl_table.proofs.SoundNodes.{groups_outline}
 use Rattle.tl_html.specs.declared.filled.Filled.{Filled}
 use Rattle.tl_html.specs.Alike.{AreAlikeBy}
 use Rattle.tl_html.specs.Html.{Cell, fill, block_page, table_page, cell_page, cell_of, html_of, caption_line, caption_html}
@@ -53,10 +51,11 @@ use Rattle.tl_html.specs.Html.{columns_html, row_html}
 use Rattle.tl_html.specs.Html.{rows_html, line}
 use Rattle.tl_html.specs.Html as html
 use Rattle.tl_html.specs.Readable.{HasColumnsBy}
+use Rattle.tl_html.specs.Spellable.{AreSpellableBlocks, IsRowCell, IsSpellableBy}
 use Rattle.tl_html.proofs.Items.{Item, item_text, items_text, IsItem}
 use Rattle.tl_html.proofs.PageTags as page_tags
 use Rattle.tl_html.proofs.PageWords.{grammar_kinds, kinds_append, StandFor}
-use Rattle.tl_html.proofs.GridAgain.{span_at, shape_on, AreRows}
+use Rattle.tl_html.proofs.GridAgain.{span_at, shape_on, AreRows, IsGrid}
 use Rattle.tl_html.proofs.GridKept.{grid_again}
 use Rattle.tl_html.proofs.Blocks.{TableBack, last_item, stand_append}
 use Rattle.tl_html.proofs.Cells.{HasRows, IsBelow, RowsBack, rows_back, joined}
@@ -65,6 +64,12 @@ use Rattle.tl_html.proofs.TableRows as table_rows
 use Rattle.tl_html.proofs.TableParts.{BeginInRows, rows_written, no_captions, columns_items, columns_are, columns_written}
 use Rattle.tl_html.proofs.TableParts.{columns_read}
 use Rattle.tl_html.proofs.TableParts.{part_marks, groups_of, group_of, parts_read, parts_stand, CaptionBack, caption_back}
+
+-- ---- lists
+
+prefix_of : {X : Type 0} (P : X → Type 0) (xs ys : List X) → AllByRecursion P (xs ++ ys) → AllByRecursion P xs
+prefix_of P [] ys all = tt
+prefix_of P (x ∷ xs) ys all = (all.0, prefix_of P xs ys all.1)
 
 -- ---- lists of lists
 
@@ -97,24 +102,6 @@ length_rows : (filled : List (List Filled)) (rows : List (List TableCell)) →
 length_rows filled rows same = sym (length-map filled (map (λ (f : Filled). f.place))) ∙ ap length same ∙ length-map rows
     (map place_of)
 
-one_row : (caption : Option (List Block)) → caption_rows caption ≤ 1
-one_row None = omega arith
-one_row (Some flow) = omega arith
-
--- ---- the cells of a tree are sound
-
--- the cell of a tree that a cell comes from
-comes_from : (forms : TableNode → Table → Type 0) (breaking : Breaking) (nodes : List CellNode) (cells : List TableCell) →
-    BecomeCells forms breaking nodes cells →
-    AllByRecursion (λ node. AreSound (cell_outline node)) nodes → (c : TableCell) → Contains cells c →
-    (node : CellNode) × BecomesCell forms breaking (out-CellNode node) (out-TableCell c) × AreSound (cell_outline node)
-comes_from forms breaking nodes [] become sound c has = absurd (Contains-none c has)
-comes_from forms breaking [] (d ∷ cells) become sound c has = absurd become
-comes_from forms breaking (node ∷ nodes) (d ∷ cells) become sound c has = elim (Contains-cases d cells c has) [
-  | inl here ↦ (node, subst (λ e. BecomesCell forms breaking (out-CellNode node) (out-TableCell e)) here become.0, sound.0)
-  | inr later ↦ comes_from forms breaking nodes cells become.1 sound.1 c later
-]
-
 regroup : (t c w r l : List ℕ) → (((t ++ c) ++ w) ++ r) ++ l ≡ t ++ ((c ++ (w ++ r)) ++ l)
 regroup t c w r l = simp append_assoc
 
@@ -123,12 +110,11 @@ regroup_kinds c w r l = simp append_assoc
 
 module _ (breaking : Breaking) (forms : TableNode → Table → Type 0) (alike : Table → Table → Type 0) (has : Table → Layout →
     Type 0)
-    (inside : (node : TableNode) (table : Table) (layout : Layout) (k : ℕ) → forms node table → AreSound (outline node) →
-    has table layout →
-    TableBack forms alike table layout k) where
-  module _ (node : TableNode) (table : Table) (layout : Layout) (k : ℕ)
-      (becomes : BecomesBy forms breaking (out-TableNode node) (out-Table table))
-      (sound : AreSound (outline node)) (fits : HasColumnsBy has (out-Table table) (out-Layout layout)) where
+    (inside : (table : Table) (layout : Layout) (k : ℕ) → has table layout → TableBack forms alike table layout k)
+    (sound_inside spellable : Table → Type 0) where
+  module _ (table : Table) (layout : Layout) (k : ℕ) (sound : IsSoundBy sound_inside (out-Table table))
+      (spelt : IsSpellableBy spellable breaking (out-Table table))
+      (fits : HasColumnsBy has (out-Table table) (out-Layout layout)) where
     abbrev T : OpenTable
     T = out-Table table
 
@@ -136,40 +122,75 @@ module _ (breaking : Breaking) (forms : TableNode → Table → Type 0) (alike :
     L = out-Layout layout
 
     abbrev down : ℕ
-    down = caption_rows (out-TableNode node).caption
+    down = length spelt.caption
 
-    abbrev grid : Grid
-    grid = becomes.grid
+    abbrev cols : ℕ
+    cols = table_rows.cols breaking sound_inside spellable T sound spelt
+
+    abbrev high : ℕ
+    high = T.rows - down
 
     abbrev below : List TableCell
-    below = table_rows.below breaking forms node T sound becomes
+    below = spelt.body
 
     abbrev places : List Place
     places = map (raised down) (map place_of below)
 
-    by_rows : (rows : List (List TableCell)) × (joined rows ≡ below) × (length rows ≡ grid.rows) × InRows down rows
-    by_rows = table_rows.rows_of breaking forms node T sound becomes
+    by_rows : (rows : List (List TableCell)) × (joined rows ≡ below) × (length rows ≡ high) × InRows down rows
+    by_rows = table_rows.rows_of breaking sound_inside spellable T sound spelt
 
     abbrev rows : List (List TableCell)
     rows = by_rows.0
 
-    is_below : (c : TableCell) → Contains below c → IsBelow breaking forms alike has inside c
+    few_captions : down ≤ 1
+    few_captions = table_rows.few_captions breaking sound_inside spellable T sound spelt
+
+    wide_is : T.cols ≡ max cols down
+    wide_is = table_rows.wide_is breaking sound_inside spellable T sound spelt
+
+    high_is : T.rows ≡ high + down
+    high_is = table_rows.high_is breaking sound_inside spellable T sound spelt
+
+    few_columns : cols ≤ MAX_COLUMNS
+    few_columns = table_rows.few_columns breaking sound_inside spellable T sound spelt
+
+    few_rows : high ≤ MAX_ROWS
+    few_rows = table_rows.few_rows breaking sound_inside spellable T sound spelt
+
+    under_caption : (c : TableCell) → Contains below c → (down ≤ (place_of c).top) × IsPlaced cols high (raised down (place_of c))
+    under_caption = table_rows.under_caption breaking sound_inside spellable T sound spelt
+
+    places_grid : IsGrid cols high places
+    places_grid = table_rows.places_grid breaking sound_inside spellable T sound spelt
+
+    places_columns : (x : ℕ) → x < cols → HasAnchorInColumn places x
+    places_columns = table_rows.places_columns breaking sound_inside spellable T sound spelt
+
+    places_rows : (y : ℕ) → y < high → HasAnchorInRow places y
+    places_rows = table_rows.places_rows breaking sound_inside spellable T sound spelt
+
+    words_split : AllByRecursion (λ c. AreSpellableBlocks breaking (out-TableCell c).blocks) (spelt.caption ++ below)
+    words_split = subst (AllByRecursion (λ c. AreSpellableBlocks breaking (out-TableCell c).blocks)) spelt.split spelt.words
+
+    in_table : (c : TableCell) → Contains below c → Contains T.cells c
+    in_table c there = subst (λ (cs : List TableCell). Contains cs c) (sym spelt.split)
+        (Contains-append_right spelt.caption below c there)
+
+    is_below : (c : TableCell) → Contains below c → IsBelow breaking c
     is_below c there =
-        let from = comes_from forms breaking (cells_written (out-TableNode node)) becomes.written becomes.cells
-        (flat_groups (out-TableNode node).groups (table_groups node sound)) c
-        (table_rows.below_written breaking forms node T sound becomes c there) in
-        let under = table_rows.under_caption breaking forms node T sound becomes c there in
-        let lies = under.1 in
-        let few : grid.cols ≤ MAX_COLUMNS = omega (arith, becomes.has_grid.columns, becomes.has_grid.few_columns) in
-        let low : grid.rows ≤ MAX_ROWS = omega (arith, becomes.has_grid.rows, becomes.has_grid.few_rows) in
+        let under = under_caption c there in
+        let row_cell = All-contains IsRowCell below c (All-from_recursion IsRowCell below spelt.in_rows) there in
         record {
-          node = from.0;
-          becomes = from.1;
-          sound = from.2;
-          wide = lies.0;
-          few_columns = omega (arith, lies.1);
-          high = omega (arith, under.0, lies.2);
-          few_rows = omega (arith, under.0, lies.2, lies.3);
+          head = row_cell.0;
+          kind = row_cell.1;
+          narrow = All-contains (λ each. (out-TableCell each).least ≤ MAX_PAGE_WIDTH) T.cells c sound.narrow (in_table c there);
+          words = All-contains (λ each. AreSpellableBlocks breaking (out-TableCell each).blocks) T.cells c
+              (All-from_recursion (λ each. AreSpellableBlocks breaking (out-TableCell each).blocks) T.cells spelt.words)
+              (in_table c there);
+          wide = under.1.0;
+          few_columns = omega (arith, few_columns, under.1.1);
+          high = omega (arith, under.0, under.1.2);
+          few_rows = omega (arith, few_rows, under.0, under.1.2, under.1.3);
         }
 
     all_below : (P : TableCell → Type 0) → ((c : TableCell) → Contains below c → P c) → AllByRecursion (AllByRecursion P) rows
@@ -179,24 +200,25 @@ module _ (breaking : Breaking) (forms : TableNode → Table → Type 0) (alike :
     -- ---- the parts
 
     tables_are : flat_map (λ c. tables_in (out-TableCell c)) T.cells ≡
-        flat_map (λ c. tables_in (out-TableCell c)) becomes.caption ++
+        flat_map (λ c. tables_in (out-TableCell c)) spelt.caption ++
         (flat_map (λ c. tables_in (out-TableCell c)) (joined rows) ++ [])
     tables_are =
-        ap (flat_map (λ c. tables_in (out-TableCell c))) (table_rows.cells_split breaking forms node T sound becomes)
-        ∙ flat_map-append (λ c. tables_in (out-TableCell c)) becomes.caption below
-        ∙ ap (λ (ts : List Table). flat_map (λ c. tables_in (out-TableCell c)) becomes.caption ++ ts)
+        ap (flat_map (λ c. tables_in (out-TableCell c))) spelt.split
+        ∙ flat_map-append (λ c. tables_in (out-TableCell c)) spelt.caption below
+        ∙ ap (λ (ts : List Table). flat_map (λ c. tables_in (out-TableCell c)) spelt.caption ++ ts)
         (ap (flat_map (λ c. tables_in (out-TableCell c))) (sym by_rows.1) ∙ sym
         (append-nil (flat_map (λ c. tables_in (out-TableCell c)) (joined rows))))
 
-    cap : CaptionBack breaking forms alike has inside T.cols down becomes.caption L.inner
+    cap : CaptionBack breaking forms alike has inside T.cols down spelt.caption L.inner
         (flat_map (λ c. tables_in (out-TableCell c)) (joined rows) ++ []) (k + 1)
-    cap = caption_back breaking forms alike has inside T.cols (out-TableNode node).caption becomes.caption L.inner
-        (flat_map (λ c. tables_in (out-TableCell c)) (joined rows) ++ []) (k + 1) becomes.captioned
-        (λ flow is. table_caption node flow is sound) (subst (λ (ts : List Table). AllZip has ts L.inner) tables_are fits.inner)
+    cap = caption_back breaking forms alike has inside T.cols spelt.caption L.inner
+        (flat_map (λ c. tables_in (out-TableCell c)) (joined rows) ++ []) (k + 1) spelt.captioned
+        (prefix_of (λ c. AreSpellableBlocks breaking (out-TableCell c).blocks) spelt.caption below words_split)
+        (subst (λ (ts : List Table). AllZip has ts L.inner) tables_are fits.inner)
 
     rest : RowsBack breaking forms alike has inside rows cap.layouts [] cap.next
     rest = rows_back breaking forms alike has inside rows cap.layouts [] cap.next
-        (all_below (IsBelow breaking forms alike has inside) is_below) cap.left
+        (all_below (IsBelow breaking) is_below) cap.left
 
     -- ---- the page
 
@@ -205,8 +227,8 @@ module _ (breaking : Breaking) (forms : TableNode → Table → Type 0) (alike :
 
     filled_is : fill (map cell_of T.cells) L.inner ≡ filled
     filled_is =
-        ap (λ (cs : List TableCell). fill (map cell_of cs) L.inner) (table_rows.cells_split breaking forms node T sound becomes
-        ∙ ap (λ (cs : List TableCell). becomes.caption ++ cs) (sym by_rows.1))
+        ap (λ (cs : List TableCell). fill (map cell_of cs) L.inner) (spelt.split
+        ∙ ap (λ (cs : List TableCell). spelt.caption ++ cs) (sym by_rows.1))
         ∙ cap.fills (joined rows)
         ∙ ap (λ (fs : List Filled). cap.filled ++ fs) (
         ap (λ (cs : List TableCell). fill (map cell_of cs) cap.layouts) (sym (append-nil (joined rows)))
@@ -219,8 +241,7 @@ module _ (breaking : Breaking) (forms : TableNode → Table → Type 0) (alike :
 
     rows_are : rows_html T.rows filled ≡ items_text rest.items
     rows_are =
-        let many : T.rows - down ≡ length rest.filled = omega
-        (arith, becomes.rows, by_rows.2, length_rows rest.filled rows rest.at) in
+        let many : T.rows - down ≡ length rest.filled = omega (arith, by_rows.2, length_rows rest.filled rows rest.at) in
         ap (λ n. flat_map (row_html filled) (range_with_len n (T.rows - n))) (cap.counted rest.filled rest.plain)
         ∙ ap (λ n. flat_map (row_html filled) (range_with_len down n)) many
         ∙ rows_written cap.filled rest.filled down cap.tops (begin_in_rows down rest.filled rows rest.at by_rows.3)
@@ -352,8 +373,8 @@ module _ (breaking : Breaking) (forms : TableNode → Table → Type 0) (alike :
     placed_joined : joined placed_rows ≡ places
     placed_joined = joined_map up rows ∙ ap (map up) by_rows.1 ∙ map_twice below
 
-    rows_up : (y : ℕ) (rs : List (List TableCell)) → InRows (y + down) rs → AreRows grid.cols grid.rows places
-        (table_rows.places_grid breaking forms node T sound becomes) y (map (map up) rs)
+    rows_up : (y : ℕ) (rs : List (List TableCell)) → InRows (y + down) rs →
+        AreRows cols high places places_grid y (map (map up) rs)
     rows_up y [] level = tt
     rows_up y (cells ∷ rs) level = (
       one cells level.0,
@@ -388,7 +409,7 @@ module _ (breaking : Breaking) (forms : TableNode → Table → Type 0) (alike :
 
     low_high : (c : TableCell) → Contains below c → (down ≤ (place_of c).top) × ((place_of c).top < (place_of c).bottom)
     low_high c there =
-        let under = table_rows.under_caption breaking forms node T sound becomes c there in
+        let under = under_caption c there in
         (under.0, omega (arith, under.0, under.1.2))
 
     lowers_back : (cells : List TableCell) → AllByRecursion (λ c. (down ≤ (place_of c).top) ×
@@ -401,25 +422,13 @@ module _ (breaking : Breaking) (forms : TableNode → Table → Type 0) (alike :
         ∙ ap (λ (ps : List Place). lowered down (raised down (place_of c)) ∷ ps) (lowers_back cells all.1)
 
     abbrev new_grid : Grid
-    new_grid = record { cols = grid.cols; rows = grid.rows; places = places }
+    new_grid = record { cols = cols; rows = high; places = places }
 
     few_places : length places ≤ MAX_CELLS
     few_places =
         let a : length places ≡ length (map place_of below) = length-map (map place_of below) (raised down) in
         let b : length (map place_of below) ≡ length below = length-map below place_of in
-        let c : length T.cells ≡ length (becomes.caption ++ below) =
-        ap length (table_rows.cells_split breaking forms node T sound becomes) in
-        let d : length (becomes.caption ++ below) ≡ length becomes.caption + length below = length-append becomes.caption below in
-        let e : length T.cells ≡ length (becomes.caption ++ becomes.written) =
-        length_permutation (becomes.caption ++ becomes.written) T.cells becomes.same in
-        let f : length (becomes.caption ++ becomes.written) ≡ length becomes.caption + length becomes.written =
-        length-append becomes.caption becomes.written in
-        let g : length (map place_of becomes.written) ≡ length becomes.written = length-map becomes.written place_of in
-        let h : length (map place_of becomes.written) ≡ length (map (lowered down) grid.places) = ap length becomes.places in
-        let i : length (map (lowered down) grid.places) ≡ length grid.places = length-map grid.places (lowered down) in
-        let j = becomes.has_grid.places.as_many in
-        let l = becomes.has_grid.few_cells in
-        omega arith
+        omega (arith, spelt.few_cells)
 
     no_column : (n : ℕ) → count_below (λ x. false) n ≡ 0
     no_column zero = refl
@@ -431,8 +440,8 @@ module _ (breaking : Breaking) (forms : TableNode → Table → Type 0) (alike :
         HasGrid (let s : Shape = record { columns = T.cols; groups = map group_shape (groups_of rs nodes) } in s) new_grid
     grid_of [] nodes is spans =
         let none : places ≡ [] = sym placed_joined ∙ ap (λ (r : List (List TableCell)). joined (map (map up) r)) is in
-        let no_rows : grid.rows ≡ 0 = sym by_rows.2 ∙ ap length is in
-        let no_columns : grid.cols ≡ 0 = by_columns grid.cols refl none in
+        let no_rows : high ≡ 0 = sym by_rows.2 ∙ ap length is in
+        let no_columns : cols ≡ 0 = by_columns cols refl none in
         let empty : Grid = record { cols = 0; rows = 0; places = [] } in
         let same : new_grid ≡ empty = λ i. record { cols = no_columns i; rows = no_rows i; places = none i } in
         subst (HasGrid (record { columns = T.cols; groups = [] })) (sym same) (record {
@@ -445,30 +454,26 @@ module _ (breaking : Breaking) (forms : TableNode → Table → Type 0) (alike :
           places = record { as_many = refl; each = tt };
         })
       where
-        by_columns : (n : ℕ) → grid.cols ≡ n → places ≡ [] → grid.cols ≡ 0
+        by_columns : (n : ℕ) → cols ≡ n → places ≡ [] → cols ≡ 0
         by_columns zero is' none = is'
         by_columns (suc n) is' none = absurd (
-            let any = table_rows.places_columns breaking forms node T sound becomes 0 (omega arith) in
+            let any = places_columns 0 (omega arith) in
             let long : length places ≡ 0 = ap length none in
             omega (arith, any.2))
     grid_of (cells ∷ rs) nodes is spans =
-        let many : grid.rows ≡ suc (length rs) = sym by_rows.2 ∙ ap length is in
-        let any = table_rows.places_rows breaking forms node T sound becomes 0 (omega arith) in
-        let lies : IsPlaced grid.cols grid.rows any.1 = subst (IsPlaced grid.cols grid.rows) any.3
-        ((table_rows.places_grid breaking forms node T sound becomes).placed any.0 any.1 any.2) in
-        let wide : grid.cols ≡ T.cols = omega (arith, becomes.cols, one_row (out-TableNode node).caption, lies.0, lies.1) in
+        let many : high ≡ suc (length rs) = sym by_rows.2 ∙ ap length is in
+        let any = places_rows 0 (omega arith) in
+        let lies : IsPlaced cols high any.1 = subst (IsPlaced cols high) any.3
+        (places_grid.placed any.0 any.1 any.2) in
+        let wide : cols ≡ T.cols = omega (arith, wide_is, few_captions, lies.0, lies.1) in
         let placed : List (List Place) = map (map up) (cells ∷ rs) in
-        let again : HasGrid (shape_on grid.cols grid.rows places (table_rows.places_grid breaking forms node T sound becomes)
-        placed) new_grid =
-        grid_again grid.cols grid.rows places (table_rows.places_grid breaking forms node T sound becomes)
-        (table_rows.places_columns breaking forms node T sound becomes)
-        (table_rows.places_rows breaking forms node T sound becomes) placed
+        let again : HasGrid (shape_on cols high places places_grid placed) new_grid =
+        grid_again cols high places places_grid places_columns places_rows placed
         (ap (λ (r : List (List TableCell)). joined (map (map up) r)) (sym is) ∙ placed_joined)
         (rows_up 0 (cells ∷ rs) (subst (λ n. InRows n (cells ∷ rs)) (let same : down ≡ 0 + down = omega arith in same)
         (subst (InRows down) is by_rows.3)))
         (length-map (cells ∷ rs) (map up) ∙ sym many)
-        (omega (arith, becomes.has_grid.columns, becomes.has_grid.few_columns))
-        (omega (arith, becomes.has_grid.rows, becomes.has_grid.few_rows)) few_places in
+        few_columns few_rows few_places in
         let open_group : OpenGroup = record { part = parts.Loose; rows = nodes } in
         let shapes : map (map span_of) nodes ≡ map (map span_at) placed = spans ∙ spans_up (cells ∷ rs)
         (subst (AllByRecursion (AllByRecursion (λ c. (down ≤ (place_of c).top) × ((place_of c).top < (place_of c).bottom)))) is
@@ -479,7 +484,7 @@ module _ (breaking : Breaking) (forms : TableNode → Table → Type 0) (alike :
         s) (out-roll-GroupNode open_group) in
         let shape : (let s : Shape = record { columns = T.cols; groups = group_shape (group_of nodes) ∷ [] } in s) ≡
         (let s : Shape = record {
-          columns = grid.cols;
+          columns = cols;
           groups =
               (let g : ShapeGroup = record { foot = false; rows = map (map span_at) placed } in g) ∷ [];
         } in s) =
@@ -528,16 +533,16 @@ module _ (breaking : Breaking) (forms : TableNode → Table → Type 0) (alike :
     places_back =
         map-append place_of cap.back rest.back
         ∙ ap (λ (ps : List Place). ps ++ map place_of rest.back) cap.places
-        ∙ ap (λ (ps : List Place). map place_of becomes.caption ++ ps) (rest.places ∙ ap (map place_of) by_rows.1)
-        ∙ sym (table_rows.places_split breaking forms node T sound becomes)
+        ∙ ap (λ (ps : List Place). map place_of spelt.caption ++ ps) (rest.places ∙ ap (map place_of) by_rows.1)
+        ∙ sym (table_rows.places_split breaking sound_inside spellable T sound spelt)
 
     become : BecomesBy forms breaking open_made open_back
     become = record {
       number = refl;
       grid = new_grid;
       has_grid = grid_of rows rest.nodes refl rest.spans;
-      cols = becomes.cols ∙ ap (max grid.cols) (sym cap.rows);
-      rows = becomes.rows ∙ ap (λ n. grid.rows + n) (sym cap.rows);
+      cols = wide_is ∙ ap (max cols) (sym cap.rows);
+      rows = high_is ∙ ap (λ n. high + n) (sym cap.rows);
       caption = cap.back;
       captioned = cap.become;
       written = rest.back;
@@ -548,7 +553,7 @@ module _ (breaking : Breaking) (forms : TableNode → Table → Type 0) (alike :
           (All-from_Contains (λ c. (down ≤ (place_of c).top) × ((place_of c).top < (place_of c).bottom)) below low_high))
           ∙ ap (λ n. map (lowered n) places) (sym cap.rows);
       same = IsPermutation-refl (cap.back ++ rest.back);
-      in_order = subst (AllPairs ComesBefore) (sym places_back) becomes.in_order;
+      in_order = subst (AllPairs ComesBefore) (sym places_back) sound.in_order;
     }
 
     abbrev SameCells : TableCell → TableCell → Type 0
@@ -559,9 +564,8 @@ module _ (breaking : Breaking) (forms : TableNode → Table → Type 0) (alike :
       cols = refl;
       rows = refl;
       cells = subst (λ (cs : List TableCell). AllZip SameCells cs (cap.back ++ rest.back))
-          (ap (λ (cs : List TableCell). becomes.caption ++ cs) by_rows.1 ∙ sym
-          (table_rows.cells_split breaking forms node T sound becomes))
-          (AllZip-append SameCells becomes.caption (joined rows) cap.back rest.back cap.same rest.same);
+          (ap (λ (cs : List TableCell). spelt.caption ++ cs) by_rows.1 ∙ sym spelt.split)
+          (AllZip-append SameCells spelt.caption (joined rows) cap.back rest.back cap.same rest.same);
     }
 
     -- the table is read back

@@ -8,7 +8,7 @@ use Rattle.std.proofs.lemmas.List.Concat.{flat_map-append}
 use Rattle.std.proofs.lemmas.List.Sums.{sum_by-cons}
 use Rattle.tl_base.specs.declared.breaking.Breaking.{Breaking}
 use Rattle.tl_base.proofs.Members.{AllByRecursion-append}
-use Rattle.tl_tree.specs.Outline.{blocks_outline, Entries, caption, group, block_outline, group_outline, outline, caption_outline}
+use Rattle.tl_tree.specs.Outline.{blocks_outline, Entries, caption, group, group_outline, caption_outline}
 use Rattle.tl_grid.specs.declared.shape.Place.{Place}
 use Rattle.tl_token.specs.Elements.{no_spans}
 use Rattle.tl_token.specs.declared.token.Element.TheVariants as elements
@@ -17,7 +17,6 @@ use Rattle.tl_tree.specs.Grammar.{next_col}
 use Rattle.tl_tree.specs.Grammar.{colgroup_columns, no_columns, colgroup, no_part, no_row, loose_rows}
 use Rattle.tl_tree.specs.Grammar as grammar
 use Rattle.tl_tree.specs.Paragraphs.{leading, atoms_of, paragraph_of, entries_after}
-use Rattle.tl_tree.specs.Sound.{AreSound}
 use Rattle.tl_tree.specs.Tags.{Kinds, table_end, caption_start, caption_end, colgroup_start, colgroup_end, row_start, text}
 use Rattle.tl_tree.specs.Tags.{begins_with, is_col}
 use Rattle.tl_tree.specs.declared.node.Block.{Block}
@@ -33,12 +32,13 @@ use Rattle.tl_table.specs.Tables.{OpenCell, tables_in}
 use Rattle.tl_table.specs.Formed.{BecomeCaption, BecomesCaption, OpenGroup, caption_rows}
 use Rattle.tl_table.specs.Same.{AreSameCell}
 use Rattle.tl_table.specs.Sound.{place_of}
-use Rattle.tl_table.proofs.SoundNodes.{sound_each, rows_outline, groups_outline}
+use Rattle.tl_table.proofs.SoundNodes.{rows_outline, groups_outline}
 use Rattle.tl_html.specs.declared.filled.Filled.{Filled}
 use Rattle.tl_html.specs.Html.{Cell, fill, blocks_html, flow_of, cell_of, cell_html, cell_in_row, is_caption, caption_line}
 use Rattle.tl_html.specs.Html.{column_html}
 use Rattle.tl_html.specs.Html.{columns_html, row_html, line}
 use Rattle.tl_html.specs.Html as html
+use Rattle.tl_html.specs.Spellable.{AreCaption, AreSpellableBlocks, IsCaption}
 use Rattle.tl_html.proofs.Items.{Item, item_text, items_text, IsItem}
 use Rattle.tl_html.proofs.PageTags.{column_tag}
 use Rattle.tl_html.proofs.PageTags as page_tags
@@ -278,9 +278,7 @@ parts_stand (cells ∷ rows) items ms nodes k next begun stand =
 
 module _ (breaking : Breaking) (forms : TableNode → Table → Type 0) (alike : Table → Table → Type 0) (has : Table → Layout →
     Type 0)
-    (inside : (node : TableNode) (table : Table) (layout : Layout) (k : ℕ) → forms node table → AreSound (outline node) →
-    has table layout →
-    TableBack forms alike table layout k) where
+    (inside : (table : Table) (layout : Layout) (k : ℕ) → has table layout → TableBack forms alike table layout k) where
   -- the caption's line, and the caption that is read back
   pub record CaptionBack (cols : ℕ) (down : ℕ) (cells : List TableCell) (inner : List Layout) (others : List Table)
       (k : ℕ) : Type 0 where
@@ -349,23 +347,22 @@ module _ (breaking : Breaking) (forms : TableNode → Table → Type 0) (alike :
     places = refl;
   }
 
-  some_caption_back : (cols : ℕ) (flow : List Block) (cap : TableCell) (inner : List Layout) (others : List Table) (k : ℕ) →
-      BecomesCaption forms breaking cols flow (out-TableCell cap) → AreSound (blocks_outline flow) →
+  some_caption_back : (cols : ℕ) (cap : TableCell) (inner : List Layout) (others : List Table) (k : ℕ) →
+      IsCaption cols (out-TableCell cap) → AreSpellableBlocks breaking (out-TableCell cap).blocks →
       AllZip has (tables_in (out-TableCell cap) ++ others) inner →
       CaptionBack cols 1 (cap ∷ []) inner others k
-  some_caption_back cols flow cap inner others k becomes sound fits =
+  some_caption_back cols cap inner others k is_one words fits =
       let o = out-TableCell cap in
-      let f = flow_back breaking forms alike has inside flow o.blocks inner others k becomes.blocks
-      (sound_each block_outline flow sound) fits in
+      let f = flow_back breaking forms alike has inside o.blocks inner others k words fits in
       let found = blocks_html (map flow_of o.blocks) inner in
       let one : Filled = record { kind = o.kind; place = o.place; least = o.least; text = found.text } in
       let items = caption_start_item ∷ (f.items ++ caption_end_item ∷ []) in
       let marks : Marks = grammar.caption_begins ∷ (f.ms ++ grammar.paragraph_ends ∷ []) in
-      let is : is_caption one ≡ true = ap html.is_caption_kind becomes.kind in
+      let is : is_caption one ≡ true = ap html.is_caption_kind is_one.kind in
       let twin' : OpenCell = record { kind = o.kind; place = o.place; least = o.least; blocks = f.back } in
       let twin : TableCell = roll-TableCell twin' in
       let open_twin : out-TableCell twin ≡ twin' = out-roll-TableCell twin' in
-      let top : o.place.top ≡ 0 = ap (λ (p : Place). p.top) becomes.place in
+      let top : o.place.top ≡ 0 = ap (λ (p : Place). p.top) is_one.place in
       record {
         items = items;
         are = (
@@ -417,7 +414,7 @@ module _ (breaking : Breaking) (forms : TableNode → Table → Type 0) (alike :
         back = twin ∷ [];
         become = (
           subst (λ (d : OpenCell). BecomesCaption forms breaking cols f.flow d) (sym open_twin)
-              (record { kind = becomes.kind; place = becomes.place; least = becomes.least; blocks = f.become }),
+              (record { kind = is_one.kind; place = is_one.place; least = is_one.least; blocks = f.become }),
           refl,
         );
         same = (
@@ -428,20 +425,14 @@ module _ (breaking : Breaking) (forms : TableNode → Table → Type 0) (alike :
         places = ap (λ (d : OpenCell). d.place ∷ []) open_twin;
       }
 
-  pub caption_back : (cols : ℕ) (flow : Option (List Block)) (cells : List TableCell) (inner : List Layout)
-      (others : List Table) (k : ℕ) →
-      BecomeCaption forms breaking cols flow cells → ((blocks : List Block) → flow ≡ Some blocks →
-      AreSound (blocks_outline blocks)) →
+  pub caption_back : (cols : ℕ) (cells : List TableCell) (inner : List Layout) (others : List Table) (k : ℕ) →
+      AreCaption cols cells → AllByRecursion (λ c. AreSpellableBlocks breaking (out-TableCell c).blocks) cells →
       AllZip has (flat_map (λ c. tables_in (out-TableCell c)) cells ++ others) inner →
-      CaptionBack cols (caption_rows flow) cells inner others k
-  caption_back cols None cells inner others k becomes sound fits =
-      subst (λ (cs : List TableCell). CaptionBack cols 0 cs inner others k) (sym becomes)
-      (no_caption_back cols inner others k (subst (λ (cs : List TableCell). AllZip has
-      (flat_map (λ c. tables_in (out-TableCell c)) cs ++ others) inner) becomes fits))
-  caption_back cols (Some flow) [] inner others k becomes sound fits = absurd becomes
-  caption_back cols (Some flow) (cap ∷ above) inner others k becomes sound fits =
-      subst (λ (cs : List TableCell). CaptionBack cols 1 (cap ∷ cs) inner others k) (sym becomes.1)
-      (some_caption_back cols flow cap inner others k becomes.0 (sound flow refl)
+      CaptionBack cols (length cells) cells inner others k
+  caption_back cols [] inner others k are words fits = no_caption_back cols inner others k fits
+  caption_back cols (cap ∷ above) inner others k are words fits =
+      subst (λ (cs : List TableCell). CaptionBack cols (length (cap ∷ cs)) (cap ∷ cs) inner others k) (sym are.1)
+      (some_caption_back cols cap inner others k are.0 words.0
       (subst (λ (ts : List Table). AllZip has (ts ++ others) inner) (append-nil (tables_in (out-TableCell cap)))
       (subst (λ (cs : List TableCell). AllZip has ((tables_in (out-TableCell cap) ++ flat_map
-      (λ c. tables_in (out-TableCell c)) cs) ++ others) inner) becomes.1 fits)))
+      (λ c. tables_in (out-TableCell c)) cs) ++ others) inner) are.1 fits)))

@@ -1,33 +1,25 @@
 -- The rows of a table: its cells below the caption, row by row, and the grid that they are.
-use Rattle.std.proofs.Common.{◌≡◌, ◌∙◌, ◌⊎◌, ℕ, zero, suc, ◌+◌, ◌-◌, ◌<◌, ◌≤◌, max, Option, Some, None, List, [], ◌∷◌, ◌++◌, map}
+use Rattle.std.proofs.Common.{◌≡◌, ◌∙◌, ◌⊎◌, ℕ, zero, suc, ◌+◌, ◌-◌, ◌<◌, ◌≤◌, max, List, [], ◌∷◌, ◌++◌, map}
 use Rattle.std.proofs.Common.{length, get_or}
 use Rattle.std.proofs.Common.{Contains, All, refl, sym, ap, subst, inl, inr, arith}
 use Rattle.std.specs.List.{AllByRecursion, AllPairs, Any}
-use Rattle.std.specs.List.Sorted.{IsPermutation}
 use Rattle.std.proofs.lemmas.Bool.{cases_lt}
 use Rattle.std.proofs.lemmas.List.{length-map, get_or-map, map-append}
-use Rattle.std.proofs.lemmas.List.Elements.{recursion_from_All, All-contains, Contains-append_cases, Contains-append_right}
-use Rattle.std.proofs.lemmas.List.Sorted.{Contains-permutation, IsPermutation-map, IsPermutation-sym}
+use Rattle.std.proofs.lemmas.List.Elements.{recursion_from_All, All-contains, Contains-append_cases, Contains-append_left}
+use Rattle.std.proofs.lemmas.List.Elements.{Contains-append_right}
 use Rattle.tl_base.specs.declared.breaking.Breaking.{Breaking}
+use Rattle.tl_base.specs.declared.limits.TheConstants.{MAX_COLUMNS, MAX_ROWS}
 use Rattle.tl_base.proofs.Members.{All-from_Contains, map-Contains, Contains-map, Contains-first, Contains-cases, Contains-none}
-use Rattle.tl_base.proofs.Members.{AllByRecursion-suffix}
-use Rattle.tl_grid.specs.declared.shape.Grid.{Grid}
+use Rattle.tl_base.proofs.Members.{AllByRecursion-suffix, AllPairs-head}
 use Rattle.tl_grid.specs.declared.shape.Place.{Place}
 use Rattle.tl_grid.specs.Dropping.{IsPlaced}
 use Rattle.tl_grid.specs.Slots.{HasSlot, AreApart, IsFilledToLeft, HasAnchorInColumn, HasAnchorInRow}
-use Rattle.tl_grid.proofs.Laws.{all_within, all_columns, all_rows, all_filled}
-use Rattle.tl_tree.specs.Outline.{outline}
-use Rattle.tl_tree.specs.Sound.{AreSound}
-use Rattle.tl_tree.specs.declared.node.Block.{Block}
-use Rattle.tl_tree.specs.declared.node.TableNode.{TableNode, out-TableNode}
 use Rattle.tl_table.specs.declared.cell.Table.{Table}
 use Rattle.tl_table.specs.declared.cell.TableCell.{TableCell}
 use Rattle.tl_table.specs.Tables.{OpenTable}
-use Rattle.tl_table.specs.Formed.{BecomeCaption, BecomesBy, caption_rows, lowered, shape_of}
-use Rattle.tl_table.specs.Sound.{ComesBefore, place_of, places_of}
-use Rattle.tl_table.proofs.Laid.{AreLaid, cells_laid}
-use Rattle.tl_table.proofs.Orders.{apart_moved}
-use Rattle.tl_table.proofs.SoundNodes.{shape_spans}
+use Rattle.tl_table.specs.Formed.{lowered}
+use Rattle.tl_table.specs.Sound.{ComesBefore, IsSoundBy, place_of, places_of}
+use Rattle.tl_html.specs.Spellable.{AreCaption, IsSpellableBy}
 use Rattle.tl_html.proofs.GridAgain.{IsGrid}
 use Rattle.tl_html.proofs.Cells.{joined}
 
@@ -170,203 +162,320 @@ rise_from y (c ∷ cells) pairs low = (
     from p (inl lower) = omega arith
     from p (inr beside) = omega (arith, beside.0)
 
--- ---- a table that a tree becomes
+-- ---- a sound table that a file can spell: its rows, and the grid that they are
 
-module _ (breaking : Breaking) (forms : TableNode → Table → Type 0) (node : TableNode) (table : OpenTable)
-    (sound : AreSound (outline node))
-    (becomes : BecomesBy forms breaking (out-TableNode node) table) where
+module _ (breaking : Breaking) (inside spellable : Table → Type 0) (table : OpenTable) (sound : IsSoundBy inside table)
+    (spelt : IsSpellableBy spellable breaking table) where
   abbrev pub down : ℕ
-  down = caption_rows (out-TableNode node).caption
-
-  abbrev pub grid : Grid
-  grid = becomes.grid
-
-  never_before : (p : Place) → ComesBefore p p → ⊥
-  never_before p (inl lower) = omega arith
-  never_before p (inr beside) = omega (arith, beside.1)
-
-  pub split_at : (caption : Option (List Block)) (above : List TableCell) →
-      BecomeCaption forms breaking table.cols caption above →
-      IsPermutation (above ++ becomes.written) table.cells → (below : List TableCell) × (table.cells ≡ above ++ below)
-      × ((c : TableCell) → Contains above c → Contains below c → ⊥)
-  split_at None above captioned moved = (
-    table.cells,
-    ap (λ (cs : List TableCell). cs ++ table.cells) (sym captioned),
-    λ c has other. Contains-none c (subst (λ (cs : List TableCell). Contains cs c) captioned has),
-  )
-  split_at (Some flow) [] captioned moved = absurd captioned
-  split_at (Some flow) (cap ∷ above) captioned moved = first table.cells becomes.in_order
-      (Contains-permutation ((cap ∷ above) ++ becomes.written) table.cells cap moved
-      (Contains-first cap (above ++ becomes.written)))
-    where
-      place : place_of cap ≡ record { left = 0; right = table.cols; top = 0; bottom = 1 }
-      place = captioned.0.place
-
-      first : (cells : List TableCell) → AllPairs ComesBefore (map place_of cells) → Contains cells cap →
-          (below : List TableCell) × (cells ≡ (cap ∷ above) ++ below) ×
-          ((c : TableCell) → Contains (cap ∷ above) c → Contains below c → ⊥)
-      first [] pairs has = absurd (Contains-none cap has)
-      first (c ∷ cells) pairs (zero, within, is) = (
-        cells,
-        ap (λ (d : TableCell). d ∷ cells) is ∙ ap (λ (cs : List TableCell). cap ∷ (cs ++ cells)) (sym captioned.1),
-        λ d here later. by_cases d (Contains-cases cap above d here) later,
-      )
-        where
-          by_cases : (d : TableCell) → (cap ≡ d) ⊎ Contains above d → Contains cells d → ⊥
-          by_cases d (inr later) other = Contains-none d (subst (λ (cs : List TableCell). Contains cs d) captioned.1 later)
-          by_cases d (inl same) (k, inside, at) =
-              let order = pairs 0 (suc k) (place_of d) (omega arith) (let long = length-map cells place_of in omega arith) in
-              let there : get_or (map place_of cells) k (place_of d) ≡ place_of d =
-              get_or-map place_of cells k d (place_of d) inside ∙ ap place_of at in
-              never_before (place_of d) (subst (λ p. ComesBefore p (place_of d)) (ap place_of (is ∙ same))
-              (subst (ComesBefore (place_of c)) there order))
-      first (c ∷ cells) pairs (suc k, within, is) = absurd (
-          let long = length-map cells place_of in
-          let order = pairs 0 (suc k) (place_of cap) (omega arith) (omega arith) in
-          let there : get_or (map place_of cells) k (place_of cap) ≡ place_of cap =
-          get_or-map place_of cells k cap (place_of cap) (omega arith)
-          ∙ ap place_of is in
-          let order' : ComesBefore (place_of c) (record { left = 0; right = table.cols; top = 0; bottom = 1 }) =
-          subst (ComesBefore (place_of c))
-          (there ∙ place) order in
-          elim order' [
-            | inl lower ↦ omega arith
-            | inr beside ↦ omega (arith, beside.1)
-          ])
-
-  abbrev pub below_and : (below : List TableCell) × (table.cells ≡ becomes.caption ++ below) ×
-      ((c : TableCell) → Contains becomes.caption c → Contains below c → ⊥)
-  below_and = split_at (out-TableNode node).caption becomes.caption becomes.captioned becomes.same
+  down = length spelt.caption
 
   abbrev pub below : List TableCell
-  below = below_and.0
-
-  pub cells_split : table.cells ≡ becomes.caption ++ below
-  cells_split = below_and.1
-
-  -- the cells below the caption are those written
-  pub below_written : (c : TableCell) → Contains below c → Contains becomes.written c
-  below_written c has =
-      let all : Contains table.cells c = subst (λ (cs : List TableCell). Contains cs c) (sym cells_split)
-      (Contains-append_right becomes.caption below c has) in
-      let moved = Contains-permutation table.cells (becomes.caption ++ becomes.written) c (IsPermutation-sym _ _ becomes.same)
-      all in
-      elim (Contains-append_cases becomes.caption becomes.written c moved) [
-        | inl above ↦ absurd (below_and.2 c above has)
-        | inr written ↦ written
-      ]
-
-  -- the grid's places are those of the cells written, so many rows up
-  place_in_grid : (c : TableCell) → Contains becomes.written c →
-      (q : Place) × Contains grid.places q × (lowered down q ≡ place_of c)
-  place_in_grid c has = map-Contains (lowered down) grid.places (place_of c)
-      (subst (λ (ps : List Place). Contains ps (place_of c)) becomes.places (Contains-map place_of becomes.written c has))
-
-  caption_on_top : (caption : Option (List Block)) (above : List TableCell) →
-      BecomeCaption forms breaking table.cols caption above →
-      (c : TableCell) → Contains above c → (caption_rows caption ≡ 1) × ((place_of c).top ≡ 0)
-  caption_on_top None above captioned c has =
-      absurd (Contains-none c (subst (λ (cs : List TableCell). Contains cs c) captioned has))
-  caption_on_top (Some flow) [] captioned c has = absurd captioned
-  caption_on_top (Some flow) (cap ∷ above) captioned c has = elim (Contains-cases cap above c has) [
-    | inl here ↦ (refl, ap (λ (d : TableCell). (place_of d).top) (sym here) ∙ ap (λ (p : Place). p.top) captioned.0.place)
-    | inr later ↦ absurd (Contains-none c (subst (λ (cs : List TableCell). Contains cs c) captioned.1 later))
-  ]
+  below = spelt.body
 
   abbrev pub places : List Place
-  places = map (raised down) (map place_of below)
+  places = ups down (map place_of below)
 
-  to_grid : (q : Place) → Contains places q → Contains grid.places q
-  to_grid q has =
-      let up = map-Contains (raised down) (map place_of below) q has in
-      let at = map-Contains place_of below up.0 up.1 in
-      let found = place_in_grid at.0 (below_written at.0 at.1) in
-      let same : found.0 ≡ q = sym (raised_lowered down found.0) ∙ ap (raised down) (found.2 ∙ at.2) ∙ up.2 in
-      subst (Contains grid.places) same found.1
+  -- the columns of the cells below the caption: none where there is no cell
+  abbrev columns_of : List TableCell → ℕ
+  columns_of [] = 0
+  columns_of (c ∷ cells) = table.cols
 
-  from_grid : (q : Place) → Contains grid.places q → Contains places q
-  from_grid q has =
-      let low = subst (λ (ps : List Place). Contains ps (lowered down q)) (sym becomes.places)
-      (Contains-map (lowered down) grid.places q has) in
-      let at = map-Contains place_of becomes.written (lowered down q) low in
-      let all = Contains-permutation (becomes.caption ++ becomes.written) table.cells at.0 becomes.same
-      (Contains-append_right becomes.caption becomes.written at.0 at.1) in
-      let cells = subst (λ (cs : List TableCell). Contains cs at.0) cells_split all in
-      elim (Contains-append_cases becomes.caption below at.0 cells) [
-        | inl above ↦ absurd (
-            let top = caption_on_top (out-TableNode node).caption becomes.caption becomes.captioned at.0 above in
-            let under : (place_of at.0).top ≡ q.top + down = ap (λ (p : Place). p.top) at.2 in
-            omega (arith, top.0, top.1))
-        | inr under ↦
-            subst (Contains places) (ap (raised down) at.2 ∙ raised_lowered down q)
-            (Contains-map (raised down) (map place_of below) (place_of at.0) (Contains-map place_of below at.0 under))
+  abbrev pub cols : ℕ
+  cols = columns_of below
+
+  abbrev pub rows : ℕ
+  rows = table.rows - down
+
+  pub few_captions : down ≤ 1
+  few_captions = by_cells spelt.caption spelt.captioned
+    where
+      by_cells : (caption : List TableCell) → AreCaption table.cols caption → length caption ≤ 1
+      by_cells [] is = omega arith
+      by_cells (c ∷ cells) is = let none : length cells ≡ 0 = ap length is.1 in omega arith
+
+  pub places_split : places_of table ≡ map place_of spelt.caption ++ map place_of below
+  places_split = ap (map place_of) spelt.split ∙ map-append place_of spelt.caption below
+
+  -- a caption is over all columns of the first row
+  on_top : (p : Place) → Contains (map place_of spelt.caption) p →
+      (down ≡ 1) × (p ≡ record { left = 0; right = table.cols; top = 0; bottom = 1 })
+  on_top p has =
+      let at = map-Contains place_of spelt.caption p has in
+      by_cells spelt.caption spelt.captioned at.0 at.1 at.2
+    where
+      by_cells : (caption : List TableCell) → AreCaption table.cols caption → (c : TableCell) → Contains caption c →
+          place_of c ≡ p →
+          (length caption ≡ 1) × (p ≡ record { left = 0; right = table.cols; top = 0; bottom = 1 })
+      by_cells [] is c there same = absurd (Contains-none c there)
+      by_cells (cap ∷ cells) is c there same = elim (Contains-cases cap cells c there) [
+        | inl here ↦ (
+          (let none : length cells ≡ 0 = ap length is.1 in omega arith),
+          sym same ∙ sym (ap place_of here) ∙ is.0.place,
+        )
+        | inr later ↦ absurd (Contains-none c (subst (λ (cs : List TableCell). Contains cs c) is.1 later))
       ]
 
-  pub lies_in : All (IsPlaced grid.cols grid.rows) grid.places
-  lies_in = all_within (shape_of (out-TableNode node)) grid (shape_spans node sound) becomes.has_grid
+  -- a place of the table is that of its caption or of a cell below
+  whose : (p : Place) → Contains (places_of table) p →
+      Contains (map place_of spelt.caption) p ⊎ Contains (map place_of below) p
+  whose p has = Contains-append_cases (map place_of spelt.caption) (map place_of below) p
+      (subst (λ (ps : List Place). Contains ps p) places_split has)
+
+  from_caption : (p : Place) → Contains (map place_of spelt.caption) p → Contains (places_of table) p
+  from_caption p has = subst (λ (ps : List Place). Contains ps p) (sym places_split)
+      (Contains-append_left (map place_of spelt.caption) (map place_of below) p has)
+
+  from_below : (p : Place) → Contains (map place_of below) p → Contains (places_of table) p
+  from_below p has = subst (λ (ps : List Place). Contains ps p) (sym places_split)
+      (Contains-append_right (map place_of spelt.caption) (map place_of below) p has)
+
+  lies : (p : Place) → Contains (places_of table) p → IsPlaced table.cols table.rows p
+  lies p has = All-contains (IsPlaced table.cols table.rows) (places_of table) p sound.placed has
 
   -- each cell below the caption lies below its row
+  low : (p : Place) → Contains (map place_of below) p → down ≤ p.top
+  low p has = by_places (map place_of spelt.caption) refl
+    where
+      by_places : (above : List Place) → map place_of spelt.caption ≡ above → down ≤ p.top
+      by_places [] is =
+          let none : length (map place_of spelt.caption) ≡ 0 = ap length is in
+          let long : length (map place_of spelt.caption) ≡ down = length-map spelt.caption place_of in
+          omega arith
+      by_places (q ∷ above) is =
+          let cap = on_top q (subst (λ (ps : List Place). Contains ps q) (sym is) (Contains-first q above)) in
+          let apart = All-contains (AreApart q) (above ++ map place_of below) p
+          (AllPairs-head AreApart q (above ++ map place_of below)
+          (subst (AllPairs AreApart) (places_split ∙ ap (λ (ps : List Place). ps ++ map place_of below) is) sound.apart))
+          (Contains-append_right above (map place_of below) p has) in
+          let placed = lies p (from_below p has) in
+          let left : q.left ≡ 0 = ap (λ (r : Place). r.left) cap.1 in
+          let right : q.right ≡ table.cols = ap (λ (r : Place). r.right) cap.1 in
+          let top : q.top ≡ 0 = ap (λ (r : Place). r.top) cap.1 in
+          let bottom : q.bottom ≡ 1 = ap (λ (r : Place). r.bottom) cap.1 in
+          elim (cases_lt 0 p.top) [
+            | inl under ↦ omega (arith, cap.0, under)
+            | inr beside ↦ absurd (apart p.left 0
+                (omega (arith, left), omega (arith, right, placed.0, placed.1), omega (arith, top), omega (arith, bottom))
+                (omega arith, placed.0, omega (arith, beside), omega (arith, placed.2)))
+          ]
+
+  wide_below : (p : Place) → Contains (map place_of below) p → cols ≡ table.cols
+  wide_below p has = by_cells below has
+    where
+      by_cells : (cells : List TableCell) → Contains (map place_of cells) p → columns_of cells ≡ table.cols
+      by_cells [] there = absurd (Contains-none p there)
+      by_cells (c ∷ cells) there = refl
+
+  under : (p : Place) → Contains (map place_of below) p → (down ≤ p.top) × IsPlaced cols rows (raised down p)
+  under p has =
+      let placed = lies p (from_below p has) in
+      let below_it = low p has in (
+        below_it,
+        (
+          placed.0,
+          omega (arith, placed.1, wide_below p has),
+          omega (arith, placed.2, below_it),
+          omega (arith, placed.3),
+        ),
+      )
+
   pub under_caption : (c : TableCell) → Contains below c → (down ≤ (place_of c).top) ×
-      IsPlaced grid.cols grid.rows (raised down (place_of c))
-  under_caption c has =
-      let found = place_in_grid c (below_written c has) in
-      let lies : IsPlaced grid.cols grid.rows found.0 = All-contains (IsPlaced grid.cols grid.rows)
-      grid.places found.0 lies_in found.1 in
-      let same : found.0 ≡ raised down (place_of c) = sym (raised_lowered down found.0) ∙ ap (raised down) found.2 in
-      let under : (place_of c).top ≡ found.0.top + down = ap (λ (p : Place). p.top) (sym found.2) in
-      (omega arith, subst (IsPlaced grid.cols grid.rows) same lies)
+      IsPlaced cols rows (raised down (place_of c))
+  under_caption c has = under (place_of c) (Contains-map place_of below c has)
 
   tops_low : All (λ (p : Place). down ≤ p.top) (map place_of below)
-  tops_low = All-from_Contains (λ (p : Place). down ≤ p.top) (map place_of below) (λ p has.
-      let at = map-Contains place_of below p has in
-      subst (λ (q : Place). down ≤ q.top) at.2 (under_caption at.0 at.1).0)
+  tops_low = All-from_Contains (λ (p : Place). down ≤ p.top) (map place_of below) low
 
-  pub places_split : places_of table ≡ map place_of becomes.caption ++ map place_of below
-  places_split = ap (map place_of) cells_split ∙ map-append place_of becomes.caption below
-
-  pub below_in_order : AllPairs ComesBefore (map place_of below)
-  below_in_order = pairs_suffix ComesBefore (map place_of becomes.caption) (map place_of below)
-      (subst (AllPairs ComesBefore) places_split becomes.in_order)
-
-  laid : AreLaid (max grid.cols down) (grid.rows + down) (map place_of (becomes.caption ++ becomes.written))
-  laid = cells_laid forms breaking node grid (out-TableNode node).caption becomes.caption becomes.written sound becomes.has_grid
-      (subst (λ cols. BecomeCaption forms breaking cols (out-TableNode node).caption becomes.caption)
-      becomes.cols becomes.captioned) becomes.places
+  below_in_order : AllPairs ComesBefore (map place_of below)
+  below_in_order = pairs_suffix ComesBefore (map place_of spelt.caption) (map place_of below)
+      (subst (AllPairs ComesBefore) places_split sound.in_order)
 
   below_apart : AllPairs AreApart (map place_of below)
-  below_apart = pairs_suffix AreApart (map place_of becomes.caption) (map place_of below)
-      (subst (AllPairs AreApart) places_split
-      (apart_moved (map place_of (becomes.caption ++ becomes.written)) (places_of table)
-      (IsPermutation-map place_of (becomes.caption ++ becomes.written) table.cells becomes.same) laid.apart))
+  below_apart = pairs_suffix AreApart (map place_of spelt.caption) (map place_of below)
+      (subst (AllPairs AreApart) places_split sound.apart)
 
-  any_from : (P : Place → Type 0) → Any P grid.places → Any P places
-  any_from P any =
-      let has = from_grid any.1 (any.0, any.2, any.3) in
-      (has.0, any.1, has.1, has.2, any.4)
+  -- some place of the grid is so where some place of the table is that is none of a caption
+  any_below : (P Q : Place → Type 0) → ((p : Place) → Contains (map place_of spelt.caption) p → P p → ⊥) →
+      ((p : Place) → Contains (map place_of below) p → P p → Q (raised down p)) → Any P (places_of table) → Any Q places
+  any_below P Q none so any = elim (whose any.1 (any.0, any.2, any.3)) [
+    | inl above ↦ absurd (none any.1 above any.4)
+    | inr there ↦
+        let has = Contains-map (raised down) (map place_of below) any.1 there in
+        (has.0, raised down any.1, has.1, has.2, so any.1 there any.4)
+  ]
+
+  filled_left : (q : Place) → Contains places q → IsFilledToLeft places q
+  filled_left q has x lt =
+      let up = map-Contains (raised down) (map place_of below) q has in
+      let p = up.0 in
+      let under_it = low p up.1 in
+      let left : p.left ≡ q.left = ap (λ (r : Place). r.left) up.2 in
+      let top : p.top - down ≡ q.top = ap (λ (r : Place). r.top) up.2 in
+      any_below (HasSlot x p.top) (HasSlot x q.top)
+      (λ r above slot.
+      let cap = on_top r above in
+      let bottom : r.bottom ≡ 1 = ap (λ (s : Place). s.bottom) cap.1 in
+      omega (arith, slot.3, under_it, cap.0))
+      (λ r there slot.
+      let under_that = low r there in
+      (slot.0, slot.1, omega (arith, slot.2, top), omega (arith, slot.3, top, under_it)))
+      (All-contains (IsFilledToLeft (places_of table)) (places_of table) p spelt.filled (from_below p up.1) x
+      (omega (arith, lt, left)))
 
   -- the places are a grid
-  pub places_grid : IsGrid grid.cols grid.rows places
+  pub places_grid : IsGrid cols rows places
   places_grid = record {
-    placed = All-from_Contains (IsPlaced grid.cols grid.rows) places (λ q has.
-        All-contains (IsPlaced grid.cols grid.rows) grid.places q lies_in (to_grid q has));
+    placed = All-from_Contains (IsPlaced cols rows) places (λ q has.
+        let up = map-Contains (raised down) (map place_of below) q has in
+        subst (IsPlaced cols rows) up.2 (under up.0 up.1).1);
     apart = apart_up down (map place_of below) tops_low below_apart;
     in_order = order_up down (map place_of below) tops_low below_in_order;
-    filled = All-from_Contains (IsFilledToLeft places) places (λ q has x lt.
-        any_from (HasSlot x q.top) (All-contains (IsFilledToLeft grid.places) grid.places q
-        (all_filled (shape_of (out-TableNode node)) grid (shape_spans node sound) becomes.has_grid) (to_grid q has) x lt));
+    filled = All-from_Contains (IsFilledToLeft places) places filled_left;
   }
 
-  pub places_columns : (x : ℕ) → x < grid.cols → HasAnchorInColumn places x
-  places_columns x lt = any_from (λ (p : Place). p.left ≡ x)
-      (all_columns (shape_of (out-TableNode node)) grid becomes.has_grid x lt)
+  -- a place of the first row below the caption is in the first column
+  first_column : (p : Place) → Contains (map place_of below) p → (q : Place) × Contains (map place_of below) q × (q.left ≡ 0)
+  first_column p has =
+      let placed = lies p (from_below p has) in
+      let any = sound.rows down (omega (arith, placed.2, placed.3, low p has)) in
+      first any.1 (any.0, any.2, any.3) any.4
+    where
+      not_above : (r : Place) → Contains (map place_of spelt.caption) r → down < r.bottom → ⊥
+      not_above r above lt =
+          let cap = on_top r above in
+          let bottom : r.bottom ≡ 1 = ap (λ (s : Place). s.bottom) cap.1 in
+          omega (arith, cap.0)
 
-  pub places_rows : (y : ℕ) → y < grid.rows → HasAnchorInRow places y
-  places_rows y lt = any_from (λ (p : Place). p.top ≡ y) (all_rows (shape_of (out-TableNode node)) grid becomes.has_grid y lt)
+      first : (q : Place) → Contains (places_of table) q → q.top ≡ down →
+          (r : Place) × Contains (map place_of below) r × (r.left ≡ 0)
+      first q there top = elim (whose q there) [
+        | inl above ↦ absurd (not_above q above (let placed = lies q there in omega (arith, placed.2, top)))
+        | inr under_it ↦ elim (cases_lt 0 q.left) [
+          | inr edge ↦ (q, under_it, omega (arith, edge))
+          | inl past ↦
+              let any = All-contains (IsFilledToLeft (places_of table)) (places_of table) q spelt.filled there 0 past in
+              let r = any.1 in
+              elim (whose r (any.0, any.2, any.3)) [
+                | inl above ↦ absurd (not_above r above (omega (arith, any.4.3, top)))
+                | inr beside ↦ (r, beside, omega (arith, any.4.0))
+              ]
+        ]
+      ]
+
+  pub places_columns : (x : ℕ) → x < cols → HasAnchorInColumn places x
+  places_columns x lt = by_cells below refl lt
+    where
+      in_grid : (p : Place) → Contains (map place_of below) p → p.left ≡ x → HasAnchorInColumn places x
+      in_grid p has left =
+          let there = Contains-map (raised down) (map place_of below) p has in
+          (there.0, raised down p, there.1, there.2, left)
+
+      by_cells : (cells : List TableCell) → below ≡ cells → x < columns_of cells → HasAnchorInColumn places x
+      by_cells [] is less = absurd (omega (arith, less))
+      by_cells (c ∷ cells) is less =
+          let some : Contains (map place_of below) (place_of c) = subst
+          (λ (cs : List TableCell). Contains (map place_of cs) (place_of c)) (sym is)
+          (Contains-first (place_of c) (map place_of cells)) in
+          let any = sound.columns x less in
+          elim (whose any.1 (any.0, any.2, any.3)) [
+            | inr there ↦ in_grid any.1 there any.4
+            | inl above ↦
+                let cap = on_top any.1 above in
+                let left : any.1.left ≡ 0 = ap (λ (s : Place). s.left) cap.1 in
+                let found = first_column (place_of c) some in
+                in_grid found.0 found.1 (found.2 ∙ sym left ∙ any.4)
+          ]
+
+  pub places_rows : (y : ℕ) → y < rows → HasAnchorInRow places y
+  places_rows y lt = any_below (λ (p : Place). p.top ≡ y + down) (λ (p : Place). p.top ≡ y)
+      (λ p above top.
+      let cap = on_top p above in
+      let first : p.top ≡ 0 = ap (λ (s : Place). s.top) cap.1 in
+      omega (arith, cap.0, top))
+      (λ p there top. omega (arith, top)) (sound.rows (y + down) (omega (arith, lt)))
 
   -- the cells by rows
-  pub rows_of : (rows : List (List TableCell)) × (joined rows ≡ below) × (length rows ≡ grid.rows) × InRows down rows
-  rows_of = by_rows grid.rows down below
+  pub rows_of : (lines : List (List TableCell)) × (joined lines ≡ below) × (length lines ≡ rows) × InRows down lines
+  rows_of = by_rows rows down below
       (rise_from down below below_in_order (λ i d within. tops_low i d (let long = length-map below place_of in omega arith)))
-      (recursion_from_All (λ c. (place_of c).top < down + grid.rows) below
-      (All-from_Contains (λ c. (place_of c).top < down + grid.rows) below (λ c has.
-      let under = under_caption c has in omega (arith, under.0, under.1.2, under.1.3))))
+      (recursion_from_All (λ c. (place_of c).top < down + rows) below
+      (All-from_Contains (λ c. (place_of c).top < down + rows) below (λ c has.
+      let is = under_caption c has in omega (arith, is.0, is.1.2, is.1.3))))
+
+  -- how large the grid is
+  pub high_is : table.rows ≡ rows + down
+  high_is = by_places (map place_of spelt.caption) refl
+    where
+      by_places : (above : List Place) → map place_of spelt.caption ≡ above → table.rows ≡ rows + down
+      by_places [] is =
+          let none : length (map place_of spelt.caption) ≡ 0 = ap length is in
+          let long : length (map place_of spelt.caption) ≡ down = length-map spelt.caption place_of in
+          omega arith
+      by_places (q ∷ above) is =
+          let here = subst (λ (ps : List Place). Contains ps q) (sym is) (Contains-first q above) in
+          let placed = lies q (from_caption q here) in
+          omega (arith, placed.2, placed.3, (on_top q here).0)
+
+  pub wide_is : table.cols ≡ max cols down
+  wide_is = by_cells below refl
+    where
+      no_column : (n : ℕ) → table.cols ≡ n → ((x : ℕ) → x < table.cols → HasAnchorInColumn (places_of table) x) →
+          places_of table ≡ [] → table.cols ≡ 0
+      no_column zero is any none = is
+      no_column (suc n) is any none =
+          let found = any 0 (omega (arith, is)) in
+          absurd (Contains-none found.1 (subst (λ (ps : List Place). Contains ps found.1) none
+          (found.0, found.2, found.3)))
+
+      one_column : (q : Place) → places_of table ≡ q ∷ [] → q.left ≡ 0 → table.cols ≤ 1
+      one_column q alone left = elim (cases_lt 1 table.cols) [
+        | inr few ↦ few
+        | inl more ↦
+            let found = sound.columns 1 more in
+            elim (Contains-cases q [] found.1 (subst (λ (ps : List Place). Contains ps found.1) alone
+            (found.0, found.2, found.3))) [
+              | inl same ↦ absurd (let is : q.left ≡ found.1.left = ap (λ (p : Place). p.left) same in
+                  omega (arith, left, found.4))
+              | inr none ↦ absurd (Contains-none found.1 none)
+            ]
+      ]
+
+      alone : (above : List Place) → map place_of spelt.caption ≡ above → map place_of below ≡ [] → cols ≡ 0 →
+          table.cols ≡ max cols down
+      alone [] is none no_cols =
+          let empty : places_of table ≡ [] = places_split ∙ ap (λ (ps : List Place). ps ++ map place_of below) is ∙ none in
+          let zero_cols = no_column table.cols refl sound.columns empty in
+          let no_caption : length (map place_of spelt.caption) ≡ 0 = ap length is in
+          let long : length (map place_of spelt.caption) ≡ down = length-map spelt.caption place_of in
+          omega arith
+      alone (q ∷ above) is none no_cols =
+          let here = subst (λ (ps : List Place). Contains ps q) (sym is) (Contains-first q above) in
+          let cap = on_top q here in
+          let many : length (map place_of spelt.caption) ≡ down = length-map spelt.caption place_of in
+          let long : length (map place_of spelt.caption) ≡ suc (length above) = ap length is in
+          let rest : above ≡ [] = no_more above (omega (arith, cap.0)) in
+          let whole : places_of table ≡ q ∷ [] = places_split ∙ ap (λ (ps : List Place). ps ++ map place_of below) is
+          ∙ ap (λ (ps : List Place). q ∷ (ps ++ map place_of below)) rest ∙ ap (λ (ps : List Place). q ∷ ps) none in
+          let left : q.left ≡ 0 = ap (λ (p : Place). p.left) cap.1 in
+          let few = one_column q whole left in
+          let placed = lies q (from_caption q here) in
+          omega (arith, few, placed.0, placed.1, cap.0)
+        where
+          no_more : (ps : List Place) → length ps ≡ 0 → ps ≡ []
+          no_more [] is = refl
+          no_more (p ∷ ps) is = absurd (omega (arith, is))
+
+      by_cells : (cells : List TableCell) → below ≡ cells → table.cols ≡ max cols down
+      by_cells [] is = alone (map place_of spelt.caption) refl (ap (map place_of) is) (ap columns_of is)
+      by_cells (c ∷ cells) is =
+          let some : Contains (map place_of below) (place_of c) = subst
+          (λ (cs : List TableCell). Contains (map place_of cs) (place_of c)) (sym is)
+          (Contains-first (place_of c) (map place_of cells)) in
+          let placed = lies (place_of c) (from_below (place_of c) some) in
+          omega (arith, wide_below (place_of c) some, placed.0, placed.1, few_captions)
+
+  pub few_columns : cols ≤ MAX_COLUMNS
+  few_columns = omega (arith, wide_is, sound.few_columns)
+
+  pub few_rows : rows ≤ MAX_ROWS
+  few_rows = omega (arith, spelt.few_rows)

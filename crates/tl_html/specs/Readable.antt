@@ -2,16 +2,18 @@
 use Rattle.std.specs.Prelude.{◌≡◌, ℕ, zero, suc, List, length, IsUtf8, chars}
 use Rattle.std.specs.List.{AllZip}
 use Rattle.tl_base.specs.declared.breaking.Breaking.{Breaking}
-use Rattle.tl_tree.specs.Sound.{IsSound}
+use Rattle.tl_tree.specs.Sound.{IsSound as IsSoundTree}
 use Rattle.tl_tree.specs.declared.node.TableNode.{TableNode}
 use Rattle.tl_table.specs.declared.cell.Table.{Table, out-Table}
 use Rattle.tl_table.specs.declared.layout.Layout.{Layout, out-Layout}
 use Rattle.tl_table.specs.Formed.{Becomes}
 use Rattle.tl_table.specs.Layouts.{OpenLayout}
+use Rattle.tl_table.specs.Sound.{IsSound}
 use Rattle.tl_table.specs.Spells.{Spells}
 use Rattle.tl_table.specs.Tables.{OpenTable, inner_tables}
 use Rattle.tl_html.specs.Alike.{AreAlike}
 use Rattle.tl_html.specs.Html.{html_of}
+use Rattle.tl_html.specs.Spellable.{IsSpellable}
 
 -- a width for each column, and a layout for each table nested directly, where `has` says so of each
 pub record HasColumnsBy (has : Table → Layout → Type 0) (table : OpenTable) (layout : OpenLayout) : Type 0 where
@@ -35,8 +37,15 @@ IsPage table layout bytes = IsUtf8 bytes × (chars bytes ≡ html_of table layou
 abbrev pub SpellsAlike : List ℕ → Breaking → Table → Type 0
 SpellsAlike bytes breaking table = (other : Table) × Spells bytes breaking other × AreAlike table other
 
+-- if a file can spell the sound table by a breaking, and the layout has a width for each column, the bytes spell it by that
+-- breaking
+abbrev pub ReadsBack : Table → Layout → List ℕ → Type 0
+ReadsBack table layout bytes = (breaking : Breaking) → IsSound table → IsSpellable breaking table → HasColumns table layout →
+    SpellsAlike bytes breaking table
+
 -- whatever sound tree becomes the table, and by whatever breaking, the bytes spell the table again by that breaking, if
 -- the layout has a width for each column
-abbrev pub ReadsBack : Table → Layout → List ℕ → Type 0
-ReadsBack table layout bytes = (breaking : Breaking) (node : TableNode) → IsSound node → Becomes breaking node table →
+abbrev pub ReadsBackAsFormed : Table → Layout → List ℕ → Type 0
+ReadsBackAsFormed table layout bytes = (breaking : Breaking) (node : TableNode) → IsSoundTree node →
+    Becomes breaking node table →
     HasColumns table layout → SpellsAlike bytes breaking table

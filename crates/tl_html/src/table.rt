@@ -4,12 +4,12 @@ ghost use Rattle.std.specs.Prelude.{◌≡◌, ◌++◌, ◌≤◌, OnOk, IfOk, 
 ghost use Rattle.std.specs.List.{flat_map, list_any};
 ghost use Rattle.tl_html.specs.Html.{blocks_html, bytes_of, caption_html, caption_line, cell_of, column_html};
 ghost use Rattle.tl_html.specs.Html.{columns_html, fill, flow_of, html_of, is_caption, rows_html};
-ghost use Rattle.tl_html.specs.Readable.{IsPage, ReadsBack};
+ghost use Rattle.tl_html.specs.Readable.{IsPage, ReadsBack, ReadsBackAsFormed};
 ghost use Rattle.tl_html.specs.inner.Flows.{Flowed, IsFilled};
 
 use crate::builder::TextBuilder;
 use crate::filled::Filled;
-use crate::laws::page_reads_back;
+use crate::laws::{formed_tables_are_spellable, page_reads_back};
 use crate::paragraph::write_paragraph;
 use crate::row::write_row;
 use std::alloc::{AllocError, Global};
@@ -212,9 +212,12 @@ fn write_table(
 pub fn html(alloc: Global, table: &Table, layout: &Layout) -> Result<List<u8>, AllocError>
     ensures bytes { IfOk result (λ bytes. bytes ≡ bytes_of table.now layout.now) }
     ensures page { IfOk result (IsPage table.now layout.now) }
+    // They spell the table again: each sound one that a file can spell, and so each that is read.
     ensures reads_back { IfOk result (ReadsBack table.now layout.now) }
+    ensures reads_formed { IfOk result (ReadsBackAsFormed table.now layout.now) }
 {
     page_reads_back();
+    formed_tables_are_spellable();
     let mut out = TextBuilder::new(alloc);
     write_table(alloc, &mut out, table, layout)?;
     Ok(out.into_bytes())
