@@ -45,6 +45,13 @@ input_is_no_certificate asked name are third =
     subst (λ (n : List ℕ). input_name asked ≢ n) (get_or_from_slice_get asked.names 2 name [] third)
     (are.apart 0 2 [] (omega arith) (slice_get_within asked.names 2 name third))
 
+-- the page is not the certificate
+pub page_is_no_certificate : (asked : Asked) (name : List ℕ) → AreNames asked.names → certificate_name asked ≡ Some name →
+    page_name asked ≢ name
+page_is_no_certificate asked name are third =
+    subst (λ (n : List ℕ). page_name asked ≢ n) (get_or_from_slice_get asked.names 2 name [] third)
+    (are.apart 1 2 [] (omega arith) (slice_get_within asked.names 2 name third))
+
 -- ---- one command alone
 
 -- what comes of the arguments comes of the command that they ask for

@@ -1,8 +1,7 @@
 -- How a run ends, from what was stored and printed; and that it is complete.
-use Rattle.std.proofs.Common.{◌≡◌, ◌⊎◌, inl, inr, ℕ, ◌+◌, ◌*◌, List, [], ◌++◌}
-use Rattle.std.proofs.Common.{Option, Some, None, refl, sym, ◌∙◌, ap, subst, arith}
-use Rattle.std.specs.Prelude.{IfOk, Result, Ok, Err, option_to_list, Bool, true, false, ◌==◌, if◌then◌else◌}
-use Rattle.std.specs.declared.alloc.AllocError.{AllocError}
+use Rattle.std.proofs.Common.{◌≡◌, ◌⊎◌, inl, inr, ℕ, ◌+◌, ◌*◌, List, []}
+use Rattle.std.proofs.Common.{Option, Some, refl, sym, ◌∙◌, ap, subst, arith}
+use Rattle.std.specs.Prelude.{Bool, true, false, ◌==◌, if◌then◌else◌}
 use Rattle.std.proofs.lemmas.Bool.Decides.{eqb_tells}
 use Rattle.tl_base.specs.Desk.{Files, Rose, SaysPrefix, longer}
 use Rattle.tl_command.specs.declared.command.Command.TheVariants.{Lay}
@@ -12,7 +11,6 @@ use Rattle.tl_table.specs.declared.cell.Table.{Table}
 use Rattle.tl_table.specs.Same.{AreSame}
 use Rattle.tl_table.proofs.SameTables.{same_nests}
 use Rattle.tl_program.specs.declared.answer.Answer.{Answer}
-use Rattle.tl_read.specs.declared.reading.Reading.{Reading}
 use Rattle.tl_read.specs.declared.reading.Reading.TheVariants as readings
 use Rattle.tl_read.specs.declared.refusal.Refusal.{Refusal}
 use Rattle.tl_read.specs.declared.refusal.Refusal.TheVariants as refusals
@@ -22,19 +20,18 @@ use Rattle.tl_program.specs.declared.status.Status.{Status}
 use Rattle.tl_program.specs.declared.status.Status.TheVariants as statuses
 use Rattle.tl_program.specs.declared.task.Task.{Task}
 use Rattle.tl_program.specs.Answers.{budget_in, budget_of, reach, IsLaidAs, lowest_laid, bounded_laid, narrow_laid}
-use Rattle.tl_program.specs.Asks.{IsAskOf, input_name, page_name, certificate_name}
+use Rattle.tl_program.specs.Asks.{IsAskOf, input_name}
 use Rattle.tl_program.specs.Change.{Change, Holds, StoresSome, FailsToStore, DoesNotFail, with_all}
 use Rattle.tl_program.specs.Complete.{IsComplete, IsRefusedSo, ShowsFile, SpellsTable}
 use Rattle.tl_program.specs.Headline.{ComesOf, IsCarriedOut, Ends}
-use Rattle.tl_program.specs.Inputs.{IsOfTable, IsOfReading, IsOfBytes}
+use Rattle.tl_program.specs.Inputs.{IsOfBytes}
 use Rattle.tl_program.specs.Messages.{status_number, status_of, message_of}
-use Rattle.tl_program.specs.Deliveries.{Delivery, delivery_of, stored_as, reported, ComesOfInput, IsAnswered}
+use Rattle.tl_program.specs.Deliveries.{Delivery, reported, ComesOfInput, IsAnswered}
 use Rattle.tl_program.specs.Tasks.{task_of}
-use Rattle.tl_read.specs.Reading.{IsReading, AreSameReadings}
+use Rattle.tl_read.specs.Reading.{IsReading}
 use Rattle.tl_program.specs.inner.Printing.{IsPrinted, IsDelivered}
-use Rattle.tl_program.specs.inner.Steps.{PassesOn, IsAnswerOf}
 use Rattle.tl_program.proofs.Asking.{carried_as}
-use Rattle.tl_program.proofs.Inputs.{own_of, refusal_of, of_bytes_mapped}
+use Rattle.tl_program.proofs.Inputs.{own_of, refusal_of}
 use Rattle.tl_program.proofs.Storing.{some_all}
 
 -- ---- how the program ends
@@ -213,65 +210,3 @@ refused_so words change status ends = λ asked bytes refusal is shown quiet read
           (refused_input asked (IsAnswered asked) change so.0 so.1 bytes shown quiet refusal read))
       | inr nine ↦ inr nine
     ]
-
--- ---- answers
-
--- what is answered to a table is answered to the bytes that are read as it
-pub table_answer : (task other : Task) (bytes : List ℕ) (reading : Reading) (table : Table)
-    (result : Result Answer AllocError) → other ≡ task →
-    reading ≡ readings.Table table → IsReading other.source bytes reading →
-    ((each : Reading) → IsReading other.source bytes each → AreSameReadings reading each) →
-    IfOk result (λ answer. IsOfTable (reach other table) (PassesOn answer) (IsLaidAs other table answer answer.report)) →
-    IfOk result (IsAnswerOf task bytes)
-table_answer task other bytes reading table (Ok answer) same is read only answered =
-    subst (λ (t : Task). IsAnswerOf t bytes answer) same (record {
-      reading = reading;
-      read = read;
-      only = only;
-      so = subst (λ (r : Reading). IsOfReading (reach other) (PassesOn answer) (λ t. IsLaidAs other t answer answer.report) r)
-          (sym is) answered;
-    })
-table_answer task other bytes reading table (Err error) same is read only answered = tt
-
--- and a refusal is passed on
-pub refused_answer : (task other : Task) (bytes : List ℕ) (reading : Reading) (refusal : Refusal) (answer : Answer) →
-    other ≡ task →
-    reading ≡ readings.Refused refusal → IsReading other.source bytes reading →
-    ((each : Reading) → IsReading other.source bytes each → AreSameReadings reading each) → PassesOn answer refusal →
-    IsAnswerOf task bytes answer
-refused_answer task other bytes reading refusal answer same is read only passed =
-    subst (λ (t : Task). IsAnswerOf t bytes answer) same (record {
-      reading = reading;
-      read = read;
-      only = only;
-      so = subst (λ (r : Reading). IsOfReading (reach other) (PassesOn answer) (λ t. IsLaidAs other t answer answer.report) r)
-          (sym is) passed;
-    })
-
--- a refusal that is passed on is all that is delivered
-passed_delivery : (asked : Asked) (answer : Answer) (refusal : Refusal) → PassesOn answer refusal →
-    delivery_of asked answer ≡ reported (reports.Refused refusal)
-passed_delivery asked answer refusal passed = λ i. record { report = passed.told i; stores = nothing i } where
-  unnamed : (name : Option (List ℕ)) → option_to_list (stored_as name None) ≡ []
-  unnamed None = refl
-  unnamed (Some name) = refl
-
-  nothing : (delivery_of asked answer).stores ≡ []
-  nothing = ap (λ (page : Option (List ℕ)). option_to_list (stored_as (Some (page_name asked)) page)
-      ++ option_to_list (stored_as (certificate_name asked) answer.certificate)) passed.no_page
-      ∙ ap (λ (text : Option (List ℕ)). option_to_list (stored_as (certificate_name asked) text)) passed.no_certificate
-      ∙ unnamed (certificate_name asked)
-
--- what is answered to the content of a file comes of the command
-pub answered_input : (asked : Asked) (change : Change) (content : List ℕ) (answer : Answer) →
-    Holds change.files (input_name asked) content →
-    IsAnswerOf (task_of asked) content answer → ComesOfInput asked (reach (task_of asked)) (IsAnswered asked) change
-    (delivery_of asked answer)
-answered_input asked change content answer holds of = inr (
-  content,
-  holds,
-  of_bytes_mapped (task_of asked).source (reach (task_of asked)) (PassesOn answer)
-      (λ refusal. delivery_of asked answer ≡ reported (reports.Refused refusal))
-      (λ table. IsLaidAs (task_of asked) table answer answer.report) (λ table. IsAnswered asked table (delivery_of asked answer))
-      (passed_delivery asked answer) (λ table laid. record { answer = answer; laid = laid; so = refl }) content of,
-)

@@ -66,6 +66,8 @@ module _ (source : Source) (reach : Table → ℕ) (Refuses : Refusal → Type 0
     reading = of.reading;
     read = reading_of_content source content bytes of.reading is of.read;
     only = λ other read. of.only other (reading_from_content source content bytes other is read);
+    sound = of.sound;
+    formed = of.formed;
     so = of.so;
   }
 
@@ -99,6 +101,8 @@ of_bytes_mapped source reach Refuses Passes Own Other passed owned bytes of = re
   reading = of.reading;
   read = of.read;
   only = of.only;
+  sound = of.sound;
+  formed = of.formed;
   so = by_reading of.reading of.so;
 } where
   by_reading : (reading : Reading) → IsOfReading reach Refuses Own reading → IsOfReading reach Passes Other reading

@@ -26,8 +26,9 @@ use Rattle.tl_form.specs.OpenLaws.{IsSpent, OpenSpends}
 use Rattle.tl_form.specs.Problems.{IsCountAll}
 use Rattle.tl_table.specs.Sound.{IsSound}
 use Rattle.tl_form.specs.Valid.{IsShown, HasNumbers, EndsWith}
-use Rattle.tl_form.specs.ValidLaws.{LowestIsLeast, BoundedIsBetween, NarrowIsTooWide}
+use Rattle.tl_form.specs.ValidLaws.{LowestIsLeast, BoundedIsBetween, NarrowIsTooWide, IsBetween}
 use Rattle.tl_table.proofs.LinkLemmas.{IsLeastWidth-unique}
+use Rattle.tl_form.proofs.CountsExist.{counts}
 use Rattle.tl_verify.specs.declared.reject.Reject.{Reject}
 use Rattle.tl_verify.specs.declared.reject.Reject.TheVariants as steps
 use Rattle.tl_verify.specs.Verdicts.{IsRefusedAs}
@@ -107,8 +108,12 @@ module _ (task : Task) (table : Table) (certificate : Certificate) (sound : IsSo
     narrower less = omega (arith, less, same, valid.1.wide)
 
   by_bounds : (height lower : ℕ) → certificate.claim ≡ claims.Bounded height lower → 0 < length sections →
+      IsBetween table task.style task.width height lower →
       Any (IsSpent (budget_in task table)) sections × IsBelowCounts table task.style task.width (budget_in task table)
-  by_bounds height lower is some = (spent, below) where
+  by_bounds height lower is some between = (spent, (counted.0, counted.1, below counted.0 counted.1)) where
+    counted : (most : ℕ) × IsCountAll table task.style task.width most
+    counted = counts task.style task.width sound.depth table sound.sound height between.attained.0 between.attained.1
+
     shown : IsShown document (budget_in task table) certificate (claims.Bounded height lower)
     shown = subst (IsShown document (budget_in task table) certificate) is valid.2.shown
 
@@ -138,10 +143,10 @@ module _ (task : Task) (table : Table) (certificate : Certificate) (sound : IsSo
         shown.0.good (length sections - 1) last (omega (arith, some)) opened)
 
     below : (most : ℕ) → IsCountAll table task.style task.width most → budget_in task table < most
-    below most counted = elim (cases_lt (budget_in task table) most) [
+    below most is_most = elim (cases_lt (budget_in task table) most) [
       | inl less ↦ less
       | inr more ↦ absurd (closed (closes_law table task.style task.width (budget_in task table) most
-          (length sections) document sections wide_document counted more (omega (arith, cuts)) (omega arith) shown.0.good))
+          (length sections) document sections wide_document is_most more (omega (arith, cuts)) (omega arith) shown.0.good))
     ] where
       closed : All IsClosed (take (length sections) sections) → ⊥
       closed all =
@@ -166,7 +171,7 @@ module _ (task : Task) (table : Table) (certificate : Certificate) (sound : IsSo
   })
   by_claim (claims.Bounded height lower) is =
       let between = bounded_law table task.style task.width (budget_in task table) certificate height lower sound valid is in
-      let both = by_bounds height lower is (some_section height lower is) in
+      let both = by_bounds height lower is (some_section height lower is) between.1 in
       bounded_shown (record { claimed = is; apart = between.0; between = between.1; spent = both.0; below = both.1 })
   by_claim (claims.Narrow least) is =
       let too = narrow_law table task.style task.width (budget_in task table) certificate least sound valid is in

@@ -24,6 +24,7 @@ use Rattle.tl_cert.specs.Text.{style_word, version_word, has_area, space, line_f
 use Rattle.tl_cert.proofs.reading.Spellings.{within-first, within-append}
 use Rattle.tl_table.specs.declared.cell.Table.{Table}
 use Rattle.tl_table.specs.declared.layout.Layout.{Layout, out-Layout}
+use Rattle.tl_form.proofs.CountsExist.{counts}
 use Rattle.tl_form.specs.ClosedLaws.{IsClosed, IsWideDocument, BudgetCloses}
 use Rattle.tl_form.specs.OpenLaws.{IsSpent, OpenSpends}
 use Rattle.tl_base.specs.declared.chain.Chain.{Chain}
@@ -394,7 +395,10 @@ module _ (task : Task) (table : Table) (sections : List Section) (are : sections
         written = laid (claims.Bounded height lower) height is refl;
         spent = spent;
         between = between.1;
-        below = below;
+        below =
+            let most = counts task.style task.width sound.depth table sound.sound height
+            between.1.attained.0 between.1.attained.1 in
+            (most.0, most.1, below most.0 most.1);
       }) where
         last : ℕ
         last = length sections - 1

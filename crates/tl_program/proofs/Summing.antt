@@ -1,5 +1,5 @@
 -- The numbers of a demonstration: its table is read and fits its page, and its last section is the table's own.
-use Rattle.std.proofs.Common.{◌≡◌, inl, inr, ℕ, ◌-◌, ◌<◌, ◌≤◌, ◌^◌, List, [], length, get_or, take, Option, Some, None}
+use Rattle.std.proofs.Common.{◌≡◌, inr, ℕ, ◌-◌, ◌<◌, ◌≤◌, ◌^◌, List, [], length, get_or, take, Option, Some, None}
 use Rattle.std.proofs.Common.{refl, sym, ap, subst, ◌∙◌, arith}
 use Rattle.std.specs.Prelude.{IsSome, IsSomeAnd, IfOk, Result, Ok, Err}
 use Rattle.std.specs.declared.alloc.AllocError.{AllocError}
@@ -52,14 +52,7 @@ demo_read law number bytes reading small same is only = by_reading reading
       demo = law number small
 
       spelled : IsReading (Html Words) (demo_text_of number) (readings.Table demo.0)
-      spelled = inr (
-        demo.1.short,
-        inl (
-          demo.1.spelt.tokens,
-          demo.1.spelt.cut,
-          inl (demo.1.spelt.node, demo.1.spelt.read, demo.1.within, demo.1.spelt.formed),
-        ),
-      )
+      spelled = inr (demo.1.short, record { spells = demo.1.spelt; within = demo.1.within })
 
       by_reading : (reading : Reading) → IsReading (Html Words) (demo_text_of number) reading →
           AreSameReadings reading (readings.Table demo.0) →

@@ -1,8 +1,9 @@
 -- What is reported of a table on a page, and the page and the certificate that are stored for it.
-use Rattle.std.specs.Prelude.{◌≡◌, ℕ, ◌+◌, ◌*◌, ◌/◌, ◌<◌, min, Bool, true, false, List, Option}
+use Rattle.std.specs.Prelude.{◌≡◌, ℕ, ◌+◌, ◌*◌, ◌/◌, ◌<◌, min, Bool, true, false, List, length, Option}
 use Rattle.std.specs.Prelude.{Some, None}
 use Rattle.std.specs.List.{Any}
 use Rattle.tl_base.specs.declared.limits.TheConstants.{MAX_REACH}
+use Rattle.tl_base.specs.declared.breaking.Breaking.{Breaking}
 use Rattle.tl_base.specs.declared.style.Style.{Style}
 use Rattle.tl_astar.specs.Best.{IsBestOutcome}
 use Rattle.tl_solve.specs.Plain.{IsPlainOutcome}
@@ -26,9 +27,11 @@ use Rattle.tl_table.specs.Sound.{nested_in_table}
 use Rattle.tl_form.specs.Valid.{IsValid}
 use Rattle.tl_form.specs.ValidLaws.{IsBetween}
 use Rattle.tl_html.specs.Html as html
+use Rattle.tl_html.specs.Readable.{IsPage as IsHtmlPage, SpellsAlike}
 use Rattle.tl_nested.specs.Searched.{AreSectionsOf}
 use Rattle.tl_page.specs.Pages.{IsPage}
 use Rattle.tl_page.specs.Pages as pages
+use Rattle.tl_page.specs.Standing.{HoldsAllText}
 use Rattle.tl_program.specs.declared.answer.Answer.{Answer}
 use Rattle.tl_program.specs.declared.limits.TheConstants.{DEFAULT_BUDGET}
 use Rattle.tl_program.specs.declared.task.Task.{Task}
@@ -58,9 +61,16 @@ reach task table = searches table task.width * budget_in task table
 
 -- the file of the page: in text, or as HTML
 abbrev pub IsPageFile : Bool → Style → Table → Layout → List ℕ → Type 0
-IsPageFile true style table layout bytes = bytes ≡ html.bytes_of table layout
+IsPageFile true style table layout bytes = (bytes ≡ html.bytes_of table layout) × IsHtmlPage table layout bytes
 IsPageFile false style table layout bytes = (lines : List (List ℕ)) × IsPage style table layout lines
     × (bytes ≡ pages.bytes_of lines)
+
+-- a page of the table in a layout, with all its text: so many lines, on which each unit of each cell stands whole and in
+-- order; or HTML, which spells the same table
+abbrev pub IsWholePage : Bool → Style → Breaking → Table → ℕ → Layout → List ℕ → Type 0
+IsWholePage false style breaking table height layout page = (lines : List (List ℕ)) × IsPage style table layout lines
+    × HoldsAllText style table layout lines × (length lines ≡ height) × (page ≡ pages.bytes_of lines)
+IsWholePage true style breaking table height layout page = IsHtmlPage table layout page × SpellsAlike page breaking table
 
 -- the file of the certificate, where it is asked for
 abbrev pub certificate_file : Bool → Certificate → Option (List ℕ)
@@ -94,7 +104,7 @@ pub record Certifies (table : Table) (style : Style) (width budget : ℕ) (claim
 
 -- the budget is below the greatest count of the table and those nested in it
 abbrev pub IsBelowCounts : Table → Style → ℕ → ℕ → Type 0
-IsBelowCounts table style width budget = (most : ℕ) → IsCountAll table style width most → budget < most
+IsBelowCounts table style width budget = (most : ℕ) × IsCountAll table style width most × (budget < most)
 
 -- ---- what is stored
 

@@ -1,5 +1,5 @@
 -- With which status a run ends, by what the files hold, unless the desk fails or memory runs out.
-use Rattle.std.specs.Prelude.{◌≡◌, ◌⊎◌, ℕ, ◌≤◌, List, Some}
+use Rattle.std.specs.Prelude.{◌≡◌, ◌⊎◌, ℕ, ◌≤◌, List, Option, Some}
 use Rattle.tl_base.specs.declared.limits.TheConstants.{MAX_REACH}
 use Rattle.tl_base.specs.Desk.{Files}
 use Rattle.tl_cert.specs.declared.certificate.Certificate.{Certificate}
@@ -14,9 +14,9 @@ use Rattle.tl_read.specs.declared.refusal.Refusal.{Refusal}
 use Rattle.tl_program.specs.declared.status.Status.{Status}
 use Rattle.tl_program.specs.declared.status.Status.TheVariants as statuses
 use Rattle.tl_program.specs.declared.task.Task.{Task}
-use Rattle.tl_program.specs.Answers.{reach}
+use Rattle.tl_program.specs.Answers.{budget_in, reach}
 use Rattle.tl_program.specs.Asks.{IsAskOf, input_name, certificate_name, judged_name}
-use Rattle.tl_program.specs.Change.{Change, DoesNotFail}
+use Rattle.tl_program.specs.Change.{Change, DoesNotFail, Holds}
 use Rattle.tl_program.specs.Checks.{IsValidIn}
 use Rattle.tl_program.specs.Headline.{Ends}
 use Rattle.tl_program.specs.Messages.{status_number, refusal_status}
@@ -67,14 +67,20 @@ IsRejectedSo words change status = (asked : Asked) (bytes text : List ℕ) (tabl
     ((certificate : Certificate) → IsTextOf text certificate → IsValidIn (task_of asked) table certificate → ⊥) →
     (status ≡ 10) ⊎ (status ≡ 9)
 
--- a check asks for what was laid out: the same file and page, and the certificate that was stored
-pub record AsksForSame (laid checked : Asked) : Type 0 where
+-- the two ask for one budget of the table that the file spells, whether it is given or by default
+abbrev pub HaveSameBudget : Option Files → Asked → Asked → Type 0
+HaveSameBudget files laid checked = (bytes : List ℕ) (table : Table) → Holds files (input_name laid) bytes →
+    IsReading (task_of laid).source bytes (readings.Table table) →
+    budget_in (task_of laid) table ≡ budget_in (task_of checked) table
+
+-- a check asks for what was laid out: the same file and page, the certificate that was stored, and the same budget
+pub record AsksForSame (files : Option Files) (laid checked : Asked) : Type 0 where
   pub width : laid.number ≡ checked.number
   pub input : input_name laid ≡ input_name checked
   pub certificate : certificate_name laid ≡ Some (judged_name checked)
   pub style : (task_of laid).style ≡ (task_of checked).style
   pub source : (task_of laid).source ≡ (task_of checked).source
-  pub budget : laid.options.budget ≡ checked.options.budget
+  pub budget : HaveSameBudget files laid checked
 
 -- a run gave a page, or showed that there is none
 abbrev pub IsLaidStatus : ℕ → Type 0
@@ -83,7 +89,7 @@ IsLaidStatus status = (status ≡ 0) ⊎ ((status ≡ 3) ⊎ (status ≡ 4))
 -- a check of what another run has just laid out has the status of that run
 abbrev pub AcceptsLaid : List (List ℕ) → Change → ℕ → Type 0
 AcceptsLaid words change status = (earlier : List (List ℕ)) (before : Change) (told : ℕ) (laid checked : Asked) →
-    IsAskOf Lay earlier laid → IsAskOf Check words checked → AsksForSame laid checked →
+    IsAskOf Lay earlier laid → IsAskOf Check words checked → AsksForSame before.files laid checked →
     Ends earlier before told → IsLaidStatus told →
     (files : Files) × (before.files_after ≡ Some files) × (change.files ≡ Some files) → DoesNotFail change →
     (status ≡ told) ⊎ (status ≡ 9)

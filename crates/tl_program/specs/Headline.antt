@@ -1,6 +1,6 @@
 -- What the program returns, stores and prints. A file that spells a table gives the lowest page, a page with a lower
 -- bound, or a chain of columns that is wider than the page; a certificate is accepted exactly where it is valid.
--- docs/MODEL.md, "The command", has the messages.
+-- docs/COMMAND.md has the messages.
 use Rattle.std.specs.Prelude.{◌≡◌, ◌≢◌, ◌⊎◌, ℕ, List}
 use Rattle.tl_base.specs.Desk.{longer, SaysPrefix, Rose}
 use Rattle.tl_command.specs.declared.command.Command.{Command}

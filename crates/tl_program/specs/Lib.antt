@@ -7,6 +7,7 @@ pub mod Deliveries
 pub mod Demonstration
 pub mod Headline
 pub mod Inputs
+pub mod Lowest
 pub mod Messages
 pub mod Rejections
 pub mod Tasks

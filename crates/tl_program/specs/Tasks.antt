@@ -1,7 +1,9 @@
 -- What a command asks of a table: its options, each as it is given, or else plain style, breaks between words, the
 -- best-first search and a text page; and a certificate where there is a file for it.
 use Rattle.std.specs.Prelude.{Option, Some, None, is_some}
+use Rattle.tl_base.specs.declared.breaking.Breaking.{Breaking}
 use Rattle.tl_base.specs.declared.breaking.Breaking.TheVariants.{Words}
+use Rattle.tl_base.specs.declared.style.Style.{Style}
 use Rattle.tl_base.specs.declared.style.Style.TheVariants as styles
 use Rattle.tl_command.specs.declared.options.Search.TheVariants as searches
 use Rattle.tl_command.specs.Ask.{Asked}
@@ -14,12 +16,20 @@ abbrev pub given_or : {X : Type 0} → X → Option X → X
 given_or default None = default
 given_or default (Some given) = given
 
+-- the style of the page
+abbrev pub style_of : Asked → Style
+style_of asked = given_or styles.Plain asked.options.style
+
+-- how paragraphs are broken into lines
+abbrev pub breaking_of : Asked → Breaking
+breaking_of asked = given_or Words asked.options.breaking
+
 -- what is asked of the table
 abbrev pub task_of : Asked → Task
 task_of asked = record {
   width = asked.number;
-  style = given_or styles.Plain asked.options.style;
-  source = Html (given_or Words asked.options.breaking);
+  style = style_of asked;
+  source = Html (breaking_of asked);
   budget = asked.options.budget;
   search = given_or searches.Best asked.options.search;
   html = asked.options.html;

@@ -1,6 +1,6 @@
 //! What becomes of a table on a page: its lowest page and a certificate, or why there is none.
 
-ghost use Rattle.std.specs.Prelude.{◌≡◌, ◌<◌, ◌≤◌, ◌-◌, ℕ, IfOk, IfSome, length};
+ghost use Rattle.std.specs.Prelude.{◌≡◌, ◌<◌, ◌≤◌, ◌-◌, ℕ, IfOk, length};
 ghost use Rattle.tl_base.specs.declared.limits.TheConstants.{MAX_PAGE_WIDTH, MAX_BUDGET, MAX_HEIGHT};
 ghost use Rattle.tl_cert.specs.Text.{IsWritable};
 ghost use Rattle.tl_table.specs.Layouts.{Fits};
@@ -9,14 +9,11 @@ ghost use Rattle.tl_form.specs.Expected.{IsDocumentOf};
 ghost use Rattle.tl_table.specs.Sound.{IsSound};
 ghost use Rattle.tl_form.specs.Subjects.{meant};
 ghost use Rattle.tl_table.specs.FewCells.{HasFewCells};
-ghost use Rattle.tl_program.specs.Answers.{budget_in, reach, IsPageFile, certificate_file, IsReadBack};
+ghost use Rattle.tl_program.specs.Answers.{budget_in, IsPageFile, certificate_file, IsReadBack};
 ghost use Rattle.tl_program.specs.Answers.{IsLaidAs};
-ghost use Rattle.tl_program.specs.Inputs.{IsOfTable};
 ghost use Rattle.tl_program.specs.inner.Claims.{certificate_of, claim_of};
 ghost use Rattle.tl_program.specs.inner.Certified.{IsFound};
-ghost use Rattle.tl_program.specs.inner.Steps.{PassesOn};
 
-use crate::budget::budget_within;
 use crate::makers::searched;
 use crate::report::{Report, report_of};
 use crate::task::Task;
@@ -31,7 +28,6 @@ use tl_form::{
 };
 use tl_html::html;
 use tl_page::page;
-use tl_read::Refusal;
 use tl_table::{Layout, Table, narrow_chain};
 
 /// What is reported of a table, and what is stored for it.
@@ -42,38 +38,23 @@ pub struct Answer {
     pub certificate: Option<List<u8>>,
 }
 
-impl Answer {
-    /// The answer that reports this refusal and stores nothing.
-    pub fn refused(refusal: Refusal) -> Answer
-        ensures { PassesOn result refusal }
-    {
-        Answer {
-            report: Report::Refused(refusal),
-            page: None,
-            certificate: None,
-        }
-    }
-}
-
-/// What is reported of the table, and what is stored for it, by the task.
+/// What is reported of the table, and what is stored for it, by the task and with this budget of each
+/// search.
 pub fn answer_to<R: Threads + Sync, G: Gate>(
     rt: &R,
     alloc: Global,
     task: &Task,
     table: &Table,
+    budget: u32,
     gate: &G,
 ) -> Result<Answer, AllocError>
     requires sound { IsSound table.now }
     requires cells { HasFewCells table.now }
     requires narrow { (1 ≤ task.now.width) × (task.now.width ≤ MAX_PAGE_WIDTH) }
-    requires cuts { IfSome task.now.budget (λ budget. budget ≤ MAX_BUDGET) }
-    ensures { IfOk result (λ answer. IsOfTable (reach task.now table.now) (PassesOn answer)
-        (IsLaidAs task.now table.now answer answer.report)) }
+    requires budget { budget ≡ budget_in task.now table.now }
+    requires cuts { budget ≤ MAX_BUDGET }
+    ensures { IfOk result (λ answer. IsLaidAs task.now table.now answer answer.report) }
 {
-    let budget = match budget_within(task, table) {
-        Ok(budget) => budget,
-        Err(refusal) => return Ok(Answer::refused(refusal)),
-    };
     let subject = Subject::of(alloc, table, task.style, task.width)?;
     let least = subject.least[0];
     if least > task.width {

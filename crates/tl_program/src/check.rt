@@ -1,24 +1,35 @@
-//! What the text of a certificate shows of a table, or why it is rejected. No search is called.
+//! The own part of `check`: what the text of a certificate shows of the table of its file, or why it is
+//! rejected. No search is called.
 
-ghost use Rattle.std.specs.Prelude.{◌≡◌, ◌≤◌, ◌<◌, IfOk, None, Some};
+ghost use Rattle.std.specs.Prelude.{◌≡◌, ◌⊎◌, ◌≤◌, IfOk, Some, length};
 ghost use Rattle.std.specs.List.{last_or};
 ghost use Rattle.tl_base.specs.declared.limits.TheConstants.{MAX_BUDGET, MAX_PAGE_WIDTH};
+ghost use Rattle.tl_base.specs.Desk.{Rose};
+ghost use Rattle.tl_command.specs.Ask.{asked_by};
 ghost use Rattle.tl_table.specs.Sound.{IsSound};
 ghost use Rattle.tl_program.specs.declared.rejection.Rejection.{Rejection as R};
 ghost use Rattle.tl_program.specs.declared.report.Report.TheVariants as reports;
 ghost use Rattle.tl_program.specs.Answers.{budget_in};
-ghost use Rattle.tl_program.specs.Checks.{IsJudged, page_columns};
+ghost use Rattle.tl_program.specs.Change.{between};
+ghost use Rattle.tl_program.specs.Checks.{IsChecked, IsJudged, IsJudgedIn, page_columns};
+ghost use Rattle.tl_program.specs.Tasks.{task_of};
 ghost use Rattle.tl_program.specs.inner.Claims.{HasFewColumns, report_of};
+ghost use Rattle.tl_program.specs.inner.Steps.{GoesOn};
 
+use crate::input::load;
 use crate::limits::WORKERS;
+use crate::names::judged_name;
+use crate::output::deliver;
 use crate::rejection::{Rejection, step_rejection, text_rejection};
 use crate::report::{Report, report_of};
+use crate::status::Status;
 use crate::task::Task;
 use crate::widths::total_width;
 use std::alloc::{AllocError, Global};
 use std::thread::Threads;
-use tl_base::{Gate, Style};
+use tl_base::{Desk, Gate, MAX_CERTIFICATE_BYTES, Style};
 use tl_cert::{Certificate, Section, read};
+use tl_command::Ask;
 use tl_form::{
     bounded_is_between, budget_closes, lowest_is_least, narrow_is_too_wide, open_spends,
 };
@@ -96,5 +107,60 @@ pub fn judge<R: Threads + Sync, G: Gate>(
             Ok(shown(task, &certificate))
         }
         Err(reject) => rejected(step_rejection(reject)),
+    }
+}
+
+/// What the certificate in the file that is named comes to, for what is asked of the table.
+fn judge_file<R: Threads + Sync, D: Desk, G: Gate>(
+    rt: &R,
+    alloc: Global,
+    name: &str,
+    task: &Task,
+    table: &Table,
+    budget: u32,
+    desk: &mut D,
+    gate: &G,
+) -> Result<Report, AllocError>
+    requires sound { IsSound table.now }
+    requires page { (1 ≤ task.now.width) × (task.now.width ≤ MAX_PAGE_WIDTH) }
+    requires budget { budget ≡ budget_in task.now table.now }
+    requires cuts { budget ≤ MAX_BUDGET }
+    ensures report { IfOk result (λ report.
+        ((report ≡ reports.ReadFault) × Rose (D.load_faults desk.old) (D.load_faults desk.new))
+        ⊎ IsJudgedIn task.now table.now (D.files desk.old) name.now report) }
+    ensures files_stay { D.files desk.new ≡ D.files desk.old }
+    ensures said_stays { D.said desk.new ≡ D.said desk.old }
+    ensures writes_stay { D.write_faults desk.new ≡ D.write_faults desk.old }
+{
+    let Some(text) = load(desk, name, MAX_CERTIFICATE_BYTES as u32)? else {
+        return Ok(Report::ReadFault);
+    };
+    judge(rt, alloc, task, table, budget, text.as_slice(), gate)
+}
+
+/// Judges the certificate of the table, and prints what it shows or why it is rejected.
+pub fn check_table<R: Threads + Sync, D: Desk, G: Gate>(
+    rt: &R,
+    alloc: Global,
+    ask: &Ask<'_>,
+    task: &Task,
+    table: &Table,
+    budget: u32,
+    desk: &mut D,
+    gate: &G,
+) -> Status
+    requires names { 2 ≤ length ask.now.names.now }
+    requires task { task.now ≡ task_of (asked_by ask.now) }
+    requires sound { IsSound table.now }
+    requires page { (1 ≤ task.now.width) × (task.now.width ≤ MAX_PAGE_WIDTH) }
+    requires budget { budget ≡ budget_in task.now table.now }
+    requires cuts { budget ≤ MAX_BUDGET }
+    ensures { GoesOn (IsChecked (asked_by ask.now) (D.files desk.old) table.now) result
+        (between D.Desk desk.old desk.new) }
+{
+    let name = judged_name(ask);
+    match judge_file(rt, alloc, name, task, table, budget, desk, gate) {
+        Ok(report) => deliver(alloc, desk, report, &[]),
+        Err(_) => Status::Memory,
     }
 }

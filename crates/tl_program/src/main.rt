@@ -10,6 +10,8 @@ ghost use Rattle.std.specs.IoError.{error_kind};
 mod answer;
 mod budget;
 mod check;
+mod input;
+mod lay;
 mod limits;
 mod makers;
 mod messages;

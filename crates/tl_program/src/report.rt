@@ -40,7 +40,7 @@ pub enum Report {
     Rejected(Rejection),
     /// A table was laid out, and its certificate checked.
     Summary(Summary),
-    /// The arguments are invalid: docs/MODEL.md, "The command".
+    /// The arguments are invalid: docs/COMMAND.md.
     Usage,
     /// The file could not be read.
     ReadFault,

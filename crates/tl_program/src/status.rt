@@ -7,7 +7,7 @@ ghost use Rattle.std.specs.Prelude.{◌≡◌};
 pub enum Status {
     /// The page is stored, or the certificate is valid, and no layout is lower.
     Lowest = 0,
-    /// The arguments are invalid: docs/MODEL.md, "The command".
+    /// The arguments are invalid: docs/COMMAND.md.
     Usage = 2,
     /// The page is stored, or the certificate is valid, and a layout may be lower.
     Bounded = 3,

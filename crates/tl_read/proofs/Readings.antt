@@ -1,6 +1,6 @@
 -- A file has at most one reading, but for where in memory its tables lie.
 use Rattle.std.proofs.Common.{◌≡◌, ◌⊎◌, inl, inr, ℕ, ◌≤◌, List, length, arith, Option, Some, None}
-use Rattle.std.proofs.Common.{sym, subst, ◌∙◌, Result, Ok, Err, IfOk, alloc_error}
+use Rattle.std.proofs.Common.{refl, sym, subst, ◌∙◌, Result, Ok, Err, IfOk, alloc_error}
 use Rattle.std.specs.declared.alloc.AllocError.{AllocError}
 use Rattle.std.specs.List.{AllByRecursion}
 use Rattle.tl_base.specs.declared.breaking.Breaking.{Breaking}
@@ -29,7 +29,8 @@ use Rattle.tl_read.specs.declared.refusal.Refusal.{Refusal}
 use Rattle.tl_read.specs.Refusals.{token_refusal, tree_refusal, form_refusal}
 use Rattle.tl_read.specs.declared.source.Source.{Source}
 use Rattle.tl_read.specs.declared.source.Source.TheVariants as sources
-use Rattle.tl_read.specs.Reading.{ReadsTree, ReadsTokens, ReadsHtml, ReadsAs, IsReading, AreSameReadings}
+use Rattle.tl_read.specs.Reading.{SpellsWithinLimits, ReadsHtml, ReadsAs, IsReading, AreSameReadings, too_long}
+use Rattle.tl_read.specs.inner.Steps.{ReadsTree, ReadsTokens, ReadsBytes}
 use Rattle.tl_table.proofs.SameShapes.{same_shapes}
 
 -- a refusal that is found is the one
@@ -111,7 +112,7 @@ tokens_refused_alike breaking size tokens error found reading ok each is (inr re
 pub bytes_refused_alike : (breaking : Breaking) (bytes : List ℕ) (error : TokenError) (found : Refusal) (reading : Reading) →
     ((tokens : List Token) → SpellsTokens bytes tokens → error ≡ cuts.Memory alloc_error) →
     ((cause : TokenError) → SpellsNoTokens bytes cause → (error ≡ cuts.Memory alloc_error) ⊎ (error ≡ cause)) →
-    token_refusal error ≡ Some found → ReadsHtml breaking bytes reading → AreSameReadings (readings.Refused found) reading
+    token_refusal error ≡ Some found → ReadsBytes breaking bytes reading → AreSameReadings (readings.Refused found) reading
 bytes_refused_alike breaking bytes error found reading ok each is (inl read) =
     absurd (some_not_none found (subst (λ (e : TokenError). token_refusal e ≡ Some found) (ok read.0 read.1) is))
 bytes_refused_alike breaking bytes error found reading ok each is (inr read) =
@@ -128,25 +129,82 @@ pub bytes_alike : (breaking : Breaking) (bytes : List ℕ) (tokens : List Token)
     ((others : List Token) → SpellsTokens bytes others → tokens ≡ others) →
     ((cause : TokenError) → SpellsNoTokens bytes cause → ⊥) →
     ((other : Reading) → ReadsTokens breaking (length bytes) tokens other → IfOk result (λ found. AreSameReadings found other)) →
-    ReadsHtml breaking bytes reading → IfOk result (λ found. AreSameReadings found reading)
+    ReadsBytes breaking bytes reading → IfOk result (λ found. AreSameReadings found reading)
 bytes_alike breaking bytes tokens result reading same never each (inl read) =
     each reading (subst (λ (ts : List Token). ReadsTokens breaking (length bytes) ts reading) (sym (same read.0 read.1)) read.2)
 bytes_alike breaking bytes tokens result reading same never each (inr read) = absurd (never read.0 read.2)
 
+-- ---- step by step, and as a whole
+
+-- a table is no refusal
+table_not_refused : (table : Table) (refusal : Refusal) → readings.Table table ≡ readings.Refused refusal → ⊥
+table_not_refused table refusal e = absurd cc
+
+-- a refusal of a reading is the one that it is of
+refusal_told : (one other : Refusal) → readings.Refused one ≡ readings.Refused other → other ≡ one
+refusal_told one other e = cc
+
+-- what bytes are read as step by step they are
+pub read_whole : (breaking : Breaking) (bytes : List ℕ) (reading : Reading) → ReadsBytes breaking bytes reading →
+    ReadsHtml breaking bytes reading
+read_whole breaking bytes (readings.Table table) (inl (tokens, cut, inl (node, spells, within, becomes))) = record {
+  spells = record { tokens = tokens; cut = cut; node = node; read = spells; formed = becomes };
+  within = within;
+}
+read_whole breaking bytes (readings.Table table) (inl (tokens, cut, inr (error, refusal, none, is, same))) =
+    absurd (table_not_refused table refusal same)
+read_whole breaking bytes (readings.Table table) (inr (error, refusal, none, is, same)) =
+    absurd (table_not_refused table refusal same)
+read_whole breaking bytes (readings.Refused refusal) (inl (tokens, cut, inl (node, spells, within, refused))) =
+    inr (tokens, cut, inr (node, spells, within, refused))
+read_whole breaking bytes (readings.Refused refusal) (inl (tokens, cut, inr (error, other, none, is, same))) =
+    inr (
+      tokens,
+      cut,
+      inl (
+        error,
+        none,
+        subst (λ (r : Refusal). tree_refusal (length bytes) tokens error ≡ Some r)
+            (refusal_told refusal other same) is,
+      ),
+    )
+read_whole breaking bytes (readings.Refused refusal) (inr (error, other, none, is, same)) =
+    inl (error, none, subst (λ (r : Refusal). token_refusal error ≡ Some r) (refusal_told refusal other same) is)
+
+-- and what they are they are read as step by step
+pub read_in_steps : (breaking : Breaking) (bytes : List ℕ) (reading : Reading) → ReadsHtml breaking bytes reading →
+    ReadsBytes breaking bytes reading
+read_in_steps breaking bytes (readings.Table table) is =
+    inl (is.spells.tokens, is.spells.cut, inl (is.spells.node, is.spells.read, is.within, is.spells.formed))
+read_in_steps breaking bytes (readings.Refused refusal) (inl (error, none, is)) = inr (error, refusal, none, is, refl)
+read_in_steps breaking bytes (readings.Refused refusal) (inr (tokens, cut, inl (error, none, is))) =
+    inl (tokens, cut, inr (error, refusal, none, is, refl))
+read_in_steps breaking bytes (readings.Refused refusal) (inr (tokens, cut, inr (node, spells, within, refused))) =
+    inl (tokens, cut, inl (node, spells, within, refused))
+
 -- HTML within the limit is read as the file that it is
 pub within_is : (source : Source) (breaking : Breaking) → source ≡ sources.Html breaking →
     (bytes : List ℕ) (result : Result Reading AllocError) →
-    length bytes ≤ MAX_FILE_BYTES → IfOk result (ReadsHtml breaking bytes) → IfOk result (IsReading source bytes)
+    length bytes ≤ MAX_FILE_BYTES → IfOk result (ReadsBytes breaking bytes) → IfOk result (IsReading source bytes)
 within_is source breaking is bytes (Ok reading) short read =
-    inr (short, subst (λ (s : Source). ReadsAs s bytes reading) (sym is) read)
+    inr (short, subst (λ (s : Source). ReadsAs s bytes reading) (sym is) (read_whole breaking bytes reading read))
 within_is source breaking is bytes (Err error) short read = tt
 
 -- and whatever else it is read as is the same
 pub within_alike : (source : Source) (breaking : Breaking) → source ≡ sources.Html breaking →
     (bytes : List ℕ) (result : Result Reading AllocError)
     (reading : Reading) → length bytes ≤ MAX_FILE_BYTES →
-    ((other : Reading) → ReadsHtml breaking bytes other → IfOk result (λ found. AreSameReadings found other)) →
+    ((other : Reading) → ReadsBytes breaking bytes other → IfOk result (λ found. AreSameReadings found other)) →
     IsReading source bytes reading → IfOk result (λ found. AreSameReadings found reading)
 within_alike source breaking is bytes result reading short each (inl long) = absurd (omega (arith, short, long.0))
 within_alike source breaking is bytes result reading short each (inr (small, read)) =
-    each reading (subst (λ (s : Source). ReadsAs s bytes reading) is read)
+    each reading (read_in_steps breaking bytes reading (subst (λ (s : Source). ReadsAs s bytes reading) is read))
+
+-- ---- a table
+
+-- bytes that are a table as HTML are within the limit of a file, and spell it
+pub spelt_within : (breaking : Breaking) (bytes : List ℕ) (table : Table) →
+    IsReading (sources.Html breaking) bytes (readings.Table table) →
+    (length bytes ≤ MAX_FILE_BYTES) × SpellsWithinLimits bytes breaking table
+spelt_within breaking bytes table (inl long) = absurd (table_not_refused table too_long long.1)
+spelt_within breaking bytes table (inr read) = read

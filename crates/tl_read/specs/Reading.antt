@@ -9,6 +9,7 @@ use Rattle.tl_tree.specs.declared.error.TreeError.{TreeError}
 use Rattle.tl_tree.specs.declared.node.TableNode.{TableNode}
 use Rattle.tl_tree.specs.Spelling.{SpellsTree, IsWithinLimits, SpellsNoTree}
 use Rattle.tl_tree.specs.Tags.{kinds}
+use Rattle.tl_tree.specs.Sound.{IsSound as IsSoundTree}
 use Rattle.tl_table.specs.declared.error.FormError.{FormError}
 use Rattle.tl_table.specs.Formed.{Becomes}
 use Rattle.tl_table.specs.Refused.{HasNoGrid}
@@ -16,6 +17,7 @@ use Rattle.tl_table.specs.declared.cell.Table.{Table}
 use Rattle.tl_table.specs.FewCells.{HasFewCells}
 use Rattle.tl_table.specs.Same.{AreSame}
 use Rattle.tl_table.specs.Sound.{IsSound}
+use Rattle.tl_table.specs.Spells.{Spells}
 use Rattle.tl_read.specs.declared.source.Source.{Source}
 use Rattle.tl_read.specs.declared.source.Source.TheVariants as sources
 use Rattle.tl_read.specs.declared.reading.Reading.{Reading}
@@ -25,25 +27,37 @@ use Rattle.tl_read.specs.declared.refusal.Refusal.{Refusal}
 use Rattle.tl_read.specs.declared.refusal.Refusal.TheVariants as refusals
 use Rattle.tl_read.specs.Refusals.{token_refusal, tree_refusal, form_refusal}
 
--- a tree becomes this table, or is refused for a table without a grid
-abbrev pub ReadsTree : Breaking → TableNode → Reading → Type 0
-ReadsTree breaking node (readings.Table table) = Becomes breaking node table
-ReadsTree breaking node (readings.Refused refusal) = (error : FormError) × HasNoGrid node error
-    × (form_refusal error ≡ Some refusal)
+-- ---- a table
 
--- tokens of a file of so many bytes are a tree within the limits of depth and tables, and that is read; or they are none
-abbrev pub ReadsTokens : Breaking → ℕ → List Token → Reading → Type 0
-ReadsTokens breaking size tokens reading =
-    ((node : TableNode) × SpellsTree tokens node × IsWithinLimits (kinds tokens) × ReadsTree breaking node reading)
-    ⊎ ((error : TreeError) × (refusal : Refusal) × SpellsNoTree tokens error × (tree_refusal size tokens error ≡ Some refusal)
-    × (reading ≡ readings.Refused refusal))
+-- the bytes spell the table, within the limits of depth and tables
+pub record SpellsWithinLimits (bytes : List ℕ) (breaking : Breaking) (table : Table) : Type 0 where
+  pub spells : Spells bytes breaking table
+  pub within : IsWithinLimits (kinds spells.tokens)
 
--- HTML within the limit of a file is tokens, and these are read; or it is none
+-- ---- a refusal
+
+-- a tree has a table without a grid, and is refused for that
+abbrev pub RefusesTree : TableNode → Refusal → Type 0
+RefusesTree node refusal = (error : FormError) × HasNoGrid node error × (form_refusal error ≡ Some refusal)
+
+-- tokens of a file of so many bytes are no tree within the limits, and are refused for that; or their tree is refused
+abbrev pub RefusesTokens : ℕ → List Token → Refusal → Type 0
+RefusesTokens size tokens refusal =
+    ((error : TreeError) × SpellsNoTree tokens error × (tree_refusal size tokens error ≡ Some refusal))
+    ⊎ ((node : TableNode) × SpellsTree tokens node × IsWithinLimits (kinds tokens) × RefusesTree node refusal)
+
+-- bytes are no tokens, and are refused for that; or their tokens are refused
+abbrev pub RefusesHtml : List ℕ → Refusal → Type 0
+RefusesHtml bytes refusal =
+    ((error : TokenError) × SpellsNoTokens bytes error × (token_refusal error ≡ Some refusal))
+    ⊎ ((tokens : List Token) × SpellsTokens bytes tokens × RefusesTokens (length bytes) tokens refusal)
+
+-- ---- which of the two
+
+-- HTML within the limit of a file is this table, or is refused for this reason
 abbrev pub ReadsHtml : Breaking → List ℕ → Reading → Type 0
-ReadsHtml breaking bytes reading =
-    ((tokens : List Token) × SpellsTokens bytes tokens × ReadsTokens breaking (length bytes) tokens reading)
-    ⊎ ((error : TokenError) × (refusal : Refusal) × SpellsNoTokens bytes error × (token_refusal error ≡ Some refusal)
-    × (reading ≡ readings.Refused refusal))
+ReadsHtml breaking bytes (readings.Table table) = SpellsWithinLimits bytes breaking table
+ReadsHtml breaking bytes (readings.Refused refusal) = RefusesHtml bytes refusal
 
 -- the refusal of a file past its limit: so many of its bytes are read
 abbrev pub too_long : Refusal
@@ -69,6 +83,11 @@ AreSameReadings (readings.Refused one) (readings.Refused other) = one ≡ other
 abbrev pub table_in : Reading → Option Table
 table_in (readings.Table table) = Some table
 table_in (readings.Refused refusal) = None
+
+-- a table that was read is one that a sound tree becomes
+abbrev pub IsFormed : Source → Reading → Type 0
+IsFormed (sources.Html breaking) (readings.Table table) = (node : TableNode) × IsSoundTree node × Becomes breaking node table
+IsFormed source (readings.Refused refusal) = Unit {0}
 
 -- a table that was read is sound, and has no more cells than a grid may have
 abbrev pub IsSoundReading : Reading → Type 0

@@ -9,7 +9,9 @@ ghost use Rattle.tl_tree.specs.Sound.{IsSound as IsSoundTree};
 ghost use Rattle.tl_read.specs.declared.reading.Reading.{Reading};
 ghost use Rattle.tl_read.specs.declared.reading.Reading.TheVariants as readings;
 ghost use Rattle.tl_read.specs.declared.refusal.Refusal.{Refusal as R};
-ghost use Rattle.tl_read.specs.Reading.{ReadsTree, ReadsTokens, ReadsHtml, IsReading, AreSameReadings, IsSoundReading, table_in};
+ghost use Rattle.tl_read.specs.Reading.{IsReading, AreSameReadings, IsFormed, IsSoundReading, table_in};
+ghost use Rattle.tl_read.specs.declared.source.Source.TheVariants.{Html};
+ghost use Rattle.tl_read.specs.inner.Steps.{ReadsTree, ReadsTokens, ReadsBytes};
 
 use crate::Source;
 use crate::refusal::{Limit, Refusal, form_refusal, token_refusal, tree_refusal};
@@ -55,6 +57,7 @@ fn read_tree(alloc: Global, node: &TableNode, breaking: Breaking) -> Result<Read
     ensures each { (other : TableNode) (reading : Reading) → AreSame node.now other
         → ReadsTree breaking other reading → IfOk result (λ found. AreSameReadings found reading) }
     ensures sound { IfOk result IsSoundReading }
+    ensures formed { IfOk result (IsFormed (Html breaking)) }
 {
     formed_has_few_cells();
     match table(alloc, node, breaking) {
@@ -74,6 +77,7 @@ fn read_tokens(
     ensures is { IfOk result (ReadsTokens breaking size tokens.now) }
     ensures each { (reading : Reading) → ReadsTokens breaking size tokens.now reading → IfOk result (λ found. AreSameReadings found reading) }
     ensures sound { IfOk result IsSoundReading }
+    ensures formed { IfOk result (IsFormed (Html breaking)) }
 {
     match tree(alloc, tokens) {
         Ok(node) => read_tree(alloc, &node, breaking),
@@ -84,9 +88,10 @@ fn read_tokens(
 /// The table that HTML of at most [`MAX_FILE_BYTES`] bytes is, or why it is none.
 fn read_html(alloc: Global, bytes: &[u8], breaking: Breaking) -> Result<Reading, AllocError>
     requires { length bytes.now ≤ MAX_FILE_BYTES }
-    ensures is { IfOk result (ReadsHtml breaking bytes.now) }
-    ensures each { (reading : Reading) → ReadsHtml breaking bytes.now reading → IfOk result (λ found. AreSameReadings found reading) }
+    ensures is { IfOk result (ReadsBytes breaking bytes.now) }
+    ensures each { (reading : Reading) → ReadsBytes breaking bytes.now reading → IfOk result (λ found. AreSameReadings found reading) }
     ensures sound { IfOk result IsSoundReading }
+    ensures formed { IfOk result (IsFormed (Html breaking)) }
 {
     match tokens(alloc, bytes) {
         Ok(tokens) => read_tokens(alloc, bytes.len() as u32, tokens.as_slice(), breaking),
@@ -101,6 +106,7 @@ pub fn read(alloc: Global, bytes: &[u8], source: Source) -> Result<Reading, Allo
     ensures is { IfOk result (IsReading source bytes.now) }
     ensures each { (reading : Reading) → IsReading source bytes.now reading → IfOk result (λ found. AreSameReadings found reading) }
     ensures sound { IfOk result IsSoundReading }
+    ensures formed { IfOk result (IsFormed source) }
 {
     if bytes.len() > MAX_FILE_BYTES {
         let too_long = Refusal::Limit(Limit::File, MAX_FILE_BYTES as u64 + 1);

@@ -8,7 +8,7 @@ use tl_base::Breaking;
 /// What kind of file a table is read from, and how its text is broken into lines.
 #[derive(Clone, Copy)]
 pub enum Source {
-    /// An HTML document with one table (docs/MODEL.md, "Files"), its paragraphs broken so.
+    /// An HTML document with one table (docs/READING.md), its paragraphs broken so.
     Html(Breaking),
 }
 

@@ -1,45 +1,74 @@
--- No public clause cites this file: it says what is answered to a table or to bytes, and what checking comes to, step by step.
-use Rattle.std.specs.Prelude.{◌≡◌, ℕ, ◌<◌, List, Option, None}
-use Rattle.tl_base.specs.declared.limits.TheConstants.{MAX_REACH}
-use Rattle.tl_base.specs.Desk.{Files}
+-- No public clause cites this file: it says what a file gives the command that reads it, and how that command goes on.
+use Rattle.std.specs.Prelude.{◌≡◌, ◌⊎◌, ℕ, ◌<◌, ◌≤◌, List, Option}
+use Rattle.tl_base.specs.declared.limits.TheConstants.{MAX_BUDGET, MAX_REACH}
+use Rattle.tl_base.specs.Desk.{Files, Rose}
 use Rattle.tl_command.specs.Ask.{Asked}
 use Rattle.tl_table.specs.declared.cell.Table.{Table}
+use Rattle.tl_table.specs.FewCells.{HasFewCells}
+use Rattle.tl_table.specs.Sound.{IsSound}
 use Rattle.tl_read.specs.declared.refusal.Limit.TheVariants as limits
 use Rattle.tl_read.specs.declared.refusal.Refusal.{Refusal}
 use Rattle.tl_read.specs.declared.refusal.Refusal.TheVariants as refusals
-use Rattle.tl_program.specs.declared.answer.Answer.{Answer}
-use Rattle.tl_program.specs.declared.report.Report.{Report}
+use Rattle.tl_program.specs.declared.input.Input.{Input}
+use Rattle.tl_program.specs.declared.input.Input.TheVariants as inputs
 use Rattle.tl_program.specs.declared.report.Report.TheVariants as reports
+use Rattle.tl_program.specs.declared.status.Status.{Status}
+use Rattle.tl_program.specs.declared.status.Status.TheVariants as statuses
 use Rattle.tl_program.specs.declared.task.Task.{Task}
-use Rattle.tl_program.specs.Answers.{reach, IsLaidAs}
-use Rattle.tl_program.specs.Asks.{input_name, judged_name}
-use Rattle.tl_program.specs.Checks.{IsJudgedIn}
-use Rattle.tl_program.specs.Inputs.{IsOfTable, IsOfBytes, IsOfFile}
+use Rattle.tl_program.specs.Answers.{budget_in, reach}
+use Rattle.tl_program.specs.Asks.{input_name}
+use Rattle.tl_program.specs.Change.{Change}
+use Rattle.tl_program.specs.Deliveries.{Delivery, IsUnread}
+use Rattle.tl_program.specs.Inputs.{IsOfBytes, IsOfFile}
 use Rattle.tl_program.specs.Tasks.{task_of}
+use Rattle.tl_program.specs.inner.Printing.{IsDelivered}
 
 -- the table is refused, for a reach past its limit
 pub record IsTooFar (task : Task) (table : Table) (refusal : Refusal) : Type 0 where
   pub far : MAX_REACH < reach task table
   pub told : refusal ≡ refusals.Limit limits.Reach (reach task table)
 
--- the refusal is reported, and nothing is stored
-pub record PassesOn (answer : Answer) (refusal : Refusal) : Type 0 where
-  pub told : answer.report ≡ reports.Refused refusal
-  pub no_page : answer.page ≡ None
-  pub no_certificate : answer.certificate ≡ None
+-- ---- what a file gives
 
--- what is reported of a file of these bytes, and what is stored for it
-abbrev pub IsAnswerOf : Task → List ℕ → Answer → Type 0
-IsAnswerOf task bytes answer =
-    IsOfBytes task.source (reach task) (PassesOn answer) (λ table. IsLaidAs task table answer answer.report) bytes
+-- the refusal is what is given
+abbrev pub GivesRefusal : Input → Refusal → Type 0
+GivesRefusal input refusal = input ≡ inputs.Reported (reports.Refused refusal)
 
--- what is reported of a table and the certificate in the file of this name
-abbrev pub IsCheckOf : Task → Table → Option Files → List ℕ → Report → Type 0
-IsCheckOf task table files name report =
-    IsOfTable (reach task table) (λ refusal. report ≡ reports.Refused refusal) (IsJudgedIn task table files name report)
+-- the table is what is given, with the budget of each search for it
+abbrev pub GivesTable : Task → Input → Table → Type 0
+GivesTable task input table = input ≡ inputs.Table table (budget_in task table)
 
--- what is reported of the file and its certificate
-abbrev pub IsCheckIn : Asked → Option Files → Report → Type 0
-IsCheckIn asked files report = IsOfFile (task_of asked).source (reach (task_of asked))
-    (λ refusal. report ≡ reports.Refused refusal)
-    (λ table. IsJudgedIn (task_of asked) table files (judged_name asked) report) files (input_name asked)
+-- what a file of these bytes gives: its table, or why it is refused
+abbrev pub GivesInput : Task → List ℕ → Input → Type 0
+GivesInput task bytes input = IsOfBytes task.source (reach task) (GivesRefusal input) (GivesTable task input) bytes
+
+-- what the file of a command gives
+abbrev pub IsInputIn : Asked → Option Files → Input → Type 0
+IsInputIn asked files input = IsOfFile (task_of asked).source (reach (task_of asked)) (GivesRefusal input)
+    (GivesTable (task_of asked) input) files (input_name asked)
+
+-- the file of a command could not be read, and a fault is counted; or none is, and this is what the file gives
+abbrev pub IsLoaded : Asked → Option Files → ℕ → ℕ → Input → Type 0
+IsLoaded asked files faults faults_after input = ((input ≡ inputs.Reported reports.ReadFault) × Rose faults faults_after)
+    ⊎ ((faults_after ≡ faults) × IsInputIn asked files input)
+
+-- a table with which a command can go on: it is sound, and the budget is that of each search for it
+pub record IsUsableTable (task : Task) (table : Table) (budget : ℕ) : Type 0 where
+  pub sound : IsSound table
+  pub cells : HasFewCells table
+  pub of_task : budget ≡ budget_in task table
+  pub cuts : budget ≤ MAX_BUDGET
+
+-- a table that is given is one with which a command can go on
+abbrev pub IsUsable : Task → Input → Type 0
+IsUsable task (inputs.Table table budget) = IsUsableTable task table budget
+IsUsable task (inputs.Reported report) = Unit {0}
+
+-- ---- how a command goes on
+
+-- the command goes on with its own part, and what that gives is delivered, or a second file could not be read; or memory
+-- runs out before anything is stored
+abbrev pub GoesOn : (Delivery → Type 0) → Status → Change → Type 0
+GoesOn Own status change =
+    ((delivery : Delivery) × (IsUnread change delivery ⊎ Own delivery) × IsDelivered status change delivery)
+    ⊎ ((status ≡ statuses.Memory) × (change.files_after ≡ change.files) × (change.said_after ≡ change.said))

@@ -75,6 +75,20 @@ fn a_valid_certificate_is_accepted(rt: HostRuntime) -> Result<(), Failure> {
     check(&rt, LINE, TWO, Some(CLOSED), 0, message)
 }
 
+#[test]
+fn the_default_budget_is_given_or_not(rt: HostRuntime) -> Result<(), Failure> {
+    let certificate =
+        "tablelayout 1 12 plain 5000\nlowest 2\nsection 0 12 2 2 0 1\nwidths 3 5\nz0 chain\nend\n";
+    let message = "lowest height 2 width 10\n";
+    for line in [
+        "check 12 t.html c.txt",
+        "check 12 t.html c.txt --budget 5000",
+    ] {
+        check(&rt, line, TWO, Some(certificate), 0, message)?;
+    }
+    Ok(())
+}
+
 /// Texts that are no certificate, each with the place.
 const TEXTS: &[(&str, &str)] = &[
     (

@@ -1,27 +1,54 @@
--- What a check comes to is printed.
-use Rattle.std.proofs.Common.{[], refl}
+-- What the file gives is checked, or reported.
+use Rattle.std.proofs.Common.{refl, Option, subst}
+use Rattle.tl_base.specs.Desk.{Files}
 use Rattle.tl_command.specs.declared.command.Command.TheVariants.{Check}
 use Rattle.tl_command.specs.Ask.{asked_by}
 use Rattle.tl_program.specs.Change.{between}
-use Rattle.tl_program.specs.Deliveries.{Delivery}
+use Rattle.tl_program.specs.Checks.{IsChecked}
+use Rattle.tl_program.specs.inner.Steps.{GoesOn}
 use Rattle.tl_program.proofs.Asking.{comes_of}
-use Rattle.tl_program.proofs.Checking.{check_becomes}
-use Rattle.tl_program.proofs.Ends.{delivered_ends}
-use Rattle.tl_program.proofs.Storing.{delivered_from}
+use Rattle.tl_program.proofs.Loading.{reported_ends, went_on_ends}
 use Rattle.tl_program.proofs.run.check_file.Goals as goal
 
-pub returns-in-Ok : goal.returns-in-Ok
-returns-in-Ok g c = record {
+pub returns-in-Ok-Table : goal.returns-in-Ok-Table
+returns-in-Ok-Table g c = record {
+  ends = λ words is.
+      let asked = asked_by c.args.ask.now in
+      let change = between g.D.Desk c.args.desk.now c.check_table.new.desk in
+      let second = between g.D.Desk c.load_input.new.desk c.check_table.new.desk in
+      went_on_ends words change second asked (IsChecked asked change.files) c.in-Ok-Table.field-0 c.check_table.result
+      (λ delivery. comes_of words change Check asked delivery c.requires.command is)
+      (record {
+        files = c.load_input.ensures.files_stay;
+        files_after = refl;
+        said = c.load_input.ensures.said_stays;
+        said_after = refl;
+        writes = c.load_input.ensures.writes_stay;
+        writes_after = refl;
+        loads_after = refl;
+      })
+      c.in-Ok-Table.ensures.loaded c.in-Ok-Table.table c.in-Ok-Table.budget c.in-Ok-Table.field-0-is
+      (subst (λ (files : Option Files). GoesOn (IsChecked asked files c.in-Ok-Table.table) c.check_table.result second)
+      c.load_input.ensures.files_stay c.check_table.ensures);
+}
+
+pub returns-in-Ok-Reported : goal.returns-in-Ok-Reported
+returns-in-Ok-Reported g c = record {
   ends = λ words is.
       let asked = asked_by c.args.ask.now in
       let change = between g.D.Desk c.args.desk.now c.deliver.new.desk in
-      let other = between g.D.Desk c.check_report.new.desk c.deliver.new.desk in
-      let delivery : Delivery = record { report = c.in-Ok.report; stores = [] } in
-      delivered_ends words change c.deliver.result delivery
-      (comes_of words change Check asked delivery c.requires.command is
-      (check_becomes asked change c.in-Ok.report (g.D.Desk.load_faults c.check_report.new.desk)
-      c.deliver.ensures.loads_stay c.in-Ok.ensures.report))
-      (delivered_from c.deliver.result change other delivery c.check_report.ensures.files_stay refl
-      c.check_report.ensures.said_stays refl
-      c.check_report.ensures.writes_stay refl c.deliver.ensures.delivered);
+      let second = between g.D.Desk c.load_input.new.desk c.deliver.new.desk in
+      reported_ends words change second asked (IsChecked asked change.files) c.in-Ok-Reported.field-0 c.deliver.result
+      (λ delivery. comes_of words change Check asked delivery c.requires.command is)
+      (record {
+        files = c.load_input.ensures.files_stay;
+        files_after = refl;
+        said = c.load_input.ensures.said_stays;
+        said_after = refl;
+        writes = c.load_input.ensures.writes_stay;
+        writes_after = refl;
+        loads_after = refl;
+      })
+      c.in-Ok-Reported.ensures.loaded c.in-Ok-Reported.report c.in-Ok-Reported.field-0-is c.deliver.ensures.loads_stay
+      c.deliver.ensures.delivered;
 }

@@ -1,59 +1,51 @@
--- What becomes of the command's file.
-use Rattle.std.proofs.Common.{inl, [], Err, refl, sym, ap, subst, ◌∙◌, List, ℕ}
-use Rattle.std.specs.Prelude.{IfSome}
-use Rattle.tl_base.specs.declared.limits.TheConstants.{MAX_FILE_BYTES}
-use Rattle.tl_base.specs.Desk.{Rose, IsReadFrom}
+-- What the file gives is laid out, or reported.
+use Rattle.std.proofs.Common.{refl}
 use Rattle.tl_command.specs.declared.command.Command.TheVariants.{Lay}
 use Rattle.tl_command.specs.Ask.{asked_by}
-use Rattle.tl_program.specs.declared.report.Report.TheVariants as reports
-use Rattle.tl_program.specs.Answers.{reach, IsLaidAs}
-use Rattle.tl_program.specs.Asks.{input_name}
 use Rattle.tl_program.specs.Change.{between}
-use Rattle.tl_program.specs.Deliveries.{Delivery, delivery_of}
-use Rattle.tl_program.specs.Tasks.{task_of}
-use Rattle.tl_program.specs.inner.Steps.{IsAnswerOf, PassesOn}
+use Rattle.tl_program.specs.Deliveries.{IsAnswered}
 use Rattle.tl_program.proofs.Asking.{comes_of}
-use Rattle.tl_program.proofs.Ends.{answered_input, delivered_ends}
-use Rattle.tl_program.proofs.Inputs.{content_of, of_content}
-use Rattle.tl_program.proofs.Storing.{delivered_from, printed_last}
+use Rattle.tl_program.proofs.Loading.{reported_ends, went_on_ends}
 use Rattle.tl_program.proofs.run.lay_file.Goals as goal
 
-pub returns-in-Ok-answer_file : goal.returns-in-Ok-answer_file
-returns-in-Ok-answer_file g c = record {
+pub returns-in-Ok-Table : goal.returns-in-Ok-Table
+returns-in-Ok-Table g c = record {
   ends = λ words is.
       let asked = asked_by c.args.ask.now in
-      let files = g.D.Desk.files c.args.desk.now in
-      let change = between g.D.Desk c.args.desk.now c.deliver_answer.new.desk in
-      let other = between g.D.Desk c.load.new.self c.deliver_answer.new.desk in
-      let answer = c.in-Ok-answer_file.answer in
-      let content = content_of MAX_FILE_BYTES files (input_name asked) c.in-Ok.bytes c.in-Ok.ensures.short
-      (subst (λ (name : List ℕ). IfSome files (λ held. IsReadFrom held name MAX_FILE_BYTES c.in-Ok.bytes))
-      c.input_name.ensures c.in-Ok.ensures.read) in
-      let task = task_of asked in
-      let carried = answered_input asked change content.0 answer content.1
-      (of_content task.source (reach task) (PassesOn answer) (λ table. IsLaidAs task table answer answer.report)
-      content.0 c.in-Ok.bytes
-      content.2 (subst (λ (bytes : List ℕ). IsAnswerOf task bytes answer) c.as_slice.ensures c.in-Ok-answer_file.ensures)) in
-      delivered_ends words change c.deliver_answer.result (delivery_of asked answer)
-      (comes_of words change Lay asked (delivery_of asked answer) c.requires.command is carried)
-      (delivered_from c.deliver_answer.result change other (delivery_of asked answer)
-      c.load.ensures.files_stay refl c.load.ensures.said_stays refl
-      c.load.ensures.write_count refl c.deliver_answer.ensures.delivered);
+      let change = between g.D.Desk c.args.desk.now c.lay_table.new.desk in
+      let second = between g.D.Desk c.load_input.new.desk c.lay_table.new.desk in
+      went_on_ends words change second asked (IsAnswered asked) c.in-Ok-Table.field-0 c.lay_table.result
+      (λ delivery. comes_of words change Lay asked delivery c.requires.command is)
+      (record {
+        files = c.load_input.ensures.files_stay;
+        files_after = refl;
+        said = c.load_input.ensures.said_stays;
+        said_after = refl;
+        writes = c.load_input.ensures.writes_stay;
+        writes_after = refl;
+        loads_after = refl;
+      })
+      c.in-Ok-Table.ensures.loaded c.in-Ok-Table.table c.in-Ok-Table.budget c.in-Ok-Table.field-0-is
+      c.lay_table.ensures;
 }
 
-pub returns-in-Err-Failed : goal.returns-in-Err-Failed
-returns-in-Err-Failed g c = record {
+pub returns-in-Ok-Reported : goal.returns-in-Ok-Reported
+returns-in-Ok-Reported g c = record {
   ends = λ words is.
       let asked = asked_by c.args.ask.now in
-      let change = between g.D.Desk c.args.desk.now c.print.new.desk in
-      let third = between g.D.Desk c.load.new.self c.print.new.desk in
-      let delivery : Delivery = record { report = reports.ReadFault; stores = [] } in
-      let rose : Rose change.load_faults change.load_faults_after =
-      subst (Rose (g.D.Desk.load_faults c.args.desk.now)) (sym c.print.ensures.loads_stay) (c.in-Err-Failed.ensures.failed
-      (ap Err c.in-Err-Failed.field-0-is)) in
-      delivered_ends words change c.print.result delivery
-      (comes_of words change Lay asked delivery c.requires.command is (inl (record { rose = rose; so = refl })))
-      (printed_last c.print.result change third delivery (c.print.ensures.files_stay ∙ c.load.ensures.files_stay)
-      c.load.ensures.write_count refl
-      c.load.ensures.said_stays refl c.print.ensures.printed);
+      let change = between g.D.Desk c.args.desk.now c.deliver.new.desk in
+      let second = between g.D.Desk c.load_input.new.desk c.deliver.new.desk in
+      reported_ends words change second asked (IsAnswered asked) c.in-Ok-Reported.field-0 c.deliver.result
+      (λ delivery. comes_of words change Lay asked delivery c.requires.command is)
+      (record {
+        files = c.load_input.ensures.files_stay;
+        files_after = refl;
+        said = c.load_input.ensures.said_stays;
+        said_after = refl;
+        writes = c.load_input.ensures.writes_stay;
+        writes_after = refl;
+        loads_after = refl;
+      })
+      c.in-Ok-Reported.ensures.loaded c.in-Ok-Reported.report c.in-Ok-Reported.field-0-is c.deliver.ensures.loads_stay
+      c.deliver.ensures.delivered;
 }

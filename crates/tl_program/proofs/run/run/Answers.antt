@@ -1,16 +1,30 @@
 -- A run is complete by how it ends.
-use Rattle.std.proofs.Common.{◌≡◌, sym, subst, ℕ, List}
-use Rattle.tl_program.specs.Change.{Change}
+use Rattle.std.proofs.Common.{◌≡◌, sym, subst, ℕ, List, map, string_bytes}
+use Rattle.tl_program.specs.Change.{Change, between}
 use Rattle.tl_program.specs.Complete.{IsComplete, IsRefusedSo, IsAcceptedSo, IsRejectedSo, AcceptsLaid}
+use Rattle.tl_program.specs.Lowest.{FitsNone, StoresBounded, StoresLowest}
 use Rattle.tl_program.proofs.Accepting.{accepts_laid}
 use Rattle.tl_program.proofs.Checked.{accepted_so, rejected_so}
 use Rattle.tl_program.proofs.Ends.{complete, refused_so}
+use Rattle.tl_program.proofs.Lowest.{stores_lowest, stores_bounded, fits_none}
 use Rattle.tl_program.proofs.run.run.Goals as goal
 
 -- what holds of a status holds of its number
 numbered : (Says : List (List ℕ) → Change → ℕ → Type 0) (words : List (List ℕ)) (change : Change) (n status : ℕ) → n ≡ status →
     Says words change status → Says words change n
 numbered Says words change n status same = subst (Says words change) (sym same)
+
+pub returns-clause-lowest : goal.returns-clause-lowest
+returns-clause-lowest g c = numbered StoresLowest _ _ _ _ c.number.ensures (stores_lowest _ _ _ c.carry_out.ensures.ends)
+
+pub returns-clause-bounded : goal.returns-clause-bounded
+returns-clause-bounded g c = numbered StoresBounded _ _ _ _ c.number.ensures (stores_bounded _ _ _ c.carry_out.ensures.ends)
+
+pub returns-clause-narrow : goal.returns-clause-narrow
+returns-clause-narrow g c =
+    let words = map string_bytes c.args.words.now in
+    let change = between g.D.Desk c.args.desk.now c.carry_out.new.desk in
+    numbered FitsNone words change _ _ c.number.ensures (fits_none words change _ c.carry_out.ensures.ends)
 
 pub returns-clause-complete : goal.returns-clause-complete
 returns-clause-complete g c = numbered IsComplete _ _ _ _ c.number.ensures (complete _ _ _ c.carry_out.ensures.ends)

@@ -3,7 +3,7 @@ use Rattle.std.proofs.Common.{◌∙◌, List, length, sym, subst}
 use Rattle.tl_token.specs.declared.token.Token.{Token}
 use Rattle.tl_tree.specs.Readable.{AreReadable}
 use Rattle.tl_tree.proofs.ReadableTokens.{tokens_readable}
-use Rattle.tl_read.specs.Reading.{ReadsTokens}
+use Rattle.tl_read.specs.inner.Steps.{ReadsTokens}
 use Rattle.tl_read.proofs.Readings.{found_alike, bytes_refused_alike, bytes_alike}
 use Rattle.tl_read.proofs.reading.read_html.Goals as goal
 

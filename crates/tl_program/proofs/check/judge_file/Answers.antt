@@ -5,18 +5,17 @@ use Rattle.tl_base.specs.declared.limits.TheConstants.{MAX_CERTIFICATE_BYTES}
 use Rattle.tl_base.specs.Desk.{IsReadFrom, Rose}
 use Rattle.tl_program.specs.declared.report.Report.TheVariants as reports
 use Rattle.tl_program.specs.Checks.{IsJudged}
-use Rattle.tl_program.proofs.Checking.{table_checked}
-use Rattle.tl_program.proofs.run.check_table.Goals as goal
+use Rattle.tl_program.proofs.Checking.{judged_file}
+use Rattle.tl_program.proofs.check.judge_file.Goals as goal
 
 pub returns-clause-report : goal.returns-clause-report
 returns-clause-report g c =
-    table_checked (λ report. (report ≡ reports.ReadFault) × Rose (g.D.Desk.load_faults c.args.desk.now)
-    (g.D.Desk.load_faults c.load.new.desk))
-    c.args.task.now c.args.table.now (g.D.Desk.files c.args.desk.now)
-    c.args.name.now c.in-Some.text c.judge.result c.in-Ok.ensures.within
+    let files = g.D.Desk.files c.args.desk.now in
+    judged_file (λ report. (report ≡ reports.ReadFault) × Rose (g.D.Desk.load_faults c.args.desk.now)
+    (g.D.Desk.load_faults c.load.new.desk)) c.args.task.now c.args.table.now files c.args.name.now c.in-Some.text c.judge.result
     (subst (λ (found : Option (List ℕ)). IfSome found (λ bytes. length bytes ≤ MAX_CERTIFICATE_BYTES + 1))
     c.in-Some.is c.in_ok-text.ensures.short)
-    (subst (λ (found : Option (List ℕ)). IfSome found (λ bytes. IfSome (g.D.Desk.files c.args.desk.now)
+    (subst (λ (found : Option (List ℕ)). IfSome found (λ bytes. IfSome files
     (λ held. IsReadFrom held c.args.name.now MAX_CERTIFICATE_BYTES bytes))) c.in-Some.is c.in_ok-text.ensures.read)
     (subst (λ (text : List ℕ). IfOk c.judge.result (IsJudged c.args.task.now c.args.table.now text))
     c.as_slice.ensures c.judge.ensures)

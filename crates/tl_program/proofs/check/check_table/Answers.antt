@@ -1,0 +1,18 @@
+-- What a certificate comes to is printed.
+use Rattle.std.proofs.Common.{refl}
+use Rattle.tl_command.specs.Ask.{asked_by}
+use Rattle.tl_program.specs.Change.{between}
+use Rattle.tl_program.specs.Deliveries.{reported}
+use Rattle.tl_program.proofs.Checking.{checked_goes_on}
+use Rattle.tl_program.proofs.Storing.{delivered_from}
+use Rattle.tl_program.proofs.check.check_table.Goals as goal
+
+pub returns-in-Ok : goal.returns-in-Ok
+returns-in-Ok g c =
+    let change = between g.D.Desk c.args.desk.now c.deliver.new.desk in
+    let second = between g.D.Desk c.judge_file.new.desk c.deliver.new.desk in
+    checked_goes_on (asked_by c.args.ask.now) c.args.task.now c.args.table.now change c.judged_name-name.result.now
+    (g.D.Desk.load_faults c.judge_file.new.desk) c.in-Ok.report c.deliver.result c.requires.task c.judged_name-name.ensures
+    c.deliver.ensures.loads_stay c.in-Ok.ensures.report
+    (delivered_from c.deliver.result change second (reported c.in-Ok.report) c.judge_file.ensures.files_stay refl
+    c.judge_file.ensures.said_stays refl c.judge_file.ensures.writes_stay refl c.deliver.ensures.delivered)
