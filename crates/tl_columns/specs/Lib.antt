@@ -1,0 +1,4 @@
+pub mod Records
+pub mod Refused
+pub mod Columns
+pub mod inner
