@@ -412,3 +412,11 @@ fn one_class_is_closed_where_low_and_high_differ(rt: HostRuntime) -> Result<(), 
     }
     Ok(())
 }
+
+/// Takes what may be sent to other threads and shared between them.
+fn share<T: Send + Sync + Drop>(_value: Option<T>) {}
+
+#[test]
+fn a_checker_may_go_to_other_threads() {
+    share::<Checker>(None);
+}

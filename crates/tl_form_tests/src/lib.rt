@@ -8,3 +8,5 @@ mod nested_tests;
 mod problem_tests;
 #[cfg(test)]
 mod tests;
+#[cfg(test)]
+mod thread_tests;

@@ -541,17 +541,3 @@ fn each_error_has_its_message(rt: HostRuntime) -> Result<(), Fail> {
     let error = FormError::Grid(3, GridError::TooManyRows(2001));
     says(&rt, alloc, error, "table 3: 2001 rows in a table")
 }
-
-/// Takes what may be sent to other threads and shared between them.
-fn share<T: Send + Sync + Drop>(_value: Option<T>) {}
-
-#[test]
-fn tables_and_layouts_may_go_to_other_threads() {
-    share::<Table>(None);
-    share::<TableCell>(None);
-    share::<Content>(None);
-    share::<Kind>(None);
-    share::<Layout>(None);
-    share::<FormError>(None);
-    share::<List<Chain>>(None);
-}

@@ -8,7 +8,8 @@ ghost use Rattle.tl_problem.specs.Zones.{IsZone};
 use std::alloc::Global;
 use std::test::Fail;
 use tl_base::{Config, List, Steps, Style};
-use tl_problem::{Cell, Placed, Problem, Work, Zone};
+use tl_diff::{Arc, Matrix};
+use tl_problem::{Cell, Placed, Problem, Range, Span, Work, Zone};
 
 /// `aaa bbb` beside `cc dd ee`.
 const TWO_CELLS: &str = "0-1 0-1 = 3:2 7:1; 1-2 0-1 = 2:3 5:2 8:1";
@@ -545,4 +546,24 @@ fn a_part_of_sixty_columns_is_placed(rt: HostRuntime) -> Result<(), Fail> {
     let upper = upper_part(&whole, &problem, 59)?;
     assert_eq!(rt; size_in(&problem, &upper)?, (180, 2));
     Ok(())
+}
+
+/// Takes what may be sent to other threads and shared between them.
+fn share<T: Send + Sync + Drop>(_value: Option<T>) {}
+
+#[test]
+fn matrices_and_paths_may_go_to_other_threads() {
+    share::<Matrix>(None);
+    share::<Arc>(None);
+}
+
+#[test]
+fn problems_and_zones_may_go_to_other_threads() {
+    share::<Problem>(None);
+    share::<Cell>(None);
+    share::<Span>(None);
+    share::<Zone>(None);
+    share::<Range>(None);
+    share::<Placed>(None);
+    share::<Work>(None);
 }

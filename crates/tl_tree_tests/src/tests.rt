@@ -6,7 +6,7 @@ use std::test::Fail;
 use tl_base::{List, MAX_FILE_BYTES};
 use tl_text::{Atom, Para};
 use tl_token::{Token, tokens};
-use tl_tree::{Block, CellNode, GroupNode, TableNode, TreeError, tree};
+use tl_tree::{Block, CellNode, GroupNode, Part, TableNode, TreeError, tree};
 
 /// The words of a paragraph, and `/` for each break: `(a b / c)`.
 fn push_para(line: &mut String, para: &Para) -> Result<(), AllocError> {
@@ -494,5 +494,6 @@ fn a_tree_may_go_to_other_threads() {
     share::<GroupNode>(None);
     share::<CellNode>(None);
     share::<Block>(None);
+    share::<Part>(None);
     share::<TreeError>(None);
 }
