@@ -19,7 +19,7 @@ use Rattle.std.proofs.lemmas.Fmt.{
   decimal_is_IsNumeral,
   decimal_injective,
 }
-use Rattle.tl_base.specs.Number.{StandsAt}
+use Rattle.tl_base.specs.Number.{NumberStandsAt}
 use Rattle.std.proofs.lemmas.List.Sums.{take_while-cons}
 use Rattle.std.proofs.lemmas.List.Folds.{length-prefix_len}
 
@@ -85,9 +85,9 @@ take_while-digits (d ∷ ds) digits =
     rw (take_while-cons is_ascii_digit d ds) (run_more (is_ascii_digit d) d ds digits (take_while-digits ds))
 
 -- a number's decimal begins with itself
-pub decimal_stands : (n : ℕ) → n < 2 ^ 64 → StandsAt (decimal n) 0 n
+pub decimal_stands : (n : ℕ) → n < 2 ^ 64 → NumberStandsAt (decimal n) 0 n
 decimal_stands n small = (small, take_while-digits (decimal n) (own.from (decimal n) (decimal_is_IsNumeral n small).0.1))
 
 -- and no other number does
-pub stands_once : (bytes : List ℕ) (at m n : ℕ) → StandsAt bytes at m → StandsAt bytes at n → m ≡ n
+pub stands_once : (bytes : List ℕ) (at m n : ℕ) → NumberStandsAt bytes at m → NumberStandsAt bytes at n → m ≡ n
 stands_once bytes at m n first second = decimal_injective m n first.0 second.0 (sym first.1 ∙ second.1)

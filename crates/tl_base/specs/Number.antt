@@ -7,5 +7,5 @@ abbrev pub digit_run : List ℕ → ℕ → List ℕ
 digit_run bytes at = take_while is_ascii_digit (drop at bytes)
 
 -- the whole run of digits at the place is the canonical decimal of `n`, a number of 64 bits
-abbrev pub StandsAt : List ℕ → ℕ → ℕ → Type 0
-StandsAt bytes at n = (n < 2 ^ 64) × (digit_run bytes at ≡ decimal n)
+abbrev pub NumberStandsAt : List ℕ → ℕ → ℕ → Type 0
+NumberStandsAt bytes at n = (n < 2 ^ 64) × (digit_run bytes at ≡ decimal n)

@@ -1,7 +1,13 @@
--- How far the columns and rows of a table stand apart, and what its outer edge takes.
-use Rattle.std.specs.Prelude.{ℕ}
+-- How a style is spelled, how far the columns and rows of a table stand apart, and what its outer edge takes.
+use Rattle.std.specs.Prelude.{ℕ, List, codes}
 use Rattle.tl_base.specs.declared.style.Style.{Style}
 use Rattle.tl_base.specs.declared.style.Style.TheVariants.{Plain, Compact, Frame}
+
+-- how a style is spelled
+abbrev pub style_word : Style → List ℕ
+style_word Plain = codes "plain"
+style_word Compact = codes "compact"
+style_word Frame = codes "frame"
 
 -- the columns between two columns of the table
 abbrev pub gap_of : Style → ℕ

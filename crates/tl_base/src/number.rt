@@ -1,7 +1,7 @@
 //! Canonical decimal numbers, read and written.
 ghost use Rattle.std.specs.Prelude.{◌≡◌, ◌≢◌, true, ℕ, ◌+◌, ◌<◌, ◌^◌, ◌≤◌, ◌++◌, length, decimal, OnOk, OnErr, IfSome, IfNone, IsTrue, ◌↔◌, slice_index};
 ghost use Rattle.std.specs.Str.{all_ascii_digits};
-ghost use Rattle.tl_base.specs.Number.{digit_run, StandsAt};
+ghost use Rattle.tl_base.specs.Number.{digit_run, NumberStandsAt};
 
 use crate::List;
 use std::alloc::{AllocError, Global};
@@ -12,9 +12,9 @@ use std::alloc::{AllocError, Global};
 /// such number stands there.
 pub fn read_number(bytes: &[u8], at: usize) -> Option<(u64, usize)>
     requires { at ≤ length bytes.now }
-    ensures read { IfSome result (λ r. StandsAt bytes.now at r.0) }
+    ensures read { IfSome result (λ r. NumberStandsAt bytes.now at r.0) }
     ensures past { IfSome result (λ r. r.1 ≡ at + length (decimal r.0)) }
-    ensures refused { IfNone result ((n : ℕ) → ¬ (StandsAt bytes.now at n)) }
+    ensures refused { IfNone result ((n : ℕ) → ¬ (NumberStandsAt bytes.now at n)) }
 {
     let rest = &bytes[at..];
     let digits = &rest[..leading_digits(rest)];

@@ -4,7 +4,8 @@ use Rattle.std.proofs.Common.{◌≡◌, ℕ, zero, suc, ◌+◌, ◌<◌, ◌�
 use Rattle.std.proofs.Common.{inr, arith}
 use Rattle.std.specs.Prelude.{if◌then◌else◌}
 use Rattle.std.specs.List.{AllByRecursion}
-use Rattle.tl_demo.specs.Demo.{Cell, Drawn, drawn, next_state, words_from, cell_from, cell_before, cells_from, rows_from}
+use Rattle.tl_demo.specs.Demo.{DemoCell, Drawn, drawn_number, next_state, words_from, cell_from, cell_before, cells_from}
+use Rattle.tl_demo.specs.Demo.{rows_from}
 use Rattle.tl_demo.specs.Demo.{demo_rows}
 
 -- a word is of one to eight letters
@@ -12,14 +13,14 @@ abbrev pub IsWordLength : ℕ → Type 0
 IsWordLength letters = (1 ≤ letters) × (letters ≤ 8)
 
 -- a cell is over one column or two, and has one to six words
-pub record IsDrawnCell (cell : Cell) : Type 0 where
+pub record IsDrawnCell (cell : DemoCell) : Type 0 where
   pub colspan : (cell.colspan ≡ 1) ⊎ (cell.colspan ≡ 2)
   pub some : 1 ≤ length cell.words
   pub few : length cell.words ≤ 6
   pub words : AllByRecursion IsWordLength cell.words
 
 -- a cell is over a column at least
-pub some_columns : (cell : Cell) → IsDrawnCell cell → 1 ≤ cell.colspan
+pub some_columns : (cell : DemoCell) → IsDrawnCell cell → 1 ≤ cell.colspan
 some_columns cell is = by_colspan is.colspan
   where
     by_colspan : (cell.colspan ≡ 1) ⊎ (cell.colspan ≡ 2) → 1 ≤ cell.colspan
@@ -27,18 +28,18 @@ some_columns cell is = by_colspan is.colspan
     by_colspan (inr two) = omega (arith, two)
 
 -- how many columns the cells are over
-abbrev pub columns_of : List Cell → ℕ
+abbrev pub columns_of : List DemoCell → ℕ
 columns_of [] = 0
 columns_of (cell ∷ cells) = cell.colspan + columns_of cells
 
 -- the cells of a row are over six columns at most
-pub record IsDrawnRow (cells : List Cell) : Type 0 where
+pub record IsDrawnRow (cells : List DemoCell) : Type 0 where
   pub each : AllByRecursion IsDrawnCell cells
   pub narrow : columns_of cells ≤ 6
 
 -- what is drawn is below its bound
-drawn_below : (below state : ℕ) → 0 < below → drawn below state < below
-unfolding drawn
+drawn_below : (below state : ℕ) → 0 < below → drawn_number below state < below
+unfolding drawn_number
 drawn_below below state some = omega (arith, some)
 
 -- so many words are drawn, each of one to eight letters
@@ -53,16 +54,16 @@ words_drawn (suc count) state =
 -- a cell over one column or two
 cell_drawn : (colspan state : ℕ) → (colspan ≡ 1) ⊎ (colspan ≡ 2) → IsDrawnCell (cell_from colspan state).value
 cell_drawn colspan state is =
-    let words = words_drawn (1 + drawn 6 state) (next_state state) in
+    let words = words_drawn (1 + drawn_number 6 state) (next_state state) in
     let count = drawn_below 6 state (omega arith) in
     record { colspan = is; some = omega (arith, words.1); few = omega (arith, words.1, count); words = words.0 }
 
 -- cells over so many columns at most
-abbrev AreOver : ℕ → List Cell → Type 0
+abbrev AreOver : ℕ → List DemoCell → Type 0
 AreOver columns cells = AllByRecursion IsDrawnCell cells × (columns_of cells ≤ columns)
 
 -- a cell and those after it are over the columns of both
-before_over : (others_from : ℕ → Drawn (List Cell)) (colspan columns state : ℕ) → (colspan ≡ 1) ⊎ (colspan ≡ 2) →
+before_over : (others_from : ℕ → Drawn (List DemoCell)) (colspan columns state : ℕ) → (colspan ≡ 1) ⊎ (colspan ≡ 2) →
     ((s : ℕ) → AreOver columns (others_from s).value) → AreOver (colspan + columns) (cell_before others_from colspan state).value
 before_over others_from colspan columns state is others =
     let rest = others (cell_from colspan state).state in
@@ -86,7 +87,8 @@ unfolding cells_from
 cells_over zero state = (tt, omega arith)
 cells_over (suc zero) state = before_over (cells_from zero) 1 0 (next_state state) (inl refl) (λ s. cells_over zero s)
 cells_over (suc (suc columns)) state =
-    either_over columns (next_state state) (drawn 5 state == 0) (λ s. cells_over columns s) (λ s. cells_over (suc columns) s)
+    either_over columns (next_state state) (drawn_number 5 state == 0) (λ s. cells_over columns s)
+    (λ s. cells_over (suc columns) s)
 
 -- so many rows are drawn
 rows_drawn : (count state : ℕ) → AllByRecursion IsDrawnRow (rows_from count state).value ×

@@ -2,7 +2,7 @@
 --
 --   |aaaaa        |aaaaaaaa|aaa aaa       |..
 use Rattle.std.proofs.Common.{◌≡◌, ℕ, zero, suc, List, [], ◌∷◌, take, codes, refl}
-use Rattle.tl_demo.specs.Demo.{next_state, drawn, cells_from, rows_from, demo_rows, demo_text_of}
+use Rattle.tl_demo.specs.Demo.{next_state, drawn_number, cells_from, rows_from, demo_rows, demo_text_of}
 
 -- the states of so many draws
 abbrev states : ℕ → ℕ → List ℕ
@@ -21,9 +21,9 @@ three_cells : take 3 (cells_from 6 0).value ≡
       words =
           3 ∷ 3 ∷ [];
     } ∷ []
-unfolding next_state drawn cells_from
+unfolding next_state drawn_number cells_from
 three_cells = refl
 
 beginning : take 63 (demo_text_of 0) ≡ codes "<table><tr><td colspan=2>aaaaa<td>aaaaaaaa<td colspan=2>aaa aaa"
-unfolding next_state drawn cells_from rows_from demo_rows demo_text_of
+unfolding next_state drawn_number cells_from rows_from demo_rows demo_text_of
 beginning = refl

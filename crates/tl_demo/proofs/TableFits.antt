@@ -28,7 +28,7 @@ use Rattle.tl_table.proofs.LeastWidths.{room-equal}
 use Rattle.tl_table.proofs.AnyDepth.{fits-rolled}
 use Rattle.tl_table.proofs.Widths.{grid_of}
 use Rattle.tl_demo.specs.declared.laws.TheConstants.{DEMO_WIDTH}
-use Rattle.tl_demo.specs.Demo.{Cell, word_text}
+use Rattle.tl_demo.specs.Demo.{DemoCell, word_text}
 use Rattle.tl_demo.proofs.DrawnRows.{IsWordLength, IsDrawnCell}
 use Rattle.tl_demo.proofs.TableTree.{paragraph_in}
 use Rattle.tl_demo.proofs.TableFormed.{IsDrawnTableCell, table_cell, open_cell}
@@ -94,7 +94,7 @@ lines_count lengths = length-map (atoms_in lengths) (λ (unit : Atom). unit ∷ 
     Word ∙ length-map lengths word_text
 
 -- the paragraph of a cell fits wherever eight letters do
-paragraph_fits : (w : ℕ) (c : Cell) → 8 ≤ w → IsDrawnCell c → FitsParagraph w (paragraph_in c) (length c.words)
+paragraph_fits : (w : ℕ) (c : DemoCell) → 8 ≤ w → IsDrawnCell c → FitsParagraph w (paragraph_in c) (length c.words)
 paragraph_fits w c wide drawn = (
   lines_in c.words ∷ [],
   is_cutting c.words drawn.some,
@@ -110,11 +110,11 @@ abbrev FitsInner : Table → ℕ → ℕ → Layout → Type 0
 FitsInner nested w h inner = Fits nested Plain w h inner
 
 -- a line for each word of the cell
-abbrev share_of : Cell → Share
+abbrev share_of : DemoCell → Share
 share_of c = record { height = length c.words; inner = [] }
 
 -- a cell fits in eight columns and six lines
-cell_fits : (w h : ℕ) (c : Cell) (place : Place) → 8 ≤ w → 6 ≤ h → IsDrawnCell c →
+cell_fits : (w h : ℕ) (c : DemoCell) (place : Place) → 8 ≤ w → 6 ≤ h → IsDrawnCell c →
     FitsRoom FitsInner w h (out-TableCell (table_cell c place)) []
 cell_fits w h c place wide high drawn =
     subst (λ (o : OpenCell). FitsRoom FitsInner w h o []) (sym (out-roll-TableCell (open_cell c place))) (record {

@@ -38,7 +38,7 @@ use Rattle.tl_table.specs.Formed.{cells_of_group, cells_written, is_foot, lowere
 use Rattle.tl_table.specs.Sound.{place_of}
 use Rattle.tl_table.specs.Formed.{Writes, slot_number}
 use Rattle.tl_table.proofs.Formed.{made_table, as_many_cells}
-use Rattle.tl_demo.specs.Demo.{Cell}
+use Rattle.tl_demo.specs.Demo.{DemoCell}
 use Rattle.tl_demo.proofs.DrawnRows.{IsDrawnCell, IsDrawnRow}
 use Rattle.tl_demo.proofs.TableTree.{paragraph_in, cell_node, open_cell_node, open_group_node, open_table_node, table_node}
 use Rattle.tl_demo.proofs.TableGrid.{span_in, shape_in, has_grid}
@@ -103,7 +103,7 @@ sorted_by measure (x ∷ xs) =
 -- ---- the cells
 
 -- a cell of the table by its fields: one paragraph
-abbrev pub open_cell : Cell → Place → OpenCell
+abbrev pub open_cell : DemoCell → Place → OpenCell
 open_cell c place = record {
   kind = kinds.Plain;
   place = place;
@@ -112,17 +112,17 @@ open_cell c place = record {
       roll-Content (open_content.Para (paragraph_in c)) ∷ [];
 }
 
-abbrev pub table_cell : Cell → Place → TableCell
+abbrev pub table_cell : DemoCell → Place → TableCell
 table_cell c place = roll-TableCell (open_cell c place)
 
 -- the cells at their places
-abbrev placed_cells : List Cell → List Place → List TableCell
+abbrev placed_cells : List DemoCell → List Place → List TableCell
 placed_cells [] places = []
 placed_cells (c ∷ cells) [] = []
 placed_cells (c ∷ cells) (place ∷ places) = table_cell c place ∷ placed_cells cells places
 
 -- there are as many cells as places
-placed_length : (cells : List Cell) (places : List Place) → length cells ≡ length places →
+placed_length : (cells : List DemoCell) (places : List Place) → length cells ≡ length places →
     length (placed_cells cells places) ≡ length places
 placed_length [] places same = same
 placed_length (c ∷ cells) [] same = absurd (omega (arith, same))
@@ -130,7 +130,7 @@ placed_length (c ∷ cells) (place ∷ places) same = let rest = placed_length c
     omega (arith, rest)
 
 -- each cell is at its place
-places_are : (cells : List Cell) (places : List Place) → length cells ≡ length places →
+places_are : (cells : List DemoCell) (places : List Place) → length cells ≡ length places →
     map place_of (placed_cells cells places) ≡ places
 places_are [] [] same = refl
 places_are [] (place ∷ places) same = absurd (omega (arith, same))
@@ -141,10 +141,10 @@ places_are (c ∷ cells) (place ∷ places) same =
 
 -- a cell of the table: one that was drawn, at some place
 abbrev pub IsDrawnTableCell : TableCell → Type 0
-IsDrawnTableCell cell = (c : Cell) × (place : Place) × IsDrawnCell c × (cell ≡ table_cell c place)
+IsDrawnTableCell cell = (c : DemoCell) × (place : Place) × IsDrawnCell c × (cell ≡ table_cell c place)
 
 -- each of them was drawn
-placed_drawn : (cells : List Cell) (places : List Place) → AllByRecursion IsDrawnCell cells →
+placed_drawn : (cells : List DemoCell) (places : List Place) → AllByRecursion IsDrawnCell cells →
     AllByRecursion IsDrawnTableCell (placed_cells cells places)
 placed_drawn [] places all = tt
 placed_drawn (c ∷ cells) [] all = tt
@@ -166,7 +166,7 @@ block_becomes units =
     (sym (out-roll-Content (open_content.Para units))) refl)
 
 -- a cell of the tree becomes the cell of the table, wherever that lies
-cell_becomes : (c : Cell) (place : Place) → BecomesCell Forms Words (out-CellNode (cell_node c))
+cell_becomes : (c : DemoCell) (place : Place) → BecomesCell Forms Words (out-CellNode (cell_node c))
     (out-TableCell (table_cell c place))
 cell_becomes c place =
     subst (λ (n : OpenCellNode). BecomesCell Forms Words n (out-TableCell (table_cell c place)))
@@ -174,7 +174,7 @@ cell_becomes c place =
     (subst (λ (d : OpenCell). BecomesCell Forms Words (open_cell_node c) d) (sym (out-roll-TableCell (open_cell c place)))
     (record { kind = refl; least = refl; blocks = (block_becomes (paragraph_in c), tt) }))
 
-cells_become : (cells : List Cell) (places : List Place) → length cells ≡ length places →
+cells_become : (cells : List DemoCell) (places : List Place) → length cells ≡ length places →
     BecomeCells Forms Words (map cell_node cells) (placed_cells cells places)
 cells_become [] places same = tt
 cells_become (c ∷ cells) [] same = absurd (omega (arith, same))
@@ -183,11 +183,11 @@ cells_become (c ∷ cells) (place ∷ places) same = (cell_becomes c place, cell
 -- ---- what the grid of the tree depends on
 
 -- the cells of all rows
-abbrev cells_in_order : List (List Cell) → List Cell
-cells_in_order rows = flat_map (λ (cells : List Cell). cells) rows
+abbrev cells_in_order : List (List DemoCell) → List DemoCell
+cells_in_order rows = flat_map (λ (cells : List DemoCell). cells) rows
 
 -- the cells of the tree are those of the rows, in their order
-nodes_in_order : (rows : List (List Cell)) → flat_map (λ (nodes : List CellNode). nodes)
+nodes_in_order : (rows : List (List DemoCell)) → flat_map (λ (nodes : List CellNode). nodes)
     (map (map cell_node) rows) ≡ map cell_node (cells_in_order rows)
 nodes_in_order [] = refl
 nodes_in_order (cells ∷ rows) =
@@ -195,19 +195,19 @@ nodes_in_order (cells ∷ rows) =
     (map-append cell_node cells (cells_in_order rows))
 
 -- each of them was drawn
-all_in_order : (rows : List (List Cell)) → AllByRecursion IsDrawnRow rows → AllByRecursion IsDrawnCell (cells_in_order rows)
+all_in_order : (rows : List (List DemoCell)) → AllByRecursion IsDrawnRow rows → AllByRecursion IsDrawnCell (cells_in_order rows)
 all_in_order [] all = tt
 all_in_order (cells ∷ rows) all = AllByRecursion-append IsDrawnCell cells (cells_in_order rows) (all.0).each
     (all_in_order rows all.1)
 
 -- the cells of the tree as they are written
-written_are : (rows : List (List Cell)) → cells_written (open_table_node rows) ≡ map cell_node (cells_in_order rows)
+written_are : (rows : List (List DemoCell)) → cells_written (open_table_node rows) ≡ map cell_node (cells_in_order rows)
 written_are rows =
     append-nil (cells_of_group (out-GroupNode (roll-GroupNode (open_group_node rows))))
     ∙ ap (λ (g : OpenGroup). cells_of_group g) (out-roll-GroupNode (open_group_node rows)) ∙ nodes_in_order rows
 
 -- the spans of the tree are those of the rows
-row_spans_are : (cells : List Cell) → map span_of (map cell_node cells) ≡ map span_in cells
+row_spans_are : (cells : List DemoCell) → map span_of (map cell_node cells) ≡ map span_in cells
 row_spans_are [] = refl
 row_spans_are (c ∷ cells) =
     ap (λ (n : OpenCellNode). let s : SpanOf = record { colspan = n.colspan; rowspan = n.rowspan } in
@@ -215,14 +215,14 @@ row_spans_are (c ∷ cells) =
     (out-roll-CellNode (open_cell_node c))
     ∙ ap (λ (ss : List SpanOf). span_in c ∷ ss) (row_spans_are cells)
 
-spans_are : (rows : List (List Cell)) → map (map span_of) (map (map cell_node) rows) ≡ map (map span_in) rows
+spans_are : (rows : List (List DemoCell)) → map (map span_of) (map (map cell_node) rows) ≡ map (map span_in) rows
 spans_are [] = refl
 spans_are (cells ∷ rows) =
     ap (λ (ss : List SpanOf). ss ∷ map (map span_of) (map (map cell_node) rows)) (row_spans_are cells)
     ∙ ap (λ (sss : List (List SpanOf)). map span_in cells ∷ sss) (spans_are rows)
 
 -- what the grid of the tree depends on
-shape_is : (rows : List (List Cell)) → shape_of (open_table_node rows) ≡ shape_in rows
+shape_is : (rows : List (List DemoCell)) → shape_of (open_table_node rows) ≡ shape_in rows
 shape_is rows =
     let with : List (List SpanOf) → Shape = λ spans. record {
       columns = 0;
@@ -240,12 +240,12 @@ shape_is rows =
 -- ---- the table
 
 -- the tree of the rows becomes this table, of at most six columns, whose cells were drawn
-pub record IsFormedTable (rows : List (List Cell)) (table : Table) : Type 0 where
+pub record IsFormedTable (rows : List (List DemoCell)) (table : Table) : Type 0 where
   pub becomes : Becomes Words (table_node rows) table
   pub narrow : (out-Table table).cols ≤ 6
   pub cells : All IsDrawnTableCell (out-Table table).cells
 
-module _ (rows : List (List Cell)) (all : AllByRecursion IsDrawnRow rows) (few : length rows ≤ MAX_ROWS)
+module _ (rows : List (List DemoCell)) (all : AllByRecursion IsDrawnRow rows) (few : length rows ≤ MAX_ROWS)
     (sound : AreSound (outline (table_node rows))) where
   node : OpenNode
   node = out-TableNode (table_node rows)
@@ -267,7 +267,7 @@ module _ (rows : List (List Cell)) (all : AllByRecursion IsDrawnRow rows) (few :
   abbrev places : List Place
   places = map (lowered 0) grid.places
 
-  abbrev cells : List Cell
+  abbrev cells : List DemoCell
   cells = cells_in_order rows
 
   nodes_are : cells_written node ≡ map cell_node cells

@@ -16,7 +16,8 @@ use Rattle.tl_grid.specs.declared.shape.ShapeGroup.{ShapeGroup}
 use Rattle.tl_grid.specs.declared.shape.SpanOf.{SpanOf}
 use Rattle.tl_grid.specs.Dropping.{count_below, keeps_column, keeps_row}
 use Rattle.tl_grid.specs.Form.{HasGrid, LacksGrid}
-use Rattle.tl_grid.specs.Forming.{Forming, covers, has_cell, first_free, cell_at, with_cell, form_cells, grown_into, begin_row}
+use Rattle.tl_grid.specs.Forming.{Forming, covers, has_cell, first_free, anchored_cell, with_cell, form_cells, grown_into}
+use Rattle.tl_grid.specs.Forming.{begin_row}
 use Rattle.tl_grid.specs.Forming.{form_row, form_rows}
 use Rattle.tl_grid.specs.Forming.{at_group_end, no_cells, formed, cells_in}
 use Rattle.tl_grid.specs.Forming as forming
@@ -27,22 +28,22 @@ use Rattle.tl_grid.proofs.Chains.{filter_yes, filter_no}
 use Rattle.tl_grid.proofs.Groups.{quiet_on}
 use Rattle.tl_grid.proofs.Passing.{some, any_is_some}
 use Rattle.tl_grid.proofs.Results.{decided}
-use Rattle.tl_demo.specs.Demo.{Cell}
+use Rattle.tl_demo.specs.Demo.{DemoCell}
 use Rattle.tl_demo.proofs.DrawnRows.{IsDrawnCell, IsDrawnRow, columns_of, some_columns}
 
 -- the spans of a cell
-abbrev pub span_in : Cell → SpanOf
+abbrev pub span_in : DemoCell → SpanOf
 span_in c = record { colspan = c.colspan; rowspan = 1 }
 
 -- the rows in one group, with no columns of their own
-abbrev pub shape_in : List (List Cell) → Shape
+abbrev pub shape_in : List (List DemoCell) → Shape
 shape_in rows = record { columns = 0; groups = record { foot = false; rows = map (map span_in) rows } ∷ [] }
 
 -- ---- a cell one row high
 
 -- which slots a cell of one row covers
 covers_only : (number x y colspan x' y' : ℕ) →
-    covers x' y' (cell_at number x y (record { colspan = colspan; rowspan = 1 })) ≡ true →
+    covers x' y' (anchored_cell number x y (record { colspan = colspan; rowspan = 1 })) ≡ true →
     (x ≤ x') × (x' < x + colspan) × (y' ≡ y)
 covers_only number x y colspan x' y' is =
     let both = and_parts (leb x x' && ltb x' (x + colspan)) (leb y y' && ltb y' (y + 1)) is in
@@ -54,13 +55,13 @@ covers_only number x y colspan x' y' is =
 
 -- a cell of one row covers no slot beside its columns or outside its row
 covers_none : (number x y colspan x' y' : ℕ) → ((x ≤ x') × (x' < x + colspan) × (y' ≡ y) → ⊥) →
-    covers x' y' (cell_at number x y (record { colspan = colspan; rowspan = 1 })) ≡ false
+    covers x' y' (anchored_cell number x y (record { colspan = colspan; rowspan = 1 })) ≡ false
 covers_none number x y colspan x' y' not =
-    false_from_ne_true (covers x' y' (cell_at number x y (record { colspan = colspan; rowspan = 1 })))
+    false_from_ne_true (covers x' y' (anchored_cell number x y (record { colspan = colspan; rowspan = 1 })))
     (λ is. not (covers_only number x y colspan x' y' is))
 
 -- a cell of one row covers no row below its own
-one_row_quiet : (number x y colspan : ℕ) → IsQuiet (y + 1) (cell_at number x y (record { colspan = colspan; rowspan = 1 }))
+one_row_quiet : (number x y colspan : ℕ) → IsQuiet (y + 1) (anchored_cell number x y (record { colspan = colspan; rowspan = 1 }))
 one_row_quiet number x y colspan = record {
   still = refl;
   above = λ row below. and_right (leb y row) (ltb row (y + 1)) (false_from_ne_true (ltb row (y + 1))
@@ -83,21 +84,21 @@ all_push P [] x all is = (is, tt)
 all_push P (y ∷ xs) x all is = (all.0, all_push P xs x all.1 is)
 
 -- a cell of that colspan, one row high
-abbrev cell_with : ℕ → ℕ → ℕ → ℕ → forming.Cell
-cell_with number x y colspan = cell_at number x y (record { colspan = colspan; rowspan = 1 })
+abbrev cell_with : ℕ → ℕ → ℕ → ℕ → forming.FormedCell
+cell_with number x y colspan = anchored_cell number x y (record { colspan = colspan; rowspan = 1 })
 
 -- a slot has one cell more where the new cell covers it
-over_pushed : (x' y' : ℕ) (cells : List forming.Cell) (c : forming.Cell) →
+over_pushed : (x' y' : ℕ) (cells : List forming.FormedCell) (c : forming.FormedCell) →
     length (numbers_over x' y' (cells ++ c ∷ [])) ≡ length (numbers_over x' y' cells) + length (numbers_over x' y' (c ∷ []))
 over_pushed x' y' cells c = ap length (numbers-append x' y' cells (c ∷ [])) ∙ length-append (numbers_over x' y' cells)
     (numbers_over x' y' (c ∷ []))
 
 -- a cell that does not cover the slot adds none to it
-over_none : (x' y' : ℕ) (c : forming.Cell) → covers x' y' c ≡ false → numbers_over x' y' (c ∷ []) ≡ []
+over_none : (x' y' : ℕ) (c : forming.FormedCell) → covers x' y' c ≡ false → numbers_over x' y' (c ∷ []) ≡ []
 over_none x' y' c not = ap (map number_of) (filter_no (covers x' y') c [] not)
 
 -- a cell adds at most one
-over_one : (x' y' : ℕ) (c : forming.Cell) → length (numbers_over x' y' (c ∷ [])) ≤ 1
+over_one : (x' y' : ℕ) (c : forming.FormedCell) → length (numbers_over x' y' (c ∷ [])) ≤ 1
 over_one x' y' c = by_test (cases_Bool (covers x' y' c))
   where
     by_test : (covers x' y' c ≡ true) ⊎ (covers x' y' c ≡ false) → length (numbers_over x' y' (c ∷ [])) ≤ 1
@@ -109,11 +110,11 @@ over_one x' y' c = by_test (cases_Bool (covers x' y' c))
         omega (arith, none)
 
 -- a cell in free columns shares no slot
-pushed_one : (number y x colspan : ℕ) (cells : List forming.Cell) → HasNoOverlap cells →
+pushed_one : (number y x colspan : ℕ) (cells : List forming.FormedCell) → HasNoOverlap cells →
     ((x' : ℕ) → x ≤ x' → numbers_over x' y cells ≡ []) → HasNoOverlap (cells ++ cell_with number x y colspan ∷ [])
 pushed_one number y x colspan cells one free x' y' = by_test (cases_Bool (covers x' y' c))
   where
-    c : forming.Cell
+    c : forming.FormedCell
     c = cell_with number x y colspan
 
     by_test : (covers x' y' c ≡ true) ⊎ (covers x' y' c ≡ false) → length (numbers_over x' y' (cells ++ c ∷ [])) ≤ 1
@@ -138,7 +139,7 @@ begins_at y x s state =
 with_one : (number y x colspan : ℕ) (s : Forming) → x + colspan ≤ 6 → RowAt y x s →
     RowAt y (x + colspan) (with_cell number x (record { colspan = colspan; rowspan = 1 }) s)
 with_one number y x colspan s narrow state =
-    let cells : List forming.Cell = s.cells ++ cell_with number x y colspan ∷ [] in
+    let cells : List forming.FormedCell = s.cells ++ cell_with number x y colspan ∷ [] in
     let same : s.cells ++ cell_with number x s.row colspan ∷ [] ≡ cells =
     ap (λ row. s.cells ++ cell_with number x row colspan ∷ []) state.row in
     record {
@@ -156,7 +157,7 @@ with_one number y x colspan s narrow state =
     }
 
 -- all cells of the row are formed
-cells_form : (cells : List Cell) (number y x : ℕ) (s : Forming) → x + columns_of cells ≤ 6 → RowAt y x s →
+cells_form : (cells : List DemoCell) (number y x : ℕ) (s : Forming) → x + columns_of cells ≤ 6 → RowAt y x s →
     (end : ℕ) × RowAt y end (form_cells number x (map span_in cells) s)
 cells_form [] number y x s narrow state = (x, state)
 cells_form (c ∷ cells) number y x s narrow state =
@@ -177,13 +178,14 @@ record RowsAt (y : ℕ) (s : Forming) : Type 0 where
   one : HasNoOverlap s.cells
 
 -- a cell that does not grow stays as it is
-grown_same : (y z : ℕ) (cells : List forming.Cell) → AllQuiet z cells → map (grown_into y) cells ≡ cells
+grown_same : (y z : ℕ) (cells : List forming.FormedCell) → AllQuiet z cells → map (grown_into y) cells ≡ cells
 grown_same y z [] quiet = refl
 grown_same y z (c ∷ cells) quiet =
-    ap (λ (d : forming.Cell). d ∷ map (grown_into y) cells) (one c (quiet.0).still) ∙ ap (λ (ds : List forming.Cell). c ∷ ds)
+    ap (λ (d : forming.FormedCell). d ∷ map (grown_into y) cells) (one c (quiet.0).still)
+    ∙ ap (λ (ds : List forming.FormedCell). c ∷ ds)
     (grown_same y z cells quiet.1)
   where
-    one : (d : forming.Cell) → d.grows ≡ false → grown_into y d ≡ d
+    one : (d : forming.FormedCell) → d.grows ≡ false → grown_into y d ≡ d
     one d still = λ i. record {
       number = d.number;
       left = d.left;
@@ -194,13 +196,13 @@ grown_same y z (c ∷ cells) quiet =
     }
 
 -- nor does the end of the group change it
-ended_same : (y h z : ℕ) (cells : List forming.Cell) → AllQuiet z cells → map (at_group_end y h) cells ≡ cells
+ended_same : (y h z : ℕ) (cells : List forming.FormedCell) → AllQuiet z cells → map (at_group_end y h) cells ≡ cells
 ended_same y h z [] quiet = refl
 ended_same y h z (c ∷ cells) quiet =
-    ap (λ (d : forming.Cell). d ∷ map (at_group_end y h) cells) (one c (quiet.0).still)
-    ∙ ap (λ (ds : List forming.Cell). c ∷ ds) (ended_same y h z cells quiet.1)
+    ap (λ (d : forming.FormedCell). d ∷ map (at_group_end y h) cells) (one c (quiet.0).still)
+    ∙ ap (λ (ds : List forming.FormedCell). c ∷ ds) (ended_same y h z cells quiet.1)
   where
-    one : (d : forming.Cell) → d.grows ≡ false → at_group_end y h d ≡ d
+    one : (d : forming.FormedCell) → d.grows ≡ false → at_group_end y h d ≡ d
     one d still = λ i. record {
       number = d.number;
       left = d.left;
@@ -224,7 +226,7 @@ row_begins y s state =
     }
 
 -- a row is formed
-row_forms : (cells : List Cell) (number y : ℕ) (s : Forming) → columns_of cells ≤ 6 → RowsAt y s →
+row_forms : (cells : List DemoCell) (number y : ℕ) (s : Forming) → columns_of cells ≤ 6 → RowsAt y s →
     RowsAt (y + 1) (form_row number (map span_in cells) s)
 row_forms cells number y s narrow state =
     let made = cells_form cells number y 0 (begin_row s) (omega (arith, narrow)) (row_begins y s state) in
@@ -237,7 +239,7 @@ row_forms cells number y s narrow state =
     }
 
 -- all rows are formed
-rows_form : (rows : List (List Cell)) (number y : ℕ) (s : Forming) → AllByRecursion IsDrawnRow rows → RowsAt y s →
+rows_form : (rows : List (List DemoCell)) (number y : ℕ) (s : Forming) → AllByRecursion IsDrawnRow rows → RowsAt y s →
     RowsAt (y + length rows) (form_rows number (map (map span_in) rows) s)
 rows_form [] number y s all state = subst (λ n. RowsAt n s) (let e : y ≡ y + 0 = omega arith in e) state
 rows_form (cells ∷ rows) number y s all state =
@@ -254,7 +256,7 @@ record IsFormed (rows : ℕ) (s : Forming) : Type 0 where
   one : HasNoOverlap s.cells
 
 -- the rows are formed
-shape_formed : (rows : List (List Cell)) → AllByRecursion IsDrawnRow rows → IsFormed (length rows) (formed (shape_in rows))
+shape_formed : (rows : List (List DemoCell)) → AllByRecursion IsDrawnRow rows → IsFormed (length rows) (formed (shape_in rows))
 shape_formed rows all =
     let start : RowsAt 0 (no_cells 0) = record {
       row = refl;
@@ -282,12 +284,12 @@ count_below-le keeps (suc n) = by_test (keeps n) (count_below-le keeps n)
     by_test false le = omega (arith, le)
 
 -- a row has no more cells than columns
-few_in_row : (cells : List Cell) → AllByRecursion IsDrawnCell cells → length (map span_in cells) ≤ columns_of cells
+few_in_row : (cells : List DemoCell) → AllByRecursion IsDrawnCell cells → length (map span_in cells) ≤ columns_of cells
 few_in_row [] all = omega arith
 few_in_row (c ∷ cells) all = omega (arith, some_columns c all.0, few_in_row cells all.1)
 
 -- six cells at most in each row
-few_cells : (rows : List (List Cell)) → AllByRecursion IsDrawnRow rows → cells_in (map (map span_in) rows) ≤ 6 * length rows
+few_cells : (rows : List (List DemoCell)) → AllByRecursion IsDrawnRow rows → cells_in (map (map span_in) rows) ≤ 6 * length rows
 few_cells [] all = omega arith
 few_cells (cells ∷ rows) all =
     omega (
@@ -299,7 +301,7 @@ few_cells (cells ∷ rows) all =
     )
 
 -- the spans are in their ranges
-row_spans : (cells : List Cell) → AllByRecursion IsDrawnCell cells → AllByRecursion IsSpan (map span_in cells)
+row_spans : (cells : List DemoCell) → AllByRecursion IsDrawnCell cells → AllByRecursion IsSpan (map span_in cells)
 row_spans [] all = tt
 row_spans (c ∷ cells) all = ((some_columns c all.0, by_colspan (all.0).colspan, omega arith), row_spans cells all.1)
   where
@@ -307,13 +309,13 @@ row_spans (c ∷ cells) all = ((some_columns c all.0, by_colspan (all.0).colspan
     by_colspan (inl one) = omega (arith, one)
     by_colspan (inr two) = omega (arith, two)
 
-all_spans : (rows : List (List Cell)) → AllByRecursion IsDrawnRow rows →
+all_spans : (rows : List (List DemoCell)) → AllByRecursion IsDrawnRow rows →
     AllByRecursion (AllByRecursion IsSpan) (map (map span_in) rows)
 all_spans [] all = tt
 all_spans (cells ∷ rows) all = (row_spans cells (all.0).each, all_spans rows all.1)
 
 -- no grid of drawn rows is refused
-not_refused : (rows : List (List Cell)) → AllByRecursion IsDrawnRow rows → length rows ≤ MAX_ROWS → (error : GridError) →
+not_refused : (rows : List (List DemoCell)) → AllByRecursion IsDrawnRow rows → length rows ≤ MAX_ROWS → (error : GridError) →
     LacksGrid (shape_in rows) error → ⊥
 not_refused rows all few (Memory error) refused = refused
 not_refused rows all few (TooManyCells count) refused =
@@ -346,7 +348,7 @@ not_refused rows all few (TooManyRows count) refused =
     )
 
 -- the rows have a grid, of at most six columns
-pub has_grid : (rows : List (List Cell)) → AllByRecursion IsDrawnRow rows → length rows ≤ MAX_ROWS →
+pub has_grid : (rows : List (List DemoCell)) → AllByRecursion IsDrawnRow rows → length rows ≤ MAX_ROWS →
     (grid : Grid) × (HasGrid (shape_in rows) grid × (grid.cols ≤ 6))
 has_grid rows all few = from (decided (shape_in rows) (all_spans rows all, tt))
   where

@@ -24,7 +24,7 @@ use Rattle.tl_html.specs.Html.{escaped}
 use Rattle.tl_base.specs.Text.{is_ascii}
 use Rattle.tl_html.proofs.Items.{Item, item_text, items_text, item_kinds, IsItem, IsTagText, AreFine, kind_of, items_spelt}
 use Rattle.tl_html.proofs.PageTags.{numbers, plain_start, table_start, table_end, row_start}
-use Rattle.tl_demo.specs.Demo.{Cell, word_text, words_text, tag_text, cell_text, row_text, rows_text, demo_rows, demo_text_of}
+use Rattle.tl_demo.specs.Demo.{DemoCell, word_text, words_text, tag_text, cell_text, row_text, rows_text, demo_rows, demo_text_of}
 use Rattle.tl_demo.proofs.DrawnRows.{IsWordLength, IsDrawnCell, IsDrawnRow, columns_of, some_columns, demo_rows_drawn}
 
 -- ---- the letters of words
@@ -102,7 +102,7 @@ tag_is colspan (inr is) = subst (λ n. IsTagText (tag_text n) false elements.Td 
 -- ---- items
 
 -- a cell is its tag and its words; no end tag stands after them
-abbrev pub cell_item : Cell → Item
+abbrev pub cell_item : DemoCell → Item
 cell_item cell = record {
   mark = tag_text cell.colspan;
   is_end = false;
@@ -114,7 +114,7 @@ cell_item cell = record {
 abbrev pub row_item : Item
 row_item = record { mark = codes "<tr>"; is_end = false; element = elements.Tr; spans = no_spans; text = [] }
 
-abbrev pub row_items : List Cell → List Item
+abbrev pub row_items : List DemoCell → List Item
 row_items cells = row_item ∷ map cell_item cells
 
 abbrev pub first_item : Item
@@ -124,22 +124,22 @@ abbrev pub last_item : Item
 last_item = record { mark = codes "</table>"; is_end = true; element = elements.Table; spans = no_spans; text = [] }
 
 -- the tags of a table
-abbrev pub table_items : List (List Cell) → List Item
+abbrev pub table_items : List (List DemoCell) → List Item
 table_items rows = first_item ∷ (flat_map row_items rows ++ last_item ∷ [])
 
-cells_are : (cells : List Cell) → AllByRecursion IsDrawnCell cells → AllByRecursion IsItem (map cell_item cells)
+cells_are : (cells : List DemoCell) → AllByRecursion IsDrawnCell cells → AllByRecursion IsItem (map cell_item cells)
 cells_are [] all = tt
 cells_are (cell ∷ cells) all =
     ((tag_is cell.colspan (all.0).colspan, fine (words_text cell.words) (words_letters cell.words)), cells_are cells all.1)
 
-rows_are : (rows : List (List Cell)) → AllByRecursion IsDrawnRow rows → AllByRecursion IsItem (flat_map row_items rows)
+rows_are : (rows : List (List DemoCell)) → AllByRecursion IsDrawnRow rows → AllByRecursion IsItem (flat_map row_items rows)
 rows_are [] all = tt
 rows_are (cells ∷ rows) all =
     AllByRecursion-append IsItem (row_items cells) (flat_map row_items rows) ((row_start, tt), cells_are cells (all.0).each)
     (rows_are rows all.1)
 
 -- the items of a table are tags with fine texts
-items_are : (rows : List (List Cell)) → AllByRecursion IsDrawnRow rows → AllByRecursion IsItem (table_items rows)
+items_are : (rows : List (List DemoCell)) → AllByRecursion IsDrawnRow rows → AllByRecursion IsItem (table_items rows)
 items_are rows all = (
   (table_start, tt),
   AllByRecursion-append IsItem (flat_map row_items rows) (last_item ∷ [])
@@ -149,14 +149,14 @@ items_are rows all = (
 -- ---- their text
 
 -- the text of cells is that of their tags
-cells_written : (cells : List Cell) → flat_map cell_text cells ≡ items_text (map cell_item cells)
+cells_written : (cells : List DemoCell) → flat_map cell_text cells ≡ items_text (map cell_item cells)
 cells_written [] = refl
 cells_written (cell ∷ cells) =
     ap (λ (cs : List ℕ). tag_text cell.colspan ++ cs ++ flat_map cell_text cells)
     (sym (unescaped (words_text cell.words) (words_letters cell.words)))
     ∙ ap (λ (cs : List ℕ). item_text (cell_item cell) ++ cs) (cells_written cells)
 
-rows_written : (rows : List (List Cell)) → flat_map row_text rows ≡ items_text (flat_map row_items rows)
+rows_written : (rows : List (List DemoCell)) → flat_map row_text rows ≡ items_text (flat_map row_items rows)
 rows_written [] = refl
 rows_written (cells ∷ rows) =
     ap (λ (cs : List ℕ). (codes "<tr>" ++ cs) ++ flat_map row_text rows) (cells_written cells)
@@ -164,7 +164,7 @@ rows_written (cells ∷ rows) =
     ∙ sym (flat_map-append item_text (row_items cells) (flat_map row_items rows))
 
 -- the text of a table is that of its tags
-text_written : (rows : List (List Cell)) → rows_text rows ≡ items_text (table_items rows)
+text_written : (rows : List (List DemoCell)) → rows_text rows ≡ items_text (table_items rows)
 text_written rows =
     ap (λ (cs : List ℕ). codes "<table>" ++ cs ++ codes "</table>") (rows_written rows)
     ∙ ap (λ (cs : List ℕ). codes "<table>" ++ cs) (sym (flat_map-append item_text (flat_map row_items rows) (last_item ∷ [])))
@@ -196,7 +196,7 @@ tag_ascii colspan = by_test (colspan == 2)
     by_test true = recursion_from_test (codes "<td colspan=2>") refl
     by_test false = recursion_from_test (codes "<td>") refl
 
-cells_ascii : (cells : List Cell) → AllByRecursion IsByte (flat_map cell_text cells)
+cells_ascii : (cells : List DemoCell) → AllByRecursion IsByte (flat_map cell_text cells)
 cells_ascii [] = tt
 cells_ascii (cell ∷ cells) =
     AllByRecursion-append IsByte (cell_text cell) (flat_map cell_text cells)
@@ -204,7 +204,7 @@ cells_ascii (cell ∷ cells) =
     (letters_ascii (words_text cell.words) (words_letters cell.words)))
     (cells_ascii cells)
 
-rows_ascii : (rows : List (List Cell)) → AllByRecursion IsByte (flat_map row_text rows)
+rows_ascii : (rows : List (List DemoCell)) → AllByRecursion IsByte (flat_map row_text rows)
 rows_ascii [] = tt
 rows_ascii (cells ∷ rows) =
     AllByRecursion-append IsByte (row_text cells) (flat_map row_text rows)
@@ -212,7 +212,7 @@ rows_ascii (cells ∷ rows) =
     (cells_ascii cells)) (rows_ascii rows)
 
 -- the text of a table is ASCII
-text_ascii : (rows : List (List Cell)) → IsAscii (rows_text rows)
+text_ascii : (rows : List (List DemoCell)) → IsAscii (rows_text rows)
 text_ascii rows = IsAscii-from_all (rows_text rows) (All-from_recursion IsByte (rows_text rows)
     (AllByRecursion-append IsByte (codes "<table>" ++ flat_map row_text rows) (codes "</table>")
     (AllByRecursion-append IsByte (codes "<table>") (flat_map row_text rows) (recursion_from_test (codes "<table>") refl)
@@ -254,7 +254,8 @@ tag_length colspan = by_test (colspan == 2)
     by_test false = omega arith
 
 -- a tag and six words take 68 characters at most
-cells_length : (cells : List Cell) → AllByRecursion IsDrawnCell cells → length (flat_map cell_text cells) ≤ 68 * columns_of cells
+cells_length : (cells : List DemoCell) → AllByRecursion IsDrawnCell cells →
+    length (flat_map cell_text cells) ≤ 68 * columns_of cells
 cells_length [] all = omega arith
 cells_length (cell ∷ cells) all =
     omega (
@@ -269,7 +270,7 @@ cells_length (cell ∷ cells) all =
     )
 
 -- a row takes 412 at most
-rows_length : (rows : List (List Cell)) → AllByRecursion IsDrawnRow rows → length (flat_map row_text rows) ≤ 412 * length rows
+rows_length : (rows : List (List DemoCell)) → AllByRecursion IsDrawnRow rows → length (flat_map row_text rows) ≤ 412 * length rows
 rows_length [] all = omega arith
 rows_length (cells ∷ rows) all =
     omega (

@@ -18,43 +18,44 @@ use Rattle.tl_text.specs.Paragraph.{IsParagraph, atom_size}
 use Rattle.tl_text.proofs.WordParagraphs.{words_are_paragraph}
 use Rattle.tl_tree.specs.Outline.{Entries, cell, row, group, columns, paragraph}
 use Rattle.tl_tree.specs.Outline as entries
-use Rattle.tl_tree.specs.Sound.{IsNumberedFrom, table_count, IsNestedBelow, IsPlainAtom, IsCellInRange, IsInRange, entry_size}
+use Rattle.tl_tree.specs.Sound.{IsNumberedFrom, table_count, IsNestedBelow, IsPlainAtom, IsCellInRange, IsEntryInRange}
+use Rattle.tl_tree.specs.Sound.{entry_size}
 use Rattle.tl_tree.specs.Sound.{AreSound, IsSound}
 use Rattle.tl_tree.specs.declared.node.Part.TheVariants as parts
-use Rattle.tl_demo.specs.Demo.{Cell, word_text, words_text}
+use Rattle.tl_demo.specs.Demo.{DemoCell, word_text, words_text}
 use Rattle.tl_demo.proofs.DrawnRows.{IsWordLength, IsDrawnCell, IsDrawnRow, columns_of, some_columns}
 use Rattle.tl_demo.proofs.TableItems.{IsByte, letters_ascii, words_letters, words_length}
 use Rattle.tl_demo.proofs.TableTree.{paragraph_in, words_are, cells_listed, rows_listed, table_listed, table_node}
 
 -- ---- one table
 
-cells_numbered : (k : ℕ) (cells : List Cell) (later : Entries) → IsNumberedFrom k later →
+cells_numbered : (k : ℕ) (cells : List DemoCell) (later : Entries) → IsNumberedFrom k later →
     IsNumberedFrom k (cells_listed cells later)
 cells_numbered k [] later is = is
 cells_numbered k (c ∷ cells) later is = cells_numbered k cells later is
 
 -- no table is nested in a row, so the numbers stay as they are
-rows_numbered : (k : ℕ) (rows : List (List Cell)) (later : Entries) → IsNumberedFrom k later →
+rows_numbered : (k : ℕ) (rows : List (List DemoCell)) (later : Entries) → IsNumberedFrom k later →
     IsNumberedFrom k (rows_listed rows later)
 rows_numbered k [] later is = is
 rows_numbered k (cells ∷ rows) later is = cells_numbered k cells (rows_listed rows later) (rows_numbered k rows later is)
 
-cells_count : (cells : List Cell) (later : Entries) → table_count (cells_listed cells later) ≡ table_count later
+cells_count : (cells : List DemoCell) (later : Entries) → table_count (cells_listed cells later) ≡ table_count later
 cells_count [] later = refl
 cells_count (c ∷ cells) later = cells_count cells later
 
 -- no table is nested in a row, so their count stays as it is
-rows_count : (rows : List (List Cell)) (later : Entries) → table_count (rows_listed rows later) ≡ table_count later
+rows_count : (rows : List (List DemoCell)) (later : Entries) → table_count (rows_listed rows later) ≡ table_count later
 rows_count [] later = refl
 rows_count (cells ∷ rows) later = cells_count cells (rows_listed rows later) ∙ rows_count rows later
 
-cells_nested : (most depth : ℕ) (cells : List Cell) (later : Entries) → IsNestedBelow most depth later →
+cells_nested : (most depth : ℕ) (cells : List DemoCell) (later : Entries) → IsNestedBelow most depth later →
     IsNestedBelow most depth (cells_listed cells later)
 cells_nested most depth [] later is = is
 cells_nested most depth (c ∷ cells) later is = cells_nested most depth cells later is
 
 -- no table is nested in a row, so tables stand as deep as before
-rows_nested : (most depth : ℕ) (rows : List (List Cell)) (later : Entries) → IsNestedBelow most depth later →
+rows_nested : (most depth : ℕ) (rows : List (List DemoCell)) (later : Entries) → IsNestedBelow most depth later →
     IsNestedBelow most depth (rows_listed rows later)
 rows_nested most depth [] later is = is
 rows_nested most depth (cells ∷ rows) later is = cells_nested most depth cells (rows_listed rows later)
@@ -90,7 +91,7 @@ few_bytes (n ∷ lengths) all =
     )
 
 -- the words of a cell are a paragraph
-is_paragraph : (c : Cell) → IsDrawnCell c → IsParagraph (paragraph_in c)
+is_paragraph : (c : DemoCell) → IsDrawnCell c → IsParagraph (paragraph_in c)
 is_paragraph c is =
     let text = words_text c.words in
     let same = words_are c.words is.words in
@@ -105,7 +106,7 @@ is_paragraph c is =
 -- ---- each entry in its range
 
 -- the spans of a cell are in their ranges
-cell_in_range : (c : Cell) → IsDrawnCell c → IsCellInRange c.colspan 1 0
+cell_in_range : (c : DemoCell) → IsDrawnCell c → IsCellInRange c.colspan 1 0
 cell_in_range c is = record {
   some_column = omega (arith, some_columns c is);
   few_columns = by_colspan is.colspan;
@@ -117,8 +118,9 @@ cell_in_range c is = record {
     by_colspan (inl one) = omega (arith, one)
     by_colspan (inr two) = omega (arith, two)
 
-cells_in_range : (cells : List Cell) (later : Entries) → AllByRecursion IsDrawnCell cells → AllByRecursion IsInRange later →
-    AllByRecursion IsInRange (cells_listed cells later)
+cells_in_range : (cells : List DemoCell) (later : Entries) → AllByRecursion IsDrawnCell cells →
+    AllByRecursion IsEntryInRange later →
+    AllByRecursion IsEntryInRange (cells_listed cells later)
 cells_in_range [] later all is = is
 cells_in_range (c ∷ cells) later all is = (
   cell_in_range c all.0,
@@ -129,14 +131,15 @@ cells_in_range (c ∷ cells) later all is = (
 )
 
 -- all that stands in the rows is in its range
-rows_in_range : (rows : List (List Cell)) (later : Entries) → AllByRecursion IsDrawnRow rows → AllByRecursion IsInRange later →
-    AllByRecursion IsInRange (rows_listed rows later)
+rows_in_range : (rows : List (List DemoCell)) (later : Entries) → AllByRecursion IsDrawnRow rows →
+    AllByRecursion IsEntryInRange later →
+    AllByRecursion IsEntryInRange (rows_listed rows later)
 rows_in_range [] later all is = is
 rows_in_range (cells ∷ rows) later all is =
     (tt, cells_in_range cells (rows_listed rows later) (all.0).each (rows_in_range rows later all.1 is))
 
 -- a cell counts 1, and the bytes of its words
-cells_size : (cells : List Cell) (later : Entries) → AllByRecursion IsDrawnCell cells →
+cells_size : (cells : List DemoCell) (later : Entries) → AllByRecursion IsDrawnCell cells →
     sum_by entry_size (cells_listed cells later) ≤ 49 * columns_of cells + sum_by entry_size later
 cells_size [] later all = omega arith
 cells_size (c ∷ cells) later all =
@@ -150,7 +153,7 @@ cells_size (c ∷ cells) later all =
       cells_size cells later all.1,
     )
 
-rows_size : (rows : List (List Cell)) (later : Entries) → AllByRecursion IsDrawnRow rows →
+rows_size : (rows : List (List DemoCell)) (later : Entries) → AllByRecursion IsDrawnRow rows →
     sum_by entry_size (rows_listed rows later) ≤ 295 * length rows + sum_by entry_size later
 rows_size [] later all = omega arith
 rows_size (cells ∷ rows) later all =
@@ -163,7 +166,8 @@ rows_size (cells ∷ rows) later all =
     )
 
 -- the tree of the rows is sound
-pub table_sound : (rows : List (List Cell)) → AllByRecursion IsDrawnRow rows → length rows ≤ MAX_ROWS → IsSound (table_node rows)
+pub table_sound : (rows : List (List DemoCell)) → AllByRecursion IsDrawnRow rows → length rows ≤ MAX_ROWS →
+    IsSound (table_node rows)
 table_sound rows all few =
     let listed = table_listed rows in
     let last : Entries = entries.table_end ∷ [] in

@@ -9,7 +9,7 @@ use Rattle.tl_text.specs.declared.paragraph.Atom.TheVariants.{Word}
 use Rattle.tl_text.specs.Words.{has_character, words_of}
 use Rattle.tl_text.proofs.WordLemmas.{words_from, words_from-start, words_from-letter, words_from-white, words_from-end}
 use Rattle.tl_token.specs.declared.token.Token.{Token}
-use Rattle.tl_tree.specs.Grammar.{Marks, Cells, Rows, Document, character, no_flow, no_cell, no_row, no_space, no_caption}
+use Rattle.tl_tree.specs.Grammar.{Marks, Cells, Rows, DocumentTokens, character, no_flow, no_cell, no_row, no_space, no_caption}
 use Rattle.tl_tree.specs.Grammar.{no_columns, no_part}
 use Rattle.tl_tree.specs.Grammar.{left_out, loose_rows, no_outer}
 use Rattle.tl_tree.specs.Grammar as grammar
@@ -32,33 +32,33 @@ use Rattle.tl_table.specs.Formed.{OpenNode, OpenGroup, OpenCellNode}
 use Rattle.tl_html.proofs.Items.{Item, item_kinds, text_kinds, kind_of}
 use Rattle.tl_html.proofs.PageTags.{numbers}
 use Rattle.tl_html.proofs.PageWords.{grammar_kinds, kinds_cons, text_goes, ends_sharp, IsSharp}
-use Rattle.tl_demo.specs.Demo.{Cell, word_text, words_text}
+use Rattle.tl_demo.specs.Demo.{DemoCell, word_text, words_text}
 use Rattle.tl_demo.proofs.DrawnRows.{IsWordLength, IsDrawnCell, IsDrawnRow}
 use Rattle.tl_demo.proofs.TableItems.{cell_item, row_item, row_items, last_item, table_items}
 
 -- ---- what the tokens are to the grammar
 
 -- a start tag and a text for each cell, and then the rest
-abbrev pub cells_kinds : List Cell → Kinds → Kinds
+abbrev pub cells_kinds : List DemoCell → Kinds → Kinds
 cells_kinds [] later = later
 cells_kinds (c ∷ cells) later =
     cell_start false (numbers c.colspan 1 0) ∷ (map class_of (text_kinds (words_text c.words)) ++ cells_kinds cells later)
 
-abbrev pub rows_kinds : List (List Cell) → Kinds → Kinds
+abbrev pub rows_kinds : List (List DemoCell) → Kinds → Kinds
 rows_kinds [] later = later
 rows_kinds (cells ∷ rows) later = row_start ∷ cells_kinds cells (rows_kinds rows later)
 
-abbrev pub table_kinds : List (List Cell) → Kinds
+abbrev pub table_kinds : List (List DemoCell) → Kinds
 table_kinds rows = table_start ∷ rows_kinds rows (table_end ∷ [])
 
-cells_kinds_are : (cells : List Cell) (items : List Item) → grammar_kinds (map cell_item cells ++ items) ≡ cells_kinds cells
+cells_kinds_are : (cells : List DemoCell) (items : List Item) → grammar_kinds (map cell_item cells ++ items) ≡ cells_kinds cells
     (grammar_kinds items)
 cells_kinds_are [] items = refl
 cells_kinds_are (c ∷ cells) items =
     kinds_cons (cell_item c) (map cell_item cells ++ items)
     ∙ ap (λ (ks : Kinds). map class_of (item_kinds (cell_item c)) ++ ks) (cells_kinds_are cells items)
 
-rows_kinds_are : (rows : List (List Cell)) (items : List Item) →
+rows_kinds_are : (rows : List (List DemoCell)) (items : List Item) →
     grammar_kinds (flat_map row_items rows ++ items) ≡ rows_kinds rows (grammar_kinds items)
 rows_kinds_are [] items = refl
 rows_kinds_are (cells ∷ rows) items =
@@ -67,39 +67,39 @@ rows_kinds_are (cells ∷ rows) items =
     ∙ ap (cells_kinds cells) (rows_kinds_are rows items))
 
 -- what the tokens of a table are to the grammar
-pub table_kinds_are : (rows : List (List Cell)) → grammar_kinds (table_items rows) ≡ table_kinds rows
+pub table_kinds_are : (rows : List (List DemoCell)) → grammar_kinds (table_items rows) ≡ table_kinds rows
 table_kinds_are rows = ap (λ (ks : Kinds). table_start ∷ ks) (rows_kinds_are rows (last_item ∷ []))
 
 -- ---- the grammar
 
 -- a cell, its characters and the end of its paragraph, and then the rest
-abbrev cells_marks : List Cell → Marks → Marks
+abbrev cells_marks : List DemoCell → Marks → Marks
 cells_marks [] later = later
 cells_marks (c ∷ cells) later =
     grammar.cell_begins false (numbers c.colspan 1 0) ∷ (map character
     (words_text c.words) ++ grammar.paragraph_ends ∷ cells_marks cells later)
 
-abbrev rows_marks : List (List Cell) → Marks → Marks
+abbrev rows_marks : List (List DemoCell) → Marks → Marks
 rows_marks [] later = later
 rows_marks (cells ∷ rows) later = grammar.row_begins ∷ cells_marks cells (rows_marks rows later)
 
-abbrev table_marks : List (List Cell) → Marks
+abbrev table_marks : List (List DemoCell) → Marks
 table_marks rows =
     grammar.table_begins ∷ grammar.columns 0 ∷ grammar.group_begins parts.Loose ∷ rows_marks rows (grammar.table_ends ∷ [])
 
 -- a tag follows a cell, so its end tag may be left out
-cells_tagged : (cells : List Cell) (later : Kinds) → begins_with is_white later ≡ false →
+cells_tagged : (cells : List DemoCell) (later : Kinds) → begins_with is_white later ≡ false →
     begins_with is_white (cells_kinds cells later) ≡ false
 cells_tagged [] later tagged = tagged
 cells_tagged (c ∷ cells) later tagged = refl
 
-rows_tagged : (rows : List (List Cell)) (later : Kinds) → begins_with is_white later ≡ false →
+rows_tagged : (rows : List (List DemoCell)) (later : Kinds) → begins_with is_white later ≡ false →
     begins_with is_white (rows_kinds rows later) ≡ false
 rows_tagged [] later tagged = tagged
 rows_tagged (cells ∷ rows) later tagged = refl
 
 -- the grammar reads the cells of a row
-cells_read : (cells : List Cell) (later : Kinds) (m : Marks) → begins_with is_white later ≡ false →
+cells_read : (cells : List DemoCell) (later : Kinds) (m : Marks) → begins_with is_white later ≡ false →
     Cells (cells_kinds cells later) (cells_marks cells m) later m
 cells_read [] later m tagged = no_cell
 cells_read (c ∷ cells) later m tagged =
@@ -109,7 +109,7 @@ cells_read (c ∷ cells) later m tagged =
     (cells_read cells later m tagged)
 
 -- the grammar reads the rows of a table
-rows_read : (rows : List (List Cell)) (later : Kinds) (m : Marks) → begins_with is_white later ≡ false →
+rows_read : (rows : List (List DemoCell)) (later : Kinds) (m : Marks) → begins_with is_white later ≡ false →
     begins_with is_row_start later ≡ false →
     Rows (rows_kinds rows later) (rows_marks rows m) later m
 rows_read [] later m tagged ended = no_row ended
@@ -119,7 +119,7 @@ rows_read (cells ∷ rows) later m tagged ended =
     (rows_read rows later m tagged ended)
 
 -- the grammar reads the table, which is the whole document
-table_read : (rows : List (List Cell)) → 0 < length rows → Document (table_kinds rows) (table_marks rows)
+table_read : (rows : List (List DemoCell)) → 0 < length rows → DocumentTokens (table_kinds rows) (table_marks rows)
 table_read [] some = absurd (omega (arith, some))
 table_read (cells ∷ rows) some = record {
   before = table_kinds (cells ∷ rows);
@@ -138,20 +138,20 @@ text_within : (depth tables : ℕ) (text : List ℕ) (later : Kinds) → FitLimi
 text_within depth tables [] later fit = fit
 text_within depth tables (c ∷ text) later fit = (tt, fit)
 
-cells_within : (depth tables : ℕ) (cells : List Cell) (later : Kinds) → FitLimits depth tables later →
+cells_within : (depth tables : ℕ) (cells : List DemoCell) (later : Kinds) → FitLimits depth tables later →
     FitLimits depth tables (cells_kinds cells later)
 cells_within depth tables [] later fit = fit
 cells_within depth tables (c ∷ cells) later fit =
     (tt, text_within depth tables (words_text c.words) (cells_kinds cells later) (cells_within depth tables cells later fit))
 
-rows_within : (depth tables : ℕ) (rows : List (List Cell)) (later : Kinds) → FitLimits depth tables later →
+rows_within : (depth tables : ℕ) (rows : List (List DemoCell)) (later : Kinds) → FitLimits depth tables later →
     FitLimits depth tables (rows_kinds rows later)
 rows_within depth tables [] later fit = fit
 rows_within depth tables (cells ∷ rows) later fit =
     (tt, cells_within depth tables cells (rows_kinds rows later) (rows_within depth tables rows later fit))
 
 -- the one table is within the limits
-pub table_within : (rows : List (List Cell)) → IsWithinLimits (table_kinds rows)
+pub table_within : (rows : List (List DemoCell)) → IsWithinLimits (table_kinds rows)
 table_within rows = ((omega arith, omega arith), rows_within 1 1 rows (table_end ∷ []) (tt, tt))
 
 -- ---- the words of a text
@@ -189,7 +189,7 @@ words_are (n ∷ lengths) all =
     (has_letters n (all.0).0) all.1
 
 -- the paragraph of a cell
-abbrev pub paragraph_in : Cell → List Atom
+abbrev pub paragraph_in : DemoCell → List Atom
 paragraph_in c = map Word (map word_text c.words)
 
 -- all characters stand before the first break
@@ -203,7 +203,7 @@ no_breaks [] = refl
 no_breaks (c ∷ text) = no_breaks text
 
 -- the characters of a cell come to its paragraph
-atoms_are : (c : Cell) → AllByRecursion IsWordLength c.words → atoms_of (map character (words_text c.words)) ≡ paragraph_in c
+atoms_are : (c : DemoCell) → AllByRecursion IsWordLength c.words → atoms_of (map character (words_text c.words)) ≡ paragraph_in c
 atoms_are c all =
     let text = words_text c.words in
     ap (λ (cs : List ℕ). map Word (words_of cs) ++ after_breaks (map character text)) (first_is text)
@@ -214,7 +214,7 @@ atoms_are c all =
 -- ---- the tree
 
 -- a cell of the tree by its fields: one paragraph
-abbrev pub open_cell_node : Cell → OpenCellNode
+abbrev pub open_cell_node : DemoCell → OpenCellNode
 open_cell_node c = record {
   head = false;
   colspan = c.colspan;
@@ -223,22 +223,22 @@ open_cell_node c = record {
   flow = roll-Block (open_block.Para (paragraph_in c)) ∷ [];
 }
 
-abbrev pub cell_node : Cell → CellNode
+abbrev pub cell_node : DemoCell → CellNode
 cell_node c = roll-CellNode (open_cell_node c)
 
 -- the rows stand directly in the table
-abbrev pub open_group_node : List (List Cell) → OpenGroup
+abbrev pub open_group_node : List (List DemoCell) → OpenGroup
 open_group_node rows = record { part = parts.Loose; rows = map (map cell_node) rows }
 
-abbrev pub open_table_node : List (List Cell) → OpenNode
+abbrev pub open_table_node : List (List DemoCell) → OpenNode
 open_table_node rows = record { number = 0; caption = None; columns = 0; groups = roll-GroupNode (open_group_node rows) ∷ [] }
 
 -- the tree of the rows
-abbrev pub table_node : List (List Cell) → TableNode
+abbrev pub table_node : List (List DemoCell) → TableNode
 table_node rows = roll-TableNode (open_table_node rows)
 
 -- a cell is followed by its paragraph
-cell_outlined : (c : Cell) → cell_outline (cell_node c) ≡ cell false c.colspan 1 0 ∷ paragraph (paragraph_in c) ∷ []
+cell_outlined : (c : DemoCell) → cell_outline (cell_node c) ≡ cell false c.colspan 1 0 ∷ paragraph (paragraph_in c) ∷ []
 cell_outlined c =
     cell_made (open_cell_node c) ∙ ap (λ (es : Entries). cell false c.colspan 1 0 ∷ (es ++ [])) (paragraph_made (paragraph_in c))
 
@@ -250,7 +250,7 @@ text_leads [] later = refl
 text_leads (c ∷ text) later = ap (λ (ms : Marks). character c ∷ ms) (text_leads text later)
 
 -- a cell has words, so it has a paragraph
-one_paragraph : (c : Cell) → 1 ≤ length c.words → paragraph_of (paragraph_in c) ≡ paragraph (paragraph_in c) ∷ []
+one_paragraph : (c : DemoCell) → 1 ≤ length c.words → paragraph_of (paragraph_in c) ≡ paragraph (paragraph_in c) ∷ []
 one_paragraph c some = by_words c.words some
   where
     by_words : (lengths : List ℕ) → 1 ≤ length lengths → paragraph_of (map Word (map word_text lengths)) ≡ paragraph
@@ -259,16 +259,16 @@ one_paragraph c some = by_words c.words some
     by_words (n ∷ lengths) more = refl
 
 -- no character stands before a cell
-cells_sharp : (cells : List Cell) (later : Marks) → IsSharp later → IsSharp (cells_marks cells later)
+cells_sharp : (cells : List DemoCell) (later : Marks) → IsSharp later → IsSharp (cells_marks cells later)
 cells_sharp [] later sharp = sharp
 cells_sharp (c ∷ cells) later sharp = refl
 
-rows_sharp : (rows : List (List Cell)) (later : Marks) → IsSharp later → IsSharp (rows_marks rows later)
+rows_sharp : (rows : List (List DemoCell)) (later : Marks) → IsSharp later → IsSharp (rows_marks rows later)
 rows_sharp [] later sharp = sharp
 rows_sharp (cells ∷ rows) later sharp = refl
 
 -- the marks of the cells become their outlines
-cells_entries : (k : ℕ) (cells : List Cell) (later : Marks) → IsSharp later → AllByRecursion IsDrawnCell cells →
+cells_entries : (k : ℕ) (cells : List DemoCell) (later : Marks) → IsSharp later → AllByRecursion IsDrawnCell cells →
     entries_after k (cells_marks cells later) ≡ flat_map cell_outline (map cell_node cells) ++ entries_after k later
 cells_entries k [] later sharp all = refl
 cells_entries k (c ∷ cells) later sharp all =
@@ -287,7 +287,7 @@ cells_entries k (c ∷ cells) later sharp all =
     ∙ sym (append_assoc (cell_outline (cell_node c)) (flat_map cell_outline (map cell_node cells)) (entries_after k later))
 
 -- the marks of the rows become their outlines
-rows_entries : (k : ℕ) (rows : List (List Cell)) (later : Marks) → IsSharp later → AllByRecursion IsDrawnRow rows →
+rows_entries : (k : ℕ) (rows : List (List DemoCell)) (later : Marks) → IsSharp later → AllByRecursion IsDrawnRow rows →
     entries_after k (rows_marks rows later) ≡ flat_map row_outline (map (map cell_node) rows) ++ entries_after k later
 rows_entries k [] later sharp all = refl
 rows_entries k (cells ∷ rows) later sharp all =
@@ -300,7 +300,7 @@ rows_entries k (cells ∷ rows) later sharp all =
     (entries_after k later)))
 
 -- what stands in the tree
-outline_is : (rows : List (List Cell)) → outline (table_node rows)
+outline_is : (rows : List (List DemoCell)) → outline (table_node rows)
     ≡ entries.table 0 ∷ columns 0 ∷ group parts.Loose ∷ (flat_map row_outline
     (map (map cell_node) rows) ++ entries.table_end ∷ [])
 outline_is rows =
@@ -309,7 +309,7 @@ outline_is rows =
     (append-nil (group_outline (roll-GroupNode (open_group_node rows))) ∙ group_made (open_group_node rows))
 
 -- the outline of the tree is that of the marks
-table_outlined : (rows : List (List Cell)) → AllByRecursion IsDrawnRow rows →
+table_outlined : (rows : List (List DemoCell)) → AllByRecursion IsDrawnRow rows →
     outline (table_node rows) ≡ entries_of 0 (table_marks rows)
 table_outlined rows all =
     let ms = rows_marks rows (grammar.table_ends ∷ []) in
@@ -320,12 +320,12 @@ table_outlined rows all =
     (sym (rows_sharp rows (grammar.table_ends ∷ []) refl))
 
 -- the tokens spell the tree
-pub table_spelt : (tokens : List Token) (rows : List (List Cell)) → kinds tokens ≡ table_kinds rows → 0 < length rows →
+pub table_spelt : (tokens : List Token) (rows : List (List DemoCell)) → kinds tokens ≡ table_kinds rows → 0 < length rows →
     AllByRecursion IsDrawnRow rows →
     SpellsTree tokens (table_node rows)
 table_spelt tokens rows read some all = record {
   marks = table_marks rows;
-  document = subst (λ (ks : Kinds). Document ks (table_marks rows)) (sym read) (table_read rows some);
+  document = subst (λ (ks : Kinds). DocumentTokens ks (table_marks rows)) (sym read) (table_read rows some);
   same = table_outlined rows all;
 }
 
@@ -341,15 +341,15 @@ kinds_are tokens items is = each tokens ∙ ap (map class_of) is
 -- ---- what stands in the tree, one after the other
 
 -- a cell and its paragraph, and then the rest
-abbrev pub cells_listed : List Cell → Entries → Entries
+abbrev pub cells_listed : List DemoCell → Entries → Entries
 cells_listed [] later = later
 cells_listed (c ∷ cells) later = cell false c.colspan 1 0 ∷ paragraph (paragraph_in c) ∷ cells_listed cells later
 
-abbrev pub rows_listed : List (List Cell) → Entries → Entries
+abbrev pub rows_listed : List (List DemoCell) → Entries → Entries
 rows_listed [] later = later
 rows_listed (cells ∷ rows) later = row ∷ cells_listed cells (rows_listed rows later)
 
-cells_in_list : (cells : List Cell) (later : Entries) → flat_map cell_outline
+cells_in_list : (cells : List DemoCell) (later : Entries) → flat_map cell_outline
     (map cell_node cells) ++ later ≡ cells_listed cells later
 cells_in_list [] later = refl
 cells_in_list (c ∷ cells) later =
@@ -357,7 +357,7 @@ cells_in_list (c ∷ cells) later =
     ∙ ap (λ (es : Entries). es ++ (flat_map cell_outline (map cell_node cells) ++ later)) (cell_outlined c)
     ∙ ap (λ (es : Entries). cell false c.colspan 1 0 ∷ paragraph (paragraph_in c) ∷ es) (cells_in_list cells later)
 
-rows_in_list : (rows : List (List Cell)) (later : Entries) →
+rows_in_list : (rows : List (List DemoCell)) (later : Entries) →
     flat_map row_outline (map (map cell_node) rows) ++ later ≡ rows_listed rows later
 rows_in_list [] later = refl
 rows_in_list (cells ∷ rows) later =
@@ -367,7 +367,7 @@ rows_in_list (cells ∷ rows) later =
     ∙ ap (cells_listed cells) (rows_in_list rows later))
 
 -- the outline of the tree as one list
-pub table_listed : (rows : List (List Cell)) →
+pub table_listed : (rows : List (List DemoCell)) →
     outline (table_node rows) ≡ entries.table 0 ∷ columns 0 ∷ group parts.Loose ∷ rows_listed rows (entries.table_end ∷ [])
 table_listed rows =
     outline_is rows ∙ ap (λ (es : Entries). entries.table 0 ∷ columns 0 ∷ group parts.Loose ∷ es)

@@ -4,7 +4,8 @@ use Rattle.std.proofs.Common.{subst, ◌∙◌}
 use Rattle.std.proofs.Common.{append_assoc, append-nil, arith}
 use Rattle.std.specs.List.{flat_map}
 use Rattle.std.proofs.lemmas.Bool.Decides.{nat_tests}
-use Rattle.tl_demo.specs.Demo.{Drawn, Cell, cell_from, cell_before, drawn, next_state, words_from, cell_words_from, cells_from}
+use Rattle.tl_demo.specs.Demo.{Drawn, DemoCell, cell_from, cell_before, drawn_number, next_state, words_from}
+use Rattle.tl_demo.specs.Demo.{cell_words_from, cells_from}
 use Rattle.tl_demo.specs.Demo.{rows_from}
 use Rattle.tl_demo.specs.Demo.{words_text, tag_text, cell_text, row_text}
 use Rattle.tl_demo.specs.inner.Writing.{colspan_of, next_word_text, next_words_text}
@@ -20,10 +21,10 @@ pub record WordsLeft (count state : ℕ) (out text : List ℕ) (end : ℕ) : Typ
   pub state_is : (words_from count state).state ≡ end
 
 -- a word is written of those left
-pub word_written : (count state : ℕ) (out new text : List ℕ) (end : ℕ) → new ≡ out ++ next_word_text (1 + drawn 8 state) →
+pub word_written : (count state : ℕ) (out new text : List ℕ) (end : ℕ) → new ≡ out ++ next_word_text (1 + drawn_number 8 state) →
     WordsLeft (suc count) state out text end → WordsLeft count (next_state state) new text end
 word_written count state out new text end is left = record {
-  text_is = written_piece next_word_text (1 + drawn 8 state)
+  text_is = written_piece next_word_text (1 + drawn_number 8 state)
       (words_from count (next_state state)).value out new is ∙ left.text_is;
   state_is = left.state_is;
 }
@@ -34,12 +35,12 @@ pub record CellsLeft (columns state : ℕ) (out text : List ℕ) (end : ℕ) : T
   pub state_is : (cells_from columns state).state ≡ end
 
 -- the cells over the columns left, by whether the first is over two of them
-narrow_cell_from : (columns state : ℕ) → ¬ (drawn 5 state ≡ 0) →
+narrow_cell_from : (columns state : ℕ) → ¬ (drawn_number 5 state ≡ 0) →
     cells_from (suc columns) state ≡ cell_before (cells_from columns) 1 (next_state state)
 unfolding cells_from
 narrow_cell_from zero state drawn_more = refl
 narrow_cell_from (suc columns) state drawn_more =
-    let test : (drawn 5 state == 0) ≡ false = grind (arith, nat_tests, drawn_more) in rw test
+    let test : (drawn_number 5 state == 0) ≡ false = grind (arith, nat_tests, drawn_more) in rw test
 
 -- the last column takes one cell, whatever is drawn
 last_cell_from : (state : ℕ) → cells_from 1 state ≡ cell_before (cells_from 0) 1 (next_state state)
@@ -47,7 +48,7 @@ unfolding cells_from
 last_cell_from state = refl
 
 -- a cell over two columns, and those after it
-wide_cell_from : (columns state : ℕ) → drawn 5 state ≡ 0 →
+wide_cell_from : (columns state : ℕ) → drawn_number 5 state ≡ 0 →
     cells_from (suc (suc columns)) state ≡ cell_before (cells_from columns) 2 (next_state state)
 unfolding cells_from
 wide_cell_from columns state drawn_zero = rw drawn_zero
@@ -58,15 +59,15 @@ cell_written : (columns others colspan state : ℕ) (out new text : List ℕ) (e
     new ≡ out ++ (tag_text colspan ++ words_text (cell_words_from (next_state state)).value) →
     CellsLeft columns state out text end → CellsLeft others (cell_words_from (next_state state)).state new text end
 cell_written columns others colspan state out new text end made is left =
-    let cell : Cell = (cell_from colspan (next_state state)).value in
+    let cell : DemoCell = (cell_from colspan (next_state state)).value in
     record {
       text_is = written_piece cell_text cell (cells_from others (cell_words_from (next_state state)).state).value out new is
-          ∙ ap (λ (cells : Drawn (List Cell)). out ++ flat_map cell_text cells.value) (sym made) ∙ left.text_is;
-      state_is = ap (λ (cells : Drawn (List Cell)). cells.state) (sym made) ∙ left.state_is;
+          ∙ ap (λ (cells : Drawn (List DemoCell)). out ++ flat_map cell_text cells.value) (sym made) ∙ left.text_is;
+      state_is = ap (λ (cells : Drawn (List DemoCell)). cells.state) (sym made) ∙ left.state_is;
     }
 
 -- a cell over two columns is written
-pub wide_cell_written : (columns state : ℕ) (out new text : List ℕ) (end : ℕ) → 2 ≤ columns → drawn 5 state ≡ 0 →
+pub wide_cell_written : (columns state : ℕ) (out new text : List ℕ) (end : ℕ) → 2 ≤ columns → drawn_number 5 state ≡ 0 →
     new ≡ out ++ (tag_text 2 ++ words_text (cell_words_from (next_state state)).value) →
     CellsLeft columns state out text end → CellsLeft (columns - 2) (cell_words_from (next_state state)).state new text end
 wide_cell_written zero state out new text end some drawn_zero is left = absurd (omega (arith, some))
@@ -78,7 +79,7 @@ wide_cell_written (suc (suc columns)) state out new text end some drawn_zero is 
 
 -- a cell over one column is written
 pub narrow_cell_written : (columns state : ℕ) (out new text : List ℕ) (end : ℕ) → 0 < columns →
-    (¬ (drawn 5 state ≡ 0)) ⊎ (columns < 2) →
+    (¬ (drawn_number 5 state ≡ 0)) ⊎ (columns < 2) →
     new ≡ out ++ (tag_text 1 ++ words_text (cell_words_from (next_state state)).value) →
     CellsLeft columns state out text end → CellsLeft (columns - 1) (cell_words_from (next_state state)).state new text end
 narrow_cell_written zero state out new text end some why is left = absurd (omega (arith, some))
@@ -106,18 +107,18 @@ colspan_narrow draw columns (inr last) = grind (arith, nat_tests, last)
 
 -- after a cell is written the columns that it is not over are left
 pub next_cell_written : (columns state : ℕ) (out new text : List ℕ) (end : ℕ) → 0 < columns →
-    new ≡ out ++ (tag_text (colspan_of (drawn 5 state) columns) ++ words_text (cell_words_from (next_state state)).value) →
+    new ≡ out ++ (tag_text (colspan_of (drawn_number 5 state) columns) ++ words_text (cell_words_from (next_state state)).value) →
     CellsLeft columns state out text end →
-    CellsLeft (columns - colspan_of (drawn 5 state) columns) (cell_words_from (next_state state)).state new text end
+    CellsLeft (columns - colspan_of (drawn_number 5 state) columns) (cell_words_from (next_state state)).state new text end
 next_cell_written columns state out new text end some is left =
     let W : ℕ → List ℕ = λ colspan. out ++ (tag_text colspan ++ words_text (cell_words_from (next_state state)).value) in
     let L : ℕ → Type 0 = λ colspan. CellsLeft (columns - colspan) (cell_words_from (next_state state)).state new text end in
-    elim (either_colspan (drawn 5 state) columns) [
+    elim (either_colspan (drawn_number 5 state) columns) [
       | inl wide ↦
-          let colspan = colspan_wide (drawn 5 state) columns wide.0 wide.1 in
+          let colspan = colspan_wide (drawn_number 5 state) columns wide.0 wide.1 in
           subst L (sym colspan) (wide_cell_written columns state out new text end wide.1 wide.0 (is ∙ ap W colspan) left)
       | inr narrow ↦
-          let colspan = colspan_narrow (drawn 5 state) columns narrow in
+          let colspan = colspan_narrow (drawn_number 5 state) columns narrow in
           subst L (sym colspan) (narrow_cell_written columns state out new text end some narrow (is ∙ ap W colspan) left)
     ]
 

@@ -1,7 +1,7 @@
 //! Numbers drawn one after the other.
 
 ghost use Rattle.std.specs.Prelude.{◌≡◌, ◌<◌, ◌%◌, ◌^◌};
-ghost use Rattle.tl_demo.specs.Demo.{drawn, next_state};
+ghost use Rattle.tl_demo.specs.Demo.{drawn_number, next_state};
 
 /// A linear congruential generator. Its state is below 2^31.
 #[derive(Drop)]
@@ -20,10 +20,10 @@ impl Draws {
     }
 
     /// Draws a number below `below`.
-    #[tactic(auto, unfolding(crate::specs::Demo::drawn, crate::specs::Demo::next_state))]
+    #[tactic(auto, unfolding(crate::specs::Demo::drawn_number, crate::specs::Demo::next_state))]
     pub(crate) fn draw(&mut self, below: u32) -> u32
         requires { 0 < below }
-        ensures value { result ≡ drawn below self.old.state }
+        ensures value { result ≡ drawn_number below self.old.state }
         ensures range { result < below }
         ensures state { self.new.state ≡ next_state self.old.state }
     {

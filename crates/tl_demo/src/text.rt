@@ -2,8 +2,8 @@
 
 ghost use Rattle.std.specs.Prelude.{◌≡◌, ◌++◌, ◌+◌, ℕ, List, OnOk, IfOk};
 ghost use Rattle.std.specs.List.{flat_map};
-ghost use Rattle.tl_demo.specs.Demo.{Cell, cell_from, cell_text, cell_words_from, cells_from, demo_text_of};
-ghost use Rattle.tl_demo.specs.Demo.{drawn, next_state, row_text, rows_from, tag_text, word_text};
+ghost use Rattle.tl_demo.specs.Demo.{DemoCell, cell_from, cell_text, cell_words_from, cells_from, demo_text_of};
+ghost use Rattle.tl_demo.specs.Demo.{drawn_number, next_state, row_text, rows_from, tag_text, word_text};
 ghost use Rattle.tl_demo.specs.Demo.{words_from, words_text};
 ghost use Rattle.tl_demo.specs.inner.Writing.{Appended, cells_text, colspan_of, next_word_text, next_words_text};
 
@@ -29,7 +29,7 @@ fn write_word(out: &mut List<u8>, length: u32) -> Result<(), AllocError>
 
 /// Draws a word and appends it, with a space before it.
 fn write_next_word(out: &mut List<u8>, draws: &mut Draws) -> Result<(), AllocError>
-    ensures text { let length = 1 + drawn 8 draws.old.state in
+    ensures text { let length = 1 + drawn_number 8 draws.old.state in
         OnOk result (out.new ≡ out.old ++ next_word_text length) }
     ensures state { OnOk result (draws.new.state ≡ next_state draws.old.state) }
 {
@@ -82,7 +82,7 @@ fn write_tag(out: &mut List<u8>, colspan: u32) -> Result<(), AllocError>
 /// Draws a cell over so many columns and appends it.
 fn write_cell(out: &mut List<u8>, draws: &mut Draws, colspan: u32) -> Result<(), AllocError>
     ensures { let cell = cell_from colspan draws.old.state in
-        OnOk result (Appended Cell cell_text cell out.old out.new draws.new.state) }
+        OnOk result (Appended DemoCell cell_text cell out.old out.new draws.new.state) }
 {
     write_tag(out, colspan)?;
     write_words(out, draws)
@@ -91,7 +91,7 @@ fn write_cell(out: &mut List<u8>, draws: &mut Draws, colspan: u32) -> Result<(),
 /// Draws the cells of a row and appends them.
 fn write_cells(out: &mut List<u8>, draws: &mut Draws) -> Result<(), AllocError>
     ensures { let cells = cells_from COLUMNS draws.old.state in
-        OnOk result (Appended (List Cell) cells_text cells out.old out.new draws.new.state) }
+        OnOk result (Appended (List DemoCell) cells_text cells out.old out.new draws.new.state) }
 {
     let mut left = COLUMNS;
     while left > 0 {
@@ -105,7 +105,7 @@ fn write_cells(out: &mut List<u8>, draws: &mut Draws) -> Result<(), AllocError>
 /// Draws a row and appends it.
 fn write_row(out: &mut List<u8>, draws: &mut Draws) -> Result<(), AllocError>
     ensures { let cells = cells_from COLUMNS draws.old.state in
-        OnOk result (Appended (List Cell) row_text cells out.old out.new draws.new.state) }
+        OnOk result (Appended (List DemoCell) row_text cells out.old out.new draws.new.state) }
 {
     out.extend_from_slice(b"<tr>")?;
     write_cells(out, draws)

@@ -1,7 +1,7 @@
 -- Bounds that are at most a number, the lesser of two, and one bound after another.
 use Rattle.std.proofs.Common.{◌≡◌, ℕ, ◌<◌, ℤ, ◌+ℤ◌, ◌≤ℤ◌, Option, Some, None, refl, arith, inl, inr, ◌⊎◌}
 use Rattle.std.proofs.lemmas.Int.{ints, clamps}
-use Rattle.tl_diff.specs.Bounds.{Bounds, bound_at, Satisfies, IsWithin}
+use Rattle.tl_diff.specs.Bounds.{Bounds, bound_at, Satisfies, MeetsConstraint}
 use Rattle.tl_diff.specs.inner.Closed.{AtMost, lesser, via}
 
 pub AtMost-from : (o : Option ℤ) (c t : ℤ) → o ≡ Some c → c ≤ℤ t → AtMost o t
@@ -44,11 +44,12 @@ via-AtMost (Some c) (Some e) w t h = (c, (e, (omega (arith, ints), (omega (arith
 -- what a bound of t says of positions
 pub Satisfies-at : (bounds : Bounds) (x : ℕ → ℤ) (p q : ℕ) (t : ℤ) → Satisfies bounds x → p < bounds.n → q < bounds.n →
     AtMost (bound_at bounds p q) t
-    → IsWithin x p q t
+    → MeetsConstraint x p q t
 Satisfies-at bounds x p q t meets first second h =
     let c = AtMost-some (bound_at bounds p q) t h in
     omega (arith, ints, meets p q first second c.0 c.1.0, c.1.1)
 
 pub Satisfies-from : (bounds : Bounds) (x : ℕ → ℤ) →
-    ((p q : ℕ) (t : ℤ) → p < bounds.n → q < bounds.n → AtMost (bound_at bounds p q) t → IsWithin x p q t) → Satisfies bounds x
+    ((p q : ℕ) (t : ℤ) → p < bounds.n → q < bounds.n → AtMost (bound_at bounds p q) t → MeetsConstraint x p q t) →
+    Satisfies bounds x
 Satisfies-from bounds x h p q first second c is = h p q c first second (rw is (omega (arith, ints)))

@@ -3,7 +3,7 @@ use Rattle.std.proofs.Common.{◌≡◌, ℕ, ◌<◌, ◌≤◌, ℤ, pos, ◌�
 use Rattle.std.proofs.Common.{refl, arith}
 use Rattle.std.proofs.lemmas.Int.{ints}
 use Rattle.tl_diff.specs.Marks.{MarkedBounds}
-use Rattle.tl_diff.specs.Bounds.{Bounds, Satisfies, IsSatisfiable, Implied, AddsBound, IsGreatest, HasGreatest, HasNoGreatest}
+use Rattle.tl_diff.specs.Bounds.{Bounds, Satisfies, IsSatisfiable, Implies, AddsBound, IsGreatest, HasGreatest, HasNoGreatest}
 use Rattle.tl_diff.specs.Bounds.{IsLeast}
 
 -- there is one tightest bound on two variables
@@ -59,14 +59,14 @@ IsGreatest-falls old new a b most h p q s t before after =
     omega (arith, ints, after.reached.1.1, before.implied after.reached.0 (h.keeps after.reached.0 after.reached.1.0))
 
 -- A constraint is implied exactly where the tightest bound is no more than its own.
-pub Implied-from : (bounds : Bounds) (a b : ℕ) (s most : ℤ) → IsGreatest bounds a b s → s ≤ℤ most → Implied bounds a b most
+pub Implied-from : (bounds : Bounds) (a b : ℕ) (s most : ℤ) → IsGreatest bounds a b s → s ≤ℤ most → Implies bounds a b most
 Implied-from bounds a b s most h le x meets = omega (arith, ints, h.implied x meets)
 
-pub Implied-le : (bounds : Bounds) (a b : ℕ) (s most : ℤ) → IsGreatest bounds a b s → Implied bounds a b most → s ≤ℤ most
+pub Implied-le : (bounds : Bounds) (a b : ℕ) (s most : ℤ) → IsGreatest bounds a b s → Implies bounds a b most → s ≤ℤ most
 Implied-le bounds a b s most h implied = omega (arith, ints, h.reached.1.1, implied h.reached.0 h.reached.1.0)
 
 -- where there is no tightest bound, nothing is implied
-pub Implied-none : (bounds : Bounds) (a b : ℕ) (most : ℤ) → HasNoGreatest bounds a b → Implied bounds a b most → ⊥
+pub Implied-none : (bounds : Bounds) (a b : ℕ) (most : ℤ) → HasNoGreatest bounds a b → Implies bounds a b most → ⊥
 Implied-none bounds a b most none implied =
     let more = none most in
     omega (arith, ints, more.1.1, implied more.0 more.1.0)

@@ -5,8 +5,8 @@ use Rattle.std.specs.Prelude.{int_le}
 use Rattle.std.proofs.lemmas.Int.{ints, by_lt_z}
 use Rattle.std.proofs.lemmas.Bool.{cases_eq}
 use Rattle.tl_diff.specs.declared.matrix.TheConstants.{MAX_BOUND}
-use Rattle.tl_diff.specs.Bounds.{Bounds, bound_at, Satisfies, IsWithin, AddsBound}
-use Rattle.tl_diff.specs.inner.Closed.{IsClosed, IsLoose, IsGap, AreSmall, moved_past}
+use Rattle.tl_diff.specs.Bounds.{Bounds, bound_at, Satisfies, MeetsConstraint, AddsBound}
+use Rattle.tl_diff.specs.inner.Closed.{IsClosed, IsLoose, IsGap, AreSmallBounds, moved_past}
 use Rattle.tl_diff.proofs.EnvelopeLemmas.{reaches}
 
 -- 1 where a variable is up to t
@@ -108,7 +108,7 @@ moved_high x t s p h = grind (arith, ints)
 -- a constraint that is not large still holds when the variables above a gap move
 moved_within : (x : ℕ → ℤ) (t s : ℤ) (u v n : ℕ) (w : ℤ) → u < n → v < n → IsGap n x t → negsuc 0 ≤ℤ s →
     neg_ℤ (pos MAX_BOUND) ≤ℤ w → w ≤ℤ pos MAX_BOUND
-    → IsWithin x u v w → IsWithin (moved_past x t s) u v w
+    → MeetsConstraint x u v w → MeetsConstraint (moved_past x t s) u v w
 moved_within x t s u v n w first second gap low small_low small_high h =
     ⊎_elim
     (λ a. ⊎_elim
@@ -158,7 +158,7 @@ module _ (bounds : Bounds) (closed : IsClosed bounds) (loose : IsLoose bounds) w
         (omega (arith, ints)) in
         omega (arith, ints, r.1.1, y.1.0 a b first second c is, y.1.1.0, y.1.1.1)
 
-  pub AreSmall-closed : AreSmall bounds
+  pub AreSmall-closed : AreSmallBounds bounds
   AreSmall-closed a b c first second is = (
     by_order c (neg_ℤ (pos (MAX_BOUND * bounds.n))) (not_below a b first second c is),
     by_order (pos (MAX_BOUND * bounds.n)) c

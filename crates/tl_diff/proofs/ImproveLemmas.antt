@@ -1,7 +1,7 @@
 -- A closed difference bound matrix to which one constraint is added.
 use Rattle.std.proofs.Common.{ℕ, ◌<◌, ℤ, pos, ◌+ℤ◌, ◌≤ℤ◌, arith, inl, inr, ◌⊎◌, ⊎_elim}
 use Rattle.std.proofs.lemmas.Int.{ints}
-use Rattle.tl_diff.specs.Bounds.{Bounds, bound_at, Satisfies, IsWithin, AddsBound}
+use Rattle.tl_diff.specs.Bounds.{Bounds, bound_at, Satisfies, MeetsConstraint, AddsBound}
 use Rattle.tl_diff.specs.inner.Closed.{AtMost, IsClosed, IsImproved, lesser, via}
 use Rattle.tl_diff.proofs.AtMostLemmas.{AtMost-more, AtMost-lesser_left, AtMost-lesser_right, lesser-AtMost, AtMost-via}
 use Rattle.tl_diff.proofs.AtMostLemmas.{via-AtMost, Satisfies-at}
@@ -44,10 +44,10 @@ module _ (old new : Bounds) (u v : ℕ) (w : ℤ) (first : u < old.n) (second : 
       all = λ x meets within. Satisfies-from new x (λ p q t from to k. both x meets within p q t from to
           (improved-cases p q t from to k));
     } where
-      both : (x : ℕ → ℤ) → Satisfies old x → IsWithin x u v w → (p q : ℕ) (t : ℤ) → p < new.n → q < new.n
+      both : (x : ℕ → ℤ) → Satisfies old x → MeetsConstraint x u v w → (p q : ℕ) (t : ℤ) → p < new.n → q < new.n
           → AtMost (bound_at old p q) t ⊎
           ((s : ℤ) × ((r : ℤ) × (AtMost (bound_at old p u) s × (AtMost (bound_at old v q) r × (((s +ℤ w) +ℤ r) ≤ℤ t))))) →
-          IsWithin x p q t
+          MeetsConstraint x p q t
       both x meets within p q t from to (inl k) = Satisfies-at old x p q t meets (omega (arith, h.variables))
           (omega (arith, h.variables)) k
       both x meets within p q t from to (inr e) =

@@ -6,9 +6,9 @@ use Rattle.std.proofs.lemmas.Int.{ints, by_lt_z}
 use Rattle.std.proofs.lemmas.Bool.{cases_eq}
 use Rattle.std.proofs.lemmas.List.{length-set}
 use Rattle.tl_diff.specs.declared.matrix.TheConstants.{MAX_BOUND, MAX_VARIABLES}
-use Rattle.tl_diff.specs.Bounds.{bounds_of, Bounds, bound_at, Satisfies, IsWithin, IsSatisfiable, AddsBound, IsGreatest}
+use Rattle.tl_diff.specs.Bounds.{bounds_of, Bounds, bound_at, Satisfies, MeetsConstraint, IsSatisfiable, AddsBound, IsGreatest}
 use Rattle.tl_diff.specs.Bounds.{HasNoGreatest, IsSmall}
-use Rattle.tl_diff.specs.inner.Closed.{AtMost, IsClosed, AreSmall, IsExact, IsSound, IsImproved, IsRowSmall, IsFree}
+use Rattle.tl_diff.specs.inner.Closed.{AtMost, IsClosed, AreSmallBounds, IsExact, IsSoundMatrix, IsImproved, IsRowSmall, IsFree}
 use Rattle.tl_diff.proofs.AtMostLemmas.{AtMost-from, AtMost-more, Satisfies-at, Satisfies-from}
 use Rattle.tl_diff.proofs.EnvelopeLemmas.{under, Satisfies-under, IsGreatest-closed, HasNoGreatest-closed}
 use Rattle.tl_diff.proofs.GapLemmas.{IsLoose-adds, IsLoose-free, AreSmall-closed}
@@ -18,13 +18,13 @@ use Rattle.tl_diff.proofs.RowLemmas.{bound_at-set_same, bound_at-set_row, bound_
 -- ---- what a matrix says
 
 -- the matrix knows whether some assignment satisfies it
-pub IsSatisfiable-sound : (bounds : Bounds) (holds : Bool) → IsSound bounds holds → IsTrue holds ↔ IsSatisfiable bounds
+pub IsSatisfiable-sound : (bounds : Bounds) (holds : Bool) → IsSoundMatrix bounds holds → IsTrue holds ↔ IsSatisfiable bounds
 IsSatisfiable-sound bounds true h =
     (λ _. ((λ p. under bounds (λ _. pos 0) p bounds.n), Satisfies-under bounds (λ _. pos 0) (h.exact refl).closed), λ _. refl)
 IsSatisfiable-sound bounds false h = (λ e. cc, λ some. absurd (h.none refl some.0 some.1))
 
 -- one look-up gives the tightest bound
-pub upper_sound : (bounds : Bounds) (holds : Bool) (a b : ℕ) (o : Option ℤ) → IsSound bounds holds → IsSatisfiable bounds →
+pub upper_sound : (bounds : Bounds) (holds : Bool) (a b : ℕ) (o : Option ℤ) → IsSoundMatrix bounds holds → IsSatisfiable bounds →
     a < bounds.n →
     b < bounds.n → o ≡ bound_at bounds a b
     → MatchOption o (HasNoGreatest bounds a b) (IsGreatest bounds a b)
@@ -33,17 +33,18 @@ upper_sound bounds holds a b None h some first second is =
 upper_sound bounds holds a b (Some c) h some first second is =
     IsGreatest-closed bounds (h.exact ((IsSatisfiable-sound bounds holds h).1 some)).closed a b first second c (sym is)
 
-pub IsExact-sound : (bounds : Bounds) (holds : Bool) → IsSound bounds holds → IsSatisfiable bounds → IsExact bounds
+pub IsExact-sound : (bounds : Bounds) (holds : Bool) → IsSoundMatrix bounds holds → IsSatisfiable bounds → IsExact bounds
 IsExact-sound bounds holds h some = h.exact ((IsSatisfiable-sound bounds holds h).1 some)
 
 -- no bound is above MAX_BOUND times MAX_VARIABLES, or as much below 0
-pub IsRowSmall-sound : (bounds : Bounds) (p : ℕ) → bounds.n ≤ MAX_VARIABLES → AreSmall bounds → p < bounds.n → IsRowSmall bounds p
+pub IsRowSmall-sound : (bounds : Bounds) (p : ℕ) → bounds.n ≤ MAX_VARIABLES → AreSmallBounds bounds → p < bounds.n →
+    IsRowSmall bounds p
 IsRowSmall-sound bounds p few small there q c within is =
     let h = small p q c there within is in
     (omega (arith, ints, h.0), omega (arith, ints, h.1))
 
 -- the bound that one look-up finds is small
-pub small_sound : (bounds : Bounds) (holds : Bool) (a b : ℕ) (o : Option ℤ) → IsSound bounds holds → IsSatisfiable bounds →
+pub small_sound : (bounds : Bounds) (holds : Bool) (a b : ℕ) (o : Option ℤ) → IsSoundMatrix bounds holds → IsSatisfiable bounds →
     a < bounds.n →
     b < bounds.n → o ≡ bound_at bounds a b → IfSome o IsSmall
 small_sound bounds holds a b None h some first second is = tt
@@ -106,7 +107,7 @@ module _ (bounds : Bounds) (h : IsFree bounds bounds.n) where
         free_own p r (s +ℤ t) from (c.0 ∙ d.0) (omega (arith, ints, c.1, d.1));
   }
 
-  pub IsSound-free : 1 ≤ bounds.n → bounds.n ≤ MAX_VARIABLES → IsSound bounds true
+  pub IsSound-free : 1 ≤ bounds.n → bounds.n ≤ MAX_VARIABLES → IsSoundMatrix bounds true
   IsSound-free some few =
       let loose = IsLoose-free bounds Satisfies-free in
       record {
@@ -135,7 +136,7 @@ module _ (n : ℕ) (rows : List (Option ℤ)) (a b : ℕ) (most : ℤ) (first : 
     abbrev refused : Bounds
     refused = bounds_of n (set rows (a * n + b) (Some most))
 
-    none_meet_old : (x : ℕ → ℤ) → Satisfies (bounds_of n rows) x → IsWithin x a b most → ⊥
+    none_meet_old : (x : ℕ → ℤ) → Satisfies (bounds_of n rows) x → MeetsConstraint x a b most → ⊥
     none_meet_old x meets within = omega (
       arith,
       ints,
@@ -146,7 +147,7 @@ module _ (n : ℕ) (rows : List (Option ℤ)) (a b : ℕ) (most : ℤ) (first : 
     pub none_meet : (x : ℕ → ℤ) → Satisfies refused x → ⊥
     none_meet x meets = cases (cases_eq a b)
       where
-        there : IsWithin x a b most
+        there : MeetsConstraint x a b most
         there = meets a b first second most (bound_at-set_same n rows a b (Some most) pairs first second)
 
         cases : (a ≡ b) ⊎ (a ≢ b) → ⊥
@@ -166,7 +167,7 @@ module _ (n : ℕ) (rows : List (Option ℤ)) (a b : ℕ) (most : ℤ) (first : 
       all = λ x meets within. absurd (none_meet_old x meets within);
     }
 
-    pub IsSound-refused : 1 ≤ n → n ≤ MAX_VARIABLES → IsSound refused false
+    pub IsSound-refused : 1 ≤ n → n ≤ MAX_VARIABLES → IsSoundMatrix refused false
     IsSound-refused some few = record {
       some = some;
       few = few;
@@ -189,7 +190,7 @@ module _ (n : ℕ) (rows : List (Option ℤ)) (a b : ℕ) (most : ℤ) (first : 
     AddsBound-sound = AddsBound-improved (bounds_of n rows) (bounds_of n new) a b most first second improved exact.closed
 
     pub IsSound-improved : 1 ≤ n → n ≤ MAX_VARIABLES → neg_ℤ (pos MAX_BOUND) ≤ℤ most → most ≤ℤ pos MAX_BOUND
-        → ((t : ℤ) → AtMost (bound_at (bounds_of n rows) b a) t → pos 0 ≤ℤ (t +ℤ most)) → IsSound (bounds_of n new) true
+        → ((t : ℤ) → AtMost (bound_at (bounds_of n rows) b a) t → pos 0 ≤ℤ (t +ℤ most)) → IsSoundMatrix (bounds_of n new) true
     IsSound-improved some few low high round =
         let closed = IsClosed-improved (bounds_of n rows) (bounds_of n new) a b most first second improved exact.closed round in
         let loose = IsLoose-adds (bounds_of n rows) (bounds_of n new)

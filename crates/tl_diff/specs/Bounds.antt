@@ -21,31 +21,31 @@ abbrev pub bound_at : Bounds → ℕ → ℕ → Option ℤ
 bound_at bounds a b = get_or bounds.rows (a * bounds.n + b) None
 
 -- the assignment has `x_b <= x_a + m`
-abbrev pub IsWithin : (ℕ → ℤ) → ℕ → ℕ → ℤ → Type 0
-IsWithin x a b m = x b ≤ℤ (x a +ℤ m)
+abbrev pub MeetsConstraint : (ℕ → ℤ) → ℕ → ℕ → ℤ → Type 0
+MeetsConstraint x a b m = x b ≤ℤ (x a +ℤ m)
 
 -- the assignment satisfies every constraint
 abbrev pub Satisfies : Bounds → (ℕ → ℤ) → Type 0
-Satisfies bounds x = (a b : ℕ) → a < bounds.n → b < bounds.n → ForSome (bound_at bounds a b) (IsWithin x a b)
+Satisfies bounds x = (a b : ℕ) → a < bounds.n → b < bounds.n → ForSome (bound_at bounds a b) (MeetsConstraint x a b)
 
 -- some assignment satisfies every constraint
 abbrev pub IsSatisfiable : Bounds → Type 0
 IsSatisfiable bounds = (x : ℕ → ℤ) × Satisfies bounds x
 
 -- `x_b <= x_a + m` is implied: every assignment that satisfies the constraints has it
-abbrev pub Implied : Bounds → ℕ → ℕ → ℤ → Type 0
-Implied bounds a b m = (x : ℕ → ℤ) → Satisfies bounds x → IsWithin x a b m
+abbrev pub Implies : Bounds → ℕ → ℕ → ℤ → Type 0
+Implies bounds a b m = (x : ℕ → ℤ) → Satisfies bounds x → MeetsConstraint x a b m
 
 -- the assignments that satisfy the new constraints are those that satisfy the old ones and have `x_b <= x_a + m`
 pub record AddsBound (old new : Bounds) (a b : ℕ) (m : ℤ) : Type 0 where
   pub variables : new.n ≡ old.n
   pub keeps : (x : ℕ → ℤ) → Satisfies new x → Satisfies old x
-  pub adds : Implied new a b m
-  pub all : (x : ℕ → ℤ) → Satisfies old x → IsWithin x a b m → Satisfies new x
+  pub adds : Implies new a b m
+  pub all : (x : ℕ → ℤ) → Satisfies old x → MeetsConstraint x a b m → Satisfies new x
 
 -- m is the greatest `x_b - x_a`: the bound is implied, and some assignment that satisfies the constraints reaches it
 pub record IsGreatest (bounds : Bounds) (a b : ℕ) (m : ℤ) : Type 0 where
-  pub implied : Implied bounds a b m
+  pub implied : Implies bounds a b m
   pub reached : (x : ℕ → ℤ) × (Satisfies bounds x × (x b ≡ x a +ℤ m))
 
 -- there is a greatest `x_b - x_a`

@@ -19,13 +19,13 @@ pub struct ClosedBounds {
 
 impl Model for ClosedBounds {
     ghost use Rattle.tl_diff.specs.Bounds.{bounds_of, Bounds};
-    ghost use Rattle.tl_diff.specs.inner.Closed.{IsSound};
+    ghost use Rattle.tl_diff.specs.inner.Closed.{IsSoundMatrix};
 
     ghost Value = { Bounds };
 
     ghost view = { λ d. bounds_of d.variables d.rows.items };
 
-    ghost invariant = { λ d. IsSound (bounds_of d.variables d.rows.items) d.holds };
+    ghost invariant = { λ d. IsSoundMatrix (bounds_of d.variables d.rows.items) d.holds };
 }
 
 impl ClosedBounds {

@@ -5,7 +5,7 @@ ghost use Rattle.std.specs.Prelude.{◌≡◌, ℕ, ◌*◌, ◌<◌, ◌≤◌,
 ghost use Rattle.std.specs.Int.{w32};
 ghost use Rattle.std.specs.Option.{ForSome};
 ghost use Rattle.tl_diff.specs.Bounds.{bounds_of, bound_at, AddsBound};
-ghost use Rattle.tl_diff.specs.inner.Closed.{AtMost, lesser, IsImproved, IsSound, IsRowImproved, IsRowSmall};
+ghost use Rattle.tl_diff.specs.inner.Closed.{AtMost, lesser, IsImproved, IsSoundMatrix, IsRowImproved, IsRowSmall};
 
 use crate::matrix::{MAX_BOUND, MAX_VARIABLES};
 
@@ -13,13 +13,13 @@ use crate::matrix::{MAX_BOUND, MAX_VARIABLES};
 /// constraints. One that is implied changes nothing; one that no assignment can satisfy is written
 /// down as it is.
 pub fn add(rows: &mut [Option<i32>], variables: usize, a: usize, b: usize, most: i32) -> bool
-    requires sound { IsSound (bounds_of variables rows.old) true }
+    requires sound { IsSoundMatrix (bounds_of variables rows.old) true }
     requires begins { a < variables }
     requires ends { b < variables }
     requires low { neg_ℤ (pos MAX_BOUND) ≤ℤ most }
     requires high { most ≤ℤ pos MAX_BOUND }
     ensures adds { AddsBound (bounds_of variables rows.old) (bounds_of variables rows.new) a b most }
-    ensures sound { IsSound (bounds_of variables rows.new) result }
+    ensures sound { IsSoundMatrix (bounds_of variables rows.new) result }
 {
     if is_at_most(rows[a * variables + b], most) {
         return true;

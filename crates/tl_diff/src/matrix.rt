@@ -39,7 +39,7 @@ impl Drop for Matrix {
 impl Model for Matrix {
     ghost use Rattle.std.specs.Prelude.{length, reverse, take};
     ghost use Rattle.tl_diff.specs.Marks.{MarkedBounds};
-    ghost use Rattle.tl_diff.specs.inner.Marking.{HasRoom};
+    ghost use Rattle.tl_diff.specs.inner.Marking.{HasMarkRoom};
 
     ghost Value = { MarkedBounds };
 
@@ -49,7 +49,7 @@ impl Model for Matrix {
       held = reverse (take m.held m.copies.items);
     } };
 
-    ghost invariant = { λ m. HasRoom m.held m.bounds m.copies.items };
+    ghost invariant = { λ m. HasMarkRoom m.held m.bounds m.copies.items };
 }
 
 impl Matrix {

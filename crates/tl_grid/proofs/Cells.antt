@@ -9,7 +9,7 @@ use Rattle.std.proofs.lemmas.List.{map-append}
 use Rattle.std.proofs.lemmas.List.Elements.{filter-append}
 use Rattle.tl_grid.specs.declared.shape.SpanOf.{SpanOf}
 use Rattle.tl_grid.specs.declared.block.Block.{Block}
-use Rattle.tl_grid.specs.Forming.{Cell, covers, has_cell, first_free, cell_at, grown_into}
+use Rattle.tl_grid.specs.Forming.{FormedCell, covers, has_cell, first_free, anchored_cell, grown_into}
 use Rattle.tl_grid.specs.Overlap.{cells_over, numbers_over}
 use Rattle.tl_grid.specs.inner.OpenBlocks.{reaches}
 use Rattle.tl_grid.specs.inner.Walk.{block_at}
@@ -18,7 +18,7 @@ use Rattle.tl_grid.proofs.Passing.{some, any_is_some}
 
 -- the cell of a block, as it stands when the rows above row y are formed: a growing cell covers all
 -- of them from its top on
-abbrev pub cell_of : ℕ → Block → Cell
+abbrev pub cell_of : ℕ → Block → FormedCell
 cell_of y b = record {
   number = b.number;
   left = b.left;
@@ -29,16 +29,16 @@ cell_of y b = record {
 }
 
 -- a cell of an earlier row group: it grows no more, and covers no row from y on
-pub record IsQuiet (y : ℕ) (c : Cell) : Type 0 where
+pub record IsQuiet (y : ℕ) (c : FormedCell) : Type 0 where
   pub still : c.grows ≡ false
   pub above : (row : ℕ) → y ≤ row → c.rows row ≡ false
 
 -- all cells of earlier row groups
-abbrev pub AllQuiet : ℕ → List Cell → Type 0
+abbrev pub AllQuiet : ℕ → List FormedCell → Type 0
 AllQuiet y = AllByRecursion (IsQuiet y)
 
 -- the number of a cell
-abbrev pub number_of : Cell → ℕ
+abbrev pub number_of : FormedCell → ℕ
 number_of c = c.number
 
 -- the number of a block
@@ -56,19 +56,20 @@ or_true true = refl
 or_true false = refl
 
 -- a cell that covers no slot of the row lies over none of them
-pub quiet_none : (x y y' : ℕ) → y ≤ y' → (cs : List Cell) → AllQuiet y cs → numbers_over x y' cs ≡ []
+pub quiet_none : (x y y' : ℕ) → y ≤ y' → (cs : List FormedCell) → AllQuiet y cs → numbers_over x y' cs ≡ []
 quiet_none x y y' le [] q = refl
 quiet_none x y y' le (c ∷ cs) q =
     ap (map number_of) (filter_no (covers x y') c cs (and_right (leb c.left x && ltb x c.right) (c.rows y') (q.0.above y' le)))
     ∙ quiet_none x y y' le cs q.1
 
 -- one after the other
-pub numbers-append : (x y : ℕ) (cs ds : List Cell) → numbers_over x y (cs ++ ds) ≡ numbers_over x y cs ++ numbers_over x y ds
+pub numbers-append : (x y : ℕ) (cs ds : List FormedCell) →
+    numbers_over x y (cs ++ ds) ≡ numbers_over x y cs ++ numbers_over x y ds
 numbers-append x y cs ds =
     ap (map number_of) (filter-append (covers x y) cs ds) ∙ map-append number_of (cells_over x y cs) (cells_over x y ds)
 
 -- the cells lie over a slot as the blocks do, where each covers it just as its block
-pub numbers_same : (x y : ℕ) (f : Block → Cell) (p : Block → Bool) (P : Block → Type 0) →
+pub numbers_same : (x y : ℕ) (f : Block → FormedCell) (p : Block → Bool) (P : Block → Type 0) →
     ((b : Block) → (f b).number ≡ b.number) → ((b : Block) → P b → covers x y (f b) ≡ p b) →
     (bs : List Block) → AllByRecursion P bs → numbers_over x y (map f bs) ≡ map block_number (filter p bs)
 numbers_same x y f p P names same [] all = refl
@@ -102,7 +103,7 @@ pub covers_spot : (x y : ℕ) (b : Block) → BeginsBy y b → covers x y (cell_
 covers_spot x y b le = ap (λ r. (leb b.left x && ltb x b.right) && r) (rows_reach y b le)
 
 -- the cells over a slot of the row that is formed
-pub numbers_here : (x y : ℕ) (done : List Cell) (bs : List Block) → AllQuiet y done →
+pub numbers_here : (x y : ℕ) (done : List FormedCell) (bs : List Block) → AllQuiet y done →
     AllByRecursion (BeginsBy y) bs →
     numbers_over x y (done ++ map (cell_of (y + 1)) bs) ≡ map block_number (filter (spot x y) bs)
 numbers_here x y done bs quiet tops =
@@ -116,7 +117,7 @@ some_map f [] = refl
 some_map f (x ∷ xs) = refl
 
 -- a slot of the row that is formed has a cell where it has a block
-pub has_cell_here : (x y : ℕ) (done : List Cell) (bs : List Block) → AllQuiet y done →
+pub has_cell_here : (x y : ℕ) (done : List FormedCell) (bs : List Block) → AllQuiet y done →
     AllByRecursion (BeginsBy y) bs →
     has_cell x y (done ++ map (cell_of (y + 1)) bs) ≡ some (filter (spot x y) bs)
 has_cell_here x y done bs quiet tops =
@@ -155,7 +156,7 @@ bottoms true y n = refl
 bottoms false y n = refl
 
 -- a cell that is formed is the cell of its block
-pub formed_cell : (number x y : ℕ) (span : SpanOf) → cell_at number x y span ≡ cell_of (y + 1) (block_at number x y span)
+pub formed_cell : (number x y : ℕ) (span : SpanOf) → anchored_cell number x y span ≡ cell_of (y + 1) (block_at number x y span)
 formed_cell number x y span = λ i. record {
   number = number;
   left = x;
@@ -210,7 +211,7 @@ grown_cells y (b ∷ bs) all =
     (grown_cells y bs all.1)
 
 -- the cells of earlier groups do not grow
-still_cell : (y : ℕ) (c : Cell) → c.grows ≡ false → grown_into y c ≡ c
+still_cell : (y : ℕ) (c : FormedCell) → c.grows ≡ false → grown_into y c ≡ c
 still_cell y c e = λ i. record {
   number = c.number;
   left = c.left;
@@ -221,13 +222,13 @@ still_cell y c e = λ i. record {
 }
 
 -- the same for all cells of earlier groups
-pub still_cells : (y start : ℕ) (cs : List Cell) → AllQuiet start cs → map (grown_into y) cs ≡ cs
+pub still_cells : (y start : ℕ) (cs : List FormedCell) → AllQuiet start cs → map (grown_into y) cs ≡ cs
 still_cells y start [] q = refl
 still_cells y start (c ∷ cs) q =
     ap (λ d. d ∷ map (grown_into y) cs) (still_cell y c q.0.still) ∙ ap (λ ds. c ∷ ds) (still_cells y start cs q.1)
 
 -- growing into a row changes nothing in another
-pub grown_elsewhere : (x y y' : ℕ) → (y' ≡ y → ⊥) → (cs : List Cell) →
+pub grown_elsewhere : (x y y' : ℕ) → (y' ≡ y → ⊥) → (cs : List FormedCell) →
     numbers_over x y' (map (grown_into y) cs) ≡ numbers_over x y' cs
 grown_elsewhere x y y' ne [] = refl
 grown_elsewhere x y y' ne (c ∷ cs) =

@@ -10,14 +10,15 @@ use Rattle.std.proofs.lemmas.List.Folds.{list_any-append}
 use Rattle.tl_grid.specs.declared.shape.SpanOf.{SpanOf}
 use Rattle.tl_grid.specs.declared.shape.ShapeGroup.{ShapeGroup}
 use Rattle.tl_grid.specs.declared.shape.Shape.{Shape}
-use Rattle.tl_grid.specs.Forming.{Cell, Forming, covers, has_cell, first_free, initial_rowspan, cell_at, with_cell, form_cells}
+use Rattle.tl_grid.specs.Forming.{FormedCell, Forming, covers, has_cell, first_free, initial_rowspan, anchored_cell}
+use Rattle.tl_grid.specs.Forming.{with_cell, form_cells}
 use Rattle.tl_grid.specs.Forming.{grown_into, begin_row}
 use Rattle.tl_grid.specs.Forming.{form_row, form_rows, at_group_end, end_group, form_group, form_groups, cells_in, no_cells}
 use Rattle.tl_grid.specs.Forming.{formed}
 use Rattle.tl_grid.proofs.Rows.{rows_some}
 
 -- the slots to the left of the cell are taken in the row of its anchor
-abbrev pub IsFilled : List Cell → Cell → Type 0
+abbrev pub IsFilled : List FormedCell → FormedCell → Type 0
 IsFilled cells cell = (x : ℕ) → x < cell.left → has_cell x cell.top cells ≡ true
 
 -- so for all cells
@@ -25,22 +26,23 @@ abbrev pub AllFilled : Forming → Type 0
 AllFilled s = AllByRecursion (IsFilled s.cells) s.cells
 
 -- more slots are taken
-abbrev Covers : List Cell → List Cell → Type 0
+abbrev Covers : List FormedCell → List FormedCell → Type 0
 Covers cells others = (x y : ℕ) → has_cell x y cells ≡ true → has_cell x y others ≡ true
 
 -- what was filled stays filled
-filled_on : (cells others : List Cell) → Covers cells others → (cs : List Cell) → AllByRecursion (IsFilled cells) cs →
+filled_on : (cells others : List FormedCell) → Covers cells others → (cs : List FormedCell) → AllByRecursion (IsFilled cells) cs →
     AllByRecursion (IsFilled others) cs
 filled_on cells others more [] all = tt
 filled_on cells others more (c ∷ cs) all = (λ x lt. more x c.top (all.0 x lt), filled_on cells others more cs all.1)
 
 -- one more cell takes no slot away
-covers_push : (cells : List Cell) (c : Cell) → Covers cells (cells ++ c ∷ [])
+covers_push : (cells : List FormedCell) (c : FormedCell) → Covers cells (cells ++ c ∷ [])
 covers_push cells c x y has = list_any-append (covers x y) cells (c ∷ []) ∙ or_left (has_cell x y cells) (has_cell x y (c ∷ []))
     has
 
 -- one more cell that is filled
-push_filled : (P : Cell → Type 0) (cs : List Cell) (c : Cell) → AllByRecursion P cs → P c → AllByRecursion P (cs ++ c ∷ [])
+push_filled : (P : FormedCell → Type 0) (cs : List FormedCell) (c : FormedCell) → AllByRecursion P cs → P c →
+    AllByRecursion P (cs ++ c ∷ [])
 push_filled P [] c all is = (is, tt)
 push_filled P (d ∷ cs) c all is = (all.0, push_filled P cs c all.1 is)
 
@@ -63,7 +65,7 @@ passed_taken taken (suc k) x x' le lt =
 
 -- a cell takes the slots of its first row
 covers_first : (number x y : ℕ) (span : SpanOf) (x' : ℕ) → x ≤ x' → x' < x + span.colspan →
-    covers x' y (cell_at number x y span) ≡ true
+    covers x' y (anchored_cell number x y span) ≡ true
 covers_first number x y span x' le lt =
     and_from (leb x x' && ltb x' (x + span.colspan)) (leb y y && ltb y (y + initial_rowspan span))
     (and_from (leb x x') (ltb x' (x + span.colspan)) (le-leb x x' le) (lt-ltb x' (x + span.colspan) lt))
@@ -75,7 +77,7 @@ row_on : (number at : ℕ) (span : SpanOf) (s : Forming) →
     ((x' : ℕ) → x' < at → has_cell x' s.row s.cells ≡ true) → (x' : ℕ) → x' < at + span.colspan →
     has_cell x' s.row (with_cell number at span s).cells ≡ true
 row_on number at span s before x' lt =
-    let c : Cell = cell_at number at s.row span in
+    let c : FormedCell = anchored_cell number at s.row span in
     elim (cases_lt x' at) [
       | inl left ↦ covers_push s.cells c x' s.row (before x' left)
       | inr here ↦
@@ -92,7 +94,7 @@ cells_filled [] number x s before all = all
 cells_filled (span ∷ spans) number x s before all =
     let taken : ℕ → Bool = λ column. has_cell column s.row s.cells in
     let at : ℕ = first_free taken x (s.width - x) in
-    let c : Cell = cell_at number at s.row span in
+    let c : FormedCell = anchored_cell number at s.row span in
     let next : Forming = with_cell number at span s in
     let free : (x' : ℕ) → x' < at → has_cell x' s.row s.cells ≡ true =
     λ x' lt. elim (cases_lt x' x) [
@@ -104,7 +106,8 @@ cells_filled (span ∷ spans) number x s before all =
     (λ x' lt. covers_push s.cells c x' s.row (free x' lt)))
 
 -- a change of all cells that takes no slot from one
-covers_map : (f : Cell → Cell) → ((x y : ℕ) (c : Cell) → covers x y c ≡ true → covers x y (f c) ≡ true) → (cs : List Cell) →
+covers_map : (f : FormedCell → FormedCell) → ((x y : ℕ) (c : FormedCell) → covers x y c ≡ true → covers x y (f c) ≡ true) →
+    (cs : List FormedCell) →
     Covers cs (map f cs)
 covers_map f more [] x y has = has
 covers_map f more (c ∷ cs) x y has =
@@ -114,14 +117,14 @@ covers_map f more (c ∷ cs) x y has =
     ]
 
 -- a change that moves no anchor
-map_filled : (others : List Cell) (f : Cell → Cell) →
-    ((c : Cell) → IsFilled others c → IsFilled others (f c)) → (cs : List Cell) →
+map_filled : (others : List FormedCell) (f : FormedCell → FormedCell) →
+    ((c : FormedCell) → IsFilled others c → IsFilled others (f c)) → (cs : List FormedCell) →
     AllByRecursion (IsFilled others) cs → AllByRecursion (IsFilled others) (map f cs)
 map_filled others f same [] all = tt
 map_filled others f same (c ∷ cs) all = (same c all.0, map_filled others f same cs all.1)
 
 -- a cell with more rows covers no less
-more_rows : (x y : ℕ) (c : Cell) (more : Bool) → covers x y c ≡ true →
+more_rows : (x y : ℕ) (c : FormedCell) (more : Bool) → covers x y c ≡ true →
     ((leb c.left x && ltb x c.right) && (c.rows y || more)) ≡ true
 more_rows x y c more e =
     let is = and_parts (leb c.left x && ltb x c.right) (c.rows y) e in
@@ -145,7 +148,7 @@ rows_filled (spans ∷ rows) number s all =
 group_filled : (number : ℕ) (rows : List (List SpanOf)) (s : Forming) → AllFilled s → AllFilled (form_group number rows s)
 group_filled number rows s all =
     let last : Forming = form_rows number rows s in
-    let ended : Cell → Cell = at_group_end last.row last.height in
+    let ended : FormedCell → FormedCell = at_group_end last.row last.height in
     map_filled (end_group last).cells ended (λ c is. is) last.cells
     (filled_on last.cells (end_group last).cells
     (covers_map ended (λ x y c e. more_rows x y c (c.grows && (ltb last.row y && ltb y last.height)) e) last.cells) last.cells

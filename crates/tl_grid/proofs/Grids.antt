@@ -8,8 +8,8 @@ use Rattle.std.proofs.lemmas.Bool.{lt-ltb, le-ltb, le-leb, lt-leb, ne_eqb, cases
 use Rattle.tl_grid.specs.declared.block.Block.{Block}
 use Rattle.tl_grid.specs.declared.table.Table.{Table}
 use Rattle.tl_grid.specs.declared.shape.Place.{Place}
-use Rattle.tl_grid.specs.Forming.{Cell, Forming}
-use Rattle.tl_grid.specs.Dropping.{count_below, keeps_column, keeps_row, new_column, new_row, place_of}
+use Rattle.tl_grid.specs.Forming.{FormedCell, Forming}
+use Rattle.tl_grid.specs.Dropping.{count_below, keeps_column, keeps_row, new_column, new_row, kept_place}
 use Rattle.tl_base.specs.Lists.{is_among}
 use Rattle.tl_base.proofs.Members.{is_among-cons}
 use Rattle.tl_grid.specs.inner.Places.{begins_in_column, begins_in_row, place_by}
@@ -26,12 +26,12 @@ masked : (s : Forming) (t : Table) → TableMatches s t → map (mask (keeps_row
 masked s t m = m.pairs (keeps_row s.cells) (λ y lt. refl)
 
 -- the columns kept do not depend on rows
-columns_of_masked : (keeps : ℕ → Bool) (cs : List Cell) (x : ℕ) → keeps_column (map (mask keeps) cs) x ≡ keeps_column cs x
+columns_of_masked : (keeps : ℕ → Bool) (cs : List FormedCell) (x : ℕ) → keeps_column (map (mask keeps) cs) x ≡ keeps_column cs x
 columns_of_masked keeps [] x = refl
 columns_of_masked keeps (c ∷ cs) x = ap (λ t. eqb c.left x || t) (columns_of_masked keeps cs x)
 
 -- nor do the anchors' rows depend on the rows covered
-rows_of_masked : (keeps : ℕ → Bool) (cs : List Cell) (y : ℕ) → keeps_row (map (mask keeps) cs) y ≡ keeps_row cs y
+rows_of_masked : (keeps : ℕ → Bool) (cs : List FormedCell) (y : ℕ) → keeps_row (map (mask keeps) cs) y ≡ keeps_row cs y
 rows_of_masked keeps [] y = refl
 rows_of_masked keeps (c ∷ cs) y = ap (λ t. eqb c.top y || t) (rows_of_masked keeps cs y)
 
@@ -163,7 +163,7 @@ count_between keeps a b (suc n) le le' =
     ]
 
 -- the place of a cell, by what the rows with an anchor show of it
-abbrev place_shown : Forming → Cell → Place
+abbrev place_shown : Forming → FormedCell → Place
 place_shown s c = record {
   left = new_column s.cells c.left;
   right = new_column s.cells c.left + count_below (between (keeps_column s.cells) c.left c.right) s.width;
@@ -185,13 +185,13 @@ block_place s b sound =
     }
 
 -- the block shows where the cell is
-pub record IsShownBy (s : Forming) (cell : Cell) (b : Block) : Type 0 where
+pub record IsShownBy (s : Forming) (cell : FormedCell) (b : Block) : Type 0 where
   pub same : mask (keeps_row s.cells) cell ≡ mask (keeps_row s.cells) (whole b)
   pub sound : IsSound s.width s.height b
-  pub place : place_of s cell ≡ place_by (keeps_column s.cells) (keeps_row s.cells) b
+  pub place : kept_place s cell ≡ place_by (keeps_column s.cells) (keeps_row s.cells) b
 
 -- a block shows a cell that looks alike where rows are kept
-shows : (s : Forming) (cell : Cell) (b : Block) →
+shows : (s : Forming) (cell : FormedCell) (b : Block) →
     mask (keeps_row s.cells) cell ≡ mask (keeps_row s.cells) (whole b) → IsSound s.width s.height b →
     IsShownBy s cell b
 shows s cell b same sound = record {
@@ -201,7 +201,7 @@ shows s cell b same sound = record {
 }
 
 -- lists of cells and blocks that look alike do so one by one
-shown_each : (s : Forming) (cells : List Cell) (bs : List Block) →
+shown_each : (s : Forming) (cells : List FormedCell) (bs : List Block) →
     map (mask (keeps_row s.cells)) cells ≡ map (mask (keeps_row s.cells)) (map whole bs) →
     AllByRecursion (IsSound s.width s.height) bs →
     AllByRecursion (λ cell. (b : Block) × IsShownBy s cell b) cells
@@ -219,11 +219,11 @@ all_shown s t m = shown_each s s.cells t.blocks (masked s t m) m.sound
 -- what holds of the blocks' numbers and places holds of the cells'
 pub all_placed : (s : Forming) (t : Table) (P : ℕ → Place → Type 0) → TableMatches s t →
     AllByRecursion (λ (b : Block). P b.number (place_by (keeps_column s.cells) (keeps_row s.cells) b)) t.blocks →
-    AllByRecursion (λ (cell : Cell). P cell.number (place_of s cell)) s.cells
+    AllByRecursion (λ (cell : FormedCell). P cell.number (kept_place s cell)) s.cells
 all_placed s t P m all =
     let keeps : ℕ → Bool = keeps_row s.cells in
-    let Q : Cell → Type 0 = λ cell. P cell.number (place_shown s cell) in
-    let R : List Cell → Type 0 = λ cells. AllByRecursion Q cells in
+    let Q : FormedCell → Type 0 = λ cell. P cell.number (place_shown s cell) in
+    let R : List FormedCell → Type 0 = λ cells. AllByRecursion Q cells in
     all_from_map Q (mask keeps) s.cells
     (subst R (sym (masked s t m))
     (all_to_map Q (mask keeps) (map whole t.blocks)

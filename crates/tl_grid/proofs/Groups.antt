@@ -10,10 +10,11 @@ use Rattle.tl_grid.specs.declared.shape.SpanOf.{SpanOf}
 use Rattle.tl_grid.specs.declared.block.Block.{Block}
 use Rattle.tl_grid.specs.declared.error.GridError.{GridError}
 use Rattle.tl_grid.specs.declared.error.GridError.TheVariants.{Memory, TooManyCells, Overlap, TooManyColumns, TooManyRows}
-use Rattle.tl_grid.specs.Forming.{Cell, Forming, with_cell, form_cells, begin_row, next_row, form_row, form_rows, grown_into}
+use Rattle.tl_grid.specs.Forming.{FormedCell, Forming, with_cell, form_cells, begin_row, next_row, form_row, form_rows}
+use Rattle.tl_grid.specs.Forming.{grown_into}
 use Rattle.tl_grid.specs.Overlap.{numbers_over, IsBefore}
 use Rattle.tl_grid.specs.inner.OpenBlocks.{reaches, Walk, hit}
-use Rattle.tl_grid.specs.inner.Walk.{Row, RowGroup, placed, walk_of, unless_hit, place_cells, row_of, after_row, then_ok}
+use Rattle.tl_grid.specs.inner.Walk.{Row, RowGroup, row_with_cell, walk_of, unless_hit, place_cells, row_of, after_row, then_ok}
 use Rattle.tl_grid.specs.inner.Walk.{place_rows}
 use Rattle.tl_grid.proofs.Chains.{spot, Chain, chain_append, chain_kept}
 use Rattle.tl_grid.proofs.Passing.{passes}
@@ -23,10 +24,10 @@ use Rattle.tl_grid.proofs.Later.{form_cells_before, form_cells_row, Later, later
 use Rattle.tl_grid.proofs.Rows.{RowMatches, IsWide, IsFoundIn, IsSound, sound_on, column_found, row_step, row_overlap, hit_block}
 use Rattle.tl_grid.proofs.Rows.{all_weaken}
 use Rattle.tl_grid.proofs.Rows.{one_at_most_here}
-use Rattle.tl_grid.specs.inner.States.{EndsBy}
+use Rattle.tl_grid.specs.inner.States.{BlockEndsBy}
 
 -- the error is the first overlap of the cells, in a row above row n
-abbrev pub FoundAbove : ℕ → List Cell → GridError → Type 0
+abbrev pub FoundAbove : ℕ → List FormedCell → GridError → Type 0
 FoundAbove n cells (Memory e) = ⊥
 FoundAbove n cells (TooManyCells count) = ⊥
 FoundAbove n cells (Overlap first second x y) = IsFoundIn cells first second x y × (y < n)
@@ -39,7 +40,7 @@ up_to n x y x' y' lt (inl above) = omega arith
 up_to n x y x' y' lt (inr (same, left)) = omega arith
 
 -- it stays so where the slots up to it keep their cells
-pub found_kept : (n : ℕ) (cs ds : List Cell) (e : GridError) →
+pub found_kept : (n : ℕ) (cs ds : List FormedCell) (e : GridError) →
     ((x y : ℕ) → y < n → numbers_over x y ds ≡ numbers_over x y cs) → FoundAbove n cs e → FoundAbove n ds e
 found_kept n cs ds (Memory e) same f = f
 found_kept n cs ds (TooManyCells count) same f = f
@@ -55,7 +56,7 @@ found_kept n cs ds (TooManyColumns count) same f = f
 found_kept n cs ds (TooManyRows count) same f = f
 
 -- a row in the walk is the standard's row, or stops at its first overlap
-abbrev pub RowGives : List Cell → ℕ → Forming → Result Row GridError → Type 0
+abbrev pub RowGives : List FormedCell → ℕ → Forming → Result Row GridError → Type 0
 RowGives done y s (Ok row) = RowMatches done y s row
 RowGives done y s (Err error) = FoundAbove (y + 1) s.cells error
 
@@ -66,7 +67,7 @@ before_further x' y' x z y lt (inr (same, left)) = inr (same, omega arith)
 
 -- one cell, by whether it runs into a block
 row_gives_step : (more : Result Row GridError) (o : Option Block) (span : SpanOf) (spans : List SpanOf)
-    (done : List Cell) (y number : ℕ) (s : Forming) (r : Row) → AllQuiet y done → IsWide span →
+    (done : List FormedCell) (y number : ℕ) (s : Forming) (r : Row) → AllQuiet y done → IsWide span →
     RowMatches done y s r → hit (walk_of y r).ahead ((walk_of y r).column + span.colspan) ≡ o →
     (o ≡ None → RowGives done y (form_cells (number + 1) ((walk_of y r).column + span.colspan) spans
     (with_cell number (walk_of y r).column span s)) more) →
@@ -94,7 +95,7 @@ row_gives_step more (Some b) span spans done y number s r quiet wide m found res
     )
 
 -- a whole row
-pub row_gives : (spans : List SpanOf) (done : List Cell) (y number : ℕ) (s : Forming) (r : Row) →
+pub row_gives : (spans : List SpanOf) (done : List FormedCell) (y number : ℕ) (s : Forming) (r : Row) →
     AllQuiet y done → AllByRecursion IsWide spans → RowMatches done y s r →
     RowGives done y (form_cells number r.column spans s) (place_cells y number r spans)
 row_gives [] done y number s r quiet wide m = m
@@ -103,18 +104,18 @@ row_gives (span ∷ spans) done y number s r quiet wide m =
     let P : ℕ → Type 0 = λ x. RowGives done y (form_cells (number + 1) (x + span.colspan) spans
     (with_cell number x span s)) (place_cells y number r (span ∷ spans)) in
     subst P (sym (column_found done y s r quiet m))
-    (row_gives_step (place_cells y (number + 1) (placed y number span r w) spans)
+    (row_gives_step (place_cells y (number + 1) (row_with_cell y number span r w) spans)
     (hit w.ahead (w.column + span.colspan)) span spans done y number s r quiet wide.0 m refl
     (λ none. row_gives spans done y (number + 1)
-    (with_cell number w.column span s) (placed y number span r w) quiet wide.1
+    (with_cell number w.column span s) (row_with_cell y number span r w) quiet wide.1
     (row_step done y number span s r quiet wide.0 m none)))
 
 -- a row group in the standard's steps and in the walk, between two rows
-pub record GroupMatches (done : List Cell) (s : Forming) (g : RowGroup) : Type 0 where
+pub record GroupMatches (done : List FormedCell) (s : Forming) (g : RowGroup) : Type 0 where
   pub cells : s.cells ≡ done ++ map (cell_of g.row) g.blocks
   pub at_row : s.row ≡ g.row
   pub high : s.height ≡ g.height
-  pub within : AllByRecursion (EndsBy s.width) g.open_blocks
+  pub within : AllByRecursion (BlockEndsBy s.width) g.open_blocks
   pub tops : AllByRecursion (BeginsAbove g.row) g.blocks
   pub sound : AllByRecursion (IsSound s.width g.height) g.blocks
   pub low : g.row ≤ g.height
@@ -124,7 +125,7 @@ pub record GroupMatches (done : List Cell) (s : Forming) (g : RowGroup) : Type 0
   pub quiet : AllQuiet g.row done
 
 -- the cells when a row begins
-begun_cells : (done : List Cell) (y : ℕ) (bs : List Block) → AllQuiet y done →
+begun_cells : (done : List FormedCell) (y : ℕ) (bs : List Block) → AllQuiet y done →
     AllByRecursion (BeginsAbove y) bs →
     map (grown_into y) (done ++ map (cell_of y) bs) ≡ done ++ map (cell_of (y + 1)) bs
 begun_cells done y bs quiet tops =
@@ -133,7 +134,7 @@ begun_cells done y bs quiet tops =
     ∙ ap (λ l. done ++ l) (grown_cells y bs tops)
 
 -- a row begins
-row_begins : (done : List Cell) (s : Forming) (g : RowGroup) → GroupMatches done s g →
+row_begins : (done : List FormedCell) (s : Forming) (g : RowGroup) → GroupMatches done s g →
     RowMatches done g.row (begin_row s) (row_of g)
 row_begins done s g m =
     let at_row : s.row ≡ g.row = m.at_row in
@@ -157,13 +158,13 @@ row_begins done s g m =
     }
 
 -- a quiet cell is quiet from any later row on
-pub quiet_on : (y z : ℕ) → y ≤ z → (cs : List Cell) → AllQuiet y cs → AllQuiet z cs
+pub quiet_on : (y z : ℕ) → y ≤ z → (cs : List FormedCell) → AllQuiet y cs → AllQuiet z cs
 quiet_on y z le [] q = tt
 quiet_on y z le (c ∷ cs) q =
     (record { still = q.0.still; above = λ row h. q.0.above row (omega arith) }, quiet_on y z le cs q.1)
 
 -- a row ends
-row_ends : (done : List Cell) (y : ℕ) (s : Forming) (r : Row) → AllQuiet y done → RowMatches done y s r →
+row_ends : (done : List FormedCell) (y : ℕ) (s : Forming) (r : Row) → AllQuiet y done → RowMatches done y s r →
     GroupMatches done (next_row s) (after_row y r)
 row_ends done y s r quiet m =
     let at_row : s.row ≡ y = m.at_row in
@@ -196,12 +197,12 @@ row_ends done y s r quiet m =
     }
 
 -- the rows of a group in the walk are the standard's, or stop at their first overlap
-abbrev pub RowsGive : List Cell → Forming → Result RowGroup GridError → Type 0
+abbrev pub RowsGive : List FormedCell → Forming → Result RowGroup GridError → Type 0
 RowsGive done s (Ok group) = GroupMatches done s group
 RowsGive done s (Err error) = FoundAbove s.row s.cells error
 
 -- an overlap above row n is above any later row
-pub found_on : (n m : ℕ) (cs : List Cell) (e : GridError) → n ≤ m → FoundAbove n cs e → FoundAbove m cs e
+pub found_on : (n m : ℕ) (cs : List FormedCell) (e : GridError) → n ≤ m → FoundAbove n cs e → FoundAbove m cs e
 found_on n m cs (Memory e) le f = f
 found_on n m cs (TooManyCells count) le f = f
 found_on n m cs (Overlap first second x y) le f = (f.0, omega (arith, f.1))
@@ -213,7 +214,7 @@ abbrev pub AllWide : List (List SpanOf) → Type 0
 AllWide = AllByRecursion (AllByRecursion IsWide)
 
 -- the rest of the rows, after one
-rows_give_step : (result : Result Row GridError) (done : List Cell) (y number : ℕ) (s : Forming)
+rows_give_step : (result : Result Row GridError) (done : List FormedCell) (y number : ℕ) (s : Forming)
     (rows : List (List SpanOf)) → s.row ≡ y → AllQuiet y done → RowGives done y s result →
     ((row : Row) → RowMatches done y s row → RowsGive done (form_rows number rows (next_row s))
     (place_rows number (after_row y row) rows)) →
@@ -227,7 +228,7 @@ rows_give_step (Err error) done y number s rows at_row quiet gives next =
     (found_kept (y + 1) s.cells last.cells error (λ x' y' lt. later.numbers x' y' (omega arith)) gives)
 
 -- all rows of a group
-pub rows_give : (rows : List (List SpanOf)) (done : List Cell) (number : ℕ) (s : Forming) (g : RowGroup) →
+pub rows_give : (rows : List (List SpanOf)) (done : List FormedCell) (number : ℕ) (s : Forming) (g : RowGroup) →
     AllWide rows → GroupMatches done s g → RowsGive done (form_rows number rows s) (place_rows number g rows)
 rows_give [] done number s g wide m = m
 rows_give (spans ∷ rows) done number s g wide m =

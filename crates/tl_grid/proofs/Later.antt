@@ -6,7 +6,8 @@ use Rattle.std.proofs.lemmas.Bool.{lt-leb, le-ltb, ne_eqb, cases_Bool, and_left,
 use Rattle.std.proofs.lemmas.List.Folds.{list_any-append}
 use Rattle.tl_grid.specs.declared.shape.SpanOf.{SpanOf}
 use Rattle.tl_grid.specs.declared.shape.ShapeGroup.{ShapeGroup}
-use Rattle.tl_grid.specs.Forming.{Cell, Forming, covers, has_cell, first_free, initial_rowspan, cell_at, with_cell, form_cells}
+use Rattle.tl_grid.specs.Forming.{FormedCell, Forming, covers, has_cell, first_free, initial_rowspan, anchored_cell}
+use Rattle.tl_grid.specs.Forming.{with_cell, form_cells}
 use Rattle.tl_grid.specs.Forming.{grown_into, begin_row}
 use Rattle.tl_grid.specs.Forming.{next_row, form_row, form_rows, at_group_end, end_group, form_group, form_groups, cells_in}
 use Rattle.tl_grid.specs.Overlap.{numbers_over, IsBefore}
@@ -35,7 +36,7 @@ later_then y z s t u le a b = record {
 }
 
 -- a cell of row y covers no slot above it, and none further left
-misses : (number x y : ℕ) (span : SpanOf) (x' y' : ℕ) → IsBefore x' y' x y → covers x' y' (cell_at number x y span) ≡ false
+misses : (number x y : ℕ) (span : SpanOf) (x' y' : ℕ) → IsBefore x' y' x y → covers x' y' (anchored_cell number x y span) ≡ false
 misses number x y span x' y' (inl above) =
     and_right (leb x x' && ltb x' (x + span.colspan)) (leb y y' && ltb y' (y + initial_rowspan span))
     (and_left (leb y y') (ltb y' (y + initial_rowspan span)) (lt-leb y y' above))
@@ -47,9 +48,9 @@ misses number x y span x' y' (inr (same, left)) =
 pub with_cell_before : (number x : ℕ) (span : SpanOf) (s : Forming) (x' y' : ℕ) → IsBefore x' y' x s.row →
     numbers_over x' y' (with_cell number x span s).cells ≡ numbers_over x' y' s.cells
 with_cell_before number x span s x' y' before =
-    numbers-append x' y' s.cells (cell_at number x s.row span ∷ [])
+    numbers-append x' y' s.cells (anchored_cell number x s.row span ∷ [])
     ∙ ap (λ l. numbers_over x' y' s.cells ++ map number_of l)
-    (filter_no (covers x' y') (cell_at number x s.row span) [] (misses number x s.row span x' y' before))
+    (filter_no (covers x' y') (anchored_cell number x s.row span) [] (misses number x s.row span x' y' before))
     ∙ append-nil (numbers_over x' y' s.cells)
 
 -- what is before a column is before one that is not further left
@@ -83,7 +84,7 @@ form_cells_anchors [] number x s y' lt = refl
 form_cells_anchors (span ∷ spans) number x s y' lt =
     let at : ℕ = first_free (λ column. has_cell column s.row s.cells) x (s.width - x) in
     form_cells_anchors spans (number + 1) (at + span.colspan) (with_cell number at span s) y' lt
-    ∙ list_any-append (λ (c : Cell). eqb c.top y') s.cells (cell_at number at s.row span ∷ [])
+    ∙ list_any-append (λ (c : FormedCell). eqb c.top y') s.cells (anchored_cell number at s.row span ∷ [])
     ∙ ap (λ t. keeps_row s.cells y' || (t || false)) (ne_eqb s.row y' (λ e. omega arith))
     ∙ or_false (keeps_row s.cells y')
 
@@ -107,7 +108,7 @@ later_cells spans number x s = record {
 }
 
 -- anchors stay where cells are changed one by one
-pub anchors-map : (f : Cell → Cell) → ((c : Cell) → (f c).top ≡ c.top) → (cs : List Cell) (y : ℕ) →
+pub anchors-map : (f : FormedCell → FormedCell) → ((c : FormedCell) → (f c).top ≡ c.top) → (cs : List FormedCell) (y : ℕ) →
     keeps_row (map f cs) y ≡ keeps_row cs y
 anchors-map f same [] y = refl
 anchors-map f same (c ∷ cs) y =
@@ -145,7 +146,7 @@ later_rows (spans ∷ rows) number s =
     (later_rows rows (number + length spans) after)
 
 -- the end of a group changes nothing above the row that comes after it
-pub ended_elsewhere : (x row height y' : ℕ) → y' ≤ row → (cs : List Cell) →
+pub ended_elsewhere : (x row height y' : ℕ) → y' ≤ row → (cs : List FormedCell) →
     numbers_over x y' (map (at_group_end row height) cs) ≡ numbers_over x y' cs
 ended_elsewhere x row height y' le [] = refl
 ended_elsewhere x row height y' le (c ∷ cs) =

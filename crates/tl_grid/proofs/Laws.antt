@@ -15,9 +15,9 @@ use Rattle.tl_grid.specs.declared.table.Table.{Table}
 use Rattle.tl_grid.specs.declared.error.GridError.{GridError}
 use Rattle.tl_grid.specs.declared.error.GridError.TheVariants.{Memory, TooManyCells, Overlap, TooManyColumns, TooManyRows}
 use Rattle.tl_grid.specs.Shapes.{AllSpans}
-use Rattle.tl_grid.specs.Forming.{Cell, Forming, covers, formed, cell_count}
+use Rattle.tl_grid.specs.Forming.{FormedCell, Forming, covers, formed, cell_count}
 use Rattle.tl_grid.specs.Overlap.{cells_over, numbers_over, HasNoOverlap}
-use Rattle.tl_grid.specs.Dropping.{count_below, keeps_column, keeps_row, new_column, new_row, place_of, IsPlaced, ArePlaces}
+use Rattle.tl_grid.specs.Dropping.{count_below, keeps_column, keeps_row, new_column, new_row, kept_place, IsPlaced, ArePlaces}
 use Rattle.tl_grid.specs.Dropping.{StandsAtNumber}
 use Rattle.tl_grid.specs.Slots.{HasSlot, AreApart, HasAnchorInColumn, HasAnchorInRow, IsFilledToLeft, KeepsSlots}
 use Rattle.tl_grid.specs.Form.{HasGrid}
@@ -108,19 +108,19 @@ shown shape spans one =
     all_shown (formed shape) t m
 
 -- the column of an anchor is kept
-column_kept : (cells : List Cell) (c : Cell) → IsIn c cells → keeps_column cells c.left ≡ true
-column_kept cells c is = any_of (λ (d : Cell). eqb d.left c.left) cells c is (eq-eqb c.left c.left refl)
+column_kept : (cells : List FormedCell) (c : FormedCell) → IsIn c cells → keeps_column cells c.left ≡ true
+column_kept cells c is = any_of (λ (d : FormedCell). eqb d.left c.left) cells c is (eq-eqb c.left c.left refl)
 
 -- so is its row
-row_kept : (cells : List Cell) (c : Cell) → IsIn c cells → keeps_row cells c.top ≡ true
-row_kept cells c is = any_of (λ (d : Cell). eqb d.top c.top) cells c is (eq-eqb c.top c.top refl)
+row_kept : (cells : List FormedCell) (c : FormedCell) → IsIn c cells → keeps_row cells c.top ≡ true
+row_kept cells c is = any_of (λ (d : FormedCell). eqb d.top c.top) cells c is (eq-eqb c.top c.top refl)
 
 -- the place of a cell that a block shows
-shown_placed : (s : Forming) (c : Cell) (b : Block) → IsIn c s.cells → IsShownBy s c b →
-    IsPlaced (count_below (keeps_column s.cells) s.width) (count_below (keeps_row s.cells) s.height) (place_of s c)
+shown_placed : (s : Forming) (c : FormedCell) (b : Block) → IsIn c s.cells → IsShownBy s c b →
+    IsPlaced (count_below (keeps_column s.cells) s.width) (count_below (keeps_row s.cells) s.height) (kept_place s c)
 shown_placed s c b is shows =
-    let left : c.left ≡ b.left = ap (λ (d : Cell). d.left) shows.same in
-    let top : c.top ≡ b.top = ap (λ (d : Cell). d.top) shows.same in
+    let left : c.left ≡ b.left = ap (λ (d : FormedCell). d.left) shows.same in
+    let top : c.top ≡ b.top = ap (λ (d : FormedCell). d.top) shows.same in
     let P : Place → Type 0 = λ place. IsPlaced (count_below (keeps_column s.cells) s.width)
     (count_below (keeps_row s.cells) s.height) place in
     subst P (sym shows.place) (
@@ -132,13 +132,13 @@ shown_placed s c b is shows =
     )
 
 -- in a kept row a cell covers what its block does
-covers_shown : (s : Forming) (c : Cell) (b : Block) (x y : ℕ) → IsShownBy s c b → keeps_row s.cells y ≡ true →
+covers_shown : (s : Forming) (c : FormedCell) (b : Block) (x y : ℕ) → IsShownBy s c b → keeps_row s.cells y ≡ true →
     covers x y c ≡ ((leb b.left x && ltb x b.right) && (leb b.top y && ltb y b.bottom))
 covers_shown s c b x y shows kept =
-    let left : c.left ≡ b.left = ap (λ (d : Cell). d.left) shows.same in
-    let right : c.right ≡ b.right = ap (λ (d : Cell). d.right) shows.same in
+    let left : c.left ≡ b.left = ap (λ (d : FormedCell). d.left) shows.same in
+    let right : c.right ≡ b.right = ap (λ (d : FormedCell). d.right) shows.same in
     let masked : (keeps_row s.cells y && c.rows y) ≡ (keeps_row s.cells y && (leb b.top y && ltb y b.bottom)) =
-    ap (λ (d : Cell). d.rows y) shows.same in
+    ap (λ (d : FormedCell). d.rows y) shows.same in
     let P : Bool → Type 0 = λ k. (k && c.rows y) ≡ (k && (leb b.top y && ltb y b.bottom)) in
     let rows : c.rows y ≡ (leb b.top y && ltb y b.bottom) = subst P kept masked in
     ap (λ l. (leb l x && ltb x c.right) && c.rows y) left
@@ -146,9 +146,9 @@ covers_shown s c b x y shows kept =
     ∙ ap (λ r. (leb b.left x && ltb x b.right) && r) rows
 
 -- a kept slot of a cell is one of its place
-slot_of : (s : Forming) (c : Cell) (b : Block) (x y : ℕ) → IsShownBy s c b → keeps_column s.cells x ≡ true →
+slot_of : (s : Forming) (c : FormedCell) (b : Block) (x y : ℕ) → IsShownBy s c b → keeps_column s.cells x ≡ true →
     keeps_row s.cells y ≡ true → covers x y c ≡ true →
-    HasSlot (new_column s.cells x) (new_row s.cells y) (place_of s c)
+    HasSlot (new_column s.cells x) (new_row s.cells y) (kept_place s c)
 slot_of s c b x y shows column row has =
     let is = and_parts (leb b.left x && ltb x b.right) (leb b.top y && ltb y b.bottom)
     (sym (covers_shown s c b x y shows row) ∙ has) in
@@ -163,8 +163,8 @@ slot_of s c b x y shows column row has =
     )
 
 -- and the converse
-slot_back : (s : Forming) (c : Cell) (b : Block) (x y : ℕ) → IsShownBy s c b → keeps_column s.cells x ≡ true →
-    keeps_row s.cells y ≡ true → HasSlot (new_column s.cells x) (new_row s.cells y) (place_of s c) →
+slot_back : (s : Forming) (c : FormedCell) (b : Block) (x y : ℕ) → IsShownBy s c b → keeps_column s.cells x ≡ true →
+    keeps_row s.cells y ≡ true → HasSlot (new_column s.cells x) (new_row s.cells y) (kept_place s c) →
     covers x y c ≡ true
 slot_back s c b x y shows column row has =
     let P : Place → Type 0 = λ place. HasSlot (new_column s.cells x) (new_row s.cells y) place in
@@ -179,8 +179,8 @@ slot_back s c b x y shows column row has =
     (lt-ltb y b.bottom (below_back (keeps_row s.cells) y b.bottom is.3)))
 
 -- a slot of the place of a cell comes from a kept one
-slot_from : (s : Forming) (c : Cell) (b : Block) (x y : ℕ) → IsIn c s.cells → IsShownBy s c b →
-    HasSlot x y (place_of s c) →
+slot_from : (s : Forming) (c : FormedCell) (b : Block) (x y : ℕ) → IsIn c s.cells → IsShownBy s c b →
+    HasSlot x y (kept_place s c) →
     (column row : ℕ) × (keeps_column s.cells column ≡ true) × (keeps_row s.cells row ≡ true) × (new_column s.cells column ≡ x) ×
     (new_row s.cells row ≡ y)
 slot_from s c b x y is shows has =
@@ -190,7 +190,7 @@ slot_from s c b x y is shows has =
     (column, row, at.1, at'.1, at.2, at'.2)
 
 -- the kept slots of a cell are exactly those of its place
-shown_keeps : (s : Forming) (c : Cell) (b : Block) → IsIn c s.cells → IsShownBy s c b → KeepsSlots s c
+shown_keeps : (s : Forming) (c : FormedCell) (b : Block) → IsIn c s.cells → IsShownBy s c b → KeepsSlots s c
 shown_keeps s c b is shows = record {
   same = λ x y column row. (slot_of s c b x y shows column row, slot_back s c b x y shows column row);
   whole = λ x y has. slot_from s c b x y is shows has;
@@ -208,7 +208,7 @@ kept_slots shape grid spans has =
 -- each place is that of a cell
 place_at : (shape : Shape) (places : List Place) → ArePlaces shape places → (k : ℕ) (d : Place) →
     k < length places →
-    (c : Cell) × (IsIn c (formed shape).cells × (c.number ≡ k) × (get_or places k d ≡ place_of (formed shape) c))
+    (c : FormedCell) × (IsIn c (formed shape).cells × (c.number ≡ k) × (get_or places k d ≡ kept_place (formed shape) c))
 place_at shape places are k d lt =
     let many : length places ≡ cell_count shape = are.as_many in
     let (c, is) = cell_numbered shape k (omega arith) in
@@ -218,27 +218,27 @@ place_at shape places are k d lt =
       (
         is.0,
         is.1,
-        ap (λ i. get_or places i d) (sym is.1) ∙ get_or_from_slice_get places c.number (place_of (formed shape) c)
+        ap (λ i. get_or places i d) (sym is.1) ∙ get_or_from_slice_get places c.number (kept_place (formed shape) c)
             d stands,
       ),
     )
 
 -- what holds of the place of each cell holds of each place
 all_places : (shape : Shape) (places : List Place) (P : Place → Type 0) → ArePlaces shape places →
-    ((c : Cell) → IsIn c (formed shape).cells → P (place_of (formed shape) c)) → All P places
+    ((c : FormedCell) → IsIn c (formed shape).cells → P (kept_place (formed shape) c)) → All P places
 all_places shape places P are each k d lt =
     let (c, is) = place_at shape places are k d lt in subst P (sym is.2) (each c is.0)
 
 -- what holds of the place of a cell holds of a place
-any_place : (shape : Shape) (places : List Place) (P : Place → Type 0) (c : Cell) → ArePlaces shape places →
-    IsIn c (formed shape).cells → P (place_of (formed shape) c) → Any P places
+any_place : (shape : Shape) (places : List Place) (P : Place → Type 0) (c : FormedCell) → ArePlaces shape places →
+    IsIn c (formed shape).cells → P (kept_place (formed shape) c) → Any P places
 any_place shape places P c are is holds =
     let stands : StandsAtNumber (formed shape) places c = all_at (StandsAtNumber (formed shape) places)
     (formed shape).cells c are.each is in (
       c.number,
-      place_of (formed shape) c,
-      slice_get_within places c.number (place_of (formed shape) c) stands,
-      get_or_from_slice_get places c.number (place_of (formed shape) c) (place_of (formed shape) c) stands,
+      kept_place (formed shape) c,
+      slice_get_within places c.number (kept_place (formed shape) c) stands,
+      get_or_from_slice_get places c.number (kept_place (formed shape) c) (kept_place (formed shape) c) stands,
       holds,
     )
 
@@ -250,23 +250,23 @@ all_within shape grid spans has =
     let all = shown shape spans has.no_overlap in
     all_places shape grid.places (IsPlaced grid.cols grid.rows) has.places
     (λ c is. let (b, shows) = all_at (λ cell. (b : Block) × IsShownBy s cell b) s.cells c all is in
-    let P : ℕ → Type 0 = λ cols. IsPlaced cols grid.rows (place_of s c) in
-    let Q : ℕ → Type 0 = λ rows. IsPlaced (count_below (keeps_column s.cells) s.width) rows (place_of s c) in
+    let P : ℕ → Type 0 = λ cols. IsPlaced cols grid.rows (kept_place s c) in
+    let Q : ℕ → Type 0 = λ rows. IsPlaced (count_below (keeps_column s.cells) s.width) rows (kept_place s c) in
     subst P (sym has.columns) (subst Q (sym has.rows) (shown_placed s c b is shows)))
 
 -- two cells whose places share a slot are one
 same_slot : (shape : Shape) → HasNoOverlap (formed shape).cells →
-    AllByRecursion (KeepsSlots (formed shape)) (formed shape).cells → (c d : Cell) (x y : ℕ) →
-    IsIn c (formed shape).cells → IsIn d (formed shape).cells → HasSlot x y (place_of (formed shape) c) →
-    HasSlot x y (place_of (formed shape) d) → c ≡ d
+    AllByRecursion (KeepsSlots (formed shape)) (formed shape).cells → (c d : FormedCell) (x y : ℕ) →
+    IsIn c (formed shape).cells → IsIn d (formed shape).cells → HasSlot x y (kept_place (formed shape) c) →
+    HasSlot x y (kept_place (formed shape) d) → c ≡ d
 same_slot shape one keeps c d x y is is' has has' =
     let s : Forming = formed shape in
     let kc : KeepsSlots s c = all_at (KeepsSlots s) s.cells c keeps is in
     let kd : KeepsSlots s d = all_at (KeepsSlots s) s.cells d keeps is' in
     let (column, row, kept, kept', to, to') = kc.whole x y has in
-    let P : ℕ → ℕ → Cell → Type 0 = λ i j e. HasSlot i j (place_of s e) in
-    let back : (e : Cell) → HasSlot x y (place_of s e) → HasSlot (new_column s.cells column) (new_row s.cells row)
-    (place_of s e) =
+    let P : ℕ → ℕ → FormedCell → Type 0 = λ i j e. HasSlot i j (kept_place s e) in
+    let back : (e : FormedCell) → HasSlot x y (kept_place s e) → HasSlot (new_column s.cells column) (new_row s.cells row)
+    (kept_place s e) =
     λ e h. subst (λ i. P i (new_row s.cells row) e) (sym to) (subst (λ j. P x j e) (sym to') h) in
     one_passes (covers column row) s.cells c d
     (let over : length (cells_over column row s.cells) ≡ length (numbers_over column row s.cells)
@@ -299,7 +299,7 @@ pub all_columns : (shape : Shape) (grid : Grid) → HasGrid shape grid → (x : 
 all_columns shape grid has x lt =
     let s : Forming = formed shape in
     let (column, at) = kept_at (keeps_column s.cells) s.width x (omega (arith, has.columns)) in
-    let (c, is) = any_in (λ (d : Cell). eqb d.left column) s.cells at.1 in
+    let (c, is) = any_in (λ (d : FormedCell). eqb d.left column) s.cells at.1 in
     any_place shape grid.places (λ (place : Place). place.left ≡ x) c has.places is.0
     (ap (new_column s.cells) (eqb-true c.left column is.1) ∙ at.2)
 
@@ -308,7 +308,7 @@ pub all_rows : (shape : Shape) (grid : Grid) → HasGrid shape grid → (y : ℕ
 all_rows shape grid has y lt =
     let s : Forming = formed shape in
     let (row, at) = kept_at (keeps_row s.cells) s.height y (omega (arith, has.rows)) in
-    let (c, is) = any_in (λ (d : Cell). eqb d.top row) s.cells at.1 in
+    let (c, is) = any_in (λ (d : FormedCell). eqb d.top row) s.cells at.1 in
     any_place shape grid.places (λ (place : Place). place.top ≡ y) c has.places is.0
     (ap (new_row s.cells) (eqb-true c.top row is.1) ∙ at.2)
 
@@ -323,6 +323,6 @@ all_filled shape grid spans has =
     let filled : IsFilled s.cells c = all_at (IsFilled s.cells) s.cells c (formed_filled shape) is in
     let (d, over) = any_in (covers column c.top) s.cells (filled column at.0) in
     let kd : KeepsSlots s d = all_at (KeepsSlots s) s.cells d keeps over.0 in
-    let P : ℕ → Type 0 = λ i. HasSlot i (new_row s.cells c.top) (place_of s d) in
+    let P : ℕ → Type 0 = λ i. HasSlot i (new_row s.cells c.top) (kept_place s d) in
     any_place shape grid.places (HasSlot x (new_row s.cells c.top)) d has.places over.0
     (subst P at.2 ((kd.same column c.top at.1 (row_kept s.cells c is)).0 over.1)))

@@ -9,9 +9,10 @@ use Rattle.std.proofs.lemmas.Simd.{map-map}
 use Rattle.tl_grid.specs.declared.shape.SpanOf.{SpanOf}
 use Rattle.tl_grid.specs.declared.shape.ShapeGroup.{ShapeGroup}
 use Rattle.tl_grid.specs.declared.shape.Shape.{Shape}
-use Rattle.tl_grid.specs.Forming.{Cell, Forming, has_cell, first_free, cell_at, with_cell, form_cells, grown_into, begin_row}
+use Rattle.tl_grid.specs.Forming.{FormedCell, Forming, has_cell, first_free, anchored_cell, with_cell, form_cells}
+use Rattle.tl_grid.specs.Forming.{grown_into, begin_row}
 use Rattle.tl_grid.specs.Forming.{form_row, form_rows}
-use Rattle.tl_grid.specs.Forming.{at_group_end, form_group, form_groups, cells_in, cells_of, no_cells, formed, cell_count}
+use Rattle.tl_grid.specs.Forming.{at_group_end, form_group, form_groups, cells_in, cells_in_groups, no_cells, formed, cell_count}
 use Rattle.tl_grid.proofs.Cells.{number_of}
 use Rattle.tl_grid.proofs.Counts.{one_if}
 use Rattle.tl_grid.proofs.Members.{IsIn}
@@ -22,7 +23,7 @@ tally n [] = 0
 tally n (k ∷ ks) = one_if (eqb k n) + tally n ks
 
 -- the cells' numbers
-abbrev pub numbers : List Cell → List ℕ
+abbrev pub numbers : List FormedCell → List ℕ
 numbers cells = map number_of cells
 
 -- 1 if n is one of the k numbers from a on
@@ -94,7 +95,7 @@ cells_tally n (span ∷ spans) number x s =
     ≡ tally n (numbers next.cells) + one_among n (number + 1) (length spans) =
     cells_tally n spans (number + 1) (at + span.colspan) next in
     let here : tally n (numbers next.cells) ≡ tally n (numbers s.cells) + (one_if (eqb number n) + 0) =
-    ap (tally n) (map-append number_of s.cells (cell_at number at s.row span ∷ [])) ∙ tally-append n (numbers s.cells)
+    ap (tally n) (map-append number_of s.cells (anchored_cell number at s.row span ∷ [])) ∙ tally-append n (numbers s.cells)
     (number ∷ []) in
     let more : one_among n number (length (span ∷ spans)) ≡ one_if (eqb number n) + one_among n (number + 1) (length spans) =
     refl in
@@ -157,20 +158,20 @@ one_turn false a = omega arith
 
 -- so both turns together form all groups
 both_turns : (n : ℕ) (gs : List ShapeGroup) (number : ℕ) →
-    in_turn (λ g. not g.foot) n number gs + in_turn (λ g. g.foot) n number gs ≡ one_among n number (cells_of gs)
+    in_turn (λ g. not g.foot) n number gs + in_turn (λ g. g.foot) n number gs ≡ one_among n number (cells_in_groups gs)
 both_turns n [] number = refl
 both_turns n (g ∷ gs) number =
     let one : ℕ = one_among n number (cells_in g.rows) in
     let next : ℕ = number + cells_in g.rows in
-    let rest : in_turn (λ g. not g.foot) n next gs + in_turn (λ g. g.foot) n next gs ≡ one_among n next (cells_of gs) =
+    let rest : in_turn (λ g. not g.foot) n next gs + in_turn (λ g. g.foot) n next gs ≡ one_among n next (cells_in_groups gs) =
     both_turns n gs next in
     let here : cond (not g.foot) one 0 + cond g.foot one 0 ≡ one = one_turn g.foot one in
-    let more : one_among n number (cells_of (g ∷ gs)) ≡ one + one_among n next (cells_of gs) =
+    let more : one_among n number (cells_in_groups (g ∷ gs)) ≡ one + one_among n next (cells_in_groups gs) =
     ap (one_among n number) (sum_by-cons (λ (h : ShapeGroup). cells_in h.rows) g gs) ∙ one_among-sum n number (cells_in g.rows)
-    (cells_of gs) in
+    (cells_in_groups gs) in
     let sums : (cond (not g.foot) one 0 + in_turn (λ g. not g.foot) n next gs) +
     (cond g.foot one 0 + in_turn (λ g. g.foot) n next gs)
-    ≡ one + one_among n next (cells_of gs) = omega arith in
+    ≡ one + one_among n next (cells_in_groups gs) = omega arith in
     sums ∙ sym more
 
 -- each number from 0 to the count of cells is that of one cell
@@ -215,7 +216,7 @@ numbered_in f n (x ∷ xs) has =
 
 -- each number below the count has a cell
 pub cell_numbered : (shape : Shape) (n : ℕ) → n < cell_count shape →
-    (cell : Cell) × (IsIn cell (formed shape).cells × (cell.number ≡ n))
+    (cell : FormedCell) × (IsIn cell (formed shape).cells × (cell.number ≡ n))
 cell_numbered shape n lt =
     let all : tally n (numbers (formed shape).cells) ≡ one_among n 0 (cell_count shape) = numbered n shape in
     let one : one_among n 0 (cell_count shape) ≡ 1 = one_among-in n 0 (cell_count shape) (omega arith) (omega arith) in

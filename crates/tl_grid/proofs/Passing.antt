@@ -8,7 +8,7 @@ use Rattle.tl_grid.specs.declared.block.Block.{Block}
 use Rattle.tl_grid.specs.inner.OpenBlocks.{reaches, Walk, pass_taken}
 use Rattle.tl_grid.proofs.Chains.{spot, Chain, ChainTo, spot_in, spot_ended, not_below, filter_yes, filter_no, chain_yes}
 use Rattle.tl_grid.proofs.Chains.{chain_no, chain_push}
-use Rattle.tl_grid.specs.inner.States.{EndsBy}
+use Rattle.tl_grid.specs.inner.States.{BlockEndsBy}
 
 -- whether a list has an element
 abbrev pub some : {X : Type 0} → List X → Bool
@@ -37,8 +37,9 @@ pub record Passes (y x : ℕ) (passed ahead : List Block) (w : Walk) : Type 0 wh
   pub same : (x' y' : ℕ) → y ≤ y' → filter (spot x' y') (w.passed ++ w.ahead) ≡ filter (spot x' y') (passed ++ ahead)
   pub on : x ≤ w.column
   pub taken : (x' : ℕ) → x ≤ x' → x' < w.column → some (filter (spot x' y) (passed ++ ahead)) ≡ true
-  pub within : (width : ℕ) → x ≤ width → AllByRecursion (EndsBy width) ahead → w.column ≤ width
-  pub kept : (width : ℕ) → AllByRecursion (EndsBy width) (passed ++ ahead) → AllByRecursion (EndsBy width) (w.passed ++ w.ahead)
+  pub within : (width : ℕ) → x ≤ width → AllByRecursion (BlockEndsBy width) ahead → w.column ≤ width
+  pub kept : (width : ℕ) → AllByRecursion (BlockEndsBy width) (passed ++ ahead) →
+      AllByRecursion (BlockEndsBy width) (w.passed ++ w.ahead)
 
 -- a block is passed
 pub pass_on : (y x : ℕ) (ps : List Block) (b : Block) (bs : List Block) → reaches y b ≡ true →
@@ -81,7 +82,7 @@ passes_on y x ps b bs w e le lt ge p = record {
       ];
   within = λ width h all. p.within width all.0 all.1;
   kept = λ width all. p.kept width
-      (let P : List Block → Type 0 = λ l. AllByRecursion (EndsBy width) l in
+      (let P : List Block → Type 0 = λ l. AllByRecursion (BlockEndsBy width) l in
       subst P (sym (append_assoc ps (b ∷ []) bs)) all);
 }
 
@@ -112,7 +113,7 @@ passes_ended y x ps b bs w e p = record {
   on = p.on;
   taken = λ x' h k. sym (ap some (filter_drop (spot x' y) ps b bs (spot_ended x' y b e))) ∙ p.taken x' h k;
   within = λ width h all. p.within width h all.1;
-  kept = λ width all. p.kept width (all_drop (EndsBy width) ps b bs all);
+  kept = λ width all. p.kept width (all_drop (BlockEndsBy width) ps b bs all);
 }
 
 -- the row stops at the first block that begins further right

@@ -16,15 +16,15 @@ use Rattle.tl_grid.specs.declared.block.Block.{Block}
 use Rattle.tl_grid.specs.declared.table.Table.{Table}
 use Rattle.tl_grid.specs.declared.error.GridError.{GridError}
 use Rattle.tl_grid.specs.declared.error.GridError.TheVariants.{Memory, TooManyCells, Overlap, TooManyColumns, TooManyRows}
-use Rattle.tl_grid.specs.Forming.{Cell, formed, cell_count}
+use Rattle.tl_grid.specs.Forming.{FormedCell, formed, cell_count}
 use Rattle.tl_grid.specs.Overlap.{numbers_over, IsBefore, HasNoOverlap, IsFirstOverlap}
-use Rattle.tl_grid.specs.Dropping.{keeps_column, keeps_row, place_of, ArePlaces, StandsAtNumber, kept_column_count}
+use Rattle.tl_grid.specs.Dropping.{keeps_column, keeps_row, kept_place, ArePlaces, StandsAtNumber, kept_column_count}
 use Rattle.tl_grid.specs.Dropping.{kept_row_count}
 use Rattle.tl_base.specs.Lists.{is_among}
 use Rattle.tl_grid.specs.Form.{HasGrid, HasTooManyColumns, HasTooManyRows, LacksGrid}
 use Rattle.tl_grid.specs.inner.Walk.{place_all}
 use Rattle.tl_grid.specs.Shapes.{AllSpans}
-use Rattle.tl_grid.specs.inner.Places.{begins_in_column, begins_in_row, place_by, place_in, put_places, nowhere}
+use Rattle.tl_grid.specs.inner.Places.{begins_in_column, begins_in_row, place_by, place_of_block, put_places, nowhere}
 use Rattle.tl_grid.proofs.Cells.{number_of, block_number}
 use Rattle.tl_grid.proofs.Counts.{count_same}
 use Rattle.tl_grid.proofs.Members.{all_at}
@@ -119,7 +119,7 @@ are_places : (shape : Shape) (t : Table) (columns rows : List ℕ) (count : ℕ)
 are_places shape t columns rows count places m are are' counted many put = record {
   as_many = many ∙ counted;
   each = all_placed (formed shape) t (λ n place. slice_get places n ≡ Some place) m (each t.blocks
-      (put_all block_number (place_in columns rows) t.blocks (replicate count nowhere)
+      (put_all block_number (place_of_block columns rows) t.blocks (replicate count nowhere)
       (λ n. let P : List ℕ → Type 0 = λ ks. tally n ks ≤ 1 in
       subst P (same_numbers (formed shape) t m) (numbered_once n shape))
       (λ n le. sym (ap (tally n) (same_numbers (formed shape) t m))
@@ -129,7 +129,7 @@ are_places shape t columns rows count places m are are' counted many put = recor
     each : (bs : List Block) →
         AllByRecursion (λ (b : Block).
         slice_get (put_places columns rows (replicate count nowhere) t.blocks) b.number
-        ≡ Some (place_in columns rows b)) bs →
+        ≡ Some (place_of_block columns rows b)) bs →
         AllByRecursion (λ (b : Block). slice_get places b.number
         ≡ Some (place_by (keeps_column (formed shape).cells) (keeps_row (formed shape).cells) b)) bs
     each [] all = tt
@@ -179,9 +179,9 @@ same_places : (shape : Shape) (ps qs : List Place) → ArePlaces shape ps → Ar
 same_places shape ps qs are are' = lists_same ps qs (are.as_many ∙ sym are'.as_many)
     (λ k lt. let count : length ps ≡ cell_count shape = are.as_many in
     let (c, is) = cell_numbered shape k (omega arith) in
-    let p : slice_get ps c.number ≡ Some (place_of (formed shape) c) =
+    let p : slice_get ps c.number ≡ Some (kept_place (formed shape) c) =
     all_at (StandsAtNumber (formed shape) ps) (formed shape).cells c are.each is.0 in
-    let q : slice_get qs c.number ≡ Some (place_of (formed shape) c) =
+    let q : slice_get qs c.number ≡ Some (kept_place (formed shape) c) =
     all_at (StandsAtNumber (formed shape) qs) (formed shape).cells c are'.each is.0 in
     ap (slice_get ps) (sym is.1) ∙ p ∙ sym (ap (slice_get qs) (sym is.1) ∙ q))
 
@@ -208,7 +208,7 @@ order x y x' y' =
     ]
 
 -- a slot with two cells has more than one
-many_over : (cells : List Cell) (first second x y : ℕ) → IsFirstOverlap cells first second x y →
+many_over : (cells : List FormedCell) (first second x y : ℕ) → IsFirstOverlap cells first second x y →
     length (numbers_over x y cells) ≤ 1 → ⊥
 many_over cells first second x y is one =
     let (more, over) = is.two in
@@ -216,7 +216,7 @@ many_over cells first second x y is one =
     omega arith
 
 -- there is one first overlap
-one_overlap : (cells : List Cell) (a b x y a' b' x' y' : ℕ) → IsFirstOverlap cells a b x y →
+one_overlap : (cells : List FormedCell) (a b x y a' b' x' y' : ℕ) → IsFirstOverlap cells a b x y →
     IsFirstOverlap cells a' b' x' y' → Overlap a b x y ≡ Overlap a' b' x' y'
 one_overlap cells a b x y a' b' x' y' is is' =
     elim (order x y x' y') [
@@ -294,15 +294,15 @@ each_err shape (Err error) has (inr is') expected is = inr (one_cause shape erro
 
 -- the places of a table, as the list of them
 abbrev formed_places : Shape → List Place
-formed_places shape = fold (λ found (c : Cell). slice_set found c.number (place_of (formed shape) c))
+formed_places shape = fold (λ found (c : FormedCell). slice_set found c.number (kept_place (formed shape) c))
     (replicate (cell_count shape) nowhere) (formed shape).cells
 
 -- there are such places
 have_places : (shape : Shape) → ArePlaces shape (formed_places shape)
 have_places shape = record {
-  as_many = length_put number_of (place_of (formed shape)) (formed shape).cells (replicate (cell_count shape) nowhere)
+  as_many = length_put number_of (kept_place (formed shape)) (formed shape).cells (replicate (cell_count shape) nowhere)
       ∙ length-replicate (cell_count shape) nowhere;
-  each = put_all number_of (place_of (formed shape)) (formed shape).cells (replicate (cell_count shape) nowhere)
+  each = put_all number_of (kept_place (formed shape)) (formed shape).cells (replicate (cell_count shape) nowhere)
       (λ n. numbered_once n shape)
       (λ n le. numbered_below n shape (omega (arith, length-replicate (cell_count shape) nowhere)));
 }

@@ -9,10 +9,10 @@ use Rattle.std.proofs.lemmas.List.{map-append, length-map}
 use Rattle.std.proofs.lemmas.List.Elements.{filter-append}
 use Rattle.tl_grid.specs.declared.shape.SpanOf.{SpanOf}
 use Rattle.tl_grid.specs.declared.block.Block.{Block}
-use Rattle.tl_grid.specs.Forming.{Cell, Forming, has_cell, first_free, initial_rowspan, cell_at, with_cell}
+use Rattle.tl_grid.specs.Forming.{FormedCell, Forming, has_cell, first_free, initial_rowspan, anchored_cell, with_cell}
 use Rattle.tl_grid.specs.Overlap.{numbers_over, IsBefore}
 use Rattle.tl_grid.specs.inner.OpenBlocks.{reaches, Walk, hit}
-use Rattle.tl_grid.specs.inner.Walk.{block_at, Row, placed, walk_of}
+use Rattle.tl_grid.specs.inner.Walk.{block_at, Row, row_with_cell, walk_of}
 use Rattle.tl_grid.proofs.Chains.{spot, Chain, ChainTo, spot_in, spot_before, spot_from, filter_yes, filter_no, none_left}
 use Rattle.tl_grid.proofs.Chains.{none_right, at_most_one}
 use Rattle.tl_grid.proofs.Chains.{chain_append, chain_yes}
@@ -20,7 +20,7 @@ use Rattle.tl_grid.proofs.Passing.{some, BeginsAfter, Passes, passes, push_prefi
 use Rattle.tl_grid.proofs.Cells.{cell_of, AllQuiet, block_number, BeginsBy, numbers_here, has_cell_here, first_free_is}
 use Rattle.tl_grid.proofs.Cells.{formed_cell}
 use Rattle.tl_grid.proofs.Later.{with_cell_before}
-use Rattle.tl_grid.specs.inner.States.{EndsBy}
+use Rattle.tl_grid.specs.inner.States.{BlockEndsBy}
 
 -- the blocks begin at column `right` or after it, and the first of them takes row y
 abbrev pub BeginsFrom : ℕ → ℕ → List Block → Type 0
@@ -59,12 +59,12 @@ pub sound_on : (w w' h h' : ℕ) → w ≤ w' → h ≤ h' → (b : Block) → I
 sound_on w w' h h' wide high b s = (s.0, omega (arith, s.1), s.2, omega (arith, s.3))
 
 -- a row in the standard's steps and in the walk
-pub record RowMatches (done : List Cell) (y : ℕ) (s : Forming) (r : Row) : Type 0 where
+pub record RowMatches (done : List FormedCell) (y : ℕ) (s : Forming) (r : Row) : Type 0 where
   pub cells : s.cells ≡ done ++ map (cell_of (y + 1)) r.blocks
   pub at_row : s.row ≡ y
   pub high : s.height ≡ r.height
   pub wide : r.column ≤ s.width
-  pub within : AllByRecursion (EndsBy s.width) (r.passed ++ r.ahead)
+  pub within : AllByRecursion (BlockEndsBy s.width) (r.passed ++ r.ahead)
   pub tops : AllByRecursion (BeginsBy y) r.blocks
   pub sound : AllByRecursion (IsSound s.width r.height) r.blocks
   pub low : y < r.height
@@ -96,7 +96,7 @@ all_weaken P Q f [] a = tt
 all_weaken P Q f (x ∷ xs) a = (f x a.0, all_weaken P Q f xs a.1)
 
 -- whether a slot of the row has a cell, by the open blocks
-taken_here : (done : List Cell) (y : ℕ) (s : Forming) (r : Row) → AllQuiet y done → RowMatches done y s r →
+taken_here : (done : List FormedCell) (y : ℕ) (s : Forming) (r : Row) → AllQuiet y done → RowMatches done y s r →
     (x : ℕ) → has_cell x s.row s.cells ≡ some (filter (spot x y) (r.passed ++ r.ahead))
 taken_here done y s r quiet m x =
     ap (λ cs. has_cell x s.row cs) m.cells ∙ ap (λ row. has_cell x row (done ++ map (cell_of (y + 1)) r.blocks)) m.at_row
@@ -112,7 +112,7 @@ none_between y x r w right y' p begins ge lt le =
     ∙ none_left right x y y' lt le w.ahead (chain_later y w.column right w.ahead begins p.rest)
 
 -- the walk comes to the column that the standard's steps come to
-pub column_found : (done : List Cell) (y : ℕ) (s : Forming) (r : Row) → AllQuiet y done →
+pub column_found : (done : List FormedCell) (y : ℕ) (s : Forming) (r : Row) → AllQuiet y done →
     RowMatches done y s r →
     first_free (λ column. has_cell column s.row s.cells) r.column (s.width - r.column) ≡ (walk_of y r).column
 column_found done y s r quiet m =
@@ -120,7 +120,7 @@ column_found done y s r quiet m =
     let p : Passes y r.column r.passed r.ahead w = passes y r.ahead r.column r.passed m.prefix m.rest in
     let wide : r.column ≤ s.width = m.wide in
     let on : r.column ≤ w.column = p.on in
-    let within : w.column ≤ s.width = p.within s.width wide (all_right (EndsBy s.width) r.passed r.ahead m.within) in
+    let within : w.column ≤ s.width = p.within s.width wide (all_right (BlockEndsBy s.width) r.passed r.ahead m.within) in
     first_free_is (λ column. has_cell column s.row s.cells) (s.width - r.column) r.column w.column on (omega arith)
     (λ x' le lt. taken_here done y s r quiet m x' ∙ p.taken x' le lt)
     (taken_here done y s r quiet m w.column ∙ ap some (sym (p.same w.column y (omega arith)))
@@ -186,21 +186,21 @@ rows_some y n =
     ]
 
 -- the cells after one more
-placed_cells : (done : List Cell) (y number x : ℕ) (span : SpanOf) (s : Forming) (bs : List Block) →
+placed_cells : (done : List FormedCell) (y number x : ℕ) (span : SpanOf) (s : Forming) (bs : List Block) →
     s.row ≡ y → s.cells ≡ done ++ map (cell_of (y + 1)) bs →
     (with_cell number x span s).cells ≡ done ++ map (cell_of (y + 1)) (bs ++ block_at number x y span ∷ [])
 placed_cells done y number x span s bs at_row e =
-    ap (λ cs. cs ++ cell_at number x s.row span ∷ []) e
-    ∙ ap (λ row. (done ++ map (cell_of (y + 1)) bs) ++ cell_at number x row span ∷ []) at_row
+    ap (λ cs. cs ++ anchored_cell number x s.row span ∷ []) e
+    ∙ ap (λ row. (done ++ map (cell_of (y + 1)) bs) ++ anchored_cell number x row span ∷ []) at_row
     ∙ ap (λ c. (done ++ map (cell_of (y + 1)) bs) ++ c ∷ []) (formed_cell number x y span)
     ∙ append_assoc done (map (cell_of (y + 1)) bs) (cell_of (y + 1) (block_at number x y span) ∷ [])
     ∙ ap (λ l. done ++ l) (sym (map-append (cell_of (y + 1)) bs (block_at number x y span ∷ [])))
 
 -- one more cell that runs into no block
-pub row_step : (done : List Cell) (y number : ℕ) (span : SpanOf) (s : Forming) (r : Row) → AllQuiet y done →
+pub row_step : (done : List FormedCell) (y number : ℕ) (span : SpanOf) (s : Forming) (r : Row) → AllQuiet y done →
     IsWide span → RowMatches done y s r →
     hit (walk_of y r).ahead ((walk_of y r).column + span.colspan) ≡ None →
-    RowMatches done y (with_cell number (walk_of y r).column span s) (placed y number span r (walk_of y r))
+    RowMatches done y (with_cell number (walk_of y r).column span s) (row_with_cell y number span r (walk_of y r))
 row_step done y number span s r quiet wide m none =
     let w : Walk = walk_of y r in
     let p : Passes y r.column r.passed r.ahead w = passes y r.ahead r.column r.passed m.prefix m.rest in
@@ -216,8 +216,9 @@ row_step done y number span s r quiet wide m none =
       at_row = at_row;
       high = ap (λ h. max h (s.row + initial_rowspan span)) high ∙ ap (λ row. max r.height (row + initial_rowspan span)) at_row;
       wide = omega arith;
-      within = all_insert (EndsBy width) w.passed b w.ahead (omega arith)
-          (all_weaken (EndsBy s.width) (EndsBy width) (λ c h. omega arith) (w.passed ++ w.ahead) (p.kept s.width m.within));
+      within = all_insert (BlockEndsBy width) w.passed b w.ahead (omega arith)
+          (all_weaken (BlockEndsBy s.width) (BlockEndsBy width) (λ c h. omega arith) (w.passed ++ w.ahead)
+          (p.kept s.width m.within));
       tops = all_push (BeginsBy y) r.blocks b (omega arith) m.tops;
       sound = all_push (IsSound width height) r.blocks b
           (omega arith, omega arith, rows_some y span.rowspan, omega arith)
@@ -248,12 +249,12 @@ hit_block y x right (c ∷ cs) b begins e =
     ]
 
 -- an overlap in row y stands in the cells as the first one
-pub record IsFoundIn (cells : List Cell) (first second x y : ℕ) : Type 0 where
+pub record IsFoundIn (cells : List FormedCell) (first second x y : ℕ) : Type 0 where
   pub two : numbers_over x y cells ≡ first ∷ second ∷ []
   pub before : (x' y' : ℕ) → IsBefore x' y' x y → length (numbers_over x' y' cells) ≤ 1
 
 -- in the row that is formed no slot has two blocks
-pub one_at_most_here : (done : List Cell) (y : ℕ) (s : Forming) (r : Row) (x : ℕ) → RowMatches done y s r →
+pub one_at_most_here : (done : List FormedCell) (y : ℕ) (s : Forming) (r : Row) (x : ℕ) → RowMatches done y s r →
     length (filter (spot x y) r.blocks) ≤ 1
 one_at_most_here done y s r x m =
     let P : List Block → Type 0 = λ l. length l ≤ 1 in
@@ -264,7 +265,7 @@ one_at_most_here done y s r x m =
     (chain_append 0 r.column (filter (reaches y) r.passed) (filter (reaches y) r.ahead) m.prefix m.rest)))
 
 -- the blocks of the row's slots after one more cell
-numbers_placed : (done : List Cell) (y number : ℕ) (span : SpanOf) (s : Forming) (r : Row) (x x' : ℕ) →
+numbers_placed : (done : List FormedCell) (y number : ℕ) (span : SpanOf) (s : Forming) (r : Row) (x x' : ℕ) →
     AllQuiet y done → RowMatches done y s r →
     numbers_over x' y (with_cell number x span s).cells ≡ map block_number
     (filter (spot x' y) (r.blocks ++ block_at number x y span ∷ []))
@@ -274,7 +275,7 @@ numbers_placed done y number span s r x x' quiet m =
     (all_push (BeginsBy y) r.blocks (block_at number x y span) (omega arith) m.tops)
 
 -- up to the block that a cell runs into no slot has two cells
-before_overlap : (done : List Cell) (y number : ℕ) (span : SpanOf) (s : Forming) (r : Row) (right : ℕ) →
+before_overlap : (done : List FormedCell) (y number : ℕ) (span : SpanOf) (s : Forming) (r : Row) (right : ℕ) →
     AllQuiet y done → RowMatches done y s r → BeginsFrom y right (walk_of y r).ahead → (x' y' : ℕ) →
     IsBefore x' y' right y →
     length (numbers_over x' y' (with_cell number (walk_of y r).column span s).cells) ≤ 1
@@ -287,7 +288,7 @@ before_overlap done y number span s r right quiet m begins x' y' (inr (same, lef
     let w : Walk = walk_of y r in
     let c : Block = block_at number w.column y span in
     let p : Passes y r.column r.passed r.ahead w = passes y r.ahead r.column r.passed m.prefix m.rest in
-    let cells : List Cell = (with_cell number w.column span s).cells in
+    let cells : List FormedCell = (with_cell number w.column span s).cells in
     let P : List ℕ → Type 0 = λ l. length l ≤ 1 in
     let Q : List Block → Type 0 = λ l. length (map block_number l) ≤ 1 in
     subst P (sym (ap (λ row. numbers_over x' row cells) same ∙ numbers_placed done y number span s r w.column x' quiet m))
@@ -304,7 +305,7 @@ before_overlap done y number span s r right quiet m begins x' y' (inr (same, lef
     ])
 
 -- a cell that runs into a block overlaps it where that begins
-pub row_overlap : (done : List Cell) (y number : ℕ) (span : SpanOf) (s : Forming) (r : Row) (b : Block) →
+pub row_overlap : (done : List FormedCell) (y number : ℕ) (span : SpanOf) (s : Forming) (r : Row) (b : Block) →
     AllQuiet y done → IsWide span → RowMatches done y s r →
     hit (walk_of y r).ahead ((walk_of y r).column + span.colspan) ≡ Some b →
     IsFoundIn (with_cell number (walk_of y r).column span s).cells b.number number b.left y

@@ -5,7 +5,7 @@ use Rattle.tl_grid.specs.declared.shape.SpanOf.{SpanOf}
 use Rattle.tl_grid.specs.declared.block.Block.{Block}
 use Rattle.tl_grid.specs.declared.row.RowState.{RowState}
 use Rattle.tl_grid.specs.inner.OpenBlocks.{hit, Walk, pass_taken}
-use Rattle.tl_grid.specs.inner.Walk.{Row, block_at, placed, walk_of, unless_hit, place_cell, place_cells}
+use Rattle.tl_grid.specs.inner.Walk.{Row, block_at, row_with_cell, walk_of, unless_hit, place_cell, place_cells}
 use Rattle.tl_grid.specs.inner.States.{row_over}
 use Rattle.tl_grid.specs.declared.error.GridError.{GridError}
 use Rattle.tl_grid.proofs.Runs.{pass_again}
@@ -13,11 +13,11 @@ use Rattle.tl_grid.proofs.Runs.{pass_again}
 -- a cell that runs into no block, placed where the walk comes to
 cell_free : (y number : ℕ) (span : SpanOf) (row : Row) (walk : Walk) → walk ≡ walk_of y row →
     hit walk.ahead (walk.column + span.colspan) ≡ None →
-    place_cell y number row span ≡ Ok (placed y number span row walk)
+    place_cell y number row span ≡ Ok (row_with_cell y number span row walk)
 cell_free y number span row walk e none =
-    let done : Row = placed y number span row walk in
+    let done : Row = row_with_cell y number span row walk in
     let P : Walk → Type 0 = λ w. unless_hit (hit w.ahead (w.column + span.colspan)) number y
-    (Ok (placed y number span row w)) ≡ Ok done in
+    (Ok (row_with_cell y number span row w)) ≡ Ok done in
     subst P e (ap (λ o. unless_hit o number y (Ok done)) none)
 
 -- a cell that is placed, as the code keeps it
@@ -54,7 +54,7 @@ pub row_begun : (y number : ℕ) (spans : List SpanOf) (row : Row) (walk : Walk)
 row_begun y number [] row walk some e = absurd (omega arith)
 row_begun y number (span ∷ spans) row walk some e =
     let next : Walk → Result Row GridError = λ w. unless_hit (hit w.ahead (w.column + span.colspan)) number y
-    (place_cells y (number + 1) (placed y number span row w) spans) in
+    (place_cells y (number + 1) (row_with_cell y number span row w) spans) in
     ap next (ap (λ (w : Walk). pass_taken y w.column w.passed w.ahead) e ∙ pass_again y row.ahead row.column row.passed)
 
 -- where a cell runs into no block the row goes on after it
@@ -69,5 +69,5 @@ pub cells_step : (y number : ℕ) (row after : Row) (span : SpanOf) (spans : Lis
     place_cells y number row (span ∷ spans) ≡ place_cells y (number + 1) after spans
 cells_step y number row after span spans e =
     step_on (hit (walk_of y row).ahead ((walk_of y row).column + span.colspan)) number y
-    (placed y number span row (walk_of y row)) after
+    (row_with_cell y number span row (walk_of y row)) after
     (λ r. place_cells y (number + 1) r spans) e

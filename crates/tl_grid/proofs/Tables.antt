@@ -14,7 +14,8 @@ use Rattle.tl_grid.specs.declared.shape.ShapeGroup.{ShapeGroup}
 use Rattle.tl_grid.specs.declared.shape.Shape.{Shape}
 use Rattle.tl_grid.specs.declared.block.Block.{Block}
 use Rattle.tl_grid.specs.declared.error.GridError.{GridError}
-use Rattle.tl_grid.specs.Forming.{Cell, Forming, covers, form_rows, at_group_end, end_group, form_group, form_groups, cells_in}
+use Rattle.tl_grid.specs.Forming.{FormedCell, Forming, covers, form_rows, at_group_end, end_group, form_group, form_groups}
+use Rattle.tl_grid.specs.Forming.{cells_in}
 use Rattle.tl_grid.specs.Forming.{no_cells, formed}
 use Rattle.tl_grid.specs.Overlap.{numbers_over}
 use Rattle.tl_grid.specs.Dropping.{keeps_row}
@@ -28,7 +29,7 @@ use Rattle.tl_grid.proofs.Rows.{IsSound, sound_on, all_weaken}
 use Rattle.tl_grid.proofs.Groups.{FoundAbove, found_kept, found_on, GroupMatches, RowsGive, rows_give, AllWide, quiet_on}
 
 -- a cell, of which only the rows that pass the test are looked at
-abbrev pub mask : (ℕ → Bool) → Cell → Cell
+abbrev pub mask : (ℕ → Bool) → FormedCell → FormedCell
 mask keeps c = record {
   number = c.number;
   left = c.left;
@@ -39,7 +40,7 @@ mask keeps c = record {
 }
 
 -- a block as a cell
-abbrev pub whole : Block → Cell
+abbrev pub whole : Block → FormedCell
 whole b = record {
   number = b.number;
   left = b.left;
@@ -65,11 +66,11 @@ pub record TableMatches (s : Forming) (t : Table) : Type 0 where
   pub pairs : SameWhereKept s t.blocks
 
 -- where a group ends at row `row`, and the table is `height` rows high
-abbrev pub ended_cell : ℕ → ℕ → Block → Cell
+abbrev pub ended_cell : ℕ → ℕ → Block → FormedCell
 ended_cell row height b = at_group_end row height (cell_of row b)
 
 -- a cell of an earlier group stays
-still_ended : (row height : ℕ) (c : Cell) → c.grows ≡ false → at_group_end row height c ≡ c
+still_ended : (row height : ℕ) (c : FormedCell) → c.grows ≡ false → at_group_end row height c ≡ c
 still_ended row height c e = λ i. record {
   number = c.number;
   left = c.left;
@@ -80,14 +81,14 @@ still_ended row height c e = λ i. record {
 }
 
 -- so do all cells of earlier groups
-still_all : (row height y : ℕ) (cs : List Cell) → AllQuiet y cs → map (at_group_end row height) cs ≡ cs
+still_all : (row height y : ℕ) (cs : List FormedCell) → AllQuiet y cs → map (at_group_end row height) cs ≡ cs
 still_all row height y [] q = refl
 still_all row height y (c ∷ cs) q =
     ap (λ d. d ∷ map (at_group_end row height) cs) (still_ended row height c q.0.still)
     ∙ ap (λ ds. c ∷ ds) (still_all row height y cs q.1)
 
 -- the cells after a group
-ended_cells : (done : List Cell) (s : Forming) (g : RowGroup) → GroupMatches done s g →
+ended_cells : (done : List FormedCell) (s : Forming) (g : RowGroup) → GroupMatches done s g →
     (end_group s).cells ≡ done ++ map (ended_cell g.row g.height) g.blocks
 ended_cells done s g m =
     ap (λ row. map (at_group_end row s.height) s.cells) m.at_row
@@ -119,7 +120,7 @@ quiet_ended row height width low (b ∷ bs) sound = (
 )
 
 -- the cells of two groups
-quiet_append : (y : ℕ) (cs ds : List Cell) → AllQuiet y cs → AllQuiet y ds → AllQuiet y (cs ++ ds)
+quiet_append : (y : ℕ) (cs ds : List FormedCell) → AllQuiet y cs → AllQuiet y ds → AllQuiet y (cs ++ ds)
 quiet_append y [] ds q r = r
 quiet_append y (c ∷ cs) ds q r = (q.0, quiet_append y cs ds q.1 r)
 
@@ -133,7 +134,7 @@ no_anchor row height y (b ∷ bs) le tops =
     ∙ no_anchor row height y bs le tops.1
 
 -- no slot has more cells than blocks
-numbers_fewer : (x y : ℕ) (f : Block → Cell) (p : Block → Bool) →
+numbers_fewer : (x y : ℕ) (f : Block → FormedCell) (p : Block → Bool) →
     ((b : Block) → p b ≡ false → covers x y (f b) ≡ false) → (bs : List Block) →
     length (numbers_over x y (map f bs)) ≤ length (filter p bs)
 numbers_fewer x y f p none [] = omega arith
@@ -176,7 +177,7 @@ ended_covers x y row height b ge none =
     ]
 
 -- after a group no slot has two cells
-one_after : (done : List Cell) (s : Forming) (g : RowGroup) → GroupMatches done s g → (x y : ℕ) →
+one_after : (done : List FormedCell) (s : Forming) (g : RowGroup) → GroupMatches done s g → (x y : ℕ) →
     length (numbers_over x y (end_group s).cells) ≤ 1
 one_after done s g m x y =
     let at_row : s.row ≡ g.row = m.at_row in
@@ -184,7 +185,7 @@ one_after done s g m x y =
     elim (cases_lt y g.row) [
       | inl above ↦ subst P (sym (ended_elsewhere x s.row s.height y (omega arith) s.cells)) (m.past x y above)
       | inr below ↦
-          let C : List Cell → Type 0 = λ cs. length (numbers_over x y cs) ≤ 1 in
+          let C : List FormedCell → Type 0 = λ cs. length (numbers_over x y cs) ≤ 1 in
           let few : length (numbers_over x y (map (ended_cell g.row g.height) g.blocks)) ≤ length (filter (spot x y) g.blocks) =
           numbers_fewer x y (ended_cell g.row g.height) (spot x y) (λ b. ended_covers x y g.row g.height b below) g.blocks in
           let one : length (filter (spot x y) g.open_blocks) ≤ 1 = at_most_one 0 x g.row y below g.open_blocks m.chain in
@@ -267,8 +268,8 @@ all_append P [] ys a b = b
 all_append P (x ∷ xs) ys a b = (a.0, all_append P xs ys a.1 b)
 
 -- the anchors of two groups
-anchors-append : (cs ds : List Cell) (y : ℕ) → keeps_row (cs ++ ds) y ≡ (keeps_row cs y || keeps_row ds y)
-anchors-append cs ds y = list_any-append (λ (c : Cell). eqb c.top y) cs ds
+anchors-append : (cs ds : List FormedCell) (y : ℕ) → keeps_row (cs ++ ds) y ≡ (keeps_row cs y || keeps_row ds y)
+anchors-append cs ds y = list_any-append (λ (c : FormedCell). eqb c.top y) cs ds
 
 -- a group that is formed: from `s` on by the standard, from `t` on in the walk
 pub group_ends : (s last : Forming) (t : Table) (g : RowGroup) → TableMatches s t → Later s.row s last →
@@ -282,8 +283,8 @@ group_ends s last t g before later m =
     let wider : s.width ≤ last.width = later.wider in
     let on : s.row ≤ last.row = later.on in
     let cells = ended_cells s.cells last g m in
-    let ended : List Cell = map (ended_cell g.row g.height) g.blocks in
-    let C : List Cell → Type 0 = λ cs. AllQuiet (end_group last).row cs in
+    let ended : List FormedCell = map (ended_cell g.row g.height) g.blocks in
+    let C : List FormedCell → Type 0 = λ cs. AllQuiet (end_group last).row cs in
     let no_anchors : (y : ℕ) → g.row ≤ y → keeps_row (s.cells ++ ended) y ≡ false =
     λ y le. anchors-append s.cells ended y
     ∙ ap (λ v. v || keeps_row ended y) (before.anchors y (omega arith))

@@ -10,7 +10,7 @@ use Rattle.tl_grid.specs.declared.shape.ShapeGroup.{ShapeGroup}
 use Rattle.tl_grid.specs.declared.shape.Shape.{Shape}
 
 -- a cell that has been formed, and the slots that it covers: those in its columns and in its rows
-pub record Cell : Type 0 where
+pub record FormedCell : Type 0 where
   -- which cell of the table it is, as they are written, counted from 0
   pub number : ℕ
   -- its columns are those from `left` on and before `right`; it is anchored in the first
@@ -31,14 +31,14 @@ pub record Forming : Type 0 where
   -- the standard's y_current
   pub row : ℕ
   -- the cells, in the order in which they were formed
-  pub cells : List Cell
+  pub cells : List FormedCell
 
 -- whether the pair of the slot (x, y) and the cell is in the table's set of pairs
-abbrev pub covers : ℕ → ℕ → Cell → Bool
+abbrev pub covers : ℕ → ℕ → FormedCell → Bool
 covers x y cell = (nat_le cell.left x && nat_lt x cell.right) && cell.rows y
 
 -- whether the slot (x, y) has a cell
-abbrev pub has_cell : ℕ → ℕ → List Cell → Bool
+abbrev pub has_cell : ℕ → ℕ → List FormedCell → Bool
 has_cell x y cells = list_any (covers x y) cells
 
 -- x_current grows from x, by at most `more` columns, while the slot there is taken
@@ -51,8 +51,8 @@ abbrev pub initial_rowspan : SpanOf → ℕ
 initial_rowspan span = if span.rowspan == 0 then 1 else span.rowspan
 
 -- the cell of this number, anchored at column x of the row y
-abbrev pub cell_at : ℕ → ℕ → ℕ → SpanOf → Cell
-cell_at number x y span = record {
+abbrev pub anchored_cell : ℕ → ℕ → ℕ → SpanOf → FormedCell
+anchored_cell number x y span = record {
   number = number;
   left = x;
   right = x + span.colspan;
@@ -67,7 +67,7 @@ with_cell number x span s = record {
   width = max s.width (x + span.colspan);
   height = max s.height (s.row + initial_rowspan span);
   row = s.row;
-  cells = s.cells ++ cell_at number x s.row span ∷ [];
+  cells = s.cells ++ anchored_cell number x s.row span ∷ [];
 }
 
 -- the cells of a row from x_current on; `number` is that of the first of them
@@ -78,7 +78,7 @@ form_cells number x (span ∷ spans) s =
     form_cells (number + 1) (at + span.colspan) spans (with_cell number at span s)
 
 -- a cell that grows downward covers row y as well
-abbrev pub grown_into : ℕ → Cell → Cell
+abbrev pub grown_into : ℕ → FormedCell → FormedCell
 grown_into y cell = record {
   number = cell.number;
   left = cell.left;
@@ -114,7 +114,7 @@ form_rows number (spans ∷ rows) s =
 -- what the end of a row group leaves of a cell: y_current rises from `row` to `height` in steps of
 -- one, and after each step a growing cell grows into that row, below `height`; then it grows no
 -- more. So the row y_current itself is left out, as in the standard; no cell is anchored there.
-abbrev pub at_group_end : ℕ → ℕ → Cell → Cell
+abbrev pub at_group_end : ℕ → ℕ → FormedCell → FormedCell
 at_group_end row height cell = record {
   number = cell.number;
   left = cell.left;
@@ -159,17 +159,17 @@ formed shape =
     (form_groups (λ group. not group.foot) 0 shape.groups (no_cells shape.columns))
 
 -- how many cells the groups have
-abbrev pub cells_of : List ShapeGroup → ℕ
-cells_of groups = sum_by (λ group. cells_in group.rows) groups
+abbrev pub cells_in_groups : List ShapeGroup → ℕ
+cells_in_groups groups = sum_by (λ group. cells_in group.rows) groups
 
 -- how many rows the groups have
-abbrev pub rows_of : List ShapeGroup → ℕ
-rows_of groups = sum_by (λ group. length group.rows) groups
+abbrev pub rows_in_groups : List ShapeGroup → ℕ
+rows_in_groups groups = sum_by (λ group. length group.rows) groups
 
 -- how many cells the table has
 abbrev pub cell_count : Shape → ℕ
-cell_count shape = cells_of shape.groups
+cell_count shape = cells_in_groups shape.groups
 
 -- how many rows the table has
 abbrev pub row_count : Shape → ℕ
-row_count shape = rows_of shape.groups
+row_count shape = rows_in_groups shape.groups

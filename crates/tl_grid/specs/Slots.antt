@@ -3,8 +3,8 @@
 use Rattle.std.specs.Prelude.{ℕ, ◌<◌, ◌≤◌, ◌≡◌, List, IsTrue, ◌↔◌}
 use Rattle.std.specs.List.{Any}
 use Rattle.tl_grid.specs.declared.shape.Place.{Place}
-use Rattle.tl_grid.specs.Forming.{Cell, Forming, covers}
-use Rattle.tl_grid.specs.Dropping.{keeps_column, keeps_row, new_column, new_row, place_of}
+use Rattle.tl_grid.specs.Forming.{FormedCell, Forming, covers}
+use Rattle.tl_grid.specs.Dropping.{keeps_column, keeps_row, new_column, new_row, kept_place}
 
 -- the place has the slot (x, y)
 abbrev pub HasSlot : ℕ → ℕ → Place → Type 0
@@ -28,12 +28,12 @@ abbrev pub IsFilledToLeft : List Place → Place → Type 0
 IsFilledToLeft places place = (x : ℕ) → x < place.left → Any (HasSlot x place.top) places
 
 -- the cell's kept slots, renumbered, are exactly the slots of its place
-pub record KeepsSlots (s : Forming) (cell : Cell) : Type 0 where
+pub record KeepsSlots (s : Forming) (cell : FormedCell) : Type 0 where
   -- a kept slot is the cell's exactly where it is the place's after renumbering
   pub same : (x y : ℕ) → IsTrue (keeps_column s.cells x) → IsTrue (keeps_row s.cells y)
       → (IsTrue (covers x y cell)
-      ↔ HasSlot (new_column s.cells x) (new_row s.cells y) (place_of s cell))
+      ↔ HasSlot (new_column s.cells x) (new_row s.cells y) (kept_place s cell))
   -- each slot of the place comes from a kept slot
-  pub whole : (x y : ℕ) → HasSlot x y (place_of s cell) → (column row : ℕ)
+  pub whole : (x y : ℕ) → HasSlot x y (kept_place s cell) → (column row : ℕ)
       × (IsTrue (keeps_column s.cells column)) × (IsTrue (keeps_row s.cells row))
       × (new_column s.cells column ≡ x) × (new_row s.cells row ≡ y)

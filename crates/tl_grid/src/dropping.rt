@@ -6,7 +6,7 @@ ghost use Rattle.std.specs.List.Sorted.{IsStrictlyIncreasing};
 ghost use Rattle.tl_grid.specs.declared.block.Block.{Block};
 ghost use Rattle.tl_grid.specs.declared.error.GridError.TheVariants.{Memory};
 ghost use Rattle.tl_base.specs.Lists.{is_among};
-ghost use Rattle.tl_grid.specs.inner.Places.{begins_in_column, begins_in_row, nowhere, place_in, put_places};
+ghost use Rattle.tl_grid.specs.inner.Places.{begins_in_column, begins_in_row, nowhere, place_of_block, put_places};
 
 use crate::block::Block;
 use crate::error::GridError;
@@ -56,7 +56,7 @@ fn place_of(columns: &[u32], rows: &[u32], block: Block) -> Place
     requires few_columns { length columns.now < 2 ^ 32 }
     requires rows { IsStrictlyIncreasing rows.now }
     requires few_rows { length rows.now < 2 ^ 32 }
-    ensures { result ≡ place_in columns.now rows.now block }
+    ensures { result ≡ place_of_block columns.now rows.now block }
 {
     Place {
         left: new_number(columns, block.left),

@@ -6,7 +6,7 @@ ghost use Rattle.tl_grid.specs.declared.shape.Grid.{Grid};
 ghost use Rattle.tl_grid.specs.declared.error.GridError.{GridError};
 ghost use Rattle.tl_grid.specs.declared.error.GridError.TheVariants.{Memory};
 ghost use Rattle.tl_grid.specs.Shapes.{AllSpans};
-ghost use Rattle.tl_grid.specs.Forming.{cell_count, row_count, cells_of, formed};
+ghost use Rattle.tl_grid.specs.Forming.{cell_count, row_count, cells_in_groups, formed};
 ghost use Rattle.tl_grid.specs.Dropping.{IsPlaced};
 ghost use Rattle.tl_grid.specs.Slots.{AreApart, HasAnchorInColumn, HasAnchorInRow, IsFilledToLeft, KeepsSlots};
 ghost use Rattle.tl_grid.specs.Form.{HasGrid, LacksGrid};
@@ -21,8 +21,8 @@ use tl_base::{MAX_CELLS, MAX_COLUMNS, MAX_DECLARED_COLUMNS, MAX_ROWS};
 
 /// How many cells the groups have.
 fn count_all(groups: &[ShapeGroup]) -> u32
-    requires { cells_of groups.now < 2 ^ 32 }
-    ensures { result ≡ cells_of groups.now }
+    requires { cells_in_groups groups.now < 2 ^ 32 }
+    ensures { result ≡ cells_in_groups groups.now }
 {
     let mut count = 0;
     for group in groups {

@@ -5,7 +5,7 @@ ghost use Rattle.std.specs.List.{AllByRecursion};
 ghost use Rattle.tl_grid.specs.Forming.{cells_in};
 ghost use Rattle.tl_grid.specs.inner.Walk.{place_cells, row_of, after_row, then_ok, group_at, place_rows};
 ghost use Rattle.tl_grid.specs.Shapes.{IsSpan};
-ghost use Rattle.tl_grid.specs.inner.States.{IsWalked, EndsBy, group_over};
+ghost use Rattle.tl_grid.specs.inner.States.{IsWalked, BlockEndsBy, group_over};
 
 use crate::block::Block;
 use crate::error::GridError;
@@ -35,13 +35,13 @@ fn form_row(mut number: u32, spans: &[SpanOf], group: Group) -> Result<Group, Gr
     requires number { number + length spans.now ≤ MAX_CELLS }
     requires low { group.row ≤ group.height }
     requires room { group.height + MAX_ROWSPAN < 2 ^ 32 }
-    requires columns { AllByRecursion (EndsBy (MAX_COLSPAN * number)) (group_over group).open_blocks }
+    requires columns { AllByRecursion (BlockEndsBy (MAX_COLSPAN * number)) (group_over group).open_blocks }
     ensures row { IsWalked group_over
         (then_ok (λ row. Ok (after_row group.row row))
         (place_cells group.row number (row_of (group_over group)) spans.now))
         result }
     ensures columns { IfOk result (λ after.
-        AllByRecursion (EndsBy (MAX_COLSPAN * (number + length spans.now)))
+        AllByRecursion (BlockEndsBy (MAX_COLSPAN * (number + length spans.now)))
         (group_over after).open_blocks) }
     ensures count { IfOk result (λ after.
         length after.blocks ≡ length group.blocks + length spans.now) }

@@ -2,7 +2,7 @@
 
 ghost use Rattle.std.specs.Prelude.{◌≡◌, ◌+◌, ◌*◌, ◌<◌, ◌≤◌, ◌^◌, IfOk, MatchResult, alloc_error, length};
 ghost use Rattle.tl_grid.specs.declared.error.GridError.TheVariants.{Memory};
-ghost use Rattle.tl_grid.specs.Forming.{cells_in, cells_of, rows_of};
+ghost use Rattle.tl_grid.specs.Forming.{cells_in, cells_in_groups, rows_in_groups};
 ghost use Rattle.tl_grid.specs.inner.Walk.{after_group, has_turn, place_groups, place_all};
 ghost use Rattle.tl_grid.specs.Shapes.{AllSpans};
 ghost use Rattle.tl_grid.specs.inner.States.{IsWalked, group_over};
@@ -72,16 +72,16 @@ fn form_groups(
     mut table: Table,
 ) -> Result<Table, GridError>
     requires spans { AllSpans groups.now }
-    requires cells { cells_of groups.now ≤ MAX_CELLS }
-    requires room { table.row + MAX_ROWSPAN * cells_of groups.now + rows_of groups.now + MAX_ROWSPAN
+    requires cells { cells_in_groups groups.now ≤ MAX_CELLS }
+    requires room { table.row + MAX_ROWSPAN * cells_in_groups groups.now + rows_in_groups groups.now + MAX_ROWSPAN
         < 2 ^ 32 }
     ensures groups { IsWalked (λ after. after)
         (place_groups (has_turn footers) 0 table groups.now)
         result }
     ensures count { IfOk result (λ after.
-        length after.blocks ≤ length table.blocks + cells_of groups.now) }
+        length after.blocks ≤ length table.blocks + cells_in_groups groups.now) }
     ensures row { IfOk result (λ after.
-        after.row ≤ table.row + MAX_ROWSPAN * cells_of groups.now + rows_of groups.now) }
+        after.row ≤ table.row + MAX_ROWSPAN * cells_in_groups groups.now + rows_in_groups groups.now) }
 {
     let mut number = 0;
     for group in groups {
@@ -98,10 +98,10 @@ fn form_groups(
 /// Forms all groups, the footers last.
 pub fn form_table(alloc: Global, groups: &[ShapeGroup]) -> Result<Table, GridError>
     requires spans { AllSpans groups.now }
-    requires cells { cells_of groups.now ≤ MAX_CELLS }
-    requires rows { rows_of groups.now < 2 ^ 20 }
+    requires cells { cells_in_groups groups.now ≤ MAX_CELLS }
+    requires rows { rows_in_groups groups.now < 2 ^ 20 }
     ensures table { IsWalked (λ table. table) (place_all groups.now) result }
-    ensures count { IfOk result (λ table. length table.blocks ≤ 2 * cells_of groups.now) }
+    ensures count { IfOk result (λ table. length table.blocks ≤ 2 * cells_in_groups groups.now) }
 {
     let table = Table {
         row: 0,

@@ -3,7 +3,7 @@
 ghost use Rattle.std.specs.Prelude.{◌≡◌, ◌+◌, ◌<◌, ◌≤◌, IsTrue, IfSome};
 ghost use Rattle.std.specs.List.{AllByRecursion};
 ghost use Rattle.tl_grid.specs.Shapes.{IsSpan, AllSpans};
-ghost use Rattle.tl_grid.specs.Forming.{cells_in, cells_of, rows_of};
+ghost use Rattle.tl_grid.specs.Forming.{cells_in, cells_in_groups, rows_in_groups};
 
 use crate::{Grid, GridError, Place, Shape, ShapeGroup, SpanOf, form};
 use std::alloc::{AllocError, Global};
@@ -62,8 +62,8 @@ fn few_cells(rows: &[List<SpanOf>]) -> Option<usize>
 
 /// Whether there are at most a million rows and a million cells.
 fn are_few(groups: &[ShapeGroup]) -> bool
-    ensures cells { IsTrue result → cells_of groups.now ≤ 1000000 }
-    ensures rows { IsTrue result → rows_of groups.now ≤ 1000000 }
+    ensures cells { IsTrue result → cells_in_groups groups.now ≤ 1000000 }
+    ensures rows { IsTrue result → rows_in_groups groups.now ≤ 1000000 }
 {
     let mut cells = 0;
     let mut rows = 0;

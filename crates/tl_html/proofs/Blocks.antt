@@ -11,7 +11,7 @@ use Rattle.tl_base.proofs.Members.{AllByRecursion-append}
 use Rattle.tl_token.specs.Elements.{no_spans}
 use Rattle.tl_token.specs.declared.token.Element.TheVariants as elements
 use Rattle.tl_text.specs.declared.paragraph.Atom.{Atom}
-use Rattle.tl_text.specs.Paragraph.{IsSpelt}
+use Rattle.tl_text.specs.Paragraph.{IsSpeltAtom}
 use Rattle.tl_tree.specs.Grammar.{Marks, character, nested, words}
 use Rattle.tl_tree.specs.Grammar as grammar
 use Rattle.tl_tree.specs.Outline.{Entries, block_outline, outline, blocks_outline}
@@ -31,7 +31,8 @@ use Rattle.tl_table.specs.declared.layout.Layout.{Layout}
 use Rattle.tl_table.specs.Tables.{OpenContent, tables_of}
 use Rattle.tl_table.specs.Formed.{OpenBlock, BecomesContent, BecomeContents, broken}
 use Rattle.tl_table.specs.Same.{AreSameContent}
-use Rattle.tl_html.specs.Html.{paragraph_html, Flow, Cell, blocks_html, block_page, table_page, cell_page, flow_of, cell_of}
+use Rattle.tl_html.specs.Html.{paragraph_html, HtmlFlow, HtmlCell, blocks_html, block_page, table_page, cell_page, flow_of}
+use Rattle.tl_html.specs.Html.{cell_of}
 use Rattle.tl_html.specs.Html.{html_of}
 use Rattle.tl_html.specs.Html as html
 use Rattle.tl_html.specs.Spellable.{AreSpellableBlocks, IsSpellableBlock}
@@ -43,7 +44,7 @@ use Rattle.tl_html.proofs.PageWords.{GoesOn, goes_append, grammar_kinds, kinds_a
 
 -- ---- a block's text, by what the block is
 
-abbrev open_flow : OpenContent → List Layout → Flow
+abbrev open_flow : OpenContent → List Layout → HtmlFlow
 open_flow (open_content.Para units) inner = record { text = paragraph_html units; rest = inner }
 open_flow (open_content.Table box) [] = record { text = []; rest = [] }
 open_flow (open_content.Table box) (layout ∷ inner) = record { text = html_of box.value layout; rest = inner }
@@ -51,11 +52,11 @@ open_flow (open_content.Table box) (layout ∷ inner) = record { text = html_of 
 flow_of-out : (block : Content) (inner : List Layout) → flow_of block inner ≡ open_flow (out-Content block) inner
 flow_of-out block inner =
     ap (λ (flow : html.Block). flow inner) (fold_out-Content html.Block (Layout →
-    List ℕ) Cell block_page table_page cell_page block)
+    List ℕ) HtmlCell block_page table_page cell_page block)
     ∙ opened (out-Content block) inner
   where
     opened : (content : OpenContent) (layouts : List Layout) →
-        block_page (map-Content Content Table TableCell html.Block (Layout → List ℕ) Cell flow_of html_of cell_of content)
+        block_page (map-Content Content Table TableCell html.Block (Layout → List ℕ) HtmlCell flow_of html_of cell_of content)
         layouts ≡ open_flow content layouts
     opened (open_content.Para units) layouts = refl
     opened (open_content.Table box) [] = refl
@@ -127,12 +128,13 @@ module _ (breaking : Breaking) (forms : TableNode → Table → Type 0) (alike :
     pub become : BecomeContents forms breaking flow back
     pub same : AllZip (λ block content. AreSameContent alike (out-Content block) (out-Content content)) blocks back
 
-  no_glue : (atoms : List Atom) → AllByRecursion IsSpelt atoms → AllByRecursion IsPlainAtom atoms → AllByRecursion NoGlue atoms
+  no_glue : (atoms : List Atom) → AllByRecursion IsSpeltAtom atoms → AllByRecursion IsPlainAtom atoms →
+      AllByRecursion NoGlue atoms
   no_glue [] spelt plain = tt
   no_glue (atom ∷ atoms) spelt plain = ((spelt.0, plain.0), no_glue atoms spelt.1 plain.1)
 
   -- units of a paragraph are written as its words
-  units_written : (b : Breaking) (units atoms : List Atom) → AllByRecursion IsSpelt atoms → units ≡ broken b atoms →
+  units_written : (b : Breaking) (units atoms : List Atom) → AllByRecursion IsSpeltAtom atoms → units ≡ broken b atoms →
       paragraph_html units ≡ items_text (paragraph_items atoms)
   units_written Words units atoms spelt is = ap paragraph_html is ∙ paragraph_written atoms
   units_written Any units atoms spelt is =
@@ -142,7 +144,7 @@ module _ (breaking : Breaking) (forms : TableNode → Table → Type 0) (alike :
       out-Content block ≡ open_content.Para units →
       units ≡ broken breaking atoms → IsPlainParagraph atoms → AllZip has others inner → BlockBack block inner others k
   para_back block inner others k units atoms opened is range left =
-      let spelt : AllByRecursion IsSpelt atoms = recursion_from_All IsSpelt atoms range.is_paragraph.spelt in
+      let spelt : AllByRecursion IsSpeltAtom atoms = recursion_from_All IsSpeltAtom atoms range.is_paragraph.spelt in
       let flow : flow_of block inner ≡ open_flow (open_content.Para units) inner = flow_of-out block inner
       ∙ ap (λ (c : OpenContent). open_flow c inner) opened in
       let made : Block = roll-Block (open_block.Para atoms) in
@@ -150,8 +152,8 @@ module _ (breaking : Breaking) (forms : TableNode → Table → Type 0) (alike :
       record {
         items = paragraph_items atoms;
         are = paragraph_is_items atoms range.plain;
-        written = ap (λ (f : Flow). f.text) flow ∙ units_written breaking units atoms spelt is;
-        left = subst (λ (f : Flow). AllZip has others f.rest) (sym flow) left;
+        written = ap (λ (f : HtmlFlow). f.text) flow ∙ units_written breaking units atoms spelt is;
+        left = subst (λ (f : HtmlFlow). AllZip has others f.rest) (sym flow) left;
         ms = paragraph_marks atoms;
         goes = paragraph_goes atoms;
         next = k;
@@ -189,8 +191,8 @@ module _ (breaking : Breaking) (forms : TableNode → Table → Type 0) (alike :
       record {
         items = t.prefix ++ last_item ∷ [];
         are = AllByRecursion-append IsItem t.prefix (last_item ∷ []) t.are ((page_tags.table_end, (refl, tt)), tt);
-        written = ap (λ (f : Flow). f.text) flow ∙ t.written;
-        left = subst (λ (f : Flow). AllZip has others f.rest) (sym flow) left;
+        written = ap (λ (f : HtmlFlow). f.text) flow ∙ t.written;
+        left = subst (λ (f : HtmlFlow). AllZip has others f.rest) (sym flow) left;
         ms = t.ms ++ feed;
         goes = λ k1 rest m1 more flows.
             subst (λ (ks : Kinds). grammar.Flow (ks ++ k1) ((t.ms ++ feed) ++ m1) rest more)

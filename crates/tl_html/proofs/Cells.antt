@@ -28,12 +28,12 @@ use Rattle.tl_table.specs.declared.cell.TableCell.{TableCell, out-TableCell, rol
 use Rattle.tl_table.specs.declared.cell.TableCell.{fold_out-TableCell}
 use Rattle.tl_table.specs.declared.layout.Layout.{Layout}
 use Rattle.tl_table.specs.Tables.{OpenCell, tables_in}
-use Rattle.tl_table.specs.Formed.{OpenCellNode, BecomesCell, BecomeCells, kind_of, span_of}
+use Rattle.tl_table.specs.Formed.{OpenCellNode, BecomesCell, BecomeCells, header_kind, span_of}
 use Rattle.tl_table.specs.Same.{AreSameCell}
 use Rattle.tl_table.specs.Sound.{place_of}
 use Rattle.tl_table.proofs.SoundNodes.{rows_outline}
 use Rattle.tl_html.specs.declared.filled.Filled.{Filled}
-use Rattle.tl_html.specs.Html.{Cell, fill, blocks_html, block_page, table_page, cell_page, flow_of, cell_of, cell_html}
+use Rattle.tl_html.specs.Html.{HtmlCell, fill, blocks_html, block_page, table_page, cell_page, flow_of, cell_of, cell_html}
 use Rattle.tl_html.specs.Html.{is_caption, line}
 use Rattle.tl_html.specs.Html as html
 use Rattle.tl_html.specs.Spellable.{AreSpellableBlocks}
@@ -93,11 +93,11 @@ end_kind : (head : Bool) → grammar_kinds (end_item head ∷ []) ≡ cell_end h
 end_kind true = refl
 end_kind false = refl
 
-element_is : (head : Bool) → html.element (kind_of head) ≡ name_of head
+element_is : (head : Bool) → html.element (header_kind head) ≡ name_of head
 element_is true = refl
 element_is false = refl
 
-no_caption_kind : (head : Bool) → html.is_caption_kind (kind_of head) ≡ false
+no_caption_kind : (head : Bool) → html.is_caption_kind (header_kind head) ≡ false
 no_caption_kind true = refl
 no_caption_kind false = refl
 
@@ -107,7 +107,7 @@ regroup : (name attributes flow : List ℕ) →
 regroup name attributes flow = simp append_assoc
 
 cell_written : (head : Bool) (place : Place) (least : ℕ) (flow : List ℕ) (items : List Item) → flow ≡ items_text items →
-    cell_html (record { kind = kind_of head; place = place; least = least; text = flow })
+    cell_html (record { kind = header_kind head; place = place; least = least; text = flow })
     ≡ items_text (start_item head (place.right - place.left) (place.bottom - place.top) least ∷ (items ++ end_item head ∷ []))
 cell_written head place least flow items is =
     let attributes = attributes_text (place.right - place.left) (place.bottom - place.top) least in
@@ -203,19 +203,19 @@ row_stands k next ms es stand = record {
 -- ---- a cell
 
 pub cell_of-out : (c : TableCell) → let o = out-TableCell c in
-    cell_of c ≡ (let made : Cell = record {
+    cell_of c ≡ (let made : HtmlCell = record {
       kind = o.kind;
       place = o.place;
       least = o.least;
       flow =
           blocks_html (map flow_of o.blocks);
     } in made)
-cell_of-out c = fold_out-TableCell html.Block (Layout → List ℕ) Cell block_page table_page cell_page c
+cell_of-out c = fold_out-TableCell html.Block (Layout → List ℕ) HtmlCell block_page table_page cell_page c
 
 -- a cell below the caption: what it is, how large, and that its paragraphs can be spelt
 pub record IsBelow (breaking : Breaking) (c : TableCell) : Type 0 where
   pub head : Bool
-  pub kind : (out-TableCell c).kind ≡ kind_of head
+  pub kind : (out-TableCell c).kind ≡ header_kind head
   pub narrow : (out-TableCell c).least ≤ MAX_PAGE_WIDTH
   pub words : AreSpellableBlocks breaking (out-TableCell c).blocks
   pub wide : (place_of c).left < (place_of c).right
@@ -311,7 +311,7 @@ module _ (breaking : Breaking) (forms : TableNode → Table → Type 0) (alike :
         filled = one ∷ rest.filled;
         layouts = rest.layouts;
         fills = λ more.
-            ap (λ (h : Cell). fill (h ∷ map cell_of (cells ++ more)) inner) (cell_of-out c)
+            ap (λ (h : HtmlCell). fill (h ∷ map cell_of (cells ++ more)) inner) (cell_of-out c)
             ∙ ap (λ (fs : List Filled). one ∷ fs) (rest.fills more);
         left = rest.left;
         at = ap (λ (ps : List Place). place ∷ ps) rest.at;

@@ -12,7 +12,8 @@ use Rattle.std.proofs.lemmas.List.{length-append}
 use Rattle.tl_grid.specs.declared.shape.SpanOf.{SpanOf}
 use Rattle.tl_grid.specs.declared.shape.Shape.{Shape}
 use Rattle.tl_grid.specs.declared.shape.Place.{Place}
-use Rattle.tl_grid.specs.Forming.{Cell, Forming, covers, has_cell, first_free, initial_rowspan, cell_at, with_cell, form_cells}
+use Rattle.tl_grid.specs.Forming.{FormedCell, Forming, covers, has_cell, first_free, initial_rowspan, anchored_cell}
+use Rattle.tl_grid.specs.Forming.{with_cell, form_cells}
 use Rattle.tl_grid.specs.Forming.{grown_into, begin_row}
 use Rattle.tl_grid.specs.Forming.{form_row, form_rows, at_group_end, no_cells, formed}
 use Rattle.tl_grid.specs.Dropping.{IsPlaced}
@@ -25,7 +26,7 @@ abbrev pub span_at : Place → SpanOf
 span_at place = record { colspan = place.right - place.left; rowspan = place.bottom - place.top }
 
 -- the cell that stands at a place
-abbrev pub cell_on : ℕ → Place → Cell
+abbrev pub cell_on : ℕ → Place → FormedCell
 cell_on number place = record {
   number = number;
   left = place.left;
@@ -36,7 +37,7 @@ cell_on number place = record {
 }
 
 -- the cells at these places, numbered from `number` on
-abbrev pub cells_on : ℕ → List Place → List Cell
+abbrev pub cells_on : ℕ → List Place → List FormedCell
 cells_on number [] = []
 cells_on number (place ∷ places) = cell_on number place ∷ cells_on (number + 1) places
 
@@ -44,7 +45,7 @@ cells_on-append : (number : ℕ) (xs ys : List Place) → cells_on number (xs ++
     (number + length xs) ys
 cells_on-append number [] ys = ap (λ n. cells_on n ys) (let same : number ≡ number + 0 = omega arith in same)
 cells_on-append number (x ∷ xs) ys =
-    ap (λ (cells : List Cell). cell_on number x ∷ cells) (cells_on-append (number + 1) xs ys
+    ap (λ (cells : List FormedCell). cell_on number x ∷ cells) (cells_on-append (number + 1) xs ys
     ∙ ap (λ n. cells_on (number + 1) xs ++ cells_on n ys) (let same : number + 1 + length xs ≡ number + suc (length xs) =
     omega arith in same))
 
@@ -210,7 +211,7 @@ module _ (W H : ℕ) (places : List Place) (grid : IsGrid W H places) where
 
   -- the cell is the one at its place
   cell_is : (number y : ℕ) (p : Place) → p.left < p.right → p.top < p.bottom → p.top ≡ y →
-      cell_at number p.left y (span_at p) ≡ cell_on number p
+      anchored_cell number p.left y (span_at p) ≡ cell_on number p
   cell_is number y p wide high level =
       let right : p.left + (p.right - p.left) ≡ p.right = omega arith in
       let bottom : y + initial_rowspan (span_at p) ≡ p.bottom =
@@ -250,8 +251,8 @@ module _ (W H : ℕ) (places : List Place) (grid : IsGrid W H places) where
         width = let w : max s.width (p.left + span.colspan) ≡ W = omega (arith, state.width, right, lies_p.1) in w;
         row = state.row;
         low = let h : max s.height (s.row + initial_rowspan span) ≤ H = omega (arith, state.low, bottom, lies_p.3) in h;
-        cells = ap (λ (cells : List Cell). cells ++ cell_at number p.left s.row span ∷ []) state.cells
-            ∙ ap (λ (cell : Cell). cells_on 0 done ++ cell ∷ [])
+        cells = ap (λ (cells : List FormedCell). cells ++ anchored_cell number p.left s.row span ∷ []) state.cells
+            ∙ ap (λ (cell : FormedCell). cells_on 0 done ++ cell ∷ [])
             (cell_is number s.row p lies_p.0 lies_p.2 (level.0 ∙ sym state.row))
             ∙ ap (λ n. cells_on 0 done ++ cell_on n p ∷ []) (at ∙ (let z : length done ≡ 0 + length done = omega arith in z))
             ∙ sym (cells_on-append 0 done (p ∷ []));
@@ -284,8 +285,8 @@ module _ (W H : ℕ) (places : List Place) (grid : IsGrid W H places) where
         rows = λ row. or_none (leb p.top row && ltb row p.bottom) i;
         grows = false;
       } in
-      ap (λ (cell : Cell). cell ∷ map (grown_into y) (cells_on (number + 1) ps)) same
-      ∙ ap (λ (cells : List Cell). cell_on number p ∷ cells) (none_grows y (number + 1) ps)
+      ap (λ (cell : FormedCell). cell ∷ map (grown_into y) (cells_on (number + 1) ps)) same
+      ∙ ap (λ (cells : List FormedCell). cell_on number p ∷ cells) (none_grows y (number + 1) ps)
     where
       or_none : (b : Bool) → (b || false) ≡ b
       or_none true = refl
@@ -302,8 +303,8 @@ module _ (W H : ℕ) (places : List Place) (grid : IsGrid W H places) where
         rows = λ row. or_none (leb p.top row && ltb row p.bottom) i;
         grows = false;
       } in
-      ap (λ (cell : Cell). cell ∷ map (at_group_end y h) (cells_on (number + 1) ps)) same
-      ∙ ap (λ (cells : List Cell). cell_on number p ∷ cells) (none_ends y h (number + 1) ps)
+      ap (λ (cell : FormedCell). cell ∷ map (at_group_end y h) (cells_on (number + 1) ps)) same
+      ∙ ap (λ (cells : List FormedCell). cell_on number p ∷ cells) (none_ends y h (number + 1) ps)
     where
       or_none : (b : Bool) → (b || false) ≡ b
       or_none true = refl

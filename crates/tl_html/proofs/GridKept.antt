@@ -10,9 +10,9 @@ use Rattle.std.proofs.lemmas.List.{length-append, length-map}
 use Rattle.std.proofs.lemmas.List.Sums.{sum_by-cons}
 use Rattle.tl_base.specs.declared.limits.TheConstants.{MAX_CELLS, MAX_COLUMNS, MAX_ROWS}
 use Rattle.tl_grid.specs.declared.shape.Place.{Place}
-use Rattle.tl_grid.specs.Forming.{Cell, Forming, covers, formed, cell_count, cells_in}
+use Rattle.tl_grid.specs.Forming.{FormedCell, Forming, covers, formed, cell_count, cells_in}
 use Rattle.tl_grid.specs.Dropping.{count_below, keeps_column, keeps_row, new_column, new_row, covered_columns, covered_rows}
-use Rattle.tl_grid.specs.Dropping.{place_of, IsPlaced}
+use Rattle.tl_grid.specs.Dropping.{kept_place, IsPlaced}
 use Rattle.tl_grid.specs.Dropping.{StandsAtNumber}
 use Rattle.tl_grid.specs.Overlap.{numbers_over}
 use Rattle.tl_grid.specs.Form.{HasGrid}
@@ -65,21 +65,21 @@ count_between test l r (suc n) le within below inside above =
 
 -- a column and a row in which a place is anchored
 column_at : (x number i : ℕ) (d : Place) (places : List Place) → i < length places → (get_or places i d).left ≡ x →
-    list_any (λ (cell : Cell). eqb cell.left x) (cells_on number places) ≡ true
+    list_any (λ (cell : FormedCell). eqb cell.left x) (cells_on number places) ≡ true
 column_at x number i d [] within is = absurd (omega arith)
 column_at x number zero d (p ∷ places) within is =
-    or_left (eqb p.left x) (list_any (λ (cell : Cell). eqb cell.left x) (cells_on (number + 1) places)) (eq-eqb p.left x is)
+    or_left (eqb p.left x) (list_any (λ (cell : FormedCell). eqb cell.left x) (cells_on (number + 1) places)) (eq-eqb p.left x is)
 column_at x number (suc i) d (p ∷ places) within is =
-    or_right (eqb p.left x) (list_any (λ (cell : Cell). eqb cell.left x) (cells_on (number + 1) places))
+    or_right (eqb p.left x) (list_any (λ (cell : FormedCell). eqb cell.left x) (cells_on (number + 1) places))
     (column_at x (number + 1) i d places (omega arith) is)
 
 row_at : (y number i : ℕ) (d : Place) (places : List Place) → i < length places → (get_or places i d).top ≡ y →
-    list_any (λ (cell : Cell). eqb cell.top y) (cells_on number places) ≡ true
+    list_any (λ (cell : FormedCell). eqb cell.top y) (cells_on number places) ≡ true
 row_at y number i d [] within is = absurd (omega arith)
 row_at y number zero d (p ∷ places) within is =
-    or_left (eqb p.top y) (list_any (λ (cell : Cell). eqb cell.top y) (cells_on (number + 1) places)) (eq-eqb p.top y is)
+    or_left (eqb p.top y) (list_any (λ (cell : FormedCell). eqb cell.top y) (cells_on (number + 1) places)) (eq-eqb p.top y is)
 row_at y number (suc i) d (p ∷ places) within is =
-    or_right (eqb p.top y) (list_any (λ (cell : Cell). eqb cell.top y) (cells_on (number + 1) places))
+    or_right (eqb p.top y) (list_any (λ (cell : FormedCell). eqb cell.top y) (cells_on (number + 1) places))
     (row_at y (number + 1) i d places (omega arith) is)
 
 -- at most one place covers a slot
@@ -87,7 +87,7 @@ few_over : (x y number : ℕ) (places : List Place) → AllPairs AreApart places
     length (numbers_over x y (cells_on number places)) ≤ 1
 few_over x y number [] apart = omega arith
 few_over x y number (p ∷ places) apart =
-    let rest : List Cell = cells_on (number + 1) places in
+    let rest : List FormedCell = cells_on (number + 1) places in
     let tail : AllPairs AreApart places = λ i j d lt within. apart (suc i) (suc j) d (omega arith) (omega arith) in
     elim (cases_Bool (covers x y (cell_on number p))) [
       | inl here ↦
@@ -106,7 +106,7 @@ few_over x y number (p ∷ places) apart =
           cond-false (covers x y (cell_on number p)) (cell_on number p ∷ filter (covers x y) rest) (filter (covers x y) rest)
           not_here in
           let same : length (numbers_over x y (cell_on number p ∷ rest)) ≡ length (numbers_over x y rest) =
-          ap (λ (cells : List Cell). length (map (λ (cell : Cell). cell.number) cells)) kept in
+          ap (λ (cells : List FormedCell). length (map (λ (cell : FormedCell). cell.number) cells)) kept in
           let less : length (numbers_over x y rest) ≤ 1 = few_over x y (number + 1) places tail in
           omega arith
     ]
@@ -155,7 +155,7 @@ module _ (W H : ℕ) (places : List Place) (grid : IsGrid W H places) (columns :
     abbrev state : Forming
     state = record { width = W; height = H; row = row; cells = cells_on 0 places }
 
-    place_again : (number : ℕ) (p : Place) → IsPlaced W H p → place_of state (cell_on number p) ≡ p
+    place_again : (number : ℕ) (p : Place) → IsPlaced W H p → kept_place state (cell_on number p) ≡ p
     place_again number p lies =
         let left : new_column state.cells p.left ≡ p.left = count_all (keeps_column state.cells) p.left
         (λ x lt. kept_column 0 x (omega (arith, lies.0, lies.1))) in
@@ -191,7 +191,7 @@ module _ (W H : ℕ) (places : List Place) (grid : IsGrid W H places) (columns :
         AllByRecursion (StandsAtNumber state places) (cells_on (length before) later)
     stand before [] split lie = tt
     stand before (p ∷ later) split lie = (
-      subst (λ (l : List Place). slice_get l (length before) ≡ Some (place_of state (cell_on (length before) p))) split
+      subst (λ (l : List Place). slice_get l (length before) ≡ Some (kept_place state (cell_on (length before) p))) split
           (at_prefix before p later ∙ ap Some (sym (place_again (length before) p lie.0))),
       subst (λ n. AllByRecursion (StandsAtNumber state places) (cells_on n later)) (length-append before (p ∷ []))
           (stand (before ++ p ∷ []) later (append_assoc before (p ∷ []) later ∙ split) lie.1),

@@ -5,8 +5,8 @@ use Rattle.std.specs.Prelude.{codes, IsUtf8, chars, length}
 use Rattle.std.specs.List.{AllByRecursion, flat_map}
 use Rattle.std.proofs.lemmas.Bool.{eqb-true, both_ways, not_from_false}
 use Rattle.tl_token.specs.Characters.{is_control}
-use Rattle.tl_token.specs.Grammar.{Piece, hidden, tag, character, Stands, by_reference, plain}
-use Rattle.tl_token.specs.Spelling.{Part, part, place_of, Leads, here, next, join_before, character_before, piece_before}
+use Rattle.tl_token.specs.Grammar.{Lexeme, hidden, tag, character, LexemeStands, by_reference, plain}
+use Rattle.tl_token.specs.Spelling.{Part, part, place_of_rest, Leads, here, next, join_before, character_before, piece_before}
 use Rattle.tl_token.specs.Spelling.{tokens_of, characters}
 use Rattle.tl_token.specs.Spelling.{without_mark, SpellsTokens}
 use Rattle.tl_token.specs.declared.token.Element.{Element}
@@ -37,7 +37,7 @@ items_text items = flat_map item_text items
 
 -- the characters are a tag, whatever follows
 abbrev pub IsTagText : List ℕ → Bool → Element → Spans → Type 0
-IsTagText mark is_end element spans = (rest : List ℕ) → Stands (mark ++ rest)
+IsTagText mark is_end element spans = (rest : List ℕ) → LexemeStands (mark ++ rest)
     (tag (cond is_end (End element) (Start element spans))) rest
 
 -- no control character stands in the text
@@ -50,31 +50,31 @@ IsItem item = IsTagText item.mark item.is_end item.element item.spans × AreFine
 -- ---- pieces
 
 -- one piece after another, up to the rest
-pub data Reads : List ℕ → List Piece → List ℕ → Type 0 where
+pub data Reads : List ℕ → List Lexeme → List ℕ → Type 0 where
   done : {cs : List ℕ} → Reads cs [] cs
-  step : {cs mid rest : List ℕ} {pieces : List Piece} → (piece : Piece) → Stands cs piece mid → Reads mid pieces rest →
+  step : {cs mid rest : List ℕ} {pieces : List Lexeme} → (piece : Lexeme) → LexemeStands cs piece mid → Reads mid pieces rest →
       Reads cs (piece ∷ pieces) rest
 
-reads_append : (cs mid rest : List ℕ) (one two : List Piece) → Reads cs one mid → Reads mid two rest → Reads cs (one ++ two) rest
+reads_append : (cs mid rest : List ℕ) (one two : List Lexeme) → Reads cs one mid → Reads mid two rest → Reads cs (one ++ two) rest
 reads_append cs mid rest _ two done later = later
 reads_append cs mid rest _ two (step {mid = m} {pieces = ps} piece stands more) later =
     step piece stands (reads_append m mid rest ps two more later)
 
 -- a character that is escaped reads as itself
-escape_reads : (c : ℕ) (rest : List ℕ) → is_control c ≡ false → Stands (escaped c ++ rest) (character c) rest
+escape_reads : (c : ℕ) (rest : List ℕ) → is_control c ≡ false → LexemeStands (escaped c ++ rest) (character c) rest
 escape_reads c rest fine = by_tests (eqb c 0x26) (eqb c 0x3C) (eqb c 0x3E) (eqb c 0xA0) refl refl refl refl
   where
     by_tests : (a b d e : Bool) → eqb c 0x26 ≡ a → eqb c 0x3C ≡ b → eqb c 0x3E ≡ d → eqb c 0xA0 ≡ e →
-        Stands (cond a (codes "&amp;") (cond b (codes "&lt;")
+        LexemeStands (cond a (codes "&amp;") (cond b (codes "&lt;")
         (cond d (codes "&gt;") (cond e (codes "&nbsp;") (c ∷ [])))) ++ rest) (character c) rest
     by_tests true b d e p q r s =
-        subst (λ x. Stands (codes "&amp;" ++ rest) (character x) rest) (sym (eqb-true c 0x26 p)) (by_reference refl refl)
+        subst (λ x. LexemeStands (codes "&amp;" ++ rest) (character x) rest) (sym (eqb-true c 0x26 p)) (by_reference refl refl)
     by_tests false true d e p q r s =
-        subst (λ x. Stands (codes "&lt;" ++ rest) (character x) rest) (sym (eqb-true c 0x3C q)) (by_reference refl refl)
+        subst (λ x. LexemeStands (codes "&lt;" ++ rest) (character x) rest) (sym (eqb-true c 0x3C q)) (by_reference refl refl)
     by_tests false false true e p q r s =
-        subst (λ x. Stands (codes "&gt;" ++ rest) (character x) rest) (sym (eqb-true c 0x3E r)) (by_reference refl refl)
+        subst (λ x. LexemeStands (codes "&gt;" ++ rest) (character x) rest) (sym (eqb-true c 0x3E r)) (by_reference refl refl)
     by_tests false false false true p q r s =
-        subst (λ x. Stands (codes "&nbsp;" ++ rest) (character x) rest) (sym (eqb-true c 0xA0 s)) (by_reference refl refl)
+        subst (λ x. LexemeStands (codes "&nbsp;" ++ rest) (character x) rest) (sym (eqb-true c 0xA0 s)) (by_reference refl refl)
     by_tests false false false false p q r s =
         plain (
           not_from_false (is_control c) fine,
@@ -90,7 +90,7 @@ text_reads (c ∷ text) rest fine =
     (step (character c) (escape_reads c (flat_map escaped text ++ rest) fine.0) (text_reads text rest fine.1))
 
 -- the pieces of an item
-abbrev item_pieces : Item → List Piece
+abbrev item_pieces : Item → List Lexeme
 item_pieces item = tag (tag_kind item) ∷ map character item.text
 
 item_reads : (item : Item) (rest : List ℕ) → IsItem item → Reads (item_text item ++ rest) (item_pieces item) rest
@@ -104,17 +104,17 @@ items_read (item ∷ items) all =
     reads_append (item_text item ++ items_text items) (items_text items) [] (item_pieces item) (flat_map item_pieces items)
     (item_reads item (items_text items) all.0) (items_read items all.1)
 
-abbrev piece_of : Part → Piece
+abbrev piece_of : Part → Lexeme
 piece_of part = part.piece
 
 -- pieces at their places in a file
-placed : (size : ℕ) (cs rest : List ℕ) (pieces : List Piece) → Reads cs pieces rest →
+placed : (size : ℕ) (cs rest : List ℕ) (pieces : List Lexeme) → Reads cs pieces rest →
     (parts : List Part) × (Leads size cs parts rest × (map piece_of parts ≡ pieces))
 placed size cs rest _ done = ([], (here, refl))
 placed size cs rest _ (step {mid = mid} {pieces = pieces} piece stands more) =
     let (parts, later) = placed size mid rest pieces more in (
-      part piece (place_of size cs) (place_of size mid) ∷ parts,
-      (next piece stands later.0, ap (λ (ps : List Piece). piece ∷ ps) later.1),
+      part piece (place_of_rest size cs) (place_of_rest size mid) ∷ parts,
+      (next piece stands later.0, ap (λ (ps : List Lexeme). piece ∷ ps) later.1),
     )
 
 -- ---- tokens
@@ -129,16 +129,16 @@ character_kinds c (Text cs ∷ ks) = Text (c ∷ cs) ∷ ks
 character_kinds c (Start e spans ∷ ks) = Text (c ∷ []) ∷ Start e spans ∷ ks
 character_kinds c (End e ∷ ks) = Text (c ∷ []) ∷ End e ∷ ks
 
-abbrev piece_kinds : Piece → List TokenKind → List TokenKind
+abbrev piece_kinds : Lexeme → List TokenKind → List TokenKind
 piece_kinds hidden ks = ks
 piece_kinds (tag kind) ks = kind ∷ ks
 piece_kinds (character c) ks = character_kinds c ks
 
-abbrev kinds_over : List Piece → List TokenKind → List TokenKind
+abbrev kinds_over : List Lexeme → List TokenKind → List TokenKind
 kinds_over [] ks = ks
 kinds_over (piece ∷ pieces) ks = piece_kinds piece (kinds_over pieces ks)
 
-over_append : (one two : List Piece) (ks : List TokenKind) → kinds_over (one ++ two) ks ≡ kinds_over one (kinds_over two ks)
+over_append : (one two : List Lexeme) (ks : List TokenKind) → kinds_over (one ++ two) ks ≡ kinds_over one (kinds_over two ks)
 over_append [] two ks = refl
 over_append (piece ∷ one) two ks = ap (piece_kinds piece) (over_append one two ks)
 
@@ -157,7 +157,7 @@ token_kinds (p ∷ parts) = by_piece p.piece (token_kinds parts)
     by_tokens c [] = refl
     by_tokens c (t ∷ later) = joins c p.first p.past t.kind t later refl
 
-    by_piece : (piece : Piece) → map kind_of (tokens_of parts) ≡ kinds_over (map piece_of parts) [] →
+    by_piece : (piece : Lexeme) → map kind_of (tokens_of parts) ≡ kinds_over (map piece_of parts) [] →
         map kind_of (piece_before piece p.first p.past (tokens_of parts)) ≡ piece_kinds piece (kinds_over (map piece_of parts) [])
     by_piece hidden rest = rest
     by_piece (tag kind) rest = ap (λ (ks : List TokenKind). kind ∷ ks) rest
@@ -209,6 +209,6 @@ items_spelt bytes items utf8 is no_mark all =
       tokens_of parts,
       (
         (utf8, parts, subst (λ (cs : List ℕ). Leads (length bytes) cs parts []) (sym at) leads.0, refl),
-        token_kinds parts ∙ ap (λ (ps : List Piece). kinds_over ps []) leads.1 ∙ items_over items,
+        token_kinds parts ∙ ap (λ (ps : List Lexeme). kinds_over ps []) leads.1 ∙ items_over items,
       ),
     )

@@ -11,21 +11,22 @@ use Rattle.std.proofs.lemmas.Bool.Decides.{nat_tests}
 use Rattle.std.proofs.lemmas.Fmt.{decimal_by_steps}
 use Rattle.tl_base.specs.declared.limits.TheConstants.{MAX_COLSPAN, MAX_ROWSPAN, MAX_PAGE_WIDTH}
 use Rattle.tl_token.specs.Characters.{◌∈◌, is_space, is_name_character, is_gap, begins, run, past}
-use Rattle.tl_token.specs.Numbers.{number, number_from, unsigned, signed_number, number_of, columns_of, rows_of, floor_of}
-use Rattle.tl_token.specs.Elements.{Attribute, value_of, attribute_number, element_of, spans_of, cell_spans, no_spans}
+use Rattle.tl_token.specs.Numbers.{number, number_from, unsigned, signed_number, number_of, columns_spanned, rows_spanned}
+use Rattle.tl_token.specs.Numbers.{floor_of}
+use Rattle.tl_token.specs.Elements.{Attribute, value_of, attribute_number, element_of, span_numbers, cell_spans, no_spans}
 use Rattle.tl_token.specs.Grammar.{Each, quoted, Attributes, IsTagName, opening, markup}
 use Rattle.tl_token.specs.Grammar as grammar
 use Rattle.tl_token.specs.declared.token.Element.{Element}
 use Rattle.tl_token.specs.declared.token.Element.TheVariants.{Table, Caption, Colgroup, Col, Tr, Td, Th, Br, P}
 use Rattle.tl_token.specs.declared.token.Spans.{Spans}
 use Rattle.tl_token.proofs.CharacterTests.{excludes, Each-push}
-use Rattle.tl_html.specs.Html.{attribute}
+use Rattle.tl_html.specs.Html.{number_attribute}
 use Rattle.tl_html.proofs.Items.{IsTagText}
 
 -- ---- tags without attributes
 
 bare : (is_end : Bool) (name : List ℕ) (e : Element) → IsTagName name → element_of name ≡ Some e →
-    IsTagText (opening is_end ++ (name ++ codes ">")) is_end e (spans_of e [])
+    IsTagText (opening is_end ++ (name ++ codes ">")) is_end e (span_numbers e [])
 bare is_end name e named known rest =
     markup e (record { is_end = is_end; name = name; attributes = [] })
     (record {
@@ -241,7 +242,8 @@ numbers colspan rowspan least = record { colspan = colspan; rowspan = rowspan; s
 
 abbrev pub attributes_text : ℕ → ℕ → ℕ → List ℕ
 attributes_text colspan rowspan least =
-    attribute (codes "colspan") 1 colspan ++ attribute (codes "rowspan") 1 rowspan ++ attribute (codes "data-min") 0 least
+    number_attribute (codes "colspan") 1 colspan ++ number_attribute (codes "rowspan") 1 rowspan
+    ++ number_attribute (codes "data-min") 0 least
 
 -- the attributes of a cell
 module _ (colspan rowspan least : ℕ) (columns : 0 < colspan) (few_columns : colspan ≤ MAX_COLSPAN) (rows : 0 < rowspan)
@@ -276,22 +278,23 @@ module _ (colspan rowspan least : ℕ) (columns : 0 < colspan) (few_columns : co
   least_value false false true = refl
   least_value false false false = refl
 
-  colspan_is : (a b c : Bool) → ltb 1 colspan ≡ a → columns_of (attribute_number (codes "colspan") (listed a b c)) ≡ colspan
-  colspan_is a b c is = ap (λ (v : Option (List ℕ)). columns_of (option_and_then number_of v))
+  colspan_is : (a b c : Bool) → ltb 1 colspan ≡ a → columns_spanned (attribute_number (codes "colspan") (listed a b c)) ≡ colspan
+  colspan_is a b c is = ap (λ (v : Option (List ℕ)). columns_spanned (option_and_then number_of v))
       (colspan_value a b c) ∙ by_test a is
     where
       by_test : (d : Bool) → ltb 1 colspan ≡ d →
-          columns_of (option_and_then number_of (cond d (Some (decimal colspan)) None)) ≡ colspan
-      by_test true more = ap columns_of (decimal_number colspan (omega arith)) ∙
+          columns_spanned (option_and_then number_of (cond d (Some (decimal colspan)) None)) ≡ colspan
+      by_test true more = ap columns_spanned (decimal_number colspan (omega arith)) ∙
           (let n : max 1 (min colspan MAX_COLSPAN) ≡ colspan = omega arith in n)
       by_test false one = let le = ltb-false 1 colspan one in omega arith
 
-  rowspan_is : (a b c : Bool) → ltb 1 rowspan ≡ b → rows_of (attribute_number (codes "rowspan") (listed a b c)) ≡ rowspan
-  rowspan_is a b c is = ap (λ (v : Option (List ℕ)). rows_of (option_and_then number_of v)) (rowspan_value a b c) ∙ by_test b is
+  rowspan_is : (a b c : Bool) → ltb 1 rowspan ≡ b → rows_spanned (attribute_number (codes "rowspan") (listed a b c)) ≡ rowspan
+  rowspan_is a b c is = ap (λ (v : Option (List ℕ)). rows_spanned (option_and_then number_of v)) (rowspan_value a b c)
+      ∙ by_test b is
     where
       by_test : (d : Bool) → ltb 1 rowspan ≡ d →
-          rows_of (option_and_then number_of (cond d (Some (decimal rowspan)) None)) ≡ rowspan
-      by_test true more = ap rows_of (decimal_number rowspan (omega arith)) ∙ (let n : min rowspan MAX_ROWSPAN ≡ rowspan =
+          rows_spanned (option_and_then number_of (cond d (Some (decimal rowspan)) None)) ≡ rowspan
+      by_test true more = ap rows_spanned (decimal_number rowspan (omega arith)) ∙ (let n : min rowspan MAX_ROWSPAN ≡ rowspan =
           omega arith in n)
       by_test false one = let le = ltb-false 1 rowspan one in omega arith
 
@@ -314,9 +317,9 @@ module _ (colspan rowspan least : ℕ) (columns : 0 < colspan) (few_columns : co
   all_attributes : (rest : List ℕ) → Attributes ((attributes_text colspan rowspan least) ++ (0x3E ∷ rest))
       (listed (ltb 1 colspan) (ltb 1 rowspan) (ltb 0 least)) rest
   all_attributes rest =
-      let a = attribute (codes "colspan") 1 colspan in
-      let b = attribute (codes "rowspan") 1 rowspan in
-      let c = attribute (codes "data-min") 0 least in
+      let a = number_attribute (codes "colspan") 1 colspan in
+      let b = number_attribute (codes "rowspan") 1 rowspan in
+      let c = number_attribute (codes "data-min") 0 least in
       let same : (attributes_text colspan rowspan least) ++ (0x3E ∷ rest) ≡ a ++ (b ++ (c ++ (0x3E ∷ rest))) =
       append_assoc (a ++ b) c (0x3E ∷ rest) ∙ append_assoc a b (c ++ (0x3E ∷ rest)) in
       subst (λ (cs : List ℕ). Attributes cs (listed (ltb 1 colspan) (ltb 1 rowspan) (ltb 0 least)) rest) (sym same)
@@ -342,7 +345,7 @@ module _ (colspan rowspan least : ℕ) (columns : 0 < colspan) (few_columns : co
       by_tests false false false = refl
 
   cell_tag : (name : List ℕ) (e : Element) → IsTagName name → element_of name ≡ Some e →
-      ((all : List Attribute) → spans_of e all ≡ cell_spans all) →
+      ((all : List Attribute) → span_numbers e all ≡ cell_spans all) →
       IsTagText (0x3C ∷ (name ++ ((attributes_text colspan rowspan least) ++ 0x3E ∷ []))) false e (numbers colspan rowspan least)
   cell_tag name e named known spans rest =
       let all = listed (ltb 1 colspan) (ltb 1 rowspan) (ltb 0 least) in

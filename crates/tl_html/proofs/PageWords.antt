@@ -13,7 +13,7 @@ use Rattle.tl_token.specs.declared.token.Element.TheVariants as elements
 use Rattle.tl_text.specs.declared.paragraph.Atom.{Atom}
 use Rattle.tl_text.specs.declared.paragraph.Atom.TheVariants.{Word, Glue, Break}
 use Rattle.tl_text.specs.Words.{has_character}
-use Rattle.tl_text.specs.Paragraph.{IsSolid, IsSpelt}
+use Rattle.tl_text.specs.Paragraph.{IsSolid, IsSpeltAtom}
 use Rattle.tl_text.specs.Clusters.{clusters_of, word_of, by_clusters}
 use Rattle.tl_text.specs.Cuttings.{joined}
 use Rattle.tl_text.proofs.ClusterLemmas.{joined-clusters}
@@ -127,7 +127,7 @@ word_break word rest = by_units (clusters_of word)
     by_units [] = refl
     by_units (first ∷ others) = glues_break others rest
 
-clusters_lead : (follows : Bool) (atoms : List Atom) → AllByRecursion IsSpelt atoms →
+clusters_lead : (follows : Bool) (atoms : List Atom) → AllByRecursion IsSpeltAtom atoms →
     lead follows (by_clusters atoms) ≡ lead follows atoms
 clusters_lead follows [] spelt = refl
 clusters_lead follows (Word word ∷ atoms) spelt =
@@ -136,7 +136,7 @@ clusters_lead follows (Word word ∷ atoms) spelt =
 clusters_lead follows (Glue unit ∷ atoms) spelt = ap (λ (cs : List ℕ). unit ++ cs) (clusters_lead true atoms spelt.1)
 clusters_lead follows (Break ∷ atoms) spelt = refl
 
-clusters_break : (atoms : List Atom) → AllByRecursion IsSpelt atoms → break_items (by_clusters atoms) ≡ break_items atoms
+clusters_break : (atoms : List Atom) → AllByRecursion IsSpeltAtom atoms → break_items (by_clusters atoms) ≡ break_items atoms
 clusters_break [] spelt = refl
 clusters_break (Word word ∷ atoms) spelt = word_break word (by_clusters atoms) ∙ clusters_break atoms spelt.1
 clusters_break (Glue unit ∷ atoms) spelt = clusters_break atoms spelt.1
@@ -144,7 +144,7 @@ clusters_break (Break ∷ atoms) spelt =
     ap (λ (cs : List ℕ). break_item cs ∷ break_items (by_clusters atoms)) (clusters_lead false atoms spelt.1)
     ∙ ap (λ (items : List Item). break_item (lead false atoms) ∷ items) (clusters_break atoms spelt.1)
 
-pub clusters_items : (atoms : List Atom) → AllByRecursion IsSpelt atoms →
+pub clusters_items : (atoms : List Atom) → AllByRecursion IsSpeltAtom atoms →
     paragraph_items (by_clusters atoms) ≡ paragraph_items atoms
 clusters_items atoms spelt =
     ap (λ (cs : List ℕ). start_item cs ∷ (break_items (by_clusters atoms) ++ end_item ∷ [])) (clusters_lead false atoms spelt)
@@ -208,7 +208,7 @@ whole_word word solid =
 
 -- no unit goes on with a word
 abbrev pub NoGlue : Atom → Type 0
-NoGlue atom = IsSpelt atom × IsPlainAtom atom
+NoGlue atom = IsSpeltAtom atom × IsPlainAtom atom
 
 -- the words that come once the open word and these marks are read
 words_back : (atoms : List Atom) (follows : Bool) (list : List Atom) (word : List ℕ) → (follows ≡ false → word ≡ []) →

@@ -16,7 +16,7 @@ use Rattle.tl_table.specs.Formed.{BecomesWithin}
 use Rattle.tl_table.specs.Sound.{IsSoundWithin}
 use Rattle.tl_table.specs.Tables.{inner_tables}
 use Rattle.tl_html.specs.Alike.{AreAlikeWithin}
-use Rattle.tl_html.specs.Html.{Block, Cell, block_page, table_page, cell_page, html_of}
+use Rattle.tl_html.specs.Html.{Block, HtmlCell, block_page, table_page, cell_page, html_of}
 use Rattle.tl_html.specs.Laws.{PageReadsBack}
 use Rattle.tl_html.specs.Readable.{HasColumnsWithin}
 use Rattle.tl_html.specs.Spellable.{IsSpellableWithin}
@@ -56,7 +56,7 @@ begins : (table : Table) (layout : Layout) → (rest : List ℕ) × (html_of tab
 begins table layout = (
   _,
   ap (λ (page : Layout → List ℕ). page layout) (fold_out-Table Block (Layout →
-      List ℕ) Cell block_page table_page cell_page table),
+      List ℕ) HtmlCell block_page table_page cell_page table),
 )
 
 kinds_are : (tokens : List Token) → kinds tokens ≡ map class_of (map kind_of tokens)

@@ -46,7 +46,7 @@ use Rattle.tl_table.proofs.SoundParts.{each_joined}
 use Rattle.tl_table.proofs.SoundNodes.{groups_outline}
 use Rattle.tl_html.specs.declared.filled.Filled.{Filled}
 use Rattle.tl_html.specs.Alike.{AreAlikeBy}
-use Rattle.tl_html.specs.Html.{Cell, fill, block_page, table_page, cell_page, cell_of, html_of, caption_line, caption_html}
+use Rattle.tl_html.specs.Html.{HtmlCell, fill, block_page, table_page, cell_page, cell_of, html_of, caption_line, caption_html}
 use Rattle.tl_html.specs.Html.{columns_html, row_html}
 use Rattle.tl_html.specs.Html.{rows_html, line}
 use Rattle.tl_html.specs.Html as html
@@ -258,7 +258,7 @@ module _ (breaking : Breaking) (forms : TableNode → Table → Type 0) (alike :
         let start : List ℕ = line (codes "<table>") in
         let end : List ℕ = line (codes "</table>") in
         ap (λ (page : Layout → List ℕ). page layout) (fold_out-Table html.Block (Layout →
-        List ℕ) Cell block_page table_page cell_page table)
+        List ℕ) HtmlCell block_page table_page cell_page table)
         ∙ ap (λ (fs : List Filled). (((start ++ caption_html fs) ++ columns_html L.widths) ++ rows_html T.rows fs) ++ end)
         filled_is
         ∙ ap (λ (cs : List ℕ). (((start ++ cs) ++ columns_html L.widths) ++ rows_html T.rows filled) ++ end) caption_is

@@ -34,7 +34,7 @@ use Rattle.tl_table.specs.Same.{AreSameCell}
 use Rattle.tl_table.specs.Sound.{place_of}
 use Rattle.tl_table.proofs.SoundNodes.{rows_outline, groups_outline}
 use Rattle.tl_html.specs.declared.filled.Filled.{Filled}
-use Rattle.tl_html.specs.Html.{Cell, fill, blocks_html, flow_of, cell_of, cell_html, cell_in_row, is_caption, caption_line}
+use Rattle.tl_html.specs.Html.{HtmlCell, fill, blocks_html, flow_of, cell_of, cell_html, cell_in_row, is_caption, caption_line}
 use Rattle.tl_html.specs.Html.{column_html}
 use Rattle.tl_html.specs.Html.{columns_html, row_html, line}
 use Rattle.tl_html.specs.Html as html
@@ -371,7 +371,7 @@ module _ (breaking : Breaking) (forms : TableNode → Table → Type 0) (alike :
         );
         filled = one ∷ [];
         layouts = found.rest;
-        fills = λ rest. ap (λ (h : Cell). fill (h ∷ map cell_of rest) inner) (cell_of-out cap);
+        fills = λ rest. ap (λ (h : HtmlCell). fill (h ∷ map cell_of rest) inner) (cell_of-out cap);
         left = f.left;
         tops = (omega arith, tt);
         written =

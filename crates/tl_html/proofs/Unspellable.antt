@@ -20,9 +20,9 @@ use Rattle.tl_table.specs.declared.cell.Content.{out-Content}
 use Rattle.tl_table.specs.declared.cell.Kind.TheVariants as kinds
 use Rattle.tl_table.specs.declared.cell.Table.{Table, out-Table, roll-Table, out-roll-Table}
 use Rattle.tl_table.specs.declared.cell.TableCell.{TableCell, out-TableCell, roll-TableCell, out-roll-TableCell}
-use Rattle.tl_table.specs.Formed.{BecomeCaption, BecomeCells, BecomesWithin, cells_written, kind_of}
+use Rattle.tl_table.specs.Formed.{BecomeCaption, BecomeCells, BecomesWithin, cells_written, header_kind}
 use Rattle.tl_table.specs.Same.{AreSameCell}
-use Rattle.tl_table.specs.Sound.{ComesBefore, IsSound, IsSoundBy, IsSoundWithin, IsSpelt, count_inside, nested_in_cell}
+use Rattle.tl_table.specs.Sound.{ComesBefore, IsSound, IsSoundBy, IsSoundWithin, IsSpeltBlock, count_inside, nested_in_cell}
 use Rattle.tl_table.specs.Sound.{nested_in_content, nested_in_table, numbers_in_content, numbers_inside, places_of, table_size}
 use Rattle.tl_table.specs.Sound.{cell_size, content_size}
 use Rattle.tl_table.specs.Tables.{OpenCell, OpenTable, tables_in}
@@ -86,9 +86,10 @@ floored_is_sound = record {
     narrow = All-cons (λ (c : TableCell). (out-TableCell c).least ≤ MAX_PAGE_WIDTH) cell []
         (subst (λ (c : OpenCell). c.least ≤ MAX_PAGE_WIDTH) (sym cell_opened) (omega arith))
         (All-nil (λ (c : TableCell). (out-TableCell c).least ≤ MAX_PAGE_WIDTH));
-    spelt = All-cons (λ (c : TableCell). AllByRecursion (λ block. IsSpelt (out-Content block)) (out-TableCell c).blocks) cell []
-        (subst (λ (c : OpenCell). AllByRecursion (λ block. IsSpelt (out-Content block)) c.blocks) (sym cell_opened) tt)
-        (All-nil (λ (c : TableCell). AllByRecursion (λ block. IsSpelt (out-Content block)) (out-TableCell c).blocks));
+    spelt = All-cons (λ (c : TableCell). AllByRecursion (λ block. IsSpeltBlock (out-Content block))
+        (out-TableCell c).blocks) cell []
+        (subst (λ (c : OpenCell). AllByRecursion (λ block. IsSpeltBlock (out-Content block)) c.blocks) (sym cell_opened) tt)
+        (All-nil (λ (c : TableCell). AllByRecursion (λ block. IsSpeltBlock (out-Content block)) (out-TableCell c).blocks));
     numbered = subst (λ (n : ℕ). IsPermutation (numbers_inside open_table) (range_with_len 1 n)) (sym none_counted)
         (subst (λ (numbers : List ℕ). IsPermutation numbers []) (sym no_numbers) (IsPermutation-refl []));
     inner = subst (λ (c : OpenCell). AllByRecursion (IsSoundWithin 0) (tables_in c ++ [])) (sym cell_opened) tt;
@@ -124,7 +125,7 @@ no_caption forms breaking (node ∷ nodes) (d ∷ cells) become c has = elim (Co
   | inr later ↦ no_caption forms breaking nodes cells become.1 c later
 ]
   where
-    plain : (head : Bool) → is_caption_kind (kind_of head) ≡ false
+    plain : (head : Bool) → is_caption_kind (header_kind head) ≡ false
     plain true = refl
     plain false = refl
 

@@ -50,13 +50,13 @@ paragraph_html paragraph = codes "<p>" ++ atoms_html false paragraph ++ codes "<
 -- ---- flows
 
 -- what stands for some blocks, and the layouts of nested tables that come after them
-pub record Flow : Type 0 where
+pub record HtmlFlow : Type 0 where
   pub text : List ℕ
   pub rest : List Layout
 
 -- a block takes the layouts of the nested tables that are left: none, or the first one
 abbrev pub Block : Type 0
-Block = List Layout → Flow
+Block = List Layout → HtmlFlow
 
 -- blocks one after the other
 abbrev pub blocks_html : List Block → Block
@@ -69,29 +69,30 @@ blocks_html (block ∷ blocks) inner =
 -- ---- cells
 
 -- a cell: what it is, its place, its floor and its flow
-pub record Cell : Type 0 where
+pub record HtmlCell : Type 0 where
   pub kind : Kind
   pub place : Place
   pub least : ℕ
   pub flow : Block
 
 -- the cells, each with its text
-abbrev pub fill : List Cell → List Layout → List Filled
+abbrev pub fill : List HtmlCell → List Layout → List Filled
 fill [] inner = []
 fill (cell ∷ cells) inner =
     let flow = cell.flow inner in
     record { kind = cell.kind; place = cell.place; least = cell.least; text = flow.text } ∷ fill cells flow.rest
 
 -- an attribute with a number stands where the number is above its default
-abbrev pub attribute : List ℕ → ℕ → ℕ → List ℕ
-attribute name default number = if nat_lt default number then 0x20 ∷ name ++ codes "=\"" ++ decimal number ++ codes "\"" else []
+abbrev pub number_attribute : List ℕ → ℕ → ℕ → List ℕ
+number_attribute name default number =
+    if nat_lt default number then 0x20 ∷ name ++ codes "=\"" ++ decimal number ++ codes "\"" else []
 
 -- the spans of a cell, and the least width that it asks for
 abbrev pub attributes : Filled → List ℕ
 attributes cell =
-    attribute (codes "colspan") 1 (cell.place.right - cell.place.left)
-    ++ attribute (codes "rowspan") 1 (cell.place.bottom - cell.place.top)
-    ++ attribute (codes "data-min") 0 cell.least
+    number_attribute (codes "colspan") 1 (cell.place.right - cell.place.left)
+    ++ number_attribute (codes "rowspan") 1 (cell.place.bottom - cell.place.top)
+    ++ number_attribute (codes "data-min") 0 cell.least
 
 -- the element of a cell of a row
 abbrev pub element : Kind → List ℕ
@@ -154,34 +155,34 @@ rows_html rows cells =
     flat_map (row_html cells) (range_with_len captions (rows - captions))
 
 -- a table whose nested tables stand as their flows say
-abbrev pub table_page : open_content.Table-F Block (Layout → List ℕ) Cell → Layout → List ℕ
+abbrev pub table_page : open_content.Table-F Block (Layout → List ℕ) HtmlCell → Layout → List ℕ
 table_page table layout =
     let cells = fill table.cells (out-Layout layout).inner in
     line (codes "<table>") ++ caption_html cells ++ columns_html (out-Layout layout).widths ++ rows_html table.rows cells
     ++ line (codes "</table>")
 
 -- a block of a cell: a paragraph, or a nested table in the first of the layouts that are left
-abbrev pub block_page : open_content.Content-F Block (Layout → List ℕ) Cell → Block
+abbrev pub block_page : open_content.Content-F Block (Layout → List ℕ) HtmlCell → Block
 block_page (open_content.Para paragraph) inner = record { text = paragraph_html paragraph; rest = inner }
 block_page (open_content.Table box) [] = record { text = []; rest = [] }
 block_page (open_content.Table box) (layout ∷ inner) = record { text = box.value layout; rest = inner }
 
 -- a cell whose nested tables stand as their flows say
-abbrev pub cell_page : open_content.TableCell-F Block (Layout → List ℕ) Cell → Cell
+abbrev pub cell_page : open_content.TableCell-F Block (Layout → List ℕ) HtmlCell → HtmlCell
 cell_page cell = record { kind = cell.kind; place = cell.place; least = cell.least; flow = blocks_html cell.blocks }
 
 -- the flow of a block of a table
 abbrev pub flow_of : Content → Block
-flow_of = fold-Content Block (Layout → List ℕ) Cell block_page table_page cell_page
+flow_of = fold-Content Block (Layout → List ℕ) HtmlCell block_page table_page cell_page
 
 -- a cell of a table, with its flow
-abbrev pub cell_of : TableCell → Cell
-cell_of = fold-TableCell Block (Layout → List ℕ) Cell block_page table_page cell_page
+abbrev pub cell_of : TableCell → HtmlCell
+cell_of = fold-TableCell Block (Layout → List ℕ) HtmlCell block_page table_page cell_page
 
 -- the characters of the HTML page of a table in a layout
 abbrev pub html_of : Table → Layout → List ℕ
-html_of = fold-Table Block (Layout → List ℕ) Cell block_page table_page cell_page
+html_of = fold-Table Block (Layout → List ℕ) HtmlCell block_page table_page cell_page
 
 -- the bytes of the page
-abbrev pub bytes_of : Table → Layout → List ℕ
-bytes_of table layout = encode_utf8_all (html_of table layout)
+abbrev pub html_bytes : Table → Layout → List ℕ
+html_bytes table layout = encode_utf8_all (html_of table layout)

@@ -10,12 +10,12 @@ use Rattle.tl_table.specs.Formed.{Becomes}
 use Rattle.tl_table.specs.Layouts.{Fits}
 use Rattle.tl_table.specs.Sound.{IsSound}
 use Rattle.tl_html.specs.Alike.{AreAlike}
-use Rattle.tl_html.specs.Readable.{HasColumns, IsPage, ReadsBack}
+use Rattle.tl_html.specs.Readable.{HasColumns, IsHtmlPage, ReadsBack}
 use Rattle.tl_html.specs.Spellable.{IsSpellable}
 
 -- the page of a sound table that a file can spell reads back
 abbrev pub PageReadsBack : Type 0
-PageReadsBack = (table : Table) (layout : Layout) (bytes : List ℕ) → IsPage table layout bytes → ReadsBack table layout bytes
+PageReadsBack = (table : Table) (layout : Layout) (bytes : List ℕ) → IsHtmlPage table layout bytes → ReadsBack table layout bytes
 
 -- a layout that fits some page has a width for each column
 abbrev pub AFittingLayoutHasColumns : Type 0

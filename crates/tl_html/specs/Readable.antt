@@ -30,8 +30,8 @@ abbrev pub HasColumns : Table → Layout → Type 0
 HasColumns table layout = (depth : ℕ) × HasColumnsWithin depth table layout
 
 -- the bytes are the HTML page: UTF-8, of its characters
-abbrev pub IsPage : Table → Layout → List ℕ → Type 0
-IsPage table layout bytes = IsUtf8 bytes × (chars bytes ≡ html_of table layout)
+abbrev pub IsHtmlPage : Table → Layout → List ℕ → Type 0
+IsHtmlPage table layout bytes = IsUtf8 bytes × (chars bytes ≡ html_of table layout)
 
 -- the bytes spell the same table, but for the numbers of tables
 abbrev pub SpellsAlike : List ℕ → Breaking → Table → Type 0

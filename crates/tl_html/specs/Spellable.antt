@@ -14,7 +14,7 @@ use Rattle.tl_table.specs.declared.cell.Content.TheOpen as open_content
 use Rattle.tl_table.specs.declared.cell.Kind.TheVariants as kinds
 use Rattle.tl_table.specs.declared.cell.Table.{Table, out-Table}
 use Rattle.tl_table.specs.declared.cell.TableCell.{TableCell, out-TableCell}
-use Rattle.tl_table.specs.Formed.{broken, kind_of}
+use Rattle.tl_table.specs.Formed.{broken, header_kind}
 use Rattle.tl_table.specs.Sound.{places_of}
 use Rattle.tl_table.specs.Tables.{OpenCell, OpenContent, OpenTable, inner_tables}
 
@@ -41,7 +41,7 @@ AreCaption cols (cell ∷ cells) = IsCaption cols (out-TableCell cell) × (cells
 
 -- a cell of a row is a header cell or a plain one
 abbrev pub IsRowCell : TableCell → Type 0
-IsRowCell cell = (head : Bool) × ((out-TableCell cell).kind ≡ kind_of head)
+IsRowCell cell = (head : Bool) × ((out-TableCell cell).kind ≡ header_kind head)
 
 -- a file can spell the table, where `spellable` says so of the tables nested directly in it
 pub record IsSpellableBy (spellable : Table → Type 0) (breaking : Breaking) (table : OpenTable) : Type 0 where

@@ -4,7 +4,7 @@ ghost use Rattle.std.specs.Prelude.{◌≡◌, ◌++◌, ◌<◌, OnOk, true};
 ghost use Rattle.std.specs.List.{flat_map};
 ghost use Rattle.tl_table.specs.declared.cell.Kind.{Kind};
 ghost use Rattle.tl_base.specs.Text.{is_ascii};
-ghost use Rattle.tl_html.specs.Html.{attribute, attributes, element, cell_html, cell_in_row, row_html};
+ghost use Rattle.tl_html.specs.Html.{number_attribute, attributes, element, cell_html, cell_in_row, row_html};
 
 use crate::builder::TextBuilder;
 use crate::filled::Filled;
@@ -20,7 +20,7 @@ fn write_attribute(
     number: u32,
 ) -> Result<(), AllocError>
     requires { is_ascii name.now ≡ true }
-    ensures { OnOk result (out.new ≡ out.old ++ attribute name.now default number) }
+    ensures { OnOk result (out.new ≡ out.old ++ number_attribute name.now default number) }
 {
     if number > default {
         out.push_ascii(" ")?;

@@ -2,9 +2,9 @@
 
 ghost use Rattle.std.specs.Prelude.{◌≡◌, ◌++◌, ◌≤◌, OnOk, IfOk, length, map};
 ghost use Rattle.std.specs.List.{flat_map, list_any};
-ghost use Rattle.tl_html.specs.Html.{blocks_html, bytes_of, caption_html, caption_line, cell_of, column_html};
+ghost use Rattle.tl_html.specs.Html.{blocks_html, html_bytes, caption_html, caption_line, cell_of, column_html};
 ghost use Rattle.tl_html.specs.Html.{columns_html, fill, flow_of, html_of, is_caption, rows_html};
-ghost use Rattle.tl_html.specs.Readable.{IsPage, ReadsBack, ReadsBackAsFormed};
+ghost use Rattle.tl_html.specs.Readable.{IsHtmlPage, ReadsBack, ReadsBackAsFormed};
 ghost use Rattle.tl_html.specs.inner.Flows.{Flowed, IsFilled};
 
 use crate::builder::TextBuilder;
@@ -210,8 +210,8 @@ fn write_table(
 /// column with its width in `ch` (CSS Values and Units, 6.1.2), and a line for each row. A nested
 /// table takes the next layout of `layout.inner`, in the order of the cells and their blocks.
 pub fn html(alloc: Global, table: &Table, layout: &Layout) -> Result<List<u8>, AllocError>
-    ensures bytes { IfOk result (λ bytes. bytes ≡ bytes_of table.now layout.now) }
-    ensures page { IfOk result (IsPage table.now layout.now) }
+    ensures bytes { IfOk result (λ bytes. bytes ≡ html_bytes table.now layout.now) }
+    ensures page { IfOk result (IsHtmlPage table.now layout.now) }
     // They spell the table again: each sound one that a file can spell, and so each that is read.
     ensures reads_back { IfOk result (ReadsBack table.now layout.now) }
     ensures reads_formed { IfOk result (ReadsBackAsFormed table.now layout.now) }

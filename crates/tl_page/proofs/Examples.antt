@@ -17,8 +17,8 @@ use Rattle.tl_base.specs.declared.style.Style.TheVariants.{Plain, Compact, Frame
 use Rattle.tl_grid.specs.declared.shape.Place.{Place}
 use Rattle.tl_page.specs.declared.line.Line.{Line}
 use Rattle.tl_page.specs.Pictures.{Picture, picture, lines_of}
-use Rattle.tl_page.specs.Standing.{StandsAt}
-use Rattle.tl_page.specs.Widths.{HasWidth}
+use Rattle.tl_page.specs.Standing.{TextStandsAt}
+use Rattle.tl_page.specs.Widths.{TakesColumns}
 
 abbrev place : ℕ → ℕ → ℕ → ℕ → Place
 place left right top bottom = record { left = left; right = right; top = top; bottom = bottom }
@@ -50,7 +50,7 @@ spanned_frame : lines_of (spanned Frame) ≡
 spanned_frame = refl
 
 -- the side of the frame takes one column
-side_width : HasWidth (codes "|") 1
+side_width : TakesColumns (codes "|") 1
 side_width = record {
   pieces = record { text = codes "|"; width = 1 } ∷ [];
   each = (inr (0x7C, (1, omega arith, refl), refl), tt);
@@ -59,10 +59,10 @@ side_width = record {
 }
 
 -- the text of the first cell stands on line 1, and that of the second on line 3, each after the side
-first_stands : StandsAt (lines_of (spanned Frame)) 1 1 (codes "aaaa")
+first_stands : TextStandsAt (lines_of (spanned Frame)) 1 1 (codes "aaaa")
 first_stands = record { before = codes "|"; after = codes "  |"; columns = side_width; line = refl }
 
-second_stands : StandsAt (lines_of (spanned Frame)) 1 3 (codes "bb")
+second_stands : TextStandsAt (lines_of (spanned Frame)) 1 3 (codes "bb")
 second_stands = record { before = codes "|"; after = codes "|   |"; columns = side_width; line = refl }
 
 -- ---- a span of rows

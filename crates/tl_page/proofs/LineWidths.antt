@@ -15,26 +15,26 @@ use Rattle.tl_page.specs.declared.line.Drawn.{Drawn}
 use Rattle.tl_page.specs.declared.line.Line.{Line}
 use Rattle.tl_page.specs.declared.strip.Strip.{Strip}
 use Rattle.tl_page.specs.Corners.{Grid, owner_of}
-use Rattle.tl_page.specs.Pictures.{drawn, drawn_cells, picture, filled, spaces, inside_cell, piece, line_of}
-use Rattle.tl_page.specs.Widths.{HasWidth}
+use Rattle.tl_page.specs.Pictures.{drawn_cell, drawn_cells, picture, filled, spaces, inside_cell, piece, picture_line}
+use Rattle.tl_page.specs.Widths.{TakesColumns}
 use Rattle.tl_page.proofs.WidthLemmas.{HasWidth-append, HasWidth-signs}
 use Rattle.tl_page.proofs.Sweeping.{IsSwept, strip_with, stands, whole_line}
 use Rattle.tl_page.proofs.Meeting.{through, through_both, through_same, bare_slot, cell_slot, gap_between, lies_over, has_slots}
 
 -- the line is as wide as it says, and no wider than its room
 abbrev pub IsInRoom : ℕ → Line → Type 0
-IsInRoom columns line = HasWidth line.text line.width × (line.width ≤ columns)
+IsInRoom columns line = TakesColumns line.text line.width × (line.width ≤ columns)
 
-line_filled : (columns : ℕ) (line : Line) → IsInRoom columns line → HasWidth (filled columns (Some line)) columns
+line_filled : (columns : ℕ) (line : Line) → IsInRoom columns line → TakesColumns (filled columns (Some line)) columns
 line_filled columns line (wide, within) =
     HasWidth-append line.text (spaces (columns - line.width)) line.width (columns - line.width) columns wide
     (HasWidth-signs 0x20 (columns - line.width) (0, omega arith, refl)) (omega (arith, within))
 
-none_filled : (columns : ℕ) → HasWidth (filled columns None) columns
+none_filled : (columns : ℕ) → TakesColumns (filled columns None) columns
 none_filled columns = HasWidth-signs 0x20 columns (0, omega arith, refl)
 
 any_filled : (columns : ℕ) (lines : List Line) (k : ℕ) → AllByRecursion (IsInRoom columns) lines →
-    HasWidth (filled columns (slice_get lines k)) columns
+    TakesColumns (filled columns (slice_get lines k)) columns
 any_filled columns [] k fit = none_filled columns
 any_filled columns (line ∷ lines) zero fit = line_filled columns line fit.0
 any_filled columns (line ∷ lines) (suc k) fit = any_filled columns lines k fit.1
@@ -73,7 +73,7 @@ module _ (style : Style) (grid : Grid) (widths heights : List ℕ) (contents : L
   cell_drawn : (places : List Place) (contents : List (List Line)) (n : ℕ) (place : Place) → AllZip HasRoom places contents →
       slice_get places n ≡ Some place →
       (lines : List Line) × HasRoom place lines × (slice_get contents n ≡ Some lines)
-      × (slice_get (drawn_cells style widths heights places contents) n ≡ Some (drawn style widths heights place lines))
+      × (slice_get (drawn_cells style widths heights places contents) n ≡ Some (drawn_cell style widths heights place lines))
   cell_drawn [] contents n place fit at = absurd (none-some place at)
   cell_drawn (first ∷ places) [] n place fit at = absurd fit
   cell_drawn (first ∷ places) (lines ∷ contents) zero place fit at =
@@ -81,7 +81,7 @@ module _ (style : Style) (grid : Grid) (widths heights : List ℕ) (contents : L
         lines,
         subst (λ (place : Place). HasRoom place lines) same fit.0,
         refl,
-        ap (λ (place : Place). Some (drawn style widths heights place lines)) same,
+        ap (λ (place : Place). Some (drawn_cell style widths heights place lines)) same,
       )
   cell_drawn (first ∷ places) (lines ∷ contents) (suc n) place fit at = cell_drawn places contents n place fit.1 at
 
@@ -102,7 +102,8 @@ module _ (style : Style) (grid : Grid) (widths heights : List ℕ) (contents : L
 
     drawn_at : (n : ℕ) (place : Place) → slice_get grid.places n ≡ Some place →
         (lines : List Line) × HasRoom place lines × (slice_get contents n ≡ Some lines)
-        × (slice_get (drawn_cells style widths heights grid.places contents) n ≡ Some (drawn style widths heights place lines))
+        × (slice_get (drawn_cells style widths heights grid.places contents) n
+        ≡ Some (drawn_cell style widths heights place lines))
     drawn_at n place at = cell_drawn grid.places contents n place fit.filled at
 
     placed : (slot n : ℕ) → kind slot ≡ Some n →
@@ -135,7 +136,7 @@ module _ (style : Style) (grid : Grid) (widths heights : List ℕ) (contents : L
       placed = placed;
       whole = whole;
       wide = λ n place at. let cell = drawn_at n place at in
-          subst (λ some. HasWidth (content_at some y) (room (gap_of style) widths place.left place.right)) (sym cell.3)
+          subst (λ some. TakesColumns (content_at some y) (room (gap_of style) widths place.left place.right)) (sym cell.3)
           (any_filled (room (gap_of style) widths place.left place.right) cell.0
           (y - (edge_of style + position (row_gap_of style) heights place.top)) cell.1);
       bare = λ slot from size none. bare_slot style (drawn_cells style widths heights grid.places contents)
@@ -145,20 +146,20 @@ module _ (style : Style) (grid : Grid) (widths heights : List ℕ) (contents : L
           cell_slot style (drawn_cells style widths heights grid.places contents) (owner_of grid slot down.before)
           (owner_of grid slot down.after) (strip_with slot slot from size) y n some
           ∙ ap (λ some. inside_cell some (strip_with slot slot from size) y) cell.3
-          ∙ begun_cell (drawn style widths heights place cell.0) slot from size y begins
+          ∙ begun_cell (drawn_cell style widths heights place cell.0) slot from size y begins
           ∙ ap (λ some. content_at some y) (sym cell.3);
       later = λ slot from size n place some at beyond. let cell = drawn_at n place at in
           cell_slot style (drawn_cells style widths heights grid.places contents) (owner_of grid slot down.before)
           (owner_of grid slot down.after) (strip_with slot slot from size) y n some
           ∙ ap (λ some. inside_cell some (strip_with slot slot from size) y) cell.3
-          ∙ later_cell (drawn style widths heights place cell.0) slot from size y beyond;
+          ∙ later_cell (drawn_cell style widths heights place cell.0) slot from size y beyond;
       between = λ slot from size. gap_between style (drawn_cells style widths heights grid.places contents)
           (owner_of grid slot down.before)
           (owner_of grid (slot + 1) down.before) (owner_of grid slot down.after) (owner_of grid (slot + 1) down.after)
           slot from size y;
     }
 
-    pub line_wide : HasWidth (line_of (picture style grid widths heights contents) down y)
+    pub line_wide : TakesColumns (picture_line (picture style grid widths heights contents) down y)
         (total (gap_of style) (edge_of style) widths)
     line_wide = whole_line kind grid.places (gap_of style) (edge_of style) widths content piece_at swept
 
@@ -166,8 +167,8 @@ module _ (style : Style) (grid : Grid) (widths heights : List ℕ) (contents : L
     pub cell_stands : (n : ℕ) (place : Place) (lines : List Line) → slice_get grid.places n ≡ Some place →
         slice_get contents n ≡ Some lines →
         place.top < down.before → down.before ≤ place.bottom → place.top < down.after → down.after ≤ place.bottom →
-        (before after : List ℕ) × HasWidth before (edge_of style + position (gap_of style) widths place.left)
-        × (line_of (picture style grid widths heights contents) down y
+        (before after : List ℕ) × TakesColumns before (edge_of style + position (gap_of style) widths place.left)
+        × (picture_line (picture style grid widths heights contents) down y
         ≡ before ++ (filled (room (gap_of style) widths place.left place.right)
         (slice_get lines (y - (edge_of style + position (row_gap_of style) heights place.top))) ++ after))
     cell_stands n place lines at stood above begun below ended =

@@ -12,12 +12,12 @@ use Rattle.tl_table.specs.declared.layout.Layout.{Layout, out-Layout}
 use Rattle.tl_table.specs.Layouts.{total_height}
 use Rattle.tl_page.specs.declared.strip.Strip.{Strip}
 use Rattle.tl_page.specs.Pages.{IsPage, grid_of}
-use Rattle.tl_page.specs.Pictures.{Picture, picture, line_of, strip_lines}
+use Rattle.tl_page.specs.Pictures.{Picture, picture, picture_line, strip_lines}
 use Rattle.tl_page.specs.Strips.{strips_from, strips}
 
 -- a strip has as many lines as its size
 strip_high : (picture : Picture) (strip : Strip) → length (strip_lines picture strip) ≡ strip.size
-strip_high picture strip = length-map-range_with_len (line_of picture strip) strip.from strip.size
+strip_high picture strip = length-map-range_with_len (picture_line picture strip) strip.from strip.size
 
 -- the strips from a slot on
 high-from : (picture : Picture) (gap edge slot from size : ℕ) (sizes : List ℕ) →

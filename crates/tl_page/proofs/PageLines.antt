@@ -9,7 +9,7 @@ use Rattle.std.proofs.lemmas.List.Sums.{sum_by-cons}
 use Rattle.tl_base.proofs.Members.{AllByRecursion-append}
 use Rattle.tl_base.specs.Sizes.{position}
 use Rattle.tl_page.specs.declared.strip.Strip.{Strip}
-use Rattle.tl_page.specs.Pictures.{Picture, line_of, strip_lines}
+use Rattle.tl_page.specs.Pictures.{Picture, picture_line, strip_lines}
 use Rattle.tl_page.specs.Strips.{following, strips_from, strips}
 
 -- ---- items of joined lists
@@ -48,10 +48,10 @@ module _ (picture : Picture) (gap edge : ℕ) where
     pub ordered : down.before ≤ down.after
     pub ends : down.after < slot + past
     pub here : slice_get (flat_map (strip_lines picture) (strips_from gap edge slot from sizes)) i ≡ Some
-        (line_of picture down (from + i))
+        (picture_line picture down (from + i))
 
   high : (strip : Strip) → length (strip_lines picture strip) ≡ strip.size
-  high strip = length-map-range_with_len (line_of picture strip) strip.from strip.size
+  high strip = length-map-range_with_len (picture_line picture strip) strip.from strip.size
 
   beyond : (slot from top past i : ℕ) (size : ℕ) (sizes : List ℕ) (top' past' : ℕ) → top ≤ suc top' → past ≡ suc past' →
       size + gap ≤ i → following gap edge sizes ≡ gap → LiesIn (slot + 1) (from + size + gap) top' past' (i - size - gap) sizes →
@@ -69,7 +69,7 @@ module _ (picture : Picture) (gap edge : ℕ) where
         here = get-right (strip_lines picture inner) (strip_lines picture outer ++ others) (i - size) i
             (omega (arith, high inner, far))
             ∙ get-right (strip_lines picture outer) others (i - size - gap) (i - size) (omega (arith, high outer, gapped, far))
-            ∙ rest.here ∙ ap (λ (y : ℕ). Some (line_of picture rest.down y)) line;
+            ∙ rest.here ∙ ap (λ (y : ℕ). Some (picture_line picture rest.down y)) line;
       }
 
   in_slot : (slot from past i size : ℕ) (sizes : List ℕ) → i < size → LiesIn slot from zero (suc past) i (size ∷ sizes)
@@ -83,7 +83,7 @@ module _ (picture : Picture) (gap edge : ℕ) where
         ends = omega arith;
         here = get-left (strip_lines picture inner) (flat_map (strip_lines picture)
             (outer ∷ strips_from gap edge (slot + 1) (from + size + gap) sizes)) i (omega (arith, high inner, within))
-            ∙ get-range (line_of picture inner) from size i within;
+            ∙ get-range (picture_line picture inner) from size i within;
       }
 
   in_gap : (slot from past i size next : ℕ) (sizes : List ℕ) → size ≤ i → i < size + gap →
@@ -101,8 +101,8 @@ module _ (picture : Picture) (gap edge : ℕ) where
         here = get-right (strip_lines picture inner) (strip_lines picture outer ++ others) (i - size) i
             (omega (arith, high inner, beyond_it))
             ∙ get-left (strip_lines picture outer) others (i - size) (omega (arith, high outer, between, beyond_it))
-            ∙ get-range (line_of picture outer) (from + size) gap (i - size) (omega (arith, between, beyond_it))
-            ∙ ap (λ (y : ℕ). Some (line_of picture outer y)) line;
+            ∙ get-range (picture_line picture outer) (from + size) gap (i - size) (omega (arith, between, beyond_it))
+            ∙ ap (λ (y : ℕ). Some (picture_line picture outer y)) line;
       }
 
   lies_in : (slot from top past i : ℕ) (sizes : List ℕ) → top < past → past ≤ length sizes → position gap sizes top ≤ i →
@@ -137,7 +137,8 @@ module _ (picture : Picture) (gap edge : ℕ) where
   pub page_line : (heights : List ℕ) (top past i : ℕ) → top < past → past ≤ length heights → position gap heights top ≤ i →
       i + gap < position gap heights past →
       (down : Strip) × (top < down.before) × (down.before ≤ past) × (top < down.after) × (down.after ≤ past)
-      × (slice_get (flat_map (strip_lines picture) (strips gap edge heights)) (edge + i) ≡ Some (line_of picture down (edge + i)))
+      × (slice_get (flat_map (strip_lines picture) (strips gap edge heights)) (edge + i)
+      ≡ Some (picture_line picture down (edge + i)))
   page_line [] top past i ahead within first last = absurd (omega (arith, ahead, within))
   page_line (size ∷ sizes) top past i ahead within first last =
       let rest = lies_in 1 edge top past i (size ∷ sizes) ahead within first last in
@@ -159,9 +160,9 @@ mapped_all P f [] each = tt
 mapped_all P f (x ∷ xs) each = (each x, mapped_all P f xs each)
 
 pub all_lines : (P : List ℕ → Type 0) (picture : Picture) (downs : List Strip) →
-    ((down : Strip) (y : ℕ) → P (line_of picture down y)) →
+    ((down : Strip) (y : ℕ) → P (picture_line picture down y)) →
     AllByRecursion P (flat_map (strip_lines picture) downs)
 all_lines P picture [] each = tt
 all_lines P picture (down ∷ downs) each =
     AllByRecursion-append P (strip_lines picture down) (flat_map (strip_lines picture) downs)
-    (mapped_all P (line_of picture down) (range_with_len down.from down.size) (each down)) (all_lines P picture downs each)
+    (mapped_all P (picture_line picture down) (range_with_len down.from down.size) (each down)) (all_lines P picture downs each)

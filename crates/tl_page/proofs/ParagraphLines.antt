@@ -9,7 +9,7 @@ use Rattle.tl_text.specs.declared.ranges.Line.{Line as Range}
 use Rattle.tl_text.specs.declared.paragraph.Atom.{Atom}
 use Rattle.tl_text.specs.Paragraph.{unit_width, atom_size}
 use Rattle.tl_text.specs.Cuttings.{joined, HasCutting}
-use Rattle.tl_text.specs.Ranges.{AreInOrder, ShowsLine, ShowsGreedyCutting, IsFirstTooWide}
+use Rattle.tl_text.specs.Ranges.{AreConsecutive, ShowsLine, ShowsGreedyCutting, IsFirstTooWide}
 use Rattle.tl_text.proofs.Paragraphs.{AllFit, atoms-of-cut-fit}
 use Rattle.tl_page.specs.declared.line.Line.{Line}
 use Rattle.tl_page.specs.Pages.{AreParagraphLines, line_from}
@@ -32,17 +32,17 @@ abbrev pub IsWithin : ℕ → Range → Type 0
 IsWithin past range = (range.first ≤ range.past) × (range.past ≤ past)
 
 -- each of the ranges begins where it may end
-order_ends : (from past : ℕ) (ranges : List Range) → AreInOrder from ranges past → from ≤ past
+order_ends : (from past : ℕ) (ranges : List Range) → AreConsecutive from ranges past → from ≤ past
 order_ends from past [] order = omega (arith, order)
 order_ends from past (range ∷ ranges) order = omega (arith, order.0, order.1, order_ends range.past past ranges order.2)
 
-ranges_within : (from past : ℕ) (ranges : List Range) → AreInOrder from ranges past → AllByRecursion (IsWithin past) ranges
+ranges_within : (from past : ℕ) (ranges : List Range) → AreConsecutive from ranges past → AllByRecursion (IsWithin past) ranges
 ranges_within from past [] order = tt
 ranges_within from past (range ∷ ranges) order =
     ((omega (arith, order.1), order_ends range.past past ranges order.2), ranges_within range.past past ranges order.2)
 
 -- each range ends within the paragraph
-pub range_within : (past : ℕ) (ranges : List Range) (place : ℕ) (none : Range) → AreInOrder 0 ranges past →
+pub range_within : (past : ℕ) (ranges : List Range) (place : ℕ) (none : Range) → AreConsecutive 0 ranges past →
     place < length ranges →
     IsWithin past (get_or ranges place none)
 range_within past ranges place none order within =

@@ -9,7 +9,7 @@ use Rattle.tl_page.specs.declared.line.Drawn.{Drawn}
 use Rattle.tl_page.specs.declared.line.Line.{Line}
 use Rattle.tl_page.specs.declared.owner.Owner.{Owner}
 use Rattle.tl_page.specs.declared.strip.Strip.{Strip}
-use Rattle.tl_page.specs.Pictures.{Picture, drawn}
+use Rattle.tl_page.specs.Pictures.{Picture, drawn_cell}
 use Rattle.tl_page.specs.Strips.{strips}
 
 abbrev made : Style → List Strip → List Strip → (ℕ → ℕ → Owner) → List Drawn → Picture
@@ -36,7 +36,7 @@ cell_with left columns first lines = record { left = left; columns = columns; fi
 pub same_drawn : (style : Style) (widths heights : List ℕ) (place : Place) (columns first : ℕ) (lines : List Line) →
     columns ≡ room (gap_of style) widths place.left place.right →
     first ≡ edge_of style + position (row_gap_of style) heights place.top →
-    cell_with place.left columns first lines ≡ drawn style widths heights place lines
+    cell_with place.left columns first lines ≡ drawn_cell style widths heights place lines
 same_drawn style widths heights place columns first lines one two =
     ap (λ (some : ℕ). cell_with place.left some first lines) one
     ∙ ap (λ (some : ℕ). cell_with place.left (room (gap_of style) widths place.left place.right) some lines) two

@@ -23,7 +23,7 @@ use Rattle.tl_table.specs.Sound.{place_of, places_of}
 use Rattle.tl_page.specs.declared.line.Drawn.{Drawn}
 use Rattle.tl_page.specs.declared.line.Line.{Line}
 use Rattle.tl_page.specs.Pages.{Content, ShowsBlock, ShowsCell, ShowsWithin}
-use Rattle.tl_page.specs.Pictures.{drawn, drawn_cells}
+use Rattle.tl_page.specs.Pictures.{drawn_cell, drawn_cells}
 use Rattle.tl_page.specs.inner.Contents.{FitsBlockRoom, FitsCellRoom, ShowsPart, ShowsParts, ShowsCells}
 use Rattle.tl_page.proofs.Deeper.{ShowsBlock-weaker, ShowsCell-weaker, ShowsWithin-deeper, ShowsWithin-deeper'}
 use Rattle.tl_page.proofs.Fitting.{Fitting, same_rest, as_many_in_block, as_many_in_cell}
@@ -183,12 +183,12 @@ drawn_cells-push : (style : Style) (widths heights : List ℕ) (places : List Pl
     (lines : List Line) →
     length places ≡ length contents →
     drawn_cells style widths heights (places ++ place ∷ []) (contents ++ lines ∷ [])
-    ≡ drawn_cells style widths heights places contents ++ drawn style widths heights place lines ∷ []
+    ≡ drawn_cells style widths heights places contents ++ drawn_cell style widths heights place lines ∷ []
 drawn_cells-push style widths heights [] [] place lines same = refl
 drawn_cells-push style widths heights [] (content ∷ contents) place lines same = absurd (omega arith)
 drawn_cells-push style widths heights (one ∷ places) [] place lines same = absurd (omega arith)
 drawn_cells-push style widths heights (one ∷ places) (content ∷ contents) place lines same =
-    ap (λ rest. drawn style widths heights one content ∷ rest)
+    ap (λ rest. drawn_cell style widths heights one content ∷ rest)
     (drawn_cells-push style widths heights places contents place lines (omega arith))
 
 AllZip-none : {A B : Type 0} (R : A → B → Type 0) (ys : List B) → AllZip R [] ys → ys ≡ []
@@ -286,7 +286,8 @@ pub cells-more : (style : Style) (table : OpenTable) (layout : OpenLayout) (i ne
     (lines : List Line) (cell : TableCell) →
     i < length table.cells → cell ≡ get_or table.cells i cell → CellsSoFar style table layout i next cells →
     ShowsParts style (width_for style layout (place_of cell)) (out-TableCell cell) layout.inner next after lines →
-    CellsSoFar style table layout (i + 1) after (cells ++ drawn style layout.widths layout.heights (place_of cell) lines ∷ [])
+    CellsSoFar style table layout (i + 1) after
+    (cells ++ drawn_cell style layout.widths layout.heights (place_of cell) lines ∷ [])
 cells-more style table layout i next after cells lines cell within is sofar part =
     let first = left_first (λ cell given. FitsCell (FitsWithin sofar.level style) style layout (out-TableCell cell) given)
     table.cells i cell
@@ -316,7 +317,7 @@ cells-more style table layout i next after cells lines cell within is sofar part
       contents = sofar.contents ++ part.content ∷ [];
       shows = subst (λ some. AllZip shown some (sofar.contents ++ part.content ∷ [])) (sym taken)
           (AllZip-push shown (take i table.cells) sofar.contents cell part.content others this);
-      written = ap₂ (λ (before : List Drawn) (last : List Line). before ++ drawn style layout.widths layout.heights
+      written = ap₂ (λ (before : List Drawn) (last : List Line). before ++ drawn_cell style layout.widths layout.heights
           (place_of cell) last ∷ [])
           sofar.written part.written
           ∙ sym (drawn_cells-push style layout.widths layout.heights (map place_of (take i table.cells))

@@ -11,7 +11,7 @@ use Rattle.tl_base.specs.Sizes.{position, room, total}
 use Rattle.tl_base.proofs.SizeLaws.{total-position, room-position, position-next}
 use Rattle.tl_page.specs.declared.strip.Strip.{Strip}
 use Rattle.tl_page.specs.Strips.{following, strips_from, strips}
-use Rattle.tl_page.specs.Widths.{IsSign, HasWidth}
+use Rattle.tl_page.specs.Widths.{IsSign, TakesColumns}
 use Rattle.tl_page.proofs.StripLemmas.{following-more}
 use Rattle.tl_page.proofs.WidthLemmas.{HasWidth-append, HasWidth-signs, HasWidth-same, HasWidth-none}
 
@@ -19,7 +19,7 @@ use Rattle.tl_page.proofs.WidthLemmas.{HasWidth-append, HasWidth-signs, HasWidth
 abbrev pub IsDrawn : ℕ → List ℕ → Type 0
 IsDrawn size text = (sign : ℕ) × IsSign sign × (text ≡ replicate size sign)
 
-drawn_width : (size : ℕ) (text : List ℕ) → IsDrawn size text → HasWidth text size
+drawn_width : (size : ℕ) (text : List ℕ) → IsDrawn size text → TakesColumns text size
 drawn_width size text (sign, is, same) = HasWidth-same (replicate size sign) text size (HasWidth-signs sign size is) (sym same)
 
 abbrev pub strip_with : ℕ → ℕ → ℕ → ℕ → Strip
@@ -40,7 +40,7 @@ module _ (kind : ℕ → Option ℕ) (places : List Place) (gap edge : ℕ) (wid
     pub whole : (slot other n : ℕ) (place : Place) → kind slot ≡ Some n → slice_get places n ≡ Some place → place.left < other →
         other ≤ place.right → kind other ≡ Some n
     pub wide : (n : ℕ) (place : Place) → slice_get places n ≡ Some place →
-        HasWidth (content n) (room gap widths place.left place.right)
+        TakesColumns (content n) (room gap widths place.left place.right)
     pub bare : (slot from size : ℕ) → kind slot ≡ None → IsDrawn size (piece (strip_with slot slot from size))
     pub begun : (slot from size n : ℕ) (place : Place) → kind slot ≡ Some n → slice_get places n ≡ Some place →
         slot ≡ place.left + 1 →
@@ -73,7 +73,7 @@ module _ (kind : ℕ → Option ℕ) (places : List Place) (gap edge : ℕ) (wid
     pub written : List ℕ
     pub left : text ≡ written ++ flat_map piece (strips_from gap edge (slot + 1) from (drop slot widths))
     pub width : ℕ
-    pub wide : HasWidth written width
+    pub wide : TakesColumns written width
     pub state : IsFresh slot width ⊎ GoesOn slot width
 
   -- what is written up to the end of the slot, ahead of the gap or edge after it
@@ -83,7 +83,7 @@ module _ (kind : ℕ → Option ℕ) (places : List Place) (gap edge : ℕ) (wid
     pub left : text ≡ written ++ (piece (strip_with (slot + 1) (slot + 1 + 1) from (following gap edge (drop (slot + 1) widths)))
         ++ flat_map piece (strips_from gap edge (slot + 1 + 1) (from + gap) (drop (slot + 1) widths)))
     pub width : ℕ
-    pub wide : HasWidth written width
+    pub wide : TakesColumns written width
     pub past : ℕ
     pub all : width + gap ≡ edge + position gap widths past
     pub ends : ((kind (slot + 1) ≡ None) × (past ≡ slot + 1))
@@ -135,7 +135,7 @@ module _ (kind : ℕ → Option ℕ) (places : List Place) (gap edge : ℕ) (wid
           | inr on ↦ later on
         ] where
           made : (width past : ℕ) →
-              HasWidth (before.written ++ piece (strip_with (slot + 1) (slot + 1) before.from (get_or widths slot 0))) width →
+              TakesColumns (before.written ++ piece (strip_with (slot + 1) (slot + 1) before.from (get_or widths slot 0))) width →
               width + gap ≡ edge + position gap widths past →
               (((kind (slot + 1) ≡ None) × (past ≡ slot + 1))
               ⊎ ((n : ℕ) × (place : Place) × (kind (slot + 1) ≡ Some n) × (slice_get places n ≡ Some place) ×
@@ -202,7 +202,7 @@ module _ (kind : ℕ → Option ℕ) (places : List Place) (gap edge : ℕ) (wid
       size : following gap edge (drop (slot + 1) widths) ≡ gap
       size = following-more gap edge widths (slot + 1) more
 
-      made : (width : ℕ) → HasWidth (after.written ++ piece (strip_with (slot + 1) (slot + 1 + 1) after.from
+      made : (width : ℕ) → TakesColumns (after.written ++ piece (strip_with (slot + 1) (slot + 1 + 1) after.from
           (following gap edge (drop (slot + 1) widths)))) width → IsFresh (slot + 1) width ⊎ GoesOn (slot + 1) width →
           Before text (slot + 1)
       made width wide state = record {
@@ -312,7 +312,7 @@ module _ (kind : ℕ → Option ℕ) (places : List Place) (gap edge : ℕ) (wid
 
     -- the content of a cell stands after all columns before the cell
     pub stands : (n : ℕ) (place : Place) → slice_get places n ≡ Some place → kind (place.left + 1) ≡ Some n →
-        (before after : List ℕ) × HasWidth before (edge + position gap widths place.left)
+        (before after : List ℕ) × TakesColumns before (edge + position gap widths place.left)
         × (flat_map piece (strips gap edge widths) ≡ before ++ (content n ++ after))
     stands n place at here =
         let lies = is.placed (place.left + 1) n here in
@@ -321,7 +321,7 @@ module _ (kind : ℕ → Option ℕ) (places : List Place) (gap edge : ℕ) (wid
         let within = subst (λ (place' : Place). place'.right ≤ length widths) same lies.4 in
         found (omega (arith, right, within)) (before_slot place.left (omega (arith, right, within))) where
           found : place.left < length widths → Before (flat_map piece (strips gap edge widths)) place.left →
-              (before after : List ℕ) × HasWidth before (edge + position gap widths place.left)
+              (before after : List ℕ) × TakesColumns before (edge + position gap widths place.left)
               × (flat_map piece (strips gap edge widths) ≡ before ++ (content n ++ after))
           found within before = elim before.state [
             | inl fresh ↦
@@ -331,7 +331,7 @@ module _ (kind : ℕ → Option ℕ) (places : List Place) (gap edge : ℕ) (wid
                 (drop (place.left + 1) widths)) in (
                   before.written,
                   rest,
-                  subst (HasWidth before.written) fresh.begins before.wide,
+                  subst (TakesColumns before.written) fresh.begins before.wide,
                   before.left ∙ ap (λ text. before.written ++ text) (strips_at place.left before.from within)
                       ∙ ap (λ text. before.written ++ (text ++ rest))
                       (is.begun (place.left + 1) before.from (get_or widths place.left 0) n place here at refl),
@@ -345,7 +345,7 @@ module _ (kind : ℕ → Option ℕ) (places : List Place) (gap edge : ℕ) (wid
 
     -- the line is as wide as all columns, with the gaps and both edges
     last_line : (slot : ℕ) → slot + 1 ≡ length widths → After (flat_map piece (strips gap edge widths)) slot →
-        HasWidth (flat_map piece (strips gap edge widths)) (total gap edge widths)
+        TakesColumns (flat_map piece (strips gap edge widths)) (total gap edge widths)
     last_line slot end after =
         let none : drop (slot + 1) widths ≡ [] = drop_all (slot + 1) widths (omega (arith, end)) in
         let beyond = λ (sizes : List ℕ). piece (strip_with (slot + 1) (slot + 1 + 1) after.from (following gap edge sizes))
@@ -374,10 +374,10 @@ module _ (kind : ℕ → Option ℕ) (places : List Place) (gap edge : ℕ) (wid
                 omega (arith, beyond, same, lies.3, lies.4, end)
           ]
 
-    pub whole_line : HasWidth (flat_map piece (strips gap edge widths)) (total gap edge widths)
+    pub whole_line : TakesColumns (flat_map piece (strips gap edge widths)) (total gap edge widths)
     whole_line = whole widths refl where
-      whole : (sizes : List ℕ) → widths ≡ sizes → HasWidth (flat_map piece (strips gap edge widths)) (total gap edge widths)
-      whole [] none = subst (λ (sizes : List ℕ). HasWidth (flat_map piece (strips gap edge sizes)) (total gap edge sizes))
+      whole : (sizes : List ℕ) → widths ≡ sizes → TakesColumns (flat_map piece (strips gap edge widths)) (total gap edge widths)
+      whole [] none = subst (λ (sizes : List ℕ). TakesColumns (flat_map piece (strips gap edge sizes)) (total gap edge sizes))
           (sym none) HasWidth-none
       whole (size ∷ sizes) some =
           let text = flat_map piece (strips gap edge widths) in

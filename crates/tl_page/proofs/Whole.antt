@@ -31,10 +31,10 @@ use Rattle.tl_table.specs.Sound.{IsSound, IsSoundWithin, place_of, places_of, Is
 use Rattle.tl_table.proofs.SoundParts.{sound_cells, sound_blocks}
 use Rattle.tl_page.specs.declared.line.Line.{Line}
 use Rattle.tl_page.specs.Pages.{Content, ShowsBlock, ShowsCell, ShowsBy, ShowsWithin, grid_of, line_from, line_text}
-use Rattle.tl_page.specs.Pictures.{Picture, picture, filled, spaces, line_of}
-use Rattle.tl_page.specs.Standing.{StandsAt, AreTextsOf, HoldsBy, HoldsWithin}
+use Rattle.tl_page.specs.Pictures.{Picture, picture, filled, spaces, picture_line}
+use Rattle.tl_page.specs.Standing.{TextStandsAt, AreTextsOf, HoldsBy, HoldsWithin}
 use Rattle.tl_page.specs.Strips.{strips}
-use Rattle.tl_page.specs.Widths.{HasWidth}
+use Rattle.tl_page.specs.Widths.{TakesColumns}
 use Rattle.tl_page.proofs.Fitting.{same_rest, as_many_in_block, as_many_in_cell}
 use Rattle.tl_page.proofs.GreedyLines.{greedy-least}
 use Rattle.tl_page.proofs.LineWidths.{IsInRoom, IsFilledIn, HasRoom, line_wide, cell_stands}
@@ -79,7 +79,7 @@ zip_mapped R S f g (x ∷ xs) (y ∷ ys) each all = (each x y all.0, zip_mapped 
 
 -- each line is as wide as the layout, and all text stands on the page
 pub record IsWhole (depth : ℕ) (style : Style) (table : Table) (layout : Layout) (page : List (List ℕ)) : Type 0 where
-  pub wide : AllByRecursion (λ line. HasWidth line (total_width style (out-Layout layout))) page
+  pub wide : AllByRecursion (λ line. TakesColumns line (total_width style (out-Layout layout))) page
   pub holds : HoldsWithin depth style table layout page
 
 lines_in_room : (w : ℕ) (lines : List (List Atom)) → AllByRecursion (λ line. line_width line ≤ w) lines →
@@ -87,7 +87,7 @@ lines_in_room : (w : ℕ) (lines : List (List Atom)) → AllByRecursion (λ line
 lines_in_room w [] holds = tt
 lines_in_room w (line ∷ lines) holds = ((HasWidth-line line, holds.0), lines_in_room w lines holds.1)
 
-nested_in_room : (w width : ℕ) (page : List (List ℕ)) → width ≤ w → AllByRecursion (λ line. HasWidth line width) page →
+nested_in_room : (w width : ℕ) (page : List (List ℕ)) → width ≤ w → AllByRecursion (λ line. TakesColumns line width) page →
     AllByRecursion (IsInRoom w) (map (λ (text : List ℕ). let line : Line = record { text = text; width = width } in line) page)
 nested_in_room w width [] within wide = tt
 nested_in_room w width (line ∷ page) within wide = ((wide.0, within), nested_in_room w width page within wide.1)
@@ -278,9 +278,9 @@ module _ (depth : ℕ) (style : Style)
           table.cells shows.contents (λ cell content whole. whole.in_room) cells;
     }
 
-    wide : AllByRecursion (λ line. HasWidth line (total_width style layout)) page
-    wide = subst (AllByRecursion (λ line. HasWidth line (total_width style layout))) (sym shows.drawn)
-        (all_lines (λ line. HasWidth line (total_width style layout)) drawn_picture
+    wide : AllByRecursion (λ line. TakesColumns line (total_width style layout)) page
+    wide = subst (AllByRecursion (λ line. TakesColumns line (total_width style layout))) (sym shows.drawn)
+        (all_lines (λ line. TakesColumns line (total_width style layout)) drawn_picture
         (strips (row_gap_of style) (edge_of style) layout.heights)
         (λ down y. line_wide style (grid_of table) layout.widths layout.heights contents filled_in down y))
 
@@ -288,7 +288,7 @@ module _ (depth : ℕ) (style : Style)
     line_stands : (n k : ℕ) (place : Place) (lines : List Line) (line : Line) → slice_get (places_of table) n ≡ Some place →
         slice_get contents n ≡ Some lines → IsPlaced table.cols table.rows place → length lines ≤ height_for style layout place →
         slice_get lines k ≡ Some line →
-        StandsAt page (edge_of style + position (gap_of style) layout.widths place.left)
+        TextStandsAt page (edge_of style + position (gap_of style) layout.widths place.left)
         (edge_of style + position (row_gap_of style) layout.heights place.top + k) line.text
     line_stands n k place lines line at stood lies low here =
         let gap = row_gap_of style in
@@ -313,7 +313,8 @@ module _ (depth : ℕ) (style : Style)
           before = stands.0;
           after = tail ++ stands.1;
           columns = stands.2;
-          line = placed_line stands.0 stands.1 line.text tail content text (line_of drawn_picture found.0 (edge + (begin + k)))
+          line = placed_line stands.0 stands.1 line.text tail content text
+              (picture_line drawn_picture found.0 (edge + (begin + k)))
               stands.3
               (ap₂ (λ (page : List (List ℕ)) (y : ℕ). slice_get page y) shows.drawn (sym row) ∙ found.5);
         } where
@@ -353,7 +354,7 @@ module _ (depth : ℕ) (style : Style)
           blocks = whole.each;
           standing = λ k text here.
               let found = line_with_text content.lines k text (ap (λ texts. slice_get texts k) (sym whole.all) ∙ here) in
-              subst (StandsAt page (edge_of style + position (gap_of style) layout.widths (place_of cell).left)
+              subst (TextStandsAt page (edge_of style + position (gap_of style) layout.widths (place_of cell).left)
               (edge_of style + position (row_gap_of style) layout.heights (place_of cell).top + k)) found.2
               (line_stands n k (place_of cell) content.lines found.0 at stood lies whole.low found.1);
         }

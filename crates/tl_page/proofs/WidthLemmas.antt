@@ -10,18 +10,18 @@ use Rattle.tl_text.specs.Paragraph.{unit_width, gap_before}
 use Rattle.tl_text.specs.Cuttings.{line_width}
 use Rattle.tl_page.specs.Pages.{text_of, line_text}
 use Rattle.tl_page.specs.Pictures.{spaces}
-use Rattle.tl_page.specs.Widths.{IsSign, IsPiece, HasWidth}
+use Rattle.tl_page.specs.Widths.{IsSign, IsPiece, TakesColumns}
 
 both : (P : Line → Type 0) (xs ys : List Line) → AllByRecursion P xs → AllByRecursion P ys → AllByRecursion P (xs ++ ys)
 both P [] ys one other = other
 both P (x ∷ xs) ys one other = (one.0, both P xs ys one.1 other)
 
-pub HasWidth-none : HasWidth [] 0
+pub HasWidth-none : TakesColumns [] 0
 HasWidth-none = record { pieces = []; each = tt; bytes = refl; columns = refl }
 
-pub HasWidth-append : (text more : List ℕ) (width columns all : ℕ) → HasWidth text width → HasWidth more columns →
+pub HasWidth-append : (text more : List ℕ) (width columns all : ℕ) → TakesColumns text width → TakesColumns more columns →
     width + columns ≡ all →
-    HasWidth (text ++ more) all
+    TakesColumns (text ++ more) all
 HasWidth-append text more width columns all one other sum = record {
   pieces = one.pieces ++ other.pieces;
   each = both IsPiece one.pieces other.pieces one.each other.each;
@@ -31,7 +31,7 @@ HasWidth-append text more width columns all one other sum = record {
 }
 
 -- a run of one sign
-pub HasWidth-signs : (sign count : ℕ) → IsSign sign → HasWidth (replicate count sign) count
+pub HasWidth-signs : (sign count : ℕ) → IsSign sign → TakesColumns (replicate count sign) count
 HasWidth-signs sign zero is = HasWidth-none
 HasWidth-signs sign (suc count) is =
     let rest = HasWidth-signs sign count is in
@@ -43,7 +43,7 @@ HasWidth-signs sign (suc count) is =
       columns = omega (arith, sum_by-cons (λ (piece : Line). piece.width) piece rest.pieces, rest.columns);
     }
 
-pub HasWidth-is : (text : List ℕ) (width columns : ℕ) → HasWidth text width → width ≡ columns → HasWidth text columns
+pub HasWidth-is : (text : List ℕ) (width columns : ℕ) → TakesColumns text width → width ≡ columns → TakesColumns text columns
 HasWidth-is text width columns one same = record {
   pieces = one.pieces;
   each = one.each;
@@ -52,7 +52,7 @@ HasWidth-is text width columns one same = record {
       one.columns ∙ same;
 }
 
-pub HasWidth-same : (text other : List ℕ) (width : ℕ) → HasWidth text width → text ≡ other → HasWidth other width
+pub HasWidth-same : (text other : List ℕ) (width : ℕ) → TakesColumns text width → text ≡ other → TakesColumns other width
 HasWidth-same text other width one same = record {
   pieces = one.pieces;
   each = one.each;
@@ -64,7 +64,7 @@ HasWidth-same text other width one same = record {
 -- ---- lines of units
 
 -- a unit takes the columns of its text
-pub HasWidth-unit : (unit : Atom) → HasWidth (text_of unit) (unit_width unit)
+pub HasWidth-unit : (unit : Atom) → TakesColumns (text_of unit) (unit_width unit)
 HasWidth-unit unit =
     let piece : Line = record { text = text_of unit; width = unit_width unit } in
     record {
@@ -75,7 +75,7 @@ HasWidth-unit unit =
     }
 
 -- units each with the gap before it
-HasWidth-units : (units : List Atom) → HasWidth (flat_map (λ next. spaces (gap_before next) ++ text_of next) units)
+HasWidth-units : (units : List Atom) → TakesColumns (flat_map (λ next. spaces (gap_before next) ++ text_of next) units)
     (sum_by unit_width units + sum_by gap_before units)
 HasWidth-units [] = HasWidth-none
 HasWidth-units (unit ∷ units) =
@@ -88,7 +88,7 @@ HasWidth-units (unit ∷ units) =
     (HasWidth-units units) (omega (arith, sum_by-cons unit_width unit units, sum_by-cons gap_before unit units))
 
 -- a line takes the columns of its units and of the gaps between them
-pub HasWidth-line : (line : List Atom) → HasWidth (line_text line) (line_width line)
+pub HasWidth-line : (line : List Atom) → TakesColumns (line_text line) (line_width line)
 HasWidth-line [] = HasWidth-none
 HasWidth-line (unit ∷ units) =
     HasWidth-append (text_of unit) (flat_map (λ next. spaces (gap_before next) ++ text_of next) units) (unit_width unit)

@@ -11,7 +11,7 @@ use Rattle.tl_table.specs.Sound.{IsSound}
 use Rattle.tl_page.specs.declared.line.Line.{Line}
 use Rattle.tl_page.specs.Pages.{AreParagraphLines, IsPage, line_from}
 use Rattle.tl_page.specs.Standing.{HoldsAllText}
-use Rattle.tl_page.specs.Widths.{HasWidth}
+use Rattle.tl_page.specs.Widths.{TakesColumns}
 
 -- a page has as many lines as its layout is high
 abbrev pub PagesAreAsHigh : Type 0
@@ -27,7 +27,7 @@ ParagraphsAreWhole = (w : ℕ) (paragraph : List Atom) (lines : List Line) → A
 abbrev pub LinesAreAsWide : Type 0
 LinesAreAsWide = (style : Style) (table : Table) (layout : Layout) (page : List (List ℕ)) (width height : ℕ) → IsSound table →
     Fits table style width height layout → IsPage style table layout page →
-    AllByRecursion (λ line. HasWidth line (total_width style (out-Layout layout))) page
+    AllByRecursion (λ line. TakesColumns line (total_width style (out-Layout layout))) page
 
 -- a page in a layout that fits has all text of the table and of the tables nested in it, whole and in order
 abbrev pub PagesHoldAllText : Type 0

@@ -101,5 +101,5 @@ abbrev pub IsPage : Style → Table → Layout → List (List ℕ) → Type 0
 IsPage style table layout page = (depth : ℕ) × ShowsWithin depth style table layout page
 
 -- the bytes of a page: each line ends with a line feed
-abbrev pub bytes_of : List (List ℕ) → List ℕ
-bytes_of page = flat_map (λ line. line ++ 0x0A ∷ []) page
+abbrev pub page_bytes : List (List ℕ) → List ℕ
+page_bytes page = flat_map (λ line. line ++ 0x0A ∷ []) page

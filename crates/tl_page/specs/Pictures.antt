@@ -27,8 +27,8 @@ pub record Picture : Type 0 where
 
 -- a cell with its lines: it begins in its first column, and on the page's line where its first row begins, and has the
 -- room of its columns
-abbrev pub drawn : Style → List ℕ → List ℕ → Place → List Line → Drawn
-drawn style widths heights place lines = record {
+abbrev pub drawn_cell : Style → List ℕ → List ℕ → Place → List Line → Drawn
+drawn_cell style widths heights place lines = record {
   left = place.left;
   columns = room (gap_of style) widths place.left place.right;
   first = edge_of style + position (row_gap_of style) heights place.top;
@@ -40,7 +40,7 @@ abbrev pub drawn_cells : Style → List ℕ → List ℕ → List Place → List
 drawn_cells style widths heights [] contents = []
 drawn_cells style widths heights (place ∷ places) [] = []
 drawn_cells style widths heights (place ∷ places) (lines ∷ contents) =
-    drawn style widths heights place lines ∷ drawn_cells style widths heights places contents
+    drawn_cell style widths heights place lines ∷ drawn_cells style widths heights places contents
 
 -- the picture of cells in a grid, with these widths of its columns, heights of its rows and lines in its cells
 abbrev pub picture : Style → Grid → List ℕ → List ℕ → List (List Line) → Picture
@@ -87,12 +87,12 @@ piece picture down y across =
     else replicate across.size (corner_sign picture.style corner)
 
 -- line `y` of the page, which lies in a strip of rows
-abbrev pub line_of : Picture → Strip → ℕ → List ℕ
-line_of picture down y = flat_map (piece picture down y) picture.across
+abbrev pub picture_line : Picture → Strip → ℕ → List ℕ
+picture_line picture down y = flat_map (piece picture down y) picture.across
 
 -- the lines of a strip of rows
 abbrev pub strip_lines : Picture → Strip → List (List ℕ)
-strip_lines picture down = map (line_of picture down) (range_with_len down.from down.size)
+strip_lines picture down = map (picture_line picture down) (range_with_len down.from down.size)
 
 -- the lines of the page
 abbrev pub lines_of : Picture → List (List ℕ)

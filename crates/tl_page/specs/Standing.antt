@@ -20,18 +20,18 @@ use Rattle.tl_table.specs.declared.layout.Layout.{Layout, out-Layout}
 use Rattle.tl_table.specs.Tables.{OpenTable, OpenCell, OpenContent}
 use Rattle.tl_table.specs.Layouts.{OpenLayout}
 use Rattle.tl_page.specs.Pages.{IsPage, line_text}
-use Rattle.tl_page.specs.Widths.{HasWidth}
+use Rattle.tl_page.specs.Widths.{TakesColumns}
 
 -- the text stands whole on line `y` of the page, after `x` columns
-pub record StandsAt (page : List (List ℕ)) (x y : ℕ) (text : List ℕ) : Type 0 where
+pub record TextStandsAt (page : List (List ℕ)) (x y : ℕ) (text : List ℕ) : Type 0 where
   pub before : List ℕ
   pub after : List ℕ
-  pub columns : HasWidth before x
+  pub columns : TakesColumns before x
   pub line : slice_get page y ≡ Some (before ++ (text ++ after))
 
 -- the texts stand one under the other, the first on line `y`, each after `x` columns
-abbrev pub AreStanding : List (List ℕ) → ℕ → ℕ → List (List ℕ) → Type 0
-AreStanding page x y texts = (k : ℕ) (text : List ℕ) → slice_get texts k ≡ Some text → StandsAt page x (y + k) text
+abbrev pub TextsStandAt : List (List ℕ) → ℕ → ℕ → List (List ℕ) → Type 0
+TextsStandAt page x y texts = (k : ℕ) (text : List ℕ) → slice_get texts k ≡ Some text → TextStandsAt page x (y + k) text
 
 -- the texts of a block: the lines of a cutting of a paragraph, which are all its units, whole and in order; or the
 -- lines of a page of a nested table, of which `holds` says that it has all of the table's text
@@ -46,7 +46,7 @@ pub record StandsWhole (style : Style) (holds : Table → Layout → List (List 
     (cell : OpenCell) : Type 0 where
   pub texts : List (List (List ℕ))
   pub blocks : AllZip (λ block text. AreTextsOf style holds (out-Content block) text) cell.blocks texts
-  pub standing : AreStanding page x y (joined texts)
+  pub standing : TextsStandAt page x y (joined texts)
 
 -- each cell of a table stands whole on the page, where its first column and its first row begin
 abbrev pub HoldsBy : (Table → Layout → List (List ℕ) → Type 0) → Style → OpenTable → OpenLayout → List (List ℕ) → Type 0

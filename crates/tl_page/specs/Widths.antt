@@ -16,7 +16,7 @@ IsPiece piece = ((unit : Atom) × (piece ≡ record { text = text_of unit; width
     ⊎ ((sign : ℕ) × IsSign sign × (piece ≡ record { text = sign ∷ []; width = 1 }))
 
 -- the text is put together from pieces that take `width` columns in all
-pub record HasWidth (text : List ℕ) (width : ℕ) : Type 0 where
+pub record TakesColumns (text : List ℕ) (width : ℕ) : Type 0 where
   pub pieces : List Line
   pub each : AllByRecursion IsPiece pieces
   pub bytes : flat_map (λ piece. piece.text) pieces ≡ text

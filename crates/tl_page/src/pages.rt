@@ -3,7 +3,7 @@
 ghost use Rattle.std.specs.Prelude.{◌≡◌, ◌≤◌, ◌++◌, ◌∷◌, [], List, ℕ, IfOk, OnOk};
 ghost use Rattle.tl_table.specs.Layouts.{Fits};
 ghost use Rattle.tl_table.specs.Sound.{IsSound};
-ghost use Rattle.tl_page.specs.Pages.{IsPage, bytes_of};
+ghost use Rattle.tl_page.specs.Pages.{IsPage, page_bytes};
 
 use crate::cells::{drawn_cells, page_with};
 use std::alloc::{AllocError, Global};
@@ -12,7 +12,7 @@ use tl_table::{Layout, Table};
 
 /// The text page of a table in a layout that fits a page: as many lines as the layout is high, each
 /// filled to the width of the layout and ended by a line feed, in UTF-8. A paragraph is cut greedily
-/// in the room of its cell, and a nested table stands in its cell as its own page (docs/MODEL.md,
+/// in the room of its cell, and a nested table stands in its cell as its own page (docs/CLAIMS.md,
 /// "A page").
 pub fn page(
     alloc: Global,
@@ -22,7 +22,7 @@ pub fn page(
 ) -> Result<List<u8>, AllocError>
     requires sound { IsSound table.now }
     requires fit { (width height : ℕ) × (width ≤ MAX_PAGE_WIDTH) × (height ≤ MAX_HEIGHT) × Fits table.now style width height layout.now }
-    ensures { IfOk result (λ bytes. (lines : List (List ℕ)) × IsPage style table.now layout.now lines × (bytes ≡ bytes_of lines)) }
+    ensures { IfOk result (λ bytes. (lines : List (List ℕ)) × IsPage style table.now layout.now lines × (bytes ≡ page_bytes lines)) }
 {
     let cells = drawn_cells(alloc, table, style, layout)?;
     let lines = page_with(alloc, table, style, layout, cells)?;

@@ -2,7 +2,7 @@
 
 ghost use Rattle.std.specs.Prelude.{◌≡◌, ◌+◌, ◌++◌, replicate, slice_get, OnOk, IfOk, ◌&&◌, ◌==◌};
 ghost use Rattle.tl_page.specs.Corners.{corner_of};
-ghost use Rattle.tl_page.specs.Pictures.{filled, inside, inside_cell, piece, line_of, strip_lines, lines_of};
+ghost use Rattle.tl_page.specs.Pictures.{filled, inside, inside_cell, piece, picture_line, strip_lines, lines_of};
 ghost use Rattle.tl_page.specs.inner.Drawing.{owner_in, shown};
 
 use crate::corner::Corner;
@@ -122,7 +122,7 @@ fn write_piece(
 
 /// A line of the page, which lies in a strip of rows.
 fn page_line(alloc: Global, drawing: &Drawing, down: &Strip, y: u64) -> Result<List<u8>, AllocError>
-    ensures { IfOk result (λ line. line ≡ line_of (shown drawing.now) down.now y) }
+    ensures { IfOk result (λ line. line ≡ picture_line (shown drawing.now) down.now y) }
 {
     let mut line = List::new(alloc);
     for across in drawing.across.as_slice() {

@@ -23,7 +23,7 @@ use Rattle.tl_problem.specs.Layouts.{WithinPage}
 use Rattle.tl_problem.specs.Sound.{IsSound, IsSoundCell}
 use Rattle.tl_problem.specs.Bounds.{IsGreatestRoom}
 use Rattle.tl_problem.specs.Areas.{IsLeastArea, IsGreatestEnd, IsRoundedUp, IsAreaBound}
-use Rattle.tl_problem.specs.Works.{places, IsLeft, KeepsPage, widths_of}
+use Rattle.tl_problem.specs.Works.{places, AreAllowed, KeepsPage, widths_of}
 use Rattle.tl_problem.specs.inner.Demands.{cell_at, no_cell}
 use Rattle.tl_problem.specs.inner.Needs.{IsLeastRoom}
 use Rattle.tl_problem.specs.inner.Least.{area_with, IsLeastStep, HaveAreas}
@@ -152,7 +152,7 @@ module _ (problem : ProblemModel) (sound : IsSound problem) (bounds : Bounds) (k
       omega (arith, ints, more.1.1, at, small)
 
   pub greatest-end : (most : ℤ) → IsGreatest bounds 0 problem.cols most →
-      (end : ℕ) × ((most ≡ pos end) × (IsGreatestEnd problem (IsLeft problem bounds) end ×
+      (end : ℕ) × ((most ≡ pos end) × (IsGreatestEnd problem (AreAllowed problem bounds) end ×
       ((0 < end) × (end ≤ MAX_PAGE_WIDTH + 2))))
   greatest-end most is =
       let x = is.reached.0 in

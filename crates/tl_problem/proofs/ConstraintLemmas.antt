@@ -22,10 +22,10 @@ use Rattle.tl_problem.specs.Spans.{spans_of, page_room}
 use Rattle.tl_problem.specs.Zones.{span_at, classes_at, range_at, first_in_class, last_in_class, span_width, IsWidthOf, InZone}
 use Rattle.tl_problem.specs.Bounds.{HasNoWidths, IsGreatestRoom}
 use Rattle.tl_problem.specs.Placements.{AreLeast}
-use Rattle.tl_problem.specs.Works.{places, IsLeft, KeepsPage, widths_of}
+use Rattle.tl_problem.specs.Works.{places, AreAllowed, KeepsPage, widths_of}
 use Rattle.tl_problem.specs.inner.Needs.{IsLeastRoom}
 use Rattle.tl_problem.specs.inner.Demands.{cell_at, no_cell}
-use Rattle.tl_problem.specs.inner.Constraints.{AreApart, AreNear, PageUpto, AddsFact, HasFirst, HasLast, AddsRanges}
+use Rattle.tl_problem.specs.inner.Constraints.{StandApart, AreNear, PageUpto, AddsFact, HasFirst, HasLast, AddsRanges}
 use Rattle.tl_base.proofs.SizeLaws.{total-position, room-position, position-mono, position-gap}
 use Rattle.tl_problem.proofs.SpanLaws.{room-in_page, least_width-within, classes-first, classes-cases}
 use Rattle.tl_problem.proofs.ZoneLaws.{span-within}
@@ -50,7 +50,7 @@ page-satisfiable problem columns cells matrix h = let fits = h.sound.fits in
 
 module _ (problem : ProblemModel) (k : ℕ) (old new : MarkedBounds) where
   pub PageUpto-gap : k < problem.cols → PageUpto problem k 0 old →
-      AddsFact old new (λ x. AreApart x k (k + 1) (gap_of problem.style)) →
+      AddsFact old new (λ x. StandApart x k (k + 1) (gap_of problem.style)) →
       PageUpto problem (k + 1) 0 new
   PageUpto-gap inside h adds = record {
     sound = h.sound;
@@ -73,7 +73,7 @@ module _ (problem : ProblemModel) (k : ℕ) (old new : MarkedBounds) where
   }
 
   pub PageUpto-room : k < length problem.cells → PageUpto problem problem.cols k old →
-      AddsFact old new (λ x. AreApart x (cell_at problem.cells k).left (cell_at problem.cells k).right
+      AddsFact old new (λ x. StandApart x (cell_at problem.cells k).left (cell_at problem.cells k).right
       (first_width (cell_at problem.cells k).low + gap_of problem.style)) → PageUpto problem problem.cols (k + 1) new
   PageUpto-room inside h adds = record {
     sound = h.sound;
@@ -144,7 +144,7 @@ module _ (problem : ProblemModel) (old new : MarkedBounds) (h : PageUpto problem
         };
   }
 
-  pub whole-ends : (widths : List ℕ) → WithinPage problem widths → IsLeft problem new.bounds widths
+  pub whole-ends : (widths : List ℕ) → WithinPage problem widths → AreAllowed problem new.bounds widths
   whole-ends widths page =
       let before = h.whole widths page in
       let ends = ends-within widths page in
@@ -260,8 +260,9 @@ module _ (problem : ProblemModel) (sound : IsSound problem) (zone : List Range) 
 
     module _ (half new : MarkedBounds) (first : AddsFact mid half (HasFirst problem zone s))
         (last : AddsFact half new (HasLast problem zone s)) where
-      left-new : (widths : List ℕ) → IsLeft problem old.bounds widths →
-          ((r : ℕ) → r < length zone → IsWidthOf problem zone r (span_width problem widths r)) → IsLeft problem new.bounds widths
+      left-new : (widths : List ℕ) → AreAllowed problem old.bounds widths →
+          ((r : ℕ) → r < length zone → IsWidthOf problem zone r (span_width problem widths r)) →
+          AreAllowed problem new.bounds widths
       left-new widths left each =
           let before = h.from widths left each in
           record {
@@ -341,7 +342,7 @@ gap-few Frame = omega arith
 
 module _ (problem : ProblemModel) (sound : IsSound problem) (bounds : Bounds) (keeps : KeepsPage problem bounds) (left right : ℕ)
     (ahead : left < right) (within : right ≤ problem.cols) where
-  pub greatest-small : (w : ℕ) → IsGreatestRoom problem (IsLeft problem bounds) left right w → w ≤ MAX_PAGE_WIDTH
+  pub greatest-small : (w : ℕ) → IsGreatestRoom problem (AreAllowed problem bounds) left right w → w ≤ MAX_PAGE_WIDTH
   greatest-small w is =
       let small = room-small problem sound is.attained.0 (keeps.page is.attained.0 is.attained.1) left right ahead within in
       omega (arith, small, is.attained.2)
@@ -355,7 +356,7 @@ module _ (problem : ProblemModel) (sound : IsSound problem) (bounds : Bounds) (k
       let small = room-small problem sound (widths_of more.0 (gap_of problem.style) problem.cols) page left right ahead within in
       omega (arith, ints, more.1.1, at, small, gap-few problem.style)
 
-  pub least-small : (w : ℕ) → IsLeastRoom problem (IsLeft problem bounds) left right w → w ≤ MAX_PAGE_WIDTH
+  pub least-small : (w : ℕ) → IsLeastRoom problem (AreAllowed problem bounds) left right w → w ≤ MAX_PAGE_WIDTH
   least-small w is =
       let small = room-small problem sound is.attained.0 (keeps.page is.attained.0 is.attained.1) left right ahead within in
       omega (arith, small, is.attained.2)
@@ -402,7 +403,7 @@ module _ (problem : ProblemModel) (zone : List Range) (marks : ℕ) (held : List
     (whole : Bool)
     (adds : AddsRanges problem zone (length zone) (record { marks = marks; bounds = base; held = held }) new (IsTrue whole)) where
   -- is in the zone,
-  pub ranges-zone : whole ≡ true → KeepsPage problem base → (widths : List ℕ) → IsLeft problem new.bounds widths →
+  pub ranges-zone : whole ≡ true → KeepsPage problem base → (widths : List ℕ) → AreAllowed problem new.bounds widths →
       InZone problem zone widths
   ranges-zone all keeps widths left = record {
     page = keeps.page widths (record { columns = left.columns; satisfies = adds.keeps (places problem widths) left.satisfies });
@@ -410,13 +411,13 @@ module _ (problem : ProblemModel) (zone : List Range) (marks : ℕ) (held : List
   }
 
   -- and all of the zone is left,
-  pub ranges-left : ((widths : List ℕ) → WithinPage problem widths → IsLeft problem base widths) → (widths : List ℕ) →
+  pub ranges-left : ((widths : List ℕ) → WithinPage problem widths → AreAllowed problem base widths) → (widths : List ℕ) →
       InZone problem zone widths →
-      IsLeft problem new.bounds widths
+      AreAllowed problem new.bounds widths
   ranges-left page widths is = adds.from widths (page widths is.page) is.ranges
 
   -- so that where nothing is left the zone has no widths
-  pub ranges-none : whole ≡ false → ((widths : List ℕ) → WithinPage problem widths → IsLeft problem base widths) →
+  pub ranges-none : whole ≡ false → ((widths : List ℕ) → WithinPage problem widths → AreAllowed problem base widths) →
       (IsSatisfiable new.bounds → IsTrue whole) → HasNoWidths (InZone problem zone)
   ranges-none none page holds widths is =
       let yes = holds (places problem widths, (ranges-left page widths is).satisfies) in
@@ -434,7 +435,7 @@ module _ (problem : ProblemModel) (bounds : Bounds) (keeps : KeepsPage problem b
       omega (arith, ints, more.1.1, at)
 
   module _ (x : ℕ → ℤ) (is : IsLeast bounds x) where
-    pub least-left : AreLeast (gap_of problem.style) (IsLeft problem bounds) (widths_of x (gap_of problem.style) problem.cols)
+    pub least-left : AreLeast (gap_of problem.style) (AreAllowed problem bounds) (widths_of x (gap_of problem.style) problem.cols)
     least-left = record {
       kind = left-from problem bounds keeps x is.satisfies;
       earliest = λ other kind place within.

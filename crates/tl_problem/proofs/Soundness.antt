@@ -15,7 +15,7 @@ use Rattle.tl_problem.specs.Problem.{ProblemModel, cell_width}
 use Rattle.tl_problem.specs.Layouts.{WithinPage}
 use Rattle.tl_problem.specs.inner.Demands.{cell_at, rises, no_cell}
 use Rattle.tl_problem.specs.inner.Least.{step_at}
-use Rattle.tl_problem.specs.inner.Soundness.{IsNowhereAbove, Fits, IsNextPlace, AreLeastPlaces}
+use Rattle.tl_problem.specs.inner.Soundness.{IsNowhereAbove, FitsPageWidth, IsNextPlace, AreLeastPlaces}
 use Rattle.tl_problem.specs.inner.Spanning.{IsInGrid}
 use Rattle.tl_problem.proofs.AreaSteps.{height-at-step, height-between}
 use Rattle.tl_problem.proofs.DemandLemmas.{rises-length, rises-sum}
@@ -183,13 +183,13 @@ module _ (cols : ℕ) (style : Style) (width : ℕ) (cells : List Cell) (inside 
       omega (arith, ends, at, within.page)
 
   pub not-past : (column place : ℕ) (places : List ℕ) → column < cols → AreLeastPlaces gap cells column places →
-      IsNextPlace gap cells (length cells) places column place → width + gap < place → Fits cols style width cells → ⊥
+      IsNextPlace gap cells (length cells) places column place → width + gap < place → FitsPageWidth cols style width cells → ⊥
   not-past column place places below are next past fits =
       let least = next-least cols gap cells inside column place places are next fits.0 (page-gives fits.0 fits.1) in
       let later = position-mono gap fits.0 (column + 1) cols (omega arith) in
       omega (arith, least, later, page-ends fits.0 fits.1 (omega arith), past)
 
-  pub fits-none : cols ≡ 0 → Fits cols style width cells
+  pub fits-none : cols ≡ 0 → FitsPageWidth cols style width cells
   fits-none empty = (
     [],
     record {
@@ -201,7 +201,7 @@ module _ (cols : ℕ) (style : Style) (width : ℕ) (cells : List Cell) (inside 
   )
 
   module _ (places : List ℕ) (are : AreLeastPlaces gap cells cols places) (some : 0 < cols) where
-    pub fits-ends : Fits cols style width cells → get_or places cols 0 + 2 * edge_of style ≤ width + gap
+    pub fits-ends : FitsPageWidth cols style width cells → get_or places cols 0 + 2 * edge_of style ≤ width + gap
     fits-ends fits = omega (arith, are.least fits.0 (page-gives fits.0 fits.1) cols (omega arith), page-ends fits.0 fits.1 some)
 
     -- the places without the gaps before them
@@ -230,7 +230,7 @@ module _ (cols : ℕ) (style : Style) (width : ℕ) (cells : List Cell) (inside 
     at-place k up =
         omega (arith, rises-sum bare cols rising k up, enough k up, are.first)
 
-    pub ends-fit : get_or places cols 0 + 2 * edge_of style ≤ width + gap → Fits cols style width cells
+    pub ends-fit : get_or places cols 0 + 2 * edge_of style ≤ width + gap → FitsPageWidth cols style width cells
     ends-fit ends = (
       widths,
       record {

@@ -12,7 +12,7 @@ use Rattle.tl_diff.specs.Bounds.{Bounds, Satisfies, IsSatisfiable, IsGreatest}
 use Rattle.tl_base.specs.Sizes.{position, room}
 use Rattle.tl_problem.specs.Problem.{ProblemModel}
 use Rattle.tl_problem.specs.Bounds.{IsGreatestRoom}
-use Rattle.tl_problem.specs.Works.{places, IsLeft, KeepsPage, part_above, widths_of}
+use Rattle.tl_problem.specs.Works.{places, AreAllowed, KeepsPage, part_above, widths_of}
 use Rattle.tl_problem.specs.inner.Needs.{IsLeastRoom}
 use Rattle.tl_base.proofs.SizeLaws.{room-position}
 
@@ -66,7 +66,7 @@ module _ (x : ℕ → ℤ) (gap : ℕ) where
 
 module _ (problem : ProblemModel) (bounds : Bounds) (keeps : KeepsPage problem bounds) where
   -- an assignment leaves widths
-  pub left-from : (x : ℕ → ℤ) → Satisfies bounds x → IsLeft problem bounds (widths_of x (gap_of problem.style) problem.cols)
+  pub left-from : (x : ℕ → ℤ) → Satisfies bounds x → AreAllowed problem bounds (widths_of x (gap_of problem.style) problem.cols)
   left-from x meets = record {
     columns = widths_of-length x (gap_of problem.style) problem.cols;
     satisfies = λ a b first second c is.
@@ -82,7 +82,7 @@ module _ (problem : ProblemModel) (bounds : Bounds) (keeps : KeepsPage problem b
   left-position x meets k up = widths_of-position x (gap_of problem.style) problem.cols (keeps.gaps x meets) k up
 
   -- some assignment satisfies the constraints where some widths are left
-  pub left-some : IsSatisfiable bounds → (widths : List ℕ) × IsLeft problem bounds widths
+  pub left-some : IsSatisfiable bounds → (widths : List ℕ) × AreAllowed problem bounds widths
   left-some some = (widths_of some.0 (gap_of problem.style) problem.cols, left-from some.0 some.1)
 
   module _ (left right : ℕ) (ahead : left < right) (within : right ≤ problem.cols) where
@@ -98,7 +98,7 @@ module _ (problem : ProblemModel) (bounds : Bounds) (keeps : KeepsPage problem b
 
     -- the tightest bound on two places is the greatest room of the span between, and a gap
     pub greatest-room : (most : ℤ) → IsGreatest bounds left right most →
-        (w : ℕ) × ((most ≡ pos (w + gap_of problem.style)) × IsGreatestRoom problem (IsLeft problem bounds) left right w)
+        (w : ℕ) × ((most ≡ pos (w + gap_of problem.style)) × IsGreatestRoom problem (AreAllowed problem bounds) left right w)
     greatest-room most is =
         let x = is.reached.0 in
         let widths = widths_of x (gap_of problem.style) problem.cols in
@@ -120,7 +120,7 @@ module _ (problem : ProblemModel) (bounds : Bounds) (keeps : KeepsPage problem b
 
     -- the tightest bound the other way round is that of the least room
     pub least-room : (most : ℤ) → IsGreatest bounds right left most →
-        (w : ℕ) × ((most ≡ neg_ℤ (pos (w + gap_of problem.style))) × IsLeastRoom problem (IsLeft problem bounds) left right w)
+        (w : ℕ) × ((most ≡ neg_ℤ (pos (w + gap_of problem.style))) × IsLeastRoom problem (AreAllowed problem bounds) left right w)
     least-room most is =
         let x = is.reached.0 in
         let widths = widths_of x (gap_of problem.style) problem.cols in

@@ -15,7 +15,7 @@ abbrev pub places : ProblemModel → List ℕ → ℕ → ℤ
 places problem widths k = pos (position (gap_of problem.style) widths k)
 
 -- the widths, one for each column, satisfy the constraints
-pub record IsLeft (problem : ProblemModel) (bounds : Bounds) (widths : List ℕ) : Type 0 where
+pub record AreAllowed (problem : ProblemModel) (bounds : Bounds) (widths : List ℕ) : Type 0 where
   pub columns : length widths ≡ problem.cols
   pub satisfies : Satisfies bounds (places problem widths)
 
@@ -23,12 +23,12 @@ pub record IsLeft (problem : ProblemModel) (bounds : Bounds) (widths : List ℕ)
 pub record KeepsPage (problem : ProblemModel) (bounds : Bounds) : Type 0 where
   pub variables : bounds.n ≡ problem.cols + 1
   pub gaps : (x : ℕ → ℤ) → Satisfies bounds x → (k : ℕ) → k < problem.cols → (x k +ℤ pos (gap_of problem.style)) ≤ℤ x (k + 1)
-  pub page : (widths : List ℕ) → IsLeft problem bounds widths → WithinPage problem widths
+  pub page : (widths : List ℕ) → AreAllowed problem bounds widths → WithinPage problem widths
 
 -- the matrix has the constraints of the problem's page and no others: it leaves all widths within the page
 pub record IsPageOf (problem : ProblemModel) (matrix : MarkedBounds) : Type 0 where
   pub keeps : KeepsPage problem matrix.bounds
-  pub whole : (widths : List ℕ) → WithinPage problem widths → IsLeft problem matrix.bounds widths
+  pub whole : (widths : List ℕ) → WithinPage problem widths → AreAllowed problem matrix.bounds widths
 
 -- the work is for this problem: its constraints keep the page, its start has those of the page and a mark that is free, and
 -- its buffers have room for the cells and rows
@@ -44,7 +44,7 @@ pub record IsWorkOf (problem : ProblemModel) (work : Work) : Type 0 where
 -- the work is for this problem, and leaves all widths within the page
 pub record HasPage (problem : ProblemModel) (work : Work) : Type 0 where
   pub work_of : IsWorkOf problem work
-  pub whole : (widths : List ℕ) → WithinPage problem widths → IsLeft problem work.matrix.bounds widths
+  pub whole : (widths : List ℕ) → WithinPage problem widths → AreAllowed problem work.matrix.bounds widths
 
 -- a number, 0 where it is negative
 abbrev pub part_above : ℤ → ℕ

@@ -5,7 +5,7 @@ ghost use Rattle.tl_diff.specs.Bounds.{IsSatisfiable};
 ghost use Rattle.tl_problem.specs.Areas.{IsAreaBound, IsGreatestEnd, IsLeastArea};
 ghost use Rattle.tl_problem.specs.Bounds.{HasNoWidths};
 ghost use Rattle.tl_problem.specs.Sound.{IsSound, IsSoundCell};
-ghost use Rattle.tl_problem.specs.Works.{IsLeft, IsWorkOf, KeepsPage};
+ghost use Rattle.tl_problem.specs.Works.{AreAllowed, IsWorkOf, KeepsPage};
 ghost use Rattle.tl_problem.specs.Zones.{InZone, IsZone};
 ghost use Rattle.tl_problem.specs.inner.Least.{HaveAreas, IsLeastStep, area_with};
 
@@ -20,8 +20,8 @@ impl Problem {
     /// cells on the widest of them. `None` exactly where no widths are left. No memory is taken.
     pub fn held_area(&self, work: &Work) -> Option<u32>
         requires { IsWorkOf self.now work.now }
-        ensures { MatchOption result (HasNoWidths (IsLeft self.now work.now.matrix.bounds))
-            (IsAreaBound self.now (IsLeft self.now work.now.matrix.bounds)) }
+        ensures { MatchOption result (HasNoWidths (AreAllowed self.now work.now.matrix.bounds))
+            (IsAreaBound self.now (AreAllowed self.now work.now.matrix.bounds)) }
     {
         if !work.matrix.holds() {
             return None;
@@ -56,7 +56,7 @@ fn area_bound(problem: &Problem, matrix: &Matrix) -> u32
     requires sound { IsSound problem.now }
     requires keeps { KeepsPage problem.now matrix.now.bounds }
     requires some { IsSatisfiable matrix.now.bounds }
-    ensures { IsAreaBound problem.now (IsLeft problem.now matrix.now.bounds) result }
+    ensures { IsAreaBound problem.now (AreAllowed problem.now matrix.now.bounds) result }
 {
     if problem.cols() == 0 {
         return 0;
@@ -73,7 +73,7 @@ fn greatest_end(problem: &Problem, matrix: &Matrix) -> u32
     requires keeps { KeepsPage problem.now matrix.now.bounds }
     requires some { IsSatisfiable matrix.now.bounds }
     requires columns { 0 < problem.now.cols }
-    ensures end { IsGreatestEnd problem.now (IsLeft problem.now matrix.now.bounds) result }
+    ensures end { IsGreatestEnd problem.now (AreAllowed problem.now matrix.now.bounds) result }
     ensures some { 0 < result }
     ensures small { result ≤ MAX_PAGE_WIDTH + 2 }
 {
@@ -85,9 +85,9 @@ fn sum_of_areas(problem: &Problem, matrix: &Matrix, end: u32) -> u64
     requires sound { IsSound problem.now }
     requires keeps { KeepsPage problem.now matrix.now.bounds }
     requires some { IsSatisfiable matrix.now.bounds }
-    requires end { IsGreatestEnd problem.now (IsLeft problem.now matrix.now.bounds) end }
+    requires end { IsGreatestEnd problem.now (AreAllowed problem.now matrix.now.bounds) end }
     requires small { end ≤ MAX_PAGE_WIDTH + 2 }
-    ensures { HaveAreas problem.now (IsLeft problem.now matrix.now.bounds) (length problem.now.cells) result }
+    ensures { HaveAreas problem.now (AreAllowed problem.now matrix.now.bounds) (length problem.now.cells) result }
 {
     let cells = problem.cells();
     let mut areas: u64 = 0;
@@ -104,7 +104,7 @@ fn least_area(problem: &Problem, matrix: &Matrix, cell: &Cell) -> u64
     requires some { IsSatisfiable matrix.now.bounds }
     requires cell { IsSoundCell problem.now cell.now }
     requires inside { Contains problem.now.cells cell.now }
-    ensures { IsLeastArea problem.now (IsLeft problem.now matrix.now.bounds) cell.now result }
+    ensures { IsLeastArea problem.now (AreAllowed problem.now matrix.now.bounds) cell.now result }
 {
     let gap = problem.style().gap();
     let row_gap = problem.style().row_gap();

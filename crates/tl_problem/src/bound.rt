@@ -9,7 +9,7 @@ ghost use Rattle.tl_problem.specs.Bounds.{HasNoWidths, IsBound, IsGreatestRoom};
 ghost use Rattle.tl_problem.specs.Layouts.{WithinPage};
 ghost use Rattle.tl_problem.specs.Placements.{AreLeast, IsPlacementIn};
 ghost use Rattle.tl_problem.specs.Sound.{IsSound, IsSoundCell};
-ghost use Rattle.tl_problem.specs.Works.{IsLeft, IsWorkOf, KeepsPage, widths_of};
+ghost use Rattle.tl_problem.specs.Works.{AreAllowed, IsWorkOf, KeepsPage, widths_of};
 ghost use Rattle.tl_problem.specs.Zones.{InZone, IsZone};
 ghost use Rattle.tl_problem.specs.inner.Needs.{IsLeastRoom, NeedLow};
 
@@ -27,8 +27,8 @@ impl Problem {
     /// constraints stay as they are, and no memory is taken.
     pub fn held_bound(&self, work: &mut Work) -> Option<u32>
         requires { IsWorkOf self.now work.old }
-        ensures bound { MatchOption result (HasNoWidths (IsLeft self.now work.old.matrix.bounds))
-            (IsBound self.now (IsLeft self.now work.old.matrix.bounds)) }
+        ensures bound { MatchOption result (HasNoWidths (AreAllowed self.now work.old.matrix.bounds))
+            (IsBound self.now (AreAllowed self.now work.old.matrix.bounds)) }
         ensures work_of { IsWorkOf self.now work.new }
         ensures matrix { work.new.matrix ≡ work.old.matrix }
     {
@@ -102,7 +102,7 @@ fn zone_widths(
     requires sound { IsSound problem.now }
     requires zone { IsZone problem.now zone.now }
     requires keeps { KeepsPage problem.now matrix.old.bounds }
-    requires whole { (widths : List ℕ) → WithinPage problem.now widths → IsLeft problem.now matrix.old.bounds widths }
+    requires whole { (widths : List ℕ) → WithinPage problem.now widths → AreAllowed problem.now matrix.old.bounds widths }
     ensures widths { IfOk result (λ found. MatchOption found (HasNoWidths (InZone problem.now zone.now))
         (AreLeast (gap_of problem.now.style) (InZone problem.now zone.now))) }
     ensures held { matrix.new.held ≡ matrix.old.held }
@@ -120,7 +120,7 @@ fn least_widths(problem: &Problem, matrix: &Matrix) -> Result<List<u32>, AllocEr
     requires sound { IsSound problem.now }
     requires keeps { KeepsPage problem.now matrix.now.bounds }
     requires some { IsSatisfiable matrix.now.bounds }
-    ensures { IfOk result (AreLeast (gap_of problem.now.style) (IsLeft problem.now matrix.now.bounds)) }
+    ensures { IfOk result (AreLeast (gap_of problem.now.style) (AreAllowed problem.now matrix.now.bounds)) }
 {
     let mut places = vec![in problem.alloc(); 0; problem.cols() as usize + 1]?;
     let widths = widths_in(problem, matrix, &mut places)?;
@@ -137,7 +137,7 @@ fn widths_in(
     requires keeps { KeepsPage problem.now matrix.now.bounds }
     requires some { IsSatisfiable matrix.now.bounds }
     requires room { length places.old ≡ problem.now.cols + 1 }
-    ensures { IfOk result (AreLeast (gap_of problem.now.style) (IsLeft problem.now matrix.now.bounds)) }
+    ensures { IfOk result (AreLeast (gap_of problem.now.style) (AreAllowed problem.now matrix.now.bounds)) }
 {
     matrix.solve_least(places);
     let widths = widths_between(problem, places)?;
@@ -158,7 +158,7 @@ fn bound_in(
     requires demand_room { length demands.old ≡ length problem.now.cells }
     requires arc_room { length arcs.old ≡ length problem.now.cells }
     requires end_room { length ends.old ≡ problem.now.rows + 1 }
-    ensures { IsBound problem.now (IsLeft problem.now matrix.now.bounds) result }
+    ensures { IsBound problem.now (AreAllowed problem.now matrix.now.bounds) result }
 {
     fill_low(problem, matrix, demands);
     least_height(problem, demands, arcs, ends)
@@ -169,7 +169,7 @@ fn fill_low(problem: &Problem, matrix: &Matrix, demands: &mut [u32])
     requires keeps { KeepsPage problem.now matrix.now.bounds }
     requires some { IsSatisfiable matrix.now.bounds }
     requires room { length demands.old ≡ length problem.now.cells }
-    ensures low { NeedLow problem.now (IsLeft problem.now matrix.now.bounds) demands.new }
+    ensures low { NeedLow problem.now (AreAllowed problem.now matrix.now.bounds) demands.new }
     ensures sound { IsSound problem.now }
 {
     let gap = problem.style().gap();
@@ -187,7 +187,7 @@ fn low_at_greatest(problem: &Problem, gap: u32, matrix: &Matrix, cell: &Cell) ->
     requires gap { gap ≡ gap_of problem.now.style }
     requires cell { IsSoundCell problem.now cell.now }
     requires inside { Contains problem.now.cells cell.now }
-    ensures { (w : ℕ) × (IsGreatestRoom problem.now (IsLeft problem.now matrix.now.bounds) cell.now.left cell.now.right w
+    ensures { (w : ℕ) × (IsGreatestRoom problem.now (AreAllowed problem.now matrix.now.bounds) cell.now.left cell.now.right w
         × (height_at cell.now.low w ≡ Some result)) }
 {
     let room = greatest_room(problem, gap, matrix, cell);
@@ -201,7 +201,7 @@ pub fn greatest_room(problem: &Problem, gap: u32, matrix: &Matrix, cell: &Cell) 
     requires some { IsSatisfiable matrix.now.bounds }
     requires gap { gap ≡ gap_of problem.now.style }
     requires cell { IsSoundCell problem.now cell.now }
-    ensures room { IsGreatestRoom problem.now (IsLeft problem.now matrix.now.bounds) cell.now.left cell.now.right result }
+    ensures room { IsGreatestRoom problem.now (AreAllowed problem.now matrix.now.bounds) cell.now.left cell.now.right result }
     ensures small { result ≤ MAX_PAGE_WIDTH }
 {
     let apart = matrix.upper(cell.left, cell.right).unwrap();
@@ -215,7 +215,7 @@ pub fn least_room(problem: &Problem, gap: u32, matrix: &Matrix, cell: &Cell) -> 
     requires some { IsSatisfiable matrix.now.bounds }
     requires gap { gap ≡ gap_of problem.now.style }
     requires cell { IsSoundCell problem.now cell.now }
-    ensures room { IsLeastRoom problem.now (IsLeft problem.now matrix.now.bounds) cell.now.left cell.now.right result }
+    ensures room { IsLeastRoom problem.now (AreAllowed problem.now matrix.now.bounds) cell.now.left cell.now.right result }
     ensures small { result ≤ MAX_PAGE_WIDTH }
 {
     let apart = matrix.upper(cell.right, cell.left).unwrap();

@@ -4,9 +4,9 @@ ghost use Rattle.std.specs.Prelude.{◌≡◌, ℕ, ◌+◌, ◌<◌, ◌≤◌,
 ghost use Rattle.tl_diff.specs.Bounds.{IsSatisfiable};
 ghost use Rattle.tl_problem.specs.Layouts.{WithinPage};
 ghost use Rattle.tl_problem.specs.Sound.{IsSound};
-ghost use Rattle.tl_problem.specs.Works.{IsLeft, KeepsPage};
+ghost use Rattle.tl_problem.specs.Works.{AreAllowed, KeepsPage};
 ghost use Rattle.tl_problem.specs.Zones.{IsZone};
-ghost use Rattle.tl_problem.specs.inner.Constraints.{AddsFact, AddsRanges, AreApart, AreNear, HasFirst, HasLast, PageUpto};
+ghost use Rattle.tl_problem.specs.inner.Constraints.{AddsFact, AddsRanges, StandApart, AreNear, HasFirst, HasLast, PageUpto};
 
 use crate::{Cell, Problem, Zone};
 use std::alloc::AllocError;
@@ -21,7 +21,7 @@ const MARKS: u32 = 4;
 pub fn page_matrix(problem: &Problem) -> Result<Matrix, AllocError>
     ensures keeps { IfOk result (λ matrix. KeepsPage problem.now matrix.bounds) }
     ensures whole { IfOk result (λ matrix. (widths : List ℕ) → WithinPage problem.now widths
-        → IsLeft problem.now matrix.bounds widths) }
+        → AreAllowed problem.now matrix.bounds widths) }
     ensures none_held { IfOk result (λ matrix. matrix.held ≡ []) }
     ensures marks { IfOk result (λ matrix. matrix.marks ≡ 4) }
 {
@@ -67,7 +67,7 @@ fn keep_apart(matrix: &mut Matrix, a: u32, b: u32, least: u32) -> bool
     requires ends { b < matrix.old.bounds.n }
     requires small { least ≤ MAX_PAGE_WIDTH + 2 }
     requires holds { IsSatisfiable matrix.old.bounds }
-    ensures adds { AddsFact matrix.old matrix.new (λ x. AreApart x a b least) }
+    ensures adds { AddsFact matrix.old matrix.new (λ x. StandApart x a b least) }
     ensures holds { IsTrue result ↔ IsSatisfiable matrix.new.bounds }
 {
     matrix.bound(b, a, -(least as i32))

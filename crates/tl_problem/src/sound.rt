@@ -6,7 +6,7 @@ ghost use Rattle.tl_base.specs.Steps.{AreSteps, IsLowAt, first_height};
 ghost use Rattle.tl_problem.specs.Layouts.{WithinPage};
 ghost use Rattle.tl_problem.specs.Sound.{IsSound, IsSoundCell, ShareSlot};
 ghost use Rattle.tl_problem.specs.inner.Axes.{start_of};
-ghost use Rattle.tl_problem.specs.inner.Soundness.{AreByTop, AreSeparate, BeginsNowhere, EachBegins, Fits, IsNextPlace, IsNowhereAbove, IsSeparate, grid};
+ghost use Rattle.tl_problem.specs.inner.Soundness.{AreByTop, AreSeparate, BeginsNowhere, EachBegins, FitsPageWidth, IsNextPlace, IsNowhereAbove, IsSeparate, grid};
 ghost use Rattle.tl_problem.specs.inner.Spanning.{IsInGrid};
 
 use crate::axis::Axis;
@@ -210,7 +210,7 @@ fn fits(cols: u32, style: Style, width: u32, cells: &[Cell]) -> bool
     requires few { cols ≤ MAX_COLUMNS }
     requires narrow { width ≤ MAX_PAGE_WIDTH }
     requires grid { All (IsInGrid cols) cells.now }
-    ensures { IsTrue result ↔ Fits cols style width cells.now }
+    ensures { IsTrue result ↔ FitsPageWidth cols style width cells.now }
 {
     let end = width + style.gap();
     let mut places = [0; PLACES];

@@ -12,7 +12,7 @@ use Rattle.tl_diff.specs.declared.paths.Arc.{Arc}
 use Rattle.tl_diff.specs.Paths.{IsPath, IsHeaviest, path_weight}
 use Rattle.tl_table.specs.declared.widest.Demand.{Demand}
 use Rattle.tl_table.specs.declared.widest.NumberedArc.{NumberedArc}
-use Rattle.tl_table.specs.inner.Demands.{HaveArcs, IsPlacedDemand, AreDemands, IsLeastFor, IsRowOf, most_gaps, number_at}
+use Rattle.tl_table.specs.inner.Demands.{HaveArcs, IsPlacedDemand, AreDemands, IsLeastFor, IsRowOf, most_gaps, demand_number}
 use Rattle.tl_table.proofs.Duality.{plain, least_for}
 use Rattle.tl_table.proofs.Rows.{row_of_path, row_of_last}
 
@@ -56,15 +56,15 @@ least_found style cols demands arcs out w gap edge found is also =
 pub row_found : (style : Style) (cols : ℕ) (demands : List Demand) (arcs : List NumberedArc) (alone : List Arc)
     (out path numbers : List ℕ)
     (w gap edge : ℕ) → IsFound style cols demands arcs out w →
-    alone ≡ plain arcs → IsPath alone 0 path cols → path_weight alone path ≡ w → numbers ≡ map (number_at arcs) path →
+    alone ≡ plain arcs → IsPath alone 0 path cols → path_weight alone path ≡ w → numbers ≡ map (demand_number arcs) path →
     0 < length numbers →
     gap ≡ gap_of style → edge ≡ edge_of style → IsRowOf style cols demands numbers (w + gap * (cols - 1) + 2 * edge)
 row_found style cols demands arcs alone out path numbers w gap edge found same along weighs named some is also =
     let goes : IsPath (plain arcs) 0 path cols = subst (λ those. IsPath those 0 path cols) same along in
     let heavy : path_weight (plain arcs) path ≡ w = ap (λ those. path_weight those path) (sym same) ∙ weighs in
-    let long : 0 < length path = omega (arith, ap length named, length-map path (number_at arcs)) in
+    let long : 0 < length path = omega (arith, ap length named, length-map path (demand_number arcs)) in
     subst (λ those. IsRowOf style cols demands those (w + gap * (cols - 1) + 2 * edge)) (sym named)
-    (subst (IsRowOf style cols demands (map (number_at arcs) path))
+    (subst (IsRowOf style cols demands (map (demand_number arcs) path))
     (ap (λ v. v + gap_of style * (cols - 1) + 2 * edge_of style) heavy ∙ in_all style cols w gap edge is also)
     (row_of_path style cols demands arcs path found.demanded.placed found.have goes long))
 
@@ -87,13 +87,14 @@ nil_of_short (x ∷ xs) short = absurd (omega arith)
 pub last_found : (style : Style) (cols : ℕ) (demands : List Demand) (arcs : List NumberedArc) (alone : List Arc)
     (out path before numbers : List ℕ)
     (w gap edge number : ℕ) → IsFound style cols demands arcs out w →
-    alone ≡ plain arcs → path_weight alone path ≡ w → before ≡ map (number_at arcs) path → length before ≤ 0 →
+    alone ≡ plain arcs → path_weight alone path ≡ w → before ≡ map (demand_number arcs) path → length before ≤ 0 →
     numbers ≡ before ++ number ∷ [] →
     IsSomeAnd (slice_get demands number) (λ demand. demand.left + 1 ≡ cols) →
     gap ≡ gap_of style → edge ≡ edge_of style → IsRowOf style cols demands numbers (w + gap * (cols - 1) + 2 * edge)
 last_found style cols demands arcs alone out path before numbers w gap edge number found same weighs named none pushed last is
     also =
-    let empty : w ≡ 0 = sym weighs ∙ no_weight alone path (omega (arith, ap length named, length-map path (number_at arcs))) in
+    let empty : w ≡ 0 = sym weighs
+    ∙ no_weight alone path (omega (arith, ap length named, length-map path (demand_number arcs))) in
     let lone : numbers ≡ number ∷ [] = pushed ∙ ap (λ prefix. prefix ++ number ∷ []) (nil_of_short before none) in
     subst (λ those. IsRowOf style cols demands those (w + gap * (cols - 1) + 2 * edge)) (sym lone)
     (subst (IsRowOf style cols demands (number ∷ []))

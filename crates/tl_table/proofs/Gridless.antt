@@ -31,7 +31,8 @@ use Rattle.tl_table.specs.Tables.{OpenTable, OpenContent}
 use Rattle.tl_table.specs.Formed.{OpenBlock, BecomesContent, BecomeContents, BecomeCells, BecomeCaption, BecomesBy, BecomesWithin}
 use Rattle.tl_table.specs.Formed.{Becomes}
 use Rattle.tl_table.specs.Formed.{cells_of_group, cells_written, shape_of}
-use Rattle.tl_table.specs.Refused.{NumberedShape, HasSomeGrid, AreRefused, HasNoGrid, tables_in_block, part_of_cell, tables_of}
+use Rattle.tl_table.specs.Refused.{NumberedShape, HasSomeGrid, AreRefused, HasNoGrid, tables_in_block, part_of_cell}
+use Rattle.tl_table.specs.Refused.{numbered_shapes}
 use Rattle.tl_table.specs.inner.Forming.{IsOwnError}
 use Rattle.tl_table.specs.Refused.{tables_in_flow, tables_in_caption, tables_in_cells, tables_in_groups}
 use Rattle.tl_table.proofs.TreeParts.{itself, tables_in_open, tables_in_block-out, part_of_cell-out, part_of_group-out}
@@ -61,7 +62,7 @@ rows_tables (row ∷ rows) =
 -- ---- where parts of a tree become parts of a table, all tables in them have a grid
 
 module _ (forms : TableNode → Table → Type 0) (each : (node : TableNode) (table : Table) → forms node table →
-    Gridded (tables_of node))
+    Gridded (numbered_shapes node))
     (breaking : Breaking) where
   content_gridded : (block : OpenBlock) (content : OpenContent) → BecomesContent forms breaking block content →
       Gridded (tables_in_open block)
@@ -96,7 +97,7 @@ module _ (forms : TableNode → Table → Type 0) (each : (node : TableNode) (ta
   caption_gridded cols (Some flow) (cell ∷ cells) become = contents_gridded flow (out-TableCell cell).blocks become.0.blocks
 
   table_gridded : (node : TableNode) (table : OpenTable) → BecomesBy forms breaking (out-TableNode node) table →
-      Gridded (tables_of node)
+      Gridded (numbered_shapes node)
   table_gridded node table becomes =
       subst Gridded (sym (tables_of-out node)) (
         (becomes.grid, becomes.has_grid),
@@ -108,13 +109,13 @@ module _ (forms : TableNode → Table → Type 0) (each : (node : TableNode) (ta
       )
 
 within_gridded : (depth : ℕ) (breaking : Breaking) (node : TableNode) (table : Table) →
-    BecomesWithin depth breaking node table → Gridded (tables_of node)
+    BecomesWithin depth breaking node table → Gridded (numbered_shapes node)
 within_gridded zero breaking node table becomes = absurd becomes
 within_gridded (suc depth) breaking node table becomes =
     table_gridded (BecomesWithin depth breaking) (within_gridded depth breaking) breaking node (out-Table table) becomes
 
 pub becomes_gridded : (breaking : Breaking) (node : TableNode) (table : Table) → Becomes breaking node table →
-    Gridded (tables_of node)
+    Gridded (numbered_shapes node)
 becomes_gridded breaking node table becomes = within_gridded becomes.0 breaking node table becomes.1
 
 -- ---- the first of many
@@ -264,10 +265,10 @@ pub each_error : (breaking : Breaking) (node : TableNode) (result : Result Table
     IfOk result (Becomes breaking node) →
     IfErr result (IsMemoryOr memory_error (HasNoGrid node)) → (error : FormError) → HasNoGrid node error →
     ReturnsError memory_error error result
-each_error breaking node (Ok table) ok err error refused = not_among (tables_of node) error
+each_error breaking node (Ok table) ok err error refused = not_among (numbered_shapes node) error
     (becomes_gridded breaking node table ok) refused
 each_error breaking node (Err found) ok err error refused = by_case err
   where
     by_case : IsMemoryOr memory_error (HasNoGrid node) found → (found ≡ memory_error) ⊎ (found ≡ error)
     by_case (inl memory) = inl memory
-    by_case (inr is) = inr (one_error (tables_of node) found error is refused)
+    by_case (inr is) = inr (one_error (numbered_shapes node) found error is refused)

@@ -14,7 +14,7 @@ use Rattle.tl_table.specs.declared.layout.Layout.{Layout}
 use Rattle.tl_table.specs.Tables.{OpenCell, OpenContent}
 use Rattle.tl_table.specs.Layouts.{Share, FitsShare, FitsWithin}
 use Rattle.tl_table.specs.Least.{IsLeastWidth}
-use Rattle.tl_table.specs.inner.LeastRooms.{IsLeastForBlock, IsLeastForBlocks, IsLeastRoom}
+use Rattle.tl_table.specs.inner.LeastRooms.{IsLeastForBlock, IsLeastForBlocks, IsLeastCellRoom}
 use Rattle.tl_table.proofs.Deeper.{FitsShare-weaker, FitsWithin-deeper, FitsWithin-deeper', FitsWithin-wider}
 
 -- the least width of a paragraph
@@ -105,7 +105,7 @@ least_for_more style floor blocks block w more before here = record {
 
 -- a cell needs what its floor and its blocks do
 pub least_for_cell : (style : Style) (cell : OpenCell) (w : ℕ) → IsLeastForBlocks style cell.least cell.blocks w →
-    IsLeastRoom style cell w
+    IsLeastCellRoom style cell w
 least_for_cell style cell w least = record {
   fits = λ v wider. let one = least.fits v wider in (
     one.0,

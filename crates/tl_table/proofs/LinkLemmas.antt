@@ -27,7 +27,7 @@ use Rattle.tl_table.specs.Least.{IsLeastWidth}
 use Rattle.tl_table.specs.Chains.{Link, HasWidth, IsLink, IsChainWithin, IsChain, IsHeaviestChain, AreSideBySide, covered}
 use Rattle.tl_table.specs.Chains.{links_weight, own_width}
 use Rattle.tl_table.specs.Sound.{IsSound, place_of, IsSoundBlock}
-use Rattle.tl_table.specs.inner.Demands.{AreInRow, columns_of, demands_weight, IsRowOf}
+use Rattle.tl_table.specs.inner.Demands.{AreInRow, columns_demanded, demands_weight, IsRowOf}
 use Rattle.tl_table.specs.inner.LeastRooms.{IsDemandOf, AreDemandsOf}
 use Rattle.tl_table.specs.inner.Links.{IsLinked, IsLinkedBy, AreOthers}
 use Rattle.tl_table.specs.Chains.{Weighs}
@@ -91,7 +91,7 @@ record AreLike (from : ℕ) (picked : List Demand) (links : List Link) : Type 0 
   side : AreInRow from picked → AreSideBySide from links
   many : length links ≡ length picked
   wide : sum_by (λ link. link.width) links ≡ sum_by (λ demand. demand.width) picked
-  covers : covered links ≡ columns_of picked
+  covers : covered links ≡ columns_demanded picked
 
 same_demand : (demands : List Demand) (number : ℕ) (one other : Demand) → slice_get demands number ≡ Some one →
     slice_get demands number ≡ Some other → one ≡ other
@@ -140,8 +140,8 @@ are_like demands from (number ∷ numbers) (demand ∷ picked) (link ∷ links) 
 weigh_alike : (style : Style) (cols : ℕ) (picked : List Demand) (links : List Link) → AreLike 0 picked links →
     demands_weight style cols picked ≡ links_weight style cols links
 weigh_alike style cols picked links alike =
-    ap (λ w. w + gap_of style * (length picked + (cols - columns_of picked) - 1) + 2 * edge_of style) (sym alike.wide)
-    ∙ ap (λ n. sum_by (λ link. link.width) links + gap_of style * (n + (cols - columns_of picked) - 1) + 2 * edge_of style)
+    ap (λ w. w + gap_of style * (length picked + (cols - columns_demanded picked) - 1) + 2 * edge_of style) (sym alike.wide)
+    ∙ ap (λ n. sum_by (λ link. link.width) links + gap_of style * (n + (cols - columns_demanded picked) - 1) + 2 * edge_of style)
     (sym alike.many)
     ∙ ap (λ n. sum_by (λ link. link.width) links + gap_of style * (length links + (cols - n) - 1) + 2 * edge_of style)
     (sym alike.covers)

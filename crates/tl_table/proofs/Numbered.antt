@@ -16,7 +16,7 @@ use Rattle.tl_tree.specs.declared.node.Block.TheOpen as open_block
 use Rattle.tl_tree.specs.declared.node.CellNode.{CellNode}
 use Rattle.tl_tree.specs.declared.node.TableNode.{TableNode, out-TableNode}
 use Rattle.tl_table.specs.Formed.{OpenBlock, cells_written}
-use Rattle.tl_table.specs.Refused.{NumberedShape, HasSomeGrid, IsFirstWithoutGrid, tables_in_block, tables_of}
+use Rattle.tl_table.specs.Refused.{NumberedShape, HasSomeGrid, IsFirstWithoutGrid, tables_in_block, numbered_shapes}
 use Rattle.tl_table.specs.Refused.{tables_in_flow, tables_in_caption, tables_in_cells, tables_in_groups}
 use Rattle.tl_table.proofs.TreeParts.{itself, tables_in_open, tables_in_block-out, part_of_cell-out, tables_of-out}
 use Rattle.tl_table.proofs.Gridless.{tables_written}
@@ -38,7 +38,7 @@ caption_flow : (flow : Option (List Block)) → tables_in_caption flow ≡ table
 caption_flow None = refl
 caption_flow (Some flow) = refl
 
-pub tables_of_blocks : (node : TableNode) → tables_of node ≡ itself (out-TableNode node) ∷ tables_in_flow
+pub tables_of_blocks : (node : TableNode) → numbered_shapes node ≡ itself (out-TableNode node) ∷ tables_in_flow
     (blocks_of (out-TableNode node))
 tables_of_blocks node =
     let o = out-TableNode node in
@@ -88,7 +88,7 @@ times_numbered n k (one ∷ tables) are = omega (
 -- ---- there are as many tables as begin
 
 abbrev Long : ℕ → Type 0
-Long n = (node : TableNode) → table_count (outline node) ≤ n → length (tables_of node) ≡ table_count (outline node)
+Long n = (node : TableNode) → table_count (outline node) ≤ n → length (numbered_shapes node) ≡ table_count (outline node)
 
 block_long : (n : ℕ) → Long n → (o : OpenBlock) → table_count (open_outline o) ≤ n →
     length (tables_in_open o) ≡ table_count (open_outline o)
@@ -129,7 +129,7 @@ long (suc n) node few = omega (
   flow_long n (long n) (blocks_of (out-TableNode node)) (omega (arith, few, counted node)),
 )
 
-pub tables_long : (node : TableNode) → length (tables_of node) ≡ table_count (outline node)
+pub tables_long : (node : TableNode) → length (numbered_shapes node) ≡ table_count (outline node)
 tables_long node = long (table_count (outline node)) node (omega arith)
 
 -- ---- the entries of a sound tree give the numbers
@@ -149,7 +149,7 @@ alone-numbered k (paragraph atoms ∷ es) numbered = alone-numbered k es numbere
 abbrev Numbered : ℕ → Type 0
 Numbered n = (node : TableNode) (k : ℕ) (rest : Entries) → table_count (outline node) ≤ n →
     IsNumberedFrom k (tables_alone (outline node) ++ rest) →
-    AreNumbered k (tables_of node) × IsNumberedFrom (k + length (tables_of node)) rest
+    AreNumbered k (numbered_shapes node) × IsNumberedFrom (k + length (numbered_shapes node)) rest
 
 block_numbered : (n : ℕ) → Numbered n → (o : OpenBlock) (k : ℕ) (rest : Entries) → table_count (open_outline o) ≤ n →
     IsNumberedFrom k (tables_alone (open_outline o) ++ rest) →
@@ -207,7 +207,7 @@ numbered (suc n) node k rest few is =
       subst (λ m. IsNumberedFrom m rest) (omega (arith, ap length same)) inside.1,
     )
 
-pub tables_numbered : (node : TableNode) → IsSoundTree node → AreNumbered 0 (tables_of node)
+pub tables_numbered : (node : TableNode) → IsSoundTree node → AreNumbered 0 (numbered_shapes node)
 tables_numbered node sound =
     (numbered (table_count (outline node)) node 0 [] (omega arith)
     (subst (IsNumberedFrom 0) (sym (append-nil (tables_alone (outline node))))
@@ -230,8 +230,8 @@ before_by_number k (first ∷ before) one after is gridded = (
 )
 
 pub first_by_number : (node : TableNode) (number : ℕ) (cause : GridError) → IsSoundTree node →
-    IsFirstWithoutGrid (tables_of node) number cause →
-    AllByRecursion (λ each. each.number < number → HasSomeGrid each) (tables_of node)
+    IsFirstWithoutGrid (numbered_shapes node) number cause →
+    AllByRecursion (λ each. each.number < number → HasSomeGrid each) (numbered_shapes node)
 first_by_number node number cause sound first =
     let is = subst (AreNumbered 0) first.split (tables_numbered node sound) in
     subst (AllByRecursion (λ each. each.number < number → HasSomeGrid each)) (sym first.split)

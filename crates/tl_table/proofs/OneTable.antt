@@ -36,9 +36,9 @@ use Rattle.tl_table.specs.declared.error.FormError.TheVariants as errors
 use Rattle.tl_table.specs.Tables.{OpenTable, OpenContent}
 use Rattle.tl_table.specs.Formed.{OpenNode, OpenBlock, BecomesContent, BecomeContents, BecomeCells, BecomeCaption, BecomesBy}
 use Rattle.tl_table.specs.Formed.{BecomesWithin, Becomes}
-use Rattle.tl_table.specs.Formed.{broken, caption_rows, cells_of_group, cells_written, group_shape, is_foot, kind_of, lowered}
+use Rattle.tl_table.specs.Formed.{broken, caption_rows, cells_of_group, cells_written, group_shape, is_foot, header_kind, lowered}
 use Rattle.tl_table.specs.Formed.{shape_of, span_of}
-use Rattle.tl_table.specs.Refused.{HasNoGrid, tables_of}
+use Rattle.tl_table.specs.Refused.{HasNoGrid, numbered_shapes}
 use Rattle.tl_table.specs.Same.{AreSameContent, AreSameCell, AreSameBy, AreSameWithin, AreSame, ReturnsTable}
 use Rattle.tl_table.specs.Sound.{ComesBefore, place_of}
 use Rattle.tl_table.proofs.Gridless.{becomes_gridded, not_among}
@@ -180,7 +180,7 @@ module _ (same : TableNode → TableNode → Type 0) (some other : TableNode →
   cells_twins (x ∷ xs) (y ∷ ys) (c ∷ cs) [] is first second places = absurd second
   cells_twins (x ∷ xs) (y ∷ ys) (c ∷ cs) (d ∷ ds) is first second places = (
     record {
-      kind = first.0.kind ∙ ap kind_of is.0.head ∙ sym second.0.kind;
+      kind = first.0.kind ∙ ap header_kind is.0.head ∙ sym second.0.kind;
       place = let here : place_of c ≡ place_of d = cc in here;
       least = first.0.least ∙ is.0.least ∙ sym second.0.least;
       blocks = contents_twins (out-CellNode x).flow (out-CellNode y).flow (out-TableCell c).blocks
@@ -426,4 +426,4 @@ each_table breaking node (Err error) ok err table becomes = by_case err
   where
     by_case : IsMemoryOr (errors.Memory alloc_error) (HasNoGrid node) error → error ≡ errors.Memory alloc_error
     by_case (inl memory) = memory
-    by_case (inr refused) = absurd (not_among (tables_of node) error (becomes_gridded breaking node table becomes) refused)
+    by_case (inr refused) = absurd (not_among (numbered_shapes node) error (becomes_gridded breaking node table becomes) refused)

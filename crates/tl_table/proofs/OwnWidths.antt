@@ -23,7 +23,7 @@ use Rattle.tl_table.specs.Tables.{OpenCell, OpenContent, tables_of, tables_in}
 use Rattle.tl_table.specs.Layouts.{Share, FitsShare, FitsRoom, FitsWithin}
 use Rattle.tl_table.specs.Least.{IsLeastWidth}
 use Rattle.tl_table.specs.Chains.{widest_unit, widest_in, widest_among, own_width}
-use Rattle.tl_table.specs.inner.LeastRooms.{IsLeastRoom}
+use Rattle.tl_table.specs.inner.LeastRooms.{IsLeastCellRoom}
 use Rattle.tl_table.specs.inner.Links.{IsOther, AreOthers}
 use Rattle.tl_table.proofs.Deeper.{FitsShare-weaker, FitsWithin-deeper, FitsWithin-deeper', FitsWithin-wider}
 
@@ -156,7 +156,7 @@ others_below style w depth (block ∷ blocks) (share ∷ shares) fits others som
     go (open_content.Table box) one other =
         ((other.0.0, other.0.1, below other.0.0 (other.0.1.least w one.height one.layout (depth, one.laid)) other.0.2), tt)
 
-pub own_or_inner : (style : Style) (cell : OpenCell) (w : ℕ) → IsLeastRoom style cell w →
+pub own_or_inner : (style : Style) (cell : OpenCell) (w : ℕ) → IsLeastCellRoom style cell w →
     AllByRecursion (AreOthers style w) cell.blocks →
     w ≡ own_width cell
 own_or_inner style cell w least others =
@@ -204,7 +204,7 @@ column_of_width table style w least some = let one = least.attained in go (out-T
         none (width ∷ widths) empty = absurd (omega arith)
 
 -- a cell's own width is no more than its least room
-pub own_below : (style : Style) (cell : OpenCell) (w : ℕ) → IsLeastRoom style cell w → own_width cell ≤ w
+pub own_below : (style : Style) (cell : OpenCell) (w : ℕ) → IsLeastCellRoom style cell w → own_width cell ≤ w
 own_below style cell w least = let one = least.fits w (omega arith) in
     own_width-fits (FitsWithin one.0 style) w one.1 cell one.2 one.3
 

@@ -12,20 +12,20 @@ use Rattle.tl_base.specs.Style.{gap_of, edge_of}
 use Rattle.tl_diff.specs.Paths.{arc_at, IsPath, IsHeaviest, path_weight}
 use Rattle.tl_table.specs.declared.widest.Demand.{Demand}
 use Rattle.tl_table.specs.declared.widest.NumberedArc.{NumberedArc}
-use Rattle.tl_table.specs.inner.Demands.{HaveArcs, IsPlacedDemand, AreInRow, columns_of, IsRowOf, arc_of, number_at}
+use Rattle.tl_table.specs.inner.Demands.{HaveArcs, IsPlacedDemand, AreInRow, columns_demanded, IsRowOf, arc_of, demand_number}
 use Rattle.tl_table.proofs.Duality.{plain, IsArcAt, arc_of_demand, arc_among, All-named}
 
 -- what holds of the demands along a path from a column to another
 pub record FollowsPath (style : Style) (demands : List Demand) (arcs : List NumberedArc) (from : ℕ) (is : List ℕ)
     (past : ℕ) : Type 0 where
   pub picked : List Demand
-  pub named : AllZip (λ number demand. slice_get demands number ≡ Some demand) (map (number_at arcs) is) picked
+  pub named : AllZip (λ number demand. slice_get demands number ≡ Some demand) (map (demand_number arcs) is) picked
   pub in_row : AreInRow from picked
   pub many : length picked ≡ length is
   pub weighs : sum_by (λ demand. demand.width) picked + gap_of style * length picked ≡ path_weight (plain arcs)
-      is + gap_of style * columns_of picked
-  pub few : length picked ≤ columns_of picked
-  pub within : columns_of picked + from ≤ past
+      is + gap_of style * columns_demanded picked
+  pub few : length picked ≤ columns_demanded picked
+  pub within : columns_demanded picked + from ≤ past
 
 weigh_more : (style : Style) (widths many weight columns width arc span : ℕ) →
     widths + gap_of style * many ≡ weight + gap_of style * columns →
@@ -55,13 +55,14 @@ follows_more style cols demands arcs from i is past at order rest = record {
   weighs = ap (λ w. w + gap_of style * suc (length rest.picked))
       (sum_by-cons (λ (demand : Demand). demand.width) at.demand rest.picked)
       ∙ weigh_more style (sum_by (λ demand. demand.width) rest.picked) (length rest.picked) (path_weight (plain arcs) is)
-      (columns_of rest.picked)
+      (columns_demanded rest.picked)
       at.demand.width (arc_of (gap_of style) at.demand).weight (at.demand.right - at.demand.left) rest.weighs
       (omega (arith, at.heavy))
       (omega (arith, at.placed.0))
-      ∙ ap (λ w. w + path_weight (plain arcs) is + gap_of style * ((at.demand.right - at.demand.left) + columns_of rest.picked))
+      ∙ ap (λ w. w + path_weight (plain arcs) is + gap_of style *
+      ((at.demand.right - at.demand.left) + columns_demanded rest.picked))
       (sym (ap (λ arc. arc.weight) at.is))
-      ∙ sym (ap (λ w. w + gap_of style * columns_of (at.demand ∷ rest.picked))
+      ∙ sym (ap (λ w. w + gap_of style * columns_demanded (at.demand ∷ rest.picked))
       (sum_by-cons (λ (j : ℕ). (arc_at (plain arcs) j).weight) i is)
       ∙ ap (λ c. (arc_at (plain arcs) i).weight + path_weight (plain arcs) is + gap_of style * c) covers);
   few = omega (arith, rest.few, covers, at.placed.0);
@@ -76,7 +77,7 @@ follows_more style cols demands arcs from i is past at order rest = record {
   to_is : (arc_at (plain arcs) i).to ≡ at.demand.right
   to_is = ap (λ arc. arc.to) at.is
 
-  covers : columns_of (at.demand ∷ rest.picked) ≡ (at.demand.right - at.demand.left) + columns_of rest.picked
+  covers : columns_demanded (at.demand ∷ rest.picked) ≡ (at.demand.right - at.demand.left) + columns_demanded rest.picked
   covers = sum_by-cons (λ (demand : Demand). demand.right - demand.left) at.demand rest.picked
 
 pub follows_path : (style : Style) (cols : ℕ) (demands : List Demand) (arcs : List NumberedArc) (from : ℕ) (is : List ℕ)
@@ -112,16 +113,16 @@ weighs_in_all Frame widths many weight columns cols is some few within = omega a
 pub row_of_path : (style : Style) (cols : ℕ) (demands : List Demand) (arcs : List NumberedArc) (is : List ℕ) →
     All (IsPlacedDemand cols) demands →
     HaveArcs (gap_of style) demands (length demands) arcs → IsPath (plain arcs) 0 is cols → 0 < length is →
-    IsRowOf style cols demands (map (number_at arcs) is) (path_weight (plain arcs) is + gap_of style *
+    IsRowOf style cols demands (map (demand_number arcs) is) (path_weight (plain arcs) is + gap_of style *
     (cols - 1) + 2 * edge_of style)
 row_of_path style cols demands arcs is placed have path some =
     let row = follows_path style cols demands arcs 0 is cols placed have path in record {
-      some = omega (arith, length-map is (number_at arcs));
+      some = omega (arith, length-map is (demand_number arcs));
       picked = row.picked;
       named = row.named;
       in_row = row.in_row;
       weighed = weighs_in_all style (sum_by (λ demand. demand.width) row.picked) (length row.picked) (path_weight (plain arcs) is)
-          (columns_of row.picked) cols row.weighs (omega (arith, row.many)) row.few (omega (arith, row.within));
+          (columns_demanded row.picked) cols row.weighs (omega (arith, row.many)) row.few (omega (arith, row.within));
     }
 
 weighs_alone : (style : Style) (cols width : ℕ) → 0 < cols → width ≡ 0 →
@@ -151,7 +152,7 @@ row_of_last style cols demands arcs k demand some placed have heaviest named las
   width : sum_by (λ one. one.width) (demand ∷ []) ≡ demand.width
   width = omega (arith, sum_by-cons (λ (one : Demand). one.width) demand [])
 
-  covers : columns_of (demand ∷ []) ≡ 1
+  covers : columns_demanded (demand ∷ []) ≡ 1
   covers = omega (arith, here.0, here.1, sum_by-cons (λ (one : Demand). one.right - one.left) demand [])
 
   gaps : gap_of style * (demand.right - demand.left - 1) ≡ 0

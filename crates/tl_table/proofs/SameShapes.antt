@@ -10,12 +10,13 @@ use Rattle.tl_tree.specs.declared.node.TableNode.{TableNode, out-TableNode}
 use Rattle.tl_tree.specs.Same.{OpenBlock, OpenTable, AreSame, AreSameWithin, AreSameTable, AreSameGroup}
 use Rattle.tl_tree.specs.Same.{AreSameRow, AreSameFlow, AreSameBlock, AreSameCaption}
 use Rattle.tl_table.specs.Formed.{span_of, group_shape, is_foot}
-use Rattle.tl_table.specs.Refused.{tables_in_block, part_of_cell, part_of_group, tables_of}
+use Rattle.tl_table.specs.Refused.{tables_in_block, part_of_cell, part_of_group, numbered_shapes}
 use Rattle.tl_table.specs.Refused.{tables_in_flow, tables_in_caption, tables_in_cells, tables_in_groups}
 use Rattle.tl_table.proofs.TreeParts.{itself, tables_in_open, tables_in_block-out, part_of_cell-out, part_of_group-out}
 use Rattle.tl_table.proofs.TreeParts.{tables_of-out}
 
-module _ (same : TableNode → TableNode → Type 0) (each : (a b : TableNode) → same a b → tables_of a ≡ tables_of b) where
+module _ (same : TableNode → TableNode → Type 0)
+    (each : (a b : TableNode) → same a b → numbered_shapes a ≡ numbered_shapes b) where
   block_same : (a b : OpenBlock) → AreSameBlock same a b → tables_in_open a ≡ tables_in_open b
   block_same (parts.Para p) (parts.Para q) is = refl
   block_same (parts.Para p) (parts.Table b) is = absurd is
@@ -104,7 +105,7 @@ module _ (same : TableNode → TableNode → Type 0) (each : (a b : TableNode) �
     shape = record { columns = is.columns i; groups = groups_shape a.groups b.groups is.groups i };
   }
 
-  table_same : (a b : TableNode) → AreSameTable same (out-TableNode a) (out-TableNode b) → tables_of a ≡ tables_of b
+  table_same : (a b : TableNode) → AreSameTable same (out-TableNode a) (out-TableNode b) → numbered_shapes a ≡ numbered_shapes b
   table_same a b is =
       let one = out-TableNode a in
       let other = out-TableNode b in
@@ -113,10 +114,10 @@ module _ (same : TableNode → TableNode → Type 0) (each : (a b : TableNode) �
       ∷ (caption_same one.caption other.caption is.caption i ++ groups_same one.groups other.groups is.groups i))
       ∙ sym (tables_of-out b)
 
-within_same : (depth : ℕ) (a b : TableNode) → AreSameWithin depth a b → tables_of a ≡ tables_of b
+within_same : (depth : ℕ) (a b : TableNode) → AreSameWithin depth a b → numbered_shapes a ≡ numbered_shapes b
 within_same zero a b is = absurd is
 within_same (suc depth) a b is = table_same (AreSameWithin depth) (within_same depth) a b is
 
 -- two trees that are the same have tables of the same shapes
-pub same_shapes : (a b : TableNode) → AreSame a b → tables_of a ≡ tables_of b
+pub same_shapes : (a b : TableNode) → AreSame a b → numbered_shapes a ≡ numbered_shapes b
 same_shapes a b is = within_same is.0 a b is.1

@@ -7,7 +7,7 @@ use Rattle.tl_table.specs.declared.cell.Table.{Table, out-Table, fold_out-Table}
 use Rattle.tl_table.specs.declared.cell.TableCell.{TableCell, out-TableCell, fold_out-TableCell}
 use Rattle.tl_table.specs.declared.cell.Content.{Content, out-Content, fold_out-Content, map-Content}
 use Rattle.tl_table.specs.Tables.{OpenContent}
-use Rattle.tl_table.specs.Sound.{content_count, cell_count, table_count, table_size, cell_size, content_size, content_tables}
+use Rattle.tl_table.specs.Sound.{content_count, cell_count, cells_in_table, table_size, cell_size, content_size, content_tables}
 use Rattle.tl_table.specs.Sound.{cell_tables}
 use Rattle.tl_table.specs.Sound.{table_tables, nested_in_table, nested_in_cell, nested_in_content}
 
@@ -16,11 +16,11 @@ mapped_sum f [] = refl
 mapped_sum f (x ∷ xs) = sum_by-cons (λ n. n) (f x) (map f xs) ∙ ap (λ n. f x + n) (mapped_sum f xs) ∙ sym (sum_by-cons f x xs)
 
 pub table_size-out : (table : Table) → table_size table ≡ sum_by cell_size (out-Table table).cells
-table_size-out table = fold_out-Table ℕ ℕ ℕ content_count table_count cell_count table ∙ mapped_sum cell_size
+table_size-out table = fold_out-Table ℕ ℕ ℕ content_count cells_in_table cell_count table ∙ mapped_sum cell_size
     (out-Table table).cells
 
 pub cell_size-out : (cell : TableCell) → cell_size cell ≡ 1 + sum_by content_size (out-TableCell cell).blocks
-cell_size-out cell = fold_out-TableCell ℕ ℕ ℕ content_count table_count cell_count cell ∙
+cell_size-out cell = fold_out-TableCell ℕ ℕ ℕ content_count cells_in_table cell_count cell ∙
     ap (λ n. 1 + n) (mapped_sum content_size (out-TableCell cell).blocks)
 
 -- what a block counts
@@ -34,7 +34,7 @@ counted (open_content.Para paragraph) = refl
 counted (open_content.Table box) = refl
 
 pub content_size-out : (block : Content) → content_size block ≡ open_size (out-Content block)
-content_size-out block = fold_out-Content ℕ ℕ ℕ content_count table_count cell_count block ∙ counted (out-Content block)
+content_size-out block = fold_out-Content ℕ ℕ ℕ content_count cells_in_table cell_count block ∙ counted (out-Content block)
 
 -- ---- how many tables are inside, one level at a time
 

@@ -22,7 +22,7 @@ use Rattle.tl_table.proofs.SizesOpen.{nested_in_table-out, nested_in_cell-out, n
 use Rattle.tl_table.proofs.SoundNodes.{open_outline, block_outline-out}
 use Rattle.tl_table.proofs.Blocks.{alone-count, count-append, blocks_of, alone, alone-table, contents_of, zip_table}
 use Rattle.std.proofs.Common.{length}
-use Rattle.tl_table.specs.Refused.{NumberedShape, tables_in_block, tables_of as shapes_of, tables_in_flow}
+use Rattle.tl_table.specs.Refused.{NumberedShape, tables_in_block, numbered_shapes as shapes_of, tables_in_flow}
 use Rattle.tl_table.specs.Sound.{numbers_of_table, numbers_in_cell, numbers_in_content, numbers_inside, count_inside}
 use Rattle.tl_table.proofs.NumbersOpen.{numbers_of_table-out, numbers_in_cell-out, numbers_in_content-out, open_numbers}
 use Rattle.tl_table.proofs.NumbersOpen.{is_number, times, from_times}

@@ -32,7 +32,7 @@ use Rattle.tl_table.specs.Formed.{OpenBlock, BecomesContent, BecomeContents, Bec
 use Rattle.tl_table.specs.Formed.{Becomes}
 use Rattle.tl_table.specs.Formed.{cells_of_group, cells_written, caption_rows}
 use Rattle.tl_table.specs.Sound.{IsSoundBy, IsSoundWithin, IsSound, place_of, table_size, cell_size, content_size}
-use Rattle.tl_table.specs.Refused.{tables_in_flow, tables_in_block, tables_of as shapes_of}
+use Rattle.tl_table.specs.Refused.{tables_in_flow, tables_in_block, numbered_shapes as shapes_of}
 use Rattle.tl_table.proofs.SizesOpen.{table_size-out, cell_size-out, content_size-out, open_size}
 use Rattle.tl_table.proofs.SoundNodes.{open_outline, rows_outline, groups_outline, block_outline-out, cell_outline-out}
 use Rattle.tl_table.proofs.SoundNodes.{group_outline-out, outline-out}
@@ -45,7 +45,7 @@ use Rattle.tl_table.proofs.Blocks.{tables_alone, alone-append, alone-nested, flo
 use Rattle.tl_table.proofs.Blocks.{contents_of}
 use Rattle.tl_table.proofs.Blocks.{tables_among, tables_of_cells, zip_table}
 use Rattle.std.proofs.Common.{length}
-use Rattle.tl_table.specs.Sound.{IsSpelt, numbers_inside, count_inside}
+use Rattle.tl_table.specs.Sound.{IsSpeltBlock, numbers_inside, count_inside}
 use Rattle.tl_table.proofs.Numbered.{AreNumbered, tables_of_blocks, numbered_split, tables_numbered}
 use Rattle.tl_table.proofs.TreeParts.{tables_in_open, tables_in_block-out}
 use Rattle.tl_table.proofs.SpeltBlocks.{spelt-caption, spelt-cells}
@@ -150,10 +150,10 @@ level_sound forms breaking node made sound is becomes inner numbers = record {
       (narrow_caption forms breaking made.cols (out-TableNode node).caption becomes.caption becomes.captioned)
       (narrow_cells forms breaking (cells_written (out-TableNode node)) becomes.written
       (flat_groups (out-TableNode node).groups (table_groups node is)) becomes.cells)));
-  spelt = All-permutation (λ one. AllByRecursion (λ block. IsSpelt (out-Content block)) (out-TableCell one).blocks)
+  spelt = All-permutation (λ one. AllByRecursion (λ block. IsSpeltBlock (out-Content block)) (out-TableCell one).blocks)
       all made.cells becomes.same
-      (All-from_recursion (λ one. AllByRecursion (λ block. IsSpelt (out-Content block)) (out-TableCell one).blocks) all
-      (AllByRecursion-append (λ one. AllByRecursion (λ block. IsSpelt (out-Content block)) (out-TableCell one).blocks)
+      (All-from_recursion (λ one. AllByRecursion (λ block. IsSpeltBlock (out-Content block)) (out-TableCell one).blocks) all
+      (AllByRecursion-append (λ one. AllByRecursion (λ block. IsSpeltBlock (out-Content block)) (out-TableCell one).blocks)
       becomes.caption becomes.written
       (spelt-caption forms breaking node made.cols (out-TableNode node).caption becomes.caption refl is becomes.captioned)
       (spelt-cells forms breaking (cells_written (out-TableNode node)) becomes.written

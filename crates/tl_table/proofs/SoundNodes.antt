@@ -10,7 +10,7 @@ use Rattle.tl_grid.specs.Shapes.{IsSpan, AllSpans}
 use Rattle.tl_grid.specs.Forming.{cells_in, row_count, cell_count}
 use Rattle.tl_tree.specs.Outline.{Entry, Entries, table, columns, group, row, cell, paragraph, table_end, block_outline}
 use Rattle.tl_tree.specs.Outline.{cell_outline, group_outline, outline}
-use Rattle.tl_tree.specs.Sound.{AreSound, IsInRange, entry_size}
+use Rattle.tl_tree.specs.Sound.{AreSound, IsEntryInRange, entry_size}
 use Rattle.tl_tree.specs.declared.node.Block.{Block, out-Block, roll-Block, roll-out-Block}
 use Rattle.tl_tree.specs.declared.node.Block.TheOpen as open_block
 use Rattle.tl_tree.specs.declared.node.CellNode.{CellNode, out-CellNode, roll-out-CellNode}
@@ -56,7 +56,8 @@ outline-out node =
 
 -- ---- parts of sound entries
 
-range_split : (xs ys : Entries) → AllByRecursion IsInRange (xs ++ ys) → AllByRecursion IsInRange xs × AllByRecursion IsInRange ys
+range_split : (xs ys : Entries) → AllByRecursion IsEntryInRange (xs ++ ys) → AllByRecursion IsEntryInRange xs
+    × AllByRecursion IsEntryInRange ys
 range_split [] ys all = (tt, all)
 range_split (x ∷ xs) ys all = let rest = range_split xs ys all.1 in ((all.0, rest.0), rest.1)
 
@@ -196,5 +197,5 @@ shape_size node sound =
     let e = groups_size o.groups _ _ refl refl in
     omega arith
 
-pub shape_columns : (node : TableNode) → AreSound (outline node) → IsInRange (columns (out-TableNode node).columns)
+pub shape_columns : (node : TableNode) → AreSound (outline node) → IsEntryInRange (columns (out-TableNode node).columns)
 shape_columns node sound = (table_rest node sound).1.in_range.0

@@ -73,7 +73,7 @@ small_in_table table = subst (λ n. AllByRecursion (λ inner. table_size inner �
 
 pub sound_inner : (table : Table) (depth : ℕ) → depth ≤ MAX_DEPTH → IsSoundWithin depth table →
     (out-Table table).number + nested_in_table table < MAX_TABLES →
-    table_size table ≤ MAX_FILE_BYTES → AllByRecursion IsSound (inner_tables (out-Table table))
+    table_size table ≤ MAX_FILE_BYTES + 1 → AllByRecursion IsSound (inner_tables (out-Table table))
 sound_inner table zero shallow sound few size = absurd sound
 sound_inner table (suc depth) shallow sound few size =
     AllByRecursion-weaker (λ inner. IsSoundWithin depth inner × ((table_size inner ≤ table_size table) ×

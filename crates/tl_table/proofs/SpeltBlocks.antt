@@ -18,16 +18,16 @@ use Rattle.tl_table.specs.declared.cell.Table.{Table}
 use Rattle.tl_table.specs.declared.cell.TableCell.{TableCell, out-TableCell}
 use Rattle.tl_table.specs.Tables.{OpenContent}
 use Rattle.tl_table.specs.Formed.{OpenBlock, BecomesContent, BecomeContents, BecomeCells, BecomeCaption, broken}
-use Rattle.tl_table.specs.Sound.{IsSpelt}
+use Rattle.tl_table.specs.Sound.{IsSpeltBlock}
 use Rattle.tl_table.proofs.SoundNodes.{block_outline-out, cell_flow, open_outline, sound_each, table_caption}
 
-broken-paragraph : (breaking : Breaking) (atoms : List Atom) → IsParagraph atoms → IsParagraph (broken breaking atoms)
+pub broken-paragraph : (breaking : Breaking) (atoms : List Atom) → IsParagraph atoms → IsParagraph (broken breaking atoms)
 broken-paragraph Words atoms is = is
 broken-paragraph Any atoms is = separated_paragraph atoms is
 
 module _ (forms : TableNode → Table → Type 0) (breaking : Breaking) where
   spelt-content : (block : OpenBlock) (content : OpenContent) → BecomesContent forms breaking block content →
-      AreSound (open_outline block) → IsSpelt content
+      AreSound (open_outline block) → IsSpeltBlock content
   spelt-content (open_block.Para atoms) (open_content.Para units) becomes sound =
       subst IsParagraph (sym becomes) (broken-paragraph breaking atoms sound.in_range.0.is_paragraph)
   spelt-content (open_block.Para atoms) (open_content.Table box) becomes sound = absurd becomes
@@ -36,7 +36,7 @@ module _ (forms : TableNode → Table → Type 0) (breaking : Breaking) where
 
   spelt-contents : (flow : List Block) (contents : List Content) → BecomeContents forms breaking flow contents →
       AllByRecursion (λ block. AreSound (block_outline block)) flow →
-      AllByRecursion (λ content. IsSpelt (out-Content content)) contents
+      AllByRecursion (λ content. IsSpeltBlock (out-Content content)) contents
   spelt-contents [] [] become sound = tt
   spelt-contents [] (content ∷ contents) become sound = absurd become
   spelt-contents (block ∷ flow) [] become sound = absurd become
@@ -47,7 +47,7 @@ module _ (forms : TableNode → Table → Type 0) (breaking : Breaking) where
 
   -- each paragraph of a cell is one
   abbrev pub IsSpeltCell : TableCell → Type 0
-  IsSpeltCell one = AllByRecursion (λ block. IsSpelt (out-Content block)) (out-TableCell one).blocks
+  IsSpeltCell one = AllByRecursion (λ block. IsSpeltBlock (out-Content block)) (out-TableCell one).blocks
 
   pub spelt-cells : (nodes : List CellNode) (cells : List TableCell) →
       AllByRecursion (λ node. AreSound (cell_outline node)) nodes →

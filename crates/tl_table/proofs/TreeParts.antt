@@ -11,7 +11,7 @@ use Rattle.tl_tree.specs.declared.node.GroupNode.{GroupNode, out-GroupNode, fold
 use Rattle.tl_tree.specs.declared.node.TableNode.{TableNode, out-TableNode, map-TableNode, fold_out-TableNode}
 use Rattle.tl_table.specs.Formed.{OpenBlock, OpenNode, span_of, group_shape, shape_of, cells_of_group}
 use Rattle.tl_table.specs.Refused.{NumberedShape, CellPart, GroupPart, block_part, cell_part, group_part, table_part}
-use Rattle.tl_table.specs.Refused.{tables_in_block, part_of_cell, part_of_group, tables_of}
+use Rattle.tl_table.specs.Refused.{tables_in_block, part_of_cell, part_of_group, numbered_shapes}
 use Rattle.tl_table.specs.Refused.{tables_in_flow, tables_in_caption, tables_in_cells, tables_in_groups}
 
 abbrev Shapes : Type 0
@@ -22,11 +22,11 @@ Shapes = List NumberedShape
 -- the tables in a block by its content
 abbrev pub tables_in_open : OpenBlock → Shapes
 tables_in_open (open_block.Para paragraph) = []
-tables_in_open (open_block.Table box) = tables_of box.value
+tables_in_open (open_block.Table box) = numbered_shapes box.value
 
 block_opened : (o : OpenBlock) → block_part
     (map-Block Block CellNode GroupNode TableNode Shapes CellPart GroupPart Shapes tables_in_block part_of_cell part_of_group
-    tables_of o)
+    numbered_shapes o)
     ≡ tables_in_open o
 block_opened (open_block.Para paragraph) = refl
 block_opened (open_block.Table box) = refl
@@ -123,7 +123,7 @@ table_made node groups caption inner =
 table_opened : (number : _) (caption : Option (List Block)) (columns : _) (groups : List GroupNode) →
     let node : OpenNode = record { number = number; caption = caption; columns = columns; groups = groups } in
     table_part (map-TableNode Block CellNode GroupNode TableNode Shapes CellPart GroupPart Shapes tables_in_block part_of_cell
-    part_of_group tables_of node)
+    part_of_group numbered_shapes node)
     ≡ itself node ∷ (tables_in_caption caption ++ tables_in_groups groups)
 table_opened number None columns groups =
     let node : OpenNode = record { number = number; caption = None; columns = columns; groups = groups } in
@@ -138,7 +138,7 @@ table_opened number (Some flow) columns groups =
     ∙ ap (λ caption. table_made node (map group_shape groups) caption inner) (joined_map tables_in_block flow)
     ∙ ap (table_made node (map group_shape groups) (tables_in_flow flow)) (inner_of_groups groups)
 
-pub tables_of-out : (node : TableNode) → tables_of node ≡
+pub tables_of-out : (node : TableNode) → numbered_shapes node ≡
     itself (out-TableNode node) ∷ (tables_in_caption (out-TableNode node).caption ++ tables_in_groups (out-TableNode node).groups)
 tables_of-out node =
     fold_out-TableNode Shapes CellPart GroupPart Shapes block_part cell_part group_part table_part node

@@ -21,8 +21,8 @@ use Rattle.tl_table.specs.declared.widest.Demand.{Demand}
 use Rattle.tl_table.specs.Tables.{OpenTable}
 use Rattle.tl_table.specs.Least.{IsLeastWidth}
 use Rattle.tl_table.specs.Sound.{IsSoundWithin, IsSound, place_of, places_of, table_size, cell_size, content_size}
-use Rattle.tl_table.specs.inner.Demands.{AreDemands, AreSmall, IsPlacedDemand, IsLeastFor, most_gaps, most_width}
-use Rattle.tl_table.specs.inner.LeastRooms.{IsDemandOf, AreDemandsOf, IsLeastForBlock, IsLeastForBlocks, IsLeastRoom}
+use Rattle.tl_table.specs.inner.Demands.{AreDemands, AreSmallDemands, IsPlacedDemand, IsLeastFor, most_gaps, most_width}
+use Rattle.tl_table.specs.inner.LeastRooms.{IsDemandOf, AreDemandsOf, IsLeastForBlock, IsLeastForBlocks, IsLeastCellRoom}
 use Rattle.tl_table.proofs.LeastRoomLemmas.{least_for_none, least_for_more, least_for_cell}
 use Rattle.tl_table.proofs.LeastWidths.{least_width_for}
 use Rattle.tl_table.proofs.SizesOpen.{table_size-out, cell_size-out}
@@ -106,7 +106,7 @@ placed_cells cols rows (cell ∷ cells) placed = (placed.0, placed_cells cols ro
 
 pub are_demands : (style : Style) (table : Table) (demands : List Demand) → IsSound table →
     AreDemandsOf style (out-Table table).cells demands →
-    AreSmall demands (table_size table) → AreDemands (out-Table table).cols demands
+    AreSmallDemands demands (table_size table) → AreDemands (out-Table table).cols demands
 are_demands style table demands sound those small = record {
   few_columns = grid.few;
   few = omega (arith, sound.size);
@@ -163,7 +163,7 @@ BlocksSoFar-more style floor blocks n width more block within is before least sm
 pub BlocksSoFar-all : (style : Style) (cell : TableCell) (n width : ℕ) →
     take n (out-TableCell cell).blocks ≡ (out-TableCell cell).blocks →
     BlocksSoFar style (out-TableCell cell).least (out-TableCell cell).blocks n width →
-    IsLeastRoom style (out-TableCell cell) width × (width + most_gaps ≤ most_width (cell_size cell))
+    IsLeastCellRoom style (out-TableCell cell) width × (width + most_gaps ≤ most_width (cell_size cell))
 BlocksSoFar-all style cell n width whole far = (
   least_for_cell style (out-TableCell cell) width (subst (λ prefix. IsLeastForBlocks style
       (out-TableCell cell).least prefix width) whole far.least),
@@ -172,7 +172,7 @@ BlocksSoFar-all style cell n width whole far = (
 
 pub record CellsSoFar (style : Style) (cells : List TableCell) (n : ℕ) (demands : List Demand) : Type 0 where
   pub each : AreDemandsOf style (take n cells) demands
-  pub small : AreSmall demands (sum_by cell_size (take n cells))
+  pub small : AreSmallDemands demands (sum_by cell_size (take n cells))
 
 pub CellsSoFar-none : (style : Style) (cells : List TableCell) → CellsSoFar style cells 0 []
 CellsSoFar-none style cells = record { each = tt; small = omega arith }
@@ -181,7 +181,7 @@ pub CellsSoFar-more : (style : Style) (cells : List TableCell) (n : ℕ) (demand
     (demand : Demand) →
     n < length cells → cell ≡ get_or cells n cell → CellsSoFar style cells n demands →
     demand.left ≡ (place_of cell).left → demand.right ≡ (place_of cell).right →
-    IsLeastRoom style (out-TableCell cell) demand.width →
+    IsLeastCellRoom style (out-TableCell cell) demand.width →
     demand.width + most_gaps ≤ most_width (cell_size cell) → CellsSoFar style cells (n + 1) (demands ++ demand ∷ [])
 CellsSoFar-more style cells n demands cell demand within is before left right least small = record {
   each = subst (λ prefix. AreDemandsOf style prefix (demands ++ demand ∷ []))
@@ -203,7 +203,7 @@ CellsSoFar-more style cells n demands cell demand within is before left right le
 pub CellsSoFar-all : (style : Style) (table : Table) (n : ℕ) (demands : List Demand) →
     take n (out-Table table).cells ≡ (out-Table table).cells →
     CellsSoFar style (out-Table table).cells n demands →
-    AreDemandsOf style (out-Table table).cells demands × (AreSmall demands (table_size table))
+    AreDemandsOf style (out-Table table).cells demands × (AreSmallDemands demands (table_size table))
 CellsSoFar-all style table n demands whole far = (
   subst (λ prefix. AreDemandsOf style prefix demands) whole far.each,
   omega (arith, far.small, table_size-out table, ap (sum_by cell_size) whole),
@@ -212,7 +212,7 @@ CellsSoFar-all style table n demands whole far = (
 -- a table with a column has a cell, and is no wider than so many columns for each cell and byte
 pub small_width : (style : Style) (table : Table) (demands : List Demand) (width : ℕ) → IsSound table →
     AreDemandsOf style (out-Table table).cells demands →
-    AreSmall demands (table_size table) → width ≤ sum_by (λ demand. demand.width) demands + most_gaps →
+    AreSmallDemands demands (table_size table) → width ≤ sum_by (λ demand. demand.width) demands + most_gaps →
     ((out-Table table).cols ≡ 0 → width ≡ 0) → width ≤ most_width (table_size table)
 small_width style table demands width sound those small near none = go (out-Table table).cols refl
   where

@@ -99,14 +99,14 @@ BecomeContents forms breaking flow blocks = AllZip
 -- ---- cells
 
 -- a `th` is a header cell
-abbrev pub kind_of : Bool → Kind
-kind_of true = kinds.Head
-kind_of false = kinds.Plain
+abbrev pub header_kind : Bool → Kind
+header_kind true = kinds.Head
+header_kind false = kinds.Plain
 
 -- a cell of the tree becomes this cell, wherever that lies
 pub record BecomesCell (forms : TableNode → Table → Type 0) (breaking : Breaking) (node : OpenCellNode)
     (cell : OpenCell) : Type 0 where
-  pub kind : cell.kind ≡ kind_of node.head
+  pub kind : cell.kind ≡ header_kind node.head
   pub least : cell.least ≡ node.least
   pub blocks : BecomeContents forms breaking node.flow cell.blocks
 

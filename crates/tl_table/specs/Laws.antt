@@ -11,7 +11,7 @@ use Rattle.tl_table.specs.declared.cell.Table.{Table, out-Table}
 use Rattle.tl_table.specs.declared.layout.Layout.{Layout}
 use Rattle.tl_table.specs.Chains.{IsChain}
 use Rattle.tl_table.specs.Layouts.{Fits}
-use Rattle.tl_table.specs.Refused.{HasSomeGrid, IsFirstWithoutGrid, tables_of}
+use Rattle.tl_table.specs.Refused.{HasSomeGrid, IsFirstWithoutGrid, numbered_shapes}
 use Rattle.tl_table.specs.Same.{AreSame}
 use Rattle.tl_table.specs.Sound.{IsSound, nested_in_table}
 use Rattle.tl_table.specs.Spells.{Spells}
@@ -30,8 +30,8 @@ NoPageIsNarrowerThanAChain = (table : Table) (style : Style) (chains : List Chai
 -- the first table of a sound tree without a grid is the first by number: each of a lesser number has one
 abbrev pub TheFirstHasTheLeastNumber : Type 0
 TheFirstHasTheLeastNumber = (node : TableNode) (number : ℕ) (cause : GridError) → IsSoundTree node →
-    IsFirstWithoutGrid (tables_of node) number cause →
-    AllByRecursion (λ table. table.number < number → HasSomeGrid table) (tables_of node)
+    IsFirstWithoutGrid (numbered_shapes node) number cause →
+    AllByRecursion (λ table. table.number < number → HasSomeGrid table) (numbered_shapes node)
 
 -- each number from the table's own on, up to that of the last table inside, is that of one table
 abbrev pub EachNumberIsOfOneTable : Type 0

@@ -80,8 +80,9 @@ part_of_group = fold-GroupNode (List NumberedShape) CellPart GroupPart (List Num
     block_part cell_part group_part table_part
 
 -- a table and those in it at all depths, in the order in which they begin
-abbrev pub tables_of : TableNode → List NumberedShape
-tables_of = fold-TableNode (List NumberedShape) CellPart GroupPart (List NumberedShape) block_part cell_part group_part table_part
+abbrev pub numbered_shapes : TableNode → List NumberedShape
+numbered_shapes =
+    fold-TableNode (List NumberedShape) CellPart GroupPart (List NumberedShape) block_part cell_part group_part table_part
 
 -- ---- the first without a grid
 
@@ -106,7 +107,7 @@ AreRefused tables (errors.Grid number cause) = IsFirstWithoutGrid tables number 
 
 -- the error is that of the first table of the tree without a grid
 abbrev pub HasNoGrid : TableNode → FormError → Type 0
-HasNoGrid node error = AreRefused (tables_of node) error
+HasNoGrid node error = AreRefused (numbered_shapes node) error
 
 -- the tables in a flow, at all depths, in the order in which they begin
 abbrev pub tables_in_flow : List Block → List NumberedShape

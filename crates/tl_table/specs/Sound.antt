@@ -27,20 +27,20 @@ abbrev pub cell_count : open_content.TableCell-F ℕ ℕ ℕ → ℕ
 cell_count cell = 1 + sum_by (λ block. block) cell.blocks
 
 -- a table counts its cells
-abbrev pub table_count : open_content.Table-F ℕ ℕ ℕ → ℕ
-table_count table = sum_by (λ cell. cell) table.cells
+abbrev pub cells_in_table : open_content.Table-F ℕ ℕ ℕ → ℕ
+cells_in_table table = sum_by (λ cell. cell) table.cells
 
 -- the number of cells of a table, and the bytes and breaks of their paragraphs, those of nested tables included
 abbrev pub table_size : Table → ℕ
-table_size = fold-Table ℕ ℕ ℕ content_count table_count cell_count
+table_size = fold-Table ℕ ℕ ℕ content_count cells_in_table cell_count
 
 -- 1 for the cell, the bytes and breaks of its paragraphs, and the sizes of the tables nested in it
 abbrev pub cell_size : TableCell → ℕ
-cell_size = fold-TableCell ℕ ℕ ℕ content_count table_count cell_count
+cell_size = fold-TableCell ℕ ℕ ℕ content_count cells_in_table cell_count
 
 -- the bytes and breaks of a block that is a paragraph, the size of one that is a nested table
 abbrev pub content_size : Content → ℕ
-content_size = fold-Content ℕ ℕ ℕ content_count table_count cell_count
+content_size = fold-Content ℕ ℕ ℕ content_count cells_in_table cell_count
 
 -- ---- how many tables a table has inside, by a fold over it
 
@@ -119,9 +119,9 @@ abbrev pub ComesBefore : Place → Place → Type 0
 ComesBefore first second = (first.top < second.top) ⊎ ((first.top ≡ second.top) × (first.left < second.left))
 
 -- a block that is a paragraph has units or breaks, each unit with its text
-abbrev pub IsSpelt : OpenContent → Type 0
-IsSpelt (open_content.Para paragraph) = IsParagraph paragraph
-IsSpelt (open_content.Table box) = Unit {0}
+abbrev pub IsSpeltBlock : OpenContent → Type 0
+IsSpeltBlock (open_content.Para paragraph) = IsParagraph paragraph
+IsSpeltBlock (open_content.Table box) = Unit {0}
 
 -- a table whose grid is sound; `sound` says the same of the tables nested directly in it
 pub record IsSoundBy (sound : Table → Type 0) (table : OpenTable) : Type 0 where
@@ -134,7 +134,7 @@ pub record IsSoundBy (sound : Table → Type 0) (table : OpenTable) : Type 0 whe
   pub columns : (column : ℕ) → column < table.cols → HasAnchorInColumn (places_of table) column
   pub rows : (row : ℕ) → row < table.rows → HasAnchorInRow (places_of table) row
   pub narrow : All (λ cell. (out-TableCell cell).least ≤ MAX_PAGE_WIDTH) table.cells
-  pub spelt : All (λ cell. AllByRecursion (λ block. IsSpelt (out-Content block)) (out-TableCell cell).blocks) table.cells
+  pub spelt : All (λ cell. AllByRecursion (λ block. IsSpeltBlock (out-Content block)) (out-TableCell cell).blocks) table.cells
   -- the tables inside have the numbers that follow the table's own, in some order, as footers move
   pub numbered : IsPermutation (numbers_inside table) (range_with_len (table.number + 1) (count_inside table))
   pub inner : AllByRecursion sound (inner_tables table)
@@ -144,14 +144,15 @@ abbrev pub IsSoundWithin : ℕ → Table → Type 0
 IsSoundWithin zero table = ⊥
 IsSoundWithin (suc depth) table = IsSoundBy (IsSoundWithin depth) (out-Table table)
 
--- a sound table within the limits of depth, of tables and of a file's size
+-- a sound table within the limits of depth, of tables and of a file's size: each cell counts beside the bytes of its text,
+-- and in a file of CSV one cell has no separator
 pub record IsSound (table : Table) : Type 0 where
   pub depth : ℕ
   pub shallow : depth ≤ MAX_DEPTH
   pub sound : IsSoundWithin depth table
   -- the greatest number inside
   pub few_tables : (out-Table table).number + nested_in_table table < MAX_TABLES
-  pub size : table_size table ≤ MAX_FILE_BYTES
+  pub size : table_size table ≤ MAX_FILE_BYTES + 1
 
 -- a block that is a table is sound
 abbrev pub IsSoundBlock : OpenContent → Type 0

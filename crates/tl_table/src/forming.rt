@@ -19,7 +19,7 @@ ghost use Rattle.tl_table.specs.declared.cell.TableCell.{out-TableCell};
 ghost use Rattle.tl_table.specs.declared.error.FormError.{FormError};
 ghost use Rattle.tl_table.specs.declared.error.FormError.TheVariants.{Memory};
 ghost use Rattle.tl_table.specs.Formed.{Becomes, BecomesContent, BecomeContents, BecomesCell, BecomeCaption, Writes, slot_number};
-ghost use Rattle.tl_table.specs.Formed.{caption_rows, cells_of_group, cells_written, kind_of, lowered, shape_of};
+ghost use Rattle.tl_table.specs.Formed.{caption_rows, cells_of_group, cells_written, header_kind, lowered, shape_of};
 ghost use Rattle.tl_table.specs.Refused.{AreRefused, HasNoGrid, tables_in_block, part_of_cell, part_of_group};
 ghost use Rattle.tl_table.specs.Same.{ReturnsTable};
 ghost use Rattle.tl_table.specs.Sound.{IsSound as IsSoundTable, place_of};
@@ -109,7 +109,7 @@ fn in_order(mut cells: Vec<TableCell>) -> Result<Vec<TableCell>, AllocError>
 
 /// What a cell is by its tag: a header cell, or any other.
 fn kind_of(head: bool) -> Kind
-    ensures { result ≡ kind_of head }
+    ensures { result ≡ header_kind head }
 {
     if head { Kind::Head } else { Kind::Plain }
 }

@@ -7,8 +7,8 @@ ghost use Rattle.tl_table.specs.declared.cell.TableCell.{out-TableCell};
 ghost use Rattle.tl_table.specs.Chains.{IsHeaviestChain, own_width, widest_in};
 ghost use Rattle.tl_table.specs.Least.{IsLeastWidth};
 ghost use Rattle.tl_table.specs.Sound.{IsSound, table_size, IsSoundBlock, IsSoundCell};
-ghost use Rattle.tl_table.specs.inner.Demands.{AreSmall, IsRowOf};
-ghost use Rattle.tl_table.specs.inner.LeastRooms.{AreDemandsOf, IsLeastRoom};
+ghost use Rattle.tl_table.specs.inner.Demands.{AreSmallDemands, IsRowOf};
+ghost use Rattle.tl_table.specs.inner.LeastRooms.{AreDemandsOf, IsLeastCellRoom};
 ghost use Rattle.tl_table.specs.inner.Links.{AreOthers, IsLinked, IsLinkedBy};
 
 use crate::cell::{Content, Table, TableCell};
@@ -87,7 +87,7 @@ fn heaviest_of(
     requires sound { IsSound table.now }
     requires column { 0 < (out-Table table.now).cols }
     requires each { AreDemandsOf style (out-Table table.now).cells demands.now }
-    requires small { AreSmall demands.now (table_size table.now) }
+    requires small { AreSmallDemands demands.now (table_size table.now) }
     ensures least { IfOk result (λ chain. IsLeastWidth table.now style chain.weight) }
     ensures chain { IfOk result (λ chain. IsRowOf style (out-Table table.now).cols demands.now chain.numbers chain.weight) }
 {
@@ -132,7 +132,7 @@ pub fn narrow_chain(alloc: Global, table: &Table, style: Style) -> Result<List<C
 #[cycle(narrow)]
 fn link_of(alloc: Global, cell: &TableCell, width: u32, style: Style) -> Result<Linked, AllocError>
     requires sound { IsSoundCell (out-TableCell cell.now) }
-    requires least { IsLeastRoom style (out-TableCell cell.now) width }
+    requires least { IsLeastCellRoom style (out-TableCell cell.now) width }
     ensures { IfOk result (IsLinked style (out-TableCell cell.now) width) }
 {
     if own_width(cell) >= width {

@@ -5,7 +5,7 @@ ghost use Rattle.std.specs.List.{All, Any};
 ghost use Rattle.std.specs.List.Sorted.{IsPermutation, IsNonDecreasingBy};
 ghost use Rattle.tl_base.specs.Style.{gap_of};
 ghost use Rattle.tl_table.specs.inner.Demands.{AreDemands, IsPlacedDemand, IsLeastFor, IsRowOf, HaveArcs, arc_of};
-ghost use Rattle.tl_table.specs.inner.Demands.{most_gaps, number_at};
+ghost use Rattle.tl_table.specs.inner.Demands.{most_gaps, demand_number};
 ghost use Rattle.tl_diff.specs.Paths.{IsHeaviest, IsPath, InOrder, LeadForward, path_weight, total_weight};
 
 use std::alloc::{AllocError, Global};
@@ -96,7 +96,7 @@ fn plain_arcs(alloc: Global, arcs: &[NumberedArc]) -> Result<Vec<Arc>, AllocErro
 /// The numbers of the demands along a path.
 fn numbers_along(alloc: Global, path: &[u32], arcs: &[NumberedArc]) -> Result<List<u32>, AllocError>
     requires { All (λ i. i < length arcs.now) path.now }
-    ensures { IfOk result (λ numbers. numbers ≡ map (number_at arcs.now) path.now) }
+    ensures { IfOk result (λ numbers. numbers ≡ map (demand_number arcs.now) path.now) }
 {
     let mut numbers = List::new(alloc);
     for i in path {

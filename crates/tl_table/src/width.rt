@@ -7,8 +7,8 @@ ghost use Rattle.tl_table.specs.declared.cell.Table.{out-Table};
 ghost use Rattle.tl_table.specs.declared.cell.TableCell.{out-TableCell};
 ghost use Rattle.tl_table.specs.Least.{IsLeastWidth};
 ghost use Rattle.tl_table.specs.Sound.{IsSound, table_size, cell_size, content_size, IsSoundBlock, IsSoundCell};
-ghost use Rattle.tl_table.specs.inner.Demands.{AreDemands, AreSmall, IsLeastFor, most_gaps, most_width};
-ghost use Rattle.tl_table.specs.inner.LeastRooms.{AreDemandsOf, IsLeastForBlock, IsLeastRoom};
+ghost use Rattle.tl_table.specs.inner.Demands.{AreDemands, AreSmallDemands, IsLeastFor, most_gaps, most_width};
+ghost use Rattle.tl_table.specs.inner.LeastRooms.{AreDemandsOf, IsLeastForBlock, IsLeastCellRoom};
 
 use crate::cell::{Content, Table, TableCell};
 use crate::widest::{Demand, heaviest_chain};
@@ -43,7 +43,7 @@ fn width_by(
 ) -> Result<u32, AllocError>
     requires sound { IsSound table.now }
     requires each { AreDemandsOf style (out-Table table.now).cells demands.now }
-    requires small { AreSmall demands.now (table_size table.now) }
+    requires small { AreSmallDemands demands.now (table_size table.now) }
     ensures least { IfOk result (IsLeastWidth table.now style) }
     ensures small { IfOk result (λ width. width ≤ most_width (table_size table.now)) }
 {
@@ -56,7 +56,7 @@ fn width_by(
 pub fn demands_of(alloc: Global, table: &Table, style: Style) -> Result<Vec<Demand>, AllocError>
     requires { IsSound table.now }
     ensures each { IfOk result (λ demands. AreDemandsOf style (out-Table table.now).cells demands.items) }
-    ensures small { IfOk result (λ demands. AreSmall demands.items (table_size table.now)) }
+    ensures small { IfOk result (λ demands. AreSmallDemands demands.items (table_size table.now)) }
 {
     let mut demands = Vec::new(alloc);
     for cell in table.cells.as_slice() {
@@ -74,7 +74,7 @@ pub fn demands_of(alloc: Global, table: &Table, style: Style) -> Result<Vec<Dema
 #[cycle(width)]
 fn cell_width(alloc: Global, cell: &TableCell, style: Style) -> Result<u32, AllocError>
     requires { IsSoundCell (out-TableCell cell.now) }
-    ensures least { IfOk result (IsLeastRoom style (out-TableCell cell.now)) }
+    ensures least { IfOk result (IsLeastCellRoom style (out-TableCell cell.now)) }
     ensures small { IfOk result (λ width. width + most_gaps ≤ most_width (cell_size cell.now)) }
 {
     let mut width = cell.least;

@@ -17,7 +17,7 @@ use Rattle.tl_base.proofs.Texts.{byte_count-append}
 use Rattle.tl_text.specs.declared.paragraph.Atom.{Atom}
 use Rattle.tl_text.specs.declared.paragraph.Atom.TheVariants.{Word, Glue, Break}
 use Rattle.tl_base.specs.Text.{byte_count}
-use Rattle.tl_text.specs.Paragraph.{IsSolid, IsSpelt, IsParagraph, atom_size}
+use Rattle.tl_text.specs.Paragraph.{IsSolid, IsSpeltAtom, IsParagraph, atom_size}
 use Rattle.tl_text.specs.Cuttings.{joined}
 use Rattle.tl_text.specs.Clusters.{clusters_of, word_of, units_of, by_clusters}
 use Rattle.tl_text.proofs.Leading.{leads, leads_is}
@@ -128,13 +128,13 @@ word_of-more (first ∷ others) text = ap (λ (units : List Atom). Word first �
 -- ---- a separated paragraph is a paragraph
 
 -- units whose texts are solid
-spelt-glues : (texts : List (List ℕ)) (rest : List Atom) → AllByRecursion IsSolid texts → AllByRecursion IsSpelt rest
-    → AllByRecursion IsSpelt (map Glue texts ++ rest)
+spelt-glues : (texts : List (List ℕ)) (rest : List Atom) → AllByRecursion IsSolid texts → AllByRecursion IsSpeltAtom rest
+    → AllByRecursion IsSpeltAtom (map Glue texts ++ rest)
 spelt-glues [] rest each after = after
 spelt-glues (text ∷ texts) rest each after = (each.0, spelt-glues texts rest each.1 after)
 
-spelt-word : (texts : List (List ℕ)) (rest : List Atom) → AllByRecursion IsSolid texts → AllByRecursion IsSpelt rest
-    → AllByRecursion IsSpelt (word_of texts ++ rest)
+spelt-word : (texts : List (List ℕ)) (rest : List Atom) → AllByRecursion IsSolid texts → AllByRecursion IsSpeltAtom rest
+    → AllByRecursion IsSpeltAtom (word_of texts ++ rest)
 spelt-word [] rest each after = after
 spelt-word (text ∷ texts) rest each after = (each.0, spelt-glues texts rest each.1 after)
 
@@ -154,13 +154,13 @@ solid-clusters text is = all-cut (λ c. is_ascii_whitespace c ≡ false) IsSolid
     each (c ∷ cs) is = let parts = or_parts (is_ascii_whitespace c) _ is in (parts.0, each cs parts.1)
 
 -- units that are spelt stay so
-spelt-units : (atom : Atom) (rest : List Atom) → IsSpelt atom → AllByRecursion IsSpelt rest →
-    AllByRecursion IsSpelt (units_of atom ++ rest)
+spelt-units : (atom : Atom) (rest : List Atom) → IsSpeltAtom atom → AllByRecursion IsSpeltAtom rest →
+    AllByRecursion IsSpeltAtom (units_of atom ++ rest)
 spelt-units (Word text) rest is after = spelt-word (clusters_of text) rest (solid-clusters text is.1) after
 spelt-units (Glue text) rest is after = (is, after)
 spelt-units Break rest is after = (is, after)
 
-spelt-separated : (atoms : List Atom) → AllByRecursion IsSpelt atoms → AllByRecursion IsSpelt (by_clusters atoms)
+spelt-separated : (atoms : List Atom) → AllByRecursion IsSpeltAtom atoms → AllByRecursion IsSpeltAtom (by_clusters atoms)
 spelt-separated [] each = tt
 spelt-separated (atom ∷ atoms) each = spelt-units atom (by_clusters atoms) each.0 (spelt-separated atoms each.1)
 
@@ -211,7 +211,7 @@ leads-word begins (c ∷ text) rest some =
     let (first, others, is) = some-cluster c text in
     ap (λ texts. leads begins (word_of texts ++ rest)) is ∙ leads-glues others rest
 
-leads-separated : (begins : Bool) (atoms : List Atom) → AllByRecursion IsSpelt atoms →
+leads-separated : (begins : Bool) (atoms : List Atom) → AllByRecursion IsSpeltAtom atoms →
     leads begins (by_clusters atoms) ≡ leads begins atoms
 leads-separated begins [] each = refl
 leads-separated begins (Word text ∷ atoms) each = leads-word begins text (by_clusters atoms)
@@ -221,7 +221,7 @@ leads-separated false (Glue text ∷ atoms) each = leads-separated false atoms e
 leads-separated begins (Break ∷ atoms) each = leads-separated true atoms each.1
 
 -- an atom that is spelt gives a unit or stays a break
-some-units : (atom : Atom) → IsSpelt atom → 0 < length (units_of atom)
+some-units : (atom : Atom) → IsSpeltAtom atom → 0 < length (units_of atom)
 some-units (Word []) is = absurd (omega (arith, is.0))
 some-units (Word (c ∷ text)) is =
     let (first, others, same) = some-cluster c text in
@@ -230,17 +230,17 @@ some-units (Word (c ∷ text)) is =
 some-units (Glue text) is = omega arith
 some-units Break is = omega arith
 
-some-separated : (atoms : List Atom) → 0 < length atoms → AllByRecursion IsSpelt atoms → 0 < length (by_clusters atoms)
+some-separated : (atoms : List Atom) → 0 < length atoms → AllByRecursion IsSpeltAtom atoms → 0 < length (by_clusters atoms)
 some-separated [] some each = absurd (omega arith)
 some-separated (atom ∷ atoms) some each = omega (arith, length-append (units_of atom) (by_clusters atoms), some-units atom each.0)
 
 -- a paragraph that is separated into clusters is a paragraph
 pub separated_paragraph : (atoms : List Atom) → IsParagraph atoms → IsParagraph (by_clusters atoms)
 separated_paragraph atoms is =
-    let each = recursion_from_All IsSpelt atoms is.spelt in
+    let each = recursion_from_All IsSpeltAtom atoms is.spelt in
     record {
       has_atom = some-separated atoms is.has_atom each;
       begun = sym (leads_is true (by_clusters atoms)) ∙ leads-separated true atoms each ∙ leads_is true atoms ∙ is.begun;
-      spelt = All-from_recursion IsSpelt (by_clusters atoms) (spelt-separated atoms each);
+      spelt = All-from_recursion IsSpeltAtom (by_clusters atoms) (spelt-separated atoms each);
       size = omega (arith, size-separated atoms, is.size);
     }

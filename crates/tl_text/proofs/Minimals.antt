@@ -13,7 +13,7 @@ use Rattle.tl_text.specs.declared.paragraph.Atom.{Atom}
 use Rattle.tl_text.specs.Cuttings.{HasCutting, LeastLines, joined}
 use Rattle.tl_text.specs.Minimal.{IsMinimal}
 use Rattle.std.proofs.lemmas.List.Elements.{All-from_recursion}
-use Rattle.tl_text.specs.inner.Measure.{measure_of, lines_after, columns_of}
+use Rattle.tl_text.specs.inner.Measure.{measure_of, lines_after, unit_columns}
 use Rattle.tl_text.specs.declared.filling.Filling.{Filling}
 use Rattle.tl_text.specs.declared.measure.Measure.{Measure}
 use Rattle.tl_text.proofs.Paragraphs.{AllFit, AllFit-wider, LeastLines-falls, greedy_cut, greedy_cut-least, columns_of-measure_of}
@@ -231,16 +231,17 @@ IsFlat-from atoms units width filling measured fit lines = λ w low high.
     measured ∙ lines_after-start w atoms in
     subst (λ n. LeastLines w atoms n) (sym same) (greedy_cut-least w atoms (AllFit-wider width w atoms low fit))
 
-measures-fit : (w : ℕ) (atoms : List Atom) → AllFit w atoms → AllByRecursion (λ unit. columns_of unit ≤ w) (map measure_of atoms)
+measures-fit : (w : ℕ) (atoms : List Atom) → AllFit w atoms →
+    AllByRecursion (λ unit. unit_columns unit ≤ w) (map measure_of atoms)
 measures-fit w [] fit = tt
 measures-fit w (atom ∷ atoms) fit = (omega (arith, columns_of-measure_of atom, fit.0), measures-fit w atoms fit.1)
 
 -- the units fit where the atoms do
 pub units-fit : (w : ℕ) (atoms : List Atom) (units : List Measure) → units ≡ map measure_of atoms → AllFit w atoms →
-    All (λ unit. columns_of unit ≤ w) units
+    All (λ unit. unit_columns unit ≤ w) units
 units-fit w atoms units measured fit =
-    subst (λ us. All (λ unit. columns_of unit ≤ w) us) (sym measured)
-    (All-from_recursion (λ unit. columns_of unit ≤ w) (map measure_of atoms) (measures-fit w atoms fit))
+    subst (λ us. All (λ unit. unit_columns unit ≤ w) us) (sym measured)
+    (All-from_recursion (λ unit. unit_columns unit ≤ w) (map measure_of atoms) (measures-fit w atoms fit))
 
 pub length-units : (atoms : List Atom) (units : List Measure) → units ≡ map measure_of atoms → length units ≡ length atoms
 length-units atoms units measured = ap length measured ∙ length-map atoms measure_of

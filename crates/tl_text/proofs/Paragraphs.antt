@@ -9,7 +9,7 @@ use Rattle.tl_text.specs.declared.paragraph.Atom.TheVariants.{Word, Glue, Break}
 use Rattle.tl_text.specs.Paragraph.{unit_width, gap_before, lined_pieces}
 use Rattle.tl_text.specs.Cuttings.{line_width, joined, IsPieceCut, IsCutting, HoldsIn, HasCutting, FillsLines, IsGreedyCutting}
 use Rattle.tl_text.specs.Cuttings.{LeastLines}
-use Rattle.tl_text.specs.inner.Measure.{measure_of, columns_of}
+use Rattle.tl_text.specs.inner.Measure.{measure_of, unit_columns}
 use Rattle.std.proofs.lemmas.List.{take_more}
 use Rattle.tl_text.proofs.Widths.{units_within, at_choice}
 use Rattle.tl_text.proofs.Greedy.{piece_lines, more, more-least, fill-joined, fill-some, fill-holds, fill-filled, fill-length}
@@ -192,7 +192,7 @@ AllFit-wider v w [] wider each = tt
 AllFit-wider v w (atom ∷ atoms) wider each = (omega (arith, each.0), AllFit-wider v w atoms wider each.1)
 
 -- what breaking sees of an atom has its width
-pub columns_of-measure_of : (atom : Atom) → columns_of (measure_of atom) ≡ unit_width atom
+pub columns_of-measure_of : (atom : Atom) → unit_columns (measure_of atom) ≡ unit_width atom
 columns_of-measure_of (Word text) = refl
 columns_of-measure_of (Glue text) = refl
 columns_of-measure_of Break = refl

@@ -14,7 +14,7 @@ use Rattle.tl_text.specs.declared.ranges.Line.{Line}
 use Rattle.tl_text.specs.Paragraph.{unit_width, gap_before, lined_pieces}
 use Rattle.tl_text.specs.Cuttings.{line_width, joined, LeastLines}
 use Rattle.tl_text.specs.inner.Measure.{measure_of, next_line, ends_line}
-use Rattle.tl_text.specs.Ranges.{AreInOrder, ShowsLine, ShowsGreedyCutting}
+use Rattle.tl_text.specs.Ranges.{AreConsecutive, ShowsLine, ShowsGreedyCutting}
 use Rattle.tl_text.proofs.Widths.{line_width-push}
 use Rattle.tl_text.proofs.Greedy.{fill, piece_lines, line_width-single}
 use Rattle.tl_text.proofs.Paragraphs.{AllFit, greedy_cut, greedy_cut-IsGreedyCutting, greedy_cut-least}
@@ -165,8 +165,8 @@ starts w (first ∷ line) (Glue text) atoms ended unit =
 -- ---- ranges
 
 -- one more range after those before it
-AreInOrder-push : (from : ℕ) (ranges : List Line) (first past : ℕ) → AreInOrder from ranges first → first < past
-    → AreInOrder from (ranges ++ record { first = first; past = past } ∷ []) past
+AreInOrder-push : (from : ℕ) (ranges : List Line) (first past : ℕ) → AreConsecutive from ranges first → first < past
+    → AreConsecutive from (ranges ++ record { first = first; past = past } ∷ []) past
 AreInOrder-push from [] first past before some = (sym before, some, refl)
 AreInOrder-push from (range ∷ ranges) first past before some =
     (before.0, before.1, AreInOrder-push range.past ranges first past before.2 some)
@@ -178,7 +178,7 @@ pub record IsCutUpTo (w : ℕ) (atoms : List Atom) (n first : ℕ) (line : Optio
   pub place : first + length units ≡ n
   pub here : drop first atoms ≡ units ++ drop n atoms
   pub width : line ≡ width_if_any units
-  pub in_order : AreInOrder 0 ranges first
+  pub in_order : AreConsecutive 0 ranges first
   pub shown : AllZip (ShowsLine atoms) ranges done
   pub rest : done ++ lines_from w units (drop n atoms) ≡ joined (greedy_cut w atoms)
 
@@ -353,16 +353,17 @@ module _ (w : ℕ) (atoms : List Atom) (first : ℕ) (line : Option ℕ) (ranges
   rest_end : cut.done ++ lines_from w cut.units [] ≡ joined (greedy_cut w atoms)
   rest_end = ap (λ l. cut.done ++ lines_from w cut.units l) (sym none_left) ∙ cut.rest
 
-  pub cut_all : line ≡ None → AreInOrder 0 ranges (length atoms) × AllZip (ShowsLine atoms) ranges (joined (greedy_cut w atoms))
+  pub cut_all : line ≡ None → AreConsecutive 0 ranges (length atoms)
+      × AllZip (ShowsLine atoms) ranges (joined (greedy_cut w atoms))
   cut_all none =
       let empty = no_units cut.units (sym none ∙ cut.width) in
       let end : first ≡ length atoms = omega (arith, cut.place, ap length empty) in (
-        subst (λ past. AreInOrder 0 ranges past) end cut.in_order,
+        subst (λ past. AreConsecutive 0 ranges past) end cut.in_order,
         subst (λ lines. AllZip (ShowsLine atoms) ranges lines)
             (sym (append-nil cut.done) ∙ ap (λ units. cut.done ++ lines_from w units []) (sym empty) ∙ rest_end) cut.shown,
       )
 
-  pub cut_last : IsSome line → AreInOrder 0 (ranges ++ record { first = first; past = length atoms } ∷ []) (length atoms)
+  pub cut_last : IsSome line → AreConsecutive 0 (ranges ++ record { first = first; past = length atoms } ∷ []) (length atoms)
       × AllZip (ShowsLine atoms) (ranges ++ record { first = first; past = length atoms } ∷ []) (joined (greedy_cut w atoms))
   cut_last some =
       let both = some_units w cut.units (subst (λ o. IsSome o) cut.width some) in (
@@ -375,7 +376,7 @@ module _ (w : ℕ) (atoms : List Atom) (first : ℕ) (line : Option ℕ) (ranges
 
 -- the cutting that is shown is greedy, and has the least number of lines
 pub ShowsGreedyCutting-from : (w : ℕ) (atoms : List Atom) (ranges : List Line) → AllFit w atoms →
-    AreInOrder 0 ranges (length atoms)
+    AreConsecutive 0 ranges (length atoms)
     × AllZip (ShowsLine atoms) ranges (joined (greedy_cut w atoms)) → ShowsGreedyCutting w atoms ranges
 ShowsGreedyCutting-from w atoms ranges fit shows = record {
   cut = greedy_cut w atoms;
@@ -384,7 +385,7 @@ ShowsGreedyCutting-from w atoms ranges fit shows = record {
   shown = shows.1;
 }
 
-pub LeastLines-from : (w : ℕ) (atoms : List Atom) (ranges : List Line) → AllFit w atoms → AreInOrder 0 ranges (length atoms)
+pub LeastLines-from : (w : ℕ) (atoms : List Atom) (ranges : List Line) → AllFit w atoms → AreConsecutive 0 ranges (length atoms)
     × AllZip (ShowsLine atoms) ranges (joined (greedy_cut w atoms)) → LeastLines w atoms (length ranges)
 LeastLines-from w atoms ranges fit shows =
     subst (λ n. LeastLines w atoms n) (AllZip-long (ShowsLine atoms) ranges (joined (greedy_cut w atoms)) shows.1)

@@ -7,7 +7,7 @@ use Rattle.std.proofs.lemmas.Str.{length-le-encodes}
 use Rattle.tl_base.specs.declared.limits.TheConstants.{MAX_FILE_BYTES}
 use Rattle.tl_text.specs.declared.paragraph.Atom.{Atom}
 use Rattle.tl_text.specs.declared.paragraph.Atom.TheVariants.{Word, Glue, Break}
-use Rattle.tl_text.specs.Paragraph.{IsParagraph, IsSpelt, atom_size}
+use Rattle.tl_text.specs.Paragraph.{IsParagraph, IsSpeltAtom, atom_size}
 
 within : (n : ℕ) (atoms : List Atom) → sum_by atom_size atoms ≤ n → AllByRecursion (λ atom. atom_size atom ≤ n) atoms
 within n [] h = tt
@@ -20,15 +20,15 @@ pub small_atoms : (atoms : List Atom) → IsParagraph atoms → All (λ atom. at
 small_atoms atoms is = All-from_recursion (λ atom. atom_size atom ≤ MAX_FILE_BYTES) atoms (within MAX_FILE_BYTES atoms is.size)
 
 -- an atom that is spelt counts
-pub counts : (atom : Atom) → IsSpelt atom → 1 ≤ atom_size atom
+pub counts : (atom : Atom) → IsSpeltAtom atom → 1 ≤ atom_size atom
 counts (Word text) is = omega (arith, is.0, length-le-encodes text)
 counts (Glue text) is = omega (arith, is.0, length-le-encodes text)
 counts Break is = omega arith
 
-pub length-le : (atoms : List Atom) → AllByRecursion IsSpelt atoms → length atoms ≤ sum_by atom_size atoms
+pub length-le : (atoms : List Atom) → AllByRecursion IsSpeltAtom atoms → length atoms ≤ sum_by atom_size atoms
 length-le [] is = omega arith
 length-le (atom ∷ atoms) is = omega (arith, sum_by-cons atom_size atom atoms, counts atom is.0, length-le atoms is.1)
 
 -- there are no more atoms than the limit
 pub few_atoms : (atoms : List Atom) → IsParagraph atoms → length atoms ≤ MAX_FILE_BYTES
-few_atoms atoms is = omega (arith, is.size, length-le atoms (recursion_from_All IsSpelt atoms is.spelt))
+few_atoms atoms is = omega (arith, is.size, length-le atoms (recursion_from_All IsSpeltAtom atoms is.spelt))

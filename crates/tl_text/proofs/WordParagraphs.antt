@@ -14,7 +14,8 @@ use Rattle.tl_text.specs.declared.paragraph.Atom.{Atom}
 use Rattle.tl_text.specs.declared.paragraph.Atom.TheVariants.{Word}
 use Rattle.tl_base.specs.Text.{byte_count}
 use Rattle.tl_text.specs.Words.{words_of, has_character}
-use Rattle.tl_text.specs.Paragraph.{IsSolid, IsSpelt, IsParagraph, atom_size, lined_pieces, begins_with_glue, has_leading_glue}
+use Rattle.tl_text.specs.Paragraph.{IsSolid, IsSpeltAtom, IsParagraph, atom_size, lined_pieces, begins_with_glue}
+use Rattle.tl_text.specs.Paragraph.{has_leading_glue}
 
 -- a part of a text without white space
 abbrev IsClean : List ℕ → Type 0
@@ -86,7 +87,7 @@ words_size (part ∷ parts) = omega (
 )
 
 -- words as units that begin one
-spelt_words : (words : List (List ℕ)) → AllByRecursion IsSolid words → AllByRecursion IsSpelt (map Word words)
+spelt_words : (words : List (List ℕ)) → AllByRecursion IsSolid words → AllByRecursion IsSpeltAtom (map Word words)
 spelt_words [] solid = tt
 spelt_words (word ∷ words) solid = (solid.0, spelt_words words solid.1)
 
@@ -108,6 +109,15 @@ begun_words : (words : List (List ℕ)) → has_leading_glue (map Word words) �
 begun_words [] = refl
 begun_words (word ∷ words) = begun_more word (lined_pieces (map Word words)) (begun_words words)
 
+-- the units of a text's words count no more bytes than the text
+pub words_count : (text : List ℕ) → sum_by atom_size (map Word (words_of text)) ≤ byte_count text
+words_count text = omega (
+  arith,
+  atoms_size (words_of text),
+  words_size (slice_split is_ascii_whitespace text),
+  (parts_of text).1,
+)
+
 -- the words of a text within the limit are a paragraph
 pub words_are_paragraph : (text : List ℕ) → byte_count text ≤ MAX_FILE_BYTES → 0 < length (words_of text) →
     IsParagraph (map Word (words_of text))
@@ -116,7 +126,7 @@ words_are_paragraph text small some =
     record {
       has_atom = grind (arith, length-map);
       begun = begun_words (words_of text);
-      spelt = All-from_recursion IsSpelt (map Word (words_of text))
+      spelt = All-from_recursion IsSpeltAtom (map Word (words_of text))
           (spelt_words (words_of text) (solid_words (slice_split is_ascii_whitespace text) parts.0));
-      size = omega (arith, atoms_size (words_of text), words_size (slice_split is_ascii_whitespace text), parts.1);
+      size = omega (arith, words_count text);
     }

@@ -41,10 +41,10 @@ abbrev pub IsSolid : List ℕ → Type 0
 IsSolid text = (0 < length text) × (list_any is_ascii_whitespace text ≡ false)
 
 -- the text of a unit is solid; a break has none
-abbrev pub IsSpelt : Atom → Type 0
-IsSpelt (Word text) = IsSolid text
-IsSpelt (Glue text) = IsSolid text
-IsSpelt Break = Unit {0}
+abbrev pub IsSpeltAtom : Atom → Type 0
+IsSpeltAtom (Word text) = IsSolid text
+IsSpeltAtom (Glue text) = IsSolid text
+IsSpeltAtom Break = Unit {0}
 
 -- what an atom counts towards a paragraph's size: a unit its bytes, a break 1
 abbrev pub atom_size : Atom → ℕ
@@ -56,5 +56,5 @@ atom_size Break = 1
 pub record IsParagraph (atoms : List Atom) : Type 0 where
   pub has_atom : 0 < length atoms
   pub begun : has_leading_glue atoms ≡ false
-  pub spelt : All IsSpelt atoms
+  pub spelt : All IsSpeltAtom atoms
   pub size : sum_by atom_size atoms ≤ MAX_FILE_BYTES

@@ -11,10 +11,10 @@ use Rattle.tl_text.specs.Cuttings.{joined, IsGreedyCutting}
 
 -- each range has an atom and begins where the one before it ends: the first at `from`, and the
 -- last ends at `past`
-abbrev pub AreInOrder : ℕ → List Line → ℕ → Type 0
-AreInOrder from [] past = from ≡ past
-AreInOrder from (range ∷ ranges) past =
-    (range.first ≡ from) × (range.first < range.past) × AreInOrder range.past ranges past
+abbrev pub AreConsecutive : ℕ → List Line → ℕ → Type 0
+AreConsecutive from [] past = from ≡ past
+AreConsecutive from (range ∷ ranges) past =
+    (range.first ≡ from) × (range.first < range.past) × AreConsecutive range.past ranges past
 
 -- the range has the line's units, and at most a break after them
 abbrev pub ShowsLine : List Atom → Line → List Atom → Type 0
@@ -26,7 +26,7 @@ ShowsLine atoms range line =
 pub record ShowsGreedyCutting (w : ℕ) (atoms : List Atom) (ranges : List Line) : Type 0 where
   pub cut : List (List (List Atom))
   pub greedy : IsGreedyCutting w atoms cut
-  pub in_order : AreInOrder 0 ranges (length atoms)
+  pub in_order : AreConsecutive 0 ranges (length atoms)
   pub shown : AllZip (ShowsLine atoms) ranges (joined cut)
 
 -- the atom at `place` is wider than `w`, and none before it is

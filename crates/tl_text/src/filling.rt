@@ -3,7 +3,7 @@
 ghost use Rattle.std.specs.Prelude.{◌≡◌, ◌+◌, ◌-◌, ◌<◌, ◌≤◌, ◌^◌, ℕ, List, [], ◌∷◌, None, IfSome, if◌then◌else◌};
 ghost use Rattle.std.specs.Option.{ForSome};
 ghost use Rattle.tl_text.specs.declared.measure.Measure.{Measure};
-ghost use Rattle.tl_text.specs.inner.Measure.{lines_after, next_line, ends_line, columns_of};
+ghost use Rattle.tl_text.specs.inner.Measure.{lines_after, next_line, ends_line, unit_columns};
 
 use crate::measure::Measure;
 
@@ -34,7 +34,7 @@ impl Filling {
 
     /// Puts an atom after those so far, in lines of `width` columns.
     pub fn with(self, measure: Measure, width: u32) -> Filling
-        requires fits { columns_of measure ≤ width }
+        requires fits { unit_columns measure ≤ width }
         requires line { ForSome self.line (λ used. used ≤ width) }
         requires room { self.ended < 2 ^ 32 - 1 }
         requires next { width < self.next }

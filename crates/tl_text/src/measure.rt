@@ -1,7 +1,7 @@
 //! Atoms as breaking sees them: columns and gaps.
 
 ghost use Rattle.std.specs.Prelude.{◌≡◌, ◌*◌, ◌≤◌};
-ghost use Rattle.tl_text.specs.inner.Measure.{measure_of, columns_of};
+ghost use Rattle.tl_text.specs.inner.Measure.{measure_of, unit_columns};
 ghost use Rattle.tl_text.specs.Paragraph.{atom_size};
 
 use crate::{Atom, word_width};
@@ -20,7 +20,7 @@ pub enum Measure {
 impl Measure {
     /// The columns of a unit; a break takes none.
     pub fn width(self) -> u32
-        ensures { result ≡ columns_of self }
+        ensures { result ≡ unit_columns self }
     {
         match self {
             Measure::Columns { width, .. } => width,
@@ -33,7 +33,7 @@ impl Measure {
 pub fn measured(atom: &Atom) -> Measure
     requires { atom_size atom.now ≤ MAX_FILE_BYTES }
     ensures measure { result ≡ measure_of atom.now }
-    ensures bytes { columns_of result ≤ 2 * atom_size atom.now }
+    ensures bytes { unit_columns result ≤ 2 * atom_size atom.now }
 {
     match atom {
         Atom::Word(text) => Measure::Columns {

@@ -4,7 +4,7 @@ ghost use Rattle.std.specs.Prelude.{◌≡◌, ◌+◌, ◌-◌, ◌^◌, ◌≤
 ghost use Rattle.std.specs.List.{All};
 ghost use Rattle.tl_text.specs.Cuttings.{HasCutting};
 ghost use Rattle.tl_text.specs.Minimal.{AreMinimal};
-ghost use Rattle.tl_text.specs.inner.Measure.{measure_of, lines_after, columns_of};
+ghost use Rattle.tl_text.specs.inner.Measure.{measure_of, lines_after, unit_columns};
 
 use crate::filling::Filling;
 use crate::measure::{Measure, measured};
@@ -61,7 +61,7 @@ fn measures(alloc: Global, p: &Para) -> Result<List<Measure>, AllocError>
 /// The lines of `width` columns that are filled with all of the units. At each width from `width`
 /// on, up to the next one worth trying, there are as many.
 fn filled(units: &[Measure], width: u32, most: u32) -> Filling
-    requires fits { All (λ unit. columns_of unit ≤ width) units.now }
+    requires fits { All (λ unit. unit_columns unit ≤ width) units.now }
     requires width { width ≤ most }
     requires few { length units.now < 2 ^ 32 - 1 }
     ensures lines { (w : ℕ) → width ≤ w → w < result.next

@@ -4,7 +4,7 @@ ghost use Rattle.std.specs.Prelude.{◌≡◌, ◌↔◌, ◌≤◌, IsTrue, Som
 ghost use Rattle.std.specs.Char.{is_ascii_whitespace};
 ghost use Rattle.std.specs.List.{All, list_any};
 ghost use Rattle.std.specs.Str.{chars};
-ghost use Rattle.tl_text.specs.Paragraph.{IsParagraph, IsSolid, IsSpelt, atom_size, has_leading_glue};
+ghost use Rattle.tl_text.specs.Paragraph.{IsParagraph, IsSolid, IsSpeltAtom, atom_size, has_leading_glue};
 
 use std::marker::Model;
 use tl_base::{List, MAX_FILE_BYTES, Text};
@@ -99,7 +99,7 @@ fn has_leading_glue(atoms: &[Atom]) -> bool
 
 /// Whether a unit has a text without white space.
 fn is_spelt(atom: &Atom) -> bool
-    ensures { IsTrue result ↔ IsSpelt atom.now }
+    ensures { IsTrue result ↔ IsSpeltAtom atom.now }
 {
     match atom {
         Atom::Word(text) | Atom::Glue(text) => is_solid(text.as_str()),

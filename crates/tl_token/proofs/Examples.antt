@@ -3,7 +3,7 @@ use Rattle.std.proofs.Common.{◌≡◌, true, false, [], ◌∷◌, Some, None,
 use Rattle.std.specs.Prelude.{codes}
 use Rattle.std.specs.Str.{chars}
 use lib.Utf8.{encode}
-use Rattle.tl_token.specs.Numbers.{number_of, columns_of, rows_of, floor_of}
+use Rattle.tl_token.specs.Numbers.{number_of, columns_spanned, rows_spanned, floor_of}
 use Rattle.tl_token.specs.Elements.{element_of}
 use Rattle.tl_token.specs.Grammar.{past_first, Comment, unquoted, quoted, end, gap, attribute, IsTag, reference, hidden}
 use Rattle.tl_token.specs.Grammar.{character, plain}
@@ -88,10 +88,10 @@ below_zero = refl
 minus_zero : number_of (codes "-0") ≡ Some 0
 minus_zero = refl
 
-no_column : columns_of (Some 0) ≡ 1
+no_column : columns_spanned (Some 0) ≡ 1
 no_column = refl
 
-rows_to_the_end : rows_of (Some 0) ≡ 0
+rows_to_the_end : rows_spanned (Some 0) ≡ 0
 rows_to_the_end = refl
 
 high_floor : floor_of (Some 501) ≡ 500

@@ -2,14 +2,14 @@
 use Rattle.std.proofs.Common.{◌≡◌, ℕ, Bool, true, false, List, [], ◌∷◌, ◌++◌, Option, Some, None, refl, cond, min, unwrap_or}
 use Rattle.std.specs.Option.{option_map, option_and_then}
 use Rattle.std.specs.Prelude.{codes}
-use Rattle.tl_token.specs.Numbers.{number_of, columns_of, rows_of, floor_of}
+use Rattle.tl_token.specs.Numbers.{number_of, columns_spanned, rows_spanned, floor_of}
 use Rattle.tl_token.specs.Elements.{Attribute, is_word, value_of, attribute_number}
-use Rattle.tl_token.specs.inner.Found.{number_in, number_after, given_of, given_after}
+use Rattle.tl_token.specs.inner.Found.{number_in, attribute_number_after, given_of, given_after}
 use Rattle.tl_token.proofs.Saturating.{columns_below, rows_below, floor_below}
 
 -- one more attribute counts where no attribute of its name stands before it
 pub number_in-push : (word : List ℕ) (all : List Attribute) (a : Attribute) →
-    number_in word (all ++ a ∷ []) ≡ number_after (number_in word all) word a
+    number_in word (all ++ a ∷ []) ≡ attribute_number_after (number_in word all) word a
 number_in-push word [] a = by_test (is_word (a.name) word)
   where
     by_test : (b : Bool) → option_map (λ v. option_map (λ n. min n 4294967295) (number_of v)) (cond b (Some (a.value)) None)
@@ -21,31 +21,32 @@ number_in-push word (d ∷ all) a = by_test (is_word (d.name) word) (number_in-p
     as_number : Option (List ℕ) → Option (Option ℕ)
     as_number o = option_map (λ v. option_map (λ n. min n 4294967295) (number_of v)) o
 
-    by_test : (b : Bool) → number_in word (all ++ a ∷ []) ≡ number_after (number_in word all) word a
+    by_test : (b : Bool) → number_in word (all ++ a ∷ []) ≡ attribute_number_after (number_in word all) word a
         → option_map (λ v. option_map (λ n. min n 4294967295) (number_of v))
         (cond b (Some (d.value)) (value_of word (all ++ a ∷ [])))
-        ≡ number_after (option_map (λ v. option_map (λ n. min n 4294967295) (number_of v))
+        ≡ attribute_number_after (option_map (λ v. option_map (λ n. min n 4294967295) (number_of v))
         (cond b (Some (d.value)) (value_of word all))) word a
     by_test true h = refl
     by_test false h = h
 
 -- what the number of an attribute gives
-pub columns_in : (word : List ℕ) (all : List Attribute) → columns_of (unwrap_or (number_in word all) None) ≡ columns_of
+pub columns_in : (word : List ℕ) (all : List Attribute) → columns_spanned (unwrap_or (number_in word all) None) ≡ columns_spanned
     (attribute_number word all)
 columns_in word all = from (value_of word all)
   where
     from : (o : Option (List ℕ)) →
-        columns_of (unwrap_or (option_map (λ v. option_map (λ n. min n 4294967295) (number_of v)) o) None)
-        ≡ columns_of (option_and_then number_of o)
+        columns_spanned (unwrap_or (option_map (λ v. option_map (λ n. min n 4294967295) (number_of v)) o) None)
+        ≡ columns_spanned (option_and_then number_of o)
     from None = refl
     from (Some v) = columns_below (number_of v)
 
-pub rows_in : (word : List ℕ) (all : List Attribute) → rows_of (unwrap_or (number_in word all) None) ≡ rows_of
+pub rows_in : (word : List ℕ) (all : List Attribute) → rows_spanned (unwrap_or (number_in word all) None) ≡ rows_spanned
     (attribute_number word all)
 rows_in word all = from (value_of word all)
   where
-    from : (o : Option (List ℕ)) → rows_of (unwrap_or (option_map (λ v. option_map (λ n. min n 4294967295) (number_of v)) o) None)
-        ≡ rows_of (option_and_then number_of o)
+    from : (o : Option (List ℕ)) →
+        rows_spanned (unwrap_or (option_map (λ v. option_map (λ n. min n 4294967295) (number_of v)) o) None)
+        ≡ rows_spanned (option_and_then number_of o)
     from None = refl
     from (Some v) = rows_below (number_of v)
 

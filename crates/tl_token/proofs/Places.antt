@@ -7,12 +7,13 @@ use Rattle.std.specs.Prelude.{codes}
 use Rattle.std.specs.Char.{is_ascii_alphabetic}
 use Rattle.tl_token.specs.Characters.{◌∈◌, is_control, opens_markup}
 use Rattle.tl_token.specs.Elements.{Tag, element_of}
-use Rattle.tl_token.specs.Grammar.{past_first, Doctype, opening, IsTagName, IsTag, reference, hidden, tag, character, Stands}
+use Rattle.tl_token.specs.Grammar.{past_first, Doctype, opening, IsTagName, IsTag, reference, hidden, tag, character}
+use Rattle.tl_token.specs.Grammar.{LexemeStands}
 use Rattle.tl_token.specs.Grammar.{comment, doctype}
 use Rattle.tl_token.specs.Grammar.{markup, by_reference, plain, unended_tag, unended_comment, bad_tag, unknown_element}
 use Rattle.tl_token.specs.Grammar.{bad_reference, bad_character}
 use Rattle.tl_token.specs.Grammar.{IsUnendedTag, IsBadTag, FaultStands}
-use Rattle.tl_token.specs.inner.States.{tag_open, Outcome, reads, unended, wrong, read}
+use Rattle.tl_token.specs.inner.States.{tag_open, TagOutcome, reads, unended, wrong, read}
 use Rattle.tl_token.specs.inner.Reading.{Found, stands, faulty, closed_or, in_comment, comment_open, doctype_word, declaration}
 use Rattle.tl_token.specs.inner.Reading.{known_or_not}
 use Rattle.tl_token.specs.inner.Reading.{tag_found, angle, referred_or, standing}
@@ -25,7 +26,7 @@ use Rattle.tl_token.proofs.Doctypes.{Worded, WordIs, word_is, word_whole}
 
 -- what was found stands there
 abbrev pub Holds : List ℕ → Found → Type 0
-Holds cs (stands piece rest) = Stands cs piece rest
+Holds cs (stands piece rest) = LexemeStands cs piece rest
 Holds cs (faulty fault) = FaultStands fault cs
 
 -- a tag begins with `<`, and a letter or `/` follows it
@@ -50,7 +51,7 @@ no_tag_here cs t rest h = false≢true (tag_second 33 cs t rest h)
 -- a proper prefix of a tag
 unended_stands : (d : ℕ) (cs : List ℕ) → read tag_open (d ∷ cs) ≡ unended → IsUnendedTag (codes "<" ++ (d ∷ cs))
 unended_stands d cs h =
-    let F : Outcome → Type 0 = λ o. Further tag_open (d ∷ cs) o in
+    let F : TagOutcome → Type 0 = λ o. Further tag_open (d ∷ cs) o in
     let (u, live, same) = subst F h (further tag_open (d ∷ cs)) in
     let e = ending u live in
     inl (inl ((λ e. cc), e.more, e.some, (e.whole, tag_sound ((d ∷ cs) ++ e.more) (e.whole) [] (same (e.more) ∙ e.is_read))))
@@ -59,7 +60,7 @@ unended_stands d cs h =
 wrong_is_bad : (d : ℕ) (cs : List ℕ) → opens_markup d ≡ true → (d ∈ "!") ≡ false → read tag_open (d ∷ cs) ≡ wrong →
     IsBadTag (codes "<" ++ (d ∷ cs))
 wrong_is_bad d cs opens mark h =
-    let F : Outcome → Type 0 = λ o. Further tag_open (d ∷ cs) o in
+    let F : TagOutcome → Type 0 = λ o. Further tag_open (d ∷ cs) o in
     let stays = subst F h (further tag_open (d ∷ cs)) in
     let marked = λ (e : d ≡ 33). let P : ℕ → Type 0 = λ x. (x ∈ "!") ≡ false in false≢true (sym (subst P e mark)) in
     record {
@@ -81,7 +82,7 @@ wrong_is_bad d cs opens mark h =
       comment_ended = λ k. let e = k.opened in marked cc;
     }
 
-tag_holds : (d : ℕ) (cs : List ℕ) (o : Outcome) → opens_markup d ≡ true → (d ∈ "!") ≡ false → read tag_open (d ∷ cs) ≡ o
+tag_holds : (d : ℕ) (cs : List ℕ) (o : TagOutcome) → opens_markup d ≡ true → (d ∈ "!") ≡ false → read tag_open (d ∷ cs) ≡ o
     → Holds (codes "<" ++ (d ∷ cs)) (tag_found o)
 tag_holds d cs (reads t rest) opens mark h = known (element_of (t.name)) refl
   where

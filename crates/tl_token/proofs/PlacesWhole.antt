@@ -6,11 +6,12 @@ use Rattle.std.specs.Prelude.{codes}
 use Rattle.std.specs.Char.{is_ascii_alphabetic}
 use Rattle.tl_token.specs.Characters.{◌∈◌, is_control, opens_markup, begins}
 use Rattle.tl_token.specs.Elements.{Tag, element_of}
-use Rattle.tl_token.specs.Grammar.{Doctype, opening, IsTag, Piece, hidden, tag, character, Stands, comment, doctype, markup}
+use Rattle.tl_token.specs.Grammar.{Doctype, opening, IsTag, Lexeme, hidden, tag, character, LexemeStands, comment, doctype}
+use Rattle.tl_token.specs.Grammar.{markup}
 use Rattle.tl_token.specs.Grammar.{by_reference, plain}
 use Rattle.tl_token.specs.Grammar.{Fault, unended_tag, unended_comment, bad_tag, unknown_element, bad_reference, bad_character}
 use Rattle.tl_token.specs.Grammar.{IsBadTag, FaultStands}
-use Rattle.tl_token.specs.inner.States.{tag_open, Outcome, reads, unended, wrong, read}
+use Rattle.tl_token.specs.inner.States.{tag_open, TagOutcome, reads, unended, wrong, read}
 use Rattle.tl_token.specs.inner.Reading.{Found, stands, faulty, closed_or, declaration, known_or_not, tag_found, angle}
 use Rattle.tl_token.specs.inner.Reading.{referred_or, standing}
 use Rattle.tl_token.specs.declared.token.TokenKind.{TokenKind}
@@ -70,7 +71,7 @@ tag_is_read c (d ∷ cs) t rest h =
     ap (λ x. standing x (d ∷ cs)) is ∙ angle_tag d cs (tag_second d cs t rest k) ∙ ap tag_found (tag_whole (d ∷ cs) t rest k)
 
 -- each piece that stands at a place is found
-pub place_whole : (c : ℕ) (cs : List ℕ) (piece : Piece) (rest : List ℕ) → Stands (c ∷ cs) piece rest →
+pub place_whole : (c : ℕ) (cs : List ℕ) (piece : Lexeme) (rest : List ℕ) → LexemeStands (c ∷ cs) piece rest →
     standing c cs ≡ stands piece rest
 place_whole c cs _ rest (comment k) =
     let e = k.opened in
@@ -127,7 +128,7 @@ prefix_of_tag c (d ∷ cs) more t some h =
     none [] e = some e
     none (x ∷ xs) e = cc
 
-    from : (o : Outcome) → Further tag_open (d ∷ cs) o → read tag_open ((d ∷ cs) ++ more) ≡ reads t [] → o ≡ unended
+    from : (o : TagOutcome) → Further tag_open (d ∷ cs) o → read tag_open ((d ∷ cs) ++ more) ≡ reads t [] → o ≡ unended
     from (reads u rest) f e = let k = f more in let same : rest ++ more ≡ [] = cc in absurd (none rest same)
     from unended f e = refl
     from wrong f e = let k = f more in let never : wrong ≡ reads t [] = sym k ∙ e in cc
@@ -210,7 +211,7 @@ fault_whole bad_character c cs k =
     ∙ first_of_two (is_control c) _ _ control
 
 -- nothing stands at the end of the file
-pub nothing_at_end : (piece : Piece) (rest : List ℕ) → Stands [] piece rest → ⊥
+pub nothing_at_end : (piece : Lexeme) (rest : List ℕ) → LexemeStands [] piece rest → ⊥
 nothing_at_end _ rest (comment k) = let e = k.opened in cc
 nothing_at_end _ rest (doctype k) = let e = k.opened in cc
 nothing_at_end _ rest (markup e t k known kind) = from (t.is_end) (k.spelled)

@@ -13,7 +13,7 @@ use Rattle.tl_base.specs.declared.limits.TheConstants.{MAX_COLSPAN}
 use Rattle.tl_base.proofs.Texts.{same_test}
 use Rattle.tl_token.specs.Grammar.{numbered_character}
 use Rattle.tl_token.specs.Characters.{is_control}
-use Rattle.tl_token.specs.Numbers.{number, signed_number, columns_of, rows_of, floor_of}
+use Rattle.tl_token.specs.Numbers.{number, signed_number, columns_spanned, rows_spanned, floor_of}
 
 -- where a number stops, it is above 0 as before
 positive_same : (top n total : ℕ) → 0 < top → n ≡ min total top → nat_lt 0 n ≡ nat_lt 0 total
@@ -53,11 +53,11 @@ signed_either top b ds n t some h = (
     high true (inr e) = ap (λ a. cond a None (Some n)) (sym (ap (nat_lt 0) e))
 
 -- a number that stops far above the limits gives what the number gives
-pub columns_below : (o : Option ℕ) → columns_of (option_map (λ x. min x 4294967295) o) ≡ columns_of o
+pub columns_below : (o : Option ℕ) → columns_spanned (option_map (λ x. min x 4294967295) o) ≡ columns_spanned o
 columns_below None = refl
 columns_below (Some n) = let e : min (min n 4294967295) MAX_COLSPAN ≡ min n MAX_COLSPAN = omega arith in ap (max 1) e
 
-pub rows_below : (o : Option ℕ) → rows_of (option_map (λ x. min x 4294967295) o) ≡ rows_of o
+pub rows_below : (o : Option ℕ) → rows_spanned (option_map (λ x. min x 4294967295) o) ≡ rows_spanned o
 rows_below None = refl
 rows_below (Some n) = omega arith
 

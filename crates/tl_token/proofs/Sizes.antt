@@ -11,13 +11,14 @@ use Rattle.tl_token.specs.Numbers.{number}
 use lib.Utf8.{encode, encodes}
 use Rattle.tl_base.specs.Text.{byte_count}
 use Rattle.tl_token.specs.Characters.{◌∈◌, begins, past}
-use Rattle.tl_token.specs.Elements.{Attribute, Tag, kind_of, spans_of}
+use Rattle.tl_token.specs.Elements.{Attribute, Tag, tag_token, span_numbers}
 use Rattle.tl_token.specs.Grammar.{has_prefix, past_first, Value, missing, quoted, unquoted, Attributes, end, gap, attribute}
 use Rattle.tl_token.specs.Grammar.{opening, IsTag}
-use Rattle.tl_token.specs.Grammar.{named_character, numbered_character, ended_run, referred, numeric_reference, reference, Piece}
+use Rattle.tl_token.specs.Grammar.{named_character, numbered_character, ended_run, referred, numeric_reference, reference, Lexeme}
 use Rattle.tl_token.specs.Grammar.{hidden, tag}
-use Rattle.tl_token.specs.Grammar.{character, Stands, comment, doctype, markup, by_reference, plain}
-use Rattle.tl_token.specs.Spelling.{Part, place_of, Leads, here, next, join_before, character_before, piece_before, tokens_of}
+use Rattle.tl_token.specs.Grammar.{character, LexemeStands, comment, doctype, markup, by_reference, plain}
+use Rattle.tl_token.specs.Spelling.{Part, place_of_rest, Leads, here, next, join_before, character_before, piece_before}
+use Rattle.tl_token.specs.Spelling.{tokens_of}
 use Rattle.tl_token.specs.Spelling.{token_size, size_of}
 use Rattle.tl_token.specs.declared.token.TokenKind.{TokenKind}
 use Rattle.tl_token.specs.declared.token.TokenKind.TheVariants.{Start, End, Text}
@@ -145,7 +146,7 @@ run_less test cs text rest h =
       | inr e ↦ let never = e.1 in cc
     ]
 
-abbrev pub piece_size : Piece → ℕ
+abbrev pub piece_size : Lexeme → ℕ
 piece_size hidden = 0
 piece_size (tag kind) = token_size kind
 piece_size (character c) = len_utf8 c
@@ -191,21 +192,26 @@ referred_less : (cs : List ℕ) (d : ℕ) (rest : List ℕ) → reference cs ≡
     len_utf8 d + byte_count rest < byte_count cs + 2
 referred_less cs d rest h =
     elim (chosen (λ (o : Option (Option ℕ × List ℕ)). o ≡ Some (Some d, rest)) (begins (λ c. c ∈ "#") cs) _ _ h) [
-      | inl e ↦ omega (arith, numeric_less (drop 1 cs) (Some d) rest (e.1), one_less (λ c. c ∈ "#") cs (e.0), (len_utf8_bounds d).1)
+      | inl e ↦ omega (
+        arith,
+        numeric_less (drop 1 cs) (Some d) rest (e.1),
+        one_less (λ c. c ∈ "#") cs (e.0),
+        (len_utf8_bounds d).1,
+      )
       | inr e ↦
           let (text, ended, means) = referred_from named_character (ended_run is_ascii_alphanumeric cs) (Some d) rest (e.1) in
           omega (arith, run_less is_ascii_alphanumeric cs text rest ended, named_small text d means)
     ]
 
-kind_size : (e : Element) (t : Tag) → token_size (kind_of e t) ≡ 1
+kind_size : (e : Element) (t : Tag) → token_size (tag_token e t) ≡ 1
 kind_size e t = by_end (t.is_end)
   where
-    by_end : (b : Bool) → token_size (cond b (End e) (Start e (spans_of e (t.attributes)))) ≡ 1
+    by_end : (b : Bool) → token_size (cond b (End e) (Start e (span_numbers e (t.attributes)))) ≡ 1
     by_end true = refl
     by_end false = refl
 
 -- a piece has no more bytes than the text in which it stands
-pub piece_le : (cs : List ℕ) (piece : Piece) (rest : List ℕ) → Stands cs piece rest →
+pub piece_le : (cs : List ℕ) (piece : Lexeme) (rest : List ℕ) → LexemeStands cs piece rest →
     (piece_size piece + byte_count rest ≤ byte_count cs)
     × (byte_count rest < byte_count cs)
 piece_le cs _ rest (comment k) =
@@ -256,7 +262,7 @@ character_size c first past (t ∷ later) = by_kind (t.kind) refl
     by_kind (Start el spans) e = omega (arith, byte_count-cons c [])
     by_kind (End el) e = omega (arith, byte_count-cons c [])
 
-before_size : (piece : Piece) (first past : ℕ) (later : List Token) →
+before_size : (piece : Lexeme) (first past : ℕ) (later : List Token) →
     size_of (piece_before piece first past later) ≡ piece_size piece + size_of later
 before_size hidden first past later = omega arith
 before_size (tag kind) first past later = refl
@@ -271,5 +277,5 @@ tokens_le size cs rest _ (next {mid = mid} {parts = parts} piece k later) =
       arith,
       (piece_le cs piece mid k).0,
       tokens_le size mid rest parts later,
-      before_size piece (place_of size cs) (place_of size mid) (tokens_of parts),
+      before_size piece (place_of_rest size cs) (place_of_rest size mid) (tokens_of parts),
     )

@@ -6,9 +6,9 @@ use Rattle.std.specs.Str.{chars, IsUtf8}
 use Rattle.std.specs.Str.Lossy.{utf8_valid_len}
 use Rattle.tl_base.specs.Text.{byte_count}
 use Rattle.tl_base.proofs.Texts.{byte_count-chars}
-use Rattle.tl_token.specs.Grammar.{Piece, Stands, FaultStands}
+use Rattle.tl_token.specs.Grammar.{Lexeme, LexemeStands, FaultStands}
 use Rattle.tl_token.specs.Grammar as grammar
-use Rattle.tl_token.specs.Spelling.{place_of, tokens_of, without_mark, characters, SpellsTokens, FirstFault, SpellsNoTokens}
+use Rattle.tl_token.specs.Spelling.{place_of_rest, tokens_of, without_mark, characters, SpellsTokens, FirstFault, SpellsNoTokens}
 use Rattle.tl_token.specs.Spelling.{out_of_memory, Tokens, size_of}
 use Rattle.tl_base.specs.Returned.{ReturnsOk, ReturnsError, IsMemoryOr}
 use Rattle.tl_token.specs.inner.Reading.{Found, stands, faulty, standing}
@@ -39,11 +39,11 @@ mark_le (c ∷ cs) = by_test (eqb c 0xFEFF)
     by_test false = omega arith
 
 -- what stands where the reader finds it
-pub stands_there : (c : ℕ) (old cs rest : List ℕ) (piece : Piece) → old ≡ c ∷ cs → stands piece rest ≡ standing c cs →
-    Stands old piece rest
+pub stands_there : (c : ℕ) (old cs rest : List ℕ) (piece : Lexeme) → old ≡ c ∷ cs → stands piece rest ≡ standing c cs →
+    LexemeStands old piece rest
 stands_there c old cs rest piece e h =
     let P : Found → Type 0 = λ f. Holds (c ∷ cs) f in
-    let Q : List ℕ → Type 0 = λ x. Stands x piece rest in
+    let Q : List ℕ → Type 0 = λ x. LexemeStands x piece rest in
     subst Q (sym e) (subst P (sym h) (place_sound c cs))
 
 pub fault_there : (c : ℕ) (old cs : List ℕ) (fault : grammar.Fault) → old ≡ c ∷ cs → faulty fault ≡ standing c cs →
@@ -54,7 +54,8 @@ fault_there c old cs fault e h =
     subst Q (sym e) (subst P (sym h) (place_sound c cs))
 
 -- the error of the first fault
-pub refused : (bytes : List ℕ) (f : Fault) (place : ℕ) → FirstFault bytes (fault_of f) place → SpellsNoTokens bytes (error_of f place)
+pub refused : (bytes : List ℕ) (f : Fault) (place : ℕ) → FirstFault bytes (fault_of f) place →
+    SpellsNoTokens bytes (error_of f place)
 refused bytes fault.UnendedTag place h = h
 refused bytes fault.UnendedComment place h = h
 refused bytes fault.BadTag place h = h
@@ -110,7 +111,7 @@ said_once bytes d e (no_text u h) (at_fault g q k l) = absurd (u (l.0))
 said_once bytes d e (at_fault f p h l) (no_text v k) = absurd (v (l.0))
 said_once bytes d e (at_fault f p h l) (at_fault g q k m) =
     let (faults, rests) = one_break (length bytes) (characters bytes) (l.2) (m.2) (l.1) (m.1) f g (l.3) (l.4) (m.3) (m.4) in
-    let places : p ≡ q = l.5 ∙ ap (place_of (length bytes)) rests ∙ sym (m.5) in
+    let places : p ≡ q = l.5 ∙ ap (place_of_rest (length bytes)) rests ∙ sym (m.5) in
     h ∙ ap (λ x. error_at x p) faults ∙ ap (error_at g) places ∙ sym k
 
 -- So each result excludes the others.

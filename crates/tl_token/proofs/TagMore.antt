@@ -3,23 +3,23 @@ use Rattle.std.proofs.Common.{◌≡◌, ◌≢◌, ℕ, List, [], ◌∷◌, �
 use Rattle.std.proofs.lemmas.Bool.{eq-eqb}
 use Rattle.std.specs.Prelude.{codes}
 use Rattle.tl_token.specs.Elements.{Tag}
-use Rattle.tl_token.specs.inner.States.{State, tag_open, end_tag_open, tag_name, between, in_name, after_name, before_value}
+use Rattle.tl_token.specs.inner.States.{TagState, tag_open, end_tag_open, tag_name, between, in_name, after_name, before_value}
 use Rattle.tl_token.specs.inner.States.{in_quotes, in_value}
-use Rattle.tl_token.specs.inner.States.{ended, failed, step, with_attribute, Outcome, reads, unended, wrong, read}
+use Rattle.tl_token.specs.inner.States.{ended, failed, step, with_attribute, TagOutcome, reads, unended, wrong, read}
 
 -- the tag goes on from there
-abbrev pub IsLive : State → Type 0
+abbrev pub IsLive : TagState → Type 0
 IsLive (ended t) = ⊥
 IsLive failed = ⊥
 IsLive _ = Unit {0}
 
 -- how the state reads cs and more
-abbrev pub Further : State → List ℕ → Outcome → Type 0
+abbrev pub Further : TagState → List ℕ → TagOutcome → Type 0
 Further s cs (reads t rest) = (more : List ℕ) → read s (cs ++ more) ≡ reads t (rest ++ more)
-Further s cs unended = (u : State) × IsLive u × ((more : List ℕ) → read s (cs ++ more) ≡ read u more)
+Further s cs unended = (u : TagState) × IsLive u × ((more : List ℕ) → read s (cs ++ more) ≡ read u more)
 Further s cs wrong = (more : List ℕ) → read s (cs ++ more) ≡ wrong
 
-pub further : (s : State) (cs : List ℕ) → Further s cs (read s cs)
+pub further : (s : TagState) (cs : List ℕ) → Further s cs (read s cs)
 further (ended t) cs = λ more. refl
 further failed cs = λ more. refl
 further tag_open [] = (tag_open, tt, λ more. refl)
@@ -42,16 +42,16 @@ further (in_value t n v) [] = (in_value t n v, tt, λ more. refl)
 further (in_value t n v) (c ∷ cs) = further (step (in_value t n v) c) cs
 
 -- some text ends the tag
-pub record Ends (s : State) : Type 0 where
+pub record Ends (s : TagState) : Type 0 where
   pub more : List ℕ
   pub some : more ≢ []
   pub whole : Tag
   pub is_read : read s more ≡ reads whole []
 
-ends_by : (s : State) (more : List ℕ) (whole : Tag) → more ≢ [] → read s more ≡ reads whole [] → Ends s
+ends_by : (s : TagState) (more : List ℕ) (whole : Tag) → more ≢ [] → read s more ≡ reads whole [] → Ends s
 ends_by s more whole n h = record { more = more; some = n; whole = whole; is_read = h }
 
-pub ending : (s : State) → IsLive s → Ends s
+pub ending : (s : TagState) → IsLive s → Ends s
 ending (ended t) live = absurd live
 ending failed live = absurd live
 ending tag_open live = ends_by tag_open (codes "a>") _ (λ e. cc) refl

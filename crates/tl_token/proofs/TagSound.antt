@@ -10,7 +10,7 @@ use Rattle.tl_token.specs.Characters.{◌∈◌, is_space, is_name_character, is
 use Rattle.tl_token.specs.Elements.{Attribute, Tag}
 use Rattle.tl_token.specs.Grammar.{Each, Value, missing, quoted, unquoted, Attributes, end, gap, attribute, IsTagName, opening}
 use Rattle.tl_token.specs.Grammar.{IsTag}
-use Rattle.tl_token.specs.inner.States.{State, tag_open, end_tag_open, tag_name, between, in_name, after_name, before_value}
+use Rattle.tl_token.specs.inner.States.{TagState, tag_open, end_tag_open, tag_name, between, in_name, after_name, before_value}
 use Rattle.tl_token.specs.inner.States.{in_quotes, in_value}
 use Rattle.tl_token.specs.inner.States.{ended, failed, empty_tag, with_attribute, step, reads, read}
 use Rattle.tl_token.specs.inner.States.{with_more}
@@ -32,7 +32,7 @@ abbrev valued : List ℕ → List ℕ → List ℕ → List ℕ
 valued before after cs = before ++ (codes "=" ++ (after ++ cs))
 
 -- what was read of the state and then cs is a whole tag, from which the rest follows
-abbrev pub Completes : State → List ℕ → Tag → List ℕ → Type 0
+abbrev pub Completes : TagState → List ℕ → Tag → List ℕ → Type 0
 Completes tag_open cs whole rest = IsTag (codes "<" ++ cs) whole rest
 Completes end_tag_open cs whole rest = IsTag (codes "</" ++ cs) whole rest
 Completes (tag_name is_end name) cs whole rest = IsTagName name → IsTag (opening is_end ++ (name ++ cs)) whole rest
@@ -100,7 +100,7 @@ abbrev valued_at : ℕ → Tag → List ℕ → Tag → List ℕ → Type 0
 valued_at c t cs whole rest = Continues t (c ∷ cs) whole rest
 
 module _ (c : ℕ) (cs : List ℕ) (whole : Tag) (rest : List ℕ) where
-  abbrev Goes : State → Type 0
+  abbrev Goes : TagState → Type 0
   Goes s = Completes s cs whole rest
 
   back_between : (t : Tag) → Goes (step (between t) c) → Completes (between t) (c ∷ cs) whole rest
@@ -265,7 +265,8 @@ module _ (c : ℕ) (cs : List ℕ) (whole : Tag) (rest : List ℕ) where
   ]
 
 -- What the states read from a state on completes what was read of it.
-pub completed : (s : State) (cs : List ℕ) (whole : Tag) (rest : List ℕ) → read s cs ≡ reads whole rest → Completes s cs whole rest
+pub completed : (s : TagState) (cs : List ℕ) (whole : Tag) (rest : List ℕ) → read s cs ≡ reads whole rest →
+    Completes s cs whole rest
 completed (ended t) cs whole rest h = (cc, cc)
 completed failed cs whole rest h = cc
 completed tag_open [] whole rest h = cc

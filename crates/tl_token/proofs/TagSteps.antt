@@ -10,9 +10,9 @@ use Rattle.std.specs.Char.{is_ascii_alphabetic, is_ascii_alphanumeric}
 use Rattle.tl_token.specs.Characters.{◌∈◌, is_space, is_name_character, is_value_character, is_gap, begins, run, past}
 use Rattle.tl_token.specs.Elements.{Attribute, Tag}
 use Rattle.tl_token.specs.Grammar.{Each}
-use Rattle.tl_token.specs.inner.States.{State, tag_open, end_tag_open, tag_name, between, in_name, after_name, before_value}
+use Rattle.tl_token.specs.inner.States.{TagState, tag_open, end_tag_open, tag_name, between, in_name, after_name, before_value}
 use Rattle.tl_token.specs.inner.States.{in_quotes, in_value}
-use Rattle.tl_token.specs.inner.States.{ended, failed, empty_tag, with_attribute, with_more, attribute, unended, read}
+use Rattle.tl_token.specs.inner.States.{ended, failed, empty_tag, with_attribute, with_more, named_attribute, unended, read}
 use Rattle.tl_token.specs.inner.Found.{stop, Stops, ReadsValue, ReadsAttributes}
 use Rattle.tl_token.specs.declared.tag.Given.{Given}
 use Rattle.tl_token.specs.inner.Reading.{tag_found}
@@ -73,7 +73,7 @@ past_less test (c ∷ cs) h =
     subst P (sym k) (omega arith)
 
 -- a state reads a run, and what follows it
-run_read : (test : ℕ → Bool) (s : State) (t : State) (cs : List ℕ) →
+run_read : (test : ℕ → Bool) (s : TagState) (t : TagState) (cs : List ℕ) →
     ((w ds : List ℕ) → Each test w → w ≡ run test cs → read s (w ++ ds) ≡ read t ds)
     → read s cs ≡ read t (past test cs)
 run_read test s t cs h = ap (read s) (run_split test cs) ∙ h (run test cs) (past test cs) (run_each test cs) refl
@@ -144,7 +144,7 @@ without_value t c cs k s = elim (cases_bool (c ∈ "/")) [
   | inl d ↦ took (c ∈ "/") _ _ cs d ∙ sym (gap_between t c cs (or_right (is_space c) (c ∈ "/") d))
   | inr d ↦
       let none : is_gap c ≡ false = ap (λ b. b || (c ∈ "/")) s ∙ d in
-      let next : State = if c ∈ ">" then ended t else failed in
+      let next : TagState = if c ∈ ">" then ended t else failed in
       left (c ∈ "/") (between t) next cs d
       ∙ sym (left (is_name_character c) (in_name t (c ∷ [])) (if is_gap c then between t else next) cs k ∙ left (is_gap c)
       (between t) next cs none)
@@ -213,7 +213,7 @@ attributes_stop t [] m g e = refl
 attributes_stop t (c ∷ cs) m g e = left (is_name_character c) _ _ cs m ∙ left (is_gap c) _ _ cs g ∙ left (c ∈ ">") _ _ cs e
 
 -- The name of a tag.
-abbrev pub opened : Bool → State
+abbrev pub opened : Bool → TagState
 opened true = end_tag_open
 opened false = tag_open
 
@@ -256,7 +256,7 @@ no_name_end b n (c ∷ cs) h k =
     left (is_ascii_alphanumeric c) _ _ cs h ∙ left (is_gap c) _ _ cs g ∙ left (c ∈ ">") _ _ cs close
 
 -- a value is read from the states before, where these read the text to the others
-pub reads_from : {X : Type 0} (s r : Tag → List ℕ → State) (text : X → List ℕ) (result : Result X Fault) (old mid new : List ℕ)
+pub reads_from : {X : Type 0} (s r : Tag → List ℕ → TagState) (text : X → List ℕ) (result : Result X Fault) (old mid new : List ℕ)
     → ReadsValue s text result mid new → ((t : Tag) (n : List ℕ) → read (r t n) old ≡ read (s t n) mid) →
     ReadsValue r text result old new
 reads_from s r text (Ok v) old mid new h k = λ t n. k t n ∙ h t n
@@ -280,13 +280,13 @@ so_far_none old t =
 -- one more attribute, and the white space and `/` after it
 pub so_far_more : (old cs later value : List ℕ) (all : List Attribute) → ReadSoFar old all cs → begins is_name_character cs ≡ true
     → ((t : Tag) (n : List ℕ) → read (in_name t n) (past is_name_character cs) ≡ read (between (with_attribute t n value)) later)
-    → ReadSoFar old (all ++ attribute (run is_name_character cs) value ∷ []) (past is_gap later)
+    → ReadSoFar old (all ++ named_attribute (run is_name_character cs) value ∷ []) (past is_gap later)
 so_far_more old cs later value all h named v t =
     let name = run is_name_character cs in
     h t ∙ name_read (with_more t all) cs named ∙ v (with_more t all) name
     ∙ ap (λ (x : List Attribute). read (between (record { is_end = t.is_end; name = t.name; attributes = x })) later)
-    (append_assoc (t.attributes) all (attribute name value ∷ []))
-    ∙ gaps_read (with_more t (all ++ attribute name value ∷ [])) later
+    (append_assoc (t.attributes) all (named_attribute name value ∷ []))
+    ∙ gaps_read (with_more t (all ++ named_attribute name value ∷ [])) later
 
 -- a fault that is handed on
 pub failed_with : {X : Type 0} (P : Result X Fault → Type 0) (result : Result X Fault) (fault : Fault) →

@@ -11,7 +11,7 @@ use Rattle.tl_token.specs.Characters.{◌∈◌, is_space, is_name_character, is
 use Rattle.tl_token.specs.Elements.{Attribute, Tag}
 use Rattle.tl_token.specs.Grammar.{Each, Value, missing, quoted, unquoted, Attributes, end, gap, attribute, IsTagName, opening}
 use Rattle.tl_token.specs.Grammar.{IsTag}
-use Rattle.tl_token.specs.inner.States.{State, tag_open, tag_name, between, in_name, after_name, before_value, in_quotes}
+use Rattle.tl_token.specs.inner.States.{TagState, tag_open, tag_name, between, in_name, after_name, before_value, in_quotes}
 use Rattle.tl_token.specs.inner.States.{in_value, empty_tag}
 use Rattle.tl_token.specs.inner.States.{with_attribute, reads, read}
 use Rattle.tl_token.proofs.CharacterTests.{or_left, or_cases, or_false, not_true, not_false, is_it, is_either, push_regroup}
@@ -57,11 +57,11 @@ pub space_no_value : (c : ℕ) → is_space c ≡ true → is_value_character c 
 space_no_value c h = not_false (is_space c || c ∈ "\"'=<>`") (or_left (is_space c) (c ∈ "\"'=<>`") h)
 
 -- the first or the second of two states, by a test
-pub took : (b : Bool) (s t : State) (cs : List ℕ) → b ≡ true → read (cond b s t) cs ≡ read s cs
+pub took : (b : Bool) (s t : TagState) (cs : List ℕ) → b ≡ true → read (cond b s t) cs ≡ read s cs
 took true s t cs h = refl
 took false s t cs h = absurd (false≢true h)
 
-pub left : (b : Bool) (s t : State) (cs : List ℕ) → b ≡ false → read (cond b s t) cs ≡ read t cs
+pub left : (b : Bool) (s t : TagState) (cs : List ℕ) → b ≡ false → read (cond b s t) cs ≡ read t cs
 left true s t cs h = absurd (false≢true (sym h))
 left false s t cs h = refl
 

@@ -5,7 +5,7 @@ use Rattle.std.specs.List.{list_all}
 use Rattle.tl_token.specs.Characters.{◌∈◌}
 use lib.Pointwise.{pointwise}
 use Rattle.std.specs.Prelude.{nat_eq}
-use Rattle.tl_token.specs.Numbers.{number_of, columns_of, rows_of, floor_of}
+use Rattle.tl_token.specs.Numbers.{number_of, columns_spanned, rows_spanned, floor_of}
 use Rattle.tl_token.specs.declared.token.Element.{Element}
 use Rattle.tl_token.specs.declared.token.Element.TheVariants.{Table, Caption, Colgroup, Col, Thead, Tbody, Tfoot, Tr, Td, Th, Br}
 use Rattle.tl_token.specs.declared.token.Element.TheVariants.{P, Div, Inline, Outer}
@@ -84,8 +84,8 @@ no_spans = record { colspan = 1; rowspan = 1; span = 1; least = 0 }
 -- the numbers of a cell
 abbrev pub cell_spans : List Attribute → Spans
 cell_spans attributes = record {
-  colspan = columns_of (attribute_number (codes "colspan") attributes);
-  rowspan = rows_of (attribute_number (codes "rowspan") attributes);
+  colspan = columns_spanned (attribute_number (codes "colspan") attributes);
+  rowspan = rows_spanned (attribute_number (codes "rowspan") attributes);
   span = 1;
   least = floor_of (attribute_number (codes "data-min") attributes);
 }
@@ -95,18 +95,18 @@ abbrev pub column_spans : List Attribute → Spans
 column_spans attributes = record {
   colspan = 1;
   rowspan = 1;
-  span = columns_of (attribute_number (codes "span") attributes);
+  span = columns_spanned (attribute_number (codes "span") attributes);
   least = 0;
 }
 
 -- a cell has its own numbers, a `col` and a `colgroup` their span, and no other element has any
-abbrev pub spans_of : Element → List Attribute → Spans
-spans_of Td attributes = cell_spans attributes
-spans_of Th attributes = cell_spans attributes
-spans_of Col attributes = column_spans attributes
-spans_of Colgroup attributes = column_spans attributes
-spans_of _ attributes = no_spans
+abbrev pub span_numbers : Element → List Attribute → Spans
+span_numbers Td attributes = cell_spans attributes
+span_numbers Th attributes = cell_spans attributes
+span_numbers Col attributes = column_spans attributes
+span_numbers Colgroup attributes = column_spans attributes
+span_numbers _ attributes = no_spans
 
 -- the token of a tag of that element
-abbrev pub kind_of : Element → Tag → TokenKind
-kind_of e tag = if tag.is_end then End e else Start e (spans_of e tag.attributes)
+abbrev pub tag_token : Element → Tag → TokenKind
+tag_token e tag = if tag.is_end then End e else Start e (span_numbers e tag.attributes)

@@ -1,6 +1,6 @@
 -- How characters spell tokens. What stands at a place is a comment, a doctype, a tag, a reference
 -- or a character of text, or else a fault. The forms are those of the HTML Standard's section 13.1,
--- narrowed and widened as docs/MODEL.md says.
+-- narrowed and widened as docs/READING.md says.
 use Rattle.std.specs.Prelude.{◌≡◌, ◌≢◌, ℕ, ◌⊎◌, Bool, true, false, not, ◌&&◌, ◌||◌, ◌==◌, nat_eq, List, [], ◌∷◌, ◌++◌, length}
 use Rattle.std.specs.Prelude.{drop, Option, Some}
 use Rattle.std.specs.Prelude.{None, option_map, if◌then◌else◌, codes, IsTrue}
@@ -9,7 +9,7 @@ use Rattle.std.specs.Char.{is_ascii_alphabetic, is_ascii_alphanumeric, is_ascii_
 use Rattle.tl_token.specs.Characters.{◌∈◌, is_space, is_name_character, is_value_character, is_gap, is_control, opens_markup}
 use Rattle.tl_token.specs.Characters.{begins, run, past}
 use Rattle.tl_token.specs.Numbers.{number}
-use Rattle.tl_token.specs.Elements.{Attribute, Tag, is_word, element_of, kind_of}
+use Rattle.tl_token.specs.Elements.{Attribute, Tag, is_word, element_of, tag_token}
 use Rattle.tl_token.specs.declared.token.TokenKind.{TokenKind}
 use Rattle.tl_token.specs.declared.token.Element.{Element}
 use lib.Pointwise.{pointwise}
@@ -131,12 +131,12 @@ reference cs =
     else referred named_character (ended_run is_ascii_alphanumeric cs)
 
 -- what may stand at a place
-pub data Piece : Type 0 where
+pub data Lexeme : Type 0 where
   -- a comment or a doctype
-  hidden : Piece
-  tag : TokenKind → Piece
+  hidden : Lexeme
+  tag : TokenKind → Lexeme
   -- a character of text, as it is or by a reference
-  character : ℕ → Piece
+  character : ℕ → Lexeme
 
 -- a character that stands for itself in text: no control character, no `<` that opens markup, no
 -- `&` that opens a reference
@@ -147,16 +147,16 @@ IsPlain c rest =
     × (IsTrue (c ∈ "&") → reference rest ≡ None)
 
 -- The piece that stands at a place, from which the rest follows.
-pub data Stands : List ℕ → Piece → List ℕ → Type 0 where
-  comment : {cs rest : List ℕ} → Comment cs rest → Stands cs hidden rest
-  doctype : {cs rest : List ℕ} → Doctype cs rest → Stands cs hidden rest
+pub data LexemeStands : List ℕ → Lexeme → List ℕ → Type 0 where
+  comment : {cs rest : List ℕ} → Comment cs rest → LexemeStands cs hidden rest
+  doctype : {cs rest : List ℕ} → Doctype cs rest → LexemeStands cs hidden rest
   markup : {cs rest : List ℕ} {kind : TokenKind} → (e : Element) (t : Tag) → IsTag cs t rest
-      → element_of (t.name) ≡ Some e → kind ≡ kind_of e t
-      → Stands cs (tag kind) rest
+      → element_of (t.name) ≡ Some e → kind ≡ tag_token e t
+      → LexemeStands cs (tag kind) rest
   by_reference : {c d : ℕ} {cs rest : List ℕ} → IsTrue (c ∈ "&")
       → reference cs ≡ Some (Some d, rest)
-      → Stands (c ∷ cs) (character d) rest
-  plain : {c : ℕ} {rest : List ℕ} → IsPlain c rest → Stands (c ∷ rest) (character c) rest
+      → LexemeStands (c ∷ cs) (character d) rest
+  plain : {c : ℕ} {rest : List ℕ} → IsPlain c rest → LexemeStands (c ∷ rest) (character c) rest
 
 -- what may stand at a place where no piece does
 pub data Fault : Type 0 where

@@ -34,14 +34,14 @@ number_of value =
 
 -- The columns of a cell, a `col` or a `colgroup`: 1 where there is no number or it is 0, and at
 -- most `MAX_COLSPAN`.
-abbrev pub columns_of : Option ℕ → ℕ
-columns_of None = 1
-columns_of (Some n) = max 1 (min n MAX_COLSPAN)
+abbrev pub columns_spanned : Option ℕ → ℕ
+columns_spanned None = 1
+columns_spanned (Some n) = max 1 (min n MAX_COLSPAN)
 
 -- The rows of a cell: 1 where there is no number, 0 for "grows downward", and at most `MAX_ROWSPAN`.
-abbrev pub rows_of : Option ℕ → ℕ
-rows_of None = 1
-rows_of (Some n) = min n MAX_ROWSPAN
+abbrev pub rows_spanned : Option ℕ → ℕ
+rows_spanned None = 1
+rows_spanned (Some n) = min n MAX_ROWSPAN
 
 -- The columns of text that a cell is wide at least: 0 where there is no number, and at most `MAX_PAGE_WIDTH`.
 abbrev pub floor_of : Option ℕ → ℕ

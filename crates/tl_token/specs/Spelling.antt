@@ -3,7 +3,7 @@
 use Rattle.std.specs.Prelude.{◌≡◌, ℕ, ◌+◌, ◌-◌, List, [], ◌∷◌, length, ◌==◌, if◌then◌else◌, IsUtf8, chars, alloc_error}
 use Rattle.std.specs.Str.Lossy.{utf8_valid_len}
 use Rattle.tl_base.specs.Text.{byte_count}
-use Rattle.tl_token.specs.Grammar.{Piece, hidden, tag, character, Stands, Fault, unended_tag, unended_comment, bad_tag}
+use Rattle.tl_token.specs.Grammar.{Lexeme, hidden, tag, character, LexemeStands, Fault, unended_tag, unended_comment, bad_tag}
 use Rattle.tl_token.specs.Grammar.{unknown_element}
 use Rattle.tl_token.specs.Grammar.{bad_reference, bad_character, FaultStands}
 use Rattle.tl_token.specs.declared.token.TokenKind.{TokenKind}
@@ -16,28 +16,28 @@ use Rattle.tl_token.specs.declared.token.TokenError.TheVariants.{BadCharacter}
 
 -- a piece, and the bytes of the file from its first to past its last
 pub record Part : Type 0 where
-  pub piece : Piece
+  pub piece : Lexeme
   pub first : ℕ
   pub past : ℕ
 
 -- a piece between those bytes
-abbrev pub part : Piece → ℕ → ℕ → Part
+abbrev pub part : Lexeme → ℕ → ℕ → Part
 part piece first past = record { piece = piece; first = first; past = past }
 
 -- pieces in their order
-abbrev pub Parts : Type 0
-Parts = List Part
+abbrev pub TokenPieces : Type 0
+TokenPieces = List Part
 
 -- the place at which what is left of a file of that size begins
-abbrev pub place_of : ℕ → List ℕ → ℕ
-place_of size cs = size - byte_count cs
+abbrev pub place_of_rest : ℕ → List ℕ → ℕ
+place_of_rest size cs = size - byte_count cs
 
 -- one piece after another stands there, up to the rest
 pub data Leads (size : ℕ) : List ℕ → List Part → List ℕ → Type 0 where
   here : {cs : List ℕ} → Leads size cs [] cs
-  next : {cs mid rest : List ℕ} {parts : List Part} → (piece : Piece) → Stands cs piece mid
+  next : {cs mid rest : List ℕ} {parts : List Part} → (piece : Lexeme) → LexemeStands cs piece mid
       → Leads size mid parts rest
-      → Leads size cs (part piece (place_of size cs) (place_of size mid) ∷ parts) rest
+      → Leads size cs (part piece (place_of_rest size cs) (place_of_rest size mid) ∷ parts) rest
 
 -- a token between those bytes
 abbrev pub token : TokenKind → ℕ → ℕ → Token
@@ -56,7 +56,7 @@ character_before c first past [] = token (Text (c ∷ [])) first past ∷ []
 character_before c first past (t ∷ later) = join_before c first past (t.kind) t later
 
 -- the tokens from a piece on, before later tokens
-abbrev pub piece_before : Piece → ℕ → ℕ → List Token → List Token
+abbrev pub piece_before : Lexeme → ℕ → ℕ → List Token → List Token
 piece_before hidden first past later = later
 piece_before (tag kind) first past later = token kind first past ∷ later
 piece_before (character c) first past later = character_before c first past later
@@ -87,7 +87,7 @@ abbrev pub FirstFault : List ℕ → Fault → ℕ → Type 0
 FirstFault bytes fault place =
     IsUtf8 bytes × (parts : List Part) × (rest : List ℕ)
     × Leads (length bytes) (characters bytes) parts rest
-    × FaultStands fault rest × (place ≡ place_of (length bytes) rest)
+    × FaultStands fault rest × (place ≡ place_of_rest (length bytes) rest)
 
 -- The error that refuses the bytes; out of memory is none of them.
 abbrev pub SpellsNoTokens : List ℕ → TokenError → Type 0

@@ -15,6 +15,7 @@ mod tag;
 mod token;
 
 pub use file::tokens;
+pub use markup::is_control;
 pub use token::{Element, Spans, Token, TokenError, TokenKind};
 
 #[cfg(test)]

@@ -10,7 +10,7 @@ use crate::piece::{Fault, Piece};
 use crate::reader::{Class, Reader};
 
 /// Whether the character is a control character that no text has.
-pub(crate) fn is_control(c: char) -> bool
+pub fn is_control(c: char) -> bool
     ensures { result ≡ is_control c }
 {
     c < ' ' && !c.is_ascii_whitespace() || '\u{7f}' <= c && c <= '\u{9f}'

@@ -3,7 +3,7 @@
 ghost use Rattle.std.specs.Prelude.{◌≡◌, ◌≤◌, min, chars};
 ghost use Rattle.std.specs.Option.{option_map};
 ghost use Rattle.std.specs.Char.{digit_value};
-ghost use Rattle.tl_token.specs.Numbers.{number, unsigned, signed_number, number_of, columns_of, rows_of, floor_of};
+ghost use Rattle.tl_token.specs.Numbers.{number, unsigned, signed_number, number_of, columns_spanned, rows_spanned, floor_of};
 ghost use Rattle.tl_token.specs.Characters.{◌∈◌, begins};
 ghost use Rattle.tl_token.specs.inner.Reader.{unread};
 
@@ -73,7 +73,7 @@ pub(crate) fn read_number(value: &str) -> Option<u32>
 
 /// The columns that a span attribute gives, of the number in it.
 pub(crate) fn columns(number: Option<u32>) -> u32
-    ensures { result ≡ columns_of number }
+    ensures { result ≡ columns_spanned number }
 {
     match number {
         Some(columns) => columns.clamp(1, MAX_COLSPAN),
@@ -83,7 +83,7 @@ pub(crate) fn columns(number: Option<u32>) -> u32
 
 /// The rows that `rowspan` gives. 0: the cell grows downward.
 pub(crate) fn rows(number: Option<u32>) -> u32
-    ensures { result ≡ rows_of number }
+    ensures { result ≡ rows_spanned number }
 {
     match number {
         Some(rows) => rows.min(MAX_ROWSPAN),

@@ -1,7 +1,7 @@
 //! The tokens that pieces make, and the text that is still open.
 
 ghost use Rattle.std.specs.Prelude.{◌≡◌, ◌≢◌, true, false, [], ◌∷◌, ◌++◌, OnOk, IfOk};
-ghost use Rattle.tl_token.specs.Spelling.{Parts, tokens_of, token};
+ghost use Rattle.tl_token.specs.Spelling.{TokenPieces, tokens_of, token};
 ghost use Rattle.tl_token.specs.Grammar.{character};
 ghost use Rattle.tl_token.specs.inner.Found.{piece_of};
 
@@ -35,7 +35,7 @@ impl Output {
     ghost use Rattle.tl_token.specs.inner.Output.{open_text, resumed, closed, Takes};
 
     pub(crate) fn new(alloc: Global) -> Output
-        ensures { (parts : Parts) → resumed result parts ≡ tokens_of parts }
+        ensures { (parts : TokenPieces) → resumed result parts ≡ tokens_of parts }
     {
         Output {
             alloc,

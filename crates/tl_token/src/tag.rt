@@ -3,10 +3,10 @@
 ghost use Rattle.std.specs.Prelude.{◌≡◌, ◌≤◌, IsTrue, false, length, chars, List, [], Err, IfOk};
 ghost use Rattle.tl_token.specs.Characters.{◌∈◌, begins, is_space, is_name_character};
 ghost use Rattle.tl_token.specs.Elements.{Attribute, is_lowercase};
-ghost use Rattle.tl_token.specs.inner.States.{tag_open, in_name, before_value, in_quotes, read, attribute};
+ghost use Rattle.tl_token.specs.inner.States.{tag_open, in_name, before_value, in_quotes, read, named_attribute};
 ghost use Rattle.tl_token.specs.inner.Reading.{tag_found};
 ghost use Rattle.tl_token.specs.inner.Reader.{unread};
-ghost use Rattle.tl_token.specs.inner.Found.{found_of, number_after, stop, ReadsValue, ReadsAttributes};
+ghost use Rattle.tl_token.specs.inner.Found.{found_of, attribute_number_after, stop, ReadsValue, ReadsAttributes};
 
 use crate::elements::is_word;
 use crate::number::{columns, floor, read_number, rows};
@@ -32,7 +32,7 @@ fn first_number(
     value: &str,
 ) -> Option<Option<u32>>
     requires { IsTrue (is_lowercase word.now) }
-    ensures { result ≡ number_after known word.now (attribute (chars name.now) (chars value.now)) }
+    ensures { result ≡ attribute_number_after known word.now (named_attribute (chars name.now) (chars value.now)) }
 {
     if known.is_some() || !is_word(name, word) {
         known
@@ -42,7 +42,7 @@ fn first_number(
 }
 
 impl Given {
-    ghost use Rattle.tl_token.specs.Elements.{cell_spans, spans_of};
+    ghost use Rattle.tl_token.specs.Elements.{cell_spans, span_numbers};
     ghost use Rattle.tl_token.specs.inner.Found.{given_of, given_after};
 
     fn none() -> Given
@@ -58,7 +58,7 @@ impl Given {
 
     /// Takes one more attribute.
     fn add(&mut self, name: &str, value: &str)
-        ensures { self.new ≡ given_after self.old (attribute (chars name.now) (chars value.now)) }
+        ensures { self.new ≡ given_after self.old (named_attribute (chars name.now) (chars value.now)) }
     {
         self.colspan = first_number(self.colspan, "colspan", name, value);
         self.rowspan = first_number(self.rowspan, "rowspan", name, value);
@@ -80,7 +80,7 @@ impl Given {
 
     /// The numbers that count for the element.
     fn spans(&self, element: Element) -> Spans
-        ensures { (all : List Attribute) → self.now ≡ given_of all → result ≡ spans_of element all }
+        ensures { (all : List Attribute) → self.now ≡ given_of all → result ≡ span_numbers element all }
     {
         match element {
             Element::Td | Element::Th => self.cell_spans(),

@@ -19,7 +19,8 @@ use Rattle.tl_tree.specs.declared.open.OpenGroup.{OpenGroup}
 use Rattle.tl_tree.specs.declared.open.OpenTable.{OpenTable}
 use Rattle.tl_tree.specs.declared.open.OpenTable.TheVariants.{Row}
 use Rattle.tl_tree.specs.inner.Machine.{move, to, in_row, start_row, group_of, due}
-use Rattle.tl_tree.specs.inner.Reading.{outcome, place_of, parts_so_far, Moves, Outcome, after_entries, in_flow, cell_so_far}
+use Rattle.tl_tree.specs.inner.Reading.{outcome, machine_place, parts_so_far, Moves, OutlineOutcome, after_entries, in_flow}
+use Rattle.tl_tree.specs.inner.Reading.{cell_so_far}
 use Rattle.tl_tree.specs.inner.Reading.{group_so_far, Adds}
 
 regroup : (g f : Entries) (r x : Entry) (b p e : Entries) → (g ++ (r ∷ (f ++ (x ∷ (b ++ p))))) ++ e ≡
@@ -46,13 +47,13 @@ cell_ends c flow blocks cells node blocks_are cells_are node_is = record {
 }
 
 -- one after another
-pub adds_then : {a b c : Outcome} (ms ns : Marks) → Adds a b ms → Adds b c ns → Adds a c (ms ++ ns)
+pub adds_then : {a b c : OutlineOutcome} (ms ns : Marks) → Adds a b ms → Adds b c ns → Adds a c (ms ++ ns)
 adds_then {a} ms ns first second = record {
   same = λ k later. second.same k later ∙ first.same k (ns ++ later) ∙ ap (λ x. a k x) (sym (append_assoc ms ns later));
 }
 
 -- nothing
-pub adds_nothing : {a : Outcome} → Adds a a []
+pub adds_nothing : {a : OutlineOutcome} → Adds a a []
 adds_nothing = record { same = λ k later. refl }
 
 -- a mark of its own entry
@@ -130,14 +131,14 @@ break_read old new entries blocks line = record {
 }
 
 -- a row of loose rows, where no group is open
-pub loose_row_moves : (t : OpenTable) (parts : Parts) (g : OpenGroup) (cells : List CellNode) → group_of (place_of t) ≡ None
-    → Adds (outcome t) (after_entries (parts_so_far parts)) (due (place_of t)) →
+pub loose_row_moves : (t : OpenTable) (parts : Parts) (g : OpenGroup) (cells : List CellNode) → group_of (machine_place t) ≡ None
+    → Adds (outcome t) (after_entries (parts_so_far parts)) (due (machine_place t)) →
     group_so_far g ≡ parts_so_far parts ++ group Loose ∷ []
     → g.part ≡ Loose → cells ≡ [] → Moves t row_start (Row (record { group = g; cells = cells }))
 loose_row_moves t parts g cells none adds so_far part empty =
     let ms = group_begins Loose ∷ row_begins ∷ [] in
-    let e : move (place_of t) row_start ≡ to (in_row Loose) (due (place_of t) ++ ms) =
-    ap (λ o. start_row (due (place_of t)) o) none in
+    let e : move (machine_place t) row_start ≡ to (in_row Loose) (due (machine_place t) ++ ms) =
+    ap (λ o. start_row (due (machine_place t)) o) none in
     let two : Adds (after_entries (parts_so_far parts)) (after_entries (group_so_far g ++ row_outline cells)) ms = record {
       same = λ k later.
           ap (λ cs. (group_so_far g ++ row_outline cs) ++ entries_of k later) empty
@@ -145,8 +146,8 @@ loose_row_moves t parts g cells none adds so_far part empty =
           ∙ regroup_row (parts_so_far parts) (group Loose) row (entries_of k later);
     } in
     record {
-      goes = rw e (ap (λ x. to (in_row x) (due (place_of t) ++ ms)) (sym part));
-      adds = rw e (adds_then (due (place_of t)) ms adds two);
+      goes = rw e (ap (λ x. to (in_row x) (due (machine_place t) ++ ms)) (sym part));
+      adds = rw e (adds_then (due (machine_place t)) ms adds two);
     }
   where
     regroup_row : (a : Entries) (x y : Entry) (e : Entries) → ((a ++ x ∷ []) ++ y ∷ []) ++ e ≡ a ++ (x ∷ (y ∷ e))

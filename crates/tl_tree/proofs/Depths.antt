@@ -11,10 +11,11 @@ use Rattle.tl_tree.specs.Tags.{is_white, is_table_start}
 use Rattle.tl_tree.specs.Grammar.{Marks}
 use Rattle.tl_tree.specs.Spelling.{depth_with}
 use Rattle.tl_tree.specs.inner.Machine.{Holder, of_caption, of_cell, Place, opened, in_columns, in_colgroup, between, in_group}
-use Rattle.tl_tree.specs.inner.Machine.{in_row, in_flow, row_of}
-use Rattle.tl_tree.specs.inner.Machine.{group_of, columns_of, due, closes, same_head, in_flow_only, start_colgroup, lone_col}
-use Rattle.tl_tree.specs.inner.Machine.{end_group, start_row, end_row}
-use Rattle.tl_tree.specs.inner.Machine.{start_cell, Move, to, enter, leave, never, move, State, before, inside, after, failed}
+use Rattle.tl_tree.specs.inner.Machine.{in_row, in_flow, row_tags_at}
+use Rattle.tl_tree.specs.inner.Machine.{group_of, column_tags_at, due, closes, same_head, in_flow_only, start_colgroup, lone_col}
+use Rattle.tl_tree.specs.inner.Machine.{end_tag_of_group, start_row, end_row}
+use Rattle.tl_tree.specs.inner.Machine.{start_cell, Move, to, enter, leave, never, move, DocumentState, before, inside}
+use Rattle.tl_tree.specs.inner.Machine.{after, failed}
 use Rattle.tl_tree.specs.inner.Machine.{moved, next}
 use Rattle.tl_tree.specs.inner.Verdict.{is_failed, depth}
 
@@ -73,14 +74,14 @@ lone_col_fits span (Some c) = (refl, λ n. refl)
 
 col_fits : (span : ℕ) (p : Place) → DepthFits (col span) (move p (col span))
 col_fits span (in_colgroup n pending) = (refl, λ n. refl)
-col_fits span opened = lone_col_fits span (columns_of opened)
-col_fits span (in_columns n) = lone_col_fits span (columns_of (in_columns n))
+col_fits span opened = lone_col_fits span (column_tags_at opened)
+col_fits span (in_columns n) = lone_col_fits span (column_tags_at (in_columns n))
 col_fits span between = tt
 col_fits span (in_group part) = tt
 col_fits span (in_row part) = tt
-col_fits span (in_flow holder) = lone_col_fits span (columns_of (in_flow holder))
+col_fits span (in_flow holder) = lone_col_fits span (column_tags_at (in_flow holder))
 
-group_end_fits : (section : Section) (g : Option (Part × Marks)) → DepthFits (group_end section) (end_group section g)
+group_end_fits : (section : Section) (g : Option (Part × Marks)) → DepthFits (group_end section) (end_tag_of_group section g)
 group_end_fits section None = tt
 group_end_fits section (Some g) = if_fits (closes section g.0) (group_end section) between g.1 (refl, λ n. refl)
 
@@ -113,14 +114,14 @@ depth_fits p table_start = table_fits p
 depth_fits p table_end = refl
 depth_fits p caption_start = caption_fits p
 depth_fits p caption_end = caption_end_fits p
-depth_fits p (colgroup_start span) = colgroup_fits span (columns_of p)
+depth_fits p (colgroup_start span) = colgroup_fits span (column_tags_at p)
 depth_fits p colgroup_end = colgroup_end_fits p
 depth_fits p (col span) = col_fits span p
 depth_fits p (group_start section) = (refl, λ n. refl)
 depth_fits p (group_end section) = group_end_fits section (group_of p)
 depth_fits p row_start = row_fits (due p) (group_of p)
-depth_fits p row_end = row_end_fits (row_of p)
-depth_fits p (cell_start head spans) = cell_fits head spans (row_of p)
+depth_fits p row_end = row_end_fits (row_tags_at p)
+depth_fits p (cell_start head spans) = cell_fits head spans (row_tags_at p)
 depth_fits p (cell_end head) = cell_end_fits head p
 depth_fits p br = flow_fits br _ p (λ q. (refl, λ n. refl))
 depth_fits p p_or_div = flow_fits p_or_div _ p (λ q. (refl, λ n. refl))
@@ -139,11 +140,11 @@ moved_depth (holder ∷ hs) k (leave ms) e alive =
     let P : Kind → Type 0 = λ x. length hs + 1 ≡ depth_with (length (holder ∷ hs) + 1) x in subst P (sym e) (omega arith)
 moved_depth hs k never h alive = absurd (false≢true (sym alive))
 
-if_alive : (b : Bool) (s : State) → is_failed s ≡ false → is_failed (cond b s failed) ≡ false → cond b s failed ≡ s
+if_alive : (b : Bool) (s : DocumentState) → is_failed s ≡ false → is_failed (cond b s failed) ≡ false → cond b s failed ≡ s
 if_alive true s fine alive = refl
 if_alive false s fine alive = absurd (false≢true (sym alive))
 
-pub depth-next : (s : State) (k : Kind) → is_failed (next s k) ≡ false → depth (next s k) ≡ depth_with (depth s) k
+pub depth-next : (s : DocumentState) (k : Kind) → is_failed (next s k) ≡ false → depth (next s k) ≡ depth_with (depth s) k
 depth-next before (text cs) alive = ap depth (if_alive (is_white (text cs)) before refl alive)
 depth-next before table_start alive = refl
 depth-next before outer_tag alive = refl

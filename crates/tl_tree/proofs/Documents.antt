@@ -28,11 +28,11 @@ use Rattle.tl_tree.specs.Sound.{entry_size}
 use Rattle.tl_tree.specs.Spelling.{SpellsTree, IsWithinLimits, depth_with, depth_after, tables_with, tables_after, FitsLimits}
 use Rattle.tl_tree.specs.Spelling.{FitLimits, AreNoDocument, SpellsNoTree}
 use Rattle.tl_tree.specs.Spelling.{ReturnsTree}
-use Rattle.tl_tree.specs.inner.Machine.{State, before, next, told, reached, all_told}
+use Rattle.tl_tree.specs.inner.Machine.{DocumentState, before, next, told, reached, all_told}
 use Rattle.tl_tree.specs.inner.Verdict.{is_failed, depth, misfit, end_fault, verdict}
 use Rattle.tl_tree.specs.inner.Lines.{line_atoms}
-use Rattle.tl_tree.specs.inner.Reading.{place_of, place_columns, open_size, holder_so_far, outcome}
-use Rattle.tl_tree.specs.inner.Documents.{around, state_of, IsModestReading, IsFresh, Reads, IsStop, stop_error, HasRead}
+use Rattle.tl_tree.specs.inner.Reading.{machine_place, place_columns, open_size, holder_so_far, outcome}
+use Rattle.tl_tree.specs.inner.Documents.{around, state_of, IsModestReading, IsFresh, Reads, IsStop, stop_error, HasReadTokens}
 use Rattle.tl_tree.proofs.MachineSound.{document_sound}
 use Rattle.tl_tree.proofs.Verdicts.{reached-append, depth-reached, passes, refused_first, first_refused, document_clean, no_table}
 use Rattle.tl_tree.proofs.Verdicts.{wrong_at}
@@ -42,7 +42,7 @@ use Rattle.tl_tree.proofs.FineMoves.{state_columns, few_columns, small_marks}
 use Rattle.tl_tree.proofs.EntrySizes.{entries_size, paragraph_size, open_line_size}
 
 -- one more token
-all_told-push : (s : State) (prefix : Kinds) (k : Kind) → all_told s (prefix ++ k ∷ []) ≡ all_told s prefix ++ told
+all_told-push : (s : DocumentState) (prefix : Kinds) (k : Kind) → all_told s (prefix ++ k ∷ []) ≡ all_told s prefix ++ told
     (reached s prefix) k
 all_told-push s [] k = append-nil (told s k)
 all_told-push s (j ∷ prefix) k = ap (λ x. told s j ++ x) (all_told-push (next s j) prefix k) ∙ sym (append_assoc (told s j) _ _)
@@ -58,12 +58,12 @@ tables_after-push : (t : ℕ) (prefix : Kinds) (k : Kind) → tables_after t (pr
 tables_after-push t [] k = refl
 tables_after-push t (j ∷ prefix) k = tables_after-push (tables_with t j) prefix k
 
-pub nothing_read : HasRead [] 0 Before
+pub nothing_read : HasReadTokens [] 0 Before
 nothing_read = record { goes = refl; alive = refl; within = tt; counted = refl; same = λ later. refl }
 
-pub one_more_read : (prefix : Kinds) (tables : ℕ) (old new : Reading) (k : Kind) → HasRead prefix tables old →
+pub one_more_read : (prefix : Kinds) (tables : ℕ) (old new : Reading) (k : Kind) → HasReadTokens prefix tables old →
     Reads old tables k new
-    → HasRead (prefix ++ k ∷ []) (tables_with tables k) new
+    → HasReadTokens (prefix ++ k ∷ []) (tables_with tables k) new
 one_more_read prefix tables old new k h r = record {
   goes = reached-append before prefix (k ∷ []) ∙ ap (λ s. next s k) h.goes ∙ r.goes;
   alive = r.alive;
@@ -81,8 +81,9 @@ one_more_read prefix tables old new k h r = record {
 
 -- the token at which reading stops
 pub stopped : (ks prefix rest : Kinds) (k : Kind) (tables : ℕ) (reading : Reading) (stop : Stop) → ks ≡ prefix ++ (k ∷ rest) →
-    HasRead prefix tables reading
-    → IsStop (state_of reading) tables k stop → IsMemoryOr (Memory alloc_error) (AreNoDocument ks) (stop_error (length prefix) k stop)
+    HasReadTokens prefix tables reading
+    → IsStop (state_of reading) tables k stop →
+    IsMemoryOr (Memory alloc_error) (AreNoDocument ks) (stop_error (length prefix) k stop)
 stopped ks prefix rest k tables reading (stops.Memory error) split h stop = inl refl
 stopped ks prefix rest k tables reading stops.Misfit split h stop =
     let dead : is_failed (next (reached before prefix) k) ≡ true = ap (λ s. is_failed (next s k)) h.goes ∙ stop in
@@ -103,7 +104,7 @@ stopped ks prefix rest k tables reading stops.TooManyTables split h (table, goes
     (table_fault _ _ _ k table alive ∙ many_fault _ _ _ _ d m (zero-add (length prefix))))
 
 -- the end of the tokens
-pub ended_refused : (ks : Kinds) (tables : ℕ) (reading : Reading) (e : TreeError) → HasRead ks tables reading →
+pub ended_refused : (ks : Kinds) (tables : ℕ) (reading : Reading) (e : TreeError) → HasReadTokens ks tables reading →
     end_fault (state_of reading) ≡ Some e
     → AreNoDocument ks e
 ended_refused ks tables reading e h f =
@@ -111,7 +112,7 @@ ended_refused ks tables reading e h f =
     (ap is_failed h.goes ∙ h.alive) h.within
     ∙ ap end_fault h.goes ∙ f)
 
-pub ended_tree : (tokens : List Token) (tables : ℕ) (node : TableNode) → HasRead (kinds tokens) tables (After node) →
+pub ended_tree : (tokens : List Token) (tables : ℕ) (node : TableNode) → HasReadTokens (kinds tokens) tables (After node) →
     SpellsTree tokens node
 ended_tree tokens tables node h = record {
   marks = all_told before (kinds tokens);
@@ -172,13 +173,14 @@ flow_size (stages.Flow holder flow) k =
     let d = open_line_size flow.line in
     omega arith
 
-pub modest : (prefix : Kinds) (tables : ℕ) (reading : Reading) → HasRead prefix tables reading → AllByRecursion IsReadable prefix
+pub modest : (prefix : Kinds) (tables : ℕ) (reading : Reading) → HasReadTokens prefix tables reading →
+    AllByRecursion IsReadable prefix
     → sum_by kind_size prefix ≤ MAX_FILE_BYTES → IsModestReading reading
 modest prefix tables Before h readable small = tt
 modest prefix tables (After node) h readable small = tt
 modest prefix tables (Inside outer t) h readable small =
     let few = few_columns before prefix readable in
-    let same : state_columns (reached before prefix) ≡ place_columns (place_of t) = ap state_columns h.goes in
+    let same : state_columns (reached before prefix) ≡ place_columns (machine_place t) = ap state_columns h.goes in
     let long = kinds_length prefix readable in
     let sizes = sum_by-append entry_size (around outer.items) (outcome t tables []) in
     let all : sum_by entry_size (around outer.items ++ outcome t tables []) ≡ sum_by entry_size
@@ -235,7 +237,7 @@ small_prefix ks prefix rest split h =
     let s = sum_by-append kind_size prefix rest in
     omega arith
 
-pub fresh : (prefix : Kinds) (tables : ℕ) (reading : Reading) → HasRead prefix tables reading → IsFresh reading tables
+pub fresh : (prefix : Kinds) (tables : ℕ) (reading : Reading) → HasReadTokens prefix tables reading → IsFresh reading tables
 fresh prefix tables Before h = h.counted ∙ no_table 0 prefix h.goes
 fresh prefix tables (Inside outer t) h = tt
 fresh prefix tables (After node) h = tt

@@ -18,7 +18,8 @@ use Rattle.tl_tree.specs.Tags.{Kinds, tbody, text, table_start, table_end, capti
 use Rattle.tl_tree.specs.Tags.{group_end, row_start, cell_start, br}
 use Rattle.tl_tree.specs.Tags.{p_or_div, class_of}
 use Rattle.tl_tree.specs.Grammar as grammar
-use Rattle.tl_tree.specs.Grammar.{Marks, Document, colgroup_columns, no_outer, no_space, by_tag, left_out, no_columns, lone_col}
+use Rattle.tl_tree.specs.Grammar.{Marks, DocumentTokens, colgroup_columns, no_outer, no_space, by_tag, left_out, no_columns}
+use Rattle.tl_tree.specs.Grammar.{lone_col}
 use Rattle.tl_tree.specs.Grammar.{no_flow, words, break, nested}
 use Rattle.tl_tree.specs.Grammar.{no_caption, no_cell, no_row, no_part, loose_rows, character, line_break, paragraph_ends}
 use Rattle.tl_tree.specs.Paragraphs.{entries_of}
@@ -54,7 +55,7 @@ captioned_entries = table 0 ∷ caption ∷ paragraph (Word (codes "A") ∷ []) 
     ∷ paragraph (Word (codes "b") ∷ Break ∷ Word (codes "c") ∷ [])
     ∷ table 1 ∷ columns 0 ∷ table_end ∷ paragraph (Word (codes "d") ∷ []) ∷ table_end ∷ []
 
-captioned_document : Document captioned captioned_marks
+captioned_document : DocumentTokens captioned captioned_marks
 captioned_document = record {
   before = captioned;
   after = [];
@@ -94,7 +95,7 @@ grouped_marks = grammar.table_begins ∷ grammar.columns 0 ∷ grammar.group_beg
     Loose ∷ grammar.row_begins ∷ grammar.group_begins Body ∷ grammar.row_begins
     ∷ grammar.group_begins Loose ∷ grammar.row_begins ∷ grammar.row_begins ∷ grammar.table_ends ∷ []
 
-grouped_document : Document grouped grouped_marks
+grouped_document : DocumentTokens grouped grouped_marks
 grouped_document = record {
   before = grouped;
   after = [];

@@ -7,7 +7,7 @@ use Rattle.tl_tree.specs.Grammar.{Mark, Marks, table_begins, columns, table_ends
 use Rattle.tl_tree.specs.Paragraphs.{number_after}
 use Rattle.tl_tree.specs.Readable.{IsReadable}
 use Rattle.tl_tree.specs.Spelling.{depth_with, tables_with, tables_after, FitsLimits, FitLimits}
-use Rattle.tl_tree.specs.inner.Machine.{State, next, told, reached, all_told}
+use Rattle.tl_tree.specs.inner.Machine.{DocumentState, next, told, reached, all_told}
 use Rattle.tl_tree.specs.inner.Verdict.{is_failed}
 use Rattle.tl_tree.proofs.Verdicts.{alive_before}
 use Rattle.tl_tree.proofs.FineMoves.{IsFineMark, AreMarksOf, state_columns, fine_step}
@@ -58,7 +58,7 @@ token_number n t table_end ms rest (due, is, inside) =
 token_number n t _ ms rest inside = inside_number n t ms rest inside
 
 -- the marks of tokens that lead on
-pub fine_marks : (most d t : ℕ) (s : State) (ks : Kinds) → AllByRecursion IsReadable ks → is_failed (reached s ks) ≡ false
+pub fine_marks : (most d t : ℕ) (s : DocumentState) (ks : Kinds) → AllByRecursion IsReadable ks → is_failed (reached s ks) ≡ false
     → state_columns s + MAX_COLSPAN * length ks ≤ most → FitLimits d t ks → AreFineMarks most d (all_told s ks)
 fine_marks most d t s [] readable alive few fits = tt
 fine_marks most d t s (k ∷ ks) (here, later) alive few fits =
@@ -68,7 +68,7 @@ fine_marks most d t s (k ∷ ks) (here, later) alive few fits =
     token_fine (state_columns s) most d t k (told s k) (all_told (next s k) ks) (omega arith)
     (step.fine (alive_before (next s k) ks alive)) fits.0 rest
 
-pub number_told : (t : ℕ) (s : State) (ks : Kinds) → AllByRecursion IsReadable ks → is_failed (reached s ks) ≡ false
+pub number_told : (t : ℕ) (s : DocumentState) (ks : Kinds) → AllByRecursion IsReadable ks → is_failed (reached s ks) ≡ false
     → number_at t (all_told s ks) ≡ tables_after t ks
 number_told t s [] readable alive = refl
 number_told t s (k ∷ ks) (here, later) alive =

@@ -24,8 +24,9 @@ use Rattle.tl_tree.specs.Readable.{IsReadable, kind_size}
 use Rattle.tl_tree.specs.Spelling.{depth_with}
 use Rattle.tl_tree.specs.inner.Machine.{Holder, of_caption, of_cell, Place, opened, in_columns, in_colgroup, between, in_group}
 use Rattle.tl_tree.specs.inner.Machine.{in_row, in_flow, due, closes}
-use Rattle.tl_tree.specs.inner.Machine.{same_head, Move, to, enter, leave, never, move, State, before, inside, after, failed}
-use Rattle.tl_tree.specs.inner.Machine.{left, moved, marks_of, next}
+use Rattle.tl_tree.specs.inner.Machine.{same_head, Move, to, enter, leave, never, move, DocumentState, before, inside, after}
+use Rattle.tl_tree.specs.inner.Machine.{failed}
+use Rattle.tl_tree.specs.inner.Machine.{table_left, moved, marks_of, next}
 use Rattle.tl_tree.specs.inner.Machine.{told, reached, all_told}
 use Rattle.tl_tree.specs.inner.Reading.{place_columns}
 use Rattle.tl_tree.specs.inner.Verdict.{is_failed}
@@ -217,7 +218,7 @@ fine_moves p outer_tag h = tt
 fine_moves p lone_end h = tt
 
 -- how many columns the place of a state has
-abbrev pub state_columns : State → ℕ
+abbrev pub state_columns : DocumentState → ℕ
 state_columns (inside p hs) = place_columns p
 state_columns _ = 0
 
@@ -235,12 +236,12 @@ marks_inside n table_end ms start same h = absurd (let e : 0 ≡ 1 = same 1 in o
 marks_inside n _ ms start same h = h
 
 -- a whole step keeps columns few and its marks small, and its marks sound where it does not fail
-pub record FineStep (s : State) (k : Kind) : Type 0 where
+pub record FineStep (s : DocumentState) (k : Kind) : Type 0 where
   pub few : state_columns (next s k) ≤ state_columns s + MAX_COLSPAN
   pub small : sum_by mark_size (told s k) ≤ kind_size k
   pub fine : is_failed (next s k) ≡ false → AreMarksOf (state_columns s) k (told s k)
 
-left_columns : (hs : List Holder) → state_columns (left hs) ≡ 0
+left_columns : (hs : List Holder) → state_columns (table_left hs) ≡ 0
 left_columns [] = refl
 left_columns (holder ∷ hs) = refl
 
@@ -257,16 +258,17 @@ moved_step p hs k (leave ms) h d =
     let size : sum_by mark_size ms ≤ 1 = (let e : sum_by mark_size ms ≡ sum_by mark_size (due p ++ table_ends ∷ []) =
     ap (λ x. sum_by mark_size x) h.1 in
     let s = sum_by-append mark_size (due p) (table_ends ∷ []) in let z = due_marks.0 in omega arith) in
-    let P : Kind → Type 0 = λ x. (state_columns (left hs) ≤ place_columns p + MAX_COLSPAN) × (sum_by mark_size ms ≤ kind_size x)
-    × (is_failed (left hs) ≡ false → AreMarksOf (place_columns p) x ms) in
+    let P : Kind → Type 0 = λ x. (state_columns (table_left hs) ≤ place_columns p + MAX_COLSPAN)
+    × (sum_by mark_size ms ≤ kind_size x)
+    × (is_failed (table_left hs) ≡ false → AreMarksOf (place_columns p) x ms) in
     subst P (sym h.0) (let e = left_columns hs in omega arith, size, λ alive. (due p, h.1, due_marks.1))
 moved_step p hs k never h d = (omega arith, omega arith, λ alive. absurd (false≢true (sym alive)))
 
-no_columns_if : (b : Bool) (s : State) → state_columns s ≡ 0 → state_columns (cond b s failed) ≤ MAX_COLSPAN
+no_columns_if : (b : Bool) (s : DocumentState) → state_columns s ≡ 0 → state_columns (cond b s failed) ≤ MAX_COLSPAN
 no_columns_if true s h = omega arith
 no_columns_if false s h = omega arith
 
-pub fine_step : (s : State) (k : Kind) → IsReadable k → FineStep s k
+pub fine_step : (s : DocumentState) (k : Kind) → IsReadable k → FineStep s k
 fine_step before (text cs) h = record {
   few = no_columns_if (is_white (text cs)) before refl;
   small = omega arith;
@@ -290,12 +292,13 @@ fine_step after _ h = record { few = omega arith; small = omega arith; fine = λ
 fine_step failed k h = record { few = omega arith; small = omega arith; fine = λ alive. absurd (false≢true (sym alive)) }
 
 -- and of steps one after another
-pub few_columns : (s : State) (ks : Kinds) → AllByRecursion IsReadable ks →
+pub few_columns : (s : DocumentState) (ks : Kinds) → AllByRecursion IsReadable ks →
     state_columns (reached s ks) ≤ state_columns s + MAX_COLSPAN * length ks
 few_columns s [] h = omega arith
 few_columns s (k ∷ ks) (here, later) = let a = (fine_step s k here).few in let b = few_columns (next s k) ks later in omega arith
 
-pub small_marks : (s : State) (ks : Kinds) → AllByRecursion IsReadable ks → sum_by mark_size (all_told s ks) ≤ sum_by kind_size ks
+pub small_marks : (s : DocumentState) (ks : Kinds) → AllByRecursion IsReadable ks →
+    sum_by mark_size (all_told s ks) ≤ sum_by kind_size ks
 small_marks s [] h = omega arith
 small_marks s (k ∷ ks) (here, later) =
     let a = (fine_step s k here).small in

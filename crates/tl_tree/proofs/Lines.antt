@@ -20,7 +20,7 @@ use Rattle.std.proofs.lemmas.List.Elements.{All-from_recursion}
 use Rattle.std.proofs.lemmas.List.Sums.{sum_by-cons, sum_by-append}
 use Rattle.tl_base.specs.Text.{byte_count}
 use Rattle.tl_text.specs.Words.{has_character}
-use Rattle.tl_text.specs.Paragraph.{IsParagraph, IsSolid, IsSpelt, atom_size, lined_pieces, has_leading_glue}
+use Rattle.tl_text.specs.Paragraph.{IsParagraph, IsSolid, IsSpeltAtom, atom_size, lined_pieces, has_leading_glue}
 use Rattle.tl_text.specs.declared.paragraph.Atom.{Atom}
 use Rattle.tl_text.specs.declared.paragraph.Atom.TheVariants.{Word, Glue, Break}
 use Rattle.tl_text.proofs.WordLemmas.{words_from, words_from-start, words_from-letter, words_from-white, words_from-end}
@@ -111,7 +111,7 @@ solid_of text h = (
     unnot false h = refl
     unnot true h = absurd (false≢true h)
 
-spelt_whole : (atoms : List Atom) → list_all is_whole atoms ≡ true → AllByRecursion IsSpelt atoms
+spelt_whole : (atoms : List Atom) → list_all is_whole atoms ≡ true → AllByRecursion IsSpeltAtom atoms
 spelt_whole [] h = tt
 spelt_whole (Word text ∷ atoms) h = (
   solid_of text (both-left (is_whole (Word text)) _ h),
@@ -132,7 +132,7 @@ pub whole_paragraph : (atoms : List Atom) → 0 < length atoms → list_all is_w
 whole_paragraph atoms some whole small = record {
   has_atom = some;
   begun = begun_whole atoms whole;
-  spelt = All-from_recursion IsSpelt atoms (spelt_whole atoms whole);
+  spelt = All-from_recursion IsSpeltAtom atoms (spelt_whole atoms whole);
   size = small;
 }
 

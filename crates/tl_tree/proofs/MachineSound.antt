@@ -20,10 +20,11 @@ use Rattle.tl_tree.specs.Grammar.{colgroup_columns, Columns, no_columns, colgrou
 use Rattle.tl_tree.specs.Grammar.{inline, nested, Table, table}
 use Rattle.tl_tree.specs.Grammar.{Caption, no_caption, caption, Cells, no_cell, cell, Rows, no_row, row, Parts, no_part, group}
 use Rattle.tl_tree.specs.Grammar.{loose_rows, Outer, no_outer}
-use Rattle.tl_tree.specs.Grammar.{outer_space, outer, Document}
+use Rattle.tl_tree.specs.Grammar.{outer_space, outer, DocumentTokens}
 use Rattle.tl_tree.specs.inner.Machine.{Holder, of_caption, of_cell, Place, opened, in_columns, in_colgroup, between, in_group}
 use Rattle.tl_tree.specs.inner.Machine.{in_row, in_flow, due, closes}
-use Rattle.tl_tree.specs.inner.Machine.{Move, to, enter, leave, never, move, State, before, inside, after, failed, left, moved}
+use Rattle.tl_tree.specs.inner.Machine.{Move, to, enter, leave, never, move, DocumentState, before, inside, after, failed}
+use Rattle.tl_tree.specs.inner.Machine.{table_left, moved}
 use Rattle.tl_tree.specs.inner.Machine.{marks_of, next, told, reached}
 use Rattle.tl_tree.specs.inner.Machine.{all_told, Accepts}
 use Rattle.tl_tree.proofs.Moves.{no_way, is_plain}
@@ -418,13 +419,13 @@ data Left : List Holder → Kinds → Marks → Type 0 where
   holding : {holder : Holder} {hs : List Holder} {ks rest : Kinds} {ms more : Marks}
       → Rest (in_flow holder) ks ms rest more → Left hs rest more → Left (holder ∷ hs) ks ms
 
-data Completes : State → Kinds → Marks → Type 0 where
-  from_before : {ks : Kinds} {ms : Marks} → Document ks ms → Completes before ks ms
+data Completes : DocumentState → Kinds → Marks → Type 0 where
+  from_before : {ks : Kinds} {ms : Marks} → DocumentTokens ks ms → Completes before ks ms
   from_inside : {p : Place} {hs : List Holder} {ks rest : Kinds} {ms more : Marks} → Rest p ks ms rest more →
       Left hs rest more → Completes (inside p hs) ks ms
   from_after : {ks : Kinds} → Outer ks [] → Completes after ks []
 
-from_left : (hs : List Holder) {ks : Kinds} {ms : Marks} → Completes (left hs) ks ms → Left hs ks ms
+from_left : (hs : List Holder) {ks : Kinds} {ms : Marks} → Completes (table_left hs) ks ms → Left hs ks ms
 from_left [] (from_after h) = around h
 from_left (holder ∷ hs) (from_inside rest h) = holding rest h
 
@@ -475,7 +476,7 @@ after_step (text cs) {ks} {ms} h = by_white (is_white (text cs)) refl h
 after_step outer_tag (from_after outside) = from_after (outer outside)
 after_step _ h = elim h [ ]
 
-sound : (s : State) (ks : Kinds) → reached s ks ≡ after → Completes s ks (all_told s ks)
+sound : (s : DocumentState) (ks : Kinds) → reached s ks ≡ after → Completes s ks (all_told s ks)
 sound before [] h = absurd (cc)
 sound (inside p hs) [] h = absurd (cc)
 sound after [] h = from_after no_outer
@@ -485,9 +486,9 @@ sound (inside p hs) (k ∷ ks) h = inside_step p hs k (move p k) (steps p k) (so
 sound after (k ∷ ks) h = after_step k (sound (next after k) ks h)
 sound failed (k ∷ ks) h = no_way ks h
 
-of_before : {ks : Kinds} {ms : Marks} → Completes before ks ms → Document ks ms
+of_before : {ks : Kinds} {ms : Marks} → Completes before ks ms → DocumentTokens ks ms
 of_before (from_before d) = d
 
 -- What is accepted is a document.
-pub document_sound : {ks : Kinds} {ms : Marks} → Accepts before ks ms → Document ks ms
-document_sound {ks} a = let P : Marks → Type 0 = λ x. Document ks x in subst P a.tells (of_before (sound before ks a.ends))
+pub document_sound : {ks : Kinds} {ms : Marks} → Accepts before ks ms → DocumentTokens ks ms
+document_sound {ks} a = let P : Marks → Type 0 = λ x. DocumentTokens ks x in subst P a.tells (of_before (sound before ks a.ends))

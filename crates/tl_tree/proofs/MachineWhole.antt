@@ -18,10 +18,11 @@ use Rattle.tl_tree.specs.Grammar.{no_columns, colgroup, lone_col, Flow, no_flow,
 use Rattle.tl_tree.specs.Grammar.{Caption, no_caption}
 use Rattle.tl_tree.specs.Grammar.{caption, Cells, no_cell, cell, Rows, no_row, row, Parts, no_part, group, loose_rows, Outer}
 use Rattle.tl_tree.specs.Grammar.{no_outer, outer_space, outer}
-use Rattle.tl_tree.specs.Grammar.{Document}
+use Rattle.tl_tree.specs.Grammar.{DocumentTokens}
 use Rattle.tl_tree.specs.inner.Machine.{Holder, of_caption, of_cell, Place, opened, in_columns, in_colgroup, between, in_group}
 use Rattle.tl_tree.specs.inner.Machine.{in_row, in_flow, Move, to}
-use Rattle.tl_tree.specs.inner.Machine.{enter, leave, never, closes, same_head, move, State, before, inside, after, left, moved}
+use Rattle.tl_tree.specs.inner.Machine.{enter, leave, never, closes, same_head, move, DocumentState, before, inside, after}
+use Rattle.tl_tree.specs.inner.Machine.{table_left, moved}
 use Rattle.tl_tree.specs.inner.Machine.{marks_of, next, told}
 use Rattle.tl_tree.specs.inner.Machine.{reached, all_told, Accepts}
 use Rattle.tl_tree.proofs.Moves.{no_way, same_head-refl, closes-own, is_plain, white_stays, told_first, is_entry, Alike, nowhere}
@@ -164,8 +165,9 @@ mutual
   flow_whole holder hs (nested inner later) a =
       table_whole (inside (in_flow holder) hs) (holder ∷ hs) refl refl inner (flow_whole holder hs later a)
 
-  table_whole : (s : State) (hs : List Holder) → next s table_start ≡ inside opened hs → told s table_start ≡ table_begins ∷ []
-      → {ks rest : Kinds} {ms more : Marks} → Table ks ms rest more → Accepts (left hs) rest more → Accepts s ks ms
+  table_whole : (s : DocumentState) (hs : List Holder) → next s table_start ≡ inside opened hs →
+      told s table_start ≡ table_begins ∷ []
+      → {ks rest : Kinds} {ms more : Marks} → Table ks ms rest more → Accepts (table_left hs) rest more → Accepts s ks ms
   table_whole s hs goes tells (table {n = n} {k2 = k2} {m1 = m1} spaces before_columns cols parts) a =
       let closed : Accepts (inside between hs) (table_end ∷ _) (table_ends ∷ _) =
       record { ends = a.ends; tells = ap (λ x. table_ends ∷ x) a.tells } in
@@ -237,5 +239,5 @@ outer_after (outer_space {cs = cs} white later) = let b = outer_after later in
 outer_after (outer later) = let b = outer_after later in record { ends = b.ends; tells = b.tells }
 
 -- Every document is accepted, with its marks.
-pub document_whole : {ks : Kinds} {ms : Marks} → Document ks ms → Accepts before ks ms
+pub document_whole : {ks : Kinds} {ms : Marks} → DocumentTokens ks ms → Accepts before ks ms
 document_whole d = outer_before d.led (table_whole before [] refl refl d.whole (outer_after d.followed))

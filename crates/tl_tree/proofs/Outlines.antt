@@ -6,7 +6,8 @@ use Rattle.std.specs.declared.boxed.Box.{Box}
 use Rattle.std.specs.declared.alloc.Global.{Global}
 use Rattle.tl_text.specs.declared.paragraph.Atom.{Atom}
 use Rattle.std.specs.List.{flat_map}
-use Rattle.tl_tree.specs.Outline.{Entries, table, caption, columns, group, row, cell, paragraph, table_end, joined, row_entries}
+use Rattle.tl_tree.specs.Outline.{Entries, table, caption, columns, group, row, cell, paragraph, table_end, joined_entries}
+use Rattle.tl_tree.specs.Outline.{row_entries}
 use Rattle.tl_tree.specs.Outline.{block_entries, cell_entries}
 use Rattle.tl_tree.specs.Outline.{group_entries, table_entries, block_outline, cell_outline, group_outline, outline}
 use Rattle.tl_tree.specs.declared.node.Block.{Block, Table, roll-Block, fold-roll-Block}
@@ -17,7 +18,7 @@ use Rattle.tl_tree.specs.declared.node.CellNode.{CellNode, roll-CellNode, fold-r
 use Rattle.tl_tree.specs.declared.node.GroupNode.{GroupNode, roll-GroupNode, fold-roll-GroupNode}
 use Rattle.tl_tree.specs.declared.node.TableNode.{TableNode, roll-TableNode, fold-roll-TableNode}
 
-joined-map : {A : Type 0} (f : A → Entries) (xs : List A) → joined (list_map f xs) ≡ flat_map f xs
+joined-map : {A : Type 0} (f : A → Entries) (xs : List A) → joined_entries (list_map f xs) ≡ flat_map f xs
 joined-map f [] = refl
 joined-map f (x ∷ xs) = ap (λ es. f x ++ es) (joined-map f xs)
 
@@ -57,7 +58,8 @@ table_made number None n groups =
     ∙ ap (λ es. table number ∷ (columns n ∷ (es ++ table_end ∷ []))) (joined-map group_outline groups)
 table_made number (Some flow) n groups =
     fold-roll-TableNode Entries Entries Entries Entries block_entries cell_entries group_entries table_entries _
-    ∙ ap (λ es. table number ∷ (caption ∷ (es ++ (columns n ∷ (joined (list_map group_outline groups) ++ table_end ∷ [])))))
+    ∙ ap (λ es. table number ∷
+    (caption ∷ (es ++ (columns n ∷ (joined_entries (list_map group_outline groups) ++ table_end ∷ [])))))
     (joined-map block_outline flow)
     ∙ ap (λ es. table number ∷ (caption ∷ (flat_map block_outline flow ++ (columns n ∷ (es ++ table_end ∷ [])))))
     (joined-map group_outline groups)

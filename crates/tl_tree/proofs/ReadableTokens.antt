@@ -8,11 +8,12 @@ use Rattle.std.proofs.lemmas.List.Sums.{sum_by-cons}
 use lib.Utf8.{scalar}
 use Rattle.tl_base.specs.declared.limits.TheConstants.{MAX_FILE_BYTES, MAX_COLSPAN, MAX_ROWSPAN, MAX_PAGE_WIDTH}
 use Rattle.tl_token.specs.Characters.{◌∈◌, is_control, begins}
-use Rattle.tl_token.specs.Numbers.{number, columns_of, rows_of, floor_of}
-use Rattle.tl_token.specs.Elements.{Attribute, Tag, kind_of, spans_of}
-use Rattle.tl_token.specs.Grammar.{named_character, numbered_character, referred, numeric_reference, reference, Piece}
-use Rattle.tl_token.specs.Grammar.{Stands, comment, doctype, markup, by_reference, plain}
-use Rattle.tl_token.specs.Spelling.{Part, place_of, Leads, here, next, join_before, character_before, piece_before, tokens_of}
+use Rattle.tl_token.specs.Numbers.{number, columns_spanned, rows_spanned, floor_of}
+use Rattle.tl_token.specs.Elements.{Attribute, Tag, tag_token, span_numbers}
+use Rattle.tl_token.specs.Grammar.{named_character, numbered_character, referred, numeric_reference, reference, Lexeme}
+use Rattle.tl_token.specs.Grammar.{LexemeStands, comment, doctype, markup, by_reference, plain}
+use Rattle.tl_token.specs.Spelling.{Part, place_of_rest, Leads, here, next, join_before, character_before, piece_before}
+use Rattle.tl_token.specs.Spelling.{tokens_of}
 use Rattle.tl_token.specs.Spelling.{token_size, size_of}
 use Rattle.tl_token.specs.Spelling.{SpellsTokens}
 use Rattle.tl_token.specs.declared.token.Element.{Element}
@@ -24,7 +25,7 @@ use Rattle.tl_token.specs.declared.token.TokenKind.{TokenKind}
 use Rattle.tl_token.specs.declared.token.TokenKind.TheVariants.{Start, End, Text}
 use Rattle.tl_token.proofs.CharacterTests.{chosen, not_true}
 use Rattle.tl_text.proofs.ClusterLemmas.{both-right}
-use Rattle.tl_tree.specs.Tags.{kinds, class_of, start_of, end_of}
+use Rattle.tl_tree.specs.Tags.{kinds, class_of, kind_of_start, kind_of_end}
 use Rattle.tl_tree.specs.Readable.{IsReadable, AreReadable, kind_size}
 
 some_is : {A : Type 0} (a b : A) → Some a ≡ Some b → a ≡ b
@@ -74,11 +75,11 @@ reference_plain cs d rest h =
     ]
 
 -- the numbers of a start tag
-some_columns : (n : Option ℕ) → (0 < columns_of n) × (columns_of n ≤ MAX_COLSPAN)
+some_columns : (n : Option ℕ) → (0 < columns_spanned n) × (columns_spanned n ≤ MAX_COLSPAN)
 some_columns None = (omega arith, omega arith)
 some_columns (Some n) = (omega (arith, clamps), omega (arith, clamps))
 
-few_rows : (n : Option ℕ) → rows_of n ≤ MAX_ROWSPAN
+few_rows : (n : Option ℕ) → rows_spanned n ≤ MAX_ROWSPAN
 few_rows None = omega arith
 few_rows (Some n) = omega (arith, clamps)
 
@@ -86,7 +87,7 @@ narrow : (n : Option ℕ) → floor_of n ≤ MAX_PAGE_WIDTH
 narrow None = omega arith
 narrow (Some n) = omega (arith, clamps)
 
-start_readable : (e : Element) (attributes : List Attribute) → IsReadable (start_of e (spans_of e attributes))
+start_readable : (e : Element) (attributes : List Attribute) → IsReadable (kind_of_start e (span_numbers e attributes))
 start_readable Td attributes = record {
   some_column = (some_columns _).0;
   few_columns = (some_columns _).1;
@@ -115,7 +116,7 @@ start_readable Div attributes = tt
 start_readable Inline attributes = tt
 start_readable Outer attributes = tt
 
-end_readable : (e : Element) → IsReadable (end_of e)
+end_readable : (e : Element) → IsReadable (kind_of_end e)
 end_readable Table = tt
 end_readable Caption = tt
 end_readable Colgroup = tt
@@ -132,10 +133,10 @@ end_readable Div = tt
 end_readable Inline = tt
 end_readable Outer = tt
 
-tag_readable : (e : Element) (t : Tag) → IsReadable (class_of (kind_of e t))
+tag_readable : (e : Element) (t : Tag) → IsReadable (class_of (tag_token e t))
 tag_readable e t = by_end (t.is_end)
   where
-    by_end : (b : Bool) → IsReadable (class_of (cond b (End e) (Start e (spans_of e (t.attributes)))))
+    by_end : (b : Bool) → IsReadable (class_of (cond b (End e) (Start e (span_numbers e (t.attributes)))))
     by_end true = end_readable e
     by_end false = start_readable e (t.attributes)
 
@@ -156,7 +157,7 @@ character_readable c first past (t ∷ later) allowed fine = by_kind (t.kind) (f
     by_kind (Start e spans) start_fine = ((omega arith, any_control c [] allowed refl), fine)
     by_kind (End e) end_fine = ((omega arith, any_control c [] allowed refl), fine)
 
-piece_readable : (cs rest : List ℕ) (piece : Piece) (first past : ℕ) (later : List Token) → Stands cs piece rest →
+piece_readable : (cs rest : List ℕ) (piece : Lexeme) (first past : ℕ) (later : List Token) → LexemeStands cs piece rest →
     AllReadable later
     → AllReadable (piece_before piece first past later)
 piece_readable cs rest _ first past later (comment k) fine = fine
@@ -173,10 +174,10 @@ piece_readable _ rest _ first past later (plain {c = c} k) fine =
 parts_readable : (size : ℕ) (cs rest : List ℕ) (parts : List Part) → Leads size cs parts rest → AllReadable (tokens_of parts)
 parts_readable size cs rest _ here = tt
 parts_readable size cs rest _ (next {mid = mid} {parts = parts} piece k later) =
-    piece_readable cs mid piece (place_of size cs) (place_of size mid) (tokens_of parts) k
+    piece_readable cs mid piece (place_of_rest size cs) (place_of_rest size mid) (tokens_of parts) k
     (parts_readable size mid rest parts later)
 
-start_size : (e : Element) (spans : Spans) → kind_size (start_of e spans) ≡ 1
+start_size : (e : Element) (spans : Spans) → kind_size (kind_of_start e spans) ≡ 1
 start_size Table spans = refl
 start_size Caption spans = refl
 start_size Colgroup spans = refl
@@ -193,7 +194,7 @@ start_size Div spans = refl
 start_size Inline spans = refl
 start_size Outer spans = refl
 
-end_size : (e : Element) → kind_size (end_of e) ≡ 1
+end_size : (e : Element) → kind_size (kind_of_end e) ≡ 1
 end_size Table = refl
 end_size Caption = refl
 end_size Colgroup = refl

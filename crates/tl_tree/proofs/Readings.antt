@@ -10,7 +10,7 @@ use Rattle.std.specs.Prelude.{is_some}
 use Rattle.tl_token.specs.declared.token.Spans.{Spans}
 use Rattle.tl_token.specs.declared.token.Element.{Element}
 use Rattle.tl_token.specs.declared.token.Element.TheVariants as elements
-use Rattle.tl_tree.specs.Tags.{Kind, table_start, is_table_start, start_of, end_of}
+use Rattle.tl_tree.specs.Tags.{Kind, table_start, is_table_start, kind_of_start, kind_of_end}
 use Rattle.tl_tree.specs.Grammar.{Marks, table_ends}
 use Rattle.tl_tree.specs.Paragraphs.{leading, paragraph_of, entries_of, entries_after}
 use Rattle.tl_tree.specs.Outline.{Entry, Entries, table, table_end, outline, blocks_outline}
@@ -19,7 +19,8 @@ use Rattle.tl_tree.specs.inner.Machine as machine
 use Rattle.tl_tree.specs.inner.Machine.{moved, due}
 use Rattle.tl_tree.specs.inner.Verdict.{is_failed}
 use Rattle.tl_tree.specs.inner.Lines.{line_atoms, open_word}
-use Rattle.tl_tree.specs.inner.Reading.{after_entries, outcome, parts_so_far, Adds, in_flow, holder_so_far, holder_of, place_of}
+use Rattle.tl_tree.specs.inner.Reading.{after_entries, outcome, parts_so_far, Adds, in_flow, holder_so_far, holder_of}
+use Rattle.tl_tree.specs.inner.Reading.{machine_place}
 use Rattle.tl_tree.specs.inner.Reading.{Moves}
 use Rattle.tl_tree.specs.inner.Documents.{around, holders, state_of, outcome_of, Reads, Nests, Leaves}
 use Rattle.tl_tree.specs.declared.node.TableNode.{TableNode}
@@ -54,7 +55,7 @@ pub tables_tag : (t : ℕ) (k : Kind) → is_table_start k ≡ false → tables_
 tables_tag t table_start h = absurd (false≢true (sym h))
 tables_tag t _ h = refl
 
-pub end_no_table : (e : Element) → is_table_start (end_of e) ≡ false
+pub end_no_table : (e : Element) → is_table_start (kind_of_end e) ≡ false
 end_no_table elements.Table = refl
 end_no_table elements.Caption = refl
 end_no_table elements.Colgroup = refl
@@ -116,19 +117,19 @@ reads_first outer tables none zero_tables = record {
 -- a table that ends in a flow
 pub leaves_flow : (outer rest : List Outer) (o : Outer) (t : OpenTable) (parts : Parts) (node : TableNode) (flow : Flow)
     (new : Reading)
-    → outer ≡ rest ++ o ∷ [] → Adds (outcome t) (after_entries (parts_so_far parts)) (due (place_of t)) →
+    → outer ≡ rest ++ o ∷ [] → Adds (outcome t) (after_entries (parts_so_far parts)) (due (machine_place t)) →
     outline node ≡ parts_so_far parts ++ table_end ∷ []
     → blocks_outline flow.blocks ≡ blocks_outline o.blocks ++ outline node → flow.line.atoms ≡ [] → open_word flow.line ≡ []
     → state_of new ≡ machine.inside (machine.in_flow (holder_of o.holder)) (holders rest)
     → ((k : ℕ) (later : Marks) → outcome_of new k later ≡ around rest ++ in_flow (holder_so_far o.holder) flow k later)
     → Leaves outer t new
 leaves_flow outer rest o t parts node flow new split adds whole blocks atoms word state same = record {
-  goes = state ∙ ap (λ x. machine.left x) (sym (ap holders split ∙ holders-push rest o));
+  goes = state ∙ ap (λ x. machine.table_left x) (sym (ap holders split ∙ holders-push rest o));
   same = λ k later.
       let e = entries_of k later in
       let h = holder_so_far o.holder in
       let b = blocks_outline o.blocks in
-      let due_marks = due (place_of t) in
+      let due_marks = due (machine_place t) in
       same k later
       ∙ ap (λ list. around rest ++ ((h ++ blocks_outline flow.blocks) ++
       (paragraph_of (atoms_from list (open_word flow.line) (leading later)) ++ entries_after k later))) atoms
@@ -151,7 +152,7 @@ leaves_flow outer rest o t parts node flow new split adds whole blocks atoms wor
     holders-push : (rest : List Outer) (o : Outer) → holders (rest ++ o ∷ []) ≡ holder_of o.holder ∷ holders rest
     holders-push rest o = ap (λ os. map (λ o'. holder_of o'.holder) os) (reverse-append rest (o ∷ []))
 
-pub start_no_table : (e : Element) (spans : Spans) → (e ≡ elements.Table → ⊥) → is_table_start (start_of e spans) ≡ false
+pub start_no_table : (e : Element) (spans : Spans) → (e ≡ elements.Table → ⊥) → is_table_start (kind_of_start e spans) ≡ false
 start_no_table elements.Table spans h = absurd (h refl)
 start_no_table elements.Caption spans h = refl
 start_no_table elements.Colgroup spans h = refl

@@ -22,7 +22,7 @@ use Rattle.tl_tree.specs.Grammar.{Mark, Marks, character, line_break}
 use Rattle.tl_tree.specs.Paragraphs.{leading, first_text, after_breaks, atoms_of, paragraph_of, entries_after, entries_of}
 use Rattle.tl_tree.specs.Outline.{Entries, outline}
 use Rattle.tl_tree.specs.Readable.{AreReadable}
-use Rattle.tl_tree.specs.Sound.{IsNumberedFrom, table_count, IsNestedBelow, IsPlainAtom, IsInRange, IsSound}
+use Rattle.tl_tree.specs.Sound.{IsNumberedFrom, table_count, IsNestedBelow, IsPlainAtom, IsEntryInRange, IsSound}
 use Rattle.tl_tree.specs.Spelling.{SpellsTree, IsWithinLimits}
 use Rattle.tl_tree.specs.declared.node.TableNode.{TableNode}
 use Rattle.tl_tree.specs.declared.error.TreeError.{TreeError}
@@ -101,7 +101,7 @@ fewer : (m : Mark) (ms : Marks) → sum_by mark_size (m ∷ ms) ≤ MAX_FILE_BYT
 fewer m ms h = omega (arith, sum_by-cons mark_size m ms)
 
 paragraph_in_range : (atoms : List Atom) → AllByRecursion IsPlain atoms → sum_by atom_size atoms ≤ MAX_FILE_BYTES →
-    AllByRecursion IsInRange (paragraph_of atoms)
+    AllByRecursion IsEntryInRange (paragraph_of atoms)
 paragraph_in_range [] plain size = tt
 paragraph_in_range (atom ∷ atoms) plain size = (
   record {
@@ -120,17 +120,17 @@ module _ (n : ℕ) (few : n ≤ MAX_DECLARED_COLUMNS) where
 
   -- the paragraph that begins before the entries
   with_paragraph : (k d : ℕ) (ms : Marks) → AreFineMarks n d ms → sum_by mark_size ms ≤ MAX_FILE_BYTES
-      → AllByRecursion IsInRange (entries_after k ms) → AllByRecursion IsInRange (entries_of k ms)
+      → AllByRecursion IsEntryInRange (entries_after k ms) → AllByRecursion IsEntryInRange (entries_of k ms)
   with_paragraph k d ms fine size later =
       let P : List Atom → Type 0 = λ atoms. AllByRecursion IsPlain atoms in
       let plain = subst P (read_none (leading ms)) (plain_atoms n [] (leading ms) refl refl (leading_fine d ms fine)) in
       let a = leading_atoms_size (leading ms) in
       let b = later_size k ms in
-      all-append IsInRange (paragraph_of (atoms_of (leading ms))) (entries_after k ms)
+      all-append IsEntryInRange (paragraph_of (atoms_of (leading ms))) (entries_after k ms)
       (paragraph_in_range (atoms_of (leading ms)) plain (omega arith)) later
 
   later_in_range : (k d : ℕ) (ms : Marks) → AreFineMarks n d ms → sum_by mark_size ms ≤ MAX_FILE_BYTES →
-      AllByRecursion IsInRange (entries_after k ms)
+      AllByRecursion IsEntryInRange (entries_after k ms)
   later_in_range k d [] fine size = tt
   later_in_range k d (character c ∷ ms) fine size = later_in_range k d ms fine.1 (fewer (character c) ms size)
   later_in_range k d (line_break ∷ ms) fine size = later_in_range k d ms fine.1 (fewer line_break ms size)
@@ -154,7 +154,7 @@ module _ (n : ℕ) (few : n ≤ MAX_DECLARED_COLUMNS) where
       let small = fewer m ms size in (tt, with_paragraph k d ms fine.1 small (later_in_range k d ms fine.1 small))
 
   pub all_in_range : (k d : ℕ) (ms : Marks) → AreFineMarks n d ms → sum_by mark_size ms ≤ MAX_FILE_BYTES →
-      AllByRecursion IsInRange (entries_of k ms)
+      AllByRecursion IsEntryInRange (entries_of k ms)
   all_in_range k d ms fine size = with_paragraph k d ms fine size (later_in_range k d ms fine size)
 
 -- ---- the tables

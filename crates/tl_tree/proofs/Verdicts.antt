@@ -11,10 +11,11 @@ use Rattle.tl_tree.specs.declared.error.TreeError.{TreeError}
 use Rattle.tl_tree.specs.declared.error.TreeError.TheVariants.{Memory, NoTable, StrayText, Misplaced, Unclosed, TooDeep}
 use Rattle.tl_tree.specs.declared.error.TreeError.TheVariants.{TooManyTables}
 use Rattle.tl_tree.specs.Tags.{Kind, Kinds, text, table_start, table_end, outer_tag, is_white, is_text, is_table_start}
-use Rattle.tl_tree.specs.Grammar.{Marks, Document}
+use Rattle.tl_tree.specs.Grammar.{Marks, DocumentTokens}
 use Rattle.tl_tree.specs.Spelling.{IsPrefix, depth_after, tables_with, tables_after, FitsLimits, FitLimits, IsWithinLimits}
 use Rattle.tl_tree.specs.Spelling.{IsWrongAt, AreNoDocument}
-use Rattle.tl_tree.specs.inner.Machine.{Holder, Place, opened, in_flow, Move, to, enter, leave, never, move, moved, State, before}
+use Rattle.tl_tree.specs.inner.Machine.{Holder, Place, opened, in_flow, Move, to, enter, leave, never, move, moved}
+use Rattle.tl_tree.specs.inner.Machine.{DocumentState, before}
 use Rattle.tl_tree.specs.inner.Machine.{inside, after, failed}
 use Rattle.tl_tree.specs.inner.Machine.{next, reached, all_told}
 use Rattle.tl_tree.specs.inner.Verdict.{is_failed, depth, misfit, limit_fault, fault, end_fault, verdict}
@@ -23,11 +24,11 @@ use Rattle.tl_tree.proofs.MachineWhole.{document_whole}
 use Rattle.tl_tree.proofs.MachineSound.{document_sound}
 use Rattle.tl_tree.proofs.Depths.{depth-next}
 
-pub reached-append : (s : State) (prefix rest : Kinds) → reached s (prefix ++ rest) ≡ reached (reached s prefix) rest
+pub reached-append : (s : DocumentState) (prefix rest : Kinds) → reached s (prefix ++ rest) ≡ reached (reached s prefix) rest
 reached-append s [] rest = refl
 reached-append s (k ∷ prefix) rest = reached-append (next s k) prefix rest
 
-failed_is : (s : State) → is_failed s ≡ true → s ≡ failed
+failed_is : (s : DocumentState) → is_failed s ≡ true → s ≡ failed
 failed_is failed h = refl
 failed_is before h = absurd (false≢true h)
 failed_is (inside p hs) h = absurd (false≢true h)
@@ -37,13 +38,13 @@ fails : (ks : Kinds) → is_failed (reached failed ks) ≡ true
 fails ks = ap is_failed (reached-failed ks)
 
 -- a state from which tokens lead on is not failed
-pub alive_before : (s : State) (ks : Kinds) → is_failed (reached s ks) ≡ false → is_failed s ≡ false
+pub alive_before : (s : DocumentState) (ks : Kinds) → is_failed (reached s ks) ≡ false → is_failed s ≡ false
 alive_before s ks alive = by_test (is_failed s) refl
   where
     by_test : (b : Bool) → is_failed s ≡ b → is_failed s ≡ false
     by_test false h = h
     by_test true h =
-        let P : State → Type 0 = λ x. is_failed (reached x ks) ≡ false in
+        let P : DocumentState → Type 0 = λ x. is_failed (reached x ks) ≡ false in
         absurd (false≢true (sym (subst P (failed_is s h) alive) ∙ fails ks))
 
 -- the end tags of the tables that are open, or a whole table
@@ -51,7 +52,7 @@ closing_tags : List Holder → Kinds
 closing_tags [] = table_end ∷ []
 closing_tags (holder ∷ hs) = table_end ∷ closing_tags hs
 
-closing : State → Kinds
+closing : DocumentState → Kinds
 closing before = table_start ∷ table_end ∷ []
 closing (inside p hs) = closing_tags hs
 closing after = []
@@ -62,7 +63,7 @@ unfolding closing_tags
 closes_all p [] = refl
 closes_all p (holder ∷ hs) = closes_all (in_flow holder) hs
 
-closed : (s : State) → is_failed s ≡ false → reached s (closing s) ≡ after
+closed : (s : DocumentState) → is_failed s ≡ false → reached s (closing s) ≡ after
 unfolding closing
 closed before alive = refl
 closed (inside p hs) alive = closes_all p hs
@@ -105,14 +106,15 @@ prefix_next : (prefix : Kinds) (k : Kind) → is_failed (next (reached before pr
 prefix_next prefix k h = alive_prefix (prefix ++ k ∷ []) (ap is_failed (reached-append before prefix (k ∷ [])) ∙ h)
 
 -- the tables that are open are those that the tags count
-pub depth-reached : (s : State) (ks : Kinds) → is_failed (reached s ks) ≡ false → depth (reached s ks) ≡ depth_after (depth s) ks
+pub depth-reached : (s : DocumentState) (ks : Kinds) → is_failed (reached s ks) ≡ false →
+    depth (reached s ks) ≡ depth_after (depth s) ks
 depth-reached s [] alive = refl
 depth-reached s (k ∷ ks) alive =
     let P : ℕ → Type 0 = λ x. depth (reached (next s k) ks) ≡ depth_after x ks in
     subst P (depth-next s k (alive_before (next s k) ks alive)) (depth-reached (next s k) ks alive)
 
 -- a token without a fault
-no_fault : (n tables : ℕ) (s : State) (k : Kind) → is_failed (next s k) ≡ false → FitsLimits (depth s) tables k →
+no_fault : (n tables : ℕ) (s : DocumentState) (k : Kind) → is_failed (next s k) ≡ false → FitsLimits (depth s) tables k →
     fault n tables s k ≡ None
 no_fault n tables s table_start alive (shallow, few) = rw alive (limits (depth s) shallow)
   where
@@ -122,7 +124,7 @@ no_fault n tables s table_start alive (shallow, few) = rw alive (limits (depth s
 no_fault n tables s k alive fits = rw alive refl
 
 -- tokens without a fault lead on
-pub passes : (n tables : ℕ) (s : State) (prefix rest : Kinds) → is_failed (reached s prefix) ≡ false →
+pub passes : (n tables : ℕ) (s : DocumentState) (prefix rest : Kinds) → is_failed (reached s prefix) ≡ false →
     FitLimits (depth s) tables prefix
     → verdict n tables s (prefix ++ rest) ≡ verdict (n + length prefix) (tables_after tables prefix) (reached s prefix) rest
 passes n tables s [] rest alive fits = ap (λ x. verdict x tables s rest) (sym (add-zero n))
@@ -135,7 +137,7 @@ passes n tables s (k ∷ prefix) rest alive (here, later) =
     rest) c)
 
 -- what a token without a fault says
-fault_none : (n tables : ℕ) (s : State) (k : Kind) → fault n tables s k ≡ None →
+fault_none : (n tables : ℕ) (s : DocumentState) (k : Kind) → fault n tables s k ≡ None →
     (is_failed (next s k) ≡ false) × FitsLimits (depth s) tables k
 fault_none n tables s k h = by_test (is_failed (next s k)) refl
   where
@@ -157,14 +159,14 @@ fault_none n tables s k h = by_test (is_failed (next s k)) refl
     by_test true dead = absurd (let c : Some (misfit n k) ≡ None = sym (rw dead refl) ∙ h in cc)
 
 -- where the first fault stands
-data Finds (n tables : ℕ) (s : State) (ks : Kinds) (e : TreeError) : Type 0 where
+data Finds (n tables : ℕ) (s : DocumentState) (ks : Kinds) (e : TreeError) : Type 0 where
   at_token : (prefix : Kinds) (k : Kind) (rest : Kinds) → ks ≡ prefix ++ (k ∷ rest) → is_failed (reached s prefix) ≡ false
       → FitLimits (depth s) tables prefix → fault (n + length prefix) (tables_after tables prefix) (reached s prefix) k ≡ Some e
       → Finds n tables s ks e
   at_end : is_failed (reached s ks) ≡ false → FitLimits (depth s) tables ks → end_fault (reached s ks) ≡ Some e →
       Finds n tables s ks e
 
-found_later : (n tables : ℕ) (s : State) (k : Kind) (ks : Kinds) (e : TreeError) →
+found_later : (n tables : ℕ) (s : DocumentState) (k : Kind) (ks : Kinds) (e : TreeError) →
     (is_failed (next s k) ≡ false) × FitsLimits (depth s) tables k
     → Finds (n + 1) (tables_with tables k) (next s k) ks e → Finds n tables s (k ∷ ks) e
 found_later n tables s k ks e (still, here) (at_token prefix k' rest split goes fits found) =
@@ -176,7 +178,7 @@ found_later n tables s k ks e (still, here) (at_end goes fits found) =
     let P : ℕ → Type 0 = λ x. FitLimits x (tables_with tables k) ks in
     at_end goes (here, subst P (depth-next s k still) fits) found
 
-find : (n tables : ℕ) (s : State) (ks : Kinds) (e : TreeError) → is_failed s ≡ false → verdict n tables s ks ≡ Some e →
+find : (n tables : ℕ) (s : DocumentState) (ks : Kinds) (e : TreeError) → is_failed s ≡ false → verdict n tables s ks ≡ Some e →
     Finds n tables s ks e
 find n tables s [] e alive h = at_end alive tt h
 find n tables s (k ∷ ks) e alive h = by_fault (λ still later. find (n + 1) (tables_with tables k) (next s k) ks e still later)
@@ -193,7 +195,7 @@ find n tables s (k ∷ ks) e alive h = by_fault (λ still later. find (n + 1) (t
         at_token [] k ks refl alive tt (ap (λ x. fault x tables s k) (add-zero n) ∙ some ∙ same)
 
 -- tokens without a first fault
-pub fine : (n tables : ℕ) (s : State) (ks : Kinds) → is_failed s ≡ false → verdict n tables s ks ≡ None
+pub fine : (n tables : ℕ) (s : DocumentState) (ks : Kinds) → is_failed s ≡ false → verdict n tables s ks ≡ None
     → (reached s ks ≡ after) × FitLimits (depth s) tables ks
 fine n tables before [] alive h = absurd (cc)
 fine n tables (inside p hs) [] alive h = absurd (cc)
@@ -213,7 +215,7 @@ fine n tables s (k ∷ ks) alive h = by_fault (λ still later. fine (n + 1) (tab
     by_fault go (Some found) some = absurd (let c : Some found ≡ None = sym (rw some refl) ∙ h in cc)
 
 -- whether a table has begun
-begun : State → Bool
+begun : DocumentState → Bool
 begun before = false
 begun _ = true
 
@@ -230,7 +232,7 @@ moved_begun [] (leave ms) = refl
 moved_begun (holder ∷ hs) (leave ms) = refl
 moved_begun hs never = refl
 
-stays_begun : (s : State) (k : Kind) → begun s ≡ true → begun (next s k) ≡ true
+stays_begun : (s : DocumentState) (k : Kind) → begun s ≡ true → begun (next s k) ≡ true
 unfolding begun
 stays_begun before k h = absurd (false≢true h)
 stays_begun (inside p hs) k h = moved_begun hs (move p k)
@@ -239,11 +241,11 @@ stays_begun after outer_tag h = refl
 stays_begun after _ h = refl
 stays_begun failed k h = refl
 
-kept_begun : (s : State) (ks : Kinds) → begun s ≡ true → begun (reached s ks) ≡ true
+kept_begun : (s : DocumentState) (ks : Kinds) → begun s ≡ true → begun (reached s ks) ≡ true
 kept_begun s [] h = h
 kept_begun s (k ∷ ks) h = kept_begun (next s k) ks (stays_begun s k h)
 
-not_begun : (s : State) (ks : Kinds) → begun s ≡ true → reached s ks ≡ before → ⊥
+not_begun : (s : DocumentState) (ks : Kinds) → begun s ≡ true → reached s ks ≡ before → ⊥
 unfolding begun
 not_begun s ks h e = false≢true (sym (ap begun e) ∙ kept_begun s ks h)
 
@@ -290,7 +292,8 @@ at_place : (ks prefix rest : Kinds) (k : Kind) (e : TreeError) → ks ≡ prefix
 at_place ks prefix rest k e split begins within h =
     ap (λ x. verdict 0 0 before x) split ∙ passes 0 0 before prefix (k ∷ rest) (prefix_alive prefix begins) within ∙ rw h refl
 
-pub misfit_fault : (n tables : ℕ) (s : State) (k : Kind) → is_failed (next s k) ≡ true → fault n tables s k ≡ Some (misfit n k)
+pub misfit_fault : (n tables : ℕ) (s : DocumentState) (k : Kind) → is_failed (next s k) ≡ true →
+    fault n tables s k ≡ Some (misfit n k)
 misfit_fault n tables s k h = rw h refl
 
 text_misfit : (n m : ℕ) (k : Kind) → is_text k ≡ true → n ≡ m → misfit n k ≡ StrayText m
@@ -309,7 +312,7 @@ many_fault n m tables d shallow many e =
     let b : nat_le MAX_TABLES tables ≡ true = grind (arith, nat_tests) in
     rw (a, b) (ap (λ x. Some (TooManyTables x)) e)
 
-pub table_fault : (n tables : ℕ) (s : State) (k : Kind) → k ≡ table_start → is_failed (next s k) ≡ false →
+pub table_fault : (n tables : ℕ) (s : DocumentState) (k : Kind) → k ≡ table_start → is_failed (next s k) ≡ false →
     fault n tables s k ≡ limit_fault n tables (depth s)
 table_fault n tables s k e alive = rw alive (ap (λ x. cond (is_table_start x) (limit_fault n tables (depth s)) None) e)
 
@@ -325,7 +328,7 @@ refused_first ks Unclosed (begins, within, deep) =
     ap (λ x. verdict 0 0 before x) (sym (append-nil ks)) ∙ passes 0 0 before ks [] alive within
     ∙ ended (reached before ks) alive (let P : ℕ → Type 0 = λ x. 0 < x in subst P (sym (depth-reached before ks alive)) deep)
   where
-    ended : (s : State) → is_failed s ≡ false → 0 < depth s → end_fault s ≡ Some Unclosed
+    ended : (s : DocumentState) → is_failed s ≡ false → 0 < depth s → end_fault s ≡ Some Unclosed
     ended before alive h = absurd (omega arith)
     ended (inside p hs) alive h = refl
     ended after alive h = absurd (omega arith)
@@ -354,7 +357,8 @@ refused_first ks (TooManyTables n) w =
     (table_fault _ _ _ w.token w.wrong.0 (alive_next w.prefix w.token w.wrong.1) ∙ many_fault _ n _ _ shallow w.wrong.3 place)
 
 -- a fault of a token with which a document goes on is one of a table
-limited : (n tables : ℕ) (s : State) (k : Kind) (e : TreeError) → is_failed (next s k) ≡ false → fault n tables s k ≡ Some e
+limited : (n tables : ℕ) (s : DocumentState) (k : Kind) (e : TreeError) → is_failed (next s k) ≡ false →
+    fault n tables s k ≡ Some e
     → (k ≡ table_start) × (limit_fault n tables (depth s) ≡ Some e)
 limited n tables s table_start e alive h = (refl, rw alive at h)
 limited n tables s k e alive h = absurd (let c : None ≡ Some e = rw alive at h in cc)
@@ -432,7 +436,7 @@ wrong_at ks prefix k rest e split alive within h = by_test (is_failed (next (rea
 pub first_refused : (ks : Kinds) (e : TreeError) → verdict 0 0 before ks ≡ Some e → AreNoDocument ks e
 first_refused ks e h = by_place (find 0 0 before ks e refl h)
   where
-    at_the_end : (s : State) → reached before ks ≡ s → is_failed s ≡ false → IsWithinLimits ks → end_fault s ≡ Some e →
+    at_the_end : (s : DocumentState) → reached before ks ≡ s → is_failed s ≡ false → IsWithinLimits ks → end_fault s ≡ Some e →
         AreNoDocument ks e
     at_the_end before stands alive within f =
         let same : NoTable ≡ e = (let c : Some NoTable ≡ Some e = f in cc) in
@@ -450,17 +454,17 @@ first_refused ks e h = by_place (find 0 0 before ks e refl h)
     by_place (at_end alive within f) = at_the_end (reached before ks) refl alive within f
 
 -- Tokens without a first fault are a document within the limits, and the other way round.
-pub clean_document : (ks : Kinds) → verdict 0 0 before ks ≡ None → Document ks (all_told before ks) × IsWithinLimits ks
+pub clean_document : (ks : Kinds) → verdict 0 0 before ks ≡ None → DocumentTokens ks (all_told before ks) × IsWithinLimits ks
 clean_document ks h =
     let (ends, within) = fine 0 0 before ks refl h in
     (document_sound (record { ends = ends; tells = refl }), within)
 
-pub document_clean : (ks : Kinds) (ms : Marks) → Document ks ms → IsWithinLimits ks → verdict 0 0 before ks ≡ None
+pub document_clean : (ks : Kinds) (ms : Marks) → DocumentTokens ks ms → IsWithinLimits ks → verdict 0 0 before ks ≡ None
 document_clean ks ms d within =
     let a = document_whole d in
     ap (λ x. verdict 0 0 before x) (sym (append-nil ks)) ∙ passes 0 0 before ks [] (ap is_failed a.ends)
     within ∙ ap end_fault a.ends
 
 -- one document has one list of marks
-pub same_marks : (ks : Kinds) (ms ns : Marks) → Document ks ms → Document ks ns → ms ≡ ns
+pub same_marks : (ks : Kinds) (ms ns : Marks) → DocumentTokens ks ms → DocumentTokens ks ns → ms ≡ ns
 same_marks ks ms ns d c = sym (document_whole d).tells ∙ (document_whole c).tells

@@ -134,7 +134,7 @@ pub data Outer : Kinds → Kinds → Type 0 where
   outer : {ks rest : Kinds} → Outer ks rest → Outer (outer_tag ∷ ks) rest
 
 -- The tokens are a document, which those marks describe.
-pub record Document (ks : Kinds) (ms : Marks) : Type 0 where
+pub record DocumentTokens (ks : Kinds) (ms : Marks) : Type 0 where
   pub before : Kinds
   pub after : Kinds
   pub led : Outer ks before

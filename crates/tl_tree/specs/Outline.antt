@@ -30,17 +30,17 @@ abbrev pub Entries : Type 0
 Entries = List Entry
 
 -- the entries of all of these, one after another
-abbrev pub joined : List Entries → Entries
-joined lists = flat_map (λ entries. entries) lists
+abbrev pub joined_entries : List Entries → Entries
+joined_entries lists = flat_map (λ entries. entries) lists
 
 -- a row, and the entries of its cells
 abbrev pub row_entries : List Entries → Entries
-row_entries cells = row ∷ joined cells
+row_entries cells = row ∷ joined_entries cells
 
 -- a caption and the entries of its flow, or nothing where the table has no caption
 abbrev pub caption_entries : Option (List Entries) → Entries
 caption_entries None = []
-caption_entries (Some flow) = caption ∷ joined flow
+caption_entries (Some flow) = caption ∷ joined_entries flow
 
 -- a paragraph, or the entries of a nested table
 abbrev pub block_entries : parts.Block-F Entries Entries Entries Entries → Entries
@@ -49,7 +49,7 @@ block_entries (parts.Table box) = box.value
 
 -- a cell, and the entries of its flow
 abbrev pub cell_entries : parts.CellNode-F Entries Entries Entries Entries → Entries
-cell_entries c = cell c.head c.colspan c.rowspan c.least ∷ joined c.flow
+cell_entries c = cell c.head c.colspan c.rowspan c.least ∷ joined_entries c.flow
 
 -- a group, and the entries of its rows
 abbrev pub group_entries : parts.GroupNode-F Entries Entries Entries Entries → Entries
@@ -57,7 +57,8 @@ group_entries g = group g.part ∷ flat_map row_entries g.rows
 
 -- a table: its number, its caption, its columns, its groups, and its end
 abbrev pub table_entries : parts.TableNode-F Entries Entries Entries Entries → Entries
-table_entries t = table t.number ∷ (caption_entries t.caption ++ (columns t.columns ∷ (joined t.groups ++ table_end ∷ [])))
+table_entries t = table t.number ∷
+    (caption_entries t.caption ++ (columns t.columns ∷ (joined_entries t.groups ++ table_end ∷ [])))
 
 -- the outline of a block
 abbrev pub block_outline : Block → Entries

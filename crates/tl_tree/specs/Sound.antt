@@ -50,11 +50,11 @@ pub record IsPlainParagraph (p : List Atom) : Type 0 where
   pub plain : AllByRecursion IsPlainAtom p
 
 -- the numbers of an entry are in their ranges, and a paragraph has whole words without control characters
-abbrev pub IsInRange : Entry → Type 0
-IsInRange (cell head colspan rowspan least) = IsCellInRange colspan rowspan least
-IsInRange (columns n) = n ≤ MAX_DECLARED_COLUMNS
-IsInRange (paragraph p) = IsPlainParagraph p
-IsInRange _ = Unit {0}
+abbrev pub IsEntryInRange : Entry → Type 0
+IsEntryInRange (cell head colspan rowspan least) = IsCellInRange colspan rowspan least
+IsEntryInRange (columns n) = n ≤ MAX_DECLARED_COLUMNS
+IsEntryInRange (paragraph p) = IsPlainParagraph p
+IsEntryInRange _ = Unit {0}
 
 -- what an entry counts towards the size of a tree: a paragraph the bytes of its words and 1 for each
 -- break, a cell, a row and a table 1
@@ -68,7 +68,7 @@ entry_size _ = 0
 -- Entries whose numbers are in their ranges and whose sizes sum to at most that of a file. It holds
 -- of the outline of each part of a sound tree.
 pub record AreSound (entries : Entries) : Type 0 where
-  pub in_range : AllByRecursion IsInRange entries
+  pub in_range : AllByRecursion IsEntryInRange entries
   pub size : sum_by entry_size entries ≤ MAX_FILE_BYTES
 
 -- A sound tree: besides, its tables are numbered from 0 by their start tags, there are at most `MAX_TABLES` of

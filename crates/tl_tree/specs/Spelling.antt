@@ -4,7 +4,7 @@ use Rattle.std.specs.Prelude.{alloc_error}
 use Rattle.tl_base.specs.declared.limits.TheConstants.{MAX_DEPTH, MAX_TABLES}
 use Rattle.tl_token.specs.declared.token.Token.{Token}
 use Rattle.tl_tree.specs.Tags.{Kind, Kinds, table_start, table_end, kinds, is_text}
-use Rattle.tl_tree.specs.Grammar.{Marks, Document}
+use Rattle.tl_tree.specs.Grammar.{Marks, DocumentTokens}
 use Rattle.tl_tree.specs.Paragraphs.{entries_of}
 use Rattle.tl_tree.specs.Outline.{outline}
 use Rattle.tl_tree.specs.Same.{AreSame}
@@ -20,12 +20,12 @@ Tokens = List Token
 -- The tokens spell the tree: they are a document whose marks make the outline of the tree.
 pub record SpellsTree (tokens : Tokens) (node : TableNode) : Type 0 where
   pub marks : Marks
-  pub document : Document (kinds tokens) marks
+  pub document : DocumentTokens (kinds tokens) marks
   pub same : outline node ≡ entries_of 0 marks
 
 -- other tokens after these make them a document
 abbrev pub IsPrefix : Kinds → Type 0
-IsPrefix ks = (more : Kinds) × (ms : Marks) × Document (ks ++ more) ms
+IsPrefix ks = (more : Kinds) × (ms : Marks) × DocumentTokens (ks ++ more) ms
 
 -- how many tables are open after a token, where so many were open before it
 abbrev pub depth_with : ℕ → Kind → ℕ

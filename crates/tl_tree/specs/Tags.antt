@@ -56,45 +56,45 @@ abbrev pub Kinds : Type 0
 Kinds = List Kind
 
 -- what a start tag of that element is, with those numbers
-abbrev pub start_of : Element → Spans → Kind
-start_of Table spans = table_start
-start_of Caption spans = caption_start
-start_of Colgroup spans = colgroup_start spans.span
-start_of Col spans = col spans.span
-start_of Thead spans = group_start thead
-start_of Tbody spans = group_start tbody
-start_of Tfoot spans = group_start tfoot
-start_of Tr spans = row_start
-start_of Td spans = cell_start false spans
-start_of Th spans = cell_start true spans
-start_of Br spans = br
-start_of P spans = p_or_div
-start_of Div spans = p_or_div
-start_of Inline spans = inline_tag
-start_of Outer spans = outer_tag
+abbrev pub kind_of_start : Element → Spans → Kind
+kind_of_start Table spans = table_start
+kind_of_start Caption spans = caption_start
+kind_of_start Colgroup spans = colgroup_start spans.span
+kind_of_start Col spans = col spans.span
+kind_of_start Thead spans = group_start thead
+kind_of_start Tbody spans = group_start tbody
+kind_of_start Tfoot spans = group_start tfoot
+kind_of_start Tr spans = row_start
+kind_of_start Td spans = cell_start false spans
+kind_of_start Th spans = cell_start true spans
+kind_of_start Br spans = br
+kind_of_start P spans = p_or_div
+kind_of_start Div spans = p_or_div
+kind_of_start Inline spans = inline_tag
+kind_of_start Outer spans = outer_tag
 
 -- what an end tag of that element is
-abbrev pub end_of : Element → Kind
-end_of Table = table_end
-end_of Caption = caption_end
-end_of Colgroup = colgroup_end
-end_of Col = lone_end
-end_of Thead = group_end thead
-end_of Tbody = group_end tbody
-end_of Tfoot = group_end tfoot
-end_of Tr = row_end
-end_of Td = cell_end false
-end_of Th = cell_end true
-end_of Br = lone_end
-end_of P = p_or_div
-end_of Div = p_or_div
-end_of Inline = inline_tag
-end_of Outer = outer_tag
+abbrev pub kind_of_end : Element → Kind
+kind_of_end Table = table_end
+kind_of_end Caption = caption_end
+kind_of_end Colgroup = colgroup_end
+kind_of_end Col = lone_end
+kind_of_end Thead = group_end thead
+kind_of_end Tbody = group_end tbody
+kind_of_end Tfoot = group_end tfoot
+kind_of_end Tr = row_end
+kind_of_end Td = cell_end false
+kind_of_end Th = cell_end true
+kind_of_end Br = lone_end
+kind_of_end P = p_or_div
+kind_of_end Div = p_or_div
+kind_of_end Inline = inline_tag
+kind_of_end Outer = outer_tag
 
 -- what a start tag, an end tag or a text is
 abbrev pub class_of : TokenKind → Kind
-class_of (Start element spans) = start_of element spans
-class_of (End element) = end_of element
+class_of (Start element spans) = kind_of_start element spans
+class_of (End element) = kind_of_end element
 class_of (Text characters) = text characters
 
 -- what a token is, wherever in the file it stands

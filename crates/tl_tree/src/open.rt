@@ -2,7 +2,7 @@
 //! around it: a row its group, a group the groups before it.
 
 ghost use Rattle.std.specs.Prelude.{◌≡◌, ◌+◌, ◌<◌, ◌≤◌, ◌^◌, ◌++◌, ◌∷◌, [], None, IfOk, IfErr, is_some};
-ghost use Rattle.tl_tree.specs.inner.Machine.{row_of, group_of, columns_of, due};
+ghost use Rattle.tl_tree.specs.inner.Machine.{row_tags_at, group_of, column_tags_at, due};
 ghost use Rattle.tl_tree.specs.inner.Stops.{IsMisfitOr};
 
 use crate::flow::Flow;
@@ -259,14 +259,14 @@ impl Parts {
 }
 
 impl OpenTable {
-    ghost use Rattle.tl_tree.specs.inner.Reading.{outcome, after_entries, parts_so_far, place_of, place_columns, open_size, Adds, IsModest, RowGoesOn};
+    ghost use Rattle.tl_tree.specs.inner.Reading.{outcome, after_entries, parts_so_far, machine_place, place_columns, open_size, Adds, IsModest, RowGoesOn};
     ghost use Rattle.tl_tree.specs.inner.Reading.{GroupGoesOn, ColumnsGoOn};
 
     /// The row that goes on, once the cell in it has ended.
     pub(crate) fn into_row(self, alloc: Global) -> Result<OpenRow, Stop>
         requires { open_size self ≤ MAX_FILE_BYTES }
-        ensures ok { IfOk result (λ row. RowGoesOn (outcome self) (place_of self) row) }
-        ensures err { IfErr result (λ stop. IsMisfitOr (row_of (place_of self) ≡ None) stop) }
+        ensures ok { IfOk result (λ row. RowGoesOn (outcome self) (machine_place self) row) }
+        ensures err { IfErr result (λ stop. IsMisfitOr (row_tags_at (machine_place self) ≡ None) stop) }
     {
         match self {
             OpenTable::Row(row) => Ok(row),
@@ -281,8 +281,8 @@ impl OpenTable {
     /// The group that goes on, once what is open in it has ended.
     pub(crate) fn into_group(self, alloc: Global) -> Result<OpenGroup, Stop>
         requires { open_size self ≤ MAX_FILE_BYTES }
-        ensures ok { IfOk result (λ group. GroupGoesOn (outcome self) (place_of self) group) }
-        ensures err { IfErr result (λ stop. IsMisfitOr (group_of (place_of self) ≡ None) stop) }
+        ensures ok { IfOk result (λ group. GroupGoesOn (outcome self) (machine_place self) group) }
+        ensures err { IfErr result (λ stop. IsMisfitOr (group_of (machine_place self) ≡ None) stop) }
     {
         match self {
             OpenTable::Group(group) => Ok(group),
@@ -298,9 +298,9 @@ impl OpenTable {
     /// The columns that go on, once what is open before them has ended.
     pub(crate) fn into_head(self, alloc: Global) -> Result<Head, Stop>
         requires { IsModest self }
-        ensures ok { IfOk result (λ head. ColumnsGoOn (outcome self) (place_of self) head) }
-        ensures few { IfOk result (λ head. head.columns ≡ place_columns (place_of self)) }
-        ensures err { IfErr result (λ stop. IsMisfitOr (columns_of (place_of self) ≡ None) stop) }
+        ensures ok { IfOk result (λ head. ColumnsGoOn (outcome self) (machine_place self) head) }
+        ensures few { IfOk result (λ head. head.columns ≡ place_columns (machine_place self)) }
+        ensures err { IfErr result (λ stop. IsMisfitOr (column_tags_at (machine_place self) ≡ None) stop) }
     {
         match self {
             OpenTable::Start(number) => Ok(Head::new(number)),
@@ -317,7 +317,7 @@ impl OpenTable {
     /// The table, once all that is open in it has ended.
     pub(crate) fn into_parts(self, alloc: Global) -> Result<Parts, AllocError>
         requires { IsModest self }
-        ensures { IfOk result (λ parts. Adds (outcome self) (after_entries (parts_so_far parts)) (due (place_of self))) }
+        ensures { IfOk result (λ parts. Adds (outcome self) (after_entries (parts_so_far parts)) (due (machine_place self))) }
     {
         match self {
             OpenTable::Start(number) => Ok(Head::new(number).end(alloc)),
@@ -337,7 +337,7 @@ impl OpenTable {
 
     /// Whether a group is open, for a row to go on with.
     pub(crate) fn has_group(&self) -> bool
-        ensures { result ≡ is_some (group_of (place_of self.now)) }
+        ensures { result ≡ is_some (group_of (machine_place self.now)) }
     {
         match self {
             OpenTable::Group(_) | OpenTable::Row(_) => true,

@@ -5,7 +5,7 @@ ghost use Rattle.tl_token.specs.declared.token.Element.TheVariants.{Table, Outer
 ghost use Rattle.tl_tree.specs.declared.stop.Stop.TheVariants.{Misfit};
 ghost use Rattle.tl_token.specs.declared.token.TokenKind.{TokenKind};
 ghost use Rattle.tl_tree.specs.Tags as tags;
-ghost use Rattle.tl_tree.specs.Tags.{class_of, start_of, end_of};
+ghost use Rattle.tl_tree.specs.Tags.{class_of, kind_of_start, kind_of_end};
 ghost use Rattle.tl_tree.specs.inner.Machine as machine;
 ghost use Rattle.tl_tree.specs.Readable.{IsReadable};
 ghost use Rattle.tl_tree.specs.declared.reading.Reading.TheVariants.{After};
@@ -110,11 +110,11 @@ impl Reading {
         tables: usize,
     ) -> Result<Reading, Stop>
         requires modest { IsModestReading self }
-        requires few { IsReadable (start_of element spans) }
+        requires few { IsReadable (kind_of_start element spans) }
         requires counted { tables ≤ MAX_TABLES }
         requires fresh { IsFresh self tables }
-        ensures ok { IfOk result (Reads self tables (start_of element spans)) }
-        ensures err { IfErr result (IsStop (state_of self) tables (start_of element spans)) }
+        ensures ok { IfOk result (Reads self tables (kind_of_start element spans)) }
+        ensures err { IfErr result (IsStop (state_of self) tables (kind_of_start element spans)) }
     {
         if element == Element::Table {
             return self.start_table(alloc, tables);
@@ -129,8 +129,8 @@ impl Reading {
 
     fn end(self, alloc: Global, element: Element) -> Result<Reading, Stop>
         requires { IsModestReading self }
-        ensures ok { IfOk result (λ new. (tables : ℕ) → Reads self tables (end_of element) new) }
-        ensures err { IfErr result (λ stop. (tables : ℕ) → IsStop (state_of self) tables (end_of element) stop) }
+        ensures ok { IfOk result (λ new. (tables : ℕ) → Reads self tables (kind_of_end element) new) }
+        ensures err { IfErr result (λ stop. (tables : ℕ) → IsStop (state_of self) tables (kind_of_end element) stop) }
     {
         match self {
             Reading::Inside(outer, table) => {

@@ -3,7 +3,7 @@
 ghost use Rattle.std.specs.Prelude.{◌≡◌, ◌≢◌, ◌≤◌, false, true, IfOk, IfErr, chars};
 ghost use Rattle.tl_token.specs.declared.token.Element.TheVariants.{Table};
 ghost use Rattle.tl_tree.specs.Tags as tags;
-ghost use Rattle.tl_tree.specs.Tags.{Section, part_of, start_of, end_of, is_white, is_table_start};
+ghost use Rattle.tl_tree.specs.Tags.{Section, part_of, kind_of_start, kind_of_end, is_white, is_table_start};
 ghost use Rattle.tl_tree.specs.inner.Machine.{move, never};
 ghost use Rattle.tl_tree.specs.Readable.{IsReadable};
 ghost use Rattle.tl_tree.specs.inner.Stops.{IsMisfitOr};
@@ -17,10 +17,10 @@ use tl_base::{List, MAX_COLSPAN};
 use tl_token::{Element, Spans};
 
 impl OpenTable {
-    ghost use Rattle.tl_tree.specs.inner.Reading.{place_of, IsModest, Moves, is_caption_flow, is_cell_flow};
+    ghost use Rattle.tl_tree.specs.inner.Reading.{machine_place, IsModest, Moves, is_caption_flow, is_cell_flow};
 
     fn is_in_caption(&self) -> bool
-        ensures { result ≡ is_caption_flow (place_of self.now) }
+        ensures { result ≡ is_caption_flow (machine_place self.now) }
     {
         match self {
             OpenTable::Flow(holder, _) => matches!(holder, Holder::Caption(_)),
@@ -30,7 +30,7 @@ impl OpenTable {
 
     /// Whether a header cell is open, if `head`, or one that is none.
     fn is_in_cell(&self, head: bool) -> bool
-        ensures { result ≡ is_cell_flow head (place_of self.now) }
+        ensures { result ≡ is_cell_flow head (machine_place self.now) }
     {
         match self {
             OpenTable::Flow(holder, _) => match holder {
@@ -44,7 +44,7 @@ impl OpenTable {
     fn start_caption(self, alloc: Global) -> Result<OpenTable, Stop>
         requires modest { IsModest self }
         ensures ok { IfOk result (Moves self tags.caption_start) }
-        ensures err { IfErr result (IsMisfitOr (move (place_of self) tags.caption_start ≡ never)) }
+        ensures err { IfErr result (IsMisfitOr (move (machine_place self) tags.caption_start ≡ never)) }
     {
         match self {
             OpenTable::Start(number) => Ok(OpenTable::Flow(
@@ -58,7 +58,7 @@ impl OpenTable {
     fn end_caption(self, alloc: Global) -> Result<OpenTable, Stop>
         requires modest { IsModest self }
         ensures ok { IfOk result (Moves self tags.caption_end) }
-        ensures err { IfErr result (IsMisfitOr (move (place_of self) tags.caption_end ≡ never)) }
+        ensures err { IfErr result (IsMisfitOr (move (machine_place self) tags.caption_end ≡ never)) }
     {
         match self {
             OpenTable::Flow(Holder::Caption(_), _) => Ok(OpenTable::Columns(self.into_head(
@@ -71,7 +71,7 @@ impl OpenTable {
     fn start_colgroup(self, alloc: Global, span: u32) -> Result<OpenTable, Stop>
         requires modest { IsModest self }
         ensures ok { IfOk result (Moves self (tags.colgroup_start span)) }
-        ensures err { IfErr result (IsMisfitOr (move (place_of self) (tags.colgroup_start span) ≡ never)) }
+        ensures err { IfErr result (IsMisfitOr (move (machine_place self) (tags.colgroup_start span) ≡ never)) }
     {
         Ok(OpenTable::Colgroup(self.into_head(alloc)?, span))
     }
@@ -79,7 +79,7 @@ impl OpenTable {
     fn end_colgroup(self) -> Result<OpenTable, Stop>
         requires modest { IsModest self }
         ensures ok { IfOk result (Moves self tags.colgroup_end) }
-        ensures err { IfErr result (IsMisfitOr (move (place_of self) tags.colgroup_end ≡ never)) }
+        ensures err { IfErr result (IsMisfitOr (move (machine_place self) tags.colgroup_end ≡ never)) }
     {
         match self {
             OpenTable::Colgroup(head, pending) => Ok(OpenTable::Columns(head.add_columns(pending))),
@@ -91,7 +91,7 @@ impl OpenTable {
         requires modest { IsModest self }
         requires few { span ≤ MAX_COLSPAN }
         ensures ok { IfOk result (Moves self (tags.col span)) }
-        ensures err { IfErr result (IsMisfitOr (move (place_of self) (tags.col span) ≡ never)) }
+        ensures err { IfErr result (IsMisfitOr (move (machine_place self) (tags.col span) ≡ never)) }
     {
         match self {
             OpenTable::Colgroup(head, _) => Ok(OpenTable::Colgroup(head.add_columns(span), 0)),
@@ -111,7 +111,7 @@ impl OpenTable {
         requires { IsModest self }
         ensures ok { IfOk result (λ new. (section : Section) → part_of section ≡ part → Moves self (tags.group_end section) new) }
         ensures err { IfErr result (λ stop. (section : Section) → part_of section ≡ part
-            → IsMisfitOr (move (place_of self) (tags.group_end section) ≡ never) stop) }
+            → IsMisfitOr (move (machine_place self) (tags.group_end section) ≡ never) stop) }
     {
         let group = self.into_group(alloc)?;
         if group.part == part {
@@ -125,7 +125,7 @@ impl OpenTable {
     fn start_row(self, alloc: Global) -> Result<OpenTable, Stop>
         requires modest { IsModest self }
         ensures ok { IfOk result (Moves self tags.row_start) }
-        ensures err { IfErr result (IsMisfitOr (move (place_of self) tags.row_start ≡ never)) }
+        ensures err { IfErr result (IsMisfitOr (move (machine_place self) tags.row_start ≡ never)) }
     {
         if self.has_group() {
             let group = self.into_group(alloc)?;
@@ -141,7 +141,7 @@ impl OpenTable {
     fn end_row(self, alloc: Global) -> Result<OpenTable, Stop>
         requires modest { IsModest self }
         ensures ok { IfOk result (Moves self tags.row_end) }
-        ensures err { IfErr result (IsMisfitOr (move (place_of self) tags.row_end ≡ never)) }
+        ensures err { IfErr result (IsMisfitOr (move (machine_place self) tags.row_end ≡ never)) }
     {
         Ok(OpenTable::Group(self.into_row(alloc)?.end()?))
     }
@@ -149,7 +149,7 @@ impl OpenTable {
     fn start_cell(self, alloc: Global, head: bool, spans: Spans) -> Result<OpenTable, Stop>
         requires modest { IsModest self }
         ensures ok { IfOk result (Moves self (tags.cell_start head spans)) }
-        ensures err { IfErr result (IsMisfitOr (move (place_of self) (tags.cell_start head spans) ≡ never)) }
+        ensures err { IfErr result (IsMisfitOr (move (machine_place self) (tags.cell_start head spans) ≡ never)) }
     {
         let row = self.into_row(alloc)?;
         let cell = OpenCell { row, head, spans };
@@ -160,7 +160,7 @@ impl OpenTable {
     fn end_cell(self, alloc: Global, head: bool) -> Result<OpenTable, Stop>
         requires modest { IsModest self }
         ensures ok { IfOk result (Moves self (tags.cell_end head)) }
-        ensures err { IfErr result (IsMisfitOr (move (place_of self) (tags.cell_end head) ≡ never)) }
+        ensures err { IfErr result (IsMisfitOr (move (machine_place self) (tags.cell_end head) ≡ never)) }
     {
         if self.is_in_cell(head) {
             Ok(OpenTable::Row(self.into_row(alloc)?))
@@ -172,7 +172,7 @@ impl OpenTable {
     fn read_break(self, alloc: Global) -> Result<OpenTable, Stop>
         requires modest { IsModest self }
         ensures ok { IfOk result (Moves self tags.br) }
-        ensures err { IfErr result (IsMisfitOr (move (place_of self) tags.br ≡ never)) }
+        ensures err { IfErr result (IsMisfitOr (move (machine_place self) tags.br ≡ never)) }
     {
         match self {
             OpenTable::Flow(holder, mut flow) => {
@@ -186,7 +186,7 @@ impl OpenTable {
     fn end_paragraph(self, alloc: Global) -> Result<OpenTable, Stop>
         requires modest { IsModest self }
         ensures ok { IfOk result (Moves self tags.p_or_div) }
-        ensures err { IfErr result (IsMisfitOr (move (place_of self) tags.p_or_div ≡ never)) }
+        ensures err { IfErr result (IsMisfitOr (move (machine_place self) tags.p_or_div ≡ never)) }
     {
         match self {
             OpenTable::Flow(holder, flow) => {
@@ -199,7 +199,7 @@ impl OpenTable {
     fn pass_inline(self) -> Result<OpenTable, Stop>
         requires modest { IsModest self }
         ensures ok { IfOk result (Moves self tags.inline_tag) }
-        ensures err { IfErr result (IsMisfitOr (move (place_of self) tags.inline_tag ≡ never)) }
+        ensures err { IfErr result (IsMisfitOr (move (machine_place self) tags.inline_tag ≡ never)) }
     {
         match self {
             OpenTable::Flow(holder, flow) => Ok(OpenTable::Flow(holder, flow)),
@@ -211,7 +211,7 @@ impl OpenTable {
     pub(crate) fn text(self, alloc: Global, text: &str) -> Result<OpenTable, Stop>
         requires modest { IsModest self }
         ensures ok { IfOk result (Moves self (tags.text (chars text.now))) }
-        ensures err { IfErr result (IsMisfitOr (move (place_of self) (tags.text (chars text.now)) ≡ never)) }
+        ensures err { IfErr result (IsMisfitOr (move (machine_place self) (tags.text (chars text.now)) ≡ never)) }
     {
         match self {
             OpenTable::Flow(holder, mut flow) => {
@@ -236,10 +236,10 @@ impl OpenTable {
         spans: Spans,
     ) -> Result<OpenTable, Stop>
         requires modest { IsModest self }
-        requires few { IsReadable (start_of element spans) }
-        requires no_table { is_table_start (start_of element spans) ≡ false }
-        ensures ok { IfOk result (Moves self (start_of element spans)) }
-        ensures err { IfErr result (IsMisfitOr (move (place_of self) (start_of element spans) ≡ never)) }
+        requires few { IsReadable (kind_of_start element spans) }
+        requires no_table { is_table_start (kind_of_start element spans) ≡ false }
+        ensures ok { IfOk result (Moves self (kind_of_start element spans)) }
+        ensures err { IfErr result (IsMisfitOr (move (machine_place self) (kind_of_start element spans) ≡ never)) }
     {
         match element {
             Element::Caption => self.start_caption(alloc),
@@ -262,8 +262,8 @@ impl OpenTable {
     pub(crate) fn end(self, alloc: Global, element: Element) -> Result<OpenTable, Stop>
         requires modest { IsModest self }
         requires no_table { element ≢ Table }
-        ensures ok { IfOk result (Moves self (end_of element)) }
-        ensures err { IfErr result (IsMisfitOr (move (place_of self) (end_of element) ≡ never)) }
+        ensures ok { IfOk result (Moves self (kind_of_end element)) }
+        ensures err { IfErr result (IsMisfitOr (move (machine_place self) (kind_of_end element) ≡ never)) }
     {
         match element {
             Element::Caption => self.end_caption(alloc),

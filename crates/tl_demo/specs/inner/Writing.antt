@@ -1,7 +1,7 @@
 -- No public clause cites this file. Text appended while it is drawn.
 use Rattle.std.specs.Prelude.{◌≡◌, ℕ, ◌&&◌, ◌==◌, nat_le, List, ◌++◌, codes, if◌then◌else◌}
 use Rattle.std.specs.List.{flat_map}
-use Rattle.tl_demo.specs.Demo.{Cell, Drawn, cell_text, word_text}
+use Rattle.tl_demo.specs.Demo.{DemoCell, Drawn, cell_text, word_text}
 
 -- the text of what is drawn was appended, and the state is the one after it
 pub record Appended (A : Type 0) (text_of : A → List ℕ) (piece : Drawn A) (old new : List ℕ)
@@ -18,7 +18,7 @@ abbrev pub next_words_text : List ℕ → List ℕ
 next_words_text lengths = flat_map next_word_text lengths
 
 -- cells one after the other
-abbrev pub cells_text : List Cell → List ℕ
+abbrev pub cells_text : List DemoCell → List ℕ
 cells_text cells = flat_map cell_text cells
 
 -- a cell is over two columns where 0 was drawn and two columns are left

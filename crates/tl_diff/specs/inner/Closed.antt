@@ -50,8 +50,8 @@ IsLoose bounds = (x : ℕ → ℤ) (t s : ℤ) → Satisfies bounds x → IsGap 
     Satisfies bounds (moved_past x t s)
 
 -- no bound is above MAX_BOUND times the number of variables, or below as much under 0
-abbrev pub AreSmall : Bounds → Type 0
-AreSmall bounds = (p q : ℕ) (c : ℤ) → p < bounds.n → q < bounds.n → bound_at bounds p q ≡ Some c
+abbrev pub AreSmallBounds : Bounds → Type 0
+AreSmallBounds bounds = (p q : ℕ) (c : ℤ) → p < bounds.n → q < bounds.n → bound_at bounds p q ≡ Some c
     → (neg_ℤ (pos (MAX_BOUND * bounds.n)) ≤ℤ c) × (c ≤ℤ pos (MAX_BOUND * bounds.n))
 
 -- the bounds in the row of variable p are small
@@ -62,11 +62,11 @@ IsRowSmall bounds p = (q : ℕ) (c : ℤ) → q < bounds.n → bound_at bounds p
 pub record IsExact (bounds : Bounds) : Type 0 where
   pub closed : IsClosed bounds
   pub loose : IsLoose bounds
-  pub small : AreSmall bounds
+  pub small : AreSmallBounds bounds
 
 -- What is true of every matrix between two calls: as many bounds as there are pairs; each the tightest while some assignment
 -- satisfies them, and none does once one was refused.
-pub record IsSound (bounds : Bounds) (holds : Bool) : Type 0 where
+pub record IsSoundMatrix (bounds : Bounds) (holds : Bool) : Type 0 where
   pub some : 1 ≤ bounds.n
   pub few : bounds.n ≤ MAX_VARIABLES
   pub pairs : length bounds.rows ≡ bounds.n * bounds.n

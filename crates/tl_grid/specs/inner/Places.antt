@@ -24,13 +24,13 @@ place_by columns rows block = record {
 }
 
 -- the place of a block, where the kept columns and rows are listed
-abbrev pub place_in : List ℕ → List ℕ → Block → Place
-place_in columns rows block = place_by (is_among columns) (is_among rows) block
+abbrev pub place_of_block : List ℕ → List ℕ → Block → Place
+place_of_block columns rows block = place_by (is_among columns) (is_among rows) block
 
 -- each place at its cell's number
 abbrev pub put_places : List ℕ → List ℕ → List Place → List Block → List Place
 put_places columns rows places blocks =
-    fold (λ found block. slice_set found block.number (place_in columns rows block)) places blocks
+    fold (λ found block. slice_set found block.number (place_of_block columns rows block)) places blocks
 
 -- the place before any is known
 abbrev pub nowhere : Place

@@ -34,10 +34,10 @@ IsWalked view walked (Ok value) = walked ≡ Ok (view value)
 IsWalked view walked (Err error) = (error ≡ Memory alloc_error) ⊎ (walked ≡ Err error)
 
 -- a block ends before column `width`, or at it
-abbrev pub EndsBy : ℕ → Block → Type 0
-EndsBy width block = block.right ≤ width
+abbrev pub BlockEndsBy : ℕ → Block → Type 0
+BlockEndsBy width block = block.right ≤ width
 
 -- the row has come no further than column `width`, and none of its open blocks goes past it
 abbrev pub StaysWithin : ℕ → Row → Type 0
 StaysWithin width row =
-    (row.column ≤ width) × AllByRecursion (EndsBy width) (row.passed ++ row.ahead)
+    (row.column ≤ width) × AllByRecursion (BlockEndsBy width) (row.passed ++ row.ahead)

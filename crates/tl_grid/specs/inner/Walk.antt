@@ -32,8 +32,8 @@ pub record Row : Type 0 where
   pub ahead : List Block
 
 -- the row after one more cell, at the column that the walk came to
-abbrev pub placed : ℕ → ℕ → SpanOf → Row → Walk → Row
-placed y number span row walk = record {
+abbrev pub row_with_cell : ℕ → ℕ → SpanOf → Row → Walk → Row
+row_with_cell y number span row walk = record {
   column = walk.column + span.colspan;
   height = max row.height (y + initial_rowspan span);
   blocks = row.blocks ++ block_at number walk.column y span ∷ [];
@@ -57,7 +57,7 @@ place_cells y number row [] = Ok row
 place_cells y number row (span ∷ spans) =
     let walk : Walk = walk_of y row in
     unless_hit (hit walk.ahead (walk.column + span.colspan)) number y
-    (place_cells y (number + 1) (placed y number span row walk) spans)
+    (place_cells y (number + 1) (row_with_cell y number span row walk) spans)
 
 -- a row group between two rows: the number of the next row, the table's height, all blocks of the
 -- group so far, and those of its blocks that are open
@@ -128,7 +128,7 @@ place_groups turn number table [] = Ok table
 place_groups turn number table (group ∷ groups) =
     if turn group
     then then_ok
-    (λ placed. place_groups turn (number + cells_in group.rows) (after_group table placed) groups)
+    (λ row_with_cell. place_groups turn (number + cells_in group.rows) (after_group table row_with_cell) groups)
     (place_rows number (group_at table.row) group.rows)
     else place_groups turn (number + cells_in group.rows) table groups
 
@@ -147,4 +147,4 @@ place_all groups =
 abbrev pub place_cell : ℕ → ℕ → Row → SpanOf → Result Row GridError
 place_cell y number row span =
     unless_hit (hit (walk_of y row).ahead ((walk_of y row).column + span.colspan)) number y
-    (Ok (placed y number span row (walk_of y row)))
+    (Ok (row_with_cell y number span row (walk_of y row)))

@@ -2,7 +2,7 @@
 use Rattle.std.specs.Prelude.{◌≡◌, ℕ, ◌≤◌, List, ◌++◌, drop, length}
 use Rattle.tl_table.specs.declared.layout.Layout.{Layout}
 use Rattle.tl_html.specs.declared.filled.Filled.{Filled}
-use Rattle.tl_html.specs.Html.{Block, Cell}
+use Rattle.tl_html.specs.Html.{Block, HtmlCell}
 
 -- a flow's text was appended, and of the layouts, of which `taken` had been taken, `next` are taken after it
 pub record Flowed (flow : Block) (inner : List Layout) (taken next : ℕ) (old new : List ℕ) : Type 0 where
@@ -11,7 +11,7 @@ pub record Flowed (flow : Block) (inner : List Layout) (taken next : ℕ) (old n
   pub within : next ≤ length inner
 
 -- a cell was given the text of its flow
-pub record IsFilled (cell : Cell) (inner : List Layout) (taken next : ℕ) (filled : Filled) : Type 0 where
+pub record IsFilled (cell : HtmlCell) (inner : List Layout) (taken next : ℕ) (filled : Filled) : Type 0 where
   pub is : filled ≡ record {
     kind = cell.kind;
     place = cell.place;

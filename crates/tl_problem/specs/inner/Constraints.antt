@@ -9,12 +9,12 @@ use Rattle.tl_problem.specs.declared.zone.Range.{Range}
 use Rattle.tl_problem.specs.Layouts.{WithinPage}
 use Rattle.tl_problem.specs.Sound.{IsSound}
 use Rattle.tl_problem.specs.Zones.{span_at, range_at, first_in_class, last_in_class, span_width, IsWidthOf}
-use Rattle.tl_problem.specs.Works.{IsLeft}
+use Rattle.tl_problem.specs.Works.{AreAllowed}
 use Rattle.tl_problem.specs.inner.Demands.{cell_at}
 
 -- columns a and b are at least `m` apart
-abbrev pub AreApart : (ℕ → ℤ) → ℕ → ℕ → ℕ → Type 0
-AreApart x a b m = (x a +ℤ pos m) ≤ℤ x b
+abbrev pub StandApart : (ℕ → ℤ) → ℕ → ℕ → ℕ → Type 0
+StandApart x a b m = (x a +ℤ pos m) ≤ℤ x b
 
 -- columns a and b are at most `m` apart
 abbrev pub AreNear : (ℕ → ℤ) → ℕ → ℕ → ℕ → Type 0
@@ -27,10 +27,10 @@ pub record PageUpto (problem : ProblemModel) (columns cells : ℕ) (matrix : Mar
   pub variables : matrix.bounds.n ≡ problem.cols + 1
   pub marks : matrix.marks ≡ 4
   pub none_held : matrix.held ≡ []
-  pub whole : (widths : List ℕ) → WithinPage problem widths → IsLeft problem matrix.bounds widths
-  pub gaps : (x : ℕ → ℤ) → Satisfies matrix.bounds x → (k : ℕ) → k < columns → AreApart x k (k + 1) (gap_of problem.style)
+  pub whole : (widths : List ℕ) → WithinPage problem widths → AreAllowed problem matrix.bounds widths
+  pub gaps : (x : ℕ → ℤ) → Satisfies matrix.bounds x → (k : ℕ) → k < columns → StandApart x k (k + 1) (gap_of problem.style)
   pub rooms : (x : ℕ → ℤ) → Satisfies matrix.bounds x → (k : ℕ) → k < cells →
-      AreApart x (cell_at problem.cells k).left (cell_at problem.cells k).right
+      StandApart x (cell_at problem.cells k).left (cell_at problem.cells k).right
       (first_width (cell_at problem.cells k).low + gap_of problem.style)
 
 -- the matrix with one fact more: the marks stay as they are
@@ -44,7 +44,7 @@ pub record AddsFact (old new : MarkedBounds) (Fact : (ℕ → ℤ) → Type 0) :
 
 -- the room of the span is at least the first width of its first class
 abbrev pub HasFirst : ProblemModel → List Range → ℕ → (ℕ → ℤ) → Type 0
-HasFirst problem zone s x = AreApart x (span_at problem s).left (span_at problem s).right
+HasFirst problem zone s x = StandApart x (span_at problem s).left (span_at problem s).right
     (first_in_class problem s (range_at zone s).first + gap_of problem.style)
 
 -- the room of the span is at most the last width of its last class
@@ -59,7 +59,7 @@ pub record AddsRanges (problem : ProblemModel) (zone : List Range) (upto : ℕ) 
   pub marks : new.marks ≡ old.marks
   pub held : new.held ≡ old.held
   pub keeps : (x : ℕ → ℤ) → Satisfies new.bounds x → Satisfies old.bounds x
-  pub from : (widths : List ℕ) → IsLeft problem old.bounds widths →
-      ((s : ℕ) → s < length zone → IsWidthOf problem zone s (span_width problem widths s)) → IsLeft problem new.bounds widths
-  pub to : Whole → (widths : List ℕ) → IsLeft problem new.bounds widths → (s : ℕ) → s < upto →
+  pub from : (widths : List ℕ) → AreAllowed problem old.bounds widths →
+      ((s : ℕ) → s < length zone → IsWidthOf problem zone s (span_width problem widths s)) → AreAllowed problem new.bounds widths
+  pub to : Whole → (widths : List ℕ) → AreAllowed problem new.bounds widths → (s : ℕ) → s < upto →
       IsWidthOf problem zone s (span_width problem widths s)

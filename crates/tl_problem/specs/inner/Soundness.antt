@@ -45,8 +45,8 @@ abbrev pub EachBegins : Axis → ℕ → List Cell → Type 0
 EachBegins axis count cells = (place : ℕ) → place < count → Any (λ cell. start_of axis cell ≡ place) cells
 
 -- some widths of so many columns are within a page of this style and width
-abbrev pub Fits : ℕ → Style → ℕ → List Cell → Type 0
-Fits cols style width cells = (widths : List ℕ)
+abbrev pub FitsPageWidth : ℕ → Style → ℕ → List Cell → Type 0
+FitsPageWidth cols style width cells = (widths : List ℕ)
     × WithinPage (record { cols = cols; rows = 0; style = style; width = width; cells = cells }) widths
 
 -- the column begins at or past this place: past the gap of the column before it, and past each cell that ends there

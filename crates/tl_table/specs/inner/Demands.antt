@@ -24,8 +24,8 @@ abbrev pub most_width : ℕ → ℕ
 most_width size = (MAX_PAGE_WIDTH + most_gaps) * size
 
 -- the demands, and the gaps of a table for each of them, are small beside a table of this size
-abbrev pub AreSmall : List Demand → ℕ → Type 0
-AreSmall demands size = sum_by (λ demand. demand.width) demands + most_gaps * length demands ≤ most_width size
+abbrev pub AreSmallDemands : List Demand → ℕ → Type 0
+AreSmallDemands demands size = sum_by (λ demand. demand.width) demands + most_gaps * length demands ≤ most_width size
 
 -- demands that a table of so many columns may have: each covers columns, one covers the last column alone, and their
 -- widths are small
@@ -68,13 +68,13 @@ AreInRow from [] = Unit {0}
 AreInRow from (demand ∷ demands) = (from ≤ demand.left) × AreInRow demand.right demands
 
 -- how many columns the demands cover
-abbrev pub columns_of : List Demand → ℕ
-columns_of demands = sum_by (λ demand. demand.right - demand.left) demands
+abbrev pub columns_demanded : List Demand → ℕ
+columns_demanded demands = sum_by (λ demand. demand.right - demand.left) demands
 
 -- what demands in a row weigh in a table of so many columns
 abbrev pub demands_weight : Style → ℕ → List Demand → ℕ
 demands_weight style cols demands = sum_by (λ demand. demand.width) demands
-    + gap_of style * (length demands + (cols - columns_of demands) - 1) + 2 * edge_of style
+    + gap_of style * (length demands + (cols - columns_demanded demands) - 1) + 2 * edge_of style
 
 -- the numbers are those of demands in a row, at least one, and these weigh `weight`
 pub record IsRowOf (style : Style) (cols : ℕ) (demands : List Demand) (numbers : List ℕ) (weight : ℕ) : Type 0 where
@@ -85,5 +85,5 @@ pub record IsRowOf (style : Style) (cols : ℕ) (demands : List Demand) (numbers
   pub weighed : weight ≡ demands_weight style cols picked
 
 -- the number of the demand of an arc
-abbrev pub number_at : List NumberedArc → ℕ → ℕ
-number_at arcs i = (get_or arcs i (record { number = 0; arc = record { from = 0; to = 0; weight = 0 } })).number
+abbrev pub demand_number : List NumberedArc → ℕ → ℕ
+demand_number arcs i = (get_or arcs i (record { number = 0; arc = record { from = 0; to = 0; weight = 0 } })).number

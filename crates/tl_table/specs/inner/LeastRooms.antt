@@ -23,7 +23,7 @@ pub record IsLeastForBlocks (style : Style) (floor : ℕ) (blocks : List Content
       AllZip (λ block share. FitsShare (FitsWithin depth style) v (out-Content block) share) blocks shares → w ≤ v
 
 -- from `w` columns on the cell fits in some height, and in no fewer columns in any
-pub record IsLeastRoom (style : Style) (cell : OpenCell) (w : ℕ) : Type 0 where
+pub record IsLeastCellRoom (style : Style) (cell : OpenCell) (w : ℕ) : Type 0 where
   pub fits : (v : ℕ) → w ≤ v → (depth : ℕ) × (height : ℕ) × (inner : List Layout) ×
       FitsRoom (FitsWithin depth style) v height cell inner
   pub least : (depth v height : ℕ) (inner : List Layout) → FitsRoom (FitsWithin depth style) v height cell inner →
@@ -33,7 +33,7 @@ pub record IsLeastRoom (style : Style) (cell : OpenCell) (w : ℕ) : Type 0 wher
 pub record IsDemandOf (style : Style) (cell : OpenCell) (demand : Demand) : Type 0 where
   pub left : demand.left ≡ cell.place.left
   pub right : demand.right ≡ cell.place.right
-  pub room : IsLeastRoom style cell demand.width
+  pub room : IsLeastCellRoom style cell demand.width
 
 -- the demands are those of the cells, in their order
 abbrev pub AreDemandsOf : Style → List TableCell → List Demand → Type 0

@@ -14,9 +14,9 @@ measure_of (atoms.Glue text) = Columns (width_of text) 0
 measure_of atoms.Break = Break
 
 -- the columns of a unit; a break takes none
-abbrev pub columns_of : Measure → ℕ
-columns_of (Columns width gap) = width
-columns_of Break = 0
+abbrev pub unit_columns : Measure → ℕ
+unit_columns (Columns width gap) = width
+unit_columns Break = 0
 
 -- how many lines end from here on, where a line of so many columns is open, or none
 abbrev pub lines_after : ℕ → Option ℕ → List Measure → ℕ

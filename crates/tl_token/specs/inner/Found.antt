@@ -8,7 +8,7 @@ use Rattle.tl_token.specs.Elements.{Attribute, Tag, is_word, value_of}
 use Rattle.tl_token.specs.Grammar.{hidden, tag, character, unended_tag, unended_comment, bad_tag, unknown_element, bad_reference}
 use Rattle.tl_token.specs.Grammar.{bad_character}
 use Rattle.tl_token.specs.Grammar as grammar
-use Rattle.tl_token.specs.inner.States.{Outcome, State, reads, unended, wrong, read, between, with_attribute, with_more}
+use Rattle.tl_token.specs.inner.States.{TagOutcome, TagState, reads, unended, wrong, read, between, with_attribute, with_more}
 use Rattle.tl_token.specs.inner.Reading.{Found, stands, faulty, tag_found}
 use Rattle.tl_token.specs.declared.piece.Piece.{Piece}
 use Rattle.tl_token.specs.declared.piece.Piece.TheVariants.{Hidden, Start, End, Character}
@@ -21,7 +21,7 @@ use Rattle.tl_token.specs.declared.token.TokenError.TheVariants as error
 use Rattle.tl_token.specs.declared.tag.Given.{Given}
 
 -- the grammar's piece
-abbrev pub piece_of : Piece → grammar.Piece
+abbrev pub piece_of : Piece → grammar.Lexeme
 piece_of Hidden = hidden
 piece_of (Start e spans) = tag (kind.Start e spans)
 piece_of (End e) = tag (kind.End e)
@@ -56,9 +56,9 @@ number_in word attributes =
     option_map (λ v. option_map (λ n. min n 4294967295) (number_of v)) (value_of word attributes)
 
 -- the number of the first attribute of that name, with one more attribute
-abbrev pub number_after : Option (Option ℕ) → List ℕ → Attribute → Option (Option ℕ)
-number_after (Some known) word a = Some known
-number_after None word a =
+abbrev pub attribute_number_after : Option (Option ℕ) → List ℕ → Attribute → Option (Option ℕ)
+attribute_number_after (Some known) word a = Some known
+attribute_number_after None word a =
     if is_word a.name word then Some (option_map (λ n. min n 4294967295) (number_of a.value)) else None
 
 -- the numbers of the attributes that a tag has so far
@@ -73,24 +73,24 @@ given_of attributes = record {
 -- the numbers of the attributes, with one more attribute
 abbrev pub given_after : Given → Attribute → Given
 given_after given a = record {
-  colspan = number_after given.colspan (codes "colspan") a;
-  rowspan = number_after given.rowspan (codes "rowspan") a;
-  span = number_after given.span (codes "span") a;
-  least = number_after given.least (codes "data-min") a;
+  colspan = attribute_number_after given.colspan (codes "colspan") a;
+  rowspan = attribute_number_after given.rowspan (codes "rowspan") a;
+  span = attribute_number_after given.span (codes "span") a;
+  least = attribute_number_after given.least (codes "data-min") a;
 }
 
 -- what a text is, read as a tag that cannot go on there
-abbrev pub stop : List ℕ → Outcome
+abbrev pub stop : List ℕ → TagOutcome
 stop [] = unended
 stop (c ∷ cs) = wrong
 
 -- the state reads to a fault
-abbrev pub Stops : State → List ℕ → Fault → Type 0
+abbrev pub Stops : TagState → List ℕ → Fault → Type 0
 Stops s cs fault = tag_found (read s cs) ≡ faulty (fault_of fault)
 
 -- From those states on, with a tag and the name of an attribute, its value was read from old, and
 -- new is left; or the tag is broken there.
-abbrev pub ReadsValue : {X : Type 0} → (Tag → List ℕ → State) → (X → List ℕ) → Result X Fault
+abbrev pub ReadsValue : {X : Type 0} → (Tag → List ℕ → TagState) → (X → List ℕ) → Result X Fault
     → List ℕ → List ℕ → Type 0
 ReadsValue state text result old new = (t : Tag) (name : List ℕ) → MatchResult result
     (λ value. read (state t name) old ≡ read (between (with_attribute t name (text value))) new)

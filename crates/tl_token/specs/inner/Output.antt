@@ -1,7 +1,7 @@
 -- No public clause cites this file: it says which tokens pieces make, where some pieces are still
 -- to come.
 use Rattle.std.specs.Prelude.{◌≡◌, ℕ, List, [], ◌∷◌, ◌++◌, string_bytes, chars}
-use Rattle.tl_token.specs.Grammar.{Piece}
+use Rattle.tl_token.specs.Grammar.{Lexeme}
 use Rattle.tl_token.specs.Spelling.{Part, part, token, tokens_of}
 use Rattle.tl_token.specs.declared.token.TokenKind.{TokenKind}
 use Rattle.tl_token.specs.declared.token.TokenKind.TheVariants.{Start, End, Text}
@@ -39,6 +39,6 @@ closed output = output.tokens ++ with_text (open_text output) output.first outpu
 
 -- The piece between those bytes was taken: whatever follows, the tokens are those that they were
 -- where the piece was to come.
-abbrev pub Takes : Output → Output → Piece → ℕ → ℕ → Type 0
+abbrev pub Takes : Output → Output → Lexeme → ℕ → ℕ → Type 0
 Takes old new piece first past =
     (parts : List Part) → resumed new parts ≡ resumed old (part piece first past ∷ parts)

@@ -3,16 +3,16 @@
 use Rattle.std.specs.Prelude.{ℕ, ◌==◌, List, [], ◌∷◌, Option, Some, None, if◌then◌else◌, codes}
 use Rattle.std.specs.Char.{to_ascii_lowercase}
 use Rattle.tl_token.specs.Characters.{◌∈◌, is_control, opens_markup}
-use Rattle.tl_token.specs.Elements.{Tag, element_of, kind_of}
-use Rattle.tl_token.specs.Grammar.{past_first, reference, Piece, hidden, tag, character, Fault, unended_tag, unended_comment}
+use Rattle.tl_token.specs.Elements.{Tag, element_of, tag_token}
+use Rattle.tl_token.specs.Grammar.{past_first, reference, Lexeme, hidden, tag, character, Fault, unended_tag, unended_comment}
 use Rattle.tl_token.specs.Grammar.{bad_tag}
 use Rattle.tl_token.specs.Grammar.{unknown_element, bad_reference, bad_character}
-use Rattle.tl_token.specs.inner.States.{tag_open, Outcome, reads, unended, wrong, read}
+use Rattle.tl_token.specs.inner.States.{tag_open, TagOutcome, reads, unended, wrong, read}
 use Rattle.tl_token.specs.declared.token.Element.{Element}
 
 -- a piece and what follows it, or a fault
 pub data Found : Type 0 where
-  stands : Piece → List ℕ → Found
+  stands : Lexeme → List ℕ → Found
   faulty : Fault → Found
 
 -- a comment or a doctype, where what follows its end is known, and the fault where it has no end
@@ -49,10 +49,10 @@ declaration (c ∷ cs) = if c ∈ "-" then comment_open cs else doctype_word (co
 -- a whole tag of that element, or of none
 abbrev pub known_or_not : Tag → List ℕ → Option Element → Found
 known_or_not t rest None = faulty unknown_element
-known_or_not t rest (Some e) = stands (tag (kind_of e t)) rest
+known_or_not t rest (Some e) = stands (tag (tag_token e t)) rest
 
 -- what is found where a tag is read
-abbrev pub tag_found : Outcome → Found
+abbrev pub tag_found : TagOutcome → Found
 tag_found (reads t rest) = known_or_not t rest (element_of (t.name))
 tag_found unended = faulty unended_tag
 tag_found wrong = faulty bad_tag

@@ -7,33 +7,33 @@ use Rattle.tl_token.specs.Characters.{◌∈◌, is_space, is_name_character, is
 use Rattle.tl_token.specs.Elements.{Attribute, Tag}
 
 -- where in a tag the next character stands, and what was read of the tag
-pub data State : Type 0 where
+pub data TagState : Type 0 where
   -- after the `<`
-  tag_open : State
+  tag_open : TagState
   -- after the `</`
-  end_tag_open : State
+  end_tag_open : TagState
   -- in the name of the tag
-  tag_name : Bool → List ℕ → State
+  tag_name : Bool → List ℕ → TagState
   -- between two attributes
-  between : Tag → State
+  between : Tag → TagState
   -- in the name of an attribute
-  in_name : Tag → List ℕ → State
+  in_name : Tag → List ℕ → TagState
   -- after the name of an attribute and white space
-  after_name : Tag → List ℕ → State
+  after_name : Tag → List ℕ → TagState
   -- after the `=` of an attribute
-  before_value : Tag → List ℕ → State
+  before_value : Tag → List ℕ → TagState
   -- in a value, with the quote that ends it
-  in_quotes : Tag → List ℕ → ℕ → List ℕ → State
+  in_quotes : Tag → List ℕ → ℕ → List ℕ → TagState
   -- in a value without quotes
-  in_value : Tag → List ℕ → List ℕ → State
+  in_value : Tag → List ℕ → List ℕ → TagState
   -- after the `>`
-  ended : Tag → State
+  ended : Tag → TagState
   -- this is no tag
-  failed : State
+  failed : TagState
 
 -- the attribute of that name and value
-abbrev pub attribute : List ℕ → List ℕ → Attribute
-attribute name value = record { name = name; value = value }
+abbrev pub named_attribute : List ℕ → List ℕ → Attribute
+named_attribute name value = record { name = name; value = value }
 
 -- the tag of that name without attributes
 abbrev pub empty_tag : Bool → List ℕ → Tag
@@ -42,14 +42,14 @@ empty_tag is_end name = record { is_end = is_end; name = name; attributes = [] }
 -- the tag with one more attribute
 abbrev pub with_attribute : Tag → List ℕ → List ℕ → Tag
 with_attribute t name value =
-    record { is_end = t.is_end; name = t.name; attributes = t.attributes ++ attribute name value ∷ [] }
+    record { is_end = t.is_end; name = t.name; attributes = t.attributes ++ named_attribute name value ∷ [] }
 
 -- the tag with more attributes
 abbrev pub with_more : Tag → List Attribute → Tag
 with_more t others = record { is_end = t.is_end; name = t.name; attributes = t.attributes ++ others }
 
 -- the state after one more character
-abbrev pub step : State → ℕ → State
+abbrev pub step : TagState → ℕ → TagState
 step tag_open c =
     if c ∈ "/" then end_tag_open
     else if is_ascii_alphabetic c then tag_name false (c ∷ [])
@@ -96,15 +96,15 @@ step (ended t) c = ended t
 step failed c = failed
 
 -- what a text is, from a state on
-pub data Outcome : Type 0 where
+pub data TagOutcome : Type 0 where
   -- a tag ends, from whose `>` the rest follows
-  reads : Tag → List ℕ → Outcome
+  reads : Tag → List ℕ → TagOutcome
   -- the text ends before the tag does
-  unended : Outcome
-  wrong : Outcome
+  unended : TagOutcome
+  wrong : TagOutcome
 
 -- what the text is, read from that state on
-abbrev pub read : State → List ℕ → Outcome
+abbrev pub read : TagState → List ℕ → TagOutcome
 read (ended t) cs = reads t cs
 read failed cs = wrong
 read s [] = unended

@@ -8,10 +8,10 @@ use Rattle.tl_tree.specs.Paragraphs.{paragraph_of, entries_of}
 use Rattle.tl_tree.specs.Outline.{Entries, table, outline, blocks_outline}
 use Rattle.tl_tree.specs.Spelling.{FitsLimits, FitLimits, tables_with, tables_after}
 use Rattle.tl_tree.specs.inner.Machine as machine
-use Rattle.tl_tree.specs.inner.Machine.{State, next, told, due, reached, all_told}
+use Rattle.tl_tree.specs.inner.Machine.{DocumentState, next, told, due, reached, all_told}
 use Rattle.tl_tree.specs.inner.Verdict.{depth, is_failed, misfit}
 use Rattle.tl_tree.specs.inner.Lines.{line_atoms}
-use Rattle.tl_tree.specs.inner.Reading.{Outcome, after_entries, outcome, holder_so_far, holder_of, place_of, IsModest}
+use Rattle.tl_tree.specs.inner.Reading.{OutlineOutcome, after_entries, outcome, holder_so_far, holder_of, machine_place, IsModest}
 use Rattle.tl_tree.specs.declared.flow.Flow.{Flow}
 use Rattle.tl_tree.specs.declared.open.Holder.{Holder}
 use Rattle.tl_tree.specs.declared.open.OpenTable.{OpenTable}
@@ -32,13 +32,13 @@ abbrev pub holders : List Outer → List machine.Holder
 holders outer = map (λ o. holder_of o.holder) (reverse outer)
 
 -- the state of the machine
-abbrev pub state_of : Reading → State
+abbrev pub state_of : Reading → DocumentState
 state_of Before = machine.before
-state_of (Inside outer t) = machine.inside (place_of t) (holders outer.items)
+state_of (Inside outer t) = machine.inside (machine_place t) (holders outer.items)
 state_of (After node) = machine.after
 
 -- the outline that comes
-abbrev pub outcome_of : Reading → Outcome
+abbrev pub outcome_of : Reading → OutlineOutcome
 outcome_of Before = after_entries []
 outcome_of (Inside outer t) = λ k ms. around outer.items ++ outcome t k ms
 outcome_of (After node) = after_entries (outline node)
@@ -62,7 +62,7 @@ pub record Reads (old : Reading) (tables : ℕ) (k : Kind) (new : Reading) : Typ
       (told (state_of old) k ++ later)
 
 -- why reading stops at a token: memory ran out, no document goes on with it, or a table passes a limit
-abbrev pub IsStop : State → ℕ → Kind → Stop → Type 0
+abbrev pub IsStop : DocumentState → ℕ → Kind → Stop → Type 0
 IsStop s tables k (stops.Memory error) = Unit {0}
 IsStop s tables k stops.Misfit = is_failed (next s k) ≡ true
 IsStop s tables k stops.TooDeep = (k ≡ table_start) × (is_failed (next s k) ≡ false) × (MAX_DEPTH ≤ depth s)
@@ -88,9 +88,9 @@ pub record Nests (outer : List Outer) (holder : Holder) (flow : Flow) (tables : 
 
 -- the table that is open ends
 pub record Leaves (outer : List Outer) (t : OpenTable) (new : Reading) : Type 0 where
-  pub goes : state_of new ≡ machine.left (holders outer)
+  pub goes : state_of new ≡ machine.table_left (holders outer)
   pub same : (k : ℕ) (later : Marks) → outcome_of new k later ≡ around outer ++ outcome t k
-      ((due (place_of t) ++ table_ends ∷ []) ++ later)
+      ((due (machine_place t) ++ table_ends ∷ []) ++ later)
 
 -- the error of a token at which reading stops
 abbrev pub stop_error : ℕ → Kind → Stop → TreeError
@@ -100,7 +100,7 @@ stop_error n k stops.TooDeep = errors.TooDeep n
 stop_error n k stops.TooManyTables = errors.TooManyTables n
 
 -- what has been read once those tokens were read
-pub record HasRead (prefix : Kinds) (tables : ℕ) (reading : Reading) : Type 0 where
+pub record HasReadTokens (prefix : Kinds) (tables : ℕ) (reading : Reading) : Type 0 where
   pub goes : reached machine.before prefix ≡ state_of reading
   pub alive : is_failed (state_of reading) ≡ false
   pub within : FitLimits 0 0 prefix

@@ -41,10 +41,10 @@ pub data Move : Type 0 where
   never : Move
 
 -- the row that goes on after what stands in it has ended, and the marks of that end
-abbrev pub row_of : Place → Option (Part × Marks)
-row_of (in_flow (of_cell part head)) = Some (part, paragraph_ends ∷ [])
-row_of (in_row part) = Some (part, [])
-row_of _ = None
+abbrev pub row_tags_at : Place → Option (Part × Marks)
+row_tags_at (in_flow (of_cell part head)) = Some (part, paragraph_ends ∷ [])
+row_tags_at (in_row part) = Some (part, [])
+row_tags_at _ = None
 
 -- the group that goes on after what stands in it has ended, and the marks of that end
 abbrev pub group_of : Place → Option (Part × Marks)
@@ -54,12 +54,12 @@ group_of (in_group part) = Some (part, [])
 group_of _ = None
 
 -- where column tags may come once what is open has ended: how many columns there are, and the marks of that end
-abbrev pub columns_of : Place → Option (ℕ × Marks)
-columns_of opened = Some (0, [])
-columns_of (in_flow of_caption) = Some (0, paragraph_ends ∷ [])
-columns_of (in_columns n) = Some (n, [])
-columns_of (in_colgroup n pending) = Some (n + pending, [])
-columns_of _ = None
+abbrev pub column_tags_at : Place → Option (ℕ × Marks)
+column_tags_at opened = Some (0, [])
+column_tags_at (in_flow of_caption) = Some (0, paragraph_ends ∷ [])
+column_tags_at (in_columns n) = Some (n, [])
+column_tags_at (in_colgroup n pending) = Some (n + pending, [])
+column_tags_at _ = None
 
 -- the marks that are due before a group begins or the table ends
 abbrev pub due : Place → Marks
@@ -128,12 +128,12 @@ lone_col span (Some c) = to (in_columns (c.0 + span)) c.1
 -- a `col` in a `colgroup` adds its span in place of that of the `colgroup`
 abbrev pub read_col : ℕ → Place → Move
 read_col span (in_colgroup n pending) = to (in_colgroup (n + span) 0) []
-read_col span p = lone_col span (columns_of p)
+read_col span p = lone_col span (column_tags_at p)
 
 -- an end tag of a group ends the group, where it is of the same part
-abbrev pub end_group : Section → Option (Part × Marks) → Move
-end_group section None = never
-end_group section (Some g) = if closes section g.0 then to between g.1 else never
+abbrev pub end_tag_of_group : Section → Option (Part × Marks) → Move
+end_tag_of_group section None = never
+end_tag_of_group section (Some g) = if closes section g.0 then to between g.1 else never
 
 -- a row begins in the group that is open; where none is, loose rows begin with it
 abbrev pub start_row : Marks → Option (Part × Marks) → Move
@@ -163,14 +163,14 @@ move p table_start = start_table p
 move p table_end = leave (due p ++ table_ends ∷ [])
 move p caption_start = start_caption p
 move p caption_end = end_caption p
-move p (colgroup_start span) = start_colgroup span (columns_of p)
+move p (colgroup_start span) = start_colgroup span (column_tags_at p)
 move p colgroup_end = end_colgroup p
 move p (col span) = read_col span p
 move p (group_start section) = to (in_group (part_of section)) (due p ++ group_begins (part_of section) ∷ [])
-move p (group_end section) = end_group section (group_of p)
+move p (group_end section) = end_tag_of_group section (group_of p)
 move p row_start = start_row (due p) (group_of p)
-move p row_end = end_row (row_of p)
-move p (cell_start head spans) = start_cell head spans (row_of p)
+move p row_end = end_row (row_tags_at p)
+move p (cell_start head spans) = start_cell head spans (row_tags_at p)
 move p (cell_end head) = end_cell head p
 move p br = in_flow_only (line_break ∷ []) p
 move p p_or_div = in_flow_only (paragraph_ends ∷ []) p
@@ -180,22 +180,22 @@ move p lone_end = never
 
 -- a document so far: before its table, inside it with the flows that hold the table at hand, the
 -- innermost first, after it, or begun by no tokens like these
-pub data State : Type 0 where
-  before : State
-  inside : Place → List Holder → State
-  after : State
-  failed : State
+pub data DocumentState : Type 0 where
+  before : DocumentState
+  inside : Place → List Holder → DocumentState
+  after : DocumentState
+  failed : DocumentState
 
 -- the state once a table has ended: in the innermost flow that holds it, or after the document's table
-abbrev pub left : List Holder → State
-left [] = after
-left (holder ∷ holders) = inside (in_flow holder) holders
+abbrev pub table_left : List Holder → DocumentState
+table_left [] = after
+table_left (holder ∷ holders) = inside (in_flow holder) holders
 
 -- the state after a move in the table that is open
-abbrev pub moved : List Holder → Move → State
+abbrev pub moved : List Holder → Move → DocumentState
 moved holders (to p ms) = inside p holders
 moved holders (enter holder) = inside opened (holder ∷ holders)
-moved holders (leave ms) = left holders
+moved holders (leave ms) = table_left holders
 moved holders never = failed
 
 -- the marks that a move adds
@@ -206,7 +206,7 @@ marks_of (leave ms) = ms
 marks_of never = []
 
 -- the state after a token that comes before the document's table
-abbrev pub next_before : Kind → State
+abbrev pub next_before : Kind → DocumentState
 next_before (text cs) = if is_white (text cs) then before else failed
 next_before outer_tag = before
 next_before table_start = inside opened []
@@ -218,36 +218,36 @@ told_before table_start = table_begins ∷ []
 told_before _ = []
 
 -- the state after a token that comes after the document's table
-abbrev pub next_after : Kind → State
+abbrev pub next_after : Kind → DocumentState
 next_after (text cs) = if is_white (text cs) then after else failed
 next_after outer_tag = after
 next_after _ = failed
 
 -- the state after a token
-abbrev pub next : State → Kind → State
+abbrev pub next : DocumentState → Kind → DocumentState
 next before k = next_before k
 next (inside p holders) k = moved holders (move p k)
 next after k = next_after k
 next failed k = failed
 
 -- the marks that a token adds
-abbrev pub told : State → Kind → Marks
+abbrev pub told : DocumentState → Kind → Marks
 told before k = told_before k
 told (inside p holders) k = marks_of (move p k)
 told after k = []
 told failed k = []
 
 -- the state after tokens, one after another
-abbrev pub reached : State → Kinds → State
+abbrev pub reached : DocumentState → Kinds → DocumentState
 reached s [] = s
 reached s (k ∷ ks) = reached (next s k) ks
 
 -- the marks that tokens add, one after another
-abbrev pub all_told : State → Kinds → Marks
+abbrev pub all_told : DocumentState → Kinds → Marks
 all_told s [] = []
 all_told s (k ∷ ks) = told s k ++ all_told (next s k) ks
 
 -- the tokens lead from that state to the end of a document, and add those marks
-pub record Accepts (s : State) (ks : Kinds) (ms : Marks) : Type 0 where
+pub record Accepts (s : DocumentState) (ks : Kinds) (ms : Marks) : Type 0 where
   pub ends : reached s ks ≡ after
   pub tells : all_told s ks ≡ ms

@@ -10,7 +10,7 @@ use Rattle.tl_tree.specs.Outline.{Entries, table, caption, columns, group, cell,
 use Rattle.tl_tree.specs.Outline.{row_outline}
 use Rattle.tl_tree.specs.inner.Lines.{line_atoms, line_size}
 use Rattle.tl_tree.specs.inner.Machine as machine
-use Rattle.tl_tree.specs.inner.Machine.{Place, row_of, group_of, columns_of, move, to, marks_of}
+use Rattle.tl_tree.specs.inner.Machine.{Place, row_tags_at, group_of, column_tags_at, move, to, marks_of}
 use Rattle.tl_tree.specs.declared.flow.Line.{Line}
 use Rattle.tl_tree.specs.declared.flow.Flow.{Flow}
 use Rattle.tl_tree.specs.declared.open.Head.{Head}
@@ -49,23 +49,23 @@ holder_so_far (holders.Caption number) = table number ∷ caption ∷ []
 holder_so_far (holders.Cell c) = cell_so_far c
 
 -- the outline that comes, by the number of the next table and the marks that are still to come
-abbrev pub Outcome : Type 0
-Outcome = ℕ → Marks → Entries
+abbrev pub OutlineOutcome : Type 0
+OutlineOutcome = ℕ → Marks → Entries
 
 -- the outline that comes after these entries, where no paragraph is open
-abbrev pub after_entries : Entries → Outcome
+abbrev pub after_entries : Entries → OutlineOutcome
 after_entries entries k ms = entries ++ entries_of k ms
 
 -- the outline that comes after these entries, where a paragraph is open
-abbrev pub in_paragraph : Entries → Line → Outcome
+abbrev pub in_paragraph : Entries → Line → OutlineOutcome
 in_paragraph entries line k ms = entries ++ (paragraph_of (line_atoms line (leading ms)) ++ entries_after k ms)
 
 -- the outline that comes after these entries and the blocks of a flow, where a paragraph is open in it
-abbrev pub in_flow : Entries → Flow → Outcome
+abbrev pub in_flow : Entries → Flow → OutlineOutcome
 in_flow entries flow = in_paragraph (entries ++ blocks_outline flow.blocks) flow.line
 
 -- the outline that comes, where that table is open
-abbrev pub outcome : OpenTable → Outcome
+abbrev pub outcome : OpenTable → OutlineOutcome
 outcome (tables.Start number) = after_entries (table number ∷ [])
 outcome (tables.Columns head) = after_entries (head_so_far head)
 outcome (tables.Colgroup head pending) = after_entries (head_so_far head)
@@ -75,7 +75,7 @@ outcome (tables.Row r) = after_entries (row_so_far r)
 outcome (tables.Flow holder flow) = in_flow (holder_so_far holder) flow
 
 -- the second comes of the first by those marks, among which no table begins
-pub record Adds (old new : Outcome) (ms : Marks) : Type 0 where
+pub record Adds (old new : OutlineOutcome) (ms : Marks) : Type 0 where
   pub same : (k : ℕ) (later : Marks) → new k later ≡ old k (ms ++ later)
 
 -- what the machine sees of the caption or the cell that a flow stands in
@@ -84,14 +84,14 @@ holder_of (holders.Caption number) = machine.of_caption
 holder_of (holders.Cell c) = machine.of_cell c.row.group.part c.head
 
 -- where a table that is open stands in the machine
-abbrev pub place_of : OpenTable → Place
-place_of (tables.Start number) = machine.opened
-place_of (tables.Columns head) = machine.in_columns head.columns
-place_of (tables.Colgroup head pending) = machine.in_colgroup head.columns pending
-place_of (tables.Between parts) = machine.between
-place_of (tables.Group g) = machine.in_group g.part
-place_of (tables.Row r) = machine.in_row r.group.part
-place_of (tables.Flow holder flow) = machine.in_flow (holder_of holder)
+abbrev pub machine_place : OpenTable → Place
+machine_place (tables.Start number) = machine.opened
+machine_place (tables.Columns head) = machine.in_columns head.columns
+machine_place (tables.Colgroup head pending) = machine.in_colgroup head.columns pending
+machine_place (tables.Between parts) = machine.between
+machine_place (tables.Group g) = machine.in_group g.part
+machine_place (tables.Row r) = machine.in_row r.group.part
+machine_place (tables.Flow holder flow) = machine.in_flow (holder_of holder)
 
 -- the marks of the end of the flow at a place, if there is one
 abbrev pub ending : Place → Marks
@@ -121,25 +121,25 @@ open_size _ = 0
 
 -- what reading a table on may count on: that few columns and few characters have come
 pub record IsModest (t : OpenTable) : Type 0 where
-  pub few_columns : place_columns (place_of t) < 2 ^ 31
+  pub few_columns : place_columns (machine_place t) < 2 ^ 31
   pub small : open_size t ≤ MAX_FILE_BYTES
 
 -- a row goes on once what is open in it has ended, by the marks of that end
-pub record RowGoesOn (old : Outcome) (p : Place) (r : OpenRow) : Type 0 where
-  pub found : row_of p ≡ Some (r.group.part, ending p)
+pub record RowGoesOn (old : OutlineOutcome) (p : Place) (r : OpenRow) : Type 0 where
+  pub found : row_tags_at p ≡ Some (r.group.part, ending p)
   pub adds : Adds old (after_entries (row_so_far r)) (ending p)
 
 -- a group goes on once what is open in it has ended, by the marks of that end
-pub record GroupGoesOn (old : Outcome) (p : Place) (g : OpenGroup) : Type 0 where
+pub record GroupGoesOn (old : OutlineOutcome) (p : Place) (g : OpenGroup) : Type 0 where
   pub found : group_of p ≡ Some (g.part, ending p)
   pub adds : Adds old (after_entries (group_so_far g)) (ending p)
 
 -- columns may come once what is open before them has ended, by the marks of that end
-pub record ColumnsGoOn (old : Outcome) (p : Place) (head : Head) : Type 0 where
-  pub found : columns_of p ≡ Some (head.columns, ending p)
+pub record ColumnsGoOn (old : OutlineOutcome) (p : Place) (head : Head) : Type 0 where
+  pub found : column_tags_at p ≡ Some (head.columns, ending p)
   pub adds : Adds old (after_entries (head_so_far head)) (ending p)
 
 -- the token moves the table on, and adds the marks of that move
 pub record Moves (old : OpenTable) (k : Kind) (new : OpenTable) : Type 0 where
-  pub goes : move (place_of old) k ≡ to (place_of new) (marks_of (move (place_of old) k))
-  pub adds : Adds (outcome old) (outcome new) (marks_of (move (place_of old) k))
+  pub goes : move (machine_place old) k ≡ to (machine_place new) (marks_of (move (machine_place old) k))
+  pub adds : Adds (outcome old) (outcome new) (marks_of (move (machine_place old) k))

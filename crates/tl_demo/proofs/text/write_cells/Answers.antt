@@ -1,5 +1,5 @@
 use Rattle.std.proofs.Common.{◌≡◌, ◌-◌, ◌++◌, ◌∙◌, ap, sym, arith}
-use Rattle.tl_demo.specs.Demo.{drawn, next_state, cell_text, cell_from, cells_from}
+use Rattle.tl_demo.specs.Demo.{drawn_number, next_state, cell_text, cell_from, cells_from}
 use Rattle.tl_demo.specs.inner.Writing.{cells_text, colspan_of}
 use Rattle.tl_demo.proofs.Writing.{cells_end, next_cell_written, same_cells_left}
 use Rattle.tl_demo.proofs.text.write_cells.Goals as goal
@@ -14,7 +14,7 @@ loop-left-preserved c =
     let new = c.write_cell.new.out in
     let after = c.write_cell.new.draws.state in
     let made = c.colspan-colspan.result in
-    let span = colspan_of (drawn 5 state) columns in
+    let span = colspan_of (drawn_number 5 state) columns in
     let same_span : made ≡ span = c.colspan-colspan.ensures ∙ ap (λ draw. colspan_of draw columns) c.draw.ensures.value in
     let cell : new ≡ out ++ cell_text (cell_from span (next_state state)).value =
     c.in_ok-write_cell.ensures.text

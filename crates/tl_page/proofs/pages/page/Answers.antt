@@ -1,7 +1,7 @@
 -- The lines of the picture are those of the page.
 use Rattle.std.proofs.Common.{ap, suc, ◌∙◌}
 use Rattle.std.proofs.lemmas.List.{take_all}
-use Rattle.tl_page.specs.Pages.{bytes_of}
+use Rattle.tl_page.specs.Pages.{page_bytes}
 use Rattle.tl_page.proofs.Blocks.{page_shown}
 use Rattle.tl_page.proofs.pages.page.Goals as goal
 
@@ -13,6 +13,6 @@ returns c = (
     page_shown c.args.style c.args.table.now c.args.layout.now c.in_ok-cells.cells c.in_ok-lines.lines
         c.in_ok-cells.ensures c.in_ok-lines.ensures,
   ),
-  c.loop-line.invariant ∙ ap bytes_of (take_all c.loop-line.line-index c.as_slice-line-items.result.now
+  c.loop-line.invariant ∙ ap page_bytes (take_all c.loop-line.line-index c.as_slice-line-items.result.now
       c.loop-line-test.false ∙ c.as_slice-line-items.ensures),
 )

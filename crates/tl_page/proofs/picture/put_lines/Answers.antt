@@ -1,14 +1,14 @@
 -- One more line is put after those so far.
 use Rattle.std.proofs.Common.{◌≡◌, ◌++◌, ◌∷◌, [], ◌+◌, ◌∙◌, map, append_assoc, ap, sym, arith}
 use Rattle.std.specs.List.{range_with_len}
-use Rattle.tl_page.specs.Pictures.{line_of}
+use Rattle.tl_page.specs.Pictures.{picture_line}
 use Rattle.tl_page.specs.inner.Drawing.{shown}
 use Rattle.tl_page.proofs.Ranges.{map-range_more}
 use Rattle.tl_page.proofs.picture.put_lines.Goals as goal
 
 pub loop-k-preserved : goal.loop-k-preserved
 loop-k-preserved c =
-    let line = line_of (shown c.args.drawing.now) c.args.down.now in
+    let line = picture_line (shown c.args.drawing.now) c.args.down.now in
     let sofar = map line (range_with_len c.args.down.now.from c.loop-k.k) in
     let place : c.from-from.result + c.from.result ≡ c.args.down.now.from + c.loop-k.k =
     omega (arith, c.from-from.ensures, c.from.ensures) in

@@ -3,7 +3,7 @@ use Rattle.std.proofs.Common.{◌≡◌, ◌+◌, ◌<◌, length, refl, arith, 
 use Rattle.std.specs.Int.{div_ceil}
 use Rattle.tl_base.specs.declared.limits.TheConstants.{MAX_HEIGHT}
 use Rattle.tl_base.specs.Style.{edge_of}
-use Rattle.tl_problem.specs.Works.{IsLeft}
+use Rattle.tl_problem.specs.Works.{AreAllowed}
 use Rattle.tl_problem.proofs.DemandLemmas.{few-cells}
 use Rattle.tl_problem.proofs.WorkLemmas.{left-some}
 use Rattle.tl_problem.proofs.AreaFound.{areas-small, rounded-up, IsAreaBound-found, edge-few}
@@ -21,7 +21,7 @@ returns-then-cols-eq0 c =
 pub overflow_cast-lines : goal.overflow_cast-lines
 overflow_cast-lines c =
     let p = c.args.problem.now in
-    let Among = IsLeft p c.args.matrix.now.bounds in
+    let Among = AreAllowed p c.args.matrix.now.bounds in
     let end = c.greatest_end-end.result in
     let total = c.sum_of_areas.result in
     let lines : c.div_ceil-lines.result ≡ div_ceil total end = rw c.from.ensures at c.div_ceil-lines.ensures in
@@ -34,7 +34,7 @@ overflow_cast-lines c =
 pub overflow_add-edge : goal.overflow_add-edge
 overflow_add-edge c =
     let p = c.args.problem.now in
-    let Among = IsLeft p c.args.matrix.now.bounds in
+    let Among = AreAllowed p c.args.matrix.now.bounds in
     let end = c.greatest_end-end.result in
     let total = c.sum_of_areas.result in
     let lines : c.div_ceil-lines.result ≡ div_ceil total end = rw c.from.ensures at c.div_ceil-lines.ensures in
@@ -47,7 +47,7 @@ overflow_add-edge c =
 pub returns : goal.returns
 returns c =
     let p = c.args.problem.now in
-    let Among = IsLeft p c.args.matrix.now.bounds in
+    let Among = AreAllowed p c.args.matrix.now.bounds in
     let end = c.greatest_end-end.result in
     let total = c.sum_of_areas.result in
     let lines : c.div_ceil-lines.result ≡ div_ceil total end = rw c.from.ensures at c.div_ceil-lines.ensures in

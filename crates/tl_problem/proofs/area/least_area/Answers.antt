@@ -3,7 +3,7 @@ use Rattle.std.proofs.Common.{◌≤◌, arith, refl, sym, ◌∙◌}
 use Rattle.std.proofs.lemmas.List.Elements.{All-contains}
 use Rattle.tl_base.specs.Steps.{first_width}
 use Rattle.tl_problem.specs.Problem.{cell_width}
-use Rattle.tl_problem.specs.Works.{IsLeft}
+use Rattle.tl_problem.specs.Works.{AreAllowed}
 use Rattle.tl_problem.proofs.Heights.{height-from_first}
 use Rattle.tl_problem.proofs.AreaFound.{IsLeastArea-found}
 use Rattle.tl_problem.proofs.area.least_area.Goals as goal
@@ -21,7 +21,7 @@ unwrap-height-requires c =
 
 pub returns : goal.returns
 returns c =
-    IsLeastArea-found c.args.problem.now (IsLeft c.args.problem.now c.args.matrix.now.bounds)
+    IsLeastArea-found c.args.problem.now (AreAllowed c.args.problem.now c.args.matrix.now.bounds)
     c.args.cell.now c.least_room-low.result
     c.greatest_room-high.result c.unwrap-height.result c.least_step.result c.requires.cell
     c.least_room-low.ensures.room c.greatest_room-high.ensures.room (sym c.height_at.ensures.height ∙ c.unwrap-height.ensures)

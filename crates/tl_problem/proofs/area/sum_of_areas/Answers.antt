@@ -3,19 +3,19 @@ use Rattle.std.proofs.Common.{◌≡◌, ◌<◌, length, arith, ap, subst, ◌�
 use Rattle.std.proofs.lemmas.List.{get_or_default}
 use Rattle.tl_problem.specs.declared.cell.Cell.{Cell}
 use Rattle.tl_problem.specs.Areas.{IsLeastArea}
-use Rattle.tl_problem.specs.Works.{IsLeft}
+use Rattle.tl_problem.specs.Works.{AreAllowed}
 use Rattle.tl_problem.specs.inner.Demands.{cell_at}
 use Rattle.tl_problem.proofs.DemandLemmas.{few-cells}
 use Rattle.tl_problem.proofs.AreaFound.{HaveAreas-none, HaveAreas-more, area-few, areas-few}
 use Rattle.tl_problem.proofs.area.sum_of_areas.Goals as goal
 
 pub loop-number-init : goal.loop-number-init
-loop-number-init c = HaveAreas-none c.args.problem.now (IsLeft c.args.problem.now c.args.matrix.now.bounds)
+loop-number-init c = HaveAreas-none c.args.problem.now (AreAllowed c.args.problem.now c.args.matrix.now.bounds)
 
 pub overflow_add-areas : goal.overflow_add-areas
 overflow_add-areas c =
     let p = c.args.problem.now in
-    let Among = IsLeft p c.args.matrix.now.bounds in
+    let Among = AreAllowed p c.args.matrix.now.bounds in
     let number = c.loop-number.number in
     let inside : number < length p.cells = omega (arith, c.loop-number-test.true, ap length c.cells-cells.ensures.cells) in
     let is = rw c.cells-cells.ensures.cells at c.index-cells-number.is in
@@ -31,7 +31,7 @@ overflow_add-areas c =
 pub loop-number-preserved : goal.loop-number-preserved
 loop-number-preserved c =
     let p = c.args.problem.now in
-    let Among = IsLeft p c.args.matrix.now.bounds in
+    let Among = AreAllowed p c.args.matrix.now.bounds in
     let number = c.loop-number.number in
     let inside : number < length p.cells = omega (arith, c.loop-number-test.true, ap length c.cells-cells.ensures.cells) in
     let is = rw c.cells-cells.ensures.cells at c.index-cells-number.is in

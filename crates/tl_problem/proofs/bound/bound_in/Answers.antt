@@ -2,7 +2,7 @@
 use Rattle.tl_base.specs.Style.{row_gap_of, edge_of}
 use Rattle.tl_problem.specs.declared.axis.Axis.TheVariants.{Rows}
 use Rattle.tl_problem.specs.Bounds.{GiveLow}
-use Rattle.tl_problem.specs.Works.{IsLeft}
+use Rattle.tl_problem.specs.Works.{AreAllowed}
 use Rattle.tl_problem.specs.inner.Demands.{GiveDemands}
 use Rattle.tl_problem.proofs.NeedLemmas.{IsLeastTotal-same, low-give, give-low, low-sum}
 use Rattle.tl_problem.proofs.WorkLemmas.{left-some}
@@ -10,14 +10,14 @@ use Rattle.tl_problem.proofs.bound.bound_in.Goals as goal
 
 pub least_height-requires-clause-fits : goal.least_height-requires-clause-fits
 least_height-requires-clause-fits c =
-    low-sum c.args.problem.now c.fill_low.ensures.sound (IsLeft c.args.problem.now c.args.matrix.now.bounds)
+    low-sum c.args.problem.now c.fill_low.ensures.sound (AreAllowed c.args.problem.now c.args.matrix.now.bounds)
     c.fill_low.new.demands
     c.requires.keeps.page c.fill_low.ensures.low
 
 pub returns : goal.returns
 returns c =
     let p = c.args.problem.now in
-    let Among = IsLeft p c.args.matrix.now.bounds in
+    let Among = AreAllowed p c.args.matrix.now.bounds in
     let demands = c.fill_low.new.demands in
     record {
       some = left-some p c.args.matrix.now.bounds c.requires.keeps c.requires.some;

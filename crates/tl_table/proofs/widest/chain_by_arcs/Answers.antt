@@ -4,7 +4,7 @@ use Rattle.tl_base.specs.Style.{gap_of}
 use Rattle.tl_diff.specs.Paths.{LeadForward, InOrder, total_weight}
 use Rattle.std.proofs.lemmas.List.{length-map}
 use Rattle.tl_table.specs.declared.widest.NumberedArc.{NumberedArc}
-use Rattle.tl_table.specs.inner.Demands.{number_at}
+use Rattle.tl_table.specs.inner.Demands.{demand_number}
 use Rattle.tl_table.proofs.Found.{empty_of_nil, some_of_not_nil, IsFound-made, small_found, least_found, row_found, last_found}
 use Rattle.tl_table.proofs.Sorted.{LeadForward-plain, InOrder-plain, path-within, total_weight-plain}
 use Rattle.tl_table.proofs.widest.chain_by_arcs.Goals as goal
@@ -39,8 +39,8 @@ returns-clause-chain c =
     let found = IsFound-made c.args.style c.args.cols c.args.demands.now c.args.arcs.now c.args.plain.now c.heaviest_path.new.out
     c.in_ok-path.heaviest c.requires.some c.requires.demands c.requires.arcs c.requires.plain
     c.in_ok-path.ensures.each c.in_ok-path.ensures.last in
-    let named : c.in_ok-numbers.numbers ≡ map (number_at c.args.arcs.now) c.in_ok-path.path =
-    c.in_ok-numbers.ensures ∙ ap (map (number_at c.args.arcs.now)) c.as_slice.ensures in
+    let named : c.in_ok-numbers.numbers ≡ map (demand_number c.args.arcs.now) c.in_ok-path.path =
+    c.in_ok-numbers.ensures ∙ ap (map (demand_number c.args.arcs.now)) c.as_slice.ensures in
     elim c.if-is_empty.branch [
       | then-is_empty+in_ok-push w ↦ last_found c.args.style c.args.cols c.args.demands.now c.args.arcs.now c.args.plain.now
           c.heaviest_path.new.out

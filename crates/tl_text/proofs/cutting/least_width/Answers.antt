@@ -2,7 +2,7 @@ use Rattle.std.proofs.Common.{◌≡◌, ◌∙◌, sum_by, take, arith, subst, 
 use Rattle.std.proofs.lemmas.List.{take_all}
 use Rattle.std.proofs.lemmas.List.Sums.{sum_by_more, sum_by-take-le}
 use Rattle.tl_text.specs.Cuttings.{HasCutting}
-use Rattle.tl_text.specs.inner.Measure.{columns_of}
+use Rattle.tl_text.specs.inner.Measure.{unit_columns}
 use Rattle.tl_text.specs.Paragraph.{unit_width, atom_size}
 use Rattle.tl_text.proofs.Paragraphs.{AllFit, AllFit-wider, AllFit-more, AllFit-less, HasCutting-from_fit, atoms-of-cut-fit}
 use Rattle.tl_text.proofs.Paragraphs.{columns_of-measure_of}
@@ -13,7 +13,7 @@ loop-atom-preserved c =
     let atoms = c.atoms-atoms.result.now in
     let n = c.loop-atom.atom-index in
     let width : c.width.result ≡ unit_width c.atom-item.result =
-    c.width.ensures ∙ ap columns_of c.measured.ensures.measure ∙ columns_of-measure_of c.atom-item.result in (
+    c.width.ensures ∙ ap unit_columns c.measured.ensures.measure ∙ columns_of-measure_of c.atom-item.result in (
       AllFit-more c.max-widest.result atoms n c.atom-item.result (omega arith) c.atom-item.is
           (AllFit-wider c.loop-atom.widest c.max-widest.result (take n atoms) (omega arith) c.loop-atom.invariant.0)
           (omega arith),

@@ -2,9 +2,9 @@ use Rattle.std.proofs.Common.{◌≡◌, ◌<◌, ◌∙◌, ◌+◌, ◌∷◌,
 use Rattle.std.specs.List.{AllZip}
 use Rattle.std.proofs.lemmas.List.{take_all}
 use Rattle.tl_text.specs.Cuttings.{LeastLines, joined}
-use Rattle.tl_text.specs.inner.Measure.{measure_of, columns_of, next_line, ends_line, lines_after}
+use Rattle.tl_text.specs.inner.Measure.{measure_of, unit_columns, next_line, ends_line, lines_after}
 use Rattle.tl_text.specs.Paragraph.{unit_width}
-use Rattle.tl_text.specs.Ranges.{AreInOrder, ShowsLine, ShowsGreedyCutting, IsFirstTooWide}
+use Rattle.tl_text.specs.Ranges.{AreConsecutive, ShowsLine, ShowsGreedyCutting, IsFirstTooWide}
 use Rattle.tl_text.proofs.Filled.{IsFilled-none, IsFilled-more, IsFirstTooWide-from}
 use Rattle.tl_text.proofs.Paragraphs.{AllFit, greedy_cut, columns_of-measure_of}
 use Rattle.tl_text.proofs.RangeSteps.{IsCutUpTo, IsCutUpTo-none, step_break, step_join, step_start, at_most_one, none_open}
@@ -26,7 +26,7 @@ pub returns-then-too_wide-clause-too_wide : goal.returns-then-too_wide-clause-to
 returns-then-too_wide-clause-too_wide c =
     let atoms = c.atoms-atoms.result.now in
     let atom = c.index-atoms-at.result in
-    let width : c.width.result ≡ unit_width atom = c.width.ensures ∙ ap columns_of
+    let width : c.width.result ≡ unit_width atom = c.width.ensures ∙ ap unit_columns
     c.measured-measure.ensures.measure ∙ columns_of-measure_of atom in
     subst (λ all. IsFirstTooWide c.args.width all c.loop-at.at) c.atoms-atoms.ensures.atoms
     (IsFirstTooWide-from c.args.width atoms c.loop-at.at atom (omega arith) c.index-atoms-at.is c.loop-at.invariant.filled.fit
@@ -40,7 +40,7 @@ loop-at-preserved c =
     let n = c.loop-at.at in
     let within : n < length atoms = omega arith in
     let seen : c.measured-measure.result ≡ measure_of atom = c.measured-measure.ensures.measure in
-    let width : c.width.result ≡ unit_width atom = c.width.ensures ∙ ap columns_of seen ∙ columns_of-measure_of atom in
+    let width : c.width.result ≡ unit_width atom = c.width.ensures ∙ ap unit_columns seen ∙ columns_of-measure_of atom in
     let cut = c.loop-at.invariant.cut in
     let next : c.with-filling.result.line ≡ next_line w c.loop-at.filling.line (measure_of atom) =
     c.with-filling.ensures.next_line ∙ ap (λ m. next_line w c.loop-at.filling.line m) seen in
@@ -73,7 +73,7 @@ loop-at-preserved c =
     }
 
 -- all atoms are in the ranges, in lines of the greedy cutting
-shows : (c : goal.Joined-is_some) → AreInOrder 0 c.if-is_some.lines (length c.atoms-atoms.result.now)
+shows : (c : goal.Joined-is_some) → AreConsecutive 0 c.if-is_some.lines (length c.atoms-atoms.result.now)
     × AllZip (ShowsLine c.atoms-atoms.result.now) c.if-is_some.lines (joined (greedy_cut c.args.width c.atoms-atoms.result.now))
 shows c =
     let atoms = c.atoms-atoms.result.now in

@@ -3,7 +3,7 @@ use Rattle.std.specs.Str.{chars}
 use Rattle.std.proofs.lemmas.List.{append-nil}
 use Rattle.tl_base.specs.Text.{byte_count}
 use Rattle.tl_base.proofs.Texts.{byte_count-chars}
-use Rattle.tl_token.specs.Spelling.{part, place_of, Leads, here, tokens_of, characters, without_mark, SpellsNoTokens}
+use Rattle.tl_token.specs.Spelling.{part, place_of_rest, Leads, here, tokens_of, characters, without_mark, SpellsNoTokens}
 use Rattle.tl_token.specs.inner.Reader.{unread}
 use Rattle.tl_token.specs.inner.Found.{piece_of, fault_of}
 use Rattle.tl_token.specs.inner.Output.{resumed}
@@ -70,13 +70,14 @@ loop-c-preserved c =
     let piece = piece_of c.in-Ok.piece in
     let there = stands_there c.in-Some.c mid (unread c.next.new.self) rest piece c.in-Some.ensures c.in-Ok.ensures in
     let less = (piece_le mid piece rest there).1 in
-    let past : size - c.len-in-Some.result ≡ place_of size rest = ap (λ n. size - n) c.len-in-Some.ensures in
-    let same : part piece c.loop-c.first (size - c.len-in-Some.result) ≡ part piece (place_of size mid) (place_of size rest) =
+    let past : size - c.len-in-Some.result ≡ place_of_rest size rest = ap (λ n. size - n) c.len-in-Some.ensures in
+    let same : part piece c.loop-c.first (size - c.len-in-Some.result)
+    ≡ part piece (place_of_rest size mid) (place_of_rest size rest) =
     λ i. part piece (place i) (past i) in (
-      parts ++ part piece (place_of size mid) (place_of size rest) ∷ [],
+      parts ++ part piece (place_of_rest size mid) (place_of_rest size rest) ∷ [],
       leads_more size (characters text) mid rest parts piece leads there,
-      (λ later. ap tokens_of (append_assoc parts (part piece (place_of size mid) (place_of size rest) ∷ []) later)
-          ∙ resumes (part piece (place_of size mid) (place_of size rest) ∷ later)
+      (λ later. ap tokens_of (append_assoc parts (part piece (place_of_rest size mid) (place_of_rest size rest) ∷ []) later)
+          ∙ resumes (part piece (place_of_rest size mid) (place_of_rest size rest) ∷ later)
           ∙ ap (λ x. resumed c.loop-c.output (x ∷ later)) (sym same) ∙ sym (c.in_ok-add.ensures later)),
       past,
       omega (arith, less, within),

@@ -9,7 +9,7 @@ use Rattle.tl_tree.specs.Spelling.{AreNoDocument, tables_with}
 use Rattle.tl_tree.specs.declared.error.TreeError.{TreeError}
 use Rattle.tl_tree.specs.declared.error.TreeError.TheVariants.{Memory}
 use Rattle.tl_tree.specs.declared.reading.Reading.{Reading}
-use Rattle.tl_tree.specs.inner.Documents.{HasRead, stop_error}
+use Rattle.tl_tree.specs.inner.Documents.{HasReadTokens, stop_error}
 use Rattle.tl_tree.proofs.Readings.{tables_tag, if_ok, if_err}
 use Rattle.tl_tree.proofs.Documents.{one_more_read, stopped, ended_refused, ended_tree, kinds_length, modest, few_tables}
 use Rattle.tl_tree.proofs.Documents.{at_token, with_token}
@@ -83,9 +83,9 @@ loop-index-preserved c =
     let one = one_more_read prefix c.loop-index.tables c.loop-index.reading c.in-Ok.next k c.loop-index.invariant
     c.in-Ok.ensures.ok in
     let more = with_token tokens i token c.loop-index-test.true c.index-tokens-index.is in
-    let P : Kinds → Type 0 = λ ks. HasRead ks (tables_with c.loop-index.tables k) c.in-Ok.next in
+    let P : Kinds → Type 0 = λ ks. HasReadTokens ks (tables_with c.loop-index.tables k) c.in-Ok.next in
     let all = subst P (sym more) one in
-    let Q : ℕ → Type 0 = λ t. HasRead (kinds (take (i + 1) tokens)) t c.in-Ok.next in
+    let Q : ℕ → Type 0 = λ t. HasReadTokens (kinds (take (i + 1) tokens)) t c.in-Ok.next in
     elim c.if-is_table_start.branch [
       | then-is_table_start w ↦
           let start : is_table_start k ≡ true = sym c.is_table_start.ensures ∙ w.if-is_table_start.true in
@@ -98,7 +98,7 @@ loop-index-preserved c =
 pub returns-clause-err : goal.returns-clause-err
 returns-clause-err c =
     let tokens = c.args.tokens.now in
-    let P : Kinds → Type 0 = λ ks. HasRead ks c.loop-index.tables c.loop-index.reading in
+    let P : Kinds → Type 0 = λ ks. HasReadTokens ks c.loop-index.tables c.loop-index.reading in
     let all = subst P (all_taken tokens c.loop-index.index c.loop-index-test.false) c.loop-index.invariant in
     if_err c.into_tree.result (λ e fault. inr (ended_refused (kinds tokens)
     c.loop-index.tables c.loop-index.reading e all fault)) c.into_tree.ensures.err
@@ -106,14 +106,14 @@ returns-clause-err c =
 pub returns-clause-ok : goal.returns-clause-ok
 returns-clause-ok c =
     let tokens = c.args.tokens.now in
-    let P : Kinds → Type 0 = λ ks. HasRead ks c.loop-index.tables c.loop-index.reading in
-    let Q : Reading → Type 0 = λ r. HasRead (kinds tokens) c.loop-index.tables r in
+    let P : Kinds → Type 0 = λ ks. HasReadTokens ks c.loop-index.tables c.loop-index.reading in
+    let Q : Reading → Type 0 = λ r. HasReadTokens (kinds tokens) c.loop-index.tables r in
     let all = subst P (all_taken tokens c.loop-index.index c.loop-index-test.false) c.loop-index.invariant in
     if_ok c.into_tree.result (λ node is. ended_tree tokens c.loop-index.tables node (subst Q is all)) c.into_tree.ensures.ok
 
 pub returns-clause-within : goal.returns-clause-within
 returns-clause-within c =
     let tokens = c.args.tokens.now in
-    let P : Kinds → Type 0 = λ ks. HasRead ks c.loop-index.tables c.loop-index.reading in
+    let P : Kinds → Type 0 = λ ks. HasReadTokens ks c.loop-index.tables c.loop-index.reading in
     let all = subst P (all_taken tokens c.loop-index.index c.loop-index-test.false) c.loop-index.invariant in
     if_ok c.into_tree.result (λ node is. all.within) c.into_tree.ensures.ok

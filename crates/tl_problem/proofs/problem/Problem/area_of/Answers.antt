@@ -1,7 +1,7 @@
 -- The zone's ranges leave exactly the widths in the zone.
 use Rattle.std.proofs.Common.{Some}
 use Rattle.tl_problem.specs.Zones.{InZone}
-use Rattle.tl_problem.specs.Works.{IsLeft, places}
+use Rattle.tl_problem.specs.Works.{AreAllowed, places}
 use Rattle.tl_problem.proofs.ConstraintLemmas.{KeepsPage-adds, ranges-left, ranges-zone, ranges-none}
 use Rattle.tl_problem.proofs.SetLaws.{found_area-same}
 use Rattle.tl_problem.proofs.problem.Problem.area_of.Goals as goal
@@ -30,7 +30,7 @@ returns-clause-bound c =
     elim c.if-add_ranges.branch [
       | then-add_ranges w ↦
           rw w.bound-is
-          (found_area-same p (IsLeft p c.add_ranges.new.matrix.bounds) (InZone p zone)
+          (found_area-same p (AreAllowed p c.add_ranges.new.matrix.bounds) (InZone p zone)
           (ranges-zone p zone _ _ base.bounds c.add_ranges.new.matrix c.add_ranges.result adds w.if-add_ranges.true
           c.requires.work.start.keeps)
           (ranges-left p zone _ _ base.bounds c.add_ranges.new.matrix c.add_ranges.result adds c.requires.work.start.whole)

@@ -1,7 +1,7 @@
 use Rattle.std.proofs.Common.{[], ◌∷◌, ◌++◌, sym, ap, ◌∙◌, arith, length}
 use Rattle.std.specs.Str.{chars}
 use Rattle.tl_token.specs.Characters.{is_name_character, is_gap, run}
-use Rattle.tl_token.specs.inner.States.{read, in_name, between, with_more, attribute}
+use Rattle.tl_token.specs.inner.States.{read, in_name, between, with_more, named_attribute}
 use Rattle.tl_token.specs.inner.Reading.{tag_found}
 use Rattle.tl_token.specs.inner.Found.{given_of, given_after}
 use Rattle.tl_token.specs.inner.Reader.{unread}
@@ -46,11 +46,11 @@ loop-self-preserved c =
     let cs = unread c.loop-self.self in
     let name = run is_name_character cs in
     let value = chars c.in_ok-value.value.now in
-    let more = all ++ attribute name value ∷ [] in (
+    let more = all ++ named_attribute name value ∷ [] in (
       more,
-      c.add.ensures ∙ ap (λ (g : Given). given_after g (attribute (chars c.run-name.result.now) value)) given
-          ∙ ap (λ n. given_after (given_of all) (attribute n value)) c.run-name.ensures.run ∙ sym
-          (given_of-push all (attribute name value)),
+      c.add.ensures ∙ ap (λ (g : Given). given_after g (named_attribute (chars c.run-name.result.now) value)) given
+          ∙ ap (λ n. given_after (given_of all) (named_attribute n value)) c.run-name.ensures.run ∙ sym
+          (given_of-push all (named_attribute name value)),
       c.run-in-loop-self.ensures.ended,
       λ t. so_far_more (unread c.args.self.now) cs (unread c.value.new.self) value all h
           (sym c.is_at.ensures ∙ c.loop-self-test.true)

@@ -1,7 +1,7 @@
 use Rattle.std.proofs.Common.{◌≡◌, ◌||◌, sym, ap, ◌∙◌, cond}
 use Rattle.std.specs.Char.{is_ascii_alphanumeric}
 use Rattle.tl_token.specs.Characters.{◌∈◌, is_gap, begins, run, past}
-use Rattle.tl_token.specs.Elements.{element_of, spans_of}
+use Rattle.tl_token.specs.Elements.{element_of, span_numbers}
 use Rattle.tl_token.specs.inner.States.{read, between, empty_tag, with_more}
 use Rattle.tl_token.specs.inner.Reading.{tag_found, known_or_not, stands}
 use Rattle.tl_token.specs.Grammar.{tag}
@@ -64,7 +64,7 @@ returns-then-is_end c =
     sym (ap tag_found (tag_attributes (unread c.args.self.now) new c.eat-is_end.result c.eat-is_end.ensures letter close
     ∙ ap (read (between t)) (sym c.run-name.ensures.past) ∙ h t)
     ∙ ap (known_or_not (with_more t all) rest) (ap element_of (sym c.run-name.ensures.run) ∙ sym c.named.ensures ∙ c.in-Some.is)
-    ∙ ap (λ b. stands (tag (cond b (End e) (Start e (spans_of e all)))) rest) c.if-is_end.true)
+    ∙ ap (λ b. stands (tag (cond b (End e) (Start e (span_numbers e all)))) rest) c.if-is_end.true)
 
 pub returns-else-is_end : goal.returns-else-is_end
 returns-else-is_end c =
@@ -80,5 +80,5 @@ returns-else-is_end c =
     sym (ap tag_found (tag_attributes (unread c.args.self.now) new c.eat-is_end.result c.eat-is_end.ensures letter close
     ∙ ap (read (between t)) (sym c.run-name.ensures.past) ∙ h t)
     ∙ ap (known_or_not (with_more t all) rest) (ap element_of (sym c.run-name.ensures.run) ∙ sym c.named.ensures ∙ c.in-Some.is)
-    ∙ ap (λ b. stands (tag (cond b (End e) (Start e (spans_of e all)))) rest) c.if-is_end.false
+    ∙ ap (λ b. stands (tag (cond b (End e) (Start e (span_numbers e all)))) rest) c.if-is_end.false
     ∙ ap (λ s. stands (tag (Start e s)) rest) (sym (c.spans.ensures all given)))
