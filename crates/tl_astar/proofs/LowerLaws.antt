@@ -10,7 +10,7 @@ use Rattle.tl_problem.proofs.AreaLaws.{area-unique}
 use Rattle.tl_problem.proofs.BoundLaws.{bound-unique}
 use Rattle.tl_cert.specs.declared.trace.CutAt.{CutAt}
 use Rattle.tl_cert.specs.Traces.{IsTraceOf, Stands, zone_of}
-use Rattle.tl_cert.specs.Worked.{IsClosed, IsBoundOf}
+use Rattle.tl_cert.specs.Worked.{IsClosedZone, IsBoundOf}
 use Rattle.tl_cert.proofs.TraceLaws.{zones-are}
 use Rattle.tl_cert.proofs.WorkedLaws.{agree-everywhere}
 use Rattle.tl_solve.specs.declared.arena.Arena.{Arena}
@@ -18,7 +18,8 @@ use Rattle.tl_solve.specs.declared.outcome.Outcome.{Outcome}
 use Rattle.tl_solve.specs.Arenas.{IsArenaOf, IsLowered}
 use Rattle.tl_solve.specs.Ends.{HasBoundUpTo}
 use Rattle.tl_solve.specs.Logs.{Proves}
-use Rattle.tl_solve.specs.Orders.{AtEachCut, CutsBelowPlacements}
+use Rattle.tl_cert.specs.ZoneOrders.{AtEachCut}
+use Rattle.tl_solve.specs.Orders.{CutsBelowPlacements}
 use Rattle.tl_solve.specs.TraceLogs.{IsTraceLog}
 use Rattle.tl_astar.specs.Best.{AreShut, IsOfLeastBound, CutsBelowByArea, CutsUpTo, IsAreaOf, IsLeastProved, IsBestOutcome}
 use Rattle.tl_astar.specs.inner.Frontier.{KeepsBoundOrder}
@@ -111,7 +112,7 @@ module _ (problem : ProblemModel) (trace : List CutAt) (height : ℕ) where
 
     -- where it is below the height though each zone is shut, no area bound shut one: all are closed
     pub shut-closed : IsSound problem → IsTraceOf problem trace → AreShut problem trace height → least < height →
-        (z : ℕ) → Stands trace z → IsClosed problem (zone_of problem trace z) height
+        (z : ℕ) → Stands trace z → IsClosedZone problem (zone_of problem trace z) height
     shut-closed sound trace_of shut below z stands = elim (shut z stands) [
       | inl closed ↦ closed
       | inr area ↦ elim is.attained [
@@ -150,7 +151,8 @@ pub best-outcome : (problem : ProblemModel) → IsSound problem → (budget : �
     IsProvedUpto problem arena.trace arena.best.height (2 * length arena.trace + 1) least →
     KeepsBoundOrder problem arena.trace arena.best.height →
     (budget ≡ 0 → IsOpening problem arena.best) →
-    (length arena.trace ≡ budget) ⊎ AreShut problem arena.trace arena.best.height → (outcome : Outcome) → outcome.best ≡ arena.best → outcome.trace ≡ arena.trace →
+    (length arena.trace ≡ budget) ⊎ AreShut problem arena.trace arena.best.height → (outcome : Outcome) →
+    outcome.best ≡ arena.best → outcome.trace ≡ arena.trace →
     outcome.lower ≡ least → IsTraceLog problem outcome.trace outcome.lower outcome.log → IsBestOutcome problem budget outcome
 best-outcome problem sound budget arena is least proved keeps shown ended outcome best trace lower lines =
     let height = arena.best.height in

@@ -23,7 +23,7 @@ use Rattle.tl_solve.specs.Arenas.{IsBoundFound, HasBoundBelow, IsArenaOf}
 use Rattle.tl_cert.proofs.TraceLaws.{zones-length}
 use Rattle.tl_solve.specs.Orders.{IsFirstCut}
 use Rattle.tl_solve.proofs.ArenaLaws.{arena-item, arena-keen, lowered-le}
-use Rattle.tl_astar.specs.inner.Entries.{Entry, entry, bound_in, zone_in, IsTakenOut, IsAdded}
+use Rattle.tl_astar.specs.inner.Entries.{HeapEntry, entry, bound_in, zone_in, IsTakenOut, IsAdded}
 use Rattle.tl_astar.specs.declared.opens.OpenZones.{OpenZones}
 use Rattle.tl_astar.specs.declared.search.Search.{Search}
 use Rattle.tl_astar.specs.Best.{HaveSameSteps}
@@ -35,7 +35,7 @@ use Rattle.tl_astar.proofs.OrderLaws.{HasBoundOrNone, order-lower, order-cut}
 module _ (problem : ProblemModel) (trace : List CutAt) where
   -- ---- a zone is taken out
 
-  module _ (old : List Entry) (zone : ℕ) (left : List Entry) (out : IsTakenOut old zone left) where
+  module _ (old : List HeapEntry) (zone : ℕ) (left : List HeapEntry) (out : IsTakenOut old zone left) where
     bounds_out : HaveBounds problem trace old → HaveBounds problem trace (entry out.bound zone ∷ left)
     bounds_out have = All-permutation (λ e. IsBoundOf problem trace (zone_in e) (bound_in e)) old (entry out.bound zone ∷ left)
         out.taken have
@@ -67,7 +67,7 @@ module _ (problem : ProblemModel) (trace : List CutAt) where
 
   -- ---- a zone is added
 
-  pub added-bounds : (zone : ℕ) (found : Option ℕ) (old new : List Entry) → IsAdded zone found old new → IsBoundFound problem
+  pub added-bounds : (zone : ℕ) (found : Option ℕ) (old new : List HeapEntry) → IsAdded zone found old new → IsBoundFound problem
       (zone_of problem trace zone) found →
       HaveBounds problem trace old → HaveBounds problem trace new
   added-bounds zone None old new same none have = subst (HaveBounds problem trace) (sym same) have
@@ -75,7 +75,7 @@ module _ (problem : ProblemModel) (trace : List CutAt) where
       All-permutation (λ e. IsBoundOf problem trace (zone_in e) (bound_in e)) (entry bound zone ∷ old) new added
       (All-cons (λ e. IsBoundOf problem trace (zone_in e) (bound_in e)) (entry bound zone) old is have)
 
-  pub added-frontier : (height zone : ℕ) (found : Option ℕ) (old new : List Entry) → IsAdded zone found old new →
+  pub added-frontier : (height zone : ℕ) (found : Option ℕ) (old new : List HeapEntry) → IsAdded zone found old new →
       IsBoundFound problem (zone_of problem trace zone) found → IsFrontier problem trace height (zone ∷ map zone_in old) →
       IsFrontier problem trace height (map zone_in new)
   added-frontier height zone None old new same none is =
@@ -86,7 +86,7 @@ module _ (problem : ProblemModel) (trace : List CutAt) where
       (IsPermutation-map zone_in (entry bound zone ∷ old) new added) is
 
   -- the first of two
-  pub added-first : (height zone other : ℕ) (found : Option ℕ) (old new : List Entry) → IsAdded zone found old new →
+  pub added-first : (height zone other : ℕ) (found : Option ℕ) (old new : List HeapEntry) → IsAdded zone found old new →
       IsBoundFound problem (zone_of problem trace zone) found → IsFrontier problem trace height (zone ∷ other ∷ map zone_in old) →
       IsFrontier problem trace height (other ∷ map zone_in new)
   added-first height zone other None old new same none is =
@@ -101,7 +101,7 @@ module _ (problem : ProblemModel) (trace : List CutAt) where
 
 -- the entries keep their bounds through a cut
 pub bounds-more : (problem : ProblemModel) → IsSound problem → (trace : List CutAt) → IsTraceOf problem trace → (cut : CutAt) →
-    IsCut (whole_zone problem) trace cut → (entries : List Entry) → All (λ e. Stands trace (zone_in e)) entries →
+    IsCut (whole_zone problem) trace cut → (entries : List HeapEntry) → All (λ e. Stands trace (zone_in e)) entries →
     HaveBounds problem trace entries → HaveBounds problem (trace ++ cut ∷ []) entries
 bounds-more problem sound trace is cut now entries standing have k d within =
     let e = get_or entries k d in
@@ -186,7 +186,7 @@ module _ (problem : ProblemModel) (old new : Search) (opens : new.opens ≡ old.
 module _ (problem : ProblemModel) (A B : Arena) (is : IsArenaOf problem A) (also : IsArenaOf problem B) (cut : CutAt)
     (now : IsCut (whole_zone problem) A.trace cut) (longer : B.trace ≡ A.trace ++ cut ∷ [])
     (lowered : B.best.height ≤ A.best.height)
-    (old mid new : List Entry) (first : IsAdded (2 * length A.trace + 1) (get_or B.bounds.items (2 * length A.trace + 1) None)
+    (old mid new : List HeapEntry) (first : IsAdded (2 * length A.trace + 1) (get_or B.bounds.items (2 * length A.trace + 1) None)
     old mid)
     (second : IsAdded (2 * length A.trace + 2) (get_or B.bounds.items (2 * length A.trace + 2) None) mid new)
     (left : IsFrontier problem A.trace A.best.height (cut.zone ∷ map zone_in old))

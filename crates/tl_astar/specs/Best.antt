@@ -10,11 +10,12 @@ use Rattle.tl_problem.specs.Placements.{IsOpening}
 use Rattle.tl_problem.specs.Zones.{InZone}
 use Rattle.tl_cert.specs.declared.trace.CutAt.{CutAt}
 use Rattle.tl_cert.specs.Traces.{Stands, zone_of}
-use Rattle.tl_cert.specs.Worked.{IsBoundOf, IsClosed}
+use Rattle.tl_cert.specs.Worked.{IsBoundOf, IsClosedZone}
 use Rattle.tl_solve.specs.declared.outcome.Outcome.{Outcome}
 use Rattle.tl_solve.specs.Arenas.{IsLowered}
 use Rattle.tl_solve.specs.Logs.{HasAreaFrom}
-use Rattle.tl_solve.specs.Orders.{AtEachCut, CutsBelowPlacements, IsBelowPlacements}
+use Rattle.tl_cert.specs.ZoneOrders.{AtEachCut}
+use Rattle.tl_solve.specs.Orders.{CutsBelowPlacements, IsBelowPlacements}
 use Rattle.tl_solve.specs.TraceLogs.{IsTraceLog}
 
 -- ---- which zone is cut
@@ -54,7 +55,7 @@ CutsBelowByArea problem trace =
 -- the zone needs no cut: it is closed for the height or, if each cell has the same steps by `low` and by `high`, its area
 -- bound is at least the height
 abbrev pub IsShut : ProblemModel → List Range → ℕ → Type 0
-IsShut problem zone height = IsClosed problem zone height ⊎ (HaveSameSteps problem × HasAreaFrom problem zone height)
+IsShut problem zone height = IsClosedZone problem zone height ⊎ (HaveSameSteps problem × HasAreaFrom problem zone height)
 
 -- no zone that stands needs a cut
 abbrev pub AreShut : ProblemModel → List CutAt → ℕ → Type 0

@@ -10,9 +10,9 @@ use Rattle.tl_cert.specs.declared.log.LogLine.{LogLine}
 use Rattle.tl_cert.specs.declared.section.Section.{Section}
 use Rattle.tl_cert.specs.declared.certificate.Certificate.{Certificate}
 use Rattle.tl_base.specs.declared.limits.TheConstants.{MAX_PAGE_WIDTH, MAX_BUDGET}
-use Rattle.tl_cert.specs.Pieces.{Piece, spell, numeral, word, character, field}
+use Rattle.tl_cert.specs.Pieces.{TextPiece, spell, numeral, word, character, field}
 use Rattle.tl_cert.specs.Text.{space, line_feed, spaced, chain_pieces, entry_pieces, cut_pieces, nogood_pieces, fire_pieces}
-use Rattle.tl_cert.specs.Text.{end_word, line_pieces, section_head, section_pieces, claim_pieces, version_word, style_word}
+use Rattle.tl_cert.specs.Text.{end_word, line_pieces, section_head, section_pieces, claim_pieces, version_word, style_field}
 use Rattle.tl_cert.specs.Text.{has_area, cert_text}
 use Rattle.tl_cert.specs.inner.Head.{head_text}
 use Rattle.tl_cert.proofs.reading.Numerals.{numeral_small, numeral_step}
@@ -20,20 +20,20 @@ use Rattle.tl_cert.proofs.reading.Spellings.{spell-append}
 use Rattle.tl_cert.proofs.reading.Words.{spell-word}
 
 -- one item more
-pub written_more : {X : Type 0} (f : X → List Piece) (xs : List X) (i : ℕ) (x : X) (old out new : List ℕ) → i < length xs →
+pub written_more : {X : Type 0} (f : X → List TextPiece) (xs : List X) (i : ℕ) (x : X) (old out new : List ℕ) → i < length xs →
     x ≡ get_or xs i x
     → out ≡ old ++ spell (flat_map f (take i xs))
     → new ≡ out ++ spell (f x) → new ≡ old ++ spell (flat_map f (take (i + 1) xs))
 written_more f xs i x old out new there is so_far more =
     let taken : take (i + 1) xs ≡ take i xs ++ x ∷ [] = take_more xs i x there ∙ ap (λ y. take i xs ++ y ∷ []) (sym is) in
     let whole : flat_map f (take (i + 1) xs) ≡ flat_map f (take i xs) ++ f x =
-    ap (flat_map f) taken ∙ flat_map-append f (take i xs) (x ∷ []) ∙ ap (λ (ps : List Piece). flat_map f (take i xs) ++ ps)
+    ap (flat_map f) taken ∙ flat_map-append f (take i xs) (x ∷ []) ∙ ap (λ (ps : List TextPiece). flat_map f (take i xs) ++ ps)
     (append-nil (f x)) in
     more ∙ ap (λ (t : List ℕ). t ++ spell (f x)) so_far ∙ append_assoc old (spell (flat_map f (take i xs))) (spell (f x))
     ∙ ap (λ (t : List ℕ). old ++ t) (sym (ap spell whole ∙ spell-append (flat_map f (take i xs)) (f x)))
 
 -- one item more is written after those before it, where it is read at any default
-pub written_at : {X : Type 0} (f : X → List Piece) (xs : List X) (i : ℕ) (d : X) (old out new : List ℕ) → i < length xs
+pub written_at : {X : Type 0} (f : X → List TextPiece) (xs : List X) (i : ℕ) (d : X) (old out new : List ℕ) → i < length xs
     → out ≡ old ++ spell (flat_map f (take i xs))
     → new ≡ out ++ spell (f (get_or xs i d)) → new ≡ old ++ spell (flat_map f (take (i + 1) xs))
 written_at f xs i d old out new there so_far more =
@@ -76,9 +76,9 @@ pub section_spelled : (s : Section) → spell (section_pieces s)
     ≡ spell (section_head s) ++ (codes "widths" ++ (spell (flat_map (spaced MAX_PAGE_WIDTH) s.widths)
     ++ ((10 ∷ []) ++ (spell (flat_map cut_pieces s.trace) ++ spell (flat_map line_pieces s.log)))))
 section_spelled s =
-    let log : List Piece = flat_map line_pieces s.log in
-    let trace : List Piece = flat_map cut_pieces s.trace in
-    let widths : List Piece = flat_map (spaced MAX_PAGE_WIDTH) s.widths in
+    let log : List TextPiece = flat_map line_pieces s.log in
+    let trace : List TextPiece = flat_map cut_pieces s.trace in
+    let widths : List TextPiece = flat_map (spaced MAX_PAGE_WIDTH) s.widths in
     spell-append (section_head s) (word (codes "widths") ++ (widths ++ (word (codes "\n") ++ (trace ++ log))))
     ∙ ap (λ (t : List ℕ). spell (section_head s) ++ (codes "widths" ++ t))
     (spell-append widths (word (codes "\n") ++ (trace ++ log)) ∙ ap (λ (t : List ℕ). spell widths ++ (10 ∷ t))
@@ -89,11 +89,11 @@ pub cert_spelled : (c : Certificate) → cert_text c
     (spell (flat_map section_pieces c.sections) ++ codes "end\n")))
 cert_spelled c =
     let version : List ℕ = version_word (has_area c.sections) in
-    let style : List ℕ = style_word c.style in
-    let rest : List Piece =
+    let style : List ℕ = style_field c.style in
+    let rest : List TextPiece =
     claim_pieces c.claim ++ (flat_map chain_pieces c.chains ++
     (flat_map section_pieces c.sections ++ word (codes "end\n"))) in
-    let later : List Piece = word style ++ (field 0 MAX_BUDGET c.budget line_feed ++ rest) in
+    let later : List TextPiece = word style ++ (field 0 MAX_BUDGET c.budget line_feed ++ rest) in
     let rest_is : spell rest ≡ spell (claim_pieces c.claim) ++ (spell (flat_map chain_pieces c.chains)
     ++ (spell (flat_map section_pieces c.sections) ++ codes "end\n")) =
     spell-append (claim_pieces c.claim) (flat_map chain_pieces c.chains ++

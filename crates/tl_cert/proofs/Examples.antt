@@ -13,14 +13,14 @@
 --   2+9 chain           where it has at least 9, the fourth has at most 19 - 1 - 1 - 9, and they do as well
 --   z0 @0 @1 fired      the first line's bound fails, so the third column has 9: the second line's nogood holds
 use Rattle.std.proofs.Common.{◌≡◌, ◌≢◌, ℕ, ◌+◌, ◌*◌, ◌<◌, ◌≤◌, zero, suc, List, []}
-use Rattle.std.proofs.Common.{◌∷◌, inl, inr, length, get_or, take, refl, sym, arith}
-use Rattle.std.specs.List.{All}
+use Rattle.std.proofs.Common.{◌∷◌, ◌⊎◌, inl, inr, length, get_or, take, refl, sym, ◌∙◌, subst, arith}
+use Rattle.std.specs.List.{All, Contains}
 use Rattle.std.proofs.lemmas.Bool.{cases_lt}
 use Rattle.std.proofs.lemmas.List.Elements.{All-nil, All-from_recursion}
 use Rattle.tl_base.specs.declared.style.Style.TheVariants.{Plain}
 use Rattle.tl_base.specs.declared.steps.Config.{Config}
 use Rattle.tl_base.specs.Steps.{first_width, IsLowAt}
-use Rattle.tl_base.proofs.Members.{Contains-first, Contains-cases, Contains-none}
+use Rattle.tl_base.proofs.Members.{Contains-first, Contains-cases, Contains-none, All-from_Contains}
 use Rattle.tl_problem.specs.declared.cell.Cell.{Cell}
 use Rattle.tl_base.specs.Sizes.{room, total}
 use Rattle.tl_problem.specs.Problem.{ProblemModel, cell_width, cell_height}
@@ -29,16 +29,19 @@ use Rattle.tl_problem.specs.Spans.{spans_of, classes_of, count_of}
 use Rattle.tl_problem.specs.Zones.{whole_zone}
 use Rattle.tl_problem.specs.Bounds.{IsGreatestRoom, GiveLow, IsBound}
 use Rattle.tl_problem.proofs.Heights.{test_le, test_le_false}
+use Rattle.tl_cert.specs.declared.limits.TheConstants.{MAX_BOUNDS}
 use Rattle.tl_cert.specs.declared.log.Bound.{Bound}
 use Rattle.tl_cert.specs.declared.log.End.TheVariants.{Fired, Chain}
 use Rattle.tl_cert.specs.declared.log.LogLine.{LogLine}
 use Rattle.tl_cert.specs.declared.log.Nogood.TheVariants.{Zone, Bounds}
 use Rattle.tl_cert.specs.declared.trace.CutAt.{CutAt}
 use Rattle.tl_cert.specs.Traces.{IsTraceOf}
-use Rattle.tl_cert.specs.Nogoods.{Meets, Breaks, at_most, at_least, zone_bounds, NamesAreThere}
+use Rattle.tl_cert.specs.Nogoods.{Meets, Breaks, at_most, at_least, zone_bounds, nogood_bounds, NamesAreThere}
 use Rattle.tl_cert.specs.Implied.{IsLeft, Implied}
 use Rattle.tl_cert.specs.Lines.{nogood_at, IsGoodLine, IsGoodLog}
 use Rattle.tl_cert.specs.Worked.{IsWorked}
+use Rattle.tl_cert.specs.ZoneOrders.{ComesFrom, itself, lower as from_lower, upper as from_upper}
+use Rattle.tl_cert.specs.Learnt.{AreAllBut, IsMinimalLine, NogoodCloses, StandsBefore, AreEnough, IsKnown, IsLearnt}
 
 abbrev step : ℕ → ℕ → Config
 step width height = record { width = width; height = height }
@@ -398,3 +401,195 @@ good_log = record { some = omega arith; lines = lines; last = no_bounds } where
 -- and the section of this height, trace and log was worked for its three cuts
 worked : IsWorked problem trace 4 4 3
 worked = record { trace_of = is_trace; within = omega arith; ordered = omega arith; below = λ less. absurd (omega arith) }
+
+-- ---- the trace and the log are learnt: the opening has four lines too
+
+-- Without its bound none of the first two lines is good: the greatest rooms of both last columns are then at least 9, so
+-- that the lower row needs one line by them, and both rows three.
+module _ (given : List Bound) (none : (bound : Bound) → Contains given bound → ⊥) where
+  free : List ℕ → Type 0
+  free widths = IsLeft problem given [] widths
+
+  free-fits : (a b c d : ℕ) → WithinPage problem (a ∷ b ∷ c ∷ d ∷ []) → free (a ∷ b ∷ c ∷ d ∷ [])
+  unfolding free
+  free-fits a b c d page = record {
+    page = page;
+    meets = All-from_Contains (Meets problem (a ∷ b ∷ c ∷ d ∷ [])) given (λ bound has. absurd (none bound has));
+    breaks = All-nil (Breaks problem (a ∷ b ∷ c ∷ d ∷ []));
+  }
+
+  third_nine : free (1 ∷ 1 ∷ 9 ∷ 4 ∷ [])
+  third_nine = free-fits 1 1 9 4 (fits 1 1 9 4 (omega arith) (omega arith) (omega arith) (omega arith) (omega arith))
+
+  fourth_nine : free (1 ∷ 1 ∷ 4 ∷ 9 ∷ [])
+  fourth_nine = free-fits 1 1 4 9 (fits 1 1 4 9 (omega arith) (omega arith) (omega arith) (omega arith) (omega arith))
+
+  one-enough : (n w h : ℕ) → 2 * n + 1 ≤ w → 1 ≤ h → IsLowAt (two_words n) h w
+  one-enough n w h wide one = rw (test_le n w (omega (arith, wide)), test_le (2 * n + 1) w wide) one
+
+  three_lines : GiveLow problem free (2 ∷ 1 ∷ [])
+  three_lines = record {
+    rows = refl;
+    cells = All-from_recursion Given cells (
+      (λ w greatest. let more = greatest.never_more (1 ∷ 1 ∷ 9 ∷ 4 ∷ []) third_nine in two-enough 1 w 2 (omega (arith, more))
+          (omega arith)),
+      (
+        (λ w greatest. let more = greatest.never_more (1 ∷ 1 ∷ 9 ∷ 4 ∷ []) third_nine in two-enough 1 w 2 (omega (arith, more))
+            (omega arith)),
+        (
+          (λ w greatest. let more = greatest.never_more (1 ∷ 1 ∷ 9 ∷ 4 ∷ []) third_nine in step-enough 1 2 w 2
+              (omega (arith, more)) (omega arith)),
+          (
+            (λ w greatest. let more = greatest.never_more (1 ∷ 1 ∷ 9 ∷ 4 ∷ []) third_nine in step-enough 1 1 w 1
+                (omega (arith, more)) (omega arith)),
+            (
+              (λ w greatest. let more = greatest.never_more (1 ∷ 1 ∷ 9 ∷ 4 ∷ []) third_nine in step-enough 1 1 w 1
+                  (omega (arith, more)) (omega arith)),
+              (
+                (λ w greatest. let more = greatest.never_more (1 ∷ 1 ∷ 9 ∷ 4 ∷ []) third_nine in one-enough 4 w 1
+                    (omega (arith, more)) (omega arith)),
+                (
+                  (λ w greatest. let more = greatest.never_more (1 ∷ 1 ∷ 4 ∷ 9 ∷ []) fourth_nine in one-enough 4 w 1
+                      (omega (arith, more)) (omega arith)),
+                  tt,
+                ),
+              ),
+            ),
+          ),
+        ),
+      ),
+    );
+  } where
+    Given : Cell → Type 0
+    Given c = (w : ℕ) → IsGreatestRoom problem free c.left c.right w → IsLowAt c.low (cell_height problem (2 ∷ 1 ∷ []) c) w
+
+  at-most-three : (bound : ℕ) → IsBound problem free bound → bound ≤ 3
+  at-most-three bound is = let least = is.least.never_less (2 ∷ 1 ∷ []) three_lines in omega (arith, least)
+
+-- a single bound has no others
+single-others : (one bound : Bound) (others : List Bound) → AreAllBut (one ∷ []) bound others → (other : Bound) →
+    Contains others other → ⊥
+single-others one bound others are other has =
+    let both = (are.each other).0 has in
+    both.1 (sym (only other both.0) ∙ only bound are.among) where
+      only : (b : Bound) → Contains (one ∷ []) b → one ≡ b
+      only b inside = elim (Contains-cases one [] b inside) [ inl same ↦ same | inr never ↦ absurd (Contains-none b never) ]
+
+shrunk : (k : ℕ) → k < 2 → (one : Bound) → IsMinimalLine problem trace log 4 k
+    (record { nogood = Bounds (one ∷ []); fires = []; end = Chain })
+unfolding free
+shrunk k within one bound others are good =
+    let none : good.joined ≡ [] = good.fires in
+    let ends = subst (λ (joined : List Bound). (b : ℕ) × IsBound problem (IsLeft problem others joined) b × (4 ≤ b)) none
+    good.ends in
+    let few = at-most-three others (single-others one bound others are) ends.0 ends.1 in
+    omega (arith, few, ends.2)
+
+-- ---- each cut is in the lowest zone: none comes before it
+
+first_zone : (n : ℕ) (d : CutAt) → 0 < length (take n trace) → (get_or (take n trace) 0 d).zone ≡ 0
+first_zone zero d within = absurd (omega arith)
+first_zone (suc n) d within = refl
+
+second_zone : (n : ℕ) (d : CutAt) → 1 < length (take n trace) → (get_or (take n trace) 1 d).zone ≡ 1
+second_zone zero d within = absurd (omega arith)
+second_zone (suc zero) d within = absurd (omega arith)
+second_zone (suc (suc n)) d within = refl
+
+-- of the zones that are cut none comes from an upper part
+not-upper : (n i z : ℕ) → ComesFrom (take n trace) (2 * i + 2) z → (z ≡ 0) ⊎ ((z ≡ 1) ⊎ (z ≡ 3)) → ⊥
+not-upper n i z itself is = elim is [
+  | inl whole ↦ omega (arith, whole)
+  | inr odd ↦ elim odd [ inl one ↦ omega (arith, one) | inr three ↦ omega (arith, three) ]
+]
+not-upper n i z (from_upper j d within rest) is = elim is [
+  | inl whole ↦ omega (arith, whole)
+  | inr odd ↦ elim odd [ inl one ↦ omega (arith, one) | inr three ↦ omega (arith, three) ]
+]
+not-upper n i z (from_lower j d within rest) is = elim is [
+  | inl whole ↦ omega (arith, whole)
+  | inr odd ↦ elim odd [
+    | inl one ↦
+        let here : j ≡ 0 = omega (arith, one) in
+        not-upper n i (get_or (take n trace) j d).zone rest (inl (subst (λ k. k < length (take n trace) →
+        (get_or (take n trace) k d).zone ≡ 0) (sym here) (first_zone n d) within))
+    | inr three ↦
+        let here : j ≡ 1 = omega (arith, three) in
+        not-upper n i (get_or (take n trace) j d).zone rest (inr (inl (subst (λ k. k < length (take n trace) →
+        (get_or (take n trace) k d).zone ≡ 1) (sym here) (second_zone n d) within)))
+  ]
+]
+
+none-before : (i : ℕ) (d : CutAt) → i < 3 → (z : ℕ) → StandsBefore (take i trace) (get_or trace i d) z → ⊥
+none-before zero d within z is = not-upper 0 is.before.0 0 is.before.3 (inl refl)
+none-before (suc zero) d within z is = not-upper 1 is.before.0 1 is.before.3 (inr (inl refl))
+none-before (suc (suc zero)) d within z is = not-upper 2 is.before.0 3 is.before.3 (inr (inr refl))
+none-before (suc (suc (suc i))) d within z is = absurd (omega arith)
+
+-- so no line is known at a cut, and none has to be
+pub learnt : IsLearnt problem 4 trace log
+unfolding spans_of classes_of
+learnt = record {
+  stay = λ i d within z is. absurd (none-before i d within z is);
+  enough = λ i d within. (0, omega arith, λ z is. absurd (none-before i d within z is));
+  not_closed = λ i d within k known closes.
+      let less = known 0 (λ z is. absurd (none-before i d within z is)) in omega (arith, less);
+  shrunk = lines;
+} where
+  lines : (k : ℕ) (d : LogLine) → k < 3 → length (nogood_bounds problem trace (get_or log k d).nogood) ≤ MAX_BOUNDS →
+      IsMinimalLine problem trace log 4 k (get_or log k d)
+  lines zero d within few = shrunk 0 (omega arith) third_at_most_8
+  lines (suc zero) d within few = shrunk 1 (omega arith) third_at_least_9
+  lines (suc (suc zero)) d within few = λ bound others are good. Contains-none bound
+      (subst (λ (bounds : List Bound). Contains bounds bound) no_bounds are.among)
+  lines (suc (suc (suc k))) d within few = absurd (omega arith)
+
+-- ---- which lines are known: zones 3 and 4 come before zone 2, the third that is cut here
+--
+--          0               cut 0: zone 0 into 1 and 2
+--        /   \             cut 1: zone 1 into 3 and 4
+--       1     2            cut 2: zone 2
+--      / \
+--     3   4
+
+abbrev two_cuts : List CutAt
+two_cuts = cut 0 0 ∷ cut 1 1 ∷ []
+
+three_before : StandsBefore two_cuts (cut 2 0) 3
+three_before = record {
+  stands = record {
+    there = omega arith;
+    not_cut = All-from_recursion (λ c. c.zone ≢ 3) two_cuts ((λ same. omega arith), ((λ same. omega arith), tt));
+  };
+  before = (0, omega arith, from_lower 1 (cut 0 0) (omega arith) itself, itself);
+}
+
+four_before : StandsBefore two_cuts (cut 2 0) 4
+four_before = record {
+  stands = record {
+    there = omega arith;
+    not_cut = All-from_recursion (λ c. c.zone ≢ 4) two_cuts ((λ same. omega arith), ((λ same. omega arith), tt));
+  };
+  before = (0, omega arith, from_upper 1 (cut 0 0) (omega arith) itself, itself);
+}
+
+-- the first line is known, whatever it says
+first_known : (nogoods : List (List Bound)) → IsKnown problem nogoods two_cuts (cut 2 0) 0
+first_known nogoods n enough = let line = enough 3 three_before in omega (arith, line.1)
+
+-- the second is where the first does not close zone 4
+second_known : (nogoods : List (List Bound)) → (NogoodCloses problem two_cuts nogoods 0 4 → ⊥) →
+    IsKnown problem nogoods two_cuts (cut 2 0) 1
+second_known nogoods not n enough =
+    let line = enough 4 four_before in
+    elim (cases_lt 0 line.0) [
+      | inl later ↦ omega (arith, line.1, later)
+      | inr first ↦
+          let here : line.0 ≡ 0 = omega (arith, first) in
+          absurd (not (subst (λ k. NogoodCloses problem two_cuts nogoods k 4) here line.2))
+    ]
+
+-- and it is not where the first closes both zones
+not_known : (nogoods : List (List Bound)) → AreEnough problem nogoods two_cuts (cut 2 0) 1 →
+    IsKnown problem nogoods two_cuts (cut 2 0) 1 → ⊥
+not_known nogoods enough known = let less = known 1 enough in omega (arith, less)

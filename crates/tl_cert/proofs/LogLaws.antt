@@ -21,7 +21,7 @@ use Rattle.tl_cert.specs.declared.log.Nogood.TheVariants.{Zone}
 use Rattle.tl_cert.specs.declared.trace.CutAt.{CutAt}
 use Rattle.tl_cert.specs.Nogoods.{IsOnSide, IsPast, Meets, Breaks, nogood_bounds, IsTrueFor}
 use Rattle.tl_cert.specs.Implied.{IsLeft, Implied, OneLeft}
-use Rattle.tl_cert.specs.Lines.{nogood_at, Fires, EndsBy, IsGoodLine, IsGoodLog}
+use Rattle.tl_cert.specs.Lines.{nogood_at, Fires, LineEndsBy, IsGoodLine, IsGoodLog}
 
 -- widths meet a bound or break it, and not both
 pub meets-or_breaks : (problem : ProblemModel) (widths : List ℕ) (bound : Bound) →
@@ -89,7 +89,7 @@ module _ (problem : ProblemModel) (sound : IsSound problem) (lower : ℕ) (width
   -- but no end leaves it there
   end-none : (given joined : List Bound) (nogoods : List (List Bound)) (end : End) → All (IsTrueFor problem lower) nogoods →
       IsLeft problem given joined widths →
-      EndsBy problem (IsLeft problem given joined) nogoods lower end → ⊥
+      LineEndsBy problem (IsLeft problem given joined) nogoods lower end → ⊥
   end-none given joined nogoods Cycle true_for left ends = ends widths left
   end-none given joined nogoods Chain true_for left ends =
       let below = bound-below_layout problem sound (IsLeft problem given joined) ends.0 widths heights ends.1 left layout in

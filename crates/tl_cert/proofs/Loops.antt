@@ -4,7 +4,7 @@ use Rattle.std.proofs.Common.{append_assoc, arith}
 use Rattle.std.proofs.lemmas.List.{append-nil}
 use Rattle.tl_cert.specs.declared.reader.Fault.{Fault}
 use Rattle.tl_cert.specs.declared.reader.Fault.TheVariants.{Memory, Wrong, Outside}
-use Rattle.tl_cert.specs.inner.Gives.{Fails}
+use Rattle.tl_cert.specs.inner.Gives.{FailsBy}
 use Rattle.tl_cert.specs.inner.reading.Readings.{Answer, got, wrong, outside, Reading, then_read, followed, ◌>>=◌, give, either}
 use Rattle.tl_cert.proofs.reading.ListExact.{ListForm}
 use Rattle.tl_cert.proofs.reading.Unlimited.{IsUnlimited, fuel_same}
@@ -98,7 +98,7 @@ module _ {S A V E : Type 0} (list : ListReading S A V E) where
       let R : List V → Type 0 = λ l. Whole l k t rest total in
       subst R (sym new-is) (subst Q view-is two)
 
-  failed : (f : Fault) (prefix : List V) (k : ℕ) (s : S) (x : Answer A) → Fails f x → Fails f (prepend prefix (items k s x))
+  failed : (f : Fault) (prefix : List V) (k : ℕ) (s : S) (x : Answer A) → FailsBy f x → FailsBy f (prepend prefix (items k s x))
   failed Memory prefix k s x is = tt
   failed (Wrong left) prefix k s x is = ap (λ (y : Answer A). prepend prefix (items k s y)) is
   failed (Outside left) prefix k s x is = ap (λ (y : Answer A). prepend prefix (items k s y)) is
@@ -106,11 +106,11 @@ module _ {S A V E : Type 0} (list : ListReading S A V E) where
   -- an item at which the reading fails
   pub fails_on : (f : Fault) (prefix : List V) (room k : ℕ) (s : S) (text : List ℕ) (total : Answer (Listing V E)) → room ≡ suc k
       → comes (list.turn k s) text ≡ true
-      → Fails f (list.item k s text) → Whole prefix room s text total → Fails f total
+      → FailsBy f (list.item k s text) → Whole prefix room s text total → FailsBy f total
   fails_on f prefix room k s text total room-is come is all =
       let whole : Whole prefix (suc k) s text total = let P : ℕ → Type 0 = λ j. Whole prefix j s text total in
       subst P room-is all in
-      let P : Answer (Listing V E) → Type 0 = Fails f in
+      let P : Answer (Listing V E) → Type 0 = FailsBy f in
       subst P (ap (prepend prefix) (sym (item_so k s text come)) ∙ whole) (failed f prefix k s (list.item k s text) is)
 
   -- the end of the list
@@ -122,17 +122,17 @@ module _ {S A V E : Type 0} (list : ListReading S A V E) where
       sym whole ∙ ap (prepend prefix) (stop_so k s text stop ∙ ap (λ (x : Answer E). then_read x (λ e. give (listing [] e))) is)
       ∙ ap (λ (vs : List V). got (listing vs e) rest) (append-nil prefix)
 
-  stop_failed : (f : Fault) (prefix : List V) (x : Answer E) → Fails f x →
-      Fails f (prepend prefix (then_read x (λ e. give (listing [] e))))
+  stop_failed : (f : Fault) (prefix : List V) (x : Answer E) → FailsBy f x →
+      FailsBy f (prepend prefix (then_read x (λ e. give (listing [] e))))
   stop_failed Memory prefix x is = tt
   stop_failed (Wrong left) prefix x is = ap (λ (y : Answer E). prepend prefix (then_read y (λ e. give (listing [] e)))) is
   stop_failed (Outside left) prefix x is = ap (λ (y : Answer E). prepend prefix (then_read y (λ e. give (listing [] e)))) is
 
   pub fails_at : (f : Fault) (prefix : List V) (k : ℕ) (s : S) (text : List ℕ) (total : Answer (Listing V E)) →
       Stops list k s text
-      → Fails f (list.stop s text) → Whole prefix k s text total → Fails f total
+      → FailsBy f (list.stop s text) → Whole prefix k s text total → FailsBy f total
   fails_at f prefix k s text total stop is whole =
-      let P : Answer (Listing V E) → Type 0 = Fails f in
+      let P : Answer (Listing V E) → Type 0 = FailsBy f in
       subst P (ap (prepend prefix) (sym (stop_so k s text stop)) ∙ whole) (stop_failed f prefix (list.stop s text) is)
 
   -- at the start nothing was read

@@ -4,7 +4,7 @@ use Rattle.tl_cert.specs.declared.certificate.Certificate.{Certificate}
 use Rattle.tl_cert.specs.declared.error.CertError.{CertError}
 use Rattle.tl_cert.specs.declared.error.CertError.TheVariants.{Memory, Syntax, Range, TooLong}
 use Rattle.tl_base.specs.declared.limits.TheConstants.{MAX_CERTIFICATE_BYTES}
-use Rattle.tl_cert.specs.Pieces.{Piece, number, spell, numeral, IsWithin, AllWithin, IsPastDigits}
+use Rattle.tl_cert.specs.Pieces.{TextPiece, number, spell, numeral, IsPieceInRange, AllWithin, IsPastDigits}
 use Rattle.tl_cert.specs.Text.{cert_pieces, cert_text, IsShaped, IsWritable}
 
 -- the text of a certificate begins so, the ranges of its numbers left aside
@@ -19,15 +19,15 @@ pub record BeginsText (bytes : List ℕ) : Type 0 where
 pub record IsRangeFault (bytes : List ℕ) (place : ℕ) : Type 0 where
   pub whole : Certificate
   pub shaped : IsShaped whole
-  pub before : List Piece
+  pub before : List TextPiece
   pub low : ℕ
   pub high : ℕ
   pub n : ℕ
-  pub after : List Piece
+  pub after : List TextPiece
   pub tail : List ℕ
   pub pieces : cert_pieces whole ≡ before ++ number low high n ∷ after
   pub within : AllWithin before
-  pub beyond : ¬ IsWithin (number low high n)
+  pub beyond : ¬ IsPieceInRange (number low high n)
   pub text : bytes ≡ spell before ++ (numeral n ++ tail)
   pub past : IsPastDigits tail
   pub place_is : place ≡ length (spell before)

@@ -9,3 +9,5 @@ pub mod Lines
 pub mod Worked
 pub mod Counting
 pub mod Laws
+pub mod ZoneOrders
+pub mod Learnt

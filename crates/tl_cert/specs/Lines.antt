@@ -29,11 +29,11 @@ Fires problem given joined (nogood ∷ nogoods) last =
 
 -- the end of a line: no widths are left; their bound, or their area bound, is at least `lower`; or all bounds of the
 -- nogood that was fired last are implied
-abbrev pub EndsBy : ProblemModel → (List ℕ → Type 0) → List (List Bound) → ℕ → End → Type 0
-EndsBy problem Among nogoods lower Cycle = HasNoWidths Among
-EndsBy problem Among nogoods lower Chain = (bound : ℕ) × IsBound problem Among bound × (lower ≤ bound)
-EndsBy problem Among nogoods lower Area = (bound : ℕ) × IsAreaBound problem Among bound × (lower ≤ bound)
-EndsBy problem Among nogoods lower Fired = IsSomeAnd (last_or None nogoods) (All (Implied problem Among))
+abbrev pub LineEndsBy : ProblemModel → (List ℕ → Type 0) → List (List Bound) → ℕ → End → Type 0
+LineEndsBy problem Among nogoods lower Cycle = HasNoWidths Among
+LineEndsBy problem Among nogoods lower Chain = (bound : ℕ) × IsBound problem Among bound × (lower ≤ bound)
+LineEndsBy problem Among nogoods lower Area = (bound : ℕ) × IsAreaBound problem Among bound × (lower ≤ bound)
+LineEndsBy problem Among nogoods lower Fired = IsSomeAnd (last_or None nogoods) (All (Implied problem Among))
 
 -- the bounds of the nogoods that a line fires
 abbrev pub fired : ProblemModel → List CutAt → List LogLine → LogLine → List (List Bound)
@@ -46,7 +46,7 @@ pub record IsGoodLine (problem : ProblemModel) (trace : List CutAt) (log : List 
   pub earlier : All (λ f. (f < k) × NamesAreThere problem trace (nogood_at log f)) line.fires
   pub joined : List Bound
   pub fires : Fires problem (nogood_bounds problem trace line.nogood) [] (fired problem trace log line) joined
-  pub ends : EndsBy problem (IsLeft problem (nogood_bounds problem trace line.nogood) joined) (fired problem trace log line)
+  pub ends : LineEndsBy problem (IsLeft problem (nogood_bounds problem trace line.nogood) joined) (fired problem trace log line)
       lower line.end
 
 -- a good log: it has a line, each line is good, and the nogood of the last has no bounds

@@ -5,9 +5,9 @@ use Rattle.std.specs.List.{AllByRecursion}
 use Rattle.std.specs.Char.{is_ascii_digit}
 
 -- a character, or a number with the least and the greatest value that it may have
-pub data Piece : Type 0 where
-  character : ℕ → Piece
-  number : (low high value : ℕ) → Piece
+pub data TextPiece : Type 0 where
+  character : ℕ → TextPiece
+  number : (low high value : ℕ) → TextPiece
 
 -- The canonical decimal of a number of at most so many digits more than one: that of its tenth and its last digit.
 abbrev pub numeral_within : ℕ → ℕ → List ℕ
@@ -20,30 +20,30 @@ unfoldable pub numeral : ℕ → List ℕ
 numeral n = numeral_within n n
 
 -- the characters of a piece
-abbrev pub spelling : Piece → List ℕ
+abbrev pub spelling : TextPiece → List ℕ
 spelling (character c) = c ∷ []
 spelling (number low high value) = numeral value
 
 -- the characters of pieces, one after the other
-abbrev pub spell : List Piece → List ℕ
+abbrev pub spell : List TextPiece → List ℕ
 spell [] = []
 spell (piece ∷ pieces) = spelling piece ++ spell pieces
 
 -- the number is within its range; a character has none
-abbrev pub IsWithin : Piece → Type 0
-IsWithin (character c) = Unit {0}
-IsWithin (number low high value) = (low ≤ value) × (value ≤ high)
+abbrev pub IsPieceInRange : TextPiece → Type 0
+IsPieceInRange (character c) = Unit {0}
+IsPieceInRange (number low high value) = (low ≤ value) × (value ≤ high)
 
 -- each number is within its range
-abbrev pub AllWithin : List Piece → Type 0
-AllWithin = AllByRecursion IsWithin
+abbrev pub AllWithin : List TextPiece → Type 0
+AllWithin = AllByRecursion IsPieceInRange
 
 -- a number and the character that ends it
-abbrev pub field : ℕ → ℕ → ℕ → ℕ → List Piece
+abbrev pub field : ℕ → ℕ → ℕ → ℕ → List TextPiece
 field low high value end = number low high value ∷ character end ∷ []
 
 -- the characters of a word
-abbrev pub word : List ℕ → List Piece
+abbrev pub word : List ℕ → List TextPiece
 word = map character
 
 -- what follows a number that is a whole run of digits: no digit

@@ -4,7 +4,7 @@ use Rattle.std.specs.Prelude.{ℕ, ◌+◌, ◌*◌, ◌≤◌, ◌≡◌, Bool,
 use Rattle.std.specs.Prelude.{◌||◌, IsTrue, List, [], ◌∷◌, ◌++◌, length, codes, Option, Some, None}
 use Rattle.std.specs.List.{flat_map, list_any, AllByRecursion}
 use Rattle.tl_base.specs.declared.style.Style.{Style}
-use Rattle.tl_base.specs.declared.style.Style.TheVariants.{Plain, Compact, Frame}
+use Rattle.tl_base.specs.Style.{style_word}
 use Rattle.tl_base.specs.declared.chain.Entry.{Entry}
 use Rattle.tl_base.specs.declared.chain.Chain.{Chain}
 use Rattle.tl_cert.specs.declared.trace.CutAt.{CutAt}
@@ -23,7 +23,7 @@ use Rattle.tl_cert.specs.declared.certificate.Certificate.{Certificate}
 use Rattle.tl_base.specs.declared.limits.TheConstants.{MAX_PAGE_WIDTH, MAX_HEIGHT, MAX_BUDGET, MAX_COLUMNS, MAX_CELLS}
 use Rattle.tl_cert.specs.declared.limits.TheConstants.{MAX_TABLE, MAX_SECTIONS, MAX_ZONE, MAX_LINE, MAX_SPAN, MAX_CLASS}
 use Rattle.tl_cert.specs.declared.limits.TheConstants.{MAX_BOUNDS, MAX_FIRES}
-use Rattle.tl_cert.specs.Pieces.{Piece, character, number, field, word, spell, AllWithin}
+use Rattle.tl_cert.specs.Pieces.{TextPiece, character, number, field, word, spell, AllWithin}
 
 -- the character between two numbers or words of a line
 abbrev pub space : ℕ
@@ -34,22 +34,22 @@ abbrev pub line_feed : ℕ
 line_feed = 10
 
 -- a number after a space
-abbrev pub spaced : ℕ → ℕ → List Piece
+abbrev pub spaced : ℕ → ℕ → List TextPiece
 spaced high value = character space ∷ number 0 high value ∷ []
 
 -- ---- chains
 
 -- nothing, or `:T` where the chain of the nested table T gives the width
-abbrev pub inner_pieces : Option ℕ → List Piece
+abbrev pub inner_pieces : Option ℕ → List TextPiece
 inner_pieces None = []
 inner_pieces (Some table) = character 58 ∷ number 0 MAX_TABLE table ∷ []
 
 -- `C`, the number of a cell, or `C:T` where the chain of the table T that is nested in it gives the width
-abbrev pub entry_pieces : Entry → List Piece
+abbrev pub entry_pieces : Entry → List TextPiece
 entry_pieces entry = number 0 MAX_CELLS entry.cell ∷ inner_pieces entry.inner
 
 -- `chain T E E E`: a table and the entries of its chain
-abbrev pub chain_pieces : Chain → List Piece
+abbrev pub chain_pieces : Chain → List TextPiece
 chain_pieces chain =
     word (codes "chain ")
     ++ (number 0 MAX_TABLE chain.table
@@ -58,7 +58,7 @@ chain_pieces chain =
 -- ---- the lines of a section
 
 -- `cut Z S K`: the zone, the span, and the last class of the lower part
-abbrev pub cut_pieces : CutAt → List Piece
+abbrev pub cut_pieces : CutAt → List TextPiece
 cut_pieces cut = word (codes "cut ") ++ (field 0 MAX_ZONE cut.zone space ++
     (field 0 MAX_SPAN cut.span space ++ field 0 MAX_CLASS cut.class line_feed))
 
@@ -68,21 +68,21 @@ side_sign Most = 45
 side_sign Least = 43
 
 -- `S-V` or `S+V`: the room of the span S is at most, or at least, V
-abbrev pub bound_pieces : Bound → List Piece
+abbrev pub bound_pieces : Bound → List TextPiece
 bound_pieces bound = field 0 MAX_SPAN bound.span (side_sign bound.side) ++ (number 0 MAX_PAGE_WIDTH bound.width ∷ [])
 
 -- bounds separated by a space
-abbrev pub bounds_pieces : List Bound → List Piece
+abbrev pub bounds_pieces : List Bound → List TextPiece
 bounds_pieces [] = []
 bounds_pieces (bound ∷ bounds) = bound_pieces bound ++ flat_map (λ more. character space ∷ bound_pieces more) bounds
 
 -- `zZ` for the bounds of the zone Z, or bounds that are written out
-abbrev pub nogood_pieces : Nogood → List Piece
+abbrev pub nogood_pieces : Nogood → List TextPiece
 nogood_pieces (nogoods.Zone zone) = character 122 ∷ number 0 MAX_ZONE zone ∷ []
 nogood_pieces (nogoods.Bounds bounds) = bounds_pieces bounds
 
 -- ` @k`: the earlier log line k is fired
-abbrev pub fire_pieces : ℕ → List Piece
+abbrev pub fire_pieces : ℕ → List TextPiece
 fire_pieces line = word (codes " @") ++ (number 0 MAX_LINE line ∷ [])
 
 -- the word by which a log line ends: the fired lines prove it, or a cycle, a chain or the area bound does
@@ -93,11 +93,11 @@ end_word ends.Chain = codes "chain\n"
 end_word ends.Area = codes "area\n"
 
 -- a nogood, the lines that are fired, and the end
-abbrev pub line_pieces : LogLine → List Piece
+abbrev pub line_pieces : LogLine → List TextPiece
 line_pieces line = nogood_pieces line.nogood ++ (flat_map fire_pieces line.fires ++ (character space ∷ word (end_word line.end)))
 
 -- `section T W H L C N`: the table, the width, the height, the lower bound, and how many cuts and log lines follow
-abbrev pub section_head : Section → List Piece
+abbrev pub section_head : Section → List TextPiece
 section_head section =
     let cuts = length section.trace in
     word (codes "section ")
@@ -109,7 +109,7 @@ section_head section =
     ++ field 1 (2 * cuts + 1) (length section.log) line_feed)))))
 
 -- a section: its first line, the line of the widths, the cuts and the log lines
-abbrev pub section_pieces : Section → List Piece
+abbrev pub section_pieces : Section → List TextPiece
 section_pieces section =
     section_head section
     ++ (word (codes "widths")
@@ -141,25 +141,23 @@ version_word true = codes "2 "
 version_word false = codes "1 "
 
 -- the style by its name
-abbrev pub style_word : Style → List ℕ
-style_word Plain = codes "plain "
-style_word Compact = codes "compact "
-style_word Frame = codes "frame "
+abbrev pub style_field : Style → List ℕ
+style_field style = style_word style ++ codes " "
 
 -- `lowest H`, `bounded H L` or `narrow L`
-abbrev pub claim_pieces : Claim → List Piece
+abbrev pub claim_pieces : Claim → List TextPiece
 claim_pieces (Lowest height) = word (codes "lowest ") ++ field 0 MAX_HEIGHT height line_feed
 claim_pieces (Bounded height lower) = word (codes "bounded ") ++
     (field 0 MAX_HEIGHT height space ++ field 0 MAX_HEIGHT lower line_feed)
 claim_pieces (Narrow least) = word (codes "narrow ") ++ field 0 MAX_HEIGHT least line_feed
 
 -- `tablelayout V WIDTH STYLE BUDGET`, the claim, the chains or the sections, and `end`
-abbrev pub cert_pieces : Certificate → List Piece
+abbrev pub cert_pieces : Certificate → List TextPiece
 cert_pieces c =
     word (codes "tablelayout ")
     ++ (word (version_word (has_area c.sections))
     ++ (field 1 MAX_PAGE_WIDTH c.width space
-    ++ (word (style_word c.style)
+    ++ (word (style_field c.style)
     ++ (field 0 MAX_BUDGET c.budget line_feed
     ++ (claim_pieces c.claim
     ++ (flat_map chain_pieces c.chains

@@ -13,8 +13,8 @@ use Rattle.tl_cert.specs.Traces.{Stands, IsTraceOf, zone_of}
 
 -- the zone is closed for a height: it has no widths, or a bound of at least the height, or one class for each span while
 -- `low` and `high` of some cell differ there
-abbrev pub IsClosed : ProblemModel → List Range → ℕ → Type 0
-IsClosed problem zone height =
+abbrev pub IsClosedZone : ProblemModel → List Range → ℕ → Type 0
+IsClosedZone problem zone height =
     HasNoWidths (InZone problem zone)
     ⊎ (((bound : ℕ) × IsBound problem (InZone problem zone) bound × (height ≤ bound)) ⊎
     (HasOneClass zone × DifferIn problem zone))
@@ -31,7 +31,7 @@ pub record IsWorkedBelow (problem : ProblemModel) (trace : List CutAt) (height l
   pub is_opening : IsOpening problem opening
   pub cut_zones : All (λ cut. (bound : ℕ) × IsBoundOf problem trace cut.zone bound × (bound < opening.height)) trace
   pub enough : (z bound : ℕ) × Stands trace z × IsBoundOf problem trace z bound × (bound ≤ lower)
-  pub ended : (length trace ≡ budget) ⊎ ((z : ℕ) → Stands trace z → IsClosed problem (zone_of problem trace z) height)
+  pub ended : (length trace ≡ budget) ⊎ ((z : ℕ) → Stands trace z → IsClosedZone problem (zone_of problem trace z) height)
 
 -- the trace, with this height and this lower bound, was worked for the budget
 pub record IsWorked (problem : ProblemModel) (trace : List CutAt) (height lower budget : ℕ) : Type 0 where

@@ -1,5 +1,8 @@
 //! The lines by which it is proved that nothing lower exists.
 
+ghost use Rattle.std.specs.Prelude.{◌≡◌, IfOk};
+
+use std::alloc::{AllocError, Global};
 use tl_base::List;
 
 /// On which side of its width a bound keeps a span's room.
@@ -31,6 +34,21 @@ pub enum Nogood {
     Bounds(List<Bound>),
 }
 
+impl Nogood {
+    /// A copy of the nogood.
+    pub fn copy(&self, alloc: Global) -> Result<Nogood, AllocError>
+        ensures { IfOk result (λ nogood. nogood ≡ self.now) }
+    {
+        match self {
+            Nogood::Zone(zone) => Ok(Nogood::Zone(*zone)),
+            Nogood::Bounds(bounds) => {
+                let bounds = List::from_slice(alloc, bounds.as_slice())?;
+                Ok(Nogood::Bounds(bounds))
+            }
+        }
+    }
+}
+
 /// How a log line is brought to its end.
 #[derive(Clone, Copy, Debug, PartialEq, Eq)]
 pub enum End {
@@ -51,6 +69,21 @@ pub struct LogLine {
     pub nogood: Nogood,
     pub fires: List<u32>,
     pub end: End,
+}
+
+impl LogLine {
+    /// A copy of the line.
+    pub fn copy(&self, alloc: Global) -> Result<LogLine, AllocError>
+        ensures { IfOk result (λ line. line ≡ self.now) }
+    {
+        let nogood = self.nogood.copy(alloc)?;
+        let fires = List::from_slice(alloc, self.fires.as_slice())?;
+        Ok(LogLine {
+            nogood,
+            fires,
+            end: self.end,
+        })
+    }
 }
 
 impl Drop for LogLine {

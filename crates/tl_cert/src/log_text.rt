@@ -73,11 +73,11 @@ impl<'a> Reader<'a> {
     }
 
     /// A bound that may follow the one before it, and the space after it.
-    #[tactic(auto, unfolding(crate::specs::inner::CertReading::bound_at, // and how readings follow one another
+    #[tactic(auto, unfolding(crate::specs::inner::CertReading::bound_reading, // and how readings follow one another
     crate::specs::inner::reading::Readings::followed, crate::specs::inner::reading::Readings::give))]
     fn bound(&mut self, before: Option<Bound>) -> Result<Bound, Fault>
         requires { IfSome before (λ bound. bound.span ≤ MAX_SPAN) }
-        ensures gives { Gives (λ x. x) result self.new.rest.now (read.bound_at before self.old.rest.now) }
+        ensures gives { Gives (λ x. x) result self.new.rest.now (read.bound_reading before self.old.rest.now) }
         ensures most { IfOk result (λ bound. bound.span ≤ MAX_SPAN) }
     {
         let (span, sign) = self.number(0, MAX_SPAN, Follow::Sign(before))?;

@@ -6,7 +6,7 @@ ghost use Rattle.tl_cert.specs.declared.reader.Fault.TheVariants.{Memory};
 ghost use Rattle.tl_cert.specs.inner.Gives.{Gives};
 ghost use Rattle.tl_cert.specs.inner.Follows as follows;
 ghost use Rattle.tl_cert.specs.inner.reading.Readings.{begins, word_at, wrong};
-ghost use Rattle.tl_cert.specs.inner.reading.Numbers.{read_run, run_at, number_at, field_at};
+ghost use Rattle.tl_cert.specs.inner.reading.Numbers.{read_run, run_at, number_reading, field_at};
 
 use crate::follow::Follow;
 use std::alloc::{AllocError, AllocFailed};
@@ -148,7 +148,7 @@ impl<'a> Reader<'a> {
     pub(crate) fn number(&mut self, low: u32, high: u32, follow: Follow) -> Result<(u32, u8), Fault>
         requires { (n : ℕ) → high < n → follows.may_be follow n ≡ true }
         ensures gives { Gives (λ x. (x.0, x.1)) result self.new.rest.now
-            (number_at low high (follows.may_be follow) (follows.may_end follow) self.old.rest.now) }
+            (number_reading low high (follows.may_be follow) (follows.may_end follow) self.old.rest.now) }
         ensures most { IfOk result (λ x. x.0 ≤ high) }
     {
         let start = self.rest.len();

@@ -254,7 +254,7 @@ fn put_version(out: &mut List<u8>, has_area: bool) -> Result<(), AllocError>
 }
 
 fn put_style(out: &mut List<u8>, style: Style) -> Result<(), AllocError>
-    ensures { OnOk result (out.new ≡ out.old ++ text.style_word style) }
+    ensures { OnOk result (out.new ≡ out.old ++ text.style_field style) }
 {
     match style {
         Style::Plain => out.extend_from_slice(b"plain "),

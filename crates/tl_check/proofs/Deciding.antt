@@ -22,9 +22,9 @@ use Rattle.tl_cert.specs.declared.log.Nogood.TheVariants.{Zone}
 use Rattle.tl_cert.specs.declared.trace.CutAt.{CutAt}
 use Rattle.tl_cert.specs.Nogoods.{NamesAreThere, nogood_bounds}
 use Rattle.tl_cert.specs.Implied.{IsLeft, Implied}
-use Rattle.tl_cert.specs.Lines.{Fires, EndsBy, IsGoodLine, fired, nogood_at}
+use Rattle.tl_cert.specs.Lines.{Fires, LineEndsBy, IsGoodLine, fired, nogood_at}
 use Rattle.tl_cert.proofs.FireLaws.{fires-unique, fires-split}
-use Rattle.tl_check.specs.inner.Matrices.{IsMatrixOf}
+use Rattle.tl_check.specs.Matrices.{IsMatrixOf}
 use Rattle.std.proofs.lemmas.List.Elements.{All-contains}
 use Rattle.tl_check.specs.declared.left.Left.{Left}
 use Rattle.tl_check.specs.declared.left.Left.TheVariants.{Nothing, One, More}
@@ -38,8 +38,8 @@ some-same P Q to (Some x) h = to x h
 
 pub ends-same : (problem : ProblemModel) (A B : List ℕ → Type 0) → ((widths : List ℕ) → A widths → B widths) →
     ((widths : List ℕ) → B widths → A widths) →
-    (nogoods : List (List Bound)) (lower : ℕ) (end : End) → EndsBy problem A nogoods lower end →
-    EndsBy problem B nogoods lower end
+    (nogoods : List (List Bound)) (lower : ℕ) (end : End) → LineEndsBy problem A nogoods lower end →
+    LineEndsBy problem B nogoods lower end
 ends-same problem A B to from nogoods lower Cycle none = λ widths left. none widths (from widths left)
 ends-same problem A B to from nogoods lower Chain (bound, is, enough) =
     (bound, found_bound-same problem A B to from (Some bound) is, enough)
@@ -54,7 +54,7 @@ ends-same problem A B to from nogoods lower Fired last =
 
 pub cycle-decided : (problem : ProblemModel) (bounds : Bounds) → IsMatrixOf problem bounds → (holds : Bool) →
     (IsTrue holds ↔ IsSatisfiable bounds) →
-    (IsTrue (not holds) ↔ HasNoWidths (works.IsLeft problem bounds))
+    (IsTrue (not holds) ↔ HasNoWidths (works.AreAllowed problem bounds))
 cycle-decided problem bounds keeps true is = (
   λ never. absurd cc,
   λ none. let some = left-some problem bounds keeps.page (is.0 refl) in absurd (none some.0 some.1),
@@ -165,22 +165,23 @@ module _ (problem : ProblemModel) (trace : List CutAt) (log : List LogLine) (lin
 
   pub leads-decided : (lower : ℕ) (bounds : Bounds) → LeadsTo problem given_of (fired problem trace log line) bounds →
       (r : Bool) →
-      (IsTrue r ↔ EndsBy problem (works.IsLeft problem bounds) (fired problem trace log line) lower line.end) →
+      (IsTrue r ↔ LineEndsBy problem (works.AreAllowed problem bounds) (fired problem trace log line) lower line.end) →
       (IsTrue r ↔ LeadsToEnd problem trace log line lower)
   leads-decided lower bounds leads r ends = (
     λ yes. record {
       joined = leads.joined;
       fires = leads.fires;
-      ends = ends-same problem (works.IsLeft problem bounds) (IsLeft problem given_of leads.joined)
+      ends = ends-same problem (works.AreAllowed problem bounds) (IsLeft problem given_of leads.joined)
           leads.describes.to leads.describes.from
           (fired problem trace log line) lower line.end (ends.0 yes);
     },
     λ h.
         let same = fires-unique problem given_of [] (fired problem trace log line) h.joined leads.joined h.fires leads.fires in
-        ends.1 (ends-same problem (IsLeft problem given_of leads.joined) (works.IsLeft problem bounds)
+        ends.1 (ends-same problem (IsLeft problem given_of leads.joined) (works.AreAllowed problem bounds)
         leads.describes.from leads.describes.to
         (fired problem trace log line) lower line.end
-        (subst (λ js. EndsBy problem (IsLeft problem given_of js) (fired problem trace log line) lower line.end) same h.ends)),
+        (subst (λ js. LineEndsBy problem (IsLeft problem given_of js)
+        (fired problem trace log line) lower line.end) same h.ends)),
   )
 
   pub good-decided : (lower k : ℕ) → NamesAreThere problem trace line.nogood →

@@ -17,12 +17,13 @@ use Rattle.tl_problem.proofs.ConstraintLemmas.{KeepsPage-adds}
 use Rattle.tl_cert.specs.declared.log.Bound.{Bound}
 use Rattle.tl_cert.specs.Nogoods.{Meets, Breaks}
 use Rattle.tl_cert.specs.Implied.{IsLeft}
-use Rattle.tl_check.specs.inner.Matrices.{IsMatrixOf, Restricts, Describes}
+use Rattle.tl_check.specs.Matrices.{IsMatrixOf, Describes}
+use Rattle.tl_check.specs.inner.Matrices.{Restricts}
 
 -- the fact in other words
 pub Restricts-same : (problem : ProblemModel) (old new : MarkedBounds) (F G : List ℕ → Type 0) →
-    ((widths : List ℕ) → works.IsLeft problem old.bounds widths → F widths → G widths) →
-    ((widths : List ℕ) → works.IsLeft problem old.bounds widths → G widths → F widths) →
+    ((widths : List ℕ) → works.AreAllowed problem old.bounds widths → F widths → G widths) →
+    ((widths : List ℕ) → works.AreAllowed problem old.bounds widths → G widths → F widths) →
     Restricts problem old new F → Restricts problem old new G
 Restricts-same problem old new F G to from h = record {
   keeps = h.keeps;
@@ -107,8 +108,8 @@ module _ (problem : ProblemModel) (old new : MarkedBounds) (keeps : IsMatrixOf p
 
 -- those of a page leave what no bound restricts
 pub Describes-page : (problem : ProblemModel) (bounds : Bounds) → IsMatrixOf problem bounds →
-    ((widths : List ℕ) → works.IsLeft problem bounds widths → IsLeft problem [] [] widths) →
-    ((widths : List ℕ) → IsLeft problem [] [] widths → works.IsLeft problem bounds widths) → Describes problem [] [] bounds
+    ((widths : List ℕ) → works.AreAllowed problem bounds widths → IsLeft problem [] [] widths) →
+    ((widths : List ℕ) → IsLeft problem [] [] widths → works.AreAllowed problem bounds widths) → Describes problem [] [] bounds
 Describes-page problem bounds keeps to from = record { keeps = keeps; to = to; from = from }
 
 module _ (problem : ProblemModel) (given joined : List Bound) (old new : MarkedBounds) (bound : Bound)

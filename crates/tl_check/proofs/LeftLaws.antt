@@ -13,7 +13,8 @@ use Rattle.tl_cert.specs.Implied.{IsLeft, Implied, OneLeft}
 use Rattle.tl_cert.proofs.FireLaws.{fires-append, fires-stuck}
 use Rattle.tl_check.specs.declared.left.Left.{Left}
 use Rattle.tl_check.specs.declared.left.Left.TheVariants.{Nothing, One, More}
-use Rattle.tl_check.specs.inner.Matrices.{Restricts, Describes}
+use Rattle.tl_check.specs.Matrices.{Describes}
+use Rattle.tl_check.specs.inner.Matrices.{Restricts}
 use Rattle.tl_check.specs.inner.Firing.{TwoLeft, HasLeft, HasLeftBut, LeadsTo, NeverFires}
 use Rattle.tl_check.proofs.Leaving.{Describes-broken}
 
@@ -177,19 +178,19 @@ module _ (problem : ProblemModel) (given : List Bound) (nogood : List Bound) (ol
   abbrev Before : List Bound → Type 0
   Before joined = Describes problem given joined old.bounds
 
-  implied-to : (joined : List Bound) → Before joined → (b : Bound) → Implied problem (works.IsLeft problem old.bounds) b →
+  implied-to : (joined : List Bound) → Before joined → (b : Bound) → Implied problem (works.AreAllowed problem old.bounds) b →
       Implied problem (IsLeft problem given joined) b
   implied-to joined d b h widths left = h widths (d.from widths left)
 
   implied-from : (joined : List Bound) → Before joined → (b : Bound) → Implied problem (IsLeft problem given joined) b →
-      Implied problem (works.IsLeft problem old.bounds) b
+      Implied problem (works.AreAllowed problem old.bounds) b
   implied-from joined d b h widths left = h widths (d.to widths left)
 
-  all-to : (joined : List Bound) → Before joined → All (Implied problem (works.IsLeft problem old.bounds)) nogood →
+  all-to : (joined : List Bound) → Before joined → All (Implied problem (works.AreAllowed problem old.bounds)) nogood →
       All (Implied problem (IsLeft problem given joined)) nogood
   all-to joined d all = λ k e within widths left. all k e within widths (d.from widths left)
 
-  one-to : (joined : List Bound) → Before joined → (b : Bound) → OneLeft problem (works.IsLeft problem old.bounds) nogood b →
+  one-to : (joined : List Bound) → Before joined → (b : Bound) → OneLeft problem (works.AreAllowed problem old.bounds) nogood b →
       OneLeft problem (IsLeft problem given joined) nogood b
   one-to joined d b h = record {
     among = h.among;
@@ -197,7 +198,7 @@ module _ (problem : ProblemModel) (given : List Bound) (nogood : List Bound) (ol
     others = λ other has apart. implied-to joined d other (h.others other has apart);
   }
 
-  pub fires-nothing : (nogoods : List (List Bound)) → All (Implied problem (works.IsLeft problem old.bounds)) nogood →
+  pub fires-nothing : (nogoods : List (List Bound)) → All (Implied problem (works.AreAllowed problem old.bounds)) nogood →
       LeadsTo problem given nogoods old.bounds → LeadsTo problem given (nogoods ++ nogood ∷ []) old.bounds
   fires-nothing nogoods all h = record {
     joined = h.joined;
@@ -207,7 +208,7 @@ module _ (problem : ProblemModel) (given : List Bound) (nogood : List Bound) (ol
   }
 
   pub fires-one : (nogoods : List (List Bound)) (b : Bound) (new : MarkedBounds) →
-      OneLeft problem (works.IsLeft problem old.bounds) nogood b →
+      OneLeft problem (works.AreAllowed problem old.bounds) nogood b →
       Restricts problem old new (λ widths. Breaks problem widths b) →
       LeadsTo problem given nogoods old.bounds → LeadsTo problem given (nogoods ++ nogood ∷ []) new.bounds
   fires-one nogoods b new one r h = record {
@@ -217,7 +218,7 @@ module _ (problem : ProblemModel) (given : List Bound) (nogood : List Bound) (ol
     describes = Describes-broken problem given h.joined old new b h.describes r;
   }
 
-  pub fires-never : (nogoods more : List (List Bound)) → TwoLeft problem (works.IsLeft problem old.bounds) nogood →
+  pub fires-never : (nogoods more : List (List Bound)) → TwoLeft problem (works.AreAllowed problem old.bounds) nogood →
       LeadsTo problem given nogoods old.bounds → NeverFires problem given (nogoods ++ nogood ∷ more)
   fires-never nogoods more two h last fires = fires-stuck problem given [] nogoods more nogood h.joined last two.one two.other
       h.fires

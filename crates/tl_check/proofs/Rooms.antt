@@ -5,22 +5,22 @@ use Rattle.std.proofs.lemmas.Bool.{cases_lt}
 use Rattle.tl_base.specs.Style.{gap_of}
 use Rattle.std.specs.Prelude.{Option, Some, None, MatchOption, IsSomeAnd}
 use Rattle.tl_base.specs.declared.limits.TheConstants.{MAX_PAGE_WIDTH}
-use Rattle.tl_diff.specs.Bounds.{Bounds, Implied, IsGreatest, HasNoGreatest}
+use Rattle.tl_diff.specs.Bounds.{Bounds, Implies, IsGreatest, HasNoGreatest}
 use Rattle.tl_diff.proofs.BoundLaws.{Implied-from, Implied-le, Implied-none}
 use Rattle.tl_problem.specs.Problem.{ProblemModel}
 use Rattle.tl_problem.specs.Spans.{spans_of}
 use Rattle.tl_problem.specs.Zones.{span_at, span_width}
-use Rattle.tl_problem.specs.Works.{places, IsLeft, widths_of}
+use Rattle.tl_problem.specs.Works.{places, AreAllowed, widths_of}
 use Rattle.tl_base.proofs.SizeLaws.{room-position}
 use Rattle.tl_problem.proofs.ZoneLaws.{span-within}
 use Rattle.tl_problem.proofs.ConstraintLemmas.{room-small}
 use Rattle.tl_problem.proofs.WorkLemmas.{left-from, left-room}
-use Rattle.tl_check.specs.inner.Matrices.{IsMatrixOf}
+use Rattle.tl_check.specs.Matrices.{IsMatrixOf}
 
 -- what is implied is decided by the tightest bound
 pub near-decided : (bounds : Bounds) (a b : ℕ) (most : ℤ) (o : Option ℤ) →
     MatchOption o (HasNoGreatest bounds a b) (IsGreatest bounds a b) →
-    (IsSomeAnd o (λ m. m ≤ℤ most) → Implied bounds a b most) × (Implied bounds a b most → IsSomeAnd o (λ m. m ≤ℤ most))
+    (IsSomeAnd o (λ m. m ≤ℤ most) → Implies bounds a b most) × (Implies bounds a b most → IsSomeAnd o (λ m. m ≤ℤ most))
 near-decided bounds a b most None is = (λ never. absurd never, λ implied. absurd (Implied-none bounds a b most is implied))
 near-decided bounds a b most (Some m) is = (
   λ less. Implied-from bounds a b m most is less,
@@ -92,30 +92,30 @@ module _ (problem : ProblemModel) (bounds : Bounds) (keeps : IsMatrixOf problem 
   right_of = (span_at problem s).right
 
   -- no room is greater than the page
-  pub room-few : (widths : List ℕ) → IsLeft problem bounds widths → span_width problem widths s ≤ MAX_PAGE_WIDTH
+  pub room-few : (widths : List ℕ) → AreAllowed problem bounds widths → span_width problem widths s ≤ MAX_PAGE_WIDTH
   room-few widths left =
       let span = span-within problem keeps.sound s inside in
       room-small problem keeps.sound widths (keeps.page.page widths left) left_of right_of span.0 span.1
 
   -- what the constraints imply of the places of the span's edges they imply of its room, and back
-  pub most-implied : (m : ℤ) → Implied bounds left_of right_of m → (widths : List ℕ) → IsLeft problem bounds widths →
+  pub most-implied : (m : ℤ) → Implies bounds left_of right_of m → (widths : List ℕ) → AreAllowed problem bounds widths →
       pos (span_width problem widths s + gap_of problem.style) ≤ℤ m
   most-implied m all widths left =
       let step = room-position (gap_of problem.style) widths left_of right_of (span-within problem keeps.sound s inside).0 in
       let apart = all (places problem widths) left.satisfies in
       omega (arith, ints, step, apart)
 
-  pub implied-most : (m : ℤ) → ((widths : List ℕ) → IsLeft problem bounds widths →
+  pub implied-most : (m : ℤ) → ((widths : List ℕ) → AreAllowed problem bounds widths →
       pos (span_width problem widths s + gap_of problem.style) ≤ℤ m) →
-      Implied bounds left_of right_of m
+      Implies bounds left_of right_of m
   implied-most m all x meets =
       let span = span-within problem keeps.sound s inside in
       let at = left-room problem bounds keeps.page left_of right_of span.0 span.1 x meets in
       let small = all (widths_of x (gap_of problem.style) problem.cols) (left-from problem bounds keeps.page x meets) in
       omega (arith, ints, at, small)
 
-  pub least-implied : (m n : ℤ) → n ≡ neg_ℤ m → Implied bounds right_of left_of n → (widths : List ℕ) →
-      IsLeft problem bounds widths →
+  pub least-implied : (m n : ℤ) → n ≡ neg_ℤ m → Implies bounds right_of left_of n → (widths : List ℕ) →
+      AreAllowed problem bounds widths →
       m ≤ℤ pos (span_width problem widths s + gap_of problem.style)
   least-implied m n is all widths left =
       let step = room-position (gap_of problem.style) widths left_of right_of (span-within problem keeps.sound s inside).0 in
@@ -123,8 +123,8 @@ module _ (problem : ProblemModel) (bounds : Bounds) (keeps : IsMatrixOf problem 
       omega (arith, ints, step, apart, is)
 
   pub implied-least : (m n : ℤ) → n ≡ neg_ℤ m →
-      ((widths : List ℕ) → IsLeft problem bounds widths → m ≤ℤ pos (span_width problem widths s + gap_of problem.style)) →
-      Implied bounds right_of left_of n
+      ((widths : List ℕ) → AreAllowed problem bounds widths → m ≤ℤ pos (span_width problem widths s + gap_of problem.style)) →
+      Implies bounds right_of left_of n
   implied-least m n is all x meets =
       let span = span-within problem keeps.sound s inside in
       let at = left-room problem bounds keeps.page left_of right_of span.0 span.1 x meets in

@@ -8,13 +8,14 @@ use Rattle.tl_diff.specs.Marks.{MarkedBounds}
 use Rattle.tl_problem.specs.Problem.{ProblemModel}
 use Rattle.tl_problem.specs.Spans.{spans_of}
 use Rattle.tl_problem.specs.Zones.{span_at, span_width}
-use Rattle.tl_problem.specs.Works.{IsLeft}
+use Rattle.tl_problem.specs.Works.{AreAllowed}
 use Rattle.tl_cert.specs.declared.log.Bound.{Bound}
 use Rattle.tl_cert.specs.declared.log.Side.{Side}
 use Rattle.tl_cert.specs.declared.log.Side.TheVariants.{Most, Least}
 use Rattle.tl_cert.specs.Nogoods.{IsOnSide, IsPast, Meets, Breaks}
 use Rattle.tl_cert.specs.Implied.{Implied}
-use Rattle.tl_check.specs.inner.Matrices.{IsMatrixOf, Restricts}
+use Rattle.tl_check.specs.Matrices.{IsMatrixOf}
+use Rattle.tl_check.specs.inner.Matrices.{Restricts}
 use Rattle.tl_check.proofs.Rooms.{near-to, near-from, apart-to, apart-from, past-to, past-from, below-to, below-from}
 use Rattle.tl_check.proofs.Rooms.{room-few, most-implied, implied-most, least-implied, implied-least}
 use Rattle.tl_check.proofs.Leaving.{Restricts-same}
@@ -45,12 +46,12 @@ module _ (problem : ProblemModel) (bound : Bound) (inside : bound.span < length 
   side_past side is widths on = subst (λ t. IsPast t bound.width (room_of widths)) is on
 
   module _ (bounds : Bounds) (keeps : IsMatrixOf problem bounds) where
-    few : (widths : List ℕ) → IsLeft problem bounds widths → room_of widths ≤ MAX_PAGE_WIDTH
+    few : (widths : List ℕ) → AreAllowed problem bounds widths → room_of widths ≤ MAX_PAGE_WIDTH
     few widths left = room-few problem bounds keeps bound.span inside widths left
 
     pub decided-most : bound.side ≡ Most → (m : ℤ) → m ≡ pos (cut + gap) → (r : Bool) →
-        (IsTrue r ↔ follows.Implied bounds (span_at problem bound.span).left (span_at problem bound.span).right m) →
-        (IsTrue r ↔ Implied problem (IsLeft problem bounds) bound)
+        (IsTrue r ↔ follows.Implies bounds (span_at problem bound.span).left (span_at problem bound.span).right m) →
+        (IsTrue r ↔ Implied problem (AreAllowed problem bounds) bound)
     decided-most side m is r near = (
       λ yes widths left. on_side Most side widths (near-to (room_of widths) gap bound.width cut (few widths left) same past m is
           (most-implied problem bounds keeps bound.span inside m (near.0 yes) widths left)),
@@ -60,8 +61,8 @@ module _ (problem : ProblemModel) (bound : Bound) (inside : bound.span < length 
     )
 
     pub decided-least : bound.side ≡ Least → (m n : ℤ) → m ≡ pos (cut + gap) → n ≡ neg_ℤ m → (r : Bool) →
-        (IsTrue r ↔ follows.Implied bounds (span_at problem bound.span).right (span_at problem bound.span).left n) →
-        (IsTrue r ↔ Implied problem (IsLeft problem bounds) bound)
+        (IsTrue r ↔ follows.Implies bounds (span_at problem bound.span).right (span_at problem bound.span).left n) →
+        (IsTrue r ↔ Implied problem (AreAllowed problem bounds) bound)
     decided-least side m n is neg r near = (
       λ yes widths left. on_side Least side widths (apart-to (room_of widths) gap bound.width cut (few widths left) same past m is
           (least-implied problem bounds keeps bound.span inside m n neg (near.0 yes) widths left)),
@@ -71,7 +72,7 @@ module _ (problem : ProblemModel) (bound : Bound) (inside : bound.span < length 
     )
 
   module _ (old new : MarkedBounds) (keeps : IsMatrixOf problem old.bounds) (m : ℤ) where
-    few_left : (widths : List ℕ) → IsLeft problem old.bounds widths → room_of widths ≤ MAX_PAGE_WIDTH
+    few_left : (widths : List ℕ) → AreAllowed problem old.bounds widths → room_of widths ≤ MAX_PAGE_WIDTH
     few_left widths left = room-few problem old.bounds keeps bound.span inside widths left
 
     abbrev AtMost : List ℕ → Type 0

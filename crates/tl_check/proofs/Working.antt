@@ -25,11 +25,11 @@ use Rattle.tl_problem.proofs.SetLaws.{found_bound-same}
 use Rattle.tl_cert.specs.declared.trace.CutAt.{CutAt}
 use Rattle.tl_cert.specs.Nogoods.{Meets, Breaks, zone_bounds}
 use Rattle.tl_cert.specs.Traces.{Stands, zone_of}
-use Rattle.tl_cert.specs.Worked.{IsBoundOf, IsClosed, IsWorkedBelow}
+use Rattle.tl_cert.specs.Worked.{IsBoundOf, IsClosedZone, IsWorkedBelow}
 use Rattle.tl_cert.specs.declared.log.LogLine.{LogLine}
 use Rattle.tl_check.specs.Verdicts.{IsGoodAt}
 use Rattle.tl_cert.proofs.ZoneBounds.{zone-meets, zone-from_meets}
-use Rattle.tl_check.specs.inner.Matrices.{Describes}
+use Rattle.tl_check.specs.Matrices.{Describes}
 use Rattle.tl_check.specs.inner.Traces.{CutsAreNeeded, IsEnough, AllClosed, SpanDiffers, HasOpening}
 
 -- a work of a page leaves what no bound restricts
@@ -48,9 +48,10 @@ page-describes problem work h = record {
 -- the bound of what is left under a zone's bounds is that of the zone
 pub zone-bound : (problem : ProblemModel) → IsSound problem → (zone : List Range) → IsZone problem zone → (bounds : Bounds) →
     Describes problem (zone_bounds problem zone) [] bounds → (o : Option ℕ) →
-    MatchOption o (HasNoWidths (works.IsLeft problem bounds)) (IsBound problem (works.IsLeft problem bounds)) →
+    MatchOption o (HasNoWidths (works.AreAllowed problem bounds)) (IsBound problem (works.AreAllowed problem bounds)) →
     MatchOption o (HasNoWidths (InZone problem zone)) (IsBound problem (InZone problem zone))
-zone-bound problem sound zone is bounds d o found = found_bound-same problem (works.IsLeft problem bounds) (InZone problem zone)
+zone-bound problem sound zone is bounds d o found =
+    found_bound-same problem (works.AreAllowed problem bounds) (InZone problem zone)
     (λ widths left. let h = d.to widths left in zone-from_meets problem sound zone is widths h.page h.meets)
     (λ widths inside. d.from widths
     (record {
@@ -102,24 +103,24 @@ enough-next problem trace lower z before here (zone, bound, within, stands, is, 
     ]
 
 pub closed-next : (problem : ProblemModel) (trace : List CutAt) (height z : ℕ) → AllClosed problem trace height z →
-    (Stands trace z → IsClosed problem (zone_of problem trace z) height) → AllClosed problem trace height (z + 1)
+    (Stands trace z → IsClosedZone problem (zone_of problem trace z) height) → AllClosed problem trace height (z + 1)
 closed-next problem trace height z before here zone within stands =
     elim (cases_lt zone z) [
       | inl old ↦ before zone old stands
       | inr last ↦
           let same : z ≡ zone = omega (arith, within, last) in
-          subst (λ n. IsClosed problem (zone_of problem trace n) height) same (here (subst (Stands trace) (sym same) stands))
+          subst (λ n. IsClosedZone problem (zone_of problem trace n) height) same (here (subst (Stands trace) (sym same) stands))
     ]
 
 -- ---- a zone is closed
 
 pub closed-none : (problem : ProblemModel) (zone : List Range) (height : ℕ) → HasNoWidths (InZone problem zone) →
-    IsClosed problem zone height
+    IsClosedZone problem zone height
 closed-none problem zone height none = inl none
 
 pub closed-some : (problem : ProblemModel) (zone : List Range) (height bound : ℕ) →
     IsBound problem (InZone problem zone) bound → bound < height →
-    IsClosed problem zone height → HasOneClass zone × DifferIn problem zone
+    IsClosedZone problem zone height → HasOneClass zone × DifferIn problem zone
 closed-some problem zone height bound is low (inl none) = absurd (none is.some.0 is.some.1)
 closed-some problem zone height bound is low (inr (inl (other, also, enough))) =
     absurd (omega (arith, low, enough, bound-unique problem (InZone problem zone) bound other is also))

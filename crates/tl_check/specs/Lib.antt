@@ -1,3 +1,4 @@
 pub mod Checkers
+pub mod Matrices
 pub mod Verdicts
 pub mod inner

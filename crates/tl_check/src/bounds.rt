@@ -6,11 +6,12 @@ ghost use Rattle.tl_base.specs.Style.{gap_of};
 ghost use Rattle.tl_diff.specs.Bounds as follows;
 ghost use Rattle.tl_diff.specs.Bounds.{IsSatisfiable};
 ghost use Rattle.tl_problem.specs.Spans.{spans_of};
-ghost use Rattle.tl_problem.specs.Works.{IsLeft};
+ghost use Rattle.tl_problem.specs.Works.{AreAllowed};
 ghost use Rattle.tl_problem.specs.Zones.{span_at, span_width};
 ghost use Rattle.tl_cert.specs.Implied.{Implied};
 ghost use Rattle.tl_cert.specs.Nogoods.{Breaks, Meets};
-ghost use Rattle.tl_check.specs.inner.Matrices.{IsMatrixOf, Restricts};
+ghost use Rattle.tl_check.specs.Matrices.{IsMatrixOf};
+ghost use Rattle.tl_check.specs.inner.Matrices.{Restricts};
 
 use tl_base::MAX_PAGE_WIDTH;
 use tl_cert::{Bound, Side};
@@ -38,7 +39,7 @@ fn span_of(problem: &Problem, bound: Bound) -> Span
 pub fn is_implied(problem: &Problem, matrix: &Matrix, bound: Bound) -> bool
     requires span { bound.span < length (spans_of problem.now) }
     requires keeps { IsMatrixOf problem.now matrix.now.bounds }
-    ensures { IsTrue result ↔ Implied problem.now (IsLeft problem.now matrix.now.bounds) bound }
+    ensures { IsTrue result ↔ Implied problem.now (AreAllowed problem.now matrix.now.bounds) bound }
 {
     if !matrix.holds() {
         return true;
@@ -58,7 +59,7 @@ fn is_near(matrix: &Matrix, a: u32, b: u32, most: i32) -> bool
     requires low { neg_ℤ (pos MAX_BOUND) ≤ℤ most }
     requires high { most ≤ℤ pos MAX_BOUND }
     requires holds { IsSatisfiable matrix.now.bounds }
-    ensures { IsTrue result ↔ follows.Implied matrix.now.bounds a b most }
+    ensures { IsTrue result ↔ follows.Implies matrix.now.bounds a b most }
 {
     is_up_to(matrix.upper(a, b), most)
 }

@@ -7,7 +7,7 @@ ghost use Rattle.tl_cert.specs.Lines.{fired, nogood_at};
 ghost use Rattle.tl_cert.specs.Nogoods.{NamesAreThere, nogood_bounds};
 ghost use Rattle.tl_cert.specs.Traces.{IsTraceOf};
 ghost use Rattle.tl_check.specs.inner.Firing.{LeadsTo, NeverFires};
-ghost use Rattle.tl_check.specs.inner.Matrices.{Describes, IsMatrixOf, KeepsMarks};
+ghost use Rattle.tl_check.specs.Matrices.{Describes, IsMatrixOf, KeepsMarks};
 
 use crate::bounds::keep_broken;
 use crate::left::{Left, left_of};

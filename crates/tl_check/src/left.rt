@@ -4,13 +4,14 @@ ghost use Rattle.std.specs.Prelude.{◌≡◌, ◌<◌, List, [], ◌∷◌, ◌
 ghost use Rattle.std.specs.List.{All};
 ghost use Rattle.std.specs.Option.{ForSome};
 ghost use Rattle.tl_problem.specs.Spans.{spans_of};
-ghost use Rattle.tl_problem.specs.Works.{IsLeft};
+ghost use Rattle.tl_problem.specs.Works.{AreAllowed};
 ghost use Rattle.tl_problem.specs.Zones.{range_at};
 ghost use Rattle.tl_cert.specs.Nogoods.{NamesAreThere, nogood_bounds, range_bounds, zone_bounds};
 ghost use Rattle.tl_cert.specs.Traces.{IsTraceOf, IsZoneOf, zone_of};
 ghost use Rattle.tl_cert.specs.declared.log.Bound.{Bound as B};
 ghost use Rattle.tl_check.specs.inner.Firing.{HasLeft};
-ghost use Rattle.tl_check.specs.inner.Matrices.{IsMatrixOf, some_list};
+ghost use Rattle.tl_check.specs.Matrices.{IsMatrixOf};
+ghost use Rattle.tl_check.specs.inner.Matrices.{some_list};
 
 use crate::bounds::is_implied;
 use crate::zones::{lower_bound, part_bound, upper_bound, zone_range};
@@ -33,8 +34,8 @@ pub enum Left {
 fn left_with(problem: &Problem, matrix: &Matrix, left: Left, bound: Bound) -> Left
     requires span { bound.span < length (spans_of problem.now) }
     requires keeps { IsMatrixOf problem.now matrix.now.bounds }
-    ensures { (nogood : List B) → HasLeft problem.now (IsLeft problem.now matrix.now.bounds) nogood left →
-        HasLeft problem.now (IsLeft problem.now matrix.now.bounds) (nogood ++ bound ∷ []) result }
+    ensures { (nogood : List B) → HasLeft problem.now (AreAllowed problem.now matrix.now.bounds) nogood left →
+        HasLeft problem.now (AreAllowed problem.now matrix.now.bounds) (nogood ++ bound ∷ []) result }
 {
     if is_implied(problem, matrix, bound) {
         return left;
@@ -72,8 +73,8 @@ fn is_same(one: Bound, other: Bound) -> bool
 fn left_with_some(problem: &Problem, matrix: &Matrix, left: Left, bound: Option<Bound>) -> Left
     requires span { ForSome bound (λ bound. bound.span < length (spans_of problem.now)) }
     requires keeps { IsMatrixOf problem.now matrix.now.bounds }
-    ensures { (nogood : List B) → HasLeft problem.now (IsLeft problem.now matrix.now.bounds) nogood left →
-        HasLeft problem.now (IsLeft problem.now matrix.now.bounds) (nogood ++ some_list bound) result }
+    ensures { (nogood : List B) → HasLeft problem.now (AreAllowed problem.now matrix.now.bounds) nogood left →
+        HasLeft problem.now (AreAllowed problem.now matrix.now.bounds) (nogood ++ some_list bound) result }
 {
     match bound {
         Some(bound) => left_with(problem, matrix, left, bound),
@@ -85,7 +86,7 @@ fn left_with_some(problem: &Problem, matrix: &Matrix, left: Left, bound: Option<
 fn left_of_bounds(problem: &Problem, matrix: &Matrix, bounds: &[Bound]) -> Left
     requires spans { All (λ bound. bound.span < length (spans_of problem.now)) bounds.now }
     requires keeps { IsMatrixOf problem.now matrix.now.bounds }
-    ensures { HasLeft problem.now (IsLeft problem.now matrix.now.bounds) bounds.now result }
+    ensures { HasLeft problem.now (AreAllowed problem.now matrix.now.bounds) bounds.now result }
 {
     let mut left = Left::Nothing;
     'bounds: for bound in bounds {
@@ -107,8 +108,8 @@ fn left_with_span(
     requires zone { IsZoneOf trace.now z }
     requires span { s < length (spans_of problem.now) }
     requires keeps { IsMatrixOf problem.now matrix.now.bounds }
-    ensures { (nogood : List B) → HasLeft problem.now (IsLeft problem.now matrix.now.bounds) nogood left →
-        HasLeft problem.now (IsLeft problem.now matrix.now.bounds)
+    ensures { (nogood : List B) → HasLeft problem.now (AreAllowed problem.now matrix.now.bounds) nogood left →
+        HasLeft problem.now (AreAllowed problem.now matrix.now.bounds)
         (nogood ++ range_bounds problem.now s (range_at (zone_of problem.now trace.now z) s)) result }
 {
     let range = zone_range(problem, trace, z, s);
@@ -122,7 +123,7 @@ fn left_of_zone(problem: &Problem, trace: &[CutAt], z: u32, matrix: &Matrix) -> 
     requires trace { IsTraceOf problem.now trace.now }
     requires zone { IsZoneOf trace.now z }
     requires keeps { IsMatrixOf problem.now matrix.now.bounds }
-    ensures { HasLeft problem.now (IsLeft problem.now matrix.now.bounds)
+    ensures { HasLeft problem.now (AreAllowed problem.now matrix.now.bounds)
         (zone_bounds problem.now (zone_of problem.now trace.now z)) result }
 {
     let mut left = Left::Nothing;
@@ -145,7 +146,7 @@ pub fn left_of(problem: &Problem, trace: &[CutAt], nogood: &Nogood, matrix: &Mat
     requires trace { IsTraceOf problem.now trace.now }
     requires names { NamesAreThere problem.now trace.now nogood.now }
     requires keeps { IsMatrixOf problem.now matrix.now.bounds }
-    ensures { HasLeft problem.now (IsLeft problem.now matrix.now.bounds)
+    ensures { HasLeft problem.now (AreAllowed problem.now matrix.now.bounds)
         (nogood_bounds problem.now trace.now nogood.now) result }
 {
     match nogood {

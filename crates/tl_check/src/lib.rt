@@ -10,8 +10,12 @@ mod firing;
 mod left;
 mod line;
 mod nogoods;
+mod ranges;
 mod traces;
 mod worked;
 mod zones;
 
+pub use bounds::is_implied;
 pub use checker::Checker;
+pub use nogoods::is_empty_nogood;
+pub use ranges::{bounds_of_zone, keep_ranges};

@@ -2,13 +2,13 @@
 
 ghost use Rattle.std.specs.Prelude.{◌≡◌, ◌<◌, ◌≤◌, length, IsTrue, IsSomeAnd, ◌↔◌, true, false};
 ghost use Rattle.std.specs.List.{All};
-ghost use Rattle.tl_problem.specs.Works.{HasPage, IsLeft, IsWorkOf};
-ghost use Rattle.tl_cert.specs.Lines.{EndsBy, IsGoodLine, fired, nogood_at};
+ghost use Rattle.tl_problem.specs.Works.{HasPage, AreAllowed, IsWorkOf};
+ghost use Rattle.tl_cert.specs.Lines.{LineEndsBy, IsGoodLine, fired, nogood_at};
 ghost use Rattle.tl_cert.specs.Nogoods.{NamesAreThere};
 ghost use Rattle.tl_cert.specs.Traces.{IsTraceOf};
 ghost use Rattle.tl_cert.specs.declared.log.End.TheVariants.{Fired};
 ghost use Rattle.tl_check.specs.inner.Firing.{LeadsToEnd};
-ghost use Rattle.tl_check.specs.inner.Matrices.{IsMatrixOf, KeepsMarks};
+ghost use Rattle.tl_check.specs.Matrices.{IsMatrixOf, KeepsMarks};
 
 use crate::firing::fire_all;
 use crate::left::{is_nothing, left_of};
@@ -101,7 +101,7 @@ fn ends(
     requires trace { IsTraceOf problem.now trace.now }
     requires lines { All (λ f. (f < length log.now) × NamesAreThere problem.now trace.now (nogood_at log.now f)) line.now.fires }
     requires work_of { IsWorkOf problem.now work.old }
-    ensures ends { IsTrue result ↔ EndsBy problem.now (IsLeft problem.now work.old.matrix.bounds)
+    ensures ends { IsTrue result ↔ LineEndsBy problem.now (AreAllowed problem.now work.old.matrix.bounds)
         (fired problem.now trace.now log.now line.now) lower line.now.end }
     ensures work_of { IsWorkOf problem.now work.new }
     ensures matrix { work.new.matrix ≡ work.old.matrix }
@@ -135,7 +135,7 @@ fn last_is_implied(
     requires trace { IsTraceOf problem.now trace.now }
     requires lines { All (λ f. (f < length log.now) × NamesAreThere problem.now trace.now (nogood_at log.now f)) line.now.fires }
     requires keeps { IsMatrixOf problem.now work.now.matrix.bounds }
-    ensures { IsTrue result ↔ EndsBy problem.now (IsLeft problem.now work.now.matrix.bounds)
+    ensures { IsTrue result ↔ LineEndsBy problem.now (AreAllowed problem.now work.now.matrix.bounds)
         (fired problem.now trace.now log.now line.now) 0 Fired }
 {
     let fires = line.fires.as_slice();

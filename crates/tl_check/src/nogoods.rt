@@ -6,7 +6,7 @@ ghost use Rattle.tl_problem.specs.Sound.{IsSound};
 ghost use Rattle.tl_problem.specs.Spans.{spans_of};
 ghost use Rattle.tl_cert.specs.Nogoods.{NamesAreThere, nogood_bounds, zone_bounds};
 ghost use Rattle.tl_cert.specs.Traces.{IsTraceOf, IsZoneOf, zone_of};
-ghost use Rattle.tl_check.specs.inner.Matrices.{Describes, KeepsMarks};
+ghost use Rattle.tl_check.specs.Matrices.{Describes, KeepsMarks};
 
 use crate::bounds::keep_met;
 use crate::zones::{last_class, part_bound, span_count, zone_range};

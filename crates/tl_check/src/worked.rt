@@ -9,7 +9,7 @@ ghost use Rattle.tl_problem.specs.Spans.{spans_of};
 ghost use Rattle.tl_problem.specs.Works.{HasPage};
 ghost use Rattle.tl_problem.specs.Zones.{InZone, classes_at, first_in_class, last_in_class};
 ghost use Rattle.tl_cert.specs.Traces.{IsTraceOf, IsZoneOf, zone_of};
-ghost use Rattle.tl_cert.specs.Worked.{IsClosed, IsWorkedBelow};
+ghost use Rattle.tl_cert.specs.Worked.{IsClosedZone, IsWorkedBelow};
 ghost use Rattle.tl_check.specs.inner.Traces.{AllClosed, AreFlags, CellDiffers, CutsAreNeeded, HasOpening, IsEnough, SpanDiffers};
 
 use crate::nogoods::keep_zone;
@@ -169,7 +169,7 @@ fn is_closed(problem: &Problem, trace: &[CutAt], z: u32, height: u32, work: &mut
     requires zone { IsZoneOf trace.now z }
     requires page { HasPage problem.now work.old }
     requires mark { length work.old.matrix.held < work.old.matrix.marks }
-    ensures closed { IsTrue result ↔ IsClosed problem.now (zone_of problem.now trace.now z) height }
+    ensures closed { IsTrue result ↔ IsClosedZone problem.now (zone_of problem.now trace.now z) height }
     ensures page { HasPage problem.now work.new }
     ensures matrix { work.new.matrix ≡ work.old.matrix }
 {

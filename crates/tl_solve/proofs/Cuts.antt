@@ -5,7 +5,8 @@ use Rattle.std.proofs.lemmas.Bool.{cases_lt}
 use Rattle.std.proofs.lemmas.List.{get_or-set_same, get_or-set_other, length-set, get_or_default}
 use Rattle.tl_problem.proofs.ZoneLaws.{cases_eq}
 use Rattle.tl_cert.specs.declared.trace.CutAt.{CutAt}
-use Rattle.tl_solve.specs.inner.Found.{IsCutFound, AreCutsOf, ArePartsThere}
+use Rattle.tl_solve.specs.CutsFound.{IsCutFound, AreCutsOf}
+use Rattle.tl_solve.specs.inner.Found.{ArePartsThere}
 
 module _ (trace : List CutAt) (upto : ℕ) (d : CutAt) (within : upto < length trace) where
   -- the next cut leaves other zones as they are

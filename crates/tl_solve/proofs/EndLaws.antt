@@ -12,7 +12,8 @@ use Rattle.tl_solve.specs.declared.arena.Arena.{Arena}
 use Rattle.tl_solve.specs.Arenas.{IsBoundFound, AreBoundsOf, IsArenaOf}
 use Rattle.tl_solve.specs.Ends.{HasBoundUpTo, IsLeastStanding, MayEnd}
 use Rattle.tl_solve.specs.Logs.{Proves}
-use Rattle.tl_solve.specs.inner.Found.{IsCutFound, AreCutsOf, least_with, IsLeastUpto}
+use Rattle.tl_solve.specs.CutsFound.{IsCutFound, AreCutsOf}
+use Rattle.tl_solve.specs.inner.Found.{least_with, IsLeastUpto}
 
 -- ---- one zone more
 

@@ -9,7 +9,8 @@ use Rattle.std.proofs.Common.{◌≡◌, ℕ, ◌+◌, ◌*◌, ◌<◌, List, [
 use Rattle.tl_problem.specs.declared.zone.Range.{Range}
 use Rattle.tl_problem.specs.Zones.{range}
 use Rattle.tl_cert.specs.declared.trace.CutAt.{CutAt}
-use Rattle.tl_solve.specs.Orders.{IsFirstCut, ComesFrom, itself, lower, upper, ZoneComesBefore, Follows}
+use Rattle.tl_cert.specs.ZoneOrders.{ComesFrom, itself, lower, upper, ZoneComesBefore}
+use Rattle.tl_solve.specs.Orders.{IsFirstCut, Follows}
 
 abbrev lower_first : List CutAt
 lower_first = record { zone = 0; span = 0; class = 0 } ∷ record { zone = 1; span = 0; class = 0 } ∷ record {

@@ -13,7 +13,7 @@ use Rattle.tl_problem.proofs.SpanningLemmas.{rising-at, spans-few}
 use Rattle.tl_problem.proofs.ZoneLaws.{whole-is_zone}
 use Rattle.tl_cert.specs.declared.limits.TheConstants.{MAX_ZONE, MAX_SPAN, MAX_CLASS}
 use Rattle.tl_cert.specs.declared.trace.CutAt.{CutAt}
-use Rattle.tl_cert.specs.Pieces.{field, word, IsWithin, AllWithin}
+use Rattle.tl_cert.specs.Pieces.{field, word, IsPieceInRange, AllWithin}
 use Rattle.tl_cert.specs.Text.{space, line_feed, cut_pieces, IsTraceWritable}
 use Rattle.tl_cert.specs.Traces.{IsTraceOf, zone_of, IsCut}
 use Rattle.tl_cert.proofs.TraceLaws.{trace-by, zones-are}
@@ -47,19 +47,20 @@ cut-within cut zone span class =
     let first : AllWithin (field 0 MAX_ZONE cut.zone space ++
     (field 0 MAX_SPAN cut.span space ++ field 0 MAX_CLASS cut.class line_feed)) =
     ((omega arith, zone), (tt, second)) in
-    AllByRecursion-append IsWithin (word (codes "cut ")) (field 0 MAX_ZONE cut.zone space ++ (field 0 MAX_SPAN cut.span space
+    AllByRecursion-append IsPieceInRange (word (codes "cut "))
+    (field 0 MAX_ZONE cut.zone space ++ (field 0 MAX_SPAN cut.span space
     ++ field 0 MAX_CLASS cut.class line_feed)) (within-word (codes "cut ")) first
 
 pub trace-writable : (problem : ProblemModel) → IsSound problem → (trace : List CutAt) → IsTraceOf problem trace →
     length trace ≤ MAX_BUDGET →
     IsTraceWritable trace
 trace-writable problem sound trace is few =
-    (few, all-flat_map IsWithin cut_pieces trace (trace-by (whole_zone problem) AllCuts none more trace is few)) where
+    (few, all-flat_map IsPieceInRange cut_pieces trace (trace-by (whole_zone problem) AllCuts none more trace is few)) where
       AllCuts : List CutAt → Type 0
-      AllCuts cuts = length cuts ≤ MAX_BUDGET → All (λ cut. AllByRecursion IsWithin (cut_pieces cut)) cuts
+      AllCuts cuts = length cuts ≤ MAX_BUDGET → All (λ cut. AllByRecursion IsPieceInRange (cut_pieces cut)) cuts
 
       none : AllCuts []
-      none short = All-nil (λ (cut : CutAt). AllByRecursion IsWithin (cut_pieces cut))
+      none short = All-nil (λ (cut : CutAt). AllByRecursion IsPieceInRange (cut_pieces cut))
 
       more : (cuts : List CutAt) (cut : CutAt) → IsTraceOf problem cuts → IsCut (whole_zone problem) cuts cut → AllCuts cuts →
           AllCuts (cuts ++ cut ∷ [])
@@ -72,4 +73,4 @@ trace-writable problem sound trace is few =
           let here = cut-within cut (omega (arith, now.stands.there, short, count))
           (omega (arith, now.span, spans, spans-few problem sound))
           (class-few problem sound cut.span cut.class (omega (arith, now.upper, range.1))) in
-          All-push (λ c. AllByRecursion IsWithin (cut_pieces c)) cuts cut (all (omega (arith, short, count))) here
+          All-push (λ c. AllByRecursion IsPieceInRange (cut_pieces c)) cuts cut (all (omega (arith, short, count))) here

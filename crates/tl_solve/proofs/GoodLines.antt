@@ -21,29 +21,30 @@ use Rattle.tl_cert.specs.declared.trace.CutAt.{CutAt}
 use Rattle.tl_cert.specs.Traces.{zone_of, Stands, IsTraceOf}
 use Rattle.tl_cert.specs.Nogoods.{zone_bounds, nogood_bounds, NamesAreThere, at_most}
 use Rattle.tl_cert.specs.Implied.{IsLeft, Implied, OneLeft}
-use Rattle.tl_cert.specs.Lines.{nogood_at, EndsBy, IsGoodLine, IsGoodLog}
+use Rattle.tl_cert.specs.Lines.{nogood_at, LineEndsBy, IsGoodLine, IsGoodLog}
 use Rattle.tl_cert.proofs.TraceLaws.{zones-are}
 use Rattle.tl_cert.proofs.CutParts.{HasParts, has-parts, first-whole, no_cut}
 use Rattle.tl_solve.specs.Logs.{Proves}
 use Rattle.tl_solve.specs.Arenas.{IsBoundFound, AreBoundsOf}
-use Rattle.tl_solve.specs.inner.Found.{IsCutFound, AreCutsOf}
-use Rattle.tl_solve.specs.inner.Shapes.{closing_end, closing_line_of, firing_line_of, line_of, AreLinesOf}
+use Rattle.tl_solve.specs.CutsFound.{IsCutFound, AreCutsOf}
+use Rattle.tl_solve.specs.inner.Shapes.{closing_end, closing_line_of, firing_line_of, line_by_cut, AreLinesOf}
 use Rattle.tl_solve.proofs.Firing.{left-inside, inside-left, lower-implied, upper-implied, lower-but_one, whole-bounds}
 
 -- ---- a zone that stands
 
 module _ (problem : ProblemModel) (sound : IsSound problem) (zone : List Range) (is : IsZone problem zone) (lower : ℕ) where
   closing-ends : (found : Option ℕ) → IsBoundFound problem zone found → Proves problem zone lower →
-      EndsBy problem (IsLeft problem (zone_bounds problem zone) []) [] lower (closing_end found lower)
+      LineEndsBy problem (IsLeft problem (zone_bounds problem zone) []) [] lower (closing_end found lower)
   closing-ends None none proves = λ widths left. none widths (left-inside problem sound zone is [] widths left)
   closing-ends (Some bound) found proves =
       let there = inside-left problem sound zone is in
       let back = left-inside problem sound zone is [] in
       let Among = IsLeft problem (zone_bounds problem zone) [] in
       elim (cases_lt bound lower) [
-        | inr high ↦ subst (λ t. EndsBy problem Among [] lower (if t then Chain else Area)) (sym (test_le lower bound high))
+        | inr high ↦ subst (λ t. LineEndsBy problem Among [] lower (if t then Chain else Area)) (sym (test_le lower bound high))
             (bound, bound-same problem (InZone problem zone) Among there back bound found, high)
-        | inl low ↦ subst (λ t. EndsBy problem Among [] lower (if t then Chain else Area)) (sym (test_le_false lower bound low))
+        | inl low ↦ subst (λ t. LineEndsBy problem Among [] lower (if t then Chain else Area))
+            (sym (test_le_false lower bound low))
             (elim proves [
               | inl none ↦ absurd (none found.some.0 found.some.1)
               | inr (inl other) ↦
@@ -173,7 +174,7 @@ module _ (problem : ProblemModel) (sound : IsSound problem) (trace : List CutAt)
 -- ---- the whole log
 
 line-nogood : (last lower z : ℕ) (bounds : List (Option ℕ)) (found : Option ℕ) →
-    (line_of last bounds lower z found).nogood ≡ Zone z
+    (line_by_cut last bounds lower z found).nogood ≡ Zone z
 line-nogood last lower z bounds None = refl
 line-nogood last lower z bounds (Some cut) = refl
 
@@ -191,7 +192,7 @@ log-good problem sound trace is lower standing cuts bounds are_bounds are_cuts l
           ∙ line-nogood (2 * length trace) lower (2 * length trace - f) bounds (get_or cuts (2 * length trace - f) None)
 
       by_cut : (k : ℕ) → k < length log → (found : Option ℕ) → IsCutFound trace (length trace) (2 * length trace - k) found →
-          IsGoodLine problem trace log lower k (line_of (2 * length trace) bounds lower (2 * length trace - k) found)
+          IsGoodLine problem trace log lower k (line_by_cut (2 * length trace) bounds lower (2 * length trace - k) found)
       by_cut k within None none =
           let z = 2 * length trace - k in
           let there : z < 2 * length trace + 1 = omega arith in
@@ -204,7 +205,7 @@ log-good problem sound trace is lower standing cuts bounds are_bounds are_cuts l
           let same : cut.zone ≡ z = cut_there.1 no_cut in
           let small : k ≤ 2 * length trace = omega (arith, within, lines.count) in
           let inside : i < length trace = cut_there.0 in
-          subst (λ n. IsGoodLine problem trace log lower k (line_of (2 * length trace) bounds lower n (Some i))) same
+          subst (λ n. IsGoodLine problem trace log lower k (line_by_cut (2 * length trace) bounds lower n (Some i))) same
           (firing-good problem sound trace is log lower nogoods i k cut (get_or bounds (2 * i + 2) None) inside
           (has-parts (whole_zone problem) trace is i no_cut inside) (omega (arith, same, small)) (omega (arith, within))
           (are_bounds.each (2 * i + 2) None (omega (arith, inside, are_bounds.count))))

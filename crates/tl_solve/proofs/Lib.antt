@@ -1,8 +1,8 @@
 mod Examples
 mod LogExamples
-mod Firing
-mod GoodLines
-mod Writable
+pub mod Firing
+pub mod GoodLines
+pub mod Writable
 mod TraceLogLaws
 mod Cuts
 mod ZoneLists

@@ -4,7 +4,8 @@ use Rattle.std.proofs.Common.{length-append}
 use Rattle.std.proofs.lemmas.Bool.{cases_lt}
 use Rattle.std.proofs.lemmas.List.{take_all, take-append-le, get_or_append_left, get_or-append-add}
 use Rattle.tl_cert.specs.declared.trace.CutAt.{CutAt}
-use Rattle.tl_solve.specs.Orders.{AtEachCut, ComesFrom, itself, lower, upper, ZoneComesBefore, Follows}
+use Rattle.tl_cert.specs.ZoneOrders.{AtEachCut, ComesFrom, itself, lower, upper, ZoneComesBefore}
+use Rattle.tl_solve.specs.Orders.{Follows}
 
 -- what holds at each cut of a trace, and at a further cut, holds at each cut of both
 pub at-each-push : (Holds : List CutAt → CutAt → Type 0) (trace : List CutAt) (cut : CutAt) → AtEachCut Holds trace →

@@ -20,8 +20,8 @@ use Rattle.tl_cert.proofs.CutParts.{HasParts, has-parts, no_cut}
 use Rattle.tl_solve.specs.Logs.{Proves}
 use Rattle.tl_solve.specs.Arenas.{IsBoundFound, AreBoundsOf}
 use Rattle.tl_solve.specs.TraceLogs.{line_number, line_of_zone, EndsStanding, IsStandingLine, AllLieIn, IsCutLine, IsTraceLog}
-use Rattle.tl_solve.specs.inner.Found.{IsCutFound, AreCutsOf}
-use Rattle.tl_solve.specs.inner.Shapes.{closing_end, firing_line_of, line_of, AreLinesOf}
+use Rattle.tl_solve.specs.CutsFound.{IsCutFound, AreCutsOf}
+use Rattle.tl_solve.specs.inner.Shapes.{closing_end, firing_line_of, line_by_cut, AreLinesOf}
 use Rattle.tl_solve.proofs.Firing.{low_room, high_room}
 
 -- ---- a zone is cut by one cut alone
@@ -113,18 +113,19 @@ module _ (problem : ProblemModel) (sound : IsSound problem) (trace : List CutAt)
 
 module _ (problem : ProblemModel) (sound : IsSound problem) (trace : List CutAt) (is : IsTraceOf problem trace) (lower : ℕ)
     (proves : (z : ℕ) → Stands trace z → Proves problem (zone_of problem trace z) lower)
-    (cuts bounds : List (Option ℕ)) (are_bounds : AreBoundsOf problem trace bounds) (are_cuts : AreCutsOf trace (length trace) cuts)
-    (log : List LogLine) (lines : AreLinesOf (2 * length trace) cuts bounds lower (2 * length trace + 1) log) where
+    (cuts bounds : List (Option ℕ)) (are_bounds : AreBoundsOf problem trace bounds)
+    (are_cuts : AreCutsOf trace (length trace) cuts) (log : List LogLine)
+    (lines : AreLinesOf (2 * length trace) cuts bounds lower (2 * length trace + 1) log) where
   -- the line of a zone is made by its cut
   line-of_zone : (z : ℕ) → z < 2 * length trace + 1 →
-      line_of_zone trace log z ≡ line_of (2 * length trace) bounds lower z (get_or cuts z None)
+      line_of_zone trace log z ≡ line_by_cut (2 * length trace) bounds lower z (get_or cuts z None)
   line-of_zone z there =
       let back : 2 * length trace - (2 * length trace - z) ≡ z = omega (arith, there) in
       lines.each (line_number trace z) (record { nogood = Zone 0; fires = []; end = Cycle }) (omega (arith, there))
-      ∙ ap (λ n. line_of (2 * length trace) bounds lower n (get_or cuts n None)) back
+      ∙ ap (λ n. line_by_cut (2 * length trace) bounds lower n (get_or cuts n None)) back
 
   standing-line : (z : ℕ) → Stands trace z → (found : Option ℕ) → IsCutFound trace (length trace) z found →
-      IsStandingLine problem trace lower z (line_of (2 * length trace) bounds lower z found)
+      IsStandingLine problem trace lower z (line_by_cut (2 * length trace) bounds lower z found)
   standing-line z stands None none = record {
     nogood = refl;
     fires = refl;
@@ -136,12 +137,12 @@ module _ (problem : ProblemModel) (sound : IsSound problem) (trace : List CutAt)
   cut-line_of : (i : ℕ) (d : CutAt) → i < length trace → (found : Option ℕ) →
       IsCutFound trace (length trace) (get_or trace i d).zone found →
       IsCutLine problem trace i (get_or trace i d).zone
-      (line_of (2 * length trace) bounds lower (get_or trace i d).zone found)
+      (line_by_cut (2 * length trace) bounds lower (get_or trace i d).zone found)
   cut-line_of i d within None none = absurd (none i d within refl)
   cut-line_of i d within (Some j) found =
       let same : i ≡ j = cut-once (whole_zone problem) trace is i j d within found.0 (sym (found.1 d)) in
       subst (λ n. IsCutLine problem trace i (get_or trace i d).zone
-      (line_of (2 * length trace) bounds lower (get_or trace i d).zone (Some n))) same
+      (line_by_cut (2 * length trace) bounds lower (get_or trace i d).zone (Some n))) same
       (cut-line problem sound trace is i (get_or trace i d) within (has-parts (whole_zone problem) trace is i d within)
       (get_or bounds (2 * i + 2) None) (are_bounds.each (2 * i + 2) None (omega (arith, within, are_bounds.count))))
 

@@ -15,14 +15,15 @@ use Rattle.tl_problem.specs.Zones.{range_at, IsZone, whole_zone}
 use Rattle.tl_problem.proofs.ZoneLaws.{whole-is_zone}
 use Rattle.tl_cert.specs.declared.trace.CutAt.{CutAt}
 use Rattle.tl_cert.specs.Traces.{zone_of, Stands, IsCut, IsTraceOf, IsKeen}
-use Rattle.tl_cert.specs.Worked.{IsClosed, IsBoundOf}
+use Rattle.tl_cert.specs.Worked.{IsClosedZone, IsBoundOf}
 use Rattle.tl_cert.proofs.TraceLaws.{zone-old, zone-cases, stands-old, stood-before, stands-new}
 use Rattle.tl_solve.specs.declared.arena.Arena.{Arena}
 use Rattle.tl_solve.specs.declared.outcome.Outcome.{Outcome}
 use Rattle.tl_solve.specs.Arenas.{HasBoundBelow, IsLowered, IsArenaOf}
 use Rattle.tl_solve.specs.Plain.{IsPlainOutcome}
 use Rattle.tl_solve.specs.TraceLogs.{IsTraceLog}
-use Rattle.tl_solve.specs.Orders.{IsFirstCut, CutsFirstSpans, IsBelowPlacements, CutsBelowPlacements, ComesFrom, ZoneComesBefore}
+use Rattle.tl_cert.specs.ZoneOrders.{ComesFrom, ZoneComesBefore}
+use Rattle.tl_solve.specs.Orders.{IsFirstCut, CutsFirstSpans, IsBelowPlacements, CutsBelowPlacements}
 use Rattle.tl_solve.specs.Orders.{Follows, IsInClassOrder}
 use Rattle.tl_solve.specs.inner.Walk.{IsStack, KeepsClassOrder}
 use Rattle.tl_solve.proofs.OrderLaws.{at-each-push, from-before, follows-from, before-more, follows-more, lower-from, upper-from}
@@ -46,7 +47,7 @@ all-map P Q xs step all i d within = step (get_or xs i d) (all i d within)
 
 -- a zone that is closed for a height is closed for a lower one
 pub closed-lower : (problem : ProblemModel) (zone : List Range) (height best : ℕ) → best ≤ height →
-    IsClosed problem zone height → IsClosed problem zone best
+    IsClosedZone problem zone height → IsClosedZone problem zone best
 closed-lower problem zone height best less (inl none) = inl none
 closed-lower problem zone height best less (inr (inl high)) = inr (inl (high.0, high.1, omega (arith, less, high.2)))
 closed-lower problem zone height best less (inr (inr single)) = inr (inr single)
@@ -102,7 +103,7 @@ module _ (problem : ProblemModel) where
     top-stands = All-last (Stands trace) stack z is.standing
 
     -- its top goes, where that zone is closed
-    pub stack-closed : IsClosed problem (zone_of problem trace z) height → IsStack problem trace height stack
+    pub stack-closed : IsClosedZone problem (zone_of problem trace z) height → IsStack problem trace height stack
     stack-closed done = record {
       standing = All-prefix (Stands trace) stack z is.standing;
       apart = pairs-init (λ under over. (over ≢ under) × ZoneComesBefore trace over under) stack z is.apart;
@@ -112,7 +113,7 @@ module _ (problem : ProblemModel) where
         | inl has ↦ elim (Contains-append_cases stack (z ∷ []) y has) [
           | inl left ↦ inl left
           | inr right ↦ elim (Contains-cases z [] y right) [
-            | inl here ↦ inr (subst (λ n. IsClosed problem (zone_of problem trace n) height) here done)
+            | inl here ↦ inr (subst (λ n. IsClosedZone problem (zone_of problem trace n) height) here done)
             | inr none ↦ absurd (Contains-none y none)
           ]
         ]
@@ -200,7 +201,7 @@ module _ (problem : ProblemModel) where
 
       pub stack-others : (best : ℕ) → best ≤ height → (y : ℕ) → Stands (trace ++ cut ∷ []) y →
           Contains ((stack ++ (2 * length trace + 2) ∷ []) ++ (2 * length trace + 1) ∷ []) y
-          ⊎ IsClosed problem (zone_of problem (trace ++ cut ∷ []) y) best
+          ⊎ IsClosedZone problem (zone_of problem (trace ++ cut ∷ []) y) best
       stack-others best less y stands =
           let high = 2 * length trace + 2 in
           let low = 2 * length trace + 1 in
@@ -208,7 +209,7 @@ module _ (problem : ProblemModel) where
             | inl old ↦
                 let before = stood-before (whole_zone problem) trace cut y stands old in
                 elim (is.closed y before.0) [
-                  | inr closed ↦ inr (subst (λ zone. IsClosed problem zone best)
+                  | inr closed ↦ inr (subst (λ zone. IsClosedZone problem zone best)
                       (sym (zone-old (whole_zone problem) trace cut y old))
                       (closed-lower problem (zone_of problem trace y) height best less closed))
                   | inl has ↦ elim (Contains-append_cases stack (z ∷ []) y has) [
@@ -236,10 +237,10 @@ module _ (problem : ProblemModel) where
       }
 
       -- the order of the cuts is kept
-      pub order-cut : KeepsClassOrder problem trace → IsFirstCut (zone_of problem trace z) cut →
-          HasBoundBelow problem trace z height → IsKeen problem (whole_zone problem) trace height →
+      pub order-cut : (best : ℕ) → KeepsClassOrder problem trace → IsFirstCut (zone_of problem trace z) cut →
+          HasBoundBelow problem trace z best → IsKeen problem (whole_zone problem) trace best →
           KeepsClassOrder problem (trace ++ cut ∷ [])
-      order-cut keeps first below keen =
+      order-cut best keeps first below keen =
           let all = All-last (λ y. All (λ c. Follows trace c.zone y) trace) stack z is.follow in
           let low : IsBelowPlacements problem trace below.0 = λ y placed there placement.
           let above = keen y placed there placement in omega (arith, above, below.2) in
@@ -260,7 +261,7 @@ module _ (problem : ProblemModel) where
 -- where nothing is on the stack, each zone that stands is closed
 pub stack-end : (problem : ProblemModel) (trace : List CutAt) (height : ℕ) (stack : List ℕ) → length stack ≡ 0 →
     IsStack problem trace height stack →
-    (z : ℕ) → Stands trace z → IsClosed problem (zone_of problem trace z) height
+    (z : ℕ) → Stands trace z → IsClosedZone problem (zone_of problem trace z) height
 stack-end problem trace height stack empty is z stands =
     elim (is.closed z stands) [ inl has ↦ absurd (omega (arith, has.1, empty)) | inr closed ↦ closed ]
 

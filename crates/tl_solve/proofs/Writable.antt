@@ -9,10 +9,10 @@ use Rattle.tl_cert.specs.declared.log.End.{End}
 use Rattle.tl_cert.specs.declared.log.End.TheVariants.{Fired}
 use Rattle.tl_cert.specs.declared.log.LogLine.{LogLine}
 use Rattle.tl_cert.specs.declared.log.Nogood.TheVariants.{Zone}
-use Rattle.tl_cert.specs.Pieces.{character, number, word, IsWithin, AllWithin}
+use Rattle.tl_cert.specs.Pieces.{character, number, word, IsPieceInRange, AllWithin}
 use Rattle.tl_cert.specs.Text.{space, fire_pieces, end_word, line_pieces, IsLineShaped, IsLogWritable}
 use Rattle.tl_cert.proofs.reading.Words.{within-word}
-use Rattle.tl_solve.specs.inner.Shapes.{parts_fired, line_of, AreLinesOf}
+use Rattle.tl_solve.specs.inner.Shapes.{parts_fired, line_by_cut, AreLinesOf}
 
 all-by_recursion : {X : Type 0} (P : X → Type 0) (xs : List X) → All P xs → AllByRecursion P xs
 all-by_recursion P [] all = tt
@@ -26,7 +26,8 @@ all-flat_map P f (x ∷ xs) all = subst (AllByRecursion P) (sym (flat_map-cons f
     (all-flat_map P f xs (λ i d within. all (suc i) d (omega arith))))
 
 fire-within : (f : ℕ) → f ≤ MAX_LINE → AllWithin (fire_pieces f)
-fire-within f small = AllByRecursion-append IsWithin (word (codes " @")) (number 0 MAX_LINE f ∷ []) (within-word (codes " @"))
+fire-within f small =
+    AllByRecursion-append IsPieceInRange (word (codes " @")) (number 0 MAX_LINE f ∷ []) (within-word (codes " @"))
     ((omega arith, small), tt)
 
 -- a line of a zone, with at most two fires
@@ -37,8 +38,8 @@ line-within z fires end small few =
       tt,
       (
         (omega arith, small),
-        AllByRecursion-append IsWithin (flat_map fire_pieces fires) (character space ∷ word (end_word end))
-            (all-flat_map IsWithin fire_pieces fires (λ i d within. fire-within (get_or fires i d) (few i d within)))
+        AllByRecursion-append IsPieceInRange (flat_map fire_pieces fires) (character space ∷ word (end_word end))
+            (all-flat_map IsPieceInRange fire_pieces fires (λ i d within. fire-within (get_or fires i d) (few i d within)))
             (tt, within-word (end_word end)),
       ),
     ))
@@ -55,10 +56,10 @@ fired-length last cut None = omega arith
 fired-length last cut (Some bound) = omega arith
 
 line-writable : (last lower z : ℕ) (bounds : List (Option ℕ)) (found : Option ℕ) → z ≤ last → last ≤ MAX_ZONE →
-    IsLineShaped (line_of last bounds lower z found) × AllWithin (line_pieces (line_of last bounds lower z found))
+    IsLineShaped (line_by_cut last bounds lower z found) × AllWithin (line_pieces (line_by_cut last bounds lower z found))
 line-writable last lower z bounds None within small = (
   record { nogood = tt; fires = omega arith },
-  line-within z [] (line_of last bounds lower z None).end (omega (arith, within, small)) (λ i d inside. absurd (omega arith)),
+  line-within z [] (line_by_cut last bounds lower z None).end (omega (arith, within, small)) (λ i d inside. absurd (omega arith)),
 )
 line-writable last lower z bounds (Some cut) within small = (
   record { nogood = tt; fires = fired-length last cut (get_or bounds (2 * cut + 2) None) },
@@ -70,7 +71,7 @@ pub log-writable : (last lower : ℕ) (cuts bounds : List (Option ℕ)) (log : L
     AreLinesOf last cuts bounds lower (last + 1) log → IsLogWritable log
 log-writable last lower cuts bounds log small lines = (
   all-by_recursion IsLineShaped log (λ k d within. (each k d within).0),
-  all-flat_map IsWithin line_pieces log (λ k d within. (each k d within).1),
+  all-flat_map IsPieceInRange line_pieces log (λ k d within. (each k d within).1),
 ) where
   each : (k : ℕ) (d : LogLine) → k < length log → IsLineShaped (get_or log k d) × AllWithin (line_pieces (get_or log k d))
   each k d within =

@@ -3,7 +3,7 @@ use Rattle.std.specs.Prelude.{◌≡◌, ℕ, ◌≤◌, ◌⊎◌, List, length
 use Rattle.tl_problem.specs.Problem.{ProblemModel}
 use Rattle.tl_cert.specs.declared.trace.CutAt.{CutAt}
 use Rattle.tl_cert.specs.Traces.{Stands, zone_of}
-use Rattle.tl_cert.specs.Worked.{IsClosed, IsBoundOf}
+use Rattle.tl_cert.specs.Worked.{IsClosedZone, IsBoundOf}
 
 -- some zone that stands has a bound of at most `lower`
 abbrev pub HasBoundUpTo : ProblemModel → List CutAt → ℕ → Type 0
@@ -18,4 +18,4 @@ pub record IsLeastStanding (problem : ProblemModel) (trace : List CutAt) (height
 -- a search may end: it made all cuts of its budget, or each zone that stands is closed for its height
 abbrev pub MayEnd : ProblemModel → List CutAt → ℕ → ℕ → Type 0
 MayEnd problem trace height budget =
-    (length trace ≡ budget) ⊎ ((z : ℕ) → Stands trace z → IsClosed problem (zone_of problem trace z) height)
+    (length trace ≡ budget) ⊎ ((z : ℕ) → Stands trace z → IsClosedZone problem (zone_of problem trace z) height)

@@ -3,6 +3,7 @@ pub mod Logs
 pub mod Arenas
 pub mod TraceLogs
 pub mod Orders
+pub mod CutsFound
 pub mod Ends
 pub mod Plain
 pub mod inner

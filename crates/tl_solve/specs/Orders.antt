@@ -1,5 +1,5 @@
 -- In which order a search cuts the zones of a problem, and where it cuts them.
-use Rattle.std.specs.Prelude.{◌≡◌, ◌≢◌, ℕ, ◌+◌, ◌*◌, ◌<◌, ◌⊎◌, List, length, get_or, take}
+use Rattle.std.specs.Prelude.{◌≡◌, ◌≢◌, ℕ, ◌<◌, ◌⊎◌, List, length}
 use Rattle.std.specs.List.{AllPairs}
 use Rattle.tl_problem.specs.declared.placed.Placed.{Placed}
 use Rattle.tl_problem.specs.declared.zone.Range.{Range}
@@ -8,11 +8,8 @@ use Rattle.tl_problem.specs.Zones.{range_at, InZone}
 use Rattle.tl_problem.specs.Placements.{IsPlacementIn}
 use Rattle.tl_cert.specs.declared.trace.CutAt.{CutAt}
 use Rattle.tl_cert.specs.Traces.{IsZoneOf, zone_of}
+use Rattle.tl_cert.specs.ZoneOrders.{AtEachCut, ComesFrom, ZoneComesBefore}
 use Rattle.tl_cert.specs.Worked.{IsBoundOf}
-
--- at each cut of the trace this holds of the cuts before it and of the cut
-abbrev pub AtEachCut : (List CutAt → CutAt → Type 0) → List CutAt → Type 0
-AtEachCut Holds trace = (i : ℕ) (d : CutAt) → i < length trace → Holds (take i trace) (get_or trace i d)
 
 -- ---- where a zone is cut
 
@@ -44,16 +41,6 @@ CutsBelowPlacements problem trace =
     AtEachCut (λ cuts cut. (bound : ℕ) × IsBoundOf problem cuts cut.zone bound × IsBelowPlacements problem cuts bound) trace
 
 -- ---- in which order
-
--- the zone `z` comes from the zone `from`: it is that zone, or a part of one that comes from it
-pub data ComesFrom (trace : List CutAt) (from : ℕ) : ℕ → Type 0 where
-  itself : ComesFrom trace from from
-  lower : (i : ℕ) (d : CutAt) → i < length trace → ComesFrom trace from (get_or trace i d).zone → ComesFrom trace from (2 * i + 1)
-  upper : (i : ℕ) (d : CutAt) → i < length trace → ComesFrom trace from (get_or trace i d).zone → ComesFrom trace from (2 * i + 2)
-
--- zone `a` comes before zone `b`: of the two parts of some cut it comes from the lower one, and `b` from the upper one
-abbrev pub ZoneComesBefore : List CutAt → ℕ → ℕ → Type 0
-ZoneComesBefore trace a b = (i : ℕ) × (i < length trace) × ComesFrom trace (2 * i + 1) a × ComesFrom trace (2 * i + 2) b
 
 -- zone `b` follows zone `a` in the order of classes: it comes from it, or `a` comes before it
 abbrev pub Follows : List CutAt → ℕ → ℕ → Type 0

@@ -30,7 +30,8 @@ line_of_zone trace log z = get_or log (line_number trace z) (record { nogood = Z
 abbrev pub EndsStanding : ProblemModel → List CutAt → ℕ → ℕ → End → Type 0
 EndsStanding problem trace lower z Cycle = HasNoWidths (InZone problem (zone_of problem trace z))
 EndsStanding problem trace lower z Chain = HasBoundFrom problem (zone_of problem trace z) lower
-EndsStanding problem trace lower z Area = HasBoundBelow problem trace z lower × HasAreaFrom problem (zone_of problem trace z) lower
+EndsStanding problem trace lower z Area = HasBoundBelow problem trace z lower
+    × HasAreaFrom problem (zone_of problem trace z) lower
 EndsStanding problem trace lower z Fired = ⊥
 
 -- its line has the zone as its nogood and fires no other

@@ -7,7 +7,7 @@ ghost use Rattle.tl_problem.specs.Agreement.{HasOneClass};
 ghost use Rattle.tl_problem.specs.Placements.{IsOpening, IsPlacement};
 ghost use Rattle.tl_problem.specs.Zones.{whole_zone};
 ghost use Rattle.tl_cert.specs.Traces.{IsCut, IsZoneOf, zone_of};
-ghost use Rattle.tl_cert.specs.Worked.{IsClosed};
+ghost use Rattle.tl_cert.specs.Worked.{IsClosedZone};
 ghost use Rattle.tl_solve.specs.Arenas.{HasBoundBelow, IsArenaOf, IsLowered};
 ghost use Rattle.tl_solve.specs.Orders.{IsFirstCut, IsFirstOpen};
 
@@ -116,7 +116,7 @@ impl Arena {
     pub fn first_cut(&self, problem: &Problem, zone: u32) -> Option<CutAt>
         requires arena { IsArenaOf problem.now self.now }
         requires there { IsZoneOf self.now.trace zone }
-        ensures closed { IfNone result (IsClosed problem.now (zone_of problem.now self.now.trace zone) self.now.best.height) }
+        ensures closed { IfNone result (IsClosedZone problem.now (zone_of problem.now self.now.trace zone) self.now.best.height) }
         ensures zone { IfSome result (λ cut. cut.zone ≡ zone) }
         ensures first { IfSome result (IsFirstCut (zone_of problem.now self.now.trace zone)) }
         ensures below { IfSome result (λ cut. HasBoundBelow problem.now self.now.trace zone self.now.best.height) }

@@ -1,6 +1,8 @@
 //! The end of a search as an outcome.
 
-ghost use Rattle.std.specs.Prelude.{◌≡◌, ℕ, ◌<◌, ◌≤◌, length, IfOk};
+ghost use Rattle.std.specs.Prelude.{◌≡◌, ℕ, ◌+◌, ◌*◌, ◌<◌, ◌≤◌, length, IfOk};
+ghost use Rattle.tl_cert.specs.Lines.{IsGoodLog};
+ghost use Rattle.tl_cert.specs.Text.{IsLogWritable};
 ghost use Rattle.tl_cert.specs.Traces.{Stands, zone_of};
 ghost use Rattle.tl_solve.specs.Arenas.{IsArenaOf};
 ghost use Rattle.tl_solve.specs.Ends.{HasBoundUpTo, IsLeastStanding, MayEnd};
@@ -14,6 +16,7 @@ use crate::log::log_of_bounds;
 use crate::{Arena, Outcome};
 use std::alloc::AllocError;
 use tl_base::MAX_BUDGET;
+use tl_cert::Log;
 use tl_problem::Problem;
 
 impl Arena {
@@ -66,13 +69,37 @@ impl Arena {
         ensures solved { IfOk result (IsSolverOutcome problem.now budget) }
     {
         let log = log_of_bounds(self.alloc, problem, &self.trace, &self.bounds, lower)?;
+        Ok(self.finish_with(problem, budget, lower, log))
+    }
+
+    /// The outcome of a search with this lower bound and a log that proves it. Where the lower bound is
+    /// below the best height, some zone that stands has a bound that is no greater, and the search made all
+    /// cuts of its budget or has each zone closed.
+    pub fn finish_with(self, problem: &Problem, budget: u32, lower: u32, log: Log) -> Outcome
+        requires arena { IsArenaOf problem.now self }
+        requires within { length self.trace ≤ budget }
+        requires budget { budget ≤ MAX_BUDGET }
+        requires ended { lower < self.best.height → MayEnd problem.now self.trace self.best.height budget }
+        requires ordered { lower ≤ self.best.height }
+        requires enough { lower < self.best.height → HasBoundUpTo problem.now self.trace lower }
+        requires good { IsGoodLog problem.now self.trace log lower }
+        requires writable { IsLogWritable log }
+        requires short { length log ≤ 2 * length self.trace + 1 }
+        ensures best { result.best ≡ self.best }
+        ensures trace { result.trace ≡ self.trace }
+        ensures lower { result.lower ≡ lower }
+        ensures log { result.log ≡ log }
+        ensures solved { IsSolverOutcome problem.now budget result }
+    {
+        // The cells come with the fact that the problem is sound.
+        let _cells = problem.cells();
         let (best, trace) = self.into_parts();
-        Ok(Outcome {
+        Outcome {
             best,
             lower,
             trace,
             log,
-        })
+        }
     }
 }
 

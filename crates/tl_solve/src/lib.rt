@@ -17,6 +17,7 @@ mod tests;
 mod zones;
 
 pub use arena::Arena;
+pub use lines::cuts_of_zones;
 pub use log::trace_log;
 pub use outcome::Outcome;
 pub use plain::Plain;

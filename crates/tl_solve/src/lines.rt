@@ -3,7 +3,7 @@
 
 ghost use Rattle.std.specs.Prelude.{◌≡◌, ℕ, ◌+◌, ◌*◌, ◌<◌, ◌≤◌, length, get_or, IfOk};
 ghost use Rattle.tl_cert.specs.declared.trace.CutAt.{CutAt};
-ghost use Rattle.tl_solve.specs.inner.Found.{AreCutsOf};
+ghost use Rattle.tl_solve.specs.CutsFound.{AreCutsOf};
 ghost use Rattle.tl_solve.specs.inner.Shapes.{closing_line_of, firing_line_of};
 
 use std::alloc::{AllocError, Global};
@@ -11,7 +11,7 @@ use tl_base::{List, MAX_BUDGET};
 use tl_cert::{End, LogLine, MAX_ZONE, Nogood, Trace};
 
 /// For each zone of the trace the number of the cut that cuts it, `None` where it stands.
-pub(crate) fn cuts_of_zones(alloc: Global, trace: &Trace) -> Result<Vec<Option<u32>>, AllocError>
+pub fn cuts_of_zones(alloc: Global, trace: &Trace) -> Result<Vec<Option<u32>>, AllocError>
     requires few { length trace.now ≤ MAX_BUDGET }
     requires there { (i : ℕ) (d : CutAt) → i < length trace.now → (get_or trace.now i d).zone < 2 * length trace.now + 1 }
     ensures { IfOk result (λ cuts. AreCutsOf trace.now (length trace.now) cuts.items) }

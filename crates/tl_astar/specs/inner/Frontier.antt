@@ -9,7 +9,8 @@ use Rattle.tl_cert.specs.declared.trace.CutAt.{CutAt}
 use Rattle.tl_cert.specs.Traces.{Stands, zone_of}
 use Rattle.tl_cert.specs.Worked.{IsBoundOf}
 use Rattle.tl_solve.specs.Logs.{Proves}
-use Rattle.tl_solve.specs.Orders.{AtEachCut, CutsBelowPlacements}
+use Rattle.tl_cert.specs.ZoneOrders.{AtEachCut}
+use Rattle.tl_solve.specs.Orders.{CutsBelowPlacements}
 use Rattle.tl_astar.specs.Best.{CutsBelowByArea, HaveSameSteps, IsAreaOf, IsOfLeastBound, IsShut}
 
 -- the number is at most the bound of each of these zones that has one

@@ -9,7 +9,7 @@ use Rattle.tl_cert.specs.Worked.{IsBoundOf}
 use Rattle.tl_solve.specs.Arenas.{IsArenaOf}
 use Rattle.tl_astar.specs.declared.search.Search.{Search}
 use Rattle.tl_astar.specs.Best.{HaveSameSteps}
-use Rattle.tl_astar.specs.inner.Entries.{Entry, bound_in, zone_in}
+use Rattle.tl_astar.specs.inner.Entries.{HeapEntry, bound_in, zone_in}
 use Rattle.tl_astar.specs.inner.Frontier.{IsFrontier, KeepsBoundOrder}
 
 -- the open zones of the search, by number
@@ -17,7 +17,7 @@ abbrev pub open_zones : Search → List ℕ
 open_zones search = map zone_in (heap_items search.opens.heap)
 
 -- each entry has the bound of its zone
-abbrev pub HaveBounds : ProblemModel → List CutAt → List Entry → Type 0
+abbrev pub HaveBounds : ProblemModel → List CutAt → List HeapEntry → Type 0
 HaveBounds problem trace entries = All (λ e. IsBoundOf problem trace (zone_in e) (bound_in e)) entries
 
 -- the search is one of this problem: its arena and its work are, its open zones have their bounds, it knows whether each

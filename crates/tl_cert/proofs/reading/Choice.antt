@@ -1,7 +1,7 @@
 -- One reading or another, by the next character, is exact for the texts of both.
 use Rattle.std.proofs.Common.{◌≡◌, ℕ, Bool, true, false, cond, List, [], ◌∷◌, ◌++◌, ◌⊎◌, inl, inr, refl, sym, ap, ◌∙◌}
 use Rattle.std.proofs.Common.{append_assoc}
-use Rattle.tl_cert.specs.Pieces.{Piece, number, spell, numeral, AllWithin}
+use Rattle.tl_cert.specs.Pieces.{TextPiece, number, spell, numeral, AllWithin}
 use Rattle.tl_cert.specs.inner.reading.Readings.{got, wrong, outside, Reading, begins, either}
 use Rattle.tl_cert.proofs.reading.Spellings.{spell_two}
 use Rattle.tl_cert.proofs.reading.NumeralDigits.{numeral_first}
@@ -24,15 +24,16 @@ begins-numeral test [] n x y = let p = numeral_first n in ap (λ (ds : List ℕ)
 begins-numeral test (d ∷ prefix) n x y = refl
 
 -- which reading it is
-pub record Chosen {C : Type 0} (test : ℕ → Bool) (pieces : C → List Piece) (IsFirst IsOther IsShaped : C → Type 0) : Type 0 where
+pub record Chosen {C : Type 0} (test : ℕ → Bool) (pieces : C → List TextPiece)
+    (IsFirst IsOther IsShaped : C → Type 0) : Type 0 where
   pub separated : (v : C) → IsShaped v → IsFirst v ⊎ IsOther v
   pub first : (v : C) → IsFirst v → IsShaped v
   pub other : (v : C) → IsOther v → IsShaped v
   pub yes : (v : C) (t : List ℕ) → IsFirst v → begins test (spell (pieces v) ++ t) ≡ true
   pub no : (v : C) (t : List ℕ) → IsOther v → begins test (spell (pieces v) ++ t) ≡ false
 
-module _ {C : Type 0} {test : ℕ → Bool} {pieces : C → List Piece} {IsFirst IsOther IsShaped : C → Type 0} {one two : Reading C}
-    (first : Exact one IsFirst pieces) (other : Exact two IsOther pieces)
+module _ {C : Type 0} {test : ℕ → Bool} {pieces : C → List TextPiece} {IsFirst IsOther IsShaped : C → Type 0}
+    {one two : Reading C} (first : Exact one IsFirst pieces) (other : Exact two IsOther pieces)
     (chosen : Chosen test pieces IsFirst IsOther IsShaped) where
   clash : (v w : C) (t u : List ℕ) → IsFirst v → IsOther w → spell (pieces v) ++ t ≡ spell (pieces w) ++ u → ⊥
   clash v w t u is_first is_other e =
@@ -151,7 +152,7 @@ module _ {C : Type 0} {test : ℕ → Bool} {pieces : C → List Piece} {IsFirst
       begins test text ≡ begins test (spell (pieces out.value) ++ [])
   begins_as text left out =
       ap (begins test) out.parts ∙ begins-numeral test (spell out.before) out.n out.tail (spell out.after ++ [])
-      ∙ ap (begins test) (sym (ap (λ (ps : List Piece). spell ps ++ []) out.split ∙ spell_two out.before
+      ∙ ap (begins test) (sym (ap (λ (ps : List TextPiece). spell ps ++ []) out.split ∙ spell_two out.before
       (number out.low out.high out.n ∷ out.after) []
       ∙ ap (λ (t : List ℕ). spell out.before ++ t) (append_assoc (numeral out.n) (spell out.after) [])))
 

@@ -1,7 +1,7 @@
 -- What it means that a reading is exact for texts that are made of pieces: it reads just these texts, and each fault is
 -- where it has to be.
 use Rattle.std.proofs.Common.{◌≡◌, ℕ, List, [], ◌∷◌, ◌++◌, length}
-use Rattle.tl_cert.specs.Pieces.{Piece, number, spell, numeral, IsWithin, AllWithin, IsPastDigits}
+use Rattle.tl_cert.specs.Pieces.{TextPiece, number, spell, numeral, IsPieceInRange, AllWithin, IsPastDigits}
 use Rattle.tl_cert.specs.inner.reading.Readings.{got, wrong, outside, Reading}
 
 -- both end at once, or begin with one character
@@ -12,7 +12,7 @@ SameStart (b ∷ rest) [] = ⊥
 SameStart (b ∷ rest) (c ∷ other) = b ≡ c
 
 -- Up to what is left a text begins, and none goes on as what is left does.
-pub record Stuck {A : Type 0} (IsShaped : A → Type 0) (pieces : A → List Piece) (text : List ℕ) (left : ℕ) : Type 0 where
+pub record Stuck {A : Type 0} (IsShaped : A → Type 0) (pieces : A → List TextPiece) (text : List ℕ) (left : ℕ) : Type 0 where
   pub prefix : List ℕ
   pub rest : List ℕ
   pub parts : text ≡ prefix ++ rest
@@ -24,30 +24,30 @@ pub record Stuck {A : Type 0} (IsShaped : A → Type 0) (pieces : A → List Pie
   pub ends : (v : A) (after other : List ℕ) → IsShaped v → SameStart rest other → spell (pieces v) ++ after ≡ prefix ++ other → ⊥
 
 -- The first number that is outside its range begins where so many characters are left.
-pub record Outside {A : Type 0} (IsShaped : A → Type 0) (pieces : A → List Piece) (text : List ℕ) (left : ℕ) : Type 0 where
+pub record Outside {A : Type 0} (IsShaped : A → Type 0) (pieces : A → List TextPiece) (text : List ℕ) (left : ℕ) : Type 0 where
   pub value : A
   pub shaped : IsShaped value
-  pub before : List Piece
+  pub before : List TextPiece
   pub low : ℕ
   pub high : ℕ
   pub n : ℕ
-  pub after : List Piece
+  pub after : List TextPiece
   pub tail : List ℕ
   pub split : pieces value ≡ before ++ number low high n ∷ after
   pub within : AllWithin before
-  pub beyond : IsWithin (number low high n) → ⊥
+  pub beyond : IsPieceInRange (number low high n) → ⊥
   pub parts : text ≡ spell before ++ (numeral n ++ tail)
   pub past : IsPastDigits tail
   pub count : length (numeral n ++ tail) ≡ left
 
 -- what was read is such a text, within the ranges
 pub record Takes {A : Type 0} (IsShaped : A → Type 0) (pieces : A →
-    List Piece) (text : List ℕ) (v : A) (rest : List ℕ) : Type 0 where
+    List TextPiece) (text : List ℕ) (v : A) (rest : List ℕ) : Type 0 where
   pub shaped : IsShaped v
   pub within : AllWithin (pieces v)
   pub parts : text ≡ spell (pieces v) ++ rest
 
-pub record Exact {A : Type 0} (read : Reading A) (IsShaped : A → Type 0) (pieces : A → List Piece) : Type 0 where
+pub record Exact {A : Type 0} (read : Reading A) (IsShaped : A → Type 0) (pieces : A → List TextPiece) : Type 0 where
   -- there is such a text
   pub some : A
   pub some_shaped : IsShaped some

@@ -1,7 +1,7 @@
 -- Reading a list is exact for the texts of its items, one after the other, and of what stops it.
 use Rattle.std.proofs.Common.{◌≡◌, ℕ, zero, suc, Bool, true, false, List, [], ◌∷◌, ◌++◌, ◌⊎◌, inl, inr, refl, sym, ap, subst, ◌∙◌}
 use Rattle.std.proofs.lemmas.List.{append-nil}
-use Rattle.tl_cert.specs.Pieces.{Piece, spell}
+use Rattle.tl_cert.specs.Pieces.{TextPiece, spell}
 use Rattle.tl_cert.specs.inner.reading.Readings.{Reading, ◌>>=◌, give, begins}
 use Rattle.tl_cert.specs.inner.reading.Lists.{Turn, halt, go, look, by_turn, ListReading, Listing, listing, stopping, list_at}
 use Rattle.tl_cert.proofs.reading.Spellings.{spell_two}
@@ -15,9 +15,9 @@ use Rattle.tl_cert.proofs.reading.Same.{exact_same}
 -- reading gives `lift v vs` back for an item that the list has as `v` before the items `vs`.
 pub record ListForm (S A V E : Type 0) : Type 1 where
   pub IsItem : ℕ → S → A → Type 0
-  pub item_pieces : A → List Piece
+  pub item_pieces : A → List TextPiece
   pub IsStop : ℕ → S → E → Type 0
-  pub stop_pieces : E → List Piece
+  pub stop_pieces : E → List TextPiece
   pub lift : V → List V → A
   pub IsReady : ℕ → S → Type 0
 
@@ -30,7 +30,7 @@ IsListed list form (suc k) s (v ∷ vs) e =
     (list.view (form.lift v vs) ≡ v) × (form.IsItem k s (form.lift v vs) ×
     IsListed list form k (list.next s (form.lift v vs)) vs e)
 
-abbrev pub list_pieces : {S A V E : Type 0} → ListForm S A V E → List V → E → List Piece
+abbrev pub list_pieces : {S A V E : Type 0} → ListForm S A V E → List V → E → List TextPiece
 list_pieces form [] e = form.stop_pieces e
 list_pieces form (v ∷ vs) e = form.item_pieces (form.lift v vs) ++ list_pieces form vs e
 
@@ -66,7 +66,7 @@ module _ {S A V E : Type 0} (list : ListReading S A V E) (form : ListForm S A V 
   abbrev pub Listed : ℕ → S → Listing V E → Type 0
   Listed k s x = IsListed list form k s (x.0) (x.1)
 
-  abbrev pub pieces : Listing V E → List Piece
+  abbrev pub pieces : Listing V E → List TextPiece
   pieces x = list_pieces form (x.0) (x.1)
 
   -- no item
@@ -101,7 +101,7 @@ module _ {S A V E : Type 0} (list : ListReading S A V E) (form : ListForm S A V 
   GoesOn k s a [] e = ⊥
   GoesOn k s a (v ∷ vs) e = (list.view a ≡ v) × IsListed list form k (list.next s a) vs e
 
-  abbrev later_pieces : List V → E → List Piece
+  abbrev later_pieces : List V → E → List TextPiece
   later_pieces [] e = []
   later_pieces (v ∷ vs) e = list_pieces form vs e
 
@@ -214,7 +214,7 @@ module _ {S A V E : Type 0} (list : ListReading S A V E) (form : ListForm S A V 
           first = λ x is. listed_going k s (x.0) (x.1) is;
           other = listed_stopped k s;
           yes = λ x t is. going_begins k s test turns (x.0) (x.1) t is;
-          no = λ x t is. ap (λ (ps : List Piece). begins test (spell ps ++ t))
+          no = λ x t is. ap (λ (ps : List TextPiece). begins test (spell ps ++ t))
               (pieces_stopped x is.none) ∙ turns.stop_begins x.1 t is.end;
         } in
         exact_either (goes turns.item) (exact_stopping (suc k) s turns.stop) chosen

@@ -4,9 +4,9 @@ use Rattle.std.proofs.Common.{◌&&◌, List, [], ◌∷◌, ◌++◌, length, i
 use Rattle.std.specs.Char.{is_ascii_digit}
 use Rattle.std.proofs.lemmas.List.{append-nil}
 use Rattle.std.proofs.lemmas.Bool.{cases_Bool, eqb-true, eqb-false, ne_eqb, and_parts, and_from, leb-true, le-leb}
-use Rattle.tl_cert.specs.Pieces.{Piece, number, character, spell, numeral, IsWithin, AllWithin, IsPastDigits}
+use Rattle.tl_cert.specs.Pieces.{TextPiece, number, character, spell, numeral, IsPieceInRange, AllWithin, IsPastDigits}
 use Rattle.tl_cert.specs.inner.reading.Readings.{Answer, got, wrong, outside, begins}
-use Rattle.tl_cert.specs.inner.reading.Numbers.{read_run, ended, run_ended, zero_ended, number_at}
+use Rattle.tl_cert.specs.inner.reading.Numbers.{read_run, ended, run_ended, zero_ended, number_reading}
 use Rattle.tl_cert.proofs.reading.Numerals.{numeral_small, digit_range}
 use Rattle.tl_cert.proofs.reading.Runs.{run_digit, run_stops, run-numeral, run_gives}
 use Rattle.tl_cert.proofs.reading.NumeralDigits.{numeral_first}
@@ -41,14 +41,14 @@ past_from [] e = tt
 past_from (c ∷ rest) e = e
 
 -- the pieces of a number and the character that ends it
-abbrev pub number_pieces : ℕ → ℕ → ℕ × ℕ → List Piece
+abbrev pub number_pieces : ℕ → ℕ → ℕ × ℕ → List TextPiece
 number_pieces low high x = number low high x.0 ∷ character x.1 ∷ []
 
 module _ (low high : ℕ) {possible : ℕ → Bool} {allowed : ℕ → ℕ → Bool} (rule : IsRule possible allowed) where
   abbrev IsEnded : ℕ × ℕ → Type 0
   IsEnded x = allowed x.0 x.1 ≡ true
 
-  abbrev pieces : ℕ × ℕ → List Piece
+  abbrev pieces : ℕ × ℕ → List TextPiece
   pieces = number_pieces low high
 
   abbrev pair : ℕ → ℕ → ℕ × ℕ
@@ -148,7 +148,7 @@ module _ (low high : ℕ) {possible : ℕ → Bool} {allowed : ℕ → ℕ → B
   in_range : (n : ℕ) → (leb low n && leb n high) ≡ true → (low ≤ n) × (n ≤ high)
   in_range n e = let p = and_parts _ _ e in (leb-true _ _ p.0, leb-true _ _ p.1)
 
-  not_in_range : (n : ℕ) → (leb low n && leb n high) ≡ false → IsWithin (number low high n) → ⊥
+  not_in_range : (n : ℕ) → (leb low n && leb n high) ≡ false → IsPieceInRange (number low high n) → ⊥
   not_in_range n e within = let both : (leb low n && leb n high) ≡ true =
       and_from _ _ (le-leb _ _ within.0) (le-leb _ _ within.1) in cc
 
@@ -301,8 +301,8 @@ module _ (low high : ℕ) {possible : ℕ → Bool} {allowed : ℕ → ℕ → B
       let first : numeral (c - 48) ≡ c ∷ [] = numeral_small (c - 48) (omega arith) ∙ ap (λ (k : ℕ). k ∷ []) (omega arith) in
       ap (λ (ds : List ℕ). ds ++ text) (sym first) ∙ (run_gives (c - 48) text (omega arith)).parts
 
-  number_answer : (text : List ℕ) → NumberAnswer text (number_at low high possible allowed text)
-  unfolding number_at
+  number_answer : (text : List ℕ) → NumberAnswer text (number_reading low high possible allowed text)
+  unfolding number_reading
   number_answer [] = stuck_here [] nothing_left
   number_answer (c ∷ text) =
       let P : Answer (ℕ × ℕ) → Type 0 = NumberAnswer (c ∷ text) in
@@ -311,7 +311,7 @@ module _ (low high : ℕ) {possible : ℕ → Bool} {allowed : ℕ → ℕ → B
             elim (cases_Bool (eqb c 48)) [
               | inl is_zero ↦
                   let c-is : c ≡ 48 = eqb-true c 48 is_zero in
-                  let is : number_at low high possible allowed (c ∷ text) ≡ zero_ended low high possible allowed text =
+                  let is : number_reading low high possible allowed (c ∷ text) ≡ zero_ended low high possible allowed text =
                   rw (digit, is_zero) refl in
                   let Q : ℕ → Type 0 = λ d. NumberAnswer (d ∷ text) (zero_ended low high possible allowed text) in
                   subst P (sym is) (subst Q (sym c-is) (zero_answer text))
@@ -319,14 +319,14 @@ module _ (low high : ℕ) {possible : ℕ → Bool} {allowed : ℕ → ℕ → B
                   let range = digit_range c digit in
                   let differs = eqb-false c 48 nonzero in
                   let gives = run_gives (c - 48) text (omega arith) in
-                  let is : number_at low high possible allowed (c ∷ text) ≡ run_ended low high possible allowed
+                  let is : number_reading low high possible allowed (c ∷ text) ≡ run_ended low high possible allowed
                   (suc (length text))
                   ((read_run (c - 48) text).0) ((read_run (c - 48) text).1) = rw (digit, nonzero) refl in
                   subst P (sym is) (run_answer (c ∷ text) ((read_run (c - 48) text).0) ((read_run (c - 48) text).1)
                   (run_parts c text digit differs) gives.past (λ _. omega (arith, gives.least)))
             ]
         | inr other ↦
-            let is : number_at low high possible allowed (c ∷ text) ≡ wrong (suc (length text)) = rw other refl in
+            let is : number_reading low high possible allowed (c ∷ text) ≡ wrong (suc (length text)) = rw other refl in
             subst P (sym is) (stuck_here (c ∷ text) (not_a_digit c text other))
       ]
 
@@ -338,11 +338,11 @@ module _ (low high : ℕ) {possible : ℕ → Bool} {allowed : ℕ → ℕ → B
 
   -- a whole number that may stand here is read
   number_run : (n : ℕ) (rest : List ℕ) → IsPastDigits rest → possible n ≡ true
-      → number_at low high possible allowed (numeral n ++ rest) ≡ run_ended low high possible allowed
+      → number_reading low high possible allowed (numeral n ++ rest) ≡ run_ended low high possible allowed
       (length (numeral n ++ rest)) n rest
-  unfolding number_at
+  unfolding number_reading
   number_run zero rest past can =
-      let P : List ℕ → Type 0 = λ ds. number_at low high possible allowed (ds ++ rest) ≡ run_ended low high possible allowed
+      let P : List ℕ → Type 0 = λ ds. number_reading low high possible allowed (ds ++ rest) ≡ run_ended low high possible allowed
       (length (ds ++ rest)) 0 rest in
       let none = past_begins rest past in
       subst P (sym (numeral_small 0 (omega arith)))
@@ -358,7 +358,7 @@ module _ (low high : ℕ) {possible : ℕ → Bool} {allowed : ℕ → ℕ → B
       same_run (p.0 - 48) (10 * 0 + (p.0 - 48)) (p.1 ++ rest) (omega arith) ∙ sym (run_digit 0 p.0 (p.1 ++ rest) p.3)
       ∙ ap (λ (ds : List ℕ). read_run 0 (ds ++ rest)) (sym p.2)
       ∙ run-numeral (suc n) rest ∙ run_stops (suc n) rest past in
-      let P : List ℕ → Type 0 = λ ds. number_at low high possible allowed (ds ++ rest)
+      let P : List ℕ → Type 0 = λ ds. number_reading low high possible allowed (ds ++ rest)
       ≡ run_ended low high possible allowed (length (ds ++ rest)) (suc n) rest in
       subst P (sym p.2)
       (rw (p.3, ne_eqb p.0 48 nonzero) (ap (λ (r : ℕ × List ℕ). run_ended low high possible allowed (suc (length (p.1 ++ rest)))
@@ -368,21 +368,21 @@ module _ (low high : ℕ) {possible : ℕ → Bool} {allowed : ℕ → ℕ → B
   can_be n e ends = elim (cases_Bool (possible n)) [ inl can ↦ can | inr impossible ↦ absurd (rule.no_end n e impossible ends) ]
 
   number_again : (x : ℕ × ℕ) (rest : List ℕ) → IsEnded x → AllWithin (pieces x) →
-      number_at low high possible allowed (spell (pieces x) ++ rest) ≡ got x rest
+      number_reading low high possible allowed (spell (pieces x) ++ rest) ≡ got x rest
   number_again x rest ends within =
       let can = can_be x.0 x.1 ends in
       let inside : (leb low x.0 && leb x.0 high) ≡ true = and_from _ _ (le-leb _ _ within.0.0) (le-leb _ _ within.0.1) in
-      ap (number_at low high possible allowed) (spelled x.0 x.1 rest) ∙ number_run x.0 (x.1 ∷ rest)
+      ap (number_reading low high possible allowed) (spelled x.0 x.1 rest) ∙ number_run x.0 (x.1 ∷ rest)
       (rule.not_digit x.0 x.1 ends) can
       ∙ rw (can, inside, ends) refl
 
   number_first_out : (text : List ℕ) (left : ℕ) → Outside IsEnded pieces text left →
-      number_at low high possible allowed text ≡ outside left
+      number_reading low high possible allowed text ≡ outside left
   number_first_out text left out = at_number text left out.value out.shaped out.before out.low out.high out.n out.after out.tail
       out.split out.beyond
       out.parts out.past out.count
     where
-      refused : (l h n : ℕ) → low ≡ l → high ≡ h → (IsWithin (number l h n) → ⊥) → (leb low n && leb n high) ≡ false
+      refused : (l h n : ℕ) → low ≡ l → high ≡ h → (IsPieceInRange (number l h n) → ⊥) → (leb low n && leb n high) ≡ false
       refused l h n low-is high-is beyond =
           elim (cases_Bool (leb low n && leb n high)) [
             | inl within ↦ let range = in_range n within in absurd (beyond (omega arith, omega arith))
@@ -390,18 +390,18 @@ module _ (low high : ℕ) {possible : ℕ → Bool} {allowed : ℕ → ℕ → B
           ]
 
       at_number : (text : List ℕ) (left : ℕ) (x : ℕ × ℕ) → IsEnded x →
-          (before : List Piece) (l h n : ℕ) (after : List Piece) (tail : List ℕ)
+          (before : List TextPiece) (l h n : ℕ) (after : List TextPiece) (tail : List ℕ)
           → pieces x ≡ before ++ number l h n ∷ after
-          → (IsWithin (number l h n) → ⊥) → text ≡ spell before ++ (numeral n ++ tail) → IsPastDigits tail →
+          → (IsPieceInRange (number l h n) → ⊥) → text ≡ spell before ++ (numeral n ++ tail) → IsPastDigits tail →
           length (numeral n ++ tail) ≡ left
-          → number_at low high possible allowed text ≡ outside left
+          → number_reading low high possible allowed text ≡ outside left
       at_number text left x ends [] l h n after tail split beyond parts past count =
           let low-is : low ≡ l = cc in
           let high-is : high ≡ h = cc in
           let n-is : x.0 ≡ n = cc in
           let can : possible n ≡ true = ap possible (sym n-is) ∙ can_be x.0 x.1 ends in
           let out : (leb low n && leb n high) ≡ false = refused l h n low-is high-is beyond in
-          ap (number_at low high possible allowed) parts ∙ number_run n tail past can ∙ rw (can, out)
+          ap (number_reading low high possible allowed) parts ∙ number_run n tail past can ∙ rw (can, out)
           (ap (λ (k : ℕ). outside k) count)
       at_number text left x ends (p ∷ before) l h n after tail split beyond parts past count =
           let rest : character x.1 ∷ [] ≡ before ++ number l h n ∷ after = cc in
@@ -417,7 +417,7 @@ module _ (low high : ℕ) {possible : ℕ → Bool} {allowed : ℕ → ℕ → B
       let rest-is : t ≡ u = cc in
       (ap (λ (k : ℕ). pair k v.1) n-is ∙ ap (λ (k : ℕ). pair w.0 k) end-is, rest-is)
 
-  pub exact_number : Exact (number_at low high possible allowed) IsEnded pieces
+  pub exact_number : Exact (number_reading low high possible allowed) IsEnded pieces
   exact_number =
       let p = rule.longer 1 (omega arith) in
       let end = rule.some_end p.0 p.2 in

@@ -5,7 +5,7 @@ use Rattle.std.specs.Char.{is_ascii_digit}
 use Rattle.std.proofs.lemmas.Bool.{cases_Bool, eq-eqb, ne_eqb, le-leb}
 use Rattle.std.proofs.lemmas.List.{drop_more, drop_all}
 use Rattle.tl_cert.specs.inner.reading.Readings.{Answer, got, wrong, outside, Reading, then_read, begins, word_at}
-use Rattle.tl_cert.specs.inner.reading.Numbers.{read_run, ended, number_at, run_at, least_ended}
+use Rattle.tl_cert.specs.inner.reading.Numbers.{read_run, ended, number_reading, run_at, least_ended}
 use Rattle.tl_cert.proofs.reading.Runs.{run_digit, run_stops}
 
 -- a run of digits gives no less than it begins with
@@ -42,8 +42,9 @@ zero_tested false digit within above x left text next holds is = refl
 
 -- a number is its digits, its lower limit and what ends it
 pub number_by_parts : (low high : ℕ) (possible : ℕ → Bool) (allowed : ℕ → ℕ → Bool) (text : List ℕ)
-    → number_at low high possible allowed text ≡ then_read (run_at high possible text) (least_ended low allowed (length text))
-unfolding number_at run_at
+    → number_reading low high possible allowed text
+    ≡ then_read (run_at high possible text) (least_ended low allowed (length text))
+unfolding number_reading run_at
 number_by_parts low high possible allowed [] = refl
 number_by_parts low high possible allowed (c ∷ text) =
     elim (cases_Bool (is_ascii_digit c)) [

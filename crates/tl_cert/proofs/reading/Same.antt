@@ -1,11 +1,11 @@
 -- A reading that is exact stays so where its texts are described in other words.
 use Rattle.std.proofs.Common.{◌≡◌, List, ◌++◌, ◌∙◌, sym, ap, subst}
-use Rattle.tl_cert.specs.Pieces.{Piece, spell, AllWithin}
+use Rattle.tl_cert.specs.Pieces.{TextPiece, spell, AllWithin}
 use Rattle.tl_cert.specs.inner.reading.Readings.{got, Reading}
 use Rattle.tl_cert.proofs.reading.Exact.{Exact}
 
-pub exact_same : {C : Type 0} {read : Reading C} {IsShaped : C → Type 0} {pieces : C → List Piece} (IsAlso : C →
-    Type 0) (others : C → List Piece)
+pub exact_same : {C : Type 0} {read : Reading C} {IsShaped : C → Type 0} {pieces : C → List TextPiece} (IsAlso : C →
+    Type 0) (others : C → List TextPiece)
     → Exact read IsShaped pieces → ((v : C) → IsShaped v → IsAlso v) → ((v : C) → IsAlso v → IsShaped v) →
     ((v : C) → IsShaped v → pieces v ≡ others v)
     → Exact read IsAlso others
@@ -14,21 +14,21 @@ exact_same {read = read} IsAlso others exact to from same = record {
   some_shaped = to exact.some exact.some_shaped;
   apart = λ v w t u one two e.
       exact.apart v w t u (from v one) (from w two)
-      (ap (λ (ps : List Piece). spell ps ++ t) (same v (from v one)) ∙ e ∙ ap (λ (ps : List Piece). spell ps ++ u)
+      (ap (λ (ps : List TextPiece). spell ps ++ t) (same v (from v one)) ∙ e ∙ ap (λ (ps : List TextPiece). spell ps ++ u)
       (sym (same w (from w two))));
   takes = λ text v rest e.
       let p = exact.takes text v rest e in
-      let P : List Piece → Type 0 = AllWithin in
+      let P : List TextPiece → Type 0 = AllWithin in
       record {
         shaped = to v p.shaped;
         within = subst P (same v p.shaped) p.within;
         parts =
-            p.parts ∙ ap (λ (ps : List Piece). spell ps ++ rest) (same v p.shaped);
+            p.parts ∙ ap (λ (ps : List TextPiece). spell ps ++ rest) (same v p.shaped);
       };
   again = λ v rest shaped within.
-      let P : List Piece → Type 0 = AllWithin in
+      let P : List TextPiece → Type 0 = AllWithin in
       let is = same v (from v shaped) in
-      let Q : List Piece → Type 0 = λ ps. read (spell ps ++ rest) ≡ got v rest in
+      let Q : List TextPiece → Type 0 = λ ps. read (spell ps ++ rest) ≡ got v rest in
       subst Q is (exact.again v rest (from v shaped) (subst P (sym is) within));
   wrong_at = λ text left e.
       let p = exact.wrong_at text left e in
@@ -42,7 +42,7 @@ exact_same {read = read} IsAlso others exact to from same = record {
         shaped = to p.value p.shaped;
         begins = ap spell (sym (same p.value p.shaped)) ∙ p.begins;
         ends = λ v after other shaped start is. p.ends v after other (from v shaped) start
-            (ap (λ (ps : List Piece). spell ps ++ after) (same v (from v shaped)) ∙ is);
+            (ap (λ (ps : List TextPiece). spell ps ++ after) (same v (from v shaped)) ∙ is);
       };
   outside_at = λ text left e.
       let p = exact.outside_at text left e in

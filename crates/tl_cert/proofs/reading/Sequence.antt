@@ -1,6 +1,6 @@
 -- One reading after the other is exact for the texts that are joined of both.
 use Rattle.std.proofs.Common.{◌≡◌, ℕ, List, ◌∷◌, ◌++◌, refl, sym, ap, subst, ◌∙◌, inl, inr, append_assoc}
-use Rattle.tl_cert.specs.Pieces.{Piece, number, spell, numeral, AllWithin}
+use Rattle.tl_cert.specs.Pieces.{TextPiece, number, spell, numeral, AllWithin}
 use Rattle.tl_cert.specs.inner.reading.Readings.{Answer, got, wrong, outside, Reading, then_read, followed, ◌>>=◌}
 use Rattle.tl_cert.proofs.reading.Spellings.{spell-append, spell_two, within-append, within-first, within-second, lies_in}
 use Rattle.tl_cert.proofs.reading.Exact.{Stuck, Outside, Takes, Exact}
@@ -12,22 +12,22 @@ pub record Separated {A C : Type 0} (IsFirst : A → Type 0) (IsSecond : A → C
   pub second : IsSecond part v
 
 -- values whose texts are joined of a first part and a second
-pub record Joined {A C : Type 0} (IsFirst : A → Type 0) (first_pieces : A → List Piece) (IsSecond : A → C →
-    Type 0) (second_pieces : A → C → List Piece)
-    (IsShaped : C → Type 0) (pieces : C → List Piece) : Type 0 where
+pub record Joined {A C : Type 0} (IsFirst : A → Type 0) (first_pieces : A → List TextPiece) (IsSecond : A → C →
+    Type 0) (second_pieces : A → C → List TextPiece)
+    (IsShaped : C → Type 0) (pieces : C → List TextPiece) : Type 0 where
   pub separated : (v : C) → IsShaped v → Separated IsFirst IsSecond v
   pub shaped : (a : A) (v : C) → IsFirst a → IsSecond a v → IsShaped v
   pub text : (a : A) (v : C) → IsFirst a → IsSecond a v → pieces v ≡ first_pieces a ++ second_pieces a v
 
-module _ {A C : Type 0} {IsFirst : A → Type 0} {first_pieces : A → List Piece} {IsSecond : A → C → Type 0} {second_pieces : A →
-    C → List Piece}
-    {IsShaped : C → Type 0} {pieces : C → List Piece} {read : Reading A} {next : A → Reading C}
+module _ {A C : Type 0} {IsFirst : A → Type 0} {first_pieces : A → List TextPiece} {IsSecond : A → C → Type 0}
+    {second_pieces : A → C → List TextPiece} {IsShaped : C → Type 0}
+    {pieces : C → List TextPiece} {read : Reading A} {next : A → Reading C}
     (first : Exact read IsFirst first_pieces) (second : (a : A) → IsFirst a → Exact (next a) (IsSecond a) (second_pieces a))
     (joined : Joined IsFirst first_pieces IsSecond second_pieces IsShaped pieces) where
   -- the characters of a value, and what follows them
   spelled : (a : A) (v : C) (t : List ℕ) → IsFirst a → IsSecond a v →
       spell (pieces v) ++ t ≡ spell (first_pieces a) ++ (spell (second_pieces a v) ++ t)
-  spelled a v t one two = ap (λ (ps : List Piece). spell ps ++ t) (joined.text a v one two) ∙ spell_two (first_pieces a)
+  spelled a v t one two = ap (λ (ps : List TextPiece). spell ps ++ t) (joined.text a v one two) ∙ spell_two (first_pieces a)
       (second_pieces a v) t
 
   spelled_alone : (a : A) (v : C) → IsFirst a → IsSecond a v →
@@ -62,7 +62,7 @@ module _ {A C : Type 0} {IsFirst : A → Type 0} {first_pieces : A → List Piec
       let two = (second a one.shaped).takes mid v rest e in
       record {
         shaped = joined.shaped a v one.shaped two.shaped;
-        within = let P : List Piece → Type 0 = AllWithin in subst P (sym (joined.text a v one.shaped two.shaped))
+        within = let P : List TextPiece → Type 0 = AllWithin in subst P (sym (joined.text a v one.shaped two.shaped))
             (within-append (first_pieces a) (second_pieces a v) one.within two.within);
         parts = one.parts ∙ ap (λ (t : List ℕ). spell (first_pieces a) ++ t) two.parts ∙ sym
             (spelled a v rest one.shaped two.shaped);
@@ -128,7 +128,7 @@ module _ {A C : Type 0} {IsFirst : A → Type 0} {first_pieces : A → List Piec
         n = out.n;
         after = out.after;
         tail = out.tail;
-        split = joined.text a out.value one.shaped out.shaped ∙ ap (λ (ps : List Piece). first_pieces a ++ ps) out.split
+        split = joined.text a out.value one.shaped out.shaped ∙ ap (λ (ps : List TextPiece). first_pieces a ++ ps) out.split
             ∙ sym (append_assoc (first_pieces a) out.before (number out.low out.high out.n ∷ out.after));
         within = within-append (first_pieces a) out.before one.within out.within;
         beyond = out.beyond;
@@ -152,7 +152,7 @@ module _ {A C : Type 0} {IsFirst : A → Type 0} {first_pieces : A → List Piec
         after = out.after ++ second_pieces out.value last.some;
         tail = out.tail;
         split = joined.text out.value last.some out.shaped last.some_shaped ∙ ap
-            (λ (ps : List Piece). ps ++ second_pieces out.value last.some) out.split
+            (λ (ps : List TextPiece). ps ++ second_pieces out.value last.some) out.split
             ∙ append_assoc out.before (number out.low out.high out.n ∷ out.after) (second_pieces out.value last.some);
         within = out.within;
         beyond = out.beyond;
@@ -186,10 +186,10 @@ module _ {A C : Type 0} {IsFirst : A → Type 0} {first_pieces : A → List Piec
             }) in
             ap (λ (x : Answer A). then_read x next) here
         | inr there ↦
-            let both = let P : List Piece → Type 0 = AllWithin in subst P there.prefix out.within in
+            let both = let P : List TextPiece → Type 0 = AllWithin in subst P there.prefix out.within in
             let mid : List ℕ = spell there.others ++ (numeral out.n ++ out.tail) in
             let text-is : text ≡ spell (first_pieces p.part) ++ mid =
-            out.parts ∙ ap (λ (ps : List Piece). spell ps ++ (numeral out.n ++ out.tail)) there.prefix
+            out.parts ∙ ap (λ (ps : List TextPiece). spell ps ++ (numeral out.n ++ out.tail)) there.prefix
             ∙ spell_two (first_pieces p.part) there.others (numeral out.n ++ out.tail) in
             let here : read text ≡ got p.part mid = ap read text-is ∙ first.again p.part mid p.first
             (within-first (first_pieces p.part) there.others both) in
@@ -215,7 +215,7 @@ module _ {A C : Type 0} {IsFirst : A → Type 0} {first_pieces : A → List Piec
       then_read (read (spell (pieces v) ++ rest)) next ≡ got v rest
   then_again v rest shaped within =
       let p = joined.separated v shaped in
-      let both = let P : List Piece → Type 0 = AllWithin in subst P (joined.text p.part v p.first p.second) within in
+      let both = let P : List TextPiece → Type 0 = AllWithin in subst P (joined.text p.part v p.first p.second) within in
       let here = ap read (spelled p.part v rest p.first p.second) ∙ first.again p.part (spell (second_pieces p.part v) ++ rest)
       p.first
       (within-first (first_pieces p.part) (second_pieces p.part v) both) in

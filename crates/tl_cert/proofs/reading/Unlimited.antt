@@ -1,7 +1,7 @@
 -- Reading a list without a limit on its items is exact.
 use Rattle.std.proofs.Common.{◌≡◌, ℕ, zero, suc, ◌+◌, ◌≤◌, ◌<◌, List, [], ◌∷◌, ◌++◌, length, refl, sym, ap, subst, ◌∙◌, arith}
 use Rattle.std.proofs.lemmas.List.{length-append}
-use Rattle.tl_cert.specs.Pieces.{Piece, spell, AllWithin}
+use Rattle.tl_cert.specs.Pieces.{TextPiece, spell, AllWithin}
 use Rattle.tl_cert.specs.inner.reading.Readings.{Answer, got, wrong, outside, Reading, then_read, followed, ◌>>=◌, give, either}
 use Rattle.tl_cert.specs.inner.reading.Lists.{Turn, halt, go, look, by_turn, ListReading, Listing, listing, stopping, list_at}
 use Rattle.tl_cert.specs.inner.reading.Lists.{all_at}
@@ -116,7 +116,7 @@ module _ {S A V E : Type 0} (list : ListReading S A V E) (form : ListForm S A V 
   abbrev pub IsListedAt : S → Listing V E → Type 0
   IsListedAt s x = (k : ℕ) × IsListed list form (suc k) s (x.0) (x.1)
 
-  abbrev pieces : Listing V E → List Piece
+  abbrev pieces : Listing V E → List TextPiece
   pieces x = list_pieces form (x.0) (x.1)
 
   enough : (s : S) (x : Listing V E) (k : ℕ) → length (spell (pieces x)) ≤ k → IsListedAt s x →

@@ -2,7 +2,7 @@
 use Rattle.std.proofs.Common.{◌≡◌, ℕ, suc, eqb, List, [], ◌∷◌, ◌++◌, length, refl, sym, ap, subst, ◌∙◌, inl, inr}
 use Rattle.std.proofs.lemmas.Bool.{cases_Bool, eqb-true, eqb-false, eq-eqb}
 use Rattle.std.proofs.lemmas.List.{append_cancel_left}
-use Rattle.tl_cert.specs.Pieces.{Piece, number, spell, word, AllWithin}
+use Rattle.tl_cert.specs.Pieces.{TextPiece, number, spell, word, AllWithin}
 use Rattle.tl_cert.specs.inner.reading.Readings.{Answer, got, wrong, outside, word_at, give}
 use Rattle.tl_cert.proofs.reading.Exact.{SameStart, Exact}
 
@@ -15,7 +15,7 @@ within-word [] = tt
 within-word (c ∷ w) = (tt, within-word w)
 
 -- no number stands in a word
-pub no_number : (w : List ℕ) (before after : List Piece) (low high n : ℕ) → word w ≡ before ++ number low high n ∷ after → ⊥
+pub no_number : (w : List ℕ) (before after : List TextPiece) (low high n : ℕ) → word w ≡ before ++ number low high n ∷ after → ⊥
 no_number [] [] after low high n e = cc
 no_number [] (p ∷ before) after low high n e = cc
 no_number (c ∷ w) [] after low high n e = cc

@@ -14,9 +14,9 @@ use Rattle.tl_cert.specs.declared.log.End.TheVariants as ends
 use Rattle.tl_cert.specs.declared.areas.Areas.{Areas}
 use Rattle.tl_base.specs.declared.limits.TheConstants.{MAX_PAGE_WIDTH}
 use Rattle.tl_cert.specs.declared.limits.TheConstants.{MAX_SPAN, MAX_BOUNDS}
-use Rattle.tl_cert.specs.Pieces.{Piece, character, number, field, spell, numeral}
+use Rattle.tl_cert.specs.Pieces.{TextPiece, character, number, field, spell, numeral}
 use Rattle.tl_cert.specs.Text.{space, side_sign, bound_pieces, comes_before, AreInOrder, AreBounds}
-use Rattle.tl_cert.specs.inner.CertReading.{may_follow, may_follow_as, is_sign, side_of, bound_at, bounds_reading, bounds_at}
+use Rattle.tl_cert.specs.inner.CertReading.{may_follow, may_follow_as, is_sign, side_of, bound_reading, bounds_reading, bounds_at}
 use Rattle.tl_cert.specs.inner.CertReading.{fires_at}
 use Rattle.tl_cert.specs.inner.reading.Readings.{begins}
 use Rattle.tl_cert.specs.inner.reading.Lists.{Listing, listing}
@@ -110,7 +110,7 @@ sign_follows (Some a) x width is =
 
 -- ---- one bound, and the space after it
 
-abbrev pub bounded : Bound → List Piece
+abbrev pub bounded : Bound → List TextPiece
 bounded b = bound_pieces b ++ (character space ∷ [])
 
 abbrev signed : Bound → ℕ × ℕ
@@ -124,8 +124,8 @@ bound_again b x width is w =
     let P : Side → Bound = λ side. record { span = b.span; side = side; width = b.width } in
     ap P (sym (side_again b.side)) ∙ ap (λ (y : ℕ × ℕ). bound_of y b.width) is ∙ ap (bound_of x) w
 
-exact_bound : (before : Option Bound) → Exact (bound_at before) (λ b. follows before b ≡ true) bounded
-unfolding bound_at
+exact_bound : (before : Option Bound) → Exact (bound_reading before) (λ b. follows before b ≡ true) bounded
+unfolding bound_reading
 exact_bound before =
     exact_part_then signed (λ b. follows before b ≡ true) bounded (λ x b. field 0 MAX_PAGE_WIDTH b.width space)
     (exact_number 0 MAX_SPAN (span_rule before))
@@ -240,13 +240,13 @@ bounds_from areas [] x is = absurd (omega (arith, is.bounds.some))
 bounds_from areas (b ∷ bs) x is =
     (refl, (refl, later_from areas 7 b bs x (omega (arith, is.bounds.most)) is.bounds.ordered is.fires))
 
-abbrev pub bounds_text : Listing Bound (Listing ℕ End) → List Piece
+abbrev pub bounds_text : Listing Bound (Listing ℕ End) → List TextPiece
 bounds_text x = flat_map bounded (x.0) ++ fires_pieces (x.1)
 
 bounds_same : (areas : Areas) (bs : List Bound) (x : Listing ℕ End) →
     list_pieces (bounds_form areas) bs x ≡ flat_map bounded bs ++ fires_pieces x
 bounds_same areas [] x = refl
-bounds_same areas (b ∷ bs) x = ap (λ (ps : List Piece). bounded b ++ ps) (bounds_same areas bs x)
+bounds_same areas (b ∷ bs) x = ap (λ (ps : List TextPiece). bounded b ++ ps) (bounds_same areas bs x)
 
 pub exact_bounds : (areas : Areas) → Exact (bounds_at areas) (AreBoundsAndFires areas) bounds_text
 exact_bounds areas =

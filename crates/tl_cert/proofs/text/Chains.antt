@@ -7,7 +7,7 @@ use Rattle.std.proofs.lemmas.List.{append-nil}
 use Rattle.tl_base.specs.declared.chain.Entry.{Entry}
 use Rattle.tl_base.specs.declared.chain.Chain.{Chain}
 use Rattle.tl_cert.specs.declared.limits.TheConstants.{MAX_TABLE}
-use Rattle.tl_cert.specs.Pieces.{Piece, character, number, field, word}
+use Rattle.tl_cert.specs.Pieces.{TextPiece, character, number, field, word}
 use Rattle.tl_cert.specs.Text.{space, entry_pieces, chain_pieces}
 use Rattle.tl_cert.specs.inner.CertReading.{entry_at, chain_at, chains_turn, chains_reading, chains_at}
 use Rattle.tl_cert.specs.inner.reading.Readings.{got, word_at}
@@ -27,7 +27,7 @@ IsChain chain = 1 ≤ length chain.entries
 abbrev entries_of : Chain → Listing Entry (Unit {0})
 entries_of chain = listing chain.entries tt
 
-abbrev after_word : Chain → List Piece
+abbrev after_word : Chain → List TextPiece
 after_word chain = field 0 MAX_TABLE chain.table space ++ entries_read (entries_of chain)
 
 abbrev AnyEntry : Entry → Type 0
@@ -38,8 +38,9 @@ chain_text : (entries : List Entry) (table : ℕ) → 1 ≤ length entries
     ≡ field 0 MAX_TABLE table space ++ entries_read (listing entries tt)
 chain_text [] table some = absurd (omega arith)
 chain_text (e ∷ entries) table some =
-    ap (λ (ps : List Piece). number 0 MAX_TABLE table ∷ ps)
-    (items_text AnyEntry entry_pieces (λ k more. entry_at true) e entries tt [] ∙ ap (λ (ps : List Piece). character space ∷ ps)
+    ap (λ (ps : List TextPiece). number 0 MAX_TABLE table ∷ ps)
+    (items_text AnyEntry entry_pieces (λ k more. entry_at true) e entries tt []
+    ∙ ap (λ (ps : List TextPiece). character space ∷ ps)
     (append-nil (entries_read (listing (e ∷ entries) tt))))
 
 exact_chain : Exact chain_at IsChain chain_pieces
@@ -57,7 +58,7 @@ exact_chain =
     (λ chain is. chain_again chain table x is.0.1 is.1))
     (λ chain is. (is.0, sym (append-nil (entries_read (entries_of chain))))))
     (λ chain is. (tt, refl)))
-    (λ chain some. ap (λ (ps : List Piece). word (codes "chain ") ++ ps) (chain_text chain.entries chain.table some))
+    (λ chain some. ap (λ (ps : List TextPiece). word (codes "chain ") ++ ps) (chain_text chain.entries chain.table some))
   where
     chain_again : (chain : Chain) (table : ℕ) (x : Listing Entry (Unit {0})) → chain.table ≡ table → entries_of chain ≡ x
         → chain ≡ record { table = table; entries = x.0 }
@@ -76,7 +77,7 @@ abbrev IsReadyFor : ℕ → Bool → Type 0
 IsReadyFor zero first = IsLater first
 IsReadyFor (suc k) first = Unit {0}
 
-abbrev pub end_line : List Piece
+abbrev pub end_line : List TextPiece
 end_line = word (codes "end\n")
 
 abbrev pub chains_form : ListForm Bool Chain Chain (Unit {0})
@@ -154,13 +155,13 @@ chains_from (suc k) false [] e most each some = tt
 chains_from (suc k) first (chain ∷ chains) e most each some =
     (refl, (each.0, chains_from k false chains e (omega arith) each.1 (λ begun. absurd cc)))
 
-abbrev pub chains_pieces : Listing Chain (Unit {0}) → List Piece
+abbrev pub chains_pieces : Listing Chain (Unit {0}) → List TextPiece
 chains_pieces x = flat_map chain_pieces (x.0) ++ end_line
 
 chains_text : (chains : List Chain) (e : Unit {0}) → list_pieces chains_form chains e ≡ flat_map chain_pieces chains ++ end_line
 chains_text [] e = refl
 chains_text (chain ∷ chains) e =
-    ap (λ (ps : List Piece). chain_pieces chain ++ ps) (chains_text chains e) ∙ sym
+    ap (λ (ps : List TextPiece). chain_pieces chain ++ ps) (chains_text chains e) ∙ sym
     (append_assoc (chain_pieces chain) (flat_map chain_pieces chains) end_line)
 
 pub exact_chains : Exact chains_at AreChains chains_pieces

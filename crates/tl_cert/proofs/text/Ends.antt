@@ -8,7 +8,7 @@ use Rattle.tl_cert.specs.declared.log.End.TheVariants.{Fired, Cycle, Chain, Area
 use Rattle.tl_cert.specs.declared.areas.Areas.{Areas}
 use Rattle.tl_cert.specs.declared.areas.Areas.TheVariants.{Never, Free, Owed}
 use Rattle.tl_cert.specs.declared.limits.TheConstants.{MAX_LINE, MAX_FIRES}
-use Rattle.tl_cert.specs.Pieces.{Piece, character, field, word, spell}
+use Rattle.tl_cert.specs.Pieces.{TextPiece, character, field, word, spell}
 use Rattle.tl_cert.specs.Text.{space, end_word, is_area}
 use Rattle.tl_cert.specs.inner.Areas.{Suits}
 use Rattle.tl_cert.specs.inner.CertReading.{cycle_or_chain_at, plain_end_at, area_at, end_at, fire_at, fires_reading, fires_at}
@@ -21,10 +21,10 @@ use Rattle.tl_cert.proofs.reading.Same.{exact_same}
 use Rattle.tl_cert.proofs.reading.ListExact.{ListForm, IsListed, list_pieces, IsExactList, exact_list}
 use Rattle.tl_cert.proofs.text.Fields.{exact_after, exact_sign, exact_field}
 
-abbrev pub end_pieces : End → List Piece
+abbrev pub end_pieces : End → List TextPiece
 end_pieces end = word (end_word end)
 
-abbrev tail_word : End → List Piece
+abbrev tail_word : End → List TextPiece
 tail_word Cycle = word (codes "ycle\n")
 tail_word Chain = word (codes "hain\n")
 tail_word Fired = []
@@ -130,7 +130,7 @@ exact_end Owed = exact_same (λ e. is_area e ≡ true) end_pieces exact_area (λ
 -- ---- the lines that are fired
 
 -- `@k` and a space
-abbrev pub fired : ℕ → List Piece
+abbrev pub fired : ℕ → List TextPiece
 fired n = character 64 ∷ field 0 MAX_LINE n space
 
 exact_fire : Exact fire_at IsAny fired
@@ -172,7 +172,7 @@ pub record AreFires (areas : Areas) (x : Listing ℕ End) : Type 0 where
   pub most : length x.0 ≤ MAX_FIRES
   pub end : Suits areas (is_area x.1)
 
-abbrev pub fires_pieces : Listing ℕ End → List Piece
+abbrev pub fires_pieces : Listing ℕ End → List TextPiece
 fires_pieces x = flat_map fired (x.0) ++ end_pieces (x.1)
 
 fires_to : (areas : Areas) (k : ℕ) (ns : List ℕ) (e : End) → IsListed (fires_reading areas) (fires_form areas) k tt ns e
@@ -191,7 +191,7 @@ fires_from areas (suc k) (n ∷ ns) e most is = (refl, (tt, fires_from areas k n
 
 fires_text : (areas : Areas) (ns : List ℕ) (e : End) → list_pieces (fires_form areas) ns e ≡ flat_map fired ns ++ end_pieces e
 fires_text areas [] e = refl
-fires_text areas (n ∷ ns) e = ap (λ (ps : List Piece). fired n ++ ps) (fires_text areas ns e)
+fires_text areas (n ∷ ns) e = ap (λ (ps : List TextPiece). fired n ++ ps) (fires_text areas ns e)
 
 pub exact_fires : (areas : Areas) → Exact (fires_at areas) (AreFires areas) fires_pieces
 exact_fires areas =

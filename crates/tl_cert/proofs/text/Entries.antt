@@ -9,11 +9,11 @@ use Rattle.std.proofs.lemmas.List.{length-append}
 use Rattle.tl_base.specs.declared.chain.Entry.{Entry}
 use Rattle.tl_base.specs.declared.limits.TheConstants.{MAX_CELLS}
 use Rattle.tl_cert.specs.declared.limits.TheConstants.{MAX_TABLE}
-use Rattle.tl_cert.specs.Pieces.{Piece, character, number, spell, numeral}
+use Rattle.tl_cert.specs.Pieces.{TextPiece, character, number, spell, numeral}
 use Rattle.tl_cert.specs.Text.{space, entry_pieces, inner_pieces}
 use Rattle.tl_cert.specs.inner.CertReading.{ends_item, inner_at, entry_at, entries_reading, entries_at}
 use Rattle.tl_cert.specs.inner.reading.Readings.{got, Reading, followed, ◌>>=◌, give}
-use Rattle.tl_cert.specs.inner.reading.Numbers.{number_at}
+use Rattle.tl_cert.specs.inner.reading.Numbers.{number_reading}
 use Rattle.tl_cert.specs.inner.reading.Lists.{Listing}
 use Rattle.tl_cert.proofs.reading.Exact.{Exact}
 use Rattle.tl_cert.proofs.reading.Same.{exact_same}
@@ -27,7 +27,7 @@ use Rattle.tl_cert.proofs.text.Items.{items_from}
 use Rattle.tl_cert.proofs.text.SectionReading.{space_again}
 
 -- one reading or another, by a test
-exact_cond : {C : Type 0} (b : Bool) {one two : Reading C} (IsShaped : C → Type 0) (pieces : C → List Piece) →
+exact_cond : {C : Type 0} (b : Bool) {one two : Reading C} (IsShaped : C → Type 0) (pieces : C → List TextPiece) →
     (b ≡ true → Exact one IsShaped pieces)
     → (b ≡ false → Exact two IsShaped pieces)
     → Exact (cond b one two) IsShaped pieces
@@ -35,7 +35,8 @@ exact_cond true IsShaped pieces first other = first refl
 exact_cond false IsShaped pieces first other = other refl
 
 -- what was read takes at least a character
-pub shorter_by : {C : Type 0} {read : Reading C} {IsShaped : C → Type 0} {pieces : C → List Piece} → Exact read IsShaped pieces
+pub shorter_by : {C : Type 0} {read : Reading C} {IsShaped : C → Type 0} {pieces : C → List TextPiece} →
+    Exact read IsShaped pieces
     → ((v : C) → 0 < length (spell (pieces v)))
     → (text : List ℕ) (v : C) (rest : List ℕ) → read text ≡ got v rest → length rest < length text
 shorter_by {pieces = pieces} exact some text v rest is =
@@ -70,7 +71,7 @@ abbrev cell_end : Option ℕ → Bool → ℕ
 cell_end None more = end_of more
 cell_end (Some table) more = 58
 
-abbrev inner_rest : Option ℕ → Bool → List Piece
+abbrev inner_rest : Option ℕ → Bool → List TextPiece
 inner_rest None more = []
 inner_rest (Some table) more = number 0 MAX_TABLE table ∷ character (end_of more) ∷ []
 
@@ -81,7 +82,7 @@ table_of (Some table) = table
 abbrev first_part : Entry × Bool → ℕ × ℕ
 first_part a = pair (a.0.cell) (cell_end (a.0.inner) (a.1))
 
-abbrev entry_rest : Entry × Bool → List Piece
+abbrev entry_rest : Entry × Bool → List TextPiece
 entry_rest a = inner_rest (a.0.inner) (a.1)
 
 colon_or_end : (more : Bool) (inner : Option ℕ) (goes_on : Bool) → (goes_on ≡ true → more ≡ true)
@@ -123,7 +124,7 @@ module _ (more : Bool) (x : ℕ × ℕ) (allowed : (eqb (x.1) 58 || ends_item mo
       let R : Bool → Entry × Bool = λ b. flag (record { cell = x.0; inner = Some (table_of (a.0.inner)) }) b in
       (ends_by more (a.1) is.0.1, ap P cell ∙ ap Q inner ∙ ap R (sym (space_again (a.1))))
 
-  exact_some : x.1 ≡ 58 → Exact (number_at 0 MAX_TABLE (λ n. true) (λ n d. ends_item more d) >>= λ y. give
+  exact_some : x.1 ≡ 58 → Exact (number_reading 0 MAX_TABLE (λ n. true) (λ n d. ends_item more d) >>= λ y. give
       (flag (record { cell = x.0; inner = Some (y.0) }) (eqb (y.1) space))) IsRest entry_rest
   exact_some c-is =
       exact_made (λ (y : ℕ × ℕ). flag (record { cell = x.0; inner = Some (y.0) }) (eqb (y.1) space))
@@ -196,7 +197,7 @@ entry_length a =
 
 -- where nothing is left to read it makes no difference whether another entry may follow
 pub entry_same : (k : ℕ) (text : List ℕ) → length text ≤ k → entry_at (ltb 0 k) text ≡ entry_at true text
-unfolding entry_at followed number_at
+unfolding entry_at followed number_reading
 entry_same k [] most = refl
 entry_same k (c ∷ text) most = ap (λ (more : Bool). entry_at more (c ∷ text)) (lt-ltb 0 k (omega arith))
 
@@ -225,7 +226,7 @@ any_entries : (entries : List Entry) → AllByRecursion AnyEntry entries
 any_entries [] = tt
 any_entries (e ∷ entries) = (tt, any_entries entries)
 
-abbrev pub entries_read : Listing Entry (Unit {0}) → List Piece
+abbrev pub entries_read : Listing Entry (Unit {0}) → List TextPiece
 entries_read x = list_pieces entries_form (x.0) (x.1)
 
 pub exact_entries : Exact entries_at (λ x. 1 ≤ length (x.0)) entries_read

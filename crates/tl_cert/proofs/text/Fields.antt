@@ -4,7 +4,7 @@ use Rattle.std.specs.List.{flat_map}
 use Rattle.std.specs.Char.{is_ascii_digit}
 use Rattle.std.proofs.lemmas.Bool.{eqb-true, eq-eqb}
 use Rattle.std.proofs.lemmas.List.{append-nil}
-use Rattle.tl_cert.specs.Pieces.{Piece, number, character, field, word}
+use Rattle.tl_cert.specs.Pieces.{TextPiece, number, character, field, word}
 use Rattle.tl_cert.specs.inner.reading.Readings.{Reading, ◌>>=◌, give, word_at}
 use Rattle.tl_cert.specs.inner.reading.Numbers.{field_at}
 use Rattle.tl_cert.proofs.reading.Exact.{Exact}
@@ -14,9 +14,9 @@ use Rattle.tl_cert.proofs.reading.Same.{exact_same}
 use Rattle.tl_cert.proofs.reading.NumberReading.{IsRule, exact_number}
 
 -- A value that a reading's value stands for.
-pub exact_made : {A C : Type 0} {read : Reading A} {IsFirst : A → Type 0} {first_pieces : A → List Piece} (make : A →
+pub exact_made : {A C : Type 0} {read : Reading A} {IsFirst : A → Type 0} {first_pieces : A → List TextPiece} (make : A →
     C) (part : C → A)
-    (IsShaped : C → Type 0) (pieces : C → List Piece)
+    (IsShaped : C → Type 0) (pieces : C → List TextPiece)
     → Exact read IsFirst first_pieces → ((v : C) → IsShaped v → IsFirst (part v) × (v ≡ make (part v)))
     → ((a : A) → IsFirst a → IsShaped (make a) × (pieces (make a) ≡ first_pieces a))
     → Exact (read >>= λ a. give (make a)) IsShaped pieces
@@ -29,7 +29,7 @@ exact_made {A} {C} {read} {IsFirst} {first_pieces} make part IsShaped pieces fir
     exact_then first (λ a one. exact_give (make a)) joined
 
 -- A word and then what another reading reads.
-pub exact_after : {C : Type 0} (w : List ℕ) {next : Reading C} {IsShaped : C → Type 0} (rest pieces : C → List Piece) →
+pub exact_after : {C : Type 0} (w : List ℕ) {next : Reading C} {IsShaped : C → Type 0} (rest pieces : C → List TextPiece) →
     Exact next IsShaped rest
     → ((v : C) → IsShaped v → pieces v ≡ word w ++ rest v)
     → Exact (word_at w >>= λ _. next) IsShaped pieces
@@ -43,7 +43,7 @@ exact_after {C} w {next} {IsShaped} rest pieces second text =
     exact_then (exact_word w) (λ a one. second) joined
 
 -- a word that stands for one value
-pub exact_sign : {C : Type 0} (w : List ℕ) (value : C) (pieces : C → List Piece) → pieces value ≡ word w
+pub exact_sign : {C : Type 0} (w : List ℕ) (value : C) (pieces : C → List TextPiece) → pieces value ≡ word w
     → Exact (word_at w >>= λ _. give value) (λ v. v ≡ value) pieces
 exact_sign {C} w value pieces text = exact_after w (λ _. []) pieces (exact_give value)
     (λ v is. ap pieces is ∙ text ∙ sym (append-nil (word w)))
@@ -66,10 +66,10 @@ exact_field low high end other =
     (λ x is. (tt, ap (λ (c : ℕ). number low high x.0 ∷ character c ∷ []) (sym (eqb-true x.1 end is))))
 
 -- Any part of a value, and then the others.
-pub exact_part_then : {A C : Type 0} {read : Reading A} {IsFirst : A → Type 0} {first_pieces : A → List Piece} (part : C →
+pub exact_part_then : {A C : Type 0} {read : Reading A} {IsFirst : A → Type 0} {first_pieces : A → List TextPiece} (part : C →
     A) {next : A → Reading C}
     (IsShaped : C → Type 0)
-    (pieces : C → List Piece) (rest : A → C → List Piece) → Exact read IsFirst first_pieces
+    (pieces : C → List TextPiece) (rest : A → C → List TextPiece) → Exact read IsFirst first_pieces
     → ((a : A) → IsFirst a → Exact (next a) (λ v. IsShaped v × (part v ≡ a)) (rest a))
     → ((v : C) → IsShaped v → IsFirst (part v) × (pieces v ≡ first_pieces (part v) ++ rest (part v) v)) →
     Exact (read >>= next) IsShaped pieces
@@ -88,11 +88,11 @@ exact_only {C} value IsShaped shaped only = exact_same IsShaped (λ v. []) (exac
     (λ v is. subst IsShaped (sym is) shaped) only (λ v is. refl)
 
 -- items with a separator before each, and one more of it, are the separator and items with one after each
-pub shifted : {X : Type 0} (f : X → List Piece) (sep : Piece) (xs : List X) (t : List Piece)
+pub shifted : {X : Type 0} (f : X → List TextPiece) (sep : TextPiece) (xs : List X) (t : List TextPiece)
     → flat_map (λ x. sep ∷ f x) xs ++ (sep ∷ t) ≡ sep ∷ (flat_map (λ x. f x ++ (sep ∷ [])) xs ++ t)
 shifted f sep [] t = refl
 shifted f sep (x ∷ xs) t =
-    ap (λ (ps : List Piece). sep ∷ ps)
-    (append_assoc (f x) (flat_map (λ y. sep ∷ f y) xs) (sep ∷ t) ∙ ap (λ (ps : List Piece). f x ++ ps) (shifted f sep xs t)
+    ap (λ (ps : List TextPiece). sep ∷ ps)
+    (append_assoc (f x) (flat_map (λ y. sep ∷ f y) xs) (sep ∷ t) ∙ ap (λ (ps : List TextPiece). f x ++ ps) (shifted f sep xs t)
     ∙ sym (append_assoc (f x ++ (sep ∷ [])) (flat_map (λ y. f y ++ (sep ∷ [])) xs) t
     ∙ append_assoc (f x) (sep ∷ []) (flat_map (λ y. f y ++ (sep ∷ [])) xs ++ t)))

@@ -5,7 +5,7 @@ use Rattle.std.specs.Char.{is_ascii_digit}
 use Rattle.std.specs.List.{flat_map, AllByRecursion}
 use Rattle.std.proofs.lemmas.Bool.{eqb-true, or_cases, and_parts, lt-ltb}
 use Rattle.std.proofs.lemmas.List.{append-nil}
-use Rattle.tl_cert.specs.Pieces.{Piece, character, numeral}
+use Rattle.tl_cert.specs.Pieces.{TextPiece, character, numeral}
 use Rattle.tl_cert.specs.Text.{space, line_feed}
 use Rattle.tl_cert.specs.inner.CertReading.{ends_item, more_turn}
 use Rattle.tl_cert.specs.inner.reading.Readings.{Reading, give}
@@ -54,7 +54,7 @@ abbrev pub any_left : {V : Type 0} → List V → Bool
 any_left [] = false
 any_left (v ∷ vs) = true
 
-module _ {V : Type 0} (IsOne : V → Type 0) (one_pieces : V → List Piece) where
+module _ {V : Type 0} (IsOne : V → Type 0) (one_pieces : V → List TextPiece) where
   abbrev pub flagged : V → Bool → V × Bool
   flagged v more = (v, more)
 
@@ -70,7 +70,7 @@ module _ {V : Type 0} (IsOne : V → Type 0) (one_pieces : V → List Piece) whe
   IsReadyFor zero more = IsLast more
   IsReadyFor (suc k) more = Unit {0}
 
-  abbrev pub item_pieces : V × Bool → List Piece
+  abbrev pub item_pieces : V × Bool → List TextPiece
   item_pieces a = one_pieces (a.0) ++ (character (end_of (a.1)) ∷ [])
 
   abbrev pub items_form : ListForm Bool (V × Bool) V (Unit {0})
@@ -161,17 +161,17 @@ module _ {V : Type 0} (IsOne : V → Type 0) (one_pieces : V → List Piece) whe
         (refl, ((each.0, λ is. lt-ltb 0 k (omega arith)), items_from k (w ∷ vs) e (omega arith) (omega arith) each.1))
 
     -- a space before each item and a line feed after the last are the space, and what is read
-    pub items_text : (v : V) (vs : List V) (e : Unit {0}) (t : List Piece)
+    pub items_text : (v : V) (vs : List V) (e : Unit {0}) (t : List TextPiece)
         → flat_map (λ u. character space ∷ one_pieces u) (v ∷ vs) ++ (character line_feed ∷ t) ≡ character space ∷
         (list_pieces items_form (v ∷ vs) e ++ t)
     items_text v [] e t =
-        ap (λ (ps : List Piece). character space ∷ ps)
+        ap (λ (ps : List TextPiece). character space ∷ ps)
         (append_assoc (one_pieces v) [] (character line_feed ∷ t)
         ∙ sym (append_assoc (one_pieces v ++ (character line_feed ∷ [])) [] t ∙ append_assoc (one_pieces v)
         (character line_feed ∷ []) t))
     items_text v (w ∷ vs) e t =
-        ap (λ (ps : List Piece). character space ∷ ps)
+        ap (λ (ps : List TextPiece). character space ∷ ps)
         (append_assoc (one_pieces v) (flat_map (λ u. character space ∷ one_pieces u) (w ∷ vs)) (character line_feed ∷ t)
-        ∙ ap (λ (ps : List Piece). one_pieces v ++ ps) (items_text w vs e t)
+        ∙ ap (λ (ps : List TextPiece). one_pieces v ++ ps) (items_text w vs e t)
         ∙ sym (append_assoc (one_pieces v ++ (character space ∷ [])) (list_pieces items_form (w ∷ vs) e) t
         ∙ append_assoc (one_pieces v) (character space ∷ []) (list_pieces items_form (w ∷ vs) e ++ t)))

@@ -11,7 +11,7 @@ use Rattle.tl_cert.specs.declared.log.LogLine.{LogLine}
 use Rattle.tl_cert.specs.declared.areas.Areas.{Areas}
 use Rattle.tl_base.specs.declared.limits.TheConstants.{MAX_PAGE_WIDTH}
 use Rattle.tl_cert.specs.declared.limits.TheConstants.{MAX_ZONE, MAX_LINE}
-use Rattle.tl_cert.specs.Pieces.{Piece, character, number, field, word, spell, numeral}
+use Rattle.tl_cert.specs.Pieces.{TextPiece, character, number, field, word, spell, numeral}
 use Rattle.tl_cert.specs.Text.{space, side_sign, bound_pieces, bounds_pieces, fire_pieces, line_pieces, is_area, IsLineShaped}
 use Rattle.tl_cert.specs.Text.{IsNogoodShaped, AreBounds}
 use Rattle.tl_cert.specs.inner.Areas.{Suits}
@@ -51,7 +51,7 @@ record IsZoneLine (areas : Areas) (line : LogLine) : Type 0 where
   zone : IsZone line.nogood
   fires : AreFires areas (fired_by line)
 
-abbrev after_zone : LogLine → List Piece
+abbrev after_zone : LogLine → List TextPiece
 after_zone line = field 0 MAX_ZONE (zone_of line.nogood) space ++ fires_pieces (fired_by line)
 
 zone_again : (nogood : Nogood) (zone : ℕ) → IsZone nogood → zone_of nogood ≡ zone → nogood ≡ nogoods.Zone zone
@@ -61,10 +61,10 @@ zone_again (nogoods.Bounds bounds) zone is same = absurd is
 zone_text : (nogood : Nogood) (line : LogLine) → IsZone nogood → line.nogood ≡ nogood →
     line_pieces line ≡ word (codes "z") ++ after_zone line
 zone_text (nogoods.Zone z) line is same =
-    let P : Nogood → List Piece = λ nogood. line_pieces (record { nogood = nogood; fires = line.fires; end = line.end }) in
-    let Q : Nogood → List Piece = λ nogood. word (codes "z") ++
+    let P : Nogood → List TextPiece = λ nogood. line_pieces (record { nogood = nogood; fires = line.fires; end = line.end }) in
+    let Q : Nogood → List TextPiece = λ nogood. word (codes "z") ++
     (field 0 MAX_ZONE (zone_of nogood) space ++ fires_pieces (fired_by line)) in
-    ap P same ∙ ap (λ (ps : List Piece). character 122 ∷ number 0 MAX_ZONE z ∷ ps)
+    ap P same ∙ ap (λ (ps : List TextPiece). character 122 ∷ number 0 MAX_ZONE z ∷ ps)
     (shifted (λ (n : ℕ). character 64 ∷ number 0 MAX_LINE n ∷ []) (character space) line.fires (end_pieces line.end)) ∙ sym
     (ap Q same)
 zone_text (nogoods.Bounds bounds) line is same = absurd is
@@ -122,9 +122,9 @@ bounds_line_text [] x some = absurd (omega arith)
 bounds_line_text (b ∷ bs) x some =
     append_assoc (bound_pieces b) (flat_map (λ m. character space ∷ bound_pieces m) bs)
     (flat_map fire_pieces (x.0) ++ (character space ∷ end_pieces (x.1)))
-    ∙ ap (λ (ps : List Piece). bound_pieces b ++ (flat_map (λ m. character space ∷ bound_pieces m) bs ++ ps))
+    ∙ ap (λ (ps : List TextPiece). bound_pieces b ++ (flat_map (λ m. character space ∷ bound_pieces m) bs ++ ps))
     (shifted (λ (n : ℕ). character 64 ∷ number 0 MAX_LINE n ∷ []) (character space) (x.0) (end_pieces (x.1)))
-    ∙ ap (λ (ps : List Piece). bound_pieces b ++ ps) (shifted bound_pieces (character space) bs (fires_pieces x))
+    ∙ ap (λ (ps : List TextPiece). bound_pieces b ++ ps) (shifted bound_pieces (character space) bs (fires_pieces x))
 
 exact_bounds_line : (areas : Areas) → Exact (bounds_line_at areas) (IsBoundsLine areas) line_pieces
 exact_bounds_line areas =
@@ -173,11 +173,11 @@ digit_no_z n t =
     no_z : (c : ℕ) → is_ascii_digit c ≡ true → eqb c 122 ≡ false
     no_z c digit = let range = digit_range c digit in ne_eqb c 122 (λ same. omega arith)
 
-bounds_begin : (bounds : List Bound) (rest : List Piece) (t : List ℕ) → 1 ≤ length bounds
+bounds_begin : (bounds : List Bound) (rest : List TextPiece) (t : List ℕ) → 1 ≤ length bounds
     → begins (λ c. eqb c 122) (spell (bounds_pieces bounds ++ rest) ++ t) ≡ false
 bounds_begin [] rest t some = absurd (omega arith)
 bounds_begin (b ∷ bs) rest t some =
-    let others : List Piece = character (side_sign b.side) ∷ number 0 MAX_PAGE_WIDTH b.width ∷
+    let others : List TextPiece = character (side_sign b.side) ∷ number 0 MAX_PAGE_WIDTH b.width ∷
     (flat_map (λ m. character space ∷ bound_pieces m) bs ++ rest) in
     ap (begins (λ c. eqb c 122)) (append_assoc (numeral b.span) (spell others) t) ∙ digit_no_z b.span (spell others ++ t)
 

@@ -7,7 +7,7 @@ use Rattle.tl_cert.specs.declared.log.LogLine.{LogLine}
 use Rattle.tl_cert.specs.declared.areas.Areas.{Areas}
 use Rattle.tl_cert.specs.declared.areas.Areas.TheVariants.{Never, Free, Owed}
 use Rattle.tl_cert.specs.declared.limits.TheConstants.{MAX_ZONE, MAX_SPAN, MAX_CLASS}
-use Rattle.tl_cert.specs.Pieces.{Piece, field}
+use Rattle.tl_cert.specs.Pieces.{TextPiece, field}
 use Rattle.tl_cert.specs.Text.{space, line_feed, line_pieces, cut_pieces, is_area, log_has_area, IsLineShaped}
 use Rattle.tl_cert.specs.inner.Areas.{Suits, for_part, after}
 use Rattle.tl_cert.specs.inner.CertReading.{lines_reading, lines_at, cut_at, cuts_reading, cuts_at}
@@ -158,7 +158,7 @@ lines_from (suc k) areas (line ∷ lines) e is =
 
 lines_text : (lines : List LogLine) (e : Unit {0}) → list_pieces lines_form lines e ≡ flat_map line_pieces lines
 lines_text [] e = refl
-lines_text (line ∷ lines) e = ap (λ (ps : List Piece). line_pieces line ++ ps) (lines_text lines e)
+lines_text (line ∷ lines) e = ap (λ (ps : List TextPiece). line_pieces line ++ ps) (lines_text lines e)
 
 pub exact_lines : (count : ℕ) (areas : Areas) → IsReadyFor count areas →
     Exact (lines_at count areas) (λ x. AreLines count areas (x.0))
@@ -173,8 +173,8 @@ exact_lines count areas ready =
 exact_cut : Exact cut_at IsAny cut_pieces
 unfolding cut_at
 exact_cut =
-    let after_zone : CutAt → List Piece = λ cut. field 0 MAX_SPAN cut.span space ++ field 0 MAX_CLASS cut.class line_feed in
-    let after_word : CutAt → List Piece = λ cut. field 0 MAX_ZONE cut.zone space ++ after_zone cut in
+    let after_zone : CutAt → List TextPiece = λ cut. field 0 MAX_SPAN cut.span space ++ field 0 MAX_CLASS cut.class line_feed in
+    let after_word : CutAt → List TextPiece = λ cut. field 0 MAX_ZONE cut.zone space ++ after_zone cut in
     exact_after (codes "cut ") after_word cut_pieces
     (exact_part_then (λ (cut : CutAt). cut.zone) IsAny after_word (λ zone cut. after_zone cut) (exact_field 0 MAX_ZONE space refl)
     (λ zone a. exact_part_then (λ (cut : CutAt). cut.span) (λ cut. IsAny cut × (cut.zone ≡ zone)) after_zone
@@ -234,7 +234,7 @@ cuts_from (suc k) (cut ∷ cuts) e is = (refl, (tt, cuts_from k cuts e (omega ar
 
 cuts_text : (cuts : List CutAt) (e : Unit {0}) → list_pieces cuts_form cuts e ≡ flat_map cut_pieces cuts
 cuts_text [] e = refl
-cuts_text (cut ∷ cuts) e = ap (λ (ps : List Piece). cut_pieces cut ++ ps) (cuts_text cuts e)
+cuts_text (cut ∷ cuts) e = ap (λ (ps : List TextPiece). cut_pieces cut ++ ps) (cuts_text cuts e)
 
 pub exact_cuts : (count : ℕ) → Exact (cuts_at count) (λ x. length (x.0) ≡ count) (λ x. flat_map cut_pieces (x.0))
 exact_cuts count =

@@ -13,7 +13,7 @@ use Rattle.tl_cert.specs.declared.areas.Areas.{Areas}
 use Rattle.tl_cert.specs.declared.areas.Areas.TheVariants.{Never, Free, Owed}
 use Rattle.tl_base.specs.declared.limits.TheConstants.{MAX_PAGE_WIDTH, MAX_COLUMNS, MAX_HEIGHT, MAX_BUDGET}
 use Rattle.tl_cert.specs.declared.limits.TheConstants.{MAX_TABLE}
-use Rattle.tl_cert.specs.Pieces.{Piece, character, number, field, word, spell, numeral}
+use Rattle.tl_cert.specs.Pieces.{TextPiece, character, number, field, word, spell, numeral}
 use Rattle.tl_cert.specs.Text.{space, line_feed, spaced, line_pieces, cut_pieces, section_pieces, log_has_area, IsSectionShaped}
 use Rattle.tl_cert.specs.inner.Areas.{Suits}
 use Rattle.tl_cert.specs.inner.CertReading.{width_at, widths_reading, some_widths_at, widths_at, may_count, count_at, section_at}
@@ -31,7 +31,7 @@ use Rattle.tl_cert.proofs.text.SectionParts.{IsReadyFor, AreLines, exact_lines, 
 
 -- ---- widths
 
-abbrev width_pieces : ℕ → List Piece
+abbrev width_pieces : ℕ → List TextPiece
 width_pieces width = number 0 MAX_PAGE_WIDTH width ∷ []
 
 pub space_again : (more : Bool) → eqb (end_of more) space ≡ more
@@ -60,7 +60,7 @@ any_widths : (ws : List ℕ) → AllByRecursion AnyWidth ws
 any_widths [] = tt
 any_widths (w ∷ ws) = (tt, any_widths ws)
 
-abbrev widths_read : Listing ℕ (Unit {0}) → List Piece
+abbrev widths_read : Listing ℕ (Unit {0}) → List TextPiece
 widths_read x = list_pieces (items_form AnyWidth width_pieces) (x.0) (x.1)
 
 exact_some_widths : Exact some_widths_at AreSomeWidths widths_read
@@ -75,14 +75,14 @@ exact_some_widths =
     (any_widths (x.0)))
     (λ x is. refl)
 
-abbrev widths_tail : Listing ℕ (Unit {0}) → List Piece
+abbrev widths_tail : Listing ℕ (Unit {0}) → List TextPiece
 widths_tail x = flat_map (spaced MAX_PAGE_WIDTH) (x.0) ++ word (codes "\n")
 
 some_widths_text : (ws : List ℕ) (e : Unit {0}) → 1 ≤ length ws →
     widths_tail (listing ws e) ≡ word (codes " ") ++ widths_read (listing ws e)
 some_widths_text [] e some = absurd (omega arith)
 some_widths_text (w ∷ ws) e some =
-    items_text AnyWidth width_pieces (λ k more. width_at (ltb 0 k)) w ws e [] ∙ ap (λ (ps : List Piece). character space ∷ ps)
+    items_text AnyWidth width_pieces (λ k more. width_at (ltb 0 k)) w ws e [] ∙ ap (λ (ps : List TextPiece). character space ∷ ps)
     (append-nil (widths_read (listing (w ∷ ws) e)))
 
 abbrev pub AreWidths : Listing ℕ (Unit {0}) → Type 0
@@ -98,7 +98,7 @@ widths_begin : (ws : List ℕ) (e : Unit {0}) (t : List ℕ) → 1 ≤ length ws
 widths_begin [] e t some = absurd (omega arith)
 widths_begin (w ∷ ws) e t some = refl
 
-abbrev pub widths_pieces : Listing ℕ (Unit {0}) → List Piece
+abbrev pub widths_pieces : Listing ℕ (Unit {0}) → List TextPiece
 widths_pieces x = word (codes "widths") ++ widths_tail x
 
 pub exact_widths : Exact widths_at AreWidths widths_pieces
@@ -165,31 +165,31 @@ counted Owed [] asked = absurd cc
 counted Owed (line ∷ log) asked = lt-ltb 0 (length (line ∷ log)) (omega arith)
 
 module _ (areas : Areas) where
-  abbrev log_part : Section → List Piece
+  abbrev log_part : Section → List TextPiece
   log_part s = flat_map line_pieces s.log
 
-  abbrev trace_part : Section → List Piece
+  abbrev trace_part : Section → List TextPiece
   trace_part s = flat_map cut_pieces s.trace ++ log_part s
 
-  abbrev widths_part : Section → List Piece
+  abbrev widths_part : Section → List TextPiece
   widths_part s = word (codes "widths") ++ (flat_map (spaced MAX_PAGE_WIDTH) s.widths ++ (word (codes "\n") ++ trace_part s))
 
-  abbrev count_part : Section → List Piece
+  abbrev count_part : Section → List TextPiece
   count_part s = field 1 (2 * length s.trace + 1) (length s.log) line_feed ++ widths_part s
 
-  abbrev cuts_part : Section → List Piece
+  abbrev cuts_part : Section → List TextPiece
   cuts_part s = field 0 MAX_BUDGET (length s.trace) space ++ count_part s
 
-  abbrev lower_part : Section → List Piece
+  abbrev lower_part : Section → List TextPiece
   lower_part s = field 0 MAX_HEIGHT s.lower space ++ cuts_part s
 
-  abbrev height_part : Section → List Piece
+  abbrev height_part : Section → List TextPiece
   height_part s = field 0 MAX_HEIGHT s.height space ++ lower_part s
 
-  abbrev width_part : Section → List Piece
+  abbrev width_part : Section → List TextPiece
   width_part s = field 0 MAX_PAGE_WIDTH s.width space ++ height_part s
 
-  abbrev table_part : Section → List Piece
+  abbrev table_part : Section → List TextPiece
   table_part s = field 0 MAX_TABLE s.table space ++ width_part s
 
   abbrev Is1 : ℕ → Section → Type 0
@@ -317,7 +317,7 @@ module _ (areas : Areas) where
         sym (append_assoc (word (codes "widths") ++ flat_map (spaced MAX_PAGE_WIDTH) s.widths) (word (codes "\n")) (trace_part s)
             ∙ append_assoc (word (codes "widths")) (flat_map (spaced MAX_PAGE_WIDTH) s.widths)
             (word (codes "\n") ++ trace_part s))
-            ∙ ap (λ (ps : List Piece). ps ++ trace_part s)
+            ∙ ap (λ (ps : List TextPiece). ps ++ trace_part s)
             (append_assoc (word (codes "widths")) (flat_map (spaced MAX_PAGE_WIDTH) s.widths) (word (codes "\n"))),
       )))
       (λ s is. (

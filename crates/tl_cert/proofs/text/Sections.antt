@@ -6,7 +6,7 @@ use Rattle.tl_cert.specs.declared.section.Section.{Section}
 use Rattle.tl_cert.specs.declared.areas.Areas.{Areas}
 use Rattle.tl_cert.specs.declared.areas.Areas.TheVariants.{Never, Free, Owed}
 use Rattle.tl_cert.specs.declared.limits.TheConstants.{MAX_SECTIONS}
-use Rattle.tl_cert.specs.Pieces.{Piece}
+use Rattle.tl_cert.specs.Pieces.{TextPiece}
 use Rattle.tl_cert.specs.Text.{section_pieces, log_has_area, has_area, IsSectionShaped}
 use Rattle.tl_cert.specs.inner.Areas.{Suits, for_part, after}
 use Rattle.tl_cert.specs.inner.CertReading.{sections_turn, sections_reading, sections_at}
@@ -136,14 +136,14 @@ sections_from (suc k) first areas (section ∷ sections) e is some =
       ),
     )
 
-abbrev pub sections_pieces : Listing Section (Unit {0}) → List Piece
+abbrev pub sections_pieces : Listing Section (Unit {0}) → List TextPiece
 sections_pieces x = flat_map section_pieces (x.0) ++ end_line
 
 sections_text : (sections : List Section) (e : Unit {0}) → list_pieces sections_form sections e ≡ flat_map section_pieces
     sections ++ end_line
 sections_text [] e = refl
 sections_text (section ∷ sections) e =
-    ap (λ (ps : List Piece). section_pieces section ++ ps) (sections_text sections e)
+    ap (λ (ps : List TextPiece). section_pieces section ++ ps) (sections_text sections e)
     ∙ sym (append_assoc (section_pieces section) (flat_map section_pieces sections) end_line)
 
 -- at least one section, and at most so many

@@ -10,8 +10,8 @@ use Rattle.tl_cert.specs.declared.certificate.Claim.{Claim}
 use Rattle.tl_cert.specs.declared.certificate.Claim.TheVariants.{Lowest, Bounded, Narrow}
 use Rattle.tl_cert.specs.declared.certificate.Certificate.{Certificate}
 use Rattle.tl_base.specs.declared.limits.TheConstants.{MAX_PAGE_WIDTH, MAX_BUDGET, MAX_HEIGHT}
-use Rattle.tl_cert.specs.Pieces.{Piece, field, word, spell}
-use Rattle.tl_cert.specs.Text.{space, line_feed, version_word, style_word, claim_pieces, chain_pieces, IsNarrow}
+use Rattle.tl_cert.specs.Pieces.{TextPiece, field, word, spell}
+use Rattle.tl_cert.specs.Text.{space, line_feed, version_word, style_field, claim_pieces, chain_pieces, IsNarrow}
 use Rattle.tl_cert.specs.Text.{section_pieces, cert_pieces, has_area, HasChains, HasSections, HasProof, IsShaped}
 use Rattle.tl_cert.specs.inner.Areas.{Suits}
 use Rattle.tl_cert.specs.inner.CertReading.{version_at, no_lines_at, style_at, lowest_at, bounded_at, narrow_at}
@@ -31,7 +31,7 @@ version_separated : (b : Bool) → (b ≡ true) ⊎ (b ≡ false)
 version_separated true = inl refl
 version_separated false = inr refl
 
-abbrev version_pieces : Bool → List Piece
+abbrev version_pieces : Bool → List TextPiece
 version_pieces b = word (version_word b)
 
 exact_version : Exact version_at IsAny version_pieces
@@ -46,8 +46,8 @@ exact_version =
     } in
     exact_either (exact_sign (codes "2 ") true version_pieces refl) (exact_sign (codes "1 ") false version_pieces refl) chosen
 
-abbrev style_pieces : Style → List Piece
-style_pieces s = word (style_word s)
+abbrev style_pieces : Style → List TextPiece
+style_pieces s = word (style_field s)
 
 -- a style of the two that have no lines
 abbrev HasNoLines : Style → Type 0
@@ -114,7 +114,7 @@ second_of (Lowest height) = 0
 second_of (Bounded height lower) = lower
 second_of (Narrow least) = 0
 
-abbrev last_field : Claim → List Piece
+abbrev last_field : Claim → List TextPiece
 last_field claim = field 0 MAX_HEIGHT (first_of claim) line_feed
 
 lowest_again : (claim : Claim) (n : ℕ) → IsLowest claim → first_of claim ≡ n → claim ≡ Lowest n
@@ -155,10 +155,10 @@ exact_narrow =
     (λ claim is. (tt, refl)))
     narrow_text
 
-abbrev lower_field : Claim → List Piece
+abbrev lower_field : Claim → List TextPiece
 lower_field claim = field 0 MAX_HEIGHT (second_of claim) line_feed
 
-abbrev both_fields : Claim → List Piece
+abbrev both_fields : Claim → List TextPiece
 both_fields claim = field 0 MAX_HEIGHT (first_of claim) space ++ lower_field claim
 
 bounded_again : (claim : Claim) (n m : ℕ) → IsBounded claim → first_of claim ≡ n → second_of claim ≡ m → claim ≡ Bounded n m
@@ -267,7 +267,7 @@ exact_claim has =
 
 -- ---- what proves the claim
 
-abbrev proof_pieces : Certificate → List Piece
+abbrev proof_pieces : Certificate → List TextPiece
 proof_pieces c = flat_map chain_pieces c.chains ++ (flat_map section_pieces c.sections ++ word (codes "end\n"))
 
 abbrev made : ℕ → Style → ℕ → Claim → List Chain → List Section → Certificate
@@ -379,16 +379,16 @@ module _ (has : Bool) (width : ℕ) (style : Style) (budget : ℕ) where
 
 -- ---- all of it
 
-abbrev after_style : Certificate → List Piece
+abbrev after_style : Certificate → List TextPiece
 after_style c = field 0 MAX_BUDGET c.budget line_feed ++ (claim_pieces c.claim ++ proof_pieces c)
 
-abbrev after_width : Certificate → List Piece
+abbrev after_width : Certificate → List TextPiece
 after_width c = style_pieces c.style ++ after_style c
 
-abbrev after_version : Certificate → List Piece
+abbrev after_version : Certificate → List TextPiece
 after_version c = field 1 MAX_PAGE_WIDTH c.width space ++ after_width c
 
-abbrev after_name : Certificate → List Piece
+abbrev after_name : Certificate → List TextPiece
 after_name c = version_pieces (has_area c.sections) ++ after_version c
 
 claims_of : (c : Certificate) (claim : Claim) → c.claim ≡ claim → IsShaped c → Claims (has_area c.sections) claim

@@ -25,7 +25,7 @@ use Rattle.tl_cert.specs.declared.areas.Areas.{Areas}
 use Rattle.tl_cert.specs.declared.areas.Areas.TheVariants.{Never, Free, Owed}
 use Rattle.tl_cert.specs.inner.Areas.{for_part, after}
 use Rattle.tl_cert.specs.inner.reading.Readings.{Answer, got, wrong, Reading, then_read, ◌>>=◌, give, word_at, either}
-use Rattle.tl_cert.specs.inner.reading.Numbers.{number_at, field_at}
+use Rattle.tl_cert.specs.inner.reading.Numbers.{number_reading, field_at}
 use Rattle.tl_cert.specs.inner.reading.Lists.{Turn, halt, go, look, ListReading, Listing, listing, list_at, all_at}
 use Rattle.tl_cert.specs.Text.{space, line_feed, side_sign, is_area, log_has_area}
 
@@ -94,8 +94,8 @@ abbrev pub is_sign : Option Bound → ℕ → ℕ → Bool
 is_sign before span c = (c == 45 || c == 43) && may_follow_as before span c
 
 -- a bound that may follow the one before it, and the space after it
-unfoldable pub bound_at : Option Bound → Reading Bound
-bound_at before = number_at 0 MAX_SPAN (may_follow before) (is_sign before) >>= λ x.
+unfoldable pub bound_reading : Option Bound → Reading Bound
+bound_reading before = number_reading 0 MAX_SPAN (may_follow before) (is_sign before) >>= λ x.
     (field_at 0 MAX_PAGE_WIDTH space >>= λ width. give (record { span = x.0; side = side_of (x.1); width = width }))
 
 -- another bound comes where a digit does; the first one has to come
@@ -107,7 +107,7 @@ bounds_turn (Some before) = look is_ascii_digit
 abbrev pub bounds_reading : Areas → ListReading (Option Bound) Bound Bound (Listing ℕ End)
 bounds_reading areas = record {
   turn = λ k before. bounds_turn before;
-  item = λ k before. bound_at before;
+  item = λ k before. bound_reading before;
   next = λ before bound. Some bound;
   view = λ bound. bound;
   stop = λ before. fires_at areas;
@@ -169,7 +169,7 @@ ends_item more c = c == line_feed || (more && c == space)
 
 -- a width, and whether another follows
 unfoldable pub width_at : Bool → Reading (ℕ × Bool)
-width_at more = number_at 0 MAX_PAGE_WIDTH (λ n. true) (λ n c. ends_item more c) >>= λ x. give (x.0, x.1 == space)
+width_at more = number_reading 0 MAX_PAGE_WIDTH (λ n. true) (λ n c. ends_item more c) >>= λ x. give (x.0, x.1 == space)
 
 -- another item comes where a space ended the one before
 abbrev pub more_turn : Bool → Turn
@@ -206,7 +206,7 @@ may_count Owed n = nat_lt 0 n
 
 -- how many log lines follow, after so many cuts
 unfoldable pub count_at : Areas → ℕ → Reading ℕ
-count_at areas cuts = number_at 1 (2 * cuts + 1) (may_count areas) (λ n c. c == line_feed && may_count areas n) >>= λ x. give
+count_at areas cuts = number_reading 1 (2 * cuts + 1) (may_count areas) (λ n c. c == line_feed && may_count areas n) >>= λ x. give
     (x.0)
 
 -- a section
@@ -260,13 +260,13 @@ sections_at areas = list_at sections_reading MAX_SECTIONS (true, areas)
 abbrev pub inner_at : Bool → ℕ → ℕ → Reading (Entry × Bool)
 inner_at more cell c =
     if c == 58
-    then (number_at 0 MAX_TABLE (λ n. true) (λ n d. ends_item more d) >>= λ y. give
+    then (number_reading 0 MAX_TABLE (λ n. true) (λ n d. ends_item more d) >>= λ y. give
     (record { cell = cell; inner = Some (y.0) }, y.1 == space))
     else give (record { cell = cell; inner = None }, c == space)
 
 -- an entry, and whether another follows
 unfoldable pub entry_at : Bool → Reading (Entry × Bool)
-entry_at more = number_at 0 MAX_CELLS (λ n. true) (λ n c. c == 58 || ends_item more c) >>= λ x. inner_at more (x.0) (x.1)
+entry_at more = number_reading 0 MAX_CELLS (λ n. true) (λ n c. c == 58 || ends_item more c) >>= λ x. inner_at more (x.0) (x.1)
 
 -- the state is whether another entry follows
 abbrev pub entries_reading : ListReading Bool (Entry × Bool) Entry (Unit {0})

@@ -2,7 +2,7 @@
 use Rattle.std.specs.Prelude.{ℕ, List, [], ◌∷◌, ◌++◌, codes}
 use Rattle.tl_cert.specs.declared.certificate.Certificate.{Certificate}
 use Rattle.tl_cert.specs.Pieces.{numeral}
-use Rattle.tl_cert.specs.Text.{space, line_feed, version_word, style_word, has_area}
+use Rattle.tl_cert.specs.Text.{space, line_feed, version_word, style_field, has_area}
 
 -- `tablelayout V WIDTH STYLE BUDGET`
 abbrev pub head_text : Certificate → List ℕ
@@ -10,5 +10,5 @@ head_text c =
     codes "tablelayout "
     ++ (version_word (has_area c.sections)
     ++ ((numeral c.width ++ (space ∷ []))
-    ++ (style_word c.style
+    ++ (style_field c.style
     ++ (numeral c.budget ++ (line_feed ∷ [])))))

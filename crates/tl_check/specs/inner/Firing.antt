@@ -8,10 +8,10 @@ use Rattle.tl_cert.specs.declared.log.LogLine.{LogLine}
 use Rattle.tl_cert.specs.declared.trace.CutAt.{CutAt}
 use Rattle.tl_cert.specs.Nogoods.{nogood_bounds}
 use Rattle.tl_cert.specs.Implied.{IsLeft, Implied, OneLeft}
-use Rattle.tl_cert.specs.Lines.{Fires, EndsBy, fired}
+use Rattle.tl_cert.specs.Lines.{Fires, LineEndsBy, fired}
 use Rattle.tl_check.specs.declared.left.Left.{Left}
 use Rattle.tl_check.specs.declared.left.Left.TheVariants.{Nothing, One, More}
-use Rattle.tl_check.specs.inner.Matrices.{Describes}
+use Rattle.tl_check.specs.Matrices.{Describes}
 
 -- two different bounds of the nogood are not implied
 pub record TwoLeft (problem : ProblemModel) (Among : List ℕ → Type 0) (nogood : List Bound) : Type 0 where
@@ -51,5 +51,5 @@ pub record LeadsToEnd (problem : ProblemModel) (trace : List CutAt) (log : List 
     (lower : ℕ) : Type 0 where
   pub joined : List Bound
   pub fires : Fires problem (nogood_bounds problem trace line.nogood) [] (fired problem trace log line) joined
-  pub ends : EndsBy problem (IsLeft problem (nogood_bounds problem trace line.nogood) joined) (fired problem trace log line)
+  pub ends : LineEndsBy problem (IsLeft problem (nogood_bounds problem trace line.nogood) joined) (fired problem trace log line)
       lower line.end

@@ -10,7 +10,7 @@ use Rattle.tl_problem.specs.Spans.{has_span}
 use Rattle.tl_problem.specs.Zones.{span_at}
 use Rattle.tl_cert.specs.declared.trace.CutAt.{CutAt}
 use Rattle.tl_cert.specs.Traces.{Stands, zone_of}
-use Rattle.tl_cert.specs.Worked.{IsBoundOf, IsClosed}
+use Rattle.tl_cert.specs.Worked.{IsBoundOf, IsClosedZone}
 
 -- the flag of each zone tells whether a cut names it
 pub record AreFlags (trace : List CutAt) (flags : List Bool) : Type 0 where
@@ -34,7 +34,7 @@ IsEnough problem trace lower upto = (z : ℕ) × (bound : ℕ) × (z < upto) × 
 
 -- each of the first zones that stands is closed
 abbrev pub AllClosed : ProblemModel → List CutAt → ℕ → ℕ → Type 0
-AllClosed problem trace height upto = (z : ℕ) → z < upto → Stands trace z → IsClosed problem (zone_of problem trace z) height
+AllClosed problem trace height upto = (z : ℕ) → z < upto → Stands trace z → IsClosedZone problem (zone_of problem trace z) height
 
 -- `low` and `high` of the cell differ at a width from `first` to `last`
 abbrev pub CellDiffers : Cell → ℕ → ℕ → Type 0

@@ -25,12 +25,12 @@ abbrev pub firing_line_of : ℕ → ℕ → ℕ → Option ℕ → LogLine
 firing_line_of last zone cut upper = record { nogood = Zone zone; fires = parts_fired last cut upper; end = Fired }
 
 -- the line of a zone, by its cut
-abbrev pub line_of : ℕ → List (Option ℕ) → ℕ → ℕ → Option ℕ → LogLine
-line_of last bounds lower zone None = closing_line_of zone (get_or bounds zone None) lower
-line_of last bounds lower zone (Some cut) = firing_line_of last zone cut (get_or bounds (2 * cut + 2) None)
+abbrev pub line_by_cut : ℕ → List (Option ℕ) → ℕ → ℕ → Option ℕ → LogLine
+line_by_cut last bounds lower zone None = closing_line_of zone (get_or bounds zone None) lower
+line_by_cut last bounds lower zone (Some cut) = firing_line_of last zone cut (get_or bounds (2 * cut + 2) None)
 
 -- the first lines of the log
 pub record AreLinesOf (last : ℕ) (cuts bounds : List (Option ℕ)) (lower upto : ℕ) (log : List LogLine) : Type 0 where
   pub count : length log ≡ upto
-  pub each : (k : ℕ) (d : LogLine) → k < upto → get_or log k d ≡ line_of last bounds lower (last - k)
+  pub each : (k : ℕ) (d : LogLine) → k < upto → get_or log k d ≡ line_by_cut last bounds lower (last - k)
       (get_or cuts (last - k) None)

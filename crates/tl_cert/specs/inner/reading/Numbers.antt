@@ -26,9 +26,9 @@ zero_ended low high possible allowed rest =
     else wrong (suc (length rest))
 
 -- A canonical decimal and the character that ends it, where numbers that are not possible are ended by no character.
-unfoldable pub number_at : (low high : ℕ) → (ℕ → Bool) → (ℕ → ℕ → Bool) → Reading (ℕ × ℕ)
-number_at low high possible allowed [] = wrong 0
-number_at low high possible allowed (c ∷ text) =
+unfoldable pub number_reading : (low high : ℕ) → (ℕ → Bool) → (ℕ → ℕ → Bool) → Reading (ℕ × ℕ)
+number_reading low high possible allowed [] = wrong 0
+number_reading low high possible allowed (c ∷ text) =
     if is_ascii_digit c
     then (if c == 48 then zero_ended low high possible allowed text
     else (let run = read_run (c - 48) text in run_ended low high possible allowed (suc (length text)) (run.0) (run.1)))
@@ -36,7 +36,7 @@ number_at low high possible allowed (c ∷ text) =
 
 -- a number that this character ends
 unfoldable pub field_at : (low high end : ℕ) → Reading ℕ
-field_at low high end = number_at low high (λ n. true) (λ n c. c == end) >>= λ x. give (x.0)
+field_at low high end = number_reading low high (λ n. true) (λ n c. c == end) >>= λ x. give (x.0)
 
 -- a whole number up to `high` that may stand here, before what ends it
 unfoldable pub run_at : ℕ → (ℕ → Bool) → Reading ℕ

@@ -4,7 +4,7 @@ use Rattle.std.proofs.Common.{sym, subst, arith}
 use Rattle.std.specs.Int.{w32}
 use mir.Val.{to_z, of_z}
 use Rattle.std.proofs.lemmas.Int.{ints}
-use Rattle.tl_diff.specs.Bounds.{Implied}
+use Rattle.tl_diff.specs.Bounds.{Implies}
 use Rattle.tl_check.proofs.Rooms.{near-decided}
 use Rattle.tl_check.proofs.bounds.is_near.Goals as goal
 
@@ -14,6 +14,6 @@ returns c =
     let raw = to_z w32 (of_z w32 c.args.most) in
     let m : raw ≡ c.args.most = omega (arith, ints, c.requires.low, c.requires.high) in
     let near = near-decided bounds c.args.a c.args.b raw c.upper.result c.upper.ensures.exact in (
-      λ yes. subst (λ t. Implied bounds c.args.a c.args.b t) m (near.0 (c.is_up_to.ensures.0 yes)),
-      λ implied. c.is_up_to.ensures.1 (near.1 (subst (λ t. Implied bounds c.args.a c.args.b t) (sym m) implied)),
+      λ yes. subst (λ t. Implies bounds c.args.a c.args.b t) m (near.0 (c.is_up_to.ensures.0 yes)),
+      λ implied. c.is_up_to.ensures.1 (near.1 (subst (λ t. Implies bounds c.args.a c.args.b t) (sym m) implied)),
     )

@@ -2,7 +2,7 @@ use Rattle.std.proofs.Common.{map, take}
 use Rattle.tl_cert.specs.Lines.{nogood_at}
 use Rattle.tl_cert.specs.Nogoods.{nogood_bounds}
 use Rattle.tl_check.specs.inner.Firing.{LeadsTo}
-use Rattle.tl_check.specs.inner.Matrices.{KeepsMarks}
+use Rattle.tl_check.specs.Matrices.{KeepsMarks}
 use Rattle.tl_check.proofs.firing.fire_all.Given as goal
 
 abbrev pub invariant-fires : goal.invariant-fires

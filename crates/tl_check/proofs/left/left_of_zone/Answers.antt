@@ -4,7 +4,7 @@ use Rattle.std.specs.List.{Contains}
 use Rattle.std.proofs.lemmas.List.Elements.{All-nil}
 use Rattle.tl_base.proofs.Members.{Contains-none}
 use Rattle.tl_problem.specs.declared.zone.Range.{Range}
-use Rattle.tl_problem.specs.Works.{IsLeft}
+use Rattle.tl_problem.specs.Works.{AreAllowed}
 use Rattle.tl_cert.specs.Implied.{Implied}
 use Rattle.tl_cert.specs.Nogoods.{zone_bounds}
 use Rattle.tl_cert.specs.Traces.{zone_of}
@@ -41,7 +41,7 @@ cuts-init c = record {
   there = c.requires.zone;
   found = record {
     seen = [];
-    has_left = All-nil (Implied c.args.problem.now (IsLeft c.args.problem.now c.args.matrix.now.bounds));
+    has_left = All-nil (Implied c.args.problem.now (AreAllowed c.args.problem.now c.args.matrix.now.bounds));
     among = λ bound has. absurd (Contains-none bound has);
     others = λ bound has. inr (inr has);
   };
@@ -53,7 +53,7 @@ cuts-preserved-else-is_more c = record {
       no_cut;
   found = part-looked_at c.args.problem.now c.requires.keeps.sound c.args.trace.now c.requires.trace c.cuts.zone
       c.cuts-test.true c.cuts.invariant.there
-      no_cut c.part_bound.result c.part_bound.ensures.bound (IsLeft c.args.problem.now c.args.matrix.now.bounds)
+      no_cut c.part_bound.result c.part_bound.ensures.bound (AreAllowed c.args.problem.now c.args.matrix.now.bounds)
       c.args.z c.requires.zone c.cuts.left
       c.left_with_span-left.result c.left_with_span-left.ensures c.cuts.invariant.found;
 }
@@ -64,7 +64,7 @@ cuts-preserved c = record {
       no_cut;
   found = part-implied c.args.problem.now c.requires.keeps.sound c.args.trace.now c.requires.trace c.cuts.zone c.cuts-test.true
       c.cuts.invariant.there
-      no_cut c.part_bound.result c.part_bound.ensures.bound (IsLeft c.args.problem.now c.args.matrix.now.bounds)
+      no_cut c.part_bound.result c.part_bound.ensures.bound (AreAllowed c.args.problem.now c.args.matrix.now.bounds)
       c.args.z c.cuts.left
       (c.is_implied.ensures.0 c.if-not-is_implied.false) c.cuts.invariant.found;
 }
@@ -75,9 +75,10 @@ returns-then-is_more c =
     let trace = c.args.trace.now in
     let more : c.left_with_span-left.result ≡ More = c.is_more.ensures.0 c.if-is_more.true in
     let found = part-looked_at p c.requires.keeps.sound trace c.requires.trace c.cuts.zone c.cuts-test.true c.cuts.invariant.there
-    no_cut c.part_bound.result c.part_bound.ensures.bound (IsLeft p c.args.matrix.now.bounds) c.args.z c.requires.zone c.cuts.left
+    no_cut c.part_bound.result c.part_bound.ensures.bound
+    (AreAllowed p c.args.matrix.now.bounds) c.args.z c.requires.zone c.cuts.left
     c.left_with_span-left.result c.left_with_span-left.ensures c.cuts.invariant.found in
-    but-found p (IsLeft p c.args.matrix.now.bounds) (zone_bounds p (zone_of p trace c.args.z))
+    but-found p (AreAllowed p c.args.matrix.now.bounds) (zone_bounds p (zone_of p trace c.args.z))
     (zone_bounds p (zone_of p trace (cut_to trace c.cuts.zone no_cut).zone)) c.left_with_span-left.result more found
 
 pub returns : goal.returns
@@ -86,7 +87,7 @@ returns c =
     let trace = c.args.trace.now in
     let first : zone_of p trace c.cuts.zone ≡ zone_of p trace 0 = ap (zone_of p trace) (omega (arith, c.cuts-test.false)) in
     let whole = first ∙ zone-first p trace c.requires.trace in
-    but-none p (IsLeft p c.args.matrix.now.bounds) (zone_bounds p (zone_of p trace c.args.z))
+    but-none p (AreAllowed p c.args.matrix.now.bounds) (zone_bounds p (zone_of p trace c.args.z))
     (zone_bounds p (zone_of p trace c.cuts.zone)) c.cuts.left
     (λ b has. whole-no_bounds p b (subst (λ (zone : List Range). Contains (zone_bounds p zone) b) whole has))
     c.cuts.invariant.found

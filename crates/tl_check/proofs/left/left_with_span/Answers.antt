@@ -1,6 +1,6 @@
 -- The bounds of a span are the one from above and the one from below.
 use Rattle.std.proofs.Common.{◌≡◌, ◌++◌, List, ap, ◌∙◌, subst, append_assoc}
-use Rattle.tl_problem.specs.Works.{IsLeft}
+use Rattle.tl_problem.specs.Works.{AreAllowed}
 use Rattle.tl_problem.specs.Zones.{range_at}
 use Rattle.tl_cert.specs.Nogoods.{range_bounds}
 use Rattle.tl_cert.specs.Traces.{zone_of}
@@ -29,6 +29,6 @@ returns c = λ nogood has.
     range-bounds p c.args.s c.zone_range-range.result c.upper_bound.result c.lower_bound.result c.upper_bound.ensures.bound
     c.lower_bound.ensures.bound
     ∙ ap (range_bounds p c.args.s) c.zone_range-range.ensures in
-    subst (λ (l : List Bound). HasLeft p (IsLeft p c.args.matrix.now.bounds) l c.left_with_some.result)
+    subst (λ (l : List Bound). HasLeft p (AreAllowed p c.args.matrix.now.bounds) l c.left_with_some.result)
     (append_assoc nogood (some_list c.upper_bound.result) (some_list c.lower_bound.result) ∙ ap (λ l. nogood ++ l) both)
     (c.left_with_some.ensures _ (c.left_with_some-with_upper.ensures nogood has))

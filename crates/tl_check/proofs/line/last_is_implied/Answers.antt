@@ -3,7 +3,7 @@ use Rattle.std.proofs.Common.{◌-◌, ◌<◌, List}
 use Rattle.std.proofs.Common.{length, get_or, Option, Some, None, sym, ap, ◌∙◌, subst, arith}
 use Rattle.std.specs.Prelude.{IsSomeAnd}
 use Rattle.std.specs.List.{All}
-use Rattle.tl_problem.specs.Works.{IsLeft}
+use Rattle.tl_problem.specs.Works.{AreAllowed}
 use Rattle.tl_cert.specs.declared.log.Bound.{Bound}
 use Rattle.tl_cert.specs.declared.log.Nogood.{Nogood}
 use Rattle.tl_cert.specs.Implied.{Implied}
@@ -19,7 +19,7 @@ returns-then-count-eq0 c =
     let line = c.args.line.now in
     let fires = line.fires in (
       λ never. absurd cc,
-      λ h. absurd (none-last (bounds_at p trace log line) (All (Implied p (IsLeft p c.args.work.now.matrix.bounds))) fires
+      λ h. absurd (none-last (bounds_at p trace log line) (All (Implied p (AreAllowed p c.args.work.now.matrix.bounds))) fires
           (omega (arith, ap length c.as_slice-fires.ensures, c.if-count-eq0.true)) h),
     )
 
@@ -51,7 +51,7 @@ returns c =
     let item = c.index-log-number.result in
     let is = rw c.as_slice-fires.ensures at c.index-log-number.is in
     let nogood = nogood-at p trace log line number item named.0 is in
-    let Among = IsLeft p c.args.work.now.matrix.bounds in
+    let Among = AreAllowed p c.args.work.now.matrix.bounds in
     let bounds = nogood_bounds p trace item.nogood in
     let last = last-map (bounds_at p trace log line) None fires ∙ ap (image (bounds_at p trace log line))
     (last-get None fires 0 within)

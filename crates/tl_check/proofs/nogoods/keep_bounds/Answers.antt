@@ -4,7 +4,7 @@ use Rattle.std.proofs.Common.{[], take, sym, ◌∙◌, subst}
 use Rattle.std.proofs.lemmas.List.{take_more}
 use Rattle.tl_cert.specs.declared.log.Bound.{Bound}
 use Rattle.tl_cert.specs.declared.log.Side.TheVariants.{Most}
-use Rattle.tl_check.specs.inner.Matrices.{Describes}
+use Rattle.tl_check.specs.Matrices.{Describes}
 use Rattle.tl_check.proofs.Leaving.{Describes-met}
 use Rattle.tl_check.proofs.nogoods.keep_bounds.Goals as goal
 

@@ -1,5 +1,5 @@
 use Rattle.std.proofs.Common.{[], take}
-use Rattle.tl_check.specs.inner.Matrices.{Describes, KeepsMarks}
+use Rattle.tl_check.specs.Matrices.{Describes, KeepsMarks}
 use Rattle.tl_check.proofs.nogoods.keep_bounds.Given as goal
 
 abbrev pub invariant-bounds : goal.invariant-bounds

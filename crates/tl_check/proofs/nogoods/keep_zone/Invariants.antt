@@ -1,5 +1,6 @@
 use Rattle.tl_cert.specs.Traces.{IsZoneOf, zone_of}
-use Rattle.tl_check.specs.inner.Matrices.{KeepsMarks, LeavesPart}
+use Rattle.tl_check.specs.Matrices.{KeepsMarks}
+use Rattle.tl_check.specs.inner.Matrices.{LeavesPart}
 use Rattle.tl_check.proofs.nogoods.keep_zone.Given as goal
 
 abbrev pub invariant-cuts : goal.invariant-cuts

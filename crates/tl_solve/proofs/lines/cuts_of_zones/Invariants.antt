@@ -1,4 +1,4 @@
-use Rattle.tl_solve.specs.inner.Found.{AreCutsOf}
+use Rattle.tl_solve.specs.CutsFound.{AreCutsOf}
 use Rattle.tl_solve.proofs.lines.cuts_of_zones.Given as goal
 
 abbrev pub invariant-loop-number : goal.invariant-loop-number

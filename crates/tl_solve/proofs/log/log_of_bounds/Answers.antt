@@ -2,7 +2,7 @@ use Rattle.std.proofs.Common.{◌≡◌, ◌+◌, ◌*◌, length, sym, subst, a
 use Rattle.tl_cert.specs.Lines.{IsGoodLog}
 use Rattle.tl_cert.specs.Text.{IsLogWritable}
 use Rattle.tl_solve.specs.TraceLogs.{IsTraceLog}
-use Rattle.tl_solve.specs.inner.Found.{AreCutsOf}
+use Rattle.tl_solve.specs.CutsFound.{AreCutsOf}
 use Rattle.tl_solve.specs.inner.Shapes.{AreLinesOf}
 use Rattle.tl_solve.proofs.GoodLines.{log-good}
 use Rattle.tl_solve.proofs.TraceLogLaws.{trace-log}

@@ -47,6 +47,7 @@ returns-clause-besides c =
     let all : length c.deref.result.now ≡ 2 * length arena.trace + 1 =
     omega (arith, ap length c.deref.ensures.value, c.in_ok-stands.ensures.count, ap length c.trace.ensures) in
     let proved = subst (λ n. IsProvedUpto p arena.trace arena.best.height n least) all c.least_proved-lower.ensures in
-    best-outcome p is.arena.work.sound c.args.budget arena is.arena least proved is.order c.requires.shown c.requires.ended c.in_ok-found.found
+    best-outcome p is.arena.work.sound c.args.budget arena is.arena least proved is.order c.requires.shown c.requires.ended
+    c.in_ok-found.found
     (rw c.into_arena-arena.ensures at c.in_ok-found.ensures.best) (rw c.into_arena-arena.ensures at c.in_ok-found.ensures.trace)
     c.in_ok-found.ensures.lower c.in_ok-found.ensures.lines

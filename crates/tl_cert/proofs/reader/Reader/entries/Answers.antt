@@ -2,7 +2,7 @@ use Rattle.std.proofs.Common.{◌≡◌, suc, Bool, true, ltb, length, refl, sym
 use Rattle.std.proofs.lemmas.Result.{err_from_is_err_and}
 use Rattle.tl_base.specs.declared.chain.Entry.{Entry}
 use Rattle.tl_cert.specs.inner.CertReading.{entries_reading, entries_at, entry_at, more_turn}
-use Rattle.tl_cert.specs.inner.Gives.{Fails}
+use Rattle.tl_cert.specs.inner.Gives.{FailsBy}
 use Rattle.tl_cert.specs.inner.reading.Readings.{Answer, got, give}
 use Rattle.tl_cert.specs.inner.reading.Lists.{comes, all_at}
 use Rattle.tl_cert.proofs.Loops.{Stops, stops_by, pushed_on, fails_on, stops_at, starts, refuel}
@@ -22,8 +22,8 @@ returns-in_err-entry c =
     let p = err_from_is_err_and c.from_residual.result c.from_residual.ensures.1 in
     let text = c.entries.self.rest.now in
     let come : comes (more_turn c.entries.more) text ≡ true = ap (λ more. comes (more_turn more) text) c.entries-test.true in
-    let P : Answer (Entry × Bool) → Type 0 = Fails c.in_err-entry.field-0.0 in
-    let failed : Fails c.in_err-entry.field-0.0 (entry_at (ltb 0 (length text)) text) =
+    let P : Answer (Entry × Bool) → Type 0 = FailsBy c.in_err-entry.field-0.0 in
+    let failed : FailsBy c.in_err-entry.field-0.0 (entry_at (ltb 0 (length text)) text) =
     subst P (sym (entry_same (length text) text (omega arith))) c.in_err-entry.ensures in
     rw (p.1, p.2) (fails_on entries_reading c.in_err-entry.field-0.0 c.entries.entries (suc (length text)) (length text)
     c.entries.more text

@@ -3,7 +3,7 @@ use Rattle.std.proofs.lemmas.Result.{err_from_is_err_and}
 use Rattle.tl_cert.specs.declared.areas.Areas.{Areas}
 use Rattle.tl_cert.specs.inner.Areas.{for_part, after}
 use Rattle.tl_cert.specs.inner.CertReading.{lines_reading, lines_at, line_at}
-use Rattle.tl_cert.specs.inner.Gives.{Fails}
+use Rattle.tl_cert.specs.inner.Gives.{FailsBy}
 use Rattle.tl_cert.specs.inner.reading.Readings.{give}
 use Rattle.tl_cert.proofs.Loops.{Stops, stops_by, pushed_on, fails_on, stops_at}
 use Rattle.tl_cert.proofs.reader.Reader.lines.Goals as goal
@@ -14,7 +14,7 @@ returns-in_err-line c =
     let k = c.args.count - (c.lines.number + 1) in
     let asked : for_part k c.lines.asked ≡ c.for_part.result =
     ap (λ (j : ℕ). for_part j c.lines.asked) (omega arith) ∙ sym c.for_part.ensures in
-    let failed : Fails c.in_err-line.field-0.0 (line_at (for_part k c.lines.asked) c.lines.self.rest.now) =
+    let failed : FailsBy c.in_err-line.field-0.0 (line_at (for_part k c.lines.asked) c.lines.self.rest.now) =
     rw asked c.in_err-line.ensures in
     rw (p.1, p.2) (fails_on lines_reading c.in_err-line.field-0.0 c.lines.lines (c.args.count - c.lines.number)
     k c.lines.asked c.lines.self.rest.now

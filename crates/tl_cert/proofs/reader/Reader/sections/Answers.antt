@@ -6,7 +6,7 @@ use Rattle.tl_cert.specs.declared.limits.TheConstants.{MAX_SECTIONS}
 use Rattle.tl_cert.specs.Text.{log_has_area}
 use Rattle.tl_cert.specs.inner.Areas.{for_part, after}
 use Rattle.tl_cert.specs.inner.CertReading.{sections_reading, sections_at, section_at}
-use Rattle.tl_cert.specs.inner.Gives.{Fails}
+use Rattle.tl_cert.specs.inner.Gives.{FailsBy}
 use Rattle.tl_cert.proofs.Loops.{Stops, stops_by, pushed_on, fails_on, stops_at, fails_at}
 use Rattle.tl_cert.proofs.reader.Reader.sections.Goals as goal
 use Rattle.tl_cert.proofs.reader.Reader.sections.Goals.{then-sections-test+else-section_comes, else-sections-test}
@@ -20,7 +20,7 @@ returns-in_err-section c =
     let prefix = c.sections.sections in
     let k = MAX_SECTIONS - 1 - c.len-in-sections.result in
     let asked : for_part k c.sections.asked ≡ c.for_part.result = sym c.for_part.ensures in
-    let failed : Fails c.in_err-section.field-0.0 (section_at (for_part k c.sections.asked) c.sections.self.rest.now) =
+    let failed : FailsBy c.in_err-section.field-0.0 (section_at (for_part k c.sections.asked) c.sections.self.rest.now) =
     rw asked c.in_err-section.ensures in
     rw (p.1, p.2) (fails_on sections_reading c.in_err-section.field-0.0 prefix (MAX_SECTIONS - length prefix) k
     (state c.sections.first c.sections.asked) c.sections.self.rest.now

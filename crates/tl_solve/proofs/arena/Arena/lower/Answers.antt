@@ -1,6 +1,6 @@
 use Rattle.std.proofs.Common.{length, sym, subst}
 use Rattle.tl_solve.specs.Arenas.{AreBoundsOf}
-use Rattle.tl_solve.specs.inner.Found.{AreCutsOf}
+use Rattle.tl_solve.specs.CutsFound.{AreCutsOf}
 use Rattle.tl_solve.proofs.EndLaws.{least-standing}
 use Rattle.tl_solve.proofs.arena.Arena.lower.Goals as goal
 

@@ -3,7 +3,7 @@ use Rattle.std.proofs.Common.{◌≡◌, ◌+◌, ◌*◌, ◌++◌, ◌∷◌, 
 use Rattle.std.proofs.lemmas.Bool.{cases_lt}
 use Rattle.tl_base.proofs.Options.{match-none}
 use Rattle.tl_cert.specs.Traces.{zone_of}
-use Rattle.tl_cert.specs.Worked.{IsClosed}
+use Rattle.tl_cert.specs.Worked.{IsClosedZone}
 use Rattle.tl_solve.specs.inner.Walk.{IsStack, KeepsClassOrder}
 use Rattle.tl_solve.proofs.ArenaLaws.{arena-keen, arena-zone, lowered-le}
 use Rattle.tl_solve.proofs.WalkLaws.{top-stands, stack-start, order-start, stack-closed, stack-cut, order-cut, stack-end}
@@ -47,7 +47,7 @@ loop-zone-preserved c =
     let arena = c.loop-zone.arena in
     let z = c.in-Some.zone in
     let on = subst (IsStack p arena.trace arena.best.height) c.in-Some.ensures.items c.loop-zone.invariant.on_stack in
-    let closed = match-none c.first_cut.result (IsClosed p (zone_of p arena.trace z) arena.best.height) (λ _. Unit {0})
+    let closed = match-none c.first_cut.result (IsClosedZone p (zone_of p arena.trace z) arena.best.height) (λ _. Unit {0})
     c.first_cut.ensures.closed
     c.in_default-first_cut.not-Some in
     record {
@@ -83,7 +83,7 @@ loop-zone-preserved-in-Continue-branch-5 c =
     items ∙ ap (λ n. (stack ++ (2 * n + 2) ∷ []) ++ (2 * n + 1) ∷ []) c.cuts-made.ensures in
     let parts = stack-cut p trace height stack z on cut top is.trace_of now best
     (lowered-le arena.best c.cut.new.self.best c.in_ok-cut.ensures.lowered) in
-    let kept = order-cut p trace height stack z on cut top is.trace_of now c.loop-zone.invariant.order first
+    let kept = order-cut p trace height stack z on cut top is.trace_of now height c.loop-zone.invariant.order first
     c.in-Some-first_cut.ensures.below
     (arena-keen p is.work.sound arena is) in
     let count = ap length longer ∙ length-append trace (cut ∷ []) in

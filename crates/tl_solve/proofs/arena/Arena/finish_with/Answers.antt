@@ -3,7 +3,7 @@ use Rattle.tl_cert.proofs.WorkedLaws.{worked-lower}
 use Rattle.tl_solve.proofs.ArenaLaws.{arena-keen}
 use Rattle.tl_solve.proofs.EndLaws.{arena-worked}
 use Rattle.tl_solve.proofs.FewSpans.{trace-writable}
-use Rattle.tl_solve.proofs.arena.Arena.finish_at.Goals as goal
+use Rattle.tl_solve.proofs.arena.Arena.finish_with.Goals as goal
 
 pub returns-clause-solved : goal.returns-clause-solved
 returns-clause-solved c =
@@ -16,16 +16,13 @@ returns-clause-solved c =
     c.requires.ended in
     rw (c.into_parts-best.ensures.best, c.into_parts-best.ensures.trace) (record {
       tight = is.tight;
-      good = c.in_ok-log.ensures.good;
+      good = c.requires.good;
       ordered = c.requires.ordered;
       closed = λ same enough.
           worked-lower p sound arena.trace arena.best.height c.args.lower c.args.budget same enough small worked;
       worked = worked;
       keen = arena-keen p sound arena is;
       trace_writable = trace-writable p sound arena.trace is.trace_of is.few;
-      log_writable = c.in_ok-log.ensures.writable;
-      short = c.in_ok-log.ensures.short;
+      log_writable = c.requires.writable;
+      short = c.requires.short;
     })
-
-pub returns-clause-lines : goal.returns-clause-lines
-returns-clause-lines c = rw c.into_parts-best.ensures.trace c.in_ok-log.ensures.lines
