@@ -19,7 +19,8 @@ use Rattle.tl_table.specs.declared.cell.Table.{out-roll-Table, roll-Table}
 use Rattle.tl_table.specs.declared.cell.TableCell.{out-TableCell, out-roll-TableCell, roll-TableCell}
 use Rattle.tl_table.specs.Tables.{OpenCell, OpenTable}
 use Rattle.tl_columns.specs.declared.error.CsvError.TheVariants.{BadCharacter, NotUtf8, Uneven}
-use Rattle.tl_columns.specs.Columns.{blocks_of_words, floor_in, kind_in, placed, slot_in, IsFieldCell, IsCsvTable, PlacedField}
+use Rattle.tl_columns.specs.Columns.{blocks_of_words, floor_in, kind_in, placed_fields, slot_in, IsFieldCell, IsCsvTable}
+use Rattle.tl_columns.specs.Columns.{PlacedField}
 use Rattle.tl_columns.specs.Records.{Fields, column_count, csv_records, field_count}
 use Rattle.tl_columns.specs.Refused.{has_control, IsCsvRefused, IsWellFormed}
 
@@ -79,7 +80,7 @@ fields_of_all = refl
 abbrev at : ℕ → ℕ → List ℕ → PlacedField
 at row column field = record { row = row; column = column; field = field }
 
-row_by_row : placed (first ∷ second ∷ []) ≡
+row_by_row : placed_fields (first ∷ second ∷ []) ≡
     at 0 0 (codes "a") ∷ at 0 1 (codes "b") ∷ at 1 0 (codes "ccc") ∷ at 1 1 (codes "d") ∷ []
 row_by_row = refl
 
@@ -166,7 +167,7 @@ is_drawn = record {
   cols = ap (λ (table : OpenTable). table.cols) (out-roll-Table drawn);
   rows = ap (λ (table : OpenTable). table.rows) (out-roll-Table drawn);
   cells = subst (λ (table : OpenTable). AllZip (λ one cell. IsFieldCell true (5 ∷ []) Words one (out-TableCell cell))
-      (placed (first ∷ [])) table.cells) (sym (out-roll-Table drawn)) (
+      (placed_fields (first ∷ [])) table.cells) (sym (out-roll-Table drawn)) (
         subst (IsFieldCell true (5 ∷ []) Words (at 0 0 (codes "a"))) (sym (out-roll-TableCell cell_a)) is_cell_a,
         (subst (IsFieldCell true (5 ∷ []) Words (at 0 1 (codes "b"))) (sym (out-roll-TableCell cell_b)) is_cell_b, tt),
       );

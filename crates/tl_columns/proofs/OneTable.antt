@@ -10,7 +10,7 @@ use Rattle.tl_table.specs.declared.cell.TableCell.{TableCell, out-TableCell, rol
 use Rattle.tl_table.specs.Tables.{OpenCell, OpenContent}
 use Rattle.tl_columns.specs.declared.error.CsvError.{CsvError}
 use Rattle.tl_columns.specs.declared.error.CsvError.TheVariants.{Memory}
-use Rattle.tl_columns.specs.Columns.{placed, IsFieldCell, IsCsvTable, PlacedField}
+use Rattle.tl_columns.specs.Columns.{placed_fields, IsFieldCell, IsCsvTable, PlacedField}
 use Rattle.tl_columns.specs.Records.{Fields}
 use Rattle.tl_columns.specs.Refused.{IsCsvRefused}
 use Rattle.tl_columns.proofs.OneError.{never_refused}
@@ -58,7 +58,7 @@ module _ (head : Bool) (floors : List ℕ) (breaking : Breaking) where
       let number = one.number ∙ sym two.number in
       let cols = one.cols ∙ sym two.cols in
       let rows = one.rows ∙ sym two.rows in
-      let cells = same_cells (placed all) (out-Table table).cells (out-Table other).cells one.cells two.cells in
+      let cells = same_cells (placed_fields all) (out-Table table).cells (out-Table other).cells one.cells two.cells in
       let opened : out-Table table ≡ out-Table other =
       λ i. record { number = number i; cols = cols i; rows = rows i; cells = cells i } in
       sym (roll-out-Table table) ∙ ap roll-Table opened ∙ roll-out-Table other

@@ -1,5 +1,5 @@
 -- The slots of the fields of records with as many fields each: they fill a grid, row by row.
-use Rattle.std.proofs.Common.{◌≡◌, ◌∙◌, ◌⊎◌, ℕ, suc, ◌+◌, ◌<◌, ◌≤◌, List, [], ◌∷◌, ◌++◌, length, map, inl, inr, get_or}
+use Rattle.std.proofs.Common.{◌≡◌, ◌∙◌, ◌⊎◌, ℕ, zero, suc, ◌+◌, ◌<◌, ◌≤◌, List, [], ◌∷◌, ◌++◌, length, map, inl, inr, get_or}
 use Rattle.std.proofs.Common.{refl, ap, subst, arith}
 use Rattle.std.specs.List.{All, AllPairs, Any, enumerate_from, flat_map}
 use Rattle.std.proofs.lemmas.Bool.{cases_eq}
@@ -8,9 +8,9 @@ use Rattle.std.proofs.lemmas.List.Elements.{All-append, All-cons, All-head, All-
 use Rattle.std.proofs.lemmas.List.Kept.{AllPairs-cons}
 use Rattle.tl_grid.specs.declared.shape.Place.{Place}
 use Rattle.tl_grid.specs.Dropping.{IsPlaced}
-use Rattle.tl_grid.specs.Slots.{AreApart, HasAnchorInColumn, HasAnchorInRow}
+use Rattle.tl_grid.specs.Slots.{AreApart, HasAnchorInColumn, HasAnchorInRow, HasSlot, IsFilledToLeft}
 use Rattle.tl_table.specs.Sound.{ComesBefore}
-use Rattle.tl_columns.specs.Columns.{placed, slot_in, PlacedField}
+use Rattle.tl_columns.specs.Columns.{placed_fields, slot_in, PlacedField}
 use Rattle.tl_columns.specs.Records.{Fields, column_count}
 
 -- ---- the slots
@@ -49,7 +49,7 @@ slots_from row (fields ∷ all) =
     ∙ ap (λ (places : List Place). places ++ map slot_of (rows_from (row + 1) all)) (row_slots_of row 0 fields)
     ∙ ap (λ (places : List Place). row_slots row 0 fields ++ places) (slots_from (row + 1) all)
 
-pub slots_of : (all : List Fields) → map slot_of (placed all) ≡ slots 0 all
+pub slots_of : (all : List Fields) → map slot_of (placed_fields all) ≡ slots 0 all
 slots_of all = slots_from 0 all
 
 -- ---- within the grid
@@ -188,3 +188,54 @@ rows_anchored_from row y (fields ∷ all) some from within = by (cases_eq row y)
 pub rows_anchored : (all : List Fields) (y : ℕ) → All (λ fields. 0 < length fields) all → y < length all →
     HasAnchorInRow (slots 0 all) y
 rows_anchored all y some within = rows_anchored_from 0 y all some (omega arith) (omega arith)
+
+-- ---- no gap to the left of a slot
+
+Any-before : (P : Place → Type 0) (xs ys : List Place) → Any P xs → Any P (xs ++ ys)
+Any-before P [] ys (k, x, within, is, holds) = absurd (omega (arith, within))
+Any-before P (x ∷ xs) ys (zero, y, within, is, holds) = (0, y, omega arith, is, holds)
+Any-before P (x ∷ xs) ys (suc k, y, within, is, holds) =
+    Any-later P x (xs ++ ys) (Any-before P xs ys (k, y, omega (arith, within), is, holds))
+
+-- each column from the first on has a slot of the row
+row_covered : (row column x : ℕ) (fields : Fields) → column ≤ x → x < column + length fields →
+    Any (HasSlot x row) (row_slots row column fields)
+row_covered row column x [] from within = absurd (omega (arith, from, within))
+row_covered row column x (field ∷ fields) from within = by (cases_eq column x)
+    (λ after. row_covered row (column + 1) x fields after (omega (arith, within)))
+  where
+    by : (column ≡ x) ⊎ (column ≡ x → ⊥) →
+        (column + 1 ≤ x → Any (HasSlot x row) (row_slots row (column + 1) fields)) →
+        Any (HasSlot x row) (slot_in row column ∷ row_slots row (column + 1) fields)
+    by (inl same) rest = (
+      0,
+      slot_in row column,
+      omega arith,
+      refl,
+      (omega (arith, same), omega (arith, same), omega arith, omega arith),
+    )
+    by (inr other) rest =
+        Any-later (HasSlot x row) (slot_in row column) (row_slots row (column + 1) fields) (rest (omega (arith, other, from)))
+
+row_filled : (row column : ℕ) (fields : Fields) (places : List Place) →
+    ((x : ℕ) → x < column + length fields → Any (HasSlot x row) places) →
+    All (IsFilledToLeft places) (row_slots row column fields)
+row_filled row column [] places covered = All-nil (IsFilledToLeft places)
+row_filled row column (field ∷ fields) places covered =
+    All-cons (IsFilledToLeft places) (slot_in row column) (row_slots row (column + 1) fields)
+    (λ x left. covered x (omega (arith, left)))
+    (row_filled row (column + 1) fields places (λ x within. covered x (omega (arith, within))))
+
+slots_filled_in : (row : ℕ) (all : List Fields) (places : List Place) →
+    ((P : Place → Type 0) → Any P (slots row all) → Any P places) → All (IsFilledToLeft places) (slots row all)
+slots_filled_in row [] places among = All-nil (IsFilledToLeft places)
+slots_filled_in row (fields ∷ all) places among =
+    All-append (IsFilledToLeft places) (row_slots row 0 fields) (slots (row + 1) all)
+    (row_filled row 0 fields places (λ x within. among (HasSlot x row)
+    (Any-before (HasSlot x row) (row_slots row 0 fields) (slots (row + 1) all)
+    (row_covered row 0 x fields (omega arith) (omega (arith, within))))))
+    (slots_filled_in (row + 1) all places (λ P some. among P (Any-after P (row_slots row 0 fields) (slots (row + 1) all) some)))
+
+-- all slots to the left of a slot are covered in its row
+pub slots_filled : (all : List Fields) → All (IsFilledToLeft (slots 0 all)) (slots 0 all)
+slots_filled all = slots_filled_in 0 all (slots 0 all) (λ P some. some)

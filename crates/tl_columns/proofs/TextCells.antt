@@ -7,27 +7,25 @@ use Rattle.std.specs.Str.{IsUtf8, chars}
 use Rattle.std.proofs.lemmas.List.Elements.{All-from_recursion, All-head, All-tail}
 use Rattle.std.proofs.lemmas.List.Sums.{sum_by-append, sum_by-cons}
 use Rattle.tl_base.specs.declared.breaking.Breaking.{Breaking}
-use Rattle.tl_base.specs.declared.breaking.Breaking.TheVariants.{Words, Any}
 use Rattle.tl_base.specs.declared.limits.TheConstants.{MAX_FILE_BYTES, MAX_PAGE_WIDTH}
 use Rattle.tl_base.proofs.Members.{AllByRecursion-append}
 use Rattle.tl_base.proofs.Texts.{byte_count-chars}
-use Rattle.tl_text.specs.declared.paragraph.Atom.{Atom}
 use Rattle.tl_text.specs.declared.paragraph.Atom.TheVariants.{Word}
 use Rattle.tl_text.specs.Paragraph.{atom_size, IsParagraph}
 use Rattle.tl_text.specs.Words.{words_of}
-use Rattle.tl_text.proofs.ClusterLemmas.{separated_paragraph}
 use Rattle.tl_text.proofs.WordParagraphs.{words_are_paragraph}
 use Rattle.tl_table.specs.declared.cell.Content.{Content, out-Content}
 use Rattle.tl_table.specs.declared.cell.Content.TheOpen as open_content
 use Rattle.tl_table.specs.declared.cell.TableCell.{TableCell, out-TableCell}
 use Rattle.tl_table.specs.Formed.{broken}
+use Rattle.tl_table.proofs.SpeltBlocks.{broken-paragraph}
 use Rattle.tl_table.specs.Sound.{cell_size, content_size, nested_in_cell, nested_in_content, numbers_in_cell, numbers_in_content}
-use Rattle.tl_table.specs.Sound.{place_of, IsSpelt}
+use Rattle.tl_table.specs.Sound.{place_of, IsSpeltBlock}
 use Rattle.tl_table.specs.Tables.{OpenContent, tables_in, tables_of}
 use Rattle.tl_table.proofs.NumbersOpen.{numbers_in_cell-out, numbers_in_content-out, open_numbers}
 use Rattle.tl_table.proofs.SizesOpen.{cell_size-out, content_size-out, nested_in_cell-out, nested_in_content-out}
 use Rattle.tl_table.proofs.SizesOpen.{open_size, open_tables}
-use Rattle.tl_columns.specs.Columns.{blocks_of_words, floor_in, placed, IsFieldCell, PlacedField}
+use Rattle.tl_columns.specs.Columns.{blocks_of_words, floor_in, placed_fields, IsFieldCell, PlacedField}
 use Rattle.tl_columns.specs.Records.{Fields, column_count, field_count}
 use Rattle.tl_columns.specs.Refused.{AreWellFormed, IsWellFormed}
 use Rattle.tl_columns.specs.inner.Sizes.{record_size}
@@ -37,17 +35,13 @@ use Rattle.tl_columns.proofs.WordSizes.{units_size}
 -- ---- a block
 
 -- a block that is a paragraph
-abbrev IsText : OpenContent → Type 0
+abbrev pub IsText : OpenContent → Type 0
 IsText (open_content.Para paragraph) = IsParagraph paragraph
 IsText (open_content.Table box) = ⊥
 
 -- each block of a cell is a paragraph
 abbrev pub IsTextCell : TableCell → Type 0
 IsTextCell cell = AllByRecursion (λ block. IsText (out-Content block)) (out-TableCell cell).blocks
-
-broken_paragraph : (breaking : Breaking) (atoms : List Atom) → IsParagraph atoms → IsParagraph (broken breaking atoms)
-broken_paragraph Words atoms is = is
-broken_paragraph Any atoms is = separated_paragraph atoms is
 
 -- a field that a table may have: text, within the limit of a file
 abbrev pub IsField : List ℕ → Type 0
@@ -61,12 +55,13 @@ text_opens breaking field (utf8, small) =
     by : (words : List (List ℕ)) → (0 < length words → IsParagraph (map Word words)) →
         AllByRecursion IsText (blocks_of_words breaking words)
     by [] is = tt
-    by (word ∷ words) is = (broken_paragraph breaking (map Word (word ∷ words)) (is (omega arith)), tt)
+    by (word ∷ words) is = (broken-paragraph breaking (map Word (word ∷ words)) (is (omega arith)), tt)
 
-opened : (blocks : List Content) → AllByRecursion IsText (map out-Content blocks) →
-    AllByRecursion (λ block. IsText (out-Content block)) blocks
-opened [] each = tt
-opened (block ∷ blocks) each = (each.0, opened blocks each.1)
+-- what holds of each block by its fields
+pub opened : (P : OpenContent → Type 0) (blocks : List Content) → AllByRecursion P (map out-Content blocks) →
+    AllByRecursion (λ block. P (out-Content block)) blocks
+opened P [] each = tt
+opened P (block ∷ blocks) each = (each.0, opened P blocks each.1)
 
 opens_size : (blocks : List Content) → sum_by content_size blocks ≡ sum_by open_size (map out-Content blocks)
 opens_size [] = refl
@@ -94,7 +89,7 @@ no_tables : (block : OpenContent) → IsText block → tables_of block ≡ []
 no_tables (open_content.Para paragraph) is = refl
 no_tables (open_content.Table box) is = absurd is
 
-spelt_block : (block : OpenContent) → IsText block → IsSpelt block
+spelt_block : (block : OpenContent) → IsText block → IsSpeltBlock block
 spelt_block (open_content.Para paragraph) is = is
 spelt_block (open_content.Table box) is = absurd is
 
@@ -151,19 +146,19 @@ pub numbers_none : (cells : List TableCell) → AllByRecursion IsTextCell cells 
 numbers_none cells each = joined_none numbers_in_cell IsTextCell cell_numbers_none cells each
 
 spelt_blocks : (blocks : List Content) → AllByRecursion (λ block. IsText (out-Content block)) blocks →
-    AllByRecursion (λ block. IsSpelt (out-Content block)) blocks
+    AllByRecursion (λ block. IsSpeltBlock (out-Content block)) blocks
 spelt_blocks [] each = tt
 spelt_blocks (block ∷ blocks) each = (spelt_block (out-Content block) each.0, spelt_blocks blocks each.1)
 
 spelt_cells : (cells : List TableCell) → AllByRecursion IsTextCell cells →
-    AllByRecursion (λ cell. AllByRecursion (λ block. IsSpelt (out-Content block)) (out-TableCell cell).blocks) cells
+    AllByRecursion (λ cell. AllByRecursion (λ block. IsSpeltBlock (out-Content block)) (out-TableCell cell).blocks) cells
 spelt_cells [] each = tt
 spelt_cells (cell ∷ cells) each = (spelt_blocks (out-TableCell cell).blocks each.0, spelt_cells cells each.1)
 
 pub all_spelt : (cells : List TableCell) → AllByRecursion IsTextCell cells →
-    All (λ cell. AllByRecursion (λ block. IsSpelt (out-Content block)) (out-TableCell cell).blocks) cells
+    All (λ cell. AllByRecursion (λ block. IsSpeltBlock (out-Content block)) (out-TableCell cell).blocks) cells
 all_spelt cells each =
-    All-from_recursion (λ cell. AllByRecursion (λ block. IsSpelt (out-Content block)) (out-TableCell cell).blocks) cells
+    All-from_recursion (λ cell. AllByRecursion (λ block. IsSpeltBlock (out-Content block)) (out-TableCell cell).blocks) cells
     (spelt_cells cells each)
 
 -- ---- the cells of fields
@@ -194,7 +189,7 @@ module _ (head : Bool) (floors : List ℕ) (breaking : Breaking) where
   text_cells [] (cell ∷ cells) are each = absurd are
   text_cells (at ∷ ats) [] are each = absurd are
   text_cells (at ∷ ats) (cell ∷ cells) are each = (
-    opened (out-TableCell cell).blocks (subst (AllByRecursion IsText) (sym are.0.blocks)
+    opened IsText (out-TableCell cell).blocks (subst (AllByRecursion IsText) (sym are.0.blocks)
         (text_opens breaking at.field each.0)),
     text_cells ats cells are.1 each.1,
   )
@@ -266,7 +261,7 @@ fields_size_from row (fields ∷ all) = omega (
   fields_size_from (row + 1) all,
 )
 
-pub fields_size : (all : List Fields) → sum_by (λ at. length at.field + 1) (placed all) ≡ sum_by record_size all
+pub fields_size : (all : List Fields) → sum_by (λ at. length at.field + 1) (placed_fields all) ≡ sum_by record_size all
 fields_size all = fields_size_from 0 all
 
 row_are_fields : (row column : ℕ) (fields : Fields) → All IsUtf8 fields → record_size fields ≤ MAX_FILE_BYTES + 1 →
@@ -288,7 +283,7 @@ are_fields_from columns row (fields ∷ all) good small =
     (are_fields_from columns (row + 1) all (All-tail (IsWellFormed columns) fields all good) (omega (arith, sum, small)))
 
 pub are_fields : (all : List Fields) → AreWellFormed all → sum_by record_size all ≤ MAX_FILE_BYTES + 1 →
-    AllByRecursion (λ at. IsField at.field) (placed all)
+    AllByRecursion (λ at. IsField at.field) (placed_fields all)
 are_fields all good small = are_fields_from (column_count all) 0 all good small
 
 -- ---- as many cells as fields
@@ -307,5 +302,5 @@ fields_count_from row (fields ∷ all) = omega (
     row_count row column [] = refl
     row_count row column (field ∷ fields) = omega (arith, row_count row (column + 1) fields)
 
-pub fields_count : (all : List Fields) → length (placed all) ≡ field_count all
+pub fields_count : (all : List Fields) → length (placed_fields all) ≡ field_count all
 fields_count all = fields_count_from 0 all

@@ -12,7 +12,7 @@ use Rattle.tl_table.specs.declared.cell.Content.TheOpen as open_content
 use Rattle.tl_table.specs.declared.cell.Kind.{Kind}
 use Rattle.tl_table.specs.declared.cell.Table.{Table, out-Table}
 use Rattle.tl_table.specs.declared.cell.TableCell.{out-TableCell}
-use Rattle.tl_table.specs.Formed.{broken, kind_of}
+use Rattle.tl_table.specs.Formed.{broken, header_kind}
 use Rattle.tl_table.specs.Tables.{OpenCell, OpenContent}
 use Rattle.tl_columns.specs.Records.{Fields, column_count}
 use Rattle.tl_columns.specs.Refused.{AreWellFormed, AreWithinLimits}
@@ -28,8 +28,8 @@ abbrev pub placed_in : ℕ → Fields → List PlacedField
 placed_in row fields = map (λ one. record { row = row; column = one.0; field = one.1 }) (enumerate_from 0 fields)
 
 -- the fields of all records, row by row
-abbrev pub placed : List Fields → List PlacedField
-placed all = flat_map (λ one. placed_in one.0 one.1) (enumerate_from 0 all)
+abbrev pub placed_fields : List Fields → List PlacedField
+placed_fields all = flat_map (λ one. placed_in one.0 one.1) (enumerate_from 0 all)
 
 -- the one slot in that row and column
 abbrev pub slot_in : ℕ → ℕ → Place
@@ -37,7 +37,7 @@ slot_in row column = record { left = column; right = column + 1; top = row; bott
 
 -- the cells of the first row are header cells where it is to be one, and all others are plain
 abbrev pub kind_in : Bool → ℕ → Kind
-kind_in head row = kind_of (head && (row == 0))
+kind_in head row = header_kind (head && (row == 0))
 
 -- the cells of the first row have the floors that are there, and all others the floor 0
 abbrev pub floor_in : List ℕ → ℕ → ℕ → ℕ
@@ -62,4 +62,5 @@ pub record IsCsvTable (all : List Fields) (head : Bool) (floors : List ℕ) (bre
   pub number : (out-Table table).number ≡ 0
   pub cols : (out-Table table).cols ≡ column_count all
   pub rows : (out-Table table).rows ≡ length all
-  pub cells : AllZip (λ at cell. IsFieldCell head floors breaking at (out-TableCell cell)) (placed all) (out-Table table).cells
+  pub cells : AllZip (λ at cell. IsFieldCell head floors breaking at (out-TableCell cell)) (placed_fields all)
+      (out-Table table).cells

@@ -10,7 +10,7 @@ ghost use Rattle.tl_text.specs.Words.{words_of};
 ghost use Rattle.tl_table.specs.declared.cell.Content.{out-Content};
 ghost use Rattle.tl_table.specs.declared.cell.TableCell.{TableCell, out-TableCell};
 ghost use Rattle.tl_table.specs.Formed.{broken};
-ghost use Rattle.tl_columns.specs.Columns.{blocks_of_words, floor_in, kind_in, placed, placed_in, slot_in, IsFieldCell};
+ghost use Rattle.tl_columns.specs.Columns.{blocks_of_words, floor_in, kind_in, placed_fields, placed_in, slot_in, IsFieldCell};
 ghost use Rattle.tl_columns.specs.inner.Sizes.{record_size, AreOfFile};
 ghost use Rattle.tl_columns.specs.Refused.{AreWithinLimits, IsWellFormed};
 ghost use Rattle.tl_columns.specs.Records.{column_count};
@@ -163,7 +163,7 @@ pub(crate) fn cells_of(
     requires well_formed { All (IsWellFormed (column_count records.now)) records.now }
     requires limits { AreWithinLimits records.now }
     requires small { AreOfFile records.now }
-    ensures { IfOk result (AllZip (λ at cell. IsFieldCell head least.now breaking at (out-TableCell cell)) (placed records.now)) }
+    ensures { IfOk result (AllZip (λ at cell. IsFieldCell head least.now breaking at (out-TableCell cell)) (placed_fields records.now)) }
 {
     let mut cells = List::new(alloc);
     for (row, fields) in records.iter().enumerate() {

@@ -11,6 +11,7 @@ use crate::error::CsvError;
 use crate::records::Record;
 use std::str::from_utf8;
 use tl_base::{MAX_CELLS, MAX_COLUMNS, MAX_ROWS};
+use tl_token::is_control;
 
 /// How many columns a table of the records has: as many as the first has fields.
 pub(crate) fn column_count(records: &[Record]) -> usize
@@ -52,13 +53,6 @@ pub(crate) fn text_of(field: &[u8]) -> &str
         Ok(text) => text,
         Err(_) => unreachable!(),
     }
-}
-
-/// Whether the character is a control character that no text has.
-fn is_control(c: char) -> bool
-    ensures { result ≡ is_control c }
-{
-    c < ' ' && !c.is_ascii_whitespace() || '\u{7f}' <= c && c <= '\u{9f}'
 }
 
 /// Whether the text has such a character.

@@ -7,6 +7,7 @@ ghost use Rattle.tl_base.specs.declared.limits.TheConstants.{MAX_FILE_BYTES, MAX
 ghost use Rattle.tl_table.specs.declared.cell.Table.{Table};
 ghost use Rattle.tl_table.specs.FewCells.{HasFewCells};
 ghost use Rattle.tl_table.specs.Sound.{table_size, IsSound};
+ghost use Rattle.tl_html.specs.Spellable.{IsSpellable};
 ghost use Rattle.tl_columns.specs.declared.error.CsvError.{CsvError};
 ghost use Rattle.tl_columns.specs.declared.error.CsvError.TheVariants.{Memory};
 ghost use Rattle.tl_columns.specs.Columns.{IsCsvTable};
@@ -68,10 +69,12 @@ pub fn from_csv(
     ensures err { IfErr result (IsMemoryOr (Memory alloc_error) (IsCsvRefused (csv_records bytes.now))) }
     ensures each_err { (error : CsvError) → IsCsvRefused (csv_records bytes.now) error
         → ReturnsError (Memory alloc_error) error result }
-    // It holds no more than the file, is sound where that is within the limit of a table, and has few cells.
+    // It holds no more than the file: each cell counts 1, and the last may have neither a comma nor a line end.
     ensures small { IfOk result (λ table. table_size table ≤ length bytes.now + 1) }
-    ensures sound { IfOk result (λ table. table_size table ≤ MAX_FILE_BYTES → IsSound table) }
+    // It is sound, has few cells, and a file of HTML can spell it.
+    ensures sound { IfOk result IsSound }
     ensures few { IfOk result HasFewCells }
+    ensures spellable { IfOk result (IsSpellable breaking) }
 {
     let list = records(alloc, bytes)?;
     table_of(alloc, list.as_slice(), head, least, breaking)

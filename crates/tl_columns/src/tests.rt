@@ -1,6 +1,6 @@
 //! CSV files whose tables are written by hand, files that are refused, and files at the limits.
 
-use crate::from_csv;
+use crate::{CsvError, from_csv};
 use std::alloc::{AllocError, Global};
 use std::process::Abort;
 use std::test::Fail;
@@ -91,7 +91,22 @@ const TABLES: &[(&str, &str)] = &[
     ("\"a\nb\r\n c\",d", "2x1|0,0 0: a b c|1,0 0: d"),
     (" a\u{c} bc ,\u{a0}\n", "2x1|0,0 0: a bc|1,0 0: \u{a0}"),
     ("<td>,&amp;\n", "2x1|0,0 0: <td>|1,0 0: &amp;"),
+    (PSQL, PSQL_TABLE),
+    (SPREADSHEET, SPREADSHEET_TABLE),
 ];
+
+/// What `psql --csv` writes of three columns and two rows: a text with a comma and double quotes, one with
+/// a line end, and a null.
+const PSQL: &str = "id,name,note\n1,\"Smith, J.\",\"said \"\"hi\"\"\"\n2,Ann,\"a\nb\"\n3,,\n";
+
+const PSQL_TABLE: &str = "3x4|0,0 0: id|1,0 0: name|2,0 0: note\
+    |0,1 0: 1|1,1 0: Smith, J.|2,1 0: said \"hi\"|0,2 0: 2|1,2 0: Ann|2,2 0: a b|0,3 0: 3|1,3 0:|2,3 0:";
+
+/// What a spreadsheet saves as CSV in UTF-8: a byte order mark, and a carriage return before each line feed.
+const SPREADSHEET: &str = "\u{feff}Datum,Preis\r\n1. Mai,\"1.234,50 \u{20ac}\"\r\n,\r\n";
+
+const SPREADSHEET_TABLE: &str = "2x3|0,0 0: Datum|1,0 0: Preis\
+    |0,1 0: 1. Mai|1,1 0: 1.234,50 \u{20ac}|0,2 0:|1,2 0:";
 
 #[test]
 fn a_file_has_a_row_for_each_record_and_a_column_for_each_field(
@@ -133,6 +148,31 @@ fn the_first_row_alone_has_header_cells_and_floors(rt: HostRuntime) -> Result<()
         let least = &floors[..count.min(3)];
         let found = table_of(rt.alloc(), file.as_bytes(), true, least, Breaking::Any)?;
         assert_eq!(rt; found.as_str(), table, "{file}");
+    }
+    Ok(())
+}
+
+/// A record of so many empty fields.
+fn empty_record(alloc: Global, fields: usize) -> Result<Vec<u8>, AllocError> {
+    let mut bytes = Vec::new(alloc);
+    for _ in 1..fields {
+        bytes.push(b',')?;
+    }
+    bytes.push(b'\n')?;
+    Ok(bytes)
+}
+
+/// Numbers of floors, each of 7, for a record of 60 fields, and how many cells have one.
+const FLOOR_COUNTS: [(usize, usize); 4] = [(0, 0), (1, 1), (59, 59), (60, 60)];
+
+#[test]
+fn each_of_60_columns_may_have_a_floor(rt: HostRuntime) -> Result<(), Fail> {
+    let bytes = empty_record(rt.alloc(), 60)?;
+    let floors = [7; 60];
+    for (count, wanted) in FLOOR_COUNTS {
+        let least = &floors[..count.min(60)];
+        let found = table_of(rt.alloc(), &bytes, false, least, Breaking::Words)?;
+        assert!(rt; found.as_str().matches(" 7:").count() == wanted);
     }
     Ok(())
 }
@@ -210,4 +250,12 @@ fn one_word_may_be_as_long_as_a_file(rt: HostRuntime) -> Result<(), Fail> {
     let found = table_of(alloc, &bytes, false, &[], Breaking::Words)?;
     assert!(rt; found.len() == "1x1|0,0 0: ".len() + MAX_FILE_BYTES);
     Ok(())
+}
+
+/// Takes what may be sent to other threads and shared between them.
+fn share<T: Send + Sync + Drop>(_value: Option<T>) {}
+
+#[test]
+fn why_a_file_is_no_table_may_go_to_other_threads() {
+    share::<CsvError>(None);
 }

@@ -1,5 +1,5 @@
 -- A file has at most one reading, but for where in memory its tables lie.
-use Rattle.std.proofs.Common.{◌≡◌, ◌⊎◌, inl, inr, ℕ, ◌≤◌, List, length, arith, Option, Some, None}
+use Rattle.std.proofs.Common.{◌≡◌, ◌⊎◌, inl, inr, ℕ, ◌≤◌, Bool, List, length, arith, Option, Some, None}
 use Rattle.std.proofs.Common.{refl, sym, subst, ◌∙◌, Result, Ok, Err, IfOk, alloc_error}
 use Rattle.std.specs.declared.alloc.AllocError.{AllocError}
 use Rattle.std.specs.List.{AllByRecursion}
@@ -20,17 +20,25 @@ use Rattle.tl_table.specs.declared.cell.Table.{Table}
 use Rattle.tl_table.specs.declared.error.FormError.{FormError}
 use Rattle.tl_table.specs.declared.error.FormError.TheVariants as errors
 use Rattle.tl_table.specs.Formed.{Becomes}
-use Rattle.tl_table.specs.Refused.{NumberedShape, HasSomeGrid, AreRefused, HasNoGrid, tables_of}
+use Rattle.tl_table.specs.Refused.{NumberedShape, HasSomeGrid, AreRefused, HasNoGrid, numbered_shapes}
 use Rattle.tl_table.proofs.Gridless.{becomes_gridded, not_among}
 use Rattle.tl_table.proofs.OneTable.{same_tables}
+use Rattle.tl_table.specs.Same.{AreSame}
+use Rattle.tl_columns.specs.declared.error.CsvError.{CsvError}
+use Rattle.tl_columns.specs.declared.error.CsvError.TheVariants as records
+use Rattle.tl_columns.specs.Columns.{IsCsvTable}
+use Rattle.tl_columns.specs.Records.{csv_records}
+use Rattle.tl_columns.specs.Refused.{IsCsvRefused}
+use Rattle.tl_columns.proofs.CsvLists.{of_file}
+use Rattle.tl_columns.proofs.Soundness.{csv_itself}
 use Rattle.tl_read.specs.declared.reading.Reading.{Reading}
 use Rattle.tl_read.specs.declared.reading.Reading.TheVariants as readings
 use Rattle.tl_read.specs.declared.refusal.Refusal.{Refusal}
-use Rattle.tl_read.specs.Refusals.{token_refusal, tree_refusal, form_refusal}
+use Rattle.tl_read.specs.Refusals.{token_refusal, tree_refusal, form_refusal, csv_refusal}
 use Rattle.tl_read.specs.declared.source.Source.{Source}
 use Rattle.tl_read.specs.declared.source.Source.TheVariants as sources
-use Rattle.tl_read.specs.Reading.{SpellsWithinLimits, ReadsHtml, ReadsAs, IsReading, AreSameReadings, too_long}
-use Rattle.tl_read.specs.inner.Steps.{ReadsTree, ReadsTokens, ReadsBytes}
+use Rattle.tl_read.specs.Reading.{ReadsAs, IsReading, IsTableOfFile, AreSameReadings, too_long}
+use Rattle.tl_read.specs.inner.Steps.{ReadsTree, ReadsTokens, ReadsBytes, ReadsRecords}
 use Rattle.tl_table.proofs.SameShapes.{same_shapes}
 
 -- a refusal that is found is the one
@@ -72,7 +80,7 @@ pub refused_alike : (breaking : Breaking) (node other : TableNode) (error : Form
 refused_alike breaking node other error found (readings.Table table) same (inl memory) each is read =
     absurd (memory_refused found error memory is)
 refused_alike breaking node other error found (readings.Table table) same (inr refused) each is read =
-    absurd (not_among (tables_of node) error
+    absurd (not_among (numbered_shapes node) error
     (subst (λ (tables : List NumberedShape). AllByRecursion HasSomeGrid tables) (sym (same_shapes node other same))
     (becomes_gridded breaking other table read))
     refused)
@@ -146,7 +154,7 @@ refusal_told one other e = cc
 
 -- what bytes are read as step by step they are
 pub read_whole : (breaking : Breaking) (bytes : List ℕ) (reading : Reading) → ReadsBytes breaking bytes reading →
-    ReadsHtml breaking bytes reading
+    ReadsAs (sources.Html breaking) bytes reading
 read_whole breaking bytes (readings.Table table) (inl (tokens, cut, inl (node, spells, within, becomes))) = record {
   spells = record { tokens = tokens; cut = cut; node = node; read = spells; formed = becomes };
   within = within;
@@ -172,7 +180,7 @@ read_whole breaking bytes (readings.Refused refusal) (inr (error, other, none, i
     inl (error, none, subst (λ (r : Refusal). token_refusal error ≡ Some r) (refusal_told refusal other same) is)
 
 -- and what they are they are read as step by step
-pub read_in_steps : (breaking : Breaking) (bytes : List ℕ) (reading : Reading) → ReadsHtml breaking bytes reading →
+pub read_in_steps : (breaking : Breaking) (bytes : List ℕ) (reading : Reading) → ReadsAs (sources.Html breaking) bytes reading →
     ReadsBytes breaking bytes reading
 read_in_steps breaking bytes (readings.Table table) is =
     inl (is.spells.tokens, is.spells.cut, inl (is.spells.node, is.spells.read, is.within, is.spells.formed))
@@ -183,28 +191,69 @@ read_in_steps breaking bytes (readings.Refused refusal) (inr (tokens, cut, inr (
     inl (tokens, cut, inl (node, spells, within, refused))
 
 -- HTML within the limit is read as the file that it is
-pub within_is : (source : Source) (breaking : Breaking) → source ≡ sources.Html breaking →
-    (bytes : List ℕ) (result : Result Reading AllocError) →
-    length bytes ≤ MAX_FILE_BYTES → IfOk result (ReadsBytes breaking bytes) → IfOk result (IsReading source bytes)
-within_is source breaking is bytes (Ok reading) short read =
-    inr (short, subst (λ (s : Source). ReadsAs s bytes reading) (sym is) (read_whole breaking bytes reading read))
-within_is source breaking is bytes (Err error) short read = tt
+pub html_is : (source : Source) (breaking : Breaking) → source ≡ sources.Html breaking → (bytes : List ℕ)
+    (result : Result Reading AllocError) → IfOk result (ReadsBytes breaking bytes) → IfOk result (ReadsAs source bytes)
+html_is source breaking is bytes (Ok reading) read =
+    subst (λ (s : Source). ReadsAs s bytes reading) (sym is) (read_whole breaking bytes reading read)
+html_is source breaking is bytes (Err error) read = tt
 
 -- and whatever else it is read as is the same
-pub within_alike : (source : Source) (breaking : Breaking) → source ≡ sources.Html breaking →
-    (bytes : List ℕ) (result : Result Reading AllocError)
-    (reading : Reading) → length bytes ≤ MAX_FILE_BYTES →
+pub html_alike : (source : Source) (breaking : Breaking) → source ≡ sources.Html breaking → (bytes : List ℕ)
+    (result : Result Reading AllocError) (reading : Reading) →
     ((other : Reading) → ReadsBytes breaking bytes other → IfOk result (λ found. AreSameReadings found other)) →
-    IsReading source bytes reading → IfOk result (λ found. AreSameReadings found reading)
-within_alike source breaking is bytes result reading short each (inl long) = absurd (omega (arith, short, long.0))
-within_alike source breaking is bytes result reading short each (inr (small, read)) =
+    ReadsAs source bytes reading → IfOk result (λ found. AreSameReadings found reading)
+html_alike source breaking is bytes result reading each read =
     each reading (read_in_steps breaking bytes reading (subst (λ (s : Source). ReadsAs s bytes reading) is read))
+
+-- bytes within the limit are read as the file that they are
+pub within_is : (source : Source) (bytes : List ℕ) (result : Result Reading AllocError) → length bytes ≤ MAX_FILE_BYTES →
+    IfOk result (ReadsAs source bytes) → IfOk result (IsReading source bytes)
+within_is source bytes (Ok reading) short read = inr (short, read)
+within_is source bytes (Err error) short read = tt
+
+-- and whatever else they are read as is the same
+pub within_alike : (source : Source) (bytes : List ℕ) (result : Result Reading AllocError) (reading : Reading) →
+    length bytes ≤ MAX_FILE_BYTES →
+    ((other : Reading) → ReadsAs source bytes other → IfOk result (λ found. AreSameReadings found other)) →
+    IsReading source bytes reading → IfOk result (λ found. AreSameReadings found reading)
+within_alike source bytes result reading short each (inl long) = absurd (omega (arith, short, long.0))
+within_alike source bytes result reading short each (inr (small, read)) = each reading read
 
 -- ---- a table
 
--- bytes that are a table as HTML are within the limit of a file, and spell it
-pub spelt_within : (breaking : Breaking) (bytes : List ℕ) (table : Table) →
-    IsReading (sources.Html breaking) bytes (readings.Table table) →
-    (length bytes ≤ MAX_FILE_BYTES) × SpellsWithinLimits bytes breaking table
-spelt_within breaking bytes table (inl long) = absurd (table_not_refused table too_long long.1)
-spelt_within breaking bytes table (inr read) = read
+-- bytes that are a table are within the limit of a file, and are that table by what kind of file they are
+pub table_within : (source : Source) (bytes : List ℕ) (table : Table) → IsReading source bytes (readings.Table table) →
+    (length bytes ≤ MAX_FILE_BYTES) × IsTableOfFile source bytes table
+table_within source bytes table (inl long) = absurd (table_not_refused table too_long long.1)
+table_within source bytes table (inr read) = read
+
+-- ---- CSV
+
+-- the reading of records that are a table
+pub csv_table_alike : (head : Bool) (floors : List ℕ) (breaking : Breaking) (bytes : List ℕ) (table : Table)
+    (reading : Reading) → length bytes ≤ MAX_FILE_BYTES → IsCsvTable (csv_records bytes) head floors breaking table →
+    ((other : Table) → IsCsvTable (csv_records bytes) head floors breaking other → table ≡ other) →
+    ((error : CsvError) → IsCsvRefused (csv_records bytes) error → ⊥) → ReadsRecords head floors breaking bytes reading →
+    AreSameReadings (readings.Table table) reading
+csv_table_alike head floors breaking bytes table (readings.Table other) short is same never read =
+    subst (AreSame table) (same other read)
+    (csv_itself (csv_records bytes) head floors breaking table (of_file bytes short) is)
+csv_table_alike head floors breaking bytes table (readings.Refused refusal) short is same never read =
+    absurd (never read.0 read.1)
+
+-- the reading of records that are refused
+pub csv_refused_alike : (head : Bool) (floors : List ℕ) (breaking : Breaking) (bytes : List ℕ) (error : CsvError)
+    (found : Refusal) (reading : Reading) →
+    ((table : Table) → IsCsvTable (csv_records bytes) head floors breaking table → error ≡ records.Memory alloc_error) →
+    ((cause : CsvError) → IsCsvRefused (csv_records bytes) cause →
+    (error ≡ records.Memory alloc_error) ⊎ (error ≡ cause)) →
+    csv_refusal error ≡ Some found → ReadsRecords head floors breaking bytes reading →
+    AreSameReadings (readings.Refused found) reading
+csv_refused_alike head floors breaking bytes error found (readings.Table table) ok each is read =
+    absurd (some_not_none found (subst (λ (e : CsvError). csv_refusal e ≡ Some found) (ok table read) is))
+csv_refused_alike head floors breaking bytes error found (readings.Refused refusal) ok each is read =
+    elim (each read.0 read.1) [
+      | inl memory ↦ absurd (some_not_none found (subst (λ (e : CsvError). csv_refusal e ≡ Some found) memory is))
+      | inr equal ↦ one_refusal (csv_refusal error) found refusal is
+          (subst (λ (e : CsvError). csv_refusal e ≡ Some refusal) (sym equal) read.2)
+    ]

@@ -1,4 +1,5 @@
--- Which table the bytes of a file are, and why they are refused: the first of the steps that cannot be done decides.
+-- Which table the bytes of a file are, and why they are refused: the first of the steps that cannot be done decides. The
+-- steps of HTML are its tokens, its tree and the grids of its tables; those of CSV its records and the limits of their table.
 use Rattle.std.specs.Prelude.{◌≡◌, ◌⊎◌, ℕ, ◌+◌, ◌<◌, ◌≤◌, List, length, Option, None, Some}
 use Rattle.tl_base.specs.declared.breaking.Breaking.{Breaking}
 use Rattle.tl_base.specs.declared.limits.TheConstants.{MAX_FILE_BYTES}
@@ -9,15 +10,18 @@ use Rattle.tl_tree.specs.declared.error.TreeError.{TreeError}
 use Rattle.tl_tree.specs.declared.node.TableNode.{TableNode}
 use Rattle.tl_tree.specs.Spelling.{SpellsTree, IsWithinLimits, SpellsNoTree}
 use Rattle.tl_tree.specs.Tags.{kinds}
-use Rattle.tl_tree.specs.Sound.{IsSound as IsSoundTree}
 use Rattle.tl_table.specs.declared.error.FormError.{FormError}
-use Rattle.tl_table.specs.Formed.{Becomes}
 use Rattle.tl_table.specs.Refused.{HasNoGrid}
 use Rattle.tl_table.specs.declared.cell.Table.{Table}
 use Rattle.tl_table.specs.FewCells.{HasFewCells}
 use Rattle.tl_table.specs.Same.{AreSame}
 use Rattle.tl_table.specs.Sound.{IsSound}
 use Rattle.tl_table.specs.Spells.{Spells}
+use Rattle.tl_html.specs.Spellable.{IsSpellable}
+use Rattle.tl_columns.specs.declared.error.CsvError.{CsvError}
+use Rattle.tl_columns.specs.Columns.{IsCsvTable}
+use Rattle.tl_columns.specs.Records.{csv_records}
+use Rattle.tl_columns.specs.Refused.{IsCsvRefused}
 use Rattle.tl_read.specs.declared.source.Source.{Source}
 use Rattle.tl_read.specs.declared.source.Source.TheVariants as sources
 use Rattle.tl_read.specs.declared.reading.Reading.{Reading}
@@ -25,7 +29,7 @@ use Rattle.tl_read.specs.declared.reading.Reading.TheVariants as readings
 use Rattle.tl_read.specs.declared.refusal.Limit.TheVariants as limits
 use Rattle.tl_read.specs.declared.refusal.Refusal.{Refusal}
 use Rattle.tl_read.specs.declared.refusal.Refusal.TheVariants as refusals
-use Rattle.tl_read.specs.Refusals.{token_refusal, tree_refusal, form_refusal}
+use Rattle.tl_read.specs.Refusals.{token_refusal, tree_refusal, form_refusal, csv_refusal}
 
 -- ---- a table
 
@@ -52,20 +56,36 @@ RefusesHtml bytes refusal =
     ((error : TokenError) × SpellsNoTokens bytes error × (token_refusal error ≡ Some refusal))
     ⊎ ((tokens : List Token) × SpellsTokens bytes tokens × RefusesTokens (length bytes) tokens refusal)
 
+-- the records of CSV are no table, and are refused for that
+abbrev pub RefusesCsv : List ℕ → Refusal → Type 0
+RefusesCsv bytes refusal =
+    (error : CsvError) × IsCsvRefused (csv_records bytes) error × (csv_refusal error ≡ Some refusal)
+
 -- ---- which of the two
 
--- HTML within the limit of a file is this table, or is refused for this reason
-abbrev pub ReadsHtml : Breaking → List ℕ → Reading → Type 0
-ReadsHtml breaking bytes (readings.Table table) = SpellsWithinLimits bytes breaking table
-ReadsHtml breaking bytes (readings.Refused refusal) = RefusesHtml bytes refusal
+-- how the paragraphs of a source are broken into lines
+abbrev pub breaking_in : Source → Breaking
+breaking_in (sources.Html breaking) = breaking
+breaking_in (sources.Csv head floors breaking) = breaking
+
+-- bytes within the limit of a file are this table, by what kind of file they are
+abbrev pub IsTableOfFile : Source → List ℕ → Table → Type 0
+IsTableOfFile (sources.Html breaking) bytes table = SpellsWithinLimits bytes breaking table
+IsTableOfFile (sources.Csv head floors breaking) bytes table = IsCsvTable (csv_records bytes) head floors breaking table
+
+-- bytes within the limit of a file are no table, and are refused for this reason, by what kind of file they are
+abbrev pub IsNoTableFor : Source → List ℕ → Refusal → Type 0
+IsNoTableFor (sources.Html breaking) bytes refusal = RefusesHtml bytes refusal
+IsNoTableFor (sources.Csv head floors breaking) bytes refusal = RefusesCsv bytes refusal
+
+-- bytes within the limit of a file are this table, or are refused for this reason
+abbrev pub ReadsAs : Source → List ℕ → Reading → Type 0
+ReadsAs source bytes (readings.Table table) = IsTableOfFile source bytes table
+ReadsAs source bytes (readings.Refused refusal) = IsNoTableFor source bytes refusal
 
 -- the refusal of a file past its limit: so many of its bytes are read
 abbrev pub too_long : Refusal
 too_long = refusals.Limit limits.File (MAX_FILE_BYTES + 1)
-
--- bytes within the limit are this table, or are refused for this reason, by what kind of file they are
-abbrev pub ReadsAs : Source → List ℕ → Reading → Type 0
-ReadsAs (sources.Html breaking) bytes reading = ReadsHtml breaking bytes reading
 
 -- the bytes of a file are this table, or are refused for this reason
 abbrev pub IsReading : Source → List ℕ → Reading → Type 0
@@ -84,10 +104,10 @@ abbrev pub table_in : Reading → Option Table
 table_in (readings.Table table) = Some table
 table_in (readings.Refused refusal) = None
 
--- a table that was read is one that a sound tree becomes
-abbrev pub IsFormed : Source → Reading → Type 0
-IsFormed (sources.Html breaking) (readings.Table table) = (node : TableNode) × IsSoundTree node × Becomes breaking node table
-IsFormed source (readings.Refused refusal) = Unit {0}
+-- a table that was read is one that a file of HTML can spell, by the same breaking
+abbrev pub IsSpellableReading : Source → Reading → Type 0
+IsSpellableReading source (readings.Table table) = IsSpellable (breaking_in source) table
+IsSpellableReading source (readings.Refused refusal) = Unit {0}
 
 -- a table that was read is sound, and has no more cells than a grid may have
 abbrev pub IsSoundReading : Reading → Type 0

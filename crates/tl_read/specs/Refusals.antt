@@ -8,11 +8,14 @@ use Rattle.tl_tree.specs.declared.error.TreeError.{TreeError}
 use Rattle.tl_tree.specs.declared.error.TreeError.TheVariants as trees
 use Rattle.tl_grid.specs.declared.error.GridError.{GridError}
 use Rattle.tl_grid.specs.declared.error.GridError.TheVariants as grids
+use Rattle.tl_columns.specs.declared.error.CsvError.{CsvError}
+use Rattle.tl_columns.specs.declared.error.CsvError.TheVariants as records
 use Rattle.tl_table.specs.declared.error.FormError.{FormError}
 use Rattle.tl_table.specs.declared.error.FormError.TheVariants as forms
 use Rattle.tl_read.specs.declared.refusal.Fault.{Fault}
 use Rattle.tl_read.specs.declared.refusal.Fault.TheVariants as faults
 use Rattle.tl_read.specs.declared.refusal.Limit.TheVariants as limits
+use Rattle.tl_read.specs.declared.refusal.RecordFault.TheVariants as record_faults
 use Rattle.tl_read.specs.declared.refusal.Refusal.{Refusal}
 use Rattle.tl_read.specs.declared.refusal.Refusal.TheVariants as refusals
 
@@ -32,15 +35,15 @@ token_refusal (tokens.BadReference place) = at faults.BadReference place
 token_refusal (tokens.BadCharacter place) = at faults.BadCharacter place
 
 -- the first byte of the token with this number
-abbrev pub place_in : List Token → ℕ → ℕ
-place_in all index = get_or (map (λ token. token.first) all) index 0
+abbrev pub token_place : List Token → ℕ → ℕ
+token_place all index = get_or (map (λ token. token.first) all) index 0
 
 -- tokens of a file of so many bytes that are no tree
 abbrev pub tree_refusal : ℕ → List Token → TreeError → Option Refusal
 tree_refusal size all (trees.Memory error) = None
 tree_refusal size all trees.NoTable = at faults.NoTable size
-tree_refusal size all (trees.StrayText index) = at faults.StrayText (place_in all index)
-tree_refusal size all (trees.Misplaced index) = at faults.MisplacedTag (place_in all index)
+tree_refusal size all (trees.StrayText index) = at faults.StrayText (token_place all index)
+tree_refusal size all (trees.Misplaced index) = at faults.MisplacedTag (token_place all index)
 tree_refusal size all trees.Unclosed = at faults.UnclosedTable size
 tree_refusal size all (trees.TooDeep index) = Some (refusals.Limit limits.Depth (MAX_DEPTH + 1))
 tree_refusal size all (trees.TooManyTables index) = Some (refusals.Limit limits.Tables (MAX_TABLES + 1))
@@ -57,3 +60,13 @@ grid_refusal table (grids.TooManyRows count) = Some (refusals.Limit limits.Rows 
 abbrev pub form_refusal : FormError → Option Refusal
 form_refusal (forms.Memory error) = None
 form_refusal (forms.Grid number cause) = grid_refusal number cause
+
+-- records of a CSV file that are no table
+abbrev pub csv_refusal : CsvError → Option Refusal
+csv_refusal (records.Memory error) = None
+csv_refusal (records.Uneven record_number) = Some (refusals.BadRecord record_faults.Uneven record_number)
+csv_refusal (records.NotUtf8 record_number) = Some (refusals.BadRecord record_faults.NotUtf8 record_number)
+csv_refusal (records.BadCharacter record_number) = Some (refusals.BadRecord record_faults.BadCharacter record_number)
+csv_refusal (records.TooManyCells count) = Some (refusals.Limit limits.Cells count)
+csv_refusal (records.TooManyColumns count) = Some (refusals.Limit limits.Columns count)
+csv_refusal (records.TooManyRows count) = Some (refusals.Limit limits.Rows count)

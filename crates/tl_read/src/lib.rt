@@ -10,5 +10,5 @@ mod source;
 mod tests;
 
 pub use reading::{Reading, read};
-pub use refusal::{Fault, Limit, Refusal};
+pub use refusal::{Fault, Limit, RecordFault, Refusal};
 pub use source::Source;

@@ -1,7 +1,8 @@
 //! Reads the bytes of a file as a table, or says why they are none.
 
 ghost use Rattle.std.specs.Prelude.{◌≡◌, ◌≤◌, length, IfOk, Some};
-ghost use Rattle.tl_base.specs.declared.limits.TheConstants.{MAX_FILE_BYTES};
+ghost use Rattle.std.specs.List.{All};
+ghost use Rattle.tl_base.specs.declared.limits.TheConstants.{MAX_FILE_BYTES, MAX_PAGE_WIDTH};
 ghost use Rattle.tl_tree.specs.declared.node.TableNode.{TableNode};
 ghost use Rattle.tl_tree.specs.Readable.{AreReadable};
 ghost use Rattle.tl_tree.specs.Same.{AreSame};
@@ -9,14 +10,16 @@ ghost use Rattle.tl_tree.specs.Sound.{IsSound as IsSoundTree};
 ghost use Rattle.tl_read.specs.declared.reading.Reading.{Reading};
 ghost use Rattle.tl_read.specs.declared.reading.Reading.TheVariants as readings;
 ghost use Rattle.tl_read.specs.declared.refusal.Refusal.{Refusal as R};
-ghost use Rattle.tl_read.specs.Reading.{IsReading, AreSameReadings, IsFormed, IsSoundReading, table_in};
+ghost use Rattle.tl_read.specs.Reading.{IsReading, AreSameReadings, IsSoundReading, IsSpellableReading, ReadsAs, table_in};
 ghost use Rattle.tl_read.specs.declared.source.Source.TheVariants.{Html};
-ghost use Rattle.tl_read.specs.inner.Steps.{ReadsTree, ReadsTokens, ReadsBytes};
+ghost use Rattle.tl_read.specs.inner.Steps.{ReadsTree, ReadsTokens, ReadsBytes, ReadsRecords};
 
 use crate::Source;
-use crate::refusal::{Limit, Refusal, form_refusal, token_refusal, tree_refusal};
+use crate::refusal::{Limit, Refusal, csv_refusal, form_refusal, token_refusal, tree_refusal};
 use std::alloc::{AllocError, Global};
 use tl_base::{Breaking, MAX_FILE_BYTES};
+use tl_columns::from_csv;
+use tl_html::formed_tables_are_spellable;
 use tl_table::{Table, formed_has_few_cells, table};
 use tl_token::{Token, tokens};
 use tl_tree::{TableNode, tree};
@@ -57,9 +60,10 @@ fn read_tree(alloc: Global, node: &TableNode, breaking: Breaking) -> Result<Read
     ensures each { (other : TableNode) (reading : Reading) → AreSame node.now other
         → ReadsTree breaking other reading → IfOk result (λ found. AreSameReadings found reading) }
     ensures sound { IfOk result IsSoundReading }
-    ensures formed { IfOk result (IsFormed (Html breaking)) }
+    ensures spellable { IfOk result (IsSpellableReading (Html breaking)) }
 {
     formed_has_few_cells();
+    formed_tables_are_spellable();
     match table(alloc, node, breaking) {
         Ok(table) => Ok(Reading::Table(table)),
         Err(error) => refused(form_refusal(error)),
@@ -77,7 +81,7 @@ fn read_tokens(
     ensures is { IfOk result (ReadsTokens breaking size tokens.now) }
     ensures each { (reading : Reading) → ReadsTokens breaking size tokens.now reading → IfOk result (λ found. AreSameReadings found reading) }
     ensures sound { IfOk result IsSoundReading }
-    ensures formed { IfOk result (IsFormed (Html breaking)) }
+    ensures spellable { IfOk result (IsSpellableReading (Html breaking)) }
 {
     match tree(alloc, tokens) {
         Ok(node) => read_tree(alloc, &node, breaking),
@@ -91,7 +95,7 @@ fn read_html(alloc: Global, bytes: &[u8], breaking: Breaking) -> Result<Reading,
     ensures is { IfOk result (ReadsBytes breaking bytes.now) }
     ensures each { (reading : Reading) → ReadsBytes breaking bytes.now reading → IfOk result (λ found. AreSameReadings found reading) }
     ensures sound { IfOk result IsSoundReading }
-    ensures formed { IfOk result (IsFormed (Html breaking)) }
+    ensures spellable { IfOk result (IsSpellableReading (Html breaking)) }
 {
     match tokens(alloc, bytes) {
         Ok(tokens) => read_tokens(alloc, bytes.len() as u32, tokens.as_slice(), breaking),
@@ -99,18 +103,59 @@ fn read_html(alloc: Global, bytes: &[u8], breaking: Breaking) -> Result<Reading,
     }
 }
 
+/// The table that CSV of at most [`MAX_FILE_BYTES`] bytes is, or why it is none.
+fn read_csv(
+    alloc: Global,
+    bytes: &[u8],
+    head: bool,
+    least: &[u32],
+    breaking: Breaking,
+) -> Result<Reading, AllocError>
+    requires size { length bytes.now ≤ MAX_FILE_BYTES }
+    requires narrow { All (λ floor. floor ≤ MAX_PAGE_WIDTH) least.now }
+    ensures is { IfOk result (ReadsRecords head least.now breaking bytes.now) }
+    ensures each { (reading : Reading) → ReadsRecords head least.now breaking bytes.now reading
+        → IfOk result (λ found. AreSameReadings found reading) }
+    ensures sound { IfOk result IsSoundReading }
+    ensures spellable { IfOk result (IsSpellableReading (Html breaking)) }
+{
+    match from_csv(alloc, bytes, head, least, breaking) {
+        Ok(table) => Ok(Reading::Table(table)),
+        Err(error) => refused(csv_refusal(error)),
+    }
+}
+
+/// The table that at most [`MAX_FILE_BYTES`] bytes are, or why they are refused.
+fn read_short(alloc: Global, bytes: &[u8], source: Source) -> Result<Reading, AllocError>
+    requires { length bytes.now ≤ MAX_FILE_BYTES }
+    ensures is { IfOk result (ReadsAs source bytes.now) }
+    ensures each { (reading : Reading) → ReadsAs source bytes.now reading → IfOk result (λ found. AreSameReadings found reading) }
+    ensures sound { IfOk result IsSoundReading }
+    ensures spellable { IfOk result (IsSpellableReading source) }
+{
+    match source {
+        Source::Html(breaking) => read_html(alloc, bytes, breaking),
+        Source::Csv {
+            head,
+            floors,
+            breaking,
+        } => read_csv(alloc, bytes, head, floors.as_slice(), breaking),
+    }
+}
+
 /// The table that the bytes of a file are, or why they are refused. The steps are taken in this
-/// order, and the first that cannot be done decides: the file's size, its tokens, its tree, and the
-/// grids of its tables by their numbers.
+/// order, and the first that cannot be done decides: the file's size; of HTML its tokens, its tree, and
+/// the grids of its tables by their numbers; of CSV its records in order, then the limits of cells,
+/// columns and rows.
 pub fn read(alloc: Global, bytes: &[u8], source: Source) -> Result<Reading, AllocError>
     ensures is { IfOk result (IsReading source bytes.now) }
     ensures each { (reading : Reading) → IsReading source bytes.now reading → IfOk result (λ found. AreSameReadings found reading) }
     ensures sound { IfOk result IsSoundReading }
-    ensures formed { IfOk result (IsFormed source) }
+    ensures spellable { IfOk result (IsSpellableReading source) }
 {
     if bytes.len() > MAX_FILE_BYTES {
         let too_long = Refusal::Limit(Limit::File, MAX_FILE_BYTES as u64 + 1);
         return Ok(Reading::Refused(too_long));
     }
-    read_html(alloc, bytes, source.breaking())
+    read_short(alloc, bytes, source)
 }

@@ -1,9 +1,10 @@
 //! Why a file is refused.
 
 ghost use Rattle.std.specs.Prelude.{◌≡◌};
-ghost use Rattle.tl_read.specs.Refusals.{token_refusal, tree_refusal, grid_refusal, form_refusal, place_in};
+ghost use Rattle.tl_read.specs.Refusals.{token_refusal, tree_refusal, grid_refusal, form_refusal, csv_refusal, token_place};
 
 use tl_base::{MAX_DEPTH, MAX_TABLES};
+use tl_columns::CsvError;
 use tl_grid::GridError;
 use tl_table::FormError;
 use tl_token::{Token, TokenError};
@@ -23,6 +24,17 @@ pub enum Fault {
     StrayText,
     MisplacedTag,
     UnclosedTable,
+}
+
+/// What is wrong with a record of a CSV file.
+#[derive(Clone, Copy, PartialEq, Eq)]
+pub enum RecordFault {
+    /// It has not as many fields as the first record.
+    Uneven,
+    /// One of its fields is not UTF-8.
+    NotUtf8,
+    /// One of its fields has a control character that no text of a table has.
+    BadCharacter,
 }
 
 /// What is limited.
@@ -54,6 +66,8 @@ pub enum Refusal {
     Overlap { table: u32, row: u32, column: u32 },
     /// So many are counted, more than the limit.
     Limit(Limit, u64),
+    /// Its records are no table, for this one, counted from 0.
+    BadRecord(RecordFault, u32),
 }
 
 /// Why tokens are not had, or `None` where memory ran out.
@@ -74,7 +88,7 @@ pub fn token_refusal(error: TokenError) -> Option<Refusal>
 
 /// The first byte of the token with this number, 0 where there is none.
 fn place_in(tokens: &[Token], index: u32) -> u32
-    ensures { result ≡ place_in tokens.now index }
+    ensures { result ≡ token_place tokens.now index }
 {
     match tokens.get(index as usize) {
         Some(token) => token.first,
@@ -130,5 +144,22 @@ pub fn form_refusal(error: FormError) -> Option<Refusal>
     match error {
         FormError::Memory(_) => None,
         FormError::Grid(number, cause) => grid_refusal(number, cause),
+    }
+}
+
+/// Why the records of a CSV file are no table, or `None` where memory ran out.
+pub fn csv_refusal(error: CsvError) -> Option<Refusal>
+    ensures { result ≡ csv_refusal error }
+{
+    match error {
+        CsvError::Memory(_) => None,
+        CsvError::Uneven(record) => Some(Refusal::BadRecord(RecordFault::Uneven, record)),
+        CsvError::NotUtf8(record) => Some(Refusal::BadRecord(RecordFault::NotUtf8, record)),
+        CsvError::BadCharacter(record) => {
+            Some(Refusal::BadRecord(RecordFault::BadCharacter, record))
+        }
+        CsvError::TooManyCells(count) => Some(Refusal::Limit(Limit::Cells, u64::from(count))),
+        CsvError::TooManyColumns(count) => Some(Refusal::Limit(Limit::Columns, u64::from(count))),
+        CsvError::TooManyRows(count) => Some(Refusal::Limit(Limit::Rows, u64::from(count))),
     }
 }

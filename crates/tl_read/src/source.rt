@@ -1,24 +1,34 @@
 //! What kind of file a table is read from.
 
 ghost use Rattle.std.specs.Prelude.{◌≡◌};
-ghost use Rattle.tl_read.specs.declared.source.Source.TheVariants.{Html};
+ghost use Rattle.tl_read.specs.Reading.{breaking_in};
 
 use tl_base::Breaking;
+use tl_floors::Floors;
 
 /// What kind of file a table is read from, and how its text is broken into lines.
 #[derive(Clone, Copy)]
 pub enum Source {
     /// An HTML document with one table (docs/READING.md), its paragraphs broken so.
     Html(Breaking),
+    /// A CSV file, each record a row and each field a cell (docs/READING.md), its paragraphs broken so.
+    Csv {
+        /// Whether the cells of the first record are header cells.
+        head: bool,
+        /// The least widths of the columns, from the first on; any other is 0.
+        floors: Floors,
+        breaking: Breaking,
+    },
 }
 
 impl Source {
     /// How its paragraphs are broken into lines.
     pub fn breaking(self) -> Breaking
-        ensures { self ≡ Html result }
+        ensures { result ≡ breaking_in self }
     {
         match self {
             Source::Html(breaking) => breaking,
+            Source::Csv { breaking, .. } => breaking,
         }
     }
 }

@@ -1,5 +1,6 @@
--- No public clause cites this file: it says what a tree, tokens and bytes are read as, a table or a refusal, step by step.
-use Rattle.std.specs.Prelude.{◌≡◌, ◌⊎◌, ℕ, List, length, Some}
+-- No public clause cites this file: it says what a tree, tokens, bytes and records are read as, a table or a refusal, step by
+-- step.
+use Rattle.std.specs.Prelude.{◌≡◌, ◌⊎◌, ℕ, Bool, List, length, Some}
 use Rattle.tl_base.specs.declared.breaking.Breaking.{Breaking}
 use Rattle.tl_token.specs.declared.token.Token.{Token}
 use Rattle.tl_token.specs.declared.token.TokenError.{TokenError}
@@ -12,7 +13,9 @@ use Rattle.tl_table.specs.Formed.{Becomes}
 use Rattle.tl_read.specs.declared.reading.Reading.{Reading}
 use Rattle.tl_read.specs.declared.reading.Reading.TheVariants as readings
 use Rattle.tl_read.specs.declared.refusal.Refusal.{Refusal}
-use Rattle.tl_read.specs.Reading.{RefusesTree}
+use Rattle.tl_columns.specs.Columns.{IsCsvTable}
+use Rattle.tl_columns.specs.Records.{csv_records}
+use Rattle.tl_read.specs.Reading.{RefusesTree, RefusesCsv}
 use Rattle.tl_read.specs.Refusals.{token_refusal, tree_refusal}
 
 -- a tree becomes this table, or is refused for a table without a grid
@@ -33,3 +36,8 @@ ReadsBytes breaking bytes reading =
     ((tokens : List Token) × SpellsTokens bytes tokens × ReadsTokens breaking (length bytes) tokens reading)
     ⊎ ((error : TokenError) × (refusal : Refusal) × SpellsNoTokens bytes error × (token_refusal error ≡ Some refusal)
     × (reading ≡ readings.Refused refusal))
+
+-- the records of CSV within the limit of a file are this table, or are refused for this reason
+abbrev pub ReadsRecords : Bool → List ℕ → Breaking → List ℕ → Reading → Type 0
+ReadsRecords head floors breaking bytes (readings.Table table) = IsCsvTable (csv_records bytes) head floors breaking table
+ReadsRecords head floors breaking bytes (readings.Refused refusal) = RefusesCsv bytes refusal

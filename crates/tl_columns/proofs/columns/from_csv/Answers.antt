@@ -1,9 +1,9 @@
 use Rattle.std.proofs.Common.{◌∙◌, ◌+◌, ◌≤◌, List, length, IfOk, IfErr, sym, subst, alloc_error, arith}
 use Rattle.std.proofs.lemmas.Result.{IfOk-weaker}
-use Rattle.tl_base.specs.declared.limits.TheConstants.{MAX_FILE_BYTES}
 use Rattle.tl_table.specs.declared.cell.Table.{Table}
 use Rattle.tl_table.specs.FewCells.{HasFewCells}
 use Rattle.tl_table.specs.Sound.{table_size, IsSound}
+use Rattle.tl_html.specs.Spellable.{IsSpellable}
 use Rattle.tl_base.specs.Returned.{IsMemoryOr}
 use Rattle.tl_columns.specs.declared.error.CsvError.TheVariants.{Memory}
 use Rattle.tl_columns.specs.Refused.{IsCsvRefused}
@@ -13,7 +13,7 @@ use Rattle.tl_columns.specs.inner.Sizes.{AreOfFile}
 use Rattle.tl_columns.proofs.CsvLists.{of_file, records_size}
 use Rattle.tl_columns.proofs.OneError.{each_error}
 use Rattle.tl_columns.proofs.OneTable.{each_table}
-use Rattle.tl_columns.proofs.Soundness.{csv_few, csv_sound, table_small}
+use Rattle.tl_columns.proofs.Soundness.{csv_few, csv_sound, csv_spellable, table_small}
 use Rattle.tl_columns.proofs.columns.from_csv.Goals as goal
 
 pub table_of-requires : goal.table_of-requires
@@ -57,9 +57,9 @@ returns-clause-sound c =
     let all = csv_records c.args.bytes.now in
     let read = c.as_slice.ensures ∙ c.in_ok-list.ensures in
     IfOk-weaker c.table_of.result (IsCsvTable all c.args.head c.args.least.now c.args.breaking)
-    (λ (table : Table). table_size table ≤ MAX_FILE_BYTES → IsSound table)
-    (λ table is size. csv_sound all c.args.head c.args.least.now c.args.breaking table
-    (of_file c.args.bytes.now c.requires.size) is c.requires.narrow size)
+    IsSound
+    (λ table is. csv_sound all c.args.head c.args.least.now c.args.breaking table
+    (of_file c.args.bytes.now c.requires.size) is c.requires.narrow)
     (subst (λ (records : List Fields). IfOk c.table_of.result (IsCsvTable records c.args.head c.args.least.now c.args.breaking))
     read c.table_of.ensures.ok)
 
@@ -69,6 +69,17 @@ returns-clause-few c =
     let read = c.as_slice.ensures ∙ c.in_ok-list.ensures in
     IfOk-weaker c.table_of.result (IsCsvTable all c.args.head c.args.least.now c.args.breaking) HasFewCells
     (λ table is. csv_few all c.args.head c.args.least.now c.args.breaking table
+    (of_file c.args.bytes.now c.requires.size) is)
+    (subst (λ (records : List Fields). IfOk c.table_of.result (IsCsvTable records c.args.head c.args.least.now c.args.breaking))
+    read c.table_of.ensures.ok)
+
+pub returns-clause-spellable : goal.returns-clause-spellable
+returns-clause-spellable c =
+    let all = csv_records c.args.bytes.now in
+    let read = c.as_slice.ensures ∙ c.in_ok-list.ensures in
+    IfOk-weaker c.table_of.result (IsCsvTable all c.args.head c.args.least.now c.args.breaking)
+    (IsSpellable c.args.breaking)
+    (λ table is. csv_spellable all c.args.head c.args.least.now c.args.breaking table
     (of_file c.args.bytes.now c.requires.size) is)
     (subst (λ (records : List Fields). IfOk c.table_of.result (IsCsvTable records c.args.head c.args.least.now c.args.breaking))
     read c.table_of.ensures.ok)

@@ -4,11 +4,9 @@ use Rattle.tl_read.proofs.reading.read.Goals as goal
 
 pub returns-clause-is : goal.returns-clause-is
 returns-clause-is c =
-    within_is c.args.source c.breaking.result c.breaking.ensures c.args.bytes.now c.read_html.result
-    c.if-bytes-gt-MAX_FILE_BYTES.false c.read_html.ensures.is
+    within_is c.args.source c.args.bytes.now c.read_short.result c.if-bytes-gt-MAX_FILE_BYTES.false c.read_short.ensures.is
 
 pub returns-clause-each : goal.returns-clause-each
 returns-clause-each c = λ reading is.
-    within_alike c.args.source c.breaking.result c.breaking.ensures c.args.bytes.now c.read_html.result reading
-    c.if-bytes-gt-MAX_FILE_BYTES.false
-    c.read_html.ensures.each is
+    within_alike c.args.source c.args.bytes.now c.read_short.result reading c.if-bytes-gt-MAX_FILE_BYTES.false
+    c.read_short.ensures.each is

@@ -17,3 +17,7 @@ returns-in-Err-clause-each c = λ other reading same is.
 pub returns-in-Ok-clause-sound : goal.returns-in-Ok-clause-sound
 returns-in-Ok-clause-sound c =
     (c.in-Ok.ensures.sound, c.formed_has_few_cells.ensures c.args.breaking c.args.node.now c.in-Ok.table c.in-Ok.ensures.ok)
+
+pub returns-in-Ok-clause-spellable : goal.returns-in-Ok-clause-spellable
+returns-in-Ok-clause-spellable c =
+    (c.formed_tables_are_spellable.ensures c.args.breaking c.args.node.now c.in-Ok.table c.requires c.in-Ok.ensures.ok).1
