@@ -10,14 +10,15 @@ use Rattle.tl_command.specs.declared.options.Choice.{Choice}
 use Rattle.tl_command.specs.declared.options.Choice.TheVariants as choices
 use Rattle.tl_command.specs.declared.options.Options.{Options}
 use Rattle.tl_command.specs.Ask.{Asked, IsAsk, AskForNothing, IsDashed, AreNames}
-use Rattle.tl_command.specs.Command.{word_of, IsNumberOf}
-use Rattle.tl_command.specs.Options.{name_of, words_of, AreOptions}
-use Rattle.tl_command.specs.inner.Parts.{IsDashedAtFirst, IsOpening, IsSplit}
+use Rattle.tl_command.specs.Command.{word_of_command, IsNumberOf}
+use Rattle.tl_command.specs.Options.{name_of, option_words, AreOptions}
+use Rattle.tl_command.specs.inner.Parts.{IsDashedAtFirst, BeginsWithCommand, IsSplit}
 use Rattle.tl_command.proofs.NameLemmas.{names_apart}
-use Rattle.tl_command.proofs.OptionLemmas.{first_same, rest_same, options_once}
+use Rattle.tl_command.proofs.OptionLemmas.{options_once}
+use Rattle.tl_command.proofs.WordLemmas.{first_same, rest_same}
 
 -- a word spells at most one command
-pub command_once : (one other : Command) → word_of one ≡ word_of other → one ≡ other
+pub command_once : (one other : Command) → word_of_command one ≡ word_of_command other → one ≡ other
 command_once Lay Lay e = refl
 command_once Check Check e = refl
 command_once Demo Demo e = refl
@@ -31,7 +32,7 @@ number_small Demo number is = omega (arith, is.most)
 
 -- arguments begin in one way at most
 pub opening_once : (words : List (List ℕ)) (command command2 : Command) (number number2 : ℕ) (more more2 : List (List ℕ)) →
-    IsOpening words command number more → IsOpening words command2 number2 more2 →
+    BeginsWithCommand words command number more → BeginsWithCommand words command2 number2 more2 →
     (command ≡ command2) × (number ≡ number2) × (more ≡ more2)
 opening_once words command command2 number number2 more more2 one other =
     let all = sym one.spelled ∙ other.spelled in
@@ -55,19 +56,23 @@ name_dashed (choices.Style style) = (codes "style", refl)
 name_dashed (choices.Breaking breaking) = (codes "break", refl)
 name_dashed (choices.Budget budget) = (codes "budget", refl)
 name_dashed (choices.Search solver) = (codes "solver", refl)
+name_dashed (choices.Workers workers) = (codes "workers", refl)
+name_dashed choices.Csv = (codes "csv", refl)
+name_dashed choices.Head = (codes "head", refl)
+name_dashed (choices.Least floors) = (codes "least", refl)
 name_dashed choices.Html = (codes "html", refl)
 
 -- arguments that spell options begin so, if there are any
 options_dashed : (command : Command) (words : List (List ℕ)) (options : Options) → AreOptions command words options →
     IsDashedAtFirst words
 options_dashed command words options are = subst IsDashedAtFirst (sym are.spelled) (dashed are.choices) where
-  dashed : (all : List Choice) → IsDashedAtFirst (flat_map words_of all)
+  dashed : (all : List Choice) → IsDashedAtFirst (flat_map option_words all)
   dashed [] = tt
-  dashed (choice ∷ all) = subst IsDashedAtFirst (sym (flat_map-cons words_of choice all)) (name_dashed choice)
+  dashed (choice ∷ all) = subst IsDashedAtFirst (sym (flat_map-cons option_words choice all)) (name_dashed choice)
 
 -- what is asked for has these parts
 opening_of : (words : List (List ℕ)) (asked : Asked) (is : IsAsk words asked) →
-    IsOpening words asked.command asked.number (asked.names ++ is.after)
+    BeginsWithCommand words asked.command asked.number (asked.names ++ is.after)
 opening_of words asked is = record { spelled = is.spelled; in_range = is.in_range }
 
 split_of : (words : List (List ℕ)) (asked : Asked) (is : IsAsk words asked) →
@@ -81,7 +86,7 @@ split_of words asked is = record {
 
 -- arguments that begin so
 module _ (words : List (List ℕ)) (command : Command) (number : ℕ) (more : List (List ℕ))
-    (opening : IsOpening words command number more) where
+    (opening : BeginsWithCommand words command number more) where
   -- what they ask for is of this command
   same_opening : (asked : Asked) (is : IsAsk words asked) →
       (asked.command ≡ command) × (asked.number ≡ number) × (asked.names ++ is.after ≡ more)

@@ -10,11 +10,11 @@ use Rattle.tl_command.specs.declared.command.Command.TheVariants.{Check, Demo}
 use Rattle.tl_command.specs.declared.options.Choice.{Choice}
 use Rattle.tl_command.specs.declared.options.Choice.TheVariants as choices
 use Rattle.tl_command.specs.declared.options.Options.{Options}
-use Rattle.tl_command.specs.Ask.{IsAsk, AskForNothing, IsPlain, AreNames}
-use Rattle.tl_command.specs.Options.{name_of, words_of, IsOptionOf, IsGiven, AreOptions}
+use Rattle.tl_command.specs.Ask.{IsAsk, AskForNothing, IsNoOption, AreNames}
+use Rattle.tl_command.specs.Options.{name_of, option_words, speaks_of_csv, IsOptionOf, IsGiven, AreOptions}
 use Rattle.tl_command.proofs.AskLemmas.{no_options}
 use Rattle.tl_command.proofs.NameLemmas.{names_none, names_cons}
-use Rattle.tl_command.proofs.OptionLemmas.{letter, read_none, read_all, read_stuck}
+use Rattle.tl_command.proofs.OptionLemmas.{letters, read_none, read_all, read_stuck}
 
 -- what a list of one holds
 only : {X : Type 0} (x y : X) → Contains (x ∷ []) y → x ≡ y
@@ -22,7 +22,17 @@ only x y has = elim (Contains-cases x [] y has) [ inl same ↦ same | inr none �
 
 -- no option
 abbrev nothing : Options
-nothing = record { style = None; breaking = None; budget = None; search = None; html = false }
+nothing = record {
+  style = None;
+  breaking = None;
+  budget = None;
+  search = None;
+  workers = None;
+  csv = false;
+  head = false;
+  least = None;
+  html = false;
+}
 
 gives_nothing : (choice : Choice) → IsGiven nothing choice → ⊥
 gives_nothing choices.Html is = cc
@@ -30,7 +40,17 @@ gives_nothing choice is = cc
 
 -- the one option `--style compact`
 abbrev compact : Options
-compact = record { style = Some styles.Compact; breaking = None; budget = None; search = None; html = false }
+compact = record {
+  style = Some styles.Compact;
+  breaking = None;
+  budget = None;
+  search = None;
+  workers = None;
+  csv = false;
+  head = false;
+  least = None;
+  html = false;
+}
 
 gives_compact : (choice : Choice) → IsGiven compact choice ↔ Contains (choices.Style styles.Compact ∷ []) choice
 gives_compact (choices.Style style) = (
@@ -41,6 +61,12 @@ gives_compact (choices.Style style) = (
 )
 gives_compact choice = (λ is. absurd cc, λ has. let same : choices.Style styles.Compact ≡ choice = only _ _ has in absurd cc)
 
+-- none of them speaks of a CSV file
+none_of_csv : (choice : Choice) → IsGiven compact choice → IsTrue (speaks_of_csv choice) → ⊥
+none_of_csv choices.Head is speaks = cc
+none_of_csv (choices.Least floors) is speaks = cc
+none_of_csv choice is speaks = let never : IsTrue false = speaks in cc
+
 are_compact : AreOptions Check (codes "--style" ∷ codes "compact" ∷ []) compact
 are_compact = record {
   choices = choices.Style styles.Compact ∷ [];
@@ -50,6 +76,7 @@ are_compact = record {
   once = AllPairs-cons (λ one other. name_of one ≢ name_of other) (choices.Style styles.Compact) [] (All-nil _)
       (AllPairs-none (λ one other. name_of one ≢ name_of other));
   given = gives_compact;
+  of_csv = λ choice is speaks. absurd (none_of_csv choice is speaks);
 }
 
 eighty : decimal 80 ≡ codes "80"
@@ -72,7 +99,7 @@ asks = record {
   in_range = record { least = omega arith; most = omega arith };
   counted = record { fewest = omega arith; most = omega arith };
   names = are_two;
-  plain = All-nil IsPlain;
+  plain = All-nil IsNoOption;
   options = are_compact;
 }
 
@@ -84,15 +111,16 @@ demonstrates = record {
   in_range = record { least = omega arith; most = omega arith };
   counted = record { fewest = omega arith; most = omega arith };
   names = names_none;
-  plain = All-nil IsPlain;
-  options = read_all Demo [] nothing (read_none Demo [] nothing gives_nothing);
+  plain = All-nil IsNoOption;
+  options = read_all Demo [] nothing (read_none Demo [] nothing gives_nothing)
+      (λ choice is speaks. absurd (gives_nothing choice is));
 }
 
 -- `--html` is no option of `check`
 not_taken : (choice : Choice) (after : List (List ℕ)) → IsOptionOf Check choice →
-    codes "--html" ∷ [] ≡ words_of choice ++ after → ⊥
+    codes "--html" ∷ [] ≡ option_words choice ++ after → ⊥
 not_taken choices.Html after is e = let never : IsTrue false = is.taken in cc
-not_taken choice after is e = omega (arith, ap letter e)
+not_taken choice after is e = omega (arith, ap letters e)
 
 -- `check 80 t c --html`
 asks_for_nothing : AskForNothing (codes "check" ∷ codes "80" ∷ codes "t" ∷ codes "c" ∷ codes "--html" ∷ [])
@@ -102,7 +130,7 @@ asks_for_nothing = no_options (codes "check" ∷ codes "80" ∷ codes "t" ∷ co
     (codes "t" ∷ codes "c" ∷ []) (codes "--html" ∷ []) (record {
       spelled = refl;
       counted = record { fewest = omega arith; most = omega arith };
-      plain = All-nil IsPlain;
+      plain = All-nil IsNoOption;
       dashed = λ less. absurd (omega (arith, less));
     }) (λ options. read_stuck Check (codes "--html" ∷ []) (codes "--html" ∷ []) nothing options
     (read_none Check (codes "--html" ∷ []) nothing gives_nothing) (λ e. omega (arith, ap length e)) not_taken)

@@ -1,5 +1,6 @@
 pub mod AskLemmas
 mod Examples
+pub mod ListLemmas
 pub mod NameLemmas
 pub mod OptionLemmas
 pub mod SplitLemmas

@@ -3,9 +3,9 @@ use Rattle.std.proofs.Common.{◌≡◌, ◌≢◌, ℕ, zero, suc, ◌<◌, ◌
 use Rattle.std.specs.List.{All}
 use Rattle.std.proofs.lemmas.List.Elements.{All-nil, All-cons, All-head, All-tail}
 use Rattle.tl_base.proofs.Members.{AllPairs-none, AllPairs-cons, AllPairs-head, AllPairs-tail}
-use Rattle.tl_command.specs.Ask.{IsDashed, IsPlain, AreNames}
+use Rattle.tl_command.specs.Ask.{IsDashed, IsNoOption, AreNames}
 use Rattle.tl_command.specs.inner.Parts.{IsDashedAtFirst}
-use Rattle.tl_command.proofs.OptionLemmas.{first_same, rest_same}
+use Rattle.tl_command.proofs.WordLemmas.{first_same, rest_same}
 
 -- no name is a list of names
 pub names_none : AreNames []
@@ -33,16 +33,16 @@ names_tail name later are = record {
 }
 
 -- a first name that may be left out does not begin as an option does
-first_plain : (fewest : ℕ) (name : List ℕ) (names : List (List ℕ)) → fewest ≤ 0 → All IsPlain (drop fewest (name ∷ names)) →
+first_plain : (fewest : ℕ) (name : List ℕ) (names : List (List ℕ)) → fewest ≤ 0 → All IsNoOption (drop fewest (name ∷ names)) →
     IsDashed name → ⊥
-first_plain zero name names none plain is = All-head IsPlain name names plain is
+first_plain zero name names none plain is = All-head IsNoOption name names plain is
 first_plain (suc fewest) name names none plain is = absurd (omega arith)
 
 -- names before the first argument that begins as an option does, or up to the most, are told from what follows
 pub names_apart : (one other : List (List ℕ)) (fewest most : ℕ) (xs ys : List (List ℕ)) → one ++ xs ≡ other ++ ys →
     fewest ≤ length one → length one ≤ most → fewest ≤ length other → length other ≤ most →
-    All IsPlain (drop fewest one) → (length one < most → IsDashedAtFirst xs) →
-    All IsPlain (drop fewest other) → (length other < most → IsDashedAtFirst ys) → (one ≡ other) × (xs ≡ ys)
+    All IsNoOption (drop fewest one) → (length one < most → IsDashedAtFirst xs) →
+    All IsNoOption (drop fewest other) → (length other < most → IsDashedAtFirst ys) → (one ≡ other) × (xs ≡ ys)
 names_apart [] [] fewest most xs ys same few many few2 many2 plain dashed plain2 dashed2 = (refl, same)
 names_apart [] (name ∷ other) fewest most xs ys same few many few2 many2 plain dashed plain2 dashed2 =
     absurd (first_plain fewest name other few plain2 (subst IsDashedAtFirst same (dashed (omega arith))))
@@ -54,7 +54,7 @@ names_apart (name ∷ one) (name2 ∷ other) zero (suc most) xs ys same few many
     let first : name ≡ name2 = first_same name name2 (one ++ xs) (other ++ ys) same in
     let rest : (one ≡ other) × (xs ≡ ys) = names_apart one other zero most xs ys
     (rest_same name name2 (one ++ xs) (other ++ ys) same) (omega arith) (omega arith) (omega arith) (omega arith)
-    (All-tail IsPlain name one plain) (λ less. dashed (omega arith)) (All-tail IsPlain name2 other plain2)
+    (All-tail IsNoOption name one plain) (λ less. dashed (omega arith)) (All-tail IsNoOption name2 other plain2)
     (λ less. dashed2 (omega arith)) in
     (cc, rest.1)
 names_apart (name ∷ one) (name2 ∷ other) (suc fewest) (suc most) xs ys same few many few2 many2 plain dashed plain2 dashed2 =

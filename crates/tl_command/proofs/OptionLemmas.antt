@@ -1,7 +1,7 @@
 -- What has been read of options, and that arguments spell at most one list of them.
-use Rattle.std.proofs.Common.{◌≡◌, ◌≢◌, ◌⊎◌, inl, inr, ◌↔◌, ℕ, List, [], ◌∷◌, ◌++◌, Option, Some, None, refl, sym, ap, subst, ◌∙◌}
-use Rattle.std.proofs.Common.{decimal, get_or, arith}
-use Rattle.std.specs.Prelude.{Contains}
+use Rattle.std.proofs.Common.{◌≡◌, ◌≢◌, ◌⊎◌, inl, inr, ◌↔◌, ℕ, List, [], ◌∷◌, ◌++◌, ◌+◌, ◌*◌, Option, Some, None}
+use Rattle.std.proofs.Common.{refl, sym, ap, subst, ◌∙◌, decimal, get_or, arith}
+use Rattle.std.specs.Prelude.{Contains, is_some, true}
 use Rattle.std.specs.List.{All, AllPairs, flat_map}
 use Rattle.std.proofs.lemmas.Fmt.{decimal_injective}
 use Rattle.std.proofs.lemmas.List.{append-nil}
@@ -17,14 +17,22 @@ use Rattle.tl_base.specs.declared.style.Style.{Style}
 use Rattle.tl_base.specs.declared.style.Style.TheVariants as styles
 use Rattle.tl_base.proofs.Texts.{same_test}
 use Rattle.tl_command.specs.declared.command.Command.{Command}
+use Rattle.tl_base.specs.Style.{style_word}
 use Rattle.tl_command.specs.declared.options.Choice.{Choice}
 use Rattle.tl_command.specs.declared.options.Choice.TheVariants as choices
 use Rattle.tl_command.specs.declared.options.Options.{Options}
 use Rattle.tl_command.specs.declared.options.Search.{Search}
 use Rattle.tl_command.specs.declared.options.Search.TheVariants as searches
-use Rattle.tl_command.specs.Options.{name_of, words_of, style_word, break_word, search_word}
-use Rattle.tl_command.specs.Options.{IsInRange, IsOptionOf, IsGiven, AreOptions}
-use Rattle.tl_command.specs.inner.OptionsRead.{HasRead}
+use Rattle.tl_command.specs.Options.{name_of, option_words, break_word, search_word, list_word}
+use Rattle.tl_command.specs.Options.{IsInRange, IsOptionOf, IsGiven, AreOfCsv, AreOptions}
+use Rattle.tl_command.specs.inner.OptionsRead.{HasReadOptions}
+use Rattle.tl_command.proofs.ListLemmas.{list_once}
+use Rattle.tl_command.proofs.WordLemmas.{first_same, rest_same}
+
+-- what an option that is there holds
+pub held : {X : Type 0} (given : Option X) → is_some given ≡ true → (x : X) × (given ≡ Some x)
+held None is = absurd cc
+held (Some x) is = (x, refl)
 
 -- ---- each argument is read in one way
 
@@ -45,12 +53,6 @@ search_once searches.Plain searches.Plain e = refl
 search_once searches.Best searches.Best e = refl
 search_once one other e = absurd (omega (arith, ap (λ (word : List ℕ). get_or word 0 0) e))
 
-pub first_same : {X : Type 0} (x y : X) (xs ys : List X) → x ∷ xs ≡ y ∷ ys → x ≡ y
-first_same x y xs ys e = cc
-
-pub rest_same : {X : Type 0} (x y : X) (xs ys : List X) → x ∷ xs ≡ y ∷ ys → xs ≡ ys
-rest_same x y xs ys e = cc
-
 -- where a word stands for at most one value, an option of it is told from what follows
 value_once : {V : Type 0} (word : V → List ℕ) (option : V → Choice) → ((v w : V) → word v ≡ word w → v ≡ w) → (v w : V)
     (xs ys : List (List ℕ)) → word v ∷ xs ≡ word w ∷ ys → (option v ≡ option w) × (xs ≡ ys)
@@ -59,13 +61,13 @@ value_once word option once v w xs ys e = (
   rest_same (word v) (word w) xs ys e,
 )
 
--- the letter by which the names of options differ
-abbrev pub letter : List (List ℕ) → ℕ
-letter words = get_or (get_or words 0 []) 4 0
+-- the letters by which the names of options differ
+abbrev pub letters : List (List ℕ) → ℕ
+letters words = get_or (get_or words 0 []) 4 0 + 256 * get_or (get_or words 0 []) 2 0
 
 -- the arguments of one option are not the beginning of another's
 pub prefix_free : (one other : Choice) (xs ys : List (List ℕ)) → IsInRange one → IsInRange other →
-    words_of one ++ xs ≡ words_of other ++ ys → (one ≡ other) × (xs ≡ ys)
+    option_words one ++ xs ≡ option_words other ++ ys → (one ≡ other) × (xs ≡ ys)
 prefix_free (choices.Style style) (choices.Style style2) xs ys small tiny e =
     value_once style_word choices.Style style_once style style2 xs ys cc
 prefix_free (choices.Breaking breaking) (choices.Breaking breaking2) xs ys small tiny e =
@@ -77,8 +79,20 @@ prefix_free (choices.Budget budget) (choices.Budget budget2) xs ys small tiny e 
     (ap choices.Budget same, rest_same (decimal budget) (decimal budget2) xs ys after)
 prefix_free (choices.Search search) (choices.Search search2) xs ys small tiny e =
     value_once search_word choices.Search search_once search search2 xs ys cc
+prefix_free (choices.Workers workers) (choices.Workers workers2) xs ys small tiny e =
+    let after : decimal workers ∷ xs ≡ decimal workers2 ∷ ys = cc in
+    let same : workers ≡ workers2 = decimal_injective workers workers2 (omega (arith, small.few)) (omega (arith, tiny.few))
+    (first_same (decimal workers) (decimal workers2) xs ys after) in
+    (ap choices.Workers same, rest_same (decimal workers) (decimal workers2) xs ys after)
+prefix_free choices.Csv choices.Csv xs ys small tiny e = (refl, cc)
+prefix_free choices.Head choices.Head xs ys small tiny e = (refl, cc)
+prefix_free (choices.Least floors) (choices.Least floors2) xs ys small tiny e =
+    let after : list_word floors ∷ xs ≡ list_word floors2 ∷ ys = cc in (
+      ap choices.Least (list_once floors floors2 small tiny (first_same (list_word floors) (list_word floors2) xs ys after)),
+      rest_same (list_word floors) (list_word floors2) xs ys after,
+    )
 prefix_free choices.Html choices.Html xs ys small tiny e = (refl, cc)
-prefix_free one other xs ys small tiny e = absurd (omega (arith, ap letter e))
+prefix_free one other xs ys small tiny e = absurd (omega (arith, ap letters e))
 
 -- ---- what has been read
 
@@ -103,25 +117,26 @@ contains_after all xs x ys same =
 module _ (command : Command) where
   -- options that spell arguments which begin with those of others begin with these
   follow : (read choices : List Choice) (rest : List (List ℕ)) → All (IsOptionOf command) read →
-      All (IsOptionOf command) choices → flat_map words_of choices ≡ flat_map words_of read ++ rest →
-      (later : List Choice) × (choices ≡ read ++ later) × (flat_map words_of later ≡ rest)
+      All (IsOptionOf command) choices → flat_map option_words choices ≡ flat_map option_words read ++ rest →
+      (later : List Choice) × (choices ≡ read ++ later) × (flat_map option_words later ≡ rest)
   follow [] choices rest are_read are e = (choices, refl, e)
   follow (one ∷ read) [] rest are_read are e = absurd cc
   follow (one ∷ read) (other ∷ choices) rest are_read are e =
-      let joined : words_of other ++ flat_map words_of choices ≡ words_of one ++ (flat_map words_of read ++ rest) =
+      let joined : option_words other ++ flat_map option_words choices ≡ option_words one
+      ++ (flat_map option_words read ++ rest) =
       grind (arith, common_steps, e) in
-      let split : (other ≡ one) × (flat_map words_of choices ≡ flat_map words_of read ++ rest) =
-      prefix_free other one (flat_map words_of choices) (flat_map words_of read ++ rest)
+      let split : (other ≡ one) × (flat_map option_words choices ≡ flat_map option_words read ++ rest) =
+      prefix_free other one (flat_map option_words choices) (flat_map option_words read ++ rest)
       (All-head (IsOptionOf command) other choices are).in_range
       (All-head (IsOptionOf command) one read are_read).in_range joined in
-      let more : (later : List Choice) × (choices ≡ read ++ later) × (flat_map words_of later ≡ rest) =
+      let more : (later : List Choice) × (choices ≡ read ++ later) × (flat_map option_words later ≡ rest) =
       follow read choices rest (All-tail (IsOptionOf command) one read are_read)
       (All-tail (IsOptionOf command) other choices are) split.1 in
       (more.0, cc, more.2)
 
   -- at first nothing has been read
   pub read_none : (words : List (List ℕ)) (options : Options) → ((choice : Choice) → IsGiven options choice → ⊥) →
-      HasRead command words options words
+      HasReadOptions command words options words
   read_none words options none = record {
     read = [];
     spelled = refl;
@@ -132,9 +147,10 @@ module _ (command : Command) where
 
   -- one more option has been read
   pub read_more : (words rest : List (List ℕ)) (options after : Options) (choice : Choice) →
-      HasRead command words options (words_of choice ++ rest) → IsOptionOf command choice →
+      HasReadOptions command words options (option_words choice ++ rest) → IsOptionOf command choice →
       ((other : Choice) → IsGiven options other → name_of other ≢ name_of choice) →
-      ((other : Choice) → IsGiven after other ↔ (IsGiven options other ⊎ (other ≡ choice))) → HasRead command words after rest
+      ((other : Choice) → IsGiven after other ↔ (IsGiven options other ⊎ (other ≡ choice))) →
+      HasReadOptions command words after rest
   read_more words rest options after choice so_far is_of new given = record {
     read = so_far.read ++ choice ∷ [];
     spelled = so_far.spelled ∙ grind (arith, common_steps);
@@ -159,47 +175,51 @@ module _ (command : Command) where
     ]
 
   -- all has been read
-  pub read_all : (words : List (List ℕ)) (options : Options) → HasRead command words options [] → AreOptions command words options
-  read_all words options so_far = record {
+  pub read_all : (words : List (List ℕ)) (options : Options) → HasReadOptions command words options [] → AreOfCsv options →
+      AreOptions command words options
+  read_all words options so_far of_csv = record {
     choices = so_far.read;
-    spelled = so_far.spelled ∙ append-nil (flat_map words_of so_far.read);
+    spelled = so_far.spelled ∙ append-nil (flat_map option_words so_far.read);
     of_command = so_far.of_command;
     once = so_far.once;
     given = so_far.given;
+    of_csv = of_csv;
   }
 
   -- the arguments spell no options where none begins what is left
-  pub read_stuck : (words rest : List (List ℕ)) (options other : Options) → HasRead command words options rest → rest ≢ [] →
-      ((choice : Choice) (after : List (List ℕ)) → IsOptionOf command choice → rest ≡ words_of choice ++ after → ⊥) →
+  pub read_stuck : (words rest : List (List ℕ)) (options other : Options) → HasReadOptions command words options rest →
+      rest ≢ [] →
+      ((choice : Choice) (after : List (List ℕ)) → IsOptionOf command choice → rest ≡ option_words choice ++ after → ⊥) →
       AreOptions command words other → ⊥
   read_stuck words rest options other so_far more none is =
-      let next : (later : List Choice) × (is.choices ≡ so_far.read ++ later) × (flat_map words_of later ≡ rest) =
+      let next : (later : List Choice) × (is.choices ≡ so_far.read ++ later) × (flat_map option_words later ≡ rest) =
       follow so_far.read is.choices rest so_far.of_command is.of_command (sym is.spelled ∙ so_far.spelled) in
       stuck next.0 next.1 next.2 where
-        stuck : (later : List Choice) → is.choices ≡ so_far.read ++ later → flat_map words_of later ≡ rest → ⊥
+        stuck : (later : List Choice) → is.choices ≡ so_far.read ++ later → flat_map option_words later ≡ rest → ⊥
         stuck [] same spelled = more (sym spelled)
-        stuck (choice ∷ later) same spelled = none choice (flat_map words_of later)
+        stuck (choice ∷ later) same spelled = none choice (flat_map option_words later)
             (All-contains (IsOptionOf command) is.choices choice is.of_command
             (contains_after is.choices so_far.read choice later same))
-            (sym spelled ∙ flat_map-cons words_of choice later)
+            (sym spelled ∙ flat_map-cons option_words choice later)
 
   -- nor where an option of a name that was read begins it
   pub read_twice : (words rest : List (List ℕ)) (options other : Options) (choice : Choice) →
-      HasRead command words options (words_of choice ++ rest) → IsOptionOf command choice →
+      HasReadOptions command words options (option_words choice ++ rest) → IsOptionOf command choice →
       (former : Choice) × IsGiven options former × (name_of former ≡ name_of choice) → AreOptions command words other → ⊥
   read_twice words rest options other choice so_far is_of twice is =
       let next : (later : List Choice) × (is.choices ≡ so_far.read ++ later)
-      × (flat_map words_of later ≡ words_of choice ++ rest) =
-      follow so_far.read is.choices (words_of choice ++ rest) so_far.of_command is.of_command
+      × (flat_map option_words later ≡ option_words choice ++ rest) =
+      follow so_far.read is.choices (option_words choice ++ rest) so_far.of_command is.of_command
       (sym is.spelled ∙ so_far.spelled) in
       again next.0 next.1 next.2 where
-        again : (later : List Choice) → is.choices ≡ so_far.read ++ later → flat_map words_of later ≡ words_of choice ++ rest → ⊥
+        again : (later : List Choice) → is.choices ≡ so_far.read ++ later →
+            flat_map option_words later ≡ option_words choice ++ rest → ⊥
         again [] same spelled = absurd cc
         again (one ∷ later) same spelled =
             let one_of : IsOptionOf command one = All-contains (IsOptionOf command) is.choices one is.of_command
             (contains_after is.choices so_far.read one later same) in
-            let equal : one ≡ choice = (prefix_free one choice (flat_map words_of later) rest one_of.in_range is_of.in_range
-            (sym (flat_map-cons words_of one later) ∙ spelled)).0 in
+            let equal : one ≡ choice = (prefix_free one choice (flat_map option_words later) rest one_of.in_range is_of.in_range
+            (sym (flat_map-cons option_words one later) ∙ spelled)).0 in
             apart_ahead Differ so_far.read later twice.0 one (subst (λ (cs : List Choice). AllPairs Differ cs) same is.once)
             ((so_far.given twice.0).0 twice.1) (twice.2 ∙ sym (ap name_of equal))
 
@@ -213,9 +233,19 @@ option_same None (Some x) to from = from x refl
 option_same (Some x) other to from = sym (to x refl)
 
 rebuilt : (one other : Options) → one.style ≡ other.style → one.breaking ≡ other.breaking → one.budget ≡ other.budget →
-    one.search ≡ other.search → one.html ≡ other.html → one ≡ other
-rebuilt one other style breaking budget search html =
-    λ i. record { style = style i; breaking = breaking i; budget = budget i; search = search i; html = html i }
+    one.search ≡ other.search → one.workers ≡ other.workers → one.csv ≡ other.csv → one.head ≡ other.head →
+    one.least ≡ other.least → one.html ≡ other.html → one ≡ other
+rebuilt one other style breaking budget search workers csv head least html = λ i. record {
+  style = style i;
+  breaking = breaking i;
+  budget = budget i;
+  search = search i;
+  workers = workers i;
+  csv = csv i;
+  head = head i;
+  least = least i;
+  html = html i;
+}
 
 options_same : (one other : Options) → ((choice : Choice) → IsGiven one choice → IsGiven other choice) →
     ((choice : Choice) → IsGiven other choice → IsGiven one choice) → one ≡ other
@@ -225,22 +255,41 @@ options_same one other to from =
     (option_same one.breaking other.breaking (λ x. to (choices.Breaking x)) (λ x. from (choices.Breaking x)))
     (option_same one.budget other.budget (λ x. to (choices.Budget x)) (λ x. from (choices.Budget x)))
     (option_same one.search other.search (λ x. to (choices.Search x)) (λ x. from (choices.Search x)))
+    (option_same one.workers other.workers (λ x. to (choices.Workers x)) (λ x. from (choices.Workers x)))
+    (same_test one.csv other.csv (to choices.Csv) (from choices.Csv))
+    (same_test one.head other.head (to choices.Head) (from choices.Head))
+    (option_same one.least other.least (λ x. to (choices.Least x)) (λ x. from (choices.Least x)))
     (same_test one.html other.html (to choices.Html) (from choices.Html))
+
+-- the arguments spell no other options than those that were read from all of them
+module _ (command : Command) (words : List (List ℕ)) (one other : Options) (first : HasReadOptions command words one [])
+    (second : AreOptions command words other) where
+  ended : (later : List Choice) → second.choices ≡ first.read ++ later → flat_map option_words later ≡ [] →
+      first.read ≡ second.choices
+  ended [] same none = sym (same ∙ append-nil first.read)
+  ended (choice ∷ later) same none = absurd cc
+
+  pub read_once : one ≡ other
+  read_once =
+      let next : (later : List Choice) × (second.choices ≡ first.read ++ later) × (flat_map option_words later ≡ []) =
+      follow command first.read second.choices [] first.of_command second.of_command (sym second.spelled ∙ first.spelled) in
+      let same : first.read ≡ second.choices = ended next.0 next.1 next.2 in
+      options_same one other
+      (λ choice is. (second.given choice).1 (subst (λ (cs : List Choice). Contains cs choice) same ((first.given choice).0 is)))
+      (λ choice is. (first.given choice).1
+      (subst (λ (cs : List Choice). Contains cs choice) (sym same) ((second.given choice).0 is)))
+
+  -- so they spell none where those speak of a CSV file without `--csv`
+  pub read_apart : (AreOfCsv one → ⊥) → ⊥
+  read_apart apart = apart (subst AreOfCsv (sym read_once) second.of_csv)
 
 -- the arguments spell at most one set of options
 pub options_once : (command : Command) (words : List (List ℕ)) (one other : Options) → AreOptions command words one →
     AreOptions command words other → one ≡ other
-options_once command words one other first second =
-    let next : (later : List Choice) × (second.choices ≡ first.choices ++ later) × (flat_map words_of later ≡ []) =
-    follow command first.choices second.choices [] first.of_command second.of_command
-    (sym second.spelled ∙ first.spelled ∙ sym (append-nil (flat_map words_of first.choices))) in
-    let same : first.choices ≡ second.choices = ended next.0 next.1 next.2 in
-    options_same one other
-    (λ choice is. (second.given choice).1 (subst (λ (cs : List Choice). Contains cs choice) same ((first.given choice).0 is)))
-    (λ choice is. (first.given choice).1
-    (subst (λ (cs : List Choice). Contains cs choice) (sym same) ((second.given choice).0 is)))
-  where
-    ended : (later : List Choice) → second.choices ≡ first.choices ++ later → flat_map words_of later ≡ [] →
-        first.choices ≡ second.choices
-    ended [] same none = sym (same ∙ append-nil first.choices)
-    ended (choice ∷ later) same none = absurd cc
+options_once command words one other first second = read_once command words one other (record {
+  read = first.choices;
+  spelled = first.spelled ∙ sym (append-nil (flat_map option_words first.choices));
+  of_command = first.of_command;
+  once = first.once;
+  given = first.given;
+}) second

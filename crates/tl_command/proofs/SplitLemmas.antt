@@ -5,7 +5,7 @@ use Rattle.std.proofs.lemmas.List.{drop-map, take-map, drop-take, drop-drop, tak
 use Rattle.std.proofs.lemmas.List.{length-map, length-take-le, length-drop}
 use Rattle.tl_command.specs.declared.command.Command.{Command}
 use Rattle.tl_command.specs.declared.command.Command.TheVariants.{Lay, Check, Demo}
-use Rattle.tl_command.specs.Ask.{IsPlain}
+use Rattle.tl_command.specs.Ask.{IsNoOption}
 use Rattle.tl_command.specs.Command.{fewest_names, most_names}
 use Rattle.tl_command.specs.inner.Parts.{IsDashedAtFirst, IsSplit}
 
@@ -19,7 +19,7 @@ in_order Demo = omega arith
 module _ {X : Type 0} (word : X → List ℕ) (command : Command) (words optional names after : List X) (fewest most count : ℕ)
     (is_fewest : fewest ≡ fewest_names command) (is_most : most ≡ most_names command) (enough : fewest ≤ length words)
     (is_optional : optional ≡ drop fewest words) (within : count ≤ length optional) (at_most : count ≤ most - fewest)
-    (plain : All IsPlain (take count (map word optional)))
+    (plain : All IsNoOption (take count (map word optional)))
     (dashed : count < most - fewest → IsDashedAtFirst (drop count (map word optional)))
     (are_names : names ≡ take (fewest + count) words) (is_after : after ≡ drop (fewest + count) words) where
   counted : length (map word names) ≡ fewest + count
@@ -43,6 +43,6 @@ module _ {X : Type 0} (word : X → List ℕ) (command : Command) (words optiona
       fewest = omega (arith, counted, is_fewest);
       most = omega (arith, counted, at_most, is_fewest, is_most, in_order command);
     };
-    plain = subst (All IsPlain) (sym plain_last) plain;
+    plain = subst (All IsNoOption) (sym plain_last) plain;
     dashed = λ less. subst IsDashedAtFirst left (dashed (omega (arith, counted, less, is_fewest, is_most, in_order command)));
   }

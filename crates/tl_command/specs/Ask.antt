@@ -4,7 +4,7 @@ use Rattle.std.specs.List.{All, AllPairs}
 use Rattle.tl_command.specs.declared.ask.Ask.{Ask}
 use Rattle.tl_command.specs.declared.command.Command.{Command}
 use Rattle.tl_command.specs.declared.options.Options.{Options}
-use Rattle.tl_command.specs.Command.{word_of, IsNumberOf, IsCountOf, fewest_names}
+use Rattle.tl_command.specs.Command.{word_of_command, IsNumberOf, IsCountOf, fewest_names}
 use Rattle.tl_command.specs.Options.{AreOptions}
 
 -- what is asked for: a command, its number, the names of its files, and the options
@@ -28,8 +28,8 @@ abbrev pub IsDashed : List ℕ → Type 0
 IsDashed word = (rest : List ℕ) × (word ≡ codes "--" ++ rest)
 
 -- it does not
-abbrev pub IsPlain : List ℕ → Type 0
-IsPlain word = IsDashed word → ⊥
+abbrev pub IsNoOption : List ℕ → Type 0
+IsNoOption word = IsDashed word → ⊥
 
 -- no name is empty, and no two are the same
 pub record AreNames (names : List (List ℕ)) : Type 0 where
@@ -40,11 +40,11 @@ pub record AreNames (names : List (List ℕ)) : Type 0 where
 -- options; one that has to be there may.
 pub record IsAsk (words : List (List ℕ)) (asked : Asked) : Type 0 where
   pub after : List (List ℕ)
-  pub spelled : words ≡ word_of asked.command ∷ decimal asked.number ∷ (asked.names ++ after)
+  pub spelled : words ≡ word_of_command asked.command ∷ decimal asked.number ∷ (asked.names ++ after)
   pub in_range : IsNumberOf asked.command asked.number
   pub counted : IsCountOf asked.command (length asked.names)
   pub names : AreNames asked.names
-  pub plain : All IsPlain (drop (fewest_names asked.command) asked.names)
+  pub plain : All IsNoOption (drop (fewest_names asked.command) asked.names)
   pub options : AreOptions asked.command after asked.options
 
 -- the arguments ask for nothing: they are invalid

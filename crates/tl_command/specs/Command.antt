@@ -7,10 +7,10 @@ use Rattle.tl_command.specs.declared.options.Choice.{Choice}
 use Rattle.tl_command.specs.declared.options.Choice.TheVariants as choices
 
 -- how a command is spelled
-abbrev pub word_of : Command → List ℕ
-word_of Lay = codes "lay"
-word_of Check = codes "check"
-word_of Demo = codes "demo"
+abbrev pub word_of_command : Command → List ℕ
+word_of_command Lay = codes "lay"
+word_of_command Check = codes "check"
+word_of_command Demo = codes "demo"
 
 -- the least number that it takes: of a page's columns there is at least one
 abbrev pub least_number : Command → ℕ
@@ -53,5 +53,9 @@ takes Check (choices.Style style) = true
 takes Check (choices.Breaking breaking) = true
 takes Check (choices.Budget budget) = true
 takes Check (choices.Search search) = false
+takes Check (choices.Workers workers) = true
+takes Check choices.Csv = true
+takes Check choices.Head = true
+takes Check (choices.Least floors) = true
 takes Check choices.Html = false
 takes Demo choice = false

@@ -1,25 +1,22 @@
--- The options of a command: `--style plain|compact|frame`, `--break words|any`, `--budget N`, `--solver plain|best` and
--- `--html`, in any order, each at most once, its value as the next argument.
-use Rattle.std.specs.Prelude.{◌≡◌, ◌≢◌, ◌↔◌, ℕ, ◌≤◌, true, List, [], ◌∷◌, Some, IsTrue, Contains, codes, decimal}
+-- The options of a command: `--style plain|compact|frame`, `--break words|any`, `--budget N`, `--solver plain|best`,
+-- `--workers K`, `--csv`, `--head`, `--least LIST` and `--html`, in any order, each at most once, its value as the next argument.
+use Rattle.std.specs.Prelude.{◌≡◌, ◌≢◌, ◌↔◌, ℕ, ◌≤◌, Bool, true, false, List, [], ◌∷◌, ◌++◌, length, drop, Some, IsTrue, Contains}
+use Rattle.std.specs.Prelude.{codes, decimal}
 use Rattle.std.specs.List.{All, AllPairs, flat_map}
 use Rattle.tl_base.specs.declared.breaking.Breaking.{Breaking}
 use Rattle.tl_base.specs.declared.breaking.Breaking.TheVariants.{Words, Any}
-use Rattle.tl_base.specs.declared.limits.TheConstants.{MAX_BUDGET}
-use Rattle.tl_base.specs.declared.style.Style.{Style}
-use Rattle.tl_base.specs.declared.style.Style.TheVariants as styles
+use Rattle.tl_base.specs.declared.limits.TheConstants.{MAX_BUDGET, MAX_COLUMNS, MAX_PAGE_WIDTH}
+use Rattle.tl_base.specs.Style.{style_word}
 use Rattle.tl_command.specs.declared.command.Command.{Command}
 use Rattle.tl_command.specs.declared.options.Choice.{Choice}
 use Rattle.tl_command.specs.declared.options.Choice.TheVariants as choices
 use Rattle.tl_command.specs.declared.options.Options.{Options}
 use Rattle.tl_command.specs.declared.options.Search.{Search}
 use Rattle.tl_command.specs.declared.options.Search.TheVariants as searches
+use Rattle.tl_command.specs.declared.options.TheConstants.{MAX_WORKERS}
 use Rattle.tl_command.specs.Command.{takes}
 
--- how a style is spelled
-abbrev pub style_word : Style → List ℕ
-style_word styles.Plain = codes "plain"
-style_word styles.Compact = codes "compact"
-style_word styles.Frame = codes "frame"
+-- ---- how an option is spelled
 
 -- how breaks between words alone, or between any two characters, are spelled
 abbrev pub break_word : Breaking → List ℕ
@@ -31,12 +28,24 @@ abbrev pub search_word : Search → List ℕ
 search_word searches.Plain = codes "plain"
 search_word searches.Best = codes "best"
 
+-- numbers with a comma before each
+abbrev pub comma_numbers : List ℕ → List ℕ
+comma_numbers numbers = flat_map (λ number. codes "," ++ decimal number) numbers
+
+-- how a list of numbers is spelled: with a comma between each two
+abbrev pub list_word : List ℕ → List ℕ
+list_word numbers = drop 1 (comma_numbers numbers)
+
 -- the argument that names an option
 abbrev pub name_of : Choice → List ℕ
 name_of (choices.Style style) = codes "--style"
 name_of (choices.Breaking breaking) = codes "--break"
 name_of (choices.Budget budget) = codes "--budget"
 name_of (choices.Search search) = codes "--solver"
+name_of (choices.Workers workers) = codes "--workers"
+name_of choices.Csv = codes "--csv"
+name_of choices.Head = codes "--head"
+name_of (choices.Least floors) = codes "--least"
 name_of choices.Html = codes "--html"
 
 -- the argument of its value, where it has one
@@ -45,18 +54,39 @@ values_of (choices.Style style) = style_word style ∷ []
 values_of (choices.Breaking breaking) = break_word breaking ∷ []
 values_of (choices.Budget budget) = decimal budget ∷ []
 values_of (choices.Search search) = search_word search ∷ []
+values_of (choices.Workers workers) = decimal workers ∷ []
+values_of choices.Csv = []
+values_of choices.Head = []
+values_of (choices.Least floors) = list_word floors ∷ []
 values_of choices.Html = []
 
 -- the arguments that spell an option
-abbrev pub words_of : Choice → List (List ℕ)
-words_of choice = name_of choice ∷ values_of choice
+abbrev pub option_words : Choice → List (List ℕ)
+option_words choice = name_of choice ∷ values_of choice
 
--- a budget is within its limit
+-- ---- which options there are
+
+-- the workers are as many as there may be
+pub record AreWorkers (workers : ℕ) : Type 0 where
+  pub some : 1 ≤ workers
+  pub few : workers ≤ MAX_WORKERS
+
+-- some least widths, for no more columns than a table may have, each of a page
+pub record AreFloors (floors : List ℕ) : Type 0 where
+  pub some : 1 ≤ length floors
+  pub few : length floors ≤ MAX_COLUMNS
+  pub narrow : All (λ floor. floor ≤ MAX_PAGE_WIDTH) floors
+
+-- the value is within its limits
 abbrev pub IsInRange : Choice → Type 0
 IsInRange (choices.Style style) = Unit {0}
 IsInRange (choices.Breaking breaking) = Unit {0}
 IsInRange (choices.Budget budget) = budget ≤ MAX_BUDGET
 IsInRange (choices.Search search) = Unit {0}
+IsInRange (choices.Workers workers) = AreWorkers workers
+IsInRange choices.Csv = Unit {0}
+IsInRange choices.Head = Unit {0}
+IsInRange (choices.Least floors) = AreFloors floors
 IsInRange choices.Html = Unit {0}
 
 -- the command takes the option, with this value
@@ -70,12 +100,35 @@ IsGiven options (choices.Style style) = options.style ≡ Some style
 IsGiven options (choices.Breaking breaking) = options.breaking ≡ Some breaking
 IsGiven options (choices.Budget budget) = options.budget ≡ Some budget
 IsGiven options (choices.Search search) = options.search ≡ Some search
+IsGiven options (choices.Workers workers) = options.workers ≡ Some workers
+IsGiven options choices.Csv = options.csv ≡ true
+IsGiven options choices.Head = options.head ≡ true
+IsGiven options (choices.Least floors) = options.least ≡ Some floors
 IsGiven options choices.Html = options.html ≡ true
+
+-- ---- which are given together
+
+-- which options speak of a CSV file
+abbrev pub speaks_of_csv : Choice → Bool
+speaks_of_csv (choices.Style style) = false
+speaks_of_csv (choices.Breaking breaking) = false
+speaks_of_csv (choices.Budget budget) = false
+speaks_of_csv (choices.Search search) = false
+speaks_of_csv (choices.Workers workers) = false
+speaks_of_csv choices.Csv = false
+speaks_of_csv choices.Head = true
+speaks_of_csv (choices.Least floors) = true
+speaks_of_csv choices.Html = false
+
+-- these are given with `--csv` alone
+abbrev pub AreOfCsv : Options → Type 0
+AreOfCsv options = (choice : Choice) → IsGiven options choice → IsTrue (speaks_of_csv choice) → IsGiven options choices.Csv
 
 -- the arguments spell options of the command one after the other, no two of one name, and nothing else is given
 pub record AreOptions (command : Command) (words : List (List ℕ)) (options : Options) : Type 0 where
   pub choices : List Choice
-  pub spelled : words ≡ flat_map words_of choices
+  pub spelled : words ≡ flat_map option_words choices
   pub of_command : All (IsOptionOf command) choices
   pub once : AllPairs (λ one other. name_of one ≢ name_of other) choices
   pub given : (choice : Choice) → IsGiven options choice ↔ Contains choices choice
+  pub of_csv : AreOfCsv options

@@ -4,13 +4,13 @@
 ghost use Rattle.std.specs.Prelude.{◌≡◌, ◌∷◌, ◌<◌, ℕ, List, map, length, string_bytes, IfSome, IfNone};
 ghost use Rattle.tl_command.specs.Ask.{Asked, IsAsk, AskForNothing, asked_by};
 ghost use Rattle.tl_command.specs.Command.{fewest_names};
-ghost use Rattle.tl_command.specs.inner.Parts.{IsOpening, IsSplit};
+ghost use Rattle.tl_command.specs.inner.Parts.{BeginsWithCommand, IsSplit};
 
 use crate::command::Command;
 use crate::names::{are_names, plain_count};
 use crate::options::Options;
 
-/// What is asked for: docs/MODEL.md, "The command".
+/// What is asked for: docs/COMMAND.md.
 #[derive(Clone, Copy)]
 pub struct Ask<'a> {
     /// What is to be done.
@@ -33,10 +33,10 @@ struct Opening<'a> {
 
 impl<'a> Opening<'a> {
     fn read(words: &'a [String]) -> Option<Opening<'a>>
-        ensures opening { IfSome result (λ o. IsOpening (map string_bytes words.now) o.command o.number
+        ensures opening { IfSome result (λ o. BeginsWithCommand (map string_bytes words.now) o.command o.number
             (map string_bytes o.more.now)) }
         ensures none { IfNone result ((command : Command) (number : ℕ) (more : List (List ℕ))
-            → IsOpening (map string_bytes words.now) command number more → ⊥) }
+            → BeginsWithCommand (map string_bytes words.now) command number more → ⊥) }
     {
         let [name, number, more @ ..] = words else {
             return None;

@@ -1,6 +1,6 @@
 //! The commands: how each is spelled, which number, how many names and which options it takes.
 
-use crate::numbers::number_up_to;
+use crate::numbers::number_within;
 use crate::options::Choice;
 use tl_base::MAX_PAGE_WIDTH;
 
@@ -17,13 +17,13 @@ pub enum Command {
 
 impl Command {
     ghost use Rattle.std.specs.Prelude.{◌≡◌, ◌≢◌, ℕ, IfSome, IfNone, decimal};
-    ghost use Rattle.tl_command.specs.Command.{word_of, least_number, most_number, IsNumberOf};
+    ghost use Rattle.tl_command.specs.Command.{word_of_command, least_number, most_number, IsNumberOf};
     ghost use Rattle.tl_command.specs.Command.{fewest_names, most_names, takes};
 
     /// The command that the argument spells.
     pub(crate) fn read(word: &str) -> Option<Command>
-        ensures spelled { IfSome result (λ command. word.now ≡ word_of command) }
-        ensures none { IfNone result ((command : Command) → word.now ≢ word_of command) }
+        ensures spelled { IfSome result (λ command. word.now ≡ word_of_command command) }
+        ensures none { IfNone result ((command : Command) → word.now ≢ word_of_command command) }
     {
         match word {
             "lay" => Some(Command::Lay),
@@ -57,11 +57,7 @@ impl Command {
         ensures range { IfSome result (IsNumberOf self) }
         ensures none { IfNone result ((number : ℕ) → IsNumberOf self number → word.now ≢ decimal number) }
     {
-        let number = number_up_to(word, self.most_number())?;
-        if number < self.least_number() {
-            return None;
-        }
-        Some(number)
+        number_within(word, self.least_number(), self.most_number())
     }
 
     pub(crate) fn fewest_names(self) -> usize
@@ -84,13 +80,14 @@ impl Command {
     }
 
     /// Whether the command takes this option.
-    pub(crate) fn takes(self, choice: Choice) -> bool
-        ensures { result ≡ takes self choice }
+    pub(crate) fn takes(self, choice: &Choice) -> bool
+        ensures { result ≡ takes self choice.now }
     {
         match self {
             Command::Lay => true,
             Command::Check => match choice {
                 Choice::Style(_) | Choice::Breaking(_) | Choice::Budget(_) => true,
+                Choice::Csv | Choice::Head | Choice::Least(_) | Choice::Workers(_) => true,
                 Choice::Search(_) | Choice::Html => false,
             },
             Command::Demo => false,

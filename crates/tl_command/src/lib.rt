@@ -6,12 +6,14 @@
 
 mod ask;
 mod command;
+mod lists;
 mod names;
 mod numbers;
 mod options;
 #[cfg(test)]
 mod tests;
+mod values;
 
 pub use ask::Ask;
 pub use command::Command;
-pub use options::{Choice, Options, Search};
+pub use options::{Choice, MAX_WORKERS, Options, Search};

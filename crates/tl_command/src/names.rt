@@ -2,7 +2,7 @@
 
 ghost use Rattle.std.specs.Prelude.{◌≡◌, ◌≢◌, ◌↔◌, ◌<◌, ◌≤◌, [], map, length, take, drop, string_bytes, IsTrue};
 ghost use Rattle.std.specs.List.{All};
-ghost use Rattle.tl_command.specs.Ask.{IsDashed, IsPlain, AreNames};
+ghost use Rattle.tl_command.specs.Ask.{IsDashed, IsNoOption, AreNames};
 ghost use Rattle.tl_command.specs.inner.Parts.{IsDashedAtFirst};
 
 /// Whether the argument begins as an option does.
@@ -16,7 +16,7 @@ fn is_dashed(word: &str) -> bool
 pub(crate) fn plain_count(words: &[String], most: usize) -> usize
     ensures within { result ≤ length words.now }
     ensures at_most { result ≤ most }
-    ensures plain { All IsPlain (take result (map string_bytes words.now)) }
+    ensures plain { All IsNoOption (take result (map string_bytes words.now)) }
     ensures dashed { result < most → IsDashedAtFirst (drop result (map string_bytes words.now)) }
 {
     let mut count = 0;

@@ -1,15 +1,21 @@
 //! The options of a command: in any order, each at most once.
 
-ghost use Rattle.std.specs.Prelude.{◌≡◌, ◌≢◌, ◌⊎◌, ◌↔◌, ◌++◌, ◌∷◌, ◌≤◌, ◌<◌, ℕ, true, false, List, [], map};
-ghost use Rattle.std.specs.Prelude.{string_bytes, codes, decimal, length, IsTrue, IfSome, IfNone};
+ghost use Rattle.std.specs.Prelude.{◌≡◌, ◌≢◌, ◌⊎◌, ◌↔◌, ◌++◌, ◌∷◌, ◌<◌, ℕ, true, false, List, [], map};
+ghost use Rattle.std.specs.Prelude.{string_bytes, length, IsTrue, IfSome, IfNone};
 ghost use Rattle.tl_command.specs.declared.options.Choice.{Choice};
 ghost use Rattle.tl_command.specs.declared.options.Options.{Options};
-ghost use Rattle.tl_command.specs.Options.{name_of, words_of, style_word, break_word, search_word, IsInRange};
-ghost use Rattle.tl_command.specs.Options.{IsGiven, IsOptionOf, AreOptions};
+ghost use Rattle.tl_command.specs.Options.{name_of, option_words, IsInRange, IsGiven, IsOptionOf, AreOptions};
+ghost use Rattle.tl_command.specs.Options.{AreOfCsv, speaks_of_csv};
 
 use crate::command::Command;
-use crate::numbers::number_up_to;
-use tl_base::{Breaking, MAX_BUDGET, Style};
+use crate::values::{
+    breaking_named, budget_named, least_named, search_named, style_named, workers_named,
+};
+use tl_base::{Breaking, Style};
+use tl_floors::Floors;
+
+/// How many workers there may be.
+pub const MAX_WORKERS: u32 = 16;
 
 /// The search that finds the layout.
 #[derive(Clone, Copy)]
@@ -27,10 +33,18 @@ pub enum Choice {
     Style(Style),
     /// `--break words|any`.
     Breaking(Breaking),
-    /// `--budget N`, with N at most [`MAX_BUDGET`].
+    /// `--budget N`, with N at most [`tl_base::MAX_BUDGET`].
     Budget(u32),
     /// `--solver plain|best`.
     Search(Search),
+    /// `--workers K`, with K from 1 to [`MAX_WORKERS`].
+    Workers(u32),
+    /// `--csv`.
+    Csv,
+    /// `--head`.
+    Head,
+    /// `--least LIST`, with LIST one number or more, and a comma between each two.
+    Least(Floors),
     /// `--html`.
     Html,
 }
@@ -42,10 +56,18 @@ pub struct Options {
     pub style: Option<Style>,
     /// Where a line may end.
     pub breaking: Option<Breaking>,
-    /// How many cuts each search may make, at most [`MAX_BUDGET`].
+    /// How many cuts each search may make, at most [`tl_base::MAX_BUDGET`].
     pub budget: Option<u32>,
     /// Which search finds the layout.
     pub search: Option<Search>,
+    /// How many workers there are, from 1 to [`MAX_WORKERS`].
+    pub workers: Option<u32>,
+    /// Whether the file is CSV.
+    pub csv: bool,
+    /// Whether the first record of a CSV file is a head.
+    pub head: bool,
+    /// The least widths of the first columns of a CSV file.
+    pub least: Option<Floors>,
     /// Whether the page is HTML.
     pub html: bool,
 }
@@ -55,13 +77,15 @@ impl Choice {
     fn read(command: Command, words: &[String]) -> Option<(Choice, &[String])>
         ensures option { IfSome result (λ r. IsOptionOf command r.0) }
         ensures spelled { IfSome result (λ r. map string_bytes words.now
-            ≡ words_of r.0 ++ map string_bytes r.1.now) }
+            ≡ option_words r.0 ++ map string_bytes r.1.now) }
         ensures shorter { IfSome result (λ r. length r.1.now < length words.now) }
         ensures none { IfNone result ((choice : Choice) (rest : List (List ℕ)) → IsOptionOf command choice
-            → map string_bytes words.now ≡ words_of choice ++ rest → ⊥) }
+            → map string_bytes words.now ≡ option_words choice ++ rest → ⊥) }
     {
-        let (choice, rest) = Choice::read_any(words)?;
-        if !command.takes(choice) {
+        let Some((choice, rest)) = Choice::read_any(words) else {
+            return None;
+        };
+        if !command.takes(&choice) {
             return None;
         }
         Some((choice, rest))
@@ -71,16 +95,16 @@ impl Choice {
     fn read_any(words: &[String]) -> Option<(Choice, &[String])>
         ensures range { IfSome result (λ r. IsInRange r.0) }
         ensures spelled { IfSome result (λ r. map string_bytes words.now
-            ≡ words_of r.0 ++ map string_bytes r.1.now) }
+            ≡ option_words r.0 ++ map string_bytes r.1.now) }
         ensures shorter { IfSome result (λ r. length r.1.now < length words.now) }
         ensures none { IfNone result ((choice : Choice) (rest : List (List ℕ)) → IsInRange choice
-            → map string_bytes words.now ≡ words_of choice ++ rest → ⊥) }
+            → map string_bytes words.now ≡ option_words choice ++ rest → ⊥) }
     {
         let [name, later @ ..] = words else {
             return None;
         };
-        if is_html(name.as_str()) {
-            return Some((Choice::Html, later));
+        if let Some(flag) = flag_named(name.as_str()) {
+            return Some((flag, later));
         }
         let [value, rest @ ..] = later else {
             return None;
@@ -92,70 +116,34 @@ impl Choice {
     /// The option of this name with this value.
     fn with_value(name: &str, value: &str) -> Option<Choice>
         ensures range { IfSome result IsInRange }
-        ensures spelled { IfSome result (λ choice. words_of choice ≡ name.now ∷ value.now ∷ []) }
+        ensures spelled { IfSome result (λ choice. option_words choice ≡ name.now ∷ value.now ∷ []) }
         ensures none { IfNone result ((choice : Choice) → IsInRange choice
-            → words_of choice ≡ name.now ∷ value.now ∷ [] → ⊥) }
+            → option_words choice ≡ name.now ∷ value.now ∷ [] → ⊥) }
     {
         match name {
             "--style" => style_named(value),
             "--break" => breaking_named(value),
             "--budget" => budget_named(value),
             "--solver" => search_named(value),
+            "--workers" => workers_named(value),
+            "--least" => least_named(value),
             _ => None,
         }
     }
 }
 
-fn is_html(name: &str) -> bool
-    ensures { IsTrue result ↔ (name.now ≡ codes "--html") }
-{
-    name == "--html"
-}
-
-fn style_named(value: &str) -> Option<Choice>
+/// The option without a value that the argument names.
+fn flag_named(name: &str) -> Option<Choice>
     ensures range { IfSome result IsInRange }
-    ensures spelled { IfSome result (λ choice. words_of choice ≡ codes "--style" ∷ value.now ∷ []) }
-    ensures none { IfNone result ((style : Style) → style_word style ≢ value.now) }
+    ensures spelled { IfSome result (λ choice. option_words choice ≡ name.now ∷ []) }
+    ensures none { IfNone result ((choice : Choice) → option_words choice ≢ name.now ∷ []) }
 {
-    match value {
-        "plain" => Some(Choice::Style(Style::Plain)),
-        "compact" => Some(Choice::Style(Style::Compact)),
-        "frame" => Some(Choice::Style(Style::Frame)),
+    match name {
+        "--csv" => Some(Choice::Csv),
+        "--head" => Some(Choice::Head),
+        "--html" => Some(Choice::Html),
         _ => None,
     }
-}
-
-fn breaking_named(value: &str) -> Option<Choice>
-    ensures range { IfSome result IsInRange }
-    ensures spelled { IfSome result (λ choice. words_of choice ≡ codes "--break" ∷ value.now ∷ []) }
-    ensures none { IfNone result ((breaking : Breaking) → break_word breaking ≢ value.now) }
-{
-    match value {
-        "words" => Some(Choice::Breaking(Breaking::Words)),
-        "any" => Some(Choice::Breaking(Breaking::Any)),
-        _ => None,
-    }
-}
-
-fn search_named(value: &str) -> Option<Choice>
-    ensures range { IfSome result IsInRange }
-    ensures spelled { IfSome result (λ choice. words_of choice ≡ codes "--solver" ∷ value.now ∷ []) }
-    ensures none { IfNone result ((search : Search) → search_word search ≢ value.now) }
-{
-    match value {
-        "plain" => Some(Choice::Search(Search::Plain)),
-        "best" => Some(Choice::Search(Search::Best)),
-        _ => None,
-    }
-}
-
-fn budget_named(value: &str) -> Option<Choice>
-    ensures range { IfSome result IsInRange }
-    ensures spelled { IfSome result (λ choice. words_of choice ≡ codes "--budget" ∷ value.now ∷ []) }
-    ensures none { IfNone result ((budget : ℕ) → budget ≤ MAX_BUDGET → decimal budget ≢ value.now) }
-{
-    let budget = number_up_to(value, MAX_BUDGET)?;
-    Some(Choice::Budget(budget))
 }
 
 impl Options {
@@ -168,20 +156,28 @@ impl Options {
             breaking: None,
             budget: None,
             search: None,
+            workers: None,
+            csv: false,
+            head: false,
+            least: None,
             html: false,
         }
     }
 
     /// Whether an option of this name is given.
-    fn has(&self, choice: Choice) -> bool
-        ensures yes { result ≡ true → (other : Choice) × IsGiven self.now other × (name_of other ≡ name_of choice) }
-        ensures no { result ≡ false → (other : Choice) → IsGiven self.now other → name_of other ≢ name_of choice }
+    fn has(&self, choice: &Choice) -> bool
+        ensures yes { result ≡ true → (other : Choice) × IsGiven self.now other × (name_of other ≡ name_of choice.now) }
+        ensures no { result ≡ false → (other : Choice) → IsGiven self.now other → name_of other ≢ name_of choice.now }
     {
         match choice {
             Choice::Style(_) => self.style.is_some(),
             Choice::Breaking(_) => self.breaking.is_some(),
             Choice::Budget(_) => self.budget.is_some(),
             Choice::Search(_) => self.search.is_some(),
+            Choice::Workers(_) => self.workers.is_some(),
+            Choice::Csv => self.csv,
+            Choice::Head => self.head,
+            Choice::Least(_) => self.least.is_some(),
             Choice::Html => self.html,
         }
     }
@@ -197,9 +193,28 @@ impl Options {
             Choice::Breaking(breaking) => options.breaking = Some(breaking),
             Choice::Budget(budget) => options.budget = Some(budget),
             Choice::Search(search) => options.search = Some(search),
+            Choice::Workers(workers) => options.workers = Some(workers),
+            Choice::Csv => options.csv = true,
+            Choice::Head => options.head = true,
+            Choice::Least(floors) => options.least = Some(floors),
             Choice::Html => options.html = true,
         }
         options
+    }
+
+    /// Whether an option that speaks of a CSV file is given.
+    fn speak_of_csv(&self) -> bool
+        ensures yes { result ≡ true → (choice : Choice) × IsGiven self.now choice × IsTrue (speaks_of_csv choice) }
+        ensures no { result ≡ false → (choice : Choice) → IsGiven self.now choice → IsTrue (speaks_of_csv choice) → ⊥ }
+    {
+        self.head || self.least.is_some()
+    }
+
+    /// Whether those that speak of a CSV file are given with `--csv`.
+    fn are_of_csv(&self) -> bool
+        ensures { IsTrue result ↔ AreOfCsv self.now }
+    {
+        self.csv || !self.speak_of_csv()
     }
 
     /// The options of the command that the arguments spell, or `None` where they spell none.
@@ -211,12 +226,17 @@ impl Options {
         let mut options = Options::none();
         let mut rest = words;
         while !rest.is_empty() {
-            let (choice, later) = Choice::read(command, rest)?;
-            if options.has(choice) {
+            let Some((choice, later)) = Choice::read(command, rest) else {
+                return None;
+            };
+            if options.has(&choice) {
                 return None;
             }
             options = options.with(choice);
             rest = later;
+        }
+        if !options.are_of_csv() {
+            return None;
         }
         Some(options)
     }

@@ -1,60 +1,78 @@
 //! Command lines, and what they ask for.
 
-use crate::{Ask, Command, Options, Search};
+use crate::{Ask, Choice, Command, Options, Search};
 use std::alloc::{AllocError, Global};
 use std::process::Abort;
 use std::test::Fail;
 use tl_base::{Breaking, Style};
+use tl_floors::Floors;
 
-/// Command lines beside what they ask for: the command, the number, the names, and after `:` the
-/// style, the breaks, the budget, the search and the form of the page, each `-` where it is not given.
+/// Command lines beside what they ask for: the command, the number, the names, and after `:` each
+/// option that is given, in the order style, breaks, budget, search, workers, CSV, head, least widths
+/// and HTML.
 const ASKS: &[(&str, &str)] = &[
-    ("lay 7 t.html p.txt", "lay 7 t.html p.txt : - - - - -"),
-    ("lay 1 t p c", "lay 1 t p c : - - - - -"),
-    ("lay 500 t p c --html", "lay 500 t p c : - - - - html"),
-    ("lay 7 t p --style plain", "lay 7 t p : plain - - - -"),
-    ("lay 7 t p --style compact", "lay 7 t p : compact - - - -"),
-    ("lay 7 t p --style frame", "lay 7 t p : frame - - - -"),
-    ("lay 7 t p --break words", "lay 7 t p : - words - - -"),
-    ("lay 7 t p --break any", "lay 7 t p : - any - - -"),
-    ("lay 7 t p --budget 0", "lay 7 t p : - - 0 - -"),
-    ("lay 7 t p --budget 100000", "lay 7 t p : - - 100000 - -"),
-    ("lay 7 t p --solver plain", "lay 7 t p : - - - plain -"),
-    ("lay 7 t p --solver best", "lay 7 t p : - - - best -"),
+    ("lay 7 t.html p.txt", "lay 7 t.html p.txt :"),
+    ("lay 1 t p c", "lay 1 t p c :"),
+    ("lay 500 t p c --html", "lay 500 t p c : html"),
+    ("lay 7 t p --style plain", "lay 7 t p : style=plain"),
+    ("lay 7 t p --style compact", "lay 7 t p : style=compact"),
+    ("lay 7 t p --style frame", "lay 7 t p : style=frame"),
+    ("lay 7 t p --break words", "lay 7 t p : break=words"),
+    ("lay 7 t p --break any", "lay 7 t p : break=any"),
+    ("lay 7 t p --budget 0", "lay 7 t p : budget=0"),
+    ("lay 7 t p --budget 100000", "lay 7 t p : budget=100000"),
+    ("lay 7 t p --solver plain", "lay 7 t p : solver=plain"),
+    ("lay 7 t p --solver best", "lay 7 t p : solver=best"),
     (
         "lay 7 t p c --style frame --break any --budget 5 --solver best --html",
-        "lay 7 t p c : frame any 5 best html",
+        "lay 7 t p c : style=frame break=any budget=5 solver=best html",
     ),
     (
         "lay 7 t p --html --solver plain --budget 10 --break words --style compact",
-        "lay 7 t p : compact words 10 plain html",
+        "lay 7 t p : style=compact break=words budget=10 solver=plain html",
     ),
-    ("check 1 t c", "check 1 t c : - - - - -"),
+    ("check 1 t c", "check 1 t c :"),
     (
         "check 500 t c --style compact",
-        "check 500 t c : compact - - - -",
+        "check 500 t c : style=compact",
     ),
     (
         "check 80 t c --budget 6 --style plain --break any",
-        "check 80 t c : plain any 6 - -",
+        "check 80 t c : style=plain break=any budget=6",
     ),
-    ("demo 0", "demo 0 : - - - - -"),
-    ("demo 4294967295", "demo 4294967295 : - - - - -"),
+    ("lay 7 t p --workers 1", "lay 7 t p : workers=1"),
+    ("lay 7 t p --workers 16", "lay 7 t p : workers=16"),
+    ("check 7 t c --workers 2", "check 7 t c : workers=2"),
+    ("lay 7 t p --csv", "lay 7 t p : csv"),
+    ("check 7 t c --csv", "check 7 t c : csv"),
+    ("lay 7 t p --csv --head", "lay 7 t p : csv head"),
+    ("check 7 t c --head --csv", "check 7 t c : csv head"),
+    ("lay 7 t p --least 5 --csv", "lay 7 t p : csv least=5"),
+    ("check 7 t c --csv --least 0", "check 7 t c : csv least=0"),
+    ("lay 7 t p --csv --least 500", "lay 7 t p : csv least=500"),
+    (
+        "lay 7 t p --csv --least 5,0,5,10",
+        "lay 7 t p : csv least=5,0,5,10",
+    ),
+    (
+        "lay 7 t p c --least 1,2 --workers 3 --head --html --csv --solver best",
+        "lay 7 t p c : solver=best workers=3 csv head least=1,2 html",
+    ),
+    ("demo 0", "demo 0 :"),
+    ("demo 4294967295", "demo 4294967295 :"),
 ];
 
 /// A name that has to be there is one however it begins, and any is that does not begin with `--`.
 const NAMES_THAT_LOOK_ALIKE: &[(&str, &str)] = &[
-    ("lay 7 --html --style", "lay 7 --html --style : - - - - -"),
-    ("lay 7 t --html --html", "lay 7 t --html : - - - - html"),
-    ("check 7 -- ---", "check 7 -- --- : - - - - -"),
-    (
-        "check 7 t --html --budget 1",
-        "check 7 t --html : - - 1 - -",
-    ),
-    ("lay 7 t p -", "lay 7 t p - : - - - - -"),
-    ("lay 7 t p -html --html", "lay 7 t p -html : - - - - html"),
-    ("lay 7 lay 7 check", "lay 7 lay 7 check : - - - - -"),
-    ("lay 7 p pp p.", "lay 7 p pp p. : - - - - -"),
+    ("lay 7 --html --style", "lay 7 --html --style :"),
+    ("lay 7 t --html --html", "lay 7 t --html : html"),
+    ("check 7 -- ---", "check 7 -- --- :"),
+    ("check 7 t --html --budget 1", "check 7 t --html : budget=1"),
+    ("lay 7 t p -", "lay 7 t p - :"),
+    ("lay 7 t p -html --html", "lay 7 t p -html : html"),
+    ("lay 7 lay 7 check", "lay 7 lay 7 check :"),
+    ("lay 7 p pp p.", "lay 7 p pp p. :"),
+    ("lay 7 t --csv --csv", "lay 7 t --csv : csv"),
 ];
 
 /// No command, or another one.
@@ -149,6 +167,22 @@ const TWICE: &[&str] = &[
     "lay 7 t p --html --budget 5 --html",
     "lay 7 t p --budget 5 --style frame --budget 5",
     "check 7 t c --budget 6 --budget 6",
+    "lay 7 t p --csv --csv",
+    "lay 7 t p --csv --head --head",
+    "lay 7 t p --least 1 --csv --least 1",
+    "lay 7 t p --workers 2 --workers 3",
+    "check 7 t c --csv --workers 1 --csv",
+];
+
+/// What speaks of a CSV file without `--csv`.
+const NO_CSV: &[&str] = &[
+    "lay 7 t p --head",
+    "lay 7 t p --least 5",
+    "lay 7 t p --head --least 5",
+    "lay 7 t p --html --head",
+    "check 7 t c --head",
+    "check 7 t c --least 5,6",
+    "lay 7 t --csv --head",
 ];
 
 /// A value that is missing, or that the option does not have.
@@ -187,6 +221,37 @@ const VALUES: &[&str] = &[
     "lay 7 t p --htm",
     "lay 7 t p --html ",
     "check 7 t c --budget 100001",
+    "lay 7 t p --workers",
+    "lay 7 t p --workers ",
+    "lay 7 t p --workers 0",
+    "lay 7 t p --workers 17",
+    "lay 7 t p --workers 01",
+    "lay 7 t p --workers 1.0",
+    "lay 7 t p --workers all",
+    "lay 7 t p --workers 4294967297",
+    "check 7 t c --workers 0",
+    "lay 7 t p --csv yes",
+    "lay 7 t p --CSV",
+    "lay 7 t p --csv --head 1",
+    "lay 7 t p --heads --csv",
+    "lay 7 t p --csv --least",
+    "lay 7 t p --csv --least ",
+    "lay 7 t p --csv --least 5,",
+    "lay 7 t p --csv --least ,5",
+    "lay 7 t p --csv --least ,",
+    "lay 7 t p --csv --least 5,,6",
+    "lay 7 t p --csv --least 5, 6",
+    "lay 7 t p --csv --least 5;6",
+    "lay 7 t p --csv --least 05",
+    "lay 7 t p --csv --least 5,06",
+    "lay 7 t p --csv --least 501",
+    "lay 7 t p --csv --least 5,501,6",
+    "lay 7 t p --csv --least -1",
+    "lay 7 t p --csv --least 5x",
+    "lay 7 t p --csv --least 4294967301",
+    "lay 7 t p --csv --least 18446744073709551621",
+    "lay 7 t p --csv --least 5 6",
+    "lay 7 t p --csv --least=5",
 ];
 
 /// An option that the command does not take.
@@ -200,6 +265,9 @@ const NOT_TAKEN: &[&str] = &[
     "demo 0 --style plain",
     "demo 0 --break words",
     "demo 0 --solver best",
+    "demo 0 --workers 2",
+    "demo 0 --csv",
+    "demo 0 --csv --head",
 ];
 
 /// The arguments of a command line, each separated by one space from the next: between two spaces is
@@ -223,55 +291,91 @@ fn command_word(command: Command) -> &'static str {
     }
 }
 
-fn style_word(style: Option<Style>) -> &'static str {
+fn style_word(style: Style) -> &'static str {
     match style {
-        None => "-",
-        Some(Style::Plain) => "plain",
-        Some(Style::Compact) => "compact",
-        Some(Style::Frame) => "frame",
+        Style::Plain => "plain",
+        Style::Compact => "compact",
+        Style::Frame => "frame",
     }
 }
 
-fn break_word(breaking: Option<Breaking>) -> &'static str {
+fn break_word(breaking: Breaking) -> &'static str {
     match breaking {
-        None => "-",
-        Some(Breaking::Words) => "words",
-        Some(Breaking::Any) => "any",
+        Breaking::Words => "words",
+        Breaking::Any => "any",
     }
 }
 
-fn search_word(search: Option<Search>) -> &'static str {
+fn search_word(search: Search) -> &'static str {
     match search {
-        None => "-",
-        Some(Search::Plain) => "plain",
-        Some(Search::Best) => "best",
+        Search::Plain => "plain",
+        Search::Best => "best",
     }
 }
 
-/// The options in words, each after a space.
-fn push_options(alloc: Global, text: &mut String, options: &Options) -> Result<(), AllocError> {
-    for word in [style_word(options.style), break_word(options.breaking)] {
-        text.push_str(" ")?;
-        text.push_str(word)?;
+/// A word after the name of what it says, where there is one.
+fn push_word(
+    alloc: Global,
+    text: &mut String,
+    name: &str,
+    word: Option<&str>,
+) -> Result<(), AllocError> {
+    match word {
+        Some(word) => text.push_str(format!(in alloc; " {name}={word}")?.as_str()),
+        None => Ok(()),
     }
-    text.push_str(" ")?;
-    match options.budget {
-        None => text.push_str("-")?,
-        Some(budget) => text.push_str(format!(in alloc; "{budget}")?.as_str())?,
-    }
-    for word in [
-        search_word(options.search),
-        if options.html { "html" } else { "-" },
-    ] {
+}
+
+/// The name of a flag, where it is given.
+fn push_flag(text: &mut String, name: &str, given: bool) -> Result<(), AllocError> {
+    if given {
         text.push_str(" ")?;
-        text.push_str(word)?;
+        text.push_str(name)?;
     }
     Ok(())
 }
 
+/// A number after the name of what it says, where there is one.
+fn push_number(
+    alloc: Global,
+    text: &mut String,
+    name: &str,
+    number: Option<u32>,
+) -> Result<(), AllocError> {
+    match number {
+        Some(number) => text.push_str(format!(in alloc; " {name}={number}")?.as_str()),
+        None => Ok(()),
+    }
+}
+
+/// The least widths, where they are given.
+fn push_least(alloc: Global, text: &mut String, least: &Option<Floors>) -> Result<(), AllocError> {
+    let Some(least) = least else {
+        return Ok(());
+    };
+    for (column, floor) in least.as_slice().iter().enumerate() {
+        text.push_str(if column == 0 { " least=" } else { "," })?;
+        text.push_str(format!(in alloc; "{floor}")?.as_str())?;
+    }
+    Ok(())
+}
+
+/// The options in words, each after a space.
+fn push_options(alloc: Global, text: &mut String, options: &Options) -> Result<(), AllocError> {
+    push_word(alloc, text, "style", options.style.map(style_word))?;
+    push_word(alloc, text, "break", options.breaking.map(break_word))?;
+    push_number(alloc, text, "budget", options.budget)?;
+    push_word(alloc, text, "solver", options.search.map(search_word))?;
+    push_number(alloc, text, "workers", options.workers)?;
+    push_flag(text, "csv", options.csv)?;
+    push_flag(text, "head", options.head)?;
+    push_least(alloc, text, &options.least)?;
+    push_flag(text, "html", options.html)
+}
+
 /// What is asked for, in words.
-fn described(alloc: Global, ask: Option<Ask<'_>>) -> Result<String, AllocError> {
-    let Some(ask) = ask else {
+fn described(alloc: Global, words: &[String]) -> Result<String, AllocError> {
+    let Some(ask) = Ask::parse(words) else {
         return String::from_str(alloc, "nothing");
     };
     let mut text = format!(in alloc; "{} {}", command_word(ask.command), ask.number)?;
@@ -287,7 +391,7 @@ fn described(alloc: Global, ask: Option<Ask<'_>>) -> Result<String, AllocError> 
 /// The command line asks for this.
 fn check(rt: &(impl Abort + AllocGlobal), line: &str, wanted: &str) -> Result<(), Fail> {
     let words = arguments(rt.alloc(), line)?;
-    let asked = described(rt.alloc(), Ask::parse(words.as_slice()))?;
+    let asked = described(rt.alloc(), words.as_slice())?;
     assert_eq!(rt; asked.as_str(), wanted, "{line}");
     Ok(())
 }
@@ -305,11 +409,49 @@ fn arguments_ask_for_a_command_with_its_options(rt: HostRuntime) -> Result<(), F
 #[test]
 fn invalid_arguments_ask_for_nothing(rt: HostRuntime) -> Result<(), Fail> {
     for lines in [
-        COMMANDS, COUNTS, NUMBERS, NAMES, EARLY, TWICE, VALUES, NOT_TAKEN,
+        COMMANDS, COUNTS, NUMBERS, NAMES, EARLY, TWICE, NO_CSV, VALUES, NOT_TAKEN,
     ] {
         for line in lines {
             check(&rt, line, "nothing")?;
         }
     }
     Ok(())
+}
+
+/// The argument `0` so many times, with a comma between each two.
+fn zeros(alloc: Global, count: usize) -> Result<String, AllocError> {
+    let mut list = String::from_str(alloc, "0")?;
+    for _ in 1..count {
+        list.push_str(",0")?;
+    }
+    Ok(list)
+}
+
+#[test]
+fn as_many_least_widths_as_a_table_may_have_columns_are_taken(rt: HostRuntime) -> Result<(), Fail> {
+    let alloc = rt.alloc();
+    for count in [1, 59, 60] {
+        let list = zeros(alloc, count)?;
+        let line = format!(in alloc; "lay 7 t p --csv --least {list}")?;
+        let wanted = format!(in alloc; "lay 7 t p : csv least={list}")?;
+        check(&rt, line.as_str(), wanted.as_str())?;
+    }
+    for count in [61, 62, 500] {
+        let list = zeros(alloc, count)?;
+        let line = format!(in alloc; "lay 7 t p --csv --least {list}")?;
+        check(&rt, line.as_str(), "nothing")?;
+    }
+    Ok(())
+}
+
+/// Takes what may be sent to other threads and shared between them.
+fn share<T: Send + Sync>(_value: Option<&T>) {}
+
+#[test]
+fn what_is_asked_for_may_go_to_other_threads() {
+    share::<Ask<'_>>(None);
+    share::<Command>(None);
+    share::<Choice>(None);
+    share::<Options>(None);
+    share::<Search>(None);
 }

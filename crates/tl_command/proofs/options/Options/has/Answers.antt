@@ -1,14 +1,9 @@
 -- An option of the name is the one that the field gives.
-use Rattle.std.proofs.Common.{◌≡◌, true, Option, Some, None, refl, sym, ap, ◌∙◌}
-use Rattle.std.specs.Prelude.{is_some}
+use Rattle.std.proofs.Common.{sym, ap, ◌∙◌}
 use Rattle.tl_command.specs.declared.options.Choice.TheVariants as choices
 use Rattle.tl_command.specs.Options.{name_of}
+use Rattle.tl_command.proofs.OptionLemmas.{held}
 use Rattle.tl_command.proofs.options.Options.has.Goals as goal
-
--- what an option that is there holds
-held : {X : Type 0} (given : Option X) → is_some given ≡ true → (x : X) × (given ≡ Some x)
-held None is = absurd cc
-held (Some x) is = (x, refl)
 
 pub returns-in-Style-clause-yes : goal.returns-in-Style-clause-yes
 returns-in-Style-clause-yes c = λ is.
@@ -29,3 +24,22 @@ pub returns-in-Search-clause-yes : goal.returns-in-Search-clause-yes
 returns-in-Search-clause-yes c = λ is.
     let given = held c.args.self.now.search (sym c.is_some-in-Search.ensures ∙ is) in
     (choices.Search given.0, given.1, ap name_of (sym c.in-Search.is))
+
+pub returns-in-Workers-clause-yes : goal.returns-in-Workers-clause-yes
+returns-in-Workers-clause-yes c = λ is.
+    let given = held c.args.self.now.workers (sym c.is_some-in-Workers.ensures ∙ is) in
+    (choices.Workers given.0, given.1, ap name_of (sym c.in-Workers.is))
+
+pub returns-in-Csv-clause-yes : goal.returns-in-Csv-clause-yes
+returns-in-Csv-clause-yes c = λ is. (choices.Csv, is, ap name_of (sym c.in-Csv.is))
+
+pub returns-in-Head-clause-yes : goal.returns-in-Head-clause-yes
+returns-in-Head-clause-yes c = λ is. (choices.Head, is, ap name_of (sym c.in-Head.is))
+
+pub returns-in-Least-clause-yes : goal.returns-in-Least-clause-yes
+returns-in-Least-clause-yes c = λ is.
+    let given = held c.args.self.now.least (sym c.is_some-in-Least.ensures ∙ is) in
+    (choices.Least given.0, given.1, ap name_of (sym c.in-Least.is))
+
+pub returns-in-Html-clause-yes : goal.returns-in-Html-clause-yes
+returns-in-Html-clause-yes c = λ is. (choices.Html, is, ap name_of (sym c.in-Html.is))

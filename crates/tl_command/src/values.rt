@@ -1,0 +1,77 @@
+//! The values of options, as their arguments spell them.
+
+ghost use Rattle.std.specs.Prelude.{◌≡◌, ◌≢◌, ◌≤◌, ◌∷◌, ℕ, List, [], codes, decimal, IfSome, IfNone};
+ghost use Rattle.tl_base.specs.declared.breaking.Breaking.{Breaking};
+ghost use Rattle.tl_base.specs.declared.style.Style.{Style};
+ghost use Rattle.tl_base.specs.Style.{style_word};
+ghost use Rattle.tl_command.specs.declared.options.Search.{Search};
+ghost use Rattle.tl_command.specs.Options.{option_words, break_word, search_word, list_word, IsInRange, AreFloors, AreWorkers};
+
+use crate::lists::floors_listed;
+use crate::numbers::number_within;
+use crate::options::{Choice, MAX_WORKERS, Search};
+use tl_base::{Breaking, MAX_BUDGET, Style};
+
+pub(crate) fn style_named(value: &str) -> Option<Choice>
+    ensures range { IfSome result IsInRange }
+    ensures spelled { IfSome result (λ choice. option_words choice ≡ codes "--style" ∷ value.now ∷ []) }
+    ensures none { IfNone result ((style : Style) → style_word style ≢ value.now) }
+{
+    match value {
+        "plain" => Some(Choice::Style(Style::Plain)),
+        "compact" => Some(Choice::Style(Style::Compact)),
+        "frame" => Some(Choice::Style(Style::Frame)),
+        _ => None,
+    }
+}
+
+pub(crate) fn breaking_named(value: &str) -> Option<Choice>
+    ensures range { IfSome result IsInRange }
+    ensures spelled { IfSome result (λ choice. option_words choice ≡ codes "--break" ∷ value.now ∷ []) }
+    ensures none { IfNone result ((breaking : Breaking) → break_word breaking ≢ value.now) }
+{
+    match value {
+        "words" => Some(Choice::Breaking(Breaking::Words)),
+        "any" => Some(Choice::Breaking(Breaking::Any)),
+        _ => None,
+    }
+}
+
+pub(crate) fn search_named(value: &str) -> Option<Choice>
+    ensures range { IfSome result IsInRange }
+    ensures spelled { IfSome result (λ choice. option_words choice ≡ codes "--solver" ∷ value.now ∷ []) }
+    ensures none { IfNone result ((search : Search) → search_word search ≢ value.now) }
+{
+    match value {
+        "plain" => Some(Choice::Search(Search::Plain)),
+        "best" => Some(Choice::Search(Search::Best)),
+        _ => None,
+    }
+}
+
+pub(crate) fn budget_named(value: &str) -> Option<Choice>
+    ensures range { IfSome result IsInRange }
+    ensures spelled { IfSome result (λ choice. option_words choice ≡ codes "--budget" ∷ value.now ∷ []) }
+    ensures none { IfNone result ((budget : ℕ) → budget ≤ MAX_BUDGET → decimal budget ≢ value.now) }
+{
+    let budget = number_within(value, 0, MAX_BUDGET)?;
+    Some(Choice::Budget(budget))
+}
+
+pub(crate) fn workers_named(value: &str) -> Option<Choice>
+    ensures range { IfSome result IsInRange }
+    ensures spelled { IfSome result (λ choice. option_words choice ≡ codes "--workers" ∷ value.now ∷ []) }
+    ensures none { IfNone result ((workers : ℕ) → AreWorkers workers → decimal workers ≢ value.now) }
+{
+    let workers = number_within(value, 1, MAX_WORKERS)?;
+    Some(Choice::Workers(workers))
+}
+
+pub(crate) fn least_named(value: &str) -> Option<Choice>
+    ensures range { IfSome result IsInRange }
+    ensures spelled { IfSome result (λ choice. option_words choice ≡ codes "--least" ∷ value.now ∷ []) }
+    ensures none { IfNone result ((floors : List ℕ) → AreFloors floors → list_word floors ≢ value.now) }
+{
+    let floors = floors_listed(value)?;
+    Some(Choice::Least(floors))
+}
