@@ -1,0 +1,7 @@
+use Rattle.std.proofs.Common.{◌∙◌, List, [], ◌∷◌, ◌++◌, ap, sym}
+use Rattle.tl_fan.proofs.Pieces.{range_more}
+use Rattle.tl_fan.proofs.fan.places.Goals as goal
+
+pub loop-number-preserved : goal.loop-number-preserved
+loop-number-preserved c = c.in_ok-push.ensures.items
+    ∙ ap (λ numbers. numbers ++ c.loop-number.number ∷ []) c.loop-number.invariant ∙ sym (range_more c.loop-number.number)

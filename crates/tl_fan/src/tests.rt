@@ -1,0 +1,153 @@
+//! Pieces of work behind gates that see them.
+
+ghost use Rattle.std.specs.Prelude.{◌≤◌};
+
+use crate::{fan_out, gather, places};
+use std::alloc::{AllocError, Global};
+use std::process::Abort;
+use std::sync::atomic::{AtomicBool, AtomicU32, Ordering};
+use std::test::Fail;
+use std::thread::Threads;
+use tl_base::{Gate, NoGate};
+
+/// How often a piece looks for another one's flag.
+const TURNS: u32 = 100_000_000;
+
+/// A gate at which the pieces 0 and 1 meet: each sets its flag, and looks for the other's.
+#[derive(Drop)]
+struct Meeting {
+    flags: [AtomicBool; 2],
+    seen: [AtomicBool; 2],
+}
+
+impl Gate for Meeting {
+    fn pass(&self, piece: u32) {
+        let own = (piece % 2) as usize;
+        self.flags[own].store(true, Ordering::SeqCst);
+        for _ in 0..TURNS {
+            if self.flags[1 - own].load(Ordering::SeqCst) {
+                self.seen[own].store(true, Ordering::SeqCst);
+                return;
+            }
+        }
+    }
+}
+
+/// A gate that counts the passes of the pieces 0 to 3.
+#[derive(Drop)]
+struct Counting {
+    passed: [AtomicU32; 4],
+}
+
+impl Gate for Counting {
+    fn pass(&self, piece: u32) {
+        self.passed[(piece % 4) as usize].fetch_add(1, Ordering::SeqCst);
+    }
+}
+
+/// A gate that counts the passes, and the groups of two in which one comes before the group before has ended.
+#[derive(Drop)]
+struct Grouped {
+    ended: AtomicU32,
+    early: AtomicU32,
+}
+
+impl Gate for Grouped {
+    fn pass(&self, piece: u32) {
+        if self.ended.load(Ordering::SeqCst) < piece / 2 * 2 {
+            self.early.fetch_add(1, Ordering::SeqCst);
+        }
+    }
+}
+
+/// Ten times each of the numbers, by so many workers.
+fn tenfold(
+    rt: &(impl Abort + Threads + Sync),
+    alloc: Global,
+    workers: u32,
+    numbers: &[u32],
+    wanted: &[u32],
+) -> Result<(), Fail>
+    requires { 1 ≤ workers }
+{
+    let piece = |number: u32| -> u32 { number.wrapping_mul(10) };
+    let found = fan_out(rt, alloc, &NoGate, workers, numbers, &piece)?;
+    assert_eq!(rt; found.as_slice(), wanted);
+    Ok(())
+}
+
+#[test]
+fn results_come_in_the_order_of_the_numbers(rt: HostRuntime) -> Result<(), Fail> {
+    let (rt, alloc) = (&rt, rt.alloc());
+    tenfold(rt, alloc, 1, &[7, 3, 5, 3, 9], &[70, 30, 50, 30, 90])?;
+    tenfold(rt, alloc, 2, &[7, 3, 5, 3, 9], &[70, 30, 50, 30, 90])?;
+    tenfold(rt, alloc, 3, &[7, 3, 5, 3, 9], &[70, 30, 50, 30, 90])?;
+    tenfold(rt, alloc, 16, &[7, 3, 5, 3, 9], &[70, 30, 50, 30, 90])?;
+    tenfold(rt, alloc, 2, &[], &[])
+}
+
+#[test]
+fn two_pieces_of_a_group_are_at_work_at_one_time(rt: HostRuntime) -> Result<(), Fail> {
+    let gate = Meeting {
+        flags: [AtomicBool::new(false), AtomicBool::new(false)],
+        seen: [AtomicBool::new(false), AtomicBool::new(false)],
+    };
+    let piece = |number: u32| -> u32 { number };
+    let found = fan_out(&rt, rt.alloc(), &gate, 2, &[0, 1], &piece)?;
+    assert_eq!(&rt; found.as_slice(), [0, 1].as_slice());
+    assert!(&rt; gate.seen[0].load(Ordering::SeqCst));
+    assert!(&rt; gate.seen[1].load(Ordering::SeqCst));
+    Ok(())
+}
+
+#[test]
+fn each_piece_passes_the_gate_once(rt: HostRuntime) -> Result<(), Fail> {
+    let gate = Counting {
+        passed: [
+            AtomicU32::new(0),
+            AtomicU32::new(0),
+            AtomicU32::new(0),
+            AtomicU32::new(0),
+        ],
+    };
+    let piece = |number: u32| -> u32 { number };
+    let numbers = places(rt.alloc(), 4)?;
+    fan_out(&rt, rt.alloc(), &gate, 3, numbers.as_slice(), &piece)?;
+    assert_eq!(&rt; gate.passed[0].load(Ordering::SeqCst), 1);
+    assert_eq!(&rt; gate.passed[1].load(Ordering::SeqCst), 1);
+    assert_eq!(&rt; gate.passed[2].load(Ordering::SeqCst), 1);
+    assert_eq!(&rt; gate.passed[3].load(Ordering::SeqCst), 1);
+    Ok(())
+}
+
+#[test]
+fn a_group_begins_after_the_one_before_has_ended(rt: HostRuntime) -> Result<(), Fail> {
+    let gate = Grouped {
+        ended: AtomicU32::new(0),
+        early: AtomicU32::new(0),
+    };
+    let piece = |number: u32| -> u32 {
+        gate.ended.fetch_add(1, Ordering::SeqCst);
+        number
+    };
+    let numbers = places(rt.alloc(), 16)?;
+    let found = fan_out(&rt, rt.alloc(), &gate, 2, numbers.as_slice(), &piece)?;
+    assert_eq!(&rt; found.as_slice(), numbers.as_slice());
+    assert_eq!(&rt; gate.early.load(Ordering::SeqCst), 0);
+    Ok(())
+}
+
+#[test]
+fn a_piece_out_of_memory_ends_all(rt: HostRuntime) -> Result<(), Fail> {
+    let piece = |number: u32| -> Result<u32, AllocError> {
+        if number == 2 {
+            Err(AllocError)
+        } else {
+            Ok(number)
+        }
+    };
+    let found = gather(&rt, rt.alloc(), &NoGate, 2, &[0, 1, 3], &piece)?;
+    assert_eq!(&rt; found.as_slice(), [0, 1, 3].as_slice());
+    assert!(&rt; gather(&rt, rt.alloc(), &NoGate, 2, &[0, 1, 2, 3], &piece).is_err());
+    Ok(())
+}
