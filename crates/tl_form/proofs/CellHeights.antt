@@ -9,7 +9,7 @@ use Rattle.tl_table.specs.declared.cell.Table.{Table}
 use Rattle.tl_table.specs.declared.cell.TableCell.{TableCell, out-TableCell}
 use Rattle.tl_table.specs.Tables.{OpenCell, OpenContent, tables_in, tables_of}
 use Rattle.tl_form.specs.Problems.{BlockNeeds, CellNeeds}
-use Rattle.tl_table.specs.Sound.{IsSpelt, cell_size, content_size, table_size}
+use Rattle.tl_table.specs.Sound.{IsSpeltBlock, cell_size, content_size, table_size}
 use Rattle.tl_form.proofs.LineCounts.{lines-le}
 use Rattle.tl_table.proofs.SizesOpen.{cell_size-out, content_size-out, open_size}
 use Rattle.tl_table.proofs.SoundParts.{each_joined}
@@ -73,13 +73,13 @@ module _ (needs : Table → ℕ → ℕ → Type 0) (w : ℕ) where
   abbrev pub IsSmall : Table → Type 0
   IsSmall nested = (h : ℕ) → needs nested w h → h ≤ 2 * table_size nested
 
-  block-small : (block : OpenContent) (h : ℕ) → IsSpelt block → AllByRecursion IsSmall (tables_of block) →
+  block-small : (block : OpenContent) (h : ℕ) → IsSpeltBlock block → AllByRecursion IsSmall (tables_of block) →
       BlockNeeds needs block w h →
       h ≤ 2 * open_size block
   block-small (open_content.Para paragraph) h spelt small need = omega (arith, lines-le paragraph w h spelt need)
   block-small (open_content.Table box) h spelt small need = small.0 h need
 
-  blocks-small : (blocks : List Content) (heights : List ℕ) → AllByRecursion (λ block. IsSpelt (out-Content block)) blocks →
+  blocks-small : (blocks : List Content) (heights : List ℕ) → AllByRecursion (λ block. IsSpeltBlock (out-Content block)) blocks →
       AllByRecursion (λ block. AllByRecursion IsSmall (tables_of (out-Content block))) blocks →
       AllZip (λ block height. BlockNeeds needs (out-Content block) w height) blocks heights →
       sum heights ≤ 2 * sum_by content_size blocks
@@ -96,7 +96,7 @@ module _ (needs : Table → ℕ → ℕ → Type 0) (w : ℕ) where
         blocks-small blocks heights spelt.1 small.1 need.1,
       )
 
-  pub cell-small : (cell : TableCell) (h : ℕ) → AllByRecursion (λ block. IsSpelt (out-Content block))
+  pub cell-small : (cell : TableCell) (h : ℕ) → AllByRecursion (λ block. IsSpeltBlock (out-Content block))
       (out-TableCell cell).blocks →
       AllByRecursion IsSmall (tables_in (out-TableCell cell)) → CellNeeds needs (out-TableCell cell) w h →
       h + 2 ≤ 2 * cell_size cell

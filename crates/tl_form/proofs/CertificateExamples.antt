@@ -19,7 +19,7 @@ use Rattle.tl_table.specs.declared.cell.Table.{Table, out-Table}
 use Rattle.tl_form.specs.Expected.{Document, Due, next_width, placed_width, due_in, next_due, due_from, due_after, IsDue}
 use Rattle.tl_form.specs.Expected.{AreExpected}
 use Rattle.tl_form.specs.Named.{IsChosen}
-use Rattle.tl_form.specs.Nested.{IsAsWide, IsWithin, IsGreatestLower, IsLeastFound}
+use Rattle.tl_form.specs.Nested.{IsAsWide, IsPlacedWithin, IsGreatestLower, IsLeastFound}
 use Rattle.tl_form.specs.Valid.{EndsWith}
 
 -- a section by its table, page, height, lower bound and widths
@@ -139,14 +139,14 @@ lower_at_10 = record {
 found_at_9 : IsLeastFound Plain nested 1 9 3
 found_at_9 = record {
   attained = (1, narrow, omega arith, refl, (record { of = refl; narrow = omega arith }, refl));
-  never_less = All-from_recursion (λ s. IsWithin Plain 1 9 s → 3 ≤ s.height) nested
+  never_less = All-from_recursion (λ s. IsPlacedWithin Plain 1 9 s → 3 ≤ s.height) nested
       ((λ counts. absurd (omega (arith, counts.narrow))), ((λ counts. omega arith), tt));
 }
 
 found_at_10 : IsLeastFound Plain nested 1 10 2
 found_at_10 = record {
   attained = (0, wide, omega arith, refl, (record { of = refl; narrow = omega arith }, refl));
-  never_less = All-from_recursion (λ s. IsWithin Plain 1 10 s →
+  never_less = All-from_recursion (λ s. IsPlacedWithin Plain 1 10 s →
       2 ≤ s.height) nested ((λ counts. omega arith), ((λ counts. omega arith), tt));
 }
 
@@ -170,7 +170,7 @@ chosen_in_10 = record {
   least = least;
   first = λ j d before fits. absurd (omega (arith, before));
 } where
-  least : (j : ℕ) (d : Section) → j < length all → IsWithin Plain 1 10 (get_or all j d) → 2 ≤ (get_or all j d).height
+  least : (j : ℕ) (d : Section) → j < length all → IsPlacedWithin Plain 1 10 (get_or all j d) → 2 ≤ (get_or all j d).height
   least zero d within fits = omega arith
   least (suc zero) d within fits = omega arith
   least (suc (suc zero)) d within fits = omega arith

@@ -8,7 +8,7 @@ use Rattle.std.proofs.lemmas.List.Elements.{All-contains, All-from_recursion}
 use Rattle.tl_base.specs.declared.limits.TheConstants.{MAX_CELLS, MAX_TABLES}
 use Rattle.tl_base.specs.declared.style.Style.{Style}
 use Rattle.tl_base.proofs.Members.{Contains-flat_map, AllByRecursion-append, AllByRecursion-weaker}
-use Rattle.tl_cert.specs.Pieces.{AllWithin, IsWithin, character, number, word}
+use Rattle.tl_cert.specs.Pieces.{AllWithin, IsPieceInRange, character, number, word}
 use Rattle.tl_cert.specs.declared.limits.TheConstants.{MAX_TABLE}
 use Rattle.tl_cert.specs.Text.{IsChainWritable, entry_pieces, inner_pieces, space}
 use Rattle.tl_base.specs.declared.chain.Chain.{Chain}
@@ -35,7 +35,7 @@ entries-within [] each = tt
 entries-within (entry ∷ entries) each =
     subst AllWithin (sym (flat_map-cons (λ one. character space ∷ entry_pieces one) entry entries)) (
       tt,
-      AllByRecursion-append IsWithin (entry_pieces entry) (flat_map (λ one. character space ∷ entry_pieces one) entries)
+      AllByRecursion-append IsPieceInRange (entry_pieces entry) (flat_map (λ one. character space ∷ entry_pieces one) entries)
           each.0 (entries-within entries each.1),
     )
 
@@ -43,12 +43,12 @@ chain-within : (chain : Chain) → 0 < length chain.entries → chain.table < MA
     AllByRecursion IsEntryWithin chain.entries → IsChainWritable chain
 chain-within chain some low each = (
   omega (arith, some),
-  AllByRecursion-append IsWithin (word (codes "chain "))
+  AllByRecursion-append IsPieceInRange (word (codes "chain "))
       (number 0 MAX_TABLE chain.table ∷ (flat_map (λ entry. character space ∷ entry_pieces entry) chain.entries ++ word
       (codes "\n")))
       (within-word (codes "chain ")) (
         (omega arith, omega (arith, low)),
-        AllByRecursion-append IsWithin (flat_map (λ entry. character space ∷ entry_pieces entry) chain.entries)
+        AllByRecursion-append IsPieceInRange (flat_map (λ entry. character space ∷ entry_pieces entry) chain.entries)
             (word (codes "\n"))
             (entries-within chain.entries each) (within-word (codes "\n")),
       ),

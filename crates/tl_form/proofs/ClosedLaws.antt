@@ -16,13 +16,13 @@ use Rattle.tl_cert.specs.declared.section.Section.{Section}
 use Rattle.tl_cert.proofs.WorkedLaws.{worked-lower}
 use Rattle.tl_table.specs.declared.cell.Table.{Table, out-Table}
 use Rattle.tl_form.specs.declared.heights.InnerSteps.{InnerSteps}
-use Rattle.tl_form.specs.ClosedLaws.{IsClosed, IsKnownAt, ClosedTellLeast, BudgetCloses}
+use Rattle.tl_form.specs.ClosedLaws.{IsClosedSection, IsKnownAt, ClosedTellLeast, BudgetCloses}
 use Rattle.tl_form.specs.CountLaws.{CountsRise}
 use Rattle.tl_form.specs.Expected.{Document, IsTableOf, least_of, placed_width, due_after}
 use Rattle.tl_table.specs.declared.layout.Layout.{Layout}
 use Rattle.tl_table.specs.Layouts.{Fits}
 use Rattle.tl_table.specs.Least.{IsLeastWidth}
-use Rattle.tl_form.specs.Nested.{IsAsWide, IsWithin, IsGreatestLower, IsLeastFound, AreStepsBy, AreInnerSteps}
+use Rattle.tl_form.specs.Nested.{IsAsWide, IsPlacedWithin, IsGreatestLower, IsLeastFound, AreStepsBy, AreInnerSteps}
 use Rattle.tl_form.specs.ProblemLaws.{BoundsMeet, LayoutsAreByLow, LayoutsByHighFit, TrueWhereBoundsMeet}
 use Rattle.tl_form.specs.Problems.{InnerNeeds, IsCountAll, IsTrueProblem}
 use Rattle.tl_table.specs.Tables.{IsAmong, inner_tables}
@@ -40,7 +40,7 @@ use Rattle.tl_form.proofs.Truth.{Fits-wider, IsTrue, all_true, high_is_above, lo
 
 module _ (document : Document) (before : List Section) (true_before : All (IsTrue document) before) (one : Table)
     (among : IsAmong document.table one) (w : ℕ) (told : AreTold document.style before (out-Table one).number w)
-    (closed : All (λ section. section.table ≡ (out-Table one).number → IsClosed section) before) where
+    (closed : All (λ section. section.table ≡ (out-Table one).number → IsClosedSection section) before) where
   pub known_at : (h : ℕ) × IsKnownAt document.style before one w h
   known_at = (
     low.0,
@@ -78,7 +78,7 @@ module _ (document : Document) (before : List Section) (true_before : All (IsTru
     -- a layout has `high`
     found : (layout : Layout) × Fits one document.style w high.0 layout
     found =
-        let at = any_item (λ section. IsWithin document.style (out-Table one).number w section × (section.height ≡ high.0))
+        let at = any_item (λ section. IsPlacedWithin document.style (out-Table one).number w section × (section.height ≡ high.0))
         before high.1.attained in
         let tells = All-contains (IsTrue document) before at.0 true_before at.1 in
         let laid = tells.found one (named at.0 at.2.0.of) in (
@@ -97,10 +97,10 @@ module _ (document : Document) (before : List Section) (true_before : All (IsTru
           All-contains (λ each. IsAsWide (out-Table one).number w each →
               each.lower ≤ low.0) before section low.1.never_more told.1
               (record { of = tells.of; wide = tells.wide }),
-          All-contains (λ each. IsWithin document.style (out-Table one).number w each →
+          All-contains (λ each. IsPlacedWithin document.style (out-Table one).number w each →
               high.0 ≤ each.height) before section high.1.never_less told.1
               (record { of = tells.of; narrow = tells.narrow }),
-          All-contains (λ each. each.table ≡ (out-Table one).number → IsClosed each) before section closed told.1 tells.of,
+          All-contains (λ each. each.table ≡ (out-Table one).number → IsClosedSection each) before section closed told.1 tells.of,
         )
 
 -- one greatest lower bound
@@ -118,7 +118,7 @@ lower_once sections number w a b is are =
 -- ---- the next section
 
 module _ (document : Document) (on : IsOnPage document) (before : List Section) (true_before : All (IsTrue document) before)
-    (closed : All IsClosed before) (section : Section)
+    (closed : All IsClosedSection before) (section : Section)
     (stood : Stands document before (record { table = section.table; width = section.width })) (one : Table)
     (named : IsTableOf document section.table one) (inner : List InnerSteps)
     (steps : AreInnerSteps one document.style section.width before inner) where
@@ -180,9 +180,9 @@ module _ (by_low : LayoutsAreByLow) (by_high : LayoutsByHighFit) (meet : TrueWhe
     (on : IsOnPage document) (budget most : ℕ) (all : IsCountAll document.table document.style document.page most)
     (enough : most ≤ budget)
     (small : budget < 2 ^ 64 - 1) where
-  next_closes : (before : List Section) → All (IsTrue document) before → All IsClosed before → (section : Section) →
+  next_closes : (before : List Section) → All (IsTrue document) before → All IsClosedSection before → (section : Section) →
       Stands document before (record { table = section.table; width = section.width }) → IsGood document budget before section →
-      IsClosed section
+      IsClosedSection section
   next_closes before true_before closed section stood good =
       let own = good.laid.own in
       let real = (meet own.one document.style section.width own.inner good.problem own.made own.sound
@@ -196,8 +196,8 @@ module _ (by_low : LayoutsAreByLow) (by_high : LayoutsByHighFit) (meet : TrueWhe
       (low_is_high own.one document.style section.width good.problem real) (omega (arith, few, many.2, enough)) small good.traced
 
   pub all_closed : (sections : List Section) (n : ℕ) → n ≤ length sections → AreGoodBelow document budget sections n →
-      All IsClosed (take n sections)
-  all_closed sections zero within good = All-nil IsClosed
+      All IsClosedSection (take n sections)
+  all_closed sections zero within good = All-nil IsClosedSection
   all_closed sections (suc n) within good = λ i d less.
       let same : n + 1 ≡ suc n = omega arith in
       let section = get_or sections n d in
@@ -208,8 +208,8 @@ module _ (by_low : LayoutsAreByLow) (by_high : LayoutsByHighFit) (meet : TrueWhe
       let stood = stands document (some_number document on) (leasts document on) sections n (omega (arith, within))
       (λ j e below. good_follows document budget (take j sections) (get_or sections j e) (good j e (omega (arith, below))))
       (record { table = section.table; width = section.width }) is.due in
-      subst (λ many. All IsClosed (take many sections)) same
-      (All-more IsClosed sections n d (omega (arith, within)) before
+      subst (λ many. All IsClosedSection (take many sections)) same
+      (All-more IsClosedSection sections n d (omega (arith, within)) before
       (next_closes (take n sections) told before section stood is)) i d less
 
 -- ---- for a table

@@ -13,7 +13,7 @@ use Rattle.tl_table.specs.declared.cell.Table.{Table, out-Table}
 use Rattle.tl_form.specs.declared.heights.InnerSteps.{InnerSteps}
 use Rattle.tl_form.specs.Expected.{placed_width}
 use Rattle.tl_table.specs.Least.{IsLeastWidth}
-use Rattle.tl_form.specs.Nested.{IsAsWide, IsWithin, IsGreatestLower, IsLeastFound, AreStepsBy}
+use Rattle.tl_form.specs.Nested.{IsAsWide, IsPlacedWithin, IsGreatestLower, IsLeastFound, AreStepsBy}
 use Rattle.tl_form.specs.Problems.{AreStepsOf}
 use Rattle.tl_form.specs.inner.Collecting.{IsMost, IsFewest}
 use Rattle.tl_form.proofs.BestOf as best
@@ -78,7 +78,7 @@ as_wide number w section = elim (cases_eq section.table number) [
 ]
 
 within : (style : Style) (number w : ℕ) (section : Section) →
-    IsWithin style number w section ⊎ (IsWithin style number w section → ⊥)
+    IsPlacedWithin style number w section ⊎ (IsPlacedWithin style number w section → ⊥)
 within style number w section = elim (cases_eq section.table number) [
   | inl same ↦ elim (cases_lt w (placed_width style section)) [
     | inl wide ↦ inr (λ is. omega (arith, wide, is.narrow))
@@ -99,8 +99,8 @@ lower_told style sections number w (section, has, tells) =
 pub height_told : (style : Style) (sections : List Section) (number w : ℕ) → AreTold style sections number w →
     (height : ℕ) × IsLeastFound style sections number w height
 height_told style sections number w (section, has, tells) =
-    elim (fewest_of (IsWithin style number w) (λ one. one.height) (within style number w) section sections) [
-      | inl none ↦ absurd (All-contains (λ one. IsWithin style number w one →
+    elim (fewest_of (IsPlacedWithin style number w) (λ one. one.height) (within style number w) section sections) [
+      | inl none ↦ absurd (All-contains (λ one. IsPlacedWithin style number w one →
           ⊥) sections section none has (record { of = tells.of; narrow = tells.narrow }))
       | inr found ↦ (found.0, record { attained = found.1.attained; never_less = found.1.never_less })
     ]
@@ -117,8 +117,9 @@ found_falls : (style : Style) (sections : List Section) (number v w a b : ℕ) �
     IsLeastFound style sections number w b → b ≤ a
 found_falls style sections number v w a b wider first second =
     let at = first.attained in
-    let least = subst (λ section. IsWithin style number w section → b ≤ section.height) at.3
-    (All-get_or (λ section. IsWithin style number w section → b ≤ section.height) sections at.0 at.1 at.2 second.never_less) in
+    let least = subst (λ section. IsPlacedWithin style number w section → b ≤ section.height) at.3
+    (All-get_or (λ section. IsPlacedWithin style number w section →
+    b ≤ section.height) sections at.0 at.1 at.2 second.never_less) in
     omega (arith, at.4.1, least (record { of = at.4.0.of; narrow = omega (arith, at.4.0.narrow, wider) }))
 
 -- ---- steps of what is there at each width from the least one up to the page, and falls

@@ -7,7 +7,7 @@ use Rattle.std.proofs.lemmas.List.Elements.{recursion_from_All}
 use Rattle.tl_text.specs.declared.paragraph.Atom.{Atom}
 use Rattle.tl_text.specs.declared.paragraph.Atom.TheVariants.{Word, Glue, Break}
 use Rattle.tl_text.specs.Cuttings.{IsPieceCut, LeastLines, joined}
-use Rattle.tl_text.specs.Paragraph.{IsParagraph, IsSpelt, atom_size, lined_pieces}
+use Rattle.tl_text.specs.Paragraph.{IsParagraph, IsSpeltAtom, atom_size, lined_pieces}
 use Rattle.tl_text.proofs.Sizes.{length-le}
 
 -- lines with units, joined, have no fewer units than they are lines
@@ -69,5 +69,5 @@ lines-le atoms w n is least =
       cut.3,
       pieces-few (lined_pieces atoms) cut.0 cut.1,
       pieces-count atoms,
-      length-le atoms (recursion_from_All IsSpelt atoms is.spelt),
+      length-le atoms (recursion_from_All IsSpeltAtom atoms is.spelt),
     )

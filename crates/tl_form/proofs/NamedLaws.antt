@@ -34,7 +34,7 @@ use Rattle.tl_table.specs.declared.layout.Layout.{Layout, out-Layout}
 use Rattle.tl_form.specs.Expected.{Document, IsDocumentOf, IsTableOf, own_number, placed_width}
 use Rattle.tl_table.specs.Layouts.{Share, Fits, FitsRoom, FitsShare, width_for}
 use Rattle.tl_form.specs.Named.{IsChosen, AreLaidIn, IsLaidWithin, IsNamedBy}
-use Rattle.tl_form.specs.Nested.{IsWithin, IsLeastFound, AreInnerSteps}
+use Rattle.tl_form.specs.Nested.{IsPlacedWithin, IsLeastFound, AreInnerSteps}
 use Rattle.tl_form.specs.ProblemLaws.{LayoutsAreByLow, LayoutsByHighFit}
 use Rattle.tl_form.specs.Problems.{BlockNeeds, CellNeeds, InnerNeeds, IsCellBy, IsProblemOf}
 use Rattle.tl_table.specs.Tables.{IsAmong, OpenCell, OpenContent, tables_of, tables_in, inner_tables}
@@ -341,11 +341,11 @@ module _ (document : Document) (sound : IsSound document.table) (budget : ℕ) (
           let early : k < i = omega (arith, told.2, length-take i sections, before) in
           let same : get_or sections k d ≡ told.1 =
           get_or_default sections k d told.1 inside ∙ sym (get_or-take i sections k told.1 early) ∙ told.3 in
-          let counts : IsWithin document.style (out-Table nested).number w told.1 =
-          subst (λ n. IsWithin document.style n w told.1) found.numbered told.4.0 in
+          let counts : IsPlacedWithin document.style (out-Table nested).number w told.1 =
+          subst (λ n. IsPlacedWithin document.style n w told.1) found.numbered told.4.0 in
           omega (
             arith,
-            chosen.least k d inside (subst (IsWithin document.style (out-Table nested).number w) (sym same) counts),
+            chosen.least k d inside (subst (IsPlacedWithin document.style (out-Table nested).number w) (sym same) counts),
             ap (λ (s : Section). s.height) same,
             told.4.1,
           )

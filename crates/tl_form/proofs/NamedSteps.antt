@@ -37,8 +37,8 @@ use Rattle.tl_table.specs.declared.layout.Layout.{Layout, out-Layout}
 use Rattle.tl_form.specs.Expected.{Document, IsTableOf, own_number, placed_width}
 use Rattle.tl_table.specs.Layouts.{Fits}
 use Rattle.tl_table.specs.Least.{IsLeastWidth}
-use Rattle.tl_form.specs.Named.{IsNamed, IsChosen, IsLaidWithin, IsLayoutBy, IsPlacementOf}
-use Rattle.tl_form.specs.Nested.{IsWithin, IsProblemFor}
+use Rattle.tl_form.specs.Named.{IsNamed, IsChosen, IsLaidWithin, IsNamedLayoutBy, IsPlacementOf}
+use Rattle.tl_form.specs.Nested.{IsPlacedWithin, IsProblemFor}
 use Rattle.tl_form.specs.ProblemLaws.{LayoutsAreByLow, LayoutsByHighFit}
 use Rattle.tl_form.specs.Problems.{InnerNeeds, IsCellBy}
 use Rattle.tl_table.specs.Sound.{IsSound, IsSoundWithin}
@@ -51,7 +51,8 @@ use Rattle.tl_table.proofs.SoundParts.{at_item, both_each, each_joined}
 use Rattle.tl_form.proofs.ValidLaws.{IsOwnLast, own_last}
 use Rattle.tl_table.proofs.TableNumbers.{sound_among}
 use Rattle.tl_form.proofs.Truth.{IsTrue, all_true, height_from, nested_among, steps_found}
-use Rattle.tl_form.specs.inner.Naming.{CanLay, HasRoom, HasRooms, IsLaidIn, IsLaidOut, IsPart, IsPlacedBy, LaysOut, NoneWithin}
+use Rattle.tl_form.specs.inner.Naming.{CanLay, HasLayoutRoom, HasRooms, IsLaidIn, IsLaidOut, IsPart, IsPlacedBy, LaysOut}
+use Rattle.tl_form.specs.inner.Naming.{NoneWithin}
 use Rattle.tl_form.proofs.Placing.{for_one, laid_at}
 
 -- the room that columns of these widths give a cell
@@ -157,14 +158,15 @@ module _ (document : Document) (budget : ℕ) (style : Style) (sections : List S
               let same : any.1 ≡ get_or sections any.0 d =
               sym any.3 ∙ get_or-take at sections any.0 any.1 few ∙ get_or_default sections any.0 any.1 d
               (omega (arith, few, there)) in
-              subst (IsWithin style (out-Table nested).number w) same
-              (subst (λ n. IsWithin style n w any.1) found.numbered any.4.0);
+              subst (IsPlacedWithin style (out-Table nested).number w) same
+              (subst (λ n. IsPlacedWithin style n w any.1) found.numbered any.4.0);
         }
 
     cell_room : (cell : TableCell) → Contains (out-Table table).cells cell → (made : Cell) →
         IsCellBy (InnerNeeds (λ one. one.low) of.inner) (InnerNeeds (λ one. one.high) of.inner) section.width
         (out-TableCell cell) made →
-        IsSoundCell problem made → first_width made.low ≤ cell_width problem widths made → HasRoom style sections widths cell
+        IsSoundCell problem made → first_width made.low ≤ cell_width problem widths made →
+        HasLayoutRoom style sections widths cell
     cell_room cell has made is_made sound_made wide = record {
       some = some;
       within = inside;
@@ -216,7 +218,7 @@ module _ (document : Document) (budget : ℕ) (style : Style) (sections : List S
         section.width (out-TableCell cell) one)
         cells made → AllByRecursion (λ one. IsSoundCell problem one × (first_width one.low ≤ cell_width problem widths one))
         made →
-        AllByRecursion (HasRoom style sections widths) cells
+        AllByRecursion (HasLayoutRoom style sections widths) cells
     cells_rooms [] made all is_made fine = tt
     cells_rooms (cell ∷ cells) [] all is_made fine = absurd is_made
     cells_rooms (cell ∷ cells) (one ∷ made) all is_made fine = (
@@ -236,7 +238,7 @@ module _ (document : Document) (budget : ℕ) (style : Style) (sections : List S
         narrow,
       );
       few = omega (arith, ap length same, page.columns, of.sound.few_columns);
-      each = subst (λ ws. AllByRecursion (HasRoom style sections ws) (out-Table table).cells) (sym same)
+      each = subst (λ ws. AllByRecursion (HasLayoutRoom style sections ws) (out-Table table).cells) (sym same)
           (cells_rooms (out-Table table).cells problem.cells (λ cell has. has) of.made.made
           (both_each (IsSoundCell problem) (λ one. first_width one.low ≤ cell_width problem widths one) problem.cells
           (recursion_from_All (IsSoundCell problem) problem.cells of.sound.cells)
@@ -391,7 +393,7 @@ laid_out style sections at table placed inner layout is own cells document budge
 laid_out style sections at table placed inner layout is own cells document budget part (suc depth) sound = (
   placed,
   own document budget part,
-  subst (IsLayoutBy (Laid document budget style sections table part depth) document.style (out-Table table) placed) (sym is)
+  subst (IsNamedLayoutBy (Laid document budget style sections table part depth) document.style (out-Table table) placed) (sym is)
       (record {
         columns = refl;
         lines = refl;

@@ -18,7 +18,7 @@ use Rattle.tl_cert.specs.Traces.{zone_at}
 use Rattle.tl_cert.specs.Worked.{IsWorked}
 use Rattle.tl_cert.proofs.TraceLaws.{zones-are}
 use Rattle.tl_cert.proofs.WorkedLaws.{agree-everywhere}
-use Rattle.tl_form.specs.ClosedLaws.{IsClosed}
+use Rattle.tl_form.specs.ClosedLaws.{IsClosedSection}
 use Rattle.tl_form.specs.Expected.{Document}
 use Rattle.tl_form.specs.OpenLaws.{IsSpent, OpenSpends}
 use Rattle.tl_form.specs.ProblemLaws.{LayoutsAreByLow, LayoutsByHighFit, TrueWhereBoundsMeet}
@@ -57,9 +57,9 @@ module _ (by_low : LayoutsAreByLow) (by_high : LayoutsByHighFit) (meet : TrueWhe
     (on : IsOnPage document)
     (budget : ℕ) where
   -- after closed sections a good one is closed, or has spent the budget
-  closed_or_spent : (before : List Section) → All (IsTrue document) before → All IsClosed before → (section : Section) →
+  closed_or_spent : (before : List Section) → All (IsTrue document) before → All IsClosedSection before → (section : Section) →
       Stands document before (record { table = section.table; width = section.width }) → IsGood document budget before section →
-      IsClosed section ⊎ IsSpent budget section
+      IsClosedSection section ⊎ IsSpent budget section
   closed_or_spent before true_before closed section stood good =
       let own = good.laid.own in
       let real = (meet own.one document.style section.width own.inner good.problem own.made own.sound
@@ -99,8 +99,8 @@ module _ (by_low : LayoutsAreByLow) (by_high : LayoutsByHighFit) (meet : TrueWhe
   )
 
   all_or_spent : (sections : List Section) (d : Section) (n : ℕ) → n ≤ length sections → AreGoodBelow document budget sections n →
-      All IsClosed (take n sections) ⊎ Any (IsSpent budget) (take n sections)
-  all_or_spent sections d zero within good = inl (All-nil IsClosed)
+      All IsClosedSection (take n sections) ⊎ Any (IsSpent budget) (take n sections)
+  all_or_spent sections d zero within good = inl (All-nil IsClosedSection)
   all_or_spent sections d (suc n) within good =
       elim (all_or_spent sections d n (omega (arith, within)) (λ j e below. good j e (omega (arith, below)))) [
         | inr spent ↦ inr (later (IsSpent budget) sections n (omega (arith, within)) spent)
@@ -114,8 +114,8 @@ module _ (by_low : LayoutsAreByLow) (by_high : LayoutsByHighFit) (meet : TrueWhe
             (record { table = section.table; width = section.width }) is.due in
             let same : n + 1 ≡ suc n = omega arith in
             elim (closed_or_spent (take n sections) told closed section stood is) [
-              | inl one ↦ inl (subst (λ many. All IsClosed (take many sections)) same
-                  (All-more IsClosed sections n d (omega (arith, within)) closed one))
+              | inl one ↦ inl (subst (λ many. All IsClosedSection (take many sections)) same
+                  (All-more IsClosedSection sections n d (omega (arith, within)) closed one))
               | inr spent ↦ inr (here (IsSpent budget) sections n d (omega (arith, within)) spent)
             ]
       ]
@@ -126,7 +126,8 @@ module _ (by_low : LayoutsAreByLow) (by_high : LayoutsByHighFit) (meet : TrueWhe
   open_spent sections n within good i d inside below = elim (all_or_spent sections d n within good) [
     | inr spent ↦ spent
     | inl closed ↦
-        let is = All-get_or IsClosed (take n sections) i d (omega (arith, inside, length-take n sections, within)) closed in
+        let is = All-get_or IsClosedSection (take n sections) i d
+        (omega (arith, inside, length-take n sections, within)) closed in
         let same = ap (λ (section : Section). section.lower) (get_or-take n sections i d inside) in
         let also = ap (λ (section : Section). section.height) (get_or-take n sections i d inside) in
         absurd (omega (arith, is, same, also, below))

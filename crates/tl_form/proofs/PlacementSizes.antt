@@ -23,7 +23,7 @@ use Rattle.tl_table.specs.declared.cell.Table.{Table, out-Table}
 use Rattle.tl_table.specs.declared.cell.TableCell.{TableCell, out-TableCell}
 use Rattle.tl_form.specs.declared.heights.InnerSteps.{InnerSteps}
 use Rattle.tl_form.specs.Problems.{InnerNeeds, IsCellBy, IsProblemOf}
-use Rattle.tl_table.specs.Sound.{IsSoundBy, IsSoundWithin, IsSpelt, place_of, table_size}
+use Rattle.tl_table.specs.Sound.{IsSoundBy, IsSoundWithin, IsSpeltBlock, place_of, table_size}
 use Rattle.tl_form.specs.SoundProblems.{AreSoundPremises}
 use Rattle.tl_form.proofs.LowPlacements.{length-rows, row_heights, row_weight, rows-enough, rows-total, weight-le}
 use Rattle.tl_form.proofs.NeedSteps.{first-least, height-falls, height-first}
@@ -128,7 +128,7 @@ module _ (table : Table) (style : Style) (page : ℕ) (inner : List InnerSteps) 
       (omega (
         arith,
         cells-small inner style page (out-Table table).cells problem.cells of.made (have table style page inner given)
-            (recursion_from_All (λ cell. AllByRecursion (λ block. IsSpelt (out-Content block)) (out-TableCell cell).blocks)
+            (recursion_from_All (λ cell. AllByRecursion (λ block. IsSpeltBlock (out-Content block)) (out-TableCell cell).blocks)
             (out-Table table).cells by.spelt),
         table_size-out table,
         AllZip-length (λ cell one. IsCellBy (InnerNeeds (λ any. any.low) inner) (InnerNeeds (λ any. any.high) inner) page

@@ -25,7 +25,7 @@ use Rattle.tl_table.specs.declared.layout.Layout.{Layout, out-Layout}
 use Rattle.tl_table.specs.Tables.{tables_in}
 use Rattle.tl_table.specs.Layouts.{Fits, FitsBy, FitsRoom, FitsWithin}
 use Rattle.tl_form.specs.Problems.{CellNeeds, HasSoundProblem, InnerNeeds, IsCellBy}
-use Rattle.tl_table.specs.Sound.{IsSoundBy, IsSoundWithin, IsSpelt, cell_size, place_of}
+use Rattle.tl_table.specs.Sound.{IsSoundBy, IsSoundWithin, IsSpeltBlock, cell_size, place_of}
 use Rattle.tl_form.specs.SoundProblems.{AreSoundPremises}
 use Rattle.tl_form.proofs.CellNeedLemmas.{inner-functional}
 use Rattle.tl_form.proofs.NeedSteps.{first-least}
@@ -147,7 +147,7 @@ module _ (inner : List InnerSteps) (style : Style) (page : ℕ) where
 
   pub cells-small : (cells : List TableCell) (made : List Cell) → AllZip Made cells made →
       AllByRecursion (λ cell. AllByRecursion (HasSound inner style page) (tables_in (out-TableCell cell))) cells →
-      AllByRecursion (λ cell. AllByRecursion (λ block. IsSpelt (out-Content block)) (out-TableCell cell).blocks) cells →
+      AllByRecursion (λ cell. AllByRecursion (λ block. IsSpeltBlock (out-Content block)) (out-TableCell cell).blocks) cells →
       sum_by (λ one. first_height one.high) made + 2 * length cells ≤ 2 * sum_by cell_size cells
   cells-small [] [] of have spelt = omega arith
   cells-small [] (one ∷ made) of have spelt = absurd of
@@ -302,7 +302,7 @@ module _ (table : Table) (style : Style) (page : ℕ) (inner : List InnerSteps)
     small : sum_by (λ one. first_height one.high) made.0 + 2 * length (out-Table table).cells ≤ 2 * sum_by cell_size
         (out-Table table).cells
     small = cells-small inner style page (out-Table table).cells made.0 made.1 have
-        (recursion_from_All (λ cell. AllByRecursion (λ block. IsSpelt (out-Content block)) (out-TableCell cell).blocks)
+        (recursion_from_All (λ cell. AllByRecursion (λ block. IsSpeltBlock (out-Content block)) (out-TableCell cell).blocks)
         (out-Table table).cells by.spelt)
 
   pub sound-problem : HasSoundProblem table style page inner

@@ -11,7 +11,7 @@ use Rattle.tl_form.specs.declared.heights.Bound.{Bound}
 use Rattle.tl_form.specs.declared.heights.Bound.TheVariants.{Low, High}
 use Rattle.tl_form.specs.declared.nested_steps.Told.{Told}
 use Rattle.tl_form.specs.Expected.{placed_width}
-use Rattle.tl_form.specs.Nested.{IsAsWide, IsWithin, IsGreatestLower, IsLeastFound}
+use Rattle.tl_form.specs.Nested.{IsAsWide, IsPlacedWithin, IsGreatestLower, IsLeastFound}
 use Rattle.tl_form.specs.inner.Collecting.{IsMost, IsFewest, IsAsWideAs, IsPlacedIn, TellsHeight, told_of, told_by, capped}
 
 -- an item that is so among items that are all so
@@ -108,7 +108,7 @@ module _ (style : Style) (number : ℕ) (sections : List Section) where
   pub found_told : (w h : ℕ) → w < 2 ^ 64 - 1 → IsLeastFound style sections number w h →
       IsFewest (IsPlacedIn w) (λ one. one.height) (told_by style number sections) h
   found_told w h small is =
-      let at = any_item (λ section. IsWithin style number w section × (section.height ≡ h)) sections is.attained in record {
+      let at = any_item (λ section. IsPlacedWithin style number w section × (section.height ≡ h)) sections is.attained in record {
         attained = item_any (λ one. IsPlacedIn w one × (one.height ≡ h)) (told_by style number sections) (told_of style at.0)
             (section_told at.0 at.1 at.2.0.of) (under at.0 at.2.0.narrow, at.2.1);
         never_less = All-from_Contains (λ one. IsPlacedIn w one →
@@ -116,7 +116,7 @@ module _ (style : Style) (number : ℕ) (sections : List Section) where
             let by = told_section one has in
             let narrow : IsPlacedIn w (told_of style by.0) = subst (IsPlacedIn w) (sym by.3) counts in
             subst (λ each. h ≤ each.height) by.3
-            (All-contains (λ section. IsWithin style number w section → h ≤ section.height) sections by.0 is.never_less by.1
+            (All-contains (λ section. IsPlacedWithin style number w section → h ≤ section.height) sections by.0 is.never_less by.1
             (record { of = by.2; narrow = uncapped w by.0 small narrow })));
       }
     where
@@ -128,11 +128,11 @@ module _ (style : Style) (number : ℕ) (sections : List Section) where
   told_found w h small is =
       let at = any_item (λ one. IsPlacedIn w one × (one.height ≡ h)) (told_by style number sections) is.attained in
       let by = told_section at.0 at.1 in record {
-        attained = item_any (λ section. IsWithin style number w section × (section.height ≡ h)) sections by.0 by.1 (
+        attained = item_any (λ section. IsPlacedWithin style number w section × (section.height ≡ h)) sections by.0 by.1 (
           record { of = by.2; narrow = uncapped w by.0 small (subst (IsPlacedIn w) (sym by.3) at.2.0) },
           ap (λ (each : Told). each.height) by.3 ∙ at.2.1,
         );
-        never_less = All-from_Contains (λ section. IsWithin style number w section →
+        never_less = All-from_Contains (λ section. IsPlacedWithin style number w section →
             h ≤ section.height) sections (λ section has counts.
             All-contains (λ one. IsPlacedIn w one → h ≤ one.height) (told_by style number sections) (told_of style section)
             is.never_less

@@ -12,9 +12,9 @@ use Rattle.tl_cert.specs.declared.section.Section.{Section}
 use Rattle.tl_cert.specs.Pieces.{AllWithin, field, word}
 use Rattle.tl_cert.specs.Text.{IsWritable, IsSectionShaped, HasProof, space, line_feed, spaced, cut_pieces, line_pieces}
 use Rattle.tl_cert.specs.Text.{section_pieces, section_head}
-use Rattle.tl_cert.specs.Text.{chain_pieces, claim_pieces, version_word, style_word, has_area, IsNarrow}
+use Rattle.tl_cert.specs.Text.{chain_pieces, claim_pieces, version_word, style_field, has_area, IsNarrow}
 use Rattle.tl_cert.proofs.reading.Spellings.{within-first, within-second}
-use Rattle.tl_form.specs.Nested.{IsInRange}
+use Rattle.tl_form.specs.Nested.{IsSectionInRange}
 
 -- ---- pieces one after the other
 
@@ -32,7 +32,8 @@ within_each (section ∷ sections) (suc i) d within all =
 
 -- ---- the numbers of a section
 
-small_section : (section : Section) → length section.widths ≤ MAX_COLUMNS → AllWithin (section_pieces section) → IsInRange section
+small_section : (section : Section) → length section.widths ≤ MAX_COLUMNS → AllWithin (section_pieces section) →
+    IsSectionInRange section
 small_section section few all =
     let head = within-first (section_head section) (word (codes "widths") ++
     (flat_map (spaced MAX_PAGE_WIDTH) section.widths ++ (word (codes "\n")
@@ -47,7 +48,7 @@ small_section section few all =
 
 pub small_sections : (certificate : Certificate) → IsWritable certificate → (i : ℕ) (d : Section) →
     i < length certificate.sections →
-    IsInRange (get_or certificate.sections i d)
+    IsSectionInRange (get_or certificate.sections i d)
 small_sections c written i d within = small_section (get_or c.sections i d) (few_columns c.claim written.0)
     (within_each c.sections i d within sections)
   where
@@ -60,7 +61,7 @@ small_sections c written i d within = small_section (get_or c.sections i d) (few
         omega (arith, none, within))
 
     width : AllWithin (word (version_word (has_area c.sections)) ++
-        (field 1 MAX_PAGE_WIDTH c.width space ++ (word (style_word c.style)
+        (field 1 MAX_PAGE_WIDTH c.width space ++ (word (style_field c.style)
         ++ (field 0 MAX_BUDGET c.budget line_feed ++ (claim_pieces c.claim ++
         (flat_map chain_pieces c.chains ++ (flat_map section_pieces c.sections
         ++ word (codes "end\n"))))))))
@@ -68,11 +69,11 @@ small_sections c written i d within = small_section (get_or c.sections i d) (few
 
     budget : AllWithin (field 0 MAX_BUDGET c.budget line_feed ++ (claim_pieces c.claim ++ (flat_map chain_pieces c.chains
         ++ (flat_map section_pieces c.sections ++ word (codes "end\n")))))
-    budget = within-second (word (style_word c.style)) (field 0 MAX_BUDGET c.budget line_feed ++
+    budget = within-second (word (style_field c.style)) (field 0 MAX_BUDGET c.budget line_feed ++
         (claim_pieces c.claim ++ (flat_map chain_pieces c.chains
         ++ (flat_map section_pieces c.sections ++ word (codes "end\n")))))
         (within-second (word (version_word (has_area c.sections)))
-        (field 1 MAX_PAGE_WIDTH c.width space ++ (word (style_word c.style)
+        (field 1 MAX_PAGE_WIDTH c.width space ++ (word (style_field c.style)
         ++ (field 0 MAX_BUDGET c.budget line_feed ++ (claim_pieces c.claim ++
         (flat_map chain_pieces c.chains ++ (flat_map section_pieces c.sections
         ++ word (codes "end\n"))))))) width).1.1

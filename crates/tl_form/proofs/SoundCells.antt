@@ -18,7 +18,7 @@ use Rattle.tl_table.specs.declared.layout.Layout.{Layout}
 use Rattle.tl_table.specs.Layouts.{Fits, FitsRoom}
 use Rattle.tl_table.specs.Tables.{OpenCell, tables_in}
 use Rattle.tl_form.specs.Problems.{CellNeeds, InnerNeeds, IsCellBy, steps_for}
-use Rattle.tl_table.specs.Sound.{IsSpelt, cell_size, table_size}
+use Rattle.tl_table.specs.Sound.{IsSpeltBlock, cell_size, table_size}
 use Rattle.tl_form.specs.SoundProblems.{AreSoundSteps}
 use Rattle.tl_table.specs.declared.cell.Content.{out-Content}
 use Rattle.tl_form.proofs.CellHeights.{adds-any, adds-less, cell-by, cell-small}
@@ -218,7 +218,7 @@ module _ (inner : List InnerSteps) (style : Style) (page : ℕ) where
 
   -- a height of a cell is small
   pub high-cell-small : (cell : TableCell) (w h : ℕ) → AllByRecursion HasSound (tables_in (out-TableCell cell)) →
-      AllByRecursion (λ block. IsSpelt (out-Content block)) (out-TableCell cell).blocks →
+      AllByRecursion (λ block. IsSpeltBlock (out-Content block)) (out-TableCell cell).blocks →
       CellNeeds highs (out-TableCell cell) w h →
       h + 2 ≤ 2 * cell_size cell
   high-cell-small cell w h have spelt need =

@@ -15,8 +15,8 @@ use Rattle.tl_table.specs.Sound.{IsSound}
 use Rattle.tl_form.specs.Valid.{AreGoodBelow}
 
 -- a section whose lower bound is its height
-abbrev pub IsClosed : Section → Type 0
-IsClosed section = section.lower ≡ section.height
+abbrev pub IsClosedSection : Section → Type 0
+IsClosedSection section = section.lower ≡ section.height
 
 -- the document of a sound table on a page that some layout of it fits
 pub record IsWideDocument (table : Table) (style : Style) (page : ℕ) (document : Document) : Type 0 where
@@ -38,11 +38,11 @@ ClosedTellLeast = (table : Table) (style : Style) (page budget : ℕ) (document 
     (one : Table) (least w : ℕ) → IsWideDocument table style page document →
     AreGoodBelow document budget sections (length sections) → due_after document sections ≡ Some now →
     IsAmong table one → now.table < (out-Table one).number →
-    All (λ section. section.table ≡ (out-Table one).number → IsClosed section) sections →
+    All (λ section. section.table ≡ (out-Table one).number → IsClosedSection section) sections →
     IsLeastWidth one style least → least ≤ w → w ≤ page → (h : ℕ) × IsKnownAt style sections one w h
 
 -- with a budget of at least the greatest count of the document and its tables, good sections are closed
 abbrev pub BudgetCloses : Type 0
 BudgetCloses = (table : Table) (style : Style) (page budget most n : ℕ) (document : Document) (sections : List Section) →
     IsWideDocument table style page document → IsCountAll table style page most → most ≤ budget → budget < 2 ^ 64 - 1 →
-    n ≤ length sections → AreGoodBelow document budget sections n → All IsClosed (take n sections)
+    n ≤ length sections → AreGoodBelow document budget sections n → All IsClosedSection (take n sections)

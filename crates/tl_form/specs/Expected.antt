@@ -92,6 +92,10 @@ abbrev pub IsDue : Document → List Section → Section → Type 0
 IsDue document before section = due_after document before ≡
     Some (record { table = section.table; width = section.width })
 
+-- the first `count` sections are each the one that is due after those before it
+abbrev pub AreDueInOrder : Document → List Section → ℕ → Type 0
+AreDueInOrder document sections count = (i : ℕ) (d : Section) → i < count → IsDue document (take i sections) (get_or sections i d)
+
 -- these are the sections that a certificate of the document has, as far as tables and widths go
 pub record AreExpected (document : Document) (sections : List Section) : Type 0 where
   pub due : (i : ℕ) (d : Section) → i < length sections → IsDue document (take i sections) (get_or sections i d)

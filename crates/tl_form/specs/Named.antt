@@ -12,7 +12,7 @@ use Rattle.tl_table.specs.declared.cell.TableCell.{out-TableCell}
 use Rattle.tl_table.specs.declared.layout.Layout.{Layout, out-Layout}
 use Rattle.tl_form.specs.Expected.{Document, IsDocumentOf}
 use Rattle.tl_table.specs.Layouts.{OpenLayout, width_for}
-use Rattle.tl_form.specs.Nested.{IsWithin}
+use Rattle.tl_form.specs.Nested.{IsPlacedWithin}
 use Rattle.tl_table.specs.Tables.{OpenTable, OpenCell, tables_in}
 use Rattle.tl_form.specs.Valid.{IsProblemAt, HasPlacement}
 
@@ -20,10 +20,10 @@ use Rattle.tl_form.specs.Valid.{IsProblemAt, HasPlacement}
 -- those before it are higher
 pub record IsChosen (style : Style) (sections : List Section) (number w i : ℕ) : Type 0 where
   pub there : i < length sections
-  pub within : (d : Section) → IsWithin style number w (get_or sections i d)
-  pub least : (j : ℕ) (d : Section) → j < length sections → IsWithin style number w (get_or sections j d) →
+  pub within : (d : Section) → IsPlacedWithin style number w (get_or sections i d)
+  pub least : (j : ℕ) (d : Section) → j < length sections → IsPlacedWithin style number w (get_or sections j d) →
       (get_or sections i d).height ≤ (get_or sections j d).height
-  pub first : (j : ℕ) (d : Section) → j < i → IsWithin style number w (get_or sections j d) →
+  pub first : (j : ℕ) (d : Section) → j < i → IsPlacedWithin style number w (get_or sections j d) →
       (get_or sections i d).height < (get_or sections j d).height
 
 -- the placement of section `i`, on its own problem
@@ -37,7 +37,7 @@ abbrev pub AreLaidIn : (Table → ℕ → Layout → Type 0) → ℕ → OpenCel
 AreLaidIn laid w cell part = AllZip (λ nested one. laid nested w one) (tables_in cell) part
 
 -- the layout has the widths and heights of a placement, and those of the nested tables in the rooms that these give
-pub record IsLayoutBy (laid : Table → ℕ → Layout → Type 0) (style : Style) (table : OpenTable) (placed : Placed)
+pub record IsNamedLayoutBy (laid : Table → ℕ → Layout → Type 0) (style : Style) (table : OpenTable) (placed : Placed)
     (layout : OpenLayout) : Type 0 where
   pub columns : layout.widths ≡ placed.widths
   pub lines : layout.heights ≡ placed.heights
@@ -50,7 +50,7 @@ pub record IsLayoutBy (laid : Table → ℕ → Layout → Type 0) (style : Styl
 abbrev pub IsLaidWithin : ℕ → Document → List Section → ℕ → Table → Layout → Type 0
 IsLaidWithin zero document sections i table layout = ⊥
 IsLaidWithin (suc depth) document sections i table layout = (placed : Placed) × IsPlacementOf document sections i placed
-    × IsLayoutBy (λ nested w one. (j : ℕ) × IsChosen document.style sections (out-Table nested).number w j
+    × IsNamedLayoutBy (λ nested w one. (j : ℕ) × IsChosen document.style sections (out-Table nested).number w j
     × IsLaidWithin depth document sections j nested one) document.style (out-Table table) placed (out-Layout layout)
 
 -- the layout of the document that the sections name

@@ -21,7 +21,7 @@ pub record IsAsWide (number w : ℕ) (section : Section) : Type 0 where
   pub wide : w ≤ section.width
 
 -- the section is one of this table, and its placement takes at most `w` columns
-pub record IsWithin (style : Style) (number w : ℕ) (section : Section) : Type 0 where
+pub record IsPlacedWithin (style : Style) (number w : ℕ) (section : Section) : Type 0 where
   pub of : section.table ≡ number
   pub narrow : placed_width style section ≤ w
 
@@ -32,8 +32,8 @@ pub record IsGreatestLower (sections : List Section) (number w lower : ℕ) : Ty
 
 -- the least height of the table's sections whose placements take at most `w` columns
 pub record IsLeastFound (style : Style) (sections : List Section) (number w height : ℕ) : Type 0 where
-  pub attained : Any (λ section. IsWithin style number w section × (section.height ≡ height)) sections
-  pub never_less : All (λ section. IsWithin style number w section → height ≤ section.height) sections
+  pub attained : Any (λ section. IsPlacedWithin style number w section × (section.height ≡ height)) sections
+  pub never_less : All (λ section. IsPlacedWithin style number w section → height ≤ section.height) sections
 
 -- the steps of a nested table by the sections: both begin at its least width, and go up to `page` columns
 pub record AreStepsBy (style : Style) (page : ℕ) (sections : List Section) (nested : Table) (steps : InnerSteps) : Type 0 where
@@ -60,7 +60,7 @@ pub record IsProblemFor (table : Table) (style : Style) (width : ℕ) (before : 
   pub sound : IsSound problem
 
 -- a section whose numbers are in their ranges
-pub record IsInRange (section : Section) : Type 0 where
+pub record IsSectionInRange (section : Section) : Type 0 where
   pub narrow : section.width ≤ MAX_PAGE_WIDTH
   pub cuts : length section.trace ≤ MAX_BUDGET
   pub lines : length section.log < 2 ^ 32

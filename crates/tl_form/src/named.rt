@@ -14,7 +14,7 @@ ghost use Rattle.tl_table.specs.declared.cell.TableCell.{out-TableCell};
 ghost use Rattle.tl_form.specs.Expected.{placed_width};
 ghost use Rattle.tl_table.specs.Layouts.{Fits};
 ghost use Rattle.tl_form.specs.Named.{IsChosen, IsNamed};
-ghost use Rattle.tl_form.specs.Nested.{IsWithin};
+ghost use Rattle.tl_form.specs.Nested.{IsPlacedWithin};
 ghost use Rattle.tl_table.specs.Sound.{IsSound};
 ghost use Rattle.tl_table.specs.Tables.{tables_in, tables_of};
 ghost use Rattle.tl_form.specs.Valid.{IsValid};
@@ -40,7 +40,7 @@ fn placed_width(style: Style, section: &Section) -> u64
 /// columns.
 fn is_within(section: &Section, style: Style, number: u32, room: u32) -> bool
     requires { length section.now.widths ≤ MAX_COLUMNS }
-    ensures { IsTrue result ↔ IsWithin style number room section.now }
+    ensures { IsTrue result ↔ IsPlacedWithin style number room section.now }
 {
     section.table == number && placed_width(style, section) <= u64::from(room)
 }

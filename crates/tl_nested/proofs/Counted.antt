@@ -8,7 +8,7 @@ use Rattle.tl_problem.proofs.AreaLaws.{times_le}
 use Rattle.tl_cert.specs.declared.limits.TheConstants.{MAX_SECTIONS}
 use Rattle.tl_form.specs.Expected.{Document, Due, own_number, least_of, next_width, due_in, next_due}
 use Rattle.tl_form.proofs.DueLaws.{MayBeDue}
-use Rattle.tl_nested.specs.inner.SoFar.{left}
+use Rattle.tl_nested.specs.inner.SoFar.{sections_left}
 
 -- the next width of a table is one less than the placement before took
 next_some : (least placed width : ℕ) → next_width least placed ≡ Some width → width + 1 ≡ placed
@@ -40,26 +40,26 @@ module _ (document : Document) (now : Due) (may : MayBeDue document now) (placed
 
   by_width : (now.table ≡ own_number document → ⊥) → (width : Option ℕ) →
       next_width (least_of document now.table) placed ≡ width →
-      left document (Some (due_in document now.table width)) < left document (Some now)
+      sections_left document (Some (due_in document now.table width)) < sections_left document (Some now)
   by_width other None is =
       let less = one_less (now.table - own_number document) (now.table - 1 - own_number document) document.page (apart other) in
       omega (arith, less)
   by_width other (Some width) is = omega (arith, next_some (least_of document now.table) placed width is, within)
 
   -- what is due next leaves fewer
-  pub left_falls : left document (next_due document now.table placed) < left document (Some now)
+  pub left_falls : sections_left document (next_due document now.table placed) < sections_left document (Some now)
   left_falls = elim (cases_eq now.table (own_number document)) [
     | inl same ↦
         let none : next_due document now.table placed ≡ None =
         ap (λ (b : Bool). if b then None else Some (due_in document now.table (next_width (least_of document now.table) placed)))
         (eq-eqb now.table (own_number document) same) in
-        subst (λ next. left document next < left document (Some now)) (sym none) (omega (arith, may.whole same))
+        subst (λ next. sections_left document next < sections_left document (Some now)) (sym none) (omega (arith, may.whole same))
     | inr other ↦
         let some : next_due document now.table placed ≡ Some
         (due_in document now.table (next_width (least_of document now.table) placed)) =
         ap (λ (b : Bool). if b then None else Some (due_in document now.table (next_width (least_of document now.table) placed)))
         (ne_eqb now.table (own_number document) other) in
-        subst (λ next. left document next < left document (Some now)) (sym some)
+        subst (λ next. sections_left document next < sections_left document (Some now)) (sym some)
         (by_width other (next_width (least_of document now.table) placed) refl)
   ]
 

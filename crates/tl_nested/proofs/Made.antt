@@ -30,22 +30,11 @@ use Rattle.tl_solve.specs.declared.outcome.Outcome.{Outcome}
 use Rattle.tl_solve.specs.Solver.{IsSolverOutcome}
 use Rattle.tl_nested.specs.Searched.{IsWideEnough, AreSectionsOf, AreWritable, EachIsSearched, IsSearched}
 use Rattle.tl_nested.specs.Solved.{GivesOutcome, SolvesEach}
-use Rattle.tl_nested.specs.inner.SoFar.{AreSoFar, left}
+use Rattle.tl_nested.specs.inner.Found.{section_of}
+use Rattle.tl_nested.specs.inner.SoFar.{AreSoFar, sections_left}
 use Rattle.tl_nested.proofs.Counted.{few_enough, left_falls}
 use Rattle.tl_nested.proofs.Ready.{by_law, may, narrow, sound_one}
 use Rattle.tl_nested.proofs.Written.{total_within, written}
-
--- the section of an outcome
-abbrev pub section_of : Due → Outcome → Section
-section_of now outcome = record {
-  table = now.table;
-  width = now.width;
-  height = outcome.best.height;
-  lower = outcome.lower;
-  widths = outcome.best.widths;
-  trace = outcome.trace;
-  log = outcome.log;
-}
 
 module _ (subject : Subject) (is : IsSubject subject) (fits : IsWideEnough subject) (before : List Section) (budget : ℕ)
     (good : AreGoodBelow (meant subject) budget before (length before)) (now : Due)
@@ -98,7 +87,7 @@ module _ (subject : Subject) (is : IsSubject subject) (fits : IsWideEnough subje
         log = solved.log_writable;
       })
     where
-      at_size : table_size at.one ≤ MAX_FILE_BYTES
+      at_size : table_size at.one ≤ MAX_FILE_BYTES + 1
       at_size = (sound_one subject is fits before budget good now due at.one at.named).size
 
 -- ---- a call
@@ -196,7 +185,7 @@ all_so_far given subject budget sections next is none so_far = record {
   some = nonempty sections (so_far.due ∙ none);
   most = few_enough (length sections) (subject.last - own_number (meant subject)) subject.page
       (omega (arith, is.document.numbers, is.sound.few_tables)) is.narrow
-      (subst (λ o. length sections + left (meant subject) o ≤ (subject.last - own_number (meant subject)) *
+      (subst (λ o. length sections + sections_left (meant subject) o ≤ (subject.last - own_number (meant subject)) *
       (subject.page + 1) + subject.page + 1)
       none so_far.few);
   each = so_far.writable;

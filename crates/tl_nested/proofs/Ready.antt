@@ -23,7 +23,7 @@ use Rattle.tl_nested.specs.Searched.{IsWideEnough}
 
 -- ---- a subject whose page is wide enough is the document of a table on a page that a layout of it fits
 
-wide_page : (subject : Subject) → IsSubject subject → IsWideEnough subject →
+pub wide_page : (subject : Subject) → IsSubject subject → IsWideEnough subject →
     IsWideDocument subject.table.now subject.style subject.page (meant subject)
 wide_page subject is fits = record {
   sound = is.sound;

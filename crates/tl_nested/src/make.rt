@@ -1,6 +1,6 @@
 //! The sections of a document by solvers that are made.
 
-ghost use Rattle.std.specs.Prelude.{◌≡◌, ℕ, ◌≤◌, IfOk};
+ghost use Rattle.std.specs.Prelude.{ℕ, ◌≤◌, IfOk};
 ghost use Rattle.tl_base.specs.declared.limits.TheConstants.{MAX_BUDGET, MAX_PAGE_WIDTH};
 ghost use Rattle.tl_table.specs.Least.{IsLeastWidth};
 ghost use Rattle.tl_table.specs.Sound.{IsSound};
@@ -32,10 +32,11 @@ pub trait Make: Sync {
             Self.Made.besides made problem budget outcome → besides self.now problem budget outcome) };
 }
 
-/// All sections of a certificate of the table on a page of `width` columns, each by a solver of its own.
-/// So many `workers` may search at one time, each piece of work behind the gate; one is all that there is yet.
+/// All sections of a certificate of the table on a page of `width` columns, each by a solver of its own. So
+/// many `workers` search nested tables of one depth at one time, each table behind the gate by its number;
+/// the sections are those of a certificate for every number of workers.
 pub fn sections<R: Threads + Sync, M: Make, G: Gate>(
-    _rt: &R,
+    rt: &R,
     alloc: Global,
     table: &Table,
     style: Style,
@@ -43,9 +44,9 @@ pub fn sections<R: Threads + Sync, M: Make, G: Gate>(
     budget: u32,
     workers: u32,
     maker: &M,
-    _gate: &G,
+    gate: &G,
 ) -> Result<List<Section>, AllocError>
-    requires one_worker { workers ≡ 1 }
+    requires workers { 1 ≤ workers }
     requires sound { IsSound table.now }
     requires narrow { width ≤ MAX_PAGE_WIDTH }
     requires wide { (least : ℕ) → IsLeastWidth table.now style least → least ≤ width }
@@ -59,5 +60,7 @@ pub fn sections<R: Threads + Sync, M: Make, G: Gate>(
         ensures solved { IfOk result (IsSolverOutcome problem.now budget) }
         ensures besides { IfOk result (λ outcome. M.besides maker.entry.now problem.now budget outcome) }
     { maker.make(alloc)?.solve(problem, budget) };
-    sections_by(alloc, table, style, width, budget, &solve)
+    sections_by(
+        rt, alloc, table, style, width, budget, workers, &solve, gate,
+    )
 }

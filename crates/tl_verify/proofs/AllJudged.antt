@@ -1,75 +1,108 @@
--- Sections judged one after the other: what is due after some, and what all come to.
-use Rattle.std.proofs.Common.{◌≡◌, ◌∙◌, ℕ, ◌+◌, ◌<◌, ◌≤◌, length, get_or, take, Option, None, Some, option_map, [], inl, inr, sym}
-use Rattle.std.proofs.Common.{ap, subst, arith}
-use Rattle.std.proofs.lemmas.Bool.{cases_lt}
-use Rattle.std.proofs.lemmas.List.{take_all}
+-- Sections judged each on its own: what they come to together, and what is left after those that are in order.
+use Rattle.std.proofs.Common.{◌≡◌, ◌∙◌, ℕ, ◌+◌, ◌<◌, ◌≤◌, List, length, get_or, take, Option, None, Some, option_map, inl}
+use Rattle.std.proofs.Common.{inr, sym}
+use Rattle.std.proofs.Common.{Result, Ok, Err, IfOk, IfErr, alloc_error, ap, subst, arith}
+use Rattle.std.specs.List.{AllZip, range_with_len}
+use Rattle.std.proofs.lemmas.List.{get_or-take, get_or_default, take_all}
+use Rattle.std.proofs.lemmas.List.FromFn.{length-range_with_len, get_or-range_with_len}
+use Rattle.tl_base.specs.Returned.{IsMemoryOr}
+use Rattle.tl_base.proofs.Zips.{AllZip-get_or, AllZip-length}
 use Rattle.tl_cert.specs.declared.certificate.Certificate.{Certificate}
-use Rattle.tl_cert.specs.declared.section.Section.{Section}
 use Rattle.tl_form.specs.declared.subject.Due.{Due}
-use Rattle.tl_form.specs.Expected.{Document, due_after, first_due, next_due, placed_width}
+use Rattle.tl_form.specs.Expected.{Document, due_after}
 use Rattle.tl_form.specs.Failures.{IsExtra, IsGoodUpTo, IsMissing}
 use Rattle.tl_form.specs.Subjects.{due_of}
-use Rattle.tl_form.specs.Valid.{AreWhole, IsGood}
-use Rattle.tl_form.proofs.DueLaws.{due_after-more, due_next}
-
--- the first `n` sections are good, and this is due after them
-pub record JudgedTo (document : Document) (budget : ℕ) (certificate : Certificate) (n : ℕ) (due : Option Due) : Type 0 where
-  pub due_is : due_after document (take n certificate.sections) ≡ option_map due_of due
-  pub good : IsGoodUpTo document budget certificate n
+use Rattle.tl_form.specs.Valid.{AreWhole}
+use Rattle.tl_verify.specs.declared.reject.Reject.{Reject}
+use Rattle.tl_verify.specs.declared.reject.Reject.TheVariants.{Memory}
+use Rattle.tl_verify.specs.Verdicts.{IsReason}
+use Rattle.tl_verify.specs.inner.Sections.{AreJudged, AreNoErrors, IsFirstRefusal, IsSectionJudged, IsDueOrder}
+use Rattle.tl_verify.proofs.Judging.{or_why}
 
 module _ (document : Document) (budget : ℕ) (certificate : Certificate) where
-  pub judged_none : (first : Due) → due_of first ≡ first_due document document.last → IsGoodUpTo document budget certificate 0 →
-      JudgedTo document budget certificate 0 (Some first)
-  judged_none first is good = record { due_is = ap Some (sym is); good = good }
+  -- the results by the numbers of their pieces are those of the sections
+  pub judged_by_number : (count : ℕ) (judged : List (Result (Unit {0}) Reject)) →
+      AllZip (IsSectionJudged document budget certificate) (range_with_len 0 count) judged →
+      AreJudged document budget certificate count judged × (length judged ≡ count)
+  judged_by_number count judged all = (
+    λ i d less.
+        subst (λ n. IsSectionJudged document budget certificate n (get_or judged i d))
+        (get_or-range_with_len 0 count i 0 less ∙ omega arith)
+        (AllZip-get_or (IsSectionJudged document budget certificate) (range_with_len 0 count) judged i 0 d all
+        (omega (arith, less, length-range_with_len 0 count))),
+    omega (
+      arith,
+      AllZip-length (IsSectionJudged document budget certificate) (range_with_len 0 count) judged all,
+      length-range_with_len 0 count,
+    ),
+  )
 
-  pub due_is_some : (n : ℕ) (due : Option Due) (now : Due) → JudgedTo document budget certificate n due → due ≡ Some now →
-      due_after document (take n certificate.sections) ≡ Some (due_of now)
-  due_is_some n due now judged is = judged.due_is ∙ ap (option_map due_of) is
+  module _ (start : IsGoodUpTo document budget certificate 0) (count : ℕ) (within : count ≤ length certificate.sections)
+      (judged : List (Result (Unit {0}) Reject)) (each : AreJudged document budget certificate count judged)
+      (all : length judged ≡ count) where
+    -- those before the first error are good
+    good_up_to : (n : ℕ) → n ≤ count → AreNoErrors judged n → IsGoodUpTo document budget certificate n
+    good_up_to n upto none = record {
+      claim = start.claim;
+      by_sections = start.by_sections;
+      there = omega (arith, upto, within);
+      good = λ i d less.
+          subst (IsSectionJudged document budget certificate i) (none i (Ok tt) less)
+          (each i (Ok tt) (omega (arith, less, upto))) d;
+    }
 
-  pub judged_more : (n : ℕ) (due next : Option Due) (now : Due) (placed : ℕ) → n < length certificate.sections →
-      JudgedTo document budget certificate n due → due ≡ Some now →
-      ((d : Section) → IsGood document budget (take n certificate.sections) (get_or certificate.sections n d)) →
-      ((d : Section) → placed ≡ placed_width document.style (get_or certificate.sections n d)) →
-      option_map due_of next ≡ next_due document now.table placed → JudgedTo document budget certificate (n + 1) next
-  judged_more n due next now placed there judged is good wide next_is = record {
-    due_is =
-        let d : Section = record { table = 0; width = 0; height = 0; lower = 0; widths = []; trace = []; log = [] } in
-        due_after-more document certificate.sections n d there
-        ∙ ap (λ o. due_next document o (get_or certificate.sections n d)) (due_is_some n due now judged is)
-        ∙ ap (next_due document now.table) (sym (wide d)) ∙ sym next_is;
-    good = record {
-      claim = judged.good.claim;
-      by_sections = judged.good.by_sections;
-      there = omega (arith, there);
-      good = λ i d less. elim (cases_lt i n) [
-        | inl before ↦ judged.good.good i d before
-        | inr last ↦
-            let same : n ≡ i = omega (arith, last, less) in
-            subst (λ k. IsGood document budget (take k certificate.sections) (get_or certificate.sections k d)) same (good d)
-      ];
-    };
-  }
+    pub judged_good : (result : Result (Unit {0}) Reject) → IsFirstRefusal judged result →
+        IfOk result (λ _. IsGoodUpTo document budget certificate count)
+    judged_good (Ok x) first = good_up_to count (omega arith) (λ i d less. first i d (omega (arith, less, all)))
+    judged_good (Err error) first = tt
 
-  pub extra : (n : ℕ) (due : Option Due) → n < length certificate.sections → JudgedTo document budget certificate n due →
-      due ≡ None →
-      IsExtra document budget certificate n
-  extra n due more judged is = record { good = judged.good; none = judged.due_is ∙ ap (option_map due_of) is; more = more }
+    pub judged_wrong : (result : Result (Unit {0}) Reject) → IsFirstRefusal judged result →
+        IfErr result (IsMemoryOr (Memory alloc_error) (IsReason document budget certificate))
+    judged_wrong (Ok x) first = tt
+    judged_wrong (Err error) (i, there, none, at) =
+        or_why (Memory alloc_error) (λ reject. IsGoodUpTo document budget certificate i →
+        IsReason document budget certificate reject)
+        (IsReason document budget certificate) error (λ why. why (good_up_to i (omega (arith, there, all)) none))
+        (subst (IsSectionJudged document budget certificate i) (at (Ok tt)) (each i (Ok tt) (omega (arith, there, all))))
 
-  pub missing_last : (n : ℕ) (due : Option Due) (now : Due) → length certificate.sections ≤ n →
-      JudgedTo document budget certificate n due →
-      due ≡ Some now → IsMissing document budget certificate now.table
-  missing_last n due now end judged is = record {
-    at = n;
-    good = judged.good;
-    width = now.width;
-    due = due_is_some n due now judged is;
-    wrong = λ d within is_due. absurd (omega (arith, within, end));
-  }
+  -- ---- what is left
 
-  pub whole : (n : ℕ) (due : Option Due) → length certificate.sections ≤ n → JudgedTo document budget certificate n due →
-      due ≡ None →
-      AreWhole document budget certificate.sections
-  whole n due end judged is = record {
-    good = λ i d less. judged.good.good i d (omega (arith, less, end));
-    none = sym (ap (due_after document) (take_all n certificate.sections end)) ∙ judged.due_is ∙ ap (option_map due_of) is;
-  }
+  module _ (count : ℕ) (due : Option Due) (order : IsDueOrder document certificate.sections count (option_map due_of due))
+      (good : IsGoodUpTo document budget certificate count) where
+    pub missing : (now : Due) → due ≡ Some now → IsMissing document budget certificate now.table
+    missing now is = record {
+      at = count;
+      good = good;
+      width = now.width;
+      due = order.to.next ∙ ap (option_map due_of) is;
+      wrong = order.stops;
+    }
+
+    pub extra : due ≡ None → count < length certificate.sections → IsExtra document budget certificate count
+    extra is more = record { good = good; none = order.to.next ∙ ap (option_map due_of) is; more = more }
+
+    pub whole : due ≡ None → length certificate.sections ≤ count → AreWhole document budget certificate.sections
+    whole is end = record {
+      good = λ i d less. good.good i d (omega (arith, less, end));
+      none = sym (ap (due_after document) (take_all count certificate.sections end)) ∙ order.to.next ∙ ap (option_map due_of) is;
+    }
+
+-- ---- the first error
+
+-- an error after results that are none
+pub first_error : (judged yielded : List (Result (Unit {0}) Reject)) (one : Result (Unit {0}) Reject) (error : Reject) →
+    AreNoErrors yielded (length yielded) → yielded ≡ take (length yielded) judged → length yielded < length judged →
+    one ≡ get_or judged (length yielded) one → one ≡ Err error → IsFirstRefusal judged (Err error)
+first_error judged yielded one error none so_far there at is = (
+  length yielded,
+  there,
+  λ i d less.
+      sym (get_or-take (length yielded) judged i d less) ∙ ap (λ (all : List (Result (Unit {0}) Reject)). get_or all i d)
+      (sym so_far) ∙ none i d less,
+  λ d. get_or_default judged (length yielded) d one there ∙ sym at ∙ is,
+)
+
+pub no_error : (judged yielded : List (Result (Unit {0}) Reject)) → yielded ≡ judged → AreNoErrors yielded (length yielded) →
+    IsFirstRefusal judged (Ok tt)
+no_error judged yielded same none =
+    subst (λ (all : List (Result (Unit {0}) Reject)). AreNoErrors all (length all)) same none

@@ -1,8 +1,8 @@
 -- What judging one section comes to, in words of the whole certificate.
-use Rattle.std.proofs.Common.{◌≡◌, ◌∙◌, ℕ, ◌<◌, ◌≤◌, List, length, get_or, take, Some, inl, inr, sym, ap, subst, arith}
+use Rattle.std.proofs.Common.{◌≡◌, ◌∙◌, ℕ, ◌<◌, ◌≤◌, List, length, get_or, take, Some, Result, Ok, Err, IfOk, IfErr, alloc_error}
+use Rattle.std.proofs.Common.{inl, inr, sym, subst, arith}
 use Rattle.std.proofs.lemmas.Bool.{cases_lt}
 use Rattle.std.proofs.lemmas.List.{get_or_default}
-use Rattle.std.proofs.lemmas.Option.{same_Some}
 use Rattle.tl_base.specs.declared.limits.TheConstants.{MAX_PAGE_WIDTH}
 use Rattle.tl_base.specs.Returned.{IsMemoryOr}
 use Rattle.tl_base.specs.declared.style.Style.{Style}
@@ -13,15 +13,15 @@ use Rattle.tl_cert.specs.Text.{IsNarrow}
 use Rattle.tl_table.specs.declared.cell.Table.{Table}
 use Rattle.tl_form.specs.Expected.{Document, Due, IsDocumentOf, IsTableOf, IsDue, due_after, least_of, own_number}
 use Rattle.tl_table.specs.Least.{IsLeastWidth}
-use Rattle.tl_form.specs.Failures.{IsGoodUpTo, IsMissing, ComesTo, HasWrongLayout, HasWrongTrace}
+use Rattle.tl_form.specs.Failures.{IsGoodUpTo, ComesTo, HasWrongLayout, HasWrongTrace}
 use Rattle.tl_table.specs.Sound.{IsSound}
 use Rattle.tl_form.specs.Valid.{IsClaimFor, IsLaid, HasTrace, HasLog, IsGood}
-use Rattle.tl_form.proofs.Coverage.{stands}
-use Rattle.tl_form.proofs.DueProblems.{IsOnPage, good_follows, leasts, some_number}
+use Rattle.tl_form.proofs.DueProblems.{IsOnPage, leasts, some_number}
 use Rattle.tl_verify.specs.declared.reject.Reject.{Reject}
 use Rattle.tl_verify.specs.declared.reject.Reject.TheVariants as rejects
 use Rattle.tl_verify.specs.Verdicts.{IsReason}
-use Rattle.tl_verify.specs.inner.Sections.{IsUnshown}
+use Rattle.tl_verify.specs.inner.Sections.{IsSectionJudged, IsUnshown}
+use Rattle.tl_verify.proofs.Ordering.{after_wide}
 
 -- ---- the page is wide enough for what is due
 
@@ -40,46 +40,20 @@ on_page document budget certificate table style page sound of narrow claim by_se
   narrow = narrow;
 }
 
-pub due_wide : (document : Document) (budget : ℕ) (certificate : Certificate) (number : ℕ) (now : Due) (one : Table) →
-    IsOnPage document →
-    IsGoodUpTo document budget certificate number → due_after document (take number certificate.sections) ≡ Some now →
-    IsTableOf document now.table one → (least : ℕ) → IsLeastWidth one document.style least → least ≤ now.width
-due_wide document budget certificate number now one on good due named least is =
-    let stood = stands document (some_number document on) (leasts document on) certificate.sections number good.there
-    (λ i d less. good_follows document budget (take i certificate.sections) (get_or certificate.sections i d)
-    (good.good i d less)) now due in
+pub due_wide : (document : Document) (before : List Section) (now : Due) (one : Table) → IsOnPage document →
+    due_after document before ≡ Some now → IsTableOf document now.table one →
+    (least : ℕ) → IsLeastWidth one document.style least → least ≤ now.width
+due_wide document before now one on due named least is =
+    let wide = after_wide document (some_number document on) (leasts document on) before now due in
     let own : IsLeastWidth one document.style (least_of document now.table) =
     subst (λ n. IsLeastWidth one document.style (least_of document n)) named.numbered (on.least one named.among) in
-    omega (arith, is.least (least_of document now.table) own.attained.0 own.attained.1 own.attained.2, stood.covered.from)
-
--- the section is the one that is due
-pub is_due : (document : Document) (before : List Section) (now : Due) (section : Section) →
-    due_after document before ≡ Some now →
-    section.table ≡ now.table → section.width ≡ now.width → IsDue document before section
-is_due document before now section due table width = due ∙ λ i. Some (record { table = sym table i; width = sym width i })
+    omega (arith, is.least (least_of document now.table) own.attained.0 own.attained.1 own.attained.2, wide)
 
 -- ---- why it is refused
 
 module _ (document : Document) (budget : ℕ) (certificate : Certificate) (number : ℕ)
     (there : number < length certificate.sections)
     (good : IsGoodUpTo document budget certificate number) where
-  pub missing : (now : Due) (section : Section) → due_after document (take number certificate.sections) ≡ Some now →
-      get_or certificate.sections number section ≡ section → (section.table ≡ now.table → section.width ≡ now.width → ⊥) →
-      IsMissing document budget certificate now.table
-  missing now section due is other = record {
-    at = number;
-    good = good;
-    width = now.width;
-    due = due;
-    wrong = λ d within is_due.
-        let same : get_or certificate.sections number d ≡ section =
-        get_or_default certificate.sections number d section there ∙ is in
-        let both = same_Some _ _ (sym due ∙ is_due) in
-        other (sym (ap (λ (one : Due). one.table) both ∙ ap (λ (s : Section). s.table) same))
-        (sym (ap (λ (one : Due). one.width) both
-        ∙ ap (λ (s : Section). s.width) same));
-  }
-
   module _ (section : Section) (is : get_or certificate.sections number section ≡ section)
       (due : IsDue document (take number certificate.sections) section) where
     comes : ComesTo document budget certificate number section
@@ -108,17 +82,34 @@ module _ (document : Document) (budget : ℕ) (certificate : Certificate) (numbe
           first = why.3;
         })
 
-    pub good_here : (problem : ProblemModel) → IsLaid document (take number certificate.sections) section problem →
-        HasTrace budget section problem →
-        HasLog section problem → (d : Section) → IsGood document budget (take number certificate.sections)
-        (get_or certificate.sections number d)
-    good_here problem laid traced logged d =
-        subst (IsGood document budget (take number certificate.sections))
-        (sym (get_or_default certificate.sections number d section there ∙ is))
-        (record { due = due; problem = problem; laid = laid; traced = traced; logged = logged })
-
 -- an error for one reason is one for another
 pub or_why : (memory : Reject) (P Q : Reject → Type 0) (reject : Reject) → (P reject → Q reject) → IsMemoryOr memory P reject →
     IsMemoryOr memory Q reject
 or_why memory P Q reject so (inl is) = inl is
 or_why memory P Q reject so (inr why) = inr (so why)
+
+-- ---- what one section comes to
+
+module _ (document : Document) (budget : ℕ) (certificate : Certificate) (number : ℕ)
+    (there : number < length certificate.sections) (section : Section)
+    (is : get_or certificate.sections number section ≡ section)
+    (due : IsDue document (take number certificate.sections) section) where
+  -- its layout is wrong
+  pub judged_unlaid : ((problem : ProblemModel) → IsLaid document (take number certificate.sections) section problem → ⊥) →
+      IsSectionJudged document budget certificate number (Err (rejects.Layout number))
+  judged_unlaid none = inr (λ good. wrong_layout document budget certificate number there good section is due none)
+
+  -- it has a layout, and its trace and its log are checked
+  pub judged_laid : (problem : ProblemModel) → IsLaid document (take number certificate.sections) section problem →
+      (result : Result (Unit {0}) Reject) → IfOk result (λ _. HasTrace budget section problem) →
+      IfOk result (λ _. HasLog section problem) →
+      IfErr result (IsMemoryOr (rejects.Memory alloc_error) (IsUnshown problem section budget number)) →
+      IsSectionJudged document budget certificate number result
+  judged_laid problem laid (Ok x) traced logged wrong = λ d.
+      subst (IsGood document budget (take number certificate.sections))
+      (sym (get_or_default certificate.sections number d section there ∙ is))
+      (record { due = due; problem = problem; laid = laid; traced = traced; logged = logged })
+  judged_laid problem laid (Err error) traced logged wrong =
+      or_why (rejects.Memory alloc_error) (IsUnshown problem section budget number)
+      (λ reject. IsGoodUpTo document budget certificate number → IsReason document budget certificate reject) error
+      (λ why good. unshown document budget certificate number there good section is due problem laid error why) wrong

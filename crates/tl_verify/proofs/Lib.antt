@@ -1,4 +1,5 @@
 pub mod Judging
+pub mod Ordering
 pub mod AllJudged
 pub mod OneChain
 pub mod Walking

@@ -36,7 +36,7 @@ use Rattle.tl_table.specs.Chains.{Weighs}
 use Rattle.tl_verify.specs.declared.chains.Row.{Row}
 use Rattle.tl_verify.specs.declared.chains.Walked.{Walked}
 use Rattle.tl_verify.specs.inner.Walks.{IsWalk, HasNoWalk, IsWalkIn, HasNoWalkIn, link_of, IsStep, HasNoStep, AreLinked}
-use Rattle.tl_verify.specs.inner.Walks.{widths_of, IsRow, HasNoRow}
+use Rattle.tl_verify.specs.inner.Walks.{link_widths, IsRow, HasNoRow}
 use Rattle.tl_verify.proofs.OneChain.{AreOne, any_chain_one, any_links_one, contains_at, any_step_one, first_same, later_same}
 use Rattle.tl_verify.proofs.OneChain.{link_same, rest_same, some_same}
 
@@ -173,9 +173,9 @@ module _ (style : Style) where
         first.entries is_row.links is_row.linked.stand in
         ap (λ w. w + gap_of style * (length first.entries + ((out-Table table).cols - row.covered) - 1) + 2 * edge_of style)
         is_row.wide
-        ∙ ap (λ n. widths_of is_row.links + gap_of style * (n + ((out-Table table).cols - row.covered) - 1) + 2 * edge_of style)
+        ∙ ap (λ n. link_widths is_row.links + gap_of style * (n + ((out-Table table).cols - row.covered) - 1) + 2 * edge_of style)
         many
-        ∙ ap (λ n. widths_of is_row.links + gap_of style * (length is_row.links +
+        ∙ ap (λ n. link_widths is_row.links + gap_of style * (length is_row.links +
         ((out-Table table).cols - n) - 1) + 2 * edge_of style) is_row.covers
 
     pub no_walk_heavy : IsSound table → (row : Row) → IsRow style (out-Table table) first.entries chains (at + 1) most row →
@@ -322,7 +322,7 @@ module _ (style : Style) where
         (tail : List Link) × AreLinked style (out-Table table) (drop n entries) row.right (drop row.past chains) tail rest ×
         (links ≡ done ++ tail)
     pub covers : row.covered ≡ covered done
-    pub wide : row.width ≡ widths_of done
+    pub wide : row.width ≡ link_widths done
     pub light : row.width ≤ most
     pub within : row.past ≤ length chains
     pub inside : row.covered ≤ row.right
@@ -411,9 +411,9 @@ module _ (style : Style) where
           arith,
           light,
           far.wide,
-          ap widths_of found.2,
+          ap link_widths found.2,
           sum_by-append (λ (each : Link). each.width) far.done found.0,
-          ap widths_of one.begins,
+          ap link_widths one.begins,
           sum_by-cons (λ (each : Link). each.width) one.link one.later,
         ))
 

@@ -1,25 +1,71 @@
-//! Judges the sections of a certificate, one after the other.
+//! Judges the sections of a certificate: first their order, and then each of those that are in order, so
+//! many at once.
 
-ghost use Rattle.std.specs.Prelude.{◌≡◌, ◌<◌, length, take, get_or, IfOk, IfErr, Some, alloc_error};
+ghost use Rattle.std.specs.Prelude.{◌≡◌, ℕ, ◌+◌, ◌<◌, ◌≤◌, ◌↔◌, length, take, get_or, IfOk, IfErr, IsTrue, alloc_error, option_map, vec_len};
+ghost use Rattle.std.specs.List.{AllByRecursion};
+ghost use Rattle.tl_base.specs.declared.limits.TheConstants.{MAX_COLUMNS, MAX_PAGE_WIDTH};
 ghost use Rattle.tl_base.specs.Returned.{IsMemoryOr};
 ghost use Rattle.tl_cert.specs.declared.certificate.Certificate.{Certificate};
 ghost use Rattle.tl_cert.specs.declared.section.Section.{Section};
 ghost use Rattle.tl_cert.specs.Text.{IsWritable};
-ghost use Rattle.tl_form.specs.Expected.{due_after, placed_width};
+ghost use Rattle.tl_form.specs.Expected.{placed_width, AreDueInOrder};
 ghost use Rattle.tl_form.specs.Failures.{IsGoodUpTo};
-ghost use Rattle.tl_form.specs.Valid.{AreWhole, HasLog, HasTrace, IsGood};
+ghost use Rattle.tl_form.specs.Valid.{AreWhole, HasLog, HasTrace};
 ghost use Rattle.tl_verify.specs.declared.reject.Reject.TheVariants.{Memory};
 ghost use Rattle.tl_verify.specs.Verdicts.{IsReason};
-ghost use Rattle.tl_verify.specs.inner.Sections.{IsUnshown};
-ghost use Rattle.tl_form.specs.Nested.{IsInRange};
+ghost use Rattle.tl_verify.specs.inner.Sections.{AreJudged, IsFirstRefusal, IsInOrderTo, IsSectionJudged, IsDueOrder, IsUnshown};
+ghost use Rattle.tl_form.specs.Nested.{IsSectionInRange};
 ghost use Rattle.tl_form.specs.Subjects.{IsSubject, due_of, meant};
 
 use crate::reject::Reject;
 use std::alloc::Global;
+use std::thread::Threads;
+use tl_base::{Gate, Style, total_size};
 use tl_cert::{Certificate, Section};
 use tl_check::Checker;
+use tl_fan::{fan_out, places};
 use tl_form::{Due, Subject, lay};
 use tl_problem::Problem;
+
+/// How far the sections are in order: so many from the first on are each the one that is due, and this is
+/// due after them.
+#[derive(Clone, Copy)]
+struct Order {
+    count: u32,
+    due: Option<Due>,
+}
+
+/// The columns that the placement of a section takes.
+fn placed_width(section: &Section, style: Style) -> u32
+    requires few { length section.now.widths ≤ MAX_COLUMNS }
+    requires narrow { AllByRecursion (λ width. width ≤ MAX_PAGE_WIDTH) section.now.widths }
+    ensures { result ≡ placed_width style section.now }
+{
+    total_size(style.gap(), style.edge(), section.widths.as_slice()) as u32
+}
+
+/// How far the sections of a certificate are in order.
+fn in_order(subject: &Subject, certificate: &Certificate) -> Order
+    requires subject { IsSubject subject.now }
+    requires written { IsWritable certificate.now }
+    requires start { (budget : ℕ) × IsGoodUpTo (meant subject.now) budget certificate.now 0 }
+    ensures { IsDueOrder (meant subject.now) certificate.now.sections result.count (option_map due_of result.due) }
+{
+    let sections = certificate.sections.as_slice();
+    let count = sections.len() as u32;
+    let mut due = Some(subject.first_due());
+    for number in 0..count {
+        let Some(now) = due else {
+            return Order { count: number, due };
+        };
+        let section = &sections[number as usize];
+        if section.table != now.table || section.width != now.width {
+            return Order { count: number, due };
+        }
+        due = subject.next_due(now.table, placed_width(section, subject.style));
+    }
+    Order { count, due }
+}
 
 /// Checks the trace and the log of the section with this number.
 fn check(
@@ -29,7 +75,7 @@ fn check(
     budget: u32,
     number: u32,
 ) -> Result<(), Reject>
-    requires { IsInRange section.now }
+    requires { IsSectionInRange section.now }
     ensures traced { IfOk result (λ _. HasTrace budget section.now problem.now) }
     ensures logged { IfOk result (λ _. HasLog section.now problem.now) }
     ensures wrong { IfErr result (IsMemoryOr (Memory alloc_error) (IsUnshown problem.now section.now budget number)) }
@@ -45,65 +91,112 @@ fn check(
     }
 }
 
-/// Judges the section with this number on those before it: it is the one that is due, and has a
-/// placement, a trace and a log. The columns that its placement takes are returned.
+/// Judges the section with this number, which is the one that is due, on those before it as they are
+/// written: it has a placement, a trace and a log. An error names what it lacks, where all those before
+/// it are good; else it may name anything, as an error of one of them comes first.
 fn judge(
     alloc: Global,
     subject: &Subject,
     budget: u32,
     certificate: &Certificate,
     number: u32,
-    due: Due,
-) -> Result<u32, Reject>
+) -> Result<(), Reject>
     requires subject { IsSubject subject.now }
-    requires small { (d : Section) → IsInRange (get_or certificate.now.sections number d) }
+    requires small { (d : Section) → IsSectionInRange (get_or certificate.now.sections number d) }
     requires there { number < length certificate.now.sections }
-    requires before { IsGoodUpTo (meant subject.now) budget certificate.now number }
-    requires due { due_after (meant subject.now) (take number certificate.now.sections) ≡ Some (due_of due) }
-    ensures good { IfOk result (λ _. (d : Section) → IsGood (meant subject.now) budget (take number certificate.now.sections)
-        (get_or certificate.now.sections number d)) }
-    ensures placed { IfOk result (λ placed. (d : Section) → placed ≡ placed_width subject.now.style
-        (get_or certificate.now.sections number d)) }
-    ensures wrong { IfErr result (IsMemoryOr (Memory alloc_error) (IsReason (meant subject.now) budget certificate.now)) }
+    requires start { IsGoodUpTo (meant subject.now) budget certificate.now 0 }
+    requires order { AreDueInOrder (meant subject.now) certificate.now.sections (number + 1) }
+    ensures { IsSectionJudged (meant subject.now) budget certificate.now number result }
 {
     let sections = certificate.sections.as_slice();
     let section = &sections[number as usize];
-    if section.table != due.table || section.width != due.width {
-        return Err(Reject::Missing(due.table));
-    }
     let before = &sections[..number as usize];
-    let table = subject.table_of(due.table);
+    let table = subject.table_of(section.table);
     let Some(laid) = lay(alloc, table, subject.style, before, section)? else {
         return Err(Reject::Layout(number));
     };
-    check(alloc, &laid.problem, section, budget, number)?;
-    Ok(laid.placed.width)
+    check(alloc, &laid.problem, section, budget, number)
 }
 
-/// Judges all sections: each is the one that is due and good, and none is missing or left.
-pub fn judge_all(
+/// The first error among the results, if there is one.
+fn first_refusal(judged: Vec<Result<(), Reject>>) -> Result<(), Reject>
+    ensures { IsFirstRefusal judged.items result }
+{
+    for one in judged {
+        match one {
+            Ok(()) => {}
+            Err(error) => return Err(error),
+        }
+    }
+    Ok(())
+}
+
+/// Judges so many sections from the first on, which are in order, so many at once: the error of the first
+/// one that is not good, if there is one.
+fn judge_each<R: Threads + Sync, G: Gate>(
+    rt: &R,
     alloc: Global,
+    gate: &G,
+    workers: u32,
+    subject: &Subject,
+    budget: u32,
+    certificate: &Certificate,
+    count: u32,
+) -> Result<(), Reject>
+    requires workers { 1 ≤ workers }
+    requires subject { IsSubject subject.now }
+    requires written { IsWritable certificate.now }
+    requires start { IsGoodUpTo (meant subject.now) budget certificate.now 0 }
+    requires there { count ≤ length certificate.now.sections }
+    requires order { AreDueInOrder (meant subject.now) certificate.now.sections count }
+    ensures good { IfOk result (λ _. IsGoodUpTo (meant subject.now) budget certificate.now count) }
+    ensures wrong { IfErr result (IsMemoryOr (Memory alloc_error) (IsReason (meant subject.now) budget certificate.now)) }
+{
+    let piece = |number: u32| -> Result<(), Reject>
+        requires { (number < length certificate.now.sections) × IsSubject subject.now × IsWritable certificate.now
+            × IsGoodUpTo (meant subject.now) budget certificate.now 0
+            × AreDueInOrder (meant subject.now) certificate.now.sections (number + 1) }
+        ensures { IsSectionJudged (meant subject.entry.now) budget certificate.entry.now number result }
+    { judge(alloc, subject, budget, certificate, number) };
+    let numbers = places(alloc, count)?;
+    let judged = fan_out(rt, alloc, gate, workers, numbers.as_slice(), &piece)?;
+    first_refusal(judged)
+}
+
+/// Judges all sections: each is the one that is due and good, and none is missing or left. So many of them
+/// are judged at once, each behind the gate by its number.
+pub fn judge_all<R: Threads + Sync, G: Gate>(
+    rt: &R,
+    alloc: Global,
+    gate: &G,
+    workers: u32,
     subject: &Subject,
     budget: u32,
     certificate: &Certificate,
 ) -> Result<(), Reject>
+    requires workers { 1 ≤ workers }
     requires subject { IsSubject subject.now }
     requires written { IsWritable certificate.now }
     requires start { IsGoodUpTo (meant subject.now) budget certificate.now 0 }
     ensures whole { IfOk result (λ _. AreWhole (meant subject.now) budget certificate.now.sections) }
     ensures wrong { IfErr result (IsMemoryOr (Memory alloc_error) (IsReason (meant subject.now) budget certificate.now)) }
 {
-    let count = certificate.sections.len() as u32;
-    let mut due = Some(subject.first_due());
-    for number in 0..count {
-        let Some(now) = due else {
-            return Err(Reject::Extra(number));
-        };
-        let placed = judge(alloc, subject, budget, certificate, number, now)?;
-        due = subject.next_due(now.table, placed);
+    let Order { count, due } = in_order(subject, certificate);
+    judge_each(
+        rt,
+        alloc,
+        gate,
+        workers,
+        subject,
+        budget,
+        certificate,
+        count,
+    )?;
+    if let Some(now) = due {
+        return Err(Reject::Missing(now.table));
     }
-    match due {
-        Some(now) => Err(Reject::Missing(now.table)),
-        None => Ok(()),
+    if (count as usize) < certificate.sections.len() {
+        return Err(Reject::Extra(count));
     }
+    Ok(())
 }

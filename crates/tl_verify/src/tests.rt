@@ -7,12 +7,13 @@ ghost use Rattle.tl_cert.specs.Text.{IsNarrow, IsWritable};
 ghost use Rattle.tl_table.specs.Sound.{IsSound};
 ghost use Rattle.tl_form.specs.Valid.{IsValid};
 
-use crate::{Reject, verify};
+use crate::{Reject, Verdict, verify};
 use std::alloc::{AllocError, Global};
 use std::process::Abort;
+use std::sync::atomic::{AtomicBool, Ordering};
 use std::test::Fail;
 use std::thread::Threads;
-use tl_base::{Breaking, MAX_FILE_BYTES, NoGate, Style};
+use tl_base::{Breaking, Gate, MAX_FILE_BYTES, NoGate, Style};
 use tl_cert::{Certificate, Claim, read};
 use tl_form::layout;
 use tl_table::{Layout, Table, table};
@@ -31,6 +32,29 @@ const TWO_WORDS: &str = "<table><tr><td>abcdef<td>ghij</table>";
 /// Four columns of 25 at most, of which the third and the fourth have two long words each.
 const FOUR_COLUMNS: &str =
     "<table><tr><td>a a<td>b b<td>c<br>c<tr><td>p<td>q<td>cccc cccc<td>dddd dddd</table>";
+
+/// How often a piece looks for another one's flag.
+const TURNS: u32 = 100_000_000;
+
+/// A gate at which the pieces 0 and 1 meet: each sets its flag, and looks for the other's.
+#[derive(Drop)]
+struct Meeting {
+    flags: [AtomicBool; 2],
+    seen: [AtomicBool; 2],
+}
+
+impl Gate for Meeting {
+    fn pass(&self, piece: u32) {
+        let own = (piece % 2) as usize;
+        self.flags[own].store(true, Ordering::SeqCst);
+        for _ in 0..TURNS {
+            if self.flags[1 - own].load(Ordering::SeqCst) {
+                self.seen[own].store(true, Ordering::SeqCst);
+                return;
+            }
+        }
+    }
+}
 
 /// What is shown of the layout: widths, heights, and the layouts inside.
 #[cycle(shown)]
@@ -89,17 +113,20 @@ fn named(
 
 /// What is found of the certificate of this text for the file: a verdict with the layout, or the
 /// first step that fails.
-fn judged(
+fn judged<G: Gate>(
     rt: &(impl Threads + Sync),
     alloc: Global,
     file: &str,
     width: u32,
     budget: u32,
+    workers: u32,
     text: &str,
+    gate: &G,
 ) -> Result<String, Fail>
     requires some { 1 ≤ width }
     requires narrow { width ≤ MAX_PAGE_WIDTH }
     requires cuts { budget ≤ MAX_BUDGET }
+    requires workers { 1 ≤ workers }
 {
     let table = table_of(alloc, file)?;
     let Ok(certificate) = read(alloc, text.as_bytes()) else {
@@ -113,9 +140,9 @@ fn judged(
         style,
         width,
         budget,
-        1,
+        workers,
         &certificate,
-        &NoGate,
+        gate,
     ) {
         return Ok(format!(in alloc; "{reject}")?);
     }
@@ -172,7 +199,8 @@ const PARTS: [(&str, &str); 7] = [
 ];
 
 /// Certificates of the nested table at 12 columns: with both sections of the inner table, without the
-/// second, with the two exchanged, without both, with another width, and with a worse height.
+/// second, with the two exchanged, without both, with another width, and with a worse height; and with two
+/// faults, of which the first in order is named.
 const NESTED_JUDGED: &str = "
 HEAD FIRST SECOND OUTER END => lowest [10 / 2[3 5 / 2]]
 HEAD FIRST OUTER END => missing section of table 1
@@ -184,7 +212,18 @@ HEAD FIRST section 1 8 3 3 0 1;widths 3 2;z0 chain;OUTER END => missing section 
 HEAD FIRST SECOND section 0 12 2 2 0 1;widths 9;z0 chain;END => layout of section 2
 HEAD FIRST section 1 9 3 2 0 1;widths 3 2;z0 chain;OUTER END => trace of section 1
 HEAD FIRST section 1 9 3 3 0 1;widths 3 2;z0 cycle;OUTER END => line 0 of section 1
+HEAD section 1 12 2 2 0 1;widths 3 5;z0 cycle;section 1 9 3 2 0 1;widths 3 2;z0 chain;OUTER END => line 0 of section 0
+HEAD FIRST section 1 9 3 2 0 1;widths 3 2;z0 chain;section 0 12 2 2 0 1;widths 9;z0 chain;END => trace of section 1
+HEAD section 1 12 2 2 0 1;widths 3 5;z0 cycle;OUTER END => line 0 of section 0
+HEAD section 1 12 3 3 0 1;widths 3 5;z0 chain;SECOND OUTER OUTER END => layout of section 0
 ";
+
+/// Two nested tables, side by side, and their certificate at 12 columns.
+const BESIDE: &str =
+    "<table><tr><td><table><tr><td>aa bb</table><td><table><tr><td>cc dd</table></table>";
+
+const BESIDE_SHOWN: &str =
+    "tablelayout 1 12 plain 5000;lowest 1;section 2 12 1 1 0 1;widths 5;z0 chain;section 2 4 2 2 0 1;widths 2;z0 chain;section 1 12 1 1 0 1;widths 5;z0 chain;section 1 4 2 2 0 1;widths 2;z0 chain;section 0 12 1 1 0 1;widths 5 5;z0 chain;end;";
 
 /// Certificates of the four columns at 25 columns with a budget of 3.
 const FOUR_COLUMNS_JUDGED: &str = "
@@ -224,7 +263,7 @@ fn spelt(alloc: Global, line: &str) -> Result<String, AllocError> {
     text.as_str().replace(alloc, ";", "\n")
 }
 
-/// Compares what is found of each line's certificate with what stands after its arrow.
+/// Compares what so many workers find of each line's certificate with what stands after its arrow.
 fn compare(
     rt: &(impl Abort + Threads + Sync),
     alloc: Global,
@@ -232,16 +271,27 @@ fn compare(
     file: &str,
     width: u32,
     budget: u32,
+    workers: u32,
 ) -> Result<(), Fail>
     requires some { 1 ≤ width }
     requires narrow { width ≤ MAX_PAGE_WIDTH }
     requires cuts { budget ≤ MAX_BUDGET }
+    requires workers { 1 ≤ workers }
 {
     let cases = lines.strip_prefix('\n').ok_or("a case on the first line")?;
     for line in cases.lines() {
         let (input, wanted) = line.split_once(" => ").ok_or("a line without an arrow")?;
         let text = spelt(alloc, input)?;
-        let found = judged(rt, alloc, file, width, budget, text.as_str())?;
+        let found = judged(
+            rt,
+            alloc,
+            file,
+            width,
+            budget,
+            workers,
+            text.as_str(),
+            &NoGate,
+        )?;
         assert_eq!(rt; found.as_str(), wanted, "{input}");
     }
     Ok(())
@@ -249,32 +299,34 @@ fn compare(
 
 #[test]
 fn two_columns_are_lowest_and_each_change_is_refused(rt: HostRuntime) -> Result<(), Fail> {
-    compare(&rt, rt.alloc(), TWO_COLUMNS_JUDGED, TWO_COLUMNS, 12, 6)
+    compare(&rt, rt.alloc(), TWO_COLUMNS_JUDGED, TWO_COLUMNS, 12, 6, 1)
 }
 
 #[test]
 fn a_search_without_a_cut_is_bounded(rt: HostRuntime) -> Result<(), Fail> {
-    compare(&rt, rt.alloc(), NO_CUT, TWO_COLUMNS, 12, 0)
+    compare(&rt, rt.alloc(), NO_CUT, TWO_COLUMNS, 12, 0, 2)
 }
 
 #[test]
 fn a_nested_table_has_all_its_sections_in_order(rt: HostRuntime) -> Result<(), Fail> {
-    compare(&rt, rt.alloc(), NESTED_JUDGED, NESTED, 12, 5000)
+    compare(&rt, rt.alloc(), NESTED_JUDGED, NESTED, 12, 5000, 1)?;
+    compare(&rt, rt.alloc(), NESTED_JUDGED, NESTED, 12, 5000, 2)?;
+    compare(&rt, rt.alloc(), NESTED_JUDGED, NESTED, 12, 5000, 16)
 }
 
 #[test]
 fn lines_that_bound_one_column_prove_four_lines(rt: HostRuntime) -> Result<(), Fail> {
-    compare(&rt, rt.alloc(), FOUR_COLUMNS_JUDGED, FOUR_COLUMNS, 25, 3)
+    compare(&rt, rt.alloc(), FOUR_COLUMNS_JUDGED, FOUR_COLUMNS, 25, 3, 1)
 }
 
 #[test]
 fn a_chain_is_of_the_table_and_weighs_what_is_claimed(rt: HostRuntime) -> Result<(), Fail> {
-    compare(&rt, rt.alloc(), CHAINS, TWO_WORDS, 11, 5000)
+    compare(&rt, rt.alloc(), CHAINS, TWO_WORDS, 11, 5000, 1)
 }
 
 #[test]
 fn a_chain_goes_on_with_those_of_nested_tables(rt: HostRuntime) -> Result<(), Fail> {
-    compare(&rt, rt.alloc(), NESTED_CHAINS, NESTED, 6, 5000)
+    compare(&rt, rt.alloc(), NESTED_CHAINS, NESTED, 6, 5000, 2)
 }
 
 #[test]
@@ -288,4 +340,28 @@ fn errors_name_the_step_that_fails(rt: HostRuntime) -> Result<(), Fail> {
         "line 7 of section 3"
     );
     Ok(())
+}
+
+#[test]
+fn fan_out_verify(rt: HostRuntime) -> Result<(), Fail> {
+    let alloc = rt.alloc();
+    let gate = Meeting {
+        flags: [AtomicBool::new(false), AtomicBool::new(false)],
+        seen: [AtomicBool::new(false), AtomicBool::new(false)],
+    };
+    let text = spelt(alloc, BESIDE_SHOWN)?;
+    let found = judged(&rt, alloc, BESIDE, 12, 5000, 2, text.as_str(), &gate)?;
+    assert_eq!(&rt; found.as_str(), "lowest [5 5 / 1[5 / 1][5 / 1]]");
+    assert!(&rt; gate.seen[0].load(Ordering::SeqCst));
+    assert!(&rt; gate.seen[1].load(Ordering::SeqCst));
+    Ok(())
+}
+
+fn share<T: Send + Sync + Drop>(_value: T) {}
+
+/// Each of the types may be shared by threads and sent between them.
+#[test]
+fn a_verdict_and_an_error_may_go_to_other_threads() {
+    share::<Option<Verdict>>(None);
+    share::<Option<Reject>>(None);
 }

@@ -45,13 +45,17 @@ fn verdict_on(claim: Claim) -> Verdict
     }
 }
 
-/// Judges what shows the claim: chains, or sections.
-fn judge_proof(
+/// Judges what shows the claim: chains, or sections, so many at once.
+fn judge_proof<R: Threads + Sync, G: Gate>(
+    rt: &R,
     alloc: Global,
+    gate: &G,
+    workers: u32,
     subject: &Subject,
     budget: u32,
     certificate: &Certificate,
 ) -> Result<(), Reject>
+    requires workers { 1 ≤ workers }
     requires subject { IsSubject subject.now }
     requires written { IsWritable certificate.now }
     requires claim { IsClaimFor (meant subject.now) budget certificate.now }
@@ -65,7 +69,7 @@ fn judge_proof(
         }
         return Err(Reject::Chain);
     }
-    judge_all(alloc, subject, budget, certificate)?;
+    judge_all(rt, alloc, gate, workers, subject, budget, certificate)?;
     if ends_with(certificate.claim, certificate.sections.as_slice()) {
         return Ok(());
     }
@@ -77,10 +81,10 @@ fn judge_proof(
 /// page, style and budget, and says that the page is too narrow exactly where it is; chains show that;
 /// each section that is due, from the greatest number of a table down, has a tight placement, a trace
 /// that was worked for the budget, and a log that is good; none is left; the claim has the numbers of
-/// the last. So many `workers` may judge sections at one time, each piece of work behind the gate; one is
-/// all that there is yet.
+/// the last. So many `workers` judge sections at one time, each behind the gate by its number; the answer is
+/// the same for every number of workers and every gate.
 pub fn verify<R: Threads + Sync, G: Gate>(
-    _rt: &R,
+    rt: &R,
     alloc: Global,
     table: &Table,
     style: Style,
@@ -88,9 +92,9 @@ pub fn verify<R: Threads + Sync, G: Gate>(
     budget: u32,
     workers: u32,
     certificate: &Certificate,
-    _gate: &G,
+    gate: &G,
 ) -> Result<Verdict, Reject>
-    requires one_worker { workers ≡ 1 }
+    requires workers { 1 ≤ workers }
     requires sound { IsSound table.now }
     requires some { 1 ≤ width }
     requires narrow { width ≤ MAX_PAGE_WIDTH }
@@ -110,6 +114,6 @@ pub fn verify<R: Threads + Sync, G: Gate>(
     if !is_claim_for(&subject, budget, certificate) {
         return Err(Reject::Claim);
     }
-    judge_proof(alloc, &subject, budget, certificate)?;
+    judge_proof(rt, alloc, gate, workers, &subject, budget, certificate)?;
     Ok(verdict_on(certificate.claim))
 }

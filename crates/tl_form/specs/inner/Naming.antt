@@ -13,7 +13,7 @@ use Rattle.tl_table.specs.declared.cell.Table.{Table, out-Table}
 use Rattle.tl_table.specs.declared.layout.Layout.{Layout}
 use Rattle.tl_form.specs.Expected.{Document}
 use Rattle.tl_form.specs.Named.{IsChosen, IsLaidWithin, IsPlacementOf}
-use Rattle.tl_form.specs.Nested.{IsWithin, IsInRange}
+use Rattle.tl_form.specs.Nested.{IsPlacedWithin, IsSectionInRange}
 use Rattle.tl_table.specs.Sound.{IsSound, IsSoundWithin}
 use Rattle.tl_form.specs.Valid.{AreGoodBelow}
 
@@ -22,7 +22,7 @@ pub record IsPart (document : Document) (budget : ℕ) (style : Style) (sections
   pub drawn : document.style ≡ style
   pub sound : IsSound document.table
   pub good : AreGoodBelow document budget sections (length sections)
-  pub small : (i : ℕ) (d : Section) → i < length sections → IsInRange (get_or sections i d)
+  pub small : (i : ℕ) (d : Section) → i < length sections → IsSectionInRange (get_or sections i d)
   pub among : IsAmong document.table table
 
 -- the table is one of a document whose sections are all good, for some budget
@@ -36,15 +36,15 @@ HaveFewColumns sections = (i : ℕ) (d : Section) → i < length sections → le
 -- of the first `n` sections this is the one by which the table is laid out in a room
 pub record IsBestOf (style : Style) (sections : List Section) (number w n i : ℕ) : Type 0 where
   pub there : i < n
-  pub within : (d : Section) → IsWithin style number w (get_or sections i d)
-  pub least : (j : ℕ) (d : Section) → j < n → IsWithin style number w (get_or sections j d) →
+  pub within : (d : Section) → IsPlacedWithin style number w (get_or sections i d)
+  pub least : (j : ℕ) (d : Section) → j < n → IsPlacedWithin style number w (get_or sections j d) →
       (get_or sections i d).height ≤ (get_or sections j d).height
-  pub first : (j : ℕ) (d : Section) → j < i → IsWithin style number w (get_or sections j d) →
+  pub first : (j : ℕ) (d : Section) → j < i → IsPlacedWithin style number w (get_or sections j d) →
       (get_or sections i d).height < (get_or sections j d).height
 
 -- none of the first `n` sections is one of the table whose placement the room holds
 abbrev pub NoneWithin : Style → List Section → ℕ → ℕ → ℕ → Type 0
-NoneWithin style sections number w n = (j : ℕ) (d : Section) → j < n → IsWithin style number w (get_or sections j d) → ⊥
+NoneWithin style sections number w n = (j : ℕ) (d : Section) → j < n → IsPlacedWithin style number w (get_or sections j d) → ⊥
 
 -- section `i` is lower than the best so far, if there is one
 abbrev pub IsLower : List Section → ℕ → Option ℕ → Type 0
@@ -61,7 +61,7 @@ pub record CanLay (style : Style) (sections : List Section) (w : ℕ) (nested : 
   pub part : HasPart style sections nested
   pub at : ℕ
   pub there : at < length sections
-  pub within : (d : Section) → IsWithin style (out-Table nested).number w (get_or sections at d)
+  pub within : (d : Section) → IsPlacedWithin style (out-Table nested).number w (get_or sections at d)
 
 -- a nested table is laid out in a room of `w` columns, by the section that is chosen for it there
 pub record IsLaidIn (style : Style) (sections : List Section) (w : ℕ) (nested : Table) (layout : Layout) : Type 0 where
@@ -75,7 +75,7 @@ IsPlacedBy style sections at table placed = (document : Document) (budget : ℕ)
     IsPlacementOf document sections at placed
 
 -- the columns that a cell covers are there, and the tables nested in it may be laid out in its room
-pub record HasRoom (style : Style) (sections : List Section) (widths : List ℕ) (cell : TableCell) : Type 0 where
+pub record HasLayoutRoom (style : Style) (sections : List Section) (widths : List ℕ) (cell : TableCell) : Type 0 where
   pub some : (out-TableCell cell).place.left < (out-TableCell cell).place.right
   pub within : (out-TableCell cell).place.right ≤ length widths
   pub can : AllByRecursion (CanLay style sections (room (gap_of style) widths (out-TableCell cell).place.left
@@ -86,7 +86,7 @@ pub record HasRoom (style : Style) (sections : List Section) (widths : List ℕ)
 pub record HasRooms (style : Style) (sections : List Section) (table : OpenTable) (placed : Placed) : Type 0 where
   pub page : sum placed.widths ≤ MAX_PAGE_WIDTH
   pub few : length placed.widths ≤ MAX_COLUMNS
-  pub each : AllByRecursion (HasRoom style sections placed.widths) table.cells
+  pub each : AllByRecursion (HasLayoutRoom style sections placed.widths) table.cells
 
 -- after these layouts come those of the tables
 pub record LaysOut (style : Style) (sections : List Section) (w : ℕ) (tables : List Table)

@@ -63,8 +63,8 @@ pub record AreLinked (style : Style) (table : OpenTable) (entries : List Entry) 
   pub split : chains ≡ flat_map (λ link. link.inner) links ++ rest
 
 -- the widths of links
-abbrev pub widths_of : List Link → ℕ
-widths_of links = sum_by (λ link. link.width) links
+abbrev pub link_widths : List Link → ℕ
+link_widths links = sum_by (λ link. link.width) links
 
 -- the entries of a chain stand from place `at` on
 pub record IsRow (style : Style) (table : OpenTable) (entries : List Entry) (chains : List Chain) (at most : ℕ)
@@ -72,7 +72,7 @@ pub record IsRow (style : Style) (table : OpenTable) (entries : List Entry) (cha
   pub links : List Link
   pub linked : AreLinked style table entries 0 (drop at chains) links (drop row.past chains)
   pub covers : row.covered ≡ covered links
-  pub wide : row.width ≡ widths_of links
+  pub wide : row.width ≡ link_widths links
   pub light : row.width ≤ most
   pub within : row.past ≤ length chains
   pub inside : row.covered ≤ table.cols
@@ -81,4 +81,4 @@ pub record IsRow (style : Style) (table : OpenTable) (entries : List Entry) (cha
 -- no links of at most this width in all stand for the entries, with the chains that they rest on at the head of these
 abbrev pub HasNoRow : Style → OpenTable → List Entry → List Chain → ℕ → Type 0
 HasNoRow style table entries chains most = (links : List Link) (rest : List Chain) →
-    AreLinked style table entries 0 chains links rest → widths_of links ≤ most → ⊥
+    AreLinked style table entries 0 chains links rest → link_widths links ≤ most → ⊥

@@ -25,7 +25,8 @@ problem_for-requires-clause-sound c = sound_one c.args.subject.now c.requires.su
 pub problem_for-requires-clause-narrow : goal.problem_for-requires-clause-narrow
 problem_for-requires-clause-narrow c = narrow c.args.subject.now c.requires.subject c.requires.wide c.args.before.now
     c.requires.good.0 c.requires.good.1
-    (due_of c.args.due) c.requires.next c.table_of-table.result.now c.table_of-table.ensures c.sections_give_sound_problems.ensures
+    (due_of c.args.due) c.requires.next c.table_of-table.result.now c.table_of-table.ensures
+    c.sections_give_sound_problems.ensures
 
 pub problem_for-requires-clause-wide : goal.problem_for-requires-clause-wide
 problem_for-requires-clause-wide c = (by_law c.args.subject.now c.requires.subject c.requires.wide c.args.before.now
@@ -36,7 +37,8 @@ problem_for-requires-clause-wide c = (by_law c.args.subject.now c.requires.subje
 pub unwrap-problem-requires : goal.unwrap-problem-requires
 unwrap-problem-requires c = some c.args.subject.now c.requires.subject c.requires.wide c.args.before.now c.requires.good.0
     c.requires.good.1
-    (due_of c.args.due) c.requires.next c.table_of-table.result.now c.table_of-table.ensures c.sections_give_sound_problems.ensures
+    (due_of c.args.due) c.requires.next c.table_of-table.result.now c.table_of-table.ensures
+    c.sections_give_sound_problems.ensures
     c.in_ok-problem_for.field-0 _
     c.in_ok-problem_for.ensures
 

@@ -1,0 +1,44 @@
+use Rattle.std.proofs.Common.{◌∙◌, refl, sym, ap, subst}
+use Rattle.tl_cert.specs.Text.{IsSectionWritable}
+use Rattle.tl_form.specs.Expected.{placed_width}
+use Rattle.tl_form.specs.Subjects.{due_of, meant}
+use Rattle.tl_nested.specs.Searched.{IsSearched}
+use Rattle.tl_nested.specs.Solved.{GivesOutcome}
+use Rattle.tl_nested.specs.inner.Found.{section_of}
+use Rattle.tl_nested.proofs.Made.{placed_as, searched, solved_by, writable}
+use Rattle.tl_nested.proofs.found.search.Goals as goal
+
+pub returns-clause-searched : goal.returns-clause-searched
+returns-clause-searched g c =
+    let outcome = c.in_ok-outcome.outcome in
+    let given = GivesOutcome g.F.Fn c.args.solve.now c.args.budget in
+    let at = c.in_ok-problem.ensures (section_of (due_of c.args.due) outcome) refl refl in
+    let both = solved_by g.F.Fn c.args.solve.now _ c.args.budget c.solve.result outcome c.requires.solves at.sound
+    c.in_ok-outcome.was c.solve.ensures in
+    subst (IsSearched given (meant c.args.subject.now) c.args.budget c.args.before.now) (sym c.found_of.ensures.section)
+    (searched c.args.subject.now c.requires.subject c.requires.wide c.args.before.now c.args.budget c.requires.good
+    (due_of c.args.due) c.requires.next
+    outcome c.in_ok-problem.problem at both.0 given both.1)
+
+pub returns-clause-placed : goal.returns-clause-placed
+returns-clause-placed g c =
+    let outcome = c.in_ok-outcome.outcome in
+    let at = c.in_ok-problem.ensures (section_of (due_of c.args.due) outcome) refl refl in
+    let both = solved_by g.F.Fn c.args.solve.now _ c.args.budget c.solve.result outcome c.requires.solves at.sound
+    c.in_ok-outcome.was c.solve.ensures in
+    c.found_of.ensures.placed
+    ∙ placed_as c.args.subject.now c.requires.subject c.requires.wide c.args.before.now c.args.budget c.requires.good
+    (due_of c.args.due) c.requires.next
+    outcome c.in_ok-problem.problem at both.0
+    ∙ ap (placed_width c.args.subject.now.style) (sym c.found_of.ensures.section)
+
+pub returns-clause-writable : goal.returns-clause-writable
+returns-clause-writable g c =
+    let outcome = c.in_ok-outcome.outcome in
+    let at = c.in_ok-problem.ensures (section_of (due_of c.args.due) outcome) refl refl in
+    let both = solved_by g.F.Fn c.args.solve.now _ c.args.budget c.solve.result outcome c.requires.solves at.sound
+    c.in_ok-outcome.was c.solve.ensures in
+    subst IsSectionWritable (sym c.found_of.ensures.section)
+    (writable c.args.subject.now c.requires.subject c.requires.wide c.args.before.now c.args.budget c.requires.good
+    (due_of c.args.due) c.requires.next
+    outcome c.in_ok-problem.problem at both.0 c.sections_give_sound_problems.ensures)
