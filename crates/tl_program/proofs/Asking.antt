@@ -3,17 +3,20 @@ use Rattle.std.proofs.Common.{◌≡◌, ◌≢◌, inl, inr, ℕ, ◌≤◌, Li
 use Rattle.std.specs.Prelude.{IfSome}
 use Rattle.std.proofs.lemmas.List.Elements.{All-contains}
 use Rattle.std.proofs.lemmas.Option.{slice_get_within, get_or_from_slice_get}
-use Rattle.tl_base.specs.declared.limits.TheConstants.{MAX_BUDGET}
+use Rattle.tl_base.specs.declared.limits.TheConstants.{MAX_BUDGET, MAX_PAGE_WIDTH}
 use Rattle.tl_command.specs.declared.command.Command.{Command}
+use Rattle.tl_command.specs.declared.options.Choice.{Choice}
 use Rattle.tl_command.specs.declared.options.Choice.TheVariants as choices
 use Rattle.tl_command.specs.Ask.{Asked, IsAsk, AreNames}
 use Rattle.tl_command.specs.Command.{IsCountOf}
-use Rattle.tl_command.specs.Options.{IsOptionOf}
+use Rattle.tl_command.specs.Options.{IsGiven, IsInRange, IsOptionOf}
 use Rattle.tl_command.proofs.AskLemmas.{ask_once}
 use Rattle.tl_program.specs.Asks.{IsAskOf, input_name, page_name, certificate_name}
 use Rattle.tl_program.specs.Change.{Change}
 use Rattle.tl_program.specs.Headline.{ComesOf, IsCarriedOut}
 use Rattle.tl_program.specs.Deliveries.{Delivery}
+use Rattle.tl_program.specs.Tasks.{given_or, task_of}
+use Rattle.tl_program.specs.inner.Steps.{IsTaskInRange}
 
 -- ---- limits
 
@@ -22,15 +25,28 @@ pub names_asked : (command : Command) (words : List (List ℕ)) (asked : Asked) 
     IsCountOf command (length asked.names)
 names_asked command words asked is = subst (λ (c : Command). IsCountOf c (length asked.names)) is.by is.is.counted
 
--- the budget is within its limit
-pub budget_small : (words : List (List ℕ)) (asked : Asked) → IsAsk words asked →
-    IfSome asked.options.budget (λ budget. budget ≤ MAX_BUDGET)
-budget_small words asked is = by_budget asked.options.budget refl where
-  by_budget : (budget : Option ℕ) → asked.options.budget ≡ budget → IfSome budget (λ budget. budget ≤ MAX_BUDGET)
-  by_budget None same = tt
-  by_budget (Some budget) same =
-      (All-contains (IsOptionOf asked.command) is.options.choices (choices.Budget budget) is.options.of_command
-      ((is.options.given (choices.Budget budget)).0 same)).in_range
+module _ (words : List (List ℕ)) (asked : Asked) (is : IsAsk words asked) where
+  -- an option that is given is within its limits
+  in_range : (choice : Choice) → IsGiven asked.options choice → IsInRange choice
+  in_range choice given =
+      (All-contains (IsOptionOf asked.command) is.options.choices choice is.options.of_command
+      ((is.options.given choice).0 given)).in_range
+
+  cuts : IfSome asked.options.budget (λ budget. budget ≤ MAX_BUDGET)
+  cuts = by_budget asked.options.budget refl where
+    by_budget : (budget : Option ℕ) → asked.options.budget ≡ budget → IfSome budget (λ budget. budget ≤ MAX_BUDGET)
+    by_budget None same = tt
+    by_budget (Some budget) same = in_range (choices.Budget budget) same
+
+  workers : 1 ≤ given_or 1 asked.options.workers
+  workers = by_workers asked.options.workers refl where
+    by_workers : (workers : Option ℕ) → asked.options.workers ≡ workers → 1 ≤ given_or 1 workers
+    by_workers None same = omega arith
+    by_workers (Some workers) same = (in_range (choices.Workers workers) same).some
+
+  -- and so is all that a command on a file asks of its table
+  pub task_in_range : 1 ≤ asked.number → asked.number ≤ MAX_PAGE_WIDTH → IsTaskInRange (task_of asked)
+  task_in_range some narrow = record { some = some; narrow = narrow; workers = workers; cuts = cuts }
 
 -- ---- names
 

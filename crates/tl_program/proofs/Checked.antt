@@ -60,7 +60,8 @@ module _ (words : List (List ℕ)) (change : Change) (status : ℕ) (ends : Ends
   ]
 
 -- a certificate that is valid for a table is valid for each that is the same
-valid_alike : (task : Task) (one other : Table) (certificate : Certificate) → AreSame one other → IsValidIn task one certificate →
+pub valid_alike : (task : Task) (one other : Table) (certificate : Certificate) → AreSame one other →
+    IsValidIn task one certificate →
     IsValidIn task other certificate
 valid_alike task one other certificate same valid =
     subst (λ (budget : ℕ). IsValid other task.style task.width budget certificate) (same_budget task one other same)

@@ -76,6 +76,7 @@ module _ (words : List (List ℕ)) (change : Change) where
   report_fault (reports.Refused (refusals.BadInput fault place)) e = omega (arith, e)
   report_fault (reports.Refused (refusals.Overlap table row column)) e = omega (arith, e)
   report_fault (reports.Refused (refusals.Limit limit number)) e = omega (arith, e)
+  report_fault (reports.Refused (refusals.BadRecord fault place)) e = omega (arith, e)
   report_fault (reports.Rejected rejection) e = omega (arith, e)
   report_fault (reports.Summary summary) e = by_test (summary.lower == summary.height) e where
     by_test : (closed : Bool) → status_number (if closed then statuses.Lowest else statuses.Bounded) ≡ 8 → ⊥
@@ -91,6 +92,7 @@ module _ (words : List (List ℕ)) (change : Change) where
   report_memory (reports.Refused (refusals.BadInput fault place)) e = omega (arith, e)
   report_memory (reports.Refused (refusals.Overlap table row column)) e = omega (arith, e)
   report_memory (reports.Refused (refusals.Limit limit number)) e = omega (arith, e)
+  report_memory (reports.Refused (refusals.BadRecord fault place)) e = omega (arith, e)
   report_memory (reports.Rejected rejection) e = omega (arith, e)
   report_memory (reports.Summary summary) e = by_test (summary.lower == summary.height) e where
     by_test : (closed : Bool) → status_number (if closed then statuses.Lowest else statuses.Bounded) ≡ 9 → ⊥
@@ -139,15 +141,15 @@ same_bytes files held name one bytes are has holds =
 -- what a run which did not fail delivered
 pub went : (words : List (List ℕ)) (change : Change) (status : ℕ) (command : Command) (asked : Asked) → Ends words change status →
     IsAskOf command words asked → DoesNotFail change →
-    ((delivery : Delivery) × IsCarriedOut command asked change delivery × (status ≡ status_number (status_of delivery.report)))
-    ⊎ (status ≡ 9)
+    ((delivery : Delivery) × IsCarriedOut command asked change delivery × (status ≡ status_number (status_of delivery.report))
+    × (change.said_after ≡ longer change.said (message_of delivery.report))) ⊎ (status ≡ 9)
 went words change status command asked ends is quiet = elim (eqb_tells status 9) [
   | inl nine ↦ inr nine.1
   | inr other ↦ elim (eqb_tells status 8) [
     | inl eight ↦ absurd (quiet.write (ends.write_fault eight.1).0)
     | inr another ↦
         let done = ends.done another.1 other.1 in
-        inl (done.0, carried_as words change command asked done.0 is done.1, done.2)
+        inl (done.0, carried_as words change command asked done.0 is done.1, done.2, done.4)
   ]
 ]
 

@@ -1,12 +1,23 @@
 -- The definitions on small cases.
-use Rattle.std.proofs.Common.{◌≡◌, ℕ, List, [], ◌∷◌, ◌++◌, codes, Some, None, false, true, refl}
+use Rattle.std.proofs.Common.{◌≡◌, ◌∙◌, ℕ, List, [], ◌∷◌, ◌++◌, length, codes, decimal, Some, None, false, true, refl, ap, arith}
+use Rattle.std.proofs.lemmas.List.{length-append}
+use Rattle.std.proofs.lemmas.List.Concat.{flat_map-cons}
+use Rattle.tl_base.specs.declared.breaking.Breaking.TheVariants.{Words}
+use Rattle.tl_base.specs.declared.style.Style.TheVariants as styles
+use Rattle.tl_table.specs.declared.cell.Table.{Table}
+use Rattle.tl_table.specs.declared.layout.Layout.{Layout}
+use Rattle.tl_page.specs.Pages.{page_bytes}
+use Rattle.tl_page.specs.Standing.{HoldsAllText}
+use Rattle.tl_read.specs.declared.refusal.RecordFault.TheVariants as records
+use Rattle.tl_read.specs.declared.source.Source.TheVariants.{Csv, Html}
 use Rattle.tl_read.specs.declared.refusal.Fault.TheVariants as faults
 use Rattle.tl_read.specs.declared.refusal.Refusal.TheVariants as refusals
 use Rattle.tl_program.specs.declared.report.Report.TheVariants as reports
 use Rattle.tl_command.specs.declared.command.Command.{Command}
 use Rattle.tl_command.specs.declared.command.Command.TheVariants.{Lay, Check}
+use Rattle.tl_command.specs.declared.options.Options.{Options}
 use Rattle.tl_command.specs.Ask.{Asked}
-use Rattle.tl_program.specs.Answers.{budget_of}
+use Rattle.tl_program.specs.Answers.{budget_of, IsWholePage}
 use Rattle.tl_program.specs.Asks.{input_name, page_name, certificate_name, judged_name}
 use Rattle.tl_program.specs.Change.{Stored}
 use Rattle.tl_program.specs.Messages.{status_number, status_of, message_of}
@@ -42,13 +53,27 @@ usage = refl
 unnamed : stored_as None (Some (1 ∷ [])) ≡ None
 unnamed = refl
 
+-- no option
+abbrev no_options : Options
+no_options = record {
+  style = None;
+  breaking = None;
+  budget = None;
+  search = None;
+  workers = None;
+  csv = false;
+  head = false;
+  least = None;
+  html = false;
+}
+
 -- a command on a page of 7 columns, with these names and no options
 abbrev with_names : Command → List (List ℕ) → Asked
 with_names command names = record {
   command = command;
   number = 7;
   names = names;
-  options = record { style = None; breaking = None; budget = None; search = None; html = false };
+  options = no_options;
 }
 
 -- `lay 7 t p c` reads `t`, and stores the page under `p` and the certificate under `c`
@@ -84,3 +109,51 @@ stored_in_order : (delivery_of lay_three (record {
     ≡ (let page : Stored = record { name = codes "p"; bytes = 1 ∷ [] } in page)
     ∷ (let text : Stored = record { name = codes "c"; bytes = 2 ∷ [] } in text) ∷ []
 stored_in_order = refl
+
+-- an empty file is no page of a layout of one line
+no_line : (table : Table) (layout : Layout) → IsWholePage false styles.Plain Words table 1 layout [] → ⊥
+no_line table layout whole = by_lines whole.0 whole.3 whole.4 where
+  by_lines : (lines : List (List ℕ)) → length lines ≡ 1 → [] ≡ page_bytes lines → ⊥
+  by_lines [] high same = omega (arith, high)
+  by_lines (line ∷ lines) high same = omega (
+    arith,
+    ap length (same ∙ flat_map-cons (λ (l : List ℕ). l ++ 10 ∷ []) line lines),
+    length-append (line ++ 10 ∷ []) (page_bytes lines),
+    length-append line (10 ∷ []),
+  )
+
+-- the text of a page is that of the table, whole
+holds_text : (table : Table) (height : ℕ) (layout : Layout) (page : List ℕ) →
+    IsWholePage false styles.Frame Words table height layout page →
+    (lines : List (List ℕ)) × HoldsAllText styles.Frame table layout lines × (page ≡ page_bytes lines)
+holds_text table height layout page whole = (whole.0, whole.2, whole.4)
+
+-- `lay 7 t p c --csv --head --least 5` reads a CSV file, with the least width 5 of the first column
+abbrev lay_csv : Asked
+lay_csv = record {
+  command = Lay;
+  number = 7;
+  names = codes "t" ∷ codes "p" ∷ codes "c" ∷ [];
+  options = record {
+    style = None;
+    breaking = None;
+    budget = None;
+    search = None;
+    workers = None;
+    csv = true;
+    head = true;
+    least = Some (5 ∷ []);
+    html = false;
+  };
+}
+
+csv_source : (task_of lay_csv).source ≡ Csv true (5 ∷ []) Words
+csv_source = refl
+
+html_source : (task_of lay_three).source ≡ Html Words
+html_source = refl
+
+-- the message of a record with another number of fields
+uneven : message_of (reports.Refused (refusals.BadRecord records.Uneven 1)) ≡
+    codes "bad input: uneven record at " ++ (decimal 1 ++ 10 ∷ [])
+uneven = refl

@@ -67,7 +67,7 @@ module _ (source : Source) (reach : Table → ℕ) (Refuses : Refusal → Type 0
     read = reading_of_content source content bytes of.reading is of.read;
     only = λ other read. of.only other (reading_from_content source content bytes other is read);
     sound = of.sound;
-    formed = of.formed;
+    spellable = of.spellable;
     so = of.so;
   }
 
@@ -102,7 +102,7 @@ of_bytes_mapped source reach Refuses Passes Own Other passed owned bytes of = re
   read = of.read;
   only = of.only;
   sound = of.sound;
-  formed = of.formed;
+  spellable = of.spellable;
   so = by_reading of.reading of.so;
 } where
   by_reading : (reading : Reading) → IsOfReading reach Refuses Own reading → IsOfReading reach Passes Other reading

@@ -19,7 +19,7 @@ use Rattle.tl_cert.specs.Faults.{IsTextOf, IsNoText}
 use Rattle.tl_cert.specs.Text.{IsWritable, HasProof, IsSectionShaped, IsNarrow}
 use Rattle.tl_cert.proofs.text.Laws.{texts_apart}
 use Rattle.tl_table.specs.declared.cell.Table.{Table}
-use Rattle.tl_form.specs.ClosedLaws.{IsClosed, IsWideDocument, BudgetCloses}
+use Rattle.tl_form.specs.ClosedLaws.{IsClosedSection, IsWideDocument, BudgetCloses}
 use Rattle.tl_form.specs.Expected.{Document, own_number, least_of}
 use Rattle.tl_table.specs.Least.{IsLeastWidth}
 use Rattle.tl_form.specs.OpenLaws.{IsSpent, OpenSpends}
@@ -148,10 +148,10 @@ module _ (task : Task) (table : Table) (certificate : Certificate) (sound : IsSo
       | inr more ↦ absurd (closed (closes_law table task.style task.width (budget_in task table) most
           (length sections) document sections wide_document is_most more (omega (arith, cuts)) (omega arith) shown.0.good))
     ] where
-      closed : All IsClosed (take (length sections) sections) → ⊥
+      closed : All IsClosedSection (take (length sections) sections) → ⊥
       closed all =
           let same : (get_or sections (length sections - 1) last).lower ≡ (get_or sections (length sections - 1) last).height =
-          (subst (All IsClosed) (take_all (length sections) sections (omega arith)) all) (length sections - 1) last
+          (subst (All IsClosedSection) (take_all (length sections) sections (omega arith)) all) (length sections - 1) last
           (omega (arith, some)) in
           omega (arith, same, opened)
 

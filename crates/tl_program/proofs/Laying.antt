@@ -17,15 +17,15 @@ use Rattle.tl_cert.specs.declared.certificate.Certificate.{Certificate}
 use Rattle.tl_cert.specs.declared.certificate.Claim.{Claim}
 use Rattle.tl_cert.specs.declared.certificate.Claim.TheVariants as claims
 use Rattle.tl_cert.specs.declared.section.Section.{Section}
-use Rattle.tl_cert.specs.Pieces.{Piece, AllWithin, word, field}
+use Rattle.tl_cert.specs.Pieces.{TextPiece, AllWithin, word, field}
 use Rattle.tl_cert.specs.Text.{IsWritable, HasProof, HasSections, IsSectionShaped, IsSectionWritable, IsNarrow, chain_pieces}
 use Rattle.tl_cert.specs.Text.{IsChainWritable, cert_pieces, claim_pieces, section_pieces, section_head}
-use Rattle.tl_cert.specs.Text.{style_word, version_word, has_area, space, line_feed, spaced, cut_pieces, line_pieces}
+use Rattle.tl_cert.specs.Text.{style_field, version_word, has_area, space, line_feed, spaced, cut_pieces, line_pieces}
 use Rattle.tl_cert.proofs.reading.Spellings.{within-first, within-append}
 use Rattle.tl_table.specs.declared.cell.Table.{Table}
 use Rattle.tl_table.specs.declared.layout.Layout.{Layout, out-Layout}
 use Rattle.tl_form.proofs.CountsExist.{counts}
-use Rattle.tl_form.specs.ClosedLaws.{IsClosed, IsWideDocument, BudgetCloses}
+use Rattle.tl_form.specs.ClosedLaws.{IsClosedSection, IsWideDocument, BudgetCloses}
 use Rattle.tl_form.specs.OpenLaws.{IsSpent, OpenSpends}
 use Rattle.tl_base.specs.declared.chain.Chain.{Chain}
 use Rattle.tl_form.specs.ChainRanges.{ChainsAreWritable}
@@ -119,7 +119,7 @@ claim_height section false = refl
 
 -- ---- writing
 
-each_within : {X : Type 0} (f : X → List Piece) (xs : List X) → AllByRecursion (λ x. AllWithin (f x)) xs →
+each_within : {X : Type 0} (f : X → List TextPiece) (xs : List X) → AllByRecursion (λ x. AllWithin (f x)) xs →
     AllWithin (flat_map f xs)
 each_within f [] all = tt
 each_within f (x ∷ xs) all = within-append (f x) (flat_map f xs) all.0 (each_within f xs all.1)
@@ -151,7 +151,7 @@ pieces_within c more less cuts claim chains sections =
     let body = within-append (flat_map chain_pieces c.chains) _ (each_within chain_pieces c.chains chains) tail in
     let claimed = within-append (claim_pieces c.claim) _ claim body in
     let budgeted = within-append (field 0 MAX_BUDGET c.budget line_feed) _ ((omega arith, cuts), (tt, tt)) claimed in
-    let styled = within-append (word (style_word c.style)) _ (within-word (style_word c.style)) budgeted in
+    let styled = within-append (word (style_field c.style)) _ (within-word (style_field c.style)) budgeted in
     let wide = within-append (field 1 MAX_PAGE_WIDTH c.width space) _ ((more, less), (tt, tt)) styled in
     let versioned = within-append (word (version_word (has_area c.sections))) _
     (within-word (version_word (has_area c.sections))) wide in
@@ -163,7 +163,7 @@ shaped_wide (claims.Bounded height lower) c wide has = has
 shaped_wide (claims.Narrow least) c wide has = absurd (wide tt)
 
 -- what follows the head of a section
-abbrev rest_of : Section → List Piece
+abbrev rest_of : Section → List TextPiece
 rest_of section = word (codes "widths") ++ (flat_map (spaced MAX_PAGE_WIDTH) section.widths ++ (word (codes "\n")
     ++ (flat_map cut_pieces section.trace ++ flat_map line_pieces section.log)))
 
@@ -421,11 +421,11 @@ module _ (task : Task) (table : Table) (sections : List Section) (are : sections
               (length sections) are.document sections wide_document
               counted more (omega (arith, cuts)) (omega arith) good))
         ] where
-          closed : All IsClosed (take (length sections) sections) → ⊥
+          closed : All IsClosedSection (take (length sections) sections) → ⊥
           closed all =
               let d = first_of sections can.some in
               let same : (get_or sections (length sections - 1) d).lower ≡ (get_or sections (length sections - 1) d).height =
-              (subst (All IsClosed) (take_all (length sections) sections (omega arith)) all) (length sections - 1) d
+              (subst (All IsClosedSection) (take_all (length sections) sections (omega arith)) all) (length sections - 1) d
               (omega (arith, can.some)) in
               omega (arith, same, opened d)
 

@@ -1,4 +1,5 @@
 pub mod Accepting
+pub mod Alike
 pub mod Asking
 pub mod Checked
 pub mod Checking

@@ -1,5 +1,5 @@
 -- How a command on a file ends: by what its file gives, and by its own part on the table.
-use Rattle.std.proofs.Common.{◌≡◌, ◌⊎◌, inl, inr, ℕ, ◌+◌, ◌≤◌, List, length, Option, sym, ◌∙◌, ap, subst}
+use Rattle.std.proofs.Common.{◌≡◌, ◌⊎◌, inl, inr, ℕ, ◌+◌, ◌≤◌, List, length, Option, refl, sym, ◌∙◌, ap, subst}
 use Rattle.std.specs.Prelude.{IfOk, IfSome, Result, Ok, Err}
 use Rattle.std.specs.declared.alloc.AllocError.{AllocError}
 use Rattle.tl_base.specs.declared.limits.TheConstants.{MAX_FILE_BYTES}
@@ -14,7 +14,8 @@ use Rattle.tl_program.specs.declared.status.Status.{Status}
 use Rattle.tl_program.specs.declared.task.Task.{Task}
 use Rattle.tl_program.specs.Answers.{budget_in, reach}
 use Rattle.tl_program.specs.Asks.{input_name}
-use Rattle.tl_program.specs.Change.{Change, Holds}
+use Rattle.tl_base.specs.declared.desk.Desk.{Ghosts}
+use Rattle.tl_program.specs.Change.{Change, Holds, between}
 use Rattle.tl_program.specs.Deliveries.{Delivery, reported, ComesOfInput, IsUnread}
 use Rattle.tl_program.specs.Headline.{ComesOf, Ends}
 use Rattle.tl_program.specs.Messages.{status_number}
@@ -68,6 +69,20 @@ pub record Follows (change second : Change) : Type 0 where
   pub writes : second.write_faults ≡ change.write_faults
   pub writes_after : second.write_faults_after ≡ change.write_faults_after
   pub loads_after : second.load_faults_after ≡ change.load_faults_after
+
+-- so it is after a load, which changes no file and prints nothing
+pub follows_load : {Desk : Type 0} (shown : Ghosts Desk) (before loaded after : Desk) → shown.files loaded ≡ shown.files before →
+    shown.said loaded ≡ shown.said before → shown.write_faults loaded ≡ shown.write_faults before →
+    Follows (between shown before after) (between shown loaded after)
+follows_load shown before loaded after files said writes = record {
+  files = files;
+  files_after = refl;
+  said = said;
+  said_after = refl;
+  writes = writes;
+  writes_after = refl;
+  loads_after = refl;
+}
 
 module _ (words : List (List ℕ)) (change second : Change) (asked : Asked) (Own : Table → Delivery → Type 0) (input : Input)
     (result : Status)

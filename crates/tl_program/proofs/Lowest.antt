@@ -1,5 +1,5 @@
 -- The theorem follows from how a run ends.
-use Rattle.std.proofs.Common.{◌≡◌, ◌≢◌, inl, inr, ℕ, zero, suc, ◌≤◌, Bool, true, false, List, ◌++◌, length, Option, Some, None}
+use Rattle.std.proofs.Common.{◌≡◌, ◌≢◌, inl, inr, ℕ, zero, suc, Bool, true, false, List, [], ◌++◌, Option, Some, None}
 use Rattle.std.proofs.Common.{refl, sym, subst, ◌∙◌, arith}
 use Rattle.std.specs.Prelude.{bytes_eq, option_to_list}
 use Rattle.std.proofs.lemmas.Map.{update_same, update_other}
@@ -14,13 +14,12 @@ use Rattle.tl_table.specs.declared.layout.Layout.{Layout, out-Layout}
 use Rattle.tl_table.specs.Layouts.{Fits, FitsWithin, total_height}
 use Rattle.tl_table.specs.Sound.{IsSound}
 use Rattle.tl_read.specs.declared.reading.Reading.TheVariants as readings
-use Rattle.tl_read.specs.declared.source.Source.TheVariants.{Html}
-use Rattle.tl_read.specs.Reading.{IsReading, IsFormed, SpellsWithinLimits}
-use Rattle.tl_read.proofs.Readings.{spelt_within}
+use Rattle.tl_read.specs.Reading.{IsReading, IsTableOfFile, breaking_in}
+use Rattle.tl_read.proofs.Readings.{table_within}
 use Rattle.tl_page.proofs.PageLaws.{as_high}
 use Rattle.tl_page.proofs.Whole.{whole}
 use Rattle.tl_html.proofs.Fitting.{fitting_columns}
-use Rattle.tl_html.proofs.FormedTables.{formed_spellable}
+use Rattle.tl_html.specs.Spellable.{IsSpellable}
 use Rattle.tl_html.proofs.ReadsBack.{reads_back}
 use Rattle.tl_program.specs.declared.answer.Answer.{Answer}
 use Rattle.tl_program.specs.declared.report.Report.{Report}
@@ -34,7 +33,7 @@ use Rattle.tl_program.specs.Deliveries.{delivery_of, stored_as}
 use Rattle.tl_program.specs.Headline.{Ends}
 use Rattle.tl_program.specs.Lowest.{StoresPage, StoresLowest, StoresBounded, FitsNone}
 use Rattle.tl_program.specs.Messages.{status_number, status_of}
-use Rattle.tl_program.specs.Tasks.{style_of, breaking_of, task_of}
+use Rattle.tl_program.specs.Tasks.{given_or, style_of, breaking_of, source_by, source_of, task_of}
 use Rattle.tl_program.proofs.Asking.{page_is_no_certificate}
 use Rattle.tl_program.proofs.Ends.{same_bytes}
 use Rattle.tl_program.proofs.LaidRuns.{LaidRun, laid_run}
@@ -86,45 +85,54 @@ fits_high table style width height layout fits = by_depth fits.0 fits.1 where
 
 -- a page of a sound table in a layout that fits has all its text
 whole_page : (html : Bool) (style : Style) (breaking : Breaking) (table : Table) (width height : ℕ) (layout : Layout)
-    (page : List ℕ) → IsSound table → IsFormed (Html breaking) (readings.Table table) → Fits table style width height layout →
+    (page : List ℕ) → IsSound table → IsSpellable breaking table → Fits table style width height layout →
     IsPageFile html style table layout page → IsWholePage html style breaking table height layout page
-whole_page false style breaking table width height layout page sound formed fits (lines, is, same) = (
+whole_page false style breaking table width height layout page sound spellable fits (lines, is, same) = (
   lines,
   is,
   (is.0, (whole is.0 style table layout lines width height sound fits is.1).holds),
   as_high style table layout lines is ∙ fits_high table style width height layout fits,
   same,
 )
-whole_page true style breaking table width height layout page sound formed fits (same, is) =
-    let spelt = formed_spellable breaking formed.0 table formed.1 formed.2 in (
-      is,
-      reads_back table layout page is breaking spelt.0 spelt.1 (fitting_columns table style width height layout fits),
-    )
+whole_page true style breaking table width height layout page sound spellable fits (same, is) = (
+  is,
+  reads_back table layout page is breaking sound spellable (fitting_columns table style width height layout fits),
+)
+
+-- a CSV file is broken as one of HTML is
+same_breaks : (csv head : Bool) (floors : List ℕ) (breaking : Breaking) →
+    breaking_in (source_by csv head floors breaking) ≡ breaking
+same_breaks true head floors breaking = refl
+same_breaks false head floors breaking = refl
 
 -- ---- what a run of `lay` stores
 
 module _ (words : List (List ℕ)) (change : Change) (status : ℕ) (asked : Asked) (bytes : List ℕ)
     (is : IsAskOf Lay words asked) (shown : ShowsFile change (input_name asked) bytes) (run : LaidRun asked change status) where
   -- the table is that of the bytes
-  read : IsReading (Html (breaking_of asked)) bytes (readings.Table run.table)
-  read = subst (λ (bs : List ℕ). IsReading (Html (breaking_of asked)) bs (readings.Table run.table))
+  read : IsReading (source_of asked) bytes (readings.Table run.table)
+  read = subst (λ (bs : List ℕ). IsReading (source_of asked) bs (readings.Table run.table))
       (same_bytes change.files shown.0 (input_name asked) run.content bytes shown.1 shown.2 run.holds) run.read
 
-  spells : SpellsWithinLimits bytes (breaking_of asked) run.table
-  spells = (spelt_within (breaking_of asked) bytes run.table read).1
+  is_table : IsTableOfFile (source_of asked) bytes run.table
+  is_table = (table_within (source_of asked) bytes run.table read).1
+
+  spellable : IsSpellable (breaking_of asked) run.table
+  spellable = subst (λ (breaking : Breaking). IsSpellable breaking run.table)
+      (same_breaks asked.options.csv asked.options.head (given_or [] asked.options.least) (breaking_of asked)) run.spellable
 
   -- a page that is written is stored, with all text of the table
   stores_page : (height taken budget : ℕ) (claim : _) →
       IsWritten (task_of asked) run.table asked.number budget claim height taken run.answer →
       StoresPage asked bytes change run.table height
   stores_page height taken budget claim written = record {
-    spells = spells.spells;
+    is_table = is_table;
     sound = run.sound;
     layout = written.layout;
     fits = written.is_page.fits;
     page = written.page;
     whole = whole_page asked.options.html (style_of asked) (breaking_of asked) run.table asked.number height written.layout
-        written.page run.sound run.formed written.is_page.fits written.is_page.is_page;
+        written.page run.sound spellable written.is_page.fits written.is_page.is_page;
     stored = subst (λ (files : Option Files). Holds files (page_name asked) written.page) (sym run.stores)
         (page_there change.files asked run.answer written.page is.is.names written.page_stored);
   }
@@ -183,7 +191,7 @@ fits_none words change status ends = λ same asked bytes is shown.
     let went = laid_run words change status asked ends is (inr (inr same)) in
     let found = narrow_of (task_of asked) went.table went.answer went.laid (sym went.told ∙ same) in (
       went.table,
-      (spells words change status asked bytes is shown went).spells,
+      is_table words change status asked bytes is shown went,
       went.sound,
       λ height layout fits.
           let wide = found.1.is_least.least asked.number height layout fits in

@@ -27,7 +27,7 @@ use Rattle.tl_table.specs.Sound.{nested_in_table}
 use Rattle.tl_form.specs.Valid.{IsValid}
 use Rattle.tl_form.specs.ValidLaws.{IsBetween}
 use Rattle.tl_html.specs.Html as html
-use Rattle.tl_html.specs.Readable.{IsPage as IsHtmlPage, SpellsAlike}
+use Rattle.tl_html.specs.Readable.{IsHtmlPage, SpellsAlike}
 use Rattle.tl_nested.specs.Searched.{AreSectionsOf}
 use Rattle.tl_page.specs.Pages.{IsPage}
 use Rattle.tl_page.specs.Pages as pages
@@ -61,15 +61,15 @@ reach task table = searches table task.width * budget_in task table
 
 -- the file of the page: in text, or as HTML
 abbrev pub IsPageFile : Bool → Style → Table → Layout → List ℕ → Type 0
-IsPageFile true style table layout bytes = (bytes ≡ html.bytes_of table layout) × IsHtmlPage table layout bytes
+IsPageFile true style table layout bytes = (bytes ≡ html.html_bytes table layout) × IsHtmlPage table layout bytes
 IsPageFile false style table layout bytes = (lines : List (List ℕ)) × IsPage style table layout lines
-    × (bytes ≡ pages.bytes_of lines)
+    × (bytes ≡ pages.page_bytes lines)
 
 -- a page of the table in a layout, with all its text: so many lines, on which each unit of each cell stands whole and in
 -- order; or HTML, which spells the same table
 abbrev pub IsWholePage : Bool → Style → Breaking → Table → ℕ → Layout → List ℕ → Type 0
 IsWholePage false style breaking table height layout page = (lines : List (List ℕ)) × IsPage style table layout lines
-    × HoldsAllText style table layout lines × (length lines ≡ height) × (page ≡ pages.bytes_of lines)
+    × HoldsAllText style table layout lines × (length lines ≡ height) × (page ≡ pages.page_bytes lines)
 IsWholePage true style breaking table height layout page = IsHtmlPage table layout page × SpellsAlike page breaking table
 
 -- the file of the certificate, where it is asked for

@@ -10,7 +10,7 @@ use Rattle.tl_read.specs.declared.refusal.Limit.TheVariants as limits
 use Rattle.tl_read.specs.declared.refusal.Refusal.{Refusal}
 use Rattle.tl_read.specs.declared.refusal.Refusal.TheVariants as refusals
 use Rattle.tl_read.specs.declared.source.Source.{Source}
-use Rattle.tl_read.specs.Reading.{IsReading, AreSameReadings, IsFormed, IsSoundReading}
+use Rattle.tl_read.specs.Reading.{IsReading, AreSameReadings, IsSpellableReading, IsSoundReading}
 use Rattle.tl_program.specs.Change.{Holds}
 
 -- What comes of a table whose searches may make `reach` cuts together: it is refused where these are too many, and else the
@@ -24,14 +24,14 @@ abbrev pub IsOfReading : (Table → ℕ) → (Refusal → Type 0) → (Table →
 IsOfReading reach Refuses Own (readings.Table table) = IsOfTable (reach table) Refuses (Own table)
 IsOfReading reach Refuses Own (readings.Refused refusal) = Refuses refusal
 
--- what comes of bytes, which are read in one way alone, and if as a table, as a sound one that a sound tree becomes
+-- what comes of bytes, which are read in one way alone, and if as a table, as a sound one that a file of HTML can spell
 pub record IsOfBytes (source : Source) (reach : Table → ℕ) (Refuses : Refusal → Type 0) (Own : Table → Type 0)
     (bytes : List ℕ) : Type 0 where
   pub reading : Reading
   pub read : IsReading source bytes reading
   pub only : (other : Reading) → IsReading source bytes other → AreSameReadings reading other
   pub sound : IsSoundReading reading
-  pub formed : IsFormed source reading
+  pub spellable : IsSpellableReading source reading
   pub so : IsOfReading reach Refuses Own reading
 
 -- what comes of the file of this name, which holds some bytes

@@ -1,5 +1,6 @@
--- The theorem. Of a file that spells a table, `lay` stores the lowest page that there is: no layout of the table that fits the
--- page width has fewer lines. The last three definitions are the first clauses of `run`, for the statuses 0, 3 and 4.
+-- The theorem. Of a file that is a table, `lay` stores the lowest page that there is: no layout of the table that fits the
+-- page width has fewer lines. HTML is the table that it spells, a CSV file that of its records (`IsTableOfFile`). The last three
+-- definitions are the first clauses of `run`, for the statuses 0, 3 and 4.
 use Rattle.std.specs.Prelude.{◌≡◌, ℕ, ◌<◌, ◌≤◌, List}
 use Rattle.tl_command.specs.declared.command.Command.TheVariants.{Lay}
 use Rattle.tl_command.specs.Ask.{Asked}
@@ -7,16 +8,16 @@ use Rattle.tl_table.specs.declared.cell.Table.{Table}
 use Rattle.tl_table.specs.declared.layout.Layout.{Layout}
 use Rattle.tl_table.specs.Layouts.{Fits}
 use Rattle.tl_table.specs.Sound.{IsSound}
-use Rattle.tl_table.specs.Spells.{Spells}
+use Rattle.tl_read.specs.Reading.{IsTableOfFile}
 use Rattle.tl_program.specs.Answers.{budget_in, IsBelowCounts, IsWholePage}
 use Rattle.tl_program.specs.Asks.{IsAskOf, input_name, page_name}
 use Rattle.tl_program.specs.Change.{Change, Holds}
 use Rattle.tl_program.specs.Complete.{ShowsFile}
-use Rattle.tl_program.specs.Tasks.{style_of, breaking_of, task_of}
+use Rattle.tl_program.specs.Tasks.{style_of, breaking_of, source_of, task_of}
 
--- the bytes of the file spell the table, and its page is stored, in a layout of so many lines that fits the page width
+-- the bytes of the file are the table, and its page is stored, in a layout of so many lines that fits the page width
 pub record StoresPage (asked : Asked) (bytes : List ℕ) (change : Change) (table : Table) (height : ℕ) : Type 0 where
-  pub spells : Spells bytes (breaking_of asked) table
+  pub is_table : IsTableOfFile (source_of asked) bytes table
   pub sound : IsSound table
   pub layout : Layout
   pub fits : Fits table (style_of asked) asked.number height layout
@@ -48,5 +49,5 @@ StoresBounded words change status = status ≡ 3 → OfFile words change (λ ask
 -- status 4: no layout of the table fits the page width
 abbrev pub FitsNone : List (List ℕ) → Change → ℕ → Type 0
 FitsNone words change status = status ≡ 4 → OfFile words change (λ asked bytes. (table : Table)
-    × Spells bytes (breaking_of asked) table × IsSound table × ((height : ℕ) (layout : Layout) →
+    × IsTableOfFile (source_of asked) bytes table × IsSound table × ((height : ℕ) (layout : Layout) →
     Fits table (style_of asked) asked.number height layout → ⊥))

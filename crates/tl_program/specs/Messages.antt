@@ -4,6 +4,8 @@ use Rattle.tl_read.specs.declared.refusal.Fault.{Fault}
 use Rattle.tl_read.specs.declared.refusal.Fault.TheVariants as faults
 use Rattle.tl_read.specs.declared.refusal.Limit.{Limit}
 use Rattle.tl_read.specs.declared.refusal.Limit.TheVariants as limits
+use Rattle.tl_read.specs.declared.refusal.RecordFault.{RecordFault}
+use Rattle.tl_read.specs.declared.refusal.RecordFault.TheVariants as records
 use Rattle.tl_read.specs.declared.refusal.Refusal.{Refusal}
 use Rattle.tl_read.specs.declared.refusal.Refusal.TheVariants as refusals
 use Rattle.tl_program.specs.declared.rejection.Rejection.{Rejection}
@@ -32,6 +34,7 @@ abbrev pub refusal_status : Refusal → Status
 refusal_status (refusals.BadInput fault place) = statuses.BadInput
 refusal_status (refusals.Overlap table row column) = statuses.BadInput
 refusal_status (refusals.Limit limit number) = statuses.Limit
+refusal_status (refusals.BadRecord fault place) = statuses.BadInput
 
 -- the status of a report
 abbrev pub status_of : Report → Status
@@ -59,6 +62,12 @@ fault_words faults.StrayText = codes "stray text"
 fault_words faults.MisplacedTag = codes "misplaced tag"
 fault_words faults.UnclosedTable = codes "unclosed table"
 
+-- what is wrong with a record of a CSV file
+abbrev pub record_words : RecordFault → List ℕ
+record_words records.Uneven = codes "uneven record"
+record_words records.NotUtf8 = codes "record not utf-8"
+record_words records.BadCharacter = codes "bad character in record"
+
 -- what is limited
 abbrev pub limit_word : Limit → List ℕ
 limit_word limits.File = codes "file"
@@ -78,6 +87,8 @@ refusal_text (refusals.Overlap table row column) =
     ++ (decimal column ++ 10 ∷ [])))))
 refusal_text (refusals.Limit limit number) =
     codes "limit: " ++ (limit_word limit ++ (codes " " ++ (decimal number ++ 10 ∷ [])))
+refusal_text (refusals.BadRecord fault place) =
+    codes "bad input: " ++ (record_words fault ++ (codes " at " ++ (decimal place ++ 10 ∷ [])))
 
 -- why a certificate is rejected
 abbrev pub rejection_text : Rejection → List ℕ

@@ -1,13 +1,14 @@
--- What a command asks of a table: its options, each as it is given, or else plain style, breaks between words, the
--- best-first search and a text page; and a certificate where there is a file for it.
-use Rattle.std.specs.Prelude.{Option, Some, None, is_some}
+-- What a command asks of a table: its options, each as it is given, or else a file of HTML, plain style, breaks between words,
+-- the best-first search, one worker and a text page; and a certificate where there is a file for it.
+use Rattle.std.specs.Prelude.{ℕ, Bool, true, false, List, [], Option, Some, None, is_some}
 use Rattle.tl_base.specs.declared.breaking.Breaking.{Breaking}
 use Rattle.tl_base.specs.declared.breaking.Breaking.TheVariants.{Words}
 use Rattle.tl_base.specs.declared.style.Style.{Style}
 use Rattle.tl_base.specs.declared.style.Style.TheVariants as styles
 use Rattle.tl_command.specs.declared.options.Search.TheVariants as searches
 use Rattle.tl_command.specs.Ask.{Asked}
-use Rattle.tl_read.specs.declared.source.Source.TheVariants.{Html}
+use Rattle.tl_read.specs.declared.source.Source.{Source}
+use Rattle.tl_read.specs.declared.source.Source.TheVariants.{Html, Csv}
 use Rattle.tl_program.specs.declared.task.Task.{Task}
 use Rattle.tl_program.specs.Asks.{certificate_name}
 
@@ -24,14 +25,23 @@ style_of asked = given_or styles.Plain asked.options.style
 abbrev pub breaking_of : Asked → Breaking
 breaking_of asked = given_or Words asked.options.breaking
 
+-- what kind of file it is: a CSV file, with what is said of its head and its columns, or else HTML
+abbrev pub source_by : Bool → Bool → List ℕ → Breaking → Source
+source_by true head floors breaking = Csv head floors breaking
+source_by false head floors breaking = Html breaking
+
+abbrev pub source_of : Asked → Source
+source_of asked = source_by asked.options.csv asked.options.head (given_or [] asked.options.least) (breaking_of asked)
+
 -- what is asked of the table
 abbrev pub task_of : Asked → Task
 task_of asked = record {
   width = asked.number;
   style = style_of asked;
-  source = Html (breaking_of asked);
+  source = source_of asked;
   budget = asked.options.budget;
   search = given_or searches.Best asked.options.search;
+  workers = given_or 1 asked.options.workers;
   html = asked.options.html;
   certified = is_some (certificate_name asked);
 }

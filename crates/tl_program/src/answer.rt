@@ -1,18 +1,18 @@
 //! What becomes of a table on a page: its lowest page and a certificate, or why there is none.
 
 ghost use Rattle.std.specs.Prelude.{◌≡◌, ◌<◌, ◌≤◌, ◌-◌, ℕ, IfOk, length};
-ghost use Rattle.tl_base.specs.declared.limits.TheConstants.{MAX_PAGE_WIDTH, MAX_BUDGET, MAX_HEIGHT};
+ghost use Rattle.tl_base.specs.declared.limits.TheConstants.{MAX_PAGE_WIDTH, MAX_HEIGHT};
 ghost use Rattle.tl_cert.specs.Text.{IsWritable};
 ghost use Rattle.tl_table.specs.Layouts.{Fits};
 ghost use Rattle.tl_table.specs.Least.{IsLeastWidth};
 ghost use Rattle.tl_form.specs.Expected.{IsDocumentOf};
 ghost use Rattle.tl_table.specs.Sound.{IsSound};
 ghost use Rattle.tl_form.specs.Subjects.{meant};
-ghost use Rattle.tl_table.specs.FewCells.{HasFewCells};
-ghost use Rattle.tl_program.specs.Answers.{budget_in, IsPageFile, certificate_file, IsReadBack};
+ghost use Rattle.tl_program.specs.Answers.{IsPageFile, certificate_file, IsReadBack};
 ghost use Rattle.tl_program.specs.Answers.{IsLaidAs};
 ghost use Rattle.tl_program.specs.inner.Claims.{certificate_of, claim_of};
 ghost use Rattle.tl_program.specs.inner.Certified.{IsFound};
+ghost use Rattle.tl_program.specs.inner.Steps.{IsUsableTable};
 
 use crate::makers::searched;
 use crate::report::{Report, report_of};
@@ -48,11 +48,7 @@ pub fn answer_to<R: Threads + Sync, G: Gate>(
     budget: u32,
     gate: &G,
 ) -> Result<Answer, AllocError>
-    requires sound { IsSound table.now }
-    requires cells { HasFewCells table.now }
-    requires narrow { (1 ≤ task.now.width) × (task.now.width ≤ MAX_PAGE_WIDTH) }
-    requires budget { budget ≡ budget_in task.now table.now }
-    requires cuts { budget ≤ MAX_BUDGET }
+    requires usable { IsUsableTable task.now table.now budget }
     ensures { IfOk result (λ answer. IsLaidAs task.now table.now answer answer.report) }
 {
     let subject = Subject::of(alloc, table, task.style, task.width)?;
@@ -72,11 +68,7 @@ fn too_narrow(
     least: u32,
 ) -> Result<Answer, AllocError>
     requires subject { IsDocumentOf subject.now.table.now task.now.style task.now.width (meant subject.now) }
-    requires sound { IsSound subject.now.table.now }
-    requires cells { HasFewCells subject.now.table.now }
-    requires page { (1 ≤ task.now.width) × (task.now.width ≤ MAX_PAGE_WIDTH) }
-    requires budget { budget ≡ budget_in task.now subject.now.table.now }
-    requires cuts { budget ≤ MAX_BUDGET }
+    requires usable { IsUsableTable task.now subject.now.table.now budget }
     requires least { IsLeastWidth subject.now.table.now task.now.style least }
     requires narrow { task.now.width < least }
     requires small { least ≤ MAX_HEIGHT }
@@ -143,10 +135,7 @@ fn lowest<R: Threads + Sync, G: Gate>(
     budget: u32,
     gate: &G,
 ) -> Result<Answer, AllocError>
-    requires sound { IsSound table.now }
-    requires page { (1 ≤ task.now.width) × (task.now.width ≤ MAX_PAGE_WIDTH) }
-    requires budget { budget ≡ budget_in task.now table.now }
-    requires cuts { budget ≤ MAX_BUDGET }
+    requires usable { IsUsableTable task.now table.now budget }
     requires wide { (least : ℕ) → IsLeastWidth table.now task.now.style least → least ≤ task.now.width }
     ensures { IfOk result (λ answer. IsLaidAs task.now table.now answer answer.report) }
 {
@@ -163,10 +152,7 @@ fn laid(
     budget: u32,
     certificate: &Certificate,
 ) -> Result<Answer, AllocError>
-    requires sound { IsSound table.now }
-    requires page { (1 ≤ task.now.width) × (task.now.width ≤ MAX_PAGE_WIDTH) }
-    requires budget { budget ≡ budget_in task.now table.now }
-    requires cuts { budget ≤ MAX_BUDGET }
+    requires usable { IsUsableTable task.now table.now budget }
     requires wide { (least : ℕ) → IsLeastWidth table.now task.now.style least → least ≤ task.now.width }
     requires found { IsFound task.now table.now budget certificate.now }
     ensures { IfOk result (λ answer. IsLaidAs task.now table.now answer answer.report) }

@@ -3,21 +3,17 @@
 
 ghost use Rattle.std.specs.Prelude.{◌≡◌, ◌⊎◌, ◌≤◌, IfOk, Some, length};
 ghost use Rattle.std.specs.List.{last_or};
-ghost use Rattle.tl_base.specs.declared.limits.TheConstants.{MAX_BUDGET, MAX_PAGE_WIDTH};
 ghost use Rattle.tl_base.specs.Desk.{Rose};
 ghost use Rattle.tl_command.specs.Ask.{asked_by};
-ghost use Rattle.tl_table.specs.Sound.{IsSound};
 ghost use Rattle.tl_program.specs.declared.rejection.Rejection.{Rejection as R};
 ghost use Rattle.tl_program.specs.declared.report.Report.TheVariants as reports;
-ghost use Rattle.tl_program.specs.Answers.{budget_in};
 ghost use Rattle.tl_program.specs.Change.{between};
 ghost use Rattle.tl_program.specs.Checks.{IsChecked, IsJudged, IsJudgedIn, page_columns};
 ghost use Rattle.tl_program.specs.Tasks.{task_of};
 ghost use Rattle.tl_program.specs.inner.Claims.{HasFewColumns, report_of};
-ghost use Rattle.tl_program.specs.inner.Steps.{GoesOn};
+ghost use Rattle.tl_program.specs.inner.Steps.{GoesOn, IsUsableTable};
 
 use crate::input::load;
-use crate::limits::WORKERS;
 use crate::names::judged_name;
 use crate::output::deliver;
 use crate::rejection::{Rejection, step_rejection, text_rejection};
@@ -77,10 +73,7 @@ pub fn judge<R: Threads + Sync, G: Gate>(
     text: &[u8],
     gate: &G,
 ) -> Result<Report, AllocError>
-    requires sound { IsSound table.now }
-    requires page { (1 ≤ task.now.width) × (task.now.width ≤ MAX_PAGE_WIDTH) }
-    requires budget { budget ≡ budget_in task.now table.now }
-    requires cuts { budget ≤ MAX_BUDGET }
+    requires usable { IsUsableTable task.now table.now budget }
     ensures { IfOk result (IsJudged task.now table.now text.now) }
 {
     let certificate = match read(alloc, text) {
@@ -94,7 +87,7 @@ pub fn judge<R: Threads + Sync, G: Gate>(
         task.style,
         task.width,
         budget,
-        WORKERS,
+        task.workers,
         &certificate,
         gate,
     ) {
@@ -121,10 +114,7 @@ fn judge_file<R: Threads + Sync, D: Desk, G: Gate>(
     desk: &mut D,
     gate: &G,
 ) -> Result<Report, AllocError>
-    requires sound { IsSound table.now }
-    requires page { (1 ≤ task.now.width) × (task.now.width ≤ MAX_PAGE_WIDTH) }
-    requires budget { budget ≡ budget_in task.now table.now }
-    requires cuts { budget ≤ MAX_BUDGET }
+    requires usable { IsUsableTable task.now table.now budget }
     ensures report { IfOk result (λ report.
         ((report ≡ reports.ReadFault) × Rose (D.load_faults desk.old) (D.load_faults desk.new))
         ⊎ IsJudgedIn task.now table.now (D.files desk.old) name.now report) }
@@ -151,10 +141,7 @@ pub fn check_table<R: Threads + Sync, D: Desk, G: Gate>(
 ) -> Status
     requires names { 2 ≤ length ask.now.names.now }
     requires task { task.now ≡ task_of (asked_by ask.now) }
-    requires sound { IsSound table.now }
-    requires page { (1 ≤ task.now.width) × (task.now.width ≤ MAX_PAGE_WIDTH) }
-    requires budget { budget ≡ budget_in task.now table.now }
-    requires cuts { budget ≤ MAX_BUDGET }
+    requires usable { IsUsableTable task.now table.now budget }
     ensures { GoesOn (IsChecked (asked_by ask.now) (D.files desk.old) table.now) result
         (between D.Desk desk.old desk.new) }
 {

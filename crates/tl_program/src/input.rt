@@ -2,11 +2,10 @@
 //! there is none. Every command on a file begins here.
 
 ghost use Rattle.std.specs.Prelude.{◌≡◌, ◌⊎◌, ◌+◌, ◌≤◌, IfOk, IfNone, IfSome, length};
-ghost use Rattle.tl_base.specs.declared.limits.TheConstants.{MAX_PAGE_WIDTH, MAX_BUDGET};
 ghost use Rattle.tl_base.specs.Desk.{IsReadFrom, Rose};
 ghost use Rattle.tl_command.specs.Ask.{asked_by};
 ghost use Rattle.tl_program.specs.Tasks.{task_of};
-ghost use Rattle.tl_program.specs.inner.Steps.{GivesInput, IsLoaded, IsUsable};
+ghost use Rattle.tl_program.specs.inner.Steps.{GivesInput, IsLoaded, IsTaskInRange, IsUsable};
 
 use crate::budget::budget_within;
 use crate::names::input_name;
@@ -36,8 +35,7 @@ pub fn load_input<D: Desk>(
 ) -> Result<Input, AllocError>
     requires names { 2 ≤ length ask.now.names.now }
     requires task { task.now ≡ task_of (asked_by ask.now) }
-    requires narrow { task.now.width ≤ MAX_PAGE_WIDTH }
-    requires cuts { IfSome task.now.budget (λ budget. budget ≤ MAX_BUDGET) }
+    requires range { IsTaskInRange task.now }
     ensures loaded { IfOk result (IsLoaded (asked_by ask.now) (D.files desk.old) (D.load_faults desk.old) (D.load_faults desk.new)) }
     ensures usable { IfOk result (IsUsable task.now) }
     ensures files_stay { D.files desk.new ≡ D.files desk.old }
@@ -52,8 +50,7 @@ pub fn load_input<D: Desk>(
 
 /// What a file of these bytes gives a command.
 fn read_input(alloc: Global, task: &Task, bytes: &[u8]) -> Result<Input, AllocError>
-    requires narrow { task.now.width ≤ MAX_PAGE_WIDTH }
-    requires cuts { IfSome task.now.budget (λ budget. budget ≤ MAX_BUDGET) }
+    requires { IsTaskInRange task.now }
     ensures given { IfOk result (GivesInput task.now bytes.now) }
     ensures usable { IfOk result (IsUsable task.now) }
 {

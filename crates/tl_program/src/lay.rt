@@ -1,16 +1,12 @@
 //! The own part of `lay`: it lays out the table of its file, and stores the page and the certificate.
 
 ghost use Rattle.std.specs.Prelude.{◌≡◌, ◌≤◌, length, option_map};
-ghost use Rattle.tl_base.specs.declared.limits.TheConstants.{MAX_PAGE_WIDTH, MAX_BUDGET};
 ghost use Rattle.tl_command.specs.Ask.{asked_by};
-ghost use Rattle.tl_table.specs.FewCells.{HasFewCells};
-ghost use Rattle.tl_table.specs.Sound.{IsSound};
-ghost use Rattle.tl_program.specs.Answers.{budget_in};
 ghost use Rattle.tl_program.specs.Change.{between, as_stored};
 ghost use Rattle.tl_program.specs.Deliveries.{delivery_of, stored_as, IsAnswered};
 ghost use Rattle.tl_program.specs.Tasks.{task_of};
 ghost use Rattle.tl_program.specs.inner.Printing.{IsDelivered};
-ghost use Rattle.tl_program.specs.inner.Steps.{GoesOn};
+ghost use Rattle.tl_program.specs.inner.Steps.{GoesOn, IsUsableTable};
 
 use crate::answer::{Answer, answer_to};
 use crate::names::{certificate_name, page_name};
@@ -36,11 +32,7 @@ pub fn lay_table<R: Threads + Sync, D: Desk, G: Gate>(
 ) -> Status
     requires names { 2 ≤ length ask.now.names.now }
     requires task { task.now ≡ task_of (asked_by ask.now) }
-    requires sound { IsSound table.now }
-    requires cells { HasFewCells table.now }
-    requires narrow { (1 ≤ task.now.width) × (task.now.width ≤ MAX_PAGE_WIDTH) }
-    requires budget { budget ≡ budget_in task.now table.now }
-    requires cuts { budget ≤ MAX_BUDGET }
+    requires usable { IsUsableTable task.now table.now budget }
     ensures { GoesOn (IsAnswered (asked_by ask.now) table.now) result (between D.Desk desk.old desk.new) }
 {
     match answer_to(rt, alloc, task, table, budget, gate) {

@@ -5,6 +5,3 @@ pub const DEFAULT_BUDGET: u32 = 5_000;
 
 /// How many cuts the search of a demonstration may make.
 pub const DEMO_BUDGET: u32 = 2_000;
-
-/// How many workers search, and judge, at one time.
-pub const WORKERS: u32 = 1;

@@ -9,7 +9,6 @@ ghost use Rattle.tl_table.specs.Sound.{IsSound};
 ghost use Rattle.tl_nested.specs.Searched.{AreSectionsOf, AreWritable};
 ghost use Rattle.tl_program.specs.Answers.{IsOutcomeOf};
 
-use crate::limits::WORKERS;
 use crate::task::Task;
 use std::alloc::{AllocError, Global};
 use std::thread::Threads;
@@ -62,15 +61,32 @@ pub fn searched<R: Threads + Sync, G: Gate>(
     requires narrow { task.now.width ≤ MAX_PAGE_WIDTH }
     requires wide { (least : ℕ) → IsLeastWidth table.now task.now.style least → least ≤ task.now.width }
     requires cuts { budget ≤ MAX_BUDGET }
+    requires workers { 1 ≤ task.now.workers }
     ensures expected { IfOk result (AreSectionsOf (IsOutcomeOf task.now.search budget) table.now task.now.style task.now.width budget) }
     ensures writable { IfOk result AreWritable }
 {
     match task.search {
         Search::Plain => sections(
-            rt, alloc, table, task.style, task.width, budget, WORKERS, &MakePlain, gate,
+            rt,
+            alloc,
+            table,
+            task.style,
+            task.width,
+            budget,
+            task.workers,
+            &MakePlain,
+            gate,
         ),
         Search::Best => sections(
-            rt, alloc, table, task.style, task.width, budget, WORKERS, &MakeBest, gate,
+            rt,
+            alloc,
+            table,
+            task.style,
+            task.width,
+            budget,
+            task.workers,
+            &MakeBest,
+            gate,
         ),
     }
 }

@@ -1,12 +1,13 @@
 //! The messages that are printed. Each ends with a line feed.
 
 ghost use Rattle.std.specs.Prelude.{◌≡◌, IfOk, string_bytes};
-ghost use Rattle.tl_program.specs.Messages.{fault_words, limit_word, refusal_text, rejection_text, summary_text, message_of};
+ghost use Rattle.tl_program.specs.Messages.{fault_words, record_words, limit_word, refusal_text, rejection_text};
+ghost use Rattle.tl_program.specs.Messages.{summary_text, message_of};
 
 use crate::rejection::Rejection;
 use crate::report::{Report, Summary};
 use std::alloc::{AllocError, Global};
-use tl_read::{Fault, Limit, Refusal};
+use tl_read::{Fault, Limit, RecordFault, Refusal};
 
 /// What is wrong with a file that is no document.
 fn fault_words(fault: Fault) -> &'static str
@@ -24,6 +25,17 @@ fn fault_words(fault: Fault) -> &'static str
         Fault::StrayText => "stray text",
         Fault::MisplacedTag => "misplaced tag",
         Fault::UnclosedTable => "unclosed table",
+    }
+}
+
+/// What is wrong with a record of a CSV file.
+fn record_words(fault: RecordFault) -> &'static str
+    ensures { result.now ≡ record_words fault }
+{
+    match fault {
+        RecordFault::Uneven => "uneven record",
+        RecordFault::NotUtf8 => "record not utf-8",
+        RecordFault::BadCharacter => "bad character in record",
     }
 }
 
@@ -57,6 +69,10 @@ fn refusal_text(alloc: Global, refusal: Refusal) -> Result<String, AllocError>
         Refusal::Limit(limit, number) => {
             let word = limit_word(limit);
             format!(in alloc; "limit: {word} {number}\n")
+        }
+        Refusal::BadRecord(fault, place) => {
+            let words = record_words(fault);
+            format!(in alloc; "bad input: {words} at {place}\n")
         }
     }
 }

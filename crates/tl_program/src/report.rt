@@ -69,7 +69,9 @@ fn refusal_status(refusal: Refusal) -> Status
     ensures { result ≡ refusal_status refusal }
 {
     match refusal {
-        Refusal::BadInput(_, _) | Refusal::Overlap { .. } => Status::BadInput,
+        Refusal::BadInput(_, _) | Refusal::Overlap { .. } | Refusal::BadRecord(_, _) => {
+            Status::BadInput
+        }
         Refusal::Limit(_, _) => Status::Limit,
     }
 }

@@ -1,15 +1,17 @@
 //! Carries out a command over a desk: one on a file begins with the table that the file gives, and
 //! goes on with its own part.
 
-ghost use Rattle.std.specs.Prelude.{◌≡◌, ◌≤◌, ℕ, List, Some, IfSome, length, map, string_bytes};
-ghost use Rattle.tl_base.specs.declared.limits.TheConstants.{MAX_PAGE_WIDTH, MAX_BUDGET};
+ghost use Rattle.std.specs.Prelude.{◌≡◌, ◌≤◌, ℕ, List, length, map, string_bytes};
 ghost use Rattle.tl_command.specs.declared.command.Command.TheVariants as commands;
 ghost use Rattle.tl_command.specs.Ask.{asked_by, IsAsk};
+ghost use Rattle.tl_program.specs.Alike.{ChecksAlike, LowestAlike, RefusalsAlike};
 ghost use Rattle.tl_program.specs.Change.{between};
 ghost use Rattle.tl_program.specs.Complete.{AcceptsLaid, IsAcceptedSo, IsComplete, IsRefusedSo, IsRejectedSo};
 ghost use Rattle.tl_program.specs.Headline.{Ends};
 ghost use Rattle.tl_program.specs.Lowest.{FitsNone, StoresBounded, StoresLowest};
 ghost use Rattle.tl_program.specs.Messages.{status_number};
+ghost use Rattle.tl_program.specs.Tasks.{task_of};
+ghost use Rattle.tl_program.specs.inner.Steps.{IsTaskInRange};
 
 use crate::check::check_table;
 use crate::input::{Input, load_input};
@@ -51,6 +53,12 @@ pub fn run<R: Threads + Sync, D: Desk, G: Gate>(
         (between D.Desk desk.old desk.new) result }
     ensures accepts_laid { AcceptsLaid (map string_bytes words.now)
         (between D.Desk desk.old desk.new) result }
+    ensures checks_alike { ChecksAlike (map string_bytes words.now)
+        (between D.Desk desk.old desk.new) result }
+    ensures refusals_alike { RefusalsAlike (map string_bytes words.now)
+        (between D.Desk desk.old desk.new) result }
+    ensures lowest_alike { LowestAlike (map string_bytes words.now)
+        (between D.Desk desk.old desk.new) result }
 {
     carry_out(rt, alloc, words, desk, gate).number()
 }
@@ -86,8 +94,7 @@ fn lay_file<R: Threads + Sync, D: Desk, G: Gate>(
 ) -> Status
     requires command { ask.now.command ≡ commands.Lay }
     requires names { 2 ≤ length ask.now.names.now }
-    requires width { (1 ≤ ask.now.number) × (ask.now.number ≤ MAX_PAGE_WIDTH) }
-    requires budget { IfSome ask.now.options.budget (λ budget. budget ≤ MAX_BUDGET) }
+    requires range { IsTaskInRange (task_of (asked_by ask.now)) }
     ensures ends { (words : List (List ℕ)) → IsAsk words (asked_by ask.now) → Ends words
         (between D.Desk desk.old desk.new) (status_number result) }
 {
@@ -111,8 +118,7 @@ fn check_file<R: Threads + Sync, D: Desk, G: Gate>(
 ) -> Status
     requires command { ask.now.command ≡ commands.Check }
     requires names { 2 ≤ length ask.now.names.now }
-    requires width { (1 ≤ ask.now.number) × (ask.now.number ≤ MAX_PAGE_WIDTH) }
-    requires budget { IfSome ask.now.options.budget (λ budget. budget ≤ MAX_BUDGET) }
+    requires range { IsTaskInRange (task_of (asked_by ask.now)) }
     ensures ends { (words : List (List ℕ)) → IsAsk words (asked_by ask.now) → Ends words
         (between D.Desk desk.old desk.new) (status_number result) }
 {

@@ -13,7 +13,7 @@ pub enum Status {
     Bounded = 3,
     /// No layout fits the page.
     Narrow = 4,
-    /// The file is no document.
+    /// The file is no table: no document, or no records of one.
     BadInput = 5,
     /// A limit is passed.
     Limit = 6,

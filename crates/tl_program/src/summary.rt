@@ -15,7 +15,7 @@ ghost use Rattle.tl_read.specs.Reading.{IsReading};
 ghost use Rattle.tl_program.specs.inner.Summaries.{demo_task, HasOwnNext, IsCountAfter};
 
 use crate::answer::certificate_of;
-use crate::limits::{DEMO_BUDGET, WORKERS};
+use crate::limits::DEMO_BUDGET;
 use crate::makers::searched;
 use crate::report::Summary;
 use crate::task::Task;
@@ -41,6 +41,7 @@ fn task() -> Task
         source: Source::Html(Breaking::Words),
         budget: Some(DEMO_BUDGET),
         search: Search::Best,
+        workers: 1,
         html: false,
         certified: true,
     }
@@ -84,7 +85,7 @@ fn summary_of<R: Threads + Sync, G: Gate>(
         Style::Plain,
         DEMO_WIDTH,
         DEMO_BUDGET,
-        WORKERS,
+        task.workers,
         &certificate,
         gate,
     )

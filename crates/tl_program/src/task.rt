@@ -1,12 +1,14 @@
 //! What a command asks of a table: its options, each as it is given or by default.
 
-ghost use Rattle.std.specs.Prelude.{◌≡◌};
+ghost use Rattle.std.specs.Prelude.{◌≡◌, []};
 ghost use Rattle.tl_command.specs.Ask.{asked_by};
-ghost use Rattle.tl_program.specs.Tasks.{task_of};
+ghost use Rattle.tl_base.specs.declared.breaking.Breaking.TheVariants.{Words};
+ghost use Rattle.tl_program.specs.Tasks.{given_or, source_by, task_of};
 
 use crate::names::certificate_name;
 use tl_base::{Breaking, Style};
-use tl_command::{Ask, Search};
+use tl_command::{Ask, Options, Search};
+use tl_floors::Floors;
 use tl_read::Source;
 
 /// What is asked of a table.
@@ -19,10 +21,29 @@ pub struct Task {
     /// How many cuts each search may make, up to `MAX_BUDGET`.
     pub budget: Option<u32>,
     pub search: Search,
+    /// How many workers there are, from 1 to `MAX_WORKERS`.
+    pub workers: u32,
     /// Whether the page is HTML.
     pub html: bool,
     /// Whether a certificate is wanted.
     pub certified: bool,
+}
+
+/// What kind of file the table is read from.
+fn source_of(options: &Options) -> Source
+    ensures { result ≡ source_by options.now.csv options.now.head (given_or [] options.now.least)
+        (given_or Words options.now.breaking) }
+{
+    let breaking = options.breaking.unwrap_or(Breaking::Words);
+    if options.csv {
+        Source::Csv {
+            head: options.head,
+            floors: options.least.unwrap_or(Floors::none()),
+            breaking,
+        }
+    } else {
+        Source::Html(breaking)
+    }
 }
 
 impl Task {
@@ -30,13 +51,14 @@ impl Task {
     pub fn of(ask: &Ask<'_>) -> Task
         ensures { result ≡ task_of (asked_by ask.now) }
     {
-        let options = ask.options;
+        let options = &ask.options;
         Task {
             width: ask.number,
             style: options.style.unwrap_or(Style::Plain),
-            source: Source::Html(options.breaking.unwrap_or(Breaking::Words)),
+            source: source_of(options),
             budget: options.budget,
             search: options.search.unwrap_or(Search::Best),
+            workers: options.workers.unwrap_or(1),
             html: options.html,
             certified: certificate_name(ask).is_some(),
         }

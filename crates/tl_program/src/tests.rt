@@ -2,12 +2,14 @@
 
 mod certificates;
 mod checks;
+mod csv;
 mod faults;
 mod limits;
 mod pages;
 mod refusals;
 mod styles;
 mod usage;
+mod workers;
 
 use crate::run::run;
 use std::alloc::{AllocError, Global};

@@ -1,6 +1,6 @@
 -- No public clause cites this file: it says what a file gives the command that reads it, and how that command goes on.
-use Rattle.std.specs.Prelude.{◌≡◌, ◌⊎◌, ℕ, ◌<◌, ◌≤◌, List, Option}
-use Rattle.tl_base.specs.declared.limits.TheConstants.{MAX_BUDGET, MAX_REACH}
+use Rattle.std.specs.Prelude.{◌≡◌, ◌⊎◌, ℕ, ◌<◌, ◌≤◌, List, Option, IfSome}
+use Rattle.tl_base.specs.declared.limits.TheConstants.{MAX_BUDGET, MAX_PAGE_WIDTH, MAX_REACH}
 use Rattle.tl_base.specs.Desk.{Files, Rose}
 use Rattle.tl_command.specs.Ask.{Asked}
 use Rattle.tl_table.specs.declared.cell.Table.{Table}
@@ -52,8 +52,16 @@ abbrev pub IsLoaded : Asked → Option Files → ℕ → ℕ → Input → Type 
 IsLoaded asked files faults faults_after input = ((input ≡ inputs.Reported reports.ReadFault) × Rose faults faults_after)
     ⊎ ((faults_after ≡ faults) × IsInputIn asked files input)
 
+-- the numbers that are asked for are within their limits
+pub record IsTaskInRange (task : Task) : Type 0 where
+  pub some : 1 ≤ task.width
+  pub narrow : task.width ≤ MAX_PAGE_WIDTH
+  pub workers : 1 ≤ task.workers
+  pub cuts : IfSome task.budget (λ budget. budget ≤ MAX_BUDGET)
+
 -- a table with which a command can go on: it is sound, and the budget is that of each search for it
 pub record IsUsableTable (task : Task) (table : Table) (budget : ℕ) : Type 0 where
+  pub range : IsTaskInRange task
   pub sound : IsSound table
   pub cells : HasFewCells table
   pub of_task : budget ≡ budget_in task table

@@ -22,6 +22,7 @@ demo_task = record {
   source = Html Words;
   budget = Some DEMO_BUDGET;
   search = Best;
+  workers = 1;
   html = false;
   certified = true;
 }

@@ -458,7 +458,7 @@ fn common_status(
 }
 
 /// Lays a file out, and checks the certificate with the same width and options. No file is refused.
-fn laid_and_checked(
+pub fn laid_and_checked(
     rt: &(impl Abort + AllocGlobal + Threads + Sync),
     width: &str,
     file: &str,

@@ -8,16 +8,16 @@ use std::thread::Threads;
 
 /// A text that is repeated so many times, between a start and an end.
 #[derive(Clone, Copy)]
-struct Built<'a> {
-    start: &'a str,
-    text: &'a str,
-    times: usize,
-    end: &'a str,
+pub struct Built<'a> {
+    pub start: &'a str,
+    pub text: &'a str,
+    pub times: usize,
+    pub end: &'a str,
 }
 
 impl<'a> Built<'a> {
     /// What is neither repeated nor followed by an end.
-    fn just(start: &'a str) -> Built<'a> {
+    pub fn just(start: &'a str) -> Built<'a> {
         Built {
             start,
             text: "",
@@ -27,14 +27,14 @@ impl<'a> Built<'a> {
     }
 
     /// The whole text.
-    fn whole(&self, alloc: Global) -> Result<String, AllocError> {
+    pub fn whole(&self, alloc: Global) -> Result<String, AllocError> {
         let inner = repeated(alloc, self.text, self.times)?;
         format!(in alloc; "{}{}{}", self.start, inner.as_str(), self.end)
     }
 }
 
 /// The command line over the file stores nothing, with this status and this message.
-fn check_built(
+pub fn check_built(
     rt: &(impl Abort + AllocGlobal + Threads + Sync),
     line: &str,
     built: &Built<'_>,
@@ -46,7 +46,7 @@ fn check_built(
 }
 
 /// The command line over the file stores this page, the lowest.
-fn check_page(
+pub fn check_page(
     rt: &(impl Abort + AllocGlobal + Threads + Sync),
     line: &str,
     built: &Built<'_>,
@@ -68,7 +68,7 @@ fn check_page(
 }
 
 /// The file passes with this page, and with its text once more it is refused as `past` says.
-fn check_last(
+pub fn check_last(
     rt: &(impl Abort + AllocGlobal + Threads + Sync),
     line: &str,
     last: &Built<'_>,

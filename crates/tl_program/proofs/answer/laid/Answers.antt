@@ -22,7 +22,8 @@ layout-requires-clause-written c =
     subst IsWritable (sym c.requires.found.made)
     (writable (IsOutcomeOf task.search c.args.budget) c.args.table.now task.style task.width c.args.budget
     c.requires.found.sections
-    c.requires.found.expected c.requires.found.writable c.requires.wide c.requires.page.0 c.requires.page.1 c.requires.cuts)
+    c.requires.found.expected c.requires.found.writable c.requires.wide
+    c.requires.usable.range.some c.requires.usable.range.narrow c.requires.usable.cuts)
 
 pub layout-requires-clause-valid : goal.layout-requires-clause-valid
 layout-requires-clause-valid c =
@@ -46,7 +47,7 @@ total_width-width-requires c =
     c.args.table.now task.style task.width c.args.budget c.requires.found.sections
     c.requires.found.expected c.requires.found.writable c.requires.wide in
     subst (λ (widths : List ℕ). length widths ≤ MAX_COLUMNS) (sym c.as_slice.ensures)
-    (few_columns c.args.table.now task.style task.width high.0 c.in_ok-layout.layout c.requires.sound
+    (few_columns c.args.table.now task.style task.width high.0 c.in_ok-layout.layout c.requires.usable.sound
     (fits high.0 high.2))
 
 pub page_file-requires-clause-fits : goal.page_file-requires-clause-fits
@@ -70,7 +71,8 @@ certificate_file-requires c =
     subst IsWritable (sym c.requires.found.made)
     (writable (IsOutcomeOf task.search c.args.budget) c.args.table.now task.style task.width c.args.budget
     c.requires.found.sections
-    c.requires.found.expected c.requires.found.writable c.requires.wide c.requires.page.0 c.requires.page.1 c.requires.cuts)
+    c.requires.found.expected c.requires.found.writable c.requires.wide
+    c.requires.usable.range.some c.requires.usable.range.narrow c.requires.usable.cuts)
 
 pub returns : goal.returns
 returns c =
@@ -85,7 +87,7 @@ returns c =
     let table = c.args.table.now in
     let sections = c.requires.found.sections in
     let made : c.args.certificate.now ≡ certificate_of task.width task.style (budget_in task table) sections =
-    c.requires.found.made ∙ ap (λ (b : ℕ). certificate_of task.width task.style b sections) c.requires.budget in
+    c.requires.found.made ∙ ap (λ (b : ℕ). certificate_of task.width task.style b sections) c.requires.usable.of_task in
     subst (IsLaidAs task table
     (record {
       report = c.report_of.result;
@@ -96,9 +98,9 @@ returns c =
     (sym (c.report_of.ensures ∙ ap (λ (claim : Claim). report_of task.width claim c.total_width-width.result) is))
     (answered task table sections
     (subst (λ (b : ℕ). AreSectionsOf (IsOutcomeOf task.search b) table task.style task.width b sections)
-    c.requires.budget c.requires.found.expected)
-    c.requires.found.writable c.requires.wide c.requires.sound c.requires.page.1
-    (subst (λ (b : ℕ). b ≤ _) c.requires.budget c.requires.cuts)
+    c.requires.usable.of_task c.requires.found.expected)
+    c.requires.found.writable c.requires.wide c.requires.usable.sound c.requires.usable.range.narrow
+    (subst (λ (b : ℕ). b ≤ _) c.requires.usable.of_task c.requires.usable.cuts)
     c.in_ok-layout.layout c.total_width-width.result c.in_ok-page_file.field-0
     (record {
       report = c.report_of.result;

@@ -38,7 +38,7 @@ no_sections width style budget other claim chains sections cuts none =
 pub narrow_chain-requires-clause-column : goal.narrow_chain-requires-clause-column
 narrow_chain-requires-clause-column c =
     column_of_width c.args.subject.now.table.now c.args.task.now.style c.args.least c.requires.least
-    (omega (arith, c.requires.page.0, c.requires.narrow))
+    (omega (arith, c.requires.usable.range.some, c.requires.narrow))
 
 pub certificate_file-requires : goal.certificate_file-requires
 certificate_file-requires c =
@@ -48,8 +48,9 @@ certificate_file-requires c =
     (claims.Narrow c.args.least) c.in_ok-narrow_chain.field-0 c.new.result refl c.new.ensures))
     (writable_narrow c.args.subject.now.table.now task.style task.width c.args.budget c.args.least chain.0
     c.in_ok-narrow_chain.field-0
-    (meant c.args.subject.now) c.requires.subject c.requires.sound c.requires.least c.requires.narrow chain.1 chain.2
-    c.requires.page.0 c.requires.page.1 c.requires.cuts c.requires.small c.requires.cells c.chains_are_writable.ensures)
+    (meant c.args.subject.now) c.requires.subject c.requires.usable.sound c.requires.least c.requires.narrow chain.1 chain.2
+    c.requires.usable.range.some c.requires.usable.range.narrow c.requires.usable.cuts c.requires.small
+    c.requires.usable.cells c.chains_are_writable.ensures)
 
 pub returns : goal.returns
 returns c =
@@ -72,9 +73,10 @@ returns c =
         claimed = refl;
         valid = subst (λ (one : Certificate). IsValid table task.style task.width (budget_in task table) one)
             (sym (no_sections task.width task.style c.args.budget (budget_in task table) (claims.Narrow c.args.least)
-            c.in_ok-narrow_chain.field-0 c.new.result c.requires.budget c.new.ensures))
+            c.in_ok-narrow_chain.field-0 c.new.result c.requires.usable.of_task c.new.ensures))
             (valid_narrow table task.style task.width (budget_in task table) c.args.least chain.0 c.in_ok-narrow_chain.field-0
-            (meant c.args.subject.now) c.requires.subject c.requires.sound c.requires.least c.requires.narrow chain.1 chain.2);
+            (meant c.args.subject.now) c.requires.subject c.requires.usable.sound c.requires.least
+            c.requires.narrow chain.1 chain.2);
       };
       no_page = refl;
       certificate_stored = c.in_ok-certificate_file.ensures.file;

@@ -21,9 +21,10 @@ pub returns-in-Ok-verify : goal.returns-in-Ok-verify
 returns-in-Ok-verify g c =
     let task = c.args.task.now in
     let table = c.args.table.now in
-    accepted task table c.in-Ok.certificate c.requires.sound c.requires.page.1
-    (subst (λ (b : ℕ). b ≤ MAX_BUDGET) c.requires.budget c.requires.cuts)
-    (subst (λ (b : ℕ). IsValid table task.style task.width b c.in-Ok.certificate) c.requires.budget c.in-Ok-verify.ensures.valid)
+    accepted task table c.in-Ok.certificate c.requires.usable.sound c.requires.usable.range.narrow
+    (subst (λ (b : ℕ). b ≤ MAX_BUDGET) c.requires.usable.of_task c.requires.usable.cuts)
+    (subst (λ (b : ℕ). IsValid table task.style task.width b c.in-Ok.certificate)
+    c.requires.usable.of_task c.in-Ok-verify.ensures.valid)
     c.lowest_is_least.ensures c.bounded_is_between.ensures c.narrow_is_too_wide.ensures c.budget_closes.ensures
     c.open_spends.ensures
     c.args.text.now c.shown.result c.in-Ok.ensures.ok c.shown.ensures
@@ -37,6 +38,6 @@ returns g c =
     c.step_rejection.ensures c.rejected-in-Err-verify.ensures c.in-Ok.ensures.ok
     (subst (λ (b : ℕ). IsMemoryOr (Memory alloc_error) (IsRefusedAs table task.style task.width b c.in-Ok.certificate)
     c.in-Err-verify.reject)
-    c.requires.budget c.in-Err-verify.ensures.refused)
+    c.requires.usable.of_task c.in-Err-verify.ensures.refused)
     (λ valid. c.in-Err-verify.ensures.accepts (subst (λ (b : ℕ). IsValid table task.style task.width b c.in-Ok.certificate)
-    (sym c.requires.budget) valid))
+    (sym c.requires.usable.of_task) valid))

@@ -1,19 +1,27 @@
 -- The arguments ask for a command, or for nothing.
-use Rattle.std.proofs.Common.{inl, refl, map, string_bytes}
+use Rattle.std.proofs.Common.{inl, refl, subst, map, string_bytes}
+use Rattle.tl_command.specs.declared.command.Command.{Command}
 use Rattle.tl_command.specs.Ask.{asked_by}
+use Rattle.tl_command.specs.Command.{IsNumberOf}
 use Rattle.tl_program.specs.declared.report.Report.TheVariants as reports
 use Rattle.tl_program.specs.Change.{between}
-use Rattle.tl_program.proofs.Asking.{budget_small}
+use Rattle.tl_program.proofs.Asking.{task_in_range}
 use Rattle.tl_program.proofs.Ends.{printed_ends}
 use Rattle.tl_program.proofs.run.carry_out.Goals as goal
 
-pub lay_file-requires-clause-budget : goal.lay_file-requires-clause-budget
-lay_file-requires-clause-budget g c = λ lifetimes outlives. budget_small (map string_bytes c.args.words.now) (asked_by c.in-Some.ask)
-    c.in-Some.ensures.ask
+pub lay_file-requires-clause-range : goal.lay_file-requires-clause-range
+lay_file-requires-clause-range g c = λ lifetimes outlives.
+    let asked = asked_by c.in-Some.ask in
+    let is = c.in-Some.ensures.ask in
+    let of_number = subst (λ (command : Command). IsNumberOf command asked.number) c.in-Lay.is is.in_range in
+    task_in_range (map string_bytes c.args.words.now) asked is of_number.least of_number.most
 
-pub check_file-requires-clause-budget : goal.check_file-requires-clause-budget
-check_file-requires-clause-budget g c = λ lifetimes outlives. budget_small (map string_bytes c.args.words.now) (asked_by c.in-Some.ask)
-    c.in-Some.ensures.ask
+pub check_file-requires-clause-range : goal.check_file-requires-clause-range
+check_file-requires-clause-range g c = λ lifetimes outlives.
+    let asked = asked_by c.in-Some.ask in
+    let is = c.in-Some.ensures.ask in
+    let of_number = subst (λ (command : Command). IsNumberOf command asked.number) c.in-Check.is is.in_range in
+    task_in_range (map string_bytes c.args.words.now) asked is of_number.least of_number.most
 
 pub returns-in_default : goal.returns-in_default
 returns-in_default g c = record {

@@ -1,5 +1,5 @@
 -- What the file gives is checked, or reported.
-use Rattle.std.proofs.Common.{refl, Option, subst}
+use Rattle.std.proofs.Common.{Option, subst}
 use Rattle.tl_base.specs.Desk.{Files}
 use Rattle.tl_command.specs.declared.command.Command.TheVariants.{Check}
 use Rattle.tl_command.specs.Ask.{asked_by}
@@ -7,7 +7,7 @@ use Rattle.tl_program.specs.Change.{between}
 use Rattle.tl_program.specs.Checks.{IsChecked}
 use Rattle.tl_program.specs.inner.Steps.{GoesOn}
 use Rattle.tl_program.proofs.Asking.{comes_of}
-use Rattle.tl_program.proofs.Loading.{reported_ends, went_on_ends}
+use Rattle.tl_program.proofs.Loading.{follows_load, reported_ends, went_on_ends}
 use Rattle.tl_program.proofs.run.check_file.Goals as goal
 
 pub returns-in-Ok-Table : goal.returns-in-Ok-Table
@@ -18,15 +18,8 @@ returns-in-Ok-Table g c = record {
       let second = between g.D.Desk c.load_input.new.desk c.check_table.new.desk in
       went_on_ends words change second asked (IsChecked asked change.files) c.in-Ok-Table.field-0 c.check_table.result
       (λ delivery. comes_of words change Check asked delivery c.requires.command is)
-      (record {
-        files = c.load_input.ensures.files_stay;
-        files_after = refl;
-        said = c.load_input.ensures.said_stays;
-        said_after = refl;
-        writes = c.load_input.ensures.writes_stay;
-        writes_after = refl;
-        loads_after = refl;
-      })
+      (follows_load g.D.Desk c.args.desk.now c.load_input.new.desk c.check_table.new.desk c.load_input.ensures.files_stay
+      c.load_input.ensures.said_stays c.load_input.ensures.writes_stay)
       c.in-Ok-Table.ensures.loaded c.in-Ok-Table.table c.in-Ok-Table.budget c.in-Ok-Table.field-0-is
       (subst (λ (files : Option Files). GoesOn (IsChecked asked files c.in-Ok-Table.table) c.check_table.result second)
       c.load_input.ensures.files_stay c.check_table.ensures);
@@ -40,15 +33,8 @@ returns-in-Ok-Reported g c = record {
       let second = between g.D.Desk c.load_input.new.desk c.deliver.new.desk in
       reported_ends words change second asked (IsChecked asked change.files) c.in-Ok-Reported.field-0 c.deliver.result
       (λ delivery. comes_of words change Check asked delivery c.requires.command is)
-      (record {
-        files = c.load_input.ensures.files_stay;
-        files_after = refl;
-        said = c.load_input.ensures.said_stays;
-        said_after = refl;
-        writes = c.load_input.ensures.writes_stay;
-        writes_after = refl;
-        loads_after = refl;
-      })
+      (follows_load g.D.Desk c.args.desk.now c.load_input.new.desk c.deliver.new.desk c.load_input.ensures.files_stay
+      c.load_input.ensures.said_stays c.load_input.ensures.writes_stay)
       c.in-Ok-Reported.ensures.loaded c.in-Ok-Reported.report c.in-Ok-Reported.field-0-is c.deliver.ensures.loads_stay
       c.deliver.ensures.delivered;
 }

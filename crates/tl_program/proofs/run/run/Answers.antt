@@ -1,9 +1,11 @@
 -- A run is complete by how it ends.
 use Rattle.std.proofs.Common.{◌≡◌, sym, subst, ℕ, List, map, string_bytes}
+use Rattle.tl_program.specs.Alike.{ChecksAlike, LowestAlike, RefusalsAlike}
 use Rattle.tl_program.specs.Change.{Change, between}
 use Rattle.tl_program.specs.Complete.{IsComplete, IsRefusedSo, IsAcceptedSo, IsRejectedSo, AcceptsLaid}
 use Rattle.tl_program.specs.Lowest.{FitsNone, StoresBounded, StoresLowest}
 use Rattle.tl_program.proofs.Accepting.{accepts_laid}
+use Rattle.tl_program.proofs.Alike.{checks_alike, lowest_alike, refusals_alike}
 use Rattle.tl_program.proofs.Checked.{accepted_so, rejected_so}
 use Rattle.tl_program.proofs.Ends.{complete, refused_so}
 use Rattle.tl_program.proofs.Lowest.{stores_lowest, stores_bounded, fits_none}
@@ -40,3 +42,16 @@ returns-clause-rejected g c = numbered IsRejectedSo _ _ _ _ c.number.ensures (re
 
 pub returns-clause-accepts_laid : goal.returns-clause-accepts_laid
 returns-clause-accepts_laid g c = numbered AcceptsLaid _ _ _ _ c.number.ensures (accepts_laid _ _ _ c.carry_out.ensures.ends)
+
+pub returns-clause-checks_alike : goal.returns-clause-checks_alike
+returns-clause-checks_alike g c = numbered ChecksAlike _ _ _ _ c.number.ensures (checks_alike _ _ _ c.carry_out.ensures.ends)
+
+pub returns-clause-refusals_alike : goal.returns-clause-refusals_alike
+returns-clause-refusals_alike g c =
+    numbered RefusalsAlike _ _ _ _ c.number.ensures (refusals_alike _ _ _ c.carry_out.ensures.ends)
+
+pub returns-clause-lowest_alike : goal.returns-clause-lowest_alike
+returns-clause-lowest_alike g c =
+    let words = map string_bytes c.args.words.now in
+    let change = between g.D.Desk c.args.desk.now c.carry_out.new.desk in
+    numbered LowestAlike words change _ _ c.number.ensures (lowest_alike words change _ c.carry_out.ensures.ends)

@@ -1,0 +1,82 @@
+-- What does not depend on how many workers there are, and what not on the search either: two runs on the same files, by arguments
+-- that differ in nothing else.
+use Rattle.std.specs.Prelude.{◌≡◌, ◌≢◌, ◌⊎◌, ℕ, List, None, Some}
+use Rattle.tl_base.specs.Desk.{Files, longer}
+use Rattle.tl_command.specs.declared.command.Command.TheVariants.{Lay, Check}
+use Rattle.tl_command.specs.Ask.{Asked}
+use Rattle.tl_program.specs.declared.report.Report.TheVariants as reports
+use Rattle.tl_program.specs.Asks.{IsAskOf}
+use Rattle.tl_program.specs.Change.{Change, DoesNotFail}
+use Rattle.tl_program.specs.Headline.{Ends}
+use Rattle.tl_program.specs.Messages.{message_of}
+
+-- what is asked for, but for the workers
+abbrev pub but_workers : Asked → Asked
+but_workers asked = record {
+  command = asked.command;
+  number = asked.number;
+  names = asked.names;
+  options = record {
+    style = asked.options.style;
+    breaking = asked.options.breaking;
+    budget = asked.options.budget;
+    search = asked.options.search;
+    workers = None;
+    csv = asked.options.csv;
+    head = asked.options.head;
+    least = asked.options.least;
+    html = asked.options.html;
+  };
+}
+
+-- what is asked for, but for the workers and the search
+abbrev pub but_search : Asked → Asked
+but_search asked = record {
+  command = asked.command;
+  number = asked.number;
+  names = asked.names;
+  options = record {
+    style = asked.options.style;
+    breaking = asked.options.breaking;
+    budget = asked.options.budget;
+    search = None;
+    workers = None;
+    csv = asked.options.csv;
+    head = asked.options.head;
+    least = asked.options.least;
+    html = asked.options.html;
+  };
+}
+
+-- both begin with the same files
+abbrev pub BeginAlike : Change → Change → Type 0
+BeginAlike before change = (files : Files) × (before.files ≡ Some files) × (change.files ≡ Some files)
+
+-- both print the same
+abbrev pub PrintAlike : Change → Change → Type 0
+PrintAlike before change = (text : List ℕ) × (before.said_after ≡ longer before.said text)
+    × (change.said_after ≡ longer change.said text)
+
+-- a check returns the same, unless the desk fails or memory runs out, and prints the same unless the certificate is rejected
+abbrev pub ChecksAlike : List (List ℕ) → Change → ℕ → Type 0
+ChecksAlike words change status = (earlier : List (List ℕ)) (before : Change) (told : ℕ) (one other : Asked) →
+    IsAskOf Check earlier one → IsAskOf Check words other → but_workers one ≡ but_workers other → Ends earlier before told →
+    BeginAlike before change → DoesNotFail before → DoesNotFail change →
+    ((status ≡ told) × (told ≢ 10 → PrintAlike before change)) ⊎ ((told ≡ 9) ⊎ (status ≡ 9))
+
+-- where no page is stored, for its width or as the file is refused, a layout prints the same, and returns the same
+abbrev pub RefusalsAlike : List (List ℕ) → Change → ℕ → Type 0
+RefusalsAlike words change status = (earlier : List (List ℕ)) (before : Change) (told : ℕ) (one other : Asked) →
+    IsAskOf Lay earlier one → IsAskOf Lay words other → but_search one ≡ but_search other → Ends earlier before told →
+    BeginAlike before change → DoesNotFail before → DoesNotFail change →
+    (told ≡ 4) ⊎ ((told ≡ 5) ⊎ (told ≡ 6)) → ((status ≡ told) × PrintAlike before change) ⊎ (status ≡ 9)
+
+-- the message says that a page of this height is the lowest
+abbrev pub PrintsLowest : Change → ℕ → Type 0
+PrintsLowest change height = (width : ℕ) × (change.said_after ≡ longer change.said (message_of (reports.Lowest height width)))
+
+-- two layouts that are the lowest are as high
+abbrev pub LowestAlike : List (List ℕ) → Change → ℕ → Type 0
+LowestAlike words change status = (earlier : List (List ℕ)) (before : Change) (told : ℕ) (one other : Asked) →
+    IsAskOf Lay earlier one → IsAskOf Lay words other → but_search one ≡ but_search other → Ends earlier before told →
+    BeginAlike before change → told ≡ 0 → status ≡ 0 → (height : ℕ) × PrintsLowest before height × PrintsLowest change height
