@@ -1,0 +1,38 @@
+# shellcheck shell=bash
+# Completes the commands of tablelayout, the options of each command, and their values; elsewhere files.
+
+# Prints the options of a command.
+_tablelayout_options() {
+    case $1 in
+    show | lay | preview | check) echo --style --break --budget --workers --csv --head --least ;;&
+    show | lay | preview) echo --solver --html ;;&
+    show) echo --width --quiet ;;
+    esac
+}
+
+# Prints the words of which one follows an option.
+_tablelayout_values() {
+    case $1 in
+    --style) echo plain compact frame ;;
+    --break) echo words any ;;
+    --solver) echo plain best ;;
+    esac
+}
+
+_tablelayout() {
+    local current=${COMP_WORDS[COMP_CWORD]} words option
+    COMPREPLY=()
+    if [ "$COMP_CWORD" -eq 1 ]; then
+        words='show lay check demo preview install uninstall help'
+    elif [[ $current == -* ]]; then
+        # An option stands at most once.
+        for option in $(_tablelayout_options "${COMP_WORDS[1]}"); do
+            [[ " ${COMP_WORDS[*]:2:COMP_CWORD-2} " == *" $option "* ]] || words+=" $option"
+        done
+    else
+        words=$(_tablelayout_values "${COMP_WORDS[COMP_CWORD - 1]}")
+    fi
+    mapfile -t COMPREPLY < <(compgen -W "${words-}" -- "$current")
+}
+
+complete -o bashdefault -o default -F _tablelayout tablelayout

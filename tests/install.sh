@@ -1,0 +1,94 @@
+#!/usr/bin/env bash
+# Installs the command into an empty folder, runs it from there where there is no checkout, and removes it. If all is as
+# it should be this prints nothing.
+set -uo pipefail
+top=$(dirname "$(dirname "$(readlink -f "${BASH_SOURCE[0]}")")")
+# shellcheck source=tests/common.bash
+. "$top/tests/common.bash"
+
+# A checkout of what is installed, which is moved away while that runs.
+checkout=${room:?}/checkout
+mkdir -p "$checkout/crates/tl_program/out" "$checkout/tools"
+cp -p "$top/tablelayout" "$top/crates.txt" "$checkout"
+cp -p "$top/tools/building.bash" "$checkout/tools"
+cp -pR "$top/command" "$checkout"
+cp -p "$program" "$checkout/crates/tl_program/out"
+# Nothing is found that could prove and build.
+PATH=/usr/bin:/bin
+unset DESTDIR
+
+to=$room/empty
+mkdir "$to"
+all_of "$checkout/tablelayout" install "$to" | expect_text "status 0" "by install"
+names "$to" | expect_text "bin
+bin/tablelayout
+libexec
+libexec/tablelayout
+libexec/tablelayout/folders
+libexec/tablelayout/place.awk
+libexec/tablelayout/record.awk
+libexec/tablelayout/show
+libexec/tablelayout/tl_program
+share
+share/bash-completion
+share/bash-completion/completions
+share/bash-completion/completions/tablelayout
+share/man
+share/man/man1
+share/man/man1/tablelayout.1" "in the folder"
+grep -lrF "$room" "$to" | expect_text "$to/libexec/tablelayout/folders" "of files that name a folder"
+
+# From another folder, by a link, as a shell finds it.
+mv "$checkout" "$room/away"
+mkdir "$room/work" "$room/bin"
+ln -s "$to/bin/tablelayout" "$room/bin"
+PATH=$room/bin:$PATH
+cd "$room/work" || exit 1
+echo '<table><tr><td>aaa bbb<td>cc dd ee</table>' >in.html
+printf '<table>\n<tr><td><img>' >refused.html
+tablelayout | head -n 1 | expect_text "Lays an HTML table out on a page of fixed-width text, as low as any layout can be." "without arguments"
+all_of tablelayout show in.html --width 12 | expect_text $'aaa cc dd\nbbb ee   \nlowest height 2 width 9\nstatus 0' "by show"
+all_of tablelayout show <refused.html | expect_text $'bad input: unknown element at 16\nline 2, column 9:\n<tr><td><img>\n        ^\nstatus 5' "by show of a refusal"
+all_of tablelayout lay 12 in.html page.txt page.cert | expect_text $'lowest height 2 width 10\nstatus 0' "by lay"
+expect_text $'aaa  cc dd\nbbb  ee   ' "as the page" <page.txt
+all_of tablelayout check 12 in.html page.cert | expect_text $'lowest height 2 width 10\nstatus 0' "by check"
+all_of tablelayout demo 0 | expect_text $'cells 159 count 185118922800 height 130 lower 130 cuts 7\nstatus 0' "by demo"
+all_of tablelayout preview 12 in.html | expect_text $'aaa  cc dd\nbbb  ee   \nlowest height 2 width 10\nstatus 0' "by preview"
+all_of tablelayout uninstall "$to" | expect_text $'usage\nstatus 2' "by uninstall without a checkout"
+mv "$room/away" "$checkout"
+
+# Installed a second time, it is still removed with each folder that was made for it.
+all_of "$checkout/tablelayout" install "$to/" | expect_text "status 0" "by a second install"
+all_of "$checkout/tablelayout" uninstall "$to" | expect_text "status 0" "by uninstall"
+names "$to" | expect_text "" "and left"
+all_of "$checkout/tablelayout" uninstall "$to" | expect_text "tablelayout: it is not installed in $to
+status 1" "by a second uninstall"
+for words in install uninstall "install $to $to"; do
+    # shellcheck disable=SC2086
+    all_of "$checkout/tablelayout" $words | expect_text $'usage\nstatus 2' "by $words"
+done
+
+# Folders that were there stay, and so does one that holds something else by then.
+mkdir -p "$to/bin" "$to/share/man"
+names "$to" >"$room/before"
+"$checkout/tablelayout" install "$to"
+touch "$to/libexec/another"
+"$checkout/tablelayout" uninstall "$to"
+rm "$to/libexec/another"
+rmdir "$to/libexec"
+names "$to" | expect "$room/before" "and left of other folders"
+rm -r "$to"
+
+# Below DESTDIR, and into a folder whose name has a space; PREFIX may be relative.
+mkdir "$to"
+DESTDIR=$to "$checkout/tablelayout" install /usr/local
+(cd "$to" && find . -name tablelayout -type f) | LC_ALL=C sort | expect_text "./usr/local/bin/tablelayout
+./usr/local/share/bash-completion/completions/tablelayout" "below DESTDIR"
+DESTDIR=$to "$checkout/tablelayout" uninstall /usr/local
+cd "$to" || exit 1
+"$checkout/tablelayout" install "a b/c"
+"a b/c/bin/tablelayout" show "$room/work/in.html" --quiet --width 12 | expect_text $'aaa cc dd\nbbb ee   ' "below a relative PREFIX"
+"$checkout/tablelayout" uninstall "a b/c"
+names "$to" | expect_text "" "and left below DESTDIR"
+
+[ ! -e "$failed" ]
