@@ -16,12 +16,12 @@ use Rattle.tl_problem.specs.declared.zone.Range.{Range}
 use Rattle.tl_problem.specs.Problem.{ProblemModel}
 use Rattle.tl_problem.specs.Sound.{IsSound}
 use Rattle.tl_problem.specs.Spans.{spans_of, classes_of, product}
-use Rattle.tl_problem.specs.Zones.{range, range_at, IsZone, whole_zone, lower_part, upper_part}
+use Rattle.tl_problem.specs.Zones.{range, range_at, IsZone, whole_zone, lower_part, upper_part, IsVector, HasVector}
 use Rattle.tl_problem.proofs.SpanLaws.{classes-some}
 use Rattle.tl_problem.proofs.ZoneLaws.{cases_eq, whole-range, whole-is_zone}
 use Rattle.tl_cert.specs.declared.trace.CutAt.{CutAt}
 use Rattle.tl_cert.specs.Traces.{zone_at, Stands, IsCut, IsTrace}
-use Rattle.tl_cert.specs.Counting.{IsVector, HasVector, AreStanding, PartsVectors}
+use Rattle.tl_cert.specs.Counting.{AreStanding, PartsVectors}
 use Rattle.tl_cert.proofs.TraceLaws.{zone-old, zone-lower, zone-upper, zone-cases, stands-old, stood-before, trace-by, stands-new}
 use Rattle.tl_cert.proofs.TraceLaws.{zones-are}
 

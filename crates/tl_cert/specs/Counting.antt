@@ -1,22 +1,11 @@
--- How many zones of a trace stand, and what they partition: the class vectors of the problem, which give each span a class.
-use Rattle.std.specs.Prelude.{◌≡◌, ℕ, ◌+◌, ◌-◌, ◌^◌, ◌<◌, ◌≤◌, ◌↔◌, List, length, get_or}
+-- How many zones of a trace stand, and what they partition: the class vectors of the problem.
+use Rattle.std.specs.Prelude.{◌≡◌, ℕ, ◌+◌, ◌-◌, ◌^◌, ◌<◌, ◌↔◌, List, length}
 use Rattle.std.specs.List.{AllPairs, Contains}
-use Rattle.tl_problem.specs.declared.zone.Range.{Range}
 use Rattle.tl_problem.specs.Problem.{ProblemModel}
-use Rattle.tl_problem.specs.Spans.{spans_of, count_of}
-use Rattle.tl_problem.specs.Zones.{classes_at, range_at}
+use Rattle.tl_problem.specs.Spans.{count_of}
+use Rattle.tl_problem.specs.Zones.{IsVector, HasVector}
 use Rattle.tl_cert.specs.declared.trace.CutAt.{CutAt}
 use Rattle.tl_cert.specs.Traces.{Stands, zone_of}
-
--- a class vector: for each span the number of one of its classes
-pub record IsVector (problem : ProblemModel) (vector : List ℕ) : Type 0 where
-  pub spans : length vector ≡ length (spans_of problem)
-  pub classes : (s : ℕ) → s < length vector → get_or vector s 0 < length (classes_at problem s)
-
--- the zone has the class vector: each class is in the range of its span
-abbrev pub HasVector : List Range → List ℕ → Type 0
-HasVector zone vector = (s : ℕ) → s < length zone →
-    ((range_at zone s).first ≤ get_or vector s 0) × (get_or vector s 0 ≤ (range_at zone s).last)
 
 -- the numbers of the zones that stand, in order
 pub record AreStanding (trace : List CutAt) (zones : List ℕ) : Type 0 where

@@ -103,7 +103,7 @@ module _ (problem : ProblemModel) (sound : IsSound problem) (zone : List Range) 
       (omega (arith, same, rise), omega (arith, rise))
 
   -- an earlier class ends no later
-  earlier_end : (a b : ℕ) → a ≤ b → b < length (classes_at problem s) → last_in_class problem s a ≤ last_in_class problem s b
+  pub earlier_end : (a b : ℕ) → a ≤ b → b < length (classes_at problem s) → last_in_class problem s a ≤ last_in_class problem s b
   earlier_end a b le within =
       elim (cases_lt a b) [
         | inr same ↦ let here : a ≡ b = omega arith in omega (arith, ap (last_in_class problem s) here)
@@ -121,7 +121,7 @@ module _ (problem : ProblemModel) (sound : IsSound problem) (zone : List Range) 
       ]
 
   -- and a later class begins no earlier
-  later_start : (a b : ℕ) → a ≤ b → b < length (classes_at problem s) → first_in_class problem s a ≤ first_in_class problem s b
+  pub later_start : (a b : ℕ) → a ≤ b → b < length (classes_at problem s) → first_in_class problem s a ≤ first_in_class problem s b
   later_start a b le within =
       elim (cases_lt a b) [
         | inr same ↦ let here : a ≡ b = omega arith in omega (arith, ap (first_in_class problem s) here)

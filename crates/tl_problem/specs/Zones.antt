@@ -1,6 +1,6 @@
--- Zones of a problem, and the widths in them. A zone gives each span a range of its classes; spans and classes go by
+-- Zones of a problem, the widths in them, and their class vectors. A zone gives each span a range of its classes; spans and classes go by
 -- number, from 0.
-use Rattle.std.specs.Prelude.{◌≡◌, ℕ, ◌+◌, ◌-◌, ◌<◌, ◌≤◌, List, length, map, get_or, set}
+use Rattle.std.specs.Prelude.{◌≡◌, ◌≢◌, ℕ, ◌+◌, ◌-◌, ◌<◌, ◌≤◌, List, length, map, get_or, set}
 use Rattle.tl_base.specs.Style.{gap_of}
 use Rattle.tl_problem.specs.declared.cell.Span.{Span}
 use Rattle.tl_problem.specs.declared.zone.Range.{Range}
@@ -54,6 +54,22 @@ upper_part zone s class = set zone s (range (class + 1) (range_at zone s).last)
 -- the room that columns of these widths give a span
 abbrev pub span_width : ProblemModel → List ℕ → ℕ → ℕ
 span_width problem widths s = room (gap_of problem.style) widths (span_at problem s).left (span_at problem s).right
+
+-- the range with this number is the first of more than one class
+pub record IsFirstOpen (zone : List Range) (s : ℕ) : Type 0 where
+  pub there : s < length zone
+  pub more : (range_at zone s).first ≢ (range_at zone s).last
+  pub before : (t : ℕ) → t < s → (range_at zone t).first ≡ (range_at zone t).last
+
+-- a class vector: for each span the number of one of its classes
+pub record IsVector (problem : ProblemModel) (vector : List ℕ) : Type 0 where
+  pub spans : length vector ≡ length (spans_of problem)
+  pub classes : (s : ℕ) → s < length vector → get_or vector s 0 < length (classes_at problem s)
+
+-- the zone has the class vector: each class is in the range of its span
+abbrev pub HasVector : List Range → List ℕ → Type 0
+HasVector zone vector = (s : ℕ) → s < length zone →
+    ((range_at zone s).first ≤ get_or vector s 0) × (get_or vector s 0 ≤ (range_at zone s).last)
 
 -- the width is one of those that the zone gives the span
 abbrev pub IsWidthOf : ProblemModel → List Range → ℕ → ℕ → Type 0

@@ -1,10 +1,10 @@
 -- In which order a search cuts the zones of a problem, and where it cuts them.
-use Rattle.std.specs.Prelude.{◌≡◌, ◌≢◌, ℕ, ◌<◌, ◌⊎◌, List, length}
+use Rattle.std.specs.Prelude.{◌≡◌, ℕ, ◌<◌, ◌⊎◌, List}
 use Rattle.std.specs.List.{AllPairs}
 use Rattle.tl_problem.specs.declared.placed.Placed.{Placed}
 use Rattle.tl_problem.specs.declared.zone.Range.{Range}
 use Rattle.tl_problem.specs.Problem.{ProblemModel}
-use Rattle.tl_problem.specs.Zones.{range_at, InZone}
+use Rattle.tl_problem.specs.Zones.{range_at, InZone, IsFirstOpen}
 use Rattle.tl_problem.specs.Placements.{IsPlacementIn}
 use Rattle.tl_cert.specs.declared.trace.CutAt.{CutAt}
 use Rattle.tl_cert.specs.Traces.{IsZoneOf, zone_of}
@@ -12,12 +12,6 @@ use Rattle.tl_cert.specs.ZoneOrders.{AtEachCut, ComesFrom, ZoneComesBefore}
 use Rattle.tl_cert.specs.Worked.{IsBoundOf}
 
 -- ---- where a zone is cut
-
--- the range with this number is the first of more than one class
-pub record IsFirstOpen (zone : List Range) (s : ℕ) : Type 0 where
-  pub there : s < length zone
-  pub more : (range_at zone s).first ≢ (range_at zone s).last
-  pub before : (t : ℕ) → t < s → (range_at zone t).first ≡ (range_at zone t).last
 
 -- the cut is of the first span of more than one class, after the first of its classes
 pub record IsFirstCut (zone : List Range) (cut : CutAt) : Type 0 where

@@ -5,11 +5,11 @@ ghost use Rattle.std.specs.Prelude.{◌≡◌, ◌+◌, ◌<◌, ◌≤◌, ◌+
 ghost use Rattle.tl_base.specs.declared.limits.TheConstants.{MAX_BUDGET};
 ghost use Rattle.tl_problem.specs.Agreement.{HasOneClass};
 ghost use Rattle.tl_problem.specs.Placements.{IsOpening, IsPlacement};
-ghost use Rattle.tl_problem.specs.Zones.{whole_zone};
+ghost use Rattle.tl_problem.specs.Zones.{whole_zone, IsFirstOpen};
 ghost use Rattle.tl_cert.specs.Traces.{IsCut, IsZoneOf, zone_of};
 ghost use Rattle.tl_cert.specs.Worked.{IsClosedZone};
 ghost use Rattle.tl_solve.specs.Arenas.{HasBoundBelow, IsArenaOf, IsLowered};
-ghost use Rattle.tl_solve.specs.Orders.{IsFirstCut, IsFirstOpen};
+ghost use Rattle.tl_solve.specs.Orders.{IsFirstCut};
 
 use crate::looks::{look, take_lower};
 use std::alloc::{AllocError, Global};

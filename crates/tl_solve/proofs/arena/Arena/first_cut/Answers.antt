@@ -1,10 +1,9 @@
 use Rattle.std.proofs.Common.{length, inr, sym, ap, ◌∙◌, subst, arith}
 use Rattle.tl_base.proofs.Options.{if_none}
 use Rattle.tl_problem.specs.Agreement.{HasOneClass}
-use Rattle.tl_problem.specs.Zones.{range_at, whole_zone}
+use Rattle.tl_problem.specs.Zones.{range_at, whole_zone, IsFirstOpen}
 use Rattle.tl_cert.specs.Traces.{zone_of}
 use Rattle.tl_solve.specs.Arenas.{IsBoundFound}
-use Rattle.tl_solve.specs.Orders.{IsFirstOpen}
 use Rattle.tl_solve.proofs.Agreeing.{one_class-differ}
 use Rattle.tl_solve.proofs.ArenaLaws.{arena-item, arena-zone}
 use Rattle.tl_problem.proofs.SpanningLemmas.{spans-few}
