@@ -40,10 +40,10 @@ grep -lrF "$room" "$to" | expect_text "$to/libexec/tablelayout/folders" "of file
 
 # From another folder, by a link, as a shell finds it.
 mv "$checkout" "$room/away"
-mkdir "$room/work" "$room/bin"
+mkdir "$room/tables" "$room/bin"
 ln -s "$to/bin/tablelayout" "$room/bin"
 PATH=$room/bin:$PATH
-cd "$room/work" || exit 1
+cd "$room/tables" || exit 1
 echo '<table><tr><td>aaa bbb<td>cc dd ee</table>' >in.html
 printf '<table>\n<tr><td><img>' >refused.html
 tablelayout | head -n 1 | expect_text "Lays an HTML table out on a page of fixed-width text, as low as any layout can be." "without arguments"
@@ -87,7 +87,7 @@ DESTDIR=$to "$checkout/tablelayout" install /usr/local
 DESTDIR=$to "$checkout/tablelayout" uninstall /usr/local
 cd "$to" || exit 1
 "$checkout/tablelayout" install "a b/c"
-"a b/c/bin/tablelayout" show "$room/work/in.html" --quiet --width 12 | expect_text $'aaa cc dd\nbbb ee   ' "below a relative PREFIX"
+"a b/c/bin/tablelayout" show "$room/tables/in.html" --quiet --width 12 | expect_text $'aaa cc dd\nbbb ee   ' "below a relative PREFIX"
 "$checkout/tablelayout" uninstall "a b/c"
 names "$to" | expect_text "" "and left below DESTDIR"
 

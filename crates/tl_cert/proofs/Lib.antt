@@ -5,6 +5,7 @@ pub mod CutParts
 pub mod FireLaws
 pub mod LogLaws
 pub mod Loops
+pub mod OneText
 pub mod ReadResults
 pub mod TextExamples
 pub mod TraceLaws

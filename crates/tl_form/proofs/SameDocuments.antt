@@ -1,7 +1,8 @@
--- A certificate that is valid for a table is valid for each table that is the same.
+-- A certificate that is valid for a table is valid for each table that is the same, and one that fails in a step of judging fails
+-- in that step for each.
 use Rattle.std.proofs.Common.{◌≡◌, ◌∙◌, ℕ, ◌+◌, ◌-◌, ◌<◌, ◌==◌, if◌then◌else◌, List, [], ◌∷◌, get_or, take, Option, None, Some}
 use Rattle.std.proofs.Common.{◌↔◌}
-use Rattle.std.proofs.Common.{refl, sym, ap, subst}
+use Rattle.std.proofs.Common.{inl, inr, length, refl, sym, ap, subst}
 use Rattle.tl_base.specs.declared.style.Style.{Style}
 use Rattle.tl_problem.specs.Problem.{ProblemModel}
 use Rattle.tl_cert.specs.declared.certificate.Certificate.{Certificate}
@@ -16,14 +17,16 @@ use Rattle.tl_form.specs.Expected.{due_from, due_after}
 use Rattle.tl_table.specs.Least.{IsLeastWidth}
 use Rattle.tl_table.specs.Same.{AreSame}
 use Rattle.tl_table.specs.Sound.{nested_in_table}
-use Rattle.tl_form.specs.Valid.{IsClaimFor, IsProblemAt, IsGood, AreWhole, IsShown, IsValid}
+use Rattle.tl_form.specs.Failures.{IsGoodUpTo, HasWrongClaim, HasWrongChain, IsMissing, IsExtra, ComesTo, HasWrongLayout}
+use Rattle.tl_form.specs.Failures.{HasWrongTrace, HasWrongLog}
+use Rattle.tl_form.specs.Valid.{IsClaimFor, IsProblemAt, IsLaid, IsGood, AreWhole, IsShown, IsValid}
 use Rattle.tl_table.proofs.SameChains.{same_chain}
 use Rattle.tl_table.proofs.SameFits.{same_least}
 use Rattle.tl_form.proofs.SameProblems.{same_inner, same_problem}
 use Rattle.tl_table.proofs.SameTables.{among_twin, same_nests, same_number, same_turned}
 
 -- the document with another table in place of its own
-abbrev put : Document → Table → Document
+abbrev pub put : Document → Table → Document
 put document table = record {
   table = table;
   style = document.style;
@@ -44,7 +47,7 @@ module _ (document : Document) (other : Table) (same : AreSame document.table ot
 
   -- ---- it is the document of the other table
 
-  document_same : (table : Table) (style : Style) (page : ℕ) → IsDocumentOf table style page document →
+  pub document_same : (table : Table) (style : Style) (page : ℕ) → IsDocumentOf table style page document →
       IsDocumentOf other style page twin
   document_same table style page of = record {
     same = refl;
@@ -156,3 +159,112 @@ same_valid one other style page budget certificate same valid =
         shown = shown_same document other twins budget certificate certificate.claim valid.2.shown;
       },
     )
+
+-- ---- steps that fail
+
+-- the document is that of the other table with its own put back, so what is so of the one is so of the other
+module _ (document : Document) (other : Table) (same : AreSame document.table other) (budget : ℕ)
+    (certificate : Certificate) where
+  back : AreSame other document.table
+  back = same_turned document.table other same
+
+  laid_same : (before : List Section) (section : Section) (problem : ProblemModel) → IsLaid document before section problem →
+      IsLaid (put document other) before section problem
+  laid_same before section problem laid = record {
+    own = problem_at document other same before section problem laid.own;
+    placed = laid.placed;
+    placement = laid.placement;
+  }
+
+  laid_back : (before : List Section) (section : Section) (problem : ProblemModel) →
+      IsLaid (put document other) before section problem →
+      IsLaid document before section problem
+  laid_back before section problem laid = record {
+    own = problem_at (put document other) document.table back before section problem laid.own;
+    placed = laid.placed;
+    placement = laid.placement;
+  }
+
+  upto_same : (n : ℕ) → IsGoodUpTo document budget certificate n → IsGoodUpTo (put document other) budget certificate n
+  upto_same n upto = record {
+    claim = claim_same document other same budget certificate upto.claim;
+    by_sections = upto.by_sections;
+    there = upto.there;
+    good = λ i d within. good_same document other same budget (take i certificate.sections) (get_or certificate.sections i d)
+        (upto.good i d within);
+  }
+
+  comes_same : (number : ℕ) (section : Section) → ComesTo document budget certificate number section →
+      ComesTo (put document other) budget certificate number section
+  comes_same number section comes = record {
+    good = upto_same number comes.good;
+    there = comes.there;
+    is = comes.is;
+    due = sym (after_same document other same (take number certificate.sections)) ∙ comes.due;
+  }
+
+  pub claim_fails : HasWrongClaim document budget certificate → HasWrongClaim (put document other) budget certificate
+  claim_fails (inl wrong) =
+      inl (λ claim. wrong (claim_same (put document other) document.table back budget certificate claim))
+  claim_fails (inr numbers) = inr (record {
+    good = upto_same (length certificate.sections) numbers.good;
+    none = sym (after_same document other same certificate.sections) ∙ numbers.none;
+    wrong = numbers.wrong;
+  })
+
+  pub chain_fails : HasWrongChain document budget certificate → HasWrongChain (put document other) budget certificate
+  chain_fails chain = record {
+    claim = claim_same document other same budget certificate chain.claim;
+    least = chain.least;
+    narrow = chain.narrow;
+    wrong = λ wide. chain.wrong
+        (shown_same (put document other) document.table back budget certificate (Narrow chain.least) wide);
+  }
+
+  pub missing_fails : (table : ℕ) → IsMissing document budget certificate table →
+      IsMissing (put document other) budget certificate table
+  missing_fails table missing = record {
+    at = missing.at;
+    good = upto_same missing.at missing.good;
+    width = missing.width;
+    due = sym (after_same document other same (take missing.at certificate.sections)) ∙ missing.due;
+    wrong = λ d there due. missing.wrong d there
+        (after_same document other same (take missing.at certificate.sections) ∙ due);
+  }
+
+  pub extra_fails : (number : ℕ) → IsExtra document budget certificate number →
+      IsExtra (put document other) budget certificate number
+  extra_fails number extra = record {
+    good = upto_same number extra.good;
+    none = sym (after_same document other same (take number certificate.sections)) ∙ extra.none;
+    more = extra.more;
+  }
+
+  pub layout_fails : (number : ℕ) → HasWrongLayout document budget certificate number →
+      HasWrongLayout (put document other) budget certificate number
+  layout_fails number layout = record {
+    section = layout.section;
+    comes = comes_same number layout.section layout.comes;
+    wrong = λ problem laid. layout.wrong problem
+        (laid_back (take number certificate.sections) layout.section problem laid);
+  }
+
+  pub trace_fails : (number : ℕ) → HasWrongTrace document budget certificate number →
+      HasWrongTrace (put document other) budget certificate number
+  trace_fails number trace = record {
+    section = trace.section;
+    comes = comes_same number trace.section trace.comes;
+    problem = trace.problem;
+    laid = laid_same (take number certificate.sections) trace.section trace.problem trace.laid;
+    wrong = trace.wrong;
+  }
+
+  pub log_fails : (number : ℕ) (section : Section) (problem : ProblemModel) →
+      HasWrongLog document budget certificate number section problem →
+      HasWrongLog (put document other) budget certificate number section problem
+  log_fails number section problem log = record {
+    comes = comes_same number section log.comes;
+    laid = laid_same (take number certificate.sections) section problem log.laid;
+    traced = log.traced;
+    wrong = log.wrong;
+  }

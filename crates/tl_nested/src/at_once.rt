@@ -69,7 +69,8 @@ fn group_sections<
     requires callable { SearchesEach F.Fn solve.now budget }
     requires solves { SolvesEach F.Fn solve.now budget }
     requires there { All (λ number. (own_number (meant subject.now) ≤ number) × (number ≤ subject.now.last)) numbers.now }
-    ensures { IfOk result (λ lists. AllZip (λ number list. All (IsFoundFor (GivesOutcome F.Fn solve.now budget) (meant subject.now) budget told.now number) list) numbers.now lists.items) }
+    ensures { IfOk result (λ lists. AllZip (λ number list. All (IsFoundFor (GivesOutcome F.Fn solve.now budget) (meant subject.now)
+        budget told.now number) list) numbers.now lists.items) }
 {
     let piece = |number: u32| -> Result<List<Section>, AllocError>
         requires { IsSubject subject.now × IsWideEnough subject.now × (budget ≤ MAX_BUDGET)

@@ -1,5 +1,6 @@
 -- What comes of a command on a file is one report, whatever the workers; and two lowest layouts are as high.
-use Rattle.std.proofs.Common.{◌≡◌, ◌∙◌, inl, inr, ◌⊎◌, ◌≢◌, ℕ, ◌<◌, ◌≤◌, List, Option, Some, refl, sym, ap, subst, arith}
+use Rattle.std.proofs.lemmas.Option.{same_Some}
+use Rattle.std.proofs.Common.{◌≡◌, ◌∙◌, inl, inr, ◌⊎◌, ℕ, ◌<◌, ◌≤◌, List, Option, Some, refl, sym, ap, subst, arith}
 use Rattle.tl_base.specs.declared.style.Style.{Style}
 use Rattle.tl_base.specs.Desk.{Files, longer}
 use Rattle.tl_command.specs.declared.command.Command.TheVariants.{Lay, Check}
@@ -7,9 +8,11 @@ use Rattle.tl_command.specs.Ask.{Asked}
 use Rattle.tl_cert.specs.declared.certificate.Certificate.{Certificate}
 use Rattle.tl_cert.specs.declared.certificate.Claim.{Claim}
 use Rattle.tl_cert.specs.declared.certificate.Claim.TheVariants as claims
+use Rattle.tl_cert.proofs.OneText.{one_certificate, one_error, text_or_error}
 use Rattle.tl_table.specs.declared.cell.Table.{Table}
 use Rattle.tl_table.specs.Least.{IsLeastHeight, IsLeastWidth}
 use Rattle.tl_table.specs.Same.{AreSame}
+use Rattle.tl_table.specs.Sound.{IsSound}
 use Rattle.tl_table.proofs.LinkLemmas.{IsLeastWidth-unique}
 use Rattle.tl_table.proofs.SameFits.{same_fits, same_least}
 use Rattle.tl_table.proofs.SameTables.{same_turned}
@@ -18,16 +21,21 @@ use Rattle.tl_read.specs.declared.reading.Reading.TheVariants as readings
 use Rattle.tl_read.specs.declared.refusal.Limit.TheVariants as limits
 use Rattle.tl_read.specs.declared.refusal.Refusal.{Refusal}
 use Rattle.tl_read.specs.declared.refusal.Refusal.TheVariants as refusals
-use Rattle.tl_read.specs.Reading.{IsReading, AreSameReadings}
+use Rattle.tl_read.specs.Reading.{IsReading, AreSameReadings, IsSoundReading}
+use Rattle.tl_verify.specs.Verdicts.{IsRefusedAs}
+use Rattle.tl_verify.proofs.OneVerdict.{one_refusal}
 use Rattle.tl_program.specs.declared.answer.Answer.{Answer}
+use Rattle.tl_program.specs.declared.rejection.Rejection.{Rejection}
 use Rattle.tl_program.specs.declared.report.Report.{Report}
 use Rattle.tl_program.specs.declared.report.Report.TheVariants as reports
 use Rattle.tl_program.specs.declared.task.Task.{Task}
 use Rattle.tl_program.specs.Alike.{but_workers, but_search, BeginAlike, PrintAlike, ChecksAlike, RefusalsAlike, LowestAlike}
-use Rattle.tl_program.specs.Answers.{reach, IsLaidAs, lowest_laid, bounded_laid, narrow_laid}
+use Rattle.tl_program.specs.Answers.{reach, budget_in, IsLaidAs, lowest_laid, bounded_laid, narrow_laid}
 use Rattle.tl_program.specs.Asks.{input_name, judged_name}
 use Rattle.tl_program.specs.Change.{Change, DoesNotFail, Holds}
-use Rattle.tl_program.specs.Checks.{columns_shown, IsShownAs, lowest_shown, bounded_shown, narrow_shown, IsJudged, IsChecked}
+use Rattle.tl_program.specs.Checks.{columns_shown, IsShownAs, lowest_shown, bounded_shown, narrow_shown, IsRejectionOf, IsJudged}
+use Rattle.tl_program.specs.Checks.{IsChecked}
+use Rattle.tl_program.specs.Rejections.{text_rejection, step_rejection}
 use Rattle.tl_program.specs.Deliveries.{Delivery, reported, ComesOfInput, IsAnswered}
 use Rattle.tl_program.specs.Headline.{Ends}
 use Rattle.tl_program.specs.Inputs.{IsOfBytes, IsOfReading}
@@ -35,8 +43,7 @@ use Rattle.tl_program.specs.Messages.{status_number, status_of, message_of}
 use Rattle.tl_program.specs.Tasks.{task_of}
 use Rattle.tl_program.specs.inner.Claims.{report_of}
 use Rattle.tl_program.proofs.Checked.{valid_alike}
-use Rattle.tl_program.proofs.Ends.{same_bytes, same_reach, went}
-use Rattle.tl_program.proofs.Judging.{one_certificate}
+use Rattle.tl_program.proofs.Ends.{same_budget, same_bytes, same_reach, went}
 use Rattle.tl_program.proofs.LaidRuns.{LaidRun, laid_run}
 
 -- two contents of one file are the same
@@ -53,28 +60,29 @@ one_content before after files name one other is also first second =
 module _ (asked : Asked) (One Other : Table → Delivery → Type 0) (before change : Change) (begin : BeginAlike before change)
     (quiet : DoesNotFail before) (still : DoesNotFail change) (first second : Delivery) (Alike : Type 0)
     (alike_if : first.report ≡ second.report → Alike)
-    (own : (one other : Table) → AreSame one other → One one first → Other other second → Alike) where
+    (own : (one other : Table) → IsSound other → AreSame one other → One one first → Other other second → Alike) where
   abbrev Passes : Delivery → Refusal → Type 0
   Passes delivery refusal = delivery ≡ reported (reports.Refused refusal)
 
   passed : (delivery : Delivery) (refusal : Refusal) → Passes delivery refusal → delivery.report ≡ reports.Refused refusal
   passed delivery refusal same = ap (λ (d : Delivery). d.report) same
 
-  by_readings : (one other : Reading) → AreSameReadings one other →
+  by_readings : (one other : Reading) → IsSoundReading other → AreSameReadings one other →
       IsOfReading (reach (task_of asked)) (Passes first) (λ table. One table first) one →
       IsOfReading (reach (task_of asked)) (Passes second) (λ table. Other table second) other → Alike
-  by_readings (readings.Table one) (readings.Table other) alike (inl far) (inl beyond) =
+  by_readings (readings.Table one) (readings.Table other) sound alike (inl far) (inl beyond) =
       alike_if (passed first _ far.1
       ∙ ap (λ (n : ℕ). reports.Refused (refusals.Limit limits.Reach n)) (same_reach (task_of asked) one other alike)
       ∙ sym (passed second _ beyond.1))
-  by_readings (readings.Table one) (readings.Table other) alike (inl far) (inr near) =
+  by_readings (readings.Table one) (readings.Table other) sound alike (inl far) (inr near) =
       absurd (omega (arith, far.0, near.0, same_reach (task_of asked) one other alike))
-  by_readings (readings.Table one) (readings.Table other) alike (inr near) (inl far) =
+  by_readings (readings.Table one) (readings.Table other) sound alike (inr near) (inl far) =
       absurd (omega (arith, far.0, near.0, same_reach (task_of asked) one other alike))
-  by_readings (readings.Table one) (readings.Table other) alike (inr near) (inr close) = own one other alike near.1 close.1
-  by_readings (readings.Table one) (readings.Refused refusal) alike so also = absurd alike
-  by_readings (readings.Refused refusal) (readings.Table other) alike so also = absurd alike
-  by_readings (readings.Refused one) (readings.Refused other) alike so also =
+  by_readings (readings.Table one) (readings.Table other) sound alike (inr near) (inr close) =
+      own one other sound.0 alike near.1 close.1
+  by_readings (readings.Table one) (readings.Refused refusal) sound alike so also = absurd alike
+  by_readings (readings.Refused refusal) (readings.Table other) sound alike so also = absurd alike
+  by_readings (readings.Refused one) (readings.Refused other) sound alike so also =
       alike_if (passed first one so ∙ ap (λ (refusal : Refusal). reports.Refused refusal) alike ∙ sym (passed second other also))
 
   abbrev Of : (Table → Delivery → Type 0) → Delivery → List ℕ → Type 0
@@ -90,7 +98,7 @@ module _ (asked : Asked) (One Other : Table → Delivery → Type 0) (before cha
     same = one_content change.files before.files begin.0 (input_name asked) more bytes begin.2 begin.1 has holds
 
     by_bytes : Of One first bytes → Of Other second bytes → Alike
-    by_bytes of also = by_readings of.reading also.reading (of.only also.reading also.read) of.so also.so
+    by_bytes of also = by_readings of.reading also.reading also.sound (of.only also.reading also.read) of.so also.so
 
 -- ---- layouts
 
@@ -212,8 +220,9 @@ refusals_alike words change status ends = λ earlier before told one other is al
       also ∙ ap (λ (r : Report). status_number (status_of r)) (sym report) ∙ sym is,
       (message_of first.report, prints, printed ∙ ap (λ (r : Report). longer change.said (message_of r)) (sym report)),
     ) where
-      own : (t s : Table) → AreSame t s → IsAnswered one t first → IsAnswered other s second → first.report ≡ second.report
-      own t s alike answered answers =
+      own : (t s : Table) → IsSound s → AreSame t s → IsAnswered one t first → IsAnswered other s second →
+          first.report ≡ second.report
+      own t s sound alike answered answers =
           let reports_first = ap (λ (d : Delivery). d.report) answered.so in
           let found = narrow_told (task_of one) t answered.answer answered.laid
           (not_laid told _ no_page (is ∙ ap (λ (r : Report). status_number (status_of r)) reports_first)) in
@@ -283,28 +292,42 @@ judged_but asked table text report (inr rejected) = inr (record {
   never = rejected.never;
 })
 
--- two reports are the same, or both are rejections
-abbrev AreAlike : Report → Report → Type 0
-AreAlike first second = (first ≡ second)
-    ⊎ ((status_number (status_of first) ≡ 10) × (status_number (status_of second) ≡ 10))
+-- a text is rejected for one reason, for tables that are the same
+one_rejection : (task : Task) (one other : Table) (text : List ℕ) (first second : Rejection) → IsSound other → AreSame one other →
+    IsRejectionOf task one text first → IsRejectionOf task other text second → first ≡ second
+one_rejection task one other text first second sound same (inl (error, no_text, is)) (inl (more, no_more, also)) =
+    same_Some _ _ (sym is ∙ ap text_rejection (one_error text error more no_text no_more) ∙ also)
+one_rejection task one other text first second sound same (inl (error, no_text, is)) (inr (certificate, reject, text_is, refused, also)) =
+    absurd (text_or_error text certificate error text_is no_text)
+one_rejection task one other text first second sound same (inr (certificate, reject, text_is, refused, also)) (inl (error, no_text, is)) =
+    absurd (text_or_error text certificate error text_is no_text)
+one_rejection task one other text first second sound same (inr (certificate, reject, text_is, refused, is))
+    (inr (more, step, more_is, refuses, also)) = same_Some _ _ (sym is ∙ ap step_rejection steps ∙ also) where
+  steps : reject ≡ step
+  steps = one_refusal one other task.style task.width (budget_in task one) certificate reject step sound same refused
+      (subst (λ (budget : ℕ). IsRefusedAs other task.style task.width budget certificate step)
+      (sym (same_budget task one other same))
+      (subst (λ (c : Certificate). IsRefusedAs other task.style task.width (budget_in task other) c step)
+      (one_certificate text more certificate more_is text_is) refuses))
 
 -- a text is judged alike for tables that are the same
-judged_alike : (task : Task) (one other : Table) (text : List ℕ) (first second : Report) → AreSame one other →
-    IsJudged task one text first → IsJudged task other text second → AreAlike first second
-judged_alike task one other text first second same (inl accepted) (inl also) =
-    inl (one_shown task one other accepted.certificate accepted.shows
+judged_alike : (task : Task) (one other : Table) (text : List ℕ) (first second : Report) → IsSound other → AreSame one other →
+    IsJudged task one text first → IsJudged task other text second → first ≡ second
+judged_alike task one other text first second sound same (inl accepted) (inl also) =
+    one_shown task one other accepted.certificate accepted.shows
     (subst (λ (c : Certificate). IsShownAs task other c second)
-    (one_certificate text also.certificate accepted.certificate also.text_is accepted.text_is) also.shows))
-judged_alike task one other text first second same (inl accepted) (inr rejected) =
+    (one_certificate text also.certificate accepted.certificate also.text_is accepted.text_is) also.shows)
+judged_alike task one other text first second sound same (inl accepted) (inr rejected) =
     absurd (rejected.never accepted.certificate accepted.text_is
     (valid_alike task one other accepted.certificate same accepted.valid))
-judged_alike task one other text first second same (inr rejected) (inl accepted) =
+judged_alike task one other text first second sound same (inr rejected) (inl accepted) =
     absurd (rejected.never accepted.certificate accepted.text_is
     (valid_alike task other one accepted.certificate (same_turned one other same) accepted.valid))
-judged_alike task one other text first second same (inr rejected) (inr also) = inr (
-  ap (λ (r : Report). status_number (status_of r)) rejected.told,
-  ap (λ (r : Report). status_number (status_of r)) also.told,
-)
+judged_alike task one other text first second sound same (inr rejected) (inr also) =
+    rejected.told
+    ∙ ap (λ (rejection : Rejection). reports.Rejected rejection)
+    (one_rejection task one other text rejected.rejection also.rejection sound same rejected.reason also.reason)
+    ∙ sym also.told
 
 pub checks_alike : (words : List (List ℕ)) (change : Change) (status : ℕ) → Ends words change status →
     ChecksAlike words change status
@@ -324,37 +347,25 @@ checks_alike words change status ends = λ earlier before told one other is also
         ComesOfInput other (reach (task_of other)) (IsChecked other change.files) change second →
         told ≡ status_number (status_of first.report) → status ≡ status_number (status_of second.report) →
         before.said_after ≡ longer before.said (message_of first.report) →
-        change.said_after ≡ longer change.said (message_of second.report) →
-        (status ≡ told) × (told ≢ 10 → PrintAlike before change)
-    so one other before change begin quiet still told status same first second comes goes is told_also prints printed =
-        by_reports reports_alike where
-          own : (t s : Table) → AreSame t s → IsChecked one before.files t first → IsChecked other change.files s second →
-              AreAlike first.report second.report
-          own t s alike checked checks =
-              judged_alike (task_of (but_workers other)) t s checked.judged.0 first.report second.report alike
-              (subst (λ (a : Asked). IsJudged (task_of a) t checked.judged.0 first.report) same
-              (judged_but one t checked.judged.0 first.report checked.judged.2))
-              (judged_but other s checked.judged.0 second.report
-              (subst (λ (text : List ℕ). IsJudged (task_of other) s text second.report) texts checks.judged.2)) where
-                texts : checks.judged.0 ≡ checked.judged.0
-                texts = one_content change.files before.files begin.0 (judged_name other) checks.judged.0 checked.judged.0
-                    begin.2 begin.1 checks.judged.1
-                    (subst (λ (a : Asked). Holds before.files (judged_name a) checked.judged.0) same checked.judged.1)
+        change.said_after ≡ longer change.said (message_of second.report) → (status ≡ told) × PrintAlike before change
+    so one other before change begin quiet still told status same first second comes goes is also prints printed = (
+      also ∙ ap (λ (r : Report). status_number (status_of r)) (sym report) ∙ sym is,
+      (message_of first.report, prints, printed ∙ ap (λ (r : Report). longer change.said (message_of r)) (sym report)),
+    ) where
+      own : (t s : Table) → IsSound s → AreSame t s → IsChecked one before.files t first → IsChecked other change.files s second →
+          first.report ≡ second.report
+      own t s sound alike checked checks =
+          judged_alike (task_of (but_workers other)) t s checked.judged.0 first.report second.report sound alike
+          (subst (λ (a : Asked). IsJudged (task_of a) t checked.judged.0 first.report) same
+          (judged_but one t checked.judged.0 first.report checked.judged.2))
+          (judged_but other s checked.judged.0 second.report
+          (subst (λ (text : List ℕ). IsJudged (task_of other) s text second.report) texts checks.judged.2)) where
+            texts : checks.judged.0 ≡ checked.judged.0
+            texts = one_content change.files before.files begin.0 (judged_name other) checks.judged.0 checked.judged.0
+                begin.2 begin.1 checks.judged.1
+                (subst (λ (a : Asked). Holds before.files (judged_name a) checked.judged.0) same checked.judged.1)
 
-          reports_alike : AreAlike first.report second.report
-          reports_alike = one_report (but_workers other) (IsChecked one before.files) (IsChecked other change.files) before change
-              begin quiet still first second (AreAlike first.report second.report) (λ e. inl e) own
-              (subst (λ (a : Asked). ComesOfInput a (reach (task_of a))
-              (IsChecked one before.files) before first) same comes) goes
-
-          by_reports : AreAlike first.report second.report → (status ≡ told) × (told ≢ 10 → PrintAlike before change)
-          by_reports (inl report) = (
-            told_also ∙ ap (λ (r : Report). status_number (status_of r)) (sym report) ∙ sym is,
-            λ apart. (
-              message_of first.report,
-              prints,
-              printed
-                  ∙ ap (λ (r : Report). longer change.said (message_of r)) (sym report),
-            ),
-          )
-          by_reports (inr (ten, also_ten)) = (told_also ∙ also_ten ∙ sym (is ∙ ten), λ apart. absurd (apart (is ∙ ten)))
+      report : first.report ≡ second.report
+      report = one_report (but_workers other) (IsChecked one before.files) (IsChecked other change.files) before change begin
+          quiet still first second (first.report ≡ second.report) (λ e. e) own
+          (subst (λ (a : Asked). ComesOfInput a (reach (task_of a)) (IsChecked one before.files) before first) same comes) goes

@@ -5,6 +5,7 @@ use Rattle.tl_command.specs.Ask.{Asked}
 use Rattle.tl_cert.specs.declared.certificate.Certificate.{Certificate}
 use Rattle.tl_cert.specs.declared.certificate.Claim.{Claim}
 use Rattle.tl_cert.specs.Faults.{IsTextOf}
+use Rattle.tl_cert.proofs.OneText.{one_certificate}
 use Rattle.tl_table.specs.declared.cell.Table.{Table}
 use Rattle.tl_table.specs.Same.{AreSame}
 use Rattle.tl_form.specs.Valid.{IsValid}
@@ -22,7 +23,6 @@ use Rattle.tl_program.specs.Messages.{status_number, status_of}
 use Rattle.tl_program.specs.Deliveries.{Delivery}
 use Rattle.tl_program.specs.Tasks.{task_of}
 use Rattle.tl_program.proofs.Ends.{same_bytes, same_budget, went, own_input}
-use Rattle.tl_program.proofs.Judging.{one_certificate}
 
 -- the table as it was read, and what is judged of the text, that a check which did not fail went by
 record WentBy (task : Task) (table : Table) (text : List ℕ) (status : ℕ) : Type 0 where

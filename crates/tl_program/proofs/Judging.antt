@@ -17,7 +17,7 @@ use Rattle.tl_cert.specs.declared.error.CertError.TheVariants as texts
 use Rattle.tl_cert.specs.declared.section.Section.{Section}
 use Rattle.tl_cert.specs.Faults.{IsTextOf, IsNoText}
 use Rattle.tl_cert.specs.Text.{IsWritable, HasProof, IsSectionShaped, IsNarrow}
-use Rattle.tl_cert.proofs.text.Laws.{texts_apart}
+use Rattle.tl_cert.proofs.OneText.{one_certificate}
 use Rattle.tl_table.specs.declared.cell.Table.{Table}
 use Rattle.tl_form.specs.ClosedLaws.{IsClosedSection, IsWideDocument, BudgetCloses}
 use Rattle.tl_form.specs.Expected.{Document, own_number, least_of}
@@ -41,12 +41,6 @@ use Rattle.tl_program.specs.Checks.{IsValidIn, columns_shown, IsShownAs, lowest_
 use Rattle.tl_program.specs.Rejections.{text_rejection, step_rejection}
 use Rattle.tl_program.specs.inner.Claims.{HasFewColumns, report_of}
 use Rattle.tl_program.proofs.Laying.{own_least, last_found, last_of, last_is}
-
--- two certificates of one text are the same
-pub one_certificate : (text : List ℕ) (one other : Certificate) → IsTextOf text one → IsTextOf text other → one ≡ other
-one_certificate text one other first second =
-    (texts_apart one other [] [] first.writable.0 second.writable.0
-    (append-nil _ ∙ sym first.text ∙ second.text ∙ sym (append-nil _))).0
 
 -- ---- few columns
 

@@ -1,6 +1,6 @@
 -- What does not depend on how many workers there are, and what not on the search either: two runs on the same files, by arguments
 -- that differ in nothing else.
-use Rattle.std.specs.Prelude.{◌≡◌, ◌≢◌, ◌⊎◌, ℕ, List, None, Some}
+use Rattle.std.specs.Prelude.{◌≡◌, ◌⊎◌, ℕ, List, None, Some}
 use Rattle.tl_base.specs.Desk.{Files, longer}
 use Rattle.tl_command.specs.declared.command.Command.TheVariants.{Lay, Check}
 use Rattle.tl_command.specs.Ask.{Asked}
@@ -57,12 +57,12 @@ abbrev pub PrintAlike : Change → Change → Type 0
 PrintAlike before change = (text : List ℕ) × (before.said_after ≡ longer before.said text)
     × (change.said_after ≡ longer change.said text)
 
--- a check returns the same, unless the desk fails or memory runs out, and prints the same unless the certificate is rejected
+-- a check returns and prints the same, unless the desk fails or memory runs out
 abbrev pub ChecksAlike : List (List ℕ) → Change → ℕ → Type 0
 ChecksAlike words change status = (earlier : List (List ℕ)) (before : Change) (told : ℕ) (one other : Asked) →
     IsAskOf Check earlier one → IsAskOf Check words other → but_workers one ≡ but_workers other → Ends earlier before told →
     BeginAlike before change → DoesNotFail before → DoesNotFail change →
-    ((status ≡ told) × (told ≢ 10 → PrintAlike before change)) ⊎ ((told ≡ 9) ⊎ (status ≡ 9))
+    ((status ≡ told) × PrintAlike before change) ⊎ ((told ≡ 9) ⊎ (status ≡ 9))
 
 -- where no page is stored, for its width or as the file is refused, a layout prints the same, and returns the same
 abbrev pub RefusalsAlike : List (List ℕ) → Change → ℕ → Type 0

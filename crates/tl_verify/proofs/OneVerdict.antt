@@ -1,4 +1,4 @@
--- A certificate is accepted, or refused by one error.
+-- A certificate is accepted, or refused by one error, which is the same for tables that are.
 use Rattle.std.proofs.Common.{◌≡◌, ◌∙◌, ℕ, List, take, refl, sym, ap, subst, inl, inr, arith}
 use Rattle.std.proofs.lemmas.Bool.{cases_lt}
 use Rattle.std.proofs.lemmas.List.{get_or_default}
@@ -7,6 +7,9 @@ use Rattle.tl_cert.specs.declared.certificate.Certificate.{Certificate}
 use Rattle.tl_cert.specs.declared.log.LogLine.{LogLine}
 use Rattle.tl_cert.specs.declared.trace.CutAt.{CutAt}
 use Rattle.tl_check.specs.Verdicts.{IsFirstBad}
+use Rattle.tl_base.specs.declared.style.Style.{Style}
+use Rattle.tl_table.specs.declared.cell.Table.{Table}
+use Rattle.tl_table.specs.Same.{AreSame}
 use Rattle.tl_form.specs.Expected.{Document}
 use Rattle.tl_form.specs.ProblemLaws.{ProblemIsDetermined}
 use Rattle.tl_form.specs.Failures.{Failure, wrong_claim, wrong_chain, missing, extra, wrong_layout, wrong_trace, wrong_log}
@@ -14,10 +17,12 @@ use Rattle.tl_form.specs.Failures.{FailsFor}
 use Rattle.tl_table.specs.Sound.{IsSound}
 use Rattle.tl_form.specs.Valid.{IsProblemAt, IsValidFor}
 use Rattle.tl_form.proofs.OneFault.{HasOneProblem, one_fault, no_fault}
-use Rattle.tl_form.proofs.OneProblem.{one_problem}
+use Rattle.tl_form.proofs.OneProblem.{one_problem, one_document}
+use Rattle.tl_form.proofs.SameDocuments.{put, document_same, claim_fails, chain_fails, missing_fails, extra_fails}
+use Rattle.tl_form.proofs.SameDocuments.{layout_fails, trace_fails, log_fails}
 use Rattle.tl_verify.specs.declared.reject.Reject.{Reject}
 use Rattle.tl_verify.specs.declared.reject.Reject.TheVariants as rejects
-use Rattle.tl_verify.specs.Verdicts.{HasBadLine, IsReason}
+use Rattle.tl_verify.specs.Verdicts.{HasBadLine, IsReason, IsRefusedAs}
 use Rattle.tl_form.proofs.Placing.{one_problem_of}
 
 -- ---- the first bad line is one
@@ -149,3 +154,38 @@ module _ (document : Document) (sound : IsSound document.table) (budget : ℕ) (
 
   pub not_both : (reject : Reject) → IsValidFor document budget certificate → IsReason document budget certificate reject → ⊥
   not_both reject valid why = no_fault document budget certificate problems (to_fault reject) valid (to_refused reject why)
+
+-- ---- tables that are the same
+
+reason_same : (document : Document) (other : Table) (budget : ℕ) (certificate : Certificate) (reject : Reject) →
+    AreSame document.table other → IsReason document budget certificate reject →
+    IsReason (put document other) budget certificate reject
+reason_same document other budget certificate (rejects.Memory error) same why = absurd why
+reason_same document other budget certificate rejects.Claim same why = claim_fails document other same budget certificate why
+reason_same document other budget certificate rejects.Chain same why = chain_fails document other same budget certificate why
+reason_same document other budget certificate (rejects.Missing table) same why =
+    missing_fails document other same budget certificate table why
+reason_same document other budget certificate (rejects.Extra number) same why =
+    extra_fails document other same budget certificate number why
+reason_same document other budget certificate (rejects.Layout number) same why =
+    layout_fails document other same budget certificate number why
+reason_same document other budget certificate (rejects.Trace number) same why =
+    trace_fails document other same budget certificate number why
+reason_same document other budget certificate (rejects.Line number line) same why = record {
+  section = why.section;
+  problem = why.problem;
+  log = log_fails document other same budget certificate number why.section why.problem why.log;
+  first = why.first;
+}
+
+-- a certificate that is refused for two tables that are the same is refused by one error
+pub one_refusal : (one other : Table) (style : Style) (page budget : ℕ) (certificate : Certificate) (first second : Reject) →
+    IsSound other → AreSame one other → IsRefusedAs one style page budget certificate first →
+    IsRefusedAs other style page budget certificate second → first ≡ second
+one_refusal one other style page budget certificate first second sound same is are =
+    let twins : AreSame is.0.table other = subst (λ t. AreSame t other) (sym is.1.same) same in
+    let documents : are.0 ≡ put is.0 other =
+    one_document other style page are.0 (put is.0 other) sound are.1 (document_same is.0 other twins one style page is.1) in
+    one_reason (put is.0 other) sound budget certificate first second
+    (reason_same is.0 other budget certificate first twins is.2)
+    (subst (λ document. IsReason document budget certificate second) documents are.2)
