@@ -33,7 +33,7 @@ impl Gate for Meeting {
     }
 }
 
-/// A gate that counts the passes of the pieces 0 to 3.
+/// A gate that counts the passes, of every fourth piece together.
 #[derive(Drop)]
 struct Counting {
     passed: [AtomicU32; 4],
@@ -45,16 +45,18 @@ impl Gate for Counting {
     }
 }
 
-/// A gate that counts the passes, and the groups of two in which one comes before the group before has ended.
+/// A gate that counts the passes, and the groups of so many pieces in which one comes before the group
+/// before has ended.
 #[derive(Drop)]
 struct Grouped {
+    size: u32,
     ended: AtomicU32,
     early: AtomicU32,
 }
 
 impl Gate for Grouped {
     fn pass(&self, piece: u32) {
-        if self.ended.load(Ordering::SeqCst) < piece / 2 * 2 {
+        if self.ended.load(Ordering::SeqCst) < piece - piece % self.size.max(1) {
             self.early.fetch_add(1, Ordering::SeqCst);
         }
     }
@@ -111,18 +113,27 @@ fn each_piece_passes_the_gate_once(rt: HostRuntime) -> Result<(), Fail> {
         ],
     };
     let piece = |number: u32| -> u32 { number };
-    let numbers = places(rt.alloc(), 4)?;
+    let numbers = places(rt.alloc(), 40)?;
+    fan_out(&rt, rt.alloc(), &gate, 3, &numbers.as_slice()[..4], &piece)?;
+    for passed in &gate.passed {
+        assert_eq!(&rt; passed.load(Ordering::SeqCst), 1);
+    }
     fan_out(&rt, rt.alloc(), &gate, 3, numbers.as_slice(), &piece)?;
-    assert_eq!(&rt; gate.passed[0].load(Ordering::SeqCst), 1);
-    assert_eq!(&rt; gate.passed[1].load(Ordering::SeqCst), 1);
-    assert_eq!(&rt; gate.passed[2].load(Ordering::SeqCst), 1);
-    assert_eq!(&rt; gate.passed[3].load(Ordering::SeqCst), 1);
+    for passed in &gate.passed {
+        assert_eq!(&rt; passed.load(Ordering::SeqCst), 11);
+    }
     Ok(())
 }
 
-#[test]
-fn a_group_begins_after_the_one_before_has_ended(rt: HostRuntime) -> Result<(), Fail> {
+/// The pieces by two workers, in groups of so many pieces: none begins before the group before has ended.
+fn groups(
+    rt: &(impl Abort + Threads + Sync),
+    alloc: Global,
+    count: u32,
+    size: u32,
+) -> Result<(), Fail> {
     let gate = Grouped {
+        size,
         ended: AtomicU32::new(0),
         early: AtomicU32::new(0),
     };
@@ -130,11 +141,22 @@ fn a_group_begins_after_the_one_before_has_ended(rt: HostRuntime) -> Result<(), 
         gate.ended.fetch_add(1, Ordering::SeqCst);
         number
     };
-    let numbers = places(rt.alloc(), 16)?;
-    let found = fan_out(&rt, rt.alloc(), &gate, 2, numbers.as_slice(), &piece)?;
-    assert_eq!(&rt; found.as_slice(), numbers.as_slice());
-    assert_eq!(&rt; gate.early.load(Ordering::SeqCst), 0);
+    let numbers = places(alloc, count)?;
+    let found = fan_out(rt, alloc, &gate, 2, numbers.as_slice(), &piece)?;
+    assert_eq!(rt; found.as_slice(), numbers.as_slice());
+    assert_eq!(rt; gate.early.load(Ordering::SeqCst), 0);
     Ok(())
+}
+
+#[test]
+fn a_group_begins_after_the_one_before_has_ended(rt: HostRuntime) -> Result<(), Fail> {
+    groups(&rt, rt.alloc(), 8, 2)
+}
+
+#[test]
+fn of_many_pieces_a_thread_does_several(rt: HostRuntime) -> Result<(), Fail> {
+    groups(&rt, rt.alloc(), 16, 4)?;
+    groups(&rt, rt.alloc(), 201, 52)
 }
 
 #[test]

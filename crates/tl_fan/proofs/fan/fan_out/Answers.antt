@@ -5,12 +5,11 @@ use Rattle.tl_fan.proofs.fan.fan_out.Goals as goal
 
 pub loop-from-preserved : goal.loop-from-preserved
 loop-from-preserved g c =
-    let within : c.loop-from.from + c.min-group.result ≤ length c.args.numbers.now =
-    omega (arith, c.min-group.ensures, c.loop-from-test.true) in (
+    let within : c.loop-from.from + c.min.result ≤ length c.args.numbers.now =
+    omega (arith, c.min.ensures, c.loop-from-test.true) in (
       within,
       subst (AllZip (λ number one. g.F.Fn.post c.args.piece.now (number, tt) one) (take _ c.args.numbers.now))
           (sym c.in_ok-append.ensures.items)
           (group_more (λ number one. g.F.Fn.post c.args.piece.now (number, tt) one) c.args.numbers.now c.loop-from.from
-          c.min-group.result c.loop-from.found.items c.in_ok-more.more.items within c.loop-from.invariant.1
-          (sym c.in_ok-more.more.ok.0 ∙ c.in_ok-more.ensures.len) c.in_ok-more.ensures.each),
+          c.min.result c.loop-from.found.items c.in_ok-more.more.items c.loop-from.invariant.1 c.in_ok-more.ensures),
     )
