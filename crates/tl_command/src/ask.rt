@@ -15,7 +15,8 @@ use crate::options::Options;
 pub struct Ask<'a> {
     /// What is to be done.
     pub command: Command,
-    /// The page width in columns, from 1 to `MAX_PAGE_WIDTH`, or the number of the demonstration.
+    /// The page width in columns, from 1 to `MAX_PAGE_WIDTH`; the height in lines, from 0 to
+    /// `MAX_HEIGHT`; or the number of the demonstration.
     pub number: u32,
     /// The names of the files in the order of the arguments: none is empty, and no two are the same.
     pub names: &'a [String],

@@ -2,13 +2,16 @@
 
 use crate::numbers::number_within;
 use crate::options::Choice;
-use tl_base::MAX_PAGE_WIDTH;
+use tl_base::{MAX_HEIGHT, MAX_PAGE_WIDTH};
 
 /// A command of the command line.
 #[derive(Clone, Copy)]
 pub enum Command {
     /// `lay WIDTH IN PAGE [CERT]`: lays the table of a file out.
     Lay,
+    /// `narrow HEIGHT IN PAGE [CERT [LESS [SPENT]]]`: lays the table of a file out in at most so many
+    /// lines, on the narrowest page.
+    Narrow,
     /// `check WIDTH IN CERT`: checks a certificate.
     Check,
     /// `demo NUMBER`: lays out a table that is made from a number.
@@ -27,6 +30,7 @@ impl Command {
     {
         match word {
             "lay" => Some(Command::Lay),
+            "narrow" => Some(Command::Narrow),
             "check" => Some(Command::Check),
             "demo" => Some(Command::Demo),
             _ => None,
@@ -38,7 +42,7 @@ impl Command {
     {
         match self {
             Command::Lay | Command::Check => 1,
-            Command::Demo => 0,
+            Command::Narrow | Command::Demo => 0,
         }
     }
 
@@ -47,6 +51,7 @@ impl Command {
     {
         match self {
             Command::Lay | Command::Check => MAX_PAGE_WIDTH,
+            Command::Narrow => MAX_HEIGHT,
             Command::Demo => u32::MAX,
         }
     }
@@ -64,7 +69,7 @@ impl Command {
         ensures { result ≡ fewest_names self }
     {
         match self {
-            Command::Lay | Command::Check => 2,
+            Command::Lay | Command::Narrow | Command::Check => 2,
             Command::Demo => 0,
         }
     }
@@ -74,6 +79,7 @@ impl Command {
     {
         match self {
             Command::Lay => 3,
+            Command::Narrow => 5,
             Command::Check => 2,
             Command::Demo => 0,
         }
@@ -84,7 +90,7 @@ impl Command {
         ensures { result ≡ takes self choice.now }
     {
         match self {
-            Command::Lay => true,
+            Command::Lay | Command::Narrow => true,
             Command::Check => match choice {
                 Choice::Style(_) | Choice::Breaking(_) | Choice::Budget(_) => true,
                 Choice::Csv | Choice::Head | Choice::Least(_) | Choice::Workers(_) => true,

@@ -303,12 +303,12 @@ one_rejection task one other text first second sound same (inr (certificate, rej
     absurd (text_or_error text certificate error text_is no_text)
 one_rejection task one other text first second sound same (inr (certificate, reject, text_is, refused, is))
     (inr (more, step, more_is, refuses, also)) = same_Some _ _ (sym is ∙ ap step_rejection steps ∙ also) where
-  steps : reject ≡ step
-  steps = one_refusal one other task.style task.width (budget_in task one) certificate reject step sound same refused
-      (subst (λ (budget : ℕ). IsRefusedAs other task.style task.width budget certificate step)
-      (sym (same_budget task one other same))
-      (subst (λ (c : Certificate). IsRefusedAs other task.style task.width (budget_in task other) c step)
-      (one_certificate text more certificate more_is text_is) refuses))
+      steps : reject ≡ step
+      steps = one_refusal one other task.style task.width (budget_in task one) certificate reject step sound same refused
+          (subst (λ (budget : ℕ). IsRefusedAs other task.style task.width budget certificate step)
+          (sym (same_budget task one other same))
+          (subst (λ (c : Certificate). IsRefusedAs other task.style task.width (budget_in task other) c step)
+          (one_certificate text more certificate more_is text_is) refuses))
 
 -- a text is judged alike for tables that are the same
 judged_alike : (task : Task) (one other : Table) (text : List ℕ) (first second : Report) → IsSound other → AreSame one other →

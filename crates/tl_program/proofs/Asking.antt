@@ -15,7 +15,7 @@ use Rattle.tl_program.specs.Asks.{IsAskOf, input_name, page_name, certificate_na
 use Rattle.tl_program.specs.Change.{Change}
 use Rattle.tl_program.specs.Headline.{ComesOf, IsCarriedOut}
 use Rattle.tl_program.specs.Deliveries.{Delivery}
-use Rattle.tl_program.specs.Tasks.{given_or, task_of}
+use Rattle.tl_program.specs.Tasks.{given_or, slim_task, task_of}
 use Rattle.tl_program.specs.inner.Steps.{IsTaskInRange}
 
 -- ---- limits
@@ -47,6 +47,9 @@ module _ (words : List (List ℕ)) (asked : Asked) (is : IsAsk words asked) wher
   -- and so is all that a command on a file asks of its table
   pub task_in_range : 1 ≤ asked.number → asked.number ≤ MAX_PAGE_WIDTH → IsTaskInRange (task_of asked)
   task_in_range some narrow = record { some = some; narrow = narrow; workers = workers; cuts = cuts }
+
+  pub slim_in_range : IsTaskInRange (slim_task asked)
+  slim_in_range = record { some = omega arith; narrow = omega arith; workers = workers; cuts = cuts }
 
 -- ---- names
 

@@ -1,15 +1,21 @@
 pub mod Accepting
+pub mod AcceptingSlim
 pub mod Alike
 pub mod Asking
 pub mod Checked
 pub mod Checking
 pub mod Ends
 mod Examples
+pub mod InputRuns
 pub mod Inputs
 pub mod Judging
 pub mod LaidRuns
 pub mod Laying
 pub mod Loading
 pub mod Lowest
+pub mod NamedFiles
+pub mod Narrowest
+pub mod SlimPages
+pub mod SlimRuns
 pub mod Storing
 pub mod Summing

@@ -19,7 +19,7 @@ use Rattle.tl_program.specs.Change.{Change, Holds, between}
 use Rattle.tl_program.specs.Deliveries.{Delivery, reported, ComesOfInput, IsUnread}
 use Rattle.tl_program.specs.Headline.{ComesOf, Ends}
 use Rattle.tl_program.specs.Messages.{status_number}
-use Rattle.tl_program.specs.Tasks.{task_of}
+use Rattle.tl_program.specs.Tasks.{task_on}
 use Rattle.tl_program.specs.inner.Printing.{IsDelivered}
 use Rattle.tl_program.specs.inner.Steps.{GivesInput, GivesRefusal, GivesTable, GoesOn, IsLoaded}
 use Rattle.tl_program.proofs.Ends.{delivered_ends, ends_memory}
@@ -30,21 +30,26 @@ use Rattle.tl_program.proofs.Storing.{delivered_from}
 
 -- what the bytes that were loaded give is what the file gives
 pub loaded_input : (asked : Asked) (task : Task) (files : Option Files) (faults faults_after : ℕ) (name bytes : List ℕ)
-    (result : Result Input AllocError) → task ≡ task_of asked → name ≡ input_name asked → length bytes ≤ MAX_FILE_BYTES + 1 →
+    (result : Result Input AllocError) → name ≡ input_name asked → length bytes ≤ MAX_FILE_BYTES + 1 →
     IfSome files (λ held. IsReadFrom held name MAX_FILE_BYTES bytes) → faults_after ≡ faults →
-    IfOk result (GivesInput task bytes) → IfOk result (IsLoaded asked files faults faults_after)
-loaded_input asked task files faults faults_after name bytes (Err error) same called short read count given = tt
-loaded_input asked task files faults faults_after name bytes (Ok input) same called short read count given =
+    IfOk result (GivesInput task bytes) → IfOk result (IsLoaded task asked files faults faults_after)
+loaded_input asked task files faults faults_after name bytes (Err error) called short read count given = tt
+loaded_input asked task files faults faults_after name bytes (Ok input) called short read count given =
     let content = content_of MAX_FILE_BYTES files name bytes short read in
     inr (
       count,
       (
         content.0,
         subst (λ (n : List ℕ). Holds files n content.0) called content.1,
-        of_content (task_of asked).source (reach (task_of asked)) (GivesRefusal input) (GivesTable (task_of asked) input)
-            content.0 bytes content.2 (subst (λ (t : Task). GivesInput t bytes input) same given),
+        of_content task.source (reach task) (GivesRefusal input) (GivesTable task input) content.0 bytes content.2 given,
       ),
     )
+
+-- what was loaded for a task was loaded for the same one
+pub loaded_as : (task other : Task) (asked : Asked) (files : Option Files) (faults faults_after : ℕ) (input : Input) →
+    task ≡ other → IsLoaded task asked files faults faults_after input → IsLoaded other asked files faults faults_after input
+loaded_as task other asked files faults faults_after input =
+    subst (λ (t : Task). IsLoaded t asked files faults faults_after input)
 
 -- ---- one input
 
@@ -84,11 +89,11 @@ follows_load shown before loaded after files said writes = record {
   loads_after = refl;
 }
 
-module _ (words : List (List ℕ)) (change second : Change) (asked : Asked) (Own : Table → Delivery → Type 0) (input : Input)
+module _ (words : List (List ℕ)) (change second : Change) (width : ℕ) (asked : Asked) (Own : Table → Delivery → Type 0) (input : Input)
     (result : Status)
-    (comes : (delivery : Delivery) → ComesOfInput asked (reach (task_of asked)) Own change delivery →
+    (comes : (delivery : Delivery) → ComesOfInput asked (reach (task_on width asked)) Own change delivery →
     ComesOf words change delivery) (follows : Follows change second)
-    (loaded : IsLoaded asked change.files change.load_faults second.load_faults input) where
+    (loaded : IsLoaded (task_on width asked) asked change.files change.load_faults second.load_faults input) where
   -- what is delivered after the load is delivered by the whole
   delivered_by : (delivery : Delivery) → IsDelivered result second delivery → IsDelivered result change delivery
   delivered_by delivery = delivered_from result change second delivery follows.files follows.files_after follows.said
@@ -96,8 +101,8 @@ module _ (words : List (List ℕ)) (change second : Change) (asked : Asked) (Own
 
   -- a report in the place of a table
   report_comes : (report : Report) → input ≡ inputs.Reported report → second.load_faults_after ≡ second.load_faults →
-      IsLoaded asked change.files change.load_faults second.load_faults input →
-      ComesOfInput asked (reach (task_of asked)) Own change (reported report)
+      IsLoaded (task_on width asked) asked change.files change.load_faults second.load_faults input →
+      ComesOfInput asked (reach (task_on width asked)) Own change (reported report)
   report_comes report is count (inl (fault, rose)) = inl (record {
     rose = subst (Rose change.load_faults) (sym count ∙ follows.loads_after) rose;
     so = ap reported (one_report report reports.ReadFault (sym is ∙ fault));
@@ -105,11 +110,11 @@ module _ (words : List (List ℕ)) (change second : Change) (asked : Asked) (Own
   report_comes report is count (inr (stay, (bytes, holds, of))) = inr (
     bytes,
     holds,
-    of_bytes_mapped (task_of asked).source (reach (task_of asked)) (GivesRefusal input)
-        (λ refusal. reported report ≡ reported (reports.Refused refusal)) (GivesTable (task_of asked) input)
+    of_bytes_mapped (task_on width asked).source (reach (task_on width asked)) (GivesRefusal input)
+        (λ refusal. reported report ≡ reported (reports.Refused refusal)) (GivesTable (task_on width asked) input)
         (λ table. Own table (reported report))
         (λ refusal given. ap reported (one_report report (reports.Refused refusal) (sym is ∙ given)))
-        (λ table given. absurd (no_report table (budget_in (task_of asked) table) report (sym given ∙ is))) bytes of,
+        (λ table given. absurd (no_report table (budget_in (task_on width asked) table) report (sym given ∙ is))) bytes of,
   )
 
   pub reported_ends : (report : Report) → input ≡ inputs.Reported report → second.load_faults_after ≡ second.load_faults →
@@ -119,8 +124,9 @@ module _ (words : List (List ℕ)) (change second : Change) (asked : Asked) (Own
 
   -- the own part on the table
   own_comes : (table : Table) (budget : ℕ) → input ≡ inputs.Table table budget → (delivery : Delivery) →
-      IsUnread second delivery ⊎ Own table delivery → IsLoaded asked change.files change.load_faults second.load_faults input →
-      ComesOfInput asked (reach (task_of asked)) Own change delivery
+      IsUnread second delivery ⊎ Own table delivery →
+      IsLoaded (task_on width asked) asked change.files change.load_faults second.load_faults input →
+      ComesOfInput asked (reach (task_on width asked)) Own change delivery
   own_comes table budget is delivery own (inl (fault, rose)) =
       absurd (no_report table budget reports.ReadFault (sym is ∙ fault))
   own_comes table budget is delivery (inl unread) (inr (stay, found)) = inl (record {
@@ -131,12 +137,12 @@ module _ (words : List (List ℕ)) (change second : Change) (asked : Asked) (Own
   own_comes table budget is delivery (inr own) (inr (stay, (bytes, holds, of))) = inr (
     bytes,
     holds,
-    of_bytes_mapped (task_of asked).source (reach (task_of asked)) (GivesRefusal input)
-        (λ refusal. delivery ≡ reported (reports.Refused refusal)) (GivesTable (task_of asked) input)
+    of_bytes_mapped (task_on width asked).source (reach (task_on width asked)) (GivesRefusal input)
+        (λ refusal. delivery ≡ reported (reports.Refused refusal)) (GivesTable (task_on width asked) input)
         (λ found. Own found delivery)
         (λ refusal given. absurd (no_report table budget (reports.Refused refusal) (sym is ∙ given)))
         (λ found given. subst (λ (t : Table). Own t delivery)
-        (one_table table found budget (budget_in (task_of asked) found) (sym is ∙ given)) own) bytes of,
+        (one_table table found budget (budget_in (task_on width asked) found) (sym is ∙ given)) own) bytes of,
   )
 
   pub went_on_ends : (table : Table) (budget : ℕ) → input ≡ inputs.Table table budget → GoesOn (Own table) result second →

@@ -41,13 +41,13 @@ use Rattle.tl_program.proofs.LaidRuns.{LaidRun, laid_run}
 -- ---- the file of the page
 
 -- a file that is stored is there
-holds_last : (files : Option Files) (name bytes : List ℕ) → Holds (stored files name bytes) name bytes
+pub holds_last : (files : Option Files) (name bytes : List ℕ) → Holds (stored files name bytes) name bytes
 holds_last None name bytes = tt
 holds_last (Some files) name bytes =
     update_same bytes_eq files name (Some bytes) name ((bytes_eq-Decides name name).1 refl)
 
 -- and stays there when another is stored
-holds_still : (files : Option Files) (name bytes other content : List ℕ) → other ≢ name → Holds files other content →
+pub holds_still : (files : Option Files) (name bytes other content : List ℕ) → other ≢ name → Holds files other content →
     Holds (stored files name bytes) other content
 holds_still None name bytes other content apart holds = tt
 holds_still (Some files) name bytes other content apart holds =
@@ -84,7 +84,7 @@ fits_high table style width height layout fits = by_depth fits.0 fits.1 where
   by_depth (suc depth) fits = fits.high
 
 -- a page of a sound table in a layout that fits has all its text
-whole_page : (html : Bool) (style : Style) (breaking : Breaking) (table : Table) (width height : ℕ) (layout : Layout)
+pub whole_page : (html : Bool) (style : Style) (breaking : Breaking) (table : Table) (width height : ℕ) (layout : Layout)
     (page : List ℕ) → IsSound table → IsSpellable breaking table → Fits table style width height layout →
     IsPageFile html style table layout page → IsWholePage html style breaking table height layout page
 whole_page false style breaking table width height layout page sound spellable fits (lines, is, same) = (
@@ -100,7 +100,7 @@ whole_page true style breaking table width height layout page sound spellable fi
 )
 
 -- a CSV file is broken as one of HTML is
-same_breaks : (csv head : Bool) (floors : List ℕ) (breaking : Breaking) →
+pub same_breaks : (csv head : Bool) (floors : List ℕ) (breaking : Breaking) →
     breaking_in (source_by csv head floors breaking) ≡ breaking
 same_breaks true head floors breaking = refl
 same_breaks false head floors breaking = refl
@@ -124,7 +124,7 @@ module _ (words : List (List ℕ)) (change : Change) (status : ℕ) (asked : Ask
   -- a page that is written is stored, with all text of the table
   stores_page : (height taken budget : ℕ) (claim : _) →
       IsWritten (task_of asked) run.table asked.number budget claim height taken run.answer →
-      StoresPage asked bytes change run.table height
+      StoresPage asked bytes change run.table asked.number height
   stores_page height taken budget claim written = record {
     is_table = is_table;
     sound = run.sound;

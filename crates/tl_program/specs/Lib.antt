@@ -10,6 +10,8 @@ pub mod Headline
 pub mod Inputs
 pub mod Lowest
 pub mod Messages
+pub mod Narrowest
 pub mod Rejections
+pub mod Slimmed
 pub mod Tasks
 pub mod inner

@@ -1,5 +1,5 @@
 -- The exit status and the message of each report. A message ends with a line feed.
-use Rattle.std.specs.Prelude.{ℕ, ◌==◌, if◌then◌else◌, List, [], ◌∷◌, ◌++◌, codes, decimal}
+use Rattle.std.specs.Prelude.{ℕ, ◌==◌, if◌then◌else◌, List, [], ◌∷◌, ◌++◌, codes, decimal, Option, None, Some}
 use Rattle.tl_read.specs.declared.refusal.Fault.{Fault}
 use Rattle.tl_read.specs.declared.refusal.Fault.TheVariants as faults
 use Rattle.tl_read.specs.declared.refusal.Limit.{Limit}
@@ -28,6 +28,7 @@ status_number statuses.ReadFault = 7
 status_number statuses.WriteFault = 8
 status_number statuses.Memory = 9
 status_number statuses.Rejected = 10
+status_number statuses.TooTall = 12
 
 -- the status of a refusal
 abbrev pub refusal_status : Refusal → Status
@@ -41,6 +42,9 @@ abbrev pub status_of : Report → Status
 status_of (reports.Lowest height width) = statuses.Lowest
 status_of (reports.Bounded height lower width) = statuses.Bounded
 status_of (reports.Narrow least width) = statuses.Narrow
+status_of (reports.Slimmest width height) = statuses.Lowest
+status_of (reports.Between width least) = statuses.Bounded
+status_of (reports.TooTall height) = statuses.TooTall
 status_of (reports.Refused refusal) = refusal_status refusal
 status_of (reports.Rejected rejection) = statuses.Rejected
 status_of (reports.Summary summary) =
@@ -111,6 +115,11 @@ summary_text summary =
     ++ (decimal summary.height ++ (codes " lower " ++ (decimal summary.lower ++ (codes " cuts "
     ++ (decimal summary.cuts ++ 10 ∷ [])))))))))
 
+-- a width, or that there is none
+abbrev pub width_word : Option ℕ → List ℕ
+width_word None = codes "none"
+width_word (Some width) = decimal width
+
 -- the message of a report
 abbrev pub message_of : Report → List ℕ
 message_of (reports.Lowest height width) =
@@ -120,6 +129,11 @@ message_of (reports.Bounded height lower width) =
     ++ (decimal width ++ 10 ∷ [])))))
 message_of (reports.Narrow least width) =
     codes "narrow least " ++ (decimal least ++ (codes " width " ++ (decimal width ++ 10 ∷ [])))
+message_of (reports.Slimmest width height) =
+    codes "slimmest width " ++ (decimal width ++ (codes " height " ++ (decimal height ++ 10 ∷ [])))
+message_of (reports.Between width least) =
+    codes "bounded width " ++ (width_word width ++ (codes " least " ++ (decimal least ++ 10 ∷ [])))
+message_of (reports.TooTall height) = codes "too tall height " ++ (decimal height ++ 10 ∷ [])
 message_of (reports.Refused refusal) = refusal_text refusal
 message_of (reports.Rejected rejection) = codes "rejected: " ++ (rejection_text rejection ++ 10 ∷ [])
 message_of (reports.Summary summary) = summary_text summary

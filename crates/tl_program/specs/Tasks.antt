@@ -2,6 +2,7 @@
 -- the best-first search, one worker and a text page; and a certificate where there is a file for it.
 use Rattle.std.specs.Prelude.{ℕ, Bool, true, false, List, [], Option, Some, None, is_some}
 use Rattle.tl_base.specs.declared.breaking.Breaking.{Breaking}
+use Rattle.tl_base.specs.declared.limits.TheConstants.{MAX_PAGE_WIDTH}
 use Rattle.tl_base.specs.declared.breaking.Breaking.TheVariants.{Words}
 use Rattle.tl_base.specs.declared.style.Style.{Style}
 use Rattle.tl_base.specs.declared.style.Style.TheVariants as styles
@@ -33,10 +34,10 @@ source_by false head floors breaking = Html breaking
 abbrev pub source_of : Asked → Source
 source_of asked = source_by asked.options.csv asked.options.head (given_or [] asked.options.least) (breaking_of asked)
 
--- what is asked of the table
-abbrev pub task_of : Asked → Task
-task_of asked = record {
-  width = asked.number;
+-- what is asked of the table, for pages of so many columns at most
+abbrev pub task_on : ℕ → Asked → Task
+task_on width asked = record {
+  width = width;
   style = style_of asked;
   source = source_of asked;
   budget = asked.options.budget;
@@ -45,3 +46,11 @@ task_of asked = record {
   html = asked.options.html;
   certified = is_some (certificate_name asked);
 }
+
+-- what is asked of the table, where the number is the width of its page
+abbrev pub task_of : Asked → Task
+task_of asked = task_on asked.number asked
+
+-- what is asked of the table, where its page may be as wide as any: the number is the most lines that it may have
+abbrev pub slim_task : Asked → Task
+slim_task asked = task_on MAX_PAGE_WIDTH asked

@@ -89,7 +89,7 @@ fn too_narrow(
             width: task.width,
         },
         page: None,
-        certificate: certificate_file(alloc, task, &certificate)?,
+        certificate: certificate_file(alloc, task.certified, &certificate)?,
     })
 }
 
@@ -166,20 +166,20 @@ fn laid(
     Ok(Answer {
         report: report_of(task.width, certificate.claim, width),
         page: Some(page_file(alloc, task, table, &layout)?),
-        certificate: certificate_file(alloc, task, certificate)?,
+        certificate: certificate_file(alloc, task.certified, certificate)?,
     })
 }
 
 /// The page of the table in the layout: in text, or as HTML.
-fn page_file(
+pub fn page_file(
     alloc: Global,
     task: &Task,
     table: &Table,
     layout: &Layout,
 ) -> Result<List<u8>, AllocError>
     requires sound { IsSound table.now }
-    requires narrow { task.now.width ≤ MAX_PAGE_WIDTH }
-    requires fits { (height : ℕ) × (height ≤ MAX_HEIGHT) × Fits table.now task.now.style task.now.width height layout.now }
+    requires fits { (width height : ℕ) × (width ≤ MAX_PAGE_WIDTH) × (height ≤ MAX_HEIGHT)
+        × Fits table.now task.now.style width height layout.now }
     ensures { IfOk result (IsPageFile task.now.html task.now.style table.now layout.now) }
 {
     if task.html {
@@ -190,16 +190,16 @@ fn page_file(
 }
 
 /// The text of the certificate, where it is asked for.
-fn certificate_file(
+pub fn certificate_file(
     alloc: Global,
-    task: &Task,
+    asked_for: bool,
     certificate: &Certificate,
 ) -> Result<Option<List<u8>>, AllocError>
     requires { IsWritable certificate.now }
-    ensures file { IfOk result (λ file. file ≡ certificate_file task.now.certified certificate.now) }
-    ensures readable { IfOk result (λ _. IsReadBack task.now.certified certificate.now) }
+    ensures file { IfOk result (λ file. file ≡ certificate_file asked_for certificate.now) }
+    ensures readable { IfOk result (λ _. IsReadBack asked_for certificate.now) }
 {
-    if !task.certified {
+    if !asked_for {
         return Ok(None);
     }
     let text = write(alloc, certificate)?;

@@ -4,7 +4,6 @@
 ghost use Rattle.std.specs.Prelude.{◌≡◌, ◌⊎◌, ◌+◌, ◌≤◌, IfOk, IfNone, IfSome, length};
 ghost use Rattle.tl_base.specs.Desk.{IsReadFrom, Rose};
 ghost use Rattle.tl_command.specs.Ask.{asked_by};
-ghost use Rattle.tl_program.specs.Tasks.{task_of};
 ghost use Rattle.tl_program.specs.inner.Steps.{GivesInput, IsLoaded, IsTaskInRange, IsUsable};
 
 use crate::budget::budget_within;
@@ -34,9 +33,8 @@ pub fn load_input<D: Desk>(
     desk: &mut D,
 ) -> Result<Input, AllocError>
     requires names { 2 ≤ length ask.now.names.now }
-    requires task { task.now ≡ task_of (asked_by ask.now) }
     requires range { IsTaskInRange task.now }
-    ensures loaded { IfOk result (IsLoaded (asked_by ask.now) (D.files desk.old) (D.load_faults desk.old) (D.load_faults desk.new)) }
+    ensures loaded { IfOk result (IsLoaded task.now (asked_by ask.now) (D.files desk.old) (D.load_faults desk.old) (D.load_faults desk.new)) }
     ensures usable { IfOk result (IsUsable task.now) }
     ensures files_stay { D.files desk.new ≡ D.files desk.old }
     ensures said_stays { D.said desk.new ≡ D.said desk.old }

@@ -16,6 +16,7 @@ mod limits;
 mod makers;
 mod messages;
 mod names;
+mod narrow;
 mod output;
 mod rejection;
 mod report;

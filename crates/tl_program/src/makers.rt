@@ -7,15 +7,19 @@ ghost use Rattle.tl_solve.specs.Plain.{IsPlainOutcome};
 ghost use Rattle.tl_table.specs.Least.{IsLeastWidth};
 ghost use Rattle.tl_table.specs.Sound.{IsSound};
 ghost use Rattle.tl_nested.specs.Searched.{AreSectionsOf, AreWritable};
+ghost use Rattle.tl_narrow.specs.Slims.{IsSlim};
 ghost use Rattle.tl_program.specs.Answers.{IsOutcomeOf};
+ghost use Rattle.tl_program.specs.Slimmed.{IsSlimIn};
+ghost use Rattle.tl_program.specs.inner.Steps.{IsUsableTable};
 
 use crate::task::Task;
 use std::alloc::{AllocError, Global};
 use std::thread::Threads;
 use tl_astar::Best;
-use tl_base::{Gate, List};
+use tl_base::{Gate, List, MAX_PAGE_WIDTH};
 use tl_cert::Section;
 use tl_command::Search;
+use tl_narrow::{Slim, slimmest};
 use tl_nested::{Make, sections};
 use tl_solve::Plain;
 use tl_table::Table;
@@ -83,6 +87,49 @@ pub fn searched<R: Threads + Sync, G: Gate>(
             table,
             task.style,
             task.width,
+            budget,
+            task.workers,
+            &MakeBest,
+            gate,
+        ),
+    }
+}
+
+/// Between which widths the narrowest page of at most `height` lines is, by the search that is named.
+pub fn slimmest_by<R: Threads + Sync, G: Gate>(
+    rt: &R,
+    alloc: Global,
+    task: &Task,
+    table: &Table,
+    height: u32,
+    budget: u32,
+    gate: &G,
+) -> Result<Slim, AllocError>
+    requires usable { IsUsableTable task.now table.now budget }
+    ensures { IfOk result (IsSlimIn task.now table.now height) }
+{
+    match task.search {
+        Search::Plain => slimmest(
+            rt,
+            alloc,
+            table,
+            task.style,
+            height,
+            MAX_PAGE_WIDTH,
+            None,
+            budget,
+            task.workers,
+            &MakePlain,
+            gate,
+        ),
+        Search::Best => slimmest(
+            rt,
+            alloc,
+            table,
+            task.style,
+            height,
+            MAX_PAGE_WIDTH,
+            None,
             budget,
             task.workers,
             &MakeBest,

@@ -3,6 +3,7 @@
 ghost use Rattle.std.specs.Prelude.{◌≡◌, IfOk, string_bytes};
 ghost use Rattle.tl_program.specs.Messages.{fault_words, record_words, limit_word, refusal_text, rejection_text};
 ghost use Rattle.tl_program.specs.Messages.{summary_text, message_of};
+ghost use Rattle.tl_program.specs.declared.report.Report.TheVariants as reports;
 
 use crate::rejection::Rejection;
 use crate::report::{Report, Summary};
@@ -109,6 +110,16 @@ fn summary_text(alloc: Global, summary: Summary) -> Result<String, AllocError>
     format!(in alloc; "cells {cells} count {count} height {height} lower {lower} cuts {cuts}\n")
 }
 
+/// The message that names a width and a least width.
+fn between_text(alloc: Global, width: Option<u32>, least: u32) -> Result<String, AllocError>
+    ensures { IfOk result (λ text. string_bytes text ≡ message_of (reports.Between width least)) }
+{
+    match width {
+        Some(width) => format!(in alloc; "bounded width {width} least {least}\n"),
+        None => format!(in alloc; "bounded width none least {least}\n"),
+    }
+}
+
 /// The message of a report.
 pub fn text(alloc: Global, report: Report) -> Result<String, AllocError>
     ensures { IfOk result (λ text. string_bytes text ≡ message_of report) }
@@ -125,6 +136,11 @@ pub fn text(alloc: Global, report: Report) -> Result<String, AllocError>
         Report::Narrow { least, width } => {
             format!(in alloc; "narrow least {least} width {width}\n")
         }
+        Report::Slimmest { width, height } => {
+            format!(in alloc; "slimmest width {width} height {height}\n")
+        }
+        Report::Between { width, least } => between_text(alloc, width, least),
+        Report::TooTall { height } => format!(in alloc; "too tall height {height}\n"),
         Report::Refused(refusal) => refusal_text(alloc, refusal),
         Report::Rejected(rejection) => {
             let reason = rejection_text(alloc, rejection)?;

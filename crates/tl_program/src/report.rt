@@ -34,6 +34,14 @@ pub enum Report {
     Bounded { height: u32, lower: u32, width: u64 },
     /// No page below the least width holds the table, and this one is narrower.
     Narrow { least: u32, width: u32 },
+    /// A page of this width is stored, which is the narrowest that holds the table in at most so many
+    /// lines.
+    Slimmest { width: u32, height: u32 },
+    /// No page below the least width holds the table in so few lines; the page that is stored is wider,
+    /// and there is none where no width is named.
+    Between { width: Option<u32>, least: u32 },
+    /// No page of any width holds the table in so few lines.
+    TooTall { height: u32 },
     /// The file is refused.
     Refused(Refusal),
     /// The certificate is rejected.
@@ -55,6 +63,9 @@ impl Report {
             Report::Lowest { .. } => Status::Lowest,
             Report::Bounded { .. } => Status::Bounded,
             Report::Narrow { .. } => Status::Narrow,
+            Report::Slimmest { .. } => Status::Lowest,
+            Report::Between { .. } => Status::Bounded,
+            Report::TooTall { .. } => Status::TooTall,
             Report::Refused(refusal) => refusal_status(refusal),
             Report::Rejected(_) => Status::Rejected,
             Report::Summary(summary) if summary.lower == summary.height => Status::Lowest,

@@ -2,20 +2,23 @@
 //! goes on with its own part.
 
 ghost use Rattle.std.specs.Prelude.{◌≡◌, ◌≤◌, ℕ, List, length, map, string_bytes};
+ghost use Rattle.tl_base.specs.declared.limits.TheConstants.{MAX_HEIGHT};
 ghost use Rattle.tl_command.specs.declared.command.Command.TheVariants as commands;
 ghost use Rattle.tl_command.specs.Ask.{asked_by, IsAsk};
 ghost use Rattle.tl_program.specs.Alike.{ChecksAlike, LowestAlike, RefusalsAlike};
 ghost use Rattle.tl_program.specs.Change.{between};
 ghost use Rattle.tl_program.specs.Complete.{AcceptsLaid, IsAcceptedSo, IsComplete, IsRefusedSo, IsRejectedSo};
+ghost use Rattle.tl_program.specs.Narrowest.{AcceptsSlim, HoldsNone, StoresBetween, StoresNarrowest};
 ghost use Rattle.tl_program.specs.Headline.{Ends};
 ghost use Rattle.tl_program.specs.Lowest.{FitsNone, StoresBounded, StoresLowest};
 ghost use Rattle.tl_program.specs.Messages.{status_number};
-ghost use Rattle.tl_program.specs.Tasks.{task_of};
+ghost use Rattle.tl_program.specs.Tasks.{slim_task, task_of};
 ghost use Rattle.tl_program.specs.inner.Steps.{IsTaskInRange};
 
 use crate::check::check_table;
 use crate::input::{Input, load_input};
 use crate::lay::lay_table;
+use crate::narrow::narrow_table;
 use crate::output::{deliver, print};
 use crate::report::Report;
 use crate::status::Status;
@@ -23,8 +26,9 @@ use crate::summary::demonstration;
 use crate::task::Task;
 use std::alloc::Global;
 use std::thread::Threads;
-use tl_base::{Desk, Gate};
+use tl_base::{Desk, Gate, MAX_PAGE_WIDTH};
 use tl_command::{Ask, Command};
+use tl_narrow::{kept_has_slimmest, met_is_slimmest, slimmest_is_no_less};
 
 /// Carries out the arguments of the command line over the desk, and returns the exit status. The gate
 /// is for pieces of work that run in parallel; `run` has none.
@@ -41,6 +45,12 @@ pub fn run<R: Threads + Sync, D: Desk, G: Gate>(
         (between D.Desk desk.old desk.new) result }
     ensures narrow { FitsNone (map string_bytes words.now)
         (between D.Desk desk.old desk.new) result }
+    ensures narrowest { StoresNarrowest (map string_bytes words.now)
+        (between D.Desk desk.old desk.new) result }
+    ensures between { StoresBetween (map string_bytes words.now)
+        (between D.Desk desk.old desk.new) result }
+    ensures too_tall { HoldsNone (map string_bytes words.now)
+        (between D.Desk desk.old desk.new) result }
     ensures ends { Ends (map string_bytes words.now)
         (between D.Desk desk.old desk.new) result }
     ensures complete { IsComplete (map string_bytes words.now)
@@ -53,6 +63,8 @@ pub fn run<R: Threads + Sync, D: Desk, G: Gate>(
         (between D.Desk desk.old desk.new) result }
     ensures accepts_laid { AcceptsLaid (map string_bytes words.now)
         (between D.Desk desk.old desk.new) result }
+    ensures accepts_slim { AcceptsSlim (map string_bytes words.now)
+        (between D.Desk desk.old desk.new) result }
     ensures checks_alike { ChecksAlike (map string_bytes words.now)
         (between D.Desk desk.old desk.new) result }
     ensures refusals_alike { RefusalsAlike (map string_bytes words.now)
@@ -60,6 +72,9 @@ pub fn run<R: Threads + Sync, D: Desk, G: Gate>(
     ensures lowest_alike { LowestAlike (map string_bytes words.now)
         (between D.Desk desk.old desk.new) result }
 {
+    met_is_slimmest();
+    slimmest_is_no_less();
+    kept_has_slimmest();
     carry_out(rt, alloc, words, desk, gate).number()
 }
 
@@ -79,6 +94,7 @@ fn carry_out<R: Threads + Sync, D: Desk, G: Gate>(
     };
     match ask.command {
         Command::Lay => lay_file(rt, alloc, &ask, desk, gate),
+        Command::Narrow => narrow_file(rt, alloc, &ask, desk, gate),
         Command::Check => check_file(rt, alloc, &ask, desk, gate),
         Command::Demo => demonstrate(rt, alloc, &ask, desk, gate),
     }
@@ -102,6 +118,31 @@ fn lay_file<R: Threads + Sync, D: Desk, G: Gate>(
     match load_input(alloc, ask, &task, desk) {
         Ok(Input::Table { table, budget }) => {
             lay_table(rt, alloc, ask, &task, &table, budget, desk, gate)
+        }
+        Ok(Input::Reported(report)) => deliver(alloc, desk, report, &[]),
+        Err(_) => Status::Memory,
+    }
+}
+
+/// Reads the file, and looks for the narrowest page of its table that has at most so many lines.
+fn narrow_file<R: Threads + Sync, D: Desk, G: Gate>(
+    rt: &R,
+    alloc: Global,
+    ask: &Ask<'_>,
+    desk: &mut D,
+    gate: &G,
+) -> Status
+    requires command { ask.now.command ≡ commands.Narrow }
+    requires names { 2 ≤ length ask.now.names.now }
+    requires range { IsTaskInRange (slim_task (asked_by ask.now)) }
+    requires lines { ask.now.number ≤ MAX_HEIGHT }
+    ensures ends { (words : List (List ℕ)) → IsAsk words (asked_by ask.now) → Ends words
+        (between D.Desk desk.old desk.new) (status_number result) }
+{
+    let task = Task::on_page(ask, MAX_PAGE_WIDTH);
+    match load_input(alloc, ask, &task, desk) {
+        Ok(Input::Table { table, budget }) => {
+            narrow_table(rt, alloc, ask, &task, &table, budget, desk, gate)
         }
         Ok(Input::Reported(report)) => deliver(alloc, desk, report, &[]),
         Err(_) => Status::Memory,

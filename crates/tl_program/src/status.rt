@@ -25,6 +25,8 @@ pub enum Status {
     Memory = 9,
     /// The certificate is not valid.
     Rejected = 10,
+    /// No page of any width holds the table in so few lines.
+    TooTall = 12,
 }
 
 impl Status {

@@ -3,7 +3,7 @@
 ghost use Rattle.std.specs.Prelude.{◌≡◌, []};
 ghost use Rattle.tl_command.specs.Ask.{asked_by};
 ghost use Rattle.tl_base.specs.declared.breaking.Breaking.TheVariants.{Words};
-ghost use Rattle.tl_program.specs.Tasks.{given_or, source_by, task_of};
+ghost use Rattle.tl_program.specs.Tasks.{given_or, source_by, task_of, task_on};
 
 use crate::names::certificate_name;
 use tl_base::{Breaking, Style};
@@ -14,7 +14,7 @@ use tl_read::Source;
 /// What is asked of a table.
 #[derive(Clone, Copy)]
 pub struct Task {
-    /// The page width in columns, from 1 to `MAX_PAGE_WIDTH`.
+    /// The width of the page in columns, from 1 to `MAX_PAGE_WIDTH`, or the most that it may be.
     pub width: u32,
     pub style: Style,
     pub source: Source,
@@ -51,9 +51,16 @@ impl Task {
     pub fn of(ask: &Ask<'_>) -> Task
         ensures { result ≡ task_of (asked_by ask.now) }
     {
+        Task::on_page(ask, ask.number)
+    }
+
+    /// What is asked of a table, for pages of so many columns at most.
+    pub fn on_page(ask: &Ask<'_>, width: u32) -> Task
+        ensures { result ≡ task_on width (asked_by ask.now) }
+    {
         let options = &ask.options;
         Task {
-            width: ask.number,
+            width,
             style: options.style.unwrap_or(Style::Plain),
             source: source_of(options),
             budget: options.budget,

@@ -5,6 +5,7 @@ mod checks;
 mod csv;
 mod faults;
 mod limits;
+mod narrow;
 mod pages;
 mod refusals;
 mod styles;

@@ -20,7 +20,6 @@ use Rattle.tl_program.specs.Asks.{input_name}
 use Rattle.tl_program.specs.Change.{Change}
 use Rattle.tl_program.specs.Deliveries.{Delivery, IsUnread}
 use Rattle.tl_program.specs.Inputs.{IsOfBytes, IsOfFile}
-use Rattle.tl_program.specs.Tasks.{task_of}
 use Rattle.tl_program.specs.inner.Printing.{IsDelivered}
 
 -- the table is refused, for a reach past its limit
@@ -43,14 +42,14 @@ abbrev pub GivesInput : Task → List ℕ → Input → Type 0
 GivesInput task bytes input = IsOfBytes task.source (reach task) (GivesRefusal input) (GivesTable task input) bytes
 
 -- what the file of a command gives
-abbrev pub IsInputIn : Asked → Option Files → Input → Type 0
-IsInputIn asked files input = IsOfFile (task_of asked).source (reach (task_of asked)) (GivesRefusal input)
-    (GivesTable (task_of asked) input) files (input_name asked)
+abbrev pub IsInputIn : Task → Asked → Option Files → Input → Type 0
+IsInputIn task asked files input = IsOfFile task.source (reach task) (GivesRefusal input) (GivesTable task input) files
+    (input_name asked)
 
 -- the file of a command could not be read, and a fault is counted; or none is, and this is what the file gives
-abbrev pub IsLoaded : Asked → Option Files → ℕ → ℕ → Input → Type 0
-IsLoaded asked files faults faults_after input = ((input ≡ inputs.Reported reports.ReadFault) × Rose faults faults_after)
-    ⊎ ((faults_after ≡ faults) × IsInputIn asked files input)
+abbrev pub IsLoaded : Task → Asked → Option Files → ℕ → ℕ → Input → Type 0
+IsLoaded task asked files faults faults_after input = ((input ≡ inputs.Reported reports.ReadFault) × Rose faults faults_after)
+    ⊎ ((faults_after ≡ faults) × IsInputIn task asked files input)
 
 -- the numbers that are asked for are within their limits
 pub record IsTaskInRange (task : Task) : Type 0 where

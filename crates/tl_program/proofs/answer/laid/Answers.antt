@@ -63,7 +63,7 @@ page_file-requires-clause-fits c =
     let high = claimed_height (IsOutcomeOf task.search c.args.budget)
     c.args.table.now task.style task.width c.args.budget c.requires.found.sections
     c.requires.found.expected c.requires.found.writable c.requires.wide in
-    (high.0, high.1, fits high.0 high.2)
+    (task.width, high.0, c.requires.usable.range.narrow, high.1, fits high.0 high.2)
 
 pub certificate_file-requires : goal.certificate_file-requires
 certificate_file-requires c =

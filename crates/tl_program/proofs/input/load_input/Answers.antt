@@ -12,7 +12,7 @@ pub returns-clause-loaded : goal.returns-clause-loaded
 returns-clause-loaded g c =
     let files = g.D.Desk.files c.args.desk.now in
     loaded_input (asked_by c.args.ask.now) c.args.task.now files (g.D.Desk.load_faults c.args.desk.now)
-    (g.D.Desk.load_faults c.load.new.desk) c.input_name.result.now c.in-Some.bytes c.read_input.result c.requires.task
+    (g.D.Desk.load_faults c.load.new.desk) c.input_name.result.now c.in-Some.bytes c.read_input.result
     c.input_name.ensures
     (subst (λ (found : Option (List ℕ)). IfSome found (λ bytes. length bytes ≤ MAX_FILE_BYTES + 1))
     c.in-Some.is c.in_ok-bytes.ensures.short)

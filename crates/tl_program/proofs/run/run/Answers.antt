@@ -4,11 +4,14 @@ use Rattle.tl_program.specs.Alike.{ChecksAlike, LowestAlike, RefusalsAlike}
 use Rattle.tl_program.specs.Change.{Change, between}
 use Rattle.tl_program.specs.Complete.{IsComplete, IsRefusedSo, IsAcceptedSo, IsRejectedSo, AcceptsLaid}
 use Rattle.tl_program.specs.Lowest.{FitsNone, StoresBounded, StoresLowest}
+use Rattle.tl_program.specs.Narrowest.{AcceptsSlim, HoldsNone, StoresBetween, StoresNarrowest}
 use Rattle.tl_program.proofs.Accepting.{accepts_laid}
+use Rattle.tl_program.proofs.AcceptingSlim.{accepts_slim}
 use Rattle.tl_program.proofs.Alike.{checks_alike, lowest_alike, refusals_alike}
 use Rattle.tl_program.proofs.Checked.{accepted_so, rejected_so}
 use Rattle.tl_program.proofs.Ends.{complete, refused_so}
 use Rattle.tl_program.proofs.Lowest.{stores_lowest, stores_bounded, fits_none}
+use Rattle.tl_program.proofs.Narrowest.{holds_none, stores_between, stores_narrowest}
 use Rattle.tl_program.proofs.run.run.Goals as goal
 
 -- what holds of a status holds of its number
@@ -27,6 +30,33 @@ returns-clause-narrow g c =
     let words = map string_bytes c.args.words.now in
     let change = between g.D.Desk c.args.desk.now c.carry_out.new.desk in
     numbered FitsNone words change _ _ c.number.ensures (fits_none words change _ c.carry_out.ensures.ends)
+
+pub returns-clause-narrowest : goal.returns-clause-narrowest
+returns-clause-narrowest g c =
+    let words = map string_bytes c.args.words.now in
+    let change = between g.D.Desk c.args.desk.now c.carry_out.new.desk in
+    numbered StoresNarrowest words change _ _ c.number.ensures
+    (stores_narrowest c.met_is_slimmest.ensures words change _ c.carry_out.ensures.ends)
+
+pub returns-clause-between : goal.returns-clause-between
+returns-clause-between g c =
+    let words = map string_bytes c.args.words.now in
+    let change = between g.D.Desk c.args.desk.now c.carry_out.new.desk in
+    numbered StoresBetween words change _ _ c.number.ensures
+    (stores_between c.slimmest_is_no_less.ensures c.kept_has_slimmest.ensures words change _ c.carry_out.ensures.ends)
+
+pub returns-clause-too_tall : goal.returns-clause-too_tall
+returns-clause-too_tall g c =
+    let words = map string_bytes c.args.words.now in
+    let change = between g.D.Desk c.args.desk.now c.carry_out.new.desk in
+    numbered HoldsNone words change _ _ c.number.ensures
+    (holds_none c.slimmest_is_no_less.ensures words change _ c.carry_out.ensures.ends)
+
+pub returns-clause-accepts_slim : goal.returns-clause-accepts_slim
+returns-clause-accepts_slim g c =
+    let words = map string_bytes c.args.words.now in
+    let change = between g.D.Desk c.args.desk.now c.carry_out.new.desk in
+    numbered AcceptsSlim words change _ _ c.number.ensures (accepts_slim words change _ c.carry_out.ensures.ends)
 
 pub returns-clause-complete : goal.returns-clause-complete
 returns-clause-complete g c = numbered IsComplete _ _ _ _ c.number.ensures (complete _ _ _ c.carry_out.ensures.ends)

@@ -1,0 +1,234 @@
+-- The theorem of `narrow` follows from how a run ends.
+use Rattle.std.proofs.Common.{◌≡◌, ◌≢◌, ◌⊎◌, inl, inr, ℕ, zero, suc, ◌+◌, ◌-◌, ◌/◌, ◌<◌, ◌≤◌, List, [], ◌∷◌, Option, Some, None}
+use Rattle.std.proofs.Common.{refl, sym, ap, subst, ◌∙◌, arith}
+use Rattle.std.specs.Prelude.{Bool, true, false, ◌==◌, if◌then◌else◌, IfSome, MatchOption}
+use Rattle.std.specs.List.{slice_get}
+use Rattle.std.proofs.lemmas.Bool.Decides.{eqb_tells}
+use Rattle.std.proofs.lemmas.Option.{slice_get-get_or}
+use Rattle.tl_base.specs.declared.breaking.Breaking.{Breaking}
+use Rattle.tl_base.specs.declared.limits.TheConstants.{MAX_PAGE_WIDTH}
+use Rattle.tl_base.specs.Desk.{longer}
+use Rattle.tl_cert.specs.declared.certificate.Certificate.{Certificate}
+use Rattle.tl_command.specs.declared.command.Command.TheVariants.{Narrow}
+use Rattle.tl_command.specs.Ask.{Asked}
+use Rattle.tl_table.specs.declared.cell.Table.{Table}
+use Rattle.tl_table.specs.Sound.{IsSound}
+use Rattle.tl_html.specs.Spellable.{IsSpellable}
+use Rattle.tl_narrow.specs.declared.slim.Slim.{Slim}
+use Rattle.tl_narrow.specs.Slims.{IsKept, IsSpentBetween, trial_between}
+use Rattle.tl_narrow.specs.SlimLaws.{MetIsSlimmest, SlimmestIsNoLess, KeptHasSlimmest}
+use Rattle.tl_read.specs.declared.reading.Reading.TheVariants as readings
+use Rattle.tl_read.specs.Reading.{IsReading}
+use Rattle.tl_read.proofs.Readings.{table_within}
+use Rattle.tl_program.specs.declared.report.Report.{Report}
+use Rattle.tl_program.specs.declared.report.Report.TheVariants as reports
+use Rattle.tl_program.specs.Answers.{IsBelowCounts, budget_in}
+use Rattle.tl_program.specs.Asks.{IsAskOf, input_name, page_name}
+use Rattle.tl_program.specs.Change.{Change, Holds, with_all}
+use Rattle.tl_program.specs.Complete.{ShowsFile}
+use Rattle.tl_program.specs.Headline.{Ends}
+use Rattle.tl_program.specs.Messages.{status_number, status_of, message_of}
+use Rattle.tl_program.specs.Narrowest.{HoldsNone, IsNarrowest, IsSoundTableOf, StoresBetween, StoresLowPage, StoresNarrowest}
+use Rattle.tl_program.specs.Narrowest.{StoresWiderPage}
+use Rattle.tl_program.specs.Slimmed.{IsPageOfKept, IsSlimIn, IsSlimmed, found_width}
+use Rattle.tl_program.specs.Tasks.{given_or, style_of, breaking_of, source_of, slim_task}
+use Rattle.tl_program.proofs.Asking.{names_asked}
+use Rattle.tl_program.proofs.Ends.{same_bytes}
+use Rattle.tl_program.proofs.Lowest.{same_breaks, whole_page}
+use Rattle.tl_program.proofs.NamedFiles.{text_there}
+use Rattle.tl_program.proofs.SlimRuns.{IsReported, SlimRun, between, is_reported, met, past, slim_run}
+
+-- ---- the certificates
+
+-- where a page was found there is a certificate of it
+pub kept_there : (task : _) (table : Table) (height : ℕ) (slim : Slim) → IsSlimIn task table height slim → slim.width ≢ 0 →
+    (certificate : Certificate) × (slim.kept ≡ Some certificate)
+kept_there task table height slim is some = by_kept slim.kept refl is.tells.between.kept where
+  by_kept : (kept : Option Certificate) → slim.kept ≡ kept →
+      MatchOption kept (slim.width ≡ 0) (IsKept table task.style height MAX_PAGE_WIDTH
+      (budget_in task table) slim.width) → (certificate : Certificate) × (slim.kept ≡ Some certificate)
+  by_kept None same none = absurd (some none)
+  by_kept (Some certificate) same kept = (certificate, same)
+
+-- a width that is kept is within those of pages
+half_within : (least width : ℕ) → least ≤ width → (least + width - 1) / 2 ≤ width
+half_within least width order = omega (arith, order)
+
+pub last_within : (slim : Slim) → slim.width ≤ MAX_PAGE_WIDTH → (slim.width ≢ 0 → slim.least ≤ slim.width) →
+    trial_between MAX_PAGE_WIDTH slim.least slim.width ≤ MAX_PAGE_WIDTH
+last_within slim within order = elim (eqb_tells slim.width 0) [
+  | inl none ↦ subst (λ (test : Bool). (if test then MAX_PAGE_WIDTH else (slim.least + slim.width - 1) / 2) ≤ MAX_PAGE_WIDTH)
+      (sym none.0) (omega arith)
+  | inr some ↦ subst (λ (test : Bool). (if test then MAX_PAGE_WIDTH else (slim.least + slim.width - 1) / 2) ≤ MAX_PAGE_WIDTH)
+      (sym some.0) (omega (arith, within, half_within slim.least slim.width (order some.1)))
+]
+
+-- where the search ended early the budget is below the counts of the widest page
+pub below_counts : (task : _) (table : Table) (height : ℕ) (slim : Slim) → IsSlimIn task table height slim →
+    slim.width ≢ slim.least → slim.least ≤ MAX_PAGE_WIDTH →
+    IsBelowCounts table task.style MAX_PAGE_WIDTH (budget_in task table)
+below_counts task table height slim is apart few = by_spent slim.spent is.tells.spent where
+  by_spent : (spent : Option Certificate) →
+      MatchOption spent ((slim.width ≡ slim.least) ⊎ (slim.least ≡ MAX_PAGE_WIDTH + 1)) (IsSpentBetween
+      table task.style height MAX_PAGE_WIDTH (budget_in task table) slim.least slim.width) →
+      IsBelowCounts table task.style MAX_PAGE_WIDTH (budget_in task table)
+  by_spent None (inl same) = absurd (apart same)
+  by_spent None (inr beyond) = absurd (omega (arith, beyond, few))
+  by_spent (Some certificate) spent = spent.shown.below MAX_PAGE_WIDTH
+      (last_within slim is.tells.between.width_within is.tells.between.ordered) (omega arith)
+
+-- ---- what a run stores
+
+module _ (words : List (List ℕ)) (change : Change) (status : ℕ) (asked : Asked) (bytes : List ℕ)
+    (is : IsAskOf Narrow words asked) (shown : ShowsFile change (input_name asked) bytes) (went : SlimRun asked change status)
+  where
+    abbrev table : Table
+    table = went.run.table
+
+    abbrev own : IsSlimmed asked went.run.table went.delivery
+    own = went.run.own
+
+    abbrev slim : Slim
+    slim = went.run.own.slim
+
+    -- the table is that of the bytes
+    read : IsReading (source_of asked) bytes (readings.Table table)
+    read = subst (λ (bs : List ℕ). IsReading (source_of asked) bs (readings.Table table))
+        (same_bytes change.files shown.0 (input_name asked) went.run.content bytes shown.1 shown.2 went.run.holds) went.run.read
+
+    is_table : IsSoundTableOf asked bytes table
+    is_table = record { is_table = (table_within (source_of asked) bytes table read).1; sound = went.run.sound }
+
+    spellable : IsSpellable (breaking_of asked) table
+    spellable = subst (λ (breaking : Breaking). IsSpellable breaking table)
+        (same_breaks asked.options.csv asked.options.head (given_or [] asked.options.least) (breaking_of asked))
+        went.run.spellable
+
+    -- the page of the certificate that was kept is stored
+    stores_low : slim.width ≢ 0 → StoresLowPage asked bytes change table slim.width
+    stores_low some =
+        let kept = kept_there (slim_task asked) table asked.number slim own.found some in
+        by_kept kept.0 (subst (λ (o : Option Certificate). IsPageOfKept (slim_task asked) table asked.number slim.width o
+        own.are_texts.page) kept.1 own.are_texts.drawn) where
+          page_there : (page : List ℕ) → own.are_texts.page ≡ Some page → Holds change.files_after (page_name asked) page
+          page_there page same = subst (λ files. Holds files (page_name asked) page) (sym went.stores)
+              (subst (λ stores. Holds (with_all change.files stores) (page_name asked) page) (sym own.stores)
+              (text_there asked.names own.texts change.files 1 (page_name asked) page is.is.names.apart named
+              (subst (λ (texts : List (Option (List ℕ))). slice_get texts 1 ≡ Some (Some page)) (sym own.are_texts.all)
+              (ap Some same)))) where
+                named : slice_get asked.names 1 ≡ Some (page_name asked)
+                named = slice_get-get_or asked.names 1 [] (omega (arith, (names_asked Narrow words asked is).fewest))
+
+          by_kept : (certificate : Certificate) →
+              IsPageOfKept (slim_task asked) table asked.number slim.width (Some certificate) own.are_texts.page →
+              StoresLowPage asked bytes change table slim.width
+          by_kept certificate (page, same, drawn) = record {
+            height = drawn.lines;
+            low = drawn.low;
+            stored = record {
+              is_table = is_table.is_table;
+              sound = went.run.sound;
+              layout = drawn.layout;
+              fits = drawn.fits;
+              page = page;
+              whole = whole_page asked.options.html (style_of asked) (breaking_of asked) table slim.width drawn.lines drawn.layout
+                  page went.run.sound spellable drawn.fits drawn.is_page;
+              stored = page_there page same;
+            };
+          }
+
+-- ---- by the status
+
+-- a report with the status of these cases is that of the case
+module _ (height : ℕ) (slim : Slim) where
+  pub met_told : {report : Report} → IsReported height slim report → status_number (status_of report) ≡ 0 →
+      (slim.width ≡ slim.least) × (report ≡ reports.Slimmest slim.width height)
+  met_told (met same) nought = (same, refl)
+  met_told (between apart few) nought = absurd (omega (arith, nought))
+  met_told (past apart more) nought = absurd (omega (arith, nought))
+
+  pub between_told : {report : Report} → IsReported height slim report → status_number (status_of report) ≡ 3 →
+      (slim.width ≢ slim.least) × (slim.least ≤ MAX_PAGE_WIDTH) × (report ≡ reports.Between (found_width slim.width) slim.least)
+  between_told (met same) three = absurd (omega (arith, three))
+  between_told (between apart few) three = (apart, few, refl)
+  between_told (past apart more) three = absurd (omega (arith, three))
+
+  pub past_told : {report : Report} → IsReported height slim report → status_number (status_of report) ≡ 12 →
+      (MAX_PAGE_WIDTH < slim.least) × (report ≡ reports.TooTall height)
+  past_told (met same) twelve = absurd (omega (arith, twelve))
+  past_told (between apart few) twelve = absurd (omega (arith, twelve))
+  past_told (past apart more) twelve = (more, refl)
+
+-- the message is that of the report
+prints_as : (change : Change) (delivered report found : Report) →
+    change.said_after ≡ longer change.said (message_of delivered) → delivered ≡ report → report ≡ found →
+    change.said_after ≡ longer change.said (message_of found)
+prints_as change delivered report found printed same also =
+    printed ∙ ap (λ (r : Report). longer change.said (message_of r)) (same ∙ also)
+
+pub stores_narrowest : MetIsSlimmest → (words : List (List ℕ)) (change : Change) (status : ℕ) → Ends words change status →
+    StoresNarrowest words change status
+stores_narrowest law words change status ends = λ same asked bytes is shown.
+    let went = slim_run words change status asked ends is (inl same) in
+    let own = went.run.own in
+    let found = is_reported asked own.slim went.delivery.report status own.reports went.told in
+    let told = met_told asked.number own.slim found.1 (sym found.3 ∙ same) in
+    let least = own.found.tells.between.least_some in (
+      went.run.table,
+      own.slim.width,
+      stores_low words change status asked bytes is shown went (λ none. omega (arith, none, told.0, least)),
+      law went.run.table (style_of asked) asked.number MAX_PAGE_WIDTH (budget_in (slim_task asked) went.run.table) own.slim
+          went.run.sound own.found.tells told.0,
+      prints_as change went.delivery.report found.0 _ went.prints found.2 told.1,
+    )
+
+pub stores_between : SlimmestIsNoLess → KeptHasSlimmest → (words : List (List ℕ)) (change : Change) (status : ℕ) →
+    Ends words change status → StoresBetween words change status
+stores_between no_less has words change status ends = λ same asked bytes is shown.
+    let went = slim_run words change status asked ends is (inr (inl same)) in
+    let own = went.run.own in
+    let found = is_reported asked own.slim went.delivery.report status own.reports went.told in
+    let told = between_told asked.number own.slim found.1 (sym found.3 ∙ same) in (
+      went.run.table,
+      own.slim.least,
+      found_width own.slim.width,
+      is_table words change status asked bytes is shown went,
+      no_less went.run.table (style_of asked) asked.number MAX_PAGE_WIDTH (budget_in (slim_task asked) went.run.table) own.slim
+          went.run.sound own.found.tells,
+      wider asked bytes went.run.table own.slim.width (λ some. record {
+        stored = stores_low words change status asked bytes is shown went some;
+        narrowest = (slimmest asked went.run.table own.slim went.run.sound own.found some).0;
+        is = (slimmest asked went.run.table own.slim went.run.sound own.found some).1;
+        within = (slimmest asked went.run.table own.slim went.run.sound own.found some).2;
+      }),
+      prints_as change went.delivery.report found.0 _ went.prints found.2 told.2,
+      below_counts (slim_task asked) went.run.table asked.number own.slim own.found told.0 told.1,
+    )
+  where
+    slimmest : (asked : Asked) (table : Table) (slim : Slim) → IsSound table → IsSlimIn (slim_task asked) table asked.number slim →
+        slim.width ≢ 0 → (width : ℕ) × IsNarrowest asked table width × (width ≤ slim.width)
+    slimmest asked table slim sound is = has table (style_of asked) asked.number MAX_PAGE_WIDTH
+        (budget_in (slim_task asked) table) slim sound is.tells
+
+    wider : (asked : Asked) (bytes : List ℕ) (table : Table) (width : ℕ) →
+        (width ≢ 0 → StoresWiderPage asked bytes change table width) →
+        IfSome (found_width width) (StoresWiderPage asked bytes change table)
+    wider asked bytes table zero stores = tt
+    wider asked bytes table (suc narrower) stores = stores (λ none. omega (arith, none))
+
+pub holds_none : SlimmestIsNoLess → (words : List (List ℕ)) (change : Change) (status : ℕ) → Ends words change status →
+    HoldsNone words change status
+holds_none no_less words change status ends = λ same asked bytes is shown.
+    let went = slim_run words change status asked ends is (inr (inr same)) in
+    let own = went.run.own in
+    let found = is_reported asked own.slim went.delivery.report status own.reports went.told in
+    let told = past_told asked.number own.slim found.1 (sym found.3 ∙ same) in (
+      went.run.table,
+      is_table words change status asked bytes is shown went,
+      λ width narrowest.
+          let least = no_less went.run.table (style_of asked) asked.number MAX_PAGE_WIDTH
+          (budget_in (slim_task asked) went.run.table) own.slim went.run.sound own.found.tells width narrowest in
+          let within = narrowest.within in
+          omega (arith, least, within, told.0),
+      prints_as change went.delivery.report found.0 _ went.prints found.2 told.1,
+    )

@@ -1,0 +1,109 @@
+-- The theorem of `narrow`. Of a file that is a table, it stores a page of at most as many lines as are asked for, on the
+-- narrowest page that has a layout of so few, of all pages from 1 column to the widest. The first three definitions are clauses
+-- of `run`, for the statuses 0, 3 and 12.
+use Rattle.std.specs.Prelude.{◌≡◌, ◌⊎◌, ℕ, ◌≤◌, List, Contains, Option, Some, IfSome}
+use Rattle.std.specs.List.{slice_get}
+use Rattle.tl_base.specs.declared.limits.TheConstants.{MAX_PAGE_WIDTH}
+use Rattle.tl_base.specs.Desk.{Files, longer}
+use Rattle.tl_cert.specs.declared.certificate.Certificate.{Certificate}
+use Rattle.tl_cert.specs.Faults.{IsTextOf}
+use Rattle.tl_command.specs.declared.command.Command.TheVariants.{Narrow, Check}
+use Rattle.tl_command.specs.Ask.{Asked}
+use Rattle.tl_table.specs.declared.cell.Table.{Table}
+use Rattle.tl_table.specs.Sound.{IsSound}
+use Rattle.tl_narrow.specs.Slimmest.{IsSlimmestWidth}
+use Rattle.tl_read.specs.Reading.{IsTableOfFile}
+use Rattle.tl_read.specs.declared.reading.Reading.TheVariants as readings
+use Rattle.tl_read.specs.Reading.{IsReading}
+use Rattle.tl_program.specs.declared.report.Report.{Report}
+use Rattle.tl_program.specs.declared.report.Report.TheVariants as reports
+use Rattle.tl_program.specs.Answers.{budget_in, IsBelowCounts}
+use Rattle.tl_program.specs.Asks.{IsAskOf, input_name, judged_name}
+use Rattle.tl_program.specs.Change.{Change, DoesNotFail, Holds, with_all}
+use Rattle.tl_program.specs.Complete.{claim_status}
+use Rattle.tl_program.specs.Deliveries.{Delivery}
+use Rattle.tl_program.specs.Headline.{IsCarriedOut}
+use Rattle.tl_program.specs.Lowest.{OfFile, StoresPage}
+use Rattle.tl_program.specs.Messages.{status_number, status_of, message_of}
+use Rattle.tl_program.specs.Tasks.{source_of, style_of, slim_task, task_of}
+
+-- the bytes of the file are the table
+pub record IsSoundTableOf (asked : Asked) (bytes : List ℕ) (table : Table) : Type 0 where
+  pub is_table : IsTableOfFile (source_of asked) bytes table
+  pub sound : IsSound table
+
+-- this is the narrowest page that has a layout of at most as many lines as are asked for
+abbrev pub IsNarrowest : Asked → Table → ℕ → Type 0
+IsNarrowest asked table width = IsSlimmestWidth table (style_of asked) asked.number MAX_PAGE_WIDTH width
+
+-- a page of the table in at most as many lines as are asked for is stored, which is `width` columns wide
+pub record StoresLowPage (asked : Asked) (bytes : List ℕ) (change : Change) (table : Table) (width : ℕ) : Type 0 where
+  pub height : ℕ
+  pub low : height ≤ asked.number
+  pub stored : StoresPage asked bytes change table width height
+
+-- the message of the report is printed
+abbrev pub Prints : Change → Report → Type 0
+Prints change report = change.said_after ≡ longer change.said (message_of report)
+
+-- the search found the narrowest page, or that there is none, or ended early
+abbrev pub IsSlimStatus : ℕ → Type 0
+IsSlimStatus status = (status ≡ 0) ⊎ ((status ≡ 3) ⊎ (status ≡ 12))
+
+-- status 0: the page that is stored is the narrowest, and its width is printed
+abbrev pub StoresNarrowest : List (List ℕ) → Change → ℕ → Type 0
+StoresNarrowest words change status = status ≡ 0 → OfFile Narrow words change (λ asked bytes. (table : Table) × (width : ℕ)
+    × StoresLowPage asked bytes change table width × IsNarrowest asked table width
+    × Prints change (reports.Slimmest width asked.number))
+
+-- a page `width` columns wide is stored, and the narrowest is no wider
+pub record StoresWiderPage (asked : Asked) (bytes : List ℕ) (change : Change) (table : Table) (width : ℕ) : Type 0 where
+  pub stored : StoresLowPage asked bytes change table width
+  pub narrowest : ℕ
+  pub is : IsNarrowest asked table narrowest
+  pub within : narrowest ≤ width
+
+-- status 3: the narrowest page has at least so many columns, if there is one; a page is stored where its width is printed; and
+-- the budget of each search was below the count of what there is to search on the widest page
+abbrev pub StoresBetween : List (List ℕ) → Change → ℕ → Type 0
+StoresBetween words change status = status ≡ 3 → OfFile Narrow words change (λ asked bytes. (table : Table) × (least : ℕ)
+    × (width : Option ℕ) × IsSoundTableOf asked bytes table × ((narrowest : ℕ) → IsNarrowest asked table narrowest →
+    least ≤ narrowest) × IfSome width (StoresWiderPage asked bytes change table) × Prints change (reports.Between width least)
+    × IsBelowCounts table (style_of asked) MAX_PAGE_WIDTH (budget_in (slim_task asked) table))
+
+-- status 12: no page has a layout of so few lines
+abbrev pub HoldsNone : List (List ℕ) → Change → ℕ → Type 0
+HoldsNone words change status = status ≡ 12 → OfFile Narrow words change (λ asked bytes. (table : Table)
+    × IsSoundTableOf asked bytes table × ((width : ℕ) → IsNarrowest asked table width → ⊥)
+    × Prints change (reports.TooTall asked.number))
+
+-- ---- what a check says of it
+
+-- a check asks for what `narrow` has stored: the same file, one of the three certificates on the page that it names, and the
+-- same budget
+pub record AsksForStored (files : Option Files) (slim checked : Asked) (certificate : Certificate) : Type 0 where
+  pub width : certificate.width ≡ checked.number
+  pub input : input_name slim ≡ input_name checked
+  pub place : ℕ
+  pub past_page : 2 ≤ place
+  pub named : slice_get slim.names place ≡ Some (judged_name checked)
+  pub style : (task_of slim).style ≡ (task_of checked).style
+  pub source : (task_of slim).source ≡ (task_of checked).source
+  pub budget : (bytes : List ℕ) (table : Table) → Holds files (input_name slim) bytes →
+      IsReading (task_of slim).source bytes (readings.Table table) →
+      budget_in (slim_task slim) table ≡ budget_in (task_of checked) table
+
+-- a run of `narrow` delivered this: it found the narrowest page, or that there is none, or ended early, and stored its files
+pub record Delivers (slim : Asked) (before : Change) (delivery : Delivery) : Type 0 where
+  pub comes : IsCarriedOut Narrow slim before delivery
+  pub so : IsSlimStatus (status_number (status_of delivery.report))
+  pub stores : before.files_after ≡ with_all before.files delivery.stores
+
+-- a check of a certificate that another run has just stored, on the page that the certificate names, accepts it
+abbrev pub AcceptsSlim : List (List ℕ) → Change → ℕ → Type 0
+AcceptsSlim words change status = (earlier : List (List ℕ)) (before : Change) (slim checked : Asked) (delivery : Delivery)
+    (certificate : Certificate) (text : List ℕ) (files : Files) →
+    IsAskOf Narrow earlier slim → IsAskOf Check words checked → AsksForStored before.files slim checked certificate →
+    Delivers slim before delivery → Contains delivery.stores (record { name = judged_name checked; bytes = text }) →
+    IsTextOf text certificate → before.files_after ≡ Some files → change.files ≡ Some files → DoesNotFail change →
+    (status ≡ status_number (claim_status certificate.claim)) ⊎ (status ≡ 9)
