@@ -1,0 +1,5 @@
+pub mod Classes
+pub mod Needs
+pub mod Choices
+pub mod Laws
+pub mod inner
